@@ -1,0 +1,3 @@
+-- What contracts say of packed fields and of arrays that are filled. Assumes nothing.
+pub mod Bits
+pub mod Fill

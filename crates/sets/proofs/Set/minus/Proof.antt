@@ -1,0 +1,11 @@
+-- `Set::minus` meets its contract. Assumes nothing.
+use native.Mathlib.Omega.{arith}
+use Rattle.sets.proofs.Sets.{minus-is}
+use Rattle.sets.proofs.Set.minus.Statement.{statement}
+use Rattle.sets.proofs.Set.minus.Tie as tie
+
+returns : tie.Need-returns
+returns c = minus-is (omega arith) (omega arith)
+
+pub minus-spec : {M : Type 1} → statement M
+minus-spec = tie.close (tie.spec returns)

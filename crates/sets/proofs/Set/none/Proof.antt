@@ -1,0 +1,10 @@
+-- `Set::none` meets its contract. Assumes nothing.
+use Rattle.sets.proofs.Sets.{none-is}
+use Rattle.sets.proofs.Set.none.Statement.{statement}
+use Rattle.sets.proofs.Set.none.Tie as tie
+
+returns : tie.Need-returns
+returns c = none-is
+
+pub none-spec : {M : Type 1} → statement M
+none-spec = tie.close (tie.spec returns)
