@@ -1,0 +1,1 @@
+// What the definitions say of lists, in specs/: no code.

@@ -1,0 +1,93 @@
+-- Document 01, "The drawing sheet": the layout of sheets and face lists, over an edition's widths and counts. Assumes nothing.
+use mathlib.Core.Bool.{Bool, _||_, _&&_}
+use mathlib.Core.List.{List, _++_, map}
+use Prim.Native.Nat.{ℕ, _+_, _*_, _-_, _/_}
+use lib.IntN.{ℤ, pos, _-ℤ_, _+ℤ_, natAbs}
+use lib.Dec.{leb, ltb}
+use lib.ListN.{length}
+use Rattle.pack.specs.Bits.{bits, run, cut, fieldAt, fieldsAt}
+use Rattle.paper.specs.Numbers.{farthest}
+use Rattle.paper.specs.declared.Format.{Format}
+
+-- edition 1: "edition (4 bits, 1), vertex count (6), edge count (7)", "two vertex numbers (5 bits each)", "face count (6 bits, 4 to
+-- 42)"; "4 to 32 vertices; 6 to 64 edges". There is no earlier edition.
+abbrev pub one : Format
+one = record { edition = 1; vw = 6; ew = 7; nw = 5; fw = 6; vmax = 32; emax = 64; fmax = 42; vlow = 0; elow = 0 }
+
+abbrev pub leastVertices : ℕ
+leastVertices = 4
+
+abbrev pub leastEdges : ℕ
+leastEdges = 6
+
+abbrev pub leastFaces : ℕ
+leastFaces = 4
+
+-- widths that all editions share: "edition (4 bits", "x, y, z (11 bits each", "the corner count (4 bits"
+abbrev pub editionBits : ℕ
+editionBits = 4
+
+abbrev pub coordinateBits : ℕ
+coordinateBits = 11
+
+abbrev pub cornerBits : ℕ
+cornerBits = 4
+
+-- outside lo to hi
+abbrev pub outside : ℕ → ℕ → ℕ → Bool
+outside lo hi n = ltb n lo || ltb hi n
+
+-- "coordinate plus 1,000", and back
+abbrev pub onSheet : ℤ → ℕ
+onSheet z = natAbs (z +ℤ pos farthest)
+
+abbrev pub coordinate : ℕ → ℤ
+coordinate n = pos n -ℤ pos farthest
+
+-- "rounded up", to whole bytes; and "Zero bits fill the last byte"
+abbrev pub bytesFor : ℕ → ℕ
+bytesFor n = (n + 7) / 8
+
+unfoldable pub filled : ℕ → List ℕ → List ℕ
+filled n bs = cut 8 (bytesFor n) (bs ++ bits (bytesFor n * 8 - n) 0)
+
+-- the number in the bits of s behind the first n: 0 where the fill is right
+unfoldable pub fillAfter : ℕ → List ℕ → ℕ
+fillAfter n s = fieldAt s n (length s * 8 - n)
+
+module _ (f : Format) where
+  -- counts for which an earlier edition is used
+  abbrev pub low : ℕ → ℕ → Bool
+  low v e = leb v (f .vlow) && leb e (f .elow)
+
+  -- bits before the first vertex
+  abbrev pub head : ℕ
+  head = editionBits + f .vw + f .ew
+
+  -- "Length: 17 + 33V + 10E bits"
+  abbrev pub total : ℕ → ℕ → ℕ
+  total v e = head + 3 * coordinateBits * v + 2 * f .nw * e
+
+  -- the counts, the coordinates and the vertex numbers that stand in a sheet's bytes
+  abbrev pub verticesIn : List ℕ → ℕ
+  verticesIn s = fieldAt s editionBits (f .vw)
+
+  abbrev pub edgesIn : List ℕ → ℕ
+  edgesIn s = fieldAt s (editionBits + f .vw) (f .ew)
+
+  abbrev pub coordinatesIn : List ℕ → List ℤ
+  coordinatesIn s = map coordinate (fieldsAt s head coordinateBits (3 * verticesIn s))
+
+  abbrev pub endsIn : List ℕ → List ℕ
+  endsIn s = fieldsAt s (head + 3 * coordinateBits * verticesIn s) (f .nw) (2 * edgesIn s)
+
+  -- a drawing's sheet
+  abbrev pub headBits : ℕ → ℕ → List ℕ
+  headBits v e = bits editionBits (f .edition) ++ bits (f .vw) v ++ bits (f .ew) e
+
+  unfoldable pub encode : List ℤ → List ℕ → List ℕ
+  unfolding filled
+  encode xyz ends =
+      let v = length xyz / 3 in
+      let e = length ends / 2 in
+      filled (total v e) (headBits v e ++ run coordinateBits (map onSheet xyz) ++ run (f .nw) ends)

@@ -1,0 +1,78 @@
+-- Document 01, "Known drawings (starred ones are proved)", in one table under one statement, proved by evaluation; with the rows that
+-- tell its "Errors that look right" from the definitions. Assumes nothing.
+pub mod Drawings
+pub mod Polygons
+use mathlib.Core.Path.{refl}
+use mathlib.Core.Bool.{true, false}
+use mathlib.Core.List.{List, [], _∷_, _++_, flatMap}
+use lib.IntN.{pos}
+use lib.ListN.{replicate}
+use Rattle.paper.specs.Numbers.{mostWork}
+use Rattle.paper.specs.Refusals as No
+use Rattle.paper.specs.Refusals.{refuse}
+use Rattle.paper.specs.Loops.{row}
+use Rattle.paper.specs.Reading.{volume}
+use Rattle.paper.specs.Desk.{text}
+use Rattle.paper.specs.Questions.{converted, faced, printed, sized, lent, sent, paired, covering, selected, solved, bytes, number, answer, verdicts, rules, tests, faceBefore, solidBefore, Row, _yields_, asked, said, Holds}
+use Rattle.paper.specs.Known.Drawings.{tetrahedron, cube, outward, inward, openCube, octahedron, nested, centred, touching, eight, sixEnds}
+use Rattle.paper.specs.Known.Polygons as Faces
+use Rattle.paper.specs.declared.Answer.the-variants as Answer
+use Rattle.paper.specs.declared.Conversion.the-variants as Conversion
+use Rattle.paper.specs.declared.Verdict.the-variants as Verdict
+use Rattle.paper.specs.declared.Reading.the-variants as Reading
+
+unfoldable pub table : List Row
+unfolding flatMap row text volume
+table =
+    -- "4 loops, work 0, six volumes 216"; its rows in the face room; "A tetrahedron takes 27 bytes"
+    converted tetrahedron mostWork yields solved (Conversion.One 4 4 0 216) (Reading.Volume (volume 216)) (15 ∷ 5 ∷ 216 ∷ solidBefore 21)
+    ∷ faced tetrahedron
+    yields bytes (flatMap row ((0 ∷ 1 ∷ 2 ∷ []) ∷ (0 ∷ 1 ∷ 3 ∷ []) ∷ (0 ∷ 2 ∷ 3 ∷ []) ∷ (1 ∷ 2 ∷ 3 ∷ []) ∷ []) ++ faceBefore 780)
+    ∷ sized tetrahedron yields number 27
+    -- "6 loops, work 0, 6,000. Its list with all faces turned: 26. Without one edge: NoSolid, work 0."
+    ∷ converted cube mostWork yields solved (Conversion.One 6 6 0 6000) (Reading.Volume (volume 6000)) (63 ∷ 21 ∷ 6000 ∷ solidBefore 21)
+    ∷ sent cube outward yields verdicts Verdict.Accepted
+    ∷ sent cube inward yields verdicts (Verdict.Refused (record { number = 26; place = 0 }))
+    ∷ converted openCube mostWork yields solved (Conversion.NoSolid 4 4 0) (Reading.NotAssessed 17) (solidBefore 24)
+    -- "11 candidates, work 4, three selections, two fail (iii), one solid. With limit 3: TooLong."; "prints exactly"
+    ∷ converted octahedron mostWork
+    yields solved (Conversion.One 11 11 4 8000) (Reading.Volume (volume 8000)) (990 ∷ 588 ∷ 8000 ∷ solidBefore 21)
+    ∷ converted octahedron 3 yields solved (Conversion.TooLong 11 11 3) (Reading.NotAssessed 19) (solidBefore 24)
+    ∷ selected octahedron yields tests (false ∷ false ∷ true ∷ [])
+    ∷ printed octahedron
+    yields bytes (text "wire 6 12\nloops 11 candidates 11\nwork 4\nsolids 1\nsolid 1 sixvolumes 8000 faces +1 -2 -3 +4 -6 +7 +8 -9\n")
+    -- "24 candidates, work 4, three solids of 224,000 each; reading "not assessed 30"."
+    ∷ converted nested mostWork
+    yields solved (Conversion.Several 24 24 4 3) (Reading.NotAssessed 30)
+    (13482931 ∷ 8981265 ∷ 224000 ∷ 11959661 ∷ 10507305 ∷ 224000 ∷ 8111838 ∷ 2785932 ∷ 224000 ∷ solidBefore 15)
+    -- "7 loops, 3 candidates, NoSolid"
+    ∷ converted centred mostWork yields solved (Conversion.NoSolid 7 3 0) (Reading.NotAssessed 17) (solidBefore 24)
+    -- "NoSolid; the list of all eight faces, each outward, gets 25"
+    ∷ converted touching mostWork yields solved (Conversion.NoSolid 8 8 0) (Reading.NotAssessed 17) (solidBefore 24)
+    ∷ sent touching eight yields verdicts (Verdict.Refused (record { number = 25; place = 4 }))
+    -- "Pairs": A, none, B, C
+    ∷ paired Faces.face Faces.piercing yields rules true false false
+    ∷ paired Faces.face Faces.passing yields rules false false false
+    ∷ paired Faces.face Faces.entering yields rules false true false
+    ∷ paired Faces.square Faces.folding yields rules false false true
+    -- "32 vertices pass and 33 get 5; coordinate 1,000 passes and 1,001 gets 8"; "the largest drawing 215"
+    ∷ lent (replicate 96 (pos 1000)) sixEnds yields answer Answer.Fine
+    ∷ lent (replicate 99 (pos 1000)) sixEnds yields answer (refuse No.BadCount 0)
+    ∷ lent (replicate 95 (pos 1000) ++ (pos 1001 ∷ [])) sixEnds yields answer (refuse No.BadCoordinate 95)
+    ∷ sized (record { xyz = replicate 96 (pos 0); ends = replicate 128 0 }) yields number 215
+    -- "the notched pentagon, which covers neither triangle nor square"; the square covers both
+    ∷ covering Faces.notched Faces.notch yields tests (false ∷ [])
+    ∷ covering Faces.notched Faces.closing yields tests (false ∷ [])
+    ∷ covering Faces.closing Faces.notched yields tests (true ∷ [])
+    ∷ covering Faces.closing Faces.notch yields tests (true ∷ [])
+    -- "Reading a reflex corner as its smaller angle in rule C"
+    ∷ paired Faces.bow Faces.blade yields rules false false true
+    ∷ paired Faces.hook Faces.blade yields rules false false true
+    -- "Rounding the piercing point before the inside test"
+    ∷ paired Faces.face Faces.slanted yields rules true false false
+    ∷ paired Faces.face Faces.steep yields rules true false false
+    ∷ []
+
+pub known : Holds table
+unfolding table asked said
+known = refl

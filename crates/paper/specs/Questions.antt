@@ -1,0 +1,112 @@
+-- Questions to the definitions and what they reply, for the tables that are proved by evaluation: one definition that computes with
+-- all others. Assumes nothing.
+use Prim.Native.Nat.{ℕ}
+use mathlib.Core.Path.{_≡_}
+use mathlib.Core.Bool.{Bool, true, _||_}
+use mathlib.Core.List.{List, [], _∷_, map, flatMap}
+use lib.IntN.{ℤ}
+use lib.ListN.{length, replicate}
+use Rattle.pack.specs.Bits.{bits, val, run, cut, fieldAt, fieldsAt}
+use Rattle.sets.specs.Word as Word
+use Rattle.sets.specs.Word.{word, count, both, either, less, only, first}
+use Rattle.lists.specs.Lists.{any, all, filter, sides, anyTrue, upto, lowest, member, sameList}
+use Rattle.paper.specs.Numbers.{mostSolids, mostWork, faceRoom, solidRoom}
+use Rattle.paper.specs.Refusals.{firstOf}
+use Rattle.paper.specs.Format.{one, filled, fillAfter, encode}
+use Rattle.paper.specs.Sheet.{farAt, wrongAt, lowAt, contentChecks, shapeChecks, sheetChecks, lentChecks}
+use Rattle.paper.specs.Points.{above}
+use Rattle.paper.specs.Polygon.{covers}
+use Rattle.paper.specs.Drawing.{pointsOf, wire, joined, drawingChecks}
+use Rattle.paper.specs.Loops.{row, follows, closes, branch, scan, ext, level, loops, polygon, uncovering, candidates, loopChecks}
+use Rattle.paper.specs.Clash.{pierces, enters, folds, clash}
+use Rattle.paper.specs.Solids.{runs, runsUp, has, faceSix, clashing, tablesOf, inTwo, unlike, fresh, known, runsDown, over, pass, spread, facesFrom, connected, onceEachWay, oriented, sixFrom, clearFrom, judged}
+use Rattle.paper.specs.Walk.{takenOn, openOn, openCount, decide, contradicts, settle, sweep, stable, choose, assume, leaf, walk, search}
+use Rattle.paper.specs.Conversion.{takens, accepted, facesAfter, words, solidsAfter, reported, concluded, entryChecks, conversion, convertLists, convertSheet}
+use Rattle.paper.specs.FaceList.{faceBits, listBits, encodeFaces, facesAt, facesIn, bitsOf, faceFits, wellShaped}
+use Rattle.paper.specs.Verdict.{lowestAt, fromPlace, flipped, fromLowest, onward, normalForm, numberIn, rowOf, listed, notCandidate, faceTwice, edgeCount, direction, pieces, inward, clashes, faceChecks, verdict, verdictLists}
+use Rattle.paper.specs.Reading.{readingOf}
+use Rattle.paper.specs.Desk.{text, decimalIn, decimal, signed, facesText, solidText, solidsText, headText, answerText, deskText}
+use Rattle.paper.specs.declared.Answer.{Answer}
+use Rattle.paper.specs.declared.Conversion.{Conversion}
+use Rattle.paper.specs.declared.Verdict.{Verdict}
+use Rattle.paper.specs.declared.Reading.{Reading}
+
+-- a drawing as two lists
+pub record Drawn : Type 0 where
+  pub xyz : List ℤ
+  pub ends : List ℕ
+
+pub data Question : Type 0 where
+  -- a drawing under a work limit: the answer, its reading and the solid room; the face room
+  converted : Drawn → ℕ → Question
+  faced : Drawn → Question
+  -- the desk program on a drawing's sheet; the sheet's length; a drawing lent as two lists
+  printed : Drawn → Question
+  sized : Drawn → Question
+  lent : List ℤ → List ℕ → Question
+  -- a list of faces sent for a drawing
+  sent : Drawn → List (List ℕ) → Question
+  -- two faces, by rules A, B and C either way round; two loops in one plane, the first covering the second
+  paired : List ℤ → List ℤ → Question
+  covering : List ℤ → List ℤ → Question
+  -- the selections that have every edge twice, as the walk meets them: do they pass (iii)?
+  selected : Drawn → Question
+
+pub data Reply : Type 0 where
+  solved : Conversion → Reading → List ℕ → Reply
+  bytes : List ℕ → Reply
+  number : ℕ → Reply
+  answer : Answer → Reply
+  verdicts : Verdict → Reply
+  rules : (A B C : Bool) → Reply
+  tests : List Bool → Reply
+
+-- rooms that were not empty before: later room keeps its contents
+abbrev pub faceBefore : ℕ → List ℕ
+faceBefore n = replicate n 77
+
+abbrev pub solidBefore : ℕ → List ℕ
+solidBefore n = replicate n 99
+
+unfoldable pub selections : Drawn → List Bool
+unfolding wire search tablesOf candidates oriented facesFrom
+selections d =
+    let w = wire (d .xyz) (d .ends) in
+    let cs = candidates w in
+    let t = tablesOf w cs in
+    let turnedOf : List Bool → List Bool = λ taken. facesFrom (first taken) t taken .turned in
+    map (λ st. oriented (t .rows) (t .ups) (takens st) (turnedOf (takens st)))
+    (search mostSolids (λ st. true) mostWork (length cs) (t .rows) .found)
+
+unfoldable pub reply : Question → Reply
+unfolding bits val run cut fieldAt fieldsAt Word.bits word count both either less only first any all filter sides anyTrue upto lowest member sameList flatMap firstOf filled fillAfter encode farAt wrongAt lowAt contentChecks shapeChecks sheetChecks lentChecks above covers pointsOf wire joined drawingChecks row follows closes branch scan ext level loops polygon uncovering candidates loopChecks pierces enters folds clash runs runsUp has faceSix clashing tablesOf inTwo unlike fresh known runsDown over pass spread facesFrom connected onceEachWay oriented sixFrom clearFrom judged takenOn openOn openCount decide contradicts settle sweep stable choose assume leaf walk search accepted facesAfter words solidsAfter reported concluded entryChecks conversion convertLists convertSheet faceBits listBits encodeFaces facesAt facesIn bitsOf faceFits wellShaped lowestAt fromPlace flipped fromLowest onward normalForm numberIn rowOf listed notCandidate faceTwice edgeCount direction pieces inward clashes faceChecks verdict verdictLists readingOf text decimalIn decimal signed facesText solidText solidsText headText answerText deskText selections
+reply (converted d limit) =
+    let c = convertLists (d .xyz) (d .ends) limit (faceBefore faceRoom) (solidBefore solidRoom) in
+    solved (c .answer) (readingOf (c .answer)) (c .solids)
+reply (faced d) = bytes (convertLists (d .xyz) (d .ends) mostWork (faceBefore faceRoom) (solidBefore solidRoom) .faces)
+reply (printed d) = bytes (deskText (encode one (d .xyz) (d .ends)))
+reply (sized d) = number (length (encode one (d .xyz) (d .ends)))
+reply (lent xyz ends) = answer (firstOf (lentChecks one xyz ends))
+reply (sent d fs) = verdicts (verdictLists (d .xyz) (d .ends) (encodeFaces one fs))
+reply (paired f g) =
+    let p = pointsOf f in
+    let q = pointsOf g in
+    rules (pierces p q || pierces q p) (enters p q || enters q p) (folds p q)
+reply (covering f g) = tests (covers (pointsOf f) (pointsOf g) ∷ [])
+reply (selected d) = tests (selections d)
+
+infix 80 _yields_
+pub data Row : Type 0 where
+  _yields_ : Question → Reply → Row
+
+-- what a row asks, and what it says
+unfoldable pub asked : Row → Reply
+unfolding reply
+asked (q yields r) = reply q
+
+unfoldable pub said : Row → Reply
+said (q yields r) = r
+
+-- every row of a table says what the definitions reply
+abbrev pub Holds : List Row → Type 0
+Holds rows = map asked rows ≡ map said rows

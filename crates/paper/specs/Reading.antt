@@ -1,0 +1,71 @@
+-- Document 01, the numbers and values of each answer, and "The reading of a conversion's answer". Assumes nothing.
+use mathlib.Core.List.{List, [], _∷_}
+use Prim.Native.Nat.{ℕ}
+use lib.IntN.{pos}
+use lib.Ieee.{Float, binary64, div, ofInt}
+use Rattle.paper.specs.Refusals as No
+use Rattle.paper.specs.declared.Refusal.{Refusal}
+use Rattle.paper.specs.declared.Answer.{Answer}
+use Rattle.paper.specs.declared.Answer.the-variants as Answer
+use Rattle.paper.specs.declared.Written.{Written}
+use Rattle.paper.specs.declared.Written.the-variants as Written
+use Rattle.paper.specs.declared.Conversion.{Conversion}
+use Rattle.paper.specs.declared.Conversion.the-variants as Conversion
+use Rattle.paper.specs.declared.Verdict.{Verdict}
+use Rattle.paper.specs.declared.Verdict.the-variants as Verdict
+use Rattle.paper.specs.declared.Reading.{Reading}
+use Rattle.paper.specs.declared.Reading.the-variants as Reading
+
+-- ---- "a definition gives this paper's number and values for each of its cases": the number of the table, 0 where nothing is refused;
+-- its place; and what else comes back
+
+pub record Said : Type 0 where
+  pub number : ℕ
+  pub place : ℕ
+  pub values : List ℕ
+
+abbrev pub refused : Refusal → Said
+refused r = record { number = r .number; place = r .place; values = [] }
+
+abbrev pub fine : List ℕ → Said
+fine vs = record { number = 0; place = 0; values = vs }
+
+-- a sheet, a lent drawing or a face list that is read
+abbrev pub answerSays : Answer → Said
+answerSays Answer.Fine = fine []
+answerSays (Answer.Refused r) = refused r
+
+-- the length of what was written
+abbrev pub writtenSays : Written → Said
+writtenSays (Written.Bytes n) = fine (n ∷ [])
+writtenSays (Written.Refused r) = refused r
+
+-- "A report, and each of 17 to 19, also returns the loop and candidate counts": then the work, the number of solids, and six volumes
+-- where there is one. The place of 17 to 19 is the work.
+abbrev pub conversionSays : Conversion → Said
+conversionSays (Conversion.One l c w six) = fine (l ∷ c ∷ w ∷ 1 ∷ six ∷ [])
+conversionSays (Conversion.Several l c w n) = fine (l ∷ c ∷ w ∷ n ∷ [])
+conversionSays (Conversion.NoSolid l c w) = record { number = No.NoSolid; place = w; values = l ∷ c ∷ [] }
+conversionSays (Conversion.Many l c w) = record { number = No.Many; place = w; values = l ∷ c ∷ [] }
+conversionSays (Conversion.TooLong l c w) = record { number = No.TooLong; place = w; values = l ∷ c ∷ [] }
+conversionSays (Conversion.Refused r) = refused r
+
+abbrev pub verdictSays : Verdict → Said
+verdictSays Verdict.Accepted = fine []
+verdictSays (Verdict.Refused r) = refused r
+
+-- ---- "either a volume in cubic metres as a double or "not assessed" with a number from the table, or 30 where two to eight solids
+-- exist, equal volumes included"
+
+-- "The volume is six volumes divided by 6,000,000, both held exactly, rounded once."
+unfoldable pub volume : ℕ → Float
+volume six = div binary64 (ofInt binary64 (pos six)) (ofInt binary64 (pos 6000000))
+
+unfoldable pub readingOf : Conversion → Reading
+unfolding volume
+readingOf (Conversion.One l c w six) = Reading.Volume (volume six)
+readingOf (Conversion.Several l c w n) = Reading.NotAssessed No.Ambiguous
+readingOf (Conversion.NoSolid l c w) = Reading.NotAssessed No.NoSolid
+readingOf (Conversion.Many l c w) = Reading.NotAssessed No.Many
+readingOf (Conversion.TooLong l c w) = Reading.NotAssessed No.TooLong
+readingOf (Conversion.Refused r) = Reading.NotAssessed (r .number)
