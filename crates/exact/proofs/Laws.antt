@@ -1,5 +1,4 @@
--- The laws of ℤ as a commutative ring that `lib.IntN` does not have: the product's associativity and distributivity, and its laws with the negation.
--- Assumes nothing.
+-- The laws of ℤ as a commutative ring that `lib.IntN` does not have: of products with products, sums and negations. Assumes nothing.
 use mathlib.Core.Path.{_≡_, sym, _∙_, ap}
 use Prim.Native.Nat.{zero, suc}
 use lib.IntN.{ℤ, pos, negsuc, sucℤ, predℤ, negℤ, negℤ-negℤ, _+ℤ_, _-ℤ_, _*ℤ_, +ℤ-idl, +ℤ-idr, +ℤ-assoc, +ℤ-comm, +ℤ-invr, +ℤ-invl, sucℤ-+ℤ, predℤ-+ℤ, sucℤ-*ℤ, predℤ-*ℤ, zero-*ℤ, *ℤ-comm, *ℤ-one, one}

@@ -1,8 +1,8 @@
--- From ℤ to ℕ, where `omega` works. A number z is `up z` less `dn z`, two natural numbers of which one is 0, and an expression e over ρ is `Pos ρ e` less `Neg ρ e`, which
--- compute to sums of those. So an order or an equation of two linear expressions is one of ℕ, which `omega` proves from the hypotheses, handed over in the same form:
+-- Orders of linear expressions over ℤ as orders of ℕ, where `omega` works. Assumes nothing.
+-- A number z is `up z` less `dn z`, two natural numbers of which one is 0, and an expression e over ρ is `Pos ρ e` less `Neg ρ e`, which compute to sums of those. So an
+-- order of two expressions is one of ℕ, which `omega` proves from the hypotheses, handed over in the same form:
 --     le-by ρ a b (omega (arith, lt-to ρ c d h, le-to ρ e f k)) : eval ρ a ≤ℤ eval ρ b
 -- with h : eval ρ c <ℤ eval ρ d and k : eval ρ e ≤ℤ eval ρ f. A product of two variables is an unknown to `omega`; a multiple is written `con (pos 3) ⊗ e`.
--- Assumes nothing.
 use mathlib.Core.Path.{_≡_, refl, sym, _∙_, ap, subst₂}
 use mathlib.Core.Logic.{_⊎_, inl, inr}
 use mathlib.Core.List.{List, [], _∷_}
@@ -49,7 +49,7 @@ split (pos n) = sym (+ℤ-idr (pos n))
 split (negsuc n) = sym (+ℤ-idl (negsuc n))
 
 -- the value is the difference of the two parts
-pub parts-is : (ρ : List ℤ) (e : Expr) → eval ρ e ≡ pos (Pos ρ e) -ℤ pos (Neg ρ e)
+parts-is : (ρ : List ℤ) (e : Expr) → eval ρ e ≡ pos (Pos ρ e) -ℤ pos (Neg ρ e)
 parts-is ρ (var v) = split (getD ρ v (pos 0))
 parts-is ρ (con c) = split c
 parts-is ρ (a ⊕ b) =

@@ -1,6 +1,7 @@
--- What an expression of i64s asks and gives, from the expression alone. The variables of an expression are numbers that the code holds in locals: parameters,
--- results of calls, elements of a slice, a loop's variables. `bits κ e` is what the machine computes for e where the variables' locals hold the bits κ,
--- `bound ns e` a bound on e's size where the variables have the bounds ns, and `small ns e` the test that each bound on the way is below 2 ^ 63.
+-- What an expression of i64s asks and gives on the machine, from the expression alone. Assumes nothing.
+-- The variables of an expression are numbers that the code holds in locals: parameters, results of calls, elements of a slice, a loop's variables. `bits κ e` is what the
+-- machine computes for e where the variables' locals hold the bits κ, `bound ns e` a bound on e's size where the variables have the bounds ns, and `small ns e` the test
+-- that each bound on the way is below 2 ^ 63.
 --     asked env e tt    answers a need `add-..`, `sub-..`, `mul-..`, where e is the whole operation: that it does not overflow
 --     reads env e tt    is what the machine reads back of e's bits: the value of e. It answers `returns`
 --     held env e tt     is that e's bits are those of its value. It answers a loop's invariant `x ≡ ofZ w64 value`
@@ -8,7 +9,7 @@
 --     fits env e tt     is SFits w64 of e's value
 --     lt-taken, lt-left, eq-taken, eq-left   turn a branch's test into the fact about the two numbers
 -- `env` has an entry for each variable, in order: `h ▸ ..` with h : Within n z, where the local holds the bits of z, and `raw q h (..)` where q : k ≡ ofZ w64 z says so of k.
--- `-x` in the code is `neg x`. Assumes nothing.
+-- `-x` in the code is `neg x`.
 use mathlib.Core.Path.{_≡_, refl, sym, _∙_, ap, subst}
 use mathlib.Core.Bool.{Bool, true, false, not, _&&_}
 use mathlib.Core.List.{List, [], _∷_}
@@ -96,14 +97,14 @@ Asked κ (a ⊖ b) = SFits w64 (toZ w64 (bits κ a) -ℤ toZ w64 (bits κ b))
 Asked κ (a ⊗ b) = SFits w64 (toZ w64 (bits κ a) *ℤ toZ w64 (bits κ b))
 Asked κ (neg a) = SFits w64 (pos 0 -ℤ toZ w64 (bits κ a))
 
-pub at : {ns κ : List ℕ} {ρ : List ℤ} → Env ns κ ρ → (v : ℕ) → Within (getD ns v 0) (getD ρ v (pos 0))
+at : {ns κ : List ℕ} {ρ : List ℤ} → Env ns κ ρ → (v : ℕ) → Within (getD ns v 0) (getD ρ v (pos 0))
 at done v = within-lit tt
 at (h ▸ env) zero = h
 at (h ▸ env) (suc v) = at env v
 at (raw q h env) zero = h
 at (raw q h env) (suc v) = at env v
 
-pub held-at : {ns κ : List ℕ} {ρ : List ℤ} → Env ns κ ρ → (v : ℕ) → getD κ v 0 ≡ ofZ w64 (getD ρ v (pos 0))
+held-at : {ns κ : List ℕ} {ρ : List ℤ} → Env ns κ ρ → (v : ℕ) → getD κ v 0 ≡ ofZ w64 (getD ρ v (pos 0))
 held-at done v = refl
 held-at (h ▸ env) zero = refl
 held-at (h ▸ env) (suc v) = held-at env v

@@ -1,8 +1,8 @@
--- A polynomial identity over ℤ by one call. `Expr` is a polynomial expression over variables that are numbered from 0, `eval ρ e` its value where the list ρ
--- has the variables' values, and `norm` its normal form, a sorted list of terms, each a sorted list of variables with a coefficient. antt computes `norm`, and
--- `ring` says that two expressions whose difference has no coefficient but 0 have one value:
---     ring (a ∷ b ∷ []) ((x0 ⊕ x1) ⊗ (x0 ⊖ x1)) (x0 ⊗ x0 ⊖ x1 ⊗ x1) tt : (a +ℤ b) *ℤ (a -ℤ b) ≡ a *ℤ a -ℤ b *ℤ b
--- Assumes nothing.
+-- A polynomial identity over ℤ by one call, of `ring`. Assumes nothing.
+-- `Expr` is a polynomial expression over variables that are numbered from 0, `eval ρ e` its value where the list ρ has the variables' values, and `norm` its normal
+-- form, a sorted list of terms, each a sorted list of variables with a coefficient. antt computes `norm`, and `ring` says that two expressions whose difference has no
+-- coefficient but 0 have one value:
+--     ring (a ∷ b ∷ []) ((var 0 ⊕ var 1) ⊗ (var 0 ⊖ var 1)) (var 0 ⊗ var 0 ⊖ var 1 ⊗ var 1) tt : (a +ℤ b) *ℤ (a -ℤ b) ≡ a *ℤ a -ℤ b *ℤ b
 use mathlib.Core.Path.{_≡_, refl, sym, _∙_, ap}
 use mathlib.Core.Bool.{Bool, true, false, _&&_}
 use mathlib.Core.List.{List, [], _∷_}

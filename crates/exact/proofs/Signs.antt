@@ -1,5 +1,4 @@
--- Signs of whole numbers, zero products, and the orders `<` and `≤`: from each to the others.
--- Assumes nothing.
+-- Signs of whole numbers, zero products, equality as a test, and the orders `<` and `≤`: from each to the others. Assumes nothing.
 use mathlib.Core.Path.{_≡_, refl, sym, _∙_, ap, subst}
 use mathlib.Core.Bool.{Bool, true, false, not}
 use mathlib.Core.Logic.{_⊎_, inl, inr}

@@ -1,1 +1,3 @@
+-- What definitions say of lists, and what the code of a search answers. Assumes nothing.
 pub mod Lists
+pub mod Place

@@ -1,6 +1,6 @@
 -- How an array is filled: what a store just behind the front makes of it, and the front again. Assumes nothing.
-use mathlib.Core.Path.{_≡_, refl, sym, ap, _∙_}
-use mathlib.Core.List.{List, [], _∷_, _++_, map}
+use mathlib.Core.Path.{_≡_, refl, sym, _∙_}
+use mathlib.Core.List.{List, [], _∷_, _++_}
 use Prim.Native.Nat.{ℕ, suc, _+_, _-_, _≤_, _<_}
 use native.Mathlib.Omega.{arith}
 use lib.ListN.{length, set, replicate, length-append, length-replicate, take}
@@ -32,7 +32,3 @@ module _ {A : Type 0} where
   pub take-padded : (xs : List A) (n i : ℕ) (z : A) → length xs ≡ i → take i (padded xs n z) ≡ xs
   unfolding padded
   take-padded xs n i z l = take-at xs (replicate (n - length xs) z) i l
-
-pub map-snoc : {A B : Type 0} (f : A → B) (xs : List A) (x : A) → map f (xs ++ (x ∷ [])) ≡ map f xs ++ (f x ∷ [])
-map-snoc f [] x = refl
-map-snoc f (y ∷ xs) x = ap {B = List _} (λ t. f y ∷ t) (map-snoc f xs x)

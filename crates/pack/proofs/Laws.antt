@@ -1,19 +1,15 @@
 -- The laws of packed fields, each over the width. Assumes nothing.
 use mathlib.Core.Path.{_≡_, refl, sym, ap, ap₂, _∙_}
 use mathlib.Core.List.{List, [], _∷_, _++_, append-assoc}
-use Prim.Native.Nat.{ℕ, zero, suc, _+_, _-_, _*_, _/_, _%_, _^_, _≤_, _<_}
-use native.Mathlib.Nat.{mod-one, mod-eq-of-lt, mod-lt, zero-add, zero-mul, suc-mul, pow-succ', zero-div, zero-mod, not-suc-le-zero, le-of-suc-le-suc, suc-sub-suc, sub-zero, add-comm, mul-assoc, mul-comm, div-add-mod', lt-of-lt-of-le, min-le-left, le-trans, le-of-eq, mul-suc, mul-le-mul-left}
+use Prim.Native.Nat.{ℕ, zero, suc, _+_, _*_, _/_, _%_, _^_, _≤_, _<_}
+use native.Mathlib.Nat.{mod-one, mod-eq-of-lt, mod-lt, zero-add, suc-add, add-assoc, add-mul, zero-mul, suc-mul, pow-succ', add-comm, mul-assoc, mul-comm, lt-of-lt-of-le, min-le-left, le-trans, le-of-eq, mul-suc, mul-le-mul-left}
 use native.Mathlib.Numerals.{one-add, add-one}
 use native.Mathlib.Omega.{arith}
-use lib.Pow.{mod-pow-add, field as pow-field, mod-mod-pow, high, low, pow-mono}
+use lib.Pow.{mod-pow-add, field as pow-field, mod-mod-pow, high, low, pow-add, pow-mono, shr-shr}
 use lib.Arith.{digits-lt}
-use lib.ListN.{length, getD, take, drop, length-append, length-take, length-drop, List·getD-append}
-use lib.Seq.{take-at, drop-at, take-add, length-take-le, getD-drop, getD-append-add, drop-drop, take-suc}
-use Rattle.pack.specs.Bits.{bits, val, run, cut, fieldAt, fieldsAt}
-
--- every element is below m
-abbrev pub Under : ℕ → List ℕ → Type 0
-Under m vs = (i : ℕ) → getD vs i 0 < m
+use lib.ListN.{length, take, drop, length-append, length-take, length-drop}
+use lib.Seq.{take-at, drop-at, take-add, length-take-le, getD-drop, drop-drop}
+use Rattle.pack.specs.Bits.{bits, val, run, cut, fieldAt, fieldsAt, Under}
 
 pub length-bits : (w v : ℕ) → length (bits w v) ≡ w
 unfolding bits
@@ -31,7 +27,7 @@ val-bits (suc w) v =
 digit-mod : (v k j : ℕ) → v % 2 ^ (k + 1 + j) / 2 ^ j % 2 ≡ v / 2 ^ j % 2
 digit-mod v k j = ap (λ (x : ℕ). x % 2) (pow-field v (k + 1) j) ∙ mod-mod-pow (v / 2 ^ j) k 1
 
-pub bits-mod : (w k v : ℕ) → bits w (v % 2 ^ (k + w)) ≡ bits w v
+bits-mod : (w k v : ℕ) → bits w (v % 2 ^ (k + w)) ≡ bits w v
 unfolding bits
 bits-mod zero k v = refl
 bits-mod (suc w) k v =
@@ -43,6 +39,21 @@ pub bits-same : (w x y : ℕ) → x % 2 ^ w ≡ y % 2 ^ w → bits w x ≡ bits 
 bits-same w x y e =
     let h : (v : ℕ) → bits w (v % 2 ^ w) ≡ bits w v = λ v. rw zero-add at (bits-mod w 0 v) in
     sym (h x) ∙ ap (bits w) e ∙ h y
+
+-- the bits of a number in two parts
+pub bits-append : (a b v : ℕ) → bits (a + b) v ≡ bits a (v / 2 ^ b) ++ bits b v
+unfolding bits
+bits-append zero b v = rw zero-add refl
+bits-append (suc a) b v =
+    let e : v / 2 ^ (a + b) ≡ v / 2 ^ b / 2 ^ a = ap (λ (n : ℕ). v / 2 ^ n) (add-comm a b) ∙ sym (shr-shr v b a) in
+    rw (suc-add, e) (ap (λ (t : List ℕ). (v / 2 ^ b / 2 ^ a % 2) ∷ t) (bits-append a b v))
+
+pub val-append : (xs ys : List ℕ) → val (xs ++ ys) ≡ val xs * 2 ^ length ys + val ys
+unfolding val
+val-append [] ys = rw (zero-mul, zero-add) refl
+val-append (x ∷ xs) ys =
+    let e : 2 ^ length (xs ++ ys) ≡ 2 ^ length xs * 2 ^ length ys = ap (λ (n : ℕ). 2 ^ n) (length-append xs ys) ∙ pow-add 2 (length xs) (length ys) in
+    rw (e, val-append xs ys, add-mul, mul-assoc, add-assoc) refl
 
 pub val-lt : (bs : List ℕ) → Under 2 bs → val bs < 2 ^ length bs
 unfolding val
@@ -107,36 +118,6 @@ run-cut w (suc n) bs u h =
     let d : n * w ≤ length (drop w bs) = rw length-drop (omega (arith, e)) in
     rw (e, take-add, b, run-cut w n (drop w bs) (under-drop 2 w bs u) d)
 
--- bit r of w
-pub getD-bits : (w v r : ℕ) → r < w → getD (bits w v) r 0 ≡ v / 2 ^ (w - suc r) % 2
-unfolding bits
-getD-bits zero v r h = absurd (not-suc-le-zero h)
-getD-bits (suc w) v zero h = rw (suc-sub-suc, sub-zero) refl
-getD-bits (suc w) v (suc r) h = rw suc-sub-suc (getD-bits w v r (le-of-suc-le-suc h))
-
--- bit r of number q, in a run of numbers of w bits
-pub getD-run : (w : ℕ) (vs : List ℕ) (q r : ℕ) → r < w → getD (run w vs) (q * w + r) 0 ≡ getD vs q 0 / 2 ^ (w - suc r) % 2
-unfolding run
-getD-run w [] q r h = sym (rw (zero-div, zero-mod) refl)
-getD-run w (v ∷ vs) zero r h =
-    rw (zero-mul, zero-add) (List·getD-append (bits w v) (run w vs) 0 r (rw length-bits h) ∙ getD-bits w v r h)
-getD-run w (v ∷ vs) (suc q) r h =
-    let e : suc q * w + r ≡ length (bits w v) + (q * w + r) = omega (arith, suc-mul q w, length-bits w v) in
-    rw (e, getD-append-add) (getD-run w vs q r h)
-
--- one bit more
-pub val-snoc : (bs : List ℕ) (b : ℕ) → val (bs ++ (b ∷ [])) ≡ val bs * 2 + b
-unfolding val
-val-snoc [] b = omega arith
-val-snoc (x ∷ bs) b =
-    let e : 2 ^ suc (length bs) ≡ 2 * 2 ^ length bs = pow-succ' 2 (length bs) in
-    let l : length (bs ++ (b ∷ [])) ≡ suc (length bs) = length-append bs (b ∷ []) ∙ add-one (length bs) in
-    let f : x * 2 ^ suc (length bs) ≡ x * 2 ^ length bs * 2 = rw e (sym (rw mul-assoc (ap (λ (y : ℕ). x * y) (mul-comm (2 ^ length bs) 2)))) in
-    ap₂ (λ (k y : ℕ). x * 2 ^ k + y) l (val-snoc bs b) ∙ omega (arith, f)
-
-pub val-take : (bs : List ℕ) (n : ℕ) → n < length bs → val (take (n + 1) bs) ≡ val (take n bs) * 2 + getD bs n 0
-val-take bs n h = rw (add-one, take-suc bs n 0) (val-snoc (take n bs) (getD bs n 0))
-
 pub under-bits : (w v : ℕ) → Under 2 (bits w v)
 unfolding bits
 under-bits zero v i = omega arith
@@ -153,21 +134,6 @@ unfolding run
 under-run w [] i = omega arith
 under-run w (v ∷ vs) i = under-append 2 (bits w v) (run w vs) (under-bits w v) (under-run w vs) i
 
--- bit i of a run of numbers of w bits
-pub run-bit : (w : ℕ) (vs : List ℕ) (i : ℕ) → 0 < w → getD (run w vs) i 0 ≡ getD vs (i / w) 0 / 2 ^ (w - suc (i % w)) % 2
-run-bit w vs i p =
-    ap (λ (k : ℕ). getD (run w vs) k 0) (sym (div-add-mod' i w)) ∙ getD-run w vs (i / w) (i % w) (mod-lt i p)
-
-pub field-zero : (s : List ℕ) (i : ℕ) → fieldAt s i 0 ≡ 0
-unfolding fieldAt val
-field-zero s i = refl
-
-pub field-step : (s : List ℕ) (i j : ℕ) → i + j < length s * 8 → fieldAt s i (j + 1) ≡ fieldAt s i j * 2 + getD (run 8 s) (i + j) 0
-unfolding fieldAt
-field-step s i j h =
-    let l : j < length (drop i (run 8 s)) = rw (length-drop, length-run) (omega arith) in
-    val-take (drop i (run 8 s)) j l ∙ rw getD-drop refl
-
 pub field-lt : (s : List ℕ) (i w : ℕ) → fieldAt s i w < 2 ^ w
 unfolding fieldAt
 field-lt s i w =
@@ -178,10 +144,6 @@ field-lt s i w =
 -- the same at a width k that holds w
 pub field-below : (k : ℕ) (s : List ℕ) (i w : ℕ) → w ≤ k → fieldAt s i w < 2 ^ k
 field-below k s i w h = lt-of-lt-of-le (field-lt s i w) (pow-mono h)
-
--- bit i of bytes, as code reads it
-pub byte-bit : (s : List ℕ) (i : ℕ) → getD s (i / 8) 0 / 2 ^ (7 - i % 8) % 2 ≡ getD (run 8 s) i 0
-byte-bit s i = sym (run-bit 8 s i (omega arith) ∙ ap (λ (k : ℕ). getD s (i / 8) 0 / 2 ^ k % 2) (suc-sub-suc 7 (i % 8)))
 
 cut-snoc : (w n : ℕ) (bs : List ℕ) → cut w (suc n) bs ≡ cut w n bs ++ (val (take w (drop (n * w) bs)) ∷ [])
 unfolding cut

@@ -2,5 +2,5 @@
 pub mod Laws
 pub mod Over
 pub mod Trip
-pub mod Patch
+pub mod Bytes
 pub mod Fill

@@ -1,4 +1,4 @@
--- Writing packed fields one behind the other. Assumes nothing.
+-- Writing packed fields over what stands there, one behind the other, and the parts of a run. Assumes nothing.
 use mathlib.Core.Path.{_≡_, refl, sym, ap, ap₂, _∙_}
 use mathlib.Core.List.{List, [], _∷_, _++_, append-assoc, append-nil}
 use Prim.Native.Nat.{ℕ, zero, suc, _+_, _*_, _^_, _≤_, _<_}
@@ -7,16 +7,16 @@ use native.Mathlib.Numerals.{add-one}
 use native.Mathlib.Omega.{arith}
 use lib.Pow.{pow-mono, pow-pos}
 use lib.ListN.{length, getD, take, drop, length-append, length-drop, take-append-drop, length-take}
-use lib.Seq.{take-at, drop-at, drop-drop, length-take-le, take-all, paste, drop-nil, take-suc}
-use Rattle.pack.specs.Bits.{bits, run, cut, over}
-use Rattle.pack.proofs.Laws.{Under, length-bits, length-run, length-cut, cut-run, run-cut, val-lt, under-take, under-drop, under-append, run-append}
+use lib.Seq.{take-nil, take-append-add, take-at, drop-at, drop-drop, length-take-le, take-all, drop-nil, take-suc}
+use Rattle.pack.specs.Bits.{bits, run, cut, over, Under}
+use Rattle.pack.proofs.Laws.{length-bits, length-run, length-cut, cut-run, run-cut, val-lt, under-take, under-drop, under-append, run-append}
 
 pub over-none : (d : List ℕ) (i : ℕ) → d ≡ over d i []
 unfolding over
 over-none d i = sym (rw (append-nil, add-zero) (take-append-drop i d))
 
 -- a second stretch right behind the first
-pub over-over : (d : List ℕ) (i : ℕ) (bs : List ℕ) (j : ℕ) (cs : List ℕ) → i ≤ length d → j ≡ i + length bs
+over-over : (d : List ℕ) (i : ℕ) (bs : List ℕ) (j : ℕ) (cs : List ℕ) → i ≤ length d → j ≡ i + length bs
     → over (over d i bs) j cs ≡ over d i (bs ++ cs)
 unfolding over
 over-over d i bs j cs h e =
@@ -31,22 +31,44 @@ over-over d i bs j cs h e =
     ∙ ap (λ (k : ℕ). drop k d) (add-assoc i (length bs) (length cs) ∙ ap (λ (k : ℕ). i + k) (sym (length-append bs cs))) in
     rw (e, t, r) (ap (λ (q : List ℕ). q ++ drop (i + length (bs ++ cs)) d) (append-assoc (take i d) bs cs))
 
-pub over-start : (d bs : List ℕ) → over d 0 bs ≡ bs ++ drop (length bs) d
+-- the same of lists that are known to be such
+pub over-next : (d : List ℕ) (i : ℕ) (bs : List ℕ) (j : ℕ) (cs r s : List ℕ) → i ≤ length d → j ≡ i + length bs
+    → r ≡ over d i bs → s ≡ over r j cs → s ≡ over d i (bs ++ cs)
+over-next d i bs j cs r s h e p q = q ∙ ap (λ (t : List ℕ). over t j cs) p ∙ over-over d i bs j cs h e
+
+-- a stretch as long as what stands there
+pub over-at : (a b c d : List ℕ) (i : ℕ) → length a ≡ i → length b ≡ length c → over (a ++ (b ++ d)) i c ≡ a ++ (c ++ d)
+unfolding over
+over-at a b c d i l m =
+    let t : take i (a ++ (b ++ d)) ≡ a = take-at a (b ++ d) i l in
+    let r : drop (i + length c) (a ++ (b ++ d)) ≡ d =
+    sym (drop-drop (length c) i (a ++ (b ++ d))) ∙ ap (drop (length c)) (drop-at a (b ++ d) i l) ∙ drop-at b d (length c) m in
+    rw (t, r) (append-assoc a c d)
+
+over-start : (d bs : List ℕ) → over d 0 bs ≡ bs ++ drop (length bs) d
 unfolding over
 over-start d bs = rw zero-add refl
 
-pub paste-over : (d : List ℕ) (i : ℕ) (bs : List ℕ) (w : ℕ) → length bs ≡ w → paste d i bs w ≡ over d i bs
-unfolding over
-paste-over d i bs w e = rw (← e, take-all (length bs) bs (omega arith)) refl
+pub run-none : (w : ℕ) → run w [] ≡ []
+unfolding run
+run-none w = refl
 
 run-single : (w v : ℕ) → run w (v ∷ []) ≡ bits w v
 unfolding run
 run-single w v = append-nil (bits w v)
 
-pub run-snoc : (w : ℕ) (vs : List ℕ) (v : ℕ) → run w (vs ++ (v ∷ [])) ≡ run w vs ++ bits w v
+run-snoc : (w : ℕ) (vs : List ℕ) (v : ℕ) → run w (vs ++ (v ∷ [])) ≡ run w vs ++ bits w v
 run-snoc w vs v = run-append w vs (v ∷ []) ∙ ap (λ (t : List ℕ). run w vs ++ t) (run-single w v)
 
-pub run-drop : (w n : ℕ) (vs : List ℕ) → run w (drop n vs) ≡ drop (n * w) (run w vs)
+pub run-take : (w n : ℕ) (vs : List ℕ) → run w (take n vs) ≡ take (n * w) (run w vs)
+unfolding run
+run-take w zero vs = rw zero-mul refl
+run-take w (suc n) [] = sym (take-nil (suc n * w))
+run-take w (suc n) (v ∷ vs) =
+    let e : suc n * w ≡ length (bits w v) + n * w = omega (arith, suc-mul n w, length-bits w v) in
+    rw (e, take-append-add, run-take w n vs) refl
+
+run-drop : (w n : ℕ) (vs : List ℕ) → run w (drop n vs) ≡ drop (n * w) (run w vs)
 unfolding run
 run-drop w zero vs = rw zero-mul refl
 run-drop w (suc n) [] = sym (drop-nil (suc n * w))
@@ -57,11 +79,11 @@ run-drop w (suc n) (v ∷ vs) =
     ∙ drop-drop (n * w) w (bits w v ++ run w vs) ∙ ap (λ (k : ℕ). drop k (bits w v ++ run w vs)) (sym e)
 
 -- numbers of one width are known by their bits
-pub run-inj : (w : ℕ) (us vs : List ℕ) → length us ≡ length vs → Under (2 ^ w) us → Under (2 ^ w) vs → run w us ≡ run w vs → us ≡ vs
+run-inj : (w : ℕ) (us vs : List ℕ) → length us ≡ length vs → Under (2 ^ w) us → Under (2 ^ w) vs → run w us ≡ run w vs → us ≡ vs
 run-inj w us vs l hu hv e =
     sym (cut-run w us [] hu) ∙ ap₂ (λ (n : ℕ) (t : List ℕ). cut w n (t ++ [])) l e ∙ cut-run w vs [] hv
 
-pub under-cut : (w n : ℕ) (bs : List ℕ) → Under 2 bs → Under (2 ^ w) (cut w n bs)
+under-cut : (w n : ℕ) (bs : List ℕ) → Under 2 bs → Under (2 ^ w) (cut w n bs)
 unfolding cut
 under-cut w zero bs u i = pow-pos w
 under-cut w (suc n) bs u zero =
@@ -89,12 +111,3 @@ put-next d i w vs k z h l =
     omega (arith, length-run w (take k vs), ap (λ (n : ℕ). n * w) (length-take-le k vs (omega arith)), mul-comm w k) in
     over-over d i (run w (take k vs)) (i + w * k) (bits w (getD vs k z)) h e
     ∙ ap (over d i) (sym (run-snoc w (take k vs) (getD vs k z)) ∙ ap (run w) (sym (rw add-one (take-suc vs k z l))))
-
-pub run-none : (w : ℕ) → run w [] ≡ []
-unfolding run
-run-none w = refl
-
--- the same of lists that are known to be such
-pub over-next : (d : List ℕ) (i : ℕ) (bs : List ℕ) (j : ℕ) (cs r s : List ℕ) → i ≤ length d → j ≡ i + length bs
-    → r ≡ over d i bs → s ≡ over r j cs → s ≡ over d i (bs ++ cs)
-over-next d i bs j cs r s h e p q = q ∙ ap (λ (t : List ℕ). over t j cs) p ∙ over-over d i bs j cs h e

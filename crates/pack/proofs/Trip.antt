@@ -1,20 +1,22 @@
 -- A field that was packed is read again, and a field that was read packs to the bits that it was read from; over the width. Assumes nothing.
 use mathlib.Core.Path.{_≡_, _∙_}
 use mathlib.Core.List.{List, [], _++_, append-nil}
-use Prim.Native.Nat.{ℕ, _+_, _*_, _^_, _≤_, _<_}
+use Prim.Native.Nat.{ℕ, _+_, _*_, _%_, _^_, _≤_, _<_}
 use native.Mathlib.Nat.{mod-eq-of-lt}
 use native.Mathlib.Omega.{arith}
 use lib.ListN.{length, take, drop, length-drop}
 use lib.Seq.{take-at, drop-at, length-take-le}
-use Rattle.pack.specs.Bits.{bits, run, cut, fieldAt, fieldsAt}
-use Rattle.pack.proofs.Laws.{Under, length-bits, length-run, val-bits, bits-val, cut-run, run-cut, under-take, under-drop, under-run}
+use Rattle.pack.specs.Bits.{bits, run, cut, fieldAt, fieldsAt, Under}
+use Rattle.pack.proofs.Laws.{length-bits, length-run, val-bits, bits-val, cut-run, run-cut, under-take, under-drop, under-run}
 
 module _ (s x y : List ℕ) (i : ℕ) (l : length x ≡ i) where
   -- the field behind x
-  pub field-in : (w v : ℕ) → run 8 s ≡ x ++ (bits w v ++ y) → v < 2 ^ w → fieldAt s i w ≡ v
+  pub field-at : (w v : ℕ) → run 8 s ≡ x ++ (bits w v ++ y) → fieldAt s i w ≡ v % 2 ^ w
   unfolding fieldAt
-  field-in w v e h =
-      rw (e, drop-at x (bits w v ++ y) i l, take-at (bits w v) y w (length-bits w v)) (val-bits w v ∙ mod-eq-of-lt h)
+  field-at w v e = rw (e, drop-at x (bits w v ++ y) i l, take-at (bits w v) y w (length-bits w v)) (val-bits w v)
+
+  pub field-in : (w v : ℕ) → run 8 s ≡ x ++ (bits w v ++ y) → v < 2 ^ w → fieldAt s i w ≡ v
+  field-in w v e h = field-at w v e ∙ mod-eq-of-lt h
 
   -- the fields behind x
   pub fields-in : (w : ℕ) (vs : List ℕ) (n : ℕ) → n ≡ length vs → run 8 s ≡ x ++ (run w vs ++ y) → Under (2 ^ w) vs → fieldsAt s i w n ≡ vs

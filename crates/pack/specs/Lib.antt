@@ -1,3 +1,4 @@
 -- What contracts say of packed fields and of arrays that are filled. Assumes nothing.
 pub mod Bits
+pub mod Bytes
 pub mod Fill

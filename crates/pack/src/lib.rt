@@ -1,60 +1,73 @@
-// Packed fields, most significant bit first.
+// Packed fields, most significant bit first. A field of up to 16 bits lies within three bytes, and is read and written there at once.
 ghost use mathlib.Core.Path.{_≡_};
-ghost use Prim.Native.Nat.{_+_, _*_, _≤_, _<_, _-_, _^_};
+ghost use Prim.Native.Nat.{_+_, _*_, _≤_, _<_, _/_, _^_};
 ghost use lib.ListN.{length, getD, set};
 ghost use Rattle.pack.specs.Bits.{bits, run, fieldAt, over};
+ghost use Rattle.pack.specs.Bytes.{windowAt, patched};
 
-// Bit i of the bytes s.
-fn bit(s: &[u8], i: usize) -> u64
-    requires { ⌜ i < length (now s) * 8 ⌝ }
-    ensures { λ r. ⌜ r ≡ getD (run 8 (now (s .entry))) i 0 ⌝ }
+// 2 to the k.
+fn power(k: usize) -> u64
+    requires { ⌜ k < 64 ⌝ }
+    ensures { λ r. ⌜ (r ≡ 2 ^ k) × (0 < r) ⌝ }
+{
+    1u64 << k
+}
+
+// Byte k of s; past the end 0.
+fn byte(s: &[u8], k: usize) -> u64
+    ensures { λ r. ⌜ (r ≡ getD (now (s .entry)) k 0) × (r < 256) ⌝ }
+{
+    if s.len() <= k {
+        return 0;
+    }
+    s[k] as u64
+}
+
+// The number in three bytes of s, of which the first has bit i; past the end a byte is 0.
+fn window(s: &[u8], i: usize) -> u64
+    ensures { λ r. ⌜ (r ≡ windowAt (now (s .entry)) (i / 8)) × (r < 2 ^ 24) ⌝ }
 {
     let q = i / 8;
-    let r = i % 8;
-    ((s[q] >> (7 - r)) % 2) as u64
+    byte(s, q) * 65536 + byte(s, q + 1) * 256 + byte(s, q + 2)
 }
 
 // The number in the width bits of s that start at bit i.
 pub fn field(s: &[u8], i: usize, width: usize) -> u64
-    requires { ⌜ (width ≤ 32) × (i + width ≤ length (now s) * 8) × (i + width < 2 ^ 32) ⌝ }
+    requires { ⌜ (width ≤ 16) × (i + width ≤ length (now s) * 8) ⌝ }
     ensures { λ r. ⌜ r ≡ fieldAt (now (s .entry)) i width ⌝ }
 {
-    let mut v: u64 = 0;
-    let mut j: usize = 0;
-    while j < width {
-        v = v * 2 + bit(s, i + j);
-        j += 1;
+    (window(s, i) >> (24 - i % 8 - width)) % power(width)
+}
+
+// x with the width bits above its k lowest set to those of v.
+fn patch(x: u64, k: usize, width: usize, v: u64) -> u64
+    requires { ⌜ (x < 2 ^ 24) × (k + width ≤ 24) ⌝ }
+    ensures { λ r. ⌜ (r ≡ patched x k width v) × (r < 2 ^ 24) ⌝ }
+{
+    let low = power(k);
+    let size = power(width);
+    ((x >> k) / size * size + v % size) * low + x % low
+}
+
+// Sets byte k of s to b; past the end nothing.
+fn set_byte(s: &mut [u8], k: usize, b: u64)
+    requires { ⌜ b < 256 ⌝ }
+    ensures { λ _. ⌜ now (s .exit) ≡ set (now (s .entry)) k b ⌝ }
+{
+    if s.len() <= k {
+        return;
     }
-    v
-}
-
-// The weight of bit r of a byte.
-fn weight(r: usize) -> u64
-    requires { ⌜ r < 8 ⌝ }
-    ensures { λ p. ⌜ p ≡ 2 ^ (7 - r) ⌝ }
-{
-    1u64 << (7 - r)
-}
-
-// Sets bit i of s to b.
-fn set_bit(s: &mut [u8], i: usize, b: u64)
-    requires { ⌜ (i < length (now s) * 8) × (b < 2) ⌝ }
-    ensures { λ _. ⌜ run 8 (now (s .exit)) ≡ set (run 8 (now (s .entry))) i b ⌝ }
-{
-    let q = i / 8;
-    let p = weight(i % 8);
-    let x = s[q] as u64;
-    s[q] = ((x / p / 2 * 2 + b) * p + x % p) as u8;
+    s[k] = b as u8;
 }
 
 // Sets the width bits of s from bit i on to those of v.
 pub fn put(s: &mut [u8], i: usize, width: usize, v: u64)
-    requires { ⌜ (width ≤ 32) × (i + width ≤ length (now s) * 8) × (i + width < 2 ^ 32) ⌝ }
+    requires { ⌜ (width ≤ 16) × (i + width ≤ length (now s) * 8) ⌝ }
     ensures { λ _. ⌜ run 8 (now (s .exit)) ≡ over (run 8 (now (s .entry))) i (bits width v) ⌝ }
 {
-    let mut k: usize = 0;
-    while k < width {
-        set_bit(s, i + k, (v >> (width - 1 - k)) % 2);
-        k += 1;
-    }
+    let q = i / 8;
+    let x = patch(window(s, i), 24 - i % 8 - width, width, v);
+    set_byte(s, q, x / 65536);
+    set_byte(s, q + 1, x / 256 % 256);
+    set_byte(s, q + 2, x % 256);
 }

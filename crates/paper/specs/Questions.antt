@@ -13,7 +13,7 @@ use Rattle.lists.specs.Lists.{any, all, filter, sides, anyTrue, upto, lowest, m
 use Rattle.paper.specs.Numbers.{mostSolids, mostWork, faceRoom, solidRoom}
 use Rattle.paper.specs.Refusals.{firstOf}
 use Rattle.paper.specs.Format.{one, filled, fillAfter, encode}
-use Rattle.paper.specs.Sheet.{farAt, wrongAt, lowAt, contentChecks, shapeChecks, sheetChecks, lentChecks}
+use Rattle.paper.specs.Sheet.{farAt, wrongAt, lowAt, edgeChecks, contentChecks, openChecks, countChecks, closeChecks, shapeChecks, sheetChecks, lentChecks}
 use Rattle.paper.specs.Points.{above}
 use Rattle.paper.specs.Polygon.{covers}
 use Rattle.paper.specs.Drawing.{pointsOf, wire, joined, drawingChecks}
@@ -79,7 +79,7 @@ selections d =
     (search mostSolids (λ st. true) mostWork (length cs) (t .rows) .found)
 
 unfoldable pub reply : Question → Reply
-unfolding bits val run cut fieldAt fieldsAt Word.bits word count both either less only first any all filter sides anyTrue upto lowest member sameList flatMap firstOf filled fillAfter encode farAt wrongAt lowAt contentChecks shapeChecks sheetChecks lentChecks above covers pointsOf wire joined drawingChecks row follows closes branch scan ext level loops polygon uncovering candidates loopChecks pierces enters folds clash runs runsUp has faceSix clashing tablesOf inTwo unlike fresh known runsDown over pass spread facesFrom connected onceEachWay oriented sixFrom clearFrom judged takenOn openOn openCount decide contradicts settle sweep stable choose assume leaf walk search accepted facesAfter words solidsAfter reported concluded entryChecks conversion convertLists convertSheet faceBits listBits encodeFaces facesAt facesIn bitsOf faceFits wellShaped lowestAt fromPlace flipped fromLowest onward normalForm numberIn rowOf listed notCandidate faceTwice edgeCount direction pieces inward clashes faceChecks verdict verdictLists readingOf text decimalIn decimal signed facesText solidText solidsText headText answerText deskText selections
+unfolding bits val run cut fieldAt fieldsAt Word.bits word count both either less only first any all filter sides anyTrue upto lowest member sameList flatMap firstOf filled fillAfter encode farAt wrongAt lowAt edgeChecks contentChecks openChecks countChecks closeChecks shapeChecks sheetChecks lentChecks above covers pointsOf wire joined drawingChecks row follows closes branch scan ext level loops polygon uncovering candidates loopChecks pierces enters folds clash runs runsUp has faceSix clashing tablesOf inTwo unlike fresh known runsDown over pass spread facesFrom connected onceEachWay oriented sixFrom clearFrom judged takenOn openOn openCount decide contradicts settle sweep stable choose assume leaf walk search accepted facesAfter words solidsAfter reported concluded entryChecks conversion convertLists convertSheet faceBits listBits encodeFaces facesAt facesIn bitsOf faceFits wellShaped lowestAt fromPlace flipped fromLowest onward normalForm numberIn rowOf listed notCandidate faceTwice edgeCount direction pieces inward clashes faceChecks verdict verdictLists readingOf text decimalIn decimal signed facesText solidText solidsText headText answerText deskText selections
 reply (converted d limit) =
     let c = convertLists (d .xyz) (d .ends) limit (faceBefore faceRoom) (solidBefore solidRoom) in
     solved (c .answer) (readingOf (c .answer)) (c .solids)

@@ -46,27 +46,41 @@ lowAt ends zero = false
 lowAt ends (suc e) = not (above (getD ends (2 * e) 0) (getD ends (2 * e + 1) 0) (getD ends (2 * e + 2) 0) (getD ends (2 * e + 3) 0))
 
 -- "place in the coordinate list"; the edge
+unfoldable pub edgeChecks : ℕ → List ℕ → List Check
+edgeChecks v ends =
+    check No.BadEdge (lowest (wrongAt v ends) (length ends / 2)) ∷ check No.EdgeOrder (lowest (lowAt ends) (length ends / 2)) ∷ []
+
 unfoldable pub contentChecks : ℕ → List ℤ → List ℕ → List Check
-contentChecks v xyz ends =
-    check No.BadCoordinate (lowest (farAt xyz) (length xyz))
-    ∷ check No.BadEdge (lowest (wrongAt v ends) (length ends / 2))
-    ∷ check No.EdgeOrder (lowest (lowAt ends) (length ends / 2))
-    ∷ []
+contentChecks v xyz ends = check No.BadCoordinate (lowest (farAt xyz) (length xyz)) ∷ edgeChecks v ends
 
 -- ---- reading: "Reading a sheet applies refusals 3 to 10 only"
 
+-- 5, of v vertices and e edges
+unfoldable pub countChecks : Format → ℕ → ℕ → List Check
+countChecks f v e =
+    check No.BadCount (offends (outside leastVertices (f .vmax) v) 0)
+    ∷ check No.BadCount (offends (outside leastEdges (f .emax) e) 1)
+    ∷ check No.BadCount (offends (low f v e) 0)
+    ∷ []
+
 module _ (f : Format) (s : List ℕ) where
-  -- 3 to 7, and then 8 to 10
-  unfoldable pub shapeChecks : List Check
-  shapeChecks =
+  -- 3 and 4
+  unfoldable pub openChecks : List Check
+  openChecks =
       check No.SheetShort (offends (ltb (length s) 3) 0)
       ∷ check No.SheetEdition (offends (not (eqb (fieldAt s 0 editionBits) (f .edition))) 0)
-      ∷ check No.BadCount (offends (outside leastVertices (f .vmax) (verticesIn f s)) 0)
-      ∷ check No.BadCount (offends (outside leastEdges (f .emax) (edgesIn f s)) 1)
-      ∷ check No.BadCount (offends (low f (verticesIn f s) (edgesIn f s)) 0)
-      ∷ check No.SheetLength (offends (not (eqb (length s) (bytesFor (total f (verticesIn f s) (edgesIn f s))))) 0)
-      ∷ check No.SheetPad (offends (not (eqb (fillAfter (total f (verticesIn f s) (edgesIn f s)) s) 0)) 0)
       ∷ []
+
+  -- 6 and 7
+  unfoldable pub closeChecks : ℕ → ℕ → List Check
+  closeChecks v e =
+      check No.SheetLength (offends (not (eqb (length s) (bytesFor (total f v e)))) 0)
+      ∷ check No.SheetPad (offends (not (eqb (fillAfter (total f v e) s) 0)) 0)
+      ∷ []
+
+  -- 3 to 7, and then 8 to 10
+  unfoldable pub shapeChecks : List Check
+  shapeChecks = openChecks ++ countChecks f (verticesIn f s) (edgesIn f s) ++ closeChecks (verticesIn f s) (edgesIn f s)
 
   unfoldable pub sheetChecks : List Check
   sheetChecks = shapeChecks ++ contentChecks (verticesIn f s) (coordinatesIn f s) (endsIn f s)

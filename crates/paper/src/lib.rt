@@ -27,6 +27,13 @@ pub const LEAST_FACES: usize = 4;
 
 pub const MOST_FACES: usize = 42;
 
+// "The drawing sheet": the widths that all editions share.
+pub const EDITION_BITS: usize = 4;
+
+pub const COORDINATE_BITS: usize = 11;
+
+pub const CORNER_BITS: usize = 4;
+
 // A report's room: 13 bytes for each candidate, three words for each solid.
 pub const ROW: usize = 13;
 

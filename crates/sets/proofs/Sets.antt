@@ -10,7 +10,7 @@ use lib.Bits.{bitAnd, bitOr, and-mask}
 use lib.Dec.{eqb}
 use lib.Count.{ones, onesIn, ones-le, trailingZeros}
 use Rattle.sets.specs.Word.{bit, word, bits, dig, count, first, both, either, less, only}
-use Rattle.sets.specs.Sets.{room, packedSet, Is, size, Joint, Minus, Counted, Lowest, Dropped, EdgeSet, maskAt}
+use Rattle.sets.specs.Sets.{room, packedSet, Is, digitsOf, size, Joint, Minus, Counted, Lowest, Dropped, EdgeSet, maskAt}
 use Rattle.sets.specs.declared.Set.{Set}
 use Rattle.sets.proofs.Digits.{length-both, length-either, length-less, length-only, count-less, count-only, first-lt, first-in}
 use Rattle.sets.proofs.Word.{and-word, or-word, less-word, ones-word, only-word, bit-word, trailing-word, length-bits, word-bits, full-word, none-word, word-more}
@@ -29,10 +29,7 @@ packs : {w : ℕ} (a : List Bool) → w ≡ word a → _≡_ {A = Set} (record {
 unfolding packedSet
 packs a p = ap (λ (m : ℕ). record { bits = m }) p
 
--- every word is a set's
-pub digitsOf : Set → List Bool
-digitsOf x = bits room (x .bits)
-
+-- every word is that of its digits
 pub is-digits : (x : Set) → x .bits < 2 ^ room → Is x (digitsOf x)
 unfolding digitsOf
 is-digits x h = record { short = le-of-eq (length-bits room (x .bits)); words = packs (bits room (x .bits)) (sym (word-bits room (x .bits) h)) }

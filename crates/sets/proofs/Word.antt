@@ -1,5 +1,5 @@
--- Words and their digits: each operation on words is one on lists of digits. Over every length; a width is named only where `!x`, `1 << k` or a count of zeros has one.
--- Assumes nothing.
+-- Words and their digits: each operation on words is one on lists of digits, of every length. Assumes nothing.
+-- A width is named only where `!x`, `1 << k` or a count of zeros has one.
 use mathlib.Core.Bool.{Bool, true, false, not, _&&_, _||_}
 use mathlib.Core.List.{List, [], _∷_, _++_}
 use mathlib.Core.Path.{_≡_, refl, sym, ap, ap₂, _∙_}

@@ -5,7 +5,7 @@ use mathlib.Core.Path.{_≡_}
 use Prim.Native.Nat.{ℕ, _≤_, _<_}
 use lib.Count.{ones}
 use lib.ListN.{length, getD}
-use Rattle.sets.specs.Word.{word, dig, less, only, first}
+use Rattle.sets.specs.Word.{word, bits, dig, less, only, first}
 use Rattle.sets.specs.declared.Set.{Set}
 
 -- how many a set has room for: the width of the word
@@ -19,6 +19,10 @@ packedSet bs = record { bits = word bs }
 pub record Is (x : Set) (bs : List Bool) : Type 0 where
   pub short : length bs ≤ room
   pub words : x ≡ packedSet bs
+
+-- all the digits of its word
+unfoldable pub digitsOf : Set → List Bool
+digitsOf x = bits room (x .bits)
 
 -- how many are in it
 abbrev pub size : Set → ℕ

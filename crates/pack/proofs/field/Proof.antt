@@ -1,67 +1,33 @@
 -- `pack::field` meets its contract. Assumes nothing.
-use Prim.Native.Nat.{_+_, _-_, _≤_}
-use mathlib.Core.Path.{_≡_, _∙_, sym}
+use Prim.Native.Nat.{_-_, _%_}
 use native.Mathlib.Omega.{arith}
-use Rattle.pack.specs.Bits.{fieldAt}
-use Rattle.pack.proofs.Laws.{field-zero, field-step, field-below, under-run}
+use borrow.Author.Needs.{needs}
+use Rattle.pack.proofs.Bytes.{field-window}
 use Rattle.pack.proofs.field.Statement.{statement}
 use Rattle.pack.proofs.field.Tie as tie
 
-abbrev Inv-loop : tie.InvT-loop
-Inv-loop s i width v₀ j₀ v j = (j ≤ width) × (v ≡ fieldAt s i j)
+window-requires : tie.Need-window-requires
+window-requires c κs = search needs
 
-abbrev μ-loop : tie.MeasureT-loop
-μ-loop s i width v₀ j₀ v j = width - j
+sub-result : tie.Need-sub-result
+sub-result c = search needs
 
-loop-holds : tie.Need-loop-holds Inv-loop μ-loop
-loop-holds c = (omega arith, sym (field-zero _ _))
+sub-result-2 : tie.Need-sub-result-2
+sub-result-2 c = search needs
 
-mul-v : tie.Need-mul-v Inv-loop μ-loop
-mul-v c =
-    let a = c .before .before .before .args in
-    omega (arith, field-below 32 (a .s .now) (a .i) (c .before .loop .j) (omega arith))
+shr-result : tie.Need-shr-result
+shr-result c = search needs
 
-add-bit : tie.Need-add-bit Inv-loop μ-loop
-add-bit c = omega arith
+power-requires : tie.Need-power-requires
+power-requires c κs = search needs
 
-bit-requires : tie.Need-bit-requires Inv-loop μ-loop
-bit-requires c κs = omega arith
+rem-result : tie.Need-rem-result
+rem-result c = search needs
 
-add-v : tie.Need-add-v Inv-loop μ-loop
-add-v c =
-    let a = c .before .before .before .before .args in
-    let j = c .before .before .loop .j in
-    omega (arith, field-below 32 (a .s .now) (a .i) j (omega arith), under-run 8 (a .s .now) (a .i + j))
-
-add-j : tie.Need-add-j Inv-loop μ-loop
-add-j c = omega arith
-
-loop-less : tie.Need-loop-less Inv-loop μ-loop
-loop-less c = omega arith
-
-loop-again : tie.Need-loop-again Inv-loop μ-loop
-loop-again c =
-    let a = c .before .before .before .before .args in
-    let j = c .before .before .loop .j in
-    (omega arith, sym (field-step (a .s .now) (a .i) j (omega arith) ∙ omega (arith, c .bit .ensures)))
-
-returns : tie.Need-returns Inv-loop μ-loop
+returns : tie.Need-returns
 returns c =
-    let e : c .before .loop .j ≡ c .before .before .before .args .width = omega arith in
-    rw e at (c .before .loop .inv .1)
+    let a = c .before .before .before .args in
+    field-window (a .s .now) (a .i) (a .width) (24 - a .i % 8 - a .width) (omega arith) (omega arith) (c .before .window .ensures .0) (c .power .ensures .0)
 
 pub field-spec : {M : Type 1} → statement M
-field-spec =
-    tie.close
-    (tie.spec
-    Inv-loop
-    μ-loop
-    loop-holds
-    mul-v
-    add-bit
-    bit-requires
-    add-v
-    add-j
-    loop-less
-    loop-again
-    returns)
+field-spec = tie.close (tie.spec window-requires sub-result sub-result-2 shr-result power-requires rem-result returns)

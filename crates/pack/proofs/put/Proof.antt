@@ -1,85 +1,47 @@
 -- `pack::put` meets its contract. Assumes nothing.
-use Prim.Native.Nat.{ℕ, _+_, _-_, _≤_}
-use mathlib.Core.Path.{_≡_, _∙_, ap, refl}
+use Prim.Native.Nat.{_-_, _%_}
 use native.Mathlib.Omega.{arith}
-use lib.ListN.{length}
-use lib.Seq.{paste, paste-zero}
-use Rattle.pack.specs.Bits.{bits, run}
-use Rattle.pack.proofs.Patch.{put-step}
-use Rattle.pack.proofs.Laws.{length-run, length-bits}
-use Rattle.pack.proofs.Over.{paste-over}
+use borrow.Author.Needs.{needs}
+use Rattle.pack.proofs.Bytes.{put-window}
 use Rattle.pack.proofs.put.Statement.{statement}
 use Rattle.pack.proofs.put.Tie as tie
 
-abbrev Inv-loop : tie.InvT-loop
-Inv-loop s₀ i width v k₀ s k =
-    (k ≤ width) × (run 8 s ≡ paste (run 8 s₀) i (bits width v) k) × (length s ≡ length s₀)
+window-requires : tie.Need-window-requires
+window-requires c κs = search needs
 
-abbrev μ-loop : tie.MeasureT-loop
-μ-loop s₀ i width v k₀ s k = width - k
+sub-patch : tie.Need-sub-patch
+sub-patch c = search needs
 
-loop-holds : tie.Need-loop-holds Inv-loop μ-loop
-loop-holds c =
-    let a = c .before .args in
-    (omega arith, paste-zero (run 8 (a .s .now)) (a .i) (bits (a .width) (a .v)), refl)
+sub-patch-2 : tie.Need-sub-patch-2
+sub-patch-2 c = search needs
 
-add-set-bit : tie.Need-add-set-bit Inv-loop μ-loop
-add-set-bit c = omega arith
+patch-requires : tie.Need-patch-requires
+patch-requires c κs = search needs
 
-sub-set-bit : tie.Need-sub-set-bit Inv-loop μ-loop
-sub-set-bit c = omega arith
+set-byte-requires : tie.Need-set-byte-requires
+set-byte-requires c κs = search needs
 
-sub-set-bit-2 : tie.Need-sub-set-bit-2 Inv-loop μ-loop
-sub-set-bit-2 c = omega arith
+add-set-byte : tie.Need-add-set-byte
+add-set-byte c = search needs
 
-shr-set-bit : tie.Need-shr-set-bit Inv-loop μ-loop
-shr-set-bit c = omega arith
+set-byte-requires-2 : tie.Need-set-byte-requires-2
+set-byte-requires-2 c κs = search needs
 
-set-bit-requires : tie.Need-set-bit-requires Inv-loop μ-loop
-set-bit-requires c κs = omega arith
+add-set-byte-2 : tie.Need-add-set-byte-2
+add-set-byte-2 c = search needs
 
-add-k : tie.Need-add-k Inv-loop μ-loop
-add-k c = omega arith
+set-byte-requires-3 : tie.Need-set-byte-requires-3
+set-byte-requires-3 c κs = search needs
 
-loop-less : tie.Need-loop-less Inv-loop μ-loop
-loop-less c = omega arith
+same-length : tie.Need-same-length
+same-length c = search needs
 
-loop-again : tie.Need-loop-again Inv-loop μ-loop
-loop-again c =
-    let l = c .before .before .before .before .before .loop in
-    let a = c .before .before .before .before .before .before .before .args in
-    let d = run 8 (a .s .now) in
-    let h : a .i + a .width ≤ length d = rw length-run (omega arith) in (
-      omega arith,
-      c .before .before .set-bit .ensures
-          ∙ rw (l .inv .1) (put-step d (a .i) (a .width) (a .v) (l .k) (omega arith) h),
-      c .before .before .set-bit .kept .0 ∙ l .inv .2,
-    )
-
-same-length : tie.Need-same-length Inv-loop μ-loop
-same-length c = c .before .loop .inv .2
-
-returns : tie.Need-returns Inv-loop μ-loop
+returns : tie.Need-returns
 returns c =
-    let e : c .before .loop .k ≡ c .before .before .before .args .width = omega arith in
-    let a = c .before .before .before .args in
-    c .before .loop .inv .1 ∙ ap (λ (k : ℕ). paste (run 8 (a .s .now)) (a .i) (bits (a .width) (a .v)) k) e
-    ∙ paste-over (run 8 (a .s .now)) (a .i) (bits (a .width) (a .v)) (a .width) (length-bits (a .width) (a .v))
+    let d = c .before .before .before .before .before .before .before .before .before .before .before .before in
+    let a = d .before .before .before .before .args in
+    put-window (a .s .now) (a .i) (a .width) (24 - a .i % 8 - a .width) (omega arith) (omega arith) (a .v) (d .before .window .ensures .0) (d .patch .ensures .0)
+    (c .before .before .before .before .before .before .before .before .before .before .set-byte .ensures) (c .before .before .before .before .before .before .set-byte2 .ensures) (c .before .before .set-byte3 .ensures)
 
 pub put-spec : {M : Type 1} → statement M
-put-spec =
-    tie.close
-    (tie.spec
-    Inv-loop
-    μ-loop
-    loop-holds
-    add-set-bit
-    sub-set-bit
-    sub-set-bit-2
-    shr-set-bit
-    set-bit-requires
-    add-k
-    loop-less
-    loop-again
-    same-length
-    returns)
+put-spec = tie.close (tie.spec window-requires sub-patch sub-patch-2 patch-requires set-byte-requires add-set-byte set-byte-requires-2 add-set-byte-2 set-byte-requires-3 same-length returns)

@@ -1,0 +1,2 @@
+-- What follows from document 01's definitions and is cited by several crates. Assumes nothing.
+pub mod Checks

@@ -1,0 +1,2 @@
+-- The laws of lists and searches. Assumes nothing.
+pub mod Lowest

@@ -1,0 +1,22 @@
+-- `pack::byte` meets its contract. Assumes nothing.
+use mathlib.Core.Path.{refl, sym}
+use native.Mathlib.Omega.{arith}
+use borrow.Author.Needs.{needs}
+use lib.ListN.{List·getD-eq-default}
+use Rattle.pack.proofs.byte.Statement.{statement}
+use Rattle.pack.proofs.byte.Tie as tie
+
+returns : tie.Need-returns
+returns c = (sym (List·getD-eq-default (c .before .args .s .now) 0 (c .if1 .taken)), omega arith)
+
+shared-slice-read-result : tie.Need-shared-slice-read-result
+shared-slice-read-result c = search needs
+
+cast-result : tie.Need-cast-result
+cast-result c = omega (arith, c .shared-slice-known .given (c .before .before .args .k))
+
+returns-2 : tie.Need-returns-2
+returns-2 c = (refl, omega (arith, c .shared-slice-known .given (c .before .before .args .k)))
+
+pub byte-spec : {M : Type 1} → statement M
+byte-spec = tie.close (tie.spec returns shared-slice-read-result cast-result returns-2)

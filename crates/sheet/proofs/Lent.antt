@@ -1,0 +1,118 @@
+-- What a drawing that is lent as two lists is, where refusals 5, 8, 9 and 10 have nothing against it. Assumes nothing.
+use mathlib.Core.Path.{_≡_, refl, sym, ap, _∙_}
+use mathlib.Core.Bool.{Bool, true, false, not, _||_, true≢false}
+use mathlib.Core.List.{List}
+use Prim.Native.Nat.{ℕ, _≤_, _<_, _+_, _*_, _/_, _%_}
+use native.Mathlib.Nat.{mul-assoc, mul-left-comm}
+use native.Mathlib.Omega.{arith}
+use borrow.Author.Tests.{ltb-true, ltb-false, leb-true, leb-false, eqb-true, not-false}
+use lib.Dec.{ltb, leb, eqb}
+use lib.IntN.{ℤ, pos}
+use lib.ListN.{length, getD, List·getD-eq-default}
+use Rattle.lists.specs.Lists.{lowest}
+use Rattle.lists.proofs.Lowest.{lowest-none}
+use Rattle.laws.proofs.Checks.{found-none, passed}
+use Rattle.paper.specs.Refusals.{firstOf}
+use Rattle.paper.specs.Format.{low, total, bytesFor}
+use Rattle.paper.specs.Sheet.{far, farAt, wrong, wrongAt, edgeChecks, contentChecks, lentChecks, badCount}
+use Rattle.paper.specs.declared.Format.{Format}
+use Rattle.paper.specs.declared.Answer.the-variants.{Fine}
+use Rattle.sheet.specs.Narrow.{Narrow, Near}
+use Rattle.sheet.proofs.Sizes.{total-small}
+use Rattle.sheet.proofs.Shaped.{outside-false}
+
+-- both parts of a test by || fail where it fails
+or-left : (a b : Bool) → (a || b) ≡ false → a ≡ false
+or-left true b e = e
+or-left false b e = refl
+
+or-right : (a b : Bool) → (a || b) ≡ false → b ≡ false
+or-right true b e = absurd (true≢false e)
+or-right false b e = e
+
+-- what refusals 8 and 9 leave
+pub record Contents (v : ℕ) (xyz : List ℤ) (ends : List ℕ) : Type 0 where
+  pub near : Near xyz
+  pub below : (k : ℕ) → k < length ends / 2 * 2 → getD ends k 0 < v
+
+pub contents : (v : ℕ) (xyz : List ℤ) (ends : List ℕ) → Fine ≡ firstOf (contentChecks v xyz ends) → Contents v xyz ends
+unfolding contentChecks edgeChecks farAt wrongAt
+contents v xyz ends h =
+    let p8 = found-none _ _ h in
+    let p9 = found-none _ _ (p8 .1) in
+    record { near = λ k. near-at k (ltb k (length xyz)) refl (lowest-none (farAt xyz) (length xyz) (p8 .0)); below = λ k u. below-at k u (lowest-none (wrongAt v ends) (length ends / 2) (p9 .0)) }
+  where
+    near-at : (k : ℕ) (b : Bool) → ltb k (length xyz) ≡ b → ((j : ℕ) → j < length xyz → farAt xyz j ≡ false) → far (getD xyz k (pos 0)) ≡ false
+    near-at k true t q = q k (ltb-true k (length xyz) t)
+    near-at k false t q = ap far (List·getD-eq-default xyz (pos 0) (ltb-false k (length xyz) t))
+
+    -- an end of an edge is its first or its second
+    either : (k e : ℕ) → getD ends (2 * e) 0 < v → getD ends (2 * e + 1) 0 < v → (t : Bool) → leb (k % 2) 0 ≡ t → k ≡ 2 * e + k % 2 → k % 2 < 2 → getD ends k 0 < v
+    either k e a b true t d m = let z : k ≡ 2 * e = omega (arith, leb-true (k % 2) 0 t) in rw z a
+    either k e a b false t d m = let z : k ≡ 2 * e + 1 = omega (arith, leb-false (k % 2) 0 t) in rw z b
+
+    below-at : (k : ℕ) → k < length ends / 2 * 2 → ((e : ℕ) → e < length ends / 2 → wrongAt v ends e ≡ false) → getD ends k 0 < v
+    below-at k u q =
+        let e : ℕ = k / 2 in
+        let w : wrong v (getD ends (2 * e) 0) (getD ends (2 * e + 1) 0) ≡ false = q e (omega arith) in
+        let a : getD ends (2 * e) 0 < v = leb-false v _ (or-left (leb v (getD ends (2 * e) 0)) _ w) in
+        let b : getD ends (2 * e + 1) 0 < v = leb-false v _ (or-left (leb v (getD ends (2 * e + 1) 0)) _ (or-right (leb v (getD ends (2 * e) 0)) _ w)) in
+        either k e a b (leb (k % 2) 0) refl (omega arith) (omega arith)
+
+pub record Lent (f : Format) (xyz : List ℤ) (ends : List ℕ) : Type 0 where
+  pub v-whole : length xyz ≡ 3 * (length xyz / 3)
+  pub v-least : 4 ≤ length xyz / 3
+  pub v-most : length xyz / 3 ≤ f .vmax
+  pub e-whole : length ends ≡ 2 * (length ends / 2)
+  pub e-least : 6 ≤ length ends / 2
+  pub e-most : length ends / 2 ≤ f .emax
+  pub high : low f (length xyz / 3) (length ends / 2) ≡ false
+  pub fine : Fine ≡ firstOf (contentChecks (length xyz / 3) xyz ends)
+
+-- a list is whole where its count is not bad, and there are as many parts as there may be
+whole : (k lo hi n : ℕ) → badCount k lo hi n ≡ false → (n % k ≡ 0) × (lo ≤ n / k) × (n / k ≤ hi)
+whole k lo hi n e =
+    let b = outside-false lo hi (n / k) (or-right (not (eqb (n % k) 0)) _ e) in
+    (eqb-true _ _ (not-false _ (or-left (not (eqb (n % k) 0)) _ e)), b .0, b .1)
+
+pub lent : (f : Format) (xyz : List ℤ) (ends : List ℕ) → Fine ≡ firstOf (lentChecks f xyz ends) → Lent f xyz ends
+unfolding lentChecks
+lent f xyz ends h =
+    let p0 = passed _ _ _ h in
+    let p1 = passed _ _ _ (p0 .1) in
+    let p2 = passed _ _ _ (p1 .1) in
+    let v = whole 3 4 (f .vmax) (length xyz) (p0 .0) in
+    let e = whole 2 6 (f .emax) (length ends) (p1 .0) in
+    record { v-whole = omega (arith, v .0); v-least = v .1; v-most = v .2; e-whole = omega (arith, e .0); e-least = e .1; e-most = e .2; high = p2 .0; fine = p2 .1 }
+
+-- what the code that writes such a drawing needs to know, of its own v and e and of room of r bytes
+pub record Ready (f : Format) (xyz : List ℤ) (ends : List ℕ) (v e r : ℕ) : Type 0 where
+  pub v-three : length xyz ≡ 3 * v
+  pub v-few : v ≤ 64
+  pub e-few : e ≤ 128
+  pub stretch : f .nw * length ends ≡ 2 * f .nw * e
+  pub small : total f v e ≤ 4200
+  pub fits : total f v e ≤ r * 8
+  pub good : Lent f xyz ends
+  pub in-range : Near xyz
+
+pub ready : (f : Format) (xyz : List ℤ) (ends : List ℕ) {v e : ℕ} (r : ℕ) → Narrow f → Fine ≡ firstOf (lentChecks f xyz ends)
+    → v ≡ length xyz / 3 → e ≡ length ends / 2 → bytesFor (total f v e) ≤ r → Ready f xyz ends v e r
+ready f xyz ends {v} {e} r n h hv he b =
+    let g = lent f xyz ends h in
+    let vm : v ≤ 64 = omega (arith, g .v-most, n) in
+    let em : e ≤ 128 = omega (arith, g .e-most, n) in
+    let ew : length ends ≡ 2 * e = omega (arith, g .e-whole) in
+    record {
+      v-three = omega (arith, g .v-whole);
+      v-few = vm;
+      e-few = em;
+      stretch = ap (λ (x : ℕ). f .nw * x) ew ∙ mul-left-comm (f .nw) 2 e ∙ sym (mul-assoc 2 (f .nw) e);
+      small = total-small f n v e vm em;
+      fits = above (total f v e) b;
+      good = g;
+      in-range = contents (length xyz / 3) xyz ends (g .fine) .near;
+    }
+  where
+    above : (t : ℕ) → (t + 7) / 8 ≤ r → t ≤ r * 8
+    above t q = omega arith

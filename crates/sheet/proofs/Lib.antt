@@ -1,0 +1,8 @@
+-- The laws that this crate's proofs share. Assumes nothing.
+pub mod Sizes
+pub mod Shaped
+pub mod Coordinate
+pub mod Drawn
+pub mod Lent
+pub mod Encoded
+pub mod Written

@@ -1,0 +1,11 @@
+use mathlib.Core.Path.{_≡_, refl}
+use Rattle.pack.specs.Fill.{padded}
+use Rattle.sheet.proofs.read.no_drawing.Statement.{statement}
+use Rattle.sheet.proofs.read.no_drawing.Tie as tie
+
+returns : tie.Need-returns
+unfolding padded
+returns c = refl
+
+pub no-drawing-spec : {M : Type 1} → statement M
+no-drawing-spec = tie.close (tie.spec returns)

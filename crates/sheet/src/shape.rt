@@ -1,0 +1,99 @@
+// Refusals 3 to 7: the shape of a sheet, over an edition's layout. Nothing is assumed of the sheet.
+ghost use mathlib.Core.Path.{_≡_};
+ghost use Prim.Native.Nat.{_≤_};
+ghost use Rattle.paper.specs.Refusals.{firstOf};
+ghost use Rattle.paper.specs.Format.{outside, low, total};
+ghost use Rattle.paper.specs.Sheet.{openChecks, countChecks, closeChecks, shapeChecks};
+ghost use Rattle.sheet.specs.Narrow.{Narrow};
+use crate::content::refused;
+use paper::Answer;
+use paper::Format;
+
+pub fn is_outside(lo: u64, hi: u64, n: u64) -> bool
+    ensures { λ r. ⌜ r ≡ outside lo hi n ⌝ }
+{
+    if n < lo {
+        return true;
+    }
+    hi < n
+}
+
+// Counts for which an earlier edition is used.
+pub fn is_early(f: Format, v: u64, e: u64) -> bool
+    ensures { λ r. ⌜ r ≡ low f v e ⌝ }
+{
+    if v <= f.vlow {
+        return e <= f.elow;
+    }
+    false
+}
+
+// The bits before the fill.
+pub fn total_bits(f: Format, v: usize, e: usize) -> usize
+    requires { ⌜ Narrow f × (v ≤ 64) × (e ≤ 128) ⌝ }
+    ensures { λ r. ⌜ r ≡ total f v e ⌝ }
+{
+    4 + f.vw + f.ew + 33 * v + 2 * f.nw * e
+}
+
+// Refusals 3 and 4.
+fn opening(f: Format, s: &[u8]) -> Answer
+    ensures { λ r. ⌜ r ≡ firstOf (openChecks f (now (s .entry))) ⌝ }
+{
+    if s.len() < 3 {
+        return refused(paper::SHEET_SHORT, 0);
+    }
+    if pack::field(s, 0, paper::EDITION_BITS) != f.edition {
+        return refused(paper::SHEET_EDITION, 0);
+    }
+    Answer::Fine
+}
+
+// Refusal 5.
+pub fn counts(f: Format, v: u64, e: u64) -> Answer
+    ensures { λ r. ⌜ r ≡ firstOf (countChecks f v e) ⌝ }
+{
+    if is_outside(4, f.vmax, v) {
+        return refused(paper::BAD_COUNT, 0);
+    }
+    if is_outside(6, f.emax, e) {
+        return refused(paper::BAD_COUNT, 1);
+    }
+    if is_early(f, v, e) {
+        return refused(paper::BAD_COUNT, 0);
+    }
+    Answer::Fine
+}
+
+// Refusals 6 and 7.
+fn closing(f: Format, s: &[u8], v: usize, e: usize) -> Answer
+    requires { ⌜ Narrow f × (v ≤ 64) × (e ≤ 128) ⌝ }
+    ensures { λ r. ⌜ r ≡ firstOf (closeChecks f (now (s .entry)) v e) ⌝ }
+{
+    let bits = total_bits(f, v, e);
+    if s.len() != (bits + 7) / 8 {
+        return refused(paper::SHEET_LENGTH, 0);
+    }
+    if pack::field(s, bits, s.len() * 8 - bits) != 0 {
+        return refused(paper::SHEET_PAD, 0);
+    }
+    Answer::Fine
+}
+
+// Refusals 3 to 7.
+pub fn shape(f: Format, s: &[u8]) -> Answer
+    requires { ⌜ Narrow f ⌝ }
+    ensures { λ r. ⌜ r ≡ firstOf (shapeChecks f (now (s .entry))) ⌝ }
+{
+    match opening(f, s) {
+        Answer::Refused(r) => Answer::Refused(r),
+        Answer::Fine => {
+            let v = pack::field(s, 4, f.vw);
+            let e = pack::field(s, 4 + f.vw, f.ew);
+            match counts(f, v, e) {
+                Answer::Refused(r) => Answer::Refused(r),
+                Answer::Fine => closing(f, s, v as usize, e as usize),
+            }
+        }
+    }
+}
