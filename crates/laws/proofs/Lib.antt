@@ -1,2 +1,3 @@
 -- What follows from document 01's definitions and is cited by several crates. Assumes nothing.
 pub mod Checks
+pub mod Rows

@@ -1,2 +1,3 @@
 -- The laws of lists and searches. Assumes nothing.
 pub mod Lowest
+pub mod Every

@@ -103,18 +103,19 @@ abbrev pub orConvert : Answer → List ℕ → List ℕ → Converted → Conver
 orConvert Answer.Fine faces solids c = c
 orConvert (Answer.Refused r) faces solids c = record { answer = Conversion.Refused r; faces = faces; solids = solids }
 
--- of a drawing whose own form is checked by `form`: 3 to 10
-unfoldable pub conversion : List Check → Wire → ℕ → List ℕ → List ℕ → Converted
-conversion form d limit faces solids =
+-- of a drawing whose own form is checked by `form`: 3 to 10. The cap is the number of solids reported.
+unfoldable pub conversion : ℕ → List Check → Wire → ℕ → List ℕ → List ℕ → Converted
+conversion cap form d limit faces solids =
     let ls = loops d in
     let cs = uncovering d ls in
     let t = tablesOf d cs in
     orConvert (firstOf (entryChecks limit faces solids ++ form ++ drawingChecks d ++ loopChecks ls cs)) faces solids
-    (concluded (length ls) cs t (search mostSolids (accepted t) limit (length cs) (t .rows)) faces solids)
+    (concluded (length ls) cs t (search cap (accepted t) limit (length cs) (t .rows)) faces solids)
 
 -- of "two lists of numbers", where "3, 4, 6 and 7 don't arise"; of a sheet
 unfoldable pub convertLists : List ℤ → List ℕ → ℕ → List ℕ → List ℕ → Converted
-convertLists xyz ends limit faces solids = conversion (lentChecks one xyz ends) (wire xyz ends) limit faces solids
+convertLists xyz ends limit faces solids = conversion mostSolids (lentChecks one xyz ends) (wire xyz ends) limit faces solids
 
 unfoldable pub convertSheet : List ℕ → ℕ → List ℕ → List ℕ → Converted
-convertSheet s limit faces solids = conversion (sheetChecks one s) (wire (coordinatesIn one s) (endsIn one s)) limit faces solids
+convertSheet s limit faces solids =
+    conversion mostSolids (sheetChecks one s) (wire (coordinatesIn one s) (endsIn one s)) limit faces solids

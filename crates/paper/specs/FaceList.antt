@@ -16,6 +16,10 @@ use Rattle.paper.specs.declared.Format.{Format}
 use Rattle.paper.specs.declared.Answer.the-variants as Answer
 use Rattle.paper.specs.declared.Faces.{Faces}
 
+-- no faces by value, where the list is refused
+abbrev pub noFaces : Faces
+noFaces = record { answer = refuse No.ShellShape 0; count = 0; rows = padded [] (rowBytes * one .fmax) 0 }
+
 module _ (f : Format) where
   -- "edition (4 bits, 1), face count (6 bits, 4 to 42), then per face the corner count (4 bits, 3 to 12) and corners (5 bits each)"
   unfoldable pub faceBits : Loop → List ℕ
@@ -42,10 +46,13 @@ module _ (f : Format) where
   unfoldable pub facesIn : List ℕ → List Loop
   facesIn s = facesAt (countIn s) (drop (editionBits + f .fw) (run 8 s))
 
-  -- the bits before the fill
+  -- the bits of faces; the bits before the fill
+  unfoldable pub span : List Loop → ℕ
+  span [] = 0
+  span (l ∷ fs) = cornerBits + f .nw * length l + span fs
+
   unfoldable pub bitsOf : List Loop → ℕ
-  bitsOf [] = editionBits + f .fw
-  bitsOf (l ∷ fs) = cornerBits + f .nw * length l + bitsOf fs
+  bitsOf fs = editionBits + f .fw + span fs
 
   -- 20: "counts, length, fill, edition or corner number", for a drawing of v vertices
   unfoldable pub faceFits : ℕ → Loop → Bool
@@ -60,9 +67,9 @@ module _ (f : Format) where
       && eqb (length s) (bytesFor (bitsOf fs))
       && eqb (fillAfter (bitsOf fs) s) 0
 
-  -- the faces by value: a row for each, and no faces where the list is refused
+  -- the faces by value: a row for each
   unfoldable pub facesOf : ℕ → List ℕ → Faces
   facesOf v s =
       cond (wellShaped v s)
       (record { answer = Answer.Fine; count = countIn s; rows = padded (flatMap row (facesIn s)) (rowBytes * one .fmax) 0 })
-      (record { answer = refuse No.ShellShape 0; count = 0; rows = padded [] (rowBytes * one .fmax) 0 })
+      noFaces

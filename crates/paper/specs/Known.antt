@@ -56,9 +56,9 @@ table =
     ∷ paired Faces.face Faces.entering yields rules false true false
     ∷ paired Faces.square Faces.folding yields rules false false true
     -- "32 vertices pass and 33 get 5; coordinate 1,000 passes and 1,001 gets 8"; "the largest drawing 215"
-    ∷ lent (replicate 96 (pos 1000)) sixEnds yields answer Answer.Fine
-    ∷ lent (replicate 99 (pos 1000)) sixEnds yields answer (refuse No.BadCount 0)
-    ∷ lent (replicate 95 (pos 1000) ++ (pos 1001 ∷ [])) sixEnds yields answer (refuse No.BadCoordinate 95)
+    ∷ lent (record { xyz = replicate 96 (pos 1000); ends = sixEnds }) yields answer Answer.Fine
+    ∷ lent (record { xyz = replicate 99 (pos 1000); ends = sixEnds }) yields answer (refuse No.BadCount 0)
+    ∷ lent (record { xyz = replicate 95 (pos 1000) ++ (pos 1001 ∷ []); ends = sixEnds }) yields answer (refuse No.BadCoordinate 95)
     ∷ sized (record { xyz = replicate 96 (pos 0); ends = replicate 128 0 }) yields number 215
     -- "the notched pentagon, which covers neither triangle nor square"; the square covers both
     ∷ covering Faces.notched Faces.notch yields tests (false ∷ [])

@@ -4,16 +4,17 @@ use Prim.Native.Nat.{ℕ}
 use mathlib.Core.Path.{_≡_}
 use mathlib.Core.Bool.{Bool, true, _||_}
 use mathlib.Core.List.{List, [], _∷_, map, flatMap}
-use lib.IntN.{ℤ}
+use lib.IntN.{ℤ, pos, negℤ}
 use lib.ListN.{length, replicate}
 use Rattle.pack.specs.Bits.{bits, val, run, cut, fieldAt, fieldsAt}
+use Rattle.pack.specs.Fill.{padded}
 use Rattle.sets.specs.Word as Word
 use Rattle.sets.specs.Word.{word, count, both, either, less, only, first}
 use Rattle.lists.specs.Lists.{any, all, filter, sides, anyTrue, upto, lowest, member, sameList}
 use Rattle.paper.specs.Numbers.{mostSolids, mostWork, faceRoom, solidRoom}
 use Rattle.paper.specs.Refusals.{firstOf}
 use Rattle.paper.specs.Format.{one, filled, fillAfter, encode}
-use Rattle.paper.specs.Sheet.{farAt, wrongAt, lowAt, edgeChecks, contentChecks, openChecks, countChecks, closeChecks, shapeChecks, sheetChecks, lentChecks}
+use Rattle.paper.specs.Sheet.{farAt, wrongAt, lowAt, edgeChecks, contentChecks, openChecks, countChecks, closeChecks, shapeChecks, sheetChecks, lentChecks, sheetOf, writerChecks, writtenOf, roomOf}
 use Rattle.paper.specs.Points.{above}
 use Rattle.paper.specs.Polygon.{covers}
 use Rattle.paper.specs.Drawing.{pointsOf, wire, joined, drawingChecks}
@@ -22,11 +23,13 @@ use Rattle.paper.specs.Clash.{pierces, enters, folds, clash}
 use Rattle.paper.specs.Solids.{runs, runsUp, has, faceSix, clashing, tablesOf, inTwo, unlike, fresh, known, runsDown, over, pass, spread, facesFrom, connected, onceEachWay, oriented, sixFrom, clearFrom, judged}
 use Rattle.paper.specs.Walk.{takenOn, openOn, openCount, decide, contradicts, settle, sweep, stable, choose, assume, leaf, walk, search}
 use Rattle.paper.specs.Conversion.{takens, accepted, facesAfter, words, solidsAfter, reported, concluded, entryChecks, conversion, convertLists, convertSheet}
-use Rattle.paper.specs.FaceList.{faceBits, listBits, encodeFaces, facesAt, facesIn, bitsOf, faceFits, wellShaped}
+use Rattle.paper.specs.FaceList.{faceBits, listBits, encodeFaces, facesAt, facesIn, span, bitsOf, faceFits, wellShaped}
 use Rattle.paper.specs.Verdict.{lowestAt, fromPlace, flipped, fromLowest, onward, normalForm, numberIn, rowOf, listed, notCandidate, faceTwice, edgeCount, direction, pieces, inward, clashes, faceChecks, verdict, verdictLists}
 use Rattle.paper.specs.Reading.{readingOf}
 use Rattle.paper.specs.Desk.{text, decimalIn, decimal, signed, facesText, solidText, solidsText, headText, answerText, deskText}
 use Rattle.paper.specs.declared.Answer.{Answer}
+use Rattle.paper.specs.declared.Written.{Written}
+use Rattle.paper.specs.declared.Sheet.{Sheet}
 use Rattle.paper.specs.declared.Conversion.{Conversion}
 use Rattle.paper.specs.declared.Verdict.{Verdict}
 use Rattle.paper.specs.declared.Reading.{Reading}
@@ -36,16 +39,26 @@ pub record Drawn : Type 0 where
   pub xyz : List ℤ
   pub ends : List ℕ
 
+abbrev pub neg : ℕ → ℤ
+neg n = negℤ (pos n)
+
 pub data Question : Type 0 where
   -- a drawing under a work limit: the answer, its reading and the solid room; the face room
   converted : Drawn → ℕ → Question
   faced : Drawn → Question
-  -- the desk program on a drawing's sheet; the sheet's length; a drawing lent as two lists
-  printed : Drawn → Question
+  -- the same with a cap of its own on the solids and rooms of any length: all that comes back
+  wholly : (cap : ℕ) → Drawn → (limit faceBytes solidWords : ℕ) → Question
+  -- a drawing lent as two lists; its sheet's length; its sheet written to room of a length
+  lent : Drawn → Question
   sized : Drawn → Question
-  lent : List ℤ → List ℕ → Question
-  -- a list of faces sent for a drawing
+  stored : Drawn → ℕ → Question
+  -- a sheet that is read, and what the desk program prints of it; of a drawing's sheet
+  fetched : List ℕ → Question
+  desk : List ℕ → Question
+  printed : Drawn → Question
+  -- a list of faces sent for a drawing; a packed one
   sent : Drawn → List (List ℕ) → Question
+  checked : Drawn → List ℕ → Question
   -- two faces, by rules A, B and C either way round; two loops in one plane, the first covering the second
   paired : List ℤ → List ℤ → Question
   covering : List ℤ → List ℤ → Question
@@ -54,9 +67,12 @@ pub data Question : Type 0 where
 
 pub data Reply : Type 0 where
   solved : Conversion → Reading → List ℕ → Reply
+  left : Conversion → (faces solids : List ℕ) → Reply
   bytes : List ℕ → Reply
   number : ℕ → Reply
   answer : Answer → Reply
+  wrote : Written → List ℕ → Reply
+  sheet : Sheet → Reply
   verdicts : Verdict → Reply
   rules : (A B C : Bool) → Reply
   tests : List Bool → Reply
@@ -79,19 +95,26 @@ selections d =
     (search mostSolids (λ st. true) mostWork (length cs) (t .rows) .found)
 
 unfoldable pub reply : Question → Reply
-unfolding bits val run cut fieldAt fieldsAt Word.bits word count both either less only first any all filter sides anyTrue upto lowest member sameList flatMap firstOf filled fillAfter encode farAt wrongAt lowAt edgeChecks contentChecks openChecks countChecks closeChecks shapeChecks sheetChecks lentChecks above covers pointsOf wire joined drawingChecks row follows closes branch scan ext level loops polygon uncovering candidates loopChecks pierces enters folds clash runs runsUp has faceSix clashing tablesOf inTwo unlike fresh known runsDown over pass spread facesFrom connected onceEachWay oriented sixFrom clearFrom judged takenOn openOn openCount decide contradicts settle sweep stable choose assume leaf walk search accepted facesAfter words solidsAfter reported concluded entryChecks conversion convertLists convertSheet faceBits listBits encodeFaces facesAt facesIn bitsOf faceFits wellShaped lowestAt fromPlace flipped fromLowest onward normalForm numberIn rowOf listed notCandidate faceTwice edgeCount direction pieces inward clashes faceChecks verdict verdictLists readingOf text decimalIn decimal signed facesText solidText solidsText headText answerText deskText selections
+unfolding bits val run cut fieldAt fieldsAt Word.bits word count both either less only first any all filter sides anyTrue upto lowest member sameList flatMap firstOf filled fillAfter encode farAt wrongAt lowAt edgeChecks contentChecks openChecks countChecks closeChecks shapeChecks sheetChecks lentChecks padded sheetOf writerChecks writtenOf roomOf above covers pointsOf wire joined drawingChecks row follows closes branch scan ext level loops polygon uncovering candidates loopChecks pierces enters folds clash runs runsUp has faceSix clashing tablesOf inTwo unlike fresh known runsDown over pass spread facesFrom connected onceEachWay oriented sixFrom clearFrom judged takenOn openOn openCount decide contradicts settle sweep stable choose assume leaf walk search accepted facesAfter words solidsAfter reported concluded entryChecks conversion convertLists convertSheet faceBits listBits encodeFaces facesAt facesIn span bitsOf faceFits wellShaped lowestAt fromPlace flipped fromLowest onward normalForm numberIn rowOf listed notCandidate faceTwice edgeCount direction pieces inward clashes faceChecks verdict verdictLists readingOf text decimalIn decimal signed facesText solidText solidsText headText answerText deskText selections
 reply (converted d limit) =
     let c = convertLists (d .xyz) (d .ends) limit (faceBefore faceRoom) (solidBefore solidRoom) in
     solved (c .answer) (readingOf (c .answer)) (c .solids)
 reply (faced d) = bytes (convertLists (d .xyz) (d .ends) mostWork (faceBefore faceRoom) (solidBefore solidRoom) .faces)
-reply (printed d) = bytes (deskText (encode one (d .xyz) (d .ends)))
+reply (wholly cap d limit f s) =
+    let c = conversion cap (lentChecks one (d .xyz) (d .ends)) (wire (d .xyz) (d .ends)) limit (faceBefore f) (solidBefore s) in
+    left (c .answer) (c .faces) (c .solids)
+reply (lent d) = answer (firstOf (lentChecks one (d .xyz) (d .ends)))
 reply (sized d) = number (length (encode one (d .xyz) (d .ends)))
-reply (lent xyz ends) = answer (firstOf (lentChecks one xyz ends))
+reply (stored d n) = wrote (writtenOf one (d .xyz) (d .ends) (faceBefore n)) (roomOf one (d .xyz) (d .ends) (faceBefore n))
+reply (fetched s) = sheet (sheetOf one s)
+reply (desk s) = bytes (deskText s)
+reply (printed d) = bytes (deskText (encode one (d .xyz) (d .ends)))
 reply (sent d fs) = verdicts (verdictLists (d .xyz) (d .ends) (encodeFaces one fs))
+reply (checked d list) = verdicts (verdictLists (d .xyz) (d .ends) list)
 reply (paired f g) =
     let p = pointsOf f in
     let q = pointsOf g in
-    rules (pierces p q || pierces q p) (enters p q || enters q p) (folds p q)
+    rules (pierces p q || pierces q p) (enters p q || enters q p) (folds p q || folds q p)
 reply (covering f g) = tests (covers (pointsOf f) (pointsOf g) ∷ [])
 reply (selected d) = tests (selections d)
 

@@ -1,11 +1,8 @@
 -- The drawings of document 01, "Known drawings", as two lists. Assumes nothing.
 use Prim.Native.Nat.{ℕ}
 use mathlib.Core.List.{List, [], _∷_}
-use lib.IntN.{ℤ, pos, negℤ}
-use Rattle.paper.specs.Questions.{Drawn}
-
-abbrev pub neg : ℕ → ℤ
-neg n = negℤ (pos n)
+use lib.IntN.{pos}
+use Rattle.paper.specs.Questions.{Drawn, neg}
 
 -- "Tetrahedron (0,0,0) (6,0,0) (0,6,0) (0,0,6)"
 abbrev pub tetrahedron : Drawn
