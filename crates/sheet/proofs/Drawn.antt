@@ -1,9 +1,9 @@
 -- The drawing that is read off a sheet is the definition's. Assumes nothing.
-use mathlib.Core.Path.{_≡_, refl, _∙_, ap, ap₂}
+use mathlib.Core.Path.{_≡_, _∙_, ap, ap₂}
 use mathlib.Core.List.{List, map}
 use Prim.Native.Nat.{ℕ, _+_, _*_}
 use lib.IntN.{ℤ, pos}
-use lib.ListN.{length, take, length-map}
+use lib.ListN.{length, length-map}
 use Rattle.pack.specs.Bits.{fieldsAt}
 use Rattle.pack.specs.Fill.{padded}
 use Rattle.pack.proofs.Laws.{length-fields}
@@ -17,7 +17,7 @@ use Rattle.paper.specs.declared.Refusal.{Refusal}
 use Rattle.paper.specs.declared.Answer.{Answer}
 use Rattle.paper.specs.declared.Answer.the-variants.{Fine, Refused}
 use Rattle.paper.specs.declared.Sheet.{Sheet}
-use Rattle.sheet.specs.Kept.{keptFor, keptOf}
+use Rattle.sheet.specs.Kept.{keptOf}
 
 module _ (f : Format) (s : List ℕ) where
   -- as many coordinates and vertex numbers as the counts say

@@ -9,7 +9,6 @@ use borrow.Author.Tests.{ltb-true, ltb-false, leb-true, leb-false, eqb-true, not
 use lib.Dec.{ltb, leb, eqb}
 use lib.IntN.{ℤ, pos}
 use lib.ListN.{length, getD, List·getD-eq-default}
-use Rattle.lists.specs.Lists.{lowest}
 use Rattle.lists.proofs.Lowest.{lowest-none}
 use Rattle.laws.proofs.Checks.{found-none, passed}
 use Rattle.paper.specs.Refusals.{firstOf}

@@ -6,7 +6,3 @@ pub mod Drawn
 pub mod Lent
 pub mod Encoded
 pub mod Written
-pub mod Below
-pub mod FaceAt
-pub mod FaceList
-pub mod ReadFaces

@@ -1,16 +1,13 @@
 -- How large the numbers of a narrow layout get. Assumes nothing.
-use Prim.Native.Nat.{ℕ, _≤_, _+_, _*_, _/_}
+use Prim.Native.Nat.{ℕ, _≤_, _*_}
 use native.Mathlib.Nat.{mul-le-mul, le-trans}
 use native.Mathlib.Omega.{arith}
 use Rattle.paper.specs.Format.{one, total}
 use Rattle.paper.specs.declared.Format.{Format}
-use Rattle.sheet.specs.Narrow.{Narrow, Small, Brief}
+use Rattle.sheet.specs.Narrow.{Narrow, Small}
 
 pub one-small : Small one
 one-small = record { narrow = omega arith; v-held = omega arith; e-held = omega arith }
-
-pub one-brief : Brief one
-one-brief = record { slender = omega arith; f-held = omega arith; fw-least = omega arith }
 
 module _ (f : Format) (g : Narrow f) (v e : ℕ) (hv : v ≤ 64) (he : e ≤ 128) where
   pub numbers-small : 2 * f .nw * e ≤ 2048
@@ -18,7 +15,3 @@ module _ (f : Format) (g : Narrow f) (v e : ℕ) (hv : v ≤ 64) (he : e ≤ 128
 
   pub total-small : total f v e ≤ 4200
   total-small = omega (arith, numbers-small, g)
-
--- at most 12 fields of at most 8 bits
-pub corners-small : {w c : ℕ} → w ≤ 8 → c ≤ 12 → w * c ≤ 96
-corners-small {w} {c} hw hc = mul-le-mul {n₁ = w} {m₁ = c} {n₂ = 8} {m₂ = 12} hw hc

@@ -7,7 +7,7 @@ use lib.IntN.{ℤ}
 use lib.ListN.{length, drop}
 use Rattle.laws.proofs.Checks.{holds, fails, clear, first-stops, first-passes}
 use Rattle.paper.specs.Refusals as No
-use Rattle.paper.specs.Refusals.{refuse, firstOf}
+use Rattle.paper.specs.Refusals.{firstOf}
 use Rattle.paper.specs.Format.{total, bytesFor, encode}
 use Rattle.paper.specs.Sheet.{lentChecks, writerChecks, writtenFor, roomFor, writtenOf, roomOf}
 use Rattle.paper.specs.declared.Format.{Format}

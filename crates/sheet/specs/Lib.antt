@@ -1,4 +1,3 @@
 -- What contracts of this crate cite beside the paper. Assumes nothing.
 pub mod Narrow
 pub mod Kept
-pub mod Face

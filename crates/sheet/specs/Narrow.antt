@@ -24,12 +24,6 @@ pub record Small (f : Format) : Type 0 where
   pub v-held : f .vmax ≤ one .vmax
   pub e-held : f .emax ≤ one .emax
 
--- so that a face list by value has room for what a list holds
-pub record Brief (f : Format) : Type 0 where
-  pub slender : Narrow f
-  pub f-held : f .fmax ≤ one .fmax
-  pub fw-least : 5 ≤ f .fw
-
 -- every coordinate is in range
 abbrev pub Near : List ℤ → Type 0
 Near xyz = (k : ℕ) → far (getD xyz k (pos 0)) ≡ false

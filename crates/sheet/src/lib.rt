@@ -1,23 +1,20 @@
-// Sheets and face lists, at the rim of the service: nothing is assumed of any input.
+// Sheets, read and written at the rim of the service: nothing is assumed of any input.
 ghost use mathlib.Core.Path.{_≡_};
 ghost use Rattle.paper.specs.Format.{one};
 ghost use Rattle.paper.specs.Sheet.{sheetOf, writtenOf, roomOf};
-ghost use Rattle.paper.specs.FaceList.{facesOf};
 
 pub mod content;
-pub mod faces;
 pub mod lend;
 pub mod read;
 pub mod shape;
 pub mod write;
 
-use paper::Faces;
 use paper::Format;
 use paper::Sheet;
 use paper::Written;
 
 // Edition 1.
-fn edition_one() -> Format
+pub fn edition_one() -> Format
     ensures { λ r. ⌜ r ≡ one ⌝ }
 {
     Format {
@@ -47,11 +44,4 @@ pub fn write_sheet(xyz: &[i64], ends: &[u8], room: &mut [u8]) -> Written
     ensures kept { λ _. ⌜ now (room .exit) ≡ roomOf one (now (xyz .entry)) (now (ends .entry)) (now (room .entry)) ⌝ }
 {
     write::write(edition_one(), xyz, ends, room)
-}
-
-// Reads a packed face list for a drawing of so many vertices: refusal 20, and the faces by value, a row of 13 bytes for each.
-pub fn read_faces(list: &[u8], vertices: usize) -> Faces
-    ensures { λ r. ⌜ r ≡ facesOf one vertices (now (list .entry)) ⌝ }
-{
-    faces::read(edition_one(), list, vertices)
 }

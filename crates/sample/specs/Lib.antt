@@ -1,0 +1,7 @@
+-- A fixed sample of cases that the reference answers, proved of the definitions; written by tools/try-definitions. Assumes nothing.
+pub mod Drawing
+pub mod Sheet
+pub mod Write
+pub mod Pair
+pub mod List
+pub mod Desk
