@@ -1,19 +1,23 @@
 -- Document 01, "The face list is packed likewise", and the table's 20. A face is the list of its corners as it is sent. Assumes nothing.
-use mathlib.Core.Bool.{Bool, _&&_, not, cond}
-use mathlib.Core.List.{List, [], _∷_, _++_, flatMap}
+use mathlib.Core.Bool.{Bool, false, _&&_, _||_, not, cond}
+use mathlib.Core.List.{List, [], _∷_, _++_, map, flatMap}
 use Prim.Native.Nat.{ℕ, zero, suc, _+_, _*_}
-use lib.Dec.{ltb, eqb}
-use lib.ListN.{length, take, drop}
+use lib.Dec.{leb, ltb, eqb}
+use lib.ListN.{length, getD, take, drop}
 use Rattle.pack.specs.Bits.{bits, val, run, cut, fieldAt}
 use Rattle.pack.specs.Fill.{padded}
-use Rattle.lists.specs.Lists.{all}
-use Rattle.paper.specs.Numbers.{leastCorners, mostCorners, rowBytes}
+use Rattle.sets.specs.Word as Word
+use Rattle.lists.specs.Lists.{all, filter, upto}
+use Rattle.paper.specs.Numbers.{leastCorners, mostCorners, mostCandidates, rowBytes}
 use Rattle.paper.specs.Refusals as No
-use Rattle.paper.specs.Refusals.{refuse}
+use Rattle.paper.specs.Refusals.{Check, check, refuse, firstOf, offends}
 use Rattle.paper.specs.Format.{one, leastFaces, editionBits, cornerBits, outside, bytesFor, filled, fillAfter}
-use Rattle.paper.specs.Loops.{Loop, row}
+use Rattle.paper.specs.Loops.{Loop, flipped, row}
 use Rattle.paper.specs.declared.Format.{Format}
+use Rattle.paper.specs.declared.Answer.{Answer}
 use Rattle.paper.specs.declared.Answer.the-variants as Answer
+use Rattle.paper.specs.declared.Written.{Written}
+use Rattle.paper.specs.declared.Written.the-variants as Written
 use Rattle.paper.specs.declared.Faces.{Faces}
 
 -- no faces by value, where the list is refused
@@ -73,3 +77,40 @@ module _ (f : Format) where
       cond (wellShaped v s)
       (record { answer = Answer.Fine; count = countIn s; rows = padded (flatMap row (facesIn s)) (rowBytes * one .fmax) 0 })
       noFaces
+
+-- ---- a reported solid, sent as a list: from the rows of a report and the first two words of the solid
+
+-- the loop of candidate k, where its row is whole and has at most 12 corners
+unfoldable pub rowAt : List ℕ → ℕ → Loop
+rowAt rows k =
+    let c = getD rows (rowBytes * k) 0 in
+    cond (leb (rowBytes * k + rowBytes) (length rows) && leb c mostCorners) (take c (drop (rowBytes * k + 1) rows)) []
+
+-- "a bit per taken candidate (candidate 0 lowest), a bit per taken face run against its normal form": its faces, in candidate order
+unfoldable pub solidFaces : List ℕ → ℕ → ℕ → List Loop
+solidFaces rows taken turned =
+    let at : ℕ → Loop = λ k. cond (getD (Word.bits mostCandidates turned) k false) (flipped (rowAt rows k)) (rowAt rows k) in
+    map at (filter (λ k. getD (Word.bits mostCandidates taken) k false) (upto mostCandidates))
+
+module _ (f : Format) (fs : List Loop) where
+  -- 20 where these are no faces of a list, and 1 where the room is shorter than the list
+  unfoldable pub sendChecks : ℕ → List Check
+  sendChecks room =
+      check No.ShellShape (offends (outside leastFaces (f .fmax) (length fs) || not (all (faceFits f (f .vmax)) fs)) 0)
+      ∷ check No.NoRoom (offends (ltb room (bytesFor (bitsOf f fs))) 0)
+      ∷ []
+
+  -- the answer, and what the room holds then
+  abbrev pub sentFor : Answer → Written
+  sentFor Answer.Fine = Written.Bytes (bytesFor (bitsOf f fs))
+  sentFor (Answer.Refused r) = Written.Refused r
+
+  abbrev pub sentRoomFor : Answer → List ℕ → List ℕ
+  sentRoomFor Answer.Fine room = encodeFaces f fs ++ drop (bytesFor (bitsOf f fs)) room
+  sentRoomFor (Answer.Refused r) room = room
+
+  unfoldable pub sentOf : List ℕ → Written
+  sentOf room = sentFor (firstOf (sendChecks (length room)))
+
+  unfoldable pub sentRoom : List ℕ → List ℕ
+  sentRoom room = sentRoomFor (firstOf (sendChecks (length room))) room

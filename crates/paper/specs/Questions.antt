@@ -18,13 +18,13 @@ use Rattle.paper.specs.Sheet.{farAt, wrongAt, lowAt, edgeChecks, content
 use Rattle.paper.specs.Points.{above}
 use Rattle.paper.specs.Polygon.{covers}
 use Rattle.paper.specs.Drawing.{pointsOf, wire, joined, drawingChecks}
-use Rattle.paper.specs.Loops.{row, follows, closes, branch, scan, ext, level, loops, polygon, uncovering, candidates, loopChecks}
+use Rattle.paper.specs.Loops.{flipped, row, follows, closes, branch, scan, ext, level, loops, polygon, uncovering, candidates, loopChecks}
 use Rattle.paper.specs.Clash.{pierces, enters, folds, clash}
 use Rattle.paper.specs.Solids.{runs, runsUp, has, faceSix, clashing, tablesOf, inTwo, unlike, fresh, known, runsDown, over, pass, spread, facesFrom, connected, onceEachWay, oriented, sixFrom, clearFrom, judged}
 use Rattle.paper.specs.Walk.{takenOn, openOn, openCount, decide, contradicts, settle, sweep, stable, choose, assume, leaf, walk, search}
 use Rattle.paper.specs.Conversion.{takens, accepted, facesAfter, words, solidsAfter, reported, concluded, entryChecks, conversion, convertLists, convertSheet}
 use Rattle.paper.specs.FaceList.{faceBits, listBits, encodeFaces, facesAt, facesIn, span, bitsOf, faceFits, wellShaped}
-use Rattle.paper.specs.Verdict.{lowestAt, fromPlace, flipped, fromLowest, onward, normalForm, numberIn, rowOf, listed, notCandidate, faceTwice, edgeCount, direction, pieces, inward, clashes, faceChecks, verdict, verdictLists}
+use Rattle.paper.specs.Verdict.{lowestAt, fromPlace, fromLowest, onward, normalForm, numberIn, rowOf, listed, notCandidate, faceTwice, edgeCount, direction, pieces, inward, clashes, faceChecks, verdict, verdictLists}
 use Rattle.paper.specs.Reading.{readingOf}
 use Rattle.paper.specs.Desk.{text, decimalIn, decimal, signed, facesText, solidText, solidsText, headText, answerText, deskText}
 use Rattle.paper.specs.declared.Answer.{Answer}

@@ -1,7 +1,7 @@
 -- Document 01, the face-list check: "3 to 16, then 20 to 27". Assumes nothing.
 use mathlib.Core.Bool.{Bool, false, not, cond}
 use mathlib.Core.Option.{Option}
-use mathlib.Core.List.{List, [], _∷_, _++_, map, reverse}
+use mathlib.Core.List.{List, [], _∷_, _++_, map}
 use Prim.Native.Nat.{ℕ, zero, suc, _-_}
 use lib.Dec.{ltb, leb, eqb}
 use lib.ListN.{length, getD, take, drop}
@@ -14,7 +14,7 @@ use Rattle.paper.specs.Format.{one, coordinatesIn, endsIn}
 use Rattle.paper.specs.Sheet.{sheetChecks, lentChecks}
 use Rattle.paper.specs.Points.{above}
 use Rattle.paper.specs.Drawing.{Wire, wire, drawingChecks}
-use Rattle.paper.specs.Loops.{Loop, loops, uncovering, loopChecks}
+use Rattle.paper.specs.Loops.{Loop, flipped, loops, uncovering, loopChecks}
 use Rattle.paper.specs.Solids.{Tables, tablesOf, inTwo, facesFrom, onceEachWay, sixFrom}
 use Rattle.paper.specs.FaceList.{facesIn, wellShaped}
 use Rattle.paper.specs.declared.Answer.{Answer}
@@ -30,13 +30,9 @@ unfoldable pub lowestAt : List ℕ → ℕ → ℕ
 lowestAt c zero = 0
 lowestAt c (suc k) = cond (ltb (getD c k 0) (getD c (lowestAt c k) 0)) k (lowestAt c k)
 
--- c from its place m on; the same start, the other direction
+-- c from its place m on
 unfoldable pub fromPlace : List ℕ → ℕ → List ℕ
 fromPlace c m = drop m c ++ take m c
-
-unfoldable pub flipped : List ℕ → List ℕ
-flipped [] = []
-flipped (x ∷ t) = x ∷ reverse t
 
 -- from its lowest corner on
 unfoldable pub fromLowest : List ℕ → List ℕ

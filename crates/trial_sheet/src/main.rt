@@ -1,0 +1,104 @@
+// Runs a stored corpus of sheets through the reader and the writer. Standard input has the sheets, each behind its length in two bytes,
+// high byte first. Of each it prints what the reader says and, of a drawing, what the writer makes of it again, byte by byte.
+ghost use Prim.Native.Nat.{_<_};
+use libc::STDIN_FILENO;
+use libc::STDOUT_FILENO;
+use paper::Answer;
+use paper::Refusal;
+use paper::Written;
+
+fn say(text: &[u8]) {
+    io::write_all(STDOUT_FILENO, text);
+}
+
+fn wide(x: u8) -> u64
+    ensures { λ r. ⌜ r < 256 ⌝ }
+{
+    x as u64
+}
+
+fn say_number(n: u64) {
+    io::print_decimal(STDOUT_FILENO, n);
+}
+
+fn say_refused(r: Refusal) {
+    say(b"refused ");
+    say_number(r.number as u64);
+    say(b" ");
+    say_number(r.place as u64);
+    say(b"\n");
+}
+
+// The first n bytes, in two hexadecimal digits each.
+fn say_bytes(bytes: &[u8], n: usize) {
+    let mut i: usize = 0;
+    while i < bytes.len() {
+        if i < n {
+            io::print_hex(STDOUT_FILENO, wide(bytes[i]), 2);
+        }
+        i += 1;
+    }
+    say(b"\n");
+}
+
+// The drawing, written again.
+fn show_drawing(v: usize, e: usize, xyz: [i64; 96], ends: [u8; 128]) {
+    if paper::MOST_VERTICES < v {
+        return;
+    }
+    if paper::MOST_EDGES < e {
+        return;
+    }
+    let m = 3 * v;
+    let n = 2 * e;
+    let mut room = [0u8; 215];
+    let written = sheet::write_sheet(&xyz[..m], &ends[..n], &mut room);
+    say(b"drawing ");
+    say_number(v as u64);
+    say(b" ");
+    say_number(e as u64);
+    say(b"\n");
+    match written {
+        Written::Refused(r) => say_refused(r),
+        Written::Bytes(k) => say_bytes(&room, k),
+    }
+}
+
+fn show(s: &[u8]) {
+    let read = sheet::read_sheet(s);
+    let answer = read.answer;
+    match answer {
+        Answer::Refused(r) => say_refused(r),
+        Answer::Fine => {
+            let d = read.drawing;
+            let xyz = d.xyz;
+            let ends = d.ends;
+            show_drawing(d.vertices, d.edges, xyz, ends)
+        }
+    }
+}
+
+// The sheets in the first n bytes.
+fn show_all(book: &[u8]) {
+    let mut at: usize = 0;
+    while at < book.len() {
+        let rest = book.len() - at;
+        if rest < 2 {
+            return;
+        }
+        let size = wide(book[at]) as usize * 256 + wide(book[at + 1]) as usize;
+        if rest - 2 < size {
+            return;
+        }
+        let from = at + 2;
+        let to = from + size;
+        show(&book[from..to]);
+        at = to;
+    }
+}
+
+fn main() {
+    let mut book = io::large_buffer();
+    let n = io::read_full(STDIN_FILENO, &mut book);
+    show_all(&book[..n]);
+}
