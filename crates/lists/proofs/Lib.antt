@@ -1,3 +1,7 @@
 -- The laws of lists and searches. Assumes nothing.
+pub mod Truth
+pub mod Places
+pub mod Search
+pub mod Sides
 pub mod Lowest
 pub mod Every

@@ -1,41 +1,12 @@
--- A search for the lowest number that passes, as a loop that looks at 0, 1, .. in turn. Assumes nothing.
-use mathlib.Core.Path.{_≡_, refl, _∙_}
+-- A search for the lowest number that passes and finds none. Assumes nothing.
+use mathlib.Core.Path.{_≡_, refl}
 use mathlib.Core.Bool.{Bool, true, false}
-use mathlib.Core.Option.{none, some}
-use Prim.Native.Nat.{ℕ, zero, suc, _+_, _-_, _≤_, _<_}
-use native.Mathlib.Nat.{sub-zero}
-use native.Mathlib.Numerals.{add-one}
+use mathlib.Core.Option.{none}
+use Prim.Native.Nat.{ℕ, zero, suc, _+_, _≤_, _<_}
 use native.Mathlib.Omega.{arith}
 use lib.Dec.{ltb}
 use borrow.Author.Tests.{ltb-true, ltb-false}
 use Rattle.lists.specs.Lists.{find, from, upto, lowest}
-
--- what is still to be looked at, from i on, gives the whole answer
-abbrev pub Left : (ℕ → Bool) → ℕ → ℕ → Type 0
-Left p n i = lowest p n ≡ find p (from i (n - i))
-
-module _ (p : ℕ → Bool) (n : ℕ) where
-  pub left-start : Left p n 0
-  unfolding lowest upto
-  left-start = rw sub-zero refl
-
-  pub left-hit : (i : ℕ) → i < n → Left p n i → p i ≡ true → lowest p n ≡ some i
-  unfolding find from
-  left-hit i h l e =
-      let d : n - i ≡ suc (n - (i + 1)) = omega arith in
-      l ∙ rw (d, e) refl
-
-  pub left-miss : (i : ℕ) → i < n → Left p n i → p i ≡ false → Left p n (i + 1)
-  unfolding find from
-  left-miss i h l e =
-      let d : n - i ≡ suc (n - (i + 1)) = omega arith in
-      l ∙ rw (d, e, add-one) refl
-
-  pub left-end : (i : ℕ) → n ≤ i → Left p n i → lowest p n ≡ none
-  unfolding find from
-  left-end i h l =
-      let d : n - i ≡ 0 = omega arith in
-      l ∙ rw d refl
 
 -- a search that finds nothing: nothing passes
 module _ (p : ℕ → Bool) where

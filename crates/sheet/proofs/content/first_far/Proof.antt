@@ -5,14 +5,14 @@ use mir.Syntax.{w64}
 use mir.ValLaws.{toZ-ofZ}
 use Prim.Native.Nat.{_≤_, _-_}
 use lib.ListN.{length, getD}
-use Rattle.lists.proofs.Lowest.{Left, left-start, left-hit, left-miss, left-end}
+use Rattle.lists.proofs.Search.{LowestLeft, lowest-start, lowest-hit, lowest-miss, lowest-end}
 use Rattle.paper.specs.Sheet.{farAt}
 use native.Mathlib.Omega.{arith}
 use Rattle.sheet.proofs.content.first_far.Statement.{statement}
 use Rattle.sheet.proofs.content.first_far.Tie as tie
 
 abbrev Inv-loop : tie.InvT-loop
-Inv-loop xyz i₀ i = (i ≤ length xyz) × Left (farAt xyz) (length xyz) i
+Inv-loop xyz i₀ i = (i ≤ length xyz) × LowestLeft (farAt xyz) (length xyz) i
 
 abbrev μ-loop : tie.MeasureT-loop
 μ-loop xyz i₀ i = length xyz - i
@@ -25,7 +25,7 @@ same : (c : tie.After-is-far Inv-loop μ-loop) → toZ w64 (ofZ w64 (Z c)) ≡ Z
 same c = toZ-ofZ w64 (Z c) (record { sfits = c .before .is-far-arg .given })
 
 loop-holds : tie.Need-loop-holds Inv-loop μ-loop
-loop-holds c = (omega arith, left-start _ _)
+loop-holds c = (omega arith, lowest-start _ _)
 
 mul-is-far : tie.Need-mul-is-far Inv-loop μ-loop
 mul-is-far c = omega arith
@@ -38,7 +38,7 @@ is-far-requires c κs = omega arith
 
 returns : tie.Need-returns Inv-loop μ-loop
 unfolding farAt
-returns c = sym (left-hit _ _ _ (omega arith) (c .before .before .before .before .loop .inv .1) (sym (rw (same (c .before)) at (c .before .is-far .ensures)) ∙ (c .if1 .taken)))
+returns c = sym (lowest-hit _ _ _ (omega arith) (c .before .before .before .before .loop .inv .1) (sym (rw (same (c .before)) at (c .before .is-far .ensures)) ∙ (c .if1 .taken)))
 
 add-i : tie.Need-add-i Inv-loop μ-loop
 add-i c = omega arith
@@ -48,10 +48,10 @@ loop-less c = omega arith
 
 loop-again : tie.Need-loop-again Inv-loop μ-loop
 unfolding farAt
-loop-again c = (omega arith, left-miss _ _ _ (omega arith) (c .before .before .before .before .loop .inv .1) (sym (rw (same (c .before)) at (c .before .is-far .ensures)) ∙ (c .if1 .left)))
+loop-again c = (omega arith, lowest-miss _ _ _ (omega arith) (c .before .before .before .before .loop .inv .1) (sym (rw (same (c .before)) at (c .before .is-far .ensures)) ∙ (c .if1 .left)))
 
 returns-2 : tie.Need-returns-2 Inv-loop μ-loop
-returns-2 c = sym (left-end _ _ _ (omega arith) (c .before .loop .inv .1))
+returns-2 c = sym (lowest-end _ _ _ (omega arith) (c .before .loop .inv .1))
 
 pub first-far-spec : {M : Type 1} → statement M
 first-far-spec =

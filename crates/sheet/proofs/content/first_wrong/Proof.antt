@@ -1,20 +1,20 @@
 use mathlib.Core.Path.{_≡_, _∙_, sym}
 use Prim.Native.Nat.{_≤_, _-_, _/_}
 use lib.ListN.{length}
-use Rattle.lists.proofs.Lowest.{Left, left-start, left-hit, left-miss, left-end}
+use Rattle.lists.proofs.Search.{LowestLeft, lowest-start, lowest-hit, lowest-miss, lowest-end}
 use Rattle.paper.specs.Sheet.{wrongAt}
 use native.Mathlib.Omega.{arith}
 use Rattle.sheet.proofs.content.first_wrong.Statement.{statement}
 use Rattle.sheet.proofs.content.first_wrong.Tie as tie
 
 abbrev Inv-loop : tie.InvT-loop
-Inv-loop v ends n e₀ e = (e ≤ n) × (n ≡ length ends / 2) × Left (wrongAt v ends) (length ends / 2) e
+Inv-loop v ends n e₀ e = (e ≤ n) × (n ≡ length ends / 2) × LowestLeft (wrongAt v ends) (length ends / 2) e
 
 abbrev μ-loop : tie.MeasureT-loop
 μ-loop v ends n e₀ e = n - e
 
 loop-holds : tie.Need-loop-holds Inv-loop μ-loop
-loop-holds c = (omega arith, omega arith, left-start _ _)
+loop-holds c = (omega arith, omega arith, lowest-start _ _)
 
 mul-is-wrong : tie.Need-mul-is-wrong Inv-loop μ-loop
 mul-is-wrong c = omega arith
@@ -36,7 +36,7 @@ is-wrong-requires c κs = omega arith
 
 returns : tie.Need-returns Inv-loop μ-loop
 unfolding wrongAt
-returns c = sym (left-hit _ _ _ (omega arith) (c .before .before .before .before .before .loop .inv .2) (sym (c .before .is-wrong .ensures) ∙ (c .if1 .taken)))
+returns c = sym (lowest-hit _ _ _ (omega arith) (c .before .before .before .before .before .loop .inv .2) (sym (c .before .is-wrong .ensures) ∙ (c .if1 .taken)))
 
 add-e : tie.Need-add-e Inv-loop μ-loop
 add-e c = omega arith
@@ -46,10 +46,10 @@ loop-less c = omega arith
 
 loop-again : tie.Need-loop-again Inv-loop μ-loop
 unfolding wrongAt
-loop-again c = (omega arith, omega arith, left-miss _ _ _ (omega arith) (c .before .before .before .before .before .loop .inv .2) (sym (c .before .is-wrong .ensures) ∙ (c .if1 .left)))
+loop-again c = (omega arith, omega arith, lowest-miss _ _ _ (omega arith) (c .before .before .before .before .before .loop .inv .2) (sym (c .before .is-wrong .ensures) ∙ (c .if1 .left)))
 
 returns-2 : tie.Need-returns-2 Inv-loop μ-loop
-returns-2 c = sym (left-end _ _ _ (omega arith) (c .before .loop .inv .2))
+returns-2 c = sym (lowest-end _ _ _ (omega arith) (c .before .loop .inv .2))
 
 pub first-wrong-spec : {M : Type 1} → statement M
 first-wrong-spec =

@@ -1,0 +1,30 @@
+-- A drawing in range, as refusals 3 to 10 leave it: what the functions on lent lists ask of them. Assumes nothing.
+use mathlib.Core.Path.{_≡_}
+use mathlib.Core.List.{List}
+use Prim.Native.Nat.{ℕ, _+_, _*_, _≤_, _<_}
+use lib.IntN.{ℤ, pos}
+use lib.ListN.{length, getD}
+use Rattle.exact.specs.Size.{Within}
+use Rattle.paper.specs.Numbers.{farthest}
+use Rattle.paper.specs.Format.{one, leastVertices, leastEdges}
+
+-- three coordinates for each of v vertices
+pub record Points (xyz : List ℤ) (v : ℕ) : Type 0 where
+  pub whole : length xyz ≡ 3 * v
+  pub near : (k : ℕ) → Within farthest (getD xyz k (pos 0))
+
+-- two ends for each edge, which rise
+pub record Ends (ends : List ℕ) (v : ℕ) : Type 0 where
+  pub edges : ℕ
+  pub whole : length ends ≡ 2 * edges
+  pub least : leastEdges ≤ edges
+  pub most : edges ≤ one .emax
+  pub known : (k : ℕ) → k < length ends → getD ends k 0 < v
+  pub rising : (e : ℕ) → e < edges → getD ends (2 * e) 0 < getD ends (2 * e + 1) 0
+
+pub record InRange (xyz : List ℤ) (ends : List ℕ) : Type 0 where
+  pub vertices : ℕ
+  pub least : leastVertices ≤ vertices
+  pub most : vertices ≤ one .vmax
+  pub points : Points xyz vertices
+  pub links : Ends ends vertices

@@ -1,0 +1,3 @@
+pub mod InRange
+pub mod Neighbours
+pub mod Meets

@@ -1,0 +1,29 @@
+-- Neighbours as one word for each vertex: digit w of word u says whether an edge joins u and w. Assumes nothing.
+use mathlib.Core.Path.{_≡_}
+use mathlib.Core.Bool.{Bool}
+use mathlib.Core.List.{List, map}
+use Prim.Native.Nat.{ℕ, _/_, _%_, _^_, _<_}
+use lib.Dec.{eqb}
+use lib.ListN.{length, getD}
+use Rattle.lists.specs.Lists.{any, upto}
+use Rattle.sets.specs.Word.{word}
+use Rattle.paper.specs.Format.{one}
+use Rattle.paper.specs.Drawing.{Wire, Edge, joins, joined}
+
+-- the digit k of a word
+unfoldable pub digit : ℕ → ℕ → Bool
+digit m k = eqb (m / 2 ^ k % 2) 1
+
+-- of v vertices and the edges es
+unfoldable pub neighbourWord : List Edge → ℕ → ℕ → ℕ
+unfolding any joins upto word
+neighbourWord es v u = word (map (λ w. any (joins u w) es) (upto v))
+
+unfoldable pub neighbourWords : List Edge → ℕ → List ℕ
+unfolding neighbourWord upto
+neighbourWords es v = map (neighbourWord es v) (upto (one .vmax))
+
+-- the words are those of the drawing d, which has v vertices
+pub record Links (words : List ℕ) (v : ℕ) (d : Wire) : Type 0 where
+  pub count : length (d .vertices) ≡ v
+  pub joins : (u : ℕ) → u < v → (w : ℕ) → digit (getD words u 0) w ≡ joined d u w

@@ -1,0 +1,51 @@
+-- A row of the table as a ring of points. Assumes nothing.
+use mathlib.Core.Path.{_≡_, ap, _∙_}
+use mathlib.Core.List.{List}
+use Prim.Native.Nat.{ℕ, _+_, _*_, _≤_, _<_}
+use native.Mathlib.Omega.{arith}
+use lib.ListN.{length, drop, getD, length-drop, length-map}
+use lib.Seq.{getD-take, getD-drop, length-take-le}
+use lib.IntN.{ℤ, pos}
+use Rattle.exact.specs.Size.{Within}
+use Rattle.lists.specs.Around.{wrap, around}
+use Rattle.lists.proofs.Places.{map-at, map-each}
+use Rattle.paper.specs.Numbers.{farthest, leastCorners, mostCorners, rowBytes}
+use Rattle.paper.specs.Points.{origin}
+use Rattle.polygon.specs.Sizes.{Small}
+use Rattle.polygon.specs.Rings.{pointOf, loopIn, ring, cornerOf, Row}
+use Rattle.polygon.proofs.Sizes.{origin-small}
+
+pub point-small : (l : List ℤ) → ((k : ℕ) → Within farthest (getD l k (pos 0))) → (v : ℕ) → Small farthest (pointOf l v)
+unfolding pointOf
+point-small l h v = record { x-in = h (3 * v); y-in = h (3 * v + 1); z-in = h (3 * v + 2) }
+
+module _ {l : List ℤ} {t : List ℕ} {r : ℕ} (g : Row l t r) where
+  pub loop-length : length (loopIn t r) ≡ getD t (rowBytes * r) 0
+  unfolding loopIn
+  loop-length =
+      let h = g .room in
+      let m = g .most in
+      length-take-le (getD t (rowBytes * r) 0) (drop (rowBytes * r + 1) t) (omega (arith, length-drop (rowBytes * r + 1) t))
+
+  pub loop-at : (k : ℕ) → k < getD t (rowBytes * r) 0 → getD (loopIn t r) k 0 ≡ getD t (rowBytes * r + 1 + k) 0
+  unfolding loopIn
+  loop-at k h = getD-take (getD t (rowBytes * r) 0) (drop (rowBytes * r + 1) t) k 0 h ∙ getD-drop (rowBytes * r + 1) t k 0
+
+  pub ring-length : length (ring l t r) ≡ getD t (rowBytes * r) 0
+  unfolding ring
+  ring-length = length-map (loopIn t r) (pointOf l) ∙ loop-length
+
+  pub ring-at : (k : ℕ) → k < getD t (rowBytes * r) 0 → getD (ring l t r) k origin ≡ pointOf l (getD t (rowBytes * r + 1 + k) 0)
+  unfolding ring
+  ring-at k h = map-at (pointOf l) (loopIn t r) k 0 origin (omega (arith, loop-length)) ∙ ap (pointOf l) (loop-at k h)
+
+  pub ring-most : length (ring l t r) ≤ mostCorners
+  ring-most = let m = g .most in omega (arith, ring-length)
+
+  pub ring-least : leastCorners ≤ length (ring l t r)
+  ring-least = let m = g .least in omega (arith, ring-length)
+
+  pub corner-small : (j : ℕ) → Small farthest (cornerOf (ring l t r) j)
+  unfolding ring around
+  corner-small j =
+      map-each (pointOf l) (Small farthest) (point-small l (g .near)) (loopIn t r) (wrap (length (ring l t r)) j) (origin-small farthest)

@@ -1,0 +1,22 @@
+use mathlib.Core.Path.{_∙_, ap}
+use borrow.Author.Needs.{needs}
+use Rattle.paper.specs.Points.{cross, det, dot}
+use Rattle.polygon.proofs.Sizes.{cross-small, small-eq, small-up}
+use Rattle.polygon.proofs.Zeros.{reads-back}
+use Rattle.polygon.proofs.points.det.Statement.{statement}
+use Rattle.polygon.proofs.points.det.Tie as tie
+
+cross-requires : tie.Need-cross-requires
+cross-requires c κs = search needs
+
+dot-requires : tie.Need-dot-requires
+dot-requires c κs =
+    let s = c .before in
+    (s .pre .0, small-eq (c .cross .ensures) (small-up tt (cross-small (s .pre .1) (s .pre .2))))
+
+returns : tie.Need-returns
+unfolding det
+returns c = reads-back (c .dot .result) (c .dot .ok) ∙ c .dot .ensures ∙ ap (dot (c .before .before .args .p)) (c .before .cross .ensures)
+
+pub det-spec : {M : Type 1} → statement M
+det-spec = tie.close (tie.spec cross-requires dot-requires returns)

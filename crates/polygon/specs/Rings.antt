@@ -1,0 +1,42 @@
+-- What the code holds as what the definitions speak of: a vertex in the list of coordinates, a row of the loop table as a polygon.
+-- Assumes nothing.
+use Prim.Native.Nat.{ℕ, _+_, _*_, _≤_, _<_}
+use mathlib.Core.Path.{_≡_}
+use mathlib.Core.List.{List, map}
+use lib.ListN.{length, getD, take, drop}
+use lib.IntN.{ℤ, pos}
+use Rattle.exact.specs.Size.{Within}
+use Rattle.lists.specs.Around.{around}
+use Rattle.paper.specs.Numbers.{farthest, leastCorners, mostCorners, rowBytes}
+use Rattle.paper.specs.Points.{pt, origin}
+use Rattle.paper.specs.Polygon.{Polygon, normal}
+use Rattle.paper.specs.declared.Point.{Point}
+
+-- vertex v of a list of coordinates, three a vertex
+unfoldable pub pointOf : List ℤ → ℕ → Point
+pointOf l v = pt (getD l (3 * v) (pos 0)) (getD l (3 * v + 1) (pos 0)) (getD l (3 * v + 2) (pos 0))
+
+-- row r of a table of 13 bytes a row: the corner count, the corners, and fill
+unfoldable pub loopIn : List ℕ → ℕ → List ℕ
+loopIn t r = take (getD t (rowBytes * r) 0) (drop (rowBytes * r + 1) t)
+
+unfoldable pub ring : List ℤ → List ℕ → ℕ → Polygon
+unfolding loopIn pointOf
+ring l t r = map (pointOf l) (loopIn t r)
+
+-- corner j, counted on past the last
+abbrev pub cornerOf : Polygon → ℕ → Point
+cornerOf g j = around g j origin
+
+-- row r is a loop of 3 to 12 vertices that the list has
+pub record Row (l : List ℤ) (t : List ℕ) (r : ℕ) : Type 0 where
+  pub near : (k : ℕ) → Within farthest (getD l k (pos 0))
+  pub room : rowBytes * r + rowBytes ≤ length t
+  pub least : leastCorners ≤ getD t (rowBytes * r) 0
+  pub most : getD t (rowBytes * r) 0 ≤ mostCorners
+  pub known : (k : ℕ) → k < getD t (rowBytes * r) 0 → 3 * getD t (rowBytes * r + 1 + k) 0 + 2 < length l
+
+-- such a row with its normal, which is made once
+pub record Face (l : List ℤ) (t : List ℕ) (r : ℕ) (m : Point) : Type 0 where
+  pub row : Row l t r
+  pub across : m ≡ normal (ring l t r)

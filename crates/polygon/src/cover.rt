@@ -1,0 +1,53 @@
+// Cover: one loop covers another in its plane. Assumes rows in range and the covering row's normal.
+ghost use mathlib.Core.Path.{_≡_};
+ghost use Rattle.paper.specs.Polygon.{onePlane, covers};
+ghost use Rattle.polygon.specs.Rings.{ring, Row, Face};
+use super::place::lies;
+use super::points::is_zero;
+use super::points::plus;
+use super::rings::corner;
+use super::rings::count;
+use super::rings::side;
+use paper::Point;
+use paper::Where;
+
+// All corners of row h are in the plane of row g, whose normal is m.
+pub fn in_plane(xyz: &[i64], table: &[u8], g: usize, m: Point, h: usize) -> bool
+    requires { ⌜ Face (now xyz) (now table) g m × Row (now xyz) (now table) h ⌝ }
+    ensures { λ w. ⌜ w ≡ onePlane (ring (now (xyz .entry)) (now (table .entry)) g) (ring (now (xyz .entry)) (now (table .entry)) h) ⌝ }
+{
+    let n = count(table, h);
+    let o = corner(xyz, table, g, 0);
+    let mut j = 0;
+    while j < n {
+        let s = side(m, o, corner(xyz, table, h, j));
+        if !is_zero(s) {
+            return false;
+        }
+        j += 1;
+    }
+    true
+}
+
+// Row g, whose normal is m, covers row h: no midpoint of h is outside. A midpoint is the sum of two corners, over 2.
+pub fn covers(xyz: &[i64], table: &[u8], g: usize, m: Point, h: usize) -> bool
+    requires { ⌜ Face (now xyz) (now table) g m × Row (now xyz) (now table) h ⌝ }
+    ensures { λ w. ⌜ w ≡ covers (ring (now (xyz .entry)) (now (table .entry)) g) (ring (now (xyz .entry)) (now (table .entry)) h) ⌝ }
+{
+    if !in_plane(xyz, table, g, m, h) {
+        return false;
+    }
+    let n = count(table, h);
+    let mut a = corner(xyz, table, h, 0);
+    let mut j = 0;
+    while j < n {
+        let b = corner(xyz, table, h, j + 1);
+        let w = lies(xyz, table, g, m, plus(a, b), 2);
+        if let Where::Outside = w {
+            return false;
+        }
+        a = b;
+        j += 1;
+    }
+    true
+}

@@ -1,0 +1,73 @@
+// Arithmetic on points, which also serve as directions. Assumes the sizes of specs/Sizes.antt, with which nothing overflows.
+ghost use mathlib.Core.Path.{_≡_};
+ghost use Rattle.paper.specs.Numbers.{farthest};
+ghost use Rattle.paper.specs.Points.{plus, minus, cross, dot, det, isZero, isOrigin, samePoint};
+ghost use Rattle.polygon.specs.Sizes.{Small, mostStep, mostNormal};
+use paper::Point;
+
+pub fn is_zero(z: i64) -> bool
+    ensures { λ r. ⌜ r ≡ isZero z ⌝ }
+{
+    z == 0
+}
+
+pub fn plus(a: Point, b: Point) -> Point
+    requires { ⌜ Small mostNormal a × Small mostNormal b ⌝ }
+    ensures { λ r. ⌜ r ≡ plus a b ⌝ }
+{
+    Point {
+        x: a.x + b.x,
+        y: a.y + b.y,
+        z: a.z + b.z,
+    }
+}
+
+// The direction to a from b.
+pub fn minus(a: Point, b: Point) -> Point
+    requires { ⌜ Small farthest a × Small farthest b ⌝ }
+    ensures { λ r. ⌜ r ≡ minus a b ⌝ }
+{
+    Point {
+        x: a.x - b.x,
+        y: a.y - b.y,
+        z: a.z - b.z,
+    }
+}
+
+pub fn dot(a: Point, b: Point) -> i64
+    requires { ⌜ Small mostNormal a × Small mostNormal b ⌝ }
+    ensures { λ r. ⌜ r ≡ dot a b ⌝ }
+{
+    a.x * b.x + a.y * b.y + a.z * b.z
+}
+
+pub fn cross(a: Point, b: Point) -> Point
+    requires { ⌜ Small mostStep a × Small mostStep b ⌝ }
+    ensures { λ r. ⌜ r ≡ cross a b ⌝ }
+{
+    Point {
+        x: a.y * b.z - a.z * b.y,
+        y: a.z * b.x - a.x * b.z,
+        z: a.x * b.y - a.y * b.x,
+    }
+}
+
+pub fn det(p: Point, q: Point, r: Point) -> i64
+    requires { ⌜ Small mostNormal p × Small mostStep q × Small mostStep r ⌝ }
+    ensures { λ z. ⌜ z ≡ det p q r ⌝ }
+{
+    dot(p, cross(q, r))
+}
+
+pub fn is_origin(p: Point) -> bool
+    ensures { λ r. ⌜ r ≡ isOrigin p ⌝ }
+{
+    is_zero(p.x) & is_zero(p.y) & is_zero(p.z)
+}
+
+pub fn same_point(p: Point, q: Point) -> bool
+    requires { ⌜ Small farthest p × Small farthest q ⌝ }
+    ensures { λ r. ⌜ r ≡ samePoint p q ⌝ }
+{
+    is_origin(minus(p, q))
+}

@@ -1,0 +1,105 @@
+// The rows of a loop table as polygons: corners, normal, plane and six volumes. Assumes a row whose vertices the coordinates have.
+ghost use mathlib.Core.Path.{_≡_};
+ghost use Prim.Native.Nat.{_+_, _*_, _<_, _≤_};
+ghost use lib.ListN.{length, getD};
+ghost use Rattle.lists.specs.Around.{wrap};
+ghost use Rattle.paper.specs.Numbers.{farthest, rowBytes};
+ghost use Rattle.paper.specs.Points.{dot, minus};
+ghost use Rattle.paper.specs.Polygon.{normal};
+ghost use Rattle.paper.specs.Solids.{faceSix};
+ghost use Rattle.polygon.specs.Sizes.{Small, mostNormal};
+ghost use Rattle.polygon.specs.Rings.{pointOf, ring, cornerOf, Row};
+use super::points::cross;
+use super::points::det;
+use super::points::dot;
+use super::points::minus;
+use super::points::plus;
+use paper::Point;
+use paper::ROW;
+
+pub fn point_at(xyz: &[i64], v: usize) -> Point
+    requires { ⌜ 3 * v + 2 < length (now xyz) ⌝ }
+    ensures { λ r. ⌜ r ≡ pointOf (now (xyz .entry)) v ⌝ }
+{
+    Point {
+        x: xyz[3 * v],
+        y: xyz[3 * v + 1],
+        z: xyz[3 * v + 2],
+    }
+}
+
+// A byte of a table asks only for its index where it is widened by a call.
+fn wide(x: u8) -> usize
+    ensures { λ r. ⌜ r ≡ x ⌝ }
+{
+    x as usize
+}
+
+// The corner count of row r.
+pub fn count(table: &[u8], r: usize) -> usize
+    requires { ⌜ rowBytes * r + rowBytes ≤ length (now table) ⌝ }
+    ensures { λ n. ⌜ n ≡ getD (now (table .entry)) (rowBytes * r) 0 ⌝ }
+{
+    wide(table[ROW * r])
+}
+
+fn round(n: usize, j: usize) -> usize
+    requires { ⌜ j < 2 * n ⌝ }
+    ensures { λ k. ⌜ (k ≡ wrap n j) × (k < n) ⌝ }
+{
+    if j < n { j } else { j - n }
+}
+
+// Corner j of row r, counted on past the last.
+pub fn corner(xyz: &[i64], table: &[u8], r: usize, j: usize) -> Point
+    requires { ⌜ Row (now xyz) (now table) r × (j < 2 * length (ring (now xyz) (now table) r)) ⌝ }
+    ensures { λ p. ⌜ p ≡ cornerOf (ring (now (xyz .entry)) (now (table .entry)) r) j ⌝ }
+{
+    let k = round(count(table, r), j);
+    point_at(xyz, wide(table[ROW * r + 1 + k]))
+}
+
+// The sum of the cross products of successive corners.
+pub fn normal(xyz: &[i64], table: &[u8], r: usize) -> Point
+    requires { ⌜ Row (now xyz) (now table) r ⌝ }
+    ensures { λ m. ⌜ m ≡ normal (ring (now (xyz .entry)) (now (table .entry)) r) ⌝ }
+{
+    let n = count(table, r);
+    let mut sum = Point { x: 0, y: 0, z: 0 };
+    let mut a = corner(xyz, table, r, 0);
+    let mut j = 0;
+    while j < n {
+        let b = corner(xyz, table, r, j + 1);
+        sum = plus(sum, cross(a, b));
+        a = b;
+        j += 1;
+    }
+    sum
+}
+
+// On which side of the plane through o with normal m the point p lies.
+pub fn side(m: Point, o: Point, p: Point) -> i64
+    requires { ⌜ Small mostNormal m × Small farthest o × Small farthest p ⌝ }
+    ensures { λ r. ⌜ r ≡ dot m (minus p o) ⌝ }
+{
+    dot(m, minus(p, o))
+}
+
+// Row r's part of six volumes: the sum of the determinants of its fan.
+pub fn six_volumes(xyz: &[i64], table: &[u8], r: usize) -> i64
+    requires { ⌜ Row (now xyz) (now table) r ⌝ }
+    ensures { λ v. ⌜ v ≡ faceSix (ring (now (xyz .entry)) (now (table .entry)) r) ⌝ }
+{
+    let n = count(table, r);
+    let a = corner(xyz, table, r, 0);
+    let mut b = corner(xyz, table, r, 1);
+    let mut sum: i64 = 0;
+    let mut i = 1;
+    while i + 1 < n {
+        let c = corner(xyz, table, r, i + 1);
+        sum = sum + det(a, b, c);
+        b = c;
+        i += 1;
+    }
+    sum
+}
