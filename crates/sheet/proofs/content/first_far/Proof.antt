@@ -51,7 +51,7 @@ unfolding farAt
 loop-again c = (omega arith, lowest-miss _ _ _ (omega arith) (c .before .before .before .before .loop .inv .1) (sym (rw (same (c .before)) at (c .before .is-far .ensures)) ∙ (c .if1 .left)))
 
 returns-2 : tie.Need-returns-2 Inv-loop μ-loop
-returns-2 c = sym (lowest-end _ _ _ (omega arith) (c .before .loop .inv .1))
+returns-2 c = let a = c .before .before .args in sym (lowest-end (farAt (a .xyz .now)) (length (a .xyz .now)) (c .before .loop .i) (omega arith) (c .before .loop .inv .1))
 
 pub first-far-spec : {M : Type 1} → statement M
 first-far-spec =

@@ -32,7 +32,7 @@ loop-again : tie.Need-loop-again Inv-loop μ-loop
 loop-again c = (omega arith, omega arith, lowest-miss _ _ _ (omega arith) (c .before .before .before .loop .inv .2) (sym (c .before .is-low .ensures) ∙ (c .if1 .left)))
 
 returns-2 : tie.Need-returns-2 Inv-loop μ-loop
-returns-2 c = sym (lowest-end _ _ _ (omega arith) (c .before .loop .inv .2))
+returns-2 c = let a = c .before .before .before .args in sym (lowest-end (lowAt (a .ends .now)) (length (a .ends .now) / 2) (c .before .loop .e) (omega arith) (c .before .loop .inv .2))
 
 pub first-low-spec : {M : Type 1} → statement M
 first-low-spec =

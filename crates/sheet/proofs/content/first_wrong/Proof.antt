@@ -49,7 +49,7 @@ unfolding wrongAt
 loop-again c = (omega arith, omega arith, lowest-miss _ _ _ (omega arith) (c .before .before .before .before .before .loop .inv .2) (sym (c .before .is-wrong .ensures) ∙ (c .if1 .left)))
 
 returns-2 : tie.Need-returns-2 Inv-loop μ-loop
-returns-2 c = sym (lowest-end _ _ _ (omega arith) (c .before .loop .inv .2))
+returns-2 c = let a = c .before .before .before .args in sym (lowest-end (wrongAt (a .v) (a .ends .now)) (length (a .ends .now) / 2) (c .before .loop .e) (omega arith) (c .before .loop .inv .2))
 
 pub first-wrong-spec : {M : Type 1} → statement M
 first-wrong-spec =
