@@ -7,7 +7,7 @@ use Prim.Native.Nat.{ℕ, _+_, _*_, _/_, _≤_, _<_}
 use native.Mathlib.Numerals.{add-one}
 use native.Mathlib.Omega.{arith}
 use borrow.Author.Tests.{ne-eqb, leb-true, leb-false}
-use lib.Dec.{leb, ltb, eqb}
+use lib.Dec.{leb, eqb}
 use lib.ListN.{length, getD, take, replicate, length-append}
 use lib.Seq.{paste, take-suc}
 use Rattle.pack.specs.Bits.{fieldAt, fieldsAt}
@@ -26,17 +26,10 @@ use Rattle.faces.specs.Face.{Brief}
 use Rattle.faces.specs.Face.{countOf, faceAt, closesAt}
 use Rattle.sheet.proofs.Shaped.{outside-false}
 use Rattle.faces.proofs.Brief.{corners-small}
+use Rattle.faces.proofs.Fits.{both-yes, not-yes, fits-most}
 use Rattle.faces.proofs.FaceList.{start, length-in, face-is, start-more, start-most, start-all}
 
 -- ---- tests in a row
-
-both-yes : (a b : Bool) → (a && b) ≡ true → (a ≡ true) × (b ≡ true)
-both-yes true b e = (refl, e)
-both-yes false b e = absurd (true≢false (sym e))
-
-not-yes : (b : Bool) → not b ≡ true → b ≡ false
-not-yes true e = sym e
-not-yes false e = refl
 
 -- an answer that is taken, or not
 picked : (b : Bool) (n : ℕ) {m : ℕ} → some m ≡ cond b (some n) none → (b ≡ true) × (m ≡ n)
@@ -141,11 +134,6 @@ module _ (f : Format) (v : ℕ) (s : List ℕ) where
   read-start g =
       record { few = omega arith; place = omega arith; fit = refl; rows-are = padded-none 546 0; rows-long = refl; small = omega (arith, g .slender .fw-most) }
 
-  -- at most 12 corners
-  fits-most : (l : Loop) → faceFits f v l ≡ true → length l ≤ 12
-  unfolding faceFits
-  fits-most l h = outside-false 3 12 (length l) (not-yes (outside 3 12 (length l)) (both-yes (not (outside 3 12 (length l))) (all (λ c. ltb c v) l) h .0)) .1
-
   -- what the face at bit p is known to be
   pub record Face (p c : ℕ) : Type 0 where
     pub count-is : c ≡ fieldAt s p 4
@@ -163,7 +151,7 @@ module _ (f : Format) (v : ℕ) (s : List ℕ) where
       let t = both-yes a z (q .0) in
       let b : p + 4 + f .nw * fieldAt s p 4 ≤ length s * 8 = leb-true _ _ (t .0) in
       let d : c ≡ fieldAt s p 4 = q .1 in
-      let m : length (fieldsAt s (p + 4) (f .nw) c₀) ≤ 12 = fits-most (fieldsAt s (p + 4) (f .nw) c₀) (t .1) in
+      let m : length (fieldsAt s (p + 4) (f .nw) c₀) ≤ 12 = fits-most f v (fieldsAt s (p + 4) (f .nw) c₀) (t .1) .1 in
       record { count-is = d; inside = rw d b; fits-in = rw d (t .1); corners-most = omega (arith, d, length-fields s (p + 4) (f .nw) c₀) }
 
   -- one face more

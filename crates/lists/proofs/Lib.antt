@@ -5,3 +5,5 @@ pub mod Search
 pub mod Sides
 pub mod Lowest
 pub mod Every
+pub mod Kept
+pub mod Backwards

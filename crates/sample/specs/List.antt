@@ -14,12 +14,12 @@ use Rattle.paper.specs.declared.Verdict.the-variants as Verdict
 unfoldable pub rows0 : List Row
 unfolding text
 rows0 =
-    checked (record { xyz = (neg 8 ∷ neg 1 ∷ neg 4 ∷ pos 6 ∷ neg 1 ∷ neg 4 ∷ neg 8 ∷ pos 7 ∷ neg 4 ∷ pos 6 ∷ pos 7 ∷ neg 4 ∷ neg 8 ∷ neg 1 ∷ pos 4 ∷ pos 6 ∷ neg 1 ∷ pos 4 ∷ neg 8 ∷ pos 7 ∷ pos 4 ∷ pos 6 ∷ pos 7 ∷ pos 4 ∷ []); ends = (0 ∷ 1 ∷ 0 ∷ 2 ∷ 0 ∷ 4 ∷ 1 ∷ 3 ∷ 1 ∷ 5 ∷ 2 ∷ 3 ∷ 2 ∷ 6 ∷ 3 ∷ 7 ∷ 4 ∷ 5 ∷ 4 ∷ 6 ∷ 5 ∷ 7 ∷ 6 ∷ 7 ∷ []) }) (17 ∷ 144 ∷ 230 ∷ 33 ∷ 80 ∷ 37 ∷ 32 ∷ 16 ∷ 64 ∷ 33 ∷ 144 ∷ 229 ∷ 8 ∷ 208 ∷ 227 ∷ 17 ∷ 144 ∷ 67 ∷ 8 ∷ 0 ∷ [])
+    checked (record { xyz = (neg 193 ∷ neg 996 ∷ pos 998 ∷ neg 193 ∷ neg 998 ∷ pos 1000 ∷ neg 193 ∷ neg 1000 ∷ pos 998 ∷ neg 193 ∷ neg 998 ∷ pos 996 ∷ neg 197 ∷ neg 998 ∷ pos 998 ∷ neg 187 ∷ neg 998 ∷ pos 998 ∷ []); ends = (0 ∷ 1 ∷ 0 ∷ 3 ∷ 0 ∷ 4 ∷ 0 ∷ 5 ∷ 1 ∷ 2 ∷ 1 ∷ 4 ∷ 1 ∷ 5 ∷ 2 ∷ 3 ∷ 2 ∷ 4 ∷ 2 ∷ 5 ∷ 3 ∷ 4 ∷ 3 ∷ 5 ∷ []) }) (18 ∷ 12 ∷ 129 ∷ 1 ∷ 132 ∷ 160 ∷ 50 ∷ 0 ∷ 102 ∷ 2 ∷ 140 ∷ 196 ∷ 18 ∷ 24 ∷ 138 ∷ 19 ∷ 32 ∷ 196 ∷ 99 ∷ 40 ∷ 128 ∷ [])
     yields verdicts Verdict.Accepted
-    ∷ checked (record { xyz = (pos 10 ∷ pos 0 ∷ pos 0 ∷ pos 0 ∷ pos 10 ∷ pos 0 ∷ pos 0 ∷ neg 10 ∷ pos 0 ∷ pos 0 ∷ pos 0 ∷ pos 10 ∷ pos 0 ∷ pos 0 ∷ neg 10 ∷ neg 10 ∷ pos 0 ∷ pos 0 ∷ []); ends = (0 ∷ 1 ∷ 0 ∷ 2 ∷ 0 ∷ 3 ∷ 0 ∷ 4 ∷ 1 ∷ 3 ∷ 1 ∷ 4 ∷ 1 ∷ 5 ∷ 2 ∷ 3 ∷ 2 ∷ 4 ∷ 2 ∷ 5 ∷ 3 ∷ 5 ∷ 4 ∷ 5 ∷ []) }) (18 ∷ 12 ∷ 163 ∷ 9 ∷ 148 ∷ 130 ∷ 50 ∷ 132 ∷ 134 ∷ 32 ∷ 12 ∷ 192 ∷ 17 ∷ 153 ∷ 0 ∷ 35 ∷ 16 ∷ 202 ∷ 97 ∷ 1 ∷ 0 ∷ [])
+    ∷ checked (record { xyz = (pos 0 ∷ pos 3 ∷ pos 2 ∷ pos 1 ∷ pos 3 ∷ pos 0 ∷ pos 1 ∷ pos 3 ∷ pos 2 ∷ pos 0 ∷ pos 0 ∷ pos 2 ∷ pos 0 ∷ pos 3 ∷ pos 0 ∷ pos 1 ∷ pos 0 ∷ pos 0 ∷ pos 0 ∷ pos 0 ∷ pos 0 ∷ pos 1 ∷ pos 0 ∷ pos 2 ∷ []); ends = (0 ∷ 2 ∷ 0 ∷ 3 ∷ 0 ∷ 4 ∷ 1 ∷ 2 ∷ 1 ∷ 4 ∷ 1 ∷ 5 ∷ 2 ∷ 7 ∷ 3 ∷ 6 ∷ 3 ∷ 7 ∷ 4 ∷ 6 ∷ 5 ∷ 6 ∷ 5 ∷ 7 ∷ []) }) (17 ∷ 144 ∷ 167 ∷ 25 ∷ 144 ∷ 103 ∷ 16 ∷ 16 ∷ 134 ∷ 24 ∷ 16 ∷ 229 ∷ 8 ∷ 144 ∷ 129 ∷ 41 ∷ 144 ∷ 2 ∷ 9 ∷ 0 ∷ [])
     yields verdicts Verdict.Accepted
-    ∷ checked (record { xyz = (pos 1000 ∷ pos 150 ∷ pos 1000 ∷ pos 790 ∷ pos 150 ∷ pos 1000 ∷ pos 1000 ∷ pos 438 ∷ pos 1000 ∷ pos 790 ∷ pos 438 ∷ pos 1000 ∷ pos 1000 ∷ pos 150 ∷ pos 792 ∷ pos 790 ∷ pos 150 ∷ pos 792 ∷ pos 1000 ∷ pos 438 ∷ pos 792 ∷ pos 790 ∷ pos 438 ∷ pos 792 ∷ []); ends = (0 ∷ 1 ∷ 0 ∷ 2 ∷ 0 ∷ 4 ∷ 1 ∷ 3 ∷ 1 ∷ 5 ∷ 2 ∷ 3 ∷ 2 ∷ 6 ∷ 3 ∷ 7 ∷ 4 ∷ 5 ∷ 4 ∷ 6 ∷ 5 ∷ 7 ∷ 6 ∷ 7 ∷ []) }) (17 ∷ 144 ∷ 97 ∷ 0 ∷ 144 ∷ 37 ∷ 32 ∷ 16 ∷ 134 ∷ 16 ∷ 16 ∷ 229 ∷ 8 ∷ 208 ∷ 199 ∷ 24 ∷ 144 ∷ 167 ∷ 49 ∷ 0 ∷ [])
-    yields verdicts Verdict.Accepted
+    ∷ checked (record { xyz = (pos 4 ∷ pos 2 ∷ pos 0 ∷ pos 2 ∷ pos 4 ∷ pos 0 ∷ neg 2 ∷ pos 4 ∷ pos 0 ∷ neg 4 ∷ pos 2 ∷ pos 0 ∷ neg 4 ∷ neg 2 ∷ pos 0 ∷ neg 2 ∷ neg 4 ∷ pos 0 ∷ pos 2 ∷ neg 4 ∷ pos 0 ∷ pos 4 ∷ neg 2 ∷ pos 0 ∷ []); ends = (0 ∷ 1 ∷ 0 ∷ 7 ∷ 1 ∷ 2 ∷ 2 ∷ 3 ∷ 3 ∷ 4 ∷ 4 ∷ 5 ∷ 5 ∷ 6 ∷ 6 ∷ 7 ∷ []) }) (16 ∷ 96 ∷ 199 ∷ 0 ∷ 68 ∷ 50 ∷ 20 ∷ [])
+    yields verdicts (Verdict.Refused (record { number = 20; place = 0 }))
     ∷ []
 
 pub hold0 : Holds rows0
@@ -29,12 +29,12 @@ hold0 = refl
 unfoldable pub rows1 : List Row
 unfolding text
 rows1 =
-    checked (record { xyz = (pos 0 ∷ pos 0 ∷ pos 0 ∷ pos 3 ∷ pos 0 ∷ pos 0 ∷ pos 0 ∷ pos 3 ∷ pos 0 ∷ pos 0 ∷ pos 0 ∷ pos 3 ∷ pos 3 ∷ pos 3 ∷ pos 0 ∷ pos 3 ∷ pos 0 ∷ pos 3 ∷ pos 0 ∷ pos 3 ∷ pos 3 ∷ pos 3 ∷ pos 3 ∷ pos 3 ∷ []); ends = (0 ∷ 1 ∷ 0 ∷ 2 ∷ 0 ∷ 3 ∷ 1 ∷ 4 ∷ 1 ∷ 5 ∷ 2 ∷ 4 ∷ 2 ∷ 6 ∷ 3 ∷ 5 ∷ 3 ∷ 6 ∷ 4 ∷ 7 ∷ 5 ∷ 7 ∷ 6 ∷ 7 ∷ []) }) (17 ∷ 144 ∷ 199 ∷ 32 ∷ 144 ∷ 32 ∷ 25 ∷ 80 ∷ 64 ∷ 25 ∷ 144 ∷ 68 ∷ 8 ∷ 16 ∷ 101 ∷ 57 ∷ 144 ∷ 229 ∷ 9 ∷ 0 ∷ [])
-    yields verdicts (Verdict.Refused (record { number = 24; place = 0 }))
-    ∷ checked (record { xyz = (pos 0 ∷ pos 0 ∷ pos 0 ∷ pos 7 ∷ pos 0 ∷ pos 0 ∷ pos 0 ∷ pos 6 ∷ pos 0 ∷ pos 0 ∷ pos 0 ∷ pos 6 ∷ neg 6 ∷ pos 0 ∷ pos 0 ∷ pos 0 ∷ neg 6 ∷ pos 0 ∷ pos 0 ∷ pos 0 ∷ neg 6 ∷ []); ends = (0 ∷ 1 ∷ 0 ∷ 2 ∷ 0 ∷ 3 ∷ 0 ∷ 4 ∷ 0 ∷ 5 ∷ 0 ∷ 6 ∷ 1 ∷ 2 ∷ 1 ∷ 3 ∷ 2 ∷ 3 ∷ 4 ∷ 5 ∷ 4 ∷ 6 ∷ 5 ∷ 6 ∷ []) }) (18 ∷ 12 ∷ 133 ∷ 49 ∷ 128 ∷ 164 ∷ 49 ∷ 128 ∷ 70 ∷ 1 ∷ 132 ∷ 196 ∷ 17 ∷ 152 ∷ 2 ∷ 35 ∷ 49 ∷ 64 ∷ 96 ∷ 33 ∷ 128 ∷ [])
-    yields verdicts (Verdict.Refused (record { number = 25; place = 2 }))
-    ∷ checked (record { xyz = (neg 3 ∷ neg 2 ∷ neg 7 ∷ pos 7 ∷ neg 2 ∷ neg 7 ∷ neg 3 ∷ pos 4 ∷ neg 7 ∷ pos 7 ∷ pos 4 ∷ neg 7 ∷ neg 3 ∷ neg 2 ∷ pos 1 ∷ pos 7 ∷ neg 2 ∷ pos 1 ∷ neg 3 ∷ pos 4 ∷ pos 1 ∷ pos 7 ∷ pos 4 ∷ pos 1 ∷ []); ends = (0 ∷ 1 ∷ 0 ∷ 2 ∷ 0 ∷ 4 ∷ 1 ∷ 3 ∷ 1 ∷ 5 ∷ 2 ∷ 3 ∷ 2 ∷ 6 ∷ 3 ∷ 7 ∷ 4 ∷ 5 ∷ 4 ∷ 6 ∷ 5 ∷ 7 ∷ 6 ∷ 7 ∷ []) }) (17 ∷ 144 ∷ 64 ∷ 8 ∷ 208 ∷ 37 ∷ 56 ∷ 208 ∷ 70 ∷ 32 ∷ 16 ∷ 161 ∷ 1 ∷ 16 ∷ 134 ∷ 57 ∷ 80 ∷ 194 ∷ 25 ∷ 192 ∷ [])
-    yields verdicts (Verdict.Refused (record { number = 26; place = 0 }))
+    checked (record { xyz = (pos 9 ∷ pos 4 ∷ pos 0 ∷ pos 4 ∷ pos 2 ∷ pos 0 ∷ pos 0 ∷ pos 9 ∷ pos 0 ∷ neg 6 ∷ pos 9 ∷ pos 0 ∷ neg 9 ∷ pos 2 ∷ pos 0 ∷ pos 5 ∷ neg 5 ∷ pos 0 ∷ neg 3 ∷ pos 3 ∷ pos 4 ∷ []); ends = (0 ∷ 1 ∷ 0 ∷ 5 ∷ 0 ∷ 6 ∷ 1 ∷ 2 ∷ 1 ∷ 6 ∷ 2 ∷ 3 ∷ 2 ∷ 6 ∷ 3 ∷ 4 ∷ 3 ∷ 6 ∷ 4 ∷ 5 ∷ 4 ∷ 6 ∷ 5 ∷ 6 ∷ []) }) (49 ∷ 216 ∷ 100 ∷ 40 ∷ 2 ∷ 35 ∷ 48 ∷ 2 ∷ 96 ∷ 49 ∷ 76 ∷ 70 ∷ 9 ∷ 140 ∷ 194 ∷ 49 ∷ 152 ∷ 134 ∷ 98 ∷ 144 ∷ [])
+    yields verdicts (Verdict.Refused (record { number = 20; place = 0 }))
+    ∷ checked (record { xyz = (neg 4 ∷ neg 4 ∷ pos 9 ∷ neg 4 ∷ neg 4 ∷ neg 7 ∷ neg 4 ∷ pos 5 ∷ pos 9 ∷ pos 9 ∷ pos 5 ∷ neg 7 ∷ neg 4 ∷ pos 5 ∷ neg 7 ∷ pos 9 ∷ pos 5 ∷ pos 9 ∷ pos 9 ∷ neg 4 ∷ pos 9 ∷ pos 9 ∷ neg 4 ∷ neg 7 ∷ []); ends = (0 ∷ 1 ∷ 0 ∷ 2 ∷ 0 ∷ 6 ∷ 1 ∷ 4 ∷ 1 ∷ 7 ∷ 2 ∷ 4 ∷ 2 ∷ 5 ∷ 3 ∷ 4 ∷ 3 ∷ 5 ∷ 3 ∷ 7 ∷ 5 ∷ 6 ∷ 6 ∷ 7 ∷ []) }) (17 ∷ 80 ∷ 130 ∷ 0 ∷ 80 ∷ 227 ∷ 0 ∷ 80 ∷ 103 ∷ 9 ∷ 16 ∷ 100 ∷ 17 ∷ 80 ∷ 32 ∷ 17 ∷ 0 ∷ [])
+    yields verdicts (Verdict.Refused (record { number = 21; place = 1 }))
+    ∷ checked (record { xyz = (neg 22 ∷ neg 27 ∷ pos 43 ∷ pos 16 ∷ pos 6 ∷ pos 48 ∷ pos 38 ∷ neg 12 ∷ neg 20 ∷ neg 48 ∷ neg 34 ∷ neg 50 ∷ []); ends = (0 ∷ 1 ∷ 0 ∷ 2 ∷ 0 ∷ 3 ∷ 1 ∷ 2 ∷ 1 ∷ 3 ∷ 2 ∷ 3 ∷ []) }) (17 ∷ 12 ∷ 32 ∷ 25 ∷ 128 ∷ 35 ∷ 48 ∷ 12 ∷ 70 ∷ 48 ∷ 136 ∷ [])
+    yields verdicts (Verdict.Refused (record { number = 22; place = 1 }))
     ∷ []
 
 pub hold1 : Holds rows1
@@ -44,12 +44,12 @@ hold1 = refl
 unfoldable pub rows2 : List Row
 unfolding text
 rows2 =
-    checked (record { xyz = (pos 10 ∷ pos 0 ∷ pos 10 ∷ pos 0 ∷ pos 0 ∷ pos 0 ∷ pos 0 ∷ pos 10 ∷ pos 10 ∷ pos 0 ∷ pos 10 ∷ pos 0 ∷ pos 0 ∷ pos 0 ∷ pos 10 ∷ pos 10 ∷ pos 0 ∷ pos 0 ∷ pos 10 ∷ pos 10 ∷ pos 0 ∷ pos 10 ∷ pos 10 ∷ pos 10 ∷ []); ends = (0 ∷ 4 ∷ 0 ∷ 5 ∷ 0 ∷ 7 ∷ 1 ∷ 3 ∷ 1 ∷ 4 ∷ 1 ∷ 5 ∷ 2 ∷ 3 ∷ 2 ∷ 4 ∷ 2 ∷ 7 ∷ 3 ∷ 6 ∷ 5 ∷ 6 ∷ 6 ∷ 7 ∷ []) }) (17 ∷ 144 ∷ 129 ∷ 40 ∷ 16 ∷ 226 ∷ 32 ∷ 16 ∷ 166 ∷ 56 ∷ 16 ∷ 130 ∷ 24 ∷ 80 ∷ 161 ∷ 25 ∷ 144 ∷ 230 ∷ 24 ∷ 128 ∷ [])
-    yields verdicts Verdict.Accepted
-    ∷ checked (record { xyz = (pos 1 ∷ pos 0 ∷ pos 0 ∷ pos 0 ∷ pos 0 ∷ pos 1 ∷ pos 0 ∷ pos 0 ∷ pos 0 ∷ neg 1 ∷ neg 1 ∷ pos 0 ∷ pos 0 ∷ pos 0 ∷ neg 1 ∷ pos 0 ∷ pos 1 ∷ pos 0 ∷ []); ends = (0 ∷ 1 ∷ 0 ∷ 2 ∷ 0 ∷ 3 ∷ 0 ∷ 4 ∷ 0 ∷ 5 ∷ 1 ∷ 2 ∷ 1 ∷ 3 ∷ 1 ∷ 5 ∷ 2 ∷ 3 ∷ 2 ∷ 4 ∷ 2 ∷ 5 ∷ 3 ∷ 4 ∷ 3 ∷ 5 ∷ 4 ∷ 5 ∷ []) }) (82 ∷ 204 ∷ 2 ∷ 9 ∷ 140 ∷ 36 ∷ 49 ∷ 12 ∷ 6 ∷ 65 ∷ 0 ∷ 196 ∷ 2 ∷ 152 ∷ 6 ∷ 67 ∷ 32 ∷ 10 ∷ 96 ∷ 25 ∷ 12 ∷ 130 ∷ 41 ∷ 140 ∷ 133 ∷ 48 ∷ 8 ∷ 128 ∷ [])
-    yields verdicts (Verdict.Refused (record { number = 20; place = 0 }))
-    ∷ checked (record { xyz = (pos 319 ∷ pos 1000 ∷ pos 970 ∷ pos 349 ∷ pos 990 ∷ pos 990 ∷ pos 349 ∷ pos 970 ∷ pos 970 ∷ pos 359 ∷ pos 970 ∷ pos 1000 ∷ pos 329 ∷ pos 980 ∷ pos 980 ∷ pos 359 ∷ pos 950 ∷ pos 980 ∷ pos 319 ∷ pos 980 ∷ pos 950 ∷ pos 329 ∷ pos 960 ∷ pos 960 ∷ []); ends = (0 ∷ 4 ∷ 0 ∷ 6 ∷ 1 ∷ 2 ∷ 1 ∷ 3 ∷ 2 ∷ 5 ∷ 2 ∷ 6 ∷ 3 ∷ 4 ∷ 3 ∷ 5 ∷ 4 ∷ 7 ∷ 5 ∷ 7 ∷ []) }) (16 ∷ 144 ∷ 34 ∷ 40 ∷ 208 ∷ 131 ∷ 47 ∷ 0 ∷ [])
-    yields verdicts (Verdict.Refused (record { number = 20; place = 0 }))
+    checked (record { xyz = (pos 0 ∷ pos 0 ∷ pos 0 ∷ pos 6 ∷ pos 0 ∷ pos 0 ∷ pos 0 ∷ pos 6 ∷ pos 0 ∷ pos 0 ∷ pos 0 ∷ pos 6 ∷ neg 6 ∷ pos 0 ∷ pos 0 ∷ pos 0 ∷ neg 6 ∷ pos 0 ∷ pos 0 ∷ pos 0 ∷ neg 6 ∷ []); ends = (0 ∷ 1 ∷ 0 ∷ 2 ∷ 0 ∷ 3 ∷ 0 ∷ 4 ∷ 0 ∷ 5 ∷ 0 ∷ 6 ∷ 1 ∷ 2 ∷ 1 ∷ 3 ∷ 2 ∷ 3 ∷ 4 ∷ 5 ∷ 4 ∷ 6 ∷ 5 ∷ 6 ∷ []) }) (18 ∷ 12 ∷ 98 ∷ 9 ∷ 152 ∷ 160 ∷ 50 ∷ 24 ∷ 6 ∷ 33 ∷ 128 ∷ 194 ∷ 32 ∷ 24 ∷ 64 ∷ 51 ∷ 32 ∷ 10 ∷ 101 ∷ 49 ∷ 0 ∷ [])
+    yields verdicts (Verdict.Refused (record { number = 25; place = 1 }))
+    ∷ checked (record { xyz = (pos 2 ∷ pos 12 ∷ pos 0 ∷ neg 8 ∷ pos 0 ∷ pos 0 ∷ pos 1 ∷ neg 9 ∷ pos 0 ∷ pos 4 ∷ pos 15 ∷ pos 5 ∷ neg 6 ∷ pos 3 ∷ pos 5 ∷ pos 3 ∷ neg 6 ∷ pos 5 ∷ []); ends = (0 ∷ 1 ∷ 0 ∷ 2 ∷ 0 ∷ 3 ∷ 1 ∷ 2 ∷ 1 ∷ 4 ∷ 2 ∷ 5 ∷ 3 ∷ 4 ∷ 3 ∷ 5 ∷ 4 ∷ 5 ∷ []) }) (17 ∷ 76 ∷ 101 ∷ 34 ∷ 16 ∷ 32 ∷ 26 ∷ 20 ∷ 96 ∷ 18 ∷ 16 ∷ 162 ∷ 9 ∷ 128 ∷ 34 ∷ [])
+    yields verdicts (Verdict.Refused (record { number = 26; place = 0 }))
+    ∷ checked (record { xyz = (pos 10 ∷ pos 0 ∷ pos 0 ∷ neg 10 ∷ pos 0 ∷ pos 0 ∷ pos 0 ∷ pos 10 ∷ pos 0 ∷ pos 1002 ∷ neg 10 ∷ pos 0 ∷ pos 0 ∷ pos 1002 ∷ pos 1047 ∷ pos 0 ∷ pos 0 ∷ neg 10 ∷ []); ends = (0 ∷ 2 ∷ 0 ∷ 3 ∷ 0 ∷ 4 ∷ 0 ∷ 5 ∷ 1 ∷ 2 ∷ 1 ∷ 3 ∷ 1 ∷ 4 ∷ 1 ∷ 5 ∷ 2 ∷ 4 ∷ 2 ∷ 5 ∷ 3 ∷ 4 ∷ 3 ∷ 5 ∷ []) }) (17 ∷ 12 ∷ 1 ∷ 17 ∷ 128 ∷ 35 ∷ 48 ∷ 8 ∷ [])
+    yields verdicts (Verdict.Refused (record { number = 8; place = 9 }))
     ∷ []
 
 pub hold2 : Holds rows2
@@ -59,14 +59,27 @@ hold2 = refl
 unfoldable pub rows3 : List Row
 unfolding text
 rows3 =
-    checked (record { xyz = (pos 1 ∷ pos 2 ∷ pos 0 ∷ neg 3 ∷ pos 2 ∷ pos 0 ∷ neg 3 ∷ neg 2 ∷ pos 0 ∷ pos 1 ∷ neg 2 ∷ pos 0 ∷ pos 5 ∷ pos 4 ∷ pos 10 ∷ neg 3 ∷ pos 4 ∷ pos 10 ∷ neg 3 ∷ neg 4 ∷ pos 10 ∷ pos 5 ∷ neg 4 ∷ pos 10 ∷ []); ends = (0 ∷ 1 ∷ 0 ∷ 3 ∷ 0 ∷ 4 ∷ 1 ∷ 2 ∷ 1 ∷ 5 ∷ 2 ∷ 3 ∷ 2 ∷ 6 ∷ 3 ∷ 7 ∷ 4 ∷ 5 ∷ 4 ∷ 7 ∷ 5 ∷ 6 ∷ 6 ∷ 7 ∷ []) }) (17 ∷ 144 ∷ 32 ∷ 24 ∷ 144 ∷ 161 ∷ 1 ∷ 16 ∷ 135 ∷ 24 ∷ 16 ∷ 194 ∷ 9 ∷ 80 ∷ 67 ∷ 57 ∷ 144 ∷ 197 ∷ 33 ∷ 192 ∷ [])
-    yields verdicts (Verdict.Refused (record { number = 24; place = 0 }))
-    ∷ checked (record { xyz = (neg 669 ∷ pos 590 ∷ pos 964 ∷ neg 693 ∷ pos 608 ∷ pos 1000 ∷ neg 681 ∷ pos 584 ∷ pos 976 ∷ neg 675 ∷ pos 596 ∷ pos 976 ∷ neg 675 ∷ pos 602 ∷ pos 976 ∷ neg 681 ∷ pos 608 ∷ pos 988 ∷ neg 687 ∷ pos 596 ∷ pos 988 ∷ []); ends = (0 ∷ 2 ∷ 0 ∷ 3 ∷ 0 ∷ 6 ∷ 1 ∷ 4 ∷ 1 ∷ 5 ∷ 1 ∷ 6 ∷ 2 ∷ 3 ∷ 2 ∷ 6 ∷ 3 ∷ 6 ∷ 4 ∷ 5 ∷ 4 ∷ 6 ∷ 5 ∷ 6 ∷ []) }) (18 ∷ 12 ∷ 67 ∷ 1 ∷ 148 ∷ 38 ∷ 50 ∷ 20 ∷ 198 ∷ 49 ∷ 24 ∷ 192 ∷ 51 ∷ 25 ∷ 132 ∷ 3 ∷ 9 ∷ 12 ∷ 101 ∷ 32 ∷ 64 ∷ [])
-    yields verdicts (Verdict.Refused (record { number = 25; place = 1 }))
-    ∷ checked (record { xyz = (pos 1000 ∷ neg 982 ∷ neg 1000 ∷ pos 997 ∷ neg 1000 ∷ neg 991 ∷ pos 1000 ∷ neg 1000 ∷ neg 1000 ∷ pos 1000 ∷ neg 1000 ∷ neg 991 ∷ pos 997 ∷ neg 982 ∷ neg 1000 ∷ pos 997 ∷ neg 1000 ∷ neg 1000 ∷ pos 1000 ∷ neg 982 ∷ neg 991 ∷ pos 997 ∷ neg 982 ∷ neg 991 ∷ []); ends = (0 ∷ 2 ∷ 0 ∷ 4 ∷ 0 ∷ 6 ∷ 1 ∷ 3 ∷ 1 ∷ 5 ∷ 1 ∷ 7 ∷ 2 ∷ 3 ∷ 2 ∷ 5 ∷ 3 ∷ 6 ∷ 4 ∷ 5 ∷ 4 ∷ 7 ∷ 6 ∷ 7 ∷ []) }) (17 ∷ 144 ∷ 35 ∷ 17 ∷ 80 ∷ 39 ∷ 48 ∷ 208 ∷ 225 ∷ 41 ∷ 16 ∷ 228 ∷ 1 ∷ 144 ∷ 64 ∷ 33 ∷ 80 ∷ 67 ∷ 48 ∷ 0 ∷ [])
-    yields verdicts (Verdict.Refused (record { number = 26; place = 0 }))
+    checked (record { xyz = (neg 1000 ∷ neg 1000 ∷ pos 160 ∷ neg 1000 ∷ neg 1000 ∷ pos 166 ∷ neg 994 ∷ neg 994 ∷ pos 160 ∷ neg 994 ∷ neg 1000 ∷ pos 160 ∷ neg 1000 ∷ neg 994 ∷ pos 166 ∷ neg 1000 ∷ neg 994 ∷ pos 160 ∷ neg 994 ∷ neg 994 ∷ pos 166 ∷ neg 994 ∷ neg 1000 ∷ pos 166 ∷ []); ends = (0 ∷ 1 ∷ 0 ∷ 3 ∷ 0 ∷ 5 ∷ 1 ∷ 4 ∷ 1 ∷ 7 ∷ 2 ∷ 3 ∷ 2 ∷ 5 ∷ 2 ∷ 6 ∷ 3 ∷ 7 ∷ 4 ∷ 5 ∷ 4 ∷ 6 ∷ 6 ∷ 7 ∷ []) }) (17 ∷ 144 ∷ 1 ∷ 33 ∷ 80 ∷ 3 ∷ 56 ∷ 80 ∷ 5 ∷ 16 ∷ 208 ∷ 230 ∷ 32 ∷ 80 ∷ 70 ∷ 56 ∷ 208 ∷ 194 ∷ 41 ∷ 0 ∷ [])
+    yields verdicts Verdict.Accepted
+    ∷ checked (record { xyz = (neg 840 ∷ pos 546 ∷ neg 508 ∷ neg 792 ∷ pos 594 ∷ neg 484 ∷ neg 804 ∷ pos 582 ∷ neg 484 ∷ neg 756 ∷ pos 630 ∷ neg 460 ∷ neg 1000 ∷ pos 674 ∷ neg 540 ∷ neg 952 ∷ pos 722 ∷ neg 516 ∷ neg 964 ∷ pos 710 ∷ neg 516 ∷ neg 916 ∷ pos 758 ∷ neg 492 ∷ []); ends = (0 ∷ 1 ∷ 0 ∷ 2 ∷ 0 ∷ 4 ∷ 1 ∷ 3 ∷ 1 ∷ 5 ∷ 2 ∷ 3 ∷ 2 ∷ 6 ∷ 3 ∷ 7 ∷ 4 ∷ 5 ∷ 4 ∷ 6 ∷ 5 ∷ 7 ∷ 6 ∷ 7 ∷ []) }) (17 ∷ 144 ∷ 164 ∷ 49 ∷ 208 ∷ 67 ∷ 57 ∷ 144 ∷ 64 ∷ 8 ∷ 208 ∷ 2 ∷ 49 ∷ 16 ∷ 37 ∷ 56 ∷ 208 ∷ 161 ∷ 1 ∷ 0 ∷ [])
+    yields verdicts Verdict.Accepted
+    ∷ checked (record { xyz = (pos 49 ∷ neg 779 ∷ neg 995 ∷ pos 47 ∷ neg 775 ∷ neg 997 ∷ pos 47 ∷ neg 772 ∷ neg 999 ∷ pos 50 ∷ neg 772 ∷ neg 1000 ∷ pos 52 ∷ neg 776 ∷ neg 998 ∷ pos 50 ∷ neg 786 ∷ neg 994 ∷ pos 48 ∷ neg 782 ∷ neg 996 ∷ pos 48 ∷ neg 779 ∷ neg 998 ∷ pos 51 ∷ neg 779 ∷ neg 999 ∷ pos 53 ∷ neg 783 ∷ neg 997 ∷ []); ends = (0 ∷ 1 ∷ 0 ∷ 4 ∷ 0 ∷ 5 ∷ 2 ∷ 3 ∷ 2 ∷ 7 ∷ 3 ∷ 4 ∷ 3 ∷ 8 ∷ 4 ∷ 9 ∷ 5 ∷ 6 ∷ 5 ∷ 9 ∷ 6 ∷ 7 ∷ 7 ∷ 8 ∷ 8 ∷ 9 ∷ []) }) (17 ∷ 16 ∷ 131 ∷ 66 ∷ 76 ∷ 133 ∷ 2 ∷ 8 ∷ 232 ∷ 26 ∷ 0 ∷ 137 ∷ 40 ∷ [])
+    yields verdicts (Verdict.Refused (record { number = 21; place = 1 }))
     ∷ []
 
 pub hold3 : Holds rows3
 unfolding rows3 asked said
 hold3 = refl
+
+unfoldable pub rows4 : List Row
+unfolding text
+rows4 =
+    checked (record { xyz = (neg 31 ∷ pos 1000 ∷ neg 994 ∷ neg 37 ∷ pos 1000 ∷ neg 994 ∷ neg 25 ∷ pos 994 ∷ neg 1000 ∷ neg 31 ∷ pos 1000 ∷ neg 1000 ∷ neg 25 ∷ pos 1000 ∷ neg 994 ∷ neg 19 ∷ pos 994 ∷ neg 1000 ∷ neg 25 ∷ pos 1000 ∷ neg 1000 ∷ []); ends = (0 ∷ 1 ∷ 0 ∷ 2 ∷ 0 ∷ 3 ∷ 0 ∷ 4 ∷ 0 ∷ 5 ∷ 0 ∷ 6 ∷ 1 ∷ 2 ∷ 1 ∷ 3 ∷ 2 ∷ 3 ∷ 4 ∷ 5 ∷ 4 ∷ 6 ∷ 5 ∷ 6 ∷ []) }) (18 ∷ 12 ∷ 5 ∷ 33 ∷ 152 ∷ 133 ∷ 49 ∷ 4 ∷ 102 ∷ 0 ∷ 136 ∷ 192 ∷ 48 ∷ 153 ∷ 138 ∷ 3 ∷ 0 ∷ 134 ∷ 100 ∷ 48 ∷ 0 ∷ [])
+    yields verdicts (Verdict.Refused (record { number = 25; place = 2 }))
+    ∷ checked (record { xyz = (pos 1000 ∷ neg 988 ∷ pos 994 ∷ pos 988 ∷ neg 988 ∷ pos 1000 ∷ pos 1000 ∷ neg 976 ∷ pos 1000 ∷ pos 1000 ∷ neg 1000 ∷ pos 1000 ∷ pos 1000 ∷ neg 1000 ∷ pos 994 ∷ pos 988 ∷ neg 1000 ∷ pos 1000 ∷ pos 1000 ∷ neg 988 ∷ pos 1000 ∷ []); ends = (0 ∷ 1 ∷ 0 ∷ 2 ∷ 0 ∷ 6 ∷ 1 ∷ 2 ∷ 1 ∷ 6 ∷ 2 ∷ 6 ∷ 3 ∷ 4 ∷ 3 ∷ 5 ∷ 3 ∷ 6 ∷ 4 ∷ 5 ∷ 4 ∷ 6 ∷ 5 ∷ 6 ∷ []) }) (18 ∷ 12 ∷ 134 ∷ 41 ∷ 144 ∷ 163 ∷ 49 ∷ 152 ∷ 134 ∷ 50 ∷ 152 ∷ 204 ∷ 17 ∷ 24 ∷ 130 ∷ 3 ∷ 9 ∷ 128 ∷ 102 ∷ 16 ∷ 0 ∷ [])
+    yields verdicts (Verdict.Refused (record { number = 25; place = 4 }))
+    ∷ []
+
+pub hold4 : Holds rows4
+unfolding rows4 asked said
+hold4 = refl

@@ -16,7 +16,7 @@ unfolding text
 rows0 =
     paired (pos 0 ∷ pos 2 ∷ pos 3 ∷ pos 0 ∷ pos 3 ∷ pos 3 ∷ neg 1 ∷ neg 1 ∷ pos 0 ∷ []) (pos 0 ∷ pos 1 ∷ neg 2 ∷ pos 0 ∷ neg 3 ∷ pos 1 ∷ pos 2 ∷ neg 1 ∷ pos 2 ∷ [])
     yields rules false false false
-    ∷ paired (pos 0 ∷ neg 1 ∷ pos 0 ∷ pos 0 ∷ pos 0 ∷ pos 0 ∷ neg 1 ∷ pos 0 ∷ pos 0 ∷ []) (pos 0 ∷ pos 0 ∷ pos 1 ∷ pos 0 ∷ pos 0 ∷ pos 0 ∷ neg 1 ∷ pos 0 ∷ pos 0 ∷ [])
+    ∷ paired (neg 3 ∷ pos 4 ∷ pos 5 ∷ neg 1 ∷ pos 2 ∷ pos 0 ∷ pos 0 ∷ pos 0 ∷ pos 0 ∷ neg 1 ∷ pos 0 ∷ pos 5 ∷ []) (pos 3 ∷ pos 0 ∷ pos 5 ∷ pos 5 ∷ pos 2 ∷ pos 5 ∷ pos 3 ∷ pos 1 ∷ pos 0 ∷ pos 2 ∷ pos 0 ∷ pos 0 ∷ [])
     yields rules false false false
     ∷ paired (pos 3 ∷ pos 2 ∷ pos 4 ∷ neg 1 ∷ neg 3 ∷ neg 5 ∷ pos 1 ∷ pos 4 ∷ pos 4 ∷ []) (pos 1 ∷ pos 4 ∷ pos 4 ∷ pos 3 ∷ pos 2 ∷ pos 4 ∷ pos 5 ∷ pos 0 ∷ pos 4 ∷ neg 1 ∷ neg 3 ∷ neg 5 ∷ [])
     yields rules false false false
@@ -91,7 +91,7 @@ unfolding text
 rows5 =
     covering (pos 0 ∷ pos 2 ∷ pos 3 ∷ pos 0 ∷ pos 3 ∷ pos 3 ∷ neg 1 ∷ neg 1 ∷ pos 0 ∷ []) (pos 0 ∷ pos 1 ∷ neg 2 ∷ pos 0 ∷ neg 3 ∷ pos 1 ∷ pos 2 ∷ neg 1 ∷ pos 2 ∷ [])
     yields tests (false ∷ [])
-    ∷ covering (pos 0 ∷ neg 1 ∷ pos 0 ∷ pos 0 ∷ pos 0 ∷ pos 0 ∷ neg 1 ∷ pos 0 ∷ pos 0 ∷ []) (pos 0 ∷ pos 0 ∷ pos 1 ∷ pos 0 ∷ pos 0 ∷ pos 0 ∷ neg 1 ∷ pos 0 ∷ pos 0 ∷ [])
+    ∷ covering (neg 3 ∷ pos 4 ∷ pos 5 ∷ neg 1 ∷ pos 2 ∷ pos 0 ∷ pos 0 ∷ pos 0 ∷ pos 0 ∷ neg 1 ∷ pos 0 ∷ pos 5 ∷ []) (pos 3 ∷ pos 0 ∷ pos 5 ∷ pos 5 ∷ pos 2 ∷ pos 5 ∷ pos 3 ∷ pos 1 ∷ pos 0 ∷ pos 2 ∷ pos 0 ∷ pos 0 ∷ [])
     yields tests (false ∷ [])
     ∷ covering (pos 3 ∷ pos 2 ∷ pos 4 ∷ neg 1 ∷ neg 3 ∷ neg 5 ∷ pos 1 ∷ pos 4 ∷ pos 4 ∷ []) (pos 1 ∷ pos 4 ∷ pos 4 ∷ pos 3 ∷ pos 2 ∷ pos 4 ∷ pos 5 ∷ pos 0 ∷ pos 4 ∷ neg 1 ∷ neg 3 ∷ neg 5 ∷ [])
     yields tests (false ∷ [])

@@ -14,11 +14,11 @@ use Rattle.paper.specs.declared.Verdict.the-variants as Verdict
 unfoldable pub rows0 : List Row
 unfolding text
 rows0 =
-    fetched (18 ∷ 72 ∷ [])
+    fetched (17 ∷ 198 ∷ 115 ∷ 50 ∷ 59 ∷ 242 ∷ 185 ∷ 153 ∷ 29 ∷ 248 ∷ 156 ∷ 228 ∷ 142 ∷ 252 ∷ 174 ∷ 102 ∷ 72 ∷ 254 ∷ 87 ∷ 51 ∷ 35 ∷ 191 ∷ 67 ∷ 150 ∷ 145 ∷ 223 ∷ 149 ∷ 204 ∷ 200 ∷ 191 ∷ 202 ∷ 0 ∷ 64 ∷ 32 ∷ 12 ∷ 4 ∷ 1 ∷ 64 ∷ 96 ∷ 136 ∷ 35 ∷ 16 ∷ 200 ∷ 82 ∷ 24 ∷ 166 ∷ [])
+    yields sheet (record { answer = Answer.Fine; drawing = held 7 12 (pos 843 ∷ neg 715 ∷ pos 994 ∷ pos 843 ∷ neg 715 ∷ pos 988 ∷ pos 849 ∷ neg 715 ∷ pos 994 ∷ pos 843 ∷ neg 709 ∷ pos 994 ∷ pos 843 ∷ neg 715 ∷ pos 1000 ∷ pos 837 ∷ neg 715 ∷ pos 994 ∷ pos 843 ∷ neg 721 ∷ pos 994 ∷ []) (0 ∷ 1 ∷ 0 ∷ 2 ∷ 0 ∷ 3 ∷ 0 ∷ 4 ∷ 0 ∷ 5 ∷ 0 ∷ 6 ∷ 1 ∷ 2 ∷ 1 ∷ 3 ∷ 2 ∷ 3 ∷ 4 ∷ 5 ∷ 4 ∷ 6 ∷ 5 ∷ 6 ∷ []) })
+    ∷ fetched (18 ∷ 74 ∷ [])
     yields sheet (record { answer = Answer.Refused (record { number = 3; place = 0 }); drawing = blank })
-    ∷ fetched (146 ∷ 6 ∷ 62 ∷ 55 ∷ 202 ∷ 248 ∷ 223 ∷ 131 ∷ 229 ∷ 124 ∷ 111 ∷ 141 ∷ 248 ∷ 190 ∷ 55 ∷ 224 ∷ 252 ∷ 95 ∷ 27 ∷ 227 ∷ 124 ∷ 175 ∷ 181 ∷ 248 ∷ 62 ∷ 87 ∷ 218 ∷ 248 ∷ 223 ∷ 139 ∷ 237 ∷ 126 ∷ 15 ∷ 197 ∷ 246 ∷ 128 ∷ 32 ∷ 16 ∷ 8 ∷ 17 ∷ 132 ∷ 162 ∷ 24 ∷ 140 ∷ 51 ∷ 144 ∷ 164 ∷ 49 ∷ 78 ∷ 99 ∷ 128 ∷ [])
-    yields sheet (record { answer = Answer.Refused (record { number = 4; place = 0 }); drawing = blank })
-    ∷ fetched (24 ∷ 71 ∷ 190 ∷ 167 ∷ 208 ∷ 250 ∷ 31 ∷ 67 ∷ 234 ∷ 125 ∷ 15 ∷ 153 ∷ 243 ∷ 62 ∷ 135 ∷ 214 ∷ 250 ∷ 31 ∷ 107 ∷ 232 ∷ 125 ∷ 111 ∷ 181 ∷ 242 ∷ 190 ∷ 87 ∷ 218 ∷ 250 ∷ 31 ∷ 67 ∷ 233 ∷ 125 ∷ 15 ∷ 161 ∷ 246 ∷ 128 ∷ 32 ∷ 16 ∷ 6 ∷ 3 ∷ 4 ∷ 65 ∷ 32 ∷ 76 ∷ 34 ∷ 136 ∷ 195 ∷ 32 ∷ 202 ∷ 51 ∷ 144 ∷ 164 ∷ 57 ∷ 78 ∷ [])
+    ∷ fetched (16 ∷ 127 ∷ 190 ∷ 135 ∷ 208 ∷ 250 ∷ 31 ∷ 147 ∷ 232 ∷ 125 ∷ 15 ∷ 161 ∷ 249 ∷ 62 ∷ 135 ∷ 228 ∷ 252 ∷ 159 ∷ 67 ∷ 232 ∷ 125 ∷ 15 ∷ 201 ∷ 249 ∷ 62 ∷ 135 ∷ 228 ∷ 250 ∷ 31 ∷ 147 ∷ 242 ∷ 126 ∷ 79 ∷ 201 ∷ 249 ∷ 0 ∷ 32 ∷ 16 ∷ 8 ∷ 17 ∷ 132 ∷ 162 ∷ 24 ∷ 140 ∷ 66 ∷ 144 ∷ 197 ∷ 57 ∷ 142 ∷ [])
     yields sheet (record { answer = Answer.Refused (record { number = 5; place = 0 }); drawing = blank })
     ∷ []
 
@@ -29,12 +29,12 @@ hold0 = refl
 unfoldable pub rows1 : List Row
 unfolding text
 rows1 =
-    fetched (17 ∷ 135 ∷ 125 ∷ 39 ∷ 208 ∷ 250 ∷ 31 ∷ 67 ∷ 233 ∷ 125 ∷ 15 ∷ 157 ∷ 243 ∷ 190 ∷ 135 ∷ 208 ∷ 250 ∷ 31 ∷ 59 ∷ 232 ∷ 125 ∷ 31 ∷ 69 ∷ 244 ∷ 62 ∷ 135 ∷ 208 ∷ 0 ∷ 128 ∷ 64 ∷ 24 ∷ 8 ∷ 2 ∷ 132 ∷ 65 ∷ 24 ∷ 72 ∷ 18 ∷ 136 ∷ 98 ∷ 32 ∷ 138 ∷ 50 ∷ 144 ∷ 160 ∷ [])
-    yields sheet (record { answer = Answer.Refused (record { number = 8; place = 0 }); drawing = blank })
-    ∷ fetched (17 ∷ 198 ∷ 62 ∷ 135 ∷ 208 ∷ 250 ∷ 31 ∷ 115 ∷ 232 ∷ 125 ∷ 15 ∷ 161 ∷ 247 ∷ 62 ∷ 135 ∷ 208 ∷ 250 ∷ 31 ∷ 115 ∷ 232 ∷ 124 ∷ 79 ∷ 161 ∷ 247 ∷ 62 ∷ 39 ∷ 208 ∷ 250 ∷ 31 ∷ 19 ∷ 238 ∷ 0 ∷ 64 ∷ 32 ∷ 12 ∷ 4 ∷ 0 ∷ 0 ∷ 96 ∷ 136 ∷ 35 ∷ 16 ∷ 136 ∷ 82 ∷ 24 ∷ 166 ∷ [])
-    yields sheet (record { answer = Answer.Refused (record { number = 9; place = 4 }); drawing = blank })
-    ∷ fetched (17 ∷ 68 ∷ 226 ∷ 184 ∷ 3 ∷ 240 ∷ 177 ∷ 156 ∷ 1 ∷ 250 ∷ 24 ∷ 173 ∷ 252 ∷ 251 ∷ 188 ∷ 86 ∷ 255 ∷ 126 ∷ 78 ∷ 43 ∷ 126 ∷ 191 ∷ 8 ∷ 1 ∷ 0 ∷ 128 ∷ 48 ∷ 16 ∷ 34 ∷ 8 ∷ 194 ∷ 65 ∷ 12 ∷ 68 ∷ [])
-    yields sheet (record { answer = Answer.Fine; drawing = held 5 9 (pos 579 ∷ pos 25 ∷ pos 986 ∷ pos 587 ∷ pos 25 ∷ pos 1000 ∷ pos 579 ∷ pos 17 ∷ pos 979 ∷ pos 579 ∷ pos 21 ∷ pos 993 ∷ pos 579 ∷ pos 13 ∷ pos 986 ∷ []) (0 ∷ 1 ∷ 0 ∷ 2 ∷ 0 ∷ 3 ∷ 0 ∷ 4 ∷ 1 ∷ 2 ∷ 1 ∷ 3 ∷ 1 ∷ 4 ∷ 2 ∷ 3 ∷ 2 ∷ 4 ∷ []) })
+    fetched (18 ∷ 5 ∷ 190 ∷ 135 ∷ 208 ∷ 250 ∷ 31 ∷ 147 ∷ 232 ∷ 125 ∷ 15 ∷ 161 ∷ 249 ∷ 62 ∷ 135 ∷ 228 ∷ 252 ∷ 159 ∷ 67 ∷ 232 ∷ 125 ∷ 15 ∷ 201 ∷ 249 ∷ 62 ∷ 135 ∷ 228 ∷ 250 ∷ 31 ∷ 147 ∷ 242 ∷ 126 ∷ 79 ∷ 201 ∷ 249 ∷ 0 ∷ 32 ∷ 16 ∷ 8 ∷ 17 ∷ 132 ∷ 162 ∷ 24 ∷ 206 ∷ 66 ∷ 144 ∷ 197 ∷ 57 ∷ 142 ∷ 0 ∷ [])
+    yields sheet (record { answer = Answer.Refused (record { number = 6; place = 0 }); drawing = blank })
+    ∷ fetched (17 ∷ 199 ∷ 190 ∷ 159 ∷ 162 ∷ 250 ∷ 31 ∷ 79 ∷ 210 ∷ 125 ∷ 15 ∷ 169 ∷ 245 ∷ 62 ∷ 135 ∷ 208 ∷ 250 ∷ 159 ∷ 67 ∷ 234 ∷ 125 ∷ 47 ∷ 161 ∷ 244 ∷ 62 ∷ 151 ∷ 208 ∷ 251 ∷ 31 ∷ 75 ∷ 235 ∷ 0 ∷ 64 ∷ 32 ∷ 12 ∷ 4 ∷ 1 ∷ 130 ∷ 48 ∷ 144 ∷ 37 ∷ 9 ∷ 132 ∷ 65 ∷ 24 ∷ 101 ∷ 25 ∷ 136 ∷ 98 ∷ 152 ∷ [])
+    yields sheet (record { answer = Answer.Refused (record { number = 8; place = 1 }); drawing = blank })
+    ∷ fetched (18 ∷ 6 ∷ 62 ∷ 103 ∷ 196 ∷ 249 ∷ 95 ∷ 123 ∷ 226 ∷ 124 ∷ 175 ∷ 153 ∷ 245 ∷ 62 ∷ 87 ∷ 222 ∷ 250 ∷ 159 ∷ 43 ∷ 230 ∷ 124 ∷ 79 ∷ 177 ∷ 247 ∷ 190 ∷ 39 ∷ 216 ∷ 249 ∷ 159 ∷ 83 ∷ 236 ∷ 125 ∷ 239 ∷ 169 ∷ 246 ∷ 0 ∷ 32 ∷ 16 ∷ 8 ∷ 17 ∷ 132 ∷ 162 ∷ 24 ∷ 140 ∷ 51 ∷ 144 ∷ 164 ∷ 49 ∷ 78 ∷ 99 ∷ 128 ∷ [])
+    yields sheet (record { answer = Answer.Fine; drawing = held 8 12 (neg 2 ∷ neg 6 ∷ neg 3 ∷ pos 7 ∷ neg 6 ∷ neg 3 ∷ neg 2 ∷ pos 2 ∷ neg 3 ∷ pos 7 ∷ pos 2 ∷ neg 3 ∷ neg 2 ∷ neg 6 ∷ pos 4 ∷ pos 7 ∷ neg 6 ∷ pos 4 ∷ neg 2 ∷ pos 2 ∷ pos 4 ∷ pos 7 ∷ pos 2 ∷ pos 4 ∷ []) (0 ∷ 1 ∷ 0 ∷ 2 ∷ 0 ∷ 4 ∷ 1 ∷ 3 ∷ 1 ∷ 5 ∷ 2 ∷ 3 ∷ 2 ∷ 6 ∷ 3 ∷ 7 ∷ 4 ∷ 5 ∷ 4 ∷ 6 ∷ 5 ∷ 7 ∷ 6 ∷ 7 ∷ []) })
     ∷ []
 
 pub hold1 : Holds rows1

@@ -14,27 +14,12 @@ use Rattle.paper.specs.declared.Verdict.the-variants as Verdict
 unfoldable pub rows0 : List Row
 unfolding text
 rows0 =
-    stored (record { xyz = (pos 2 ∷ pos 8 ∷ pos 0 ∷ neg 9 ∷ neg 6 ∷ pos 0 ∷ pos 10 ∷ neg 4 ∷ pos 0 ∷ pos 2 ∷ pos 10 ∷ pos 6 ∷ neg 9 ∷ neg 4 ∷ pos 6 ∷ pos 10 ∷ neg 2 ∷ pos 6 ∷ []); ends = (0 ∷ 1 ∷ 0 ∷ 2 ∷ 0 ∷ 3 ∷ 1 ∷ 2 ∷ 1 ∷ 4 ∷ 2 ∷ 5 ∷ 3 ∷ 4 ∷ 3 ∷ 5 ∷ 4 ∷ 5 ∷ []) }) 39
-    yields wrote (Written.Bytes 39) ((17 ∷ 132 ∷ 190 ∷ 167 ∷ 224 ∷ 250 ∷ 30 ∷ 251 ∷ 226 ∷ 125 ∷ 15 ∷ 201 ∷ 242 ∷ 62 ∷ 135 ∷ 212 ∷ 252 ∷ 159 ∷ 115 ∷ 223 ∷ 124 ∷ 143 ∷ 185 ∷ 249 ∷ 62 ∷ 103 ∷ 220 ∷ 0 ∷ 128 ∷ 64 ∷ 24 ∷ 68 ∷ 18 ∷ 8 ∷ 163 ∷ 32 ∷ 202 ∷ 66 ∷ 128 ∷ []) ++ faceBefore 0)
-    ∷ stored (record { xyz = (pos 0 ∷ pos 0 ∷ pos 0 ∷ pos 10 ∷ pos 0 ∷ pos 0 ∷ pos 0 ∷ pos 10 ∷ pos 0 ∷ pos 0 ∷ pos 0 ∷ pos 10 ∷ pos 10 ∷ pos 10 ∷ pos 0 ∷ pos 10 ∷ pos 0 ∷ pos 10 ∷ pos 0 ∷ pos 10 ∷ pos 10 ∷ pos 10 ∷ pos 10 ∷ pos 10 ∷ pos 9 ∷ pos 2 ∷ pos 0 ∷ []); ends = (0 ∷ 1 ∷ 0 ∷ 2 ∷ 0 ∷ 3 ∷ 1 ∷ 4 ∷ 1 ∷ 5 ∷ []) }) 46
-    yields wrote (Written.Refused (record { number = 5; place = 1 })) (faceBefore 46)
-    ∷ stored (record { xyz = (pos 0 ∷ pos 0 ∷ pos 0 ∷ pos 10 ∷ pos 0 ∷ pos 0 ∷ pos 0 ∷ pos 10 ∷ pos 0 ∷ pos 10 ∷ pos 10 ∷ pos 0 ∷ pos 0 ∷ pos 0 ∷ pos 1047 ∷ pos 10 ∷ pos 0 ∷ pos 10 ∷ pos 0 ∷ pos 10 ∷ pos 10 ∷ pos 1002 ∷ pos 10 ∷ pos 10 ∷ []); ends = (0 ∷ 1 ∷ 0 ∷ 2 ∷ 1 ∷ 3 ∷ 1 ∷ 5 ∷ 2 ∷ 3 ∷ 2 ∷ 6 ∷ 3 ∷ 7 ∷ 4 ∷ 5 ∷ 4 ∷ 6 ∷ 5 ∷ 7 ∷ 6 ∷ 7 ∷ []) }) 0
-    yields wrote (Written.Refused (record { number = 8; place = 14 })) (faceBefore 0)
+    stored (record { xyz = (pos 23 ∷ pos 49 ∷ pos 40 ∷ neg 32 ∷ neg 15 ∷ pos 7 ∷ neg 22 ∷ pos 18 ∷ neg 20 ∷ neg 13 ∷ pos 30 ∷ neg 35 ∷ []); ends = (0 ∷ 1 ∷ 0 ∷ 2 ∷ 0 ∷ 3 ∷ 1 ∷ 2 ∷ 1 ∷ 3 ∷ 2 ∷ 3 ∷ []) }) 230
+    yields wrote (Written.Bytes 27) ((17 ∷ 3 ∷ 63 ∷ 248 ∷ 51 ∷ 4 ∷ 30 ∷ 67 ∷ 217 ∷ 125 ∷ 239 ∷ 73 ∷ 253 ∷ 61 ∷ 71 ∷ 183 ∷ 1 ∷ 158 ∷ 40 ∷ 2 ∷ 1 ∷ 0 ∷ 97 ∷ 16 ∷ 70 ∷ 33 ∷ 128 ∷ []) ++ faceBefore 203)
+    ∷ stored (record { xyz = (pos 0 ∷ pos 0 ∷ pos 10 ∷ pos 10 ∷ pos 0 ∷ pos 10 ∷ pos 10 ∷ pos 10 ∷ pos 10 ∷ pos 10 ∷ pos 10 ∷ pos 0 ∷ pos 0 ∷ pos 10 ∷ pos 0 ∷ pos 10 ∷ pos 0 ∷ pos 0 ∷ pos 0 ∷ pos 0 ∷ pos 0 ∷ pos 0 ∷ pos 10 ∷ pos 10 ∷ []); ends = (0 ∷ 1 ∷ 0 ∷ 6 ∷ 0 ∷ 7 ∷ 1 ∷ 2 ∷ 1 ∷ 5 ∷ 2 ∷ 3 ∷ 2 ∷ 7 ∷ 3 ∷ 4 ∷ 3 ∷ 5 ∷ 4 ∷ 6 ∷ 4 ∷ 7 ∷ 5 ∷ 6 ∷ 5 ∷ 7 ∷ []) }) 230
+    yields wrote (Written.Bytes 52) ((18 ∷ 6 ∷ 190 ∷ 135 ∷ 208 ∷ 252 ∷ 159 ∷ 147 ∷ 232 ∷ 126 ∷ 79 ∷ 201 ∷ 249 ∷ 63 ∷ 39 ∷ 228 ∷ 252 ∷ 159 ∷ 67 ∷ 232 ∷ 126 ∷ 79 ∷ 161 ∷ 249 ∷ 62 ∷ 135 ∷ 208 ∷ 250 ∷ 31 ∷ 67 ∷ 232 ∷ 125 ∷ 15 ∷ 201 ∷ 249 ∷ 0 ∷ 32 ∷ 48 ∷ 14 ∷ 17 ∷ 4 ∷ 162 ∷ 24 ∷ 142 ∷ 50 ∷ 12 ∷ 164 ∷ 49 ∷ 14 ∷ 83 ∷ 20 ∷ 224 ∷ []) ++ faceBefore 178)
     ∷ []
 
 pub hold0 : Holds rows0
 unfolding rows0 asked said
 hold0 = refl
-
-unfoldable pub rows1 : List Row
-unfolding text
-rows1 =
-    stored (record { xyz = (pos 0 ∷ pos 1 ∷ pos 0 ∷ pos 1 ∷ pos 2 ∷ pos 0 ∷ pos 3 ∷ pos 2 ∷ pos 0 ∷ pos 0 ∷ pos 2 ∷ pos 0 ∷ pos 2 ∷ pos 0 ∷ pos 0 ∷ pos 3 ∷ pos 0 ∷ pos 0 ∷ neg 1 ∷ pos 1 ∷ pos 3 ∷ []); ends = (0 ∷ 1 ∷ 0 ∷ 2 ∷ 0 ∷ 3 ∷ 0 ∷ 6 ∷ 1 ∷ 6 ∷ 2 ∷ 4 ∷ 2 ∷ 7 ∷ 2 ∷ 6 ∷ 3 ∷ 6 ∷ 4 ∷ 5 ∷ 4 ∷ 6 ∷ 5 ∷ 6 ∷ []) }) 0
-    yields wrote (Written.Refused (record { number = 9; place = 6 })) (faceBefore 0)
-    ∷ stored (record { xyz = (pos 0 ∷ pos 0 ∷ pos 0 ∷ pos 6 ∷ pos 0 ∷ pos 0 ∷ pos 0 ∷ pos 6 ∷ pos 0 ∷ pos 0 ∷ pos 0 ∷ pos 6 ∷ pos 50 ∷ pos 60 ∷ pos 70 ∷ pos 56 ∷ pos 60 ∷ pos 70 ∷ pos 50 ∷ pos 66 ∷ pos 70 ∷ pos 50 ∷ pos 60 ∷ pos 76 ∷ []); ends = (0 ∷ 1 ∷ 0 ∷ 2 ∷ 0 ∷ 3 ∷ 2 ∷ 3 ∷ 1 ∷ 3 ∷ 1 ∷ 2 ∷ 4 ∷ 5 ∷ 4 ∷ 6 ∷ 4 ∷ 7 ∷ 5 ∷ 6 ∷ 5 ∷ 7 ∷ 6 ∷ 7 ∷ []) }) 0
-    yields wrote (Written.Refused (record { number = 10; place = 4 })) (faceBefore 0)
-    ∷ []
-
-pub hold1 : Holds rows1
-unfolding rows1 asked said
-hold1 = refl
