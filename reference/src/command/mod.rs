@@ -1,0 +1,6 @@
+//! The program's commands.
+pub mod args;
+pub mod bench;
+pub mod corpus;
+pub mod stats;
+pub mod texts;

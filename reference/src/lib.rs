@@ -1,0 +1,24 @@
+//! Document 01 in plain Rust: the modules up to `desk` are the clear version, `fast` is the quick one, and `gen` and
+//! `rows` make drawings and cases.
+pub mod bits;
+pub mod check;
+pub mod clash;
+pub mod convert;
+pub mod cover;
+pub mod desk;
+pub mod drawing;
+pub mod face_list;
+pub mod loops;
+pub mod numbers;
+pub mod polygon;
+pub mod reading;
+pub mod rules;
+pub mod sheet;
+pub mod solids;
+pub mod subsets;
+pub mod vector;
+pub mod walk;
+
+pub mod fast;
+pub mod gen;
+pub mod rows;

@@ -1,0 +1,67 @@
+//! The program `reference`: the desk text, the face-list check, and the making and measuring of cases.
+mod command;
+
+use command::args::Args;
+use std::process::ExitCode;
+
+const HELP: &str = "\
+reference: document 01 in plain Rust, in a clear version and a fast one
+
+  reference desk < SHEET
+      reads a sheet from standard input and prints the desk text, by the clear version
+      --version clear|fast   which version converts (clear)
+
+  reference check SHEET FACES
+      checks the face list in file FACES against the sheet in file SHEET: `accepted`, or `refused`, number, place
+
+  reference gen DIR
+      writes a corpus with expected outputs: the named drawings, then generated and damaged sheets, each with a face
+      list. Per case NAME.sheet, NAME.desk (the desk text), NAME.faces and NAME.check (the check's answer)
+      --form files|book      book: in one file `corpus` sheet and face list of each case, each with its length in
+                             2 bytes, high byte first, in front; in one file `expected` desk text and check's answer
+      --count N              generated sheets (100)
+      --seed S               (1)
+
+  reference stats
+      converts and checks generated sheets by both versions, counts the answers, and fails where the versions differ
+      --count N              (10000)
+      --seed S               (1)
+      --limit L              of the work (20000)
+
+  reference bench
+      times the named drawings and 1,000 generated ones, by both versions
+
+  reference rows
+      prints cases with what the clear version says of each, one JSON object per line
+      --kind K               drawing, sheet, write, pair, list, desk, or all in turn (all)
+      --count N              (100)
+      --seed S               (1)
+      --cap C                the most solids reported, 1 to 8 (8); not for the desk, which has 8
+      --size small|any       small: 4 to 10 vertices mostly, a few up to 16, little work (small)
+";
+
+fn main() -> ExitCode {
+    match run(Args::new(std::env::args().skip(1))) {
+        Ok(()) => ExitCode::SUCCESS,
+        Err(message) => {
+            eprintln!("reference: {message}");
+            ExitCode::FAILURE
+        }
+    }
+}
+
+fn run(args: Args) -> Result<(), String> {
+    match args.word(0) {
+        Some("desk") => command::texts::desk(&args),
+        Some("check") => command::texts::check(&args),
+        Some("gen") => command::corpus::gen(&args),
+        Some("stats") => command::stats::stats(&args),
+        Some("bench") => command::bench::bench(&args),
+        Some("rows") => command::texts::rows(&args),
+        Some("help") | None => {
+            print!("{HELP}");
+            Ok(())
+        }
+        Some(other) => Err(format!("no command `{other}`; see reference --help")),
+    }
+}

@@ -1,0 +1,48 @@
+//! Rows of the face-list check (`list`).
+use super::json::Object;
+use super::{aimed, refused, Order};
+use crate::check::check;
+use crate::drawing::Source;
+use crate::fast;
+use crate::gen::damage::damaged_drawing;
+use crate::gen::lists::any_list;
+use crate::gen::rng::Rng;
+use crate::gen::sheets::changed;
+
+const AIMS: [u32; 16] = [0, 0, 0, 0, 20, 20, 21, 22, 23, 24, 25, 25, 26, 26, 27, 27];
+
+struct Case {
+    xyz: Vec<i64>,
+    ends: Vec<i64>,
+    list: Vec<u8>,
+}
+
+impl Case {
+    fn source(&self) -> Source<'_> {
+        Source::Lists(&self.xyz, &self.ends)
+    }
+}
+
+pub fn list_row(r: &mut Rng, order: &Order, turn: usize) -> Object {
+    // Now and then the drawing is refused, by one of 8 to 16.
+    let drawing = turn % 17 == 16;
+    let aim = if drawing { 8 + turn as u32 / 17 % 9 } else { AIMS[turn % 17] };
+    let make = |r: &mut Rng| {
+        let base = order.size.drawing(r);
+        let d = if drawing { damaged_drawing(r, &base, aim) } else { changed(r, base) };
+        let (xyz, ends) = d.lists();
+        let list = any_list(r, Source::Lists(&xyz, &ends));
+        Case { xyz, ends, list }
+    };
+    let good = |case: &Case| {
+        let number = fast::check(case.source(), &case.list).map_or_else(|refusal| refusal.number, |()| 0);
+        number == aim && order.size.admits(case.xyz.len() / 3)
+    };
+    let case = aimed(r, make, good);
+    let answer = match check(case.source(), &case.list) {
+        Ok(()) => Object::that_is("accepted"),
+        Err(refusal) => refused(refusal),
+    };
+    let row = Object::of_kind("list").put("xyz", &case.xyz).put("ends", &case.ends);
+    row.put("list", &case.list).put("answer", &answer)
+}

@@ -1,0 +1,12 @@
+//! All tests of the reference: one program, a module per subject.
+mod agree;
+mod common;
+mod errors;
+mod face_lists;
+mod facts;
+mod generators;
+mod known;
+mod places;
+mod refusals;
+mod rows;
+mod subsets;

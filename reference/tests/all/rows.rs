@@ -1,0 +1,60 @@
+//! The rows: repeatable, small, and between them every refusal.
+use nibgravel_reference::rows::{row, Order, KINDS, SMALL};
+use std::collections::BTreeSet;
+
+fn rows(kind: &str, cap: usize, count: u64) -> Vec<String> {
+    let order = Order { seed: 1, cap, size: SMALL };
+    let kind = KINDS.iter().position(|name| *name == kind).unwrap() as u64;
+    (0..count).map(|k| row(&order, k * KINDS.len() as u64 + kind)).collect()
+}
+
+/// The number that stands after `"name":` where it first occurs.
+fn number(row: &str, name: &str) -> Option<u32> {
+    let after = row.split_once(&format!("\"{name}\":"))?.1;
+    after.split(|c: char| !c.is_ascii_digit()).next()?.parse().ok()
+}
+
+/// The numbers of the answers; 0 where an answer has none.
+fn answers(rows: &[String]) -> BTreeSet<u32> {
+    let answer =
+        |row: &String| row.split_once("\"answer\":").map(|(_, answer)| number(answer.split("},").next()?, "number"));
+    rows.iter().map(|row| answer(row).flatten().unwrap_or(0)).collect()
+}
+
+#[test]
+fn a_row_depends_on_its_number_only() {
+    for kind in KINDS {
+        let long = rows(kind, 8, 30);
+        assert_eq!(rows(kind, 8, 10), long[..10]);
+        assert!(long.iter().all(|row| row.starts_with(&format!("{{\"kind\":\"{kind}\",")) && row.ends_with('}')));
+    }
+}
+
+#[test]
+fn drawings_meet_1_to_19() {
+    let expected: BTreeSet<u32> = [0, 1, 2, 5].into_iter().chain(8..=19).collect();
+    for cap in [1, 3, 8] {
+        assert_eq!(answers(&rows("drawing", cap, 96)), expected, "cap {cap}");
+    }
+}
+
+#[test]
+fn sheets_meet_3_to_10_and_writers_their_five() {
+    assert_eq!(answers(&rows("sheet", 8, 20)), [0].into_iter().chain(3..=10).collect());
+    assert_eq!(answers(&rows("write", 8, 14)), [0, 1, 5, 8, 9, 10].into_iter().collect());
+}
+
+#[test]
+fn lists_meet_20_to_27() {
+    let expected: BTreeSet<u32> = [0].into_iter().chain(20..=27).collect();
+    assert!(answers(&rows("list", 8, 34)).is_superset(&expected));
+}
+
+#[test]
+fn pairs_meet_every_rule() {
+    let rows = rows("pair", 8, 300);
+    for fact in ["\"a\":[true,", "\"a\":[false,true]", "\"b\":[true,", "\"c\":[true,true]", "\"covers\":true"] {
+        assert!(rows.iter().filter(|row| row.contains(fact)).count() > 5, "{fact}");
+    }
+    assert!(rows.iter().all(|row| !row.contains("\"c\":[true,false]") && !row.contains("\"c\":[false,true]")));
+}
