@@ -28,7 +28,7 @@ runsUp (edge a b) l = runs a b l
 unfoldable pub has : Edge → Loop → Bool
 has (edge a b) l = runs a b l || runs b a l
 
--- "Six volumes is the sum, over faces a1..an and i = 2..n-1, of the determinant of the position rows (a1, ai, ai+1)": of one face
+-- "Six volumes is the sum, over faces a1..an .., of the determinant of the position rows": the fan of one face round its first corner
 unfoldable pub fan : Point → List Point → ℤ
 unfolding det
 fan a [] = pos 0
