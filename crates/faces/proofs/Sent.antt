@@ -63,16 +63,14 @@ module _ (f : Format) (fs : List Loop) where
       over-next d 0 (x ++ y ++ z) t (bits (bytesFor t * 8 - t) 0) r3 r4 zero-le l e2 (p4 ∙ ap (λ (m : ℕ). over r3 m (bits (bytesFor m * 8 - m) 0)) hb)
 
   -- the list and then the room's bytes
-  pub listed : (room last : List ℕ) {r1 r2 r3 : List ℕ} {n b : ℕ} → n ≡ length fs → b ≡ bitsOf f fs → bytesFor b ≤ length room → length last ≡ length room
+  pub listed : (room last : List ℕ) {r1 r2 r3 : List ℕ} {n b : ℕ} → n ≡ length fs → b ≡ bitsOf f fs → bytesFor (bitsOf f fs) ≤ length room → length last ≡ length room
       → Under (2 ^ 8) room → Under (2 ^ 8) last → r1 ≡ over (run 8 room) 0 (bits 4 (f .edition)) → r2 ≡ over r1 4 (bits (f .fw) n)
       → r3 ≡ over r2 (4 + f .fw) (flatMap (faceBits f) fs) → run 8 last ≡ over r3 b (bits (bytesFor b * 8 - b) 0)
-      → last ≡ encodeFaces f fs ++ drop (bytesFor b) room
+      → last ≡ encodeFaces f fs ++ drop (bytesFor (bitsOf f fs)) room
   unfolding encodeFaces
-  listed room last {r1} {r2} {r3} {n} {b} hn hb h l ur ul p1 p2 p3 p4 =
-      let t = bitsOf f fs in
-      let k : bytesFor t ≤ length room = rw (← hb) h in
-      filled-is t (listBits f fs) room last under-list length-list k l ur ul (list-put (run 8 room) hn hb p1 p2 p3 p4)
-      ∙ ap₂ (λ (m o : ℕ). filled m (listBits f fs) ++ drop (bytesFor o) room) (sym length-list) (sym hb)
+  listed room last hn hb h l ur ul p1 p2 p3 p4 =
+      filled-is (bitsOf f fs) (listBits f fs) room last under-list length-list h l ur ul (list-put (run 8 room) hn hb p1 p2 p3 p4)
+      ∙ ap (λ (m : ℕ). filled m (listBits f fs) ++ drop (bytesFor (bitsOf f fs)) room) (sym length-list)
 
   -- ---- the answer
 

@@ -174,15 +174,15 @@ fn put_faces(f: Format, rows: &[u8], taken: u64, turned: u64, room: &mut [u8])
     }
 }
 
-// Writes the list of n faces, all of which fit, into room that is long enough.
-fn put_list(f: Format, rows: &[u8], taken: u64, turned: u64, room: &mut [u8], n: usize, bits: usize)
-    requires { ⌜ Brief f × (all (fits f) (solidFaces (now rows) taken turned) ≡ true) × (n ≡ length (solidFaces (now rows) taken turned)) × (bits ≡ bitsOf f (solidFaces (now rows) taken turned)) × (bytesFor bits ≤ length (now room)) × (bits ≤ 8000) ⌝ }
-    ensures { λ _. ⌜ now (room .exit) ≡ encodeFaces f (solidFaces (now (rows .entry)) taken turned) ++ drop (bytesFor bits) (now (room .entry)) ⌝ }
+// Writes the list of n faces of b bits, all of which fit, into room that is long enough.
+fn put_list(f: Format, rows: &[u8], taken: u64, turned: u64, room: &mut [u8], n: usize, b: usize)
+    requires { ⌜ Brief f × (all (fits f) (solidFaces (now rows) taken turned) ≡ true) × (n ≡ length (solidFaces (now rows) taken turned)) × (b ≡ span f (solidFaces (now rows) taken turned)) × (bytesFor (bitsOf f (solidFaces (now rows) taken turned)) ≤ length (now room)) × (bitsOf f (solidFaces (now rows) taken turned) ≤ 8000) ⌝ }
+    ensures { λ _. ⌜ now (room .exit) ≡ encodeFaces f (solidFaces (now (rows .entry)) taken turned) ++ drop (bytesFor (bitsOf f (solidFaces (now (rows .entry)) taken turned))) (now (room .entry)) ⌝ }
 {
     pack::put(room, 0, paper::EDITION_BITS, f.edition);
     pack::put(room, 4, f.fw, n as u64);
     put_faces(f, rows, taken, turned, room);
-    sheet::write::put_fill(room, bits);
+    sheet::write::put_fill(room, 4 + f.fw + b);
 }
 
 fn refused(number: u8) -> Written
@@ -204,11 +204,10 @@ pub fn write(f: Format, rows: &[u8], taken: u64, turned: u64, room: &mut [u8]) -
     if sheet::shape::is_outside(4, f.fmax, n as u64) {
         return refused(paper::SHELL_SHAPE);
     }
-    let bits = 4 + f.fw + b;
-    let size = (bits + 7) / 8;
+    let size = (4 + f.fw + b + 7) / 8;
     if room.len() < size {
         return refused(paper::NO_ROOM);
     }
-    put_list(f, rows, taken, turned, room, n, bits);
+    put_list(f, rows, taken, turned, room, n, b);
     Written::Bytes(size)
 }

@@ -1,15 +1,14 @@
 use mathlib.Core.Path.{sym, ap, _∙_}
-use mathlib.Core.List.{_++_}
 use Prim.Native.Nat.{ℕ}
-use lib.ListN.{length, drop}
-use borrow.Author.Needs.{needs}
+use lib.ListN.{length}
 use Rattle.sheet.proofs.Shaped.{outside-false}
 use Rattle.paper.specs.Format.{outside, bytesFor}
-use Rattle.paper.specs.FaceList.{encodeFaces, solidFaces}
+use Rattle.paper.specs.FaceList.{solidFaces}
 use Rattle.paper.specs.declared.Written.the-variants.{Bytes}
 use Rattle.faces.proofs.Weight.{weighed, misfit, span-small}
 use Rattle.faces.proofs.Sent.{size-is, result-misfit, result-count, result-short, result-fine}
 use native.Mathlib.Omega.{arith}
+use borrow.Author.Needs.{needs}
 use Rattle.faces.proofs.write.write.Statement.{statement}
 use Rattle.faces.proofs.write.write.Tie as tie
 
@@ -37,14 +36,14 @@ refused-requires-2 c κs = search needs
 returns-2 : tie.Need-returns-2
 returns-2 c = let w = weighed (c .before .before .before .before .before .before .before .before .before .args .f) (solidFaces (c .before .before .before .before .before .before .before .before .before .args .rows .now) (c .before .before .before .before .before .before .before .before .before .args .taken) (c .before .before .before .before .before .before .before .before .before .args .turned)) (sym ((c .before .before .before .before .weighed .given) .1) ∙ (c .before .before .before .before .before .before .weigh-all .ensures) (c .before .before .before .before .before .before .before .before .before .args .turned)) in let r = result-count (c .before .before .before .before .before .before .before .before .before .args .f) (solidFaces (c .before .before .before .before .before .before .before .before .before .args .rows .now) (c .before .before .before .before .before .before .before .before .before .args .taken) (c .before .before .before .before .before .before .before .before .before .args .turned)) (c .before .before .before .before .before .before .before .before .before .args .room .now) (ap (outside 4 (c .before .before .before .before .before .before .before .before .before .args .f .fmax)) (sym (w .count-is)) ∙ sym (c .before .before .is-outside .ensures) ∙ (c .before .if1 .taken)) in ((c .refused2 .ensures) ∙ r .0, r .1)
 
-add-bits : tie.Need-add-bits
-add-bits c = search needs
-
-add-bits-2 : tie.Need-add-bits-2
-add-bits-2 c = let w = weighed (c .before .before .before .before .before .before .before .before .before .args .f) (solidFaces (c .before .before .before .before .before .before .before .before .before .args .rows .now) (c .before .before .before .before .before .before .before .before .before .args .taken) (c .before .before .before .before .before .before .before .before .before .args .turned)) (sym ((c .before .before .before .before .weighed .given) .1) ∙ (c .before .before .before .before .before .before .weigh-all .ensures) (c .before .before .before .before .before .before .before .before .before .args .turned)) in let o = outside-false 4 (c .before .before .before .before .before .before .before .before .before .args .f .fmax) (length (solidFaces (c .before .before .before .before .before .before .before .before .before .args .rows .now) (c .before .before .before .before .before .before .before .before .before .args .taken) (c .before .before .before .before .before .before .before .before .before .args .turned))) (ap (outside 4 (c .before .before .before .before .before .before .before .before .before .args .f .fmax)) (sym (w .count-is)) ∙ sym (c .before .before .is-outside .ensures) ∙ (c .before .if1 .left)) in omega (arith, span-small (c .before .before .before .before .before .before .before .before .before .args .f) (c .before .before .before .before .before .before .before .before .before .pre) (solidFaces (c .before .before .before .before .before .before .before .before .before .args .rows .now) (c .before .before .before .before .before .before .before .before .before .args .taken) (c .before .before .before .before .before .before .before .before .before .args .turned)) (w .fit), w .span-is, o, (c .before .before .before .before .before .before .before .before .before .pre) .f-held, (c .before .before .before .before .before .before .before .before .before .pre) .slender .fw-most)
-
 add-size : tie.Need-add-size
-add-size c = let w = weighed (c .before .before .before .before .before .before .before .before .before .args .f) (solidFaces (c .before .before .before .before .before .before .before .before .before .args .rows .now) (c .before .before .before .before .before .before .before .before .before .args .taken) (c .before .before .before .before .before .before .before .before .before .args .turned)) (sym ((c .before .before .before .before .weighed .given) .1) ∙ (c .before .before .before .before .before .before .weigh-all .ensures) (c .before .before .before .before .before .before .before .before .before .args .turned)) in let o = outside-false 4 (c .before .before .before .before .before .before .before .before .before .args .f .fmax) (length (solidFaces (c .before .before .before .before .before .before .before .before .before .args .rows .now) (c .before .before .before .before .before .before .before .before .before .args .taken) (c .before .before .before .before .before .before .before .before .before .args .turned))) (ap (outside 4 (c .before .before .before .before .before .before .before .before .before .args .f .fmax)) (sym (w .count-is)) ∙ sym (c .before .before .is-outside .ensures) ∙ (c .before .if1 .left)) in omega (arith, span-small (c .before .before .before .before .before .before .before .before .before .args .f) (c .before .before .before .before .before .before .before .before .before .pre) (solidFaces (c .before .before .before .before .before .before .before .before .before .args .rows .now) (c .before .before .before .before .before .before .before .before .before .args .taken) (c .before .before .before .before .before .before .before .before .before .args .turned)) (w .fit), w .span-is, o, (c .before .before .before .before .before .before .before .before .before .pre) .f-held, (c .before .before .before .before .before .before .before .before .before .pre) .slender .fw-most)
+add-size c = search needs
+
+add-size-2 : tie.Need-add-size-2
+add-size-2 c = let w = weighed (c .before .before .before .before .before .before .before .before .before .args .f) (solidFaces (c .before .before .before .before .before .before .before .before .before .args .rows .now) (c .before .before .before .before .before .before .before .before .before .args .taken) (c .before .before .before .before .before .before .before .before .before .args .turned)) (sym ((c .before .before .before .before .weighed .given) .1) ∙ (c .before .before .before .before .before .before .weigh-all .ensures) (c .before .before .before .before .before .before .before .before .before .args .turned)) in let o = outside-false 4 (c .before .before .before .before .before .before .before .before .before .args .f .fmax) (length (solidFaces (c .before .before .before .before .before .before .before .before .before .args .rows .now) (c .before .before .before .before .before .before .before .before .before .args .taken) (c .before .before .before .before .before .before .before .before .before .args .turned))) (ap (outside 4 (c .before .before .before .before .before .before .before .before .before .args .f .fmax)) (sym (w .count-is)) ∙ sym (c .before .before .is-outside .ensures) ∙ (c .before .if1 .left)) in omega (arith, span-small (c .before .before .before .before .before .before .before .before .before .args .f) (c .before .before .before .before .before .before .before .before .before .pre) (solidFaces (c .before .before .before .before .before .before .before .before .before .args .rows .now) (c .before .before .before .before .before .before .before .before .before .args .taken) (c .before .before .before .before .before .before .before .before .before .args .turned)) (w .fit), w .span-is, o, (c .before .before .before .before .before .before .before .before .before .pre) .f-held, (c .before .before .before .before .before .before .before .before .before .pre) .slender .fw-most)
+
+add-size-3 : tie.Need-add-size-3
+add-size-3 c = let w = weighed (c .before .before .before .before .before .before .before .before .before .args .f) (solidFaces (c .before .before .before .before .before .before .before .before .before .args .rows .now) (c .before .before .before .before .before .before .before .before .before .args .taken) (c .before .before .before .before .before .before .before .before .before .args .turned)) (sym ((c .before .before .before .before .weighed .given) .1) ∙ (c .before .before .before .before .before .before .weigh-all .ensures) (c .before .before .before .before .before .before .before .before .before .args .turned)) in let o = outside-false 4 (c .before .before .before .before .before .before .before .before .before .args .f .fmax) (length (solidFaces (c .before .before .before .before .before .before .before .before .before .args .rows .now) (c .before .before .before .before .before .before .before .before .before .args .taken) (c .before .before .before .before .before .before .before .before .before .args .turned))) (ap (outside 4 (c .before .before .before .before .before .before .before .before .before .args .f .fmax)) (sym (w .count-is)) ∙ sym (c .before .before .is-outside .ensures) ∙ (c .before .if1 .left)) in omega (arith, span-small (c .before .before .before .before .before .before .before .before .before .args .f) (c .before .before .before .before .before .before .before .before .before .pre) (solidFaces (c .before .before .before .before .before .before .before .before .before .args .rows .now) (c .before .before .before .before .before .before .before .before .before .args .taken) (c .before .before .before .before .before .before .before .before .before .args .turned)) (w .fit), w .span-is, o, (c .before .before .before .before .before .before .before .before .before .pre) .f-held, (c .before .before .before .before .before .before .before .before .before .pre) .slender .fw-most)
 
 refused-requires-3 : tie.Need-refused-requires-3
 refused-requires-3 c κs = search needs
@@ -53,7 +52,7 @@ returns-3 : tie.Need-returns-3
 returns-3 c = let w = weighed (c .before .before .before .before .before .before .before .before .before .before .before .args .f) (solidFaces (c .before .before .before .before .before .before .before .before .before .before .before .args .rows .now) (c .before .before .before .before .before .before .before .before .before .before .before .args .taken) (c .before .before .before .before .before .before .before .before .before .before .before .args .turned)) (sym ((c .before .before .before .before .before .before .weighed .given) .1) ∙ (c .before .before .before .before .before .before .before .before .weigh-all .ensures) (c .before .before .before .before .before .before .before .before .before .before .before .args .turned)) in let hb = size-is (c .before .before .before .before .before .before .before .before .before .before .before .args .f) (solidFaces (c .before .before .before .before .before .before .before .before .before .before .before .args .rows .now) (c .before .before .before .before .before .before .before .before .before .before .before .args .taken) (c .before .before .before .before .before .before .before .before .before .before .before .args .turned)) (w .span-is) in let r = result-short (c .before .before .before .before .before .before .before .before .before .before .before .args .f) (solidFaces (c .before .before .before .before .before .before .before .before .before .before .before .args .rows .now) (c .before .before .before .before .before .before .before .before .before .before .before .args .taken) (c .before .before .before .before .before .before .before .before .before .before .before .args .turned)) (c .before .before .before .before .before .before .before .before .before .before .before .args .room .now) (ap (outside 4 (c .before .before .before .before .before .before .before .before .before .before .before .args .f .fmax)) (sym (w .count-is)) ∙ sym (c .before .before .before .before .is-outside .ensures) ∙ (c .before .before .before .if1 .left)) (w .fit) (rw hb at (c .before .if2 .taken)) in ((c .refused3 .ensures) ∙ r .0, r .1)
 
 put-list-requires : tie.Need-put-list-requires
-put-list-requires c κs = let w = weighed (c .before .before .before .before .before .before .before .before .before .before .before .args .f) (solidFaces (c .before .before .before .before .before .before .before .before .before .before .before .args .rows .now) (c .before .before .before .before .before .before .before .before .before .before .before .args .taken) (c .before .before .before .before .before .before .before .before .before .before .before .args .turned)) (sym ((c .before .before .before .before .before .before .weighed .given) .1) ∙ (c .before .before .before .before .before .before .before .before .weigh-all .ensures) (c .before .before .before .before .before .before .before .before .before .before .before .args .turned)) in let hb = size-is (c .before .before .before .before .before .before .before .before .before .before .before .args .f) (solidFaces (c .before .before .before .before .before .before .before .before .before .before .before .args .rows .now) (c .before .before .before .before .before .before .before .before .before .before .before .args .taken) (c .before .before .before .before .before .before .before .before .before .before .before .args .turned)) (w .span-is) in let o = outside-false 4 (c .before .before .before .before .before .before .before .before .before .before .before .args .f .fmax) (length (solidFaces (c .before .before .before .before .before .before .before .before .before .before .before .args .rows .now) (c .before .before .before .before .before .before .before .before .before .before .before .args .taken) (c .before .before .before .before .before .before .before .before .before .before .before .args .turned))) (ap (outside 4 (c .before .before .before .before .before .before .before .before .before .before .before .args .f .fmax)) (sym (w .count-is)) ∙ sym (c .before .before .before .before .is-outside .ensures) ∙ (c .before .before .before .if1 .left)) in ((c .before .before .before .before .before .before .before .before .before .before .before .pre), w .fit, w .count-is, hb, (c .before .if2 .left), omega (arith, span-small (c .before .before .before .before .before .before .before .before .before .before .before .args .f) (c .before .before .before .before .before .before .before .before .before .before .before .pre) (solidFaces (c .before .before .before .before .before .before .before .before .before .before .before .args .rows .now) (c .before .before .before .before .before .before .before .before .before .before .before .args .taken) (c .before .before .before .before .before .before .before .before .before .before .before .args .turned)) (w .fit), w .span-is, o, (c .before .before .before .before .before .before .before .before .before .before .before .pre) .f-held, (c .before .before .before .before .before .before .before .before .before .before .before .pre) .slender .fw-most))
+put-list-requires c κs = let w = weighed (c .before .before .before .before .before .before .before .before .before .before .before .args .f) (solidFaces (c .before .before .before .before .before .before .before .before .before .before .before .args .rows .now) (c .before .before .before .before .before .before .before .before .before .before .before .args .taken) (c .before .before .before .before .before .before .before .before .before .before .before .args .turned)) (sym ((c .before .before .before .before .before .before .weighed .given) .1) ∙ (c .before .before .before .before .before .before .before .before .weigh-all .ensures) (c .before .before .before .before .before .before .before .before .before .before .before .args .turned)) in let hb = size-is (c .before .before .before .before .before .before .before .before .before .before .before .args .f) (solidFaces (c .before .before .before .before .before .before .before .before .before .before .before .args .rows .now) (c .before .before .before .before .before .before .before .before .before .before .before .args .taken) (c .before .before .before .before .before .before .before .before .before .before .before .args .turned)) (w .span-is) in let o = outside-false 4 (c .before .before .before .before .before .before .before .before .before .before .before .args .f .fmax) (length (solidFaces (c .before .before .before .before .before .before .before .before .before .before .before .args .rows .now) (c .before .before .before .before .before .before .before .before .before .before .before .args .taken) (c .before .before .before .before .before .before .before .before .before .before .before .args .turned))) (ap (outside 4 (c .before .before .before .before .before .before .before .before .before .before .before .args .f .fmax)) (sym (w .count-is)) ∙ sym (c .before .before .before .before .is-outside .ensures) ∙ (c .before .before .before .if1 .left)) in ((c .before .before .before .before .before .before .before .before .before .before .before .pre), w .fit, w .count-is, w .span-is, rw hb at (c .before .if2 .left), omega (arith, hb, span-small (c .before .before .before .before .before .before .before .before .before .before .before .args .f) (c .before .before .before .before .before .before .before .before .before .before .before .pre) (solidFaces (c .before .before .before .before .before .before .before .before .before .before .before .args .rows .now) (c .before .before .before .before .before .before .before .before .before .before .before .args .taken) (c .before .before .before .before .before .before .before .before .before .before .before .args .turned)) (w .fit), w .span-is, o, (c .before .before .before .before .before .before .before .before .before .before .before .pre) .f-held, (c .before .before .before .before .before .before .before .before .before .before .before .pre) .slender .fw-most))
 
 same-length : tie.Need-same-length
 same-length c = search needs
@@ -63,7 +62,7 @@ returns-4 c =
     let w = weighed (c .before .before .before .before .before .before .before .before .before .before .before .before .before .before .args .f) (solidFaces (c .before .before .before .before .before .before .before .before .before .before .before .before .before .before .args .rows .now) (c .before .before .before .before .before .before .before .before .before .before .before .before .before .before .args .taken) (c .before .before .before .before .before .before .before .before .before .before .before .before .before .before .args .turned)) (sym ((c .before .before .before .before .before .before .before .before .before .weighed .given) .1) ∙ (c .before .before .before .before .before .before .before .before .before .before .before .weigh-all .ensures) (c .before .before .before .before .before .before .before .before .before .before .before .before .before .before .args .turned)) in
     let hb = size-is (c .before .before .before .before .before .before .before .before .before .before .before .before .before .before .args .f) (solidFaces (c .before .before .before .before .before .before .before .before .before .before .before .before .before .before .args .rows .now) (c .before .before .before .before .before .before .before .before .before .before .before .before .before .before .args .taken) (c .before .before .before .before .before .before .before .before .before .before .before .before .before .before .args .turned)) (w .span-is) in
     let r = result-fine (c .before .before .before .before .before .before .before .before .before .before .before .before .before .before .args .f) (solidFaces (c .before .before .before .before .before .before .before .before .before .before .before .before .before .before .args .rows .now) (c .before .before .before .before .before .before .before .before .before .before .before .before .before .before .args .taken) (c .before .before .before .before .before .before .before .before .before .before .before .before .before .before .args .turned)) (c .before .before .before .before .before .before .before .before .before .before .before .before .before .before .args .room .now) (ap (outside 4 (c .before .before .before .before .before .before .before .before .before .before .before .before .before .before .args .f .fmax)) (sym (w .count-is)) ∙ sym (c .before .before .before .before .before .before .before .is-outside .ensures) ∙ (c .before .before .before .before .before .before .if1 .left)) (w .fit) (rw hb at (c .before .before .before .before .if2 .left)) in
-    (ap (λ (t : ℕ). Bytes (bytesFor t)) hb ∙ r .0, (c .before .before .put-list .ensures) ∙ ap (λ (t : ℕ). encodeFaces (c .before .before .before .before .before .before .before .before .before .before .before .before .before .before .args .f) (solidFaces (c .before .before .before .before .before .before .before .before .before .before .before .before .before .before .args .rows .now) (c .before .before .before .before .before .before .before .before .before .before .before .before .before .before .args .taken) (c .before .before .before .before .before .before .before .before .before .before .before .before .before .before .args .turned)) ++ drop (bytesFor t) (c .before .before .before .before .before .before .before .before .before .before .before .before .before .before .args .room .now)) hb ∙ r .1)
+    (ap (λ (t : ℕ). Bytes (bytesFor t)) hb ∙ r .0, (c .before .before .put-list .ensures) ∙ r .1)
 
 pub write-spec : {M : Type 1} → statement M
 write-spec =
@@ -77,9 +76,9 @@ write-spec =
     is-outside-requires
     refused-requires-2
     returns-2
-    add-bits
-    add-bits-2
     add-size
+    add-size-2
+    add-size-3
     refused-requires-3
     returns-3
     put-list-requires
