@@ -1,5 +1,5 @@
-//! Document 01 in plain Rust: the modules up to `desk` are the clear version, `fast` is the quick one, and `gen` and
-//! `rows` make drawings and cases.
+//! Document 01 in plain Rust: the modules up to `desk` are the clear version, `fast` is the quick one, and `gen`,
+//! `rows` and `trial` make drawings and cases.
 pub mod bits;
 pub mod check;
 pub mod clash;
@@ -22,3 +22,4 @@ pub mod walk;
 pub mod fast;
 pub mod gen;
 pub mod rows;
+pub mod trial;

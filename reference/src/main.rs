@@ -38,6 +38,12 @@ reference: document 01 in plain Rust, in a clear version and a fast one
       --seed S               (1)
       --cap C                the most solids reported, 1 to 8 (8); not for the desk, which has 8
       --size small|any       small: 4 to 10 vertices mostly, a few up to 16, little work (small)
+
+  reference trial KIND DIR
+      writes what a trial program reads, DIR/stdin, and what it must print, DIR/stdout. KIND is sheet (sheets read and
+      written back) or geometry (drawing rules 11 to 14, and clash and cover of faces)
+      --count N              generated cases of each sort (200)
+      --seed S               (11)
 ";
 
 fn main() -> ExitCode {
@@ -58,6 +64,7 @@ fn run(args: Args) -> Result<(), String> {
         Some("stats") => command::stats::stats(&args),
         Some("bench") => command::bench::bench(&args),
         Some("rows") => command::texts::rows(&args),
+        Some("trial") => command::trial::trial(&args),
         Some("help") | None => {
             print!("{HELP}");
             Ok(())

@@ -4,3 +4,4 @@ pub mod bench;
 pub mod corpus;
 pub mod stats;
 pub mod texts;
+pub mod trial;

@@ -44,7 +44,7 @@ pub fn damaged_sheet(r: &mut Rng, base: &Drawing, number: u32) -> Vec<u8> {
 }
 
 /// Overwrites a field.
-fn put(mut sheet: Vec<u8>, at: usize, width: usize, value: u32) -> Vec<u8> {
+pub fn put(mut sheet: Vec<u8>, at: usize, width: usize, value: u32) -> Vec<u8> {
     for k in 0..width {
         let (byte, bit) = ((at + k) / 8, 0x80 >> ((at + k) % 8));
         sheet[byte] &= !bit;

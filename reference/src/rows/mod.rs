@@ -11,6 +11,8 @@ use crate::gen::sheets::counted_drawing;
 use crate::numbers::*;
 use json::{Json, Object};
 
+pub use sheets::sheet_to_read;
+
 /// The kinds of rows take turns: row n is of kind n modulo 6.
 pub const KINDS: [&str; 6] = ["drawing", "sheet", "write", "pair", "list", "desk"];
 

@@ -13,7 +13,8 @@ fn number<T>(read: Result<T, Refusal>) -> u32 {
     read.map_or_else(|refusal| refusal.number, |_| 0)
 }
 
-pub fn sheet_row(r: &mut Rng, order: &Order, turn: usize) -> Object {
+/// A sheet aimed in turn at none and each of 3 to 10.
+pub fn sheet_to_read(r: &mut Rng, order: &Order, turn: usize) -> Vec<u8> {
     let aim = [0, 0, 3, 4, 5, 6, 7, 8, 9, 10][turn % 10];
     let make = |r: &mut Rng| {
         let base = order.size.drawing(r);
@@ -23,7 +24,11 @@ pub fn sheet_row(r: &mut Rng, order: &Order, turn: usize) -> Object {
             _ => damaged_sheet(r, &base, aim),
         }
     };
-    let sheet = aimed(r, make, |sheet| number(fast::Drawing::read(Source::Sheet(sheet))) == aim);
+    aimed(r, make, |sheet| number(fast::Drawing::read(Source::Sheet(sheet))) == aim)
+}
+
+pub fn sheet_row(r: &mut Rng, order: &Order, turn: usize) -> Object {
+    let sheet = sheet_to_read(r, order, turn);
     let answer = match read_sheet(&sheet) {
         Ok(d) => {
             let (xyz, ends) = d.lists();

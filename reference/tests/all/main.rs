@@ -10,3 +10,4 @@ mod places;
 mod refusals;
 mod rows;
 mod subsets;
+mod trials;

@@ -1,0 +1,21 @@
+//! `trial`: input and expected output of the trial programs.
+use super::args::Args;
+use nibgravel_reference::numbers::MOST_SOLIDS;
+use nibgravel_reference::rows::{Order, SMALL};
+use nibgravel_reference::trial::{geometry, sheets};
+use std::fs;
+use std::path::Path;
+
+pub fn trial(args: &Args) -> Result<(), String> {
+    args.allow(&["count", "seed"])?;
+    let (count, seed) = (args.number("count", 200)?, args.number("seed", 11)?);
+    let trial = match args.word(1) {
+        Some("sheet") => sheets(&Order { seed, cap: MOST_SOLIDS, size: SMALL }, count),
+        Some("geometry") => geometry(seed, count),
+        _ => return Err("a trial is of kind sheet or geometry".to_string()),
+    };
+    let dir = Path::new(args.path(2)?);
+    fs::write(dir.join("stdin"), trial.input)
+        .and_then(|()| fs::write(dir.join("stdout"), trial.output))
+        .map_err(|e| format!("{}: {e}", dir.display()))
+}

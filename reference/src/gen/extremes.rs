@@ -1,0 +1,57 @@
+//! Sheets at the ends of what a sheet can hold: the smallest and the largest drawing, and each of 3 to 10 at its first
+//! and its last place.
+use super::damage::put;
+use super::known::tetrahedron;
+use super::maker::pairs;
+use crate::drawing::Drawing;
+use crate::numbers::*;
+use crate::sheet::pack_sheet;
+
+/// As many vertices and edges as a sheet holds.
+pub fn largest() -> Drawing {
+    let count = *VERTICES.end();
+    let place = |i: i64| [1_000 - i, i * i - 1_000, 7 * i];
+    let edges = pairs(count, |_, _| true)[..*EDGES.end()].to_vec();
+    Drawing { vertices: (0..count as i64).map(place).collect(), edges }
+}
+
+pub fn extreme_sheets() -> Vec<Vec<u8>> {
+    let (small, large) = (pack_sheet(&tetrahedron()), pack_sheet(&largest()));
+    let mut sheets = vec![small.clone(), large.clone(), vec![], small[..2].to_vec()];
+    sheets.extend(wrong_heads(&small));
+    sheets.extend(wrong_ends(&small));
+    sheets.extend(wrong_ends(&large));
+    sheets.extend([(0, 0), (31, 2)].map(|(vertex, axis)| {
+        let mut d = largest();
+        d.vertices[vertex][axis] = COORDINATE.end() + 1;
+        pack_sheet(&d)
+    }));
+    sheets.extend(wrong_edges());
+    sheets
+}
+
+/// 4 and 5.
+fn wrong_heads(sheet: &[u8]) -> Vec<Vec<u8>> {
+    let head = |at: usize, width: usize, values: &[u32]| -> Vec<Vec<u8>> {
+        values.iter().map(|value| put(sheet.to_vec(), at, width, *value)).collect()
+    };
+    let vertices = head(width::EDITION, width::VERTICES, &[0, 3, 33, 63]);
+    let edges = head(width::EDITION + width::VERTICES, width::EDGES, &[0, 5, 65, 127]);
+    [head(0, width::EDITION, &[0, 2, 15]), vertices, edges].concat()
+}
+
+/// 6 and 7: a byte less, a byte more, the last bit set.
+fn wrong_ends(sheet: &[u8]) -> [Vec<u8>; 3] {
+    let last = sheet.len() - 1;
+    [sheet[..last].to_vec(), [sheet, &[0]].concat(), put(sheet.to_vec(), 8 * last + 7, 1, 1)]
+}
+
+/// 9, where an end is no vertex or the ends don't rise, and 10, where an edge is that before or lower.
+fn wrong_edges() -> [Vec<u8>; 7] {
+    let edges = [(0, (0, 4)), (5, (2, 31)), (0, (1, 1)), (5, (3, 3)), (1, (0, 1)), (5, (1, 3)), (5, (0, 1))];
+    edges.map(|(e, edge)| {
+        let mut d = tetrahedron();
+        d.edges[e] = edge;
+        pack_sheet(&d)
+    })
+}
