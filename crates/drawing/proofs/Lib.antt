@@ -1,7 +1,7 @@
--- Laws of the drawing rules. `Digits`, `Words`, `Wires` and `Checks` are cited by callers too.
+-- Laws of the drawing rules. `Digits`, `Words`, `Wires` and `Accepted` are cited by callers too.
 pub mod Digits
 pub mod Wires
 pub mod Words
 pub mod Meeting
 pub mod Reach
-pub mod Checks
+pub mod Accepted

@@ -7,13 +7,12 @@ mod segments;
 ghost use mathlib.Core.Path.{_≡_};
 ghost use Prim.Native.Nat.{_≤_, _<_};
 ghost use Rattle.paper.specs.Format.{one};
-ghost use Rattle.paper.specs.Refusals.{firstOf, refuse};
+ghost use Rattle.paper.specs.Refusals.{firstOf};
 ghost use Rattle.paper.specs.Drawing.{edgesOf, wire, drawingChecks};
 ghost use Rattle.drawing.specs.InRange.{Ends, InRange};
 ghost use Rattle.drawing.specs.Neighbours.{neighbourWords};
 use paper::Answer;
 use paper::MOST_VERTICES;
-use paper::Refusal;
 
 pub fn drawing_rules(xyz: &[i64], ends: &[u8]) -> Answer
     requires { ⌜ InRange (now xyz) (now ends) ⌝ }
@@ -55,12 +54,6 @@ pub fn neighbours(ends: &[u8], v: usize) -> [u64; MOST_VERTICES]
         e += 1;
     }
     near
-}
-
-fn refused(number: u8, place: usize) -> Answer
-    ensures { λ r. ⌜ r ≡ refuse number place ⌝ }
-{
-    Answer::Refused(Refusal { number, place })
 }
 
 // A byte of a list asks only for its index where it is widened by a call.

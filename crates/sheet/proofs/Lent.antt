@@ -33,13 +33,19 @@ or-right false b e = e
 pub record Contents (v : ℕ) (xyz : List ℤ) (ends : List ℕ) : Type 0 where
   pub near : Near xyz
   pub below : (k : ℕ) → k < length ends / 2 * 2 → getD ends k 0 < v
+  pub rising : (e : ℕ) → e < length ends / 2 → getD ends (2 * e) 0 < getD ends (2 * e + 1) 0
 
 pub contents : (v : ℕ) (xyz : List ℤ) (ends : List ℕ) → Fine ≡ firstOf (contentChecks v xyz ends) → Contents v xyz ends
 unfolding contentChecks edgeChecks farAt wrongAt
 contents v xyz ends h =
     let p8 = found-none _ _ h in
     let p9 = found-none _ _ (p8 .1) in
-    record { near = λ k. near-at k (ltb k (length xyz)) refl (lowest-none (farAt xyz) (length xyz) (p8 .0)); below = λ k u. below-at k u (lowest-none (wrongAt v ends) (length ends / 2) (p9 .0)) }
+    let right = lowest-none (wrongAt v ends) (length ends / 2) (p9 .0) in
+    record {
+      near = λ k. near-at k (ltb k (length xyz)) refl (lowest-none (farAt xyz) (length xyz) (p8 .0));
+      below = λ k u. below-at k u right;
+      rising = λ e u. leb-false (getD ends (2 * e + 1) 0) _ (or-right (leb v (getD ends (2 * e + 1) 0)) _ (or-right (leb v (getD ends (2 * e) 0)) _ (right e u)));
+    }
   where
     near-at : (k : ℕ) (b : Bool) → ltb k (length xyz) ≡ b → ((j : ℕ) → j < length xyz → farAt xyz j ≡ false) → far (getD xyz k (pos 0)) ≡ false
     near-at k true t q = q k (ltb-true k (length xyz) t)

@@ -3,6 +3,7 @@ pub mod Sizes
 pub mod Shaped
 pub mod Coordinate
 pub mod Drawn
+pub mod Accepted
 pub mod Lent
 pub mod Encoded
 pub mod Written

@@ -20,6 +20,7 @@ use Rattle.paper.specs.declared.Format.{Format}
 use Rattle.paper.specs.declared.Answer.{Answer}
 use Rattle.paper.specs.declared.Drawing.{Drawing}
 use Rattle.paper.specs.declared.Answer.the-variants.{Fine}
+use Rattle.sheet.proofs.Accepted.{accepted-shape, accepted-contents, coordinates-are, ends-are}
 use Rattle.sheet.proofs.Coordinate.{onSheet-coordinate}
 use Rattle.sheet.proofs.Drawn.{length-coordinates, length-ends}
 use Rattle.sheet.proofs.Shaped.{Shaped, shaped}
@@ -86,39 +87,19 @@ good-count : (k lo hi n m : ℕ) → n % k ≡ 0 → n / k ≡ m → lo ≤ m �
 good-count k lo hi n m w e a b = rw (eq-eqb (n % k) 0 w, e) (inside lo hi m a b)
 
 module _ (f : Format) (s : List ℕ) (h : Fine ≡ firstOf (sheetChecks f s)) where
-  both : (Fine ≡ firstOf (shapeChecks f s)) × (Fine ≡ firstOf (contentChecks (verticesIn f s) (coordinatesIn f s) (endsIn f s)))
-  unfolding sheetChecks
-  both = first-both (shapeChecks f s) _ h
-
-  pub accepted-shape : Shaped f s
-  accepted-shape = shaped f s (both .0)
-
   -- the writer takes what the reader accepted
   pub accepted-lent : Fine ≡ firstOf (lentChecks f (coordinatesIn f s) (endsIn f s))
   unfolding lentChecks
   accepted-lent =
-      let g = accepted-shape in
+      let g = accepted-shape f s h in
       let k = g .counts-are in
       let w3 : length (coordinatesIn f s) % 3 ≡ 0 = rw (length-coordinates f s) (omega arith) in
       let w2 : length (endsIn f s) % 2 ≡ 0 = rw (length-ends f s) (omega arith) in
-      both .1
+      accepted-contents f s h
       ∙ ap (λ (n : ℕ). firstOf (contentChecks n (coordinatesIn f s) (endsIn f s))) (sym (v-is f s g))
       ∙ fails _ _ _ (ap₂ (λ (a b : ℕ). low f a b) (v-is f s g) (e-is f s g) ∙ k .high)
       ∙ fails _ _ _ (good-count 2 6 (f .emax) (length (endsIn f s)) (edgesIn f s) w2 (e-is f s g) (k .e-least) (k .e-most))
       ∙ fails _ _ _ (good-count 3 4 (f .vmax) (length (coordinatesIn f s)) (verticesIn f s) w3 (v-is f s g) (k .v-least) (k .v-most))
-
--- ---- the drawing that reading the sheet returns has these lists
-
-module _ (f : Format) (s : List ℕ) (h : Fine ≡ firstOf (sheetChecks f s)) where
-  pub returns : sheetOf f s .drawing ≡ held (verticesIn f s) (edgesIn f s) (coordinatesIn f s) (endsIn f s)
-  unfolding sheetOf
-  returns = ap (λ (a : Answer). drawnFor a (held (verticesIn f s) (edgesIn f s) (coordinatesIn f s) (endsIn f s))) (sym h)
-
-  pub coordinates-are : coordinatesIn f s ≡ take (3 * sheetOf f s .drawing .vertices) (sheetOf f s .drawing .xyz)
-  coordinates-are = rw returns (sym (take-padded (coordinatesIn f s) 96 (3 * verticesIn f s) (pos 0) (length-coordinates f s)))
-
-  pub ends-are : endsIn f s ≡ take (2 * sheetOf f s .drawing .edges) (sheetOf f s .drawing .ends)
-  ends-are = rw returns (sym (take-padded (endsIn f s) 128 (2 * edgesIn f s) 0 (length-ends f s)))
 
 pub same-lists : (f : Format) (s t : List ℕ) → Fine ≡ firstOf (sheetChecks f s) → Fine ≡ firstOf (sheetChecks f t) → sheetOf f s .drawing ≡ sheetOf f t .drawing
     → (coordinatesIn f s ≡ coordinatesIn f t) × (endsIn f s ≡ endsIn f t)

@@ -10,7 +10,7 @@ use Rattle.paper.specs.Format.{one}
 use Rattle.paper.specs.Refusals.{Apart, Check, EdgeMeets, LooseVertex, SamePlace, check, firstOf}
 use Rattle.drawing.specs.InRange.{Ends, Points}
 use Rattle.drawing.specs.Neighbours.{Links}
-use Rattle.drawing.proofs.Checks.{first-passed, first-refused}
+use Rattle.laws.proofs.Checks.{first-stops, first-passes}
 use Rattle.drawing.proofs.Wires.{vertex-count}
 use Rattle.drawing.proofs.Words.{links-are}
 use Rattle.drawing.proofs.drawing_rules.Statement.{statement}
@@ -59,12 +59,12 @@ passed-11 : (c : tie.After-enum-told2) → firstOf (c12 (c .before .before .befo
 unfolding wire drawingChecks
 passed-11 c =
     let s = c .before .before .before .before in
-    first-passed (c11 s) (c12 s ∷ c13 s ∷ c14 s ∷ []) (c .before .before .same-place .ensures (D s) refl) (c .enum-told2 .given .1)
+    first-passes (c11 s ∷ []) (c12 s ∷ c13 s ∷ c14 s ∷ []) (sym (c .enum-told2 .given .1) ∙ c .before .before .same-place .ensures (D s) refl)
 
 passed-12 : (c : tie.After-enum-told4) → firstOf (c13 (c .before .before .before .before .before .before .before .before .before) ∷ c14 (c .before .before .before .before .before .before .before .before .before) ∷ []) ≡ firstOf (drawingChecks (D (c .before .before .before .before .before .before .before .before .before)))
 passed-12 c =
     let s = c .before .before .before .before .before .before .before .before .before in
-    first-passed (c12 s) (c13 s ∷ c14 s ∷ []) (c .before .before .loose-vertex .ensures (D s) (links (c .before .before .before .before))) (c .enum-told4 .given .1)
+    first-passes (c12 s ∷ []) (c13 s ∷ c14 s ∷ []) (sym (c .enum-told4 .given .1) ∙ c .before .before .loose-vertex .ensures (D s) (links (c .before .before .before .before)))
     ∙ passed-11 (c .before .before .before .before .before)
 
 same-place-requires : tie.Need-same-place-requires
@@ -77,7 +77,7 @@ returns : tie.Need-returns
 unfolding wire drawingChecks
 returns c =
     let s = c .before .before .before .before in
-    first-refused (c11 s) (c12 s ∷ c13 s ∷ c14 s ∷ []) (c .before .before .same-place .ensures (D s) refl) (c .enum-told .given .1)
+    c .enum-told .given .1 ∙ first-stops (c11 s ∷ []) (c12 s ∷ c13 s ∷ c14 s ∷ []) (sym (c .enum-told .given .1) ∙ c .before .before .same-place .ensures (D s) refl)
 
 enum-told-2 : tie.Need-enum-told-2
 enum-told-2 c = search needs
@@ -94,7 +94,7 @@ enum-told-3 c = search needs
 returns-2 : tie.Need-returns-2
 returns-2 c =
     let s = c .before .before .before .before .before .before .before .before .before in
-    first-refused (c12 s) (c13 s ∷ c14 s ∷ []) (c .before .before .loose-vertex .ensures (D s) (links (c .before .before .before .before))) (c .enum-told3 .given .1) ∙ passed-11 (c .before .before .before .before .before)
+    c .enum-told3 .given .1 ∙ first-stops (c12 s ∷ []) (c13 s ∷ c14 s ∷ []) (sym (c .enum-told3 .given .1) ∙ c .before .before .loose-vertex .ensures (D s) (links (c .before .before .before .before))) ∙ passed-11 (c .before .before .before .before .before)
 
 enum-told-4 : tie.Need-enum-told-4
 enum-told-4 c = search needs
@@ -108,7 +108,7 @@ enum-told-5 c = search needs
 returns-3 : tie.Need-returns-3
 returns-3 c =
     let s = c .before .before .before .before .before .before .before .before .before .before .before .before in
-    first-refused (c13 s) (c14 s ∷ []) (c .before .before .edge-meets .ensures) (c .enum-told5 .given .1) ∙ passed-12 (c .before .before .before)
+    c .enum-told5 .given .1 ∙ first-stops (c13 s ∷ []) (c14 s ∷ []) (sym (c .enum-told5 .given .1) ∙ c .before .before .edge-meets .ensures) ∙ passed-12 (c .before .before .before)
 
 enum-told-6 : tie.Need-enum-told-6
 enum-told-6 c = search needs
@@ -119,7 +119,7 @@ apart-requires c κs = search needs
 returns-4 : tie.Need-returns-4
 returns-4 c =
     let s = c .before .before .before .before .before .before .before .before .before .before .before .before .before .before in
-    c .apart .ensures (D s) (links (c .before .before .before .before .before .before .before .before .before)) ∙ first-passed (c13 s) (c14 s ∷ []) (c .before .before .before .before .edge-meets .ensures) (c .before .before .enum-told6 .given .1) ∙ passed-12 (c .before .before .before .before .before)
+    c .apart .ensures (D s) (links (c .before .before .before .before .before .before .before .before .before)) ∙ first-passes (c13 s ∷ []) (c14 s ∷ []) (sym (c .before .before .enum-told6 .given .1) ∙ c .before .before .before .before .edge-meets .ensures) ∙ passed-12 (c .before .before .before .before .before)
 
 pub drawing-rules-spec : {M : Type 1} → statement M
 drawing-rules-spec =

@@ -1,3 +1,4 @@
+use mathlib.Core.List.{[]}
 use mathlib.Core.Bool.{Bool, false, not}
 use mathlib.Core.Path.{_∙_, _≡_, ap, sym}
 use Prim.Native.Nat.{_-_, _≤_, ℕ}
@@ -7,10 +8,10 @@ use denote.Ref.{now}
 use borrow.Author.Needs.{needs}
 use Rattle.lists.proofs.Search.{LowestLeft, lowest-end, lowest-hit, lowest-miss, lowest-start}
 use Rattle.lists.specs.Lists.{lowest}
+use Rattle.laws.proofs.Checks.{clear, stops, passes}
 use Rattle.paper.specs.Drawing.{Wire, apart, reached}
 use Rattle.paper.specs.Refusals.{Apart}
 use Rattle.drawing.specs.Neighbours.{Links}
-use Rattle.drawing.proofs.Checks.{passed, refused}
 use Rattle.drawing.proofs.links.apart.Statement.{statement}
 use Rattle.drawing.proofs.links.apart.Tie as tie
 
@@ -48,7 +49,7 @@ returns : tie.Need-returns Inv-loop μ-loop
 returns c =
     let v = c .before .before .before .before .before .before .args .v in
     let l = c .before .before .before .before .loop in
-    λ d k. c .refused .ensures ∙ refused Apart (sym (answer d (k .count)) ∙ lowest-hit (Missing d v) v (l .w) (omega arith) (l .inv .1 d k) (here (c .before .before) (c .before .if1 .taken) d k))
+    λ d k. c .refused .ensures ∙ stops Apart [] (sym (sym (answer d (k .count)) ∙ lowest-hit (Missing d v) v (l .w) (omega arith) (l .inv .1 d k) (here (c .before .before) (c .before .if1 .taken) d k)))
 
 add-w : tie.Need-add-w Inv-loop μ-loop
 add-w c = omega arith
@@ -66,7 +67,7 @@ returns-2 : tie.Need-returns-2 Inv-loop μ-loop
 returns-2 c =
     let v = c .before .before .before .args .v in
     let l = c .before .loop in
-    λ d k. passed Apart (sym (answer d (k .count)) ∙ lowest-end (Missing d v) v (l .w) (omega arith) (l .inv .1 d k))
+    λ d k. clear ∙ passes Apart [] (sym (sym (answer d (k .count)) ∙ lowest-end (Missing d v) v (l .w) (omega arith) (l .inv .1 d k)))
 
 pub apart-spec : {M : Type 1} → statement M
 apart-spec =

@@ -1,3 +1,4 @@
+use mathlib.Core.List.{[]}
 use mathlib.Core.Bool.{Bool, not}
 use mathlib.Core.Path.{_∙_, ap, sym}
 use Prim.Native.Nat.{_-_, _≤_, ℕ}
@@ -6,10 +7,10 @@ use borrow.Author.Needs.{needs}
 use borrow.Author.Tests.{eq-eqb, ne-eqb}
 use Rattle.lists.proofs.Search.{LowestLeft, lowest-end, lowest-hit, lowest-miss, lowest-start}
 use Rattle.lists.specs.Lists.{any, lowest}
+use Rattle.laws.proofs.Checks.{clear, stops, passes}
 use Rattle.paper.specs.Drawing.{Wire, ends, looseVertex}
 use Rattle.paper.specs.Refusals.{LooseVertex}
 use Rattle.drawing.specs.Neighbours.{Links}
-use Rattle.drawing.proofs.Checks.{passed, refused}
 use Rattle.drawing.proofs.Words.{loose-is}
 use Rattle.drawing.proofs.links.loose_vertex.Statement.{statement}
 use Rattle.drawing.proofs.links.loose_vertex.Tie as tie
@@ -39,7 +40,7 @@ returns : tie.Need-returns Inv-loop μ-loop
 unfolding looseVertex
 returns c =
     let l = c .before .before .before .before .loop in
-    λ d k. c .refused .ensures ∙ refused LooseVertex (ap (lowest (Loose d)) (k .count) ∙ lowest-hit (Loose d) (c .before .before .before .before .before .args .v) (l .u) (omega arith) (l .inv .1 d k) (sym (loose-is k (l .u) (omega arith)) ∙ eq-eqb _ 0 (c .before .if1 .taken)))
+    λ d k. c .refused .ensures ∙ stops LooseVertex [] (sym (ap (lowest (Loose d)) (k .count) ∙ lowest-hit (Loose d) (c .before .before .before .before .before .args .v) (l .u) (omega arith) (l .inv .1 d k) (sym (loose-is k (l .u) (omega arith)) ∙ eq-eqb _ 0 (c .before .if1 .taken))))
 
 add-u : tie.Need-add-u Inv-loop μ-loop
 add-u c = omega arith
@@ -56,7 +57,7 @@ returns-2 : tie.Need-returns-2 Inv-loop μ-loop
 unfolding looseVertex
 returns-2 c =
     let l = c .before .loop in
-    λ d k. passed LooseVertex (ap (lowest (Loose d)) (k .count) ∙ lowest-end (Loose d) (c .before .before .args .v) (l .u) (omega arith) (l .inv .1 d k))
+    λ d k. clear ∙ passes LooseVertex [] (sym (ap (lowest (Loose d)) (k .count) ∙ lowest-end (Loose d) (c .before .before .args .v) (l .u) (omega arith) (l .inv .1 d k)))
 
 pub loose-vertex-spec : {M : Type 1} → statement M
 loose-vertex-spec =

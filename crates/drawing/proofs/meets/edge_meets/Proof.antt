@@ -1,3 +1,4 @@
+use mathlib.Core.List.{[]}
 use mathlib.Core.Bool.{Bool}
 use mathlib.Core.Path.{_∙_, _≡_, sym}
 use Prim.Native.Nat.{_-_, _≤_, ℕ}
@@ -6,10 +7,10 @@ use lib.ListN.{length}
 use denote.Ref.{now}
 use borrow.Author.Needs.{needs}
 use Rattle.lists.proofs.Search.{LowestLeft, lowest-end, lowest-hit, lowest-miss, lowest-start}
+use Rattle.laws.proofs.Checks.{clear, stops, passes}
 use Rattle.paper.specs.Drawing.{edgeMeets, edgesOf, ends, wire}
 use Rattle.paper.specs.Refusals.{EdgeMeets}
 use Rattle.drawing.specs.Meets.{meetsAt}
-use Rattle.drawing.proofs.Checks.{passed, refused}
 use Rattle.drawing.proofs.Wires.{edge-count, half-count}
 use Rattle.drawing.proofs.meets.edge_meets.Statement.{statement}
 use Rattle.drawing.proofs.meets.edge_meets.Tie as tie
@@ -44,7 +45,7 @@ unfolding edgeMeets wire
 returns c =
     let s = c .before .before .before .before .before .before in
     let l = c .before .before .before .before .loop in
-    c .refused .ensures ∙ refused EdgeMeets (lowest-hit (Meets s) (M s) (l .e) (omega arith) (l .inv .2) (sym (c .before .before .meets .ensures) ∙ c .before .if1 .taken))
+    c .refused .ensures ∙ stops EdgeMeets [] (sym (lowest-hit (Meets s) (M s) (l .e) (omega arith) (l .inv .2) (sym (c .before .before .meets .ensures) ∙ c .before .if1 .taken)))
 
 add-e : tie.Need-add-e Inv-loop μ-loop
 add-e c = omega arith
@@ -63,7 +64,7 @@ unfolding edgeMeets wire
 returns-2 c =
     let s = c .before .before .before in
     let l = c .before .loop in
-    passed EdgeMeets (lowest-end (Meets s) (M s) (l .e) (omega arith) (l .inv .2))
+    clear ∙ passes EdgeMeets [] (sym (lowest-end (Meets s) (M s) (l .e) (omega arith) (l .inv .2)))
 
 pub edge-meets-spec : {M : Type 1} → statement M
 edge-meets-spec =

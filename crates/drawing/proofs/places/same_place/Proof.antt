@@ -1,3 +1,4 @@
+use mathlib.Core.List.{[]}
 use mathlib.Core.Bool.{Bool}
 use mathlib.Core.Path.{_∙_, _≡_, ap, sym}
 use Prim.Native.Nat.{_-_, _≤_}
@@ -6,9 +7,9 @@ use denote.Ref.{now}
 use borrow.Author.Needs.{needs}
 use Rattle.lists.proofs.Search.{LowestLeft, lowest-end, lowest-hit, lowest-miss, lowest-start}
 use Rattle.lists.specs.Lists.{lowest}
+use Rattle.laws.proofs.Checks.{clear, stops, passes}
 use Rattle.paper.specs.Drawing.{Wire, pointsOf, samePlace}
 use Rattle.paper.specs.Refusals.{SamePlace}
-use Rattle.drawing.proofs.Checks.{passed, refused}
 use Rattle.drawing.proofs.Meeting.{drawn-count, shared, shared-is}
 use Rattle.drawing.proofs.places.same_place.Statement.{statement}
 use Rattle.drawing.proofs.places.same_place.Tie as tie
@@ -37,7 +38,7 @@ unfolding samePlace
 returns c =
     let s = c .before .before .before .before .before in
     let l = c .before .before .before .before .loop in
-    λ d k. c .refused .ensures ∙ refused SamePlace (ap (lowest (shared d)) (drawn-count (s .pre) d k) ∙ lowest-hit (shared d) (s .args .v) (l .u) (omega arith) (l .inv .1 d k) (here (c .before .before) (c .before .if1 .taken) d k))
+    λ d k. c .refused .ensures ∙ stops SamePlace [] (sym (ap (lowest (shared d)) (drawn-count (s .pre) d k) ∙ lowest-hit (shared d) (s .args .v) (l .u) (omega arith) (l .inv .1 d k) (here (c .before .before) (c .before .if1 .taken) d k)))
 
 add-u : tie.Need-add-u Inv-loop μ-loop
 add-u c = omega arith
@@ -55,7 +56,7 @@ unfolding samePlace
 returns-2 c =
     let s = c .before .before in
     let l = c .before .loop in
-    λ d k. passed SamePlace (ap (lowest (shared d)) (drawn-count (s .pre) d k) ∙ lowest-end (shared d) (s .args .v) (l .u) (omega arith) (l .inv .1 d k))
+    λ d k. clear ∙ passes SamePlace [] (sym (ap (lowest (shared d)) (drawn-count (s .pre) d k) ∙ lowest-end (shared d) (s .args .v) (l .u) (omega arith) (l .inv .1 d k)))
 
 pub same-place-spec : {M : Type 1} → statement M
 same-place-spec =
