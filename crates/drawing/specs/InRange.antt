@@ -3,10 +3,11 @@ use mathlib.Core.Path.{_≡_}
 use mathlib.Core.List.{List}
 use Prim.Native.Nat.{ℕ, _+_, _*_, _≤_, _<_}
 use lib.IntN.{ℤ, pos}
-use lib.ListN.{length, getD}
+use lib.ListN.{length, getD, take}
 use Rattle.exact.specs.Size.{Within}
 use Rattle.paper.specs.Numbers.{farthest}
 use Rattle.paper.specs.Format.{one, leastVertices, leastEdges}
+use Rattle.paper.specs.declared.Drawing.{Drawing}
 
 -- three coordinates for each of v vertices
 pub record Points (xyz : List ℤ) (v : ℕ) : Type 0 where
@@ -28,3 +29,13 @@ pub record InRange (xyz : List ℤ) (ends : List ℕ) : Type 0 where
   pub most : vertices ≤ one .vmax
   pub points : Points xyz vertices
   pub links : Ends ends vertices
+
+-- a drawing by value, whose lists have room for more
+pub record Held (d : Drawing) : Type 0 where
+  pub least : leastVertices ≤ d .vertices
+  pub most : d .vertices ≤ one .vmax
+  pub few : d .edges ≤ one .emax
+  pub xyz-room : 3 * d .vertices ≤ length (d .xyz)
+  pub ends-room : 2 * d .edges ≤ length (d .ends)
+  pub points : Points (take (3 * d .vertices) (d .xyz)) (d .vertices)
+  pub links : Ends (take (2 * d .edges) (d .ends)) (d .vertices)
