@@ -1,33 +1,15 @@
 // Runs a stored corpus of sheets through the reader and the writer. Standard input has the sheets, each behind its length in two bytes,
 // high byte first. Of each it prints what the reader says and, of a drawing, what the writer makes of it again, byte by byte.
-ghost use Prim.Native.Nat.{_<_};
 use libc::STDIN_FILENO;
 use libc::STDOUT_FILENO;
+use lists::Place;
 use paper::Answer;
-use paper::Refusal;
 use paper::Written;
-
-fn say(text: &[u8]) {
-    io::write_all(STDOUT_FILENO, text);
-}
-
-fn wide(x: u8) -> u64
-    ensures { λ r. ⌜ r < 256 ⌝ }
-{
-    x as u64
-}
-
-fn say_number(n: u64) {
-    io::print_decimal(STDOUT_FILENO, n);
-}
-
-fn say_refused(r: Refusal) {
-    say(b"refused ");
-    say_number(r.number as u64);
-    say(b" ");
-    say_number(r.place as u64);
-    say(b"\n");
-}
+use trial::end_of;
+use trial::say;
+use trial::say_number;
+use trial::say_refused;
+use trial::wide;
 
 // The first n bytes, in two hexadecimal digits each.
 fn say_bytes(bytes: &[u8], n: usize) {
@@ -78,22 +60,14 @@ fn show(s: &[u8]) {
     }
 }
 
-// The sheets in the first n bytes.
 fn show_all(book: &[u8]) {
     let mut at: usize = 0;
     while at < book.len() {
-        let rest = book.len() - at;
-        if rest < 2 {
+        let Place::At(end) = end_of(book, at) else {
             return;
-        }
-        let size = wide(book[at]) as usize * 256 + wide(book[at + 1]) as usize;
-        if rest - 2 < size {
-            return;
-        }
-        let from = at + 2;
-        let to = from + size;
-        show(&book[from..to]);
-        at = to;
+        };
+        show(&book[at + 2..end]);
+        at = end;
     }
 }
 

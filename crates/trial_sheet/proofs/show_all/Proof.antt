@@ -1,6 +1,8 @@
+use mathlib.Core.Path.{sym, ap}
 use Prim.Native.Nat.{_-_, _≤_}
 use lib.ListN.{length}
 use native.Mathlib.Omega.{arith}
+use Rattle.lists.specs.Place.{found}
 use Rattle.trial_sheet.proofs.show_all.Statement.{statement}
 use Rattle.trial_sheet.proofs.show_all.Tie as tie
 
@@ -13,62 +15,41 @@ abbrev μ-loop : tie.MeasureT-loop
 loop-holds : tie.Need-loop-holds Inv-loop μ-loop
 loop-holds c = omega arith
 
-sub-rest : tie.Need-sub-rest Inv-loop μ-loop
-sub-rest c = omega arith
+end-of-requires : tie.Need-end-of-requires Inv-loop μ-loop
+end-of-requires c κs = omega arith
+
+enum-known-end : tie.Need-enum-known-end Inv-loop μ-loop
+enum-known-end c = omega arith
+
+enum-told : tie.Need-enum-told Inv-loop μ-loop
+enum-told c = omega arith
 
 returns : tie.Need-returns Inv-loop μ-loop
 returns c = omega arith
 
-shared-slice-read-wide : tie.Need-shared-slice-read-wide Inv-loop μ-loop
-shared-slice-read-wide c = omega arith
-
-wide-requires : tie.Need-wide-requires Inv-loop μ-loop
-wide-requires c κs = omega arith
-
-mul-size : tie.Need-mul-size Inv-loop μ-loop
-mul-size c = omega arith
-
-add-wide : tie.Need-add-wide Inv-loop μ-loop
-add-wide c = omega arith
-
-shared-slice-read-wide-2 : tie.Need-shared-slice-read-wide-2 Inv-loop μ-loop
-shared-slice-read-wide-2 c = omega arith
-
-wide-requires-2 : tie.Need-wide-requires-2 Inv-loop μ-loop
-wide-requires-2 c κs = omega arith
-
-add-size : tie.Need-add-size Inv-loop μ-loop
-add-size c = omega arith
-
-returns-2 : tie.Need-returns-2 Inv-loop μ-loop
-returns-2 c = omega arith
-
-add-from : tie.Need-add-from Inv-loop μ-loop
-add-from c = omega arith
-
-add-to : tie.Need-add-to Inv-loop μ-loop
-add-to c = omega arith
+add-show : tie.Need-add-show Inv-loop μ-loop
+add-show c = omega (arith, (c .before .before .before .end-of .ensures) _ (sym (ap found ((c .before .end .given) .1))))
 
 sub-show : tie.Need-sub-show Inv-loop μ-loop
-sub-show c = omega arith
+sub-show c = omega (arith, (c .before .before .before .end-of .ensures) _ (sym (ap found ((c .before .end .given) .1))))
 
 part-show-start : tie.Need-part-show-start Inv-loop μ-loop
-part-show-start c = omega arith
+part-show-start c = omega (arith, (c .before .before .before .end-of .ensures) _ (sym (ap found ((c .before .end .given) .1))))
 
 part-show-end : tie.Need-part-show-end Inv-loop μ-loop
-part-show-end c = omega arith
+part-show-end c = omega (arith, (c .before .before .before .end-of .ensures) _ (sym (ap found ((c .before .end .given) .1))))
 
 show-requires : tie.Need-show-requires Inv-loop μ-loop
 show-requires c κs = omega arith
 
 loop-less : tie.Need-loop-less Inv-loop μ-loop
-loop-less c = omega arith
+loop-less c = omega (arith, (c .before .before .before .before .before .end-of .ensures) _ (sym (ap found ((c .before .before .before .end .given) .1))))
 
 loop-again : tie.Need-loop-again Inv-loop μ-loop
-loop-again c = omega arith
+loop-again c = omega (arith, (c .before .before .before .before .before .end-of .ensures) _ (sym (ap found ((c .before .before .before .end .given) .1))))
 
-returns-3 : tie.Need-returns-3 Inv-loop μ-loop
-returns-3 c = omega arith
+returns-2 : tie.Need-returns-2 Inv-loop μ-loop
+returns-2 c = omega arith
 
 pub show-all-spec : {M : Type 1} → statement M
 show-all-spec =
@@ -77,22 +58,15 @@ show-all-spec =
     Inv-loop
     μ-loop
     loop-holds
-    sub-rest
+    end-of-requires
+    enum-known-end
+    enum-told
     returns
-    shared-slice-read-wide
-    wide-requires
-    mul-size
-    add-wide
-    shared-slice-read-wide-2
-    wide-requires-2
-    add-size
-    returns-2
-    add-from
-    add-to
+    add-show
     sub-show
     part-show-start
     part-show-end
     show-requires
     loop-less
     loop-again
-    returns-3)
+    returns-2)

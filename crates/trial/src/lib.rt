@@ -1,0 +1,49 @@
+// What the trial programs share: items in a stored book, and lines of what is said of them. Assumes nothing.
+ghost use mathlib.Core.Path.{_≡_};
+ghost use mathlib.Core.Option.{some};
+ghost use Prim.Native.Nat.{ℕ, _+_, _≤_, _<_};
+ghost use lib.ListN.{length};
+ghost use Rattle.lists.specs.Place.{found};
+use libc::STDOUT_FILENO;
+use lists::Place;
+use paper::Refusal;
+
+pub fn say(text: &[u8]) {
+    io::write_all(STDOUT_FILENO, text);
+}
+
+pub fn say_number(n: u64) {
+    io::print_decimal(STDOUT_FILENO, n);
+}
+
+pub fn say_refused(r: Refusal) {
+    say(b"refused ");
+    say_number(r.number as u64);
+    say(b" ");
+    say_number(r.place as u64);
+    say(b"\n");
+}
+
+pub fn wide(x: u8) -> u64
+    ensures { λ r. ⌜ r < 256 ⌝ }
+{
+    x as u64
+}
+
+// Where the item ends that stands at byte `at` behind its length in two bytes, high byte first.
+pub fn end_of(book: &[u8], at: usize) -> Place
+    ensures { λ r. ⌜ ((k : ℕ) → some k ≡ found r → (at + 2 ≤ k) × (k ≤ length (now (book .entry)))) ⌝ }
+{
+    if book.len() < at {
+        return Place::Nowhere;
+    }
+    let rest = book.len() - at;
+    if rest < 2 {
+        return Place::Nowhere;
+    }
+    let size = wide(book[at]) as usize * 256 + wide(book[at + 1]) as usize;
+    if rest - 2 < size {
+        return Place::Nowhere;
+    }
+    Place::At(at + 2 + size)
+}
