@@ -9,7 +9,7 @@ use lib.Signed.{_≤ℤ_, _<ℤ_, ≤ℤ-refl, clashℤ}
 use Rattle.exact.specs.Signs.{Sign3, below, level, above, sign, product}
 use Rattle.exact.proofs.Laws.{eq-of-sub, sub-of-eq}
 use Rattle.exact.proofs.Ring.{Expr, var, con, _⊕_, _⊖_, _⊗_, neg, eval, norm, allZ, ring}
-use Rattle.exact.proofs.Signs.{sign-mul, sign-above, sign-below, above-lt, below-lt, level-eq, <ℤ-≤ℤ}
+use Rattle.exact.proofs.Signs.{sign-mul, sign-above, sign-below, above-lt, below-lt, level-eq, lt-or-ge, ≤ℤ-antisym, <ℤ-≤ℤ}
 use Rattle.exact.proofs.Linear.{le-by, lt-by, le-to, lt-to}
 
 -- ---- differences
@@ -29,6 +29,14 @@ le-of-sub a b h = let ρ = a ∷ b ∷ [] in le-by ρ (var 0) (var 1) (omega (ar
 pub neg-pos : {a : ℤ} → a <ℤ pos 0 → pos 0 <ℤ negℤ a
 neg-pos {a} h = let ρ = a ∷ [] in lt-by ρ (con (pos 0)) (neg (var 0)) (omega (arith, lt-to ρ (var 0) (con (pos 0)) h))
 
+pub neg-lt : {a : ℤ} → pos 0 <ℤ a → negℤ a <ℤ pos 0
+neg-lt {a} h = let ρ = a ∷ [] in lt-by ρ (neg (var 0)) (con (pos 0)) (omega (arith, lt-to ρ (con (pos 0)) (var 0) h))
+
+pub lt-chain : {a b c : ℤ} → a <ℤ b → b <ℤ c → a <ℤ c
+lt-chain {a} {b} {c} h l =
+    let ρ = a ∷ b ∷ c ∷ [] in
+    lt-by ρ (var 0) (var 2) (omega (arith, lt-to ρ (var 0) (var 1) h, lt-to ρ (var 1) (var 2) l))
+
 -- ---- sums
 
 pub add-le : {a b c d : ℤ} → a ≤ℤ b → c ≤ℤ d → (a +ℤ c) ≤ℤ (b +ℤ d)
@@ -40,6 +48,19 @@ pub add-nonneg : {a b : ℤ} → pos 0 ≤ℤ a → pos 0 ≤ℤ b → pos 0 ≤
 add-nonneg {a} {b} h k =
     let ρ = a ∷ b ∷ [] in
     le-by ρ (con (pos 0)) (var 0 ⊕ var 1) (omega (arith, le-to ρ (con (pos 0)) (var 0) h, le-to ρ (con (pos 0)) (var 1) k))
+
+-- three numbers of which none is below 0
+pub sum-zero : (a b c : ℤ) → pos 0 ≤ℤ a → pos 0 ≤ℤ b → pos 0 ≤ℤ c → (a +ℤ b +ℤ c) ≡ pos 0 → (a ≡ pos 0) × (b ≡ pos 0) × (c ≡ pos 0)
+sum-zero a b c p q r e =
+    let ρ = a ∷ b ∷ c ∷ [] in
+    let s = le-to ρ (var 0 ⊕ var 1 ⊕ var 2) (con (pos 0)) (subst (λ (z : ℤ). z ≤ℤ pos 0) (sym e) (≤ℤ-refl (pos 0))) in
+    let p' = le-to ρ (con (pos 0)) (var 0) p in
+    let q' = le-to ρ (con (pos 0)) (var 1) q in
+    let r' = le-to ρ (con (pos 0)) (var 2) r in (
+      ≤ℤ-antisym (le-by ρ (var 0) (con (pos 0)) (omega (arith, s, p', q', r'))) p,
+      ≤ℤ-antisym (le-by ρ (var 1) (con (pos 0)) (omega (arith, s, p', q', r'))) q,
+      ≤ℤ-antisym (le-by ρ (var 2) (con (pos 0)) (omega (arith, s, p', q', r'))) r,
+    )
 
 -- ---- products
 
@@ -81,6 +102,21 @@ mul-lt k {a} {b} p h = lt-of-sub (k *ℤ a) (k *ℤ b) (subst (λ (z : ℤ). pos
 
 pub mul-le : (k : ℤ) {a b : ℤ} → pos 0 ≤ℤ k → a ≤ℤ b → (k *ℤ a) ≤ℤ (k *ℤ b)
 mul-le k {a} {b} p h = le-of-sub (k *ℤ a) (k *ℤ b) (subst (λ (z : ℤ). pos 0 ≤ℤ z) (ring (k ∷ a ∷ b ∷ []) (var 0 ⊗ (var 2 ⊖ var 1)) (var 0 ⊗ var 2 ⊖ var 0 ⊗ var 1) tt) (mul-nonneg p (sub-nonneg h)))
+
+-- a factor above 0 goes out
+pub lt-cancel : (m : ℤ) {a b : ℤ} → pos 0 <ℤ m → (m *ℤ a) <ℤ (m *ℤ b) → a <ℤ b
+lt-cancel m {a} {b} h l = go (lt-or-ge a b)
+  where
+    go : (a <ℤ b) ⊎ (b ≤ℤ a) → a <ℤ b
+    go (inl p) = p
+    go (inr p) = clashℤ l (mul-le m (<ℤ-≤ℤ h) p)
+
+pub le-cancel : (m : ℤ) {a b : ℤ} → pos 0 <ℤ m → (m *ℤ a) ≤ℤ (m *ℤ b) → a ≤ℤ b
+le-cancel m {a} {b} h l = go (lt-or-ge b a)
+  where
+    go : (b <ℤ a) ⊎ (a ≤ℤ b) → a ≤ℤ b
+    go (inl p) = clashℤ (mul-lt m h p) l
+    go (inr p) = p
 
 -- ---- equations from equations: a - b is a combination of what is 0
 

@@ -1,4 +1,4 @@
--- Signs of whole numbers, zero products, equality as a test, and the orders `<` and `≤`: from each to the others. Assumes nothing.
+-- Signs of whole numbers, zero products, equality and orders as tests, and the orders `<` and `≤`: from each to the others. Assumes nothing.
 use mathlib.Core.Path.{_≡_, refl, sym, _∙_, ap, subst}
 use mathlib.Core.Bool.{Bool, true, false, not}
 use mathlib.Core.Logic.{_⊎_, inl, inr}
@@ -7,7 +7,8 @@ use native.Mathlib.Nat.{le-of-lt, mul-pos, not-suc-le-zero}
 use native.Mathlib.Omega.{arith}
 use lib.Dec.{T, leb→le, le→leb, ltb→lt, lt→ltb, nleb→lt}
 use lib.IntN.{ℤ, pos, negsuc, negℤ, _+ℤ_, _-ℤ_, _*ℤ_, zero-*ℤ, *ℤ-zero, +ℤ-invr}
-use lib.Signed.{leZ, ltZ, _≤ℤ_, _<ℤ_, <ℤ-irrefl, ltZ-no, ltZ-yes}
+use lib.Signed.{leZ, ltZ, _≤ℤ_, _<ℤ_, <ℤ-irrefl, ltZ-no, ltZ-yes, leZ-yes}
+use Rattle.lists.proofs.Truth.{is-true}
 use Rattle.exact.specs.Size.{Within}
 use Rattle.exact.specs.Signs.{Sign3, below, level, above, sign, unit, turned, product, isLevel, eqZ}
 use Rattle.exact.proofs.Laws.{mul-addℤ, mul-negℤ, eq-of-sub}
@@ -101,6 +102,21 @@ mul-cancelℤ k a b h e = go (zero-product k (a -ℤ b) (mul-addℤ k a (negℤ 
     go (inl z) = absurd (h z)
     go (inr z) = eq-of-sub a b z
 
+-- a factor that is not 0 goes out
+pub mul-zero : (m a : ℤ) → (m ≡ pos 0 → ⊥) → m *ℤ a ≡ pos 0 → a ≡ pos 0
+mul-zero m a n e = go (zero-product m a e)
+  where
+    go : (m ≡ pos 0) ⊎ (a ≡ pos 0) → a ≡ pos 0
+    go (inl h) = absurd (n h)
+    go (inr h) = h
+
+pub square-zero : (a : ℤ) → a *ℤ a ≡ pos 0 → a ≡ pos 0
+square-zero a e = go (zero-product a a e)
+  where
+    go : (a ≡ pos 0) ⊎ (a ≡ pos 0) → a ≡ pos 0
+    go (inl h) = h
+    go (inr h) = h
+
 -- ---- equality as a test
 
 pub eqZ-refl : {a b : ℤ} → a ≡ b → eqZ a b ≡ true
@@ -113,6 +129,20 @@ level-no above h = refl
 
 pub eqZ-false : (a b : ℤ) → (a ≡ b → ⊥) → eqZ a b ≡ false
 eqZ-false a b h = level-no (sign (a -ℤ b)) (λ e. h (eq-of-sub a b (level-eq (a -ℤ b) e)))
+
+-- ---- the orders as tests
+
+pub lt-yes : {a b : ℤ} → ltZ a b ≡ true → a <ℤ b
+lt-yes e = ltZ-yes (subst T (sym e) tt)
+
+pub lt-is : {a b : ℤ} → a <ℤ b → ltZ a b ≡ true
+lt-is h = is-true (h .lt)
+
+pub le-yes : {a b : ℤ} → leZ a b ≡ true → a ≤ℤ b
+le-yes e = leZ-yes (subst T (sym e) tt)
+
+pub le-is : {a b : ℤ} → a ≤ℤ b → leZ a b ≡ true
+le-is h = is-true (h .le)
 
 -- ---- the orders: from `<`, `≤` and equations to each other
 
@@ -142,7 +172,7 @@ pub lt-or-ge : (a b : ℤ) → (a <ℤ b) ⊎ (b ≤ℤ a)
 lt-or-ge a b = go (ltZ a b) refl
   where
     go : (t : Bool) → ltZ a b ≡ t → (a <ℤ b) ⊎ (b ≤ℤ a)
-    go true e = inl (ltZ-yes (subst T (sym e) tt))
+    go true e = inl (lt-yes e)
     go false e = inr (ltZ-no (subst (λ (u : Bool). T (not u)) (sym e) tt))
 
 pub lt-of-le-ne : {a b : ℤ} → a ≤ℤ b → (a ≡ b → ⊥) → a <ℤ b
@@ -154,6 +184,16 @@ lt-of-le-ne {a} {b} h n = go (lt-or-ge a b)
 
 pub <ℤ-ne : {a b : ℤ} → a <ℤ b → a ≡ b → ⊥
 <ℤ-ne {a} {b} h e = <ℤ-irrefl (subst (λ (z : ℤ). z <ℤ b) e h)
+
+pub pos-ne : {a : ℤ} → pos 0 <ℤ a → a ≡ pos 0 → ⊥
+pos-ne h e = <ℤ-ne h (sym e)
+
+-- between equal numbers
+pub lt-subst : {a b c d : ℤ} → a ≡ c → b ≡ d → a <ℤ b → c <ℤ d
+lt-subst {a} {b} {c} {d} p q h = subst (λ (z : ℤ). c <ℤ z) q (subst (λ (z : ℤ). z <ℤ b) p h)
+
+pub le-subst : {a b c d : ℤ} → a ≡ c → b ≡ d → a ≤ℤ b → c ≤ℤ d
+le-subst {a} {b} {c} {d} p q h = subst (λ (z : ℤ). c ≤ℤ z) q (subst (λ (z : ℤ). z ≤ℤ b) p h)
 
 -- ---- -1, 0 and 1 as numbers
 

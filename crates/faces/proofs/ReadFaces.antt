@@ -6,7 +6,7 @@ use mathlib.Core.List.{List, [], _∷_, _++_, flatMap, append-assoc, append-nil}
 use Prim.Native.Nat.{ℕ, _+_, _*_, _/_, _≤_, _<_}
 use native.Mathlib.Numerals.{add-one}
 use native.Mathlib.Omega.{arith}
-use borrow.Author.Tests.{ne-eqb, leb-true, leb-false}
+use borrow.Author.Tests.{ne-eqb, leb-true, leb-false, not-true}
 use lib.Dec.{leb, eqb}
 use lib.ListN.{length, getD, take, replicate, length-append}
 use lib.Seq.{paste, take-suc}
@@ -15,6 +15,7 @@ use Rattle.pack.specs.Fill.{padded}
 use Rattle.pack.proofs.Laws.{length-fields}
 use Rattle.pack.proofs.Fill.{padded-none, padded-paste}
 use Rattle.lists.specs.Lists.{all}
+use Rattle.lists.proofs.Truth.{and-left, and-right}
 use Rattle.lists.proofs.Every.{all-snoc, all-fails}
 use Rattle.laws.proofs.Rows.{row-length}
 use Rattle.paper.specs.Format.{outside, bytesFor, fillAfter}
@@ -26,7 +27,7 @@ use Rattle.faces.specs.Face.{Brief}
 use Rattle.faces.specs.Face.{countOf, faceAt, closesAt}
 use Rattle.sheet.proofs.Shaped.{outside-false}
 use Rattle.faces.proofs.Brief.{corners-small}
-use Rattle.faces.proofs.Fits.{both-yes, not-yes, fits-most}
+use Rattle.faces.proofs.Fits.{fits-most}
 use Rattle.faces.proofs.FaceList.{start, length-in, face-is, start-more, start-most, start-all}
 
 -- ---- tests in a row
@@ -148,11 +149,11 @@ module _ (f : Format) (v : ℕ) (s : List ℕ) where
       let a = leb (p + 4 + f .nw * c₀) (length s * 8) in
       let z = faceFits f v (fieldsAt s (p + 4) (f .nw) c₀) in
       let q = picked (a && z) c₀ e in
-      let t = both-yes a z (q .0) in
-      let b : p + 4 + f .nw * fieldAt s p 4 ≤ length s * 8 = leb-true _ _ (t .0) in
+      let t : z ≡ true = and-right a z (q .0) in
+      let b : p + 4 + f .nw * fieldAt s p 4 ≤ length s * 8 = leb-true _ _ (and-left a z (q .0)) in
       let d : c ≡ fieldAt s p 4 = q .1 in
-      let m : length (fieldsAt s (p + 4) (f .nw) c₀) ≤ 12 = fits-most f v (fieldsAt s (p + 4) (f .nw) c₀) (t .1) .1 in
-      record { count-is = d; inside = rw d b; fits-in = rw d (t .1); corners-most = omega (arith, d, length-fields s (p + 4) (f .nw) c₀) }
+      let m : length (fieldsAt s (p + 4) (f .nw) c₀) ≤ 12 = fits-most f v (fieldsAt s (p + 4) (f .nw) c₀) t .1 in
+      record { count-is = d; inside = rw d b; fits-in = rw d t; corners-most = omega (arith, d, length-fields s (p + 4) (f .nw) c₀) }
 
   -- one face more
   pub read-next : Brief f → (k p : ℕ) (rows : List ℕ) {c : ℕ} → k < countIn f s → k < 42 → Read k p rows → Face p c
@@ -220,4 +221,4 @@ pub count-most : (f : Format) (s : List ℕ) {n : ℕ} → some n ≡ countOf f 
 unfolding countOf
 count-most f s e =
     let q = picked (leb 2 (length s) && eqb (fieldAt s 0 4) (f .edition) && not (outside 4 (f .fmax) (countIn f s))) (countIn f s) e in
-    rw (q .1) (outside-false 4 (f .fmax) (countIn f s) (not-yes (outside 4 (f .fmax) (countIn f s)) (both-yes (leb 2 (length s) && eqb (fieldAt s 0 4) (f .edition)) (not (outside 4 (f .fmax) (countIn f s))) (q .0) .1)) .1)
+    rw (q .1) (outside-false 4 (f .fmax) (countIn f s) (not-true (outside 4 (f .fmax) (countIn f s)) (and-right (leb 2 (length s) && eqb (fieldAt s 0 4) (f .edition)) (not (outside 4 (f .fmax) (countIn f s))) (q .0))) .1)

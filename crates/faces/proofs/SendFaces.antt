@@ -10,11 +10,12 @@ use Rattle.pack.specs.Bits.{bits, run, over, Under}
 use Rattle.pack.proofs.Laws.{length-bits, length-run, under-bits, under-run, under-append}
 use Rattle.pack.proofs.Over.{over-none, over-next}
 use Rattle.lists.specs.Lists.{all, keep}
+use Rattle.lists.proofs.Truth.{and-left, and-right, and-both}
 use Rattle.paper.specs.Loops.{Loop}
 use Rattle.paper.specs.FaceList.{faceBits, span, bitsOf, rowAt, solidFaces}
 use Rattle.paper.specs.declared.Format.{Format}
 use Rattle.faces.specs.Send.{digit, faceOf, faceAlone, fits}
-use Rattle.faces.proofs.Fits.{both-yes, way-length, way-fits}
+use Rattle.faces.proofs.Fits.{way-length, way-fits}
 use Rattle.faces.proofs.Weight.{facesLeft, faces-start, faces-next, faces-end}
 
 module _ (f : Format) where
@@ -59,7 +60,7 @@ module _ (f : Format) where
 
   keep-fit : (b : Bool) (l : Loop) (fs : List Loop) → all (fits f) (keep b l fs) ≡ true → (all (fits f) (keep b l []) ≡ true) × (all (fits f) fs ≡ true)
   unfolding keep all
-  keep-fit true l fs e = let t = both-yes (fits f l) (all (fits f) fs) e in (ap (λ (b : Bool). b && true) (t .0), t .1)
+  keep-fit true l fs e = (and-both (and-left (fits f l) (all (fits f) fs) e) refl, and-right (fits f l) (all (fits f) fs) e)
   keep-fit false l fs e = (refl, e)
 
   module _ (rows : List ℕ) (taken turned : ℕ) where
@@ -67,7 +68,7 @@ module _ (f : Format) where
     module _ (k : ℕ) (e : digit taken k ≡ true) where
       pub taken-fits : all (fits f) (faceAlone rows taken turned k) ≡ true → fits f (rowAt rows k) ≡ true
       unfolding faceAlone keep all
-      taken-fits h = sym (way-fits f (f .vmax) (digit turned k) (rowAt rows k)) ∙ both-yes (fits f (faceOf rows turned k)) true (rw e at h) .0
+      taken-fits h = sym (way-fits f (f .vmax) (digit turned k) (rowAt rows k)) ∙ and-left (fits f (faceOf rows turned k)) true (rw e at h)
 
       pub taken-span : 4 + f .nw * length (rowAt rows k) ≡ span f (faceAlone rows taken turned k)
       unfolding faceAlone keep span

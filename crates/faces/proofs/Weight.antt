@@ -8,6 +8,7 @@ use native.Mathlib.Nat.{add-assoc, zero-add, add-zero}
 use native.Mathlib.Omega.{arith}
 use lib.ListN.{length}
 use Rattle.lists.specs.Lists.{all, keep}
+use Rattle.lists.proofs.Truth.{and-left, and-right}
 use Rattle.lists.proofs.Kept.{keptFrom, kept-start, kept-next, kept-end}
 use Rattle.paper.specs.Loops.{Loop}
 use Rattle.paper.specs.FaceList.{span, rowAt, solidFaces}
@@ -17,7 +18,7 @@ use Rattle.faces.specs.Send.{digit, faceOf, faceAlone, fits, cornersOf, 
 use Rattle.faces.specs.declared.write.Extent.{Extent}
 use Rattle.faces.specs.declared.write.Extent.the-variants.{Misfit, Of}
 use Rattle.faces.proofs.Brief.{corners-small}
-use Rattle.faces.proofs.Fits.{both-yes, fits-most, way-length, way-fits}
+use Rattle.faces.proofs.Fits.{fits-most, way-length, way-fits}
 
 -- two weights one behind the other
 abbrev pub plus : Extent → Extent → Extent
@@ -79,8 +80,9 @@ module _ (f : Format) where
   unfolding all span
   span-small g [] h = omega arith
   span-small g (l ∷ fs) h =
-      let t = both-yes (fits f l) (all (fits f) fs) h in
-      omega (arith, span-small g fs (t .1), corners-small (g .slender .nw-most) (fits-most f (f .vmax) l (t .0) .1))
+      let a = and-left (fits f l) (all (fits f) fs) h in
+      let b = and-right (fits f l) (all (fits f) fs) h in
+      omega (arith, span-small g fs b, corners-small (g .slender .nw-most) (fits-most f (f .vmax) l a .1))
 
   module _ (rows : List ℕ) (taken : ℕ) where
     -- one candidate: not taken, no face, a face

@@ -1,6 +1,8 @@
 -- Laws of truth values. Assumes nothing.
-use mathlib.Core.Path.{_≡_, refl}
+use mathlib.Core.Path.{_≡_, refl, sym}
 use mathlib.Core.Bool.{Bool, true, false, not, _||_, _&&_, xor, true≢false}
+use mathlib.Core.Logic.{_⊎_, inl, inr}
+use lib.Dec.{T}
 
 pub not-not : (a : Bool) → not (not a) ≡ a
 not-not true = refl
@@ -51,3 +53,44 @@ pub false-xor : (a : Bool) → xor false a ≡ a
 unfolding xor
 false-xor true = refl
 false-xor false = refl
+
+-- ---- what a test that passes says, and a test that passes because of it
+
+pub is-true : {a : Bool} → T a → a ≡ true
+is-true {a} t = go a t
+  where
+    go : (b : Bool) → T b → b ≡ true
+    go true u = refl
+    go false u = absurd u
+
+pub never : (a : Bool) → (a ≡ true → ⊥) → a ≡ false
+never true f = absurd (f refl)
+never false f = refl
+
+pub and-left : (a b : Bool) → (a && b) ≡ true → a ≡ true
+and-left true b e = refl
+and-left false b e = e
+
+pub and-right : (a b : Bool) → (a && b) ≡ true → b ≡ true
+and-right true b e = e
+and-right false b e = absurd (true≢false (sym e))
+
+pub and-both : {a b : Bool} → a ≡ true → b ≡ true → (a && b) ≡ true
+and-both p q = λ i. p i && q i
+
+pub or-left : (a b : Bool) → a ≡ true → (a || b) ≡ true
+or-left true b e = refl
+or-left false b e = absurd (true≢false (sym e))
+
+pub or-right : (a b : Bool) → b ≡ true → (a || b) ≡ true
+or-right true b e = refl
+or-right false b e = e
+
+pub or-cases : (a b : Bool) → (a || b) ≡ true → (a ≡ true) ⊎ (b ≡ true)
+or-cases true b e = inl refl
+or-cases false b e = inr e
+
+pub not-both : (a b : Bool) → (a ≡ true → b ≡ true → ⊥) → not (a && b) ≡ true
+not-both true true f = absurd (f refl refl)
+not-both true false f = refl
+not-both false b f = refl

@@ -15,9 +15,9 @@ use Rattle.lists.specs.Lists.{any, upto}
 use Rattle.lists.proofs.Lowest.{lowest-none}
 use Rattle.sets.specs.Word.{dig, Sub, count}
 use Rattle.sets.proofs.Digits.{count-back}
+use Rattle.lists.proofs.Truth.{and-left, and-right, and-both, or-left, or-right, or-cases, never}
 use Rattle.paper.specs.Drawing.{Wire, Edge, edge, edgeAt, joins, joined, further, reached, apart}
 use Rattle.demands.specs.Drawings.{Finds, start, stop, Vertex, Joined, Reachable, first, next}
-use Rattle.demands.proofs.Tools.Tests.{and-left, and-right, and-both, or-left, or-right, or-cases, never}
 use Rattle.demands.proofs.Tools.Searches.{any-yes, any-is, some-yes, some-is, getD-row, length-row, finds, finds-none}
 
 -- ---- counts of rows

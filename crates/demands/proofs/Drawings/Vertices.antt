@@ -9,11 +9,11 @@ use borrow.Author.Tests.{eqb-true, eq-eqb, ne-eqb, not-true}
 use lib.Dec.{eqb}
 use lib.ListN.{length}
 use Rattle.lists.specs.Lists.{any, upto}
+use Rattle.lists.proofs.Truth.{and-left, and-right, and-both, or-left, or-right, or-cases, never}
 use Rattle.paper.specs.Points.{minus, samePoint}
 use Rattle.paper.specs.Drawing.{Wire, Edge, edge, at, edgeAt, ends, samePlace, looseVertex}
+use Rattle.laws.proofs.Points.{origin-yes, origin-is, point-eq, point-diff}
 use Rattle.demands.specs.Drawings.{Finds, start, stop, Vertex, HasEdge, EndOf, Doubled, Loose}
-use Rattle.demands.proofs.Tools.Tests.{and-left, and-right, and-both, or-left, or-right, or-cases, never, origin-yes, origin-is}
-use Rattle.demands.proofs.Tools.Points.{point-eq, point-diff}
 use Rattle.demands.proofs.Tools.Searches.{any-yes, any-is, some-yes, some-is, finds, finds-none}
 
 module _ (d : Wire) where

@@ -7,16 +7,16 @@ use native.Mathlib.Omega.{arith}
 use lib.IntN.{ℤ, pos, negℤ, _+ℤ_, _-ℤ_, _*ℤ_}
 use lib.Signed.{leZ, _≤ℤ_, _<ℤ_, ≤ℤ-refl, clashℤ}
 use Rattle.exact.proofs.Ring.{var, con, _⊕_, _⊖_, neg}
-use Rattle.exact.proofs.Signs.{lt-or-ge, <ℤ-≤ℤ}
-use Rattle.exact.proofs.Order.{mul-pos, mul-le, mul-lt, add-le, sub-nonneg}
+use Rattle.exact.proofs.Signs.{lt-or-ge, <ℤ-≤ℤ, le-yes, le-is, pos-ne, lt-subst, le-subst}
+use Rattle.exact.proofs.Order.{mul-pos, mul-le, mul-lt, add-le, sub-nonneg, lt-chain}
 use Rattle.exact.proofs.Linear.{le-by, le-to, lt-to, lt-by}
+use Rattle.lists.proofs.Truth.{and-left, and-right, and-both, not-both}
 use Rattle.paper.specs.Points.{origin, plus, minus, times, dot, cross}
 use Rattle.paper.specs.Drawing.{overlap}
 use Rattle.paper.specs.declared.Point.{Point}
+use Rattle.laws.proofs.Points.{point-diff, from-dot, scale-zero, cancel, in-line, self-pos}
 use Rattle.demands.specs.Segments.{Inner, Whole}
-use Rattle.demands.proofs.Tools.Vectors.{num, vec, k, x, _+s_, _-s_, _*s_, negs, _·_, o, v, _+v_, _-v_, _*v_, _×v_, vring}
-use Rattle.demands.proofs.Tools.Tests.{and-left, and-right, and-both, not-both, le-yes, le-is}
-use Rattle.demands.proofs.Tools.Points.{point-diff, from-dot, scale-zero, cancel, in-line, self-pos, pos-ne, lt-chain, lt-subst, le-subst}
+use Rattle.laws.proofs.Vectors.{num, vec, k, x, _+s_, _-s_, _*s_, negs, _·_, o, v, _+v_, _-v_, _*v_, _×v_, vring}
 use Rattle.demands.proofs.Segments.Crossing.{Meet}
 
 -- ---- in one line: u is the place of c along the segment from a (0) to b (m), and u + g that of d

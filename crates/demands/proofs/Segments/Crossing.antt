@@ -4,15 +4,15 @@ use mathlib.Core.Bool.{true}
 use mathlib.Core.List.{[], _∷_}
 use lib.IntN.{ℤ, pos, negℤ, _*ℤ_, *ℤ-zero, *ℤ-comm}
 use lib.Signed.{_<ℤ_}
-use Rattle.exact.proofs.Signs.{<ℤ-≤ℤ, mul-cancelℤ}
-use Rattle.exact.proofs.Order.{mul-pos, mul-nonneg, mul-le, mul-lt}
+use Rattle.exact.proofs.Signs.{<ℤ-≤ℤ, mul-cancelℤ, lt-is, le-is, mul-zero, pos-ne, lt-subst, le-subst}
+use Rattle.exact.proofs.Order.{mul-pos, mul-nonneg, mul-le, mul-lt, lt-chain, lt-cancel, le-cancel}
+use Rattle.lists.proofs.Truth.{and-both}
 use Rattle.paper.specs.Points.{origin, plus, minus, times, dot, cross}
 use Rattle.paper.specs.Drawing.{cutsOpen}
 use Rattle.paper.specs.declared.Point.{Point}
+use Rattle.laws.proofs.Points.{point-eq, from-eq, from-dot, self-pos}
 use Rattle.demands.specs.Segments.{Inner, Whole, along}
-use Rattle.demands.proofs.Tools.Vectors.{num, vec, k, x, _-s_, _*s_, negs, _·_, o, v, _+v_, _-v_, _*v_, _×v_, vring}
-use Rattle.demands.proofs.Tools.Tests.{and-both, lt-is, le-is}
-use Rattle.demands.proofs.Tools.Points.{point-eq, from-eq, from-dot, mul-zero, self-pos, pos-ne, lt-chain, lt-cancel, le-cancel, lt-subst, le-subst}
+use Rattle.laws.proofs.Vectors.{num, vec, k, x, _-s_, _*s_, negs, _·_, o, v, _+v_, _-v_, _*v_, _×v_, vring}
 
 -- the point at P / D of the one is that at S / E of the other, by the directions p from a to b, q from c to d, and r from a to c
 abbrev pub Meet : Point → Point → Point → ℤ → ℤ → ℤ → ℤ → Type 0

@@ -5,13 +5,14 @@ use mathlib.Core.Logic.{_↔_}
 use mathlib.Core.List.{[], _∷_}
 use lib.IntN.{ℤ, pos, _+ℤ_}
 use lib.Signed.{leZ, ltZ}
+use Rattle.lists.proofs.Truth.{and-left, and-right, and-both}
+use Rattle.exact.proofs.Signs.{lt-yes, le-yes}
 use Rattle.paper.specs.Points.{minus, dot, cross, isZero, isOrigin}
 use Rattle.paper.specs.Drawing.{overlap, cutsOpen, openMeets}
 use Rattle.paper.specs.declared.Point.{Point}
+use Rattle.laws.proofs.Points.{zero-yes, zero-is, origin-yes, origin-is, origin-no, differ, self-pos}
 use Rattle.demands.specs.Segments.{Common}
-use Rattle.demands.proofs.Tools.Vectors.{vec, _+s_, _·_, v, _-v_, vring}
-use Rattle.demands.proofs.Tools.Tests.{and-left, and-right, and-both, zero-yes, zero-is, origin-yes, origin-is, origin-no, lt-yes, le-yes}
-use Rattle.demands.proofs.Tools.Points.{differ, self-pos}
+use Rattle.laws.proofs.Vectors.{vec, _+s_, _·_, v, _-v_, vring}
 use Rattle.demands.proofs.Segments.Crossing.{to-places, of-places, crossing-meet, meet-flat, meet-cuts}
 use Rattle.demands.proofs.Segments.Along.{Places, find, not-low, not-high, overlap-yes, overlap-is, line-meet, meet-line, meet-places}
 

@@ -7,15 +7,16 @@ use native.Mathlib.Omega.{arith}
 use lib.IntN.{ℤ, pos, negℤ, _-ℤ_, _*ℤ_, *ℤ-zero}
 use lib.Signed.{_<ℤ_}
 use Rattle.exact.proofs.Ring.{var, con, _⊖_}
-use Rattle.exact.proofs.Order.{mul-pos, mul-lt, sub-pos}
+use Rattle.exact.proofs.Order.{mul-pos, mul-lt, sub-pos, neg-lt, lt-chain, lt-cancel}
 use Rattle.exact.proofs.Linear.{le-to, lt-to, lt-by}
+use Rattle.lists.proofs.Truth.{and-left, and-right, and-both}
+use Rattle.exact.proofs.Signs.{lt-yes, lt-is, pos-ne, lt-subst}
 use Rattle.paper.specs.Points.{origin, minus, times, dot, cross, isOrigin, below}
 use Rattle.paper.specs.Drawing.{onOpen}
 use Rattle.paper.specs.declared.Point.{Point}
+use Rattle.laws.proofs.Points.{origin-yes, origin-is, differ, from-eq, scale-zero, in-line, self-nonneg, self-pos}
 use Rattle.demands.specs.Segments.{Between}
-use Rattle.demands.proofs.Tools.Vectors.{num, vec, k, x, _-s_, _*s_, negs, _·_, o, v, _+v_, _-v_, _*v_, _×v_, vring}
-use Rattle.demands.proofs.Tools.Tests.{and-left, and-right, and-both, origin-yes, origin-is, lt-yes, lt-is}
-use Rattle.demands.proofs.Tools.Points.{differ, from-eq, scale-zero, in-line, self-nonneg, self-pos, pos-ne, neg-lt, lt-chain, lt-cancel, lt-subst}
+use Rattle.laws.proofs.Vectors.{num, vec, k, x, _-s_, _*s_, negs, _·_, o, v, _+v_, _-v_, _*v_, _×v_, vring}
 
 module _ (a b p : Point) where
   abbrev d : Point

@@ -9,8 +9,8 @@ use native.Mathlib.Decide.{ℕ-discrete}
 use native.Mathlib.Omega.{arith}
 use lib.ListN.{length, getD, length-map}
 use Rattle.lists.specs.Lists.{any, all, find, from, upto, lowest}
+use Rattle.lists.proofs.Truth.{and-left, and-right, and-both, or-left, or-right}
 use Rattle.demands.specs.Drawings.{Finds}
-use Rattle.demands.proofs.Tools.Tests.{and-left, and-right, and-both, or-left, or-right}
 
 -- ---- some element of a list passes
 
