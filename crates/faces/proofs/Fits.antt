@@ -9,7 +9,7 @@ use lib.Dec.{ltb}
 use lib.ListN.{length, getD, length-reverse}
 use Rattle.lists.specs.Lists.{all}
 use Rattle.lists.proofs.Truth.{and-left}
-use Rattle.lists.proofs.Every.{all-reverse}
+use Rattle.lists.proofs.Passing.{all-reverse}
 use Rattle.lists.proofs.Backwards.{getD-reverse}
 use Rattle.paper.specs.Format.{outside}
 use Rattle.paper.specs.Loops.{Loop, flipped}

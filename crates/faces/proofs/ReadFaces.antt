@@ -16,7 +16,7 @@ use Rattle.pack.proofs.Laws.{length-fields}
 use Rattle.pack.proofs.Fill.{padded-none, padded-paste}
 use Rattle.lists.specs.Lists.{all}
 use Rattle.lists.proofs.Truth.{and-left, and-right}
-use Rattle.lists.proofs.Every.{all-snoc, all-fails}
+use Rattle.lists.proofs.Passing.{all-snoc, all-fails}
 use Rattle.laws.proofs.Rows.{row-length}
 use Rattle.paper.specs.Format.{outside, bytesFor, fillAfter}
 use Rattle.paper.specs.Loops.{Loop, row}

@@ -4,6 +4,6 @@ pub mod Places
 pub mod Search
 pub mod Sides
 pub mod Lowest
-pub mod Every
+pub mod Passing
 pub mod Kept
 pub mod Backwards

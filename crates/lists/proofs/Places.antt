@@ -6,7 +6,7 @@ use Prim.Native.Nat.{ℕ, zero, suc, _+_, _<_, zero-le, suc-le-suc}
 use native.Mathlib.Nat.{le-of-suc-le-suc, not-suc-le-zero}
 use native.Mathlib.Numerals.{add-one}
 use native.Mathlib.Omega.{arith}
-use lib.ListN.{length, take, drop, getD}
+use lib.ListN.{length, take, drop, getD, length-map}
 use lib.Seq.{take-suc, drop-cons}
 use Rattle.lists.specs.Lists.{any, from, upto}
 use Rattle.lists.proofs.Truth.{or-assoc, or-false}
@@ -54,6 +54,14 @@ unfolding upto
 upto-at n k h =
     let e : 0 + k ≡ k = omega arith in
     from-at 0 n k h ∙ e
+
+-- what f makes of the numbers below n
+module _ {A : Type 0} (f : ℕ → A) (n : ℕ) where
+  pub made-length : length (map f (upto n)) ≡ n
+  made-length = length-map (upto n) f ∙ upto-length n
+
+  pub made-at : (k : ℕ) (d : A) → k < n → getD (map f (upto n)) k d ≡ f k
+  made-at k d h = map-at f (upto n) k 0 d (omega (arith, upto-length n)) ∙ ap f (upto-at n k h)
 
 -- ---- `any` of those passed so far, and of two tests that say the same at every place
 

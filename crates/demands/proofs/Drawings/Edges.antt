@@ -10,9 +10,10 @@ use lib.Dec.{eqb}
 use lib.ListN.{length}
 use Rattle.lists.specs.Lists.{any, upto}
 use Rattle.lists.proofs.Truth.{and-left, and-right, and-both, or-left, or-right, or-cases}
+use Rattle.lists.proofs.Passing.{some-yes, some-is}
 use Rattle.paper.specs.Drawing.{Wire, Edge, edge, at, edgeAt, onOpen, openMeets, vertexOn, edgesMeet, samePlace, edgeMeets}
 use Rattle.demands.specs.Drawings.{Finds, start, stop, from, to, Rising, Long, Meets, vertex, other}
-use Rattle.demands.proofs.Tools.Searches.{some-yes, some-is, finds}
+use Rattle.demands.proofs.Tools.Searches.{finds}
 use Rattle.demands.proofs.Drawings.Vertices.{samePlace-none}
 use Rattle.demands.proofs.Segments.{onOpen-means, openMeets-means}
 

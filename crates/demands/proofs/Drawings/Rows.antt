@@ -16,9 +16,11 @@ use Rattle.lists.proofs.Lowest.{lowest-none}
 use Rattle.sets.specs.Word.{dig, Sub, count}
 use Rattle.sets.proofs.Digits.{count-back}
 use Rattle.lists.proofs.Truth.{and-left, and-right, and-both, or-left, or-right, or-cases, never}
+use Rattle.lists.proofs.Places.{made-at, made-length}
+use Rattle.lists.proofs.Passing.{any-yes, any-is, some-yes, some-is}
 use Rattle.paper.specs.Drawing.{Wire, Edge, edge, edgeAt, joins, joined, further, reached, apart}
 use Rattle.demands.specs.Drawings.{Finds, start, stop, Vertex, Joined, Reachable, first, next}
-use Rattle.demands.proofs.Tools.Searches.{any-yes, any-is, some-yes, some-is, getD-row, length-row, finds, finds-none}
+use Rattle.demands.proofs.Tools.Searches.{finds, finds-none}
 
 -- ---- counts of rows
 
@@ -85,11 +87,11 @@ module _ (d : Wire) where
 
   length-further : (a : List Bool) → length (further d a) ≡ n
   unfolding further
-  length-further a = length-row (λ v. getD a v false || any (λ u. getD a u false && joined d u v) (upto n)) n
+  length-further a = made-length (λ v. getD a v false || any (λ u. getD a u false && joined d u v) (upto n)) n
 
   further-at : (a : List Bool) (v : ℕ) → v < n → dig (further d a) v ≡ dig a v || any (λ u. dig a u && joined d u v) (upto n)
   unfolding further
-  further-at a v h = getD-row (λ v. getD a v false || any (λ u. getD a u false && joined d u v) (upto n)) n v false h
+  further-at a v h = made-at (λ v. getD a v false || any (λ u. getD a u false && joined d u v) (upto n)) n v false h
 
   further-keeps : (a : List Bool) → length a ≡ n → Sub a (further d a)
   further-keeps a l v h = further-at a v (inside a l v h) ∙ or-left (dig a v) (any (λ u. dig a u && joined d u v) (upto n)) h
@@ -104,7 +106,7 @@ module _ (d : Wire) where
 
   length-reached : (k : ℕ) → length (row k) ≡ n
   unfolding reached
-  length-reached zero = length-row (eqb 0) n
+  length-reached zero = made-length (eqb 0) n
   length-reached (suc k) = length-further (row k)
 
   further-sound : (a : List Bool) → ((v : ℕ) → dig a v ≡ true → Reachable d v) → (v : ℕ) → dig (further d a) v ≡ true → Reachable d v
@@ -122,7 +124,7 @@ module _ (d : Wire) where
   sound : (k v : ℕ) → dig (row k) v ≡ true → Reachable d v
   unfolding reached
   sound zero v h =
-      let e : 0 ≡ v = eqb-true 0 v (sym (getD-row (eqb 0) n v false (inside (row 0) (length-reached 0) v h)) ∙ h) in
+      let e : 0 ≡ v = eqb-true 0 v (sym (made-at (eqb 0) n v false (inside (row 0) (length-reached 0) v h)) ∙ h) in
       subst (Reachable d) e first
   sound (suc k) v h = further-sound (row k) (sound k) v h
 
@@ -133,7 +135,7 @@ module _ (d : Wire) where
 
   has-first : Vertex d 0 → (k : ℕ) → dig (row k) 0 ≡ true
   unfolding reached
-  has-first h zero = getD-row (eqb 0) n 0 false h
+  has-first h zero = made-at (eqb 0) n 0 false h
   has-first h (suc k) = further-keeps (row k) (length-reached k) 0 (has-first h k)
 
   closed-all : (a : List Bool) → length a ≡ n → Closed a → dig a 0 ≡ true → (v : ℕ) → Reachable d v → dig a v ≡ true

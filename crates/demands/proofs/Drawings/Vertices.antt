@@ -10,11 +10,12 @@ use lib.Dec.{eqb}
 use lib.ListN.{length}
 use Rattle.lists.specs.Lists.{any, upto}
 use Rattle.lists.proofs.Truth.{and-left, and-right, and-both, or-left, or-right, or-cases, never}
+use Rattle.lists.proofs.Passing.{any-yes, any-is, some-yes, some-is}
 use Rattle.paper.specs.Points.{minus, samePoint}
 use Rattle.paper.specs.Drawing.{Wire, Edge, edge, at, edgeAt, ends, samePlace, looseVertex}
 use Rattle.laws.proofs.Points.{origin-yes, origin-is, point-eq, point-diff}
 use Rattle.demands.specs.Drawings.{Finds, start, stop, Vertex, HasEdge, EndOf, Doubled, Loose}
-use Rattle.demands.proofs.Tools.Searches.{any-yes, any-is, some-yes, some-is, finds, finds-none}
+use Rattle.demands.proofs.Tools.Searches.{finds, finds-none}
 
 module _ (d : Wire) where
   abbrev n : ℕ

@@ -12,13 +12,13 @@ use lib.ListN.{length, getD, List·getD-eq-default}
 use Rattle.lists.specs.Lists.{all}
 use Rattle.pack.specs.Bits.{fieldAt}
 use Rattle.lists.proofs.Truth.{and-left, and-right, and-both}
+use Rattle.lists.proofs.Passing.{all-yes, all-is}
 use Rattle.paper.specs.Format.{outside, bytesFor, fillAfter}
 use Rattle.paper.specs.FaceList.{countIn, facesIn, bitsOf, faceFits, wellShaped}
 use Rattle.paper.specs.Loops.{Loop}
 use Rattle.paper.specs.declared.Format.{Format}
 use Rattle.sheet.proofs.Shaped.{outside-false}
 use Rattle.demands.specs.FaceLists.{Sendable}
-use Rattle.demands.proofs.Tools.Searches.{all-yes, all-is}
 use Rattle.demands.proofs.Sheets.Written.{inside}
 use Rattle.demands.proofs.FaceLists.Packed.{Fit}
 

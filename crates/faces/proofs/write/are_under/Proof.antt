@@ -4,7 +4,7 @@ use native.Mathlib.Numerals.{add-one}
 use borrow.Author.Tests.{lt-ltb, le-ltb}
 use lib.Dec.{ltb}
 use lib.ListN.{take, drop}
-use Rattle.lists.proofs.Every.{Rest, rest-hit, rest-miss, rest-end}
+use Rattle.lists.proofs.Passing.{Rest, rest-hit, rest-miss, rest-end}
 use Rattle.faces.proofs.RowAt.{length-corners, corner-at}
 use native.Mathlib.Omega.{arith}
 use Rattle.faces.proofs.write.are_under.Statement.{statement}
