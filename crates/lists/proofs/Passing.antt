@@ -2,10 +2,9 @@
 use mathlib.Core.Path.{_≡_, refl, sym, ap, _∙_}
 use mathlib.Core.Bool.{Bool, true, false, _&&_, _||_, true≢false}
 use mathlib.Core.List.{List, [], _∷_, _++_, reverse, reverse-cons}
-use Prim.Native.Nat.{ℕ, zero, suc, _<_, _≤_}
+use Prim.Native.Nat.{ℕ, zero, suc, _<_}
 use native.Mathlib.Omega.{arith}
-use lib.ListN.{length, getD, drop, drop-of-length-le}
-use lib.Seq.{drop-cons}
+use lib.ListN.{length, getD}
 use Rattle.lists.specs.Lists.{any, all, upto}
 use Rattle.lists.proofs.Truth.{and-left, and-right, and-both, or-left, or-right}
 use Rattle.lists.proofs.Places.{upto-length, upto-at}
@@ -96,22 +95,3 @@ module _ {A : Type 0} (p : A → Bool) where
       swap true false = refl
       swap false true = refl
       swap false false = refl
-
-  -- what a loop still has to look at, from place k on, gives the whole answer
-  abbrev pub Rest : List A → ℕ → Type 0
-  Rest xs k = all p xs ≡ all p (drop k xs)
-
-  module _ (xs : List A) (d : A) (k : ℕ) (h : k < length xs) (r : Rest xs k) where
-    at : all p (drop k xs) ≡ p (getD xs k d) && all p (drop (suc k) xs)
-    unfolding all
-    at = ap (all p) (drop-cons xs k d h)
-
-    pub rest-hit : p (getD xs k d) ≡ false → false ≡ all p xs
-    rest-hit e = sym (r ∙ at ∙ ap (λ (b : Bool). b && all p (drop (suc k) xs)) e)
-
-    pub rest-miss : p (getD xs k d) ≡ true → Rest xs (suc k)
-    rest-miss e = r ∙ at ∙ ap (λ (b : Bool). b && all p (drop (suc k) xs)) e
-
-  pub rest-end : (xs : List A) (k : ℕ) → length xs ≤ k → Rest xs k → true ≡ all p xs
-  unfolding all
-  rest-end xs k h r = sym (r ∙ ap (all p) (drop-of-length-le xs h))

@@ -2,12 +2,12 @@
 use mathlib.Core.Path.{_≡_, refl, sym, ap, ap₂, _∙_}
 use mathlib.Core.List.{List, [], _∷_, _++_, append-assoc}
 use Prim.Native.Nat.{ℕ, zero, suc, _+_, _*_, _/_, _%_, _^_, _≤_, _<_}
-use native.Mathlib.Nat.{mod-one, mod-eq-of-lt, mod-lt, zero-add, suc-add, add-assoc, add-mul, zero-mul, suc-mul, pow-succ', add-comm, mul-assoc, mul-comm, lt-of-lt-of-le, min-le-left, le-trans, le-of-eq, mul-suc, mul-le-mul-left}
+use native.Mathlib.Nat.{mod-one, mod-eq-of-lt, mod-lt, zero-add, suc-add, add-assoc, add-mul, zero-mul, suc-mul, pow-succ', add-comm, mul-assoc, mul-comm, lt-of-lt-of-le, min-le-left, le-trans, le-of-eq, mul-suc, mul-zero, mul-le-mul-left}
 use native.Mathlib.Numerals.{one-add, add-one}
 use native.Mathlib.Omega.{arith}
 use lib.Pow.{mod-pow-add, field as pow-field, mod-mod-pow, high, low, pow-add, pow-mono, shr-shr}
 use lib.Arith.{digits-lt}
-use lib.ListN.{length, take, drop, length-append, length-take, length-drop}
+use lib.ListN.{length, getD, take, drop, length-append, length-take, length-drop}
 use lib.Seq.{take-at, drop-at, take-add, length-take-le, getD-drop, drop-drop}
 use Rattle.pack.specs.Bits.{bits, val, run, cut, fieldAt, fieldsAt, Under}
 
@@ -166,6 +166,19 @@ fields-more s i w n =
 pub length-fields : (s : List ℕ) (i w n : ℕ) → length (fieldsAt s i w n) ≡ n
 unfolding fieldsAt
 length-fields s i w n = length-cut w n (drop i (run 8 s))
+
+-- the first field, and those behind it
+fields-cons : (s : List ℕ) (i w n : ℕ) → fieldsAt s i w (suc n) ≡ fieldAt s i w ∷ fieldsAt s (i + w) w n
+unfolding fieldsAt fieldAt cut
+fields-cons s i w n = ap (λ (t : List ℕ). fieldAt s i w ∷ cut w n t) (drop-drop w i (run 8 s))
+
+-- field k of n
+pub getD-fields : (s : List ℕ) (i w n k : ℕ) → k < n → getD (fieldsAt s i w n) k 0 ≡ fieldAt s (i + w * k) w
+getD-fields s i w zero k h = absurd (omega arith)
+getD-fields s i w (suc n) zero h = let e : i + w * 0 ≡ i = omega (arith, mul-zero w) in rw (fields-cons s i w n, e) refl
+getD-fields s i w (suc n) (suc k) h =
+    let e : i + w + w * k ≡ i + w * suc k = omega (arith, mul-suc w k) in
+    rw (fields-cons s i w n) (getD-fields s (i + w) w n k (omega arith) ∙ ap (λ (j : ℕ). fieldAt s j w) e)
 
 -- field k of n fields of w bits each ends within them
 pub slot : (w k n : ℕ) → k < n → w * k + w ≤ w * n

@@ -3,11 +3,10 @@ use Prim.Native.Nat.{ℕ, suc, _<_, _-_, _+_, _*_}
 use native.Mathlib.Nat.{mod-eq-of-lt}
 use lib.ListN.{length, getD}
 use Rattle.pack.specs.Bits.{fieldAt, fieldsAt}
-use Rattle.pack.proofs.Laws.{slot, field-below, length-fields}
+use Rattle.pack.proofs.Laws.{slot, field-below, length-fields, getD-fields}
 use Rattle.laws.proofs.Rows.{row-first, row-corner, row-fill}
 use Rattle.paper.specs.Loops.{row}
 use Rattle.faces.proofs.Brief.{corners-small}
-use Rattle.faces.proofs.Below.{getD-fields}
 use mathlib.Core.List.{List}
 use native.Mathlib.Omega.{arith}
 use borrow.Author.Needs.{needs}
