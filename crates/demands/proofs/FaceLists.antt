@@ -18,10 +18,10 @@ use Rattle.paper.specs.FaceList.{encodeFaces, facesIn, wellShaped, facesOf}
 use Rattle.paper.specs.Loops.{Loop, row}
 use Rattle.paper.specs.declared.Format.{Format}
 use Rattle.paper.specs.declared.Answer.the-variants.{Fine}
+use Rattle.faces.proofs.Shape.{shape-yes}
 use Rattle.demands.specs.Sound.{Sound}
 use Rattle.demands.specs.FaceLists.{Sendable}
 use Rattle.demands.proofs.Sheets.{one-sound}
-use Rattle.demands.proofs.FaceLists.Shape.{shape-yes}
 use Rattle.demands.proofs.FaceLists.Written.{faces-accepted, faces-read-back, rows-returned}
 use Rattle.demands.proofs.FaceLists.Read.{written-again, can-be-sent}
 

@@ -1,29 +1,21 @@
--- A face that fits, and a loop run the other way. Assumes nothing.
+-- A loop run the other way: it fits as well. Assumes nothing.
 use mathlib.Core.Path.{_≡_, refl, sym, ap, ap₂, _∙_}
 use mathlib.Core.Bool.{Bool, true, false, _&&_, not}
 use mathlib.Core.List.{[], _∷_}
-use Prim.Native.Nat.{ℕ, zero, suc, _-_, _≤_, _<_}
+use Prim.Native.Nat.{ℕ, zero, suc, _-_, _<_}
 use native.Mathlib.Omega.{arith}
-use borrow.Author.Tests.{not-true}
 use lib.Dec.{ltb}
 use lib.ListN.{length, getD, length-reverse}
 use Rattle.lists.specs.Lists.{all}
-use Rattle.lists.proofs.Truth.{and-left}
 use Rattle.lists.proofs.Passing.{all-reverse}
 use Rattle.lists.proofs.Backwards.{getD-reverse}
 use Rattle.paper.specs.Format.{outside}
 use Rattle.paper.specs.Loops.{Loop, flipped}
 use Rattle.paper.specs.FaceList.{faceFits}
 use Rattle.paper.specs.declared.Format.{Format}
-use Rattle.sheet.proofs.Shaped.{outside-false}
 use Rattle.faces.specs.Send.{way}
 
--- 3 to 12 corners
-pub fits-most : (f : Format) (v : ℕ) (l : Loop) → faceFits f v l ≡ true → (3 ≤ length l) × (length l ≤ 12)
-unfolding faceFits
-fits-most f v l h = outside-false 3 12 (length l) (not-true (outside 3 12 (length l)) (and-left (not (outside 3 12 (length l))) (all (λ c. ltb c v) l) h))
-
--- ---- the same loop the other way: its length, its corners as a set, and each corner
+-- its length, its corners as a set, and each corner
 
 flipped-length : (l : Loop) → length (flipped l) ≡ length l
 unfolding flipped

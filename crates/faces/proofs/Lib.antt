@@ -1,5 +1,6 @@
 -- The laws that this crate's proofs share. Assumes nothing.
 pub mod Brief
+pub mod Shape
 pub mod Fits
 pub mod Below
 pub mod FaceAt

@@ -27,7 +27,7 @@ use Rattle.faces.specs.Face.{Brief}
 use Rattle.faces.specs.Face.{countOf, faceAt, closesAt}
 use Rattle.sheet.proofs.Shaped.{outside-false}
 use Rattle.faces.proofs.Brief.{corners-small}
-use Rattle.faces.proofs.Fits.{fits-most}
+use Rattle.faces.proofs.Shape.{face-yes}
 use Rattle.faces.proofs.FaceList.{start, length-in, face-is, start-more, start-most, start-all}
 
 -- ---- tests in a row
@@ -152,7 +152,7 @@ module _ (f : Format) (v : ℕ) (s : List ℕ) where
       let t : z ≡ true = and-right a z (q .0) in
       let b : p + 4 + f .nw * fieldAt s p 4 ≤ length s * 8 = leb-true _ _ (and-left a z (q .0)) in
       let d : c ≡ fieldAt s p 4 = q .1 in
-      let m : length (fieldsAt s (p + 4) (f .nw) c₀) ≤ 12 = fits-most f v (fieldsAt s (p + 4) (f .nw) c₀) t .1 in
+      let m : length (fieldsAt s (p + 4) (f .nw) c₀) ≤ 12 = face-yes f v (fieldsAt s (p + 4) (f .nw) c₀) t .1 in
       record { count-is = d; inside = rw d b; fits-in = rw d t; corners-most = omega (arith, d, length-fields s (p + 4) (f .nw) c₀) }
 
   -- one face more

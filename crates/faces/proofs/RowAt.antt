@@ -16,7 +16,8 @@ use Rattle.paper.specs.FaceList.{faceFits, rowAt}
 use Rattle.paper.specs.declared.Format.{Format}
 use Rattle.faces.specs.Send.{way, fits, cornersOf}
 use Rattle.sheet.proofs.Shaped.{outside-false}
-use Rattle.faces.proofs.Fits.{fits-most, way-first, way-back}
+use Rattle.faces.proofs.Shape.{face-yes}
+use Rattle.faces.proofs.Fits.{way-first, way-back}
 
 -- ---- numbers from place i on
 
@@ -96,7 +97,7 @@ module _ (f : Format) (rows : List ℕ) (k : ℕ) where
   row-whole e = go (leb (13 * k + 13) (length rows)) (leb count 12) refl refl
     where
       empty : fits f [] ≡ true → ⊥
-      empty q = let m : 3 ≤ 0 = fits-most f (f .vmax) [] q .0 in omega arith
+      empty q = let m : 3 ≤ 0 = face-yes f (f .vmax) [] q .0 in omega arith
 
       go : (a b : Bool) → leb (13 * k + 13) (length rows) ≡ a → leb count 12 ≡ b → Whole
       go true true s t =
@@ -113,5 +114,5 @@ unfolding cornersOf
 corners-most f l {c} e = go (fits f l) refl e
   where
     go : (b : Bool) → fits f l ≡ b → some c ≡ cond b (some (length l)) none → c ≤ 12
-    go true t q = let d : c ≡ length l = cc in omega (arith, fits-most f (f .vmax) l t .1)
+    go true t q = let d : c ≡ length l = cc in omega (arith, face-yes f (f .vmax) l t .1)
     go false t q = let z : _≡_ {A = ℕ} 0 1 = cc in absurd (omega arith)

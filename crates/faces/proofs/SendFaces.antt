@@ -1,6 +1,6 @@
 -- The loop that writes a solid's faces: what is written and what is left, one candidate more, and how it ends. Assumes nothing.
 use mathlib.Core.Path.{_≡_, refl, sym, ap, ap₂, _∙_}
-use mathlib.Core.Bool.{Bool, true, false, _&&_}
+use mathlib.Core.Bool.{Bool, true, false}
 use mathlib.Core.List.{List, [], _∷_, _++_, flatMap, append-nil}
 use Prim.Native.Nat.{ℕ, _+_, _*_, _≤_, _<_}
 use native.Mathlib.Nat.{mul-comm}
@@ -21,7 +21,7 @@ use Rattle.faces.proofs.Weight.{facesLeft, faces-start, faces-next, fac
 module _ (f : Format) where
   -- ---- the bits of faces
 
-  length-face : (l : Loop) → length (faceBits f l) ≡ 4 + f .nw * length l
+  pub length-face : (l : Loop) → length (faceBits f l) ≡ 4 + f .nw * length l
   unfolding faceBits
   length-face l =
       length-append (bits 4 (length l)) (run (f .nw) l) ∙ ap₂ (λ (x y : ℕ). x + y) (length-bits 4 (length l)) (length-run (f .nw) l ∙ mul-comm (length l) (f .nw))

@@ -37,11 +37,11 @@ module _ (f : Format) (fs : List Loop) where
   unfolding bitsOf
   size-is e = ap (λ (n : ℕ). 4 + f .fw + n) e
 
-  length-list : length (listBits f fs) ≡ bitsOf f fs
+  pub length-list : length (listBits f fs) ≡ bitsOf f fs
   unfolding listBits bitsOf
   length-list = length-append head (flatMap (faceBits f) fs) ∙ ap₂ (λ (x y : ℕ). x + y) length-head (length-bits-of f fs)
 
-  under-list : Under 2 (listBits f fs)
+  pub under-list : Under 2 (listBits f fs)
   unfolding listBits
   under-list =
       under-append 2 head (flatMap (faceBits f) fs)

@@ -18,7 +18,8 @@ use Rattle.faces.specs.Send.{digit, faceOf, faceAlone, fits, cornersOf, 
 use Rattle.faces.specs.declared.write.Extent.{Extent}
 use Rattle.faces.specs.declared.write.Extent.the-variants.{Misfit, Of}
 use Rattle.faces.proofs.Brief.{corners-small}
-use Rattle.faces.proofs.Fits.{fits-most, way-length, way-fits}
+use Rattle.faces.proofs.Shape.{face-yes}
+use Rattle.faces.proofs.Fits.{way-length, way-fits}
 
 -- two weights one behind the other
 abbrev pub plus : Extent → Extent → Extent
@@ -82,7 +83,7 @@ module _ (f : Format) where
   span-small g (l ∷ fs) h =
       let a = and-left (fits f l) (all (fits f) fs) h in
       let b = and-right (fits f l) (all (fits f) fs) h in
-      omega (arith, span-small g fs b, corners-small (g .slender .nw-most) (fits-most f (f .vmax) l a .1))
+      omega (arith, span-small g fs b, corners-small (g .slender .nw-most) (face-yes f (f .vmax) l a .1))
 
   module _ (rows : List ℕ) (taken : ℕ) where
     -- one candidate: not taken, no face, a face

@@ -7,53 +7,17 @@ use native.Mathlib.Omega.{arith}
 use lib.ListN.{length, take, drop, length-append, length-drop}
 use lib.Seq.{take-at, drop-at, take-add, length-take-le}
 use Rattle.pack.specs.Bits.{bits, val, run, cut, Under}
-use Rattle.pack.proofs.Laws.{length-bits, length-run, length-cut, val-bits, bits-val, cut-run, run-cut, under-take, under-drop, under-bits, under-run, under-append}
-use Rattle.paper.specs.FaceList.{faceBits, listBits, facesAt, span, bitsOf}
+use Rattle.pack.proofs.Laws.{length-bits, length-cut, val-bits, bits-val, cut-run, run-cut, under-take, under-drop}
+use Rattle.paper.specs.FaceList.{faceBits, facesAt, bitsOf}
 use Rattle.paper.specs.Loops.{Loop}
 use Rattle.paper.specs.declared.Format.{Format}
+use Rattle.faces.proofs.SendFaces.{length-face, length-bits-of}
 
 module _ (f : Format) where
-  -- ---- lengths
-
-  length-face : (l : Loop) → length (faceBits f l) ≡ 4 + f .nw * length l
-  unfolding faceBits
-  length-face l =
-      length-append (bits 4 (length l)) (run (f .nw) l)
-      ∙ ap₂ (λ (x y : ℕ). x + y) (length-bits 4 (length l)) (length-run (f .nw) l ∙ mul-comm (length l) (f .nw))
-
-  pub length-faces : (n : ℕ) (bs : List ℕ) → length (facesAt f n bs) ≡ n
-  unfolding facesAt
-  length-faces zero bs = refl
-  length-faces (suc n) bs = ap suc (length-faces n (drop (4 + f .nw * val (take 4 bs)) bs))
-
-  -- the bits of faces, and those before the fill
-  span-is : (fs : List Loop) → span f fs ≡ length (flatMap (faceBits f) fs)
-  unfolding span flatMap
-  span-is [] = refl
-  span-is (l ∷ fs) = omega (arith, span-is fs, length-append (faceBits f l) (flatMap (faceBits f) fs), length-face l)
-
+  -- the bits before the fill
   pub bits-are : (fs : List Loop) → bitsOf f fs ≡ 4 + f .fw + length (flatMap (faceBits f) fs)
   unfolding bitsOf
-  bits-are fs = ap (λ (n : ℕ). 4 + f .fw + n) (span-is fs)
-
-  pub length-list : (fs : List Loop) → length (listBits f fs) ≡ bitsOf f fs
-  unfolding listBits
-  length-list fs =
-      length-append (bits 4 (f .edition) ++ bits (f .fw) (length fs)) (flatMap (faceBits f) fs)
-      ∙ omega (arith, length-append (bits 4 (f .edition)) (bits (f .fw) (length fs)), length-bits 4 (f .edition), length-bits (f .fw) (length fs), bits-are fs)
-
-  under-faces : (fs : List Loop) → Under 2 (flatMap (faceBits f) fs)
-  unfolding flatMap faceBits
-  under-faces [] i = omega arith
-  under-faces (l ∷ fs) i =
-      under-append 2 (faceBits f l) (flatMap (faceBits f) fs)
-      (under-append 2 (bits 4 (length l)) (run (f .nw) l) (under-bits 4 (length l)) (under-run (f .nw) l)) (under-faces fs) i
-
-  pub under-list : (fs : List Loop) → Under 2 (listBits f fs)
-  unfolding listBits
-  under-list fs =
-      under-append 2 (bits 4 (f .edition) ++ bits (f .fw) (length fs)) (flatMap (faceBits f) fs)
-      (under-append 2 (bits 4 (f .edition)) (bits (f .fw) (length fs)) (under-bits 4 (f .edition)) (under-bits (f .fw) (length fs))) (under-faces fs)
+  bits-are fs = ap (λ (n : ℕ). 4 + f .fw + n) (sym (length-bits-of f fs))
 
   -- ---- packed and read
 
@@ -85,7 +49,7 @@ module _ (f : Format) where
       ap (facesAt f (suc (length fs))) (append-assoc (faceBits f l) (flatMap (faceBits f) fs) rest)
       ∙ ap (λ (k : ℕ). cut (f .nw) k (drop 4 (faceBits f l ++ r)) ∷ facesAt f (length fs) (drop (4 + f .nw * k) (faceBits f l ++ r))) (count-back l r (h .0))
       ∙ ap₂ (λ (x : Loop) (t : List Loop). x ∷ t) (corners-back l r (h .1))
-      (ap (facesAt f (length fs)) (drop-at (faceBits f l) r (4 + f .nw * length l) (length-face l)) ∙ faces-back fs rest (h .2))
+      (ap (facesAt f (length fs)) (drop-at (faceBits f l) r (4 + f .nw * length l) (length-face f l)) ∙ faces-back fs rest (h .2))
 
   -- ---- read and packed
 
@@ -109,7 +73,7 @@ module _ (f : Format) where
       let k : ℕ = val (take 4 bs) in
       let l : Loop = cut (f .nw) k (drop 4 bs) in
       let fs : List Loop = facesAt f n (drop (4 + f .nw * k) bs) in
-      let m : length (faceBits f l) ≡ 4 + f .nw * k = length-face l ∙ ap (λ (j : ℕ). 4 + f .nw * j) (length-cut (f .nw) k (drop 4 bs)) in
+      let m : length (faceBits f l) ≡ 4 + f .nw * k = length-face f l ∙ ap (λ (j : ℕ). 4 + f .nw * j) (length-cut (f .nw) k (drop 4 bs)) in
       let e : length (faceBits f l ++ flatMap (faceBits f) fs) ≡ 4 + f .nw * k + length (flatMap (faceBits f) fs) =
       length-append (faceBits f l) (flatMap (faceBits f) fs) ∙ ap (λ (j : ℕ). j + length (flatMap (faceBits f) fs)) m in
       ap₂ (λ (x y : List ℕ). x ++ y) (face-back bs k u refl (omega (arith, e)))

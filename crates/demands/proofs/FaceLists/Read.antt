@@ -13,10 +13,13 @@ use Rattle.paper.specs.Format.{filled}
 use Rattle.paper.specs.FaceList.{faceBits, listBits, encodeFaces, countIn, facesIn, bitsOf}
 use Rattle.paper.specs.Loops.{Loop}
 use Rattle.paper.specs.declared.Format.{Format}
+use Rattle.faces.proofs.Shape.{Shaped}
+use Rattle.faces.proofs.FaceList.{length-in}
+use Rattle.faces.proofs.Sent.{length-list}
 use Rattle.demands.specs.FaceLists.{Sendable}
 use Rattle.demands.proofs.Tools.Filled.{above, filled-again}
-use Rattle.demands.proofs.FaceLists.Packed.{length-faces, bits-are, length-list, bits-back}
-use Rattle.demands.proofs.FaceLists.Shape.{Shaped, sendable-is}
+use Rattle.demands.proofs.FaceLists.Packed.{bits-are, bits-back}
+use Rattle.demands.proofs.FaceLists.Shape.{sendable-is}
 
 module _ (f : Format) (v : ℕ) (s : List ℕ) (g : Shaped f v s) where
   abbrev fs : List Loop
@@ -26,8 +29,7 @@ module _ (f : Format) (v : ℕ) (s : List ℕ) (g : Shaped f v s) where
   all = run 8 s
 
   count-is : length fs ≡ countIn f s
-  unfolding facesIn
-  count-is = length-faces f (countIn f s) (drop (4 + f .fw) all)
+  count-is = length-in f s
 
   room : 4 + f .fw + length (flatMap (faceBits f) fs) ≤ length s * 8
   room = le-trans (le-of-eq (sym (bits-are f fs))) (le-trans (above (bitsOf f fs)) (le-of-eq (ap (λ (n : ℕ). n * 8) (sym (g .sized)))))

@@ -17,10 +17,11 @@ use Rattle.paper.specs.FaceList.{faceBits, listBits, encodeFaces, facesAt, coun
 use Rattle.paper.specs.Loops.{Loop, row}
 use Rattle.paper.specs.declared.Format.{Format}
 use Rattle.paper.specs.declared.Answer.the-variants.{Fine}
+use Rattle.faces.proofs.Sent.{length-list, under-list}
 use Rattle.demands.specs.Sound.{Sound}
 use Rattle.demands.specs.FaceLists.{Sendable}
 use Rattle.demands.proofs.Tools.Filled.{zeros, length-filled, run-filled, fill-filled}
-use Rattle.demands.proofs.FaceLists.Packed.{length-list, under-list, faces-back}
+use Rattle.demands.proofs.FaceLists.Packed.{faces-back}
 use Rattle.demands.proofs.FaceLists.Shape.{shape-is, sendable-fits, fit}
 
 module _ (f : Format) (sound : Sound f) (v : ℕ) (w : v ≤ 2 ^ f .nw) (fs : List Loop) (g : Sendable f v fs) where

@@ -6,26 +6,23 @@ use Prim.Native.Nat.{ℕ, _≤_, _+_, _*_, _/_, _%_, _^_}
 use native.Mathlib.Nat.{mul-assoc, mul-comm, le-trans, le-of-eq}
 use native.Mathlib.Omega.{arith}
 use borrow.Author.Tests.{eq-eqb}
-use lib.IntN.{pos}
 use lib.ListN.{length, take, drop}
 use lib.Seq.{take-add}
 use Rattle.pack.specs.Bits.{bits, run, fieldsAt, Under}
-use Rattle.pack.proofs.Fill.{take-padded}
 use Rattle.pack.proofs.Trip.{bits-field, run-fields}
-use Rattle.laws.proofs.Checks.{fails, first-both}
+use Rattle.laws.proofs.Checks.{fails}
+use Rattle.laws.proofs.Limits.{inside}
 use Rattle.paper.specs.Refusals.{firstOf}
 use Rattle.paper.specs.Format.{low, head, total, filled, headBits, onSheet, coordinate, verticesIn, edgesIn, coordinatesIn, endsIn, encode}
-use Rattle.paper.specs.Sheet.{contentChecks, shapeChecks, sheetChecks, lentChecks, badCount, held, drawnFor, sheetOf}
+use Rattle.paper.specs.Sheet.{contentChecks, sheetChecks, lentChecks, badCount, sheetOf}
 use Rattle.paper.specs.declared.Format.{Format}
-use Rattle.paper.specs.declared.Answer.{Answer}
 use Rattle.paper.specs.declared.Drawing.{Drawing}
 use Rattle.paper.specs.declared.Answer.the-variants.{Fine}
 use Rattle.sheet.proofs.Accepted.{accepted-shape, accepted-contents, coordinates-are, ends-are}
 use Rattle.sheet.proofs.Coordinate.{onSheet-coordinate}
 use Rattle.sheet.proofs.Drawn.{length-coordinates, length-ends}
-use Rattle.sheet.proofs.Shaped.{Shaped, shaped}
+use Rattle.sheet.proofs.Shaped.{Shaped}
 use Rattle.demands.proofs.Tools.Filled.{above, filled-again}
-use Rattle.demands.proofs.Sheets.Written.{inside}
 
 map-back : (ns : List ℕ) → map onSheet (map coordinate ns) ≡ ns
 map-back [] = refl

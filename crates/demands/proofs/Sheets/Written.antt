@@ -2,7 +2,7 @@
 use mathlib.Core.Path.{_≡_, refl, sym, ap, ap₂, _∙_}
 use mathlib.Core.Bool.{Bool, true, false, not}
 use mathlib.Core.List.{List, [], _∷_, _++_, map, append-assoc}
-use Prim.Native.Nat.{ℕ, zero, suc, _≤_, _<_, _+_, _*_, _/_, _^_}
+use Prim.Native.Nat.{ℕ, zero, suc, _<_, _+_, _*_, _/_, _^_}
 use native.Mathlib.Nat.{lt-of-lt-of-le, lt-of-le-of-lt, le-trans}
 use native.Mathlib.Omega.{arith}
 use borrow.Author.Tests.{le-ltb, eq-eqb, ltb-true, ltb-false}
@@ -14,8 +14,9 @@ use Rattle.pack.specs.Bits.{bits, run, fieldAt, Under}
 use Rattle.pack.proofs.Laws.{length-bits}
 use Rattle.pack.proofs.Trip.{field-in, fields-in}
 use Rattle.laws.proofs.Checks.{clear, fails, first-passes}
+use Rattle.laws.proofs.Limits.{inside}
 use Rattle.paper.specs.Refusals.{firstOf}
-use Rattle.paper.specs.Format.{outside, low, head, total, bytesFor, fillAfter, headBits, onSheet, coordinate, verticesIn, edgesIn, coordinatesIn, endsIn, encode}
+use Rattle.paper.specs.Format.{low, head, total, bytesFor, fillAfter, headBits, onSheet, coordinate, verticesIn, edgesIn, coordinatesIn, endsIn, encode}
 use Rattle.paper.specs.Sheet.{contentChecks, openChecks, countChecks, closeChecks, shapeChecks, sheetChecks, drawnFor, held, sheetOf}
 use Rattle.paper.specs.declared.Format.{Format}
 use Rattle.paper.specs.declared.Answer.{Answer}
@@ -40,9 +41,6 @@ near-under (z ∷ xyz) h zero = omega (arith, near z (h zero) .0)
 near-under (z ∷ xyz) h (suc i) = near-under xyz (λ k. h (suc k)) i
 
 -- ---- a sheet with these facts passes refusals 3 to 7
-
-pub inside : (lo hi n : ℕ) → lo ≤ n → n ≤ hi → outside lo hi n ≡ false
-inside lo hi n a b = rw (le-ltb n lo a) (le-ltb hi n b)
 
 module _ (f : Format) (s : List ℕ) where
   open-passes : Opened f s → Fine ≡ firstOf (openChecks f s)
