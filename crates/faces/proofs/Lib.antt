@@ -5,6 +5,7 @@ pub mod Fits
 pub mod Below
 pub mod FaceAt
 pub mod FaceList
+pub mod Filed
 pub mod ReadFaces
 pub mod RowAt
 pub mod Weight

@@ -1,3 +1,4 @@
 -- What contracts of this crate cite beside the paper. Assumes nothing.
 pub mod Face
+pub mod Filed
 pub mod Send
