@@ -1,4 +1,4 @@
--- What follows from document 01's definitions and is cited by several crates. Assumes nothing.
+-- What follows from document 01's definitions, for any crate to cite. Assumes nothing.
 pub mod Checks
 pub mod Limits
 pub mod Rows

@@ -1,0 +1,2 @@
+-- The law that this program's proofs share. Assumes nothing.
+pub mod Rows

@@ -1,0 +1,104 @@
+use mathlib.Core.Path.{sym, ap}
+use Prim.Native.Nat.{_-_, _≤_}
+use lib.ListN.{length}
+use native.Mathlib.Omega.{arith}
+use Rattle.lists.specs.Place.{found}
+use Rattle.trial_geometry.proofs.show_all.Statement.{statement}
+use Rattle.trial_geometry.proofs.show_all.Tie as tie
+
+abbrev Inv-loop : tie.InvT-loop
+Inv-loop book at₀ at = at ≤ length book
+
+abbrev μ-loop : tie.MeasureT-loop
+μ-loop book at₀ at = length book - at
+
+loop-holds : tie.Need-loop-holds Inv-loop μ-loop
+loop-holds c = omega arith
+
+end-of-requires : tie.Need-end-of-requires Inv-loop μ-loop
+end-of-requires c κs = omega arith
+
+enum-known-middle : tie.Need-enum-known-middle Inv-loop μ-loop
+enum-known-middle c = omega arith
+
+enum-told : tie.Need-enum-told Inv-loop μ-loop
+enum-told c = omega arith
+
+returns : tie.Need-returns Inv-loop μ-loop
+returns c = omega arith
+
+end-of-requires-2 : tie.Need-end-of-requires-2 Inv-loop μ-loop
+end-of-requires-2 c κs = omega arith
+
+enum-known-end : tie.Need-enum-known-end Inv-loop μ-loop
+enum-known-end c = omega arith
+
+enum-told-2 : tie.Need-enum-told-2 Inv-loop μ-loop
+enum-told-2 c = omega arith
+
+returns-2 : tie.Need-returns-2 Inv-loop μ-loop
+returns-2 c = omega arith
+
+add-show : tie.Need-add-show Inv-loop μ-loop
+add-show c = omega (arith, (c .before .before .before .before .before .before .before .end-of .ensures) _ (sym (ap found ((c .before .before .before .before .before .middle .given) .1))), (c .before .before .before .end-of2 .ensures) _ (sym (ap found ((c .before .end .given) .1))))
+
+sub-show : tie.Need-sub-show Inv-loop μ-loop
+sub-show c = omega (arith, (c .before .before .before .before .before .before .before .end-of .ensures) _ (sym (ap found ((c .before .before .before .before .before .middle .given) .1))), (c .before .before .before .end-of2 .ensures) _ (sym (ap found ((c .before .end .given) .1))))
+
+part-show-start : tie.Need-part-show-start Inv-loop μ-loop
+part-show-start c = omega (arith, (c .before .before .before .before .before .before .before .end-of .ensures) _ (sym (ap found ((c .before .before .before .before .before .middle .given) .1))), (c .before .before .before .end-of2 .ensures) _ (sym (ap found ((c .before .end .given) .1))))
+
+part-show-end : tie.Need-part-show-end Inv-loop μ-loop
+part-show-end c = omega (arith, (c .before .before .before .before .before .before .before .end-of .ensures) _ (sym (ap found ((c .before .before .before .before .before .middle .given) .1))), (c .before .before .before .end-of2 .ensures) _ (sym (ap found ((c .before .end .given) .1))))
+
+add-show-2 : tie.Need-add-show-2 Inv-loop μ-loop
+add-show-2 c = omega (arith, (c .before .before .before .before .before .before .before .before .end-of .ensures) _ (sym (ap found ((c .before .before .before .before .before .before .middle .given) .1))), (c .before .before .before .before .end-of2 .ensures) _ (sym (ap found ((c .before .before .end .given) .1))))
+
+sub-show-2 : tie.Need-sub-show-2 Inv-loop μ-loop
+sub-show-2 c = omega (arith, (c .before .before .before .before .before .before .before .before .end-of .ensures) _ (sym (ap found ((c .before .before .before .before .before .before .middle .given) .1))), (c .before .before .before .before .end-of2 .ensures) _ (sym (ap found ((c .before .before .end .given) .1))))
+
+part-show-start-2 : tie.Need-part-show-start-2 Inv-loop μ-loop
+part-show-start-2 c = omega (arith, (c .before .before .before .before .before .before .before .before .end-of .ensures) _ (sym (ap found ((c .before .before .before .before .before .before .middle .given) .1))), (c .before .before .before .before .end-of2 .ensures) _ (sym (ap found ((c .before .before .end .given) .1))))
+
+part-show-end-2 : tie.Need-part-show-end-2 Inv-loop μ-loop
+part-show-end-2 c = omega (arith, (c .before .before .before .before .before .before .before .before .end-of .ensures) _ (sym (ap found ((c .before .before .before .before .before .before .middle .given) .1))), (c .before .before .before .before .end-of2 .ensures) _ (sym (ap found ((c .before .before .end .given) .1))))
+
+show-requires : tie.Need-show-requires Inv-loop μ-loop
+show-requires c κs = omega arith
+
+loop-less : tie.Need-loop-less Inv-loop μ-loop
+loop-less c = omega (arith, (c .before .before .before .before .before .before .before .before .before .before .end-of .ensures) _ (sym (ap found ((c .before .before .before .before .before .before .before .before .middle .given) .1))), (c .before .before .before .before .before .before .end-of2 .ensures) _ (sym (ap found ((c .before .before .before .before .end .given) .1))))
+
+loop-again : tie.Need-loop-again Inv-loop μ-loop
+loop-again c = omega (arith, (c .before .before .before .before .before .before .before .before .before .before .end-of .ensures) _ (sym (ap found ((c .before .before .before .before .before .before .before .before .middle .given) .1))), (c .before .before .before .before .before .before .end-of2 .ensures) _ (sym (ap found ((c .before .before .before .before .end .given) .1))))
+
+returns-3 : tie.Need-returns-3 Inv-loop μ-loop
+returns-3 c = omega arith
+
+pub show-all-spec : {M : Type 1} → statement M
+show-all-spec =
+    tie.close
+    (tie.spec
+    Inv-loop
+    μ-loop
+    loop-holds
+    end-of-requires
+    enum-known-middle
+    enum-told
+    returns
+    end-of-requires-2
+    enum-known-end
+    enum-told-2
+    returns-2
+    add-show
+    sub-show
+    part-show-start
+    part-show-end
+    add-show-2
+    sub-show-2
+    part-show-start-2
+    part-show-end-2
+    show-requires
+    loop-less
+    loop-again
+    returns-3)
