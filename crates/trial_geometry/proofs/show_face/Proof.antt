@@ -1,4 +1,4 @@
-use Prim.Native.Nat.{_-_, _≤_}
+use Prim.Native.Nat.{_-_}
 use native.Mathlib.Omega.{arith}
 use Rattle.trial_geometry.proofs.show_face.Statement.{statement}
 use Rattle.trial_geometry.proofs.show_face.Tie as tie

@@ -1,6 +1,5 @@
 use mathlib.Core.Path.{sym, ap, subst, _∙_}
 use Prim.Native.Nat.{_<_}
-use denote.Ref.{now}
 use Rattle.paper.specs.Format.{one}
 use Rattle.paper.specs.declared.Faces.{Faces}
 use Rattle.faces.specs.Filed.{Filed}

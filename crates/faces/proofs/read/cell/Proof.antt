@@ -1,7 +1,7 @@
 use mathlib.Core.Path.{_≡_, _∙_, sym, ap}
 use Prim.Native.Nat.{ℕ, suc, _<_, _-_, _+_, _*_}
 use native.Mathlib.Nat.{mod-eq-of-lt}
-use lib.ListN.{length, getD}
+use lib.ListN.{getD}
 use Rattle.pack.specs.Bits.{fieldsAt}
 use Rattle.pack.proofs.Laws.{slot, field-below, length-fields, getD-fields}
 use Rattle.laws.proofs.Rows.{row-first, row-corner, row-fill}

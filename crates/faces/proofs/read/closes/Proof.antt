@@ -1,4 +1,4 @@
-use mathlib.Core.Path.{_≡_, _∙_, sym, ap, refl}
+use mathlib.Core.Path.{refl}
 use borrow.Author.Tests.{eq-eqb, ne-eqb}
 use Rattle.paper.specs.Format.{fillAfter}
 use Rattle.faces.specs.Face.{closesAt}

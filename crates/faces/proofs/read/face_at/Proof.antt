@@ -1,11 +1,6 @@
-use mathlib.Core.Path.{_≡_, _∙_, sym, ap}
-use Prim.Native.Nat.{ℕ, _+_, _*_, _≤_, _<_}
+use mathlib.Core.Path.{_∙_, sym, ap}
+use Prim.Native.Nat.{_+_, _*_, _≤_, _<_}
 use lib.ListN.{length}
-use Rattle.pack.specs.Bits.{fieldAt, fieldsAt}
-use Rattle.lists.specs.Lists.{all}
-use lib.Dec.{ltb}
-use mathlib.Core.Bool.{Bool, true, false}
-use Rattle.paper.specs.Format.{outside}
 use Rattle.faces.proofs.Brief.{corners-small}
 use Rattle.sheet.proofs.Shaped.{outside-false}
 use Rattle.faces.proofs.FaceAt.{no-bits, no-count, no-vertex, a-face}

@@ -1,9 +1,7 @@
-use mathlib.Core.Path.{_≡_, ap}
+use mathlib.Core.Path.{ap}
 use mathlib.Core.List.{[]}
-use lib.ListN.{replicate}
 use Rattle.pack.specs.Fill.{padded}
 use Rattle.paper.specs.declared.Answer.{Answer}
-use Rattle.paper.specs.declared.Faces.{Faces}
 use borrow.Author.Needs.{needs}
 use Rattle.faces.proofs.read.no_faces.Statement.{statement}
 use Rattle.faces.proofs.read.no_faces.Tie as tie

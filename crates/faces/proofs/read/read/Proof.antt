@@ -1,13 +1,11 @@
 use mathlib.Core.Path.{_≡_, refl, sym, ap, subst, _∙_}
 use mathlib.Core.Option.{some}
 use mathlib.Core.List.{List}
-use Prim.Native.Nat.{ℕ, _+_, _*_, _-_, _<_, _≤_}
+use Prim.Native.Nat.{ℕ, _+_, _*_, _-_}
 use lib.ListN.{length}
 use borrow.Author.Needs.{needs}
 use Rattle.lists.specs.Place.{found}
-use Rattle.paper.specs.declared.Faces.{Faces}
 use Rattle.paper.specs.declared.Answer.the-variants as Answer
-use Rattle.paper.specs.FaceList.{countIn}
 use Rattle.faces.specs.Face.{countOf}
 use Rattle.faces.proofs.Brief.{corners-small}
 use Rattle.faces.proofs.ReadFaces.{Read, no-list, read-start, face-known, read-next, no-face, read-ends, no-end, count-known, count-most}
