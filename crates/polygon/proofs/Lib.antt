@@ -5,7 +5,5 @@ pub mod Rows
 pub mod Areas
 pub mod Planes
 pub mod Views
-pub mod Angles
 pub mod Fans
-pub mod Strikes
 pub mod Drawn

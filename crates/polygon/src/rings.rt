@@ -21,10 +21,11 @@ pub fn point_at(xyz: &[i64], v: usize) -> Point
     requires { ⌜ 3 * v + 2 < length (now xyz) ⌝ }
     ensures { λ r. ⌜ r ≡ pointOf (now (xyz .entry)) v ⌝ }
 {
+    let i = 3 * v;
     Point {
-        x: xyz[3 * v],
-        y: xyz[3 * v + 1],
-        z: xyz[3 * v + 2],
+        x: xyz[i],
+        y: xyz[i + 1],
+        z: xyz[i + 2],
     }
 }
 

@@ -4,13 +4,13 @@
 ghost use Prim.Native.Nat.{ℕ, _<_};
 ghost use Rattle.polygon.specs.Rings.{Row, Face};
 ghost use Rattle.drawing.specs.InRange.{Points, InRange, Held};
+use clash::clash;
 use drawing::drawing_rules;
 use libc::STDIN_FILENO;
 use lists::Place;
 use paper::Answer;
 use paper::Drawing;
 use paper::Point;
-use polygon::clash::clash;
 use polygon::cover::covers;
 use polygon::rings::normal;
 use trial::end_of;

@@ -1,0 +1,118 @@
+// Two faces clash: A and B, either way round, here, and C in module fold. Assumes rows of a loop table in range, each with its normal.
+pub mod fold;
+
+ghost use mathlib.Core.Path.{_≡_};
+ghost use mathlib.Core.Bool.{_&&_, _||_};
+ghost use lib.IntN.{pos, natAbs};
+ghost use Rattle.exact.specs.Size.{Within};
+ghost use Rattle.paper.specs.Numbers.{farthest};
+ghost use Rattle.paper.specs.Points.{plus, times, isZero};
+ghost use Rattle.paper.specs.Polygon.{lies, exactly, isInside};
+ghost use Rattle.paper.specs.Clash.{opposite, pierced, pierces, enters, clash};
+ghost use Rattle.polygon.specs.Sizes.{Small, mostSide};
+ghost use Rattle.polygon.specs.Rings.{ring, Row, Face};
+use fold::folds;
+use paper::Point;
+use polygon::place::lies_inside;
+use polygon::points::is_zero;
+use polygon::rings::corner;
+use polygon::rings::count;
+use polygon::rings::side;
+
+fn opposite(a: i64, b: i64) -> bool
+    ensures { λ r. ⌜ r ≡ opposite a b ⌝ }
+{
+    (a < 0) & (0 < b) | (0 < a) & (b < 0)
+}
+
+fn size(z: i64) -> i64
+    requires { ⌜ Within mostSide z ⌝ }
+    ensures { λ r. ⌜ r ≡ pos (natAbs z) ⌝ }
+{
+    if z < 0 { -z } else { z }
+}
+
+fn mix(s: i64, p: Point, t: i64, q: Point) -> Point
+    requires { ⌜ Within mostSide s × Small farthest p × Within mostSide t × Small farthest q ⌝ }
+    ensures { λ r. ⌜ r ≡ plus (times s p) (times t q) ⌝ }
+{
+    Point {
+        x: s * p.x + t * q.x,
+        y: s * p.y + t * q.y,
+        z: s * p.z + t * q.z,
+    }
+}
+
+// A: the edge from p to q, whose ends are at a and b from the plane of row g, pierces it strictly inside.
+fn pierced(
+    xyz: &[i64],
+    table: &[u8],
+    g: usize,
+    m: Point,
+    p: Point,
+    q: Point,
+    a: i64,
+    b: i64,
+) -> bool
+    requires { ⌜ Face (now xyz) (now table) g m × Small farthest p × Small farthest q × Within mostSide a × Within mostSide b ⌝ }
+    ensures { λ w. ⌜ w ≡ pierced (ring (now (xyz .entry)) (now (table .entry)) g) p q a b ⌝ }
+{
+    if !opposite(a, b) {
+        return false;
+    }
+    let s = size(b);
+    let t = size(a);
+    lies_inside(xyz, table, g, m, mix(s, p, t, q), t + s)
+}
+
+// B: the point p, which is at s from the plane of row g, is strictly inside.
+fn dips(xyz: &[i64], table: &[u8], g: usize, m: Point, p: Point, s: i64) -> bool
+    requires { ⌜ Face (now xyz) (now table) g m × Small farthest p ⌝ }
+    ensures { λ w. ⌜ w ≡ (isZero s && isInside (lies (exactly p) (ring (now (xyz .entry)) (now (table .entry)) g))) ⌝ }
+{
+    if is_zero(s) {
+        lies_inside(xyz, table, g, m, p, 1)
+    } else {
+        false
+    }
+}
+
+// A and B in one pass over the corners of row f, against row g, whose normal is m.
+pub fn strikes(xyz: &[i64], table: &[u8], f: usize, g: usize, m: Point) -> bool
+    requires { ⌜ Row (now xyz) (now table) f × Face (now xyz) (now table) g m ⌝ }
+    ensures { λ w. ⌜ w ≡ (pierces (ring (now (xyz .entry)) (now (table .entry)) f) (ring (now (xyz .entry)) (now (table .entry)) g) || enters (ring (now (xyz .entry)) (now (table .entry)) f) (ring (now (xyz .entry)) (now (table .entry)) g)) ⌝ }
+{
+    let n = count(table, f);
+    let o = corner(xyz, table, g, 0);
+    let mut a = corner(xyz, table, f, 0);
+    let mut s = side(m, o, a);
+    let mut j = 0;
+    while j < n {
+        let b = corner(xyz, table, f, j + 1);
+        let t = side(m, o, b);
+        if pierced(xyz, table, g, m, a, b, s, t) {
+            return true;
+        }
+        if dips(xyz, table, g, m, a, s) {
+            return true;
+        }
+        a = b;
+        s = t;
+        j += 1;
+    }
+    false
+}
+
+// Rows f and g, whose normals are mf and mg, clash.
+pub fn clash(xyz: &[i64], table: &[u8], f: usize, mf: Point, g: usize, mg: Point) -> bool
+    requires { ⌜ Face (now xyz) (now table) f mf × Face (now xyz) (now table) g mg ⌝ }
+    ensures { λ w. ⌜ w ≡ clash (ring (now (xyz .entry)) (now (table .entry)) f) (ring (now (xyz .entry)) (now (table .entry)) g) ⌝ }
+{
+    if strikes(xyz, table, f, g, mg) {
+        return true;
+    }
+    if strikes(xyz, table, g, f, mf) {
+        return true;
+    }
+    folds(xyz, table, f, mf, g, mg)
+}
