@@ -19,7 +19,7 @@ use Rattle.paper.specs.declared.Sheet.{Sheet}
 use Rattle.paper.specs.declared.Answer.the-variants.{Fine}
 use Rattle.paper.specs.declared.Written.the-variants.{Bytes}
 use Rattle.sheet.proofs.Accepted.{accepted-shape, returns}
-use Rattle.sheet.proofs.Lent.{lent}
+use Rattle.content.proofs.Lent.{lent}
 use Rattle.demands.specs.Sound.{Sound}
 use Rattle.demands.proofs.Sheets.Written.{read-written}
 use Rattle.demands.proofs.Sheets.Read.{accepted-lent, written-again, same-lists}

@@ -14,7 +14,7 @@ use Rattle.paper.specs.Refusals.{firstOf}
 use Rattle.paper.specs.Format.{one, verticesIn, edgesIn, coordinatesIn, endsIn}
 use Rattle.paper.specs.Sheet.{far, contentChecks, lentChecks, held, sheetOf}
 use Rattle.paper.specs.declared.Answer.the-variants.{Fine}
-use Rattle.sheet.proofs.Lent.{contents, lent}
+use Rattle.content.proofs.Lent.{contents, lent}
 use Rattle.sheet.proofs.Drawn.{length-coordinates, length-ends}
 use Rattle.sheet.proofs.Accepted.{accepted-shape, accepted-contents, returns}
 use Rattle.drawing.specs.InRange.{Points, Ends, InRange, Held}

@@ -11,11 +11,11 @@ ghost use Rattle.paper.specs.Refusals as No;
 ghost use Rattle.paper.specs.Refusals.{check, firstOf};
 ghost use Rattle.paper.specs.Drawing.{Wire, joined, looseVertex, reached, apart};
 ghost use Rattle.drawing.specs.Neighbours.{digit, Links};
+use content::refused;
 use paper::APART;
 use paper::Answer;
 use paper::LOOSE_VERTEX;
 use paper::MOST_VERTICES;
-use sheet::content::refused;
 
 pub fn loose_vertex(near: &[u64; MOST_VERTICES], v: usize) -> Answer
     requires { ⌜ v ≤ one .vmax ⌝ }

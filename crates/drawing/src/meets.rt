@@ -17,11 +17,11 @@ ghost use Rattle.drawing.specs.Meets.{meetsAt};
 use super::segments::on_open;
 use super::segments::open_meets;
 use super::wide;
+use content::refused;
 use paper::Answer;
 use paper::EDGE_MEETS;
 use paper::Point;
 use polygon::rings::point_at;
-use sheet::content::refused;
 
 // The segment from a to b without its ends has one of the v vertices on it.
 fn meets_vertex(xyz: &[i64], v: usize, a: Point, b: Point) -> bool

@@ -11,11 +11,11 @@ ghost use Rattle.paper.specs.Points.{samePoint};
 ghost use Rattle.paper.specs.Drawing.{Wire, pointsOf, samePlace};
 ghost use Rattle.polygon.specs.Rings.{pointOf};
 ghost use Rattle.drawing.specs.InRange.{Points};
+use content::refused;
 use paper::Answer;
 use paper::SAME_PLACE;
 use polygon::points::same_point;
 use polygon::rings::point_at;
-use sheet::content::refused;
 
 // Another vertex is where u is.
 fn shares(xyz: &[i64], v: usize, u: usize) -> bool

@@ -25,7 +25,7 @@ use Rattle.paper.specs.declared.Format.{Format}
 use Rattle.paper.specs.declared.Answer.the-variants as Answer
 use Rattle.faces.specs.Face.{Brief}
 use Rattle.faces.specs.Face.{countOf, faceAt, closesAt}
-use Rattle.sheet.proofs.Shaped.{outside-false}
+use Rattle.laws.proofs.Limits.{outside-false}
 use Rattle.faces.proofs.Brief.{corners-small}
 use Rattle.faces.proofs.Shape.{face-yes}
 use Rattle.faces.proofs.FaceList.{start, length-in, face-is, start-more, start-most, start-all}

@@ -15,7 +15,7 @@ use Rattle.paper.specs.Loops.{Loop}
 use Rattle.paper.specs.FaceList.{faceFits, rowAt}
 use Rattle.paper.specs.declared.Format.{Format}
 use Rattle.faces.specs.Send.{way, fits, cornersOf}
-use Rattle.sheet.proofs.Shaped.{outside-false}
+use Rattle.laws.proofs.Limits.{outside-false}
 use Rattle.faces.proofs.Shape.{face-yes}
 use Rattle.faces.proofs.Fits.{way-first, way-back}
 

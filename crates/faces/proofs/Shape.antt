@@ -14,7 +14,7 @@ use Rattle.paper.specs.Format.{outside, bytesFor, fillAfter}
 use Rattle.paper.specs.FaceList.{countIn, facesIn, bitsOf, faceFits, wellShaped}
 use Rattle.paper.specs.Loops.{Loop}
 use Rattle.paper.specs.declared.Format.{Format}
-use Rattle.sheet.proofs.Shaped.{outside-false}
+use Rattle.laws.proofs.Limits.{outside-false}
 
 module _ (f : Format) (v : ℕ) where
   pub record Shaped (s : List ℕ) : Type 0 where

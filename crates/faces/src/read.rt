@@ -21,7 +21,7 @@ fn no_faces() -> Faces
     ensures { λ r. ⌜ r ≡ noFaces ⌝ }
 {
     Faces {
-        answer: sheet::content::refused(paper::SHELL_SHAPE, 0),
+        answer: content::refused(paper::SHELL_SHAPE, 0),
         count: 0,
         rows: [0u8; 546],
     }
@@ -39,7 +39,7 @@ fn count_in(f: Format, s: &[u8]) -> Place
         return Place::Nowhere;
     }
     let n = pack::field(s, 4, f.fw);
-    if sheet::shape::is_outside(4, f.fmax, n) {
+    if content::counts::is_outside(4, f.fmax, n) {
         return Place::Nowhere;
     }
     Place::At(n as usize)
@@ -69,7 +69,7 @@ fn face_at(f: Format, s: &[u8], at: usize, v: usize) -> Place
         return Place::Nowhere;
     }
     let c = pack::field(s, at, paper::CORNER_BITS);
-    if sheet::shape::is_outside(3, 12, c) {
+    if content::counts::is_outside(3, 12, c) {
         return Place::Nowhere;
     }
     let n = c as usize;

@@ -57,7 +57,7 @@ fn row_fits(f: Format, rows: &[u8], k: usize) -> Place
         return Place::Nowhere;
     }
     let c = rows[first] as u64;
-    if sheet::shape::is_outside(3, 12, c) {
+    if content::counts::is_outside(3, 12, c) {
         return Place::Nowhere;
     }
     let n = c as usize;
@@ -201,7 +201,7 @@ pub fn write(f: Format, rows: &[u8], taken: u64, turned: u64, room: &mut [u8]) -
     let Extent::Of(n, b) = weighed else {
         return refused(paper::SHELL_SHAPE);
     };
-    if sheet::shape::is_outside(4, f.fmax, n as u64) {
+    if content::counts::is_outside(4, f.fmax, n as u64) {
         return refused(paper::SHELL_SHAPE);
     }
     let size = (4 + f.fw + b + 7) / 8;

@@ -1,5 +1,5 @@
 -- What a sheet that passes refusals 3 to 10 is, and the drawing that reading it returns. Assumes nothing.
-use mathlib.Core.Path.{_≡_, sym, ap, _∙_}
+use mathlib.Core.Path.{_≡_, sym, ap}
 use mathlib.Core.List.{List}
 use Prim.Native.Nat.{ℕ, _*_}
 use lib.IntN.{pos}

@@ -11,7 +11,7 @@ use Rattle.pack.proofs.Laws.{length-bits, length-run, under-bits, under-run, un
 use Rattle.pack.proofs.Over.{over-next, over-numbers}
 use Rattle.paper.specs.Format.{head, total, bytesFor, filled, headBits, onSheet, encode}
 use Rattle.paper.specs.declared.Format.{Format}
-use Rattle.sheet.proofs.Lent.{Lent}
+use Rattle.content.proofs.Lent.{Lent}
 
 -- bytes whose bits are n bits, their fill and then the room's are those bytes and then the room's
 pub filled-is : (n : ℕ) (bs room last : List ℕ) → Under 2 bs → length bs ≡ n → bytesFor n ≤ length room → length last ≡ length room

@@ -1,30 +1,23 @@
 -- What a sheet that passes refusals 3 to 7 is. Assumes nothing.
-use mathlib.Core.Path.{_≡_, refl, sym, _∙_, ap, ap₂}
-use mathlib.Core.Bool.{Bool, true, false, true≢false}
+use mathlib.Core.Path.{_≡_, sym, _∙_, ap, ap₂}
+use mathlib.Core.Bool.{false}
 use mathlib.Core.List.{List, _++_}
 use Prim.Native.Nat.{ℕ, _≤_, _+_, _*_, _/_}
 use native.Mathlib.Nat.{mul-assoc, mul-left-comm}
 use native.Mathlib.Omega.{arith}
 use borrow.Author.Tests.{ltb-false, eqb-true, not-false}
-use lib.Dec.{ltb}
 use lib.ListN.{length}
 use Rattle.pack.specs.Bits.{fieldAt}
+use Rattle.laws.proofs.Limits.{outside-false}
 use Rattle.laws.proofs.Checks.{passed, first-stops, first-passes, first-both}
 use Rattle.paper.specs.Refusals.{firstOf}
-use Rattle.paper.specs.Format.{outside, low, total, bytesFor, fillAfter, verticesIn, edgesIn}
+use Rattle.paper.specs.Format.{low, total, bytesFor, fillAfter, verticesIn, edgesIn}
 use Rattle.paper.specs.Sheet.{openChecks, countChecks, closeChecks, shapeChecks}
 use Rattle.paper.specs.declared.Format.{Format}
 use Rattle.paper.specs.declared.Answer.the-variants.{Fine, Refused}
 use Rattle.paper.specs.declared.Refusal.{Refusal}
 use Rattle.sheet.specs.Narrow.{Small}
 use Rattle.sheet.proofs.Sizes.{numbers-small}
-
-pub outside-false : (lo hi n : ℕ) → outside lo hi n ≡ false → (lo ≤ n) × (n ≤ hi)
-outside-false lo hi n e = go (ltb n lo) refl
-  where
-    go : (b : Bool) → ltb n lo ≡ b → (lo ≤ n) × (n ≤ hi)
-    go true t = absurd (true≢false (rw t at e))
-    go false t = (ltb-false n lo t, ltb-false hi n (rw t at e))
 
 pub record Opened (f : Format) (s : List ℕ) : Type 0 where
   pub long : 3 ≤ length s

@@ -1,12 +1,6 @@
--- Layouts and coordinates that are small enough for the code. Assumes nothing.
-use mathlib.Core.Bool.{false}
-use mathlib.Core.List.{List}
-use mathlib.Core.Path.{_≡_}
-use Prim.Native.Nat.{ℕ, _≤_}
-use lib.IntN.{ℤ, pos}
-use lib.ListN.{getD}
+-- Layouts that are small enough for the code. Assumes nothing.
+use Prim.Native.Nat.{_≤_}
 use Rattle.paper.specs.Format.{one}
-use Rattle.paper.specs.Sheet.{far}
 use Rattle.paper.specs.declared.Format.{Format}
 
 -- so that a sheet's length is a small number
@@ -23,7 +17,3 @@ pub record Small (f : Format) : Type 0 where
   pub narrow : Narrow f
   pub v-held : f .vmax ≤ one .vmax
   pub e-held : f .emax ≤ one .emax
-
--- every coordinate is in range
-abbrev pub Near : List ℤ → Type 0
-Near xyz = (k : ℕ) → far (getD xyz k (pos 0)) ≡ false

@@ -3,8 +3,6 @@ ghost use mathlib.Core.Path.{_≡_};
 ghost use Rattle.paper.specs.Format.{one};
 ghost use Rattle.paper.specs.Sheet.{sheetOf, writtenOf, roomOf};
 
-pub mod content;
-pub mod lend;
 pub mod read;
 pub mod shape;
 pub mod write;

@@ -2,31 +2,13 @@
 ghost use mathlib.Core.Path.{_≡_};
 ghost use Prim.Native.Nat.{_≤_};
 ghost use Rattle.paper.specs.Refusals.{firstOf};
-ghost use Rattle.paper.specs.Format.{outside, low, total};
-ghost use Rattle.paper.specs.Sheet.{openChecks, countChecks, closeChecks, shapeChecks};
+ghost use Rattle.paper.specs.Format.{total};
+ghost use Rattle.paper.specs.Sheet.{openChecks, closeChecks, shapeChecks};
 ghost use Rattle.sheet.specs.Narrow.{Narrow};
-use crate::content::refused;
+use content::counts::counts;
+use content::refused;
 use paper::Answer;
 use paper::Format;
-
-pub fn is_outside(lo: u64, hi: u64, n: u64) -> bool
-    ensures { λ r. ⌜ r ≡ outside lo hi n ⌝ }
-{
-    if n < lo {
-        return true;
-    }
-    hi < n
-}
-
-// Counts for which an earlier edition is used.
-pub fn is_early(f: Format, v: u64, e: u64) -> bool
-    ensures { λ r. ⌜ r ≡ low f v e ⌝ }
-{
-    if v <= f.vlow {
-        return e <= f.elow;
-    }
-    false
-}
 
 // The bits before the fill.
 pub fn total_bits(f: Format, v: usize, e: usize) -> usize
@@ -45,22 +27,6 @@ fn opening(f: Format, s: &[u8]) -> Answer
     }
     if pack::field(s, 0, paper::EDITION_BITS) != f.edition {
         return refused(paper::SHEET_EDITION, 0);
-    }
-    Answer::Fine
-}
-
-// Refusal 5.
-pub fn counts(f: Format, v: u64, e: u64) -> Answer
-    ensures { λ r. ⌜ r ≡ firstOf (countChecks f v e) ⌝ }
-{
-    if is_outside(4, f.vmax, v) {
-        return refused(paper::BAD_COUNT, 0);
-    }
-    if is_outside(6, f.emax, e) {
-        return refused(paper::BAD_COUNT, 1);
-    }
-    if is_early(f, v, e) {
-        return refused(paper::BAD_COUNT, 0);
     }
     Answer::Fine
 }

@@ -10,7 +10,7 @@ use Rattle.paper.specs.Sheet.{lentChecks}
 use Rattle.paper.specs.Drawing.{Edge, edge, edgeAt, pointsOf, edgesOf, wire}
 use Rattle.paper.specs.declared.Format.{Format}
 use Rattle.paper.specs.declared.Answer.the-variants.{Fine}
-use Rattle.sheet.proofs.Lent.{contents, lent}
+use Rattle.content.proofs.Lent.{contents, lent}
 use Rattle.demands.specs.Drawings.{Rising}
 
 length-points : (l : List ℤ) → length (pointsOf l) ≡ length l / 3

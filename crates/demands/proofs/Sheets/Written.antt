@@ -21,10 +21,10 @@ use Rattle.paper.specs.Sheet.{contentChecks, openChecks, countChecks, closeChec
 use Rattle.paper.specs.declared.Format.{Format}
 use Rattle.paper.specs.declared.Answer.{Answer}
 use Rattle.paper.specs.declared.Answer.the-variants.{Fine}
-use Rattle.sheet.specs.Narrow.{Near}
+use Rattle.content.specs.Near.{Near}
 use Rattle.sheet.proofs.Coordinate.{near}
 use Rattle.sheet.proofs.Shaped.{Opened, Counted, Closed, Shaped}
-use Rattle.sheet.proofs.Lent.{Contents, contents, Lent}
+use Rattle.content.proofs.Lent.{Contents, contents, Lent}
 use Rattle.sheet.proofs.Encoded.{length-head, length-placed, length-content, under-content}
 use Rattle.demands.specs.Sound.{Sound}
 use Rattle.demands.proofs.Tools.Filled.{zeros, length-filled, run-filled, fill-filled}

@@ -2,7 +2,7 @@ use mathlib.Core.Path.{_∙_, sym, ap}
 use Prim.Native.Nat.{_+_, _*_, _≤_, _<_}
 use lib.ListN.{length}
 use Rattle.faces.proofs.Brief.{corners-small}
-use Rattle.sheet.proofs.Shaped.{outside-false}
+use Rattle.laws.proofs.Limits.{outside-false}
 use Rattle.faces.proofs.FaceAt.{no-bits, no-count, no-vertex, a-face}
 use mathlib.Core.Option.{some}
 use native.Mathlib.Omega.{arith}

@@ -1,7 +1,7 @@
 use mathlib.Core.Path.{sym, ap, _∙_}
 use Prim.Native.Nat.{ℕ}
 use lib.ListN.{length}
-use Rattle.sheet.proofs.Shaped.{outside-false}
+use Rattle.laws.proofs.Limits.{outside-false}
 use Rattle.paper.specs.Format.{outside, bytesFor}
 use Rattle.paper.specs.FaceList.{solidFaces}
 use Rattle.paper.specs.declared.Written.the-variants.{Bytes}

@@ -1,4 +1,4 @@
-use mathlib.Core.Path.{_≡_, _∙_, sym, ap}
+use mathlib.Core.Path.{_∙_, sym, ap}
 use lib.Seq.{length-take-le}
 use Rattle.sheet.specs.Kept.{keptFor, keptOf}
 use Rattle.paper.specs.declared.Answer.{Answer}

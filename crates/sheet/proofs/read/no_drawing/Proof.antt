@@ -1,4 +1,4 @@
-use mathlib.Core.Path.{_≡_, refl}
+use mathlib.Core.Path.{refl}
 use Rattle.pack.specs.Fill.{padded}
 use Rattle.sheet.proofs.read.no_drawing.Statement.{statement}
 use Rattle.sheet.proofs.read.no_drawing.Tie as tie

@@ -1,4 +1,4 @@
-use mathlib.Core.Path.{_≡_, _∙_, ap, sym}
+use mathlib.Core.Path.{_∙_, ap, sym}
 use mathlib.Core.Bool.{not}
 use Prim.Native.Nat.{ℕ, _+_, _*_, _-_, _/_}
 use borrow.Author.Tests.{eq-eqb, ne-eqb}

@@ -1,8 +1,7 @@
-use mathlib.Core.Path.{_≡_, _∙_, sym}
-use mathlib.Core.List.{List}
+use mathlib.Core.Path.{_∙_}
 use lib.ListN.{length}
 use Rattle.pack.specs.Bits.{run}
-use Rattle.sheet.proofs.Lent.{ready}
+use Rattle.sheet.proofs.Ready.{ready}
 use Rattle.sheet.proofs.Encoded.{content-put, encoded}
 use native.Mathlib.Omega.{arith}
 use borrow.Author.Needs.{needs}

@@ -1,9 +1,9 @@
-use mathlib.Core.Path.{_≡_, _∙_, sym, ap, refl}
+use mathlib.Core.Path.{_∙_, sym, ap, refl}
 use Prim.Native.Nat.{ℕ, _+_, _/_}
 use lib.ListN.{length}
 use Rattle.paper.specs.declared.Written.the-variants.{Bytes}
 use Rattle.sheet.proofs.Sizes.{total-small}
-use Rattle.sheet.proofs.Lent.{lent}
+use Rattle.content.proofs.Lent.{lent}
 use Rattle.sheet.proofs.Written.{result-refused, result-short, result-fine}
 use native.Mathlib.Omega.{arith}
 use borrow.Author.Needs.{needs}

@@ -1,0 +1,43 @@
+// Refusal 5: counts outside an edition's limits. Nothing is assumed of them.
+ghost use mathlib.Core.Path.{_≡_};
+ghost use Rattle.paper.specs.Refusals.{firstOf};
+ghost use Rattle.paper.specs.Format.{outside, low};
+ghost use Rattle.paper.specs.Sheet.{countChecks};
+use super::refused;
+use paper::Answer;
+use paper::Format;
+
+pub fn is_outside(lo: u64, hi: u64, n: u64) -> bool
+    ensures { λ r. ⌜ r ≡ outside lo hi n ⌝ }
+{
+    if n < lo {
+        return true;
+    }
+    hi < n
+}
+
+// Counts for which an earlier edition is used.
+pub fn is_early(f: Format, v: u64, e: u64) -> bool
+    ensures { λ r. ⌜ r ≡ low f v e ⌝ }
+{
+    if v <= f.vlow {
+        return e <= f.elow;
+    }
+    false
+}
+
+// Refusal 5.
+pub fn counts(f: Format, v: u64, e: u64) -> Answer
+    ensures { λ r. ⌜ r ≡ firstOf (countChecks f v e) ⌝ }
+{
+    if is_outside(4, f.vmax, v) {
+        return refused(paper::BAD_COUNT, 0);
+    }
+    if is_outside(6, f.emax, e) {
+        return refused(paper::BAD_COUNT, 1);
+    }
+    if is_early(f, v, e) {
+        return refused(paper::BAD_COUNT, 0);
+    }
+    Answer::Fine
+}
