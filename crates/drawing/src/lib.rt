@@ -2,7 +2,6 @@
 mod links;
 mod meets;
 mod places;
-mod segments;
 
 ghost use mathlib.Core.Path.{_≡_};
 ghost use Prim.Native.Nat.{_≤_, _<_};

@@ -14,14 +14,14 @@ ghost use Rattle.polygon.specs.Sizes.{Small};
 ghost use Rattle.polygon.specs.Rings.{pointOf};
 ghost use Rattle.drawing.specs.InRange.{Points, Ends};
 ghost use Rattle.drawing.specs.Meets.{meetsAt};
-use super::segments::on_open;
-use super::segments::open_meets;
 use super::wide;
 use content::refused;
 use paper::Answer;
 use paper::EDGE_MEETS;
 use paper::Point;
 use polygon::rings::point_at;
+use segments::on_open;
+use segments::open_meets;
 
 // The segment from a to b without its ends has one of the v vertices on it.
 fn meets_vertex(xyz: &[i64], v: usize, a: Point, b: Point) -> bool

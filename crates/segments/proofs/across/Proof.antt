@@ -7,8 +7,8 @@ use Rattle.paper.specs.Points.{cross, dot, isZero}
 use Rattle.paper.specs.declared.Point.{Point}
 use Rattle.polygon.proofs.Sizes.{cross-small, small-eq, small-up}
 use Rattle.polygon.proofs.Zeros.{reads-back}
-use Rattle.drawing.proofs.segments.across.Statement.{statement}
-use Rattle.drawing.proofs.segments.across.Tie as tie
+use Rattle.segments.proofs.across.Statement.{statement}
+use Rattle.segments.proofs.across.Tie as tie
 
 -- what `is_zero` said
 plane : (c : tie.After-is-zero) {b : Bool} → c .is-zero .result ≡ b → isZero (dot (c .before .before .args .r) (c .before .before .args .n)) ≡ b

@@ -5,8 +5,8 @@ use borrow.Author.Tests.{not-false, not-true}
 use Rattle.paper.specs.Drawing.{overlap}
 use Rattle.paper.specs.Points.{cross, dot, isOrigin}
 use Rattle.polygon.proofs.Zeros.{reads-back}
-use Rattle.drawing.proofs.segments.along.Statement.{statement}
-use Rattle.drawing.proofs.segments.along.Tie as tie
+use Rattle.segments.proofs.along.Statement.{statement}
+use Rattle.segments.proofs.along.Tie as tie
 
 -- what `is_origin` said
 line : (c : tie.After-is-origin) {b : Bool} → c .is-origin .result ≡ b → isOrigin (cross (c .before .before .args .p) (c .before .before .args .r)) ≡ b

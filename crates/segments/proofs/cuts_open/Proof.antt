@@ -3,8 +3,8 @@ use lib.IntN.{pos}
 use lib.Signed.{leZ, ltZ}
 use Rattle.exact.proofs.Machine.{plain}
 use Rattle.paper.specs.Drawing.{cutsOpen}
-use Rattle.drawing.proofs.segments.cuts_open.Statement.{statement}
-use Rattle.drawing.proofs.segments.cuts_open.Tie as tie
+use Rattle.segments.proofs.cuts_open.Statement.{statement}
+use Rattle.segments.proofs.cuts_open.Tie as tie
 
 returns : tie.Need-returns
 unfolding cutsOpen

@@ -3,8 +3,8 @@ use lib.IntN.{pos}
 use lib.Signed.{leZ}
 use Rattle.exact.proofs.Machine.{plain}
 use Rattle.paper.specs.Drawing.{overlap}
-use Rattle.drawing.proofs.segments.overlap.Statement.{statement}
-use Rattle.drawing.proofs.segments.overlap.Tie as tie
+use Rattle.segments.proofs.overlap.Statement.{statement}
+use Rattle.segments.proofs.overlap.Tie as tie
 
 returns : tie.Need-returns
 unfolding overlap

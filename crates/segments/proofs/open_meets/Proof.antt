@@ -5,8 +5,8 @@ use Rattle.paper.specs.Drawing.{cutsOpen, openMeets, overlap}
 use Rattle.paper.specs.Points.{cross, dot, isOrigin, isZero, minus}
 use Rattle.paper.specs.declared.Point.{Point}
 use Rattle.polygon.proofs.Sizes.{cross-small, minus-small, small-eq, small-up}
-use Rattle.drawing.proofs.segments.open_meets.Statement.{statement}
-use Rattle.drawing.proofs.segments.open_meets.Tie as tie
+use Rattle.segments.proofs.open_meets.Statement.{statement}
+use Rattle.segments.proofs.open_meets.Tie as tie
 
 -- the directions and what is known of them
 abbrev P : tie.Start → Point

@@ -8,8 +8,8 @@ use Rattle.paper.specs.Drawing.{onOpen}
 use Rattle.paper.specs.Points.{below, cross, dot, isOrigin, minus}
 use Rattle.polygon.proofs.Sizes.{minus-small, small-eq, small-up}
 use Rattle.polygon.proofs.Zeros.{reads-back}
-use Rattle.drawing.proofs.segments.on_open.Statement.{statement}
-use Rattle.drawing.proofs.segments.on_open.Tie as tie
+use Rattle.segments.proofs.on_open.Statement.{statement}
+use Rattle.segments.proofs.on_open.Tie as tie
 
 -- what `is_origin` said
 line : (c : tie.After-is-origin) {b : Bool} → c .is-origin .result ≡ b
