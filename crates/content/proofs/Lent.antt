@@ -1,6 +1,6 @@
 -- What a drawing that is lent as two lists is, where refusals 5, 8, 9 and 10 have nothing against it. Assumes nothing.
 use mathlib.Core.Path.{_≡_, refl, ap}
-use mathlib.Core.Bool.{Bool, true, false, not, _||_, true≢false}
+use mathlib.Core.Bool.{Bool, true, false, not}
 use mathlib.Core.List.{List}
 use Prim.Native.Nat.{ℕ, _≤_, _<_, _+_, _*_, _/_, _%_}
 use native.Mathlib.Omega.{arith}
@@ -8,6 +8,7 @@ use borrow.Author.Tests.{ltb-true, ltb-false, leb-true, leb-false, eqb-true, not
 use lib.Dec.{ltb, leb, eqb}
 use lib.IntN.{ℤ, pos}
 use lib.ListN.{length, getD, List·getD-eq-default}
+use Rattle.lists.proofs.Truth.{or-none}
 use Rattle.lists.proofs.Lowest.{lowest-none}
 use Rattle.laws.proofs.Checks.{found-none, passed}
 use Rattle.paper.specs.Refusals.{firstOf}
@@ -17,15 +18,6 @@ use Rattle.paper.specs.declared.Format.{Format}
 use Rattle.paper.specs.declared.Answer.the-variants.{Fine}
 use Rattle.laws.proofs.Limits.{outside-false}
 use Rattle.content.specs.Near.{Near}
-
--- both parts of a test by || fail where it fails
-or-left : (a b : Bool) → (a || b) ≡ false → a ≡ false
-or-left true b e = e
-or-left false b e = refl
-
-or-right : (a b : Bool) → (a || b) ≡ false → b ≡ false
-or-right true b e = absurd (true≢false e)
-or-right false b e = e
 
 -- what refusals 8 and 9 leave
 pub record Contents (v : ℕ) (xyz : List ℤ) (ends : List ℕ) : Type 0 where
@@ -42,7 +34,7 @@ contents v xyz ends h =
     record {
       near = λ k. near-at k (ltb k (length xyz)) refl (lowest-none (farAt xyz) (length xyz) (p8 .0));
       below = λ k u. below-at k u right;
-      rising = λ e u. leb-false (getD ends (2 * e + 1) 0) _ (or-right (leb v (getD ends (2 * e + 1) 0)) _ (or-right (leb v (getD ends (2 * e) 0)) _ (right e u)));
+      rising = λ e u. leb-false (getD ends (2 * e + 1) 0) _ (or-none (leb v (getD ends (2 * e + 1) 0)) _ (or-none (leb v (getD ends (2 * e) 0)) _ (right e u) .1) .1);
     }
   where
     near-at : (k : ℕ) (b : Bool) → ltb k (length xyz) ≡ b → ((j : ℕ) → j < length xyz → farAt xyz j ≡ false) → far (getD xyz k (pos 0)) ≡ false
@@ -58,8 +50,8 @@ contents v xyz ends h =
     below-at k u q =
         let e : ℕ = k / 2 in
         let w : wrong v (getD ends (2 * e) 0) (getD ends (2 * e + 1) 0) ≡ false = q e (omega arith) in
-        let a : getD ends (2 * e) 0 < v = leb-false v _ (or-left (leb v (getD ends (2 * e) 0)) _ w) in
-        let b : getD ends (2 * e + 1) 0 < v = leb-false v _ (or-left (leb v (getD ends (2 * e + 1) 0)) _ (or-right (leb v (getD ends (2 * e) 0)) _ w)) in
+        let a : getD ends (2 * e) 0 < v = leb-false v _ (or-none (leb v (getD ends (2 * e) 0)) _ w .0) in
+        let b : getD ends (2 * e + 1) 0 < v = leb-false v _ (or-none (leb v (getD ends (2 * e + 1) 0)) _ (or-none (leb v (getD ends (2 * e) 0)) _ w .1) .0) in
         either k e a b (leb (k % 2) 0) refl (omega arith) (omega arith)
 
 pub record Lent (f : Format) (xyz : List ℤ) (ends : List ℕ) : Type 0 where
@@ -75,8 +67,8 @@ pub record Lent (f : Format) (xyz : List ℤ) (ends : List ℕ) : Type 0 where
 -- a list is whole where its count is not bad, and there are as many parts as there may be
 whole : (k lo hi n : ℕ) → badCount k lo hi n ≡ false → (n % k ≡ 0) × (lo ≤ n / k) × (n / k ≤ hi)
 whole k lo hi n e =
-    let b = outside-false lo hi (n / k) (or-right (not (eqb (n % k) 0)) _ e) in
-    (eqb-true _ _ (not-false _ (or-left (not (eqb (n % k) 0)) _ e)), b .0, b .1)
+    let b = outside-false lo hi (n / k) (or-none (not (eqb (n % k) 0)) _ e .1) in
+    (eqb-true _ _ (not-false _ (or-none (not (eqb (n % k) 0)) _ e .0)), b .0, b .1)
 
 pub lent : (f : Format) (xyz : List ℤ) (ends : List ℕ) → Fine ≡ firstOf (lentChecks f xyz ends) → Lent f xyz ends
 unfolding lentChecks

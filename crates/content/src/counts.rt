@@ -30,10 +30,10 @@ pub fn is_early(f: Format, v: u64, e: u64) -> bool
 pub fn counts(f: Format, v: u64, e: u64) -> Answer
     ensures { λ r. ⌜ r ≡ firstOf (countChecks f v e) ⌝ }
 {
-    if is_outside(4, f.vmax, v) {
+    if is_outside(paper::LEAST_VERTICES as u64, f.vmax, v) {
         return refused(paper::BAD_COUNT, 0);
     }
-    if is_outside(6, f.emax, e) {
+    if is_outside(paper::LEAST_EDGES as u64, f.emax, e) {
         return refused(paper::BAD_COUNT, 1);
     }
     if is_early(f, v, e) {

@@ -24,10 +24,10 @@ fn is_bad_count(k: usize, lo: u64, hi: u64, n: usize) -> bool
 pub fn lent(f: Format, xyz: &[i64], ends: &[u8]) -> Answer
     ensures { λ r. ⌜ r ≡ firstOf (lentChecks f (now (xyz .entry)) (now (ends .entry))) ⌝ }
 {
-    if is_bad_count(3, 4, f.vmax, xyz.len()) {
+    if is_bad_count(3, paper::LEAST_VERTICES as u64, f.vmax, xyz.len()) {
         return refused(paper::BAD_COUNT, 0);
     }
-    if is_bad_count(2, 6, f.emax, ends.len()) {
+    if is_bad_count(2, paper::LEAST_EDGES as u64, f.emax, ends.len()) {
         return refused(paper::BAD_COUNT, 1);
     }
     let v = xyz.len() / 3;

@@ -23,7 +23,7 @@ fn no_faces() -> Faces
     Faces {
         answer: content::refused(paper::SHELL_SHAPE, 0),
         count: 0,
-        rows: [0u8; 546],
+        rows: [0u8; paper::ROWS],
     }
 }
 
@@ -38,8 +38,8 @@ fn count_in(f: Format, s: &[u8]) -> Place
     if pack::field(s, 0, paper::EDITION_BITS) != f.edition {
         return Place::Nowhere;
     }
-    let n = pack::field(s, 4, f.fw);
-    if content::counts::is_outside(4, f.fmax, n) {
+    let n = pack::field(s, paper::EDITION_BITS, f.fw);
+    if content::counts::is_outside(paper::LEAST_FACES as u64, f.fmax, n) {
         return Place::Nowhere;
     }
     Place::At(n as usize)
@@ -69,14 +69,14 @@ fn face_at(f: Format, s: &[u8], at: usize, v: usize) -> Place
         return Place::Nowhere;
     }
     let c = pack::field(s, at, paper::CORNER_BITS);
-    if content::counts::is_outside(3, 12, c) {
+    if content::counts::is_outside(paper::LEAST_CORNERS as u64, paper::MOST_CORNERS as u64, c) {
         return Place::Nowhere;
     }
     let n = c as usize;
     if s.len() < (at + 11 + f.nw * n) / 8 {
         return Place::Nowhere;
     }
-    if are_below(v, s, at + 4, f.nw, n) {
+    if are_below(v, s, at + paper::CORNER_BITS, f.nw, n) {
         return Place::At(n);
     }
     Place::Nowhere
@@ -128,16 +128,23 @@ pub fn read(f: Format, s: &[u8], v: usize) -> Faces
     let Place::At(n) = counted else {
         return no_faces();
     };
-    let mut rows = [0u8; 546];
-    let mut at = 4 + f.fw;
+    let mut rows = [0u8; paper::ROWS];
+    let mut at = paper::EDITION_BITS + f.fw;
     let mut k: usize = 0;
     while k < n {
         let face = face_at(f, s, at, v);
         let Place::At(c) = face else {
             return no_faces();
         };
-        put_row(s, at + 4, f.nw, c, &mut rows, paper::ROW * k);
-        at = at + 4 + f.nw * c;
+        put_row(
+            s,
+            at + paper::CORNER_BITS,
+            f.nw,
+            c,
+            &mut rows,
+            paper::ROW * k,
+        );
+        at = at + paper::CORNER_BITS + f.nw * c;
         k += 1;
     }
     if closes(s, at) {

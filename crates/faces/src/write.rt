@@ -57,7 +57,7 @@ fn row_fits(f: Format, rows: &[u8], k: usize) -> Place
         return Place::Nowhere;
     }
     let c = rows[first] as u64;
-    if content::counts::is_outside(3, 12, c) {
+    if content::counts::is_outside(paper::LEAST_CORNERS as u64, paper::MOST_CORNERS as u64, c) {
         return Place::Nowhere;
     }
     let n = c as usize;
@@ -137,8 +137,8 @@ fn put_face(f: Format, rows: &[u8], k: usize, back: bool, room: &mut [u8], b: us
     let first = paper::ROW * k;
     let c = rows[first] as usize;
     pack::put(room, b, paper::CORNER_BITS, c as u64);
-    put_corners(rows, first + 1, c, back, room, b + 4, f.nw);
-    b + (4 + f.nw * c)
+    put_corners(rows, first + 1, c, back, room, b + paper::CORNER_BITS, f.nw);
+    b + (paper::CORNER_BITS + f.nw * c)
 }
 
 // The same where it is taken; else nothing.
@@ -166,7 +166,7 @@ fn put_faces(f: Format, rows: &[u8], taken: u64, turned: u64, room: &mut [u8])
     requires { ⌜ Brief f × (all (fits f) (solidFaces (now rows) taken turned) ≡ true) × (bitsOf f (solidFaces (now rows) taken turned) ≤ length (now room) * 8) × (bitsOf f (solidFaces (now rows) taken turned) ≤ 8000) ⌝ }
     ensures { λ _. ⌜ run 8 (now (room .exit)) ≡ over (run 8 (now (room .entry))) (4 + f .fw) (flatMap (faceBits f) (solidFaces (now (rows .entry)) taken turned)) ⌝ }
 {
-    let mut b = 4 + f.fw;
+    let mut b = paper::EDITION_BITS + f.fw;
     let mut k: usize = 0;
     while k < paper::MOST_CANDIDATES {
         b = put_taken(f, rows, taken, turned, k, room, b);
@@ -180,9 +180,9 @@ fn put_list(f: Format, rows: &[u8], taken: u64, turned: u64, room: &mut [u8], n:
     ensures { λ _. ⌜ now (room .exit) ≡ encodeFaces f (solidFaces (now (rows .entry)) taken turned) ++ drop (bytesFor (bitsOf f (solidFaces (now (rows .entry)) taken turned))) (now (room .entry)) ⌝ }
 {
     pack::put(room, 0, paper::EDITION_BITS, f.edition);
-    pack::put(room, 4, f.fw, n as u64);
+    pack::put(room, paper::EDITION_BITS, f.fw, n as u64);
     put_faces(f, rows, taken, turned, room);
-    sheet::write::put_fill(room, 4 + f.fw + b);
+    sheet::write::put_fill(room, paper::EDITION_BITS + f.fw + b);
 }
 
 fn refused(number: u8) -> Written
@@ -201,10 +201,10 @@ pub fn write(f: Format, rows: &[u8], taken: u64, turned: u64, room: &mut [u8]) -
     let Extent::Of(n, b) = weighed else {
         return refused(paper::SHELL_SHAPE);
     };
-    if content::counts::is_outside(4, f.fmax, n as u64) {
+    if content::counts::is_outside(paper::LEAST_FACES as u64, f.fmax, n as u64) {
         return refused(paper::SHELL_SHAPE);
     }
-    let size = (4 + f.fw + b + 7) / 8;
+    let size = (paper::EDITION_BITS + f.fw + b + 7) / 8;
     if room.len() < size {
         return refused(paper::NO_ROOM);
     }

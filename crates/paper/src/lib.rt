@@ -27,10 +27,19 @@ pub const LEAST_FACES: usize = 4;
 
 pub const MOST_FACES: usize = 42;
 
+// Lists by value: three coordinates for each vertex, two ends for each edge, a row for each face.
+pub const COORDINATES: usize = 3 * MOST_VERTICES;
+
+pub const ENDS: usize = 2 * MOST_EDGES;
+
+pub const ROWS: usize = ROW * MOST_FACES;
+
 // "The drawing sheet": the widths that all editions share.
 pub const EDITION_BITS: usize = 4;
 
 pub const COORDINATE_BITS: usize = 11;
+
+pub const VERTEX_BITS: usize = 3 * COORDINATE_BITS;
 
 pub const CORNER_BITS: usize = 4;
 
@@ -133,8 +142,8 @@ pub struct Format {
 pub struct Drawing {
     pub vertices: usize,
     pub edges: usize,
-    pub xyz: [i64; 96],
-    pub ends: [u8; 128],
+    pub xyz: [i64; COORDINATES],
+    pub ends: [u8; ENDS],
 }
 
 // What reading a sheet gives: the drawing is blank where the sheet is refused.
@@ -153,7 +162,7 @@ pub enum Written {
 pub struct Faces {
     pub answer: Answer,
     pub count: usize,
-    pub rows: [u8; 546],
+    pub rows: [u8; ROWS],
 }
 
 // A point with whole coordinates, which also serves as a direction.

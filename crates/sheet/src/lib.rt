@@ -21,9 +21,9 @@ pub fn edition_one() -> Format
         ew: 7,
         nw: 5,
         fw: 6,
-        vmax: 32,
-        emax: 64,
-        fmax: 42,
+        vmax: paper::MOST_VERTICES as u64,
+        emax: paper::MOST_EDGES as u64,
+        fmax: paper::MOST_FACES as u64,
         vlow: 0,
         elow: 0,
     }

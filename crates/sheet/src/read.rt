@@ -27,11 +27,11 @@ fn to_coordinate(f: u64) -> i64
 }
 
 // The n coordinates in the fields of 11 bits of s from bit i on, then zeros.
-fn coordinates(s: &[u8], i: usize, n: usize) -> [i64; 96]
+fn coordinates(s: &[u8], i: usize, n: usize) -> [i64; paper::COORDINATES]
     requires { ⌜ (n ≤ 96) × (i + 11 * n ≤ length (now s) * 8) × (i ≤ 4096) ⌝ }
     ensures { λ r. ⌜ r ≡ padded (map coordinate (fieldsAt (now (s .entry)) i 11 n)) 96 (pos 0) ⌝ }
 {
-    let mut xyz = [0i64; 96];
+    let mut xyz = [0i64; paper::COORDINATES];
     let mut k: usize = 0;
     while k < n {
         let z = to_coordinate(pack::field(
@@ -46,11 +46,11 @@ fn coordinates(s: &[u8], i: usize, n: usize) -> [i64; 96]
 }
 
 // The n numbers in the fields of w bits of s from bit i on, then zeros.
-fn numbers(s: &[u8], i: usize, w: usize, n: usize) -> [u8; 128]
+fn numbers(s: &[u8], i: usize, w: usize, n: usize) -> [u8; paper::ENDS]
     requires { ⌜ (n ≤ 128) × (w ≤ 8) × (i + w * n ≤ length (now s) * 8) × (i + w * n < 2 ^ 32) ⌝ }
     ensures { λ r. ⌜ r ≡ padded (fieldsAt (now (s .entry)) i w n) 128 0 ⌝ }
 {
-    let mut ends = [0u8; 128];
+    let mut ends = [0u8; paper::ENDS];
     let mut k: usize = 0;
     while k < n {
         let f = pack::field(s, i + w * k, w);
@@ -66,13 +66,13 @@ fn no_drawing() -> Drawing
     Drawing {
         vertices: 0,
         edges: 0,
-        xyz: [0i64; 96],
-        ends: [0u8; 128],
+        xyz: [0i64; paper::COORDINATES],
+        ends: [0u8; paper::ENDS],
     }
 }
 
 // The drawing, if refusals 8 to 10 have nothing against it.
-fn kept(v: usize, e: usize, xyz: [i64; 96], ends: [u8; 128]) -> Sheet
+fn kept(v: usize, e: usize, xyz: [i64; paper::COORDINATES], ends: [u8; paper::ENDS]) -> Sheet
     requires { ⌜ (v ≤ 32) × (e ≤ 64) ⌝ }
     ensures { λ r. ⌜ r ≡ keptOf v e xyz ends ⌝ }
 {
@@ -100,11 +100,11 @@ fn drawn(f: Format, s: &[u8]) -> Sheet
     requires { ⌜ Small f × (Answer.Fine ≡ firstOf (shapeChecks f (now s))) ⌝ }
     ensures { λ r. ⌜ r ≡ sheetOf f (now (s .entry)) ⌝ }
 {
-    let first = 4 + f.vw + f.ew;
-    let v = pack::field(s, 4, f.vw) as usize;
-    let e = pack::field(s, 4 + f.vw, f.ew) as usize;
+    let first = paper::EDITION_BITS + f.vw + f.ew;
+    let v = pack::field(s, paper::EDITION_BITS, f.vw) as usize;
+    let e = pack::field(s, paper::EDITION_BITS + f.vw, f.ew) as usize;
     let xyz = coordinates(s, first, 3 * v);
-    let ends = numbers(s, first + 33 * v, f.nw, 2 * e);
+    let ends = numbers(s, first + paper::VERTEX_BITS * v, f.nw, 2 * e);
     kept(v, e, xyz, ends)
 }
 

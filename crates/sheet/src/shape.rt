@@ -15,7 +15,7 @@ pub fn total_bits(f: Format, v: usize, e: usize) -> usize
     requires { ⌜ Narrow f × (v ≤ 64) × (e ≤ 128) ⌝ }
     ensures { λ r. ⌜ r ≡ total f v e ⌝ }
 {
-    4 + f.vw + f.ew + 33 * v + 2 * f.nw * e
+    paper::EDITION_BITS + f.vw + f.ew + paper::VERTEX_BITS * v + 2 * f.nw * e
 }
 
 // Refusals 3 and 4.
@@ -54,8 +54,8 @@ pub fn shape(f: Format, s: &[u8]) -> Answer
     match opening(f, s) {
         Answer::Refused(r) => Answer::Refused(r),
         Answer::Fine => {
-            let v = pack::field(s, 4, f.vw);
-            let e = pack::field(s, 4 + f.vw, f.ew);
+            let v = pack::field(s, paper::EDITION_BITS, f.vw);
+            let e = pack::field(s, paper::EDITION_BITS + f.vw, f.ew);
             match counts(f, v, e) {
                 Answer::Refused(r) => Answer::Refused(r),
                 Answer::Fine => closing(f, s, v as usize, e as usize),

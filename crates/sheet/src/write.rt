@@ -60,8 +60,8 @@ fn put_head(f: Format, room: &mut [u8], v: usize, e: usize)
     ensures { λ _. ⌜ run 8 (now (room .exit)) ≡ over (run 8 (now (room .entry))) 0 (headBits f v e) ⌝ }
 {
     pack::put(room, 0, paper::EDITION_BITS, f.edition);
-    pack::put(room, 4, f.vw, v as u64);
-    pack::put(room, 4 + f.vw, f.ew, e as u64);
+    pack::put(room, paper::EDITION_BITS, f.vw, v as u64);
+    pack::put(room, paper::EDITION_BITS + f.vw, f.ew, e as u64);
 }
 
 // Fills the last byte of the first n bits with zeros.
@@ -77,11 +77,11 @@ fn put_sheet(f: Format, xyz: &[i64], ends: &[u8], room: &mut [u8], v: usize, e: 
     requires { ⌜ Narrow f × (Answer.Fine ≡ firstOf (lentChecks f (now xyz) (now ends))) × (v ≡ length (now xyz) / 3) × (e ≡ length (now ends) / 2) × (bytesFor (total f v e) ≤ length (now room)) ⌝ }
     ensures { λ _. ⌜ now (room .exit) ≡ encode f (now (xyz .entry)) (now (ends .entry)) ++ drop (bytesFor (total f v e)) (now (room .entry)) ⌝ }
 {
-    let first = 4 + f.vw + f.ew;
+    let first = paper::EDITION_BITS + f.vw + f.ew;
     let bits = total_bits(f, v, e);
     put_head(f, room, v, e);
     put_coordinates(xyz, room, first);
-    put_numbers(ends, room, first + 33 * v, f.nw);
+    put_numbers(ends, room, first + paper::VERTEX_BITS * v, f.nw);
     put_fill(room, bits);
 }
 

@@ -24,7 +24,7 @@ fn say_bytes(bytes: &[u8], n: usize) {
 }
 
 // The drawing, written again.
-fn show_drawing(v: usize, e: usize, xyz: [i64; 96], ends: [u8; 128]) {
+fn show_drawing(v: usize, e: usize, xyz: [i64; paper::COORDINATES], ends: [u8; paper::ENDS]) {
     if paper::MOST_VERTICES < v {
         return;
     }
