@@ -1,4 +1,3 @@
 -- What contracts of this crate cite beside the paper. Assumes nothing.
 pub mod Face
 pub mod Filed
-pub mod Send

@@ -2,6 +2,7 @@
 pub mod Truth
 pub mod Places
 pub mod Search
+pub mod Below
 pub mod Sides
 pub mod Lowest
 pub mod Passing

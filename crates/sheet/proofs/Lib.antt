@@ -4,6 +4,3 @@ pub mod Shaped
 pub mod Coordinate
 pub mod Drawn
 pub mod Accepted
-pub mod Ready
-pub mod Encoded
-pub mod Written

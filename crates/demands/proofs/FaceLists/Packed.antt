@@ -11,7 +11,7 @@ use Rattle.pack.proofs.Laws.{length-bits, length-cut, val-bits, bits-val, cut-r
 use Rattle.paper.specs.FaceList.{faceBits, facesAt, bitsOf}
 use Rattle.paper.specs.Loops.{Loop}
 use Rattle.paper.specs.declared.Format.{Format}
-use Rattle.faces.proofs.SendFaces.{length-face, length-bits-of}
+use Rattle.faces_writer.proofs.SendFaces.{length-face, length-bits-of}
 
 module _ (f : Format) where
   -- the bits before the fill

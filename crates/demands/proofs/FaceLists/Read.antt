@@ -15,7 +15,7 @@ use Rattle.paper.specs.Loops.{Loop}
 use Rattle.paper.specs.declared.Format.{Format}
 use Rattle.faces.proofs.Shape.{Shaped}
 use Rattle.faces.proofs.FaceList.{length-in}
-use Rattle.faces.proofs.Sent.{length-list}
+use Rattle.faces_writer.proofs.Sent.{length-list}
 use Rattle.demands.specs.FaceLists.{Sendable}
 use Rattle.demands.proofs.Tools.Filled.{above, filled-again}
 use Rattle.demands.proofs.FaceLists.Packed.{bits-are, bits-back}

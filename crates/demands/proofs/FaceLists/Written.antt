@@ -17,7 +17,7 @@ use Rattle.paper.specs.FaceList.{faceBits, listBits, encodeFaces, facesAt, coun
 use Rattle.paper.specs.Loops.{Loop, row}
 use Rattle.paper.specs.declared.Format.{Format}
 use Rattle.paper.specs.declared.Answer.the-variants.{Fine}
-use Rattle.faces.proofs.Sent.{length-list, under-list}
+use Rattle.faces_writer.proofs.Sent.{length-list, under-list}
 use Rattle.demands.specs.Sound.{Sound}
 use Rattle.demands.specs.FaceLists.{Sendable}
 use Rattle.demands.proofs.Tools.Filled.{zeros, length-filled, run-filled, fill-filled}

@@ -16,7 +16,7 @@ use Rattle.paper.specs.declared.Format.{Format}
 use Rattle.paper.specs.declared.Answer.{Answer}
 use Rattle.paper.specs.declared.Answer.the-variants as Answer
 use Rattle.paper.specs.declared.Written.the-variants as Written
-use Rattle.sheet.proofs.Written.{result-fine}
+use Rattle.sheet_writer.proofs.Written.{result-fine}
 use Rattle.demands.proofs.Tools.Filled.{length-filled}
 
 -- the sheet's length

@@ -25,7 +25,7 @@ use Rattle.content.specs.Near.{Near}
 use Rattle.sheet.proofs.Coordinate.{near}
 use Rattle.sheet.proofs.Shaped.{Opened, Counted, Closed, Shaped}
 use Rattle.content.proofs.Lent.{Contents, contents, Lent}
-use Rattle.sheet.proofs.Encoded.{length-head, length-placed, length-content, under-content}
+use Rattle.sheet_writer.proofs.Encoded.{length-head, length-placed, length-content, under-content}
 use Rattle.demands.specs.Sound.{Sound}
 use Rattle.demands.proofs.Tools.Filled.{zeros, length-filled, run-filled, fill-filled}
 

@@ -6,7 +6,7 @@ use Rattle.pack.proofs.Laws.{slot, length-fields, getD-fields}
 use Rattle.lists.specs.Lists.{all}
 use Rattle.lists.proofs.Search.{Left, all-search, search-end}
 use Rattle.faces.proofs.Brief.{corners-small}
-use Rattle.faces.proofs.Below.{high-hit, high-miss}
+use Rattle.lists.proofs.Below.{high-hit, high-miss}
 use native.Mathlib.Omega.{arith}
 use Rattle.faces.proofs.read.are_below.Statement.{statement}
 use Rattle.faces.proofs.read.are_below.Tie as tie

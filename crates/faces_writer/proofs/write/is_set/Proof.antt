@@ -1,0 +1,17 @@
+use Rattle.sets.specs.Sets.{digitsOf}
+use Rattle.sets.specs.declared.Set.{Set}
+use Rattle.sets.proofs.Sets.{is-digits}
+use native.Mathlib.Omega.{arith}
+use borrow.Author.Needs.{needs}
+use Rattle.faces_writer.proofs.write.is_set.Statement.{statement}
+use Rattle.faces_writer.proofs.write.is_set.Tie as tie
+
+has-requires : tie.Need-has-requires
+has-requires c κs = search needs
+
+returns : tie.Need-returns
+unfolding digitsOf
+returns c = let x : Set = record { bits = (c .before .args .word) } in (c .has .ensures) (digitsOf x) (is-digits x (omega arith))
+
+pub is-set-spec : {M : Type 1} → statement M
+is-set-spec = tie.close (tie.spec has-requires returns)

@@ -1,0 +1,59 @@
+use mathlib.Core.Path.{_≡_, refl, _∙_}
+use Prim.Native.Nat.{_≤_, _-_}
+use lib.ListN.{length}
+use Rattle.pack.specs.Bits.{run}
+use Rattle.pack.proofs.Laws.{length-run}
+use Rattle.faces_writer.proofs.SendFaces.{Sending, send-start, send-fits, send-inside, send-next, send-end}
+use native.Mathlib.Omega.{arith}
+use Rattle.faces_writer.proofs.write.put_faces.Statement.{statement}
+use Rattle.faces_writer.proofs.write.put_faces.Tie as tie
+
+abbrev Inv-loop : tie.InvT-loop
+Inv-loop f rows taken turned room₀ b₀ k₀ room b k = (k ≤ 64) × Sending f rows taken turned room₀ k b room × (length room ≡ length room₀)
+
+abbrev μ-loop : tie.MeasureT-loop
+μ-loop f rows taken turned room₀ b₀ k₀ room b k = 64 - k
+
+add-b : tie.Need-add-b Inv-loop μ-loop
+add-b c = omega (arith, (c .before .before .before .pre .0) .slender .fw-most)
+
+loop-holds : tie.Need-loop-holds Inv-loop μ-loop
+loop-holds c = (omega arith, send-start (c .before .before .before .args .f) (c .before .before .before .args .rows .now) (c .before .before .before .args .taken) (c .before .before .before .args .turned) (c .before .before .before .args .room .now) ((c .before .before .before .pre .1)), refl)
+
+put-taken-requires : tie.Need-put-taken-requires Inv-loop μ-loop
+put-taken-requires c κs = ((c .before .before .before .before .before .before .pre .0), omega arith, send-fits (c .before .before .before .before .before .before .args .f) (c .before .before .before .before .before .before .args .rows .now) (c .before .before .before .before .before .before .args .taken) (c .before .before .before .before .before .before .args .turned) (c .before .before .before .before .before .before .args .room .now) (c .before .before .loop .k) (c .before .before .loop .b) (c .before .before .loop .room) (omega arith) ((c .before .before .loop .inv .1)), omega (arith, send-inside (c .before .before .before .before .before .before .args .f) (c .before .before .before .before .before .before .args .rows .now) (c .before .before .before .before .before .before .args .taken) (c .before .before .before .before .before .before .args .turned) (c .before .before .before .before .before .before .args .room .now) (c .before .before .loop .k) (c .before .before .loop .b) (c .before .before .loop .room) (omega arith) ((c .before .before .loop .inv .1)), (c .before .before .before .before .before .before .pre .2), (c .before .before .loop .inv .2)), omega (arith, send-inside (c .before .before .before .before .before .before .args .f) (c .before .before .before .before .before .before .args .rows .now) (c .before .before .before .before .before .before .args .taken) (c .before .before .before .before .before .before .args .turned) (c .before .before .before .before .before .before .args .room .now) (c .before .before .loop .k) (c .before .before .loop .b) (c .before .before .loop .room) (omega arith) ((c .before .before .loop .inv .1)), (c .before .before .before .before .before .before .pre .3)))
+
+add-k : tie.Need-add-k Inv-loop μ-loop
+add-k c = omega arith
+
+loop-less : tie.Need-loop-less Inv-loop μ-loop
+loop-less c = omega arith
+
+loop-again : tie.Need-loop-again Inv-loop μ-loop
+loop-again c =
+    let h : (c .before .before .before .before .before .loop .b) ≤ length (run 8 (c .before .before .before .before .before .loop .room)) = rw length-run (omega (arith, send-inside (c .before .before .before .before .before .before .before .before .before .args .f) (c .before .before .before .before .before .before .before .before .before .args .rows .now) (c .before .before .before .before .before .before .before .before .before .args .taken) (c .before .before .before .before .before .before .before .before .before .args .turned) (c .before .before .before .before .before .before .before .before .before .args .room .now) (c .before .before .before .before .before .loop .k) (c .before .before .before .before .before .loop .b) (c .before .before .before .before .before .loop .room) (omega arith) ((c .before .before .before .before .before .loop .inv .1)), (c .before .before .before .before .before .before .before .before .before .pre .2), (c .before .before .before .before .before .loop .inv .2))) in (
+      omega arith,
+      send-next (c .before .before .before .before .before .before .before .before .before .args .f) (c .before .before .before .before .before .before .before .before .before .args .rows .now) (c .before .before .before .before .before .before .before .before .before .args .taken) (c .before .before .before .before .before .before .before .before .before .args .turned) (c .before .before .before .before .before .before .before .before .before .args .room .now) (c .before .before .before .before .before .loop .k) (c .before .before .before .before .before .loop .b) (c .before .before .before .before .before .loop .room) (omega arith) ((c .before .before .before .before .before .loop .inv .1)) (c .before .before .put-taken .last .1 .1 .1 .1 .1 .0) h ((c .before .before .put-taken .ensures) .0) ((c .before .before .put-taken .ensures) .1),
+      (c .before .before .put-taken .kept .1 .1 .1 .1 .1 .0) ∙ (c .before .before .before .before .before .loop .inv .2),
+    )
+
+same-length : tie.Need-same-length Inv-loop μ-loop
+same-length c = (c .before .loop .inv .2)
+
+returns : tie.Need-returns Inv-loop μ-loop
+returns c = send-end (c .before .before .before .before .before .args .f) (c .before .before .before .before .before .args .rows .now) (c .before .before .before .before .before .args .taken) (c .before .before .before .before .before .args .turned) (c .before .before .before .before .before .args .room .now) (c .before .loop .k) (c .before .loop .b) (c .before .loop .room) (omega arith) ((c .before .loop .inv .1))
+
+pub put-faces-spec : {M : Type 1} → statement M
+put-faces-spec =
+    tie.close
+    (tie.spec
+    Inv-loop
+    μ-loop
+    add-b
+    loop-holds
+    put-taken-requires
+    add-k
+    loop-less
+    loop-again
+    same-length
+    returns)

@@ -1,0 +1,213 @@
+// A reported solid, written as a face list to the start of a lent room: refusal 20, then 1. Nothing is assumed of rows, words or room.
+ghost use mathlib.Core.Path.{_≡_};
+ghost use mathlib.Core.Bool.{true};
+ghost use mathlib.Core.List.{_++_, flatMap};
+ghost use Prim.Native.Nat.{ℕ, _+_, _*_, _≤_, _<_};
+ghost use lib.Dec.{ltb};
+ghost use lib.ListN.{length, getD, take, drop};
+ghost use Rattle.pack.specs.Bits.{run, over};
+ghost use Rattle.lists.specs.Lists.{all};
+ghost use Rattle.lists.specs.Place.{found};
+ghost use Rattle.paper.specs.Format.{bytesFor};
+ghost use Rattle.paper.specs.FaceList.{faceBits, encodeFaces, span, bitsOf, rowAt, solidFaces, sentOf, sentRoom};
+ghost use Rattle.faces.specs.Face.{Brief};
+ghost use Rattle.faces_writer.specs.Send.{way, digit, faceAlone, fits, cornersOf, weight};
+use lists::Place;
+use paper::Format;
+use paper::Refusal;
+use paper::Written;
+use sets::Set;
+
+// How many faces there are and their bits, where all fit.
+pub enum Extent {
+    Misfit,
+    Of(usize, usize),
+}
+
+fn is_set(word: u64, k: usize) -> bool
+    requires { ⌜ k < 64 ⌝ }
+    ensures { λ r. ⌜ r ≡ digit word k ⌝ }
+{
+    let set = Set { bits: word };
+    set.has(k)
+}
+
+// Whether the c numbers from place i on are below v.
+fn are_under(v: u64, rows: &[u8], i: usize, c: usize) -> bool
+    requires { ⌜ i + c ≤ length (now rows) ⌝ }
+    ensures { λ r. ⌜ r ≡ all (λ x. ltb x v) (take c (drop i (now (rows .entry)))) ⌝ }
+{
+    let mut j: usize = 0;
+    while j < c {
+        if v <= rows[i + j] as u64 {
+            return false;
+        }
+        j += 1;
+    }
+    true
+}
+
+// The corner count of candidate k, where it is a face.
+fn row_fits(f: Format, rows: &[u8], k: usize) -> Place
+    requires { ⌜ k < 64 ⌝ }
+    ensures { λ r. ⌜ found r ≡ cornersOf f (rowAt (now (rows .entry)) k) ⌝ }
+{
+    let first = paper::ROW * k;
+    if rows.len() < first + paper::ROW {
+        return Place::Nowhere;
+    }
+    let c = rows[first] as u64;
+    if content::counts::is_outside(paper::LEAST_CORNERS as u64, paper::MOST_CORNERS as u64, c) {
+        return Place::Nowhere;
+    }
+    let n = c as usize;
+    if are_under(f.vmax, rows, first + 1, n) {
+        return Place::At(n);
+    }
+    Place::Nowhere
+}
+
+// What candidate k weighs: nothing where it is not taken.
+fn weigh(f: Format, rows: &[u8], taken: u64, k: usize) -> Extent
+    requires { ⌜ Brief f × (k < 64) ⌝ }
+    ensures { λ r. ⌜ ((turned : ℕ) → r ≡ weight f (faceAlone (now (rows .entry)) taken turned k)) ⌝ }
+{
+    if is_set(taken, k) {
+        let fit = row_fits(f, rows, k);
+        let Place::At(c) = fit else {
+            return Extent::Misfit;
+        };
+        return Extent::Of(1, paper::CORNER_BITS + f.nw * c);
+    }
+    Extent::Of(0, 0)
+}
+
+// What the solid's faces weigh.
+fn weigh_all(f: Format, rows: &[u8], taken: u64) -> Extent
+    requires { ⌜ Brief f ⌝ }
+    ensures { λ r. ⌜ ((turned : ℕ) → r ≡ weight f (solidFaces (now (rows .entry)) taken turned)) ⌝ }
+{
+    let mut faces: usize = 0;
+    let mut bits: usize = 0;
+    let mut k: usize = 0;
+    while k < paper::MOST_CANDIDATES {
+        let one = weigh(f, rows, taken, k);
+        let Extent::Of(n, b) = one else {
+            return Extent::Misfit;
+        };
+        faces += n;
+        bits += b;
+        k += 1;
+    }
+    Extent::Of(faces, bits)
+}
+
+// Corner j of the c corners from place i on: against their order the first stays first.
+fn corner(rows: &[u8], i: usize, c: usize, back: bool, j: usize) -> u64
+    requires { ⌜ (i + c ≤ length (now rows)) × (j < c) ⌝ }
+    ensures { λ r. ⌜ r ≡ getD (way back (take c (drop i (now (rows .entry))))) j 0 ⌝ }
+{
+    if back {
+        if 0 < j {
+            return rows[i + (c - j)] as u64;
+        }
+        return rows[i] as u64;
+    }
+    rows[i + j] as u64
+}
+
+// Writes these corners into the fields of w bits from bit b on.
+fn put_corners(rows: &[u8], i: usize, c: usize, back: bool, room: &mut [u8], b: usize, w: usize)
+    requires { ⌜ (i + c ≤ length (now rows)) × (w ≤ 8) × (c ≤ 12) × (b + w * c ≤ length (now room) * 8) × (b ≤ 8192) ⌝ }
+    ensures { λ _. ⌜ run 8 (now (room .exit)) ≡ over (run 8 (now (room .entry))) b (run w (way back (take c (drop i (now (rows .entry)))))) ⌝ }
+{
+    let mut j: usize = 0;
+    while j < c {
+        pack::put(room, b + w * j, w, corner(rows, i, c, back, j));
+        j += 1;
+    }
+}
+
+// Writes candidate k as a face at bit b, and answers the bit behind it.
+fn put_face(f: Format, rows: &[u8], k: usize, back: bool, room: &mut [u8], b: usize) -> usize
+    requires { ⌜ Brief f × (k < 64) × (fits f (rowAt (now rows) k) ≡ true) × (b + (4 + f .nw * length (rowAt (now rows) k)) ≤ length (now room) * 8) × (b ≤ 8000) ⌝ }
+    ensures end { λ r. ⌜ r ≡ b + (4 + f .nw * length (rowAt (now (rows .entry)) k)) ⌝ }
+    ensures put { λ _. ⌜ run 8 (now (room .exit)) ≡ over (run 8 (now (room .entry))) b (faceBits f (way back (rowAt (now (rows .entry)) k))) ⌝ }
+{
+    let first = paper::ROW * k;
+    let c = rows[first] as usize;
+    pack::put(room, b, paper::CORNER_BITS, c as u64);
+    put_corners(rows, first + 1, c, back, room, b + paper::CORNER_BITS, f.nw);
+    b + (paper::CORNER_BITS + f.nw * c)
+}
+
+// The same where it is taken; else nothing.
+fn put_taken(
+    f: Format,
+    rows: &[u8],
+    taken: u64,
+    turned: u64,
+    k: usize,
+    room: &mut [u8],
+    b: usize,
+) -> usize
+    requires { ⌜ Brief f × (k < 64) × (all (fits f) (faceAlone (now rows) taken turned k) ≡ true) × (b + span f (faceAlone (now rows) taken turned k) ≤ length (now room) * 8) × (b ≤ 8000) ⌝ }
+    ensures end { λ r. ⌜ r ≡ b + span f (faceAlone (now (rows .entry)) taken turned k) ⌝ }
+    ensures put { λ _. ⌜ run 8 (now (room .exit)) ≡ over (run 8 (now (room .entry))) b (flatMap (faceBits f) (faceAlone (now (rows .entry)) taken turned k)) ⌝ }
+{
+    if is_set(taken, k) {
+        return put_face(f, rows, k, is_set(turned, k), room, b);
+    }
+    b
+}
+
+// Writes the solid's faces behind the head.
+fn put_faces(f: Format, rows: &[u8], taken: u64, turned: u64, room: &mut [u8])
+    requires { ⌜ Brief f × (all (fits f) (solidFaces (now rows) taken turned) ≡ true) × (bitsOf f (solidFaces (now rows) taken turned) ≤ length (now room) * 8) × (bitsOf f (solidFaces (now rows) taken turned) ≤ 8000) ⌝ }
+    ensures { λ _. ⌜ run 8 (now (room .exit)) ≡ over (run 8 (now (room .entry))) (4 + f .fw) (flatMap (faceBits f) (solidFaces (now (rows .entry)) taken turned)) ⌝ }
+{
+    let mut b = paper::EDITION_BITS + f.fw;
+    let mut k: usize = 0;
+    while k < paper::MOST_CANDIDATES {
+        b = put_taken(f, rows, taken, turned, k, room, b);
+        k += 1;
+    }
+}
+
+// Writes the list of n faces of b bits, all of which fit, into room that is long enough.
+fn put_list(f: Format, rows: &[u8], taken: u64, turned: u64, room: &mut [u8], n: usize, b: usize)
+    requires { ⌜ Brief f × (all (fits f) (solidFaces (now rows) taken turned) ≡ true) × (n ≡ length (solidFaces (now rows) taken turned)) × (b ≡ span f (solidFaces (now rows) taken turned)) × (bytesFor (bitsOf f (solidFaces (now rows) taken turned)) ≤ length (now room)) × (bitsOf f (solidFaces (now rows) taken turned) ≤ 8000) ⌝ }
+    ensures { λ _. ⌜ now (room .exit) ≡ encodeFaces f (solidFaces (now (rows .entry)) taken turned) ++ drop (bytesFor (bitsOf f (solidFaces (now (rows .entry)) taken turned))) (now (room .entry)) ⌝ }
+{
+    pack::put(room, 0, paper::EDITION_BITS, f.edition);
+    pack::put(room, paper::EDITION_BITS, f.fw, n as u64);
+    put_faces(f, rows, taken, turned, room);
+    sheet_writer::write::put_fill(room, paper::EDITION_BITS + f.fw + b);
+}
+
+fn refused(number: u8) -> Written
+    ensures { λ r. ⌜ r ≡ Written.Refused (record { number = number; place = 0 }) ⌝ }
+{
+    Written::Refused(Refusal { number, place: 0 })
+}
+
+// Writes a reported solid as a list of one edition.
+pub fn write(f: Format, rows: &[u8], taken: u64, turned: u64, room: &mut [u8]) -> Written
+    requires { ⌜ Brief f ⌝ }
+    ensures answer { λ r. ⌜ r ≡ sentOf f (solidFaces (now (rows .entry)) taken turned) (now (room .entry)) ⌝ }
+    ensures kept { λ _. ⌜ now (room .exit) ≡ sentRoom f (solidFaces (now (rows .entry)) taken turned) (now (room .entry)) ⌝ }
+{
+    let weighed = weigh_all(f, rows, taken);
+    let Extent::Of(n, b) = weighed else {
+        return refused(paper::SHELL_SHAPE);
+    };
+    if content::counts::is_outside(paper::LEAST_FACES as u64, f.fmax, n as u64) {
+        return refused(paper::SHELL_SHAPE);
+    }
+    let size = (paper::EDITION_BITS + f.fw + b + 7) / 8;
+    if room.len() < size {
+        return refused(paper::NO_ROOM);
+    }
+    put_list(f, rows, taken, turned, room, n, b);
+    Written::Bytes(size)
+}

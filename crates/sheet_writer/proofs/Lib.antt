@@ -1,0 +1,4 @@
+-- The laws that this crate's proofs share. Assumes nothing.
+pub mod Ready
+pub mod Encoded
+pub mod Written

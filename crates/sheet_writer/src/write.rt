@@ -1,0 +1,110 @@
+// A drawing's sheet, written to the start of a lent room: refusals 5, 8, 9, 10, then 1. Nothing is assumed of lists or room.
+ghost use mathlib.Core.Path.{_≡_};
+ghost use mathlib.Core.Bool.{false};
+ghost use mathlib.Core.List.{map, _++_};
+ghost use Prim.Native.Nat.{_+_, _*_, _-_, _/_, _≤_, _<_, _^_};
+ghost use lib.ListN.{length, drop};
+ghost use Rattle.pack.specs.Bits.{bits, run, over};
+ghost use Rattle.paper.specs.Refusals.{firstOf};
+ghost use Rattle.paper.specs.Format.{onSheet, total, bytesFor, headBits, encode};
+ghost use Rattle.paper.specs.Sheet.{far, lentChecks, writtenOf, roomOf};
+ghost use Rattle.content.specs.Near.{Near};
+ghost use Rattle.sheet.specs.Narrow.{Narrow};
+use content::lend::lent;
+use paper::Answer;
+use paper::Format;
+use paper::Refusal;
+use paper::Written;
+use sheet::shape::total_bits;
+
+// A coordinate's number on the sheet.
+fn to_field(z: i64) -> u64
+    requires { ⌜ far z ≡ false ⌝ }
+    ensures { λ r. ⌜ r ≡ onSheet z ⌝ }
+{
+    (z + paper::FARTHEST) as u64
+}
+
+// Writes the coordinates into the fields of 11 bits from bit i on.
+fn put_coordinates(xyz: &[i64], room: &mut [u8], i: usize)
+    requires { ⌜ Near (now xyz) × (i + 11 * length (now xyz) ≤ length (now room) * 8) × (i + 11 * length (now xyz) < 2 ^ 32) ⌝ }
+    ensures { λ _. ⌜ run 8 (now (room .exit)) ≡ over (run 8 (now (room .entry))) i (run 11 (map onSheet (now (xyz .entry)))) ⌝ }
+{
+    let mut k: usize = 0;
+    while k < xyz.len() {
+        pack::put(
+            room,
+            i + paper::COORDINATE_BITS * k,
+            paper::COORDINATE_BITS,
+            to_field(xyz[k]),
+        );
+        k += 1;
+    }
+}
+
+// Writes the numbers into the fields of w bits from bit i on.
+fn put_numbers(list: &[u8], room: &mut [u8], i: usize, w: usize)
+    requires { ⌜ (w ≤ 8) × (i + w * length (now list) ≤ length (now room) * 8) × (i + w * length (now list) < 2 ^ 32) ⌝ }
+    ensures { λ _. ⌜ run 8 (now (room .exit)) ≡ over (run 8 (now (room .entry))) i (run w (now (list .entry))) ⌝ }
+{
+    let mut k: usize = 0;
+    while k < list.len() {
+        pack::put(room, i + w * k, w, list[k] as u64);
+        k += 1;
+    }
+}
+
+// Writes the edition and the counts.
+fn put_head(f: Format, room: &mut [u8], v: usize, e: usize)
+    requires { ⌜ Narrow f × (4 + f .vw + f .ew ≤ length (now room) * 8) ⌝ }
+    ensures { λ _. ⌜ run 8 (now (room .exit)) ≡ over (run 8 (now (room .entry))) 0 (headBits f v e) ⌝ }
+{
+    pack::put(room, 0, paper::EDITION_BITS, f.edition);
+    pack::put(room, paper::EDITION_BITS, f.vw, v as u64);
+    pack::put(room, paper::EDITION_BITS + f.vw, f.ew, e as u64);
+}
+
+// Fills the last byte of the first n bits with zeros.
+pub fn put_fill(room: &mut [u8], n: usize)
+    requires { ⌜ (bytesFor n ≤ length (now room)) × (n < 2 ^ 31) ⌝ }
+    ensures { λ _. ⌜ run 8 (now (room .exit)) ≡ over (run 8 (now (room .entry))) n (bits (bytesFor n * 8 - n) 0) ⌝ }
+{
+    pack::put(room, n, (n + 7) / 8 * 8 - n, 0);
+}
+
+// Writes the sheet of a drawing that fits, into room that is long enough.
+fn put_sheet(f: Format, xyz: &[i64], ends: &[u8], room: &mut [u8], v: usize, e: usize)
+    requires { ⌜ Narrow f × (Answer.Fine ≡ firstOf (lentChecks f (now xyz) (now ends))) × (v ≡ length (now xyz) / 3) × (e ≡ length (now ends) / 2) × (bytesFor (total f v e) ≤ length (now room)) ⌝ }
+    ensures { λ _. ⌜ now (room .exit) ≡ encode f (now (xyz .entry)) (now (ends .entry)) ++ drop (bytesFor (total f v e)) (now (room .entry)) ⌝ }
+{
+    let first = paper::EDITION_BITS + f.vw + f.ew;
+    let bits = total_bits(f, v, e);
+    put_head(f, room, v, e);
+    put_coordinates(xyz, room, first);
+    put_numbers(ends, room, first + paper::VERTEX_BITS * v, f.nw);
+    put_fill(room, bits);
+}
+
+// Writes a drawing's sheet of one edition.
+pub fn write(f: Format, xyz: &[i64], ends: &[u8], room: &mut [u8]) -> Written
+    requires { ⌜ Narrow f ⌝ }
+    ensures answer { λ r. ⌜ r ≡ writtenOf f (now (xyz .entry)) (now (ends .entry)) (now (room .entry)) ⌝ }
+    ensures kept { λ _. ⌜ now (room .exit) ≡ roomOf f (now (xyz .entry)) (now (ends .entry)) (now (room .entry)) ⌝ }
+{
+    match lent(f, xyz, ends) {
+        Answer::Refused(r) => Written::Refused(r),
+        Answer::Fine => {
+            let v = xyz.len() / 3;
+            let e = ends.len() / 2;
+            let size = (total_bits(f, v, e) + 7) / 8;
+            if room.len() < size {
+                return Written::Refused(Refusal {
+                    number: paper::NO_ROOM,
+                    place: 0,
+                });
+            }
+            put_sheet(f, xyz, ends, room, v, e);
+            Written::Bytes(size)
+        }
+    }
+}
