@@ -1,6 +1,4 @@
-// Two faces clash: A and B, either way round, here, and C in module fold. Assumes rows of a loop table in range, each with its normal.
-pub mod fold;
-
+// Two faces clash: A and B, either way round, here, and C in crate fold. Assumes rows of a loop table in range, each with its normal.
 ghost use mathlib.Core.Path.{_≡_};
 ghost use mathlib.Core.Bool.{_&&_, _||_};
 ghost use lib.IntN.{pos, natAbs};
@@ -11,9 +9,9 @@ ghost use Rattle.paper.specs.Polygon.{lies, exactly, isInside};
 ghost use Rattle.paper.specs.Clash.{opposite, pierced, pierces, enters, clash};
 ghost use Rattle.polygon.specs.Sizes.{Small, mostSide};
 ghost use Rattle.polygon.specs.Rings.{ring, Row, Face};
+use cover::place::lies_inside;
 use fold::folds;
 use paper::Point;
-use polygon::place::lies_inside;
 use polygon::points::is_zero;
 use polygon::rings::corner;
 use polygon::rings::count;

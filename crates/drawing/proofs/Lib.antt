@@ -1,7 +1,3 @@
--- Laws of the drawing rules. `Digits`, `Words`, `Wires` and `Accepted` are cited by callers too.
-pub mod Digits
-pub mod Wires
-pub mod Words
+-- The laws that this crate's proofs share. Assumes nothing.
+pub mod Vertices
 pub mod Meeting
-pub mod Reach
-pub mod Accepted

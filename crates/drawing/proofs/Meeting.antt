@@ -13,9 +13,10 @@ use Rattle.paper.specs.Points.{samePoint}
 use Rattle.paper.specs.Drawing.{Wire, edge, pointsOf, wire, at, edgeAt, onOpen, openMeets, vertexOn, edgesMeet}
 use Rattle.paper.specs.declared.Point.{Point}
 use Rattle.polygon.specs.Rings.{pointOf}
-use Rattle.drawing.specs.InRange.{Points, Ends}
+use Rattle.content.specs.InRange.{Points, Ends}
 use Rattle.drawing.specs.Meets.{meetsAt}
-use Rattle.drawing.proofs.Wires.{vertex-count, vertex-is, edge-count, half-count, edge-is}
+use Rattle.links.proofs.Edges.{edge-count, half-count, edge-is}
+use Rattle.drawing.proofs.Vertices.{vertex-count, vertex-is}
 
 -- ---- rule 11: another vertex is where u is
 

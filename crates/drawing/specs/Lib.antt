@@ -1,3 +1,2 @@
-pub mod InRange
-pub mod Neighbours
+-- What contracts of this crate cite beside the paper. Assumes nothing.
 pub mod Meets

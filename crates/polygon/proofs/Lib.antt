@@ -1,9 +1,8 @@
--- Laws of the numbers and polygons that the code holds. `Sizes`, `Rows`, `Planes` and `Drawn` are cited by callers too.
+-- Laws of the numbers and polygons that the code holds. `Sizes`, `Zeros`, `Rows`, `Planes` and `Drawn` are cited by callers too.
 pub mod Sizes
 pub mod Zeros
 pub mod Rows
 pub mod Areas
 pub mod Planes
-pub mod Views
 pub mod Fans
 pub mod Drawn

@@ -14,6 +14,7 @@ use super::points::det;
 use super::points::dot;
 use super::points::minus;
 use super::points::plus;
+use lists::wide;
 use paper::Point;
 use paper::ROW;
 
@@ -27,13 +28,6 @@ pub fn point_at(xyz: &[i64], v: usize) -> Point
         y: xyz[i + 1],
         z: xyz[i + 2],
     }
-}
-
-// A byte of a table asks only for its index where it is widened by a call.
-fn wide(x: u8) -> usize
-    ensures { λ r. ⌜ r ≡ x ⌝ }
-{
-    x as usize
 }
 
 // The corner count of row r.

@@ -4,3 +4,4 @@ pub mod Shaped
 pub mod Coordinate
 pub mod Drawn
 pub mod Accepted
+pub mod Range

@@ -3,15 +3,15 @@
 // with a digit for each: 1 where the two clash, and 2 more where the line's covers the other.
 ghost use Prim.Native.Nat.{ℕ, _<_};
 ghost use Rattle.polygon.specs.Rings.{Row, Face};
-ghost use Rattle.drawing.specs.InRange.{Points, InRange, Held};
+ghost use Rattle.content.specs.InRange.{Points, InRange, Held};
 use clash::clash;
+use cover::covers;
 use drawing::drawing_rules;
 use libc::STDIN_FILENO;
 use lists::Place;
 use paper::Answer;
 use paper::Drawing;
 use paper::Point;
-use polygon::cover::covers;
 use polygon::rings::normal;
 use trial::end_of;
 use trial::say;

@@ -8,11 +8,11 @@ use borrow.Author.Needs.{needs}
 use Rattle.paper.specs.Drawing.{Wire, apart, drawingChecks, edgeMeets, ends, looseVertex, samePlace, wire}
 use Rattle.paper.specs.Format.{one}
 use Rattle.paper.specs.Refusals.{Apart, Check, EdgeMeets, LooseVertex, SamePlace, check, firstOf}
-use Rattle.drawing.specs.InRange.{Ends, Points}
-use Rattle.drawing.specs.Neighbours.{Links}
+use Rattle.content.specs.InRange.{Ends, Points}
+use Rattle.links.specs.Neighbours.{Links}
 use Rattle.laws.proofs.Checks.{first-stops, first-passes}
-use Rattle.drawing.proofs.Wires.{vertex-count}
-use Rattle.drawing.proofs.Words.{links-are}
+use Rattle.drawing.proofs.Vertices.{vertex-count}
+use Rattle.links.proofs.Words.{links-are}
 use Rattle.drawing.proofs.drawing_rules.Statement.{statement}
 use Rattle.drawing.proofs.drawing_rules.Tie as tie
 

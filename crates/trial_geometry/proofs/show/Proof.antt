@@ -1,7 +1,7 @@
 use mathlib.Core.Path.{sym, ap, subst, _∙_}
-use Rattle.drawing.specs.InRange.{Held}
+use Rattle.content.specs.InRange.{Held}
 use Rattle.paper.specs.declared.Sheet.{Sheet}
-use Rattle.drawing.proofs.Accepted.{read-range}
+use Rattle.sheet.proofs.Range.{read-range}
 use borrow.Author.Needs.{needs}
 use Rattle.trial_geometry.proofs.show.Statement.{statement}
 use Rattle.trial_geometry.proofs.show.Tie as tie

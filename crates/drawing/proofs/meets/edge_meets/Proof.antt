@@ -11,7 +11,7 @@ use Rattle.laws.proofs.Checks.{clear, stops, passes}
 use Rattle.paper.specs.Drawing.{edgeMeets, edgesOf, ends, wire}
 use Rattle.paper.specs.Refusals.{EdgeMeets}
 use Rattle.drawing.specs.Meets.{meetsAt}
-use Rattle.drawing.proofs.Wires.{edge-count, half-count}
+use Rattle.links.proofs.Edges.{edge-count, half-count}
 use Rattle.drawing.proofs.meets.edge_meets.Statement.{statement}
 use Rattle.drawing.proofs.meets.edge_meets.Tie as tie
 

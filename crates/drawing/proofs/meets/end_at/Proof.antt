@@ -3,7 +3,7 @@ use native.Mathlib.Omega.{arith}
 use denote.Ref.{now}
 use borrow.Author.Needs.{needs}
 use Rattle.polygon.specs.Rings.{pointOf}
-use Rattle.drawing.proofs.Wires.{vertex-read}
+use Rattle.drawing.proofs.Vertices.{vertex-read}
 use Rattle.drawing.proofs.meets.end_at.Statement.{statement}
 use Rattle.drawing.proofs.meets.end_at.Tie as tie
 

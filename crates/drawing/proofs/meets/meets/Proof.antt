@@ -12,7 +12,7 @@ use Rattle.polygon.proofs.Sizes.{small-eq}
 use Rattle.polygon.specs.Rings.{pointOf}
 use Rattle.drawing.specs.Meets.{meetsAt}
 use Rattle.drawing.proofs.Meeting.{meets-is}
-use Rattle.drawing.proofs.Wires.{vertex-small}
+use Rattle.drawing.proofs.Vertices.{vertex-small}
 use Rattle.drawing.proofs.meets.meets.Statement.{statement}
 use Rattle.drawing.proofs.meets.meets.Tie as tie
 

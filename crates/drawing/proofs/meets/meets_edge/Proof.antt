@@ -15,7 +15,7 @@ use Rattle.paper.specs.Drawing.{ends, openMeets}
 use Rattle.paper.specs.declared.Point.{Point}
 use Rattle.polygon.proofs.Sizes.{small-eq}
 use Rattle.polygon.specs.Rings.{pointOf}
-use Rattle.drawing.proofs.Wires.{vertex-small}
+use Rattle.drawing.proofs.Vertices.{vertex-small}
 use Rattle.drawing.proofs.meets.meets_edge.Statement.{statement}
 use Rattle.drawing.proofs.meets.meets_edge.Tie as tie
 

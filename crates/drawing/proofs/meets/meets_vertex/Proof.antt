@@ -11,7 +11,7 @@ use Rattle.paper.specs.Drawing.{onOpen}
 use Rattle.paper.specs.declared.Point.{Point}
 use Rattle.polygon.proofs.Sizes.{small-eq}
 use Rattle.polygon.specs.Rings.{pointOf}
-use Rattle.drawing.proofs.Wires.{vertex-read, vertex-small}
+use Rattle.drawing.proofs.Vertices.{vertex-read, vertex-small}
 use Rattle.drawing.proofs.meets.meets_vertex.Statement.{statement}
 use Rattle.drawing.proofs.meets.meets_vertex.Tie as tie
 

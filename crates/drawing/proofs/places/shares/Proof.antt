@@ -13,7 +13,7 @@ use Rattle.lists.specs.Lists.{any, upto}
 use Rattle.paper.specs.Points.{samePoint}
 use Rattle.polygon.proofs.Sizes.{small-eq}
 use Rattle.polygon.specs.Rings.{pointOf}
-use Rattle.drawing.proofs.Wires.{vertex-read, vertex-small}
+use Rattle.drawing.proofs.Vertices.{vertex-read, vertex-small}
 use Rattle.drawing.proofs.places.shares.Statement.{statement}
 use Rattle.drawing.proofs.places.shares.Tie as tie
 

@@ -1,9 +1,0 @@
-use Rattle.clash.proofs.Angles.{within-is}
-use Rattle.clash.proofs.fold.within.Statement.{statement}
-use Rattle.clash.proofs.fold.within.Tie as tie
-
-returns : tie.Need-returns
-returns c = within-is (c .args .convex) (c .args .l) (c .args .r)
-
-pub within-spec : {M : Type 1} → statement M
-within-spec = tie.close (tie.spec returns)

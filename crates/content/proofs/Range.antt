@@ -1,0 +1,44 @@
+-- Lists that refusals 5 and 8 to 10 have nothing against are a drawing in range. Assumes nothing.
+use mathlib.Core.Path.{_≡_}
+use mathlib.Core.Bool.{false, or-false}
+use mathlib.Core.List.{List}
+use Prim.Native.Nat.{ℕ, _*_, _/_, _≤_}
+use native.Mathlib.Omega.{arith}
+use borrow.Author.Tests.{ltb-false}
+use lib.IntN.{ℤ, pos, negsuc}
+use lib.ListN.{length}
+use Rattle.exact.specs.Size.{Within}
+use Rattle.paper.specs.Numbers.{farthest}
+use Rattle.paper.specs.Refusals.{firstOf}
+use Rattle.paper.specs.Format.{one}
+use Rattle.paper.specs.Sheet.{far, contentChecks, lentChecks}
+use Rattle.paper.specs.declared.Answer.the-variants.{Fine}
+use Rattle.content.specs.InRange.{Points, Ends, InRange}
+use Rattle.content.proofs.Lent.{contents, lent}
+
+near : (z : ℤ) → far z ≡ false → Within farthest z
+near (pos n) e = record { within = ltb-false 1000 n e }
+near (negsuc n) e = record { within = omega (arith, ltb-false 999 n (rw or-false at e)) }
+
+-- v vertices and e edges in number, and nothing against the contents
+module _ (xyz : List ℤ) (ends : List ℕ) (v e : ℕ) (three : length xyz ≡ 3 * v) (two : length ends ≡ 2 * e) (h : Fine ≡ firstOf (contentChecks v xyz ends)) where
+  pub points-are : Points xyz v
+  points-are = record { whole = three; near = λ k. near _ (contents v xyz ends h .near k) }
+
+  pub ends-are : 6 ≤ e → e ≤ one .emax → Ends ends v
+  ends-are least most =
+      let c = contents v xyz ends h in
+      record { edges = e; whole = two; least = least; most = most; known = λ k u. c .below k (omega arith); rising = λ k u. c .rising k (omega arith) }
+
+pub lent-range : (xyz : List ℤ) (ends : List ℕ) → Fine ≡ firstOf (lentChecks one xyz ends) → InRange xyz ends
+lent-range xyz ends h =
+    let g = lent one xyz ends h in
+    let v = length xyz / 3 in
+    let e = length ends / 2 in
+    record {
+      vertices = v;
+      least = g .v-least;
+      most = g .v-most;
+      points = points-are xyz ends v e (g .v-whole) (g .e-whole) (g .fine);
+      links = ends-are xyz ends v e (g .v-whole) (g .e-whole) (g .fine) (g .e-least) (g .e-most);
+    }

@@ -1,0 +1,9 @@
+use Rattle.fold.proofs.Angles.{within-is}
+use Rattle.fold.proofs.within.Statement.{statement}
+use Rattle.fold.proofs.within.Tie as tie
+
+returns : tie.Need-returns
+returns c = within-is (c .args .convex) (c .args .l) (c .args .r)
+
+pub within-spec : {M : Type 1} → statement M
+within-spec = tie.close (tie.spec returns)

@@ -1,0 +1,145 @@
+// Clash C: two corners of both rows, and the direction from one to the other inside both angles. Assumes rows in range, each with its
+// normal.
+ghost use mathlib.Core.Path.{_≡_};
+ghost use mathlib.Core.Bool.{_&&_};
+ghost use Rattle.lists.specs.Lists.{any};
+ghost use Rattle.paper.specs.Numbers.{farthest};
+ghost use Rattle.paper.specs.Points.{samePoint};
+ghost use Rattle.paper.specs.Clash.{within, inAngle, pointsIn, isCorner, bends, folds};
+ghost use Rattle.polygon.specs.Sizes.{Small, mostStep, mostNormal};
+ghost use Rattle.polygon.specs.Rings.{ring, Row, Face};
+use cover::in_plane;
+use paper::Point;
+use polygon::points::det;
+use polygon::points::minus;
+use polygon::points::same_point;
+use polygon::rings::corner;
+use polygon::rings::count;
+
+fn within(convex: bool, l: bool, r: bool) -> bool
+    ensures { λ w. ⌜ w ≡ within convex l r ⌝ }
+{
+    convex & l & r | !convex & (l | r)
+}
+
+// At the corner p between a and b of a polygon with normal m: w points strictly inside the angle.
+fn in_angle(m: Point, a: Point, p: Point, b: Point, w: Point) -> bool
+    requires { ⌜ Small mostNormal m × Small farthest a × Small farthest p × Small farthest b × Small mostStep w ⌝ }
+    ensures { λ r. ⌜ r ≡ inAngle m a p b w ⌝ }
+{
+    let x = minus(b, p);
+    let y = minus(a, p);
+    within(0 < det(m, x, y), 0 < det(m, x, w), 0 < det(m, w, y))
+}
+
+fn turns_at(m: Point, u: Point, w: Point, a: Point, p: Point, b: Point) -> bool
+    requires { ⌜ Small mostNormal m × Small farthest u × Small mostStep w × Small farthest a × Small farthest p × Small farthest b ⌝ }
+    ensures { λ r. ⌜ r ≡ (samePoint p u && inAngle m a p b w) ⌝ }
+{
+    if same_point(p, u) {
+        in_angle(m, a, p, b, w)
+    } else {
+        false
+    }
+}
+
+// From u to v is strictly inside the angle at u of row r, whose normal is m.
+fn points_in(xyz: &[i64], table: &[u8], r: usize, m: Point, u: Point, v: Point) -> bool
+    requires { ⌜ Face (now xyz) (now table) r m × Small farthest u × Small farthest v ⌝ }
+    ensures { λ w. ⌜ w ≡ pointsIn (ring (now (xyz .entry)) (now (table .entry)) r) u v ⌝ }
+{
+    let n = count(table, r);
+    let w = minus(v, u);
+    let mut a = corner(xyz, table, r, 0);
+    let mut p = corner(xyz, table, r, 1);
+    let mut j = 0;
+    while j < n {
+        let b = corner(xyz, table, r, j + 2);
+        if turns_at(m, u, w, a, p, b) {
+            return true;
+        }
+        a = p;
+        p = b;
+        j += 1;
+    }
+    false
+}
+
+fn is_corner(xyz: &[i64], table: &[u8], r: usize, p: Point) -> bool
+    requires { ⌜ Row (now xyz) (now table) r × Small farthest p ⌝ }
+    ensures { λ w. ⌜ w ≡ isCorner (ring (now (xyz .entry)) (now (table .entry)) r) p ⌝ }
+{
+    let n = count(table, r);
+    let mut j = 0;
+    while j < n {
+        if same_point(p, corner(xyz, table, r, j)) {
+            return true;
+        }
+        j += 1;
+    }
+    false
+}
+
+// Of corners u and v of row f, of which u is one of row g too.
+fn bends(
+    xyz: &[i64],
+    table: &[u8],
+    f: usize,
+    mf: Point,
+    g: usize,
+    mg: Point,
+    u: Point,
+    v: Point,
+) -> bool
+    requires { ⌜ Face (now xyz) (now table) f mf × Face (now xyz) (now table) g mg × Small farthest u × Small farthest v ⌝ }
+    ensures { λ w. ⌜ w ≡ bends (ring (now (xyz .entry)) (now (table .entry)) f) (ring (now (xyz .entry)) (now (table .entry)) g) u v ⌝ }
+{
+    if !is_corner(xyz, table, g, v) {
+        return false;
+    }
+    if same_point(u, v) {
+        return false;
+    }
+    if !points_in(xyz, table, f, mf, u, v) {
+        return false;
+    }
+    points_in(xyz, table, g, mg, u, v)
+}
+
+// A corner u of row f is one of row g, and another of both is seen from it inside both angles.
+fn folds_at(xyz: &[i64], table: &[u8], f: usize, mf: Point, g: usize, mg: Point, u: Point) -> bool
+    requires { ⌜ Face (now xyz) (now table) f mf × Face (now xyz) (now table) g mg × Small farthest u ⌝ }
+    ensures { λ w. ⌜ w ≡ (isCorner (ring (now (xyz .entry)) (now (table .entry)) g) u && any (bends (ring (now (xyz .entry)) (now (table .entry)) f) (ring (now (xyz .entry)) (now (table .entry)) g) u) (ring (now (xyz .entry)) (now (table .entry)) f)) ⌝ }
+{
+    if !is_corner(xyz, table, g, u) {
+        return false;
+    }
+    let n = count(table, f);
+    let mut j = 0;
+    while j < n {
+        if bends(xyz, table, f, mf, g, mg, u, corner(xyz, table, f, j)) {
+            return true;
+        }
+        j += 1;
+    }
+    false
+}
+
+// Rows f and g, whose normals are mf and mg, clash by C.
+pub fn folds(xyz: &[i64], table: &[u8], f: usize, mf: Point, g: usize, mg: Point) -> bool
+    requires { ⌜ Face (now xyz) (now table) f mf × Face (now xyz) (now table) g mg ⌝ }
+    ensures { λ w. ⌜ w ≡ folds (ring (now (xyz .entry)) (now (table .entry)) f) (ring (now (xyz .entry)) (now (table .entry)) g) ⌝ }
+{
+    if in_plane(xyz, table, f, mf, g) {
+        return false;
+    }
+    let n = count(table, f);
+    let mut j = 0;
+    while j < n {
+        if folds_at(xyz, table, f, mf, g, mg, corner(xyz, table, f, j)) {
+            return true;
+        }
+        j += 1;
+    }
+    false
+}

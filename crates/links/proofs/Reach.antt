@@ -1,0 +1,80 @@
+-- What is reached from vertex 0: a set of vertices by its digits, against a row of them; and that nothing is added once a step adds nothing.
+-- Assumes nothing.
+use mathlib.Core.Path.{_≡_, sym, ap, _∙_}
+use mathlib.Core.Bool.{Bool, false, _||_, _&&_}
+use mathlib.Core.List.{List}
+use Prim.Native.Nat.{ℕ, zero, suc, _+_, _-_, _≤_, _<_}
+use native.Mathlib.Decide.{ℕ-discrete}
+use native.Mathlib.Omega.{arith}
+use borrow.Author.Tests.{eq-eqb, ne-eqb}
+use lib.Dec.{eqb}
+use lib.ListN.{length, getD, length-map}
+use lib.Seq.{ext-getD}
+use Rattle.lists.specs.Lists.{any, upto}
+use Rattle.lists.proofs.Places.{map-at, upto-length, upto-at, any-below-same}
+use Rattle.paper.specs.Drawing.{Wire, joined, further, reached}
+use Rattle.links.specs.Neighbours.{digit}
+use Rattle.links.proofs.Digits.{digit-power}
+
+-- the digits of m, for the v vertices, are the row
+abbrev pub Stands : ℕ → ℕ → List Bool → Type 0
+Stands m v row = (w : ℕ) → w < v → digit m w ≡ getD row w false
+
+-- what one edge more makes of a set
+abbrev pub Grown : ℕ → ℕ → Wire → ℕ → Type 0
+Grown m v d n = (w : ℕ) → digit n w ≡ (digit m w || any (λ u. digit m u && joined d u w) (upto v))
+
+eqb-flip : (a b : ℕ) → eqb a b ≡ eqb b a
+eqb-flip a b = go (ℕ-discrete a b)
+  where
+    go : Dec (a ≡ b) → eqb a b ≡ eqb b a
+    go (yes e) = eq-eqb a b e ∙ sym (eq-eqb b a (sym e))
+    go (no n) = ne-eqb a b n ∙ sym (ne-eqb b a (λ e. n (sym e)))
+
+module _ (d : Wire) (v : ℕ) (n : length (d .vertices) ≡ v) where
+  upto-count : length (upto (length (d .vertices))) ≡ v
+  upto-count = upto-length (length (d .vertices)) ∙ n
+
+  -- vertex 0 alone
+  pub reach-start : Stands 1 v (reached d 0)
+  unfolding reached
+  reach-start w h =
+      digit-power 0 w ∙ eqb-flip w 0
+      ∙ sym (map-at (eqb 0) (upto (length (d .vertices))) w 0 false (omega (arith, upto-count)) ∙ ap (eqb 0) (upto-at (length (d .vertices)) w (omega arith)))
+
+  further-at : (row : List Bool) (w : ℕ) → w < v
+      → getD (further d row) w false ≡ (getD row w false || any (λ u. getD row u false && joined d u w) (upto v))
+  unfolding further
+  further-at row w h =
+      let f : ℕ → Bool = λ k. getD row k false || any (λ u. getD row u false && joined d u k) (upto (length (d .vertices))) in
+      map-at f (upto (length (d .vertices))) w 0 false (omega (arith, upto-count))
+      ∙ ap f (upto-at (length (d .vertices)) w (omega arith))
+      ∙ ap (λ (k : ℕ). getD row w false || any (λ u. getD row u false && joined d u w) (upto k)) n
+
+  pub reach-more : (m k : ℕ) (row : List Bool) → Stands m v row → Grown m v d k → Stands k v (further d row)
+  reach-more m k row s g w h =
+      g w
+      ∙ (λ i. s w h i || any-below-same (λ u. digit m u && joined d u w) v (λ u. getD row u false && joined d u w) (λ u l. ap (λ (t : Bool). t && joined d u w) (s u l)) i)
+      ∙ sym (further-at row w h)
+
+  -- ---- at rest
+
+  reached-length : (k : ℕ) → length (reached d k) ≡ v
+  unfolding reached further
+  reached-length zero = length-map (upto (length (d .vertices))) (eqb 0) ∙ upto-count
+  reached-length (suc k) = length-map (upto (length (d .vertices))) (λ w. getD (reached d k) w false || any (λ u. getD (reached d k) u false && joined d u w) (upto (length (d .vertices)))) ∙ upto-count
+
+  rests : (k j : ℕ) → further d (reached d k) ≡ reached d k → reached d (k + j) ≡ reached d k
+  unfolding reached
+  rests k zero e = let z : k + 0 ≡ k = omega arith in ap (reached d) z
+  rests k (suc j) e =
+      let z : k + suc j ≡ suc (k + j) = omega arith in
+      ap (reached d) z ∙ ap (further d) (rests k j e) ∙ e
+
+  pub reach-rest : (m k : ℕ) → k ≤ v → Stands m v (reached d k) → Grown m v d m → Stands m v (reached d v)
+  unfolding reached
+  reach-rest m k l s g w h =
+      let still : further d (reached d k) ≡ reached d k = ext-getD false (further d (reached d k)) (reached d k) (reached-length (suc k) ∙ sym (reached-length k))
+      (λ u q. sym (reach-more m m (reached d k) s g u (omega (arith, reached-length (suc k)))) ∙ s u (omega (arith, reached-length (suc k)))) in
+      let e : k + (v - k) ≡ v = omega arith in
+      s w h ∙ ap (λ (row : List Bool). getD row w false) (sym (rests k (v - k) still) ∙ ap (reached d) e)
