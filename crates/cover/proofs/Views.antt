@@ -1,6 +1,6 @@
 -- The axis along which a plane is seen, the pass over the sides that are seen, and its answer. Assumes nothing.
 use mathlib.Core.Path.{_≡_, refl, sym, _∙_, subst}
-use mathlib.Core.Bool.{Bool, true, false, not, _||_, _&&_, cond}
+use mathlib.Core.Bool.{Bool, true, false, not, _||_, _&&_, cond, or-false}
 use mathlib.Core.List.{[], _∷_, map}
 use mathlib.Core.Logic.{⊎-elim}
 use Prim.Native.Nat.{ℕ}
@@ -10,7 +10,6 @@ use lib.Signed.{ltZ}
 use denote.Enum.Declared.{tagOf}
 use types.Run.{OneOf}
 use Rattle.lists.specs.Lists.{sides, anyTrue, oddTrue}
-use Rattle.lists.proofs.Truth.{or-false}
 use Rattle.lists.proofs.Sides.{sides-map}
 use Rattle.paper.specs.Points.{isZero, above, below}
 use Rattle.paper.specs.Polygon.{Polygon, normal, axis, seen, meetsRay, touches, crosses, placed, whereFlat, lies, over, isOutside}

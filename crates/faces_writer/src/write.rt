@@ -11,25 +11,17 @@ ghost use Rattle.lists.specs.Place.{found};
 ghost use Rattle.paper.specs.Format.{bytesFor};
 ghost use Rattle.paper.specs.FaceList.{faceBits, encodeFaces, span, bitsOf, rowAt, solidFaces, sentOf, sentRoom};
 ghost use Rattle.faces.specs.Face.{Brief};
-ghost use Rattle.faces_writer.specs.Send.{way, digit, faceAlone, fits, cornersOf, weight};
+ghost use Rattle.faces_writer.specs.Send.{way, faceAlone, fits, cornersOf, weight};
 use lists::Place;
 use paper::Format;
 use paper::Refusal;
 use paper::Written;
-use sets::Set;
+use sets::is_set;
 
 // How many faces there are and their bits, where all fit.
 pub enum Extent {
     Misfit,
     Of(usize, usize),
-}
-
-fn is_set(word: u64, k: usize) -> bool
-    requires { ⌜ k < 64 ⌝ }
-    ensures { λ r. ⌜ r ≡ digit word k ⌝ }
-{
-    let set = Set { bits: word };
-    set.has(k)
 }
 
 // Whether the c numbers from place i on are below v.

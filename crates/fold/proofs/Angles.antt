@@ -1,12 +1,11 @@
 -- Corner angles: a pass over a ring's corners, each with the one before and the one after. Assumes nothing.
 use mathlib.Core.Path.{_≡_, refl, _∙_, ap}
-use mathlib.Core.Bool.{Bool, true, false, not, _||_, _&&_}
+use mathlib.Core.Bool.{Bool, true, false, not, _||_, _&&_, or-false}
 use Prim.Native.Nat.{ℕ, _+_, _≤_, _<_}
 use native.Mathlib.Omega.{arith}
 use lib.ListN.{length}
 use Rattle.lists.specs.Lists.{sides, anyTrue}
 use Rattle.lists.specs.Around.{around}
-use Rattle.lists.proofs.Truth.{or-false}
 use Rattle.lists.proofs.Search.{Left, anyTrue-search}
 use Rattle.lists.proofs.Sides.{sides-length, sides-around, side-hit, side-miss, side-end}
 use Rattle.paper.specs.Points.{origin, samePoint}

@@ -1,6 +1,6 @@
 -- The edges of the lent list, by their places. Assumes nothing.
 use mathlib.Core.Path.{_≡_, refl, ap, _∙_}
-use mathlib.Core.Bool.{false, _||_, _&&_}
+use mathlib.Core.Bool.{false, _||_, _&&_, and-false}
 use mathlib.Core.List.{List, [], _∷_}
 use Prim.Native.Nat.{ℕ, zero, suc, _+_, _*_, _/_, _≤_, _<_}
 use native.Mathlib.Nat.{not-suc-le-zero}
@@ -9,7 +9,6 @@ use borrow.Author.Tests.{ne-eqb}
 use lib.Dec.{eqb}
 use lib.ListN.{length, getD}
 use Rattle.lists.specs.Lists.{any}
-use Rattle.lists.proofs.Truth.{and-false}
 use Rattle.paper.specs.Drawing.{edge, edgesOf, joins}
 use Rattle.content.specs.InRange.{Ends}
 

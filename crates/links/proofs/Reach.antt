@@ -13,8 +13,8 @@ use lib.Seq.{ext-getD}
 use Rattle.lists.specs.Lists.{any, upto}
 use Rattle.lists.proofs.Places.{map-at, upto-length, upto-at, any-below-same}
 use Rattle.paper.specs.Drawing.{Wire, joined, further, reached}
-use Rattle.links.specs.Neighbours.{digit}
-use Rattle.links.proofs.Digits.{digit-power}
+use Rattle.sets.specs.Word.{digit}
+use Rattle.sets.proofs.Numbers.{digit-power}
 
 -- the digits of m, for the v vertices, are the row
 abbrev pub Stands : ℕ → ℕ → List Bool → Type 0

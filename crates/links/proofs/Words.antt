@@ -1,6 +1,6 @@
 -- The neighbour words: what they say of the edges, how they grow with each edge, and when one is zero. Assumes nothing.
 use mathlib.Core.Path.{_≡_, refl, sym, ap, _∙_}
-use mathlib.Core.Bool.{Bool, true, false, not, _||_, _&&_, true≢false}
+use mathlib.Core.Bool.{Bool, true, false, not, _||_, _&&_, true≢false, or-assoc, and-true}
 use mathlib.Core.List.{List, [], _∷_, map}
 use Prim.Native.Nat.{ℕ, _*_, _%_, _^_, _≤_, _<_}
 use native.Mathlib.Decide.{decLt}
@@ -11,13 +11,15 @@ use lib.Dec.{eqb}
 use lib.ListN.{length, getD, set, replicate, length-map, length-set, length-replicate, getD-replicate, List·getD-eq-default}
 use lib.Seq.{ext-getD}
 use Rattle.lists.specs.Lists.{any, upto}
-use Rattle.lists.proofs.Truth.{or-assoc, or-none, and-true}
+use Rattle.lists.proofs.Truth.{or-none}
 use Rattle.lists.proofs.Places.{map-at, upto-length, upto-at}
 use Rattle.paper.specs.Format.{one}
 use Rattle.paper.specs.Drawing.{Wire, Edge, edge, edgesOf, ends, joins, joined}
 use Rattle.content.specs.InRange.{Ends}
-use Rattle.links.specs.Neighbours.{digit, neighbourWord, neighbourWords, Links}
-use Rattle.links.proofs.Digits.{digit-zero, digit-word, by-digits, none-digits, digit-power, shifted, digit-stored}
+use Rattle.sets.specs.Word.{digit}
+use Rattle.links.specs.Neighbours.{neighbourWord, neighbourWords, Links}
+use Rattle.sets.proofs.Word.{one-shl}
+use Rattle.sets.proofs.Numbers.{digit-zero, digit-word, by-digits, none-digits, digit-power, digit-stored}
 use Rattle.links.proofs.Edges.{unknown}
 
 -- ---- the words by their digits
@@ -78,7 +80,7 @@ mark l a b = set l a (bitOr (getD l a 0) ((1 * 2 ^ b) % 2 ^ 64))
 
 mark-digit : (l : List ℕ) (a b u w : ℕ) → a < length l → b < 64 → digit (getD (mark l a b) u 0) w ≡ digit (getD l u 0) w || eqb u a && eqb w b
 mark-digit l a b u w h k =
-    ap (λ (m : ℕ). digit (getD (set l a (bitOr (getD l a 0) m)) u 0) w) (shifted b k) ∙ digit-stored l a (2 ^ b) u w h
+    ap (λ (m : ℕ). digit (getD (set l a (bitOr (getD l a 0) m)) u 0) w) (one-shl 64 b k) ∙ digit-stored l a (2 ^ b) u w h
     ∙ ap (λ (t : Bool). digit (getD l u 0) w || eqb u a && t) (digit-power b w)
 
 -- both marks of an edge

@@ -1,18 +1,12 @@
 -- Neighbours as one word for each vertex: digit w of word u says whether an edge joins u and w. Assumes nothing.
 use mathlib.Core.Path.{_≡_}
-use mathlib.Core.Bool.{Bool}
 use mathlib.Core.List.{List, map}
-use Prim.Native.Nat.{ℕ, _/_, _%_, _^_, _<_}
-use lib.Dec.{eqb}
+use Prim.Native.Nat.{ℕ, _<_}
 use lib.ListN.{length, getD}
 use Rattle.lists.specs.Lists.{any, upto}
-use Rattle.sets.specs.Word.{word}
+use Rattle.sets.specs.Word.{word, digit}
 use Rattle.paper.specs.Format.{one}
 use Rattle.paper.specs.Drawing.{Wire, Edge, joins, joined}
-
--- the digit k of a word
-unfoldable pub digit : ℕ → ℕ → Bool
-digit m k = eqb (m / 2 ^ k % 2) 1
 
 -- of v vertices and the edges es
 unfoldable pub neighbourWord : List Edge → ℕ → ℕ → ℕ

@@ -6,18 +6,20 @@ ghost use mathlib.Core.List.{[], _∷_};
 ghost use Prim.Native.Nat.{ℕ, _≤_, _<_};
 ghost use lib.ListN.{getD};
 ghost use Rattle.lists.specs.Lists.{any, upto};
+ghost use Rattle.sets.specs.Word.{digit};
 ghost use Rattle.paper.specs.Format.{one};
 ghost use Rattle.paper.specs.Refusals as No;
 ghost use Rattle.paper.specs.Refusals.{check, firstOf};
 ghost use Rattle.paper.specs.Drawing.{Wire, edgesOf, joined, looseVertex, reached, apart};
 ghost use Rattle.content.specs.InRange.{Ends};
-ghost use Rattle.links.specs.Neighbours.{digit, neighbourWords, Links};
+ghost use Rattle.links.specs.Neighbours.{neighbourWords, Links};
 use content::refused;
 use lists::wide;
 use paper::APART;
 use paper::Answer;
 use paper::LOOSE_VERTEX;
 use paper::MOST_VERTICES;
+use sets::is_set;
 
 // One word for each vertex: bit w of word u says whether an edge joins u and w.
 pub fn neighbours(ends: &[u8], v: usize) -> [u64; MOST_VERTICES]
@@ -51,13 +53,6 @@ pub fn loose_vertex(near: &[u64; MOST_VERTICES], v: usize) -> Answer
     Answer::Fine
 }
 
-fn has(set: u64, k: usize) -> bool
-    requires { ⌜ k < one .vmax ⌝ }
-    ensures { λ r. ⌜ r ≡ digit set k ⌝ }
-{
-    (set >> k) & 1 == 1
-}
-
 // The vertices of a set, and those that one edge more leads to.
 fn further(near: &[u64; MOST_VERTICES], v: usize, set: u64) -> u64
     requires { ⌜ v ≤ one .vmax ⌝ }
@@ -66,7 +61,7 @@ fn further(near: &[u64; MOST_VERTICES], v: usize, set: u64) -> u64
     let mut more = set;
     let mut u = 0;
     while u < v {
-        if has(set, u) {
+        if is_set(set, u) {
             more = more | near[u];
         }
         u += 1;
@@ -99,7 +94,7 @@ pub fn apart(near: &[u64; MOST_VERTICES], v: usize) -> Answer
     let set = reached(near, v);
     let mut w = 0;
     while w < v {
-        if !has(set, w) {
+        if !is_set(set, w) {
             return refused(APART, w);
         }
         w += 1;

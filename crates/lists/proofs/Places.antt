@@ -1,6 +1,6 @@
 -- The elements of lists by their places. Assumes nothing.
 use mathlib.Core.Path.{_≡_, refl, sym, ap, _∙_}
-use mathlib.Core.Bool.{Bool, _||_}
+use mathlib.Core.Bool.{Bool, _||_, or-assoc, or-false}
 use mathlib.Core.List.{List, [], _∷_, _++_, map}
 use Prim.Native.Nat.{ℕ, zero, suc, _+_, _<_, zero-le, suc-le-suc}
 use native.Mathlib.Nat.{le-of-suc-le-suc, not-suc-le-zero}
@@ -9,7 +9,6 @@ use native.Mathlib.Omega.{arith}
 use lib.ListN.{length, take, drop, getD, length-map}
 use lib.Seq.{take-suc, drop-cons}
 use Rattle.lists.specs.Lists.{any, from, upto}
-use Rattle.lists.proofs.Truth.{or-assoc, or-false}
 
 -- one element more, of those taken and of those left
 module _ {A : Type 0} (l : List A) (k : ℕ) (d : A) (h : k < length l) where

@@ -1,5 +1,6 @@
 -- Document 01, "Known drawings (starred ones are proved)", in one table under one statement, proved by evaluation; with the rows that
--- tell its "Errors that look right" from the definitions. Assumes nothing.
+-- tell its "Errors that look right" from the definitions. Polygons come first: what is wrong with them is refused before a search is
+-- evaluated. Assumes nothing.
 pub mod Drawings
 pub mod Polygons
 use mathlib.Core.Path.{refl}
@@ -24,8 +25,29 @@ use Rattle.paper.specs.declared.Reading.the-variants as Reading
 unfoldable pub table : List Row
 unfolding flatMap row text volume
 table =
+    -- "Pairs": A, none, B, C
+    paired Faces.face Faces.piercing yields rules true false false
+    ∷ paired Faces.face Faces.passing yields rules false false false
+    ∷ paired Faces.face Faces.entering yields rules false true false
+    ∷ paired Faces.square Faces.folding yields rules false false true
+    -- "the notched pentagon, which covers neither triangle nor square"; the square covers both
+    ∷ covering Faces.notched Faces.notch yields tests (false ∷ [])
+    ∷ covering Faces.notched Faces.closing yields tests (false ∷ [])
+    ∷ covering Faces.closing Faces.notched yields tests (true ∷ [])
+    ∷ covering Faces.closing Faces.notch yields tests (true ∷ [])
+    -- "Reading a reflex corner as its smaller angle in rule C"
+    ∷ paired Faces.bow Faces.blade yields rules false false true
+    ∷ paired Faces.hook Faces.blade yields rules false false true
+    -- "Rounding the piercing point before the inside test"
+    ∷ paired Faces.face Faces.slanted yields rules true false false
+    ∷ paired Faces.face Faces.steep yields rules true false false
+    -- "32 vertices pass and 33 get 5; coordinate 1,000 passes and 1,001 gets 8"; "the largest drawing 215"
+    ∷ lent (record { xyz = replicate 96 (pos 1000); ends = sixEnds }) yields answer Answer.Fine
+    ∷ lent (record { xyz = replicate 99 (pos 1000); ends = sixEnds }) yields answer (refuse No.BadCount 0)
+    ∷ lent (record { xyz = replicate 95 (pos 1000) ++ (pos 1001 ∷ []); ends = sixEnds }) yields answer (refuse No.BadCoordinate 95)
+    ∷ sized (record { xyz = replicate 96 (pos 0); ends = replicate 128 0 }) yields number 215
     -- "4 loops, work 0, six volumes 216"; its rows in the face room; "A tetrahedron takes 27 bytes"
-    converted tetrahedron mostWork yields solved (Conversion.One 4 4 0 216) (Reading.Volume (volume 216)) (15 ∷ 5 ∷ 216 ∷ solidBefore 21)
+    ∷ converted tetrahedron mostWork yields solved (Conversion.One 4 4 0 216) (Reading.Volume (volume 216)) (15 ∷ 5 ∷ 216 ∷ solidBefore 21)
     ∷ faced tetrahedron
     yields bytes (flatMap row ((0 ∷ 1 ∷ 2 ∷ []) ∷ (0 ∷ 1 ∷ 3 ∷ []) ∷ (0 ∷ 2 ∷ 3 ∷ []) ∷ (1 ∷ 2 ∷ 3 ∷ []) ∷ []) ++ faceBefore 780)
     ∷ sized tetrahedron yields number 27
@@ -50,27 +72,6 @@ table =
     -- "NoSolid; the list of all eight faces, each outward, gets 25"
     ∷ converted touching mostWork yields solved (Conversion.NoSolid 8 8 0) (Reading.NotAssessed 17) (solidBefore 24)
     ∷ sent touching eight yields verdicts (Verdict.Refused (record { number = 25; place = 4 }))
-    -- "Pairs": A, none, B, C
-    ∷ paired Faces.face Faces.piercing yields rules true false false
-    ∷ paired Faces.face Faces.passing yields rules false false false
-    ∷ paired Faces.face Faces.entering yields rules false true false
-    ∷ paired Faces.square Faces.folding yields rules false false true
-    -- "32 vertices pass and 33 get 5; coordinate 1,000 passes and 1,001 gets 8"; "the largest drawing 215"
-    ∷ lent (record { xyz = replicate 96 (pos 1000); ends = sixEnds }) yields answer Answer.Fine
-    ∷ lent (record { xyz = replicate 99 (pos 1000); ends = sixEnds }) yields answer (refuse No.BadCount 0)
-    ∷ lent (record { xyz = replicate 95 (pos 1000) ++ (pos 1001 ∷ []); ends = sixEnds }) yields answer (refuse No.BadCoordinate 95)
-    ∷ sized (record { xyz = replicate 96 (pos 0); ends = replicate 128 0 }) yields number 215
-    -- "the notched pentagon, which covers neither triangle nor square"; the square covers both
-    ∷ covering Faces.notched Faces.notch yields tests (false ∷ [])
-    ∷ covering Faces.notched Faces.closing yields tests (false ∷ [])
-    ∷ covering Faces.closing Faces.notched yields tests (true ∷ [])
-    ∷ covering Faces.closing Faces.notch yields tests (true ∷ [])
-    -- "Reading a reflex corner as its smaller angle in rule C"
-    ∷ paired Faces.bow Faces.blade yields rules false false true
-    ∷ paired Faces.hook Faces.blade yields rules false false true
-    -- "Rounding the piercing point before the inside test"
-    ∷ paired Faces.face Faces.slanted yields rules true false false
-    ∷ paired Faces.face Faces.steep yields rules true false false
     ∷ []
 
 pub known : Holds table

@@ -1,4 +1,5 @@
--- The laws of digits, of the words that they make, and of sets. Assumes nothing.
+-- The laws of digits, of the words that they make, of numbers by their digits, and of sets. Assumes nothing.
 pub mod Digits
 pub mod Word
+pub mod Numbers
 pub mod Sets

@@ -2,7 +2,7 @@
 use mathlib.Core.Bool.{Bool, true, false, not, _&&_, _||_}
 use mathlib.Core.List.{List, [], _∷_}
 use mathlib.Core.Path.{_≡_}
-use Prim.Native.Nat.{ℕ, zero, suc, _+_, _*_, _/_, _%_}
+use Prim.Native.Nat.{ℕ, zero, suc, _+_, _*_, _/_, _%_, _^_}
 use lib.Dec.{eqb}
 use lib.ListN.{getD}
 
@@ -19,6 +19,10 @@ word (b ∷ bs) = word bs * 2 + bit b
 unfoldable pub bits : ℕ → ℕ → List Bool
 bits zero w = []
 bits (suc n) w = eqb (w % 2) 1 ∷ bits n (w / 2)
+
+-- digit k of a number
+unfoldable pub digit : ℕ → ℕ → Bool
+digit m k = eqb (m / 2 ^ k % 2) 1
 
 -- the digit at k: past the end none is set
 abbrev pub dig : List Bool → ℕ → Bool

@@ -4,7 +4,7 @@ ghost use mathlib.Core.Bool.{Bool, true};
 ghost use mathlib.Core.List.{List, []};
 ghost use Prim.Native.Nat.{_≤_, _<_};
 ghost use lib.ListN.{replicate};
-ghost use Rattle.sets.specs.Word.{dig, both, either, only};
+ghost use Rattle.sets.specs.Word.{bits, dig, both, either, only};
 ghost use Rattle.sets.specs.Sets.{room, Is, size, edgeCount, Joint, Minus, Counted, Lowest, Dropped, EdgeSet};
 
 pub struct Set {
@@ -110,4 +110,13 @@ impl Set {
     {
         Set { bits: edges[e] }
     }
+}
+
+// Whether digit k of a word is 1.
+pub fn is_set(word: u64, k: usize) -> bool
+    requires { ⌜ k < room ⌝ }
+    ensures { λ r. ⌜ r ≡ dig (bits room word) k ⌝ }
+{
+    let set = Set { bits: word };
+    set.has(k)
 }

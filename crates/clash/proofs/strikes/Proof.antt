@@ -1,4 +1,4 @@
-use mathlib.Core.Bool.{Bool, _&&_, _||_, false}
+use mathlib.Core.Bool.{Bool, _&&_, _||_, false, or-true}
 use mathlib.Core.List.{[], _∷_}
 use mathlib.Core.Path.{_∙_, _≡_, ap, refl, subst, sym}
 use Prim.Native.Nat.{_+_, _-_, _<_, _≤_}
@@ -13,7 +13,6 @@ use Rattle.exact.proofs.Ring.{var}
 use Rattle.exact.specs.Size.{Within}
 use Rattle.lists.proofs.Search.{Left, any-search, anyTrue-search, search-end}
 use Rattle.lists.proofs.Sides.{ring-hit, ring-miss, side-end, side-hit, side-miss}
-use Rattle.lists.proofs.Truth.{or-true}
 use Rattle.lists.specs.Lists.{any, anyTrue, sides}
 use Rattle.paper.specs.Clash.{enters, pierced, pierces}
 use Rattle.paper.specs.Points.{isZero, origin}

@@ -1,4 +1,4 @@
-use mathlib.Core.Bool.{Bool, _&&_, not}
+use mathlib.Core.Bool.{Bool, _&&_, not, Bool·not-not}
 use mathlib.Core.Path.{_∙_, _≡_, ap, refl, sym}
 use Prim.Native.Nat.{_+_, _-_, _≤_}
 use native.Mathlib.Omega.{arith}
@@ -10,7 +10,6 @@ use borrow.Author.Tests.{not-false, not-true}
 use Rattle.exact.proofs.Size.{within-lit}
 use Rattle.lists.proofs.Search.{Left, all-search}
 use Rattle.lists.proofs.Sides.{side-end, side-hit, side-miss}
-use Rattle.lists.proofs.Truth.{not-not}
 use Rattle.lists.specs.Lists.{all, sides}
 use Rattle.paper.specs.Points.{origin, plus}
 use Rattle.paper.specs.Polygon.{Polygon, Ratio, covers, exactly, isOutside, lies, midpoint, over}
@@ -46,7 +45,7 @@ here c {b} e =
     let s = c .before .before .before .before .before .before .before .before .before .before in
     let p = c .before .plus .ensures ∙ (λ i. plus (c .before .before .before .before .loop .inv .3 i) (c .before .before .corner2 .ensures i)) in
     let w = sym (c .lies .ensures ∙ ap (λ (q : Point). lies (over q (pos 2)) (G s)) p) in
-    not-not (isOutside (lies (over (plus (cornerOf (H s) (c .before .before .before .before .loop .j)) (cornerOf (H s) (c .before .before .before .before .loop .j + 1))) (pos 2)) (G s)))
+    Bool·not-not (isOutside (lies (over (plus (cornerOf (H s) (c .before .before .before .before .loop .j)) (cornerOf (H s) (c .before .before .before .before .loop .j + 1))) (pos 2)) (G s)))
     ∙ ap isOutside w ∙ e
 
 -- what is found of the midpoints is the answer, for two loops in one plane

@@ -6,6 +6,7 @@ use native.Mathlib.Omega.{arith}
 use lib.ListN.{getD, length, set}
 use denote.Ref.{now}
 use borrow.Author.Needs.{needs}
+use Rattle.sets.proofs.Numbers.{digit-bits}
 use Rattle.lists.proofs.Search.{LowestLeft, lowest-end, lowest-hit, lowest-miss, lowest-start}
 use Rattle.lists.specs.Lists.{lowest}
 use Rattle.laws.proofs.Checks.{clear, stops, passes}
@@ -24,9 +25,9 @@ Inv-loop near v set w₀ w = (w ≤ v) × ((d : Wire) → Links near v d → Low
 abbrev μ-loop : tie.MeasureT-loop
 μ-loop near v set w₀ w = v - w
 
-here : (c : tie.After-has Inv-loop μ-loop) {b : Bool} → not (c .has .result) ≡ b
+here : (c : tie.After-is-set Inv-loop μ-loop) {b : Bool} → not (c .is-set .result) ≡ b
     → (d : Wire) → Links (now (c .before .before .before .before .args .near)) (c .before .before .before .before .args .v) d → Missing d (c .before .before .before .before .args .v) (c .before .before .loop .w) ≡ b
-here c e d k = ap not (sym (c .has .ensures ∙ c .before .before .before .reached .ensures d k (c .before .before .loop .w) (omega arith))) ∙ e
+here c e d k = ap not (sym (c .is-set .ensures ∙ digit-bits 64 _ _ (omega arith) ∙ c .before .before .before .reached .ensures d k (c .before .before .loop .w) (omega arith))) ∙ e
 
 -- the answer, by the count of vertices
 answer : (d : Wire) {v : ℕ} → length (d .vertices) ≡ v → lowest (Missing d v) v ≡ apart d
@@ -39,8 +40,8 @@ reached-requires c κs = omega arith
 loop-holds : tie.Need-loop-holds Inv-loop μ-loop
 loop-holds c = (omega arith, λ d k. lowest-start (Missing d _) _)
 
-has-requires : tie.Need-has-requires Inv-loop μ-loop
-has-requires c κs = omega arith
+is-set-requires : tie.Need-is-set-requires Inv-loop μ-loop
+is-set-requires c κs = omega arith
 
 refused-requires : tie.Need-refused-requires Inv-loop μ-loop
 refused-requires c κs = search needs
@@ -77,7 +78,7 @@ apart-spec =
     μ-loop
     reached-requires
     loop-holds
-    has-requires
+    is-set-requires
     refused-requires
     returns
     add-w

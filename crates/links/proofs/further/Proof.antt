@@ -1,4 +1,4 @@
-use mathlib.Core.Bool.{Bool, _&&_, _||_, false, true}
+use mathlib.Core.Bool.{Bool, _&&_, _||_, false, true, or-assoc, or-false}
 use mathlib.Core.List.{List}
 use mathlib.Core.Logic.{⊎-elim}
 use mathlib.Core.Path.{_∙_, _≡_, ap, sym}
@@ -8,11 +8,11 @@ use lib.ListN.{getD, length, set, take}
 use lib.Seq.{take-length}
 use denote.Ref.{now}
 use Rattle.lists.proofs.Places.{any-below-more, upto-length}
-use Rattle.lists.proofs.Truth.{or-assoc, or-false}
 use Rattle.lists.specs.Lists.{any, upto}
 use Rattle.paper.specs.Drawing.{Wire, joined, joins}
-use Rattle.links.specs.Neighbours.{Links, digit}
-use Rattle.links.proofs.Digits.{digit-or}
+use Rattle.sets.specs.Word.{digit}
+use Rattle.links.specs.Neighbours.{Links}
+use Rattle.sets.proofs.Numbers.{digit-or, digit-bits}
 use Rattle.links.proofs.further.Statement.{statement}
 use Rattle.links.proofs.further.Tie as tie
 
@@ -38,12 +38,12 @@ grows c d k w =
     let u< : l .u < s .args .v = omega arith in
     ⊎-elim
     (λ t.
-    let in-set : digit set (l .u) ≡ true = sym (c .before .has .ensures) ∙ t .0 .taken in
+    let in-set : digit set (l .u) ≡ true = sym (c .before .is-set .ensures ∙ digit-bits 64 set (l .u) (omega arith)) ∙ t .0 .taken in
     ap (λ (m : ℕ). digit m w) (t .2) ∙ digit-or (l .more) (getD (now (s .args .near)) (l .u) 0) w
     ∙ (λ i. l .inv .1 d k w i || k .joins (l .u) u< w i) ∙ or-assoc (digit set w) A (joined d (l .u) w)
     ∙ ap (λ (b : Bool). digit set w || (A || (b && joined d (l .u) w))) (sym in-set))
     (λ t.
-    let not-in-set : digit set (l .u) ≡ false = sym (c .before .has .ensures) ∙ t .0 .left in
+    let not-in-set : digit set (l .u) ≡ false = sym (c .before .is-set .ensures ∙ digit-bits 64 set (l .u) (omega arith)) ∙ t .0 .left in
     ap (λ (m : ℕ). digit m w) (t .1) ∙ l .inv .1 d k w ∙ ap (λ (b : Bool). digit set w || b) (sym (or-false A))
     ∙ ap (λ (b : Bool). digit set w || (A || (b && joined d (l .u) w))) (sym not-in-set))
     (c .if1 .came)
@@ -52,8 +52,8 @@ loop-holds : tie.Need-loop-holds Inv-loop μ-loop
 unfolding any
 loop-holds c = (omega arith, λ d k w. sym (or-false (digit (c .args .set) w)))
 
-has-requires : tie.Need-has-requires Inv-loop μ-loop
-has-requires c κs = omega arith
+is-set-requires : tie.Need-is-set-requires Inv-loop μ-loop
+is-set-requires c κs = omega arith
 
 mul-more : tie.Need-mul-more Inv-loop μ-loop
 mul-more c = omega arith
@@ -87,7 +87,7 @@ further-spec =
     Inv-loop
     μ-loop
     loop-holds
-    has-requires
+    is-set-requires
     mul-more
     element-copy-out-more
     add-u

@@ -10,7 +10,7 @@ use Rattle.lists.proofs.Places.{any-more}
 use Rattle.lists.specs.Lists.{any}
 use Rattle.paper.specs.Drawing.{edge, edgesOf, ends, joins}
 use Rattle.paper.specs.Format.{one}
-use Rattle.links.specs.Neighbours.{digit}
+use Rattle.sets.specs.Word.{digit}
 use Rattle.links.proofs.Edges.{edge-count, edge-is, half-count}
 use Rattle.links.proofs.Words.{marked, no-marks, words-are}
 use Rattle.links.proofs.neighbours.Statement.{statement}

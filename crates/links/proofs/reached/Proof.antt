@@ -5,7 +5,8 @@ use native.Mathlib.Numerals.{add-one}
 use native.Mathlib.Omega.{arith}
 use lib.ListN.{getD, set}
 use Rattle.paper.specs.Drawing.{Wire, further, reached}
-use Rattle.links.specs.Neighbours.{Links, digit}
+use Rattle.sets.specs.Word.{digit}
+use Rattle.links.specs.Neighbours.{Links}
 use Rattle.links.proofs.Reach.{Stands, reach-more, reach-rest, reach-start}
 use Rattle.links.proofs.reached.Statement.{statement}
 use Rattle.links.proofs.reached.Tie as tie

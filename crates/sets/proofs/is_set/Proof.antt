@@ -1,10 +1,11 @@
+-- `is_set` meets its contract. Assumes nothing.
 use Rattle.sets.specs.Sets.{digitsOf}
 use Rattle.sets.specs.declared.Set.{Set}
 use Rattle.sets.proofs.Sets.{is-digits}
 use native.Mathlib.Omega.{arith}
 use borrow.Author.Needs.{needs}
-use Rattle.faces_writer.proofs.write.is_set.Statement.{statement}
-use Rattle.faces_writer.proofs.write.is_set.Tie as tie
+use Rattle.sets.proofs.is_set.Statement.{statement}
+use Rattle.sets.proofs.is_set.Tie as tie
 
 has-requires : tie.Need-has-requires
 has-requires c κs = search needs

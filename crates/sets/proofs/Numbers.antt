@@ -1,33 +1,27 @@
--- The digits of a word, each by its place, and the word by its digits. No width is named here. Assumes nothing.
+-- A number by its digits: each by its place, and the number by all of them. No width is named here. Assumes nothing.
 use mathlib.Core.Path.{_≡_, refl, sym, ap, _∙_}
-use mathlib.Core.Bool.{Bool, true, false, _||_, _&&_}
+use mathlib.Core.Bool.{Bool, true, false, _||_, _&&_, or-false}
 use mathlib.Core.List.{List, [], _∷_}
 use mathlib.Core.Logic.{_⊎_, inl, inr, ⊎-elim}
-use Prim.Native.Nat.{ℕ, zero, suc, _+_, _-_, _*_, _/_, _%_, _^_, _≤_, _<_}
+use Prim.Native.Nat.{ℕ, zero, suc, _+_, _-_, _/_, _%_, _^_, _≤_, _<_}
 use native.Mathlib.Omega.{arith}
-use native.Mathlib.Nat.{div-self, div-eq-of-lt, mul-div-cancel-left, mul-mod-left, pow-suc, zero-div, div-one, mul-comm, one-mul, mod-eq-of-lt, div-div-eq-div-mul}
+use native.Mathlib.Nat.{div-self, div-eq-of-lt, mul-div-cancel-left, mul-mod-left, pow-suc, zero-div, div-one, mul-comm, div-div-eq-div-mul}
 use native.Mathlib.Decide.{decLt, ℕ-discrete}
 use borrow.Author.Tests.{eqb-true, eq-eqb, ne-eqb}
-use lib.Arith.{digits-div, digits-mod}
-use lib.Bits.{bitAnd, bitOr, or-shr, or-mod, and-mask}
+use lib.Bits.{bitOr, or-shr, or-mod}
 use lib.Dec.{eqb}
 use lib.ListN.{length, getD, set}
 use lib.Pow.{pow-pos, pow-lt, pow-add}
 use lib.Seq.{getD-set-same, getD-set-other}
-use Rattle.lists.proofs.Truth.{or-false}
-use Rattle.sets.specs.Word.{bit, word}
-use Rattle.links.specs.Neighbours.{digit}
+use Rattle.sets.specs.Word.{bit, word, bits, digit, dig}
+use Rattle.sets.proofs.Digits.{never}
+use Rattle.sets.proofs.Word.{bit-word}
 
 pub digit-zero : (k : ℕ) → digit 0 k ≡ false
 unfolding digit
 digit-zero k = ap (λ (n : ℕ). eqb (n % 2) 1) (zero-div (2 ^ k))
 
--- as the code reads it, `(m >> k) & 1 == 1`
-pub digit-read : (m k : ℕ) → eqb (bitAnd (m / 2 ^ k) 1) 1 ≡ digit m k
-unfolding digit
-digit-read m k = ap (λ (n : ℕ). eqb n 1) (and-mask (m / 2 ^ k) 1)
-
--- ---- the digit k alone: `1 << k` at 64 bits
+-- ---- the digit k alone
 
 power-other : (b k : ℕ) → (b ≡ k → ⊥) → 2 ^ b / 2 ^ k % 2 ≡ 0
 power-other b k n = go (decLt b k)
@@ -46,9 +40,6 @@ digit-power b k = go (ℕ-discrete k b)
     go : Dec (k ≡ b) → eqb (2 ^ b / 2 ^ k % 2) 1 ≡ eqb k b
     go (yes e) = ap (λ (j : ℕ). eqb (2 ^ b / 2 ^ j % 2) 1) e ∙ ap (λ (j : ℕ). eqb (j % 2) 1) (div-self (pow-pos b)) ∙ sym (eq-eqb k b e)
     go (no n) = ap (λ (j : ℕ). eqb j 1) (power-other b k (λ e. n (sym e))) ∙ sym (ne-eqb k b n)
-
-pub shifted : (k : ℕ) → k < 64 → (1 * 2 ^ k) % 2 ^ 64 ≡ 2 ^ k
-shifted k h = ap (λ (x : ℕ). x % 2 ^ 64) (one-mul (2 ^ k)) ∙ mod-eq-of-lt (pow-lt h)
 
 -- ---- of two words, in either
 
@@ -82,28 +73,24 @@ digit-low : (m : ℕ) → digit m 0 ≡ eqb (m % 2) 1
 unfolding digit
 digit-low m = ap (λ (j : ℕ). eqb (j % 2) 1) (div-one m)
 
-bit-lt : (b : Bool) → bit b < 2
-bit-lt true = omega arith
-bit-lt false = omega arith
-
 eqb-bit : (b : Bool) → eqb (bit b) 1 ≡ b
 eqb-bit true = refl
 eqb-bit false = refl
 
-pub digit-word : (a : List Bool) (k : ℕ) → digit (word a) k ≡ getD a k false
-unfolding word
-digit-word [] k = digit-zero k
-digit-word (x ∷ xs) zero = digit-low (word xs * 2 + bit x) ∙ ap (λ (j : ℕ). eqb j 1) (digits-mod (word xs) (bit-lt x)) ∙ eqb-bit x
-digit-word (x ∷ xs) (suc k) =
-    sym (digit-half (word xs * 2 + bit x) k) ∙ ap (λ (j : ℕ). digit j k) (digits-div (word xs) (bit-lt x)) ∙ digit-word xs k
+pub digit-word : (a : List Bool) (k : ℕ) → digit (word a) k ≡ dig a k
+unfolding digit
+digit-word a k = ap (λ (j : ℕ). eqb j 1) (bit-word a k) ∙ eqb-bit (dig a k)
+
+pub digit-bits : (n m k : ℕ) → k < n → dig (bits n m) k ≡ digit m k
+unfolding bits
+digit-bits zero m k h = absurd (omega arith)
+digit-bits (suc n) m zero h = sym (digit-low m)
+digit-bits (suc n) m (suc k) h = digit-bits n (m / 2) k (omega arith) ∙ digit-half m k
 
 -- a number's last digit, from what is said of it
 last-digit : (m : ℕ) (b : Bool) → eqb (m % 2) 1 ≡ b → m % 2 ≡ bit b
 last-digit m true e = eqb-true (m % 2) 1 e
-last-digit m false e = ⊎-elim (λ z. z) (λ o. absurd (never (sym (eq-eqb (m % 2) 1 o) ∙ e))) (parity m)
-  where
-    never : true ≡ false → ⊥
-    never q = let z : _≡_ {A = ℕ} 0 1 = cc in omega arith
+last-digit m false e = ⊎-elim (λ z. z) (λ o. never (sym (eq-eqb (m % 2) 1 o) ∙ e)) (parity m)
 
 no-digits : (n m : ℕ) → m ≤ n → ((k : ℕ) → digit m k ≡ false) → m ≡ 0
 no-digits zero m h e = omega arith
@@ -112,7 +99,7 @@ no-digits (suc n) m h e =
     let rest : m / 2 ≡ 0 = no-digits n (m / 2) (omega arith) (λ k. digit-half m k ∙ e (suc k)) in
     omega arith
 
-pub by-digits : (m : ℕ) (a : List Bool) → ((k : ℕ) → digit m k ≡ getD a k false) → m ≡ word a
+pub by-digits : (m : ℕ) (a : List Bool) → ((k : ℕ) → digit m k ≡ dig a k) → m ≡ word a
 unfolding word
 by-digits m [] e = no-digits m m (omega arith) e
 by-digits m (x ∷ xs) e =
