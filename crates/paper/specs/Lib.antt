@@ -1,3 +1,4 @@
+-- Document 01 as definitions, section by section. Assumes nothing.
 pub mod Numbers
 pub mod Refusals
 pub mod Format

@@ -1,3 +1,4 @@
+-- `clash::clash` meets its contract. Assumes nothing.
 use mathlib.Core.Path.{_∙_, sym}
 use denote.Ref.{now}
 use borrow.Author.Needs.{needs}

@@ -1,3 +1,4 @@
+-- `clash::dips` meets its contract. Assumes nothing.
 use mathlib.Core.Bool.{Bool, _&&_}
 use mathlib.Core.Path.{_∙_, _≡_, ap, sym}
 use denote.Ref.{now}

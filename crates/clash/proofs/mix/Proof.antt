@@ -1,3 +1,4 @@
+-- `clash::mix` meets its contract. Assumes nothing.
 use mathlib.Core.List.{[], _∷_}
 use Rattle.exact.proofs.Machine.{Plain, _▸_, asked, done, reads}
 use Rattle.exact.proofs.Ring.{_⊕_, _⊗_, var}

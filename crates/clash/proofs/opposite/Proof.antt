@@ -1,3 +1,4 @@
+-- `clash::opposite` meets its contract. Assumes nothing.
 use mathlib.Core.Bool.{_&&_, _||_}
 use lib.IntN.{pos}
 use lib.Signed.{ltZ}

@@ -1,3 +1,4 @@
+-- `clash::pierced` meets its contract. Assumes nothing.
 use mathlib.Core.Bool.{Bool, _&&_}
 use mathlib.Core.List.{[], _∷_}
 use mathlib.Core.Path.{_∙_, _≡_, ap, sym}

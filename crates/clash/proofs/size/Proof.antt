@@ -1,3 +1,4 @@
+-- `clash::size` meets its contract. Assumes nothing.
 use mathlib.Core.Path.{_∙_}
 use lib.IntN.{pos}
 use Rattle.exact.proofs.Machine.{_▸_, asked, done, lit, lt-left, lt-taken, plain, reads}

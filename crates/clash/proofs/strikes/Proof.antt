@@ -1,3 +1,4 @@
+-- `clash::strikes` meets its contract. Assumes nothing.
 use mathlib.Core.Bool.{Bool, _&&_, _||_, false, or-true}
 use mathlib.Core.List.{[], _∷_}
 use mathlib.Core.Path.{_∙_, _≡_, ap, refl, subst, sym}

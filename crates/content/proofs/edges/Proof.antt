@@ -1,3 +1,4 @@
+-- `content::edges` meets its contract. Assumes nothing.
 use mathlib.Core.Path.{_∙_, sym, ap}
 use Rattle.lists.specs.Place.{found}
 use Rattle.laws.proofs.Checks.{stops, passes, clear}

@@ -1,3 +1,4 @@
+-- `content::first_far` meets its contract. Assumes nothing.
 use mathlib.Core.Path.{_≡_, _∙_, sym}
 use lib.IntN.{ℤ, pos}
 use mir.Val.{toZ, ofZ}

@@ -1,3 +1,4 @@
+-- `content::first_wrong` meets its contract. Assumes nothing.
 use mathlib.Core.Path.{_≡_, _∙_, sym}
 use Prim.Native.Nat.{_≤_, _-_, _/_}
 use lib.ListN.{length}

@@ -1,3 +1,4 @@
+-- `content::is_above` meets its contract. Assumes nothing.
 use mathlib.Core.Path.{refl}
 use borrow.Author.Tests.{lt-ltb, le-ltb, eq-eqb, ne-eqb}
 use Rattle.content.proofs.is_above.Statement.{statement}

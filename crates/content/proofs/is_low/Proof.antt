@@ -1,3 +1,4 @@
+-- `content::is_low` meets its contract. Assumes nothing.
 use mathlib.Core.Path.{_≡_, refl, _∙_, ap}
 use mathlib.Core.Bool.{not}
 use mathlib.Core.List.{List}

@@ -1,3 +1,4 @@
+-- `content::is_wrong` meets its contract. Assumes nothing.
 use mathlib.Core.Path.{refl}
 use borrow.Author.Tests.{le-leb, lt-leb}
 use Rattle.content.proofs.is_wrong.Statement.{statement}

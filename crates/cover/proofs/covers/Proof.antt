@@ -1,3 +1,4 @@
+-- `cover::covers` meets its contract. Assumes nothing.
 use mathlib.Core.Bool.{Bool, _&&_, not, Bool·not-not}
 use mathlib.Core.Path.{_∙_, _≡_, ap, refl, sym}
 use Prim.Native.Nat.{_+_, _-_, _≤_}

@@ -1,3 +1,4 @@
+-- `drawing::drawing_rules` meets its contract. Assumes nothing.
 use mathlib.Core.List.{List, [], _∷_}
 use mathlib.Core.Path.{_∙_, _≡_, refl, subst, sym}
 use Prim.Native.Nat.{_/_, _≤_, ℕ}

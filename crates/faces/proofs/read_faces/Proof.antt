@@ -1,3 +1,4 @@
+-- `faces::read_faces` meets its contract. Assumes nothing.
 use mathlib.Core.Path.{_∙_, ap}
 use Rattle.paper.specs.FaceList.{facesOf}
 use Rattle.paper.specs.declared.Format.{Format}

@@ -1,3 +1,4 @@
+-- `faces_writer::write_faces` meets its contract. Assumes nothing.
 use mathlib.Core.Path.{_∙_, ap}
 use Rattle.paper.specs.FaceList.{solidFaces, sentOf, sentRoom}
 use Rattle.paper.specs.declared.Format.{Format}

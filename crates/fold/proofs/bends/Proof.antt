@@ -1,3 +1,4 @@
+-- `fold::bends` meets its contract. Assumes nothing.
 use mathlib.Core.Bool.{_&&_, not}
 use mathlib.Core.Path.{_∙_, sym}
 use denote.Ref.{now}

@@ -1,3 +1,4 @@
+-- `fold::in_angle` meets its contract. Assumes nothing.
 use mathlib.Core.Path.{_∙_}
 use lib.IntN.{pos}
 use lib.Signed.{ltZ}

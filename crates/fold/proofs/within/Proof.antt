@@ -1,3 +1,4 @@
+-- `fold::within` meets its contract. Assumes nothing.
 use Rattle.fold.proofs.Angles.{within-is}
 use Rattle.fold.proofs.within.Statement.{statement}
 use Rattle.fold.proofs.within.Tie as tie

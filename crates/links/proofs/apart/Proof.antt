@@ -1,3 +1,4 @@
+-- `links::apart` meets its contract. Assumes nothing.
 use mathlib.Core.List.{[]}
 use mathlib.Core.Bool.{Bool, false, not}
 use mathlib.Core.Path.{_∙_, _≡_, ap, sym}

@@ -1,3 +1,4 @@
+-- `links::further` meets its contract. Assumes nothing.
 use mathlib.Core.Bool.{Bool, _&&_, _||_, false, true, or-assoc, or-false}
 use mathlib.Core.List.{List}
 use mathlib.Core.Logic.{⊎-elim}

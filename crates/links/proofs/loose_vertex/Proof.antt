@@ -1,3 +1,4 @@
+-- `links::loose_vertex` meets its contract. Assumes nothing.
 use mathlib.Core.List.{[]}
 use mathlib.Core.Bool.{Bool, not}
 use mathlib.Core.Path.{_∙_, ap, sym}

@@ -1,3 +1,4 @@
+-- `links::reached` meets its contract. Assumes nothing.
 use mathlib.Core.Bool.{false}
 use mathlib.Core.Path.{_∙_, _≡_, ap, sym}
 use Prim.Native.Nat.{_-_, _≤_, ℕ}

@@ -1,3 +1,4 @@
+-- `segments::cuts_open` meets its contract. Assumes nothing.
 use mathlib.Core.Bool.{_&&_}
 use lib.IntN.{pos}
 use lib.Signed.{leZ, ltZ}

@@ -1,3 +1,4 @@
+-- `segments::overlap` meets its contract. Assumes nothing.
 use mathlib.Core.Bool.{_&&_, not}
 use lib.IntN.{pos}
 use lib.Signed.{leZ}

@@ -1,3 +1,4 @@
+-- `sheet::read_sheet` meets its contract. Assumes nothing.
 use mathlib.Core.Path.{_∙_, ap}
 use Rattle.paper.specs.Sheet.{sheetOf}
 use Rattle.paper.specs.declared.Format.{Format}

@@ -1,3 +1,4 @@
+-- `sheet_writer::write_sheet` meets its contract. Assumes nothing.
 use mathlib.Core.Path.{_∙_, ap}
 use Rattle.paper.specs.Sheet.{writtenOf, roomOf}
 use Rattle.paper.specs.declared.Format.{Format}

@@ -1,3 +1,4 @@
+-- `trial_geometry::show` meets its contract. Assumes nothing.
 use mathlib.Core.Path.{sym, ap, subst, _∙_}
 use Rattle.content.specs.InRange.{Held}
 use Rattle.paper.specs.declared.Sheet.{Sheet}

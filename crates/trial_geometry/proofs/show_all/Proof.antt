@@ -1,3 +1,4 @@
+-- `trial_geometry::show_all` meets its contract. Assumes nothing.
 use mathlib.Core.Path.{sym, ap}
 use Prim.Native.Nat.{_-_, _≤_}
 use lib.ListN.{length}

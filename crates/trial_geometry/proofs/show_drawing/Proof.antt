@@ -1,3 +1,4 @@
+-- `trial_geometry::show_drawing` meets its contract. Assumes nothing.
 use mathlib.Core.Path.{sym}
 use lib.Seq.{length-take-le}
 use borrow.Author.Needs.{needs}

@@ -1,3 +1,4 @@
+-- `trial_geometry::show_faces` meets its contract. Assumes nothing.
 use Prim.Native.Nat.{_-_}
 use native.Mathlib.Omega.{arith}
 use Rattle.trial_geometry.proofs.show_faces.Statement.{statement}

@@ -1,3 +1,4 @@
+-- `trial_geometry::show_list` meets its contract. Assumes nothing.
 use mathlib.Core.Path.{sym, ap, subst, _∙_}
 use Prim.Native.Nat.{_<_}
 use Rattle.paper.specs.Format.{one}

@@ -1,3 +1,4 @@
+-- `trial_sheet::show_drawing` meets its contract. Assumes nothing.
 use mathlib.Core.Path.{sym}
 use lib.Seq.{length-take-le}
 use native.Mathlib.Omega.{arith}

@@ -1,3 +1,4 @@
+-- `content::counts::counts` meets its contract. Assumes nothing.
 use mathlib.Core.Path.{_∙_, sym}
 use Rattle.laws.proofs.Checks.{holds, fails, clear}
 use Rattle.paper.specs.Sheet.{countChecks}

@@ -1,3 +1,4 @@
+-- `content::counts::is_early` meets its contract. Assumes nothing.
 use mathlib.Core.Path.{refl}
 use borrow.Author.Tests.{le-leb, lt-leb}
 use Rattle.content.proofs.counts.is_early.Statement.{statement}

@@ -1,3 +1,4 @@
+-- `content::counts::is_outside` meets its contract. Assumes nothing.
 use mathlib.Core.Path.{refl}
 use borrow.Author.Tests.{lt-ltb, le-ltb}
 use Rattle.content.proofs.counts.is_outside.Statement.{statement}

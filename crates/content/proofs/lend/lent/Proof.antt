@@ -1,3 +1,4 @@
+-- `content::lend::lent` meets its contract. Assumes nothing.
 use mathlib.Core.Path.{_∙_, sym}
 use Rattle.laws.proofs.Checks.{holds, fails}
 use Rattle.paper.specs.Sheet.{lentChecks}

@@ -1,3 +1,4 @@
+-- `cover::place::between` meets its contract. Assumes nothing.
 use mathlib.Core.Bool.{_&&_}
 use mathlib.Core.List.{[], _∷_}
 use mathlib.Core.Path.{_∙_}

@@ -1,3 +1,4 @@
+-- `cover::place::lies` meets its contract. Assumes nothing.
 use mathlib.Core.Bool.{Bool, _&&_, false, xor}
 use mathlib.Core.Path.{_∙_, _≡_, ap, refl, subst, sym}
 use Prim.Native.Nat.{_+_, _-_, _<_, _≤_}

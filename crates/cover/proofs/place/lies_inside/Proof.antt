@@ -1,3 +1,4 @@
+-- `cover::place::lies_inside` meets its contract. Assumes nothing.
 use mathlib.Core.Path.{_∙_, _≡_, ap, sym}
 use lib.IntN.{ℤ}
 use denote.Ref.{now}

@@ -1,3 +1,4 @@
+-- `cover::place::meets_ray` meets its contract. Assumes nothing.
 use mathlib.Core.Bool.{_&&_, _||_, not}
 use mathlib.Core.Path.{_∙_}
 use lib.IntN.{pos}

@@ -1,3 +1,4 @@
+-- `cover::place::placed` meets its contract. Assumes nothing.
 use mathlib.Core.Bool.{false}
 use mathlib.Core.Path.{ap, sym}
 use Rattle.paper.specs.Polygon.{placed}

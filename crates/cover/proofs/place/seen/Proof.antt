@@ -1,3 +1,4 @@
+-- `cover::place::seen` meets its contract. Assumes nothing.
 use mathlib.Core.Path.{_∙_, ap, sym}
 use borrow.Author.Needs.{needs}
 use Rattle.paper.specs.Polygon.{seen}

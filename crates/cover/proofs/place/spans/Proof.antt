@@ -1,3 +1,4 @@
+-- `cover::place::spans` meets its contract. Assumes nothing.
 use mathlib.Core.Bool.{_&&_, _||_}
 use lib.Signed.{leZ}
 use Rattle.exact.proofs.Machine.{plain}

@@ -1,3 +1,4 @@
+-- `cover::place::touches` meets its contract. Assumes nothing.
 use mathlib.Core.Bool.{Bool, _&&_, false, true}
 use mathlib.Core.Path.{_∙_, _≡_, ap, sym}
 use Prim.Native.Nat.{zero}

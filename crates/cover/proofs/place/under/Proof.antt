@@ -1,3 +1,4 @@
+-- `cover::place::under` meets its contract. Assumes nothing.
 use lib.Signed.{leZ}
 use Rattle.exact.proofs.Machine.{_▸_, asked, done, reads}
 use Rattle.exact.proofs.Ring.{_⊗_, var}

@@ -1,3 +1,4 @@
+-- `drawing::meets::edge_meets` meets its contract. Assumes nothing.
 use mathlib.Core.List.{[]}
 use mathlib.Core.Bool.{Bool}
 use mathlib.Core.Path.{_∙_, _≡_, sym}

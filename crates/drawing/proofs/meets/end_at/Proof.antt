@@ -1,3 +1,4 @@
+-- `drawing::meets::end_at` meets its contract. Assumes nothing.
 use mathlib.Core.Path.{_∙_, ap}
 use native.Mathlib.Omega.{arith}
 use denote.Ref.{now}

@@ -1,3 +1,4 @@
+-- `drawing::meets::meets` meets its contract. Assumes nothing.
 use mathlib.Core.Bool.{Bool, _&&_, _||_, not}
 use mathlib.Core.Path.{_∙_, _≡_, ap, sym}
 use Prim.Native.Nat.{_*_, _+_, _/_, ℕ}

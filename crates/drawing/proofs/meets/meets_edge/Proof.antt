@@ -1,3 +1,4 @@
+-- `drawing::meets::meets_edge` meets its contract. Assumes nothing.
 use mathlib.Core.Bool.{Bool, _&&_, false, not}
 use mathlib.Core.List.{List}
 use mathlib.Core.Logic.{⊎-elim}

@@ -1,3 +1,4 @@
+-- `faces::read::are_below` meets its contract. Assumes nothing.
 use mathlib.Core.Path.{refl, sym}
 use Prim.Native.Nat.{ℕ, _≤_, _-_}
 use lib.Dec.{ltb}

@@ -1,3 +1,4 @@
+-- `faces::read::cell` meets its contract. Assumes nothing.
 use mathlib.Core.Path.{_≡_, _∙_, sym, ap}
 use Prim.Native.Nat.{ℕ, suc, _<_, _-_, _+_, _*_}
 use native.Mathlib.Nat.{mod-eq-of-lt}

@@ -1,3 +1,4 @@
+-- `faces::read::closes` meets its contract. Assumes nothing.
 use mathlib.Core.Path.{refl}
 use borrow.Author.Tests.{eq-eqb, ne-eqb}
 use Rattle.paper.specs.Format.{fillAfter}

@@ -1,3 +1,4 @@
+-- `faces::read::count_in` meets its contract. Assumes nothing.
 use mathlib.Core.Path.{_≡_, _∙_, sym, refl}
 use borrow.Author.Tests.{le-leb, lt-leb, eq-eqb, ne-eqb}
 use Rattle.paper.specs.Format.{outside}

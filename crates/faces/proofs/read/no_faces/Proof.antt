@@ -1,3 +1,4 @@
+-- `faces::read::no_faces` meets its contract. Assumes nothing.
 use mathlib.Core.Path.{ap}
 use mathlib.Core.List.{[]}
 use Rattle.pack.specs.Fill.{padded}

@@ -1,3 +1,4 @@
+-- `faces_writer::write::are_under` meets its contract. Assumes nothing.
 use mathlib.Core.Path.{refl, sym}
 use Prim.Native.Nat.{ℕ, _≤_, _-_, _+_}
 use lib.Dec.{ltb}

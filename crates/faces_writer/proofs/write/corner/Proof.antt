@@ -1,3 +1,4 @@
+-- `faces_writer::write::corner` meets its contract. Assumes nothing.
 use Prim.Native.Nat.{_+_, _-_}
 use borrow.Author.Needs.{needs}
 use Rattle.faces_writer.proofs.RowAt.{corner-same, corner-first, corner-back}

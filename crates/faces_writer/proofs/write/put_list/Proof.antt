@@ -1,3 +1,4 @@
+-- `faces_writer::write::put_list` meets its contract. Assumes nothing.
 use mathlib.Core.Path.{_∙_}
 use Rattle.paper.specs.FaceList.{bitsOf, solidFaces}
 use Rattle.faces_writer.proofs.Sent.{size-is, listed}

@@ -1,3 +1,4 @@
+-- `faces_writer::write::row_fits` meets its contract. Assumes nothing.
 use mathlib.Core.Path.{sym, _∙_}
 use Prim.Native.Nat.{_*_}
 use lib.ListN.{getD}

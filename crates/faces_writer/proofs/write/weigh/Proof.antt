@@ -1,3 +1,4 @@
+-- `faces_writer::write::weigh` meets its contract. Assumes nothing.
 use mathlib.Core.Path.{sym, ap, _∙_}
 use borrow.Author.Needs.{needs}
 use Rattle.lists.specs.Place.{found}

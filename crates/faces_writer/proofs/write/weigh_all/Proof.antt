@@ -1,3 +1,4 @@
+-- `faces_writer::write::weigh_all` meets its contract. Assumes nothing.
 use mathlib.Core.Path.{sym, _∙_}
 use Prim.Native.Nat.{ℕ, _≤_, _-_, _*_}
 use borrow.Author.Needs.{needs}

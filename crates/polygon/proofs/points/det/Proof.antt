@@ -1,3 +1,4 @@
+-- `polygon::points::det` meets its contract. Assumes nothing.
 use mathlib.Core.Path.{_∙_, ap}
 use borrow.Author.Needs.{needs}
 use Rattle.paper.specs.Points.{cross, det, dot}

@@ -1,3 +1,4 @@
+-- `polygon::points::is_origin` meets its contract. Assumes nothing.
 use mathlib.Core.Bool.{_&&_}
 use mathlib.Core.Path.{_∙_, ap}
 use borrow.Author.Needs.{needs}

@@ -1,3 +1,4 @@
+-- `polygon::points::is_zero` meets its contract. Assumes nothing.
 use Rattle.polygon.proofs.Zeros.{zero-is}
 use Rattle.polygon.proofs.points.is_zero.Statement.{statement}
 use Rattle.polygon.proofs.points.is_zero.Tie as tie

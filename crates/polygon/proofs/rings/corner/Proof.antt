@@ -1,3 +1,4 @@
+-- `polygon::rings::corner` meets its contract. Assumes nothing.
 use mathlib.Core.Path.{_∙_, ap, subst, sym}
 use Prim.Native.Nat.{_*_, _<_, ℕ}
 use native.Mathlib.Omega.{arith}

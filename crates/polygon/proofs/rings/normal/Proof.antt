@@ -1,3 +1,4 @@
+-- `polygon::rings::normal` meets its contract. Assumes nothing.
 use mathlib.Core.Path.{_∙_, _≡_, sym}
 use Prim.Native.Nat.{_-_, _≤_}
 use native.Mathlib.Omega.{arith}

@@ -1,3 +1,4 @@
+-- `polygon::rings::point_at` meets its contract. Assumes nothing.
 use native.Mathlib.Omega.{arith}
 use borrow.Author.Needs.{needs}
 use Rattle.polygon.specs.Rings.{pointOf}

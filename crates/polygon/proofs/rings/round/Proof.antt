@@ -1,3 +1,4 @@
+-- `polygon::rings::round` meets its contract. Assumes nothing.
 use mathlib.Core.Path.{sym}
 use native.Mathlib.Omega.{arith}
 use Rattle.lists.proofs.Sides.{wrap-high, wrap-low}

@@ -1,3 +1,4 @@
+-- `polygon::rings::six_volumes` meets its contract. Assumes nothing.
 use mathlib.Core.List.{[], _∷_}
 use mathlib.Core.Option.{none}
 use mathlib.Core.Path.{_∙_, _≡_, ap, subst, sym}

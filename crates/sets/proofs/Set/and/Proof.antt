@@ -1,4 +1,4 @@
--- `Set::and` meets its contract. Assumes nothing.
+-- `sets::Set::and` meets its contract. Assumes nothing.
 use Rattle.sets.proofs.Sets.{and-is}
 use Rattle.sets.proofs.Set.and.Statement.{statement}
 use Rattle.sets.proofs.Set.and.Tie as tie

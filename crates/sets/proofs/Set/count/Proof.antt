@@ -1,4 +1,4 @@
--- `Set::count` meets its contract. Assumes nothing.
+-- `sets::Set::count` meets its contract. Assumes nothing.
 use native.Mathlib.Omega.{arith}
 use Rattle.sets.proofs.Sets.{counted}
 use Rattle.sets.proofs.Set.count.Statement.{statement}

@@ -1,4 +1,4 @@
--- `Set::has` meets its contract. Assumes nothing.
+-- `sets::Set::has` meets its contract. Assumes nothing.
 use borrow.Author.Needs.{needs}
 use Rattle.sets.proofs.Sets.{has-is}
 use Rattle.sets.proofs.Set.has.Statement.{statement}

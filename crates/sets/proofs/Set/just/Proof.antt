@@ -1,4 +1,4 @@
--- `Set::just` meets its contract. Assumes nothing.
+-- `sets::Set::just` meets its contract. Assumes nothing.
 use borrow.Author.Needs.{needs}
 use Rattle.sets.specs.Sets.{room}
 use Rattle.sets.proofs.Word.{one-shl}

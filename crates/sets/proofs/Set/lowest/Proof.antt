@@ -1,4 +1,4 @@
--- `Set::lowest` meets its contract. Assumes nothing.
+-- `sets::Set::lowest` meets its contract. Assumes nothing.
 use native.Mathlib.Omega.{arith}
 use Rattle.sets.proofs.Sets.{lowest-is}
 use Rattle.sets.proofs.Set.lowest.Statement.{statement}

@@ -1,4 +1,4 @@
--- `Set::lowest_of` meets its contract. Assumes nothing.
+-- `sets::Set::lowest_of` meets its contract. Assumes nothing.
 use mathlib.Core.Path.{_≡_, ap}
 use Prim.Native.Nat.{ℕ, _-_, _^_}
 use native.Mathlib.Omega.{arith}

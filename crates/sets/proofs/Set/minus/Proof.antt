@@ -1,4 +1,4 @@
--- `Set::minus` meets its contract. Assumes nothing.
+-- `sets::Set::minus` meets its contract. Assumes nothing.
 use native.Mathlib.Omega.{arith}
 use Rattle.sets.proofs.Sets.{minus-is}
 use Rattle.sets.proofs.Set.minus.Statement.{statement}

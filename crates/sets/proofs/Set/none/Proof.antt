@@ -1,4 +1,4 @@
--- `Set::none` meets its contract. Assumes nothing.
+-- `sets::Set::none` meets its contract. Assumes nothing.
 use Rattle.sets.proofs.Sets.{none-is}
 use Rattle.sets.proofs.Set.none.Statement.{statement}
 use Rattle.sets.proofs.Set.none.Tie as tie

@@ -1,4 +1,4 @@
--- `Set::of_edge` meets its contract. Assumes nothing.
+-- `sets::Set::of_edge` meets its contract. Assumes nothing.
 use native.Mathlib.Omega.{arith}
 use borrow.Author.Needs.{needs}
 use Rattle.sets.proofs.Sets.{edge-set}

@@ -1,4 +1,4 @@
--- `Set::without` meets its contract. Assumes nothing.
+-- `sets::Set::without` meets its contract. Assumes nothing.
 use native.Mathlib.Omega.{arith}
 use borrow.Author.Needs.{needs}
 use Rattle.sets.specs.Sets.{room}

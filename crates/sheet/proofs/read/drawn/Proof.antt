@@ -1,3 +1,4 @@
+-- `sheet::read::drawn` meets its contract. Assumes nothing.
 use mathlib.Core.Path.{_∙_}
 use Rattle.sheet.proofs.Shaped.{shaped, bounds}
 use Rattle.sheet.proofs.Drawn.{drawn-is}

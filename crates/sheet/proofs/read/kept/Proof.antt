@@ -1,3 +1,4 @@
+-- `sheet::read::kept` meets its contract. Assumes nothing.
 use mathlib.Core.Path.{_∙_, sym, ap}
 use lib.Seq.{length-take-le}
 use Rattle.sheet.specs.Kept.{keptFor, keptOf}

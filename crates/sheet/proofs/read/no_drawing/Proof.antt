@@ -1,3 +1,4 @@
+-- `sheet::read::no_drawing` meets its contract. Assumes nothing.
 use mathlib.Core.Path.{refl}
 use Rattle.pack.specs.Fill.{padded}
 use Rattle.sheet.proofs.read.no_drawing.Statement.{statement}

@@ -1,3 +1,4 @@
+-- `sheet::read::numbers` meets its contract. Assumes nothing.
 use mathlib.Core.Path.{_≡_, _∙_, sym, ap}
 use mathlib.Core.List.{List, [], _∷_, _++_}
 use Prim.Native.Nat.{ℕ, _≤_, _<_, _-_, _%_, _*_, _+_}

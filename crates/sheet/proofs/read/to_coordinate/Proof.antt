@@ -1,3 +1,4 @@
+-- `sheet::read::to_coordinate` meets its contract. Assumes nothing.
 use Prim.Native.Nat.{ℕ, _<_}
 use native.Mathlib.Nat.{lt-of-lt-of-le}
 use mir.Syntax.{w64}

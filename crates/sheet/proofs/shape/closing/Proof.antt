@@ -1,3 +1,4 @@
+-- `sheet::shape::closing` meets its contract. Assumes nothing.
 use mathlib.Core.Path.{_∙_, ap, sym}
 use mathlib.Core.Bool.{not}
 use Prim.Native.Nat.{ℕ, _+_, _*_, _-_, _/_}

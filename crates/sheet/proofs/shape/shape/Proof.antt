@@ -1,3 +1,4 @@
+-- `sheet::shape::shape` meets its contract. Assumes nothing.
 use mathlib.Core.Path.{_∙_, sym}
 use Rattle.sheet.proofs.Shaped.{opened, counted, shape-open, shape-counts, shape-close}
 use native.Mathlib.Omega.{arith}

@@ -1,3 +1,4 @@
+-- `sheet::shape::total_bits` meets its contract. Assumes nothing.
 use Rattle.sheet.proofs.Sizes.{numbers-small}
 use native.Mathlib.Omega.{arith}
 use borrow.Author.Needs.{needs}

@@ -1,3 +1,4 @@
+-- `sheet_writer::write::put_coordinates` meets its contract. Assumes nothing.
 use mathlib.Core.Path.{_≡_, _∙_, sym, ap, ap₂, refl}
 use mathlib.Core.List.{List, map}
 use Prim.Native.Nat.{ℕ, _≤_, _<_, _-_, _*_, _+_}

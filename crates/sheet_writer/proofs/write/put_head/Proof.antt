@@ -1,3 +1,4 @@
+-- `sheet_writer::write::put_head` meets its contract. Assumes nothing.
 use Rattle.pack.specs.Bits.{run}
 use Rattle.sheet_writer.proofs.Encoded.{head-put}
 use borrow.Author.Needs.{needs}

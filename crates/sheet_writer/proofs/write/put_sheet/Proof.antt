@@ -1,3 +1,4 @@
+-- `sheet_writer::write::put_sheet` meets its contract. Assumes nothing.
 use mathlib.Core.Path.{_∙_}
 use lib.ListN.{length}
 use Rattle.pack.specs.Bits.{run}

@@ -1,3 +1,4 @@
+-- `sheet_writer::write::to_field` meets its contract. Assumes nothing.
 use mathlib.Core.Path.{_≡_, _∙_, ap}
 use mathlib.Core.Bool.{false}
 use lib.IntN.{ℤ, pos, natAbs, _+ℤ_}

@@ -1,3 +1,4 @@
+-- `sheet_writer::write::write` meets its contract. Assumes nothing.
 use mathlib.Core.Path.{_∙_, sym, ap, refl}
 use Prim.Native.Nat.{ℕ, _+_, _/_}
 use lib.ListN.{length}
