@@ -41,7 +41,7 @@ fn neighbours(d: &Drawing) -> Vec<Vec<usize>> {
     near
 }
 
-/// Every plane through three vertices that aren't on one line, as the set of all vertices in it.
+/// Every plane through three vertices that aren't on one line, i being its lowest, as the set of all vertices in it.
 /// (After rule 13 no closed path is on one line, so every loop is in one of them.)
 fn planes(d: &Drawing) -> BTreeSet<Vec<usize>> {
     let vertices = 0..d.vertices.len();
@@ -51,7 +51,7 @@ fn planes(d: &Drawing) -> BTreeSet<Vec<usize>> {
         for j in i + 1..vertices.end {
             for k in j + 1..vertices.end {
                 let n = cross(from(i, j), from(i, k));
-                if n != [0; 3] {
+                if n != [0; 3] && (0..i).all(|v| dot(n, from(i, v)) != 0) {
                     planes.insert(vertices.clone().filter(|v| dot(n, from(i, *v)) == 0).collect());
                 }
             }

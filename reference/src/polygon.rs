@@ -15,7 +15,8 @@ pub fn height(polygon: &[Point], point: Point) -> i128 {
 
 /// Do two polygons lie in one plane?
 pub fn one_plane(f: &[Point], g: &[Point]) -> bool {
-    g.iter().all(|p| height(f, *p) == 0)
+    let n = normal(f);
+    g.iter().all(|p| dot(n, sub(*p, f[0])) == 0)
 }
 
 #[derive(Clone, Copy, Debug, PartialEq, Eq)]
