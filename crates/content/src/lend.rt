@@ -4,9 +4,9 @@ ghost use Prim.Native.Nat.{_<_};
 ghost use Rattle.paper.specs.Refusals.{firstOf};
 ghost use Rattle.paper.specs.Sheet.{badCount, lentChecks};
 use super::content;
-use super::counts::is_early;
-use super::counts::is_outside;
-use super::refused;
+use counts::is_early;
+use counts::is_outside;
+use counts::refused;
 use paper::Answer;
 use paper::Format;
 

@@ -1,5 +1,4 @@
-// What a drawing's two lists are refused for, lent or read off a sheet: 8, 9 and 10 here, 5 in counts and lend. Nothing is assumed of them.
-pub mod counts;
+// What a drawing's two lists are refused for, lent or read off a sheet: 8, 9 and 10 here, with 5 of lent ones in lend. Nothing is assumed of them.
 pub mod lend;
 
 ghost use mathlib.Core.Path.{_≡_};
@@ -7,17 +6,11 @@ ghost use Prim.Native.Nat.{_+_, _*_, _/_, _<_};
 ghost use lib.ListN.{length};
 ghost use Rattle.lists.specs.Lists.{lowest};
 ghost use Rattle.lists.specs.Place.{found};
-ghost use Rattle.paper.specs.Refusals.{refuse, firstOf};
+ghost use Rattle.paper.specs.Refusals.{firstOf};
 ghost use Rattle.paper.specs.Sheet.{far, farAt, wrong, wrongAt, above, lowAt, edgeChecks, contentChecks};
+use counts::refused;
 use lists::Place;
 use paper::Answer;
-use paper::Refusal;
-
-pub fn refused(number: u8, place: usize) -> Answer
-    ensures { λ r. ⌜ r ≡ refuse number place ⌝ }
-{
-    Answer::Refused(Refusal { number, place })
-}
 
 fn is_far(z: i64) -> bool
     ensures { λ r. ⌜ r ≡ far z ⌝ }

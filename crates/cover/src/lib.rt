@@ -1,6 +1,4 @@
-// Cover: one loop covers another in its plane. Where a point lies is in module place. Assumes rows in range and the covering row's normal.
-pub mod place;
-
+// Cover: one loop covers another in its plane. Assumes rows in range and the covering row's normal.
 ghost use mathlib.Core.Path.{_≡_};
 ghost use Rattle.paper.specs.Polygon.{onePlane, covers};
 ghost use Rattle.polygon.specs.Rings.{ring, Row, Face};

@@ -14,7 +14,7 @@ ghost use Rattle.polygon.specs.Sizes.{Small};
 ghost use Rattle.polygon.specs.Rings.{pointOf};
 ghost use Rattle.content.specs.InRange.{Points, Ends};
 ghost use Rattle.drawing.specs.Meets.{meetsAt};
-use content::refused;
+use counts::refused;
 use lists::wide;
 use paper::Answer;
 use paper::EDGE_MEETS;

@@ -11,7 +11,7 @@ ghost use Rattle.paper.specs.Points.{samePoint};
 ghost use Rattle.paper.specs.Drawing.{Wire, pointsOf, samePlace};
 ghost use Rattle.polygon.specs.Rings.{pointOf};
 ghost use Rattle.content.specs.InRange.{Points};
-use content::refused;
+use counts::refused;
 use paper::Answer;
 use paper::SAME_PLACE;
 use polygon::points::same_point;

@@ -9,7 +9,7 @@ use Rattle.pack.specs.Bits.{fieldAt, fieldsAt}
 use Rattle.paper.specs.Format.{one, leastFaces, editionBits, cornerBits, outside, bytesFor, fillAfter}
 use Rattle.paper.specs.FaceList.{countIn, faceFits}
 use Rattle.paper.specs.declared.Format.{Format}
-use Rattle.sheet.specs.Narrow.{Narrow}
+use Rattle.shape.specs.Narrow.{Narrow}
 
 -- so that a face list by value has room for what a list holds
 pub record Brief (f : Format) : Type 0 where

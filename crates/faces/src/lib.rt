@@ -11,5 +11,5 @@ use paper::Faces;
 pub fn read_faces(list: &[u8], vertices: usize) -> Faces
     ensures { λ r. ⌜ r ≡ facesOf one vertices (now (list .entry)) ⌝ }
 {
-    read::read(sheet::edition_one(), list, vertices)
+    read::read(shape::edition_one(), list, vertices)
 }

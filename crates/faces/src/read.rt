@@ -21,7 +21,7 @@ fn no_faces() -> Faces
     ensures { λ r. ⌜ r ≡ noFaces ⌝ }
 {
     Faces {
-        answer: content::refused(paper::SHELL_SHAPE, 0),
+        answer: counts::refused(paper::SHELL_SHAPE, 0),
         count: 0,
         rows: [0u8; paper::ROWS],
     }
@@ -39,7 +39,7 @@ fn count_in(f: Format, s: &[u8]) -> Place
         return Place::Nowhere;
     }
     let n = pack::field(s, paper::EDITION_BITS, f.fw);
-    if content::counts::is_outside(paper::LEAST_FACES as u64, f.fmax, n) {
+    if counts::is_outside(paper::LEAST_FACES as u64, f.fmax, n) {
         return Place::Nowhere;
     }
     Place::At(n as usize)
@@ -69,7 +69,7 @@ fn face_at(f: Format, s: &[u8], at: usize, v: usize) -> Place
         return Place::Nowhere;
     }
     let c = pack::field(s, at, paper::CORNER_BITS);
-    if content::counts::is_outside(paper::LEAST_CORNERS as u64, paper::MOST_CORNERS as u64, c) {
+    if counts::is_outside(paper::LEAST_CORNERS as u64, paper::MOST_CORNERS as u64, c) {
         return Place::Nowhere;
     }
     let n = c as usize;

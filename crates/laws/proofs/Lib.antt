@@ -1,6 +1,7 @@
 -- What follows from document 01's definitions, for any crate to cite. Assumes nothing.
 pub mod Checks
 pub mod Limits
+pub mod Coordinate
 pub mod Rows
 pub mod Vectors
 pub mod Points

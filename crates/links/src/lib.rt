@@ -13,7 +13,7 @@ ghost use Rattle.paper.specs.Refusals.{check, firstOf};
 ghost use Rattle.paper.specs.Drawing.{Wire, edgesOf, joined, looseVertex, reached, apart};
 ghost use Rattle.content.specs.InRange.{Ends};
 ghost use Rattle.links.specs.Neighbours.{neighbourWords, Links};
-use content::refused;
+use counts::refused;
 use lists::wide;
 use paper::APART;
 use paper::Answer;

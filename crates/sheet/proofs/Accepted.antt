@@ -13,7 +13,7 @@ use Rattle.paper.specs.declared.Format.{Format}
 use Rattle.paper.specs.declared.Answer.{Answer}
 use Rattle.paper.specs.declared.Answer.the-variants.{Fine}
 use Rattle.sheet.proofs.Drawn.{length-coordinates, length-ends}
-use Rattle.sheet.proofs.Shaped.{Shaped, shaped}
+use Rattle.shape.proofs.Shaped.{Shaped, shaped}
 
 module _ (f : Format) (s : List ℕ) (h : Fine ≡ firstOf (sheetChecks f s)) where
   both : (Fine ≡ firstOf (shapeChecks f s)) × (Fine ≡ firstOf (contentChecks (verticesIn f s) (coordinatesIn f s) (endsIn f s)))

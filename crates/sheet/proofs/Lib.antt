@@ -1,7 +1,4 @@
--- The laws that this crate's proofs share. Assumes nothing.
-pub mod Sizes
-pub mod Shaped
-pub mod Coordinate
+-- The laws that this crate's proofs and its callers share. Assumes nothing.
 pub mod Drawn
 pub mod Accepted
 pub mod Range

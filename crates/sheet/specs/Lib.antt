@@ -1,3 +1,2 @@
 -- What contracts of this crate cite beside the paper. Assumes nothing.
-pub mod Narrow
 pub mod Kept

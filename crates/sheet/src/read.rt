@@ -9,14 +9,14 @@ ghost use Rattle.pack.specs.Fill.{padded};
 ghost use Rattle.paper.specs.Refusals.{firstOf};
 ghost use Rattle.paper.specs.Format.{coordinate};
 ghost use Rattle.paper.specs.Sheet.{shapeChecks, blank, sheetOf};
-ghost use Rattle.sheet.specs.Narrow.{Small};
+ghost use Rattle.shape.specs.Narrow.{Small};
 ghost use Rattle.sheet.specs.Kept.{keptOf};
-use crate::shape::shape;
 use content::content;
 use paper::Answer;
 use paper::Drawing;
 use paper::Format;
 use paper::Sheet;
+use shape::shape;
 
 // A coordinate, from its number on the sheet.
 fn to_coordinate(f: u64) -> i64

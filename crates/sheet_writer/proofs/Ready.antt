@@ -13,8 +13,8 @@ use Rattle.paper.specs.declared.Format.{Format}
 use Rattle.paper.specs.declared.Answer.the-variants.{Fine}
 use Rattle.content.specs.Near.{Near}
 use Rattle.content.proofs.Lent.{Lent, contents, lent}
-use Rattle.sheet.specs.Narrow.{Narrow}
-use Rattle.sheet.proofs.Sizes.{total-small}
+use Rattle.shape.specs.Narrow.{Narrow}
+use Rattle.shape.proofs.Sizes.{total-small}
 
 -- of its own v and e, and of room of r bytes
 pub record Ready (f : Format) (xyz : List ℤ) (ends : List ℕ) (v e r : ℕ) : Type 0 where

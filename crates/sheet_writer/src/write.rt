@@ -9,13 +9,13 @@ ghost use Rattle.paper.specs.Refusals.{firstOf};
 ghost use Rattle.paper.specs.Format.{onSheet, total, bytesFor, headBits, encode};
 ghost use Rattle.paper.specs.Sheet.{far, lentChecks, writtenOf, roomOf};
 ghost use Rattle.content.specs.Near.{Near};
-ghost use Rattle.sheet.specs.Narrow.{Narrow};
+ghost use Rattle.shape.specs.Narrow.{Narrow};
 use content::lend::lent;
 use paper::Answer;
 use paper::Format;
 use paper::Refusal;
 use paper::Written;
-use sheet::shape::total_bits;
+use shape::total_bits;
 
 // A coordinate's number on the sheet.
 fn to_field(z: i64) -> u64

@@ -19,9 +19,9 @@ use Rattle.paper.specs.declared.Format.{Format}
 use Rattle.paper.specs.declared.Drawing.{Drawing}
 use Rattle.paper.specs.declared.Answer.the-variants.{Fine}
 use Rattle.sheet.proofs.Accepted.{accepted-shape, accepted-contents, coordinates-are, ends-are}
-use Rattle.sheet.proofs.Coordinate.{onSheet-coordinate}
+use Rattle.laws.proofs.Coordinate.{onSheet-coordinate}
 use Rattle.sheet.proofs.Drawn.{length-coordinates, length-ends}
-use Rattle.sheet.proofs.Shaped.{Shaped}
+use Rattle.shape.proofs.Shaped.{Shaped}
 use Rattle.demands.proofs.Tools.Filled.{above, filled-again}
 
 map-back : (ns : List ℕ) → map onSheet (map coordinate ns) ≡ ns

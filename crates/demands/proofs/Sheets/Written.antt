@@ -22,8 +22,8 @@ use Rattle.paper.specs.declared.Format.{Format}
 use Rattle.paper.specs.declared.Answer.{Answer}
 use Rattle.paper.specs.declared.Answer.the-variants.{Fine}
 use Rattle.content.specs.Near.{Near}
-use Rattle.sheet.proofs.Coordinate.{near}
-use Rattle.sheet.proofs.Shaped.{Opened, Counted, Closed, Shaped}
+use Rattle.laws.proofs.Coordinate.{near}
+use Rattle.shape.proofs.Shaped.{Opened, Counted, Closed, Shaped}
 use Rattle.content.proofs.Lent.{Contents, contents, Lent}
 use Rattle.sheet_writer.proofs.Encoded.{length-head, length-placed, length-content, under-content}
 use Rattle.demands.specs.Sound.{Sound}

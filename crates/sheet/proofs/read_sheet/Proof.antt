@@ -2,7 +2,7 @@
 use mathlib.Core.Path.{_∙_, ap}
 use Rattle.paper.specs.Sheet.{sheetOf}
 use Rattle.paper.specs.declared.Format.{Format}
-use Rattle.sheet.proofs.Sizes.{one-small}
+use Rattle.shape.proofs.Sizes.{one-small}
 use borrow.Author.Needs.{needs}
 use Rattle.sheet.proofs.read_sheet.Statement.{statement}
 use Rattle.sheet.proofs.read_sheet.Tie as tie

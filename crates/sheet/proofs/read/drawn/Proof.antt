@@ -1,6 +1,6 @@
 -- `sheet::read::drawn` meets its contract. Assumes nothing.
 use mathlib.Core.Path.{_∙_}
-use Rattle.sheet.proofs.Shaped.{shaped, bounds}
+use Rattle.shape.proofs.Shaped.{shaped, bounds}
 use Rattle.sheet.proofs.Drawn.{drawn-is}
 use native.Mathlib.Omega.{arith}
 use borrow.Author.Needs.{needs}

@@ -4,7 +4,7 @@ use native.Mathlib.Nat.{lt-of-lt-of-le}
 use mir.Syntax.{w64}
 use mir.Val.{SFits}
 use mir.ValLaws.{toZ-pos, toZ-ofZ}
-use Rattle.sheet.proofs.Coordinate.{coordinate-mag}
+use Rattle.laws.proofs.Coordinate.{coordinate-mag}
 use Rattle.paper.specs.Format.{coordinate}
 use native.Mathlib.Omega.{arith}
 use borrow.Author.Needs.{needs}

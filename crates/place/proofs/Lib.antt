@@ -1,0 +1,2 @@
+-- The laws that this crate's proofs share. `Views` is cited by callers too. Assumes nothing.
+pub mod Views
