@@ -13,7 +13,7 @@ use Rattle.paper.specs.Refusals.{firstOf}
 use Rattle.paper.specs.Format.{one}
 use Rattle.paper.specs.Sheet.{far, contentChecks, lentChecks}
 use Rattle.paper.specs.declared.Answer.the-variants.{Fine}
-use Rattle.content.specs.InRange.{Points, Ends, InRange}
+use Rattle.laws.specs.InRange.{Points, Ends, InRange}
 use Rattle.content.proofs.Lent.{contents, lent}
 
 near : (z : ℤ) → far z ≡ false → Within farthest z

@@ -1,33 +1,14 @@
 // Cover: one loop covers another in its plane. Assumes rows in range and the covering row's normal.
 ghost use mathlib.Core.Path.{_≡_};
-ghost use Rattle.paper.specs.Polygon.{onePlane, covers};
+ghost use Rattle.paper.specs.Polygon.{covers};
 ghost use Rattle.polygon.specs.Rings.{ring, Row, Face};
 use paper::Point;
 use paper::Where;
 use place::lies;
-use polygon::points::is_zero;
 use polygon::points::plus;
 use polygon::rings::corner;
 use polygon::rings::count;
-use polygon::rings::side;
-
-// All corners of row h are in the plane of row g, whose normal is m.
-pub fn in_plane(xyz: &[i64], table: &[u8], g: usize, m: Point, h: usize) -> bool
-    requires { ⌜ Face (now xyz) (now table) g m × Row (now xyz) (now table) h ⌝ }
-    ensures { λ w. ⌜ w ≡ onePlane (ring (now (xyz .entry)) (now (table .entry)) g) (ring (now (xyz .entry)) (now (table .entry)) h) ⌝ }
-{
-    let n = count(table, h);
-    let o = corner(xyz, table, g, 0);
-    let mut j = 0;
-    while j < n {
-        let s = side(m, o, corner(xyz, table, h, j));
-        if !is_zero(s) {
-            return false;
-        }
-        j += 1;
-    }
-    true
-}
+use polygon::rings::in_plane;
 
 // Row g, whose normal is m, covers row h: no midpoint of h is outside. A midpoint is the sum of two corners, over 2.
 pub fn covers(xyz: &[i64], table: &[u8], g: usize, m: Point, h: usize) -> bool

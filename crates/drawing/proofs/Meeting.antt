@@ -13,7 +13,7 @@ use Rattle.paper.specs.Points.{samePoint}
 use Rattle.paper.specs.Drawing.{Wire, edge, pointsOf, wire, at, edgeAt, onOpen, openMeets, vertexOn, edgesMeet}
 use Rattle.paper.specs.declared.Point.{Point}
 use Rattle.polygon.specs.Rings.{pointOf}
-use Rattle.content.specs.InRange.{Points, Ends}
+use Rattle.laws.specs.InRange.{Points, Ends}
 use Rattle.drawing.specs.Meets.{meetsAt}
 use Rattle.links.proofs.Edges.{edge-count, half-count, edge-is}
 use Rattle.drawing.proofs.Vertices.{vertex-count, vertex-is}

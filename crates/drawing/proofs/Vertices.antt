@@ -13,7 +13,7 @@ use Rattle.polygon.specs.Sizes.{Small}
 use Rattle.polygon.specs.Rings.{pointOf}
 use Rattle.polygon.proofs.Rows.{point-small}
 use Rattle.polygon.proofs.Drawn.{point-of}
-use Rattle.content.specs.InRange.{Points}
+use Rattle.laws.specs.InRange.{Points}
 
 points-length : (l : List ℤ) (n : ℕ) → length l ≡ 3 * n → length (pointsOf l) ≡ n
 unfolding pointsOf

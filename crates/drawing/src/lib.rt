@@ -5,7 +5,7 @@ mod places;
 ghost use mathlib.Core.Path.{_≡_};
 ghost use Rattle.paper.specs.Refusals.{firstOf};
 ghost use Rattle.paper.specs.Drawing.{wire, drawingChecks};
-ghost use Rattle.content.specs.InRange.{InRange};
+ghost use Rattle.laws.specs.InRange.{InRange};
 use paper::Answer;
 
 pub fn drawing_rules(xyz: &[i64], ends: &[u8]) -> Answer

@@ -12,7 +12,7 @@ ghost use Rattle.paper.specs.Refusals.{check, firstOf};
 ghost use Rattle.paper.specs.Drawing.{wire, onOpen, openMeets, edgeMeets};
 ghost use Rattle.polygon.specs.Sizes.{Small};
 ghost use Rattle.polygon.specs.Rings.{pointOf};
-ghost use Rattle.content.specs.InRange.{Points, Ends};
+ghost use Rattle.laws.specs.InRange.{Points, Ends};
 ghost use Rattle.drawing.specs.Meets.{meetsAt};
 use counts::refused;
 use lists::wide;

@@ -10,7 +10,7 @@ ghost use Rattle.paper.specs.Refusals.{check, firstOf};
 ghost use Rattle.paper.specs.Points.{samePoint};
 ghost use Rattle.paper.specs.Drawing.{Wire, pointsOf, samePlace};
 ghost use Rattle.polygon.specs.Rings.{pointOf};
-ghost use Rattle.content.specs.InRange.{Points};
+ghost use Rattle.laws.specs.InRange.{Points};
 use counts::refused;
 use paper::Answer;
 use paper::SAME_PLACE;

@@ -8,13 +8,13 @@ ghost use Rattle.paper.specs.Points.{samePoint};
 ghost use Rattle.paper.specs.Clash.{within, inAngle, pointsIn, isCorner, bends, folds};
 ghost use Rattle.polygon.specs.Sizes.{Small, mostStep, mostNormal};
 ghost use Rattle.polygon.specs.Rings.{ring, Row, Face};
-use cover::in_plane;
 use paper::Point;
 use polygon::points::det;
 use polygon::points::minus;
 use polygon::points::same_point;
 use polygon::rings::corner;
 use polygon::rings::count;
+use polygon::rings::in_plane;
 
 fn within(convex: bool, l: bool, r: bool) -> bool
     ensures { λ w. ⌜ w ≡ within convex l r ⌝ }

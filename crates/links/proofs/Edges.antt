@@ -10,7 +10,7 @@ use lib.Dec.{eqb}
 use lib.ListN.{length, getD}
 use Rattle.lists.specs.Lists.{any}
 use Rattle.paper.specs.Drawing.{edge, edgesOf, joins}
-use Rattle.content.specs.InRange.{Ends}
+use Rattle.laws.specs.InRange.{Ends}
 
 edges-length : (l : List ℕ) (n : ℕ) → length l ≡ 2 * n → length (edgesOf l) ≡ n
 unfolding edgesOf

@@ -15,7 +15,7 @@ use Rattle.lists.proofs.Truth.{or-none}
 use Rattle.lists.proofs.Places.{map-at, upto-length, upto-at}
 use Rattle.paper.specs.Format.{one}
 use Rattle.paper.specs.Drawing.{Wire, Edge, edge, edgesOf, ends, joins, joined}
-use Rattle.content.specs.InRange.{Ends}
+use Rattle.laws.specs.InRange.{Ends}
 use Rattle.sets.specs.Word.{digit}
 use Rattle.links.specs.Neighbours.{neighbourWord, neighbourWords, Links}
 use Rattle.sets.proofs.Word.{one-shl}

@@ -11,7 +11,7 @@ ghost use Rattle.paper.specs.Format.{one};
 ghost use Rattle.paper.specs.Refusals as No;
 ghost use Rattle.paper.specs.Refusals.{check, firstOf};
 ghost use Rattle.paper.specs.Drawing.{Wire, edgesOf, joined, looseVertex, reached, apart};
-ghost use Rattle.content.specs.InRange.{Ends};
+ghost use Rattle.laws.specs.InRange.{Ends};
 ghost use Rattle.links.specs.Neighbours.{neighbourWords, Links};
 use counts::refused;
 use lists::wide;

@@ -5,13 +5,14 @@ ghost use lib.ListN.{length, getD};
 ghost use Rattle.lists.specs.Around.{wrap};
 ghost use Rattle.paper.specs.Numbers.{farthest, rowBytes};
 ghost use Rattle.paper.specs.Points.{dot, minus};
-ghost use Rattle.paper.specs.Polygon.{normal};
+ghost use Rattle.paper.specs.Polygon.{normal, onePlane};
 ghost use Rattle.paper.specs.Solids.{faceSix};
 ghost use Rattle.polygon.specs.Sizes.{Small, mostNormal};
-ghost use Rattle.polygon.specs.Rings.{pointOf, ring, cornerOf, Row};
+ghost use Rattle.polygon.specs.Rings.{pointOf, ring, cornerOf, Row, Face};
 use super::points::cross;
 use super::points::det;
 use super::points::dot;
+use super::points::is_zero;
 use super::points::minus;
 use super::points::plus;
 use lists::wide;
@@ -78,6 +79,24 @@ pub fn side(m: Point, o: Point, p: Point) -> i64
     ensures { λ r. ⌜ r ≡ dot m (minus p o) ⌝ }
 {
     dot(m, minus(p, o))
+}
+
+// All corners of row h are in the plane of row g, whose normal is m.
+pub fn in_plane(xyz: &[i64], table: &[u8], g: usize, m: Point, h: usize) -> bool
+    requires { ⌜ Face (now xyz) (now table) g m × Row (now xyz) (now table) h ⌝ }
+    ensures { λ w. ⌜ w ≡ onePlane (ring (now (xyz .entry)) (now (table .entry)) g) (ring (now (xyz .entry)) (now (table .entry)) h) ⌝ }
+{
+    let n = count(table, h);
+    let o = corner(xyz, table, g, 0);
+    let mut j = 0;
+    while j < n {
+        let s = side(m, o, corner(xyz, table, h, j));
+        if !is_zero(s) {
+            return false;
+        }
+        j += 1;
+    }
+    true
 }
 
 // Row r's part of six volumes: the sum of the determinants of its fan.

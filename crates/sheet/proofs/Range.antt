@@ -8,7 +8,7 @@ use Rattle.pack.proofs.Fill.{length-padded, take-padded}
 use Rattle.paper.specs.Format.{one, verticesIn, edgesIn, coordinatesIn, endsIn}
 use Rattle.paper.specs.Sheet.{held, sheetOf}
 use Rattle.paper.specs.declared.Answer.the-variants.{Fine}
-use Rattle.content.specs.InRange.{Held}
+use Rattle.laws.specs.InRange.{Held}
 use Rattle.content.proofs.Range.{points-are, ends-are}
 use Rattle.sheet.proofs.Drawn.{length-coordinates, length-ends}
 use Rattle.sheet.proofs.Accepted.{accepted-shape, accepted-contents, returns}

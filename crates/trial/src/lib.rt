@@ -6,7 +6,6 @@ ghost use lib.ListN.{length};
 ghost use Rattle.lists.specs.Place.{found};
 use libc::STDOUT_FILENO;
 use lists::Place;
-use paper::Refusal;
 
 pub fn say(text: &[u8]) {
     io::write_all(STDOUT_FILENO, text);
@@ -16,11 +15,11 @@ pub fn say_number(n: u64) {
     io::print_decimal(STDOUT_FILENO, n);
 }
 
-pub fn say_refused(r: Refusal) {
+pub fn say_refused(number: u8, place: usize) {
     say(b"refused ");
-    say_number(r.number as u64);
+    say_number(number as u64);
     say(b" ");
-    say_number(r.place as u64);
+    say_number(place as u64);
     say(b"\n");
 }
 

@@ -4,7 +4,7 @@ use Prim.Native.Nat.{ℕ}
 use native.Mathlib.Omega.{arith}
 use lib.IntN.{ℤ}
 use Rattle.polygon.specs.Rings.{Row}
-use Rattle.content.specs.InRange.{Points}
+use Rattle.laws.specs.InRange.{Points}
 use Rattle.faces.specs.Filed.{Filed}
 
 pub filed-row : {xyz : List ℤ} {rows : List ℕ} {v r : ℕ} → Points xyz v → Filed rows v r → Row xyz rows r

@@ -3,7 +3,7 @@
 // with a digit for each: 1 where the two clash, and 2 more where the line's covers the other.
 ghost use Prim.Native.Nat.{ℕ, _<_};
 ghost use Rattle.polygon.specs.Rings.{Row, Face};
-ghost use Rattle.content.specs.InRange.{Points, InRange, Held};
+ghost use Rattle.laws.specs.InRange.{Points, InRange, Held};
 use clash::clash;
 use cover::covers;
 use drawing::drawing_rules;
@@ -60,7 +60,7 @@ fn show_list(xyz: &[i64], v: usize, list: &[u8])
     let faces = faces::read_faces(list, v);
     let answer = faces.answer;
     match answer {
-        Answer::Refused(r) => say_refused(r),
+        Answer::Refused(r) => say_refused(r.number, r.place),
         Answer::Fine => {
             let rows = faces.rows;
             show_faces(xyz, &rows, faces.count)
@@ -73,7 +73,7 @@ fn show_rules(xyz: &[i64], ends: &[u8])
 {
     let answer = drawing_rules(xyz, ends);
     match answer {
-        Answer::Refused(r) => say_refused(r),
+        Answer::Refused(r) => say_refused(r.number, r.place),
         Answer::Fine => say(b"fine\n"),
     }
 }
@@ -93,7 +93,7 @@ fn show(s: &[u8], list: &[u8]) {
     let read = sheet::read_sheet(s);
     let answer = read.answer;
     match answer {
-        Answer::Refused(r) => say_refused(r),
+        Answer::Refused(r) => say_refused(r.number, r.place),
         Answer::Fine => show_drawing(read.drawing, list),
     }
 }

@@ -41,7 +41,7 @@ fn show_drawing(v: usize, e: usize, xyz: [i64; paper::COORDINATES], ends: [u8; p
     say_number(e as u64);
     say(b"\n");
     match written {
-        Written::Refused(r) => say_refused(r),
+        Written::Refused(r) => say_refused(r.number, r.place),
         Written::Bytes(k) => say_bytes(&room, k),
     }
 }
@@ -50,7 +50,7 @@ fn show(s: &[u8]) {
     let read = sheet::read_sheet(s);
     let answer = read.answer;
     match answer {
-        Answer::Refused(r) => say_refused(r),
+        Answer::Refused(r) => say_refused(r.number, r.place),
         Answer::Fine => {
             let d = read.drawing;
             let xyz = d.xyz;

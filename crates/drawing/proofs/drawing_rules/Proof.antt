@@ -9,7 +9,7 @@ use borrow.Author.Needs.{needs}
 use Rattle.paper.specs.Drawing.{Wire, apart, drawingChecks, edgeMeets, ends, looseVertex, samePlace, wire}
 use Rattle.paper.specs.Format.{one}
 use Rattle.paper.specs.Refusals.{Apart, Check, EdgeMeets, LooseVertex, SamePlace, check, firstOf}
-use Rattle.content.specs.InRange.{Ends, Points}
+use Rattle.laws.specs.InRange.{Ends, Points}
 use Rattle.links.specs.Neighbours.{Links}
 use Rattle.laws.proofs.Checks.{first-stops, first-passes}
 use Rattle.drawing.proofs.Vertices.{vertex-count}

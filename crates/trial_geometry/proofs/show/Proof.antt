@@ -1,6 +1,6 @@
 -- `trial_geometry::show` meets its contract. Assumes nothing.
 use mathlib.Core.Path.{sym, ap, subst, _∙_}
-use Rattle.content.specs.InRange.{Held}
+use Rattle.laws.specs.InRange.{Held}
 use Rattle.paper.specs.declared.Sheet.{Sheet}
 use Rattle.sheet.proofs.Range.{read-range}
 use borrow.Author.Needs.{needs}

@@ -1,4 +1,4 @@
--- `cover::in_plane` meets its contract. Assumes nothing.
+-- `polygon::rings::in_plane` meets its contract. Assumes nothing.
 use mathlib.Core.Bool.{Bool, not}
 use mathlib.Core.Path.{_∙_, _≡_, ap, refl, sym}
 use Prim.Native.Nat.{_-_, _≤_}
@@ -11,13 +11,13 @@ use Rattle.lists.specs.Lists.{all}
 use Rattle.paper.specs.Points.{isZero, origin}
 use Rattle.paper.specs.Polygon.{Polygon, onePlane, side}
 use Rattle.paper.specs.declared.Point.{Point}
 use Rattle.polygon.specs.Rings.{cornerOf, ring}
 use Rattle.polygon.proofs.Planes.{face-normal, side-is}
 use Rattle.polygon.proofs.Rows.{corner-small, ring-least, ring-length}
 use Rattle.polygon.proofs.Sizes.{small-eq}
 use Rattle.polygon.proofs.Zeros.{reads-back}
-use Rattle.cover.proofs.in_plane.Statement.{statement}
-use Rattle.cover.proofs.in_plane.Tie as tie
+use Rattle.polygon.proofs.rings.in_plane.Statement.{statement}
+use Rattle.polygon.proofs.rings.in_plane.Tie as tie
 
 -- p is in the plane of g
 abbrev Level : Polygon → Point → Bool

@@ -1,0 +1,2 @@
+-- What contracts of several crates cite beside the paper. Assumes nothing.
+pub mod InRange
