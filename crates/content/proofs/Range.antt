@@ -1,29 +1,22 @@
 -- Lists that refusals 5 and 8 to 10 have nothing against are a drawing in range. Assumes nothing.
 use mathlib.Core.Path.{_≡_}
-use mathlib.Core.Bool.{false, or-false}
 use mathlib.Core.List.{List}
 use Prim.Native.Nat.{ℕ, _*_, _/_, _≤_}
 use native.Mathlib.Omega.{arith}
-use borrow.Author.Tests.{ltb-false}
-use lib.IntN.{ℤ, pos, negsuc}
-use lib.ListN.{length}
-use Rattle.exact.specs.Size.{Within}
-use Rattle.paper.specs.Numbers.{farthest}
+use lib.IntN.{ℤ, pos}
+use lib.ListN.{length, getD}
 use Rattle.paper.specs.Refusals.{firstOf}
 use Rattle.paper.specs.Format.{one}
-use Rattle.paper.specs.Sheet.{far, contentChecks, lentChecks}
+use Rattle.paper.specs.Sheet.{contentChecks, lentChecks}
 use Rattle.paper.specs.declared.Answer.the-variants.{Fine}
+use Rattle.laws.proofs.Coordinate.{in-reach}
 use Rattle.laws.specs.InRange.{Points, Ends, InRange}
 use Rattle.content.proofs.Lent.{contents, lent}
-
-near : (z : ℤ) → far z ≡ false → Within farthest z
-near (pos n) e = record { within = ltb-false 1000 n e }
-near (negsuc n) e = record { within = omega (arith, ltb-false 999 n (rw or-false at e)) }
 
 -- v vertices and e edges in number, and nothing against the contents
 module _ (xyz : List ℤ) (ends : List ℕ) (v e : ℕ) (three : length xyz ≡ 3 * v) (two : length ends ≡ 2 * e) (h : Fine ≡ firstOf (contentChecks v xyz ends)) where
   pub points-are : Points xyz v
-  points-are = record { whole = three; near = λ k. near _ (contents v xyz ends h .near k) }
+  points-are = record { whole = three; near = λ k. record { within = in-reach (getD xyz k (pos 0)) (contents v xyz ends h .near k) } }
 
   pub ends-are : 6 ≤ e → e ≤ one .emax → Ends ends v
   ends-are least most =

@@ -24,6 +24,7 @@ use lib.Ieee.{binary64, inFloat}
 use mir.Syntax.{w64}
 use mir.Val.{Fits, SFits, toZ, ofZ}
 use mir.ValLaws.{toZ-ofZ}
+use Rattle.lists.proofs.Truth.{three}
 use Rattle.exact.specs.Size.{Within}
 use Rattle.exact.specs.Signs.{eqZ}
 use Rattle.exact.proofs.Ring.{Expr, var, con, _⊕_, _⊖_, _⊗_, neg, eval}
@@ -82,11 +83,6 @@ small ns (neg a) = fitting (bound ns a) && small ns a
 both : (a b : Bool) → T (a && b) → T a × T b
 both true b t = (tt, t)
 both false b t = absurd t
-
-three : (a b c : Bool) → T (a && (b && c)) → T a × T b × T c
-three true true c t = (tt, tt, t)
-three true false c t = absurd t
-three false b c t = absurd t
 
 -- what the operation at the top of e asks
 abbrev pub Asked : List ℕ → Expr → Type 0

@@ -14,7 +14,7 @@ use Rattle.lists.proofs.Truth.{and-left, and-right, and-both}
 use Rattle.paper.specs.Loops.{Loop}
 use Rattle.paper.specs.FaceList.{faceBits, span, bitsOf, rowAt, solidFaces}
 use Rattle.paper.specs.declared.Format.{Format}
-use Rattle.faces_writer.specs.Send.{digit, faceOf, faceAlone, fits}
+use Rattle.faces_writer.specs.Send.{marked, faceOf, faceAlone, fits}
 use Rattle.faces_writer.proofs.Fits.{way-length, way-fits}
 use Rattle.faces_writer.proofs.Weight.{facesLeft, faces-start, faces-next, faces-end}
 
@@ -65,20 +65,20 @@ module _ (f : Format) where
 
   module _ (rows : List ℕ) (taken turned : ℕ) where
     -- a candidate that is taken, and one that is not
-    module _ (k : ℕ) (e : digit taken k ≡ true) where
+    module _ (k : ℕ) (e : marked taken k ≡ true) where
       pub taken-fits : all (fits f) (faceAlone rows taken turned k) ≡ true → fits f (rowAt rows k) ≡ true
       unfolding faceAlone keep all
-      taken-fits h = sym (way-fits f (f .vmax) (digit turned k) (rowAt rows k)) ∙ and-left (fits f (faceOf rows turned k)) true (rw e at h)
+      taken-fits h = sym (way-fits f (f .vmax) (marked turned k) (rowAt rows k)) ∙ and-left (fits f (faceOf rows turned k)) true (rw e at h)
 
       pub taken-span : 4 + f .nw * length (rowAt rows k) ≡ span f (faceAlone rows taken turned k)
       unfolding faceAlone keep span
-      taken-span = rw (e, way-length (digit turned k) (rowAt rows k)) (omega arith)
+      taken-span = rw (e, way-length (marked turned k) (rowAt rows k)) (omega arith)
 
       pub taken-bits : faceBits f (faceOf rows turned k) ≡ flatMap (faceBits f) (faceAlone rows taken turned k)
       unfolding faceAlone keep flatMap
       taken-bits = rw e (sym (append-nil (faceBits f (faceOf rows turned k))))
 
-    module _ (k : ℕ) (e : digit taken k ≡ false) where
+    module _ (k : ℕ) (e : marked taken k ≡ false) where
       pub left-span : (b : ℕ) → b ≡ b + span f (faceAlone rows taken turned k)
       unfolding faceAlone keep span
       left-span b = rw e (omega arith)
@@ -105,16 +105,16 @@ module _ (f : Format) where
           }
 
       module _ (k b : ℕ) (last : List ℕ) (h : k < 64) (s : Sending k b last) where
-        more : facesLeft f rows taken turned k ≡ keep (digit taken k) (faceOf rows turned k) (facesLeft f rows taken turned (k + 1))
+        more : facesLeft f rows taken turned k ≡ keep (marked taken k) (faceOf rows turned k) (facesLeft f rows taken turned (k + 1))
         more = faces-next f rows taken turned k h
 
         pub send-fits : all (fits f) (faceAlone rows taken turned k) ≡ true
         unfolding faceAlone
-        send-fits = keep-fit (digit taken k) (faceOf rows turned k) (facesLeft f rows taken turned (k + 1)) (sym (ap (all (fits f)) more) ∙ s .fit) .0
+        send-fits = keep-fit (marked taken k) (faceOf rows turned k) (facesLeft f rows taken turned (k + 1)) (sym (ap (all (fits f)) more) ∙ s .fit) .0
 
         split : span f (facesLeft f rows taken turned k) ≡ span f (faceAlone rows taken turned k) + span f (facesLeft f rows taken turned (k + 1))
         unfolding faceAlone
-        split = ap (span f) more ∙ keep-span (digit taken k) (faceOf rows turned k) (facesLeft f rows taken turned (k + 1))
+        split = ap (span f) more ∙ keep-span (marked taken k) (faceOf rows turned k) (facesLeft f rows taken turned (k + 1))
 
         pub send-inside : b + span f (faceAlone rows taken turned k) ≤ bitsOf f (solidFaces rows taken turned)
         send-inside = omega (arith, s .place, split)
@@ -123,15 +123,15 @@ module _ (f : Format) where
             → run 8 next ≡ over (run 8 last) b (flatMap (faceBits f) (faceAlone rows taken turned k)) → Sending (k + 1) c next
         unfolding faceAlone
         send-next {c} next m e q =
-            let one = keep (digit taken k) (faceOf rows turned k) [] in
+            let one = keep (marked taken k) (faceOf rows turned k) [] in
             let rest = facesLeft f rows taken turned (k + 1) in
             let x = flatMap (faceBits f) one in
             let y = flatMap (faceBits f) rest in
             let n : c ≡ b + length x = e ∙ ap (λ (j : ℕ). b + j) (sym (length-bits-of one)) in
-            let w : flatMap (faceBits f) (facesLeft f rows taken turned k) ≡ x ++ y = ap (flatMap (faceBits f)) more ∙ keep-bits (digit taken k) (faceOf rows turned k) rest in
+            let w : flatMap (faceBits f) (facesLeft f rows taken turned k) ≡ x ++ y = ap (flatMap (faceBits f)) more ∙ keep-bits (marked taken k) (faceOf rows turned k) rest in
             record {
               left = over-next (run 8 last) b x c y (run 8 next) (over (run 8 next) c y) m n q refl ∙ ap (over (run 8 last) b) (sym w) ∙ s .left;
-              fit = keep-fit (digit taken k) (faceOf rows turned k) rest (sym (ap (all (fits f)) more) ∙ s .fit) .1;
+              fit = keep-fit (marked taken k) (faceOf rows turned k) rest (sym (ap (all (fits f)) more) ∙ s .fit) .1;
               place = omega (arith, s .place, split, e);
             }
 

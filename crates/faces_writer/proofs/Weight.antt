@@ -14,7 +14,7 @@ use Rattle.paper.specs.Loops.{Loop}
 use Rattle.paper.specs.FaceList.{span, rowAt, solidFaces}
 use Rattle.paper.specs.declared.Format.{Format}
 use Rattle.faces.specs.Face.{Brief}
-use Rattle.faces_writer.specs.Send.{digit, faceOf, faceAlone, fits, cornersOf, weight}
+use Rattle.faces_writer.specs.Send.{marked, faceOf, faceAlone, fits, cornersOf, weight}
 use Rattle.faces_writer.specs.declared.write.Extent.{Extent}
 use Rattle.faces_writer.specs.declared.write.Extent.the-variants.{Misfit, Of}
 use Rattle.faces.proofs.Brief.{corners-small}
@@ -87,22 +87,22 @@ module _ (f : Format) where
 
   module _ (rows : List ℕ) (taken : ℕ) where
     -- one candidate: not taken, no face, a face
-    pub weigh-left : (k : ℕ) → digit taken k ≡ false → (turned : ℕ) → Of 0 0 ≡ weight f (faceAlone rows taken turned k)
+    pub weigh-left : (k : ℕ) → marked taken k ≡ false → (turned : ℕ) → Of 0 0 ≡ weight f (faceAlone rows taken turned k)
     unfolding faceAlone keep
     weigh-left k e turned = rw e (sym weight-none)
 
-    weigh-one : (k turned : ℕ) → digit taken k ≡ true → cond (fits f (rowAt rows k)) (Of 1 (4 + f .nw * length (rowAt rows k))) Misfit ≡ weight f (faceAlone rows taken turned k)
+    weigh-one : (k turned : ℕ) → marked taken k ≡ true → cond (fits f (rowAt rows k)) (Of 1 (4 + f .nw * length (rowAt rows k))) Misfit ≡ weight f (faceAlone rows taken turned k)
     unfolding faceAlone keep weight all span
     weigh-one k turned e =
         let l = rowAt rows k in
-        let b = digit turned k in
+        let b = marked turned k in
         rw (e, way-fits f (f .vmax) b l, way-length b l) (go (fits f l))
       where
         go : (b : Bool) → cond b (Of 1 (4 + f .nw * length (rowAt rows k))) Misfit ≡ cond (b && true) (Of 1 (4 + f .nw * length (rowAt rows k) + 0)) Misfit
         go true = of refl (omega arith)
         go false = refl
 
-    pub weigh-none : (k : ℕ) → digit taken k ≡ true → none ≡ cornersOf f (rowAt rows k) → (turned : ℕ) → Misfit ≡ weight f (faceAlone rows taken turned k)
+    pub weigh-none : (k : ℕ) → marked taken k ≡ true → none ≡ cornersOf f (rowAt rows k) → (turned : ℕ) → Misfit ≡ weight f (faceAlone rows taken turned k)
     unfolding cornersOf
     weigh-none k e q turned = go (fits f (rowAt rows k)) q (weigh-one k turned e)
       where
@@ -111,7 +111,7 @@ module _ (f : Format) where
         go true q w = let z : _≡_ {A = ℕ} 0 1 = cc in absurd (omega arith)
         go false q w = w
 
-    pub weigh-face : (k : ℕ) {c : ℕ} → digit taken k ≡ true → some c ≡ cornersOf f (rowAt rows k) → (turned : ℕ) → Of 1 (4 + f .nw * c) ≡ weight f (faceAlone rows taken turned k)
+    pub weigh-face : (k : ℕ) {c : ℕ} → marked taken k ≡ true → some c ≡ cornersOf f (rowAt rows k) → (turned : ℕ) → Of 1 (4 + f .nw * c) ≡ weight f (faceAlone rows taken turned k)
     unfolding cornersOf
     weigh-face k {c} e q turned = go (fits f (rowAt rows k)) q (weigh-one k turned e)
       where
@@ -122,19 +122,19 @@ module _ (f : Format) where
 
     -- the faces from candidate k on
     unfoldable pub facesLeft : ℕ → ℕ → List Loop
-    facesLeft turned k = keptFrom (faceOf rows turned) (digit taken) 64 k
+    facesLeft turned k = keptFrom (faceOf rows turned) (marked taken) 64 k
 
     pub faces-start : (turned : ℕ) → solidFaces rows taken turned ≡ facesLeft turned 0
     unfolding solidFaces facesLeft
-    faces-start turned = kept-start (faceOf rows turned) (digit taken) 64
+    faces-start turned = kept-start (faceOf rows turned) (marked taken) 64
 
-    pub faces-next : (turned k : ℕ) → k < 64 → facesLeft turned k ≡ keep (digit taken k) (faceOf rows turned k) (facesLeft turned (k + 1))
+    pub faces-next : (turned k : ℕ) → k < 64 → facesLeft turned k ≡ keep (marked taken k) (faceOf rows turned k) (facesLeft turned (k + 1))
     unfolding facesLeft
-    faces-next turned k h = kept-next (faceOf rows turned) (digit taken) 64 k h
+    faces-next turned k h = kept-next (faceOf rows turned) (marked taken) 64 k h
 
     pub faces-end : (turned k : ℕ) → 64 ≤ k → facesLeft turned k ≡ []
     unfolding facesLeft
-    faces-end turned k h = kept-end (faceOf rows turned) (digit taken) 64 k h
+    faces-end turned k h = kept-end (faceOf rows turned) (marked taken) 64 k h
 
     -- what is weighed and what is left give the whole
     abbrev pub Passed : ℕ → ℕ → ℕ → Type 0
@@ -149,7 +149,7 @@ module _ (f : Format) where
     module _ (k n s : ℕ) (h : k < 64) (r : Passed k n s) where
       split : (turned : ℕ) → weight f (solidFaces rows taken turned) ≡ plus (Of n s) (plus (weight f (faceAlone rows taken turned k)) (weight f (facesLeft turned (k + 1))))
       unfolding faceAlone
-      split turned = r turned ∙ ap (plus (Of n s)) (ap (weight f) (faces-next turned k h) ∙ weight-keep (digit taken k) (faceOf rows turned k) (facesLeft turned (k + 1)))
+      split turned = r turned ∙ ap (plus (Of n s)) (ap (weight f) (faces-next turned k h) ∙ weight-keep (marked taken k) (faceOf rows turned k) (facesLeft turned (k + 1)))
 
       pub passed-next : {m b : ℕ} → One k (Of m b) → Passed (k + 1) (n + m) (s + b)
       passed-next {m} {b} o turned =
@@ -166,9 +166,9 @@ module _ (f : Format) where
     pub one-small : Brief f → (k : ℕ) {m b : ℕ} → One k (Of m b) → (m ≤ 1) × (b ≤ 100)
     unfolding faceAlone keep
     one-small g k {m} {b} o =
-        let fs = keep (digit taken k) (faceOf rows 0 k) [] in
+        let fs = keep (marked taken k) (faceOf rows 0 k) [] in
         let w = weighed fs (o 0) in
-        let c : length fs ≤ 1 = few (digit taken k) (faceOf rows 0 k) in
+        let c : length fs ≤ 1 = few (marked taken k) (faceOf rows 0 k) in
         let d : span f fs ≤ 100 * length fs = span-small g fs (w .fit) in
         (omega (arith, w .count-is), omega (arith, w .span-is))
       where

@@ -17,16 +17,16 @@ use Rattle.faces_writer.specs.declared.write.Extent.the-variants.{Misfit
 abbrev pub way : Bool → Loop → Loop
 way b l = cond b (flipped l) l
 
--- digit k of a word
-abbrev pub digit : ℕ → ℕ → Bool
-digit w k = dig (bits mostCandidates w) k
+-- a word has the bit of candidate k
+abbrev pub marked : ℕ → ℕ → Bool
+marked w k = dig (bits mostCandidates w) k
 
 -- candidate k as a solid has it, and as the list of one or of none
 abbrev pub faceOf : List ℕ → ℕ → ℕ → Loop
-faceOf rows turned k = way (digit turned k) (rowAt rows k)
+faceOf rows turned k = way (marked turned k) (rowAt rows k)
 
 unfoldable pub faceAlone : List ℕ → ℕ → ℕ → ℕ → List Loop
-faceAlone rows taken turned k = keep (digit taken k) (faceOf rows turned k) []
+faceAlone rows taken turned k = keep (marked taken k) (faceOf rows turned k) []
 
 module _ (f : Format) where
   -- a face that a list can have

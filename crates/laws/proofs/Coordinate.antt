@@ -4,7 +4,7 @@ use mathlib.Core.Bool.{Bool, true, false, or-false}
 use mathlib.Core.Logic.{_⊎_, ⊎-elim}
 use Prim.Native.Nat.{ℕ, suc, _+_, _-_, _≤_, _<_}
 use native.Mathlib.Omega.{arith}
-use lib.IntN.{ℤ, pos, negsuc, _+ℤ_}
+use lib.IntN.{ℤ, pos, negsuc, natAbs, _+ℤ_}
 use lib.Signed.{mag}
 use lib.Dec.{ltb}
 use borrow.Author.Tests.{lt-ltb, le-ltb, ltb-true, ltb-false}
@@ -39,13 +39,18 @@ onSheet-coordinate n =
     plus : (k : ℕ) → onSheet (pos k) ≡ k + 1000
     plus k = refl
 
+-- what refusal 8 leaves
+pub in-reach : (z : ℤ) → far z ≡ false → natAbs z ≤ 1000
+in-reach (pos n) e = ltb-false 1000 n e
+in-reach (negsuc n) e = omega (arith, ltb-false 999 n (rw or-false at e))
+
 pub near : (z : ℤ) → far z ≡ false → (onSheet z ≤ 2000) × (coordinate (onSheet z) ≡ z)
 near (pos n) e =
-    let h : n ≤ 1000 = ltb-false 1000 n e in
+    let h : n ≤ 1000 = in-reach (pos n) e in
     let d : n + 1000 - 1000 ≡ n = omega arith in
     (omega arith, coordinate-high (n + 1000) (omega arith) ∙ ap pos d)
 near (negsuc n) e =
-    let h : n < 1000 = omega (arith, ltb-false 999 n (rw or-false at e)) in
+    let h : n < 1000 = in-reach (negsuc n) e in
     let d : 1000 - suc (1000 - suc n) ≡ n = omega arith in
     let m : onSheet (negsuc n) ≡ 1000 - suc n = neg-on n h in
     (omega (arith, m), ap coordinate m ∙ coordinate-low (1000 - suc n) (omega arith) ∙ ap negsuc d)
@@ -53,5 +58,5 @@ near (negsuc n) e =
 pub near-pos : (z : ℤ) → far z ≡ false → z +ℤ pos 1000 ≡ pos (onSheet z)
 near-pos (pos n) e = refl
 near-pos (negsuc n) e =
-    let h : n < 1000 = omega (arith, ltb-false 999 n (rw or-false at e)) in
+    let h : n < 1000 = in-reach (negsuc n) e in
     rw (le-ltb 1000 (suc n) h) refl

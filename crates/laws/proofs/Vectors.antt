@@ -3,12 +3,13 @@
 -- finds one normal form for the coordinates of both:
 --     vring (vec p ∷ vec q ∷ []) (v 0 · (v 0 ×v v 1)) (k (pos 0)) tt : dot p (cross p q) ≡ pos 0
 use mathlib.Core.Path.{_≡_, refl, sym, _∙_}
-use mathlib.Core.Bool.{Bool, true, false, _&&_}
+use mathlib.Core.Bool.{Bool, _&&_}
 use mathlib.Core.List.{List, [], _∷_}
 use Prim.Native.Nat.{ℕ, zero, suc}
 use lib.Dec.{T}
 use lib.ListN.{getD}
 use lib.IntN.{ℤ, pos, negℤ, _+ℤ_, _-ℤ_, _*ℤ_}
+use Rattle.lists.proofs.Truth.{three}
 use Rattle.exact.proofs.Ring.{Expr, var, con, _⊕_, _⊖_, _⊗_, neg, eval, norm, allZ, ring}
 use Rattle.paper.specs.Points.{pt, origin, plus, minus, times, dot, cross, det}
 use Rattle.paper.specs.declared.Point.{Point}
@@ -152,11 +153,6 @@ sound ρ (a ×v b) = λ i. cross (sound ρ a i) (sound ρ b i)
 abbrev pub agree : (s : Sort) → Coord s → Coord s → Bool
 agree scalar a b = allZ (norm (a ⊖ b))
 agree vector a b = allZ (norm (a .ex ⊖ b .ex)) && (allZ (norm (a .ey ⊖ b .ey)) && allZ (norm (a .ez ⊖ b .ez)))
-
-three : (a b c : Bool) → T (a && (b && c)) → T a × T b × T c
-three true true c t = (tt, tt, t)
-three true false c t = absurd t
-three false b c t = absurd t
 
 at-coords : (s : Sort) (ρ : List Val) (a b : Den s) (e f : Coord s) → Same s ρ a e → Same s ρ b f → T (agree s e f) → a ≡ b
 at-coords scalar ρ a b e f p q t = p ∙ ring (flat ρ) e f t ∙ sym q

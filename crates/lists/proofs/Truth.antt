@@ -39,6 +39,11 @@ is-true {a} t = go a t
     go true u = refl
     go false u = absurd u
 
+pub three : (a b c : Bool) → T (a && (b && c)) → T a × T b × T c
+three true true c t = (tt, tt, t)
+three true false c t = absurd t
+three false b c t = absurd t
+
 pub never : (a : Bool) → (a ≡ true → ⊥) → a ≡ false
 never true f = absurd (f refl)
 never false f = refl

@@ -9,11 +9,12 @@ use lib.ListN.{length, getD, length-append, replicate, length-replicate}
 use lib.Bits.{bitAnd, bitOr, and-mask}
 use lib.Dec.{eqb}
 use lib.Count.{ones, onesIn, ones-le, trailingZeros}
-use Rattle.sets.specs.Word.{bit, word, bits, dig, count, first, both, either, less, only}
+use Rattle.sets.specs.Word.{word, bits, digit, dig, count, first, both, either, less, only}
 use Rattle.sets.specs.Sets.{room, packedSet, Is, digitsOf, size, Joint, Minus, Counted, Lowest, Dropped, EdgeSet, maskAt}
 use Rattle.sets.specs.declared.Set.{Set}
 use Rattle.sets.proofs.Digits.{length-both, length-either, length-less, length-only, count-less, count-only, first-lt, first-in}
-use Rattle.sets.proofs.Word.{and-word, or-word, less-word, ones-word, only-word, bit-word, trailing-word, length-bits, word-bits, full-word, none-word, word-more}
+use Rattle.sets.proofs.Numbers.{digit-word}
+use Rattle.sets.proofs.Word.{and-word, or-word, less-word, ones-word, only-word, trailing-word, length-bits, word-bits, full-word, none-word, word-more}
 
 -- ---- the word and the digits
 
@@ -120,13 +121,9 @@ module _ {x : Set} (k : ℕ) (h : k < room) (b : ℕ) (e : b ≡ 2 ^ k) where
         same = f;
       }
 
-eqb-bit : (b : Bool) → eqb (bit b) 1 ≡ b
-eqb-bit true = refl
-eqb-bit false = refl
-
 pub has-is : {x : Set} (k : ℕ) (a : List Bool) → Is x a → eqb (bitAnd (x .bits / 2 ^ k) 1) 1 ≡ dig a k
-has-is {x} k a i =
-    ap (λ (v : ℕ). eqb v 1) (and-mask (x .bits / 2 ^ k) 1 ∙ ap (λ (v : ℕ). v / 2 ^ k % 2) (bits-are i) ∙ bit-word a k) ∙ eqb-bit (dig a k)
+unfolding digit
+has-is {x} k a i = ap (λ (v : ℕ). eqb v 1) (and-mask (x .bits / 2 ^ k) 1 ∙ ap (λ (v : ℕ). v / 2 ^ k % 2) (bits-are i)) ∙ digit-word a k
 
 -- one digit more at the top
 pub is-more : {x : Set} (a : List Bool) → length a < room → Is x a → Is x (a ++ (false ∷ []))
