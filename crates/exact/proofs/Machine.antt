@@ -15,8 +15,7 @@ use mathlib.Core.Bool.{Bool, true, false, not, _&&_}
 use mathlib.Core.List.{List, [], _∷_}
 use Prim.Native.Nat.{ℕ, zero, suc, _+_, _*_, _^_, _≤_}
 use native.Mathlib.Nat.{le-refl, le-trans, lt-trans, lt-of-le-of-lt}
-use borrow.Author.Tests.{eqb-true, eqb-false}
-use lib.Dec.{T, leb, ltb, eqb, leb→le, le→leb, lt→ltb, ltb→lt, lit<}
+use lib.Dec.{T, leb, ltb, leb→le, le→leb, lt→ltb, ltb→lt, lit<}
 use lib.ListN.{getD}
 use lib.IntN.{ℤ, pos, negsuc, negℤ, natAbs, _+ℤ_, _-ℤ_, _*ℤ_, +ℤ-idl}
 use lib.Signed.{ltZ, nonNeg, _<ℤ_, _≤ℤ_, ltZ-yes, ltZ-no, yes-nonNeg}
@@ -26,10 +25,8 @@ use mir.Val.{Fits, SFits, toZ, ofZ}
 use mir.ValLaws.{toZ-ofZ}
 use Rattle.lists.proofs.Truth.{three}
 use Rattle.exact.specs.Size.{Within}
-use Rattle.exact.specs.Signs.{eqZ}
 use Rattle.exact.proofs.Ring.{Expr, var, con, _⊕_, _⊖_, _⊗_, neg, eval}
 use Rattle.exact.proofs.Size.{within-add, within-sub, within-mul, within-neg, within-lit, within-up, fits-within}
-use Rattle.exact.proofs.Signs.{eqZ-refl, eqZ-false}
 
 infixr 5 _▸_
 -- each local holds its number's bits, and the number is within its bound
@@ -231,21 +228,3 @@ in-double (negsuc k) h p = lt→ltb k (2 ^ 53) (le-trans (p .within) h)
 
 pub to-f64 : {k n : ℕ} {z : ℤ} → Reads k z → T (leb n (2 ^ 53)) → Within n z → T (inFloat binary64 (toZ w64 k))
 to-f64 {k} {n} {z} r t h = subst (λ (y : ℤ). T (inFloat binary64 y)) (sym (r .reading)) (in-double z (leb→le n (2 ^ 53) t) h)
-
--- ---- a test that is returned
-
--- `==` of the bits is `==` of the numbers
-pub eqb-eqZ : {a b : ℤ} → SFits w64 a → SFits w64 b → eqb (ofZ w64 a) (ofZ w64 b) ≡ eqZ a b
-eqb-eqZ {a} {b} p q = go (eqb (ofZ w64 a) (ofZ w64 b)) refl
-  where
-    go : (t : Bool) → eqb (ofZ w64 a) (ofZ w64 b) ≡ t → t ≡ eqZ a b
-    go true e = sym (eqZ-refl (eq-taken (plain p) (plain q) (eqb-true (ofZ w64 a) (ofZ w64 b) e)))
-    go false e = sym (eqZ-false a b (eq-left a b (eqb-false (ofZ w64 a) (ofZ w64 b) e)))
-
--- `==` and `!=` of two expressions: the test's fact is of their bits
-module _ {ns κ : List ℕ} {ρ : List ℤ} (env : Env ns κ ρ) (a b : Expr) (s : T (small ns a)) (t : T (small ns b)) where
-  pub same-taken : bits κ a ≡ bits κ b → eval ρ a ≡ eval ρ b
-  same-taken e = sym (reads env a s) ∙ ap (λ (n : ℕ). toZ w64 n) e ∙ reads env b t
-
-  pub same-left : (bits κ a ≡ bits κ b → ⊥) → eval ρ a ≡ eval ρ b → ⊥
-  same-left h e = h (held env a s ∙ ap (ofZ w64) e ∙ sym (held env b t))

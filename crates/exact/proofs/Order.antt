@@ -26,9 +26,6 @@ sub-nonneg {a} {b} h = let ρ = a ∷ b ∷ [] in le-by ρ (con (pos 0)) (var 1 
 le-of-sub : (a b : ℤ) → pos 0 ≤ℤ (b -ℤ a) → a ≤ℤ b
 le-of-sub a b h = let ρ = a ∷ b ∷ [] in le-by ρ (var 0) (var 1) (omega (arith, le-to ρ (con (pos 0)) (var 1 ⊖ var 0) h))
 
-pub neg-pos : {a : ℤ} → a <ℤ pos 0 → pos 0 <ℤ negℤ a
-neg-pos {a} h = let ρ = a ∷ [] in lt-by ρ (con (pos 0)) (neg (var 0)) (omega (arith, lt-to ρ (var 0) (con (pos 0)) h))
-
 pub neg-lt : {a : ℤ} → pos 0 <ℤ a → negℤ a <ℤ pos 0
 neg-lt {a} h = let ρ = a ∷ [] in lt-by ρ (neg (var 0)) (con (pos 0)) (omega (arith, lt-to ρ (con (pos 0)) (var 0) h))
 

@@ -1,4 +1,4 @@
--- Signs of whole numbers, zero products, equality and orders as tests, and the orders `<` and `≤`: from each to the others. Assumes nothing.
+-- Signs of whole numbers, zero products, orders as tests, and the orders `<` and `≤`: from each to the others. Assumes nothing.
 use mathlib.Core.Path.{_≡_, refl, sym, _∙_, ap, subst}
 use mathlib.Core.Bool.{Bool, true, false, not}
 use mathlib.Core.Logic.{_⊎_, inl, inr}
@@ -9,10 +9,8 @@ use lib.Dec.{T, leb→le, le→leb, ltb→lt, lt→ltb, nleb→lt}
 use lib.IntN.{ℤ, pos, negsuc, negℤ, _+ℤ_, _-ℤ_, _*ℤ_, zero-*ℤ, *ℤ-zero, +ℤ-invr}
 use lib.Signed.{leZ, ltZ, _≤ℤ_, _<ℤ_, <ℤ-irrefl, ltZ-no, ltZ-yes, leZ-yes}
 use Rattle.lists.proofs.Truth.{is-true}
-use Rattle.exact.specs.Size.{Within}
-use Rattle.exact.specs.Signs.{Sign3, below, level, above, sign, unit, turned, product, isLevel, eqZ}
+use Rattle.exact.specs.Signs.{Sign3, below, level, above, sign, turned, product}
 use Rattle.exact.proofs.Laws.{mul-addℤ, mul-negℤ, eq-of-sub}
-use Rattle.exact.proofs.Size.{within-lit}
 
 -- ---- the sign
 
@@ -117,19 +115,6 @@ square-zero a e = go (zero-product a a e)
     go (inl h) = h
     go (inr h) = h
 
--- ---- equality as a test
-
-pub eqZ-refl : {a b : ℤ} → a ≡ b → eqZ a b ≡ true
-eqZ-refl {a} {b} e = ap (λ (z : ℤ). isLevel (sign (z -ℤ b))) e ∙ ap (λ (z : ℤ). isLevel (sign z)) (+ℤ-invr b)
-
-level-no : (s : Sign3) → (s ≡ level → ⊥) → isLevel s ≡ false
-level-no below h = refl
-level-no level h = absurd (h refl)
-level-no above h = refl
-
-pub eqZ-false : (a b : ℤ) → (a ≡ b → ⊥) → eqZ a b ≡ false
-eqZ-false a b h = level-no (sign (a -ℤ b)) (λ e. h (eq-of-sub a b (level-eq (a -ℤ b) e)))
-
 -- ---- the orders as tests
 
 pub lt-yes : {a b : ℤ} → ltZ a b ≡ true → a <ℤ b
@@ -194,14 +179,3 @@ lt-subst {a} {b} {c} {d} p q h = subst (λ (z : ℤ). c <ℤ z) q (subst (λ (z 
 
 pub le-subst : {a b c d : ℤ} → a ≡ c → b ≡ d → a ≤ℤ b → c ≤ℤ d
 le-subst {a} {b} {c} {d} p q h = subst (λ (z : ℤ). c ≤ℤ z) q (subst (λ (z : ℤ). z ≤ℤ b) p h)
-
--- ---- -1, 0 and 1 as numbers
-
-unit-within : (s : Sign3) → Within 1 (unit s)
-unit-within below = within-lit tt
-unit-within level = within-lit tt
-unit-within above = within-lit tt
-
--- a number that is -1, 0 or 1
-pub unit-of : {r : ℤ} (s : Sign3) → r ≡ unit s → Within 1 r
-unit-of s e = subst (λ (z : ℤ). Within 1 z) (sym e) (unit-within s)
