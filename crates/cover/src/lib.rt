@@ -2,9 +2,9 @@
 ghost use mathlib.Core.Path.{_≡_};
 ghost use Rattle.paper.specs.Polygon.{covers};
 ghost use Rattle.polygon.specs.Rings.{ring, Row, Face};
+use inside::lies;
 use paper::Point;
 use paper::Where;
-use place::lies;
 use polygon::points::plus;
 use polygon::rings::corner;
 use polygon::rings::count;

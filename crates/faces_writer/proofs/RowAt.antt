@@ -15,8 +15,8 @@ use Rattle.paper.specs.Loops.{Loop}
 use Rattle.paper.specs.FaceList.{faceFits, rowAt}
 use Rattle.paper.specs.declared.Format.{Format}
 use Rattle.faces_writer.specs.Send.{way, fits, cornersOf}
-use Rattle.laws.proofs.Limits.{outside-false}
-use Rattle.faces.proofs.Shape.{face-yes}
+use Rattle.paper_laws.proofs.Limits.{outside-false}
+use Rattle.faces_laws.proofs.Shape.{face-yes}
 use Rattle.faces_writer.proofs.Fits.{way-first, way-back}
 
 -- ---- numbers from place i on

@@ -14,29 +14,13 @@ use Rattle.lists.proofs.Truth.{and-left, and-right, and-both}
 use Rattle.paper.specs.Loops.{Loop}
 use Rattle.paper.specs.FaceList.{faceBits, span, bitsOf, rowAt, solidFaces}
 use Rattle.paper.specs.declared.Format.{Format}
+use Rattle.faces_laws.proofs.Packed.{length-bits-of}
 use Rattle.faces_writer.specs.Send.{marked, faceOf, faceAlone, fits}
 use Rattle.faces_writer.proofs.Fits.{way-length, way-fits}
 use Rattle.faces_writer.proofs.Weight.{facesLeft, faces-start, faces-next, faces-end}
 
 module _ (f : Format) where
-  -- ---- the bits of faces
-
-  pub length-face : (l : Loop) → length (faceBits f l) ≡ 4 + f .nw * length l
-  unfolding faceBits
-  length-face l =
-      length-append (bits 4 (length l)) (run (f .nw) l) ∙ ap₂ (λ (x y : ℕ). x + y) (length-bits 4 (length l)) (length-run (f .nw) l ∙ mul-comm (length l) (f .nw))
-
-  pub length-bits-of : (fs : List Loop) → length (flatMap (faceBits f) fs) ≡ span f fs
-  unfolding flatMap span
-  length-bits-of [] = refl
-  length-bits-of (l ∷ fs) = length-append (faceBits f l) (flatMap (faceBits f) fs) ∙ ap₂ (λ (x y : ℕ). x + y) (length-face l) (length-bits-of fs)
-
-  pub under-bits-of : (fs : List Loop) → Under 2 (flatMap (faceBits f) fs)
-  unfolding flatMap faceBits
-  under-bits-of [] i = omega arith
-  under-bits-of (l ∷ fs) i =
-      under-append 2 (bits 4 (length l) ++ run (f .nw) l) (flatMap (faceBits f) fs)
-      (under-append 2 (bits 4 (length l)) (run (f .nw) l) (under-bits 4 (length l)) (under-run (f .nw) l)) (under-bits-of fs) i
+  -- ---- the bits of a face
 
   -- the count and the corners of one face
   pub face-put : (l m : Loop) (c : ℕ) (d : List ℕ) (b : ℕ) {r s : List ℕ} → l ≡ m → length l ≡ c → b ≤ length d → r ≡ over d b (bits 4 c) → s ≡ over r (b + 4) (run (f .nw) m)
@@ -127,7 +111,7 @@ module _ (f : Format) where
             let rest = facesLeft f rows taken turned (k + 1) in
             let x = flatMap (faceBits f) one in
             let y = flatMap (faceBits f) rest in
-            let n : c ≡ b + length x = e ∙ ap (λ (j : ℕ). b + j) (sym (length-bits-of one)) in
+            let n : c ≡ b + length x = e ∙ ap (λ (j : ℕ). b + j) (sym (length-bits-of f one)) in
             let w : flatMap (faceBits f) (facesLeft f rows taken turned k) ≡ x ++ y = ap (flatMap (faceBits f)) more ∙ keep-bits (marked taken k) (faceOf rows turned k) rest in
             record {
               left = over-next (run 8 last) b x c y (run 8 next) (over (run 8 next) c y) m n q refl ∙ ap (over (run 8 last) b) (sym w) ∙ s .left;

@@ -9,7 +9,7 @@ use lib.ListN.{length, drop, length-append}
 use Rattle.pack.specs.Bits.{bits, run, over, Under}
 use Rattle.pack.proofs.Laws.{length-bits, under-bits, under-append}
 use Rattle.pack.proofs.Over.{over-next}
-use Rattle.laws.proofs.Checks.{holds, fails, clear}
+use Rattle.paper_laws.proofs.Checks.{holds, fails, clear}
 use Rattle.lists.specs.Lists.{all}
 use Rattle.paper.specs.Refusals as No
 use Rattle.paper.specs.Refusals.{firstOf}
@@ -20,32 +20,12 @@ use Rattle.paper.specs.declared.Format.{Format}
 use Rattle.paper.specs.declared.Answer.{Answer}
 use Rattle.paper.specs.declared.Written.{Written}
 use Rattle.paper.specs.declared.Written.the-variants as Written
-use Rattle.sheet_writer.proofs.Encoded.{filled-is}
+use Rattle.sheet_laws.proofs.Encoded.{filled-is}
 use Rattle.faces_writer.specs.Send.{fits}
-use Rattle.faces_writer.proofs.SendFaces.{length-bits-of, under-bits-of}
+use Rattle.faces_laws.proofs.Packed.{length-head, length-list, under-list}
 
 module _ (f : Format) (fs : List Loop) where
-  -- ---- the list's bits
-
-  abbrev head : List ℕ
-  head = bits 4 (f .edition) ++ bits (f .fw) (length fs)
-
-  length-head : length head ≡ 4 + f .fw
-  length-head = length-append (bits 4 (f .edition)) (bits (f .fw) (length fs)) ∙ ap₂ (λ (x y : ℕ). x + y) (length-bits 4 (f .edition)) (length-bits (f .fw) (length fs))
-
-  pub size-is : {b : ℕ} → b ≡ span f fs → 4 + f .fw + b ≡ bitsOf f fs
-  unfolding bitsOf
-  size-is e = ap (λ (n : ℕ). 4 + f .fw + n) e
-
-  pub length-list : length (listBits f fs) ≡ bitsOf f fs
-  unfolding listBits bitsOf
-  length-list = length-append head (flatMap (faceBits f) fs) ∙ ap₂ (λ (x y : ℕ). x + y) length-head (length-bits-of f fs)
-
-  pub under-list : Under 2 (listBits f fs)
-  unfolding listBits
-  under-list =
-      under-append 2 head (flatMap (faceBits f) fs)
-      (under-append 2 (bits 4 (f .edition)) (bits (f .fw) (length fs)) (under-bits 4 (f .edition)) (under-bits (f .fw) (length fs))) (under-bits-of f fs)
+  -- ---- the list's bytes
 
   -- the four stretches of a list
   list-put : (d : List ℕ) {r1 r2 r3 r4 : List ℕ} {n b : ℕ} → n ≡ length fs → b ≡ bitsOf f fs → r1 ≡ over d 0 (bits 4 (f .edition)) → r2 ≡ over r1 4 (bits (f .fw) n)
@@ -58,8 +38,8 @@ module _ (f : Format) (fs : List Loop) where
       let z = flatMap (faceBits f) fs in
       let t = bitsOf f fs in
       let e1 : r2 ≡ over d 0 (x ++ y) = over-next d 0 x 4 y r1 r2 zero-le (omega (arith, length-bits 4 (f .edition))) p1 (p2 ∙ ap (λ (m : ℕ). over r1 4 (bits (f .fw) m)) hn) in
-      let e2 : r3 ≡ over d 0 (x ++ y ++ z) = over-next d 0 (x ++ y) (4 + f .fw) z r2 r3 zero-le (omega (arith, length-head)) e1 p3 in
-      let l : t ≡ 0 + length (x ++ y ++ z) = omega (arith, length-list) in
+      let e2 : r3 ≡ over d 0 (x ++ y ++ z) = over-next d 0 (x ++ y) (4 + f .fw) z r2 r3 zero-le (omega (arith, length-head f fs)) e1 p3 in
+      let l : t ≡ 0 + length (x ++ y ++ z) = omega (arith, length-list f fs) in
       over-next d 0 (x ++ y ++ z) t (bits (bytesFor t * 8 - t) 0) r3 r4 zero-le l e2 (p4 ∙ ap (λ (m : ℕ). over r3 m (bits (bytesFor m * 8 - m) 0)) hb)
 
   -- the list and then the room's bytes
@@ -69,8 +49,8 @@ module _ (f : Format) (fs : List Loop) where
       → last ≡ encodeFaces f fs ++ drop (bytesFor (bitsOf f fs)) room
   unfolding encodeFaces
   listed room last hn hb h l ur ul p1 p2 p3 p4 =
-      filled-is (bitsOf f fs) (listBits f fs) room last under-list length-list h l ur ul (list-put (run 8 room) hn hb p1 p2 p3 p4)
-      ∙ ap (λ (m : ℕ). filled m (listBits f fs) ++ drop (bytesFor (bitsOf f fs)) room) (sym length-list)
+      filled-is (bitsOf f fs) (listBits f fs) room last (under-list f fs) (length-list f fs) h l ur ul (list-put (run 8 room) hn hb p1 p2 p3 p4)
+      ∙ ap (λ (m : ℕ). filled m (listBits f fs) ++ drop (bytesFor (bitsOf f fs)) room) (sym (length-list f fs))
 
   -- ---- the answer
 

@@ -13,12 +13,12 @@ use Rattle.lists.proofs.Kept.{keptFrom, kept-start, kept-next, kept-end}
 use Rattle.paper.specs.Loops.{Loop}
 use Rattle.paper.specs.FaceList.{span, rowAt, solidFaces}
 use Rattle.paper.specs.declared.Format.{Format}
-use Rattle.faces.specs.Face.{Brief}
+use Rattle.faces_reader.specs.Face.{Brief}
 use Rattle.faces_writer.specs.Send.{marked, faceOf, faceAlone, fits, cornersOf, weight}
 use Rattle.faces_writer.specs.declared.write.Extent.{Extent}
 use Rattle.faces_writer.specs.declared.write.Extent.the-variants.{Misfit, Of}
-use Rattle.faces.proofs.Brief.{corners-small}
-use Rattle.faces.proofs.Shape.{face-yes}
+use Rattle.faces_reader.proofs.Brief.{corners-small}
+use Rattle.faces_laws.proofs.Shape.{face-yes}
 use Rattle.faces_writer.proofs.Fits.{way-length, way-fits}
 
 -- two weights one behind the other

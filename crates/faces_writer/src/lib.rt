@@ -12,5 +12,5 @@ pub fn write_faces(rows: &[u8], taken: u64, turned: u64, room: &mut [u8]) -> Wri
     ensures answer { λ r. ⌜ r ≡ sentOf one (solidFaces (now (rows .entry)) taken turned) (now (room .entry)) ⌝ }
     ensures kept { λ _. ⌜ now (room .exit) ≡ sentRoom one (solidFaces (now (rows .entry)) taken turned) (now (room .entry)) ⌝ }
 {
-    write::write(shape::edition_one(), rows, taken, turned, room)
+    write::write(sheet_shape::edition_one(), rows, taken, turned, room)
 }

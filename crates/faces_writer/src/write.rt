@@ -10,7 +10,7 @@ ghost use Rattle.lists.specs.Lists.{all};
 ghost use Rattle.lists.specs.Place.{found};
 ghost use Rattle.paper.specs.Format.{bytesFor};
 ghost use Rattle.paper.specs.FaceList.{faceBits, encodeFaces, span, bitsOf, rowAt, solidFaces, sentOf, sentRoom};
-ghost use Rattle.faces.specs.Face.{Brief};
+ghost use Rattle.faces_reader.specs.Face.{Brief};
 ghost use Rattle.faces_writer.specs.Send.{way, faceAlone, fits, cornersOf, weight};
 use lists::Place;
 use paper::Format;
@@ -49,7 +49,7 @@ fn row_fits(f: Format, rows: &[u8], k: usize) -> Place
         return Place::Nowhere;
     }
     let c = rows[first] as u64;
-    if counts::is_outside(paper::LEAST_CORNERS as u64, paper::MOST_CORNERS as u64, c) {
+    if sheet_counts::is_outside(paper::LEAST_CORNERS as u64, paper::MOST_CORNERS as u64, c) {
         return Place::Nowhere;
     }
     let n = c as usize;
@@ -193,7 +193,7 @@ pub fn write(f: Format, rows: &[u8], taken: u64, turned: u64, room: &mut [u8]) -
     let Extent::Of(n, b) = weighed else {
         return refused(paper::SHELL_SHAPE);
     };
-    if counts::is_outside(paper::LEAST_FACES as u64, f.fmax, n as u64) {
+    if sheet_counts::is_outside(paper::LEAST_FACES as u64, f.fmax, n as u64) {
         return refused(paper::SHELL_SHAPE);
     }
     let size = (paper::EDITION_BITS + f.fw + b + 7) / 8;

@@ -1,4 +1,2 @@
 -- The laws that this crate's proofs share. Assumes nothing.
 pub mod Ready
-pub mod Encoded
-pub mod Written

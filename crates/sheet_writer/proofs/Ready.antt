@@ -11,10 +11,10 @@ use Rattle.paper.specs.Format.{total, bytesFor}
 use Rattle.paper.specs.Sheet.{lentChecks}
 use Rattle.paper.specs.declared.Format.{Format}
 use Rattle.paper.specs.declared.Answer.the-variants.{Fine}
-use Rattle.content.specs.Near.{Near}
-use Rattle.content.proofs.Lent.{Lent, contents, lent}
-use Rattle.shape.specs.Narrow.{Narrow}
-use Rattle.shape.proofs.Sizes.{total-small}
+use Rattle.sheet_laws.specs.Near.{Near}
+use Rattle.sheet_laws.proofs.Lent.{Lent, contents, lent}
+use Rattle.sheet_shape.specs.Narrow.{Narrow}
+use Rattle.sheet_shape.proofs.Sizes.{total-small}
 
 -- of its own v and e, and of room of r bytes
 pub record Ready (f : Format) (xyz : List ℤ) (ends : List ℕ) (v e r : ℕ) : Type 0 where

@@ -12,5 +12,5 @@ pub fn write_sheet(xyz: &[i64], ends: &[u8], room: &mut [u8]) -> Written
     ensures answer { λ r. ⌜ r ≡ writtenOf one (now (xyz .entry)) (now (ends .entry)) (now (room .entry)) ⌝ }
     ensures kept { λ _. ⌜ now (room .exit) ≡ roomOf one (now (xyz .entry)) (now (ends .entry)) (now (room .entry)) ⌝ }
 {
-    write::write(shape::edition_one(), xyz, ends, room)
+    write::write(sheet_shape::edition_one(), xyz, ends, room)
 }

@@ -8,14 +8,14 @@ ghost use Rattle.pack.specs.Bits.{bits, run, over};
 ghost use Rattle.paper.specs.Refusals.{firstOf};
 ghost use Rattle.paper.specs.Format.{onSheet, total, bytesFor, headBits, encode};
 ghost use Rattle.paper.specs.Sheet.{far, lentChecks, writtenOf, roomOf};
-ghost use Rattle.content.specs.Near.{Near};
-ghost use Rattle.shape.specs.Narrow.{Narrow};
-use content::lend::lent;
+ghost use Rattle.sheet_laws.specs.Near.{Near};
+ghost use Rattle.sheet_shape.specs.Narrow.{Narrow};
+use drawing_lists::lend::lent;
 use paper::Answer;
 use paper::Format;
 use paper::Refusal;
 use paper::Written;
-use shape::total_bits;
+use sheet_shape::total_bits;
 
 // A coordinate's number on the sheet.
 fn to_field(z: i64) -> u64

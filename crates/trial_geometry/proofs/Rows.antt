@@ -4,8 +4,8 @@ use Prim.Native.Nat.{ℕ}
 use native.Mathlib.Omega.{arith}
 use lib.IntN.{ℤ}
 use Rattle.polygon.specs.Rings.{Row}
-use Rattle.laws.specs.InRange.{Points}
-use Rattle.faces.specs.Filed.{Filed}
+use Rattle.paper_laws.specs.InRange.{Points}
+use Rattle.faces_reader.specs.Filed.{Filed}
 
 pub filed-row : {xyz : List ℤ} {rows : List ℕ} {v r : ℕ} → Points xyz v → Filed rows v r → Row xyz rows r
 filed-row p f = record {

@@ -3,10 +3,10 @@
 // with a digit for each: 1 where the two clash, and 2 more where the line's covers the other.
 ghost use Prim.Native.Nat.{ℕ, _<_};
 ghost use Rattle.polygon.specs.Rings.{Row, Face};
-ghost use Rattle.laws.specs.InRange.{Points, InRange, Held};
+ghost use Rattle.paper_laws.specs.InRange.{Points, InRange, Held};
 use clash::clash;
 use cover::covers;
-use drawing::drawing_rules;
+use drawing_rules::drawing_rules;
 use libc::STDIN_FILENO;
 use lists::Place;
 use paper::Answer;
@@ -57,7 +57,7 @@ fn show_faces(xyz: &[i64], rows: &[u8], count: usize)
 fn show_list(xyz: &[i64], v: usize, list: &[u8])
     requires { ⌜ Points (now xyz) v ⌝ }
 {
-    let faces = faces::read_faces(list, v);
+    let faces = faces_reader::read_faces(list, v);
     let answer = faces.answer;
     match answer {
         Answer::Refused(r) => say_refused(r.number, r.place),
@@ -90,7 +90,7 @@ fn show_drawing(d: Drawing, list: &[u8])
 }
 
 fn show(s: &[u8], list: &[u8]) {
-    let read = sheet::read_sheet(s);
+    let read = sheet_reader::read_sheet(s);
     let answer = read.answer;
     match answer {
         Answer::Refused(r) => say_refused(r.number, r.place),

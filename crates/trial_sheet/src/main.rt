@@ -47,7 +47,7 @@ fn show_drawing(v: usize, e: usize, xyz: [i64; paper::COORDINATES], ends: [u8; p
 }
 
 fn show(s: &[u8]) {
-    let read = sheet::read_sheet(s);
+    let read = sheet_reader::read_sheet(s);
     let answer = read.answer;
     match answer {
         Answer::Refused(r) => say_refused(r.number, r.place),

@@ -18,7 +18,7 @@ use Rattle.paper.specs.declared.Point.{Point}
 use Rattle.polygon.specs.Rings.{cornerOf, ring}
 use Rattle.polygon.proofs.Rows.{corner-small, ring-least, ring-length}
 use Rattle.polygon.proofs.Sizes.{plus-small, small-eq, small-up}
-use Rattle.place.proofs.Views.{not-outside}
+use Rattle.inside.proofs.Views.{not-outside}
 use Rattle.cover.proofs.covers.Statement.{statement}
 use Rattle.cover.proofs.covers.Tie as tie
 

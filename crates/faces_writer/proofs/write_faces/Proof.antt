@@ -2,7 +2,7 @@
 use mathlib.Core.Path.{_∙_, ap}
 use Rattle.paper.specs.FaceList.{solidFaces, sentOf, sentRoom}
 use Rattle.paper.specs.declared.Format.{Format}
-use Rattle.faces.proofs.Brief.{one-brief}
+use Rattle.faces_reader.proofs.Brief.{one-brief}
 use borrow.Author.Needs.{needs}
 use Rattle.faces_writer.proofs.write_faces.Statement.{statement}
 use Rattle.faces_writer.proofs.write_faces.Tie as tie

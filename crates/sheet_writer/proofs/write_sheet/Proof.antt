@@ -2,7 +2,7 @@
 use mathlib.Core.Path.{_∙_, ap}
 use Rattle.paper.specs.Sheet.{writtenOf, roomOf}
 use Rattle.paper.specs.declared.Format.{Format}
-use Rattle.shape.proofs.Sizes.{one-small}
+use Rattle.sheet_shape.proofs.Sizes.{one-small}
 use borrow.Author.Needs.{needs}
 use Rattle.sheet_writer.proofs.write_sheet.Statement.{statement}
 use Rattle.sheet_writer.proofs.write_sheet.Tie as tie

@@ -1,8 +1,8 @@
 -- `trial_geometry::show` meets its contract. Assumes nothing.
 use mathlib.Core.Path.{sym, ap, subst, _∙_}
-use Rattle.laws.specs.InRange.{Held}
+use Rattle.paper_laws.specs.InRange.{Held}
 use Rattle.paper.specs.declared.Sheet.{Sheet}
-use Rattle.sheet.proofs.Range.{read-range}
+use Rattle.sheet_reader.proofs.Range.{read-range}
 use borrow.Author.Needs.{needs}
 use Rattle.trial_geometry.proofs.show.Statement.{statement}
 use Rattle.trial_geometry.proofs.show.Tie as tie

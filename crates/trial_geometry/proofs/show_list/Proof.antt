@@ -3,9 +3,9 @@ use mathlib.Core.Path.{sym, ap, subst, _∙_}
 use Prim.Native.Nat.{_<_}
 use Rattle.paper.specs.Format.{one}
 use Rattle.paper.specs.declared.Faces.{Faces}
-use Rattle.faces.specs.Filed.{Filed}
-use Rattle.faces.proofs.Filed.{filed}
-use Rattle.faces.proofs.Brief.{one-brief}
+use Rattle.faces_reader.specs.Filed.{Filed}
+use Rattle.faces_reader.proofs.Filed.{filed}
+use Rattle.faces_reader.proofs.Brief.{one-brief}
 use Rattle.trial_geometry.proofs.Rows.{filed-row}
 use borrow.Author.Needs.{needs}
 use Rattle.trial_geometry.proofs.show_list.Statement.{statement}

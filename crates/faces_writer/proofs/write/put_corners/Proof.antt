@@ -8,7 +8,7 @@ use Rattle.pack.specs.Bits.{bits, run, over}
 use Rattle.pack.proofs.Laws.{slot, length-run}
 use Rattle.pack.proofs.Over.{over-none, put-next, run-none}
 use Rattle.faces_writer.specs.Send.{way}
-use Rattle.faces.proofs.Brief.{corners-small}
+use Rattle.faces_reader.proofs.Brief.{corners-small}
 use Rattle.faces_writer.proofs.Fits.{way-length}
 use Rattle.faces_writer.proofs.RowAt.{length-corners}
 use native.Mathlib.Omega.{arith}

@@ -7,7 +7,7 @@ use Rattle.pack.specs.Bits.{run}
 use Rattle.pack.proofs.Laws.{length-run}
 use Rattle.paper.specs.FaceList.{rowAt}
 use Rattle.faces_writer.specs.Send.{way}
-use Rattle.faces.proofs.Brief.{corners-small}
+use Rattle.faces_reader.proofs.Brief.{corners-small}
 use Rattle.faces_writer.proofs.Fits.{way-length}
 use Rattle.faces_writer.proofs.RowAt.{row-whole}
 use Rattle.faces_writer.proofs.SendFaces.{face-put}

@@ -1,7 +1,8 @@
 -- `faces_writer::write::put_list` meets its contract. Assumes nothing.
 use mathlib.Core.Path.{_∙_}
 use Rattle.paper.specs.FaceList.{bitsOf, solidFaces}
-use Rattle.faces_writer.proofs.Sent.{size-is, listed}
+use Rattle.faces_laws.proofs.Packed.{size-is}
+use Rattle.faces_writer.proofs.Sent.{listed}
 use native.Mathlib.Omega.{arith}
 use borrow.Author.Needs.{needs}
 use Rattle.faces_writer.proofs.write.put_list.Statement.{statement}

@@ -3,7 +3,7 @@ use mathlib.Core.Path.{sym, _∙_}
 use Prim.Native.Nat.{_*_}
 use lib.ListN.{getD}
 use borrow.Author.Needs.{needs}
-use Rattle.laws.proofs.Limits.{outside-false}
+use Rattle.paper_laws.proofs.Limits.{outside-false}
 use Rattle.faces_writer.proofs.RowAt.{row-short, row-count, row-high, row-face}
 use native.Mathlib.Omega.{arith}
 use Rattle.faces_writer.proofs.write.row_fits.Statement.{statement}

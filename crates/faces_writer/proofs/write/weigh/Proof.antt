@@ -3,7 +3,7 @@ use mathlib.Core.Path.{sym, ap, _∙_}
 use borrow.Author.Needs.{needs}
 use Rattle.lists.specs.Place.{found}
 use Rattle.paper.specs.FaceList.{rowAt}
-use Rattle.faces.proofs.Brief.{corners-small}
+use Rattle.faces_reader.proofs.Brief.{corners-small}
 use Rattle.faces_writer.proofs.RowAt.{corners-most}
 use Rattle.faces_writer.proofs.Weight.{weigh-left, weigh-none, weigh-face}
 use native.Mathlib.Omega.{arith}

@@ -2,12 +2,13 @@
 use mathlib.Core.Path.{sym, ap, _∙_}
 use Prim.Native.Nat.{ℕ}
 use lib.ListN.{length}
-use Rattle.laws.proofs.Limits.{outside-false}
+use Rattle.paper_laws.proofs.Limits.{outside-false}
 use Rattle.paper.specs.Format.{outside, bytesFor}
 use Rattle.paper.specs.FaceList.{solidFaces}
 use Rattle.paper.specs.declared.Written.the-variants.{Bytes}
 use Rattle.faces_writer.proofs.Weight.{weighed, misfit, span-small}
-use Rattle.faces_writer.proofs.Sent.{size-is, result-misfit, result-count, result-short, result-fine}
+use Rattle.faces_laws.proofs.Packed.{size-is}
+use Rattle.faces_writer.proofs.Sent.{result-misfit, result-count, result-short, result-fine}
 use native.Mathlib.Omega.{arith}
 use borrow.Author.Needs.{needs}
 use Rattle.faces_writer.proofs.write.write.Statement.{statement}

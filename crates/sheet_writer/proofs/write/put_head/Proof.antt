@@ -1,6 +1,6 @@
 -- `sheet_writer::write::put_head` meets its contract. Assumes nothing.
 use Rattle.pack.specs.Bits.{run}
-use Rattle.sheet_writer.proofs.Encoded.{head-put}
+use Rattle.sheet_laws.proofs.Encoded.{head-put}
 use borrow.Author.Needs.{needs}
 use Rattle.sheet_writer.proofs.write.put_head.Statement.{statement}
 use Rattle.sheet_writer.proofs.write.put_head.Tie as tie

@@ -3,7 +3,7 @@ use mathlib.Core.Path.{_∙_}
 use lib.ListN.{length}
 use Rattle.pack.specs.Bits.{run}
 use Rattle.sheet_writer.proofs.Ready.{ready}
-use Rattle.sheet_writer.proofs.Encoded.{content-put, encoded}
+use Rattle.sheet_laws.proofs.Encoded.{content-put, encoded}
 use native.Mathlib.Omega.{arith}
 use borrow.Author.Needs.{needs}
 use Rattle.sheet_writer.proofs.write.put_sheet.Statement.{statement}

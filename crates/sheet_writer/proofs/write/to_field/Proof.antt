@@ -7,7 +7,7 @@ use mir.Val.{toZ, ofZ, SFits}
 use mir.ValLaws.{toZ-ofZ}
 use Rattle.paper.specs.Sheet.{far}
 use Rattle.paper.specs.Format.{onSheet}
-use Rattle.laws.proofs.Coordinate.{near, near-pos}
+use Rattle.paper_laws.proofs.Coordinate.{near, near-pos}
 use native.Mathlib.Omega.{arith}
 use Rattle.sheet_writer.proofs.write.to_field.Statement.{statement}
 use Rattle.sheet_writer.proofs.write.to_field.Tie as tie

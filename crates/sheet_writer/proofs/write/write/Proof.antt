@@ -3,9 +3,9 @@ use mathlib.Core.Path.{_∙_, sym, ap, refl}
 use Prim.Native.Nat.{ℕ, _+_, _/_}
 use lib.ListN.{length}
 use Rattle.paper.specs.declared.Written.the-variants.{Bytes}
-use Rattle.shape.proofs.Sizes.{total-small}
-use Rattle.content.proofs.Lent.{lent}
-use Rattle.sheet_writer.proofs.Written.{result-refused, result-short, result-fine}
+use Rattle.sheet_shape.proofs.Sizes.{total-small}
+use Rattle.sheet_laws.proofs.Lent.{lent}
+use Rattle.sheet_laws.proofs.Written.{result-refused, result-short, result-fine}
 use native.Mathlib.Omega.{arith}
 use borrow.Author.Needs.{needs}
 use Rattle.sheet_writer.proofs.write.write.Statement.{statement}

@@ -1,0 +1,111 @@
+-- `clash_fold::folds_at` meets its contract. Assumes nothing.
+use mathlib.Core.Bool.{Bool, _&&_}
+use mathlib.Core.Path.{_∙_, _≡_, ap, refl, sym}
+use Prim.Native.Nat.{_-_, _≤_}
+use native.Mathlib.Omega.{arith}
+use lib.ListN.{length}
+use denote.Ref.{now}
+use borrow.Author.Tests.{not-false, not-true}
+use Rattle.lists.proofs.Search.{Left, any-search, search-end}
+use Rattle.lists.proofs.Sides.{ring-hit, ring-miss}
+use Rattle.lists.specs.Lists.{any}
+use Rattle.paper.specs.Clash.{bends, isCorner}
+use Rattle.paper.specs.Points.{origin}
+use Rattle.paper.specs.Polygon.{Polygon}
+use Rattle.paper.specs.declared.Point.{Point}
+use Rattle.polygon.specs.Rings.{cornerOf, ring}
+use Rattle.polygon.proofs.Rows.{corner-small, ring-length}
+use Rattle.polygon.proofs.Sizes.{small-eq}
+use Rattle.clash_fold.proofs.folds_at.Statement.{statement}
+use Rattle.clash_fold.proofs.folds_at.Tie as tie
+
+abbrev Inv-loop : tie.InvT-loop
+Inv-loop xyz table f mf g mg u n j₀ j =
+    (j ≤ n) × (n ≡ length (ring xyz table f)) × Left (any (bends (ring xyz table f) (ring xyz table g) u)) (ring xyz table f) j
+
+abbrev μ-loop : tie.MeasureT-loop
+μ-loop xyz table f mf g mg u n j₀ j = n - j
+
+abbrev F : tie.Start Inv-loop μ-loop → Polygon
+F c = ring (now (c .args .xyz)) (now (c .args .table)) (c .args .f)
+
+abbrev G : tie.Start Inv-loop μ-loop → Polygon
+G c = ring (now (c .args .xyz)) (now (c .args .table)) (c .args .g)
+
+abbrev Bend : tie.Start Inv-loop μ-loop → Point → Bool
+Bend c = bends (F c) (G c) (c .args .u)
+
+here : (c : tie.After-bends Inv-loop μ-loop) {b : Bool} → c .bends .result ≡ b
+    → Bend (c .before .before .before .before .before .before .before .before) (cornerOf (F (c .before .before .before .before .before .before .before .before)) (c .before .before .before .loop .j)) ≡ b
+here c e = ap (Bend (c .before .before .before .before .before .before .before .before)) (sym (c .before .corner .ensures)) ∙ sym (c .bends .ensures) ∙ e
+
+-- what is found of the corners is the answer, for a u that is one of row g
+answer : (c : tie.At-loop Inv-loop μ-loop)
+    → any (Bend (c .before .before .before .before .before)) (F (c .before .before .before .before .before)) ≡ (isCorner (G (c .before .before .before .before .before)) (c .before .before .before .before .before .args .u) && any (Bend (c .before .before .before .before .before)) (F (c .before .before .before .before .before)))
+answer c =
+    let s = c .before .before .before .before .before in
+    ap (λ (b : Bool). b && any (Bend s) (F s)) (sym (not-false (c .before .before .before .is-corner .result) (c .before .before .if1 .left)) ∙ c .before .before .before .is-corner .ensures)
+
+is-corner-requires : tie.Need-is-corner-requires Inv-loop μ-loop
+is-corner-requires c κs = (c .before .pre .1 .row, c .before .pre .2)
+
+returns : tie.Need-returns Inv-loop μ-loop
+returns c =
+    let s = c .before .before .before in
+    ap (λ (b : Bool). b && any (Bend s) (F s)) (sym (not-true (c .before .is-corner .result) (c .if1 .taken)) ∙ c .before .is-corner .ensures)
+
+count-requires : tie.Need-count-requires Inv-loop μ-loop
+count-requires c κs = c .before .before .before .pre .0 .row .room
+
+loop-holds : tie.Need-loop-holds Inv-loop μ-loop
+loop-holds c = (omega arith, c .count .ensures ∙ sym (ring-length (c .before .before .before .before .pre .0 .row)), refl)
+
+corner-requires : tie.Need-corner-requires Inv-loop μ-loop
+corner-requires c κs = (c .before .before .before .before .before .before .pre .0 .row, omega arith)
+
+bends-requires : tie.Need-bends-requires Inv-loop μ-loop
+bends-requires c κs =
+    let s = c .before .before .before .before .before .before .before in
+    (s .pre .0, s .pre .1, s .pre .2, small-eq (c .corner .ensures) (corner-small (s .pre .0 .row) _))
+
+returns-2 : tie.Need-returns-2 Inv-loop μ-loop
+returns-2 c =
+    let s = c .before .before .before .before .before .before .before .before .before in
+    let l = c .before .before .before .before .loop in
+    sym (ring-hit (any-search (Bend s)) (F s) (l .j) origin (omega arith) (l .inv .2) (here (c .before) (c .if2 .taken))) ∙ answer (c .before .before .before .before)
+
+add-j : tie.Need-add-j Inv-loop μ-loop
+add-j c = omega arith
+
+loop-less : tie.Need-loop-less Inv-loop μ-loop
+loop-less c = omega arith
+
+loop-again : tie.Need-loop-again Inv-loop μ-loop
+loop-again c =
+    let s = c .before .before .before .before .before .before .before .before .before in
+    let l = c .before .before .before .before .loop in
+    (omega arith, l .inv .1, ring-miss (any-search (Bend s)) (F s) (l .j) origin (omega arith) (l .inv .2) (here (c .before) (c .if2 .left)))
+
+returns-3 : tie.Need-returns-3 Inv-loop μ-loop
+returns-3 c =
+    let s = c .before .before .before .before .before .before in
+    let l = c .before .loop in
+    sym (search-end (any-search (Bend s)) (F s) (l .j) (omega arith) (l .inv .2)) ∙ answer (c .before)
+
+pub folds-at-spec : {M : Type 1} → statement M
+folds-at-spec =
+    tie.close
+    (tie.spec
+    Inv-loop
+    μ-loop
+    is-corner-requires
+    returns
+    count-requires
+    loop-holds
+    corner-requires
+    bends-requires
+    returns-2
+    add-j
+    loop-less
+    loop-again
+    returns-3)

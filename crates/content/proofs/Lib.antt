@@ -1,3 +1,0 @@
--- The laws that this crate's proofs share, and that its callers cite. Assumes nothing.
-pub mod Lent
-pub mod Range

@@ -1,2 +1,0 @@
--- What contracts of this crate and its callers cite beside the paper. Assumes nothing.
-pub mod Near

@@ -1,0 +1,387 @@
+-- Demand 1 holds. Assumes nothing.
+use mathlib.Core.Path.{_≡_, refl, sym, ap, subst, _∙_}
+use mathlib.Core.Bool.{Bool, false, not, _&&_, _||_}
+use mathlib.Core.Logic.{_⊎_, inl, inr}
+use mathlib.Core.List.{List, [], _∷_, _++_, map, flatMap}
+use Prim.Native.Nat.{ℕ, _/_, _<_}
+use native.Mathlib.Omega.{arith}
+use lib.Dec.{ltb, leb, eqb}
+use lib.IntN.{ℤ}
+use lib.Ieee.{Float}
+use lib.ListN.{length, getD, take, length-map}
+use Rattle.lists.specs.Lists.{any, all, upto, member}
+use Rattle.sets.specs.Word.{count, both}
+use Rattle.paper.specs.Format.{one, leastVertices, leastEdges, outside, low, total, bytesFor, fillAfter, verticesIn, edgesIn, coordinatesIn, endsIn}
+use Rattle.paper.specs.Numbers.{mostSolids}
+use Rattle.pack.specs.Bits.{fieldAt}
+use Rattle.paper.specs.Refusals.{check, firstOf, offends}
+use Rattle.paper.specs.Points.{samePoint, above}
+use Rattle.paper.specs.FaceList.{bitsOf, faceFits, facesIn, wellShaped, sendChecks, sentFor, sentRoomFor, sentOf, sentRoom}
+use Rattle.paper.specs.Sheet.{badCount, farAt, wrongAt, lowAt, edgeChecks, contentChecks, countChecks, openChecks, closeChecks, shapeChecks, sheetChecks, lentChecks, writerChecks, writtenFor, roomFor, blank, held, drawnFor, sheetOf, writtenOf, roomOf}
+use Rattle.paper.specs.Drawing.{Wire, at, ends, edgeAt, samePlace, looseVertex, vertexOn, edgesMeet, edgeMeets, reached, apart, drawingChecks}
+use Rattle.paper.specs.Loops.{Loop, loops, candidates, loopChecks}
+use Rattle.paper.specs.Solids.{Tables, tablesOf, inTwo, onceEachWay, facesFrom, sixFrom, has}
+use Rattle.paper.specs.Conversion.{Converted, entryChecks, conversion}
+use Rattle.paper.specs.Verdict.{numberIn, Listed, listed, notCandidate, faceTwice, edgeCount, direction, pieces, inward, clashes, faceChecks, verdictFor, verdict}
+use Rattle.paper.specs.Reading.{conversionSays, volume, readingOf}
+use Rattle.paper.specs.declared.Refusal.{Refusal}
+use Rattle.paper.specs.declared.Answer.{Answer}
+use Rattle.paper.specs.declared.Answer.the-variants as Answer
+use Rattle.paper.specs.declared.Written.the-variants as Written
+use Rattle.paper.specs.declared.Conversion.{Conversion}
+use Rattle.paper.specs.declared.Conversion.the-variants as Conversion
+use Rattle.paper.specs.declared.Verdict.the-variants as Verdict
+use Rattle.paper.specs.declared.Reading.the-variants as Reading
+use Rattle.means_walk.specs.Tree.{assumptions}
+use Rattle.means_report.specs.Listed.{Entry, WalkTree, walked}
+use Rattle.means_report.specs.Report.{answered, facesFor, solidsFor}
+use Rattle.means_report.proofs.Report.{Tells, Sound}
+use Rattle.means_report.proofs.Demand.{says-none, says-one, says-several, says-many, says-long}
+use Rattle.means_report.proofs.Converted.{the-walk, conversion-says}
+use Rattle.demands.specs.Input.{Input, lent, sheet, drawing, form, rules, reported}
+use Rattle.demands.specs.Table.{Line, line, In, rooms, lists, forms, drawings, shells}
+use Rattle.demands.specs.Demand1.{Answers, Demand1}
+use Rattle.demands.proofs.Input.{converted-is, checked-is, counted}
+use Rattle.demands.proofs.Table.{Below, lowest-below, offends-below, Each, end, also, first-in, each-both, each-right, each-on}
+
+-- ---- the checks are lines of the table
+
+-- one place, 0; two, 0 and 1
+first-place : (b : Bool) → Below (offends b 0) 1
+first-place b p e = offends-below b 0 1 (omega arith) p e
+
+zero-of-two : (b : Bool) → Below (offends b 0) 2
+zero-of-two b p e = offends-below b 0 2 (omega arith) p e
+
+one-of-two : (b : Bool) → Below (offends b 1) 2
+one-of-two b p e = offends-below b 1 2 (omega arith) p e
+
+entry-in : (limit : ℕ) (room solids : List ℕ) → Each rooms (entryChecks limit room solids)
+unfolding entryChecks
+entry-in limit room solids =
+    also (λ p e. inl (refl, zero-of-two (ltb (length room) 832) p e))
+    (also (λ p e. inl (refl, one-of-two (ltb (length solids) 24) p e)) (also (λ p e. inr (inl (refl, first-place (ltb 1000000 limit) p e))) end))
+
+content-in : (v : ℕ) (xyz : List ℤ) (ns : List ℕ) → Each (lists (length xyz) (length ns / 2)) (contentChecks v xyz ns)
+unfolding contentChecks edgeChecks
+content-in v xyz ns =
+    also (λ p e. inr (inl (refl, lowest-below (farAt xyz) (length xyz) p e)))
+    (also (λ p e. inr (inr (inl (refl, lowest-below (wrongAt v ns) (length ns / 2) p e))))
+    (also (λ p e. inr (inr (inr (inl (refl, lowest-below (lowAt ns) (length ns / 2) p e))))) end))
+
+lent-in : (xyz : List ℤ) (ns : List ℕ) → Each (lists (length xyz) (length ns / 2)) (lentChecks one xyz ns)
+unfolding lentChecks
+lent-in xyz ns =
+    also (λ p e. inl (refl, zero-of-two (badCount 3 leastVertices 32 (length xyz)) p e))
+    (also (λ p e. inl (refl, one-of-two (badCount 2 leastEdges 64 (length ns)) p e))
+    (also (λ p e. inl (refl, zero-of-two (low one (length xyz / 3) (length ns / 2)) p e)) (content-in (length xyz / 3) xyz ns)))
+
+module _ (s : List ℕ) (v n : ℕ) where
+  opens-in : Each (forms (sheet s)) (openChecks one s)
+  unfolding openChecks
+  opens-in =
+      also (λ p e. inl (refl, first-place (ltb (length s) 3) p e)) (also (λ p e. inr (inl (refl, first-place (not (eqb (fieldAt s 0 4) 1)) p e))) end)
+
+  counts-in : Each (forms (sheet s)) (countChecks one v n)
+  unfolding countChecks
+  counts-in =
+      also (λ p e. inr (inr (inr (inr (inl (refl, zero-of-two (outside leastVertices 32 v) p e))))))
+      (also (λ p e. inr (inr (inr (inr (inl (refl, one-of-two (outside leastEdges 64 n) p e))))))
+      (also (λ p e. inr (inr (inr (inr (inl (refl, zero-of-two (low one v n) p e)))))) end))
+
+  closes-in : Each (forms (sheet s)) (closeChecks one s v n)
+  unfolding closeChecks
+  closes-in =
+      also (λ p e. inr (inr (inl (refl, first-place (not (eqb (length s) (bytesFor (total one v n)))) p e))))
+      (also (λ p e. inr (inr (inr (inl (refl, first-place (not (eqb (fillAfter (total one v n) s) 0)) p e))))) end)
+
+sheet-in : (s : List ℕ) → Each (forms (sheet s)) (sheetChecks one s)
+unfolding sheetChecks shapeChecks
+sheet-in s =
+    each-both (forms (sheet s)) (openChecks one s ++ countChecks one (verticesIn one s) (edgesIn one s) ++ closeChecks one s (verticesIn one s) (edgesIn one s))
+    (contentChecks (verticesIn one s) (coordinatesIn one s) (endsIn one s))
+    (each-both (forms (sheet s)) (openChecks one s ++ countChecks one (verticesIn one s) (edgesIn one s)) (closeChecks one s (verticesIn one s) (edgesIn one s))
+    (each-both (forms (sheet s)) (openChecks one s) (countChecks one (verticesIn one s) (edgesIn one s)) (opens-in s 0 0) (counts-in s (verticesIn one s) (edgesIn one s))) (closes-in s (verticesIn one s) (edgesIn one s)))
+    (each-right (contentChecks (verticesIn one s) (coordinatesIn one s) (endsIn one s)) (line 3 1 ∷ line 4 1 ∷ line 6 1 ∷ line 7 1 ∷ []) (lists (length (coordinatesIn one s)) (length (endsIn one s) / 2))
+    (content-in (verticesIn one s) (coordinatesIn one s) (endsIn one s)))
+
+form-in : (x : Input) → Each (forms x) (form x)
+form-in (lent xyz ns) = lent-in xyz ns
+form-in (sheet s) = sheet-in s
+
+-- 11 to 16
+module _ (d : Wire) where
+  same-below : Below (samePlace d) (length (d .vertices))
+  unfolding samePlace
+  same-below p e = lowest-below (λ u. any (λ v. not (eqb u v) && samePoint (at d u) (at d v)) (upto (length (d .vertices)))) (length (d .vertices)) p e
+
+  loose-below : Below (looseVertex d) (length (d .vertices))
+  unfolding looseVertex
+  loose-below p e = lowest-below (λ v. not (any (ends v) (d .edges))) (length (d .vertices)) p e
+
+  meets-below : Below (edgeMeets d) (length (d .edges))
+  unfolding edgeMeets
+  meets-below p e =
+      lowest-below (λ e. any (vertexOn d (edgeAt d e)) (upto (length (d .vertices))) || any (λ f. not (eqb e f) && edgesMeet d (edgeAt d e) (edgeAt d f)) (upto (length (d .edges)))) (length (d .edges)) p e
+
+  apart-below : Below (apart d) (length (d .vertices))
+  unfolding apart
+  apart-below p e = lowest-below (λ v. not (getD (reached d (length (d .vertices))) v false)) (length (d .vertices)) p e
+
+  drawing-in : Each (drawings (length (d .vertices)) (length (d .edges))) (drawingChecks d)
+  unfolding drawingChecks
+  drawing-in =
+      also (λ p e. inl (refl, same-below p e))
+      (also (λ p e. inr (inl (refl, loose-below p e))) (also (λ p e. inr (inr (inl (refl, meets-below p e)))) (also (λ p e. inr (inr (inr (inl (refl, apart-below p e))))) end)))
+
+  loops-in : (ls cs : List Loop) → Each (drawings (length (d .vertices)) (length (d .edges))) (loopChecks ls cs)
+  unfolding loopChecks
+  loops-in ls cs =
+      also (λ p e. inr (inr (inr (inr (inl (refl, first-place (ltb 128 (length ls)) p e))))))
+      (also (λ p e. inr (inr (inr (inr (inr (inl (refl, first-place (ltb 64 (length cs)) p e))))))) end)
+
+-- the tables of conversion and of the check
+abbrev drawn : Input → List Line
+drawn x = drawings (length (drawing x .vertices)) (length (drawing x .edges))
+
+module _ (x : Input) where
+  rules-in : Each (forms x ++ drawn x) (rules x)
+  rules-in =
+      each-both (forms x ++ drawn x) (form x ++ drawingChecks (drawing x)) (loopChecks (loops (drawing x)) (candidates (drawing x)))
+      (each-on (form x) (drawingChecks (drawing x)) (forms x) (drawn x) (form-in x) (drawing-in (drawing x)))
+      (each-right (loopChecks (loops (drawing x)) (candidates (drawing x))) (forms x) (drawn x) (loops-in (drawing x) (loops (drawing x)) (candidates (drawing x))))
+
+  conversion-in : (limit : ℕ) (room solids : List ℕ)
+      → Each (rooms ++ forms x ++ drawn x) (entryChecks limit room solids ++ form x ++ drawingChecks (drawing x) ++ loopChecks (loops (drawing x)) (candidates (drawing x)))
+  conversion-in limit room solids =
+      each-both (rooms ++ forms x ++ drawn x) (entryChecks limit room solids ++ form x ++ drawingChecks (drawing x)) (loopChecks (loops (drawing x)) (candidates (drawing x)))
+      (each-on (entryChecks limit room solids ++ form x) (drawingChecks (drawing x)) (rooms ++ forms x) (drawn x)
+      (each-on (entryChecks limit room solids) (form x) rooms (forms x) (entry-in limit room solids) (form-in x)) (drawing-in (drawing x)))
+      (each-right (loopChecks (loops (drawing x)) (candidates (drawing x))) (rooms ++ forms x) (drawn x) (loops-in (drawing x) (loops (drawing x)) (candidates (drawing x))))
+
+-- 20 to 27
+module _ (t : Tables) (n : ℕ) (l : Listed) where
+  abbrev faceCount : ℕ
+  faceCount = length (l .numbers)
+
+  not-below : Below (notCandidate n (l .numbers)) faceCount
+  unfolding notCandidate
+  not-below p e = lowest-below (λ i. leb n (getD (l .numbers) i 0)) faceCount p e
+
+  twice-below : Below (faceTwice (l .numbers)) faceCount
+  unfolding faceTwice
+  twice-below p e = lowest-below (λ i. member (getD (l .numbers) i 0) (take i (l .numbers))) faceCount p e
+
+  edge-below : Below (edgeCount t (l .taken)) (length (t .rows))
+  unfolding edgeCount
+  edge-below p e = lowest-below (λ e. not (inTwo (getD (t .rows) e []) (l .taken))) (length (t .rows)) p e
+
+  way-below : Below (direction t (l .taken) (l .turned)) (length (t .rows))
+  unfolding direction
+  way-below p e = lowest-below (λ e. not (onceEachWay (getD (t .rows) e []) (getD (t .ups) e []) (l .taken) (l .turned))) (length (t .rows)) p e
+
+  piece-below : Below (pieces t (l .numbers) (l .taken)) faceCount
+  unfolding pieces
+  piece-below p e = lowest-below (λ i. not (getD (facesFrom (getD (l .numbers) 0 0) t (l .taken) .reached) (getD (l .numbers) i 0) false)) faceCount p e
+
+  inward-below : Below (inward t (l .taken) (l .turned)) 1
+  unfolding inward
+  inward-below p e = first-place (not (above (sixFrom 0 (t .sixes) (l .taken) (l .turned)))) p e
+
+  clash-below : Below (clashes t (l .numbers) (l .taken)) faceCount
+  unfolding clashes
+  clash-below p e = lowest-below (λ i. not (eqb (count (both (getD (t .clashes) (getD (l .numbers) i 0) []) (l .taken))) 0)) faceCount p e
+
+  shell-in : (b : Bool) → Each (shells (length (t .rows)) faceCount) (check 20 (offends b 0) ∷ faceChecks t n l)
+  unfolding faceChecks
+  shell-in b =
+      also (λ p e. inl (refl, first-place b p e))
+      (also (λ p e. inr (inl (refl, not-below p e)))
+      (also (λ p e. inr (inr (inl (refl, twice-below p e))))
+      (also (λ p e. inr (inr (inr (inl (refl, edge-below p e)))))
+      (also (λ p e. inr (inr (inr (inr (inl (refl, way-below p e))))))
+      (also (λ p e. inr (inr (inr (inr (inr (inl (refl, piece-below p e)))))))
+      (also (λ p e. inr (inr (inr (inr (inr (inr (inl (refl, inward-below p e))))))))
+      (also (λ p e. inr (inr (inr (inr (inr (inr (inr (inl (refl, clash-below p e))))))))) end)))))))
+
+-- ---- the check
+
+verdict-refused : (a : Answer) (r : Refusal) → verdictFor a ≡ Verdict.Refused r → a ≡ Answer.Refused r
+verdict-refused Answer.Fine r e = let z : _≡_ {A = ℕ} 0 1 = cc in absurd (omega arith)
+verdict-refused (Answer.Refused q) r e = let z : q ≡ r = cc in ap Answer.Refused z
+
+edges-many : (d : Wire) (cs : List Loop) → length (tablesOf d cs .rows) ≡ length (d .edges)
+unfolding tablesOf
+edges-many d cs = length-map (d .edges) (λ e. map (has e) cs)
+
+faces-many : (cs fs : List Loop) → length (listed cs fs .numbers) ≡ length fs
+unfolding listed
+faces-many cs fs = length-map fs (numberIn cs)
+
+check-in : (x : Input) (list : List ℕ) (r : Refusal) → verdict (form x) (drawing x) list ≡ Verdict.Refused r
+    → In r (forms x ++ drawn x ++ shells (length (drawing x .edges)) (length (facesIn one list)))
+unfolding verdict candidates
+check-in x list r e =
+    let t = tablesOf (drawing x) (candidates (drawing x)) in
+    let l = listed (candidates (drawing x)) (facesIn one list) in
+    let ks = check 20 (offends (not (wellShaped one (length (drawing x .vertices)) list)) 0) ∷ faceChecks t (length (candidates (drawing x))) l in
+    let h = each-on (rules x) ks (forms x ++ drawn x) (shells (length (t .rows)) (length (l .numbers))) (rules-in x) (shell-in t (length (candidates (drawing x))) l (not (wellShaped one (length (drawing x .vertices)) list))) in
+    let i = first-in (forms x ++ drawn x ++ shells (length (t .rows)) (length (l .numbers))) (rules x ++ ks) h r (verdict-refused (firstOf (rules x ++ ks)) r e) in
+    subst (λ (n : ℕ). In r (forms x ++ drawn x ++ shells n (length (facesIn one list)))) (edges-many (drawing x) (candidates (drawing x)))
+    (subst (λ (n : ℕ). In r (forms x ++ drawn x ++ shells (length (t .rows)) n)) (faces-many (candidates (drawing x)) (facesIn one list)) i)
+
+-- ---- conversion
+
+never-refused : {A : Type 0} (l c w : ℕ) (es : List Entry) (r : Refusal) → answered l c w es ≡ Conversion.Refused r → A
+never-refused l c w [] r e = let z : _≡_ {A = ℕ} 0 1 = cc in absurd (omega arith)
+never-refused l c w (a ∷ []) r e = let z : _≡_ {A = ℕ} 0 1 = cc in absurd (omega arith)
+never-refused l c w (a ∷ (b ∷ es)) r e = let z : _≡_ {A = ℕ} 0 1 = cc in absurd (omega arith)
+
+module _ (x : Input) (limit : ℕ) (room solids : List ℕ) (r : Converted) (s : Sound (drawing x) (the-walk (drawing x)) limit room solids r) where
+  abbrev t : WalkTree (drawing x) (candidates (drawing x))
+  t = the-walk (drawing x)
+
+  sound-answers : (a : Conversion) → r .answer ≡ a → Answers x limit a
+  sound-answers (Conversion.One l c w six) e = let o = says-one (drawing x) t limit room solids r s e in (o .within, o .is .iv .1)
+  sound-answers (Conversion.Several l c w n) e = let o = says-several (drawing x) t limit room solids r s e in (o .within, o .two, o .eight)
+  sound-answers (Conversion.NoSolid l c w) e = says-none (drawing x) t limit room solids r s e .within
+  sound-answers (Conversion.Many l c w) e = says-many (drawing x) t limit room solids r s e .within
+  sound-answers (Conversion.TooLong l c w) e = says-long (drawing x) t limit room solids r s e .works
+  sound-answers (Conversion.Refused q) e = go (s .tells)
+    where
+      go : Tells (drawing x) t limit room solids r → Answers x limit (Conversion.Refused q)
+      go (inl y) = never-refused (length (loops (drawing x))) (length (candidates (drawing x))) (assumptions t) (walked (drawing x) (candidates (drawing x)) t) q (sym (y .answer) ∙ e)
+      go (inr (inl y)) = let z : _≡_ {A = ℕ} 0 1 = cc (y .answer) in absurd (omega arith)
+      go (inr (inr y)) = let z : _≡_ {A = ℕ} 0 1 = cc (y .answer) in absurd (omega arith)
+
+  sound-kept : reported (r .answer) ≡ 0 → (r .faces ≡ room) × (r .solids ≡ solids)
+  unfolding solidsFor flatMap
+  sound-kept e = go (s .tells)
+    where
+      empty : (es : List Entry) → length es ≡ 0 → es ≡ []
+      empty [] h = refl
+      empty (y ∷ es) h = absurd (omega arith)
+
+      go : Tells (drawing x) t limit room solids r → (r .faces ≡ room) × (r .solids ≡ solids)
+      go (inl y) =
+          let n = counted (length (loops (drawing x))) (length (candidates (drawing x))) (assumptions t) (walked (drawing x) (candidates (drawing x)) t) in
+          let z : walked (drawing x) (candidates (drawing x)) t ≡ [] = empty (walked (drawing x) (candidates (drawing x)) t) (sym n ∙ sym (ap reported (y .answer)) ∙ e) in
+          (y .faces-left ∙ ap (facesFor (candidates (drawing x)) room) z, y .solids-left ∙ ap (solidsFor solids) z)
+      go (inr (inl y)) = (y .faces-left, y .solids-left)
+      go (inr (inr y)) = (y .faces-left, y .solids-left)
+
+module _ (x : Input) (limit : ℕ) (room solids : List ℕ) where
+  abbrev made : Converted
+  made = conversion mostSolids (form x) (drawing x) limit room solids
+
+  answers : Answers x limit (made .answer)
+  answers = go (conversion-says (drawing x) (the-walk (drawing x)) (form x) limit room solids)
+    where
+      go : ((q : Refusal) × (firstOf (entryChecks limit room solids ++ form x ++ drawingChecks (drawing x) ++ loopChecks (loops (drawing x)) (candidates (drawing x))) ≡ Answer.Refused q) × (made ≡ record { answer = Conversion.Refused q; faces = room; solids = solids }))
+          ⊎ ((firstOf (entryChecks limit room solids ++ form x ++ drawingChecks (drawing x) ++ loopChecks (loops (drawing x)) (candidates (drawing x))) ≡ Answer.Fine) × Sound (drawing x) (the-walk (drawing x)) limit room solids made)
+          → Answers x limit (made .answer)
+      go (inl p) = subst (Answers x limit) (sym (ap (λ (c : Converted). c .answer) (p .2))) (first-in (rooms ++ forms x ++ drawn x) _ (conversion-in x limit room solids) (p .0) (p .1))
+      go (inr p) = sound-answers x limit room solids made (p .1) (made .answer) refl
+
+  keeps : reported (made .answer) ≡ 0 → (made .faces ≡ room) × (made .solids ≡ solids)
+  keeps e = go (conversion-says (drawing x) (the-walk (drawing x)) (form x) limit room solids)
+    where
+      go : ((q : Refusal) × (firstOf (entryChecks limit room solids ++ form x ++ drawingChecks (drawing x) ++ loopChecks (loops (drawing x)) (candidates (drawing x))) ≡ Answer.Refused q) × (made ≡ record { answer = Conversion.Refused q; faces = room; solids = solids }))
+          ⊎ ((firstOf (entryChecks limit room solids ++ form x ++ drawingChecks (drawing x) ++ loopChecks (loops (drawing x)) (candidates (drawing x))) ≡ Answer.Fine) × Sound (drawing x) (the-walk (drawing x)) limit room solids made)
+          → (made .faces ≡ room) × (made .solids ≡ solids)
+      go (inl p) = (ap (λ (c : Converted). c .faces) (p .2), ap (λ (c : Converted). c .solids) (p .2))
+      go (inr p) = sound-kept x limit room solids made (p .1) e
+
+-- ---- sheets
+
+read-in : (s : List ℕ) (r : Refusal) → sheetOf one s .answer ≡ Answer.Refused r → In r (forms (sheet s)) × (sheetOf one s .drawing ≡ blank)
+unfolding sheetOf
+read-in s r e = (
+  first-in (forms (sheet s)) (sheetChecks one s) (sheet-in s) r e,
+  ap (λ (a : Answer). drawnFor a (held (verticesIn one s) (edgesIn one s) (coordinatesIn one s) (endsIn one s))) e,
+)
+
+module _ (xyz : List ℤ) (ns room : List ℕ) (r : Refusal) where
+  written-refused : (a : Answer) → writtenFor one xyz ns a ≡ Written.Refused r → a ≡ Answer.Refused r
+  written-refused Answer.Fine e = let z : _≡_ {A = ℕ} 0 1 = cc in absurd (omega arith)
+  written-refused (Answer.Refused q) e = let z : q ≡ r = cc in ap Answer.Refused z
+
+  refuses : writtenOf one xyz ns room ≡ Written.Refused r → firstOf (writerChecks one xyz ns (length room)) ≡ Answer.Refused r
+  unfolding writtenOf
+  refuses e = written-refused (firstOf (writerChecks one xyz ns (length room))) e
+
+  write-in : writtenOf one xyz ns room ≡ Written.Refused r → In r (forms (lent xyz ns) ++ line 1 1 ∷ [])
+  unfolding writerChecks
+  write-in e =
+      first-in (forms (lent xyz ns) ++ line 1 1 ∷ []) (writerChecks one xyz ns (length room))
+      (each-on (lentChecks one xyz ns) _ (forms (lent xyz ns)) (line 1 1 ∷ []) (lent-in xyz ns)
+      (also (λ p q. inl (refl, first-place (ltb (length room) (bytesFor (total one (length xyz / 3) (length ns / 2)))) p q)) end)) r (refuses e)
+
+  write-keeps : writtenOf one xyz ns room ≡ Written.Refused r → roomOf one xyz ns room ≡ room
+  unfolding roomOf
+  write-keeps e = ap (λ (a : Answer). roomFor one xyz ns a room) (refuses e)
+
+-- a face list written from a report
+module _ (fs : List Loop) (room : List ℕ) (r : Refusal) where
+  sent-refused : (a : Answer) → sentFor one fs a ≡ Written.Refused r → a ≡ Answer.Refused r
+  sent-refused Answer.Fine e = let z : _≡_ {A = ℕ} 0 1 = cc in absurd (omega arith)
+  sent-refused (Answer.Refused q) e = let z : q ≡ r = cc in ap Answer.Refused z
+
+  sending : sentOf one fs room ≡ Written.Refused r → firstOf (sendChecks one fs (length room)) ≡ Answer.Refused r
+  unfolding sentOf
+  sending e = sent-refused (firstOf (sendChecks one fs (length room))) e
+
+  send-in : sentOf one fs room ≡ Written.Refused r → In r (line 20 1 ∷ line 1 1 ∷ [])
+  unfolding sendChecks
+  send-in e =
+      first-in (line 20 1 ∷ line 1 1 ∷ []) (sendChecks one fs (length room))
+      (also (λ p q. inl (refl, first-place (outside 4 42 (length fs) || not (all (faceFits one 32) fs)) p q)) (also (λ p q. inr (inl (refl, first-place (ltb (length room) (bytesFor (bitsOf one fs))) p q))) end)) r (sending e)
+
+  send-keeps : sentOf one fs room ≡ Written.Refused r → sentRoom one fs room ≡ room
+  unfolding sentRoom
+  send-keeps e = ap (λ (a : Answer). sentRoomFor one fs a room) (sending e)
+
+-- ---- the reading
+
+volume-one : (a : Conversion) (v : Float) → readingOf a ≡ Reading.Volume v → (l c work six : ℕ) × (a ≡ Conversion.One l c work six) × (v ≡ volume six)
+unfolding readingOf volume
+volume-one (Conversion.One l c w six) v e = (l, c, w, six, refl, cc)
+volume-one (Conversion.Several l c w n) v e = let z : _≡_ {A = ℕ} 0 1 = cc in absurd (omega arith)
+volume-one (Conversion.NoSolid l c w) v e = let z : _≡_ {A = ℕ} 0 1 = cc in absurd (omega arith)
+volume-one (Conversion.Many l c w) v e = let z : _≡_ {A = ℕ} 0 1 = cc in absurd (omega arith)
+volume-one (Conversion.TooLong l c w) v e = let z : _≡_ {A = ℕ} 0 1 = cc in absurd (omega arith)
+volume-one (Conversion.Refused r) v e = let z : _≡_ {A = ℕ} 0 1 = cc in absurd (omega arith)
+
+one-volume : (l c work six : ℕ) → readingOf (Conversion.One l c work six) ≡ Reading.Volume (volume six)
+unfolding readingOf volume
+one-volume l c w six = refl
+
+several-none : (l c work n : ℕ) → readingOf (Conversion.Several l c work n) ≡ Reading.NotAssessed 30
+unfolding readingOf
+several-none l c w n = refl
+
+number-none : (a : Conversion) → 0 < conversionSays a .number → readingOf a ≡ Reading.NotAssessed (conversionSays a .number)
+unfolding readingOf
+number-none (Conversion.One l c w six) h = absurd (omega arith)
+number-none (Conversion.Several l c w n) h = absurd (omega arith)
+number-none (Conversion.NoSolid l c w) h = refl
+number-none (Conversion.Many l c w) h = refl
+number-none (Conversion.TooLong l c w) h = refl
+number-none (Conversion.Refused r) h = refl
+
+pub demand1 : Demand1
+demand1 = record {
+  converts = λ x limit room solids. subst (λ (c : Converted). Answers x limit (c .answer)) (sym (converted-is x limit room solids)) (answers x limit room solids);
+  checks = λ x list r e. check-in x list r (sym (checked-is x list) ∙ e);
+  reads = read-in;
+  writes = write-in;
+  sends = send-in;
+  rooms-kept = λ x limit room solids e.
+      subst (λ (c : Converted). reported (c .answer) ≡ 0 → (c .faces ≡ room) × (c .solids ≡ solids)) (sym (converted-is x limit room solids)) (keeps x limit room solids) e;
+  room-kept = write-keeps;
+  send-room-kept = send-keeps;
+  volume-of = volume-one;
+  one-solid = one-volume;
+  several = several-none;
+  no-volume = number-none;
+}

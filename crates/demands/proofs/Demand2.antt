@@ -1,0 +1,75 @@
+-- Demand 2 holds. Assumes nothing.
+use mathlib.Core.Path.{_≡_, sym, ap, subst}
+use mathlib.Core.Bool.{Bool}
+use mathlib.Core.List.{List, _++_}
+use Prim.Native.Nat.{ℕ}
+use lib.Dec.{ltb}
+use borrow.Author.Tests.{le-ltb}
+use lib.ListN.{length}
+use Rattle.paper.specs.Refusals.{firstOf, offends}
+use Rattle.paper.specs.Drawing.{drawingChecks}
+use Rattle.paper.specs.Loops.{loops, candidates, loopChecks}
+use Rattle.paper.specs.Solids.{tablesOf}
+use Rattle.paper.specs.Conversion.{Converted, entryChecks}
+use Rattle.paper.specs.declared.Answer.the-variants.{Fine}
+use Rattle.means_walk.specs.Tree.{assumptions}
+use Rattle.means_walk.proofs.Grown.{one-walk}
+use Rattle.means_report.specs.Listed.{WalkTree}
+use Rattle.means_report.proofs.Report.{Unrefused, Sound, conversion-sound}
+use Rattle.means_report.proofs.Demand.{all-listed, says-none}
+use Rattle.means_report.proofs.Converted.{the-walk, no-ninth, tells-few, tells-many, tells-long, none-says}
+use Rattle.means_check.specs.Loop.{IsCandidate}
+use Rattle.means_check.proofs.Listing.{candidates-are, candidates-all, candidates-ascend}
+use Rattle.means_check.proofs.Accepting.{fine-both, none-step, no-checks}
+use Rattle.demands.specs.Input.{Input, drawing, candidatesOf, form, Passes, converted}
+use Rattle.demands.specs.Faces.{Candidates}
+use Rattle.demands.specs.Demand2.{Allowed, Demand2, Holds2}
+use Rattle.demands.proofs.Input.{converted-is, form-fine, drawing-fine, loops-fine}
+
+-- 1 and 2 have nothing against room and a limit that are allowed
+entry-fine : (limit : ℕ) (room solids : List ℕ) → Allowed limit room solids → firstOf (entryChecks limit room solids) ≡ Fine
+unfolding entryChecks
+entry-fine limit room solids a =
+    none-step 1 (offends (ltb (length room) 832) 0) _ (ap (λ (b : Bool). offends b 0) (le-ltb (length room) 832 (a .0)))
+    (none-step 1 (offends (ltb (length solids) 24) 1) _ (ap (λ (b : Bool). offends b 1) (le-ltb (length solids) 24 (a .1)))
+    (none-step 2 (offends (ltb 1000000 limit) 0) _ (ap (λ (b : Bool). offends b 0) (le-ltb 1000000 limit (a .2))) no-checks))
+
+module _ (x : Input) (p : Passes x) (t : WalkTree (drawing x) (candidatesOf x)) (limit : ℕ) (room solids : List ℕ) (a : Allowed limit room solids) where
+  unrefused : Unrefused (drawing x) t limit room solids (form x)
+  unrefused =
+      fine-both (entryChecks limit room solids ++ form x ++ drawingChecks (drawing x)) (loopChecks (loops (drawing x)) (candidates (drawing x)))
+      (fine-both (entryChecks limit room solids ++ form x) (drawingChecks (drawing x))
+      (fine-both (entryChecks limit room solids) (form x) (entry-fine limit room solids a) (form-fine x p)) (drawing-fine x p)) (loops-fine x p)
+
+  told : (r : Converted) → Sound (drawing x) t limit room solids r → Demand2 x t limit room solids r
+  told r s = record {
+    every = all-listed (drawing x) t limit room solids r s;
+    answer = λ u. tells-few (drawing x) t limit room solids r (s .tells) (u .1) (u .0) .answer;
+    rows = λ u. tells-few (drawing x) t limit room solids r (s .tells) (u .1) (u .0) .faces-left;
+    words = λ u. tells-few (drawing x) t limit room solids r (s .tells) (u .1) (u .0) .solids-left;
+    none = λ w. (λ e. says-none (drawing x) t limit room solids r s (e .3) .none, λ n. (length (loops (drawing x)), length (candidatesOf x), assumptions t, none-says (drawing x) t limit room solids r s n w));
+    ninth = λ f w. tells-many (drawing x) t limit room solids r (s .tells) f w .answer;
+    whole = no-ninth (drawing x) t;
+    long = λ w. tells-long (drawing x) t limit room solids r (s .tells) w .answer;
+  }
+
+  pub holds2 : Demand2 x t limit room solids (converted x limit room solids)
+  holds2 =
+      told (converted x limit room solids)
+      (subst (Sound (drawing x) t limit room solids) (sym (converted-is x limit room solids)) (conversion-sound (drawing x) t limit room solids (form x) unrefused))
+
+pub faces : (x : Input) → Candidates x
+faces x = record {
+  candidates = λ q. (
+    candidates-all (drawing x) q,
+    λ r. subst (IsCandidate (drawing x)) (r .2) (candidates-are (drawing x) (r .0) (r .1)),
+  );
+  in-order = candidates-ascend (drawing x);
+}
+
+pub demand2 : (x : Input) → Holds2 x
+demand2 x = record {
+  walk = the-walk (drawing x);
+  no-other = one-walk (tablesOf (drawing x) (candidates (drawing x)) .rows);
+  holds = λ p t limit room solids a. holds2 x p t limit room solids a;
+}

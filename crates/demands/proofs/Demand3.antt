@@ -1,0 +1,130 @@
+-- Demand 3 holds: the report's solids are what the check accepts. Assumes nothing.
+use mathlib.Core.Path.{_≡_, refl, sym, ap, ap₂, subst, _∙_}
+use mathlib.Core.Bool.{Bool}
+use mathlib.Core.Logic.{inl, inr}
+use mathlib.Core.List.{List, [], _∷_}
+use Prim.Native.Nat.{ℕ, _+_, _*_, _<_}
+use native.Mathlib.Omega.{arith}
+use lib.ListN.{length, getD, drop}
+use Rattle.sets.specs.Word.{word}
+use Rattle.paper.specs.Format.{one}
+use Rattle.paper.specs.FaceList.{encodeFaces, facesIn, solidFaces}
+use Rattle.paper.specs.Loops.{Loop, loops, candidates}
+use Rattle.paper.specs.Conversion.{Converted, facesAfter}
+use Rattle.paper.specs.declared.Verdict.the-variants.{Accepted}
+use Rattle.means_solid.specs.Solid.{IsSolid}
+use Rattle.means_solid.specs.Named.{Names}
+use Rattle.means_walk.specs.Tree.{assumptions}
+use Rattle.means_report.specs.Listed.{Entry, entryAt, Listed, walked}
+use Rattle.means_report.specs.Report.{facesFor, solidsFor, Reported}
+use Rattle.means_report.proofs.Listed.{walked-lists}
+use Rattle.means_report.proofs.Report.{Tells, Sound}
+use Rattle.means_report.proofs.Converted.{the-walk, conversion-unrefused}
+use Rattle.means_check.specs.Shape.{Candidates}
+use Rattle.means_check.specs.Accepts.{NamesSolid}
+use Rattle.means_check.specs.Sent.{faceList}
+use Rattle.means_check.specs.Bodies.{SameBody}
+use Rattle.means_check.proofs.Alike.{names-to}
+use Rattle.means_check.proofs.Bodies.{faceList-names, same-named}
+use Rattle.means_check.proofs.Demand.{drawing-places, drawing-fits, accepts-exactly, each-accepted, one-named}
+use Rattle.means_sent.proofs.Each.{back}
+use Rattle.demands.specs.Input.{Input, drawing, form, Passes, converted, checked, reported}
+use Rattle.demands.specs.Demand3.{NamesIt, Report, Demand3, Holds3}
+use Rattle.demands.proofs.Input.{converted-is, checked-is, form-fine, drawing-fine, loops-fine, small, counted}
+use Rattle.demands.proofs.Sendable.{names-sent}
+use Rattle.demands.proofs.Rooms.{solid-faces, words-at}
+
+module _ (x : Input) (p : Passes x) where
+  fits : Candidates (drawing x) (candidates (drawing x))
+  fits = drawing-fits (drawing x) (drawing-fine x p)
+
+  -- faces that name a solid are accepted, packed
+  packed : (taken turned : List Bool) (six : ℕ) → IsSolid (drawing x) (candidates (drawing x)) taken turned six → (fs : List Loop) → Names (drawing x) (candidates (drawing x)) taken turned fs → checked x (encodeFaces one fs) ≡ Accepted
+  packed taken turned six s fs n =
+      let m = small x (form-fine x p) in
+      let b = back (length (drawing x .vertices)) (m .0) fs (names-sent (drawing x) fits (drawing-places (drawing x) (drawing-fine x p)) (m .1) taken turned s fs n) in
+      checked-is x (encodeFaces one fs)
+      ∙ each-accepted (form x) (drawing x) (form-fine x p) (drawing-fine x p) (loops-fine x p) taken turned six s (encodeFaces one fs) (b .0)
+      (subst (λ (gs : List Loop). Names (drawing x) (candidates (drawing x)) taken turned gs) (sym (b .1)) n)
+
+  named : (list : List ℕ) → checked x list ≡ Accepted → NamesSolid (drawing x) (candidates (drawing x)) (facesIn one list)
+  named list a = accepts-exactly (form x) (drawing x) list .0 (sym (checked-is x list) ∙ a) .named
+
+  -- what is accepted is one of all solids
+  module _ (es : List Entry) (all : Listed (drawing x) (candidates (drawing x)) es) where
+    among : (list : List ℕ) → checked x list ≡ Accepted → (i : ℕ) × (i < length es) × NamesIt x (entryAt es i) (facesIn one list)
+    among list a =
+        let w = named list a in
+        let r = all .there (w .solid) in (
+          r .0,
+          r .1,
+          names-to (drawing x) (candidates (drawing x)) (entryAt es (r .0) .taken) (w .turned) (entryAt es (r .0) .turned) (λ k. sym (r .3 k))
+              (subst (λ (t : List Bool). Names (drawing x) (candidates (drawing x)) t (w .turned) (facesIn one list)) (sym (r .2)) (w .names)),
+        )
+
+    alone : length es ≡ 1 → (a b : List ℕ) → checked x a ≡ Accepted → checked x b ≡ Accepted → SameBody (facesIn one a) (facesIn one b)
+    alone e a b p q =
+        let r = among a p in
+        let s = among b q in
+        let z : s .0 ≡ r .0 = omega (arith, r .1, s .1) in
+        same-named (drawing x) (candidates (drawing x)) fits (entryAt es (r .0) .taken) (entryAt es (r .0) .turned) (facesIn one a) (facesIn one b) (r .2)
+        (subst (λ (i : ℕ). NamesIt x (entryAt es i) (facesIn one b)) z (s .2))
+
+  report : (limit : ℕ) (room solids : List ℕ) (r : Converted) → Sound (drawing x) (the-walk (drawing x)) limit room solids r → 0 < reported (r .answer) → Report x solids r
+  unfolding solidsFor
+  report limit room solids r sound h = go (sound .tells)
+    where
+      es : List Entry
+      es = walked (drawing x) (candidates (drawing x)) (the-walk (drawing x))
+
+      all : Listed (drawing x) (candidates (drawing x)) es
+      all = walked-lists (drawing x) (candidates (drawing x)) (sound .fair) (the-walk (drawing x))
+
+      -- the faces that the report's rows and words give
+      written : (es : List Entry) → 0 < length es → facesFor (candidates (drawing x)) room es ≡ facesAfter (candidates (drawing x)) room
+      written [] l = absurd (omega arith)
+      written (e ∷ es) l = refl
+
+      own : Reported (drawing x) (the-walk (drawing x)) limit room solids r → (i : ℕ) → i < length es
+          → solidFaces (r .faces) (getD (r .solids) (3 * i) 0) (getD (r .solids) (3 * i + 1) 0) ≡ faceList (drawing x) (candidates (drawing x)) (entryAt es i .taken) (entryAt es i .turned)
+      own t i l =
+          let w = words-at es (drop (3 * length es) solids) i l in
+          let a : getD (r .solids) (3 * i) 0 ≡ word (entryAt es i .taken) = ap (λ (ws : List ℕ). getD ws (3 * i) 0) (t .solids-left) ∙ w .0 in
+          let b : getD (r .solids) (3 * i + 1) 0 ≡ word (entryAt es i .turned) = ap (λ (ws : List ℕ). getD ws (3 * i + 1) 0) (t .solids-left) ∙ w .1 in
+          let f : r .faces ≡ facesAfter (candidates (drawing x)) room = t .faces-left ∙ written es (omega arith) in
+          ap (λ (rs : List ℕ). solidFaces rs (getD (r .solids) (3 * i) 0) (getD (r .solids) (3 * i + 1) 0)) f
+          ∙ ap₂ (solidFaces (facesAfter (candidates (drawing x)) room)) a b
+          ∙ solid-faces (drawing x) (loops-fine x p) room (entryAt es i .taken) (entryAt es i .turned) (all .each i l .some)
+
+      go : Tells (drawing x) (the-walk (drawing x)) limit room solids r → Report x solids r
+      go (inl t) = record {
+        es = es;
+        n = sym (ap reported (t .answer) ∙ counted (length (loops (drawing x))) (length (candidates (drawing x))) (assumptions (the-walk (drawing x))) es);
+        all = all;
+        words = t .solids-left;
+        each = λ i l fs n. packed (entryAt es i .taken) (entryAt es i .turned) (entryAt es i .six) (all .each i l) fs n;
+        some = λ i l. subst (NamesIt x (entryAt es i)) (sym (own t i l)) (faceList-names (drawing x) (candidates (drawing x)) fits (entryAt es i .taken) (entryAt es i .turned) (all .each i l));
+        other = among es all;
+        same = alone es all;
+      }
+      go (inr (inl t)) = absurd (omega (arith, ap reported (t .answer)))
+      go (inr (inr t)) = absurd (omega (arith, ap reported (t .answer)))
+
+  holds : Demand3 x
+  holds = record {
+    exactly = λ list. (
+      λ a. let w = accepts-exactly (form x) (drawing x) list .0 (sym (checked-is x list) ∙ a) in (w .shape, w .named),
+      λ w. checked-is x list ∙ accepts-exactly (form x) (drawing x) list .1 (record { form-passes = form-fine x p; drawing-passes = drawing-fine x p; few = loops-fine x p; shape = w .0; named = w .1 }),
+    );
+    one-solid = one-named (form x) (drawing x) (drawing-fine x p);
+    reports = λ limit room solids h. report limit room solids (converted x limit room solids) (sound limit room solids h) h;
+  }
+    where
+      sound : (limit : ℕ) (room solids : List ℕ) → 0 < reported (converted x limit room solids .answer) → Sound (drawing x) (the-walk (drawing x)) limit room solids (converted x limit room solids)
+      sound limit room solids h =
+          subst (Sound (drawing x) (the-walk (drawing x)) limit room solids) (sym (converted-is x limit room solids))
+          (conversion-unrefused (drawing x) (the-walk (drawing x)) (form x) limit room solids
+          (λ r e. omega (arith, h, ap (λ (c : Converted). reported (c .answer)) (converted-is x limit room solids), ap reported e)))
+
+pub demand3 : Holds3
+demand3 x p = holds x p

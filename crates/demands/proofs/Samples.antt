@@ -1,0 +1,74 @@
+-- Known drawings under the demands: so no statement is empty. Assumes nothing.
+use mathlib.Core.Path.{_≡_, refl, _∙_}
+use mathlib.Core.List.{List}
+use Prim.Native.Nat.{ℕ, _+_, _*_, _<_}
+use native.Mathlib.Omega.{arith}
+use lib.ListN.{length, getD}
+use Rattle.paper.specs.Numbers.{mostWork, faceRoom, solidRoom}
+use Rattle.paper.specs.Format.{one, encode}
+use Rattle.paper.specs.FaceList.{encodeFaces, facesIn, solidFaces}
+use Rattle.paper.specs.Questions.{Drawn, reply, faceBefore, solidBefore}
+use Rattle.paper.specs.Known.Drawings.{cube, outward, nested, tetrahedron}
+use Rattle.paper.specs.Conversion.{Converted}
+use Rattle.paper.specs.declared.Verdict.the-variants.{Accepted}
+use Rattle.means_check.specs.Bodies.{SameBody}
+use Rattle.demands.specs.Input.{Input, lent, sheet, Passes, converted, checked, reported}
+use Rattle.demands.specs.Demand3.{Report}
+use Rattle.demands.proofs.Demand3.{demand3}
+
+abbrev of : Drawn → Input
+of d = lent (d .xyz) (d .ends)
+
+abbrev on : Drawn → Input
+on d = sheet (encode one (d .xyz) (d .ends))
+
+-- what conversion says of it in the rooms of a caller
+abbrev result : Input → Converted
+result x = converted x mostWork (faceBefore faceRoom) (solidBefore solidRoom)
+
+told : (x : Input) → Passes x → 0 < reported (result x .answer) → Report x (solidBefore solidRoom) (result x)
+told x p h = demand3 x p .reports mostWork (faceBefore faceRoom) (solidBefore solidRoom) h
+
+-- "Cube of side 10": one solid, so every list that is accepted is the body of its known list
+cube-passes : Passes (of cube)
+unfolding reply
+cube-passes = refl
+
+cube-one : reported (result (of cube) .answer) ≡ 1
+unfolding reply
+cube-one = refl
+
+cube-list : checked (of cube) (encodeFaces one outward) ≡ Accepted
+unfolding reply
+cube-list = refl
+
+pub cube-body : (list : List ℕ) → checked (of cube) list ≡ Accepted → SameBody (facesIn one (encodeFaces one outward)) (facesIn one list)
+cube-body list a = let r = told (of cube) cube-passes (omega (arith, cube-one)) in r .same (r .n ∙ cube-one) (encodeFaces one outward) list cube-list a
+
+-- "Cube of corners +-20 round a cube of corners +-10": three solids, and each, packed from the report's own rows and words, is accepted
+nested-passes : Passes (of nested)
+unfolding reply
+nested-passes = refl
+
+nested-three : reported (result (of nested) .answer) ≡ 3
+unfolding reply
+nested-three = refl
+
+pub nested-each : (i : ℕ) → i < 3
+    → checked (of nested) (encodeFaces one (solidFaces (result (of nested) .faces) (getD (result (of nested) .solids) (3 * i) 0) (getD (result (of nested) .solids) (3 * i + 1) 0))) ≡ Accepted
+nested-each i h =
+    let r = told (of nested) nested-passes (omega (arith, nested-three)) in
+    let l : i < length (r .es) = omega (arith, r .n, nested-three) in
+    r .each i l (solidFaces (result (of nested) .faces) (getD (result (of nested) .solids) (3 * i) 0) (getD (result (of nested) .solids) (3 * i + 1) 0)) (r .some i l)
+
+-- the tetrahedron on its sheet
+sheet-passes : Passes (on tetrahedron)
+unfolding reply
+sheet-passes = refl
+
+sheet-one : reported (result (on tetrahedron) .answer) ≡ 1
+unfolding reply
+sheet-one = refl
+
+pub tetrahedron-bodies : (a b : List ℕ) → checked (on tetrahedron) a ≡ Accepted → checked (on tetrahedron) b ≡ Accepted → SameBody (facesIn one a) (facesIn one b)
+tetrahedron-bodies = let r = told (on tetrahedron) sheet-passes (omega (arith, sheet-one)) in r .same (r .n ∙ sheet-one)

@@ -1,0 +1,116 @@
+-- Faces that name a solid, in any order and from any starts, can be sent as a face list. Assumes nothing.
+use mathlib.Core.Path.{_≡_, sym, subst, _∙_}
+use mathlib.Core.Bool.{Bool, true, false, cond}
+use mathlib.Core.Option.{none}
+use mathlib.Core.List.{List}
+use Prim.Native.Nat.{ℕ, zero, suc, _≤_, _<_}
+use native.Mathlib.Omega.{arith}
+use native.Mathlib.Decide.{decLt, ℕ-discrete}
+use lib.ListN.{length, List·getD-eq-default}
+use Rattle.sets.specs.Word.{dig}
+use Rattle.sets.proofs.Digits.{never}
+use Rattle.paper.specs.Drawing.{Wire, samePlace}
+use Rattle.paper.specs.Loops.{Loop, loopAt, flipped, candidates}
+use Rattle.means_solid.specs.Solid.{IsSolid}
+use Rattle.means_solid.specs.Named.{SameRing, Names}
+use Rattle.means_check.specs.Path.{ClosedPath}
+use Rattle.means_check.specs.Sent.{Sent, faceList}
+use Rattle.means_check.specs.Shape.{Candidates}
+use Rattle.means_check.specs.Bodies.{Singly, SameBody}
+use Rattle.means_check.proofs.Rings.{same-sym, same-trans}
+use Rattle.means_check.proofs.Paths.{path-same, path-flip, loop-path}
+use Rattle.means_check.proofs.Listing.{candidates-are}
+use Rattle.means_check.proofs.Few.{solid-sent}
+use Rattle.means_check.proofs.Bodies.{faceList-names, same-named}
+
+-- ---- m different ones among n: m is at most n
+
+less : (a b : ℕ) → a < suc b → (a ≡ b → ⊥) → a < b
+less a b z q = pick (decLt a b)
+  where
+    pick : Dec (a < b) → a < b
+    pick (yes y) = y
+    pick (no y) = absurd (q (omega arith))
+
+-- the number n is taken out: whoever had it gets what the last one had
+out : (f : ℕ → ℕ) (n last i : ℕ) → Dec (f i ≡ n) → ℕ
+out f n last i (yes e) = f last
+out f n last i (no e) = f i
+
+at-most : (m n : ℕ) (f : ℕ → ℕ) → ((i : ℕ) → i < m → f i < n) → ((i j : ℕ) → i < m → j < m → f i ≡ f j → i ≡ j) → m ≤ n
+unfolding out
+at-most zero n f h u = omega arith
+at-most (suc m) zero f h u = absurd (omega (arith, h 0 (omega arith)))
+at-most (suc m) (suc n) f h u =
+    let r = at-most m n (λ i. out f n m i (ℕ-discrete (f i) n)) (λ i l. low i l (ℕ-discrete (f i) n)) (λ i j li lj e. one i j li lj (ℕ-discrete (f i) n) (ℕ-discrete (f j) n) e) in omega arith
+  where
+    low : (i : ℕ) → i < m → (d : Dec (f i ≡ n)) → out f n m i d < n
+    low i l (yes e) = go (ℕ-discrete (f m) n)
+      where
+        go : Dec (f m ≡ n) → f m < n
+        go (yes q) = absurd (omega (arith, u i m (omega arith) (omega arith) (e ∙ sym q)))
+        go (no q) = less (f m) n (h m (omega arith)) q
+    low i l (no e) = less (f i) n (h i (omega arith)) e
+
+    one : (i j : ℕ) → i < m → j < m → (d : Dec (f i ≡ n)) (c : Dec (f j ≡ n)) → out f n m i d ≡ out f n m j c → i ≡ j
+    one i j li lj (yes a) (yes b) e = u i j (omega arith) (omega arith) (a ∙ sym b)
+    one i j li lj (yes a) (no b) e = absurd (omega (arith, u m j (omega arith) (omega arith) e))
+    one i j li lj (no a) (yes b) e = absurd (omega (arith, u i m (omega arith) (omega arith) e))
+    one i j li lj (no a) (no b) e = u i j (omega arith) (omega arith) e
+
+-- the same of partners
+partners : (m n : ℕ) (R : ℕ → ℕ → Type 0) → ((i : ℕ) → i < m → (j : ℕ) × (j < n) × R i j) → ((i j k : ℕ) → i < m → j < m → R i k → R j k → i ≡ j) → m ≤ n
+partners m n R f u = at-most m n (λ i. to i (decLt i m)) (λ i l. low i l (decLt i m))
+    (λ i j li lj e. u i j (to i (decLt i m)) li lj (has i li (decLt i m)) (subst (λ (k : ℕ). R j k) (sym e) (has j lj (decLt j m))))
+  where
+    to : (i : ℕ) → Dec (i < m) → ℕ
+    to i (yes h) = f i h .0
+    to i (no h) = 0
+
+    low : (i : ℕ) → i < m → (d : Dec (i < m)) → to i d < n
+    low i l (yes h) = f i h .1
+    low i l (no h) = absurd (h l)
+
+    has : (i : ℕ) → i < m → (d : Dec (i < m)) → R i (to i d)
+    has i l (yes h) = f i h .2
+    has i l (no h) = absurd (h l)
+
+pub body-least : (fs gs : List Loop) → SameBody fs gs → Singly gs → length gs ≤ length fs
+body-least fs gs b y =
+    partners (length gs) (length fs) (λ i j. SameRing (loopAt fs j) (loopAt gs i)) (b .0) (λ i j k hi hj p q. y i j hi hj (same-trans (same-sym p) q))
+
+module _ (d : Wire) (c : Candidates d (candidates d)) (apart : samePlace d ≡ none) (few : length (d .edges) ≤ 64) (taken turned : List Bool) {six : ℕ} (s : IsSolid d (candidates d) taken turned six) where
+  singly : (fs : List Loop) → Names d (candidates d) taken turned fs → Singly fs
+  singly fs n i j hi hj p = let r = n .each i hi in n .once i j (r .0) hi hj (r .2) (same-trans (r .2) p)
+
+  turn : (b : Bool) (l : Loop) → ClosedPath d l → ClosedPath d (cond b (flipped l) l)
+  turn true l c = path-flip d l c
+  turn false l c = c
+
+  inside : (k : ℕ) → dig taken k ≡ true → k < length (candidates d)
+  inside k e = go (decLt k (length (candidates d)))
+    where
+      go : Dec (k < length (candidates d)) → k < length (candidates d)
+      go (yes h) = h
+      go (no h) = never (sym e ∙ List·getD-eq-default taken false (omega (arith, s .some)))
+
+  path : (fs : List Loop) → Names d (candidates d) taken turned fs → (i : ℕ) → i < length fs → ClosedPath d (loopAt fs i)
+  path fs n i h =
+      let r = n .each i h in
+      path-same d (r .2) (turn (dig turned (r .0)) (loopAt (candidates d) (r .0)) (loop-path d apart (loopAt (candidates d) (r .0)) (candidates-are d (r .0) (inside (r .0) (r .1)) .loop)))
+
+  pub names-sent : (fs : List Loop) → Names d (candidates d) taken turned fs → Sent (length (d .vertices)) fs
+  names-sent fs n =
+      let gs = faceList d (candidates d) taken turned in
+      let m = faceList-names d (candidates d) c taken turned s in
+      let b = same-named d (candidates d) c taken turned fs gs n m in
+      let q = solid-sent d apart few taken turned s in
+      let u : length gs ≤ length fs = body-least fs gs b (singly gs m) in
+      let v : length fs ≤ length gs = body-least gs fs (b .1, b .0) (singly fs n) in
+      record {
+        least = omega (arith, q .least);
+        most = omega (arith, q .most);
+        few = λ i h. path fs n i h .three;
+        many = λ i h. path fs n i h .twelve;
+        numbers = λ i j h l. path fs n i h .inside j l;
+      }

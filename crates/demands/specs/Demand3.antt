@@ -1,0 +1,50 @@
+-- The customer's demand 3, of a drawing lent as two lists and of one on a sheet. Assumes nothing.
+use mathlib.Core.Path.{_≡_}
+use mathlib.Core.Bool.{true}
+use mathlib.Core.Logic.{_↔_}
+use mathlib.Core.List.{List, _++_, flatMap}
+use Prim.Native.Nat.{ℕ, _+_, _*_, _<_}
+use lib.ListN.{length, getD, drop}
+use Rattle.paper.specs.Format.{one}
+use Rattle.paper.specs.FaceList.{encodeFaces, facesIn, wellShaped, solidFaces}
+use Rattle.paper.specs.Loops.{Loop}
+use Rattle.paper.specs.Conversion.{Converted}
+use Rattle.paper.specs.declared.Verdict.the-variants.{Accepted}
+use Rattle.means_solid.specs.Named.{Names}
+use Rattle.means_report.specs.Proper.{Same}
+use Rattle.means_report.specs.Listed.{Entry, entryAt, wordsOf, Listed}
+use Rattle.means_check.specs.Accepts.{NamesSolid}
+use Rattle.means_check.specs.Bodies.{SameBody}
+use Rattle.demands.specs.Input.{Input, drawing, candidatesOf, Passes, converted, checked, reported}
+
+module _ (x : Input) where
+  -- the faces name this solid of a report, "with its directions, in any order of faces and from any starting corners"
+  abbrev pub NamesIt : Entry → List Loop → Type 0
+  NamesIt e fs = Names (drawing x) (candidatesOf x) (e .taken) (e .turned) fs
+
+  -- "where the report lists n solids"
+  pub record Report (solids : List ℕ) (r : Converted) : Type 0 where
+    -- these n, which are all that there are: their words stand in the room, in this order
+    pub es : List Entry
+    pub n : length es ≡ reported (r .answer)
+    pub all : Listed (drawing x) (candidatesOf x) es
+    pub words : r .solids ≡ flatMap wordsOf es ++ drop (3 * length es) solids
+    -- "each of the n is accepted": any faces that name it, packed; and the faces that its words and the report's rows give do name it
+    pub each : (i : ℕ) → i < length es → (fs : List Loop) → NamesIt (entryAt es i) fs → checked x (encodeFaces one fs) ≡ Accepted
+    pub some : (i : ℕ) → i < length es → NamesIt (entryAt es i) (solidFaces (r .faces) (getD (r .solids) (3 * i) 0) (getD (r .solids) (3 * i + 1) 0))
+    -- "no other body is": what is accepted names one of the n
+    pub other : (list : List ℕ) → checked x list ≡ Accepted → (i : ℕ) × (i < length es) × NamesIt (entryAt es i) (facesIn one list)
+    -- "with n = 1 any two accepted lists are the same body"
+    pub same : length es ≡ 1 → (a b : List ℕ) → checked x a ≡ Accepted → checked x b ≡ Accepted → SameBody (facesIn one a) (facesIn one b)
+
+  -- "For a drawing that passes the drawing rules"
+  pub record Demand3 : Type 0 where
+    -- "the check accepts a list exactly when it names one solid of demand 2 with its directions": a list of good shape, 20
+    pub exactly : (list : List ℕ) → (checked x list ≡ Accepted) ↔ ((wellShaped one (length (drawing x .vertices)) list ≡ true) × NamesSolid (drawing x) (candidatesOf x) (facesIn one list))
+    -- "one solid": no list names two
+    pub one-solid : (fs : List Loop) (a b : NamesSolid (drawing x) (candidatesOf x) fs) → Same (a .taken) (b .taken) × Same (a .turned) (b .turned)
+    pub reports : (limit : ℕ) (room solids : List ℕ) → 0 < reported (converted x limit room solids .answer) → Report solids (converted x limit room solids)
+
+-- demand 3
+abbrev pub Holds3 : Type 0
+Holds3 = (x : Input) → Passes x → Demand3 x

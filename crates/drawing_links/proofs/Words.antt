@@ -1,0 +1,135 @@
+-- The neighbour words: what they say of the edges, how they grow with each edge, and when one is zero. Assumes nothing.
+use mathlib.Core.Path.{_≡_, refl, sym, ap, _∙_}
+use mathlib.Core.Bool.{Bool, true, false, not, _||_, _&&_, true≢false, or-assoc, and-true}
+use mathlib.Core.List.{List, [], _∷_, map}
+use Prim.Native.Nat.{ℕ, _*_, _%_, _^_, _≤_, _<_}
+use native.Mathlib.Decide.{decLt}
+use native.Mathlib.Omega.{arith}
+use borrow.Author.Tests.{eq-eqb, ne-eqb}
+use lib.Bits.{bitOr}
+use lib.Dec.{eqb}
+use lib.ListN.{length, getD, set, replicate, length-map, length-set, length-replicate, getD-replicate, List·getD-eq-default}
+use lib.Seq.{ext-getD}
+use Rattle.lists.specs.Lists.{any, upto}
+use Rattle.lists.proofs.Truth.{or-none}
+use Rattle.lists.proofs.Places.{map-at, upto-length, upto-at}
+use Rattle.paper.specs.Format.{one}
+use Rattle.paper.specs.Drawing.{Wire, Edge, edge, edgesOf, ends, joins, joined}
+use Rattle.paper_laws.specs.InRange.{Ends}
+use Rattle.sets.specs.Word.{digit}
+use Rattle.drawing_links.specs.Neighbours.{neighbourWord, neighbourWords, Links}
+use Rattle.sets.proofs.Word.{one-shl}
+use Rattle.sets.proofs.Numbers.{digit-zero, digit-word, by-digits, none-digits, digit-power, digit-stored}
+use Rattle.drawing_links.proofs.Edges.{unknown}
+
+-- ---- the words by their digits
+
+module _ {es : List ℕ} {v : ℕ} (p : Ends es v) where
+  row-at : (u w : ℕ) → getD (map (λ k. any (joins u k) (edgesOf es)) (upto v)) w false ≡ any (joins u w) (edgesOf es)
+  row-at u w = go (decLt w v)
+    where
+      go : Dec (w < v) → getD (map (λ k. any (joins u k) (edgesOf es)) (upto v)) w false ≡ any (joins u w) (edgesOf es)
+      go (yes h) =
+          map-at (λ k. any (joins u k) (edgesOf es)) (upto v) w 0 false (omega (arith, upto-length v))
+          ∙ ap (λ (k : ℕ). any (joins u k) (edgesOf es)) (upto-at v w h)
+      go (no h) =
+          List·getD-eq-default (map (λ k. any (joins u k) (edgesOf es)) (upto v)) false (omega (arith, length-map (upto v) (λ k. any (joins u k) (edgesOf es)), upto-length v))
+          ∙ sym (unknown p u w (omega arith))
+
+  word-at : (u : ℕ) → u < one .vmax → getD (neighbourWords (edgesOf es) v) u 0 ≡ neighbourWord (edgesOf es) v u
+  unfolding neighbourWords
+  word-at u h =
+      map-at (neighbourWord (edgesOf es) v) (upto (one .vmax)) u 0 0 (omega (arith, upto-length (one .vmax)))
+      ∙ ap (neighbourWord (edgesOf es) v) (upto-at (one .vmax) u h)
+
+  -- digit w of word u says whether an edge joins the two
+  pub neighbour-digit : (u w : ℕ) → u < one .vmax → digit (getD (neighbourWords (edgesOf es) v) u 0) w ≡ any (joins u w) (edgesOf es)
+  unfolding neighbourWord
+  neighbour-digit u w h =
+      ap (λ (m : ℕ). digit m w) (word-at u h) ∙ digit-word (map (λ k. any (joins u k) (edgesOf es)) (upto v)) w ∙ row-at u w
+
+  pub links-are : {d : Wire} → v ≤ one .vmax → length (d .vertices) ≡ v → d .edges ≡ edgesOf es → Links (neighbourWords (edgesOf es) v) v d
+  unfolding joined
+  links-are h n e = record {
+    count = n;
+    joins = λ u k w. neighbour-digit u w (omega arith) ∙ ap (any (joins u w)) (sym e);
+  }
+
+  -- words with these digits are the words
+  pub words-are : (l : List ℕ) → length l ≡ one .vmax → ((u w : ℕ) → digit (getD l u 0) w ≡ any (joins u w) (edgesOf es))
+      → l ≡ neighbourWords (edgesOf es) v
+  unfolding neighbourWord neighbourWords
+  words-are l n h =
+      let m : length (neighbourWords (edgesOf es) v) ≡ one .vmax = length-map (upto (one .vmax)) (neighbourWord (edgesOf es) v) ∙ upto-length (one .vmax) in
+      ext-getD 0 l (neighbourWords (edgesOf es) v) (n ∙ sym m)
+      (λ u k.
+      by-digits (getD l u 0) (map (λ k. any (joins u k) (edgesOf es)) (upto v)) (λ w. h u w ∙ sym (row-at u w)) ∙ sym (word-at u (omega arith)))
+
+-- ---- an edge more
+
+pub no-marks : (n u w : ℕ) → digit (getD (replicate n 0) u 0) w ≡ false
+no-marks n u w = go (decLt u n)
+  where
+    go : Dec (u < n) → digit (getD (replicate n 0) u 0) w ≡ false
+    go (yes h) = ap (λ (m : ℕ). digit m w) (getD-replicate n u 0 0 h) ∙ digit-zero w
+    go (no h) = ap (λ (m : ℕ). digit m w) (List·getD-eq-default (replicate n 0) 0 (omega (arith, length-replicate {A = ℕ} n 0))) ∙ digit-zero w
+
+-- `l[a] = l[a] | 1 << b`
+abbrev pub mark : List ℕ → ℕ → ℕ → List ℕ
+mark l a b = set l a (bitOr (getD l a 0) ((1 * 2 ^ b) % 2 ^ 64))
+
+mark-digit : (l : List ℕ) (a b u w : ℕ) → a < length l → b < 64 → digit (getD (mark l a b) u 0) w ≡ digit (getD l u 0) w || eqb u a && eqb w b
+mark-digit l a b u w h k =
+    ap (λ (m : ℕ). digit (getD (set l a (bitOr (getD l a 0) m)) u 0) w) (one-shl 64 b k) ∙ digit-stored l a (2 ^ b) u w h
+    ∙ ap (λ (t : Bool). digit (getD l u 0) w || eqb u a && t) (digit-power b w)
+
+-- both marks of an edge
+pub marked : (l : List ℕ) (a b u w : ℕ) → a < length l → b < length l → length l ≤ 64
+    → digit (getD (mark (mark l a b) b a) u 0) w ≡ digit (getD l u 0) w || joins u w (edge a b)
+unfolding joins
+marked l a b u w h k n =
+    mark-digit (mark l a b) b a u w (omega (arith, length-set l a (bitOr (getD l a 0) ((1 * 2 ^ b) % 2 ^ 64)))) (omega arith)
+    ∙ ap (λ (t : Bool). t || eqb u b && eqb w a) (mark-digit l a b u w h (omega arith))
+    ∙ or-assoc (digit (getD l u 0) w) (eqb u a && eqb w b) (eqb u b && eqb w a)
+
+-- ---- a word is zero where the vertex is on no edge
+
+module _ (u a b : ℕ) where
+  end-none : joins u b (edge a b) ≡ false → joins u a (edge a b) ≡ false → ends u (edge a b) ≡ false
+  unfolding joins ends
+  end-none h k =
+      let at-a : eqb u a && eqb b b ≡ false = or-none (eqb u a && eqb b b) (eqb u b && eqb b a) h .0 in
+      let at-b : eqb u b && eqb a a ≡ false = or-none (eqb u a && eqb a b) (eqb u b && eqb a a) k .1 in
+      λ i. (sym (and-true (eqb u a)) ∙ ap (λ (t : Bool). eqb u a && t) (sym (eq-eqb b b refl)) ∙ at-a) i
+      || (sym (and-true (eqb u b)) ∙ ap (λ (t : Bool). eqb u b && t) (sym (eq-eqb a a refl)) ∙ at-b) i
+
+  none-end : ends u (edge a b) ≡ false → (w : ℕ) → joins u w (edge a b) ≡ false
+  unfolding joins ends
+  none-end h w =
+      let n = or-none (eqb u a) (eqb u b) h in
+      λ i. n .0 i && eqb w b || n .1 i && eqb w a
+
+ends-none : (es : List Edge) (u : ℕ) → ((w : ℕ) → any (joins u w) es ≡ false) → any (ends u) es ≡ false
+unfolding any
+ends-none [] u h = refl
+ends-none (edge a b ∷ es) u h =
+    let here : (w : ℕ) → joins u w (edge a b) ≡ false = λ w. or-none (joins u w (edge a b)) (any (joins u w) es) (h w) .0 in
+    let rest : any (ends u) es ≡ false = ends-none es u (λ w. or-none (joins u w (edge a b)) (any (joins u w) es) (h w) .1) in
+    λ i. end-none u a b (here b) (here a) i || rest i
+
+none-ends : (es : List Edge) (u : ℕ) → any (ends u) es ≡ false → (w : ℕ) → any (joins u w) es ≡ false
+unfolding any
+none-ends [] u h w = refl
+none-ends (edge a b ∷ es) u h w =
+    let n = or-none (ends u (edge a b)) (any (ends u) es) h in
+    λ i. none-end u a b (n .0) w i || none-ends es u (n .1) w i
+
+pub loose-is : {words : List ℕ} {v : ℕ} {d : Wire} → Links words v d → (u : ℕ) → u < v → eqb (getD words u 0) 0 ≡ not (any (ends u) (d .edges))
+unfolding joined
+loose-is {words} {v} {d} l u h = go (any (ends u) (d .edges)) refl
+  where
+    go : (t : Bool) → any (ends u) (d .edges) ≡ t → eqb (getD words u 0) 0 ≡ not t
+    go false e = eq-eqb (getD words u 0) 0 (none-digits (getD words u 0) (λ w. l .joins u h w ∙ none-ends (d .edges) u e w))
+    go true e =
+        ne-eqb (getD words u 0) 0
+        (λ z. true≢false (sym e ∙ ends-none (d .edges) u (λ w. sym (l .joins u h w) ∙ ap (λ (m : ℕ). digit m w) z ∙ digit-zero w)))

@@ -1,0 +1,88 @@
+-- `drawing_links::apart` meets its contract. Assumes nothing.
+use mathlib.Core.List.{[]}
+use mathlib.Core.Bool.{Bool, false, not}
+use mathlib.Core.Path.{_∙_, _≡_, ap, sym}
+use Prim.Native.Nat.{_-_, _≤_, ℕ}
+use native.Mathlib.Omega.{arith}
+use lib.ListN.{getD, length, set}
+use denote.Ref.{now}
+use borrow.Author.Needs.{needs}
+use Rattle.sets.proofs.Numbers.{digit-bits}
+use Rattle.lists.proofs.Search.{LowestLeft, lowest-end, lowest-hit, lowest-miss, lowest-start}
+use Rattle.lists.specs.Lists.{lowest}
+use Rattle.paper_laws.proofs.Checks.{clear, stops, passes}
+use Rattle.paper.specs.Drawing.{Wire, apart, reached}
+use Rattle.paper.specs.Refusals.{Apart}
+use Rattle.drawing_links.specs.Neighbours.{Links}
+use Rattle.drawing_links.proofs.apart.Statement.{statement}
+use Rattle.drawing_links.proofs.apart.Tie as tie
+
+abbrev Missing : Wire → ℕ → ℕ → Bool
+Missing d v w = not (getD (reached d v) w false)
+
+abbrev Inv-loop : tie.InvT-loop
+Inv-loop near v set w₀ w = (w ≤ v) × ((d : Wire) → Links near v d → LowestLeft (Missing d v) v w)
+
+abbrev μ-loop : tie.MeasureT-loop
+μ-loop near v set w₀ w = v - w
+
+here : (c : tie.After-is-set Inv-loop μ-loop) {b : Bool} → not (c .is-set .result) ≡ b
+    → (d : Wire) → Links (now (c .before .before .before .before .args .near)) (c .before .before .before .before .args .v) d → Missing d (c .before .before .before .before .args .v) (c .before .before .loop .w) ≡ b
+here c e d k = ap not (sym (c .is-set .ensures ∙ digit-bits 64 _ _ (omega arith) ∙ c .before .before .before .reached .ensures d k (c .before .before .loop .w) (omega arith))) ∙ e
+
+-- the answer, by the count of vertices
+answer : (d : Wire) {v : ℕ} → length (d .vertices) ≡ v → lowest (Missing d v) v ≡ apart d
+unfolding apart
+answer d e = ap (λ (n : ℕ). lowest (Missing d n) n) (sym e)
+
+reached-requires : tie.Need-reached-requires Inv-loop μ-loop
+reached-requires c κs = omega arith
+
+loop-holds : tie.Need-loop-holds Inv-loop μ-loop
+loop-holds c = (omega arith, λ d k. lowest-start (Missing d _) _)
+
+is-set-requires : tie.Need-is-set-requires Inv-loop μ-loop
+is-set-requires c κs = omega arith
+
+refused-requires : tie.Need-refused-requires Inv-loop μ-loop
+refused-requires c κs = search needs
+
+returns : tie.Need-returns Inv-loop μ-loop
+returns c =
+    let v = c .before .before .before .before .before .before .args .v in
+    let l = c .before .before .before .before .loop in
+    λ d k. c .refused .ensures ∙ stops Apart [] (sym (sym (answer d (k .count)) ∙ lowest-hit (Missing d v) v (l .w) (omega arith) (l .inv .1 d k) (here (c .before .before) (c .before .if1 .taken) d k)))
+
+add-w : tie.Need-add-w Inv-loop μ-loop
+add-w c = omega arith
+
+loop-less : tie.Need-loop-less Inv-loop μ-loop
+loop-less c = omega arith
+
+loop-again : tie.Need-loop-again Inv-loop μ-loop
+loop-again c =
+    let v = c .before .before .before .before .before .args .v in
+    let l = c .before .before .before .loop in
+    (omega arith, λ d k. lowest-miss (Missing d v) v (l .w) (omega arith) (l .inv .1 d k) (here (c .before) (c .if1 .left) d k))
+
+returns-2 : tie.Need-returns-2 Inv-loop μ-loop
+returns-2 c =
+    let v = c .before .before .before .args .v in
+    let l = c .before .loop in
+    λ d k. clear ∙ passes Apart [] (sym (sym (answer d (k .count)) ∙ lowest-end (Missing d v) v (l .w) (omega arith) (l .inv .1 d k)))
+
+pub apart-spec : {M : Type 1} → statement M
+apart-spec =
+    tie.close
+    (tie.spec
+    Inv-loop
+    μ-loop
+    reached-requires
+    loop-holds
+    is-set-requires
+    refused-requires
+    returns
+    add-w
+    loop-less
+    loop-again
+    returns-2)

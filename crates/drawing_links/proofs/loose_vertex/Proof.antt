@@ -1,0 +1,77 @@
+-- `drawing_links::loose_vertex` meets its contract. Assumes nothing.
+use mathlib.Core.List.{[]}
+use mathlib.Core.Bool.{Bool, not}
+use mathlib.Core.Path.{_∙_, ap, sym}
+use Prim.Native.Nat.{_-_, _≤_, ℕ}
+use native.Mathlib.Omega.{arith}
+use borrow.Author.Needs.{needs}
+use borrow.Author.Tests.{eq-eqb, ne-eqb}
+use Rattle.lists.proofs.Search.{LowestLeft, lowest-end, lowest-hit, lowest-miss, lowest-start}
+use Rattle.lists.specs.Lists.{any, lowest}
+use Rattle.paper_laws.proofs.Checks.{clear, stops, passes}
+use Rattle.paper.specs.Drawing.{Wire, ends, looseVertex}
+use Rattle.paper.specs.Refusals.{LooseVertex}
+use Rattle.drawing_links.specs.Neighbours.{Links}
+use Rattle.drawing_links.proofs.Words.{loose-is}
+use Rattle.drawing_links.proofs.loose_vertex.Statement.{statement}
+use Rattle.drawing_links.proofs.loose_vertex.Tie as tie
+
+abbrev Loose : Wire → ℕ → Bool
+Loose d u = not (any (ends u) (d .edges))
+
+abbrev Inv-loop : tie.InvT-loop
+Inv-loop near v u₀ u = (u ≤ v) × ((d : Wire) → Links near v d → LowestLeft (Loose d) v u)
+
+abbrev μ-loop : tie.MeasureT-loop
+μ-loop near v u₀ u = v - u
+
+loop-holds : tie.Need-loop-holds Inv-loop μ-loop
+loop-holds c = (omega arith, λ d k. lowest-start (Loose d) _)
+
+mul-if1 : tie.Need-mul-if1 Inv-loop μ-loop
+mul-if1 c = omega arith
+
+element-copy-out-if1 : tie.Need-element-copy-out-if1 Inv-loop μ-loop
+element-copy-out-if1 c = omega arith
+
+refused-requires : tie.Need-refused-requires Inv-loop μ-loop
+refused-requires c κs = search needs
+
+returns : tie.Need-returns Inv-loop μ-loop
+unfolding looseVertex
+returns c =
+    let l = c .before .before .before .before .loop in
+    λ d k. c .refused .ensures ∙ stops LooseVertex [] (sym (ap (lowest (Loose d)) (k .count) ∙ lowest-hit (Loose d) (c .before .before .before .before .before .args .v) (l .u) (omega arith) (l .inv .1 d k) (sym (loose-is k (l .u) (omega arith)) ∙ eq-eqb _ 0 (c .before .if1 .taken))))
+
+add-u : tie.Need-add-u Inv-loop μ-loop
+add-u c = omega arith
+
+loop-less : tie.Need-loop-less Inv-loop μ-loop
+loop-less c = omega arith
+
+loop-again : tie.Need-loop-again Inv-loop μ-loop
+loop-again c =
+    let l = c .before .before .before .loop in
+    (omega arith, λ d k. lowest-miss (Loose d) (c .before .before .before .before .args .v) (l .u) (omega arith) (l .inv .1 d k) (sym (loose-is k (l .u) (omega arith)) ∙ ne-eqb _ 0 (c .if1 .left)))
+
+returns-2 : tie.Need-returns-2 Inv-loop μ-loop
+unfolding looseVertex
+returns-2 c =
+    let l = c .before .loop in
+    λ d k. clear ∙ passes LooseVertex [] (sym (ap (lowest (Loose d)) (k .count) ∙ lowest-end (Loose d) (c .before .before .args .v) (l .u) (omega arith) (l .inv .1 d k)))
+
+pub loose-vertex-spec : {M : Type 1} → statement M
+loose-vertex-spec =
+    tie.close
+    (tie.spec
+    Inv-loop
+    μ-loop
+    loop-holds
+    mul-if1
+    element-copy-out-if1
+    refused-requires
+    returns
+    add-u
+    loop-less
+    loop-again
+    returns-2)

@@ -1,0 +1,154 @@
+-- `drawing_links::neighbours` meets its contract. Assumes nothing.
+use mathlib.Core.Bool.{_||_}
+use mathlib.Core.Path.{_∙_, _≡_, ap, refl, sym}
+use Prim.Native.Nat.{_*_, _+_, _-_, _<_, _≤_, ℕ}
+use native.Mathlib.Omega.{arith}
+use lib.ListN.{getD, length, length-set, take}
+use lib.Seq.{take-length}
+use denote.Ref.{now}
+use borrow.Author.Needs.{needs}
+use Rattle.lists.proofs.Places.{any-more}
+use Rattle.lists.specs.Lists.{any}
+use Rattle.paper.specs.Drawing.{edge, edgesOf, ends, joins}
+use Rattle.paper.specs.Format.{one}
+use Rattle.sets.specs.Word.{digit}
+use Rattle.drawing_links.proofs.Edges.{edge-count, edge-is, half-count}
+use Rattle.drawing_links.proofs.Words.{marked, no-marks, words-are}
+use Rattle.drawing_links.proofs.neighbours.Statement.{statement}
+use Rattle.drawing_links.proofs.neighbours.Tie as tie
+
+abbrev Inv-loop : tie.InvT-loop
+Inv-loop ends v near₀ n e₀ near e =
+    (e ≤ n) × (n ≡ length (edgesOf ends)) × (length near ≡ one .vmax) × ((u w : ℕ) → digit (getD near u 0) w ≡ any (joins u w) (take e (edgesOf ends)))
+
+abbrev μ-loop : tie.MeasureT-loop
+μ-loop ends v near₀ n e₀ near e = n - e
+
+-- the ends of edge e are vertices
+a-low : (c : tie.After-wide Inv-loop μ-loop) → c .wide .result < one .vmax
+a-low c =
+    let p = c .before .before .before .before .before .pre in
+    let low = p .1 .known (2 * c .before .before .before .loop .e) (omega (arith, edge-count (p .1), p .1 .whole)) in
+    omega (arith, c .wide .ensures)
+
+b-low : (c : tie.After-wide2 Inv-loop μ-loop) → c .wide2 .result < one .vmax
+b-low c =
+    let p = c .before .before .before .before .before .before .before .pre in
+    let low = p .1 .known (2 * c .before .before .before .before .before .loop .e + 1) (omega (arith, edge-count (p .1), p .1 .whole)) in
+    omega (arith, c .wide2 .ensures)
+
+loop-holds : tie.Need-loop-holds Inv-loop μ-loop
+unfolding any
+loop-holds c =
+    let p = c .before .pre .1 in
+    (omega arith, half-count p ∙ sym (edge-count p), refl, λ u w. no-marks (one .vmax) u w)
+
+mul-wide : tie.Need-mul-wide Inv-loop μ-loop
+mul-wide c = omega arith
+
+shared-slice-read-wide : tie.Need-shared-slice-read-wide Inv-loop μ-loop
+shared-slice-read-wide c = omega (arith, edge-count (c .before .before .before .before .pre .1), c .before .before .before .before .pre .1 .whole)
+
+wide-requires : tie.Need-wide-requires Inv-loop μ-loop
+wide-requires c κs = search needs
+
+mul-wide-2 : tie.Need-mul-wide-2 Inv-loop μ-loop
+mul-wide-2 c = omega arith
+
+add-wide : tie.Need-add-wide Inv-loop μ-loop
+add-wide c = omega arith
+
+shared-slice-read-wide-2 : tie.Need-shared-slice-read-wide-2 Inv-loop μ-loop
+shared-slice-read-wide-2 c = omega (arith, edge-count (c .before .before .before .before .before .before .pre .1), c .before .before .before .before .before .before .pre .1 .whole)
+
+wide-requires-2 : tie.Need-wide-requires-2 Inv-loop μ-loop
+wide-requires-2 c κs = search needs
+
+mul-near : tie.Need-mul-near Inv-loop μ-loop
+mul-near c = omega (arith, a-low (c .before .before))
+
+array-read-near : tie.Need-array-read-near Inv-loop μ-loop
+array-read-near c = omega (arith, a-low (c .before .before))
+
+shl-near : tie.Need-shl-near Inv-loop μ-loop
+shl-near c = omega (arith, b-low (c))
+
+mul-near-2 : tie.Need-mul-near-2 Inv-loop μ-loop
+mul-near-2 c = omega (arith, a-low (c .before .before))
+
+array-write-near : tie.Need-array-write-near Inv-loop μ-loop
+array-write-near c = omega (arith, a-low (c .before .before))
+
+mul-near-3 : tie.Need-mul-near-3 Inv-loop μ-loop
+mul-near-3 c = omega (arith, b-low (c))
+
+array-read-near-2 : tie.Need-array-read-near-2 Inv-loop μ-loop
+array-read-near-2 c = omega (arith, b-low (c))
+
+shl-near-2 : tie.Need-shl-near-2 Inv-loop μ-loop
+shl-near-2 c = omega (arith, a-low (c .before .before))
+
+mul-near-4 : tie.Need-mul-near-4 Inv-loop μ-loop
+mul-near-4 c = omega (arith, b-low (c))
+
+array-write-near-2 : tie.Need-array-write-near-2 Inv-loop μ-loop
+array-write-near-2 c = omega (arith, b-low (c))
+
+add-e : tie.Need-add-e Inv-loop μ-loop
+add-e c = omega arith
+
+loop-less : tie.Need-loop-less Inv-loop μ-loop
+loop-less c = omega arith
+
+loop-again : tie.Need-loop-again Inv-loop μ-loop
+loop-again c =
+    let p = c .before .before .before .before .before .before .before .pre .1 in
+    let l = c .before .before .before .before .before .loop in
+    let es = edgesOf (now (c .before .before .before .before .before .before .before .args .ends)) in
+    let a = c .before .before .wide .result in
+    let b = c .wide2 .result in
+    let here : edge a b ≡ getD es (l .e) (edge 0 0) = (λ i. edge (c .before .before .wide .ensures i) (c .wide2 .ensures i)) ∙ sym (edge-is p (l .e) (omega (arith, edge-count p))) in
+    let a< : a < length (l .near) = omega (arith, a-low (c .before .before)) in
+    let b< : b < length (l .near) = omega (arith, b-low (c)) in (
+      omega arith,
+      l .inv .1,
+      simp length-set (l .inv .2),
+      λ u w. marked (l .near) a b u w a< b< (omega arith) ∙ (λ i. l .inv .3 u w i || joins u w (here i)) ∙ sym (any-more (joins u w) es (l .e) (edge 0 0) (omega arith)),
+    )
+
+returns : tie.Need-returns Inv-loop μ-loop
+returns c =
+    let p = c .before .before .before .pre .1 in
+    let l = c .before .loop in
+    let es = edgesOf (now (c .before .before .before .args .ends)) in
+    let e : l .e ≡ length es = omega arith in
+    words-are p (l .near) (l .inv .2) (λ u w. l .inv .3 u w ∙ ap (any (joins u w)) (ap (λ (n : ℕ). take n es) e ∙ take-length es))
+
+pub neighbours-spec : {M : Type 1} → statement M
+neighbours-spec =
+    tie.close
+    (tie.spec
+    Inv-loop
+    μ-loop
+    loop-holds
+    mul-wide
+    shared-slice-read-wide
+    wide-requires
+    mul-wide-2
+    add-wide
+    shared-slice-read-wide-2
+    wide-requires-2
+    mul-near
+    array-read-near
+    shl-near
+    mul-near-2
+    array-write-near
+    mul-near-3
+    array-read-near-2
+    shl-near-2
+    mul-near-4
+    array-write-near-2
+    add-e
+    loop-less
+    loop-again
+    returns)

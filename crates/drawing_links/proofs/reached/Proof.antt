@@ -1,0 +1,65 @@
+-- `drawing_links::reached` meets its contract. Assumes nothing.
+use mathlib.Core.Bool.{false}
+use mathlib.Core.Path.{_∙_, _≡_, ap, sym}
+use Prim.Native.Nat.{_-_, _≤_, ℕ}
+use native.Mathlib.Numerals.{add-one}
+use native.Mathlib.Omega.{arith}
+use lib.ListN.{getD, set}
+use Rattle.paper.specs.Drawing.{Wire, further, reached}
+use Rattle.sets.specs.Word.{digit}
+use Rattle.drawing_links.specs.Neighbours.{Links}
+use Rattle.drawing_links.proofs.Reach.{Stands, reach-more, reach-rest, reach-start}
+use Rattle.drawing_links.proofs.reached.Statement.{statement}
+use Rattle.drawing_links.proofs.reached.Tie as tie
+
+abbrev Inv-loop : tie.InvT-loop
+Inv-loop near v set₀ k₀ set k = (k ≤ v) × ((d : Wire) → Links near v d → Stands set v (reached d k))
+
+abbrev μ-loop : tie.MeasureT-loop
+μ-loop near v set₀ k₀ set k = v - k
+
+loop-holds : tie.Need-loop-holds Inv-loop μ-loop
+loop-holds c = (omega arith, λ d l. reach-start d _ (l .count))
+
+further-requires : tie.Need-further-requires Inv-loop μ-loop
+further-requires c κs = omega arith
+
+returns : tie.Need-returns Inv-loop μ-loop
+returns c =
+    let p = c .before .before .before .loop in
+    λ d l. reach-rest d (c .before .before .before .before .args .v) (l .count) (p .set) (p .k) (omega arith) (p .inv .1 d l) (λ w. ap (λ (m : ℕ). digit m w) (sym (c .if1 .taken)) ∙ c .before .further .ensures d l w)
+
+add-k : tie.Need-add-k Inv-loop μ-loop
+add-k c = omega arith
+
+loop-less : tie.Need-loop-less Inv-loop μ-loop
+loop-less c = omega arith
+
+loop-again : tie.Need-loop-again Inv-loop μ-loop
+unfolding reached
+loop-again c =
+    let p = c .before .before .before .loop in (
+      omega arith,
+      λ d l w h. reach-more d (c .before .before .before .before .args .v) (l .count) (p .set) (c .before .further .result) (reached d (p .k)) (p .inv .1 d l) (c .before .further .ensures d l) w h
+          ∙ ap (λ (n : ℕ). getD (reached d n) w false) (sym (add-one (p .k))),
+    )
+
+returns-2 : tie.Need-returns-2 Inv-loop μ-loop
+returns-2 c =
+    let p = c .before .loop in
+    let e : p .k ≡ c .before .before .args .v = omega arith in
+    λ d l w h. p .inv .1 d l w h ∙ ap (λ (n : ℕ). getD (reached d n) w false) e
+
+pub reached-spec : {M : Type 1} → statement M
+reached-spec =
+    tie.close
+    (tie.spec
+    Inv-loop
+    μ-loop
+    loop-holds
+    further-requires
+    returns
+    add-k
+    loop-less
+    loop-again
+    returns-2)

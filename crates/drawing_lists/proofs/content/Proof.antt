@@ -1,0 +1,43 @@
+-- `drawing_lists::content` meets its contract. Assumes nothing.
+use mathlib.Core.Path.{_∙_, sym, ap}
+use Rattle.lists.specs.Place.{found}
+use Rattle.paper_laws.proofs.Checks.{stops, passes}
+use Rattle.paper.specs.Sheet.{contentChecks}
+use borrow.Author.Needs.{needs}
+use Rattle.drawing_lists.proofs.content.Statement.{statement}
+use Rattle.drawing_lists.proofs.content.Tie as tie
+
+first-far-requires : tie.Need-first-far-requires
+first-far-requires c κs = search needs
+
+enum-known-i : tie.Need-enum-known-i
+enum-known-i c = search needs
+
+refused-requires : tie.Need-refused-requires
+refused-requires c κs = search needs
+
+enum-told : tie.Need-enum-told
+enum-told c = search needs
+
+edges-requires : tie.Need-edges-requires
+edges-requires c κs = search needs
+
+returns : tie.Need-returns
+unfolding contentChecks
+returns c = (c .refused .ensures) ∙ stops _ _ (sym (ap found ((c .before .before .i .given) .1)) ∙ (c .before .before .before .before .first-far .ensures))
+
+returns-2 : tie.Need-returns-2
+unfolding contentChecks
+returns-2 c = (c .edges .ensures) ∙ passes _ _ (sym (ap found ((c .before .enum-told .given) .1)) ∙ (c .before .before .before .first-far .ensures))
+
+pub content-spec : {M : Type 1} → statement M
+content-spec =
+    tie.close
+    (tie.spec
+    first-far-requires
+    enum-known-i
+    refused-requires
+    enum-told
+    edges-requires
+    returns
+    returns-2)

@@ -1,0 +1,60 @@
+-- `drawing_lists::edges` meets its contract. Assumes nothing.
+use mathlib.Core.Path.{_∙_, sym, ap}
+use Rattle.lists.specs.Place.{found}
+use Rattle.paper_laws.proofs.Checks.{stops, passes, clear}
+use Rattle.paper.specs.Sheet.{edgeChecks}
+use borrow.Author.Needs.{needs}
+use Rattle.drawing_lists.proofs.edges.Statement.{statement}
+use Rattle.drawing_lists.proofs.edges.Tie as tie
+
+first-wrong-requires : tie.Need-first-wrong-requires
+first-wrong-requires c κs = search needs
+
+enum-known-e : tie.Need-enum-known-e
+enum-known-e c = search needs
+
+refused-requires : tie.Need-refused-requires
+refused-requires c κs = search needs
+
+enum-told : tie.Need-enum-told
+enum-told c = search needs
+
+first-low-requires : tie.Need-first-low-requires
+first-low-requires c κs = search needs
+
+enum-known-e-2 : tie.Need-enum-known-e-2
+enum-known-e-2 c = search needs
+
+refused-requires-2 : tie.Need-refused-requires-2
+refused-requires-2 c κs = search needs
+
+enum-told-2 : tie.Need-enum-told-2
+enum-told-2 c = search needs
+
+returns : tie.Need-returns
+unfolding edgeChecks
+returns c = (c .refused .ensures) ∙ stops _ _ (sym (ap found ((c .before .before .e .given) .1)) ∙ (c .before .before .before .before .first-wrong .ensures))
+
+returns-2 : tie.Need-returns-2
+unfolding edgeChecks
+returns-2 c = (c .refused2 .ensures) ∙ stops _ _ (sym (ap found ((c .before .before .e2 .given) .1)) ∙ (c .before .before .before .before .first-low .ensures)) ∙ passes _ _ (sym (ap found ((c .before .before .before .before .before .enum-told .given) .1)) ∙ (c .before .before .before .before .before .before .before .first-wrong .ensures))
+
+returns-3 : tie.Need-returns-3
+unfolding edgeChecks
+returns-3 c = clear ∙ passes _ _ (sym (ap found ((c .enum-told2 .given) .1)) ∙ (c .before .before .first-low .ensures)) ∙ passes _ _ (sym (ap found ((c .before .before .before .enum-told .given) .1)) ∙ (c .before .before .before .before .before .first-wrong .ensures))
+
+pub edges-spec : {M : Type 1} → statement M
+edges-spec =
+    tie.close
+    (tie.spec
+    first-wrong-requires
+    enum-known-e
+    refused-requires
+    enum-told
+    first-low-requires
+    enum-known-e-2
+    refused-requires-2
+    enum-told-2
+    returns
+    returns-2
+    returns-3)

@@ -1,0 +1,71 @@
+-- `drawing_lists::first_far` meets its contract. Assumes nothing.
+use mathlib.Core.Path.{_≡_, _∙_, sym}
+use lib.IntN.{ℤ, pos}
+use mir.Val.{toZ, ofZ}
+use mir.Syntax.{w64}
+use mir.ValLaws.{toZ-ofZ}
+use Prim.Native.Nat.{_≤_, _-_}
+use lib.ListN.{length, getD}
+use Rattle.lists.proofs.Search.{LowestLeft, lowest-start, lowest-hit, lowest-miss, lowest-end}
+use Rattle.paper.specs.Sheet.{farAt}
+use native.Mathlib.Omega.{arith}
+use Rattle.drawing_lists.proofs.first_far.Statement.{statement}
+use Rattle.drawing_lists.proofs.first_far.Tie as tie
+
+abbrev Inv-loop : tie.InvT-loop
+Inv-loop xyz i₀ i = (i ≤ length xyz) × LowestLeft (farAt xyz) (length xyz) i
+
+abbrev μ-loop : tie.MeasureT-loop
+μ-loop xyz i₀ i = length xyz - i
+
+-- the element that was read, as it was passed on
+abbrev Z : tie.After-is-far Inv-loop μ-loop → ℤ
+Z c = getD (c .before .before .before .before .args .xyz .now) (c .before .before .before .loop .i) (pos 0)
+
+same : (c : tie.After-is-far Inv-loop μ-loop) → toZ w64 (ofZ w64 (Z c)) ≡ Z c
+same c = toZ-ofZ w64 (Z c) (record { sfits = c .before .is-far-arg .given })
+
+loop-holds : tie.Need-loop-holds Inv-loop μ-loop
+loop-holds c = (omega arith, lowest-start _ _)
+
+mul-is-far : tie.Need-mul-is-far Inv-loop μ-loop
+mul-is-far c = omega arith
+
+shared-slice-copy-out-is-far : tie.Need-shared-slice-copy-out-is-far Inv-loop μ-loop
+shared-slice-copy-out-is-far c = omega arith
+
+is-far-requires : tie.Need-is-far-requires Inv-loop μ-loop
+is-far-requires c κs = omega arith
+
+returns : tie.Need-returns Inv-loop μ-loop
+unfolding farAt
+returns c = sym (lowest-hit _ _ _ (omega arith) (c .before .before .before .before .loop .inv .1) (sym (rw (same (c .before)) at (c .before .is-far .ensures)) ∙ (c .if1 .taken)))
+
+add-i : tie.Need-add-i Inv-loop μ-loop
+add-i c = omega arith
+
+loop-less : tie.Need-loop-less Inv-loop μ-loop
+loop-less c = omega arith
+
+loop-again : tie.Need-loop-again Inv-loop μ-loop
+unfolding farAt
+loop-again c = (omega arith, lowest-miss _ _ _ (omega arith) (c .before .before .before .before .loop .inv .1) (sym (rw (same (c .before)) at (c .before .is-far .ensures)) ∙ (c .if1 .left)))
+
+returns-2 : tie.Need-returns-2 Inv-loop μ-loop
+returns-2 c = let a = c .before .before .args in sym (lowest-end (farAt (a .xyz .now)) (length (a .xyz .now)) (c .before .loop .i) (omega arith) (c .before .loop .inv .1))
+
+pub first-far-spec : {M : Type 1} → statement M
+first-far-spec =
+    tie.close
+    (tie.spec
+    Inv-loop
+    μ-loop
+    loop-holds
+    mul-is-far
+    shared-slice-copy-out-is-far
+    is-far-requires
+    returns
+    add-i
+    loop-less
+    loop-again
+    returns-2)

@@ -1,0 +1,72 @@
+-- `drawing_lists::first_wrong` meets its contract. Assumes nothing.
+use mathlib.Core.Path.{_≡_, _∙_, sym}
+use Prim.Native.Nat.{_≤_, _-_, _/_}
+use lib.ListN.{length}
+use Rattle.lists.proofs.Search.{LowestLeft, lowest-start, lowest-hit, lowest-miss, lowest-end}
+use Rattle.paper.specs.Sheet.{wrongAt}
+use native.Mathlib.Omega.{arith}
+use Rattle.drawing_lists.proofs.first_wrong.Statement.{statement}
+use Rattle.drawing_lists.proofs.first_wrong.Tie as tie
+
+abbrev Inv-loop : tie.InvT-loop
+Inv-loop v ends n e₀ e = (e ≤ n) × (n ≡ length ends / 2) × LowestLeft (wrongAt v ends) (length ends / 2) e
+
+abbrev μ-loop : tie.MeasureT-loop
+μ-loop v ends n e₀ e = n - e
+
+loop-holds : tie.Need-loop-holds Inv-loop μ-loop
+loop-holds c = (omega arith, omega arith, lowest-start _ _)
+
+mul-is-wrong : tie.Need-mul-is-wrong Inv-loop μ-loop
+mul-is-wrong c = omega arith
+
+shared-slice-read-is-wrong : tie.Need-shared-slice-read-is-wrong Inv-loop μ-loop
+shared-slice-read-is-wrong c = omega arith
+
+mul-is-wrong-2 : tie.Need-mul-is-wrong-2 Inv-loop μ-loop
+mul-is-wrong-2 c = omega arith
+
+add-is-wrong : tie.Need-add-is-wrong Inv-loop μ-loop
+add-is-wrong c = omega arith
+
+shared-slice-read-is-wrong-2 : tie.Need-shared-slice-read-is-wrong-2 Inv-loop μ-loop
+shared-slice-read-is-wrong-2 c = omega arith
+
+is-wrong-requires : tie.Need-is-wrong-requires Inv-loop μ-loop
+is-wrong-requires c κs = omega arith
+
+returns : tie.Need-returns Inv-loop μ-loop
+unfolding wrongAt
+returns c = sym (lowest-hit _ _ _ (omega arith) (c .before .before .before .before .before .loop .inv .2) (sym (c .before .is-wrong .ensures) ∙ (c .if1 .taken)))
+
+add-e : tie.Need-add-e Inv-loop μ-loop
+add-e c = omega arith
+
+loop-less : tie.Need-loop-less Inv-loop μ-loop
+loop-less c = omega arith
+
+loop-again : tie.Need-loop-again Inv-loop μ-loop
+unfolding wrongAt
+loop-again c = (omega arith, omega arith, lowest-miss _ _ _ (omega arith) (c .before .before .before .before .before .loop .inv .2) (sym (c .before .is-wrong .ensures) ∙ (c .if1 .left)))
+
+returns-2 : tie.Need-returns-2 Inv-loop μ-loop
+returns-2 c = let a = c .before .before .before .args in sym (lowest-end (wrongAt (a .v) (a .ends .now)) (length (a .ends .now) / 2) (c .before .loop .e) (omega arith) (c .before .loop .inv .2))
+
+pub first-wrong-spec : {M : Type 1} → statement M
+first-wrong-spec =
+    tie.close
+    (tie.spec
+    Inv-loop
+    μ-loop
+    loop-holds
+    mul-is-wrong
+    shared-slice-read-is-wrong
+    mul-is-wrong-2
+    add-is-wrong
+    shared-slice-read-is-wrong-2
+    is-wrong-requires
+    returns
+    add-e
+    loop-less
+    loop-again
+    returns-2)

@@ -1,0 +1,95 @@
+// Rule 13, EdgeMeets: an edge shares a point with a vertex or an edge other than at its own end vertices. Assumes a drawing in range.
+ghost use mathlib.Core.Path.{_≡_};
+ghost use mathlib.Core.Bool.{_&&_, not};
+ghost use mathlib.Core.List.{[], _∷_};
+ghost use Prim.Native.Nat.{_+_, _*_, _/_, _<_};
+ghost use lib.Dec.{eqb};
+ghost use lib.ListN.{length, getD};
+ghost use Rattle.lists.specs.Lists.{any, upto};
+ghost use Rattle.paper.specs.Numbers.{farthest};
+ghost use Rattle.paper.specs.Refusals as No;
+ghost use Rattle.paper.specs.Refusals.{check, firstOf};
+ghost use Rattle.paper.specs.Drawing.{wire, onOpen, openMeets, edgeMeets};
+ghost use Rattle.polygon.specs.Sizes.{Small};
+ghost use Rattle.polygon.specs.Rings.{pointOf};
+ghost use Rattle.paper_laws.specs.InRange.{Points, Ends};
+ghost use Rattle.drawing_rules.specs.Meets.{meetsAt};
+use drawing_segments::on_open;
+use drawing_segments::open_meets;
+use lists::wide;
+use paper::Answer;
+use paper::EDGE_MEETS;
+use paper::Point;
+use polygon::rings::point_at;
+use sheet_counts::refused;
+
+// The segment from a to b without its ends has one of the v vertices on it.
+fn meets_vertex(xyz: &[i64], v: usize, a: Point, b: Point) -> bool
+    requires { ⌜ Points (now xyz) v × Small farthest a × Small farthest b ⌝ }
+    ensures { λ r. ⌜ r ≡ any (λ w. onOpen a b (pointOf (now (xyz .entry)) w)) (upto v) ⌝ }
+{
+    let mut w = 0;
+    while w < v {
+        if on_open(a, b, point_at(xyz, w)) {
+            return true;
+        }
+        w += 1;
+    }
+    false
+}
+
+// The place of end k of the list.
+fn end_at(xyz: &[i64], v: usize, ends: &[u8], k: usize) -> Point
+    requires { ⌜ Points (now xyz) v × Ends (now ends) v × (k < length (now ends)) ⌝ }
+    ensures { λ p. ⌜ p ≡ pointOf (now (xyz .entry)) (getD (now (ends .entry)) k 0) ⌝ }
+{
+    point_at(xyz, wide(ends[k]))
+}
+
+// Edge e, which goes from a to b, meets another edge.
+fn meets_edge(xyz: &[i64], v: usize, ends: &[u8], e: usize, a: Point, b: Point) -> bool
+    requires { ⌜ Points (now xyz) v × Ends (now ends) v × Small farthest a × Small farthest b ⌝ }
+    ensures { λ r. ⌜ r ≡ any (λ f. not (eqb e f) && openMeets a b (pointOf (now (xyz .entry)) (getD (now (ends .entry)) (2 * f) 0)) (pointOf (now (xyz .entry)) (getD (now (ends .entry)) (2 * f + 1) 0))) (upto (length (now (ends .entry)) / 2)) ⌝ }
+{
+    let n = ends.len() / 2;
+    let mut f = 0;
+    while f < n {
+        if f != e {
+            let c = end_at(xyz, v, ends, 2 * f);
+            let d = end_at(xyz, v, ends, 2 * f + 1);
+            if open_meets(a, b, c, d) {
+                return true;
+            }
+        }
+        f += 1;
+    }
+    false
+}
+
+// Edge e meets a vertex or another edge.
+fn meets(xyz: &[i64], v: usize, ends: &[u8], e: usize) -> bool
+    requires { ⌜ Points (now xyz) v × Ends (now ends) v × (2 * e + 1 < length (now ends)) ⌝ }
+    ensures { λ r. ⌜ r ≡ meetsAt (wire (now (xyz .entry)) (now (ends .entry))) e ⌝ }
+{
+    let a = end_at(xyz, v, ends, 2 * e);
+    let b = end_at(xyz, v, ends, 2 * e + 1);
+    if meets_vertex(xyz, v, a, b) {
+        return true;
+    }
+    meets_edge(xyz, v, ends, e, a, b)
+}
+
+pub fn edge_meets(xyz: &[i64], v: usize, ends: &[u8]) -> Answer
+    requires { ⌜ Points (now xyz) v × Ends (now ends) v ⌝ }
+    ensures { λ r. ⌜ r ≡ firstOf (check No.EdgeMeets (edgeMeets (wire (now (xyz .entry)) (now (ends .entry)))) ∷ []) ⌝ }
+{
+    let n = ends.len() / 2;
+    let mut e = 0;
+    while e < n {
+        if meets(xyz, v, ends, e) {
+            return refused(EDGE_MEETS, e);
+        }
+        e += 1;
+    }
+    Answer::Fine
+}

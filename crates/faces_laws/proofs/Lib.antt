@@ -1,0 +1,6 @@
+-- What follows from the definitions of face lists. Assumes nothing.
+-- a face list and a face that pass 20
+pub mod Shape
+-- faces by the bit at which each starts; how many bits there are
+pub mod FaceList
+pub mod Packed

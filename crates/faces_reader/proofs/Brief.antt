@@ -1,0 +1,13 @@
+-- How large the numbers of a face list get. Assumes nothing.
+use Prim.Native.Nat.{ℕ, _≤_, _*_}
+use native.Mathlib.Nat.{mul-le-mul}
+use native.Mathlib.Omega.{arith}
+use Rattle.paper.specs.Format.{one}
+use Rattle.faces_reader.specs.Face.{Brief}
+
+pub one-brief : Brief one
+one-brief = record { slender = omega arith; f-held = omega arith; fw-least = omega arith }
+
+-- at most 12 fields of at most 8 bits
+pub corners-small : {w c : ℕ} → w ≤ 8 → c ≤ 12 → w * c ≤ 96
+corners-small {w} {c} hw hc = mul-le-mul {n₁ = w} {m₁ = c} {n₂ = 8} {m₂ = 12} hw hc

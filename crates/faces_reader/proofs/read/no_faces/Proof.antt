@@ -1,0 +1,18 @@
+-- `faces_reader::read::no_faces` meets its contract. Assumes nothing.
+use mathlib.Core.Path.{ap}
+use mathlib.Core.List.{[]}
+use Rattle.pack.specs.Fill.{padded}
+use Rattle.paper.specs.declared.Answer.{Answer}
+use borrow.Author.Needs.{needs}
+use Rattle.faces_reader.proofs.read.no_faces.Statement.{statement}
+use Rattle.faces_reader.proofs.read.no_faces.Tie as tie
+
+refused-requires : tie.Need-refused-requires
+refused-requires c κs = search needs
+
+returns : tie.Need-returns
+unfolding padded
+returns c = ap (λ (a : Answer). record { answer = a; count = 0; rows = padded [] 546 0 }) (c .refused .ensures)
+
+pub no-faces-spec : {M : Type 1} → statement M
+no-faces-spec = tie.close (tie.spec refused-requires returns)

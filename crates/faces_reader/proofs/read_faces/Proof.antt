@@ -1,0 +1,20 @@
+-- `faces_reader::read_faces` meets its contract. Assumes nothing.
+use mathlib.Core.Path.{_∙_, ap}
+use Rattle.paper.specs.FaceList.{facesOf}
+use Rattle.paper.specs.declared.Format.{Format}
+use Rattle.faces_reader.proofs.Brief.{one-brief}
+use borrow.Author.Needs.{needs}
+use Rattle.faces_reader.proofs.read_faces.Statement.{statement}
+use Rattle.faces_reader.proofs.read_faces.Tie as tie
+
+edition-one-requires : tie.Need-edition-one-requires
+edition-one-requires c κs = search needs
+
+read-requires : tie.Need-read-requires
+read-requires c κs = rw (c .edition-one .ensures) one-brief
+
+returns : tie.Need-returns
+returns c = (c .read .ensures) ∙ ap (λ (f : Format). facesOf f (c .before .before .before .args .vertices) (c .before .before .before .args .list .now)) (c .before .edition-one .ensures)
+
+pub read-faces-spec : {M : Type 1} → statement M
+read-faces-spec = tie.close (tie.spec edition-one-requires read-requires returns)

@@ -1,0 +1,35 @@
+-- One face of a packed list, by the bit at which it starts, and what comes before and behind the faces. Assumes nothing.
+use mathlib.Core.Bool.{Bool, _&&_, not, cond}
+use mathlib.Core.Option.{Option, none, some}
+use mathlib.Core.List.{List}
+use Prim.Native.Nat.{ℕ, _+_, _*_, _≤_}
+use lib.Dec.{leb, eqb}
+use lib.ListN.{length}
+use Rattle.pack.specs.Bits.{fieldAt, fieldsAt}
+use Rattle.paper.specs.Format.{one, leastFaces, editionBits, cornerBits, outside, bytesFor, fillAfter}
+use Rattle.paper.specs.FaceList.{countIn, faceFits}
+use Rattle.paper.specs.declared.Format.{Format}
+use Rattle.sheet_shape.specs.Narrow.{Narrow}
+
+-- so that a face list by value has room for what a list holds
+pub record Brief (f : Format) : Type 0 where
+  pub slender : Narrow f
+  pub f-held : f .fmax ≤ one .fmax
+  pub fw-least : 5 ≤ f .fw
+
+module _ (f : Format) where
+  -- the face count, if edition and count are right and the list has bits for them
+  unfoldable pub countOf : List ℕ → Option ℕ
+  countOf s =
+      cond (leb 2 (length s) && eqb (fieldAt s 0 editionBits) (f .edition) && not (outside leastFaces (f .fmax) (countIn f s)))
+      (some (countIn f s)) none
+
+  -- the corner count of the face at bit p, if it fits a drawing of v vertices and the list has its bits
+  unfoldable pub faceAt : ℕ → List ℕ → ℕ → Option ℕ
+  faceAt v s p =
+      let c = fieldAt s p cornerBits in
+      cond (leb (p + cornerBits + f .nw * c) (length s * 8) && faceFits f v (fieldsAt s (p + cornerBits) (f .nw) c)) (some c) none
+
+-- the list ends with the fill of p bits
+unfoldable pub closesAt : List ℕ → ℕ → Bool
+closesAt s p = eqb (length s) (bytesFor p) && eqb (fillAfter p s) 0

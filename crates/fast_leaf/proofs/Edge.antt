@@ -1,0 +1,253 @@
+-- One edge of a face: what is reached, waits and is turned after it. Assumes nothing.
+use mathlib.Core.Bool.{Bool, true, false, not, _&&_, _||_, cond, xor}
+use mathlib.Core.List.{List, [], _∷_}
+use mathlib.Core.Logic.{_⊎_, inl, inr}
+use mathlib.Core.Path.{_≡_, refl, sym, ap, ap₂, _∙_, subst}
+use Prim.Native.Nat.{ℕ, zero, suc, _+_, _≤_}
+use native.Mathlib.Omega.{arith}
+use native.Mathlib.Decide.{ℕ-discrete}
+use lib.Dec.{eqb}
+use borrow.Author.Tests.{eq-eqb, ne-eqb}
+use Rattle.lists.proofs.Truth.{and-left, and-right, and-both, or-left, or-right, or-cases}
+use Rattle.sets.specs.Word.{bit, dig, Sub, count, both, either, less, only, first}
+use Rattle.sets.proofs.Digits.{never, dig-both, dig-either, dig-less, dig-self, count-le, count-none, count-one, count-only, count-with, first-in}
+use Rattle.paper.specs.Solids.{unlike, oriented}
+use Rattle.means_leaf.specs.Meaning.{In, Way, across}
+use Rattle.means_leaf.proofs.Unlike.{dig-unlike}
+use Rattle.means_leaf.proofs.Counts.{left-in, left-out}
+use Rattle.means_leaf.proofs.Forced.{Suits}
+use Rattle.fast_leaf.specs.Faces.{Going, others, unlikeWays, atEdge, toGo}
+
+pub off : (a : Bool) → (a ≡ true → ⊥) → a ≡ false
+off true f = absurd (f refl)
+off false f = refl
+
+pub count-alone : (j : ℕ) → count (only j) ≡ 1
+unfolding count only
+count-alone zero = refl
+count-alone (suc j) = omega (arith, count-alone j)
+
+-- ---- what is kept of the faces found so far
+pub record Fair (rows ups : List (List Bool)) (taken : List Bool) (g : Going) : Type 0 where
+  pub in-taken : Sub (g .reached) taken
+  pub in-reached : Sub (g .waiting) (g .reached)
+  pub turned-in : Sub (g .turned) (g .reached)
+  pub low : dig (g .reached) (first taken) ≡ true
+  pub low-turned : dig (g .turned) (first taken) ≡ false
+  pub way : (k : ℕ) → dig (g .reached) k ≡ true → Way rows taken (first taken) k
+  pub right : (ts : List Bool) → oriented rows ups taken ts ≡ true → dig ts (first taken) ≡ false → (k : ℕ) → dig (g .reached) k ≡ true → dig (g .turned) k ≡ dig ts k
+
+-- the direction that an edge asks of the other face
+turn-is : (r uk tk : Bool) → r ≡ not (xor uk tk) → not (xor (eqb (bit r) 0) (eqb (bit (xor uk false)) 0)) ≡ tk
+unfolding xor
+turn-is true true true e = refl
+turn-is true true false e = never e
+turn-is true false true e = never e
+turn-is true false false e = refl
+turn-is false true true e = never (sym e)
+turn-is false true false e = refl
+turn-is false false true e = refl
+turn-is false false false e = never (sym e)
+
+module _ (b : Bool) (t o : List Bool) (k : ℕ) where
+  turned-split : dig (cond b t (either t o)) k ≡ true → (dig t k ≡ true) ⊎ (dig o k ≡ true)
+  turned-split h = go b h
+    where
+      go : (b : Bool) → dig (cond b t (either t o)) k ≡ true → (dig t k ≡ true) ⊎ (dig o k ≡ true)
+      go true h = inl h
+      go false h = or-cases (dig t k) (dig o k) (sym (dig-either t o k) ∙ h)
+
+  turned-keep : dig o k ≡ false → dig (cond b t (either t o)) k ≡ dig t k
+  turned-keep z = go b
+    where
+      or-no : (x : Bool) → (x || false) ≡ x
+      or-no true = refl
+      or-no false = refl
+
+      go : (b : Bool) → dig (cond b t (either t o)) k ≡ dig t k
+      go true = refl
+      go false = dig-either t o k ∙ ap (λ (x : Bool). dig t k || x) z ∙ or-no (dig t k)
+
+  turned-new : dig o k ≡ true → dig t k ≡ false → dig (cond b t (either t o)) k ≡ not b
+  turned-new h z = go b
+    where
+      go : (b : Bool) → dig (cond b t (either t o)) k ≡ not b
+      go true = z
+      go false = dig-either t o k ∙ or-right (dig t k) (dig o k) h
+
+module _ (row up taken : List Bool) (f : ℕ) (g : Going) where
+  pub edge-not : (count (both (g .reached) (others row taken f)) ≡ 0 → ⊥) → atEdge row up taken f g ≡ g
+  unfolding atEdge
+  edge-not n = rw (ne-eqb (count (both (g .reached) (others row taken f))) 0 n)
+
+  module _ (z : count (both (g .reached) (others row taken f)) ≡ 0) where
+    edge-reached : (k : ℕ) → dig (atEdge row up taken f g .reached) k ≡ dig (g .reached) k || dig (others row taken f) k
+    unfolding atEdge
+    edge-reached k = rw (eq-eqb (count (both (g .reached) (others row taken f))) 0 z) (dig-either (g .reached) (others row taken f) k)
+
+    edge-waiting : (k : ℕ) → dig (atEdge row up taken f g .waiting) k ≡ dig (g .waiting) k || dig (others row taken f) k
+    unfolding atEdge
+    edge-waiting k = rw (eq-eqb (count (both (g .reached) (others row taken f))) 0 z) (dig-either (g .waiting) (others row taken f) k)
+
+    edge-turned : atEdge row up taken f g .turned ≡ cond (unlikeWays (unlike up (g .turned)) f (others row taken f)) (g .turned) (either (g .turned) (others row taken f))
+    unfolding atEdge
+    edge-turned = rw (eq-eqb (count (both (g .reached) (others row taken f))) 0 z)
+
+    edge-new : (k : ℕ) → dig (others row taken f) k ≡ true → dig (g .reached) k ≡ false
+    edge-new k h = off (dig (g .reached) k) (λ p. count-none (both (g .reached) (others row taken f)) z k (dig-both (g .reached) (others row taken f) k ∙ and-both p h))
+
+  -- nothing is lost, and what is new waits
+  pub edge-keeps : Sub (g .reached) (atEdge row up taken f g .reached)
+  edge-keeps k h = go (ℕ-discrete (count (both (g .reached) (others row taken f))) 0)
+    where
+      go : Dec (count (both (g .reached) (others row taken f)) ≡ 0) → dig (atEdge row up taken f g .reached) k ≡ true
+      go (yes z) = edge-reached z k ∙ or-left (dig (g .reached) k) (dig (others row taken f) k) h
+      go (no n) = ap (λ (x : Going). dig (x .reached) k) (edge-not n) ∙ h
+
+  pub edge-old : (k : ℕ) → dig (atEdge row up taken f g .reached) k ≡ true → dig (atEdge row up taken f g .waiting) k ≡ false → (dig (g .reached) k ≡ true) × (dig (g .waiting) k ≡ false)
+  edge-old k h w = go (ℕ-discrete (count (both (g .reached) (others row taken f))) 0)
+    where
+      two : (x y o : Bool) → (x || o) ≡ true → (y || o) ≡ false → (x ≡ true) × (y ≡ false)
+      two x y true p q = never (sym (or-right y true refl) ∙ q)
+      two true true false p q = never q
+      two true false false p q = (refl, refl)
+      two false y false p q = never (sym p)
+
+      go : Dec (count (both (g .reached) (others row taken f)) ≡ 0) → (dig (g .reached) k ≡ true) × (dig (g .waiting) k ≡ false)
+      go (yes z) = two (dig (g .reached) k) (dig (g .waiting) k) (dig (others row taken f) k) (sym (edge-reached z k) ∙ h) (sym (edge-waiting z k) ∙ w)
+      go (no n) = (sym (ap (λ (x : Going). dig (x .reached) k) (edge-not n)) ∙ h, sym (ap (λ (x : Going). dig (x .waiting) k) (edge-not n)) ∙ w)
+
+  -- of an edge with two faces, one of which is f
+  module _ (on : dig (both row taken) f ≡ true) (two : count (both row taken) ≡ 2) where
+    edge-one : count (others row taken f) ≡ 1
+    edge-one = omega (arith, count-only (both row taken) f on)
+
+    -- afterwards the faces of the edge are reached
+    pub edge-covers : dig (g .reached) f ≡ true → Sub (both row taken) (atEdge row up taken f g .reached)
+    edge-covers rf k h = here (ℕ-discrete k f)
+      where
+        other : dig (others row taken f) k ≡ true → Dec (count (both (g .reached) (others row taken f)) ≡ 0) → dig (atEdge row up taken f g .reached) k ≡ true
+        other o (yes z) = edge-reached z k ∙ or-right (dig (g .reached) k) (dig (others row taken f) k) o
+        other o (no n) =
+            let p : (dig (g .reached) (first (both (g .reached) (others row taken f))) && dig (others row taken f) (first (both (g .reached) (others row taken f)))) ≡ true
+            = sym (dig-both (g .reached) (others row taken f) (first (both (g .reached) (others row taken f)))) ∙ first-in (both (g .reached) (others row taken f)) n in
+            let q : first (both (g .reached) (others row taken f)) ≡ k
+            = count-one (others row taken f) edge-one (first (both (g .reached) (others row taken f))) k (and-right (dig (g .reached) (first (both (g .reached) (others row taken f)))) (dig (others row taken f) (first (both (g .reached) (others row taken f)))) p) o in
+            edge-keeps k (subst (λ (x : ℕ). dig (g .reached) x ≡ true) q (and-left (dig (g .reached) (first (both (g .reached) (others row taken f)))) (dig (others row taken f) (first (both (g .reached) (others row taken f)))) p))
+
+        here : Dec (k ≡ f) → dig (atEdge row up taken f g .reached) k ≡ true
+        here (yes e) = edge-keeps k (subst (λ (x : ℕ). dig (g .reached) x ≡ true) (sym e) rf)
+        here (no n) = other (left-in (both row taken) f k h n) (ℕ-discrete (count (both (g .reached) (others row taken f))) 0)
+
+    module _ (rows ups : List (List Bool)) (i : In row rows) (s : (ts : List Bool) → oriented rows ups taken ts ≡ true → Suits row up taken ts)
+        (rf : dig (g .reached) f ≡ true) (h : Fair rows ups taken g) where
+      module _ (z : count (both (g .reached) (others row taken f)) ≡ 0) where
+        ways-are : (k : ℕ) → dig (others row taken f) k ≡ true
+            → unlikeWays (unlike up (g .turned)) f (others row taken f) ≡ xor (eqb (bit (xor (dig up f) (dig (g .turned) f))) 0) (eqb (bit (xor (dig up k) (dig (g .turned) k))) 0)
+        ways-are k o =
+            ap₂ (λ (m n : ℕ). xor (eqb m 0) (eqb n 0))
+            (count-with (only f) (unlike up (g .turned)) f (count-alone f) (dig-self f) ∙ ap bit (dig-unlike up (g .turned) f))
+            (count-with (others row taken f) (unlike up (g .turned)) k edge-one o ∙ ap bit (dig-unlike up (g .turned) k))
+
+        not-turned : (k : ℕ) → dig (others row taken f) k ≡ true → dig (g .turned) k ≡ false
+        not-turned k o = off (dig (g .turned) k) (λ p. never (sym (h .turned-in k p) ∙ edge-new z k o))
+
+        new-right : (ts : List Bool) → oriented rows ups taken ts ≡ true → dig ts (first taken) ≡ false → (k : ℕ) → dig (others row taken f) k ≡ true
+            → not (unlikeWays (unlike up (g .turned)) f (others row taken f)) ≡ dig ts k
+        new-right ts c e k o =
+            let q = left-out (both row taken) f k o in
+            let suit : xor (dig up f) (dig (g .turned) f) ≡ not (xor (dig up k) (dig ts k))
+            = ap (xor (dig up f)) (h .right ts c e f rf) ∙ s ts c f k on (q .0) (λ p. q .1 (sym p)) in
+            ap not (ways-are k o ∙ ap (λ (x : Bool). xor (eqb (bit (xor (dig up f) (dig (g .turned) f))) 0) (eqb (bit (xor (dig up k) x)) 0)) (not-turned k o))
+            ∙ turn-is (xor (dig up f) (dig (g .turned) f)) (dig up k) (dig ts k) suit
+
+        fair-new : Fair rows ups taken (atEdge row up taken f g)
+        fair-new = record {
+          in-taken = λ k p. taken-by k (splits k p);
+          in-reached = λ k p. edge-reached z k ∙ waits (dig (g .waiting) k) (dig (g .reached) k) (dig (others row taken f) k) (h .in-reached k) (sym (edge-waiting z k) ∙ p);
+          turned-in = λ k p. edge-reached z k ∙ turns k (turned-split b (g .turned) (others row taken f) k (sym (ap (λ (x : List Bool). dig x k) (edge-turned z)) ∙ p));
+          low = edge-keeps (first taken) (h .low);
+          low-turned = ap (λ (x : List Bool). dig x (first taken)) (edge-turned z) ∙ turned-keep b (g .turned) (others row taken f) (first taken) (not-new (first taken) (h .low)) ∙ h .low-turned;
+          way = λ k p. way-by k (splits k p);
+          right = λ ts c e k p. ap (λ (x : List Bool). dig x k) (edge-turned z) ∙ right-by ts c e k (splits k p);
+        }
+          where
+            b : Bool
+            b = unlikeWays (unlike up (g .turned)) f (others row taken f)
+
+            splits : (k : ℕ) → dig (atEdge row up taken f g .reached) k ≡ true → (dig (g .reached) k ≡ true) ⊎ (dig (others row taken f) k ≡ true)
+            splits k p = or-cases (dig (g .reached) k) (dig (others row taken f) k) (sym (edge-reached z k) ∙ p)
+
+            not-new : (k : ℕ) → dig (g .reached) k ≡ true → dig (others row taken f) k ≡ false
+            not-new k p = off (dig (others row taken f) k) (λ o. never (sym p ∙ edge-new z k o))
+
+            taken-by : (k : ℕ) → (dig (g .reached) k ≡ true) ⊎ (dig (others row taken f) k ≡ true) → dig taken k ≡ true
+            taken-by k (inl p) = h .in-taken k p
+            taken-by k (inr o) = let q = left-out (both row taken) f k o in and-right (dig row k) (dig taken k) (sym (dig-both row taken k) ∙ q .0)
+
+            waits : (w r o : Bool) → (w ≡ true → r ≡ true) → (w || o) ≡ true → (r || o) ≡ true
+            waits true r o a p = or-left r o (a refl)
+            waits false r o a p = or-right r o p
+
+            turns : (k : ℕ) → (dig (g .turned) k ≡ true) ⊎ (dig (others row taken f) k ≡ true) → (dig (g .reached) k || dig (others row taken f) k) ≡ true
+            turns k (inl p) = or-left (dig (g .reached) k) (dig (others row taken f) k) (h .turned-in k p)
+            turns k (inr o) = or-right (dig (g .reached) k) (dig (others row taken f) k) o
+
+            way-by : (k : ℕ) → (dig (g .reached) k ≡ true) ⊎ (dig (others row taken f) k ≡ true) → Way rows taken (first taken) k
+            way-by k (inl p) = h .way k p
+            way-by k (inr o) = let q = left-out (both row taken) f k o in across row f (h .way f rf) i on (q .0)
+
+            right-by : (ts : List Bool) → oriented rows ups taken ts ≡ true → dig ts (first taken) ≡ false → (k : ℕ) → (dig (g .reached) k ≡ true) ⊎ (dig (others row taken f) k ≡ true)
+                → dig (cond b (g .turned) (either (g .turned) (others row taken f))) k ≡ dig ts k
+            right-by ts c e k (inl p) = turned-keep b (g .turned) (others row taken f) k (not-new k p) ∙ h .right ts c e k p
+            right-by ts c e k (inr o) = turned-new b (g .turned) (others row taken f) k o (not-turned k o) ∙ new-right ts c e k o
+
+      pub edge-fair : Fair rows ups taken (atEdge row up taken f g)
+      edge-fair = go (ℕ-discrete (count (both (g .reached) (others row taken f))) 0)
+        where
+          go : Dec (count (both (g .reached) (others row taken f)) ≡ 0) → Fair rows ups taken (atEdge row up taken f g)
+          go (yes z) = fair-new z
+          go (no n) = subst (λ (x : Going). Fair rows ups taken x) (sym (edge-not n)) h
+
+-- ---- what is still to go does not grow, whatever the rows are
+count-split : (a b : List Bool) → count (both a b) + count (less a b) ≡ count a
+unfolding count both less
+count-split [] b = refl
+count-split (x ∷ a) [] = omega arith
+count-split (true ∷ a) (true ∷ b) = omega (arith, count-split a b)
+count-split (true ∷ a) (false ∷ b) = omega (arith, count-split a b)
+count-split (false ∷ a) (y ∷ b) = omega (arith, count-split a b)
+
+count-either : (a b : List Bool) → count (either a b) ≤ count a + count b
+unfolding count either
+count-either [] b = omega arith
+count-either (x ∷ a) [] = omega arith
+count-either (true ∷ a) (true ∷ b) = omega (arith, count-either a b)
+count-either (true ∷ a) (false ∷ b) = omega (arith, count-either a b)
+count-either (false ∷ a) (true ∷ b) = omega (arith, count-either a b)
+count-either (false ∷ a) (false ∷ b) = omega (arith, count-either a b)
+
+pub edge-togo : (row up taken : List Bool) (f : ℕ) (g : Going) → toGo taken (atEdge row up taken f g) ≤ toGo taken g
+unfolding toGo
+edge-togo row up taken f g = go (ℕ-discrete (count (both (g .reached) (others row taken f))) 0)
+  where
+    go : Dec (count (both (g .reached) (others row taken f)) ≡ 0) → count (less taken (atEdge row up taken f g .reached)) + count (atEdge row up taken f g .waiting) ≤ count (less taken (g .reached)) + count (g .waiting)
+    go (no n) = rw (edge-not row up taken f g n) (omega arith)
+    go (yes z) =
+        let a : count (less taken (atEdge row up taken f g .reached)) ≤ count (less (less taken (g .reached)) (others row taken f))
+        = count-le (less taken (atEdge row up taken f g .reached)) (less (less taken (g .reached)) (others row taken f)) (λ k h.
+        dig-less (less taken (g .reached)) (others row taken f) k ∙ ap (λ (x : Bool). x && not (dig (others row taken f) k)) (dig-less taken (g .reached) k)
+        ∙ apart (dig taken k) (dig (g .reached) k) (dig (others row taken f) k) (sym (dig-less taken (atEdge row up taken f g .reached) k ∙ ap (λ (x : Bool). dig taken k && not x) (edge-reached row up taken f g z k)) ∙ h)) in
+        let b : count (others row taken f) ≤ count (both (less taken (g .reached)) (others row taken f))
+        = count-le (others row taken f) (both (less taken (g .reached)) (others row taken f)) (λ k h.
+        let q = left-out (both row taken) f k h in
+        let t : dig taken k ≡ true = and-right (dig row k) (dig taken k) (sym (dig-both row taken k) ∙ q .0) in
+        dig-both (less taken (g .reached)) (others row taken f) k ∙ and-both (dig-less taken (g .reached) k ∙ and-both t (ap not (edge-new row up taken f g z k h))) h) in
+        let c : count (atEdge row up taken f g .waiting) ≤ count (either (g .waiting) (others row taken f))
+        = count-le (atEdge row up taken f g .waiting) (either (g .waiting) (others row taken f)) (λ k h. dig-either (g .waiting) (others row taken f) k ∙ sym (edge-waiting row up taken f g z k) ∙ h) in
+        omega (arith, a, b, c, count-split (less taken (g .reached)) (others row taken f), count-either (g .waiting) (others row taken f))
+      where
+        apart : (t r o : Bool) → (t && not (r || o)) ≡ true → ((t && not r) && not o) ≡ true
+        apart true true o e = e
+        apart true false o e = e
+        apart false r o e = e

@@ -1,0 +1,157 @@
+-- A selection that has (i) is judged face by face as it is by passes over all edges. Assumes nothing.
+use mathlib.Core.Bool.{Bool, true, false, not, _&&_, cond}
+use mathlib.Core.List.{List}
+use mathlib.Core.Path.{_≡_, refl, sym, ap, _∙_, subst}
+use Prim.Native.Nat.{ℕ, zero, suc}
+use lib.Dec.{eqb}
+use lib.IntN.{ℤ, pos, negsuc}
+use lib.ListN.{length}
+use borrow.Author.Tests.{not-true, eq-eqb, eqb-true, eqb-false}
+use Rattle.lists.proofs.Truth.{and-left, and-right, and-both}
+use Rattle.sets.specs.Word.{word, dig, Sub, count, less, first}
+use Rattle.sets.proofs.Digits.{never, dig-less, count-none, count-empty, first-in}
+use Rattle.paper.specs.Solids.{facesFrom, connected, oriented, sixFrom, clearFrom, weighed, Tables, Judgement, Fails, judged}
+use Rattle.paper.specs.Conversion.{isSolid, turnedOf, sixOf}
+use Rattle.means_leaf.specs.Meaning.{faces, InTwo, Way, stay, across, Alike}
+use Rattle.means_leaf.proofs.Forced.{faces-right, oriented-alike, oriented-opposite, all-reached}
+use Rattle.means_leaf.proofs.Reaches.{connected-ways, ways-connected}
+use Rattle.means_leaf.proofs.Within.{turned-taken}
+use Rattle.means_leaf.proofs.Solids.{six-alike, turned-opposite}
+use Rattle.fast_sweeps.proofs.Words.{word-same}
+use Rattle.fast_leaf.specs.Faces.{Going, fromLowest, clearOn, sixOn, judgedByFaces, Agrees, fails, solid}
+use Rattle.fast_leaf.proofs.Edge.{off, Fair}
+use Rattle.fast_leaf.proofs.Around.{lowest-fair, lowest-reaches}
+use Rattle.fast_leaf.proofs.Sums.{same-truth, clear-on, six-on}
+
+-- ---- ways
+way-on : {rows : List (List Bool)} {taken : List Bool} {f g h : ℕ} → Way rows taken f g → Way rows taken g h → Way rows taken f h
+way-on w stay = w
+way-on w (across row k v i p q) = across row k (way-on w v) i p q
+
+way-back : {rows : List (List Bool)} {taken : List Bool} {f g : ℕ} → Way rows taken f g → Way rows taken g f
+way-back stay = stay
+way-back (across row k v i p q) = way-on (across row _ stay i q p) (way-back v)
+
+module _ (rows ups : List (List Bool)) (taken : List Bool) (same : length rows ≡ length ups) (two : InTwo rows taken) (some : count taken ≡ 0 → ⊥) where
+  fair : Fair rows ups taken (fromLowest rows ups taken)
+  fair = lowest-fair rows ups taken same two some
+
+  -- (ii)
+  missed : eqb (count (less taken (fromLowest rows ups taken .reached))) 0 ≡ true → Sub taken (fromLowest rows ups taken .reached)
+  missed e k h = go (dig (fromLowest rows ups taken .reached) k) refl
+    where
+      go : (b : Bool) → dig (fromLowest rows ups taken .reached) k ≡ b → b ≡ true
+      go true p = refl
+      go false p =
+          absurd (count-none (less taken (fromLowest rows ups taken .reached)) (eqb-true (count (less taken (fromLowest rows ups taken .reached))) 0 e) k
+          (dig-less taken (fromLowest rows ups taken .reached) k ∙ and-both h (ap not p)))
+
+  pub same-connected : eqb (count (less taken (fromLowest rows ups taken .reached))) 0 ≡ connected taken (faces rows ups taken)
+  same-connected =
+      same-truth (eqb (count (less taken (fromLowest rows ups taken .reached))) 0) (connected taken (faces rows ups taken))
+      (λ e. ways-connected rows ups taken same two some (λ f g hf hg. way-on (way-back (fair .way f (missed e f hf))) (fair .way g (missed e g hg))))
+      (λ c. eq-eqb (count (less taken (fromLowest rows ups taken .reached))) 0
+      (count-empty (less taken (fromLowest rows ups taken .reached)) (λ k p.
+      let t : (dig taken k && not (dig (fromLowest rows ups taken .reached) k)) ≡ true = sym (dig-less taken (fromLowest rows ups taken .reached) k) ∙ p in
+      let out : dig (fromLowest rows ups taken .reached) k ≡ false = not-true (dig (fromLowest rows ups taken .reached) k) (and-right (dig taken k) (not (dig (fromLowest rows ups taken .reached) k)) t) in
+      let w : Way rows taken (first taken) k
+      = connected-ways rows ups taken same two some c (first taken) k (first-in taken some) (and-left (dig taken k) (not (dig (fromLowest rows ups taken .reached) k)) t) in
+      never (sym (lowest-reaches rows ups taken same two some k w) ∙ out))))
+
+  -- (iii)
+  module _ (c : connected taken (faces rows ups taken) ≡ true) where
+    all-found : Sub taken (fromLowest rows ups taken .reached)
+    all-found = missed (same-connected ∙ c)
+
+    -- directions that do with the lowest face not turned are those found
+    found-alike : (ts : List Bool) → oriented rows ups taken ts ≡ true → dig ts (first taken) ≡ false → Alike taken (fromLowest rows ups taken .turned) ts
+    found-alike ts o e k h = fair .right ts o e k (all-found k h)
+
+    pub same-turned : oriented rows ups taken (fromLowest rows ups taken .turned) ≡ true → Alike taken (fromLowest rows ups taken .turned) (faces rows ups taken .turned)
+    same-turned o k h = sym (faces-right rows ups taken (fromLowest rows ups taken .turned) o (fair .low-turned) .right k (all-reached taken (faces rows ups taken) c k h))
+
+    found-oriented : (ts : List Bool) → oriented rows ups taken ts ≡ true → oriented rows ups taken (fromLowest rows ups taken .turned) ≡ true
+    found-oriented ts o = go (dig ts (first taken)) refl
+      where
+        and-off : (x : Bool) → (x && false) ≡ false
+        and-off true = refl
+        and-off false = refl
+
+        go : (b : Bool) → dig ts (first taken) ≡ b → oriented rows ups taken (fromLowest rows ups taken .turned) ≡ true
+        go false e = oriented-alike taken (fromLowest rows ups taken .turned) ts (found-alike ts o e) rows ups ∙ o
+        go true e =
+            let p : oriented rows ups taken (less taken ts) ≡ true = oriented-opposite taken (less taken ts) ts (turned-opposite taken ts) rows ups ∙ o in
+            let z : dig (less taken ts) (first taken) ≡ false
+            = dig-less taken ts (first taken) ∙ ap (λ (x : Bool). dig taken (first taken) && not x) e ∙ and-off (dig taken (first taken)) in
+            oriented-alike taken (fromLowest rows ups taken .turned) (less taken ts) (found-alike (less taken ts) p z) rows ups ∙ p
+
+    pub same-oriented : oriented rows ups taken (fromLowest rows ups taken .turned) ≡ oriented rows ups taken (faces rows ups taken .turned)
+    same-oriented =
+        same-truth (oriented rows ups taken (fromLowest rows ups taken .turned)) (oriented rows ups taken (faces rows ups taken .turned))
+        (λ o. sym (oriented-alike taken (fromLowest rows ups taken .turned) (faces rows ups taken .turned) (same-turned o) rows ups) ∙ o)
+        (found-oriented (faces rows ups taken .turned))
+
+    -- where there are directions, all digits of them are the same
+    pub same-digits : oriented rows ups taken (faces rows ups taken .turned) ≡ true → (k : ℕ) → dig (fromLowest rows ups taken .turned) k ≡ dig (faces rows ups taken .turned) k
+    same-digits o k = go (dig taken k) refl
+      where
+        go : (b : Bool) → dig taken k ≡ b → dig (fromLowest rows ups taken .turned) k ≡ dig (faces rows ups taken .turned) k
+        go true h = same-turned (same-oriented ∙ o) k h
+        go false h =
+            off (dig (fromLowest rows ups taken .turned) k) (λ p. never (sym (fair .in-taken k (fair .turned-in k p)) ∙ h))
+            ∙ sym (off (dig (faces rows ups taken .turned) k) (λ p. never (sym (turned-taken rows ups taken some k p) ∙ h)))
+
+-- ---- the judgement
+weighs : (taken s t : List Bool) → ((k : ℕ) → dig s k ≡ dig t k) → (z : ℤ) → Agrees (weighed taken s z) (weighed taken t z)
+weighs taken s t h (pos zero) = fails
+weighs taken s t h (pos (suc v)) = solid (suc v) h
+weighs taken s t h (negsuc v) = solid (suc v) (λ k. dig-less taken s k ∙ ap (λ (x : Bool). dig taken k && not x) (h k) ∙ sym (dig-less taken t k))
+
+judges : (a b₁ b₂ c₁ c₂ d₁ d₂ : Bool) (v w : Judgement) → (a ≡ false → b₁ ≡ b₂) → (a ≡ false → b₂ ≡ true → c₁ ≡ c₂) → d₁ ≡ d₂
+    → (a ≡ false → b₂ ≡ true → c₂ ≡ true → Agrees v w)
+    → Agrees (cond a Fails (cond b₁ (cond c₁ (cond d₁ v Fails) Fails) Fails)) (cond a Fails (cond b₂ (cond c₂ (cond d₂ w Fails) Fails) Fails))
+judges true b₁ b₂ c₁ c₂ d₁ d₂ v w p q r s = fails
+judges false true false c₁ c₂ d₁ d₂ v w p q r s = never (p refl)
+judges false false true c₁ c₂ d₁ d₂ v w p q r s = never (sym (p refl))
+judges false false false c₁ c₂ d₁ d₂ v w p q r s = fails
+judges false true true true false d₁ d₂ v w p q r s = never (q refl refl)
+judges false true true false true d₁ d₂ v w p q r s = never (sym (q refl refl))
+judges false true true false false d₁ d₂ v w p q r s = fails
+judges false true true true true true false v w p q r s = never r
+judges false true true true true false true v w p q r s = never (sym r)
+judges false true true true true false false v w p q r s = fails
+judges false true true true true true true v w p q r s = s refl refl refl
+
+pub judged-by-faces : (t : Tables) (taken : List Bool) → length (t .rows) ≡ length (t .ups) → InTwo (t .rows) taken → Agrees (judgedByFaces t taken) (judged t taken)
+unfolding judgedByFaces judged facesFrom faces
+judged-by-faces t taken same two =
+    judges (eqb (count taken) 0)
+    (eqb (count (less taken (fromLowest (t .rows) (t .ups) taken .reached))) 0) (connected taken (faces (t .rows) (t .ups) taken))
+    (oriented (t .rows) (t .ups) taken (fromLowest (t .rows) (t .ups) taken .turned)) (oriented (t .rows) (t .ups) taken (faces (t .rows) (t .ups) taken .turned))
+    (clearOn (count taken) (t .clashes) taken taken) (clearFrom 0 (t .clashes) taken)
+    (weighed taken (fromLowest (t .rows) (t .ups) taken .turned) (sixOn (count taken) (t .sixes) taken (fromLowest (t .rows) (t .ups) taken .turned)))
+    (weighed taken (faces (t .rows) (t .ups) taken .turned) (sixFrom 0 (t .sixes) taken (faces (t .rows) (t .ups) taken .turned)))
+    (λ n. same-connected (t .rows) (t .ups) taken same two (eqb-false (count taken) 0 n))
+    (λ n c. same-oriented (t .rows) (t .ups) taken same two (eqb-false (count taken) 0 n) c)
+    (clear-on taken (t .clashes))
+    (λ n c o.
+    let h : (k : ℕ) → dig (fromLowest (t .rows) (t .ups) taken .turned) k ≡ dig (faces (t .rows) (t .ups) taken .turned) k
+    = same-digits (t .rows) (t .ups) taken same two (eqb-false (count taken) 0 n) c o in
+    let z : sixOn (count taken) (t .sixes) taken (fromLowest (t .rows) (t .ups) taken .turned) ≡ sixFrom 0 (t .sixes) taken (faces (t .rows) (t .ups) taken .turned)
+    = six-on (fromLowest (t .rows) (t .ups) taken .turned) (count taken) (t .sixes) taken refl
+    ∙ six-alike taken (fromLowest (t .rows) (t .ups) taken .turned) (faces (t .rows) (t .ups) taken .turned) (λ k p. h k) 0 (t .sixes) in
+    subst (λ (x : ℤ). Agrees (weighed taken (fromLowest (t .rows) (t .ups) taken .turned) x) (weighed taken (faces (t .rows) (t .ups) taken .turned) (sixFrom 0 (t .sixes) taken (faces (t .rows) (t .ups) taken .turned)))) (sym z)
+    (weighs taken (fromLowest (t .rows) (t .ups) taken .turned) (faces (t .rows) (t .ups) taken .turned) h (sixFrom 0 (t .sixes) taken (faces (t .rows) (t .ups) taken .turned))))
+
+-- ---- what a report says of a judgement is the same
+pub record Reports (i j : Judgement) : Type 0 where
+  pub same-solid : isSolid i ≡ isSolid j
+  pub same-word : word (turnedOf i) ≡ word (turnedOf j)
+  pub same-six : sixOf i ≡ sixOf j
+
+pub agrees-reports : {i j : Judgement} → Agrees i j → Reports i j
+agrees-reports fails = record { same-solid = refl; same-word = refl; same-six = refl }
+agrees-reports (solid {s} {t} v h) = record { same-solid = refl; same-word = word-same s t h; same-six = refl }
+
+pub reports-by-faces : (t : Tables) (taken : List Bool) → length (t .rows) ≡ length (t .ups) → InTwo (t .rows) taken → Reports (judgedByFaces t taken) (judged t taken)
+reports-by-faces t taken same two = agrees-reports (judged-by-faces t taken same two)

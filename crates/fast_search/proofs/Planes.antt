@@ -1,0 +1,49 @@
+-- The vertices that the search keeps with a loop are those in its plane. Assumes nothing.
+use mathlib.Core.Bool.{true, false}
+use mathlib.Core.List.{List, [], _∷_}
+use mathlib.Core.Path.{_≡_, ap, _∙_}
+use Prim.Native.Nat.{ℕ, _≤_, _<_}
+use native.Mathlib.Omega.{arith}
+use lib.IntN.{pos}
+use lib.ListN.{length, getD, List·getD-eq-default}
+use Rattle.lists.proofs.Places.{map-at}
+use Rattle.sets.specs.Word.{dig}
+use Rattle.paper.specs.Points.{minus, dot, isZero}
+use Rattle.paper.specs.Drawing.{Wire, at}
+use Rattle.paper.specs.Loops.{Loop, loopAt, across, loops}
+use Rattle.paper.specs.declared.Point.{Point}
+use Rattle.exact.proofs.Ring.{con}
+use Rattle.means_clash.proofs.Combine.{combine, vars, minusE, dotE}
+use Rattle.means_clash.proofs.Planes.{zero-yes, yes-zero, same-offset}
+use Rattle.fast_search.specs.Search.{Found, inside, planeOf, found, search}
+use Rattle.fast_search.proofs.Phases.{plane-at, plane-length}
+use Rattle.fast_search.proofs.Search.{search-is}
+
+offset-same : (n p q : Point) → dot n p ≡ dot n q → dot n (minus p q) ≡ pos 0
+unfolding dot minus
+offset-same n p q e =
+    combine (n .x ∷ n .y ∷ n .z ∷ p .x ∷ p .y ∷ p .z ∷ q .x ∷ q .y ∷ q .z ∷ [])
+    (dotE (vars 0 1 2) (minusE (vars 3 4 5) (vars 6 7 8))) (con (pos 0))
+    (record { times = con (pos 1); one = dotE (vars 0 1 2) (vars 3 4 5); other = dotE (vars 0 1 2) (vars 6 7 8) } ∷ []) tt (e, tt)
+
+module _ (d : Wire) where
+  pub plane-digit : (l : Loop) (w : ℕ) → w < length (d .vertices) → dig (planeOf d l) w ≡ isZero (dot (across d l) (minus (at d w) (at d (getD l 0 0))))
+  unfolding planeOf inside
+  plane-digit l w h = plane-at d (at d (getD l 0 0)) (across d l) w h
+
+  pub plane-past : (l : Loop) (w : ℕ) → length (d .vertices) ≤ w → dig (planeOf d l) w ≡ false
+  unfolding planeOf
+  plane-past l w h = List·getD-eq-default (planeOf d l) false (omega (arith, plane-length d (at d (getD l 0 0)) (across d l)))
+
+  -- the loop of number i, and the vertices in its plane
+  pub search-at : (i : ℕ) → i < length (loops d) → getD (search d) i (found d []) ≡ found d (loopAt (loops d) i)
+  search-at i h = ap (λ (l : List Found). getD l i (found d [])) (search-is d) ∙ map-at (found d) (loops d) i [] (found d []) h
+
+  -- in the plane: at the offset of s
+  pub inside-offset : (s m : Point) (w : ℕ) → inside d s m w ≡ true → dot m (at d w) ≡ dot m s
+  unfolding inside
+  inside-offset s m w e = same-offset m (at d w) s (zero-yes (dot m (minus (at d w) s)) e)
+
+  pub offset-inside : (s m : Point) (w : ℕ) → dot m (at d w) ≡ dot m s → inside d s m w ≡ true
+  unfolding inside
+  offset-inside s m w e = yes-zero (dot m (minus (at d w) s)) (offset-same m (at d w) s e)

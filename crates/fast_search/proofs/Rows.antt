@@ -1,0 +1,139 @@
+-- Loops over the set digits of a word. Assumes nothing.
+use mathlib.Core.Bool.{Bool, true, false, not, _&&_, _||_, true≢false}
+use mathlib.Core.List.{List, [], _∷_, _++_}
+use mathlib.Core.Path.{_≡_, refl, sym, ap, _∙_}
+use Prim.Native.Nat.{ℕ, zero, suc, _+_, _<_}
+use native.Mathlib.Omega.{arith}
+use lib.Dec.{eqb, ltb, eqb·zero-suc, eqb·suc-zero, eqb·suc-suc}
+use lib.ListN.{replicate, length-replicate, getD-replicate, List·getD-eq-default}
+use borrow.Author.Tests.{eqb-true, eq-eqb, lt-ltb, le-ltb}
+use native.Mathlib.Decide.{decLt}
+use Rattle.lists.proofs.Truth.{never, or-none}
+use Rattle.sets.specs.Word.{word, digit, dig, count, first, less, only}
+use Rattle.sets.proofs.Numbers.{digit-zero, digit-word, none-digits}
+use Rattle.sets.proofs.Digits.{count-none, count-empty}
+use Rattle.fast_search.specs.Rows.{empty, over, someOf}
+
+-- ---- one digit
+pub only-is : (v j : ℕ) → dig (only v) j ≡ eqb j v
+unfolding only
+only-is zero zero = sym (eq-eqb 0 0 refl)
+only-is zero (suc j) = sym (eqb·suc-zero j)
+only-is (suc v) zero = sym (eqb·zero-suc v)
+only-is (suc v) (suc j) = only-is v j ∙ sym (eqb·suc-suc j v)
+
+pub full-is : (m j : ℕ) → dig (replicate m true) j ≡ ltb j m
+full-is m j = go (decLt j m)
+  where
+    past : (j < m → ⊥) → dig (replicate m true) j ≡ false
+    past h = List·getD-eq-default (replicate m true) false (omega (arith, h, length-replicate m true))
+
+    go : Dec (j < m) → dig (replicate m true) j ≡ ltb j m
+    go (yes h) = getD-replicate m j true false h ∙ sym (lt-ltb j m h)
+    go (no h) = past h ∙ sym (le-ltb j m (omega (arith, h)))
+
+pub nils-low : (m j : ℕ) (bs : List Bool) → j < m → dig (replicate m false ++ bs) j ≡ false
+nils-low zero j bs h = absurd (omega arith)
+nils-low (suc m) zero bs h = refl
+nils-low (suc m) (suc j) bs h = nils-low m j bs (omega arith)
+
+pub nils-high : (m j : ℕ) (bs : List Bool) → dig (replicate m false ++ bs) (j + m) ≡ dig bs j
+nils-high zero j bs =
+    let e : j + 0 ≡ j = omega arith in
+    ap (dig bs) e
+nils-high (suc m) j bs =
+    let e : j + suc m ≡ suc (j + m) = omega arith in
+    ap (dig (replicate (suc m) false ++ bs)) e ∙ nils-high m j bs
+
+nils-shift : (m : ℕ) (bs : List Bool) → replicate m false ++ (false ∷ bs) ≡ replicate (suc m) false ++ bs
+nils-shift zero bs = refl
+nils-shift (suc m) bs = ap (λ (l : List Bool). false ∷ l) (nils-shift m bs)
+
+less-nil : (a : List Bool) → less a [] ≡ a
+unfolding less
+less-nil [] = refl
+less-nil (x ∷ xs) = refl
+
+-- ---- the word is 0, or is not
+pub empty-none : (a : List Bool) → empty a ≡ true → (k : ℕ) → dig a k ≡ false
+empty-none a e k = sym (digit-word a k) ∙ ap (λ (w : ℕ). digit w k) (eqb-true (word a) 0 e) ∙ digit-zero k
+
+pub empty-count : (a : List Bool) → empty a ≡ true → count a ≡ 0
+empty-count a e = count-empty a (λ k h. absurd (clash (dig a k) h (empty-none a e k)))
+  where
+    clash : (b : Bool) → b ≡ true → b ≡ false → ⊥
+    clash b p q = let z : true ≡ false = sym p ∙ q in absurd (true≢false z)
+
+pub count-is-empty : (a : List Bool) → count a ≡ 0 → empty a ≡ true
+count-is-empty a e = eq-eqb (word a) 0 (none-digits (word a) (λ k. digit-word a k ∙ never (dig a k) (count-none a e k)))
+
+-- ---- a loop over the set digits: at each turn the first that is set, and what is left without it
+module _ {A : Type 0} (f : ℕ → List Bool → List A) where
+  over-at : (i : ℕ) (a : List Bool) → (count a ≡ 0 → ⊥)
+      → over f i a ≡ f (i + first a) (replicate i false ++ less a (only (first a))) ++ over f i (less a (only (first a)))
+  unfolding over count first less only
+  over-at i [] n = absurd (n refl)
+  over-at i (true ∷ bs) n =
+      let e : replicate (suc i) false ++ bs ≡ replicate i false ++ (false ∷ less bs []) = sym (nils-shift i bs) ∙ ap (λ (l : List Bool). replicate i false ++ (false ∷ l)) (sym (less-nil bs)) in
+      let z : i ≡ i + 0 = omega arith in
+      λ t. f (z t) (e t) ++ over f (suc i) (sym (less-nil bs) t)
+  over-at i (false ∷ bs) n =
+      let e : suc i + first bs ≡ i + suc (first bs) = omega arith in
+      over-at (suc i) bs (λ z. n (omega arith))
+      ∙ (λ t. f (e t) (sym (nils-shift i (less bs (only (first bs)))) t) ++ over f (suc i) (less bs (only (first bs))))
+
+  pub over-next : (a : List Bool) → (count a ≡ 0 → ⊥) → over f 0 a ≡ f (first a) (less a (only (first a))) ++ over f 0 (less a (only (first a)))
+  over-next a n =
+      let e : 0 + first a ≡ first a = omega arith in
+      over-at 0 a n ∙ (λ t. f (e t) (less a (only (first a))) ++ over f 0 (less a (only (first a))))
+
+  pub over-none : (i : ℕ) (a : List Bool) → ((k : ℕ) → dig a k ≡ false) → over f i a ≡ []
+  unfolding over
+  over-none i [] h = refl
+  over-none i (true ∷ bs) h = absurd (true≢false (h 0))
+  over-none i (false ∷ bs) h = over-none (suc i) bs (λ k. h (suc k))
+
+  pub over-end : (a : List Bool) → empty a ≡ true → over f 0 a ≡ []
+  over-end a e = over-none 0 a (empty-none a e)
+
+-- ---- whether a set digit passes
+module _ (t : ℕ → Bool) where
+  some-at : (i : ℕ) (a : List Bool) → (count a ≡ 0 → ⊥) → someOf t i a ≡ (t (i + first a) || someOf t i (less a (only (first a))))
+  unfolding someOf count first less only
+  some-at i [] n = absurd (n refl)
+  some-at i (true ∷ bs) n =
+      let z : i ≡ i + 0 = omega arith in
+      λ k. t (z k) || someOf t (suc i) (sym (less-nil bs) k)
+  some-at i (false ∷ bs) n =
+      let e : suc i + first bs ≡ i + suc (first bs) = omega arith in
+      some-at (suc i) bs (λ z. n (omega arith)) ∙ ap (λ (j : ℕ). t j || someOf t (suc i) (less bs (only (first bs)))) e
+
+  pub some-next : (a : List Bool) → (count a ≡ 0 → ⊥) → someOf t 0 a ≡ (t (first a) || someOf t 0 (less a (only (first a))))
+  some-next a n =
+      let e : 0 + first a ≡ first a = omega arith in
+      some-at 0 a n ∙ ap (λ (j : ℕ). t j || someOf t 0 (less a (only (first a)))) e
+
+  some-none : (i : ℕ) (a : List Bool) → ((k : ℕ) → dig a k ≡ false) → someOf t i a ≡ false
+  unfolding someOf
+  some-none i [] h = refl
+  some-none i (true ∷ bs) h = absurd (true≢false (h 0))
+  some-none i (false ∷ bs) h = some-none (suc i) bs (λ k. h (suc k))
+
+  pub some-end : (a : List Bool) → empty a ≡ true → someOf t 0 a ≡ false
+  some-end a e = some-none 0 a (empty-none a e)
+
+  some-fails : (i : ℕ) (a : List Bool) → someOf t i a ≡ false → (j : ℕ) → dig a j ≡ true → t (i + j) ≡ false
+  unfolding someOf
+  some-fails i [] e j h = absurd (true≢false (sym h))
+  some-fails i (true ∷ bs) e zero h =
+      let z : i + 0 ≡ i = omega arith in
+      ap t z ∙ or-none (t i) (someOf t (suc i) bs) e .0
+  some-fails i (false ∷ bs) e zero h = absurd (true≢false (sym h))
+  some-fails i (b ∷ bs) e (suc j) h =
+      let s : suc i + j ≡ i + suc j = omega arith in
+      ap t (sym s) ∙ some-fails (suc i) bs (or-none (b && t i) (someOf t (suc i) bs) e .1) j h
+
+  pub some-not : (a : List Bool) → someOf t 0 a ≡ false → (j : ℕ) → dig a j ≡ true → t j ≡ false
+  some-not a e j h =
+      let s : 0 + j ≡ j = omega arith in
+      ap t (sym s) ∙ some-fails 0 a e j h

@@ -1,0 +1,179 @@
+-- An edge by its two counts as the code takes them: M, the taken, and L, the undecided, only where M is below 2; and what settling does
+-- to the sets of those taken and those undecided. One law for each way through the code. Assumes nothing.
+use mathlib.Core.Bool.{Bool, true, false, _&&_, _||_, cond, not, or-false}
+use mathlib.Core.List.{List, [], _∷_}
+use mathlib.Core.Path.{_≡_, refl, sym, ap, ap₂, _∙_}
+use Prim.Native.Nat.{ℕ, zero, suc, _+_, _≤_, _<_}
+use native.Mathlib.Omega.{arith}
+use lib.Dec.{eqb, ltb}
+use borrow.Author.Tests.{eq-eqb, ne-eqb, lt-ltb, le-ltb}
+use Rattle.sets.specs.Word.{bit, count, both, either, less}
+use Rattle.paper.specs.Conversion.{takens}
+use Rattle.paper.specs.Walk.{Status, Taken, Rejected, Undecided, isTaken, isOpen, takenOn, openOn, decideOne, decide, settle, contradicts}
+use Rattle.means_walk.proofs.Status.{opens, count-opens, count-takens}
+use Rattle.fast_sweeps.specs.Worklist.{decidedOn}
+use Rattle.fast_sweeps.proofs.Marks.{nil-either, nil-less}
+
+-- ---- the sets of those taken and of those undecided
+one-takes : (b : Bool) (s : Status) → isTaken (decideOne Taken b s) ≡ isTaken s || (b && isOpen s)
+one-takes false Taken = refl
+one-takes false Rejected = refl
+one-takes false Undecided = refl
+one-takes true Taken = refl
+one-takes true Rejected = refl
+one-takes true Undecided = refl
+
+-- t | row & u
+pub takens-taken : (row : List Bool) (st : List Status) → takens (decide Taken row st) ≡ either (takens st) (both row (opens st))
+unfolding decide either both
+takens-taken [] st = sym (nil-either (takens st))
+takens-taken (b ∷ row) [] = refl
+takens-taken (b ∷ row) (s ∷ st) = ap₂ (λ (x : Bool) (y : List Bool). x ∷ y) (one-takes b s) (takens-taken row st)
+
+one-rejects : (b : Bool) (s : Status) → isTaken (decideOne Rejected b s) ≡ isTaken s
+one-rejects false s = refl
+one-rejects true Taken = refl
+one-rejects true Rejected = refl
+one-rejects true Undecided = refl
+
+pub takens-rejected : (row : List Bool) (st : List Status) → takens (decide Rejected row st) ≡ takens st
+unfolding decide
+takens-rejected [] st = refl
+takens-rejected (b ∷ row) [] = refl
+takens-rejected (b ∷ row) (s ∷ st) = ap₂ (λ (x : Bool) (y : List Bool). x ∷ y) (one-rejects b s) (takens-rejected row st)
+
+one-decides : (v : Status) → isOpen v ≡ false → (b : Bool) (s : Status) → isOpen (decideOne v b s) ≡ isOpen s && not (b && isOpen s)
+one-decides v o false Taken = refl
+one-decides v o false Rejected = refl
+one-decides v o false Undecided = refl
+one-decides v o true Taken = refl
+one-decides v o true Rejected = refl
+one-decides v o true Undecided = o
+
+-- u & !(row & u)
+pub opens-decided : (v : Status) → isOpen v ≡ false → (row : List Bool) (st : List Status) → opens (decide v row st) ≡ less (opens st) (both row (opens st))
+unfolding decide less both
+opens-decided v o [] st = sym (nil-less (opens st))
+opens-decided v o (b ∷ row) [] = refl
+opens-decided v o (b ∷ row) (s ∷ st) = ap₂ (λ (x : Bool) (y : List Bool). x ∷ y) (one-decides v o b s) (opens-decided v o row st)
+
+-- how many are left
+bit-split : (x y : Bool) → bit (x && not (y && x)) + bit (y && x) ≡ bit x
+bit-split true true = refl
+bit-split true false = refl
+bit-split false true = refl
+bit-split false false = refl
+
+pub count-split : (u row : List Bool) → count (less u (both row u)) + count (both row u) ≡ count u
+unfolding count less both
+count-split [] [] = refl
+count-split [] (y ∷ row) = refl
+count-split (x ∷ u) [] = omega arith
+count-split (x ∷ u) (y ∷ row) = omega (arith, bit-split x y, count-split u row)
+
+-- ---- the ways through
+module _ (row : List Bool) (st : List Status) where
+  abbrev pub M : ℕ
+  M = count (both row (takens st))
+
+  abbrev pub L : ℕ
+  L = count (both row (opens st))
+
+  contradicts-by : (m l : ℕ) → takenOn row st ≡ m → openOn row st ≡ l → contradicts row st ≡ (ltb 2 m || ltb (m + l) 2)
+  unfolding contradicts
+  contradicts-by m l p q = ap₂ (λ (x y : ℕ). ltb 2 x || ltb (x + y) 2) p q
+
+  settle-by : (m l : ℕ) → takenOn row st ≡ m → openOn row st ≡ l → settle row st ≡ cond (eqb m 2) (decide Rejected row st) (cond (eqb (m + l) 2) (decide Taken row st) st)
+  unfolding settle
+  settle-by m l p q = ap₂ (λ (x y : ℕ). cond (eqb x 2) (decide Rejected row st) (cond (eqb (x + y) 2) (decide Taken row st) st)) p q
+
+  decided-by : (m l : ℕ) → takenOn row st ≡ m → openOn row st ≡ l → decidedOn row st ≡ cond (eqb m 2) (both row (opens st)) (cond (eqb (m + l) 2) (both row (opens st)) [])
+  unfolding decidedOn
+  decided-by m l p q = ap₂ (λ (x y : ℕ). cond (eqb x 2) (both row (opens st)) (cond (eqb (x + y) 2) (both row (opens st)) [])) p q
+
+  is-M : takenOn row st ≡ M
+  is-M = sym (count-takens row st)
+
+  is-L : openOn row st ≡ L
+  is-L = sym (count-opens row st)
+
+  -- "if 2 < m { return Broken }"
+  pub many : 2 < M → contradicts row st ≡ true
+  many h = contradicts-by M L is-M is-L ∙ ap (λ (b : Bool). b || ltb (M + L) 2) (lt-ltb 2 M h)
+
+  -- "if m + l < 2 { return Broken }"
+  pub few : M + L < 2 → contradicts row st ≡ true
+  few h = contradicts-by M L is-M is-L ∙ ap₂ _||_ (le-ltb 2 M (omega arith)) (lt-ltb (M + L) 2 h)
+
+  -- m = 2: no contradiction, and the undecided are rejected
+  pub record Rejects : Type 0 where
+    pub calm : contradicts row st ≡ false
+    pub decided : decidedOn row st ≡ both row (opens st)
+    pub takes : takens (settle row st) ≡ takens st
+    pub leaves : opens (settle row st) ≡ less (opens st) (both row (opens st))
+
+  pub two : M ≡ 2 → Rejects
+  two h =
+      let s : settle row st ≡ decide Rejected row st = settle-by M L is-M is-L ∙ ap (λ (b : Bool). cond b (decide Rejected row st) (cond (eqb (M + L) 2) (decide Taken row st) st)) (eq-eqb M 2 h) in
+      record {
+        calm = contradicts-by M L is-M is-L ∙ ap₂ _||_ (le-ltb 2 M (omega arith)) (le-ltb (M + L) 2 (omega arith));
+        decided = decided-by M L is-M is-L ∙ ap (λ (b : Bool). cond b (both row (opens st)) (cond (eqb (M + L) 2) (both row (opens st)) [])) (eq-eqb M 2 h);
+        takes = ap takens s ∙ takens-rejected row st;
+        leaves = ap opens s ∙ opens-decided Rejected refl row st;
+      }
+
+  -- m < 2, m + l = 2: no contradiction, and the undecided are taken
+  pub record Takes : Type 0 where
+    pub calm : contradicts row st ≡ false
+    pub decided : decidedOn row st ≡ both row (opens st)
+    pub takes : takens (settle row st) ≡ either (takens st) (both row (opens st))
+    pub leaves : opens (settle row st) ≡ less (opens st) (both row (opens st))
+
+  pub exactly : M < 2 → M + L ≡ 2 → Takes
+  exactly h k =
+      let s : settle row st ≡ decide Taken row st = settle-by M L is-M is-L
+      ∙ ap₂ (λ (a b : Bool). cond a (decide Rejected row st) (cond b (decide Taken row st) st)) (ne-eqb M 2 (λ e. omega arith)) (eq-eqb (M + L) 2 k) in
+      record {
+        calm = contradicts-by M L is-M is-L ∙ ap₂ _||_ (le-ltb 2 M (omega arith)) (le-ltb (M + L) 2 (omega arith));
+        decided = decided-by M L is-M is-L
+            ∙ ap₂ (λ (a b : Bool). cond a (both row (opens st)) (cond b (both row (opens st)) [])) (ne-eqb M 2 (λ e. omega arith)) (eq-eqb (M + L) 2 k);
+        takes = ap takens s ∙ takens-taken row st;
+        leaves = ap opens s ∙ opens-decided Taken refl row st;
+      }
+
+  -- m < 2, 2 < m + l: no contradiction, and nothing changes
+  pub record Leaves : Type 0 where
+    pub calm : contradicts row st ≡ false
+    pub decided : decidedOn row st ≡ []
+    pub still : settle row st ≡ st
+
+  pub more : M < 2 → 2 < M + L → Leaves
+  more h k = record {
+    calm = contradicts-by M L is-M is-L ∙ ap₂ _||_ (le-ltb 2 M (omega arith)) (le-ltb (M + L) 2 (omega arith));
+    decided = decided-by M L is-M is-L
+        ∙ ap₂ (λ (a b : Bool). cond a (both row (opens st)) (cond b (both row (opens st)) [])) (ne-eqb M 2 (λ e. omega arith)) (ne-eqb (M + L) 2 (λ e. omega arith));
+    still = settle-by M L is-M is-L
+        ∙ ap₂ (λ (a b : Bool). cond a (decide Rejected row st) (cond b (decide Taken row st) st)) (ne-eqb M 2 (λ e. omega arith)) (ne-eqb (M + L) 2 (λ e. omega arith));
+  }
+
+  -- all at once: L is read only where M is below 2
+  pub contradicts-ml : contradicts row st ≡ cond (ltb M 2) (ltb (M + L) 2) (ltb 2 M)
+  contradicts-ml = contradicts-by M L is-M is-L ∙ small M L
+    where
+      small : (m l : ℕ) → (ltb 2 m || ltb (m + l) 2) ≡ cond (ltb m 2) (ltb (m + l) 2) (ltb 2 m)
+      small zero l = refl
+      small (suc zero) l = refl
+      small (suc (suc m)) l =
+          let p : ltb (suc (suc m) + l) 2 ≡ false = le-ltb (suc (suc m) + l) 2 (omega arith) in
+          let q : ltb (suc (suc m)) 2 ≡ false = le-ltb (suc (suc m)) 2 (omega arith) in
+          rw (p, q) (or-false (ltb 2 (suc (suc m))))
+
+  pub settle-ml : M ≤ 2 → settle row st ≡ cond (ltb M 2) (cond (eqb (M + L) 2) (decide Taken row st) st) (decide Rejected row st)
+  settle-ml h = settle-by M L is-M is-L ∙ small M L h
+    where
+      small : (m l : ℕ) → m ≤ 2 → cond (eqb m 2) (decide Rejected row st) (cond (eqb (m + l) 2) (decide Taken row st) st)
+          ≡ cond (ltb m 2) (cond (eqb (m + l) 2) (decide Taken row st) st) (decide Rejected row st)
+      small zero l k = refl
+      small (suc zero) l k = refl
+      small (suc (suc zero)) l k = refl
+      small (suc (suc (suc m))) l k = absurd (omega arith)

@@ -1,0 +1,207 @@
+-- Sets of edges: without the lowest, up to the lowest, and the edges of candidates. Assumes nothing.
+use mathlib.Core.Bool.{Bool, true, false, _||_, or-false, or-assoc}
+use mathlib.Core.List.{List, [], _∷_}
+use mathlib.Core.Path.{_≡_, refl, sym, ap, ap₂, _∙_}
+use Prim.Native.Nat.{ℕ, zero, suc, _≤_, _<_}
+use native.Mathlib.Omega.{arith}
+use lib.ListN.{length, getD, replicate, length-replicate}
+use Rattle.sets.specs.Word.{dig, count, first, both, either, less}
+use Rattle.sets.proofs.Digits.{never, length-either, length-both, length-less}
+use Rattle.fast_sweeps.specs.Worklist.{after, passed, sides, meets, touched, nextAhead, nextLater}
+
+pub nil-either : (x : List Bool) → either x [] ≡ x
+unfolding either
+nil-either [] = refl
+nil-either (b ∷ x) = refl
+
+pub nil-less : (x : List Bool) → less x [] ≡ x
+unfolding less
+nil-less [] = refl
+nil-less (b ∷ x) = refl
+
+pub dig-lt : (a : List Bool) (j : ℕ) → dig a j ≡ true → j < length a
+dig-lt [] j e = never (sym e)
+dig-lt (b ∷ a) zero e = omega arith
+dig-lt (b ∷ a) (suc j) e = omega (arith, dig-lt a j e)
+
+pub dig-none : (a : List Bool) → count a ≡ 0 → (j : ℕ) → dig a j ≡ false
+unfolding count
+dig-none [] z j = refl
+dig-none (true ∷ a) z j = absurd (omega arith)
+dig-none (false ∷ a) z zero = refl
+dig-none (false ∷ a) z (suc j) = dig-none a (omega arith) j
+
+pub count-length : (a : List Bool) → count a ≤ length a
+unfolding count
+count-length [] = omega arith
+count-length (true ∷ a) = omega (arith, count-length a)
+count-length (false ∷ a) = omega (arith, count-length a)
+
+pub first-low : (a : List Bool) (j : ℕ) → j < first a → dig a j ≡ false
+unfolding first
+first-low [] j h = refl
+first-low (true ∷ a) j h = absurd (omega arith)
+first-low (false ∷ a) zero h = refl
+first-low (false ∷ a) (suc j) h = first-low a j (omega arith)
+
+-- ---- without the lowest
+pub after-in : (a : List Bool) (j : ℕ) → dig (after a) j ≡ true → (first a < j) × (dig a j ≡ true)
+unfolding after first
+after-in [] j e = never (sym e)
+after-in (true ∷ a) zero e = never (sym e)
+after-in (true ∷ a) (suc j) e = (omega arith, e)
+after-in (false ∷ a) zero e = never (sym e)
+after-in (false ∷ a) (suc j) e = let w = after-in a j e in (omega (arith, w .0), w .1)
+
+pub after-out : (a : List Bool) (j : ℕ) → dig (after a) j ≡ false → (j ≡ first a → ⊥) → dig a j ≡ false
+unfolding after first
+after-out [] j e n = refl
+after-out (true ∷ a) zero e n = absurd (n refl)
+after-out (true ∷ a) (suc j) e n = e
+after-out (false ∷ a) zero e n = refl
+after-out (false ∷ a) (suc j) e n = after-out a j e (λ p. n (ap suc p))
+
+pub count-after : (a : List Bool) → (count a ≡ 0 → ⊥) → suc (count (after a)) ≡ count a
+unfolding count after
+count-after [] n = absurd (n refl)
+count-after (true ∷ a) n = omega arith
+count-after (false ∷ a) n = omega (arith, count-after a (λ e. n (omega arith)))
+
+pub length-after : (a : List Bool) → length (after a) ≡ length a
+unfolding after
+length-after [] = refl
+length-after (true ∷ a) = refl
+length-after (false ∷ a) = ap suc (length-after a)
+
+-- ---- up to the lowest
+pub passed-in : (a : List Bool) (j : ℕ) → dig (passed a) j ≡ true → j ≤ first a
+unfolding passed first
+passed-in [] j e = never (sym e)
+passed-in (true ∷ a) zero e = omega arith
+passed-in (true ∷ a) (suc j) e = never (sym e)
+passed-in (false ∷ a) zero e = omega arith
+passed-in (false ∷ a) (suc j) e = omega (arith, passed-in a j e)
+
+pub passed-out : (a : List Bool) (j : ℕ) → (count a ≡ 0 → ⊥) → dig (passed a) j ≡ false → first a < j
+unfolding passed first count
+passed-out [] j n e = absurd (n refl)
+passed-out (true ∷ a) zero n e = never e
+passed-out (true ∷ a) (suc j) n e = omega arith
+passed-out (false ∷ a) zero n e = never e
+passed-out (false ∷ a) (suc j) n e = omega (arith, passed-out a j (λ z. n (omega arith)) e)
+
+pub length-passed : (a : List Bool) → length (passed a) ≤ length a
+unfolding passed
+length-passed [] = omega arith
+length-passed (true ∷ a) = omega arith
+length-passed (false ∷ a) = omega (arith, length-passed a)
+
+-- ---- the edges of candidates
+pub dig-sides : (rows : List (List Bool)) (k j : ℕ) → dig (sides rows k) j ≡ dig (getD rows j []) k
+unfolding sides
+dig-sides [] k j = refl
+dig-sides (row ∷ rows) k zero = refl
+dig-sides (row ∷ rows) k (suc j) = dig-sides rows k j
+
+pub length-sides : (rows : List (List Bool)) (k : ℕ) → length (sides rows k) ≡ length rows
+unfolding sides
+length-sides [] k = refl
+length-sides (row ∷ rows) k = ap suc (length-sides rows k)
+
+pub dig-touched : (rows : List (List Bool)) (d : List Bool) (j : ℕ) → dig (touched rows d) j ≡ meets (getD rows j []) d
+unfolding touched meets
+dig-touched [] d j = refl
+dig-touched (row ∷ rows) d zero = refl
+dig-touched (row ∷ rows) d (suc j) = dig-touched rows d j
+
+pub length-touched : (rows : List (List Bool)) (d : List Bool) → length (touched rows d) ≡ length rows
+unfolding touched
+length-touched [] d = refl
+length-touched (row ∷ rows) d = ap suc (length-touched rows d)
+
+-- no candidate has no edges
+meets-none : (row d : List Bool) → count d ≡ 0 → meets row d ≡ false
+unfolding meets count
+meets-none [] d z = refl
+meets-none (b ∷ row) [] z = refl
+meets-none (b ∷ row) (true ∷ d) z = absurd (omega arith)
+meets-none (true ∷ row) (false ∷ d) z = meets-none row d (omega arith)
+meets-none (false ∷ row) (false ∷ d) z = meets-none row d (omega arith)
+
+pub touched-none : (rows : List (List Bool)) (d : List Bool) → count d ≡ 0 → touched rows d ≡ replicate (length rows) false
+unfolding touched
+touched-none [] d z = refl
+touched-none (row ∷ rows) d z = ap₂ (λ (x : Bool) (y : List Bool). x ∷ y) (meets-none row d z) (touched-none rows d z)
+
+-- the lowest candidate's, and the others'
+meets-first : (row d : List Bool) → (count d ≡ 0 → ⊥) → meets row d ≡ dig row (first d) || meets row (after d)
+unfolding meets first after count
+meets-first [] d n = refl
+meets-first (b ∷ row) [] n = absurd (n refl)
+meets-first (true ∷ row) (true ∷ d) n = refl
+meets-first (false ∷ row) (true ∷ d) n = refl
+meets-first (true ∷ row) (false ∷ d) n = meets-first row d (λ z. n (omega arith))
+meets-first (false ∷ row) (false ∷ d) n = meets-first row d (λ z. n (omega arith))
+
+pub touched-first : (rows : List (List Bool)) (d : List Bool) → (count d ≡ 0 → ⊥) → touched rows d ≡ either (sides rows (first d)) (touched rows (after d))
+unfolding touched sides either
+touched-first [] d n = refl
+touched-first (row ∷ rows) d n = ap₂ (λ (x : Bool) (y : List Bool). x ∷ y) (meets-first row d n) (touched-first rows d n)
+
+-- ---- the loop that gathers them: `all` so far, `left` to go
+either-assoc : (a b c : List Bool) → either (either a b) c ≡ either a (either b c)
+unfolding either
+either-assoc [] b c = refl
+either-assoc (x ∷ a) [] c = refl
+either-assoc (x ∷ a) (y ∷ b) [] = refl
+either-assoc (x ∷ a) (y ∷ b) (z ∷ c) = ap₂ (λ (p : Bool) (q : List Bool). p ∷ q) (or-assoc x y z) (either-assoc a b c)
+
+either-none : (n : ℕ) (a : List Bool) → length a ≡ n → either a (replicate n false) ≡ a
+unfolding either
+either-none zero [] h = refl
+either-none zero (x ∷ a) h = absurd (omega arith)
+either-none (suc n) [] h = absurd (omega arith)
+either-none (suc n) (x ∷ a) h = ap₂ (λ (p : Bool) (q : List Bool). p ∷ q) (or-false x) (either-none n a (omega arith))
+
+none-either : (n : ℕ) (a : List Bool) → length a ≡ n → either (replicate n false) a ≡ a
+unfolding either
+none-either zero a h = refl
+none-either (suc n) [] h = absurd (omega arith)
+none-either (suc n) (x ∷ a) h = ap (λ (q : List Bool). x ∷ q) (none-either n a (omega arith))
+
+length-same : (n : ℕ) (a b : List Bool) → length a ≡ n → length b ≡ n → length (either a b) ≡ n
+unfolding either
+length-same n [] b h k = k
+length-same n (x ∷ a) [] h k = h
+length-same zero (x ∷ a) (y ∷ b) h k = absurd (omega arith)
+length-same (suc n) (x ∷ a) (y ∷ b) h k = ap suc (length-same n a b (omega arith) (omega arith))
+
+pub record Gathers (rows : List (List Bool)) (d all left : List Bool) : Type 0 where
+  pub long : length all ≡ length rows
+  pub whole : either all (touched rows left) ≡ touched rows d
+
+pub gather-start : (rows : List (List Bool)) (d : List Bool) → Gathers rows d (replicate (length rows) false) d
+gather-start rows d = record { long = length-replicate (length rows) false; whole = none-either (length rows) (touched rows d) (length-touched rows d) }
+
+pub gather-more : (rows : List (List Bool)) (d all left : List Bool) → (count left ≡ 0 → ⊥) → Gathers rows d all left
+    → Gathers rows d (either all (sides rows (first left))) (after left)
+gather-more rows d all left n g = record {
+  long = length-same (length rows) all (sides rows (first left)) (g .long) (length-sides rows (first left));
+  whole = either-assoc all (sides rows (first left)) (touched rows (after left)) ∙ ap (either all) (sym (touched-first rows left n)) ∙ g .whole;
+}
+
+pub gather-end : (rows : List (List Bool)) (d all left : List Bool) → count left ≡ 0 → Gathers rows d all left → all ≡ touched rows d
+gather-end rows d all left z g = sym (either-none (length rows) all (g .long)) ∙ ap (either all) (sym (touched-none rows left z)) ∙ g .whole
+
+-- ---- no longer than the rows
+pub length-ahead : (rows : List (List Bool)) (d ahead : List Bool) → length ahead ≤ length rows → length (nextAhead rows d ahead) ≤ length rows
+unfolding nextAhead
+length-ahead rows d ahead h =
+    length-either (length rows) (after ahead) (less (touched rows d) (passed ahead))
+    (omega (arith, length-after ahead)) (omega (arith, length-less (touched rows d) (passed ahead), length-touched rows d))
+
+pub length-later : (rows : List (List Bool)) (d ahead later : List Bool) → length later ≤ length rows → length (nextLater rows d ahead later) ≤ length rows
+unfolding nextLater
+length-later rows d ahead later h =
+    length-either (length rows) later (both (touched rows d) (passed ahead)) h
+    (omega (arith, length-both (touched rows d) (passed ahead), length-touched rows d))

@@ -1,0 +1,132 @@
+-- A search that keeps what it was told of edges finds what one finds that asks each time. Assumes nothing.
+use mathlib.Core.Path.{_≡_, refl, sym, ap, _∙_}
+use mathlib.Core.Bool.{Bool, true, false, not, _&&_, _||_, cond, true≢false}
+use mathlib.Core.Logic.{_⊎_, inl, inr}
+use mathlib.Core.List.{List, [], _∷_}
+use Prim.Native.Nat.{ℕ, _<_}
+use borrow.Author.Tests.{eq-eqb, ne-eqb, eqb-true}
+use lib.Dec.{eqb}
+use Rattle.lists.specs.Lists.{any, keep, filter, upto}
+use Rattle.lists.proofs.Truth.{never, and-left, and-right, and-both, or-left, or-right, or-cases}
+use Rattle.lists.proofs.Passing.{some-yes, some-is}
+use Rattle.sets.specs.Word.{dig, count, first, both, either, less, only}
+use Rattle.sets.proofs.Digits.{dig-both, dig-either, dig-less, dig-only, dig-self, count-none, count-empty, first-in}
+use Rattle.fast_tables.specs.Asked.{Found, holding, missing, asked, unheld, free, searched}
+
+-- one of those that p keeps passes
+pub any-filter : {A : Type 0} (p q : A → Bool) (xs : List A) → any q (filter p xs) ≡ any (λ x. p x && q x) xs
+unfolding any filter keep
+any-filter p q [] = refl
+any-filter {A} p q (x ∷ xs) = go (p x) (any-filter p q xs)
+  where
+    go : (b : Bool) → any q (filter p xs) ≡ any (λ x. p x && q x) xs → any q (keep b x (filter p xs)) ≡ ((b && q x) || any (λ x. p x && q x) xs)
+    go true e = ap (λ (r : Bool). q x || r) e
+    go false e = e
+
+-- what is known is so
+pub record Right (out : ℕ → Bool) (f : Found) : Type 0 where
+  pub held-so : (e : ℕ) → dig (f .held) e ≡ true → out e ≡ false
+  pub outside-so : (e : ℕ) → dig (f .outside) e ≡ true → out e ≡ true
+
+module _ (out : ℕ → Bool) where
+  more-digit : (row : List Bool) (e : ℕ) (b : Bool) → out e ≡ b → ((k : ℕ) → dig row k ≡ true → out k ≡ b) → (k : ℕ) → dig (either row (only e)) k ≡ true → out k ≡ b
+  more-digit row e b q f k t = go (or-cases (dig row k) (dig (only e) k) (sym (dig-either row (only e) k) ∙ t))
+    where
+      go : (dig row k ≡ true) ⊎ (dig (only e) k ≡ true) → out k ≡ b
+      go (inl p) = f k p
+      go (inr p) = ap out (dig-only e k p) ∙ q
+
+  asked-right : (es : List ℕ) (f : Found) → Right out f → Right out (asked out es f)
+  unfolding asked
+  asked-right [] f r = r
+  asked-right (e ∷ es) f r = go (out e) refl (asked-right es (holding f e))
+    where
+      go : (b : Bool) → out e ≡ b → (Right out (holding f e) → Right out (asked out es (holding f e))) → Right out (cond b (missing f e) (asked out es (holding f e)))
+      go true q ih = record { held-so = r .held-so; outside-so = more-digit (f .outside) e true q (r .outside-so) }
+      go false q ih = ih (record { held-so = more-digit (f .held) e false q (r .held-so); outside-so = r .outside-so })
+
+  asked-finds : (es : List ℕ) (f : Found) → any out es ≡ true → (e : ℕ) × (any (eqb e) es ≡ true) × (dig (asked out es f .outside) e ≡ true)
+  unfolding asked any
+  asked-finds [] f t = absurd (true≢false (sym t))
+  asked-finds (e ∷ es) f t = go (out e) refl t (asked-finds es (holding f e))
+    where
+      go : (b : Bool) → out e ≡ b → (b || any out es) ≡ true → (any out es ≡ true → (k : ℕ) × (any (eqb k) es ≡ true) × (dig (asked out es (holding f e) .outside) k ≡ true))
+          → (k : ℕ) × ((eqb k e || any (eqb k) es) ≡ true) × (dig (cond b (missing f e) (asked out es (holding f e)) .outside) k ≡ true)
+      go true q t ih = (e, or-left (eqb e e) (any (eqb e) es) (eq-eqb e e refl), dig-either (f .outside) (only e) e ∙ or-right (dig (f .outside) e) (dig (only e) e) (dig-self e))
+      go false q t ih = let r = ih t in (r .0, or-right (eqb (r .0) e) (any (eqb (r .0)) es) (r .1), r .2)
+
+module _ (m : ℕ) (out : ℕ → Bool) where
+  -- some edge of a row is outside
+  abbrev pub leaves : List Bool → Bool
+  leaves row = any (λ e. dig row e && out e) (upto m)
+
+  module _ (row : List Bool) (short : (e : ℕ) → dig row e ≡ true → e < m) where
+    -- one that is known to be
+    not-free : (f : Found) → Right out f → (k : ℕ) → dig (both row (f .outside)) k ≡ true → leaves row ≡ true
+    not-free f r k t =
+        let s = sym (dig-both row (f .outside) k) ∙ t in
+        let p = and-left (dig row k) (dig (f .outside) k) s in
+        some-is (λ e. dig row e && out e) m k (short k p) (and-both p (r .outside-so k (and-right (dig row k) (dig (f .outside) k) s)))
+
+    free-no : (f : Found) → Right out f → free row f ≡ false → leaves row ≡ true
+    free-no f r t = not-free f r (first (both row (f .outside))) (first-in (both row (f .outside)) (λ z. true≢false (sym (eq-eqb (count (both row (f .outside))) 0 z) ∙ t)))
+
+    free-yes : (f : Found) → Right out f → leaves row ≡ false → free row f ≡ true
+    free-yes f r t = eq-eqb (count (both row (f .outside))) 0 (count-empty (both row (f .outside)) (λ k q. true≢false (sym (not-free f r k q) ∙ t)))
+
+    -- once those are asked that are not known to be held, no other is left
+    after-asked : (f : Found) → Right out f → free row (asked out (unheld m row f) f) ≡ not (leaves row)
+    unfolding unheld
+    after-asked f r = go (leaves row) refl
+      where
+        g : Found
+        g = asked out (unheld m row f) f
+
+        open-edge : leaves row ≡ true → any out (unheld m row f) ≡ true
+        open-edge t =
+            let s = some-yes (λ e. dig row e && out e) m t in
+            let e = s .0 in
+            let a = and-left (dig row e) (out e) (s .2) in
+            let b = and-right (dig row e) (out e) (s .2) in
+            let c : dig (f .held) e ≡ false = never (dig (f .held) e) (λ q. true≢false (sym b ∙ r .held-so e q)) in
+            any-filter (dig (less row (f .held))) out (upto m)
+            ∙ some-is (λ e. dig (less row (f .held)) e && out e) m e (s .1) (and-both (dig-less row (f .held) e ∙ and-both a (ap not c)) b)
+
+        go : (b : Bool) → leaves row ≡ b → free row g ≡ not b
+        go false t = free-yes g (asked-right out (unheld m row f) f r) t
+        go true t =
+            let w = asked-finds out (unheld m row f) f (open-edge t) in
+            let e = w .0 in
+            let s = some-yes (λ k. dig (less row (f .held)) k && eqb e k) m (sym (any-filter (dig (less row (f .held))) (eqb e) (upto m)) ∙ w .1) in
+            let k = s .0 in
+            let p : dig (less row (f .held)) k ≡ true = and-left (dig (less row (f .held)) k) (eqb e k) (s .2) in
+            let q : e ≡ k = eqb-true e k (and-right (dig (less row (f .held)) k) (eqb e k) (s .2)) in
+            let u : dig row e ≡ true = ap (dig row) q ∙ and-left (dig row k) (not (dig (f .held) k)) (sym (dig-less row (f .held) k) ∙ p) in
+            ne-eqb (count (both row (g .outside))) 0 (λ z. count-none (both row (g .outside)) z e (dig-both row (g .outside) e ∙ and-both u (w .2)))
+
+  module _ (fits : ℕ → Bool) (rows : ℕ → List Bool) (short : (j e : ℕ) → dig (rows j) e ≡ true → e < m) where
+    pub searched-is : (js : List ℕ) (f : Found) → Right out f → searched m out fits rows js f ≡ any (λ j. fits j && not (leaves (rows j))) js
+    unfolding searched any
+    searched-is [] f r = refl
+    searched-is (j ∷ js) f r =
+        go (fits j) (free (rows j) f) refl (leaves (rows j)) refl (after-asked (rows j) (short j) f r)
+        (searched-is js (asked out (unheld m (rows j) f) f) (asked-right out (unheld m (rows j) f) f r)) (searched-is js f r)
+      where
+        g : Found
+        g = asked out (unheld m (rows j) f) f
+
+        rest : Bool
+        rest = any (λ j. fits j && not (leaves (rows j))) js
+
+        found : (c n : Bool) → c ≡ n → searched m out fits rows js g ≡ rest → cond c true (searched m out fits rows js g) ≡ (n || rest)
+        found true true q later = refl
+        found true false q later = absurd (true≢false q)
+        found false true q later = absurd (true≢false (sym q))
+        found false false q later = later
+
+        go : (a b : Bool) → free (rows j) f ≡ b → (l : Bool) → leaves (rows j) ≡ l → free (rows j) g ≡ not (leaves (rows j)) → searched m out fits rows js g ≡ rest → searched m out fits rows js f ≡ rest
+            → cond (a && b) (cond (free (rows j) g) true (searched m out fits rows js g)) (searched m out fits rows js f) ≡ ((a && not (leaves (rows j))) || rest)
+        go false b p l q n later skipped = skipped
+        go true true p l q n later skipped = found (free (rows j) g) (not (leaves (rows j))) n later
+        go true false p true q n later skipped = skipped ∙ ap (λ (t : Bool). not t || rest) (sym q)
+        go true false p false q n later skipped = absurd (true≢false (sym (free-no (rows j) (short j) f r p) ∙ q))

@@ -1,0 +1,109 @@
+-- A loop over the ones of a word. Assumes nothing.
+use mathlib.Core.Path.{_≡_, refl, sym, ap, _∙_}
+use mathlib.Core.Bool.{Bool, true, false, not, _&&_, _||_, cond, true≢false, and-false, or-false, or-assoc}
+use mathlib.Core.Logic.{_⊎_, inl, inr}
+use mathlib.Core.List.{List, [], _∷_}
+use Prim.Native.Nat.{ℕ, zero, suc, _+_, _≤_, _<_}
+use native.Mathlib.Nat.{eq-or-lt-of-le}
+use native.Mathlib.Omega.{arith}
+use Rattle.lists.specs.Lists.{any, keep, filter, from, upto}
+use Rattle.lists.proofs.Truth.{never}
+use Rattle.sets.specs.Word.{dig, count, first, either, less, only}
+use Rattle.sets.proofs.Digits.{dig-either, dig-less, dig-only, dig-self, count-none, first-in}
+use Rattle.fast_tables.specs.Asked.{Found, unheld}
+use Rattle.fast_tables.specs.Words.{ones, gathered}
+use Rattle.fast_tables.proofs.Asked.{any-filter}
+
+pub first-least : (a : List Bool) (k : ℕ) → dig a k ≡ true → first a ≤ k
+unfolding first
+first-least [] k e = absurd (true≢false (sym e))
+first-least (true ∷ a) k e = omega arith
+first-least (false ∷ a) zero e = absurd (true≢false (sym e))
+first-least (false ∷ a) (suc k) e = omega (arith, first-least a k e)
+
+-- ---- the first that passes goes out
+module _ (p q : ℕ → Bool) where
+  filter-from : (n j : ℕ) → ((k : ℕ) → j ≤ k → p k ≡ q k) → filter p (from j n) ≡ filter q (from j n)
+  unfolding filter from
+  filter-from zero j h = refl
+  filter-from (suc n) j h =
+      let a : p j ≡ q j = h j (omega arith) in
+      let b : filter p (from (suc j) n) ≡ filter q (from (suc j) n) = filter-from n (suc j) (λ k l. h k (omega (arith, l))) in
+      λ i. keep (a i) j (b i)
+
+  module _ (f : ℕ) (pf : p f ≡ true) (qf : q f ≡ false) (pl : (k : ℕ) → k < f → p k ≡ false) (ql : (k : ℕ) → k < f → q k ≡ false) (up : (k : ℕ) → f < k → p k ≡ q k) where
+    filter-first : (n j : ℕ) → j ≤ f → f < j + n → filter p (from j n) ≡ f ∷ filter q (from j n)
+    unfolding filter from keep
+    filter-first zero j a b = absurd (omega arith)
+    filter-first (suc n) j a b = go (eq-or-lt-of-le a) (λ l. filter-first n (suc j) l (omega arith))
+      where
+        go : (j ≡ f) ⊎ (j < f) → (suc j ≤ f → filter p (from (suc j) n) ≡ f ∷ filter q (from (suc j) n)) → keep (p j) j (filter p (from (suc j) n)) ≡ f ∷ keep (q j) j (filter q (from (suc j) n))
+        go (inl e) ih =
+            let r : filter p (from (suc j) n) ≡ filter q (from (suc j) n) = filter-from n (suc j) (λ k l. up k (omega (arith, l, e))) in
+            ap (λ (t : Bool). keep t j (filter p (from (suc j) n))) (ap p e ∙ pf) ∙ (λ i. e i ∷ r i)
+            ∙ sym (ap (λ (t : Bool). f ∷ keep t j (filter q (from (suc j) n))) (ap q e ∙ qf))
+        go (inr l) ih = ap (λ (t : Bool). keep t j (filter p (from (suc j) n))) (pl j l) ∙ ih l ∙ sym (ap (λ (t : Bool). f ∷ keep t j (filter q (from (suc j) n))) (ql j l))
+
+module _ (m : ℕ) (a : List Bool) where
+  -- none is left
+  pub ones-none : count a ≡ 0 → ones m a ≡ []
+  unfolding ones filter keep
+  ones-none e = go (upto m)
+    where
+      go : (xs : List ℕ) → filter (dig a) xs ≡ []
+      go [] = refl
+      go (x ∷ xs) = ap (λ (t : Bool). keep t x (filter (dig a) xs)) (never (dig a x) (count-none a e x)) ∙ go xs
+
+  -- the lowest, and the others
+  pub ones-first : (count a ≡ 0 → ⊥) → ((k : ℕ) → dig a k ≡ true → k < m) → ones m a ≡ first a ∷ ones m (less a (only (first a)))
+  unfolding ones upto
+  ones-first some short =
+      filter-first (dig a) (dig b) f here gone low low' high m 0 (omega arith) (let s = short f here in omega (arith, s))
+    where
+      f : ℕ
+      f = first a
+
+      b : List Bool
+      b = less a (only f)
+
+      here : dig a f ≡ true
+      here = first-in a some
+
+      gone : dig b f ≡ false
+      gone = dig-less a (only f) f ∙ ap (λ (t : Bool). dig a f && not t) (dig-self f) ∙ and-false (dig a f)
+
+      low : (k : ℕ) → k < f → dig a k ≡ false
+      low k l = never (dig a k) (λ t. let s = first-least a k t in omega (arith, s, l))
+
+      low' : (k : ℕ) → k < f → dig b k ≡ false
+      low' k l = dig-less a (only f) k ∙ ap (λ (t : Bool). t && not (dig (only f) k)) (low k l)
+
+      high : (k : ℕ) → f < k → dig a k ≡ dig b k
+      high k l = sym (dig-less a (only f) k ∙ ap (λ (t : Bool). dig a k && not t) (never (dig (only f) k) (λ t. let s = dig-only f k t in omega (arith, s, l))) ∙ and-yes (dig a k))
+        where
+          and-yes : (t : Bool) → (t && true) ≡ t
+          and-yes true = refl
+          and-yes false = refl
+
+-- ---- what is gathered
+cond-dig : (t : Bool) (r : List Bool) (j : ℕ) → dig (cond t r []) j ≡ (t && dig r j)
+cond-dig true r j = refl
+cond-dig false r j = refl
+
+pub dig-gathered : (test : ℕ → Bool) (row : ℕ → List Bool) (xs : List ℕ) (w : List Bool) (j : ℕ) → dig (gathered test row xs w) j ≡ (dig w j || any (λ x. test x && dig (row x) j) xs)
+unfolding gathered any
+dig-gathered test row [] w j = sym (or-false (dig w j))
+dig-gathered test row (x ∷ xs) w j =
+    dig-gathered test row xs (either w (cond (test x) (row x) [])) j
+    ∙ ap (λ (t : Bool). t || any (λ x. test x && dig (row x) j) xs) (dig-either w (cond (test x) (row x) []) j ∙ ap (λ (t : Bool). dig w j || t) (cond-dig (test x) (row x) j))
+    ∙ or-assoc (dig w j) (test x && dig (row x) j) (any (λ x. test x && dig (row x) j) xs)
+
+-- some one of a word passes
+pub any-ones : (q : ℕ → Bool) (m : ℕ) (a : List Bool) → any q (ones m a) ≡ any (λ k. dig a k && q k) (upto m)
+unfolding ones
+any-ones q m a = any-filter (dig a) q (upto m)
+
+-- the edges that a row has open
+pub unheld-ones : (m : ℕ) (row : List Bool) (f : Found) → unheld m row f ≡ ones m (less row (f .held))
+unfolding unheld ones
+unheld-ones m row f = refl

@@ -1,0 +1,151 @@
+-- The rows of those that clash, by edges and vertices. Assumes nothing.
+use mathlib.Core.Path.{_≡_, refl, sym, ap, _∙_}
+use mathlib.Core.Bool.{Bool, true, false, not, _&&_, _||_, cond, true≢false}
+use mathlib.Core.List.{List, [], _∷_, map}
+use Prim.Native.Nat.{ℕ, zero, suc, _+_, _≤_, _<_}
+use native.Mathlib.Omega.{arith}
+use borrow.Author.Tests.{not-true, ltb-true, ltb-false}
+use lib.Dec.{ltb}
+use lib.ListN.{length, getD}
+use lib.IntN.{pos}
+use Rattle.lists.specs.Lists.{any, from, upto, member}
+use Rattle.lists.proofs.Truth.{never, and-left, and-right}
+use Rattle.lists.proofs.Places.{map-at}
+use Rattle.lists.proofs.Passing.{any-yes, all-yes, some-yes}
+use Rattle.paper.specs.Points.{origin, isZero, above, below}
+use Rattle.paper.specs.Polygon.{side, onePlane, exactly, lies, isInside}
+use Rattle.paper.specs.Drawing.{Wire, Edge, edge, at}
+use Rattle.paper.specs.Loops.{Loop, polygon, loopAt}
+use Rattle.paper.specs.Clash.{opposite, clash}
+use Rattle.paper.specs.Solids.{has, clashing, tablesOf}
+use Rattle.paper_laws.proofs.Points.{zero-yes}
+use Rattle.fast_tables.specs.Paths.{Apart, Path, Level}
+use Rattle.fast_tables.specs.Hits.{edgePierces, vertexInside, piercedBy, enteredBy, foldsWith, hits}
+use Rattle.fast_tables.proofs.Rounds.{member-yes, has-ends}
+use Rattle.fast_tables.proofs.Pierce.{pierced-opposite, pierces-edges}
+use Rattle.fast_tables.proofs.Enter.{polygon-length, corner-at, enters-vertices}
+use Rattle.fast_tables.proofs.MayFold.{folds-with}
+
+-- ---- a face in its plane does not go through itself
+module _ (d : Wire) (l : Loop) where
+  own-side : Level d l → (v : ℕ) → member v l ≡ true → side (polygon d l) (at d v) ≡ pos 0
+  unfolding onePlane
+  own-side level v e =
+      let r = member-yes v l e in
+      let t = all-yes (λ p. isZero (side (polygon d l) p)) origin (polygon d l) level (r .0) (omega (arith, r .1, polygon-length d l)) in
+      ap (λ p. side (polygon d l) p) (sym (corner-at d l (r .0) (r .1) ∙ ap (at d) (r .2))) ∙ zero-yes (side (polygon d l) (getD (polygon d l) (r .0) origin)) t
+
+  own-edge : Level d l → (e : Edge) → (has e l && edgePierces d l e) ≡ true → ⊥
+  unfolding edgePierces opposite above below
+  own-edge level (edge a b) t =
+      let g = polygon d l in
+      let h = has-ends a b l (and-left (has (edge a b) l) (edgePierces d l (edge a b)) t) in
+      let o : opposite (side g (at d a)) (side g (at d b)) ≡ false = λ i. opposite (own-side level a (h .0) i) (own-side level b (h .1) i) in
+      true≢false (sym (and-right (has (edge a b) l) (edgePierces d l (edge a b)) t) ∙ pierced-opposite g (at d a) (at d b) (side g (at d a)) (side g (at d b)) o)
+
+  pub pierced-self : Level d l → piercedBy d l l ≡ false
+  unfolding piercedBy
+  pierced-self level = never (any (λ e. has e l && edgePierces d l e) (d .edges)) (λ t.
+      let r = any-yes (λ e. has e l && edgePierces d l e) (edge 0 0) (d .edges) t in own-edge level (getD (d .edges) (r .0) (edge 0 0)) (r .2))
+
+  pub entered-self : enteredBy d l l ≡ false
+  unfolding enteredBy vertexInside
+  entered-self = never (any (λ v. member v l && vertexInside d l v) (upto (length (d .vertices)))) (λ t.
+      let r = some-yes (λ v. member v l && vertexInside d l v) (length (d .vertices)) t in
+      let v = r .0 in
+      let rest = isZero (side (polygon d l) (at d v)) && isInside (lies (exactly (at d v)) (polygon d l)) in
+      true≢false (sym (and-left (member v l) (not (member v l) && rest) (r .2)) ∙ not-true (member v l) (and-left (not (member v l)) rest (and-right (member v l) (not (member v l) && rest) (r .2)))))
+
+-- ---- two tables with the same entries
+module _ {A : Type 0} (f g : ℕ → A) where
+  from-same : (j n : ℕ) → ((k : ℕ) → j ≤ k → k < j + n → f k ≡ g k) → map f (from j n) ≡ map g (from j n)
+  unfolding from
+  from-same j zero h = refl
+  from-same j (suc n) h =
+      let a : f j ≡ g j = h j (omega arith) (omega arith) in
+      let b : map f (from (suc j) n) ≡ map g (from (suc j) n) = from-same (suc j) n (λ k p q. h k (omega arith) (omega arith)) in
+      λ i. a i ∷ b i
+
+  pub upto-same : (n : ℕ) → ((k : ℕ) → k < n → f k ≡ g k) → map f (upto n) ≡ map g (upto n)
+  unfolding upto
+  upto-same n h = from-same 0 n (λ k p q. h k (omega arith))
+
+-- ---- the rules in their two orders
+shuffle-up : (p e q f w : Bool) → ((p || e) || (q || f) || (true && w || false)) ≡ (q || p || (f || e) || w)
+shuffle-up true e true f w = refl
+shuffle-up true e false f w = refl
+shuffle-up false true true f w = refl
+shuffle-up false true false true w = refl
+shuffle-up false true false false w = refl
+shuffle-up false false true f w = refl
+shuffle-up false false false true w = refl
+shuffle-up false false false false true = refl
+shuffle-up false false false false false = refl
+
+shuffle-down : (p e q f w : Bool) → ((p || e) || (q || f) || (false || true && w)) ≡ (p || q || (e || f) || w)
+shuffle-down true e true f w = refl
+shuffle-down true e false f w = refl
+shuffle-down false true true f w = refl
+shuffle-down false true false true w = refl
+shuffle-down false true false false w = refl
+shuffle-down false false true f w = refl
+shuffle-down false false false true w = refl
+shuffle-down false false false false true = refl
+shuffle-down false false false false false = refl
+
+module _ (d : Wire) (apart : Apart d) (cs : List Loop) (path : (i : ℕ) → i < length cs → Path d (loopAt cs i)) (level : (i : ℕ) → i < length cs → Level d (loopAt cs i)) where
+  face : (i : ℕ) → i < length cs → getD (map (polygon d) cs) i [] ≡ polygon d (loopAt cs i)
+  face i h = map-at (polygon d) cs i [] [] h
+
+  -- a clash is asked of edges, vertices, and the faces that may fold
+  pub clash-by : (i j : ℕ) → i < length cs → j < length cs
+      → clash (polygon d (loopAt cs i)) (polygon d (loopAt cs j))
+      ≡ (piercedBy d (loopAt cs j) (loopAt cs i) || piercedBy d (loopAt cs i) (loopAt cs j) || (enteredBy d (loopAt cs j) (loopAt cs i) || enteredBy d (loopAt cs i) (loopAt cs j)) || foldsWith d (loopAt cs i) (loopAt cs j))
+  unfolding clash
+  clash-by i j hi hj =
+      let f = loopAt cs i in
+      let g = loopAt cs j in
+      let a = pierces-edges d f (path i hi) g in
+      let b = pierces-edges d g (path j hj) f in
+      let c = enters-vertices d f (path i hi) g in
+      let e = enters-vertices d g (path j hj) f in
+      let w = folds-with d apart f g (path i hi) (path j hj) in
+      λ t. a t || b t || (c t || e t) || w t
+
+  pub hits-is : (i j : ℕ) → i < length cs → j < length cs → hits d cs i j ≡ clashing (map (polygon d) cs) i j
+  unfolding hits clashing
+  hits-is i j hi hj = go (ltb i j) refl (ltb j i) refl
+    where
+      f : Loop
+      f = loopAt cs i
+
+      g : Loop
+      g = loopAt cs j
+
+      no : i ≡ j → ((piercedBy d f g || enteredBy d f g) || (piercedBy d g f || enteredBy d g f) || (false || false)) ≡ false
+      no e =
+          let q : loopAt cs j ≡ loopAt cs i = ap (loopAt cs) (sym e) in
+          let a : piercedBy d f g ≡ false = ap (piercedBy d f) q ∙ pierced-self d f (level i hi) in
+          let b : enteredBy d f g ≡ false = ap (enteredBy d f) q ∙ entered-self d f in
+          let c : piercedBy d g f ≡ false = ap (λ (l : Loop). piercedBy d l f) q ∙ pierced-self d f (level i hi) in
+          let k : enteredBy d g f ≡ false = ap (λ (l : Loop). enteredBy d l f) q ∙ entered-self d f in
+          λ t. (a t || b t) || (c t || k t) || (false || false)
+
+      go : (s : Bool) → ltb i j ≡ s → (t : Bool) → ltb j i ≡ t
+          → ((piercedBy d f g || enteredBy d f g) || (piercedBy d g f || enteredBy d g f) || (s && foldsWith d f g || t && foldsWith d g f))
+          ≡ cond s (clash (getD (map (polygon d) cs) i []) (getD (map (polygon d) cs) j [])) (t && clash (getD (map (polygon d) cs) j []) (getD (map (polygon d) cs) i []))
+      go true p true q = let a = ltb-true i j p in let b = ltb-true j i q in absurd (omega (arith, a, b))
+      go true p false q =
+          shuffle-up (piercedBy d f g) (enteredBy d f g) (piercedBy d g f) (enteredBy d g f) (foldsWith d f g) ∙ sym (clash-by i j hi hj)
+          ∙ (λ k. clash (sym (face i hi) k) (sym (face j hj) k))
+      go false p true q =
+          shuffle-down (piercedBy d f g) (enteredBy d f g) (piercedBy d g f) (enteredBy d g f) (foldsWith d g f) ∙ sym (clash-by j i hj hi)
+          ∙ (λ k. clash (sym (face j hj) k) (sym (face i hi) k))
+      go false p false q = let a = ltb-false i j p in let b = ltb-false j i q in no (omega (arith, a, b))
+
+  pub table-clashes : tablesOf d cs .clashes ≡ map (λ i. map (hits d cs i) (upto (length cs))) (upto (length cs))
+  unfolding tablesOf
+  table-clashes =
+      let n = length cs in
+      upto-same (λ i. map (clashing (map (polygon d) cs) i) (upto n)) (λ i. map (hits d cs i) (upto n)) n
+      (λ i hi. upto-same (clashing (map (polygon d) cs) i) (hits d cs i) n (λ j hj. sym (hits-is i j hi hj)))

@@ -1,0 +1,163 @@
+-- Demand 3, of the whole check, with nothing assumed of the drawing. Assumes nothing.
+use mathlib.Core.Path.{_≡_, sym, subst, _∙_}
+use mathlib.Core.Bool.{Bool, true}
+use mathlib.Core.Option.{none, some}
+use mathlib.Core.List.{List, [], _∷_}
+use Prim.Native.Nat.{ℕ, _≤_, _<_}
+use native.Mathlib.Decide.{ℕ-discrete}
+use lib.ListN.{length}
+use Rattle.sets.specs.Word.{dig}
+use Rattle.paper.specs.Format.{one}
+use Rattle.paper.specs.Refusals.{Check, check, firstOf}
+use Rattle.paper.specs.Drawing.{Wire, samePlace, looseVertex, edgeMeets, apart, drawingChecks}
+use Rattle.paper.specs.Loops.{Loop, loopAt, flipped, loops, candidates, loopChecks}
+use Rattle.paper.specs.Solids.{tablesOf}
+use Rattle.paper.specs.FaceList.{encodeFaces, facesIn, wellShaped}
+use Rattle.paper.specs.Verdict.{listed, faceChecks, verdict}
+use Rattle.paper.specs.declared.Answer.the-variants.{Fine}
+use Rattle.paper.specs.declared.Verdict.the-variants.{Accepted}
+use Rattle.means_solid.specs.Solid.{IsSolid}
+use Rattle.means_check.specs.Shape.{Candidates}
+use Rattle.means_solid.specs.Named.{SameRing, Names}
+use Rattle.means_check.specs.Accepts.{NamesSolid, Accepts}
+use Rattle.means_check.specs.Sent.{Sent, faceList}
+use Rattle.means_check.specs.Bodies.{AmongEither, Singly, SameBody, OneSolid}
+use Rattle.means_check.proofs.Numbered.{names-taken, names-turned}
+use Rattle.means_check.proofs.Few.{solid-sent}
+use Rattle.means_check.proofs.Listing.{candidates-fit}
+use Rattle.means_check.proofs.Evenly.{candidates-even}
+use Rattle.means_check.proofs.Accepting.{step-none, fine-passes, verdict-accepts, accepts-verdict, names-accepted}
+use Rattle.means_check.proofs.Bodies.{one-body, part-body, turned-refused, missing-refused, doubled-refused, names-again, same-named, faceList-names}
+
+-- a drawing that passes 11 has no two vertices at one point, and candidates that fit
+pub drawing-places : (d : Wire) → firstOf (drawingChecks d) ≡ Fine → samePlace d ≡ none
+unfolding drawingChecks
+drawing-places d e = step-none 11 (samePlace d) (check 12 (looseVertex d) ∷ check 13 (edgeMeets d) ∷ check 14 (apart d) ∷ []) e .0
+
+pub drawing-fits : (d : Wire) → firstOf (drawingChecks d) ≡ Fine → Candidates d (candidates d)
+drawing-fits d e = candidates-fit d (candidates-even d (drawing-places d e))
+
+module _ (form : List Check) (d : Wire) where
+  -- "For a drawing that passes the drawing rules, the check accepts a list exactly when it names one solid of demand 2 with its
+  -- directions, in any order of faces and from any starting corners."
+  pub accepts-exactly : (list : List ℕ) → ((verdict form d list ≡ Accepted) → Accepts form d list) × (Accepts form d list → verdict form d list ≡ Accepted)
+  accepts-exactly list = (
+    λ e. verdict-accepts form d (drawing-fits d (fine-passes form d list e)) list e,
+    λ a. accepts-verdict form d (drawing-fits d (a .drawing-passes)) list a,
+  )
+
+  module _ (list : List ℕ) (a : verdict form d list ≡ Accepted) where
+    fits : Candidates d (candidates d)
+    fits = drawing-fits d (fine-passes form d list a)
+
+    told : Accepts form d list
+    told = accepts-exactly list .0 a
+
+    fair : firstOf (faceChecks (tablesOf d (candidates d)) (length (candidates d)) (listed (candidates d) (facesIn one list))) ≡ Fine
+    fair = names-accepted d (candidates d) (facesIn one list) fits (told .named)
+
+    -- an accepted list, in another order of faces and from other starts, and of a good shape, is accepted
+    pub again : (other : List ℕ) → wellShaped one (length (d .vertices)) other ≡ true → SameBody (facesIn one list) (facesIn one other) → Singly (facesIn one other) → verdict form d other ≡ Accepted
+    again other h b y =
+        let w = told .named in
+        accepts-exactly other .1 (record {
+          form-passes = told .form-passes;
+          drawing-passes = told .drawing-passes;
+          few = told .few;
+          shape = h;
+          named = record {
+            taken = w .taken;
+            turned = w .turned;
+            six = w .six;
+            solid = w .solid;
+            names = names-again d (candidates d) fits (w .taken) (w .turned) (facesIn one list) (facesIn one other) (w .names) b y;
+          };
+        })
+
+    -- no face of it stands twice: a list with a face doubled is refused
+    pub not-doubled : (i j : ℕ) → i < length (facesIn one list) → j < length (facesIn one list) → (i ≡ j → ⊥) → SameRing (loopAt (facesIn one list) i) (loopAt (facesIn one list) j) → ⊥
+    not-doubled i j hi hj n s = doubled-refused d (candidates d) fits (facesIn one list) i j hi hj n s fair
+
+    module _ (other : List ℕ) (b : verdict form d other ≡ Accepted) where
+      fair-other : firstOf (faceChecks (tablesOf d (candidates d)) (length (candidates d)) (listed (candidates d) (facesIn one other))) ≡ Fine
+      fair-other = names-accepted d (candidates d) (facesIn one other) fits (accepts-exactly other .0 b .named)
+
+      -- "with n = 1 any two accepted lists are the same body"
+      pub one-same : OneSolid d (candidates d) → SameBody (facesIn one list) (facesIn one other)
+      one-same u = one-body d (candidates d) fits u (facesIn one list) (facesIn one other) fair fair-other
+
+      -- an accepted list of faces of another accepted list, one way or the other, is the same body: none is turned, none left out
+      pub part-same : AmongEither (facesIn one list) (facesIn one other) → SameBody (facesIn one list) (facesIn one other)
+      part-same m = part-body d (candidates d) fits (facesIn one list) (facesIn one other) fair fair-other m
+
+      pub not-turned : AmongEither (facesIn one list) (facesIn one other) → (i j : ℕ) → i < length (facesIn one other) → j < length (facesIn one list)
+          → SameRing (flipped (loopAt (facesIn one list) j)) (loopAt (facesIn one other) i) → ⊥
+      not-turned m i j hi hj s = turned-refused d (candidates d) fits (facesIn one list) (facesIn one other) fair m i j hi hj s fair-other
+
+      pub not-missing : AmongEither (facesIn one list) (facesIn one other) → (j : ℕ) → j < length (facesIn one list)
+          → ((i : ℕ) → i < length (facesIn one other) → SameRing (loopAt (facesIn one list) j) (loopAt (facesIn one other) i) → ⊥) → ⊥
+      not-missing m j hj n = missing-refused d (candidates d) fits (facesIn one list) (facesIn one other) fair m j hj n fair-other
+
+  -- "where the report lists n solids, each of the n is accepted": any list of a good shape that names it
+  pub each-accepted : firstOf form ≡ Fine → firstOf (drawingChecks d) ≡ Fine → firstOf (loopChecks (loops d) (candidates d)) ≡ Fine
+      → (taken turned : List Bool) (six : ℕ) → IsSolid d (candidates d) taken turned six
+      → (list : List ℕ) → wellShaped one (length (d .vertices)) list ≡ true → Names d (candidates d) taken turned (facesIn one list) → verdict form d list ≡ Accepted
+  each-accepted f r l taken turned six s list h n = accepts-exactly list .1 (record {
+    form-passes = f;
+    drawing-passes = r;
+    few = l;
+    shape = h;
+    named = record { taken = taken; turned = turned; six = six; solid = s; names = n };
+  })
+
+  -- each has such a list: its own faces in candidate order, packed. That packed faces read back is the converter's other theorem, which
+  -- the crate of face lists proves; here it is handed over.
+  pub each-sent : firstOf form ≡ Fine → firstOf (drawingChecks d) ≡ Fine → firstOf (loopChecks (loops d) (candidates d)) ≡ Fine → length (d .edges) ≤ 64
+      → ((fs : List Loop) → Sent (length (d .vertices)) fs → (wellShaped one (length (d .vertices)) (encodeFaces one fs) ≡ true) × (facesIn one (encodeFaces one fs) ≡ fs))
+      → (taken turned : List Bool) (six : ℕ) → IsSolid d (candidates d) taken turned six → verdict form d (encodeFaces one (faceList d (candidates d) taken turned)) ≡ Accepted
+  each-sent f r l few back taken turned six s =
+      let b = back (faceList d (candidates d) taken turned) (solid-sent d (drawing-places d r) few taken turned s) in
+      each-accepted f r l taken turned six s (encodeFaces one (faceList d (candidates d) taken turned)) (b .0)
+      (subst (λ (fs : List Loop). Names d (candidates d) taken turned fs) (sym (b .1)) (faceList-names d (candidates d) (drawing-fits d r) taken turned s))
+
+  -- "names one solid": a list names no two
+  pub one-named : firstOf (drawingChecks d) ≡ Fine → (fs : List Loop) (w v : NamesSolid d (candidates d) fs)
+      → ((k : ℕ) → dig (w .taken) k ≡ dig (v .taken) k) × ((k : ℕ) → dig (w .turned) k ≡ dig (v .turned) k)
+  one-named r fs w v =
+      let c = drawing-fits d r in (
+        λ k. sym (names-taken d (candidates d) c fs (w .taken) (w .turned) (w .solid .some) (w .solid .within) (w .names) k) ∙ names-taken d (candidates d) c fs (v .taken) (v .turned) (v .solid .some) (v .solid .within) (v .names) k,
+        λ k. sym (names-turned d (candidates d) c fs (w .taken) (w .turned) (w .solid .some) (w .solid .within) (w .names) k) ∙ names-turned d (candidates d) c fs (v .taken) (v .turned) (v .solid .some) (v .solid .within) (v .names) k,
+      )
+
+  -- "each of the n is accepted, no other body is": a list is accepted exactly when it is the body of a solid, with no face twice
+  pub record BodyOfSolid (list : List ℕ) : Type 0 where
+    pub taken : List Bool
+    pub turned : List Bool
+    pub six : ℕ
+    pub solid : IsSolid d (candidates d) taken turned six
+    pub body : SameBody (faceList d (candidates d) taken turned) (facesIn one list)
+    pub singly : Singly (facesIn one list)
+
+  pub accepted-body : (list : List ℕ) → verdict form d list ≡ Accepted → BodyOfSolid list
+  accepted-body list a =
+      let c = drawing-fits d (fine-passes form d list a) in
+      let w = accepts-exactly list .0 a .named in
+      record {
+        taken = w .taken;
+        turned = w .turned;
+        six = w .six;
+        solid = w .solid;
+        body = same-named d (candidates d) c (w .taken) (w .turned) (faceList d (candidates d) (w .taken) (w .turned)) (facesIn one list) (faceList-names d (candidates d) c (w .taken) (w .turned) (w .solid)) (w .names);
+        singly = λ i j hi hj s. pick i j (not-doubled list a i j hi hj) s (ℕ-discrete i j);
+      }
+    where
+      pick : (i j : ℕ) → ((i ≡ j → ⊥) → SameRing (loopAt (facesIn one list) i) (loopAt (facesIn one list) j) → ⊥) → SameRing (loopAt (facesIn one list) i) (loopAt (facesIn one list) j) → Dec (i ≡ j) → i ≡ j
+      pick i j f s (yes e) = e
+      pick i j f s (no n) = absurd (f n s)
+
+  pub body-accepted : firstOf form ≡ Fine → firstOf (drawingChecks d) ≡ Fine → firstOf (loopChecks (loops d) (candidates d)) ≡ Fine
+      → (list : List ℕ) → wellShaped one (length (d .vertices)) list ≡ true → BodyOfSolid list → verdict form d list ≡ Accepted
+  body-accepted f r l list h b =
+      let c = drawing-fits d r in
+      each-accepted f r l (b .taken) (b .turned) (b .six) (b .solid) list h
+      (names-again d (candidates d) c (b .taken) (b .turned) (faceList d (candidates d) (b .taken) (b .turned)) (facesIn one list) (faceList-names d (candidates d) c (b .taken) (b .turned) (b .solid)) (b .body) (b .singly))

@@ -1,0 +1,114 @@
+-- Demand 3 of a drawing that is lent as two lists, and of one on a sheet. Assumes nothing.
+use mathlib.Core.Path.{_≡_, refl, _∙_}
+use mathlib.Core.Bool.{Bool, true, false, not}
+use mathlib.Core.Option.{none}
+use mathlib.Core.List.{List, [], _∷_, _++_}
+use Prim.Native.Nat.{ℕ, _+_, _*_, _/_, _%_, _≤_}
+use native.Mathlib.Omega.{arith}
+use lib.Dec.{eqb}
+use lib.IntN.{ℤ}
+use lib.ListN.{length, length-map}
+use Rattle.lists.proofs.Truth.{or-none}
+use Rattle.pack.specs.Bits.{fieldsAt}
+use Rattle.pack.proofs.Laws.{length-fields}
+use Rattle.paper.specs.Format.{one, leastVertices, leastEdges, outside, verticesIn, edgesIn, coordinatesIn, endsIn, coordinate, head, coordinateBits}
+use Rattle.paper.specs.Refusals.{firstOf, offends}
+use Rattle.paper.specs.Sheet.{badCount, contentChecks, countChecks, openChecks, closeChecks, shapeChecks, sheetChecks, lentChecks}
+use Rattle.paper.specs.Drawing.{Wire, wire, pointsOf, edgesOf, drawingChecks}
+use Rattle.paper.specs.Loops.{Loop, loops, candidates, loopChecks}
+use Rattle.paper.specs.FaceList.{encodeFaces, facesIn, wellShaped}
+use Rattle.paper.specs.Verdict.{verdictLists, verdictSheet}
+use Rattle.paper.specs.declared.Answer.the-variants.{Fine}
+use Rattle.paper.specs.declared.Verdict.the-variants.{Accepted}
+use Rattle.paper_laws.proofs.Limits.{outside-false}
+use Rattle.means_solid.specs.Solid.{IsSolid}
+use Rattle.means_check.specs.Accepts.{Accepts}
+use Rattle.means_check.specs.Sent.{Sent, faceList}
+use Rattle.means_check.proofs.Accepting.{step-none, both-fine}
+use Rattle.means_check.proofs.Demand.{accepts-exactly, each-sent}
+
+-- ---- the counts of a drawing whose form passes
+
+points-count : (xyz : List ℤ) → length (pointsOf xyz) ≡ length xyz / 3
+unfolding pointsOf
+points-count [] = refl
+points-count (a ∷ []) = refl
+points-count (a ∷ (b ∷ [])) = refl
+points-count (a ∷ (b ∷ (c ∷ l))) = omega (arith, points-count l)
+
+edges-count : (ends : List ℕ) → length (edgesOf ends) ≡ length ends / 2
+unfolding edgesOf
+edges-count [] = refl
+edges-count (a ∷ []) = refl
+edges-count (a ∷ (b ∷ l)) = omega (arith, edges-count l)
+
+abbrev pub Small : Wire → Type 0
+Small d = (length (d .vertices) ≤ 32) × (length (d .edges) ≤ 64)
+
+no-offence : (b : Bool) (p : ℕ) → offends b p ≡ none → b ≡ false
+no-offence true p e = let z : _≡_ {A = ℕ} 0 1 = cc in absurd (omega arith)
+no-offence false p e = refl
+
+pub lent-small : (xyz : List ℤ) (ends : List ℕ) → firstOf (lentChecks one xyz ends) ≡ Fine → Small (wire xyz ends)
+unfolding lentChecks wire
+lent-small xyz ends e =
+    let a = step-none 5 (offends (badCount 3 leastVertices 32 (length xyz)) 0) _ e in
+    let b = step-none 5 (offends (badCount 2 leastEdges 64 (length ends)) 1) _ (a .1) in
+    let p = or-none (not (eqb (length xyz % 3) 0)) (outside leastVertices 32 (length xyz / 3)) (no-offence (badCount 3 leastVertices 32 (length xyz)) 0 (a .0)) in
+    let q = or-none (not (eqb (length ends % 2) 0)) (outside leastEdges 64 (length ends / 2)) (no-offence (badCount 2 leastEdges 64 (length ends)) 1 (b .0)) in
+    (omega (arith, points-count xyz, outside-false leastVertices 32 (length xyz / 3) (p .1) .1), omega (arith, edges-count ends, outside-false leastEdges 64 (length ends / 2) (q .1) .1))
+
+pub sheet-small : (s : List ℕ) → firstOf (sheetChecks one s) ≡ Fine → Small (wire (coordinatesIn one s) (endsIn one s))
+unfolding sheetChecks shapeChecks countChecks wire
+sheet-small s e =
+    let v = verticesIn one s in
+    let n = edgesIn one s in
+    let p = both-fine (openChecks one s ++ countChecks one (verticesIn one s) (edgesIn one s) ++ closeChecks one s (verticesIn one s) (edgesIn one s)) (contentChecks (verticesIn one s) (coordinatesIn one s) (endsIn one s)) e in
+    let q = both-fine (openChecks one s ++ countChecks one (verticesIn one s) (edgesIn one s)) (closeChecks one s (verticesIn one s) (edgesIn one s)) (p .0) in
+    let r = both-fine (openChecks one s) (countChecks one (verticesIn one s) (edgesIn one s)) (q .0) in
+    let a = step-none 5 (offends (outside leastVertices 32 (verticesIn one s)) 0) _ (r .1) in
+    let b = step-none 5 (offends (outside leastEdges 64 (edgesIn one s)) 1) _ (a .1) in
+    let va = outside-false leastVertices 32 (verticesIn one s) (no-offence (outside leastVertices 32 (verticesIn one s)) 0 (a .0)) .1 in
+    let eb = outside-false leastEdges 64 (edgesIn one s) (no-offence (outside leastEdges 64 (edgesIn one s)) 1 (b .0)) .1 in
+    (omega (arith, points-count (coordinatesIn one s), lengths), omega (arith, edges-count (endsIn one s), ends-long))
+  where
+    lengths : length (coordinatesIn one s) ≡ 3 * verticesIn one s
+    lengths = length-map (fieldsAt s (head one) coordinateBits (3 * verticesIn one s)) coordinate ∙ length-fields s (head one) coordinateBits (3 * verticesIn one s)
+
+    ends-long : length (endsIn one s) ≡ 2 * edgesIn one s
+    ends-long = length-fields s (head one + 3 * coordinateBits * verticesIn one s) 5 (2 * edgesIn one s)
+
+-- ---- demand 3
+
+-- packed faces read back: what the crate of face lists proves of edition 1
+abbrev pub ReadsBack : Type 0
+ReadsBack = (v : ℕ) → v ≤ 32 → (fs : List Loop) → Sent v fs → (wellShaped one v (encodeFaces one fs) ≡ true) × (facesIn one (encodeFaces one fs) ≡ fs)
+
+module _ (xyz : List ℤ) (ends : List ℕ) where
+  pub lists-exactly : (list : List ℕ) → ((verdictLists xyz ends list ≡ Accepted) → Accepts (lentChecks one xyz ends) (wire xyz ends) list)
+      × (Accepts (lentChecks one xyz ends) (wire xyz ends) list → verdictLists xyz ends list ≡ Accepted)
+  unfolding verdictLists
+  lists-exactly list = accepts-exactly (lentChecks one xyz ends) (wire xyz ends) list
+
+  pub lists-each : ReadsBack → firstOf (lentChecks one xyz ends) ≡ Fine → firstOf (drawingChecks (wire xyz ends)) ≡ Fine → firstOf (loopChecks (loops (wire xyz ends)) (candidates (wire xyz ends))) ≡ Fine
+      → (taken turned : List Bool) (six : ℕ) → IsSolid (wire xyz ends) (candidates (wire xyz ends)) taken turned six
+      → verdictLists xyz ends (encodeFaces one (faceList (wire xyz ends) (candidates (wire xyz ends)) taken turned)) ≡ Accepted
+  unfolding verdictLists
+  lists-each back f r l =
+      let m = lent-small xyz ends f in
+      each-sent (lentChecks one xyz ends) (wire xyz ends) f r l (m .1) (back (length (wire xyz ends .vertices)) (m .0))
+
+module _ (s : List ℕ) where
+  pub sheet-exactly : (list : List ℕ) → ((verdictSheet s list ≡ Accepted) → Accepts (sheetChecks one s) (wire (coordinatesIn one s) (endsIn one s)) list)
+      × (Accepts (sheetChecks one s) (wire (coordinatesIn one s) (endsIn one s)) list → verdictSheet s list ≡ Accepted)
+  unfolding verdictSheet
+  sheet-exactly list = accepts-exactly (sheetChecks one s) (wire (coordinatesIn one s) (endsIn one s)) list
+
+  pub sheet-each : ReadsBack → firstOf (sheetChecks one s) ≡ Fine → firstOf (drawingChecks (wire (coordinatesIn one s) (endsIn one s))) ≡ Fine
+      → firstOf (loopChecks (loops (wire (coordinatesIn one s) (endsIn one s))) (candidates (wire (coordinatesIn one s) (endsIn one s)))) ≡ Fine
+      → (taken turned : List Bool) (six : ℕ) → IsSolid (wire (coordinatesIn one s) (endsIn one s)) (candidates (wire (coordinatesIn one s) (endsIn one s))) taken turned six
+      → verdictSheet s (encodeFaces one (faceList (wire (coordinatesIn one s) (endsIn one s)) (candidates (wire (coordinatesIn one s) (endsIn one s))) taken turned)) ≡ Accepted
+  unfolding verdictSheet
+  sheet-each back f r l =
+      let m = sheet-small s f in
+      each-sent (sheetChecks one s) (wire (coordinatesIn one s) (endsIn one s)) f r l (m .1) (back (length (wire (coordinatesIn one s) (endsIn one s) .vertices)) (m .0))

@@ -1,0 +1,343 @@
+-- The loops that are listed are the closed paths of document 01, each once: whatever start and direction a closed path has, its normal form
+-- is listed, and two closed paths have one normal form just where they differ only in start or direction. Assumes nothing.
+use mathlib.Core.Path.{_≡_, refl, sym, ap, ap₂, subst, _∙_}
+use mathlib.Core.Bool.{Bool, true, false, _&&_, cond}
+use mathlib.Core.Logic.{_⊎_, inl, inr}
+use mathlib.Core.Option.{none}
+use mathlib.Core.List.{List, [], _∷_, _++_}
+use Prim.Native.Nat.{ℕ, zero, suc, _+_, _-_, _≤_, _<_}
+use native.Mathlib.Omega.{arith}
+use native.Mathlib.Decide.{decLt}
+use lib.Dec.{eqb, ltb}
+use lib.ListN.{length, getD, take, length-append, length-map, List·getD-append}
+use lib.Seq.{getD-append-add}
+use borrow.Author.Tests.{eq-eqb, ltb-true, ltb-false}
+use Rattle.lists.specs.Around.{wrap, around}
+use Rattle.lists.proofs.Truth.{and-both, or-left, or-right}
+use Rattle.lists.proofs.Passing.{any-is}
+use Rattle.lists.proofs.Places.{map-at}
+use Rattle.lists.proofs.Sides.{wrap-low, wrap-high}
+use Rattle.paper.specs.Points.{origin, dot}
+use Rattle.paper.specs.Drawing.{Wire, Edge, edge, edgeAt, at, joins, joined, samePlace}
+use Rattle.paper.specs.Loops.{Loop, loopAt, loops, level, polygon, flipped}
+use Rattle.paper.specs.Verdict.{fromLowest, onward, normalForm}
+use Rattle.means_solid.specs.Solid.{Goes}
+use Rattle.means_check.specs.Shape.{Different}
+use Rattle.means_check.specs.Loop.{IsLoop}
+use Rattle.means_check.specs.Plane.{InPlane}
+use Rattle.means_check.specs.Path.{EdgeOf, ClosedPath}
+use Rattle.means_solid.specs.Named.{SameRing}
+use Rattle.means_check.proofs.Rings.{parts, same-length, flip-length, flip-first, flip-at}
+use Rattle.means_check.proofs.Forms.{LowFirst, same-low, low-first, flip-low, different-same, normal-on, normal-back}
+use Rattle.means_check.proofs.Goings.{wrap-next, around-at}
+use Rattle.means_check.proofs.Listing.{joined-edge, loops-are, loops-all}
+use Rattle.means_check.proofs.Planes.{places-differ, plane-level, first-level, loop-plane}
+
+-- ---- joined vertices
+
+edge-joined : (d : Wire) (a b : ℕ) → EdgeOf d a b → joined d a b ≡ true
+unfolding joined edgeAt joins
+edge-joined d a b (e, h, w) = any-is (joins a b) (edge 0 0) (d .edges) e h (go (edgeAt d e) w)
+  where
+    go : (x : Edge) → (x ≡ edge a b) ⊎ (x ≡ edge b a) → joins a b x ≡ true
+    go x (inl p) = ap (joins a b) p ∙ or-left (eqb a a && eqb b b) (eqb a b && eqb b a) (and-both (eq-eqb a a refl) (eq-eqb b b refl))
+    go x (inr p) = ap (joins a b) p ∙ or-right (eqb a b && eqb b a) (eqb a a && eqb b b) (and-both (eq-eqb a a refl) (eq-eqb b b refl))
+
+edge-back : (d : Wire) (a b : ℕ) → EdgeOf d a b → EdgeOf d b a
+edge-back d a b (e, h, inl p) = (e, h, inr p)
+edge-back d a b (e, h, inr p) = (e, h, inl p)
+
+-- ---- places of a ring from another start, and the other way round
+
+wrap-is : (n j : ℕ) → ((j < n) × (wrap n j ≡ j)) ⊎ ((n ≤ j) × (wrap n j ≡ j - n))
+wrap-is n j = go (decLt j n)
+  where
+    go : Dec (j < n) → ((j < n) × (wrap n j ≡ j)) ⊎ ((n ≤ j) × (wrap n j ≡ j - n))
+    go (yes h) = inl (h, wrap-low n j h)
+    go (no h) = inr (omega arith, wrap-high n j (omega arith))
+
+split-at : (u w : List ℕ) (i : ℕ) → i < length w + length u → getD (w ++ u) i 0 ≡ getD (u ++ w) (wrap (length w + length u) (length u + i)) 0
+split-at u w i h = go (wrap-is (length w + length u) (length u + i))
+  where
+    go : ((length u + i < length w + length u) × (wrap (length w + length u) (length u + i) ≡ length u + i)) ⊎ ((length w + length u ≤ length u + i) × (wrap (length w + length u) (length u + i) ≡ length u + i - (length w + length u)))
+        → getD (w ++ u) i 0 ≡ getD (u ++ w) (wrap (length w + length u) (length u + i)) 0
+    go (inl (p, e)) = List·getD-append w u 0 i (omega arith) ∙ sym (ap (λ (m : ℕ). getD (u ++ w) m 0) e ∙ getD-append-add u w i 0)
+    go (inr (p, e)) =
+        let q : i ≡ length w + (i - length w) = omega arith in
+        let z : length u + i - (length w + length u) ≡ i - length w = omega arith in
+        ap (λ (m : ℕ). getD (w ++ u) m 0) q ∙ getD-append-add w u (i - length w) 0
+        ∙ sym (ap (λ (m : ℕ). getD (u ++ w) m 0) (e ∙ z) ∙ List·getD-append u w 0 (i - length w) (omega arith))
+
+wrap-step : (n k i : ℕ) → k ≤ n → i < n → wrap n (k + wrap n (suc i)) ≡ wrap n (suc (wrap n (k + i)))
+wrap-step n k i hk hi = go (wrap-is n (suc i)) (wrap-is n (k + i)) (wrap-is n (k + wrap n (suc i))) (wrap-is n (suc (wrap n (k + i))))
+  where
+    go : ((suc i < n) × (wrap n (suc i) ≡ suc i)) ⊎ ((n ≤ suc i) × (wrap n (suc i) ≡ suc i - n)) → ((k + i < n) × (wrap n (k + i) ≡ k + i)) ⊎ ((n ≤ k + i) × (wrap n (k + i) ≡ k + i - n))
+        → ((k + wrap n (suc i) < n) × (wrap n (k + wrap n (suc i)) ≡ k + wrap n (suc i))) ⊎ ((n ≤ k + wrap n (suc i)) × (wrap n (k + wrap n (suc i)) ≡ k + wrap n (suc i) - n))
+        → ((suc (wrap n (k + i)) < n) × (wrap n (suc (wrap n (k + i))) ≡ suc (wrap n (k + i)))) ⊎ ((n ≤ suc (wrap n (k + i))) × (wrap n (suc (wrap n (k + i))) ≡ suc (wrap n (k + i)) - n))
+        → wrap n (k + wrap n (suc i)) ≡ wrap n (suc (wrap n (k + i)))
+    go (inl (a, a′)) (inl (b, b′)) (inl (c, c′)) (inl (e, e′)) = omega arith
+    go (inl (a, a′)) (inl (b, b′)) (inl (c, c′)) (inr (e, e′)) = omega arith
+    go (inl (a, a′)) (inl (b, b′)) (inr (c, c′)) (inl (e, e′)) = omega arith
+    go (inl (a, a′)) (inl (b, b′)) (inr (c, c′)) (inr (e, e′)) = omega arith
+    go (inl (a, a′)) (inr (b, b′)) (inl (c, c′)) (inl (e, e′)) = omega arith
+    go (inl (a, a′)) (inr (b, b′)) (inl (c, c′)) (inr (e, e′)) = omega arith
+    go (inl (a, a′)) (inr (b, b′)) (inr (c, c′)) (inl (e, e′)) = omega arith
+    go (inl (a, a′)) (inr (b, b′)) (inr (c, c′)) (inr (e, e′)) = omega arith
+    go (inr (a, a′)) (inl (b, b′)) (inl (c, c′)) (inl (e, e′)) = omega arith
+    go (inr (a, a′)) (inl (b, b′)) (inl (c, c′)) (inr (e, e′)) = omega arith
+    go (inr (a, a′)) (inl (b, b′)) (inr (c, c′)) (inl (e, e′)) = omega arith
+    go (inr (a, a′)) (inl (b, b′)) (inr (c, c′)) (inr (e, e′)) = omega arith
+    go (inr (a, a′)) (inr (b, b′)) (inl (c, c′)) (inl (e, e′)) = omega arith
+    go (inr (a, a′)) (inr (b, b′)) (inl (c, c′)) (inr (e, e′)) = omega arith
+    go (inr (a, a′)) (inr (b, b′)) (inr (c, c′)) (inl (e, e′)) = omega arith
+    go (inr (a, a′)) (inr (b, b′)) (inr (c, c′)) (inr (e, e′)) = omega arith
+
+wrap-below : (n j : ℕ) → j < n + n → wrap n j < n
+wrap-below n j h = go (wrap-is n j)
+  where
+    go : ((j < n) × (wrap n j ≡ j)) ⊎ ((n ≤ j) × (wrap n j ≡ j - n)) → wrap n j < n
+    go (inl (a, b)) = omega arith
+    go (inr (a, b)) = omega arith
+
+-- place i of g is a place of f, and the one after it the one after that
+record Turned (f g : List ℕ) : Type 0 where
+  to : ℕ → ℕ
+  low : (i : ℕ) → i < length g → to i < length f
+  same : (i : ℕ) → i < length g → getD g i 0 ≡ getD f (to i) 0
+  next : (i : ℕ) → i < length g → to (wrap (length g) (suc i)) ≡ wrap (length f) (suc (to i))
+
+turned : {f g : List ℕ} → SameRing f g → Turned f g
+turned {f} {g} s = let p = parts s in go f g (p .front) (p .back) (p .before) (p .after)
+  where
+    go : (f g u w : List ℕ) → f ≡ u ++ w → g ≡ w ++ u → Turned f g
+    go f g u w e q = subst (λ (x : List ℕ). Turned x g) (sym e) (subst (λ (y : List ℕ). Turned (u ++ w) y) (sym q) (by (length-append u w) (length-append w u)))
+      where
+        by : length (u ++ w) ≡ length u + length w → length (w ++ u) ≡ length w + length u → Turned (u ++ w) (w ++ u)
+        by l m = record {
+          to = λ i. wrap (length w + length u) (length u + i);
+          low = λ i h. let z = wrap-below (length w + length u) (length u + i) (omega arith) in omega arith;
+          same = λ i h. split-at u w i (omega arith);
+          next = λ i h.
+              let a : wrap (length w + length u) (length u + wrap (length w + length u) (suc i)) ≡ wrap (length w + length u) (suc (wrap (length w + length u) (length u + i)))
+              = wrap-step (length w + length u) (length u) i (omega arith) (omega arith) in
+              let n : length (u ++ w) ≡ length w + length u = omega arith in
+              ap (λ (x : ℕ). wrap (length w + length u) (length u + wrap x (suc i))) m ∙ a ∙ ap (λ (x : ℕ). wrap x (suc (wrap (length w + length u) (length u + i)))) (sym n);
+        }
+
+goes-from : {f g : List ℕ} → SameRing f g → (a b : ℕ) → Goes g a b → Goes f a b
+goes-from {f} {g} s a b h =
+    let t = turned s in
+    let w = wrap-low (length g) (h .at) (h .here) in
+    let l = t .low (h .at) (h .here) in
+    let m : wrap (length g) (suc (h .at)) < length g = wrap-below (length g) (suc (h .at)) (let z = h .here in omega arith) in
+    record {
+      at = t .to (h .at);
+      here = l;
+      from = h .from ∙ around-at g (h .at) ∙ ap (λ (i : ℕ). getD g i 0) w ∙ t .same (h .at) (h .here) ∙ sym (around-at f (t .to (h .at)) ∙ ap (λ (i : ℕ). getD f i 0) (wrap-low (length f) (t .to (h .at)) l));
+      to = h .to ∙ around-at g (suc (h .at)) ∙ t .same (wrap (length g) (suc (h .at))) m ∙ ap (λ (i : ℕ). getD f i 0) (t .next (h .at) (h .here)) ∙ sym (around-at f (suc (t .to (h .at))));
+    }
+
+-- a corner of the reverse is a corner
+flip-place : (f : List ℕ) (i : ℕ) → i < length (flipped f) → (j : ℕ) × (j < length f) × (getD (flipped f) i 0 ≡ getD f j 0)
+flip-place f zero h = (0, omega (arith, flip-length f), flip-first f)
+flip-place f (suc i) h = (length f - suc i, omega (arith, flip-length f), flip-at f (suc i) (omega arith) (omega (arith, flip-length f)))
+
+goes-back : (f : List ℕ) (a b : ℕ) → 2 ≤ length f → Goes (flipped f) a b → Goes f b a
+goes-back f a b two h = go (h .at) (h .here) (h .from) (h .to)
+  where
+    n : length (flipped f) ≡ length f
+    n = flip-length f
+
+    near : (m i : ℕ) → i < m → m - suc i < m
+    near m i h = omega arith
+
+    -- the corner that comes next in the reverse comes before in the ring
+    after : (i : ℕ) → i < length f → around (flipped f) (suc i) 0 ≡ getD f (length f - suc i) 0
+    after i l = around-at (flipped f) (suc i) ∙ by (wrap-next (length (flipped f)) i (omega (arith, n)))
+      where
+        by : ((suc i < length (flipped f)) × (wrap (length (flipped f)) (suc i) ≡ suc i)) ⊎ ((suc i ≡ length (flipped f)) × (wrap (length (flipped f)) (suc i) ≡ 0))
+            → getD (flipped f) (wrap (length (flipped f)) (suc i)) 0 ≡ getD f (length f - suc i) 0
+        by (inl (p, e)) = ap (λ (j : ℕ). getD (flipped f) j 0) e ∙ flip-at f (suc i) (omega arith) (omega (arith, n))
+        by (inr (p, e)) = let z : length f - suc i ≡ 0 = omega (arith, n) in ap (λ (j : ℕ). getD (flipped f) j 0) e ∙ flip-first f ∙ sym (ap (λ (j : ℕ). getD f j 0) z)
+
+    here : (i : ℕ) → i < length f → around (flipped f) i 0 ≡ around f (suc (length f - suc i)) 0
+    here zero l =
+        let z : suc (length f - 1) ≡ length f = omega arith in
+        let w : wrap (length f) (suc (length f - 1)) ≡ 0 = wrap-high (length f) (suc (length f - 1)) (omega arith) ∙ omega arith in
+        around-at (flipped f) 0 ∙ ap (λ (j : ℕ). getD (flipped f) j 0) (wrap-low (length (flipped f)) 0 (omega (arith, n))) ∙ flip-first f
+        ∙ sym (around-at f (suc (length f - 1)) ∙ ap (λ (j : ℕ). getD f j 0) w)
+    here (suc i) l =
+        let w : wrap (length f) (suc (length f - suc (suc i))) ≡ length f - suc i = wrap-low (length f) (suc (length f - suc (suc i))) (omega arith) ∙ omega arith in
+        around-at (flipped f) (suc i) ∙ ap (λ (j : ℕ). getD (flipped f) j 0) (wrap-low (length (flipped f)) (suc i) (omega (arith, n))) ∙ flip-at f (suc i) (omega arith) l
+        ∙ sym (around-at f (suc (length f - suc (suc i))) ∙ ap (λ (j : ℕ). getD f j 0) w)
+
+    go : (i : ℕ) → i < length (flipped f) → a ≡ around (flipped f) i 0 → b ≡ around (flipped f) (suc i) 0 → Goes f b a
+    go i l p q =
+        let l′ : i < length f = omega (arith, n) in
+        let m : length f - suc i < length f = near (length f) i l′ in
+        record {
+          at = length f - suc i;
+          here = m;
+          from = q ∙ after i l′ ∙ sym (around-at f (length f - suc i) ∙ ap (λ (j : ℕ). getD f j 0) (wrap-low (length f) (length f - suc i) m));
+          to = p ∙ here i l′;
+        }
+
+-- ---- a closed path from another start, and the other way round
+
+plane-from : (d : Wire) (f g : List ℕ) → ((i : ℕ) → i < length g → (j : ℕ) × (j < length f) × (getD g i 0 ≡ getD f j 0)) → InPlane (polygon d f) → InPlane (polygon d g)
+unfolding polygon
+plane-from d f g w y = record {
+  across = y .across;
+  height = y .height;
+  real = y .real;
+  every = λ i h.
+      let l : i < length g = omega (arith, length-map g (at d)) in
+      let r = w i l in
+      ap (dot (y .across)) (map-at (at d) g i 0 origin l ∙ ap (at d) (r .2) ∙ sym (map-at (at d) f (r .0) 0 origin (r .1))) ∙ y .every (r .0) (omega (arith, r .1, length-map f (at d)));
+}
+
+module _ (d : Wire) where
+  pub path-same : {f g : List ℕ} → SameRing f g → ClosedPath d f → ClosedPath d g
+  path-same {f} {g} s c =
+      let t = turned s in
+      let n = same-length s in
+      record {
+        three = let z = c .three in omega arith;
+        twelve = let z = c .twelve in omega arith;
+        inside = λ i h. subst (λ (u : ℕ). u < length (d .vertices)) (sym (t .same i h)) (c .inside (t .to i) (t .low i h));
+        different = different-same (c .different) s;
+        along = λ a b h. c .along a b (goes-from s a b h);
+        plane = plane-from d f g (λ i h. (t .to i, t .low i h, t .same i h)) (c .plane);
+      }
+
+  different-flip : (f : List ℕ) → Different f → Different (flipped f)
+  different-flip f e i j hi hj p = go i j hi hj p
+    where
+      n : length (flipped f) ≡ length f
+      n = flip-length f
+
+      go : (i j : ℕ) → i < length (flipped f) → j < length (flipped f) → getD (flipped f) i 0 ≡ getD (flipped f) j 0 → i ≡ j
+      go zero zero hi hj p = refl
+      go zero (suc j) hi hj p =
+          let q = e 0 (length f - suc j) (omega (arith, n)) (omega (arith, n)) (sym (flip-first f) ∙ p ∙ flip-at f (suc j) (omega arith) (omega (arith, n))) in absurd (omega (arith, n))
+      go (suc i) zero hi hj p =
+          let q = e (length f - suc i) 0 (omega (arith, n)) (omega (arith, n)) (sym (flip-at f (suc i) (omega arith) (omega (arith, n))) ∙ p ∙ flip-first f) in absurd (omega (arith, n))
+      go (suc i) (suc j) hi hj p =
+          let q = e (length f - suc i) (length f - suc j) (omega (arith, n)) (omega (arith, n)) (sym (flip-at f (suc i) (omega arith) (omega (arith, n))) ∙ p ∙ flip-at f (suc j) (omega arith) (omega (arith, n))) in
+          omega (arith, n)
+
+  pub path-flip : (f : List ℕ) → ClosedPath d f → ClosedPath d (flipped f)
+  path-flip f c =
+      let n = flip-length f in
+      record {
+        three = let z = c .three in omega arith;
+        twelve = let z = c .twelve in omega arith;
+        inside = λ i h. let r = flip-place f i h in subst (λ (u : ℕ). u < length (d .vertices)) (sym (r .2)) (c .inside (r .0) (r .1));
+        different = different-flip f (c .different);
+        along = λ a b h. edge-back d b a (c .along b a (goes-back f a b (let z = c .three in omega arith) h));
+        plane = plane-from d f (flipped f) (flip-place f) (c .plane);
+      }
+
+  -- ---- a closed path in normal form is a loop, and a loop is a closed path
+
+  goes-next : (q : Loop) (i : ℕ) → suc i < length q → Goes q (getD q i 0) (getD q (suc i) 0)
+  goes-next q i h = record {
+    at = i;
+    here = omega arith;
+    from = sym (around-at q i ∙ ap (λ (j : ℕ). getD q j 0) (wrap-low (length q) i (omega arith)));
+    to = sym (around-at q (suc i) ∙ ap (λ (j : ℕ). getD q j 0) (wrap-low (length q) (suc i) h));
+  }
+
+  goes-last : (q : Loop) → 0 < length q → Goes q (getD q (length q - 1) 0) (getD q 0 0)
+  goes-last q h = record {
+    at = length q - 1;
+    here = omega arith;
+    from = sym (around-at q (length q - 1) ∙ ap (λ (j : ℕ). getD q j 0) (wrap-low (length q) (length q - 1) (omega arith)));
+    to = sym (around-at q (suc (length q - 1)) ∙ ap (λ (j : ℕ). getD q j 0) (wrap-high (length q) (suc (length q - 1)) (omega arith) ∙ omega arith));
+  }
+
+  module _ (e : samePlace d ≡ none) where
+    path-level : (q : Loop) → ClosedPath d q → (i : ℕ) → 0 < i → i < length q → level d (take i q) (getD q i 0) ≡ true
+    path-level [] c i h l = absurd (let z = c .three in omega arith)
+    path-level (a ∷ []) c i h l = absurd (let z = c .three in omega arith)
+    path-level (a ∷ (b ∷ t)) c zero h l = absurd (omega arith)
+    path-level (a ∷ (b ∷ t)) c (suc zero) h l = first-level d a b
+    path-level (a ∷ (b ∷ t)) c (suc (suc i)) h l =
+        plane-level d a b t
+        (places-differ d e a b (c .inside 0 (omega arith)) (c .inside 1 (omega arith)) (λ z. absurd (omega (arith, c .different 0 1 (omega arith) (omega arith) z))))
+        (c .plane) i (omega arith)
+
+    path-loop : (q : Loop) → ClosedPath d q → LowFirst q → getD q 1 0 < getD q (length q - 1) 0 → IsLoop d q
+    path-loop q c low dir = record {
+      three = c .three;
+      twelve = c .twelve;
+      inside = c .inside;
+      different = c .different;
+      edges = λ i h. edge-joined d (getD q i 0) (getD q (suc i) 0) (c .along (getD q i 0) (getD q (suc i) 0) (goes-next q i h));
+      closed = edge-joined d (getD q (length q - 1) 0) (getD q 0 0) (c .along (getD q (length q - 1) 0) (getD q 0 0) (goes-last q (let z = c .three in omega arith)));
+      lowest = low;
+      direction = dir;
+      plane = path-level q c;
+    }
+
+    -- whatever start and direction a closed path has, its normal form is a loop
+    pub normal-loop : (c : Loop) → ClosedPath d c → IsLoop d (normalForm c)
+    unfolding normalForm onward
+    normal-loop c p = go (ltb (getD (fromLowest c) 1 0) (getD (fromLowest c) (length (fromLowest c) - 1) 0)) refl
+      where
+        pr : ClosedPath d (fromLowest c)
+        pr = path-same (same-low c) p
+
+        low : LowFirst (fromLowest c)
+        low = low-first c (p .different)
+
+        go : (b : Bool) → ltb (getD (fromLowest c) 1 0) (getD (fromLowest c) (length (fromLowest c) - 1) 0) ≡ b → IsLoop d (cond b (fromLowest c) (flipped (fromLowest c)))
+        go true q = path-loop (fromLowest c) pr low (ltb-true (getD (fromLowest c) 1 0) (getD (fromLowest c) (length (fromLowest c) - 1) 0) q)
+        go false q =
+            let n = flip-length (fromLowest c) in
+            let t = pr .three in
+            let z : length (flipped (fromLowest c)) - 1 ≡ length (fromLowest c) - 1 = omega arith in
+            let y : length (fromLowest c) - (length (fromLowest c) - 1) ≡ 1 = omega arith in
+            let a = flip-at (fromLowest c) 1 (omega arith) (omega arith) in
+            let b : getD (flipped (fromLowest c)) (length (flipped (fromLowest c)) - 1) 0 ≡ getD (fromLowest c) 1 0
+            = ap (λ (i : ℕ). getD (flipped (fromLowest c)) i 0) z ∙ flip-at (fromLowest c) (length (fromLowest c) - 1) (omega arith) (omega arith) ∙ ap (λ (i : ℕ). getD (fromLowest c) i 0) y in
+            let f = ltb-false (getD (fromLowest c) 1 0) (getD (fromLowest c) (length (fromLowest c) - 1) 0) q in
+            let ne : getD (fromLowest c) 1 0 ≡ getD (fromLowest c) (length (fromLowest c) - 1) 0 → ⊥ = λ w. absurd (omega (arith, pr .different 1 (length (fromLowest c) - 1) (omega arith) (omega arith) w)) in
+            path-loop (flipped (fromLowest c)) (path-flip (fromLowest c) pr) (flip-low (fromLowest c) low) (omega arith)
+
+    pub loop-path : (q : Loop) → IsLoop d q → ClosedPath d q
+    loop-path q l = record {
+      three = l .three;
+      twelve = l .twelve;
+      inside = l .inside;
+      different = l .different;
+      along = λ a b g. go a b g (wrap-next (length q) (g .at) (g .here));
+      plane = loop-plane d e q l;
+    }
+      where
+        go : (a b : ℕ) (g : Goes q a b) → ((suc (g .at) < length q) × (wrap (length q) (suc (g .at)) ≡ suc (g .at))) ⊎ ((suc (g .at) ≡ length q) × (wrap (length q) (suc (g .at)) ≡ 0)) → EdgeOf d a b
+        go a b g w = joined-edge d a b (by w)
+          where
+            pa : a ≡ getD q (g .at) 0
+            pa = g .from ∙ around-at q (g .at) ∙ ap (λ (i : ℕ). getD q i 0) (wrap-low (length q) (g .at) (g .here))
+
+            pb : b ≡ getD q (wrap (length q) (suc (g .at))) 0
+            pb = g .to ∙ around-at q (suc (g .at))
+
+            by : ((suc (g .at) < length q) × (wrap (length q) (suc (g .at)) ≡ suc (g .at))) ⊎ ((suc (g .at) ≡ length q) × (wrap (length q) (suc (g .at)) ≡ 0)) → joined d a b ≡ true
+            by (inl (u, v)) = ap₂ (joined d) pa (pb ∙ ap (λ (i : ℕ). getD q i 0) v) ∙ l .edges (g .at) u
+            by (inr (u, v)) =
+                let z : g .at ≡ length q - 1 = omega arith in
+                ap₂ (joined d) (pa ∙ ap (λ (i : ℕ). getD q i 0) z) (pb ∙ ap (λ (i : ℕ). getD q i 0) v) ∙ l .closed
+
+    -- every closed path is listed: by one loop, which it is from some start and in some direction
+    pub path-listed : (c : Loop) → ClosedPath d c → (i : ℕ) × (i < length (loops d)) × (SameRing (loopAt (loops d) i) c ⊎ SameRing (flipped (loopAt (loops d) i)) c)
+    path-listed c p = let r = loops-all d (normalForm c) (normal-loop c p) in (r .0, r .1, go (loopAt (loops d) (r .0)) (r .2) (onward c) refl)
+      where
+        go : (q : Loop) → q ≡ normalForm c → (b : Bool) → onward c ≡ b → SameRing q c ⊎ SameRing (flipped q) c
+        go q w true o = inl (subst (λ (l : Loop). SameRing l c) (sym w) (normal-on c o))
+        go q w false o = inr (subst (λ (l : Loop). SameRing (flipped l) c) (sym w) (normal-back c o))
+
+    -- and every listed loop is a closed path
+    pub listed-path : (i : ℕ) → i < length (loops d) → ClosedPath d (loopAt (loops d) i)
+    listed-path i h = loop-path (loopAt (loops d) i) (loops-are d i h)

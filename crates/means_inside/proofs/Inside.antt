@@ -1,0 +1,176 @@
+-- The theorems: where a point lies in a simple polygon, by its triangles; for every ray; from every start; along a segment that touches no side. Assumes nothing.
+use mathlib.Core.Path.{_≡_, refl, sym, _∙_, ap}
+use mathlib.Core.Bool.{Bool, true, false, true≢false}
+use mathlib.Core.Logic.{_⊎_, inl, inr}
+use mathlib.Core.List.{List, [], _∷_, _++_, map}
+use Prim.Native.Nat.{ℕ, _≤_}
+use native.Mathlib.Omega.{arith}
+use lib.ListN.{length}
+use lib.IntN.{ℤ, pos}
+use Rattle.lists.specs.Lists.{sides, anyTrue, oddTrue}
+use Rattle.paper.specs.Polygon.{touches, crosses, placed, whereFlat}
+use Rattle.paper.specs.declared.Flat.{Flat}
+use Rattle.paper.specs.declared.Where.{Where}
+use Rattle.paper.specs.declared.Where.the-variants.{Outside, Border, Inside}
+use Rattle.means_area.specs.Rings.{Of, Link}
+use Rattle.means_area.specs.Flats.{Up, turn, Simple}
+use Rattle.means_area.proofs.Flats.Rings.{link-of, link-back}
+use Rattle.means_inside.specs.Beams.{round, beam, facing, Clear, odd, east}
+use Rattle.means_inside.specs.Regions.{Cut, At, hits}
+use Rattle.means_inside.specs.Touch.{Touch}
+use Rattle.means_inside.specs.Means.{big, Means}
+use Rattle.means_inside.proofs.Parity.{odd-round}
+use Rattle.means_inside.proofs.Triangle.{by-ray, out, left-off}
+use Rattle.means_inside.proofs.Triangles.{hits-are}
+use Rattle.means_inside.proofs.Disjoint.{odd-turned, link-turned}
+use Rattle.means_inside.proofs.One.{cover-at, Whole, whole}
+use Rattle.means_inside.proofs.Scale.{crosses-back, odd-is, any-clear, any-touch, touch-not}
+
+code : Where → ℕ
+code Outside = 0
+code Border = 1
+code Inside = 2
+
+module _ (m d : ℤ) (k : Up d) (g : List Flat) (p : Flat) where
+  abbrev G : List Flat
+  G = map (big d) g
+
+  -- the definition, by the two tests
+  by-tests : (x y : Bool) → anyTrue (sides (touches p d) g) ≡ x → odd p G ≡ y → whereFlat p d g ≡ placed x y
+  unfolding whereFlat
+  by-tests x y e f = λ i. placed (e i) ((odd-is p d k g ∙ f) i)
+
+  -- the three ways
+  pub data Ways : Type 0 where
+    at-border : Touch p G → whereFlat p d g ≡ Border → Ways
+    at-inside : Clear p G → odd p G ≡ true → whereFlat p d g ≡ Inside → Ways
+    at-outside : Clear p G → odd p G ≡ false → whereFlat p d g ≡ Outside → Ways
+
+  pub ways : Ways
+  unfolding placed
+  ways = go (anyTrue (sides (touches p d) g)) (odd p G) refl refl
+    where
+      go : (x y : Bool) → anyTrue (sides (touches p d) g) ≡ x → odd p G ≡ y → Ways
+      go true y e f = at-border (any-touch p d k g e) (by-tests true y e f)
+      go false true e f = at-inside (any-clear p d k g e) f (by-tests false true e f)
+      go false false e f = at-outside (any-clear p d k g e) f (by-tests false false e f)
+
+-- whatever ray is asked, not only the one in the first coordinate's direction
+pub every-ray-says : (d : ℤ) → Up d → (g : List Flat) (p q : Flat) → Up (facing p q q) → (Touch p (map (big d) g) → ⊥)
+    → (round (beam p q) (map (big d) g) ≡ true → whereFlat p d g ≡ Inside) × (round (beam p q) (map (big d) g) ≡ false → whereFlat p d g ≡ Outside)
+every-ray-says d k g p q h n = go (ways (pos 0) d k g p)
+  where
+    go : Ways (pos 0) d k g p → (round (beam p q) (map (big d) g) ≡ true → whereFlat p d g ≡ Inside) × (round (beam p q) (map (big d) g) ≡ false → whereFlat p d g ≡ Outside)
+    go (at-border t e) = absurd (n t)
+    go (at-inside c o e) = ((λ r. e), (λ r. absurd (true≢false (sym o ∙ by-ray p q (map (big d) g) c h ∙ r))))
+    go (at-outside c o e) = ((λ r. absurd (true≢false (sym r ∙ sym (by-ray p q (map (big d) g) c h) ∙ o))), (λ r. e))
+
+-- the number of sides met is odd where the number of triangles with an odd number of sides met is, for every triangulation and every point
+pub any-triangles : (m d : ℤ) → Up d → (g : List Flat) (t : Cut m g) (p : Flat) → oddTrue (sides (crosses p d) g) ≡ hits (crosses p d) t
+any-triangles m d k g t p = odd-round (crosses p d) g ∙ hits-are m (crosses p d) (crosses-back p d k) g t
+
+-- every triangulation covers the inside and the border
+pub any-cover : (m d : ℤ) → Up d → (g : List Flat) (t : Cut m g) (p : Flat) → (whereFlat p d g ≡ Outside → ⊥) → At (big d) t p
+any-cover m d k g t p n = go (ways m d k g p)
+  where
+    go : Ways m d k g p → At (big d) t p
+    go (at-border h e) = cover-at m d k p g t (inr h)
+    go (at-inside c o e) = cover-at m d k p g t (inl o)
+    go (at-outside c o e) = absurd (n e)
+
+-- the meaning
+pub means : (m : ℤ) (g : List Flat) → 3 ≤ length g → Simple m g → Means m g
+unfolding code
+means m g n s = record {
+  cut = r .cut;
+  border = (λ d k p e. border d k p e (ways m d k g p));
+  on-border = (λ d k p t. on-border d k p t (ways m d k g p));
+  inside = (λ d k p e. inside d k p e (ways m d k g p));
+  is-inside = (λ d k p a t. is-inside d k p a t (ways m d k g p));
+  outside = (λ d k p e a. outside d k p e a (ways m d k g p));
+  is-outside = (λ d k p a. is-outside d k p a (ways m d k g p));
+}
+  where
+    r : Whole m g
+    r = whole m g n s
+
+    bo : Border ≡ Outside → ⊥
+    bo e = let z : _≡_ {A = ℕ} 1 0 = ap code e in absurd (omega (arith, z))
+
+    bi : Border ≡ Inside → ⊥
+    bi e = let z : _≡_ {A = ℕ} 1 2 = ap code e in absurd (omega (arith, z))
+
+    io : Inside ≡ Outside → ⊥
+    io e = let z : _≡_ {A = ℕ} 2 0 = ap code e in absurd (omega (arith, z))
+
+    border : (d : ℤ) (k : Up d) (p : Flat) → whereFlat p d g ≡ Border → Ways m d k g p → Touch p (map (big d) g)
+    border d k p e (at-border t f) = t
+    border d k p e (at-inside c o f) = absurd (bi (sym e ∙ f))
+    border d k p e (at-outside c o f) = absurd (bo (sym e ∙ f))
+
+    on-border : (d : ℤ) (k : Up d) (p : Flat) → Touch p (map (big d) g) → Ways m d k g p → whereFlat p d g ≡ Border
+    on-border d k p t (at-border u f) = f
+    on-border d k p t (at-inside c o f) = absurd (touch-not p d k g c t)
+    on-border d k p t (at-outside c o f) = absurd (touch-not p d k g c t)
+
+    inside : (d : ℤ) (k : Up d) (p : Flat) → whereFlat p d g ≡ Inside → Ways m d k g p → At (big d) (r .cut) p × (Touch p (map (big d) g) → ⊥)
+    inside d k p e (at-border t f) = absurd (bi (sym f ∙ e))
+    inside d k p e (at-inside c o f) = (cover-at m d k p g (r .cut) (inl o), touch-not p d k g c)
+    inside d k p e (at-outside c o f) = absurd (io (sym e ∙ f))
+
+    is-inside : (d : ℤ) (k : Up d) (p : Flat) → At (big d) (r .cut) p → (Touch p (map (big d) g) → ⊥) → Ways m d k g p → whereFlat p d g ≡ Inside
+    is-inside d k p a n (at-border t f) = absurd (n t)
+    is-inside d k p a n (at-inside c o f) = f
+    is-inside d k p a n (at-outside c o f) = absurd (true≢false (sym (r .inside d k p c a) ∙ o))
+
+    outside : (d : ℤ) (k : Up d) (p : Flat) → whereFlat p d g ≡ Outside → At (big d) (r .cut) p → Ways m d k g p → ⊥
+    outside d k p e a (at-border t f) = bo (sym f ∙ e)
+    outside d k p e a (at-inside c o f) = io (sym f ∙ e)
+    outside d k p e a (at-outside c o f) = true≢false (sym (r .inside d k p c a) ∙ o)
+
+    is-outside : (d : ℤ) (k : Up d) (p : Flat) → (At (big d) (r .cut) p → ⊥) → Ways m d k g p → whereFlat p d g ≡ Outside
+    is-outside d k p a (at-border t f) = absurd (a (cover-at m d k p g (r .cut) (inr t)))
+    is-outside d k p a (at-inside c o f) = absurd (a (cover-at m d k p g (r .cut) (inl o)))
+    is-outside d k p a (at-outside c o f) = f
+
+-- from every start: of any ring
+pub any-start : (d : ℤ) → Up d → (x : Flat) (l : List Flat) (y : Flat) (r : List Flat) (p : Flat) → whereFlat p d (x ∷ (l ++ y ∷ r)) ≡ whereFlat p d (y ∷ (r ++ x ∷ l))
+any-start d k x l y r p = go (ways (pos 0) d k g p) (ways (pos 0) d k g' p)
+  where
+    g : List Flat
+    g = x ∷ (l ++ y ∷ r)
+
+    g' : List Flat
+    g' = y ∷ (r ++ x ∷ l)
+
+    touch : (a : Flat) (u : List Flat) (b : Flat) (v : List Flat) → Touch p (map (big d) (a ∷ (u ++ b ∷ v))) → Touch p (map (big d) (b ∷ (v ++ a ∷ u)))
+    touch a u b v t = record { a = t .a; b = t .b; side = link-turned (pos 0) (big d) b v a u (t .a) (t .b) (t .side); line = t .line; mid = t .mid }
+
+    odds : odd p (map (big d) (y ∷ (r ++ x ∷ l))) ≡ odd p (map (big d) (x ∷ (l ++ y ∷ r)))
+    odds = odd-turned (pos 0) (big d) p x l y r
+
+    go : Ways (pos 0) d k (x ∷ (l ++ y ∷ r)) p → Ways (pos 0) d k (y ∷ (r ++ x ∷ l)) p → whereFlat p d (x ∷ (l ++ y ∷ r)) ≡ whereFlat p d (y ∷ (r ++ x ∷ l))
+    go (at-border t e) (at-border u f) = e ∙ sym f
+    go (at-border t e) (at-inside c o f) = absurd (touch-not p d k (y ∷ (r ++ x ∷ l)) c (touch x l y r t))
+    go (at-border t e) (at-outside c o f) = absurd (touch-not p d k (y ∷ (r ++ x ∷ l)) c (touch x l y r t))
+    go (at-inside c o e) (at-border u f) = absurd (touch-not p d k (x ∷ (l ++ y ∷ r)) c (touch y r x l u))
+    go (at-outside c o e) (at-border u f) = absurd (touch-not p d k (x ∷ (l ++ y ∷ r)) c (touch y r x l u))
+    go (at-inside c o e) (at-inside c' o' f) = e ∙ sym f
+    go (at-outside c o e) (at-outside c' o' f) = e ∙ sym f
+    go (at-inside c o e) (at-outside c' o' f) = absurd (true≢false (sym o ∙ sym odds ∙ o'))
+    go (at-outside c o e) (at-inside c' o' f) = absurd (true≢false (sym o' ∙ odds ∙ o))
+
+-- a point that has a line to one side of which all corners are is outside
+pub one-sided : (d : ℤ) → Up d → (g : List Flat) (p q : Flat) → ((z : Flat) → Of z (map (big d) g) → Up (turn p q z)) → whereFlat p d g ≡ Outside
+one-sided d k [] p q h = go (ways (pos 0) d k [] p)
+  where
+    go : Ways (pos 0) d k [] p → whereFlat p d [] ≡ Outside
+    go (at-border t e) = absurd (t .side)
+    go (at-inside c o e) = absurd (true≢false (sym o))
+    go (at-outside c o e) = e
+one-sided d k (x ∷ l) p q h = go (ways (pos 0) d k (x ∷ l) p)
+  where
+    go : Ways (pos 0) d k (x ∷ l) p → whereFlat p d (x ∷ l) ≡ Outside
+    go (at-border t e) = absurd (left-off p q (t .a) (t .b) (h (t .a) (link-of (map (big d) (x ∷ l)) (t .a) (t .b) (t .side))) (h (t .b) (link-of (map (big d) (x ∷ l)) (t .b) (t .a) (link-back (map (big d) (x ∷ l)) (t .a) (t .b) (t .side)))) (t .line) (t .mid))
+    go (at-inside c o e) = absurd (true≢false (sym o ∙ out p q (big d x) (map (big d) (x ∷ l)) c (h (big d x) (inl refl)) h))
+    go (at-outside c o e) = e

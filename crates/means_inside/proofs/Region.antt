@@ -1,0 +1,98 @@
+-- The lowest corner u of a ring with an empty triangle: a point of the triangle, or of what is left, is inside. Assumes nothing.
+use mathlib.Core.Path.{_≡_, refl, sym, _∙_, ap, subst}
+use mathlib.Core.Bool.{Bool, true, false, xor}
+use mathlib.Core.Logic.{_⊎_, inl, inr}
+use mathlib.Core.List.{List, [], _∷_}
+use Prim.Native.Nat.{_≤_}
+use native.Mathlib.Omega.{arith}
+use lib.ListN.{length}
+use lib.IntN.{ℤ, pos, negℤ}
+use lib.Signed.{_<ℤ_}
+use Rattle.lists.proofs.Truth.{false-xor}
+use Rattle.paper.specs.declared.Flat.{Flat}
+use Rattle.means_area.specs.Rings.{Of, Pair, Link}
+use Rattle.means_area.specs.Flats.{Nn, turn, height, Simple, Least, lst}
+use Rattle.means_area.proofs.Flats.Net.{Ok}
+use Rattle.means_area.proofs.Flats.Choice.{Hit, ear-ok}
+use Rattle.means_area.proofs.Flats.Rings.{lst-of, Sub, keep, skip, done, sub-of, sub-distinct, narrow}
+use Rattle.means_area.proofs.Flats.First.{first-link, last-link, ends-apart, only-first, not-flat}
+use Rattle.means_inside.specs.Beams.{beam, facing, Off, Clear, odd, east}
+use Rattle.means_inside.specs.Regions.{Within}
+use Rattle.means_inside.proofs.Parity.{round-ear}
+use Rattle.means_inside.proofs.Segment.{beam-back}
+use Rattle.means_inside.proofs.Cap.{ear-in}
+use Rattle.means_inside.proofs.Ears.{off-or, bool, chord-hit, odd-hit}
+use Rattle.means_inside.proofs.Disjoint.{clear-with, rest-link}
+use Rattle.means_inside.proofs.Covers.{within-hit}
+
+module _ (m : ℤ) where
+  abbrev h : Flat → ℤ
+  h = height m
+
+  module _ (u c : Flat) (l : List Flat) (k : 1 ≤ length l) (s : Simple m (u ∷ c ∷ l)) (low : Least m u (c ∷ l)) where
+    abbrev g : List Flat
+    g = u ∷ c ∷ l
+
+    abbrev a : Flat
+    a = lst c l
+
+    pub hc : h u <ℤ h c
+    hc = low c (inl refl)
+
+    pub ha : h u <ℤ h a
+    ha = low a (lst-of c l)
+
+    pub uc : Link g u c
+    uc = first-link m u c l
+
+    pub ua : Link g u a
+    ua = last-link m u c l
+
+    pub apart : h c ≡ h a → ⊥
+    apart = ends-apart m u c l k (s .apart)
+
+    pub crooked : turn u c a ≡ pos 0 → ⊥
+    crooked = not-flat m u c l k s hc ha
+
+    -- ---- the ear
+    module _ (e : (z : Flat) → Of z g → Hit u c a z → ⊥) where
+      ok : Ok m (Link g) (λ r. Of r g) c a
+      ok = ear-ok m (Link g) g (s .net) u c a uc ua hc ha apart (only-first m u c l (s .apart .0)) e
+
+      pub hit : (p : Flat) → Clear p g → Hit u c a p → odd p g ≡ true
+      hit p cl i = ear-in m u c l low p cl s e i
+
+      sub-last : (c : Flat) (l : List Flat) → 1 ≤ length l → Sub (lst c l ∷ []) l
+      sub-last c [] k = absurd (omega (arith, k))
+      sub-last c (x ∷ []) k = keep done
+      sub-last c (x ∷ (y ∷ l)) k = skip (sub-last x (y ∷ l) (omega arith))
+
+      sub3 : Sub (u ∷ c ∷ a ∷ []) g
+      sub3 = keep (keep (sub-last c l k))
+
+      pub three : Simple m (u ∷ c ∷ a ∷ [])
+      three = narrow m g (u ∷ c ∷ a ∷ []) c a s f (λ z o. sub-of z sub3 o) (sub-distinct m sub3 (s .apart)) ok
+        where
+          pair : (x y p q : Flat) → Link g x y → Link g y x → Pair x y p q → Link g p q
+          pair x y p q j j' (inl t) = subst (λ (z : Flat). Link g z q) (sym (t .0)) (subst (λ (z : Flat). Link g x z) (sym (t .1)) j)
+          pair x y p q j j' (inr t) = subst (λ (z : Flat). Link g z q) (sym (t .0)) (subst (λ (z : Flat). Link g y z) (sym (t .1)) j')
+
+          f : (p q : Flat) → Link (u ∷ c ∷ a ∷ []) p q → Link g p q ⊎ Pair c a p q
+          f p q (inl j) = inl (pair u c p q uc (s .net .back uc) j)
+          f p q (inr (inl j)) = inr j
+          f p q (inr (inr j)) = inl (pair a u p q (s .net .back ua) ua j)
+
+      at-rest : (p : Flat) → Clear p g → Off p c a → odd p (c ∷ l) ≡ true → odd p g ≡ true
+      at-rest p cl o r = go (bool (odd p (u ∷ c ∷ a ∷ [])))
+        where
+          go : (odd p (u ∷ c ∷ a ∷ []) ≡ true) ⊎ (odd p (u ∷ c ∷ a ∷ []) ≡ false) → odd p g ≡ true
+          go (inl q) = hit p cl (odd-hit u c a p (cl u c uc) (cl u a ua) crooked o q)
+          go (inr q) = round-ear (beam p (east p)) u c l (beam-back p (east p) a c) ∙ ap (λ (z : Bool). xor z (odd p (c ∷ l))) q ∙ false-xor (odd p (c ∷ l)) ∙ r
+
+      pub ear-inside : (A : Flat → Type 0) → ((p : Flat) → Clear p (c ∷ l) → A p → odd p (c ∷ l) ≡ true) → (p : Flat) → Clear p g → Within u c a p ⊎ A p → odd p g ≡ true
+      ear-inside A f p cl (inl w) = hit p cl (within-hit u c a p crooked (cl u c uc) (cl u a ua) w)
+      ear-inside A f p cl (inr w) = pick (off-or p c a)
+        where
+          pick : Off p c a ⊎ ((turn c a p ≡ pos 0) × Nn (negℤ (facing p c a))) → odd p g ≡ true
+          pick (inr q) = hit p cl (chord-hit u c a p (cl u c uc) (cl u a ua) crooked (q .0) (q .1))
+          pick (inl q) = at-rest p cl q (f p (clear-with p g (c ∷ l) c a cl q (rest-link u c l)) w)

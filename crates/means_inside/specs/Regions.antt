@@ -1,0 +1,35 @@
+-- Polygons cut into triangles. Assumes nothing.
+use mathlib.Core.Bool.{Bool, xor}
+use mathlib.Core.Logic.{_⊎_}
+use mathlib.Core.List.{List, [], _∷_, _++_}
+use lib.IntN.{ℤ, negℤ}
+use Rattle.paper.specs.declared.Flat.{Flat}
+use Rattle.means_area.specs.Flats.{Nn, turn, Simple, lst}
+use Rattle.means_inside.specs.Beams.{round}
+
+-- a simple ring cut into triangles by chords: it is a triangle; a chord from its first corner u to the corner w cuts it in two; its first corner is cut
+-- off by the chord between its neighbours; or it is cut from another start. All parts are simple: no chord crosses a side, or has a corner inside.
+pub data Cut (m : ℤ) : List Flat → Type 0 where
+  one : (a b c : Flat) → Simple m (a ∷ b ∷ c ∷ []) → Cut m (a ∷ b ∷ c ∷ [])
+  chord : (u : Flat) (l : List Flat) (w : Flat) (r : List Flat) → Simple m (u ∷ (l ++ w ∷ r)) → Cut m (u ∷ (l ++ w ∷ [])) → Cut m (u ∷ w ∷ r) → Cut m (u ∷ (l ++ w ∷ r))
+  ear : (u c : Flat) (l : List Flat) → Simple m (u ∷ c ∷ l) → Simple m (u ∷ c ∷ lst c l ∷ []) → Cut m (c ∷ l) → Cut m (u ∷ c ∷ l)
+  start : (x : Flat) (l : List Flat) (y : Flat) (r : List Flat) → Cut m (y ∷ (r ++ x ∷ l)) → Cut m (x ∷ (l ++ y ∷ r))
+
+-- p is in the triangle a b c or on its border: the three turns are of one sign, or 0
+pub data Within (a b c p : Flat) : Type 0 where
+  left : Nn (turn a b p) → Nn (turn b c p) → Nn (turn c a p) → Within a b c p
+  right : Nn (negℤ (turn a b p)) → Nn (negℤ (turn b c p)) → Nn (negℤ (turn c a p)) → Within a b c p
+
+-- a test of the sides, summed up over the triangles
+abbrev pub hits : {m : ℤ} {g : List Flat} → (Flat → Flat → Bool) → Cut m g → Bool
+hits f (one a b c s) = round f (a ∷ b ∷ c ∷ [])
+hits f (chord u l w r s x y) = xor (hits f x) (hits f y)
+hits f (ear u c l s t x) = xor (round f (u ∷ c ∷ lst c l ∷ [])) (hits f x)
+hits f (start x l y r t) = hits f t
+
+-- it is in one of the triangles, each corner a taken as f a: for a point p / d, f a is a, d times as large
+abbrev pub At : {m : ℤ} {g : List Flat} → (Flat → Flat) → Cut m g → Flat → Type 0
+At f (one a b c s) p = Within (f a) (f b) (f c) p
+At f (chord u l w r s x y) p = At f x p ⊎ At f y p
+At f (ear u c l s t x) p = Within (f u) (f c) (f (lst c l)) p ⊎ At f x p
+At f (start x l y r t) p = At f t p

@@ -1,0 +1,45 @@
+-- A list that has every solid once, with its directions and six volumes; and the list that the walk comes to. Assumes nothing.
+use mathlib.Core.Path.{_≡_}
+use mathlib.Core.Bool.{Bool}
+use mathlib.Core.List.{List, [], _∷_, map}
+use Prim.Native.Nat.{ℕ, _<_}
+use lib.ListN.{length, getD, replicate}
+use Rattle.lists.specs.Lists.{filter}
+use Rattle.sets.specs.Word.{word}
+use Rattle.paper.specs.Drawing.{Wire}
+use Rattle.paper.specs.Loops.{Loop}
+use Rattle.paper.specs.Solids.{Tables, tablesOf, judged}
+use Rattle.paper.specs.Walk.{Status, Undecided}
+use Rattle.paper.specs.Conversion.{takens, turnedOf, sixOf, accepted}
+use Rattle.means_walk.specs.Tree.{Tree, leaves}
+use Rattle.means_solid.specs.Solid.{IsSolid}
+use Rattle.means_report.specs.Proper.{Same}
+
+pub record Entry : Type 0 where
+  pub taken : List Bool
+  pub turned : List Bool
+  pub six : ℕ
+
+abbrev pub entryAt : List Entry → ℕ → Entry
+entryAt es i = getD es i (record { taken = []; turned = []; six = 0 })
+
+-- "every solid once": each entry is a solid, each solid is an entry, and no two entries are the same set of faces
+pub record Listed (d : Wire) (cs : List Loop) (es : List Entry) : Type 0 where
+  pub each : (i : ℕ) → i < length es → IsSolid d cs (entryAt es i .taken) (entryAt es i .turned) (entryAt es i .six)
+  pub there : {taken turned : List Bool} {six : ℕ} → IsSolid d cs taken turned six
+      → (i : ℕ) × (i < length es) × (entryAt es i .taken ≡ taken) × Same (entryAt es i .turned) turned × (entryAt es i .six ≡ six)
+  pub once : (i j : ℕ) → i < length es → j < length es → entryAt es i .taken ≡ entryAt es j .taken → i ≡ j
+
+-- three words for a solid
+abbrev pub wordsOf : Entry → List ℕ
+wordsOf e = word (e .taken) ∷ word (e .turned) ∷ e .six ∷ []
+
+-- "in walk order": the leaves of the walk's tree that pass, with their directions and volumes
+abbrev pub entry : Tables → List Status → Entry
+entry t st = record { taken = takens st; turned = turnedOf (judged t (takens st)); six = sixOf (judged t (takens st)) }
+
+abbrev pub WalkTree : Wire → List Loop → Type 0
+WalkTree d cs = Tree (tablesOf d cs .rows) (replicate (length cs) Undecided)
+
+unfoldable pub walked : (d : Wire) (cs : List Loop) → WalkTree d cs → List Entry
+walked d cs t = map (entry (tablesOf d cs)) (filter (accepted (tablesOf d cs)) (leaves t))

@@ -1,0 +1,26 @@
+-- A closed path of at least three corners, all different; candidates as the rules leave them. Assumes nothing.
+use mathlib.Core.List.{List}
+use mathlib.Core.Bool.{Bool}
+use mathlib.Core.Path.{_≡_}
+use Prim.Native.Nat.{ℕ, _≤_, _<_}
+use lib.ListN.{length, getD}
+use Rattle.sets.specs.Word.{dig}
+use Rattle.paper.specs.Drawing.{Wire}
+use Rattle.paper.specs.Loops.{Loop, loopAt, polygon}
+use Rattle.means_clash.specs.Flat.{Flat}
+
+pub record Proper (l : Loop) : Type 0 where
+  pub three : 3 ≤ length l
+  pub different : (i j : ℕ) → i < length l → j < length l → getD l i 0 ≡ getD l j 0 → i ≡ j
+
+abbrev pub AllProper : List Loop → Type 0
+AllProper cs = (k : ℕ) → k < length cs → Proper (loopAt cs k)
+
+-- what holds of the candidates of every drawing that passes rule 11: they are proper, and each lies in its plane
+pub record Fair (d : Wire) (cs : List Loop) : Type 0 where
+  pub proper : AllProper cs
+  pub flat : (k : ℕ) → k < length cs → Flat (polygon d (loopAt cs k))
+
+-- the same digits, past the end of the shorter list too
+abbrev pub Same : List Bool → List Bool → Type 0
+Same a b = (k : ℕ) → dig a k ≡ dig b k

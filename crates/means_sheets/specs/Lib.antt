@@ -1,0 +1,3 @@
+-- The words of the theorems on sheets and face lists. Assumes nothing.
+pub mod Sound
+pub mod FaceLists

@@ -1,0 +1,30 @@
+-- "find the lowest edge with an undecided candidate and, on it, the lowest such candidate". Assumes nothing.
+use mathlib.Core.Bool.{Bool, true}
+use mathlib.Core.List.{List, [], map}
+use mathlib.Core.Path.{_≡_}
+use Prim.Native.Nat.{ℕ, _<_}
+use lib.ListN.{length, getD}
+use Rattle.sets.specs.Word.{dig}
+use Rattle.paper.specs.Walk.{Status, isOpen, choose}
+use Rattle.means_walk.specs.Tree.{Tree, broken, leaf, branch}
+
+-- candidate k is undecided, and it is on edge e
+abbrev pub Undecided : List Status → ℕ → Type 0
+Undecided st k = dig (map isOpen st) k ≡ true
+
+abbrev pub On : List (List Bool) → ℕ → ℕ → Type 0
+On rows e k = dig (getD rows e []) k ≡ true
+
+pub record Lowest (rows : List (List Bool)) (st : List Status) (k : ℕ) : Type 0 where
+  pub edge : ℕ
+  pub here : edge < length rows
+  pub on : On rows edge k
+  pub undecided : Undecided st k
+  pub lower-edge : (e j : ℕ) → e < edge → On rows e j → Undecided st j → ⊥
+  pub lower : (j : ℕ) → j < k → On rows edge j → Undecided st j → ⊥
+
+-- so at each branch of a tree
+unfoldable pub Chooses : {rows : List (List Bool)} {st : List Status} → Tree rows st → Type 0
+Chooses (broken s) = Unit {0}
+Chooses (leaf st s z) = Unit {0}
+Chooses {rows} (branch st s n a b) = Lowest rows st (choose rows st) × Chooses a × Chooses b

@@ -1,0 +1,96 @@
+-- Points: the tests for zero and (0,0,0), equations that follow from others, and squares. Assumes nothing.
+use mathlib.Core.Path.{_≡_, refl, sym, _∙_, ap}
+use mathlib.Core.Bool.{true, false, _&&_, true≢false}
+use mathlib.Core.List.{[], _∷_}
+use Prim.Native.Nat.{zero, suc}
+use lib.IntN.{ℤ, pos, negsuc, _-ℤ_, _*ℤ_}
+use lib.Signed.{_≤ℤ_, _<ℤ_}
+use Rattle.lists.proofs.Truth.{and-left, and-right}
+use Rattle.exact.proofs.Laws.{eq-of-sub}
+use Rattle.exact.proofs.Signs.{mul-zero, square-zero, lt-of-le-ne}
+use Rattle.exact.proofs.Order.{add-nonneg, sum-zero, square-nonneg}
+use Rattle.paper.specs.Points.{pt, origin, isZero, isOrigin, plus, minus, times, dot, cross}
+use Rattle.paper.specs.declared.Point.{Point}
+use Rattle.paper_laws.proofs.Vectors.{num, vec, k, x, _·_, o, v, _+v_, _-v_, _*v_, _×v_, vring}
+
+-- ---- zero, and the point (0,0,0)
+
+pub zero-yes : (z : ℤ) → isZero z ≡ true → z ≡ pos 0
+unfolding isZero
+zero-yes (pos zero) e = refl
+zero-yes (pos (suc n)) e = absurd (true≢false (sym e))
+zero-yes (negsuc n) e = absurd (true≢false (sym e))
+
+pub zero-is : {z : ℤ} → z ≡ pos 0 → isZero z ≡ true
+unfolding isZero
+zero-is e = ap isZero e
+
+pub origin-yes : (p : Point) → isOrigin p ≡ true → p ≡ origin
+unfolding isOrigin
+origin-yes p e =
+    let h = and-left (isZero (p .x) && isZero (p .y)) (isZero (p .z)) e in
+    λ i.
+    record {
+      x = zero-yes (p .x) (and-left (isZero (p .x)) (isZero (p .y)) h) i;
+      y = zero-yes (p .y) (and-right (isZero (p .x)) (isZero (p .y)) h) i;
+      z = zero-yes (p .z) (and-right (isZero (p .x) && isZero (p .y)) (isZero (p .z)) e) i;
+    }
+
+pub origin-is : {p : Point} → p ≡ origin → isOrigin p ≡ true
+unfolding isOrigin isZero
+origin-is e = ap isOrigin e
+
+pub origin-no : {p : Point} → isOrigin p ≡ false → p ≡ origin → ⊥
+origin-no {p} e q = true≢false (sym (origin-is q) ∙ e)
+
+-- ---- equations
+
+pub point-eq : (p q : Point) → minus p q ≡ origin → p ≡ q
+point-eq p q e = vring (vec p ∷ vec q ∷ []) (v 0) (v 1 +v (v 0 -v v 1)) tt ∙ ap (plus q) e ∙ vring (vec q ∷ []) (v 0 +v o) (v 0) tt
+
+pub point-diff : {p q : Point} → p ≡ q → minus p q ≡ origin
+point-diff {p} {q} e = ap (λ (y : Point). minus y q) e ∙ vring (vec q ∷ []) (v 0 -v v 0) o tt
+
+pub differ : {a b : Point} → (a ≡ b → ⊥) → minus b a ≡ origin → ⊥
+differ {a} {b} n e = n (sym (point-eq b a e))
+
+-- what follows from an equation whose difference it has, times a factor
+pub from-eq : (m : ℤ) {a b c d : Point} → minus c d ≡ times m (minus a b) → a ≡ b → c ≡ d
+from-eq m {a} {b} {c} {d} e h = point-eq c d (e ∙ ap (times m) (point-diff h) ∙ vring (num m ∷ []) (x 0 *v o) o tt)
+
+-- the same of numbers, from an equation of points
+pub from-dot : (m : Point) {a b : Point} {c d : ℤ} → c -ℤ d ≡ dot m (minus a b) → a ≡ b → c ≡ d
+from-dot m {a} {b} {c} {d} e h = eq-of-sub c d (e ∙ ap (dot m) (point-diff h) ∙ vring (vec m ∷ []) (v 0 · o) (k (pos 0)) tt)
+
+-- a factor that is not 0 goes out
+pub scale-zero : (m : ℤ) (p : Point) → (m ≡ pos 0 → ⊥) → times m p ≡ origin → p ≡ origin
+unfolding times
+scale-zero m p n e =
+    let first = mul-zero m (p .x) n (ap (λ (q : Point). q .x) e) in
+    let second = mul-zero m (p .y) n (ap (λ (q : Point). q .y) e) in
+    let third = mul-zero m (p .z) n (ap (λ (q : Point). q .z) e) in
+    λ i. pt (first i) (second i) (third i)
+
+pub cancel : (m : ℤ) (p q : Point) → (m ≡ pos 0 → ⊥) → times m p ≡ times m q → p ≡ q
+cancel m p q n e = point-eq p q (scale-zero m (minus p q) n (vring (num m ∷ vec p ∷ vec q ∷ []) (x 0 *v (v 1 -v v 2)) ((x 0 *v v 1) -v (x 0 *v v 2)) tt ∙ point-diff e))
+
+-- directions in one line
+pub in-line : (d w : Point) → cross d w ≡ origin → times (dot d d) w ≡ times (dot d w) d
+in-line d w e =
+    point-eq (times (dot d d) w) (times (dot d w) d)
+    (vring (vec d ∷ vec w ∷ []) ((v 0 · v 0) *v v 1 -v (v 0 · v 1) *v v 0) ((v 0 ×v v 1) ×v v 0) tt ∙ ap (λ (y : Point). cross y d) e ∙ vring (vec d ∷ []) (o ×v v 0) o tt)
+
+-- ---- squares
+
+pub self-nonneg : (p : Point) → pos 0 ≤ℤ dot p p
+unfolding dot
+self-nonneg p = add-nonneg (add-nonneg (square-nonneg (p .x)) (square-nonneg (p .y))) (square-nonneg (p .z))
+
+self-zero : (p : Point) → dot p p ≡ pos 0 → p ≡ origin
+unfolding dot
+self-zero p e =
+    let h = sum-zero (p .x *ℤ p .x) (p .y *ℤ p .y) (p .z *ℤ p .z) (square-nonneg (p .x)) (square-nonneg (p .y)) (square-nonneg (p .z)) e in
+    λ i. pt (square-zero (p .x) (h .0) i) (square-zero (p .y) (h .1) i) (square-zero (p .z) (h .2) i)
+
+pub self-pos : (p : Point) → (p ≡ origin → ⊥) → pos 0 <ℤ dot p p
+self-pos p n = lt-of-le-ne (self-nonneg p) (λ e. n (self-zero p (sym e)))

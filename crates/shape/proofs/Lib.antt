@@ -1,3 +1,0 @@
--- The laws that this crate's proofs and its callers share. Assumes nothing.
-pub mod Sizes
-pub mod Shaped

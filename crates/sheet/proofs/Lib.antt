@@ -1,4 +1,0 @@
--- The laws that this crate's proofs and its callers share. Assumes nothing.
-pub mod Drawn
-pub mod Accepted
-pub mod Range

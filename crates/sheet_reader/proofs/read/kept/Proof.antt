@@ -1,0 +1,66 @@
+-- `sheet_reader::read::kept` meets its contract. Assumes nothing.
+use mathlib.Core.Path.{_∙_, sym, ap}
+use lib.Seq.{length-take-le}
+use Rattle.sheet_reader.specs.Kept.{keptFor, keptOf}
+use Rattle.paper.specs.declared.Answer.{Answer}
+use Rattle.paper.specs.declared.Drawing.{Drawing}
+use Rattle.paper.specs.declared.Answer.the-variants as Answer
+use native.Mathlib.Omega.{arith}
+use borrow.Author.Needs.{needs}
+use Rattle.sheet_reader.proofs.read.kept.Statement.{statement}
+use Rattle.sheet_reader.proofs.read.kept.Tie as tie
+
+mul-m : tie.Need-mul-m
+mul-m c = search needs
+
+mul-n : tie.Need-mul-n
+mul-n c = search needs
+
+array-share-prefix-xyz : tie.Need-array-share-prefix-xyz
+array-share-prefix-xyz c = search needs
+
+slice-aggregate-content : tie.Need-slice-aggregate-content
+slice-aggregate-content c = sym (length-take-le _ _ (omega arith))
+
+array-share-prefix-ends : tie.Need-array-share-prefix-ends
+array-share-prefix-ends c = search needs
+
+slice-aggregate-content-2 : tie.Need-slice-aggregate-content-2
+slice-aggregate-content-2 c = sym (length-take-le _ _ (omega arith))
+
+content-requires : tie.Need-content-requires
+content-requires c κs = search needs
+
+enum-known-r : tie.Need-enum-known-r
+enum-known-r c = search needs
+
+no-drawing-requires : tie.Need-no-drawing-requires
+no-drawing-requires c κs = search needs
+
+enum-told : tie.Need-enum-told
+enum-told c = search needs
+
+returns : tie.Need-returns
+unfolding keptOf
+returns c = ap (λ (d : Drawing). record { answer = Answer.Refused ((c .before .before .r .given) .0 .0); drawing = d }) (c .no-drawing .ensures) ∙ ap (λ (a : Answer). keptFor a (c .before .before .before .before .before .before .before .args .v) (c .before .before .before .before .before .before .before .args .e) (c .before .before .before .before .before .before .before .args .t3) (c .before .before .before .before .before .before .before .args .t4)) (sym ((c .before .before .r .given) .1) ∙ (c .before .before .before .before .content .ensures))
+
+returns-2 : tie.Need-returns-2
+unfolding keptOf
+returns-2 c = ap (λ (a : Answer). keptFor a (c .before .before .before .before .before .args .v) (c .before .before .before .before .before .args .e) (c .before .before .before .before .before .args .t3) (c .before .before .before .before .before .args .t4)) (sym ((c .enum-told .given) .1) ∙ (c .before .before .content .ensures))
+
+pub kept-spec : {M : Type 1} → statement M
+kept-spec =
+    tie.close
+    (tie.spec
+    mul-m
+    mul-n
+    array-share-prefix-xyz
+    slice-aggregate-content
+    array-share-prefix-ends
+    slice-aggregate-content-2
+    content-requires
+    enum-known-r
+    no-drawing-requires
+    enum-told
+    returns
+    returns-2)

@@ -1,0 +1,20 @@
+-- `sheet_reader::read_sheet` meets its contract. Assumes nothing.
+use mathlib.Core.Path.{_∙_, ap}
+use Rattle.paper.specs.Sheet.{sheetOf}
+use Rattle.paper.specs.declared.Format.{Format}
+use Rattle.sheet_shape.proofs.Sizes.{one-small}
+use borrow.Author.Needs.{needs}
+use Rattle.sheet_reader.proofs.read_sheet.Statement.{statement}
+use Rattle.sheet_reader.proofs.read_sheet.Tie as tie
+
+edition-one-requires : tie.Need-edition-one-requires
+edition-one-requires c κs = search needs
+
+read-requires : tie.Need-read-requires
+read-requires c κs = rw (c .edition-one .ensures) one-small
+
+returns : tie.Need-returns
+returns c = (c .read .ensures) ∙ ap (λ (f : Format). sheetOf f (c .before .before .before .args .sheet .now)) (c .before .edition-one .ensures)
+
+pub read-sheet-spec : {M : Type 1} → statement M
+read-sheet-spec = tie.close (tie.spec edition-one-requires read-requires returns)

@@ -1,0 +1,44 @@
+-- What the code that reads a drawing off a sheet that passes 3 to 7 needs to know. Assumes nothing.
+use mathlib.Core.Path.{_≡_, sym, _∙_, ap, ap₂}
+use mathlib.Core.List.{List}
+use Prim.Native.Nat.{ℕ, _≤_, _+_, _*_, _/_}
+use native.Mathlib.Nat.{mul-assoc, mul-left-comm}
+use native.Mathlib.Omega.{arith}
+use lib.ListN.{length}
+use Rattle.sheet_laws.proofs.Shaped.{shaped}
+use Rattle.paper.specs.Refusals.{firstOf}
+use Rattle.paper.specs.Format.{total, bytesFor, verticesIn, edgesIn}
+use Rattle.paper.specs.Sheet.{shapeChecks}
+use Rattle.paper.specs.declared.Format.{Format}
+use Rattle.paper.specs.declared.Answer.the-variants.{Fine}
+use Rattle.sheet_shape.specs.Narrow.{Small}
+use Rattle.sheet_shape.proofs.Sizes.{numbers-small}
+
+-- of its own v and e
+pub record Bounds (f : Format) (s : List ℕ) (v e : ℕ) : Type 0 where
+  pub v-most : v ≤ 32
+  pub e-most : e ≤ 64
+  pub long : 3 ≤ length s
+  pub fits : total f v e ≤ length s * 8
+  pub few : 2 * f .nw * e ≤ 2048
+  pub twice : f .nw * (2 * e) ≡ 2 * f .nw * e
+
+pub bounds : (f : Format) (s : List ℕ) {v e : ℕ} → Small f → Fine ≡ firstOf (shapeChecks f s) → v ≡ verticesIn f s → e ≡ edgesIn f s → Bounds f s v e
+bounds f s {v} {e} g o hv he =
+    let h = shaped f s o in
+    let k = h .counts-are in
+    let t : total f (verticesIn f s) (edgesIn f s) ≡ total f v e = ap₂ (λ (x y : ℕ). total f x y) (sym hv) (sym he) in
+    let a : v ≤ 32 = omega (arith, k .v-most, g .v-held) in
+    let b : e ≤ 64 = omega (arith, k .e-most, g .e-held) in
+    let d : length s ≡ bytesFor (total f v e) = h .close-is .sized ∙ ap bytesFor t in
+    record {
+      v-most = a;
+      e-most = b;
+      long = h .open-is .long;
+      fits = rw d (up (total f v e));
+      few = numbers-small f (g .narrow) v e (omega arith) (omega arith);
+      twice = mul-left-comm (f .nw) 2 e ∙ sym (mul-assoc 2 (f .nw) e);
+    }
+  where
+    up : (n : ℕ) → n ≤ (n + 7) / 8 * 8
+    up n = omega arith

@@ -1,0 +1,17 @@
+-- How large the numbers of a narrow layout get. Assumes nothing.
+use Prim.Native.Nat.{ℕ, _≤_, _*_}
+use native.Mathlib.Nat.{mul-le-mul, le-trans}
+use native.Mathlib.Omega.{arith}
+use Rattle.paper.specs.Format.{one, total}
+use Rattle.paper.specs.declared.Format.{Format}
+use Rattle.sheet_shape.specs.Narrow.{Narrow, Small}
+
+pub one-small : Small one
+one-small = record { narrow = omega arith; v-held = omega arith; e-held = omega arith }
+
+module _ (f : Format) (g : Narrow f) (v e : ℕ) (hv : v ≤ 64) (he : e ≤ 128) where
+  pub numbers-small : 2 * f .nw * e ≤ 2048
+  numbers-small = le-trans (mul-le-mul {n₁ = 2 * f .nw} {m₁ = e} {n₂ = 16} {m₂ = 128} (omega (arith, g .nw-most)) he) (omega arith)
+
+  pub total-small : total f v e ≤ 4200
+  total-small = omega (arith, numbers-small, g)

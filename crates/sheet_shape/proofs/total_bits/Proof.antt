@@ -1,0 +1,43 @@
+-- `sheet_shape::total_bits` meets its contract. Assumes nothing.
+use Rattle.sheet_shape.proofs.Sizes.{numbers-small}
+use native.Mathlib.Omega.{arith}
+use borrow.Author.Needs.{needs}
+use Rattle.sheet_shape.proofs.total_bits.Statement.{statement}
+use Rattle.sheet_shape.proofs.total_bits.Tie as tie
+
+add-result : tie.Need-add-result
+add-result c = search needs
+
+add-result-2 : tie.Need-add-result-2
+add-result-2 c = search needs
+
+mul-result : tie.Need-mul-result
+mul-result c = search needs
+
+add-result-3 : tie.Need-add-result-3
+add-result-3 c = search needs
+
+mul-result-2 : tie.Need-mul-result-2
+mul-result-2 c = search needs
+
+mul-result-3 : tie.Need-mul-result-3
+mul-result-3 c = omega (arith, numbers-small (c .before .before .before .args .f) ((c .before .before .before .pre .0)) (c .before .before .before .args .v) (c .before .before .before .args .e) ((c .before .before .before .pre .1)) ((c .before .before .before .pre .2)))
+
+add-result-4 : tie.Need-add-result-4
+add-result-4 c = omega (arith, (c .before .before .before .pre .0), numbers-small (c .before .before .before .args .f) ((c .before .before .before .pre .0)) (c .before .before .before .args .v) (c .before .before .before .args .e) ((c .before .before .before .pre .1)) ((c .before .before .before .pre .2)))
+
+returns : tie.Need-returns
+returns c = search needs
+
+pub total-bits-spec : {M : Type 1} → statement M
+total-bits-spec =
+    tie.close
+    (tie.spec
+    add-result
+    add-result-2
+    mul-result
+    add-result-3
+    mul-result-2
+    mul-result-3
+    add-result-4
+    returns)
