@@ -7,7 +7,7 @@ ghost use Rattle.paper.specs.Numbers.{farthest};
 ghost use Rattle.paper.specs.Points.{plus, times, isZero};
 ghost use Rattle.paper.specs.Polygon.{lies, exactly, isInside};
 ghost use Rattle.paper.specs.Clash.{opposite, pierced, pierces, enters, clash};
-ghost use Rattle.polygon.specs.Sizes.{Small, mostSide};
+ghost use Rattle.polygon.specs.Sizes.{PointWithin, mostPlaneSide};
 ghost use Rattle.polygon.specs.Rings.{ring, Row, Face};
 use clash_fold::folds;
 use inside::lies_inside;
@@ -15,7 +15,7 @@ use paper::Point;
 use polygon::points::is_zero;
 use polygon::rings::corner;
 use polygon::rings::count;
-use polygon::rings::side;
+use polygon::rings::plane_side;
 
 fn opposite(a: i64, b: i64) -> bool
     ensures { λ r. ⌜ r ≡ opposite a b ⌝ }
@@ -24,14 +24,14 @@ fn opposite(a: i64, b: i64) -> bool
 }
 
 fn size(z: i64) -> i64
-    requires { ⌜ Within mostSide z ⌝ }
+    requires { ⌜ Within mostPlaneSide z ⌝ }
     ensures { λ r. ⌜ r ≡ pos (natAbs z) ⌝ }
 {
     if z < 0 { -z } else { z }
 }
 
 fn mix(s: i64, p: Point, t: i64, q: Point) -> Point
-    requires { ⌜ Within mostSide s × Small farthest p × Within mostSide t × Small farthest q ⌝ }
+    requires { ⌜ Within mostPlaneSide s × PointWithin farthest p × Within mostPlaneSide t × PointWithin farthest q ⌝ }
     ensures { λ r. ⌜ r ≡ plus (times s p) (times t q) ⌝ }
 {
     Point {
@@ -52,7 +52,7 @@ fn pierced(
     a: i64,
     b: i64,
 ) -> bool
-    requires { ⌜ Face (now xyz) (now table) g m × Small farthest p × Small farthest q × Within mostSide a × Within mostSide b ⌝ }
+    requires { ⌜ Face (now xyz) (now table) g m × PointWithin farthest p × PointWithin farthest q × Within mostPlaneSide a × Within mostPlaneSide b ⌝ }
     ensures { λ w. ⌜ w ≡ pierced (ring (now (xyz .entry)) (now (table .entry)) g) p q a b ⌝ }
 {
     if !opposite(a, b) {
@@ -65,7 +65,7 @@ fn pierced(
 
 // B: the point p, which is at s from the plane of row g, is strictly inside.
 fn dips(xyz: &[i64], table: &[u8], g: usize, m: Point, p: Point, s: i64) -> bool
-    requires { ⌜ Face (now xyz) (now table) g m × Small farthest p ⌝ }
+    requires { ⌜ Face (now xyz) (now table) g m × PointWithin farthest p ⌝ }
     ensures { λ w. ⌜ w ≡ (isZero s && isInside (lies (exactly p) (ring (now (xyz .entry)) (now (table .entry)) g))) ⌝ }
 {
     if is_zero(s) {
@@ -83,11 +83,11 @@ pub fn strikes(xyz: &[i64], table: &[u8], f: usize, g: usize, m: Point) -> bool
     let n = count(table, f);
     let o = corner(xyz, table, g, 0);
     let mut a = corner(xyz, table, f, 0);
-    let mut s = side(m, o, a);
+    let mut s = plane_side(m, o, a);
     let mut j = 0;
     while j < n {
         let b = corner(xyz, table, f, j + 1);
-        let t = side(m, o, b);
+        let t = plane_side(m, o, b);
         if pierced(xyz, table, g, m, a, b, s, t) {
             return true;
         }

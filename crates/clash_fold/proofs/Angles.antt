@@ -10,14 +10,14 @@ use Rattle.lists.proofs.Search.{Left, anyTrue-search}
 use Rattle.lists.proofs.Sides.{sides-length, sides-around, side-hit, side-miss, side-end}
 use Rattle.paper.specs.Points.{origin, samePoint}
 use Rattle.paper.specs.Polygon.{Polygon}
-use Rattle.paper.specs.Clash.{to, within, inAngle, turnsAt}
+use Rattle.paper.specs.Clash.{to, angleHolds, inAngle, turnsAt}
 use Rattle.paper.specs.declared.Point.{Point}
 use Rattle.polygon.specs.Rings.{cornerOf}
 
-pub within-is : (s l r : Bool) → (s && l) && r || not s && (l || r) ≡ within s l r
-unfolding within
-within-is true l r = or-false (l && r)
-within-is false l r = refl
+pub angle-is : (s l r : Bool) → (s && l) && r || not s && (l || r) ≡ angleHolds s l r
+unfolding angleHolds
+angle-is true l r = or-false (l && r)
+angle-is false l r = refl
 
 -- corner k + 1 of g is at u, and w points inside its angle
 abbrev pub turnsHere : Point → Point → Point → Polygon → ℕ → Bool

@@ -5,8 +5,8 @@ ghost use mathlib.Core.Bool.{_&&_};
 ghost use Rattle.lists.specs.Lists.{any};
 ghost use Rattle.paper.specs.Numbers.{farthest};
 ghost use Rattle.paper.specs.Points.{samePoint};
-ghost use Rattle.paper.specs.Clash.{within, inAngle, pointsIn, isCorner, bends, folds};
-ghost use Rattle.polygon.specs.Sizes.{Small, mostStep, mostNormal};
+ghost use Rattle.paper.specs.Clash.{angleHolds, inAngle, pointsIn, isCorner, bends, folds};
+ghost use Rattle.polygon.specs.Sizes.{PointWithin, mostStep, mostNormal};
 ghost use Rattle.polygon.specs.Rings.{ring, Row, Face};
 use paper::Point;
 use polygon::points::det;
@@ -16,24 +16,24 @@ use polygon::rings::corner;
 use polygon::rings::count;
 use polygon::rings::in_plane;
 
-fn within(convex: bool, l: bool, r: bool) -> bool
-    ensures { λ w. ⌜ w ≡ within convex l r ⌝ }
+fn angle_holds(convex: bool, l: bool, r: bool) -> bool
+    ensures { λ w. ⌜ w ≡ angleHolds convex l r ⌝ }
 {
     convex & l & r | !convex & (l | r)
 }
 
 // At the corner p between a and b of a polygon with normal m: w points strictly inside the angle.
 fn in_angle(m: Point, a: Point, p: Point, b: Point, w: Point) -> bool
-    requires { ⌜ Small mostNormal m × Small farthest a × Small farthest p × Small farthest b × Small mostStep w ⌝ }
+    requires { ⌜ PointWithin mostNormal m × PointWithin farthest a × PointWithin farthest p × PointWithin farthest b × PointWithin mostStep w ⌝ }
     ensures { λ r. ⌜ r ≡ inAngle m a p b w ⌝ }
 {
     let x = minus(b, p);
     let y = minus(a, p);
-    within(0 < det(m, x, y), 0 < det(m, x, w), 0 < det(m, w, y))
+    angle_holds(0 < det(m, x, y), 0 < det(m, x, w), 0 < det(m, w, y))
 }
 
 fn turns_at(m: Point, u: Point, w: Point, a: Point, p: Point, b: Point) -> bool
-    requires { ⌜ Small mostNormal m × Small farthest u × Small mostStep w × Small farthest a × Small farthest p × Small farthest b ⌝ }
+    requires { ⌜ PointWithin mostNormal m × PointWithin farthest u × PointWithin mostStep w × PointWithin farthest a × PointWithin farthest p × PointWithin farthest b ⌝ }
     ensures { λ r. ⌜ r ≡ (samePoint p u && inAngle m a p b w) ⌝ }
 {
     if same_point(p, u) {
@@ -45,7 +45,7 @@ fn turns_at(m: Point, u: Point, w: Point, a: Point, p: Point, b: Point) -> bool
 
 // From u to v is strictly inside the angle at u of row r, whose normal is m.
 fn points_in(xyz: &[i64], table: &[u8], r: usize, m: Point, u: Point, v: Point) -> bool
-    requires { ⌜ Face (now xyz) (now table) r m × Small farthest u × Small farthest v ⌝ }
+    requires { ⌜ Face (now xyz) (now table) r m × PointWithin farthest u × PointWithin farthest v ⌝ }
     ensures { λ w. ⌜ w ≡ pointsIn (ring (now (xyz .entry)) (now (table .entry)) r) u v ⌝ }
 {
     let n = count(table, r);
@@ -66,7 +66,7 @@ fn points_in(xyz: &[i64], table: &[u8], r: usize, m: Point, u: Point, v: Point) 
 }
 
 fn is_corner(xyz: &[i64], table: &[u8], r: usize, p: Point) -> bool
-    requires { ⌜ Row (now xyz) (now table) r × Small farthest p ⌝ }
+    requires { ⌜ Row (now xyz) (now table) r × PointWithin farthest p ⌝ }
     ensures { λ w. ⌜ w ≡ isCorner (ring (now (xyz .entry)) (now (table .entry)) r) p ⌝ }
 {
     let n = count(table, r);
@@ -91,7 +91,7 @@ fn bends(
     u: Point,
     v: Point,
 ) -> bool
-    requires { ⌜ Face (now xyz) (now table) f mf × Face (now xyz) (now table) g mg × Small farthest u × Small farthest v ⌝ }
+    requires { ⌜ Face (now xyz) (now table) f mf × Face (now xyz) (now table) g mg × PointWithin farthest u × PointWithin farthest v ⌝ }
     ensures { λ w. ⌜ w ≡ bends (ring (now (xyz .entry)) (now (table .entry)) f) (ring (now (xyz .entry)) (now (table .entry)) g) u v ⌝ }
 {
     if !is_corner(xyz, table, g, v) {
@@ -108,7 +108,7 @@ fn bends(
 
 // A corner u of row f is one of row g, and another of both is seen from it inside both angles.
 fn folds_at(xyz: &[i64], table: &[u8], f: usize, mf: Point, g: usize, mg: Point, u: Point) -> bool
-    requires { ⌜ Face (now xyz) (now table) f mf × Face (now xyz) (now table) g mg × Small farthest u ⌝ }
+    requires { ⌜ Face (now xyz) (now table) f mf × Face (now xyz) (now table) g mg × PointWithin farthest u ⌝ }
     ensures { λ w. ⌜ w ≡ (isCorner (ring (now (xyz .entry)) (now (table .entry)) g) u && any (bends (ring (now (xyz .entry)) (now (table .entry)) f) (ring (now (xyz .entry)) (now (table .entry)) g) u) (ring (now (xyz .entry)) (now (table .entry)) f)) ⌝ }
 {
     if !is_corner(xyz, table, g, u) {

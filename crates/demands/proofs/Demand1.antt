@@ -11,14 +11,14 @@ use lib.Ieee.{Float}
 use lib.ListN.{length, getD, take, length-map}
 use Rattle.lists.specs.Lists.{any, all, upto, member}
 use Rattle.sets.specs.Word.{count, both}
-use Rattle.paper.specs.Format.{one, leastVertices, leastEdges, outside, low, total, bytesFor, fillAfter, verticesIn, edgesIn, coordinatesIn, endsIn}
+use Rattle.paper.specs.Format.{editionOne, leastVertices, leastEdges, outside, total, bytesFor, fillAfter, verticesIn, edgesIn, coordinatesIn, endsIn}
 use Rattle.paper.specs.Numbers.{mostSolids}
 use Rattle.pack.specs.Bits.{fieldAt}
 use Rattle.paper.specs.Refusals.{check, firstOf, offends}
 use Rattle.paper.specs.Points.{samePoint, above}
 use Rattle.paper.specs.FaceList.{bitsOf, faceFits, facesIn, wellShaped, sendChecks, sentFor, sentRoomFor, sentOf, sentRoom}
 use Rattle.paper.specs.Sheet.{badCount, farAt, wrongAt, lowAt, edgeChecks, contentChecks, countChecks, openChecks, closeChecks, shapeChecks, sheetChecks, lentChecks, writerChecks, writtenFor, roomFor, blank, held, drawnFor, sheetOf, writtenOf, roomOf}
-use Rattle.paper.specs.Drawing.{Wire, at, ends, edgeAt, samePlace, looseVertex, vertexOn, edgesMeet, edgeMeets, reached, apart, drawingChecks}
+use Rattle.paper.specs.Drawing.{Wire, at, ends, edgeAt, samePlace, looseVertex, vertexOn, edgesMeet, edgeMeets, verticesReached, apart, drawingChecks}
 use Rattle.paper.specs.Loops.{Loop, loops, candidates, loopChecks}
 use Rattle.paper.specs.Solids.{Tables, tablesOf, inTwo, onceEachWay, facesFrom, sixFrom, has}
 use Rattle.paper.specs.Conversion.{Converted, entryChecks, conversion}
@@ -69,41 +69,39 @@ content-in v xyz ns =
     (also (λ p e. inr (inr (inl (refl, lowest-below (wrongAt v ns) (length ns / 2) p e))))
     (also (λ p e. inr (inr (inr (inl (refl, lowest-below (lowAt ns) (length ns / 2) p e))))) end))
 
-lent-in : (xyz : List ℤ) (ns : List ℕ) → Each (lists (length xyz) (length ns / 2)) (lentChecks one xyz ns)
+lent-in : (xyz : List ℤ) (ns : List ℕ) → Each (lists (length xyz) (length ns / 2)) (lentChecks editionOne xyz ns)
 unfolding lentChecks
 lent-in xyz ns =
     also (λ p e. inl (refl, zero-of-two (badCount 3 leastVertices 32 (length xyz)) p e))
-    (also (λ p e. inl (refl, one-of-two (badCount 2 leastEdges 64 (length ns)) p e))
-    (also (λ p e. inl (refl, zero-of-two (low one (length xyz / 3) (length ns / 2)) p e)) (content-in (length xyz / 3) xyz ns)))
+    (also (λ p e. inl (refl, one-of-two (badCount 2 leastEdges 64 (length ns)) p e)) (content-in (length xyz / 3) xyz ns))
 
 module _ (s : List ℕ) (v n : ℕ) where
-  opens-in : Each (forms (sheet s)) (openChecks one s)
+  opens-in : Each (forms (sheet s)) (openChecks editionOne s)
   unfolding openChecks
   opens-in =
       also (λ p e. inl (refl, first-place (ltb (length s) 3) p e)) (also (λ p e. inr (inl (refl, first-place (not (eqb (fieldAt s 0 4) 1)) p e))) end)
 
-  counts-in : Each (forms (sheet s)) (countChecks one v n)
+  counts-in : Each (forms (sheet s)) (countChecks editionOne v n)
   unfolding countChecks
   counts-in =
       also (λ p e. inr (inr (inr (inr (inl (refl, zero-of-two (outside leastVertices 32 v) p e))))))
-      (also (λ p e. inr (inr (inr (inr (inl (refl, one-of-two (outside leastEdges 64 n) p e))))))
-      (also (λ p e. inr (inr (inr (inr (inl (refl, zero-of-two (low one v n) p e)))))) end))
+      (also (λ p e. inr (inr (inr (inr (inl (refl, one-of-two (outside leastEdges 64 n) p e)))))) end)
 
-  closes-in : Each (forms (sheet s)) (closeChecks one s v n)
+  closes-in : Each (forms (sheet s)) (closeChecks editionOne s v n)
   unfolding closeChecks
   closes-in =
-      also (λ p e. inr (inr (inl (refl, first-place (not (eqb (length s) (bytesFor (total one v n)))) p e))))
-      (also (λ p e. inr (inr (inr (inl (refl, first-place (not (eqb (fillAfter (total one v n) s) 0)) p e))))) end)
+      also (λ p e. inr (inr (inl (refl, first-place (not (eqb (length s) (bytesFor (total editionOne v n)))) p e))))
+      (also (λ p e. inr (inr (inr (inl (refl, first-place (not (eqb (fillAfter (total editionOne v n) s) 0)) p e))))) end)
 
-sheet-in : (s : List ℕ) → Each (forms (sheet s)) (sheetChecks one s)
+sheet-in : (s : List ℕ) → Each (forms (sheet s)) (sheetChecks editionOne s)
 unfolding sheetChecks shapeChecks
 sheet-in s =
-    each-both (forms (sheet s)) (openChecks one s ++ countChecks one (verticesIn one s) (edgesIn one s) ++ closeChecks one s (verticesIn one s) (edgesIn one s))
-    (contentChecks (verticesIn one s) (coordinatesIn one s) (endsIn one s))
-    (each-both (forms (sheet s)) (openChecks one s ++ countChecks one (verticesIn one s) (edgesIn one s)) (closeChecks one s (verticesIn one s) (edgesIn one s))
-    (each-both (forms (sheet s)) (openChecks one s) (countChecks one (verticesIn one s) (edgesIn one s)) (opens-in s 0 0) (counts-in s (verticesIn one s) (edgesIn one s))) (closes-in s (verticesIn one s) (edgesIn one s)))
-    (each-right (contentChecks (verticesIn one s) (coordinatesIn one s) (endsIn one s)) (line 3 1 ∷ line 4 1 ∷ line 6 1 ∷ line 7 1 ∷ []) (lists (length (coordinatesIn one s)) (length (endsIn one s) / 2))
-    (content-in (verticesIn one s) (coordinatesIn one s) (endsIn one s)))
+    each-both (forms (sheet s)) (openChecks editionOne s ++ countChecks editionOne (verticesIn editionOne s) (edgesIn editionOne s) ++ closeChecks editionOne s (verticesIn editionOne s) (edgesIn editionOne s))
+    (contentChecks (verticesIn editionOne s) (coordinatesIn editionOne s) (endsIn editionOne s))
+    (each-both (forms (sheet s)) (openChecks editionOne s ++ countChecks editionOne (verticesIn editionOne s) (edgesIn editionOne s)) (closeChecks editionOne s (verticesIn editionOne s) (edgesIn editionOne s))
+    (each-both (forms (sheet s)) (openChecks editionOne s) (countChecks editionOne (verticesIn editionOne s) (edgesIn editionOne s)) (opens-in s 0 0) (counts-in s (verticesIn editionOne s) (edgesIn editionOne s))) (closes-in s (verticesIn editionOne s) (edgesIn editionOne s)))
+    (each-right (contentChecks (verticesIn editionOne s) (coordinatesIn editionOne s) (endsIn editionOne s)) (line 3 1 ∷ line 4 1 ∷ line 6 1 ∷ line 7 1 ∷ []) (lists (length (coordinatesIn editionOne s)) (length (endsIn editionOne s) / 2))
+    (content-in (verticesIn editionOne s) (coordinatesIn editionOne s) (endsIn editionOne s)))
 
 form-in : (x : Input) → Each (forms x) (form x)
 form-in (lent xyz ns) = lent-in xyz ns
@@ -126,7 +124,7 @@ module _ (d : Wire) where
 
   apart-below : Below (apart d) (length (d .vertices))
   unfolding apart
-  apart-below p e = lowest-below (λ v. not (getD (reached d (length (d .vertices))) v false)) (length (d .vertices)) p e
+  apart-below p e = lowest-below (λ v. not (getD (verticesReached d (length (d .vertices))) v false)) (length (d .vertices)) p e
 
   drawing-in : Each (drawings (length (d .vertices)) (length (d .edges))) (drawingChecks d)
   unfolding drawingChecks
@@ -172,13 +170,13 @@ module _ (t : Tables) (n : ℕ) (l : Listed) where
   unfolding faceTwice
   twice-below p e = lowest-below (λ i. member (getD (l .numbers) i 0) (take i (l .numbers))) faceCount p e
 
-  edge-below : Below (edgeCount t (l .taken)) (length (t .rows))
+  edge-below : Below (edgeCount t (l .taken)) (length (t .masks))
   unfolding edgeCount
-  edge-below p e = lowest-below (λ e. not (inTwo (getD (t .rows) e []) (l .taken))) (length (t .rows)) p e
+  edge-below p e = lowest-below (λ e. not (inTwo (getD (t .masks) e []) (l .taken))) (length (t .masks)) p e
 
-  way-below : Below (direction t (l .taken) (l .turned)) (length (t .rows))
+  way-below : Below (direction t (l .taken) (l .turned)) (length (t .masks))
   unfolding direction
-  way-below p e = lowest-below (λ e. not (onceEachWay (getD (t .rows) e []) (getD (t .ups) e []) (l .taken) (l .turned))) (length (t .rows)) p e
+  way-below p e = lowest-below (λ e. not (onceEachWay (getD (t .masks) e []) (getD (t .ups) e []) (l .taken) (l .turned))) (length (t .masks)) p e
 
   piece-below : Below (pieces t (l .numbers) (l .taken)) faceCount
   unfolding pieces
@@ -192,7 +190,7 @@ module _ (t : Tables) (n : ℕ) (l : Listed) where
   unfolding clashes
   clash-below p e = lowest-below (λ i. not (eqb (count (both (getD (t .clashes) (getD (l .numbers) i 0) []) (l .taken))) 0)) faceCount p e
 
-  shell-in : (b : Bool) → Each (shells (length (t .rows)) faceCount) (check 20 (offends b 0) ∷ faceChecks t n l)
+  shell-in : (b : Bool) → Each (shells (length (t .masks)) faceCount) (check 20 (offends b 0) ∷ faceChecks t n l)
   unfolding faceChecks
   shell-in b =
       also (λ p e. inl (refl, first-place b p e))
@@ -210,7 +208,7 @@ verdict-refused : (a : Answer) (r : Refusal) → verdictFor a ≡ Verdict.Refuse
 verdict-refused Answer.Fine r e = let z : _≡_ {A = ℕ} 0 1 = cc in absurd (omega arith)
 verdict-refused (Answer.Refused q) r e = let z : q ≡ r = cc in ap Answer.Refused z
 
-edges-many : (d : Wire) (cs : List Loop) → length (tablesOf d cs .rows) ≡ length (d .edges)
+edges-many : (d : Wire) (cs : List Loop) → length (tablesOf d cs .masks) ≡ length (d .edges)
 unfolding tablesOf
 edges-many d cs = length-map (d .edges) (λ e. map (has e) cs)
 
@@ -219,16 +217,16 @@ unfolding listed
 faces-many cs fs = length-map fs (numberIn cs)
 
 check-in : (x : Input) (list : List ℕ) (r : Refusal) → verdict (form x) (drawing x) list ≡ Verdict.Refused r
-    → In r (forms x ++ drawn x ++ shells (length (drawing x .edges)) (length (facesIn one list)))
+    → In r (forms x ++ drawn x ++ shells (length (drawing x .edges)) (length (facesIn editionOne list)))
 unfolding verdict candidates
 check-in x list r e =
     let t = tablesOf (drawing x) (candidates (drawing x)) in
-    let l = listed (candidates (drawing x)) (facesIn one list) in
-    let ks = check 20 (offends (not (wellShaped one (length (drawing x .vertices)) list)) 0) ∷ faceChecks t (length (candidates (drawing x))) l in
-    let h = each-on (rules x) ks (forms x ++ drawn x) (shells (length (t .rows)) (length (l .numbers))) (rules-in x) (shell-in t (length (candidates (drawing x))) l (not (wellShaped one (length (drawing x .vertices)) list))) in
-    let i = first-in (forms x ++ drawn x ++ shells (length (t .rows)) (length (l .numbers))) (rules x ++ ks) h r (verdict-refused (firstOf (rules x ++ ks)) r e) in
-    subst (λ (n : ℕ). In r (forms x ++ drawn x ++ shells n (length (facesIn one list)))) (edges-many (drawing x) (candidates (drawing x)))
-    (subst (λ (n : ℕ). In r (forms x ++ drawn x ++ shells (length (t .rows)) n)) (faces-many (candidates (drawing x)) (facesIn one list)) i)
+    let l = listed (candidates (drawing x)) (facesIn editionOne list) in
+    let ks = check 20 (offends (not (wellShaped editionOne (length (drawing x .vertices)) list)) 0) ∷ faceChecks t (length (candidates (drawing x))) l in
+    let h = each-on (rules x) ks (forms x ++ drawn x) (shells (length (t .masks)) (length (l .numbers))) (rules-in x) (shell-in t (length (candidates (drawing x))) l (not (wellShaped editionOne (length (drawing x .vertices)) list))) in
+    let i = first-in (forms x ++ drawn x ++ shells (length (t .masks)) (length (l .numbers))) (rules x ++ ks) h r (verdict-refused (firstOf (rules x ++ ks)) r e) in
+    subst (λ (n : ℕ). In r (forms x ++ drawn x ++ shells n (length (facesIn editionOne list)))) (edges-many (drawing x) (candidates (drawing x)))
+    (subst (λ (n : ℕ). In r (forms x ++ drawn x ++ shells (length (t .masks)) n)) (faces-many (candidates (drawing x)) (facesIn editionOne list)) i)
 
 -- ---- conversion
 
@@ -294,52 +292,52 @@ module _ (x : Input) (limit : ℕ) (room solids : List ℕ) where
 
 -- ---- sheets
 
-read-in : (s : List ℕ) (r : Refusal) → sheetOf one s .answer ≡ Answer.Refused r → In r (forms (sheet s)) × (sheetOf one s .drawing ≡ blank)
+read-in : (s : List ℕ) (r : Refusal) → sheetOf editionOne s .answer ≡ Answer.Refused r → In r (forms (sheet s)) × (sheetOf editionOne s .drawing ≡ blank)
 unfolding sheetOf
 read-in s r e = (
-  first-in (forms (sheet s)) (sheetChecks one s) (sheet-in s) r e,
-  ap (λ (a : Answer). drawnFor a (held (verticesIn one s) (edgesIn one s) (coordinatesIn one s) (endsIn one s))) e,
+  first-in (forms (sheet s)) (sheetChecks editionOne s) (sheet-in s) r e,
+  ap (λ (a : Answer). drawnFor a (held (verticesIn editionOne s) (edgesIn editionOne s) (coordinatesIn editionOne s) (endsIn editionOne s))) e,
 )
 
 module _ (xyz : List ℤ) (ns room : List ℕ) (r : Refusal) where
-  written-refused : (a : Answer) → writtenFor one xyz ns a ≡ Written.Refused r → a ≡ Answer.Refused r
+  written-refused : (a : Answer) → writtenFor editionOne xyz ns a ≡ Written.Refused r → a ≡ Answer.Refused r
   written-refused Answer.Fine e = let z : _≡_ {A = ℕ} 0 1 = cc in absurd (omega arith)
   written-refused (Answer.Refused q) e = let z : q ≡ r = cc in ap Answer.Refused z
 
-  refuses : writtenOf one xyz ns room ≡ Written.Refused r → firstOf (writerChecks one xyz ns (length room)) ≡ Answer.Refused r
+  refuses : writtenOf editionOne xyz ns room ≡ Written.Refused r → firstOf (writerChecks editionOne xyz ns (length room)) ≡ Answer.Refused r
   unfolding writtenOf
-  refuses e = written-refused (firstOf (writerChecks one xyz ns (length room))) e
+  refuses e = written-refused (firstOf (writerChecks editionOne xyz ns (length room))) e
 
-  write-in : writtenOf one xyz ns room ≡ Written.Refused r → In r (forms (lent xyz ns) ++ line 1 1 ∷ [])
+  write-in : writtenOf editionOne xyz ns room ≡ Written.Refused r → In r (forms (lent xyz ns) ++ line 1 1 ∷ [])
   unfolding writerChecks
   write-in e =
-      first-in (forms (lent xyz ns) ++ line 1 1 ∷ []) (writerChecks one xyz ns (length room))
-      (each-on (lentChecks one xyz ns) _ (forms (lent xyz ns)) (line 1 1 ∷ []) (lent-in xyz ns)
-      (also (λ p q. inl (refl, first-place (ltb (length room) (bytesFor (total one (length xyz / 3) (length ns / 2)))) p q)) end)) r (refuses e)
+      first-in (forms (lent xyz ns) ++ line 1 1 ∷ []) (writerChecks editionOne xyz ns (length room))
+      (each-on (lentChecks editionOne xyz ns) _ (forms (lent xyz ns)) (line 1 1 ∷ []) (lent-in xyz ns)
+      (also (λ p q. inl (refl, first-place (ltb (length room) (bytesFor (total editionOne (length xyz / 3) (length ns / 2)))) p q)) end)) r (refuses e)
 
-  write-keeps : writtenOf one xyz ns room ≡ Written.Refused r → roomOf one xyz ns room ≡ room
+  write-keeps : writtenOf editionOne xyz ns room ≡ Written.Refused r → roomOf editionOne xyz ns room ≡ room
   unfolding roomOf
-  write-keeps e = ap (λ (a : Answer). roomFor one xyz ns a room) (refuses e)
+  write-keeps e = ap (λ (a : Answer). roomFor editionOne xyz ns a room) (refuses e)
 
 -- a face list written from a report
 module _ (fs : List Loop) (room : List ℕ) (r : Refusal) where
-  sent-refused : (a : Answer) → sentFor one fs a ≡ Written.Refused r → a ≡ Answer.Refused r
+  sent-refused : (a : Answer) → sentFor editionOne fs a ≡ Written.Refused r → a ≡ Answer.Refused r
   sent-refused Answer.Fine e = let z : _≡_ {A = ℕ} 0 1 = cc in absurd (omega arith)
   sent-refused (Answer.Refused q) e = let z : q ≡ r = cc in ap Answer.Refused z
 
-  sending : sentOf one fs room ≡ Written.Refused r → firstOf (sendChecks one fs (length room)) ≡ Answer.Refused r
+  sending : sentOf editionOne fs room ≡ Written.Refused r → firstOf (sendChecks editionOne fs (length room)) ≡ Answer.Refused r
   unfolding sentOf
-  sending e = sent-refused (firstOf (sendChecks one fs (length room))) e
+  sending e = sent-refused (firstOf (sendChecks editionOne fs (length room))) e
 
-  send-in : sentOf one fs room ≡ Written.Refused r → In r (line 20 1 ∷ line 1 1 ∷ [])
+  send-in : sentOf editionOne fs room ≡ Written.Refused r → In r (line 20 1 ∷ line 1 1 ∷ [])
   unfolding sendChecks
   send-in e =
-      first-in (line 20 1 ∷ line 1 1 ∷ []) (sendChecks one fs (length room))
-      (also (λ p q. inl (refl, first-place (outside 4 42 (length fs) || not (all (faceFits one 32) fs)) p q)) (also (λ p q. inr (inl (refl, first-place (ltb (length room) (bytesFor (bitsOf one fs))) p q))) end)) r (sending e)
+      first-in (line 20 1 ∷ line 1 1 ∷ []) (sendChecks editionOne fs (length room))
+      (also (λ p q. inl (refl, first-place (outside 4 42 (length fs) || not (all (faceFits editionOne 32) fs)) p q)) (also (λ p q. inr (inl (refl, first-place (ltb (length room) (bytesFor (bitsOf editionOne fs))) p q))) end)) r (sending e)
 
-  send-keeps : sentOf one fs room ≡ Written.Refused r → sentRoom one fs room ≡ room
+  send-keeps : sentOf editionOne fs room ≡ Written.Refused r → sentRoom editionOne fs room ≡ room
   unfolding sentRoom
-  send-keeps e = ap (λ (a : Answer). sentRoomFor one fs a room) (sending e)
+  send-keeps e = ap (λ (a : Answer). sentRoomFor editionOne fs a room) (sending e)
 
 -- ---- the reading
 

@@ -70,6 +70,6 @@ faces x = record {
 pub demand2 : (x : Input) → Holds2 x
 demand2 x = record {
   walk = the-walk (drawing x);
-  no-other = one-walk (tablesOf (drawing x) (candidates (drawing x)) .rows);
+  no-other = one-walk (tablesOf (drawing x) (candidates (drawing x)) .masks);
   holds = λ p t limit room solids a. holds2 x p t limit room solids a;
 }

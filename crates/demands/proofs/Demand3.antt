@@ -7,7 +7,7 @@ use Prim.Native.Nat.{ℕ, _+_, _*_, _<_}
 use native.Mathlib.Omega.{arith}
 use lib.ListN.{length, getD, drop}
 use Rattle.sets.specs.Word.{word}
-use Rattle.paper.specs.Format.{one}
+use Rattle.paper.specs.Format.{editionOne}
 use Rattle.paper.specs.FaceList.{encodeFaces, facesIn, solidFaces}
 use Rattle.paper.specs.Loops.{Loop, loops, candidates}
 use Rattle.paper.specs.Conversion.{Converted, facesAfter}
@@ -39,36 +39,36 @@ module _ (x : Input) (p : Passes x) where
   fits = drawing-fits (drawing x) (drawing-fine x p)
 
   -- faces that name a solid are accepted, packed
-  packed : (taken turned : List Bool) (six : ℕ) → IsSolid (drawing x) (candidates (drawing x)) taken turned six → (fs : List Loop) → Names (drawing x) (candidates (drawing x)) taken turned fs → checked x (encodeFaces one fs) ≡ Accepted
+  packed : (taken turned : List Bool) (six : ℕ) → IsSolid (drawing x) (candidates (drawing x)) taken turned six → (fs : List Loop) → Names (drawing x) (candidates (drawing x)) taken turned fs → checked x (encodeFaces editionOne fs) ≡ Accepted
   packed taken turned six s fs n =
       let m = small x (form-fine x p) in
       let b = back (length (drawing x .vertices)) (m .0) fs (names-sent (drawing x) fits (drawing-places (drawing x) (drawing-fine x p)) (m .1) taken turned s fs n) in
-      checked-is x (encodeFaces one fs)
-      ∙ each-accepted (form x) (drawing x) (form-fine x p) (drawing-fine x p) (loops-fine x p) taken turned six s (encodeFaces one fs) (b .0)
+      checked-is x (encodeFaces editionOne fs)
+      ∙ each-accepted (form x) (drawing x) (form-fine x p) (drawing-fine x p) (loops-fine x p) taken turned six s (encodeFaces editionOne fs) (b .0)
       (subst (λ (gs : List Loop). Names (drawing x) (candidates (drawing x)) taken turned gs) (sym (b .1)) n)
 
-  named : (list : List ℕ) → checked x list ≡ Accepted → NamesSolid (drawing x) (candidates (drawing x)) (facesIn one list)
+  named : (list : List ℕ) → checked x list ≡ Accepted → NamesSolid (drawing x) (candidates (drawing x)) (facesIn editionOne list)
   named list a = accepts-exactly (form x) (drawing x) list .0 (sym (checked-is x list) ∙ a) .named
 
   -- what is accepted is one of all solids
   module _ (es : List Entry) (all : Listed (drawing x) (candidates (drawing x)) es) where
-    among : (list : List ℕ) → checked x list ≡ Accepted → (i : ℕ) × (i < length es) × NamesIt x (entryAt es i) (facesIn one list)
+    among : (list : List ℕ) → checked x list ≡ Accepted → (i : ℕ) × (i < length es) × NamesIt x (entryAt es i) (facesIn editionOne list)
     among list a =
         let w = named list a in
         let r = all .there (w .solid) in (
           r .0,
           r .1,
           names-to (drawing x) (candidates (drawing x)) (entryAt es (r .0) .taken) (w .turned) (entryAt es (r .0) .turned) (λ k. sym (r .3 k))
-              (subst (λ (t : List Bool). Names (drawing x) (candidates (drawing x)) t (w .turned) (facesIn one list)) (sym (r .2)) (w .names)),
+              (subst (λ (t : List Bool). Names (drawing x) (candidates (drawing x)) t (w .turned) (facesIn editionOne list)) (sym (r .2)) (w .names)),
         )
 
-    alone : length es ≡ 1 → (a b : List ℕ) → checked x a ≡ Accepted → checked x b ≡ Accepted → SameBody (facesIn one a) (facesIn one b)
+    alone : length es ≡ 1 → (a b : List ℕ) → checked x a ≡ Accepted → checked x b ≡ Accepted → SameBody (facesIn editionOne a) (facesIn editionOne b)
     alone e a b p q =
         let r = among a p in
         let s = among b q in
         let z : s .0 ≡ r .0 = omega (arith, r .1, s .1) in
-        same-named (drawing x) (candidates (drawing x)) fits (entryAt es (r .0) .taken) (entryAt es (r .0) .turned) (facesIn one a) (facesIn one b) (r .2)
-        (subst (λ (i : ℕ). NamesIt x (entryAt es i) (facesIn one b)) z (s .2))
+        same-named (drawing x) (candidates (drawing x)) fits (entryAt es (r .0) .taken) (entryAt es (r .0) .turned) (facesIn editionOne a) (facesIn editionOne b) (r .2)
+        (subst (λ (i : ℕ). NamesIt x (entryAt es i) (facesIn editionOne b)) z (s .2))
 
   report : (limit : ℕ) (room solids : List ℕ) (r : Converted) → Sound (drawing x) (the-walk (drawing x)) limit room solids r → 0 < reported (r .answer) → Report x solids r
   unfolding solidsFor

@@ -13,7 +13,7 @@ use Rattle.paper.specs.declared.Answer.the-variants.{Fine}
 use Rattle.means_report.specs.Listed.{Entry}
 use Rattle.means_report.specs.Report.{answered}
 use Rattle.means_check.proofs.Accepting.{both-fine}
-use Rattle.means_check.proofs.Drawn.{Small, lent-small, sheet-small}
+use Rattle.means_check.proofs.Drawn.{InCounts, lent-small, sheet-small}
 use Rattle.demands.specs.Input.{Input, lent, sheet, drawing, form, Passes, converted, checked, reported}
 
 pub converted-is : (x : Input) (limit : ℕ) (room solids : List ℕ) → converted x limit room solids ≡ conversion mostSolids (form x) (drawing x) limit room solids
@@ -38,7 +38,7 @@ module _ (x : Input) (p : Passes x) where
   loops-fine = both-fine (form x ++ drawingChecks (drawing x)) (loopChecks (loops (drawing x)) (candidates (drawing x))) p .1
 
 -- "4 to 32 vertices; 6 to 64 edges"
-pub small : (x : Input) → firstOf (form x) ≡ Fine → Small (drawing x)
+pub small : (x : Input) → firstOf (form x) ≡ Fine → InCounts (drawing x)
 small (lent xyz ends) e = lent-small xyz ends e
 small (sheet s) e = sheet-small s e
 

@@ -11,7 +11,7 @@ use lib.Dec.{ltb, leb}
 use lib.ListN.{length, getD, take, drop, length-append, length-drop, List·getD-append, List·getD-eq-default}
 use lib.Seq.{ext-getD, getD-take, getD-drop, length-take-le}
 use Rattle.lists.specs.Lists.{keep, filter, from, upto}
-use Rattle.sets.specs.Word.{dig, word, bits}
+use Rattle.sets.specs.Word.{dig, word, digits}
 use Rattle.sets.proofs.Digits.{never}
 use Rattle.sets.proofs.Numbers.{digit-word, digit-bits}
 use Rattle.paper_laws.proofs.Rows.{Short, row-first, row-corner, rows-long, rows-at}
@@ -100,7 +100,7 @@ few-candidates ls cs e = ltb-false 64 (length cs) (no-offence (ltb 64 (length cs
     no-offence false e = refl
 
 module _ (d : Wire) (fine : firstOf (loopChecks (loops d) (candidates d)) ≡ Fine) (room : List ℕ) (taken turned : List Bool) (some : length taken ≡ length (candidates d)) where
-  digit-of : (a : List Bool) (k : ℕ) → k < 64 → getD (bits 64 (word a)) k false ≡ dig a k
+  digit-of : (a : List Bool) (k : ℕ) → k < 64 → getD (digits 64 (word a)) k false ≡ dig a k
   digit-of a k h = digit-bits 64 (word a) k h ∙ digit-word a k
 
   past : (k : ℕ) → length (candidates d) ≤ k → dig taken k ≡ false
@@ -118,8 +118,8 @@ module _ (d : Wire) (fine : firstOf (loopChecks (loops d) (candidates d)) ≡ Fi
   solid-faces =
       let few = few-candidates (loops d) (candidates d) fine in
       let e : 64 ≡ length (candidates d) + (64 - length (candidates d)) = omega arith in
-      kept-same (λ k. getD (bits 64 (word taken)) k false) (dig taken)
-      (λ k. cond (getD (bits 64 (word turned)) k false) (flipped (rowAt (facesAfter (candidates d) room) k)) (rowAt (facesAfter (candidates d) room) k)) (directed d (candidates d) taken turned)
+      kept-same (λ k. getD (digits 64 (word taken)) k false) (dig taken)
+      (λ k. cond (getD (digits 64 (word turned)) k false) (flipped (rowAt (facesAfter (candidates d) room) k)) (rowAt (facesAfter (candidates d) room) k)) (directed d (candidates d) taken turned)
       64 0 (λ k a b. digit-of taken k (omega arith))
       (λ k a b y. ap₂ (λ (t : Bool) (l : Loop). cond t (flipped l) l) (digit-of turned k (omega arith)) (row-loop (candidates d) (λ i l. candidates-are d i l .loop .twelve) room k (below k y)))
       ∙ ap (λ (n : ℕ). map (directed d (candidates d) taken turned) (filter (dig taken) (from 0 n))) e

@@ -5,7 +5,7 @@ use Prim.Native.Nat.{ℕ, _+_, _*_, _<_}
 use native.Mathlib.Omega.{arith}
 use lib.ListN.{length, getD}
 use Rattle.paper.specs.Numbers.{mostWork, faceRoom, solidRoom}
-use Rattle.paper.specs.Format.{one, encode}
+use Rattle.paper.specs.Format.{editionOne, encode}
 use Rattle.paper.specs.FaceList.{encodeFaces, facesIn, solidFaces}
 use Rattle.paper.specs.Questions.{Drawn, reply, faceBefore, solidBefore}
 use Rattle.paper.specs.Known.Drawings.{cube, outward, nested, tetrahedron}
@@ -20,7 +20,7 @@ abbrev of : Drawn → Input
 of d = lent (d .xyz) (d .ends)
 
 abbrev on : Drawn → Input
-on d = sheet (encode one (d .xyz) (d .ends))
+on d = sheet (encode editionOne (d .xyz) (d .ends))
 
 -- what conversion says of it in the rooms of a caller
 abbrev result : Input → Converted
@@ -38,12 +38,12 @@ cube-one : reported (result (of cube) .answer) ≡ 1
 unfolding reply
 cube-one = refl
 
-cube-list : checked (of cube) (encodeFaces one outward) ≡ Accepted
+cube-list : checked (of cube) (encodeFaces editionOne outward) ≡ Accepted
 unfolding reply
 cube-list = refl
 
-pub cube-body : (list : List ℕ) → checked (of cube) list ≡ Accepted → SameBody (facesIn one (encodeFaces one outward)) (facesIn one list)
-cube-body list a = let r = told (of cube) cube-passes (omega (arith, cube-one)) in r .same (r .n ∙ cube-one) (encodeFaces one outward) list cube-list a
+pub cube-body : (list : List ℕ) → checked (of cube) list ≡ Accepted → SameBody (facesIn editionOne (encodeFaces editionOne outward)) (facesIn editionOne list)
+cube-body list a = let r = told (of cube) cube-passes (omega (arith, cube-one)) in r .same (r .n ∙ cube-one) (encodeFaces editionOne outward) list cube-list a
 
 -- "Cube of corners +-20 round a cube of corners +-10": three solids, and each, packed from the report's own rows and words, is accepted
 nested-passes : Passes (of nested)
@@ -55,7 +55,7 @@ unfolding reply
 nested-three = refl
 
 pub nested-each : (i : ℕ) → i < 3
-    → checked (of nested) (encodeFaces one (solidFaces (result (of nested) .faces) (getD (result (of nested) .solids) (3 * i) 0) (getD (result (of nested) .solids) (3 * i + 1) 0))) ≡ Accepted
+    → checked (of nested) (encodeFaces editionOne (solidFaces (result (of nested) .faces) (getD (result (of nested) .solids) (3 * i) 0) (getD (result (of nested) .solids) (3 * i + 1) 0))) ≡ Accepted
 nested-each i h =
     let r = told (of nested) nested-passes (omega (arith, nested-three)) in
     let l : i < length (r .es) = omega (arith, r .n, nested-three) in
@@ -70,5 +70,5 @@ sheet-one : reported (result (on tetrahedron) .answer) ≡ 1
 unfolding reply
 sheet-one = refl
 
-pub tetrahedron-bodies : (a b : List ℕ) → checked (on tetrahedron) a ≡ Accepted → checked (on tetrahedron) b ≡ Accepted → SameBody (facesIn one a) (facesIn one b)
+pub tetrahedron-bodies : (a b : List ℕ) → checked (on tetrahedron) a ≡ Accepted → checked (on tetrahedron) b ≡ Accepted → SameBody (facesIn editionOne a) (facesIn editionOne b)
 tetrahedron-bodies = let r = told (on tetrahedron) sheet-passes (omega (arith, sheet-one)) in r .same (r .n ∙ sheet-one)

@@ -5,7 +5,7 @@ use Prim.Native.Nat.{ℕ, _/_}
 use native.Mathlib.Omega.{arith}
 use lib.ListN.{length}
 use Rattle.pack.specs.Bits.{Under}
-use Rattle.paper.specs.Format.{one, verticesIn, edgesIn, coordinatesIn, endsIn, encode}
+use Rattle.paper.specs.Format.{editionOne, verticesIn, edgesIn, coordinatesIn, endsIn, encode}
 use Rattle.paper.specs.Sheet.{held, sheetOf}
 use Rattle.paper.specs.declared.Answer.the-variants.{Fine}
 use Rattle.paper.specs.declared.Drawing.{Drawing}
@@ -15,16 +15,16 @@ use Rattle.means_sheets.proofs.Sheets.Room.{writes}
 use Rattle.demands.specs.Sheets.{Reads, Sheets2}
 
 -- what an accepted sheet reads as
-module _ (s : List ℕ) (bytes : Under 256 s) (h : sheetOf one s .answer ≡ Fine) where
-  whole : Reads s (coordinatesIn one s) (endsIn one s)
+module _ (s : List ℕ) (bytes : Under 256 s) (h : sheetOf editionOne s .answer ≡ Fine) where
+  whole : Reads s (coordinatesIn editionOne s) (endsIn editionOne s)
   whole =
-      let v : length (coordinatesIn one s) / 3 ≡ verticesIn one s = omega (arith, length-coordinates one s) in
-      let e : length (endsIn one s) / 2 ≡ edgesIn one s = omega (arith, length-ends one s) in
+      let v : length (coordinatesIn editionOne s) / 3 ≡ verticesIn editionOne s = omega (arith, length-coordinates editionOne s) in
+      let e : length (endsIn editionOne s) / 2 ≡ edgesIn editionOne s = omega (arith, length-ends editionOne s) in
       ap₂ (λ a (d : Drawing). record { answer = a; drawing = d }) h
-      (returned one s bytes (sym h) ∙ ap₂ (λ (v e : ℕ). held v e (coordinatesIn one s) (endsIn one s)) (sym v) (sym e))
+      (returned editionOne s bytes (sym h) ∙ ap₂ (λ (v e : ℕ). held v e (coordinatesIn editionOne s) (endsIn editionOne s)) (sym v) (sym e))
 
 pub sheets2 : Sheets2
 sheets2 = record {
-  back = λ xyz ends h. (encode one xyz ends, λ room l. writes one xyz ends (encode one xyz ends) room (sym h) refl l, reads-back-one xyz ends (sym h));
-  again = λ s u h. (coordinatesIn one s, endsIn one s, whole s u h, λ room l. room-written-back one s u (sym h) room l);
+  back = λ xyz ends h. (encode editionOne xyz ends, λ room l. writes editionOne xyz ends (encode editionOne xyz ends) room (sym h) refl l, reads-back-one xyz ends (sym h));
+  again = λ s u h. (coordinatesIn editionOne s, endsIn editionOne s, whole s u h, λ room l. room-written-back editionOne s u (sym h) room l);
 }

@@ -12,7 +12,7 @@ use lib.ListN.{length, getD, length-map}
 use lib.Seq.{ext-getD}
 use Rattle.lists.specs.Lists.{any, upto}
 use Rattle.lists.proofs.Places.{map-at, upto-length, upto-at, any-below-same}
-use Rattle.paper.specs.Drawing.{Wire, joined, further, reached}
+use Rattle.paper.specs.Drawing.{Wire, joined, further, verticesReached}
 use Rattle.sets.specs.Word.{digit}
 use Rattle.sets.proofs.Numbers.{digit-power}
 
@@ -36,8 +36,8 @@ module _ (d : Wire) (v : ℕ) (n : length (d .vertices) ≡ v) where
   upto-count = upto-length (length (d .vertices)) ∙ n
 
   -- vertex 0 alone
-  pub reach-start : Stands 1 v (reached d 0)
-  unfolding reached
+  pub reach-start : Stands 1 v (verticesReached d 0)
+  unfolding verticesReached
   reach-start w h =
       digit-power 0 w ∙ eqb-flip w 0
       ∙ sym (map-at (eqb 0) (upto (length (d .vertices))) w 0 false (omega (arith, upto-count)) ∙ ap (eqb 0) (upto-at (length (d .vertices)) w (omega arith)))
@@ -59,22 +59,22 @@ module _ (d : Wire) (v : ℕ) (n : length (d .vertices) ≡ v) where
 
   -- ---- at rest
 
-  reached-length : (k : ℕ) → length (reached d k) ≡ v
-  unfolding reached further
+  reached-length : (k : ℕ) → length (verticesReached d k) ≡ v
+  unfolding verticesReached further
   reached-length zero = length-map (upto (length (d .vertices))) (eqb 0) ∙ upto-count
-  reached-length (suc k) = length-map (upto (length (d .vertices))) (λ w. getD (reached d k) w false || any (λ u. getD (reached d k) u false && joined d u w) (upto (length (d .vertices)))) ∙ upto-count
+  reached-length (suc k) = length-map (upto (length (d .vertices))) (λ w. getD (verticesReached d k) w false || any (λ u. getD (verticesReached d k) u false && joined d u w) (upto (length (d .vertices)))) ∙ upto-count
 
-  rests : (k j : ℕ) → further d (reached d k) ≡ reached d k → reached d (k + j) ≡ reached d k
-  unfolding reached
-  rests k zero e = let z : k + 0 ≡ k = omega arith in ap (reached d) z
+  rests : (k j : ℕ) → further d (verticesReached d k) ≡ verticesReached d k → verticesReached d (k + j) ≡ verticesReached d k
+  unfolding verticesReached
+  rests k zero e = let z : k + 0 ≡ k = omega arith in ap (verticesReached d) z
   rests k (suc j) e =
       let z : k + suc j ≡ suc (k + j) = omega arith in
-      ap (reached d) z ∙ ap (further d) (rests k j e) ∙ e
+      ap (verticesReached d) z ∙ ap (further d) (rests k j e) ∙ e
 
-  pub reach-rest : (m k : ℕ) → k ≤ v → Stands m v (reached d k) → Grown m v d m → Stands m v (reached d v)
-  unfolding reached
+  pub reach-rest : (m k : ℕ) → k ≤ v → Stands m v (verticesReached d k) → Grown m v d m → Stands m v (verticesReached d v)
+  unfolding verticesReached
   reach-rest m k l s g w h =
-      let still : further d (reached d k) ≡ reached d k = ext-getD false (further d (reached d k)) (reached d k) (reached-length (suc k) ∙ sym (reached-length k))
-      (λ u q. sym (reach-more m m (reached d k) s g u (omega (arith, reached-length (suc k)))) ∙ s u (omega (arith, reached-length (suc k)))) in
+      let still : further d (verticesReached d k) ≡ verticesReached d k = ext-getD false (further d (verticesReached d k)) (verticesReached d k) (reached-length (suc k) ∙ sym (reached-length k))
+      (λ u q. sym (reach-more m m (verticesReached d k) s g u (omega (arith, reached-length (suc k)))) ∙ s u (omega (arith, reached-length (suc k)))) in
       let e : k + (v - k) ≡ v = omega arith in
-      s w h ∙ ap (λ (row : List Bool). getD row w false) (sym (rests k (v - k) still) ∙ ap (reached d) e)
+      s w h ∙ ap (λ (row : List Bool). getD row w false) (sym (rests k (v - k) still) ∙ ap (verticesReached d) e)

@@ -13,7 +13,7 @@ use lib.Seq.{ext-getD}
 use Rattle.lists.specs.Lists.{any, upto}
 use Rattle.lists.proofs.Truth.{or-none}
 use Rattle.lists.proofs.Places.{map-at, upto-length, upto-at}
-use Rattle.paper.specs.Format.{one}
+use Rattle.paper.specs.Format.{editionOne}
 use Rattle.paper.specs.Drawing.{Wire, Edge, edge, edgesOf, ends, joins, joined}
 use Rattle.paper_laws.specs.InRange.{Ends}
 use Rattle.sets.specs.Word.{digit}
@@ -36,19 +36,19 @@ module _ {es : List ℕ} {v : ℕ} (p : Ends es v) where
           List·getD-eq-default (map (λ k. any (joins u k) (edgesOf es)) (upto v)) false (omega (arith, length-map (upto v) (λ k. any (joins u k) (edgesOf es)), upto-length v))
           ∙ sym (unknown p u w (omega arith))
 
-  word-at : (u : ℕ) → u < one .vmax → getD (neighbourWords (edgesOf es) v) u 0 ≡ neighbourWord (edgesOf es) v u
+  word-at : (u : ℕ) → u < editionOne .«most_vertices» → getD (neighbourWords (edgesOf es) v) u 0 ≡ neighbourWord (edgesOf es) v u
   unfolding neighbourWords
   word-at u h =
-      map-at (neighbourWord (edgesOf es) v) (upto (one .vmax)) u 0 0 (omega (arith, upto-length (one .vmax)))
-      ∙ ap (neighbourWord (edgesOf es) v) (upto-at (one .vmax) u h)
+      map-at (neighbourWord (edgesOf es) v) (upto (editionOne .«most_vertices»)) u 0 0 (omega (arith, upto-length (editionOne .«most_vertices»)))
+      ∙ ap (neighbourWord (edgesOf es) v) (upto-at (editionOne .«most_vertices») u h)
 
   -- digit w of word u says whether an edge joins the two
-  pub neighbour-digit : (u w : ℕ) → u < one .vmax → digit (getD (neighbourWords (edgesOf es) v) u 0) w ≡ any (joins u w) (edgesOf es)
+  pub neighbour-digit : (u w : ℕ) → u < editionOne .«most_vertices» → digit (getD (neighbourWords (edgesOf es) v) u 0) w ≡ any (joins u w) (edgesOf es)
   unfolding neighbourWord
   neighbour-digit u w h =
       ap (λ (m : ℕ). digit m w) (word-at u h) ∙ digit-word (map (λ k. any (joins u k) (edgesOf es)) (upto v)) w ∙ row-at u w
 
-  pub links-are : {d : Wire} → v ≤ one .vmax → length (d .vertices) ≡ v → d .edges ≡ edgesOf es → Links (neighbourWords (edgesOf es) v) v d
+  pub links-are : {d : Wire} → v ≤ editionOne .«most_vertices» → length (d .vertices) ≡ v → d .edges ≡ edgesOf es → Links (neighbourWords (edgesOf es) v) v d
   unfolding joined
   links-are h n e = record {
     count = n;
@@ -56,11 +56,11 @@ module _ {es : List ℕ} {v : ℕ} (p : Ends es v) where
   }
 
   -- words with these digits are the words
-  pub words-are : (l : List ℕ) → length l ≡ one .vmax → ((u w : ℕ) → digit (getD l u 0) w ≡ any (joins u w) (edgesOf es))
+  pub words-are : (l : List ℕ) → length l ≡ editionOne .«most_vertices» → ((u w : ℕ) → digit (getD l u 0) w ≡ any (joins u w) (edgesOf es))
       → l ≡ neighbourWords (edgesOf es) v
   unfolding neighbourWord neighbourWords
   words-are l n h =
-      let m : length (neighbourWords (edgesOf es) v) ≡ one .vmax = length-map (upto (one .vmax)) (neighbourWord (edgesOf es) v) ∙ upto-length (one .vmax) in
+      let m : length (neighbourWords (edgesOf es) v) ≡ editionOne .«most_vertices» = length-map (upto (editionOne .«most_vertices»)) (neighbourWord (edgesOf es) v) ∙ upto-length (editionOne .«most_vertices») in
       ext-getD 0 l (neighbourWords (edgesOf es) v) (n ∙ sym m)
       (λ u k.
       by-digits (getD l u 0) (map (λ k. any (joins u k) (edgesOf es)) (upto v)) (λ w. h u w ∙ sym (row-at u w)) ∙ sym (word-at u (omega arith)))

@@ -5,7 +5,7 @@ use Prim.Native.Nat.{ℕ, _<_}
 use lib.ListN.{length, getD}
 use Rattle.lists.specs.Lists.{any, upto}
 use Rattle.sets.specs.Word.{word, digit}
-use Rattle.paper.specs.Format.{one}
+use Rattle.paper.specs.Format.{editionOne}
 use Rattle.paper.specs.Drawing.{Wire, Edge, joins, joined}
 
 -- of v vertices and the edges es
@@ -15,7 +15,7 @@ neighbourWord es v u = word (map (λ w. any (joins u w) es) (upto v))
 
 unfoldable pub neighbourWords : List Edge → ℕ → List ℕ
 unfolding neighbourWord upto
-neighbourWords es v = map (neighbourWord es v) (upto (one .vmax))
+neighbourWords es v = map (neighbourWord es v) (upto (editionOne .«most_vertices»))
 
 -- the words are those of the drawing d, which has v vertices
 pub record Links (words : List ℕ) (v : ℕ) (d : Wire) : Type 0 where

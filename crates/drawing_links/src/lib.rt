@@ -7,10 +7,10 @@ ghost use Prim.Native.Nat.{ℕ, _≤_, _<_};
 ghost use lib.ListN.{getD};
 ghost use Rattle.lists.specs.Lists.{any, upto};
 ghost use Rattle.sets.specs.Word.{digit};
-ghost use Rattle.paper.specs.Format.{one};
+ghost use Rattle.paper.specs.Format.{editionOne};
 ghost use Rattle.paper.specs.Refusals as No;
 ghost use Rattle.paper.specs.Refusals.{check, firstOf};
-ghost use Rattle.paper.specs.Drawing.{Wire, edgesOf, joined, looseVertex, reached, apart};
+ghost use Rattle.paper.specs.Drawing.{Wire, edgesOf, joined, looseVertex, verticesReached, apart};
 ghost use Rattle.paper_laws.specs.InRange.{Ends};
 ghost use Rattle.drawing_links.specs.Neighbours.{neighbourWords, Links};
 use lists::wide;
@@ -18,12 +18,12 @@ use paper::APART;
 use paper::Answer;
 use paper::LOOSE_VERTEX;
 use paper::MOST_VERTICES;
+use paper::refused;
 use sets::is_set;
-use sheet_counts::refused;
 
 // One word for each vertex: bit w of word u says whether an edge joins u and w.
 pub fn neighbours(ends: &[u8], v: usize) -> [u64; MOST_VERTICES]
-    requires { ⌜ (v ≤ one .vmax) × Ends (now ends) v ⌝ }
+    requires { ⌜ (v ≤ editionOne .«most_vertices») × Ends (now ends) v ⌝ }
     ensures { λ r. ⌜ r ≡ neighbourWords (edgesOf (now (ends .entry))) v ⌝ }
 {
     let mut near = [0u64; MOST_VERTICES];
@@ -40,7 +40,7 @@ pub fn neighbours(ends: &[u8], v: usize) -> [u64; MOST_VERTICES]
 }
 
 pub fn loose_vertex(near: &[u64; MOST_VERTICES], v: usize) -> Answer
-    requires { ⌜ v ≤ one .vmax ⌝ }
+    requires { ⌜ v ≤ editionOne .«most_vertices» ⌝ }
     ensures { λ r. ⌜ ((d : Wire) → Links (now (near .entry)) v d → r ≡ firstOf (check No.LooseVertex (looseVertex d) ∷ [])) ⌝ }
 {
     let mut u = 0;
@@ -55,7 +55,7 @@ pub fn loose_vertex(near: &[u64; MOST_VERTICES], v: usize) -> Answer
 
 // The vertices of a set, and those that one edge more leads to.
 fn further(near: &[u64; MOST_VERTICES], v: usize, set: u64) -> u64
-    requires { ⌜ v ≤ one .vmax ⌝ }
+    requires { ⌜ v ≤ editionOne .«most_vertices» ⌝ }
     ensures { λ r. ⌜ ((d : Wire) → Links (now (near .entry)) v d → (w : ℕ) → digit r w ≡ (digit set w || any (λ u. digit set u && joined d u w) (upto v))) ⌝ }
 {
     let mut more = set;
@@ -70,9 +70,9 @@ fn further(near: &[u64; MOST_VERTICES], v: usize, set: u64) -> u64
 }
 
 // The vertices that edges lead to from vertex 0: once a step finds no more, no later one does.
-fn reached(near: &[u64; MOST_VERTICES], v: usize) -> u64
-    requires { ⌜ v ≤ one .vmax ⌝ }
-    ensures { λ r. ⌜ ((d : Wire) → Links (now (near .entry)) v d → (w : ℕ) → w < v → digit r w ≡ getD (reached d v) w false) ⌝ }
+fn vertices_reached(near: &[u64; MOST_VERTICES], v: usize) -> u64
+    requires { ⌜ v ≤ editionOne .«most_vertices» ⌝ }
+    ensures { λ r. ⌜ ((d : Wire) → Links (now (near .entry)) v d → (w : ℕ) → w < v → digit r w ≡ getD (verticesReached d v) w false) ⌝ }
 {
     let mut set = 1u64;
     let mut k = 0;
@@ -88,10 +88,10 @@ fn reached(near: &[u64; MOST_VERTICES], v: usize) -> u64
 }
 
 pub fn apart(near: &[u64; MOST_VERTICES], v: usize) -> Answer
-    requires { ⌜ v ≤ one .vmax ⌝ }
+    requires { ⌜ v ≤ editionOne .«most_vertices» ⌝ }
     ensures { λ r. ⌜ ((d : Wire) → Links (now (near .entry)) v d → r ≡ firstOf (check No.Apart (apart d) ∷ [])) ⌝ }
 {
-    let set = reached(near, v);
+    let set = vertices_reached(near, v);
     let mut w = 0;
     while w < v {
         if !is_set(set, w) {

@@ -6,7 +6,7 @@ use native.Mathlib.Omega.{arith}
 use lib.IntN.{ℤ, pos}
 use lib.ListN.{length, getD}
 use Rattle.paper.specs.Refusals.{firstOf}
-use Rattle.paper.specs.Format.{one}
+use Rattle.paper.specs.Format.{editionOne}
 use Rattle.paper.specs.Sheet.{contentChecks, lentChecks}
 use Rattle.paper.specs.declared.Answer.the-variants.{Fine}
 use Rattle.paper_laws.proofs.Coordinate.{in-reach}
@@ -18,14 +18,14 @@ module _ (xyz : List ℤ) (ends : List ℕ) (v e : ℕ) (three : length xyz ≡ 
   pub points-are : Points xyz v
   points-are = record { whole = three; near = λ k. record { within = in-reach (getD xyz k (pos 0)) (contents v xyz ends h .near k) } }
 
-  pub ends-are : 6 ≤ e → e ≤ one .emax → Ends ends v
+  pub ends-are : 6 ≤ e → e ≤ editionOne .«most_edges» → Ends ends v
   ends-are least most =
       let c = contents v xyz ends h in
       record { edges = e; whole = two; least = least; most = most; known = λ k u. c .below k (omega arith); rising = λ k u. c .rising k (omega arith) }
 
-pub lent-range : (xyz : List ℤ) (ends : List ℕ) → Fine ≡ firstOf (lentChecks one xyz ends) → InRange xyz ends
+pub lent-range : (xyz : List ℤ) (ends : List ℕ) → Fine ≡ firstOf (lentChecks editionOne xyz ends) → InRange xyz ends
 lent-range xyz ends h =
-    let g = lent one xyz ends h in
+    let g = lent editionOne xyz ends h in
     let v = length xyz / 3 in
     let e = length ends / 2 in
     record {

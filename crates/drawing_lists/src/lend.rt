@@ -6,9 +6,8 @@ ghost use Rattle.paper.specs.Sheet.{badCount, lentChecks};
 use super::content;
 use paper::Answer;
 use paper::Format;
-use sheet_counts::is_early;
+use paper::refused;
 use sheet_counts::is_outside;
-use sheet_counts::refused;
 
 // A list of n numbers that is no whole number of parts of k, or of too few or too many.
 fn is_bad_count(k: usize, lo: u64, hi: u64, n: usize) -> bool
@@ -24,16 +23,11 @@ fn is_bad_count(k: usize, lo: u64, hi: u64, n: usize) -> bool
 pub fn lent(f: Format, xyz: &[i64], ends: &[u8]) -> Answer
     ensures { λ r. ⌜ r ≡ firstOf (lentChecks f (now (xyz .entry)) (now (ends .entry))) ⌝ }
 {
-    if is_bad_count(3, paper::LEAST_VERTICES as u64, f.vmax, xyz.len()) {
+    if is_bad_count(3, paper::LEAST_VERTICES as u64, f.most_vertices, xyz.len()) {
         return refused(paper::BAD_COUNT, 0);
     }
-    if is_bad_count(2, paper::LEAST_EDGES as u64, f.emax, ends.len()) {
+    if is_bad_count(2, paper::LEAST_EDGES as u64, f.most_edges, ends.len()) {
         return refused(paper::BAD_COUNT, 1);
     }
-    let v = xyz.len() / 3;
-    let e = ends.len() / 2;
-    if is_early(f, v as u64, e as u64) {
-        return refused(paper::BAD_COUNT, 0);
-    }
-    content(v, xyz, ends)
+    content(xyz.len() / 3, xyz, ends)
 }

@@ -5,12 +5,12 @@ ghost use mathlib.Core.Path.{_≡_};
 ghost use Prim.Native.Nat.{_+_, _*_, _/_, _<_};
 ghost use lib.ListN.{length};
 ghost use Rattle.lists.specs.Lists.{lowest};
-ghost use Rattle.lists.specs.Place.{found};
+ghost use Rattle.lists.specs.Found.{found};
 ghost use Rattle.paper.specs.Refusals.{firstOf};
-ghost use Rattle.paper.specs.Sheet.{far, farAt, wrong, wrongAt, above, lowAt, edgeChecks, contentChecks};
-use lists::Place;
+ghost use Rattle.paper.specs.Sheet.{far, farAt, wrong, wrongAt, edgeAbove, lowAt, edgeChecks, contentChecks};
+use lists::Found;
 use paper::Answer;
-use sheet_counts::refused;
+use paper::refused;
 
 fn is_far(z: i64) -> bool
     ensures { λ r. ⌜ r ≡ far z ⌝ }
@@ -19,17 +19,17 @@ fn is_far(z: i64) -> bool
 }
 
 // The lowest place of a coordinate out of range.
-fn first_far(xyz: &[i64]) -> Place
+fn first_far(xyz: &[i64]) -> Found
     ensures { λ r. ⌜ found r ≡ lowest (farAt (now (xyz .entry))) (length (now (xyz .entry))) ⌝ }
 {
     let mut i: usize = 0;
     while i < xyz.len() {
         if is_far(xyz[i]) {
-            return Place::At(i);
+            return Found::Value(i);
         }
         i += 1;
     }
-    Place::Nowhere
+    Found::Nothing
 }
 
 fn is_wrong(v: usize, a: u8, b: u8) -> bool
@@ -45,22 +45,22 @@ fn is_wrong(v: usize, a: u8, b: u8) -> bool
 }
 
 // The lowest edge with an end that is no vertex below v, or whose ends do not rise.
-fn first_wrong(v: usize, ends: &[u8]) -> Place
+fn first_wrong(v: usize, ends: &[u8]) -> Found
     ensures { λ r. ⌜ found r ≡ lowest (wrongAt v (now (ends .entry))) (length (now (ends .entry)) / 2) ⌝ }
 {
     let n = ends.len() / 2;
     let mut e: usize = 0;
     while e < n {
         if is_wrong(v, ends[2 * e], ends[2 * e + 1]) {
-            return Place::At(e);
+            return Found::Value(e);
         }
         e += 1;
     }
-    Place::Nowhere
+    Found::Nothing
 }
 
-fn is_above(a0: u8, b0: u8, a: u8, b: u8) -> bool
-    ensures { λ r. ⌜ r ≡ above a0 b0 a b ⌝ }
+fn is_edge_above(a0: u8, b0: u8, a: u8, b: u8) -> bool
+    ensures { λ r. ⌜ r ≡ edgeAbove a0 b0 a b ⌝ }
 {
     if a0 < a {
         return true;
@@ -80,7 +80,7 @@ fn is_low(ends: &[u8], e: usize) -> bool
         return false;
     }
     let b = e - 1;
-    !is_above(
+    !is_edge_above(
         ends[2 * b],
         ends[2 * b + 1],
         ends[2 * b + 2],
@@ -89,18 +89,18 @@ fn is_low(ends: &[u8], e: usize) -> bool
 }
 
 // The lowest edge that is not above the edge before it.
-fn first_low(ends: &[u8]) -> Place
+fn first_low(ends: &[u8]) -> Found
     ensures { λ r. ⌜ found r ≡ lowest (lowAt (now (ends .entry))) (length (now (ends .entry)) / 2) ⌝ }
 {
     let n = ends.len() / 2;
     let mut e: usize = 0;
     while e < n {
         if is_low(ends, e) {
-            return Place::At(e);
+            return Found::Value(e);
         }
         e += 1;
     }
-    Place::Nowhere
+    Found::Nothing
 }
 
 // Refusals 9 and 10.
@@ -108,10 +108,10 @@ fn edges(v: usize, ends: &[u8]) -> Answer
     ensures { λ r. ⌜ r ≡ firstOf (edgeChecks v (now (ends .entry))) ⌝ }
 {
     match first_wrong(v, ends) {
-        Place::At(e) => refused(paper::BAD_EDGE, e),
-        Place::Nowhere => match first_low(ends) {
-            Place::At(e) => refused(paper::EDGE_ORDER, e),
-            Place::Nowhere => Answer::Fine,
+        Found::Value(e) => refused(paper::BAD_EDGE, e),
+        Found::Nothing => match first_low(ends) {
+            Found::Value(e) => refused(paper::EDGE_ORDER, e),
+            Found::Nothing => Answer::Fine,
         },
     }
 }
@@ -121,7 +121,7 @@ pub fn content(v: usize, xyz: &[i64], ends: &[u8]) -> Answer
     ensures { λ r. ⌜ r ≡ firstOf (contentChecks v (now (xyz .entry)) (now (ends .entry))) ⌝ }
 {
     match first_far(xyz) {
-        Place::At(i) => refused(paper::BAD_COORDINATE, i),
-        Place::Nowhere => edges(v, ends),
+        Found::Value(i) => refused(paper::BAD_COORDINATE, i),
+        Found::Nothing => edges(v, ends),
     }
 }

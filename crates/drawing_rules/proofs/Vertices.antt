@@ -9,7 +9,7 @@ use Rattle.paper.specs.Numbers.{farthest}
 use Rattle.paper.specs.Points.{origin}
 use Rattle.paper.specs.Drawing.{Wire, pointsOf, at}
 use Rattle.paper.specs.declared.Point.{Point}
-use Rattle.polygon.specs.Sizes.{Small}
+use Rattle.polygon.specs.Sizes.{PointWithin}
 use Rattle.polygon.specs.Rings.{pointOf}
 use Rattle.polygon.proofs.Rows.{point-small}
 use Rattle.polygon.proofs.Drawn.{point-of}
@@ -34,5 +34,5 @@ module _ {xyz : List ℤ} {v : ℕ} (p : Points xyz v) where
   unfolding at
   vertex-is d e u h = ap (λ (l : List Point). getD l u origin) e ∙ point-of xyz u (vertex-read u h)
 
-  pub vertex-small : (u : ℕ) → Small farthest (pointOf xyz u)
+  pub vertex-small : (u : ℕ) → PointWithin farthest (pointOf xyz u)
   vertex-small = point-small xyz (p .near)

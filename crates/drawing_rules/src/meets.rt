@@ -10,7 +10,7 @@ ghost use Rattle.paper.specs.Numbers.{farthest};
 ghost use Rattle.paper.specs.Refusals as No;
 ghost use Rattle.paper.specs.Refusals.{check, firstOf};
 ghost use Rattle.paper.specs.Drawing.{wire, onOpen, openMeets, edgeMeets};
-ghost use Rattle.polygon.specs.Sizes.{Small};
+ghost use Rattle.polygon.specs.Sizes.{PointWithin};
 ghost use Rattle.polygon.specs.Rings.{pointOf};
 ghost use Rattle.paper_laws.specs.InRange.{Points, Ends};
 ghost use Rattle.drawing_rules.specs.Meets.{meetsAt};
@@ -20,12 +20,12 @@ use lists::wide;
 use paper::Answer;
 use paper::EDGE_MEETS;
 use paper::Point;
+use paper::refused;
 use polygon::rings::point_at;
-use sheet_counts::refused;
 
 // The segment from a to b without its ends has one of the v vertices on it.
 fn meets_vertex(xyz: &[i64], v: usize, a: Point, b: Point) -> bool
-    requires { ⌜ Points (now xyz) v × Small farthest a × Small farthest b ⌝ }
+    requires { ⌜ Points (now xyz) v × PointWithin farthest a × PointWithin farthest b ⌝ }
     ensures { λ r. ⌜ r ≡ any (λ w. onOpen a b (pointOf (now (xyz .entry)) w)) (upto v) ⌝ }
 {
     let mut w = 0;
@@ -48,7 +48,7 @@ fn end_at(xyz: &[i64], v: usize, ends: &[u8], k: usize) -> Point
 
 // Edge e, which goes from a to b, meets another edge.
 fn meets_edge(xyz: &[i64], v: usize, ends: &[u8], e: usize, a: Point, b: Point) -> bool
-    requires { ⌜ Points (now xyz) v × Ends (now ends) v × Small farthest a × Small farthest b ⌝ }
+    requires { ⌜ Points (now xyz) v × Ends (now ends) v × PointWithin farthest a × PointWithin farthest b ⌝ }
     ensures { λ r. ⌜ r ≡ any (λ f. not (eqb e f) && openMeets a b (pointOf (now (xyz .entry)) (getD (now (ends .entry)) (2 * f) 0)) (pointOf (now (xyz .entry)) (getD (now (ends .entry)) (2 * f + 1) 0))) (upto (length (now (ends .entry)) / 2)) ⌝ }
 {
     let n = ends.len() / 2;

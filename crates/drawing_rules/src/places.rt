@@ -13,9 +13,9 @@ ghost use Rattle.polygon.specs.Rings.{pointOf};
 ghost use Rattle.paper_laws.specs.InRange.{Points};
 use paper::Answer;
 use paper::SAME_PLACE;
+use paper::refused;
 use polygon::points::same_point;
 use polygon::rings::point_at;
-use sheet_counts::refused;
 
 // Another vertex is where u is.
 fn shares(xyz: &[i64], v: usize, u: usize) -> bool

@@ -4,7 +4,7 @@ ghost use mathlib.Core.Bool.{_&&_};
 ghost use Rattle.paper.specs.Numbers.{farthest};
 ghost use Rattle.paper.specs.Points.{dot, cross, isZero, isOrigin};
 ghost use Rattle.paper.specs.Drawing.{onOpen, overlap, cutsOpen, openMeets};
-ghost use Rattle.polygon.specs.Sizes.{Small, mostStep, mostNormal};
+ghost use Rattle.polygon.specs.Sizes.{PointWithin, mostStep, mostNormal};
 use paper::Point;
 use polygon::points::cross;
 use polygon::points::dot;
@@ -14,7 +14,7 @@ use polygon::points::minus;
 
 // p is strictly between a and b on their segment.
 pub fn on_open(a: Point, b: Point, p: Point) -> bool
-    requires { ⌜ Small farthest a × Small farthest b × Small farthest p ⌝ }
+    requires { ⌜ PointWithin farthest a × PointWithin farthest b × PointWithin farthest p ⌝ }
     ensures { λ r. ⌜ r ≡ onOpen a b p ⌝ }
 {
     let r = minus(p, a);
@@ -38,7 +38,7 @@ fn cuts_open(t: i64, s: i64, m: i64) -> bool
 
 // Of segments of one direction p, the other with its ends at r and s from the start of the one.
 fn along(p: Point, r: Point, s: Point) -> bool
-    requires { ⌜ Small mostStep p × Small mostStep r × Small mostStep s ⌝ }
+    requires { ⌜ PointWithin mostStep p × PointWithin mostStep r × PointWithin mostStep s ⌝ }
     ensures { λ w. ⌜ w ≡ (isOrigin (cross p r) && overlap (dot p r) (dot p s) (dot p p)) ⌝ }
 {
     if !is_origin(cross(p, r)) {
@@ -50,7 +50,7 @@ fn along(p: Point, r: Point, s: Point) -> bool
 // Of segments of two directions p and q, whose cross product is n, the other starting at r from the start of the one. Most pairs are not
 // in one plane.
 fn across(p: Point, q: Point, r: Point, n: Point) -> bool
-    requires { ⌜ Small mostStep p × Small mostStep q × Small mostStep r × Small mostNormal n ⌝ }
+    requires { ⌜ PointWithin mostStep p × PointWithin mostStep q × PointWithin mostStep r × PointWithin mostNormal n ⌝ }
     ensures { λ w. ⌜ w ≡ (isZero (dot r n) && cutsOpen (dot (cross r q) n) (dot (cross r p) n) (dot n n)) ⌝ }
 {
     if !is_zero(dot(r, n)) {
@@ -61,7 +61,7 @@ fn across(p: Point, q: Point, r: Point, n: Point) -> bool
 
 // The segment from a to b without its ends has a point in common with the one from c to d with its ends.
 pub fn open_meets(a: Point, b: Point, c: Point, d: Point) -> bool
-    requires { ⌜ Small farthest a × Small farthest b × Small farthest c × Small farthest d ⌝ }
+    requires { ⌜ PointWithin farthest a × PointWithin farthest b × PointWithin farthest c × PointWithin farthest d ⌝ }
     ensures { λ r. ⌜ r ≡ openMeets a b c d ⌝ }
 {
     let p = minus(b, a);

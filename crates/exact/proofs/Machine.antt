@@ -50,13 +50,13 @@ Plain ns ρ = Env ns (bitsOf ρ) ρ
 abbrev pub Every : ℕ → List ℤ → Type 0
 Every n ρ = Env (same n ρ) (bitsOf ρ) ρ
 
-abbrev pub bits : List ℕ → Expr → ℕ
-bits κ (var v) = getD κ v 0
-bits κ (con c) = ofZ w64 c
-bits κ (a ⊕ b) = ofZ w64 (toZ w64 (bits κ a) +ℤ toZ w64 (bits κ b))
-bits κ (a ⊖ b) = ofZ w64 (toZ w64 (bits κ a) -ℤ toZ w64 (bits κ b))
-bits κ (a ⊗ b) = ofZ w64 (toZ w64 (bits κ a) *ℤ toZ w64 (bits κ b))
-bits κ (neg a) = ofZ w64 (pos 0 -ℤ toZ w64 (bits κ a))
+abbrev pub machine : List ℕ → Expr → ℕ
+machine κ (var v) = getD κ v 0
+machine κ (con c) = ofZ w64 c
+machine κ (a ⊕ b) = ofZ w64 (toZ w64 (machine κ a) +ℤ toZ w64 (machine κ b))
+machine κ (a ⊖ b) = ofZ w64 (toZ w64 (machine κ a) -ℤ toZ w64 (machine κ b))
+machine κ (a ⊗ b) = ofZ w64 (toZ w64 (machine κ a) *ℤ toZ w64 (machine κ b))
+machine κ (neg a) = ofZ w64 (pos 0 -ℤ toZ w64 (machine κ a))
 
 abbrev pub bound : List ℕ → Expr → ℕ
 bound ns (var v) = getD ns v 0
@@ -85,10 +85,10 @@ both false b t = absurd t
 abbrev pub Asked : List ℕ → Expr → Type 0
 Asked κ (var v) = SFits w64 (toZ w64 (getD κ v 0))
 Asked κ (con c) = SFits w64 c
-Asked κ (a ⊕ b) = SFits w64 (toZ w64 (bits κ a) +ℤ toZ w64 (bits κ b))
-Asked κ (a ⊖ b) = SFits w64 (toZ w64 (bits κ a) -ℤ toZ w64 (bits κ b))
-Asked κ (a ⊗ b) = SFits w64 (toZ w64 (bits κ a) *ℤ toZ w64 (bits κ b))
-Asked κ (neg a) = SFits w64 (pos 0 -ℤ toZ w64 (bits κ a))
+Asked κ (a ⊕ b) = SFits w64 (toZ w64 (machine κ a) +ℤ toZ w64 (machine κ b))
+Asked κ (a ⊖ b) = SFits w64 (toZ w64 (machine κ a) -ℤ toZ w64 (machine κ b))
+Asked κ (a ⊗ b) = SFits w64 (toZ w64 (machine κ a) *ℤ toZ w64 (machine κ b))
+Asked κ (neg a) = SFits w64 (pos 0 -ℤ toZ w64 (machine κ a))
 
 at : {ns κ : List ℕ} {ρ : List ℤ} → Env ns κ ρ → (v : ℕ) → Within (getD ns v 0) (getD ρ v (pos 0))
 at done v = within-lit tt
@@ -128,7 +128,7 @@ fits {ns} env e t = fits-within (top ns e t) (sized env e)
 back : {k : ℕ} {z : ℤ} → k ≡ ofZ w64 z → SFits w64 z → toZ w64 k ≡ z
 back {k} {z} e h = ap (λ (n : ℕ). toZ w64 n) e ∙ toZ-ofZ w64 z h
 
-pub held : {ns κ : List ℕ} {ρ : List ℤ} → Env ns κ ρ → (e : Expr) → T (small ns e) → bits κ e ≡ ofZ w64 (eval ρ e)
+pub held : {ns κ : List ℕ} {ρ : List ℤ} → Env ns κ ρ → (e : Expr) → T (small ns e) → machine κ e ≡ ofZ w64 (eval ρ e)
 held env (var v) t = held-at env v
 held env (con c) t = refl
 held {ns} env (a ⊕ b) t =
@@ -144,7 +144,7 @@ held {ns} {ρ} env (neg a) t =
     let s = both (fitting (bound ns a)) (small ns a) t in
     ap (ofZ w64) (ap (λ (z : ℤ). pos 0 -ℤ z) (back (held env a (s .1)) (fits env a (s .1))) ∙ +ℤ-idl (negℤ (eval ρ a)))
 
-pub reads : {ns κ : List ℕ} {ρ : List ℤ} → Env ns κ ρ → (e : Expr) → T (small ns e) → toZ w64 (bits κ e) ≡ eval ρ e
+pub reads : {ns κ : List ℕ} {ρ : List ℤ} → Env ns κ ρ → (e : Expr) → T (small ns e) → toZ w64 (machine κ e) ≡ eval ρ e
 reads env e t = back (held env e t) (fits env e t)
 
 -- what fits, at an equal number
@@ -188,7 +188,7 @@ pub lit : (z : ℤ) → T (fitting (natAbs z)) → Reads (ofZ w64 z) z
 lit z t = plain (fits-within t (record { within = le-refl (natAbs z) }))
 
 -- of an expression
-pub value : {ns κ : List ℕ} {ρ : List ℤ} → Env ns κ ρ → (e : Expr) → T (small ns e) → Reads (bits κ e) (eval ρ e)
+pub value : {ns κ : List ℕ} {ρ : List ℤ} → Env ns κ ρ → (e : Expr) → T (small ns e) → Reads (machine κ e) (eval ρ e)
 value env e t = record { reading = reads env e t }
 
 module _ {j k : ℕ} {a b : ℤ} (p : Reads j a) (q : Reads k b) where
@@ -209,7 +209,7 @@ eq-left a b h e = h (ap (ofZ w64) e)
 -- ---- a call: a callee is handed what the machine reads back of each argument's bits
 
 -- the callee's bound on an argument
-pub handed : {ns κ : List ℕ} {ρ : List ℤ} (n : ℕ) → Env ns κ ρ → (e : Expr) → T (small ns e) → T (leb (bound ns e) n) → Within n (toZ w64 (bits κ e))
+pub handed : {ns κ : List ℕ} {ρ : List ℤ} (n : ℕ) → Env ns κ ρ → (e : Expr) → T (small ns e) → T (leb (bound ns e) n) → Within n (toZ w64 (machine κ e))
 handed n env e t u = subst (λ (z : ℤ). Within n z) (sym (reads env e t)) (within-up u (sized env e))
 
 -- ---- casts

@@ -12,10 +12,10 @@ use Rattle.paper.specs.FaceList.{faceBits, listBits, span, bitsOf}
 use Rattle.paper.specs.declared.Format.{Format}
 
 module _ (f : Format) where
-  pub length-face : (l : Loop) → length (faceBits f l) ≡ 4 + f .nw * length l
+  pub length-face : (l : Loop) → length (faceBits f l) ≡ 4 + f .«vertex_number_bits» * length l
   unfolding faceBits
   length-face l =
-      length-append (bits 4 (length l)) (run (f .nw) l) ∙ ap₂ (λ (x y : ℕ). x + y) (length-bits 4 (length l)) (length-run (f .nw) l ∙ mul-comm (length l) (f .nw))
+      length-append (bits 4 (length l)) (run (f .«vertex_number_bits») l) ∙ ap₂ (λ (x y : ℕ). x + y) (length-bits 4 (length l)) (length-run (f .«vertex_number_bits») l ∙ mul-comm (length l) (f .«vertex_number_bits»))
 
   pub length-bits-of : (fs : List Loop) → length (flatMap (faceBits f) fs) ≡ span f fs
   unfolding flatMap span
@@ -26,19 +26,19 @@ module _ (f : Format) where
   unfolding flatMap faceBits
   under-bits-of [] i = omega arith
   under-bits-of (l ∷ fs) i =
-      under-append 2 (bits 4 (length l) ++ run (f .nw) l) (flatMap (faceBits f) fs)
-      (under-append 2 (bits 4 (length l)) (run (f .nw) l) (under-bits 4 (length l)) (under-run (f .nw) l)) (under-bits-of fs) i
+      under-append 2 (bits 4 (length l) ++ run (f .«vertex_number_bits») l) (flatMap (faceBits f) fs)
+      (under-append 2 (bits 4 (length l)) (run (f .«vertex_number_bits») l) (under-bits 4 (length l)) (under-run (f .«vertex_number_bits») l)) (under-bits-of fs) i
 
 module _ (f : Format) (fs : List Loop) where
   abbrev pub head : List ℕ
-  head = bits 4 (f .edition) ++ bits (f .fw) (length fs)
+  head = bits 4 (f .edition) ++ bits (f .«face_count_bits») (length fs)
 
-  pub length-head : length head ≡ 4 + f .fw
-  length-head = length-append (bits 4 (f .edition)) (bits (f .fw) (length fs)) ∙ ap₂ (λ (x y : ℕ). x + y) (length-bits 4 (f .edition)) (length-bits (f .fw) (length fs))
+  pub length-head : length head ≡ 4 + f .«face_count_bits»
+  length-head = length-append (bits 4 (f .edition)) (bits (f .«face_count_bits») (length fs)) ∙ ap₂ (λ (x y : ℕ). x + y) (length-bits 4 (f .edition)) (length-bits (f .«face_count_bits») (length fs))
 
-  pub size-is : {b : ℕ} → b ≡ span f fs → 4 + f .fw + b ≡ bitsOf f fs
+  pub size-is : {b : ℕ} → b ≡ span f fs → 4 + f .«face_count_bits» + b ≡ bitsOf f fs
   unfolding bitsOf
-  size-is e = ap (λ (n : ℕ). 4 + f .fw + n) e
+  size-is e = ap (λ (n : ℕ). 4 + f .«face_count_bits» + n) e
 
   pub length-list : length (listBits f fs) ≡ bitsOf f fs
   unfolding listBits bitsOf
@@ -48,4 +48,4 @@ module _ (f : Format) (fs : List Loop) where
   unfolding listBits
   under-list =
       under-append 2 head (flatMap (faceBits f) fs)
-      (under-append 2 (bits 4 (f .edition)) (bits (f .fw) (length fs)) (under-bits 4 (f .edition)) (under-bits (f .fw) (length fs))) (under-bits-of f fs)
+      (under-append 2 (bits 4 (f .edition)) (bits (f .«face_count_bits») (length fs)) (under-bits 4 (f .edition)) (under-bits (f .«face_count_bits») (length fs))) (under-bits-of f fs)

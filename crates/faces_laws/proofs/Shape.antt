@@ -20,7 +20,7 @@ module _ (f : Format) (v : ℕ) where
   pub record Shaped (s : List ℕ) : Type 0 where
     pub edition : fieldAt s 0 4 ≡ f .edition
     pub least : 4 ≤ countIn f s
-    pub most : countIn f s ≤ f .fmax
+    pub most : countIn f s ≤ f .«most_faces»
     pub faces : all (faceFits f v) (facesIn f s) ≡ true
     pub sized : length s ≡ bytesFor (bitsOf f (facesIn f s))
     pub filled : fillAfter (bitsOf f (facesIn f s)) s ≡ 0
@@ -29,14 +29,14 @@ module _ (f : Format) (v : ℕ) where
   unfolding wellShaped
   shape-yes s h =
       let a = eqb (fieldAt s 0 4) (f .edition) in
-      let b = not (outside 4 (f .fmax) (countIn f s)) in
+      let b = not (outside 4 (f .«most_faces») (countIn f s)) in
       let c = all (faceFits f v) (facesIn f s) in
       let d = eqb (length s) (bytesFor (bitsOf f (facesIn f s))) in
       let e = eqb (fillAfter (bitsOf f (facesIn f s)) s) 0 in
       let abcd = and-left (a && b && c && d) e h in
       let abc = and-left (a && b && c) d abcd in
       let ab = and-left (a && b) c abc in
-      let o = outside-false 4 (f .fmax) (countIn f s) (not-true (outside 4 (f .fmax) (countIn f s)) (and-right a b ab)) in
+      let o = outside-false 4 (f .«most_faces») (countIn f s) (not-true (outside 4 (f .«most_faces») (countIn f s)) (and-right a b ab)) in
       record {
         edition = eqb-true _ _ (and-left a b ab);
         least = o .0;

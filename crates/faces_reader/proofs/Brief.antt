@@ -2,11 +2,11 @@
 use Prim.Native.Nat.{ℕ, _≤_, _*_}
 use native.Mathlib.Nat.{mul-le-mul}
 use native.Mathlib.Omega.{arith}
-use Rattle.paper.specs.Format.{one}
+use Rattle.paper.specs.Format.{editionOne}
 use Rattle.faces_reader.specs.Face.{Brief}
 
-pub one-brief : Brief one
-one-brief = record { slender = omega arith; f-held = omega arith; fw-least = omega arith }
+pub one-brief : Brief editionOne
+one-brief = record { slender = omega arith; f-held = omega arith; face-count-wide = omega arith }
 
 -- at most 12 fields of at most 8 bits
 pub corners-small : {w c : ℕ} → w ≤ 8 → c ≤ 12 → w * c ≤ 96

@@ -21,19 +21,19 @@ module _ (f : Format) (v : ℕ) (s : List ℕ) (p : ℕ) where
   corners = fieldAt s p 4
 
   abbrev pub Known : Bool
-  Known = all (λ x. ltb x v) (fieldsAt s (p + 4) (f .nw) corners)
+  Known = all (λ x. ltb x v) (fieldsAt s (p + 4) (f .«vertex_number_bits») corners)
 
-  tests : cond (leb (p + 4 + f .nw * corners) (length s * 8) && (not (outside 3 12 corners) && Known)) (some corners) none ≡ faceAt f v s p
+  tests : cond (leb (p + 4 + f .«vertex_number_bits» * corners) (length s * 8) && (not (outside 3 12 corners) && Known)) (some corners) none ≡ faceAt f v s p
   unfolding faceAt faceFits
-  tests = rw (length-fields s (p + 4) (f .nw) corners) refl
+  tests = rw (length-fields s (p + 4) (f .«vertex_number_bits») corners) refl
 
   -- too few bits
-  pub no-bits : length s * 8 < p + 4 + f .nw * corners → none ≡ faceAt f v s p
-  no-bits h = rw (lt-leb (p + 4 + f .nw * corners) (length s * 8) h) at tests
+  pub no-bits : length s * 8 < p + 4 + f .«vertex_number_bits» * corners → none ≡ faceAt f v s p
+  no-bits h = rw (lt-leb (p + 4 + f .«vertex_number_bits» * corners) (length s * 8) h) at tests
 
-  module _ (h : p + 4 + f .nw * corners ≤ length s * 8) where
+  module _ (h : p + 4 + f .«vertex_number_bits» * corners ≤ length s * 8) where
     fits : cond (not (outside 3 12 corners) && Known) (some corners) none ≡ faceAt f v s p
-    fits = rw (le-leb (p + 4 + f .nw * corners) (length s * 8) h) at tests
+    fits = rw (le-leb (p + 4 + f .«vertex_number_bits» * corners) (length s * 8) h) at tests
 
     -- a corner that is no vertex; all are
     pub no-vertex : outside 3 12 corners ≡ false → Known ≡ false → none ≡ faceAt f v s p
@@ -44,7 +44,7 @@ module _ (f : Format) (v : ℕ) (s : List ℕ) (p : ℕ) where
 
   -- too few or too many corners
   pub no-count : outside 3 12 corners ≡ true → none ≡ faceAt f v s p
-  no-count o = go (leb (p + 4 + f .nw * corners) (length s * 8)) (rw o at tests)
+  no-count o = go (leb (p + 4 + f .«vertex_number_bits» * corners) (length s * 8)) (rw o at tests)
     where
       go : (b : Bool) → cond (b && false) (some corners) none ≡ faceAt f v s p → none ≡ faceAt f v s p
       go true e = e

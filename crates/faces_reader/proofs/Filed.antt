@@ -9,7 +9,7 @@ use Rattle.pack.specs.Fill.{padded}
 use Rattle.pack.proofs.Fill.{length-padded, getD-padded}
 use Rattle.lists.proofs.Passing.{all-yes}
 use Rattle.paper.specs.Numbers.{leastCorners, mostCorners, rowBytes}
-use Rattle.paper.specs.Format.{one}
+use Rattle.paper.specs.Format.{editionOne}
 use Rattle.paper.specs.Loops.{Loop, row}
 use Rattle.paper.specs.FaceList.{noFaces, countIn, facesIn, faceFits, wellShaped, facesOf}
 use Rattle.paper.specs.declared.Format.{Format}
@@ -27,9 +27,9 @@ module _ (v : ℕ) (fs : List Loop)
     (fit : (k : ℕ) → k < length fs
     → (leastCorners ≤ length (getD fs k [])) × (length (getD fs k []) ≤ mostCorners)
     × ((j : ℕ) → j < length (getD fs k []) → getD (getD fs k []) j 0 < v))
-    (few : length fs ≤ one .fmax) where
+    (few : length fs ≤ editionOne .«most_faces») where
   abbrev rows : List ℕ
-  rows = padded (flatMap row fs) (rowBytes * one .fmax) 0
+  rows = padded (flatMap row fs) (rowBytes * editionOne .«most_faces») 0
 
   long : length (flatMap row fs) ≡ 13 * length fs
   long = rows-long fs (λ k h. fit k h .1)
@@ -63,7 +63,7 @@ module _ (v : ℕ) (fs : List Loop)
 
 module _ (f : Format) (v : ℕ) (s : List ℕ) where
   abbrev held : Faces
-  held = record { answer = Fine; count = countIn f s; rows = padded (flatMap row (facesIn f s)) (rowBytes * one .fmax) 0 }
+  held = record { answer = Fine; count = countIn f s; rows = padded (flatMap row (facesIn f s)) (rowBytes * editionOne .«most_faces») 0 }
 
   fine-is : Fine ≡ facesOf f v s .answer → (wellShaped f v s ≡ true) × (facesOf f v s ≡ held)
   unfolding facesOf

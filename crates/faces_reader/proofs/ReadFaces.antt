@@ -89,7 +89,7 @@ module _ (f : Format) (v : ℕ) (s : List ℕ) where
   edition-right = eqb (fieldAt s 0 4) (f .edition)
 
   abbrev count-right : Bool
-  count-right = not (outside 4 (f .fmax) (countIn f s))
+  count-right = not (outside 4 (f .«most_faces») (countIn f s))
 
   abbrev fit-all : Bool
   fit-all = all (faceFits f v) (facesIn f s)
@@ -115,8 +115,8 @@ module _ (f : Format) (v : ℕ) (s : List ℕ) where
     no-list e =
         refuses
         (first-two (leb 2 (length s)) _ _ _ _
-        (λ q. ne-eqb _ _ (long (length s) (4 + f .fw + span f (facesIn f s)) (omega (arith, short q, g .fw-least))))
-        (dropped (leb 2 (length s) && eqb (fieldAt s 0 4) (f .edition) && not (outside 4 (f .fmax) (countIn f s))) (countIn f s) e))
+        (λ q. ne-eqb _ _ (long (length s) (4 + f .«face_count_bits» + span f (facesIn f s)) (omega (arith, short q, g .face-count-wide))))
+        (dropped (leb 2 (length s) && eqb (fieldAt s 0 4) (f .edition) && not (outside 4 (f .«most_faces») (countIn f s))) (countIn f s) e))
       where
         short : leb 2 (length s) ≡ false → length s < 2
         short q = leb-false 2 (length s) q
@@ -130,53 +130,53 @@ module _ (f : Format) (v : ℕ) (s : List ℕ) where
     pub rows-long : length (flatMap row (take k (facesIn f s))) ≡ 13 * k
     pub small : p ≤ 12 + 100 * k
 
-  pub read-start : Brief f → Read 0 (4 + f .fw) (replicate 546 0)
+  pub read-start : Brief f → Read 0 (4 + f .«face_count_bits») (replicate 546 0)
   unfolding bitsOf span all flatMap
   read-start g =
-      record { few = omega arith; place = omega arith; fit = refl; rows-are = padded-none 546 0; rows-long = refl; small = omega (arith, g .slender .fw-most) }
+      record { few = omega arith; place = omega arith; fit = refl; rows-are = padded-none 546 0; rows-long = refl; small = omega (arith, g .slender .face-count-narrow) }
 
   -- what the face at bit p is known to be
   pub record Face (p c : ℕ) : Type 0 where
     pub count-is : c ≡ fieldAt s p 4
-    pub inside : p + 4 + f .nw * c ≤ length s * 8
-    pub fits-in : faceFits f v (fieldsAt s (p + 4) (f .nw) c) ≡ true
+    pub inside : p + 4 + f .«vertex_number_bits» * c ≤ length s * 8
+    pub fits-in : faceFits f v (fieldsAt s (p + 4) (f .«vertex_number_bits») c) ≡ true
     pub corners-most : c ≤ 12
 
   pub face-known : (p : ℕ) {c : ℕ} → some c ≡ faceAt f v s p → Face p c
   unfolding faceAt
   face-known p {c} e =
       let c₀ = fieldAt s p 4 in
-      let a = leb (p + 4 + f .nw * c₀) (length s * 8) in
-      let z = faceFits f v (fieldsAt s (p + 4) (f .nw) c₀) in
+      let a = leb (p + 4 + f .«vertex_number_bits» * c₀) (length s * 8) in
+      let z = faceFits f v (fieldsAt s (p + 4) (f .«vertex_number_bits») c₀) in
       let q = picked (a && z) c₀ e in
       let t : z ≡ true = and-right a z (q .0) in
-      let b : p + 4 + f .nw * fieldAt s p 4 ≤ length s * 8 = leb-true _ _ (and-left a z (q .0)) in
+      let b : p + 4 + f .«vertex_number_bits» * fieldAt s p 4 ≤ length s * 8 = leb-true _ _ (and-left a z (q .0)) in
       let d : c ≡ fieldAt s p 4 = q .1 in
-      let m : length (fieldsAt s (p + 4) (f .nw) c₀) ≤ 12 = face-yes f v (fieldsAt s (p + 4) (f .nw) c₀) t .1 in
-      record { count-is = d; inside = rw d b; fits-in = rw d t; corners-most = omega (arith, d, length-fields s (p + 4) (f .nw) c₀) }
+      let m : length (fieldsAt s (p + 4) (f .«vertex_number_bits») c₀) ≤ 12 = face-yes f v (fieldsAt s (p + 4) (f .«vertex_number_bits») c₀) t .1 in
+      record { count-is = d; inside = rw d b; fits-in = rw d t; corners-most = omega (arith, d, length-fields s (p + 4) (f .«vertex_number_bits») c₀) }
 
   -- one face more
   pub read-next : Brief f → (k p : ℕ) (rows : List ℕ) {c : ℕ} → k < countIn f s → k < 42 → Read k p rows → Face p c
-      → Read (k + 1) (p + 4 + f .nw * c) (paste rows (13 * k) (row (fieldsAt s (p + 4) (f .nw) c)) 13)
+      → Read (k + 1) (p + 4 + f .«vertex_number_bits» * c) (paste rows (13 * k) (row (fieldsAt s (p + 4) (f .«vertex_number_bits») c)) 13)
   read-next g k p rows {c} h few r x =
       let fs = facesIn f s in
       let l = getD fs k [] in
-      let q : fieldsAt s (p + 4) (f .nw) c ≡ l =
-      ap₂ (λ (i n : ℕ). fieldsAt s (i + 4) (f .nw) n) (r .place) (x .count-is ∙ ap (λ (i : ℕ). fieldAt s i 4) (r .place)) ∙ sym (face-is f s k h) in
-      let n : length l ≡ c = sym (ap length q) ∙ length-fields s (p + 4) (f .nw) c in
+      let q : fieldsAt s (p + 4) (f .«vertex_number_bits») c ≡ l =
+      ap₂ (λ (i n : ℕ). fieldsAt s (i + 4) (f .«vertex_number_bits») n) (r .place) (x .count-is ∙ ap (λ (i : ℕ). fieldAt s i 4) (r .place)) ∙ sym (face-is f s k h) in
+      let n : length l ≡ c = sym (ap length q) ∙ length-fields s (p + 4) (f .«vertex_number_bits») c in
       let t : take (k + 1) fs ≡ take k fs ++ (l ∷ []) = rw add-one (take-suc fs k [] (rw (length-in f s) h)) in
       let w : length (row l) ≡ 13 = row-length l (omega (arith, n, x .corners-most)) in
       let m : flatMap row (take (k + 1) fs) ≡ flatMap row (take k fs) ++ row l = ap (flatMap row) t ∙ rows-snoc (take k fs) l in
       record {
         few = omega arith;
-        place = omega (arith, start-more f s k h, r .place, ap (λ (j : ℕ). f .nw * j) n);
+        place = omega (arith, start-more f s k h, r .place, ap (λ (j : ℕ). f .«vertex_number_bits» * j) n);
         fit = rw t (all-snoc (faceFits f v) (take k fs) l (r .fit) (subst (λ (y : List ℕ). faceFits f v y ≡ true) q (x .fits-in)));
         rows-are =
             ap₂ (λ (y z : List ℕ). paste y (13 * k) (row z) 13) (r .rows-are) q
             ∙ padded-paste (flatMap row (take k fs)) (row l) 546 (13 * k) 13 0 (r .rows-long) w (omega arith)
             ∙ ap (λ (y : List ℕ). padded y 546 0) (sym m);
         rows-long = ap length m ∙ length-append (flatMap row (take k fs)) (row l) ∙ omega (arith, r .rows-long, w);
-        small = omega (arith, r .small, corners-small (g .slender .nw-most) (x .corners-most));
+        small = omega (arith, r .small, corners-small (g .slender .vertex-number-narrow) (x .corners-most));
       }
 
   -- a face that is none
@@ -186,15 +186,15 @@ module _ (f : Format) (v : ℕ) (s : List ℕ) where
       let fs = facesIn f s in
       let l = getD fs k [] in
       let c = fieldAt s p 4 in
-      let q : fieldsAt s (p + 4) (f .nw) c ≡ l = ap₂ (λ (i n : ℕ). fieldsAt s (i + 4) (f .nw) n) (r .place) (ap (λ (i : ℕ). fieldAt s i 4) (r .place)) ∙ sym (face-is f s k h) in
-      let n : length l ≡ c = sym (ap length q) ∙ length-fields s (p + 4) (f .nw) c in
-      let b : p + 4 + f .nw * c ≤ bitsOf f fs = omega (arith, start-most f s k h, r .place, ap (λ (j : ℕ). f .nw * j) n) in
-      refuses (go (leb (p + 4 + f .nw * c) (length s * 8)) refl q b (dropped (leb (p + 4 + f .nw * c) (length s * 8) && faceFits f v (fieldsAt s (p + 4) (f .nw) c)) c e))
+      let q : fieldsAt s (p + 4) (f .«vertex_number_bits») c ≡ l = ap₂ (λ (i n : ℕ). fieldsAt s (i + 4) (f .«vertex_number_bits») n) (r .place) (ap (λ (i : ℕ). fieldAt s i 4) (r .place)) ∙ sym (face-is f s k h) in
+      let n : length l ≡ c = sym (ap length q) ∙ length-fields s (p + 4) (f .«vertex_number_bits») c in
+      let b : p + 4 + f .«vertex_number_bits» * c ≤ bitsOf f fs = omega (arith, start-most f s k h, r .place, ap (λ (j : ℕ). f .«vertex_number_bits» * j) n) in
+      refuses (go (leb (p + 4 + f .«vertex_number_bits» * c) (length s * 8)) refl q b (dropped (leb (p + 4 + f .«vertex_number_bits» * c) (length s * 8) && faceFits f v (fieldsAt s (p + 4) (f .«vertex_number_bits») c)) c e))
     where
-      go : (b : Bool) → leb (p + 4 + f .nw * fieldAt s p 4) (length s * 8) ≡ b → fieldsAt s (p + 4) (f .nw) (fieldAt s p 4) ≡ getD (facesIn f s) k []
-          → p + 4 + f .nw * fieldAt s p 4 ≤ bitsOf f (facesIn f s) → (b && faceFits f v (fieldsAt s (p + 4) (f .nw) (fieldAt s p 4))) ≡ false → wellShaped f v s ≡ false
+      go : (b : Bool) → leb (p + 4 + f .«vertex_number_bits» * fieldAt s p 4) (length s * 8) ≡ b → fieldsAt s (p + 4) (f .«vertex_number_bits») (fieldAt s p 4) ≡ getD (facesIn f s) k []
+          → p + 4 + f .«vertex_number_bits» * fieldAt s p 4 ≤ bitsOf f (facesIn f s) → (b && faceFits f v (fieldsAt s (p + 4) (f .«vertex_number_bits») (fieldAt s p 4))) ≡ false → wellShaped f v s ≡ false
       go true t q m z = no-fit (all-fails (faceFits f v) (facesIn f s) [] k (rw (length-in f s) h) (subst (λ (y : List ℕ). faceFits f v y ≡ false) q z))
-      go false t q m z = no-size (omega (arith, leb-false (p + 4 + f .nw * fieldAt s p 4) (length s * 8) t))
+      go false t q m z = no-size (omega (arith, leb-false (p + 4 + f .«vertex_number_bits» * fieldAt s p 4) (length s * 8) t))
 
   -- all faces are read: the end of the list decides
   module _ (k p : ℕ) (rows : List ℕ) (r : Read k p rows) (h : countIn f s ≤ k) (o : some (countIn f s) ≡ countOf f s) where
@@ -203,7 +203,7 @@ module _ (f : Format) (v : ℕ) (s : List ℕ) where
     ends =
         let a : take k (facesIn f s) ≡ facesIn f s = start-all f s k h in
         let e : p ≡ bitsOf f (facesIn f s) = r .place ∙ ap (bitsOf f) a in
-        rw e (last-two (leb 2 (length s)) _ _ _ _ (picked (leb 2 (length s) && eqb (fieldAt s 0 4) (f .edition) && not (outside 4 (f .fmax) (countIn f s))) (countIn f s) o .0) (sym (ap (all (faceFits f v)) a) ∙ r .fit))
+        rw e (last-two (leb 2 (length s)) _ _ _ _ (picked (leb 2 (length s) && eqb (fieldAt s 0 4) (f .edition) && not (outside 4 (f .«most_faces») (countIn f s))) (countIn f s) o .0) (sym (ap (all (faceFits f v)) a) ∙ r .fit))
 
     pub read-ends : closesAt s p ≡ true → record { answer = Answer.Fine; count = countIn f s; rows = rows } ≡ facesOf f v s
     unfolding facesOf
@@ -215,10 +215,10 @@ module _ (f : Format) (v : ℕ) (s : List ℕ) where
 -- the count that was found
 pub count-known : (f : Format) (s : List ℕ) {n : ℕ} → some n ≡ countOf f s → n ≡ countIn f s
 unfolding countOf
-count-known f s e = picked (leb 2 (length s) && eqb (fieldAt s 0 4) (f .edition) && not (outside 4 (f .fmax) (countIn f s))) (countIn f s) e .1
+count-known f s e = picked (leb 2 (length s) && eqb (fieldAt s 0 4) (f .edition) && not (outside 4 (f .«most_faces») (countIn f s))) (countIn f s) e .1
 
-pub count-most : (f : Format) (s : List ℕ) {n : ℕ} → some n ≡ countOf f s → n ≤ f .fmax
+pub count-most : (f : Format) (s : List ℕ) {n : ℕ} → some n ≡ countOf f s → n ≤ f .«most_faces»
 unfolding countOf
 count-most f s e =
-    let q = picked (leb 2 (length s) && eqb (fieldAt s 0 4) (f .edition) && not (outside 4 (f .fmax) (countIn f s))) (countIn f s) e in
-    rw (q .1) (outside-false 4 (f .fmax) (countIn f s) (not-true (outside 4 (f .fmax) (countIn f s)) (and-right (leb 2 (length s) && eqb (fieldAt s 0 4) (f .edition)) (not (outside 4 (f .fmax) (countIn f s))) (q .0))) .1)
+    let q = picked (leb 2 (length s) && eqb (fieldAt s 0 4) (f .edition) && not (outside 4 (f .«most_faces») (countIn f s))) (countIn f s) e in
+    rw (q .1) (outside-false 4 (f .«most_faces») (countIn f s) (not-true (outside 4 (f .«most_faces») (countIn f s)) (and-right (leb 2 (length s) && eqb (fieldAt s 0 4) (f .edition)) (not (outside 4 (f .«most_faces») (countIn f s))) (q .0))) .1)

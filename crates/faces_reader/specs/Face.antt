@@ -6,7 +6,7 @@ use Prim.Native.Nat.{ℕ, _+_, _*_, _≤_}
 use lib.Dec.{leb, eqb}
 use lib.ListN.{length}
 use Rattle.pack.specs.Bits.{fieldAt, fieldsAt}
-use Rattle.paper.specs.Format.{one, leastFaces, editionBits, cornerBits, outside, bytesFor, fillAfter}
+use Rattle.paper.specs.Format.{editionOne, leastFaces, editionBits, cornerBits, outside, bytesFor, fillAfter}
 use Rattle.paper.specs.FaceList.{countIn, faceFits}
 use Rattle.paper.specs.declared.Format.{Format}
 use Rattle.sheet_shape.specs.Narrow.{Narrow}
@@ -14,21 +14,21 @@ use Rattle.sheet_shape.specs.Narrow.{Narrow}
 -- so that a face list by value has room for what a list holds
 pub record Brief (f : Format) : Type 0 where
   pub slender : Narrow f
-  pub f-held : f .fmax ≤ one .fmax
-  pub fw-least : 5 ≤ f .fw
+  pub f-held : f .«most_faces» ≤ editionOne .«most_faces»
+  pub face-count-wide : 5 ≤ f .«face_count_bits»
 
 module _ (f : Format) where
   -- the face count, if edition and count are right and the list has bits for them
   unfoldable pub countOf : List ℕ → Option ℕ
   countOf s =
-      cond (leb 2 (length s) && eqb (fieldAt s 0 editionBits) (f .edition) && not (outside leastFaces (f .fmax) (countIn f s)))
+      cond (leb 2 (length s) && eqb (fieldAt s 0 editionBits) (f .edition) && not (outside leastFaces (f .«most_faces») (countIn f s)))
       (some (countIn f s)) none
 
   -- the corner count of the face at bit p, if it fits a drawing of v vertices and the list has its bits
   unfoldable pub faceAt : ℕ → List ℕ → ℕ → Option ℕ
   faceAt v s p =
       let c = fieldAt s p cornerBits in
-      cond (leb (p + cornerBits + f .nw * c) (length s * 8) && faceFits f v (fieldsAt s (p + cornerBits) (f .nw) c)) (some c) none
+      cond (leb (p + cornerBits + f .«vertex_number_bits» * c) (length s * 8) && faceFits f v (fieldsAt s (p + cornerBits) (f .«vertex_number_bits») c)) (some c) none
 
 -- the list ends with the fill of p bits
 unfoldable pub closesAt : List ℕ → ℕ → Bool

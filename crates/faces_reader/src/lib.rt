@@ -1,15 +1,15 @@
 // Face lists, read at the rim of the service: nothing is assumed of any input.
 ghost use mathlib.Core.Path.{_≡_};
-ghost use Rattle.paper.specs.Format.{one};
+ghost use Rattle.paper.specs.Format.{editionOne};
 ghost use Rattle.paper.specs.FaceList.{facesOf};
 
-pub mod read;
+mod read;
 
 use paper::Faces;
 
 // Reads a packed face list for a drawing of so many vertices: refusal 20, and the faces by value, a row of 13 bytes for each.
 pub fn read_faces(list: &[u8], vertices: usize) -> Faces
-    ensures { λ r. ⌜ r ≡ facesOf one vertices (now (list .entry)) ⌝ }
+    ensures { λ r. ⌜ r ≡ facesOf editionOne vertices (now (list .entry)) ⌝ }
 {
-    read::read(sheet_shape::edition_one(), list, vertices)
+    read::read(paper::edition_one(), list, vertices)
 }

@@ -7,12 +7,12 @@ ghost use lib.ListN.{length, getD};
 ghost use lib.Seq.{paste};
 ghost use Rattle.pack.specs.Bits.{fieldsAt};
 ghost use Rattle.lists.specs.Lists.{all};
-ghost use Rattle.lists.specs.Place.{found};
+ghost use Rattle.lists.specs.Found.{found};
 ghost use Rattle.paper.specs.Loops.{row};
 ghost use Rattle.paper.specs.FaceList.{noFaces, facesOf};
 ghost use Rattle.faces_reader.specs.Face.{Brief};
 ghost use Rattle.faces_reader.specs.Face.{faceAt, countOf, closesAt};
-use lists::Place;
+use lists::Found;
 use paper::Answer;
 use paper::Faces;
 use paper::Format;
@@ -21,28 +21,28 @@ fn no_faces() -> Faces
     ensures { λ r. ⌜ r ≡ noFaces ⌝ }
 {
     Faces {
-        answer: sheet_counts::refused(paper::SHELL_SHAPE, 0),
+        answer: paper::refused(paper::SHELL_SHAPE, 0),
         count: 0,
         rows: [0u8; paper::ROWS],
     }
 }
 
 // The face count, where the list begins as one of this edition.
-fn count_in(f: Format, s: &[u8]) -> Place
+fn count_in(f: Format, s: &[u8]) -> Found
     requires { ⌜ Brief f ⌝ }
     ensures { λ r. ⌜ found r ≡ countOf f (now (s .entry)) ⌝ }
 {
     if s.len() < 2 {
-        return Place::Nowhere;
+        return Found::Nothing;
     }
     if pack::field(s, 0, paper::EDITION_BITS) != f.edition {
-        return Place::Nowhere;
+        return Found::Nothing;
     }
-    let n = pack::field(s, paper::EDITION_BITS, f.fw);
-    if sheet_counts::is_outside(paper::LEAST_FACES as u64, f.fmax, n) {
-        return Place::Nowhere;
+    let n = pack::field(s, paper::EDITION_BITS, f.face_count_bits);
+    if sheet_counts::is_outside(paper::LEAST_FACES as u64, f.most_faces, n) {
+        return Found::Nothing;
     }
-    Place::At(n as usize)
+    Found::Value(n as usize)
 }
 
 // Whether the c numbers of w bits from bit i on are vertices below v.
@@ -61,25 +61,25 @@ fn are_below(v: usize, s: &[u8], i: usize, w: usize, c: usize) -> bool
 }
 
 // The corner count of the face that starts at bit `at`, where there is such a face.
-fn face_at(f: Format, s: &[u8], at: usize, v: usize) -> Place
+fn face_at(f: Format, s: &[u8], at: usize, v: usize) -> Found
     requires { ⌜ Brief f × (at ≤ 8000) ⌝ }
     ensures { λ r. ⌜ found r ≡ faceAt f v (now (s .entry)) at ⌝ }
 {
     if s.len() < (at + 11) / 8 {
-        return Place::Nowhere;
+        return Found::Nothing;
     }
     let c = pack::field(s, at, paper::CORNER_BITS);
     if sheet_counts::is_outside(paper::LEAST_CORNERS as u64, paper::MOST_CORNERS as u64, c) {
-        return Place::Nowhere;
+        return Found::Nothing;
     }
     let n = c as usize;
-    if s.len() < (at + 11 + f.nw * n) / 8 {
-        return Place::Nowhere;
+    if s.len() < (at + 11 + f.vertex_number_bits * n) / 8 {
+        return Found::Nothing;
     }
-    if are_below(v, s, at + paper::CORNER_BITS, f.nw, n) {
-        return Place::At(n);
+    if are_below(v, s, at + paper::CORNER_BITS, f.vertex_number_bits, n) {
+        return Found::Value(n);
     }
-    Place::Nowhere
+    Found::Nothing
 }
 
 // Cell j of the row of the c numbers of w bits from bit i on.
@@ -125,26 +125,26 @@ pub fn read(f: Format, s: &[u8], v: usize) -> Faces
     ensures { λ r. ⌜ r ≡ facesOf f v (now (s .entry)) ⌝ }
 {
     let counted = count_in(f, s);
-    let Place::At(n) = counted else {
+    let Found::Value(n) = counted else {
         return no_faces();
     };
     let mut rows = [0u8; paper::ROWS];
-    let mut at = paper::EDITION_BITS + f.fw;
+    let mut at = paper::EDITION_BITS + f.face_count_bits;
     let mut k: usize = 0;
     while k < n {
         let face = face_at(f, s, at, v);
-        let Place::At(c) = face else {
+        let Found::Value(c) = face else {
             return no_faces();
         };
         put_row(
             s,
             at + paper::CORNER_BITS,
-            f.nw,
+            f.vertex_number_bits,
             c,
             &mut rows,
             paper::ROW * k,
         );
-        at = at + paper::CORNER_BITS + f.nw * c;
+        at = at + paper::CORNER_BITS + f.vertex_number_bits * c;
         k += 1;
     }
     if closes(s, at) {

@@ -66,7 +66,7 @@ module _ (f : Format) (rows : List ℕ) (k : ℕ) where
   row-short h = rw (lt-leb (13 * k + 13) (length rows) h) no-corners
 
   module _ (h : 13 * k + 13 ≤ length rows) where
-    fit : count ≤ 12 → cond (not (outside 3 12 count) && all (λ c. ltb c (f .vmax)) (take count (drop (13 * k + 1) rows))) (some count) none ≡ cornersOf f (rowAt rows k)
+    fit : count ≤ 12 → cond (not (outside 3 12 count) && all (λ c. ltb c (f .«most_vertices»)) (take count (drop (13 * k + 1) rows))) (some count) none ≡ cornersOf f (rowAt rows k)
     unfolding cornersOf faceFits
     fit m = rw (whole-is h m, length-corners rows (13 * k + 1) count (omega arith)) refl
 
@@ -79,10 +79,10 @@ module _ (f : Format) (rows : List ℕ) (k : ℕ) where
         go false e = rw (le-leb (13 * k + 13) (length rows) h, e) no-corners
 
     module _ (o : outside 3 12 count ≡ false) where
-      pub row-high : all (λ c. ltb c (f .vmax)) (take count (drop (13 * k + 1) rows)) ≡ false → none ≡ cornersOf f (rowAt rows k)
+      pub row-high : all (λ c. ltb c (f .«most_vertices»)) (take count (drop (13 * k + 1) rows)) ≡ false → none ≡ cornersOf f (rowAt rows k)
       row-high e = rw (o, e) at (fit (outside-false 3 12 count o .1))
 
-      pub row-face : all (λ c. ltb c (f .vmax)) (take count (drop (13 * k + 1) rows)) ≡ true → some count ≡ cornersOf f (rowAt rows k)
+      pub row-face : all (λ c. ltb c (f .«most_vertices»)) (take count (drop (13 * k + 1) rows)) ≡ true → some count ≡ cornersOf f (rowAt rows k)
       row-face e = rw (o, e) at (fit (outside-false 3 12 count o .1))
 
   -- what is known of a row that fits
@@ -97,7 +97,7 @@ module _ (f : Format) (rows : List ℕ) (k : ℕ) where
   row-whole e = go (leb (13 * k + 13) (length rows)) (leb count 12) refl refl
     where
       empty : fits f [] ≡ true → ⊥
-      empty q = let m : 3 ≤ 0 = face-yes f (f .vmax) [] q .0 in omega arith
+      empty q = let m : 3 ≤ 0 = face-yes f (f .«most_vertices») [] q .0 in omega arith
 
       go : (a b : Bool) → leb (13 * k + 13) (length rows) ≡ a → leb count 12 ≡ b → Whole
       go true true s t =
@@ -114,5 +114,5 @@ unfolding cornersOf
 corners-most f l {c} e = go (fits f l) refl e
   where
     go : (b : Bool) → fits f l ≡ b → some c ≡ cond b (some (length l)) none → c ≤ 12
-    go true t q = let d : c ≡ length l = cc in omega (arith, face-yes f (f .vmax) l t .1)
+    go true t q = let d : c ≡ length l = cc in omega (arith, face-yes f (f .«most_vertices») l t .1)
     go false t q = let z : _≡_ {A = ℕ} 0 1 = cc in absurd (omega arith)

@@ -6,9 +6,9 @@ use Prim.Native.Nat.{ℕ, _+_, _*_, _≤_, _<_}
 use native.Mathlib.Nat.{mul-comm}
 use native.Mathlib.Omega.{arith}
 use lib.ListN.{length, length-append}
-use Rattle.pack.specs.Bits.{bits, run, over, Under}
+use Rattle.pack.specs.Bits.{bits, run, overwrite, Under}
 use Rattle.pack.proofs.Laws.{length-bits, length-run, under-bits, under-run, under-append}
-use Rattle.pack.proofs.Over.{over-none, over-next}
+use Rattle.pack.proofs.Overwrite.{overwrite-none, overwrite-next}
 use Rattle.lists.specs.Lists.{all, keep}
 use Rattle.lists.proofs.Truth.{and-left, and-right, and-both}
 use Rattle.paper.specs.Loops.{Loop}
@@ -23,12 +23,12 @@ module _ (f : Format) where
   -- ---- the bits of a face
 
   -- the count and the corners of one face
-  pub face-put : (l m : Loop) (c : ℕ) (d : List ℕ) (b : ℕ) {r s : List ℕ} → l ≡ m → length l ≡ c → b ≤ length d → r ≡ over d b (bits 4 c) → s ≡ over r (b + 4) (run (f .nw) m)
-      → s ≡ over d b (faceBits f l)
+  pub face-put : (l m : Loop) (c : ℕ) (d : List ℕ) (b : ℕ) {r s : List ℕ} → l ≡ m → length l ≡ c → b ≤ length d → r ≡ overwrite d b (bits 4 c) → s ≡ overwrite r (b + 4) (run (f .«vertex_number_bits») m)
+      → s ≡ overwrite d b (faceBits f l)
   unfolding faceBits
   face-put l m c d b {r} {s} w n h p q =
       let e : b + 4 ≡ b + length (bits 4 c) = omega (arith, length-bits 4 c) in
-      over-next d b (bits 4 c) (b + 4) (run (f .nw) m) r s h e p q ∙ ap₂ (λ (x : ℕ) (t : Loop). over d b (bits 4 x ++ run (f .nw) t)) (sym n) (sym w)
+      overwrite-next d b (bits 4 c) (b + 4) (run (f .«vertex_number_bits») m) r s h e p q ∙ ap₂ (λ (x : ℕ) (t : Loop). overwrite d b (bits 4 x ++ run (f .«vertex_number_bits») t)) (sym n) (sym w)
 
   -- ---- one candidate, taken or not
 
@@ -52,9 +52,9 @@ module _ (f : Format) where
     module _ (k : ℕ) (e : marked taken k ≡ true) where
       pub taken-fits : all (fits f) (faceAlone rows taken turned k) ≡ true → fits f (rowAt rows k) ≡ true
       unfolding faceAlone keep all
-      taken-fits h = sym (way-fits f (f .vmax) (marked turned k) (rowAt rows k)) ∙ and-left (fits f (faceOf rows turned k)) true (rw e at h)
+      taken-fits h = sym (way-fits f (f .«most_vertices») (marked turned k) (rowAt rows k)) ∙ and-left (fits f (faceOf rows turned k)) true (rw e at h)
 
-      pub taken-span : 4 + f .nw * length (rowAt rows k) ≡ span f (faceAlone rows taken turned k)
+      pub taken-span : 4 + f .«vertex_number_bits» * length (rowAt rows k) ≡ span f (faceAlone rows taken turned k)
       unfolding faceAlone keep span
       taken-span = rw (e, way-length (marked turned k) (rowAt rows k)) (omega arith)
 
@@ -67,25 +67,25 @@ module _ (f : Format) where
       unfolding faceAlone keep span
       left-span b = rw e (omega arith)
 
-      pub left-bits : (d : List ℕ) (b : ℕ) → d ≡ over d b (flatMap (faceBits f) (faceAlone rows taken turned k))
+      pub left-bits : (d : List ℕ) (b : ℕ) → d ≡ overwrite d b (flatMap (faceBits f) (faceAlone rows taken turned k))
       unfolding faceAlone keep flatMap
-      left-bits d b = rw e (over-none d b)
+      left-bits d b = rw e (overwrite-none d b)
 
     module _ (room : List ℕ) where
       -- candidate k is next, at bit b of a room that holds last by now
       pub record Sending (k b : ℕ) (last : List ℕ) : Type 0 where
-        pub left : over (run 8 last) b (flatMap (faceBits f) (facesLeft f rows taken turned k)) ≡ over (run 8 room) (4 + f .fw) (flatMap (faceBits f) (solidFaces rows taken turned))
+        pub left : overwrite (run 8 last) b (flatMap (faceBits f) (facesLeft f rows taken turned k)) ≡ overwrite (run 8 room) (4 + f .«face_count_bits») (flatMap (faceBits f) (solidFaces rows taken turned))
         pub fit : all (fits f) (facesLeft f rows taken turned k) ≡ true
         pub place : b + span f (facesLeft f rows taken turned k) ≡ bitsOf f (solidFaces rows taken turned)
 
-      pub send-start : all (fits f) (solidFaces rows taken turned) ≡ true → Sending 0 (4 + f .fw) room
+      pub send-start : all (fits f) (solidFaces rows taken turned) ≡ true → Sending 0 (4 + f .«face_count_bits») room
       unfolding bitsOf
       send-start h =
           let e : solidFaces rows taken turned ≡ facesLeft f rows taken turned 0 = faces-start f rows taken turned in
           record {
-            left = ap (λ (fs : List Loop). over (run 8 room) (4 + f .fw) (flatMap (faceBits f) fs)) (sym e);
+            left = ap (λ (fs : List Loop). overwrite (run 8 room) (4 + f .«face_count_bits») (flatMap (faceBits f) fs)) (sym e);
             fit = ap (all (fits f)) (sym e) ∙ h;
-            place = ap (λ (fs : List Loop). 4 + f .fw + span f fs) (sym e);
+            place = ap (λ (fs : List Loop). 4 + f .«face_count_bits» + span f fs) (sym e);
           }
 
       module _ (k b : ℕ) (last : List ℕ) (h : k < 64) (s : Sending k b last) where
@@ -104,7 +104,7 @@ module _ (f : Format) where
         send-inside = omega (arith, s .place, split)
 
         pub send-next : {c : ℕ} (next : List ℕ) → b ≤ length (run 8 last) → c ≡ b + span f (faceAlone rows taken turned k)
-            → run 8 next ≡ over (run 8 last) b (flatMap (faceBits f) (faceAlone rows taken turned k)) → Sending (k + 1) c next
+            → run 8 next ≡ overwrite (run 8 last) b (flatMap (faceBits f) (faceAlone rows taken turned k)) → Sending (k + 1) c next
         unfolding faceAlone
         send-next {c} next m e q =
             let one = keep (marked taken k) (faceOf rows turned k) [] in
@@ -114,12 +114,12 @@ module _ (f : Format) where
             let n : c ≡ b + length x = e ∙ ap (λ (j : ℕ). b + j) (sym (length-bits-of f one)) in
             let w : flatMap (faceBits f) (facesLeft f rows taken turned k) ≡ x ++ y = ap (flatMap (faceBits f)) more ∙ keep-bits (marked taken k) (faceOf rows turned k) rest in
             record {
-              left = over-next (run 8 last) b x c y (run 8 next) (over (run 8 next) c y) m n q refl ∙ ap (over (run 8 last) b) (sym w) ∙ s .left;
+              left = overwrite-next (run 8 last) b x c y (run 8 next) (overwrite (run 8 next) c y) m n q refl ∙ ap (overwrite (run 8 last) b) (sym w) ∙ s .left;
               fit = keep-fit (marked taken k) (faceOf rows turned k) rest (sym (ap (all (fits f)) more) ∙ s .fit) .1;
               place = omega (arith, s .place, split, e);
             }
 
-      pub send-end : (k b : ℕ) (last : List ℕ) → 64 ≤ k → Sending k b last → run 8 last ≡ over (run 8 room) (4 + f .fw) (flatMap (faceBits f) (solidFaces rows taken turned))
+      pub send-end : (k b : ℕ) (last : List ℕ) → 64 ≤ k → Sending k b last → run 8 last ≡ overwrite (run 8 room) (4 + f .«face_count_bits») (flatMap (faceBits f) (solidFaces rows taken turned))
       unfolding flatMap
       send-end k b last h s =
-          over-none (run 8 last) b ∙ ap (λ (fs : List Loop). over (run 8 last) b (flatMap (faceBits f) fs)) (sym (faces-end f rows taken turned k h)) ∙ s .left
+          overwrite-none (run 8 last) b ∙ ap (λ (fs : List Loop). overwrite (run 8 last) b (flatMap (faceBits f) fs)) (sym (faces-end f rows taken turned k h)) ∙ s .left

@@ -6,9 +6,9 @@ use Prim.Native.Nat.{ℕ, _+_, _*_, _-_, _^_, _≤_, _<_, zero-le}
 use native.Mathlib.Omega.{arith}
 use borrow.Author.Tests.{lt-ltb, le-ltb}
 use lib.ListN.{length, drop, length-append}
-use Rattle.pack.specs.Bits.{bits, run, over, Under}
+use Rattle.pack.specs.Bits.{bits, run, overwrite, Under}
 use Rattle.pack.proofs.Laws.{length-bits, under-bits, under-append}
-use Rattle.pack.proofs.Over.{over-next}
+use Rattle.pack.proofs.Overwrite.{overwrite-next}
 use Rattle.paper_laws.proofs.Checks.{holds, fails, clear}
 use Rattle.lists.specs.Lists.{all}
 use Rattle.paper.specs.Refusals as No
@@ -28,24 +28,24 @@ module _ (f : Format) (fs : List Loop) where
   -- ---- the list's bytes
 
   -- the four stretches of a list
-  list-put : (d : List ℕ) {r1 r2 r3 r4 : List ℕ} {n b : ℕ} → n ≡ length fs → b ≡ bitsOf f fs → r1 ≡ over d 0 (bits 4 (f .edition)) → r2 ≡ over r1 4 (bits (f .fw) n)
-      → r3 ≡ over r2 (4 + f .fw) (flatMap (faceBits f) fs) → r4 ≡ over r3 b (bits (bytesFor b * 8 - b) 0)
-      → r4 ≡ over d 0 (listBits f fs ++ bits (bytesFor (bitsOf f fs) * 8 - bitsOf f fs) 0)
+  list-put : (d : List ℕ) {r1 r2 r3 r4 : List ℕ} {n b : ℕ} → n ≡ length fs → b ≡ bitsOf f fs → r1 ≡ overwrite d 0 (bits 4 (f .edition)) → r2 ≡ overwrite r1 4 (bits (f .«face_count_bits») n)
+      → r3 ≡ overwrite r2 (4 + f .«face_count_bits») (flatMap (faceBits f) fs) → r4 ≡ overwrite r3 b (bits (bytesFor b * 8 - b) 0)
+      → r4 ≡ overwrite d 0 (listBits f fs ++ bits (bytesFor (bitsOf f fs) * 8 - bitsOf f fs) 0)
   unfolding listBits
   list-put d {r1} {r2} {r3} {r4} {n} {b} hn hb p1 p2 p3 p4 =
       let x = bits 4 (f .edition) in
-      let y = bits (f .fw) (length fs) in
+      let y = bits (f .«face_count_bits») (length fs) in
       let z = flatMap (faceBits f) fs in
       let t = bitsOf f fs in
-      let e1 : r2 ≡ over d 0 (x ++ y) = over-next d 0 x 4 y r1 r2 zero-le (omega (arith, length-bits 4 (f .edition))) p1 (p2 ∙ ap (λ (m : ℕ). over r1 4 (bits (f .fw) m)) hn) in
-      let e2 : r3 ≡ over d 0 (x ++ y ++ z) = over-next d 0 (x ++ y) (4 + f .fw) z r2 r3 zero-le (omega (arith, length-head f fs)) e1 p3 in
+      let e1 : r2 ≡ overwrite d 0 (x ++ y) = overwrite-next d 0 x 4 y r1 r2 zero-le (omega (arith, length-bits 4 (f .edition))) p1 (p2 ∙ ap (λ (m : ℕ). overwrite r1 4 (bits (f .«face_count_bits») m)) hn) in
+      let e2 : r3 ≡ overwrite d 0 (x ++ y ++ z) = overwrite-next d 0 (x ++ y) (4 + f .«face_count_bits») z r2 r3 zero-le (omega (arith, length-head f fs)) e1 p3 in
       let l : t ≡ 0 + length (x ++ y ++ z) = omega (arith, length-list f fs) in
-      over-next d 0 (x ++ y ++ z) t (bits (bytesFor t * 8 - t) 0) r3 r4 zero-le l e2 (p4 ∙ ap (λ (m : ℕ). over r3 m (bits (bytesFor m * 8 - m) 0)) hb)
+      overwrite-next d 0 (x ++ y ++ z) t (bits (bytesFor t * 8 - t) 0) r3 r4 zero-le l e2 (p4 ∙ ap (λ (m : ℕ). overwrite r3 m (bits (bytesFor m * 8 - m) 0)) hb)
 
   -- the list and then the room's bytes
   pub listed : (room last : List ℕ) {r1 r2 r3 : List ℕ} {n b : ℕ} → n ≡ length fs → b ≡ bitsOf f fs → bytesFor (bitsOf f fs) ≤ length room → length last ≡ length room
-      → Under (2 ^ 8) room → Under (2 ^ 8) last → r1 ≡ over (run 8 room) 0 (bits 4 (f .edition)) → r2 ≡ over r1 4 (bits (f .fw) n)
-      → r3 ≡ over r2 (4 + f .fw) (flatMap (faceBits f) fs) → run 8 last ≡ over r3 b (bits (bytesFor b * 8 - b) 0)
+      → Under (2 ^ 8) room → Under (2 ^ 8) last → r1 ≡ overwrite (run 8 room) 0 (bits 4 (f .edition)) → r2 ≡ overwrite r1 4 (bits (f .«face_count_bits») n)
+      → r3 ≡ overwrite r2 (4 + f .«face_count_bits») (flatMap (faceBits f) fs) → run 8 last ≡ overwrite r3 b (bits (bytesFor b * 8 - b) 0)
       → last ≡ encodeFaces f fs ++ drop (bytesFor (bitsOf f fs)) room
   unfolding encodeFaces
   listed room last hn hb h l ur ul p1 p2 p3 p4 =
@@ -68,14 +68,14 @@ module _ (f : Format) (fs : List Loop) where
 
     pub result-misfit : all (fits f) fs ≡ false → Result (Written.Refused (record { number = No.ShellShape; place = 0 })) room
     unfolding sendChecks
-    result-misfit e = from (holds _ _ _ (either (outside 4 (f .fmax) (length fs)) e))
+    result-misfit e = from (holds _ _ _ (either (outside 4 (f .«most_faces») (length fs)) e))
 
-    pub result-count : outside 4 (f .fmax) (length fs) ≡ true → Result (Written.Refused (record { number = No.ShellShape; place = 0 })) room
+    pub result-count : outside 4 (f .«most_faces») (length fs) ≡ true → Result (Written.Refused (record { number = No.ShellShape; place = 0 })) room
     unfolding sendChecks
     result-count e = from (holds _ _ _ (ap (λ (b : Bool). b || not (all (fits f) fs)) e))
 
-    module _ (o : outside 4 (f .fmax) (length fs) ≡ false) (e : all (fits f) fs ≡ true) where
-      neither : (outside 4 (f .fmax) (length fs) || not (all (fits f) fs)) ≡ false
+    module _ (o : outside 4 (f .«most_faces») (length fs) ≡ false) (e : all (fits f) fs ≡ true) where
+      neither : (outside 4 (f .«most_faces») (length fs) || not (all (fits f) fs)) ≡ false
       neither = rw (o, e) refl
 
       pub result-short : length room < bytesFor (bitsOf f fs) → Result (Written.Refused (record { number = No.NoRoom; place = 0 })) room

@@ -47,8 +47,8 @@ module _ (f : Format) where
   unfolding weight all span keep
   weight-keep true l fs = go (fits f l) (all (fits f) fs)
     where
-      go : (x y : Bool) → cond (x && y) (Of (suc (length fs)) (4 + f .nw * length l + span f fs)) Misfit
-          ≡ plus (cond (x && true) (Of 1 (4 + f .nw * length l + 0)) Misfit) (cond y (Of (length fs) (span f fs)) Misfit)
+      go : (x y : Bool) → cond (x && y) (Of (suc (length fs)) (4 + f .«vertex_number_bits» * length l + span f fs)) Misfit
+          ≡ plus (cond (x && true) (Of 1 (4 + f .«vertex_number_bits» * length l + 0)) Misfit) (cond y (Of (length fs) (span f fs)) Misfit)
       go true true = of (omega arith) (omega arith)
       go true false = refl
       go false y = refl
@@ -83,7 +83,7 @@ module _ (f : Format) where
   span-small g (l ∷ fs) h =
       let a = and-left (fits f l) (all (fits f) fs) h in
       let b = and-right (fits f l) (all (fits f) fs) h in
-      omega (arith, span-small g fs b, corners-small (g .slender .nw-most) (face-yes f (f .vmax) l a .1))
+      omega (arith, span-small g fs b, corners-small (g .slender .vertex-number-narrow) (face-yes f (f .«most_vertices») l a .1))
 
   module _ (rows : List ℕ) (taken : ℕ) where
     -- one candidate: not taken, no face, a face
@@ -91,14 +91,14 @@ module _ (f : Format) where
     unfolding faceAlone keep
     weigh-left k e turned = rw e (sym weight-none)
 
-    weigh-one : (k turned : ℕ) → marked taken k ≡ true → cond (fits f (rowAt rows k)) (Of 1 (4 + f .nw * length (rowAt rows k))) Misfit ≡ weight f (faceAlone rows taken turned k)
+    weigh-one : (k turned : ℕ) → marked taken k ≡ true → cond (fits f (rowAt rows k)) (Of 1 (4 + f .«vertex_number_bits» * length (rowAt rows k))) Misfit ≡ weight f (faceAlone rows taken turned k)
     unfolding faceAlone keep weight all span
     weigh-one k turned e =
         let l = rowAt rows k in
         let b = marked turned k in
-        rw (e, way-fits f (f .vmax) b l, way-length b l) (go (fits f l))
+        rw (e, way-fits f (f .«most_vertices») b l, way-length b l) (go (fits f l))
       where
-        go : (b : Bool) → cond b (Of 1 (4 + f .nw * length (rowAt rows k))) Misfit ≡ cond (b && true) (Of 1 (4 + f .nw * length (rowAt rows k) + 0)) Misfit
+        go : (b : Bool) → cond b (Of 1 (4 + f .«vertex_number_bits» * length (rowAt rows k))) Misfit ≡ cond (b && true) (Of 1 (4 + f .«vertex_number_bits» * length (rowAt rows k) + 0)) Misfit
         go true = of refl (omega arith)
         go false = refl
 
@@ -106,18 +106,18 @@ module _ (f : Format) where
     unfolding cornersOf
     weigh-none k e q turned = go (fits f (rowAt rows k)) q (weigh-one k turned e)
       where
-        go : (b : Bool) → none ≡ cond b (some (length (rowAt rows k))) none → cond b (Of 1 (4 + f .nw * length (rowAt rows k))) Misfit ≡ weight f (faceAlone rows taken turned k)
+        go : (b : Bool) → none ≡ cond b (some (length (rowAt rows k))) none → cond b (Of 1 (4 + f .«vertex_number_bits» * length (rowAt rows k))) Misfit ≡ weight f (faceAlone rows taken turned k)
             → Misfit ≡ weight f (faceAlone rows taken turned k)
         go true q w = let z : _≡_ {A = ℕ} 0 1 = cc in absurd (omega arith)
         go false q w = w
 
-    pub weigh-face : (k : ℕ) {c : ℕ} → marked taken k ≡ true → some c ≡ cornersOf f (rowAt rows k) → (turned : ℕ) → Of 1 (4 + f .nw * c) ≡ weight f (faceAlone rows taken turned k)
+    pub weigh-face : (k : ℕ) {c : ℕ} → marked taken k ≡ true → some c ≡ cornersOf f (rowAt rows k) → (turned : ℕ) → Of 1 (4 + f .«vertex_number_bits» * c) ≡ weight f (faceAlone rows taken turned k)
     unfolding cornersOf
     weigh-face k {c} e q turned = go (fits f (rowAt rows k)) q (weigh-one k turned e)
       where
-        go : (b : Bool) → some c ≡ cond b (some (length (rowAt rows k))) none → cond b (Of 1 (4 + f .nw * length (rowAt rows k))) Misfit ≡ weight f (faceAlone rows taken turned k)
-            → Of 1 (4 + f .nw * c) ≡ weight f (faceAlone rows taken turned k)
-        go true q w = let d : c ≡ length (rowAt rows k) = cc in ap (λ (n : ℕ). Of 1 (4 + f .nw * n)) d ∙ w
+        go : (b : Bool) → some c ≡ cond b (some (length (rowAt rows k))) none → cond b (Of 1 (4 + f .«vertex_number_bits» * length (rowAt rows k))) Misfit ≡ weight f (faceAlone rows taken turned k)
+            → Of 1 (4 + f .«vertex_number_bits» * c) ≡ weight f (faceAlone rows taken turned k)
+        go true q w = let d : c ≡ length (rowAt rows k) = cc in ap (λ (n : ℕ). Of 1 (4 + f .«vertex_number_bits» * n)) d ∙ w
         go false q w = let z : _≡_ {A = ℕ} 0 1 = cc in absurd (omega arith)
 
     -- the faces from candidate k on

@@ -4,7 +4,7 @@ use mathlib.Core.Option.{Option, none, some}
 use mathlib.Core.List.{List, []}
 use Prim.Native.Nat.{ℕ}
 use lib.ListN.{length}
-use Rattle.sets.specs.Word.{bits, dig}
+use Rattle.sets.specs.Word.{digits, dig}
 use Rattle.lists.specs.Lists.{all, keep}
 use Rattle.paper.specs.Numbers.{mostCandidates}
 use Rattle.paper.specs.Loops.{Loop, flipped}
@@ -19,7 +19,7 @@ way b l = cond b (flipped l) l
 
 -- a word has the bit of candidate k
 abbrev pub marked : ℕ → ℕ → Bool
-marked w k = dig (bits mostCandidates w) k
+marked w k = dig (digits mostCandidates w) k
 
 -- candidate k as a solid has it, and as the list of one or of none
 abbrev pub faceOf : List ℕ → ℕ → ℕ → Loop
@@ -31,11 +31,11 @@ faceAlone rows taken turned k = keep (marked taken k) (faceOf rows turned k) []
 module _ (f : Format) where
   -- a face that a list can have
   abbrev pub fits : Loop → Bool
-  fits = faceFits f (f .vmax)
+  fits = faceFits f (f .«most_vertices»)
 
   unfoldable pub cornersOf : Loop → Option ℕ
   cornersOf l = cond (fits l) (some (length l)) none
 
-  -- the count and the bits of faces that all fit
+  -- the count and the digits of faces that all fit
   unfoldable pub weight : List Loop → Extent
   weight fs = cond (all fits fs) (Of (length fs) (span f fs)) Misfit

@@ -1,16 +1,16 @@
 // Face lists, written at the rim of the service: nothing is assumed of any input.
 ghost use mathlib.Core.Path.{_≡_};
-ghost use Rattle.paper.specs.Format.{one};
+ghost use Rattle.paper.specs.Format.{editionOne};
 ghost use Rattle.paper.specs.FaceList.{solidFaces, sentOf, sentRoom};
 
-pub mod write;
+mod write;
 
 use paper::Written;
 
 // Writes a reported solid as a face list to the start of the room, from the report's rows and the first two words of the solid: refusal 20, then 1. Later room keeps its contents.
 pub fn write_faces(rows: &[u8], taken: u64, turned: u64, room: &mut [u8]) -> Written
-    ensures answer { λ r. ⌜ r ≡ sentOf one (solidFaces (now (rows .entry)) taken turned) (now (room .entry)) ⌝ }
-    ensures kept { λ _. ⌜ now (room .exit) ≡ sentRoom one (solidFaces (now (rows .entry)) taken turned) (now (room .entry)) ⌝ }
+    ensures answer { λ r. ⌜ r ≡ sentOf editionOne (solidFaces (now (rows .entry)) taken turned) (now (room .entry)) ⌝ }
+    ensures kept { λ _. ⌜ now (room .exit) ≡ sentRoom editionOne (solidFaces (now (rows .entry)) taken turned) (now (room .entry)) ⌝ }
 {
-    write::write(sheet_shape::edition_one(), rows, taken, turned, room)
+    write::write(paper::edition_one(), rows, taken, turned, room)
 }

@@ -5,14 +5,14 @@ ghost use mathlib.Core.List.{_++_, flatMap};
 ghost use Prim.Native.Nat.{ℕ, _+_, _*_, _≤_, _<_};
 ghost use lib.Dec.{ltb};
 ghost use lib.ListN.{length, getD, take, drop};
-ghost use Rattle.pack.specs.Bits.{run, over};
+ghost use Rattle.pack.specs.Bits.{run, overwrite};
 ghost use Rattle.lists.specs.Lists.{all};
-ghost use Rattle.lists.specs.Place.{found};
+ghost use Rattle.lists.specs.Found.{found};
 ghost use Rattle.paper.specs.Format.{bytesFor};
 ghost use Rattle.paper.specs.FaceList.{faceBits, encodeFaces, span, bitsOf, rowAt, solidFaces, sentOf, sentRoom};
 ghost use Rattle.faces_reader.specs.Face.{Brief};
 ghost use Rattle.faces_writer.specs.Send.{way, faceAlone, fits, cornersOf, weight};
-use lists::Place;
+use lists::Found;
 use paper::Format;
 use paper::Refusal;
 use paper::Written;
@@ -40,23 +40,23 @@ fn are_under(v: u64, rows: &[u8], i: usize, c: usize) -> bool
 }
 
 // The corner count of candidate k, where it is a face.
-fn row_fits(f: Format, rows: &[u8], k: usize) -> Place
+fn row_fits(f: Format, rows: &[u8], k: usize) -> Found
     requires { ⌜ k < 64 ⌝ }
     ensures { λ r. ⌜ found r ≡ cornersOf f (rowAt (now (rows .entry)) k) ⌝ }
 {
     let first = paper::ROW * k;
     if rows.len() < first + paper::ROW {
-        return Place::Nowhere;
+        return Found::Nothing;
     }
     let c = rows[first] as u64;
     if sheet_counts::is_outside(paper::LEAST_CORNERS as u64, paper::MOST_CORNERS as u64, c) {
-        return Place::Nowhere;
+        return Found::Nothing;
     }
     let n = c as usize;
-    if are_under(f.vmax, rows, first + 1, n) {
-        return Place::At(n);
+    if are_under(f.most_vertices, rows, first + 1, n) {
+        return Found::Value(n);
     }
-    Place::Nowhere
+    Found::Nothing
 }
 
 // What candidate k weighs: nothing where it is not taken.
@@ -66,10 +66,10 @@ fn weigh(f: Format, rows: &[u8], taken: u64, k: usize) -> Extent
 {
     if is_set(taken, k) {
         let fit = row_fits(f, rows, k);
-        let Place::At(c) = fit else {
+        let Found::Value(c) = fit else {
             return Extent::Misfit;
         };
-        return Extent::Of(1, paper::CORNER_BITS + f.nw * c);
+        return Extent::Of(1, paper::CORNER_BITS + f.vertex_number_bits * c);
     }
     Extent::Of(0, 0)
 }
@@ -111,7 +111,7 @@ fn corner(rows: &[u8], i: usize, c: usize, back: bool, j: usize) -> u64
 // Writes these corners into the fields of w bits from bit b on.
 fn put_corners(rows: &[u8], i: usize, c: usize, back: bool, room: &mut [u8], b: usize, w: usize)
     requires { ⌜ (i + c ≤ length (now rows)) × (w ≤ 8) × (c ≤ 12) × (b + w * c ≤ length (now room) * 8) × (b ≤ 8192) ⌝ }
-    ensures { λ _. ⌜ run 8 (now (room .exit)) ≡ over (run 8 (now (room .entry))) b (run w (way back (take c (drop i (now (rows .entry)))))) ⌝ }
+    ensures { λ _. ⌜ run 8 (now (room .exit)) ≡ overwrite (run 8 (now (room .entry))) b (run w (way back (take c (drop i (now (rows .entry)))))) ⌝ }
 {
     let mut j: usize = 0;
     while j < c {
@@ -122,15 +122,23 @@ fn put_corners(rows: &[u8], i: usize, c: usize, back: bool, room: &mut [u8], b: 
 
 // Writes candidate k as a face at bit b, and answers the bit behind it.
 fn put_face(f: Format, rows: &[u8], k: usize, back: bool, room: &mut [u8], b: usize) -> usize
-    requires { ⌜ Brief f × (k < 64) × (fits f (rowAt (now rows) k) ≡ true) × (b + (4 + f .nw * length (rowAt (now rows) k)) ≤ length (now room) * 8) × (b ≤ 8000) ⌝ }
-    ensures end { λ r. ⌜ r ≡ b + (4 + f .nw * length (rowAt (now (rows .entry)) k)) ⌝ }
-    ensures put { λ _. ⌜ run 8 (now (room .exit)) ≡ over (run 8 (now (room .entry))) b (faceBits f (way back (rowAt (now (rows .entry)) k))) ⌝ }
+    requires { ⌜ Brief f × (k < 64) × (fits f (rowAt (now rows) k) ≡ true) × (b + (4 + f .«vertex_number_bits» * length (rowAt (now rows) k)) ≤ length (now room) * 8) × (b ≤ 8000) ⌝ }
+    ensures end { λ r. ⌜ r ≡ b + (4 + f .«vertex_number_bits» * length (rowAt (now (rows .entry)) k)) ⌝ }
+    ensures put { λ _. ⌜ run 8 (now (room .exit)) ≡ overwrite (run 8 (now (room .entry))) b (faceBits f (way back (rowAt (now (rows .entry)) k))) ⌝ }
 {
     let first = paper::ROW * k;
     let c = rows[first] as usize;
     pack::put(room, b, paper::CORNER_BITS, c as u64);
-    put_corners(rows, first + 1, c, back, room, b + paper::CORNER_BITS, f.nw);
-    b + (paper::CORNER_BITS + f.nw * c)
+    put_corners(
+        rows,
+        first + 1,
+        c,
+        back,
+        room,
+        b + paper::CORNER_BITS,
+        f.vertex_number_bits,
+    );
+    b + (paper::CORNER_BITS + f.vertex_number_bits * c)
 }
 
 // The same where it is taken; else nothing.
@@ -145,7 +153,7 @@ fn put_taken(
 ) -> usize
     requires { ⌜ Brief f × (k < 64) × (all (fits f) (faceAlone (now rows) taken turned k) ≡ true) × (b + span f (faceAlone (now rows) taken turned k) ≤ length (now room) * 8) × (b ≤ 8000) ⌝ }
     ensures end { λ r. ⌜ r ≡ b + span f (faceAlone (now (rows .entry)) taken turned k) ⌝ }
-    ensures put { λ _. ⌜ run 8 (now (room .exit)) ≡ over (run 8 (now (room .entry))) b (flatMap (faceBits f) (faceAlone (now (rows .entry)) taken turned k)) ⌝ }
+    ensures put { λ _. ⌜ run 8 (now (room .exit)) ≡ overwrite (run 8 (now (room .entry))) b (flatMap (faceBits f) (faceAlone (now (rows .entry)) taken turned k)) ⌝ }
 {
     if is_set(taken, k) {
         return put_face(f, rows, k, is_set(turned, k), room, b);
@@ -156,9 +164,9 @@ fn put_taken(
 // Writes the solid's faces behind the head.
 fn put_faces(f: Format, rows: &[u8], taken: u64, turned: u64, room: &mut [u8])
     requires { ⌜ Brief f × (all (fits f) (solidFaces (now rows) taken turned) ≡ true) × (bitsOf f (solidFaces (now rows) taken turned) ≤ length (now room) * 8) × (bitsOf f (solidFaces (now rows) taken turned) ≤ 8000) ⌝ }
-    ensures { λ _. ⌜ run 8 (now (room .exit)) ≡ over (run 8 (now (room .entry))) (4 + f .fw) (flatMap (faceBits f) (solidFaces (now (rows .entry)) taken turned)) ⌝ }
+    ensures { λ _. ⌜ run 8 (now (room .exit)) ≡ overwrite (run 8 (now (room .entry))) (4 + f .«face_count_bits») (flatMap (faceBits f) (solidFaces (now (rows .entry)) taken turned)) ⌝ }
 {
-    let mut b = paper::EDITION_BITS + f.fw;
+    let mut b = paper::EDITION_BITS + f.face_count_bits;
     let mut k: usize = 0;
     while k < paper::MOST_CANDIDATES {
         b = put_taken(f, rows, taken, turned, k, room, b);
@@ -172,9 +180,9 @@ fn put_list(f: Format, rows: &[u8], taken: u64, turned: u64, room: &mut [u8], n:
     ensures { λ _. ⌜ now (room .exit) ≡ encodeFaces f (solidFaces (now (rows .entry)) taken turned) ++ drop (bytesFor (bitsOf f (solidFaces (now (rows .entry)) taken turned))) (now (room .entry)) ⌝ }
 {
     pack::put(room, 0, paper::EDITION_BITS, f.edition);
-    pack::put(room, paper::EDITION_BITS, f.fw, n as u64);
+    pack::put(room, paper::EDITION_BITS, f.face_count_bits, n as u64);
     put_faces(f, rows, taken, turned, room);
-    sheet_writer::write::put_fill(room, paper::EDITION_BITS + f.fw + b);
+    pack::put_fill(room, paper::EDITION_BITS + f.face_count_bits + b);
 }
 
 fn refused(number: u8) -> Written
@@ -193,10 +201,10 @@ pub fn write(f: Format, rows: &[u8], taken: u64, turned: u64, room: &mut [u8]) -
     let Extent::Of(n, b) = weighed else {
         return refused(paper::SHELL_SHAPE);
     };
-    if sheet_counts::is_outside(paper::LEAST_FACES as u64, f.fmax, n as u64) {
+    if sheet_counts::is_outside(paper::LEAST_FACES as u64, f.most_faces, n as u64) {
         return refused(paper::SHELL_SHAPE);
     }
-    let size = (paper::EDITION_BITS + f.fw + b + 7) / 8;
+    let size = (paper::EDITION_BITS + f.face_count_bits + b + 7) / 8;
     if room.len() < size {
         return refused(paper::NO_ROOM);
     }

@@ -14,177 +14,177 @@ use Rattle.sets.proofs.Digits.{never, dig-both, dig-only, dig-self, count-only,
 use Rattle.paper.specs.Solids.{onceEachWay, oriented}
 use Rattle.means_leaf.specs.Meaning.{In, InTwo, Way, stay, across}
 use Rattle.means_leaf.proofs.Forced.{once-suits, oriented-here}
-use Rattle.fast_sweeps.specs.Worklist.{after, sides}
+use Rattle.fast_sweeps.specs.Worklist.{after, edgesWith}
 use Rattle.fast_sweeps.proofs.Marks.{dig-none, after-in, after-out, count-after, dig-sides}
-use Rattle.fast_leaf.specs.Faces.{Going, atEdge, around, atFace, goOn, toGo, atLowest, fromLowest}
+use Rattle.fast_leaf.specs.Faces.{Going, atEdge, aroundFace, atFace, goOn, toGo, atLowest, fromLowest}
 use Rattle.fast_leaf.proofs.Edge.{count-alone, Fair, edge-keeps, edge-old, edge-covers, edge-fair, edge-togo}
 
 -- ---- edges by their places
-in-at : (rows : List (List Bool)) (e : ℕ) → e < length rows → In (getD rows e []) rows
+in-at : (masks : List (List Bool)) (e : ℕ) → e < length masks → In (getD masks e []) masks
 in-at [] e h = absurd (omega arith)
-in-at (row ∷ rows) zero h = inl refl
-in-at (row ∷ rows) (suc e) h = inr (in-at rows e (omega arith))
+in-at (mask ∷ masks) zero h = inl refl
+in-at (mask ∷ masks) (suc e) h = inr (in-at masks e (omega arith))
 
-at-in : (rows : List (List Bool)) (row : List Bool) → In row rows → (e : ℕ) × (row ≡ getD rows e [])
-at-in [] row i = absurd i
-at-in (x ∷ rows) row (inl p) = (0, p)
-at-in (x ∷ rows) row (inr i) = let q = at-in rows row i in (suc (q .0), q .1)
+at-in : (masks : List (List Bool)) (mask : List Bool) → In mask masks → (e : ℕ) × (mask ≡ getD masks e [])
+at-in [] mask i = absurd i
+at-in (x ∷ masks) mask (inl p) = (0, p)
+at-in (x ∷ masks) mask (inr i) = let q = at-in masks mask i in (suc (q .0), q .1)
 
-at-lt : (rows : List (List Bool)) (e f : ℕ) → dig (getD rows e []) f ≡ true → e < length rows
+at-lt : (masks : List (List Bool)) (e f : ℕ) → dig (getD masks e []) f ≡ true → e < length masks
 at-lt [] e f h = never (sym h)
-at-lt (row ∷ rows) zero f h = omega arith
-at-lt (row ∷ rows) (suc e) f h = omega (arith, at-lt rows e f h)
+at-lt (mask ∷ masks) zero f h = omega arith
+at-lt (mask ∷ masks) (suc e) f h = omega (arith, at-lt masks e f h)
 
-oriented-at : (rows ups : List (List Bool)) (taken ts : List Bool) → oriented rows ups taken ts ≡ true → length rows ≡ length ups → (e : ℕ) → e < length rows
-    → onceEachWay (getD rows e []) (getD ups e []) taken ts ≡ true
+oriented-at : (masks ups : List (List Bool)) (taken ts : List Bool) → oriented masks ups taken ts ≡ true → length masks ≡ length ups → (e : ℕ) → e < length masks
+    → onceEachWay (getD masks e []) (getD ups e []) taken ts ≡ true
 oriented-at [] ups taken ts o l e h = absurd (omega arith)
-oriented-at (row ∷ rows) [] taken ts o l e h = absurd (omega arith)
-oriented-at (row ∷ rows) (up ∷ ups) taken ts o l zero h = let q = oriented-here row up rows ups taken ts o in q .0
-oriented-at (row ∷ rows) (up ∷ ups) taken ts o l (suc e) h =
-    let q = oriented-here row up rows ups taken ts o in
-    oriented-at rows ups taken ts (q .1) (omega arith) e (omega arith)
+oriented-at (mask ∷ masks) [] taken ts o l e h = absurd (omega arith)
+oriented-at (mask ∷ masks) (up ∷ ups) taken ts o l zero h = let q = oriented-here mask up masks ups taken ts o in q .0
+oriented-at (mask ∷ masks) (up ∷ ups) taken ts o l (suc e) h =
+    let q = oriented-here mask up masks ups taken ts o in
+    oriented-at masks ups taken ts (q .1) (omega arith) e (omega arith)
 
 -- ---- step by step, as a loop does it
-module _ (rows ups : List (List Bool)) (taken : List Bool) where
-  pub around-none : (f : ℕ) (left : List Bool) (g : Going) → count left ≡ 0 → around (count left) rows ups taken f left g ≡ g
-  unfolding around
+module _ (masks ups : List (List Bool)) (taken : List Bool) where
+  pub around-none : (f : ℕ) (left : List Bool) (g : Going) → count left ≡ 0 → aroundFace (count left) masks ups taken f left g ≡ g
+  unfolding aroundFace
   around-none f left g z = rw z
 
   pub around-more : (f : ℕ) (left : List Bool) (g : Going) → (count left ≡ 0 → ⊥)
-      → around (count left) rows ups taken f left g ≡ around (count (after left)) rows ups taken f (after left) (atEdge (getD rows (first left) []) (getD ups (first left) []) taken f g)
-  unfolding around
+      → aroundFace (count left) masks ups taken f left g ≡ aroundFace (count (after left)) masks ups taken f (after left) (atEdge (getD masks (first left) []) (getD ups (first left) []) taken f g)
+  unfolding aroundFace
   around-more f left g n = rw (← count-after left n)
 
-  pub on-none : (n : ℕ) (g : Going) → count (g .waiting) ≡ 0 → goOn n rows ups taken g ≡ g
+  pub on-none : (n : ℕ) (g : Going) → count (g .waiting) ≡ 0 → goOn n masks ups taken g ≡ g
   unfolding goOn
   on-none zero g z = refl
   on-none (suc n) g z = rw (eq-eqb (count (g .waiting)) 0 z)
 
-  pub on-more : (n : ℕ) (g : Going) → (count (g .waiting) ≡ 0 → ⊥) → goOn (suc n) rows ups taken g ≡ goOn n rows ups taken (atFace rows ups taken g)
+  pub on-more : (n : ℕ) (g : Going) → (count (g .waiting) ≡ 0 → ⊥) → goOn (suc n) masks ups taken g ≡ goOn n masks ups taken (atFace masks ups taken g)
   unfolding goOn
   on-more n g z = rw (ne-eqb (count (g .waiting)) 0 z)
 
-  -- ---- what is still to go: whatever the rows are, each face is gone round once
-  pub around-togo : (n f : ℕ) (left : List Bool) (g : Going) → toGo taken (around n rows ups taken f left g) ≤ toGo taken g
-  unfolding around
+  -- ---- what is still to go: whatever the masks are, each face is gone round once
+  pub around-togo : (n f : ℕ) (left : List Bool) (g : Going) → toGo taken (aroundFace n masks ups taken f left g) ≤ toGo taken g
+  unfolding aroundFace
   around-togo zero f left g = omega arith
   around-togo (suc n) f left g =
       omega (
         arith,
-        around-togo n f (after left) (atEdge (getD rows (first left) []) (getD ups (first left) []) taken f g),
-        edge-togo (getD rows (first left) []) (getD ups (first left) []) taken f g,
+        around-togo n f (after left) (atEdge (getD masks (first left) []) (getD ups (first left) []) taken f g),
+        edge-togo (getD masks (first left) []) (getD ups (first left) []) taken f g,
       )
 
-  pub face-togo : (g : Going) → (count (g .waiting) ≡ 0 → ⊥) → toGo taken (atFace rows ups taken g) < toGo taken g
+  pub face-togo : (g : Going) → (count (g .waiting) ≡ 0 → ⊥) → toGo taken (atFace masks ups taken g) < toGo taken g
   unfolding atFace toGo
   face-togo g n =
       omega (
         arith,
         count-after (g .waiting) n,
-        around-togo (count (sides rows (first (g .waiting)))) (first (g .waiting)) (sides rows (first (g .waiting)))
+        around-togo (count (edgesWith masks (first (g .waiting)))) (first (g .waiting)) (edgesWith masks (first (g .waiting)))
             (record { reached = g .reached; waiting = after (g .waiting); turned = g .turned }),
       )
 
   -- ---- so many times are enough, and more change nothing
-  on-same : (m n : ℕ) (g : Going) → toGo taken g ≤ m → toGo taken g ≤ n → goOn m rows ups taken g ≡ goOn n rows ups taken g
+  on-same : (m n : ℕ) (g : Going) → toGo taken g ≤ m → toGo taken g ≤ n → goOn m masks ups taken g ≡ goOn n masks ups taken g
   on-same zero n g l k = go (ℕ-discrete (count (g .waiting)) 0)
     where
-      go : Dec (count (g .waiting) ≡ 0) → goOn zero rows ups taken g ≡ goOn n rows ups taken g
+      go : Dec (count (g .waiting) ≡ 0) → goOn zero masks ups taken g ≡ goOn n masks ups taken g
       go (yes z) = on-none zero g z ∙ sym (on-none n g z)
       go (no z) = absurd (omega (arith, face-togo g z))
   on-same (suc m) zero g l k = go (ℕ-discrete (count (g .waiting)) 0)
     where
-      go : Dec (count (g .waiting) ≡ 0) → goOn (suc m) rows ups taken g ≡ goOn zero rows ups taken g
+      go : Dec (count (g .waiting) ≡ 0) → goOn (suc m) masks ups taken g ≡ goOn zero masks ups taken g
       go (yes z) = on-none (suc m) g z ∙ sym (on-none zero g z)
       go (no z) = absurd (omega (arith, face-togo g z))
-  on-same (suc m) (suc n) g l k = go (ℕ-discrete (count (g .waiting)) 0) (on-same m n (atFace rows ups taken g))
+  on-same (suc m) (suc n) g l k = go (ℕ-discrete (count (g .waiting)) 0) (on-same m n (atFace masks ups taken g))
     where
       go : Dec (count (g .waiting) ≡ 0)
-          → (toGo taken (atFace rows ups taken g) ≤ m → toGo taken (atFace rows ups taken g) ≤ n → goOn m rows ups taken (atFace rows ups taken g) ≡ goOn n rows ups taken (atFace rows ups taken g))
-          → goOn (suc m) rows ups taken g ≡ goOn (suc n) rows ups taken g
+          → (toGo taken (atFace masks ups taken g) ≤ m → toGo taken (atFace masks ups taken g) ≤ n → goOn m masks ups taken (atFace masks ups taken g) ≡ goOn n masks ups taken (atFace masks ups taken g))
+          → goOn (suc m) masks ups taken g ≡ goOn (suc n) masks ups taken g
       go (yes z) ih = on-none (suc m) g z ∙ sym (on-none (suc n) g z)
       go (no z) ih = on-more m g z ∙ ih (omega (arith, face-togo g z)) (omega (arith, face-togo g z)) ∙ sym (on-more n g z)
 
   -- what a loop over the waiting faces keeps: what is left to do gives the whole answer
   pub rest-more : (g : Going) → (count (g .waiting) ≡ 0 → ⊥)
-      → goOn (toGo taken g) rows ups taken g ≡ goOn (toGo taken (atFace rows ups taken g)) rows ups taken (atFace rows ups taken g)
+      → goOn (toGo taken g) masks ups taken g ≡ goOn (toGo taken (atFace masks ups taken g)) masks ups taken (atFace masks ups taken g)
   rest-more g z =
       on-same (toGo taken g) (suc (toGo taken g)) g (omega arith) (omega arith) ∙ on-more (toGo taken g) g z
-      ∙ on-same (toGo taken g) (toGo taken (atFace rows ups taken g)) (atFace rows ups taken g) (omega (arith, face-togo g z)) (omega arith)
+      ∙ on-same (toGo taken g) (toGo taken (atFace masks ups taken g)) (atFace masks ups taken g) (omega (arith, face-togo g z)) (omega arith)
 
   pub lowest-togo : (count taken ≡ 0 → ⊥) → toGo taken (atLowest taken) ≡ count taken
   unfolding toGo
   lowest-togo n = omega (arith, count-only taken (first taken) (first-in taken n), count-alone (first taken))
 
-  pub rest-start : (count taken ≡ 0 → ⊥) → goOn (toGo taken (atLowest taken)) rows ups taken (atLowest taken) ≡ fromLowest rows ups taken
+  pub rest-start : (count taken ≡ 0 → ⊥) → goOn (toGo taken (atLowest taken)) masks ups taken (atLowest taken) ≡ fromLowest masks ups taken
   unfolding fromLowest
-  rest-start n = ap (λ (m : ℕ). goOn m rows ups taken (atLowest taken)) (lowest-togo n)
+  rest-start n = ap (λ (m : ℕ). goOn m masks ups taken (atLowest taken)) (lowest-togo n)
 
 -- ---- the edges of the faces that do not wait are done; of face f those that are not left
 abbrev Done : List (List Bool) → List Bool → ℕ → List Bool → Going → Type 0
-Done rows taken f left g =
-    (k e : ℕ) → dig (g .reached) k ≡ true → dig (g .waiting) k ≡ false → dig (getD rows e []) k ≡ true → (k ≡ f → dig left e ≡ false)
-    → Sub (both (getD rows e []) taken) (g .reached)
+Done masks taken f left g =
+    (k e : ℕ) → dig (g .reached) k ≡ true → dig (g .waiting) k ≡ false → dig (getD masks e []) k ≡ true → (k ≡ f → dig left e ≡ false)
+    → Sub (both (getD masks e []) taken) (g .reached)
 
 abbrev pub Closed : List (List Bool) → List Bool → Going → Type 0
-Closed rows taken g =
-    (k e : ℕ) → dig (g .reached) k ≡ true → dig (g .waiting) k ≡ false → dig (getD rows e []) k ≡ true → Sub (both (getD rows e []) taken) (g .reached)
+Closed masks taken g =
+    (k e : ℕ) → dig (g .reached) k ≡ true → dig (g .waiting) k ≡ false → dig (getD masks e []) k ≡ true → Sub (both (getD masks e []) taken) (g .reached)
 
-module _ (rows ups : List (List Bool)) (taken : List Bool) (same : length rows ≡ length ups) (two : InTwo rows taken) where
+module _ (masks ups : List (List Bool)) (taken : List Bool) (same : length masks ≡ length ups) (two : InTwo masks taken) where
   abbrev Good : Going → Type 0
-  Good g = Fair rows ups taken g × Closed rows taken g
+  Good g = Fair masks ups taken g × Closed masks taken g
 
-  module _ (e f : ℕ) (g : Going) (has : dig (getD rows e []) f ≡ true) (rf : dig (g .reached) f ≡ true) (h : Fair rows ups taken g) where
-    on-edge : dig (both (getD rows e []) taken) f ≡ true
-    on-edge = dig-both (getD rows e []) taken f ∙ and-both has (h .in-taken f rf)
+  module _ (e f : ℕ) (g : Going) (has : dig (getD masks e []) f ≡ true) (rf : dig (g .reached) f ≡ true) (h : Fair masks ups taken g) where
+    on-edge : dig (both (getD masks e []) taken) f ≡ true
+    on-edge = dig-both (getD masks e []) taken f ∙ and-both has (h .in-taken f rf)
 
-    two-edge : count (both (getD rows e []) taken) ≡ 2
-    two-edge = two (getD rows e []) (in-at rows e (at-lt rows e f has))
+    two-edge : count (both (getD masks e []) taken) ≡ 2
+    two-edge = two (getD masks e []) (in-at masks e (at-lt masks e f has))
 
-    fair-at : Fair rows ups taken (atEdge (getD rows e []) (getD ups e []) taken f g)
+    fair-at : Fair masks ups taken (atEdge (getD masks e []) (getD ups e []) taken f g)
     fair-at =
-        edge-fair (getD rows e []) (getD ups e []) taken f g on-edge two-edge rows ups (in-at rows e (at-lt rows e f has))
-        (λ ts o. once-suits (getD rows e []) (getD ups e []) taken ts (oriented-at rows ups taken ts o same e (at-lt rows e f has))) rf h
+        edge-fair (getD masks e []) (getD ups e []) taken f g on-edge two-edge masks ups (in-at masks e (at-lt masks e f has))
+        (λ ts o. once-suits (getD masks e []) (getD ups e []) taken ts (oriented-at masks ups taken ts o same e (at-lt masks e f has))) rf h
 
-    covers-at : Sub (both (getD rows e []) taken) (atEdge (getD rows e []) (getD ups e []) taken f g .reached)
-    covers-at = edge-covers (getD rows e []) (getD ups e []) taken f g on-edge two-edge rf
+    covers-at : Sub (both (getD masks e []) taken) (atEdge (getD masks e []) (getD ups e []) taken f g .reached)
+    covers-at = edge-covers (getD masks e []) (getD ups e []) taken f g on-edge two-edge rf
 
-  done-at : (f : ℕ) (left : List Bool) (g : Going) → dig (getD rows (first left) []) f ≡ true → dig (g .reached) f ≡ true → Fair rows ups taken g → Done rows taken f left g
-      → Done rows taken f (after left) (atEdge (getD rows (first left) []) (getD ups (first left) []) taken f g)
+  done-at : (f : ℕ) (left : List Bool) (g : Going) → dig (getD masks (first left) []) f ≡ true → dig (g .reached) f ≡ true → Fair masks ups taken g → Done masks taken f left g
+      → Done masks taken f (after left) (atEdge (getD masks (first left) []) (getD ups (first left) []) taken f g)
   done-at f left g has rf h d k e rk wk ek c = go (ℕ-discrete e (first left)) (ℕ-discrete k f)
     where
       next : Going
-      next = atEdge (getD rows (first left) []) (getD ups (first left) []) taken f g
+      next = atEdge (getD masks (first left) []) (getD ups (first left) []) taken f g
 
       old : (dig (g .reached) k ≡ true) × (dig (g .waiting) k ≡ false)
-      old = edge-old (getD rows (first left) []) (getD ups (first left) []) taken f g k rk wk
+      old = edge-old (getD masks (first left) []) (getD ups (first left) []) taken f g k rk wk
 
-      kept : (k ≡ f → dig left e ≡ false) → Sub (both (getD rows e []) taken) (next .reached)
-      kept p j q = edge-keeps (getD rows (first left) []) (getD ups (first left) []) taken f g j (d k e (old .0) (old .1) ek p j q)
+      kept : (k ≡ f → dig left e ≡ false) → Sub (both (getD masks e []) taken) (next .reached)
+      kept p j q = edge-keeps (getD masks (first left) []) (getD ups (first left) []) taken f g j (d k e (old .0) (old .1) ek p j q)
 
-      go : Dec (e ≡ first left) → Dec (k ≡ f) → Sub (both (getD rows e []) taken) (next .reached)
+      go : Dec (e ≡ first left) → Dec (k ≡ f) → Sub (both (getD masks e []) taken) (next .reached)
       go (no n) y = kept (λ p. after-out left e (c p) n)
       go (yes p) (no n) = kept (λ q. absurd (n q))
-      go (yes p) (yes q) = subst (λ (x : ℕ). Sub (both (getD rows x []) taken) (next .reached)) (sym p) (covers-at (first left) f g has rf h)
+      go (yes p) (yes q) = subst (λ (x : ℕ). Sub (both (getD masks x []) taken) (next .reached)) (sym p) (covers-at (first left) f g has rf h)
 
-  around-good : (n f : ℕ) (left : List Bool) (g : Going) → count left ≡ n → ((e : ℕ) → dig left e ≡ true → dig (getD rows e []) f ≡ true) → dig (g .reached) f ≡ true
-      → Fair rows ups taken g → Done rows taken f left g → Good (around n rows ups taken f left g)
-  unfolding around
+  around-good : (n f : ℕ) (left : List Bool) (g : Going) → count left ≡ n → ((e : ℕ) → dig left e ≡ true → dig (getD masks e []) f ≡ true) → dig (g .reached) f ≡ true
+      → Fair masks ups taken g → Done masks taken f left g → Good (aroundFace n masks ups taken f left g)
+  unfolding aroundFace
   around-good zero f left g z s rf h d = (h, λ k e rk wk ek. d k e rk wk ek (λ p. dig-none left z e))
   around-good (suc n) f left g z s rf h d =
       let some : count left ≡ 0 → ⊥ = λ y. absurd (omega arith) in
-      let has : dig (getD rows (first left) []) f ≡ true = s (first left) (first-in left some) in
+      let has : dig (getD masks (first left) []) f ≡ true = s (first left) (first-in left some) in
       let m : count (after left) ≡ n = omega (arith, count-after left some) in
-      around-good n f (after left) (atEdge (getD rows (first left) []) (getD ups (first left) []) taken f g) m
+      around-good n f (after left) (atEdge (getD masks (first left) []) (getD ups (first left) []) taken f g) m
       (λ e p. let q = after-in left e p in s e (q .1))
-      (edge-keeps (getD rows (first left) []) (getD ups (first left) []) taken f g f rf)
+      (edge-keeps (getD masks (first left) []) (getD ups (first left) []) taken f g f rf)
       (fair-at (first left) f g has rf h)
       (done-at f left g has rf h d)
 
-  face-good : (g : Going) → (count (g .waiting) ≡ 0 → ⊥) → Good g → Good (atFace rows ups taken g)
+  face-good : (g : Going) → (count (g .waiting) ≡ 0 → ⊥) → Good g → Good (atFace masks ups taken g)
   unfolding atFace
   face-good g n w =
-      around-good (count (sides rows f)) f (sides rows f) g1 refl (λ e p. sym (dig-sides rows f e) ∙ p) (w .0 .in-reached f (first-in (g .waiting) n))
+      around-good (count (edgesWith masks f)) f (edgesWith masks f) g1 refl (λ e p. sym (dig-sides masks f e) ∙ p) (w .0 .in-reached f (first-in (g .waiting) n))
       (record {
         in-taken = w .0 .in-taken;
         in-reached = λ k p. let q = after-in (g .waiting) k p in w .0 .in-reached k (q .1);
@@ -194,7 +194,7 @@ module _ (rows ups : List (List Bool)) (taken : List Bool) (same : length rows �
         way = w .0 .way;
         right = w .0 .right;
       })
-      (λ k e rk wk ek c. w .1 k e rk (after-out (g .waiting) k wk (λ p. never (sym (dig-sides rows f e ∙ subst (λ (x : ℕ). dig (getD rows e []) x ≡ true) p ek) ∙ c p))) ek)
+      (λ k e rk wk ek c. w .1 k e rk (after-out (g .waiting) k wk (λ p. never (sym (dig-sides masks f e ∙ subst (λ (x : ℕ). dig (getD masks e []) x ≡ true) p ek) ∙ c p))) ek)
     where
       f : ℕ
       f = first (g .waiting)
@@ -205,18 +205,18 @@ module _ (rows ups : List (List Bool)) (taken : List Bool) (same : length rows �
   abbrev Ended : Going → Type 0
   Ended g = Good g × (count (g .waiting) ≡ 0)
 
-  on-good : (n : ℕ) (g : Going) → toGo taken g ≤ n → Good g → Ended (goOn n rows ups taken g)
+  on-good : (n : ℕ) (g : Going) → toGo taken g ≤ n → Good g → Ended (goOn n masks ups taken g)
   on-good zero g l w = go (ℕ-discrete (count (g .waiting)) 0)
     where
-      go : Dec (count (g .waiting) ≡ 0) → Ended (goOn zero rows ups taken g)
-      go (yes z) = subst Ended (sym (on-none rows ups taken zero g z)) (w, z)
-      go (no z) = absurd (omega (arith, face-togo rows ups taken g z))
-  on-good (suc n) g l w = go (ℕ-discrete (count (g .waiting)) 0) (on-good n (atFace rows ups taken g))
+      go : Dec (count (g .waiting) ≡ 0) → Ended (goOn zero masks ups taken g)
+      go (yes z) = subst Ended (sym (on-none masks ups taken zero g z)) (w, z)
+      go (no z) = absurd (omega (arith, face-togo masks ups taken g z))
+  on-good (suc n) g l w = go (ℕ-discrete (count (g .waiting)) 0) (on-good n (atFace masks ups taken g))
     where
-      go : Dec (count (g .waiting) ≡ 0) → (toGo taken (atFace rows ups taken g) ≤ n → Good (atFace rows ups taken g) → Ended (goOn n rows ups taken (atFace rows ups taken g)))
-          → Ended (goOn (suc n) rows ups taken g)
-      go (yes z) ih = subst Ended (sym (on-none rows ups taken (suc n) g z)) (w, z)
-      go (no z) ih = subst Ended (sym (on-more rows ups taken n g z)) (ih (omega (arith, face-togo rows ups taken g z)) (face-good g z w))
+      go : Dec (count (g .waiting) ≡ 0) → (toGo taken (atFace masks ups taken g) ≤ n → Good (atFace masks ups taken g) → Ended (goOn n masks ups taken (atFace masks ups taken g)))
+          → Ended (goOn (suc n) masks ups taken g)
+      go (yes z) ih = subst Ended (sym (on-none masks ups taken (suc n) g z)) (w, z)
+      go (no z) ih = subst Ended (sym (on-more masks ups taken n g z)) (ih (omega (arith, face-togo masks ups taken g z)) (face-good g z w))
 
   module _ (some : count taken ≡ 0 → ⊥) where
     lowest-good : Good (atLowest taken)
@@ -227,28 +227,28 @@ module _ (rows ups : List (List Bool)) (taken : List Bool) (same : length rows �
         turned-in = λ k p. never (sym p);
         low = dig-self (first taken);
         low-turned = refl;
-        way = λ k p. subst (λ (x : ℕ). Way rows taken (first taken) x) (sym (dig-only (first taken) k p)) stay;
+        way = λ k p. subst (λ (x : ℕ). Way masks taken (first taken) x) (sym (dig-only (first taken) k p)) stay;
         right = λ ts o e k p. sym (ap (dig ts) (dig-only (first taken) k p) ∙ e);
       },
       λ k e p q. never (sym p ∙ q),
     )
 
-    lowest-ends : Ended (fromLowest rows ups taken)
+    lowest-ends : Ended (fromLowest masks ups taken)
     unfolding fromLowest
-    lowest-ends = on-good (count taken) (atLowest taken) (omega (arith, lowest-togo rows ups taken some)) lowest-good
+    lowest-ends = on-good (count taken) (atLowest taken) (omega (arith, lowest-togo masks ups taken some)) lowest-good
 
-    pub lowest-fair : Fair rows ups taken (fromLowest rows ups taken)
+    pub lowest-fair : Fair masks ups taken (fromLowest masks ups taken)
     lowest-fair = lowest-ends .0 .0
 
     -- all to which one can go are reached
-    way-ends : (g : Going) → Ended g → (f k : ℕ) → dig (g .reached) f ≡ true → Way rows taken f k → dig (g .reached) k ≡ true
+    way-ends : (g : Going) → Ended g → (f k : ℕ) → dig (g .reached) f ≡ true → Way masks taken f k → dig (g .reached) k ≡ true
     way-ends g w f k rf stay = rf
-    way-ends g w f k rf (across row j v i p q) =
-        let a = at-in rows row i in
-        let oj : dig (both (getD rows (a .0) []) taken) j ≡ true = subst (λ (x : List Bool). dig (both x taken) j ≡ true) (a .1) p in
-        let ok : dig (both (getD rows (a .0) []) taken) k ≡ true = subst (λ (x : List Bool). dig (both x taken) k ≡ true) (a .1) q in
+    way-ends g w f k rf (across mask j v i p q) =
+        let a = at-in masks mask i in
+        let oj : dig (both (getD masks (a .0) []) taken) j ≡ true = subst (λ (x : List Bool). dig (both x taken) j ≡ true) (a .1) p in
+        let ok : dig (both (getD masks (a .0) []) taken) k ≡ true = subst (λ (x : List Bool). dig (both x taken) k ≡ true) (a .1) q in
         w .0 .1 j (a .0) (way-ends g w f j rf v) (dig-none (g .waiting) (w .1) j)
-        (and-left (dig (getD rows (a .0) []) j) (dig taken j) (sym (dig-both (getD rows (a .0) []) taken j) ∙ oj)) k ok
+        (and-left (dig (getD masks (a .0) []) j) (dig taken j) (sym (dig-both (getD masks (a .0) []) taken j) ∙ oj)) k ok
 
-    pub lowest-reaches : (k : ℕ) → Way rows taken (first taken) k → dig (fromLowest rows ups taken .reached) k ≡ true
-    lowest-reaches k v = way-ends (fromLowest rows ups taken) lowest-ends (first taken) k (lowest-fair .low) v
+    pub lowest-reaches : (k : ℕ) → Way masks taken (first taken) k → dig (fromLowest masks ups taken .reached) k ≡ true
+    lowest-reaches k v = way-ends (fromLowest masks ups taken) lowest-ends (first taken) k (lowest-fair .low) v

@@ -24,82 +24,82 @@ use Rattle.fast_leaf.proofs.Around.{lowest-fair, lowest-reaches}
 use Rattle.fast_leaf.proofs.Sums.{same-truth, clear-on, six-on}
 
 -- ---- ways
-way-on : {rows : List (List Bool)} {taken : List Bool} {f g h : ℕ} → Way rows taken f g → Way rows taken g h → Way rows taken f h
+way-on : {masks : List (List Bool)} {taken : List Bool} {f g h : ℕ} → Way masks taken f g → Way masks taken g h → Way masks taken f h
 way-on w stay = w
-way-on w (across row k v i p q) = across row k (way-on w v) i p q
+way-on w (across mask k v i p q) = across mask k (way-on w v) i p q
 
-way-back : {rows : List (List Bool)} {taken : List Bool} {f g : ℕ} → Way rows taken f g → Way rows taken g f
+way-back : {masks : List (List Bool)} {taken : List Bool} {f g : ℕ} → Way masks taken f g → Way masks taken g f
 way-back stay = stay
-way-back (across row k v i p q) = way-on (across row _ stay i q p) (way-back v)
+way-back (across mask k v i p q) = way-on (across mask _ stay i q p) (way-back v)
 
-module _ (rows ups : List (List Bool)) (taken : List Bool) (same : length rows ≡ length ups) (two : InTwo rows taken) (some : count taken ≡ 0 → ⊥) where
-  fair : Fair rows ups taken (fromLowest rows ups taken)
-  fair = lowest-fair rows ups taken same two some
+module _ (masks ups : List (List Bool)) (taken : List Bool) (same : length masks ≡ length ups) (two : InTwo masks taken) (some : count taken ≡ 0 → ⊥) where
+  fair : Fair masks ups taken (fromLowest masks ups taken)
+  fair = lowest-fair masks ups taken same two some
 
   -- (ii)
-  missed : eqb (count (less taken (fromLowest rows ups taken .reached))) 0 ≡ true → Sub taken (fromLowest rows ups taken .reached)
-  missed e k h = go (dig (fromLowest rows ups taken .reached) k) refl
+  missed : eqb (count (less taken (fromLowest masks ups taken .reached))) 0 ≡ true → Sub taken (fromLowest masks ups taken .reached)
+  missed e k h = go (dig (fromLowest masks ups taken .reached) k) refl
     where
-      go : (b : Bool) → dig (fromLowest rows ups taken .reached) k ≡ b → b ≡ true
+      go : (b : Bool) → dig (fromLowest masks ups taken .reached) k ≡ b → b ≡ true
       go true p = refl
       go false p =
-          absurd (count-none (less taken (fromLowest rows ups taken .reached)) (eqb-true (count (less taken (fromLowest rows ups taken .reached))) 0 e) k
-          (dig-less taken (fromLowest rows ups taken .reached) k ∙ and-both h (ap not p)))
+          absurd (count-none (less taken (fromLowest masks ups taken .reached)) (eqb-true (count (less taken (fromLowest masks ups taken .reached))) 0 e) k
+          (dig-less taken (fromLowest masks ups taken .reached) k ∙ and-both h (ap not p)))
 
-  pub same-connected : eqb (count (less taken (fromLowest rows ups taken .reached))) 0 ≡ connected taken (faces rows ups taken)
+  pub same-connected : eqb (count (less taken (fromLowest masks ups taken .reached))) 0 ≡ connected taken (faces masks ups taken)
   same-connected =
-      same-truth (eqb (count (less taken (fromLowest rows ups taken .reached))) 0) (connected taken (faces rows ups taken))
-      (λ e. ways-connected rows ups taken same two some (λ f g hf hg. way-on (way-back (fair .way f (missed e f hf))) (fair .way g (missed e g hg))))
-      (λ c. eq-eqb (count (less taken (fromLowest rows ups taken .reached))) 0
-      (count-empty (less taken (fromLowest rows ups taken .reached)) (λ k p.
-      let t : (dig taken k && not (dig (fromLowest rows ups taken .reached) k)) ≡ true = sym (dig-less taken (fromLowest rows ups taken .reached) k) ∙ p in
-      let out : dig (fromLowest rows ups taken .reached) k ≡ false = not-true (dig (fromLowest rows ups taken .reached) k) (and-right (dig taken k) (not (dig (fromLowest rows ups taken .reached) k)) t) in
-      let w : Way rows taken (first taken) k
-      = connected-ways rows ups taken same two some c (first taken) k (first-in taken some) (and-left (dig taken k) (not (dig (fromLowest rows ups taken .reached) k)) t) in
-      never (sym (lowest-reaches rows ups taken same two some k w) ∙ out))))
+      same-truth (eqb (count (less taken (fromLowest masks ups taken .reached))) 0) (connected taken (faces masks ups taken))
+      (λ e. ways-connected masks ups taken same two some (λ f g hf hg. way-on (way-back (fair .way f (missed e f hf))) (fair .way g (missed e g hg))))
+      (λ c. eq-eqb (count (less taken (fromLowest masks ups taken .reached))) 0
+      (count-empty (less taken (fromLowest masks ups taken .reached)) (λ k p.
+      let t : (dig taken k && not (dig (fromLowest masks ups taken .reached) k)) ≡ true = sym (dig-less taken (fromLowest masks ups taken .reached) k) ∙ p in
+      let out : dig (fromLowest masks ups taken .reached) k ≡ false = not-true (dig (fromLowest masks ups taken .reached) k) (and-right (dig taken k) (not (dig (fromLowest masks ups taken .reached) k)) t) in
+      let w : Way masks taken (first taken) k
+      = connected-ways masks ups taken same two some c (first taken) k (first-in taken some) (and-left (dig taken k) (not (dig (fromLowest masks ups taken .reached) k)) t) in
+      never (sym (lowest-reaches masks ups taken same two some k w) ∙ out))))
 
   -- (iii)
-  module _ (c : connected taken (faces rows ups taken) ≡ true) where
-    all-found : Sub taken (fromLowest rows ups taken .reached)
+  module _ (c : connected taken (faces masks ups taken) ≡ true) where
+    all-found : Sub taken (fromLowest masks ups taken .reached)
     all-found = missed (same-connected ∙ c)
 
     -- directions that do with the lowest face not turned are those found
-    found-alike : (ts : List Bool) → oriented rows ups taken ts ≡ true → dig ts (first taken) ≡ false → Alike taken (fromLowest rows ups taken .turned) ts
+    found-alike : (ts : List Bool) → oriented masks ups taken ts ≡ true → dig ts (first taken) ≡ false → Alike taken (fromLowest masks ups taken .turned) ts
     found-alike ts o e k h = fair .right ts o e k (all-found k h)
 
-    pub same-turned : oriented rows ups taken (fromLowest rows ups taken .turned) ≡ true → Alike taken (fromLowest rows ups taken .turned) (faces rows ups taken .turned)
-    same-turned o k h = sym (faces-right rows ups taken (fromLowest rows ups taken .turned) o (fair .low-turned) .right k (all-reached taken (faces rows ups taken) c k h))
+    pub same-turned : oriented masks ups taken (fromLowest masks ups taken .turned) ≡ true → Alike taken (fromLowest masks ups taken .turned) (faces masks ups taken .turned)
+    same-turned o k h = sym (faces-right masks ups taken (fromLowest masks ups taken .turned) o (fair .low-turned) .right k (all-reached taken (faces masks ups taken) c k h))
 
-    found-oriented : (ts : List Bool) → oriented rows ups taken ts ≡ true → oriented rows ups taken (fromLowest rows ups taken .turned) ≡ true
+    found-oriented : (ts : List Bool) → oriented masks ups taken ts ≡ true → oriented masks ups taken (fromLowest masks ups taken .turned) ≡ true
     found-oriented ts o = go (dig ts (first taken)) refl
       where
         and-off : (x : Bool) → (x && false) ≡ false
         and-off true = refl
         and-off false = refl
 
-        go : (b : Bool) → dig ts (first taken) ≡ b → oriented rows ups taken (fromLowest rows ups taken .turned) ≡ true
-        go false e = oriented-alike taken (fromLowest rows ups taken .turned) ts (found-alike ts o e) rows ups ∙ o
+        go : (b : Bool) → dig ts (first taken) ≡ b → oriented masks ups taken (fromLowest masks ups taken .turned) ≡ true
+        go false e = oriented-alike taken (fromLowest masks ups taken .turned) ts (found-alike ts o e) masks ups ∙ o
         go true e =
-            let p : oriented rows ups taken (less taken ts) ≡ true = oriented-opposite taken (less taken ts) ts (turned-opposite taken ts) rows ups ∙ o in
+            let p : oriented masks ups taken (less taken ts) ≡ true = oriented-opposite taken (less taken ts) ts (turned-opposite taken ts) masks ups ∙ o in
             let z : dig (less taken ts) (first taken) ≡ false
             = dig-less taken ts (first taken) ∙ ap (λ (x : Bool). dig taken (first taken) && not x) e ∙ and-off (dig taken (first taken)) in
-            oriented-alike taken (fromLowest rows ups taken .turned) (less taken ts) (found-alike (less taken ts) p z) rows ups ∙ p
+            oriented-alike taken (fromLowest masks ups taken .turned) (less taken ts) (found-alike (less taken ts) p z) masks ups ∙ p
 
-    pub same-oriented : oriented rows ups taken (fromLowest rows ups taken .turned) ≡ oriented rows ups taken (faces rows ups taken .turned)
+    pub same-oriented : oriented masks ups taken (fromLowest masks ups taken .turned) ≡ oriented masks ups taken (faces masks ups taken .turned)
     same-oriented =
-        same-truth (oriented rows ups taken (fromLowest rows ups taken .turned)) (oriented rows ups taken (faces rows ups taken .turned))
-        (λ o. sym (oriented-alike taken (fromLowest rows ups taken .turned) (faces rows ups taken .turned) (same-turned o) rows ups) ∙ o)
-        (found-oriented (faces rows ups taken .turned))
+        same-truth (oriented masks ups taken (fromLowest masks ups taken .turned)) (oriented masks ups taken (faces masks ups taken .turned))
+        (λ o. sym (oriented-alike taken (fromLowest masks ups taken .turned) (faces masks ups taken .turned) (same-turned o) masks ups) ∙ o)
+        (found-oriented (faces masks ups taken .turned))
 
     -- where there are directions, all digits of them are the same
-    pub same-digits : oriented rows ups taken (faces rows ups taken .turned) ≡ true → (k : ℕ) → dig (fromLowest rows ups taken .turned) k ≡ dig (faces rows ups taken .turned) k
+    pub same-digits : oriented masks ups taken (faces masks ups taken .turned) ≡ true → (k : ℕ) → dig (fromLowest masks ups taken .turned) k ≡ dig (faces masks ups taken .turned) k
     same-digits o k = go (dig taken k) refl
       where
-        go : (b : Bool) → dig taken k ≡ b → dig (fromLowest rows ups taken .turned) k ≡ dig (faces rows ups taken .turned) k
+        go : (b : Bool) → dig taken k ≡ b → dig (fromLowest masks ups taken .turned) k ≡ dig (faces masks ups taken .turned) k
         go true h = same-turned (same-oriented ∙ o) k h
         go false h =
-            off (dig (fromLowest rows ups taken .turned) k) (λ p. never (sym (fair .in-taken k (fair .turned-in k p)) ∙ h))
-            ∙ sym (off (dig (faces rows ups taken .turned) k) (λ p. never (sym (turned-taken rows ups taken some k p) ∙ h)))
+            off (dig (fromLowest masks ups taken .turned) k) (λ p. never (sym (fair .in-taken k (fair .turned-in k p)) ∙ h))
+            ∙ sym (off (dig (faces masks ups taken .turned) k) (λ p. never (sym (turned-taken masks ups taken some k p) ∙ h)))
 
 -- ---- the judgement
 weighs : (taken s t : List Bool) → ((k : ℕ) → dig s k ≡ dig t k) → (z : ℤ) → Agrees (weighed taken s z) (weighed taken t z)
@@ -122,26 +122,26 @@ judges false true true true true false true v w p q r s = never (sym r)
 judges false true true true true false false v w p q r s = fails
 judges false true true true true true true v w p q r s = s refl refl refl
 
-pub judged-by-faces : (t : Tables) (taken : List Bool) → length (t .rows) ≡ length (t .ups) → InTwo (t .rows) taken → Agrees (judgedByFaces t taken) (judged t taken)
+pub judged-by-faces : (t : Tables) (taken : List Bool) → length (t .masks) ≡ length (t .ups) → InTwo (t .masks) taken → Agrees (judgedByFaces t taken) (judged t taken)
 unfolding judgedByFaces judged facesFrom faces
 judged-by-faces t taken same two =
     judges (eqb (count taken) 0)
-    (eqb (count (less taken (fromLowest (t .rows) (t .ups) taken .reached))) 0) (connected taken (faces (t .rows) (t .ups) taken))
-    (oriented (t .rows) (t .ups) taken (fromLowest (t .rows) (t .ups) taken .turned)) (oriented (t .rows) (t .ups) taken (faces (t .rows) (t .ups) taken .turned))
+    (eqb (count (less taken (fromLowest (t .masks) (t .ups) taken .reached))) 0) (connected taken (faces (t .masks) (t .ups) taken))
+    (oriented (t .masks) (t .ups) taken (fromLowest (t .masks) (t .ups) taken .turned)) (oriented (t .masks) (t .ups) taken (faces (t .masks) (t .ups) taken .turned))
     (clearOn (count taken) (t .clashes) taken taken) (clearFrom 0 (t .clashes) taken)
-    (weighed taken (fromLowest (t .rows) (t .ups) taken .turned) (sixOn (count taken) (t .sixes) taken (fromLowest (t .rows) (t .ups) taken .turned)))
-    (weighed taken (faces (t .rows) (t .ups) taken .turned) (sixFrom 0 (t .sixes) taken (faces (t .rows) (t .ups) taken .turned)))
-    (λ n. same-connected (t .rows) (t .ups) taken same two (eqb-false (count taken) 0 n))
-    (λ n c. same-oriented (t .rows) (t .ups) taken same two (eqb-false (count taken) 0 n) c)
+    (weighed taken (fromLowest (t .masks) (t .ups) taken .turned) (sixOn (count taken) (t .sixes) taken (fromLowest (t .masks) (t .ups) taken .turned)))
+    (weighed taken (faces (t .masks) (t .ups) taken .turned) (sixFrom 0 (t .sixes) taken (faces (t .masks) (t .ups) taken .turned)))
+    (λ n. same-connected (t .masks) (t .ups) taken same two (eqb-false (count taken) 0 n))
+    (λ n c. same-oriented (t .masks) (t .ups) taken same two (eqb-false (count taken) 0 n) c)
     (clear-on taken (t .clashes))
     (λ n c o.
-    let h : (k : ℕ) → dig (fromLowest (t .rows) (t .ups) taken .turned) k ≡ dig (faces (t .rows) (t .ups) taken .turned) k
-    = same-digits (t .rows) (t .ups) taken same two (eqb-false (count taken) 0 n) c o in
-    let z : sixOn (count taken) (t .sixes) taken (fromLowest (t .rows) (t .ups) taken .turned) ≡ sixFrom 0 (t .sixes) taken (faces (t .rows) (t .ups) taken .turned)
-    = six-on (fromLowest (t .rows) (t .ups) taken .turned) (count taken) (t .sixes) taken refl
-    ∙ six-alike taken (fromLowest (t .rows) (t .ups) taken .turned) (faces (t .rows) (t .ups) taken .turned) (λ k p. h k) 0 (t .sixes) in
-    subst (λ (x : ℤ). Agrees (weighed taken (fromLowest (t .rows) (t .ups) taken .turned) x) (weighed taken (faces (t .rows) (t .ups) taken .turned) (sixFrom 0 (t .sixes) taken (faces (t .rows) (t .ups) taken .turned)))) (sym z)
-    (weighs taken (fromLowest (t .rows) (t .ups) taken .turned) (faces (t .rows) (t .ups) taken .turned) h (sixFrom 0 (t .sixes) taken (faces (t .rows) (t .ups) taken .turned))))
+    let h : (k : ℕ) → dig (fromLowest (t .masks) (t .ups) taken .turned) k ≡ dig (faces (t .masks) (t .ups) taken .turned) k
+    = same-digits (t .masks) (t .ups) taken same two (eqb-false (count taken) 0 n) c o in
+    let z : sixOn (count taken) (t .sixes) taken (fromLowest (t .masks) (t .ups) taken .turned) ≡ sixFrom 0 (t .sixes) taken (faces (t .masks) (t .ups) taken .turned)
+    = six-on (fromLowest (t .masks) (t .ups) taken .turned) (count taken) (t .sixes) taken refl
+    ∙ six-alike taken (fromLowest (t .masks) (t .ups) taken .turned) (faces (t .masks) (t .ups) taken .turned) (λ k p. h k) 0 (t .sixes) in
+    subst (λ (x : ℤ). Agrees (weighed taken (fromLowest (t .masks) (t .ups) taken .turned) x) (weighed taken (faces (t .masks) (t .ups) taken .turned) (sixFrom 0 (t .sixes) taken (faces (t .masks) (t .ups) taken .turned)))) (sym z)
+    (weighs taken (fromLowest (t .masks) (t .ups) taken .turned) (faces (t .masks) (t .ups) taken .turned) h (sixFrom 0 (t .sixes) taken (faces (t .masks) (t .ups) taken .turned))))
 
 -- ---- what a report says of a judgement is the same
 pub record Reports (i j : Judgement) : Type 0 where
@@ -153,5 +153,5 @@ pub agrees-reports : {i j : Judgement} → Agrees i j → Reports i j
 agrees-reports fails = record { same-solid = refl; same-word = refl; same-six = refl }
 agrees-reports (solid {s} {t} v h) = record { same-solid = refl; same-word = word-same s t h; same-six = refl }
 
-pub reports-by-faces : (t : Tables) (taken : List Bool) → length (t .rows) ≡ length (t .ups) → InTwo (t .rows) taken → Reports (judgedByFaces t taken) (judged t taken)
+pub reports-by-faces : (t : Tables) (taken : List Bool) → length (t .masks) ≡ length (t .ups) → InTwo (t .masks) taken → Reports (judgedByFaces t taken) (judged t taken)
 reports-by-faces t taken same two = agrees-reports (judged-by-faces t taken same two)

@@ -21,20 +21,20 @@ use Rattle.fast_leaf.specs.Faces.{judgedByFaces}
 use Rattle.fast_leaf.proofs.Judged.{Reports, reports-by-faces}
 
 -- (i) of a selection
-pub exact-two : (rows : List (List Bool)) (st : List Status) → exact rows st ≡ true → InTwo rows (takens st)
+pub exact-two : (masks : List (List Bool)) (st : List Status) → exact masks st ≡ true → InTwo masks (takens st)
 unfolding exact
-exact-two [] st e row i = absurd i
-exact-two (r ∷ rows) st e row (inl q) =
-    ap (λ (l : List Bool). count (both l (takens st))) q ∙ count-takens r st ∙ eqb-true (takenOn r st) 2 (and-left (eqb (takenOn r st) 2) (exact rows st) e)
-exact-two (r ∷ rows) st e row (inr i) = exact-two rows st (and-right (eqb (takenOn r st) 2) (exact rows st) e) row i
+exact-two [] st e mask i = absurd i
+exact-two (r ∷ masks) st e mask (inl q) =
+    ap (λ (l : List Bool). count (both l (takens st))) q ∙ count-takens r st ∙ eqb-true (takenOn r st) 2 (and-left (eqb (takenOn r st) 2) (exact masks st) e)
+exact-two (r ∷ masks) st e mask (inr i) = exact-two masks st (and-right (eqb (takenOn r st) 2) (exact masks st) e) mask i
 
-module _ (d : Wire) (cs : List Loop) (st : List Status) (two : exact (tablesOf d cs .rows) st ≡ true) where
-  same-count : length (tablesOf d cs .rows) ≡ length (tablesOf d cs .ups)
+module _ (d : Wire) (cs : List Loop) (st : List Status) (two : exact (tablesOf d cs .masks) st ≡ true) where
+  same-count : length (tablesOf d cs .masks) ≡ length (tablesOf d cs .ups)
   unfolding tablesOf
   same-count = length-map (d .edges) (λ e. map (has e) cs) ∙ sym (length-map (d .edges) (λ e. map (runsUp e) cs))
 
   reports : Reports (judgedByFaces (tablesOf d cs) (takens st)) (judged (tablesOf d cs) (takens st))
-  reports = reports-by-faces (tablesOf d cs) (takens st) same-count (exact-two (tablesOf d cs .rows) st two)
+  reports = reports-by-faces (tablesOf d cs) (takens st) same-count (exact-two (tablesOf d cs .masks) st two)
 
   pub accepted-by-faces : isSolid (judgedByFaces (tablesOf d cs) (takens st)) ≡ accepted (tablesOf d cs) st
   unfolding accepted

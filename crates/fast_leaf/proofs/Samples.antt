@@ -7,14 +7,14 @@ use lib.IntN.{pos}
 use Rattle.sets.specs.Word.{count, first, both, either, less, only}
 use Rattle.paper.specs.Solids.{Tables, unlike, onceEachWay, oriented, Solid, judged}
 use Rattle.means_leaf.specs.Meaning.{InTwo}
-use Rattle.fast_sweeps.specs.Worklist.{after, sides}
-use Rattle.fast_leaf.specs.Faces.{atEdge, around, atFace, goOn, fromLowest, clearOn, sixOn, judgedByFaces, Agrees}
+use Rattle.fast_sweeps.specs.Worklist.{after, edgesWith}
+use Rattle.fast_leaf.specs.Faces.{atEdge, aroundFace, atFace, goOn, fromLowest, clearOn, sixOn, judgedByFaces, Agrees}
 use Rattle.fast_leaf.proofs.Judged.{judged-by-faces}
 
 -- "Tetrahedron (0,0,0) (6,0,0) (0,6,0) (0,0,6)": its faces 0 1 2, 0 1 3, 0 2 3 and 1 2 3
 abbrev pub tetrahedron : Tables
 tetrahedron = record {
-  rows =
+  masks =
       (true ∷ true ∷ false ∷ false ∷ []) ∷ (true ∷ false ∷ true ∷ false ∷ []) ∷ (false ∷ true ∷ true ∷ false ∷ []) ∷ (true ∷ false ∷ false ∷ true ∷ [])
       ∷ (false ∷ true ∷ false ∷ true ∷ []) ∷ (false ∷ false ∷ true ∷ true ∷ []) ∷ [];
   ups =
@@ -28,19 +28,19 @@ tetrahedron = record {
 abbrev pub four : List Bool
 four = true ∷ true ∷ true ∷ true ∷ []
 
-pub tetrahedron-two : InTwo (tetrahedron .rows) four
+pub tetrahedron-two : InTwo (tetrahedron .masks) four
 unfolding count both
-tetrahedron-two row (inl e) = ap (λ (x : List Bool). count (both x four)) e
-tetrahedron-two row (inr (inl e)) = ap (λ (x : List Bool). count (both x four)) e
-tetrahedron-two row (inr (inr (inl e))) = ap (λ (x : List Bool). count (both x four)) e
-tetrahedron-two row (inr (inr (inr (inl e)))) = ap (λ (x : List Bool). count (both x four)) e
-tetrahedron-two row (inr (inr (inr (inr (inl e))))) = ap (λ (x : List Bool). count (both x four)) e
-tetrahedron-two row (inr (inr (inr (inr (inr (inl e)))))) = ap (λ (x : List Bool). count (both x four)) e
-tetrahedron-two row (inr (inr (inr (inr (inr (inr i)))))) = absurd i
+tetrahedron-two mask (inl e) = ap (λ (x : List Bool). count (both x four)) e
+tetrahedron-two mask (inr (inl e)) = ap (λ (x : List Bool). count (both x four)) e
+tetrahedron-two mask (inr (inr (inl e))) = ap (λ (x : List Bool). count (both x four)) e
+tetrahedron-two mask (inr (inr (inr (inl e)))) = ap (λ (x : List Bool). count (both x four)) e
+tetrahedron-two mask (inr (inr (inr (inr (inl e))))) = ap (λ (x : List Bool). count (both x four)) e
+tetrahedron-two mask (inr (inr (inr (inr (inr (inl e)))))) = ap (λ (x : List Bool). count (both x four)) e
+tetrahedron-two mask (inr (inr (inr (inr (inr (inr i)))))) = absurd i
 
 -- "six volumes 216"
 pub tetrahedron-faces : judgedByFaces tetrahedron four ≡ Solid (true ∷ false ∷ true ∷ false ∷ []) 216
-unfolding count first both either less only unlike onceEachWay oriented after sides atEdge around atFace goOn fromLowest clearOn sixOn judgedByFaces xor
+unfolding count first both either less only unlike onceEachWay oriented after edgesWith atEdge aroundFace atFace goOn fromLowest clearOn sixOn judgedByFaces xor
 tetrahedron-faces = refl
 
 pub tetrahedron-agrees : Agrees (judgedByFaces tetrahedron four) (judged tetrahedron four)

@@ -75,10 +75,10 @@ unlike-word (false ∷ a) (true ∷ b) = xor-digits (word a) (word b) low high �
 unlike-word (false ∷ a) (false ∷ b) = xor-digits (word a) (word b) low low ∙ ap (λ (u : ℕ). u * 2 + 0) (unlike-word a b)
 
 -- "on & taken & !face", at a width k
-pub others-word : (k : ℕ) (row taken : List Bool) (f : ℕ) → length row ≤ k → f < k → bitAnd (bitAnd (word row) (word taken)) ((2 ^ k - 1) - word (only f)) ≡ word (others row taken f)
-others-word k row taken f h l =
+pub others-word : (k : ℕ) (mask taken : List Bool) (f : ℕ) → length mask ≤ k → f < k → bitAnd (bitAnd (word mask) (word taken)) ((2 ^ k - 1) - word (only f)) ≡ word (others mask taken f)
+others-word k mask taken f h l =
     let n : length (only f) ≤ k = omega (arith, length-only f) in
-    ap (λ (m : ℕ). bitAnd m ((2 ^ k - 1) - word (only f))) (and-word row taken) ∙ less-word k (both row taken) (only f) (le-trans (length-both row taken) h) n
+    ap (λ (m : ℕ). bitAnd m ((2 ^ k - 1) - word (only f))) (and-word mask taken) ∙ less-word k (both mask taken) (only f) (le-trans (length-both mask taken) h) n
 
 -- "(runs & face == 0) ^ (runs & other == 0)"
 and-turn : (x y : Bool) → (x && y) ≡ (y && x)

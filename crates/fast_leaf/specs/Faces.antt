@@ -9,7 +9,7 @@ use lib.ListN.{getD}
 use lib.IntN.{ℤ, pos, _+ℤ_}
 use Rattle.sets.specs.Word.{dig, count, first, both, either, less, only}
 use Rattle.paper.specs.Solids.{Tables, unlike, oriented, part, weighed, Judgement, Fails, Solid}
-use Rattle.fast_sweeps.specs.Worklist.{after, sides}
+use Rattle.fast_sweeps.specs.Worklist.{after, edgesWith}
 
 -- the faces that are reached, those of them whose edges are still to be gone over, and those that are turned against their normal form
 pub record Going : Type 0 where
@@ -21,7 +21,7 @@ pub record Going : Type 0 where
 
 -- "on[e] & taken & !face"
 abbrev pub others : List Bool → List Bool → ℕ → List Bool
-others row taken f = less (both row taken) (only f)
+others mask taken f = less (both mask taken) (only f)
 
 -- face f and the others run the edge in unlike ways: "(face & runs == 0) ^ (other & runs == 0)", with runs "up[e] ^ turned"
 abbrev pub unlikeWays : List Bool → ℕ → List Bool → Bool
@@ -29,32 +29,32 @@ unlikeWays runs f other = xor (eqb (count (both (only f) runs)) 0) (eqb (count (
 
 -- none of the others is reached yet: they are, they wait, and they are turned where they run the edge as face f does
 unfoldable pub atEdge : List Bool → List Bool → List Bool → ℕ → Going → Going
-atEdge row up taken f g =
-    cond (eqb (count (both (g .reached) (others row taken f))) 0)
+atEdge mask up taken f g =
+    cond (eqb (count (both (g .reached) (others mask taken f))) 0)
     (record {
-      reached = either (g .reached) (others row taken f);
-      waiting = either (g .waiting) (others row taken f);
-      turned = cond (unlikeWays (unlike up (g .turned)) f (others row taken f)) (g .turned) (either (g .turned) (others row taken f));
+      reached = either (g .reached) (others mask taken f);
+      waiting = either (g .waiting) (others mask taken f);
+      turned = cond (unlikeWays (unlike up (g .turned)) f (others mask taken f)) (g .turned) (either (g .turned) (others mask taken f));
     })
     g
 
 -- ---- the n lowest edges of `left`, in order
-unfoldable pub around : ℕ → List (List Bool) → List (List Bool) → List Bool → ℕ → List Bool → Going → Going
-around zero rows ups taken f left g = g
-around (suc n) rows ups taken f left g =
-    around n rows ups taken f (after left) (atEdge (getD rows (first left) []) (getD ups (first left) []) taken f g)
+unfoldable pub aroundFace : ℕ → List (List Bool) → List (List Bool) → List Bool → ℕ → List Bool → Going → Going
+aroundFace zero masks ups taken f left g = g
+aroundFace (suc n) masks ups taken f left g =
+    aroundFace n masks ups taken f (after left) (atEdge (getD masks (first left) []) (getD ups (first left) []) taken f g)
 
 -- ---- the lowest waiting face, over all of its edges
 unfoldable pub atFace : List (List Bool) → List (List Bool) → List Bool → Going → Going
-atFace rows ups taken g =
-    around (count (sides rows (first (g .waiting)))) rows ups taken (first (g .waiting)) (sides rows (first (g .waiting)))
+atFace masks ups taken g =
+    aroundFace (count (edgesWith masks (first (g .waiting)))) masks ups taken (first (g .waiting)) (edgesWith masks (first (g .waiting)))
     (record { reached = g .reached; waiting = after (g .waiting); turned = g .turned })
 
 -- until none waits, at most n times
 unfoldable pub goOn : ℕ → List (List Bool) → List (List Bool) → List Bool → Going → Going
-goOn zero rows ups taken g = g
-goOn (suc n) rows ups taken g =
-    let next = goOn n rows ups taken (atFace rows ups taken g) in
+goOn zero masks ups taken g = g
+goOn (suc n) masks ups taken g =
+    let next = goOn n masks ups taken (atFace masks ups taken g) in
     cond (eqb (count (g .waiting)) 0) g next
 
 -- so many times are enough
@@ -66,7 +66,7 @@ abbrev pub atLowest : List Bool → Going
 atLowest taken = record { reached = only (first taken); waiting = only (first taken); turned = [] }
 
 unfoldable pub fromLowest : List (List Bool) → List (List Bool) → List Bool → Going
-fromLowest rows ups taken = goOn (count taken) rows ups taken (atLowest taken)
+fromLowest masks ups taken = goOn (count taken) masks ups taken (atLowest taken)
 
 -- ---- (v) and (iv) over the n lowest of the taken faces `left`
 unfoldable pub clearOn : ℕ → List (List Bool) → List Bool → List Bool → Bool
@@ -80,10 +80,10 @@ sixOn (suc n) zs left turned = part true (dig turned (first left)) (getD zs (fir
 -- ---- all of it
 unfoldable pub judgedByFaces : Tables → List Bool → Judgement
 judgedByFaces t taken =
-    let g = fromLowest (t .rows) (t .ups) taken in
+    let g = fromLowest (t .masks) (t .ups) taken in
     cond (eqb (count taken) 0) Fails
     (cond (eqb (count (less taken (g .reached))) 0)
-    (cond (oriented (t .rows) (t .ups) taken (g .turned))
+    (cond (oriented (t .masks) (t .ups) taken (g .turned))
     (cond (clearOn (count taken) (t .clashes) taken taken) (weighed taken (g .turned) (sixOn (count taken) (t .sixes) taken (g .turned))) Fails)
     Fails)
     Fails)

@@ -23,9 +23,9 @@ use Rattle.paper.specs.Drawing.{Wire, Edge, edge, at, edgeAt, joins, joined, sa
 use Rattle.paper.specs.Loops.{final, closes, branch, scan, ext, follows, across, level, loops}
 use Rattle.paper.specs.declared.Point.{Point}
 use Rattle.means_clash.proofs.Either.{origin-yes}
-use Rattle.fast_search.specs.Search.{near, higher, turn, step, found}
+use Rattle.fast_search.specs.Search.{near, higher, turn, step, inItsPlane}
 use Rattle.fast_search.specs.Bare.{bareLine, bareSeconds, bareStarts, bareSearch}
-use Rattle.fast_search.proofs.Scan.{map-append, goes, over-scan}
+use Rattle.fast_search.proofs.Scan.{map-append, goes, each-scan}
 use Rattle.fast_search.proofs.Phases.{none-self, two-line, across-turn, level-line}
 use Rattle.fast_search.proofs.Line.{Between, between-open, between-turned, self-above, no-place, start-between, short-between, long-between, at-end}
 use Rattle.fast_search.proofs.Search.{joined-back, final-more, can, ends, size, follow, deep, begun, Free, Closing, row-is, free-more, deeper-is, step-is, higher-free, start-level, start-closing, follow-can, follow-uses, closes-ends, final-in}
@@ -121,26 +121,26 @@ module _ (d : Wire) (places : samePlace d ≡ none) (meets : edgeMeets d ≡ non
         (ahead-more (final (x ∷ (y ∷ r))) w h (λ e. absurd (omega arith)) (and-left (joined d (final (x ∷ (y ∷ r))) w) (can d (x ∷ (y ∷ r)) w) s) (turn-line r w q) a)
 
     bare-line-is : (k : ℕ) (r : List ℕ) (free closing : List Bool) → isOrigin (across d (x ∷ (y ∷ r))) ≡ true → Free d (x ∷ (y ∷ r)) free
-        → Closing d (x ∷ (y ∷ r)) closing → final (x ∷ (y ∷ r)) < size d → Ahead x y (final (x ∷ (y ∷ r))) → bareLine d k (x ∷ (y ∷ r)) free closing ≡ map (found d) (begun d k (x ∷ (y ∷ r)))
+        → Closing d (x ∷ (y ∷ r)) closing → final (x ∷ (y ∷ r)) < size d → Ahead x y (final (x ∷ (y ∷ r))) → bareLine d k (x ∷ (y ∷ r)) free closing ≡ map (inItsPlane d) (begun d k (x ∷ (y ∷ r)))
     unfolding bareLine ext Closing
-    bare-line-is zero r free closing o f c l a = ap (map (found d)) (sym (begun-deep 0 (x ∷ (y ∷ r)) (open-path r l a)))
+    bare-line-is zero r free closing o f c l a = ap (map (inItsPlane d)) (sym (begun-deep 0 (x ∷ (y ∷ r)) (open-path r l a)))
     bare-line-is (suc k) r free closing o f c l a =
         deeper-is d k x y r free closing (λ w rest. step d (λ q g. bareLine d k q g closing) k (x ∷ (y ∷ r)) free closing w) f c
         (λ w rest h t. step-is d k x y r free closing (λ q g. bareLine d k q g closing) w o f c h t
         (λ q. let o' : isOrigin (across d (x ∷ (y ∷ (r ++ w ∷ [])))) ≡ true = ap isOrigin (across-turn d x y r w o) ∙ q in
         bare-line-is k (r ++ w ∷ []) (less free (only w)) closing o'
         (free-more d x (y ∷ r) w free (λ j. level-line d (x ∷ (y ∷ (r ++ w ∷ []))) o' j ∙ sym (level-line d (x ∷ (y ∷ r)) o j)) f) c (final-in d x y r w h) (ahead-next r w h t q a)))
-        ∙ ap (map (found d)) (sym (begun-deep (suc k) (x ∷ (y ∷ r)) (open-path r l a)))
+        ∙ ap (map (inItsPlane d)) (sym (begun-deep (suc k) (x ∷ (y ∷ r)) (open-path r l a)))
 
   -- ---- from the start
-  bare-seconds-is : (x : ℕ) → x < size d → bareSeconds d x ≡ map (found d) (deep d 11 (x ∷ []))
+  bare-seconds-is : (x : ℕ) → x < size d → bareSeconds d x ≡ map (inItsPlane d) (deep d 11 (x ∷ []))
   unfolding bareSeconds ext
   bare-seconds-is x hx =
-      over-scan (size d) (joined d) (level d) (found d) (λ w rest. bareLine d 10 (x ∷ (w ∷ [])) (less (higher d x) (only w)) rest) (deep d 10) (x ∷ []) same 0 (size d - 0) (omega arith)
+      each-scan (size d) (joined d) (level d) (inItsPlane d) (λ w rest. bareLine d 10 (x ∷ (w ∷ [])) (less (higher d x) (only w)) rest) (deep d 10) (x ∷ []) same 0 (size d - 0) (omega arith)
       (both (near d x) (higher d x)) start
     where
       same : (w : ℕ) (rest : List Bool) → w < size d → follow d (x ∷ []) w ≡ true → ((j : ℕ) → dig rest j ≡ (ltb w j && goes (size d) (joined d) (level d) (x ∷ []) j))
-          → bareLine d 10 (x ∷ (w ∷ [])) (less (higher d x) (only w)) rest ≡ map (found d) (begun d 10 (x ∷ (w ∷ [])))
+          → bareLine d 10 (x ∷ (w ∷ [])) (less (higher d x) (only w)) rest ≡ map (inItsPlane d) (begun d 10 (x ∷ (w ∷ [])))
       same w rest h t r =
           let s : (joined d x w && can d (x ∷ []) w) ≡ true = sym (follow-can d x [] w) ∙ t in
           let b : x < w = ltb-true x w (and-left (ltb x w) (not (member w (x ∷ []))) (and-left (ltb x w && not (member w (x ∷ []))) (level d (x ∷ []) w) (follow-uses d x [] w t))) in
@@ -153,15 +153,15 @@ module _ (d : Wire) (places : samePlace d ≡ none) (meets : edgeMeets d ≡ non
           let z : j ≡ 0 + j = omega arith in
           row-is d x [] (higher d x) (higher-free d x) j ∙ ap (goes (size d) (joined d) (level d) (x ∷ [])) z
 
-  bare-starts-is : (i k : ℕ) → i + k ≤ size d → bareStarts d i k ≡ map (found d) (scan (size d) (joined d) (level d) (deep d 11) [] i k)
+  bare-starts-is : (i k : ℕ) → i + k ≤ size d → bareStarts d i k ≡ map (inItsPlane d) (scan (size d) (joined d) (level d) (deep d 11) [] i k)
   unfolding bareStarts scan follows branch closes
   bare-starts-is i zero h = refl
   bare-starts-is i (suc k) h =
       (λ t. bare-seconds-is i (omega arith) t ++ bare-starts-is (suc i) k (omega arith) t)
-      ∙ sym (map-append (found d) (deep d 11 (i ∷ [])) (scan (size d) (joined d) (level d) (deep d 11) [] (suc i) k))
+      ∙ sym (map-append (inItsPlane d) (deep d 11 (i ∷ [])) (scan (size d) (joined d) (level d) (deep d 11) [] (suc i) k))
 
-  pub bare-is : bareSearch d ≡ map (found d) (loops d)
+  pub bare-is : bareSearch d ≡ map (inItsPlane d) (loops d)
   unfolding bareSearch loops ext
   bare-is =
       let z : size d ≡ size d - 0 = omega arith in
-      bare-starts-is 0 (size d) (omega arith) ∙ ap (λ (k : ℕ). map (found d) (scan (size d) (joined d) (level d) (deep d 11) [] 0 k)) z
+      bare-starts-is 0 (size d) (omega arith) ∙ ap (λ (k : ℕ). map (inItsPlane d) (scan (size d) (joined d) (level d) (deep d 11) [] 0 k)) z

@@ -9,9 +9,9 @@ use lib.ListN.{length, take, length-append}
 use lib.Seq.{take-all, take-append-le, append-snoc}
 use borrow.Author.Tests.{ltb-true, ltb-false}
 use Rattle.sets.specs.Word.{count, first, less, only}
-use Rattle.fast_search.specs.Rows.{empty, over}
+use Rattle.fast_search.specs.Rows.{empty, eachOf}
 use Rattle.fast_search.specs.Cut.{Table, table, recorded, takeIn, takeAll}
-use Rattle.fast_search.proofs.Rows.{over-next, over-end}
+use Rattle.fast_search.proofs.Rows.{each-next, each-end}
 
 module _ {A : Type 0} (m : ℕ) where
   -- one more, with room for it: it comes behind the others
@@ -64,15 +64,15 @@ module _ {A : Type 0} (m : ℕ) where
 -- of the word, and the loop keeps that what is left brings `now` to the whole
 module _ {A : Type 0} (f : ℕ → List Bool → List A) where
   abbrev pub Whole : List A → List Bool → List A → Type 0
-  Whole now left all = now ++ over f 0 left ≡ all
+  Whole now left all = now ++ eachOf f 0 left ≡ all
 
   pub whole-next : (now : List A) (left : List Bool) (all : List A) → (count left ≡ 0 → ⊥) → Whole now left all → Whole (now ++ f (first left) (less left (only (first left)))) (less left (only (first left))) all
   whole-next now left all n w =
-      append-assoc now (f (first left) (less left (only (first left)))) (over f 0 (less left (only (first left)))) ∙ ap (λ (l : List A). now ++ l) (sym (over-next f left n)) ∙ w
+      append-assoc now (f (first left) (less left (only (first left)))) (eachOf f 0 (less left (only (first left)))) ∙ ap (λ (l : List A). now ++ l) (sym (each-next f left n)) ∙ w
 
   pub whole-end : (now : List A) (left : List Bool) (all : List A) → empty left ≡ true → Whole now left all → now ≡ all
-  whole-end now left all e w = sym (append-nil now) ∙ ap (λ (l : List A). now ++ l) (sym (over-end f left e)) ∙ w
+  whole-end now left all e w = sym (append-nil now) ∙ ap (λ (l : List A). now ++ l) (sym (each-end f left e)) ∙ w
 
   -- the table is full: it is that of the whole
   pub whole-full : (m : ℕ) (now : List A) (left : List Bool) (all : List A) → m < min (suc m) (length now) → Whole now left all → table m now ≡ table m all
-  whole-full m now left all h w = sym (table-full m now (over f 0 left) h) ∙ ap (table m) w
+  whole-full m now left all h w = sym (table-full m now (eachOf f 0 left) h) ∙ ap (table m) w

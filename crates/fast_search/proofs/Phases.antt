@@ -19,7 +19,7 @@ use Rattle.means_clash.proofs.Combine.{vars, minusE, crossE}
 use Rattle.means_clash.proofs.Planes.{yes-zero, none-dot}
 use Rattle.means_clash.proofs.Either.{origin-yes}
 use Rattle.means_clash.proofs.Level.{tilt-none, own-zero}
-use Rattle.fast_search.specs.Search.{inside, planeRow, planeOf, turn, every}
+use Rattle.fast_search.specs.Search.{onPlane, planeMask, planeOf, turn, every}
 
 map-more : (f : ℕ → Point) (p : List ℕ) (v : ℕ) → map f (p ++ v ∷ []) ≡ map f p ++ f v ∷ []
 map-more f [] v = refl
@@ -95,16 +95,16 @@ module _ (d : Wire) where
       let q = minus (at d w) (at d (getD p 0 0)) in
       yes-zero (dot (across d p) q) (ap (λ (n : Point). dot n q) (origin-yes (across d p) e) ∙ none-dot q)
 
-  pub level-is : (p : List ℕ) (w : ℕ) → level d p w ≡ inside d (at d (getD p 0 0)) (across d p) w
-  unfolding level inside
+  pub level-is : (p : List ℕ) (w : ℕ) → level d p w ≡ onPlane d (at d (getD p 0 0)) (across d p) w
+  unfolding level onPlane
   level-is p w = refl
 
   pub level-found : (x y : ℕ) (r : List ℕ) (v : ℕ) → isOrigin (across d (x ∷ (y ∷ r))) ≡ false → (w : ℕ) → level d (x ∷ (y ∷ (r ++ v ∷ []))) w ≡ level d (x ∷ (y ∷ r)) w
   level-found x y r v e w =
-      level-is (x ∷ (y ∷ (r ++ v ∷ []))) w ∙ ap (λ (n : Point). inside d (at d x) n w) (across-found x y r v e) ∙ sym (level-is (x ∷ (y ∷ r)) w)
+      level-is (x ∷ (y ∷ (r ++ v ∷ []))) w ∙ ap (λ (n : Point). onPlane d (at d x) n w) (across-found x y r v e) ∙ sym (level-is (x ∷ (y ∷ r)) w)
 
-  pub level-turn : (x y : ℕ) (r : List ℕ) (v : ℕ) → isOrigin (across d (x ∷ (y ∷ r))) ≡ true → (w : ℕ) → level d (x ∷ (y ∷ (r ++ v ∷ []))) w ≡ inside d (at d x) (turn d (x ∷ (y ∷ r)) v) w
-  level-turn x y r v e w = level-is (x ∷ (y ∷ (r ++ v ∷ []))) w ∙ ap (λ (n : Point). inside d (at d x) n w) (across-turn x y r v e)
+  pub level-turn : (x y : ℕ) (r : List ℕ) (v : ℕ) → isOrigin (across d (x ∷ (y ∷ r))) ≡ true → (w : ℕ) → level d (x ∷ (y ∷ (r ++ v ∷ []))) w ≡ onPlane d (at d x) (turn d (x ∷ (y ∷ r)) v) w
+  level-turn x y r v e w = level-is (x ∷ (y ∷ (r ++ v ∷ []))) w ∙ ap (λ (n : Point). onPlane d (at d x) n w) (across-turn x y r v e)
 
   -- a vertex added never makes another level
   pub level-back : (x y : ℕ) (r : List ℕ) (v w : ℕ) → level d (x ∷ (y ∷ (r ++ v ∷ []))) w ≡ true → level d (x ∷ (y ∷ r)) w ≡ true
@@ -115,33 +115,33 @@ module _ (d : Wire) where
       go false e = sym (level-found x y r v e w) ∙ h
 
   -- the vertex that fixes the plane is in it
-  pub turn-inside : (x y : ℕ) (r : List ℕ) (v : ℕ) → inside d (at d x) (turn d (x ∷ (y ∷ r)) v) v ≡ true
-  unfolding inside turn
+  pub turn-inside : (x y : ℕ) (r : List ℕ) (v : ℕ) → onPlane d (at d x) (turn d (x ∷ (y ∷ r)) v) v ≡ true
+  unfolding onPlane turn
   turn-inside x y r v =
       let e = minus (at d y) (at d x) in
       let q = minus (at d v) (at d x) in
       yes-zero (dot (cross e q) q) (own-zero e q)
 
   -- ---- the digits of those in the plane
-  pub plane-at : (s m : Point) (w : ℕ) → w < length (d .vertices) → dig (planeRow d s m) w ≡ inside d s m w
-  unfolding planeRow
-  plane-at s m w h = made-at (inside d s m) (length (d .vertices)) w false h
+  pub plane-at : (s m : Point) (w : ℕ) → w < length (d .vertices) → dig (planeMask d s m) w ≡ onPlane d s m w
+  unfolding planeMask
+  plane-at s m w h = made-at (onPlane d s m) (length (d .vertices)) w false h
 
   pub planeOf-at : (p : List ℕ) (w : ℕ) → w < length (d .vertices) → dig (planeOf d p) w ≡ level d p w
   unfolding planeOf
   planeOf-at p w h = plane-at (at d (getD p 0 0)) (across d p) w h ∙ sym (level-is p w)
 
-  pub plane-length : (s m : Point) → length (planeRow d s m) ≡ length (d .vertices)
-  unfolding planeRow
-  plane-length s m = made-length (inside d s m) (length (d .vertices))
+  pub plane-length : (s m : Point) → length (planeMask d s m) ≡ length (d .vertices)
+  unfolding planeMask
+  plane-length s m = made-length (onPlane d s m) (length (d .vertices))
 
   pub planeOf-found : (x y : ℕ) (r : List ℕ) (v : ℕ) → isOrigin (across d (x ∷ (y ∷ r))) ≡ false → planeOf d (x ∷ (y ∷ (r ++ v ∷ []))) ≡ planeOf d (x ∷ (y ∷ r))
   unfolding planeOf
-  planeOf-found x y r v e = ap (planeRow d (at d x)) (across-found x y r v e)
+  planeOf-found x y r v e = ap (planeMask d (at d x)) (across-found x y r v e)
 
-  pub planeOf-turn : (x y : ℕ) (r : List ℕ) (v : ℕ) → isOrigin (across d (x ∷ (y ∷ r))) ≡ true → planeOf d (x ∷ (y ∷ (r ++ v ∷ []))) ≡ planeRow d (at d x) (turn d (x ∷ (y ∷ r)) v)
+  pub planeOf-turn : (x y : ℕ) (r : List ℕ) (v : ℕ) → isOrigin (across d (x ∷ (y ∷ r))) ≡ true → planeOf d (x ∷ (y ∷ (r ++ v ∷ []))) ≡ planeMask d (at d x) (turn d (x ∷ (y ∷ r)) v)
   unfolding planeOf
-  planeOf-turn x y r v e = ap (planeRow d (at d x)) (across-turn x y r v e)
+  planeOf-turn x y r v e = ap (planeMask d (at d x)) (across-turn x y r v e)
 
   -- on a line all are
   pub planeOf-line : (p : List ℕ) → isOrigin (across d p) ≡ true → planeOf d p ≡ every d

@@ -15,7 +15,7 @@ use Rattle.paper.specs.declared.Point.{Point}
 use Rattle.exact.proofs.Ring.{con}
 use Rattle.means_clash.proofs.Combine.{combine, vars, minusE, dotE}
 use Rattle.means_clash.proofs.Planes.{zero-yes, yes-zero, same-offset}
-use Rattle.fast_search.specs.Search.{Found, inside, planeOf, found, search}
+use Rattle.fast_search.specs.Search.{InItsPlane, onPlane, planeOf, inItsPlane, search}
 use Rattle.fast_search.proofs.Phases.{plane-at, plane-length}
 use Rattle.fast_search.proofs.Search.{search-is}
 
@@ -28,7 +28,7 @@ offset-same n p q e =
 
 module _ (d : Wire) where
   pub plane-digit : (l : Loop) (w : ℕ) → w < length (d .vertices) → dig (planeOf d l) w ≡ isZero (dot (across d l) (minus (at d w) (at d (getD l 0 0))))
-  unfolding planeOf inside
+  unfolding planeOf onPlane
   plane-digit l w h = plane-at d (at d (getD l 0 0)) (across d l) w h
 
   pub plane-past : (l : Loop) (w : ℕ) → length (d .vertices) ≤ w → dig (planeOf d l) w ≡ false
@@ -36,14 +36,14 @@ module _ (d : Wire) where
   plane-past l w h = List·getD-eq-default (planeOf d l) false (omega (arith, plane-length d (at d (getD l 0 0)) (across d l)))
 
   -- the loop of number i, and the vertices in its plane
-  pub search-at : (i : ℕ) → i < length (loops d) → getD (search d) i (found d []) ≡ found d (loopAt (loops d) i)
-  search-at i h = ap (λ (l : List Found). getD l i (found d [])) (search-is d) ∙ map-at (found d) (loops d) i [] (found d []) h
+  pub search-at : (i : ℕ) → i < length (loops d) → getD (search d) i (inItsPlane d []) ≡ inItsPlane d (loopAt (loops d) i)
+  search-at i h = ap (λ (l : List InItsPlane). getD l i (inItsPlane d [])) (search-is d) ∙ map-at (inItsPlane d) (loops d) i [] (inItsPlane d []) h
 
   -- in the plane: at the offset of s
-  pub inside-offset : (s m : Point) (w : ℕ) → inside d s m w ≡ true → dot m (at d w) ≡ dot m s
-  unfolding inside
+  pub inside-offset : (s m : Point) (w : ℕ) → onPlane d s m w ≡ true → dot m (at d w) ≡ dot m s
+  unfolding onPlane
   inside-offset s m w e = same-offset m (at d w) s (zero-yes (dot m (minus (at d w) s)) e)
 
-  pub offset-inside : (s m : Point) (w : ℕ) → dot m (at d w) ≡ dot m s → inside d s m w ≡ true
-  unfolding inside
+  pub offset-inside : (s m : Point) (w : ℕ) → dot m (at d w) ≡ dot m s → onPlane d s m w ≡ true
+  unfolding onPlane
   offset-inside s m w e = yes-zero (dot m (minus (at d w) s)) (offset-same m (at d w) s e)

@@ -12,7 +12,7 @@ use Rattle.lists.proofs.Truth.{never, or-none}
 use Rattle.sets.specs.Word.{word, digit, dig, count, first, less, only}
 use Rattle.sets.proofs.Numbers.{digit-zero, digit-word, none-digits}
 use Rattle.sets.proofs.Digits.{count-none, count-empty}
-use Rattle.fast_search.specs.Rows.{empty, over, someOf}
+use Rattle.fast_search.specs.Rows.{empty, eachOf, someOf}
 
 -- ---- one digit
 pub only-is : (v j : ℕ) → dig (only v) j ≡ eqb j v
@@ -69,32 +69,32 @@ count-is-empty a e = eq-eqb (word a) 0 (none-digits (word a) (λ k. digit-word a
 
 -- ---- a loop over the set digits: at each turn the first that is set, and what is left without it
 module _ {A : Type 0} (f : ℕ → List Bool → List A) where
-  over-at : (i : ℕ) (a : List Bool) → (count a ≡ 0 → ⊥)
-      → over f i a ≡ f (i + first a) (replicate i false ++ less a (only (first a))) ++ over f i (less a (only (first a)))
-  unfolding over count first less only
-  over-at i [] n = absurd (n refl)
-  over-at i (true ∷ bs) n =
+  each-at : (i : ℕ) (a : List Bool) → (count a ≡ 0 → ⊥)
+      → eachOf f i a ≡ f (i + first a) (replicate i false ++ less a (only (first a))) ++ eachOf f i (less a (only (first a)))
+  unfolding eachOf count first less only
+  each-at i [] n = absurd (n refl)
+  each-at i (true ∷ bs) n =
       let e : replicate (suc i) false ++ bs ≡ replicate i false ++ (false ∷ less bs []) = sym (nils-shift i bs) ∙ ap (λ (l : List Bool). replicate i false ++ (false ∷ l)) (sym (less-nil bs)) in
       let z : i ≡ i + 0 = omega arith in
-      λ t. f (z t) (e t) ++ over f (suc i) (sym (less-nil bs) t)
-  over-at i (false ∷ bs) n =
+      λ t. f (z t) (e t) ++ eachOf f (suc i) (sym (less-nil bs) t)
+  each-at i (false ∷ bs) n =
       let e : suc i + first bs ≡ i + suc (first bs) = omega arith in
-      over-at (suc i) bs (λ z. n (omega arith))
-      ∙ (λ t. f (e t) (sym (nils-shift i (less bs (only (first bs)))) t) ++ over f (suc i) (less bs (only (first bs))))
+      each-at (suc i) bs (λ z. n (omega arith))
+      ∙ (λ t. f (e t) (sym (nils-shift i (less bs (only (first bs)))) t) ++ eachOf f (suc i) (less bs (only (first bs))))
 
-  pub over-next : (a : List Bool) → (count a ≡ 0 → ⊥) → over f 0 a ≡ f (first a) (less a (only (first a))) ++ over f 0 (less a (only (first a)))
-  over-next a n =
+  pub each-next : (a : List Bool) → (count a ≡ 0 → ⊥) → eachOf f 0 a ≡ f (first a) (less a (only (first a))) ++ eachOf f 0 (less a (only (first a)))
+  each-next a n =
       let e : 0 + first a ≡ first a = omega arith in
-      over-at 0 a n ∙ (λ t. f (e t) (less a (only (first a))) ++ over f 0 (less a (only (first a))))
+      each-at 0 a n ∙ (λ t. f (e t) (less a (only (first a))) ++ eachOf f 0 (less a (only (first a))))
 
-  pub over-none : (i : ℕ) (a : List Bool) → ((k : ℕ) → dig a k ≡ false) → over f i a ≡ []
-  unfolding over
-  over-none i [] h = refl
-  over-none i (true ∷ bs) h = absurd (true≢false (h 0))
-  over-none i (false ∷ bs) h = over-none (suc i) bs (λ k. h (suc k))
+  pub each-none : (i : ℕ) (a : List Bool) → ((k : ℕ) → dig a k ≡ false) → eachOf f i a ≡ []
+  unfolding eachOf
+  each-none i [] h = refl
+  each-none i (true ∷ bs) h = absurd (true≢false (h 0))
+  each-none i (false ∷ bs) h = each-none (suc i) bs (λ k. h (suc k))
 
-  pub over-end : (a : List Bool) → empty a ≡ true → over f 0 a ≡ []
-  over-end a e = over-none 0 a (empty-none a e)
+  pub each-end : (a : List Bool) → empty a ≡ true → eachOf f 0 a ≡ []
+  each-end a e = each-none 0 a (empty-none a e)
 
 -- ---- whether a set digit passes
 module _ (t : ℕ → Bool) where

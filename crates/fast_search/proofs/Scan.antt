@@ -10,8 +10,8 @@ use lib.ListN.{replicate}
 use borrow.Author.Tests.{lt-ltb, le-ltb}
 use Rattle.sets.specs.Word.{dig}
 use Rattle.paper.specs.Loops.{Loop, follows, closes, branch, scan, ext}
-use Rattle.fast_search.specs.Rows.{over}
-use Rattle.fast_search.proofs.Rows.{nils-low, nils-high, over-none}
+use Rattle.fast_search.specs.Rows.{eachOf}
+use Rattle.fast_search.proofs.Rows.{nils-low, nils-high, each-none}
 
 pub map-append : {A B : Type 0} (g : A → B) (xs ys : List A) → map g (xs ++ ys) ≡ map g xs ++ map g ys
 map-append g [] ys = refl
@@ -39,15 +39,15 @@ module _ (n : ℕ) (linked : ℕ → ℕ → Bool) (level : List ℕ → ℕ →
             ap (dig (replicate (suc i) false ++ bs)) e ∙ nils-high (suc i) (j - suc i) bs ∙ h (j - suc i) ∙ ap (goes p) e'
             ∙ sym (ap (λ (b : Bool). b && goes p j) (lt-ltb i j k))
 
-    pub over-scan : (i k : ℕ) → i + k ≡ n → (row : List Bool) → ((j : ℕ) → dig row j ≡ goes p (i + j)) → over f i row ≡ map g (scan n linked level deeper p i k)
-    unfolding over scan
-    over-scan i zero s row h = over-none f i row (λ j. h j ∙ past j)
+    pub each-scan : (i k : ℕ) → i + k ≡ n → (row : List Bool) → ((j : ℕ) → dig row j ≡ goes p (i + j)) → eachOf f i row ≡ map g (scan n linked level deeper p i k)
+    unfolding eachOf scan
+    each-scan i zero s row h = each-none f i row (λ j. h j ∙ past j)
       where
         past : (j : ℕ) → goes p (i + j) ≡ false
         past j = ap (λ (b : Bool). b && follows n linked level p (i + j)) (le-ltb (i + j) n (omega arith))
-    over-scan i (suc k) s [] h = sym (map-append g (branch n linked level (follows n linked level p i) deeper (p ++ i ∷ [])) (scan n linked level deeper p (suc i) k)
+    each-scan i (suc k) s [] h = sym (map-append g (branch n linked level (follows n linked level p i) deeper (p ++ i ∷ [])) (scan n linked level deeper p (suc i) k)
         ∙ (λ t. map g (branch-none (follows n linked level p i) none (p ++ i ∷ []) t) ++ map g (scan n linked level deeper p (suc i) k))
-        ∙ sym (over-scan (suc i) k (omega arith) [] later))
+        ∙ sym (each-scan (suc i) k (omega arith) [] later))
       where
         here : ltb i n ≡ true
         here = lt-ltb i n (omega arith)
@@ -62,8 +62,8 @@ module _ (n : ℕ) (linked : ℕ → ℕ → Bool) (level : List ℕ → ℕ →
         later j =
             let e : i + suc j ≡ suc i + j = omega arith in
             h (suc j) ∙ ap (goes p) e
-    over-scan i (suc k) s (b ∷ bs) h =
-        go b refl (over-scan (suc i) k (omega arith) bs later)
+    each-scan i (suc k) s (b ∷ bs) h =
+        go b refl (each-scan (suc i) k (omega arith) bs later)
         ∙ sym (map-append g (branch n linked level (follows n linked level p i) deeper (p ++ i ∷ [])) (scan n linked level deeper p (suc i) k))
       where
         here : ltb i n ≡ true
@@ -80,8 +80,8 @@ module _ (n : ℕ) (linked : ℕ → ℕ → Bool) (level : List ℕ → ℕ →
             let e : i + suc j ≡ suc i + j = omega arith in
             h (suc j) ∙ ap (goes p) e
 
-        go : (c : Bool) → b ≡ c → over f (suc i) bs ≡ map g (scan n linked level deeper p (suc i) k)
-            → over f i (c ∷ bs) ≡ map g (branch n linked level (follows n linked level p i) deeper (p ++ i ∷ [])) ++ map g (scan n linked level deeper p (suc i) k)
+        go : (c : Bool) → b ≡ c → eachOf f (suc i) bs ≡ map g (scan n linked level deeper p (suc i) k)
+            → eachOf f i (c ∷ bs) ≡ map g (branch n linked level (follows n linked level p i) deeper (p ++ i ∷ [])) ++ map g (scan n linked level deeper p (suc i) k)
         go true e r =
             let t : follows n linked level p i ≡ true = sym first ∙ e in
             let u : f i (replicate (suc i) false ++ bs) ≡ map g (branch n linked level true deeper (p ++ i ∷ [])) = same i (replicate (suc i) false ++ bs) (omega arith) t (rest-is i bs later) in

@@ -17,10 +17,10 @@ use Rattle.sets.proofs.Digits.{dig-both, dig-less}
 use Rattle.paper.specs.Points.{isOrigin}
 use Rattle.paper.specs.Drawing.{Wire, Edge, edge, at, joins, joined}
 use Rattle.paper.specs.Loops.{Loop, final, follows, closes, branch, scan, ext, across, level, loops}
-use Rattle.fast_search.specs.Rows.{empty, when, over, someOf}
-use Rattle.fast_search.specs.Search.{Found, own, near, every, higher, inside, planeRow, turn, inPlane, step, onLine, seconds, starts, search, planeOf, found}
+use Rattle.fast_search.specs.Rows.{empty, when, eachOf, someOf}
+use Rattle.fast_search.specs.Search.{InItsPlane, own, near, every, higher, onPlane, planeMask, turn, inPlane, step, onLine, seconds, starts, search, planeOf, inItsPlane}
 use Rattle.fast_search.proofs.Rows.{only-is, full-is, empty-none, some-not}
-use Rattle.fast_search.proofs.Scan.{map-append, goes, over-scan, ext-dead}
+use Rattle.fast_search.proofs.Scan.{map-append, goes, each-scan, ext-dead}
 use Rattle.fast_search.proofs.Phases.{one-line, two-line, across-found, across-turn, level-line, level-found, level-turn, level-back, turn-inside, plane-at, planeOf-found, planeOf-turn, planeOf-line}
 
 -- ---- paths
@@ -138,13 +138,13 @@ module _ (d : Wire) where
 
   -- and where it fixes the plane, only those in the plane are
   pub free-turn : (x y : ℕ) (r : List ℕ) (v : ℕ) (free : List Bool) → isOrigin (across d (x ∷ (y ∷ r))) ≡ true → Free (x ∷ (y ∷ r)) free
-      → Free (x ∷ (y ∷ (r ++ v ∷ []))) (both (less free (only v)) (planeRow d (at d x) (turn d (x ∷ (y ∷ r)) v)))
+      → Free (x ∷ (y ∷ (r ++ v ∷ []))) (both (less free (only v)) (planeMask d (at d x) (turn d (x ∷ (y ∷ r)) v)))
   unfolding Free
   free-turn x y r v free o f w h =
       let a = ltb x w && not (member w (x ∷ (y ∷ (r ++ v ∷ [])))) in
       let one : dig (less free (only v)) w ≡ a = dropped-at x (y ∷ r) v free f w h ∙ ap (λ (b : Bool). a && b) (level-line d (x ∷ (y ∷ r)) o w) ∙ and-true a in
-      let two : dig (planeRow d (at d x) (turn d (x ∷ (y ∷ r)) v)) w ≡ level d (x ∷ (y ∷ (r ++ v ∷ []))) w = plane-at d (at d x) (turn d (x ∷ (y ∷ r)) v) w h ∙ sym (level-turn d x y r v o w) in
-      dig-both (less free (only v)) (planeRow d (at d x) (turn d (x ∷ (y ∷ r)) v)) w ∙ (λ i. one i && two i)
+      let two : dig (planeMask d (at d x) (turn d (x ∷ (y ∷ r)) v)) w ≡ level d (x ∷ (y ∷ (r ++ v ∷ []))) w = plane-at d (at d x) (turn d (x ∷ (y ∷ r)) v) w h ∙ sym (level-turn d x y r v o w) in
+      dig-both (less free (only v)) (planeMask d (at d x) (turn d (x ∷ (y ∷ r)) v)) w ∙ (λ i. one i && two i)
 
   -- ---- nothing that is free can close: no loop begins so
   Dead : List ℕ → Type 0
@@ -184,13 +184,13 @@ module _ (d : Wire) where
   ext-none k x y r h = ext-dead size (joined d) (level d) Dead no-loop dead-more k (x ∷ (y ∷ r)) h
 
   -- ---- the path itself, and what is deeper
-  pub own-is : (k : ℕ) (closing : List Bool) (p : List ℕ) (plane : List Bool) (rest : List Found) → dig closing (final p) ≡ closes size (joined d) (level d) p → plane ≡ planeOf d p
-      → rest ≡ map (found d) (deep k p) → own closing p plane ++ rest ≡ map (found d) (begun k p)
+  pub own-is : (k : ℕ) (closing : List Bool) (p : List ℕ) (plane : List Bool) (rest : List InItsPlane) → dig closing (final p) ≡ closes size (joined d) (level d) p → plane ≡ planeOf d p
+      → rest ≡ map (inItsPlane d) (deep k p) → own closing p plane ++ rest ≡ map (inItsPlane d) (begun k p)
   unfolding own when branch
   own-is k closing p plane rest c e r =
       (λ i. when (c i) (record { loop = p; plane = e i } ∷ []) ++ r i) ∙ go (closes size (joined d) (level d) p)
     where
-      go : (b : Bool) → when b (found d p ∷ []) ++ map (found d) (deep k p) ≡ map (found d) (cond b (p ∷ deep k p) (deep k p))
+      go : (b : Bool) → when b (inItsPlane d p ∷ []) ++ map (inItsPlane d) (deep k p) ≡ map (inItsPlane d) (cond b (p ∷ deep k p) (deep k p))
       go true = refl
       go false = refl
 
@@ -198,9 +198,9 @@ module _ (d : Wire) where
   unfolding Closing
   last-is x y r closing c l = c (final (x ∷ (y ∷ r))) l ∙ sym (closes-ends x y r)
 
-  pub deeper-is : (k x y : ℕ) (r : List ℕ) (free closing : List Bool) (f : ℕ → List Bool → List Found) → Free (x ∷ (y ∷ r)) free → Closing (x ∷ (y ∷ r)) closing
-      → ((w : ℕ) (rest : List Bool) → w < size → follow (x ∷ (y ∷ r)) w ≡ true → f w rest ≡ map (found d) (begun k (x ∷ (y ∷ (r ++ w ∷ [])))))
-      → when (not (empty (both closing free))) (over f 0 (both (near d (final (x ∷ (y ∷ r)))) free)) ≡ map (found d) (deep (suc k) (x ∷ (y ∷ r)))
+  pub deeper-is : (k x y : ℕ) (r : List ℕ) (free closing : List Bool) (f : ℕ → List Bool → List InItsPlane) → Free (x ∷ (y ∷ r)) free → Closing (x ∷ (y ∷ r)) closing
+      → ((w : ℕ) (rest : List Bool) → w < size → follow (x ∷ (y ∷ r)) w ≡ true → f w rest ≡ map (inItsPlane d) (begun k (x ∷ (y ∷ (r ++ w ∷ [])))))
+      → when (not (empty (both closing free))) (eachOf f 0 (both (near d (final (x ∷ (y ∷ r)))) free)) ≡ map (inItsPlane d) (deep (suc k) (x ∷ (y ∷ r)))
   unfolding when Free Closing ext
   deeper-is k x y r free closing f fr cl same = go (empty (both closing free)) refl
     where
@@ -213,23 +213,23 @@ module _ (d : Wire) where
           let z : j ≡ 0 + j = omega arith in
           row-is x (y ∷ r) free fr j ∙ ap (goes size (joined d) (level d) (x ∷ (y ∷ r))) z
 
-      go : (b : Bool) → empty (both closing free) ≡ b → when (not b) (over f 0 (both (near d (final (x ∷ (y ∷ r)))) free)) ≡ map (found d) (deep (suc k) (x ∷ (y ∷ r)))
-      go true e = ap (map (found d)) (sym (ext-none (suc k) x y r (stuck e)))
+      go : (b : Bool) → empty (both closing free) ≡ b → when (not b) (eachOf f 0 (both (near d (final (x ∷ (y ∷ r)))) free)) ≡ map (inItsPlane d) (deep (suc k) (x ∷ (y ∷ r)))
+      go true e = ap (map (inItsPlane d)) (sym (ext-none (suc k) x y r (stuck e)))
       go false e =
-          over-scan size (joined d) (level d) (found d) f (deep k) (x ∷ (y ∷ r)) (λ w rest h t q. same w rest h t) 0 (size - 0) (omega arith) (both (near d (final (x ∷ (y ∷ r)))) free) start
+          each-scan size (joined d) (level d) (inItsPlane d) f (deep k) (x ∷ (y ∷ r)) (λ w rest h t q. same w rest h t) 0 (size - 0) (omega arith) (both (near d (final (x ∷ (y ∷ r)))) free) start
 
   -- ---- in the plane
   pub final-in : (x y : ℕ) (r : List ℕ) (v : ℕ) → v < size → final (x ∷ (y ∷ (r ++ v ∷ []))) < size
   final-in x y r v h = subst (λ (j : ℕ). j < size) (sym (final-more (x ∷ (y ∷ r)) v)) h
 
   pub plane-is : (k x y : ℕ) (r : List ℕ) (free closing plane : List Bool) → isOrigin (across d (x ∷ (y ∷ r))) ≡ false → plane ≡ planeOf d (x ∷ (y ∷ r)) → Free (x ∷ (y ∷ r)) free
-      → Closing (x ∷ (y ∷ r)) closing → final (x ∷ (y ∷ r)) < size → inPlane d k (x ∷ (y ∷ r)) free closing plane ≡ map (found d) (begun k (x ∷ (y ∷ r)))
+      → Closing (x ∷ (y ∷ r)) closing → final (x ∷ (y ∷ r)) < size → inPlane d k (x ∷ (y ∷ r)) free closing plane ≡ map (inItsPlane d) (begun k (x ∷ (y ∷ r)))
   unfolding inPlane ext Closing
   plane-is zero x y r free closing plane o e f c l =
       sym (append-nil (own closing (x ∷ (y ∷ r)) plane)) ∙ own-is 0 closing (x ∷ (y ∷ r)) plane [] (last-is x y r closing c l) e refl
   plane-is (suc k) x y r free closing plane o e f c l =
       own-is (suc k) closing (x ∷ (y ∷ r)) plane
-      (when (not (empty (both closing free))) (over (λ w rest. inPlane d k (x ∷ (y ∷ (r ++ w ∷ []))) (less free (only w)) closing plane) 0 (both (near d (final (x ∷ (y ∷ r)))) free)))
+      (when (not (empty (both closing free))) (eachOf (λ w rest. inPlane d k (x ∷ (y ∷ (r ++ w ∷ []))) (less free (only w)) closing plane) 0 (both (near d (final (x ∷ (y ∷ r)))) free)))
       (last-is x y r closing c l) e
       (deeper-is k x y r free closing (λ w rest. inPlane d k (x ∷ (y ∷ (r ++ w ∷ []))) (less free (only w)) closing plane) f c
       (λ w rest h t. plane-is k x y (r ++ w ∷ []) (less free (only w)) closing plane (ap isOrigin (across-found d x y r w o) ∙ o) (e ∙ sym (planeOf-found d x y r w o))
@@ -240,47 +240,47 @@ module _ (d : Wire) where
   unfolding branch
   begun-none k p c e = ap (λ (b : Bool). cond b (p ∷ deep k p) (deep k p)) c ∙ e
 
-  pub step-is : (k x y : ℕ) (r : List ℕ) (free closing : List Bool) (line : List ℕ → List Bool → List Found) (v : ℕ) → isOrigin (across d (x ∷ (y ∷ r))) ≡ true
+  pub step-is : (k x y : ℕ) (r : List ℕ) (free closing : List Bool) (line : List ℕ → List Bool → List InItsPlane) (v : ℕ) → isOrigin (across d (x ∷ (y ∷ r))) ≡ true
       → Free (x ∷ (y ∷ r)) free → Closing (x ∷ (y ∷ r)) closing → v < size → follow (x ∷ (y ∷ r)) v ≡ true
-      → (isOrigin (turn d (x ∷ (y ∷ r)) v) ≡ true → line (x ∷ (y ∷ (r ++ v ∷ []))) (less free (only v)) ≡ map (found d) (begun k (x ∷ (y ∷ (r ++ v ∷ [])))))
-      → step d line k (x ∷ (y ∷ r)) free closing v ≡ map (found d) (begun k (x ∷ (y ∷ (r ++ v ∷ []))))
+      → (isOrigin (turn d (x ∷ (y ∷ r)) v) ≡ true → line (x ∷ (y ∷ (r ++ v ∷ []))) (less free (only v)) ≡ map (inItsPlane d) (begun k (x ∷ (y ∷ (r ++ v ∷ [])))))
+      → step d line k (x ∷ (y ∷ r)) free closing v ≡ map (inItsPlane d) (begun k (x ∷ (y ∷ (r ++ v ∷ []))))
   unfolding step when Free Closing
   step-is k x y r free closing line v o f c hv t ih = go (isOrigin (turn d (x ∷ (y ∷ r)) v)) refl
     where
       -- where no vertex that is free and in the plane can close
-      stuck : someOf (inside d (at d x) (turn d (x ∷ (y ∷ r)) v)) 0 (both closing free) ≡ false → (w : ℕ) → w < size → can (x ∷ (y ∷ r)) w ≡ true
-          → inside d (at d x) (turn d (x ∷ (y ∷ r)) v) w ≡ true → ends (x ∷ (y ∷ r)) w ≡ false
+      stuck : someOf (onPlane d (at d x) (turn d (x ∷ (y ∷ r)) v)) 0 (both closing free) ≡ false → (w : ℕ) → w < size → can (x ∷ (y ∷ r)) w ≡ true
+          → onPlane d (at d x) (turn d (x ∷ (y ∷ r)) v) w ≡ true → ends (x ∷ (y ∷ r)) w ≡ false
       stuck e w h u i =
-          sym (c w h) ∙ never (dig closing w) (λ z. absurd (true≢false (sym i ∙ some-not (inside d (at d x) (turn d (x ∷ (y ∷ r)) v)) (both closing free) e w
+          sym (c w h) ∙ never (dig closing w) (λ z. absurd (true≢false (sym i ∙ some-not (onPlane d (at d x) (turn d (x ∷ (y ∷ r)) v)) (both closing free) e w
           (dig-both closing free w ∙ and-both z (f w h ∙ u)))))
 
-      fix : isOrigin (turn d (x ∷ (y ∷ r)) v) ≡ false → (b : Bool) → someOf (inside d (at d x) (turn d (x ∷ (y ∷ r)) v)) 0 (both closing free) ≡ b
-          → when b (inPlane d k (x ∷ (y ∷ (r ++ v ∷ []))) (both (less free (only v)) (planeRow d (at d x) (turn d (x ∷ (y ∷ r)) v))) closing (planeRow d (at d x) (turn d (x ∷ (y ∷ r)) v)))
-          ≡ map (found d) (begun k (x ∷ (y ∷ (r ++ v ∷ []))))
+      fix : isOrigin (turn d (x ∷ (y ∷ r)) v) ≡ false → (b : Bool) → someOf (onPlane d (at d x) (turn d (x ∷ (y ∷ r)) v)) 0 (both closing free) ≡ b
+          → when b (inPlane d k (x ∷ (y ∷ (r ++ v ∷ []))) (both (less free (only v)) (planeMask d (at d x) (turn d (x ∷ (y ∷ r)) v))) closing (planeMask d (at d x) (turn d (x ∷ (y ∷ r)) v)))
+          ≡ map (inItsPlane d) (begun k (x ∷ (y ∷ (r ++ v ∷ []))))
       fix q true e =
-          plane-is k x y (r ++ v ∷ []) (both (less free (only v)) (planeRow d (at d x) (turn d (x ∷ (y ∷ r)) v))) closing (planeRow d (at d x) (turn d (x ∷ (y ∷ r)) v))
+          plane-is k x y (r ++ v ∷ []) (both (less free (only v)) (planeMask d (at d x) (turn d (x ∷ (y ∷ r)) v))) closing (planeMask d (at d x) (turn d (x ∷ (y ∷ r)) v))
           (ap isOrigin (across-turn d x y r v o) ∙ q) (sym (planeOf-turn d x y r v o)) (free-turn x y r v free o f) c (final-in x y r v hv)
       fix q false e =
-          ap (map (found d)) (sym (begun-none k (x ∷ (y ∷ (r ++ v ∷ []))) (closes-more x y r v ∙ stuck e v hv (follow-uses x (y ∷ r) v t) (turn-inside d x y r v))
+          ap (map (inItsPlane d)) (sym (begun-none k (x ∷ (y ∷ (r ++ v ∷ []))) (closes-more x y r v ∙ stuck e v hv (follow-uses x (y ∷ r) v t) (turn-inside d x y r v))
           (ext-none k x y (r ++ v ∷ []) (λ w h u. stuck e w h (can-back x y r v w u)
           (sym (level-turn d x y r v o w) ∙ and-right (ltb x w && not (member w (x ∷ (y ∷ (r ++ v ∷ []))))) (level d (x ∷ (y ∷ (r ++ v ∷ []))) w) u)))))
 
       go : (b : Bool) → isOrigin (turn d (x ∷ (y ∷ r)) v) ≡ b
           → cond b (line (x ∷ (y ∷ (r ++ v ∷ []))) (less free (only v)))
-          (when (someOf (inside d (at d x) (turn d (x ∷ (y ∷ r)) v)) 0 (both closing free))
-          (inPlane d k (x ∷ (y ∷ (r ++ v ∷ []))) (both (less free (only v)) (planeRow d (at d x) (turn d (x ∷ (y ∷ r)) v))) closing (planeRow d (at d x) (turn d (x ∷ (y ∷ r)) v))))
-          ≡ map (found d) (begun k (x ∷ (y ∷ (r ++ v ∷ []))))
+          (when (someOf (onPlane d (at d x) (turn d (x ∷ (y ∷ r)) v)) 0 (both closing free))
+          (inPlane d k (x ∷ (y ∷ (r ++ v ∷ []))) (both (less free (only v)) (planeMask d (at d x) (turn d (x ∷ (y ∷ r)) v))) closing (planeMask d (at d x) (turn d (x ∷ (y ∷ r)) v))))
+          ≡ map (inItsPlane d) (begun k (x ∷ (y ∷ (r ++ v ∷ []))))
       go true q = ih q
-      go false q = fix q (someOf (inside d (at d x) (turn d (x ∷ (y ∷ r)) v)) 0 (both closing free)) refl
+      go false q = fix q (someOf (onPlane d (at d x) (turn d (x ∷ (y ∷ r)) v)) 0 (both closing free)) refl
 
   pub line-is : (k x y : ℕ) (r : List ℕ) (free closing : List Bool) → isOrigin (across d (x ∷ (y ∷ r))) ≡ true → Free (x ∷ (y ∷ r)) free
-      → Closing (x ∷ (y ∷ r)) closing → final (x ∷ (y ∷ r)) < size → onLine d k (x ∷ (y ∷ r)) free closing ≡ map (found d) (begun k (x ∷ (y ∷ r)))
+      → Closing (x ∷ (y ∷ r)) closing → final (x ∷ (y ∷ r)) < size → onLine d k (x ∷ (y ∷ r)) free closing ≡ map (inItsPlane d) (begun k (x ∷ (y ∷ r)))
   unfolding onLine ext Closing
   line-is zero x y r free closing o f c l =
       sym (append-nil (own closing (x ∷ (y ∷ r)) (every d))) ∙ own-is 0 closing (x ∷ (y ∷ r)) (every d) [] (last-is x y r closing c l) (sym (planeOf-line d (x ∷ (y ∷ r)) o)) refl
   line-is (suc k) x y r free closing o f c l =
       own-is (suc k) closing (x ∷ (y ∷ r)) (every d)
-      (when (not (empty (both closing free))) (over (λ w rest. step d (λ q g. onLine d k q g closing) k (x ∷ (y ∷ r)) free closing w) 0 (both (near d (final (x ∷ (y ∷ r)))) free)))
+      (when (not (empty (both closing free))) (eachOf (λ w rest. step d (λ q g. onLine d k q g closing) k (x ∷ (y ∷ r)) free closing w) 0 (both (near d (final (x ∷ (y ∷ r)))) free)))
       (last-is x y r closing c l) (sym (planeOf-line d (x ∷ (y ∷ r)) o))
       (deeper-is k x y r free closing (λ w rest. step d (λ q g. onLine d k q g closing) k (x ∷ (y ∷ r)) free closing w) f c
       (λ w rest h t. step-is k x y r free closing (λ q g. onLine d k q g closing) w o f c h t
@@ -321,14 +321,14 @@ module _ (d : Wire) where
           ap (λ (b : Bool). ltb w j && b)
           (ap (λ (b : Bool). b && follow (x ∷ []) j) (lt-ltb j size h) ∙ follow-can x [] j ∙ (λ i. joined d x j && u i) ∙ and-true (joined d x j) ∙ joined-back d x j)
 
-  seconds-is : (x : ℕ) → seconds d x ≡ map (found d) (deep 11 (x ∷ []))
+  seconds-is : (x : ℕ) → seconds d x ≡ map (inItsPlane d) (deep 11 (x ∷ []))
   unfolding seconds ext
   seconds-is x =
-      over-scan size (joined d) (level d) (found d) (λ w rest. onLine d 10 (x ∷ (w ∷ [])) (less (higher d x) (only w)) rest) (deep 10) (x ∷ []) same 0 (size - 0) (omega arith)
+      each-scan size (joined d) (level d) (inItsPlane d) (λ w rest. onLine d 10 (x ∷ (w ∷ [])) (less (higher d x) (only w)) rest) (deep 10) (x ∷ []) same 0 (size - 0) (omega arith)
       (both (near d x) (higher d x)) start
     where
       same : (w : ℕ) (rest : List Bool) → w < size → follow (x ∷ []) w ≡ true → ((j : ℕ) → dig rest j ≡ (ltb w j && goes size (joined d) (level d) (x ∷ []) j))
-          → onLine d 10 (x ∷ (w ∷ [])) (less (higher d x) (only w)) rest ≡ map (found d) (begun 10 (x ∷ (w ∷ [])))
+          → onLine d 10 (x ∷ (w ∷ [])) (less (higher d x) (only w)) rest ≡ map (inItsPlane d) (begun 10 (x ∷ (w ∷ [])))
       same w rest h t r =
           line-is 10 x w [] (less (higher d x) (only w)) rest (two-line d x w) (free-more x [] w (higher d x) (start-level x w) (higher-free x)) (start-closing x w rest t r) h
 
@@ -337,20 +337,20 @@ module _ (d : Wire) where
           let z : j ≡ 0 + j = omega arith in
           row-is x [] (higher d x) (higher-free x) j ∙ ap (goes size (joined d) (level d) (x ∷ [])) z
 
-  starts-is : (i k : ℕ) → starts d i k ≡ map (found d) (scan size (joined d) (level d) (deep 11) [] i k)
+  starts-is : (i k : ℕ) → starts d i k ≡ map (inItsPlane d) (scan size (joined d) (level d) (deep 11) [] i k)
   unfolding starts scan follows branch closes
   starts-is i zero = refl
-  starts-is i (suc k) = (λ t. seconds-is i t ++ starts-is (suc i) k t) ∙ sym (map-append (found d) (deep 11 (i ∷ [])) (scan size (joined d) (level d) (deep 11) [] (suc i) k))
+  starts-is i (suc k) = (λ t. seconds-is i t ++ starts-is (suc i) k t) ∙ sym (map-append (inItsPlane d) (deep 11 (i ∷ [])) (scan size (joined d) (level d) (deep 11) [] (suc i) k))
 
   -- the search finds the loops, in their order, each with the vertices in its plane
-  pub search-is : search d ≡ map (found d) (loops d)
+  pub search-is : search d ≡ map (inItsPlane d) (loops d)
   unfolding search loops ext
   search-is =
       let z : size ≡ size - 0 = omega arith in
-      starts-is 0 size ∙ ap (λ (k : ℕ). map (found d) (scan size (joined d) (level d) (deep 11) [] 0 k)) z
+      starts-is 0 size ∙ ap (λ (k : ℕ). map (inItsPlane d) (scan size (joined d) (level d) (deep 11) [] 0 k)) z
 
   pub search-loops : map (λ f. f .loop) (search d) ≡ loops d
-  search-loops = ap (map (λ f. f .loop)) search-is ∙ map-map (λ f. f .loop) (found d) (loops d) ∙ same (loops d)
+  search-loops = ap (map (λ f. f .loop)) search-is ∙ map-map (λ f. f .loop) (inItsPlane d) (loops d) ∙ same (loops d)
     where
       same : (l : List Loop) → map (λ q. q) l ≡ l
       same [] = refl

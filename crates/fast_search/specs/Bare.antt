@@ -6,26 +6,26 @@ use lib.ListN.{length}
 use Rattle.sets.specs.Word.{both, less, only}
 use Rattle.paper.specs.Drawing.{Wire}
 use Rattle.paper.specs.Loops.{final}
-use Rattle.fast_search.specs.Rows.{empty, when, over}
-use Rattle.fast_search.specs.Search.{Found, near, higher, step}
+use Rattle.fast_search.specs.Rows.{empty, when, eachOf}
+use Rattle.fast_search.specs.Search.{InItsPlane, near, higher, step}
 
 module _ (d : Wire) where
   -- the loops that begin with p, which is in one line, and leave the line
-  unfoldable pub bareLine : ℕ → List ℕ → List Bool → List Bool → List Found
-  unfolding when over near step
+  unfoldable pub bareLine : ℕ → List ℕ → List Bool → List Bool → List InItsPlane
+  unfolding when eachOf near step
   bareLine zero p free closing = []
   bareLine (suc k) p free closing =
-      when (not (empty (both closing free))) (over (λ w rest. step d (λ q f. bareLine k q f closing) k p free closing w) 0 (both (near d (final p)) free))
+      when (not (empty (both closing free))) (eachOf (λ w rest. step d (λ q f. bareLine k q f closing) k p free closing w) 0 (both (near d (final p)) free))
 
-  unfoldable pub bareSeconds : ℕ → List Found
-  unfolding over bareLine higher near
-  bareSeconds s = over (λ w rest. bareLine 10 (s ∷ w ∷ []) (less (higher d s) (only w)) rest) 0 (both (near d s) (higher d s))
+  unfoldable pub bareSeconds : ℕ → List InItsPlane
+  unfolding eachOf bareLine higher near
+  bareSeconds s = eachOf (λ w rest. bareLine 10 (s ∷ w ∷ []) (less (higher d s) (only w)) rest) 0 (both (near d s) (higher d s))
 
-  unfoldable pub bareStarts : ℕ → ℕ → List Found
+  unfoldable pub bareStarts : ℕ → ℕ → List InItsPlane
   unfolding bareSeconds
   bareStarts i zero = []
   bareStarts i (suc k) = bareSeconds i ++ bareStarts (suc i) k
 
-  unfoldable pub bareSearch : List Found
+  unfoldable pub bareSearch : List InItsPlane
   unfolding bareStarts
   bareSearch = bareStarts 0 (length (d .vertices))

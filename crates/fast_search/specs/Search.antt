@@ -10,15 +10,15 @@ use Rattle.paper.specs.Points.{minus, dot, cross, isZero, isOrigin}
 use Rattle.paper.specs.Drawing.{Wire, at, joined}
 use Rattle.paper.specs.Loops.{Loop, final, across}
 use Rattle.paper.specs.declared.Point.{Point}
-use Rattle.fast_search.specs.Rows.{empty, when, over, someOf}
+use Rattle.fast_search.specs.Rows.{empty, when, eachOf, someOf}
 
 -- a loop, and the digits of the vertices in its plane
-pub record Found : Type 0 where
+pub record InItsPlane : Type 0 where
   pub loop : Loop
   pub plane : List Bool
 
 -- the path p, if its last vertex is one that a loop may end at
-unfoldable pub own : List Bool → List ℕ → List Bool → List Found
+unfoldable pub own : List Bool → List ℕ → List Bool → List InItsPlane
 unfolding when
 own closing p plane = when (dig closing (final p)) (record { loop = p; plane = plane } ∷ [])
 
@@ -36,13 +36,13 @@ module _ (d : Wire) where
   higher s = less (replicate (length (d .vertices)) true) (replicate (suc s) true)
 
   -- the vertex w is in the plane through s across m; all that are
-  unfoldable pub inside : Point → Point → ℕ → Bool
+  unfoldable pub onPlane : Point → Point → ℕ → Bool
   unfolding isZero dot minus at
-  inside s m w = isZero (dot m (minus (at d w) s))
+  onPlane s m w = isZero (dot m (minus (at d w) s))
 
-  unfoldable pub planeRow : Point → Point → List Bool
-  unfolding inside upto
-  planeRow s m = map (inside s m) (upto (length (d .vertices)))
+  unfoldable pub planeMask : Point → Point → List Bool
+  unfolding onPlane upto
+  planeMask s m = map (onPlane s m) (upto (length (d .vertices)))
 
   -- the direction across the plane of a path in one line and of a vertex
   unfoldable pub turn : List ℕ → ℕ → Point
@@ -51,50 +51,50 @@ module _ (d : Wire) where
 
   -- The loops that begin with p, which is no longer in one line, and have at most k vertices more. `free` are the vertices of the
   -- plane that may still be used, `closing` those that a loop may end at.
-  unfoldable pub inPlane : ℕ → List ℕ → List Bool → List Bool → List Bool → List Found
-  unfolding own when over near
+  unfoldable pub inPlane : ℕ → List ℕ → List Bool → List Bool → List Bool → List InItsPlane
+  unfolding own when eachOf near
   inPlane zero p free closing plane = own closing p plane
   inPlane (suc k) p free closing plane =
       own closing p plane
-      ++ when (not (empty (both closing free))) (over (λ w rest. inPlane k (p ++ w ∷ []) (less free (only w)) closing plane) 0 (both (near (final p)) free))
+      ++ when (not (empty (both closing free))) (eachOf (λ w rest. inPlane k (p ++ w ∷ []) (less free (only w)) closing plane) 0 (both (near (final p)) free))
 
   -- p and then w, where p is in one line: with w it still is, or w fixes the plane; then some vertex of it must be able to close
-  unfoldable pub step : (List ℕ → List Bool → List Found) → ℕ → List ℕ → List Bool → List Bool → ℕ → List Found
-  unfolding turn planeRow someOf inside inPlane
+  unfoldable pub step : (List ℕ → List Bool → List InItsPlane) → ℕ → List ℕ → List Bool → List Bool → ℕ → List InItsPlane
+  unfolding turn planeMask someOf onPlane inPlane
   step line k p free closing w =
       let s = at d (getD p 0 0) in
       let m = turn p w in
       let rest = less free (only w) in
       cond (isOrigin m) (line (p ++ w ∷ []) rest)
-      (when (someOf (inside s m) 0 (both closing free)) (inPlane k (p ++ w ∷ []) (both rest (planeRow s m)) closing (planeRow s m)))
+      (when (someOf (onPlane s m) 0 (both closing free)) (inPlane k (p ++ w ∷ []) (both rest (planeMask s m)) closing (planeMask s m)))
 
   -- the loops that begin with p, which is in one line
-  unfoldable pub onLine : ℕ → List ℕ → List Bool → List Bool → List Found
-  unfolding own when over near step
+  unfoldable pub onLine : ℕ → List ℕ → List Bool → List Bool → List InItsPlane
+  unfolding own when eachOf near step
   onLine zero p free closing = own closing p every
   onLine (suc k) p free closing =
       own closing p every
-      ++ when (not (empty (both closing free))) (over (λ w rest. step (λ q f. onLine k q f closing) k p free closing w) 0 (both (near (final p)) free))
+      ++ when (not (empty (both closing free))) (eachOf (λ w rest. step (λ q f. onLine k q f closing) k p free closing w) 0 (both (near (final p)) free))
 
   -- The loops that start at s: "then go to the lower of its two neighbours", so that a loop may end at those of its neighbours that
   -- are left. Those that start at i, i + 1, ..: k vertices in turn.
-  unfoldable pub seconds : ℕ → List Found
-  unfolding over onLine higher near
-  seconds s = over (λ w rest. onLine 10 (s ∷ w ∷ []) (less (higher s) (only w)) rest) 0 (both (near s) (higher s))
+  unfoldable pub seconds : ℕ → List InItsPlane
+  unfolding eachOf onLine higher near
+  seconds s = eachOf (λ w rest. onLine 10 (s ∷ w ∷ []) (less (higher s) (only w)) rest) 0 (both (near s) (higher s))
 
-  unfoldable pub starts : ℕ → ℕ → List Found
+  unfoldable pub starts : ℕ → ℕ → List InItsPlane
   unfolding seconds
   starts i zero = []
   starts i (suc k) = seconds i ++ starts (suc i) k
 
-  unfoldable pub search : List Found
+  unfoldable pub search : List InItsPlane
   unfolding starts
   search = starts 0 (length (d .vertices))
 
   -- ---- what it finds: a loop with the vertices in its plane, through its first vertex and across its direction
   unfoldable pub planeOf : Loop → List Bool
-  unfolding planeRow across at
-  planeOf l = planeRow (at d (getD l 0 0)) (across d l)
+  unfolding planeMask across at
+  planeOf l = planeMask (at d (getD l 0 0)) (across d l)
 
-  abbrev pub found : Loop → Found
-  found l = record { loop = l; plane = planeOf l }
+  abbrev pub inItsPlane : Loop → InItsPlane
+  inItsPlane l = record { loop = l; plane = planeOf l }

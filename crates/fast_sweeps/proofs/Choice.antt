@@ -27,110 +27,110 @@ both-self [] = refl
 both-self (true ∷ a) = ap (λ (x : List Bool). true ∷ x) (both-self a)
 both-self (false ∷ a) = ap (λ (x : List Bool). false ∷ x) (both-self a)
 
-pub choose-edge : (rows : List (List Bool)) (st : List Status) → choose rows st ≡ lowestOn rows st (openEdge rows st)
+pub choose-edge : (masks : List (List Bool)) (st : List Status) → choose masks st ≡ lowestOn masks st (openEdge masks st)
 unfolding choose lowestOn openEdge
 choose-edge [] st = ap first (sym (both-self (map isOpen st)))
-choose-edge (row ∷ rows) st = go (eqb (openOn row st) 0) (choose-edge rows st)
+choose-edge (mask ∷ masks) st = go (eqb (openOn mask st) 0) (choose-edge masks st)
   where
-    go : (b : Bool) → choose rows st ≡ first (both (getD rows (openEdge rows st) (map isOpen st)) (map isOpen st))
-        → cond b (choose rows st) (first (both row (map isOpen st))) ≡ first (both (getD (row ∷ rows) (cond b (suc (openEdge rows st)) 0) (map isOpen st)) (map isOpen st))
+    go : (b : Bool) → choose masks st ≡ first (both (getD masks (openEdge masks st) (map isOpen st)) (map isOpen st))
+        → cond b (choose masks st) (first (both mask (map isOpen st))) ≡ first (both (getD (mask ∷ masks) (cond b (suc (openEdge masks st)) 0) (map isOpen st)) (map isOpen st))
     go true ih = ih
     go false ih = refl
 
 -- looked for from e on
-pub open-from : (rows : List (List Bool)) (st : List Status) (e : ℕ) → e ≤ length rows → Shut rows e st → openFrom rows st e ≡ openEdge rows st
+pub open-from : (masks : List (List Bool)) (st : List Status) (e : ℕ) → e ≤ length masks → Shut masks e st → openFrom masks st e ≡ openEdge masks st
 unfolding openFrom openEdge
-open-from rows st zero h s = omega arith
+open-from masks st zero h s = omega arith
 open-from [] st (suc e) h s = absurd (omega arith)
-open-from (row ∷ rows) st (suc e) h s =
-    let i : e + openEdge (drop e rows) st ≡ openEdge rows st = open-from rows st e (omega arith) (λ j l. s (suc j) (omega arith)) in
-    let p : suc e + openEdge (drop e rows) st ≡ suc (openEdge rows st) = omega arith in
-    p ∙ ap (λ (b : Bool). cond b (suc (openEdge rows st)) 0) (sym (eq-eqb (openOn row st) 0 (s 0 (omega arith))))
+open-from (mask ∷ masks) st (suc e) h s =
+    let i : e + openEdge (drop e masks) st ≡ openEdge masks st = open-from masks st e (omega arith) (λ j l. s (suc j) (omega arith)) in
+    let p : suc e + openEdge (drop e masks) st ≡ suc (openEdge masks st) = omega arith in
+    p ∙ ap (λ (b : Bool). cond b (suc (openEdge masks st)) 0) (sym (eq-eqb (openOn mask st) 0 (s 0 (omega arith))))
 
-pub choose-drop : (rows : List (List Bool)) (st : List Status) (e : ℕ) → Shut rows e st → choose (drop e rows) st ≡ choose rows st
+pub choose-drop : (masks : List (List Bool)) (st : List Status) (e : ℕ) → Shut masks e st → choose (drop e masks) st ≡ choose masks st
 unfolding choose
-choose-drop rows st zero s = refl
+choose-drop masks st zero s = refl
 choose-drop [] st (suc e) s = refl
-choose-drop (row ∷ rows) st (suc e) s =
-    choose-drop rows st e (λ j l. s (suc j) (omega arith))
-    ∙ ap (λ (b : Bool). cond b (choose rows st) (first (both row (map isOpen st)))) (sym (eq-eqb (openOn row st) 0 (s 0 (omega arith))))
+choose-drop (mask ∷ masks) st (suc e) s =
+    choose-drop masks st e (λ j l. s (suc j) (omega arith))
+    ∙ ap (λ (b : Bool). cond b (choose masks st) (first (both mask (map isOpen st)))) (sym (eq-eqb (openOn mask st) 0 (s 0 (omega arith))))
 
-pub choose-from : (rows : List (List Bool)) (st : List Status) (e : ℕ) → e ≤ length rows → Shut rows e st → choose rows st ≡ lowestOn rows st (openFrom rows st e)
-choose-from rows st e h s = choose-edge rows st ∙ ap (lowestOn rows st) (sym (open-from rows st e h s))
+pub choose-from : (masks : List (List Bool)) (st : List Status) (e : ℕ) → e ≤ length masks → Shut masks e st → choose masks st ≡ lowestOn masks st (openFrom masks st e)
+choose-from masks st e h s = choose-edge masks st ∙ ap (lowestOn masks st) (sym (open-from masks st e h s))
 
 -- below the edge found there is none
-pub edge-within : (rows : List (List Bool)) (st : List Status) → openEdge rows st ≤ length rows
+pub edge-within : (masks : List (List Bool)) (st : List Status) → openEdge masks st ≤ length masks
 unfolding openEdge
 edge-within [] st = omega arith
-edge-within (row ∷ rows) st = go (eqb (openOn row st) 0) (edge-within rows st)
+edge-within (mask ∷ masks) st = go (eqb (openOn mask st) 0) (edge-within masks st)
   where
-    go : (b : Bool) → openEdge rows st ≤ length rows → cond b (suc (openEdge rows st)) 0 ≤ length (row ∷ rows)
+    go : (b : Bool) → openEdge masks st ≤ length masks → cond b (suc (openEdge masks st)) 0 ≤ length (mask ∷ masks)
     go true h = omega arith
     go false h = omega arith
 
-pub edge-shut : (rows : List (List Bool)) (st : List Status) → Shut rows (openEdge rows st) st
+pub edge-shut : (masks : List (List Bool)) (st : List Status) → Shut masks (openEdge masks st) st
 unfolding openEdge
 edge-shut [] st = λ j h. absurd (omega arith)
-edge-shut (row ∷ rows) st = go (eqb (openOn row st) 0) refl (edge-shut rows st)
+edge-shut (mask ∷ masks) st = go (eqb (openOn mask st) 0) refl (edge-shut masks st)
   where
-    go : (b : Bool) → eqb (openOn row st) 0 ≡ b → Shut rows (openEdge rows st) st → Shut (row ∷ rows) (cond b (suc (openEdge rows st)) 0) st
-    go true e ih zero h = eqb-true (openOn row st) 0 e
+    go : (b : Bool) → eqb (openOn mask st) 0 ≡ b → Shut masks (openEdge masks st) st → Shut (mask ∷ masks) (cond b (suc (openEdge masks st)) 0) st
+    go true e ih zero h = eqb-true (openOn mask st) 0 e
     go true e ih (suc j) h = ih j (omega arith)
     go false e ih j h = absurd (omega arith)
 
 -- ---- the loop that looks for it
-pub open-skip : (rows : List (List Bool)) (st : List Status) (e : ℕ) → e < length rows → openOn (getD rows e []) st ≡ 0 → openFrom rows st e ≡ openFrom rows st (e + 1)
+pub open-skip : (masks : List (List Bool)) (st : List Status) (e : ℕ) → e < length masks → openOn (getD masks e []) st ≡ 0 → openFrom masks st e ≡ openFrom masks st (e + 1)
 unfolding openFrom openEdge
-open-skip rows st e h z =
-    let p : openEdge (drop e rows) st ≡ suc (openEdge (drop (e + 1) rows) st)
-    = ap (λ (l : List (List Bool)). openEdge l st) (drop-more rows e [] h)
-    ∙ ap (λ (b : Bool). cond b (suc (openEdge (drop (e + 1) rows) st)) 0) (eq-eqb (openOn (getD rows e []) st) 0 z) in
+open-skip masks st e h z =
+    let p : openEdge (drop e masks) st ≡ suc (openEdge (drop (e + 1) masks) st)
+    = ap (λ (l : List (List Bool)). openEdge l st) (drop-more masks e [] h)
+    ∙ ap (λ (b : Bool). cond b (suc (openEdge (drop (e + 1) masks) st)) 0) (eq-eqb (openOn (getD masks e []) st) 0 z) in
     omega arith
 
-pub open-here : (rows : List (List Bool)) (st : List Status) (e : ℕ) → e < length rows → (openOn (getD rows e []) st ≡ 0 → ⊥) → openFrom rows st e ≡ e
+pub open-here : (masks : List (List Bool)) (st : List Status) (e : ℕ) → e < length masks → (openOn (getD masks e []) st ≡ 0 → ⊥) → openFrom masks st e ≡ e
 unfolding openFrom openEdge
-open-here rows st e h n =
-    let p : openEdge (drop e rows) st ≡ 0
-    = ap (λ (l : List (List Bool)). openEdge l st) (drop-more rows e [] h)
-    ∙ ap (λ (b : Bool). cond b (suc (openEdge (drop (e + 1) rows) st)) 0) (ne-eqb (openOn (getD rows e []) st) 0 n) in
+open-here masks st e h n =
+    let p : openEdge (drop e masks) st ≡ 0
+    = ap (λ (l : List (List Bool)). openEdge l st) (drop-more masks e [] h)
+    ∙ ap (λ (b : Bool). cond b (suc (openEdge (drop (e + 1) masks) st)) 0) (ne-eqb (openOn (getD masks e []) st) 0 n) in
     omega arith
 
-pub open-end : (rows : List (List Bool)) (st : List Status) (e : ℕ) → length rows ≤ e → openFrom rows st e ≡ e
+pub open-end : (masks : List (List Bool)) (st : List Status) (e : ℕ) → length masks ≤ e → openFrom masks st e ≡ e
 unfolding openFrom openEdge
-open-end rows st e h =
-    let p : openEdge (drop e rows) st ≡ 0 = ap (λ (l : List (List Bool)). openEdge l st) (drop-of-length-le rows h) in
+open-end masks st e h =
+    let p : openEdge (drop e masks) st ≡ 0 = ap (λ (l : List (List Bool)). openEdge l st) (drop-of-length-le masks h) in
     omega arith
 
 -- and the candidate on it
-at-any : (rows : List (List Bool)) (e : ℕ) (c d : List Bool) → e < length rows → getD rows e c ≡ getD rows e d
+at-any : (masks : List (List Bool)) (e : ℕ) (c d : List Bool) → e < length masks → getD masks e c ≡ getD masks e d
 at-any [] e c d h = absurd (omega arith)
-at-any (row ∷ rows) zero c d h = refl
-at-any (row ∷ rows) (suc e) c d h = at-any rows e c d (omega arith)
+at-any (mask ∷ masks) zero c d h = refl
+at-any (mask ∷ masks) (suc e) c d h = at-any masks e c d (omega arith)
 
-at-none : (rows : List (List Bool)) (e : ℕ) (d : List Bool) → length rows ≤ e → getD rows e d ≡ d
+at-none : (masks : List (List Bool)) (e : ℕ) (d : List Bool) → length masks ≤ e → getD masks e d ≡ d
 at-none [] e d h = refl
-at-none (row ∷ rows) zero d h = absurd (omega arith)
-at-none (row ∷ rows) (suc e) d h = at-none rows e d (omega arith)
+at-none (mask ∷ masks) zero d h = absurd (omega arith)
+at-none (mask ∷ masks) (suc e) d h = at-none masks e d (omega arith)
 
-pub lowest-here : (rows : List (List Bool)) (st : List Status) (e : ℕ) → e < length rows → first (both (getD rows e []) (map isOpen st)) ≡ lowestOn rows st e
+pub lowest-here : (masks : List (List Bool)) (st : List Status) (e : ℕ) → e < length masks → first (both (getD masks e []) (map isOpen st)) ≡ lowestOn masks st e
 unfolding lowestOn
-lowest-here rows st e h = ap (λ (r : List Bool). first (both r (map isOpen st))) (at-any rows e [] (map isOpen st) h)
+lowest-here masks st e h = ap (λ (r : List Bool). first (both r (map isOpen st))) (at-any masks e [] (map isOpen st) h)
 
-pub lowest-none : (rows : List (List Bool)) (st : List Status) (e : ℕ) → length rows ≤ e → first (map isOpen st) ≡ lowestOn rows st e
+pub lowest-none : (masks : List (List Bool)) (st : List Status) (e : ℕ) → length masks ≤ e → first (map isOpen st) ≡ lowestOn masks st e
 unfolding lowestOn
-lowest-none rows st e h = ap first (sym (ap (λ (r : List Bool). both r (map isOpen st)) (at-none rows e (map isOpen st) h) ∙ both-self (map isOpen st)))
+lowest-none masks st e h = ap first (sym (ap (λ (r : List Bool). both r (map isOpen st)) (at-none masks e (map isOpen st) h) ∙ both-self (map isOpen st)))
 
 -- there is one, where some candidate is undecided and each undecided one is on an edge
-pub edge-some : (rows : List (List Bool)) (st : List Status) → Covered rows st → (k : ℕ) → dig (map isOpen st) k ≡ true → openEdge rows st < length rows
-edge-some rows st c k u =
+pub edge-some : (masks : List (List Bool)) (st : List Status) → Covered masks st → (k : ℕ) → dig (map isOpen st) k ≡ true → openEdge masks st < length masks
+edge-some masks st c k u =
     let r = c k u in
-    let f : openEdge rows st ≤ r .0 = below (r .0) (r .2) in
+    let f : openEdge masks st ≤ r .0 = below (r .0) (r .2) in
     omega (arith, r .1)
   where
-    below : (e : ℕ) → dig (getD rows e []) k ≡ true → openEdge rows st ≤ e
+    below : (e : ℕ) → dig (getD masks e []) k ≡ true → openEdge masks st ≤ e
     below e o =
-        let g : e < openEdge rows st → ⊥ = λ h. count-none (both (getD rows e []) (map isOpen st)) (count-opens (getD rows e []) st ∙ edge-shut rows st e h) k
-        (dig-both (getD rows e []) (map isOpen st) k ∙ and-both o u) in
+        let g : e < openEdge masks st → ⊥ = λ h. count-none (both (getD masks e []) (map isOpen st)) (count-opens (getD masks e []) st ∙ edge-shut masks st e h) k
+        (dig-both (getD masks e []) (map isOpen st) k ∙ and-both o u) in
         omega (arith, g)
 
 -- ---- no edge gets a new undecided candidate
@@ -141,40 +141,40 @@ one-open v o true true Taken = omega arith
 one-open v o true true Rejected = omega arith
 one-open v o true true Undecided = rw o (omega arith)
 
-decide-open : (v : Status) → isOpen v ≡ false → (r row : List Bool) (st : List Status) → openOn r (decide v row st) ≤ openOn r st
+decide-open : (v : Status) → isOpen v ≡ false → (r mask : List Bool) (st : List Status) → openOn r (decide v mask st) ≤ openOn r st
 unfolding openOn decide
-decide-open v o [] row st = omega arith
+decide-open v o [] mask st = omega arith
 decide-open v o (a ∷ r) [] st = omega arith
-decide-open v o (a ∷ r) (b ∷ row) [] = omega arith
-decide-open v o (a ∷ r) (b ∷ row) (s ∷ st) = omega (arith, one-open v o a b s, decide-open v o r row st)
+decide-open v o (a ∷ r) (b ∷ mask) [] = omega arith
+decide-open v o (a ∷ r) (b ∷ mask) (s ∷ st) = omega (arith, one-open v o a b s, decide-open v o r mask st)
 
-pub settle-open : (r row : List Bool) (st : List Status) → openOn r (settle row st) ≤ openOn r st
+pub settle-open : (r mask : List Bool) (st : List Status) → openOn r (settle mask st) ≤ openOn r st
 unfolding settle
-settle-open r row st = go (eqb (takenOn row st) 2) (eqb (takenOn row st + openOn row st) 2)
+settle-open r mask st = go (eqb (takenOn mask st) 2) (eqb (takenOn mask st + openOn mask st) 2)
   where
-    go : (a b : Bool) → openOn r (cond a (decide Rejected row st) (cond b (decide Taken row st) st)) ≤ openOn r st
-    go true b = decide-open Rejected refl r row st
-    go false true = decide-open Taken refl r row st
+    go : (a b : Bool) → openOn r (cond a (decide Rejected mask st) (cond b (decide Taken mask st) st)) ≤ openOn r st
+    go true b = decide-open Rejected refl r mask st
+    go false true = decide-open Taken refl r mask st
     go false false = omega arith
 
-pub sweep-open : (r : List Bool) (rows : List (List Bool)) (st s : List Status) → sweep rows st ≡ Stands s → openOn r s ≤ openOn r st
+pub sweep-open : (r : List Bool) (masks : List (List Bool)) (st s : List Status) → sweep masks st ≡ Stands s → openOn r s ≤ openOn r st
 unfolding sweep
 sweep-open r [] st s e = let p : st ≡ s = cc in omega (arith, ap (openOn r) p)
-sweep-open r (row ∷ rows) st s e = go (sweep-open r rows (settle row st) s) (contradicts row st) e
+sweep-open r (mask ∷ masks) st s e = go (sweep-open r masks (settle mask st) s) (contradicts mask st) e
   where
-    go : (sweep rows (settle row st) ≡ Stands s → openOn r s ≤ openOn r (settle row st)) → (b : Bool) → cond b Broken (sweep rows (settle row st)) ≡ Stands s → openOn r s ≤ openOn r st
+    go : (sweep masks (settle mask st) ≡ Stands s → openOn r s ≤ openOn r (settle mask st)) → (b : Bool) → cond b Broken (sweep masks (settle mask st)) ≡ Stands s → openOn r s ≤ openOn r st
     go ih true q = no-break q
-    go ih false q = omega (arith, ih q, settle-open r row st)
+    go ih false q = omega (arith, ih q, settle-open r mask st)
 
-sweeps-open : (r : List Bool) {rows : List (List Bool)} {st s : List Status} (o : Outcome) → Sweeps rows st o → o ≡ Stands s → openOn r s ≤ openOn r st
-sweeps-open r {rows} {st} {s} o (breaks e) q = no-break q
-sweeps-open r {rows} {st} {s} o (rests {st = x} e) q = let p : x ≡ s = cc in omega (arith, ap (openOn r) p)
-sweeps-open r {rows} {st} {s} o (again {st = x} {st′ = y} e n w) q = omega (arith, sweeps-open r o w q, sweep-open r rows x y e)
+sweeps-open : (r : List Bool) {masks : List (List Bool)} {st s : List Status} (o : Outcome) → Sweeps masks st o → o ≡ Stands s → openOn r s ≤ openOn r st
+sweeps-open r {masks} {st} {s} o (breaks e) q = no-break q
+sweeps-open r {masks} {st} {s} o (rests {st = x} e) q = let p : x ≡ s = cc in omega (arith, ap (openOn r) p)
+sweeps-open r {masks} {st} {s} o (again {st = x} {st′ = y} e n w) q = omega (arith, sweeps-open r o w q, sweep-open r masks x y e)
 
-pub stable-open : (r : List Bool) (rows : List (List Bool)) (st s : List Status) → stable (suc (openCount st)) rows st ≡ Stands s → openOn r s ≤ openOn r st
-stable-open r rows st s e =
-    let w = sweeps rows (suc (openCount st)) st (omega arith) in
-    sweeps-open r (w .0) (w .1) (sym (sweeps-stable rows (w .1) (suc (openCount st)) (omega arith)) ∙ e)
+pub stable-open : (r : List Bool) (masks : List (List Bool)) (st s : List Status) → stable (suc (openCount st)) masks st ≡ Stands s → openOn r s ≤ openOn r st
+stable-open r masks st s e =
+    let w = sweeps masks (suc (openCount st)) st (omega arith) in
+    sweeps-open r (w .0) (w .1) (sym (sweeps-stable masks (w .1) (suc (openCount st)) (omega arith)) ∙ e)
 
 pub set-open : (r : List Bool) (st : List Status) (k : ℕ) (v : Status) → isOpen v ≡ false → openOn r (set st k v) ≤ openOn r st
 unfolding openOn
@@ -184,8 +184,8 @@ set-open (true ∷ r) (s ∷ st) zero v o = rw o (omega arith)
 set-open (false ∷ r) (s ∷ st) zero v o = omega arith
 set-open (a ∷ r) (s ∷ st) (suc k) v o = omega (arith, set-open r st k v o)
 
-pub shut-stable : (rows : List (List Bool)) (e : ℕ) (st s : List Status) → Shut rows e st → stable (suc (openCount st)) rows st ≡ Stands s → Shut rows e s
-shut-stable rows e st s h w j l = omega (arith, h j l, stable-open (getD rows j []) rows st s w)
+pub shut-stable : (masks : List (List Bool)) (e : ℕ) (st s : List Status) → Shut masks e st → stable (suc (openCount st)) masks st ≡ Stands s → Shut masks e s
+shut-stable masks e st s h w j l = omega (arith, h j l, stable-open (getD masks j []) masks st s w)
 
-pub shut-set : (rows : List (List Bool)) (e : ℕ) (st : List Status) (k : ℕ) (v : Status) → isOpen v ≡ false → Shut rows e st → Shut rows e (set st k v)
-shut-set rows e st k v o h j l = omega (arith, h j l, set-open (getD rows j []) st k v o)
+pub shut-set : (masks : List (List Bool)) (e : ℕ) (st : List Status) (k : ℕ) (v : Status) → isOpen v ≡ false → Shut masks e st → Shut masks e (set st k v)
+shut-set masks e st k v o h j l = omega (arith, h j l, set-open (getD masks j []) st k v o)

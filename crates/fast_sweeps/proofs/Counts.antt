@@ -23,12 +23,12 @@ one-takes true Taken = refl
 one-takes true Rejected = refl
 one-takes true Undecided = refl
 
--- t | row & u
-pub takens-taken : (row : List Bool) (st : List Status) → takens (decide Taken row st) ≡ either (takens st) (both row (opens st))
+-- t | mask & u
+pub takens-taken : (mask : List Bool) (st : List Status) → takens (decide Taken mask st) ≡ either (takens st) (both mask (opens st))
 unfolding decide either both
 takens-taken [] st = sym (nil-either (takens st))
-takens-taken (b ∷ row) [] = refl
-takens-taken (b ∷ row) (s ∷ st) = ap₂ (λ (x : Bool) (y : List Bool). x ∷ y) (one-takes b s) (takens-taken row st)
+takens-taken (b ∷ mask) [] = refl
+takens-taken (b ∷ mask) (s ∷ st) = ap₂ (λ (x : Bool) (y : List Bool). x ∷ y) (one-takes b s) (takens-taken mask st)
 
 one-rejects : (b : Bool) (s : Status) → isTaken (decideOne Rejected b s) ≡ isTaken s
 one-rejects false s = refl
@@ -36,11 +36,11 @@ one-rejects true Taken = refl
 one-rejects true Rejected = refl
 one-rejects true Undecided = refl
 
-pub takens-rejected : (row : List Bool) (st : List Status) → takens (decide Rejected row st) ≡ takens st
+pub takens-rejected : (mask : List Bool) (st : List Status) → takens (decide Rejected mask st) ≡ takens st
 unfolding decide
 takens-rejected [] st = refl
-takens-rejected (b ∷ row) [] = refl
-takens-rejected (b ∷ row) (s ∷ st) = ap₂ (λ (x : Bool) (y : List Bool). x ∷ y) (one-rejects b s) (takens-rejected row st)
+takens-rejected (b ∷ mask) [] = refl
+takens-rejected (b ∷ mask) (s ∷ st) = ap₂ (λ (x : Bool) (y : List Bool). x ∷ y) (one-rejects b s) (takens-rejected mask st)
 
 one-decides : (v : Status) → isOpen v ≡ false → (b : Bool) (s : Status) → isOpen (decideOne v b s) ≡ isOpen s && not (b && isOpen s)
 one-decides v o false Taken = refl
@@ -50,12 +50,12 @@ one-decides v o true Taken = refl
 one-decides v o true Rejected = refl
 one-decides v o true Undecided = o
 
--- u & !(row & u)
-pub opens-decided : (v : Status) → isOpen v ≡ false → (row : List Bool) (st : List Status) → opens (decide v row st) ≡ less (opens st) (both row (opens st))
+-- u & !(mask & u)
+pub opens-decided : (v : Status) → isOpen v ≡ false → (mask : List Bool) (st : List Status) → opens (decide v mask st) ≡ less (opens st) (both mask (opens st))
 unfolding decide less both
 opens-decided v o [] st = sym (nil-less (opens st))
-opens-decided v o (b ∷ row) [] = refl
-opens-decided v o (b ∷ row) (s ∷ st) = ap₂ (λ (x : Bool) (y : List Bool). x ∷ y) (one-decides v o b s) (opens-decided v o row st)
+opens-decided v o (b ∷ mask) [] = refl
+opens-decided v o (b ∷ mask) (s ∷ st) = ap₂ (λ (x : Bool) (y : List Bool). x ∷ y) (one-decides v o b s) (opens-decided v o mask st)
 
 -- how many are left
 bit-split : (x y : Bool) → bit (x && not (y && x)) + bit (y && x) ≡ bit x
@@ -64,100 +64,100 @@ bit-split true false = refl
 bit-split false true = refl
 bit-split false false = refl
 
-pub count-split : (u row : List Bool) → count (less u (both row u)) + count (both row u) ≡ count u
+pub count-split : (u mask : List Bool) → count (less u (both mask u)) + count (both mask u) ≡ count u
 unfolding count less both
 count-split [] [] = refl
-count-split [] (y ∷ row) = refl
+count-split [] (y ∷ mask) = refl
 count-split (x ∷ u) [] = omega arith
-count-split (x ∷ u) (y ∷ row) = omega (arith, bit-split x y, count-split u row)
+count-split (x ∷ u) (y ∷ mask) = omega (arith, bit-split x y, count-split u mask)
 
 -- ---- the ways through
-module _ (row : List Bool) (st : List Status) where
+module _ (mask : List Bool) (st : List Status) where
   abbrev pub M : ℕ
-  M = count (both row (takens st))
+  M = count (both mask (takens st))
 
   abbrev pub L : ℕ
-  L = count (both row (opens st))
+  L = count (both mask (opens st))
 
-  contradicts-by : (m l : ℕ) → takenOn row st ≡ m → openOn row st ≡ l → contradicts row st ≡ (ltb 2 m || ltb (m + l) 2)
+  contradicts-by : (m l : ℕ) → takenOn mask st ≡ m → openOn mask st ≡ l → contradicts mask st ≡ (ltb 2 m || ltb (m + l) 2)
   unfolding contradicts
   contradicts-by m l p q = ap₂ (λ (x y : ℕ). ltb 2 x || ltb (x + y) 2) p q
 
-  settle-by : (m l : ℕ) → takenOn row st ≡ m → openOn row st ≡ l → settle row st ≡ cond (eqb m 2) (decide Rejected row st) (cond (eqb (m + l) 2) (decide Taken row st) st)
+  settle-by : (m l : ℕ) → takenOn mask st ≡ m → openOn mask st ≡ l → settle mask st ≡ cond (eqb m 2) (decide Rejected mask st) (cond (eqb (m + l) 2) (decide Taken mask st) st)
   unfolding settle
-  settle-by m l p q = ap₂ (λ (x y : ℕ). cond (eqb x 2) (decide Rejected row st) (cond (eqb (x + y) 2) (decide Taken row st) st)) p q
+  settle-by m l p q = ap₂ (λ (x y : ℕ). cond (eqb x 2) (decide Rejected mask st) (cond (eqb (x + y) 2) (decide Taken mask st) st)) p q
 
-  decided-by : (m l : ℕ) → takenOn row st ≡ m → openOn row st ≡ l → decidedOn row st ≡ cond (eqb m 2) (both row (opens st)) (cond (eqb (m + l) 2) (both row (opens st)) [])
+  decided-by : (m l : ℕ) → takenOn mask st ≡ m → openOn mask st ≡ l → decidedOn mask st ≡ cond (eqb m 2) (both mask (opens st)) (cond (eqb (m + l) 2) (both mask (opens st)) [])
   unfolding decidedOn
-  decided-by m l p q = ap₂ (λ (x y : ℕ). cond (eqb x 2) (both row (opens st)) (cond (eqb (x + y) 2) (both row (opens st)) [])) p q
+  decided-by m l p q = ap₂ (λ (x y : ℕ). cond (eqb x 2) (both mask (opens st)) (cond (eqb (x + y) 2) (both mask (opens st)) [])) p q
 
-  is-M : takenOn row st ≡ M
-  is-M = sym (count-takens row st)
+  is-M : takenOn mask st ≡ M
+  is-M = sym (count-takens mask st)
 
-  is-L : openOn row st ≡ L
-  is-L = sym (count-opens row st)
+  is-L : openOn mask st ≡ L
+  is-L = sym (count-opens mask st)
 
   -- "if 2 < m { return Broken }"
-  pub many : 2 < M → contradicts row st ≡ true
+  pub many : 2 < M → contradicts mask st ≡ true
   many h = contradicts-by M L is-M is-L ∙ ap (λ (b : Bool). b || ltb (M + L) 2) (lt-ltb 2 M h)
 
   -- "if m + l < 2 { return Broken }"
-  pub few : M + L < 2 → contradicts row st ≡ true
+  pub few : M + L < 2 → contradicts mask st ≡ true
   few h = contradicts-by M L is-M is-L ∙ ap₂ _||_ (le-ltb 2 M (omega arith)) (lt-ltb (M + L) 2 h)
 
   -- m = 2: no contradiction, and the undecided are rejected
   pub record Rejects : Type 0 where
-    pub calm : contradicts row st ≡ false
-    pub decided : decidedOn row st ≡ both row (opens st)
-    pub takes : takens (settle row st) ≡ takens st
-    pub leaves : opens (settle row st) ≡ less (opens st) (both row (opens st))
+    pub calm : contradicts mask st ≡ false
+    pub decided : decidedOn mask st ≡ both mask (opens st)
+    pub takes : takens (settle mask st) ≡ takens st
+    pub leaves : opens (settle mask st) ≡ less (opens st) (both mask (opens st))
 
   pub two : M ≡ 2 → Rejects
   two h =
-      let s : settle row st ≡ decide Rejected row st = settle-by M L is-M is-L ∙ ap (λ (b : Bool). cond b (decide Rejected row st) (cond (eqb (M + L) 2) (decide Taken row st) st)) (eq-eqb M 2 h) in
+      let s : settle mask st ≡ decide Rejected mask st = settle-by M L is-M is-L ∙ ap (λ (b : Bool). cond b (decide Rejected mask st) (cond (eqb (M + L) 2) (decide Taken mask st) st)) (eq-eqb M 2 h) in
       record {
         calm = contradicts-by M L is-M is-L ∙ ap₂ _||_ (le-ltb 2 M (omega arith)) (le-ltb (M + L) 2 (omega arith));
-        decided = decided-by M L is-M is-L ∙ ap (λ (b : Bool). cond b (both row (opens st)) (cond (eqb (M + L) 2) (both row (opens st)) [])) (eq-eqb M 2 h);
-        takes = ap takens s ∙ takens-rejected row st;
-        leaves = ap opens s ∙ opens-decided Rejected refl row st;
+        decided = decided-by M L is-M is-L ∙ ap (λ (b : Bool). cond b (both mask (opens st)) (cond (eqb (M + L) 2) (both mask (opens st)) [])) (eq-eqb M 2 h);
+        takes = ap takens s ∙ takens-rejected mask st;
+        leaves = ap opens s ∙ opens-decided Rejected refl mask st;
       }
 
   -- m < 2, m + l = 2: no contradiction, and the undecided are taken
   pub record Takes : Type 0 where
-    pub calm : contradicts row st ≡ false
-    pub decided : decidedOn row st ≡ both row (opens st)
-    pub takes : takens (settle row st) ≡ either (takens st) (both row (opens st))
-    pub leaves : opens (settle row st) ≡ less (opens st) (both row (opens st))
+    pub calm : contradicts mask st ≡ false
+    pub decided : decidedOn mask st ≡ both mask (opens st)
+    pub takes : takens (settle mask st) ≡ either (takens st) (both mask (opens st))
+    pub leaves : opens (settle mask st) ≡ less (opens st) (both mask (opens st))
 
   pub exactly : M < 2 → M + L ≡ 2 → Takes
   exactly h k =
-      let s : settle row st ≡ decide Taken row st = settle-by M L is-M is-L
-      ∙ ap₂ (λ (a b : Bool). cond a (decide Rejected row st) (cond b (decide Taken row st) st)) (ne-eqb M 2 (λ e. omega arith)) (eq-eqb (M + L) 2 k) in
+      let s : settle mask st ≡ decide Taken mask st = settle-by M L is-M is-L
+      ∙ ap₂ (λ (a b : Bool). cond a (decide Rejected mask st) (cond b (decide Taken mask st) st)) (ne-eqb M 2 (λ e. omega arith)) (eq-eqb (M + L) 2 k) in
       record {
         calm = contradicts-by M L is-M is-L ∙ ap₂ _||_ (le-ltb 2 M (omega arith)) (le-ltb (M + L) 2 (omega arith));
         decided = decided-by M L is-M is-L
-            ∙ ap₂ (λ (a b : Bool). cond a (both row (opens st)) (cond b (both row (opens st)) [])) (ne-eqb M 2 (λ e. omega arith)) (eq-eqb (M + L) 2 k);
-        takes = ap takens s ∙ takens-taken row st;
-        leaves = ap opens s ∙ opens-decided Taken refl row st;
+            ∙ ap₂ (λ (a b : Bool). cond a (both mask (opens st)) (cond b (both mask (opens st)) [])) (ne-eqb M 2 (λ e. omega arith)) (eq-eqb (M + L) 2 k);
+        takes = ap takens s ∙ takens-taken mask st;
+        leaves = ap opens s ∙ opens-decided Taken refl mask st;
       }
 
   -- m < 2, 2 < m + l: no contradiction, and nothing changes
   pub record Leaves : Type 0 where
-    pub calm : contradicts row st ≡ false
-    pub decided : decidedOn row st ≡ []
-    pub still : settle row st ≡ st
+    pub calm : contradicts mask st ≡ false
+    pub decided : decidedOn mask st ≡ []
+    pub still : settle mask st ≡ st
 
   pub more : M < 2 → 2 < M + L → Leaves
   more h k = record {
     calm = contradicts-by M L is-M is-L ∙ ap₂ _||_ (le-ltb 2 M (omega arith)) (le-ltb (M + L) 2 (omega arith));
     decided = decided-by M L is-M is-L
-        ∙ ap₂ (λ (a b : Bool). cond a (both row (opens st)) (cond b (both row (opens st)) [])) (ne-eqb M 2 (λ e. omega arith)) (ne-eqb (M + L) 2 (λ e. omega arith));
+        ∙ ap₂ (λ (a b : Bool). cond a (both mask (opens st)) (cond b (both mask (opens st)) [])) (ne-eqb M 2 (λ e. omega arith)) (ne-eqb (M + L) 2 (λ e. omega arith));
     still = settle-by M L is-M is-L
-        ∙ ap₂ (λ (a b : Bool). cond a (decide Rejected row st) (cond b (decide Taken row st) st)) (ne-eqb M 2 (λ e. omega arith)) (ne-eqb (M + L) 2 (λ e. omega arith));
+        ∙ ap₂ (λ (a b : Bool). cond a (decide Rejected mask st) (cond b (decide Taken mask st) st)) (ne-eqb M 2 (λ e. omega arith)) (ne-eqb (M + L) 2 (λ e. omega arith));
   }
 
   -- all at once: L is read only where M is below 2
-  pub contradicts-ml : contradicts row st ≡ cond (ltb M 2) (ltb (M + L) 2) (ltb 2 M)
+  pub contradicts-ml : contradicts mask st ≡ cond (ltb M 2) (ltb (M + L) 2) (ltb 2 M)
   contradicts-ml = contradicts-by M L is-M is-L ∙ small M L
     where
       small : (m l : ℕ) → (ltb 2 m || ltb (m + l) 2) ≡ cond (ltb m 2) (ltb (m + l) 2) (ltb 2 m)
@@ -168,11 +168,11 @@ module _ (row : List Bool) (st : List Status) where
           let q : ltb (suc (suc m)) 2 ≡ false = le-ltb (suc (suc m)) 2 (omega arith) in
           rw (p, q) (or-false (ltb 2 (suc (suc m))))
 
-  pub settle-ml : M ≤ 2 → settle row st ≡ cond (ltb M 2) (cond (eqb (M + L) 2) (decide Taken row st) st) (decide Rejected row st)
+  pub settle-ml : M ≤ 2 → settle mask st ≡ cond (ltb M 2) (cond (eqb (M + L) 2) (decide Taken mask st) st) (decide Rejected mask st)
   settle-ml h = settle-by M L is-M is-L ∙ small M L h
     where
-      small : (m l : ℕ) → m ≤ 2 → cond (eqb m 2) (decide Rejected row st) (cond (eqb (m + l) 2) (decide Taken row st) st)
-          ≡ cond (ltb m 2) (cond (eqb (m + l) 2) (decide Taken row st) st) (decide Rejected row st)
+      small : (m l : ℕ) → m ≤ 2 → cond (eqb m 2) (decide Rejected mask st) (cond (eqb (m + l) 2) (decide Taken mask st) st)
+          ≡ cond (ltb m 2) (cond (eqb (m + l) 2) (decide Taken mask st) st) (decide Rejected mask st)
       small zero l k = refl
       small (suc zero) l k = refl
       small (suc (suc zero)) l k = refl

@@ -24,21 +24,21 @@ one-shut v o true Rejected = refl
 one-shut v o true Undecided = ap bit o
 
 -- none is left undecided
-decide-shut : (v : Status) → isOpen v ≡ false → (row : List Bool) (st : List Status) → openOn row (decide v row st) ≡ 0
+decide-shut : (v : Status) → isOpen v ≡ false → (mask : List Bool) (st : List Status) → openOn mask (decide v mask st) ≡ 0
 unfolding openOn decide
 decide-shut v o [] st = refl
-decide-shut v o (b ∷ row) [] = refl
-decide-shut v o (b ∷ row) (s ∷ st) = omega (arith, one-shut v o b s, decide-shut v o row st)
+decide-shut v o (b ∷ mask) [] = refl
+decide-shut v o (b ∷ mask) (s ∷ st) = omega (arith, one-shut v o b s, decide-shut v o mask st)
 
 -- where there was none, nothing changes
-decide-none : (v : Status) (row : List Bool) (st : List Status) → openOn row st ≡ 0 → decide v row st ≡ st
+decide-none : (v : Status) (mask : List Bool) (st : List Status) → openOn mask st ≡ 0 → decide v mask st ≡ st
 unfolding openOn decide
 decide-none v [] st z = refl
-decide-none v (b ∷ row) [] z = refl
-decide-none v (false ∷ row) (s ∷ st) z = ap (λ (x : List Status). s ∷ x) (decide-none v row st (omega arith))
-decide-none v (true ∷ row) (Taken ∷ st) z = ap (λ (x : List Status). Taken ∷ x) (decide-none v row st (omega arith))
-decide-none v (true ∷ row) (Rejected ∷ st) z = ap (λ (x : List Status). Rejected ∷ x) (decide-none v row st (omega arith))
-decide-none v (true ∷ row) (Undecided ∷ st) z = absurd (omega arith)
+decide-none v (b ∷ mask) [] z = refl
+decide-none v (false ∷ mask) (s ∷ st) z = ap (λ (x : List Status). s ∷ x) (decide-none v mask st (omega arith))
+decide-none v (true ∷ mask) (Taken ∷ st) z = ap (λ (x : List Status). Taken ∷ x) (decide-none v mask st (omega arith))
+decide-none v (true ∷ mask) (Rejected ∷ st) z = ap (λ (x : List Status). Rejected ∷ x) (decide-none v mask st (omega arith))
+decide-none v (true ∷ mask) (Undecided ∷ st) z = absurd (omega arith)
 
 -- ---- another edge r that has none of those decided
 
@@ -61,53 +61,53 @@ pub record Same (r : List Bool) (s st : List Status) : Type 0 where
   pub taken : takenOn r s ≡ takenOn r st
   pub undecided : openOn r s ≡ openOn r st
 
-decide-same : (v : Status) (r row : List Bool) (st : List Status) → meets r (both row (map isOpen st)) ≡ false → Same r (decide v row st) st
+decide-same : (v : Status) (r mask : List Bool) (st : List Status) → meets r (both mask (map isOpen st)) ≡ false → Same r (decide v mask st) st
 unfolding takenOn openOn decide both meets
-decide-same v [] row st e = record { taken = refl; undecided = refl }
+decide-same v [] mask st e = record { taken = refl; undecided = refl }
 decide-same v (a ∷ r) [] st e = record { taken = refl; undecided = refl }
-decide-same v (a ∷ r) (b ∷ row) [] e = record { taken = refl; undecided = refl }
-decide-same v (a ∷ r) (b ∷ row) (s ∷ st) e =
-    let p = or-none (a && (b && isOpen s)) (meets r (both row (map isOpen st))) e in
-    let w = decide-same v r row st (p .1) in
+decide-same v (a ∷ r) (b ∷ mask) [] e = record { taken = refl; undecided = refl }
+decide-same v (a ∷ r) (b ∷ mask) (s ∷ st) e =
+    let p = or-none (a && (b && isOpen s)) (meets r (both mask (map isOpen st))) e in
+    let w = decide-same v r mask st (p .1) in
     record { taken = ap₂ _+_ (one-taken v a b s (p .0)) (w .taken); undecided = ap₂ _+_ (one-open v a b s (p .0)) (w .undecided) }
 
 -- settling an edge leaves the counts of each edge that has none of those decided
-pub settle-same : (r row : List Bool) (st : List Status) → meets r (decidedOn row st) ≡ false → Same r (settle row st) st
+pub settle-same : (r mask : List Bool) (st : List Status) → meets r (decidedOn mask st) ≡ false → Same r (settle mask st) st
 unfolding settle decidedOn
-settle-same r row st = go (eqb (takenOn row st) 2) (eqb (takenOn row st + openOn row st) 2)
+settle-same r mask st = go (eqb (takenOn mask st) 2) (eqb (takenOn mask st + openOn mask st) 2)
   where
-    go : (a b : Bool) → meets r (cond a (both row (map isOpen st)) (cond b (both row (map isOpen st)) [])) ≡ false
-        → Same r (cond a (decide Rejected row st) (cond b (decide Taken row st) st)) st
-    go true b e = decide-same Rejected r row st e
-    go false true e = decide-same Taken r row st e
+    go : (a b : Bool) → meets r (cond a (both mask (map isOpen st)) (cond b (both mask (map isOpen st)) [])) ≡ false
+        → Same r (cond a (decide Rejected mask st) (cond b (decide Taken mask st) st)) st
+    go true b e = decide-same Rejected r mask st e
+    go false true e = decide-same Taken r mask st e
     go false false e = record { taken = refl; undecided = refl }
 
 -- where none is decided, nothing changes
-pub settle-none : (row : List Bool) (st : List Status) → count (decidedOn row st) ≡ 0 → settle row st ≡ st
+pub settle-none : (mask : List Bool) (st : List Status) → count (decidedOn mask st) ≡ 0 → settle mask st ≡ st
 unfolding settle decidedOn
-settle-none row st = go (eqb (takenOn row st) 2) (eqb (takenOn row st + openOn row st) 2)
+settle-none mask st = go (eqb (takenOn mask st) 2) (eqb (takenOn mask st + openOn mask st) 2)
   where
-    go : (a b : Bool) → count (cond a (both row (map isOpen st)) (cond b (both row (map isOpen st)) [])) ≡ 0
-        → cond a (decide Rejected row st) (cond b (decide Taken row st) st) ≡ st
-    go true b e = decide-none Rejected row st (sym (count-opens row st) ∙ e)
-    go false true e = decide-none Taken row st (sym (count-opens row st) ∙ e)
+    go : (a b : Bool) → count (cond a (both mask (map isOpen st)) (cond b (both mask (map isOpen st)) [])) ≡ 0
+        → cond a (decide Rejected mask st) (cond b (decide Taken mask st) st) ≡ st
+    go true b e = decide-none Rejected mask st (sym (count-opens mask st) ∙ e)
+    go false true e = decide-none Taken mask st (sym (count-opens mask st) ∙ e)
     go false false e = refl
 
 -- and where nothing changes, none is decided
-pub none-settle : (row : List Bool) (st : List Status) → settle row st ≡ st → count (decidedOn row st) ≡ 0
+pub none-settle : (mask : List Bool) (st : List Status) → settle mask st ≡ st → count (decidedOn mask st) ≡ 0
 unfolding settle decidedOn count
-none-settle row st = go (eqb (takenOn row st) 2) (eqb (takenOn row st + openOn row st) 2)
+none-settle mask st = go (eqb (takenOn mask st) 2) (eqb (takenOn mask st + openOn mask st) 2)
   where
-    go : (a b : Bool) → cond a (decide Rejected row st) (cond b (decide Taken row st) st) ≡ st
-        → count (cond a (both row (map isOpen st)) (cond b (both row (map isOpen st)) [])) ≡ 0
-    go true b e = count-opens row st ∙ sym (ap (openOn row) e) ∙ decide-shut Rejected refl row st
-    go false true e = count-opens row st ∙ sym (ap (openOn row) e) ∙ decide-shut Taken refl row st
+    go : (a b : Bool) → cond a (decide Rejected mask st) (cond b (decide Taken mask st) st) ≡ st
+        → count (cond a (both mask (map isOpen st)) (cond b (both mask (map isOpen st)) [])) ≡ 0
+    go true b e = count-opens mask st ∙ sym (ap (openOn mask) e) ∙ decide-shut Rejected refl mask st
+    go false true e = count-opens mask st ∙ sym (ap (openOn mask) e) ∙ decide-shut Taken refl mask st
     go false false e = refl
 
 -- the edge has one of those decided, if there is one
-pub meets-self : (row : List Bool) (st : List Status) → meets row (decidedOn row st) ≡ false → count (decidedOn row st) ≡ 0
+pub meets-self : (mask : List Bool) (st : List Status) → meets mask (decidedOn mask st) ≡ false → count (decidedOn mask st) ≡ 0
 unfolding decidedOn count both meets
-meets-self row st = go (eqb (takenOn row st) 2) (eqb (takenOn row st + openOn row st) 2)
+meets-self mask st = go (eqb (takenOn mask st) 2) (eqb (takenOn mask st + openOn mask st) 2)
   where
     both-self : (r x : List Bool) → meets r (both r x) ≡ false → count (both r x) ≡ 0
     both-self [] x e = refl
@@ -116,21 +116,21 @@ meets-self row st = go (eqb (takenOn row st) 2) (eqb (takenOn row st + openOn ro
     both-self (true ∷ r) (false ∷ x) e = omega (arith, both-self r x e)
     both-self (true ∷ r) (true ∷ x) e = absurd (true≢false e)
 
-    go : (a b : Bool) → meets row (cond a (both row (map isOpen st)) (cond b (both row (map isOpen st)) [])) ≡ false
-        → count (cond a (both row (map isOpen st)) (cond b (both row (map isOpen st)) [])) ≡ 0
-    go true b e = both-self row (map isOpen st) e
-    go false true e = both-self row (map isOpen st) e
+    go : (a b : Bool) → meets mask (cond a (both mask (map isOpen st)) (cond b (both mask (map isOpen st)) [])) ≡ false
+        → count (cond a (both mask (map isOpen st)) (cond b (both mask (map isOpen st)) [])) ≡ 0
+    go true b e = both-self mask (map isOpen st) e
+    go false true e = both-self mask (map isOpen st) e
     go false false e = refl
 
 -- how many are decided
-pub count-decided : (row : List Bool) (st : List Status)
-    → count (decidedOn row st) ≡ cond (eqb (takenOn row st) 2) (openOn row st) (cond (eqb (takenOn row st + openOn row st) 2) (openOn row st) 0)
+pub count-decided : (mask : List Bool) (st : List Status)
+    → count (decidedOn mask st) ≡ cond (eqb (takenOn mask st) 2) (openOn mask st) (cond (eqb (takenOn mask st + openOn mask st) 2) (openOn mask st) 0)
 unfolding decidedOn count
-count-decided row st = go (eqb (takenOn row st) 2) (eqb (takenOn row st + openOn row st) 2)
+count-decided mask st = go (eqb (takenOn mask st) 2) (eqb (takenOn mask st + openOn mask st) 2)
   where
-    go : (a b : Bool) → count (cond a (both row (map isOpen st)) (cond b (both row (map isOpen st)) [])) ≡ cond a (openOn row st) (cond b (openOn row st) 0)
-    go true b = count-opens row st
-    go false true = count-opens row st
+    go : (a b : Bool) → count (cond a (both mask (map isOpen st)) (cond b (both mask (map isOpen st)) [])) ≡ cond a (openOn mask st) (cond b (openOn mask st) 0)
+    go true b = count-opens mask st
+    go false true = count-opens mask st
     go false false = refl
 
 -- ---- settled edges
@@ -146,23 +146,23 @@ settled-same {r} {s} {st} w t = record {
     zero-same : count (decidedOn r s) ≡ count (decidedOn r st)
     zero-same = count-decided r s ∙ ap₂ (λ (m l : ℕ). cond (eqb m 2) l (cond (eqb (m + l) 2) l 0)) (w .taken) (w .undecided) ∙ sym (count-decided r st)
 
-pub settled-none : (row : List Bool) (st : List Status) → contradicts row st ≡ false → count (decidedOn row st) ≡ 0 → Settled row (settle row st)
-settled-none row st c z = subst (Settled row) (sym (settle-none row st z)) (record { calm = c; still = settle-none row st z })
+pub settled-none : (mask : List Bool) (st : List Status) → contradicts mask st ≡ false → count (decidedOn mask st) ≡ 0 → Settled mask (settle mask st)
+settled-none mask st c z = subst (Settled mask) (sym (settle-none mask st z)) (record { calm = c; still = settle-none mask st z })
 
 -- settling an edge without a contradiction decides none or leaves fewer undecided
-sweep-one : (row : List Bool) (st : List Status) → contradicts row st ≡ false → sweep (row ∷ []) st ≡ Stands (settle row st)
+sweep-one : (mask : List Bool) (st : List Status) → contradicts mask st ≡ false → sweep (mask ∷ []) st ≡ Stands (settle mask st)
 unfolding sweep
-sweep-one row st c = rw c
+sweep-one mask st c = rw c
 
-pub settle-fewer : (row : List Bool) (st : List Status) → contradicts row st ≡ false → openCount (settle row st) ≤ openCount st
-settle-fewer row st c = sweep-fewer (row ∷ []) st (settle row st) (sweep-one row st c)
+pub settle-fewer : (mask : List Bool) (st : List Status) → contradicts mask st ≡ false → openCount (settle mask st) ≤ openCount st
+settle-fewer mask st c = sweep-fewer (mask ∷ []) st (settle mask st) (sweep-one mask st c)
 
-pub settle-still : (row : List Bool) (st : List Status) → contradicts row st ≡ false → openCount st ≤ openCount (settle row st) → settle row st ≡ st
-settle-still row st c h = sweep-still (row ∷ []) st (settle row st) (sweep-one row st c) h .0
+pub settle-still : (mask : List Bool) (st : List Status) → contradicts mask st ≡ false → openCount st ≤ openCount (settle mask st) → settle mask st ≡ st
+settle-still mask st c h = sweep-still (mask ∷ []) st (settle mask st) (sweep-one mask st c) h .0
 
-pub settle-decides : (row : List Bool) (st : List Status) → contradicts row st ≡ false → (count (decidedOn row st) ≡ 0 → ⊥) → openCount (settle row st) < openCount st
-settle-decides row st c n =
-    let f : openCount st ≤ openCount (settle row st) → ⊥ = λ h. n (none-settle row st (settle-still row st c h)) in
+pub settle-decides : (mask : List Bool) (st : List Status) → contradicts mask st ≡ false → (count (decidedOn mask st) ≡ 0 → ⊥) → openCount (settle mask st) < openCount st
+settle-decides mask st c n =
+    let f : openCount st ≤ openCount (settle mask st) → ⊥ = λ h. n (none-settle mask st (settle-still mask st c h)) in
     omega (arith, f)
 
 -- ---- one candidate given a status: the counts of the edges that do not have it stay

@@ -7,7 +7,7 @@ use native.Mathlib.Omega.{arith}
 use lib.ListN.{length, getD, replicate, length-replicate}
 use Rattle.sets.specs.Word.{dig, count, first, both, either, less}
 use Rattle.sets.proofs.Digits.{never, length-either, length-both, length-less}
-use Rattle.fast_sweeps.specs.Worklist.{after, passed, sides, meets, touched, nextAhead, nextLater}
+use Rattle.fast_sweeps.specs.Worklist.{after, passed, edgesWith, meets, touched, nextAhead, nextLater}
 
 pub nil-either : (x : List Bool) → either x [] ≡ x
 unfolding either
@@ -97,56 +97,56 @@ length-passed (true ∷ a) = omega arith
 length-passed (false ∷ a) = omega (arith, length-passed a)
 
 -- ---- the edges of candidates
-pub dig-sides : (rows : List (List Bool)) (k j : ℕ) → dig (sides rows k) j ≡ dig (getD rows j []) k
-unfolding sides
+pub dig-sides : (masks : List (List Bool)) (k j : ℕ) → dig (edgesWith masks k) j ≡ dig (getD masks j []) k
+unfolding edgesWith
 dig-sides [] k j = refl
-dig-sides (row ∷ rows) k zero = refl
-dig-sides (row ∷ rows) k (suc j) = dig-sides rows k j
+dig-sides (mask ∷ masks) k zero = refl
+dig-sides (mask ∷ masks) k (suc j) = dig-sides masks k j
 
-pub length-sides : (rows : List (List Bool)) (k : ℕ) → length (sides rows k) ≡ length rows
-unfolding sides
+pub length-sides : (masks : List (List Bool)) (k : ℕ) → length (edgesWith masks k) ≡ length masks
+unfolding edgesWith
 length-sides [] k = refl
-length-sides (row ∷ rows) k = ap suc (length-sides rows k)
+length-sides (mask ∷ masks) k = ap suc (length-sides masks k)
 
-pub dig-touched : (rows : List (List Bool)) (d : List Bool) (j : ℕ) → dig (touched rows d) j ≡ meets (getD rows j []) d
+pub dig-touched : (masks : List (List Bool)) (d : List Bool) (j : ℕ) → dig (touched masks d) j ≡ meets (getD masks j []) d
 unfolding touched meets
 dig-touched [] d j = refl
-dig-touched (row ∷ rows) d zero = refl
-dig-touched (row ∷ rows) d (suc j) = dig-touched rows d j
+dig-touched (mask ∷ masks) d zero = refl
+dig-touched (mask ∷ masks) d (suc j) = dig-touched masks d j
 
-pub length-touched : (rows : List (List Bool)) (d : List Bool) → length (touched rows d) ≡ length rows
+pub length-touched : (masks : List (List Bool)) (d : List Bool) → length (touched masks d) ≡ length masks
 unfolding touched
 length-touched [] d = refl
-length-touched (row ∷ rows) d = ap suc (length-touched rows d)
+length-touched (mask ∷ masks) d = ap suc (length-touched masks d)
 
 -- no candidate has no edges
-meets-none : (row d : List Bool) → count d ≡ 0 → meets row d ≡ false
+meets-none : (mask d : List Bool) → count d ≡ 0 → meets mask d ≡ false
 unfolding meets count
 meets-none [] d z = refl
-meets-none (b ∷ row) [] z = refl
-meets-none (b ∷ row) (true ∷ d) z = absurd (omega arith)
-meets-none (true ∷ row) (false ∷ d) z = meets-none row d (omega arith)
-meets-none (false ∷ row) (false ∷ d) z = meets-none row d (omega arith)
+meets-none (b ∷ mask) [] z = refl
+meets-none (b ∷ mask) (true ∷ d) z = absurd (omega arith)
+meets-none (true ∷ mask) (false ∷ d) z = meets-none mask d (omega arith)
+meets-none (false ∷ mask) (false ∷ d) z = meets-none mask d (omega arith)
 
-pub touched-none : (rows : List (List Bool)) (d : List Bool) → count d ≡ 0 → touched rows d ≡ replicate (length rows) false
+pub touched-none : (masks : List (List Bool)) (d : List Bool) → count d ≡ 0 → touched masks d ≡ replicate (length masks) false
 unfolding touched
 touched-none [] d z = refl
-touched-none (row ∷ rows) d z = ap₂ (λ (x : Bool) (y : List Bool). x ∷ y) (meets-none row d z) (touched-none rows d z)
+touched-none (mask ∷ masks) d z = ap₂ (λ (x : Bool) (y : List Bool). x ∷ y) (meets-none mask d z) (touched-none masks d z)
 
 -- the lowest candidate's, and the others'
-meets-first : (row d : List Bool) → (count d ≡ 0 → ⊥) → meets row d ≡ dig row (first d) || meets row (after d)
+meets-first : (mask d : List Bool) → (count d ≡ 0 → ⊥) → meets mask d ≡ dig mask (first d) || meets mask (after d)
 unfolding meets first after count
 meets-first [] d n = refl
-meets-first (b ∷ row) [] n = absurd (n refl)
-meets-first (true ∷ row) (true ∷ d) n = refl
-meets-first (false ∷ row) (true ∷ d) n = refl
-meets-first (true ∷ row) (false ∷ d) n = meets-first row d (λ z. n (omega arith))
-meets-first (false ∷ row) (false ∷ d) n = meets-first row d (λ z. n (omega arith))
+meets-first (b ∷ mask) [] n = absurd (n refl)
+meets-first (true ∷ mask) (true ∷ d) n = refl
+meets-first (false ∷ mask) (true ∷ d) n = refl
+meets-first (true ∷ mask) (false ∷ d) n = meets-first mask d (λ z. n (omega arith))
+meets-first (false ∷ mask) (false ∷ d) n = meets-first mask d (λ z. n (omega arith))
 
-pub touched-first : (rows : List (List Bool)) (d : List Bool) → (count d ≡ 0 → ⊥) → touched rows d ≡ either (sides rows (first d)) (touched rows (after d))
-unfolding touched sides either
+pub touched-first : (masks : List (List Bool)) (d : List Bool) → (count d ≡ 0 → ⊥) → touched masks d ≡ either (edgesWith masks (first d)) (touched masks (after d))
+unfolding touched edgesWith either
 touched-first [] d n = refl
-touched-first (row ∷ rows) d n = ap₂ (λ (x : Bool) (y : List Bool). x ∷ y) (meets-first row d n) (touched-first rows d n)
+touched-first (mask ∷ masks) d n = ap₂ (λ (x : Bool) (y : List Bool). x ∷ y) (meets-first mask d n) (touched-first masks d n)
 
 -- ---- the loop that gathers them: `all` so far, `left` to go
 either-assoc : (a b c : List Bool) → either (either a b) c ≡ either a (either b c)
@@ -176,32 +176,32 @@ length-same n (x ∷ a) [] h k = h
 length-same zero (x ∷ a) (y ∷ b) h k = absurd (omega arith)
 length-same (suc n) (x ∷ a) (y ∷ b) h k = ap suc (length-same n a b (omega arith) (omega arith))
 
-pub record Gathers (rows : List (List Bool)) (d all left : List Bool) : Type 0 where
-  pub long : length all ≡ length rows
-  pub whole : either all (touched rows left) ≡ touched rows d
+pub record Gathers (masks : List (List Bool)) (d all left : List Bool) : Type 0 where
+  pub long : length all ≡ length masks
+  pub whole : either all (touched masks left) ≡ touched masks d
 
-pub gather-start : (rows : List (List Bool)) (d : List Bool) → Gathers rows d (replicate (length rows) false) d
-gather-start rows d = record { long = length-replicate (length rows) false; whole = none-either (length rows) (touched rows d) (length-touched rows d) }
+pub gather-start : (masks : List (List Bool)) (d : List Bool) → Gathers masks d (replicate (length masks) false) d
+gather-start masks d = record { long = length-replicate (length masks) false; whole = none-either (length masks) (touched masks d) (length-touched masks d) }
 
-pub gather-more : (rows : List (List Bool)) (d all left : List Bool) → (count left ≡ 0 → ⊥) → Gathers rows d all left
-    → Gathers rows d (either all (sides rows (first left))) (after left)
-gather-more rows d all left n g = record {
-  long = length-same (length rows) all (sides rows (first left)) (g .long) (length-sides rows (first left));
-  whole = either-assoc all (sides rows (first left)) (touched rows (after left)) ∙ ap (either all) (sym (touched-first rows left n)) ∙ g .whole;
+pub gather-more : (masks : List (List Bool)) (d all left : List Bool) → (count left ≡ 0 → ⊥) → Gathers masks d all left
+    → Gathers masks d (either all (edgesWith masks (first left))) (after left)
+gather-more masks d all left n g = record {
+  long = length-same (length masks) all (edgesWith masks (first left)) (g .long) (length-sides masks (first left));
+  whole = either-assoc all (edgesWith masks (first left)) (touched masks (after left)) ∙ ap (either all) (sym (touched-first masks left n)) ∙ g .whole;
 }
 
-pub gather-end : (rows : List (List Bool)) (d all left : List Bool) → count left ≡ 0 → Gathers rows d all left → all ≡ touched rows d
-gather-end rows d all left z g = sym (either-none (length rows) all (g .long)) ∙ ap (either all) (sym (touched-none rows left z)) ∙ g .whole
+pub gather-end : (masks : List (List Bool)) (d all left : List Bool) → count left ≡ 0 → Gathers masks d all left → all ≡ touched masks d
+gather-end masks d all left z g = sym (either-none (length masks) all (g .long)) ∙ ap (either all) (sym (touched-none masks left z)) ∙ g .whole
 
--- ---- no longer than the rows
-pub length-ahead : (rows : List (List Bool)) (d ahead : List Bool) → length ahead ≤ length rows → length (nextAhead rows d ahead) ≤ length rows
+-- ---- no longer than the masks
+pub length-ahead : (masks : List (List Bool)) (d ahead : List Bool) → length ahead ≤ length masks → length (nextAhead masks d ahead) ≤ length masks
 unfolding nextAhead
-length-ahead rows d ahead h =
-    length-either (length rows) (after ahead) (less (touched rows d) (passed ahead))
-    (omega (arith, length-after ahead)) (omega (arith, length-less (touched rows d) (passed ahead), length-touched rows d))
+length-ahead masks d ahead h =
+    length-either (length masks) (after ahead) (less (touched masks d) (passed ahead))
+    (omega (arith, length-after ahead)) (omega (arith, length-less (touched masks d) (passed ahead), length-touched masks d))
 
-pub length-later : (rows : List (List Bool)) (d ahead later : List Bool) → length later ≤ length rows → length (nextLater rows d ahead later) ≤ length rows
+pub length-later : (masks : List (List Bool)) (d ahead later : List Bool) → length later ≤ length masks → length (nextLater masks d ahead later) ≤ length masks
 unfolding nextLater
-length-later rows d ahead later h =
-    length-either (length rows) later (both (touched rows d) (passed ahead)) h
-    (omega (arith, length-both (touched rows d) (passed ahead), length-touched rows d))
+length-later masks d ahead later h =
+    length-either (length masks) later (both (touched masks d) (passed ahead)) h
+    (omega (arith, length-both (touched masks d) (passed ahead), length-touched masks d))

@@ -54,11 +54,11 @@ word-same (x ∷ a) [] h = ap₂ (λ (w : ℕ) (y : Bool). w * 2 + bit y) (word-
 word-same (x ∷ a) (y ∷ b) h = ap₂ (λ (w : ℕ) (z : Bool). w * 2 + bit z) (word-same a b (λ k. h (suc k))) (h 0)
 
 -- none was decided: the next marks are the same words as those without the lowest
-pub ahead-word : (rows : List (List Bool)) (d ahead : List Bool) → count d ≡ 0 → word (after ahead) ≡ word (nextAhead rows d ahead)
-ahead-word rows d ahead z = word-same (after ahead) (nextAhead rows d ahead) (λ k. sym (ahead-none rows d ahead z k))
+pub ahead-word : (masks : List (List Bool)) (d ahead : List Bool) → count d ≡ 0 → word (after ahead) ≡ word (nextAhead masks d ahead)
+ahead-word masks d ahead z = word-same (after ahead) (nextAhead masks d ahead) (λ k. sym (ahead-none masks d ahead z k))
 
-pub later-word : (rows : List (List Bool)) (d ahead later : List Bool) → count d ≡ 0 → word later ≡ word (nextLater rows d ahead later)
-later-word rows d ahead later z = word-same later (nextLater rows d ahead later) (λ k. sym (later-none rows d ahead later z k))
+pub later-word : (masks : List (List Bool)) (d ahead later : List Bool) → count d ≡ 0 → word later ≡ word (nextLater masks d ahead later)
+later-word masks d ahead later z = word-same later (nextLater masks d ahead later) (λ k. sym (later-none masks d ahead later z k))
 
 -- ---- the lowest
 

@@ -15,7 +15,7 @@ use Rattle.paper.specs.Points.{origin, minus, det, above, samePoint}
 use Rattle.paper.specs.Polygon.{normal}
 use Rattle.paper.specs.Drawing.{Wire, edge, at}
 use Rattle.paper.specs.Loops.{Loop, polygon}
-use Rattle.paper.specs.Clash.{within, inAngle, Side, to, turnsAt, pointsIn}
+use Rattle.paper.specs.Clash.{angleHolds, inAngle, Side, to, turnsAt, pointsIn}
 use Rattle.paper.specs.Solids.{runs, has}
 use Rattle.paper.specs.declared.Point.{Point}
 use Rattle.paper_laws.proofs.Vectors.{vec, k, dets, v, vring}
@@ -37,18 +37,18 @@ flat-above n p = ap above (vring (vec n ∷ vec p ∷ []) (dets (v 0) (v 1) (v 1
 
 -- along the side to the corner after, and to the one before
 pub angle-after : (n a u b : Point) → inAngle n a u b (minus b u) ≡ false
-unfolding inAngle within
-angle-after n a u b = ap (λ (x : Bool). within (above (det n (minus b u) (minus a u))) x (above (det n (minus b u) (minus a u)))) (flat-above n (minus b u)) ∙ none (above (det n (minus b u) (minus a u)))
+unfolding inAngle angleHolds
+angle-after n a u b = ap (λ (x : Bool). angleHolds (above (det n (minus b u) (minus a u))) x (above (det n (minus b u) (minus a u)))) (flat-above n (minus b u)) ∙ none (above (det n (minus b u) (minus a u)))
   where
-    none : (x : Bool) → within x false x ≡ false
+    none : (x : Bool) → angleHolds x false x ≡ false
     none true = refl
     none false = refl
 
 pub angle-before : (n a u b : Point) → inAngle n a u b (minus a u) ≡ false
-unfolding inAngle within
-angle-before n a u b = ap (λ (x : Bool). within (above (det n (minus b u) (minus a u))) (above (det n (minus b u) (minus a u))) x) (flat-above n (minus a u)) ∙ none (above (det n (minus b u) (minus a u)))
+unfolding inAngle angleHolds
+angle-before n a u b = ap (λ (x : Bool). angleHolds (above (det n (minus b u) (minus a u))) (above (det n (minus b u) (minus a u))) x) (flat-above n (minus a u)) ∙ none (above (det n (minus b u) (minus a u)))
   where
-    none : (x : Bool) → within x x false ≡ false
+    none : (x : Bool) → angleHolds x x false ≡ false
     none true = refl
     none false = refl
 
@@ -94,14 +94,14 @@ module _ (d : Wire) (apart : Apart d) (l : Loop) (path : Path d l) where
       n : Point
       n = normal (polygon d l)
 
-      found : (k : ℕ) × (k < length l) × ((samePoint (at d (around l (k + 1) 0)) (at d x) && inAngle n (at d (around l k 0)) (at d (around l (k + 1) 0)) (at d (around l (k + 1 + 1) 0)) (minus (at d y) (at d x))) ≡ true)
-      found = turning n (at d x) (minus (at d y) (at d x)) e
+      answers : (k : ℕ) × (k < length l) × ((samePoint (at d (around l (k + 1) 0)) (at d x) && inAngle n (at d (around l k 0)) (at d (around l (k + 1) 0)) (at d (around l (k + 1 + 1) 0)) (minus (at d y) (at d x))) ≡ true)
+      answers = turning n (at d x) (minus (at d y) (at d x)) e
 
       j : ℕ
-      j = found .0
+      j = answers .0
 
       hj : j < length l
-      hj = found .1
+      hj = answers .1
 
       a : ℕ
       a = around l j 0
@@ -114,11 +114,11 @@ module _ (d : Wire) (apart : Apart d) (l : Loop) (path : Path d l) where
 
       here : p ≡ x
       here = apart p x (around-below (j + 1) (let h = hj in omega (arith, h))) hx
-          (same-yes (at d p) (at d x) (and-left (samePoint (at d p) (at d x)) (inAngle n (at d a) (at d p) (at d b) (minus (at d y) (at d x))) (found .2)))
+          (same-yes (at d p) (at d x) (and-left (samePoint (at d p) (at d x)) (inAngle n (at d a) (at d p) (at d b) (minus (at d y) (at d x))) (answers .2)))
 
       inside : inAngle n (at d a) (at d p) (at d b) (minus (at d y) (at d p)) ≡ true
       inside = ap (λ (z : ℕ). inAngle n (at d a) (at d p) (at d b) (minus (at d y) (at d z))) here
-          ∙ and-right (samePoint (at d p) (at d x)) (inAngle n (at d a) (at d p) (at d b) (minus (at d y) (at d x))) (found .2)
+          ∙ and-right (samePoint (at d p) (at d x)) (inAngle n (at d a) (at d p) (at d b) (minus (at d y) (at d x))) (answers .2)
 
       clear : (runs x y l ≡ true) ⊎ (runs y x l ≡ true) → ⊥
       clear (inl t) =

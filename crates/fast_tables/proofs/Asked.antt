@@ -11,7 +11,7 @@ use Rattle.lists.proofs.Truth.{never, and-left, and-right, and-both, or-left, o
 use Rattle.lists.proofs.Passing.{some-yes, some-is}
 use Rattle.sets.specs.Word.{dig, count, first, both, either, less, only}
 use Rattle.sets.proofs.Digits.{dig-both, dig-either, dig-less, dig-only, dig-self, count-none, count-empty, first-in}
-use Rattle.fast_tables.specs.Asked.{Found, holding, missing, asked, unheld, free, searched}
+use Rattle.fast_tables.specs.Asked.{Answers, holding, missing, asked, unheld, free, searched}
 
 -- one of those that p keeps passes
 pub any-filter : {A : Type 0} (p q : A → Bool) (xs : List A) → any q (filter p xs) ≡ any (λ x. p x && q x) xs
@@ -24,19 +24,19 @@ any-filter {A} p q (x ∷ xs) = go (p x) (any-filter p q xs)
     go false e = e
 
 -- what is known is so
-pub record Right (out : ℕ → Bool) (f : Found) : Type 0 where
+pub record Right (out : ℕ → Bool) (f : Answers) : Type 0 where
   pub held-so : (e : ℕ) → dig (f .held) e ≡ true → out e ≡ false
   pub outside-so : (e : ℕ) → dig (f .outside) e ≡ true → out e ≡ true
 
 module _ (out : ℕ → Bool) where
-  more-digit : (row : List Bool) (e : ℕ) (b : Bool) → out e ≡ b → ((k : ℕ) → dig row k ≡ true → out k ≡ b) → (k : ℕ) → dig (either row (only e)) k ≡ true → out k ≡ b
-  more-digit row e b q f k t = go (or-cases (dig row k) (dig (only e) k) (sym (dig-either row (only e) k) ∙ t))
+  more-digit : (mask : List Bool) (e : ℕ) (b : Bool) → out e ≡ b → ((k : ℕ) → dig mask k ≡ true → out k ≡ b) → (k : ℕ) → dig (either mask (only e)) k ≡ true → out k ≡ b
+  more-digit mask e b q f k t = go (or-cases (dig mask k) (dig (only e) k) (sym (dig-either mask (only e) k) ∙ t))
     where
-      go : (dig row k ≡ true) ⊎ (dig (only e) k ≡ true) → out k ≡ b
+      go : (dig mask k ≡ true) ⊎ (dig (only e) k ≡ true) → out k ≡ b
       go (inl p) = f k p
       go (inr p) = ap out (dig-only e k p) ∙ q
 
-  asked-right : (es : List ℕ) (f : Found) → Right out f → Right out (asked out es f)
+  asked-right : (es : List ℕ) (f : Answers) → Right out f → Right out (asked out es f)
   unfolding asked
   asked-right [] f r = r
   asked-right (e ∷ es) f r = go (out e) refl (asked-right es (holding f e))
@@ -45,7 +45,7 @@ module _ (out : ℕ → Bool) where
       go true q ih = record { held-so = r .held-so; outside-so = more-digit (f .outside) e true q (r .outside-so) }
       go false q ih = ih (record { held-so = more-digit (f .held) e false q (r .held-so); outside-so = r .outside-so })
 
-  asked-finds : (es : List ℕ) (f : Found) → any out es ≡ true → (e : ℕ) × (any (eqb e) es ≡ true) × (dig (asked out es f .outside) e ≡ true)
+  asked-finds : (es : List ℕ) (f : Answers) → any out es ≡ true → (e : ℕ) × (any (eqb e) es ≡ true) × (dig (asked out es f .outside) e ≡ true)
   unfolding asked any
   asked-finds [] f t = absurd (true≢false (sym t))
   asked-finds (e ∷ es) f t = go (out e) refl t (asked-finds es (holding f e))
@@ -56,77 +56,77 @@ module _ (out : ℕ → Bool) where
       go false q t ih = let r = ih t in (r .0, or-right (eqb (r .0) e) (any (eqb (r .0)) es) (r .1), r .2)
 
 module _ (m : ℕ) (out : ℕ → Bool) where
-  -- some edge of a row is outside
+  -- some edge of a mask is outside
   abbrev pub leaves : List Bool → Bool
-  leaves row = any (λ e. dig row e && out e) (upto m)
+  leaves mask = any (λ e. dig mask e && out e) (upto m)
 
-  module _ (row : List Bool) (short : (e : ℕ) → dig row e ≡ true → e < m) where
+  module _ (mask : List Bool) (short : (e : ℕ) → dig mask e ≡ true → e < m) where
     -- one that is known to be
-    not-free : (f : Found) → Right out f → (k : ℕ) → dig (both row (f .outside)) k ≡ true → leaves row ≡ true
+    not-free : (f : Answers) → Right out f → (k : ℕ) → dig (both mask (f .outside)) k ≡ true → leaves mask ≡ true
     not-free f r k t =
-        let s = sym (dig-both row (f .outside) k) ∙ t in
-        let p = and-left (dig row k) (dig (f .outside) k) s in
-        some-is (λ e. dig row e && out e) m k (short k p) (and-both p (r .outside-so k (and-right (dig row k) (dig (f .outside) k) s)))
+        let s = sym (dig-both mask (f .outside) k) ∙ t in
+        let p = and-left (dig mask k) (dig (f .outside) k) s in
+        some-is (λ e. dig mask e && out e) m k (short k p) (and-both p (r .outside-so k (and-right (dig mask k) (dig (f .outside) k) s)))
 
-    free-no : (f : Found) → Right out f → free row f ≡ false → leaves row ≡ true
-    free-no f r t = not-free f r (first (both row (f .outside))) (first-in (both row (f .outside)) (λ z. true≢false (sym (eq-eqb (count (both row (f .outside))) 0 z) ∙ t)))
+    free-no : (f : Answers) → Right out f → free mask f ≡ false → leaves mask ≡ true
+    free-no f r t = not-free f r (first (both mask (f .outside))) (first-in (both mask (f .outside)) (λ z. true≢false (sym (eq-eqb (count (both mask (f .outside))) 0 z) ∙ t)))
 
-    free-yes : (f : Found) → Right out f → leaves row ≡ false → free row f ≡ true
-    free-yes f r t = eq-eqb (count (both row (f .outside))) 0 (count-empty (both row (f .outside)) (λ k q. true≢false (sym (not-free f r k q) ∙ t)))
+    free-yes : (f : Answers) → Right out f → leaves mask ≡ false → free mask f ≡ true
+    free-yes f r t = eq-eqb (count (both mask (f .outside))) 0 (count-empty (both mask (f .outside)) (λ k q. true≢false (sym (not-free f r k q) ∙ t)))
 
     -- once those are asked that are not known to be held, no other is left
-    after-asked : (f : Found) → Right out f → free row (asked out (unheld m row f) f) ≡ not (leaves row)
+    after-asked : (f : Answers) → Right out f → free mask (asked out (unheld m mask f) f) ≡ not (leaves mask)
     unfolding unheld
-    after-asked f r = go (leaves row) refl
+    after-asked f r = go (leaves mask) refl
       where
-        g : Found
-        g = asked out (unheld m row f) f
+        g : Answers
+        g = asked out (unheld m mask f) f
 
-        open-edge : leaves row ≡ true → any out (unheld m row f) ≡ true
+        open-edge : leaves mask ≡ true → any out (unheld m mask f) ≡ true
         open-edge t =
-            let s = some-yes (λ e. dig row e && out e) m t in
+            let s = some-yes (λ e. dig mask e && out e) m t in
             let e = s .0 in
-            let a = and-left (dig row e) (out e) (s .2) in
-            let b = and-right (dig row e) (out e) (s .2) in
+            let a = and-left (dig mask e) (out e) (s .2) in
+            let b = and-right (dig mask e) (out e) (s .2) in
             let c : dig (f .held) e ≡ false = never (dig (f .held) e) (λ q. true≢false (sym b ∙ r .held-so e q)) in
-            any-filter (dig (less row (f .held))) out (upto m)
-            ∙ some-is (λ e. dig (less row (f .held)) e && out e) m e (s .1) (and-both (dig-less row (f .held) e ∙ and-both a (ap not c)) b)
+            any-filter (dig (less mask (f .held))) out (upto m)
+            ∙ some-is (λ e. dig (less mask (f .held)) e && out e) m e (s .1) (and-both (dig-less mask (f .held) e ∙ and-both a (ap not c)) b)
 
-        go : (b : Bool) → leaves row ≡ b → free row g ≡ not b
-        go false t = free-yes g (asked-right out (unheld m row f) f r) t
+        go : (b : Bool) → leaves mask ≡ b → free mask g ≡ not b
+        go false t = free-yes g (asked-right out (unheld m mask f) f r) t
         go true t =
-            let w = asked-finds out (unheld m row f) f (open-edge t) in
+            let w = asked-finds out (unheld m mask f) f (open-edge t) in
             let e = w .0 in
-            let s = some-yes (λ k. dig (less row (f .held)) k && eqb e k) m (sym (any-filter (dig (less row (f .held))) (eqb e) (upto m)) ∙ w .1) in
+            let s = some-yes (λ k. dig (less mask (f .held)) k && eqb e k) m (sym (any-filter (dig (less mask (f .held))) (eqb e) (upto m)) ∙ w .1) in
             let k = s .0 in
-            let p : dig (less row (f .held)) k ≡ true = and-left (dig (less row (f .held)) k) (eqb e k) (s .2) in
-            let q : e ≡ k = eqb-true e k (and-right (dig (less row (f .held)) k) (eqb e k) (s .2)) in
-            let u : dig row e ≡ true = ap (dig row) q ∙ and-left (dig row k) (not (dig (f .held) k)) (sym (dig-less row (f .held) k) ∙ p) in
-            ne-eqb (count (both row (g .outside))) 0 (λ z. count-none (both row (g .outside)) z e (dig-both row (g .outside) e ∙ and-both u (w .2)))
+            let p : dig (less mask (f .held)) k ≡ true = and-left (dig (less mask (f .held)) k) (eqb e k) (s .2) in
+            let q : e ≡ k = eqb-true e k (and-right (dig (less mask (f .held)) k) (eqb e k) (s .2)) in
+            let u : dig mask e ≡ true = ap (dig mask) q ∙ and-left (dig mask k) (not (dig (f .held) k)) (sym (dig-less mask (f .held) k) ∙ p) in
+            ne-eqb (count (both mask (g .outside))) 0 (λ z. count-none (both mask (g .outside)) z e (dig-both mask (g .outside) e ∙ and-both u (w .2)))
 
-  module _ (fits : ℕ → Bool) (rows : ℕ → List Bool) (short : (j e : ℕ) → dig (rows j) e ≡ true → e < m) where
-    pub searched-is : (js : List ℕ) (f : Found) → Right out f → searched m out fits rows js f ≡ any (λ j. fits j && not (leaves (rows j))) js
+  module _ (fits : ℕ → Bool) (masks : ℕ → List Bool) (short : (j e : ℕ) → dig (masks j) e ≡ true → e < m) where
+    pub searched-is : (js : List ℕ) (f : Answers) → Right out f → searched m out fits masks js f ≡ any (λ j. fits j && not (leaves (masks j))) js
     unfolding searched any
     searched-is [] f r = refl
     searched-is (j ∷ js) f r =
-        go (fits j) (free (rows j) f) refl (leaves (rows j)) refl (after-asked (rows j) (short j) f r)
-        (searched-is js (asked out (unheld m (rows j) f) f) (asked-right out (unheld m (rows j) f) f r)) (searched-is js f r)
+        go (fits j) (free (masks j) f) refl (leaves (masks j)) refl (after-asked (masks j) (short j) f r)
+        (searched-is js (asked out (unheld m (masks j) f) f) (asked-right out (unheld m (masks j) f) f r)) (searched-is js f r)
       where
-        g : Found
-        g = asked out (unheld m (rows j) f) f
+        g : Answers
+        g = asked out (unheld m (masks j) f) f
 
         rest : Bool
-        rest = any (λ j. fits j && not (leaves (rows j))) js
+        rest = any (λ j. fits j && not (leaves (masks j))) js
 
-        found : (c n : Bool) → c ≡ n → searched m out fits rows js g ≡ rest → cond c true (searched m out fits rows js g) ≡ (n || rest)
-        found true true q later = refl
-        found true false q later = absurd (true≢false q)
-        found false true q later = absurd (true≢false (sym q))
-        found false false q later = later
+        answers : (c n : Bool) → c ≡ n → searched m out fits masks js g ≡ rest → cond c true (searched m out fits masks js g) ≡ (n || rest)
+        answers true true q later = refl
+        answers true false q later = absurd (true≢false q)
+        answers false true q later = absurd (true≢false (sym q))
+        answers false false q later = later
 
-        go : (a b : Bool) → free (rows j) f ≡ b → (l : Bool) → leaves (rows j) ≡ l → free (rows j) g ≡ not (leaves (rows j)) → searched m out fits rows js g ≡ rest → searched m out fits rows js f ≡ rest
-            → cond (a && b) (cond (free (rows j) g) true (searched m out fits rows js g)) (searched m out fits rows js f) ≡ ((a && not (leaves (rows j))) || rest)
+        go : (a b : Bool) → free (masks j) f ≡ b → (l : Bool) → leaves (masks j) ≡ l → free (masks j) g ≡ not (leaves (masks j)) → searched m out fits masks js g ≡ rest → searched m out fits masks js f ≡ rest
+            → cond (a && b) (cond (free (masks j) g) true (searched m out fits masks js g)) (searched m out fits masks js f) ≡ ((a && not (leaves (masks j))) || rest)
         go false b p l q n later skipped = skipped
-        go true true p l q n later skipped = found (free (rows j) g) (not (leaves (rows j))) n later
+        go true true p l q n later skipped = answers (free (masks j) g) (not (leaves (masks j))) n later
         go true false p true q n later skipped = skipped ∙ ap (λ (t : Bool). not t || rest) (sym q)
-        go true false p false q n later skipped = absurd (true≢false (sym (free-no (rows j) (short j) f r p) ∙ q))
+        go true false p false q n later skipped = absurd (true≢false (sym (free-no (masks j) (short j) f r p) ∙ q))

@@ -13,7 +13,7 @@ use Rattle.lists.proofs.Places.{any-same, upto-length, upto-at}
 use Rattle.lists.proofs.Passing.{all-yes, all-is}
 use Rattle.lists.proofs.Sides.{sides-map}
 use Rattle.paper.specs.Points.{origin, isZero}
-use Rattle.paper.specs.Polygon.{side, onePlane, Ratio, over, midpoint, lies, isOutside, covers}
+use Rattle.paper.specs.Polygon.{planeSide, onePlane, Ratio, over, midpoint, lies, isOutside, covers}
 use Rattle.paper.specs.Drawing.{Wire, Edge, edge, at}
 use Rattle.paper.specs.Loops.{Loop, polygon}
 use Rattle.paper.specs.Solids.{runs, has}
@@ -73,36 +73,36 @@ module _ (d : Wire) where
     plane-by = equal-both forth back
       where
         test : ℕ → Bool
-        test w = not (member w k) || isZero (side (polygon d l) (at d w))
+        test w = not (member w k) || isZero (planeSide (polygon d l) (at d w))
 
-        forth : all (λ p. isZero (side (polygon d l) p)) (polygon d k) ≡ true → all test (upto (length (d .vertices))) ≡ true
+        forth : all (λ p. isZero (planeSide (polygon d l) p)) (polygon d k) ≡ true → all test (upto (length (d .vertices))) ≡ true
         forth e = all-is test 0 (upto (length (d .vertices))) (λ i h. each (getD (upto (length (d .vertices))) i 0))
           where
             each : (w : ℕ) → test w ≡ true
             each w = go (member w k) refl
               where
-                go : (b : Bool) → member w k ≡ b → (not b || isZero (side (polygon d l) (at d w))) ≡ true
+                go : (b : Bool) → member w k ≡ b → (not b || isZero (planeSide (polygon d l) (at d w))) ≡ true
                 go false q = refl
                 go true q =
                     let r = member-yes w k q in
                     let h = r .1 in
-                    ap (λ (p : Point). isZero (side (polygon d l) p)) (sym (corner-at d k (r .0) h ∙ ap (at d) (r .2)))
-                    ∙ all-yes (λ p. isZero (side (polygon d l) p)) origin (polygon d k) e (r .0) (omega (arith, h, polygon-length d k))
+                    ap (λ (p : Point). isZero (planeSide (polygon d l) p)) (sym (corner-at d k (r .0) h ∙ ap (at d) (r .2)))
+                    ∙ all-yes (λ p. isZero (planeSide (polygon d l) p)) origin (polygon d k) e (r .0) (omega (arith, h, polygon-length d k))
 
-        back : all test (upto (length (d .vertices))) ≡ true → all (λ p. isZero (side (polygon d l) p)) (polygon d k) ≡ true
-        back e = all-is (λ p. isZero (side (polygon d l) p)) origin (polygon d k) (λ i h. each i (omega (arith, h, polygon-length d k)))
+        back : all test (upto (length (d .vertices))) ≡ true → all (λ p. isZero (planeSide (polygon d l) p)) (polygon d k) ≡ true
+        back e = all-is (λ p. isZero (planeSide (polygon d l) p)) origin (polygon d k) (λ i h. each i (omega (arith, h, polygon-length d k)))
           where
             given : (b c : Bool) → (not b || c) ≡ true → b ≡ true → c ≡ true
             given true c t u = t
             given false c t u = absurd (true≢false (sym u))
 
-            each : (i : ℕ) → i < length k → isZero (side (polygon d l) (getD (polygon d k) i origin)) ≡ true
+            each : (i : ℕ) → i < length k → isZero (planeSide (polygon d l) (getD (polygon d k) i origin)) ≡ true
             each i h =
                 let w = getD k i 0 in
                 let n = length (d .vertices) in
                 let b = path .below i h in
                 let t : test w ≡ true = ap test (sym (upto-at n w b)) ∙ all-yes test 0 (upto n) e w (omega (arith, b, upto-length n)) in
-                ap (λ (p : Point). isZero (side (polygon d l) p)) (corner-at d k i h) ∙ given (member w k) (isZero (side (polygon d l) (at d w))) t (member-is w k i h refl)
+                ap (λ (p : Point). isZero (planeSide (polygon d l) p)) (corner-at d k i h) ∙ given (member w k) (isZero (planeSide (polygon d l) (at d w))) t (member-is w k i h refl)
 
     -- some edge of k has its midpoint outside l: its own sides need not be asked
     abbrev out : ℕ → ℕ → Bool

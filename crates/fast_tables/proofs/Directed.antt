@@ -10,7 +10,7 @@ use Rattle.lists.specs.Lists.{any, upto}
 use Rattle.lists.proofs.Truth.{and-left, and-right, and-both, or-left, or-right}
 use Rattle.lists.proofs.Passing.{any-yes, any-is, some-yes, some-is}
 use Rattle.paper.specs.Points.{above, below}
-use Rattle.paper.specs.Polygon.{side}
+use Rattle.paper.specs.Polygon.{planeSide}
 use Rattle.paper.specs.Drawing.{Wire, Edge, edge, at, joins, joined}
 use Rattle.paper.specs.Loops.{Loop, polygon}
 use Rattle.paper.specs.Solids.{has}
@@ -21,7 +21,7 @@ use Rattle.fast_tables.proofs.Pierce.{pierced-turned, pierced-sides}
 
 pub edge-turned : (d : Wire) (l : Loop) (a b : ℕ) → edgePierces d l (edge a b) ≡ edgePierces d l (edge b a)
 unfolding edgePierces
-edge-turned d l a b = pierced-turned (polygon d l) (at d a) (at d b) (side (polygon d l) (at d a)) (side (polygon d l) (at d b))
+edge-turned d l a b = pierced-turned (polygon d l) (at d a) (at d b) (planeSide (polygon d l) (at d a)) (planeSide (polygon d l) (at d b))
 
 pub joined-is : (d : Wire) (i : ℕ) → i < length (d .edges) → (a b : ℕ) → getD (d .edges) i (edge 0 0) ≡ edge a b → (joined d a b ≡ true) × (joined d b a ≡ true)
 unfolding joined joins
@@ -32,10 +32,10 @@ joined-is d i h a b e = (
 
 module _ (d : Wire) (l k : Loop) (path : Path d k) where
   abbrev up : ℕ → Bool
-  up a = above (side (polygon d l) (at d a))
+  up a = above (planeSide (polygon d l) (at d a))
 
   abbrev down : ℕ → Bool
-  down b = below (side (polygon d l) (at d b))
+  down b = below (planeSide (polygon d l) (at d b))
 
   abbrev last : ℕ → ℕ → Bool
   last a b = edgePierces d l (edge a b) && has (edge a b) k
@@ -51,7 +51,7 @@ module _ (d : Wire) (l k : Loop) (path : Path d k) where
   forth t = let r = any-yes (λ e. has e k && edgePierces d l e) (edge 0 0) (d .edges) t in each (r .0) (r .1) (getD (d .edges) (r .0) (edge 0 0)) refl (r .2)
     where
       each : (i : ℕ) → i < length (d .edges) → (e : Edge) → getD (d .edges) i (edge 0 0) ≡ e → (has e k && edgePierces d l e) ≡ true → piercedDown d l k ≡ true
-      each i h (edge a b) q s = go (pierced-sides (polygon d l) (at d a) (at d b) (side (polygon d l) (at d a)) (side (polygon d l) (at d b)) p)
+      each i h (edge a b) q s = go (pierced-sides (polygon d l) (at d a) (at d b) (planeSide (polygon d l) (at d a)) (planeSide (polygon d l) (at d b)) p)
         where
           y : has (edge a b) k ≡ true
           y = and-left (has (edge a b) k) (edgePierces d l (edge a b)) s

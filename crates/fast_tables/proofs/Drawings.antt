@@ -23,9 +23,9 @@ use Rattle.means_area.proofs.Loops.Paths.{empty, Closed, Differ, ext-closed, be
 use Rattle.means_area.proofs.Loops.{plane-holds}
 use Rattle.fast_tables.specs.Paths.{Apart, Path, Level}
 use Rattle.fast_tables.specs.Hits.{hits}
-use Rattle.fast_tables.specs.Asked.{coversFound}
+use Rattle.fast_tables.specs.Asked.{coversByAnswers}
 use Rattle.fast_tables.proofs.Rows.{table-clashes}
-use Rattle.fast_tables.proofs.Found.{uncovering-found}
+use Rattle.fast_tables.proofs.Candidates.{uncovering-found}
 
 -- ---- what area says of a closed path, by places
 of-at : {A : Type 0} (l : List A) (i : ℕ) (z : A) → i < length l → Of (getD l i z) l
@@ -125,7 +125,7 @@ candidate-of d k h =
     (getD ks k 0, omega (arith, b), sym (map-at (loopAt ls) ks k 0 [] s))
 
 -- the candidates of any drawing
-pub candidates-found : (d : Wire) → candidates d ≡ map (loopAt (loops d)) (filter (λ i. not (coversFound d (loops d) i)) (upto (length (loops d))))
+pub candidates-found : (d : Wire) → candidates d ≡ map (loopAt (loops d)) (filter (λ i. not (coversByAnswers d (loops d) i)) (upto (length (loops d))))
 unfolding candidates
 candidates-found d = uncovering-found d (loops d) (loop-path d)
 
@@ -136,6 +136,6 @@ module _ (d : Wire) (r11 : samePlace d ≡ none) (r13 : edgeMeets d ≡ none) wh
   pub candidate-level : (k : ℕ) → k < length (candidates d) → Level d (loopAt (candidates d) k)
   candidate-level k h = let r = candidate-of d k h in subst (Level d) (r .2) (plane-holds d r11 r13 (r .0) (r .1))
 
-  -- the clash rows of the drawing's tables
+  -- the clash masks of the drawing's tables
   pub candidates-clashes : tablesOf d (candidates d) .clashes ≡ map (λ i. map (hits d (candidates d) i) (upto (length (candidates d)))) (upto (length (candidates d)))
   candidates-clashes = table-clashes d (drawing-apart d r11) (candidates d) (candidate-path d) candidate-level

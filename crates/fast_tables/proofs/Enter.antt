@@ -9,7 +9,7 @@ use Rattle.lists.proofs.Truth.{and-left, and-right, and-both}
 use Rattle.lists.proofs.Places.{map-at}
 use Rattle.lists.proofs.Passing.{any-yes, any-is, some-yes, some-is}
 use Rattle.paper.specs.Points.{origin, isZero}
-use Rattle.paper.specs.Polygon.{side, exactly, lies, isInside}
+use Rattle.paper.specs.Polygon.{planeSide, exactly, lies, isInside}
 use Rattle.paper.specs.Drawing.{Wire, at}
 use Rattle.paper.specs.Loops.{Loop, polygon}
 use Rattle.paper.specs.Clash.{enters}
@@ -49,7 +49,7 @@ module _ (d : Wire) where
   enters-vertices f path g = equal-both forth back
     where
       test : Point → Bool
-      test p = isZero (side (polygon d g) p) && isInside (lies (exactly p) (polygon d g))
+      test p = isZero (planeSide (polygon d g) p) && isInside (lies (exactly p) (polygon d g))
 
       forth : any test (polygon d f) ≡ true → any (λ v. member v f && (not (member v g) && test (at d v))) (upto (length (d .vertices))) ≡ true
       forth e =
@@ -58,7 +58,7 @@ module _ (d : Wire) where
           let v = getD f (r .0) 0 in
           let t : test (at d v) ≡ true = ap test (sym (corner-at f (r .0) h)) ∙ r .2 in
           some-is (λ v. member v f && (not (member v g) && test (at d v))) (length (d .vertices)) v (path .below (r .0) h)
-          (and-both (member-is v f (r .0) h refl) (and-both (inside-new g v (and-right (isZero (side (polygon d g) (at d v))) (isInside (lies (exactly (at d v)) (polygon d g))) t)) t))
+          (and-both (member-is v f (r .0) h refl) (and-both (inside-new g v (and-right (isZero (planeSide (polygon d g) (at d v))) (isInside (lies (exactly (at d v)) (polygon d g))) t)) t))
 
       back : any (λ v. member v f && (not (member v g) && test (at d v))) (upto (length (d .vertices))) ≡ true → any test (polygon d f) ≡ true
       back e =

@@ -18,7 +18,7 @@ use Rattle.paper.specs.Loops.{Loop, polygon}
 use Rattle.paper.specs.Clash.{folds}
 use Rattle.paper.specs.Solids.{runs, has}
 use Rattle.fast_tables.specs.Paths.{Apart, Path}
-use Rattle.fast_tables.specs.Hits.{cornerRow, sideRow, shareEnough, mayFold, foldsWith}
+use Rattle.fast_tables.specs.Hits.{cornerMask, sideMask, shareEnough, mayFold, foldsWith}
 use Rattle.fast_tables.proofs.Rounds.{equal-both, wrap-cases, runs-yes, has-cases, has-turn, has-ends, below-n}
 use Rattle.fast_tables.proofs.Angles.{around-differ}
 use Rattle.fast_tables.proofs.Folds.{Bent, folds-bent, bent-long}
@@ -59,14 +59,14 @@ module _ (d : Wire) (apart : Apart d) where
       go (inr p) = runs-apart l path b a p (sym q)
 
   module _ (f g : Loop) (pf : Path d f) (pg : Path d g) where
-    shared : (v : ℕ) → v < length (d .vertices) → member v f ≡ true → member v g ≡ true → dig (both (cornerRow d f) (cornerRow d g)) v ≡ true
-    unfolding cornerRow
+    shared : (v : ℕ) → v < length (d .vertices) → member v f ≡ true → member v g ≡ true → dig (both (cornerMask d f) (cornerMask d g)) v ≡ true
+    unfolding cornerMask
     shared v h p q =
-        dig-both (cornerRow d f) (cornerRow d g) v
+        dig-both (cornerMask d f) (cornerMask d g) v
         ∙ and-both (made-at (λ v. member v f) (length (d .vertices)) v false h ∙ p) (made-at (λ v. member v g) (length (d .vertices)) v false h ∙ q)
 
     -- a common side of two loops that share the corners x and y alone is their side
-    common : (b : Bent d f g) → count (both (cornerRow d f) (cornerRow d g)) ≡ 2 → (e : Edge) → has e f ≡ true → has e g ≡ true → ⊥
+    common : (b : Bent d f g) → count (both (cornerMask d f) (cornerMask d g)) ≡ 2 → (e : Edge) → has e f ≡ true → has e g ≡ true → ⊥
     common b c (edge s t) hf hg =
         go (third s (ef .0) (eg .0)) (third t (ef .1) (eg .1))
       where
@@ -78,7 +78,7 @@ module _ (d : Wire) (apart : Apart d) where
 
         third : (v : ℕ) → member v f ≡ true → member v g ≡ true → (v ≡ b .x) ⊎ (v ≡ b .y)
         third v p q =
-            one-of-two (both (cornerRow d f) (cornerRow d g)) c (b .x) (b .y) (shared (b .x) (b .x-below) (b .x-in-f) (b .x-in-g)) (shared (b .y) (b .y-below) (b .y-in-f) (b .y-in-g))
+            one-of-two (both (cornerMask d f) (cornerMask d g)) c (b .x) (b .y) (shared (b .x) (b .x-below) (b .x-in-f) (b .x-in-g)) (shared (b .y) (b .y-below) (b .y-in-f) (b .y-in-g))
             (λ e. b .other (sym e)) v (shared v (below-n d f pf v p) p q)
 
         go : (s ≡ b .x) ⊎ (s ≡ b .y) → (t ≡ b .x) ⊎ (t ≡ b .y) → ⊥
@@ -88,18 +88,18 @@ module _ (d : Wire) (apart : Apart d) where
         go (inr p) (inr q) = has-apart f pf s t hf (p ∙ sym q)
 
     bent-may : Bent d f g → mayFold d f g ≡ true
-    unfolding mayFold sideRow
+    unfolding mayFold sideMask
     bent-may b =
         let n = bent-long d f g pf pg b in
         and-both (and-both (lt-ltb 3 (length f) (n .0)) (lt-ltb 3 (length g) (n .1)))
-        (enough (count (both (cornerRow d f) (cornerRow d g))) (count (both (sideRow d f) (sideRow d g)))
-        (count-two (both (cornerRow d f) (cornerRow d g)) (b .x) (b .y) (shared (b .x) (b .x-below) (b .x-in-f) (b .x-in-g)) (shared (b .y) (b .y-below) (b .y-in-f) (b .y-in-g)) (λ e. b .other (sym e)))
-        (λ c. count-empty (both (sideRow d f) (sideRow d g)) (λ k e. none b c k (sym (dig-both (sideRow d f) (sideRow d g) k) ∙ e))))
+        (enough (count (both (cornerMask d f) (cornerMask d g))) (count (both (sideMask d f) (sideMask d g)))
+        (count-two (both (cornerMask d f) (cornerMask d g)) (b .x) (b .y) (shared (b .x) (b .x-below) (b .x-in-f) (b .x-in-g)) (shared (b .y) (b .y-below) (b .y-in-f) (b .y-in-g)) (λ e. b .other (sym e)))
+        (λ c. count-empty (both (sideMask d f) (sideMask d g)) (λ k e. none b c k (sym (dig-both (sideMask d f) (sideMask d g) k) ∙ e))))
       where
-        none : Bent d f g → count (both (cornerRow d f) (cornerRow d g)) ≡ 2 → (k : ℕ) → (dig (sideRow d f) k && dig (sideRow d g) k) ≡ true → ⊥
+        none : Bent d f g → count (both (cornerMask d f) (cornerMask d g)) ≡ 2 → (k : ℕ) → (dig (sideMask d f) k && dig (sideMask d g) k) ≡ true → ⊥
         none b c k e =
-            let p = map-yes (λ e. has e f) (edge 0 0) (d .edges) k (and-left (dig (sideRow d f) k) (dig (sideRow d g) k) e) in
-            let q = map-yes (λ e. has e g) (edge 0 0) (d .edges) k (and-right (dig (sideRow d f) k) (dig (sideRow d g) k) e) in
+            let p = map-yes (λ e. has e f) (edge 0 0) (d .edges) k (and-left (dig (sideMask d f) k) (dig (sideMask d g) k) e) in
+            let q = map-yes (λ e. has e g) (edge 0 0) (d .edges) k (and-right (dig (sideMask d f) k) (dig (sideMask d g) k) e) in
             common b c (getD (d .edges) k (edge 0 0)) (p .1) (q .1)
 
     pub folds-may : folds (polygon d f) (polygon d g) ≡ true → mayFold d f g ≡ true

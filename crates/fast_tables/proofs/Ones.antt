@@ -10,7 +10,7 @@ use Rattle.lists.specs.Lists.{any, keep, filter, from, upto}
 use Rattle.lists.proofs.Truth.{never}
 use Rattle.sets.specs.Word.{dig, count, first, either, less, only}
 use Rattle.sets.proofs.Digits.{dig-either, dig-less, dig-only, dig-self, count-none, first-in}
-use Rattle.fast_tables.specs.Asked.{Found, unheld}
+use Rattle.fast_tables.specs.Asked.{Answers, unheld}
 use Rattle.fast_tables.specs.Words.{ones, gathered}
 use Rattle.fast_tables.proofs.Asked.{any-filter}
 
@@ -90,20 +90,20 @@ cond-dig : (t : Bool) (r : List Bool) (j : ℕ) → dig (cond t r []) j ≡ (t &
 cond-dig true r j = refl
 cond-dig false r j = refl
 
-pub dig-gathered : (test : ℕ → Bool) (row : ℕ → List Bool) (xs : List ℕ) (w : List Bool) (j : ℕ) → dig (gathered test row xs w) j ≡ (dig w j || any (λ x. test x && dig (row x) j) xs)
+pub dig-gathered : (test : ℕ → Bool) (mask : ℕ → List Bool) (xs : List ℕ) (w : List Bool) (j : ℕ) → dig (gathered test mask xs w) j ≡ (dig w j || any (λ x. test x && dig (mask x) j) xs)
 unfolding gathered any
-dig-gathered test row [] w j = sym (or-false (dig w j))
-dig-gathered test row (x ∷ xs) w j =
-    dig-gathered test row xs (either w (cond (test x) (row x) [])) j
-    ∙ ap (λ (t : Bool). t || any (λ x. test x && dig (row x) j) xs) (dig-either w (cond (test x) (row x) []) j ∙ ap (λ (t : Bool). dig w j || t) (cond-dig (test x) (row x) j))
-    ∙ or-assoc (dig w j) (test x && dig (row x) j) (any (λ x. test x && dig (row x) j) xs)
+dig-gathered test mask [] w j = sym (or-false (dig w j))
+dig-gathered test mask (x ∷ xs) w j =
+    dig-gathered test mask xs (either w (cond (test x) (mask x) [])) j
+    ∙ ap (λ (t : Bool). t || any (λ x. test x && dig (mask x) j) xs) (dig-either w (cond (test x) (mask x) []) j ∙ ap (λ (t : Bool). dig w j || t) (cond-dig (test x) (mask x) j))
+    ∙ or-assoc (dig w j) (test x && dig (mask x) j) (any (λ x. test x && dig (mask x) j) xs)
 
 -- some one of a word passes
 pub any-ones : (q : ℕ → Bool) (m : ℕ) (a : List Bool) → any q (ones m a) ≡ any (λ k. dig a k && q k) (upto m)
 unfolding ones
 any-ones q m a = any-filter (dig a) q (upto m)
 
--- the edges that a row has open
-pub unheld-ones : (m : ℕ) (row : List Bool) (f : Found) → unheld m row f ≡ ones m (less row (f .held))
+-- the edges that a mask has open
+pub unheld-ones : (m : ℕ) (mask : List Bool) (f : Answers) → unheld m mask f ≡ ones m (less mask (f .held))
 unfolding unheld ones
-unheld-ones m row f = refl
+unheld-ones m mask f = refl

@@ -12,7 +12,7 @@ use Rattle.lists.proofs.Truth.{and-left, and-right, or-cases}
 use Rattle.lists.proofs.Sides.{sides-map}
 use Rattle.lists.proofs.Places.{any-same}
 use Rattle.paper.specs.Points.{plus, times, above, below}
-use Rattle.paper.specs.Polygon.{Polygon, side, over, lies, isInside}
+use Rattle.paper.specs.Polygon.{Polygon, planeSide, over, lies, isInside}
 use Rattle.paper.specs.Drawing.{Wire, Edge, edge, at}
 use Rattle.paper.specs.Loops.{Loop, polygon}
 use Rattle.paper.specs.Clash.{opposite, pierced, pierces}
@@ -53,12 +53,12 @@ pierced-sides g p q a b e =
 pub pierces-edges : (d : Wire) (f : Loop) → Path d f → (g : Loop) → pierces (polygon d f) (polygon d g) ≡ piercedBy d g f
 unfolding pierces piercedBy polygon edgePierces
 pierces-edges d f path g =
-    ap anyTrue (sides-map (λ p q. pierced (polygon d g) p q (side (polygon d g) p) (side (polygon d g) q)) (at d) f)
-    ∙ sides-edges d f path test (λ a b. pierced-turned (polygon d g) (at d a) (at d b) (side (polygon d g) (at d a)) (side (polygon d g) (at d b)))
+    ap anyTrue (sides-map (λ p q. pierced (polygon d g) p q (planeSide (polygon d g) p) (planeSide (polygon d g) q)) (at d) f)
+    ∙ sides-edges d f path test (λ a b. pierced-turned (polygon d g) (at d a) (at d b) (planeSide (polygon d g) (at d a)) (planeSide (polygon d g) (at d b)))
     ∙ any-same (λ e. has e f && ofEdge test e) (λ e. has e f && edgePierces d g e) (d .edges) (edge 0 0) (λ k h. same (getD (d .edges) k (edge 0 0)))
   where
     test : ℕ → ℕ → Bool
-    test a b = pierced (polygon d g) (at d a) (at d b) (side (polygon d g) (at d a)) (side (polygon d g) (at d b))
+    test a b = pierced (polygon d g) (at d a) (at d b) (planeSide (polygon d g) (at d a)) (planeSide (polygon d g) (at d b))
 
     same : (e : Edge) → (has e f && ofEdge test e) ≡ (has e f && edgePierces d g e)
     same (edge a b) = refl

@@ -14,7 +14,7 @@ use Rattle.sets.specs.Word.{count, less}
 use Rattle.exact.proofs.Laws.{eq-of-sub}
 use Rattle.exact.proofs.Signs.{mul-zero, pos-ne}
 use Rattle.paper.specs.Points.{origin, plus, minus, times, dot, cross, sum, isZero, isOrigin}
-use Rattle.paper.specs.Polygon.{Polygon, normal, corner, side}
+use Rattle.paper.specs.Polygon.{Polygon, normal, corner, planeSide}
 use Rattle.paper.specs.Drawing.{Wire, at, joined, samePlace, edgeMeets}
 use Rattle.paper.specs.Loops.{Loop, across, level, loops, polygon, loopAt}
 use Rattle.paper.specs.declared.Point.{Point}
@@ -27,8 +27,8 @@ use Rattle.means_area.proofs.Loops.Paths.{Closed, all-differ, below, closed-lon
 use Rattle.means_area.proofs.Loops.Planes.{Plane, plane}
 use Rattle.means_area.proofs.Loops.{normal-real}
 use Rattle.fast_tables.specs.Paths.{Apart}
-use Rattle.fast_tables.specs.Hits.{cornerRow}
-use Rattle.fast_tables.specs.Asked.{planeRow, levelWith}
+use Rattle.fast_tables.specs.Hits.{cornerMask}
+use Rattle.fast_tables.specs.Asked.{planeMask, levelWith}
 use Rattle.fast_tables.proofs.Rounds.{equal-both}
 use Rattle.fast_tables.proofs.Rows.{upto-same}
 use Rattle.fast_tables.proofs.Drawings.{loop-closed, drawing-apart}
@@ -65,8 +65,8 @@ across-too n m w ne e h =
     ∙ vring (num (dot n m) ∷ vec n ∷ vec w ∷ []) ((x 0 *v v 1) · v 2) (x 0 *s (v 1 · v 2)) tt ∙ ap (λ (z : ℤ). dot n m *ℤ z) h ∙ *ℤ-zero (dot n m))
 
 -- two directions across one plane
-pub plane-same : (g : Polygon) (n : Point) → (n ≡ origin → ⊥) → (normal g ≡ origin → ⊥) → Level n (corner g) g → (p : Point) → isZero (side g p) ≡ isZero (dot n (minus p (corner g)))
-unfolding side
+pub plane-same : (g : Polygon) (n : Point) → (n ≡ origin → ⊥) → (normal g ≡ origin → ⊥) → Level n (corner g) g → (p : Point) → isZero (planeSide g p) ≡ isZero (dot n (minus p (corner g)))
+unfolding planeSide
 plane-same g n rn rg f p =
     let e : cross n (normal g) ≡ origin = normal-across g n (corner g) f in
     let b : cross (normal g) n ≡ origin = vring (vec (normal g) ∷ vec n ∷ []) (v 0 ×v v 1) (o -v (v 1 ×v v 0)) tt ∙ ap (minus origin) e ∙ vring [] (o -v o) o tt in
@@ -94,7 +94,7 @@ line-normal e a r ne h = go a r (inl refl) (λ q i. inr i) ∙ vring (vec a ∷ 
 
 -- ---- of a loop
 module _ (d : Wire) (apart : Apart d) where
-  closed-plane : (l : Loop) → Closed (length (d .vertices)) (joined d) (level d) l → (normal (polygon d l) ≡ origin → ⊥) → (w : ℕ) → isZero (side (polygon d l) (at d w)) ≡ level d l w
+  closed-plane : (l : Loop) → Closed (length (d .vertices)) (joined d) (level d) l → (normal (polygon d l) ≡ origin → ⊥) → (w : ℕ) → isZero (planeSide (polygon d l) (at d w)) ≡ level d l w
   unfolding polygon level corner
   closed-plane [] c rg w = let q = closed-long (length (d .vertices)) (joined d) (level d) [] c in absurd (omega (arith, q))
   closed-plane (a ∷ []) c rg w = let q = closed-long (length (d .vertices)) (joined d) (level d) (a ∷ []) c in absurd (omega (arith, q))
@@ -113,7 +113,7 @@ module _ (d : Wire) (apart : Apart d) where
       two e = all-differ (length (d .vertices)) (joined d) (level d) l (c .way) .0 b (inl refl)
           (sym (apart a b (below (length (d .vertices)) (joined d) (level d) l (c .way) a (inl refl)) (below (length (d .vertices)) (joined d) (level d) l (c .way) b (inr (inl refl))) e))
 
-      go : (t : Bool) → isOrigin n ≡ t → isZero (side (map (at d) l) (at d w)) ≡ isZero (dot n (minus (at d w) (at d a)))
+      go : (t : Bool) → isOrigin n ≡ t → isZero (planeSide (map (at d) l) (at d w)) ≡ isZero (dot n (minus (at d w) (at d a)))
       go false e = plane-same (map (at d) l) n (origin-no e) rg
           (record { every = (λ p i. let t = map-of (at d) p l i in ap (λ (q : Point). dot n (minus q (at d a))) (t .2) ∙ flat .0 (t .0) (t .1)) }) (at d w)
       go true e = absurd (rg (line-normal (minus (at d b) (at d a)) (at d a) (map (at d) (b ∷ r)) (differ two)
@@ -121,19 +121,19 @@ module _ (d : Wire) (apart : Apart d) where
 
 -- the word of the search's plane is that of the normal's, for a loop with a normal
 pub search-plane : (d : Wire) → samePlace d ≡ none → (i : ℕ) → i < length (loops d) → (normal (polygon d (loopAt (loops d) i)) ≡ origin → ⊥)
-    → planeRow d (loopAt (loops d) i) ≡ map (level d (loopAt (loops d) i)) (upto (length (d .vertices)))
-unfolding planeRow
+    → planeMask d (loopAt (loops d) i) ≡ map (level d (loopAt (loops d) i)) (upto (length (d .vertices)))
+unfolding planeMask
 search-plane d r11 i h rg =
     let l = loopAt (loops d) i in
-    upto-same (λ w. isZero (side (polygon d l) (at d w))) (level d l) (length (d .vertices)) (λ w k. closed-plane d (drawing-apart d r11) l (loop-closed d i h) rg w)
+    upto-same (λ w. isZero (planeSide (polygon d l) (at d w))) (level d l) (length (d .vertices)) (λ w k. closed-plane d (drawing-apart d r11) l (loop-closed d i h) rg w)
 
 -- and so for every loop of a drawing that passes 11 and 13
 pub drawing-plane : (d : Wire) → samePlace d ≡ none → edgeMeets d ≡ none → (i : ℕ) → i < length (loops d)
-    → planeRow d (loopAt (loops d) i) ≡ map (level d (loopAt (loops d) i)) (upto (length (d .vertices)))
+    → planeMask d (loopAt (loops d) i) ≡ map (level d (loopAt (loops d) i)) (upto (length (d .vertices)))
 drawing-plane d r11 r13 i h = search-plane d r11 i h (normal-real d r11 r13 i h)
 
 -- so corners are compared with the search's word
 pub level-search : (d : Wire) → samePlace d ≡ none → edgeMeets d ≡ none → (i : ℕ) → i < length (loops d) → (k : Loop)
-    → levelWith d (loopAt (loops d) i) k ≡ eqb (count (less (cornerRow d k) (map (level d (loopAt (loops d) i)) (upto (length (d .vertices)))))) 0
+    → levelWith d (loopAt (loops d) i) k ≡ eqb (count (less (cornerMask d k) (map (level d (loopAt (loops d) i)) (upto (length (d .vertices)))))) 0
 unfolding levelWith
-level-search d r11 r13 i h k = ap (λ (row : List Bool). eqb (count (less (cornerRow d k) row)) 0) (drawing-plane d r11 r13 i h)
+level-search d r11 r13 i h k = ap (λ (mask : List Bool). eqb (count (less (cornerMask d k) mask)) 0) (drawing-plane d r11 r13 i h)

@@ -1,4 +1,4 @@
--- The rows of those that clash, by edges and vertices. Assumes nothing.
+-- The masks of those that clash, by edges and vertices. Assumes nothing.
 use mathlib.Core.Path.{_≡_, refl, sym, ap, _∙_}
 use mathlib.Core.Bool.{Bool, true, false, not, _&&_, _||_, cond, true≢false}
 use mathlib.Core.List.{List, [], _∷_, map}
@@ -13,7 +13,7 @@ use Rattle.lists.proofs.Truth.{never, and-left, and-right}
 use Rattle.lists.proofs.Places.{map-at}
 use Rattle.lists.proofs.Passing.{any-yes, all-yes, some-yes}
 use Rattle.paper.specs.Points.{origin, isZero, above, below}
-use Rattle.paper.specs.Polygon.{side, onePlane, exactly, lies, isInside}
+use Rattle.paper.specs.Polygon.{planeSide, onePlane, exactly, lies, isInside}
 use Rattle.paper.specs.Drawing.{Wire, Edge, edge, at}
 use Rattle.paper.specs.Loops.{Loop, polygon, loopAt}
 use Rattle.paper.specs.Clash.{opposite, clash}
@@ -28,20 +28,20 @@ use Rattle.fast_tables.proofs.MayFold.{folds-with}
 
 -- ---- a face in its plane does not go through itself
 module _ (d : Wire) (l : Loop) where
-  own-side : Level d l → (v : ℕ) → member v l ≡ true → side (polygon d l) (at d v) ≡ pos 0
+  own-side : Level d l → (v : ℕ) → member v l ≡ true → planeSide (polygon d l) (at d v) ≡ pos 0
   unfolding onePlane
   own-side level v e =
       let r = member-yes v l e in
-      let t = all-yes (λ p. isZero (side (polygon d l) p)) origin (polygon d l) level (r .0) (omega (arith, r .1, polygon-length d l)) in
-      ap (λ p. side (polygon d l) p) (sym (corner-at d l (r .0) (r .1) ∙ ap (at d) (r .2))) ∙ zero-yes (side (polygon d l) (getD (polygon d l) (r .0) origin)) t
+      let t = all-yes (λ p. isZero (planeSide (polygon d l) p)) origin (polygon d l) level (r .0) (omega (arith, r .1, polygon-length d l)) in
+      ap (λ p. planeSide (polygon d l) p) (sym (corner-at d l (r .0) (r .1) ∙ ap (at d) (r .2))) ∙ zero-yes (planeSide (polygon d l) (getD (polygon d l) (r .0) origin)) t
 
   own-edge : Level d l → (e : Edge) → (has e l && edgePierces d l e) ≡ true → ⊥
   unfolding edgePierces opposite above below
   own-edge level (edge a b) t =
       let g = polygon d l in
       let h = has-ends a b l (and-left (has (edge a b) l) (edgePierces d l (edge a b)) t) in
-      let o : opposite (side g (at d a)) (side g (at d b)) ≡ false = λ i. opposite (own-side level a (h .0) i) (own-side level b (h .1) i) in
-      true≢false (sym (and-right (has (edge a b) l) (edgePierces d l (edge a b)) t) ∙ pierced-opposite g (at d a) (at d b) (side g (at d a)) (side g (at d b)) o)
+      let o : opposite (planeSide g (at d a)) (planeSide g (at d b)) ≡ false = λ i. opposite (own-side level a (h .0) i) (own-side level b (h .1) i) in
+      true≢false (sym (and-right (has (edge a b) l) (edgePierces d l (edge a b)) t) ∙ pierced-opposite g (at d a) (at d b) (planeSide g (at d a)) (planeSide g (at d b)) o)
 
   pub pierced-self : Level d l → piercedBy d l l ≡ false
   unfolding piercedBy
@@ -53,7 +53,7 @@ module _ (d : Wire) (l : Loop) where
   entered-self = never (any (λ v. member v l && vertexInside d l v) (upto (length (d .vertices)))) (λ t.
       let r = some-yes (λ v. member v l && vertexInside d l v) (length (d .vertices)) t in
       let v = r .0 in
-      let rest = isZero (side (polygon d l) (at d v)) && isInside (lies (exactly (at d v)) (polygon d l)) in
+      let rest = isZero (planeSide (polygon d l) (at d v)) && isInside (lies (exactly (at d v)) (polygon d l)) in
       true≢false (sym (and-left (member v l) (not (member v l) && rest) (r .2)) ∙ not-true (member v l) (and-left (not (member v l)) rest (and-right (member v l) (not (member v l) && rest) (r .2)))))
 
 -- ---- two tables with the same entries

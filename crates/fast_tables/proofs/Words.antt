@@ -1,4 +1,4 @@
--- The rows that are gathered have the digits of the definitions. Assumes nothing.
+-- The masks that are gathered have the digits of the definitions. Assumes nothing.
 use mathlib.Core.Path.{_≡_, sym, ap, ap₂, _∙_}
 use mathlib.Core.Bool.{Bool, true, false, not, _&&_, _||_, and-comm, and-false, and-assoc, or-false, or-assoc}
 use mathlib.Core.List.{List, [], _∷_, map}
@@ -10,14 +10,14 @@ use Rattle.lists.proofs.Places.{map-at, made-at, any-below-same}
 use Rattle.sets.specs.Word.{dig, both, less}
 use Rattle.sets.proofs.Digits.{dig-both, dig-either, dig-less}
 use Rattle.paper.specs.Points.{isZero, above, below}
-use Rattle.paper.specs.Polygon.{side, exactly, lies, isInside}
+use Rattle.paper.specs.Polygon.{planeSide, exactly, lies, isInside}
 use Rattle.paper.specs.Drawing.{Wire, edge, at, joined}
 use Rattle.paper.specs.Loops.{Loop, polygon, loopAt}
 use Rattle.paper.specs.Solids.{has}
 use Rattle.fast_tables.specs.Paths.{Path}
-use Rattle.fast_tables.specs.Hits.{edgePierces, vertexInside, piercedBy, enteredBy, piercedDown, cornerRow, foldsWith, hits}
-use Rattle.fast_tables.specs.Asked.{planeRow}
-use Rattle.fast_tables.specs.Words.{ones, nearRow, aboveRow, belowRow, downFrom, goingDown, throughRow, insideRow, hitRow}
+use Rattle.fast_tables.specs.Hits.{edgePierces, vertexInside, piercedBy, enteredBy, piercedDown, cornerMask, foldsWith, hits}
+use Rattle.fast_tables.specs.Asked.{planeMask}
+use Rattle.fast_tables.specs.Words.{ones, nearMask, aboveMask, belowMask, downFrom, goingDown, throughMask, insideMask, hitMask}
 use Rattle.fast_tables.proofs.Directed.{pierced-down}
 use Rattle.fast_tables.proofs.Ones.{dig-gathered, any-ones}
 
@@ -29,31 +29,31 @@ module _ (d : Wire) (cs : List Loop) (l : Loop) (j : ℕ) (h : j < length cs) wh
   k = loopAt cs j
 
   abbrev up : ℕ → Bool
-  up a = above (side (polygon d l) (at d a))
+  up a = above (planeSide (polygon d l) (at d a))
 
   abbrev down : ℕ → Bool
-  down b = below (side (polygon d l) (at d b))
+  down b = below (planeSide (polygon d l) (at d b))
 
   -- an edge goes down from a to a vertex below
   abbrev falls : ℕ → Bool
   falls a = any (λ b. down b && (joined d a b && (edgePierces d l (edge a b) && has (edge a b) k))) (upto n)
 
   down-is : (a : ℕ) (w : List Bool) → dig (downFrom d cs l a w) j ≡ (dig w j || falls a)
-  unfolding downFrom nearRow belowRow
+  unfolding downFrom nearMask belowMask
   down-is a w =
-      dig-gathered (λ b. edgePierces d l (edge a b)) (λ b. map (has (edge a b)) cs) (ones n (both (nearRow d a) (belowRow d l))) w j
+      dig-gathered (λ b. edgePierces d l (edge a b)) (λ b. map (has (edge a b)) cs) (ones n (both (nearMask d a) (belowMask d l))) w j
       ∙ ap (λ (t : Bool). dig w j || t)
-      (any-ones (λ b. edgePierces d l (edge a b) && dig (map (has (edge a b)) cs) j) n (both (nearRow d a) (belowRow d l))
-      ∙ any-below-same (λ b. dig (both (nearRow d a) (belowRow d l)) b && (edgePierces d l (edge a b) && dig (map (has (edge a b)) cs) j)) n
+      (any-ones (λ b. edgePierces d l (edge a b) && dig (map (has (edge a b)) cs) j) n (both (nearMask d a) (belowMask d l))
+      ∙ any-below-same (λ b. dig (both (nearMask d a) (belowMask d l)) b && (edgePierces d l (edge a b) && dig (map (has (edge a b)) cs) j)) n
       (λ b. down b && (joined d a b && (edgePierces d l (edge a b) && has (edge a b) k))) each)
     where
       swap : (p q r : Bool) → ((p && q) && r) ≡ (q && (p && r))
       swap p q r = ap (λ (t : Bool). t && r) (and-comm p q) ∙ and-assoc q p r
 
-      each : (b : ℕ) → b < n → (dig (both (nearRow d a) (belowRow d l)) b && (edgePierces d l (edge a b) && dig (map (has (edge a b)) cs) j)) ≡ (down b && (joined d a b && (edgePierces d l (edge a b) && has (edge a b) k)))
+      each : (b : ℕ) → b < n → (dig (both (nearMask d a) (belowMask d l)) b && (edgePierces d l (edge a b) && dig (map (has (edge a b)) cs) j)) ≡ (down b && (joined d a b && (edgePierces d l (edge a b) && has (edge a b) k)))
       each b hb =
-          let s : dig (both (nearRow d a) (belowRow d l)) b ≡ (joined d a b && down b)
-          = dig-both (nearRow d a) (belowRow d l) b ∙ ap₂ _&&_ (made-at (joined d a) n b false hb) (made-at down n b false hb) in
+          let s : dig (both (nearMask d a) (belowMask d l)) b ≡ (joined d a b && down b)
+          = dig-both (nearMask d a) (belowMask d l) b ∙ ap₂ _&&_ (made-at (joined d a) n b false hb) (made-at down n b false hb) in
           let t : dig (map (has (edge a b)) cs) j ≡ has (edge a b) k = map-at (has (edge a b)) cs j [] false h in
           (λ i. s i && (edgePierces d l (edge a b) && t i)) ∙ swap (joined d a b) (down b) (edgePierces d l (edge a b) && has (edge a b) k)
 
@@ -62,49 +62,49 @@ module _ (d : Wire) (cs : List Loop) (l : Loop) (j : ℕ) (h : j < length cs) wh
   going-is [] w = sym (or-false (dig w j))
   going-is (a ∷ xs) w = going-is xs (downFrom d cs l a w) ∙ ap (λ (t : Bool). t || any falls xs) (down-is a w) ∙ or-assoc (dig w j) (falls a) (any falls xs)
 
-  through-is : dig (throughRow d cs l) j ≡ piercedDown d l k
-  unfolding throughRow aboveRow piercedDown
+  through-is : dig (throughMask d cs l) j ≡ piercedDown d l k
+  unfolding throughMask aboveMask piercedDown
   through-is =
-      going-is (ones n (aboveRow d l)) [] ∙ any-ones falls n (aboveRow d l)
-      ∙ any-below-same (λ a. dig (aboveRow d l) a && falls a) n (λ a. up a && falls a) (λ a ha. ap (λ (t : Bool). t && falls a) (made-at up n a false ha))
+      going-is (ones n (aboveMask d l)) [] ∙ any-ones falls n (aboveMask d l)
+      ∙ any-below-same (λ a. dig (aboveMask d l) a && falls a) n (λ a. up a && falls a) (λ a ha. ap (λ (t : Bool). t && falls a) (made-at up n a false ha))
 
-  inside-is : dig (insideRow d cs l) j ≡ enteredBy d l k
-  unfolding insideRow enteredBy vertexInside planeRow cornerRow
+  inside-is : dig (insideMask d cs l) j ≡ enteredBy d l k
+  unfolding insideMask enteredBy vertexInside planeMask cornerMask
   inside-is =
-      dig-gathered inner (λ v. map (member v) cs) (ones n (less (planeRow d l) (cornerRow d l))) [] j
-      ∙ any-ones (λ v. inner v && dig (map (member v) cs) j) n (less (planeRow d l) (cornerRow d l))
-      ∙ any-below-same (λ v. dig (less (planeRow d l) (cornerRow d l)) v && (inner v && dig (map (member v) cs) j)) n (λ v. member v k && (not (member v l) && (flat v && inner v))) each
+      dig-gathered inner (λ v. map (member v) cs) (ones n (less (planeMask d l) (cornerMask d l))) [] j
+      ∙ any-ones (λ v. inner v && dig (map (member v) cs) j) n (less (planeMask d l) (cornerMask d l))
+      ∙ any-below-same (λ v. dig (less (planeMask d l) (cornerMask d l)) v && (inner v && dig (map (member v) cs) j)) n (λ v. member v k && (not (member v l) && (flat v && inner v))) each
     where
       inner : ℕ → Bool
       inner v = isInside (lies (exactly (at d v)) (polygon d l))
 
       flat : ℕ → Bool
-      flat v = isZero (side (polygon d l) (at d v))
+      flat v = isZero (planeSide (polygon d l) (at d v))
 
       swap : (f o i m : Bool) → ((f && o) && (i && m)) ≡ (m && (o && (f && i)))
       swap true true i m = and-comm i m
       swap true false i m = sym (and-false m)
       swap false o i m = sym (ap (λ (t : Bool). m && t) (and-false o) ∙ and-false m)
 
-      each : (v : ℕ) → v < n → (dig (less (planeRow d l) (cornerRow d l)) v && (inner v && dig (map (member v) cs) j)) ≡ (member v k && (not (member v l) && (flat v && inner v)))
+      each : (v : ℕ) → v < n → (dig (less (planeMask d l) (cornerMask d l)) v && (inner v && dig (map (member v) cs) j)) ≡ (member v k && (not (member v l) && (flat v && inner v)))
       each v hv =
-          let s : dig (less (planeRow d l) (cornerRow d l)) v ≡ (flat v && not (member v l))
-          = dig-less (planeRow d l) (cornerRow d l) v ∙ ap₂ (λ (x y : Bool). x && not y) (made-at flat n v false hv) (made-at (λ v. member v l) n v false hv) in
+          let s : dig (less (planeMask d l) (cornerMask d l)) v ≡ (flat v && not (member v l))
+          = dig-less (planeMask d l) (cornerMask d l) v ∙ ap₂ (λ (x y : Bool). x && not y) (made-at flat n v false hv) (made-at (λ v. member v l) n v false hv) in
           let t : dig (map (member v) cs) j ≡ member v k = map-at (member v) cs j [] false h in
           (λ i. s i && (inner v && t i)) ∙ swap (flat v) (not (member v l)) (inner v) (member v k)
 
--- the digits of the rows that are gathered
+-- the digits of the masks that are gathered
 pub hit-row : (d : Wire) (cs : List Loop) (i j : ℕ) → j < length cs → Path d (loopAt cs j)
-    → dig (hitRow d cs i) j ≡ (piercedBy d (loopAt cs i) (loopAt cs j) || enteredBy d (loopAt cs i) (loopAt cs j))
-unfolding hitRow
+    → dig (hitMask d cs i) j ≡ (piercedBy d (loopAt cs i) (loopAt cs j) || enteredBy d (loopAt cs i) (loopAt cs j))
+unfolding hitMask
 hit-row d cs i j h path =
-    dig-either (throughRow d cs (loopAt cs i)) (insideRow d cs (loopAt cs i)) j
+    dig-either (throughMask d cs (loopAt cs i)) (insideMask d cs (loopAt cs i)) j
     ∙ ap₂ _||_ (through-is d cs (loopAt cs i) j h ∙ sym (pierced-down d (loopAt cs i) (loopAt cs j) path)) (inside-is d cs (loopAt cs i) j h)
 
--- so two candidates clash where one is in the other's row, or they fold
+-- so two candidates clash where one is in the other's mask, or they fold
 pub hits-rows : (d : Wire) (cs : List Loop) (i j : ℕ) → i < length cs → j < length cs → Path d (loopAt cs i) → Path d (loopAt cs j)
     → hits d cs i j
-    ≡ (dig (hitRow d cs i) j || dig (hitRow d cs j) i || (ltb i j && foldsWith d (loopAt cs i) (loopAt cs j) || ltb j i && foldsWith d (loopAt cs j) (loopAt cs i)))
+    ≡ (dig (hitMask d cs i) j || dig (hitMask d cs j) i || (ltb i j && foldsWith d (loopAt cs i) (loopAt cs j) || ltb j i && foldsWith d (loopAt cs j) (loopAt cs i)))
 unfolding hits
 hits-rows d cs i j hi hj pi pj =
     ap₂ (λ (x y : Bool). x || y || (ltb i j && foldsWith d (loopAt cs i) (loopAt cs j) || ltb j i && foldsWith d (loopAt cs j) (loopAt cs i)))

@@ -20,7 +20,7 @@ use Rattle.paper.specs.declared.Axis.the-variants.{AlongX, AlongY, AlongZ}
 use Rattle.paper.specs.declared.Where.{Where}
 use Rattle.paper.specs.declared.Where.the-variants.{Outside, Border, Inside}
 use Rattle.paper.proofs.Where.{the-type}
-use Rattle.polygon.specs.Sizes.{Small, FlatSmall}
+use Rattle.polygon.specs.Sizes.{PointWithin, FlatWithin}
 
 pub ray-is : (a b : Bool) (t : ℤ) → (a && not b) && ltZ (pos 0) t || (not a && b) && ltZ t (pos 0) ≡ meetsRay a b t
 unfolding meetsRay above below
@@ -70,11 +70,11 @@ not-outside Inside h = refl
 
 -- ---- how large
 
-pub seen-small : {n : ℕ} (v : Axis) {p : Point} → Small n p → FlatSmall n (seen v p)
+pub seen-small : {n : ℕ} (v : Axis) {p : Point} → PointWithin n p → FlatWithin n (seen v p)
 unfolding seen
 seen-small AlongX h = record { u-in = h .y-in; v-in = h .z-in }
 seen-small AlongY h = record { u-in = h .x-in; v-in = h .z-in }
 seen-small AlongZ h = record { u-in = h .x-in; v-in = h .y-in }
 
-pub flat-eq : {n : ℕ} {p q : Flat} → p ≡ q → FlatSmall n q → FlatSmall n p
-flat-eq {n} e h = subst (λ (p : Flat). FlatSmall n p) (sym e) h
+pub flat-eq : {n : ℕ} {p q : Flat} → p ≡ q → FlatWithin n q → FlatWithin n p
+flat-eq {n} e h = subst (λ (p : Flat). FlatWithin n p) (sym e) h

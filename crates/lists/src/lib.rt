@@ -3,9 +3,9 @@
 ghost use mathlib.Core.Path.{_≡_};
 
 // Where a search found something: the lowest place, or none.
-pub enum Place {
-    Nowhere,
-    At(usize),
+pub enum Found {
+    Nothing,
+    Value(usize),
 }
 
 // A byte of a list asks only for its index where it is widened by a call.

@@ -14,7 +14,7 @@ use native.Mathlib.Omega.{arith}
 use lib.ListN.{length, getD}
 use lib.IntN.{ℤ, pos, _-ℤ_}
 use Rattle.paper.specs.Points.{origin}
-use Rattle.paper.specs.Polygon.{Polygon, normal, corner, side, onePlane, axis, seen}
+use Rattle.paper.specs.Polygon.{Polygon, normal, corner, planeSide, onePlane, axis, seen}
 use Rattle.paper.specs.Numbers.{mostCorners}
 use Rattle.paper.specs.Drawing.{Wire, at, joined, samePlace, edgeMeets}
 use Rattle.paper.specs.Loops.{Loop, level, loops, polygon, loopAt}
@@ -80,8 +80,8 @@ module _ (d : Wire) (r11 : samePlace d ≡ none) (r13 : edgeMeets d ≡ none) (i
   axis-holds = axis-real (normal (loopOf d i)) normal-real
 
   -- along that axis two points of its plane are seen as two
-  pub view-holds : (p q : Point) → side (loopOf d i) p ≡ pos 0 → side (loopOf d i) q ≡ pos 0 → seen (axis (normal (loopOf d i))) p ≡ seen (axis (normal (loopOf d i))) q → p ≡ q
-  unfolding side
+  pub view-holds : (p q : Point) → planeSide (loopOf d i) p ≡ pos 0 → planeSide (loopOf d i) q ≡ pos 0 → seen (axis (normal (loopOf d i))) p ≡ seen (axis (normal (loopOf d i))) q → p ≡ q
+  unfolding planeSide
   view-holds p q ep eq s =
       let g = loopOf d i in
       view-one (axis (normal g)) (normal g) p q axis-holds

@@ -6,7 +6,7 @@ use mathlib.Core.List.{List, [], _∷_, _++_}
 use Prim.Native.Nat.{ℕ, _<_}
 use native.Mathlib.Omega.{arith}
 use lib.ListN.{length, getD}
-use Rattle.paper.specs.Format.{one}
+use Rattle.paper.specs.Format.{editionOne}
 use Rattle.paper.specs.Refusals.{Check, check, firstOf, offends}
 use Rattle.paper.specs.Drawing.{Wire, drawingChecks}
 use Rattle.paper.specs.Loops.{Loop, loops, candidates, loopChecks}
@@ -134,7 +134,7 @@ module _ (d : Wire) (cs : List Loop) (fs : List (List ℕ)) where
       p27 = none-clashes d cs (takenOf cs fs) (turnedOf cs fs) c (s .some) (numbersOf cs fs) (lists n) (s .v);
     }
 
-    -- the rows that are read off a list are those of any solid that it names
+    -- the masks that are read off a list are those of any solid that it names
     pub rows-solid : (taken turned : List Bool) {six : ℕ} → IsSolid d cs taken turned six → Names d cs taken turned fs → IsSolid d cs (takenOf cs fs) (turnedOf cs fs) six
     rows-solid taken turned {six} s n =
         let e : taken ≡ takenOf cs fs = row-same taken (takenOf cs fs) (s .some ∙ sym (row-length (length cs) (numbersOf cs fs))) (λ k. sym (names-taken d cs c fs taken turned (s .some) (s .within) n k)) in
@@ -164,10 +164,10 @@ shape-fine false e = let z : _≡_ {A = ℕ} 0 1 = cc in absurd (omega arith)
 
 module _ (form : List Check) (d : Wire) (list : List ℕ) where
   abbrev faceLast : List Check
-  faceLast = faceChecks (tablesOf d (candidates d)) (length (candidates d)) (listed (candidates d) (facesIn one list))
+  faceLast = faceChecks (tablesOf d (candidates d)) (length (candidates d)) (listed (candidates d) (facesIn editionOne list))
 
   abbrev shapeOf : Option ℕ
-  shapeOf = offends (not (wellShaped one (length (d .vertices)) list)) 0
+  shapeOf = offends (not (wellShaped editionOne (length (d .vertices)) list)) 0
 
   verdict-is : verdict form d list ≡ verdictFor (firstOf (form ++ drawingChecks d ++ loopChecks (loops d) (candidates d) ++ (check 20 shapeOf ∷ faceLast)))
   unfolding verdict candidates
@@ -195,8 +195,8 @@ module _ (form : List Check) (d : Wire) (c : Candidates d (candidates d)) (list 
         form-passes = r .0;
         drawing-passes = r .1;
         few = q .1;
-        shape = shape-fine (wellShaped one (length (d .vertices)) list) (s .0);
-        named = accepted-names d (candidates d) (facesIn one list) c (s .1);
+        shape = shape-fine (wellShaped editionOne (length (d .vertices)) list) (s .0);
+        named = accepted-names d (candidates d) (facesIn editionOne list) c (s .1);
       }
 
   pub accepts-verdict : Accepts form d list → verdict form d list ≡ Accepted
@@ -205,4 +205,4 @@ module _ (form : List Check) (d : Wire) (c : Candidates d (candidates d)) (list 
       ∙ ap verdictFor
       (fine-both (form ++ drawingChecks d ++ loopChecks (loops d) (candidates d)) (check 20 (shapeOf form d list) ∷ faceLast form d list)
       (fine-both (form ++ drawingChecks d) (loopChecks (loops d) (candidates d)) (fine-both form (drawingChecks d) (a .form-passes) (a .drawing-passes)) (a .few))
-      (none-step 20 (shapeOf form d list) (faceLast form d list) (ap (λ (b : Bool). offends (not b) 0) (a .shape)) (names-accepted d (candidates d) (facesIn one list) c (a .named))))
+      (none-step 20 (shapeOf form d list) (faceLast form d list) (ap (λ (b : Bool). offends (not b) 0) (a .shape)) (names-accepted d (candidates d) (facesIn editionOne list) c (a .named))))

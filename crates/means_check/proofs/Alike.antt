@@ -1,4 +1,4 @@
--- A solid and what names it depend on the digits of its rows alone. Assumes nothing.
+-- A solid and what names it depend on the digits of its masks alone. Assumes nothing.
 use mathlib.Core.Path.{_≡_, refl, sym, ap, ap₂, subst, _∙_}
 use mathlib.Core.Bool.{Bool, true, false, cond}
 use mathlib.Core.List.{List, [], _∷_}
@@ -67,6 +67,6 @@ module _ (d : Wire) (cs : List Loop) (taken t u : List Bool) (same : (k : ℕ) �
     once = λ i j k hi hj p q. n .once i j k hi hj (subst (λ (l : List ℕ). SameRing l (loopAt fs i)) (sym (directed-to k)) p) (subst (λ (l : List ℕ). SameRing l (loopAt fs j)) (sym (directed-to k)) q);
   }
 
--- two rows of one length with the same digits are one
+-- two masks of one length with the same digits are one
 pub row-same : (a b : List Bool) → length a ≡ length b → ((k : ℕ) → dig a k ≡ dig b k) → a ≡ b
 row-same a b l h = ext-getD false a b l (λ k q. h k)

@@ -168,7 +168,7 @@ module _ (d : Wire) (cs : List Loop) (c : Candidates d cs) where
       let w = accepted-names d cs fs c a in
       solid-accepted (w .taken) (w .turned) (w .six) (w .solid) gs (names-again (w .taken) (w .turned) fs gs (w .names) b y)
 
-  -- a solid's rows are told by their digits
+  -- a solid's masks are told by their digits
   rows-named : (taken turned taken′ turned′ : List Bool) {six six′ : ℕ} → IsSolid d cs taken turned six → IsSolid d cs taken′ turned′ six′
       → ((k : ℕ) → dig taken k ≡ dig taken′ k) → ((k : ℕ) → dig turned k ≡ dig turned′ k) → (gs : List Loop) → Names d cs taken′ turned′ gs → Names d cs taken turned gs
   rows-named taken turned taken′ turned′ s r a b gs m =

@@ -1,6 +1,6 @@
 -- The cube of document 01 is a solid of its drawing, in plain mathematics: its list is accepted, by evaluation. Assumes nothing.
 use mathlib.Core.Path.{_≡_, refl}
-use Rattle.paper.specs.Format.{one}
+use Rattle.paper.specs.Format.{editionOne}
 use Rattle.paper.specs.Sheet.{lentChecks}
 use Rattle.paper.specs.Drawing.{wire}
 use Rattle.paper.specs.FaceList.{encodeFaces}
@@ -10,9 +10,9 @@ use Rattle.paper.specs.Known.Drawings.{cube, outward}
 use Rattle.paper.specs.declared.Verdict.the-variants.{Accepted}
 use Rattle.means_check.proofs.Demand.{BodyOfSolid, accepted-body}
 
-cube-accepted : verdict (lentChecks one (cube .xyz) (cube .ends)) (wire (cube .xyz) (cube .ends)) (encodeFaces one outward) ≡ Accepted
+cube-accepted : verdict (lentChecks editionOne (cube .xyz) (cube .ends)) (wire (cube .xyz) (cube .ends)) (encodeFaces editionOne outward) ≡ Accepted
 unfolding reply
 cube-accepted = refl
 
-pub cube-solid : BodyOfSolid (lentChecks one (cube .xyz) (cube .ends)) (wire (cube .xyz) (cube .ends)) (encodeFaces one outward)
-cube-solid = accepted-body (lentChecks one (cube .xyz) (cube .ends)) (wire (cube .xyz) (cube .ends)) (encodeFaces one outward) cube-accepted
+pub cube-solid : BodyOfSolid (lentChecks editionOne (cube .xyz) (cube .ends)) (wire (cube .xyz) (cube .ends)) (encodeFaces editionOne outward)
+cube-solid = accepted-body (lentChecks editionOne (cube .xyz) (cube .ends)) (wire (cube .xyz) (cube .ends)) (encodeFaces editionOne outward) cube-accepted

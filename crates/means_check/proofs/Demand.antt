@@ -7,7 +7,7 @@ use Prim.Native.Nat.{ℕ, _≤_, _<_}
 use native.Mathlib.Decide.{ℕ-discrete}
 use lib.ListN.{length}
 use Rattle.sets.specs.Word.{dig}
-use Rattle.paper.specs.Format.{one}
+use Rattle.paper.specs.Format.{editionOne}
 use Rattle.paper.specs.Refusals.{Check, check, firstOf}
 use Rattle.paper.specs.Drawing.{Wire, samePlace, looseVertex, edgeMeets, apart, drawingChecks}
 use Rattle.paper.specs.Loops.{Loop, loopAt, flipped, loops, candidates, loopChecks}
@@ -53,11 +53,11 @@ module _ (form : List Check) (d : Wire) where
     told : Accepts form d list
     told = accepts-exactly list .0 a
 
-    fair : firstOf (faceChecks (tablesOf d (candidates d)) (length (candidates d)) (listed (candidates d) (facesIn one list))) ≡ Fine
-    fair = names-accepted d (candidates d) (facesIn one list) fits (told .named)
+    fair : firstOf (faceChecks (tablesOf d (candidates d)) (length (candidates d)) (listed (candidates d) (facesIn editionOne list))) ≡ Fine
+    fair = names-accepted d (candidates d) (facesIn editionOne list) fits (told .named)
 
     -- an accepted list, in another order of faces and from other starts, and of a good shape, is accepted
-    pub again : (other : List ℕ) → wellShaped one (length (d .vertices)) other ≡ true → SameBody (facesIn one list) (facesIn one other) → Singly (facesIn one other) → verdict form d other ≡ Accepted
+    pub again : (other : List ℕ) → wellShaped editionOne (length (d .vertices)) other ≡ true → SameBody (facesIn editionOne list) (facesIn editionOne other) → Singly (facesIn editionOne other) → verdict form d other ≡ Accepted
     again other h b y =
         let w = told .named in
         accepts-exactly other .1 (record {
@@ -70,38 +70,38 @@ module _ (form : List Check) (d : Wire) where
             turned = w .turned;
             six = w .six;
             solid = w .solid;
-            names = names-again d (candidates d) fits (w .taken) (w .turned) (facesIn one list) (facesIn one other) (w .names) b y;
+            names = names-again d (candidates d) fits (w .taken) (w .turned) (facesIn editionOne list) (facesIn editionOne other) (w .names) b y;
           };
         })
 
     -- no face of it stands twice: a list with a face doubled is refused
-    pub not-doubled : (i j : ℕ) → i < length (facesIn one list) → j < length (facesIn one list) → (i ≡ j → ⊥) → SameRing (loopAt (facesIn one list) i) (loopAt (facesIn one list) j) → ⊥
-    not-doubled i j hi hj n s = doubled-refused d (candidates d) fits (facesIn one list) i j hi hj n s fair
+    pub not-doubled : (i j : ℕ) → i < length (facesIn editionOne list) → j < length (facesIn editionOne list) → (i ≡ j → ⊥) → SameRing (loopAt (facesIn editionOne list) i) (loopAt (facesIn editionOne list) j) → ⊥
+    not-doubled i j hi hj n s = doubled-refused d (candidates d) fits (facesIn editionOne list) i j hi hj n s fair
 
     module _ (other : List ℕ) (b : verdict form d other ≡ Accepted) where
-      fair-other : firstOf (faceChecks (tablesOf d (candidates d)) (length (candidates d)) (listed (candidates d) (facesIn one other))) ≡ Fine
-      fair-other = names-accepted d (candidates d) (facesIn one other) fits (accepts-exactly other .0 b .named)
+      fair-other : firstOf (faceChecks (tablesOf d (candidates d)) (length (candidates d)) (listed (candidates d) (facesIn editionOne other))) ≡ Fine
+      fair-other = names-accepted d (candidates d) (facesIn editionOne other) fits (accepts-exactly other .0 b .named)
 
       -- "with n = 1 any two accepted lists are the same body"
-      pub one-same : OneSolid d (candidates d) → SameBody (facesIn one list) (facesIn one other)
-      one-same u = one-body d (candidates d) fits u (facesIn one list) (facesIn one other) fair fair-other
+      pub one-same : OneSolid d (candidates d) → SameBody (facesIn editionOne list) (facesIn editionOne other)
+      one-same u = one-body d (candidates d) fits u (facesIn editionOne list) (facesIn editionOne other) fair fair-other
 
       -- an accepted list of faces of another accepted list, one way or the other, is the same body: none is turned, none left out
-      pub part-same : AmongEither (facesIn one list) (facesIn one other) → SameBody (facesIn one list) (facesIn one other)
-      part-same m = part-body d (candidates d) fits (facesIn one list) (facesIn one other) fair fair-other m
+      pub part-same : AmongEither (facesIn editionOne list) (facesIn editionOne other) → SameBody (facesIn editionOne list) (facesIn editionOne other)
+      part-same m = part-body d (candidates d) fits (facesIn editionOne list) (facesIn editionOne other) fair fair-other m
 
-      pub not-turned : AmongEither (facesIn one list) (facesIn one other) → (i j : ℕ) → i < length (facesIn one other) → j < length (facesIn one list)
-          → SameRing (flipped (loopAt (facesIn one list) j)) (loopAt (facesIn one other) i) → ⊥
-      not-turned m i j hi hj s = turned-refused d (candidates d) fits (facesIn one list) (facesIn one other) fair m i j hi hj s fair-other
+      pub not-turned : AmongEither (facesIn editionOne list) (facesIn editionOne other) → (i j : ℕ) → i < length (facesIn editionOne other) → j < length (facesIn editionOne list)
+          → SameRing (flipped (loopAt (facesIn editionOne list) j)) (loopAt (facesIn editionOne other) i) → ⊥
+      not-turned m i j hi hj s = turned-refused d (candidates d) fits (facesIn editionOne list) (facesIn editionOne other) fair m i j hi hj s fair-other
 
-      pub not-missing : AmongEither (facesIn one list) (facesIn one other) → (j : ℕ) → j < length (facesIn one list)
-          → ((i : ℕ) → i < length (facesIn one other) → SameRing (loopAt (facesIn one list) j) (loopAt (facesIn one other) i) → ⊥) → ⊥
-      not-missing m j hj n = missing-refused d (candidates d) fits (facesIn one list) (facesIn one other) fair m j hj n fair-other
+      pub not-missing : AmongEither (facesIn editionOne list) (facesIn editionOne other) → (j : ℕ) → j < length (facesIn editionOne list)
+          → ((i : ℕ) → i < length (facesIn editionOne other) → SameRing (loopAt (facesIn editionOne list) j) (loopAt (facesIn editionOne other) i) → ⊥) → ⊥
+      not-missing m j hj n = missing-refused d (candidates d) fits (facesIn editionOne list) (facesIn editionOne other) fair m j hj n fair-other
 
   -- "where the report lists n solids, each of the n is accepted": any list of a good shape that names it
   pub each-accepted : firstOf form ≡ Fine → firstOf (drawingChecks d) ≡ Fine → firstOf (loopChecks (loops d) (candidates d)) ≡ Fine
       → (taken turned : List Bool) (six : ℕ) → IsSolid d (candidates d) taken turned six
-      → (list : List ℕ) → wellShaped one (length (d .vertices)) list ≡ true → Names d (candidates d) taken turned (facesIn one list) → verdict form d list ≡ Accepted
+      → (list : List ℕ) → wellShaped editionOne (length (d .vertices)) list ≡ true → Names d (candidates d) taken turned (facesIn editionOne list) → verdict form d list ≡ Accepted
   each-accepted f r l taken turned six s list h n = accepts-exactly list .1 (record {
     form-passes = f;
     drawing-passes = r;
@@ -113,11 +113,11 @@ module _ (form : List Check) (d : Wire) where
   -- each has such a list: its own faces in candidate order, packed. That packed faces read back is the converter's other theorem, which
   -- the crate of face lists proves; here it is handed over.
   pub each-sent : firstOf form ≡ Fine → firstOf (drawingChecks d) ≡ Fine → firstOf (loopChecks (loops d) (candidates d)) ≡ Fine → length (d .edges) ≤ 64
-      → ((fs : List Loop) → Sent (length (d .vertices)) fs → (wellShaped one (length (d .vertices)) (encodeFaces one fs) ≡ true) × (facesIn one (encodeFaces one fs) ≡ fs))
-      → (taken turned : List Bool) (six : ℕ) → IsSolid d (candidates d) taken turned six → verdict form d (encodeFaces one (faceList d (candidates d) taken turned)) ≡ Accepted
+      → ((fs : List Loop) → Sent (length (d .vertices)) fs → (wellShaped editionOne (length (d .vertices)) (encodeFaces editionOne fs) ≡ true) × (facesIn editionOne (encodeFaces editionOne fs) ≡ fs))
+      → (taken turned : List Bool) (six : ℕ) → IsSolid d (candidates d) taken turned six → verdict form d (encodeFaces editionOne (faceList d (candidates d) taken turned)) ≡ Accepted
   each-sent f r l few back taken turned six s =
       let b = back (faceList d (candidates d) taken turned) (solid-sent d (drawing-places d r) few taken turned s) in
-      each-accepted f r l taken turned six s (encodeFaces one (faceList d (candidates d) taken turned)) (b .0)
+      each-accepted f r l taken turned six s (encodeFaces editionOne (faceList d (candidates d) taken turned)) (b .0)
       (subst (λ (fs : List Loop). Names d (candidates d) taken turned fs) (sym (b .1)) (faceList-names d (candidates d) (drawing-fits d r) taken turned s))
 
   -- "names one solid": a list names no two
@@ -135,8 +135,8 @@ module _ (form : List Check) (d : Wire) where
     pub turned : List Bool
     pub six : ℕ
     pub solid : IsSolid d (candidates d) taken turned six
-    pub body : SameBody (faceList d (candidates d) taken turned) (facesIn one list)
-    pub singly : Singly (facesIn one list)
+    pub body : SameBody (faceList d (candidates d) taken turned) (facesIn editionOne list)
+    pub singly : Singly (facesIn editionOne list)
 
   pub accepted-body : (list : List ℕ) → verdict form d list ≡ Accepted → BodyOfSolid list
   accepted-body list a =
@@ -147,17 +147,17 @@ module _ (form : List Check) (d : Wire) where
         turned = w .turned;
         six = w .six;
         solid = w .solid;
-        body = same-named d (candidates d) c (w .taken) (w .turned) (faceList d (candidates d) (w .taken) (w .turned)) (facesIn one list) (faceList-names d (candidates d) c (w .taken) (w .turned) (w .solid)) (w .names);
+        body = same-named d (candidates d) c (w .taken) (w .turned) (faceList d (candidates d) (w .taken) (w .turned)) (facesIn editionOne list) (faceList-names d (candidates d) c (w .taken) (w .turned) (w .solid)) (w .names);
         singly = λ i j hi hj s. pick i j (not-doubled list a i j hi hj) s (ℕ-discrete i j);
       }
     where
-      pick : (i j : ℕ) → ((i ≡ j → ⊥) → SameRing (loopAt (facesIn one list) i) (loopAt (facesIn one list) j) → ⊥) → SameRing (loopAt (facesIn one list) i) (loopAt (facesIn one list) j) → Dec (i ≡ j) → i ≡ j
+      pick : (i j : ℕ) → ((i ≡ j → ⊥) → SameRing (loopAt (facesIn editionOne list) i) (loopAt (facesIn editionOne list) j) → ⊥) → SameRing (loopAt (facesIn editionOne list) i) (loopAt (facesIn editionOne list) j) → Dec (i ≡ j) → i ≡ j
       pick i j f s (yes e) = e
       pick i j f s (no n) = absurd (f n s)
 
   pub body-accepted : firstOf form ≡ Fine → firstOf (drawingChecks d) ≡ Fine → firstOf (loopChecks (loops d) (candidates d)) ≡ Fine
-      → (list : List ℕ) → wellShaped one (length (d .vertices)) list ≡ true → BodyOfSolid list → verdict form d list ≡ Accepted
+      → (list : List ℕ) → wellShaped editionOne (length (d .vertices)) list ≡ true → BodyOfSolid list → verdict form d list ≡ Accepted
   body-accepted f r l list h b =
       let c = drawing-fits d r in
       each-accepted f r l (b .taken) (b .turned) (b .six) (b .solid) list h
-      (names-again d (candidates d) c (b .taken) (b .turned) (faceList d (candidates d) (b .taken) (b .turned)) (facesIn one list) (faceList-names d (candidates d) c (b .taken) (b .turned) (b .solid)) (b .body) (b .singly))
+      (names-again d (candidates d) c (b .taken) (b .turned) (faceList d (candidates d) (b .taken) (b .turned)) (facesIn editionOne list) (faceList-names d (candidates d) c (b .taken) (b .turned) (b .solid)) (b .body) (b .singly))

@@ -11,7 +11,7 @@ use lib.ListN.{length, length-map}
 use Rattle.lists.proofs.Truth.{or-none}
 use Rattle.pack.specs.Bits.{fieldsAt}
 use Rattle.pack.proofs.Laws.{length-fields}
-use Rattle.paper.specs.Format.{one, leastVertices, leastEdges, outside, verticesIn, edgesIn, coordinatesIn, endsIn, coordinate, head, coordinateBits}
+use Rattle.paper.specs.Format.{editionOne, leastVertices, leastEdges, outside, verticesIn, edgesIn, coordinatesIn, endsIn, coordinate, head, coordinateBits}
 use Rattle.paper.specs.Refusals.{firstOf, offends}
 use Rattle.paper.specs.Sheet.{badCount, contentChecks, countChecks, openChecks, closeChecks, shapeChecks, sheetChecks, lentChecks}
 use Rattle.paper.specs.Drawing.{Wire, wire, pointsOf, edgesOf, drawingChecks}
@@ -42,14 +42,14 @@ edges-count [] = refl
 edges-count (a ∷ []) = refl
 edges-count (a ∷ (b ∷ l)) = omega (arith, edges-count l)
 
-abbrev pub Small : Wire → Type 0
-Small d = (length (d .vertices) ≤ 32) × (length (d .edges) ≤ 64)
+abbrev pub InCounts : Wire → Type 0
+InCounts d = (length (d .vertices) ≤ 32) × (length (d .edges) ≤ 64)
 
 no-offence : (b : Bool) (p : ℕ) → offends b p ≡ none → b ≡ false
 no-offence true p e = let z : _≡_ {A = ℕ} 0 1 = cc in absurd (omega arith)
 no-offence false p e = refl
 
-pub lent-small : (xyz : List ℤ) (ends : List ℕ) → firstOf (lentChecks one xyz ends) ≡ Fine → Small (wire xyz ends)
+pub lent-small : (xyz : List ℤ) (ends : List ℕ) → firstOf (lentChecks editionOne xyz ends) ≡ Fine → InCounts (wire xyz ends)
 unfolding lentChecks wire
 lent-small xyz ends e =
     let a = step-none 5 (offends (badCount 3 leastVertices 32 (length xyz)) 0) _ e in
@@ -58,57 +58,57 @@ lent-small xyz ends e =
     let q = or-none (not (eqb (length ends % 2) 0)) (outside leastEdges 64 (length ends / 2)) (no-offence (badCount 2 leastEdges 64 (length ends)) 1 (b .0)) in
     (omega (arith, points-count xyz, outside-false leastVertices 32 (length xyz / 3) (p .1) .1), omega (arith, edges-count ends, outside-false leastEdges 64 (length ends / 2) (q .1) .1))
 
-pub sheet-small : (s : List ℕ) → firstOf (sheetChecks one s) ≡ Fine → Small (wire (coordinatesIn one s) (endsIn one s))
+pub sheet-small : (s : List ℕ) → firstOf (sheetChecks editionOne s) ≡ Fine → InCounts (wire (coordinatesIn editionOne s) (endsIn editionOne s))
 unfolding sheetChecks shapeChecks countChecks wire
 sheet-small s e =
-    let v = verticesIn one s in
-    let n = edgesIn one s in
-    let p = both-fine (openChecks one s ++ countChecks one (verticesIn one s) (edgesIn one s) ++ closeChecks one s (verticesIn one s) (edgesIn one s)) (contentChecks (verticesIn one s) (coordinatesIn one s) (endsIn one s)) e in
-    let q = both-fine (openChecks one s ++ countChecks one (verticesIn one s) (edgesIn one s)) (closeChecks one s (verticesIn one s) (edgesIn one s)) (p .0) in
-    let r = both-fine (openChecks one s) (countChecks one (verticesIn one s) (edgesIn one s)) (q .0) in
-    let a = step-none 5 (offends (outside leastVertices 32 (verticesIn one s)) 0) _ (r .1) in
-    let b = step-none 5 (offends (outside leastEdges 64 (edgesIn one s)) 1) _ (a .1) in
-    let va = outside-false leastVertices 32 (verticesIn one s) (no-offence (outside leastVertices 32 (verticesIn one s)) 0 (a .0)) .1 in
-    let eb = outside-false leastEdges 64 (edgesIn one s) (no-offence (outside leastEdges 64 (edgesIn one s)) 1 (b .0)) .1 in
-    (omega (arith, points-count (coordinatesIn one s), lengths), omega (arith, edges-count (endsIn one s), ends-long))
+    let v = verticesIn editionOne s in
+    let n = edgesIn editionOne s in
+    let p = both-fine (openChecks editionOne s ++ countChecks editionOne (verticesIn editionOne s) (edgesIn editionOne s) ++ closeChecks editionOne s (verticesIn editionOne s) (edgesIn editionOne s)) (contentChecks (verticesIn editionOne s) (coordinatesIn editionOne s) (endsIn editionOne s)) e in
+    let q = both-fine (openChecks editionOne s ++ countChecks editionOne (verticesIn editionOne s) (edgesIn editionOne s)) (closeChecks editionOne s (verticesIn editionOne s) (edgesIn editionOne s)) (p .0) in
+    let r = both-fine (openChecks editionOne s) (countChecks editionOne (verticesIn editionOne s) (edgesIn editionOne s)) (q .0) in
+    let a = step-none 5 (offends (outside leastVertices 32 (verticesIn editionOne s)) 0) _ (r .1) in
+    let b = step-none 5 (offends (outside leastEdges 64 (edgesIn editionOne s)) 1) _ (a .1) in
+    let va = outside-false leastVertices 32 (verticesIn editionOne s) (no-offence (outside leastVertices 32 (verticesIn editionOne s)) 0 (a .0)) .1 in
+    let eb = outside-false leastEdges 64 (edgesIn editionOne s) (no-offence (outside leastEdges 64 (edgesIn editionOne s)) 1 (b .0)) .1 in
+    (omega (arith, points-count (coordinatesIn editionOne s), lengths), omega (arith, edges-count (endsIn editionOne s), ends-long))
   where
-    lengths : length (coordinatesIn one s) ≡ 3 * verticesIn one s
-    lengths = length-map (fieldsAt s (head one) coordinateBits (3 * verticesIn one s)) coordinate ∙ length-fields s (head one) coordinateBits (3 * verticesIn one s)
+    lengths : length (coordinatesIn editionOne s) ≡ 3 * verticesIn editionOne s
+    lengths = length-map (fieldsAt s (head editionOne) coordinateBits (3 * verticesIn editionOne s)) coordinate ∙ length-fields s (head editionOne) coordinateBits (3 * verticesIn editionOne s)
 
-    ends-long : length (endsIn one s) ≡ 2 * edgesIn one s
-    ends-long = length-fields s (head one + 3 * coordinateBits * verticesIn one s) 5 (2 * edgesIn one s)
+    ends-long : length (endsIn editionOne s) ≡ 2 * edgesIn editionOne s
+    ends-long = length-fields s (head editionOne + 3 * coordinateBits * verticesIn editionOne s) 5 (2 * edgesIn editionOne s)
 
 -- ---- demand 3
 
 -- packed faces read back: what the crate of face lists proves of edition 1
 abbrev pub ReadsBack : Type 0
-ReadsBack = (v : ℕ) → v ≤ 32 → (fs : List Loop) → Sent v fs → (wellShaped one v (encodeFaces one fs) ≡ true) × (facesIn one (encodeFaces one fs) ≡ fs)
+ReadsBack = (v : ℕ) → v ≤ 32 → (fs : List Loop) → Sent v fs → (wellShaped editionOne v (encodeFaces editionOne fs) ≡ true) × (facesIn editionOne (encodeFaces editionOne fs) ≡ fs)
 
 module _ (xyz : List ℤ) (ends : List ℕ) where
-  pub lists-exactly : (list : List ℕ) → ((verdictLists xyz ends list ≡ Accepted) → Accepts (lentChecks one xyz ends) (wire xyz ends) list)
-      × (Accepts (lentChecks one xyz ends) (wire xyz ends) list → verdictLists xyz ends list ≡ Accepted)
+  pub lists-exactly : (list : List ℕ) → ((verdictLists xyz ends list ≡ Accepted) → Accepts (lentChecks editionOne xyz ends) (wire xyz ends) list)
+      × (Accepts (lentChecks editionOne xyz ends) (wire xyz ends) list → verdictLists xyz ends list ≡ Accepted)
   unfolding verdictLists
-  lists-exactly list = accepts-exactly (lentChecks one xyz ends) (wire xyz ends) list
+  lists-exactly list = accepts-exactly (lentChecks editionOne xyz ends) (wire xyz ends) list
 
-  pub lists-each : ReadsBack → firstOf (lentChecks one xyz ends) ≡ Fine → firstOf (drawingChecks (wire xyz ends)) ≡ Fine → firstOf (loopChecks (loops (wire xyz ends)) (candidates (wire xyz ends))) ≡ Fine
+  pub lists-each : ReadsBack → firstOf (lentChecks editionOne xyz ends) ≡ Fine → firstOf (drawingChecks (wire xyz ends)) ≡ Fine → firstOf (loopChecks (loops (wire xyz ends)) (candidates (wire xyz ends))) ≡ Fine
       → (taken turned : List Bool) (six : ℕ) → IsSolid (wire xyz ends) (candidates (wire xyz ends)) taken turned six
-      → verdictLists xyz ends (encodeFaces one (faceList (wire xyz ends) (candidates (wire xyz ends)) taken turned)) ≡ Accepted
+      → verdictLists xyz ends (encodeFaces editionOne (faceList (wire xyz ends) (candidates (wire xyz ends)) taken turned)) ≡ Accepted
   unfolding verdictLists
   lists-each back f r l =
       let m = lent-small xyz ends f in
-      each-sent (lentChecks one xyz ends) (wire xyz ends) f r l (m .1) (back (length (wire xyz ends .vertices)) (m .0))
+      each-sent (lentChecks editionOne xyz ends) (wire xyz ends) f r l (m .1) (back (length (wire xyz ends .vertices)) (m .0))
 
 module _ (s : List ℕ) where
-  pub sheet-exactly : (list : List ℕ) → ((verdictSheet s list ≡ Accepted) → Accepts (sheetChecks one s) (wire (coordinatesIn one s) (endsIn one s)) list)
-      × (Accepts (sheetChecks one s) (wire (coordinatesIn one s) (endsIn one s)) list → verdictSheet s list ≡ Accepted)
+  pub sheet-exactly : (list : List ℕ) → ((verdictSheet s list ≡ Accepted) → Accepts (sheetChecks editionOne s) (wire (coordinatesIn editionOne s) (endsIn editionOne s)) list)
+      × (Accepts (sheetChecks editionOne s) (wire (coordinatesIn editionOne s) (endsIn editionOne s)) list → verdictSheet s list ≡ Accepted)
   unfolding verdictSheet
-  sheet-exactly list = accepts-exactly (sheetChecks one s) (wire (coordinatesIn one s) (endsIn one s)) list
+  sheet-exactly list = accepts-exactly (sheetChecks editionOne s) (wire (coordinatesIn editionOne s) (endsIn editionOne s)) list
 
-  pub sheet-each : ReadsBack → firstOf (sheetChecks one s) ≡ Fine → firstOf (drawingChecks (wire (coordinatesIn one s) (endsIn one s))) ≡ Fine
-      → firstOf (loopChecks (loops (wire (coordinatesIn one s) (endsIn one s))) (candidates (wire (coordinatesIn one s) (endsIn one s)))) ≡ Fine
-      → (taken turned : List Bool) (six : ℕ) → IsSolid (wire (coordinatesIn one s) (endsIn one s)) (candidates (wire (coordinatesIn one s) (endsIn one s))) taken turned six
-      → verdictSheet s (encodeFaces one (faceList (wire (coordinatesIn one s) (endsIn one s)) (candidates (wire (coordinatesIn one s) (endsIn one s))) taken turned)) ≡ Accepted
+  pub sheet-each : ReadsBack → firstOf (sheetChecks editionOne s) ≡ Fine → firstOf (drawingChecks (wire (coordinatesIn editionOne s) (endsIn editionOne s))) ≡ Fine
+      → firstOf (loopChecks (loops (wire (coordinatesIn editionOne s) (endsIn editionOne s))) (candidates (wire (coordinatesIn editionOne s) (endsIn editionOne s)))) ≡ Fine
+      → (taken turned : List Bool) (six : ℕ) → IsSolid (wire (coordinatesIn editionOne s) (endsIn editionOne s)) (candidates (wire (coordinatesIn editionOne s) (endsIn editionOne s))) taken turned six
+      → verdictSheet s (encodeFaces editionOne (faceList (wire (coordinatesIn editionOne s) (endsIn editionOne s)) (candidates (wire (coordinatesIn editionOne s) (endsIn editionOne s))) taken turned)) ≡ Accepted
   unfolding verdictSheet
   sheet-each back f r l =
       let m = sheet-small s f in
-      each-sent (sheetChecks one s) (wire (coordinatesIn one s) (endsIn one s)) f r l (m .1) (back (length (wire (coordinatesIn one s) (endsIn one s) .vertices)) (m .0))
+      each-sent (sheetChecks editionOne s) (wire (coordinatesIn editionOne s) (endsIn editionOne s)) f r l (m .1) (back (length (wire (coordinatesIn editionOne s) (endsIn editionOne s) .vertices)) (m .0))

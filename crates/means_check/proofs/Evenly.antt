@@ -14,10 +14,10 @@ use Rattle.lists.proofs.Truth.{and-left, and-right, and-both, never}
 use Rattle.lists.proofs.Passing.{any-yes, any-is, all-yes, all-is}
 use Rattle.lists.proofs.Sides.{sides-length, sides-at}
 use Rattle.paper.specs.Points.{origin, plus, minus, times, dot, cross, det, sum, isZero, above, samePoint}
-use Rattle.paper.specs.Polygon.{Polygon, normal, corner, side, onePlane}
+use Rattle.paper.specs.Polygon.{Polygon, normal, corner, planeSide, onePlane}
 use Rattle.paper.specs.Drawing.{Wire, at, samePlace}
 use Rattle.paper.specs.Loops.{Loop, loopAt, polygon, candidates}
-use Rattle.paper.specs.Clash.{pierces, enters, within, inAngle, Side, to, turnsAt, pointsIn, isCorner, bends, folds, clash}
+use Rattle.paper.specs.Clash.{pierces, enters, angleHolds, inAngle, Side, to, turnsAt, pointsIn, isCorner, bends, folds, clash}
 use Rattle.paper.specs.declared.Point.{Point}
 use Rattle.paper_laws.proofs.Vectors.{num, vec, k, x, _+s_, _-s_, _·_, dets, o, v, _+v_, _-v_, _*v_, _×v_, vring}
 use Rattle.paper_laws.proofs.Points.{zero-yes, zero-is, origin-yes, origin-is, point-eq}
@@ -69,9 +69,9 @@ dot-less n p q e = vring (vec n ∷ vec p ∷ vec q ∷ []) (v 0 · v 1) ((v 0 �
 -- ---- two polygons in one plane, whichever is named first
 
 one-plane : (f g : Polygon) → InPlane f → 0 < length f → 0 < length g → (normal f ≡ origin → ⊥) → onePlane f g ≡ true → onePlane g f ≡ true
-unfolding onePlane side
+unfolding onePlane planeSide
 one-plane f g y hf hg n e =
-    all-is (λ p. isZero (side g p)) origin f (λ i l.
+    all-is (λ p. isZero (planeSide g p)) origin f (λ i l.
     zero-is (in-one-line m (normal g) (minus (getD f i origin) (corner g)) (y .real) gm
     (less-dot m (getD f i origin) (corner g) h (y .every i l) (ap (dot m) (corner-at g) ∙ in-g 0 hg))))
   where
@@ -87,7 +87,7 @@ one-plane f g y hf hg n e =
     -- g lies in f's plane
     in-g : (i : ℕ) → i < length g → dot (y .across) (getD g i origin) ≡ y .height
     in-g i l =
-        let z = zero-yes (side f (getD g i origin)) (all-yes (λ p. isZero (side f p)) origin g e i l) in
+        let z = zero-yes (planeSide f (getD g i origin)) (all-yes (λ p. isZero (planeSide f p)) origin g e i l) in
         let w = in-one-line (normal f) (y .across) (minus (getD g i origin) (corner f)) n (cross-back (y .across) (normal f) fm) z in
         dot-less (y .across) (getD g i origin) (corner f) w ∙ ap (dot (y .across)) (corner-at f) ∙ y .every 0 hf
 
@@ -109,8 +109,8 @@ no-angle n a u b w e = nothing (above (det n (minus b u) (minus a u))) (above (d
         not-above : above (pos 0) ≡ false
         not-above = unfold above in refl
 
-    nothing : (p q r : Bool) → p ≡ false → q ≡ false → r ≡ false → within p q r ≡ false
-    nothing p q r i j l = (λ t. within (i t) (j t) (l t)) ∙ unfold within in refl
+    nothing : (p q r : Bool) → p ≡ false → q ≡ false → r ≡ false → angleHolds p q r ≡ false
+    nothing p q r i j l = (λ t. angleHolds (i t) (j t) (l t)) ∙ unfold angleHolds in refl
 
 some-true : (bs : List Bool) → anyTrue bs ≡ true → (i : ℕ) × (i < length bs) × (getD bs i false ≡ true)
 unfolding anyTrue

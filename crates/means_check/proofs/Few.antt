@@ -76,7 +76,7 @@ count-total [] n h = sym (total-none n)
 count-total (x ∷ a) zero h = absurd (omega arith)
 count-total (x ∷ a) (suc n) h = ap (λ (z : ℕ). bit x + z) (count-total a n (omega arith))
 
--- three places of a row are set
+-- three places of a mask are set
 three-set : (a : List Bool) (i j k : ℕ) → dig a i ≡ true → dig a j ≡ true → dig a k ≡ true → (j ≡ i → ⊥) → (k ≡ i → ⊥) → (k ≡ j → ⊥) → 3 ≤ count a
 three-set a i j k p q r n m o =
     let x = count-only a i p in

@@ -159,7 +159,7 @@ module _ (d : Wire) (cs : List Loop) (taken : List Bool) where
           let opp : (j : ℕ) → dig taken j ≡ true → dig t j ≡ not (dig u j) = λ j f. xor-other (dig t j) (dig u j) (along j f ∙ e) in
           absurd (two-signs six six′ (s .iv .1) (r .iv .1) (sym (s .iv .0) ∙ six-opposite d cs taken t u opp 0 cs ∙ ap negℤ (r .iv .0)))
 
-  -- and so the rows of directions have the same digits
+  -- and so the masks of directions have the same digits
   pub directions-same : (t u : List Bool) {six six′ : ℕ} → IsSolid d cs taken t six → IsSolid d cs taken u six′ → (k : ℕ) → dig t k ≡ dig u k
   directions-same t u s r k = go (dig t k) (dig u k) refl refl
     where

@@ -21,7 +21,7 @@ use Rattle.sets.specs.Word.{dig, first}
 use Rattle.sets.proofs.Digits.{never}
 use Rattle.paper.specs.Drawing.{Wire}
 use Rattle.paper.specs.Loops.{Loop, loopAt, flipped}
-use Rattle.paper.specs.Verdict.{onward, normalForm, numberIn, rowOf, notCandidate, faceTwice}
+use Rattle.paper.specs.Verdict.{onward, normalForm, numberIn, maskOf, notCandidate, faceTwice}
 use Rattle.means_check.specs.Shape.{Normal, Candidates}
 use Rattle.means_solid.specs.Named.{SameRing, directed, Names}
 use Rattle.means_check.proofs.Rings.{same-length, flip-length}
@@ -133,24 +133,24 @@ pub candidate-is : (cs : List Loop) (f : List ℕ) (k : ℕ) → k < length cs �
 candidate-is cs f k h n (inl s) = number-in cs f k h (on-normal (loopAt cs k) n f s)
 candidate-is cs f k h n (inr s) = number-in cs f k h (back-normal (loopAt cs k) n f s)
 
--- ---- a row from the numbers
+-- ---- a mask from the numbers
 
-pub row-length : (n : ℕ) (ks : List ℕ) → length (rowOf n ks) ≡ n
-unfolding rowOf
+pub row-length : (n : ℕ) (ks : List ℕ) → length (maskOf n ks) ≡ n
+unfolding maskOf
 row-length n ks = made-length (λ k. member k ks) n
 
-row-at : (n : ℕ) (ks : List ℕ) (k : ℕ) → k < n → dig (rowOf n ks) k ≡ member k ks
-unfolding rowOf
+row-at : (n : ℕ) (ks : List ℕ) (k : ℕ) → k < n → dig (maskOf n ks) k ≡ member k ks
+unfolding maskOf
 row-at n ks k h = made-at (λ j. member j ks) n k false h
 
-pub row-yes : (n : ℕ) (ks : List ℕ) (k : ℕ) → dig (rowOf n ks) k ≡ true → (k < n) × (member k ks ≡ true)
+pub row-yes : (n : ℕ) (ks : List ℕ) (k : ℕ) → dig (maskOf n ks) k ≡ true → (k < n) × (member k ks ≡ true)
 row-yes n ks k e = go (decLt k n)
   where
     go : Dec (k < n) → (k < n) × (member k ks ≡ true)
     go (yes h) = (h, sym (row-at n ks k h) ∙ e)
-    go (no h) = never (sym e ∙ List·getD-eq-default (rowOf n ks) false (omega (arith, row-length n ks)))
+    go (no h) = never (sym e ∙ List·getD-eq-default (maskOf n ks) false (omega (arith, row-length n ks)))
 
-pub row-is : (n : ℕ) (ks : List ℕ) (k : ℕ) → k < n → member k ks ≡ true → dig (rowOf n ks) k ≡ true
+pub row-is : (n : ℕ) (ks : List ℕ) (k : ℕ) → k < n → member k ks ≡ true → dig (maskOf n ks) k ≡ true
 row-is n ks k h e = row-at n ks k h ∙ e
 
 -- ---- the faces of a list by their numbers
@@ -160,10 +160,10 @@ module _ (cs : List Loop) (fs : List Loop) where
   numbersOf = map (numberIn cs) fs
 
   abbrev pub takenOf : List Bool
-  takenOf = rowOf (length cs) (map (numberIn cs) fs)
+  takenOf = maskOf (length cs) (map (numberIn cs) fs)
 
   abbrev pub turnedOf : List Bool
-  turnedOf = rowOf (length cs) (map (numberIn cs) (filter (λ f. not (onward f)) fs))
+  turnedOf = maskOf (length cs) (map (numberIn cs) (filter (λ f. not (onward f)) fs))
 
   pub numbers-length : length (map (numberIn cs) fs) ≡ length fs
   numbers-length = length-map fs (numberIn cs)
@@ -339,7 +339,7 @@ module _ (d : Wire) (cs : List Loop) (c : Candidates d cs) where
                   size true l = flip-length l
                   size false l = refl
 
-    -- what names a selection is numbered, and its rows are the selection's
+    -- what names a selection is numbered, and its masks are the selection's
     module _ (taken turned : List Bool) (some : length taken ≡ length cs) (within : (k : ℕ) → dig turned k ≡ true → dig taken k ≡ true) (n : Names d cs taken turned fs) where
       inside : (k : ℕ) → dig taken k ≡ true → k < length cs
       inside k e = go (decLt k (length cs))

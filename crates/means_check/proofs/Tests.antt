@@ -34,7 +34,7 @@ use Rattle.means_check.proofs.Reaching.{In, On, in-place, place-in, All
 -- ---- the tables
 
 module _ (d : Wire) (cs : List Loop) where
-  rows-length : length (tablesOf d cs .rows) ≡ length (d .edges)
+  rows-length : length (tablesOf d cs .masks) ≡ length (d .edges)
   unfolding tablesOf
   rows-length = length-map (d .edges) (λ e. map (has e) cs)
 
@@ -42,7 +42,7 @@ module _ (d : Wire) (cs : List Loop) where
   unfolding tablesOf
   ups-length = length-map (d .edges) (λ e. map (runsUp e) cs)
 
-  rows-at : (e : ℕ) → e < length (d .edges) → getD (tablesOf d cs .rows) e [] ≡ map (has (edgeAt d e)) cs
+  rows-at : (e : ℕ) → e < length (d .edges) → getD (tablesOf d cs .masks) e [] ≡ map (has (edgeAt d e)) cs
   unfolding tablesOf edgeAt
   rows-at e h = map-at (λ x. map (has x) cs) (d .edges) e (edge 0 0) [] h
 
@@ -100,15 +100,15 @@ module _ (d : Wire) (cs : List Loop) where
     pub edges-two : edgeCount (tablesOf d cs) taken ≡ none → (e : ℕ) → e < length (d .edges) → InTwo d cs taken turned (edgeAt d e)
     unfolding edgeCount
     edges-two p e h =
-        let q = lowest-none (λ e. not (inTwo (getD (tablesOf d cs .rows) e []) taken)) (length (tablesOf d cs .rows)) p e (omega (arith, rows-length)) in
-        two-in (edgeAt d e) (ap (λ (r : List Bool). inTwo r taken) (sym (rows-at e h)) ∙ not-false (inTwo (getD (tablesOf d cs .rows) e []) taken) q)
+        let q = lowest-none (λ e. not (inTwo (getD (tablesOf d cs .masks) e []) taken)) (length (tablesOf d cs .masks)) p e (omega (arith, rows-length)) in
+        two-in (edgeAt d e) (ap (λ (r : List Bool). inTwo r taken) (sym (rows-at e h)) ∙ not-false (inTwo (getD (tablesOf d cs .masks) e []) taken) q)
 
-    two-edges-at : ((e : ℕ) → e < length (d .edges) → InTwo d cs taken turned (edgeAt d e)) → (e : ℕ) → e < length (d .edges) → inTwo (getD (tablesOf d cs .rows) e []) taken ≡ true
+    two-edges-at : ((e : ℕ) → e < length (d .edges) → InTwo d cs taken turned (edgeAt d e)) → (e : ℕ) → e < length (d .edges) → inTwo (getD (tablesOf d cs .masks) e []) taken ≡ true
     two-edges-at f e h = ap (λ (r : List Bool). inTwo r taken) (rows-at e h) ∙ in-two (edgeAt d e) (f e h)
 
     pub two-edges : ((e : ℕ) → e < length (d .edges) → InTwo d cs taken turned (edgeAt d e)) → edgeCount (tablesOf d cs) taken ≡ none
     unfolding edgeCount
-    two-edges f = none-lowest (λ e. not (inTwo (getD (tablesOf d cs .rows) e []) taken)) (length (tablesOf d cs .rows))
+    two-edges f = none-lowest (λ e. not (inTwo (getD (tablesOf d cs .masks) e []) taken)) (length (tablesOf d cs .masks))
         (λ e h. ap not (two-edges-at f e (omega (arith, rows-length))))
 
     -- ---- (iii)
@@ -130,19 +130,19 @@ module _ (d : Wire) (cs : List Loop) where
         go true q = goes-runs b a (loopAt cs k) q
         go false q = goes-runs a b (loopAt cs k) q
 
-    -- a row of those that run from a to b
+    -- a mask of those that run from a to b
     abbrev RowOf : ℕ → ℕ → List Bool → Type 0
-    RowOf a b row = (k : ℕ) → dig row k ≡ (dig taken k && cond (dig turned k) (runs b a (loopAt cs k)) (runs a b (loopAt cs k)))
+    RowOf a b mask = (k : ℕ) → dig mask k ≡ (dig taken k && cond (dig turned k) (runs b a (loopAt cs k)) (runs a b (loopAt cs k)))
 
-    count-once : (a b : ℕ) (row : List Bool) → RowOf a b row → count row ≡ 1 → RunOnce d cs taken turned a b
-    count-once a b row h e =
-        let o = one-of row e in
+    count-once : (a b : ℕ) (mask : List Bool) → RowOf a b mask → count mask ≡ 1 → RunOnce d cs taken turned a b
+    count-once a b mask h e =
+        let o = one-of mask e in
         let r = run-face a b (o .by) (sym (h (o .by)) ∙ o .set) in
         record { by = o .by; face = r .0; runs = r .1; only = λ k f g. o .only k (h k ∙ face-run a b k f g) }
 
-    once-count : (a b : ℕ) (row : List Bool) → RowOf a b row → RunOnce d cs taken turned a b → count row ≡ 1
-    once-count a b row h r =
-        of-one row (record { by = r .by; set = h (r .by) ∙ face-run a b (r .by) (r .face) (r .runs); only = λ k f. let g = run-face a b k (sym (h k) ∙ f) in r .only k (g .0) (g .1) })
+    once-count : (a b : ℕ) (mask : List Bool) → RowOf a b mask → RunOnce d cs taken turned a b → count mask ≡ 1
+    once-count a b mask h r =
+        of-one mask (record { by = r .by; set = h (r .by) ∙ face-run a b (r .by) (r .face) (r .runs); only = λ k f. let g = run-face a b k (sym (h k) ∙ f) in r .only k (g .0) (g .1) })
 
 ahead-one : (r q t taken : Bool) → (r ≡ true → q ≡ true → ⊥) → (((r || q) && taken) && xor r t) ≡ (taken && cond t q r)
 unfolding xor
@@ -225,18 +225,18 @@ module _ (d : Wire) (cs : List Loop) (c : Candidates d cs) (taken turned : List 
   pub edges-ways : direction (tablesOf d cs) taken turned ≡ none → (e : ℕ) → e < length (d .edges) → EachWay d cs taken turned (edgeAt d e)
   unfolding direction
   edges-ways p e h =
-      let q = lowest-none (λ e. not (onceEachWay (getD (tablesOf d cs .rows) e []) (getD (tablesOf d cs .ups) e []) taken turned)) (length (tablesOf d cs .rows)) p e (omega (arith, rows-length d cs)) in
+      let q = lowest-none (λ e. not (onceEachWay (getD (tablesOf d cs .masks) e []) (getD (tablesOf d cs .ups) e []) taken turned)) (length (tablesOf d cs .masks)) p e (omega (arith, rows-length d cs)) in
       once-ways (edgeAt d e)
       (ap₂ (λ (r u : List Bool). onceEachWay r u taken turned) (sym (rows-at d cs e h)) (sym (ups-at d cs e h))
-      ∙ not-false (onceEachWay (getD (tablesOf d cs .rows) e []) (getD (tablesOf d cs .ups) e []) taken turned) q)
+      ∙ not-false (onceEachWay (getD (tablesOf d cs .masks) e []) (getD (tablesOf d cs .ups) e []) taken turned) q)
 
   ways-at : ((e : ℕ) → e < length (d .edges) → EachWay d cs taken turned (edgeAt d e)) → (e : ℕ) → e < length (d .edges)
-      → onceEachWay (getD (tablesOf d cs .rows) e []) (getD (tablesOf d cs .ups) e []) taken turned ≡ true
+      → onceEachWay (getD (tablesOf d cs .masks) e []) (getD (tablesOf d cs .ups) e []) taken turned ≡ true
   ways-at f e h = ap₂ (λ (r u : List Bool). onceEachWay r u taken turned) (rows-at d cs e h) (ups-at d cs e h) ∙ ways-once (edgeAt d e) (f e h)
 
   pub ways-edges : ((e : ℕ) → e < length (d .edges) → EachWay d cs taken turned (edgeAt d e)) → direction (tablesOf d cs) taken turned ≡ none
   unfolding direction
-  ways-edges f = none-lowest (λ e. not (onceEachWay (getD (tablesOf d cs .rows) e []) (getD (tablesOf d cs .ups) e []) taken turned)) (length (tablesOf d cs .rows))
+  ways-edges f = none-lowest (λ e. not (onceEachWay (getD (tablesOf d cs .masks) e []) (getD (tablesOf d cs .ups) e []) taken turned)) (length (tablesOf d cs .masks))
       (λ e h. ap not (ways-at f e (omega (arith, rows-length d cs))))
 
 -- ---- (ii)
@@ -259,38 +259,38 @@ module _ (d : Wire) (cs : List Loop) (taken turned : List Bool) where
   way-back (cross w e h p f q) = way-on (cross (stay f) e h q (way-face w) p) (way-back w)
 
   module _ (two : (e : ℕ) → e < length (d .edges) → InTwo d cs taken turned (edgeAt d e)) (f : ℕ) (here : dig taken f ≡ true) where
-    same : length (tablesOf d cs .rows) ≡ length (tablesOf d cs .ups)
+    same : length (tablesOf d cs .masks) ≡ length (tablesOf d cs .ups)
     same = rows-length d cs ∙ sym (ups-length d cs)
 
-    all-two : AllTwo (tablesOf d cs .rows) taken
+    all-two : AllTwo (tablesOf d cs .masks) taken
     unfolding inTwo
-    all-two row i =
-        let r = in-place row (tablesOf d cs .rows) i in
+    all-two mask i =
+        let r = in-place mask (tablesOf d cs .masks) i in
         ap (λ (x : List Bool). count (both x taken)) (sym (r .2))
-        ∙ eqb-true (count (both (getD (tablesOf d cs .rows) (r .0) []) taken)) 2 (two-edges-at d cs taken turned two (r .0) (omega (arith, r .1, rows-length d cs)))
+        ∙ eqb-true (count (both (getD (tablesOf d cs .masks) (r .0) []) taken)) 2 (two-edges-at d cs taken turned two (r .0) (omega (arith, r .1, rows-length d cs)))
 
     pub reach-way : (k : ℕ) → dig (facesFrom f (tablesOf d cs) taken .reached) k ≡ true → Way d cs taken turned f k
     unfolding facesFrom
-    reach-way = spread-ways (tablesOf d cs .rows) taken (Way d cs taken turned f) step (count taken) (tablesOf d cs .ups) (record { reached = only f; turned = [] })
+    reach-way = spread-ways (tablesOf d cs .masks) taken (Way d cs taken turned f) step (count taken) (tablesOf d cs .ups) (record { reached = only f; turned = [] })
         (λ k p. subst (Way d cs taken turned f) (sym (dig-only f k p)) (stay here))
       where
-        step : (row : List Bool) → In row (tablesOf d cs .rows) → (g h : ℕ) → On row taken g → On row taken h → Way d cs taken turned f g → Way d cs taken turned f h
-        step row i g h p q w =
-            let r = in-place row (tablesOf d cs .rows) i in
+        step : (mask : List Bool) → In mask (tablesOf d cs .masks) → (g h : ℕ) → On mask taken g → On mask taken h → Way d cs taken turned f g → Way d cs taken turned f h
+        step mask i g h p q w =
+            let r = in-place mask (tablesOf d cs .masks) i in
             let l : r .0 < length (d .edges) = omega (arith, r .1, rows-length d cs) in
-            let e : row ≡ map (has (edgeAt d (r .0))) cs = sym (r .2) ∙ rows-at d cs (r .0) l in
+            let e : mask ≡ map (has (edgeAt d (r .0))) cs = sym (r .2) ∙ rows-at d cs (r .0) l in
             let u = on-has d cs taken turned (edgeAt d (r .0)) g (subst (λ (x : List Bool). On x taken g) e p) in
             let v = on-has d cs taken turned (edgeAt d (r .0)) h (subst (λ (x : List Bool). On x taken h) e q) in
             cross w (r .0) l (u .1) (v .0) (v .1)
 
     pub way-reach : (k : ℕ) → Way d cs taken turned f k → dig (facesFrom f (tablesOf d cs) taken .reached) k ≡ true
     unfolding facesFrom
-    way-reach k (stay h) = whole-first (tablesOf d cs .rows) (tablesOf d cs .ups) taken same all-two f here
+    way-reach k (stay h) = whole-first (tablesOf d cs .masks) (tablesOf d cs .ups) taken same all-two f here
     way-reach k (cross {k = g} w e h p q r) =
-        let on : (j : ℕ) → dig taken j ≡ true → Has d cs taken turned j (edgeAt d e) → On (getD (tablesOf d cs .rows) e []) taken j
+        let on : (j : ℕ) → dig taken j ≡ true → Has d cs taken turned j (edgeAt d e) → On (getD (tablesOf d cs .masks) e []) taken j
         = λ j t s. subst (λ (x : List Bool). On x taken j) (sym (rows-at d cs e h)) (has-on d cs taken turned (edgeAt d e) j t s) in
-        whole-edge (tablesOf d cs .rows) (tablesOf d cs .ups) taken same all-two f here (getD (tablesOf d cs .rows) e [])
-        (place-in (tablesOf d cs .rows) e (omega (arith, rows-length d cs))) g k (on g (way-face w) p) (on k q r) (way-reach g w)
+        whole-edge (tablesOf d cs .masks) (tablesOf d cs .ups) taken same all-two f here (getD (tablesOf d cs .masks) e [])
+        (place-in (tablesOf d cs .masks) e (omega (arith, rows-length d cs))) g k (on g (way-face w) p) (on k q r) (way-reach g w)
 
   -- the faces of a selection, by their numbers
   pub record Lists (ks : List ℕ) : Type 0 where

@@ -4,7 +4,7 @@ use mathlib.Core.Bool.{Bool, true}
 use mathlib.Core.List.{List}
 use Prim.Native.Nat.{ℕ}
 use lib.ListN.{length}
-use Rattle.paper.specs.Format.{one}
+use Rattle.paper.specs.Format.{editionOne}
 use Rattle.paper.specs.Refusals.{Check, firstOf}
 use Rattle.paper.specs.Drawing.{Wire, drawingChecks}
 use Rattle.paper.specs.Loops.{Loop, loops, candidates, loopChecks}
@@ -26,5 +26,5 @@ pub record Accepts (form : List Check) (d : Wire) (list : List ℕ) : Type 0 whe
   pub form-passes : firstOf form ≡ Fine
   pub drawing-passes : firstOf (drawingChecks d) ≡ Fine
   pub few : firstOf (loopChecks (loops d) (candidates d)) ≡ Fine
-  pub shape : wellShaped one (length (d .vertices)) list ≡ true
-  pub named : NamesSolid d (candidates d) (facesIn one list)
+  pub shape : wellShaped editionOne (length (d .vertices)) list ≡ true
+  pub named : NamesSolid d (candidates d) (facesIn editionOne list)

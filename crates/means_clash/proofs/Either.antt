@@ -12,7 +12,7 @@ use Rattle.lists.proofs.Passing.{any-yes, any-is}
 use Rattle.exact.proofs.Laws.{eq-of-sub, sub-of-eq}
 use Rattle.paper.specs.Points.{origin, minus, cross, det, isZero, above, isOrigin, samePoint}
 use Rattle.paper.specs.Polygon.{Polygon, normal, onePlane}
-use Rattle.paper.specs.Clash.{pierces, enters, within, inAngle, Side, to, turnsAt, pointsIn, isCorner, bends, folds, clash}
+use Rattle.paper.specs.Clash.{pierces, enters, angleHolds, inAngle, Side, to, turnsAt, pointsIn, isCorner, bends, folds, clash}
 use Rattle.paper.specs.declared.Point.{Point}
 use Rattle.means_clash.specs.Flat.{Flat}
 use Rattle.means_clash.proofs.Planes.{zero-yes, yes-zero, none-dot, plane-either}
@@ -121,7 +121,7 @@ unfolding above
 none-above z e = rw e
 
 none-angle : (a u b w : Point) → inAngle origin a u b w ≡ false
-unfolding inAngle within
+unfolding inAngle angleHolds
 none-angle a u b w =
     rw (
       none-above (det origin (minus b u) (minus a u)) (none-det (minus b u) (minus a u)),

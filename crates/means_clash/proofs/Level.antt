@@ -10,7 +10,7 @@ use Rattle.lists.proofs.Passing.{all-is}
 use Rattle.exact.proofs.Ring.{con, _⊗_, neg, ring}
 use Rattle.exact.proofs.Signs.{mul-zero}
 use Rattle.paper.specs.Points.{origin, plus, minus, dot, cross, sum, isZero, isOrigin}
-use Rattle.paper.specs.Polygon.{normal, corner, side, onePlane}
+use Rattle.paper.specs.Polygon.{normal, corner, planeSide, onePlane}
 use Rattle.paper.specs.Loops.{tilt, tilted}
 use Rattle.paper.specs.declared.Point.{Point}
 use Rattle.means_clash.specs.Flat.{Flat}
@@ -201,5 +201,5 @@ module _ (a b : Point) (r : List Point) (real : isOrigin (minus b a) ≡ false) 
       go true e = line-area (minus b a) a (minus (getD (a ∷ r) i origin) a) a r real (in-line e (a ∷ r) passed)
 
   pub tests-flat : Flat (a ∷ r)
-  unfolding onePlane side corner
-  tests-flat = all-is (λ p. isZero (side (a ∷ r) p)) origin (a ∷ r) (λ i h. yes-zero (side (a ∷ r) (getD (a ∷ r) i origin)) (each-side i h))
+  unfolding onePlane planeSide corner
+  tests-flat = all-is (λ p. isZero (planeSide (a ∷ r) p)) origin (a ∷ r) (λ i h. yes-zero (planeSide (a ∷ r) (getD (a ∷ r) i origin)) (each-side i h))

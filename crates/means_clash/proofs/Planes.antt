@@ -13,7 +13,7 @@ use Rattle.exact.proofs.Ring.{Expr, var, con, _⊗_, neg, ring}
 use Rattle.exact.proofs.Order.{square-nonneg, sum-zero}
 use Rattle.exact.proofs.Signs.{mul-zero, square-zero}
 use Rattle.paper.specs.Points.{origin, plus, minus, dot, cross, sum, isZero, isOrigin}
-use Rattle.paper.specs.Polygon.{Polygon, normal, corner, side, onePlane}
+use Rattle.paper.specs.Polygon.{Polygon, normal, corner, planeSide, onePlane}
 use Rattle.paper.specs.declared.Point.{Point}
 use Rattle.means_clash.specs.Flat.{Flat}
 use Rattle.means_clash.proofs.Combine.{combine, E3, vars, zeroE, plusE, minusE, dotE, crossE}
@@ -113,14 +113,14 @@ offset-same n p q e =
 
 plane-at : (f : Polygon) (ps : List Point) → onePlane f ps ≡ true → At (normal f) (dot (normal f) (corner f)) ps
 unfolding onePlane
-plane-at f ps e = go ps (all-yes (λ p. isZero (side f p)) origin ps e)
+plane-at f ps e = go ps (all-yes (λ p. isZero (planeSide f p)) origin ps e)
   where
-    go : (ps : List Point) → ((i : ℕ) → i < length ps → isZero (side f (getD ps i origin)) ≡ true) → At (normal f) (dot (normal f) (corner f)) ps
+    go : (ps : List Point) → ((i : ℕ) → i < length ps → isZero (planeSide f (getD ps i origin)) ≡ true) → At (normal f) (dot (normal f) (corner f)) ps
     go [] h = tt
     go (p ∷ ps) h = (off p (h 0 (omega arith)), go ps (λ i l. h (suc i) (omega arith)))
       where
-        off : (p : Point) → isZero (side f p) ≡ true → dot (normal f) p ≡ dot (normal f) (corner f)
-        off p z = same-offset (normal f) p (corner f) (zero-yes (side f p) z)
+        off : (p : Point) → isZero (planeSide f p) ≡ true → dot (normal f) p ≡ dot (normal f) (corner f)
+        off p z = same-offset (normal f) p (corner f) (zero-yes (planeSide f p) z)
 
 -- ---- if g lies in f's plane, f lies in g's
 pub at-place : (n : Point) (c : ℤ) (ps : List Point) → At n c ps → (i : ℕ) → i < length ps → dot n (getD ps i origin) ≡ c
@@ -132,8 +132,8 @@ pub none-dot : (q : Point) → dot origin q ≡ pos 0
 unfolding dot
 none-dot q = ring (q .x ∷ q .y ∷ q .z ∷ []) (dotE zeroE N) (con (pos 0)) tt
 
-none-side-zero : (p : Point) → side [] p ≡ pos 0
-unfolding side normal sides sum corner
+none-side-zero : (p : Point) → planeSide [] p ≡ pos 0
+unfolding planeSide normal sides sum corner
 none-side-zero p = none-dot (minus p origin)
 
 -- the points ps all are at one offset across n, which isn't the origin; so are those of g, and the area's direction of g is at right angles to what is across from them
@@ -142,8 +142,8 @@ area-right n real c a r h p hp =
     mul-zero (dot n n) (dot (normal (a ∷ r)) (minus p a)) (λ z. true≢false (sym (self-zero n z) ∙ real))
     (area-across n (minus p a) c (offset-same n p a (hp ∙ sym (h .0))) (a ∷ r) h)
 
-zero-side : (f : Polygon) → Flat f → isOrigin (normal f) ≡ false → (g : Polygon) → onePlane f g ≡ true → (i : ℕ) → i < length f → side g (getD f i origin) ≡ pos 0
-unfolding side corner
+zero-side : (f : Polygon) → Flat f → isOrigin (normal f) ≡ false → (g : Polygon) → onePlane f g ≡ true → (i : ℕ) → i < length f → planeSide g (getD f i origin) ≡ pos 0
+unfolding planeSide corner
 zero-side f flat real [] e i h = none-side-zero (getD f i origin)
 zero-side f flat real (a ∷ r) e i h =
     area-right (normal f) real (dot (normal f) (corner f)) a r (plane-at f (a ∷ r) e) (getD f i origin)
@@ -151,7 +151,7 @@ zero-side f flat real (a ∷ r) e i h =
 
 pub plane-back : (f g : Polygon) → Flat f → isOrigin (normal f) ≡ false → onePlane f g ≡ true → onePlane g f ≡ true
 unfolding onePlane
-plane-back f g flat real e = all-is (λ p. isZero (side g p)) origin f (λ i h. yes-zero (side g (getD f i origin)) (zero-side f flat real g e i h))
+plane-back f g flat real e = all-is (λ p. isZero (planeSide g p)) origin f (λ i h. yes-zero (planeSide g (getD f i origin)) (zero-side f flat real g e i h))
 
 pub plane-either : (f g : Polygon) → Flat f → isOrigin (normal f) ≡ false → Flat g → isOrigin (normal g) ≡ false → onePlane f g ≡ onePlane g f
 plane-either f g hf rf hg rg = go (onePlane f g) refl (onePlane g f) refl

@@ -15,7 +15,7 @@ use lib.IntN.{ℤ}
 use lib.ListN.{length, getD}
 use Rattle.paper.specs.Refusals.{firstOf}
 use Rattle.paper.specs.Sheet.{lentChecks}
-use Rattle.paper.specs.Drawing.{Wire, at, wire, samePlace, looseVertex, edgeMeets, reached, apart}
+use Rattle.paper.specs.Drawing.{Wire, at, wire, samePlace, looseVertex, edgeMeets, verticesReached, apart}
 use Rattle.paper.specs.declared.Format.{Format}
 use Rattle.paper.specs.declared.Answer.the-variants.{Fine}
 use Rattle.means_drawing.specs.Drawings.{Finds, Vertex, HasEdge, EndOf, Doubled, Loose, Meets, Reachable, Rising, Long}
@@ -56,7 +56,7 @@ module _ (d : Wire) where
 
   -- ---- 14
 
-  pub reached-means : (v : ℕ) → Vertex d v → (getD (reached d (length (d .vertices))) v false ≡ true) ↔ Reachable d v
+  pub reached-means : (v : ℕ) → Vertex d v → (getD (verticesReached d (length (d .vertices))) v false ≡ true) ↔ Reachable d v
   reached-means = marked-means d
 
   pub apart-finds : Finds (λ v. Reachable d v → ⊥) (length (d .vertices)) (apart d)

@@ -17,7 +17,7 @@ use Rattle.means_area.proofs.Flats.Choice.{Hit}
 use Rattle.means_area.proofs.Flats.Rings.{chain-split, chain-left, chain-right, chain-end, part-back, area-ear}
 use Rattle.means_area.proofs.Flats.{area-not-zero}
 use Rattle.means_inside.specs.Beams.{round, beam, facing, Off, Clear, odd, east}
-use Rattle.means_inside.specs.Regions.{Within, left, right}
+use Rattle.means_inside.specs.Regions.{InTriangle, left, right}
 use Rattle.means_inside.specs.Touch.{Touch}
 use Rattle.means_inside.proofs.Parity.{round-turned, round-cut, round-ear}
 use Rattle.means_inside.proofs.Triangle.{inn, base-a, base-b, odd-far, odd-a, odd-b, twice}
@@ -26,7 +26,7 @@ use Rattle.means_inside.proofs.Ears.{facing-back, off-back, off-or, boo
 use Rattle.means_inside.proofs.Disjoint.{turn-link}
 
 -- within a triangle, and on neither side at v
-pub within-hit : (v x y p : Flat) → (turn v x y ≡ pos 0 → ⊥) → Off p v x → Off p v y → Within v x y p → Hit v x y p
+pub within-hit : (v x y p : Flat) → (turn v x y ≡ pos 0 → ⊥) → Off p v x → Off p v y → InTriangle v x y p → Hit v x y p
 within-hit v x y p n ox oy (left a b c) = go (ways (turn v x y))
   where
     go : Up (turn v x y) ⊎ ((turn v x y ≡ pos 0) ⊎ Up (negℤ (turn v x y))) → Hit v x y p
@@ -46,13 +46,13 @@ three-turn m a b c s e =
     area-not-zero m (a ∷ b ∷ c ∷ []) (omega arith) s (area-ear a b (c ∷ []) ∙ (λ i. e i +ℤ part-back b c i))
 
 -- on the side from a to b of a triangle, in either sense
-on-side : (v a b p : Flat) → (turn v a b ≡ pos 0 → ⊥) → turn a b p ≡ pos 0 → Nn (negℤ (facing p a b)) → Within v a b p
+on-side : (v a b p : Flat) → (turn v a b ≡ pos 0 → ⊥) → turn a b p ≡ pos 0 → Nn (negℤ (facing p a b)) → InTriangle v a b p
 on-side v a b p n e f = go (ways (turn v a b))
   where
     zero : Nn (turn a b p)
     zero = nn-is (sym e) (record { le = tt })
 
-    go : Up (turn v a b) ⊎ ((turn v a b ≡ pos 0) ⊎ Up (negℤ (turn v a b))) → Within v a b p
+    go : Up (turn v a b) ⊎ ((turn v a b ≡ pos 0) ⊎ Up (negℤ (turn v a b))) → InTriangle v a b p
     go (inl D) = left (base-b v a b p D e f) zero (base-a v a b p D e f)
     go (inr (inl k)) = absurd (n k)
     go (inr (inr D)) =
@@ -62,28 +62,28 @@ on-side v a b p n e f = go (ways (turn v a b))
         right (nn-is (flip a v p) (base-a v b a p D' e' f')) (nn-is (ap negℤ (sym e)) (record { le = tt })) (nn-is (flip v b p) (base-b v b a p D' e' f'))
 
 -- the next corner first
-turn-within : (a b c p : Flat) → Within b c a p → Within a b c p
+turn-within : (a b c p : Flat) → InTriangle b c a p → InTriangle a b c p
 turn-within a b c p (left x y z) = left z x y
 turn-within a b c p (right x y z) = right z x y
 
 module _ (a b c p : Flat) (n : turn a b c ≡ pos 0 → ⊥) where
-  bc : turn b c p ≡ pos 0 → Nn (negℤ (facing p b c)) → Within a b c p
+  bc : turn b c p ≡ pos 0 → Nn (negℤ (facing p b c)) → InTriangle a b c p
   bc = on-side a b c p n
 
-  ca : turn c a p ≡ pos 0 → Nn (negℤ (facing p c a)) → Within a b c p
+  ca : turn c a p ≡ pos 0 → Nn (negℤ (facing p c a)) → InTriangle a b c p
   ca e f = turn-within a b c p (on-side b c a p (λ q. n (spin a b c ∙ q)) e f)
 
-  ab : turn a b p ≡ pos 0 → Nn (negℤ (facing p a b)) → Within a b c p
+  ab : turn a b p ≡ pos 0 → Nn (negℤ (facing p a b)) → InTriangle a b c p
   ab e f = turn-within a b c p (turn-within b c a p (on-side c a b p (λ q. n (spin a b c ∙ spin b c a ∙ q)) e f))
 
   -- odd in the triangle
-  pub odd-within : odd p (a ∷ b ∷ c ∷ []) ≡ true → Within a b c p
+  pub odd-within : odd p (a ∷ b ∷ c ∷ []) ≡ true → InTriangle a b c p
   odd-within o = go (off-or p a b) (off-or p b c) (off-or p c a)
     where
-      clear : Off p a b → Off p b c → Off p c a → Within a b c p
+      clear : Off p a b → Off p b c → Off p c a → InTriangle a b c p
       clear x y z = pick (ways (turn a b c))
         where
-          pick : Up (turn a b c) ⊎ ((turn a b c ≡ pos 0) ⊎ Up (negℤ (turn a b c))) → Within a b c p
+          pick : Up (turn a b c) ⊎ ((turn a b c ≡ pos 0) ⊎ Up (negℤ (turn a b c))) → InTriangle a b c p
           pick (inl D) = let k = clear3 a b c p x (off-back p c a z) n b c x (off-back p c a z) y in left (odd-b a b c p D k o) (odd-far a b c p D k o) (odd-a a b c p D k o)
           pick (inr (inl k)) = absurd (n k)
           pick (inr (inr D)) =
@@ -92,22 +92,22 @@ module _ (a b c p : Flat) (n : turn a b c ≡ pos 0 → ⊥) where
               let o' = sym (flip3 a b c p x (off-back p c a z) n (beam p (east p)) (beam-back p (east p))) ∙ o in
               right (nn-is (flip b a p) (odd-a a c b p D' k o')) (nn-is (flip c b p) (odd-far a c b p D' k o')) (nn-is (flip a c p) (odd-b a c b p D' k o'))
 
-      go : Off p a b ⊎ ((turn a b p ≡ pos 0) × Nn (negℤ (facing p a b))) → Off p b c ⊎ ((turn b c p ≡ pos 0) × Nn (negℤ (facing p b c))) → Off p c a ⊎ ((turn c a p ≡ pos 0) × Nn (negℤ (facing p c a))) → Within a b c p
+      go : Off p a b ⊎ ((turn a b p ≡ pos 0) × Nn (negℤ (facing p a b))) → Off p b c ⊎ ((turn b c p ≡ pos 0) × Nn (negℤ (facing p b c))) → Off p c a ⊎ ((turn c a p ≡ pos 0) × Nn (negℤ (facing p c a))) → InTriangle a b c p
       go (inr k) y z = ab (k .0) (k .1)
       go (inl x) (inr k) z = bc (k .0) (k .1)
       go (inl x) (inl y) (inr k) = ca (k .0) (k .1)
       go (inl x) (inl y) (inl z) = clear x y z
 
-  pub touch-within : Touch p (a ∷ b ∷ c ∷ []) → Within a b c p
+  pub touch-within : Touch p (a ∷ b ∷ c ∷ []) → InTriangle a b c p
   touch-within t = go (t .side)
     where
-      pair : (d e : Flat) → (turn d e p ≡ pos 0 → Nn (negℤ (facing p d e)) → Within a b c p) → Pair d e (t .a) (t .b) → Within a b c p
+      pair : (d e : Flat) → (turn d e p ≡ pos 0 → Nn (negℤ (facing p d e)) → InTriangle a b c p) → Pair d e (t .a) (t .b) → InTriangle a b c p
       pair d e f (inl q) = f ((λ i. turn (sym (q .0) i) (sym (q .1) i) p) ∙ t .line) (nn-is (λ i. negℤ (facing p (q .0 i) (q .1 i))) (t .mid))
       pair d e f (inr q) =
           f (flip d e p ∙ ap negℤ ((λ i. turn (sym (q .0) i) (sym (q .1) i) p) ∙ t .line))
           (nn-is (ap negℤ (facing-back p e d)) (nn-is (λ i. negℤ (facing p (q .0 i) (q .1 i))) (t .mid)))
 
-      go : Link (a ∷ b ∷ c ∷ []) (t .a) (t .b) → Within a b c p
+      go : Link (a ∷ b ∷ c ∷ []) (t .a) (t .b) → InTriangle a b c p
       go (inl k) = pair a b ab k
       go (inr (inl k)) = pair b c bc k
       go (inr (inr k)) = pair c a ca k
@@ -161,7 +161,7 @@ module _ (m : ℤ) (p : Flat) where
   start-here x l y r (inl o) = inl (sym (round-turned f x l y r) ∙ o)
   start-here x l y r (inr k) = at-side (x ∷ (l ++ y ∷ r)) (y ∷ (r ++ x ∷ l)) k (turn-link m x l y r (k .a) (k .b) (k .side))
 
-  pub tri-here : (a b c : Flat) → Simple m (a ∷ b ∷ c ∷ []) → Here (a ∷ b ∷ c ∷ []) → Within a b c p
+  pub tri-here : (a b c : Flat) → Simple m (a ∷ b ∷ c ∷ []) → Here (a ∷ b ∷ c ∷ []) → InTriangle a b c p
   tri-here a b c s (inl o) = odd-within a b c p (three-turn m a b c s) o
   tri-here a b c s (inr k) = touch-within a b c p (three-turn m a b c s) k
 

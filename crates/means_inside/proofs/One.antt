@@ -24,7 +24,7 @@ use Rattle.means_area.proofs.Flats.Lowest.{Split, of-split}
 use Rattle.means_area.proofs.Flats.First.{first-link, last-link, ear-simple}
 use Rattle.means_area.proofs.Space.Maps.{map-of, map-link, length-map}
 use Rattle.means_inside.specs.Beams.{round, beam, facing, Off, Clear, odd, east}
-use Rattle.means_inside.specs.Regions.{Cut, one, chord, ear, start, Within, At}
+use Rattle.means_inside.specs.Regions.{Cut, one, chord, ear, start, InTriangle, At}
 use Rattle.means_inside.specs.Touch.{Touch}
 use Rattle.means_inside.specs.Means.{big}
 use Rattle.means_inside.proofs.Parity.{round-cut}
@@ -132,12 +132,12 @@ module _ (m d : ℤ) (k : Up d) where
 
   -- ---- inside, of the larger ring
   ear-big : (u c : Flat) (l : List Flat) → 1 ≤ length l → Simple m (u ∷ c ∷ l) → Least m u (c ∷ l) → ((z : Flat) → Of z (u ∷ c ∷ l) → Hit u c (lst c l) z → ⊥) → (A : Flat → Type 0) → ((p : Flat) → Clear p (map B (c ∷ l)) → A p → odd p (map B (c ∷ l)) ≡ true)
-      → (p : Flat) → Clear p (map B (u ∷ c ∷ l)) → Within (B u) (B c) (B (lst c l)) p ⊎ A p → odd p (map B (u ∷ c ∷ l)) ≡ true
+      → (p : Flat) → Clear p (map B (u ∷ c ∷ l)) → InTriangle (B u) (B c) (B (lst c l)) p ⊎ A p → odd p (map B (u ∷ c ∷ l)) ≡ true
   ear-big u c l j s low e A f p cl t =
       let q = length-map B l in
       ear-inside m (B u) (B c) (map B l) (omega (arith, q, j)) (big-simple m d k (u ∷ c ∷ l) s) (low-big u (c ∷ l) low)
       (subst (λ (a : Flat). (z : Flat) → Of z (map B (u ∷ c ∷ l)) → Hit (B u) (B c) a z → ⊥) (sym (lst-map B c l)) (free-big (u ∷ c ∷ l) u c (lst c l) e)) A f p cl
-      (subst (λ (a : Flat). Within (B u) (B c) a p ⊎ A p) (sym (lst-map B c l)) t)
+      (subst (λ (a : Flat). InTriangle (B u) (B c) a p ⊎ A p) (sym (lst-map B c l)) t)
 
   cut-big : (u c : Flat) (X : List Flat) (w y : Flat) (Y : List Flat) → Simple m (u ∷ c ∷ (X ++ w ∷ y ∷ Y)) → Least m u (c ∷ (X ++ w ∷ y ∷ Y)) → Ok m (Link (u ∷ c ∷ (X ++ w ∷ y ∷ Y))) (λ z. Of z (u ∷ c ∷ (X ++ w ∷ y ∷ Y))) u w
       → Same (turn u c w) (turn u c (lst y Y)) → Same (turn u w (lst y Y)) (turn u c (lst y Y)) → (A C : Flat → Type 0)
@@ -209,7 +209,7 @@ module _ (m : ℤ) where
         ears : (r : List Flat) → l ≡ r → ((z : Flat) → Of z (u ∷ c ∷ l) → Hit u c (lst c l) z → ⊥) → Whole (u ∷ c ∷ l)
         ears [] q e = let j = subst (λ (r : List Flat). 1 ≤ length r) q k in absurd (omega (arith, j))
         ears (x ∷ []) q e =
-            subst (λ (r : List Flat). Simple m (u ∷ c ∷ r) → ((d : ℤ) → Up d → (p : Flat) → Clear p (map (big d) (u ∷ c ∷ r)) → Within (big d u) (big d c) (big d (lst c r)) p ⊎ ⊥ → odd p (map (big d) (u ∷ c ∷ r)) ≡ true) → Whole (u ∷ c ∷ r)) (sym q)
+            subst (λ (r : List Flat). Simple m (u ∷ c ∷ r) → ((d : ℤ) → Up d → (p : Flat) → Clear p (map (big d) (u ∷ c ∷ r)) → InTriangle (big d u) (big d c) (big d (lst c r)) p ⊎ ⊥ → odd p (map (big d) (u ∷ c ∷ r)) ≡ true) → Whole (u ∷ c ∷ r)) (sym q)
             (λ s f. record { cut = one u c x s; inside = (λ d j p cl w. f d j p cl (inl w)) }) s
             (λ d j p cl w. ear-big m d j u c l k s low e (λ z. ⊥) (λ p cl v. absurd v) p cl w)
         ears (x ∷ (y ∷ r)) q e =

@@ -17,7 +17,7 @@ use Rattle.means_area.proofs.Flats.Choice.{Hit, ear-ok}
 use Rattle.means_area.proofs.Flats.Rings.{lst-of, Sub, keep, skip, done, sub-of, sub-distinct, narrow}
 use Rattle.means_area.proofs.Flats.First.{first-link, last-link, ends-apart, only-first, not-flat}
 use Rattle.means_inside.specs.Beams.{beam, facing, Off, Clear, odd, east}
-use Rattle.means_inside.specs.Regions.{Within}
+use Rattle.means_inside.specs.Regions.{InTriangle}
 use Rattle.means_inside.proofs.Parity.{round-ear}
 use Rattle.means_inside.proofs.Segment.{beam-back}
 use Rattle.means_inside.proofs.Cap.{ear-in}
@@ -89,7 +89,7 @@ module _ (m : ℤ) where
           go (inl q) = hit p cl (odd-hit u c a p (cl u c uc) (cl u a ua) crooked o q)
           go (inr q) = round-ear (beam p (east p)) u c l (beam-back p (east p) a c) ∙ ap (λ (z : Bool). xor z (odd p (c ∷ l))) q ∙ false-xor (odd p (c ∷ l)) ∙ r
 
-      pub ear-inside : (A : Flat → Type 0) → ((p : Flat) → Clear p (c ∷ l) → A p → odd p (c ∷ l) ≡ true) → (p : Flat) → Clear p g → Within u c a p ⊎ A p → odd p g ≡ true
+      pub ear-inside : (A : Flat → Type 0) → ((p : Flat) → Clear p (c ∷ l) → A p → odd p (c ∷ l) ≡ true) → (p : Flat) → Clear p g → InTriangle u c a p ⊎ A p → odd p g ≡ true
       ear-inside A f p cl (inl w) = hit p cl (within-hit u c a p crooked (cl u c uc) (cl u a ua) w)
       ear-inside A f p cl (inr w) = pick (off-or p c a)
         where

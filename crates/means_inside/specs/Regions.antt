@@ -16,9 +16,9 @@ pub data Cut (m : ℤ) : List Flat → Type 0 where
   start : (x : Flat) (l : List Flat) (y : Flat) (r : List Flat) → Cut m (y ∷ (r ++ x ∷ l)) → Cut m (x ∷ (l ++ y ∷ r))
 
 -- p is in the triangle a b c or on its border: the three turns are of one sign, or 0
-pub data Within (a b c p : Flat) : Type 0 where
-  left : Nn (turn a b p) → Nn (turn b c p) → Nn (turn c a p) → Within a b c p
-  right : Nn (negℤ (turn a b p)) → Nn (negℤ (turn b c p)) → Nn (negℤ (turn c a p)) → Within a b c p
+pub data InTriangle (a b c p : Flat) : Type 0 where
+  left : Nn (turn a b p) → Nn (turn b c p) → Nn (turn c a p) → InTriangle a b c p
+  right : Nn (negℤ (turn a b p)) → Nn (negℤ (turn b c p)) → Nn (negℤ (turn c a p)) → InTriangle a b c p
 
 -- a test of the sides, summed up over the triangles
 abbrev pub hits : {m : ℤ} {g : List Flat} → (Flat → Flat → Bool) → Cut m g → Bool
@@ -29,7 +29,7 @@ hits f (start x l y r t) = hits f t
 
 -- it is in one of the triangles, each corner a taken as f a: for a point p / d, f a is a, d times as large
 abbrev pub At : {m : ℤ} {g : List Flat} → (Flat → Flat) → Cut m g → Flat → Type 0
-At f (one a b c s) p = Within (f a) (f b) (f c) p
+At f (one a b c s) p = InTriangle (f a) (f b) (f c) p
 At f (chord u l w r s x y) p = At f x p ⊎ At f y p
-At f (ear u c l s t x) p = Within (f u) (f c) (f (lst c l)) p ⊎ At f x p
+At f (ear u c l s t x) p = InTriangle (f u) (f c) (f (lst c l)) p ⊎ At f x p
 At f (start x l y r t) p = At f t p

@@ -63,39 +63,39 @@ picked false true false d v e = let z : _≡_ {A = ℕ} 0 1 = cc in absurd (omeg
 picked false true true false v e = let z : _≡_ {A = ℕ} 0 1 = cc in absurd (omega arith)
 picked false true true true v e = (refl, refl, refl, refl, e)
 
-module _ (t : Tables) (taken : List Bool) (same : length (t .rows) ≡ length (t .ups)) (two : InTwo (t .rows) taken) where
+module _ (t : Tables) (taken : List Bool) (same : length (t .masks) ≡ length (t .ups)) (two : InTwo (t .masks) taken) where
   pub judged-solid : {ts : List Bool} {v : ℕ} → judged t taken ≡ Solid ts v → IsSolid t taken ts v
   unfolding judged facesFrom faces
   judged-solid {ts} {v} e =
-      let q = picked (eqb (count taken) 0) (connected taken (faces (t .rows) (t .ups) taken)) (oriented (t .rows) (t .ups) taken (faces (t .rows) (t .ups) taken .turned)) (clearFrom 0 (t .clashes) taken)
-      (weighed taken (faces (t .rows) (t .ups) taken .turned) (sixFrom 0 (t .sixes) taken (faces (t .rows) (t .ups) taken .turned))) e in
-      go (sixFrom 0 (t .sixes) taken (faces (t .rows) (t .ups) taken .turned)) refl (q .4)
-      (connected-ways (t .rows) (t .ups) taken same two (eqb-false (count taken) 0 (q .0)) (q .1)) (q .2) (q .3)
+      let q = picked (eqb (count taken) 0) (connected taken (faces (t .masks) (t .ups) taken)) (oriented (t .masks) (t .ups) taken (faces (t .masks) (t .ups) taken .turned)) (clearFrom 0 (t .clashes) taken)
+      (weighed taken (faces (t .masks) (t .ups) taken .turned) (sixFrom 0 (t .sixes) taken (faces (t .masks) (t .ups) taken .turned))) e in
+      go (sixFrom 0 (t .sixes) taken (faces (t .masks) (t .ups) taken .turned)) refl (q .4)
+      (connected-ways (t .masks) (t .ups) taken same two (eqb-false (count taken) 0 (q .0)) (q .1)) (q .2) (q .3)
     where
-      go : (z : ℤ) → sixFrom 0 (t .sixes) taken (faces (t .rows) (t .ups) taken .turned) ≡ z → weighed taken (faces (t .rows) (t .ups) taken .turned) z ≡ Solid ts v
-          → Connected (t .rows) taken → oriented (t .rows) (t .ups) taken (faces (t .rows) (t .ups) taken .turned) ≡ true → clearFrom 0 (t .clashes) taken ≡ true → IsSolid t taken ts v
+      go : (z : ℤ) → sixFrom 0 (t .sixes) taken (faces (t .masks) (t .ups) taken .turned) ≡ z → weighed taken (faces (t .masks) (t .ups) taken .turned) z ≡ Solid ts v
+          → Connected (t .masks) taken → oriented (t .masks) (t .ups) taken (faces (t .masks) (t .ups) taken .turned) ≡ true → clearFrom 0 (t .clashes) taken ≡ true → IsSolid t taken ts v
       go (pos zero) p w c o a = let z : _≡_ {A = ℕ} 0 1 = cc in absurd (omega arith)
       go (pos (suc n)) p w c o a =
-          let d : faces (t .rows) (t .ups) taken .turned ≡ ts = cc in
+          let d : faces (t .masks) (t .ups) taken .turned ≡ ts = cc in
           let m : suc n ≡ v = cc in
           record {
             joined = c;
-            directed = ap (oriented (t .rows) (t .ups) taken) (sym d) ∙ o;
+            directed = ap (oriented (t .masks) (t .ups) taken) (sym d) ∙ o;
             apart = a;
             volume = ap (sixFrom 0 (t .sixes) taken) (sym d) ∙ p ∙ ap pos m;
             above = omega arith;
           }
       go (negsuc n) p w c o a =
-          let d : less taken (faces (t .rows) (t .ups) taken .turned) ≡ ts = cc in
+          let d : less taken (faces (t .masks) (t .ups) taken .turned) ≡ ts = cc in
           let m : suc n ≡ v = cc in
-          let opp : Opposite taken (less taken (faces (t .rows) (t .ups) taken .turned)) (faces (t .rows) (t .ups) taken .turned) = turned-opposite taken (faces (t .rows) (t .ups) taken .turned) in
+          let opp : Opposite taken (less taken (faces (t .masks) (t .ups) taken .turned)) (faces (t .masks) (t .ups) taken .turned) = turned-opposite taken (faces (t .masks) (t .ups) taken .turned) in
           record {
             joined = c;
-            directed = ap (oriented (t .rows) (t .ups) taken) (sym d)
-                ∙ oriented-opposite taken (less taken (faces (t .rows) (t .ups) taken .turned)) (faces (t .rows) (t .ups) taken .turned) opp (t .rows) (t .ups) ∙ o;
+            directed = ap (oriented (t .masks) (t .ups) taken) (sym d)
+                ∙ oriented-opposite taken (less taken (faces (t .masks) (t .ups) taken .turned)) (faces (t .masks) (t .ups) taken .turned) opp (t .masks) (t .ups) ∙ o;
             apart = a;
             volume = ap (sixFrom 0 (t .sixes) taken) (sym d)
-                ∙ six-opposite taken (less taken (faces (t .rows) (t .ups) taken .turned)) (faces (t .rows) (t .ups) taken .turned) opp 0 (t .sixes) ∙ ap negℤ p ∙ ap pos m;
+                ∙ six-opposite taken (less taken (faces (t .masks) (t .ups) taken .turned)) (faces (t .masks) (t .ups) taken .turned) opp 0 (t .sixes) ∙ ap negℤ p ∙ ap pos m;
             above = omega arith;
           }
 
@@ -103,43 +103,43 @@ module _ (t : Tables) (taken : List Bool) (same : length (t .rows) ≡ length (t
   unfolding judged facesFrom faces
   solid-judged {ts} {v} s =
       let some : count taken ≡ 0 → ⊥ = λ e. zero-not (sym (six-none taken ts (count-none taken e) 0 (t .sixes)) ∙ s .volume) (s .above) in
-      let c : connected taken (faces (t .rows) (t .ups) taken) ≡ true = ways-connected (t .rows) (t .ups) taken same two some (s .joined) in
-      let d = directions (t .rows) (t .ups) taken c ts (s .directed) in
+      let c : connected taken (faces (t .masks) (t .ups) taken) ≡ true = ways-connected (t .masks) (t .ups) taken same two some (s .joined) in
+      let d = directions (t .masks) (t .ups) taken c ts (s .directed) in
       rw (ne-eqb (count taken) 0 some, c, d .0, s .apart) (go v (s .above) (s .volume) (d .1))
     where
       zero-not : pos 0 ≡ pos v → 0 < v → ⊥
       zero-not e h = let z : 0 ≡ v = cc in omega arith
 
-      go : (n : ℕ) → 0 < n → sixFrom 0 (t .sixes) taken ts ≡ pos n → Alike taken ts (faces (t .rows) (t .ups) taken .turned) ⊎ Opposite taken ts (faces (t .rows) (t .ups) taken .turned)
-          → (us : List Bool) × (weighed taken (faces (t .rows) (t .ups) taken .turned) (sixFrom 0 (t .sixes) taken (faces (t .rows) (t .ups) taken .turned)) ≡ Solid us n) × Alike taken ts us
+      go : (n : ℕ) → 0 < n → sixFrom 0 (t .sixes) taken ts ≡ pos n → Alike taken ts (faces (t .masks) (t .ups) taken .turned) ⊎ Opposite taken ts (faces (t .masks) (t .ups) taken .turned)
+          → (us : List Bool) × (weighed taken (faces (t .masks) (t .ups) taken .turned) (sixFrom 0 (t .sixes) taken (faces (t .masks) (t .ups) taken .turned)) ≡ Solid us n) × Alike taken ts us
       go zero h e d = absurd (omega arith)
       go (suc n) h e (inl a) = (
-        faces (t .rows) (t .ups) taken .turned,
-        ap (weighed taken (faces (t .rows) (t .ups) taken .turned)) (sym (six-alike taken ts (faces (t .rows) (t .ups) taken .turned) a 0 (t .sixes)) ∙ e),
+        faces (t .masks) (t .ups) taken .turned,
+        ap (weighed taken (faces (t .masks) (t .ups) taken .turned)) (sym (six-alike taken ts (faces (t .masks) (t .ups) taken .turned) a 0 (t .sixes)) ∙ e),
         a,
       )
       go (suc n) h e (inr a) = (
-        less taken (faces (t .rows) (t .ups) taken .turned),
-        ap (weighed taken (faces (t .rows) (t .ups) taken .turned))
-            (sym (negℤ-negℤ (sixFrom 0 (t .sixes) taken (faces (t .rows) (t .ups) taken .turned)))
-            ∙ ap negℤ (sym (six-opposite taken ts (faces (t .rows) (t .ups) taken .turned) a 0 (t .sixes)) ∙ e)),
-        λ k p. a k p ∙ sym (turned-opposite taken (faces (t .rows) (t .ups) taken .turned) k p),
+        less taken (faces (t .masks) (t .ups) taken .turned),
+        ap (weighed taken (faces (t .masks) (t .ups) taken .turned))
+            (sym (negℤ-negℤ (sixFrom 0 (t .sixes) taken (faces (t .masks) (t .ups) taken .turned)))
+            ∙ ap negℤ (sym (six-opposite taken ts (faces (t .masks) (t .ups) taken .turned) a 0 (t .sixes)) ∙ e)),
+        λ k p. a k p ∙ sym (turned-opposite taken (faces (t .masks) (t .ups) taken .turned) k p),
       )
 
 -- only taken faces are turned
 pub judged-within : (t : Tables) (taken : List Bool) {ts : List Bool} {v : ℕ} → judged t taken ≡ Solid ts v → Sub ts taken
 unfolding judged facesFrom faces
 judged-within t taken {ts} {v} e =
-    let q = picked (eqb (count taken) 0) (connected taken (faces (t .rows) (t .ups) taken)) (oriented (t .rows) (t .ups) taken (faces (t .rows) (t .ups) taken .turned)) (clearFrom 0 (t .clashes) taken)
-    (weighed taken (faces (t .rows) (t .ups) taken .turned) (sixFrom 0 (t .sixes) taken (faces (t .rows) (t .ups) taken .turned))) e in
-    go (sixFrom 0 (t .sixes) taken (faces (t .rows) (t .ups) taken .turned)) (q .4) (eqb-false (count taken) 0 (q .0))
+    let q = picked (eqb (count taken) 0) (connected taken (faces (t .masks) (t .ups) taken)) (oriented (t .masks) (t .ups) taken (faces (t .masks) (t .ups) taken .turned)) (clearFrom 0 (t .clashes) taken)
+    (weighed taken (faces (t .masks) (t .ups) taken .turned) (sixFrom 0 (t .sixes) taken (faces (t .masks) (t .ups) taken .turned))) e in
+    go (sixFrom 0 (t .sixes) taken (faces (t .masks) (t .ups) taken .turned)) (q .4) (eqb-false (count taken) 0 (q .0))
   where
-    go : (z : ℤ) → weighed taken (faces (t .rows) (t .ups) taken .turned) z ≡ Solid ts v → (count taken ≡ 0 → ⊥) → Sub ts taken
+    go : (z : ℤ) → weighed taken (faces (t .masks) (t .ups) taken .turned) z ≡ Solid ts v → (count taken ≡ 0 → ⊥) → Sub ts taken
     go (pos zero) w s = let z : _≡_ {A = ℕ} 0 1 = cc in absurd (omega arith)
     go (pos (suc n)) w s =
-        let d : faces (t .rows) (t .ups) taken .turned ≡ ts = cc in
-        λ k h. turned-taken (t .rows) (t .ups) taken s k (ap (λ (x : List Bool). dig x k) d ∙ h)
+        let d : faces (t .masks) (t .ups) taken .turned ≡ ts = cc in
+        λ k h. turned-taken (t .masks) (t .ups) taken s k (ap (λ (x : List Bool). dig x k) d ∙ h)
     go (negsuc n) w s =
-        let d : less taken (faces (t .rows) (t .ups) taken .turned) ≡ ts = cc in
-        λ k h. and-left (dig taken k) (not (dig (faces (t .rows) (t .ups) taken .turned) k))
-        (sym (dig-less taken (faces (t .rows) (t .ups) taken .turned) k) ∙ ap (λ (x : List Bool). dig x k) d ∙ h)
+        let d : less taken (faces (t .masks) (t .ups) taken .turned) ≡ ts = cc in
+        λ k h. and-left (dig taken k) (not (dig (faces (t .masks) (t .ups) taken .turned) k))
+        (sym (dig-less taken (faces (t .masks) (t .ups) taken .turned) k) ∙ ap (λ (x : List Bool). dig x k) d ∙ h)

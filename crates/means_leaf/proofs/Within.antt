@@ -7,7 +7,7 @@ use native.Mathlib.Decide.{ℕ-discrete}
 use lib.Dec.{eqb}
 use Rattle.sets.specs.Word.{dig, Sub, count, first}
 use Rattle.sets.proofs.Digits.{never, dig-only, first-in}
-use Rattle.paper.specs.Solids.{Reach, fresh, known, runsDown, over, pass, spread}
+use Rattle.paper.specs.Solids.{Reach, fresh, known, runsDown, acrossEdge, pass, spread}
 use Rattle.means_leaf.specs.Meaning.{start, faces}
 use Rattle.means_leaf.proofs.Forced.{over-not, reached-dig, turned-dig}
 use Rattle.means_leaf.proofs.Reaches.{pass-taken}
@@ -15,8 +15,8 @@ use Rattle.means_leaf.proofs.Reaches.{pass-taken}
 abbrev Fit : Reach → Type 0
 Fit r = Sub (r .turned) (r .reached)
 
-over-fit : (row up taken : List Bool) (r : Reach) → Fit r → Fit (over row up taken r)
-over-fit row up taken r f = go (ℕ-discrete (count (known row taken r)) 1)
+over-fit : (mask up taken : List Bool) (r : Reach) → Fit r → Fit (acrossEdge mask up taken r)
+over-fit mask up taken r f = go (ℕ-discrete (count (known mask taken r)) 1)
   where
     more : (x y z p : Bool) → (x ≡ true → z ≡ true) → (x || (y && p)) ≡ true → (z || y) ≡ true
     more x y true p a e = refl
@@ -24,35 +24,35 @@ over-fit row up taken r f = go (ℕ-discrete (count (known row taken r)) 1)
     more true false false p a e = never (sym (a refl))
     more false false false p a e = e
 
-    go : Dec (count (known row taken r) ≡ 1) → Fit (over row up taken r)
-    go (yes e) = λ k h. reached-dig row up taken r e k
-        ∙ more (dig (r .turned) k) (dig (fresh row taken r) k) (dig (r .reached) k) (cond (runsDown row up taken r) (not (dig up k)) (dig up k)) (f k) (sym (turned-dig row up taken r e k) ∙ h)
-    go (no n) = subst Fit (sym (over-not row up taken r n)) f
+    go : Dec (count (known mask taken r) ≡ 1) → Fit (acrossEdge mask up taken r)
+    go (yes e) = λ k h. reached-dig mask up taken r e k
+        ∙ more (dig (r .turned) k) (dig (fresh mask taken r) k) (dig (r .reached) k) (cond (runsDown mask up taken r) (not (dig up k)) (dig up k)) (f k) (sym (turned-dig mask up taken r e k) ∙ h)
+    go (no n) = subst Fit (sym (over-not mask up taken r n)) f
 
-pass-fit : (rows ups : List (List Bool)) (taken : List Bool) (r : Reach) → Fit r → Fit (pass rows ups taken r)
+pass-fit : (masks ups : List (List Bool)) (taken : List Bool) (r : Reach) → Fit r → Fit (pass masks ups taken r)
 unfolding pass
 pass-fit [] ups taken r f = f
-pass-fit (row ∷ rows) [] taken r f = f
-pass-fit (row ∷ rows) (up ∷ ups) taken r f = pass-fit rows ups taken (over row up taken r) (over-fit row up taken r f)
+pass-fit (mask ∷ masks) [] taken r f = f
+pass-fit (mask ∷ masks) (up ∷ ups) taken r f = pass-fit masks ups taken (acrossEdge mask up taken r) (over-fit mask up taken r f)
 
 abbrev Safe : List Bool → Reach → Type 0
 Safe taken r = Fit r × Sub (r .reached) taken
 
-spread-safe : (n : ℕ) (rows ups : List (List Bool)) (taken : List Bool) (r : Reach) → Safe taken r → Safe taken (spread n rows ups taken r)
+spread-safe : (n : ℕ) (masks ups : List (List Bool)) (taken : List Bool) (r : Reach) → Safe taken r → Safe taken (spread n masks ups taken r)
 unfolding spread
-spread-safe zero rows ups taken r f = f
-spread-safe (suc n) rows ups taken r f =
-    let next : Safe taken (pass rows ups taken r) = (pass-fit rows ups taken r (f .0), pass-taken rows ups taken r (f .1)) in
-    go (eqb (count (pass rows ups taken r .reached)) (count (r .reached))) next (spread-safe n rows ups taken (pass rows ups taken r) next)
+spread-safe zero masks ups taken r f = f
+spread-safe (suc n) masks ups taken r f =
+    let next : Safe taken (pass masks ups taken r) = (pass-fit masks ups taken r (f .0), pass-taken masks ups taken r (f .1)) in
+    go (eqb (count (pass masks ups taken r .reached)) (count (r .reached))) next (spread-safe n masks ups taken (pass masks ups taken r) next)
   where
-    go : (b : Bool) → Safe taken (pass rows ups taken r) → Safe taken (spread n rows ups taken (pass rows ups taken r))
-        → Safe taken (cond b (pass rows ups taken r) (spread n rows ups taken (pass rows ups taken r)))
+    go : (b : Bool) → Safe taken (pass masks ups taken r) → Safe taken (spread n masks ups taken (pass masks ups taken r))
+        → Safe taken (cond b (pass masks ups taken r) (spread n masks ups taken (pass masks ups taken r)))
     go true p q = p
     go false p q = q
 
-pub turned-taken : (rows ups : List (List Bool)) (taken : List Bool) → (count taken ≡ 0 → ⊥) → Sub (faces rows ups taken .turned) taken
+pub turned-taken : (masks ups : List (List Bool)) (taken : List Bool) → (count taken ≡ 0 → ⊥) → Sub (faces masks ups taken .turned) taken
 unfolding faces
-turned-taken rows ups taken some k h =
-    let s = spread-safe (count taken) rows ups taken (start taken)
+turned-taken masks ups taken some k h =
+    let s = spread-safe (count taken) masks ups taken (start taken)
     (λ j p. never (sym p), λ j p. subst (λ (x : ℕ). dig taken x ≡ true) (sym (dig-only (first taken) j p)) (first-in taken some)) in
     s .1 k (s .0 k h)

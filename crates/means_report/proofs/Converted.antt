@@ -11,7 +11,7 @@ use Rattle.lists.specs.Lists.{filter}
 use Rattle.paper.specs.Numbers.{mostSolids}
 use Rattle.paper.specs.Refusals as No
 use Rattle.paper.specs.Refusals.{Check, firstOf}
-use Rattle.paper.specs.Format.{one, coordinatesIn, endsIn}
+use Rattle.paper.specs.Format.{editionOne, coordinatesIn, endsIn}
 use Rattle.paper.specs.Sheet.{sheetChecks, lentChecks}
 use Rattle.paper.specs.Drawing.{Wire, wire, drawingChecks}
 use Rattle.paper.specs.Loops.{loops, candidates, loopChecks}
@@ -36,7 +36,7 @@ use Rattle.means_report.proofs.Report.{Tells, Unrefused, Sound, convers
 
 -- every drawing has its walk
 pub the-walk : (d : Wire) → WalkTree d (candidates d)
-the-walk d = tree (tablesOf d (candidates d) .rows) (replicate (length (candidates d)) Undecided)
+the-walk d = tree (tablesOf d (candidates d) .masks) (replicate (length (candidates d)) Undecided)
 
 module _ (d : Wire) (t : WalkTree d (candidates d)) where
   -- where there is no ninth solid, the walk to it is the whole walk
@@ -44,7 +44,7 @@ module _ (d : Wire) (t : WalkTree d (candidates d)) where
   unfolding walked
   no-ninth h =
       let f : length (filter (accepted (tablesOf d (candidates d))) (leaves t)) ≤ mostSolids = omega (arith, length-map (filter (accepted (tablesOf d (candidates d))) (leaves t)) (entry (tablesOf d (candidates d)))) in
-      whole-cap (accepted (tablesOf d (candidates d))) (length (candidates d)) (tablesOf d (candidates d) .rows) t mostSolids 0 f
+      whole-cap (accepted (tablesOf d (candidates d))) (length (candidates d)) (tablesOf d (candidates d) .masks) t mostSolids 0 f
 
   -- and it is never more than that
   pub ninth-least : workToNinth d t ≤ assumptions t
@@ -115,16 +115,16 @@ module _ (d : Wire) (t : WalkTree d (candidates d)) (form : List Check) (limit :
 
 -- two lists of numbers; a sheet
 pub lists-tell : (xyz : List ℤ) (ends : List ℕ) (limit : ℕ) (faces solids : List ℕ) (t : WalkTree (wire xyz ends) (candidates (wire xyz ends)))
-    → Unrefused (wire xyz ends) t limit faces solids (lentChecks one xyz ends) → Sound (wire xyz ends) t limit faces solids (convertLists xyz ends limit faces solids)
+    → Unrefused (wire xyz ends) t limit faces solids (lentChecks editionOne xyz ends) → Sound (wire xyz ends) t limit faces solids (convertLists xyz ends limit faces solids)
 unfolding convertLists
-lists-tell xyz ends limit faces solids t h = conversion-sound (wire xyz ends) t limit faces solids (lentChecks one xyz ends) h
+lists-tell xyz ends limit faces solids t h = conversion-sound (wire xyz ends) t limit faces solids (lentChecks editionOne xyz ends) h
 
 pub sheet-tells : (s : List ℕ) (limit : ℕ) (faces solids : List ℕ)
-    (t : WalkTree (wire (coordinatesIn one s) (endsIn one s)) (candidates (wire (coordinatesIn one s) (endsIn one s))))
-    → Unrefused (wire (coordinatesIn one s) (endsIn one s)) t limit faces solids (sheetChecks one s)
-    → Sound (wire (coordinatesIn one s) (endsIn one s)) t limit faces solids (convertSheet s limit faces solids)
+    (t : WalkTree (wire (coordinatesIn editionOne s) (endsIn editionOne s)) (candidates (wire (coordinatesIn editionOne s) (endsIn editionOne s))))
+    → Unrefused (wire (coordinatesIn editionOne s) (endsIn editionOne s)) t limit faces solids (sheetChecks editionOne s)
+    → Sound (wire (coordinatesIn editionOne s) (endsIn editionOne s)) t limit faces solids (convertSheet s limit faces solids)
 unfolding convertSheet
-sheet-tells s limit faces solids t h = conversion-sound (wire (coordinatesIn one s) (endsIn one s)) t limit faces solids (sheetChecks one s) h
+sheet-tells s limit faces solids t h = conversion-sound (wire (coordinatesIn editionOne s) (endsIn editionOne s)) t limit faces solids (sheetChecks editionOne s) h
 
 -- a higher limit changes no answer but 19: where neither limit is refused and the lower did not cut the walk
 pub higher-converts : (d : Wire) (t : WalkTree d (candidates d)) (form : List Check) (a b : ℕ) (faces solids : List ℕ) → a ≤ b
@@ -134,10 +134,10 @@ pub higher-converts : (d : Wire) (t : WalkTree d (candidates d)) (form : List Ch
 unfolding conversion candidates
 higher-converts d t form a b faces solids h ua ub w =
     rw (ua, ub) (ap (λ (log : Log). concluded (length (loops d)) (candidates d) (tablesOf d (candidates d)) log faces solids)
-    (higher-limit mostSolids (accepted (tablesOf d (candidates d))) a b h (length (candidates d)) (tablesOf d (candidates d) .rows) (λ e. not-long e)))
+    (higher-limit mostSolids (accepted (tablesOf d (candidates d))) a b h (length (candidates d)) (tablesOf d (candidates d) .masks) (λ e. not-long e)))
   where
-    not-long : search mostSolids (accepted (tablesOf d (candidates d))) a (length (candidates d)) (tablesOf d (candidates d) .rows) .ended ≡ No.TooLong → ⊥
-    not-long e = omega (arith, ended-long (accepted (tablesOf d (candidates d))) (length (candidates d)) (tablesOf d (candidates d) .rows) t mostSolids a e .long)
+    not-long : search mostSolids (accepted (tablesOf d (candidates d))) a (length (candidates d)) (tablesOf d (candidates d) .masks) .ended ≡ No.TooLong → ⊥
+    not-long e = omega (arith, ended-long (accepted (tablesOf d (candidates d))) (length (candidates d)) (tablesOf d (candidates d) .masks) t mostSolids a e .long)
 
 -- ---- an answer that is no refusal is told
 module _ (d : Wire) (t : WalkTree d (candidates d)) (form : List Check) (limit : ℕ) (faces solids : List ℕ) where
@@ -154,11 +154,11 @@ pub lists-unrefused : (xyz : List ℤ) (ends : List ℕ) (limit : ℕ) (faces so
     → ((x : Refusal) → convertLists xyz ends limit faces solids .answer ≡ Conversion.Refused x → ⊥)
     → Sound (wire xyz ends) (the-walk (wire xyz ends)) limit faces solids (convertLists xyz ends limit faces solids)
 unfolding convertLists
-lists-unrefused xyz ends limit faces solids f = conversion-unrefused (wire xyz ends) (the-walk (wire xyz ends)) (lentChecks one xyz ends) limit faces solids f
+lists-unrefused xyz ends limit faces solids f = conversion-unrefused (wire xyz ends) (the-walk (wire xyz ends)) (lentChecks editionOne xyz ends) limit faces solids f
 
 pub sheet-unrefused : (s : List ℕ) (limit : ℕ) (faces solids : List ℕ)
     → ((x : Refusal) → convertSheet s limit faces solids .answer ≡ Conversion.Refused x → ⊥)
-    → Sound (wire (coordinatesIn one s) (endsIn one s)) (the-walk (wire (coordinatesIn one s) (endsIn one s))) limit faces solids (convertSheet s limit faces solids)
+    → Sound (wire (coordinatesIn editionOne s) (endsIn editionOne s)) (the-walk (wire (coordinatesIn editionOne s) (endsIn editionOne s))) limit faces solids (convertSheet s limit faces solids)
 unfolding convertSheet
 sheet-unrefused s limit faces solids f =
-    conversion-unrefused (wire (coordinatesIn one s) (endsIn one s)) (the-walk (wire (coordinatesIn one s) (endsIn one s))) (sheetChecks one s) limit faces solids f
+    conversion-unrefused (wire (coordinatesIn editionOne s) (endsIn editionOne s)) (the-walk (wire (coordinatesIn editionOne s) (endsIn editionOne s))) (sheetChecks editionOne s) limit faces solids f

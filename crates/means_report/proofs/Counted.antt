@@ -61,7 +61,7 @@ module _ (d : Wire) (cs : List Loop) where
   pub as-many : (es fs : List Entry) → Listed d cs es → Listed d cs fs → length es ≡ length fs
   as-many es fs l m = omega (arith, no-more es fs l m, no-more fs es m l)
 
--- ---- a row of yes and no is told by its word and its length; directions by their word
+-- ---- a mask of yes and no is told by its word and its length; directions by their word
 pub word-same : (a b : List Bool) → word a ≡ word b → Same a b
 word-same a b e k = sym (digit-word a k) ∙ ap (λ (w : ℕ). digit w k) e ∙ digit-word b k
 

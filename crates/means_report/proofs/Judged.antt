@@ -21,12 +21,12 @@ use Rattle.means_solid.specs.Solid.{Face, InTwo, Way, stay, cross, IsSolid}
 use Rattle.means_report.specs.Proper.{Fair, Same}
 use Rattle.means_report.proofs.Rows.{taken-in, on-told, told-on, two-told, told-two, each-told, told-each, six-told, clear-told, told-clear}
 
--- ---- the rows are those of the edges
+-- ---- the masks are those of the edges
 module _ (g : Edge → List Bool) where
-  in-edge : (es : List Edge) (row : List Bool) → Rows.In row (map g es) → (e : ℕ) × (e < length es) × (row ≡ g (getD es e (edge 0 0)))
-  in-edge [] row i = absurd i
-  in-edge (x ∷ es) row (inl p) = (0, omega arith, p)
-  in-edge (x ∷ es) row (inr i) = let r = in-edge es row i in (suc (r .0), (let l = r .1 in omega arith), r .2)
+  in-edge : (es : List Edge) (mask : List Bool) → Rows.In mask (map g es) → (e : ℕ) × (e < length es) × (mask ≡ g (getD es e (edge 0 0)))
+  in-edge [] mask i = absurd i
+  in-edge (x ∷ es) mask (inl p) = (0, omega arith, p)
+  in-edge (x ∷ es) mask (inr i) = let r = in-edge es mask i in (suc (r .0), (let l = r .1 in omega arith), r .2)
 
   edge-in : (es : List Edge) (e : ℕ) → e < length es → Rows.In (g (getD es e (edge 0 0))) (map g es)
   edge-in [] e h = absurd (omega arith)
@@ -47,33 +47,33 @@ module _ (g h : Edge → List Bool) (taken turned : List Bool) where
   each-oriented (x ∷ es) f = rw (f 0 (omega arith)) (each-oriented es (λ e l. f (suc e) (omega arith)))
 
 module _ (d : Wire) (cs : List Loop) (taken turned : List Bool) where
-  abbrev edgeRow : Edge → List Bool
-  edgeRow e = map (has e) cs
+  abbrev edgeMask : Edge → List Bool
+  edgeMask e = map (has e) cs
 
-  abbrev edgeRows : List (List Bool)
-  edgeRows = map (λ e. map (has e) cs) (d .edges)
+  abbrev edgeMasks : List (List Bool)
+  edgeMasks = map (λ e. map (has e) cs) (d .edges)
 
   -- (i)
   abbrev pub EachTwo : Type 0
   EachTwo = (e : ℕ) → e < length (d .edges) → InTwo d cs taken turned (edgeAt d e)
 
-  pub two-rows : EachTwo → Rows.InTwo edgeRows taken
+  pub two-rows : EachTwo → Rows.InTwo edgeMasks taken
   unfolding edgeAt
-  two-rows f row i =
-      let r = in-edge edgeRow (d .edges) row i in
+  two-rows f mask i =
+      let r = in-edge edgeMask (d .edges) mask i in
       ap (λ (x : List Bool). count (both x taken)) (r .2) ∙ told-two d cs taken turned (getD (d .edges) (r .0) (edge 0 0)) (f (r .0) (r .1))
 
-  pub rows-two : Rows.InTwo edgeRows taken → EachTwo
+  pub rows-two : Rows.InTwo edgeMasks taken → EachTwo
   unfolding edgeAt
-  rows-two f e l = two-told d cs taken turned (getD (d .edges) e (edge 0 0)) (f (edgeRow (getD (d .edges) e (edge 0 0))) (edge-in edgeRow (d .edges) e l))
+  rows-two f e l = two-told d cs taken turned (getD (d .edges) e (edge 0 0)) (f (edgeMask (getD (d .edges) e (edge 0 0))) (edge-in edgeMask (d .edges) e l))
 
   -- (ii)
-  way-told : {j k : ℕ} → Face d cs taken turned j → Rows.Way edgeRows taken j k → Way d cs taken turned j k
+  way-told : {j k : ℕ} → Face d cs taken turned j → Rows.Way edgeMasks taken j k → Way d cs taken turned j k
   unfolding edgeAt
   way-told f Rows.stay = stay f
-  way-told f (Rows.across row g w i p q) = go (in-edge edgeRow (d .edges) row i) (way-told f w) p q
+  way-told f (Rows.across mask g w i p q) = go (in-edge edgeMask (d .edges) mask i) (way-told f w) p q
     where
-      go : {j k : ℕ} → (e : ℕ) × (e < length (d .edges)) × (row ≡ edgeRow (getD (d .edges) e (edge 0 0))) → Way d cs taken turned j g → Rows.On row taken g → Rows.On row taken k → Way d cs taken turned j k
+      go : {j k : ℕ} → (e : ℕ) × (e < length (d .edges)) × (mask ≡ edgeMask (getD (d .edges) e (edge 0 0))) → Way d cs taken turned j g → Rows.On mask taken g → Rows.On mask taken k → Way d cs taken turned j k
       go {k = k} r w p q =
           let a = on-told d cs taken turned g (getD (d .edges) (r .0) (edge 0 0)) (subst (λ (x : List Bool). Rows.On x taken g) (r .2) p) in
           let b = on-told d cs taken turned k (getD (d .edges) (r .0) (edge 0 0)) (subst (λ (x : List Bool). Rows.On x taken k) (r .2) q) in
@@ -83,15 +83,15 @@ module _ (d : Wire) (cs : List Loop) (taken turned : List Bool) where
   way-end (stay f) = f
   way-end (cross w e l h f g) = f
 
-  told-way : {j k : ℕ} → Way d cs taken turned j k → Rows.Way edgeRows taken j k
+  told-way : {j k : ℕ} → Way d cs taken turned j k → Rows.Way edgeMasks taken j k
   unfolding edgeAt
   told-way (stay f) = Rows.stay
   told-way (cross w e l h f g) =
-      Rows.across (edgeRow (getD (d .edges) e (edge 0 0))) _ (told-way w) (edge-in edgeRow (d .edges) e l)
+      Rows.across (edgeMask (getD (d .edges) e (edge 0 0))) _ (told-way w) (edge-in edgeMask (d .edges) e l)
       (told-on d cs taken turned _ (getD (d .edges) e (edge 0 0)) (way-end w) h) (told-on d cs taken turned _ (getD (d .edges) e (edge 0 0)) f g)
 
 module _ (d : Wire) (cs : List Loop) (ok : Fair d cs) (taken : List Bool) (n : length taken ≡ length cs) where
-  same-count : length (tablesOf d cs .rows) ≡ length (tablesOf d cs .ups)
+  same-count : length (tablesOf d cs .masks) ≡ length (tablesOf d cs .ups)
   unfolding tablesOf
   same-count = length-map (d .edges) (λ e. map (has e) cs) ∙ sym (length-map (d .edges) (λ e. map (runsUp e) cs))
 

@@ -29,17 +29,17 @@ use Rattle.means_report.specs.Listed.{Entry, entryAt, Listed, entry, Wal
 use Rattle.means_report.proofs.Judged.{two-rows, rows-two, judged-is, is-judged}
 
 -- (i) of a selection
-exact-two : (rows : List (List Bool)) (x : List Status) → exact rows x ≡ true → Rows.InTwo rows (takens x)
+exact-two : (masks : List (List Bool)) (x : List Status) → exact masks x ≡ true → Rows.InTwo masks (takens x)
 unfolding exact
-exact-two [] x e row i = absurd i
-exact-two (r ∷ rows) x e row (inl q) =
-    ap (λ (l : List Bool). count (both l (takens x))) q ∙ count-takens r x ∙ eqb-true (takenOn r x) 2 (and-left (eqb (takenOn r x) 2) (exact rows x) e)
-exact-two (r ∷ rows) x e row (inr i) = exact-two rows x (and-right (eqb (takenOn r x) 2) (exact rows x) e) row i
+exact-two [] x e mask i = absurd i
+exact-two (r ∷ masks) x e mask (inl q) =
+    ap (λ (l : List Bool). count (both l (takens x))) q ∙ count-takens r x ∙ eqb-true (takenOn r x) 2 (and-left (eqb (takenOn r x) 2) (exact masks x) e)
+exact-two (r ∷ masks) x e mask (inr i) = exact-two masks x (and-right (eqb (takenOn r x) 2) (exact masks x) e) mask i
 
-two-exact : (rows : List (List Bool)) (x : List Status) → Rows.InTwo rows (takens x) → exact rows x ≡ true
+two-exact : (masks : List (List Bool)) (x : List Status) → Rows.InTwo masks (takens x) → exact masks x ≡ true
 unfolding exact
 two-exact [] x h = refl
-two-exact (r ∷ rows) x h = ap₂ _&&_ (eq-eqb (takenOn r x) 2 (sym (count-takens r x) ∙ h r (inl refl))) (two-exact rows x (λ row i. h row (inr i)))
+two-exact (r ∷ masks) x h = ap₂ _&&_ (eq-eqb (takenOn r x) 2 (sym (count-takens r x) ∙ h r (inl refl))) (two-exact masks x (λ mask i. h mask (inr i)))
 
 solid-of : (j : Judgement) → isSolid j ≡ true → j ≡ Solid (turnedOf j) (sixOf j)
 solid-of Fails e = absurd (true≢false (sym e))
@@ -49,19 +49,19 @@ module _ (d : Wire) (cs : List Loop) (ok : Fair d cs) (t : WalkTree d cs) where
   abbrev found : List (List Status)
   found = filter (accepted (tablesOf d cs)) (leaves t)
 
-  how-often : (x : List Status) → times x found ≡ cond (accepted (tablesOf d cs) x) (bit (agrees (replicate (length cs) Undecided) x && exact (tablesOf d cs .rows) x)) 0
-  how-often x = leaves-once (accepted (tablesOf d cs)) (length cs) (tablesOf d cs .rows) t x
+  how-often : (x : List Status) → times x found ≡ cond (accepted (tablesOf d cs) x) (bit (agrees (replicate (length cs) Undecided) x && exact (tablesOf d cs .masks) x)) 0
+  how-often x = leaves-once (accepted (tablesOf d cs)) (length cs) (tablesOf d cs .masks) t x
 
   -- what is found passes
   pub record Passes (x : List Status) : Type 0 where
     pub accepts : accepted (tablesOf d cs) x ≡ true
     pub whole : agrees (replicate (length cs) Undecided) x ≡ true
-    pub two : exact (tablesOf d cs .rows) x ≡ true
+    pub two : exact (tablesOf d cs .masks) x ≡ true
 
   found-passes : (x : List Status) → 0 < times x found → Passes x
-  found-passes x h = go (accepted (tablesOf d cs) x) refl (agrees (replicate (length cs) Undecided) x) refl (exact (tablesOf d cs .rows) x) refl (subst (λ (m : ℕ). 0 < m) (how-often x) h)
+  found-passes x h = go (accepted (tablesOf d cs) x) refl (agrees (replicate (length cs) Undecided) x) refl (exact (tablesOf d cs .masks) x) refl (subst (λ (m : ℕ). 0 < m) (how-often x) h)
     where
-      go : (a : Bool) → accepted (tablesOf d cs) x ≡ a → (b : Bool) → agrees (replicate (length cs) Undecided) x ≡ b → (c : Bool) → exact (tablesOf d cs .rows) x ≡ c → 0 < cond a (bit (b && c)) 0 → Passes x
+      go : (a : Bool) → accepted (tablesOf d cs) x ≡ a → (b : Bool) → agrees (replicate (length cs) Undecided) x ≡ b → (c : Bool) → exact (tablesOf d cs .masks) x ≡ c → 0 < cond a (bit (b && c)) 0 → Passes x
       go true p true q true r h = record { accepts = p; whole = q; two = r }
       go true p true q false r h = absurd (omega arith)
       go true p false q c r h = absurd (omega arith)
@@ -71,7 +71,7 @@ module _ (d : Wire) (cs : List Loop) (ok : Fair d cs) (t : WalkTree d cs) where
   passes-found x p = how-often x ∙ (λ i. cond (p .accepts i) (bit (p .whole i && p .two i)) 0)
 
   at-most-once : (x : List Status) → times x found ≤ 1
-  at-most-once x = subst (λ (m : ℕ). m ≤ 1) (sym (how-often x)) (low (accepted (tablesOf d cs) x) (agrees (replicate (length cs) Undecided) x && exact (tablesOf d cs .rows) x))
+  at-most-once x = subst (λ (m : ℕ). m ≤ 1) (sym (how-often x)) (low (accepted (tablesOf d cs) x) (agrees (replicate (length cs) Undecided) x && exact (tablesOf d cs .masks) x))
     where
       low : (a b : Bool) → cond a (bit b) 0 ≤ 1
       low true true = omega arith
@@ -83,7 +83,7 @@ module _ (d : Wire) (cs : List Loop) (ok : Fair d cs) (t : WalkTree d cs) where
   unfolding accepted tablesOf
   passes-solid x p =
       judged-is d cs ok (takens x) (agrees-state (length cs) x (p .whole) .1)
-      (rows-two d cs (takens x) (turnedOf (judged (tablesOf d cs) (takens x))) (exact-two (tablesOf d cs .rows) x (p .two)))
+      (rows-two d cs (takens x) (turnedOf (judged (tablesOf d cs) (takens x))) (exact-two (tablesOf d cs .masks) x (p .two)))
       (solid-of (judged (tablesOf d cs) (takens x)) (p .accepts))
 
   -- a solid is a selection that passes
@@ -94,7 +94,7 @@ module _ (d : Wire) (cs : List Loop) (ok : Fair d cs) (t : WalkTree d cs) where
       record {
         accepts = ap (λ (b : List Bool). isSolid (judged (tablesOf d cs) b)) (takens-state taken) ∙ ap isSolid (j .1);
         whole = subst (λ (m : ℕ). agrees (replicate m Undecided) (stateOf taken) ≡ true) (s .some) (state-agrees taken);
-        two = two-exact (tablesOf d cs .rows) (stateOf taken) (subst (λ (b : List Bool). Rows.InTwo (tablesOf d cs .rows) b) (sym (takens-state taken)) (two-rows d cs taken turned (s .i)));
+        two = two-exact (tablesOf d cs .masks) (stateOf taken) (subst (λ (b : List Bool). Rows.InTwo (tablesOf d cs .masks) b) (sym (takens-state taken)) (two-rows d cs taken turned (s .i)));
       }
 
   -- of the selections that the walk comes to, those are accepted that are solids
@@ -110,10 +110,10 @@ module _ (d : Wire) (cs : List Loop) (ok : Fair d cs) (t : WalkTree d cs) where
     λ s. ap isSolid (is-judged d cs ok (takens (getD (leaves t) i [])) (s .2 .some) (s .2) .1),
   )
     where
-      both-true : (agrees (replicate (length cs) Undecided) (getD (leaves t) i []) ≡ true) × (exact (tablesOf d cs .rows) (getD (leaves t) i []) ≡ true)
+      both-true : (agrees (replicate (length cs) Undecided) (getD (leaves t) i []) ≡ true) × (exact (tablesOf d cs .masks) (getD (leaves t) i []) ≡ true)
       both-true =
-          split (agrees (replicate (length cs) Undecided) (getD (leaves t) i [])) (exact (tablesOf d cs .rows) (getD (leaves t) i []))
-          (subst (λ (m : ℕ). 0 < m) (leaves-all (accepted (tablesOf d cs)) (length cs) (tablesOf d cs .rows) t (getD (leaves t) i [])) (at-times (leaves t) (getD (leaves t) i []) i h refl))
+          split (agrees (replicate (length cs) Undecided) (getD (leaves t) i [])) (exact (tablesOf d cs .masks) (getD (leaves t) i []))
+          (subst (λ (m : ℕ). 0 < m) (leaves-all (accepted (tablesOf d cs)) (length cs) (tablesOf d cs .masks) t (getD (leaves t) i [])) (at-times (leaves t) (getD (leaves t) i []) i h refl))
         where
           split : (x y : Bool) → 0 < bit (x && y) → (x ≡ true) × (y ≡ true)
           split true true p = (refl, refl)

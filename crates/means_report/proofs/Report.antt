@@ -105,7 +105,7 @@ module _ (d : Wire) (t : WalkTree d (candidates d)) (limit : ℕ) (faces solids 
   tb = tablesOf d (candidates d)
 
   abbrev log : Log
-  log = search mostSolids (accepted (tablesOf d (candidates d))) limit (length (candidates d)) (tablesOf d (candidates d) .rows)
+  log = search mostSolids (accepted (tablesOf d (candidates d))) limit (length (candidates d)) (tablesOf d (candidates d) .masks)
 
   abbrev done : Converted
   done = concluded (length (loops d)) (candidates d) (tablesOf d (candidates d)) log faces solids
@@ -117,7 +117,7 @@ module _ (d : Wire) (t : WalkTree d (candidates d)) (limit : ℕ) (faces solids 
   done-whole : log .ended ≡ 0 → Reported d t limit faces solids done
   unfolding walked
   done-whole e =
-      let w = ended-whole (accepted tb) (length (candidates d)) (tb .rows) t mostSolids limit e in
+      let w = ended-whole (accepted tb) (length (candidates d)) (tb .masks) t mostSolids limit e in
       let c = concluded-zero (length (loops d)) (candidates d) tb log faces solids e in
       let f : map (entry tb) (log .found) ≡ map (entry tb) (filter (accepted tb) (leaves t)) = ap (map (entry tb)) (w .found) in
       record {
@@ -134,7 +134,7 @@ module _ (d : Wire) (t : WalkTree d (candidates d)) (limit : ℕ) (faces solids 
   done-many : log .ended ≡ No.Many → TooMany d t limit faces solids done
   unfolding walked
   done-many e =
-      let w = ended-many (accepted tb) (length (candidates d)) (tb .rows) t mostSolids limit e in
+      let w = ended-many (accepted tb) (length (candidates d)) (tb .masks) t mostSolids limit e in
       let c = concluded-many (length (loops d)) (candidates d) tb log faces solids e in
       record {
         nine = omega (arith, w .many, length-map (filter (accepted tb) (leaves t)) (entry tb));
@@ -146,7 +146,7 @@ module _ (d : Wire) (t : WalkTree d (candidates d)) (limit : ℕ) (faces solids 
 
   done-long : log .ended ≡ No.TooLong → TooFar d t limit faces solids done
   done-long e =
-      let w = ended-long (accepted tb) (length (candidates d)) (tb .rows) t mostSolids limit e in
+      let w = ended-long (accepted tb) (length (candidates d)) (tb .masks) t mostSolids limit e in
       let c = concluded-long (length (loops d)) (candidates d) tb log faces solids e in
       record {
         far = w .long;
@@ -156,7 +156,7 @@ module _ (d : Wire) (t : WalkTree d (candidates d)) (limit : ℕ) (faces solids 
       }
 
   done-tells : Tells done
-  done-tells = go (ends (accepted tb) (length (candidates d)) (tb .rows) t mostSolids limit)
+  done-tells = go (ends (accepted tb) (length (candidates d)) (tb .masks) t mostSolids limit)
     where
       go : (log .ended ≡ 0) ⊎ ((log .ended ≡ No.Many) ⊎ (log .ended ≡ No.TooLong)) → Tells done
       go (inl e) = inl (done-whole e)

@@ -1,4 +1,4 @@
--- The rows of the tables say what the loops do: (i) and (iii) of one edge, six volumes, clashes. Assumes nothing.
+-- The masks of the tables say what the loops do: (i) and (iii) of one edge, six volumes, clashes. Assumes nothing.
 use mathlib.Core.Bool.{Bool, true, false, not, _&&_, _||_, cond, xor, true≢false}
 use mathlib.Core.List.{List, [], _∷_, map}
 use mathlib.Core.Logic.{_⊎_, inl, inr}
@@ -24,7 +24,7 @@ use Rattle.means_solid.specs.Solid.{Goes, Face, Runs, Has, InTwo, RunOnce, Each
 use Rattle.means_report.specs.Proper.{AllProper}
 use Rattle.means_report.proofs.Goes.{runs-goes, goes-runs, one-way}
 
--- ---- a row, digit by digit
+-- ---- a mask, digit by digit
 pub dig-map : (f : Loop → Bool) → f [] ≡ false → (cs : List Loop) (k : ℕ) → dig (map f cs) k ≡ f (loopAt cs k)
 dig-map f e [] k = sym e
 dig-map f e (c ∷ cs) zero = refl
@@ -120,9 +120,9 @@ module _ (d : Wire) (cs : List Loop) (taken turned : List Bool) where
       go true g = goes-runs b a (loopAt cs k) g
       go false g = goes-runs a b (loopAt cs k) g
 
-  once-told : (a b : ℕ) (row : List Bool) → ((k : ℕ) → dig row k ≡ (dig taken k && cond (dig turned k) (runs b a (loopAt cs k)) (runs a b (loopAt cs k)))) → count row ≡ 1 → RunOnce d cs taken turned a b
-  once-told a b row at h =
-      let p = count-one-is row h in
+  once-told : (a b : ℕ) (mask : List Bool) → ((k : ℕ) → dig mask k ≡ (dig taken k && cond (dig turned k) (runs b a (loopAt cs k)) (runs a b (loopAt cs k)))) → count mask ≡ 1 → RunOnce d cs taken turned a b
+  once-told a b mask at h =
+      let p = count-one-is mask h in
       let q = run-told (p .0) a b (sym (at (p .0)) ∙ p .1) in
       record {
         by = p .0;
@@ -131,9 +131,9 @@ module _ (d : Wire) (cs : List Loop) (taken turned : List Bool) where
         only = λ k f r. p .2 k (at k ∙ told-run k a b f r);
       }
 
-  told-once : (a b : ℕ) (row : List Bool) → ((k : ℕ) → dig row k ≡ (dig taken k && cond (dig turned k) (runs b a (loopAt cs k)) (runs a b (loopAt cs k)))) → RunOnce d cs taken turned a b → count row ≡ 1
-  told-once a b row at o =
-      one-count row (o .by) (at (o .by) ∙ told-run (o .by) a b (o .face) (o .runs)) (λ k h. let q = run-told k a b (sym (at k) ∙ h) in o .only k (q .0) (q .1))
+  told-once : (a b : ℕ) (mask : List Bool) → ((k : ℕ) → dig mask k ≡ (dig taken k && cond (dig turned k) (runs b a (loopAt cs k)) (runs a b (loopAt cs k)))) → RunOnce d cs taken turned a b → count mask ≡ 1
+  told-once a b mask at o =
+      one-count mask (o .by) (at (o .by) ∙ told-run (o .by) a b (o .face) (o .runs)) (λ k h. let q = run-told k a b (sym (at k) ∙ h) in o .only k (q .0) (q .1))
 
   -- r and q: whether the loop runs from a to b, and from b to a
   ahead-one : (r q t taken : Bool) → (r ≡ true → q ≡ true → ⊥) → (((r || q) && taken) && xor r t) ≡ (taken && cond t q r)
@@ -231,44 +231,44 @@ module _ (d : Wire) (cs : List Loop) (taken turned : List Bool) where
   six-told k [] = refl
   six-told k (l ∷ ls) = ap₂ _+ℤ_ (part-share (dig taken k) (dig turned k) (faceSix (polygon d l))) (six-told (suc k) ls)
 
--- ---- (v), of any rows: one for each place from k on
+-- ---- (v), of any masks: one for each place from k on
 Clear : ℕ → List (List Bool) → List Bool → Type 0
-Clear k rows taken = (i : ℕ) → i < length rows → dig taken (k + i) ≡ true → count (both (getD rows i []) taken) ≡ 0
+Clear k masks taken = (i : ℕ) → i < length masks → dig taken (k + i) ≡ true → count (both (getD masks i []) taken) ≡ 0
 
-clear-yes : (k : ℕ) (rows : List (List Bool)) (taken : List Bool) → clearFrom k rows taken ≡ true → Clear k rows taken
+clear-yes : (k : ℕ) (masks : List (List Bool)) (taken : List Bool) → clearFrom k masks taken ≡ true → Clear k masks taken
 unfolding clearFrom Clear
 clear-yes k [] taken e i h t = absurd (omega arith)
-clear-yes k (c ∷ rows) taken e i h t = go (dig taken k) refl (eqb (count (both c taken)) 0) refl e i h t (clear-yes (suc k) rows taken)
+clear-yes k (c ∷ masks) taken e i h t = go (dig taken k) refl (eqb (count (both c taken)) 0) refl e i h t (clear-yes (suc k) masks taken)
   where
     shift : (k j : ℕ) → suc k + j ≡ k + suc j
     shift k j = omega arith
 
-    rest : ((i : ℕ) → i < length rows → dig taken (suc k + i) ≡ true → count (both (getD rows i []) taken) ≡ 0) → (i : ℕ) → i < length (c ∷ rows) → dig taken (k + i) ≡ true → count (both c taken) ≡ 0
-        → count (both (getD (c ∷ rows) i []) taken) ≡ 0
+    rest : ((i : ℕ) → i < length masks → dig taken (suc k + i) ≡ true → count (both (getD masks i []) taken) ≡ 0) → (i : ℕ) → i < length (c ∷ masks) → dig taken (k + i) ≡ true → count (both c taken) ≡ 0
+        → count (both (getD (c ∷ masks) i []) taken) ≡ 0
     rest f zero h t z = z
     rest f (suc i) h t z = f i (omega arith) (ap (dig taken) (shift k i) ∙ t)
 
-    off : ((i : ℕ) → i < length rows → dig taken (suc k + i) ≡ true → count (both (getD rows i []) taken) ≡ 0) → dig taken k ≡ false → (i : ℕ) → i < length (c ∷ rows) → dig taken (k + i) ≡ true
-        → count (both (getD (c ∷ rows) i []) taken) ≡ 0
+    off : ((i : ℕ) → i < length masks → dig taken (suc k + i) ≡ true → count (both (getD masks i []) taken) ≡ 0) → dig taken k ≡ false → (i : ℕ) → i < length (c ∷ masks) → dig taken (k + i) ≡ true
+        → count (both (getD (c ∷ masks) i []) taken) ≡ 0
     off f z zero h t = let q : k ≡ k + 0 = omega arith in never (sym t ∙ sym (ap (dig taken) q) ∙ z)
     off f z (suc i) h t = f i (omega arith) (ap (dig taken) (shift k i) ∙ t)
 
-    go : (b : Bool) → dig taken k ≡ b → (y : Bool) → eqb (count (both c taken)) 0 ≡ y → cond (not b || y) (clearFrom (suc k) rows taken) false ≡ true → (i : ℕ) → i < length (c ∷ rows) → dig taken (k + i) ≡ true
-        → (clearFrom (suc k) rows taken ≡ true → (i : ℕ) → i < length rows → dig taken (suc k + i) ≡ true → count (both (getD rows i []) taken) ≡ 0) → count (both (getD (c ∷ rows) i []) taken) ≡ 0
+    go : (b : Bool) → dig taken k ≡ b → (y : Bool) → eqb (count (both c taken)) 0 ≡ y → cond (not b || y) (clearFrom (suc k) masks taken) false ≡ true → (i : ℕ) → i < length (c ∷ masks) → dig taken (k + i) ≡ true
+        → (clearFrom (suc k) masks taken ≡ true → (i : ℕ) → i < length masks → dig taken (suc k + i) ≡ true → count (both (getD masks i []) taken) ≡ 0) → count (both (getD (c ∷ masks) i []) taken) ≡ 0
     go true p true q e i h t f = rest (f e) i h t (eqb-true (count (both c taken)) 0 q)
     go true p false q e i h t f = never (sym e)
     go false p y q e i h t f = off (f e) p i h t
 
-yes-clear : (k : ℕ) (rows : List (List Bool)) (taken : List Bool) → Clear k rows taken → clearFrom k rows taken ≡ true
+yes-clear : (k : ℕ) (masks : List (List Bool)) (taken : List Bool) → Clear k masks taken → clearFrom k masks taken ≡ true
 unfolding clearFrom Clear
 yes-clear k [] taken f = refl
-yes-clear k (c ∷ rows) taken f =
-    go (dig taken k) refl (yes-clear (suc k) rows taken (λ i h t. f (suc i) (omega arith) (ap (dig taken) (shift k i) ∙ t)))
+yes-clear k (c ∷ masks) taken f =
+    go (dig taken k) refl (yes-clear (suc k) masks taken (λ i h t. f (suc i) (omega arith) (ap (dig taken) (shift k i) ∙ t)))
   where
     shift : (k j : ℕ) → k + suc j ≡ suc k + j
     shift k j = omega arith
 
-    go : (b : Bool) → dig taken k ≡ b → clearFrom (suc k) rows taken ≡ true → cond (peaceful b (count (both c taken))) (clearFrom (suc k) rows taken) false ≡ true
+    go : (b : Bool) → dig taken k ≡ b → clearFrom (suc k) masks taken ≡ true → cond (peaceful b (count (both c taken))) (clearFrom (suc k) masks taken) false ≡ true
     go false p e = e
     go true p e = let q : k + 0 ≡ k = omega arith in rw (eq-eqb (count (both c taken)) 0 (f 0 (omega arith) (ap (dig taken) q ∙ p))) e
 
@@ -302,27 +302,27 @@ module _ (d : Wire) (cs : List Loop) (taken turned : List Bool) (n : length take
   abbrev pub Peace : Type 0
   Peace = (j k : ℕ) → dig taken j ≡ true → dig taken k ≡ true → j < k → clash (polygon d (loopAt cs j)) (polygon d (loopAt cs k)) ≡ false
 
-  abbrev pub clashRows : List (List Bool)
-  clashRows = map (λ i. map (clashing (map (polygon d) cs) i) (upto (length cs))) (upto (length cs))
+  abbrev pub clashMasks : List (List Bool)
+  clashMasks = map (λ i. map (clashing (map (polygon d) cs) i) (upto (length cs))) (upto (length cs))
 
-  pub clear-told : clearFrom 0 clashRows taken ≡ true → Peace
+  pub clear-told : clearFrom 0 clashMasks taken ≡ true → Peace
   unfolding Clear clash-row
   clear-told e j k hj hk l = go (clash (polygon d (loopAt cs j)) (polygon d (loopAt cs k))) refl
     where
       none : count (both (clash-row j) taken) ≡ 0
       none =
           let z : 0 + j ≡ j = omega arith in
-          let s : j < length clashRows = omega (arith, face-in j hj, made-length (λ i. map (clashing (map (polygon d) cs) i) (upto (length cs))) (length cs)) in
+          let s : j < length clashMasks = omega (arith, face-in j hj, made-length (λ i. map (clashing (map (polygon d) cs) i) (upto (length cs))) (length cs)) in
           ap (λ (r : List Bool). count (both r taken)) (sym (made-at (λ i. map (clashing (map (polygon d) cs) i) (upto (length cs))) (length cs) j [] (face-in j hj)))
-          ∙ clear-yes 0 clashRows taken e j s (ap (dig taken) z ∙ hj)
+          ∙ clear-yes 0 clashMasks taken e j s (ap (dig taken) z ∙ hj)
 
       go : (b : Bool) → clash (polygon d (loopAt cs j)) (polygon d (loopAt cs k)) ≡ b → b ≡ false
       go false p = refl
       go true p = absurd (count-none (both (clash-row j) taken) none k (dig-both (clash-row j) taken k ∙ and-both (row-dig j k (face-in k hk) ∙ pair-clash j k l (face-in k hk) ∙ p) hk))
 
-  pub told-clear : Peace → clearFrom 0 clashRows taken ≡ true
+  pub told-clear : Peace → clearFrom 0 clashMasks taken ≡ true
   unfolding Clear clash-row
-  told-clear f = yes-clear 0 clashRows taken (λ i h t.
+  told-clear f = yes-clear 0 clashMasks taken (λ i h t.
       let m : i < length cs = omega (arith, made-length (λ i. map (clashing (map (polygon d) cs) i) (upto (length cs))) (length cs)) in
       let z : i ≡ 0 + i = omega arith in
       ap (λ (r : List Bool). count (both r taken)) (made-at (λ i. map (clashing (map (polygon d) cs) i) (upto (length cs))) (length cs) i [] m)

@@ -31,25 +31,25 @@ listed-none d cs [] l n = refl
 listed-none d cs (e ∷ es) l n = absurd (n (e .taken) (e .turned) (e .six) (l .each 0 (omega arith)))
 
 module _ (d : Wire) (cs : List Loop) (ok : Fair d cs) (limit : ℕ) where
-  pub uncut-walked : search mostSolids (accepted (tablesOf d cs)) limit (length cs) (tablesOf d cs .rows) .ended ≡ 0 → (t : WalkTree d cs)
-      → map (entry (tablesOf d cs)) (search mostSolids (accepted (tablesOf d cs)) limit (length cs) (tablesOf d cs .rows) .found) ≡ walked d cs t
+  pub uncut-walked : search mostSolids (accepted (tablesOf d cs)) limit (length cs) (tablesOf d cs .masks) .ended ≡ 0 → (t : WalkTree d cs)
+      → map (entry (tablesOf d cs)) (search mostSolids (accepted (tablesOf d cs)) limit (length cs) (tablesOf d cs .masks) .found) ≡ walked d cs t
   unfolding walked
-  uncut-walked e t = ap (map (entry (tablesOf d cs))) (ended-whole (accepted (tablesOf d cs)) (length cs) (tablesOf d cs .rows) t mostSolids limit e .found)
+  uncut-walked e t = ap (map (entry (tablesOf d cs))) (ended-whole (accepted (tablesOf d cs)) (length cs) (tablesOf d cs .masks) t mostSolids limit e .found)
 
   -- found: every solid once
-  pub uncut-lists : search mostSolids (accepted (tablesOf d cs)) limit (length cs) (tablesOf d cs .rows) .ended ≡ 0
-      → Listed d cs (map (entry (tablesOf d cs)) (search mostSolids (accepted (tablesOf d cs)) limit (length cs) (tablesOf d cs .rows) .found))
+  pub uncut-lists : search mostSolids (accepted (tablesOf d cs)) limit (length cs) (tablesOf d cs .masks) .ended ≡ 0
+      → Listed d cs (map (entry (tablesOf d cs)) (search mostSolids (accepted (tablesOf d cs)) limit (length cs) (tablesOf d cs .masks) .found))
   uncut-lists e =
-      let t : WalkTree d cs = tree (tablesOf d cs .rows) _ in
+      let t : WalkTree d cs = tree (tablesOf d cs .masks) _ in
       subst (Listed d cs) (sym (uncut-walked e t)) (walked-lists d cs ok t)
 
   -- nothing is found just where there is no solid
-  pub none-found : search mostSolids (accepted (tablesOf d cs)) limit (length cs) (tablesOf d cs .rows) .ended ≡ 0
-      → (search mostSolids (accepted (tablesOf d cs)) limit (length cs) (tablesOf d cs .rows) .found ≡ []) ↔ ((taken turned : List Bool) (six : ℕ) → IsSolid d cs taken turned six → ⊥)
+  pub none-found : search mostSolids (accepted (tablesOf d cs)) limit (length cs) (tablesOf d cs .masks) .ended ≡ 0
+      → (search mostSolids (accepted (tablesOf d cs)) limit (length cs) (tablesOf d cs .masks) .found ≡ []) ↔ ((taken turned : List Bool) (six : ℕ) → IsSolid d cs taken turned six → ⊥)
   none-found e = (
-    λ q. none-listed d cs (map (entry (tablesOf d cs)) (search mostSolids (accepted (tablesOf d cs)) limit (length cs) (tablesOf d cs .rows) .found)) (uncut-lists e) (ap (map (entry (tablesOf d cs))) q),
-    λ n. empty (search mostSolids (accepted (tablesOf d cs)) limit (length cs) (tablesOf d cs .rows) .found)
-        (listed-none d cs (map (entry (tablesOf d cs)) (search mostSolids (accepted (tablesOf d cs)) limit (length cs) (tablesOf d cs .rows) .found)) (uncut-lists e) n),
+    λ q. none-listed d cs (map (entry (tablesOf d cs)) (search mostSolids (accepted (tablesOf d cs)) limit (length cs) (tablesOf d cs .masks) .found)) (uncut-lists e) (ap (map (entry (tablesOf d cs))) q),
+    λ n. empty (search mostSolids (accepted (tablesOf d cs)) limit (length cs) (tablesOf d cs .masks) .found)
+        (listed-none d cs (map (entry (tablesOf d cs)) (search mostSolids (accepted (tablesOf d cs)) limit (length cs) (tablesOf d cs .masks) .found)) (uncut-lists e) n),
   )
     where
       empty : (l : List (List Status)) → map (entry (tablesOf d cs)) l ≡ [] → l ≡ []
@@ -57,9 +57,9 @@ module _ (d : Wire) (cs : List Loop) (ok : Fair d cs) (limit : ℕ) where
       empty (x ∷ l) q = absurd (omega (arith, ap length q))
 
   -- at least nine different solids: all solids are listed once, and there are more than eight
-  pub many-lists : search mostSolids (accepted (tablesOf d cs)) limit (length cs) (tablesOf d cs .rows) .ended ≡ No.Many → (es : List Entry) × Listed d cs es × (mostSolids < length es)
+  pub many-lists : search mostSolids (accepted (tablesOf d cs)) limit (length cs) (tablesOf d cs .masks) .ended ≡ No.Many → (es : List Entry) × Listed d cs es × (mostSolids < length es)
   unfolding walked
   many-lists e =
-      let t : WalkTree d cs = tree (tablesOf d cs .rows) _ in
-      let m = ended-many (accepted (tablesOf d cs)) (length cs) (tablesOf d cs .rows) t mostSolids limit e .many in
+      let t : WalkTree d cs = tree (tablesOf d cs .masks) _ in
+      let m = ended-many (accepted (tablesOf d cs)) (length cs) (tablesOf d cs .masks) t mostSolids limit e .many in
       (walked d cs t, walked-lists d cs ok t, omega (arith, length-map (filter (accepted (tablesOf d cs)) (leaves t)) (entry (tablesOf d cs))))

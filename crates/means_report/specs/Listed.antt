@@ -39,7 +39,7 @@ abbrev pub entry : Tables → List Status → Entry
 entry t st = record { taken = takens st; turned = turnedOf (judged t (takens st)); six = sixOf (judged t (takens st)) }
 
 abbrev pub WalkTree : Wire → List Loop → Type 0
-WalkTree d cs = Tree (tablesOf d cs .rows) (replicate (length cs) Undecided)
+WalkTree d cs = Tree (tablesOf d cs .masks) (replicate (length cs) Undecided)
 
 unfoldable pub walked : (d : Wire) (cs : List Loop) → WalkTree d cs → List Entry
 walked d cs t = map (entry (tablesOf d cs)) (filter (accepted (tablesOf d cs)) (leaves t))

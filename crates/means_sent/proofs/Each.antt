@@ -4,7 +4,7 @@ use mathlib.Core.Bool.{Bool}
 use mathlib.Core.List.{List}
 use Prim.Native.Nat.{ℕ}
 use lib.IntN.{ℤ}
-use Rattle.paper.specs.Format.{one, coordinatesIn, endsIn}
+use Rattle.paper.specs.Format.{editionOne, coordinatesIn, endsIn}
 use Rattle.paper.specs.Refusals.{firstOf}
 use Rattle.paper.specs.Sheet.{lentChecks, sheetChecks}
 use Rattle.paper.specs.Drawing.{wire, drawingChecks}
@@ -21,13 +21,13 @@ use Rattle.means_check.proofs.Drawn.{ReadsBack, lists-each, sheet-each}
 pub back : ReadsBack
 back v h fs s = reads-back-one v h fs (record { least = s .least; most = s .most; few = s .few; many = s .many; numbers = s .numbers })
 
-pub each-of-lists : (xyz : List ℤ) (ends : List ℕ) → firstOf (lentChecks one xyz ends) ≡ Fine → firstOf (drawingChecks (wire xyz ends)) ≡ Fine → firstOf (loopChecks (loops (wire xyz ends)) (candidates (wire xyz ends))) ≡ Fine
+pub each-of-lists : (xyz : List ℤ) (ends : List ℕ) → firstOf (lentChecks editionOne xyz ends) ≡ Fine → firstOf (drawingChecks (wire xyz ends)) ≡ Fine → firstOf (loopChecks (loops (wire xyz ends)) (candidates (wire xyz ends))) ≡ Fine
     → (taken turned : List Bool) (six : ℕ) → IsSolid (wire xyz ends) (candidates (wire xyz ends)) taken turned six
-    → verdictLists xyz ends (encodeFaces one (faceList (wire xyz ends) (candidates (wire xyz ends)) taken turned)) ≡ Accepted
+    → verdictLists xyz ends (encodeFaces editionOne (faceList (wire xyz ends) (candidates (wire xyz ends)) taken turned)) ≡ Accepted
 each-of-lists xyz ends = lists-each xyz ends back
 
-pub each-of-sheet : (s : List ℕ) → firstOf (sheetChecks one s) ≡ Fine → firstOf (drawingChecks (wire (coordinatesIn one s) (endsIn one s))) ≡ Fine
-    → firstOf (loopChecks (loops (wire (coordinatesIn one s) (endsIn one s))) (candidates (wire (coordinatesIn one s) (endsIn one s)))) ≡ Fine
-    → (taken turned : List Bool) (six : ℕ) → IsSolid (wire (coordinatesIn one s) (endsIn one s)) (candidates (wire (coordinatesIn one s) (endsIn one s))) taken turned six
-    → verdictSheet s (encodeFaces one (faceList (wire (coordinatesIn one s) (endsIn one s)) (candidates (wire (coordinatesIn one s) (endsIn one s))) taken turned)) ≡ Accepted
+pub each-of-sheet : (s : List ℕ) → firstOf (sheetChecks editionOne s) ≡ Fine → firstOf (drawingChecks (wire (coordinatesIn editionOne s) (endsIn editionOne s))) ≡ Fine
+    → firstOf (loopChecks (loops (wire (coordinatesIn editionOne s) (endsIn editionOne s))) (candidates (wire (coordinatesIn editionOne s) (endsIn editionOne s)))) ≡ Fine
+    → (taken turned : List Bool) (six : ℕ) → IsSolid (wire (coordinatesIn editionOne s) (endsIn editionOne s)) (candidates (wire (coordinatesIn editionOne s) (endsIn editionOne s))) taken turned six
+    → verdictSheet s (encodeFaces editionOne (faceList (wire (coordinatesIn editionOne s) (endsIn editionOne s)) (candidates (wire (coordinatesIn editionOne s) (endsIn editionOne s))) taken turned)) ≡ Accepted
 each-of-sheet s = sheet-each s back

@@ -13,7 +13,7 @@ use lib.ListN.{length}
 use Rattle.pack.specs.Bits.{Under}
 use Rattle.pack.specs.Fill.{padded}
 use Rattle.paper.specs.Numbers.{rowBytes}
-use Rattle.paper.specs.Format.{one}
+use Rattle.paper.specs.Format.{editionOne}
 use Rattle.paper.specs.FaceList.{encodeFaces, facesIn, wellShaped, facesOf}
 use Rattle.paper.specs.Loops.{Loop, row}
 use Rattle.paper.specs.declared.Format.{Format}
@@ -27,7 +27,7 @@ use Rattle.means_sheets.proofs.FaceLists.Read.{written-again, can-be-se
 
 -- ---- faces that a face list can hold, for a drawing of v vertices
 
-module _ (f : Format) (sound : Sound f) (v : ℕ) (fits : v ≤ 2 ^ f .nw) (fs : List Loop) (g : Sendable f v fs) where
+module _ (f : Format) (sound : Sound f) (v : ℕ) (fits : v ≤ 2 ^ f .«vertex_number_bits») (fs : List Loop) (g : Sendable f v fs) where
   pub accepted : wellShaped f v (encodeFaces f fs) ≡ true
   accepted = faces-accepted f sound v fits fs g
 
@@ -35,7 +35,7 @@ module _ (f : Format) (sound : Sound f) (v : ℕ) (fits : v ≤ 2 ^ f .nw) (fs :
   reads-back = faces-read-back f sound v fits fs g
 
   -- as the reader returns them: a row for each face
-  pub returned : facesOf f v (encodeFaces f fs) ≡ record { answer = Fine; count = length fs; rows = padded (flatMap row fs) (rowBytes * one .fmax) 0 }
+  pub returned : facesOf f v (encodeFaces f fs) ≡ record { answer = Fine; count = length fs; rows = padded (flatMap row fs) (rowBytes * editionOne .«most_faces») 0 }
   returned = rows-returned f sound v fits fs g
 
 -- ---- a face list that 20 has nothing against
@@ -56,13 +56,13 @@ no-two-lists f v s t us ut hs ht e = sym (writes-back f v s us hs) ∙ ap (encod
 
 -- ---- edition 1
 
-pub reads-back-one : (v : ℕ) → v ≤ one .vmax → (fs : List Loop) → Sendable one v fs
-    → (wellShaped one v (encodeFaces one fs) ≡ true) × (facesIn one (encodeFaces one fs) ≡ fs)
-reads-back-one v fits fs g = (accepted one one-sound v fits fs g, reads-back one one-sound v fits fs g)
+pub reads-back-one : (v : ℕ) → v ≤ editionOne .«most_vertices» → (fs : List Loop) → Sendable editionOne v fs
+    → (wellShaped editionOne v (encodeFaces editionOne fs) ≡ true) × (facesIn editionOne (encodeFaces editionOne fs) ≡ fs)
+reads-back-one v fits fs g = (accepted editionOne one-sound v fits fs g, reads-back editionOne one-sound v fits fs g)
 
-pub writes-back-one : (v : ℕ) (s : List ℕ) → Under (2 ^ 8) s → wellShaped one v s ≡ true → encodeFaces one (facesIn one s) ≡ s
-writes-back-one = writes-back one
+pub writes-back-one : (v : ℕ) (s : List ℕ) → Under (2 ^ 8) s → wellShaped editionOne v s ≡ true → encodeFaces editionOne (facesIn editionOne s) ≡ s
+writes-back-one = writes-back editionOne
 
-pub no-two-lists-one : (v : ℕ) (s t : List ℕ) → Under (2 ^ 8) s → Under (2 ^ 8) t → wellShaped one v s ≡ true → wellShaped one v t ≡ true
-    → facesIn one s ≡ facesIn one t → s ≡ t
-no-two-lists-one = no-two-lists one
+pub no-two-lists-one : (v : ℕ) (s t : List ℕ) → Under (2 ^ 8) s → Under (2 ^ 8) t → wellShaped editionOne v s ≡ true → wellShaped editionOne v t ≡ true
+    → facesIn editionOne s ≡ facesIn editionOne t → s ≡ t
+no-two-lists-one = no-two-lists editionOne

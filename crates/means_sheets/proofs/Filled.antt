@@ -12,8 +12,8 @@ use Rattle.pack.proofs.Laws.{length-bits, length-run, length-cut, run-cut, unde
 use Rattle.pack.proofs.Trip.{field-in, bits-field, cut-numbers}
 use Rattle.paper.specs.Format.{bytesFor, filled, fillAfter}
 
-pub above : (n : ℕ) → n ≤ bytesFor n * 8
-above n = omega arith
+pub bytes-hold : (n : ℕ) → n ≤ bytesFor n * 8
+bytes-hold n = omega arith
 
 module _ (n : ℕ) (bs : List ℕ) where
   abbrev pub zeros : List ℕ

@@ -12,7 +12,7 @@ use lib.IntN.{ℤ}
 use lib.ListN.{length, take, drop}
 use Rattle.pack.specs.Bits.{Under}
 use Rattle.paper.specs.Refusals.{firstOf}
-use Rattle.paper.specs.Format.{one, coordinatesIn, endsIn, verticesIn, edgesIn, encode}
+use Rattle.paper.specs.Format.{editionOne, coordinatesIn, endsIn, verticesIn, edgesIn, encode}
 use Rattle.paper.specs.Sheet.{lentChecks, sheetChecks, held, sheetOf, writtenOf, roomOf}
 use Rattle.paper.specs.declared.Format.{Format}
 use Rattle.paper.specs.declared.Sheet.{Sheet}
@@ -71,16 +71,16 @@ no-two-sheets f s t us ut hs ht e =
 
 -- ---- edition 1
 
-pub one-sound : Sound one
+pub one-sound : Sound editionOne
 one-sound = omega arith
 
-pub reads-back-one : (xyz : List ℤ) (ends : List ℕ) → Fine ≡ firstOf (lentChecks one xyz ends) → sheetOf one (encode one xyz ends) ≡ whole xyz ends
-reads-back-one = reads-back one one-sound
+pub reads-back-one : (xyz : List ℤ) (ends : List ℕ) → Fine ≡ firstOf (lentChecks editionOne xyz ends) → sheetOf editionOne (encode editionOne xyz ends) ≡ whole xyz ends
+reads-back-one = reads-back editionOne one-sound
 
-pub writes-back-one : (s : List ℕ) → Under (2 ^ 8) s → Fine ≡ sheetOf one s .answer
-    → (encode one (coordinatesIn one s) (endsIn one s) ≡ s) × (Fine ≡ firstOf (lentChecks one (coordinatesIn one s) (endsIn one s)))
-writes-back-one s u h = (writes-back one s u h, writer-takes one s u h)
+pub writes-back-one : (s : List ℕ) → Under (2 ^ 8) s → Fine ≡ sheetOf editionOne s .answer
+    → (encode editionOne (coordinatesIn editionOne s) (endsIn editionOne s) ≡ s) × (Fine ≡ firstOf (lentChecks editionOne (coordinatesIn editionOne s) (endsIn editionOne s)))
+writes-back-one s u h = (writes-back editionOne s u h, writer-takes editionOne s u h)
 
-pub no-two-sheets-one : (s t : List ℕ) → Under (2 ^ 8) s → Under (2 ^ 8) t → Fine ≡ sheetOf one s .answer → Fine ≡ sheetOf one t .answer
-    → sheetOf one s .drawing ≡ sheetOf one t .drawing → s ≡ t
-no-two-sheets-one = no-two-sheets one
+pub no-two-sheets-one : (s t : List ℕ) → Under (2 ^ 8) s → Under (2 ^ 8) t → Fine ≡ sheetOf editionOne s .answer → Fine ≡ sheetOf editionOne t .answer
+    → sheetOf editionOne s .drawing ≡ sheetOf editionOne t .drawing → s ≡ t
+no-two-sheets-one = no-two-sheets editionOne

@@ -10,7 +10,7 @@ use Rattle.paper.specs.declared.Format.{Format}
 
 pub record Sendable (f : Format) (v : ℕ) (fs : List Loop) : Type 0 where
   pub least : leastFaces ≤ length fs
-  pub most : length fs ≤ f .fmax
+  pub most : length fs ≤ f .«most_faces»
   pub few : (i : ℕ) → i < length fs → leastCorners ≤ length (loopAt fs i)
   pub many : (i : ℕ) → i < length fs → length (loopAt fs i) ≤ mostCorners
   pub numbers : (i j : ℕ) → i < length fs → j < length (loopAt fs i) → getD (loopAt fs i) j 0 < v

@@ -5,7 +5,7 @@ use Rattle.paper.specs.declared.Format.{Format}
 
 pub record Sound (f : Format) : Type 0 where
   pub edition-fits : f .edition < 2 ^ editionBits
-  pub vertices-fit : f .vmax < 2 ^ f .vw
-  pub edges-fit : f .emax < 2 ^ f .ew
-  pub numbers-fit : f .vmax ≤ 2 ^ f .nw
-  pub faces-fit : f .fmax < 2 ^ f .fw
+  pub vertices-fit : f .«most_vertices» < 2 ^ f .«vertex_count_bits»
+  pub edges-fit : f .«most_edges» < 2 ^ f .«edge_count_bits»
+  pub numbers-fit : f .«most_vertices» ≤ 2 ^ f .«vertex_number_bits»
+  pub faces-fit : f .«most_faces» < 2 ^ f .«face_count_bits»

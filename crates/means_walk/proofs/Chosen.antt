@@ -24,20 +24,20 @@ first-low (false ∷ a) (suc j) h e = first-low a j (omega arith) e
 
 -- every undecided candidate is on an edge
 abbrev pub Covered : List (List Bool) → List Status → Type 0
-Covered rows st = (k : ℕ) → Undecided st k → (e : ℕ) × (e < length rows) × On rows e k
+Covered masks st = (k : ℕ) → Undecided st k → (e : ℕ) × (e < length masks) × On masks e k
 
-none-open : (row : List Bool) (st : List Status) → openOn row st ≡ 0 → (j : ℕ) → dig row j ≡ true → Undecided st j → ⊥
-none-open row st z j h u = count-none (both row (map isOpen st)) (count-opens row st ∙ z) j (dig-both row (map isOpen st) j ∙ and-both h u)
+none-open : (mask : List Bool) (st : List Status) → openOn mask st ≡ 0 → (j : ℕ) → dig mask j ≡ true → Undecided st j → ⊥
+none-open mask st z j h u = count-none (both mask (map isOpen st)) (count-opens mask st ∙ z) j (dig-both mask (map isOpen st) j ∙ and-both h u)
 
-pub choose-lowest : (rows : List (List Bool)) (st : List Status) → Covered rows st → (k : ℕ) → Undecided st k → Lowest rows st (choose rows st)
+pub choose-lowest : (masks : List (List Bool)) (st : List Status) → Covered masks st → (k : ℕ) → Undecided st k → Lowest masks st (choose masks st)
 unfolding choose
 choose-lowest [] st c k u = absurd (let r = c k u in omega (arith, r .1))
-choose-lowest (row ∷ rows) st c k u = go (eqb (openOn row st) 0) refl (choose-lowest rows st)
+choose-lowest (mask ∷ masks) st c k u = go (eqb (openOn mask st) 0) refl (choose-lowest masks st)
   where
-    go : (b : Bool) → eqb (openOn row st) 0 ≡ b → (Covered rows st → (k : ℕ) → Undecided st k → Lowest rows st (choose rows st))
-        → Lowest (row ∷ rows) st (cond b (choose rows st) (first (both row (map isOpen st))))
+    go : (b : Bool) → eqb (openOn mask st) 0 ≡ b → (Covered masks st → (k : ℕ) → Undecided st k → Lowest masks st (choose masks st))
+        → Lowest (mask ∷ masks) st (cond b (choose masks st) (first (both mask (map isOpen st))))
     go true e ih =
-        let z : openOn row st ≡ 0 = eqb-true (openOn row st) 0 e in
+        let z : openOn mask st ≡ 0 = eqb-true (openOn mask st) 0 e in
         let r = ih (λ j w. rest z j w (c j w)) k u in
         record {
           edge = suc (r .edge);
@@ -48,70 +48,70 @@ choose-lowest (row ∷ rows) st c k u = go (eqb (openOn row st) 0) refl (choose-
           lower = r .lower;
         }
       where
-        rest : openOn row st ≡ 0 → (j : ℕ) → Undecided st j → (f : ℕ) × (f < length (row ∷ rows)) × On (row ∷ rows) f j → (f : ℕ) × (f < length rows) × On rows f j
-        rest z j w (zero, h, o) = absurd (none-open row st z j o w)
+        rest : openOn mask st ≡ 0 → (j : ℕ) → Undecided st j → (f : ℕ) × (f < length (mask ∷ masks)) × On (mask ∷ masks) f j → (f : ℕ) × (f < length masks) × On masks f j
+        rest z j w (zero, h, o) = absurd (none-open mask st z j o w)
         rest z j w (suc f, h, o) = (f, omega arith, o)
 
-        below : openOn row st ≡ 0 → (r : Lowest rows st (choose rows st)) → (f j : ℕ) → f < suc (r .edge) → On (row ∷ rows) f j → Undecided st j → ⊥
-        below z r zero j h o w = none-open row st z j o w
+        below : openOn mask st ≡ 0 → (r : Lowest masks st (choose masks st)) → (f j : ℕ) → f < suc (r .edge) → On (mask ∷ masks) f j → Undecided st j → ⊥
+        below z r zero j h o w = none-open mask st z j o w
         below z r (suc f) j h o w = r .lower-edge f j (omega arith) o w
     go false e ih =
-        let n : count (both row (map isOpen st)) ≡ 0 → ⊥ = λ z. eqb-false (openOn row st) 0 e (sym (count-opens row st) ∙ z) in
-        let m : (dig row (first (both row (map isOpen st))) && dig (map isOpen st) (first (both row (map isOpen st)))) ≡ true
-        = sym (dig-both row (map isOpen st) (first (both row (map isOpen st)))) ∙ first-in (both row (map isOpen st)) n in
+        let n : count (both mask (map isOpen st)) ≡ 0 → ⊥ = λ z. eqb-false (openOn mask st) 0 e (sym (count-opens mask st) ∙ z) in
+        let m : (dig mask (first (both mask (map isOpen st))) && dig (map isOpen st) (first (both mask (map isOpen st)))) ≡ true
+        = sym (dig-both mask (map isOpen st) (first (both mask (map isOpen st)))) ∙ first-in (both mask (map isOpen st)) n in
         record {
           edge = 0;
           here = omega arith;
-          on = and-left (dig row (first (both row (map isOpen st)))) (dig (map isOpen st) (first (both row (map isOpen st)))) m;
-          undecided = and-right (dig row (first (both row (map isOpen st)))) (dig (map isOpen st) (first (both row (map isOpen st)))) m;
+          on = and-left (dig mask (first (both mask (map isOpen st)))) (dig (map isOpen st) (first (both mask (map isOpen st)))) m;
+          undecided = and-right (dig mask (first (both mask (map isOpen st)))) (dig (map isOpen st) (first (both mask (map isOpen st)))) m;
           lower-edge = λ f j h o w. omega arith;
-          lower = λ j h o w. first-low (both row (map isOpen st)) j h (dig-both row (map isOpen st) j ∙ and-both o w);
+          lower = λ j h o w. first-low (both mask (map isOpen st)) j h (dig-both mask (map isOpen st) j ∙ and-both o w);
         }
 
 -- ---- the states of a tree are as long as the first
-decide-length : (v : Status) (row : List Bool) (st : List Status) → length (decide v row st) ≡ length st
+decide-length : (v : Status) (mask : List Bool) (st : List Status) → length (decide v mask st) ≡ length st
 unfolding decide
 decide-length v [] st = refl
-decide-length v (b ∷ row) [] = refl
-decide-length v (b ∷ row) (s ∷ st) = ap suc (decide-length v row st)
+decide-length v (b ∷ mask) [] = refl
+decide-length v (b ∷ mask) (s ∷ st) = ap suc (decide-length v mask st)
 
-settle-length : (row : List Bool) (st : List Status) → length (settle row st) ≡ length st
+settle-length : (mask : List Bool) (st : List Status) → length (settle mask st) ≡ length st
 unfolding settle
-settle-length row st = go (eqb (takenOn row st) 2) (eqb (takenOn row st + openOn row st) 2)
+settle-length mask st = go (eqb (takenOn mask st) 2) (eqb (takenOn mask st + openOn mask st) 2)
   where
-    go : (a b : Bool) → length (cond a (decide Rejected row st) (cond b (decide Taken row st) st)) ≡ length st
-    go true b = decide-length Rejected row st
-    go false true = decide-length Taken row st
+    go : (a b : Bool) → length (cond a (decide Rejected mask st) (cond b (decide Taken mask st) st)) ≡ length st
+    go true b = decide-length Rejected mask st
+    go false true = decide-length Taken mask st
     go false false = refl
 
-sweep-length : (rows : List (List Bool)) (st s : List Status) → sweep rows st ≡ Stands s → length s ≡ length st
+sweep-length : (masks : List (List Bool)) (st s : List Status) → sweep masks st ≡ Stands s → length s ≡ length st
 unfolding sweep
 sweep-length [] st s e = let p : st ≡ s = cc in sym (ap length p)
-sweep-length (row ∷ rows) st s e = go (sweep-length rows (settle row st) s) (contradicts row st) e
+sweep-length (mask ∷ masks) st s e = go (sweep-length masks (settle mask st) s) (contradicts mask st) e
   where
-    go : (sweep rows (settle row st) ≡ Stands s → length s ≡ length (settle row st)) → (b : Bool) → cond b Broken (sweep rows (settle row st)) ≡ Stands s → length s ≡ length st
+    go : (sweep masks (settle mask st) ≡ Stands s → length s ≡ length (settle mask st)) → (b : Bool) → cond b Broken (sweep masks (settle mask st)) ≡ Stands s → length s ≡ length st
     go ih true q = let z : _≡_ {A = ℕ} 0 1 = cc in absurd (omega arith)
-    go ih false q = ih q ∙ settle-length row st
+    go ih false q = ih q ∙ settle-length mask st
 
 abbrev Long : ℕ → Outcome → Type 0
 Long n Broken = Unit {0}
 Long n (Stands s) = length s ≡ n
 
-sweeps-long : {rows : List (List Bool)} {st : List Status} {o : Outcome} → Sweeps rows st o → Long (length st) o
+sweeps-long : {masks : List (List Bool)} {st : List Status} {o : Outcome} → Sweeps masks st o → Long (length st) o
 sweeps-long (breaks e) = tt
 sweeps-long (rests e) = refl
-sweeps-long {rows} (again {st} {st′} {o} e n w) = subst (λ (m : ℕ). Long m o) (sweep-length rows st st′ e) (sweeps-long w)
+sweeps-long {masks} (again {st} {st′} {o} e n w) = subst (λ (m : ℕ). Long m o) (sweep-length masks st st′ e) (sweeps-long w)
 
 some-open : (st : List Status) → (openCount st ≡ 0 → ⊥) → Undecided st (first (map isOpen st))
 some-open st n = first-in (map isOpen st) (λ e. n (sym (count-open st) ∙ e))
 
-pub tree-chooses : {rows : List (List Bool)} {st : List Status} (n : ℕ) → length st ≡ n → ((k : ℕ) → k < n → (e : ℕ) × (e < length rows) × On rows e k) → (t : Tree rows st) → Chooses t
+pub tree-chooses : {masks : List (List Bool)} {st : List Status} (n : ℕ) → length st ≡ n → ((k : ℕ) → k < n → (e : ℕ) × (e < length masks) × On masks e k) → (t : Tree masks st) → Chooses t
 unfolding Chooses
 tree-chooses n l c (broken w) = tt
 tree-chooses n l c (leaf s w z) = tt
-tree-chooses {rows} n l c (branch s w z a b) =
+tree-chooses {masks} n l c (branch s w z a b) =
     let m : length s ≡ n = sweeps-long w ∙ l in (
-      choose-lowest rows s (λ k u. c k (subst (λ (x : ℕ). k < x) m (open-lt s k u))) (first (map isOpen s)) (some-open s z),
-      tree-chooses n (length-set s (choose rows s) Taken ∙ m) c a,
-      tree-chooses n (length-set s (choose rows s) Rejected ∙ m) c b,
+      choose-lowest masks s (λ k u. c k (subst (λ (x : ℕ). k < x) m (open-lt s k u))) (first (map isOpen s)) (some-open s z),
+      tree-chooses n (length-set s (choose masks s) Taken ∙ m) c a,
+      tree-chooses n (length-set s (choose masks s) Rejected ∙ m) c b,
     )

@@ -29,13 +29,13 @@ sought-append [] b = refl
 sought-append (assumes ∷ a) b = sought-append a b
 sought-append (comes s ∷ a) b = ap (λ (l : List (List Status)). s ∷ l) (sought-append a b)
 
-pub made-steps : {rows : List (List Bool)} {st : List Status} (t : Tree rows st) → made (steps t) ≡ assumptions t
+pub made-steps : {masks : List (List Bool)} {st : List Status} (t : Tree masks st) → made (steps t) ≡ assumptions t
 unfolding made steps assumptions
 made-steps (broken w) = refl
 made-steps (Tree.leaf s w z) = refl
 made-steps (branch s w n a b) = omega (arith, made-append (steps a) (assumes ∷ steps b), made-steps a, made-steps b)
 
-pub sought-steps : {rows : List (List Bool)} {st : List Status} (t : Tree rows st) → sought (steps t) ≡ leaves t
+pub sought-steps : {masks : List (List Bool)} {st : List Status} (t : Tree masks st) → sought (steps t) ≡ leaves t
 unfolding sought steps leaves
 sought-steps (broken w) = refl
 sought-steps (Tree.leaf s w z) = refl
@@ -72,36 +72,36 @@ module _ (cap : ℕ) (accept : List Status → Bool) (limit : ℕ) where
   unfolding follow
   follow-none log = refl
 
-  pub walk-follows : {rows : List (List Bool)} {st : List Status} (t : Tree rows st) (f : ℕ) → openCount st < f → (log : Log)
-      → walk f cap accept limit rows st log ≡ follow (steps t) log
+  pub walk-follows : {masks : List (List Bool)} {st : List Status} (t : Tree masks st) (f : ℕ) → openCount st < f → (log : Log)
+      → walk f cap accept limit masks st log ≡ follow (steps t) log
   unfolding walk steps
   walk-follows (broken w) zero h log = absurd (omega arith)
-  walk-follows {rows} (broken {st} w) (suc f) h log = go (eqb (log .ended) 0) refl
+  walk-follows {masks} (broken {st} w) (suc f) h log = go (eqb (log .ended) 0) refl
     where
-      go : (c : Bool) → eqb (log .ended) 0 ≡ c → walk (suc f) cap accept limit rows st log ≡ follow [] log
-      go true e = rw (e, sweeps-stable rows w (suc (openCount st)) (omega arith)) (follow-none log)
+      go : (c : Bool) → eqb (log .ended) 0 ≡ c → walk (suc f) cap accept limit masks st log ≡ follow [] log
+      go true e = rw (e, sweeps-stable masks w (suc (openCount st)) (omega arith)) (follow-none log)
       go false e = rw e (sym (follow-ended [] log e))
   walk-follows (Tree.leaf s w z) zero h log = absurd (omega arith)
-  walk-follows {rows} (Tree.leaf {st} s w z) (suc f) h log = go (eqb (log .ended) 0) refl
+  walk-follows {masks} (Tree.leaf {st} s w z) (suc f) h log = go (eqb (log .ended) 0) refl
     where
-      go : (c : Bool) → eqb (log .ended) 0 ≡ c → walk (suc f) cap accept limit rows st log ≡ follow (comes s ∷ []) log
-      go true e = rw (e, sweeps-stable rows w (suc (openCount st)) (omega arith), eq-eqb (openCount s) 0 z) (follow-leaf s log e)
+      go : (c : Bool) → eqb (log .ended) 0 ≡ c → walk (suc f) cap accept limit masks st log ≡ follow (comes s ∷ []) log
+      go true e = rw (e, sweeps-stable masks w (suc (openCount st)) (omega arith), eq-eqb (openCount s) 0 z) (follow-leaf s log e)
       go false e = rw e (sym (follow-ended (comes s ∷ []) log e))
   walk-follows (branch s w n a b) zero h log = absurd (omega arith)
-  walk-follows {rows} (branch {st} s w n a b) (suc f) h log =
-      let l = sweeps-fewer rows w in
-      let m = chosen-fewer rows s n in
+  walk-follows {masks} (branch {st} s w n a b) (suc f) h log =
+      let l = sweeps-fewer masks w in
+      let m = chosen-fewer masks s n in
       let m₀ = m .0 in
       let m₁ = m .1 in
       go (eqb (log .ended) 0) refl (walk-follows a f (omega arith)) (walk-follows b f (omega arith))
     where
       go : (c : Bool) → eqb (log .ended) 0 ≡ c
-          → ((l : Log) → walk f cap accept limit rows (set s (choose rows s) Taken) l ≡ follow (steps a) l)
-          → ((l : Log) → walk f cap accept limit rows (set s (choose rows s) Rejected) l ≡ follow (steps b) l)
-          → walk (suc f) cap accept limit rows st log ≡ follow (assumes ∷ (steps a ++ (assumes ∷ steps b))) log
+          → ((l : Log) → walk f cap accept limit masks (set s (choose masks s) Taken) l ≡ follow (steps a) l)
+          → ((l : Log) → walk f cap accept limit masks (set s (choose masks s) Rejected) l ≡ follow (steps b) l)
+          → walk (suc f) cap accept limit masks st log ≡ follow (assumes ∷ (steps a ++ (assumes ∷ steps b))) log
       go true e p q =
-          rw (e, sweeps-stable rows w (suc (openCount st)) (omega arith), ne-eqb (openCount s) 0 n)
-          (q (assume limit (walk f cap accept limit rows (set s (choose rows s) Taken) (assume limit log)))
+          rw (e, sweeps-stable masks w (suc (openCount st)) (omega arith), ne-eqb (openCount s) 0 n)
+          (q (assume limit (walk f cap accept limit masks (set s (choose masks s) Taken) (assume limit log)))
           ∙ ap (λ (l : Log). follow (steps b) (assume limit l)) (p (assume limit log)) ∙ follow-branch (steps a) (steps b) log)
       go false e p q = rw e (sym (follow-ended (assumes ∷ (steps a ++ (assumes ∷ steps b))) log e))
 

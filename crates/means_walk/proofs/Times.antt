@@ -1,4 +1,4 @@
--- How often a selection is in a list, by places; selections and rows of yes and no. Assumes nothing.
+-- How often a selection is in a list, by places; selections and masks of yes and no. Assumes nothing.
 use mathlib.Core.Bool.{Bool, true, false, _&&_, true≢false}
 use mathlib.Core.List.{List, [], _∷_, map}
 use mathlib.Core.Path.{_≡_, refl, sym, ap, ap₂, _∙_}
@@ -49,7 +49,7 @@ times-one (y ∷ l) x t (suc i) zero hi hj p q =
     absurd (omega (arith, at-times l x i (omega arith) p))
 times-one (y ∷ l) x t (suc i) (suc j) hi hj p q = ap suc (times-one l x (omega arith) i j (omega arith) (omega arith) p q)
 
--- ---- a row of yes and no as a selection with nothing undecided
+-- ---- a mask of yes and no as a selection with nothing undecided
 abbrev pub decided : Bool → Status
 decided true = Taken
 decided false = Rejected

@@ -9,10 +9,10 @@ use lib.Pow.{high, low, pow-pos, pow-add, shr-shr, shr-lt}
 use lib.Arith.{digits-lt}
 use lib.ListN.{length, getD, take, drop, set, length-append}
 use lib.Seq.{take-length, set-getD, length-take-le, take-append-add}
-use Rattle.pack.specs.Bits.{bits, val, run, fieldAt, over}
+use Rattle.pack.specs.Bits.{bits, val, run, fieldAt, overwrite}
 use Rattle.pack.specs.Bytes.{three, windowAt, patched}
 use Rattle.pack.proofs.Laws.{length-bits, bits-same, bits-append, val-bits, val-append, bits-val, length-run, run-append, under-run}
-use Rattle.pack.proofs.Over.{run-take, over-at}
+use Rattle.pack.proofs.Overwrite.{run-take, overwrite-at}
 use Rattle.pack.proofs.Trip.{field-at}
 
 -- ---- a number with one field of its bits replaced
@@ -130,17 +130,17 @@ module _ (s : List ℕ) (i w k : ℕ) (h : i + w ≤ length s * 8) (e : i % 8 + 
       let t = windowAt s (i / 8) in
       (λ j. f j / 2 ^ k % g j) ∙ sym (field-at s (ahead t) (behind t) i (length-ahead t) w (t / 2 ^ k) whole)
 
-  patched-window : (v : ℕ) → let x = patched (windowAt s (i / 8)) k w v in ahead x ++ (bits w (x / 2 ^ k) ++ behind x) ≡ over (run 8 s) i (bits w v)
+  patched-window : (v : ℕ) → let x = patched (windowAt s (i / 8)) k w v in ahead x ++ (bits w (x / 2 ^ k) ++ behind x) ≡ overwrite (run 8 s) i (bits w v)
   unfolding ahead behind
   patched-window v =
       let t = windowAt s (i / 8) in
       let l : length (bits w (t / 2 ^ k)) ≡ length (bits w v) = length-bits w (t / 2 ^ k) ∙ sym (length-bits w v) in
       rw (patched-above t k w v, patched-here t k w v, patched-low t k w v)
-      (sym (over-at (ahead t) (bits w (t / 2 ^ k)) (bits w v) (behind t) i (length-ahead t) l) ∙ ap (λ (d : List ℕ). over d i (bits w v)) (sym whole))
+      (sym (overwrite-at (ahead t) (bits w (t / 2 ^ k)) (bits w v) (behind t) i (length-ahead t) l) ∙ ap (λ (d : List ℕ). overwrite d i (bits w v)) (sym whole))
 
   -- what three stores leave
   pub put-window : (v : ℕ) {t x : ℕ} {a b c : List ℕ} → t ≡ windowAt s (i / 8) → x ≡ patched t k w v
-      → a ≡ set s (i / 8) (x / 65536) → b ≡ set a (i / 8 + 1) (x / 256 % 256) → c ≡ set b (i / 8 + 2) (x % 256) → run 8 c ≡ over (run 8 s) i (bits w v)
+      → a ≡ set s (i / 8) (x / 65536) → b ≡ set a (i / 8 + 1) (x / 256 % 256) → c ≡ set b (i / 8 + 2) (x % 256) → run 8 c ≡ overwrite (run 8 s) i (bits w v)
   put-window v {x = x} p q f g h =
       let m : i / 8 + 2 ≡ suc (suc (i / 8)) = omega arith in
       let e : x ≡ patched (windowAt s (i / 8)) k w v = q ∙ ap (λ (n : ℕ). patched n k w v) p in

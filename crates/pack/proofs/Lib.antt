@@ -1,6 +1,6 @@
 -- The laws of packed fields, over the width, and of arrays that are filled. Assumes nothing.
 pub mod Laws
-pub mod Over
+pub mod Overwrite
 pub mod Trip
 pub mod Bytes
 pub mod Fill

@@ -1,8 +1,8 @@
 // Packed fields, most significant bit first. A field of up to 16 bits lies within three bytes, and is read and written there at once.
 ghost use mathlib.Core.Path.{_≡_};
-ghost use Prim.Native.Nat.{_+_, _*_, _≤_, _<_, _/_, _^_};
+ghost use Prim.Native.Nat.{_+_, _*_, _-_, _≤_, _<_, _/_, _^_};
 ghost use lib.ListN.{length, getD, set};
-ghost use Rattle.pack.specs.Bits.{bits, run, fieldAt, over};
+ghost use Rattle.pack.specs.Bits.{bits, run, fieldAt, overwrite};
 ghost use Rattle.pack.specs.Bytes.{windowAt, patched};
 
 // 2 to the k.
@@ -63,11 +63,19 @@ fn set_byte(s: &mut [u8], k: usize, b: u64)
 // Sets the width bits of s from bit i on to those of v.
 pub fn put(s: &mut [u8], i: usize, width: usize, v: u64)
     requires { ⌜ (width ≤ 16) × (i + width ≤ length (now s) * 8) ⌝ }
-    ensures { λ _. ⌜ run 8 (now (s .exit)) ≡ over (run 8 (now (s .entry))) i (bits width v) ⌝ }
+    ensures { λ _. ⌜ run 8 (now (s .exit)) ≡ overwrite (run 8 (now (s .entry))) i (bits width v) ⌝ }
 {
     let q = i / 8;
     let x = patch(window(s, i), 24 - i % 8 - width, width, v);
     set_byte(s, q, x / 65536);
     set_byte(s, q + 1, x / 256 % 256);
     set_byte(s, q + 2, x % 256);
+}
+
+// Fills the last byte of the first n bits with zeros.
+pub fn put_fill(s: &mut [u8], n: usize)
+    requires { ⌜ ((n + 7) / 8 ≤ length (now s)) × (n < 2 ^ 31) ⌝ }
+    ensures { λ _. ⌜ run 8 (now (s .exit)) ≡ overwrite (run 8 (now (s .entry))) n (bits ((n + 7) / 8 * 8 - n) 0) ⌝ }
+{
+    put(s, n, (n + 7) / 8 * 8 - n, 0);
 }

@@ -9,7 +9,7 @@ use Rattle.sets.specs.Word.{word}
 use Rattle.paper.specs.Numbers.{mostSolids, mostWork, faceRoom, solidRoom, rowBytes, solidWords}
 use Rattle.paper.specs.Refusals as No
 use Rattle.paper.specs.Refusals.{Check, check, firstOf, offends}
-use Rattle.paper.specs.Format.{one, coordinatesIn, endsIn}
+use Rattle.paper.specs.Format.{editionOne, coordinatesIn, endsIn}
 use Rattle.paper.specs.Sheet.{sheetChecks, lentChecks}
 use Rattle.paper.specs.Drawing.{Wire, wire, drawingChecks}
 use Rattle.paper.specs.Loops.{Loop, row, loops, uncovering, loopChecks}
@@ -110,12 +110,12 @@ conversion cap form d limit faces solids =
     let cs = uncovering d ls in
     let t = tablesOf d cs in
     orConvert (firstOf (entryChecks limit faces solids ++ form ++ drawingChecks d ++ loopChecks ls cs)) faces solids
-    (concluded (length ls) cs t (search cap (accepted t) limit (length cs) (t .rows)) faces solids)
+    (concluded (length ls) cs t (search cap (accepted t) limit (length cs) (t .masks)) faces solids)
 
 -- of "two lists of numbers", where "3, 4, 6 and 7 don't arise"; of a sheet
 unfoldable pub convertLists : List ℤ → List ℕ → ℕ → List ℕ → List ℕ → Converted
-convertLists xyz ends limit faces solids = conversion mostSolids (lentChecks one xyz ends) (wire xyz ends) limit faces solids
+convertLists xyz ends limit faces solids = conversion mostSolids (lentChecks editionOne xyz ends) (wire xyz ends) limit faces solids
 
 unfoldable pub convertSheet : List ℕ → ℕ → List ℕ → List ℕ → Converted
 convertSheet s limit faces solids =
-    conversion mostSolids (sheetChecks one s) (wire (coordinatesIn one s) (endsIn one s)) limit faces solids
+    conversion mostSolids (sheetChecks editionOne s) (wire (coordinatesIn editionOne s) (endsIn editionOne s)) limit faces solids

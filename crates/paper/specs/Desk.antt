@@ -8,9 +8,9 @@ use Prim.Native.String as Text
 use Prim.Native.String.{String}
 use lib.Dec.{ltb}
 use lib.ListN.{getD, drop, replicate}
-use Rattle.sets.specs.Word.{bits}
+use Rattle.sets.specs.Word.{digits}
 use Rattle.paper.specs.Numbers.{mostCandidates, mostWork, faceRoom, solidRoom, solidWords}
-use Rattle.paper.specs.Format.{one, verticesIn, edgesIn}
+use Rattle.paper.specs.Format.{editionOne, verticesIn, edgesIn}
 use Rattle.paper.specs.Conversion.{convertSheet}
 use Rattle.paper.specs.declared.Conversion.{Conversion}
 use Rattle.paper.specs.declared.Conversion.the-variants as Conversion
@@ -41,7 +41,7 @@ facesText k (false ∷ taken) turned = facesText (suc k) taken turned
 unfoldable pub solidText : ℕ → List ℕ → List ℕ
 solidText i ws =
     text "solid " ++ decimal i ++ text " sixvolumes " ++ decimal (getD ws 2 0) ++ text " faces"
-    ++ facesText 0 (bits mostCandidates (getD ws 0 0)) (bits mostCandidates (getD ws 1 0)) ++ text "\n"
+    ++ facesText 0 (digits mostCandidates (getD ws 0 0)) (digits mostCandidates (getD ws 1 0)) ++ text "\n"
 
 unfoldable pub solidsText : ℕ → ℕ → List ℕ → List ℕ
 solidsText i zero ws = []
@@ -67,4 +67,4 @@ answerText v e (Conversion.Refused r) ws = text "refused " ++ decimal (r .number
 unfoldable pub deskText : List ℕ → List ℕ
 deskText s =
     let c = convertSheet s mostWork (replicate faceRoom 0) (replicate solidRoom 0) in
-    answerText (verticesIn one s) (edgesIn one s) (c .answer) (c .solids)
+    answerText (verticesIn editionOne s) (edgesIn editionOne s) (c .answer) (c .solids)

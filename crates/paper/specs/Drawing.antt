@@ -114,25 +114,25 @@ edgeMeets d =
 
 -- ---- 14: "not reachable from vertex 0"
 
--- the vertices of a row, and those that one edge more leads to
+-- the vertices of a marks, and those that one edge more leads to
 unfoldable pub further : Wire → List Bool → List Bool
 unfolding any upto joined
-further d row =
+further d marks =
     let vs = upto (length (d .vertices)) in
-    map (λ v. getD row v false || any (λ u. getD row u false && joined d u v) vs) vs
+    map (λ v. getD marks v false || any (λ u. getD marks u false && joined d u v) vs) vs
 
 -- those that k edges or fewer lead to; as many edges as vertices are enough
-unfoldable pub reached : Wire → ℕ → List Bool
+unfoldable pub verticesReached : Wire → ℕ → List Bool
 unfolding further upto
-reached d zero = map (eqb 0) (upto (length (d .vertices)))
-reached d (suc k) = further d (reached d k)
+verticesReached d zero = map (eqb 0) (upto (length (d .vertices)))
+verticesReached d (suc k) = further d (verticesReached d k)
 
 unfoldable pub apart : Wire → Option ℕ
-unfolding lowest reached
+unfolding lowest verticesReached
 apart d =
     let n = length (d .vertices) in
-    let row = reached d n in
-    lowest (λ v. not (getD row v false)) n
+    let marks = verticesReached d n in
+    lowest (λ v. not (getD marks v false)) n
 
 unfoldable pub drawingChecks : Wire → List Check
 unfolding samePlace looseVertex edgeMeets apart

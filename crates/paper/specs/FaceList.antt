@@ -11,7 +11,7 @@ use Rattle.lists.specs.Lists.{all, filter, upto}
 use Rattle.paper.specs.Numbers.{leastCorners, mostCorners, mostCandidates, rowBytes}
 use Rattle.paper.specs.Refusals as No
 use Rattle.paper.specs.Refusals.{Check, check, refuse, firstOf, offends}
-use Rattle.paper.specs.Format.{one, leastFaces, editionBits, cornerBits, outside, bytesFor, filled, fillAfter}
+use Rattle.paper.specs.Format.{editionOne, leastFaces, editionBits, cornerBits, outside, bytesFor, filled, fillAfter}
 use Rattle.paper.specs.Loops.{Loop, flipped, row}
 use Rattle.paper.specs.declared.Format.{Format}
 use Rattle.paper.specs.declared.Answer.{Answer}
@@ -22,15 +22,15 @@ use Rattle.paper.specs.declared.Faces.{Faces}
 
 -- no faces by value, where the list is refused
 abbrev pub noFaces : Faces
-noFaces = record { answer = refuse No.ShellShape 0; count = 0; rows = padded [] (rowBytes * one .fmax) 0 }
+noFaces = record { answer = refuse No.ShellShape 0; count = 0; rows = padded [] (rowBytes * editionOne .«most_faces») 0 }
 
 module _ (f : Format) where
   -- "edition (4 bits, 1), face count (6 bits, 4 to 42), then per face the corner count (4 bits, 3 to 12) and corners (5 bits each)"
   unfoldable pub faceBits : Loop → List ℕ
-  faceBits l = bits cornerBits (length l) ++ run (f .nw) l
+  faceBits l = bits cornerBits (length l) ++ run (f .«vertex_number_bits») l
 
   unfoldable pub listBits : List Loop → List ℕ
-  listBits fs = bits editionBits (f .edition) ++ bits (f .fw) (length fs) ++ flatMap faceBits fs
+  listBits fs = bits editionBits (f .edition) ++ bits (f .«face_count_bits») (length fs) ++ flatMap faceBits fs
 
   -- "zero fill"
   unfoldable pub encodeFaces : List Loop → List ℕ
@@ -41,22 +41,22 @@ module _ (f : Format) where
   facesAt zero bs = []
   facesAt (suc n) bs =
       let k = val (take cornerBits bs) in
-      cut (f .nw) k (drop cornerBits bs) ∷ facesAt n (drop (cornerBits + f .nw * k) bs)
+      cut (f .«vertex_number_bits») k (drop cornerBits bs) ∷ facesAt n (drop (cornerBits + f .«vertex_number_bits» * k) bs)
 
   -- the face count and the faces that stand in a list's bytes
   abbrev pub countIn : List ℕ → ℕ
-  countIn s = fieldAt s editionBits (f .fw)
+  countIn s = fieldAt s editionBits (f .«face_count_bits»)
 
   unfoldable pub facesIn : List ℕ → List Loop
-  facesIn s = facesAt (countIn s) (drop (editionBits + f .fw) (run 8 s))
+  facesIn s = facesAt (countIn s) (drop (editionBits + f .«face_count_bits») (run 8 s))
 
   -- the bits of faces; the bits before the fill
   unfoldable pub span : List Loop → ℕ
   span [] = 0
-  span (l ∷ fs) = cornerBits + f .nw * length l + span fs
+  span (l ∷ fs) = cornerBits + f .«vertex_number_bits» * length l + span fs
 
   unfoldable pub bitsOf : List Loop → ℕ
-  bitsOf fs = editionBits + f .fw + span fs
+  bitsOf fs = editionBits + f .«face_count_bits» + span fs
 
   -- 20: "counts, length, fill, edition or corner number", for a drawing of v vertices
   unfoldable pub faceFits : ℕ → Loop → Bool
@@ -66,7 +66,7 @@ module _ (f : Format) where
   wellShaped v s =
       let fs = facesIn s in
       eqb (fieldAt s 0 editionBits) (f .edition)
-      && not (outside leastFaces (f .fmax) (countIn s))
+      && not (outside leastFaces (f .«most_faces») (countIn s))
       && all (faceFits v) fs
       && eqb (length s) (bytesFor (bitsOf fs))
       && eqb (fillAfter (bitsOf fs) s) 0
@@ -75,7 +75,7 @@ module _ (f : Format) where
   unfoldable pub facesOf : ℕ → List ℕ → Faces
   facesOf v s =
       cond (wellShaped v s)
-      (record { answer = Answer.Fine; count = countIn s; rows = padded (flatMap row (facesIn s)) (rowBytes * one .fmax) 0 })
+      (record { answer = Answer.Fine; count = countIn s; rows = padded (flatMap row (facesIn s)) (rowBytes * editionOne .«most_faces») 0 })
       noFaces
 
 -- ---- a reported solid, sent as a list: from the rows of a report and the first two words of the solid
@@ -89,14 +89,14 @@ rowAt rows k =
 -- "a bit per taken candidate (candidate 0 lowest), a bit per taken face run against its normal form": its faces, in candidate order
 unfoldable pub solidFaces : List ℕ → ℕ → ℕ → List Loop
 solidFaces rows taken turned =
-    let at : ℕ → Loop = λ k. cond (getD (Word.bits mostCandidates turned) k false) (flipped (rowAt rows k)) (rowAt rows k) in
-    map at (filter (λ k. getD (Word.bits mostCandidates taken) k false) (upto mostCandidates))
+    let at : ℕ → Loop = λ k. cond (getD (Word.digits mostCandidates turned) k false) (flipped (rowAt rows k)) (rowAt rows k) in
+    map at (filter (λ k. getD (Word.digits mostCandidates taken) k false) (upto mostCandidates))
 
 module _ (f : Format) (fs : List Loop) where
   -- 20 where these are no faces of a list, and 1 where the room is shorter than the list
   unfoldable pub sendChecks : ℕ → List Check
   sendChecks room =
-      check No.ShellShape (offends (outside leastFaces (f .fmax) (length fs) || not (all (faceFits f (f .vmax)) fs)) 0)
+      check No.ShellShape (offends (outside leastFaces (f .«most_faces») (length fs) || not (all (faceFits f (f .«most_vertices»)) fs)) 0)
       ∷ check No.NoRoom (offends (ltb room (bytesFor (bitsOf f fs))) 0)
       ∷ []
 

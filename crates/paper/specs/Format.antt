@@ -1,18 +1,27 @@
 -- Document 01, "The drawing sheet": the layout of sheets and face lists, over an edition's widths and counts. Assumes nothing.
-use mathlib.Core.Bool.{Bool, _||_, _&&_}
+use mathlib.Core.Bool.{Bool, _||_}
 use mathlib.Core.List.{List, _++_, map}
 use Prim.Native.Nat.{ℕ, _+_, _*_, _-_, _/_}
 use lib.IntN.{ℤ, pos, _-ℤ_, _+ℤ_, natAbs}
-use lib.Dec.{leb, ltb}
+use lib.Dec.{ltb}
 use lib.ListN.{length}
 use Rattle.pack.specs.Bits.{bits, run, cut, fieldAt, fieldsAt}
 use Rattle.paper.specs.Numbers.{farthest}
 use Rattle.paper.specs.declared.Format.{Format}
 
 -- edition 1: "edition (4 bits, 1), vertex count (6), edge count (7)", "two vertex numbers (5 bits each)", "face count (6 bits, 4 to
--- 42)"; "4 to 32 vertices; 6 to 64 edges". There is no earlier edition.
-abbrev pub one : Format
-one = record { edition = 1; vw = 6; ew = 7; nw = 5; fw = 6; vmax = 32; emax = 64; fmax = 42; vlow = 0; elow = 0 }
+-- 42)"; "4 to 32 vertices; 6 to 64 edges"
+abbrev pub editionOne : Format
+editionOne = record {
+  edition = 1;
+  «vertex_count_bits» = 6;
+  «edge_count_bits» = 7;
+  «vertex_number_bits» = 5;
+  «face_count_bits» = 6;
+  «most_vertices» = 32;
+  «most_edges» = 64;
+  «most_faces» = 42;
+}
 
 abbrev pub leastVertices : ℕ
 leastVertices = 4
@@ -56,38 +65,34 @@ unfoldable pub fillAfter : ℕ → List ℕ → ℕ
 fillAfter n s = fieldAt s n (length s * 8 - n)
 
 module _ (f : Format) where
-  -- counts for which an earlier edition is used
-  abbrev pub low : ℕ → ℕ → Bool
-  low v e = leb v (f .vlow) && leb e (f .elow)
-
   -- bits before the first vertex
   abbrev pub head : ℕ
-  head = editionBits + f .vw + f .ew
+  head = editionBits + f .«vertex_count_bits» + f .«edge_count_bits»
 
   -- "Length: 17 + 33V + 10E bits"
   abbrev pub total : ℕ → ℕ → ℕ
-  total v e = head + 3 * coordinateBits * v + 2 * f .nw * e
+  total v e = head + 3 * coordinateBits * v + 2 * f .«vertex_number_bits» * e
 
   -- the counts, the coordinates and the vertex numbers that stand in a sheet's bytes
   abbrev pub verticesIn : List ℕ → ℕ
-  verticesIn s = fieldAt s editionBits (f .vw)
+  verticesIn s = fieldAt s editionBits (f .«vertex_count_bits»)
 
   abbrev pub edgesIn : List ℕ → ℕ
-  edgesIn s = fieldAt s (editionBits + f .vw) (f .ew)
+  edgesIn s = fieldAt s (editionBits + f .«vertex_count_bits») (f .«edge_count_bits»)
 
   abbrev pub coordinatesIn : List ℕ → List ℤ
   coordinatesIn s = map coordinate (fieldsAt s head coordinateBits (3 * verticesIn s))
 
   abbrev pub endsIn : List ℕ → List ℕ
-  endsIn s = fieldsAt s (head + 3 * coordinateBits * verticesIn s) (f .nw) (2 * edgesIn s)
+  endsIn s = fieldsAt s (head + 3 * coordinateBits * verticesIn s) (f .«vertex_number_bits») (2 * edgesIn s)
 
   -- a drawing's sheet
   abbrev pub headBits : ℕ → ℕ → List ℕ
-  headBits v e = bits editionBits (f .edition) ++ bits (f .vw) v ++ bits (f .ew) e
+  headBits v e = bits editionBits (f .edition) ++ bits (f .«vertex_count_bits») v ++ bits (f .«edge_count_bits») e
 
   unfoldable pub encode : List ℤ → List ℕ → List ℕ
   unfolding filled
   encode xyz ends =
       let v = length xyz / 3 in
       let e = length ends / 2 in
-      filled (total v e) (headBits v e ++ run coordinateBits (map onSheet xyz) ++ run (f .nw) ends)
+      filled (total v e) (headBits v e ++ run coordinateBits (map onSheet xyz) ++ run (f .«vertex_number_bits») ends)

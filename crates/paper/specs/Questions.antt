@@ -13,18 +13,18 @@ use Rattle.sets.specs.Word.{word, count, both, either, less, only, first}
 use Rattle.lists.specs.Lists.{any, all, filter, sides, anyTrue, upto, lowest, member, sameList}
 use Rattle.paper.specs.Numbers.{mostSolids, mostWork, faceRoom, solidRoom}
 use Rattle.paper.specs.Refusals.{firstOf}
-use Rattle.paper.specs.Format.{one, filled, fillAfter, encode}
+use Rattle.paper.specs.Format.{editionOne, filled, fillAfter, encode}
 use Rattle.paper.specs.Sheet.{farAt, wrongAt, lowAt, edgeChecks, contentChecks, openChecks, countChecks, closeChecks, shapeChecks, sheetChecks, lentChecks, sheetOf, writerChecks, writtenOf, roomOf}
 use Rattle.paper.specs.Points.{above}
 use Rattle.paper.specs.Polygon.{covers}
 use Rattle.paper.specs.Drawing.{pointsOf, wire, joined, drawingChecks}
 use Rattle.paper.specs.Loops.{flipped, row, follows, closes, branch, scan, ext, level, loops, polygon, uncovering, candidates, loopChecks}
 use Rattle.paper.specs.Clash.{pierces, enters, folds, clash}
-use Rattle.paper.specs.Solids.{runs, runsUp, has, faceSix, clashing, tablesOf, inTwo, unlike, fresh, known, runsDown, over, pass, spread, facesFrom, connected, onceEachWay, oriented, sixFrom, clearFrom, judged}
+use Rattle.paper.specs.Solids.{runs, runsUp, has, faceSix, clashing, tablesOf, inTwo, unlike, fresh, known, runsDown, acrossEdge, pass, spread, facesFrom, connected, onceEachWay, oriented, sixFrom, clearFrom, judged}
 use Rattle.paper.specs.Walk.{takenOn, openOn, openCount, decide, contradicts, settle, sweep, stable, choose, assume, leaf, walk, search}
 use Rattle.paper.specs.Conversion.{takens, accepted, facesAfter, words, solidsAfter, reported, concluded, entryChecks, conversion, convertLists, convertSheet}
 use Rattle.paper.specs.FaceList.{faceBits, listBits, encodeFaces, facesAt, facesIn, span, bitsOf, faceFits, wellShaped}
-use Rattle.paper.specs.Verdict.{lowestAt, fromPlace, fromLowest, onward, normalForm, numberIn, rowOf, listed, notCandidate, faceTwice, edgeCount, direction, pieces, inward, clashes, faceChecks, verdict, verdictLists}
+use Rattle.paper.specs.Verdict.{lowestAt, fromPlace, fromLowest, onward, normalForm, numberIn, maskOf, listed, notCandidate, faceTwice, edgeCount, direction, pieces, inward, clashes, faceChecks, verdict, verdictLists}
 use Rattle.paper.specs.Reading.{readingOf}
 use Rattle.paper.specs.Desk.{text, decimalIn, decimal, signed, facesText, solidText, solidsText, headText, answerText, deskText}
 use Rattle.paper.specs.declared.Answer.{Answer}
@@ -91,25 +91,25 @@ selections d =
     let cs = candidates w in
     let t = tablesOf w cs in
     let turnedOf : List Bool → List Bool = λ taken. facesFrom (first taken) t taken .turned in
-    map (λ st. oriented (t .rows) (t .ups) (takens st) (turnedOf (takens st)))
-    (search mostSolids (λ st. true) mostWork (length cs) (t .rows) .found)
+    map (λ st. oriented (t .masks) (t .ups) (takens st) (turnedOf (takens st)))
+    (search mostSolids (λ st. true) mostWork (length cs) (t .masks) .found)
 
 unfoldable pub reply : Question → Reply
-unfolding bits val run cut fieldAt fieldsAt Word.bits word count both either less only first any all filter sides anyTrue upto lowest member sameList flatMap firstOf filled fillAfter encode farAt wrongAt lowAt edgeChecks contentChecks openChecks countChecks closeChecks shapeChecks sheetChecks lentChecks padded sheetOf writerChecks writtenOf roomOf above covers pointsOf wire joined drawingChecks row follows closes branch scan ext level loops polygon uncovering candidates loopChecks pierces enters folds clash runs runsUp has faceSix clashing tablesOf inTwo unlike fresh known runsDown over pass spread facesFrom connected onceEachWay oriented sixFrom clearFrom judged takenOn openOn openCount decide contradicts settle sweep stable choose assume leaf walk search accepted facesAfter words solidsAfter reported concluded entryChecks conversion convertLists convertSheet faceBits listBits encodeFaces facesAt facesIn span bitsOf faceFits wellShaped lowestAt fromPlace flipped fromLowest onward normalForm numberIn rowOf listed notCandidate faceTwice edgeCount direction pieces inward clashes faceChecks verdict verdictLists readingOf text decimalIn decimal signed facesText solidText solidsText headText answerText deskText selections
+unfolding bits val run cut fieldAt fieldsAt Word.digits word count both either less only first any all filter sides anyTrue upto lowest member sameList flatMap firstOf filled fillAfter encode farAt wrongAt lowAt edgeChecks contentChecks openChecks countChecks closeChecks shapeChecks sheetChecks lentChecks padded sheetOf writerChecks writtenOf roomOf above covers pointsOf wire joined drawingChecks row follows closes branch scan ext level loops polygon uncovering candidates loopChecks pierces enters folds clash runs runsUp has faceSix clashing tablesOf inTwo unlike fresh known runsDown acrossEdge pass spread facesFrom connected onceEachWay oriented sixFrom clearFrom judged takenOn openOn openCount decide contradicts settle sweep stable choose assume leaf walk search accepted facesAfter words solidsAfter reported concluded entryChecks conversion convertLists convertSheet faceBits listBits encodeFaces facesAt facesIn span bitsOf faceFits wellShaped lowestAt fromPlace flipped fromLowest onward normalForm numberIn maskOf listed notCandidate faceTwice edgeCount direction pieces inward clashes faceChecks verdict verdictLists readingOf text decimalIn decimal signed facesText solidText solidsText headText answerText deskText selections
 reply (converted d limit) =
     let c = convertLists (d .xyz) (d .ends) limit (faceBefore faceRoom) (solidBefore solidRoom) in
     solved (c .answer) (readingOf (c .answer)) (c .solids)
 reply (faced d) = bytes (convertLists (d .xyz) (d .ends) mostWork (faceBefore faceRoom) (solidBefore solidRoom) .faces)
 reply (wholly cap d limit f s) =
-    let c = conversion cap (lentChecks one (d .xyz) (d .ends)) (wire (d .xyz) (d .ends)) limit (faceBefore f) (solidBefore s) in
+    let c = conversion cap (lentChecks editionOne (d .xyz) (d .ends)) (wire (d .xyz) (d .ends)) limit (faceBefore f) (solidBefore s) in
     left (c .answer) (c .faces) (c .solids)
-reply (lent d) = answer (firstOf (lentChecks one (d .xyz) (d .ends)))
-reply (sized d) = number (length (encode one (d .xyz) (d .ends)))
-reply (stored d n) = wrote (writtenOf one (d .xyz) (d .ends) (faceBefore n)) (roomOf one (d .xyz) (d .ends) (faceBefore n))
-reply (fetched s) = sheet (sheetOf one s)
+reply (lent d) = answer (firstOf (lentChecks editionOne (d .xyz) (d .ends)))
+reply (sized d) = number (length (encode editionOne (d .xyz) (d .ends)))
+reply (stored d n) = wrote (writtenOf editionOne (d .xyz) (d .ends) (faceBefore n)) (roomOf editionOne (d .xyz) (d .ends) (faceBefore n))
+reply (fetched s) = sheet (sheetOf editionOne s)
 reply (desk s) = bytes (deskText s)
-reply (printed d) = bytes (deskText (encode one (d .xyz) (d .ends)))
-reply (sent d fs) = verdicts (verdictLists (d .xyz) (d .ends) (encodeFaces one fs))
+reply (printed d) = bytes (deskText (encode editionOne (d .xyz) (d .ends)))
+reply (sent d fs) = verdicts (verdictLists (d .xyz) (d .ends) (encodeFaces editionOne fs))
 reply (checked d list) = verdicts (verdictLists (d .xyz) (d .ends) list)
 reply (paired f g) =
     let p = pointsOf f in

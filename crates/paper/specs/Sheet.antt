@@ -12,7 +12,7 @@ use Rattle.lists.specs.Lists.{lowest}
 use Rattle.paper.specs.Numbers.{farthest}
 use Rattle.paper.specs.Refusals as No
 use Rattle.paper.specs.Refusals.{Check, check, firstOf, offends}
-use Rattle.paper.specs.Format.{one, leastVertices, leastEdges, editionBits, outside, low, total, bytesFor, fillAfter, verticesIn, edgesIn, coordinatesIn, endsIn, encode}
+use Rattle.paper.specs.Format.{editionOne, leastVertices, leastEdges, editionBits, outside, total, bytesFor, fillAfter, verticesIn, edgesIn, coordinatesIn, endsIn, encode}
 use Rattle.paper.specs.declared.Format.{Format}
 use Rattle.paper.specs.declared.Answer.{Answer}
 use Rattle.paper.specs.declared.Answer.the-variants as Answer
@@ -38,12 +38,12 @@ unfoldable pub wrongAt : ℕ → List ℕ → ℕ → Bool
 wrongAt v ends e = wrong v (getD ends (2 * e) 0) (getD ends (2 * e + 1) 0)
 
 -- 10: "not above the edge before", as pairs
-abbrev pub above : ℕ → ℕ → ℕ → ℕ → Bool
-above a₀ b₀ a b = ltb a₀ a || (eqb a₀ a && ltb b₀ b)
+abbrev pub edgeAbove : ℕ → ℕ → ℕ → ℕ → Bool
+edgeAbove a₀ b₀ a b = ltb a₀ a || (eqb a₀ a && ltb b₀ b)
 
 unfoldable pub lowAt : List ℕ → ℕ → Bool
 lowAt ends zero = false
-lowAt ends (suc e) = not (above (getD ends (2 * e) 0) (getD ends (2 * e + 1) 0) (getD ends (2 * e + 2) 0) (getD ends (2 * e + 3) 0))
+lowAt ends (suc e) = not (edgeAbove (getD ends (2 * e) 0) (getD ends (2 * e + 1) 0) (getD ends (2 * e + 2) 0) (getD ends (2 * e + 3) 0))
 
 -- "place in the coordinate list"; the edge
 unfoldable pub edgeChecks : ℕ → List ℕ → List Check
@@ -58,9 +58,8 @@ contentChecks v xyz ends = check No.BadCoordinate (lowest (farAt xyz) (length xy
 -- 5, of v vertices and e edges
 unfoldable pub countChecks : Format → ℕ → ℕ → List Check
 countChecks f v e =
-    check No.BadCount (offends (outside leastVertices (f .vmax) v) 0)
-    ∷ check No.BadCount (offends (outside leastEdges (f .emax) e) 1)
-    ∷ check No.BadCount (offends (low f v e) 0)
+    check No.BadCount (offends (outside leastVertices (f .«most_vertices») v) 0)
+    ∷ check No.BadCount (offends (outside leastEdges (f .«most_edges») e) 1)
     ∷ []
 
 module _ (f : Format) (s : List ℕ) where
@@ -87,7 +86,7 @@ module _ (f : Format) (s : List ℕ) where
 
 -- "returns the drawing by value": entries past the counts are 0, and a sheet that is refused returns a blank one
 abbrev pub held : ℕ → ℕ → List ℤ → List ℕ → Drawing
-held v e xyz ends = record { vertices = v; edges = e; xyz = padded xyz (3 * one .vmax) (pos 0); ends = padded ends (2 * one .emax) 0 }
+held v e xyz ends = record { vertices = v; edges = e; xyz = padded xyz (3 * editionOne .«most_vertices») (pos 0); ends = padded ends (2 * editionOne .«most_edges») 0 }
 
 abbrev pub blank : Drawing
 blank = held 0 0 [] []
@@ -112,9 +111,8 @@ module _ (f : Format) (xyz : List ℤ) (ends : List ℕ) where
   -- "a lent list that isn't whole": "then 3, 4, 6 and 7 don't arise"
   unfoldable pub lentChecks : List Check
   lentChecks =
-      check No.BadCount (offends (badCount 3 leastVertices (f .vmax) (length xyz)) 0)
-      ∷ check No.BadCount (offends (badCount 2 leastEdges (f .emax) (length ends)) 1)
-      ∷ check No.BadCount (offends (low f (length xyz / 3) (length ends / 2)) 0)
+      check No.BadCount (offends (badCount 3 leastVertices (f .«most_vertices») (length xyz)) 0)
+      ∷ check No.BadCount (offends (badCount 2 leastEdges (f .«most_edges») (length ends)) 1)
       ∷ contentChecks (length xyz / 3) xyz ends
 
   -- 1: "a sheet writer's room shorter than the sheet"

@@ -1,4 +1,4 @@
--- Document 01, "Solids": the tests (i) to (v). A selection is a row: for each candidate, whether it is taken. Assumes nothing.
+-- Document 01, "Solids": the tests (i) to (v). A selection is a mask: for each candidate, whether it is taken. Assumes nothing.
 use mathlib.Core.Bool.{Bool, true, false, not, _&&_, _||_, cond}
 use mathlib.Core.List.{List, [], _∷_, map}
 use Prim.Native.Nat.{ℕ, zero, suc}
@@ -14,8 +14,8 @@ use Rattle.paper.specs.Loops.{Loop, polygon}
 use Rattle.paper.specs.Clash.{clash}
 use Rattle.paper.specs.declared.Point.{Point}
 
--- ---- what a drawing's candidates give: of each edge the row of those that have it, and of those whose normal form runs it from its
--- lower to its higher vertex; of each candidate the row of those that clash with it, and its part of six volumes
+-- ---- what a drawing's candidates give: of each edge the mask of those that have it, and of those whose normal form runs it from its
+-- lower to its higher vertex; of each candidate the mask of those that clash with it, and its part of six volumes
 
 -- the loop goes from a to b by one of its edges; it has the edge, one way or the other
 unfoldable pub runs : ℕ → ℕ → Loop → Bool
@@ -46,7 +46,7 @@ clashing gs i j = cond (ltb i j) (clash (getD gs i []) (getD gs j [])) (ltb j i 
 
 -- all of it
 pub record Tables : Type 0 where
-  pub rows : List (List Bool)
+  pub masks : List (List Bool)
   pub ups : List (List Bool)
   pub clashes : List (List Bool)
   pub sixes : List ℤ
@@ -56,7 +56,7 @@ tablesOf d cs =
     let gs = map (polygon d) cs in
     let ns = upto (length cs) in
     record {
-      rows = map (λ e. map (has e) cs) (d .edges);
+      masks = map (λ e. map (has e) cs) (d .edges);
       ups = map (λ e. map (runsUp e) cs) (d .edges);
       clashes = map (λ i. map (clashing gs i) ns) ns;
       sixes = map faceSix gs;
@@ -65,7 +65,7 @@ tablesOf d cs =
 -- ---- (i) "every edge of the drawing is in exactly two"
 
 unfoldable pub inTwo : List Bool → List Bool → Bool
-inTwo row taken = eqb (count (both row taken)) 2
+inTwo mask taken = eqb (count (both mask taken)) 2
 
 -- ---- (ii) "one can go from any face to any other across shared edges". On the way each face gets the direction that (iii) asks.
 
@@ -80,40 +80,40 @@ unlike a b = either (less a b) (less b a)
 
 -- of the faces on an edge, those not yet reached and those reached; and whether the one that is reached runs the edge down
 unfoldable pub fresh : List Bool → List Bool → Reach → List Bool
-fresh row taken r = less (both row taken) (r .reached)
+fresh mask taken r = less (both mask taken) (r .reached)
 
 unfoldable pub known : List Bool → List Bool → Reach → List Bool
-known row taken r = both (both row taken) (r .reached)
+known mask taken r = both (both mask taken) (r .reached)
 
 unfoldable pub runsDown : List Bool → List Bool → List Bool → Reach → Bool
-runsDown row up taken r = eqb (count (both (known row taken r) up)) (count (both (known row taken r) (r .turned)))
+runsDown mask up taken r = eqb (count (both (known mask taken r) up)) (count (both (known mask taken r) (r .turned)))
 
 -- over an edge of which one face is reached: the other is reached too, and is to run it the other way
-unfoldable pub over : List Bool → List Bool → List Bool → Reach → Reach
-over row up taken r =
-    cond (eqb (count (known row taken r)) 1)
+unfoldable pub acrossEdge : List Bool → List Bool → List Bool → Reach → Reach
+acrossEdge mask up taken r =
+    cond (eqb (count (known mask taken r)) 1)
     (record {
-      reached = either (r .reached) (fresh row taken r);
-      turned = either (r .turned) (cond (runsDown row up taken r) (less (fresh row taken r) up) (both (fresh row taken r) up));
+      reached = either (r .reached) (fresh mask taken r);
+      turned = either (r .turned) (cond (runsDown mask up taken r) (less (fresh mask taken r) up) (both (fresh mask taken r) up));
     })
     r
 
 -- over all edges, in order
 unfoldable pub pass : List (List Bool) → List (List Bool) → List Bool → Reach → Reach
 pass [] ups taken r = r
-pass (row ∷ rows) [] taken r = r
-pass (row ∷ rows) (up ∷ ups) taken r = pass rows ups taken (over row up taken r)
+pass (mask ∷ masks) [] taken r = r
+pass (mask ∷ masks) (up ∷ ups) taken r = pass masks ups taken (acrossEdge mask up taken r)
 
 -- again and again until nothing more is reached, at most n times: enough for n faces
 unfoldable pub spread : ℕ → List (List Bool) → List (List Bool) → List Bool → Reach → Reach
-spread zero rows ups taken r = r
-spread (suc n) rows ups taken r =
-    let next = pass rows ups taken r in
-    cond (eqb (count (next .reached)) (count (r .reached))) next (spread n rows ups taken next)
+spread zero masks ups taken r = r
+spread (suc n) masks ups taken r =
+    let next = pass masks ups taken r in
+    cond (eqb (count (next .reached)) (count (r .reached))) next (spread n masks ups taken next)
 
 -- from face k on
 unfoldable pub facesFrom : ℕ → Tables → List Bool → Reach
-facesFrom k t taken = spread (count taken) (t .rows) (t .ups) taken (record { reached = only k; turned = [] })
+facesFrom k t taken = spread (count taken) (t .masks) (t .ups) taken (record { reached = only k; turned = [] })
 
 unfoldable pub connected : List Bool → Reach → Bool
 connected taken r = eqb (count (less taken (r .reached))) 0
@@ -121,13 +121,13 @@ connected taken r = eqb (count (less taken (r .reached))) 0
 -- ---- (iii) "faces can be given directions so that each edge is run once each way"
 
 unfoldable pub onceEachWay : List Bool → List Bool → List Bool → List Bool → Bool
-onceEachWay row up taken turned =
-    eqb (count (both (both row taken) (unlike up turned))) 1 && eqb (count (less (both row taken) (unlike up turned))) 1
+onceEachWay mask up taken turned =
+    eqb (count (both (both mask taken) (unlike up turned))) 1 && eqb (count (less (both mask taken) (unlike up turned))) 1
 
 unfoldable pub oriented : List (List Bool) → List (List Bool) → List Bool → List Bool → Bool
 oriented [] ups taken turned = true
-oriented (row ∷ rows) [] taken turned = true
-oriented (row ∷ rows) (up ∷ ups) taken turned = cond (onceEachWay row up taken turned) (oriented rows ups taken turned) false
+oriented (mask ∷ masks) [] taken turned = true
+oriented (mask ∷ masks) (up ∷ ups) taken turned = cond (onceEachWay mask up taken turned) (oriented masks ups taken turned) false
 
 -- ---- (iv) "with one of the two such choices six times the signed volume is above zero, and that choice is taken"
 
@@ -147,7 +147,7 @@ sixFrom k (z ∷ zs) taken turned = part (getD taken k false) (getD turned k fal
 abbrev pub peaceful : Bool → ℕ → Bool
 peaceful taken n = not taken || eqb n 0
 
--- the rows are of the candidates from k on
+-- the masks are of the candidates from k on
 unfoldable pub clearFrom : ℕ → List (List Bool) → List Bool → Bool
 clearFrom k [] taken = true
 clearFrom k (c ∷ cs) taken = cond (peaceful (getD taken k false) (count (both c taken))) (clearFrom (suc k) cs taken) false
@@ -169,7 +169,7 @@ judged t taken =
     let r = facesFrom (first taken) t taken in
     cond (eqb (count taken) 0) Fails
     (cond (connected taken r)
-    (cond (oriented (t .rows) (t .ups) taken (r .turned))
+    (cond (oriented (t .masks) (t .ups) taken (r .turned))
     (cond (clearFrom 0 (t .clashes) taken) (weighed taken (r .turned) (sixFrom 0 (t .sixes) taken (r .turned))) Fails)
     Fails)
     Fails)

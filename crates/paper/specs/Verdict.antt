@@ -10,7 +10,7 @@ use Rattle.sets.specs.Word.{count, both, first}
 use Rattle.lists.specs.Lists.{filter, upto, lowest, member, sameList}
 use Rattle.paper.specs.Refusals as No
 use Rattle.paper.specs.Refusals.{Check, check, firstOf, offends}
-use Rattle.paper.specs.Format.{one, coordinatesIn, endsIn}
+use Rattle.paper.specs.Format.{editionOne, coordinatesIn, endsIn}
 use Rattle.paper.specs.Sheet.{sheetChecks, lentChecks}
 use Rattle.paper.specs.Points.{above}
 use Rattle.paper.specs.Drawing.{Wire, wire, drawingChecks}
@@ -52,8 +52,8 @@ numberIn cs f = first (map (sameList (normalForm f)) cs)
 -- ---- 21 to 27
 
 -- a row of n candidates, from their numbers
-unfoldable pub rowOf : ℕ → List ℕ → List Bool
-rowOf n ks = map (λ k. member k ks) (upto n)
+unfoldable pub maskOf : ℕ → List ℕ → List Bool
+maskOf n ks = map (λ k. member k ks) (upto n)
 
 -- the faces by the numbers of their candidates, as the two rows of a solid
 pub record Listed : Type 0 where
@@ -64,7 +64,7 @@ pub record Listed : Type 0 where
 unfoldable pub listed : List Loop → List (List ℕ) → Listed
 listed cs fs =
     let ks = map (numberIn cs) fs in
-    record { numbers = ks; taken = rowOf (length cs) ks; turned = rowOf (length cs) (map (numberIn cs) (filter (λ f. not (onward f)) fs)) }
+    record { numbers = ks; taken = maskOf (length cs) ks; turned = maskOf (length cs) (map (numberIn cs) (filter (λ f. not (onward f)) fs)) }
 
 -- 21: no candidate. 22: equal to an earlier one
 unfoldable pub notCandidate : ℕ → List ℕ → Option ℕ
@@ -75,11 +75,11 @@ faceTwice ks = lowest (λ i. member (getD ks i 0) (take i ks)) (length ks)
 
 -- 23: "not two faces". 24: "both run one way"
 unfoldable pub edgeCount : Tables → List Bool → Option ℕ
-edgeCount t taken = lowest (λ e. not (inTwo (getD (t .rows) e []) taken)) (length (t .rows))
+edgeCount t taken = lowest (λ e. not (inTwo (getD (t .masks) e []) taken)) (length (t .masks))
 
 unfoldable pub direction : Tables → List Bool → List Bool → Option ℕ
 direction t taken turned =
-    lowest (λ e. not (onceEachWay (getD (t .rows) e []) (getD (t .ups) e []) taken turned)) (length (t .rows))
+    lowest (λ e. not (onceEachWay (getD (t .masks) e []) (getD (t .ups) e []) taken turned)) (length (t .masks))
 
 -- 25: "not joined to face 0"
 unfoldable pub pieces : Tables → List ℕ → List Bool → Option ℕ
@@ -119,12 +119,12 @@ verdict form d list =
     let ls = loops d in
     let cs = uncovering d ls in
     verdictFor (firstOf (form ++ drawingChecks d ++ loopChecks ls cs
-    ++ (check No.ShellShape (offends (not (wellShaped one (length (d .vertices)) list)) 0)
-    ∷ faceChecks (tablesOf d cs) (length cs) (listed cs (facesIn one list)))))
+    ++ (check No.ShellShape (offends (not (wellShaped editionOne (length (d .vertices)) list)) 0)
+    ∷ faceChecks (tablesOf d cs) (length cs) (listed cs (facesIn editionOne list)))))
 
 -- of a drawing lent as two lists; of a sheet
 unfoldable pub verdictLists : List ℤ → List ℕ → List ℕ → Verdict
-verdictLists xyz ends list = verdict (lentChecks one xyz ends) (wire xyz ends) list
+verdictLists xyz ends list = verdict (lentChecks editionOne xyz ends) (wire xyz ends) list
 
 unfoldable pub verdictSheet : List ℕ → List ℕ → Verdict
-verdictSheet s list = verdict (sheetChecks one s) (wire (coordinatesIn one s) (endsIn one s)) list
+verdictSheet s list = verdict (sheetChecks editionOne s) (wire (coordinatesIn editionOne s) (endsIn editionOne s)) list

@@ -6,8 +6,8 @@ use borrow.Author.Tests.{le-ltb, ltb-false}
 use lib.Dec.{ltb}
 use Rattle.paper.specs.Format.{outside}
 
-pub inside : (lo hi n : ℕ) → lo ≤ n → n ≤ hi → outside lo hi n ≡ false
-inside lo hi n a b = rw (le-ltb n lo a) (le-ltb hi n b)
+pub not-outside : (lo hi n : ℕ) → lo ≤ n → n ≤ hi → outside lo hi n ≡ false
+not-outside lo hi n a b = rw (le-ltb n lo a) (le-ltb hi n b)
 
 pub outside-false : (lo hi n : ℕ) → outside lo hi n ≡ false → (lo ≤ n) × (n ≤ hi)
 outside-false lo hi n e = go (ltb n lo) refl

@@ -6,7 +6,7 @@ use lib.IntN.{ℤ, pos}
 use lib.ListN.{length, getD, take}
 use Rattle.exact.specs.Size.{Within}
 use Rattle.paper.specs.Numbers.{farthest}
-use Rattle.paper.specs.Format.{one, leastVertices, leastEdges}
+use Rattle.paper.specs.Format.{editionOne, leastVertices, leastEdges}
 use Rattle.paper.specs.declared.Drawing.{Drawing}
 
 -- three coordinates for each of v vertices
@@ -19,22 +19,22 @@ pub record Ends (ends : List ℕ) (v : ℕ) : Type 0 where
   pub edges : ℕ
   pub whole : length ends ≡ 2 * edges
   pub least : leastEdges ≤ edges
-  pub most : edges ≤ one .emax
+  pub most : edges ≤ editionOne .«most_edges»
   pub known : (k : ℕ) → k < length ends → getD ends k 0 < v
   pub rising : (e : ℕ) → e < edges → getD ends (2 * e) 0 < getD ends (2 * e + 1) 0
 
 pub record InRange (xyz : List ℤ) (ends : List ℕ) : Type 0 where
   pub vertices : ℕ
   pub least : leastVertices ≤ vertices
-  pub most : vertices ≤ one .vmax
+  pub most : vertices ≤ editionOne .«most_vertices»
   pub points : Points xyz vertices
   pub links : Ends ends vertices
 
 -- a drawing by value, whose lists have room for more
 pub record Held (d : Drawing) : Type 0 where
   pub least : leastVertices ≤ d .vertices
-  pub most : d .vertices ≤ one .vmax
-  pub few : d .edges ≤ one .emax
+  pub most : d .vertices ≤ editionOne .«most_vertices»
+  pub few : d .edges ≤ editionOne .«most_edges»
   pub xyz-room : 3 * d .vertices ≤ length (d .xyz)
   pub ends-room : 2 * d .edges ≤ length (d .ends)
   pub points : Points (take (3 * d .vertices) (d .xyz)) (d .vertices)

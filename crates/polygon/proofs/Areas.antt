@@ -12,7 +12,7 @@ use Rattle.paper.specs.Numbers.{farthest, mostCorners}
 use Rattle.paper.specs.Points.{pt, origin, plus, cross, sum}
 use Rattle.paper.specs.Polygon.{Polygon, normal}
 use Rattle.paper.specs.declared.Point.{Point}
-use Rattle.polygon.specs.Sizes.{Small, mostNormal}
+use Rattle.polygon.specs.Sizes.{PointWithin, mostNormal}
 use Rattle.polygon.specs.Rings.{cornerOf}
 use Rattle.polygon.proofs.Sizes.{small-eq, small-le, origin-small, plus-small, cross-small}
 
@@ -52,8 +52,8 @@ unfolding normalTo normal
 normal-all g k e = ap sum (sides-all cross g k e)
 
 -- how large
-module _ (g : Polygon) (near : (j : ℕ) → Small farthest (cornerOf g j)) where
-  part-small : (k : ℕ) → k ≤ length g → Small (k * (2 * (farthest * farthest))) (normalTo g k)
+module _ (g : Polygon) (near : (j : ℕ) → PointWithin farthest (cornerOf g j)) where
+  part-small : (k : ℕ) → k ≤ length g → PointWithin (k * (2 * (farthest * farthest))) (normalTo g k)
   part-small zero h = small-eq (normal-none g) (origin-small (0 * (2 * (farthest * farthest))))
   part-small (suc k) h =
       small-eq (ap (normalTo g) (sym (add-one k)) ∙ normal-more g k h)
@@ -62,8 +62,8 @@ module _ (g : Polygon) (near : (j : ℕ) → Small farthest (cornerOf g j)) wher
       more : (k : ℕ) → k * (2 * (farthest * farthest)) + (farthest * farthest + farthest * farthest) ≤ suc k * (2 * (farthest * farthest))
       more k = omega arith
 
-  pub normalTo-small : length g ≤ mostCorners → (k : ℕ) → k ≤ length g → Small mostNormal (normalTo g k)
+  pub normalTo-small : length g ≤ mostCorners → (k : ℕ) → k ≤ length g → PointWithin mostNormal (normalTo g k)
   normalTo-small few k h = small-le (omega arith) (part-small k h)
 
-  pub normal-small : length g ≤ mostCorners → Small mostNormal (normal g)
+  pub normal-small : length g ≤ mostCorners → PointWithin mostNormal (normal g)
   normal-small few = small-eq (sym (normal-all g (length g) refl)) (normalTo-small few (length g) (omega arith))

@@ -10,9 +10,9 @@ use Rattle.exact.proofs.Size.{within-up}
 use Rattle.lists.proofs.Sides.{around-low}
 use Rattle.paper.specs.Numbers.{farthest}
 use Rattle.paper.specs.Points.{origin, dot, minus}
-use Rattle.paper.specs.Polygon.{Polygon, corner, side}
+use Rattle.paper.specs.Polygon.{Polygon, corner, planeSide}
 use Rattle.paper.specs.declared.Point.{Point}
-use Rattle.polygon.specs.Sizes.{Small, mostNormal, mostSide}
+use Rattle.polygon.specs.Sizes.{PointWithin, mostNormal, mostPlaneSide}
 use Rattle.polygon.specs.Rings.{ring, cornerOf, Face}
 use Rattle.polygon.proofs.Sizes.{small-eq, minus-small, dot-small}
 use Rattle.polygon.proofs.Rows.{ring-least, ring-most, corner-small}
@@ -24,13 +24,13 @@ first-is [] h = around-low [] 0 origin h
 first-is (p ∷ ps) h = around-low (p ∷ ps) 0 origin h
 
 module _ {l : List ℤ} {t : List ℕ} {r : ℕ} {m : Point} (f : Face l t r m) where
-  pub face-normal : Small mostNormal m
+  pub face-normal : PointWithin mostNormal m
   face-normal = small-eq (f .across) (normal-small (ring l t r) (corner-small (f .row)) (ring-most (f .row)))
 
-  pub side-is : {o : Point} → o ≡ cornerOf (ring l t r) 0 → (p : Point) → dot m (minus p o) ≡ side (ring l t r) p
-  unfolding side
+  pub side-is : {o : Point} → o ≡ cornerOf (ring l t r) 0 → (p : Point) → dot m (minus p o) ≡ planeSide (ring l t r) p
+  unfolding planeSide
   side-is e p = λ i. dot (f .across i) (minus p ((e ∙ first-is (ring l t r) (omega (arith, ring-least (f .row)))) i))
 
-  pub side-within : {p : Point} → Small farthest p → Within mostSide (side (ring l t r) p)
+  pub side-within : {p : Point} → PointWithin farthest p → Within mostPlaneSide (planeSide (ring l t r) p)
   side-within {p} h =
-      subst (λ (z : ℤ). Within mostSide z) (side-is refl p) (within-up tt (dot-small face-normal (minus-small h (corner-small (f .row) 0))))
+      subst (λ (z : ℤ). Within mostPlaneSide z) (side-is refl p) (within-up tt (dot-small face-normal (minus-small h (corner-small (f .row) 0))))

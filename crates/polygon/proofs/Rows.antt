@@ -11,11 +11,11 @@ use Rattle.lists.specs.Around.{wrap, around}
 use Rattle.lists.proofs.Places.{map-at, map-each}
 use Rattle.paper.specs.Numbers.{farthest, leastCorners, mostCorners, rowBytes}
 use Rattle.paper.specs.Points.{origin}
-use Rattle.polygon.specs.Sizes.{Small}
+use Rattle.polygon.specs.Sizes.{PointWithin}
 use Rattle.polygon.specs.Rings.{pointOf, loopIn, ring, cornerOf, Row}
 use Rattle.polygon.proofs.Sizes.{origin-small}
 
-pub point-small : (l : List ℤ) → ((k : ℕ) → Within farthest (getD l k (pos 0))) → (v : ℕ) → Small farthest (pointOf l v)
+pub point-small : (l : List ℤ) → ((k : ℕ) → Within farthest (getD l k (pos 0))) → (v : ℕ) → PointWithin farthest (pointOf l v)
 unfolding pointOf
 point-small l h v = record { x-in = h (3 * v); y-in = h (3 * v + 1); z-in = h (3 * v + 2) }
 
@@ -45,7 +45,7 @@ module _ {l : List ℤ} {t : List ℕ} {r : ℕ} (g : Row l t r) where
   pub ring-least : leastCorners ≤ length (ring l t r)
   ring-least = let m = g .least in omega (arith, ring-length)
 
-  pub corner-small : (j : ℕ) → Small farthest (cornerOf (ring l t r) j)
+  pub corner-small : (j : ℕ) → PointWithin farthest (cornerOf (ring l t r) j)
   unfolding ring around
   corner-small j =
-      map-each (pointOf l) (Small farthest) (point-small l (g .near)) (loopIn t r) (wrap (length (ring l t r)) j) (origin-small farthest)
+      map-each (pointOf l) (PointWithin farthest) (point-small l (g .near)) (loopIn t r) (wrap (length (ring l t r)) j) (origin-small farthest)

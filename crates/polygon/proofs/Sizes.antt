@@ -8,31 +8,31 @@ use Rattle.exact.specs.Size.{Within}
 use Rattle.exact.proofs.Size.{within-add, within-sub, within-mul, within-up, within-le}
 use Rattle.paper.specs.Points.{origin, plus, minus, times, cross, dot, det}
 use Rattle.paper.specs.declared.Point.{Point}
-use Rattle.polygon.specs.Sizes.{Small}
+use Rattle.polygon.specs.Sizes.{PointWithin}
 
-pub small-eq : {n : ℕ} {p q : Point} → p ≡ q → Small n q → Small n p
-small-eq {n} e h = subst (λ (p : Point). Small n p) (sym e) h
+pub small-eq : {n : ℕ} {p q : Point} → p ≡ q → PointWithin n q → PointWithin n p
+small-eq {n} e h = subst (λ (p : Point). PointWithin n p) (sym e) h
 
 -- a larger bound; at two numerals `t` is `tt`
-pub small-up : {m n : ℕ} {p : Point} → T (leb m n) → Small m p → Small n p
+pub small-up : {m n : ℕ} {p : Point} → T (leb m n) → PointWithin m p → PointWithin n p
 small-up t h = record { x-in = within-up t (h .x-in); y-in = within-up t (h .y-in); z-in = within-up t (h .z-in) }
 
-pub small-le : {m n : ℕ} {p : Point} → m ≤ n → Small m p → Small n p
+pub small-le : {m n : ℕ} {p : Point} → m ≤ n → PointWithin m p → PointWithin n p
 small-le t h = record { x-in = within-le t (h .x-in); y-in = within-le t (h .y-in); z-in = within-le t (h .z-in) }
 
-pub origin-small : (n : ℕ) → Small n origin
+pub origin-small : (n : ℕ) → PointWithin n origin
 origin-small n = record { x-in = record { within = omega arith }; y-in = record { within = omega arith }; z-in = record { within = omega arith } }
 
-module _ {m n : ℕ} {p q : Point} (h : Small m p) (k : Small n q) where
-  pub plus-small : Small (m + n) (plus p q)
+module _ {m n : ℕ} {p q : Point} (h : PointWithin m p) (k : PointWithin n q) where
+  pub plus-small : PointWithin (m + n) (plus p q)
   unfolding plus
   plus-small = record { x-in = within-add (h .x-in) (k .x-in); y-in = within-add (h .y-in) (k .y-in); z-in = within-add (h .z-in) (k .z-in) }
 
-  pub minus-small : Small (m + n) (minus p q)
+  pub minus-small : PointWithin (m + n) (minus p q)
   unfolding minus
   minus-small = record { x-in = within-sub (h .x-in) (k .x-in); y-in = within-sub (h .y-in) (k .y-in); z-in = within-sub (h .z-in) (k .z-in) }
 
-  pub cross-small : Small (m * n + m * n) (cross p q)
+  pub cross-small : PointWithin (m * n + m * n) (cross p q)
   unfolding cross
   cross-small = record {
     x-in = within-sub (within-mul (h .y-in) (k .z-in)) (within-mul (h .z-in) (k .y-in));
@@ -44,11 +44,11 @@ module _ {m n : ℕ} {p q : Point} (h : Small m p) (k : Small n q) where
   unfolding dot
   dot-small = within-add (within-add (within-mul (h .x-in) (k .x-in)) (within-mul (h .y-in) (k .y-in))) (within-mul (h .z-in) (k .z-in))
 
-pub det-small : {m n k : ℕ} {p q r : Point} → Small m p → Small n q → Small k r
+pub det-small : {m n k : ℕ} {p q r : Point} → PointWithin m p → PointWithin n q → PointWithin k r
     → Within (m * (n * k + n * k) + m * (n * k + n * k) + m * (n * k + n * k)) (det p q r)
 unfolding det
 det-small h k l = dot-small h (cross-small k l)
 
-pub times-small : {m n : ℕ} {k : ℤ} {p : Point} → Within m k → Small n p → Small (m * n) (times k p)
+pub times-small : {m n : ℕ} {k : ℤ} {p : Point} → Within m k → PointWithin n p → PointWithin (m * n) (times k p)
 unfolding times
 times-small h p = record { x-in = within-mul h (p .x-in); y-in = within-mul h (p .y-in); z-in = within-mul h (p .z-in) }

@@ -7,12 +7,12 @@ use Rattle.paper.specs.declared.Point.{Point}
 use Rattle.paper.specs.declared.Flat.{Flat}
 
 -- each coordinate is within n
-pub record Small (n : ℕ) (p : Point) : Type 0 where
+pub record PointWithin (n : ℕ) (p : Point) : Type 0 where
   pub x-in : Within n (p .x)
   pub y-in : Within n (p .y)
   pub z-in : Within n (p .z)
 
-pub record FlatSmall (n : ℕ) (p : Flat) : Type 0 where
+pub record FlatWithin (n : ℕ) (p : Flat) : Type 0 where
   pub u-in : Within n (p .u)
   pub v-in : Within n (p .v)
 
@@ -25,12 +25,12 @@ abbrev pub mostNormal : ℕ
 mostNormal = mostCorners * (2 * (farthest * farthest))
 
 -- 144,000,000,000: how far a point is from a plane, in lengths of the normal
-abbrev pub mostSide : ℕ
-mostSide = 3 * (mostNormal * mostStep)
+abbrev pub mostPlaneSide : ℕ
+mostPlaneSide = 3 * (mostNormal * mostStep)
 
 -- 288,000,000,000 and 288,000,000,000,000: d and p of the point p / d where an edge pierces a plane
 abbrev pub mostScale : ℕ
-mostScale = 2 * mostSide
+mostScale = 2 * mostPlaneSide
 
 abbrev pub mostScaled : ℕ
 mostScaled = mostScale * farthest

@@ -7,7 +7,7 @@ ghost use Rattle.paper.specs.Numbers.{farthest, rowBytes};
 ghost use Rattle.paper.specs.Points.{dot, minus};
 ghost use Rattle.paper.specs.Polygon.{normal, onePlane};
 ghost use Rattle.paper.specs.Solids.{faceSix};
-ghost use Rattle.polygon.specs.Sizes.{Small, mostNormal};
+ghost use Rattle.polygon.specs.Sizes.{PointWithin, mostNormal};
 ghost use Rattle.polygon.specs.Rings.{pointOf, ring, cornerOf, Row, Face};
 use super::points::cross;
 use super::points::det;
@@ -74,8 +74,8 @@ pub fn normal(xyz: &[i64], table: &[u8], r: usize) -> Point
 }
 
 // On which side of the plane through o with normal m the point p lies.
-pub fn side(m: Point, o: Point, p: Point) -> i64
-    requires { ⌜ Small mostNormal m × Small farthest o × Small farthest p ⌝ }
+pub fn plane_side(m: Point, o: Point, p: Point) -> i64
+    requires { ⌜ PointWithin mostNormal m × PointWithin farthest o × PointWithin farthest p ⌝ }
     ensures { λ r. ⌜ r ≡ dot m (minus p o) ⌝ }
 {
     dot(m, minus(p, o))
@@ -90,7 +90,7 @@ pub fn in_plane(xyz: &[i64], table: &[u8], g: usize, m: Point, h: usize) -> bool
     let o = corner(xyz, table, g, 0);
     let mut j = 0;
     while j < n {
-        let s = side(m, o, corner(xyz, table, h, j));
+        let s = plane_side(m, o, corner(xyz, table, h, j));
         if !is_zero(s) {
             return false;
         }

@@ -13,7 +13,7 @@ use lib.Dec.{eqb}
 use lib.ListN.{length, getD, set}
 use lib.Pow.{pow-pos, pow-lt, pow-add}
 use lib.Seq.{getD-set-same, getD-set-other}
-use Rattle.sets.specs.Word.{bit, word, bits, digit, dig}
+use Rattle.sets.specs.Word.{bit, word, digits, digit, dig}
 use Rattle.sets.proofs.Digits.{never}
 use Rattle.sets.proofs.Word.{bit-word}
 
@@ -81,8 +81,8 @@ pub digit-word : (a : List Bool) (k : ℕ) → digit (word a) k ≡ dig a k
 unfolding digit
 digit-word a k = ap (λ (j : ℕ). eqb j 1) (bit-word a k) ∙ eqb-bit (dig a k)
 
-pub digit-bits : (n m k : ℕ) → k < n → dig (bits n m) k ≡ digit m k
-unfolding bits
+pub digit-bits : (n m k : ℕ) → k < n → dig (digits n m) k ≡ digit m k
+unfolding digits
 digit-bits zero m k h = absurd (omega arith)
 digit-bits (suc n) m zero h = sym (digit-low m)
 digit-bits (suc n) m (suc k) h = digit-bits n (m / 2) k (omega arith) ∙ digit-half m k

@@ -9,54 +9,54 @@ use lib.ListN.{length, getD, length-append, replicate, length-replicate}
 use lib.Bits.{bitAnd, bitOr, and-mask}
 use lib.Dec.{eqb}
 use lib.Count.{ones, onesIn, ones-le, trailingZeros}
-use Rattle.sets.specs.Word.{word, bits, digit, dig, count, first, both, either, less, only}
+use Rattle.sets.specs.Word.{word, digits, digit, dig, count, first, both, either, less, only}
 use Rattle.sets.specs.Sets.{room, packedSet, Is, digitsOf, size, Joint, Minus, Counted, Lowest, Dropped, EdgeSet, maskAt}
 use Rattle.sets.specs.declared.Set.{Set}
 use Rattle.sets.proofs.Digits.{length-both, length-either, length-less, length-only, count-less, count-only, first-lt, first-in}
 use Rattle.sets.proofs.Numbers.{digit-word}
-use Rattle.sets.proofs.Word.{and-word, or-word, less-word, ones-word, only-word, trailing-word, length-bits, word-bits, full-word, none-word, word-more}
+use Rattle.sets.proofs.Word.{and-word, or-word, less-word, ones-word, only-word, trailing-word, length-digits, word-digits, full-word, none-word, word-more}
 
 -- ---- the word and the digits
 
 module _ {x : Set} {a : List Bool} (i : Is x a) where
-  bits-are : x .bits ≡ word a
+  word-is : x .word ≡ word a
   unfolding packedSet
-  bits-are = ap (λ (s : Set). s .bits) (i .words)
+  word-is = ap (λ (s : Set). s .word) (i .words)
 
   pub size-is : size x ≡ count a
-  size-is = ap ones bits-are ∙ ones-word a
+  size-is = ap ones word-is ∙ ones-word a
 
-packs : {w : ℕ} (a : List Bool) → w ≡ word a → _≡_ {A = Set} (record { bits = w }) (packedSet a)
+packs : {w : ℕ} (a : List Bool) → w ≡ word a → _≡_ {A = Set} (record { word = w }) (packedSet a)
 unfolding packedSet
-packs a p = ap (λ (m : ℕ). record { bits = m }) p
+packs a p = ap (λ (m : ℕ). record { word = m }) p
 
 -- every word is that of its digits
-pub is-digits : (x : Set) → x .bits < 2 ^ room → Is x (digitsOf x)
+pub is-digits : (x : Set) → x .word < 2 ^ room → Is x (digitsOf x)
 unfolding digitsOf
-is-digits x h = record { short = le-of-eq (length-bits room (x .bits)); words = packs (bits room (x .bits)) (sym (word-bits room (x .bits) h)) }
+is-digits x h = record { short = le-of-eq (length-digits room (x .word)); words = packs (digits room (x .word)) (sym (word-digits room (x .word) h)) }
 
 -- ---- two sets
 
 module _ {x y : Set} where
-  pub and-is : Joint x y (record { bits = bitAnd (x .bits) (y .bits) }) both
+  pub and-is : Joint x y (record { word = bitAnd (x .word) (y .word) }) both
   and-is a b i j = record {
     short = le-trans (length-both a b) (i .short);
-    words = packs (both a b) (ap₂ bitAnd (bits-are i) (bits-are j) ∙ and-word a b);
+    words = packs (both a b) (ap₂ bitAnd (word-is i) (word-is j) ∙ and-word a b);
   }
 
-  pub or-is : Joint x y (record { bits = bitOr (x .bits) (y .bits) }) either
+  pub or-is : Joint x y (record { word = bitOr (x .word) (y .word) }) either
   or-is a b i j = record {
     short = length-either room a b (i .short) (j .short);
-    words = packs (either a b) (ap₂ bitOr (bits-are i) (bits-are j) ∙ or-word a b);
+    words = packs (either a b) (ap₂ bitOr (word-is i) (word-is j) ∙ or-word a b);
   }
 
-  less-is : Joint x y (record { bits = bitAnd (x .bits) ((2 ^ room - 1) - y .bits) }) less
+  less-is : Joint x y (record { word = bitAnd (x .word) ((2 ^ room - 1) - y .word) }) less
   less-is a b i j = record {
     short = le-trans (le-of-eq (length-less a b)) (i .short);
-    words = packs (less a b) (ap₂ (λ (m n : ℕ). bitAnd m ((2 ^ room - 1) - n)) (bits-are i) (bits-are j) ∙ less-word room a b (i .short) (j .short));
+    words = packs (less a b) (ap₂ (λ (m n : ℕ). bitAnd m ((2 ^ room - 1) - n)) (word-is i) (word-is j) ∙ less-word room a b (i .short) (j .short));
   }
 
-  pub minus-is : x .bits < 2 ^ room → y .bits < 2 ^ room → Minus x y (record { bits = bitAnd (x .bits) ((2 ^ room - 1) - y .bits) })
+  pub minus-is : x .word < 2 ^ room → y .word < 2 ^ room → Minus x y (record { word = bitAnd (x .word) ((2 ^ room - 1) - y .word) })
   minus-is hx hy =
       let d : Is x (digitsOf x) = is-digits x hx in
       let e : Is y (digitsOf y) = is-digits y hy in
@@ -67,18 +67,18 @@ module _ {x y : Set} where
 
 -- ---- counts
 
-pub counted : (x : Set) → x .bits < 2 ^ room → Counted x (ones (x .bits))
-counted x h = record { size-is = refl; under = ones-le room (x .bits) h }
+pub counted : (x : Set) → x .word < 2 ^ room → Counted x (ones (x .word))
+counted x h = record { size-is = refl; under = ones-le room (x .word) h }
 
 word-count : (bs : List Bool) → word bs ≡ 0 → count bs ≡ 0
 unfolding ones onesIn
 word-count bs e = sym (ones-word bs) ∙ ap ones e
 
-pub lowest-is : {x : Set} → x .bits < 2 ^ room → 0 < size x → Lowest x (trailingZeros room (x .bits))
+pub lowest-is : {x : Set} → x .word < 2 ^ room → 0 < size x → Lowest x (trailingZeros room (x .word))
 lowest-is {x} h p =
     let z : (a : List Bool) → Is x a → count a ≡ 0 → ⊥ = λ a i e. absurd (omega (arith, size-is i)) in
     let w : (a : List Bool) → Is x a → 0 < word a = λ a i. positive (word a) (λ e. z a i (word-count a e)) in
-    let f : (a : List Bool) → Is x a → trailingZeros room (x .bits) ≡ first a = λ a i. ap (trailingZeros room) (bits-are i) ∙ trailing-word room a (i .short) (w a i) in
+    let f : (a : List Bool) → Is x a → trailingZeros room (x .word) ≡ first a = λ a i. ap (trailingZeros room) (word-is i) ∙ trailing-word room a (i .short) (w a i) in
     let d : Is x (digitsOf x) = is-digits x h in
     record {
       narrow = lt-of-le-of-lt (le-of-eq (f (digitsOf x) d)) (le-trans (first-lt (digitsOf x) (z (digitsOf x) d)) (d .short));
@@ -91,7 +91,7 @@ lowest-is {x} h p =
 
 -- ---- none, one alone, and the n lowest
 
-pub none-is : Is (record { bits = 0 }) []
+pub none-is : Is (record { word = 0 }) []
 unfolding word
 none-is = record { short = omega arith; words = packs [] refl }
 
@@ -100,37 +100,37 @@ pub none-all : {x : Set} (n : ℕ) → n ≤ room → Is x [] → Is x (replicat
 unfolding packedSet word
 none-all n h i = record { short = le-trans (le-of-eq (length-replicate n false)) h; words = i .words ∙ packs (replicate n false) (sym (none-word n)) }
 
-pub just-is : (k : ℕ) → k < room → (b : ℕ) → b ≡ 2 ^ k → Is (record { bits = b }) (only k)
+pub just-is : (k : ℕ) → k < room → (b : ℕ) → b ≡ 2 ^ k → Is (record { word = b }) (only k)
 just-is k h b e = record { short = omega (arith, length-only k); words = packs (only k) (e ∙ sym (only-word k)) }
 
-pub full-is : (n : ℕ) → n ≤ room → (w : ℕ) → w ≡ 2 ^ n - 1 → Is (record { bits = w }) (replicate n true)
+pub full-is : (n : ℕ) → n ≤ room → (w : ℕ) → w ≡ 2 ^ n - 1 → Is (record { word = w }) (replicate n true)
 full-is n h w e = record { short = le-trans (le-of-eq (length-replicate n true)) h; words = packs (replicate n true) (e ∙ sym (full-word n)) }
 
 -- ---- one digit; the word b is that of k alone
 
 module _ {x : Set} (k : ℕ) (h : k < room) (b : ℕ) (e : b ≡ 2 ^ k) where
-  pub with-is : (a : List Bool) → Is x a → Is (record { bits = bitOr (x .bits) b }) (either a (only k))
+  pub with-is : (a : List Bool) → Is x a → Is (record { word = bitOr (x .word) b }) (either a (only k))
   with-is a i = or-is a (only k) i (just-is k h b e)
 
-  pub without-is : x .bits < 2 ^ room → Dropped x k (record { bits = bitAnd (x .bits) ((2 ^ room - 1) - b) })
+  pub without-is : x .word < 2 ^ room → Dropped x k (record { word = bitAnd (x .word) ((2 ^ room - 1) - b) })
   without-is hx =
       let d : Is x (digitsOf x) = is-digits x hx in
-      let f : (a : List Bool) → Is x a → Is (record { bits = bitAnd (x .bits) ((2 ^ room - 1) - b) }) (less a (only k)) = λ a i. less-is a (only k) i (just-is k h b e) in
+      let f : (a : List Bool) → Is x a → Is (record { word = bitAnd (x .word) ((2 ^ room - 1) - b) }) (less a (only k)) = λ a i. less-is a (only k) i (just-is k h b e) in
       record {
         fewer = λ q. omega (arith, count-only (digitsOf x) k (q (digitsOf x) d), size-is d, size-is (f (digitsOf x) d));
         same = f;
       }
 
-pub has-is : {x : Set} (k : ℕ) (a : List Bool) → Is x a → eqb (bitAnd (x .bits / 2 ^ k) 1) 1 ≡ dig a k
+pub has-is : {x : Set} (k : ℕ) (a : List Bool) → Is x a → eqb (bitAnd (x .word / 2 ^ k) 1) 1 ≡ dig a k
 unfolding digit
-has-is {x} k a i = ap (λ (v : ℕ). eqb v 1) (and-mask (x .bits / 2 ^ k) 1 ∙ ap (λ (v : ℕ). v / 2 ^ k % 2) (bits-are i)) ∙ digit-word a k
+has-is {x} k a i = ap (λ (v : ℕ). eqb v 1) (and-mask (x .word / 2 ^ k) 1 ∙ ap (λ (v : ℕ). v / 2 ^ k % 2) (word-is i)) ∙ digit-word a k
 
 -- one digit more at the top
 pub is-more : {x : Set} (a : List Bool) → length a < room → Is x a → Is x (a ++ (false ∷ []))
 unfolding packedSet
 is-more {x} a h i = record {
   short = omega (arith, length-append a (false ∷ []));
-  words = i .words ∙ ap (λ (w : ℕ). record { bits = w }) (sym (word-more a));
+  words = i .words ∙ ap (λ (w : ℕ). record { word = w }) (sym (word-more a));
 }
 
 pub edge-set : (masks : List ℕ) (e : ℕ) → getD masks e 0 < 2 ^ room → EdgeSet masks e (maskAt masks e)

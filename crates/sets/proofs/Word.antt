@@ -12,7 +12,7 @@ use lib.Bits.{bitAnd, bitOr, and-step, or-step, and-zero-r, or-zero-r, and-mask}
 use lib.Dec.{eqb}
 use lib.Count.{ones, onesIn, ones-step, trailingZeros, under}
 use lib.Pow.{pow-pos, pow-mono, pow-lt}
-use Rattle.sets.specs.Word.{bit, word, bits, dig, count, first, both, either, less, only}
+use Rattle.sets.specs.Word.{bit, word, digits, dig, count, first, both, either, less, only}
 
 bit-lt : (b : Bool) → bit b < 2
 bit-lt true = omega arith
@@ -129,18 +129,18 @@ bit-odd zero h = refl
 bit-odd (suc zero) h = refl
 bit-odd (suc (suc x)) h = absurd (omega arith)
 
-pub length-bits : (n w : ℕ) → length (bits n w) ≡ n
-unfolding bits
-length-bits zero w = refl
-length-bits (suc n) w = ap suc (length-bits n (w / 2))
+pub length-digits : (n w : ℕ) → length (digits n w) ≡ n
+unfolding digits
+length-digits zero w = refl
+length-digits (suc n) w = ap suc (length-digits n (w / 2))
 
-pub word-bits : (n w : ℕ) → w < 2 ^ n → word (bits n w) ≡ w
-unfolding bits word
-word-bits zero w h = omega arith
-word-bits (suc n) w h =
+pub word-digits : (n w : ℕ) → w < 2 ^ n → word (digits n w) ≡ w
+unfolding digits word
+word-digits zero w h = omega arith
+word-digits (suc n) w h =
     let lt : w / 2 < 2 ^ n = omega (arith, pow-suc 2 n) in
     let odd : w % 2 < 2 = omega arith in
-    omega (arith, word-bits n (w / 2) lt, bit-odd (w % 2) odd)
+    omega (arith, word-digits n (w / 2) lt, bit-odd (w % 2) odd)
 
 -- ---- all digits set, none set, and one more at the top that is not set
 

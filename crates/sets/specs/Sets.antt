@@ -5,7 +5,7 @@ use mathlib.Core.Path.{_≡_}
 use Prim.Native.Nat.{ℕ, _≤_, _<_}
 use lib.Count.{ones}
 use lib.ListN.{length, getD}
-use Rattle.sets.specs.Word.{word, bits, dig, less, only, first}
+use Rattle.sets.specs.Word.{word, digits, dig, less, only, first}
 use Rattle.sets.specs.declared.Set.{Set}
 
 -- how many a set has room for: the width of the word
@@ -13,7 +13,7 @@ abbrev pub room : ℕ
 room = 64
 
 unfoldable pub packedSet : List Bool → Set
-packedSet bs = record { bits = word bs }
+packedSet bs = record { word = word bs }
 
 -- x has the digits bs
 pub record Is (x : Set) (bs : List Bool) : Type 0 where
@@ -22,11 +22,11 @@ pub record Is (x : Set) (bs : List Bool) : Type 0 where
 
 -- all the digits of its word
 unfoldable pub digitsOf : Set → List Bool
-digitsOf x = bits room (x .bits)
+digitsOf x = digits room (x .word)
 
 -- how many are in it
 abbrev pub size : Set → ℕ
-size x = ones (x .bits)
+size x = ones (x .word)
 
 -- k is in it
 abbrev pub Has : Set → ℕ → Type 0
@@ -59,7 +59,7 @@ edgeCount masks = length masks
 
 -- the set of edge e
 abbrev pub maskAt : List ℕ → ℕ → Set
-maskAt masks e = record { bits = getD masks e 0 }
+maskAt masks e = record { word = getD masks e 0 }
 
 -- the set r is that of edge e, and some list's
 pub record EdgeSet (masks : List ℕ) (e : ℕ) (r : Set) : Type 0 where

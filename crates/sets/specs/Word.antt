@@ -16,9 +16,9 @@ word [] = 0
 word (b ∷ bs) = word bs * 2 + bit b
 
 -- the n lowest digits of a number
-unfoldable pub bits : ℕ → ℕ → List Bool
-bits zero w = []
-bits (suc n) w = eqb (w % 2) 1 ∷ bits n (w / 2)
+unfoldable pub digits : ℕ → ℕ → List Bool
+digits zero w = []
+digits (suc n) w = eqb (w % 2) 1 ∷ digits n (w / 2)
 
 -- digit k of a number
 unfoldable pub digit : ℕ → ℕ → Bool

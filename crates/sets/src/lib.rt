@@ -4,11 +4,11 @@ ghost use mathlib.Core.Bool.{Bool, true};
 ghost use mathlib.Core.List.{List, []};
 ghost use Prim.Native.Nat.{_≤_, _<_};
 ghost use lib.ListN.{replicate};
-ghost use Rattle.sets.specs.Word.{bits, dig, both, either, only};
+ghost use Rattle.sets.specs.Word.{digits, dig, both, either, only};
 ghost use Rattle.sets.specs.Sets.{room, Is, size, edgeCount, Joint, Minus, Counted, Lowest, Dropped, EdgeSet};
 
 pub struct Set {
-    pub bits: u64,
+    pub word: u64,
 }
 
 impl Set {
@@ -16,7 +16,7 @@ impl Set {
         ensures { λ r. ⌜ Joint self y r both ⌝ }
     {
         Set {
-            bits: self.bits & y.bits,
+            word: self.word & y.word,
         }
     }
 
@@ -24,7 +24,7 @@ impl Set {
         ensures { λ r. ⌜ Joint self y r either ⌝ }
     {
         Set {
-            bits: self.bits | y.bits,
+            word: self.word | y.word,
         }
     }
 
@@ -33,74 +33,74 @@ impl Set {
         ensures { λ r. ⌜ Minus self y r ⌝ }
     {
         Set {
-            bits: self.bits & !y.bits,
+            word: self.word & !y.word,
         }
     }
 
     // How many are in the set.
-    pub fn count(self) -> u32
+    pub fn count(self) -> usize
         ensures { λ r. ⌜ Counted self r ⌝ }
     {
-        u64::count_ones(self.bits)
+        u64::count_ones(self.word) as usize
     }
 
-    pub fn lowest(self) -> u32
+    pub fn lowest(self) -> usize
         requires { ⌜ 0 < size self ⌝ }
         ensures { λ r. ⌜ Lowest self r ⌝ }
     {
-        u64::trailing_zeros(self.bits)
+        u64::trailing_zeros(self.word) as usize
     }
 
-    pub fn with(self, k: u32) -> Set
+    pub fn with(self, k: usize) -> Set
         requires { ⌜ k < room ⌝ }
         ensures { λ r. ⌜ ((a : List Bool) → Is self a → Is r (either a (only k))) ⌝ }
     {
         Set {
-            bits: self.bits | (1u64 << k),
+            word: self.word | (1u64 << k),
         }
     }
 
-    pub fn without(self, k: u32) -> Set
+    pub fn without(self, k: usize) -> Set
         requires { ⌜ k < room ⌝ }
         ensures { λ r. ⌜ Dropped self k r ⌝ }
     {
         Set {
-            bits: self.bits & !(1u64 << k),
+            word: self.word & !(1u64 << k),
         }
     }
 
     pub fn none() -> Set
         ensures { λ r. ⌜ Is r [] ⌝ }
     {
-        Set { bits: 0 }
+        Set { word: 0 }
     }
 
     // The n lowest.
-    pub fn lowest_of(n: u32) -> Set
+    pub fn lowest_of(n: usize) -> Set
         requires { ⌜ n ≤ room ⌝ }
         ensures { λ r. ⌜ Is r (replicate n true) ⌝ }
     {
         if n < 64 {
             return Set {
-                bits: (1u64 << n) - 1,
+                word: (1u64 << n) - 1,
             };
         }
-        Set { bits: !0u64 }
+        Set { word: !0u64 }
     }
 
     // k alone.
-    pub fn just(k: u32) -> Set
+    pub fn just(k: usize) -> Set
         requires { ⌜ k < room ⌝ }
         ensures { λ r. ⌜ Is r (only k) ⌝ }
     {
-        Set { bits: 1u64 << k }
+        Set { word: 1u64 << k }
     }
 
     pub fn has(self, k: usize) -> bool
         requires { ⌜ k < room ⌝ }
         ensures { λ r. ⌜ ((a : List Bool) → Is self a → r ≡ dig a k) ⌝ }
     {
-        (self.bits >> k) & 1 == 1
+        (self.word >> k) & 1 == 1
     }
 
     // What edge e has: its word of the list.
@@ -108,15 +108,15 @@ impl Set {
         requires { ⌜ e < edgeCount (now edges) ⌝ }
         ensures { λ r. ⌜ EdgeSet (now (edges .entry)) e r ⌝ }
     {
-        Set { bits: edges[e] }
+        Set { word: edges[e] }
     }
 }
 
 // Whether digit k of a word is 1.
 pub fn is_set(word: u64, k: usize) -> bool
     requires { ⌜ k < room ⌝ }
-    ensures { λ r. ⌜ r ≡ dig (bits room word) k ⌝ }
+    ensures { λ r. ⌜ r ≡ dig (digits room word) k ⌝ }
 {
-    let set = Set { bits: word };
+    let set = Set { word: word };
     set.has(k)
 }

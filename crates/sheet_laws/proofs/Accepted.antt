@@ -22,7 +22,7 @@ module _ (f : Format) (s : List ℕ) where
   length-coordinates = length-map (fieldsAt s (head f) 11 (3 * verticesIn f s)) coordinate ∙ length-fields s (head f) 11 (3 * verticesIn f s)
 
   pub length-ends : length (endsIn f s) ≡ 2 * edgesIn f s
-  length-ends = length-fields s (head f + 33 * verticesIn f s) (f .nw) (2 * edgesIn f s)
+  length-ends = length-fields s (head f + 33 * verticesIn f s) (f .«vertex_number_bits») (2 * edgesIn f s)
 
 module _ (f : Format) (s : List ℕ) (h : Fine ≡ firstOf (sheetChecks f s)) where
   both : (Fine ≡ firstOf (shapeChecks f s)) × (Fine ≡ firstOf (contentChecks (verticesIn f s) (coordinatesIn f s) (endsIn f s)))

@@ -12,7 +12,6 @@ use Rattle.lists.proofs.Truth.{or-none}
 use Rattle.lists.proofs.Lowest.{lowest-none}
 use Rattle.paper_laws.proofs.Checks.{found-none, passed}
 use Rattle.paper.specs.Refusals.{firstOf}
-use Rattle.paper.specs.Format.{low}
 use Rattle.paper.specs.Sheet.{far, farAt, wrong, wrongAt, edgeChecks, contentChecks, lentChecks, badCount}
 use Rattle.paper.specs.declared.Format.{Format}
 use Rattle.paper.specs.declared.Answer.the-variants.{Fine}
@@ -57,11 +56,10 @@ contents v xyz ends h =
 pub record Lent (f : Format) (xyz : List ℤ) (ends : List ℕ) : Type 0 where
   pub v-whole : length xyz ≡ 3 * (length xyz / 3)
   pub v-least : 4 ≤ length xyz / 3
-  pub v-most : length xyz / 3 ≤ f .vmax
+  pub v-most : length xyz / 3 ≤ f .«most_vertices»
   pub e-whole : length ends ≡ 2 * (length ends / 2)
   pub e-least : 6 ≤ length ends / 2
-  pub e-most : length ends / 2 ≤ f .emax
-  pub high : low f (length xyz / 3) (length ends / 2) ≡ false
+  pub e-most : length ends / 2 ≤ f .«most_edges»
   pub fine : Fine ≡ firstOf (contentChecks (length xyz / 3) xyz ends)
 
 -- a list is whole where its count is not bad, and there are as many parts as there may be
@@ -75,7 +73,6 @@ unfolding lentChecks
 lent f xyz ends h =
     let p0 = passed _ _ _ h in
     let p1 = passed _ _ _ (p0 .1) in
-    let p2 = passed _ _ _ (p1 .1) in
-    let v = whole 3 4 (f .vmax) (length xyz) (p0 .0) in
-    let e = whole 2 6 (f .emax) (length ends) (p1 .0) in
-    record { v-whole = omega (arith, v .0); v-least = v .1; v-most = v .2; e-whole = omega (arith, e .0); e-least = e .1; e-most = e .2; high = p2 .0; fine = p2 .1 }
+    let v = whole 3 4 (f .«most_vertices») (length xyz) (p0 .0) in
+    let e = whole 2 6 (f .«most_edges») (length ends) (p1 .0) in
+    record { v-whole = omega (arith, v .0); v-least = v .1; v-most = v .2; e-whole = omega (arith, e .0); e-least = e .1; e-most = e .2; fine = p1 .1 }

@@ -1,6 +1,5 @@
 -- What a sheet that passes refusals 3 to 7 is. Assumes nothing.
 use mathlib.Core.Path.{_≡_, _∙_, ap₂}
-use mathlib.Core.Bool.{false}
 use mathlib.Core.List.{List, _++_}
 use Prim.Native.Nat.{ℕ, _≤_}
 use borrow.Author.Tests.{ltb-false, eqb-true, not-false}
@@ -9,7 +8,7 @@ use Rattle.pack.specs.Bits.{fieldAt}
 use Rattle.paper_laws.proofs.Limits.{outside-false}
 use Rattle.paper_laws.proofs.Checks.{passed, first-stops, first-passes, first-both}
 use Rattle.paper.specs.Refusals.{firstOf}
-use Rattle.paper.specs.Format.{low, total, bytesFor, fillAfter, verticesIn, edgesIn}
+use Rattle.paper.specs.Format.{total, bytesFor, fillAfter, verticesIn, edgesIn}
 use Rattle.paper.specs.Sheet.{openChecks, countChecks, closeChecks, shapeChecks}
 use Rattle.paper.specs.declared.Format.{Format}
 use Rattle.paper.specs.declared.Answer.the-variants.{Fine, Refused}
@@ -28,20 +27,18 @@ opened f s h =
 
 pub record Counted (f : Format) (v e : ℕ) : Type 0 where
   pub v-least : 4 ≤ v
-  pub v-most : v ≤ f .vmax
+  pub v-most : v ≤ f .«most_vertices»
   pub e-least : 6 ≤ e
-  pub e-most : e ≤ f .emax
-  pub high : low f v e ≡ false
+  pub e-most : e ≤ f .«most_edges»
 
 pub counted : (f : Format) (v e : ℕ) → Fine ≡ firstOf (countChecks f v e) → Counted f v e
 unfolding countChecks
 counted f v e h =
     let p0 = passed _ _ _ h in
     let p1 = passed _ _ _ (p0 .1) in
-    let p2 = passed _ _ _ (p1 .1) in
-    let hv = outside-false 4 (f .vmax) v (p0 .0) in
-    let he = outside-false 6 (f .emax) e (p1 .0) in
-    record { v-least = hv .0; v-most = hv .1; e-least = he .0; e-most = he .1; high = p2 .0 }
+    let hv = outside-false 4 (f .«most_vertices») v (p0 .0) in
+    let he = outside-false 6 (f .«most_edges») e (p1 .0) in
+    record { v-least = hv .0; v-most = hv .1; e-least = he .0; e-most = he .1 }
 
 pub record Closed (f : Format) (s : List ℕ) (v e : ℕ) : Type 0 where
   pub sized : length s ≡ bytesFor (total f v e)

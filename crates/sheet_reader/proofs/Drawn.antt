@@ -29,12 +29,12 @@ module _ (f : Format) (s : List ℕ) where
 
   module _ (o : Fine ≡ firstOf (shapeChecks f s)) {v e : ℕ} {xyz : List ℤ} {ends : List ℕ} (hv : v ≡ verticesIn f s) (he : e ≡ edgesIn f s)
       (hx : xyz ≡ padded (map coordinate (fieldsAt s (head f) 11 (3 * v))) 96 (pos 0))
-      (hn : ends ≡ padded (fieldsAt s (head f + 33 * v) (f .nw) (2 * e)) 128 0) where
+      (hn : ends ≡ padded (fieldsAt s (head f + 33 * v) (f .«vertex_number_bits») (2 * e)) 128 0) where
     -- the code's four values are those of the sheet
     values : keptOf v e xyz ends ≡ keptOf (verticesIn f s) (edgesIn f s) (padded (coordinatesIn f s) 96 (pos 0)) (padded (endsIn f s) 128 0)
     values =
         let x : xyz ≡ padded (coordinatesIn f s) 96 (pos 0) = hx ∙ ap (λ (n : ℕ). padded (map coordinate (fieldsAt s (head f) 11 (3 * n))) 96 (pos 0)) hv in
-        let n : ends ≡ padded (endsIn f s) 128 0 = hn ∙ ap₂ (λ (n m : ℕ). padded (fieldsAt s (head f + 33 * n) (f .nw) (2 * m)) 128 0) hv he in
+        let n : ends ≡ padded (endsIn f s) 128 0 = hn ∙ ap₂ (λ (n m : ℕ). padded (fieldsAt s (head f + 33 * n) (f .«vertex_number_bits») (2 * m)) 128 0) hv he in
         λ i. keptOf (hv i) (he i) (x i) (n i)
 
     pub drawn-is : keptOf v e xyz ends ≡ sheetOf f s

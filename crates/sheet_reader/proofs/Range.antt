@@ -5,7 +5,7 @@ use Prim.Native.Nat.{ℕ, _*_}
 use native.Mathlib.Omega.{arith}
 use lib.IntN.{pos}
 use Rattle.pack.proofs.Fill.{length-padded, take-padded}
-use Rattle.paper.specs.Format.{one, verticesIn, edgesIn, coordinatesIn, endsIn}
+use Rattle.paper.specs.Format.{editionOne, verticesIn, edgesIn, coordinatesIn, endsIn}
 use Rattle.paper.specs.Sheet.{held, sheetOf}
 use Rattle.paper.specs.declared.Answer.the-variants.{Fine}
 use Rattle.paper_laws.specs.InRange.{Held}
@@ -13,17 +13,17 @@ use Rattle.drawing_lists.proofs.Range.{points-are, ends-are}
 use Rattle.sheet_laws.proofs.Accepted.{length-coordinates, length-ends}
 use Rattle.sheet_laws.proofs.Accepted.{accepted-shape, accepted-contents, returns}
 
-pub read-range : (s : List ℕ) → Fine ≡ sheetOf one s .answer → Held (sheetOf one s .drawing)
+pub read-range : (s : List ℕ) → Fine ≡ sheetOf editionOne s .answer → Held (sheetOf editionOne s .drawing)
 unfolding sheetOf
 read-range s h =
-    let v = verticesIn one s in
-    let e = edgesIn one s in
-    let xyz = coordinatesIn one s in
-    let ends = endsIn one s in
-    let three = length-coordinates one s in
-    let two = length-ends one s in
-    let k = accepted-shape one s h .counts-are in
-    let fine = accepted-contents one s h in
+    let v = verticesIn editionOne s in
+    let e = edgesIn editionOne s in
+    let xyz = coordinatesIn editionOne s in
+    let ends = endsIn editionOne s in
+    let three = length-coordinates editionOne s in
+    let two = length-ends editionOne s in
+    let k = accepted-shape editionOne s h .counts-are in
+    let fine = accepted-contents editionOne s h in
     let all : Held (held v e xyz ends) =
     record {
       least = k .v-least;
@@ -34,4 +34,4 @@ read-range s h =
       points = rw (take-padded xyz 96 (3 * v) (pos 0) three) (points-are xyz ends v e three two fine);
       links = rw (take-padded ends 128 (2 * e) 0 two) (ends-are xyz ends v e three two fine (k .e-least) (k .e-most));
     } in
-    subst Held (sym (returns one s h)) all
+    subst Held (sym (returns editionOne s h)) all

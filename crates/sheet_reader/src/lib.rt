@@ -1,15 +1,15 @@
 // Sheets, read at the rim of the service: nothing is assumed of any input.
 ghost use mathlib.Core.Path.{_≡_};
-ghost use Rattle.paper.specs.Format.{one};
+ghost use Rattle.paper.specs.Format.{editionOne};
 ghost use Rattle.paper.specs.Sheet.{sheetOf};
 
-pub mod read;
+mod read;
 
 use paper::Sheet;
 
 // Reads a sheet: refusals 3 to 10, and the drawing by value.
 pub fn read_sheet(sheet: &[u8]) -> Sheet
-    ensures { λ r. ⌜ r ≡ sheetOf one (now (sheet .entry)) ⌝ }
+    ensures { λ r. ⌜ r ≡ sheetOf editionOne (now (sheet .entry)) ⌝ }
 {
-    read::read(sheet_shape::edition_one(), sheet)
+    read::read(paper::edition_one(), sheet)
 }

@@ -9,7 +9,7 @@ ghost use Rattle.pack.specs.Fill.{padded};
 ghost use Rattle.paper.specs.Refusals.{firstOf};
 ghost use Rattle.paper.specs.Format.{coordinate};
 ghost use Rattle.paper.specs.Sheet.{shapeChecks, blank, sheetOf};
-ghost use Rattle.sheet_shape.specs.Narrow.{Small};
+ghost use Rattle.sheet_shape.specs.Narrow.{FitsDrawing};
 ghost use Rattle.sheet_reader.specs.Kept.{keptOf};
 use drawing_lists::content;
 use paper::Answer;
@@ -97,20 +97,29 @@ fn kept(v: usize, e: usize, xyz: [i64; paper::COORDINATES], ends: [u8; paper::EN
 
 // The drawing of a sheet that refusals 3 to 7 passed.
 fn drawn(f: Format, s: &[u8]) -> Sheet
-    requires { ⌜ Small f × (Answer.Fine ≡ firstOf (shapeChecks f (now s))) ⌝ }
+    requires { ⌜ FitsDrawing f × (Answer.Fine ≡ firstOf (shapeChecks f (now s))) ⌝ }
     ensures { λ r. ⌜ r ≡ sheetOf f (now (s .entry)) ⌝ }
 {
-    let first = paper::EDITION_BITS + f.vw + f.ew;
-    let v = pack::field(s, paper::EDITION_BITS, f.vw) as usize;
-    let e = pack::field(s, paper::EDITION_BITS + f.vw, f.ew) as usize;
+    let first = paper::EDITION_BITS + f.vertex_count_bits + f.edge_count_bits;
+    let v = pack::field(s, paper::EDITION_BITS, f.vertex_count_bits) as usize;
+    let e = pack::field(
+        s,
+        paper::EDITION_BITS + f.vertex_count_bits,
+        f.edge_count_bits,
+    ) as usize;
     let xyz = coordinates(s, first, 3 * v);
-    let ends = numbers(s, first + paper::VERTEX_BITS * v, f.nw, 2 * e);
+    let ends = numbers(
+        s,
+        first + paper::VERTEX_BITS * v,
+        f.vertex_number_bits,
+        2 * e,
+    );
     kept(v, e, xyz, ends)
 }
 
 // Reads a sheet of one edition.
 pub fn read(f: Format, s: &[u8]) -> Sheet
-    requires { ⌜ Small f ⌝ }
+    requires { ⌜ FitsDrawing f ⌝ }
     ensures { λ r. ⌜ r ≡ sheetOf f (now (s .entry)) ⌝ }
 {
     match shape(f, s) {

@@ -11,7 +11,7 @@ use Rattle.paper.specs.Format.{total, bytesFor, verticesIn, edgesIn}
 use Rattle.paper.specs.Sheet.{shapeChecks}
 use Rattle.paper.specs.declared.Format.{Format}
 use Rattle.paper.specs.declared.Answer.the-variants.{Fine}
-use Rattle.sheet_shape.specs.Narrow.{Small}
+use Rattle.sheet_shape.specs.Narrow.{FitsDrawing}
 use Rattle.sheet_shape.proofs.Sizes.{numbers-small}
 
 -- of its own v and e
@@ -20,10 +20,10 @@ pub record Bounds (f : Format) (s : List ℕ) (v e : ℕ) : Type 0 where
   pub e-most : e ≤ 64
   pub long : 3 ≤ length s
   pub fits : total f v e ≤ length s * 8
-  pub few : 2 * f .nw * e ≤ 2048
-  pub twice : f .nw * (2 * e) ≡ 2 * f .nw * e
+  pub few : 2 * f .«vertex_number_bits» * e ≤ 2048
+  pub twice : f .«vertex_number_bits» * (2 * e) ≡ 2 * f .«vertex_number_bits» * e
 
-pub bounds : (f : Format) (s : List ℕ) {v e : ℕ} → Small f → Fine ≡ firstOf (shapeChecks f s) → v ≡ verticesIn f s → e ≡ edgesIn f s → Bounds f s v e
+pub bounds : (f : Format) (s : List ℕ) {v e : ℕ} → FitsDrawing f → Fine ≡ firstOf (shapeChecks f s) → v ≡ verticesIn f s → e ≡ edgesIn f s → Bounds f s v e
 bounds f s {v} {e} g o hv he =
     let h = shaped f s o in
     let k = h .counts-are in
@@ -37,7 +37,7 @@ bounds f s {v} {e} g o hv he =
       long = h .open-is .long;
       fits = rw d (up (total f v e));
       few = numbers-small f (g .narrow) v e (omega arith) (omega arith);
-      twice = mul-left-comm (f .nw) 2 e ∙ sym (mul-assoc 2 (f .nw) e);
+      twice = mul-left-comm (f .«vertex_number_bits») 2 e ∙ sym (mul-assoc 2 (f .«vertex_number_bits») e);
     }
   where
     up : (n : ℕ) → n ≤ (n + 7) / 8 * 8

@@ -2,16 +2,16 @@
 use Prim.Native.Nat.{ℕ, _≤_, _*_}
 use native.Mathlib.Nat.{mul-le-mul, le-trans}
 use native.Mathlib.Omega.{arith}
-use Rattle.paper.specs.Format.{one, total}
+use Rattle.paper.specs.Format.{editionOne, total}
 use Rattle.paper.specs.declared.Format.{Format}
-use Rattle.sheet_shape.specs.Narrow.{Narrow, Small}
+use Rattle.sheet_shape.specs.Narrow.{Narrow, FitsDrawing}
 
-pub one-small : Small one
-one-small = record { narrow = omega arith; v-held = omega arith; e-held = omega arith }
+pub one-fits : FitsDrawing editionOne
+one-fits = record { narrow = omega arith; v-held = omega arith; e-held = omega arith }
 
 module _ (f : Format) (g : Narrow f) (v e : ℕ) (hv : v ≤ 64) (he : e ≤ 128) where
-  pub numbers-small : 2 * f .nw * e ≤ 2048
-  numbers-small = le-trans (mul-le-mul {n₁ = 2 * f .nw} {m₁ = e} {n₂ = 16} {m₂ = 128} (omega (arith, g .nw-most)) he) (omega arith)
+  pub numbers-small : 2 * f .«vertex_number_bits» * e ≤ 2048
+  numbers-small = le-trans (mul-le-mul {n₁ = 2 * f .«vertex_number_bits»} {m₁ = e} {n₂ = 16} {m₂ = 128} (omega (arith, g .vertex-number-narrow)) he) (omega arith)
 
   pub total-small : total f v e ≤ 4200
   total-small = omega (arith, numbers-small, g)

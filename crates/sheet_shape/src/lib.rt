@@ -1,39 +1,25 @@
-// The layout of edition 1, and refusals 3 to 7, the shape of a sheet, over any edition's layout. Nothing is assumed of the sheet.
+// Refusals 3 to 7, the shape of a sheet, over any edition's layout. Nothing is assumed of the sheet.
 ghost use mathlib.Core.Path.{_≡_};
 ghost use Prim.Native.Nat.{_≤_};
 ghost use Rattle.paper.specs.Refusals.{firstOf};
-ghost use Rattle.paper.specs.Format.{one, total};
+ghost use Rattle.paper.specs.Format.{total};
 ghost use Rattle.paper.specs.Sheet.{openChecks, closeChecks, shapeChecks};
 ghost use Rattle.sheet_shape.specs.Narrow.{Narrow};
 use paper::Answer;
 use paper::Format;
+use paper::refused;
 use sheet_counts::counts;
-use sheet_counts::refused;
-
-// Edition 1.
-pub fn edition_one() -> Format
-    ensures { λ r. ⌜ r ≡ one ⌝ }
-{
-    Format {
-        edition: 1,
-        vw: 6,
-        ew: 7,
-        nw: 5,
-        fw: 6,
-        vmax: paper::MOST_VERTICES as u64,
-        emax: paper::MOST_EDGES as u64,
-        fmax: paper::MOST_FACES as u64,
-        vlow: 0,
-        elow: 0,
-    }
-}
 
 // The bits before the fill.
 pub fn total_bits(f: Format, v: usize, e: usize) -> usize
     requires { ⌜ Narrow f × (v ≤ 64) × (e ≤ 128) ⌝ }
     ensures { λ r. ⌜ r ≡ total f v e ⌝ }
 {
-    paper::EDITION_BITS + f.vw + f.ew + paper::VERTEX_BITS * v + 2 * f.nw * e
+    paper::EDITION_BITS
+        + f.vertex_count_bits
+        + f.edge_count_bits
+        + paper::VERTEX_BITS * v
+        + 2 * f.vertex_number_bits * e
 }
 
 // Refusals 3 and 4.
@@ -72,8 +58,12 @@ pub fn shape(f: Format, s: &[u8]) -> Answer
     match opening(f, s) {
         Answer::Refused(r) => Answer::Refused(r),
         Answer::Fine => {
-            let v = pack::field(s, paper::EDITION_BITS, f.vw);
-            let e = pack::field(s, paper::EDITION_BITS + f.vw, f.ew);
+            let v = pack::field(s, paper::EDITION_BITS, f.vertex_count_bits);
+            let e = pack::field(
+                s,
+                paper::EDITION_BITS + f.vertex_count_bits,
+                f.edge_count_bits,
+            );
             match counts(f, v, e) {
                 Answer::Refused(r) => Answer::Refused(r),
                 Answer::Fine => closing(f, s, v as usize, e as usize),

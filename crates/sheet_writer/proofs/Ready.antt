@@ -21,7 +21,7 @@ pub record Ready (f : Format) (xyz : List ℤ) (ends : List ℕ) (v e r : ℕ) :
   pub v-three : length xyz ≡ 3 * v
   pub v-few : v ≤ 64
   pub e-few : e ≤ 128
-  pub stretch : f .nw * length ends ≡ 2 * f .nw * e
+  pub stretch : f .«vertex_number_bits» * length ends ≡ 2 * f .«vertex_number_bits» * e
   pub small : total f v e ≤ 4200
   pub fits : total f v e ≤ r * 8
   pub good : Lent f xyz ends
@@ -38,7 +38,7 @@ ready f xyz ends {v} {e} r n h hv he b =
       v-three = omega (arith, g .v-whole);
       v-few = vm;
       e-few = em;
-      stretch = ap (λ (x : ℕ). f .nw * x) ew ∙ mul-left-comm (f .nw) 2 e ∙ sym (mul-assoc 2 (f .nw) e);
+      stretch = ap (λ (x : ℕ). f .«vertex_number_bits» * x) ew ∙ mul-left-comm (f .«vertex_number_bits») 2 e ∙ sym (mul-assoc 2 (f .«vertex_number_bits») e);
       small = total-small f n v e vm em;
       fits = above (total f v e) b;
       good = g;

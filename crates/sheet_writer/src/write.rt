@@ -4,7 +4,7 @@ ghost use mathlib.Core.Bool.{false};
 ghost use mathlib.Core.List.{map, _++_};
 ghost use Prim.Native.Nat.{_+_, _*_, _-_, _/_, _≤_, _<_, _^_};
 ghost use lib.ListN.{length, drop};
-ghost use Rattle.pack.specs.Bits.{bits, run, over};
+ghost use Rattle.pack.specs.Bits.{bits, run, overwrite};
 ghost use Rattle.paper.specs.Refusals.{firstOf};
 ghost use Rattle.paper.specs.Format.{onSheet, total, bytesFor, headBits, encode};
 ghost use Rattle.paper.specs.Sheet.{far, lentChecks, writtenOf, roomOf};
@@ -28,7 +28,7 @@ fn to_field(z: i64) -> u64
 // Writes the coordinates into the fields of 11 bits from bit i on.
 fn put_coordinates(xyz: &[i64], room: &mut [u8], i: usize)
     requires { ⌜ Near (now xyz) × (i + 11 * length (now xyz) ≤ length (now room) * 8) × (i + 11 * length (now xyz) < 2 ^ 32) ⌝ }
-    ensures { λ _. ⌜ run 8 (now (room .exit)) ≡ over (run 8 (now (room .entry))) i (run 11 (map onSheet (now (xyz .entry)))) ⌝ }
+    ensures { λ _. ⌜ run 8 (now (room .exit)) ≡ overwrite (run 8 (now (room .entry))) i (run 11 (map onSheet (now (xyz .entry)))) ⌝ }
 {
     let mut k: usize = 0;
     while k < xyz.len() {
@@ -45,7 +45,7 @@ fn put_coordinates(xyz: &[i64], room: &mut [u8], i: usize)
 // Writes the numbers into the fields of w bits from bit i on.
 fn put_numbers(list: &[u8], room: &mut [u8], i: usize, w: usize)
     requires { ⌜ (w ≤ 8) × (i + w * length (now list) ≤ length (now room) * 8) × (i + w * length (now list) < 2 ^ 32) ⌝ }
-    ensures { λ _. ⌜ run 8 (now (room .exit)) ≡ over (run 8 (now (room .entry))) i (run w (now (list .entry))) ⌝ }
+    ensures { λ _. ⌜ run 8 (now (room .exit)) ≡ overwrite (run 8 (now (room .entry))) i (run w (now (list .entry))) ⌝ }
 {
     let mut k: usize = 0;
     while k < list.len() {
@@ -56,20 +56,17 @@ fn put_numbers(list: &[u8], room: &mut [u8], i: usize, w: usize)
 
 // Writes the edition and the counts.
 fn put_head(f: Format, room: &mut [u8], v: usize, e: usize)
-    requires { ⌜ Narrow f × (4 + f .vw + f .ew ≤ length (now room) * 8) ⌝ }
-    ensures { λ _. ⌜ run 8 (now (room .exit)) ≡ over (run 8 (now (room .entry))) 0 (headBits f v e) ⌝ }
+    requires { ⌜ Narrow f × (4 + f .«vertex_count_bits» + f .«edge_count_bits» ≤ length (now room) * 8) ⌝ }
+    ensures { λ _. ⌜ run 8 (now (room .exit)) ≡ overwrite (run 8 (now (room .entry))) 0 (headBits f v e) ⌝ }
 {
     pack::put(room, 0, paper::EDITION_BITS, f.edition);
-    pack::put(room, paper::EDITION_BITS, f.vw, v as u64);
-    pack::put(room, paper::EDITION_BITS + f.vw, f.ew, e as u64);
-}
-
-// Fills the last byte of the first n bits with zeros.
-pub fn put_fill(room: &mut [u8], n: usize)
-    requires { ⌜ (bytesFor n ≤ length (now room)) × (n < 2 ^ 31) ⌝ }
-    ensures { λ _. ⌜ run 8 (now (room .exit)) ≡ over (run 8 (now (room .entry))) n (bits (bytesFor n * 8 - n) 0) ⌝ }
-{
-    pack::put(room, n, (n + 7) / 8 * 8 - n, 0);
+    pack::put(room, paper::EDITION_BITS, f.vertex_count_bits, v as u64);
+    pack::put(
+        room,
+        paper::EDITION_BITS + f.vertex_count_bits,
+        f.edge_count_bits,
+        e as u64,
+    );
 }
 
 // Writes the sheet of a drawing that fits, into room that is long enough.
@@ -77,12 +74,17 @@ fn put_sheet(f: Format, xyz: &[i64], ends: &[u8], room: &mut [u8], v: usize, e: 
     requires { ⌜ Narrow f × (Answer.Fine ≡ firstOf (lentChecks f (now xyz) (now ends))) × (v ≡ length (now xyz) / 3) × (e ≡ length (now ends) / 2) × (bytesFor (total f v e) ≤ length (now room)) ⌝ }
     ensures { λ _. ⌜ now (room .exit) ≡ encode f (now (xyz .entry)) (now (ends .entry)) ++ drop (bytesFor (total f v e)) (now (room .entry)) ⌝ }
 {
-    let first = paper::EDITION_BITS + f.vw + f.ew;
+    let first = paper::EDITION_BITS + f.vertex_count_bits + f.edge_count_bits;
     let bits = total_bits(f, v, e);
     put_head(f, room, v, e);
     put_coordinates(xyz, room, first);
-    put_numbers(ends, room, first + paper::VERTEX_BITS * v, f.nw);
-    put_fill(room, bits);
+    put_numbers(
+        ends,
+        room,
+        first + paper::VERTEX_BITS * v,
+        f.vertex_number_bits,
+    );
+    pack::put_fill(room, bits);
 }
 
 // Writes a drawing's sheet of one edition.

@@ -3,9 +3,9 @@ ghost use mathlib.Core.Path.{_≡_};
 ghost use mathlib.Core.Option.{some};
 ghost use Prim.Native.Nat.{ℕ, _+_, _≤_, _<_};
 ghost use lib.ListN.{length};
-ghost use Rattle.lists.specs.Place.{found};
+ghost use Rattle.lists.specs.Found.{found};
 use libc::STDOUT_FILENO;
-use lists::Place;
+use lists::Found;
 
 pub fn say(text: &[u8]) {
     io::write_all(STDOUT_FILENO, text);
@@ -30,19 +30,19 @@ pub fn wide(x: u8) -> u64
 }
 
 // Where the item ends that stands at byte `at` behind its length in two bytes, high byte first.
-pub fn end_of(book: &[u8], at: usize) -> Place
+pub fn end_of(book: &[u8], at: usize) -> Found
     ensures { λ r. ⌜ ((k : ℕ) → some k ≡ found r → (at + 2 ≤ k) × (k ≤ length (now (book .entry)))) ⌝ }
 {
     if book.len() < at {
-        return Place::Nowhere;
+        return Found::Nothing;
     }
     let rest = book.len() - at;
     if rest < 2 {
-        return Place::Nowhere;
+        return Found::Nothing;
     }
     let size = wide(book[at]) as usize * 256 + wide(book[at + 1]) as usize;
     if rest - 2 < size {
-        return Place::Nowhere;
+        return Found::Nothing;
     }
-    Place::At(at + 2 + size)
+    Found::Value(at + 2 + size)
 }

@@ -8,7 +8,7 @@ use clash::clash;
 use cover::covers;
 use drawing_rules::drawing_rules;
 use libc::STDIN_FILENO;
-use lists::Place;
+use lists::Found;
 use paper::Answer;
 use paper::Drawing;
 use paper::Point;
@@ -101,10 +101,10 @@ fn show(s: &[u8], list: &[u8]) {
 fn show_all(book: &[u8]) {
     let mut at: usize = 0;
     while at < book.len() {
-        let Place::At(middle) = end_of(book, at) else {
+        let Found::Value(middle) = end_of(book, at) else {
             return
         };
-        let Place::At(end) = end_of(book, middle) else {
+        let Found::Value(end) = end_of(book, middle) else {
             return
         };
         show(&book[at + 2..middle], &book[middle + 2..end]);

@@ -2,7 +2,7 @@
 // high byte first. Of each it prints what the reader says and, of a drawing, what the writer makes of it again, byte by byte.
 use libc::STDIN_FILENO;
 use libc::STDOUT_FILENO;
-use lists::Place;
+use lists::Found;
 use paper::Answer;
 use paper::Written;
 use trial::end_of;
@@ -63,7 +63,7 @@ fn show(s: &[u8]) {
 fn show_all(book: &[u8]) {
     let mut at: usize = 0;
     while at < book.len() {
-        let Place::At(end) = end_of(book, at) else {
+        let Found::Value(end) = end_of(book, at) else {
             return;
         };
         show(&book[at + 2..end]);

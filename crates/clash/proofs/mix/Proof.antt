@@ -4,12 +4,12 @@ use Rattle.exact.proofs.Machine.{Plain, _▸_, asked, done, reads}
 use Rattle.exact.proofs.Ring.{_⊕_, _⊗_, var}
 use Rattle.paper.specs.Numbers.{farthest}
 use Rattle.paper.specs.Points.{plus, times}
-use Rattle.polygon.specs.Sizes.{mostSide}
+use Rattle.polygon.specs.Sizes.{mostPlaneSide}
 use Rattle.clash.proofs.mix.Statement.{statement}
 use Rattle.clash.proofs.mix.Tie as tie
 
 -- s, p, t, q
-abbrev env : (c : tie.Start) → Plain (mostSide ∷ farthest ∷ farthest ∷ farthest ∷ mostSide ∷ farthest ∷ farthest ∷ farthest ∷ []) (c .args .s ∷ c .args .p .x ∷ c .args .p .y ∷ c .args .p .z ∷ c .args .t ∷ c .args .q .x ∷ c .args .q .y ∷ c .args .q .z ∷ [])
+abbrev env : (c : tie.Start) → Plain (mostPlaneSide ∷ farthest ∷ farthest ∷ farthest ∷ mostPlaneSide ∷ farthest ∷ farthest ∷ farthest ∷ []) (c .args .s ∷ c .args .p .x ∷ c .args .p .y ∷ c .args .p .z ∷ c .args .t ∷ c .args .q .x ∷ c .args .q .y ∷ c .args .q .z ∷ [])
 env c =
     let (s, p, t, q) = c .pre in
     s ▸ p .x-in ▸ p .y-in ▸ p .z-in ▸ t ▸ q .x-in ▸ q .y-in ▸ q .z-in ▸ done

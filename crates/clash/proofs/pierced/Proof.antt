@@ -15,7 +15,7 @@ use Rattle.paper.specs.Clash.{opposite, pierced}
 use Rattle.paper.specs.Points.{plus, times}
 use Rattle.paper.specs.Polygon.{Polygon, isInside, lies, over}
 use Rattle.polygon.specs.Rings.{ring}
-use Rattle.polygon.specs.Sizes.{mostScale, mostSide}
+use Rattle.polygon.specs.Sizes.{mostScale, mostPlaneSide}
 use Rattle.polygon.proofs.Sizes.{plus-small, small-eq, small-up, times-small}
 use Rattle.polygon.proofs.Zeros.{abs-within}
 use Rattle.clash.proofs.pierced.Statement.{statement}
@@ -36,7 +36,7 @@ size-b c = c .size .ensures ∙ ap (λ (z : ℤ). pos (natAbs z)) (plain (c .bef
 size-a : (c : tie.After-size2) → c .size2 .result ≡ pos (natAbs (c .before .before .before .before .before .args .a))
 size-a c = c .size2 .ensures ∙ ap (λ (z : ℤ). pos (natAbs z)) (plain (c .before .before .before .before .before .fits .a) .reading)
 
-env : (c : tie.After-size2) → Plain (mostSide ∷ mostSide ∷ []) (c .before .size .result ∷ c .size2 .result ∷ [])
+env : (c : tie.After-size2) → Plain (mostPlaneSide ∷ mostPlaneSide ∷ []) (c .before .size .result ∷ c .size2 .result ∷ [])
 env c =
     let s = c .before .before .before .before .before in
     abs-within (size-b (c .before)) (s .pre .4) ▸ abs-within (size-a c) (s .pre .3) ▸ done
@@ -76,7 +76,7 @@ mix-requires : tie.Need-mix-requires
 mix-requires c κs =
     let s = c .before .before .before .before .before in
     let e = env (c) in
-    (handed mostSide e (var 0) tt tt, s .pre .1, handed mostSide e (var 1) tt tt, s .pre .2)
+    (handed mostPlaneSide e (var 0) tt tt, s .pre .1, handed mostPlaneSide e (var 1) tt tt, s .pre .2)
 
 add-lies-inside : tie.Need-add-lies-inside
 add-lies-inside c = asked (env (c .before)) (var 1 ⊕ var 0) tt
@@ -85,8 +85,8 @@ lies-inside-requires : tie.Need-lies-inside-requires
 lies-inside-requires c κs =
     let s = c .before .before .before .before .before .before in
     let e = env (c .before) in
-    let b = times-small (handed mostSide e (var 0) tt tt) (s .pre .1) in
-    let a = times-small (handed mostSide e (var 1) tt tt) (s .pre .2) in
+    let b = times-small (handed mostPlaneSide e (var 0) tt tt) (s .pre .1) in
+    let a = times-small (handed mostPlaneSide e (var 1) tt tt) (s .pre .2) in
     (s .pre .0, small-eq (c .mix .ensures) (small-up tt (plus-small b a)), handed mostScale e (var 1 ⊕ var 0) tt tt)
 
 returns-2 : tie.Need-returns-2

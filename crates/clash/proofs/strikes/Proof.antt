@@ -17,10 +17,10 @@ use Rattle.lists.proofs.Sides.{ring-hit, ring-miss, side-end, side-hit, side-mi
 use Rattle.lists.specs.Lists.{any, anyTrue, sides}
 use Rattle.paper.specs.Clash.{enters, pierced, pierces}
 use Rattle.paper.specs.Points.{isZero, origin}
-use Rattle.paper.specs.Polygon.{Polygon, exactly, isInside, lies, side}
+use Rattle.paper.specs.Polygon.{Polygon, exactly, isInside, lies, planeSide}
 use Rattle.paper.specs.declared.Point.{Point}
 use Rattle.polygon.specs.Rings.{cornerOf, ring}
-use Rattle.polygon.specs.Sizes.{mostSide}
+use Rattle.polygon.specs.Sizes.{mostPlaneSide}
 use Rattle.polygon.proofs.Planes.{face-normal, side-is, side-within}
 use Rattle.polygon.proofs.Rows.{corner-small, ring-least, ring-length}
 use Rattle.polygon.proofs.Sizes.{small-eq}
@@ -29,14 +29,14 @@ use Rattle.clash.proofs.strikes.Tie as tie
 
 -- A of a side, and B of a corner
 abbrev Cut : Polygon → Point → Point → Bool
-Cut h p q = pierced h p q (side h p) (side h q)
+Cut h p q = pierced h p q (planeSide h p) (planeSide h q)
 
 abbrev Dip : Polygon → Point → Bool
-Dip h p = isZero (side h p) && isInside (lies (exactly p) h)
+Dip h p = isZero (planeSide h p) && isInside (lies (exactly p) h)
 
 abbrev Inv-loop : tie.InvT-loop
 Inv-loop xyz table f g m n o a₀ s₀ j₀ a s j =
-    (j ≤ n) × (n ≡ length (ring xyz table f)) × Left anyTrue (sides (Cut (ring xyz table g)) (ring xyz table f)) j × Left (any (Dip (ring xyz table g))) (ring xyz table f) j × (a ≡ cornerOf (ring xyz table f) j) × (s ≡ ofZ w64 (side (ring xyz table g) (cornerOf (ring xyz table f) j)))
+    (j ≤ n) × (n ≡ length (ring xyz table f)) × Left anyTrue (sides (Cut (ring xyz table g)) (ring xyz table f)) j × Left (any (Dip (ring xyz table g))) (ring xyz table f) j × (a ≡ cornerOf (ring xyz table f) j) × (s ≡ ofZ w64 (planeSide (ring xyz table g) (cornerOf (ring xyz table f) j)))
 
 abbrev μ-loop : tie.MeasureT-loop
 μ-loop xyz table f g m n o a₀ s₀ j₀ a s j = n - j
@@ -48,20 +48,20 @@ abbrev G : tie.Start Inv-loop μ-loop → Polygon
 G c = ring (now (c .args .xyz)) (now (c .args .table)) (c .args .g)
 
 -- the side of corner j, in the loop's s, and of the corner after it
-s-env : (c : tie.At-loop Inv-loop μ-loop) → Env (mostSide ∷ []) (c .loop .s ∷ []) (side (G (c .before .before .before .before .before .before)) (cornerOf (F (c .before .before .before .before .before .before)) (c .loop .j)) ∷ [])
+s-env : (c : tie.At-loop Inv-loop μ-loop) → Env (mostPlaneSide ∷ []) (c .loop .s ∷ []) (planeSide (G (c .before .before .before .before .before .before)) (cornerOf (F (c .before .before .before .before .before .before)) (c .loop .j)) ∷ [])
 s-env c =
     let s = c .before .before .before .before .before .before in
     raw (c .loop .inv .5) (side-within (s .pre .1) (corner-small (s .pre .0) (c .loop .j))) done
 
-t-is : (c : tie.After-side2 Inv-loop μ-loop) → c .side2 .result ≡ side (G (c .before .before .before .before .before .before .before .before .before)) (cornerOf (F (c .before .before .before .before .before .before .before .before .before)) (c .before .before .before .loop .j + 1))
+t-is : (c : tie.After-plane-side2 Inv-loop μ-loop) → c .plane-side2 .result ≡ planeSide (G (c .before .before .before .before .before .before .before .before .before)) (cornerOf (F (c .before .before .before .before .before .before .before .before .before)) (c .before .before .before .loop .j + 1))
 t-is c =
     let s = c .before .before .before .before .before .before .before .before .before in
-    c .side2 .ensures ∙ side-is (s .pre .1) (c .before .before .before .before .before .before .corner .ensures) (c .before .corner3 .result) ∙ ap (side (G s)) (c .before .corner3 .ensures)
+    c .plane-side2 .ensures ∙ side-is (s .pre .1) (c .before .before .before .before .before .before .corner .ensures) (c .before .corner3 .result) ∙ ap (planeSide (G s)) (c .before .corner3 .ensures)
 
-t-env : (c : tie.After-side2 Inv-loop μ-loop) → Plain (mostSide ∷ []) (c .side2 .result ∷ [])
+t-env : (c : tie.After-plane-side2 Inv-loop μ-loop) → Plain (mostPlaneSide ∷ []) (c .plane-side2 .result ∷ [])
 t-env c =
     let s = c .before .before .before .before .before .before .before .before .before in
-    subst (λ (z : ℤ). Within mostSide z) (sym (t-is c)) (side-within (s .pre .1) (corner-small (s .pre .0) (c .before .before .before .loop .j + 1))) ▸ done
+    subst (λ (z : ℤ). Within mostPlaneSide z) (sym (t-is c)) (side-within (s .pre .1) (corner-small (s .pre .0) (c .before .before .before .loop .j + 1))) ▸ done
 
 cut : (c : tie.After-pierced Inv-loop μ-loop) {b : Bool} → c .pierced .result ≡ b
     → Cut (G (c .before .before .before .before .before .before .before .before .before .before)) (cornerOf (F (c .before .before .before .before .before .before .before .before .before .before)) (c .before .before .before .before .loop .j)) (cornerOf (F (c .before .before .before .before .before .before .before .before .before .before)) (c .before .before .before .before .loop .j + 1)) ≡ b
@@ -85,15 +85,15 @@ corner-requires c κs = (c .before .before .pre .1 .row, omega (arith, ring-leas
 corner-requires-2 : tie.Need-corner-requires-2 Inv-loop μ-loop
 corner-requires-2 c κs = (c .before .before .before .pre .0, omega (arith, ring-least (c .before .before .before .pre .0)))
 
-side-requires : tie.Need-side-requires Inv-loop μ-loop
-side-requires c κs =
+plane-side-requires : tie.Need-plane-side-requires Inv-loop μ-loop
+plane-side-requires c κs =
     let s = c .before .before .before .before in
     (face-normal (s .pre .1), small-eq (c .before .corner .ensures) (corner-small (s .pre .1 .row) 0), small-eq (c .corner2 .ensures) (corner-small (s .pre .0) 0))
 
 loop-holds : tie.Need-loop-holds Inv-loop μ-loop
 loop-holds c =
     let s = c .before .before .before .before .before in
-    let first = c .side .ensures ∙ side-is (s .pre .1) (c .before .before .corner .ensures) (c .before .corner2 .result) ∙ ap (side (G s)) (c .before .corner2 .ensures) in
+    let first = c .plane-side .ensures ∙ side-is (s .pre .1) (c .before .before .corner .ensures) (c .before .corner2 .result) ∙ ap (planeSide (G s)) (c .before .corner2 .ensures) in
     (omega arith, c .before .before .before .count .ensures ∙ sym (ring-length (s .pre .0)), refl, refl, c .before .corner2 .ensures, ap (ofZ w64) first)
 
 add-corner : tie.Need-add-corner Inv-loop μ-loop
@@ -102,8 +102,8 @@ add-corner c = omega arith
 corner-requires-3 : tie.Need-corner-requires-3 Inv-loop μ-loop
 corner-requires-3 c κs = (c .before .before .before .before .before .before .before .pre .0, omega (arith, ring-least (c .before .before .before .before .before .before .before .pre .0)))
 
-side-requires-2 : tie.Need-side-requires-2 Inv-loop μ-loop
-side-requires-2 c κs =
+plane-side-requires-2 : tie.Need-plane-side-requires-2 Inv-loop μ-loop
+plane-side-requires-2 c κs =
     let s = c .before .before .before .before .before .before .before .before in
     (face-normal (s .pre .1), small-eq (c .before .before .before .before .before .corner .ensures) (corner-small (s .pre .1 .row) 0), small-eq (c .corner3 .ensures) (corner-small (s .pre .0) _))
 
@@ -114,8 +114,8 @@ pierced-requires c κs =
       s .pre .1,
       small-eq (c .before .before .before .loop .inv .4) (near _),
       small-eq (c .before .corner3 .ensures) (near _),
-      handed mostSide (s-env (c .before .before .before)) (var 0) tt tt,
-      handed mostSide (t-env (c)) (var 0) tt tt,
+      handed mostPlaneSide (s-env (c .before .before .before)) (var 0) tt tt,
+      handed mostPlaneSide (t-env (c)) (var 0) tt tt,
     )
 
 returns : tie.Need-returns Inv-loop μ-loop
@@ -173,11 +173,11 @@ strikes-spec =
     count-requires
     corner-requires
     corner-requires-2
-    side-requires
+    plane-side-requires
     loop-holds
     add-corner
     corner-requires-3
-    side-requires-2
+    plane-side-requires-2
     pierced-requires
     returns
     dips-requires

@@ -3,7 +3,7 @@ use mathlib.Core.Path.{_∙_}
 use lib.IntN.{pos}
 use lib.Signed.{ltZ}
 use borrow.Author.Needs.{needs}
-use Rattle.paper.specs.Clash.{inAngle, within}
+use Rattle.paper.specs.Clash.{inAngle, angleHolds}
 use Rattle.paper.specs.Points.{above, det, minus}
 use Rattle.polygon.proofs.Sizes.{minus-small, small-eq}
 use Rattle.polygon.proofs.Zeros.{reads-back}
@@ -35,8 +35,8 @@ det-requires-3 c κs =
     let y = small-eq (c .before .before .minus2 .ensures) (minus-small (s .pre .1) (s .pre .2)) in
     (s .pre .0, s .pre .4, y)
 
-within-requires : tie.Need-within-requires
-within-requires c κs = search needs
+angle-holds-requires : tie.Need-angle-holds-requires
+angle-holds-requires c κs = search needs
 
 returns : tie.Need-returns
 unfolding inAngle above
@@ -49,7 +49,7 @@ returns c =
     let convex = reads-back (c .before .before .before .det .result) (c .before .before .before .det .ok) ∙ c .before .before .before .det .ensures ∙ (λ i. det m (x i) (y i)) in
     let l = reads-back (c .before .before .det2 .result) (c .before .before .det2 .ok) ∙ c .before .before .det2 .ensures ∙ (λ i. det m (x i) w) in
     let r = reads-back (c .before .det3 .result) (c .before .det3 .ok) ∙ c .before .det3 .ensures ∙ (λ i. det m w (y i)) in
-    c .within .ensures ∙ (λ i. within (ltZ (pos 0) (convex i)) (ltZ (pos 0) (l i)) (ltZ (pos 0) (r i)))
+    c .angle-holds .ensures ∙ (λ i. angleHolds (ltZ (pos 0) (convex i)) (ltZ (pos 0) (l i)) (ltZ (pos 0) (r i)))
 
 pub in-angle-spec : {M : Type 1} → statement M
 in-angle-spec =
@@ -60,5 +60,5 @@ in-angle-spec =
     det-requires
     det-requires-2
     det-requires-3
-    within-requires
+    angle-holds-requires
     returns)

@@ -11,14 +11,14 @@ use Rattle.sets.proofs.Numbers.{digit-bits}
 use Rattle.lists.proofs.Search.{LowestLeft, lowest-end, lowest-hit, lowest-miss, lowest-start}
 use Rattle.lists.specs.Lists.{lowest}
 use Rattle.paper_laws.proofs.Checks.{clear, stops, passes}
-use Rattle.paper.specs.Drawing.{Wire, apart, reached}
+use Rattle.paper.specs.Drawing.{Wire, apart, verticesReached}
 use Rattle.paper.specs.Refusals.{Apart}
 use Rattle.drawing_links.specs.Neighbours.{Links}
 use Rattle.drawing_links.proofs.apart.Statement.{statement}
 use Rattle.drawing_links.proofs.apart.Tie as tie
 
 abbrev Missing : Wire → ℕ → ℕ → Bool
-Missing d v w = not (getD (reached d v) w false)
+Missing d v w = not (getD (verticesReached d v) w false)
 
 abbrev Inv-loop : tie.InvT-loop
 Inv-loop near v set w₀ w = (w ≤ v) × ((d : Wire) → Links near v d → LowestLeft (Missing d v) v w)
@@ -28,15 +28,15 @@ abbrev μ-loop : tie.MeasureT-loop
 
 here : (c : tie.After-is-set Inv-loop μ-loop) {b : Bool} → not (c .is-set .result) ≡ b
     → (d : Wire) → Links (now (c .before .before .before .before .args .near)) (c .before .before .before .before .args .v) d → Missing d (c .before .before .before .before .args .v) (c .before .before .loop .w) ≡ b
-here c e d k = ap not (sym (c .is-set .ensures ∙ digit-bits 64 _ _ (omega arith) ∙ c .before .before .before .reached .ensures d k (c .before .before .loop .w) (omega arith))) ∙ e
+here c e d k = ap not (sym (c .is-set .ensures ∙ digit-bits 64 _ _ (omega arith) ∙ c .before .before .before .vertices-reached .ensures d k (c .before .before .loop .w) (omega arith))) ∙ e
 
 -- the answer, by the count of vertices
 answer : (d : Wire) {v : ℕ} → length (d .vertices) ≡ v → lowest (Missing d v) v ≡ apart d
 unfolding apart
 answer d e = ap (λ (n : ℕ). lowest (Missing d n) n) (sym e)
 
-reached-requires : tie.Need-reached-requires Inv-loop μ-loop
-reached-requires c κs = omega arith
+vertices-reached-requires : tie.Need-vertices-reached-requires Inv-loop μ-loop
+vertices-reached-requires c κs = omega arith
 
 loop-holds : tie.Need-loop-holds Inv-loop μ-loop
 loop-holds c = (omega arith, λ d k. lowest-start (Missing d _) _)
@@ -77,7 +77,7 @@ apart-spec =
     (tie.spec
     Inv-loop
     μ-loop
-    reached-requires
+    vertices-reached-requires
     loop-holds
     is-set-requires
     refused-requires

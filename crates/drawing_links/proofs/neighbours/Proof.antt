@@ -10,7 +10,7 @@ use borrow.Author.Needs.{needs}
 use Rattle.lists.proofs.Places.{any-more}
 use Rattle.lists.specs.Lists.{any}
 use Rattle.paper.specs.Drawing.{edge, edgesOf, ends, joins}
-use Rattle.paper.specs.Format.{one}
+use Rattle.paper.specs.Format.{editionOne}
 use Rattle.sets.specs.Word.{digit}
 use Rattle.drawing_links.proofs.Edges.{edge-count, edge-is, half-count}
 use Rattle.drawing_links.proofs.Words.{marked, no-marks, words-are}
@@ -19,19 +19,19 @@ use Rattle.drawing_links.proofs.neighbours.Tie as tie
 
 abbrev Inv-loop : tie.InvT-loop
 Inv-loop ends v near₀ n e₀ near e =
-    (e ≤ n) × (n ≡ length (edgesOf ends)) × (length near ≡ one .vmax) × ((u w : ℕ) → digit (getD near u 0) w ≡ any (joins u w) (take e (edgesOf ends)))
+    (e ≤ n) × (n ≡ length (edgesOf ends)) × (length near ≡ editionOne .«most_vertices») × ((u w : ℕ) → digit (getD near u 0) w ≡ any (joins u w) (take e (edgesOf ends)))
 
 abbrev μ-loop : tie.MeasureT-loop
 μ-loop ends v near₀ n e₀ near e = n - e
 
 -- the ends of edge e are vertices
-a-low : (c : tie.After-wide Inv-loop μ-loop) → c .wide .result < one .vmax
+a-low : (c : tie.After-wide Inv-loop μ-loop) → c .wide .result < editionOne .«most_vertices»
 a-low c =
     let p = c .before .before .before .before .before .pre in
     let low = p .1 .known (2 * c .before .before .before .loop .e) (omega (arith, edge-count (p .1), p .1 .whole)) in
     omega (arith, c .wide .ensures)
 
-b-low : (c : tie.After-wide2 Inv-loop μ-loop) → c .wide2 .result < one .vmax
+b-low : (c : tie.After-wide2 Inv-loop μ-loop) → c .wide2 .result < editionOne .«most_vertices»
 b-low c =
     let p = c .before .before .before .before .before .before .before .pre in
     let low = p .1 .known (2 * c .before .before .before .before .before .loop .e + 1) (omega (arith, edge-count (p .1), p .1 .whole)) in
@@ -41,7 +41,7 @@ loop-holds : tie.Need-loop-holds Inv-loop μ-loop
 unfolding any
 loop-holds c =
     let p = c .before .pre .1 in
-    (omega arith, half-count p ∙ sym (edge-count p), refl, λ u w. no-marks (one .vmax) u w)
+    (omega arith, half-count p ∙ sym (edge-count p), refl, λ u w. no-marks (editionOne .«most_vertices») u w)
 
 mul-wide : tie.Need-mul-wide Inv-loop μ-loop
 mul-wide c = omega arith

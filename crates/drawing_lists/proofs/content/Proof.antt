@@ -1,6 +1,6 @@
 -- `drawing_lists::content` meets its contract. Assumes nothing.
 use mathlib.Core.Path.{_∙_, sym, ap}
-use Rattle.lists.specs.Place.{found}
+use Rattle.lists.specs.Found.{found}
 use Rattle.paper_laws.proofs.Checks.{stops, passes}
 use Rattle.paper.specs.Sheet.{contentChecks}
 use borrow.Author.Needs.{needs}

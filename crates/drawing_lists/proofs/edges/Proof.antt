@@ -1,6 +1,6 @@
 -- `drawing_lists::edges` meets its contract. Assumes nothing.
 use mathlib.Core.Path.{_∙_, sym, ap}
-use Rattle.lists.specs.Place.{found}
+use Rattle.lists.specs.Found.{found}
 use Rattle.paper_laws.proofs.Checks.{stops, passes, clear}
 use Rattle.paper.specs.Sheet.{edgeChecks}
 use borrow.Author.Needs.{needs}

@@ -7,7 +7,7 @@ use lib.ListN.{length}
 use denote.Ref.{now}
 use borrow.Author.Needs.{needs}
 use Rattle.paper.specs.Drawing.{Wire, apart, drawingChecks, edgeMeets, ends, looseVertex, samePlace, wire}
-use Rattle.paper.specs.Format.{one}
+use Rattle.paper.specs.Format.{editionOne}
 use Rattle.paper.specs.Refusals.{Apart, Check, EdgeMeets, LooseVertex, SamePlace, check, firstOf}
 use Rattle.paper_laws.specs.InRange.{Ends, Points}
 use Rattle.drawing_links.specs.Neighbours.{Links}
@@ -33,7 +33,7 @@ points-in c = subst (Points (now (c .args .xyz))) (counted c) (c .pre .points)
 ends-in : (c : tie.Start) → Ends (now (c .args .ends)) (N c)
 ends-in c = subst (Ends (now (c .args .ends))) (counted c) (c .pre .links)
 
-few : (c : tie.Start) → N c ≤ one .vmax
+few : (c : tie.Start) → N c ≤ editionOne .«most_vertices»
 few c = let h = c .pre .most in omega (arith, counted c)
 
 links : (c : tie.After-neighbours) → Links (c .neighbours .result) (N (c .before .before .before .before .before)) (D (c .before .before .before .before .before))

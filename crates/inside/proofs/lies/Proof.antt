@@ -18,7 +18,7 @@ use Rattle.paper.specs.Numbers.{farthest}
 use Rattle.paper.specs.Points.{isZero, origin}
 use Rattle.paper.specs.Polygon.{Polygon, axis, between, crosses, lies, meetsRay, over, placed, seen, touches, turn, under}
 use Rattle.polygon.specs.Rings.{cornerOf, ring}
-use Rattle.polygon.specs.Sizes.{FlatSmall, mostScale}
+use Rattle.polygon.specs.Sizes.{FlatWithin, mostScale}
 use Rattle.polygon.proofs.Rows.{corner-small, ring-least, ring-length}
 use Rattle.inside.proofs.Views.{On, Over, flat-eq, lies-is, seen-small}
 use Rattle.polygon.proofs.Zeros.{reads-back}
@@ -49,10 +49,10 @@ a-is c = c .loop .inv .4
 b-is : (c : tie.After-seen3 Inv-loop μ-loop) → c .seen3 .result ≡ seen (c .before .before .before .before .before .before .before .axis-of .result) (cornerOf (R (c .before .before .before .before .before .before .before .before .before .before)) (c .before .before .before .loop .j + 1))
 b-is c = c .seen3 .ensures ∙ ap (seen (c .before .before .before .before .before .before .before .axis-of .result)) (c .before .corner2 .ensures)
 
-a-small : (c : tie.At-loop Inv-loop μ-loop) → FlatSmall farthest (c .loop .a)
+a-small : (c : tie.At-loop Inv-loop μ-loop) → FlatWithin farthest (c .loop .a)
 a-small c = flat-eq (a-is c) (seen-small (c .before .before .before .before .axis-of .result) (corner-small (c .before .before .before .before .before .before .before .pre .0 .row) _))
 
-b-small : (c : tie.After-seen3 Inv-loop μ-loop) → FlatSmall farthest (c .seen3 .result)
+b-small : (c : tie.After-seen3 Inv-loop μ-loop) → FlatWithin farthest (c .seen3 .result)
 b-small c = flat-eq (b-is c) (seen-small (c .before .before .before .before .before .before .before .axis-of .result) (corner-small (c .before .before .before .before .before .before .before .before .before .before .pre .0 .row) _))
 
 turn-is : (c : tie.After-turn Inv-loop μ-loop) → toZ w64 (ofZ w64 (c .turn .result)) ≡ turn (c .before .before .before .before .loop .a) (c .before .seen3 .result) (c .before .before .before .before .before .before .before .seen .result) (D (c .before .before .before .before .before .before .before .before .before .before .before))

@@ -9,7 +9,7 @@ use Rattle.lists.proofs.Truth.{and-both}
 use Rattle.exact.proofs.Laws.{eq-of-sub}
 use Rattle.exact.proofs.Signs.{mul-zero, pos-ne}
 use Rattle.paper.specs.Points.{origin, plus, minus, times, dot, cross, sum, isZero}
-use Rattle.paper.specs.Polygon.{normal, corner, side, onePlane}
+use Rattle.paper.specs.Polygon.{normal, corner, planeSide, onePlane}
 use Rattle.paper.specs.declared.Point.{Point}
 use Rattle.paper_laws.proofs.Points.{zero-is, in-line, self-pos}
 use Rattle.paper_laws.proofs.Vectors.{num, vec, x, _-s_, _*s_, _·_, o, v, _+v_, _-v_, _*v_, _×v_, vring}
@@ -65,5 +65,5 @@ own-level (a ∷ l) n s ne f = record {
 }
 
 pub own-plane : (g : List Point) → Level (normal g) (corner g) g → onePlane g g ≡ true
-unfolding onePlane side
+unfolding onePlane planeSide
 own-plane g f = all-of (λ p. isZero (dot (normal g) (minus p (corner g)))) g (λ p i. zero-is (f .every p i))

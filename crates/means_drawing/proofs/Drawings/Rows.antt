@@ -18,7 +18,7 @@ use Rattle.sets.proofs.Digits.{count-back}
 use Rattle.lists.proofs.Truth.{and-left, and-right, and-both, or-left, or-right, or-cases, never}
 use Rattle.lists.proofs.Places.{made-at, made-length}
 use Rattle.lists.proofs.Passing.{any-yes, any-is, some-yes, some-is}
-use Rattle.paper.specs.Drawing.{Wire, Edge, edge, edgeAt, joins, joined, further, reached, apart}
+use Rattle.paper.specs.Drawing.{Wire, Edge, edge, edgeAt, joins, joined, further, verticesReached, apart}
 use Rattle.means_drawing.specs.Drawings.{Finds, start, stop, Vertex, Joined, Reachable, first, next}
 use Rattle.means_drawing.proofs.Searches.{finds, finds-none}
 
@@ -73,7 +73,7 @@ module _ (d : Wire) where
   n = length (d .vertices)
 
   abbrev row : ℕ → List Bool
-  row k = reached d k
+  row k = verticesReached d k
 
   -- ---- one round
 
@@ -105,7 +105,7 @@ module _ (d : Wire) where
   -- ---- what is marked is reachable
 
   length-reached : (k : ℕ) → length (row k) ≡ n
-  unfolding reached
+  unfolding verticesReached
   length-reached zero = made-length (eqb 0) n
   length-reached (suc k) = length-further (row k)
 
@@ -122,7 +122,7 @@ module _ (d : Wire) where
           next (f u (and-left (dig a u) (joined d u v) (r .2))) (joined-yes u v (and-right (dig a u) (joined d u v) (r .2))) hv
 
   sound : (k v : ℕ) → dig (row k) v ≡ true → Reachable d v
-  unfolding reached
+  unfolding verticesReached
   sound zero v h =
       let e : 0 ≡ v = eqb-true 0 v (sym (made-at (eqb 0) n v false (inside (row 0) (length-reached 0) v h)) ∙ h) in
       subst (Reachable d) e first
@@ -134,7 +134,7 @@ module _ (d : Wire) where
   Closed a = Sub (further d a) a
 
   has-first : Vertex d 0 → (k : ℕ) → dig (row k) 0 ≡ true
-  unfolding reached
+  unfolding verticesReached
   has-first h zero = made-at (eqb 0) n 0 false h
   has-first h (suc k) = further-keeps (row k) (length-reached k) 0 (has-first h k)
 
@@ -145,12 +145,12 @@ module _ (d : Wire) where
   -- ---- each round closes the row or adds to it
 
   closed-next : (k : ℕ) → Closed (row k) → Closed (row (suc k))
-  unfolding reached
+  unfolding verticesReached
   closed-next k c =
       subst Closed (same-row (row k) (further d (row k)) (length-reached k ∙ sym (length-further (row k))) (further-keeps (row k) (length-reached k)) c) c
 
   grows : Vertex d 0 → (k : ℕ) → Closed (row k) ⊎ (suc k ≤ count (row k))
-  unfolding reached
+  unfolding verticesReached
   grows h zero = inr (count-some (row 0) (has-first h 0))
   grows h (suc k) = go (grows h k) (decLe (count (further d (row k))) (count (row k)))
     where

@@ -17,7 +17,7 @@ use Rattle.faces_laws.proofs.Shape.{Shaped}
 use Rattle.faces_laws.proofs.FaceList.{length-in}
 use Rattle.faces_laws.proofs.Packed.{length-list}
 use Rattle.means_sheets.specs.FaceLists.{Sendable}
-use Rattle.means_sheets.proofs.Filled.{above, filled-again}
+use Rattle.means_sheets.proofs.Filled.{bytes-hold, filled-again}
 use Rattle.means_sheets.proofs.FaceLists.Packed.{bits-are, bits-back}
 use Rattle.means_sheets.proofs.FaceLists.Shape.{sendable-is}
 
@@ -31,27 +31,27 @@ module _ (f : Format) (v : ℕ) (s : List ℕ) (g : Shaped f v s) where
   count-is : length fs ≡ countIn f s
   count-is = length-in f s
 
-  room : 4 + f .fw + length (flatMap (faceBits f) fs) ≤ length s * 8
-  room = le-trans (le-of-eq (sym (bits-are f fs))) (le-trans (above (bitsOf f fs)) (le-of-eq (ap (λ (n : ℕ). n * 8) (sym (g .sized)))))
+  room : 4 + f .«face_count_bits» + length (flatMap (faceBits f) fs) ≤ length s * 8
+  room = le-trans (le-of-eq (sym (bits-are f fs))) (le-trans (bytes-hold (bitsOf f fs)) (le-of-eq (ap (λ (n : ℕ). n * 8) (sym (g .sized)))))
 
-  at-head : bits 4 (f .edition) ++ bits (f .fw) (length fs) ≡ take (4 + f .fw) all
+  at-head : bits 4 (f .edition) ++ bits (f .«face_count_bits») (length fs) ≡ take (4 + f .«face_count_bits») all
   at-head =
       ap₂ (λ (x y : List ℕ). x ++ y)
       (ap (bits 4) (sym (g .edition)) ∙ bits-field s 0 4 (omega (arith, room)))
-      (ap (bits (f .fw)) count-is ∙ bits-field s 4 (f .fw) (omega (arith, room)))
-      ∙ sym (take-add 4 (f .fw) all)
+      (ap (bits (f .«face_count_bits»)) count-is ∙ bits-field s 4 (f .«face_count_bits») (omega (arith, room)))
+      ∙ sym (take-add 4 (f .«face_count_bits») all)
 
-  at-faces : flatMap (faceBits f) fs ≡ take (length (flatMap (faceBits f) fs)) (drop (4 + f .fw) all)
+  at-faces : flatMap (faceBits f) fs ≡ take (length (flatMap (faceBits f) fs)) (drop (4 + f .«face_count_bits») all)
   unfolding facesIn
   at-faces =
-      bits-back f (countIn f s) (drop (4 + f .fw) all) (under-drop 2 (4 + f .fw) all (under-run 8 s))
-      (omega (arith, room, length-drop (4 + f .fw) all, length-run 8 s))
+      bits-back f (countIn f s) (drop (4 + f .«face_count_bits») all) (under-drop 2 (4 + f .«face_count_bits») all (under-run 8 s))
+      (omega (arith, room, length-drop (4 + f .«face_count_bits») all, length-run 8 s))
 
   at-list : listBits f fs ≡ take (bitsOf f fs) all
   unfolding listBits
   at-list =
       ap₂ (λ (x y : List ℕ). x ++ y) at-head at-faces
-      ∙ sym (take-add (4 + f .fw) (length (flatMap (faceBits f) fs)) all) ∙ ap (λ (n : ℕ). take n all) (sym (bits-are f fs))
+      ∙ sym (take-add (4 + f .«face_count_bits») (length (flatMap (faceBits f) fs)) all) ∙ ap (λ (n : ℕ). take n all) (sym (bits-are f fs))
 
   pub written-again : Under (2 ^ 8) s → encodeFaces f fs ≡ s
   unfolding encodeFaces

@@ -12,7 +12,7 @@ use Rattle.pack.specs.Fill.{padded}
 use Rattle.pack.proofs.Laws.{length-bits}
 use Rattle.pack.proofs.Trip.{field-in}
 use Rattle.paper.specs.Numbers.{rowBytes}
-use Rattle.paper.specs.Format.{one, bytesFor, filled, fillAfter}
+use Rattle.paper.specs.Format.{editionOne, bytesFor, filled, fillAfter}
 use Rattle.paper.specs.FaceList.{faceBits, listBits, encodeFaces, facesAt, countIn, facesIn, bitsOf, wellShaped, facesOf}
 use Rattle.paper.specs.Loops.{Loop, row}
 use Rattle.paper.specs.declared.Format.{Format}
@@ -24,30 +24,30 @@ use Rattle.means_sheets.proofs.Filled.{zeros, length-filled, run-filled
 use Rattle.means_sheets.proofs.FaceLists.Packed.{faces-back}
 use Rattle.means_sheets.proofs.FaceLists.Shape.{shape-is, sendable-fits, fit}
 
-module _ (f : Format) (sound : Sound f) (v : ℕ) (w : v ≤ 2 ^ f .nw) (fs : List Loop) (g : Sendable f v fs) where
+module _ (f : Format) (sound : Sound f) (v : ℕ) (w : v ≤ 2 ^ f .«vertex_number_bits») (fs : List Loop) (g : Sendable f v fs) where
   abbrev s : List ℕ
   s = encodeFaces f fs
 
   abbrev fill : List ℕ
   fill = zeros (length (listBits f fs)) (listBits f fs)
 
-  run-s : run 8 s ≡ bits 4 (f .edition) ++ (bits (f .fw) (length fs) ++ (flatMap (faceBits f) fs ++ fill))
+  run-s : run 8 s ≡ bits 4 (f .edition) ++ (bits (f .«face_count_bits») (length fs) ++ (flatMap (faceBits f) fs ++ fill))
   unfolding encodeFaces listBits
   run-s = run-filled (length (listBits f fs)) (listBits f fs) (under-list f fs) refl ∙ simp append-assoc
 
   at-edition : fieldAt s 0 4 ≡ f .edition
-  at-edition = field-in s [] (bits (f .fw) (length fs) ++ (flatMap (faceBits f) fs ++ fill)) 0 refl 4 (f .edition) run-s (sound .edition-fits)
+  at-edition = field-in s [] (bits (f .«face_count_bits») (length fs) ++ (flatMap (faceBits f) fs ++ fill)) 0 refl 4 (f .edition) run-s (sound .edition-fits)
 
   at-count : countIn f s ≡ length fs
   at-count =
-      field-in s (bits 4 (f .edition)) (flatMap (faceBits f) fs ++ fill) 4 (length-bits 4 (f .edition)) (f .fw) (length fs) run-s
+      field-in s (bits 4 (f .edition)) (flatMap (faceBits f) fs ++ fill) 4 (length-bits 4 (f .edition)) (f .«face_count_bits») (length fs) run-s
       (lt-of-le-of-lt (g .most) (sound .faces-fit))
 
-  behind : drop (4 + f .fw) (run 8 s) ≡ flatMap (faceBits f) fs ++ fill
+  behind : drop (4 + f .«face_count_bits») (run 8 s) ≡ flatMap (faceBits f) fs ++ fill
   behind =
-      ap (drop (4 + f .fw)) (run-s ∙ sym (append-assoc (bits 4 (f .edition)) (bits (f .fw) (length fs)) (flatMap (faceBits f) fs ++ fill)))
-      ∙ drop-at (bits 4 (f .edition) ++ bits (f .fw) (length fs)) (flatMap (faceBits f) fs ++ fill) (4 + f .fw)
-      (length-append (bits 4 (f .edition)) (bits (f .fw) (length fs)) ∙ ap₂ (λ (x y : ℕ). x + y) (length-bits 4 (f .edition)) (length-bits (f .fw) (length fs)))
+      ap (drop (4 + f .«face_count_bits»)) (run-s ∙ sym (append-assoc (bits 4 (f .edition)) (bits (f .«face_count_bits») (length fs)) (flatMap (faceBits f) fs ++ fill)))
+      ∙ drop-at (bits 4 (f .edition) ++ bits (f .«face_count_bits») (length fs)) (flatMap (faceBits f) fs ++ fill) (4 + f .«face_count_bits»)
+      (length-append (bits 4 (f .edition)) (bits (f .«face_count_bits») (length fs)) ∙ ap₂ (λ (x y : ℕ). x + y) (length-bits 4 (f .edition)) (length-bits (f .«face_count_bits») (length fs)))
 
   pub faces-read-back : facesIn f s ≡ fs
   unfolding facesIn
@@ -66,7 +66,7 @@ module _ (f : Format) (sound : Sound f) (v : ℕ) (w : v ≤ 2 ^ f .nw) (fs : Li
         filled = ap (λ (m : ℕ). fillAfter m s) (sym n) ∙ fill-filled (length (listBits f fs)) (listBits f fs) (under-list f fs) refl;
       })
 
-  pub rows-returned : facesOf f v s ≡ record { answer = Fine; count = length fs; rows = padded (flatMap row fs) (rowBytes * one .fmax) 0 }
+  pub rows-returned : facesOf f v s ≡ record { answer = Fine; count = length fs; rows = padded (flatMap row fs) (rowBytes * editionOne .«most_faces») 0 }
   unfolding facesOf
   rows-returned =
-      rw faces-accepted (λ i. record { answer = Fine; count = at-count i; rows = padded (flatMap row (faces-read-back i)) (rowBytes * one .fmax) 0 })
+      rw faces-accepted (λ i. record { answer = Fine; count = at-count i; rows = padded (flatMap row (faces-read-back i)) (rowBytes * editionOne .«most_faces») 0 })

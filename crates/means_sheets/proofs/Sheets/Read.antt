@@ -11,9 +11,9 @@ use lib.Seq.{take-add}
 use Rattle.pack.specs.Bits.{bits, run, fieldsAt, Under}
 use Rattle.pack.proofs.Trip.{bits-field, run-fields}
 use Rattle.paper_laws.proofs.Checks.{fails}
-use Rattle.paper_laws.proofs.Limits.{inside}
+use Rattle.paper_laws.proofs.Limits.{not-outside}
 use Rattle.paper.specs.Refusals.{firstOf}
-use Rattle.paper.specs.Format.{low, head, total, filled, headBits, onSheet, coordinate, verticesIn, edgesIn, coordinatesIn, endsIn, encode}
+use Rattle.paper.specs.Format.{head, total, filled, headBits, onSheet, coordinate, verticesIn, edgesIn, coordinatesIn, endsIn, encode}
 use Rattle.paper.specs.Sheet.{contentChecks, sheetChecks, lentChecks, badCount, sheetOf}
 use Rattle.paper.specs.declared.Format.{Format}
 use Rattle.paper.specs.declared.Drawing.{Drawing}
@@ -22,7 +22,7 @@ use Rattle.sheet_laws.proofs.Accepted.{accepted-shape, accepted-contents, coord
 use Rattle.paper_laws.proofs.Coordinate.{onSheet-coordinate}
 use Rattle.sheet_laws.proofs.Accepted.{length-coordinates, length-ends}
 use Rattle.sheet_laws.proofs.Shaped.{Shaped}
-use Rattle.means_sheets.proofs.Filled.{above, filled-again}
+use Rattle.means_sheets.proofs.Filled.{bytes-hold, filled-again}
 
 map-back : (ns : List ℕ) → map onSheet (map coordinate ns) ≡ ns
 map-back [] = refl
@@ -39,7 +39,7 @@ module _ (f : Format) (s : List ℕ) (g : Shaped f s) where
   all = run 8 s
 
   room : total f v e ≤ length s * 8
-  room = le-trans (above (total f v e)) (le-of-eq (ap (λ (n : ℕ). n * 8) (sym (g .close-is .sized))))
+  room = le-trans (bytes-hold (total f v e)) (le-of-eq (ap (λ (n : ℕ). n * 8) (sym (g .close-is .sized))))
 
   v-is : length (coordinatesIn f s) / 3 ≡ v
   v-is = rw (length-coordinates f s) (omega arith)
@@ -53,10 +53,10 @@ module _ (f : Format) (s : List ℕ) (g : Shaped f s) where
       ap₂ (λ (x y : List ℕ). x ++ y)
       (ap₂ (λ (x y : List ℕ). x ++ y)
       (ap (bits 4) (sym (g .open-is .edition)) ∙ bits-field s 0 4 (omega (arith, room)))
-      (bits-field s 4 (f .vw) (omega (arith, room)))
-      ∙ sym (take-add 4 (f .vw) all))
-      (bits-field s (4 + f .vw) (f .ew) (omega (arith, room)))
-      ∙ sym (take-add (4 + f .vw) (f .ew) all)
+      (bits-field s 4 (f .«vertex_count_bits») (omega (arith, room)))
+      ∙ sym (take-add 4 (f .«vertex_count_bits») all))
+      (bits-field s (4 + f .«vertex_count_bits») (f .«edge_count_bits») (omega (arith, room)))
+      ∙ sym (take-add (4 + f .«vertex_count_bits») (f .«edge_count_bits») all)
 
   at-points : headBits f v e ++ run 11 (map onSheet (coordinatesIn f s)) ≡ take (head f + 33 * v) all
   at-points =
@@ -66,22 +66,22 @@ module _ (f : Format) (s : List ℕ) (g : Shaped f s) where
       ∙ run-fields s (head f) 11 (3 * v) (omega (arith, room)) ∙ ap (λ (n : ℕ). take n (drop (head f) all)) m)
       ∙ sym (take-add (head f) (33 * v) all)
 
-  at-numbers : headBits f v e ++ run 11 (map onSheet (coordinatesIn f s)) ++ run (f .nw) (endsIn f s) ≡ take (total f v e) all
+  at-numbers : headBits f v e ++ run 11 (map onSheet (coordinatesIn f s)) ++ run (f .«vertex_number_bits») (endsIn f s) ≡ take (total f v e) all
   at-numbers =
-      let m : 2 * e * f .nw ≡ 2 * f .nw * e = mul-assoc 2 e (f .nw) ∙ ap (λ (n : ℕ). 2 * n) (mul-comm e (f .nw)) ∙ sym (mul-assoc 2 (f .nw) e) in
+      let m : 2 * e * f .«vertex_number_bits» ≡ 2 * f .«vertex_number_bits» * e = mul-assoc 2 e (f .«vertex_number_bits») ∙ ap (λ (n : ℕ). 2 * n) (mul-comm e (f .«vertex_number_bits»)) ∙ sym (mul-assoc 2 (f .«vertex_number_bits») e) in
       ap₂ (λ (x y : List ℕ). x ++ y) at-points
-      (run-fields s (head f + 33 * v) (f .nw) (2 * e) (omega (arith, room, m)) ∙ ap (λ (n : ℕ). take n (drop (head f + 33 * v) all)) m)
-      ∙ sym (take-add (head f + 33 * v) (2 * f .nw * e) all)
+      (run-fields s (head f + 33 * v) (f .«vertex_number_bits») (2 * e) (omega (arith, room, m)) ∙ ap (λ (n : ℕ). take n (drop (head f + 33 * v) all)) m)
+      ∙ sym (take-add (head f + 33 * v) (2 * f .«vertex_number_bits» * e) all)
 
   pub written-again : Under (2 ^ 8) s → encode f (coordinatesIn f s) (endsIn f s) ≡ s
   unfolding encode
   written-again u =
-      ap₂ (λ (a b : ℕ). filled (total f a b) (headBits f a b ++ run 11 (map onSheet (coordinatesIn f s)) ++ run (f .nw) (endsIn f s))) v-is e-is
-      ∙ filled-again (total f v e) (headBits f v e ++ run 11 (map onSheet (coordinatesIn f s)) ++ run (f .nw) (endsIn f s)) s u
+      ap₂ (λ (a b : ℕ). filled (total f a b) (headBits f a b ++ run 11 (map onSheet (coordinatesIn f s)) ++ run (f .«vertex_number_bits») (endsIn f s))) v-is e-is
+      ∙ filled-again (total f v e) (headBits f v e ++ run 11 (map onSheet (coordinatesIn f s)) ++ run (f .«vertex_number_bits») (endsIn f s)) s u
       (g .close-is .sized) (g .close-is .filled) at-numbers
 
 good-count : (k lo hi n m : ℕ) → n % k ≡ 0 → n / k ≡ m → lo ≤ m → m ≤ hi → badCount k lo hi n ≡ false
-good-count k lo hi n m w e a b = rw (eq-eqb (n % k) 0 w, e) (inside lo hi m a b)
+good-count k lo hi n m w e a b = rw (eq-eqb (n % k) 0 w, e) (not-outside lo hi m a b)
 
 module _ (f : Format) (s : List ℕ) (h : Fine ≡ firstOf (sheetChecks f s)) where
   -- the writer takes what the reader accepted
@@ -94,9 +94,8 @@ module _ (f : Format) (s : List ℕ) (h : Fine ≡ firstOf (sheetChecks f s)) wh
       let w2 : length (endsIn f s) % 2 ≡ 0 = rw (length-ends f s) (omega arith) in
       accepted-contents f s h
       ∙ ap (λ (n : ℕ). firstOf (contentChecks n (coordinatesIn f s) (endsIn f s))) (sym (v-is f s g))
-      ∙ fails _ _ _ (ap₂ (λ (a b : ℕ). low f a b) (v-is f s g) (e-is f s g) ∙ k .high)
-      ∙ fails _ _ _ (good-count 2 6 (f .emax) (length (endsIn f s)) (edgesIn f s) w2 (e-is f s g) (k .e-least) (k .e-most))
-      ∙ fails _ _ _ (good-count 3 4 (f .vmax) (length (coordinatesIn f s)) (verticesIn f s) w3 (v-is f s g) (k .v-least) (k .v-most))
+      ∙ fails _ _ _ (good-count 2 6 (f .«most_edges») (length (endsIn f s)) (edgesIn f s) w2 (e-is f s g) (k .e-least) (k .e-most))
+      ∙ fails _ _ _ (good-count 3 4 (f .«most_vertices») (length (coordinatesIn f s)) (verticesIn f s) w3 (v-is f s g) (k .v-least) (k .v-most))
 
 pub same-lists : (f : Format) (s t : List ℕ) → Fine ≡ firstOf (sheetChecks f s) → Fine ≡ firstOf (sheetChecks f t) → sheetOf f s .drawing ≡ sheetOf f t .drawing
     → (coordinatesIn f s ≡ coordinatesIn f t) × (endsIn f s ≡ endsIn f t)

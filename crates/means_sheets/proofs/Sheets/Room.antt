@@ -24,7 +24,7 @@ pub length-sheet : (f : Format) (xyz : List ℤ) (ends : List ℕ) → length (e
 unfolding encode
 length-sheet f xyz ends =
     length-filled (total f (length xyz / 3) (length ends / 2))
-    (headBits f (length xyz / 3) (length ends / 2) ++ run coordinateBits (map onSheet xyz) ++ run (f .nw) ends)
+    (headBits f (length xyz / 3) (length ends / 2) ++ run coordinateBits (map onSheet xyz) ++ run (f .«vertex_number_bits») ends)
 
 module _ (f : Format) (xyz : List ℤ) (ends room : List ℕ) (n : ℕ) (e : writtenOf f xyz ends room ≡ Written.Bytes n) where
   abbrev size : ℕ

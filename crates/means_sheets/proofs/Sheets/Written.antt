@@ -14,9 +14,9 @@ use Rattle.pack.specs.Bits.{bits, run, fieldAt, Under}
 use Rattle.pack.proofs.Laws.{length-bits}
 use Rattle.pack.proofs.Trip.{field-in, fields-in}
 use Rattle.paper_laws.proofs.Checks.{clear, fails, first-passes}
-use Rattle.paper_laws.proofs.Limits.{inside}
+use Rattle.paper_laws.proofs.Limits.{not-outside}
 use Rattle.paper.specs.Refusals.{firstOf}
-use Rattle.paper.specs.Format.{low, head, total, bytesFor, fillAfter, headBits, onSheet, coordinate, verticesIn, edgesIn, coordinatesIn, endsIn, encode}
+use Rattle.paper.specs.Format.{head, total, bytesFor, fillAfter, headBits, onSheet, coordinate, verticesIn, edgesIn, coordinatesIn, endsIn, encode}
 use Rattle.paper.specs.Sheet.{contentChecks, openChecks, countChecks, closeChecks, shapeChecks, sheetChecks, drawnFor, held, sheetOf}
 use Rattle.paper.specs.declared.Format.{Format}
 use Rattle.paper.specs.declared.Answer.{Answer}
@@ -53,7 +53,7 @@ module _ (f : Format) (s : List ℕ) where
   count-passes : (v e : ℕ) → Counted f v e → Fine ≡ firstOf (countChecks f v e)
   unfolding countChecks
   count-passes v e g =
-      clear ∙ fails _ _ _ (g .high) ∙ fails _ _ _ (inside 6 (f .emax) e (g .e-least) (g .e-most)) ∙ fails _ _ _ (inside 4 (f .vmax) v (g .v-least) (g .v-most))
+      clear ∙ fails _ _ _ (not-outside 6 (f .«most_edges») e (g .e-least) (g .e-most)) ∙ fails _ _ _ (not-outside 4 (f .«most_vertices») v (g .v-least) (g .v-most))
 
   close-passes : (v e : ℕ) → Closed f s v e → Fine ≡ firstOf (closeChecks f s v e)
   unfolding closeChecks
@@ -86,7 +86,7 @@ module _ (f : Format) (sound : Sound f) (xyz : List ℤ) (ends : List ℕ) (g : 
   points = run 11 (map onSheet xyz)
 
   abbrev numbers : List ℕ
-  numbers = run (f .nw) ends
+  numbers = run (f .«vertex_number_bits») ends
 
   abbrev fill : List ℕ
   fill = zeros (total f v e) (headBits f v e ++ points ++ numbers)
@@ -98,22 +98,22 @@ module _ (f : Format) (sound : Sound f) (xyz : List ℤ) (ends : List ℕ) (g : 
       (under-content f xyz ends v e (g .v-whole) (g .e-whole)) (length-content f xyz ends v e (g .v-whole) (g .e-whole))
 
   -- field by field
-  nested : run 8 s ≡ bits 4 (f .edition) ++ (bits (f .vw) v ++ (bits (f .ew) e ++ (points ++ (numbers ++ fill))))
+  nested : run 8 s ≡ bits 4 (f .edition) ++ (bits (f .«vertex_count_bits») v ++ (bits (f .«edge_count_bits») e ++ (points ++ (numbers ++ fill))))
   nested = run-s ∙ simp append-assoc
 
   at-edition : fieldAt s 0 4 ≡ f .edition
-  at-edition = field-in s [] (bits (f .vw) v ++ (bits (f .ew) e ++ (points ++ (numbers ++ fill)))) 0 refl 4 (f .edition) nested (sound .edition-fits)
+  at-edition = field-in s [] (bits (f .«vertex_count_bits») v ++ (bits (f .«edge_count_bits») e ++ (points ++ (numbers ++ fill)))) 0 refl 4 (f .edition) nested (sound .edition-fits)
 
   at-vertices : verticesIn f s ≡ v
   at-vertices =
-      field-in s (bits 4 (f .edition)) (bits (f .ew) e ++ (points ++ (numbers ++ fill))) 4 (length-bits 4 (f .edition))
-      (f .vw) v nested (lt-of-le-of-lt (g .v-most) (sound .vertices-fit))
+      field-in s (bits 4 (f .edition)) (bits (f .«edge_count_bits») e ++ (points ++ (numbers ++ fill))) 4 (length-bits 4 (f .edition))
+      (f .«vertex_count_bits») v nested (lt-of-le-of-lt (g .v-most) (sound .vertices-fit))
 
   at-edges : edgesIn f s ≡ e
   at-edges =
-      field-in s (bits 4 (f .edition) ++ bits (f .vw) v) (points ++ (numbers ++ fill)) (4 + f .vw)
-      (length-append (bits 4 (f .edition)) (bits (f .vw) v) ∙ ap₂ (λ (x y : ℕ). x + y) (length-bits 4 (f .edition)) (length-bits (f .vw) v))
-      (f .ew) e (run-s ∙ simp append-assoc) (lt-of-le-of-lt (g .e-most) (sound .edges-fit))
+      field-in s (bits 4 (f .edition) ++ bits (f .«vertex_count_bits») v) (points ++ (numbers ++ fill)) (4 + f .«vertex_count_bits»)
+      (length-append (bits 4 (f .edition)) (bits (f .«vertex_count_bits») v) ∙ ap₂ (λ (x y : ℕ). x + y) (length-bits 4 (f .edition)) (length-bits (f .«vertex_count_bits») v))
+      (f .«edge_count_bits») e (run-s ∙ simp append-assoc) (lt-of-le-of-lt (g .e-most) (sound .edges-fit))
 
   holds : Contents v xyz ends
   holds = contents v xyz ends (g .fine)
@@ -126,18 +126,18 @@ module _ (f : Format) (sound : Sound f) (xyz : List ℤ) (ends : List ℕ) (g : 
       (run-s ∙ simp append-assoc) (near-under xyz (holds .near)))
       ∙ map-near xyz (holds .near)
 
-  under-ends : Under (2 ^ f .nw) ends
+  under-ends : Under (2 ^ f .«vertex_number_bits») ends
   under-ends k = go (ltb k (length ends)) refl
     where
-      go : (b : Bool) → ltb k (length ends) ≡ b → getD ends k 0 < 2 ^ f .nw
+      go : (b : Bool) → ltb k (length ends) ≡ b → getD ends k 0 < 2 ^ f .«vertex_number_bits»
       go true t = lt-of-lt-of-le (holds .below k (omega (arith, ltb-true k (length ends) t, g .e-whole))) (le-trans (g .v-most) (sound .numbers-fit))
-      go false t = rw (List·getD-eq-default ends 0 (ltb-false k (length ends) t)) (pow-pos (f .nw))
+      go false t = rw (List·getD-eq-default ends 0 (ltb-false k (length ends) t)) (pow-pos (f .«vertex_number_bits»))
 
   at-ends : endsIn f s ≡ ends
   at-ends =
       fields-in s (headBits f v e ++ points) fill (head f + 33 * verticesIn f s)
       (length-placed f xyz ends v e (g .v-whole) (g .e-whole) ∙ ap (λ (n : ℕ). head f + 33 * n) (sym at-vertices))
-      (f .nw) ends (2 * edgesIn f s) (ap (λ (n : ℕ). 2 * n) at-edges ∙ sym (g .e-whole))
+      (f .«vertex_number_bits») ends (2 * edgesIn f s) (ap (λ (n : ℕ). 2 * n) at-edges ∙ sym (g .e-whole))
       (run-s ∙ simp append-assoc) under-ends
 
   length-s : length s ≡ bytesFor (total f v e)
@@ -158,7 +158,6 @@ module _ (f : Format) (sound : Sound f) (xyz : List ℤ) (ends : List ℕ) (g : 
       v-most = omega (arith, at-vertices, g .v-most);
       e-least = omega (arith, at-edges, g .e-least);
       e-most = omega (arith, at-edges, g .e-most);
-      high = ap₂ (λ (a b : ℕ). low f a b) at-vertices at-edges ∙ g .high;
     };
     close-is = record {
       sized = length-s ∙ ap₂ (λ (a b : ℕ). bytesFor (total f a b)) (sym at-vertices) (sym at-edges);

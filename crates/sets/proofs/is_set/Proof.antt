@@ -12,7 +12,7 @@ has-requires c κs = search needs
 
 returns : tie.Need-returns
 unfolding digitsOf
-returns c = let x : Set = record { bits = (c .before .args .word) } in (c .has .ensures) (digitsOf x) (is-digits x (omega arith))
+returns c = let x : Set = record { word = (c .before .args .word) } in (c .has .ensures) (digitsOf x) (is-digits x (omega arith))
 
 pub is-set-spec : {M : Type 1} → statement M
 is-set-spec = tie.close (tie.spec has-requires returns)

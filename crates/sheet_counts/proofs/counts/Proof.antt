@@ -26,19 +26,9 @@ returns-2 : tie.Need-returns-2
 unfolding countChecks
 returns-2 c = (c .refused2 .ensures) ∙ holds _ _ _ (sym (c .before .before .is-outside2 .ensures) ∙ (c .before .if2 .taken)) ∙ fails _ _ _ (sym (c .before .before .before .before .is-outside .ensures) ∙ (c .before .before .before .if1 .left))
 
-is-early-requires : tie.Need-is-early-requires
-is-early-requires c κs = search needs
-
-refused-requires-3 : tie.Need-refused-requires-3
-refused-requires-3 c κs = search needs
-
 returns-3 : tie.Need-returns-3
 unfolding countChecks
-returns-3 c = (c .refused3 .ensures) ∙ holds _ _ _ (sym (c .before .before .is-early .ensures) ∙ (c .before .if3 .taken)) ∙ fails _ _ _ (sym (c .before .before .before .before .is-outside2 .ensures) ∙ (c .before .before .before .if2 .left)) ∙ fails _ _ _ (sym (c .before .before .before .before .before .before .is-outside .ensures) ∙ (c .before .before .before .before .before .if1 .left))
-
-returns-4 : tie.Need-returns-4
-unfolding countChecks
-returns-4 c = clear ∙ fails _ _ _ (sym (c .before .is-early .ensures) ∙ (c .if3 .left)) ∙ fails _ _ _ (sym (c .before .before .before .is-outside2 .ensures) ∙ (c .before .before .if2 .left)) ∙ fails _ _ _ (sym (c .before .before .before .before .before .is-outside .ensures) ∙ (c .before .before .before .before .if1 .left))
+returns-3 c = clear ∙ fails _ _ _ (sym (c .before .is-outside2 .ensures) ∙ (c .if2 .left)) ∙ fails _ _ _ (sym (c .before .before .before .is-outside .ensures) ∙ (c .before .before .if1 .left))
 
 pub counts-spec : {M : Type 1} → statement M
 counts-spec =
@@ -50,7 +40,4 @@ counts-spec =
     is-outside-requires-2
     refused-requires-2
     returns-2
-    is-early-requires
-    refused-requires-3
-    returns-3
-    returns-4)
+    returns-3)

@@ -2,7 +2,7 @@
 use mathlib.Core.Path.{_∙_, ap}
 use Rattle.paper.specs.Sheet.{sheetOf}
 use Rattle.paper.specs.declared.Format.{Format}
-use Rattle.sheet_shape.proofs.Sizes.{one-small}
+use Rattle.sheet_shape.proofs.Sizes.{one-fits}
 use borrow.Author.Needs.{needs}
 use Rattle.sheet_reader.proofs.read_sheet.Statement.{statement}
 use Rattle.sheet_reader.proofs.read_sheet.Tie as tie
@@ -11,7 +11,7 @@ edition-one-requires : tie.Need-edition-one-requires
 edition-one-requires c κs = search needs
 
 read-requires : tie.Need-read-requires
-read-requires c κs = rw (c .edition-one .ensures) one-small
+read-requires c κs = rw (c .edition-one .ensures) one-fits
 
 returns : tie.Need-returns
 returns c = (c .read .ensures) ∙ ap (λ (f : Format). sheetOf f (c .before .before .before .args .sheet .now)) (c .before .edition-one .ensures)

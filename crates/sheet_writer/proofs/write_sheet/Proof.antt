@@ -2,7 +2,7 @@
 use mathlib.Core.Path.{_∙_, ap}
 use Rattle.paper.specs.Sheet.{writtenOf, roomOf}
 use Rattle.paper.specs.declared.Format.{Format}
-use Rattle.sheet_shape.proofs.Sizes.{one-small}
+use Rattle.sheet_shape.proofs.Sizes.{one-fits}
 use borrow.Author.Needs.{needs}
 use Rattle.sheet_writer.proofs.write_sheet.Statement.{statement}
 use Rattle.sheet_writer.proofs.write_sheet.Tie as tie
@@ -11,7 +11,7 @@ edition-one-requires : tie.Need-edition-one-requires
 edition-one-requires c κs = search needs
 
 write-requires : tie.Need-write-requires
-write-requires c κs = rw (c .before .edition-one .ensures) (one-small .narrow)
+write-requires c κs = rw (c .before .edition-one .ensures) (one-fits .narrow)
 
 same-length : tie.Need-same-length
 same-length c = search needs

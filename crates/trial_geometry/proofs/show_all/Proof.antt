@@ -3,7 +3,7 @@ use mathlib.Core.Path.{sym, ap}
 use Prim.Native.Nat.{_-_, _≤_}
 use lib.ListN.{length}
 use native.Mathlib.Omega.{arith}
-use Rattle.lists.specs.Place.{found}
+use Rattle.lists.specs.Found.{found}
 use Rattle.trial_geometry.proofs.show_all.Statement.{statement}
 use Rattle.trial_geometry.proofs.show_all.Tie as tie
 

@@ -1,7 +1,7 @@
 -- `trial_geometry::show_list` meets its contract. Assumes nothing.
 use mathlib.Core.Path.{sym, ap, subst, _∙_}
 use Prim.Native.Nat.{_<_}
-use Rattle.paper.specs.Format.{one}
+use Rattle.paper.specs.Format.{editionOne}
 use Rattle.paper.specs.declared.Faces.{Faces}
 use Rattle.faces_reader.specs.Filed.{Filed}
 use Rattle.faces_reader.proofs.Filed.{filed}
@@ -27,7 +27,7 @@ slice-aggregate-show-faces : tie.Need-slice-aggregate-show-faces
 slice-aggregate-show-faces c = search needs
 
 show-faces-requires : tie.Need-show-faces-requires
-show-faces-requires c κs = λ r h. filed-row (c .before .before .before .before .before .before .pre) (subst (λ (x : Faces). r < x .count → Filed (x .rows) ((c .before .before .before .before .before .before .args .v)) r) (sym (c .before .before .before .before .read-faces .ensures)) (filed one one-brief _ _ (sym ((c .before .before .enum-told .given) .1) ∙ ap (λ (x : Faces). x .answer) (c .before .before .before .before .read-faces .ensures)) r) h)
+show-faces-requires c κs = λ r h. filed-row (c .before .before .before .before .before .before .pre) (subst (λ (x : Faces). r < x .count → Filed (x .rows) ((c .before .before .before .before .before .before .args .v)) r) (sym (c .before .before .before .before .read-faces .ensures)) (filed editionOne one-brief _ _ (sym ((c .before .before .enum-told .given) .1) ∙ ap (λ (x : Faces). x .answer) (c .before .before .before .before .read-faces .ensures)) r) h)
 
 returns : tie.Need-returns
 returns c = search needs

@@ -26,22 +26,12 @@ returns-2 : tie.Need-returns-2
 unfolding lentChecks
 returns-2 c = (c .refused2 .ensures) ∙ holds _ _ _ (sym (c .before .before .is-bad-count2 .ensures) ∙ (c .before .if2 .taken)) ∙ fails _ _ _ (sym (c .before .before .before .before .is-bad-count .ensures) ∙ (c .before .before .before .if1 .left))
 
-is-early-requires : tie.Need-is-early-requires
-is-early-requires c κs = search needs
-
-refused-requires-3 : tie.Need-refused-requires-3
-refused-requires-3 c κs = search needs
-
-returns-3 : tie.Need-returns-3
-unfolding lentChecks
-returns-3 c = (c .refused3 .ensures) ∙ holds _ _ _ (sym (c .before .before .is-early .ensures) ∙ (c .before .if3 .taken)) ∙ fails _ _ _ (sym (c .before .before .before .before .is-bad-count2 .ensures) ∙ (c .before .before .before .if2 .left)) ∙ fails _ _ _ (sym (c .before .before .before .before .before .before .is-bad-count .ensures) ∙ (c .before .before .before .before .before .if1 .left))
-
 content-requires : tie.Need-content-requires
 content-requires c κs = search needs
 
-returns-4 : tie.Need-returns-4
+returns-3 : tie.Need-returns-3
 unfolding lentChecks
-returns-4 c = (c .content .ensures) ∙ fails _ _ _ (sym (c .before .before .is-early .ensures) ∙ (c .before .if3 .left)) ∙ fails _ _ _ (sym (c .before .before .before .before .is-bad-count2 .ensures) ∙ (c .before .before .before .if2 .left)) ∙ fails _ _ _ (sym (c .before .before .before .before .before .before .is-bad-count .ensures) ∙ (c .before .before .before .before .before .if1 .left))
+returns-3 c = (c .content .ensures) ∙ fails _ _ _ (sym (c .before .before .is-bad-count2 .ensures) ∙ (c .before .if2 .left)) ∙ fails _ _ _ (sym (c .before .before .before .before .is-bad-count .ensures) ∙ (c .before .before .before .if1 .left))
 
 pub lent-spec : {M : Type 1} → statement M
 lent-spec =
@@ -53,8 +43,5 @@ lent-spec =
     is-bad-count-requires-2
     refused-requires-2
     returns-2
-    is-early-requires
-    refused-requires-3
-    returns-3
     content-requires
-    returns-4)
+    returns-3)

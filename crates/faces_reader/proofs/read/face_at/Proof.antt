@@ -30,25 +30,25 @@ add-if3 : tie.Need-add-if3
 add-if3 c = search needs
 
 mul-if3 : tie.Need-mul-if3
-mul-if3 c = omega (arith, corners-small ((c .before .before .before .before .before .before .pre .0) .slender .nw-most) (outside-false 3 12 (c .before .before .before .field .result) (sym (c .before .before .is-outside .ensures) ∙ (c .before .if2 .left)) .1))
+mul-if3 c = omega (arith, corners-small ((c .before .before .before .before .before .before .pre .0) .slender .vertex-number-narrow) (outside-false 3 12 (c .before .before .before .field .result) (sym (c .before .before .is-outside .ensures) ∙ (c .before .if2 .left)) .1))
 
 add-if3-2 : tie.Need-add-if3-2
-add-if3-2 c = omega (arith, corners-small ((c .before .before .before .before .before .before .pre .0) .slender .nw-most) (outside-false 3 12 (c .before .before .before .field .result) (sym (c .before .before .is-outside .ensures) ∙ (c .before .if2 .left)) .1), (c .before .before .before .before .before .before .pre .1))
+add-if3-2 c = omega (arith, corners-small ((c .before .before .before .before .before .before .pre .0) .slender .vertex-number-narrow) (outside-false 3 12 (c .before .before .before .field .result) (sym (c .before .before .is-outside .ensures) ∙ (c .before .if2 .left)) .1), (c .before .before .before .before .before .before .pre .1))
 
 returns-3 : tie.Need-returns-3
-returns-3 c = no-bits (c .before .before .before .before .before .before .before .args .f) (c .before .before .before .before .before .before .before .args .v) (c .before .before .before .before .before .before .before .args .s .now) (c .before .before .before .before .before .before .before .args .at) (rw (c .before .before .before .before .field .ensures) at (let h : length (c .before .before .before .before .before .before .before .args .s .now) * 8 < (c .before .before .before .before .before .before .before .args .at) + 4 + (c .before .before .before .before .before .before .before .args .f .nw) * (c .before .before .before .before .field .result) = omega (arith, (c .if3 .taken)) in h))
+returns-3 c = no-bits (c .before .before .before .before .before .before .before .args .f) (c .before .before .before .before .before .before .before .args .v) (c .before .before .before .before .before .before .before .args .s .now) (c .before .before .before .before .before .before .before .args .at) (rw (c .before .before .before .before .field .ensures) at (let h : length (c .before .before .before .before .before .before .before .args .s .now) * 8 < (c .before .before .before .before .before .before .before .args .at) + 4 + (c .before .before .before .before .before .before .before .args .f .«vertex_number_bits») * (c .before .before .before .before .field .result) = omega (arith, (c .if3 .taken)) in h))
 
 add-are-below : tie.Need-add-are-below
 add-are-below c = search needs
 
 are-below-requires : tie.Need-are-below-requires
-are-below-requires c κs = let k = outside-false 3 12 (c .before .before .before .before .field .result) (sym (c .before .before .before .is-outside .ensures) ∙ (c .before .before .if2 .left)) in omega (arith, (c .if3 .left), (c .before .before .before .before .before .before .before .pre .1), (c .before .before .before .before .before .before .before .pre .0) .slender .nw-most, k)
+are-below-requires c κs = let k = outside-false 3 12 (c .before .before .before .before .field .result) (sym (c .before .before .before .is-outside .ensures) ∙ (c .before .before .if2 .left)) in omega (arith, (c .if3 .left), (c .before .before .before .before .before .before .before .pre .1), (c .before .before .before .before .before .before .before .pre .0) .slender .vertex-number-narrow, k)
 
 returns-4 : tie.Need-returns-4
-returns-4 c = let h : (c .before .before .before .before .before .before .before .before .before .args .at) + 4 + (c .before .before .before .before .before .before .before .before .before .args .f .nw) * (c .before .before .before .before .before .before .field .result) ≤ length (c .before .before .before .before .before .before .before .before .before .args .s .now) * 8 = omega (arith, (c .before .before .if3 .left)) in ap some (c .before .before .before .before .before .before .field .ensures) ∙ a-face (c .before .before .before .before .before .before .before .before .before .args .f) (c .before .before .before .before .before .before .before .before .before .args .v) (c .before .before .before .before .before .before .before .before .before .args .s .now) (c .before .before .before .before .before .before .before .before .before .args .at) (rw (c .before .before .before .before .before .before .field .ensures) at h) (sym (rw (c .before .before .before .before .before .before .field .ensures) at (c .before .before .before .before .before .is-outside .ensures)) ∙ (c .before .before .before .before .if2 .left)) (rw (c .before .before .before .before .before .before .field .ensures) at (sym (c .before .are-below .ensures) ∙ (c .if4 .taken)))
+returns-4 c = let h : (c .before .before .before .before .before .before .before .before .before .args .at) + 4 + (c .before .before .before .before .before .before .before .before .before .args .f .«vertex_number_bits») * (c .before .before .before .before .before .before .field .result) ≤ length (c .before .before .before .before .before .before .before .before .before .args .s .now) * 8 = omega (arith, (c .before .before .if3 .left)) in ap some (c .before .before .before .before .before .before .field .ensures) ∙ a-face (c .before .before .before .before .before .before .before .before .before .args .f) (c .before .before .before .before .before .before .before .before .before .args .v) (c .before .before .before .before .before .before .before .before .before .args .s .now) (c .before .before .before .before .before .before .before .before .before .args .at) (rw (c .before .before .before .before .before .before .field .ensures) at h) (sym (rw (c .before .before .before .before .before .before .field .ensures) at (c .before .before .before .before .before .is-outside .ensures)) ∙ (c .before .before .before .before .if2 .left)) (rw (c .before .before .before .before .before .before .field .ensures) at (sym (c .before .are-below .ensures) ∙ (c .if4 .taken)))
 
 returns-5 : tie.Need-returns-5
-returns-5 c = let h : (c .before .before .before .before .before .before .before .before .before .args .at) + 4 + (c .before .before .before .before .before .before .before .before .before .args .f .nw) * (c .before .before .before .before .before .before .field .result) ≤ length (c .before .before .before .before .before .before .before .before .before .args .s .now) * 8 = omega (arith, (c .before .before .if3 .left)) in no-vertex (c .before .before .before .before .before .before .before .before .before .args .f) (c .before .before .before .before .before .before .before .before .before .args .v) (c .before .before .before .before .before .before .before .before .before .args .s .now) (c .before .before .before .before .before .before .before .before .before .args .at) (rw (c .before .before .before .before .before .before .field .ensures) at h) (sym (rw (c .before .before .before .before .before .before .field .ensures) at (c .before .before .before .before .before .is-outside .ensures)) ∙ (c .before .before .before .before .if2 .left)) (rw (c .before .before .before .before .before .before .field .ensures) at (sym (c .before .are-below .ensures) ∙ (c .if4 .left)))
+returns-5 c = let h : (c .before .before .before .before .before .before .before .before .before .args .at) + 4 + (c .before .before .before .before .before .before .before .before .before .args .f .«vertex_number_bits») * (c .before .before .before .before .before .before .field .result) ≤ length (c .before .before .before .before .before .before .before .before .before .args .s .now) * 8 = omega (arith, (c .before .before .if3 .left)) in no-vertex (c .before .before .before .before .before .before .before .before .before .args .f) (c .before .before .before .before .before .before .before .before .before .args .v) (c .before .before .before .before .before .before .before .before .before .args .s .now) (c .before .before .before .before .before .before .before .before .before .args .at) (rw (c .before .before .before .before .before .before .field .ensures) at h) (sym (rw (c .before .before .before .before .before .before .field .ensures) at (c .before .before .before .before .before .is-outside .ensures)) ∙ (c .before .before .before .before .if2 .left)) (rw (c .before .before .before .before .before .before .field .ensures) at (sym (c .before .are-below .ensures) ∙ (c .if4 .left)))
 
 pub face-at-spec : {M : Type 1} → statement M
 face-at-spec =

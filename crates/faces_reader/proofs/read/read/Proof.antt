@@ -5,7 +5,7 @@ use mathlib.Core.List.{List}
 use Prim.Native.Nat.{ℕ, _+_, _*_, _-_}
 use lib.ListN.{length}
 use borrow.Author.Needs.{needs}
-use Rattle.lists.specs.Place.{found}
+use Rattle.lists.specs.Found.{found}
 use Rattle.paper.specs.declared.Answer.the-variants as Answer
 use Rattle.faces_reader.specs.Face.{countOf}
 use Rattle.faces_reader.proofs.Brief.{corners-small}
@@ -72,10 +72,10 @@ add-at-2 : tie.Need-add-at-2 Inv-loop μ-loop
 add-at-2 c = omega (arith, (c .before .before .before .before .before .before .before .before .loop .inv) .1 .small, (c .before .before .before .before .before .before .before .before .loop .inv) .1 .few, count-most (c .before .before .before .before .before .before .before .before .before .before .before .before .before .before .before .args .f) (c .before .before .before .before .before .before .before .before .before .before .before .before .before .before .before .args .s .now) ((c .before .before .before .before .before .before .before .before .loop .inv) .0), count-known (c .before .before .before .before .before .before .before .before .before .before .before .before .before .before .before .args .f) (c .before .before .before .before .before .before .before .before .before .before .before .before .before .before .before .args .s .now) ((c .before .before .before .before .before .before .before .before .loop .inv) .0), (c .before .before .before .before .before .before .before .before .before .before .before .before .before .before .before .pre))
 
 mul-at : tie.Need-mul-at Inv-loop μ-loop
-mul-at c = let x = (face-known (c .before .before .before .before .before .before .before .before .before .before .before .before .before .before .before .before .args .f) (c .before .before .before .before .before .before .before .before .before .before .before .before .before .before .before .before .args .v) (c .before .before .before .before .before .before .before .before .before .before .before .before .before .before .before .before .args .s .now) (c .before .before .before .before .before .before .before .before .before .loop .at) (sym (ap found ((c .before .before .before .before .before .face .given) .1)) ∙ (c .before .before .before .before .before .before .before .face-at .ensures))) in omega (arith, corners-small ((c .before .before .before .before .before .before .before .before .before .before .before .before .before .before .before .before .pre) .slender .nw-most) (x .corners-most))
+mul-at c = let x = (face-known (c .before .before .before .before .before .before .before .before .before .before .before .before .before .before .before .before .args .f) (c .before .before .before .before .before .before .before .before .before .before .before .before .before .before .before .before .args .v) (c .before .before .before .before .before .before .before .before .before .before .before .before .before .before .before .before .args .s .now) (c .before .before .before .before .before .before .before .before .before .loop .at) (sym (ap found ((c .before .before .before .before .before .face .given) .1)) ∙ (c .before .before .before .before .before .before .before .face-at .ensures))) in omega (arith, corners-small ((c .before .before .before .before .before .before .before .before .before .before .before .before .before .before .before .before .pre) .slender .vertex-number-narrow) (x .corners-most))
 
 add-at-3 : tie.Need-add-at-3 Inv-loop μ-loop
-add-at-3 c = let x = (face-known (c .before .before .before .before .before .before .before .before .before .before .before .before .before .before .before .before .args .f) (c .before .before .before .before .before .before .before .before .before .before .before .before .before .before .before .before .args .v) (c .before .before .before .before .before .before .before .before .before .before .before .before .before .before .before .before .args .s .now) (c .before .before .before .before .before .before .before .before .before .loop .at) (sym (ap found ((c .before .before .before .before .before .face .given) .1)) ∙ (c .before .before .before .before .before .before .before .face-at .ensures))) in omega (arith, (c .before .before .before .before .before .before .before .before .before .loop .inv) .1 .small, (c .before .before .before .before .before .before .before .before .before .loop .inv) .1 .few, count-most (c .before .before .before .before .before .before .before .before .before .before .before .before .before .before .before .before .args .f) (c .before .before .before .before .before .before .before .before .before .before .before .before .before .before .before .before .args .s .now) ((c .before .before .before .before .before .before .before .before .before .loop .inv) .0), count-known (c .before .before .before .before .before .before .before .before .before .before .before .before .before .before .before .before .args .f) (c .before .before .before .before .before .before .before .before .before .before .before .before .before .before .before .before .args .s .now) ((c .before .before .before .before .before .before .before .before .before .loop .inv) .0), (c .before .before .before .before .before .before .before .before .before .before .before .before .before .before .before .before .pre), corners-small ((c .before .before .before .before .before .before .before .before .before .before .before .before .before .before .before .before .pre) .slender .nw-most) (x .corners-most))
+add-at-3 c = let x = (face-known (c .before .before .before .before .before .before .before .before .before .before .before .before .before .before .before .before .args .f) (c .before .before .before .before .before .before .before .before .before .before .before .before .before .before .before .before .args .v) (c .before .before .before .before .before .before .before .before .before .before .before .before .before .before .before .before .args .s .now) (c .before .before .before .before .before .before .before .before .before .loop .at) (sym (ap found ((c .before .before .before .before .before .face .given) .1)) ∙ (c .before .before .before .before .before .before .before .face-at .ensures))) in omega (arith, (c .before .before .before .before .before .before .before .before .before .loop .inv) .1 .small, (c .before .before .before .before .before .before .before .before .before .loop .inv) .1 .few, count-most (c .before .before .before .before .before .before .before .before .before .before .before .before .before .before .before .before .args .f) (c .before .before .before .before .before .before .before .before .before .before .before .before .before .before .before .before .args .s .now) ((c .before .before .before .before .before .before .before .before .before .loop .inv) .0), count-known (c .before .before .before .before .before .before .before .before .before .before .before .before .before .before .before .before .args .f) (c .before .before .before .before .before .before .before .before .before .before .before .before .before .before .before .before .args .s .now) ((c .before .before .before .before .before .before .before .before .before .loop .inv) .0), (c .before .before .before .before .before .before .before .before .before .before .before .before .before .before .before .before .pre), corners-small ((c .before .before .before .before .before .before .before .before .before .before .before .before .before .before .before .before .pre) .slender .vertex-number-narrow) (x .corners-most))
 
 add-k : tie.Need-add-k Inv-loop μ-loop
 add-k c = omega arith
@@ -88,7 +88,7 @@ loop-again c =
     let x = (face-known (c .before .before .before .before .before .before .before .before .before .before .before .before .before .before .before .before .args .f) (c .before .before .before .before .before .before .before .before .before .before .before .before .before .before .before .before .args .v) (c .before .before .before .before .before .before .before .before .before .before .before .before .before .before .before .before .args .s .now) (c .before .before .before .before .before .before .before .before .before .loop .at) (sym (ap found ((c .before .before .before .before .before .face .given) .1)) ∙ (c .before .before .before .before .before .before .before .face-at .ensures))) in
     let l = (c .before .before .before .before .before .before .before .before .before .loop) in (
       (c .before .before .before .before .before .before .before .before .before .loop .inv) .0,
-      subst (λ (t : List ℕ). Read (c .before .before .before .before .before .before .before .before .before .before .before .before .before .before .before .before .args .f) (c .before .before .before .before .before .before .before .before .before .before .before .before .before .before .before .before .args .v) (c .before .before .before .before .before .before .before .before .before .before .before .before .before .before .before .before .args .s .now) (l .k + 1) (l .at + 4 + (c .before .before .before .before .before .before .before .before .before .before .before .before .before .before .before .before .args .f .nw) * ((c .before .before .before .before .before .face .given) .0 .0)) t) (sym (c .before .before .put-row .ensures))
+      subst (λ (t : List ℕ). Read (c .before .before .before .before .before .before .before .before .before .before .before .before .before .before .before .before .args .f) (c .before .before .before .before .before .before .before .before .before .before .before .before .before .before .before .before .args .v) (c .before .before .before .before .before .before .before .before .before .before .before .before .before .before .before .before .args .s .now) (l .k + 1) (l .at + 4 + (c .before .before .before .before .before .before .before .before .before .before .before .before .before .before .before .before .args .f .«vertex_number_bits») * ((c .before .before .before .before .before .face .given) .0 .0)) t) (sym (c .before .before .put-row .ensures))
           (read-next (c .before .before .before .before .before .before .before .before .before .before .before .before .before .before .before .before .args .f) (c .before .before .before .before .before .before .before .before .before .before .before .before .before .before .before .before .args .v) (c .before .before .before .before .before .before .before .before .before .before .before .before .before .before .before .before .args .s .now) (c .before .before .before .before .before .before .before .before .before .before .before .before .before .before .before .before .pre) (l .k) (l .at) (l .rows) (omega (arith, count-most (c .before .before .before .before .before .before .before .before .before .before .before .before .before .before .before .before .args .f) (c .before .before .before .before .before .before .before .before .before .before .before .before .before .before .before .before .args .s .now) ((c .before .before .before .before .before .before .before .before .before .loop .inv) .0), count-known (c .before .before .before .before .before .before .before .before .before .before .before .before .before .before .before .before .args .f) (c .before .before .before .before .before .before .before .before .before .before .before .before .before .before .before .before .args .s .now) ((c .before .before .before .before .before .before .before .before .before .loop .inv) .0), (c .before .before .before .before .before .before .before .before .before .before .before .before .before .before .before .before .pre), (c .before .before .before .before .before .before .before .before .loop-test .taken))) (omega (arith, count-most (c .before .before .before .before .before .before .before .before .before .before .before .before .before .before .before .before .args .f) (c .before .before .before .before .before .before .before .before .before .before .before .before .before .before .before .before .args .s .now) ((c .before .before .before .before .before .before .before .before .before .loop .inv) .0), count-known (c .before .before .before .before .before .before .before .before .before .before .before .before .before .before .before .before .args .f) (c .before .before .before .before .before .before .before .before .before .before .before .before .before .before .before .before .args .s .now) ((c .before .before .before .before .before .before .before .before .before .loop .inv) .0), (c .before .before .before .before .before .before .before .before .before .before .before .before .before .before .before .before .pre), (c .before .before .before .before .before .before .before .before .loop-test .taken))) (l .inv .1) x),
       (c .before .before .put-row .kept .1 .1 .1 .1 .0) ∙ l .inv .2,
     )

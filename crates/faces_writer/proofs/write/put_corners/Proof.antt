@@ -4,9 +4,9 @@ use mathlib.Core.List.{List}
 use Prim.Native.Nat.{ℕ, _≤_, _-_, _*_, _+_}
 use lib.ListN.{length, take, drop}
 use lib.Seq.{take-all}
-use Rattle.pack.specs.Bits.{bits, run, over}
+use Rattle.pack.specs.Bits.{bits, run, overwrite}
 use Rattle.pack.proofs.Laws.{slot, length-run}
-use Rattle.pack.proofs.Over.{over-none, put-next, run-none}
+use Rattle.pack.proofs.Overwrite.{overwrite-none, put-next, run-none}
 use Rattle.faces_writer.specs.Send.{way}
 use Rattle.faces_reader.proofs.Brief.{corners-small}
 use Rattle.faces_writer.proofs.Fits.{way-length}
@@ -16,13 +16,13 @@ use Rattle.faces_writer.proofs.write.put_corners.Statement.{statement}
 use Rattle.faces_writer.proofs.write.put_corners.Tie as tie
 
 abbrev Inv-loop : tie.InvT-loop
-Inv-loop rows i c back room₀ b w j₀ room j = (j ≤ c) × (run 8 room ≡ over (run 8 room₀) b (run w (take j (way back (take c (drop i rows)))))) × (length room ≡ length room₀)
+Inv-loop rows i c back room₀ b w j₀ room j = (j ≤ c) × (run 8 room ≡ overwrite (run 8 room₀) b (run w (take j (way back (take c (drop i rows)))))) × (length room ≡ length room₀)
 
 abbrev μ-loop : tie.MeasureT-loop
 μ-loop rows i c back room₀ b w j₀ room j = c - j
 
 loop-holds : tie.Need-loop-holds Inv-loop μ-loop
-loop-holds c = (omega arith, over-none (run 8 (c .before .before .args .room .now)) (c .before .before .args .b) ∙ ap (over (run 8 (c .before .before .args .room .now)) (c .before .before .args .b)) (sym (run-none (c .before .before .args .w))), refl)
+loop-holds c = (omega arith, overwrite-none (run 8 (c .before .before .args .room .now)) (c .before .before .args .b) ∙ ap (overwrite (run 8 (c .before .before .args .room .now)) (c .before .before .args .b)) (sym (run-none (c .before .before .args .w))), refl)
 
 mul-put : tie.Need-mul-put Inv-loop μ-loop
 mul-put c = omega (arith, slot (c .before .before .before .before .before .args .w) (c .before .before .loop .j) (c .before .before .before .before .before .args .c) (omega arith), corners-small ((c .before .before .before .before .before .pre .1)) ((c .before .before .before .before .before .pre .2)))
@@ -51,7 +51,7 @@ loop-again c =
     let h : a .b ≤ length (run 8 (a .room .now)) = rw length-run (omega (arith, (c .before .before .before .before .before .before .before .before .before .pre))) in (
       omega arith,
       (c .before .before .put .ensures)
-          ∙ ap₂ (λ (t : List ℕ) (v : ℕ). over t (a .b + a .w * l .j) (bits (a .w) v)) (l .inv .1) (c .before .before .before .corner .ensures)
+          ∙ ap₂ (λ (t : List ℕ) (v : ℕ). overwrite t (a .b + a .w * l .j) (bits (a .w) v)) (l .inv .1) (c .before .before .before .corner .ensures)
           ∙ put-next (run 8 (a .room .now)) (a .b) (a .w) vs (l .j) 0 h (omega (arith, n)),
       (c .before .before .put .kept .0) ∙ l .inv .2,
     )
@@ -63,7 +63,7 @@ returns : tie.Need-returns Inv-loop μ-loop
 returns c =
     let vs = way (c .before .before .before .before .args .back) (take (c .before .before .before .before .args .c) (drop (c .before .before .before .before .args .i) (c .before .before .before .before .args .rows .now))) in
     let n : length vs ≡ (c .before .before .before .before .args .c) = way-length (c .before .before .before .before .args .back) (take (c .before .before .before .before .args .c) (drop (c .before .before .before .before .args .i) (c .before .before .before .before .args .rows .now))) ∙ length-corners (c .before .before .before .before .args .rows .now) (c .before .before .before .before .args .i) (c .before .before .before .before .args .c) ((c .before .before .before .before .pre .0)) in
-    (c .before .loop .inv .1) ∙ ap (λ (t : List ℕ). over (run 8 (c .before .before .before .before .args .room .now)) (c .before .before .before .before .args .b) (run (c .before .before .before .before .args .w) t)) (take-all (c .before .loop .j) vs (omega (arith, n)))
+    (c .before .loop .inv .1) ∙ ap (λ (t : List ℕ). overwrite (run 8 (c .before .before .before .before .args .room .now)) (c .before .before .before .before .args .b) (run (c .before .before .before .before .args .w) t)) (take-all (c .before .loop .j) vs (omega (arith, n)))
 
 pub put-corners-spec : {M : Type 1} → statement M
 put-corners-spec =

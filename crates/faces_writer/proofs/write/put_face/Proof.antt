@@ -34,16 +34,16 @@ add-put-corners-2 : tie.Need-add-put-corners-2
 add-put-corners-2 c = search needs
 
 put-corners-requires : tie.Need-put-corners-requires
-put-corners-requires c κs = let w = row-whole (c .before .before .before .before .before .before .before .before .args .f) (c .before .before .before .before .before .before .before .before .args .rows .now) (c .before .before .before .before .before .before .before .before .args .k) ((c .before .before .before .before .before .before .before .before .pre .2)) in (omega (arith, w .inside, w .most), (c .before .before .before .before .before .before .before .before .pre .0) .slender .nw-most, w .most, omega (arith, (c .before .before .before .before .before .before .before .before .pre .3), ap (λ (n : ℕ). (c .before .before .before .before .before .before .before .before .args .f .nw) * n) (w .length-is), (c .before .before .before .put .kept .0)), omega (arith, (c .before .before .before .before .before .before .before .before .pre .4)))
+put-corners-requires c κs = let w = row-whole (c .before .before .before .before .before .before .before .before .args .f) (c .before .before .before .before .before .before .before .before .args .rows .now) (c .before .before .before .before .before .before .before .before .args .k) ((c .before .before .before .before .before .before .before .before .pre .2)) in (omega (arith, w .inside, w .most), (c .before .before .before .before .before .before .before .before .pre .0) .slender .vertex-number-narrow, w .most, omega (arith, (c .before .before .before .before .before .before .before .before .pre .3), ap (λ (n : ℕ). (c .before .before .before .before .before .before .before .before .args .f .«vertex_number_bits») * n) (w .length-is), (c .before .before .before .put .kept .0)), omega (arith, (c .before .before .before .before .before .before .before .before .pre .4)))
 
 mul-result : tie.Need-mul-result
-mul-result c = let w = row-whole (c .before .before .before .before .before .before .before .before .before .before .before .before .args .f) (c .before .before .before .before .before .before .before .before .before .before .before .before .args .rows .now) (c .before .before .before .before .before .before .before .before .before .before .before .before .args .k) ((c .before .before .before .before .before .before .before .before .before .before .before .before .pre .2)) in omega (arith, (c .before .before .before .before .before .before .before .before .before .before .before .before .pre .4), corners-small ((c .before .before .before .before .before .before .before .before .before .before .before .before .pre .0) .slender .nw-most) (w .most))
+mul-result c = let w = row-whole (c .before .before .before .before .before .before .before .before .before .before .before .before .args .f) (c .before .before .before .before .before .before .before .before .before .before .before .before .args .rows .now) (c .before .before .before .before .before .before .before .before .before .before .before .before .args .k) ((c .before .before .before .before .before .before .before .before .before .before .before .before .pre .2)) in omega (arith, (c .before .before .before .before .before .before .before .before .before .before .before .before .pre .4), corners-small ((c .before .before .before .before .before .before .before .before .before .before .before .before .pre .0) .slender .vertex-number-narrow) (w .most))
 
 add-result : tie.Need-add-result
-add-result c = let w = row-whole (c .before .before .before .before .before .before .before .before .before .before .before .before .args .f) (c .before .before .before .before .before .before .before .before .before .before .before .before .args .rows .now) (c .before .before .before .before .before .before .before .before .before .before .before .before .args .k) ((c .before .before .before .before .before .before .before .before .before .before .before .before .pre .2)) in omega (arith, (c .before .before .before .before .before .before .before .before .before .before .before .before .pre .4), corners-small ((c .before .before .before .before .before .before .before .before .before .before .before .before .pre .0) .slender .nw-most) (w .most))
+add-result c = let w = row-whole (c .before .before .before .before .before .before .before .before .before .before .before .before .args .f) (c .before .before .before .before .before .before .before .before .before .before .before .before .args .rows .now) (c .before .before .before .before .before .before .before .before .before .before .before .before .args .k) ((c .before .before .before .before .before .before .before .before .before .before .before .before .pre .2)) in omega (arith, (c .before .before .before .before .before .before .before .before .before .before .before .before .pre .4), corners-small ((c .before .before .before .before .before .before .before .before .before .before .before .before .pre .0) .slender .vertex-number-narrow) (w .most))
 
 add-result-2 : tie.Need-add-result-2
-add-result-2 c = let w = row-whole (c .before .before .before .before .before .before .before .before .before .before .before .before .args .f) (c .before .before .before .before .before .before .before .before .before .before .before .before .args .rows .now) (c .before .before .before .before .before .before .before .before .before .before .before .before .args .k) ((c .before .before .before .before .before .before .before .before .before .before .before .before .pre .2)) in omega (arith, (c .before .before .before .before .before .before .before .before .before .before .before .before .pre .4), corners-small ((c .before .before .before .before .before .before .before .before .before .before .before .before .pre .0) .slender .nw-most) (w .most))
+add-result-2 c = let w = row-whole (c .before .before .before .before .before .before .before .before .before .before .before .before .args .f) (c .before .before .before .before .before .before .before .before .before .before .before .before .args .rows .now) (c .before .before .before .before .before .before .before .before .before .before .before .before .args .k) ((c .before .before .before .before .before .before .before .before .before .before .before .before .pre .2)) in omega (arith, (c .before .before .before .before .before .before .before .before .before .before .before .before .pre .4), corners-small ((c .before .before .before .before .before .before .before .before .before .before .before .before .pre .0) .slender .vertex-number-narrow) (w .most))
 
 same-length : tie.Need-same-length
 same-length c = search needs
@@ -54,7 +54,7 @@ returns c =
     let w = row-whole (c .before .before .before .before .before .before .before .before .before .before .before .before .args .f) (c .before .before .before .before .before .before .before .before .before .before .before .before .args .rows .now) (c .before .before .before .before .before .before .before .before .before .before .before .before .args .k) ((c .before .before .before .before .before .before .before .before .before .before .before .before .pre .2)) in
     let l = rowAt (a .rows .now) (a .k) in
     let h : a .b ≤ length (run 8 (a .room .now)) = rw length-run (omega (arith, (c .before .before .before .before .before .before .before .before .before .before .before .before .pre .3))) in (
-      ap (λ (n : ℕ). a .b + (4 + a .f .nw * n)) (sym (w .length-is)),
+      ap (λ (n : ℕ). a .b + (4 + a .f .«vertex_number_bits» * n)) (sym (w .length-is)),
       face-put (a .f) (way (a .back) l) _ (getD (a .rows .now) (13 * a .k) 0) (run 8 (a .room .now)) (a .b) (ap (way (a .back)) (w .loop-is)) (way-length (a .back) l ∙ w .length-is) h (c .before .before .before .before .before .before .before .put .ensures) (c .before .before .before .put-corners .ensures),
     )
 

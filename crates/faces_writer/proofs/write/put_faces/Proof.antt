@@ -16,7 +16,7 @@ abbrev μ-loop : tie.MeasureT-loop
 μ-loop f rows taken turned room₀ b₀ k₀ room b k = 64 - k
 
 add-b : tie.Need-add-b Inv-loop μ-loop
-add-b c = omega (arith, (c .before .before .before .pre .0) .slender .fw-most)
+add-b c = omega (arith, (c .before .before .before .pre .0) .slender .face-count-narrow)
 
 loop-holds : tie.Need-loop-holds Inv-loop μ-loop
 loop-holds c = (omega arith, send-start (c .before .before .before .args .f) (c .before .before .before .args .rows .now) (c .before .before .before .args .taken) (c .before .before .before .args .turned) (c .before .before .before .args .room .now) ((c .before .before .before .pre .1)), refl)

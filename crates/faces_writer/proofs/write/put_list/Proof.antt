@@ -14,7 +14,7 @@ put-requires c κs = omega (arith, (c .before .before .before .pre .4))
 
 put-requires-2 : tie.Need-put-requires-2
 unfolding bitsOf
-put-requires-2 c κs = omega (arith, (c .before .before .before .before .before .before .before .pre .4), (c .before .before .before .put .kept .0), (c .before .before .before .before .before .before .before .pre .0) .slender .fw-most)
+put-requires-2 c κs = omega (arith, (c .before .before .before .before .before .before .before .pre .4), (c .before .before .before .put .kept .0), (c .before .before .before .before .before .before .before .pre .0) .slender .face-count-narrow)
 
 put-faces-requires : tie.Need-put-faces-requires
 put-faces-requires c κs = search needs

@@ -3,7 +3,7 @@ use mathlib.Core.Path.{sym, ap, _∙_}
 use mathlib.Core.Bool.{Bool}
 use Prim.Native.Nat.{ℕ, _+_}
 use borrow.Author.Needs.{needs}
-use Rattle.pack.specs.Bits.{run, over}
+use Rattle.pack.specs.Bits.{run, overwrite}
 use Rattle.paper.specs.FaceList.{faceBits, rowAt}
 use Rattle.faces_writer.specs.Send.{way}
 use Rattle.faces_writer.proofs.SendFaces.{taken-fits, taken-span, taken-bits, left-span, left-bits}
@@ -28,8 +28,8 @@ returns c =
     let a = (c .before .before .before .before .before .before .before .before .before .args) in (
       (c .before .before .put-face .ensures) .0 ∙ ap (λ (n : ℕ). a .b + n) (taken-span (c .before .before .before .before .before .before .before .before .before .args .f) (c .before .before .before .before .before .before .before .before .before .args .rows .now) (c .before .before .before .before .before .before .before .before .before .args .taken) (c .before .before .before .before .before .before .before .before .before .args .turned) (c .before .before .before .before .before .before .before .before .before .args .k) (sym (c .before .before .before .before .before .before .is-set .ensures) ∙ (c .before .before .before .before .before .if1 .taken))),
       (c .before .before .put-face .ensures) .1
-          ∙ ap (λ (x : Bool). over (run 8 (a .room .now)) (a .b) (faceBits (a .f) (way x (rowAt (a .rows .now) (a .k))))) (c .before .before .before .before .is-set2 .ensures)
-          ∙ ap (over (run 8 (a .room .now)) (a .b)) (taken-bits (c .before .before .before .before .before .before .before .before .before .args .f) (c .before .before .before .before .before .before .before .before .before .args .rows .now) (c .before .before .before .before .before .before .before .before .before .args .taken) (c .before .before .before .before .before .before .before .before .before .args .turned) (c .before .before .before .before .before .before .before .before .before .args .k) (sym (c .before .before .before .before .before .before .is-set .ensures) ∙ (c .before .before .before .before .before .if1 .taken))),
+          ∙ ap (λ (x : Bool). overwrite (run 8 (a .room .now)) (a .b) (faceBits (a .f) (way x (rowAt (a .rows .now) (a .k))))) (c .before .before .before .before .is-set2 .ensures)
+          ∙ ap (overwrite (run 8 (a .room .now)) (a .b)) (taken-bits (c .before .before .before .before .before .before .before .before .before .args .f) (c .before .before .before .before .before .before .before .before .before .args .rows .now) (c .before .before .before .before .before .before .before .before .before .args .taken) (c .before .before .before .before .before .before .before .before .before .args .turned) (c .before .before .before .before .before .before .before .before .before .args .k) (sym (c .before .before .before .before .before .before .is-set .ensures) ∙ (c .before .before .before .before .before .if1 .taken))),
     )
 
 returns-2 : tie.Need-returns-2

@@ -1,7 +1,7 @@
 -- `faces_writer::write::weigh` meets its contract. Assumes nothing.
 use mathlib.Core.Path.{sym, ap, _∙_}
 use borrow.Author.Needs.{needs}
-use Rattle.lists.specs.Place.{found}
+use Rattle.lists.specs.Found.{found}
 use Rattle.paper.specs.FaceList.{rowAt}
 use Rattle.faces_reader.proofs.Brief.{corners-small}
 use Rattle.faces_writer.proofs.RowAt.{corners-most}
@@ -26,10 +26,10 @@ returns : tie.Need-returns
 returns c = weigh-none (c .before .before .before .before .before .before .args .f) (c .before .before .before .before .before .before .args .rows .now) (c .before .before .before .before .before .before .args .taken) (c .before .before .before .before .before .before .args .k) (sym (c .before .before .before .before .is-set .ensures) ∙ (c .before .before .before .if1 .taken)) (sym (ap found ((c .enum-told .given) .1)) ∙ (c .before .before .row-fits .ensures))
 
 mul-t8 : tie.Need-mul-t8
-mul-t8 c = omega (arith, corners-small ((c .before .before .before .before .before .before .before .before .pre .0) .slender .nw-most) (corners-most (c .before .before .before .before .before .before .before .before .args .f) (rowAt (c .before .before .before .before .before .before .before .before .args .rows .now) (c .before .before .before .before .before .before .before .before .args .k)) (sym (ap found ((c .before .before .fit .given) .1)) ∙ (c .before .before .before .before .row-fits .ensures))))
+mul-t8 c = omega (arith, corners-small ((c .before .before .before .before .before .before .before .before .pre .0) .slender .vertex-number-narrow) (corners-most (c .before .before .before .before .before .before .before .before .args .f) (rowAt (c .before .before .before .before .before .before .before .before .args .rows .now) (c .before .before .before .before .before .before .before .before .args .k)) (sym (ap found ((c .before .before .fit .given) .1)) ∙ (c .before .before .before .before .row-fits .ensures))))
 
 add-t9 : tie.Need-add-t9
-add-t9 c = omega (arith, corners-small ((c .before .before .before .before .before .before .before .before .pre .0) .slender .nw-most) (corners-most (c .before .before .before .before .before .before .before .before .args .f) (rowAt (c .before .before .before .before .before .before .before .before .args .rows .now) (c .before .before .before .before .before .before .before .before .args .k)) (sym (ap found ((c .before .before .fit .given) .1)) ∙ (c .before .before .before .before .row-fits .ensures))))
+add-t9 c = omega (arith, corners-small ((c .before .before .before .before .before .before .before .before .pre .0) .slender .vertex-number-narrow) (corners-most (c .before .before .before .before .before .before .before .before .args .f) (rowAt (c .before .before .before .before .before .before .before .before .args .rows .now) (c .before .before .before .before .before .before .before .before .args .k)) (sym (ap found ((c .before .before .fit .given) .1)) ∙ (c .before .before .before .before .row-fits .ensures))))
 
 returns-2 : tie.Need-returns-2
 returns-2 c = weigh-face (c .before .before .before .before .before .before .before .before .args .f) (c .before .before .before .before .before .before .before .before .args .rows .now) (c .before .before .before .before .before .before .before .before .args .taken) (c .before .before .before .before .before .before .before .before .args .k) (sym (c .before .before .before .before .before .before .is-set .ensures) ∙ (c .before .before .before .before .before .if1 .taken)) (sym (ap found ((c .before .before .fit .given) .1)) ∙ (c .before .before .before .before .row-fits .ensures))

@@ -36,25 +36,25 @@ refused-requires-2 : tie.Need-refused-requires-2
 refused-requires-2 c κs = search needs
 
 returns-2 : tie.Need-returns-2
-returns-2 c = let w = weighed (c .before .before .before .before .before .before .before .before .before .args .f) (solidFaces (c .before .before .before .before .before .before .before .before .before .args .rows .now) (c .before .before .before .before .before .before .before .before .before .args .taken) (c .before .before .before .before .before .before .before .before .before .args .turned)) (sym ((c .before .before .before .before .weighed .given) .1) ∙ (c .before .before .before .before .before .before .weigh-all .ensures) (c .before .before .before .before .before .before .before .before .before .args .turned)) in let r = result-count (c .before .before .before .before .before .before .before .before .before .args .f) (solidFaces (c .before .before .before .before .before .before .before .before .before .args .rows .now) (c .before .before .before .before .before .before .before .before .before .args .taken) (c .before .before .before .before .before .before .before .before .before .args .turned)) (c .before .before .before .before .before .before .before .before .before .args .room .now) (ap (outside 4 (c .before .before .before .before .before .before .before .before .before .args .f .fmax)) (sym (w .count-is)) ∙ sym (c .before .before .is-outside .ensures) ∙ (c .before .if1 .taken)) in ((c .refused2 .ensures) ∙ r .0, r .1)
+returns-2 c = let w = weighed (c .before .before .before .before .before .before .before .before .before .args .f) (solidFaces (c .before .before .before .before .before .before .before .before .before .args .rows .now) (c .before .before .before .before .before .before .before .before .before .args .taken) (c .before .before .before .before .before .before .before .before .before .args .turned)) (sym ((c .before .before .before .before .weighed .given) .1) ∙ (c .before .before .before .before .before .before .weigh-all .ensures) (c .before .before .before .before .before .before .before .before .before .args .turned)) in let r = result-count (c .before .before .before .before .before .before .before .before .before .args .f) (solidFaces (c .before .before .before .before .before .before .before .before .before .args .rows .now) (c .before .before .before .before .before .before .before .before .before .args .taken) (c .before .before .before .before .before .before .before .before .before .args .turned)) (c .before .before .before .before .before .before .before .before .before .args .room .now) (ap (outside 4 (c .before .before .before .before .before .before .before .before .before .args .f .«most_faces»)) (sym (w .count-is)) ∙ sym (c .before .before .is-outside .ensures) ∙ (c .before .if1 .taken)) in ((c .refused2 .ensures) ∙ r .0, r .1)
 
 add-size : tie.Need-add-size
 add-size c = search needs
 
 add-size-2 : tie.Need-add-size-2
-add-size-2 c = let w = weighed (c .before .before .before .before .before .before .before .before .before .args .f) (solidFaces (c .before .before .before .before .before .before .before .before .before .args .rows .now) (c .before .before .before .before .before .before .before .before .before .args .taken) (c .before .before .before .before .before .before .before .before .before .args .turned)) (sym ((c .before .before .before .before .weighed .given) .1) ∙ (c .before .before .before .before .before .before .weigh-all .ensures) (c .before .before .before .before .before .before .before .before .before .args .turned)) in let o = outside-false 4 (c .before .before .before .before .before .before .before .before .before .args .f .fmax) (length (solidFaces (c .before .before .before .before .before .before .before .before .before .args .rows .now) (c .before .before .before .before .before .before .before .before .before .args .taken) (c .before .before .before .before .before .before .before .before .before .args .turned))) (ap (outside 4 (c .before .before .before .before .before .before .before .before .before .args .f .fmax)) (sym (w .count-is)) ∙ sym (c .before .before .is-outside .ensures) ∙ (c .before .if1 .left)) in omega (arith, span-small (c .before .before .before .before .before .before .before .before .before .args .f) (c .before .before .before .before .before .before .before .before .before .pre) (solidFaces (c .before .before .before .before .before .before .before .before .before .args .rows .now) (c .before .before .before .before .before .before .before .before .before .args .taken) (c .before .before .before .before .before .before .before .before .before .args .turned)) (w .fit), w .span-is, o, (c .before .before .before .before .before .before .before .before .before .pre) .f-held, (c .before .before .before .before .before .before .before .before .before .pre) .slender .fw-most)
+add-size-2 c = let w = weighed (c .before .before .before .before .before .before .before .before .before .args .f) (solidFaces (c .before .before .before .before .before .before .before .before .before .args .rows .now) (c .before .before .before .before .before .before .before .before .before .args .taken) (c .before .before .before .before .before .before .before .before .before .args .turned)) (sym ((c .before .before .before .before .weighed .given) .1) ∙ (c .before .before .before .before .before .before .weigh-all .ensures) (c .before .before .before .before .before .before .before .before .before .args .turned)) in let o = outside-false 4 (c .before .before .before .before .before .before .before .before .before .args .f .«most_faces») (length (solidFaces (c .before .before .before .before .before .before .before .before .before .args .rows .now) (c .before .before .before .before .before .before .before .before .before .args .taken) (c .before .before .before .before .before .before .before .before .before .args .turned))) (ap (outside 4 (c .before .before .before .before .before .before .before .before .before .args .f .«most_faces»)) (sym (w .count-is)) ∙ sym (c .before .before .is-outside .ensures) ∙ (c .before .if1 .left)) in omega (arith, span-small (c .before .before .before .before .before .before .before .before .before .args .f) (c .before .before .before .before .before .before .before .before .before .pre) (solidFaces (c .before .before .before .before .before .before .before .before .before .args .rows .now) (c .before .before .before .before .before .before .before .before .before .args .taken) (c .before .before .before .before .before .before .before .before .before .args .turned)) (w .fit), w .span-is, o, (c .before .before .before .before .before .before .before .before .before .pre) .f-held, (c .before .before .before .before .before .before .before .before .before .pre) .slender .face-count-narrow)
 
 add-size-3 : tie.Need-add-size-3
-add-size-3 c = let w = weighed (c .before .before .before .before .before .before .before .before .before .args .f) (solidFaces (c .before .before .before .before .before .before .before .before .before .args .rows .now) (c .before .before .before .before .before .before .before .before .before .args .taken) (c .before .before .before .before .before .before .before .before .before .args .turned)) (sym ((c .before .before .before .before .weighed .given) .1) ∙ (c .before .before .before .before .before .before .weigh-all .ensures) (c .before .before .before .before .before .before .before .before .before .args .turned)) in let o = outside-false 4 (c .before .before .before .before .before .before .before .before .before .args .f .fmax) (length (solidFaces (c .before .before .before .before .before .before .before .before .before .args .rows .now) (c .before .before .before .before .before .before .before .before .before .args .taken) (c .before .before .before .before .before .before .before .before .before .args .turned))) (ap (outside 4 (c .before .before .before .before .before .before .before .before .before .args .f .fmax)) (sym (w .count-is)) ∙ sym (c .before .before .is-outside .ensures) ∙ (c .before .if1 .left)) in omega (arith, span-small (c .before .before .before .before .before .before .before .before .before .args .f) (c .before .before .before .before .before .before .before .before .before .pre) (solidFaces (c .before .before .before .before .before .before .before .before .before .args .rows .now) (c .before .before .before .before .before .before .before .before .before .args .taken) (c .before .before .before .before .before .before .before .before .before .args .turned)) (w .fit), w .span-is, o, (c .before .before .before .before .before .before .before .before .before .pre) .f-held, (c .before .before .before .before .before .before .before .before .before .pre) .slender .fw-most)
+add-size-3 c = let w = weighed (c .before .before .before .before .before .before .before .before .before .args .f) (solidFaces (c .before .before .before .before .before .before .before .before .before .args .rows .now) (c .before .before .before .before .before .before .before .before .before .args .taken) (c .before .before .before .before .before .before .before .before .before .args .turned)) (sym ((c .before .before .before .before .weighed .given) .1) ∙ (c .before .before .before .before .before .before .weigh-all .ensures) (c .before .before .before .before .before .before .before .before .before .args .turned)) in let o = outside-false 4 (c .before .before .before .before .before .before .before .before .before .args .f .«most_faces») (length (solidFaces (c .before .before .before .before .before .before .before .before .before .args .rows .now) (c .before .before .before .before .before .before .before .before .before .args .taken) (c .before .before .before .before .before .before .before .before .before .args .turned))) (ap (outside 4 (c .before .before .before .before .before .before .before .before .before .args .f .«most_faces»)) (sym (w .count-is)) ∙ sym (c .before .before .is-outside .ensures) ∙ (c .before .if1 .left)) in omega (arith, span-small (c .before .before .before .before .before .before .before .before .before .args .f) (c .before .before .before .before .before .before .before .before .before .pre) (solidFaces (c .before .before .before .before .before .before .before .before .before .args .rows .now) (c .before .before .before .before .before .before .before .before .before .args .taken) (c .before .before .before .before .before .before .before .before .before .args .turned)) (w .fit), w .span-is, o, (c .before .before .before .before .before .before .before .before .before .pre) .f-held, (c .before .before .before .before .before .before .before .before .before .pre) .slender .face-count-narrow)
 
 refused-requires-3 : tie.Need-refused-requires-3
 refused-requires-3 c κs = search needs
 
 returns-3 : tie.Need-returns-3
-returns-3 c = let w = weighed (c .before .before .before .before .before .before .before .before .before .before .before .args .f) (solidFaces (c .before .before .before .before .before .before .before .before .before .before .before .args .rows .now) (c .before .before .before .before .before .before .before .before .before .before .before .args .taken) (c .before .before .before .before .before .before .before .before .before .before .before .args .turned)) (sym ((c .before .before .before .before .before .before .weighed .given) .1) ∙ (c .before .before .before .before .before .before .before .before .weigh-all .ensures) (c .before .before .before .before .before .before .before .before .before .before .before .args .turned)) in let hb = size-is (c .before .before .before .before .before .before .before .before .before .before .before .args .f) (solidFaces (c .before .before .before .before .before .before .before .before .before .before .before .args .rows .now) (c .before .before .before .before .before .before .before .before .before .before .before .args .taken) (c .before .before .before .before .before .before .before .before .before .before .before .args .turned)) (w .span-is) in let r = result-short (c .before .before .before .before .before .before .before .before .before .before .before .args .f) (solidFaces (c .before .before .before .before .before .before .before .before .before .before .before .args .rows .now) (c .before .before .before .before .before .before .before .before .before .before .before .args .taken) (c .before .before .before .before .before .before .before .before .before .before .before .args .turned)) (c .before .before .before .before .before .before .before .before .before .before .before .args .room .now) (ap (outside 4 (c .before .before .before .before .before .before .before .before .before .before .before .args .f .fmax)) (sym (w .count-is)) ∙ sym (c .before .before .before .before .is-outside .ensures) ∙ (c .before .before .before .if1 .left)) (w .fit) (rw hb at (c .before .if2 .taken)) in ((c .refused3 .ensures) ∙ r .0, r .1)
+returns-3 c = let w = weighed (c .before .before .before .before .before .before .before .before .before .before .before .args .f) (solidFaces (c .before .before .before .before .before .before .before .before .before .before .before .args .rows .now) (c .before .before .before .before .before .before .before .before .before .before .before .args .taken) (c .before .before .before .before .before .before .before .before .before .before .before .args .turned)) (sym ((c .before .before .before .before .before .before .weighed .given) .1) ∙ (c .before .before .before .before .before .before .before .before .weigh-all .ensures) (c .before .before .before .before .before .before .before .before .before .before .before .args .turned)) in let hb = size-is (c .before .before .before .before .before .before .before .before .before .before .before .args .f) (solidFaces (c .before .before .before .before .before .before .before .before .before .before .before .args .rows .now) (c .before .before .before .before .before .before .before .before .before .before .before .args .taken) (c .before .before .before .before .before .before .before .before .before .before .before .args .turned)) (w .span-is) in let r = result-short (c .before .before .before .before .before .before .before .before .before .before .before .args .f) (solidFaces (c .before .before .before .before .before .before .before .before .before .before .before .args .rows .now) (c .before .before .before .before .before .before .before .before .before .before .before .args .taken) (c .before .before .before .before .before .before .before .before .before .before .before .args .turned)) (c .before .before .before .before .before .before .before .before .before .before .before .args .room .now) (ap (outside 4 (c .before .before .before .before .before .before .before .before .before .before .before .args .f .«most_faces»)) (sym (w .count-is)) ∙ sym (c .before .before .before .before .is-outside .ensures) ∙ (c .before .before .before .if1 .left)) (w .fit) (rw hb at (c .before .if2 .taken)) in ((c .refused3 .ensures) ∙ r .0, r .1)
 
 put-list-requires : tie.Need-put-list-requires
-put-list-requires c κs = let w = weighed (c .before .before .before .before .before .before .before .before .before .before .before .args .f) (solidFaces (c .before .before .before .before .before .before .before .before .before .before .before .args .rows .now) (c .before .before .before .before .before .before .before .before .before .before .before .args .taken) (c .before .before .before .before .before .before .before .before .before .before .before .args .turned)) (sym ((c .before .before .before .before .before .before .weighed .given) .1) ∙ (c .before .before .before .before .before .before .before .before .weigh-all .ensures) (c .before .before .before .before .before .before .before .before .before .before .before .args .turned)) in let hb = size-is (c .before .before .before .before .before .before .before .before .before .before .before .args .f) (solidFaces (c .before .before .before .before .before .before .before .before .before .before .before .args .rows .now) (c .before .before .before .before .before .before .before .before .before .before .before .args .taken) (c .before .before .before .before .before .before .before .before .before .before .before .args .turned)) (w .span-is) in let o = outside-false 4 (c .before .before .before .before .before .before .before .before .before .before .before .args .f .fmax) (length (solidFaces (c .before .before .before .before .before .before .before .before .before .before .before .args .rows .now) (c .before .before .before .before .before .before .before .before .before .before .before .args .taken) (c .before .before .before .before .before .before .before .before .before .before .before .args .turned))) (ap (outside 4 (c .before .before .before .before .before .before .before .before .before .before .before .args .f .fmax)) (sym (w .count-is)) ∙ sym (c .before .before .before .before .is-outside .ensures) ∙ (c .before .before .before .if1 .left)) in ((c .before .before .before .before .before .before .before .before .before .before .before .pre), w .fit, w .count-is, w .span-is, rw hb at (c .before .if2 .left), omega (arith, hb, span-small (c .before .before .before .before .before .before .before .before .before .before .before .args .f) (c .before .before .before .before .before .before .before .before .before .before .before .pre) (solidFaces (c .before .before .before .before .before .before .before .before .before .before .before .args .rows .now) (c .before .before .before .before .before .before .before .before .before .before .before .args .taken) (c .before .before .before .before .before .before .before .before .before .before .before .args .turned)) (w .fit), w .span-is, o, (c .before .before .before .before .before .before .before .before .before .before .before .pre) .f-held, (c .before .before .before .before .before .before .before .before .before .before .before .pre) .slender .fw-most))
+put-list-requires c κs = let w = weighed (c .before .before .before .before .before .before .before .before .before .before .before .args .f) (solidFaces (c .before .before .before .before .before .before .before .before .before .before .before .args .rows .now) (c .before .before .before .before .before .before .before .before .before .before .before .args .taken) (c .before .before .before .before .before .before .before .before .before .before .before .args .turned)) (sym ((c .before .before .before .before .before .before .weighed .given) .1) ∙ (c .before .before .before .before .before .before .before .before .weigh-all .ensures) (c .before .before .before .before .before .before .before .before .before .before .before .args .turned)) in let hb = size-is (c .before .before .before .before .before .before .before .before .before .before .before .args .f) (solidFaces (c .before .before .before .before .before .before .before .before .before .before .before .args .rows .now) (c .before .before .before .before .before .before .before .before .before .before .before .args .taken) (c .before .before .before .before .before .before .before .before .before .before .before .args .turned)) (w .span-is) in let o = outside-false 4 (c .before .before .before .before .before .before .before .before .before .before .before .args .f .«most_faces») (length (solidFaces (c .before .before .before .before .before .before .before .before .before .before .before .args .rows .now) (c .before .before .before .before .before .before .before .before .before .before .before .args .taken) (c .before .before .before .before .before .before .before .before .before .before .before .args .turned))) (ap (outside 4 (c .before .before .before .before .before .before .before .before .before .before .before .args .f .«most_faces»)) (sym (w .count-is)) ∙ sym (c .before .before .before .before .is-outside .ensures) ∙ (c .before .before .before .if1 .left)) in ((c .before .before .before .before .before .before .before .before .before .before .before .pre), w .fit, w .count-is, w .span-is, rw hb at (c .before .if2 .left), omega (arith, hb, span-small (c .before .before .before .before .before .before .before .before .before .before .before .args .f) (c .before .before .before .before .before .before .before .before .before .before .before .pre) (solidFaces (c .before .before .before .before .before .before .before .before .before .before .before .args .rows .now) (c .before .before .before .before .before .before .before .before .before .before .before .args .taken) (c .before .before .before .before .before .before .before .before .before .before .before .args .turned)) (w .fit), w .span-is, o, (c .before .before .before .before .before .before .before .before .before .before .before .pre) .f-held, (c .before .before .before .before .before .before .before .before .before .before .before .pre) .slender .face-count-narrow))
 
 same-length : tie.Need-same-length
 same-length c = search needs
@@ -63,7 +63,7 @@ returns-4 : tie.Need-returns-4
 returns-4 c =
     let w = weighed (c .before .before .before .before .before .before .before .before .before .before .before .before .before .before .args .f) (solidFaces (c .before .before .before .before .before .before .before .before .before .before .before .before .before .before .args .rows .now) (c .before .before .before .before .before .before .before .before .before .before .before .before .before .before .args .taken) (c .before .before .before .before .before .before .before .before .before .before .before .before .before .before .args .turned)) (sym ((c .before .before .before .before .before .before .before .before .before .weighed .given) .1) ∙ (c .before .before .before .before .before .before .before .before .before .before .before .weigh-all .ensures) (c .before .before .before .before .before .before .before .before .before .before .before .before .before .before .args .turned)) in
     let hb = size-is (c .before .before .before .before .before .before .before .before .before .before .before .before .before .before .args .f) (solidFaces (c .before .before .before .before .before .before .before .before .before .before .before .before .before .before .args .rows .now) (c .before .before .before .before .before .before .before .before .before .before .before .before .before .before .args .taken) (c .before .before .before .before .before .before .before .before .before .before .before .before .before .before .args .turned)) (w .span-is) in
-    let r = result-fine (c .before .before .before .before .before .before .before .before .before .before .before .before .before .before .args .f) (solidFaces (c .before .before .before .before .before .before .before .before .before .before .before .before .before .before .args .rows .now) (c .before .before .before .before .before .before .before .before .before .before .before .before .before .before .args .taken) (c .before .before .before .before .before .before .before .before .before .before .before .before .before .before .args .turned)) (c .before .before .before .before .before .before .before .before .before .before .before .before .before .before .args .room .now) (ap (outside 4 (c .before .before .before .before .before .before .before .before .before .before .before .before .before .before .args .f .fmax)) (sym (w .count-is)) ∙ sym (c .before .before .before .before .before .before .before .is-outside .ensures) ∙ (c .before .before .before .before .before .before .if1 .left)) (w .fit) (rw hb at (c .before .before .before .before .if2 .left)) in
+    let r = result-fine (c .before .before .before .before .before .before .before .before .before .before .before .before .before .before .args .f) (solidFaces (c .before .before .before .before .before .before .before .before .before .before .before .before .before .before .args .rows .now) (c .before .before .before .before .before .before .before .before .before .before .before .before .before .before .args .taken) (c .before .before .before .before .before .before .before .before .before .before .before .before .before .before .args .turned)) (c .before .before .before .before .before .before .before .before .before .before .before .before .before .before .args .room .now) (ap (outside 4 (c .before .before .before .before .before .before .before .before .before .before .before .before .before .before .args .f .«most_faces»)) (sym (w .count-is)) ∙ sym (c .before .before .before .before .before .before .before .is-outside .ensures) ∙ (c .before .before .before .before .before .before .if1 .left)) (w .fit) (rw hb at (c .before .before .before .before .if2 .left)) in
     (ap (λ (t : ℕ). Bytes (bytesFor t)) hb ∙ r .0, (c .before .before .put-list .ensures) ∙ r .1)
 
 pub write-spec : {M : Type 1} → statement M

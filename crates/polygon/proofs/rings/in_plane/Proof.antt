@@ -9,7 +9,7 @@ use Rattle.lists.proofs.Search.{Left, all-search, search-end}
 use Rattle.lists.proofs.Sides.{ring-hit, ring-miss}
 use Rattle.lists.specs.Lists.{all}
 use Rattle.paper.specs.Points.{isZero, origin}
-use Rattle.paper.specs.Polygon.{Polygon, onePlane, side}
+use Rattle.paper.specs.Polygon.{Polygon, onePlane, planeSide}
 use Rattle.paper.specs.declared.Point.{Point}
 use Rattle.polygon.specs.Rings.{cornerOf, ring}
 use Rattle.polygon.proofs.Planes.{face-normal, side-is}
@@ -21,7 +21,7 @@ use Rattle.polygon.proofs.rings.in_plane.Tie as tie
 
 -- p is in the plane of g
 abbrev Level : Polygon → Point → Bool
-Level g p = isZero (side g p)
+Level g p = isZero (planeSide g p)
 
 abbrev Inv-loop : tie.InvT-loop
 Inv-loop xyz table g m h n o j₀ j = (j ≤ n) × (n ≡ length (ring xyz table h)) × Left (all (Level (ring xyz table g))) (ring xyz table h) j
@@ -39,7 +39,7 @@ here : (c : tie.After-is-zero Inv-loop μ-loop) {b : Bool} → not (c .is-zero .
     → not (Level (G (c .before .before .before .before .before .before .before .before)) (cornerOf (H (c .before .before .before .before .before .before .before .before)) (c .before .before .before .before .loop .j))) ≡ b
 here c e =
     let s = c .before .before .before .before .before .before .before .before in
-    let p = reads-back (c .before .side .result) (c .before .side .ok) ∙ c .before .side .ensures ∙ side-is (s .pre .0) (c .before .before .before .before .before .corner .ensures) (c .before .before .corner2 .result) ∙ ap (side (G s)) (c .before .before .corner2 .ensures) in
+    let p = reads-back (c .before .plane-side .result) (c .before .plane-side .ok) ∙ c .before .plane-side .ensures ∙ side-is (s .pre .0) (c .before .before .before .before .before .corner .ensures) (c .before .before .corner2 .result) ∙ ap (planeSide (G s)) (c .before .before .corner2 .ensures) in
     ap not (sym (c .is-zero .ensures ∙ ap isZero p)) ∙ e
 
 count-requires : tie.Need-count-requires Inv-loop μ-loop
@@ -54,8 +54,8 @@ loop-holds c = (omega arith, c .before .count .ensures ∙ sym (ring-length (c .
 corner-requires-2 : tie.Need-corner-requires-2 Inv-loop μ-loop
 corner-requires-2 c κs = (c .before .before .before .before .before .pre .1, omega arith)
 
-side-requires : tie.Need-side-requires Inv-loop μ-loop
-side-requires c κs =
+plane-side-requires : tie.Need-plane-side-requires Inv-loop μ-loop
+plane-side-requires c κs =
     let s = c .before .before .before .before .before .before in
     (face-normal (s .pre .0), small-eq (c .before .before .before .corner .ensures) (corner-small (s .pre .0 .row) 0), small-eq (c .corner2 .ensures) (corner-small (s .pre .1) _))
 
@@ -98,7 +98,7 @@ in-plane-spec =
     corner-requires
     loop-holds
     corner-requires-2
-    side-requires
+    plane-side-requires
     is-zero-requires
     returns
     add-j

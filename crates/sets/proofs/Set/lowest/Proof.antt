@@ -1,11 +1,20 @@
 -- `sets::Set::lowest` meets its contract. Assumes nothing.
 use native.Mathlib.Omega.{arith}
+use lib.Count.{trailingZeros}
+use Rattle.sets.specs.Sets.{room, Lowest}
 use Rattle.sets.proofs.Sets.{lowest-is}
 use Rattle.sets.proofs.Set.lowest.Statement.{statement}
 use Rattle.sets.proofs.Set.lowest.Tie as tie
 
+-- the lowest is below 64, so it fits any integer type
+known : (c : tie.After-struct-known) → Lowest (c .before .args .self) (trailingZeros room (c .before .args .self .word))
+known c = lowest-is (omega arith) (c .before .pre)
+
+cast-result : tie.Need-cast-result
+cast-result c = let low = known c in omega (arith, low)
+
 returns : tie.Need-returns
-returns c = lowest-is (omega arith) (c .before .pre)
+returns c = known c
 
 pub lowest-spec : {M : Type 1} → statement M
-lowest-spec = tie.close (tie.spec returns)
+lowest-spec = tie.close (tie.spec cast-result returns)

@@ -8,16 +8,16 @@ use lib.IntN.{pos}
 use mir.Syntax.{w64}
 use mir.Val.{toZ, ofZ}
 use mir.ValLaws.{toZ-ofZ}
-use Rattle.pack.specs.Bits.{bits, run, over}
+use Rattle.pack.specs.Bits.{bits, run, overwrite}
 use Rattle.pack.proofs.Laws.{length-run}
-use Rattle.pack.proofs.Over.{over-none, put-next, run-none}
+use Rattle.pack.proofs.Overwrite.{overwrite-none, put-next, run-none}
 use Rattle.paper.specs.Format.{onSheet}
 use native.Mathlib.Omega.{arith}
 use Rattle.sheet_writer.proofs.write.put_coordinates.Statement.{statement}
 use Rattle.sheet_writer.proofs.write.put_coordinates.Tie as tie
 
 abbrev Inv-loop : tie.InvT-loop
-Inv-loop xyz room₀ i k₀ room k = (k ≤ length xyz) × (run 8 room ≡ over (run 8 room₀) i (run 11 (take k (map onSheet xyz)))) × (length room ≡ length room₀)
+Inv-loop xyz room₀ i k₀ room k = (k ≤ length xyz) × (run 8 room ≡ overwrite (run 8 room₀) i (run 11 (take k (map onSheet xyz)))) × (length room ≡ length room₀)
 
 abbrev μ-loop : tie.MeasureT-loop
 μ-loop xyz room₀ i k₀ room k = length xyz - k
@@ -27,7 +27,7 @@ same : (c : tie.After-to-field-arg Inv-loop μ-loop) → toZ w64 (ofZ w64 (getD 
 same c = toZ-ofZ w64 (getD (c .before .before .before .before .before .args .xyz .now) (c .before .before .before .loop .k) (pos 0)) (record { sfits = c .to-field-arg .given })
 
 loop-holds : tie.Need-loop-holds Inv-loop μ-loop
-loop-holds c = (omega arith, over-none (run 8 (c .before .args .room .now)) (c .before .args .i) ∙ ap (over (run 8 (c .before .args .room .now)) (c .before .args .i)) (sym (run-none 11)), refl)
+loop-holds c = (omega arith, overwrite-none (run 8 (c .before .args .room .now)) (c .before .args .i) ∙ ap (overwrite (run 8 (c .before .args .room .now)) (c .before .args .i)) (sym (run-none 11)), refl)
 
 mul-put : tie.Need-mul-put Inv-loop μ-loop
 mul-put c = omega arith
@@ -64,7 +64,7 @@ loop-again c =
     let e : (c .before .before .before .to-field .result) ≡ getD vs (l .k) (onSheet (pos 0)) = (c .before .before .before .to-field .ensures) ∙ ap onSheet (same (c .before .before .before .before)) ∙ sym (List·getD-map onSheet (a .xyz .now) (l .k) (pos 0)) in (
       omega arith,
       (c .before .before .put .ensures)
-          ∙ ap₂ (λ (t : List ℕ) (v : ℕ). over t (a .i + 11 * l .k) (bits 11 v)) (l .inv .1) e
+          ∙ ap₂ (λ (t : List ℕ) (v : ℕ). overwrite t (a .i + 11 * l .k) (bits 11 v)) (l .inv .1) e
           ∙ put-next d (a .i) 11 vs (l .k) (onSheet (pos 0)) h n,
       (c .before .before .put .kept .0) ∙ l .inv .2,
     )
@@ -75,7 +75,7 @@ same-length c = (c .before .loop .inv .2)
 returns : tie.Need-returns Inv-loop μ-loop
 returns c =
     let h : length (map onSheet (c .before .before .before .args .xyz .now)) ≤ (c .before .loop .k) = rw length-map (omega arith) in
-    (c .before .loop .inv .1) ∙ ap (λ (t : List ℕ). over (run 8 (c .before .before .before .args .room .now)) (c .before .before .before .args .i) (run 11 t)) (take-all (c .before .loop .k) (map onSheet (c .before .before .before .args .xyz .now)) h)
+    (c .before .loop .inv .1) ∙ ap (λ (t : List ℕ). overwrite (run 8 (c .before .before .before .args .room .now)) (c .before .before .before .args .i) (run 11 t)) (take-all (c .before .loop .k) (map onSheet (c .before .before .before .args .xyz .now)) h)
 
 pub put-coordinates-spec : {M : Type 1} → statement M
 put-coordinates-spec =

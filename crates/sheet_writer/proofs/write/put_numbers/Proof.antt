@@ -4,21 +4,21 @@ use mathlib.Core.List.{List}
 use Prim.Native.Nat.{ℕ, _≤_, _-_, _*_, _+_}
 use lib.ListN.{length, getD, take}
 use lib.Seq.{take-all}
-use Rattle.pack.specs.Bits.{bits, run, over}
+use Rattle.pack.specs.Bits.{bits, run, overwrite}
 use Rattle.pack.proofs.Laws.{slot, length-run}
-use Rattle.pack.proofs.Over.{over-none, put-next, run-none}
+use Rattle.pack.proofs.Overwrite.{overwrite-none, put-next, run-none}
 use native.Mathlib.Omega.{arith}
 use Rattle.sheet_writer.proofs.write.put_numbers.Statement.{statement}
 use Rattle.sheet_writer.proofs.write.put_numbers.Tie as tie
 
 abbrev Inv-loop : tie.InvT-loop
-Inv-loop list room₀ i w k₀ room k = (k ≤ length list) × (run 8 room ≡ over (run 8 room₀) i (run w (take k list))) × (length room ≡ length room₀)
+Inv-loop list room₀ i w k₀ room k = (k ≤ length list) × (run 8 room ≡ overwrite (run 8 room₀) i (run w (take k list))) × (length room ≡ length room₀)
 
 abbrev μ-loop : tie.MeasureT-loop
 μ-loop list room₀ i w k₀ room k = length list - k
 
 loop-holds : tie.Need-loop-holds Inv-loop μ-loop
-loop-holds c = (omega arith, over-none (run 8 (c .before .before .args .room .now)) (c .before .before .args .i) ∙ ap (over (run 8 (c .before .before .args .room .now)) (c .before .before .args .i)) (sym (run-none (c .before .before .args .w))), refl)
+loop-holds c = (omega arith, overwrite-none (run 8 (c .before .before .args .room .now)) (c .before .before .args .i) ∙ ap (overwrite (run 8 (c .before .before .args .room .now)) (c .before .before .args .i)) (sym (run-none (c .before .before .args .w))), refl)
 
 mul-put : tie.Need-mul-put Inv-loop μ-loop
 mul-put c = omega (arith, slot (c .before .before .before .before .before .args .w) (c .before .before .loop .k) (length (c .before .before .before .before .before .args .list .now)) (omega arith))
@@ -48,7 +48,7 @@ loop-again c =
     let h : a .i ≤ length (run 8 (a .room .now)) = rw length-run (omega arith) in (
       omega arith,
       (c .before .before .put .ensures)
-          ∙ ap (λ (t : List ℕ). over t (a .i + a .w * l .k) (bits (a .w) (getD (a .list .now) (l .k) 0))) (l .inv .1)
+          ∙ ap (λ (t : List ℕ). overwrite t (a .i + a .w * l .k) (bits (a .w) (getD (a .list .now) (l .k) 0))) (l .inv .1)
           ∙ put-next (run 8 (a .room .now)) (a .i) (a .w) (a .list .now) (l .k) 0 h (omega arith),
       (c .before .before .put .kept .0) ∙ l .inv .2,
     )
@@ -57,7 +57,7 @@ same-length : tie.Need-same-length Inv-loop μ-loop
 same-length c = (c .before .loop .inv .2)
 
 returns : tie.Need-returns Inv-loop μ-loop
-returns c = (c .before .loop .inv .1) ∙ ap (λ (t : List ℕ). over (run 8 (c .before .before .before .before .args .room .now)) (c .before .before .before .before .args .i) (run (c .before .before .before .before .args .w) t)) (take-all (c .before .loop .k) (c .before .before .before .before .args .list .now) (omega arith))
+returns c = (c .before .loop .inv .1) ∙ ap (λ (t : List ℕ). overwrite (run 8 (c .before .before .before .before .args .room .now)) (c .before .before .before .before .args .i) (run (c .before .before .before .before .args .w) t)) (take-all (c .before .loop .k) (c .before .before .before .before .args .list .now) (omega arith))
 
 pub put-numbers-spec : {M : Type 1} → statement M
 put-numbers-spec =

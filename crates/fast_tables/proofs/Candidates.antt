@@ -14,35 +14,35 @@ use Rattle.lists.proofs.Passing.{any-yes, any-is, all-yes, all-is, some-yes, so
 use Rattle.sets.specs.Word.{dig, count, less}
 use Rattle.sets.proofs.Digits.{dig-less, count-none, count-empty}
 use Rattle.paper.specs.Points.{isZero}
-use Rattle.paper.specs.Polygon.{side, covers}
+use Rattle.paper.specs.Polygon.{planeSide, covers}
 use Rattle.paper.specs.Drawing.{Wire, Edge, edge, at, edgeAt}
 use Rattle.paper.specs.Loops.{Loop, polygon, loopAt, coversOther, uncovering}
 use Rattle.paper.specs.Solids.{has}
 use Rattle.fast_tables.specs.Paths.{Path}
-use Rattle.fast_tables.specs.Hits.{cornerRow, sideRow}
+use Rattle.fast_tables.specs.Hits.{cornerMask, sideMask}
 use Rattle.fast_tables.specs.Covers.{middleOutside, inPlaneOf}
-use Rattle.fast_tables.specs.Asked.{Found, planeRow, levelWith, coversFound}
+use Rattle.fast_tables.specs.Asked.{Answers, planeMask, levelWith, coversByAnswers}
 use Rattle.fast_tables.proofs.Rounds.{equal-both}
 use Rattle.fast_tables.proofs.Counts.{map-yes}
 use Rattle.fast_tables.proofs.Covers.{own-middle, covers-edges}
 use Rattle.fast_tables.proofs.Asked.{Right, leaves, searched-is}
 
 module _ (d : Wire) where
-  -- ---- the plane as a row
+  -- ---- the plane as a mask
   pub level-with : (l k : Loop) → inPlaneOf d l k ≡ levelWith d l k
-  unfolding inPlaneOf levelWith cornerRow planeRow
+  unfolding inPlaneOf levelWith cornerMask planeMask
   level-with l k = equal-both forth back
     where
       n : ℕ
       n = length (d .vertices)
 
       flat : ℕ → Bool
-      flat v = isZero (side (polygon d l) (at d v))
+      flat v = isZero (planeSide (polygon d l) (at d v))
 
-      row : List Bool
-      row = less (map (λ v. member v k) (upto n)) (map flat (upto n))
+      mask : List Bool
+      mask = less (map (λ v. member v k) (upto n)) (map flat (upto n))
 
-      at-row : (v : ℕ) → v < n → dig row v ≡ (member v k && not (flat v))
+      at-row : (v : ℕ) → v < n → dig mask v ≡ (member v k && not (flat v))
       at-row v h = dig-less (map (λ v. member v k) (upto n)) (map flat (upto n)) v
           ∙ (λ i. made-at (λ v. member v k) n v false h i && not (made-at flat n v false h i))
 
@@ -56,10 +56,10 @@ module _ (d : Wire) where
       given true false f = absurd (f refl)
       given false c f = refl
 
-      forth : all (λ v. not (member v k) || flat v) (upto n) ≡ true → eqb (count row) 0 ≡ true
-      forth e = eq-eqb (count row) 0 (count-empty row none)
+      forth : all (λ v. not (member v k) || flat v) (upto n) ≡ true → eqb (count mask) 0 ≡ true
+      forth e = eq-eqb (count mask) 0 (count-empty mask none)
         where
-          none : (v : ℕ) → dig row v ≡ true → ⊥
+          none : (v : ℕ) → dig mask v ≡ true → ⊥
           none v t =
               let s = and-left (dig (map (λ v. member v k) (upto n)) v) (not (dig (map flat (upto n)) v)) (sym (dig-less (map (λ v. member v k) (upto n)) (map flat (upto n)) v) ∙ t) in
               let r = map-yes (λ v. member v k) 0 (upto n) v s in
@@ -67,17 +67,17 @@ module _ (d : Wire) where
               let h : v < n = omega (arith, q, upto-length n) in
               clear (member v k) (flat v) (ap (λ (w : ℕ). not (member w k) || flat w) (sym (upto-at n v h)) ∙ all-yes (λ v. not (member v k) || flat v) 0 (upto n) e v q) (sym (at-row v h) ∙ t)
 
-      back : eqb (count row) 0 ≡ true → all (λ v. not (member v k) || flat v) (upto n) ≡ true
+      back : eqb (count mask) 0 ≡ true → all (λ v. not (member v k) || flat v) (upto n) ≡ true
       back e = all-is (λ v. not (member v k) || flat v) 0 (upto n) (λ i h. each i (omega (arith, h, upto-length n)))
         where
           each : (i : ℕ) → i < n → (not (member (getD (upto n) i 0) k) || flat (getD (upto n) i 0)) ≡ true
           each i h =
               ap (λ (w : ℕ). not (member w k) || flat w) (upto-at n i h)
-              ∙ given (member i k) (flat i) (λ t. count-none row (eqb-true (count row) 0 e) i (at-row i h ∙ t))
+              ∙ given (member i k) (flat i) (λ t. count-none mask (eqb-true (count mask) 0 e) i (at-row i h ∙ t))
 
-  -- ---- the edges of a loop as a row
-  edges-row : (l k : Loop) → any (λ e. has e k && middleOutside d l e) (d .edges) ≡ leaves (length (d .edges)) (λ e. middleOutside d l (edgeAt d e)) (sideRow d k)
-  unfolding sideRow edgeAt
+  -- ---- the edges of a loop as a mask
+  edges-row : (l k : Loop) → any (λ e. has e k && middleOutside d l e) (d .edges) ≡ leaves (length (d .edges)) (λ e. middleOutside d l (edgeAt d e)) (sideMask d k)
+  unfolding sideMask edgeAt
   edges-row l k = equal-both forth back
     where
       m : ℕ
@@ -101,11 +101,11 @@ module _ (d : Wire) where
           (ap (λ (b : Bool). b && middleOutside d l (here e)) (sym (map-at (λ e. has e k) (d .edges) e (edge 0 0) false (r .1))) ∙ r .2)
 
   module _ (ls : List Loop) (path : (j : ℕ) → j < length ls → Path d (loopAt ls j)) where
-    pub covers-found : (i : ℕ) → coversOther d ls i ≡ coversFound d ls i
-    unfolding coversOther coversFound sideRow edgeAt
+    pub covers-found : (i : ℕ) → coversOther d ls i ≡ coversByAnswers d ls i
+    unfolding coversOther coversByAnswers sideMask edgeAt
     covers-found i =
-        any-below-same (λ j. not (eqb i j) && covers (polygon d l) (polygon d (loopAt ls j))) (length ls) (λ j. fits j && not (leaves m out (rows j))) each
-        ∙ sym (searched-is m out fits rows (λ j e t. map-yes (λ e. has e (loopAt ls j)) (edge 0 0) (d .edges) e t .0) (upto (length ls)) start right)
+        any-below-same (λ j. not (eqb i j) && covers (polygon d l) (polygon d (loopAt ls j))) (length ls) (λ j. fits j && not (leaves m out (masks j))) each
+        ∙ sym (searched-is m out fits masks (λ j e t. map-yes (λ e. has e (loopAt ls j)) (edge 0 0) (d .edges) e t .0) (upto (length ls)) start right)
       where
         l : Loop
         l = loopAt ls i
@@ -119,11 +119,11 @@ module _ (d : Wire) where
         fits : ℕ → Bool
         fits j = not (eqb i j) && levelWith d l (loopAt ls j)
 
-        rows : ℕ → List Bool
-        rows j = sideRow d (loopAt ls j)
+        masks : ℕ → List Bool
+        masks j = sideMask d (loopAt ls j)
 
-        start : Found
-        start = record { held = sideRow d l; outside = [] }
+        start : Answers
+        start = record { held = sideMask d l; outside = [] }
 
         right : Right out start
         right = record {
@@ -135,12 +135,12 @@ module _ (d : Wire) where
         assoc true b c = refl
         assoc false b c = refl
 
-        each : (j : ℕ) → j < length ls → (not (eqb i j) && covers (polygon d l) (polygon d (loopAt ls j))) ≡ (fits j && not (leaves m out (rows j)))
+        each : (j : ℕ) → j < length ls → (not (eqb i j) && covers (polygon d l) (polygon d (loopAt ls j))) ≡ (fits j && not (leaves m out (masks j)))
         each j h =
             let k = loopAt ls j in
-            let p : covers (polygon d l) (polygon d k) ≡ (levelWith d l k && not (leaves m out (rows j)))
+            let p : covers (polygon d l) (polygon d k) ≡ (levelWith d l k && not (leaves m out (masks j)))
             = covers-edges d l k (path j h) ∙ ap₂ (λ (a b : Bool). a && not b) (level-with l k) (edges-row l k) in
-            ap (λ (b : Bool). not (eqb i j) && b) p ∙ assoc (not (eqb i j)) (levelWith d l k) (not (leaves m out (rows j)))
+            ap (λ (b : Bool). not (eqb i j) && b) p ∙ assoc (not (eqb i j)) (levelWith d l k) (not (leaves m out (masks j)))
 
     -- the loops that are kept
     filter-same : (p q : ℕ → Bool) → ((i : ℕ) → p i ≡ q i) → (xs : List ℕ) → filter p xs ≡ filter q xs
@@ -148,6 +148,6 @@ module _ (d : Wire) where
     filter-same p q h [] = refl
     filter-same p q h (x ∷ xs) = ap₂ (λ (b : Bool) (ys : List ℕ). keep b x ys) (h x) (filter-same p q h xs)
 
-    pub uncovering-found : uncovering d ls ≡ map (loopAt ls) (filter (λ i. not (coversFound d ls i)) (upto (length ls)))
+    pub uncovering-found : uncovering d ls ≡ map (loopAt ls) (filter (λ i. not (coversByAnswers d ls i)) (upto (length ls)))
     unfolding uncovering
-    uncovering-found = ap (map (loopAt ls)) (filter-same (λ i. not (coversOther d ls i)) (λ i. not (coversFound d ls i)) (λ i. ap not (covers-found i)) (upto (length ls)))
+    uncovering-found = ap (map (loopAt ls)) (filter-same (λ i. not (coversOther d ls i)) (λ i. not (coversByAnswers d ls i)) (λ i. ap not (covers-found i)) (upto (length ls)))

@@ -8,18 +8,18 @@ use native.Mathlib.Omega.{arith}
 use lib.Pow.{pow-mono, pow-pos}
 use lib.ListN.{length, getD, take, drop, length-append, length-drop, take-append-drop, length-take}
 use lib.Seq.{take-nil, take-append-add, take-at, drop-at, drop-drop, length-take-le, take-all, drop-nil, take-suc}
-use Rattle.pack.specs.Bits.{bits, run, cut, over, Under}
+use Rattle.pack.specs.Bits.{bits, run, cut, overwrite, Under}
 use Rattle.pack.proofs.Laws.{length-bits, length-run, length-cut, cut-run, run-cut, val-lt, under-take, under-drop, under-append, run-append}
 
-pub over-none : (d : List ℕ) (i : ℕ) → d ≡ over d i []
-unfolding over
-over-none d i = sym (rw (append-nil, add-zero) (take-append-drop i d))
+pub overwrite-none : (d : List ℕ) (i : ℕ) → d ≡ overwrite d i []
+unfolding overwrite
+overwrite-none d i = sym (rw (append-nil, add-zero) (take-append-drop i d))
 
 -- a second stretch right behind the first
-over-over : (d : List ℕ) (i : ℕ) (bs : List ℕ) (j : ℕ) (cs : List ℕ) → i ≤ length d → j ≡ i + length bs
-    → over (over d i bs) j cs ≡ over d i (bs ++ cs)
-unfolding over
-over-over d i bs j cs h e =
+overwrite-over : (d : List ℕ) (i : ℕ) (bs : List ℕ) (j : ℕ) (cs : List ℕ) → i ≤ length d → j ≡ i + length bs
+    → overwrite (overwrite d i bs) j cs ≡ overwrite d i (bs ++ cs)
+unfolding overwrite
+overwrite-over d i bs j cs h e =
     let p : List ℕ = take i d ++ bs in
     let x : List ℕ = p ++ drop (i + length bs) d in
     let l : length p ≡ i + length bs = length-append (take i d) bs ∙ ap (λ (k : ℕ). k + length bs) (length-take-le i d h) in
@@ -32,22 +32,22 @@ over-over d i bs j cs h e =
     rw (e, t, r) (ap (λ (q : List ℕ). q ++ drop (i + length (bs ++ cs)) d) (append-assoc (take i d) bs cs))
 
 -- the same of lists that are known to be such
-pub over-next : (d : List ℕ) (i : ℕ) (bs : List ℕ) (j : ℕ) (cs r s : List ℕ) → i ≤ length d → j ≡ i + length bs
-    → r ≡ over d i bs → s ≡ over r j cs → s ≡ over d i (bs ++ cs)
-over-next d i bs j cs r s h e p q = q ∙ ap (λ (t : List ℕ). over t j cs) p ∙ over-over d i bs j cs h e
+pub overwrite-next : (d : List ℕ) (i : ℕ) (bs : List ℕ) (j : ℕ) (cs r s : List ℕ) → i ≤ length d → j ≡ i + length bs
+    → r ≡ overwrite d i bs → s ≡ overwrite r j cs → s ≡ overwrite d i (bs ++ cs)
+overwrite-next d i bs j cs r s h e p q = q ∙ ap (λ (t : List ℕ). overwrite t j cs) p ∙ overwrite-over d i bs j cs h e
 
 -- a stretch as long as what stands there
-pub over-at : (a b c d : List ℕ) (i : ℕ) → length a ≡ i → length b ≡ length c → over (a ++ (b ++ d)) i c ≡ a ++ (c ++ d)
-unfolding over
-over-at a b c d i l m =
+pub overwrite-at : (a b c d : List ℕ) (i : ℕ) → length a ≡ i → length b ≡ length c → overwrite (a ++ (b ++ d)) i c ≡ a ++ (c ++ d)
+unfolding overwrite
+overwrite-at a b c d i l m =
     let t : take i (a ++ (b ++ d)) ≡ a = take-at a (b ++ d) i l in
     let r : drop (i + length c) (a ++ (b ++ d)) ≡ d =
     sym (drop-drop (length c) i (a ++ (b ++ d))) ∙ ap (drop (length c)) (drop-at a (b ++ d) i l) ∙ drop-at b d (length c) m in
     rw (t, r) (append-assoc a c d)
 
-over-start : (d bs : List ℕ) → over d 0 bs ≡ bs ++ drop (length bs) d
-unfolding over
-over-start d bs = rw zero-add refl
+overwrite-start : (d bs : List ℕ) → overwrite d 0 bs ≡ bs ++ drop (length bs) d
+unfolding overwrite
+overwrite-start d bs = rw zero-add refl
 
 pub run-none : (w : ℕ) → run w [] ≡ []
 unfolding run
@@ -91,9 +91,9 @@ under-cut w (suc n) bs u zero =
 under-cut w (suc n) bs u (suc i) = under-cut w n (drop w bs) (under-drop 2 w bs u) i
 
 -- numbers of w bits whose bits are those of whole numbers, bs, and then what d had are these numbers and then what d had
-pub over-numbers : (w n : ℕ) (bs d e : List ℕ) → Under 2 bs → length bs ≡ n * w → length e ≡ length d → n ≤ length d
-    → Under (2 ^ w) d → Under (2 ^ w) e → run w e ≡ over (run w d) 0 bs → e ≡ cut w n bs ++ drop n d
-over-numbers w n bs d e u l m h hd he q =
+pub overwrite-numbers : (w n : ℕ) (bs d e : List ℕ) → Under 2 bs → length bs ≡ n * w → length e ≡ length d → n ≤ length d
+    → Under (2 ^ w) d → Under (2 ^ w) e → run w e ≡ overwrite (run w d) 0 bs → e ≡ cut w n bs ++ drop n d
+overwrite-numbers w n bs d e u l m h hd he q =
     let k : length (cut w n bs ++ drop n d) ≡ length d =
     length-append (cut w n bs) (drop n d) ∙ omega (arith, length-cut w n bs, length-drop n d) in
     let c : run w (cut w n bs) ≡ bs = run-cut w n bs u (omega arith) ∙ take-all (n * w) bs (omega arith) in
@@ -101,13 +101,13 @@ over-numbers w n bs d e u l m h hd he q =
     run-append w (cut w n bs) (drop n d) ∙ ap₂ (λ (x y : List ℕ). x ++ y) c (run-drop w n d) in
     run-inj w e (cut w n bs ++ drop n d) (m ∙ sym k) he
     (under-append (2 ^ w) (cut w n bs) (drop n d) (under-cut w n bs u) (under-drop (2 ^ w) n d hd))
-    (q ∙ over-start (run w d) bs ∙ ap (λ (j : ℕ). bs ++ drop j (run w d)) l ∙ sym r)
+    (q ∙ overwrite-start (run w d) bs ∙ ap (λ (j : ℕ). bs ++ drop j (run w d)) l ∙ sym r)
 
 -- number k of vs written behind the numbers before it
 pub put-next : (d : List ℕ) (i w : ℕ) (vs : List ℕ) (k z : ℕ) → i ≤ length d → k < length vs
-    → over (over d i (run w (take k vs))) (i + w * k) (bits w (getD vs k z)) ≡ over d i (run w (take (k + 1) vs))
+    → overwrite (overwrite d i (run w (take k vs))) (i + w * k) (bits w (getD vs k z)) ≡ overwrite d i (run w (take (k + 1) vs))
 put-next d i w vs k z h l =
     let e : i + w * k ≡ i + length (run w (take k vs)) =
     omega (arith, length-run w (take k vs), ap (λ (n : ℕ). n * w) (length-take-le k vs (omega arith)), mul-comm w k) in
-    over-over d i (run w (take k vs)) (i + w * k) (bits w (getD vs k z)) h e
-    ∙ ap (over d i) (sym (run-snoc w (take k vs) (getD vs k z)) ∙ ap (run w) (sym (rw add-one (take-suc vs k z l))))
+    overwrite-over d i (run w (take k vs)) (i + w * k) (bits w (getD vs k z)) h e
+    ∙ ap (overwrite d i) (sym (run-snoc w (take k vs) (getD vs k z)) ∙ ap (run w) (sym (rw add-one (take-suc vs k z l))))
