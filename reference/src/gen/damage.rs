@@ -80,7 +80,10 @@ pub fn damaged_drawing(r: &mut Rng, base: &Drawing, number: u32) -> Drawing {
         EDGE_MEETS => d = meeting(r, d),
         APART => d = apart(r, d),
         MANY_LOOPS => d = with_many_loops(r),
-        _ if r.chance(30) => d = r.pick(&[|| exact_count(10, false), || exact_count(8, true)])(),
+        _ if r.chance(30) => {
+            let (points, one_more) = r.pick(&[(10, false), (8, true)]);
+            d = exact_count(points, one_more)
+        }
         _ => {
             let count = r.count(9, 10);
             d = complete(&places(r, count, 900));
@@ -131,7 +134,7 @@ fn meeting(r: &mut Rng, mut d: Drawing) -> Drawing {
 
 /// Another body beside the drawing.
 fn apart(r: &mut Rng, mut d: Drawing) -> Drawing {
-    let other = r.pick(&[tetrahedron, cube])();
+    let other = r.pick::<fn() -> Drawing>(&[tetrahedron, cube])();
     let (count, beside) = (d.vertices.len(), d.vertices.iter().map(|p| p[0]).max().unwrap_or(0) + 1);
     d.vertices.extend(other.vertices.iter().map(|p| add(*p, [beside, 0, 0])));
     d.edges.extend(other.edges.iter().map(|(a, b)| (a + count, b + count)));

@@ -8,7 +8,8 @@ use super::rng::Rng;
 use crate::drawing::Drawing;
 
 pub fn named(r: &mut Rng) -> Drawing {
-    r.pick(&[tetrahedron, cube, octahedron, nested_cubes, triangle_with_centre, two_tetrahedra, notched_pentagon])()
+    let all = [tetrahedron, cube, octahedron, nested_cubes, triangle_with_centre, two_tetrahedra, notched_pentagon];
+    r.pick::<fn() -> Drawing>(&all)()
 }
 
 pub fn one_edge_short(r: &mut Rng) -> Drawing {
