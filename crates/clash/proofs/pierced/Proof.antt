@@ -91,9 +91,10 @@ lies-inside-requires c κs =
 
 returns-2 : tie.Need-returns-2
 returns-2 c =
+    let p = c .before .before .before .before .before in
     let s = c .before .before .before .before .before .before .before in
     c .lies-inside .ensures ∙ (λ i. isInside (lies (over (above-line (c .before) i) (below-line (c .before .before) i)) (G s)))
-    ∙ answer s (sides-are (c .before .before .before .before .before) (not-false (c .before .before .before .before .before .opposite .result) (c .before .before .before .before .if1 .left)))
+    ∙ answer s (sides-are (p) (not-false (p .opposite .result) (c .before .before .before .before .if1 .left)))
 
 pub pierced-spec : {M : Type 1} → statement M
 pierced-spec =

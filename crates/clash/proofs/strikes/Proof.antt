@@ -83,7 +83,9 @@ corner-requires : tie.Need-corner-requires Inv-loop μ-loop
 corner-requires c κs = (c .before .before .pre .1 .row, omega (arith, ring-least (c .before .before .pre .1 .row)))
 
 corner-requires-2 : tie.Need-corner-requires-2 Inv-loop μ-loop
-corner-requires-2 c κs = (c .before .before .before .pre .0, omega (arith, ring-least (c .before .before .before .pre .0)))
+corner-requires-2 c κs =
+    let p = c .before .before .before in
+    (p .pre .0, omega (arith, ring-least (p .pre .0)))
 
 plane-side-requires : tie.Need-plane-side-requires Inv-loop μ-loop
 plane-side-requires c κs =
@@ -100,7 +102,9 @@ add-corner : tie.Need-add-corner Inv-loop μ-loop
 add-corner c = omega arith
 
 corner-requires-3 : tie.Need-corner-requires-3 Inv-loop μ-loop
-corner-requires-3 c κs = (c .before .before .before .before .before .before .before .pre .0, omega (arith, ring-least (c .before .before .before .before .before .before .before .pre .0)))
+corner-requires-3 c κs =
+    let p = c .before .before .before .before .before .before .before in
+    (p .pre .0, omega (arith, ring-least (p .pre .0)))
 
 plane-side-requires-2 : tie.Need-plane-side-requires-2 Inv-loop μ-loop
 plane-side-requires-2 c κs =
@@ -109,12 +113,13 @@ plane-side-requires-2 c κs =
 
 pierced-requires : tie.Need-pierced-requires Inv-loop μ-loop
 pierced-requires c κs =
+    let p = c .before .before .before in
     let s = c .before .before .before .before .before .before .before .before .before in
     let near = corner-small (s .pre .0) in (
       s .pre .1,
-      small-eq (c .before .before .before .loop .inv .4) (near _),
+      small-eq (p .loop .inv .4) (near _),
       small-eq (c .before .corner3 .ensures) (near _),
-      handed mostPlaneSide (s-env (c .before .before .before)) (var 0) tt tt,
+      handed mostPlaneSide (s-env (p)) (var 0) tt tt,
       handed mostPlaneSide (t-env (c)) (var 0) tt tt,
     )
 
@@ -126,7 +131,9 @@ returns c =
     ap (λ (b : Bool). b || enters (F s) (G s)) (sym (side-hit anyTrue-search (Cut (G s)) (F s) (l .j) false origin (omega arith) (l .inv .2) (cut (c .before) (c .if1 .taken))))
 
 dips-requires : tie.Need-dips-requires Inv-loop μ-loop
-dips-requires c κs = (c .before .before .before .before .before .before .before .before .before .before .before .pre .1, small-eq (c .before .before .before .before .before .loop .inv .4) (corner-small (c .before .before .before .before .before .before .before .before .before .before .before .pre .0) _))
+dips-requires c κs =
+    let p = c .before .before .before .before .before .before .before .before .before .before .before in
+    (p .pre .1, small-eq (c .before .before .before .before .before .loop .inv .4) (corner-small (p .pre .0) _))
 
 returns-2 : tie.Need-returns-2 Inv-loop μ-loop
 unfolding enters

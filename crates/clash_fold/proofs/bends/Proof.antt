@@ -35,10 +35,11 @@ same-point-requires c κs = search needs
 returns-2 : tie.Need-returns-2
 unfolding bends
 returns-2 c =
+    let p = c .before .before .before in
     let s = c .before .before .before .before .before in
     let u = s .args .u in
     let v = s .args .v in
-    let b = sym (c .before .before .before .is-corner .ensures) ∙ not-false (c .before .before .before .is-corner .result) (c .before .before .if1 .left) in
+    let b = sym (p .is-corner .ensures) ∙ not-false (p .is-corner .result) (c .before .before .if1 .left) in
     let d = sym (c .before .same-point .ensures) ∙ c .if2 .taken in
     λ i. ((sym b i && not (sym d i)) && pointsIn (F s) u v) && pointsIn (G s) u v
 
@@ -48,10 +49,11 @@ points-in-requires c κs = search needs
 returns-3 : tie.Need-returns-3
 unfolding bends
 returns-3 c =
+    let p2 = c .before .before .before .before .before in
     let s = c .before .before .before .before .before .before .before in
     let u = s .args .u in
     let v = s .args .v in
-    let b = sym (c .before .before .before .before .before .is-corner .ensures) ∙ not-false (c .before .before .before .before .before .is-corner .result) (c .before .before .before .before .if1 .left) in
+    let b = sym (p2 .is-corner .ensures) ∙ not-false (p2 .is-corner .result) (c .before .before .before .before .if1 .left) in
     let d = sym (c .before .before .before .same-point .ensures) ∙ c .before .before .if2 .left in
     let p = sym (c .before .points-in .ensures) ∙ not-true (c .before .points-in .result) (c .if3 .taken) in
     λ i. ((sym b i && not (sym d i)) && sym p i) && pointsIn (G s) u v
@@ -62,10 +64,11 @@ points-in-requires-2 c κs = search needs
 returns-4 : tie.Need-returns-4
 unfolding bends
 returns-4 c =
+    let p2 = c .before .before .before .before .before .before in
     let s = c .before .before .before .before .before .before .before .before in
     let u = s .args .u in
     let v = s .args .v in
-    let b = sym (c .before .before .before .before .before .before .is-corner .ensures) ∙ not-false (c .before .before .before .before .before .before .is-corner .result) (c .before .before .before .before .before .if1 .left) in
+    let b = sym (p2 .is-corner .ensures) ∙ not-false (p2 .is-corner .result) (c .before .before .before .before .before .if1 .left) in
     let d = sym (c .before .before .before .before .same-point .ensures) ∙ c .before .before .before .if2 .left in
     let p = sym (c .before .before .points-in .ensures) ∙ not-false (c .before .before .points-in .result) (c .before .if3 .left) in
     c .points-in2 .ensures ∙ (λ i. ((sym b i && not (sym d i)) && sym p i) && pointsIn (G s) u v)

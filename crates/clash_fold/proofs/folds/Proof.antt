@@ -73,9 +73,10 @@ folds-at-requires c κs =
 
 returns-2 : tie.Need-returns-2 Inv-loop μ-loop
 returns-2 c =
+    let p = c .before .before .before .before in
     let s = c .before .before .before .before .before .before .before .before .before in
-    let l = c .before .before .before .before .loop in
-    sym (ring-hit (any-search (Fold (F s) (G s))) (F s) (l .j) origin (omega arith) (l .inv .2) (here (c .before) (c .if2 .taken))) ∙ answer (c .before .before .before .before)
+    let l = p .loop in
+    sym (ring-hit (any-search (Fold (F s) (G s))) (F s) (l .j) origin (omega arith) (l .inv .2) (here (c .before) (c .if2 .taken))) ∙ answer (p)
 
 add-j : tie.Need-add-j Inv-loop μ-loop
 add-j c = omega arith

@@ -43,8 +43,9 @@ here c e = ap (Bend (c .before .before .before .before .before .before .before .
 answer : (c : tie.At-loop Inv-loop μ-loop)
     → any (Bend (c .before .before .before .before .before)) (F (c .before .before .before .before .before)) ≡ (isCorner (G (c .before .before .before .before .before)) (c .before .before .before .before .before .args .u) && any (Bend (c .before .before .before .before .before)) (F (c .before .before .before .before .before)))
 answer c =
+    let p = c .before .before .before in
     let s = c .before .before .before .before .before in
-    ap (λ (b : Bool). b && any (Bend s) (F s)) (sym (not-false (c .before .before .before .is-corner .result) (c .before .before .if1 .left)) ∙ c .before .before .before .is-corner .ensures)
+    ap (λ (b : Bool). b && any (Bend s) (F s)) (sym (not-false (p .is-corner .result) (c .before .before .if1 .left)) ∙ p .is-corner .ensures)
 
 is-corner-requires : tie.Need-is-corner-requires Inv-loop μ-loop
 is-corner-requires c κs = (c .before .pre .1 .row, c .before .pre .2)
@@ -70,9 +71,10 @@ bends-requires c κs =
 
 returns-2 : tie.Need-returns-2 Inv-loop μ-loop
 returns-2 c =
+    let p = c .before .before .before .before in
     let s = c .before .before .before .before .before .before .before .before .before in
-    let l = c .before .before .before .before .loop in
-    sym (ring-hit (any-search (Bend s)) (F s) (l .j) origin (omega arith) (l .inv .2) (here (c .before) (c .if2 .taken))) ∙ answer (c .before .before .before .before)
+    let l = p .loop in
+    sym (ring-hit (any-search (Bend s)) (F s) (l .j) origin (omega arith) (l .inv .2) (here (c .before) (c .if2 .taken))) ∙ answer (p)
 
 add-j : tie.Need-add-j Inv-loop μ-loop
 add-j c = omega arith

@@ -41,12 +41,13 @@ angle-holds-requires c κs = search needs
 returns : tie.Need-returns
 unfolding inAngle above
 returns c =
+    let p = c .before .before .before in
     let s = c .before .before .before .before .before .before in
     let m = s .args .m in
     let w = s .args .w in
     let x = c .before .before .before .before .before .minus .ensures in
     let y = c .before .before .before .before .minus2 .ensures in
-    let convex = reads-back (c .before .before .before .det .result) (c .before .before .before .det .ok) ∙ c .before .before .before .det .ensures ∙ (λ i. det m (x i) (y i)) in
+    let convex = reads-back (p .det .result) (p .det .ok) ∙ p .det .ensures ∙ (λ i. det m (x i) (y i)) in
     let l = reads-back (c .before .before .det2 .result) (c .before .before .det2 .ok) ∙ c .before .before .det2 .ensures ∙ (λ i. det m (x i) w) in
     let r = reads-back (c .before .det3 .result) (c .before .det3 .ok) ∙ c .before .det3 .ensures ∙ (λ i. det m w (y i)) in
     c .angle-holds .ensures ∙ (λ i. angleHolds (ltZ (pos 0) (convex i)) (ltZ (pos 0) (l i)) (ltZ (pos 0) (r i)))

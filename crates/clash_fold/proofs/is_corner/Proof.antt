@@ -40,7 +40,9 @@ corner-requires : tie.Need-corner-requires Inv-loop μ-loop
 corner-requires c κs = (c .before .before .before .before .pre .0, omega arith)
 
 same-point-requires : tie.Need-same-point-requires Inv-loop μ-loop
-same-point-requires c κs = (c .before .before .before .before .before .pre .1, small-eq (c .corner .ensures) (corner-small (c .before .before .before .before .before .pre .0) _))
+same-point-requires c κs =
+    let p = c .before .before .before .before .before in
+    (p .pre .1, small-eq (c .corner .ensures) (corner-small (p .pre .0) _))
 
 returns : tie.Need-returns Inv-loop μ-loop
 unfolding isCorner

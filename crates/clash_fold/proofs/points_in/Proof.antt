@@ -43,10 +43,14 @@ minus-requires : tie.Need-minus-requires Inv-loop μ-loop
 minus-requires c κs = search needs
 
 corner-requires : tie.Need-corner-requires Inv-loop μ-loop
-corner-requires c κs = (c .before .before .before .pre .0 .row, omega (arith, ring-least (c .before .before .before .pre .0 .row)))
+corner-requires c κs =
+    let p = c .before .before .before in
+    (p .pre .0 .row, omega (arith, ring-least (p .pre .0 .row)))
 
 corner-requires-2 : tie.Need-corner-requires-2 Inv-loop μ-loop
-corner-requires-2 c κs = (c .before .before .before .before .pre .0 .row, omega (arith, ring-least (c .before .before .before .before .pre .0 .row)))
+corner-requires-2 c κs =
+    let p = c .before .before .before .before in
+    (p .pre .0 .row, omega (arith, ring-least (p .pre .0 .row)))
 
 loop-holds : tie.Need-loop-holds Inv-loop μ-loop
 loop-holds c = (omega arith, c .before .before .before .count .ensures ∙ sym (ring-length (c .before .before .before .before .before .pre .0 .row)), refl, c .before .corner .ensures, c .corner2 .ensures)
@@ -55,7 +59,9 @@ add-corner : tie.Need-add-corner Inv-loop μ-loop
 add-corner c = omega arith
 
 corner-requires-3 : tie.Need-corner-requires-3 Inv-loop μ-loop
-corner-requires-3 c κs = (c .before .before .before .before .before .before .before .pre .0 .row, omega (arith, ring-least (c .before .before .before .before .before .before .before .pre .0 .row)))
+corner-requires-3 c κs =
+    let p = c .before .before .before .before .before .before .before in
+    (p .pre .0 .row, omega (arith, ring-least (p .pre .0 .row)))
 
 turns-at-requires : tie.Need-turns-at-requires Inv-loop μ-loop
 turns-at-requires c κs =
@@ -73,11 +79,12 @@ turns-at-requires c κs =
 returns : tie.Need-returns Inv-loop μ-loop
 unfolding pointsIn
 returns c =
+    let p = c .before .before .before .before .before .before .before in
     let s = c .before .before .before .before .before .before .before .before .before .before in
     let l = c .before .before .before .before .loop in
     let two : 2 ≤ length (R s) = omega (arith, ring-least (s .pre .0 .row)) in
-    sym (turns-hit (s .args .m) (s .args .u) (c .before .before .before .before .before .before .before .minus .result) (R s) (l .j) two (omega arith) (l .inv .2) (here (c .before) (c .if1 .taken)))
-    ∙ (λ i. anyTrue (sides (turnsAt (s .pre .0 .across i) (s .args .u) (c .before .before .before .before .before .before .before .minus .ensures i)) (sides to (R s))))
+    sym (turns-hit (s .args .m) (s .args .u) (p .minus .result) (R s) (l .j) two (omega arith) (l .inv .2) (here (c .before) (c .if1 .taken)))
+    ∙ (λ i. anyTrue (sides (turnsAt (s .pre .0 .across i) (s .args .u) (p .minus .ensures i)) (sides to (R s))))
 
 add-j : tie.Need-add-j Inv-loop μ-loop
 add-j c = omega arith
@@ -101,10 +108,11 @@ loop-again c =
 returns-2 : tie.Need-returns-2 Inv-loop μ-loop
 unfolding pointsIn
 returns-2 c =
+    let p = c .before .before .before .before in
     let s = c .before .before .before .before .before .before .before in
     let l = c .before .loop in
-    sym (turns-end (s .args .m) (s .args .u) (c .before .before .before .before .minus .result) (R s) (l .j) (omega arith) (l .inv .2))
-    ∙ (λ i. anyTrue (sides (turnsAt (s .pre .0 .across i) (s .args .u) (c .before .before .before .before .minus .ensures i)) (sides to (R s))))
+    sym (turns-end (s .args .m) (s .args .u) (p .minus .result) (R s) (l .j) (omega arith) (l .inv .2))
+    ∙ (λ i. anyTrue (sides (turnsAt (s .pre .0 .across i) (s .args .u) (p .minus .ensures i)) (sides to (R s))))
 
 pub points-in-spec : {M : Type 1} → statement M
 points-in-spec =

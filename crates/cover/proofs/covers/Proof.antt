@@ -53,8 +53,9 @@ here c {b} e =
 answer : (c : tie.At-loop Inv-loop μ-loop) → all (In (G (c .before .before .before .before .before .before))) (sides midpoint (H (c .before .before .before .before .before .before))) ≡ covers (G (c .before .before .before .before .before .before)) (H (c .before .before .before .before .before .before))
 unfolding covers
 answer c =
+    let p = c .before .before .before .before in
     let s = c .before .before .before .before .before .before in
-    ap (λ (b : Bool). b && all (In (G s)) (sides midpoint (H s))) (sym (not-false (c .before .before .before .before .in-plane .result) (c .before .before .before .if1 .left)) ∙ c .before .before .before .before .in-plane .ensures)
+    ap (λ (b : Bool). b && all (In (G s)) (sides midpoint (H s))) (sym (not-false (p .in-plane .result) (c .before .before .before .if1 .left)) ∙ p .in-plane .ensures)
 
 in-plane-requires : tie.Need-in-plane-requires Inv-loop μ-loop
 in-plane-requires c κs = search needs
@@ -69,7 +70,9 @@ count-requires : tie.Need-count-requires Inv-loop μ-loop
 count-requires c κs = c .before .before .before .pre .1 .room
 
 corner-requires : tie.Need-corner-requires Inv-loop μ-loop
-corner-requires c κs = (c .before .before .before .before .pre .1, omega (arith, ring-least (c .before .before .before .before .pre .1)))
+corner-requires c κs =
+    let p = c .before .before .before .before in
+    (p .pre .1, omega (arith, ring-least (p .pre .1)))
 
 loop-holds : tie.Need-loop-holds Inv-loop μ-loop
 loop-holds c = (omega arith, c .before .count .ensures ∙ sym (ring-length (c .before .before .before .before .before .pre .1)), refl, c .corner .ensures)
@@ -78,7 +81,9 @@ add-corner : tie.Need-add-corner Inv-loop μ-loop
 add-corner c = omega arith
 
 corner-requires-2 : tie.Need-corner-requires-2 Inv-loop μ-loop
-corner-requires-2 c κs = (c .before .before .before .before .before .before .before .pre .1, omega (arith, ring-least (c .before .before .before .before .before .before .before .pre .1)))
+corner-requires-2 c κs =
+    let p = c .before .before .before .before .before .before .before in
+    (p .pre .1, omega (arith, ring-least (p .pre .1)))
 
 plus-requires : tie.Need-plus-requires Inv-loop μ-loop
 plus-requires c κs =
@@ -97,10 +102,11 @@ enum-told c = search needs
 returns-2 : tie.Need-returns-2 Inv-loop μ-loop
 unfolding isOutside
 returns-2 c =
+    let p = c .before .before .before .before .before .before in
     let s = c .before .before .before .before .before .before .before .before .before .before .before .before in
-    let l = c .before .before .before .before .before .before .loop in
+    let l = p .loop in
     sym (side-hit (all-search (In (G s))) midpoint (H s) (l .j) (exactly origin) origin (omega arith) (l .inv .2) (here (c .before .before) (ap isOutside (c .enum-told .given .1))))
-    ∙ answer (c .before .before .before .before .before .before)
+    ∙ answer (p)
 
 add-j : tie.Need-add-j Inv-loop μ-loop
 add-j c = omega arith

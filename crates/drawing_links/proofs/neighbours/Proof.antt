@@ -47,7 +47,9 @@ mul-wide : tie.Need-mul-wide Inv-loop μ-loop
 mul-wide c = omega arith
 
 shared-slice-read-wide : tie.Need-shared-slice-read-wide Inv-loop μ-loop
-shared-slice-read-wide c = omega (arith, edge-count (c .before .before .before .before .pre .1), c .before .before .before .before .pre .1 .whole)
+shared-slice-read-wide c =
+    let p = c .before .before .before .before in
+    omega (arith, edge-count (p .pre .1), p .pre .1 .whole)
 
 wide-requires : tie.Need-wide-requires Inv-loop μ-loop
 wide-requires c κs = search needs
@@ -59,7 +61,9 @@ add-wide : tie.Need-add-wide Inv-loop μ-loop
 add-wide c = omega arith
 
 shared-slice-read-wide-2 : tie.Need-shared-slice-read-wide-2 Inv-loop μ-loop
-shared-slice-read-wide-2 c = omega (arith, edge-count (c .before .before .before .before .before .before .pre .1), c .before .before .before .before .before .before .pre .1 .whole)
+shared-slice-read-wide-2 c =
+    let p = c .before .before .before .before .before .before in
+    omega (arith, edge-count (p .pre .1), p .pre .1 .whole)
 
 wide-requires-2 : tie.Need-wide-requires-2 Inv-loop μ-loop
 wide-requires-2 c κs = search needs
@@ -102,9 +106,10 @@ loop-less c = omega arith
 
 loop-again : tie.Need-loop-again Inv-loop μ-loop
 loop-again c =
-    let p = c .before .before .before .before .before .before .before .pre .1 in
+    let p2 = c .before .before .before .before .before .before .before in
+    let p = p2 .pre .1 in
     let l = c .before .before .before .before .before .loop in
-    let es = edgesOf (now (c .before .before .before .before .before .before .before .args .ends)) in
+    let es = edgesOf (now (p2 .args .ends)) in
     let a = c .before .before .wide .result in
     let b = c .wide2 .result in
     let here : edge a b ≡ getD es (l .e) (edge 0 0) = (λ i. edge (c .before .before .wide .ensures i) (c .wide2 .ensures i)) ∙ sym (edge-is p (l .e) (omega (arith, edge-count p))) in
@@ -118,9 +123,10 @@ loop-again c =
 
 returns : tie.Need-returns Inv-loop μ-loop
 returns c =
-    let p = c .before .before .before .pre .1 in
+    let p2 = c .before .before .before in
+    let p = p2 .pre .1 in
     let l = c .before .loop in
-    let es = edgesOf (now (c .before .before .before .args .ends)) in
+    let es = edgesOf (now (p2 .args .ends)) in
     let e : l .e ≡ length es = omega arith in
     words-are p (l .near) (l .inv .2) (λ u w. l .inv .3 u w ∙ ap (any (joins u w)) (ap (λ (n : ℕ). take n es) e ∙ take-length es))
 

@@ -60,7 +60,9 @@ is-edge-above-requires : tie.Need-is-edge-above-requires
 is-edge-above-requires c κs = search needs
 
 returns-2 : tie.Need-returns-2
-returns-2 c = ap not (c .is-edge-above .ensures) ∙ low-is (c .before .before .before .before .before .before .before .args .ends .now) (c .before .before .before .before .before .before .before .args .e) (c .before .before .before .before .before .if1 .left)
+returns-2 c =
+    let a = c .before .before .before .before .before .before .before .args in
+    ap not (c .is-edge-above .ensures) ∙ low-is (a .ends .now) (a .e) (c .before .before .before .before .before .if1 .left)
 
 pub is-low-spec : {M : Type 1} → statement M
 is-low-spec =

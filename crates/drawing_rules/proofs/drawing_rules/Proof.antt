@@ -84,7 +84,9 @@ enum-told-2 : tie.Need-enum-told-2
 enum-told-2 c = search needs
 
 neighbours-requires : tie.Need-neighbours-requires
-neighbours-requires c κs = (few (c .before .before .before .before), ends-in (c .before .before .before .before))
+neighbours-requires c κs =
+    let p = c .before .before .before .before in
+    (few (p), ends-in (p))
 
 loose-vertex-requires : tie.Need-loose-vertex-requires
 loose-vertex-requires c κs = search needs
@@ -101,7 +103,9 @@ enum-told-4 : tie.Need-enum-told-4
 enum-told-4 c = search needs
 
 edge-meets-requires : tie.Need-edge-meets-requires
-edge-meets-requires c κs = (points-in (c .before .before .before .before .before .before .before .before .before), ends-in (c .before .before .before .before .before .before .before .before .before))
+edge-meets-requires c κs =
+    let p = c .before .before .before .before .before .before .before .before .before in
+    (points-in (p), ends-in (p))
 
 enum-told-5 : tie.Need-enum-told-5
 enum-told-5 c = search needs

@@ -50,11 +50,13 @@ cuts-open-requires c κs = search needs
 
 returns-2 : tie.Need-returns-2
 returns-2 c =
+    let p2 = c .before .before .before .before .before .before .before in
+    let p3 = c .before .before .before .before in
     let n = c .before .before .before .before .before .before .before .before .before .args .n in
-    let t = reads-back (c .before .before .before .before .dot2 .result) (c .before .before .before .before .dot2 .ok) ∙ c .before .before .before .before .dot2 .ensures ∙ ap (λ (p : Point). dot p n) (c .before .before .before .before .before .cross .ensures) in
+    let t = reads-back (p3 .dot2 .result) (p3 .dot2 .ok) ∙ p3 .dot2 .ensures ∙ ap (λ (p : Point). dot p n) (c .before .before .before .before .before .cross .ensures) in
     let u = reads-back (c .before .before .dot3 .result) (c .before .before .dot3 .ok) ∙ c .before .before .dot3 .ensures ∙ ap (λ (p : Point). dot p n) (c .before .before .before .cross2 .ensures) in
     let m = reads-back (c .before .dot4 .result) (c .before .dot4 .ok) ∙ c .before .dot4 .ensures in
-    c .cuts-open .ensures ∙ (λ i. sym (plane (c .before .before .before .before .before .before .before) (not-false (c .before .before .before .before .before .before .before .is-zero .result) (c .before .before .before .before .before .before .if1 .left))) i && cutsOpen (t i) (u i) (m i))
+    c .cuts-open .ensures ∙ (λ i. sym (plane (p2) (not-false (p2 .is-zero .result) (c .before .before .before .before .before .before .if1 .left))) i && cutsOpen (t i) (u i) (m i))
 
 pub across-spec : {M : Type 1} → statement M
 across-spec =

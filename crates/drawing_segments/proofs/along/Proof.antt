@@ -38,11 +38,13 @@ overlap-requires c κs = search needs
 
 returns-2 : tie.Need-returns-2
 returns-2 c =
+    let p = c .before .before .before .before .before in
+    let p2 = c .before .before .before in
     let s = c .before .before .before .before .before .before .before .args in
-    let a = reads-back (c .before .before .before .dot .result) (c .before .before .before .dot .ok) ∙ c .before .before .before .dot .ensures in
+    let a = reads-back (p2 .dot .result) (p2 .dot .ok) ∙ p2 .dot .ensures in
     let b = reads-back (c .before .before .dot2 .result) (c .before .before .dot2 .ok) ∙ c .before .before .dot2 .ensures in
     let m = reads-back (c .before .dot3 .result) (c .before .dot3 .ok) ∙ c .before .dot3 .ensures in
-    c .overlap .ensures ∙ (λ i. sym (line (c .before .before .before .before .before) (not-false (c .before .before .before .before .before .is-origin .result) (c .before .before .before .before .if1 .left))) i && overlap (a i) (b i) (m i))
+    c .overlap .ensures ∙ (λ i. sym (line (p) (not-false (p .is-origin .result) (c .before .before .before .before .if1 .left))) i && overlap (a i) (b i) (m i))
 
 pub along-spec : {M : Type 1} → statement M
 along-spec =

@@ -48,8 +48,9 @@ dot-requires c κs =
 returns-2 : tie.Need-returns-2
 unfolding onOpen below
 returns-2 c =
+    let p = c .before .before .before in
     let z = reads-back (c .dot .result) (c .dot .ok) ∙ c .dot .ensures ∙ (λ i. dot (c .before .before .before .before .before .before .minus .ensures i) (c .before .minus3 .ensures i)) in
-    λ i. sym (line (c .before .before .before) (not-false (c .before .before .before .is-origin .result) (c .before .before .if1 .left))) i && ltZ (z i) (pos 0)
+    λ i. sym (line (p) (not-false (p .is-origin .result) (c .before .before .if1 .left))) i && ltZ (z i) (pos 0)
 
 pub on-open-spec : {M : Type 1} → statement M
 on-open-spec =

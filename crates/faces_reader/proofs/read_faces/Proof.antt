@@ -14,7 +14,9 @@ read-requires : tie.Need-read-requires
 read-requires c κs = rw (c .edition-one .ensures) one-brief
 
 returns : tie.Need-returns
-returns c = (c .read .ensures) ∙ ap (λ (f : Format). facesOf f (c .before .before .before .args .vertices) (c .before .before .before .args .list .now)) (c .before .edition-one .ensures)
+returns c =
+    let a = c .before .before .before .args in
+    (c .read .ensures) ∙ ap (λ (f : Format). facesOf f (a .vertices) (a .list .now)) (c .before .edition-one .ensures)
 
 pub read-faces-spec : {M : Type 1} → statement M
 read-faces-spec = tie.close (tie.spec edition-one-requires read-requires returns)

@@ -17,7 +17,10 @@ same-length : tie.Need-same-length
 same-length c = search needs
 
 returns : tie.Need-returns
-returns c = ((c .before .before .write .ensures) .0 ∙ ap (λ (f : Format). sentOf f (solidFaces (c .before .before .before .before .before .before .before .args .rows .now) (c .before .before .before .before .before .before .before .args .taken) (c .before .before .before .before .before .before .before .args .turned)) (c .before .before .before .before .before .before .before .args .room .now)) (c .before .before .before .before .edition-one .ensures), (c .before .before .write .ensures) .1 ∙ ap (λ (f : Format). sentRoom f (solidFaces (c .before .before .before .before .before .before .before .args .rows .now) (c .before .before .before .before .before .before .before .args .taken) (c .before .before .before .before .before .before .before .args .turned)) (c .before .before .before .before .before .before .before .args .room .now)) (c .before .before .before .before .edition-one .ensures))
+returns c =
+    let a = c .before .before .before .before .before .before .before .args in
+    let p = c .before .before .before .before in
+    ((c .before .before .write .ensures) .0 ∙ ap (λ (f : Format). sentOf f (solidFaces (a .rows .now) (a .taken) (a .turned)) (a .room .now)) (p .edition-one .ensures), (c .before .before .write .ensures) .1 ∙ ap (λ (f : Format). sentRoom f (solidFaces (a .rows .now) (a .taken) (a .turned)) (a .room .now)) (p .edition-one .ensures))
 
 pub write-faces-spec : {M : Type 1} → statement M
 write-faces-spec = tie.close (tie.spec edition-one-requires write-requires same-length returns)

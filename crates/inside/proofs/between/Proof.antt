@@ -39,9 +39,11 @@ spans-requires-2 c κs = search needs
 returns : tie.Need-returns
 unfolding between
 returns c =
+    let a = c .before .before .before .before .before .before .before .before .before .before .before .before .args in
+    let p2 = c .before .before .before .before .before .before .before in
     let s = env (c .before .before .before .before .before .before .before .before .before .before .before .before) in
-    let u = c .before .before .before .before .before .before .spans .ensures ∙ (λ i. spans (reads s (var 4 ⊗ var 0) tt i) (reads s (var 4 ⊗ var 2) tt i) (reads-back (c .before .before .before .before .before .before .before .before .before .before .before .before .args .p .u) (c .before .before .before .before .before .before .before .struct-told3 .given .0 .1) i)) in
-    let v = c .spans2 .ensures ∙ (λ i. spans (reads s (var 4 ⊗ var 1) tt i) (reads s (var 4 ⊗ var 3) tt i) (reads-back (c .before .before .before .before .before .before .before .before .before .before .before .before .args .p .v) (c .before .before .before .before .before .before .before .struct-told3 .given .1 .0 .1) i)) in
+    let u = c .before .before .before .before .before .before .spans .ensures ∙ (λ i. spans (reads s (var 4 ⊗ var 0) tt i) (reads s (var 4 ⊗ var 2) tt i) (reads-back (a .p .u) (p2 .struct-told3 .given .0 .1) i)) in
+    let v = c .spans2 .ensures ∙ (λ i. spans (reads s (var 4 ⊗ var 1) tt i) (reads s (var 4 ⊗ var 3) tt i) (reads-back (a .p .v) (p2 .struct-told3 .given .1 .0 .1) i)) in
     λ i. u i && v i
 
 pub between-spec : {M : Type 1} → statement M

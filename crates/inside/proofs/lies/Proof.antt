@@ -96,7 +96,9 @@ seen-requires : tie.Need-seen-requires Inv-loop μ-loop
 seen-requires c κs = search needs
 
 corner-requires : tie.Need-corner-requires Inv-loop μ-loop
-corner-requires c κs = (c .before .before .before .before .pre .0 .row, omega (arith, ring-least (c .before .before .before .before .pre .0 .row)))
+corner-requires c κs =
+    let p = c .before .before .before .before in
+    (p .pre .0 .row, omega (arith, ring-least (p .pre .0 .row)))
 
 seen-requires-2 : tie.Need-seen-requires-2 Inv-loop μ-loop
 seen-requires-2 c κs = search needs
@@ -111,7 +113,9 @@ add-corner : tie.Need-add-corner Inv-loop μ-loop
 add-corner c = omega arith
 
 corner-requires-2 : tie.Need-corner-requires-2 Inv-loop μ-loop
-corner-requires-2 c κs = (c .before .before .before .before .before .before .before .before .pre .0 .row, omega (arith, ring-least (c .before .before .before .before .before .before .before .before .pre .0 .row)))
+corner-requires-2 c κs =
+    let p = c .before .before .before .before .before .before .before .before in
+    (p .pre .0 .row, omega (arith, ring-least (p .pre .0 .row)))
 
 seen-requires-3 : tie.Need-seen-requires-3 Inv-loop μ-loop
 seen-requires-3 c κs = search needs
@@ -127,9 +131,10 @@ touches-requires c κs = (a-small (c .before .before .before .before), b-small (
 returns : tie.Need-returns Inv-loop μ-loop
 unfolding placed
 returns c =
+    let p = c .before .before .before .before .before .before in
     let s = c .before .before .before .before .before .before .before .before .before .before .before .before .before in
-    let l = c .before .before .before .before .before .before .loop in
-    found (c .before .before .before .before .before .before) (side-hit anyTrue-search (On (c .before .before .before .before .before .before .before .before .before .before .axis-of .result) (c .before .before .before .before .before .before .before .before .before .seen .result) (D s)) (R s) (l .j) false origin (omega arith) (l .inv .2) (touched (c .before) (c .if1 .taken))) refl
+    let l = p .loop in
+    found (p) (side-hit anyTrue-search (On (c .before .before .before .before .before .before .before .before .before .before .axis-of .result) (c .before .before .before .before .before .before .before .before .before .seen .result) (D s)) (R s) (l .j) false origin (omega arith) (l .inv .2) (touched (c .before) (c .if1 .taken))) refl
 
 under-requires : tie.Need-under-requires Inv-loop μ-loop
 under-requires c κs = (D-within (c .before .before .before .before .before .before .before .before .before .before .before .before .before), a-small (c .before .before .before .before .before .before))

@@ -12,7 +12,9 @@ mul-result c = asked (c .before .before .pre .0 ▸ c .before .before .pre .1 .v
 
 returns : tie.Need-returns
 unfolding under
-returns c = λ i. leZ (reads (c .before .before .before .before .pre .0 ▸ c .before .before .before .before .pre .1 .v-in ▸ done) (var 0 ⊗ var 1) tt i) (reads-back (c .before .before .before .before .args .p .v) (c .struct-told2 .given .1 .0 .1) i)
+returns c =
+    let p2 = c .before .before .before .before in
+    λ i. leZ (reads (p2 .pre .0 ▸ p2 .pre .1 .v-in ▸ done) (var 0 ⊗ var 1) tt i) (reads-back (p2 .args .p .v) (c .struct-told2 .given .1 .0 .1) i)
 
 pub under-spec : {M : Type 1} → statement M
 under-spec = tie.close (tie.spec mul-result returns)

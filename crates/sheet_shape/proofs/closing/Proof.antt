@@ -28,24 +28,36 @@ unfolding closeChecks
 returns c = (c .refused .ensures) ∙ holds _ _ _ (ap not (ne-eqb _ _ (λ q. (c .before .if1 .taken) (q ∙ ap (λ (n : ℕ). (n + 7) / 8) (sym (c .before .before .total-bits .ensures))))))
 
 mul-field : tie.Need-mul-field
-mul-field c = omega (arith, (c .if1 .left), (c .before .total-bits .ensures), total-small (c .before .before .before .args .f) ((c .before .before .before .pre .0)) (c .before .before .before .args .v) (c .before .before .before .args .e) ((c .before .before .before .pre .1)) ((c .before .before .before .pre .2)))
+mul-field c =
+    let a = c .before .before .before .args in
+    let p = c .before .before .before in
+    omega (arith, (c .if1 .left), (c .before .total-bits .ensures), total-small (a .f) (p .pre .0) (a .v) (a .e) (p .pre .1) (p .pre .2))
 
 sub-field : tie.Need-sub-field
 sub-field c = search needs
 
 field-requires : tie.Need-field-requires
-field-requires c κs = omega (arith, (c .if1 .left), (c .before .total-bits .ensures), total-small (c .before .before .before .args .f) ((c .before .before .before .pre .0)) (c .before .before .before .args .v) (c .before .before .before .args .e) ((c .before .before .before .pre .1)) ((c .before .before .before .pre .2)))
+field-requires c κs =
+    let a = c .before .before .before .args in
+    let p = c .before .before .before in
+    omega (arith, (c .if1 .left), (c .before .total-bits .ensures), total-small (a .f) (p .pre .0) (a .v) (a .e) (p .pre .1) (p .pre .2))
 
 refused-requires-2 : tie.Need-refused-requires-2
 refused-requires-2 c κs = search needs
 
 returns-2 : tie.Need-returns-2
 unfolding closeChecks fillAfter
-returns-2 c = (c .refused2 .ensures) ∙ holds _ _ _ (ap not (ne-eqb _ _ (λ q. (c .before .if2 .taken) ((c .before .before .field .ensures) ∙ ap (λ (n : ℕ). fieldAt (c .before .before .before .before .before .before .args .s .now) n (length (c .before .before .before .before .before .before .args .s .now) * 8 - n)) (c .before .before .before .before .total-bits .ensures) ∙ q)))) ∙ fails _ _ _ (ap not (eq-eqb _ _ ((c .before .before .before .if1 .left) ∙ ap (λ (n : ℕ). (n + 7) / 8) (c .before .before .before .before .total-bits .ensures))))
+returns-2 c =
+    let a = c .before .before .before .before .before .before .args in
+    let p = c .before .before .before .before in
+    (c .refused2 .ensures) ∙ holds _ _ _ (ap not (ne-eqb _ _ (λ q. (c .before .if2 .taken) ((c .before .before .field .ensures) ∙ ap (λ (n : ℕ). fieldAt (a .s .now) n (length (a .s .now) * 8 - n)) (p .total-bits .ensures) ∙ q)))) ∙ fails _ _ _ (ap not (eq-eqb _ _ ((c .before .before .before .if1 .left) ∙ ap (λ (n : ℕ). (n + 7) / 8) (p .total-bits .ensures))))
 
 returns-3 : tie.Need-returns-3
 unfolding closeChecks fillAfter
-returns-3 c = clear ∙ fails _ _ _ (ap not (eq-eqb _ _ (ap (λ (n : ℕ). fieldAt (c .before .before .before .before .before .args .s .now) n (length (c .before .before .before .before .before .args .s .now) * 8 - n)) (sym (c .before .before .before .total-bits .ensures)) ∙ sym (c .before .field .ensures) ∙ (c .if2 .left)))) ∙ fails _ _ _ (ap not (eq-eqb _ _ ((c .before .before .if1 .left) ∙ ap (λ (n : ℕ). (n + 7) / 8) (c .before .before .before .total-bits .ensures))))
+returns-3 c =
+    let a = c .before .before .before .before .before .args in
+    let p = c .before .before .before in
+    clear ∙ fails _ _ _ (ap not (eq-eqb _ _ (ap (λ (n : ℕ). fieldAt (a .s .now) n (length (a .s .now) * 8 - n)) (sym (p .total-bits .ensures)) ∙ sym (c .before .field .ensures) ∙ (c .if2 .left)))) ∙ fails _ _ _ (ap not (eq-eqb _ _ ((c .before .before .if1 .left) ∙ ap (λ (n : ℕ). (n + 7) / 8) (p .total-bits .ensures))))
 
 pub closing-spec : {M : Type 1} → statement M
 closing-spec =

@@ -21,10 +21,16 @@ mul-result-2 : tie.Need-mul-result-2
 mul-result-2 c = search needs
 
 mul-result-3 : tie.Need-mul-result-3
-mul-result-3 c = omega (arith, numbers-small (c .before .before .before .args .f) ((c .before .before .before .pre .0)) (c .before .before .before .args .v) (c .before .before .before .args .e) ((c .before .before .before .pre .1)) ((c .before .before .before .pre .2)))
+mul-result-3 c =
+    let a = c .before .before .before .args in
+    let p = c .before .before .before in
+    omega (arith, numbers-small (a .f) (p .pre .0) (a .v) (a .e) (p .pre .1) (p .pre .2))
 
 add-result-4 : tie.Need-add-result-4
-add-result-4 c = omega (arith, (c .before .before .before .pre .0), numbers-small (c .before .before .before .args .f) ((c .before .before .before .pre .0)) (c .before .before .before .args .v) (c .before .before .before .args .e) ((c .before .before .before .pre .1)) ((c .before .before .before .pre .2)))
+add-result-4 c =
+    let a = c .before .before .before .args in
+    let p = c .before .before .before in
+    omega (arith, (p .pre .0), numbers-small (a .f) (p .pre .0) (a .v) (a .e) (p .pre .1) (p .pre .2))
 
 returns : tie.Need-returns
 returns c = search needs

@@ -17,7 +17,10 @@ same-length : tie.Need-same-length
 same-length c = search needs
 
 returns : tie.Need-returns
-returns c = ((c .before .before .write .ensures) .0 ∙ ap (λ (f : Format). writtenOf f (c .before .before .before .before .before .before .before .args .xyz .now) (c .before .before .before .before .before .before .before .args .ends .now) (c .before .before .before .before .before .before .before .args .room .now)) (c .before .before .before .before .edition-one .ensures), (c .before .before .write .ensures) .1 ∙ ap (λ (f : Format). roomOf f (c .before .before .before .before .before .before .before .args .xyz .now) (c .before .before .before .before .before .before .before .args .ends .now) (c .before .before .before .before .before .before .before .args .room .now)) (c .before .before .before .before .edition-one .ensures))
+returns c =
+    let a = c .before .before .before .before .before .before .before .args in
+    let p = c .before .before .before .before in
+    ((c .before .before .write .ensures) .0 ∙ ap (λ (f : Format). writtenOf f (a .xyz .now) (a .ends .now) (a .room .now)) (p .edition-one .ensures), (c .before .before .write .ensures) .1 ∙ ap (λ (f : Format). roomOf f (a .xyz .now) (a .ends .now) (a .room .now)) (p .edition-one .ensures))
 
 pub write-sheet-spec : {M : Type 1} → statement M
 write-sheet-spec = tie.close (tie.spec edition-one-requires write-requires same-length returns)

@@ -24,7 +24,9 @@ slice-aggregate-show-rules-2 : tie.Need-slice-aggregate-show-rules-2
 slice-aggregate-show-rules-2 c = sym (length-take-le _ _ ((c .before .before .before .before .before .before .before .pre) .ends-room))
 
 show-rules-requires : tie.Need-show-rules-requires
-show-rules-requires c κs = record { vertices = _; least = (c .before .before .before .before .before .before .before .pre) .least; most = (c .before .before .before .before .before .before .before .pre) .most; points = (c .before .before .before .before .before .before .before .pre) .points; links = (c .before .before .before .before .before .before .before .pre) .links }
+show-rules-requires c κs =
+    let p = c .before .before .before .before .before .before .before in
+    record { vertices = _; least = (p .pre) .least; most = (p .pre) .most; points = (p .pre) .points; links = (p .pre) .links }
 
 array-share-prefix-xyz-2 : tie.Need-array-share-prefix-xyz-2
 array-share-prefix-xyz-2 c = (c .before .before .before .before .before .before .before .before .pre) .xyz-room

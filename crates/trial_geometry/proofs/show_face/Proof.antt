@@ -17,7 +17,9 @@ loop-holds : tie.Need-loop-holds Inv-loop μ-loop
 loop-holds c = tt
 
 digit-requires : tie.Need-digit-requires Inv-loop μ-loop
-digit-requires c κs = (record { row = (c .before .before .before .before .pre) .0 _ ((c .before .before .before .before .pre) .1); across = (c .before .before .normal .ensures) }, (c .before .before .before .before .pre) .0 _ (c .loop-test .taken))
+digit-requires c κs =
+    let p = c .before .before .before .before in
+    (record { row = (p .pre) .0 _ ((p .pre) .1); across = (c .before .before .normal .ensures) }, (p .pre) .0 _ (c .loop-test .taken))
 
 say-number-requires : tie.Need-say-number-requires Inv-loop μ-loop
 say-number-requires c κs = omega arith

@@ -35,8 +35,9 @@ loop-holds c =
 
 meets-requires : tie.Need-meets-requires Inv-loop μ-loop
 meets-requires c κs =
-    let q = c .before .before .before .pre .1 in
-    (c .before .before .before .pre .0, q, omega (arith, edge-count q, q .whole))
+    let p = c .before .before .before in
+    let q = p .pre .1 in
+    (p .pre .0, q, omega (arith, edge-count q, q .whole))
 
 refused-requires : tie.Need-refused-requires Inv-loop μ-loop
 refused-requires c κs = search needs

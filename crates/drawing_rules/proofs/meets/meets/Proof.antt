@@ -51,8 +51,9 @@ end-at-requires-2 c κs = search needs
 
 meets-vertex-requires : tie.Need-meets-vertex-requires
 meets-vertex-requires c κs =
-    let near = vertex-small (c .before .before .before .pre .0) in
-    (c .before .before .before .pre .0, small-eq (c .before .end-at .ensures) (near _), small-eq (c .end-at2 .ensures) (near _))
+    let p = c .before .before .before in
+    let near = vertex-small (p .pre .0) in
+    (p .pre .0, small-eq (c .before .end-at .ensures) (near _), small-eq (c .end-at2 .ensures) (near _))
 
 returns : tie.Need-returns
 returns c =

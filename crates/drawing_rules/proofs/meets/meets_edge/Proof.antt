@@ -58,7 +58,9 @@ mul-end-at : tie.Need-mul-end-at Inv-loop μ-loop
 mul-end-at c = omega arith
 
 end-at-requires : tie.Need-end-at-requires Inv-loop μ-loop
-end-at-requires c κs = (c .before .before .before .before .pre .0, c .before .before .before .before .pre .1, omega arith)
+end-at-requires c κs =
+    let p = c .before .before .before .before in
+    (p .pre .0, p .pre .1, omega arith)
 
 mul-end-at-2 : tie.Need-mul-end-at-2 Inv-loop μ-loop
 mul-end-at-2 c = omega arith
@@ -67,7 +69,9 @@ add-end-at : tie.Need-add-end-at Inv-loop μ-loop
 add-end-at c = omega arith
 
 end-at-requires-2 : tie.Need-end-at-requires-2 Inv-loop μ-loop
-end-at-requires-2 c κs = (c .before .before .before .before .before .pre .0, c .before .before .before .before .before .pre .1, omega arith)
+end-at-requires-2 c κs =
+    let p = c .before .before .before .before .before in
+    (p .pre .0, p .pre .1, omega arith)
 
 open-meets-requires : tie.Need-open-meets-requires Inv-loop μ-loop
 open-meets-requires c κs =

@@ -41,8 +41,9 @@ other c e =
 
 missed : (c : tie.Joined1 Inv-loop μ-loop) → Here (c .before .before .before .before) (c .before .before .loop .w) ≡ false
 missed c =
+    let a = c .before .before .before .before .args in
     ⊎-elim (λ t. other (record { before = record { before = record { before = c .before; if1 = t .0 }; point-at2 = t .1 }; same-point = t .2 }) (t .3 .left))
-    (λ t. ap (λ (b : Bool). not b && samePoint (pointOf (now (c .before .before .before .before .args .xyz)) (c .before .before .before .before .args .u)) (pointOf (now (c .before .before .before .before .args .xyz)) (c .before .before .loop .w))) (eq-eqb (c .before .before .before .before .args .u) (c .before .before .loop .w) (sym (t .left))))
+    (λ t. ap (λ (b : Bool). not b && samePoint (pointOf (now (a .xyz)) (a .u)) (pointOf (now (a .xyz)) (c .before .before .loop .w))) (eq-eqb (a .u) (c .before .before .loop .w) (sym (t .left))))
     (c .if1 .came)
 
 point-at-requires : tie.Need-point-at-requires Inv-loop μ-loop

@@ -22,16 +22,28 @@ loop-holds : tie.Need-loop-holds Inv-loop μ-loop
 loop-holds c = (omega arith, refl)
 
 mul-field : tie.Need-mul-field Inv-loop μ-loop
-mul-field c = omega (arith, slot (c .before .before .before .args .w) (c .before .loop .k) (c .before .before .before .args .c) (omega arith), corners-small ((c .before .before .before .pre .0)) ((c .before .before .before .pre .1)))
+mul-field c =
+    let a = c .before .before .before .args in
+    let p = c .before .before .before in
+    omega (arith, slot (a .w) (c .before .loop .k) (a .c) (omega arith), corners-small (p .pre .0) (p .pre .1))
 
 add-field : tie.Need-add-field Inv-loop μ-loop
-add-field c = omega (arith, slot (c .before .before .before .args .w) (c .before .loop .k) (c .before .before .before .args .c) (omega arith), corners-small ((c .before .before .before .pre .0)) ((c .before .before .before .pre .1)))
+add-field c =
+    let a = c .before .before .before .args in
+    let p = c .before .before .before in
+    omega (arith, slot (a .w) (c .before .loop .k) (a .c) (omega arith), corners-small (p .pre .0) (p .pre .1))
 
 field-requires : tie.Need-field-requires Inv-loop μ-loop
-field-requires c κs = omega (arith, slot (c .before .before .before .args .w) (c .before .loop .k) (c .before .before .before .args .c) (omega arith), corners-small ((c .before .before .before .pre .0)) ((c .before .before .before .pre .1)))
+field-requires c κs =
+    let a = c .before .before .before .args in
+    let p = c .before .before .before in
+    omega (arith, slot (a .w) (c .before .loop .k) (a .c) (omega arith), corners-small (p .pre .0) (p .pre .1))
 
 returns : tie.Need-returns Inv-loop μ-loop
-returns c = high-hit (c .before .before .before .before .before .args .v) (fieldsAt (c .before .before .before .before .before .args .s .now) (c .before .before .before .before .before .args .i) (c .before .before .before .before .before .args .w) (c .before .before .before .before .before .args .c)) (c .before .before .before .loop .k) (omega (arith, length-fields (c .before .before .before .before .before .args .s .now) (c .before .before .before .before .before .args .i) (c .before .before .before .before .before .args .w) (c .before .before .before .before .before .args .c))) (c .before .before .before .loop .inv .1) (getD-fields (c .before .before .before .before .before .args .s .now) (c .before .before .before .before .before .args .i) (c .before .before .before .before .before .args .w) (c .before .before .before .before .before .args .c) (c .before .before .before .loop .k) (omega arith)) (rw (c .before .field .ensures) at (c .if1 .taken))
+returns c =
+    let a = c .before .before .before .before .before .args in
+    let l = c .before .before .before .loop in
+    high-hit (a .v) (fieldsAt (a .s .now) (a .i) (a .w) (a .c)) (l .k) (omega (arith, length-fields (a .s .now) (a .i) (a .w) (a .c))) (l .inv .1) (getD-fields (a .s .now) (a .i) (a .w) (a .c) (l .k) (omega arith)) (rw (c .before .field .ensures) at (c .if1 .taken))
 
 add-k : tie.Need-add-k Inv-loop μ-loop
 add-k c = omega arith
@@ -40,10 +52,15 @@ loop-less : tie.Need-loop-less Inv-loop μ-loop
 loop-less c = omega arith
 
 loop-again : tie.Need-loop-again Inv-loop μ-loop
-loop-again c = (omega arith, high-miss (c .before .before .before .before .before .args .v) (fieldsAt (c .before .before .before .before .before .args .s .now) (c .before .before .before .before .before .args .i) (c .before .before .before .before .before .args .w) (c .before .before .before .before .before .args .c)) (c .before .before .before .loop .k) (omega (arith, length-fields (c .before .before .before .before .before .args .s .now) (c .before .before .before .before .before .args .i) (c .before .before .before .before .before .args .w) (c .before .before .before .before .before .args .c))) (c .before .before .before .loop .inv .1) (getD-fields (c .before .before .before .before .before .args .s .now) (c .before .before .before .before .before .args .i) (c .before .before .before .before .before .args .w) (c .before .before .before .before .before .args .c) (c .before .before .before .loop .k) (omega arith)) (rw (c .before .field .ensures) at (c .if1 .left)))
+loop-again c =
+    let a = c .before .before .before .before .before .args in
+    let l = c .before .before .before .loop in
+    (omega arith, high-miss (a .v) (fieldsAt (a .s .now) (a .i) (a .w) (a .c)) (l .k) (omega (arith, length-fields (a .s .now) (a .i) (a .w) (a .c))) (l .inv .1) (getD-fields (a .s .now) (a .i) (a .w) (a .c) (l .k) (omega arith)) (rw (c .before .field .ensures) at (c .if1 .left)))
 
 returns-2 : tie.Need-returns-2 Inv-loop μ-loop
-returns-2 c = sym (search-end (all-search (λ (x : ℕ). ltb x (c .before .before .before .args .v))) (fieldsAt (c .before .before .before .args .s .now) (c .before .before .before .args .i) (c .before .before .before .args .w) (c .before .before .before .args .c)) (c .before .loop .k) (omega (arith, length-fields (c .before .before .before .args .s .now) (c .before .before .before .args .i) (c .before .before .before .args .w) (c .before .before .before .args .c))) (c .before .loop .inv .1))
+returns-2 c =
+    let a = c .before .before .before .args in
+    sym (search-end (all-search (λ (x : ℕ). ltb x (a .v))) (fieldsAt (a .s .now) (a .i) (a .w) (a .c)) (c .before .loop .k) (omega (arith, length-fields (a .s .now) (a .i) (a .w) (a .c))) (c .before .loop .inv .1))
 
 pub are-below-spec : {M : Type 1} → statement M
 are-below-spec =

@@ -28,25 +28,37 @@ sub-field : tie.Need-sub-field
 sub-field c = search needs
 
 mul-field : tie.Need-mul-field
-mul-field c = omega (arith, slot (c .before .before .before .args .w) ((c .before .before .before .args .j) - 1) (c .before .before .before .args .c) (omega arith), corners-small ((c .before .before .before .pre .0)) ((c .before .before .before .pre .1)))
+mul-field c =
+    let a = c .before .before .before .args in
+    let p = c .before .before .before in
+    omega (arith, slot (a .w) ((a .j) - 1) (a .c) (omega arith), corners-small (p .pre .0) (p .pre .1))
 
 add-field : tie.Need-add-field
-add-field c = omega (arith, slot (c .before .before .before .args .w) ((c .before .before .before .args .j) - 1) (c .before .before .before .args .c) (omega arith), corners-small ((c .before .before .before .pre .0)) ((c .before .before .before .pre .1)))
+add-field c =
+    let a = c .before .before .before .args in
+    let p = c .before .before .before in
+    omega (arith, slot (a .w) ((a .j) - 1) (a .c) (omega arith), corners-small (p .pre .0) (p .pre .1))
 
 field-requires : tie.Need-field-requires
-field-requires c κs = omega (arith, slot (c .before .before .before .args .w) ((c .before .before .before .args .j) - 1) (c .before .before .before .args .c) (omega arith), corners-small ((c .before .before .before .pre .0)) ((c .before .before .before .pre .1)))
+field-requires c κs =
+    let a = c .before .before .before .args in
+    let p = c .before .before .before in
+    omega (arith, slot (a .w) ((a .j) - 1) (a .c) (omega arith), corners-small (p .pre .0) (p .pre .1))
 
 cast-result-2 : tie.Need-cast-result-2
 cast-result-2 c = search needs
 
 returns-2 : tie.Need-returns-2
 returns-2 c =
-    let b : (c .field .result) < 256 = rw (c .field .ensures) (field-below 8 (c .before .before .before .before .args .s .now) ((c .before .before .before .before .args .i) + (c .before .before .before .before .args .w) * ((c .before .before .before .before .args .j) - 1)) (c .before .before .before .before .args .w) (omega arith)) in
-    mod-eq-of-lt b ∙ (c .field .ensures) ∙ sym (back (fieldsAt (c .before .before .before .before .args .s .now) (c .before .before .before .before .args .i) (c .before .before .before .before .args .w) (c .before .before .before .before .args .c)) (c .before .before .before .before .args .j) (c .before .before .if1 .left)
-    ∙ row-corner (fieldsAt (c .before .before .before .before .args .s .now) (c .before .before .before .before .args .i) (c .before .before .before .before .args .w) (c .before .before .before .before .args .c)) ((c .before .before .before .before .args .j) - 1) (omega (arith, length-fields (c .before .before .before .before .args .s .now) (c .before .before .before .before .args .i) (c .before .before .before .before .args .w) (c .before .before .before .before .args .c))) ∙ getD-fields (c .before .before .before .before .args .s .now) (c .before .before .before .before .args .i) (c .before .before .before .before .args .w) (c .before .before .before .before .args .c) ((c .before .before .before .before .args .j) - 1) (omega arith))
+    let a = c .before .before .before .before .args in
+    let b : (c .field .result) < 256 = rw (c .field .ensures) (field-below 8 (a .s .now) ((a .i) + (a .w) * ((a .j) - 1)) (a .w) (omega arith)) in
+    mod-eq-of-lt b ∙ (c .field .ensures) ∙ sym (back (fieldsAt (a .s .now) (a .i) (a .w) (a .c)) (a .j) (c .before .before .if1 .left)
+    ∙ row-corner (fieldsAt (a .s .now) (a .i) (a .w) (a .c)) ((a .j) - 1) (omega (arith, length-fields (a .s .now) (a .i) (a .w) (a .c))) ∙ getD-fields (a .s .now) (a .i) (a .w) (a .c) ((a .j) - 1) (omega arith))
 
 returns-3 : tie.Need-returns-3
-returns-3 c = sym (back (fieldsAt (c .before .before .before .args .s .now) (c .before .before .before .args .i) (c .before .before .before .args .w) (c .before .before .before .args .c)) (c .before .before .before .args .j) (c .before .if1 .left) ∙ row-fill (fieldsAt (c .before .before .before .args .s .now) (c .before .before .before .args .i) (c .before .before .before .args .w) (c .before .before .before .args .c)) ((c .before .before .before .args .j) - 1) (omega (arith, length-fields (c .before .before .before .args .s .now) (c .before .before .before .args .i) (c .before .before .before .args .w) (c .before .before .before .args .c))) (omega arith))
+returns-3 c =
+    let a = c .before .before .before .args in
+    sym (back (fieldsAt (a .s .now) (a .i) (a .w) (a .c)) (a .j) (c .before .if1 .left) ∙ row-fill (fieldsAt (a .s .now) (a .i) (a .w) (a .c)) ((a .j) - 1) (omega (arith, length-fields (a .s .now) (a .i) (a .w) (a .c))) (omega arith))
 
 pub cell-spec : {M : Type 1} → statement M
 cell-spec =

@@ -28,11 +28,15 @@ is-outside-requires c κs = search needs
 
 returns-3 : tie.Need-returns-3
 unfolding countOf
-returns-3 c = let o : outside 4 ((c .before .before .before .before .before .before .before .before .args .f .«most_faces»)) (countIn (c .before .before .before .before .before .before .before .before .args .f) (c .before .before .before .before .before .before .before .before .args .s .now)) ≡ true = sym (rw (c .before .before .field2 .ensures) at (c .before .is-outside .ensures)) ∙ (c .if3 .taken) in rw (le-leb 2 _ (c .before .before .before .before .before .before .if1 .left), eq-eqb _ _ (sym (c .before .before .before .before .before .field .ensures) ∙ (c .before .before .before .if2 .left)), o) refl
+returns-3 c =
+    let a = c .before .before .before .before .before .before .before .before .args in
+    let o : outside 4 ((a .f .«most_faces»)) (countIn (a .f) (a .s .now)) ≡ true = sym (rw (c .before .before .field2 .ensures) at (c .before .is-outside .ensures)) ∙ (c .if3 .taken) in rw (le-leb 2 _ (c .before .before .before .before .before .before .if1 .left), eq-eqb _ _ (sym (c .before .before .before .before .before .field .ensures) ∙ (c .before .before .before .if2 .left)), o) refl
 
 returns-4 : tie.Need-returns-4
 unfolding countOf
-returns-4 c = let o : outside 4 ((c .before .before .before .before .before .before .before .before .args .f .«most_faces»)) (countIn (c .before .before .before .before .before .before .before .before .args .f) (c .before .before .before .before .before .before .before .before .args .s .now)) ≡ false = sym (rw (c .before .before .field2 .ensures) at (c .before .is-outside .ensures)) ∙ (c .if3 .left) in rw (le-leb 2 _ (c .before .before .before .before .before .before .if1 .left), eq-eqb _ _ (sym (c .before .before .before .before .before .field .ensures) ∙ (c .before .before .before .if2 .left)), o, (c .before .before .field2 .ensures)) refl
+returns-4 c =
+    let a = c .before .before .before .before .before .before .before .before .args in
+    let o : outside 4 ((a .f .«most_faces»)) (countIn (a .f) (a .s .now)) ≡ false = sym (rw (c .before .before .field2 .ensures) at (c .before .is-outside .ensures)) ∙ (c .if3 .left) in rw (le-leb 2 _ (c .before .before .before .before .before .before .if1 .left), eq-eqb _ _ (sym (c .before .before .before .before .before .field .ensures) ∙ (c .before .before .before .if2 .left)), o, (c .before .before .field2 .ensures)) refl
 
 pub count-in-spec : {M : Type 1} → statement M
 count-in-spec =

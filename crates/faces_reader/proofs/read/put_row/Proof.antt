@@ -39,10 +39,11 @@ loop-less c = omega arith
 
 loop-again : tie.Need-loop-again Inv-loop μ-loop
 loop-again c =
-    let a = (c .before .before .before .before .before .args) in
+    let a2 = c .before .before .before .before .before .args in
+    let a = (a2) in
     let l = (c .before .before .loop) in
-    let q = row (fieldsAt (c .before .before .before .before .before .args .s .now) (c .before .before .before .before .before .args .i) (c .before .before .before .before .before .args .w) (c .before .before .before .before .before .args .c)) in
-    let n : length q ≡ 13 = row-length (fieldsAt (c .before .before .before .before .before .args .s .now) (c .before .before .before .before .before .args .i) (c .before .before .before .before .before .args .w) (c .before .before .before .before .before .args .c)) (omega (arith, length-fields (c .before .before .before .before .before .args .s .now) (c .before .before .before .before .before .args .i) (c .before .before .before .before .before .args .w) (c .before .before .before .before .before .args .c))) in (
+    let q = row (fieldsAt (a2 .s .now) (a2 .i) (a2 .w) (a2 .c)) in
+    let n : length q ≡ 13 = row-length (fieldsAt (a2 .s .now) (a2 .i) (a2 .w) (a2 .c)) (omega (arith, length-fields (a2 .s .now) (a2 .i) (a2 .w) (a2 .c))) in (
       omega arith,
       ap (λ (x : List ℕ). set x (a .at + l .j) (c .cell .result)) (l .inv .1)
           ∙ ap (λ (x : ℕ). set (paste (a .rows .now) (a .at) q (l .j)) (a .at + l .j) x) (c .cell .ensures)
@@ -56,8 +57,9 @@ same-length c = omega arith
 
 returns : tie.Need-returns Inv-loop μ-loop
 returns c =
+    let a = c .before .before .before .before .args in
     let e : (c .before .loop .j) ≡ 13 = omega arith in
-    subst (λ (n : ℕ). (c .before .loop .rows) ≡ paste (c .before .before .before .before .args .rows .now) (c .before .before .before .before .args .at) (row (fieldsAt (c .before .before .before .before .args .s .now) (c .before .before .before .before .args .i) (c .before .before .before .before .args .w) (c .before .before .before .before .args .c))) n) e (c .before .loop .inv .1)
+    subst (λ (n : ℕ). (c .before .loop .rows) ≡ paste (a .rows .now) (a .at) (row (fieldsAt (a .s .now) (a .i) (a .w) (a .c))) n) e (c .before .loop .inv .1)
 
 pub put-row-spec : {M : Type 1} → statement M
 put-row-spec =

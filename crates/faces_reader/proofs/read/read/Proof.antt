@@ -33,16 +33,23 @@ no-faces-requires : tie.Need-no-faces-requires Inv-loop μ-loop
 no-faces-requires c κs = search needs
 
 returns : tie.Need-returns Inv-loop μ-loop
-returns c = (c .no-faces .ensures) ∙ no-list (c .before .before .before .before .before .args .f) (c .before .before .before .before .before .args .v) (c .before .before .before .before .before .args .s .now) (c .before .before .before .before .before .pre) (sym (ap found ((c .before .enum-told .given) .1)) ∙ (c .before .before .before .count-in .ensures))
+returns c =
+    let a = c .before .before .before .before .before .args in
+    (c .no-faces .ensures) ∙ no-list (a .f) (a .v) (a .s .now) (c .before .before .before .before .before .pre) (sym (ap found ((c .before .enum-told .given) .1)) ∙ (c .before .before .before .count-in .ensures))
 
 add-at : tie.Need-add-at Inv-loop μ-loop
 add-at c = omega (arith, (c .before .before .before .before .before .before .pre))
 
 loop-holds : tie.Need-loop-holds Inv-loop μ-loop
-loop-holds c = ((sym (ap found ((c .before .before .counted .given) .1)) ∙ (c .before .before .before .before .count-in .ensures)), read-start (c .before .before .before .before .before .before .args .f) (c .before .before .before .before .before .before .args .v) (c .before .before .before .before .before .before .args .s .now) (c .before .before .before .before .before .before .pre), refl)
+loop-holds c =
+    let a = c .before .before .before .before .before .before .args in
+    ((sym (ap found ((c .before .before .counted .given) .1)) ∙ (c .before .before .before .before .count-in .ensures)), read-start (a .f) (a .v) (a .s .now) (c .before .before .before .before .before .before .pre), refl)
 
 face-at-requires : tie.Need-face-at-requires Inv-loop μ-loop
-face-at-requires c κs = ((c .before .before .before .before .before .before .before .before .pre), omega (arith, (c .before .loop .inv) .1 .small, (c .before .loop .inv) .1 .few, count-most (c .before .before .before .before .before .before .before .before .args .f) (c .before .before .before .before .before .before .before .before .args .s .now) ((c .before .loop .inv) .0), count-known (c .before .before .before .before .before .before .before .before .args .f) (c .before .before .before .before .before .before .before .before .args .s .now) ((c .before .loop .inv) .0), (c .before .before .before .before .before .before .before .before .pre)))
+face-at-requires c κs =
+    let a = c .before .before .before .before .before .before .before .before .args in
+    let p = c .before .before .before .before .before .before .before .before in
+    ((p .pre), omega (arith, (c .before .loop .inv) .1 .small, (c .before .loop .inv) .1 .few, count-most (a .f) (a .s .now) ((c .before .loop .inv) .0), count-known (a .f) (a .s .now) ((c .before .loop .inv) .0), (p .pre)))
 
 enum-known-face : tie.Need-enum-known-face Inv-loop μ-loop
 enum-known-face c = search needs
@@ -54,28 +61,49 @@ no-faces-requires-2 : tie.Need-no-faces-requires-2 Inv-loop μ-loop
 no-faces-requires-2 c κs = search needs
 
 returns-2 : tie.Need-returns-2 Inv-loop μ-loop
-returns-2 c = (c .no-faces2 .ensures) ∙ no-face (c .before .before .before .before .before .before .before .before .before .before .before .before .args .f) (c .before .before .before .before .before .before .before .before .before .before .before .before .args .v) (c .before .before .before .before .before .before .before .before .before .before .before .before .args .s .now) (c .before .before .before .before .before .loop .k) (c .before .before .before .before .before .loop .at) (c .before .before .before .before .before .loop .rows) (omega (arith, count-most (c .before .before .before .before .before .before .before .before .before .before .before .before .args .f) (c .before .before .before .before .before .before .before .before .before .before .before .before .args .s .now) ((c .before .before .before .before .before .loop .inv) .0), count-known (c .before .before .before .before .before .before .before .before .before .before .before .before .args .f) (c .before .before .before .before .before .before .before .before .before .before .before .before .args .s .now) ((c .before .before .before .before .before .loop .inv) .0), (c .before .before .before .before .before .before .before .before .before .before .before .before .pre), (c .before .before .before .before .loop-test .taken))) ((c .before .before .before .before .before .loop .inv) .1) (sym (ap found ((c .before .enum-told2 .given) .1)) ∙ (c .before .before .before .face-at .ensures))
+returns-2 c =
+    let a = c .before .before .before .before .before .before .before .before .before .before .before .before .args in
+    let l = c .before .before .before .before .before .loop in
+    (c .no-faces2 .ensures) ∙ no-face (a .f) (a .v) (a .s .now) (l .k) (l .at) (l .rows) (omega (arith, count-most (a .f) (a .s .now) ((l .inv) .0), count-known (a .f) (a .s .now) ((l .inv) .0), (c .before .before .before .before .before .before .before .before .before .before .before .before .pre), (c .before .before .before .before .loop-test .taken))) ((l .inv) .1) (sym (ap found ((c .before .enum-told2 .given) .1)) ∙ (c .before .before .before .face-at .ensures))
 
 add-put-row : tie.Need-add-put-row Inv-loop μ-loop
-add-put-row c = omega (arith, (c .before .before .before .before .before .loop .inv) .1 .small, (c .before .before .before .before .before .loop .inv) .1 .few, count-most (c .before .before .before .before .before .before .before .before .before .before .before .before .args .f) (c .before .before .before .before .before .before .before .before .before .before .before .before .args .s .now) ((c .before .before .before .before .before .loop .inv) .0), count-known (c .before .before .before .before .before .before .before .before .before .before .before .before .args .f) (c .before .before .before .before .before .before .before .before .before .before .before .before .args .s .now) ((c .before .before .before .before .before .loop .inv) .0), (c .before .before .before .before .before .before .before .before .before .before .before .before .pre))
+add-put-row c =
+    let a = c .before .before .before .before .before .before .before .before .before .before .before .before .args in
+    let l = c .before .before .before .before .before .loop in
+    omega (arith, (l .inv) .1 .small, (l .inv) .1 .few, count-most (a .f) (a .s .now) ((l .inv) .0), count-known (a .f) (a .s .now) ((l .inv) .0), (c .before .before .before .before .before .before .before .before .before .before .before .before .pre))
 
 slice-aggregate-put-row : tie.Need-slice-aggregate-put-row Inv-loop μ-loop
 slice-aggregate-put-row c = sym ((c .before .before .before .before .before .before .loop .inv) .2)
 
 mul-put-row : tie.Need-mul-put-row Inv-loop μ-loop
-mul-put-row c = omega (arith, (c .before .before .before .before .before .before .loop .inv) .1 .few, count-most (c .before .before .before .before .before .before .before .before .before .before .before .before .before .args .f) (c .before .before .before .before .before .before .before .before .before .before .before .before .before .args .s .now) ((c .before .before .before .before .before .before .loop .inv) .0), count-known (c .before .before .before .before .before .before .before .before .before .before .before .before .before .args .f) (c .before .before .before .before .before .before .before .before .before .before .before .before .before .args .s .now) ((c .before .before .before .before .before .before .loop .inv) .0), (c .before .before .before .before .before .before .before .before .before .before .before .before .before .pre))
+mul-put-row c =
+    let a = c .before .before .before .before .before .before .before .before .before .before .before .before .before .args in
+    let l = c .before .before .before .before .before .before .loop in
+    omega (arith, (l .inv) .1 .few, count-most (a .f) (a .s .now) ((l .inv) .0), count-known (a .f) (a .s .now) ((l .inv) .0), (c .before .before .before .before .before .before .before .before .before .before .before .before .before .pre))
 
 put-row-requires : tie.Need-put-row-requires Inv-loop μ-loop
-put-row-requires c κs = let x = (face-known (c .before .before .before .before .before .before .before .before .before .before .before .before .before .args .f) (c .before .before .before .before .before .before .before .before .before .before .before .before .before .args .v) (c .before .before .before .before .before .before .before .before .before .before .before .before .before .args .s .now) (c .before .before .before .before .before .before .loop .at) (sym (ap found ((c .before .before .face .given) .1)) ∙ (c .before .before .before .before .face-at .ensures))) in omega (arith, x .corners-most, x .inside, (c .before .before .before .before .before .before .loop .inv) .1 .small, (c .before .before .before .before .before .before .loop .inv) .1 .few, (c .before .before .before .before .before .before .loop .inv) .2, count-most (c .before .before .before .before .before .before .before .before .before .before .before .before .before .args .f) (c .before .before .before .before .before .before .before .before .before .before .before .before .before .args .s .now) ((c .before .before .before .before .before .before .loop .inv) .0), count-known (c .before .before .before .before .before .before .before .before .before .before .before .before .before .args .f) (c .before .before .before .before .before .before .before .before .before .before .before .before .before .args .s .now) ((c .before .before .before .before .before .before .loop .inv) .0), (c .before .before .before .before .before .before .before .before .before .before .before .before .before .pre), (c .before .before .before .before .before .loop-test .taken))
+put-row-requires c κs =
+    let a = c .before .before .before .before .before .before .before .before .before .before .before .before .before .args in
+    let l = c .before .before .before .before .before .before .loop in
+    let x = (face-known (a .f) (a .v) (a .s .now) (l .at) (sym (ap found ((c .before .before .face .given) .1)) ∙ (c .before .before .before .before .face-at .ensures))) in omega (arith, x .corners-most, x .inside, (l .inv) .1 .small, (l .inv) .1 .few, (l .inv) .2, count-most (a .f) (a .s .now) ((l .inv) .0), count-known (a .f) (a .s .now) ((l .inv) .0), (c .before .before .before .before .before .before .before .before .before .before .before .before .before .pre), (c .before .before .before .before .before .loop-test .taken))
 
 add-at-2 : tie.Need-add-at-2 Inv-loop μ-loop
-add-at-2 c = omega (arith, (c .before .before .before .before .before .before .before .before .loop .inv) .1 .small, (c .before .before .before .before .before .before .before .before .loop .inv) .1 .few, count-most (c .before .before .before .before .before .before .before .before .before .before .before .before .before .before .before .args .f) (c .before .before .before .before .before .before .before .before .before .before .before .before .before .before .before .args .s .now) ((c .before .before .before .before .before .before .before .before .loop .inv) .0), count-known (c .before .before .before .before .before .before .before .before .before .before .before .before .before .before .before .args .f) (c .before .before .before .before .before .before .before .before .before .before .before .before .before .before .before .args .s .now) ((c .before .before .before .before .before .before .before .before .loop .inv) .0), (c .before .before .before .before .before .before .before .before .before .before .before .before .before .before .before .pre))
+add-at-2 c =
+    let a = c .before .before .before .before .before .before .before .before .before .before .before .before .before .before .before .args in
+    let l = c .before .before .before .before .before .before .before .before .loop in
+    omega (arith, (l .inv) .1 .small, (l .inv) .1 .few, count-most (a .f) (a .s .now) ((l .inv) .0), count-known (a .f) (a .s .now) ((l .inv) .0), (c .before .before .before .before .before .before .before .before .before .before .before .before .before .before .before .pre))
 
 mul-at : tie.Need-mul-at Inv-loop μ-loop
-mul-at c = let x = (face-known (c .before .before .before .before .before .before .before .before .before .before .before .before .before .before .before .before .args .f) (c .before .before .before .before .before .before .before .before .before .before .before .before .before .before .before .before .args .v) (c .before .before .before .before .before .before .before .before .before .before .before .before .before .before .before .before .args .s .now) (c .before .before .before .before .before .before .before .before .before .loop .at) (sym (ap found ((c .before .before .before .before .before .face .given) .1)) ∙ (c .before .before .before .before .before .before .before .face-at .ensures))) in omega (arith, corners-small ((c .before .before .before .before .before .before .before .before .before .before .before .before .before .before .before .before .pre) .slender .vertex-number-narrow) (x .corners-most))
+mul-at c =
+    let a = c .before .before .before .before .before .before .before .before .before .before .before .before .before .before .before .before .args in
+    let x = (face-known (a .f) (a .v) (a .s .now) (c .before .before .before .before .before .before .before .before .before .loop .at) (sym (ap found ((c .before .before .before .before .before .face .given) .1)) ∙ (c .before .before .before .before .before .before .before .face-at .ensures))) in omega (arith, corners-small ((c .before .before .before .before .before .before .before .before .before .before .before .before .before .before .before .before .pre) .slender .vertex-number-narrow) (x .corners-most))
 
 add-at-3 : tie.Need-add-at-3 Inv-loop μ-loop
-add-at-3 c = let x = (face-known (c .before .before .before .before .before .before .before .before .before .before .before .before .before .before .before .before .args .f) (c .before .before .before .before .before .before .before .before .before .before .before .before .before .before .before .before .args .v) (c .before .before .before .before .before .before .before .before .before .before .before .before .before .before .before .before .args .s .now) (c .before .before .before .before .before .before .before .before .before .loop .at) (sym (ap found ((c .before .before .before .before .before .face .given) .1)) ∙ (c .before .before .before .before .before .before .before .face-at .ensures))) in omega (arith, (c .before .before .before .before .before .before .before .before .before .loop .inv) .1 .small, (c .before .before .before .before .before .before .before .before .before .loop .inv) .1 .few, count-most (c .before .before .before .before .before .before .before .before .before .before .before .before .before .before .before .before .args .f) (c .before .before .before .before .before .before .before .before .before .before .before .before .before .before .before .before .args .s .now) ((c .before .before .before .before .before .before .before .before .before .loop .inv) .0), count-known (c .before .before .before .before .before .before .before .before .before .before .before .before .before .before .before .before .args .f) (c .before .before .before .before .before .before .before .before .before .before .before .before .before .before .before .before .args .s .now) ((c .before .before .before .before .before .before .before .before .before .loop .inv) .0), (c .before .before .before .before .before .before .before .before .before .before .before .before .before .before .before .before .pre), corners-small ((c .before .before .before .before .before .before .before .before .before .before .before .before .before .before .before .before .pre) .slender .vertex-number-narrow) (x .corners-most))
+add-at-3 c =
+    let a = c .before .before .before .before .before .before .before .before .before .before .before .before .before .before .before .before .args in
+    let l = c .before .before .before .before .before .before .before .before .before .loop in
+    let p = c .before .before .before .before .before .before .before .before .before .before .before .before .before .before .before .before in
+    let x = (face-known (a .f) (a .v) (a .s .now) (l .at) (sym (ap found ((c .before .before .before .before .before .face .given) .1)) ∙ (c .before .before .before .before .before .before .before .face-at .ensures))) in omega (arith, (l .inv) .1 .small, (l .inv) .1 .few, count-most (a .f) (a .s .now) ((l .inv) .0), count-known (a .f) (a .s .now) ((l .inv) .0), (p .pre), corners-small ((p .pre) .slender .vertex-number-narrow) (x .corners-most))
 
 add-k : tie.Need-add-k Inv-loop μ-loop
 add-k c = omega arith
@@ -85,25 +113,38 @@ loop-less c = omega arith
 
 loop-again : tie.Need-loop-again Inv-loop μ-loop
 loop-again c =
-    let x = (face-known (c .before .before .before .before .before .before .before .before .before .before .before .before .before .before .before .before .args .f) (c .before .before .before .before .before .before .before .before .before .before .before .before .before .before .before .before .args .v) (c .before .before .before .before .before .before .before .before .before .before .before .before .before .before .before .before .args .s .now) (c .before .before .before .before .before .before .before .before .before .loop .at) (sym (ap found ((c .before .before .before .before .before .face .given) .1)) ∙ (c .before .before .before .before .before .before .before .face-at .ensures))) in
-    let l = (c .before .before .before .before .before .before .before .before .before .loop) in (
-      (c .before .before .before .before .before .before .before .before .before .loop .inv) .0,
-      subst (λ (t : List ℕ). Read (c .before .before .before .before .before .before .before .before .before .before .before .before .before .before .before .before .args .f) (c .before .before .before .before .before .before .before .before .before .before .before .before .before .before .before .before .args .v) (c .before .before .before .before .before .before .before .before .before .before .before .before .before .before .before .before .args .s .now) (l .k + 1) (l .at + 4 + (c .before .before .before .before .before .before .before .before .before .before .before .before .before .before .before .before .args .f .«vertex_number_bits») * ((c .before .before .before .before .before .face .given) .0 .0)) t) (sym (c .before .before .put-row .ensures))
-          (read-next (c .before .before .before .before .before .before .before .before .before .before .before .before .before .before .before .before .args .f) (c .before .before .before .before .before .before .before .before .before .before .before .before .before .before .before .before .args .v) (c .before .before .before .before .before .before .before .before .before .before .before .before .before .before .before .before .args .s .now) (c .before .before .before .before .before .before .before .before .before .before .before .before .before .before .before .before .pre) (l .k) (l .at) (l .rows) (omega (arith, count-most (c .before .before .before .before .before .before .before .before .before .before .before .before .before .before .before .before .args .f) (c .before .before .before .before .before .before .before .before .before .before .before .before .before .before .before .before .args .s .now) ((c .before .before .before .before .before .before .before .before .before .loop .inv) .0), count-known (c .before .before .before .before .before .before .before .before .before .before .before .before .before .before .before .before .args .f) (c .before .before .before .before .before .before .before .before .before .before .before .before .before .before .before .before .args .s .now) ((c .before .before .before .before .before .before .before .before .before .loop .inv) .0), (c .before .before .before .before .before .before .before .before .before .before .before .before .before .before .before .before .pre), (c .before .before .before .before .before .before .before .before .loop-test .taken))) (omega (arith, count-most (c .before .before .before .before .before .before .before .before .before .before .before .before .before .before .before .before .args .f) (c .before .before .before .before .before .before .before .before .before .before .before .before .before .before .before .before .args .s .now) ((c .before .before .before .before .before .before .before .before .before .loop .inv) .0), count-known (c .before .before .before .before .before .before .before .before .before .before .before .before .before .before .before .before .args .f) (c .before .before .before .before .before .before .before .before .before .before .before .before .before .before .before .before .args .s .now) ((c .before .before .before .before .before .before .before .before .before .loop .inv) .0), (c .before .before .before .before .before .before .before .before .before .before .before .before .before .before .before .before .pre), (c .before .before .before .before .before .before .before .before .loop-test .taken))) (l .inv .1) x),
+    let a = c .before .before .before .before .before .before .before .before .before .before .before .before .before .before .before .before .args in
+    let l2 = c .before .before .before .before .before .before .before .before .before .loop in
+    let p = c .before .before .before .before .before .before .before .before .before .before .before .before .before .before .before .before in
+    let p2 = c .before .before .before .before .before .before .before .before in
+    let p3 = c .before .before .before .before .before in
+    let x = (face-known (a .f) (a .v) (a .s .now) (l2 .at) (sym (ap found ((p3 .face .given) .1)) ∙ (c .before .before .before .before .before .before .before .face-at .ensures))) in
+    let l = (l2) in (
+      (l2 .inv) .0,
+      subst (λ (t : List ℕ). Read (a .f) (a .v) (a .s .now) (l .k + 1) (l .at + 4 + (a .f .«vertex_number_bits») * ((p3 .face .given) .0 .0)) t) (sym (c .before .before .put-row .ensures))
+          (read-next (a .f) (a .v) (a .s .now) (p .pre) (l .k) (l .at) (l .rows) (omega (arith, count-most (a .f) (a .s .now) ((l2 .inv) .0), count-known (a .f) (a .s .now) ((l2 .inv) .0), (p .pre), (p2 .loop-test .taken))) (omega (arith, count-most (a .f) (a .s .now) ((l2 .inv) .0), count-known (a .f) (a .s .now) ((l2 .inv) .0), (p .pre), (p2 .loop-test .taken))) (l .inv .1) x),
       (c .before .before .put-row .kept .1 .1 .1 .1 .0) ∙ l .inv .2,
     )
 
 closes-requires : tie.Need-closes-requires Inv-loop μ-loop
-closes-requires c κs = omega (arith, (c .before .loop .inv) .1 .small, (c .before .loop .inv) .1 .few, count-most (c .before .before .before .before .before .before .before .before .args .f) (c .before .before .before .before .before .before .before .before .args .s .now) ((c .before .loop .inv) .0), count-known (c .before .before .before .before .before .before .before .before .args .f) (c .before .before .before .before .before .before .before .before .args .s .now) ((c .before .loop .inv) .0), (c .before .before .before .before .before .before .before .before .pre))
+closes-requires c κs =
+    let a = c .before .before .before .before .before .before .before .before .args in
+    omega (arith, (c .before .loop .inv) .1 .small, (c .before .loop .inv) .1 .few, count-most (a .f) (a .s .now) ((c .before .loop .inv) .0), count-known (a .f) (a .s .now) ((c .before .loop .inv) .0), (c .before .before .before .before .before .before .before .before .pre))
 
 returns-3 : tie.Need-returns-3 Inv-loop μ-loop
-returns-3 c = ap (λ (m : ℕ). record { answer = Answer.Fine; count = m; rows = (c .before .before .before .loop .rows) }) (count-known (c .before .before .before .before .before .before .before .before .before .before .args .f) (c .before .before .before .before .before .before .before .before .before .before .args .s .now) ((c .before .before .before .loop .inv) .0)) ∙ read-ends (c .before .before .before .before .before .before .before .before .before .before .args .f) (c .before .before .before .before .before .before .before .before .before .before .args .v) (c .before .before .before .before .before .before .before .before .before .before .args .s .now) (c .before .before .before .loop .k) (c .before .before .before .loop .at) (c .before .before .before .loop .rows) ((c .before .before .before .loop .inv) .1) (omega (arith, count-most (c .before .before .before .before .before .before .before .before .before .before .args .f) (c .before .before .before .before .before .before .before .before .before .before .args .s .now) ((c .before .before .before .loop .inv) .0), count-known (c .before .before .before .before .before .before .before .before .before .before .args .f) (c .before .before .before .before .before .before .before .before .before .before .args .s .now) ((c .before .before .before .loop .inv) .0), (c .before .before .before .before .before .before .before .before .before .before .pre), (c .before .before .loop-test .left))) (subst (λ (m : ℕ). some m ≡ countOf (c .before .before .before .before .before .before .before .before .before .before .args .f) (c .before .before .before .before .before .before .before .before .before .before .args .s .now)) (count-known (c .before .before .before .before .before .before .before .before .before .before .args .f) (c .before .before .before .before .before .before .before .before .before .before .args .s .now) ((c .before .before .before .loop .inv) .0)) ((c .before .before .before .loop .inv) .0)) (sym (c .before .closes .ensures) ∙ (c .if1 .taken))
+returns-3 c =
+    let a = c .before .before .before .before .before .before .before .before .before .before .args in
+    let l = c .before .before .before .loop in
+    ap (λ (m : ℕ). record { answer = Answer.Fine; count = m; rows = (l .rows) }) (count-known (a .f) (a .s .now) ((l .inv) .0)) ∙ read-ends (a .f) (a .v) (a .s .now) (l .k) (l .at) (l .rows) ((l .inv) .1) (omega (arith, count-most (a .f) (a .s .now) ((l .inv) .0), count-known (a .f) (a .s .now) ((l .inv) .0), (c .before .before .before .before .before .before .before .before .before .before .pre), (c .before .before .loop-test .left))) (subst (λ (m : ℕ). some m ≡ countOf (a .f) (a .s .now)) (count-known (a .f) (a .s .now) ((l .inv) .0)) ((l .inv) .0)) (sym (c .before .closes .ensures) ∙ (c .if1 .taken))
 
 no-faces-requires-3 : tie.Need-no-faces-requires-3 Inv-loop μ-loop
 no-faces-requires-3 c κs = search needs
 
 returns-4 : tie.Need-returns-4 Inv-loop μ-loop
-returns-4 c = (c .no-faces3 .ensures) ∙ no-end (c .before .before .before .before .before .before .before .before .before .before .before .args .f) (c .before .before .before .before .before .before .before .before .before .before .before .args .v) (c .before .before .before .before .before .before .before .before .before .before .before .args .s .now) (c .before .before .before .before .loop .k) (c .before .before .before .before .loop .at) (c .before .before .before .before .loop .rows) ((c .before .before .before .before .loop .inv) .1) (omega (arith, count-most (c .before .before .before .before .before .before .before .before .before .before .before .args .f) (c .before .before .before .before .before .before .before .before .before .before .before .args .s .now) ((c .before .before .before .before .loop .inv) .0), count-known (c .before .before .before .before .before .before .before .before .before .before .before .args .f) (c .before .before .before .before .before .before .before .before .before .before .before .args .s .now) ((c .before .before .before .before .loop .inv) .0), (c .before .before .before .before .before .before .before .before .before .before .before .pre), (c .before .before .before .loop-test .left))) (subst (λ (m : ℕ). some m ≡ countOf (c .before .before .before .before .before .before .before .before .before .before .before .args .f) (c .before .before .before .before .before .before .before .before .before .before .before .args .s .now)) (count-known (c .before .before .before .before .before .before .before .before .before .before .before .args .f) (c .before .before .before .before .before .before .before .before .before .before .before .args .s .now) ((c .before .before .before .before .loop .inv) .0)) ((c .before .before .before .before .loop .inv) .0)) (sym (c .before .before .closes .ensures) ∙ (c .before .if1 .left))
+returns-4 c =
+    let a = c .before .before .before .before .before .before .before .before .before .before .before .args in
+    let l = c .before .before .before .before .loop in
+    (c .no-faces3 .ensures) ∙ no-end (a .f) (a .v) (a .s .now) (l .k) (l .at) (l .rows) ((l .inv) .1) (omega (arith, count-most (a .f) (a .s .now) ((l .inv) .0), count-known (a .f) (a .s .now) ((l .inv) .0), (c .before .before .before .before .before .before .before .before .before .before .before .pre), (c .before .before .before .loop-test .left))) (subst (λ (m : ℕ). some m ≡ countOf (a .f) (a .s .now)) (count-known (a .f) (a .s .now) ((l .inv) .0)) ((l .inv) .0)) (sym (c .before .before .closes .ensures) ∙ (c .before .if1 .left))
 
 pub read-spec : {M : Type 1} → statement M
 read-spec =

@@ -30,7 +30,11 @@ cast-if1 : tie.Need-cast-if1 Inv-loop μ-loop
 cast-if1 c = omega (arith, (c .shared-slice-known .given) ((c .before .before .before .args .i) + (c .before .before .loop .j)))
 
 returns : tie.Need-returns Inv-loop μ-loop
-returns c = high-hit (c .before .before .before .before .args .v) (take (c .before .before .before .before .args .c) (drop (c .before .before .before .before .args .i) (c .before .before .before .before .args .rows .now))) (c .before .before .before .loop .j) (omega (arith, length-corners (c .before .before .before .before .args .rows .now) (c .before .before .before .before .args .i) (c .before .before .before .before .args .c) (c .before .before .before .before .pre))) (c .before .before .before .loop .inv .1) (corner-at (c .before .before .before .before .args .rows .now) (c .before .before .before .before .args .i) (c .before .before .before .before .args .c) (c .before .before .before .before .pre) (c .before .before .before .loop .j) (omega arith)) (c .if1 .taken)
+returns c =
+    let a = c .before .before .before .before .args in
+    let l = c .before .before .before .loop in
+    let p = c .before .before .before .before in
+    high-hit (a .v) (take (a .c) (drop (a .i) (a .rows .now))) (l .j) (omega (arith, length-corners (a .rows .now) (a .i) (a .c) (p .pre))) (l .inv .1) (corner-at (a .rows .now) (a .i) (a .c) (p .pre) (l .j) (omega arith)) (c .if1 .taken)
 
 add-j : tie.Need-add-j Inv-loop μ-loop
 add-j c = omega arith
@@ -39,7 +43,11 @@ loop-less : tie.Need-loop-less Inv-loop μ-loop
 loop-less c = omega arith
 
 loop-again : tie.Need-loop-again Inv-loop μ-loop
-loop-again c = (omega arith, high-miss (c .before .before .before .before .args .v) (take (c .before .before .before .before .args .c) (drop (c .before .before .before .before .args .i) (c .before .before .before .before .args .rows .now))) (c .before .before .before .loop .j) (omega (arith, length-corners (c .before .before .before .before .args .rows .now) (c .before .before .before .before .args .i) (c .before .before .before .before .args .c) (c .before .before .before .before .pre))) (c .before .before .before .loop .inv .1) (corner-at (c .before .before .before .before .args .rows .now) (c .before .before .before .before .args .i) (c .before .before .before .before .args .c) (c .before .before .before .before .pre) (c .before .before .before .loop .j) (omega arith)) (c .if1 .left))
+loop-again c =
+    let a = c .before .before .before .before .args in
+    let l = c .before .before .before .loop in
+    let p = c .before .before .before .before in
+    (omega arith, high-miss (a .v) (take (a .c) (drop (a .i) (a .rows .now))) (l .j) (omega (arith, length-corners (a .rows .now) (a .i) (a .c) (p .pre))) (l .inv .1) (corner-at (a .rows .now) (a .i) (a .c) (p .pre) (l .j) (omega arith)) (c .if1 .left))
 
 returns-2 : tie.Need-returns-2 Inv-loop μ-loop
 returns-2 c = sym (search-end (all-search (λ (x : ℕ). ltb x (c .before .before .args .v))) (take (c .before .before .args .c) (drop (c .before .before .args .i) (c .before .before .args .rows .now))) (c .before .loop .j) (omega (arith, length-corners (c .before .before .args .rows .now) (c .before .before .args .i) (c .before .before .args .c) (c .before .before .pre))) (c .before .loop .inv .1))

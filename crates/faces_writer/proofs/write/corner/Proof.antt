@@ -16,10 +16,14 @@ shared-slice-read-result : tie.Need-shared-slice-read-result
 shared-slice-read-result c = search needs
 
 cast-result : tie.Need-cast-result
-cast-result c = omega (arith, (c .shared-slice-known .given) ((c .before .before .before .args .i) + ((c .before .before .before .args .c) - (c .before .before .before .args .j))))
+cast-result c =
+    let a = c .before .before .before .args in
+    omega (arith, (c .shared-slice-known .given) ((a .i) + ((a .c) - (a .j))))
 
 returns : tie.Need-returns
-returns c = rw (c .before .before .if1 .taken) (corner-back (c .before .before .before .args .rows .now) (c .before .before .before .args .i) (c .before .before .before .args .c) ((c .before .before .before .pre .0)) (c .before .before .before .args .j) (omega arith) (omega arith))
+returns c =
+    let a = c .before .before .before .args in
+    rw (c .before .before .if1 .taken) (corner-back (a .rows .now) (a .i) (a .c) ((c .before .before .before .pre .0)) (a .j) (omega arith) (omega arith))
 
 shared-slice-read-result-2 : tie.Need-shared-slice-read-result-2
 shared-slice-read-result-2 c = search needs
@@ -28,7 +32,9 @@ cast-result-2 : tie.Need-cast-result-2
 cast-result-2 c = omega (arith, (c .shared-slice-known2 .given) (c .before .before .before .args .i))
 
 returns-2 : tie.Need-returns-2
-returns-2 c = rw (c .before .before .if1 .taken) (corner-first (c .before .before .before .args .rows .now) (c .before .before .before .args .i) (c .before .before .before .args .c) ((c .before .before .before .pre .0)) (c .before .before .before .args .j) (omega arith) (omega arith))
+returns-2 c =
+    let a = c .before .before .before .args in
+    rw (c .before .before .if1 .taken) (corner-first (a .rows .now) (a .i) (a .c) ((c .before .before .before .pre .0)) (a .j) (omega arith) (omega arith))
 
 add-result-2 : tie.Need-add-result-2
 add-result-2 c = search needs

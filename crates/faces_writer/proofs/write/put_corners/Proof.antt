@@ -25,16 +25,25 @@ loop-holds : tie.Need-loop-holds Inv-loop μ-loop
 loop-holds c = (omega arith, overwrite-none (run 8 (c .before .before .args .room .now)) (c .before .before .args .b) ∙ ap (overwrite (run 8 (c .before .before .args .room .now)) (c .before .before .args .b)) (sym (run-none (c .before .before .args .w))), refl)
 
 mul-put : tie.Need-mul-put Inv-loop μ-loop
-mul-put c = omega (arith, slot (c .before .before .before .before .before .args .w) (c .before .before .loop .j) (c .before .before .before .before .before .args .c) (omega arith), corners-small ((c .before .before .before .before .before .pre .1)) ((c .before .before .before .before .before .pre .2)))
+mul-put c =
+    let a = c .before .before .before .before .before .args in
+    let p = c .before .before .before .before .before in
+    omega (arith, slot (a .w) (c .before .before .loop .j) (a .c) (omega arith), corners-small (p .pre .1) (p .pre .2))
 
 add-put : tie.Need-add-put Inv-loop μ-loop
-add-put c = omega (arith, slot (c .before .before .before .before .before .args .w) (c .before .before .loop .j) (c .before .before .before .before .before .args .c) (omega arith), corners-small ((c .before .before .before .before .before .pre .1)) ((c .before .before .before .before .before .pre .2)))
+add-put c =
+    let a = c .before .before .before .before .before .args in
+    let p = c .before .before .before .before .before in
+    omega (arith, slot (a .w) (c .before .before .loop .j) (a .c) (omega arith), corners-small (p .pre .1) (p .pre .2))
 
 corner-requires : tie.Need-corner-requires Inv-loop μ-loop
 corner-requires c κs = ((c .before .before .before .before .before .pre .0), omega arith)
 
 put-requires : tie.Need-put-requires Inv-loop μ-loop
-put-requires c κs = omega (arith, slot (c .before .before .before .before .before .before .args .w) (c .before .before .before .loop .j) (c .before .before .before .before .before .before .args .c) (omega arith), corners-small ((c .before .before .before .before .before .before .pre .1)) ((c .before .before .before .before .before .before .pre .2)))
+put-requires c κs =
+    let a = c .before .before .before .before .before .before .args in
+    let p = c .before .before .before .before .before .before in
+    omega (arith, slot (a .w) (c .before .before .before .loop .j) (a .c) (omega arith), corners-small (p .pre .1) (p .pre .2))
 
 add-j : tie.Need-add-j Inv-loop μ-loop
 add-j c = omega arith
@@ -44,11 +53,13 @@ loop-less c = omega arith
 
 loop-again : tie.Need-loop-again Inv-loop μ-loop
 loop-again c =
-    let a = (c .before .before .before .before .before .before .before .before .before .args) in
+    let a2 = c .before .before .before .before .before .before .before .before .before .args in
+    let p = c .before .before .before .before .before .before .before .before .before in
+    let a = (a2) in
     let l = (c .before .before .before .before .before .before .loop) in
-    let vs = way (a .back) (take (c .before .before .before .before .before .before .before .before .before .args .c) (drop (c .before .before .before .before .before .before .before .before .before .args .i) (c .before .before .before .before .before .before .before .before .before .args .rows .now))) in
-    let n : length vs ≡ a .c = way-length (a .back) (take (c .before .before .before .before .before .before .before .before .before .args .c) (drop (c .before .before .before .before .before .before .before .before .before .args .i) (c .before .before .before .before .before .before .before .before .before .args .rows .now))) ∙ length-corners (c .before .before .before .before .before .before .before .before .before .args .rows .now) (c .before .before .before .before .before .before .before .before .before .args .i) (c .before .before .before .before .before .before .before .before .before .args .c) ((c .before .before .before .before .before .before .before .before .before .pre .0)) in
-    let h : a .b ≤ length (run 8 (a .room .now)) = rw length-run (omega (arith, (c .before .before .before .before .before .before .before .before .before .pre))) in (
+    let vs = way (a .back) (take (a2 .c) (drop (a2 .i) (a2 .rows .now))) in
+    let n : length vs ≡ a .c = way-length (a .back) (take (a2 .c) (drop (a2 .i) (a2 .rows .now))) ∙ length-corners (a2 .rows .now) (a2 .i) (a2 .c) (p .pre .0) in
+    let h : a .b ≤ length (run 8 (a .room .now)) = rw length-run (omega (arith, (p .pre))) in (
       omega arith,
       (c .before .before .put .ensures)
           ∙ ap₂ (λ (t : List ℕ) (v : ℕ). overwrite t (a .b + a .w * l .j) (bits (a .w) v)) (l .inv .1) (c .before .before .before .corner .ensures)
@@ -61,9 +72,10 @@ same-length c = (c .before .loop .inv .2)
 
 returns : tie.Need-returns Inv-loop μ-loop
 returns c =
-    let vs = way (c .before .before .before .before .args .back) (take (c .before .before .before .before .args .c) (drop (c .before .before .before .before .args .i) (c .before .before .before .before .args .rows .now))) in
-    let n : length vs ≡ (c .before .before .before .before .args .c) = way-length (c .before .before .before .before .args .back) (take (c .before .before .before .before .args .c) (drop (c .before .before .before .before .args .i) (c .before .before .before .before .args .rows .now))) ∙ length-corners (c .before .before .before .before .args .rows .now) (c .before .before .before .before .args .i) (c .before .before .before .before .args .c) ((c .before .before .before .before .pre .0)) in
-    (c .before .loop .inv .1) ∙ ap (λ (t : List ℕ). overwrite (run 8 (c .before .before .before .before .args .room .now)) (c .before .before .before .before .args .b) (run (c .before .before .before .before .args .w) t)) (take-all (c .before .loop .j) vs (omega (arith, n)))
+    let a = c .before .before .before .before .args in
+    let vs = way (a .back) (take (a .c) (drop (a .i) (a .rows .now))) in
+    let n : length vs ≡ (a .c) = way-length (a .back) (take (a .c) (drop (a .i) (a .rows .now))) ∙ length-corners (a .rows .now) (a .i) (a .c) ((c .before .before .before .before .pre .0)) in
+    (c .before .loop .inv .1) ∙ ap (λ (t : List ℕ). overwrite (run 8 (a .room .now)) (a .b) (run (a .w) t)) (take-all (c .before .loop .j) vs (omega (arith, n)))
 
 pub put-corners-spec : {M : Type 1} → statement M
 put-corners-spec =

@@ -19,7 +19,9 @@ mul-first : tie.Need-mul-first
 mul-first c = search needs
 
 shared-slice-read-c : tie.Need-shared-slice-read-c
-shared-slice-read-c c = let w = row-whole (c .before .before .before .args .f) (c .before .before .before .args .rows .now) (c .before .before .before .args .k) ((c .before .before .before .pre .2)) in omega (arith, w .inside)
+shared-slice-read-c c =
+    let a = c .before .before .before .args in
+    let w = row-whole (a .f) (a .rows .now) (a .k) ((c .before .before .before .pre .2)) in omega (arith, w .inside)
 
 cast-c : tie.Need-cast-c
 cast-c c = omega (arith, (c .shared-slice-known2 .given) (13 * (c .before .before .before .args .k)))
@@ -34,26 +36,40 @@ add-put-corners-2 : tie.Need-add-put-corners-2
 add-put-corners-2 c = search needs
 
 put-corners-requires : tie.Need-put-corners-requires
-put-corners-requires c κs = let w = row-whole (c .before .before .before .before .before .before .before .before .args .f) (c .before .before .before .before .before .before .before .before .args .rows .now) (c .before .before .before .before .before .before .before .before .args .k) ((c .before .before .before .before .before .before .before .before .pre .2)) in (omega (arith, w .inside, w .most), (c .before .before .before .before .before .before .before .before .pre .0) .slender .vertex-number-narrow, w .most, omega (arith, (c .before .before .before .before .before .before .before .before .pre .3), ap (λ (n : ℕ). (c .before .before .before .before .before .before .before .before .args .f .«vertex_number_bits») * n) (w .length-is), (c .before .before .before .put .kept .0)), omega (arith, (c .before .before .before .before .before .before .before .before .pre .4)))
+put-corners-requires c κs =
+    let a = c .before .before .before .before .before .before .before .before .args in
+    let p = c .before .before .before .before .before .before .before .before in
+    let w = row-whole (a .f) (a .rows .now) (a .k) (p .pre .2) in (omega (arith, w .inside, w .most), (p .pre .0) .slender .vertex-number-narrow, w .most, omega (arith, (p .pre .3), ap (λ (n : ℕ). (a .f .«vertex_number_bits») * n) (w .length-is), (c .before .before .before .put .kept .0)), omega (arith, (p .pre .4)))
 
 mul-result : tie.Need-mul-result
-mul-result c = let w = row-whole (c .before .before .before .before .before .before .before .before .before .before .before .before .args .f) (c .before .before .before .before .before .before .before .before .before .before .before .before .args .rows .now) (c .before .before .before .before .before .before .before .before .before .before .before .before .args .k) ((c .before .before .before .before .before .before .before .before .before .before .before .before .pre .2)) in omega (arith, (c .before .before .before .before .before .before .before .before .before .before .before .before .pre .4), corners-small ((c .before .before .before .before .before .before .before .before .before .before .before .before .pre .0) .slender .vertex-number-narrow) (w .most))
+mul-result c =
+    let a = c .before .before .before .before .before .before .before .before .before .before .before .before .args in
+    let p = c .before .before .before .before .before .before .before .before .before .before .before .before in
+    let w = row-whole (a .f) (a .rows .now) (a .k) (p .pre .2) in omega (arith, (p .pre .4), corners-small ((p .pre .0) .slender .vertex-number-narrow) (w .most))
 
 add-result : tie.Need-add-result
-add-result c = let w = row-whole (c .before .before .before .before .before .before .before .before .before .before .before .before .args .f) (c .before .before .before .before .before .before .before .before .before .before .before .before .args .rows .now) (c .before .before .before .before .before .before .before .before .before .before .before .before .args .k) ((c .before .before .before .before .before .before .before .before .before .before .before .before .pre .2)) in omega (arith, (c .before .before .before .before .before .before .before .before .before .before .before .before .pre .4), corners-small ((c .before .before .before .before .before .before .before .before .before .before .before .before .pre .0) .slender .vertex-number-narrow) (w .most))
+add-result c =
+    let a = c .before .before .before .before .before .before .before .before .before .before .before .before .args in
+    let p = c .before .before .before .before .before .before .before .before .before .before .before .before in
+    let w = row-whole (a .f) (a .rows .now) (a .k) (p .pre .2) in omega (arith, (p .pre .4), corners-small ((p .pre .0) .slender .vertex-number-narrow) (w .most))
 
 add-result-2 : tie.Need-add-result-2
-add-result-2 c = let w = row-whole (c .before .before .before .before .before .before .before .before .before .before .before .before .args .f) (c .before .before .before .before .before .before .before .before .before .before .before .before .args .rows .now) (c .before .before .before .before .before .before .before .before .before .before .before .before .args .k) ((c .before .before .before .before .before .before .before .before .before .before .before .before .pre .2)) in omega (arith, (c .before .before .before .before .before .before .before .before .before .before .before .before .pre .4), corners-small ((c .before .before .before .before .before .before .before .before .before .before .before .before .pre .0) .slender .vertex-number-narrow) (w .most))
+add-result-2 c =
+    let a = c .before .before .before .before .before .before .before .before .before .before .before .before .args in
+    let p = c .before .before .before .before .before .before .before .before .before .before .before .before in
+    let w = row-whole (a .f) (a .rows .now) (a .k) (p .pre .2) in omega (arith, (p .pre .4), corners-small ((p .pre .0) .slender .vertex-number-narrow) (w .most))
 
 same-length : tie.Need-same-length
 same-length c = search needs
 
 returns : tie.Need-returns
 returns c =
-    let a = (c .before .before .before .before .before .before .before .before .before .before .before .before .args) in
-    let w = row-whole (c .before .before .before .before .before .before .before .before .before .before .before .before .args .f) (c .before .before .before .before .before .before .before .before .before .before .before .before .args .rows .now) (c .before .before .before .before .before .before .before .before .before .before .before .before .args .k) ((c .before .before .before .before .before .before .before .before .before .before .before .before .pre .2)) in
+    let a2 = c .before .before .before .before .before .before .before .before .before .before .before .before .args in
+    let p = c .before .before .before .before .before .before .before .before .before .before .before .before in
+    let a = (a2) in
+    let w = row-whole (a2 .f) (a2 .rows .now) (a2 .k) (p .pre .2) in
     let l = rowAt (a .rows .now) (a .k) in
-    let h : a .b ≤ length (run 8 (a .room .now)) = rw length-run (omega (arith, (c .before .before .before .before .before .before .before .before .before .before .before .before .pre .3))) in (
+    let h : a .b ≤ length (run 8 (a .room .now)) = rw length-run (omega (arith, (p .pre .3))) in (
       ap (λ (n : ℕ). a .b + (4 + a .f .«vertex_number_bits» * n)) (sym (w .length-is)),
       face-put (a .f) (way (a .back) l) _ (getD (a .rows .now) (13 * a .k) 0) (run 8 (a .room .now)) (a .b) (ap (way (a .back)) (w .loop-is)) (way-length (a .back) l ∙ w .length-is) h (c .before .before .before .before .before .before .before .put .ensures) (c .before .before .before .put-corners .ensures),
     )

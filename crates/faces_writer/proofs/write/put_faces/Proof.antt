@@ -19,10 +19,15 @@ add-b : tie.Need-add-b Inv-loop μ-loop
 add-b c = omega (arith, (c .before .before .before .pre .0) .slender .face-count-narrow)
 
 loop-holds : tie.Need-loop-holds Inv-loop μ-loop
-loop-holds c = (omega arith, send-start (c .before .before .before .args .f) (c .before .before .before .args .rows .now) (c .before .before .before .args .taken) (c .before .before .before .args .turned) (c .before .before .before .args .room .now) ((c .before .before .before .pre .1)), refl)
+loop-holds c =
+    let a = c .before .before .before .args in
+    (omega arith, send-start (a .f) (a .rows .now) (a .taken) (a .turned) (a .room .now) ((c .before .before .before .pre .1)), refl)
 
 put-taken-requires : tie.Need-put-taken-requires Inv-loop μ-loop
-put-taken-requires c κs = ((c .before .before .before .before .before .before .pre .0), omega arith, send-fits (c .before .before .before .before .before .before .args .f) (c .before .before .before .before .before .before .args .rows .now) (c .before .before .before .before .before .before .args .taken) (c .before .before .before .before .before .before .args .turned) (c .before .before .before .before .before .before .args .room .now) (c .before .before .loop .k) (c .before .before .loop .b) (c .before .before .loop .room) (omega arith) ((c .before .before .loop .inv .1)), omega (arith, send-inside (c .before .before .before .before .before .before .args .f) (c .before .before .before .before .before .before .args .rows .now) (c .before .before .before .before .before .before .args .taken) (c .before .before .before .before .before .before .args .turned) (c .before .before .before .before .before .before .args .room .now) (c .before .before .loop .k) (c .before .before .loop .b) (c .before .before .loop .room) (omega arith) ((c .before .before .loop .inv .1)), (c .before .before .before .before .before .before .pre .2), (c .before .before .loop .inv .2)), omega (arith, send-inside (c .before .before .before .before .before .before .args .f) (c .before .before .before .before .before .before .args .rows .now) (c .before .before .before .before .before .before .args .taken) (c .before .before .before .before .before .before .args .turned) (c .before .before .before .before .before .before .args .room .now) (c .before .before .loop .k) (c .before .before .loop .b) (c .before .before .loop .room) (omega arith) ((c .before .before .loop .inv .1)), (c .before .before .before .before .before .before .pre .3)))
+put-taken-requires c κs =
+    let a = c .before .before .before .before .before .before .args in
+    let p = c .before .before .before .before .before .before in
+    ((p .pre .0), omega arith, send-fits (a .f) (a .rows .now) (a .taken) (a .turned) (a .room .now) (c .before .before .loop .k) (c .before .before .loop .b) (c .before .before .loop .room) (omega arith) ((c .before .before .loop .inv .1)), omega (arith, send-inside (a .f) (a .rows .now) (a .taken) (a .turned) (a .room .now) (c .before .before .loop .k) (c .before .before .loop .b) (c .before .before .loop .room) (omega arith) ((c .before .before .loop .inv .1)), (p .pre .2), (c .before .before .loop .inv .2)), omega (arith, send-inside (a .f) (a .rows .now) (a .taken) (a .turned) (a .room .now) (c .before .before .loop .k) (c .before .before .loop .b) (c .before .before .loop .room) (omega arith) ((c .before .before .loop .inv .1)), (p .pre .3)))
 
 add-k : tie.Need-add-k Inv-loop μ-loop
 add-k c = omega arith
@@ -32,17 +37,21 @@ loop-less c = omega arith
 
 loop-again : tie.Need-loop-again Inv-loop μ-loop
 loop-again c =
-    let h : (c .before .before .before .before .before .loop .b) ≤ length (run 8 (c .before .before .before .before .before .loop .room)) = rw length-run (omega (arith, send-inside (c .before .before .before .before .before .before .before .before .before .args .f) (c .before .before .before .before .before .before .before .before .before .args .rows .now) (c .before .before .before .before .before .before .before .before .before .args .taken) (c .before .before .before .before .before .before .before .before .before .args .turned) (c .before .before .before .before .before .before .before .before .before .args .room .now) (c .before .before .before .before .before .loop .k) (c .before .before .before .before .before .loop .b) (c .before .before .before .before .before .loop .room) (omega arith) ((c .before .before .before .before .before .loop .inv .1)), (c .before .before .before .before .before .before .before .before .before .pre .2), (c .before .before .before .before .before .loop .inv .2))) in (
+    let a = c .before .before .before .before .before .before .before .before .before .args in
+    let l = c .before .before .before .before .before .loop in
+    let h : (l .b) ≤ length (run 8 (l .room)) = rw length-run (omega (arith, send-inside (a .f) (a .rows .now) (a .taken) (a .turned) (a .room .now) (l .k) (l .b) (l .room) (omega arith) (l .inv .1), (c .before .before .before .before .before .before .before .before .before .pre .2), (l .inv .2))) in (
       omega arith,
-      send-next (c .before .before .before .before .before .before .before .before .before .args .f) (c .before .before .before .before .before .before .before .before .before .args .rows .now) (c .before .before .before .before .before .before .before .before .before .args .taken) (c .before .before .before .before .before .before .before .before .before .args .turned) (c .before .before .before .before .before .before .before .before .before .args .room .now) (c .before .before .before .before .before .loop .k) (c .before .before .before .before .before .loop .b) (c .before .before .before .before .before .loop .room) (omega arith) ((c .before .before .before .before .before .loop .inv .1)) (c .before .before .put-taken .last .1 .1 .1 .1 .1 .0) h ((c .before .before .put-taken .ensures) .0) ((c .before .before .put-taken .ensures) .1),
-      (c .before .before .put-taken .kept .1 .1 .1 .1 .1 .0) ∙ (c .before .before .before .before .before .loop .inv .2),
+      send-next (a .f) (a .rows .now) (a .taken) (a .turned) (a .room .now) (l .k) (l .b) (l .room) (omega arith) (l .inv .1) (c .before .before .put-taken .last .1 .1 .1 .1 .1 .0) h ((c .before .before .put-taken .ensures) .0) ((c .before .before .put-taken .ensures) .1),
+      (c .before .before .put-taken .kept .1 .1 .1 .1 .1 .0) ∙ (l .inv .2),
     )
 
 same-length : tie.Need-same-length Inv-loop μ-loop
 same-length c = (c .before .loop .inv .2)
 
 returns : tie.Need-returns Inv-loop μ-loop
-returns c = send-end (c .before .before .before .before .before .args .f) (c .before .before .before .before .before .args .rows .now) (c .before .before .before .before .before .args .taken) (c .before .before .before .before .before .args .turned) (c .before .before .before .before .before .args .room .now) (c .before .loop .k) (c .before .loop .b) (c .before .loop .room) (omega arith) ((c .before .loop .inv .1))
+returns c =
+    let a = c .before .before .before .before .before .args in
+    send-end (a .f) (a .rows .now) (a .taken) (a .turned) (a .room .now) (c .before .loop .k) (c .before .loop .b) (c .before .loop .room) (omega arith) ((c .before .loop .inv .1))
 
 pub put-faces-spec : {M : Type 1} → statement M
 put-faces-spec =

@@ -28,19 +28,27 @@ is-outside-requires : tie.Need-is-outside-requires
 is-outside-requires c κs = search needs
 
 returns-2 : tie.Need-returns-2
-returns-2 c = row-count (c .before .before .before .before .before .args .f) (c .before .before .before .before .before .args .rows .now) (c .before .before .before .before .before .args .k) (omega (arith, (c .before .before .before .if1 .left))) (sym (c .before .is-outside .ensures) ∙ (c .if2 .taken))
+returns-2 c =
+    let a = c .before .before .before .before .before .args in
+    row-count (a .f) (a .rows .now) (a .k) (omega (arith, (c .before .before .before .if1 .left))) (sym (c .before .is-outside .ensures) ∙ (c .if2 .taken))
 
 add-are-under : tie.Need-add-are-under
 add-are-under c = search needs
 
 are-under-requires : tie.Need-are-under-requires
-are-under-requires c κs = omega (arith, (c .before .before .before .if1 .left), outside-false 3 12 (getD (c .before .before .before .before .before .args .rows .now) (13 * (c .before .before .before .before .before .args .k)) 0) (sym (c .before .is-outside .ensures) ∙ (c .if2 .left)))
+are-under-requires c κs =
+    let a = c .before .before .before .before .before .args in
+    omega (arith, (c .before .before .before .if1 .left), outside-false 3 12 (getD (a .rows .now) (13 * (a .k)) 0) (sym (c .before .is-outside .ensures) ∙ (c .if2 .left)))
 
 returns-3 : tie.Need-returns-3
-returns-3 c = row-face (c .before .before .before .before .before .before .before .args .f) (c .before .before .before .before .before .before .before .args .rows .now) (c .before .before .before .before .before .before .before .args .k) (omega (arith, (c .before .before .before .before .before .if1 .left))) (sym (c .before .before .before .is-outside .ensures) ∙ (c .before .before .if2 .left)) (sym (c .before .are-under .ensures) ∙ (c .if3 .taken))
+returns-3 c =
+    let a = c .before .before .before .before .before .before .before .args in
+    row-face (a .f) (a .rows .now) (a .k) (omega (arith, (c .before .before .before .before .before .if1 .left))) (sym (c .before .before .before .is-outside .ensures) ∙ (c .before .before .if2 .left)) (sym (c .before .are-under .ensures) ∙ (c .if3 .taken))
 
 returns-4 : tie.Need-returns-4
-returns-4 c = row-high (c .before .before .before .before .before .before .before .args .f) (c .before .before .before .before .before .before .before .args .rows .now) (c .before .before .before .before .before .before .before .args .k) (omega (arith, (c .before .before .before .before .before .if1 .left))) (sym (c .before .before .before .is-outside .ensures) ∙ (c .before .before .if2 .left)) (sym (c .before .are-under .ensures) ∙ (c .if3 .left))
+returns-4 c =
+    let a = c .before .before .before .before .before .before .before .args in
+    row-high (a .f) (a .rows .now) (a .k) (omega (arith, (c .before .before .before .before .before .if1 .left))) (sym (c .before .before .before .is-outside .ensures) ∙ (c .before .before .if2 .left)) (sym (c .before .are-under .ensures) ∙ (c .if3 .left))
 
 pub row-fits-spec : {M : Type 1} → statement M
 row-fits-spec =

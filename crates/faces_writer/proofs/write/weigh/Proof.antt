@@ -23,19 +23,29 @@ enum-told : tie.Need-enum-told
 enum-told c = search needs
 
 returns : tie.Need-returns
-returns c = weigh-none (c .before .before .before .before .before .before .args .f) (c .before .before .before .before .before .before .args .rows .now) (c .before .before .before .before .before .before .args .taken) (c .before .before .before .before .before .before .args .k) (sym (c .before .before .before .before .is-set .ensures) ∙ (c .before .before .before .if1 .taken)) (sym (ap found ((c .enum-told .given) .1)) ∙ (c .before .before .row-fits .ensures))
+returns c =
+    let a = c .before .before .before .before .before .before .args in
+    weigh-none (a .f) (a .rows .now) (a .taken) (a .k) (sym (c .before .before .before .before .is-set .ensures) ∙ (c .before .before .before .if1 .taken)) (sym (ap found ((c .enum-told .given) .1)) ∙ (c .before .before .row-fits .ensures))
 
 mul-t8 : tie.Need-mul-t8
-mul-t8 c = omega (arith, corners-small ((c .before .before .before .before .before .before .before .before .pre .0) .slender .vertex-number-narrow) (corners-most (c .before .before .before .before .before .before .before .before .args .f) (rowAt (c .before .before .before .before .before .before .before .before .args .rows .now) (c .before .before .before .before .before .before .before .before .args .k)) (sym (ap found ((c .before .before .fit .given) .1)) ∙ (c .before .before .before .before .row-fits .ensures))))
+mul-t8 c =
+    let a = c .before .before .before .before .before .before .before .before .args in
+    omega (arith, corners-small ((c .before .before .before .before .before .before .before .before .pre .0) .slender .vertex-number-narrow) (corners-most (a .f) (rowAt (a .rows .now) (a .k)) (sym (ap found ((c .before .before .fit .given) .1)) ∙ (c .before .before .before .before .row-fits .ensures))))
 
 add-t9 : tie.Need-add-t9
-add-t9 c = omega (arith, corners-small ((c .before .before .before .before .before .before .before .before .pre .0) .slender .vertex-number-narrow) (corners-most (c .before .before .before .before .before .before .before .before .args .f) (rowAt (c .before .before .before .before .before .before .before .before .args .rows .now) (c .before .before .before .before .before .before .before .before .args .k)) (sym (ap found ((c .before .before .fit .given) .1)) ∙ (c .before .before .before .before .row-fits .ensures))))
+add-t9 c =
+    let a = c .before .before .before .before .before .before .before .before .args in
+    omega (arith, corners-small ((c .before .before .before .before .before .before .before .before .pre .0) .slender .vertex-number-narrow) (corners-most (a .f) (rowAt (a .rows .now) (a .k)) (sym (ap found ((c .before .before .fit .given) .1)) ∙ (c .before .before .before .before .row-fits .ensures))))
 
 returns-2 : tie.Need-returns-2
-returns-2 c = weigh-face (c .before .before .before .before .before .before .before .before .args .f) (c .before .before .before .before .before .before .before .before .args .rows .now) (c .before .before .before .before .before .before .before .before .args .taken) (c .before .before .before .before .before .before .before .before .args .k) (sym (c .before .before .before .before .before .before .is-set .ensures) ∙ (c .before .before .before .before .before .if1 .taken)) (sym (ap found ((c .before .before .fit .given) .1)) ∙ (c .before .before .before .before .row-fits .ensures))
+returns-2 c =
+    let a = c .before .before .before .before .before .before .before .before .args in
+    weigh-face (a .f) (a .rows .now) (a .taken) (a .k) (sym (c .before .before .before .before .before .before .is-set .ensures) ∙ (c .before .before .before .before .before .if1 .taken)) (sym (ap found ((c .before .before .fit .given) .1)) ∙ (c .before .before .before .before .row-fits .ensures))
 
 returns-3 : tie.Need-returns-3
-returns-3 c = weigh-left (c .before .before .before .args .f) (c .before .before .before .args .rows .now) (c .before .before .before .args .taken) (c .before .before .before .args .k) (sym (c .before .is-set .ensures) ∙ (c .if1 .left))
+returns-3 c =
+    let a = c .before .before .before .args in
+    weigh-left (a .f) (a .rows .now) (a .taken) (a .k) (sym (c .before .is-set .ensures) ∙ (c .if1 .left))
 
 pub weigh-spec : {M : Type 1} → statement M
 weigh-spec =

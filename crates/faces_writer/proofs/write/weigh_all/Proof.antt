@@ -26,13 +26,20 @@ enum-told : tie.Need-enum-told Inv-loop μ-loop
 enum-told c = search needs
 
 returns : tie.Need-returns Inv-loop μ-loop
-returns c = passed-stop (c .before .before .before .before .before .before .args .f) (c .before .before .before .before .before .before .args .rows .now) (c .before .before .before .before .before .before .args .taken) (c .before .before .before .before .loop .k) (c .before .before .before .before .loop .faces) (c .before .before .before .before .loop .bits) (omega arith) ((c .before .before .before .before .loop .inv) .3) (λ (t : ℕ). sym ((c .enum-told .given) .1) ∙ (c .before .before .weigh .ensures) t)
+returns c =
+    let a = c .before .before .before .before .before .before .args in
+    let l = c .before .before .before .before .loop in
+    passed-stop (a .f) (a .rows .now) (a .taken) (l .k) (l .faces) (l .bits) (omega arith) ((l .inv) .3) (λ (t : ℕ). sym ((c .enum-told .given) .1) ∙ (c .before .before .weigh .ensures) t)
 
 add-faces : tie.Need-add-faces Inv-loop μ-loop
-add-faces c = omega (arith, one-small (c .before .before .before .before .before .before .before .args .f) (c .before .before .before .before .before .before .before .args .rows .now) (c .before .before .before .before .before .before .before .args .taken) (c .before .before .before .before .before .before .before .pre) (c .before .before .before .before .before .loop .k) (λ (t : ℕ). sym ((c .before .one .given) .1) ∙ (c .before .before .before .weigh .ensures) t))
+add-faces c =
+    let a = c .before .before .before .before .before .before .before .args in
+    omega (arith, one-small (a .f) (a .rows .now) (a .taken) (c .before .before .before .before .before .before .before .pre) (c .before .before .before .before .before .loop .k) (λ (t : ℕ). sym ((c .before .one .given) .1) ∙ (c .before .before .before .weigh .ensures) t))
 
 add-bits : tie.Need-add-bits Inv-loop μ-loop
-add-bits c = omega (arith, one-small (c .before .before .before .before .before .before .before .args .f) (c .before .before .before .before .before .before .before .args .rows .now) (c .before .before .before .before .before .before .before .args .taken) (c .before .before .before .before .before .before .before .pre) (c .before .before .before .before .before .loop .k) (λ (t : ℕ). sym ((c .before .one .given) .1) ∙ (c .before .before .before .weigh .ensures) t))
+add-bits c =
+    let a = c .before .before .before .before .before .before .before .args in
+    omega (arith, one-small (a .f) (a .rows .now) (a .taken) (c .before .before .before .before .before .before .before .pre) (c .before .before .before .before .before .loop .k) (λ (t : ℕ). sym ((c .before .one .given) .1) ∙ (c .before .before .before .weigh .ensures) t))
 
 add-k : tie.Need-add-k Inv-loop μ-loop
 add-k c = omega arith
@@ -41,10 +48,16 @@ loop-less : tie.Need-loop-less Inv-loop μ-loop
 loop-less c = omega arith
 
 loop-again : tie.Need-loop-again Inv-loop μ-loop
-loop-again c = let s = one-small (c .before .before .before .before .before .before .before .args .f) (c .before .before .before .before .before .before .before .args .rows .now) (c .before .before .before .before .before .before .before .args .taken) (c .before .before .before .before .before .before .before .pre) (c .before .before .before .before .before .loop .k) (λ (t : ℕ). sym ((c .before .one .given) .1) ∙ (c .before .before .before .weigh .ensures) t) in (omega arith, omega (arith, s), omega (arith, s), passed-next (c .before .before .before .before .before .before .before .args .f) (c .before .before .before .before .before .before .before .args .rows .now) (c .before .before .before .before .before .before .before .args .taken) (c .before .before .before .before .before .loop .k) (c .before .before .before .before .before .loop .faces) (c .before .before .before .before .before .loop .bits) (omega arith) ((c .before .before .before .before .before .loop .inv) .3) (λ (t : ℕ). sym ((c .before .one .given) .1) ∙ (c .before .before .before .weigh .ensures) t))
+loop-again c =
+    let a = c .before .before .before .before .before .before .before .args in
+    let l = c .before .before .before .before .before .loop in
+    let p = c .before .before .before in
+    let s = one-small (a .f) (a .rows .now) (a .taken) (c .before .before .before .before .before .before .before .pre) (l .k) (λ (t : ℕ). sym ((c .before .one .given) .1) ∙ (p .weigh .ensures) t) in (omega arith, omega (arith, s), omega (arith, s), passed-next (a .f) (a .rows .now) (a .taken) (l .k) (l .faces) (l .bits) (omega arith) ((l .inv) .3) (λ (t : ℕ). sym ((c .before .one .given) .1) ∙ (p .weigh .ensures) t))
 
 returns-2 : tie.Need-returns-2 Inv-loop μ-loop
-returns-2 c = passed-end (c .before .before .before .args .f) (c .before .before .before .args .rows .now) (c .before .before .before .args .taken) (c .before .loop .k) (c .before .loop .faces) (c .before .loop .bits) (omega arith) ((c .before .loop .inv) .3)
+returns-2 c =
+    let a = c .before .before .before .args in
+    passed-end (a .f) (a .rows .now) (a .taken) (c .before .loop .k) (c .before .loop .faces) (c .before .loop .bits) (omega arith) ((c .before .loop .inv) .3)
 
 pub weigh-all-spec : {M : Type 1} → statement M
 weigh-all-spec =

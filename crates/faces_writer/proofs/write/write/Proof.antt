@@ -27,7 +27,9 @@ refused-requires : tie.Need-refused-requires
 refused-requires c κs = search needs
 
 returns : tie.Need-returns
-returns c = let r = result-misfit (c .before .before .before .before .before .before .args .f) (solidFaces (c .before .before .before .before .before .before .args .rows .now) (c .before .before .before .before .before .before .args .taken) (c .before .before .before .before .before .before .args .turned)) (c .before .before .before .before .before .before .args .room .now) (misfit (c .before .before .before .before .before .before .args .f) (solidFaces (c .before .before .before .before .before .before .args .rows .now) (c .before .before .before .before .before .before .args .taken) (c .before .before .before .before .before .before .args .turned)) (sym ((c .before .enum-told .given) .1) ∙ (c .before .before .before .weigh-all .ensures) (c .before .before .before .before .before .before .args .turned))) in ((c .refused .ensures) ∙ r .0, r .1)
+returns c =
+    let a = c .before .before .before .before .before .before .args in
+    let r = result-misfit (a .f) (solidFaces (a .rows .now) (a .taken) (a .turned)) (a .room .now) (misfit (a .f) (solidFaces (a .rows .now) (a .taken) (a .turned)) (sym ((c .before .enum-told .given) .1) ∙ (c .before .before .before .weigh-all .ensures) (a .turned))) in ((c .refused .ensures) ∙ r .0, r .1)
 
 is-outside-requires : tie.Need-is-outside-requires
 is-outside-requires c κs = search needs
@@ -36,34 +38,48 @@ refused-requires-2 : tie.Need-refused-requires-2
 refused-requires-2 c κs = search needs
 
 returns-2 : tie.Need-returns-2
-returns-2 c = let w = weighed (c .before .before .before .before .before .before .before .before .before .args .f) (solidFaces (c .before .before .before .before .before .before .before .before .before .args .rows .now) (c .before .before .before .before .before .before .before .before .before .args .taken) (c .before .before .before .before .before .before .before .before .before .args .turned)) (sym ((c .before .before .before .before .weighed .given) .1) ∙ (c .before .before .before .before .before .before .weigh-all .ensures) (c .before .before .before .before .before .before .before .before .before .args .turned)) in let r = result-count (c .before .before .before .before .before .before .before .before .before .args .f) (solidFaces (c .before .before .before .before .before .before .before .before .before .args .rows .now) (c .before .before .before .before .before .before .before .before .before .args .taken) (c .before .before .before .before .before .before .before .before .before .args .turned)) (c .before .before .before .before .before .before .before .before .before .args .room .now) (ap (outside 4 (c .before .before .before .before .before .before .before .before .before .args .f .«most_faces»)) (sym (w .count-is)) ∙ sym (c .before .before .is-outside .ensures) ∙ (c .before .if1 .taken)) in ((c .refused2 .ensures) ∙ r .0, r .1)
+returns-2 c =
+    let a = c .before .before .before .before .before .before .before .before .before .args in
+    let w = weighed (a .f) (solidFaces (a .rows .now) (a .taken) (a .turned)) (sym ((c .before .before .before .before .weighed .given) .1) ∙ (c .before .before .before .before .before .before .weigh-all .ensures) (a .turned)) in let r = result-count (a .f) (solidFaces (a .rows .now) (a .taken) (a .turned)) (a .room .now) (ap (outside 4 (a .f .«most_faces»)) (sym (w .count-is)) ∙ sym (c .before .before .is-outside .ensures) ∙ (c .before .if1 .taken)) in ((c .refused2 .ensures) ∙ r .0, r .1)
 
 add-size : tie.Need-add-size
 add-size c = search needs
 
 add-size-2 : tie.Need-add-size-2
-add-size-2 c = let w = weighed (c .before .before .before .before .before .before .before .before .before .args .f) (solidFaces (c .before .before .before .before .before .before .before .before .before .args .rows .now) (c .before .before .before .before .before .before .before .before .before .args .taken) (c .before .before .before .before .before .before .before .before .before .args .turned)) (sym ((c .before .before .before .before .weighed .given) .1) ∙ (c .before .before .before .before .before .before .weigh-all .ensures) (c .before .before .before .before .before .before .before .before .before .args .turned)) in let o = outside-false 4 (c .before .before .before .before .before .before .before .before .before .args .f .«most_faces») (length (solidFaces (c .before .before .before .before .before .before .before .before .before .args .rows .now) (c .before .before .before .before .before .before .before .before .before .args .taken) (c .before .before .before .before .before .before .before .before .before .args .turned))) (ap (outside 4 (c .before .before .before .before .before .before .before .before .before .args .f .«most_faces»)) (sym (w .count-is)) ∙ sym (c .before .before .is-outside .ensures) ∙ (c .before .if1 .left)) in omega (arith, span-small (c .before .before .before .before .before .before .before .before .before .args .f) (c .before .before .before .before .before .before .before .before .before .pre) (solidFaces (c .before .before .before .before .before .before .before .before .before .args .rows .now) (c .before .before .before .before .before .before .before .before .before .args .taken) (c .before .before .before .before .before .before .before .before .before .args .turned)) (w .fit), w .span-is, o, (c .before .before .before .before .before .before .before .before .before .pre) .f-held, (c .before .before .before .before .before .before .before .before .before .pre) .slender .face-count-narrow)
+add-size-2 c =
+    let a = c .before .before .before .before .before .before .before .before .before .args in
+    let p = c .before .before .before .before .before .before .before .before .before in
+    let w = weighed (a .f) (solidFaces (a .rows .now) (a .taken) (a .turned)) (sym ((c .before .before .before .before .weighed .given) .1) ∙ (c .before .before .before .before .before .before .weigh-all .ensures) (a .turned)) in let o = outside-false 4 (a .f .«most_faces») (length (solidFaces (a .rows .now) (a .taken) (a .turned))) (ap (outside 4 (a .f .«most_faces»)) (sym (w .count-is)) ∙ sym (c .before .before .is-outside .ensures) ∙ (c .before .if1 .left)) in omega (arith, span-small (a .f) (p .pre) (solidFaces (a .rows .now) (a .taken) (a .turned)) (w .fit), w .span-is, o, (p .pre) .f-held, (p .pre) .slender .face-count-narrow)
 
 add-size-3 : tie.Need-add-size-3
-add-size-3 c = let w = weighed (c .before .before .before .before .before .before .before .before .before .args .f) (solidFaces (c .before .before .before .before .before .before .before .before .before .args .rows .now) (c .before .before .before .before .before .before .before .before .before .args .taken) (c .before .before .before .before .before .before .before .before .before .args .turned)) (sym ((c .before .before .before .before .weighed .given) .1) ∙ (c .before .before .before .before .before .before .weigh-all .ensures) (c .before .before .before .before .before .before .before .before .before .args .turned)) in let o = outside-false 4 (c .before .before .before .before .before .before .before .before .before .args .f .«most_faces») (length (solidFaces (c .before .before .before .before .before .before .before .before .before .args .rows .now) (c .before .before .before .before .before .before .before .before .before .args .taken) (c .before .before .before .before .before .before .before .before .before .args .turned))) (ap (outside 4 (c .before .before .before .before .before .before .before .before .before .args .f .«most_faces»)) (sym (w .count-is)) ∙ sym (c .before .before .is-outside .ensures) ∙ (c .before .if1 .left)) in omega (arith, span-small (c .before .before .before .before .before .before .before .before .before .args .f) (c .before .before .before .before .before .before .before .before .before .pre) (solidFaces (c .before .before .before .before .before .before .before .before .before .args .rows .now) (c .before .before .before .before .before .before .before .before .before .args .taken) (c .before .before .before .before .before .before .before .before .before .args .turned)) (w .fit), w .span-is, o, (c .before .before .before .before .before .before .before .before .before .pre) .f-held, (c .before .before .before .before .before .before .before .before .before .pre) .slender .face-count-narrow)
+add-size-3 c =
+    let a = c .before .before .before .before .before .before .before .before .before .args in
+    let p = c .before .before .before .before .before .before .before .before .before in
+    let w = weighed (a .f) (solidFaces (a .rows .now) (a .taken) (a .turned)) (sym ((c .before .before .before .before .weighed .given) .1) ∙ (c .before .before .before .before .before .before .weigh-all .ensures) (a .turned)) in let o = outside-false 4 (a .f .«most_faces») (length (solidFaces (a .rows .now) (a .taken) (a .turned))) (ap (outside 4 (a .f .«most_faces»)) (sym (w .count-is)) ∙ sym (c .before .before .is-outside .ensures) ∙ (c .before .if1 .left)) in omega (arith, span-small (a .f) (p .pre) (solidFaces (a .rows .now) (a .taken) (a .turned)) (w .fit), w .span-is, o, (p .pre) .f-held, (p .pre) .slender .face-count-narrow)
 
 refused-requires-3 : tie.Need-refused-requires-3
 refused-requires-3 c κs = search needs
 
 returns-3 : tie.Need-returns-3
-returns-3 c = let w = weighed (c .before .before .before .before .before .before .before .before .before .before .before .args .f) (solidFaces (c .before .before .before .before .before .before .before .before .before .before .before .args .rows .now) (c .before .before .before .before .before .before .before .before .before .before .before .args .taken) (c .before .before .before .before .before .before .before .before .before .before .before .args .turned)) (sym ((c .before .before .before .before .before .before .weighed .given) .1) ∙ (c .before .before .before .before .before .before .before .before .weigh-all .ensures) (c .before .before .before .before .before .before .before .before .before .before .before .args .turned)) in let hb = size-is (c .before .before .before .before .before .before .before .before .before .before .before .args .f) (solidFaces (c .before .before .before .before .before .before .before .before .before .before .before .args .rows .now) (c .before .before .before .before .before .before .before .before .before .before .before .args .taken) (c .before .before .before .before .before .before .before .before .before .before .before .args .turned)) (w .span-is) in let r = result-short (c .before .before .before .before .before .before .before .before .before .before .before .args .f) (solidFaces (c .before .before .before .before .before .before .before .before .before .before .before .args .rows .now) (c .before .before .before .before .before .before .before .before .before .before .before .args .taken) (c .before .before .before .before .before .before .before .before .before .before .before .args .turned)) (c .before .before .before .before .before .before .before .before .before .before .before .args .room .now) (ap (outside 4 (c .before .before .before .before .before .before .before .before .before .before .before .args .f .«most_faces»)) (sym (w .count-is)) ∙ sym (c .before .before .before .before .is-outside .ensures) ∙ (c .before .before .before .if1 .left)) (w .fit) (rw hb at (c .before .if2 .taken)) in ((c .refused3 .ensures) ∙ r .0, r .1)
+returns-3 c =
+    let a = c .before .before .before .before .before .before .before .before .before .before .before .args in
+    let w = weighed (a .f) (solidFaces (a .rows .now) (a .taken) (a .turned)) (sym ((c .before .before .before .before .before .before .weighed .given) .1) ∙ (c .before .before .before .before .before .before .before .before .weigh-all .ensures) (a .turned)) in let hb = size-is (a .f) (solidFaces (a .rows .now) (a .taken) (a .turned)) (w .span-is) in let r = result-short (a .f) (solidFaces (a .rows .now) (a .taken) (a .turned)) (a .room .now) (ap (outside 4 (a .f .«most_faces»)) (sym (w .count-is)) ∙ sym (c .before .before .before .before .is-outside .ensures) ∙ (c .before .before .before .if1 .left)) (w .fit) (rw hb at (c .before .if2 .taken)) in ((c .refused3 .ensures) ∙ r .0, r .1)
 
 put-list-requires : tie.Need-put-list-requires
-put-list-requires c κs = let w = weighed (c .before .before .before .before .before .before .before .before .before .before .before .args .f) (solidFaces (c .before .before .before .before .before .before .before .before .before .before .before .args .rows .now) (c .before .before .before .before .before .before .before .before .before .before .before .args .taken) (c .before .before .before .before .before .before .before .before .before .before .before .args .turned)) (sym ((c .before .before .before .before .before .before .weighed .given) .1) ∙ (c .before .before .before .before .before .before .before .before .weigh-all .ensures) (c .before .before .before .before .before .before .before .before .before .before .before .args .turned)) in let hb = size-is (c .before .before .before .before .before .before .before .before .before .before .before .args .f) (solidFaces (c .before .before .before .before .before .before .before .before .before .before .before .args .rows .now) (c .before .before .before .before .before .before .before .before .before .before .before .args .taken) (c .before .before .before .before .before .before .before .before .before .before .before .args .turned)) (w .span-is) in let o = outside-false 4 (c .before .before .before .before .before .before .before .before .before .before .before .args .f .«most_faces») (length (solidFaces (c .before .before .before .before .before .before .before .before .before .before .before .args .rows .now) (c .before .before .before .before .before .before .before .before .before .before .before .args .taken) (c .before .before .before .before .before .before .before .before .before .before .before .args .turned))) (ap (outside 4 (c .before .before .before .before .before .before .before .before .before .before .before .args .f .«most_faces»)) (sym (w .count-is)) ∙ sym (c .before .before .before .before .is-outside .ensures) ∙ (c .before .before .before .if1 .left)) in ((c .before .before .before .before .before .before .before .before .before .before .before .pre), w .fit, w .count-is, w .span-is, rw hb at (c .before .if2 .left), omega (arith, hb, span-small (c .before .before .before .before .before .before .before .before .before .before .before .args .f) (c .before .before .before .before .before .before .before .before .before .before .before .pre) (solidFaces (c .before .before .before .before .before .before .before .before .before .before .before .args .rows .now) (c .before .before .before .before .before .before .before .before .before .before .before .args .taken) (c .before .before .before .before .before .before .before .before .before .before .before .args .turned)) (w .fit), w .span-is, o, (c .before .before .before .before .before .before .before .before .before .before .before .pre) .f-held, (c .before .before .before .before .before .before .before .before .before .before .before .pre) .slender .face-count-narrow))
+put-list-requires c κs =
+    let a = c .before .before .before .before .before .before .before .before .before .before .before .args in
+    let p = c .before .before .before .before .before .before .before .before .before .before .before in
+    let w = weighed (a .f) (solidFaces (a .rows .now) (a .taken) (a .turned)) (sym ((c .before .before .before .before .before .before .weighed .given) .1) ∙ (c .before .before .before .before .before .before .before .before .weigh-all .ensures) (a .turned)) in let hb = size-is (a .f) (solidFaces (a .rows .now) (a .taken) (a .turned)) (w .span-is) in let o = outside-false 4 (a .f .«most_faces») (length (solidFaces (a .rows .now) (a .taken) (a .turned))) (ap (outside 4 (a .f .«most_faces»)) (sym (w .count-is)) ∙ sym (c .before .before .before .before .is-outside .ensures) ∙ (c .before .before .before .if1 .left)) in ((p .pre), w .fit, w .count-is, w .span-is, rw hb at (c .before .if2 .left), omega (arith, hb, span-small (a .f) (p .pre) (solidFaces (a .rows .now) (a .taken) (a .turned)) (w .fit), w .span-is, o, (p .pre) .f-held, (p .pre) .slender .face-count-narrow))
 
 same-length : tie.Need-same-length
 same-length c = search needs
 
 returns-4 : tie.Need-returns-4
 returns-4 c =
-    let w = weighed (c .before .before .before .before .before .before .before .before .before .before .before .before .before .before .args .f) (solidFaces (c .before .before .before .before .before .before .before .before .before .before .before .before .before .before .args .rows .now) (c .before .before .before .before .before .before .before .before .before .before .before .before .before .before .args .taken) (c .before .before .before .before .before .before .before .before .before .before .before .before .before .before .args .turned)) (sym ((c .before .before .before .before .before .before .before .before .before .weighed .given) .1) ∙ (c .before .before .before .before .before .before .before .before .before .before .before .weigh-all .ensures) (c .before .before .before .before .before .before .before .before .before .before .before .before .before .before .args .turned)) in
-    let hb = size-is (c .before .before .before .before .before .before .before .before .before .before .before .before .before .before .args .f) (solidFaces (c .before .before .before .before .before .before .before .before .before .before .before .before .before .before .args .rows .now) (c .before .before .before .before .before .before .before .before .before .before .before .before .before .before .args .taken) (c .before .before .before .before .before .before .before .before .before .before .before .before .before .before .args .turned)) (w .span-is) in
-    let r = result-fine (c .before .before .before .before .before .before .before .before .before .before .before .before .before .before .args .f) (solidFaces (c .before .before .before .before .before .before .before .before .before .before .before .before .before .before .args .rows .now) (c .before .before .before .before .before .before .before .before .before .before .before .before .before .before .args .taken) (c .before .before .before .before .before .before .before .before .before .before .before .before .before .before .args .turned)) (c .before .before .before .before .before .before .before .before .before .before .before .before .before .before .args .room .now) (ap (outside 4 (c .before .before .before .before .before .before .before .before .before .before .before .before .before .before .args .f .«most_faces»)) (sym (w .count-is)) ∙ sym (c .before .before .before .before .before .before .before .is-outside .ensures) ∙ (c .before .before .before .before .before .before .if1 .left)) (w .fit) (rw hb at (c .before .before .before .before .if2 .left)) in
+    let a = c .before .before .before .before .before .before .before .before .before .before .before .before .before .before .args in
+    let w = weighed (a .f) (solidFaces (a .rows .now) (a .taken) (a .turned)) (sym ((c .before .before .before .before .before .before .before .before .before .weighed .given) .1) ∙ (c .before .before .before .before .before .before .before .before .before .before .before .weigh-all .ensures) (a .turned)) in
+    let hb = size-is (a .f) (solidFaces (a .rows .now) (a .taken) (a .turned)) (w .span-is) in
+    let r = result-fine (a .f) (solidFaces (a .rows .now) (a .taken) (a .turned)) (a .room .now) (ap (outside 4 (a .f .«most_faces»)) (sym (w .count-is)) ∙ sym (c .before .before .before .before .before .before .before .is-outside .ensures) ∙ (c .before .before .before .before .before .before .if1 .left)) (w .fit) (rw hb at (c .before .before .before .before .if2 .left)) in
     (ap (λ (t : ℕ). Bytes (bytesFor t)) hb ∙ r .0, (c .before .before .put-list .ensures) ∙ r .1)
 
 pub write-spec : {M : Type 1} → statement M

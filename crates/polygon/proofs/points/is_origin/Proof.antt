@@ -19,9 +19,11 @@ is-zero-requires-3 c κs = search needs
 returns : tie.Need-returns
 unfolding isOrigin
 returns c =
-    let x = c .before .before .before .before .is-zero .ensures ∙ ap isZero (reads-back (c .before .before .before .before .before .before .args .p .x) (c .before .before .before .before .before .struct-told .given .0 .1)) in
-    let y = c .before .before .is-zero2 .ensures ∙ ap isZero (reads-back (c .before .before .before .before .before .before .args .p .y) (c .before .before .before .before .before .struct-told .given .1 .0 .1)) in
-    let z = c .is-zero3 .ensures ∙ ap isZero (reads-back (c .before .before .before .before .before .before .args .p .z) (c .before .before .before .before .before .struct-told .given .1 .1 .0 .1)) in
+    let a = c .before .before .before .before .before .before .args in
+    let p2 = c .before .before .before .before .before in
+    let x = c .before .before .before .before .is-zero .ensures ∙ ap isZero (reads-back (a .p .x) (p2 .struct-told .given .0 .1)) in
+    let y = c .before .before .is-zero2 .ensures ∙ ap isZero (reads-back (a .p .y) (p2 .struct-told .given .1 .0 .1)) in
+    let z = c .is-zero3 .ensures ∙ ap isZero (reads-back (a .p .z) (p2 .struct-told .given .1 .1 .0 .1)) in
     λ i. (x i && y i) && z i
 
 pub is-origin-spec : {M : Type 1} → statement M

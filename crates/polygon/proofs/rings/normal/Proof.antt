@@ -38,7 +38,9 @@ add-corner : tie.Need-add-corner Inv-loop μ-loop
 add-corner c = omega arith
 
 corner-requires-2 : tie.Need-corner-requires-2 Inv-loop μ-loop
-corner-requires-2 c κs = (c .before .before .before .before .before .pre, omega (arith, ring-least (c .before .before .before .before .before .pre)))
+corner-requires-2 c κs =
+    let p = c .before .before .before .before .before in
+    (p .pre, omega (arith, ring-least (p .pre)))
 
 cross-requires : tie.Need-cross-requires Inv-loop μ-loop
 cross-requires c κs =

@@ -47,11 +47,14 @@ one c = c .det .ensures ∙ (λ j. det (c .before .before .before .before .befor
 
 small : (c : tie.After-det Inv-loop μ-loop) → Within mostDet (c .det .result)
 small c =
+    let l = c .before .before .before .loop in
     let near = corner-small (c .before .before .before .before .before .before .before .before .pre) in
-    subst (λ (z : ℤ). Within mostDet z) (sym (one c)) (within-up tt (det-small (near 0) (near (c .before .before .before .loop .i)) (near (c .before .before .before .loop .i + 1))))
+    subst (λ (z : ℤ). Within mostDet z) (sym (one c)) (within-up tt (det-small (near 0) (near (l .i)) (near (l .i + 1))))
 
 env : (c : tie.After-det Inv-loop μ-loop) → Env (mostCorners * mostDet ∷ mostDet ∷ []) (c .before .before .before .loop .sum ∷ ofZ w64 (c .det .result) ∷ []) (faceSix (take (c .before .before .before .loop .i + 1) (R (c .before .before .before .before .before .before .before .before))) ∷ c .det .result ∷ [])
-env c = raw (c .before .before .before .loop .inv .4) (part (c .before .before .before)) (small c ▸ done)
+env c =
+    let p = c .before .before .before in
+    raw (p .loop .inv .4) (part (p)) (small c ▸ done)
 
 count-requires : tie.Need-count-requires Inv-loop μ-loop
 count-requires c κs = omega arith
@@ -60,7 +63,9 @@ corner-requires : tie.Need-corner-requires Inv-loop μ-loop
 corner-requires c κs = (c .before .before .pre, omega (arith, ring-least (c .before .before .pre)))
 
 corner-requires-2 : tie.Need-corner-requires-2 Inv-loop μ-loop
-corner-requires-2 c κs = (c .before .before .before .pre, omega (arith, ring-least (c .before .before .before .pre)))
+corner-requires-2 c κs =
+    let p = c .before .before .before in
+    (p .pre, omega (arith, ring-least (p .pre)))
 
 loop-holds : tie.Need-loop-holds Inv-loop μ-loop
 loop-holds c =
@@ -76,7 +81,9 @@ add-corner : tie.Need-add-corner Inv-loop μ-loop
 add-corner c = omega arith
 
 corner-requires-3 : tie.Need-corner-requires-3 Inv-loop μ-loop
-corner-requires-3 c κs = (c .before .before .before .before .before .before .pre, omega (arith, ring-least (c .before .before .before .before .before .before .pre)))
+corner-requires-3 c κs =
+    let p = c .before .before .before .before .before .before in
+    (p .pre, omega (arith, ring-least (p .pre)))
 
 det-requires : tie.Need-det-requires Inv-loop μ-loop
 det-requires c κs =

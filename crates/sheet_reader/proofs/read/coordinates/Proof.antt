@@ -35,7 +35,9 @@ field-requires : tie.Need-field-requires Inv-loop μ-loop
 field-requires c κs = omega arith
 
 to-coordinate-requires : tie.Need-to-coordinate-requires Inv-loop μ-loop
-to-coordinate-requires c κs = rw (c .field .ensures) (field-lt (c .before .before .before .before .args .s .now) ((c .before .before .before .before .args .i) + 11 * (c .before .before .loop .k)) 11)
+to-coordinate-requires c κs =
+    let a = c .before .before .before .before .args in
+    rw (c .field .ensures) (field-lt (a .s .now) ((a .i) + 11 * (c .before .before .loop .k)) 11)
 
 mul-xyz : tie.Need-mul-xyz Inv-loop μ-loop
 mul-xyz c = omega arith
@@ -68,8 +70,9 @@ loop-again c =
 
 returns : tie.Need-returns Inv-loop μ-loop
 returns c =
-    let e : (c .before .loop .k) ≡ (c .before .before .before .args .n) = omega arith in
-    (c .before .loop .inv .1) ∙ ap (λ (k : ℕ). padded (map coordinate (fieldsAt (c .before .before .before .args .s .now) (c .before .before .before .args .i) 11 k)) 96 (pos 0)) e
+    let a = c .before .before .before .args in
+    let e : (c .before .loop .k) ≡ (a .n) = omega arith in
+    (c .before .loop .inv .1) ∙ ap (λ (k : ℕ). padded (map coordinate (fieldsAt (a .s .now) (a .i) 11 k)) 96 (pos 0)) e
 
 pub coordinates-spec : {M : Type 1} → statement M
 coordinates-spec =

@@ -15,37 +15,66 @@ add-first-2 : tie.Need-add-first-2
 add-first-2 c = search needs
 
 field-requires : tie.Need-field-requires
-field-requires c κs = omega (arith, shaped (c .before .before .before .args .f) (c .before .before .before .args .s .now) ((c .before .before .before .pre .1)), (c .before .before .before .pre .0))
+field-requires c κs =
+    let a = c .before .before .before .args in
+    let p = c .before .before .before in
+    omega (arith, shaped (a .f) (a .s .now) (p .pre .1), (p .pre .0))
 
 add-field : tie.Need-add-field
 add-field c = search needs
 
 field-requires-2 : tie.Need-field-requires-2
-field-requires-2 c κs = omega (arith, shaped (c .before .before .before .before .before .args .f) (c .before .before .before .before .before .args .s .now) ((c .before .before .before .before .before .pre .1)), (c .before .before .before .before .before .pre .0))
+field-requires-2 c κs =
+    let a = c .before .before .before .before .before .args in
+    let p = c .before .before .before .before .before in
+    omega (arith, shaped (a .f) (a .s .now) (p .pre .1), (p .pre .0))
 
 mul-coordinates : tie.Need-mul-coordinates
-mul-coordinates c = omega (arith, bounds (c .before .before .before .before .before .before .args .f) (c .before .before .before .before .before .before .args .s .now) ((c .before .before .before .before .before .before .pre .0)) ((c .before .before .before .before .before .before .pre .1)) (c .before .before .field .ensures) (c .field2 .ensures), (c .before .before .before .before .before .before .pre .0))
+mul-coordinates c =
+    let a = c .before .before .before .before .before .before .args in
+    let p = c .before .before .before .before .before .before in
+    omega (arith, bounds (a .f) (a .s .now) (p .pre .0) (p .pre .1) (c .before .before .field .ensures) (c .field2 .ensures), (p .pre .0))
 
 coordinates-requires : tie.Need-coordinates-requires
-coordinates-requires c κs = omega (arith, bounds (c .before .before .before .before .before .before .args .f) (c .before .before .before .before .before .before .args .s .now) ((c .before .before .before .before .before .before .pre .0)) ((c .before .before .before .before .before .before .pre .1)) (c .before .before .field .ensures) (c .field2 .ensures), (c .before .before .before .before .before .before .pre .0))
+coordinates-requires c κs =
+    let a = c .before .before .before .before .before .before .args in
+    let p = c .before .before .before .before .before .before in
+    omega (arith, bounds (a .f) (a .s .now) (p .pre .0) (p .pre .1) (c .before .before .field .ensures) (c .field2 .ensures), (p .pre .0))
 
 mul-numbers : tie.Need-mul-numbers
-mul-numbers c = omega (arith, bounds (c .before .before .before .before .before .before .before .args .f) (c .before .before .before .before .before .before .before .args .s .now) ((c .before .before .before .before .before .before .before .pre .0)) ((c .before .before .before .before .before .before .before .pre .1)) (c .before .before .before .field .ensures) (c .before .field2 .ensures), (c .before .before .before .before .before .before .before .pre .0))
+mul-numbers c =
+    let a = c .before .before .before .before .before .before .before .args in
+    let p = c .before .before .before .before .before .before .before in
+    omega (arith, bounds (a .f) (a .s .now) (p .pre .0) (p .pre .1) (c .before .before .before .field .ensures) (c .before .field2 .ensures), (p .pre .0))
 
 add-numbers : tie.Need-add-numbers
-add-numbers c = omega (arith, bounds (c .before .before .before .before .before .before .before .args .f) (c .before .before .before .before .before .before .before .args .s .now) ((c .before .before .before .before .before .before .before .pre .0)) ((c .before .before .before .before .before .before .before .pre .1)) (c .before .before .before .field .ensures) (c .before .field2 .ensures), (c .before .before .before .before .before .before .before .pre .0))
+add-numbers c =
+    let a = c .before .before .before .before .before .before .before .args in
+    let p = c .before .before .before .before .before .before .before in
+    omega (arith, bounds (a .f) (a .s .now) (p .pre .0) (p .pre .1) (c .before .before .before .field .ensures) (c .before .field2 .ensures), (p .pre .0))
 
 mul-numbers-2 : tie.Need-mul-numbers-2
-mul-numbers-2 c = omega (arith, bounds (c .before .before .before .before .before .before .before .args .f) (c .before .before .before .before .before .before .before .args .s .now) ((c .before .before .before .before .before .before .before .pre .0)) ((c .before .before .before .before .before .before .before .pre .1)) (c .before .before .before .field .ensures) (c .before .field2 .ensures), (c .before .before .before .before .before .before .before .pre .0))
+mul-numbers-2 c =
+    let a = c .before .before .before .before .before .before .before .args in
+    let p = c .before .before .before .before .before .before .before in
+    omega (arith, bounds (a .f) (a .s .now) (p .pre .0) (p .pre .1) (c .before .before .before .field .ensures) (c .before .field2 .ensures), (p .pre .0))
 
 numbers-requires : tie.Need-numbers-requires
-numbers-requires c κs = omega (arith, bounds (c .before .before .before .before .before .before .before .args .f) (c .before .before .before .before .before .before .before .args .s .now) ((c .before .before .before .before .before .before .before .pre .0)) ((c .before .before .before .before .before .before .before .pre .1)) (c .before .before .before .field .ensures) (c .before .field2 .ensures), (c .before .before .before .before .before .before .before .pre .0))
+numbers-requires c κs =
+    let a = c .before .before .before .before .before .before .before .args in
+    let p = c .before .before .before .before .before .before .before in
+    omega (arith, bounds (a .f) (a .s .now) (p .pre .0) (p .pre .1) (c .before .before .before .field .ensures) (c .before .field2 .ensures), (p .pre .0))
 
 kept-requires : tie.Need-kept-requires
-kept-requires c κs = omega (arith, bounds (c .before .before .before .before .before .before .before .before .args .f) (c .before .before .before .before .before .before .before .before .args .s .now) ((c .before .before .before .before .before .before .before .before .pre .0)) ((c .before .before .before .before .before .before .before .before .pre .1)) (c .before .before .before .before .field .ensures) (c .before .before .field2 .ensures), (c .before .before .before .before .before .before .before .before .pre .0))
+kept-requires c κs =
+    let a = c .before .before .before .before .before .before .before .before .args in
+    let p = c .before .before .before .before .before .before .before .before in
+    omega (arith, bounds (a .f) (a .s .now) (p .pre .0) (p .pre .1) (c .before .before .before .before .field .ensures) (c .before .before .field2 .ensures), (p .pre .0))
 
 returns : tie.Need-returns
-returns c = (c .kept .ensures) ∙ drawn-is (c .before .before .before .before .before .before .before .before .before .args .f) (c .before .before .before .before .before .before .before .before .before .args .s .now) ((c .before .before .before .before .before .before .before .before .before .pre .1)) (c .before .before .before .before .before .field .ensures) (c .before .before .before .field2 .ensures) (c .before .before .coordinates .ensures) (c .before .numbers .ensures)
+returns c =
+    let a = c .before .before .before .before .before .before .before .before .before .args in
+    (c .kept .ensures) ∙ drawn-is (a .f) (a .s .now) ((c .before .before .before .before .before .before .before .before .before .pre .1)) (c .before .before .before .before .before .field .ensures) (c .before .before .before .field2 .ensures) (c .before .before .coordinates .ensures) (c .before .numbers .ensures)
 
 pub drawn-spec : {M : Type 1} → statement M
 drawn-spec =

@@ -42,11 +42,15 @@ enum-told c = search needs
 
 returns : tie.Need-returns
 unfolding keptOf
-returns c = ap (λ (d : Drawing). record { answer = Answer.Refused ((c .before .before .r .given) .0 .0); drawing = d }) (c .no-drawing .ensures) ∙ ap (λ (a : Answer). keptFor a (c .before .before .before .before .before .before .before .args .v) (c .before .before .before .before .before .before .before .args .e) (c .before .before .before .before .before .before .before .args .t3) (c .before .before .before .before .before .before .before .args .t4)) (sym ((c .before .before .r .given) .1) ∙ (c .before .before .before .before .content .ensures))
+returns c =
+    let a2 = c .before .before .before .before .before .before .before .args in
+    ap (λ (d : Drawing). record { answer = Answer.Refused ((c .before .before .r .given) .0 .0); drawing = d }) (c .no-drawing .ensures) ∙ ap (λ (a : Answer). keptFor a (a2 .v) (a2 .e) (a2 .t3) (a2 .t4)) (sym ((c .before .before .r .given) .1) ∙ (c .before .before .before .before .content .ensures))
 
 returns-2 : tie.Need-returns-2
 unfolding keptOf
-returns-2 c = ap (λ (a : Answer). keptFor a (c .before .before .before .before .before .args .v) (c .before .before .before .before .before .args .e) (c .before .before .before .before .before .args .t3) (c .before .before .before .before .before .args .t4)) (sym ((c .enum-told .given) .1) ∙ (c .before .before .content .ensures))
+returns-2 c =
+    let a2 = c .before .before .before .before .before .args in
+    ap (λ (a : Answer). keptFor a (a2 .v) (a2 .e) (a2 .t3) (a2 .t4)) (sym ((c .enum-told .given) .1) ∙ (c .before .before .content .ensures))
 
 pub kept-spec : {M : Type 1} → statement M
 kept-spec =

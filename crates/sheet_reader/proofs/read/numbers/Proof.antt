@@ -22,13 +22,19 @@ loop-holds : tie.Need-loop-holds Inv-loop μ-loop
 loop-holds c = (omega arith, padded-none 128 0 ∙ ap (λ (l : List ℕ). padded l 128 0) (sym (fields-none (c .before .args .s .now) (c .before .args .i) (c .before .args .w))))
 
 mul-field : tie.Need-mul-field Inv-loop μ-loop
-mul-field c = omega (arith, slot (c .before .before .before .args .w) (c .before .loop .k) (c .before .before .before .args .n) (omega arith))
+mul-field c =
+    let a = c .before .before .before .args in
+    omega (arith, slot (a .w) (c .before .loop .k) (a .n) (omega arith))
 
 add-field : tie.Need-add-field Inv-loop μ-loop
-add-field c = omega (arith, slot (c .before .before .before .args .w) (c .before .loop .k) (c .before .before .before .args .n) (omega arith))
+add-field c =
+    let a = c .before .before .before .args in
+    omega (arith, slot (a .w) (c .before .loop .k) (a .n) (omega arith))
 
 field-requires : tie.Need-field-requires Inv-loop μ-loop
-field-requires c κs = omega (arith, slot (c .before .before .before .args .w) (c .before .loop .k) (c .before .before .before .args .n) (omega arith))
+field-requires c κs =
+    let a = c .before .before .before .args in
+    omega (arith, slot (a .w) (c .before .loop .k) (a .n) (omega arith))
 
 cast-ends : tie.Need-cast-ends Inv-loop μ-loop
 cast-ends c = omega arith
@@ -59,8 +65,9 @@ loop-again c =
 
 returns : tie.Need-returns Inv-loop μ-loop
 returns c =
-    let e : (c .before .loop .k) ≡ (c .before .before .before .args .n) = omega arith in
-    (c .before .loop .inv .1) ∙ ap (λ (k : ℕ). padded (fieldsAt (c .before .before .before .args .s .now) (c .before .before .before .args .i) (c .before .before .before .args .w) k) 128 0) e
+    let a = c .before .before .before .args in
+    let e : (c .before .loop .k) ≡ (a .n) = omega arith in
+    (c .before .loop .inv .1) ∙ ap (λ (k : ℕ). padded (fieldsAt (a .s .now) (a .i) (a .w) k) 128 0) e
 
 pub numbers-spec : {M : Type 1} → statement M
 numbers-spec =

@@ -23,7 +23,9 @@ drawn-requires : tie.Need-drawn-requires
 drawn-requires c κs = ((c .before .before .before .before .pre), sym ((c .enum-told .given) .1) ∙ (c .before .before .shape .ensures))
 
 returns : tie.Need-returns
-returns c = ap (λ (d : Drawing). record { answer = Answer.Refused ((c .before .before .r .given) .0 .0); drawing = d }) (c .no-drawing .ensures) ∙ sheet-misshapen (c .before .before .before .before .before .before .args .f) (c .before .before .before .before .before .before .args .s .now) (sym ((c .before .before .r .given) .1) ∙ (c .before .before .before .before .shape .ensures))
+returns c =
+    let a = c .before .before .before .before .before .before .args in
+    ap (λ (d : Drawing). record { answer = Answer.Refused ((c .before .before .r .given) .0 .0); drawing = d }) (c .no-drawing .ensures) ∙ sheet-misshapen (a .f) (a .s .now) (sym ((c .before .before .r .given) .1) ∙ (c .before .before .before .before .shape .ensures))
 
 returns-2 : tie.Need-returns-2
 returns-2 c = search needs

@@ -55,13 +55,14 @@ loop-less c = omega arith
 
 loop-again : tie.Need-loop-again Inv-loop μ-loop
 loop-again c =
+    let p = c .before .before .before in
     let a = (c .before .before .before .before .before .before .before .before .before .args) in
     let l = (c .before .before .before .before .before .before .before .loop) in
     let d = run 8 (a .room .now) in
     let vs = map onSheet (a .xyz .now) in
     let h : a .i ≤ length d = rw length-run (omega arith) in
     let n : l .k < length vs = rw length-map (omega arith) in
-    let e : (c .before .before .before .to-field .result) ≡ getD vs (l .k) (onSheet (pos 0)) = (c .before .before .before .to-field .ensures) ∙ ap onSheet (same (c .before .before .before .before)) ∙ sym (List·getD-map onSheet (a .xyz .now) (l .k) (pos 0)) in (
+    let e : (p .to-field .result) ≡ getD vs (l .k) (onSheet (pos 0)) = (p .to-field .ensures) ∙ ap onSheet (same (c .before .before .before .before)) ∙ sym (List·getD-map onSheet (a .xyz .now) (l .k) (pos 0)) in (
       omega arith,
       (c .before .before .put .ensures)
           ∙ ap₂ (λ (t : List ℕ) (v : ℕ). overwrite t (a .i + 11 * l .k) (bits 11 v)) (l .inv .1) e
@@ -74,8 +75,9 @@ same-length c = (c .before .loop .inv .2)
 
 returns : tie.Need-returns Inv-loop μ-loop
 returns c =
-    let h : length (map onSheet (c .before .before .before .args .xyz .now)) ≤ (c .before .loop .k) = rw length-map (omega arith) in
-    (c .before .loop .inv .1) ∙ ap (λ (t : List ℕ). overwrite (run 8 (c .before .before .before .args .room .now)) (c .before .before .before .args .i) (run 11 t)) (take-all (c .before .loop .k) (map onSheet (c .before .before .before .args .xyz .now)) h)
+    let a = c .before .before .before .args in
+    let h : length (map onSheet (a .xyz .now)) ≤ (c .before .loop .k) = rw length-map (omega arith) in
+    (c .before .loop .inv .1) ∙ ap (λ (t : List ℕ). overwrite (run 8 (a .room .now)) (a .i) (run 11 t)) (take-all (c .before .loop .k) (map onSheet (a .xyz .now)) h)
 
 pub put-coordinates-spec : {M : Type 1} → statement M
 put-coordinates-spec =

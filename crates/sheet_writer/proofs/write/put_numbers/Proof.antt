@@ -21,10 +21,14 @@ loop-holds : tie.Need-loop-holds Inv-loop μ-loop
 loop-holds c = (omega arith, overwrite-none (run 8 (c .before .before .args .room .now)) (c .before .before .args .i) ∙ ap (overwrite (run 8 (c .before .before .args .room .now)) (c .before .before .args .i)) (sym (run-none (c .before .before .args .w))), refl)
 
 mul-put : tie.Need-mul-put Inv-loop μ-loop
-mul-put c = omega (arith, slot (c .before .before .before .before .before .args .w) (c .before .before .loop .k) (length (c .before .before .before .before .before .args .list .now)) (omega arith))
+mul-put c =
+    let a = c .before .before .before .before .before .args in
+    omega (arith, slot (a .w) (c .before .before .loop .k) (length (a .list .now)) (omega arith))
 
 add-put : tie.Need-add-put Inv-loop μ-loop
-add-put c = omega (arith, slot (c .before .before .before .before .before .args .w) (c .before .before .loop .k) (length (c .before .before .before .before .before .args .list .now)) (omega arith))
+add-put c =
+    let a = c .before .before .before .before .before .args in
+    omega (arith, slot (a .w) (c .before .before .loop .k) (length (a .list .now)) (omega arith))
 
 shared-slice-read-put : tie.Need-shared-slice-read-put Inv-loop μ-loop
 shared-slice-read-put c = omega arith
@@ -33,7 +37,9 @@ cast-put : tie.Need-cast-put Inv-loop μ-loop
 cast-put c = omega (arith, (c .shared-slice-known2 .given) (c .before .before .before .loop .k))
 
 put-requires : tie.Need-put-requires Inv-loop μ-loop
-put-requires c κs = omega (arith, slot (c .before .before .before .before .before .before .args .w) (c .before .before .before .loop .k) (length (c .before .before .before .before .before .before .args .list .now)) (omega arith))
+put-requires c κs =
+    let a = c .before .before .before .before .before .before .args in
+    omega (arith, slot (a .w) (c .before .before .before .loop .k) (length (a .list .now)) (omega arith))
 
 add-k : tie.Need-add-k Inv-loop μ-loop
 add-k c = omega arith
@@ -57,7 +63,9 @@ same-length : tie.Need-same-length Inv-loop μ-loop
 same-length c = (c .before .loop .inv .2)
 
 returns : tie.Need-returns Inv-loop μ-loop
-returns c = (c .before .loop .inv .1) ∙ ap (λ (t : List ℕ). overwrite (run 8 (c .before .before .before .before .args .room .now)) (c .before .before .before .before .args .i) (run (c .before .before .before .before .args .w) t)) (take-all (c .before .loop .k) (c .before .before .before .before .args .list .now) (omega arith))
+returns c =
+    let a = c .before .before .before .before .args in
+    (c .before .loop .inv .1) ∙ ap (λ (t : List ℕ). overwrite (run 8 (a .room .now)) (a .i) (run (a .w) t)) (take-all (c .before .loop .k) (a .list .now) (omega arith))
 
 pub put-numbers-spec : {M : Type 1} → statement M
 put-numbers-spec =
