@@ -27,12 +27,12 @@ use Rattle.means_check.specs.Bodies.{SameBody}
 use Rattle.means_check.proofs.Alike.{names-to}
 use Rattle.means_check.proofs.Bodies.{faceList-names, same-named}
 use Rattle.means_check.proofs.Demand.{drawing-places, drawing-fits, accepts-exactly, each-accepted, one-named}
-use Rattle.means_sent.proofs.Each.{back}
+use Rattle.means_sheets.proofs.FaceLists.{faces-read-one}
 use Rattle.demands.specs.Input.{Input, drawing, form, Passes, converted, checked, reported}
 use Rattle.demands.specs.Demand3.{NamesIt, Report, Demand3, Holds3}
 use Rattle.demands.proofs.Input.{converted-is, checked-is, form-fine, drawing-fine, loops-fine, small, counted}
 use Rattle.demands.proofs.Sendable.{names-sent}
-use Rattle.demands.proofs.Rooms.{solid-faces, words-at}
+use Rattle.demands.proofs.Rooms.{faces-reported, words-at}
 
 module _ (x : Input) (p : Passes x) where
   fits : Candidates (drawing x) (candidates (drawing x))
@@ -42,10 +42,10 @@ module _ (x : Input) (p : Passes x) where
   packed : (taken turned : List Bool) (six : ℕ) → IsSolid (drawing x) (candidates (drawing x)) taken turned six → (fs : List Loop) → Names (drawing x) (candidates (drawing x)) taken turned fs → checked x (encodeFaces editionOne fs) ≡ Accepted
   packed taken turned six s fs n =
       let m = small x (form-fine x p) in
-      let b = back (length (drawing x .vertices)) (m .0) fs (names-sent (drawing x) fits (drawing-places (drawing x) (drawing-fine x p)) (m .1) taken turned s fs n) in
+      let b = faces-read-one (length (drawing x .vertices)) (m .0) fs (names-sent (drawing x) fits (drawing-places (drawing x) (drawing-fine x p)) (m .1) taken turned s fs n) in
       checked-is x (encodeFaces editionOne fs)
-      ∙ each-accepted (form x) (drawing x) (form-fine x p) (drawing-fine x p) (loops-fine x p) taken turned six s (encodeFaces editionOne fs) (b .0)
-      (subst (λ (gs : List Loop). Names (drawing x) (candidates (drawing x)) taken turned gs) (sym (b .1)) n)
+      ∙ each-accepted (form x) (drawing x) (form-fine x p) (drawing-fine x p) (loops-fine x p) taken turned six s (encodeFaces editionOne fs) (b .shape)
+      (subst (λ (gs : List Loop). Names (drawing x) (candidates (drawing x)) taken turned gs) (sym (b .faces)) n)
 
   named : (list : List ℕ) → checked x list ≡ Accepted → NamesSolid (drawing x) (candidates (drawing x)) (facesIn editionOne list)
   named list a = accepts-exactly (form x) (drawing x) list .0 (sym (checked-is x list) ∙ a) .named
@@ -94,7 +94,7 @@ module _ (x : Input) (p : Passes x) where
           let f : r .faces ≡ facesAfter (candidates (drawing x)) room = t .faces-left ∙ written es (omega arith) in
           ap (λ (rs : List ℕ). solidFaces rs (getD (r .solids) (3 * i) 0) (getD (r .solids) (3 * i + 1) 0)) f
           ∙ ap₂ (solidFaces (facesAfter (candidates (drawing x)) room)) a b
-          ∙ solid-faces (drawing x) (loops-fine x p) room (entryAt es i .taken) (entryAt es i .turned) (all .each i l .some)
+          ∙ faces-reported (drawing x) (loops-fine x p) room (entryAt es i .taken) (entryAt es i .turned) (all .each i l .some)
 
       go : Tells (drawing x) (the-walk (drawing x)) limit room solids r → Report x solids r
       go (inl t) = record {

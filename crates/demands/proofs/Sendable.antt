@@ -9,12 +9,14 @@ use native.Mathlib.Decide.{decLt, ℕ-discrete}
 use lib.ListN.{length, List·getD-eq-default}
 use Rattle.sets.specs.Word.{dig}
 use Rattle.sets.proofs.Digits.{never}
+use Rattle.paper.specs.Format.{editionOne}
 use Rattle.paper.specs.Drawing.{Wire, samePlace}
 use Rattle.paper.specs.Loops.{Loop, loopAt, flipped, candidates}
 use Rattle.means_solid.specs.Solid.{IsSolid}
 use Rattle.means_solid.specs.Named.{SameRing, Names}
 use Rattle.means_check.specs.Path.{ClosedPath}
-use Rattle.means_check.specs.Sent.{Sent, faceList}
+use Rattle.means_sheets.specs.FaceLists.{Sendable}
+use Rattle.means_check.specs.Sent.{faceList}
 use Rattle.means_check.specs.Shape.{Candidates}
 use Rattle.means_check.specs.Bodies.{Singly, SameBody}
 use Rattle.means_check.proofs.Rings.{same-sym, same-trans}
@@ -99,7 +101,7 @@ module _ (d : Wire) (c : Candidates d (candidates d)) (apart : samePlace d ≡ n
       let r = n .each i h in
       path-same d (r .2) (turn (dig turned (r .0)) (loopAt (candidates d) (r .0)) (loop-path d apart (loopAt (candidates d) (r .0)) (candidates-are d (r .0) (inside (r .0) (r .1)) .loop)))
 
-  pub names-sent : (fs : List Loop) → Names d (candidates d) taken turned fs → Sent (length (d .vertices)) fs
+  pub names-sent : (fs : List Loop) → Names d (candidates d) taken turned fs → Sendable editionOne (length (d .vertices)) fs
   names-sent fs n =
       let gs = faceList d (candidates d) taken turned in
       let m = faceList-names d (candidates d) c taken turned s in

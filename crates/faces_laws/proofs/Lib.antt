@@ -4,3 +4,5 @@ pub mod Shape
 -- faces by the bit at which each starts; how many bits there are
 pub mod FaceList
 pub mod Packed
+-- a solid's faces, from rows and its two words
+pub mod Reported

@@ -20,7 +20,8 @@ use Rattle.means_solid.specs.Solid.{IsSolid}
 use Rattle.means_check.specs.Shape.{Candidates}
 use Rattle.means_solid.specs.Named.{SameRing, Names}
 use Rattle.means_check.specs.Accepts.{NamesSolid, Accepts}
-use Rattle.means_check.specs.Sent.{Sent, faceList}
+use Rattle.means_sheets.proofs.FaceLists.{faces-read-one}
+use Rattle.means_check.specs.Sent.{faceList}
 use Rattle.means_check.specs.Bodies.{AmongEither, Singly, SameBody, OneSolid}
 use Rattle.means_check.proofs.Numbered.{names-taken, names-turned}
 use Rattle.means_check.proofs.Few.{solid-sent}
@@ -110,15 +111,16 @@ module _ (form : List Check) (d : Wire) where
     named = record { taken = taken; turned = turned; six = six; solid = s; names = n };
   })
 
-  -- each has such a list: its own faces in candidate order, packed. That packed faces read back is the converter's other theorem, which
-  -- the crate of face lists proves; here it is handed over.
-  pub each-sent : firstOf form ≡ Fine → firstOf (drawingChecks d) ≡ Fine → firstOf (loopChecks (loops d) (candidates d)) ≡ Fine → length (d .edges) ≤ 64
-      → ((fs : List Loop) → Sent (length (d .vertices)) fs → (wellShaped editionOne (length (d .vertices)) (encodeFaces editionOne fs) ≡ true) × (facesIn editionOne (encodeFaces editionOne fs) ≡ fs))
-      → (taken turned : List Bool) (six : ℕ) → IsSolid d (candidates d) taken turned six → verdict form d (encodeFaces editionOne (faceList d (candidates d) taken turned)) ≡ Accepted
-  each-sent f r l few back taken turned six s =
-      let b = back (faceList d (candidates d) taken turned) (solid-sent d (drawing-places d r) few taken turned s) in
-      each-accepted f r l taken turned six s (encodeFaces editionOne (faceList d (candidates d) taken turned)) (b .0)
-      (subst (λ (fs : List Loop). Names d (candidates d) taken turned fs) (sym (b .1)) (faceList-names d (candidates d) (drawing-fits d r) taken turned s))
+  -- each has such a list: its own faces in candidate order, packed
+  pub each-sent : firstOf form ≡ Fine → firstOf (drawingChecks d) ≡ Fine → firstOf (loopChecks (loops d) (candidates d)) ≡ Fine
+      → length (d .vertices) ≤ editionOne .«most_vertices» → length (d .edges) ≤ editionOne .«most_edges»
+      → (taken turned : List Bool) (six : ℕ) → IsSolid d (candidates d) taken turned six
+      → verdict form d (encodeFaces editionOne (faceList d (candidates d) taken turned)) ≡ Accepted
+  each-sent f r l vertices edges taken turned six s =
+      let fs : List Loop = faceList d (candidates d) taken turned in
+      let b = faces-read-one (length (d .vertices)) vertices fs (solid-sent d (drawing-places d r) edges taken turned s) in
+      each-accepted f r l taken turned six s (encodeFaces editionOne fs) (b .shape)
+      (subst (Names d (candidates d) taken turned) (sym (b .faces)) (faceList-names d (candidates d) (drawing-fits d r) taken turned s))
 
   -- "names one solid": a list names no two
   pub one-named : firstOf (drawingChecks d) ≡ Fine → (fs : List Loop) (w v : NamesSolid d (candidates d) fs)

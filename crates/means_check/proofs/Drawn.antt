@@ -23,7 +23,7 @@ use Rattle.paper.specs.declared.Verdict.the-variants.{Accepted}
 use Rattle.paper_laws.proofs.Limits.{outside-false}
 use Rattle.means_solid.specs.Solid.{IsSolid}
 use Rattle.means_check.specs.Accepts.{Accepts}
-use Rattle.means_check.specs.Sent.{Sent, faceList}
+use Rattle.means_check.specs.Sent.{faceList}
 use Rattle.means_check.proofs.Accepting.{step-none, both-fine}
 use Rattle.means_check.proofs.Demand.{accepts-exactly, each-sent}
 
@@ -80,23 +80,19 @@ sheet-small s e =
 
 -- ---- demand 3
 
--- packed faces read back: what the crate of face lists proves of edition 1
-abbrev pub ReadsBack : Type 0
-ReadsBack = (v : ℕ) → v ≤ 32 → (fs : List Loop) → Sent v fs → (wellShaped editionOne v (encodeFaces editionOne fs) ≡ true) × (facesIn editionOne (encodeFaces editionOne fs) ≡ fs)
-
 module _ (xyz : List ℤ) (ends : List ℕ) where
   pub lists-exactly : (list : List ℕ) → ((verdictLists xyz ends list ≡ Accepted) → Accepts (lentChecks editionOne xyz ends) (wire xyz ends) list)
       × (Accepts (lentChecks editionOne xyz ends) (wire xyz ends) list → verdictLists xyz ends list ≡ Accepted)
   unfolding verdictLists
   lists-exactly list = accepts-exactly (lentChecks editionOne xyz ends) (wire xyz ends) list
 
-  pub lists-each : ReadsBack → firstOf (lentChecks editionOne xyz ends) ≡ Fine → firstOf (drawingChecks (wire xyz ends)) ≡ Fine → firstOf (loopChecks (loops (wire xyz ends)) (candidates (wire xyz ends))) ≡ Fine
+  pub lists-each : firstOf (lentChecks editionOne xyz ends) ≡ Fine → firstOf (drawingChecks (wire xyz ends)) ≡ Fine → firstOf (loopChecks (loops (wire xyz ends)) (candidates (wire xyz ends))) ≡ Fine
       → (taken turned : List Bool) (six : ℕ) → IsSolid (wire xyz ends) (candidates (wire xyz ends)) taken turned six
       → verdictLists xyz ends (encodeFaces editionOne (faceList (wire xyz ends) (candidates (wire xyz ends)) taken turned)) ≡ Accepted
   unfolding verdictLists
-  lists-each back f r l =
+  lists-each f r l =
       let m = lent-small xyz ends f in
-      each-sent (lentChecks editionOne xyz ends) (wire xyz ends) f r l (m .1) (back (length (wire xyz ends .vertices)) (m .0))
+      each-sent (lentChecks editionOne xyz ends) (wire xyz ends) f r l (m .0) (m .1)
 
 module _ (s : List ℕ) where
   pub sheet-exactly : (list : List ℕ) → ((verdictSheet s list ≡ Accepted) → Accepts (sheetChecks editionOne s) (wire (coordinatesIn editionOne s) (endsIn editionOne s)) list)
@@ -104,11 +100,11 @@ module _ (s : List ℕ) where
   unfolding verdictSheet
   sheet-exactly list = accepts-exactly (sheetChecks editionOne s) (wire (coordinatesIn editionOne s) (endsIn editionOne s)) list
 
-  pub sheet-each : ReadsBack → firstOf (sheetChecks editionOne s) ≡ Fine → firstOf (drawingChecks (wire (coordinatesIn editionOne s) (endsIn editionOne s))) ≡ Fine
+  pub sheet-each : firstOf (sheetChecks editionOne s) ≡ Fine → firstOf (drawingChecks (wire (coordinatesIn editionOne s) (endsIn editionOne s))) ≡ Fine
       → firstOf (loopChecks (loops (wire (coordinatesIn editionOne s) (endsIn editionOne s))) (candidates (wire (coordinatesIn editionOne s) (endsIn editionOne s)))) ≡ Fine
       → (taken turned : List Bool) (six : ℕ) → IsSolid (wire (coordinatesIn editionOne s) (endsIn editionOne s)) (candidates (wire (coordinatesIn editionOne s) (endsIn editionOne s))) taken turned six
       → verdictSheet s (encodeFaces editionOne (faceList (wire (coordinatesIn editionOne s) (endsIn editionOne s)) (candidates (wire (coordinatesIn editionOne s) (endsIn editionOne s))) taken turned)) ≡ Accepted
   unfolding verdictSheet
-  sheet-each back f r l =
+  sheet-each f r l =
       let m = sheet-small s f in
-      each-sent (sheetChecks editionOne s) (wire (coordinatesIn editionOne s) (endsIn editionOne s)) f r l (m .1) (back (length (wire (coordinatesIn editionOne s) (endsIn editionOne s) .vertices)) (m .0))
+      each-sent (sheetChecks editionOne s) (wire (coordinatesIn editionOne s) (endsIn editionOne s)) f r l (m .0) (m .1)

@@ -14,13 +14,15 @@ use Rattle.lists.proofs.Places.{map-at, made-at, made-length, upto-length, upto
 use Rattle.lists.proofs.Sides.{wrap-low}
 use Rattle.sets.specs.Word.{bit, dig, count, both, less, only}
 use Rattle.sets.proofs.Digits.{never, dig-both, length-both, count-only}
+use Rattle.paper.specs.Format.{editionOne}
 use Rattle.paper.specs.Drawing.{Wire, Edge, edge, edgeAt, samePlace}
 use Rattle.paper.specs.Loops.{Loop, loopAt, flipped, candidates}
 use Rattle.paper.specs.Solids.{has, inTwo}
 use Rattle.means_solid.specs.Solid.{IsSolid}
 use Rattle.means_check.specs.Path.{EdgeOf, ClosedPath}
 use Rattle.means_solid.specs.Named.{directed}
-use Rattle.means_check.specs.Sent.{Sent, faceList}
+use Rattle.means_sheets.specs.FaceLists.{Sendable}
+use Rattle.means_check.specs.Sent.{faceList}
 use Rattle.means_check.proofs.Numbered.{filter-yes}
 use Rattle.means_check.proofs.Counts.{rest-in}
 use Rattle.means_check.proofs.Goings.{cases-has, has-nil, dig-map, around-at, one-way}
@@ -200,7 +202,7 @@ kept-count p (b ∷ bs) j f = go (p j) b (ap p (plus-zero j) ∙ f 0 (omega arit
     go false false e r = omega arith
 
 module _ (d : Wire) (cs : List Loop) (taken turned : List Bool) (paths : (k : ℕ) → k < length cs → ClosedPath d (loopAt cs k)) {six : ℕ} (s : IsSolid d cs taken turned six) where
-  pub can-be-sent : length (d .edges) ≤ 64 → Sent (length (d .vertices)) (faceList d cs taken turned)
+  pub can-be-sent : length (d .edges) ≤ 64 → Sendable editionOne (length (d .vertices)) (faceList d cs taken turned)
   unfolding faceList upto
   can-be-sent few = record {
     least = omega (arith, long, four-faces d cs taken turned paths s);
@@ -236,6 +238,6 @@ module _ (d : Wire) (cs : List Loop) (taken turned : List Bool) (paths : (k : �
 
 -- every solid of a drawing with at most 64 edges can be sent as a list of its faces
 pub solid-sent : (d : Wire) → samePlace d ≡ none → length (d .edges) ≤ 64 → (taken turned : List Bool) {six : ℕ} → IsSolid d (candidates d) taken turned six
-    → Sent (length (d .vertices)) (faceList d (candidates d) taken turned)
+    → Sendable editionOne (length (d .vertices)) (faceList d (candidates d) taken turned)
 solid-sent d e few taken turned s =
     can-be-sent d (candidates d) taken turned (λ k h. loop-path d e (loopAt (candidates d) k) (candidates-are d k h .loop)) s few

@@ -1,68 +1,103 @@
 -- Demand 2: face lists read back and are written back the same. Over the layout, and of edition 1. Assumes nothing.
--- Faces that a face list can hold, written out, are accepted and read back as they were. A face list that 20 has nothing against is
--- written back with the same bytes. So no two face lists hold the same faces.
 pub mod Packed
 pub mod Shape
 pub mod Written
 pub mod Read
-use mathlib.Core.Path.{_≡_, sym, ap, _∙_}
-use mathlib.Core.Bool.{true}
-use mathlib.Core.List.{List, flatMap}
-use Prim.Native.Nat.{ℕ, _≤_, _*_, _^_}
-use lib.ListN.{length}
-use Rattle.pack.specs.Bits.{Under}
+pub mod Room
+use mathlib.Core.Path.{_≡_, refl, sym, ap, ap₂, _∙_}
+use mathlib.Core.Bool.{Bool, true, false, cond}
+use mathlib.Core.List.{List, [], flatMap}
+use Prim.Native.Nat.{ℕ, _*_, _-_, _^_, _≤_, _<_}
+use native.Mathlib.Nat.{le-trans}
+use native.Mathlib.Omega.{arith}
+use lib.ListN.{length, replicate, length-replicate}
 use Rattle.pack.specs.Fill.{padded}
-use Rattle.paper.specs.Numbers.{rowBytes}
+use Rattle.sets.specs.Word.{word}
+use Rattle.sets.proofs.Word.{full-word}
+use Rattle.paper.specs.Numbers.{mostCandidates, rowBytes}
 use Rattle.paper.specs.Format.{editionOne}
-use Rattle.paper.specs.FaceList.{encodeFaces, facesIn, wellShaped, facesOf}
+use Rattle.paper.specs.FaceList.{encodeFaces, countIn, facesIn, wellShaped, facesOf, noFaces, solidFaces}
 use Rattle.paper.specs.Loops.{Loop, row}
 use Rattle.paper.specs.declared.Format.{Format}
+use Rattle.paper.specs.declared.Faces.{Faces}
 use Rattle.paper.specs.declared.Answer.the-variants.{Fine}
+use Rattle.faces_laws.proofs.FaceList.{length-in}
 use Rattle.faces_laws.proofs.Shape.{shape-yes}
+use Rattle.faces_laws.proofs.Reported.{solid-faces, all-taken}
 use Rattle.means_sheets.specs.Sound.{Sound}
-use Rattle.means_sheets.specs.FaceLists.{Sendable}
+use Rattle.means_sheets.specs.FaceLists.{Sendable, returned, FacesReadBack, ReadBackOne, SentIsSendable, AcceptedList, FacesWriteBack, RowsGiveFaces, OneList}
 use Rattle.means_sheets.proofs.Sheets.{one-sound}
 use Rattle.means_sheets.proofs.FaceLists.Written.{faces-accepted, faces-read-back, rows-returned}
 use Rattle.means_sheets.proofs.FaceLists.Read.{written-again, can-be-sent}
+use Rattle.means_sheets.proofs.FaceLists.Room.{sent-sendable, sent-room, sends, sendable-more}
 
 -- ---- faces that a face list can hold, for a drawing of v vertices
 
-module _ (f : Format) (sound : Sound f) (v : ℕ) (fits : v ≤ 2 ^ f .«vertex_number_bits») (fs : List Loop) (g : Sendable f v fs) where
-  pub accepted : wellShaped f v (encodeFaces f fs) ≡ true
-  accepted = faces-accepted f sound v fits fs g
+pub faces-read : (f : Format) → Sound f → (v : ℕ) → v ≤ 2 ^ f .«vertex_number_bits» → (fs : List Loop) → Sendable f v fs → FacesReadBack f v fs
+faces-read f sound v fits fs g = record {
+  shape = faces-accepted f sound v fits fs g;
+  list = rows-returned f sound v fits fs g;
+  faces = faces-read-back f sound v fits fs g;
+  room = λ room n e. ap (facesOf f v) (sent-room f fs room n e) ∙ rows-returned f sound v fits fs g;
+}
 
-  pub reads-back : facesIn f (encodeFaces f fs) ≡ fs
-  reads-back = faces-read-back f sound v fits fs g
+pub sent-is-sendable : (f : Format) → SentIsSendable f
+sent-is-sendable f fs room n e = sent-sendable f fs room n e
 
-  -- as the reader returns them: a row for each face
-  pub returned : facesOf f v (encodeFaces f fs) ≡ record { answer = Fine; count = length fs; rows = padded (flatMap row fs) (rowBytes * editionOne .«most_faces») 0 }
-  returned = rows-returned f sound v fits fs g
+-- ---- a face list that is accepted
 
--- ---- a face list that 20 has nothing against
+module _ (f : Format) (v : ℕ) (s : List ℕ) (a : AcceptedList f v s) where
+  -- its shape is right, and what reading returns is its faces
+  abbrev read : Faces
+  read = record { answer = Fine; count = countIn f s; rows = returned (facesIn f s) .rows }
 
-module _ (f : Format) (v : ℕ) (s : List ℕ) (bytes : Under (2 ^ 8) s) (h : wellShaped f v s ≡ true) where
-  pub writes-back : encodeFaces f (facesIn f s) ≡ s
-  writes-back = written-again f v s (shape-yes f v s h) bytes
+  both : (wellShaped f v s ≡ true) × (facesOf f v s ≡ read)
+  unfolding facesOf
+  both = go (wellShaped f v s) (a .1)
+    where
+      go : (b : Bool) → Fine ≡ cond b read noFaces .answer → (b ≡ true) × (cond b read noFaces ≡ read)
+      go true e = (refl, refl)
+      go false e = let z : _≡_ {A = ℕ} 0 1 = cc in absurd (omega arith)
 
-  -- its faces are such faces
-  pub holds : Sendable f v (facesIn f s)
-  holds = can-be-sent f v s (shape-yes f v s h)
+  pub faces-write : FacesWriteBack f v s
+  faces-write =
+      let g = shape-yes f v s (both .0) in
+      let again : encodeFaces f (facesIn f s) ≡ s = written-again f v s g (a .0) in
+      let can : Sendable f v (facesIn f s) = can-be-sent f v s g in
+      record {
+        list = again;
+        sendable = can;
+        back = both .1 ∙ ap (λ (n : ℕ). record { answer = Fine; count = n; rows = returned (facesIn f s) .rows }) (sym (length-in f s));
+        room = λ h room l. sends f (facesIn f s) room (sendable-more f v (f .«most_vertices») (facesIn f s) h can) s again l;
+      }
 
--- ---- no two face lists hold the same faces
-
-pub no-two-lists : (f : Format) (v : ℕ) (s t : List ℕ) → Under (2 ^ 8) s → Under (2 ^ 8) t → wellShaped f v s ≡ true → wellShaped f v t ≡ true
-    → facesIn f s ≡ facesIn f t → s ≡ t
-no-two-lists f v s t us ut hs ht e = sym (writes-back f v s us hs) ∙ ap (encodeFaces f) e ∙ writes-back f v t ut ht
+pub one-list : (f : Format) (v : ℕ) → OneList f v
+one-list f v s t hs ht e = sym (faces-write f v s hs .list) ∙ ap (encodeFaces f) e ∙ faces-write f v t ht .list
 
 -- ---- edition 1
 
-pub reads-back-one : (v : ℕ) → v ≤ editionOne .«most_vertices» → (fs : List Loop) → Sendable editionOne v fs
-    → (wellShaped editionOne v (encodeFaces editionOne fs) ≡ true) × (facesIn editionOne (encodeFaces editionOne fs) ≡ fs)
-reads-back-one v fits fs g = (accepted editionOne one-sound v fits fs g, reads-back editionOne one-sound v fits fs g)
+pub faces-read-one : ReadBackOne
+faces-read-one = faces-read editionOne one-sound
 
-pub writes-back-one : (v : ℕ) (s : List ℕ) → Under (2 ^ 8) s → wellShaped editionOne v s ≡ true → encodeFaces editionOne (facesIn editionOne s) ≡ s
-writes-back-one = writes-back editionOne
+pub sent-is-sendable-one : SentIsSendable editionOne
+sent-is-sendable-one = sent-is-sendable editionOne
 
-pub no-two-lists-one : (v : ℕ) (s t : List ℕ) → Under (2 ^ 8) s → Under (2 ^ 8) t → wellShaped editionOne v s ≡ true → wellShaped editionOne v t ≡ true
-    → facesIn editionOne s ≡ facesIn editionOne t → s ≡ t
-no-two-lists-one = no-two-lists editionOne
+pub faces-write-one : (v : ℕ) (s : List ℕ) → AcceptedList editionOne v s → FacesWriteBack editionOne v s
+faces-write-one = faces-write editionOne
+
+-- the writer gives an accepted list back from the rows that reading returned
+pub rows-give-faces : (v : ℕ) (s : List ℕ) → AcceptedList editionOne v s → RowsGiveFaces editionOne v s
+unfolding padded word
+rows-give-faces v s a =
+    let w = faces-write-one v s a in
+    let fs : List Loop = facesIn editionOne s in
+    let few : length fs ≤ mostCandidates = le-trans (w .sendable .most) (omega arith) in
+    let full : 2 ^ length fs - 1 ≡ word (replicate (length fs) true) = sym (full-word (length fs)) in
+    ap (λ (r : Faces). solidFaces (r .rows) (2 ^ r .count - 1) 0) (w .back)
+    ∙ ap (λ (t : ℕ). solidFaces (returned fs .rows) t 0) full
+    ∙ solid-faces fs (w .sendable .many) few (replicate (rowBytes * editionOne .«most_faces» - length (flatMap row fs)) 0)
+    (replicate (length fs) true) [] (length-replicate (length fs) true)
+    ∙ all-taken fs
+
+pub one-list-one : (v : ℕ) → OneList editionOne v
+one-list-one = one-list editionOne

@@ -4,3 +4,4 @@ pub mod Sheets
 pub mod FaceLists
 -- what the proofs share
 pub mod Filled
+pub mod Writers

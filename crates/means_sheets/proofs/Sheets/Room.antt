@@ -18,6 +18,7 @@ use Rattle.paper.specs.declared.Answer.the-variants as Answer
 use Rattle.paper.specs.declared.Written.the-variants as Written
 use Rattle.sheet_laws.proofs.Written.{result-fine}
 use Rattle.means_sheets.proofs.Filled.{length-filled}
+use Rattle.means_sheets.proofs.Writers.{wrote}
 
 -- the sheet's length
 pub length-sheet : (f : Format) (xyz : List ℤ) (ends : List ℕ) → length (encode f xyz ends) ≡ bytesFor (total f (length xyz / 3) (length ends / 2))
@@ -32,12 +33,7 @@ module _ (f : Format) (xyz : List ℤ) (ends room : List ℕ) (n : ℕ) (e : wri
 
   fine : (Answer.Fine ≡ firstOf (writerChecks f xyz ends (length room))) × (n ≡ size)
   unfolding writtenOf
-  fine = go (firstOf (writerChecks f xyz ends (length room))) refl e
-    where
-      go : (a : Answer) → firstOf (writerChecks f xyz ends (length room)) ≡ a → writtenFor f xyz ends a ≡ Written.Bytes n
-          → (Answer.Fine ≡ firstOf (writerChecks f xyz ends (length room))) × (n ≡ size)
-      go Answer.Fine q h = (sym q, cc)
-      go (Answer.Refused r) q h = let z : _≡_ {A = ℕ} 0 1 = cc in absurd (omega arith)
+  fine = wrote (writtenFor f xyz ends) size refl (λ r. refl) n (firstOf (writerChecks f xyz ends (length room))) e
 
   pub written-lent : Answer.Fine ≡ firstOf (lentChecks f xyz ends)
   unfolding writerChecks
