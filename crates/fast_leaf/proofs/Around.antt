@@ -10,20 +10,17 @@ use lib.ListN.{length, getD}
 use borrow.Author.Tests.{eq-eqb, ne-eqb}
 use Rattle.lists.proofs.Truth.{and-left, and-both}
 use Rattle.sets.specs.Word.{dig, Sub, count, both, first}
-use Rattle.sets.proofs.Digits.{never, dig-both, dig-only, dig-self, count-only, first-in}
+use Rattle.sets.proofs.Digits.{never, dig-both, dig-only, dig-self, count-only, first-in, count-alone}
 use Rattle.paper.specs.Solids.{onceEachWay, oriented}
 use Rattle.means_leaf.specs.Meaning.{In, InTwo, Way, stay, across}
 use Rattle.means_leaf.proofs.Forced.{once-suits, oriented-here}
+use Rattle.means_leaf.proofs.Spread.{place-in}
 use Rattle.fast_sweeps.specs.Worklist.{after, edgesWith}
 use Rattle.fast_sweeps.proofs.Marks.{dig-none, after-in, after-out, count-after, dig-sides}
 use Rattle.fast_leaf.specs.Faces.{Going, atEdge, aroundFace, atFace, goOn, toGo, atLowest, fromLowest}
-use Rattle.fast_leaf.proofs.Edge.{count-alone, Fair, edge-keeps, edge-old, edge-covers, edge-fair, edge-togo}
+use Rattle.fast_leaf.proofs.Edge.{Fair, edge-keeps, edge-old, edge-covers, edge-fair, edge-togo}
 
 -- ---- edges by their places
-in-at : (masks : List (List Bool)) (e : ℕ) → e < length masks → In (getD masks e []) masks
-in-at [] e h = absurd (omega arith)
-in-at (mask ∷ masks) zero h = inl refl
-in-at (mask ∷ masks) (suc e) h = inr (in-at masks e (omega arith))
 
 at-in : (masks : List (List Bool)) (mask : List Bool) → In mask masks → (e : ℕ) × (mask ≡ getD masks e [])
 at-in [] mask i = absurd i
@@ -139,11 +136,11 @@ module _ (masks ups : List (List Bool)) (taken : List Bool) (same : length masks
     on-edge = dig-both (getD masks e []) taken f ∙ and-both has (h .in-taken f rf)
 
     two-edge : count (both (getD masks e []) taken) ≡ 2
-    two-edge = two (getD masks e []) (in-at masks e (at-lt masks e f has))
+    two-edge = two (getD masks e []) (place-in masks e (at-lt masks e f has))
 
     fair-at : Fair masks ups taken (atEdge (getD masks e []) (getD ups e []) taken f g)
     fair-at =
-        edge-fair (getD masks e []) (getD ups e []) taken f g on-edge two-edge masks ups (in-at masks e (at-lt masks e f has))
+        edge-fair (getD masks e []) (getD ups e []) taken f g on-edge two-edge masks ups (place-in masks e (at-lt masks e f has))
         (λ ts o. once-suits (getD masks e []) (getD ups e []) taken ts (oriented-at masks ups taken ts o same e (at-lt masks e f has))) rf h
 
     covers-at : Sub (both (getD masks e []) taken) (atEdge (getD masks e []) (getD ups e []) taken f g .reached)

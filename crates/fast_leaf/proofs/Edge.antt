@@ -3,29 +3,20 @@ use mathlib.Core.Bool.{Bool, true, false, not, _&&_, _||_, cond, xor}
 use mathlib.Core.List.{List, [], _∷_}
 use mathlib.Core.Logic.{_⊎_, inl, inr}
 use mathlib.Core.Path.{_≡_, refl, sym, ap, ap₂, _∙_, subst}
-use Prim.Native.Nat.{ℕ, zero, suc, _+_, _≤_}
+use Prim.Native.Nat.{ℕ, _+_, _≤_}
 use native.Mathlib.Omega.{arith}
 use native.Mathlib.Decide.{ℕ-discrete}
 use lib.Dec.{eqb}
 use borrow.Author.Tests.{eq-eqb, ne-eqb}
-use Rattle.lists.proofs.Truth.{and-left, and-right, and-both, or-left, or-right, or-cases}
+use Rattle.lists.proofs.Truth.{and-left, and-right, and-both, or-left, or-right, or-cases, never-true}
 use Rattle.sets.specs.Word.{bit, dig, Sub, count, both, either, less, only, first}
-use Rattle.sets.proofs.Digits.{never, dig-both, dig-either, dig-less, dig-self, count-le, count-none, count-one, count-only, count-with, first-in}
+use Rattle.sets.proofs.Digits.{never, dig-both, dig-either, dig-less, dig-self, count-le, count-none, count-one, count-only, count-with, first-in, count-split, count-alone}
 use Rattle.paper.specs.Solids.{unlike, oriented}
 use Rattle.means_leaf.specs.Meaning.{In, Way, across}
 use Rattle.means_leaf.proofs.Unlike.{dig-unlike}
 use Rattle.means_leaf.proofs.Counts.{left-in, left-out}
 use Rattle.means_leaf.proofs.Forced.{Suits}
 use Rattle.fast_leaf.specs.Faces.{Going, others, unlikeWays, atEdge, toGo}
-
-pub off : (a : Bool) → (a ≡ true → ⊥) → a ≡ false
-off true f = absurd (f refl)
-off false f = refl
-
-pub count-alone : (j : ℕ) → count (only j) ≡ 1
-unfolding count only
-count-alone zero = refl
-count-alone (suc j) = omega (arith, count-alone j)
 
 -- ---- what is kept of the faces found so far
 pub record Fair (masks ups : List (List Bool)) (taken : List Bool) (g : Going) : Type 0 where
@@ -94,7 +85,7 @@ module _ (mask up taken : List Bool) (f : ℕ) (g : Going) where
     edge-turned = rw (eq-eqb (count (both (g .reached) (others mask taken f))) 0 z)
 
     edge-new : (k : ℕ) → dig (others mask taken f) k ≡ true → dig (g .reached) k ≡ false
-    edge-new k h = off (dig (g .reached) k) (λ p. count-none (both (g .reached) (others mask taken f)) z k (dig-both (g .reached) (others mask taken f) k ∙ and-both p h))
+    edge-new k h = never-true (dig (g .reached) k) (λ p. count-none (both (g .reached) (others mask taken f)) z k (dig-both (g .reached) (others mask taken f) k ∙ and-both p h))
 
   -- nothing is lost, and what is new waits
   pub edge-keeps : Sub (g .reached) (atEdge mask up taken f g .reached)
@@ -150,7 +141,7 @@ module _ (mask up taken : List Bool) (f : ℕ) (g : Going) where
             (count-with (others mask taken f) (unlike up (g .turned)) k edge-one o ∙ ap bit (dig-unlike up (g .turned) k))
 
         not-turned : (k : ℕ) → dig (others mask taken f) k ≡ true → dig (g .turned) k ≡ false
-        not-turned k o = off (dig (g .turned) k) (λ p. never (sym (h .turned-in k p) ∙ edge-new z k o))
+        not-turned k o = never-true (dig (g .turned) k) (λ p. never (sym (h .turned-in k p) ∙ edge-new z k o))
 
         new-right : (ts : List Bool) → oriented masks ups taken ts ≡ true → dig ts (first taken) ≡ false → (k : ℕ) → dig (others mask taken f) k ≡ true
             → not (unlikeWays (unlike up (g .turned)) f (others mask taken f)) ≡ dig ts k
@@ -179,7 +170,7 @@ module _ (mask up taken : List Bool) (f : ℕ) (g : Going) where
             splits k p = or-cases (dig (g .reached) k) (dig (others mask taken f) k) (sym (edge-reached z k) ∙ p)
 
             not-new : (k : ℕ) → dig (g .reached) k ≡ true → dig (others mask taken f) k ≡ false
-            not-new k p = off (dig (others mask taken f) k) (λ o. never (sym p ∙ edge-new z k o))
+            not-new k p = never-true (dig (others mask taken f) k) (λ o. never (sym p ∙ edge-new z k o))
 
             taken-by : (k : ℕ) → (dig (g .reached) k ≡ true) ⊎ (dig (others mask taken f) k ≡ true) → dig taken k ≡ true
             taken-by k (inl p) = h .in-taken k p
@@ -210,13 +201,6 @@ module _ (mask up taken : List Bool) (f : ℕ) (g : Going) where
           go (no n) = subst (λ (x : Going). Fair masks ups taken x) (sym (edge-not n)) h
 
 -- ---- what is still to go does not grow, whatever the masks are
-count-split : (a b : List Bool) → count (both a b) + count (less a b) ≡ count a
-unfolding count both less
-count-split [] b = refl
-count-split (x ∷ a) [] = omega arith
-count-split (true ∷ a) (true ∷ b) = omega (arith, count-split a b)
-count-split (true ∷ a) (false ∷ b) = omega (arith, count-split a b)
-count-split (false ∷ a) (y ∷ b) = omega (arith, count-split a b)
 
 count-either : (a b : List Bool) → count (either a b) ≤ count a + count b
 unfolding count either

@@ -7,30 +7,23 @@ use lib.Dec.{eqb}
 use lib.IntN.{ℤ, pos, negsuc}
 use lib.ListN.{length}
 use borrow.Author.Tests.{not-true, eq-eqb, eqb-true, eqb-false}
-use Rattle.lists.proofs.Truth.{and-left, and-right, and-both}
+use Rattle.lists.proofs.Truth.{and-left, and-right, and-both, same-truth, never-true}
 use Rattle.sets.specs.Word.{word, dig, Sub, count, less, first}
 use Rattle.sets.proofs.Digits.{never, dig-less, count-none, count-empty, first-in}
 use Rattle.paper.specs.Solids.{facesFrom, connected, oriented, sixFrom, clearFrom, weighed, Tables, Judgement, Fails, judged}
 use Rattle.paper.specs.Conversion.{isSolid, turnedOf, sixOf}
-use Rattle.means_leaf.specs.Meaning.{faces, InTwo, Way, stay, across, Alike}
+use Rattle.means_leaf.specs.Meaning.{faces, InTwo, Way, Alike}
 use Rattle.means_leaf.proofs.Forced.{faces-right, oriented-alike, oriented-opposite, all-reached}
-use Rattle.means_leaf.proofs.Reaches.{connected-ways, ways-connected}
+use Rattle.means_leaf.proofs.Reaches.{connected-ways, ways-connected, way-on, way-back}
 use Rattle.means_leaf.proofs.Within.{turned-taken}
 use Rattle.means_leaf.proofs.Solids.{six-alike, turned-opposite}
 use Rattle.fast_sweeps.proofs.Words.{word-same}
-use Rattle.fast_leaf.specs.Faces.{Going, fromLowest, clearOn, sixOn, judgedByFaces, Agrees, fails, solid}
-use Rattle.fast_leaf.proofs.Edge.{off, Fair}
+use Rattle.fast_leaf.specs.Faces.{fromLowest, clearOn, sixOn, judgedByFaces, Agrees, fails, solid}
+use Rattle.fast_leaf.proofs.Edge.{Fair}
 use Rattle.fast_leaf.proofs.Around.{lowest-fair, lowest-reaches}
-use Rattle.fast_leaf.proofs.Sums.{same-truth, clear-on, six-on}
+use Rattle.fast_leaf.proofs.Sums.{clear-on, six-on}
 
 -- ---- ways
-way-on : {masks : List (List Bool)} {taken : List Bool} {f g h : ℕ} → Way masks taken f g → Way masks taken g h → Way masks taken f h
-way-on w stay = w
-way-on w (across mask k v i p q) = across mask k (way-on w v) i p q
-
-way-back : {masks : List (List Bool)} {taken : List Bool} {f g : ℕ} → Way masks taken f g → Way masks taken g f
-way-back stay = stay
-way-back (across mask k v i p q) = way-on (across mask _ stay i q p) (way-back v)
 
 module _ (masks ups : List (List Bool)) (taken : List Bool) (same : length masks ≡ length ups) (two : InTwo masks taken) (some : count taken ≡ 0 → ⊥) where
   fair : Fair masks ups taken (fromLowest masks ups taken)
@@ -98,8 +91,8 @@ module _ (masks ups : List (List Bool)) (taken : List Bool) (same : length masks
         go : (b : Bool) → dig taken k ≡ b → dig (fromLowest masks ups taken .turned) k ≡ dig (faces masks ups taken .turned) k
         go true h = same-turned (same-oriented ∙ o) k h
         go false h =
-            off (dig (fromLowest masks ups taken .turned) k) (λ p. never (sym (fair .in-taken k (fair .turned-in k p)) ∙ h))
-            ∙ sym (off (dig (faces masks ups taken .turned) k) (λ p. never (sym (turned-taken masks ups taken some k p) ∙ h)))
+            never-true (dig (fromLowest masks ups taken .turned) k) (λ p. never (sym (fair .in-taken k (fair .turned-in k p)) ∙ h))
+            ∙ sym (never-true (dig (faces masks ups taken .turned) k) (λ p. never (sym (turned-taken masks ups taken some k p) ∙ h)))
 
 -- ---- the judgement
 weighs : (taken s t : List Bool) → ((k : ℕ) → dig s k ≡ dig t k) → (z : ℤ) → Agrees (weighed taken s z) (weighed taken t z)

@@ -9,18 +9,13 @@ use lib.Dec.{eqb}
 use lib.IntN.{ℤ, pos, _+ℤ_, +ℤ-idl}
 use lib.ListN.{getD}
 use borrow.Author.Tests.{eq-eqb, eqb-true}
+use Rattle.lists.proofs.Truth.{same-truth, never-true}
 use Rattle.sets.specs.Word.{dig, count, both, first}
 use Rattle.sets.proofs.Digits.{never, first-in}
 use Rattle.paper.specs.Solids.{part, sixFrom, peaceful, clearFrom}
 use Rattle.fast_sweeps.specs.Worklist.{after}
 use Rattle.fast_sweeps.proofs.Marks.{dig-none, first-low, after-in, after-out, count-after}
 use Rattle.fast_leaf.specs.Faces.{clearOn, sixOn}
-use Rattle.fast_leaf.proofs.Edge.{off}
-
-pub same-truth : (a b : Bool) → (a ≡ true → b ≡ true) → (b ≡ true → a ≡ true) → a ≡ b
-same-truth true b f g = sym (f refl)
-same-truth false true f g = g refl
-same-truth false false f g = refl
 
 passes : (b c : Bool) → cond b c false ≡ true → (b ≡ true) × (c ≡ true)
 passes true c e = (refl, e)
@@ -127,14 +122,14 @@ module _ (turned : List Bool) where
   six-lowest (z ∷ zs) k zero a n e =
       let f : k ≡ first a = omega arith in
       let here : dig a k ≡ true = subst (λ (x : ℕ). dig a x ≡ true) (sym f) (first-in a n) in
-      let gone : dig (after a) k ≡ false = off (dig (after a) k) (λ p. let q = after-in a k p in absurd (omega (arith, q .0))) in
+      let gone : dig (after a) k ≡ false = never-true (dig (after a) k) (λ p. let q = after-in a k p in absurd (omega (arith, q .0))) in
       let rest : sixFrom (suc k) zs a turned ≡ sixFrom (suc k) zs (after a) turned = six-above zs (suc k) a (after a) (λ j l. after-same a j (omega arith)) in
       ap₂ (λ (x : Bool) (y : ℤ). part x (dig turned k) z +ℤ y) here rest
       ∙ ap₂ (λ (x : ℕ) (y : ℤ). part true (dig turned x) z +ℤ y) f
       (sym (ap (λ (x : Bool). part x (dig turned k) z +ℤ sixFrom (suc k) zs (after a) turned) gone ∙ +ℤ-idl (sixFrom (suc k) zs (after a) turned)))
   six-lowest (z ∷ zs) k (suc m) a n e =
       let low : dig a k ≡ false = first-low a k (omega arith) in
-      let gone : dig (after a) k ≡ false = off (dig (after a) k) (λ p. let q = after-in a k p in absurd (omega (arith, q .0))) in
+      let gone : dig (after a) k ≡ false = never-true (dig (after a) k) (λ p. let q = after-in a k p in absurd (omega (arith, q .0))) in
       ap (λ (x : Bool). part x (dig turned k) z +ℤ sixFrom (suc k) zs a turned) low ∙ +ℤ-idl (sixFrom (suc k) zs a turned)
       ∙ six-lowest zs (suc k) m a n (omega arith)
       ∙ ap (λ (y : ℤ). part true (dig turned (first a)) (getD zs m (pos 0)) +ℤ y)

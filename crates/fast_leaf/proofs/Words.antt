@@ -10,7 +10,7 @@ use lib.Bits.{bitAnd, bitXor, differ, xor-step, xor-zero-l, xor-zero-r}
 use lib.Dec.{eqb}
 use lib.ListN.{length}
 use borrow.Author.Tests.{eq-eqb, eqb-true}
-use Rattle.lists.proofs.Truth.{and-left, and-right, and-both}
+use Rattle.lists.proofs.Truth.{and-left, and-right, and-both, same-truth, and-swap, never-true}
 use Rattle.sets.specs.Word.{word, dig, count, both, either, less, only}
 use Rattle.sets.proofs.Digits.{never, length-both, length-only, dig-both, count-same}
 use Rattle.sets.proofs.Word.{and-word, less-word}
@@ -19,8 +19,6 @@ use Rattle.fast_sweeps.specs.Worklist.{after}
 use Rattle.fast_sweeps.proofs.Marks.{count-after}
 use Rattle.fast_sweeps.proofs.Words.{word-none, none-word}
 use Rattle.fast_leaf.specs.Faces.{others, unlikeWays}
-use Rattle.fast_leaf.proofs.Edge.{off}
-use Rattle.fast_leaf.proofs.Sums.{same-truth}
 
 -- "w == 0"
 pub none-is : (a : List Bool) → eqb (word a) 0 ≡ eqb (count a) 0
@@ -43,7 +41,7 @@ one-is a =
     let o : count a ≡ 1 = eqb-true (count a) 1 e in
     let n : count a ≡ 0 → ⊥ = λ z. absurd (omega arith) in
     let z : count (after a) ≡ 0 = omega (arith, count-after a n) in
-    and-both (ap not (off (eqb (count a) 0) (λ p. n (eqb-true (count a) 0 p)))) (eq-eqb (count (after a)) 0 z))
+    and-both (ap not (never-true (eqb (count a) 0) (λ p. n (eqb-true (count a) 0 p)))) (eq-eqb (count (after a)) 0 z))
 
 -- "mine & !(mine & u)" is "mine & !u"
 pub less-both : (a u : List Bool) → less a (both a u) ≡ less a u
@@ -80,17 +78,10 @@ others-word k mask taken f h l =
     let n : length (only f) ≤ k = omega (arith, length-only f) in
     ap (λ (m : ℕ). bitAnd m ((2 ^ k - 1) - word (only f))) (and-word mask taken) ∙ less-word k (both mask taken) (only f) (le-trans (length-both mask taken) h) n
 
--- "(runs & face == 0) ^ (runs & other == 0)"
-and-turn : (x y : Bool) → (x && y) ≡ (y && x)
-and-turn true true = refl
-and-turn true false = refl
-and-turn false true = refl
-and-turn false false = refl
-
 none-and : (a b : List Bool) → eqb (bitAnd (word a) (word b)) 0 ≡ eqb (count (both b a)) 0
 none-and a b =
     ap (λ (m : ℕ). eqb m 0) (and-word a b) ∙ none-is (both a b)
-    ∙ ap (λ (m : ℕ). eqb m 0) (count-same (both a b) (both b a) (λ k. dig-both a b k ∙ and-turn (dig a k) (dig b k) ∙ sym (dig-both b a k)))
+    ∙ ap (λ (m : ℕ). eqb m 0) (count-same (both a b) (both b a) (λ k. dig-both a b k ∙ and-swap (dig a k) (dig b k) ∙ sym (dig-both b a k)))
 
 pub ways-word : (runs : List Bool) (f : ℕ) (other : List Bool) → xor (eqb (bitAnd (word runs) (word (only f))) 0) (eqb (bitAnd (word runs) (word other)) 0) ≡ unlikeWays runs f other
 ways-word runs f other = ap₂ (λ (x y : Bool). xor x y) (none-and runs (only f)) (none-and runs other)

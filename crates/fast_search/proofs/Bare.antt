@@ -11,8 +11,9 @@ use lib.IntN.{pos}
 use lib.Signed.{_<ℤ_, _≤ℤ_}
 use lib.ListN.{length}
 use borrow.Author.Tests.{eqb-true, ne-eqb, ltb-true}
+use Rattle.paper_laws.proofs.Points.{origin-yes}
 use Rattle.lists.specs.Lists.{any, upto, member}
-use Rattle.lists.proofs.Truth.{and-left, and-right, and-both, never, or-none, or-cases}
+use Rattle.lists.proofs.Truth.{and-left, and-right, and-both, never-true, or-none, or-cases}
 use Rattle.lists.proofs.Passing.{any-yes, some-is}
 use Rattle.lists.proofs.Lowest.{lowest-none}
 use Rattle.exact.proofs.Order.{three-ways}
@@ -22,7 +23,6 @@ use Rattle.paper.specs.Points.{origin, minus, dot, cross, isOrigin, samePoint}
 use Rattle.paper.specs.Drawing.{Wire, Edge, edge, at, edgeAt, joins, joined, samePlace, onOpen, vertexOn, edgesMeet, edgeMeets}
 use Rattle.paper.specs.Loops.{final, closes, branch, scan, ext, follows, across, level, loops}
 use Rattle.paper.specs.declared.Point.{Point}
-use Rattle.means_clash.proofs.Either.{origin-yes}
 use Rattle.fast_search.specs.Search.{near, higher, turn, step, inItsPlane}
 use Rattle.fast_search.specs.Bare.{bareLine, bareSeconds, bareStarts, bareSearch}
 use Rattle.fast_search.proofs.Scan.{map-append, goes, each-scan}
@@ -33,7 +33,7 @@ use Rattle.fast_search.proofs.Search.{joined-back, final-more, can, end
 module _ (d : Wire) (places : samePlace d ≡ none) (meets : edgeMeets d ≡ none) where
   apart : (u v : ℕ) → u < size d → v < size d → (u ≡ v → ⊥) → isOrigin (minus (at d u) (at d v)) ≡ false
   unfolding samePlace samePoint
-  apart u v hu hv n = never (isOrigin (minus (at d u) (at d v))) (λ t. true≢false (sym (some-is (λ w. not (eqb u w) && samePoint (at d u) (at d w)) (size d) v hv (and-both (ap not (ne-eqb u v n)) t)) ∙ here))
+  apart u v hu hv n = never-true (isOrigin (minus (at d u) (at d v))) (λ t. true≢false (sym (some-is (λ w. not (eqb u w) && samePoint (at d u) (at d w)) (size d) v hv (and-both (ap not (ne-eqb u v n)) t)) ∙ here))
     where
       here : any (λ w. not (eqb u w) && samePoint (at d u) (at d w)) (upto (size d)) ≡ false
       here = lowest-none (λ u. any (λ v. not (eqb u v) && samePoint (at d u) (at d v)) (upto (size d))) (size d) places u hu
@@ -41,7 +41,7 @@ module _ (d : Wire) (places : samePlace d ≡ none) (meets : edgeMeets d ≡ non
   -- no vertex is on an edge
   clear : (i : ℕ) → i < length (d .edges) → (v : ℕ) → v < size d → vertexOn d (edgeAt d i) v ≡ false
   unfolding edgeMeets
-  clear i h v hv = never (vertexOn d (edgeAt d i) v) (λ t. true≢false (sym (some-is (vertexOn d (edgeAt d i)) (size d) v hv t) ∙ or-none (any (vertexOn d (edgeAt d i)) (upto (size d))) (any (λ f. not (eqb i f) && edgesMeet d (edgeAt d i) (edgeAt d f)) (upto (length (d .edges)))) here .0))
+  clear i h v hv = never-true (vertexOn d (edgeAt d i) v) (λ t. true≢false (sym (some-is (vertexOn d (edgeAt d i)) (size d) v hv t) ∙ or-none (any (vertexOn d (edgeAt d i)) (upto (size d))) (any (λ f. not (eqb i f) && edgesMeet d (edgeAt d i) (edgeAt d f)) (upto (length (d .edges)))) here .0))
     where
       here : (any (vertexOn d (edgeAt d i)) (upto (size d)) || any (λ f. not (eqb i f) && edgesMeet d (edgeAt d i) (edgeAt d f)) (upto (length (d .edges)))) ≡ false
       here = lowest-none (λ e. any (vertexOn d (edgeAt d e)) (upto (size d)) || any (λ f. not (eqb e f) && edgesMeet d (edgeAt d e) (edgeAt d f)) (upto (length (d .edges)))) (length (d .edges)) meets i h
@@ -101,7 +101,7 @@ module _ (d : Wire) (places : samePlace d ≡ none) (meets : edgeMeets d ≡ non
     -- so that none closes
     open-path : (r : List ℕ) → final (x ∷ (y ∷ r)) < size d → Ahead x y (final (x ∷ (y ∷ r))) → closes (size d) (joined d) (level d) (x ∷ (y ∷ r)) ≡ false
     open-path r l a =
-        closes-ends d x y r ∙ never (ends d (x ∷ (y ∷ r)) (final (x ∷ (y ∷ r)))) (λ t.
+        closes-ends d x y r ∙ never-true (ends d (x ∷ (y ∷ r)) (final (x ∷ (y ∷ r)))) (λ t.
         let b : y < final (x ∷ (y ∷ r)) = ltb-true y (final (x ∷ (y ∷ r))) (and-left (ltb y (final (x ∷ (y ∷ r)))) (joined d (final (x ∷ (y ∷ r))) x) t) in
         ahead-open (final (x ∷ (y ∷ r))) l (λ e. absurd (omega arith)) (and-right (ltb y (final (x ∷ (y ∷ r)))) (joined d (final (x ∷ (y ∷ r))) x) t) a)
 

@@ -8,6 +8,7 @@ use lib.IntN.{pos}
 use native.Mathlib.Omega.{arith}
 use lib.ListN.{length, getD, length-replicate, getD-replicate}
 use lib.Seq.{ext-getD}
+use Rattle.paper_laws.proofs.Points.{origin-yes}
 use Rattle.lists.proofs.Places.{made-length, made-at}
 use Rattle.exact.proofs.Ring.{con, ring}
 use Rattle.sets.specs.Word.{dig}
@@ -17,8 +18,7 @@ use Rattle.paper.specs.Loops.{tilt, tilted, across, level}
 use Rattle.paper.specs.declared.Point.{Point}
 use Rattle.means_clash.proofs.Combine.{vars, minusE, crossE}
 use Rattle.means_clash.proofs.Planes.{yes-zero, none-dot}
-use Rattle.means_clash.proofs.Either.{origin-yes}
-use Rattle.means_clash.proofs.Level.{tilt-none, own-zero}
+use Rattle.means_clash.proofs.Level.{tilt-none, own-zero, tilt-found}
 use Rattle.fast_search.specs.Search.{onPlane, planeMask, planeOf, turn, every}
 
 map-more : (f : ℕ → Point) (p : List ℕ) (v : ℕ) → map f (p ++ v ∷ []) ≡ map f p ++ f v ∷ []
@@ -29,10 +29,6 @@ tilted-more : (s b n : Point) (ps : List Point) (p : Point) → tilted s b n (ps
 unfolding tilted
 tilted-more s b n [] p = refl
 tilted-more s b n (q ∷ ps) p = tilted-more s b (tilt s b n q) ps p
-
-tilt-found : (s b n p : Point) → isOrigin n ≡ false → tilt s b n p ≡ n
-unfolding tilt
-tilt-found s b n p e = rw e
 
 -- ---- no plane yet: one vertex, or two
 none-start : (e s : Point) → cross e (minus s s) ≡ origin

@@ -1,30 +1,21 @@
 -- The vertices that the search keeps with a loop are those in its plane. Assumes nothing.
 use mathlib.Core.Bool.{true, false}
-use mathlib.Core.List.{List, [], _∷_}
+use mathlib.Core.List.{List, []}
 use mathlib.Core.Path.{_≡_, ap, _∙_}
 use Prim.Native.Nat.{ℕ, _≤_, _<_}
 use native.Mathlib.Omega.{arith}
-use lib.IntN.{pos}
 use lib.ListN.{length, getD, List·getD-eq-default}
+use Rattle.paper_laws.proofs.Points.{zero-yes}
 use Rattle.lists.proofs.Places.{map-at}
 use Rattle.sets.specs.Word.{dig}
 use Rattle.paper.specs.Points.{minus, dot, isZero}
 use Rattle.paper.specs.Drawing.{Wire, at}
 use Rattle.paper.specs.Loops.{Loop, loopAt, across, loops}
 use Rattle.paper.specs.declared.Point.{Point}
-use Rattle.exact.proofs.Ring.{con}
-use Rattle.means_clash.proofs.Combine.{combine, vars, minusE, dotE}
-use Rattle.means_clash.proofs.Planes.{zero-yes, yes-zero, same-offset}
+use Rattle.means_clash.proofs.Planes.{yes-zero, same-offset, offset-same}
 use Rattle.fast_search.specs.Search.{InItsPlane, onPlane, planeOf, inItsPlane, search}
 use Rattle.fast_search.proofs.Phases.{plane-at, plane-length}
 use Rattle.fast_search.proofs.Search.{search-is}
-
-offset-same : (n p q : Point) → dot n p ≡ dot n q → dot n (minus p q) ≡ pos 0
-unfolding dot minus
-offset-same n p q e =
-    combine (n .x ∷ n .y ∷ n .z ∷ p .x ∷ p .y ∷ p .z ∷ q .x ∷ q .y ∷ q .z ∷ [])
-    (dotE (vars 0 1 2) (minusE (vars 3 4 5) (vars 6 7 8))) (con (pos 0))
-    (record { times = con (pos 1); one = dotE (vars 0 1 2) (vars 3 4 5); other = dotE (vars 0 1 2) (vars 6 7 8) } ∷ []) tt (e, tt)
 
 module _ (d : Wire) where
   pub plane-digit : (l : Loop) (w : ℕ) → w < length (d .vertices) → dig (planeOf d l) w ≡ isZero (dot (across d l) (minus (at d w) (at d (getD l 0 0))))

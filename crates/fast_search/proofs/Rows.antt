@@ -1,5 +1,5 @@
 -- Loops over the set digits of a word. Assumes nothing.
-use mathlib.Core.Bool.{Bool, true, false, not, _&&_, _||_, true≢false}
+use mathlib.Core.Bool.{Bool, true, false, _&&_, _||_, true≢false}
 use mathlib.Core.List.{List, [], _∷_, _++_}
 use mathlib.Core.Path.{_≡_, refl, sym, ap, _∙_}
 use Prim.Native.Nat.{ℕ, zero, suc, _+_, _<_}
@@ -8,10 +8,10 @@ use lib.Dec.{eqb, ltb, eqb·zero-suc, eqb·suc-zero, eqb·suc-suc}
 use lib.ListN.{replicate, length-replicate, getD-replicate, List·getD-eq-default}
 use borrow.Author.Tests.{eqb-true, eq-eqb, lt-ltb, le-ltb}
 use native.Mathlib.Decide.{decLt}
-use Rattle.lists.proofs.Truth.{never, or-none}
+use Rattle.lists.proofs.Truth.{never-true, or-none}
 use Rattle.sets.specs.Word.{word, digit, dig, count, first, less, only}
 use Rattle.sets.proofs.Numbers.{digit-zero, digit-word, none-digits}
-use Rattle.sets.proofs.Digits.{count-none, count-empty}
+use Rattle.sets.proofs.Digits.{count-none, count-empty, less-nil}
 use Rattle.fast_search.specs.Rows.{empty, eachOf, someOf}
 
 -- ---- one digit
@@ -49,11 +49,6 @@ nils-shift : (m : ℕ) (bs : List Bool) → replicate m false ++ (false ∷ bs) 
 nils-shift zero bs = refl
 nils-shift (suc m) bs = ap (λ (l : List Bool). false ∷ l) (nils-shift m bs)
 
-less-nil : (a : List Bool) → less a [] ≡ a
-unfolding less
-less-nil [] = refl
-less-nil (x ∷ xs) = refl
-
 -- ---- the word is 0, or is not
 pub empty-none : (a : List Bool) → empty a ≡ true → (k : ℕ) → dig a k ≡ false
 empty-none a e k = sym (digit-word a k) ∙ ap (λ (w : ℕ). digit w k) (eqb-true (word a) 0 e) ∙ digit-zero k
@@ -65,7 +60,7 @@ empty-count a e = count-empty a (λ k h. absurd (clash (dig a k) h (empty-none a
     clash b p q = let z : true ≡ false = sym p ∙ q in absurd (true≢false z)
 
 pub count-is-empty : (a : List Bool) → count a ≡ 0 → empty a ≡ true
-count-is-empty a e = eq-eqb (word a) 0 (none-digits (word a) (λ k. digit-word a k ∙ never (dig a k) (count-none a e k)))
+count-is-empty a e = eq-eqb (word a) 0 (none-digits (word a) (λ k. digit-word a k ∙ never-true (dig a k) (count-none a e k)))
 
 -- ---- a loop over the set digits: at each turn the first that is set, and what is left without it
 module _ {A : Type 0} (f : ℕ → List Bool → List A) where

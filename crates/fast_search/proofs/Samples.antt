@@ -1,7 +1,6 @@
 -- The rules on places and edges can't be dropped where a path in one line is never recorded. Assumes nothing.
-use mathlib.Core.List.{List, [], _∷_}
+use mathlib.Core.List.{[], _∷_}
 use mathlib.Core.Path.{_≡_, refl}
-use Prim.Native.Nat.{ℕ}
 use lib.IntN.{pos}
 use Rattle.sets.specs.Word.{word, both, less, only}
 use Rattle.lists.specs.Lists.{any, from, upto, member}

@@ -10,7 +10,7 @@ use lib.ListN.{length, getD, replicate, length-append, List·getD-eq-default}
 use lib.Seq.{getD-at}
 use borrow.Author.Tests.{ltb-true, lt-ltb, le-ltb, le-leb, ne-eqb, not-true}
 use Rattle.lists.specs.Lists.{any, member, upto}
-use Rattle.lists.proofs.Truth.{and-left, and-right, and-both, never, or-none}
+use Rattle.lists.proofs.Truth.{and-left, and-right, and-both, never-true, or-none}
 use Rattle.lists.proofs.Places.{made-length, made-at}
 use Rattle.sets.specs.Word.{dig, both, less, only}
 use Rattle.sets.proofs.Digits.{dig-both, dig-less}
@@ -206,7 +206,7 @@ module _ (d : Wire) where
     where
       stuck : empty (both closing free) ≡ true → (w : ℕ) → w < size → can (x ∷ (y ∷ r)) w ≡ true → ends (x ∷ (y ∷ r)) w ≡ false
       stuck e w h c =
-          sym (cl w h) ∙ never (dig closing w) (λ t. absurd (true≢false (sym (dig-both closing free w ∙ and-both t (fr w h ∙ c)) ∙ empty-none (both closing free) e w)))
+          sym (cl w h) ∙ never-true (dig closing w) (λ t. absurd (true≢false (sym (dig-both closing free w ∙ and-both t (fr w h ∙ c)) ∙ empty-none (both closing free) e w)))
 
       start : (j : ℕ) → dig (both (near d (final (x ∷ (y ∷ r)))) free) j ≡ goes size (joined d) (level d) (x ∷ (y ∷ r)) (0 + j)
       start j =
@@ -251,7 +251,7 @@ module _ (d : Wire) where
       stuck : someOf (onPlane d (at d x) (turn d (x ∷ (y ∷ r)) v)) 0 (both closing free) ≡ false → (w : ℕ) → w < size → can (x ∷ (y ∷ r)) w ≡ true
           → onPlane d (at d x) (turn d (x ∷ (y ∷ r)) v) w ≡ true → ends (x ∷ (y ∷ r)) w ≡ false
       stuck e w h u i =
-          sym (c w h) ∙ never (dig closing w) (λ z. absurd (true≢false (sym i ∙ some-not (onPlane d (at d x) (turn d (x ∷ (y ∷ r)) v)) (both closing free) e w
+          sym (c w h) ∙ never-true (dig closing w) (λ z. absurd (true≢false (sym i ∙ some-not (onPlane d (at d x) (turn d (x ∷ (y ∷ r)) v)) (both closing free) e w
           (dig-both closing free w ∙ and-both z (f w h ∙ u)))))
 
       fix : isOrigin (turn d (x ∷ (y ∷ r)) v) ≡ false → (b : Bool) → someOf (onPlane d (at d x) (turn d (x ∷ (y ∷ r)) v)) 0 (both closing free) ≡ b

@@ -31,12 +31,6 @@ dig-none (true ∷ a) z j = absurd (omega arith)
 dig-none (false ∷ a) z zero = refl
 dig-none (false ∷ a) z (suc j) = dig-none a (omega arith) j
 
-pub count-length : (a : List Bool) → count a ≤ length a
-unfolding count
-count-length [] = omega arith
-count-length (true ∷ a) = omega (arith, count-length a)
-count-length (false ∷ a) = omega (arith, count-length a)
-
 pub first-low : (a : List Bool) (j : ℕ) → j < first a → dig a j ≡ false
 unfolding first
 first-low [] j h = refl

@@ -173,7 +173,7 @@ module _ (masks : List (List Bool)) where
     }
       where
         low : (j : ℕ) → i .edge ≤ j → dig later j ≡ false
-        low j h = Truth.never (dig later j) (λ e. omega (arith, i .off j e))
+        low j h = Truth.never-true (dig later j) (λ e. omega (arith, i .off j e))
 
     -- one edge
     module _ (n : count ahead ≡ 0 → ⊥) where
@@ -190,7 +190,7 @@ module _ (masks : List (List Bool)) where
       to-here =
           let b = i .on here (first-in ahead n) in
           skip-to st (i .edge) here (b .0) (omega (arith, here-lt))
-          (λ j h k. i .settled j (omega (arith, here-lt)) (first-low ahead j k) (Truth.never (dig later j) (λ e. omega (arith, i .off j e))))
+          (λ j h k. i .settled j (omega (arith, here-lt)) (first-low ahead j k) (Truth.never-true (dig later j) (λ e. omega (arith, i .off j e))))
 
       passes : o ≡ cond (contradicts mask st) Broken (afterwards masks (drop (here + 1) masks) (settle mask st))
       passes = sym (i .left) ∙ to-here ∙ one-edge st here here-lt

@@ -10,11 +10,11 @@ use lib.Dec.{eqb}
 use lib.ListN.{length, getD, set, replicate, length-replicate}
 use borrow.Author.Tests.{eqb-true, eqb-false}
 use Rattle.sets.specs.Word.{dig, count, first, both, less}
-use Rattle.sets.proofs.Digits.{never, dig-both, dig-either, dig-less, count-le}
+use Rattle.sets.proofs.Digits.{never, dig-both, dig-either, dig-less, count-le, count-length}
 use Rattle.paper.specs.Walk.{Status, openCount, settle, contradicts, Outcome, Broken, Stands, stable}
 use Rattle.fast_sweeps.specs.Worklist.{after, passed, edgesWith, touched, decidedOn, nextAhead, nextLater, turnAhead, turnLater, work, most, Settled, Remains, Loop}
 use Rattle.fast_sweeps.proofs.Edge.{settle-fewer, settle-decides}
-use Rattle.fast_sweeps.proofs.Marks.{count-length, count-after, length-sides, touched-none, length-ahead, length-later}
+use Rattle.fast_sweeps.proofs.Marks.{count-after, length-sides, touched-none, length-ahead, length-later}
 use Rattle.fast_sweeps.proofs.Remain.{start, start-all, start-chosen, finish, turn, breaks-off, pass-decided}
 
 -- ---- none decided: nothing is marked

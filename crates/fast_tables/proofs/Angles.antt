@@ -9,7 +9,7 @@ use lib.ListN.{length, getD}
 use lib.IntN.{pos}
 use Rattle.lists.specs.Lists.{sides, anyTrue}
 use Rattle.lists.specs.Around.{wrap, around}
-use Rattle.lists.proofs.Truth.{never, and-left, and-right}
+use Rattle.lists.proofs.Truth.{never-true, and-left, and-right}
 use Rattle.lists.proofs.Sides.{sides-length, sides-map, sides-around}
 use Rattle.paper.specs.Points.{origin, minus, det, above, samePoint}
 use Rattle.paper.specs.Polygon.{normal}
@@ -19,13 +19,9 @@ use Rattle.paper.specs.Clash.{angleHolds, inAngle, Side, to, turnsAt, pointsIn}
 use Rattle.paper.specs.Solids.{runs, has}
 use Rattle.paper.specs.declared.Point.{Point}
 use Rattle.paper_laws.proofs.Vectors.{vec, k, dets, v, vring}
-use Rattle.paper_laws.proofs.Points.{origin-yes, origin-is, point-eq, point-diff}
+use Rattle.paper_laws.proofs.Points.{origin-is, point-diff, same-yes}
 use Rattle.fast_tables.specs.Paths.{Apart, Path}
 use Rattle.fast_tables.proofs.Rounds.{side-yes, wrap-below, wrap-after, wrap-before, runs-yes, has-cases}
-
-pub same-yes : (p q : Point) → samePoint p q ≡ true → p ≡ q
-unfolding samePoint
-same-yes p q e = point-eq p q (origin-yes (minus p q) e)
 
 pub same-is : {p q : Point} → p ≡ q → samePoint p q ≡ true
 unfolding samePoint
@@ -89,7 +85,7 @@ module _ (d : Wire) (apart : Apart d) (l : Loop) (path : Path d l) where
   -- where the direction from corner x to y points inside the angle at x, x and y are no side
   pub points-no-side : (x y : ℕ) → x < length (d .vertices) → pointsIn (polygon d l) (at d x) (at d y) ≡ true → has (edge x y) l ≡ false
   unfolding pointsIn polygon turnsAt
-  points-no-side x y hx e = never (has (edge x y) l) (λ t. clear (has-cases x y l t))
+  points-no-side x y hx e = never-true (has (edge x y) l) (λ t. clear (has-cases x y l t))
     where
       n : Point
       n = normal (polygon d l)

@@ -7,7 +7,7 @@ use Prim.Native.Nat.{ℕ, _<_}
 use borrow.Author.Tests.{eq-eqb, ne-eqb, eqb-true}
 use lib.Dec.{eqb}
 use Rattle.lists.specs.Lists.{any, keep, filter, upto}
-use Rattle.lists.proofs.Truth.{never, and-left, and-right, and-both, or-left, or-right, or-cases}
+use Rattle.lists.proofs.Truth.{never-true, and-left, and-right, and-both, or-left, or-right, or-cases}
 use Rattle.lists.proofs.Passing.{some-yes, some-is}
 use Rattle.sets.specs.Word.{dig, count, first, both, either, less, only}
 use Rattle.sets.proofs.Digits.{dig-both, dig-either, dig-less, dig-only, dig-self, count-none, count-empty, first-in}
@@ -88,7 +88,7 @@ module _ (m : ℕ) (out : ℕ → Bool) where
             let e = s .0 in
             let a = and-left (dig mask e) (out e) (s .2) in
             let b = and-right (dig mask e) (out e) (s .2) in
-            let c : dig (f .held) e ≡ false = never (dig (f .held) e) (λ q. true≢false (sym b ∙ r .held-so e q)) in
+            let c : dig (f .held) e ≡ false = never-true (dig (f .held) e) (λ q. true≢false (sym b ∙ r .held-so e q)) in
             any-filter (dig (less mask (f .held))) out (upto m)
             ∙ some-is (λ e. dig (less mask (f .held)) e && out e) m e (s .1) (and-both (dig-less mask (f .held) e ∙ and-both a (ap not c)) b)
 

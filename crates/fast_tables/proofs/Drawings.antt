@@ -18,9 +18,9 @@ use Rattle.paper.specs.Drawing.{Wire, Edge, edge, joins, joined, samePlace, edg
 use Rattle.paper.specs.Loops.{Loop, level, loops, loopAt, coversOther, uncovering, candidates}
 use Rattle.paper.specs.Solids.{tablesOf}
 use Rattle.means_drawing.proofs.Drawings.{samePlace-means}
-use Rattle.means_area.specs.Rings.{Of, Chain, Link}
+use Rattle.means_area.specs.Rings.{Chain, Link}
 use Rattle.means_area.proofs.Loops.Paths.{empty, Closed, Differ, ext-closed, below, all-differ, closed-long, closed-tied}
-use Rattle.means_area.proofs.Loops.{plane-holds}
+use Rattle.means_area.proofs.Loops.{plane-holds, of-at}
 use Rattle.fast_tables.specs.Paths.{Apart, Path, Level}
 use Rattle.fast_tables.specs.Hits.{hits}
 use Rattle.fast_tables.specs.Asked.{coversByAnswers}
@@ -28,10 +28,6 @@ use Rattle.fast_tables.proofs.Rows.{table-clashes}
 use Rattle.fast_tables.proofs.Candidates.{uncovering-found}
 
 -- ---- what area says of a closed path, by places
-of-at : {A : Type 0} (l : List A) (i : ℕ) (z : A) → i < length l → Of (getD l i z) l
-of-at [] i z h = absurd (omega arith)
-of-at (a ∷ l) zero z h = inl refl
-of-at (a ∷ l) (suc i) z h = inr (of-at l i z (omega arith))
 
 chain-at : (x : ℕ) (r : List ℕ) (e i : ℕ) → i < length r → Chain x r e (getD (x ∷ r) i 0) (getD r i 0)
 chain-at x [] e i h = absurd (omega arith)

@@ -7,6 +7,7 @@ use native.Mathlib.Nat.{eq-or-lt-of-le}
 use native.Mathlib.Omega.{arith}
 use borrow.Author.Tests.{not-true}
 use lib.ListN.{length, getD}
+use Rattle.paper_laws.proofs.Points.{same-yes}
 use Rattle.lists.specs.Lists.{any, member}
 use Rattle.lists.specs.Around.{wrap, around}
 use Rattle.lists.proofs.Truth.{and-left, and-right}
@@ -22,7 +23,7 @@ use Rattle.paper.specs.declared.Point.{Point}
 use Rattle.fast_tables.specs.Paths.{Apart, Path}
 use Rattle.fast_tables.proofs.Rounds.{member-yes, member-is, runs-is, has-up, has-down}
 use Rattle.fast_tables.proofs.Enter.{polygon-length, corner-at}
-use Rattle.fast_tables.proofs.Angles.{same-yes, same-is, points-no-side}
+use Rattle.fast_tables.proofs.Angles.{same-is, points-no-side}
 
 -- two corners of both loops that are a side of neither
 pub record Bent (d : Wire) (f g : Loop) : Type 0 where

@@ -9,7 +9,7 @@ use lib.Dec.{eqb, ltb}
 use lib.ListN.{length, getD}
 use Rattle.lists.specs.Lists.{member}
 use Rattle.lists.specs.Around.{wrap}
-use Rattle.lists.proofs.Truth.{never, and-left, and-right, and-both}
+use Rattle.lists.proofs.Truth.{never-true, and-left, and-right, and-both}
 use Rattle.lists.proofs.Places.{made-at}
 use Rattle.sets.specs.Word.{dig, count, both}
 use Rattle.sets.proofs.Digits.{dig-both, count-empty}
@@ -106,7 +106,7 @@ module _ (d : Wire) (apart : Apart d) where
     folds-may e = bent-may (folds-bent d apart f g pf pg e)
 
     pub folds-not : mayFold d f g ≡ false → folds (polygon d f) (polygon d g) ≡ false
-    folds-not t = never (folds (polygon d f) (polygon d g)) (λ e. true≢false (sym (folds-may e) ∙ t))
+    folds-not t = never-true (folds (polygon d f) (polygon d g)) (λ e. true≢false (sym (folds-may e) ∙ t))
 
     pub folds-with : folds (polygon d f) (polygon d g) ≡ foldsWith d f g
     unfolding foldsWith

@@ -7,7 +7,7 @@ use Prim.Native.Nat.{ℕ, zero, suc, _+_, _≤_, _<_}
 use native.Mathlib.Nat.{eq-or-lt-of-le}
 use native.Mathlib.Omega.{arith}
 use Rattle.lists.specs.Lists.{any, keep, filter, from, upto}
-use Rattle.lists.proofs.Truth.{never}
+use Rattle.lists.proofs.Truth.{never-true}
 use Rattle.sets.specs.Word.{dig, count, first, either, less, only}
 use Rattle.sets.proofs.Digits.{dig-either, dig-less, dig-only, dig-self, count-none, first-in}
 use Rattle.fast_tables.specs.Asked.{Answers, unheld}
@@ -52,7 +52,7 @@ module _ (m : ℕ) (a : List Bool) where
     where
       go : (xs : List ℕ) → filter (dig a) xs ≡ []
       go [] = refl
-      go (x ∷ xs) = ap (λ (t : Bool). keep t x (filter (dig a) xs)) (never (dig a x) (count-none a e x)) ∙ go xs
+      go (x ∷ xs) = ap (λ (t : Bool). keep t x (filter (dig a) xs)) (never-true (dig a x) (count-none a e x)) ∙ go xs
 
   -- the lowest, and the others
   pub ones-first : (count a ≡ 0 → ⊥) → ((k : ℕ) → dig a k ≡ true → k < m) → ones m a ≡ first a ∷ ones m (less a (only (first a)))
@@ -73,13 +73,13 @@ module _ (m : ℕ) (a : List Bool) where
       gone = dig-less a (only f) f ∙ ap (λ (t : Bool). dig a f && not t) (dig-self f) ∙ and-false (dig a f)
 
       low : (k : ℕ) → k < f → dig a k ≡ false
-      low k l = never (dig a k) (λ t. let s = first-least a k t in omega (arith, s, l))
+      low k l = never-true (dig a k) (λ t. let s = first-least a k t in omega (arith, s, l))
 
       low' : (k : ℕ) → k < f → dig b k ≡ false
       low' k l = dig-less a (only f) k ∙ ap (λ (t : Bool). t && not (dig (only f) k)) (low k l)
 
       high : (k : ℕ) → f < k → dig a k ≡ dig b k
-      high k l = sym (dig-less a (only f) k ∙ ap (λ (t : Bool). dig a k && not t) (never (dig (only f) k) (λ t. let s = dig-only f k t in omega (arith, s, l))) ∙ and-yes (dig a k))
+      high k l = sym (dig-less a (only f) k ∙ ap (λ (t : Bool). dig a k && not t) (never-true (dig (only f) k) (λ t. let s = dig-only f k t in omega (arith, s, l))) ∙ and-yes (dig a k))
         where
           and-yes : (t : Bool) → (t && true) ≡ t
           and-yes true = refl

@@ -8,24 +8,23 @@ use Prim.Native.Nat.{ℕ, _<_}
 use native.Mathlib.Omega.{arith}
 use lib.Dec.{eqb}
 use lib.ListN.{length}
-use lib.IntN.{ℤ, pos, _*ℤ_, *ℤ-zero}
 use Rattle.lists.specs.Lists.{sides, sidesFrom, upto}
 use Rattle.sets.specs.Word.{count, less}
-use Rattle.exact.proofs.Laws.{eq-of-sub}
-use Rattle.exact.proofs.Signs.{mul-zero, pos-ne}
+use Rattle.exact.proofs.Signs.{pos-ne}
 use Rattle.paper.specs.Points.{origin, plus, minus, times, dot, cross, sum, isZero, isOrigin}
 use Rattle.paper.specs.Polygon.{Polygon, normal, corner, planeSide}
 use Rattle.paper.specs.Drawing.{Wire, at, joined, samePlace, edgeMeets}
 use Rattle.paper.specs.Loops.{Loop, across, level, loops, polygon, loopAt}
 use Rattle.paper.specs.declared.Point.{Point}
 use Rattle.paper_laws.proofs.Points.{zero-yes, zero-is, origin-yes, origin-no, differ, in-line, scale-zero, self-pos}
-use Rattle.paper_laws.proofs.Vectors.{num, vec, x, _-s_, _*s_, _·_, o, v, _+v_, _-v_, _*v_, _×v_, vring}
+use Rattle.paper_laws.proofs.Vectors.{num, vec, x, _-s_, o, v, _+v_, _-v_, _*v_, _×v_, vring}
 use Rattle.means_area.specs.Rings.{Of}
 use Rattle.means_area.specs.Space.{Level}
 use Rattle.means_area.proofs.Space.Maps.{map-of}
 use Rattle.means_area.proofs.Loops.Paths.{Closed, all-differ, below, closed-long}
 use Rattle.means_area.proofs.Loops.Planes.{Plane, plane}
 use Rattle.means_area.proofs.Loops.{normal-real}
+use Rattle.means_area.proofs.Space.Planes.{normal-across, across-too}
 use Rattle.fast_tables.specs.Paths.{Apart}
 use Rattle.fast_tables.specs.Hits.{cornerMask}
 use Rattle.fast_tables.specs.Asked.{planeMask, levelWith}
@@ -34,35 +33,6 @@ use Rattle.fast_tables.proofs.Rows.{upto-same}
 use Rattle.fast_tables.proofs.Drawings.{loop-closed, drawing-apart}
 
 -- ---- the normal is across the plane
-normal-across : (g : List Point) (n s : Point) → Level n s g → cross n (normal g) ≡ origin
-unfolding normal sum sides
-normal-across [] n s f = vring (vec n ∷ []) (v 0 ×v o) o tt
-normal-across (a ∷ l) n s f = go a l (inl refl) (λ q i. inr i) ∙ vring (num (dot n s) ∷ vec a ∷ []) (x 0 *v (v 1 -v v 1)) o tt
-  where
-    g : List Point
-    g = a ∷ l
-
-    same : (p : Point) → Of p g → dot n p ≡ dot n s
-    same p i = eq-of-sub (dot n p) (dot n s) (vring (vec n ∷ vec p ∷ vec s ∷ []) (v 0 · v 1 -s v 0 · v 2) (v 0 · (v 1 -v v 2)) tt ∙ f .every p i)
-
-    step : (p q : Point) → Of p g → Of q g → cross n (cross p q) ≡ times (dot n s) (minus p q)
-    step p q i j =
-        vring (vec n ∷ vec p ∷ vec q ∷ []) (v 0 ×v (v 1 ×v v 2)) ((v 0 · v 2) *v v 1 -v (v 0 · v 1) *v v 2) tt
-        ∙ (λ t. minus (times (same q j t) p) (times (same p i t) q)) ∙ vring (num (dot n s) ∷ vec p ∷ vec q ∷ []) (x 0 *v v 1 -v x 0 *v v 2) (x 0 *v (v 1 -v v 2)) tt
-
-    go : (p : Point) (r : List Point) → Of p g → ((q : Point) → Of q r → Of q g) → cross n (sum (sidesFrom cross a p r)) ≡ times (dot n s) (minus p a)
-    go p [] i h = vring (vec n ∷ vec (cross p a) ∷ []) (v 0 ×v (v 1 +v o)) (v 0 ×v v 1) tt ∙ step p a i (inl refl)
-    go p (q ∷ r) i h =
-        vring (vec n ∷ vec (cross p q) ∷ vec (sum (sidesFrom cross a q r)) ∷ []) (v 0 ×v (v 1 +v v 2)) (v 0 ×v v 1 +v v 0 ×v v 2) tt
-        ∙ (λ t. plus (step p q i (h q (inl refl)) t) (go q r (h q (inl refl)) (λ z j. h z (inr j)) t))
-        ∙ vring (num (dot n s) ∷ vec p ∷ vec q ∷ vec a ∷ []) (x 0 *v (v 1 -v v 2) +v x 0 *v (v 2 -v v 3)) (x 0 *v (v 1 -v v 3)) tt
-
--- what is across n is across what is in line with n
-across-too : (n m w : Point) → (n ≡ origin → ⊥) → cross n m ≡ origin → dot n w ≡ pos 0 → dot m w ≡ pos 0
-across-too n m w ne e h =
-    mul-zero (dot n n) (dot m w) (pos-ne (self-pos n ne))
-    (vring (num (dot n n) ∷ vec m ∷ vec w ∷ []) (x 0 *s (v 1 · v 2)) ((x 0 *v v 1) · v 2) tt ∙ ap (λ (p : Point). dot p w) (in-line n m e)
-    ∙ vring (num (dot n m) ∷ vec n ∷ vec w ∷ []) ((x 0 *v v 1) · v 2) (x 0 *s (v 1 · v 2)) tt ∙ ap (λ (z : ℤ). dot n m *ℤ z) h ∙ *ℤ-zero (dot n m))
 
 -- two directions across one plane
 pub plane-same : (g : Polygon) (n : Point) → (n ≡ origin → ⊥) → (normal g ≡ origin → ⊥) → Level n (corner g) g → (p : Point) → isZero (planeSide g p) ≡ isZero (dot n (minus p (corner g)))

@@ -10,7 +10,7 @@ use lib.Dec.{eqb, ltb}
 use lib.ListN.{length, getD}
 use Rattle.lists.specs.Lists.{any, sides, anyTrue, member}
 use Rattle.lists.specs.Around.{wrap, around}
-use Rattle.lists.proofs.Truth.{and-left, and-right, and-both, or-left, or-right, or-cases}
+use Rattle.lists.proofs.Truth.{and-left, and-right, and-both, or-left, or-right, or-cases, same-truth}
 use Rattle.lists.proofs.Passing.{any-yes, any-is}
 use Rattle.lists.proofs.Sides.{wrap-low, wrap-high, sides-length, sides-at}
 use Rattle.paper.specs.Drawing.{Wire, Edge, edge, joins, joined}
@@ -19,13 +19,7 @@ use Rattle.paper.specs.Solids.{runs, has}
 use Rattle.fast_tables.specs.Paths.{Path}
 
 pub equal-both : {a b : Bool} → (a ≡ true → b ≡ true) → (b ≡ true → a ≡ true) → a ≡ b
-equal-both {a} {b} f g = go a b f g
-  where
-    go : (a b : Bool) → (a ≡ true → b ≡ true) → (b ≡ true → a ≡ true) → a ≡ b
-    go true true f g = refl
-    go true false f g = sym (f refl)
-    go false true f g = g refl
-    go false false f g = refl
+equal-both {a} {b} f g = same-truth a b f g
 
 -- ---- a test at each side of a ring
 any-true : (bs : List Bool) → anyTrue bs ≡ any (λ b. b) bs

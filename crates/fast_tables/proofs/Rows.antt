@@ -9,7 +9,7 @@ use lib.Dec.{ltb}
 use lib.ListN.{length, getD}
 use lib.IntN.{pos}
 use Rattle.lists.specs.Lists.{any, from, upto, member}
-use Rattle.lists.proofs.Truth.{never, and-left, and-right}
+use Rattle.lists.proofs.Truth.{never-true, and-left, and-right}
 use Rattle.lists.proofs.Places.{map-at}
 use Rattle.lists.proofs.Passing.{any-yes, all-yes, some-yes}
 use Rattle.paper.specs.Points.{origin, isZero, above, below}
@@ -45,12 +45,12 @@ module _ (d : Wire) (l : Loop) where
 
   pub pierced-self : Level d l → piercedBy d l l ≡ false
   unfolding piercedBy
-  pierced-self level = never (any (λ e. has e l && edgePierces d l e) (d .edges)) (λ t.
+  pierced-self level = never-true (any (λ e. has e l && edgePierces d l e) (d .edges)) (λ t.
       let r = any-yes (λ e. has e l && edgePierces d l e) (edge 0 0) (d .edges) t in own-edge level (getD (d .edges) (r .0) (edge 0 0)) (r .2))
 
   pub entered-self : enteredBy d l l ≡ false
   unfolding enteredBy vertexInside
-  entered-self = never (any (λ v. member v l && vertexInside d l v) (upto (length (d .vertices)))) (λ t.
+  entered-self = never-true (any (λ v. member v l && vertexInside d l v) (upto (length (d .vertices)))) (λ t.
       let r = some-yes (λ v. member v l && vertexInside d l v) (length (d .vertices)) t in
       let v = r .0 in
       let rest = isZero (planeSide (polygon d l) (at d v)) && isInside (lies (exactly (at d v)) (polygon d l)) in

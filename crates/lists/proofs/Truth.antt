@@ -44,9 +44,9 @@ three true true c t = (tt, tt, t)
 three true false c t = absurd t
 three false b c t = absurd t
 
-pub never : (a : Bool) → (a ≡ true → ⊥) → a ≡ false
-never true f = absurd (f refl)
-never false f = refl
+pub never-true : (a : Bool) → (a ≡ true → ⊥) → a ≡ false
+never-true true f = absurd (f refl)
+never-true false f = refl
 
 pub and-left : (a b : Bool) → (a && b) ≡ true → a ≡ true
 and-left true b e = refl
@@ -75,3 +75,43 @@ pub not-both : (a b : Bool) → (a ≡ true → b ≡ true → ⊥) → not (a &
 not-both true true f = absurd (f refl refl)
 not-both true false f = refl
 not-both false b f = refl
+
+-- ---- two that are true together
+
+pub same-truth : (a b : Bool) → (a ≡ true → b ≡ true) → (b ≡ true → a ≡ true) → a ≡ b
+same-truth true b f g = sym (f refl)
+same-truth false true f g = g refl
+same-truth false false f g = refl
+
+pub and-swap : (a b : Bool) → (a && b) ≡ (b && a)
+and-swap true true = refl
+and-swap true false = refl
+and-swap false true = refl
+and-swap false false = refl
+
+pub and-off : (a : Bool) → (a && false) ≡ false
+and-off true = refl
+and-off false = refl
+
+-- ---- one of two and not both
+
+pub xor-not : (a b : Bool) → xor (not a) (not b) ≡ xor a b
+unfolding xor
+xor-not true true = refl
+xor-not true false = refl
+xor-not false true = refl
+xor-not false false = refl
+
+pub xor-same : (a b : Bool) → xor a b ≡ false → a ≡ b
+unfolding xor
+xor-same true true e = refl
+xor-same true false e = e
+xor-same false true e = sym e
+xor-same false false e = refl
+
+pub xor-is : (a b : Bool) → ((a && not b) || (b && not a)) ≡ xor a b
+unfolding xor
+xor-is true true = refl
+xor-is true false = refl
+xor-is false true = refl
+xor-is false false = refl

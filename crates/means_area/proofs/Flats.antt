@@ -22,6 +22,7 @@ use lib.ListN.{length, length-append}
 use lib.IntN.{ℤ, pos}
 use lib.Signed.{_<ℤ_}
 use Rattle.paper.specs.declared.Flat.{Flat}
+use Rattle.means_area.specs.Theorems.{AreaNotZero}
 use Rattle.means_area.specs.Rings.{Of}
 use Rattle.means_area.specs.Flats.{turn, height, Simple, Least, area, Same, lst}
 use Rattle.means_area.proofs.Flats.Signs.{same-ne}
@@ -70,3 +71,7 @@ module _ (m : ℤ) where
       go (inl low) = same-ne (area-sign a b (c ∷ r) (omega arith) s low) z
       go (inr f) = subst (λ (l : List Flat). 2 ≤ length l → Simple m (a ∷ l) → area (a ∷ l) ≡ pos 0 → ⊥) (sym (f .is))
           (λ j t q. from (f .before) (f .v) (f .after) j t q (f .low) (f .low')) (omega arith) s z
+
+-- for every height
+pub has-area : AreaNotZero
+has-area m g = area-not-zero m g

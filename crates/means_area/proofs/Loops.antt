@@ -20,6 +20,7 @@ use Rattle.paper.specs.Drawing.{Wire, at, joined, samePlace, edgeMeets}
 use Rattle.paper.specs.Loops.{Loop, level, loops, polygon, loopAt}
 use Rattle.paper.specs.declared.Point.{Point}
 use Rattle.paper_laws.proofs.Vectors.{vec, _-s_, _·_, v, _-v_, vring}
+use Rattle.means_area.specs.Theorems.{LoopsHold}
 use Rattle.means_area.specs.Rings.{Of}
 use Rattle.means_area.specs.Flats.{Simple}
 use Rattle.means_area.specs.Space.{Clear, Level, through}
@@ -33,7 +34,7 @@ use Rattle.means_area.proofs.Loops.Planes.{plane, in-plane}
 use Rattle.means_area.proofs.Loops.Rings.{one-place, clear, long-loop}
 
 -- what the search meets is at a place
-of-at : {A : Type 0} (l : List A) (i : ℕ) (z : A) → i < length l → Of (getD l i z) l
+pub of-at : {A : Type 0} (l : List A) (i : ℕ) (z : A) → i < length l → Of (getD l i z) l
 of-at [] i z h = absurd (omega arith)
 of-at (a ∷ l) zero z h = inl refl
 of-at (a ∷ l) (suc i) z h = inr (of-at l i z (omega arith))
@@ -103,3 +104,15 @@ module _ (d : Wire) (r11 : samePlace d ≡ none) (r13 : edgeMeets d ≡ none) (i
       let q = long-loop d r11 r13 l (ext-closed n (joined d) (level d) mostCorners [] 0 (omega arith) empty l (of-at (loops d) i [] h)) in
       let f = length-map (at d) l in
       omega (arith, q, f)
+
+-- all of it
+pub loops-hold : LoopsHold
+loops-hold d r11 r13 i h = record {
+  corners = loop-long d r11 r13 i h;
+  normal-real = normal-real d r11 r13 i h;
+  plane-holds = plane-holds d r11 r13 i h;
+  axis-holds = axis-holds d r11 r13 i h;
+  view-holds = view-holds d r11 r13 i h;
+  ring-clear = ring-clear d r11 r13 i h;
+  ring-seen = ring-seen d r11 r13 i h;
+}

@@ -12,7 +12,8 @@ use Rattle.paper.specs.Drawing.{Wire, drawingChecks}
 use Rattle.paper.specs.Loops.{Loop, loops, candidates, loopChecks}
 use Rattle.paper.specs.Solids.{tablesOf}
 use Rattle.paper.specs.FaceList.{facesIn, wellShaped}
-use Rattle.paper.specs.Verdict.{listed, notCandidate, faceTwice, edgeCount, direction, pieces, inward, clashes, faceChecks, verdictFor, verdict}
+use Rattle.paper.specs.Verdict.{listed, notCandidate, faceTwice, edgeCount, direction, pieces, inward, clashes, faceChecks, verdictFor}
+use Rattle.paper.specs.Verdict.{verdict}
 use Rattle.paper.specs.declared.Answer.{Answer}
 use Rattle.paper.specs.declared.Answer.the-variants.{Fine, Refused}
 use Rattle.paper.specs.declared.Verdict.the-variants.{Accepted}
@@ -20,8 +21,11 @@ use Rattle.means_solid.specs.Solid.{IsSolid}
 use Rattle.means_check.specs.Shape.{Candidates}
 use Rattle.means_solid.specs.Named.{Names}
 use Rattle.means_check.specs.Accepts.{NamesSolid, Accepts}
-use Rattle.means_check.proofs.Numbered.{numbersOf, takenOf, turnedOf, numbers-length, number-of, taken-yes, taken-is, turned-yes, row-length, Numbered, numbered, numbered-21, numbered-22, numbered-names, names-numbered, names-taken, names-turned}
-use Rattle.means_check.proofs.Tests.{edges-two, two-edges, edges-ways, ways-edges, Lists, pieces-ways, ways-pieces, inward-six, six-inward, clashes-none, none-clashes}
+use Rattle.means_check.proofs.Numbered.{numbersOf, takenOf, turnedOf, numbers-length, number-of, taken-yes, taken-is, turned-yes}
+use Rattle.means_check.proofs.Numbered.{row-length, Numbered, numbered, numbered-21, numbered-22, numbered-names, names-numbered}
+use Rattle.means_check.proofs.Numbered.{names-taken, names-turned}
+use Rattle.means_check.proofs.Tests.{edges-two, two-edges, edges-ways, ways-edges, Lists, pieces-ways, ways-pieces, inward-six}
+use Rattle.means_check.proofs.Tests.{six-inward, clashes-none, none-clashes}
 use Rattle.means_check.proofs.Alike.{solid-to, row-same}
 
 -- ---- a list of checks has nothing against
@@ -135,15 +139,18 @@ module _ (d : Wire) (cs : List Loop) (fs : List (List ℕ)) where
     }
 
     -- the masks that are read off a list are those of any solid that it names
-    pub rows-solid : (taken turned : List Bool) {six : ℕ} → IsSolid d cs taken turned six → Names d cs taken turned fs → IsSolid d cs (takenOf cs fs) (turnedOf cs fs) six
+    pub rows-solid : (taken turned : List Bool) {six : ℕ} → IsSolid d cs taken turned six → Names d cs taken turned fs
+        → IsSolid d cs (takenOf cs fs) (turnedOf cs fs) six
     rows-solid taken turned {six} s n =
-        let e : taken ≡ takenOf cs fs = row-same taken (takenOf cs fs) (s .some ∙ sym (row-length (length cs) (numbersOf cs fs))) (λ k. sym (names-taken d cs c fs taken turned (s .some) (s .within) n k)) in
+        let e : taken ≡ takenOf cs fs = row-same taken (takenOf cs fs) (s .some ∙ sym (row-length (length cs) (numbersOf cs fs)))
+        (λ k. sym (names-taken d cs c fs taken turned (s .some) (s .within) n k)) in
         solid-to d cs (takenOf cs fs) turned (turnedOf cs fs) (λ k. sym (names-turned d cs c fs taken turned (s .some) (s .within) n k))
         (subst (λ (t : List Bool). IsSolid d cs t turned six) e s)
 
     solid-pass : NamesSolid d cs fs → AllPass
     solid-pass w =
-        rows-pass (names-numbered d cs c fs (w .taken) (w .turned) (w .solid .some) (w .solid .within) (w .names)) (rows-solid (w .taken) (w .turned) (w .solid) (w .names))
+        rows-pass (names-numbered d cs c fs (w .taken) (w .turned) (w .solid .some) (w .solid .within) (w .names))
+        (rows-solid (w .taken) (w .turned) (w .solid) (w .names))
 
     -- 21 to 27 have nothing against a list exactly when it names one solid with its directions
     pub accepted-names : firstOf (faceChecks (tablesOf d cs) (length cs) (listed cs fs)) ≡ Fine → NamesSolid d cs fs
@@ -169,12 +176,16 @@ module _ (form : List Check) (d : Wire) (list : List ℕ) where
   abbrev shapeOf : Option ℕ
   shapeOf = offends (not (wellShaped editionOne (length (d .vertices)) list)) 0
 
-  verdict-is : verdict form d list ≡ verdictFor (firstOf (form ++ drawingChecks d ++ loopChecks (loops d) (candidates d) ++ (check 20 shapeOf ∷ faceLast)))
+  verdict-is : verdict form d list ≡ verdictFor
+      (firstOf (form ++ drawingChecks d ++ loopChecks (loops d) (candidates d) ++ (check 20 shapeOf ∷ faceLast)))
   unfolding verdict candidates
   verdict-is = refl
 
-  verdict-fine : verdict form d list ≡ Accepted → firstOf (form ++ drawingChecks d ++ loopChecks (loops d) (candidates d) ++ (check 20 shapeOf ∷ faceLast)) ≡ Fine
-  verdict-fine e = fine-verdict (firstOf (form ++ drawingChecks d ++ loopChecks (loops d) (candidates d) ++ (check 20 shapeOf ∷ faceLast))) (sym verdict-is ∙ e)
+  verdict-fine : verdict form d list ≡ Accepted
+      → firstOf (form ++ drawingChecks d ++ loopChecks (loops d) (candidates d) ++ (check 20 shapeOf ∷ faceLast)) ≡ Fine
+  verdict-fine e =
+      fine-verdict (firstOf (form ++ drawingChecks d ++ loopChecks (loops d) (candidates d) ++ (check 20 shapeOf ∷ faceLast)))
+      (sym verdict-is ∙ e)
 
   -- the drawing of an accepted list passes its rules
   pub fine-passes : verdict form d list ≡ Accepted → firstOf (drawingChecks d) ≡ Fine
@@ -187,7 +198,8 @@ module _ (form : List Check) (d : Wire) (c : Candidates d (candidates d)) (list 
   -- a list is accepted exactly when the drawing passes its rules, the list its own, and its faces name one solid of the drawing
   pub verdict-accepts : verdict form d list ≡ Accepted → Accepts form d list
   verdict-accepts e =
-      let p = both-fine (form ++ drawingChecks d ++ loopChecks (loops d) (candidates d)) (check 20 (shapeOf form d list) ∷ faceLast form d list) (verdict-fine form d list e) in
+      let p = both-fine (form ++ drawingChecks d ++ loopChecks (loops d) (candidates d))
+      (check 20 (shapeOf form d list) ∷ faceLast form d list) (verdict-fine form d list e) in
       let q = both-fine (form ++ drawingChecks d) (loopChecks (loops d) (candidates d)) (p .0) in
       let r = both-fine form (drawingChecks d) (q .0) in
       let s = step-none 20 (shapeOf form d list) (faceLast form d list) (p .1) in
@@ -204,5 +216,7 @@ module _ (form : List Check) (d : Wire) (c : Candidates d (candidates d)) (list 
       verdict-is form d list
       ∙ ap verdictFor
       (fine-both (form ++ drawingChecks d ++ loopChecks (loops d) (candidates d)) (check 20 (shapeOf form d list) ∷ faceLast form d list)
-      (fine-both (form ++ drawingChecks d) (loopChecks (loops d) (candidates d)) (fine-both form (drawingChecks d) (a .form-passes) (a .drawing-passes)) (a .few))
-      (none-step 20 (shapeOf form d list) (faceLast form d list) (ap (λ (b : Bool). offends (not b) 0) (a .shape)) (names-accepted d (candidates d) (facesIn editionOne list) c (a .named))))
+      (fine-both (form ++ drawingChecks d) (loopChecks (loops d) (candidates d))
+      (fine-both form (drawingChecks d) (a .form-passes) (a .drawing-passes)) (a .few))
+      (none-step 20 (shapeOf form d list) (faceLast form d list) (ap (λ (b : Bool). offends (not b) 0) (a .shape))
+      (names-accepted d (candidates d) (facesIn editionOne list) c (a .named))))

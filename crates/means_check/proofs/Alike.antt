@@ -21,7 +21,8 @@ module _ (d : Wire) (cs : List Loop) (taken t u : List Bool) (same : (k : ℕ) �
   runs-from k a b r = subst (λ (x : Bool). cond x (Goes (loopAt cs k) b a) (Goes (loopAt cs k) a b)) (sym (same k)) r
 
   once-to : (a b : ℕ) → RunOnce d cs taken t a b → RunOnce d cs taken u a b
-  once-to a b r = record { by = r .by; face = r .face; runs = runs-to (r .by) a b (r .runs); only = λ k f g. r .only k f (runs-from k a b g) }
+  once-to a b r =
+      record { by = r .by; face = r .face; runs = runs-to (r .by) a b (r .runs); only = λ k f g. r .only k f (runs-from k a b g) }
 
   each-to : (e : Edge) → EachWay d cs taken t e → EachWay d cs taken u e
   each-to (edge a b) w = (once-to a b (w .0), once-to b a (w .1))
@@ -64,7 +65,9 @@ module _ (d : Wire) (cs : List Loop) (taken t u : List Bool) (same : (k : ℕ) �
   names-to {fs} n = record {
     each = λ i h. let r = n .each i h in (r .0, r .1, subst (λ (l : List ℕ). SameRing l (loopAt fs i)) (directed-to (r .0)) (r .2));
     there = λ k f. let r = n .there k f in (r .0, r .1, subst (λ (l : List ℕ). SameRing l (loopAt fs (r .0))) (directed-to k) (r .2));
-    once = λ i j k hi hj p q. n .once i j k hi hj (subst (λ (l : List ℕ). SameRing l (loopAt fs i)) (sym (directed-to k)) p) (subst (λ (l : List ℕ). SameRing l (loopAt fs j)) (sym (directed-to k)) q);
+    once =
+        λ i j k hi hj p q. n .once i j k hi hj (subst (λ (l : List ℕ). SameRing l (loopAt fs i)) (sym (directed-to k)) p)
+        (subst (λ (l : List ℕ). SameRing l (loopAt fs j)) (sym (directed-to k)) q);
   }
 
 -- two masks of one length with the same digits are one

@@ -1,4 +1,5 @@
--- The faces of a solid close: their normals add up to (0,0,0), and so a solid whose faces all pass through one vertex has no volume. Assumes nothing.
+-- The faces of a solid close: their normals add up to (0,0,0), and so a solid whose faces all pass through one vertex has no volume.
+-- Assumes nothing.
 use mathlib.Core.Path.{_≡_, refl, sym, ap, ap₂, subst, _∙_}
 use mathlib.Core.Bool.{Bool, true, false, _&&_, cond}
 use mathlib.Core.Logic.{_⊎_, inl, inr}
@@ -38,21 +39,26 @@ use Rattle.means_check.proofs.Sums.{sumTo, sum-same, sum-zero, sum-minu
 fan-is : (a b : Point) (r : List Point) → fan a (b ∷ r) ≡ dot a (sum (sidesFrom cross a b r))
 unfolding fan sum sidesFrom det
 fan-is a b [] = sym (vring (vec a ∷ vec b ∷ []) (v 0 · ((v 1 ×v v 0) +v o)) (con (pos 0)) tt)
-fan-is a b (c ∷ r) = ap (λ (z : ℤ). dot a (cross b c) +ℤ z) (fan-is a c r) ∙ vring (vec a ∷ vec (cross b c) ∷ vec (sum (sidesFrom cross a c r)) ∷ []) ((v 0 · v 1) +s (v 0 · v 2)) (v 0 · (v 1 +v v 2)) tt
+fan-is a b (c ∷ r) =
+    ap (λ (z : ℤ). dot a (cross b c) +ℤ z) (fan-is a c r)
+    ∙ vring (vec a ∷ vec (cross b c) ∷ vec (sum (sidesFrom cross a c r)) ∷ []) ((v 0 · v 1) +s (v 0 · v 2)) (v 0 · (v 1 +v v 2)) tt
 
 six-normal : (f : Polygon) → faceSix f ≡ dot (corner f) (normal f)
 unfolding faceSix corner normal sides sidesFrom sum fan
 six-normal [] = sym (vring [] (o · o) (con (pos 0)) tt)
 six-normal (a ∷ []) = sym (vring (vec a ∷ []) (v 0 · ((v 0 ×v v 0) +v o)) (con (pos 0)) tt)
-six-normal (a ∷ (b ∷ r)) = fan-is a b r ∙ vring (vec a ∷ vec b ∷ vec (sum (sidesFrom cross a b r)) ∷ []) (v 0 · v 2) (v 0 · ((v 0 ×v v 1) +v v 2)) tt
+six-normal (a ∷ (b ∷ r)) =
+    fan-is a b r ∙ vring (vec a ∷ vec b ∷ vec (sum (sidesFrom cross a b r)) ∷ []) (v 0 · v 2) (v 0 · ((v 0 ×v v 1) +v v 2)) tt
 
 -- with any of its corners
 six-corner : (f : Polygon) (i : ℕ) → InPlane f → i < length f → faceSix f ≡ dot (getD f i origin) (normal f)
 six-corner f i y h =
     let m = normal-across (y .across) (y .height) f (y .every) in
-    let z : dot (y .across) (minus (corner f) (getD f i origin)) ≡ pos 0 = less-dot (y .across) (corner f) (getD f i origin) (y .height) (ap (dot (y .across)) (corner-at f) ∙ y .every 0 (omega arith)) (y .every i h) in
+    let z : dot (y .across) (minus (corner f) (getD f i origin)) ≡ pos 0 = less-dot (y .across) (corner f) (getD f i origin) (y .height)
+    (ap (dot (y .across)) (corner-at f) ∙ y .every 0 (omega arith)) (y .every i h) in
     let w = in-one-line (y .across) (normal f) (minus (corner f) (getD f i origin)) (y .real) m z in
-    six-normal f ∙ dot-comm (corner f) (normal f) ∙ dot-less (normal f) (corner f) (getD f i origin) w ∙ dot-comm (normal f) (getD f i origin)
+    six-normal f ∙ dot-comm (corner f) (normal f) ∙ dot-less (normal f) (corner f) (getD f i origin) w
+    ∙ dot-comm (normal f) (getD f i origin)
 
 -- ---- the sides of all faces, each in its face's direction
 
@@ -91,7 +97,8 @@ module _ (d : Wire) (cs : List Loop) (taken turned : List Bool) (paths : (k : �
       }
 
   meets-is : (k i p q : ℕ) → Meets k i p q → meets k i p q ≡ true
-  meets-is k i p q m = and-both (and-both (m .here) (m .other)) (and-both (eq-eqb (start p q) (end k i) (m .from)) (eq-eqb (end p q) (start k i) (m .to)))
+  meets-is k i p q m =
+      and-both (and-both (m .here) (m .other)) (and-both (eq-eqb (start p q) (end k i) (m .from)) (eq-eqb (end p q) (start k i) (m .to)))
 
   abbrev given : ℕ → ℕ → Point
   given k i = cond (there k i) (part k i) origin
@@ -123,14 +130,17 @@ module _ (d : Wire) (cs : List Loop) (taken turned : List Bool) (paths : (k : �
         go (no h) = never (sym e ∙ List·getD-eq-default taken false (omega (arith, s .some)))
 
     -- a side is run by its face
-    side-runs : (k i : ℕ) → there k i ≡ true → (dig taken k ≡ true) × (i < length (loopAt cs k)) × Runs d cs taken turned k (start k i) (end k i)
+    side-runs : (k i : ℕ) → there k i ≡ true → (dig taken k ≡ true) × (i < length (loopAt cs k))
+        × Runs d cs taken turned k (start k i) (end k i)
     side-runs k i e =
         let h = ltb-true i (length (loopAt cs k)) (and-right (dig taken k) (ltb i (length (loopAt cs k))) e) in
         (and-left (dig taken k) (ltb i (length (loopAt cs k))) e, h, go (dig turned k) h)
       where
         go : (t : Bool) → i < length (loopAt cs k) → cond t
-            (Goes (loopAt cs k) (cond t (around (loopAt cs k) i 0) (around (loopAt cs k) (suc i) 0)) (cond t (around (loopAt cs k) (suc i) 0) (around (loopAt cs k) i 0)))
-            (Goes (loopAt cs k) (cond t (around (loopAt cs k) (suc i) 0) (around (loopAt cs k) i 0)) (cond t (around (loopAt cs k) i 0) (around (loopAt cs k) (suc i) 0)))
+            (Goes (loopAt cs k) (cond t (around (loopAt cs k) i 0) (around (loopAt cs k) (suc i) 0))
+            (cond t (around (loopAt cs k) (suc i) 0) (around (loopAt cs k) i 0)))
+            (Goes (loopAt cs k) (cond t (around (loopAt cs k) (suc i) 0) (around (loopAt cs k) i 0))
+            (cond t (around (loopAt cs k) i 0) (around (loopAt cs k) (suc i) 0)))
         go true h = record { at = i; here = h; from = refl; to = refl }
         go false h = record { at = i; here = h; from = refl; to = refl }
 
@@ -156,11 +166,13 @@ module _ (d : Wire) (cs : List Loop) (taken turned : List Bool) (paths : (k : �
     run-side t a b r = go (dig turned t) r
       where
         go : (x : Bool) → cond x (Goes (loopAt cs t) b a) (Goes (loopAt cs t) a b)
-            → (i : ℕ) × (i < length (loopAt cs t)) × (cond x (around (loopAt cs t) (suc i) 0) (around (loopAt cs t) i 0) ≡ a) × (cond x (around (loopAt cs t) i 0) (around (loopAt cs t) (suc i) 0) ≡ b)
+            → (i : ℕ) × (i < length (loopAt cs t)) × (cond x (around (loopAt cs t) (suc i) 0) (around (loopAt cs t) i 0) ≡ a)
+            × (cond x (around (loopAt cs t) i 0) (around (loopAt cs t) (suc i) 0) ≡ b)
         go true g = (g .at, g .here, sym (g .to), sym (g .from))
         go false g = (g .at, g .here, sym (g .from), sym (g .to))
 
-    one-side : (t i j : ℕ) → t < length cs → i < length (loopAt cs t) → j < length (loopAt cs t) → start t i ≡ start t j → end t i ≡ end t j → i ≡ j
+    one-side : (t i j : ℕ) → t < length cs → i < length (loopAt cs t) → j < length (loopAt cs t) → start t i ≡ start t j → end t i ≡ end t j
+        → i ≡ j
     one-side t i j ht hi hj p q = go (dig turned t) p q
       where
         at-low : (i : ℕ) → i < length (loopAt cs t) → around (loopAt cs t) i 0 ≡ getD (loopAt cs t) i 0
@@ -169,8 +181,10 @@ module _ (d : Wire) (cs : List Loop) (taken turned : List Bool) (paths : (k : �
         same : around (loopAt cs t) i 0 ≡ around (loopAt cs t) j 0 → i ≡ j
         same e = paths t ht .different i j hi hj (sym (at-low i hi) ∙ e ∙ at-low j hj)
 
-        go : (x : Bool) → cond x (around (loopAt cs t) (suc i) 0) (around (loopAt cs t) i 0) ≡ cond x (around (loopAt cs t) (suc j) 0) (around (loopAt cs t) j 0)
-            → cond x (around (loopAt cs t) i 0) (around (loopAt cs t) (suc i) 0) ≡ cond x (around (loopAt cs t) j 0) (around (loopAt cs t) (suc j) 0) → i ≡ j
+        go : (x : Bool) → cond x (around (loopAt cs t) (suc i) 0) (around (loopAt cs t) i 0) ≡ cond x (around (loopAt cs t) (suc j) 0)
+            (around (loopAt cs t) j 0)
+            → cond x (around (loopAt cs t) i 0) (around (loopAt cs t) (suc i) 0) ≡ cond x (around (loopAt cs t) j 0)
+            (around (loopAt cs t) (suc j) 0) → i ≡ j
         go true p q = same q
         go false p q = same p
 
@@ -194,11 +208,14 @@ module _ (d : Wire) (cs : List Loop) (taken turned : List Bool) (paths : (k : �
             let hs = w .1 in
             let long = paths (one .by) ht .twelve in
             let th : there (one .by) (w .0) ≡ true = and-both (one .face) (lt-ltb (w .0) (length (loopAt cs (one .by))) (w .1)) in
-            let m : meets k i (one .by) (w .0) ≡ true = meets-is k i (one .by) (w .0) (record { here = e; other = th; from = w .2; to = w .3 }) in
-            sum2-single (length cs) 12 (pair k i) (one .by) (w .0) ht (omega arith) (λ p q hp hq n. others (one .by) (w .0) (w .1) (w .2) (w .3) (one .only) p q n)
+            let m : meets k i (one .by) (w .0) ≡ true = meets-is k i (one .by) (w .0)
+            (record { here = e; other = th; from = w .2; to = w .3 }) in
+            sum2-single (length cs) 12 (pair k i) (one .by) (w .0) ht (omega arith)
+            (λ p q hp hq n. others (one .by) (w .0) (w .1) (w .2) (w .3) (one .only) p q n)
             ∙ ap (λ (b : Bool). cond b (part k i) origin) m
           where
-            others : (t s : ℕ) → s < length (loopAt cs t) → start t s ≡ end k i → end t s ≡ start k i → ((p : ℕ) → dig taken p ≡ true → Runs d cs taken turned p (end k i) (start k i) → p ≡ t)
+            others : (t s : ℕ) → s < length (loopAt cs t) → start t s ≡ end k i → end t s ≡ start k i
+                → ((p : ℕ) → dig taken p ≡ true → Runs d cs taken turned p (end k i) (start k i) → p ≡ t)
                 → (p q : ℕ) → (p ≡ t → q ≡ s → ⊥) → pair k i p q ≡ origin
             others t s hs ps qs only p q n = by (meets k i p q) refl
               where
@@ -207,10 +224,14 @@ module _ (d : Wire) (cs : List Loop) (taken turned : List Bool) (paths : (k : �
                 by true f =
                     let m = meets-yes k i p q f in
                     let r = side-runs p q (m .other) in
-                    let run : Runs d cs taken turned p (end k i) (start k i) = subst (λ (a : ℕ). Runs d cs taken turned p a (start k i)) (m .from) (subst (λ (b : ℕ). Runs d cs taken turned p (start p q) b) (m .to) (r .2)) in
+                    let run : Runs d cs taken turned p (end k i) (start k i) = subst (λ (a : ℕ). Runs d cs taken turned p a (start k i))
+                    (m .from) (subst (λ (b : ℕ). Runs d cs taken turned p (start p q) b) (m .to) (r .2)) in
                     let z : p ≡ t = only p (r .0) run in
                     let hs′ : s < length (loopAt cs p) = subst (λ (x : ℕ). s < length (loopAt cs x)) (sym z) hs in
-                    absurd (n z (one-side p q s (inside p (r .0)) (r .1) hs′ (m .from ∙ sym ps ∙ ap (λ (x : ℕ). start x s) (sym z)) (m .to ∙ sym qs ∙ ap (λ (x : ℕ). end x s) (sym z))))
+                    absurd
+                    (n z
+                    (one-side p q s (inside p (r .0)) (r .1) hs′ (m .from ∙ sym ps ∙ ap (λ (x : ℕ). start x s) (sym z))
+                    (m .to ∙ sym qs ∙ ap (λ (x : ℕ). end x s) (sym z))))
 
     -- the sides cancel
     pub sides-cancel : sum2 (length cs) 12 given ≡ origin
@@ -219,15 +240,19 @@ module _ (d : Wire) (cs : List Loop) (taken turned : List Bool) (paths : (k : �
     -- ---- a face's sides add up to its normal
 
     abbrev facing : ℕ → Point
-    facing k = cond (dig taken k) (cond (dig turned k) (minus origin (normal (polygon d (loopAt cs k)))) (normal (polygon d (loopAt cs k)))) origin
+    facing k =
+        cond (dig taken k) (cond (dig turned k) (minus origin (normal (polygon d (loopAt cs k)))) (normal (polygon d (loopAt cs k)))) origin
 
     normal-sum : (l : Loop) → normal (polygon d l) ≡ sumTo (length l) (λ i. cross (at d (around l i 0)) (at d (around l (suc i) 0)))
     unfolding normal polygon
     normal-sum l =
         ap sum (sides-map cross (at d) l) ∙ sum-list (sides (λ y z. cross (at d y) (at d z)) l)
-        ∙ ap (λ (n : ℕ). sumTo n (λ i. getD (sides (λ y z. cross (at d y) (at d z)) l) i origin)) (sides-length (λ (y z : ℕ). cross (at d y) (at d z)) l)
-        ∙ sum-same (length l) (λ i. getD (sides (λ y z. cross (at d y) (at d z)) l) i origin) (λ i. cross (at d (around l i 0)) (at d (around l (suc i) 0)))
-        (λ i h. sides-at (λ (y z : ℕ). cross (at d y) (at d z)) l i origin 0 h ∙ ap (λ (j : ℕ). cross (at d (around l i 0)) (at d (around l j 0))) (add-one i))
+        ∙ ap (λ (n : ℕ). sumTo n (λ i. getD (sides (λ y z. cross (at d y) (at d z)) l) i origin))
+        (sides-length (λ (y z : ℕ). cross (at d y) (at d z)) l)
+        ∙ sum-same (length l) (λ i. getD (sides (λ y z. cross (at d y) (at d z)) l) i origin)
+        (λ i. cross (at d (around l i 0)) (at d (around l (suc i) 0)))
+        (λ i h. sides-at (λ (y z : ℕ). cross (at d y) (at d z)) l i origin 0 h
+        ∙ ap (λ (j : ℕ). cross (at d (around l i 0)) (at d (around l j 0))) (add-one i))
 
     face-sum : (k : ℕ) → k < length cs → sumTo 12 (λ i. given k i) ≡ facing k
     face-sum k h = go (dig taken k) refl
@@ -235,22 +260,35 @@ module _ (d : Wire) (cs : List Loop) (taken turned : List Bool) (paths : (k : �
         off : (b : Bool) (i : ℕ) → dig taken k ≡ b → there k i ≡ (b && ltb i (length (loopAt cs k)))
         off b i e = ap (λ (x : Bool). x && ltb i (length (loopAt cs k))) e
 
-        way : (t : Bool) (i : ℕ) → cross (at d (cond t (around (loopAt cs k) (suc i) 0) (around (loopAt cs k) i 0))) (at d (cond t (around (loopAt cs k) i 0) (around (loopAt cs k) (suc i) 0)))
-            ≡ cond t (minus origin (cross (at d (around (loopAt cs k) i 0)) (at d (around (loopAt cs k) (suc i) 0)))) (cross (at d (around (loopAt cs k) i 0)) (at d (around (loopAt cs k) (suc i) 0)))
-        way true i = vring (vec (at d (around (loopAt cs k) i 0)) ∷ vec (at d (around (loopAt cs k) (suc i) 0)) ∷ []) (v 1 ×v v 0) (o -v (v 0 ×v v 1)) tt
+        way : (t : Bool) (i : ℕ) → cross (at d (cond t (around (loopAt cs k) (suc i) 0) (around (loopAt cs k) i 0)))
+            (at d (cond t (around (loopAt cs k) i 0) (around (loopAt cs k) (suc i) 0)))
+            ≡ cond t (minus origin (cross (at d (around (loopAt cs k) i 0)) (at d (around (loopAt cs k) (suc i) 0))))
+            (cross (at d (around (loopAt cs k) i 0)) (at d (around (loopAt cs k) (suc i) 0)))
+        way true i =
+            vring (vec (at d (around (loopAt cs k) i 0)) ∷ vec (at d (around (loopAt cs k) (suc i) 0)) ∷ []) (v 1 ×v v 0)
+            (o -v (v 0 ×v v 1)) tt
         way false i = refl
 
-        turn : (t : Bool) → sumTo (length (loopAt cs k)) (λ i. cond t (minus origin (cross (at d (around (loopAt cs k) i 0)) (at d (around (loopAt cs k) (suc i) 0)))) (cross (at d (around (loopAt cs k) i 0)) (at d (around (loopAt cs k) (suc i) 0))))
+        turn : (t : Bool)
+            → sumTo (length (loopAt cs k))
+            (λ i. cond t (minus origin (cross (at d (around (loopAt cs k) i 0)) (at d (around (loopAt cs k) (suc i) 0))))
+            (cross (at d (around (loopAt cs k) i 0)) (at d (around (loopAt cs k) (suc i) 0))))
             ≡ cond t (minus origin (normal (polygon d (loopAt cs k)))) (normal (polygon d (loopAt cs k)))
-        turn true = sum-minus (length (loopAt cs k)) (λ i. cross (at d (around (loopAt cs k) i 0)) (at d (around (loopAt cs k) (suc i) 0))) ∙ ap (minus origin) (sym (normal-sum (loopAt cs k)))
+        turn true =
+            sum-minus (length (loopAt cs k)) (λ i. cross (at d (around (loopAt cs k) i 0)) (at d (around (loopAt cs k) (suc i) 0)))
+            ∙ ap (minus origin) (sym (normal-sum (loopAt cs k)))
         turn false = sym (normal-sum (loopAt cs k))
 
-        go : (b : Bool) → dig taken k ≡ b → sumTo 12 (λ i. given k i) ≡ cond b (cond (dig turned k) (minus origin (normal (polygon d (loopAt cs k)))) (normal (polygon d (loopAt cs k)))) origin
+        go : (b : Bool) → dig taken k ≡ b
+            → sumTo 12 (λ i. given k i) ≡ cond b
+            (cond (dig turned k) (minus origin (normal (polygon d (loopAt cs k)))) (normal (polygon d (loopAt cs k)))) origin
         go false e = sum-zero 12 (λ i. given k i) (λ i l. ap (λ (x : Bool). cond x (part k i) origin) (off false i e))
         go true e =
-            sum-more (length (loopAt cs k)) 12 (λ i. given k i) (paths k h .twelve) (λ i l. ap (λ (x : Bool). cond x (part k i) origin) (off true i e ∙ le-ltb i (length (loopAt cs k)) l))
+            sum-more (length (loopAt cs k)) 12 (λ i. given k i) (paths k h .twelve)
+            (λ i l. ap (λ (x : Bool). cond x (part k i) origin) (off true i e ∙ le-ltb i (length (loopAt cs k)) l))
             ∙ sum-same (length (loopAt cs k)) (λ i. given k i)
-            (λ i. cond (dig turned k) (minus origin (cross (at d (around (loopAt cs k) i 0)) (at d (around (loopAt cs k) (suc i) 0)))) (cross (at d (around (loopAt cs k) i 0)) (at d (around (loopAt cs k) (suc i) 0))))
+            (λ i. cond (dig turned k) (minus origin (cross (at d (around (loopAt cs k) i 0)) (at d (around (loopAt cs k) (suc i) 0))))
+            (cross (at d (around (loopAt cs k) i 0)) (at d (around (loopAt cs k) (suc i) 0))))
             (λ i l. ap (λ (x : Bool). cond x (part k i) origin) (off true i e ∙ lt-ltb i (length (loopAt cs k)) l) ∙ way (dig turned k) i)
             ∙ turn (dig turned k)
 
@@ -265,15 +303,19 @@ module _ (d : Wire) (cs : List Loop) (taken turned : List Bool) (paths : (k : �
       unfolding polygon
       face-six k f =
           let r = common k f in
-          six-corner (polygon d (loopAt cs k)) (r .0) (paths k (inside k f) .plane) (omega (arith, r .1, lib.ListN.length-map (loopAt cs k) (at d)))
-          ∙ ap (λ (p : Point). dot p (normal (polygon d (loopAt cs k)))) (map-at (at d) (loopAt cs k) (r .0) 0 origin (r .1) ∙ ap (at d) (r .2))
+          six-corner (polygon d (loopAt cs k)) (r .0) (paths k (inside k f) .plane)
+          (omega (arith, r .1, lib.ListN.length-map (loopAt cs k) (at d)))
+          ∙ ap (λ (p : Point). dot p (normal (polygon d (loopAt cs k)))) (map-at (at d) (loopAt cs k) (r .0) 0 origin (r .1)
+          ∙ ap (at d) (r .2))
 
-      share-dot : (b t : Bool) (z : ℤ) (n : Point) → (b ≡ true → z ≡ dot (at d u) n) → share d cs taken turned b t z ≡ dot (at d u) (cond b (cond t (minus origin n) n) origin)
+      share-dot : (b t : Bool) (z : ℤ) (n : Point) → (b ≡ true → z ≡ dot (at d u) n)
+          → share d cs taken turned b t z ≡ dot (at d u) (cond b (cond t (minus origin n) n) origin)
       share-dot false t z n h = sym (vring (vec (at d u) ∷ []) (v 0 · o) (con (pos 0)) tt)
       share-dot true false z n h = h refl
       share-dot true true z n h = ap negℤ (h refl) ∙ vring (vec (at d u) ∷ vec n ∷ []) (negs (v 0 · v 1)) (v 0 · (o -v v 1)) tt
 
-      six-sum : (j : ℕ) (ls : List Loop) → ((i : ℕ) → i < length ls → loopAt ls i ≡ loopAt cs (j + i)) → sixOf d cs taken turned j ls ≡ dot (at d u) (sumTo (length ls) (λ i. facing (j + i)))
+      six-sum : (j : ℕ) (ls : List Loop) → ((i : ℕ) → i < length ls → loopAt ls i ≡ loopAt cs (j + i))
+          → sixOf d cs taken turned j ls ≡ dot (at d u) (sumTo (length ls) (λ i. facing (j + i)))
       unfolding sixOf sumTo
       six-sum j [] f = sym (vring (vec (at d u) ∷ []) (v 0 · o) (con (pos 0)) tt)
       six-sum j (l ∷ ls) f =
@@ -283,8 +325,10 @@ module _ (d : Wire) (cs : List Loop) (taken turned : List Bool) (paths : (k : �
           ∙ share-dot (dig taken j) (dig turned j) (faceSix (polygon d (loopAt cs j))) (normal (polygon d (loopAt cs j))) (face-six j)
           ∙ ap (λ (m : ℕ). dot (at d u) (facing m)) (sym (plus-zero j)))
           (six-sum (suc j) ls (λ i h. f (suc i) (omega arith) ∙ ap (loopAt cs) (plus-suc j i))
-          ∙ ap (dot (at d u)) (sum-same (length ls) (λ i. facing (suc j + i)) (λ i. facing (j + suc i)) (λ i h. ap facing (sym (plus-suc j i)))))
-          ∙ vring (vec (at d u) ∷ vec (facing (j + 0)) ∷ vec (sumTo (length ls) (λ i. facing (j + suc i))) ∷ []) ((v 0 · v 1) +s (v 0 · v 2)) (v 0 · (v 1 +v v 2)) tt
+          ∙ ap (dot (at d u))
+          (sum-same (length ls) (λ i. facing (suc j + i)) (λ i. facing (j + suc i)) (λ i h. ap facing (sym (plus-suc j i)))))
+          ∙ vring (vec (at d u) ∷ vec (facing (j + 0)) ∷ vec (sumTo (length ls) (λ i. facing (j + suc i))) ∷ [])
+          ((v 0 · v 1) +s (v 0 · v 2)) (v 0 · (v 1 +v v 2)) tt
         where
           plus-zero : (j : ℕ) → j + 0 ≡ j
           plus-zero j = omega arith
@@ -296,7 +340,8 @@ module _ (d : Wire) (cs : List Loop) (taken turned : List Bool) (paths : (k : �
       pub no-volume : ⊥
       no-volume =
           let e : sixOf d cs taken turned 0 cs ≡ pos 0
-          = six-sum 0 cs (λ i h. ap (loopAt cs) (zero-plus i)) ∙ ap (dot (at d u)) (sum-same (length cs) (λ i. facing (0 + i)) facing (λ i h. ap facing (sym (zero-plus i))) ∙ normals-close)
+          = six-sum 0 cs (λ i h. ap (loopAt cs) (zero-plus i))
+          ∙ ap (dot (at d u)) (sum-same (length cs) (λ i. facing (0 + i)) facing (λ i h. ap facing (sym (zero-plus i))) ∙ normals-close)
           ∙ vring (vec (at d u) ∷ []) (v 0 · o) (con (pos 0)) tt in
           let p : pos 0 ≡ pos six = sym e ∙ s .iv .0 in
           let z : 0 ≡ six = cc in

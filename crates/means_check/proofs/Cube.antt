@@ -10,9 +10,13 @@ use Rattle.paper.specs.Known.Drawings.{cube, outward}
 use Rattle.paper.specs.declared.Verdict.the-variants.{Accepted}
 use Rattle.means_check.proofs.Demand.{BodyOfSolid, accepted-body}
 
-cube-accepted : verdict (lentChecks editionOne (cube .xyz) (cube .ends)) (wire (cube .xyz) (cube .ends)) (encodeFaces editionOne outward) ≡ Accepted
+cube-accepted : verdict (lentChecks editionOne (cube .xyz) (cube .ends)) (wire (cube .xyz) (cube .ends))
+    (encodeFaces editionOne outward) ≡ Accepted
 unfolding reply
 cube-accepted = refl
 
-pub cube-solid : BodyOfSolid (lentChecks editionOne (cube .xyz) (cube .ends)) (wire (cube .xyz) (cube .ends)) (encodeFaces editionOne outward)
-cube-solid = accepted-body (lentChecks editionOne (cube .xyz) (cube .ends)) (wire (cube .xyz) (cube .ends)) (encodeFaces editionOne outward) cube-accepted
+pub cube-solid : BodyOfSolid (lentChecks editionOne (cube .xyz) (cube .ends)) (wire (cube .xyz) (cube .ends))
+    (encodeFaces editionOne outward)
+cube-solid =
+    accepted-body (lentChecks editionOne (cube .xyz) (cube .ends)) (wire (cube .xyz) (cube .ends)) (encodeFaces editionOne outward)
+    cube-accepted

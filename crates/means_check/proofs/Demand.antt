@@ -28,7 +28,8 @@ use Rattle.means_check.proofs.Few.{solid-sent}
 use Rattle.means_check.proofs.Listing.{candidates-fit}
 use Rattle.means_check.proofs.Evenly.{candidates-even}
 use Rattle.means_check.proofs.Accepting.{step-none, fine-passes, verdict-accepts, accepts-verdict, names-accepted}
-use Rattle.means_check.proofs.Bodies.{one-body, part-body, turned-refused, missing-refused, doubled-refused, names-again, same-named, faceList-names}
+use Rattle.means_check.proofs.Bodies.{one-body, part-body, turned-refused, missing-refused, doubled-refused, names-again, same-named}
+use Rattle.means_check.proofs.Bodies.{faceList-names}
 
 -- a drawing that passes 11 has no two vertices at one point, and candidates that fit
 pub drawing-places : (d : Wire) → firstOf (drawingChecks d) ≡ Fine → samePlace d ≡ none
@@ -41,7 +42,8 @@ drawing-fits d e = candidates-fit d (candidates-even d (drawing-places d e))
 module _ (form : List Check) (d : Wire) where
   -- "For a drawing that passes the drawing rules, the check accepts a list exactly when it names one solid of demand 2 with its
   -- directions, in any order of faces and from any starting corners."
-  pub accepts-exactly : (list : List ℕ) → ((verdict form d list ≡ Accepted) → Accepts form d list) × (Accepts form d list → verdict form d list ≡ Accepted)
+  pub accepts-exactly : (list : List ℕ) → ((verdict form d list ≡ Accepted) → Accepts form d list)
+      × (Accepts form d list → verdict form d list ≡ Accepted)
   accepts-exactly list = (
     λ e. verdict-accepts form d (drawing-fits d (fine-passes form d list e)) list e,
     λ a. accepts-verdict form d (drawing-fits d (a .drawing-passes)) list a,
@@ -58,7 +60,9 @@ module _ (form : List Check) (d : Wire) where
     fair = names-accepted d (candidates d) (facesIn editionOne list) fits (told .named)
 
     -- an accepted list, in another order of faces and from other starts, and of a good shape, is accepted
-    pub again : (other : List ℕ) → wellShaped editionOne (length (d .vertices)) other ≡ true → SameBody (facesIn editionOne list) (facesIn editionOne other) → Singly (facesIn editionOne other) → verdict form d other ≡ Accepted
+    pub again : (other : List ℕ) → wellShaped editionOne (length (d .vertices)) other ≡ true
+        → SameBody (facesIn editionOne list) (facesIn editionOne other) → Singly (facesIn editionOne other)
+        → verdict form d other ≡ Accepted
     again other h b y =
         let w = told .named in
         accepts-exactly other .1 (record {
@@ -71,16 +75,20 @@ module _ (form : List Check) (d : Wire) where
             turned = w .turned;
             six = w .six;
             solid = w .solid;
-            names = names-again d (candidates d) fits (w .taken) (w .turned) (facesIn editionOne list) (facesIn editionOne other) (w .names) b y;
+            names =
+                names-again d (candidates d) fits (w .taken) (w .turned) (facesIn editionOne list) (facesIn editionOne other) (w .names) b
+                y;
           };
         })
 
     -- no face of it stands twice: a list with a face doubled is refused
-    pub not-doubled : (i j : ℕ) → i < length (facesIn editionOne list) → j < length (facesIn editionOne list) → (i ≡ j → ⊥) → SameRing (loopAt (facesIn editionOne list) i) (loopAt (facesIn editionOne list) j) → ⊥
+    pub not-doubled : (i j : ℕ) → i < length (facesIn editionOne list) → j < length (facesIn editionOne list) → (i ≡ j → ⊥)
+        → SameRing (loopAt (facesIn editionOne list) i) (loopAt (facesIn editionOne list) j) → ⊥
     not-doubled i j hi hj n s = doubled-refused d (candidates d) fits (facesIn editionOne list) i j hi hj n s fair
 
     module _ (other : List ℕ) (b : verdict form d other ≡ Accepted) where
-      fair-other : firstOf (faceChecks (tablesOf d (candidates d)) (length (candidates d)) (listed (candidates d) (facesIn editionOne other))) ≡ Fine
+      fair-other : firstOf
+          (faceChecks (tablesOf d (candidates d)) (length (candidates d)) (listed (candidates d) (facesIn editionOne other))) ≡ Fine
       fair-other = names-accepted d (candidates d) (facesIn editionOne other) fits (accepts-exactly other .0 b .named)
 
       -- "with n = 1 any two accepted lists are the same body"
@@ -88,21 +96,27 @@ module _ (form : List Check) (d : Wire) where
       one-same u = one-body d (candidates d) fits u (facesIn editionOne list) (facesIn editionOne other) fair fair-other
 
       -- an accepted list of faces of another accepted list, one way or the other, is the same body: none is turned, none left out
-      pub part-same : AmongEither (facesIn editionOne list) (facesIn editionOne other) → SameBody (facesIn editionOne list) (facesIn editionOne other)
+      pub part-same : AmongEither (facesIn editionOne list) (facesIn editionOne other)
+          → SameBody (facesIn editionOne list) (facesIn editionOne other)
       part-same m = part-body d (candidates d) fits (facesIn editionOne list) (facesIn editionOne other) fair fair-other m
 
-      pub not-turned : AmongEither (facesIn editionOne list) (facesIn editionOne other) → (i j : ℕ) → i < length (facesIn editionOne other) → j < length (facesIn editionOne list)
+      pub not-turned : AmongEither (facesIn editionOne list) (facesIn editionOne other) → (i j : ℕ) → i < length (facesIn editionOne other)
+          → j < length (facesIn editionOne list)
           → SameRing (flipped (loopAt (facesIn editionOne list) j)) (loopAt (facesIn editionOne other) i) → ⊥
-      not-turned m i j hi hj s = turned-refused d (candidates d) fits (facesIn editionOne list) (facesIn editionOne other) fair m i j hi hj s fair-other
+      not-turned m i j hi hj s =
+          turned-refused d (candidates d) fits (facesIn editionOne list) (facesIn editionOne other) fair m i j hi hj s fair-other
 
       pub not-missing : AmongEither (facesIn editionOne list) (facesIn editionOne other) → (j : ℕ) → j < length (facesIn editionOne list)
-          → ((i : ℕ) → i < length (facesIn editionOne other) → SameRing (loopAt (facesIn editionOne list) j) (loopAt (facesIn editionOne other) i) → ⊥) → ⊥
-      not-missing m j hj n = missing-refused d (candidates d) fits (facesIn editionOne list) (facesIn editionOne other) fair m j hj n fair-other
+          → ((i : ℕ) → i < length (facesIn editionOne other)
+          → SameRing (loopAt (facesIn editionOne list) j) (loopAt (facesIn editionOne other) i) → ⊥) → ⊥
+      not-missing m j hj n =
+          missing-refused d (candidates d) fits (facesIn editionOne list) (facesIn editionOne other) fair m j hj n fair-other
 
   -- "where the report lists n solids, each of the n is accepted": any list of a good shape that names it
   pub each-accepted : firstOf form ≡ Fine → firstOf (drawingChecks d) ≡ Fine → firstOf (loopChecks (loops d) (candidates d)) ≡ Fine
       → (taken turned : List Bool) (six : ℕ) → IsSolid d (candidates d) taken turned six
-      → (list : List ℕ) → wellShaped editionOne (length (d .vertices)) list ≡ true → Names d (candidates d) taken turned (facesIn editionOne list) → verdict form d list ≡ Accepted
+      → (list : List ℕ) → wellShaped editionOne (length (d .vertices)) list ≡ true
+      → Names d (candidates d) taken turned (facesIn editionOne list) → verdict form d list ≡ Accepted
   each-accepted f r l taken turned six s list h n = accepts-exactly list .1 (record {
     form-passes = f;
     drawing-passes = r;
@@ -127,8 +141,10 @@ module _ (form : List Check) (d : Wire) where
       → ((k : ℕ) → dig (w .taken) k ≡ dig (v .taken) k) × ((k : ℕ) → dig (w .turned) k ≡ dig (v .turned) k)
   one-named r fs w v =
       let c = drawing-fits d r in (
-        λ k. sym (names-taken d (candidates d) c fs (w .taken) (w .turned) (w .solid .some) (w .solid .within) (w .names) k) ∙ names-taken d (candidates d) c fs (v .taken) (v .turned) (v .solid .some) (v .solid .within) (v .names) k,
-        λ k. sym (names-turned d (candidates d) c fs (w .taken) (w .turned) (w .solid .some) (w .solid .within) (w .names) k) ∙ names-turned d (candidates d) c fs (v .taken) (v .turned) (v .solid .some) (v .solid .within) (v .names) k,
+        λ k. sym (names-taken d (candidates d) c fs (w .taken) (w .turned) (w .solid .some) (w .solid .within) (w .names) k)
+            ∙ names-taken d (candidates d) c fs (v .taken) (v .turned) (v .solid .some) (v .solid .within) (v .names) k,
+        λ k. sym (names-turned d (candidates d) c fs (w .taken) (w .turned) (w .solid .some) (w .solid .within) (w .names) k)
+            ∙ names-turned d (candidates d) c fs (v .taken) (v .turned) (v .solid .some) (v .solid .within) (v .names) k,
       )
 
   -- "each of the n is accepted, no other body is": a list is accepted exactly when it is the body of a solid, with no face twice
@@ -149,11 +165,14 @@ module _ (form : List Check) (d : Wire) where
         turned = w .turned;
         six = w .six;
         solid = w .solid;
-        body = same-named d (candidates d) c (w .taken) (w .turned) (faceList d (candidates d) (w .taken) (w .turned)) (facesIn editionOne list) (faceList-names d (candidates d) c (w .taken) (w .turned) (w .solid)) (w .names);
+        body =
+            same-named d (candidates d) c (w .taken) (w .turned) (faceList d (candidates d) (w .taken) (w .turned))
+            (facesIn editionOne list) (faceList-names d (candidates d) c (w .taken) (w .turned) (w .solid)) (w .names);
         singly = λ i j hi hj s. pick i j (not-doubled list a i j hi hj) s (ℕ-discrete i j);
       }
     where
-      pick : (i j : ℕ) → ((i ≡ j → ⊥) → SameRing (loopAt (facesIn editionOne list) i) (loopAt (facesIn editionOne list) j) → ⊥) → SameRing (loopAt (facesIn editionOne list) i) (loopAt (facesIn editionOne list) j) → Dec (i ≡ j) → i ≡ j
+      pick : (i j : ℕ) → ((i ≡ j → ⊥) → SameRing (loopAt (facesIn editionOne list) i) (loopAt (facesIn editionOne list) j) → ⊥)
+          → SameRing (loopAt (facesIn editionOne list) i) (loopAt (facesIn editionOne list) j) → Dec (i ≡ j) → i ≡ j
       pick i j f s (yes e) = e
       pick i j f s (no n) = absurd (f n s)
 
@@ -162,4 +181,5 @@ module _ (form : List Check) (d : Wire) where
   body-accepted f r l list h b =
       let c = drawing-fits d r in
       each-accepted f r l (b .taken) (b .turned) (b .six) (b .solid) list h
-      (names-again d (candidates d) c (b .taken) (b .turned) (faceList d (candidates d) (b .taken) (b .turned)) (facesIn editionOne list) (faceList-names d (candidates d) c (b .taken) (b .turned) (b .solid)) (b .body) (b .singly))
+      (names-again d (candidates d) c (b .taken) (b .turned) (faceList d (candidates d) (b .taken) (b .turned)) (facesIn editionOne list)
+      (faceList-names d (candidates d) c (b .taken) (b .turned) (b .solid)) (b .body) (b .singly))

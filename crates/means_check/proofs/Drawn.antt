@@ -2,7 +2,7 @@
 use mathlib.Core.Path.{_≡_, refl, _∙_}
 use mathlib.Core.Bool.{Bool, true, false, not}
 use mathlib.Core.Option.{none}
-use mathlib.Core.List.{List, [], _∷_, _++_}
+use mathlib.Core.List.{List, _++_}
 use Prim.Native.Nat.{ℕ, _+_, _*_, _/_, _%_, _≤_}
 use native.Mathlib.Omega.{arith}
 use lib.Dec.{eqb}
@@ -11,16 +11,18 @@ use lib.ListN.{length, length-map}
 use Rattle.lists.proofs.Truth.{or-none}
 use Rattle.pack.specs.Bits.{fieldsAt}
 use Rattle.pack.proofs.Laws.{length-fields}
-use Rattle.paper.specs.Format.{editionOne, leastVertices, leastEdges, outside, verticesIn, edgesIn, coordinatesIn, endsIn, coordinate, head, coordinateBits}
+use Rattle.paper.specs.Format.{editionOne, leastVertices, leastEdges, outside, verticesIn, edgesIn, coordinatesIn, endsIn, coordinate, head}
+use Rattle.paper.specs.Format.{coordinateBits}
 use Rattle.paper.specs.Refusals.{firstOf, offends}
 use Rattle.paper.specs.Sheet.{badCount, contentChecks, countChecks, openChecks, closeChecks, shapeChecks, sheetChecks, lentChecks}
-use Rattle.paper.specs.Drawing.{Wire, wire, pointsOf, edgesOf, drawingChecks}
-use Rattle.paper.specs.Loops.{Loop, loops, candidates, loopChecks}
-use Rattle.paper.specs.FaceList.{encodeFaces, facesIn, wellShaped}
+use Rattle.paper.specs.Drawing.{Wire, wire, drawingChecks}
+use Rattle.paper.specs.Loops.{loops, candidates, loopChecks}
+use Rattle.paper.specs.FaceList.{encodeFaces}
 use Rattle.paper.specs.Verdict.{verdictLists, verdictSheet}
 use Rattle.paper.specs.declared.Answer.the-variants.{Fine}
 use Rattle.paper.specs.declared.Verdict.the-variants.{Accepted}
 use Rattle.paper_laws.proofs.Limits.{outside-false}
+use Rattle.paper_laws.proofs.Wires.{length-points, length-edges}
 use Rattle.means_solid.specs.Solid.{IsSolid}
 use Rattle.means_check.specs.Accepts.{Accepts}
 use Rattle.means_check.specs.Sent.{faceList}
@@ -28,19 +30,6 @@ use Rattle.means_check.proofs.Accepting.{step-none, both-fine}
 use Rattle.means_check.proofs.Demand.{accepts-exactly, each-sent}
 
 -- ---- the counts of a drawing whose form passes
-
-points-count : (xyz : List ℤ) → length (pointsOf xyz) ≡ length xyz / 3
-unfolding pointsOf
-points-count [] = refl
-points-count (a ∷ []) = refl
-points-count (a ∷ (b ∷ [])) = refl
-points-count (a ∷ (b ∷ (c ∷ l))) = omega (arith, points-count l)
-
-edges-count : (ends : List ℕ) → length (edgesOf ends) ≡ length ends / 2
-unfolding edgesOf
-edges-count [] = refl
-edges-count (a ∷ []) = refl
-edges-count (a ∷ (b ∷ l)) = omega (arith, edges-count l)
 
 abbrev pub InCounts : Wire → Type 0
 InCounts d = (length (d .vertices) ≤ 32) × (length (d .edges) ≤ 64)
@@ -54,26 +43,39 @@ unfolding lentChecks wire
 lent-small xyz ends e =
     let a = step-none 5 (offends (badCount 3 leastVertices 32 (length xyz)) 0) _ e in
     let b = step-none 5 (offends (badCount 2 leastEdges 64 (length ends)) 1) _ (a .1) in
-    let p = or-none (not (eqb (length xyz % 3) 0)) (outside leastVertices 32 (length xyz / 3)) (no-offence (badCount 3 leastVertices 32 (length xyz)) 0 (a .0)) in
-    let q = or-none (not (eqb (length ends % 2) 0)) (outside leastEdges 64 (length ends / 2)) (no-offence (badCount 2 leastEdges 64 (length ends)) 1 (b .0)) in
-    (omega (arith, points-count xyz, outside-false leastVertices 32 (length xyz / 3) (p .1) .1), omega (arith, edges-count ends, outside-false leastEdges 64 (length ends / 2) (q .1) .1))
+    let p = or-none (not (eqb (length xyz % 3) 0)) (outside leastVertices 32 (length xyz / 3))
+    (no-offence (badCount 3 leastVertices 32 (length xyz)) 0 (a .0)) in
+    let q = or-none (not (eqb (length ends % 2) 0)) (outside leastEdges 64 (length ends / 2))
+    (no-offence (badCount 2 leastEdges 64 (length ends)) 1 (b .0)) in (
+      omega (arith, length-points xyz, outside-false leastVertices 32 (length xyz / 3) (p .1) .1),
+      omega
+          (arith, length-edges ends, outside-false leastEdges 64 (length ends / 2) (q .1) .1),
+    )
 
-pub sheet-small : (s : List ℕ) → firstOf (sheetChecks editionOne s) ≡ Fine → InCounts (wire (coordinatesIn editionOne s) (endsIn editionOne s))
+pub sheet-small : (s : List ℕ) → firstOf (sheetChecks editionOne s) ≡ Fine
+    → InCounts (wire (coordinatesIn editionOne s) (endsIn editionOne s))
 unfolding sheetChecks shapeChecks countChecks wire
 sheet-small s e =
     let v = verticesIn editionOne s in
     let n = edgesIn editionOne s in
-    let p = both-fine (openChecks editionOne s ++ countChecks editionOne (verticesIn editionOne s) (edgesIn editionOne s) ++ closeChecks editionOne s (verticesIn editionOne s) (edgesIn editionOne s)) (contentChecks (verticesIn editionOne s) (coordinatesIn editionOne s) (endsIn editionOne s)) e in
-    let q = both-fine (openChecks editionOne s ++ countChecks editionOne (verticesIn editionOne s) (edgesIn editionOne s)) (closeChecks editionOne s (verticesIn editionOne s) (edgesIn editionOne s)) (p .0) in
+    let p = both-fine
+    (openChecks editionOne s ++ countChecks editionOne (verticesIn editionOne s) (edgesIn editionOne s) ++ closeChecks editionOne s
+    (verticesIn editionOne s) (edgesIn editionOne s))
+    (contentChecks (verticesIn editionOne s) (coordinatesIn editionOne s) (endsIn editionOne s)) e in
+    let q = both-fine (openChecks editionOne s ++ countChecks editionOne (verticesIn editionOne s) (edgesIn editionOne s))
+    (closeChecks editionOne s (verticesIn editionOne s) (edgesIn editionOne s)) (p .0) in
     let r = both-fine (openChecks editionOne s) (countChecks editionOne (verticesIn editionOne s) (edgesIn editionOne s)) (q .0) in
     let a = step-none 5 (offends (outside leastVertices 32 (verticesIn editionOne s)) 0) _ (r .1) in
     let b = step-none 5 (offends (outside leastEdges 64 (edgesIn editionOne s)) 1) _ (a .1) in
-    let va = outside-false leastVertices 32 (verticesIn editionOne s) (no-offence (outside leastVertices 32 (verticesIn editionOne s)) 0 (a .0)) .1 in
+    let va = outside-false leastVertices 32 (verticesIn editionOne s)
+    (no-offence (outside leastVertices 32 (verticesIn editionOne s)) 0 (a .0)) .1 in
     let eb = outside-false leastEdges 64 (edgesIn editionOne s) (no-offence (outside leastEdges 64 (edgesIn editionOne s)) 1 (b .0)) .1 in
-    (omega (arith, points-count (coordinatesIn editionOne s), lengths), omega (arith, edges-count (endsIn editionOne s), ends-long))
+    (omega (arith, length-points (coordinatesIn editionOne s), lengths), omega (arith, length-edges (endsIn editionOne s), ends-long))
   where
     lengths : length (coordinatesIn editionOne s) ≡ 3 * verticesIn editionOne s
-    lengths = length-map (fieldsAt s (head editionOne) coordinateBits (3 * verticesIn editionOne s)) coordinate ∙ length-fields s (head editionOne) coordinateBits (3 * verticesIn editionOne s)
+    lengths =
+        length-map (fieldsAt s (head editionOne) coordinateBits (3 * verticesIn editionOne s)) coordinate
+        ∙ length-fields s (head editionOne) coordinateBits (3 * verticesIn editionOne s)
 
     ends-long : length (endsIn editionOne s) ≡ 2 * edgesIn editionOne s
     ends-long = length-fields s (head editionOne + 3 * coordinateBits * verticesIn editionOne s) 5 (2 * edgesIn editionOne s)
@@ -81,12 +83,14 @@ sheet-small s e =
 -- ---- demand 3
 
 module _ (xyz : List ℤ) (ends : List ℕ) where
-  pub lists-exactly : (list : List ℕ) → ((verdictLists xyz ends list ≡ Accepted) → Accepts (lentChecks editionOne xyz ends) (wire xyz ends) list)
+  pub lists-exactly : (list : List ℕ)
+      → ((verdictLists xyz ends list ≡ Accepted) → Accepts (lentChecks editionOne xyz ends) (wire xyz ends) list)
       × (Accepts (lentChecks editionOne xyz ends) (wire xyz ends) list → verdictLists xyz ends list ≡ Accepted)
   unfolding verdictLists
   lists-exactly list = accepts-exactly (lentChecks editionOne xyz ends) (wire xyz ends) list
 
-  pub lists-each : firstOf (lentChecks editionOne xyz ends) ≡ Fine → firstOf (drawingChecks (wire xyz ends)) ≡ Fine → firstOf (loopChecks (loops (wire xyz ends)) (candidates (wire xyz ends))) ≡ Fine
+  pub lists-each : firstOf (lentChecks editionOne xyz ends) ≡ Fine → firstOf (drawingChecks (wire xyz ends)) ≡ Fine
+      → firstOf (loopChecks (loops (wire xyz ends)) (candidates (wire xyz ends))) ≡ Fine
       → (taken turned : List Bool) (six : ℕ) → IsSolid (wire xyz ends) (candidates (wire xyz ends)) taken turned six
       → verdictLists xyz ends (encodeFaces editionOne (faceList (wire xyz ends) (candidates (wire xyz ends)) taken turned)) ≡ Accepted
   unfolding verdictLists
@@ -95,15 +99,25 @@ module _ (xyz : List ℤ) (ends : List ℕ) where
       each-sent (lentChecks editionOne xyz ends) (wire xyz ends) f r l (m .0) (m .1)
 
 module _ (s : List ℕ) where
-  pub sheet-exactly : (list : List ℕ) → ((verdictSheet s list ≡ Accepted) → Accepts (sheetChecks editionOne s) (wire (coordinatesIn editionOne s) (endsIn editionOne s)) list)
+  pub sheet-exactly : (list : List ℕ)
+      → ((verdictSheet s list ≡ Accepted) → Accepts (sheetChecks editionOne s) (wire (coordinatesIn editionOne s) (endsIn editionOne s))
+      list)
       × (Accepts (sheetChecks editionOne s) (wire (coordinatesIn editionOne s) (endsIn editionOne s)) list → verdictSheet s list ≡ Accepted)
   unfolding verdictSheet
   sheet-exactly list = accepts-exactly (sheetChecks editionOne s) (wire (coordinatesIn editionOne s) (endsIn editionOne s)) list
 
-  pub sheet-each : firstOf (sheetChecks editionOne s) ≡ Fine → firstOf (drawingChecks (wire (coordinatesIn editionOne s) (endsIn editionOne s))) ≡ Fine
-      → firstOf (loopChecks (loops (wire (coordinatesIn editionOne s) (endsIn editionOne s))) (candidates (wire (coordinatesIn editionOne s) (endsIn editionOne s)))) ≡ Fine
-      → (taken turned : List Bool) (six : ℕ) → IsSolid (wire (coordinatesIn editionOne s) (endsIn editionOne s)) (candidates (wire (coordinatesIn editionOne s) (endsIn editionOne s))) taken turned six
-      → verdictSheet s (encodeFaces editionOne (faceList (wire (coordinatesIn editionOne s) (endsIn editionOne s)) (candidates (wire (coordinatesIn editionOne s) (endsIn editionOne s))) taken turned)) ≡ Accepted
+  pub sheet-each : firstOf (sheetChecks editionOne s) ≡ Fine
+      → firstOf (drawingChecks (wire (coordinatesIn editionOne s) (endsIn editionOne s))) ≡ Fine
+      → firstOf
+      (loopChecks (loops (wire (coordinatesIn editionOne s) (endsIn editionOne s)))
+      (candidates (wire (coordinatesIn editionOne s) (endsIn editionOne s)))) ≡ Fine
+      → (taken turned : List Bool) (six : ℕ)
+      → IsSolid (wire (coordinatesIn editionOne s) (endsIn editionOne s))
+      (candidates (wire (coordinatesIn editionOne s) (endsIn editionOne s))) taken turned six
+      → verdictSheet s
+      (encodeFaces editionOne
+      (faceList (wire (coordinatesIn editionOne s) (endsIn editionOne s))
+      (candidates (wire (coordinatesIn editionOne s) (endsIn editionOne s))) taken turned)) ≡ Accepted
   unfolding verdictSheet
   sheet-each f r l =
       let m = sheet-small s f in

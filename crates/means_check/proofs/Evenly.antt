@@ -8,9 +8,10 @@ use native.Mathlib.Omega.{arith}
 use lib.IntN.{ℤ, pos, _+ℤ_, _-ℤ_}
 use lib.ListN.{length, getD, length-map}
 use borrow.Author.Tests.{not-true}
-use Rattle.lists.specs.Lists.{any, sides, sidesFrom, anyTrue}
+use Rattle.means_solid.proofs.Goes.{true-yes}
+use Rattle.lists.specs.Lists.{any, sides, sidesFrom}
 use Rattle.lists.specs.Around.{around}
-use Rattle.lists.proofs.Truth.{and-left, and-right, and-both, never}
+use Rattle.lists.proofs.Truth.{and-left, and-right, and-both, never-true, same-truth}
 use Rattle.lists.proofs.Passing.{any-yes, any-is, all-yes, all-is}
 use Rattle.lists.proofs.Sides.{sides-length, sides-at}
 use Rattle.paper.specs.Points.{origin, plus, minus, times, dot, cross, det, sum, isZero, above, samePoint}
@@ -20,7 +21,7 @@ use Rattle.paper.specs.Loops.{Loop, loopAt, polygon, candidates}
 use Rattle.paper.specs.Clash.{pierces, enters, angleHolds, inAngle, Side, to, turnsAt, pointsIn, isCorner, bends, folds, clash}
 use Rattle.paper.specs.declared.Point.{Point}
 use Rattle.paper_laws.proofs.Vectors.{num, vec, k, x, _+s_, _-s_, _·_, dets, o, v, _+v_, _-v_, _*v_, _×v_, vring}
-use Rattle.paper_laws.proofs.Points.{zero-yes, zero-is, origin-yes, origin-is, point-eq}
+use Rattle.paper_laws.proofs.Points.{zero-yes, zero-is, same-yes, same-is}
 use Rattle.means_check.specs.Plane.{InPlane}
 use Rattle.means_check.proofs.Planes.{in-one-line, loop-plane}
 use Rattle.means_check.proofs.Listing.{candidates-are, Even}
@@ -31,9 +32,11 @@ module _ (m : Point) (h : ℤ) where
   cross-two : (p q : Point) → dot m p ≡ h → dot m q ≡ h → cross m (cross p q) ≡ times h (minus p q)
   cross-two p q a b =
       vring (vec m ∷ vec p ∷ vec q ∷ []) (v 0 ×v (v 1 ×v v 2)) ((v 0 · v 2) *v v 1 -v (v 0 · v 1) *v v 2) tt
-      ∙ (λ i. minus (times (b i) p) (times (a i) q)) ∙ vring (num h ∷ vec p ∷ vec q ∷ []) (x 0 *v v 1 -v x 0 *v v 2) (x 0 *v (v 1 -v v 2)) tt
+      ∙ (λ i. minus (times (b i) p) (times (a i) q)) ∙ vring (num h ∷ vec p ∷ vec q ∷ []) (x 0 *v v 1 -v x 0 *v v 2) (x 0 *v (v 1 -v v 2))
+      tt
 
-  from-cross : (a p : Point) (ps : List Point) → dot m a ≡ h → dot m p ≡ h → ((i : ℕ) → i < length ps → dot m (getD ps i origin) ≡ h) → cross m (sum (sidesFrom cross a p ps)) ≡ times h (minus p a)
+  from-cross : (a p : Point) (ps : List Point) → dot m a ≡ h → dot m p ≡ h → ((i : ℕ) → i < length ps → dot m (getD ps i origin) ≡ h)
+      → cross m (sum (sidesFrom cross a p ps)) ≡ times h (minus p a)
   unfolding sum sidesFrom
   from-cross a p [] ha hp f = vring (vec m ∷ vec (cross p a) ∷ []) (v 0 ×v (v 1 +v o)) (v 0 ×v v 1) tt ∙ cross-two p a hp ha
   from-cross a p (q ∷ ps) ha hp f =
@@ -61,10 +64,14 @@ corner-at [] = refl
 corner-at (p ∷ ps) = refl
 
 pub less-dot : (n p q : Point) (h : ℤ) → dot n p ≡ h → dot n q ≡ h → dot n (minus p q) ≡ pos 0
-less-dot n p q h a b = vring (vec n ∷ vec p ∷ vec q ∷ []) (v 0 · (v 1 -v v 2)) ((v 0 · v 1) -s (v 0 · v 2)) tt ∙ ap₂ _-ℤ_ a b ∙ vring (num h ∷ []) (x 0 -s x 0) (k (pos 0)) tt
+less-dot n p q h a b =
+    vring (vec n ∷ vec p ∷ vec q ∷ []) (v 0 · (v 1 -v v 2)) ((v 0 · v 1) -s (v 0 · v 2)) tt ∙ ap₂ _-ℤ_ a b
+    ∙ vring (num h ∷ []) (x 0 -s x 0) (k (pos 0)) tt
 
 pub dot-less : (n p q : Point) → dot n (minus p q) ≡ pos 0 → dot n p ≡ dot n q
-dot-less n p q e = vring (vec n ∷ vec p ∷ vec q ∷ []) (v 0 · v 1) ((v 0 · (v 1 -v v 2)) +s (v 0 · v 2)) tt ∙ ap (λ (z : ℤ). z +ℤ dot n q) e ∙ vring (num (dot n q) ∷ []) (k (pos 0) +s x 0) (x 0) tt
+dot-less n p q e =
+    vring (vec n ∷ vec p ∷ vec q ∷ []) (v 0 · v 1) ((v 0 · (v 1 -v v 2)) +s (v 0 · v 2)) tt ∙ ap (λ (z : ℤ). z +ℤ dot n q) e
+    ∙ vring (num (dot n q) ∷ []) (k (pos 0) +s x 0) (x 0) tt
 
 -- ---- two polygons in one plane, whichever is named first
 
@@ -98,7 +105,9 @@ one-plane f g y hf hg n e =
 
 no-angle : (n a u b w : Point) → n ≡ origin → inAngle n a u b w ≡ false
 unfolding inAngle
-no-angle n a u b w e = nothing (above (det n (minus b u) (minus a u))) (above (det n (minus b u) w)) (above (det n w (minus a u))) (flat (minus b u) (minus a u)) (flat (minus b u) w) (flat w (minus a u))
+no-angle n a u b w e =
+    nothing (above (det n (minus b u) (minus a u))) (above (det n (minus b u) w)) (above (det n w (minus a u)))
+    (flat (minus b u) (minus a u)) (flat (minus b u) w) (flat w (minus a u))
   where
     zero-det : (p q : Point) → det n p q ≡ pos 0
     zero-det p q = ap (λ (r : Point). det r p q) e ∙ vring (vec p ∷ vec q ∷ []) (dets o (v 0) (v 1)) (k (pos 0)) tt
@@ -112,15 +121,6 @@ no-angle n a u b w e = nothing (above (det n (minus b u) (minus a u))) (above (d
     nothing : (p q r : Bool) → p ≡ false → q ≡ false → r ≡ false → angleHolds p q r ≡ false
     nothing p q r i j l = (λ t. angleHolds (i t) (j t) (l t)) ∙ unfold angleHolds in refl
 
-some-true : (bs : List Bool) → anyTrue bs ≡ true → (i : ℕ) × (i < length bs) × (getD bs i false ≡ true)
-unfolding anyTrue
-some-true [] e = absurd (true≢false (sym e))
-some-true (b ∷ bs) e = go b e (some-true bs)
-  where
-    go : (b : Bool) → (b || anyTrue bs) ≡ true → (anyTrue bs ≡ true → (i : ℕ) × (i < length bs) × (getD bs i false ≡ true)) → (i : ℕ) × (i < suc (length bs)) × (getD (b ∷ bs) i false ≡ true)
-    go true e r = (0, omega arith, refl)
-    go false e r = let q = r e in (suc (q .0), (let l = q .1 in omega arith), q .2)
-
 turns-real : (n u w : Point) (s t : Side) → turnsAt n u w s t ≡ true → n ≡ origin → ⊥
 unfolding turnsAt
 turns-real n u w (to a p) (to q b) e z = true≢false (sym (and-right (samePoint p u) (inAngle n a p b w) e) ∙ no-angle n a p b w z)
@@ -128,20 +128,12 @@ turns-real n u w (to a p) (to q b) e z = true≢false (sym (and-right (samePoint
 points-real : (g : Polygon) (u w : Point) → pointsIn g u w ≡ true → normal g ≡ origin → ⊥
 unfolding pointsIn
 points-real g u w e z =
-    let r = some-true (sides (turnsAt (normal g) u (minus w u)) (sides to g)) e in
+    let r = true-yes (sides (turnsAt (normal g) u (minus w u)) (sides to g)) e in
     let l : r .0 < length (sides to g) = omega (arith, r .1, sides-length (turnsAt (normal g) u (minus w u)) (sides to g)) in
     turns-real (normal g) u (minus w u) (around (sides to g) (r .0) (to origin origin)) (around (sides to g) (r .0 + 1) (to origin origin))
     (sym (sides-at (turnsAt (normal g) u (minus w u)) (sides to g) (r .0) false (to origin origin) l) ∙ r .2) z
 
 -- ---- rule C
-
-same-yes : (p q : Point) → samePoint p q ≡ true → p ≡ q
-unfolding samePoint
-same-yes p q e = point-eq p q (origin-yes (minus p q) e)
-
-same-is : (p q : Point) → p ≡ q → samePoint p q ≡ true
-unfolding samePoint
-same-is p q e = origin-is (ap (λ (r : Point). minus r q) e ∙ vring (vec q ∷ []) (v 0 -v v 0) o tt)
 
 corner-yes : (g : Polygon) (p : Point) → isCorner g p ≡ true → (i : ℕ) × (i < length g) × (p ≡ getD g i origin)
 unfolding isCorner
@@ -169,11 +161,14 @@ inner-yes : (f g : Polygon) → inner f g ≡ true → Bends f g
 unfolding bends
 inner-yes f g e =
     let r = any-yes (λ u. isCorner g u && any (bends f g u) f) origin f e in
-    let s = any-yes (bends f g (getD f (r .0) origin)) origin f (and-right (isCorner g (getD f (r .0) origin)) (any (bends f g (getD f (r .0) origin)) f) (r .2)) in
-    go (getD f (r .0) origin) (getD f (s .0) origin) (corner-is f (getD f (r .0) origin) (r .0) (r .1) refl) (and-left (isCorner g (getD f (r .0) origin)) (any (bends f g (getD f (r .0) origin)) f) (r .2))
+    let s = any-yes (bends f g (getD f (r .0) origin)) origin f
+    (and-right (isCorner g (getD f (r .0) origin)) (any (bends f g (getD f (r .0) origin)) f) (r .2)) in
+    go (getD f (r .0) origin) (getD f (s .0) origin) (corner-is f (getD f (r .0) origin) (r .0) (r .1) refl)
+    (and-left (isCorner g (getD f (r .0) origin)) (any (bends f g (getD f (r .0) origin)) f) (r .2))
     (corner-is f (getD f (s .0) origin) (s .0) (s .1) refl) (s .2)
   where
-    go : (a b : Point) → isCorner f a ≡ true → isCorner g a ≡ true → isCorner f b ≡ true → (isCorner g b && not (samePoint a b) && pointsIn f a b && pointsIn g a b) ≡ true → Bends f g
+    go : (a b : Point) → isCorner f a ≡ true → isCorner g a ≡ true → isCorner f b ≡ true
+        → (isCorner g b && not (samePoint a b) && pointsIn f a b && pointsIn g a b) ≡ true → Bends f g
     go a b p q r t =
         let c = and-left (isCorner g b && not (samePoint a b) && pointsIn f a b) (pointsIn g a b) t in
         let d = and-left (isCorner g b && not (samePoint a b)) (pointsIn f a b) c in
@@ -201,7 +196,8 @@ inner-is f g y =
     (and-both (and-both (and-both (y .wg) (ap not (y .apart))) (y .inf)) (y .ing))))))
 
 bends-back : (f g : Polygon) → Bends f g → Bends g f
-bends-back f g y = record { u = y .u; w = y .w; uf = y .ug; ug = y .uf; wf = y .wg; wg = y .wf; apart = y .apart; inf = y .ing; ing = y .inf }
+bends-back f g y =
+    record { u = y .u; w = y .w; uf = y .ug; ug = y .uf; wf = y .wg; wg = y .wf; apart = y .apart; inf = y .ing; ing = y .inf }
 
 folds-is : (f g : Polygon) → folds f g ≡ not (onePlane f g) && inner f g
 unfolding folds
@@ -212,21 +208,17 @@ folds-back f g y hf hg e =
     let e′ : (not (onePlane f g) && inner f g) ≡ true = sym (folds-is f g) ∙ e in
     let b = inner-yes f g (and-right (not (onePlane f g)) (inner f g) e′) in
     let n = not-true (onePlane f g) (and-left (not (onePlane f g)) (inner f g) e′) in
-    let m : onePlane g f ≡ false = never (onePlane g f) (λ t. true≢false (sym (one-plane g f y hg hf (points-real g (b .u) (b .w) (b .ing)) t) ∙ n)) in
+    let m : onePlane g f ≡ false = never-true (onePlane g f)
+    (λ t. true≢false (sym (one-plane g f y hg hf (points-real g (b .u) (b .w) (b .ing)) t) ∙ n)) in
     folds-is g f ∙ and-both (ap not m) (inner-is g f (bends-back f g b))
 
 -- ---- all rules
-
-either-way : (a b : Bool) → (a ≡ true → b ≡ true) → (b ≡ true → a ≡ true) → a ≡ b
-either-way true b f g = sym (f refl)
-either-way false true f g = g refl
-either-way false false f g = refl
 
 pub clash-even : (f g : Polygon) → InPlane f → InPlane g → 0 < length f → 0 < length g → clash f g ≡ clash g f
 unfolding clash
 clash-even f g y z hf hg =
     (λ i. or-comm (pierces f g) (pierces g f) i || or-comm (enters f g) (enters g f) i
-    || either-way (folds f g) (folds g f) (folds-back f g z hf hg) (folds-back g f y hg hf) i)
+    || same-truth (folds f g) (folds g f) (folds-back f g z hf hg) (folds-back g f y hg hf) i)
 
 polygon-length : (d : Wire) (q : Loop) → length (polygon d q) ≡ length q
 unfolding polygon
@@ -237,7 +229,8 @@ pub candidates-even : (d : Wire) → samePlace d ≡ none → Even d
 candidates-even d e j i hj hi =
     let a = candidates-are d j hj .loop in
     let b = candidates-are d i hi .loop in
-    clash-even (polygon d (loopAt (candidates d) j)) (polygon d (loopAt (candidates d) i)) (loop-plane d e (loopAt (candidates d) j) a) (loop-plane d e (loopAt (candidates d) i) b)
+    clash-even (polygon d (loopAt (candidates d) j)) (polygon d (loopAt (candidates d) i)) (loop-plane d e (loopAt (candidates d) j) a)
+    (loop-plane d e (loopAt (candidates d) i) b)
     (some (loopAt (candidates d) j) (a .three)) (some (loopAt (candidates d) i) (b .three))
   where
     some : (q : Loop) → 3 ≤ length q → 0 < length (polygon d q)

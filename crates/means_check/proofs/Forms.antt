@@ -3,7 +3,8 @@
 use mathlib.Core.Path.{_≡_, refl, sym, ap, ap₂, subst, _∙_}
 use mathlib.Core.Bool.{Bool, true, false, not, cond}
 use mathlib.Core.Logic.{_⊎_, inl, inr, ⊎-elim}
-use mathlib.Core.List.{List, [], _∷_, _++_, append-nil, List·Memᴰ, List·Memᴰ·head, List·Memᴰ·tail, List·Memᴰ·not-nil, List·Memᴰ·cases-cons, List·Memᴰ·append-cases, Memᴰ·append-left, Memᴰ·append-right}
+use mathlib.Core.List.{List, [], _∷_, _++_, append-nil, List·Memᴰ, List·Memᴰ·head, List·Memᴰ·tail, List·Memᴰ·not-nil, List·Memᴰ·cases-cons}
+use mathlib.Core.List.{List·Memᴰ·append-cases, Memᴰ·append-left, Memᴰ·append-right}
 use Prim.Native.Nat.{ℕ, zero, suc, _+_, _-_, _≤_, _<_}
 use native.Mathlib.Omega.{arith}
 use native.Mathlib.Nat.{not-suc-le-zero, le-of-suc-le-suc}
@@ -16,7 +17,8 @@ use Rattle.paper.specs.Loops.{flipped}
 use Rattle.paper.specs.Verdict.{lowestAt, fromPlace, fromLowest, onward, normalForm}
 use Rattle.means_check.specs.Shape.{Different, Normal}
 use Rattle.means_solid.specs.Named.{SameRing}
-use Rattle.means_check.proofs.Rings.{parts, same-sym, same-trans, same-length, flip-flip, flip-length, flip-first, flip-at, flip-same}
+use Rattle.means_check.proofs.Rings.{parts, same-sym, same-trans, same-length, flip-flip, flip-length, flip-first, flip-at}
+use Rattle.means_check.proofs.Rings.{flip-same}
 
 -- ---- members and places
 
@@ -27,7 +29,8 @@ mem-at (x ∷ l) (suc i) h = List·Memᴰ·tail (mem-at l i (le-of-suc-le-suc h)
 
 pub mem-index : (y : ℕ) (l : List ℕ) → List·Memᴰ y l → (i : ℕ) × (i < length l) × (getD l i 0 ≡ y)
 mem-index y [] m = absurd (List·Memᴰ·not-nil m)
-mem-index y (x ∷ l) m = ⊎-elim (λ e. (0, omega arith, sym e)) (λ k. let r = mem-index y l k in (suc (r .0), omega arith, r .2)) (List·Memᴰ·cases-cons m)
+mem-index y (x ∷ l) m =
+    ⊎-elim (λ e. (0, omega arith, sym e)) (λ k. let r = mem-index y l k in (suc (r .0), omega arith, r .2)) (List·Memᴰ·cases-cons m)
 
 -- ---- the lowest corner
 
@@ -39,7 +42,8 @@ lowest-below c (suc k) h = go (decLt (getD c k 0) (getD c (lowestAt c k) 0)) (�
     at-zero : (n : ℕ) → n ≡ 0 → lowestAt c n ≡ 0
     at-zero n e = ap (lowestAt c) e
 
-    go : Dec (getD c k 0 < getD c (lowestAt c k) 0) → Dec (k ≡ 0) → (0 < k → lowestAt c k < k) → cond (ltb (getD c k 0) (getD c (lowestAt c k) 0)) k (lowestAt c k) < suc k
+    go : Dec (getD c k 0 < getD c (lowestAt c k) 0) → Dec (k ≡ 0) → (0 < k → lowestAt c k < k)
+        → cond (ltb (getD c k 0) (getD c (lowestAt c k) 0)) k (lowestAt c k) < suc k
     go (yes p) z r = rw (lt-ltb (getD c k 0) (getD c (lowestAt c k) 0) p) (omega arith)
     go (no p) (yes z) r = rw (le-ltb (getD c k 0) (getD c (lowestAt c k) 0) (omega arith)) (omega (arith, at-zero k z))
     go (no p) (no z) r = rw (le-ltb (getD c k 0) (getD c (lowestAt c k) 0) (omega arith)) (omega (arith, r (omega arith)))
@@ -49,21 +53,24 @@ unfolding lowestAt
 lowest-le c zero i h = absurd (not-suc-le-zero h)
 lowest-le c (suc k) i h = go (decLt (getD c k 0) (getD c (lowestAt c k) 0)) (ℕ-discrete i k) (λ p. lowest-le c k i p)
   where
-    go : Dec (getD c k 0 < getD c (lowestAt c k) 0) → Dec (i ≡ k) → (i < k → getD c (lowestAt c k) 0 ≤ getD c i 0) → getD c (cond (ltb (getD c k 0) (getD c (lowestAt c k) 0)) k (lowestAt c k)) 0 ≤ getD c i 0
+    go : Dec (getD c k 0 < getD c (lowestAt c k) 0) → Dec (i ≡ k) → (i < k → getD c (lowestAt c k) 0 ≤ getD c i 0)
+        → getD c (cond (ltb (getD c k 0) (getD c (lowestAt c k) 0)) k (lowestAt c k)) 0 ≤ getD c i 0
     go (yes p) (yes e) r = rw (lt-ltb (getD c k 0) (getD c (lowestAt c k) 0) p, e) (omega arith)
     go (yes p) (no e) r = rw (lt-ltb (getD c k 0) (getD c (lowestAt c k) 0) p) (omega (arith, r (omega arith)))
     go (no p) (yes e) r = rw (le-ltb (getD c k 0) (getD c (lowestAt c k) 0) (omega arith), e) (omega arith)
     go (no p) (no e) r = rw (le-ltb (getD c k 0) (getD c (lowestAt c k) 0) (omega arith)) (r (omega arith))
 
 -- what stands at another place than x
-elsewhere : (a : List ℕ) (x : ℕ) (b : List ℕ) (j : ℕ) → j < length (a ++ x ∷ b) → (j ≡ length a → ⊥) → List·Memᴰ (getD (a ++ x ∷ b) j 0) (b ++ a)
+elsewhere : (a : List ℕ) (x : ℕ) (b : List ℕ) (j : ℕ) → j < length (a ++ x ∷ b) → (j ≡ length a → ⊥)
+    → List·Memᴰ (getD (a ++ x ∷ b) j 0) (b ++ a)
 elsewhere [] x b zero h n = absurd (n refl)
 elsewhere [] x b (suc j) h n = Memᴰ·append-left [] (mem-at b j (le-of-suc-le-suc h))
 elsewhere (z ∷ a) x b zero h n = Memᴰ·append-right b (List·Memᴰ·head refl)
 elsewhere (z ∷ a) x b (suc j) h n = ⊎-elim (λ m. Memᴰ·append-left (z ∷ a) m) (λ m. Memᴰ·append-right b (List·Memᴰ·tail m))
     (List·Memᴰ·append-cases b (elsewhere a x b j (le-of-suc-le-suc h) (λ e. n (ap suc e))))
 
-lowest-place : (a : List ℕ) (x : ℕ) (b : List ℕ) → ((y : ℕ) → List·Memᴰ y (b ++ a) → x < y) → lowestAt (a ++ x ∷ b) (length (a ++ x ∷ b)) ≡ length a
+lowest-place : (a : List ℕ) (x : ℕ) (b : List ℕ) → ((y : ℕ) → List·Memᴰ y (b ++ a) → x < y)
+    → lowestAt (a ++ x ∷ b) (length (a ++ x ∷ b)) ≡ length a
 lowest-place a x b low = go (ℕ-discrete (lowestAt (a ++ x ∷ b) (length (a ++ x ∷ b))) (length a))
   where
     go : Dec (lowestAt (a ++ x ∷ b) (length (a ++ x ∷ b)) ≡ length a) → lowestAt (a ++ x ∷ b) (length (a ++ x ∷ b)) ≡ length a
@@ -91,7 +98,9 @@ LowFirst g = (i : ℕ) → 0 < i → i < length g → getD g 0 0 < getD g i 0
 place-low : (a : List ℕ) (x : ℕ) (b : List ℕ) → LowFirst (x ∷ (b ++ a)) → fromLowest (a ++ x ∷ b) ≡ x ∷ (b ++ a)
 unfolding fromLowest
 place-low a x b low =
-    ap (fromPlace (a ++ x ∷ b)) (lowest-place a x b (λ y m. let r = mem-index y (b ++ a) m in let q : x < getD (b ++ a) (r .0) 0 = low (suc (r .0)) (omega arith) (let h = r .1 in omega arith) in let e = r .2 in omega arith))
+    ap (fromPlace (a ++ x ∷ b))
+    (lowest-place a x b (λ y m. let r = mem-index y (b ++ a) m in
+    let q : x < getD (b ++ a) (r .0) 0 = low (suc (r .0)) (omega arith) (let h = r .1 in omega arith) in let e = r .2 in omega arith))
     ∙ turned-place a x b
 
 nil-low : fromLowest [] ≡ []
@@ -133,11 +142,14 @@ normal-is f = refl
 
 -- a face that is run as its normal form is, is that ring; another is that ring the other way round
 pub normal-on : (f : List ℕ) → onward f ≡ true → SameRing (normalForm f) f
-normal-on f e = subst (λ (l : List ℕ). SameRing l f) (sym (normal-is f ∙ ap (λ (b : Bool). cond b (fromLowest f) (flipped (fromLowest f))) e)) (same-sym (same-low f))
+normal-on f e =
+    subst (λ (l : List ℕ). SameRing l f) (sym (normal-is f ∙ ap (λ (b : Bool). cond b (fromLowest f) (flipped (fromLowest f))) e))
+    (same-sym (same-low f))
 
 pub normal-back : (f : List ℕ) → onward f ≡ false → SameRing (flipped (normalForm f)) f
 normal-back f e =
-    let q : flipped (normalForm f) ≡ fromLowest f = ap flipped (normal-is f ∙ ap (λ (b : Bool). cond b (fromLowest f) (flipped (fromLowest f))) e) ∙ flip-flip (fromLowest f) in
+    let q : flipped (normalForm f) ≡ fromLowest f = ap flipped
+    (normal-is f ∙ ap (λ (b : Bool). cond b (fromLowest f) (flipped (fromLowest f))) e) ∙ flip-flip (fromLowest f) in
     subst (λ (l : List ℕ). SameRing l f) (sym q) (same-sym (same-low f))
 
 -- what has a loop's ring has the loop as its normal form, and is run its way; the other way round it is not
@@ -147,7 +159,9 @@ module _ (c : List ℕ) (h : Normal c) (f : List ℕ) where
     low-of = ring-low c f (h .lowest) s
 
     pub on-onward : onward f ≡ true
-    on-onward = onward-is f ∙ ap (λ (l : List ℕ). ltb (getD l 1 0) (getD l (length l - 1) 0)) low-of ∙ lt-ltb (getD c 1 0) (getD c (length c - 1) 0) (h .direction)
+    on-onward =
+        onward-is f ∙ ap (λ (l : List ℕ). ltb (getD l 1 0) (getD l (length l - 1) 0)) low-of
+        ∙ lt-ltb (getD c 1 0) (getD c (length c - 1) 0) (h .direction)
 
     pub on-normal : normalForm f ≡ c
     on-normal = normal-is f ∙ ap (λ (b : Bool). cond b (fromLowest f) (flipped (fromLowest f))) on-onward ∙ low-of
@@ -171,7 +185,8 @@ module _ (c : List ℕ) (h : Normal c) (f : List ℕ) where
         ∙ le-ltb (getD (flipped c) 1 0) (getD (flipped c) (length (flipped c) - 1) 0) (omega arith)
 
     pub back-normal : normalForm f ≡ c
-    back-normal = normal-is f ∙ ap (λ (b : Bool). cond b (fromLowest f) (flipped (fromLowest f))) back-onward ∙ ap flipped low-back ∙ flip-flip c
+    back-normal =
+        normal-is f ∙ ap (λ (b : Bool). cond b (fromLowest f) (flipped (fromLowest f))) back-onward ∙ ap flipped low-back ∙ flip-flip c
 
 -- ---- of any face with different corners
 
@@ -179,11 +194,14 @@ pub different-same : {f g : List ℕ} → Different f → SameRing f g → Diffe
 different-same {f} {g} d s = let p = parts s in go (p .front) (p .back) (p .before) (p .after)
   where
     -- a place of b ++ a is a place of a ++ b
-    to : (a b : List ℕ) (i : ℕ) → i < length (b ++ a) → (j : ℕ) × (j < length (a ++ b)) × (getD (a ++ b) j 0 ≡ getD (b ++ a) i 0) × (((i < length b) × (j ≡ length a + i)) ⊎ ((length b ≤ i) × (j ≡ i - length b)))
+    to : (a b : List ℕ) (i : ℕ) → i < length (b ++ a) → (j : ℕ) × (j < length (a ++ b)) × (getD (a ++ b) j 0 ≡ getD (b ++ a) i 0)
+        × (((i < length b) × (j ≡ length a + i)) ⊎ ((length b ≤ i) × (j ≡ i - length b)))
     to a b i h = by (decLt i (length b))
       where
-        by : Dec (i < length b) → (j : ℕ) × (j < length (a ++ b)) × (getD (a ++ b) j 0 ≡ getD (b ++ a) i 0) × (((i < length b) × (j ≡ length a + i)) ⊎ ((length b ≤ i) × (j ≡ i - length b)))
-        by (yes l) = (length a + i, omega (arith, length-append a b), getD-append-add a b i 0 ∙ sym (List·getD-append b a 0 i l), inl (l, refl))
+        by : Dec (i < length b) → (j : ℕ) × (j < length (a ++ b)) × (getD (a ++ b) j 0 ≡ getD (b ++ a) i 0)
+            × (((i < length b) × (j ≡ length a + i)) ⊎ ((length b ≤ i) × (j ≡ i - length b)))
+        by (yes l) =
+            (length a + i, omega (arith, length-append a b), getD-append-add a b i 0 ∙ sym (List·getD-append b a 0 i l), inl (l, refl))
         by (no l) =
             let m = length-append b a in
             let k : i - length b < length a = omega arith in
@@ -196,7 +214,8 @@ different-same {f} {g} d s = let p = parts s in go (p .front) (p .back) (p .befo
 
     -- and it is that of no other
     back : (a b : List ℕ) (i k : ℕ) → i < length (b ++ a) → k < length (b ++ a) → (j l : ℕ) → j ≡ l
-        → (((i < length b) × (j ≡ length a + i)) ⊎ ((length b ≤ i) × (j ≡ i - length b))) → (((k < length b) × (l ≡ length a + k)) ⊎ ((length b ≤ k) × (l ≡ k - length b))) → i ≡ k
+        → (((i < length b) × (j ≡ length a + i)) ⊎ ((length b ≤ i) × (j ≡ i - length b)))
+        → (((k < length b) × (l ≡ length a + k)) ⊎ ((length b ≤ k) × (l ≡ k - length b))) → i ≡ k
     back a b i k hi hk j l e (inl (p, q)) (inl (r, s)) = omega arith
     back a b i k hi hk j l e (inl (p, q)) (inr (r, s)) = absurd (omega (arith, length-append b a))
     back a b i k hi hk j l e (inr (p, q)) (inl (r, s)) = absurd (omega (arith, length-append b a))
@@ -217,7 +236,8 @@ first-low f i h =
     let e : lowestAt f (length f) + 0 ≡ lowestAt f (length f) = omega arith in
     let d = length-drop (lowestAt f (length f)) f in
     let q : getD (drop (lowestAt f (length f)) f ++ take (lowestAt f (length f)) f) 0 0 ≡ getD f (lowestAt f (length f)) 0
-    = List·getD-append (drop (lowestAt f (length f)) f) (take (lowestAt f (length f)) f) 0 0 (omega arith) ∙ start f (lowestAt f (length f)) in
+    = List·getD-append (drop (lowestAt f (length f)) f) (take (lowestAt f (length f)) f) 0 0 (omega arith)
+    ∙ start f (lowestAt f (length f)) in
     omega (arith, lowest-le f (length f) i h)
   where
     start : (l : List ℕ) (n : ℕ) → getD (drop n l) 0 0 ≡ getD l n 0
@@ -238,7 +258,8 @@ low-first f d i h k =
     find : (g f a b : List ℕ) → g ≡ a ++ b → f ≡ b ++ a → (i : ℕ) → i < length g → (j : ℕ) × (j < length f) × (getD f j 0 ≡ getD g i 0)
     find g f a b p q i h =
         let m : List·Memᴰ (getD g i 0) (a ++ b) = subst (λ (l : List ℕ). List·Memᴰ (getD g i 0) l) p (mem-at g i h) in
-        let n : List·Memᴰ (getD g i 0) (b ++ a) = ⊎-elim (λ z. Memᴰ·append-right b z) (λ z. Memᴰ·append-left a z) (List·Memᴰ·append-cases a m) in
+        let n : List·Memᴰ (getD g i 0) (b ++ a) = ⊎-elim (λ z. Memᴰ·append-right b z) (λ z. Memᴰ·append-left a z)
+        (List·Memᴰ·append-cases a m) in
         mem-index (getD g i 0) f (subst (λ (l : List ℕ). List·Memᴰ (getD g i 0) l) (sym q) n)
 
 -- two faces with different corners have one normal form just where they are one ring, one way or the other
@@ -250,9 +271,11 @@ form-same f g e = go (onward f) (onward g) refl refl
 
     go : (b c : Bool) → onward f ≡ b → onward g ≡ c → SameRing f g ⊎ SameRing (flipped f) g
     go true true p q = inl (same-trans (same-sym (normal-on f p)) (subst (λ (l : List ℕ). SameRing l g) (sym e) (normal-on g q)))
-    go true false p q = inr (same-trans (flip-same (same-sym (normal-on f p))) (subst (λ (l : List ℕ). SameRing (flipped l) g) (sym e) (normal-back g q)))
+    go true false p q =
+        inr (same-trans (flip-same (same-sym (normal-on f p))) (subst (λ (l : List ℕ). SameRing (flipped l) g) (sym e) (normal-back g q)))
     go false true p q = inr (same-trans (same-sym (flips (normal-back f p))) (subst (λ (l : List ℕ). SameRing l g) (sym e) (normal-on g q)))
-    go false false p q = inl (same-trans (same-sym (normal-back f p)) (subst (λ (l : List ℕ). SameRing (flipped l) g) (sym e) (normal-back g q)))
+    go false false p q =
+        inl (same-trans (same-sym (normal-back f p)) (subst (λ (l : List ℕ). SameRing (flipped l) g) (sym e) (normal-back g q)))
 
 same-low-form : (f g : List ℕ) → fromLowest f ≡ fromLowest g → normalForm f ≡ normalForm g
 unfolding normalForm onward
@@ -302,7 +325,8 @@ flip-form r d = go (decLt (length r) 3)
         by true e = le-ltb (getD r (length r - 1) 0) (getD r 1 0) (let q = ltb-true (getD r 1 0) (getD r (length r - 1) 0) e in omega arith)
         by false e =
             let q = ltb-false (getD r 1 0) (getD r (length r - 1) 0) e in
-            let ne : getD r 1 0 ≡ getD r (length r - 1) 0 → ⊥ = λ z. absurd (omega (arith, d 1 (length r - 1) (omega arith) (omega arith) z)) in
+            let ne : getD r 1 0 ≡ getD r (length r - 1) 0
+            → ⊥ = λ z. absurd (omega (arith, d 1 (length r - 1) (omega arith) (omega arith) z)) in
             lt-ltb (getD r (length r - 1) 0) (getD r 1 0) (omega arith)
 
     go : Dec (length r < 3) → formOf (flipped r) ≡ formOf r
@@ -314,5 +338,6 @@ flip-form r d = go (decLt (length r) 3)
 
 pub flip-same-form : (f g : List ℕ) → Different f → SameRing (flipped f) g → normalForm f ≡ normalForm g
 flip-same-form f g d s =
-    let e : fromLowest g ≡ flipped (fromLowest f) = ring-low (flipped (fromLowest f)) g (flip-low (fromLowest f) (low-first f d)) (same-trans (flip-same (same-sym (same-low f))) s) in
+    let e : fromLowest g ≡ flipped (fromLowest f) = ring-low (flipped (fromLowest f)) g (flip-low (fromLowest f) (low-first f d))
+    (same-trans (flip-same (same-sym (same-low f))) s) in
     normal-of f ∙ sym (flip-form (fromLowest f) (different-same d (same-low f))) ∙ ap formOf (sym e) ∙ sym (normal-of g)

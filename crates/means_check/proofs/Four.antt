@@ -34,7 +34,8 @@ module _ (p : ℕ → Bool) where
       plus-suc : (i m : ℕ) → suc i + m ≡ i + suc m
       plus-suc i m = omega arith
 
-      go : (b : Bool) → p (suc i) ≡ b → (p (suc i) ≡ true → p (suc i + m) ≡ false → (j : ℕ) × (suc i ≤ j) × (j < suc i + m) × (p j ≡ true) × (p (suc j) ≡ false))
+      go : (b : Bool) → p (suc i) ≡ b
+          → (p (suc i) ≡ true → p (suc i + m) ≡ false → (j : ℕ) × (suc i ≤ j) × (j < suc i + m) × (p j ≡ true) × (p (suc j) ≡ false))
           → (j : ℕ) × (i ≤ j) × (j < i + suc m) × (p j ≡ true) × (p (suc j) ≡ false)
       go false q r = (i, omega arith, omega arith, e, q)
       go true q r = let w = r q (ap p (plus-suc i m) ∙ f) in (w .0, omega (arith, w .1), omega (arith, w .2), w .3, w .4)
@@ -78,16 +79,19 @@ module _ (p : ℕ → Bool) where
 -- ---- a ring's sides and corners
 
 goes-start : (l : Loop) (a b : ℕ) → Goes l a b → (i : ℕ) × (i < length l) × (getD l i 0 ≡ a)
-goes-start l a b g = (g .at, g .here, sym (g .from ∙ around-at l (g .at) ∙ ap (λ (i : ℕ). getD l i 0) (wrap-low (length l) (g .at) (g .here))))
+goes-start l a b g =
+    (g .at, g .here, sym (g .from ∙ around-at l (g .at) ∙ ap (λ (i : ℕ). getD l i 0) (wrap-low (length l) (g .at) (g .here))))
 
 goes-end : (l : Loop) (a b : ℕ) → Goes l a b → (i : ℕ) × (i < length l) × (getD l i 0 ≡ b)
 goes-end l a b g = (wrap (length l) (suc (g .at)), go (wrap-next (length l) (g .at) (g .here)), sym (g .to ∙ around-at l (suc (g .at))))
   where
-    go : ((suc (g .at) < length l) × (wrap (length l) (suc (g .at)) ≡ suc (g .at))) ⊎ ((suc (g .at) ≡ length l) × (wrap (length l) (suc (g .at)) ≡ 0)) → wrap (length l) (suc (g .at)) < length l
+    go : ((suc (g .at) < length l) × (wrap (length l) (suc (g .at)) ≡ suc (g .at)))
+        ⊎ ((suc (g .at) ≡ length l) × (wrap (length l) (suc (g .at)) ≡ 0)) → wrap (length l) (suc (g .at)) < length l
     go (inl (p, q)) = omega arith
     go (inr (p, q)) = let h = g .here in omega arith
 
-module _ (d : Wire) (cs : List Loop) (taken turned : List Bool) (paths : (k : ℕ) → k < length cs → ClosedPath d (loopAt cs k)) {six : ℕ} (s : IsSolid d cs taken turned six) where
+module _ (d : Wire) (cs : List Loop) (taken turned : List Bool) (paths : (k : ℕ) → k < length cs → ClosedPath d (loopAt cs k)) {six : ℕ}
+    (s : IsSolid d cs taken turned six) where
   inside : (k : ℕ) → dig taken k ≡ true → k < length cs
   inside k e = go (decLt k (length cs))
     where
@@ -97,7 +101,9 @@ module _ (d : Wire) (cs : List Loop) (taken turned : List Bool) (paths : (k : �
 
   -- face k has side i of face q
   abbrev Beside : ℕ → ℕ → ℕ → Type 0
-  Beside q i k = Goes (loopAt cs k) (around (loopAt cs q) i 0) (around (loopAt cs q) (suc i) 0) ⊎ Goes (loopAt cs k) (around (loopAt cs q) (suc i) 0) (around (loopAt cs q) i 0)
+  Beside q i k =
+      Goes (loopAt cs k) (around (loopAt cs q) i 0) (around (loopAt cs q) (suc i) 0) ⊎ Goes (loopAt cs k) (around (loopAt cs q) (suc i) 0)
+      (around (loopAt cs q) i 0)
 
   own : (q i : ℕ) → i < length (loopAt cs q) → Beside q i q
   own q i h = inl (record { at = i; here = h; from = refl; to = refl })
@@ -119,13 +125,17 @@ module _ (d : Wire) (cs : List Loop) (taken turned : List Bool) (paths : (k : �
     no-more : (k : ℕ) → dig taken k ≡ true → Beside q i k → (k ≡ q) ⊎ (k ≡ face)
 
   other : (q i : ℕ) → dig taken q ≡ true → i < length (loopAt cs q) → Other q i
-  other q i f h = go (paths q (inside q f) .along (around (loopAt cs q) i 0) (around (loopAt cs q) (suc i) 0) (record { at = i; here = h; from = refl; to = refl }))
+  other q i f h =
+      go
+      (paths q (inside q f) .along (around (loopAt cs q) i 0) (around (loopAt cs q) (suc i) 0)
+      (record { at = i; here = h; from = refl; to = refl }))
     where
       swap : (a b : ℕ) (l : Loop) → Goes l a b ⊎ Goes l b a → Goes l b a ⊎ Goes l a b
       swap a b l (inl g) = inr g
       swap a b l (inr g) = inl g
 
-      by-two : (e : Edge) → InTwo d cs taken turned e → ((k : ℕ) → Has d cs taken turned k e → Beside q i k) → ((k : ℕ) → Beside q i k → Has d cs taken turned k e) → Other q i
+      by-two : (e : Edge) → InTwo d cs taken turned e → ((k : ℕ) → Has d cs taken turned k e → Beside q i k)
+          → ((k : ℕ) → Beside q i k → Has d cs taken turned k e) → Other q i
       by-two e t out into = pick (t .only q f (into q (own q i h)))
         where
           pick : (q ≡ t .one) ⊎ (q ≡ t .two) → Other q i
@@ -153,27 +163,44 @@ module _ (d : Wire) (cs : List Loop) (taken turned : List Bool) (paths : (k : �
               right k (inr w) = inl (w ∙ sym z)
 
       go : EdgeOf d (around (loopAt cs q) i 0) (around (loopAt cs q) (suc i) 0) → Other q i
-      go (e, l, inl w) = by-two (edge (around (loopAt cs q) i 0) (around (loopAt cs q) (suc i) 0)) (subst (InTwo d cs taken turned) w (s .i e l)) (λ k g. g) (λ k g. g)
+      go (e, l, inl w) =
+          by-two (edge (around (loopAt cs q) i 0) (around (loopAt cs q) (suc i) 0)) (subst (InTwo d cs taken turned) w (s .i e l))
+          (λ k g. g) (λ k g. g)
       go (e, l, inr w) =
           by-two (edge (around (loopAt cs q) (suc i) 0) (around (loopAt cs q) i 0)) (subst (InTwo d cs taken turned) w (s .i e l))
-          (λ k g. swap (around (loopAt cs q) (suc i) 0) (around (loopAt cs q) i 0) (loopAt cs k) g) (λ k g. swap (around (loopAt cs q) i 0) (around (loopAt cs q) (suc i) 0) (loopAt cs k) g)
+          (λ k g. swap (around (loopAt cs q) (suc i) 0) (around (loopAt cs q) i 0) (loopAt cs k) g)
+          (λ k g. swap (around (loopAt cs q) i 0) (around (loopAt cs q) (suc i) 0) (loopAt cs k) g)
 
   -- two faces that share an edge: one of the first one's sides is in the other
-  shared : (e : Edge) (q k : ℕ) → Has d cs taken turned q e → Has d cs taken turned k e → (i : ℕ) × (i < length (loopAt cs q)) × Beside q i k
+  shared : (e : Edge) (q k : ℕ) → Has d cs taken turned q e → Has d cs taken turned k e
+      → (i : ℕ) × (i < length (loopAt cs q)) × Beside q i k
   shared (edge a b) q k (inl g) h = (g .at, g .here, to h)
     where
       to : Goes (loopAt cs k) a b ⊎ Goes (loopAt cs k) b a → Beside q (g .at) k
-      to (inl y) = inl (subst (λ (u : ℕ). Goes (loopAt cs k) u (around (loopAt cs q) (suc (g .at)) 0)) (g .from) (subst (λ (w : ℕ). Goes (loopAt cs k) a w) (g .to) y))
-      to (inr y) = inr (subst (λ (u : ℕ). Goes (loopAt cs k) (around (loopAt cs q) (suc (g .at)) 0) u) (g .from) (subst (λ (w : ℕ). Goes (loopAt cs k) w a) (g .to) y))
+      to (inl y) =
+          inl
+          (subst (λ (u : ℕ). Goes (loopAt cs k) u (around (loopAt cs q) (suc (g .at)) 0)) (g .from)
+          (subst (λ (w : ℕ). Goes (loopAt cs k) a w) (g .to) y))
+      to (inr y) =
+          inr
+          (subst (λ (u : ℕ). Goes (loopAt cs k) (around (loopAt cs q) (suc (g .at)) 0) u) (g .from)
+          (subst (λ (w : ℕ). Goes (loopAt cs k) w a) (g .to) y))
   shared (edge a b) q k (inr g) h = (g .at, g .here, to h)
     where
       to : Goes (loopAt cs k) a b ⊎ Goes (loopAt cs k) b a → Beside q (g .at) k
-      to (inr y) = inl (subst (λ (u : ℕ). Goes (loopAt cs k) u (around (loopAt cs q) (suc (g .at)) 0)) (g .from) (subst (λ (w : ℕ). Goes (loopAt cs k) b w) (g .to) y))
-      to (inl y) = inr (subst (λ (u : ℕ). Goes (loopAt cs k) (around (loopAt cs q) (suc (g .at)) 0) u) (g .from) (subst (λ (w : ℕ). Goes (loopAt cs k) w b) (g .to) y))
+      to (inr y) =
+          inl
+          (subst (λ (u : ℕ). Goes (loopAt cs k) u (around (loopAt cs q) (suc (g .at)) 0)) (g .from)
+          (subst (λ (w : ℕ). Goes (loopAt cs k) b w) (g .to) y))
+      to (inl y) =
+          inr
+          (subst (λ (u : ℕ). Goes (loopAt cs k) (around (loopAt cs q) (suc (g .at)) 0) u) (g .from)
+          (subst (λ (w : ℕ). Goes (loopAt cs k) w b) (g .to) y))
 
   -- ---- three faces: one of them shares edges with both others
 
-  three : (q z c : ℕ) → dig taken q ≡ true → dig taken z ≡ true → dig taken c ≡ true → (z ≡ q → ⊥) → (z ≡ c → ⊥) → ((k : ℕ) → dig taken k ≡ true → (k ≡ q) ⊎ ((k ≡ z) ⊎ (k ≡ c)))
+  three : (q z c : ℕ) → dig taken q ≡ true → dig taken z ≡ true → dig taken c ≡ true → (z ≡ q → ⊥) → (z ≡ c → ⊥)
+      → ((k : ℕ) → dig taken k ≡ true → (k ≡ q) ⊎ ((k ≡ z) ⊎ (k ≡ c)))
       → (i : ℕ) → i < length (loopAt cs q) → Beside q i z → (j : ℕ) → j < length (loopAt cs q) → Beside q j c → (c ≡ q → ⊥) → ⊥
   three q z c fq fz fc zq zc all i hi bi j hj bj cq = found (turn p (length (loopAt cs q)) i j hi hj (yes-at i bi) not-at)
     where
@@ -202,14 +229,19 @@ module _ (d : Wire) (cs : List Loop) (taken turned : List Bool) (paths : (k : �
                   pick (inr x) (inl y) = cq y
                   pick (inr x) (inr y) = zc (x ∙ sym y)
 
-      found : (k : ℕ) × (k < length (loopAt cs q)) × (has (edge (around (loopAt cs q) k 0) (around (loopAt cs q) (suc k) 0)) (loopAt cs z) ≡ true)
-          × (has (edge (around (loopAt cs q) (wrap (length (loopAt cs q)) (suc k)) 0) (around (loopAt cs q) (suc (wrap (length (loopAt cs q)) (suc k))) 0)) (loopAt cs z) ≡ false) → ⊥
+      found : (k : ℕ) × (k < length (loopAt cs q))
+          × (has (edge (around (loopAt cs q) k 0) (around (loopAt cs q) (suc k) 0)) (loopAt cs z) ≡ true)
+          × (has
+          (edge (around (loopAt cs q) (wrap (length (loopAt cs q)) (suc k)) 0)
+          (around (loopAt cs q) (suc (wrap (length (loopAt cs q)) (suc k))) 0)) (loopAt cs z) ≡ false) → ⊥
       found (k, hk, yk, nk) = no-volume d cs taken turned paths s u (λ m f. on m (all m f))
         where
           low : wrap (length (loopAt cs q)) (suc k) < length (loopAt cs q)
           low = by (wrap-next (length (loopAt cs q)) k hk)
             where
-              by : ((suc k < length (loopAt cs q)) × (wrap (length (loopAt cs q)) (suc k) ≡ suc k)) ⊎ ((suc k ≡ length (loopAt cs q)) × (wrap (length (loopAt cs q)) (suc k) ≡ 0)) → wrap (length (loopAt cs q)) (suc k) < length (loopAt cs q)
+              by : ((suc k < length (loopAt cs q)) × (wrap (length (loopAt cs q)) (suc k) ≡ suc k))
+                  ⊎ ((suc k ≡ length (loopAt cs q)) × (wrap (length (loopAt cs q)) (suc k) ≡ 0))
+                  → wrap (length (loopAt cs q)) (suc k) < length (loopAt cs q)
               by (inl (x, y)) = omega arith
               by (inr (x, y)) = omega arith
 
@@ -217,7 +249,10 @@ module _ (d : Wire) (cs : List Loop) (taken turned : List Bool) (paths : (k : �
           u = around (loopAt cs q) (suc k) 0
 
           same : around (loopAt cs q) (wrap (length (loopAt cs q)) (suc k)) 0 ≡ around (loopAt cs q) (suc k) 0
-          same = around-at (loopAt cs q) (wrap (length (loopAt cs q)) (suc k)) ∙ ap (λ (m : ℕ). getD (loopAt cs q) m 0) (wrap-low (length (loopAt cs q)) (wrap (length (loopAt cs q)) (suc k)) low) ∙ sym (around-at (loopAt cs q) (suc k))
+          same =
+              around-at (loopAt cs q) (wrap (length (loopAt cs q)) (suc k))
+              ∙ ap (λ (m : ℕ). getD (loopAt cs q) m 0) (wrap-low (length (loopAt cs q)) (wrap (length (loopAt cs q)) (suc k)) low)
+              ∙ sym (around-at (loopAt cs q) (suc k))
 
           -- the next side is c's
           next-c : Beside q (wrap (length (loopAt cs q)) (suc k)) c
@@ -228,20 +263,31 @@ module _ (d : Wire) (cs : List Loop) (taken turned : List Bool) (paths : (k : �
                 where
                   pick : (o .face ≡ q) ⊎ ((o .face ≡ z) ⊎ (o .face ≡ c)) → Beside q (wrap (length (loopAt cs q)) (suc k)) c
                   pick (inl x) = absurd (o .another x)
-                  pick (inr (inl x)) = never (sym (yes-at (wrap (length (loopAt cs q)) (suc k)) (subst (Beside q (wrap (length (loopAt cs q)) (suc k))) x (o .beside))) ∙ nk)
+                  pick (inr (inl x)) =
+                      never
+                      (sym
+                      (yes-at (wrap (length (loopAt cs q)) (suc k)) (subst (Beside q (wrap (length (loopAt cs q)) (suc k))) x (o .beside)))
+                      ∙ nk)
                   pick (inr (inr x)) = subst (Beside q (wrap (length (loopAt cs q)) (suc k))) x (o .beside)
 
-          on : (m : ℕ) → (m ≡ q) ⊎ ((m ≡ z) ⊎ (m ≡ c)) → (n : ℕ) × (n < length (loopAt cs m)) × (getD (loopAt cs m) n 0 ≡ around (loopAt cs q) (suc k) 0)
-          on m (inl x) = subst (λ (y : ℕ). (n : ℕ) × (n < length (loopAt cs y)) × (getD (loopAt cs y) n 0 ≡ around (loopAt cs q) (suc k) 0)) (sym x) (beside-end q k q (own q k hk))
-          on m (inr (inl x)) = subst (λ (y : ℕ). (n : ℕ) × (n < length (loopAt cs y)) × (getD (loopAt cs y) n 0 ≡ around (loopAt cs q) (suc k) 0)) (sym x) (beside-end q k z (at-yes k yk))
+          on : (m : ℕ) → (m ≡ q) ⊎ ((m ≡ z) ⊎ (m ≡ c))
+              → (n : ℕ) × (n < length (loopAt cs m)) × (getD (loopAt cs m) n 0 ≡ around (loopAt cs q) (suc k) 0)
+          on m (inl x) =
+              subst (λ (y : ℕ). (n : ℕ) × (n < length (loopAt cs y)) × (getD (loopAt cs y) n 0 ≡ around (loopAt cs q) (suc k) 0)) (sym x)
+              (beside-end q k q (own q k hk))
+          on m (inr (inl x)) =
+              subst (λ (y : ℕ). (n : ℕ) × (n < length (loopAt cs y)) × (getD (loopAt cs y) n 0 ≡ around (loopAt cs q) (suc k) 0)) (sym x)
+              (beside-end q k z (at-yes k yk))
           on m (inr (inr x)) =
               let r = beside-start q (wrap (length (loopAt cs q)) (suc k)) c next-c in
-              subst (λ (y : ℕ). (n : ℕ) × (n < length (loopAt cs y)) × (getD (loopAt cs y) n 0 ≡ around (loopAt cs q) (suc k) 0)) (sym x) (r .0, r .1, r .2 ∙ same)
+              subst (λ (y : ℕ). (n : ℕ) × (n < length (loopAt cs y)) × (getD (loopAt cs y) n 0 ≡ around (loopAt cs q) (suc k) 0)) (sym x)
+              (r .0, r .1, r .2 ∙ same)
 
   -- ---- the faces, where there are fewer than four
 
   -- a way to c comes to it from another face
-  enters : (a c : ℕ) → (a ≡ c → ⊥) → (k : ℕ) → Way d cs taken turned a k → k ≡ c → (g : ℕ) × (g ≡ c → ⊥) × (dig taken g ≡ true) × ((e : ℕ) × (e < length (d .edges)) × Has d cs taken turned g (edgeAt d e) × Has d cs taken turned c (edgeAt d e))
+  enters : (a c : ℕ) → (a ≡ c → ⊥) → (k : ℕ) → Way d cs taken turned a k → k ≡ c → (g : ℕ) × (g ≡ c → ⊥) × (dig taken g ≡ true)
+      × ((e : ℕ) × (e < length (d .edges)) × Has d cs taken turned g (edgeAt d e) × Has d cs taken turned c (edgeAt d e))
   enters a c n k (stay f) z = absurd (n z)
   enters a c n k (cross {k = g} w e h p f q) z = go (ℕ-discrete g c) (enters a c n g w)
     where
@@ -249,8 +295,11 @@ module _ (d : Wire) (cs : List Loop) (taken turned : List Bool) (paths : (k : �
       face-of (stay f) = f
       face-of (cross y e h p f q) = f
 
-      go : Dec (g ≡ c) → (g ≡ c → (g : ℕ) × (g ≡ c → ⊥) × (dig taken g ≡ true) × ((e : ℕ) × (e < length (d .edges)) × Has d cs taken turned g (edgeAt d e) × Has d cs taken turned c (edgeAt d e)))
-          → (g : ℕ) × (g ≡ c → ⊥) × (dig taken g ≡ true) × ((e : ℕ) × (e < length (d .edges)) × Has d cs taken turned g (edgeAt d e) × Has d cs taken turned c (edgeAt d e))
+      go : Dec (g ≡ c)
+          → (g ≡ c → (g : ℕ) × (g ≡ c → ⊥) × (dig taken g ≡ true)
+          × ((e : ℕ) × (e < length (d .edges)) × Has d cs taken turned g (edgeAt d e) × Has d cs taken turned c (edgeAt d e)))
+          → (g : ℕ) × (g ≡ c → ⊥) × (dig taken g ≡ true)
+          × ((e : ℕ) × (e < length (d .edges)) × Has d cs taken turned g (edgeAt d e) × Has d cs taken turned c (edgeAt d e))
       go (yes y) r = r y
       go (no y) r = (g, y, face-of w, (e, h, p, subst (λ (m : ℕ). Has d cs taken turned m (edgeAt d e)) z q))
 
@@ -262,27 +311,38 @@ module _ (d : Wire) (cs : List Loop) (taken turned : List Bool) (paths : (k : �
           let f = some-face d cs taken turned s in
           let ha : 0 < length (loopAt cs (f .0)) = let t = paths (f .0) (inside (f .0) (f .1)) .three in omega arith in
           let o = other (f .0) 0 (f .1) ha in
-          third (f .0) (f .1) ha (o .face) (o .taken-too) (o .another) (o .beside) (ℕ-discrete (count (less (less taken (only (f .0))) (only (o .face)))) 0)
+          third (f .0) (f .1) ha (o .face) (o .taken-too) (o .another) (o .beside)
+          (ℕ-discrete (count (less (less taken (only (f .0))) (only (o .face)))) 0)
         where
-          third : (a : ℕ) → dig taken a ≡ true → 0 < length (loopAt cs a) → (b : ℕ) → dig taken b ≡ true → (b ≡ a → ⊥) → Beside a 0 b → Dec (count (less (less taken (only a)) (only b)) ≡ 0) → ⊥
-          third a fa ha b fb n bs (yes e) = no-volume d cs taken turned paths s (around (loopAt cs a) 0 0) (λ k f. on k (only-two k f (ℕ-discrete k a) (ℕ-discrete k b)))
+          third : (a : ℕ) → dig taken a ≡ true → 0 < length (loopAt cs a) → (b : ℕ) → dig taken b ≡ true → (b ≡ a → ⊥) → Beside a 0 b
+              → Dec (count (less (less taken (only a)) (only b)) ≡ 0) → ⊥
+          third a fa ha b fb n bs (yes e) =
+              no-volume d cs taken turned paths s (around (loopAt cs a) 0 0) (λ k f. on k (only-two k f (ℕ-discrete k a) (ℕ-discrete k b)))
             where
               only-two : (k : ℕ) → dig taken k ≡ true → Dec (k ≡ a) → Dec (k ≡ b) → (k ≡ a) ⊎ (k ≡ b)
               only-two k f (yes x) y = inl x
               only-two k f (no x) (yes y) = inr y
-              only-two k f (no x) (no y) = absurd (count-none (less (less taken (only a)) (only b)) e k (rest-in (less taken (only a)) b k (rest-in taken a k f x) y))
+              only-two k f (no x) (no y) =
+                  absurd
+                  (count-none (less (less taken (only a)) (only b)) e k (rest-in (less taken (only a)) b k (rest-in taken a k f x) y))
 
               on : (k : ℕ) → (k ≡ a) ⊎ (k ≡ b) → (i : ℕ) × (i < length (loopAt cs k)) × (getD (loopAt cs k) i 0 ≡ around (loopAt cs a) 0 0)
-              on k (inl x) = subst (λ (y : ℕ). (i : ℕ) × (i < length (loopAt cs y)) × (getD (loopAt cs y) i 0 ≡ around (loopAt cs a) 0 0)) (sym x) (beside-start a 0 a (own a 0 ha))
-              on k (inr x) = subst (λ (y : ℕ). (i : ℕ) × (i < length (loopAt cs y)) × (getD (loopAt cs y) i 0 ≡ around (loopAt cs a) 0 0)) (sym x) (beside-start a 0 b bs)
+              on k (inl x) =
+                  subst (λ (y : ℕ). (i : ℕ) × (i < length (loopAt cs y)) × (getD (loopAt cs y) i 0 ≡ around (loopAt cs a) 0 0)) (sym x)
+                  (beside-start a 0 a (own a 0 ha))
+              on k (inr x) =
+                  subst (λ (y : ℕ). (i : ℕ) × (i < length (loopAt cs y)) × (getD (loopAt cs y) i 0 ≡ around (loopAt cs a) 0 0)) (sym x)
+                  (beside-start a 0 b bs)
           third a fa ha b fb n bs (no e) =
               let hc = first-in (less (less taken (only a)) (only b)) e in
               let u = rest-out (less taken (only a)) b (first (less (less taken (only a)) (only b))) hc in
               let w = rest-out taken a (first (less (less taken (only a)) (only b))) (u .0) in
               last (first (less (less taken (only a)) (only b))) (w .0) (w .1) (u .1)
-              (λ k f. only-three (first (less (less taken (only a)) (only b))) hc k f (ℕ-discrete k a) (ℕ-discrete k b) (ℕ-discrete k (first (less (less taken (only a)) (only b)))))
+              (λ k f. only-three (first (less (less taken (only a)) (only b))) hc k f (ℕ-discrete k a) (ℕ-discrete k b)
+              (ℕ-discrete k (first (less (less taken (only a)) (only b)))))
             where
-              only-three : (c : ℕ) → dig (less (less taken (only a)) (only b)) c ≡ true → (k : ℕ) → dig taken k ≡ true → Dec (k ≡ a) → Dec (k ≡ b) → Dec (k ≡ c) → (k ≡ a) ⊎ ((k ≡ b) ⊎ (k ≡ c))
+              only-three : (c : ℕ) → dig (less (less taken (only a)) (only b)) c ≡ true → (k : ℕ) → dig taken k ≡ true → Dec (k ≡ a)
+                  → Dec (k ≡ b) → Dec (k ≡ c) → (k ≡ a) ⊎ ((k ≡ b) ⊎ (k ≡ c))
               only-three c hc k f (yes x) y z = inl x
               only-three c hc k f (no x) (yes y) z = inr (inl y)
               only-three c hc k f (no x) (no y) (yes z) = inr (inr z)
@@ -291,23 +351,28 @@ module _ (d : Wire) (cs : List Loop) (taken turned : List Bool) (paths : (k : �
                   let hb = rest-in taken a b fb n in
                   let p2 = count-only (less taken (only a)) b hb in
                   let p3 = count-only (less (less taken (only a)) (only b)) c hc in
-                  let hk = rest-in (less (less taken (only a)) (only b)) c k (rest-in (less taken (only a)) b k (rest-in taken a k f x) y) z in
+                  let hk = rest-in (less (less taken (only a)) (only b)) c k (rest-in (less taken (only a)) b k (rest-in taken a k f x) y)
+                  z in
                   let p4 = count-only (less (less (less taken (only a)) (only b)) (only c)) k hk in
                   absurd (omega arith)
 
-              last : (c : ℕ) → dig taken c ≡ true → (c ≡ a → ⊥) → (c ≡ b → ⊥) → ((k : ℕ) → dig taken k ≡ true → (k ≡ a) ⊎ ((k ≡ b) ⊎ (k ≡ c))) → ⊥
+              last : (c : ℕ) → dig taken c ≡ true → (c ≡ a → ⊥) → (c ≡ b → ⊥)
+                  → ((k : ℕ) → dig taken k ≡ true → (k ≡ a) ⊎ ((k ≡ b) ⊎ (k ≡ c))) → ⊥
               last c fc ca cb all =
                   let g = enters a c (λ x. ca (sym x)) c (s .ii a c fa fc) refl in
                   pick (g .0) (g .1) (g .3) (all (g .0) (g .2))
                 where
-                  pick : (g : ℕ) → (g ≡ c → ⊥) → ((e : ℕ) × (e < length (d .edges)) × Has d cs taken turned g (edgeAt d e) × Has d cs taken turned c (edgeAt d e)) → (g ≡ a) ⊎ ((g ≡ b) ⊎ (g ≡ c)) → ⊥
+                  pick : (g : ℕ) → (g ≡ c → ⊥)
+                      → ((e : ℕ) × (e < length (d .edges)) × Has d cs taken turned g (edgeAt d e) × Has d cs taken turned c (edgeAt d e))
+                      → (g ≡ a) ⊎ ((g ≡ b) ⊎ (g ≡ c)) → ⊥
                   pick g gc (e, h, p, q) (inl x) =
                       let r = shared (edgeAt d e) a c (subst (λ (m : ℕ). Has d cs taken turned m (edgeAt d e)) x p) q in
                       three a b c fa fb fc n (λ y. cb (sym y)) all 0 ha bs (r .0) (r .1) (r .2) ca
                   pick g gc (e, h, p, q) (inr (inl x)) =
                       let r = shared (edgeAt d e) b c (subst (λ (m : ℕ). Has d cs taken turned m (edgeAt d e)) x p) q in
                       let t = flip bs in
-                      three b a c fb fa fc (λ y. n (sym y)) (λ y. ca (sym y)) (λ k f. turn-all (all k f)) (t .0) (t .1) (t .2) (r .0) (r .1) (r .2) cb
+                      three b a c fb fa fc (λ y. n (sym y)) (λ y. ca (sym y)) (λ k f. turn-all (all k f)) (t .0) (t .1) (t .2) (r .0) (r .1)
+                      (r .2) cb
                     where
                       turn-all : {k : ℕ} → (k ≡ a) ⊎ ((k ≡ b) ⊎ (k ≡ c)) → (k ≡ b) ⊎ ((k ≡ a) ⊎ (k ≡ c))
                       turn-all (inl y) = inr (inl y)

@@ -10,7 +10,7 @@ use lib.Dec.{eqb}
 use lib.ListN.{length, getD, length-map}
 use borrow.Author.Tests.{eqb-true, eq-eqb, ne-eqb, not-true}
 use Rattle.lists.specs.Lists.{any, keep, filter, from, upto}
-use Rattle.lists.proofs.Truth.{and-left, and-right, and-both, or-cases, never}
+use Rattle.lists.proofs.Truth.{and-left, and-right, and-both, or-cases, never-true}
 use Rattle.lists.proofs.Passing.{any-yes, some-yes, some-is}
 use Rattle.lists.proofs.Places.{map-at, upto-length, upto-at}
 use Rattle.paper.specs.Drawing.{Wire, Edge, edge, edgeAt, joins, joined}
@@ -27,7 +27,9 @@ use Rattle.means_check.proofs.Ordered.{before-self, loop-in, ascending-
 
 pub loop-place : (q : Loop) (l : List Loop) → List·Memᴰ q l → (i : ℕ) × (i < length l) × (loopAt l i ≡ q)
 loop-place q [] m = absurd (List·Memᴰ·not-nil m)
-loop-place q (x ∷ l) m = ⊎-elim (λ e. (0, omega arith, sym e)) (λ k. let r = loop-place q l k in (suc (r .0), (let h = r .1 in omega arith), r .2)) (List·Memᴰ·cases-cons m)
+loop-place q (x ∷ l) m =
+    ⊎-elim (λ e. (0, omega arith, sym e)) (λ k. let r = loop-place q l k in (suc (r .0), (let h = r .1 in omega arith), r .2))
+    (List·Memᴰ·cases-cons m)
 
 pub ascending-once : (l : List Loop) → Ascending l → (i j : ℕ) → i < length l → j < length l → loopAt l i ≡ loopAt l j → i ≡ j
 ascending-once l a i j hi hj e = go (decLt i j) (decLt j i)
@@ -57,14 +59,19 @@ module _ (d : Wire) where
 -- ---- candidates
 
 module _ (d : Wire) (ls : List Loop) where
-  bare-at : (i : ℕ) → coversOther d ls i ≡ false → (j : ℕ) → j < length ls → (i ≡ j → ⊥) → covers (polygon d (loopAt ls i)) (polygon d (loopAt ls j)) ≡ false
+  bare-at : (i : ℕ) → coversOther d ls i ≡ false → (j : ℕ) → j < length ls → (i ≡ j → ⊥)
+      → covers (polygon d (loopAt ls i)) (polygon d (loopAt ls j)) ≡ false
   unfolding coversOther
-  bare-at i e j h n = never (covers (polygon d (loopAt ls i)) (polygon d (loopAt ls j))) (λ t.
-      true≢false (sym (some-is (λ j. not (eqb i j) && covers (polygon d (loopAt ls i)) (polygon d (loopAt ls j))) (length ls) j h (and-both (ap not (ne-eqb i j n)) t)) ∙ e))
+  bare-at i e j h n = never-true (covers (polygon d (loopAt ls i)) (polygon d (loopAt ls j))) (λ t.
+      true≢false
+      (sym
+      (some-is (λ j. not (eqb i j) && covers (polygon d (loopAt ls i)) (polygon d (loopAt ls j))) (length ls) j h
+      (and-both (ap not (ne-eqb i j n)) t)) ∙ e))
 
-  at-bare : (i : ℕ) → ((j : ℕ) → j < length ls → (i ≡ j → ⊥) → covers (polygon d (loopAt ls i)) (polygon d (loopAt ls j)) ≡ false) → coversOther d ls i ≡ false
+  at-bare : (i : ℕ) → ((j : ℕ) → j < length ls → (i ≡ j → ⊥) → covers (polygon d (loopAt ls i)) (polygon d (loopAt ls j)) ≡ false)
+      → coversOther d ls i ≡ false
   unfolding coversOther
-  at-bare i f = never (any (λ j. not (eqb i j) && covers (polygon d (loopAt ls i)) (polygon d (loopAt ls j))) (upto (length ls))) (λ t.
+  at-bare i f = never-true (any (λ j. not (eqb i j) && covers (polygon d (loopAt ls i)) (polygon d (loopAt ls j))) (upto (length ls))) (λ t.
       let r = some-yes (λ j. not (eqb i j) && covers (polygon d (loopAt ls i)) (polygon d (loopAt ls j))) (length ls) t in
       let a = and-left (not (eqb i (r .0))) (covers (polygon d (loopAt ls i)) (polygon d (loopAt ls (r .0)))) (r .2) in
       let b = and-right (not (eqb i (r .0))) (covers (polygon d (loopAt ls i)) (polygon d (loopAt ls (r .0)))) (r .2) in
@@ -77,7 +84,8 @@ module _ (d : Wire) (ls : List Loop) where
   unfolding uncovering
   uncovering-is = refl
 
-  bare-are : (k : ℕ) → k < length (uncovering d ls) → (i : ℕ) × (i < length ls) × (loopAt (uncovering d ls) k ≡ loopAt ls i) × (coversOther d ls i ≡ false)
+  bare-are : (k : ℕ) → k < length (uncovering d ls) → (i : ℕ) × (i < length ls) × (loopAt (uncovering d ls) k ≡ loopAt ls i)
+      × (coversOther d ls i ≡ false)
   bare-are k h =
       let l : k < length kept = omega (arith, ap length uncovering-is, length-map kept (loopAt ls)) in
       let r = filter-yes 0 (λ i. not (coversOther d ls i)) (upto (length ls)) k l in
@@ -89,24 +97,30 @@ module _ (d : Wire) (ls : List Loop) where
         not-true (coversOther d ls (r .0)) (subst (λ (x : ℕ). not (coversOther d ls x) ≡ true) e (r .3)),
       )
 
-  are-bare : (i : ℕ) → i < length ls → coversOther d ls i ≡ false → (k : ℕ) × (k < length (uncovering d ls)) × (loopAt (uncovering d ls) k ≡ loopAt ls i)
+  are-bare : (i : ℕ) → i < length ls → coversOther d ls i ≡ false → (k : ℕ) × (k < length (uncovering d ls))
+      × (loopAt (uncovering d ls) k ≡ loopAt ls i)
   are-bare i h e =
       let u = upto-at (length ls) i h in
-      let r = filter-is 0 (λ i. not (coversOther d ls i)) (upto (length ls)) i (omega (arith, upto-length (length ls))) (ap (λ (x : ℕ). not (coversOther d ls x)) u ∙ ap not e) in (
+      let r = filter-is 0 (λ i. not (coversOther d ls i)) (upto (length ls)) i (omega (arith, upto-length (length ls)))
+      (ap (λ (x : ℕ). not (coversOther d ls x)) u ∙ ap not e) in (
         r .0,
         omega (arith, r .1, ap length uncovering-is, length-map kept (loopAt ls)),
         ap (λ (q : List Loop). loopAt q (r .0)) uncovering-is ∙ map-at (loopAt ls) kept (r .0) 0 [] (r .1) ∙ ap (loopAt ls) (r .2 ∙ u),
       )
 
   -- they ascend as the loops do
-  kept-in : (p : ℕ → Bool) (i m : ℕ) (b : Loop) → List·Memᴰ b (map (loopAt ls) (filter p (from i m))) → (j : ℕ) × (i ≤ j) × (j < i + m) × (b ≡ loopAt ls j)
+  kept-in : (p : ℕ → Bool) (i m : ℕ) (b : Loop) → List·Memᴰ b (map (loopAt ls) (filter p (from i m)))
+      → (j : ℕ) × (i ≤ j) × (j < i + m) × (b ≡ loopAt ls j)
   unfolding filter keep from
   kept-in p i zero b q = absurd (List·Memᴰ·not-nil q)
   kept-in p i (suc m) b q = go (p i) q (kept-in p (suc i) m b)
     where
-      go : (t : Bool) → List·Memᴰ b (map (loopAt ls) (keep t i (filter p (from (suc i) m)))) → (List·Memᴰ b (map (loopAt ls) (filter p (from (suc i) m))) → (j : ℕ) × (suc i ≤ j) × (j < suc i + m) × (b ≡ loopAt ls j))
+      go : (t : Bool) → List·Memᴰ b (map (loopAt ls) (keep t i (filter p (from (suc i) m))))
+          → (List·Memᴰ b (map (loopAt ls) (filter p (from (suc i) m))) → (j : ℕ) × (suc i ≤ j) × (j < suc i + m) × (b ≡ loopAt ls j))
           → (j : ℕ) × (i ≤ j) × (j < i + suc m) × (b ≡ loopAt ls j)
-      go true q r = ⊎-elim (λ e. (i, omega arith, omega arith, e)) (λ z. let w = r z in (w .0, omega (arith, w .1), omega (arith, w .2), w .3)) (List·Memᴰ·cases-cons q)
+      go true q r =
+          ⊎-elim (λ e. (i, omega arith, omega arith, e)) (λ z. let w = r z in (w .0, omega (arith, w .1), omega (arith, w .2), w .3))
+          (List·Memᴰ·cases-cons q)
       go false q r = let w = r q in (w .0, omega (arith, w .1), omega (arith, w .2), w .3)
 
   kept-ascend : Ascending ls → (p : ℕ → Bool) (i m : ℕ) → i + m ≤ length ls → Ascending (map (loopAt ls) (filter p (from i m)))
@@ -114,8 +128,13 @@ module _ (d : Wire) (ls : List Loop) where
   kept-ascend a p i zero h = tt
   kept-ascend a p i (suc m) h = go (p i) (kept-ascend a p (suc i) m (omega arith))
     where
-      go : (t : Bool) → Ascending (map (loopAt ls) (filter p (from (suc i) m))) → Ascending (map (loopAt ls) (keep t i (filter p (from (suc i) m))))
-      go true r = ((λ b q. let w = kept-in p (suc i) m b q in subst (λ (x : Loop). Before (loopAt ls i) x) (sym (w .3)) (ascending-at ls a i (w .0) (w .1) (omega (arith, w .2)))), r)
+      go : (t : Bool) → Ascending (map (loopAt ls) (filter p (from (suc i) m)))
+          → Ascending (map (loopAt ls) (keep t i (filter p (from (suc i) m))))
+      go true r = (
+        (λ b q. let w = kept-in p (suc i) m b q in
+            subst (λ (x : Loop). Before (loopAt ls i) x) (sym (w .3)) (ascending-at ls a i (w .0) (w .1) (omega (arith, w .2)))),
+        r,
+      )
       go false r = r
 
   bare-ascend : Ascending ls → Ascending (uncovering d ls)
@@ -128,7 +147,8 @@ module _ (d : Wire) where
   unfolding candidates
   candidates-ascend = bare-ascend d (loops d) (loops-ascend d)
 
-  pub candidates-once : (j k : ℕ) → j < length (candidates d) → k < length (candidates d) → loopAt (candidates d) j ≡ loopAt (candidates d) k → j ≡ k
+  pub candidates-once : (j k : ℕ) → j < length (candidates d) → k < length (candidates d)
+      → loopAt (candidates d) j ≡ loopAt (candidates d) k → j ≡ k
   candidates-once = ascending-once (candidates d) candidates-ascend
 
   pub candidates-are : (k : ℕ) → k < length (candidates d) → IsCandidate d (loopAt (candidates d) k)
@@ -159,7 +179,8 @@ module _ (d : Wire) where
   -- two candidates clash, whichever is named first
   abbrev pub Even : Type 0
   Even = (j k : ℕ) → j < length (candidates d) → k < length (candidates d)
-      → clash (polygon d (loopAt (candidates d) j)) (polygon d (loopAt (candidates d) k)) ≡ clash (polygon d (loopAt (candidates d) k)) (polygon d (loopAt (candidates d) j))
+      → clash (polygon d (loopAt (candidates d) j)) (polygon d (loopAt (candidates d) k)) ≡ clash (polygon d (loopAt (candidates d) k))
+      (polygon d (loopAt (candidates d) j))
 
   pub candidates-fit : Even → Candidates d (candidates d)
   candidates-fit even = record {
@@ -170,7 +191,8 @@ module _ (d : Wire) where
 
 -- ---- joined vertices are the ends of an edge
 
-pub joined-edge : (d : Wire) (u v : ℕ) → joined d u v ≡ true → (e : ℕ) × (e < length (d .edges)) × ((edgeAt d e ≡ edge u v) ⊎ (edgeAt d e ≡ edge v u))
+pub joined-edge : (d : Wire) (u v : ℕ) → joined d u v ≡ true
+    → (e : ℕ) × (e < length (d .edges)) × ((edgeAt d e ≡ edge u v) ⊎ (edgeAt d e ≡ edge v u))
 unfolding joined edgeAt joins
 joined-edge d u v t = let r = any-yes (joins u v) (edge 0 0) (d .edges) t in (r .0, r .1, go (edgeAt d (r .0)) (r .2))
   where
@@ -178,5 +200,11 @@ joined-edge d u v t = let r = any-yes (joins u v) (edge 0 0) (d .edges) t in (r 
     go (edge a b) q = by (or-cases (eqb u a && eqb v b) (eqb u b && eqb v a) q)
       where
         by : ((eqb u a && eqb v b) ≡ true) ⊎ ((eqb u b && eqb v a) ≡ true) → (edge a b ≡ edge u v) ⊎ (edge a b ≡ edge v u)
-        by (inl w) = let x : u ≡ a = eqb-true u a (and-left (eqb u a) (eqb v b) w) in let y : v ≡ b = eqb-true v b (and-right (eqb u a) (eqb v b) w) in inl (cc)
-        by (inr w) = let x : u ≡ b = eqb-true u b (and-left (eqb u b) (eqb v a) w) in let y : v ≡ a = eqb-true v a (and-right (eqb u b) (eqb v a) w) in inr (cc)
+        by (inl w) =
+            let x : u ≡ a = eqb-true u a (and-left (eqb u a) (eqb v b) w) in
+            let y : v ≡ b = eqb-true v b (and-right (eqb u a) (eqb v b) w) in
+            inl (cc)
+        by (inr w) =
+            let x : u ≡ b = eqb-true u b (and-left (eqb u b) (eqb v a) w) in
+            let y : v ≡ a = eqb-true v a (and-right (eqb u b) (eqb v a) w) in
+            inr (cc)

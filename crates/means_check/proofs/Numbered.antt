@@ -50,7 +50,8 @@ module _ (p : Loop → Bool) where
   first-hit [] h = absurd (omega arith)
   first-hit (c ∷ cs) h = go (p c) refl h (first-hit cs)
     where
-      go : (b : Bool) → p c ≡ b → first (b ∷ map p cs) < suc (length cs) → (first (map p cs) < length cs → p (loopAt cs (first (map p cs))) ≡ true)
+      go : (b : Bool) → p c ≡ b → first (b ∷ map p cs) < suc (length cs)
+          → (first (map p cs) < length cs → p (loopAt cs (first (map p cs))) ≡ true)
           → p (getD (c ∷ cs) (first (b ∷ map p cs)) []) ≡ true
       go true e k r = e
       go false e k r = r (omega arith)
@@ -60,7 +61,8 @@ module _ (p : Loop → Bool) where
   first-some [] k h e = absurd (omega arith)
   first-some (c ∷ cs) k h e = go (p c) refl k h e (first-some cs)
     where
-      go : (b : Bool) → p c ≡ b → (k : ℕ) → k < suc (length cs) → p (getD (c ∷ cs) k []) ≡ true → ((k : ℕ) → k < length cs → p (loopAt cs k) ≡ true → first (map p cs) < length cs)
+      go : (b : Bool) → p c ≡ b → (k : ℕ) → k < suc (length cs) → p (getD (c ∷ cs) k []) ≡ true
+          → ((k : ℕ) → k < length cs → p (loopAt cs k) ≡ true → first (map p cs) < length cs)
           → first (b ∷ map p cs) < suc (length cs)
       go true q k h e r = omega arith
       go false q zero h e r = never (sym e ∙ q)
@@ -88,23 +90,29 @@ member-is x xs i h e = any-is (eqb x) 0 xs i h (eq-eqb x (getD xs i 0) (sym e))
 -- ---- those of a list that pass
 
 module _ {A : Type 0} (z : A) (p : A → Bool) where
-  pub filter-yes : (fs : List A) (i : ℕ) → i < length (filter p fs) → (j : ℕ) × (j < length fs) × (getD fs j z ≡ getD (filter p fs) i z) × (p (getD fs j z) ≡ true)
+  pub filter-yes : (fs : List A) (i : ℕ) → i < length (filter p fs) → (j : ℕ) × (j < length fs) × (getD fs j z ≡ getD (filter p fs) i z)
+      × (p (getD fs j z) ≡ true)
   unfolding filter keep
   filter-yes [] i h = absurd (omega arith)
   filter-yes (f ∷ fs) i h = go (p f) refl i h (filter-yes fs)
     where
-      go : (b : Bool) → p f ≡ b → (i : ℕ) → i < length (keep b f (filter p fs)) → ((i : ℕ) → i < length (filter p fs) → (j : ℕ) × (j < length fs) × (getD fs j z ≡ getD (filter p fs) i z) × (p (getD fs j z) ≡ true))
+      go : (b : Bool) → p f ≡ b → (i : ℕ) → i < length (keep b f (filter p fs))
+          → ((i : ℕ) → i < length (filter p fs) → (j : ℕ) × (j < length fs) × (getD fs j z ≡ getD (filter p fs) i z)
+          × (p (getD fs j z) ≡ true))
           → (j : ℕ) × (j < suc (length fs)) × (getD (f ∷ fs) j z ≡ getD (keep b f (filter p fs)) i z) × (p (getD (f ∷ fs) j z) ≡ true)
       go true e zero h r = (0, omega arith, refl, e)
       go true e (suc i) h r = let q = r i (omega arith) in (suc (q .0), (let l = q .1 in omega arith), q .2, q .3)
       go false e i h r = let q = r i h in (suc (q .0), (let l = q .1 in omega arith), q .2, q .3)
 
-  pub filter-is : (fs : List A) (j : ℕ) → j < length fs → p (getD fs j z) ≡ true → (i : ℕ) × (i < length (filter p fs)) × (getD (filter p fs) i z ≡ getD fs j z)
+  pub filter-is : (fs : List A) (j : ℕ) → j < length fs → p (getD fs j z) ≡ true
+      → (i : ℕ) × (i < length (filter p fs)) × (getD (filter p fs) i z ≡ getD fs j z)
   unfolding filter keep
   filter-is [] j h e = absurd (omega arith)
   filter-is (f ∷ fs) j h e = go (p f) refl j h e (filter-is fs)
     where
-      go : (b : Bool) → p f ≡ b → (j : ℕ) → j < suc (length fs) → p (getD (f ∷ fs) j z) ≡ true → ((j : ℕ) → j < length fs → p (getD fs j z) ≡ true → (i : ℕ) × (i < length (filter p fs)) × (getD (filter p fs) i z ≡ getD fs j z))
+      go : (b : Bool) → p f ≡ b → (j : ℕ) → j < suc (length fs) → p (getD (f ∷ fs) j z) ≡ true
+          → ((j : ℕ) → j < length fs → p (getD fs j z) ≡ true
+          → (i : ℕ) × (i < length (filter p fs)) × (getD (filter p fs) i z ≡ getD fs j z))
           → (i : ℕ) × (i < length (keep b f (filter p fs))) × (getD (keep b f (filter p fs)) i z ≡ getD (f ∷ fs) j z)
       go true q zero h e r = (0, omega arith, refl)
       go true q (suc j) h e r = let w = r j (omega arith) e in (suc (w .0), (let l = w .1 in omega arith), w .2)
@@ -119,17 +127,20 @@ number-at cs f h = same-yes (normalForm f) (loopAt cs (first (map (sameList (nor
 
 pub number-in : (cs : List Loop) (f : List ℕ) (k : ℕ) → k < length cs → normalForm f ≡ loopAt cs k → numberIn cs f < length cs
 unfolding numberIn
-number-in cs f k h e = first-some (sameList (normalForm f)) cs k h (subst (λ (l : List ℕ). sameList (normalForm f) l ≡ true) e (same-is (normalForm f)))
+number-in cs f k h e =
+    first-some (sameList (normalForm f)) cs k h (subst (λ (l : List ℕ). sameList (normalForm f) l ≡ true) e (same-is (normalForm f)))
 
 -- a face has a number just where it is one of the candidates, from some start and in some direction
-pub is-candidate : (cs : List Loop) (f : List ℕ) → numberIn cs f < length cs → (k : ℕ) × (k < length cs) × (SameRing (loopAt cs k) f ⊎ SameRing (flipped (loopAt cs k)) f)
+pub is-candidate : (cs : List Loop) (f : List ℕ) → numberIn cs f < length cs
+    → (k : ℕ) × (k < length cs) × (SameRing (loopAt cs k) f ⊎ SameRing (flipped (loopAt cs k)) f)
 is-candidate cs f h = (numberIn cs f, h, go (onward f) refl)
   where
     go : (b : Bool) → onward f ≡ b → SameRing (loopAt cs (numberIn cs f)) f ⊎ SameRing (flipped (loopAt cs (numberIn cs f))) f
     go true e = inl (subst (λ (l : List ℕ). SameRing l f) (number-at cs f h) (normal-on f e))
     go false e = inr (subst (λ (l : List ℕ). SameRing (flipped l) f) (number-at cs f h) (normal-back f e))
 
-pub candidate-is : (cs : List Loop) (f : List ℕ) (k : ℕ) → k < length cs → Normal (loopAt cs k) → SameRing (loopAt cs k) f ⊎ SameRing (flipped (loopAt cs k)) f → numberIn cs f < length cs
+pub candidate-is : (cs : List Loop) (f : List ℕ) (k : ℕ) → k < length cs → Normal (loopAt cs k)
+    → SameRing (loopAt cs k) f ⊎ SameRing (flipped (loopAt cs k)) f → numberIn cs f < length cs
 candidate-is cs f k h n (inl s) = number-in cs f k h (on-normal (loopAt cs k) n f s)
 candidate-is cs f k h n (inr s) = number-in cs f k h (back-normal (loopAt cs k) n f s)
 
@@ -181,21 +192,32 @@ module _ (cs : List Loop) (fs : List Loop) where
   pub taken-is : (i k : ℕ) → i < length fs → numberIn cs (loopAt fs i) ≡ k → k < length cs → dig takenOf k ≡ true
   taken-is i k h e l = row-is (length cs) numbersOf k l (member-is k numbersOf i (omega (arith, numbers-length)) (number-of i h ∙ e))
 
-  pub turned-yes : (k : ℕ) → dig turnedOf k ≡ true → (k < length cs) × ((i : ℕ) × (i < length fs) × (numberIn cs (loopAt fs i) ≡ k) × (onward (loopAt fs i) ≡ false))
+  pub turned-yes : (k : ℕ) → dig turnedOf k ≡ true
+      → (k < length cs) × ((i : ℕ) × (i < length fs) × (numberIn cs (loopAt fs i) ≡ k) × (onward (loopAt fs i) ≡ false))
   turned-yes k e =
       let gs = filter (λ f. not (onward f)) fs in
       let r = row-yes (length cs) (map (numberIn cs) gs) k e in
       let q = member-yes k (map (numberIn cs) gs) (r .1) in
       let h : q .0 < length gs = omega (arith, q .1, length-map gs (numberIn cs)) in
-      let w = filter-yes [] (λ f. not (onward f)) fs (q .0) h in
-      (r .0, (w .0, w .1, ap (numberIn cs) (w .2) ∙ sym (map-at (numberIn cs) gs (q .0) [] 0 h) ∙ q .2, not-true (onward (loopAt fs (w .0))) (w .3)))
+      let w = filter-yes [] (λ f. not (onward f)) fs (q .0) h in (
+        r .0,
+        (
+          w .0,
+          w .1,
+          ap (numberIn cs) (w .2) ∙ sym (map-at (numberIn cs) gs (q .0) [] 0 h)
+              ∙ q .2,
+          not-true (onward (loopAt fs (w .0))) (w .3),
+        ),
+      )
 
-  pub turned-is : (i k : ℕ) → i < length fs → numberIn cs (loopAt fs i) ≡ k → k < length cs → onward (loopAt fs i) ≡ false → dig turnedOf k ≡ true
+  pub turned-is : (i k : ℕ) → i < length fs → numberIn cs (loopAt fs i) ≡ k → k < length cs → onward (loopAt fs i) ≡ false
+      → dig turnedOf k ≡ true
   turned-is i k h e l o =
       let gs = filter (λ f. not (onward f)) fs in
       let w = filter-is [] (λ f. not (onward f)) fs i h (ap not o) in
       row-is (length cs) (map (numberIn cs) gs) k l
-      (member-is k (map (numberIn cs) gs) (w .0) (omega (arith, w .1, length-map gs (numberIn cs))) (map-at (numberIn cs) gs (w .0) [] 0 (w .1) ∙ ap (numberIn cs) (w .2) ∙ e))
+      (member-is k (map (numberIn cs) gs) (w .0) (omega (arith, w .1, length-map gs (numberIn cs)))
+      (map-at (numberIn cs) gs (w .0) [] 0 (w .1) ∙ ap (numberIn cs) (w .2) ∙ e))
 
   -- 21 and 22 have nothing against the list: each face has a number, and no two have one
   pub record Numbered : Type 0 where
@@ -206,7 +228,8 @@ module _ (cs : List Loop) (fs : List Loop) where
   unfolding notCandidate faceTwice
   numbered p q = record {
     known = λ i h.
-        let e : leb (length cs) (getD numbersOf i 0) ≡ false = lowest-none (λ i. leb (length cs) (getD numbersOf i 0)) (length numbersOf) p i (omega (arith, numbers-length)) in
+        let e : leb (length cs) (getD numbersOf i 0) ≡ false = lowest-none (λ i. leb (length cs) (getD numbersOf i 0)) (length numbersOf) p
+        i (omega (arith, numbers-length)) in
         omega (arith, leb-false (length cs) (getD numbersOf i 0) e, number-of i h);
     apart = λ i j hi hj e. go i j hi hj (number-of i hi ∙ e ∙ sym (number-of j hj));
   }
@@ -234,7 +257,9 @@ module _ (cs : List Loop) (fs : List Loop) where
 
   pub numbered-22 : Numbered → faceTwice numbersOf ≡ none
   unfolding faceTwice
-  numbered-22 n = none-lowest (λ i. member (getD numbersOf i 0) (take i numbersOf)) (length numbersOf) (λ j h. go j h (member (getD numbersOf j 0) (take j numbersOf)) refl)
+  numbered-22 n =
+      none-lowest (λ i. member (getD numbersOf i 0) (take i numbersOf)) (length numbersOf)
+      (λ j h. go j h (member (getD numbersOf j 0) (take j numbersOf)) refl)
     where
       go : (j : ℕ) → j < length numbersOf → (b : Bool) → member (getD numbersOf j 0) (take j numbersOf) ≡ b → b ≡ false
       go j h false e = refl
@@ -245,7 +270,8 @@ module _ (cs : List Loop) (fs : List Loop) where
           let i : r .0 < j = omega (arith, r .1) in
           let hj : j < length fs = omega arith in
           let hi : r .0 < length fs = omega arith in
-          let q : numberIn cs (loopAt fs (r .0)) ≡ numberIn cs (loopAt fs j) = sym (number-of (r .0) hi) ∙ sym (getD-take j numbersOf (r .0) 0 i) ∙ r .2 ∙ number-of j hj in
+          let q : numberIn cs (loopAt fs (r .0)) ≡ numberIn cs (loopAt fs j) = sym (number-of (r .0) hi)
+          ∙ sym (getD-take j numbersOf (r .0) 0 i) ∙ r .2 ∙ number-of j hj in
           absurd (omega (arith, n .apart (r .0) j hi hj q))
 
 -- ---- a list that names a selection with its directions
@@ -257,7 +283,8 @@ module _ (d : Wire) (cs : List Loop) (c : Candidates d cs) where
       c .differ (numberIn cs f) k l h (sym (number-at cs f l) ∙ e)
 
   -- a candidate's ring has its number, either way round, and is not both
-  pub either-number : (k : ℕ) (f : List ℕ) → k < length cs → SameRing (loopAt cs k) f ⊎ SameRing (flipped (loopAt cs k)) f → numberIn cs f ≡ k
+  pub either-number : (k : ℕ) (f : List ℕ) → k < length cs → SameRing (loopAt cs k) f ⊎ SameRing (flipped (loopAt cs k)) f
+      → numberIn cs f ≡ k
   either-number k f h (inl s) = number-is f k h (on-normal (loopAt cs k) (c .normal k h) f s)
   either-number k f h (inr s) = number-is f k h (back-normal (loopAt cs k) (c .normal k h) f s)
 
@@ -266,14 +293,16 @@ module _ (d : Wire) (cs : List Loop) (c : Candidates d cs) where
 
   module _ (taken turned : List Bool) where
     -- the faces that are a candidate's ring in its direction are those of its number that are run so
-    pub ring-number : (k : ℕ) (f : List ℕ) → k < length cs → SameRing (directed d cs taken turned k) f → (numberIn cs f ≡ k) × (onward f ≡ not (dig turned k))
+    pub ring-number : (k : ℕ) (f : List ℕ) → k < length cs → SameRing (directed d cs taken turned k) f
+        → (numberIn cs f ≡ k) × (onward f ≡ not (dig turned k))
     ring-number k f h s = go (dig turned k) s
       where
         go : (b : Bool) → SameRing (cond b (flipped (loopAt cs k)) (loopAt cs k)) f → (numberIn cs f ≡ k) × (onward f ≡ not b)
         go true s = (number-is f k h (back-normal (loopAt cs k) (c .normal k h) f s), back-onward (loopAt cs k) (c .normal k h) f s)
         go false s = (number-is f k h (on-normal (loopAt cs k) (c .normal k h) f s), on-onward (loopAt cs k) (c .normal k h) f s)
 
-    pub number-ring : (k : ℕ) (f : List ℕ) → k < length cs → numberIn cs f ≡ k → onward f ≡ not (dig turned k) → SameRing (directed d cs taken turned k) f
+    pub number-ring : (k : ℕ) (f : List ℕ) → k < length cs → numberIn cs f ≡ k → onward f ≡ not (dig turned k)
+        → SameRing (directed d cs taken turned k) f
     number-ring k f h e o = go (dig turned k) o
       where
         form : normalForm f ≡ loopAt cs k
@@ -319,7 +348,8 @@ module _ (d : Wire) (cs : List Loop) (c : Candidates d cs) where
           by : (i j k : ℕ) → i < length fs → j < length fs → SameRing (directed d cs (takenOf cs fs) (turnedOf cs fs) k) (loopAt fs i)
               → SameRing (directed d cs (takenOf cs fs) (turnedOf cs fs) k) (loopAt fs j) → Dec (k < length cs) → i ≡ j
           by i j k hi hj s t (yes h) =
-              n .apart i j hi hj (ring-number (takenOf cs fs) (turnedOf cs fs) k (loopAt fs i) h s .0 ∙ sym (ring-number (takenOf cs fs) (turnedOf cs fs) k (loopAt fs j) h t .0))
+              n .apart i j hi hj (ring-number (takenOf cs fs) (turnedOf cs fs) k (loopAt fs i) h s .0
+              ∙ sym (ring-number (takenOf cs fs) (turnedOf cs fs) k (loopAt fs j) h t .0))
           by i j k hi hj s t (no h) = absurd empty
             where
               nothing : (b : Bool) (l : List ℕ) → l ≡ [] → length (cond b (flipped l) l) ≡ 0
@@ -329,9 +359,12 @@ module _ (d : Wire) (cs : List Loop) (c : Candidates d cs) where
               -- a face that has a number is no empty one
               empty : ⊥
               empty =
-                  let z : length (loopAt fs i) ≡ 0 = same-length s ∙ nothing (dig (turnedOf cs fs) k) (loopAt cs k) (List·getD-eq-default cs [] (omega arith)) in
+                  let z : length (loopAt fs i) ≡ 0 = same-length s
+                  ∙ nothing (dig (turnedOf cs fs) k) (loopAt cs k) (List·getD-eq-default cs [] (omega arith)) in
                   let u : length (loopAt fs i) ≡ length (directed d cs (takenOf cs fs) (turnedOf cs fs) (numberIn cs (loopAt fs i)))
-                  = same-length (number-ring (takenOf cs fs) (turnedOf cs fs) (numberIn cs (loopAt fs i)) (loopAt fs i) (n .known i hi) refl (way-of i hi)) in
+                  = same-length
+                  (number-ring (takenOf cs fs) (turnedOf cs fs) (numberIn cs (loopAt fs i)) (loopAt fs i) (n .known i hi) refl
+                  (way-of i hi)) in
                   let w = c .normal (numberIn cs (loopAt fs i)) (n .known i hi) .three in
                   omega (arith, size (dig (turnedOf cs fs) (numberIn cs (loopAt fs i))) (loopAt cs (numberIn cs (loopAt fs i))))
                 where
@@ -340,7 +373,8 @@ module _ (d : Wire) (cs : List Loop) (c : Candidates d cs) where
                   size false l = refl
 
     -- what names a selection is numbered, and its masks are the selection's
-    module _ (taken turned : List Bool) (some : length taken ≡ length cs) (within : (k : ℕ) → dig turned k ≡ true → dig taken k ≡ true) (n : Names d cs taken turned fs) where
+    module _ (taken turned : List Bool) (some : length taken ≡ length cs) (within : (k : ℕ) → dig turned k ≡ true → dig taken k ≡ true)
+        (n : Names d cs taken turned fs) where
       inside : (k : ℕ) → dig taken k ≡ true → k < length cs
       inside k e = go (decLt k (length cs))
         where
@@ -349,7 +383,8 @@ module _ (d : Wire) (cs : List Loop) (c : Candidates d cs) where
           go (no h) = never (sym e ∙ List·getD-eq-default taken false (omega arith))
 
       -- the number of face i is that of the face it is
-      number-each : (i : ℕ) → i < length fs → (k : ℕ) × (dig taken k ≡ true) × (numberIn cs (loopAt fs i) ≡ k) × (onward (loopAt fs i) ≡ not (dig turned k))
+      number-each : (i : ℕ) → i < length fs → (k : ℕ) × (dig taken k ≡ true) × (numberIn cs (loopAt fs i) ≡ k)
+          × (onward (loopAt fs i) ≡ not (dig turned k))
       number-each i h =
           let r = n .each i h in
           let q = ring-number taken turned (r .0) (loopAt fs i) (inside (r .0) (r .1)) (r .2) in
@@ -365,7 +400,8 @@ module _ (d : Wire) (cs : List Loop) (c : Candidates d cs) where
             let q = number-each j hj in
             let same : numberIn cs (loopAt fs j) ≡ p .0 = sym e ∙ p .2 in
             n .once i j (p .0) hi hj (r .2)
-            (number-ring taken turned (p .0) (loopAt fs j) (inside (p .0) (p .1)) same (q .3 ∙ ap (λ (k : ℕ). not (dig turned k)) (sym (q .2) ∙ same)));
+            (number-ring taken turned (p .0) (loopAt fs j) (inside (p .0) (p .1)) same
+            (q .3 ∙ ap (λ (k : ℕ). not (dig turned k)) (sym (q .2) ∙ same)));
       }
 
       pub names-taken : (k : ℕ) → dig (takenOf cs fs) k ≡ dig taken k

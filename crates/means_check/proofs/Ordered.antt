@@ -27,7 +27,8 @@ before-self [] h = h
 before-self (x ∷ a) (inl h) = absurd (omega arith)
 before-self (x ∷ a) (inr (e, h)) = before-self a h
 
-ascending-append : (k l : List Loop) → Ascending k → Ascending l → ((a b : Loop) → List·Memᴰ a k → List·Memᴰ b l → Before a b) → Ascending (k ++ l)
+ascending-append : (k l : List Loop) → Ascending k → Ascending l → ((a b : Loop) → List·Memᴰ a k → List·Memᴰ b l → Before a b)
+    → Ascending (k ++ l)
 unfolding Ascending
 ascending-append [] l h i f = i
 ascending-append (q ∷ k) l h i f = (
@@ -49,7 +50,8 @@ ascending-at (x ∷ l) a zero (suc j) h k = a .0 (loopAt l j) (loop-in l j (omeg
 ascending-at (x ∷ l) a (suc i) (suc j) h k = ascending-at l (a .1) i j (omega arith) (omega arith)
 
 module _ (n : ℕ) (linked : ℕ → ℕ → Bool) (flat : List ℕ → ℕ → Bool) where
-  module _ (deeper : List ℕ → List Loop) (asc : (r : List ℕ) → Ascending (deeper r)) (more : (r a : List ℕ) → List·Memᴰ a (deeper r) → (y : ℕ) × (t : List ℕ) × (a ≡ r ++ y ∷ t)) (p : List ℕ) where
+  module _ (deeper : List ℕ → List Loop) (asc : (r : List ℕ) → Ascending (deeper r)) (more : (r a : List ℕ) → List·Memᴰ a (deeper r)
+      → (y : ℕ) × (t : List ℕ) × (a ≡ r ++ y ∷ t)) (p : List ℕ) where
     -- what x brings begins with p and x
     brings-begin : (x : ℕ) (a : Loop) → Brings n linked flat deeper p x a → (t : List ℕ) × (a ≡ p ++ x ∷ t)
     brings-begin x a (inl (e, c)) = ([], e)
@@ -61,7 +63,8 @@ module _ (n : ℕ) (linked : ℕ → ℕ → Bool) (flat : List ℕ → ℕ → 
       where
         here : (c : Bool) → Ascending (cond c ((p ++ x ∷ []) ∷ deeper (p ++ x ∷ [])) (deeper (p ++ x ∷ [])))
         here true = (
-          λ b m. let s = more (p ++ x ∷ []) b m in subst (λ (r : List ℕ). Before (p ++ x ∷ []) r) (sym (s .2)) (before-more (p ++ x ∷ []) (s .0) (s .1)),
+          λ b m. let s = more (p ++ x ∷ []) b m in
+              subst (λ (r : List ℕ). Before (p ++ x ∷ []) r) (sym (s .2)) (before-more (p ++ x ∷ []) (s .0) (s .1)),
           asc (p ++ x ∷ []),
         )
         here false = asc (p ++ x ∷ [])
@@ -74,12 +77,14 @@ module _ (n : ℕ) (linked : ℕ → ℕ → Bool) (flat : List ℕ → ℕ → 
     unfolding scan Ascending
     ascending-scan v zero = tt
     ascending-scan v (suc k) =
-        ascending-append (branch n linked flat (follows n linked flat p v) deeper (p ++ v ∷ [])) (scan n linked flat deeper p (suc v) k) (ascending-branch v) (ascending-scan (suc v) k)
+        ascending-append (branch n linked flat (follows n linked flat p v) deeper (p ++ v ∷ [])) (scan n linked flat deeper p (suc v) k)
+        (ascending-branch v) (ascending-scan (suc v) k)
         (λ a b m w.
         let s = brings-begin v a (branch-in n linked flat deeper p a v m .1) in
         let u = scan-in n linked flat deeper p b (suc v) k w in
         let z = brings-begin (u .0) b (u .4) in
-        subst (λ (r : List ℕ). Before r b) (sym (s .1)) (subst (λ (r : List ℕ). Before (p ++ v ∷ s .0) r) (sym (z .1)) (before-at p v (u .0) (s .0) (z .0) (u .1))))
+        subst (λ (r : List ℕ). Before r b) (sym (s .1))
+        (subst (λ (r : List ℕ). Before (p ++ v ∷ s .0) r) (sym (z .1)) (before-at p v (u .0) (s .0) (z .0) (u .1))))
 
   ascending-ext : (d : ℕ) (p : List ℕ) (v : ℕ) → Ascending (ext n linked flat d p v)
   unfolding ext Ascending Found

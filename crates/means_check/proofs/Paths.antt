@@ -56,10 +56,12 @@ wrap-is n j = go (decLt j n)
     go (yes h) = inl (h, wrap-low n j h)
     go (no h) = inr (omega arith, wrap-high n j (omega arith))
 
-split-at : (u w : List ℕ) (i : ℕ) → i < length w + length u → getD (w ++ u) i 0 ≡ getD (u ++ w) (wrap (length w + length u) (length u + i)) 0
+split-at : (u w : List ℕ) (i : ℕ) → i < length w + length u
+    → getD (w ++ u) i 0 ≡ getD (u ++ w) (wrap (length w + length u) (length u + i)) 0
 split-at u w i h = go (wrap-is (length w + length u) (length u + i))
   where
-    go : ((length u + i < length w + length u) × (wrap (length w + length u) (length u + i) ≡ length u + i)) ⊎ ((length w + length u ≤ length u + i) × (wrap (length w + length u) (length u + i) ≡ length u + i - (length w + length u)))
+    go : ((length u + i < length w + length u) × (wrap (length w + length u) (length u + i) ≡ length u + i))
+        ⊎ ((length w + length u ≤ length u + i) × (wrap (length w + length u) (length u + i) ≡ length u + i - (length w + length u)))
         → getD (w ++ u) i 0 ≡ getD (u ++ w) (wrap (length w + length u) (length u + i)) 0
     go (inl (p, e)) = List·getD-append w u 0 i (omega arith) ∙ sym (ap (λ (m : ℕ). getD (u ++ w) m 0) e ∙ getD-append-add u w i 0)
     go (inr (p, e)) =
@@ -71,9 +73,12 @@ split-at u w i h = go (wrap-is (length w + length u) (length u + i))
 wrap-step : (n k i : ℕ) → k ≤ n → i < n → wrap n (k + wrap n (suc i)) ≡ wrap n (suc (wrap n (k + i)))
 wrap-step n k i hk hi = go (wrap-is n (suc i)) (wrap-is n (k + i)) (wrap-is n (k + wrap n (suc i))) (wrap-is n (suc (wrap n (k + i))))
   where
-    go : ((suc i < n) × (wrap n (suc i) ≡ suc i)) ⊎ ((n ≤ suc i) × (wrap n (suc i) ≡ suc i - n)) → ((k + i < n) × (wrap n (k + i) ≡ k + i)) ⊎ ((n ≤ k + i) × (wrap n (k + i) ≡ k + i - n))
-        → ((k + wrap n (suc i) < n) × (wrap n (k + wrap n (suc i)) ≡ k + wrap n (suc i))) ⊎ ((n ≤ k + wrap n (suc i)) × (wrap n (k + wrap n (suc i)) ≡ k + wrap n (suc i) - n))
-        → ((suc (wrap n (k + i)) < n) × (wrap n (suc (wrap n (k + i))) ≡ suc (wrap n (k + i)))) ⊎ ((n ≤ suc (wrap n (k + i))) × (wrap n (suc (wrap n (k + i))) ≡ suc (wrap n (k + i)) - n))
+    go : ((suc i < n) × (wrap n (suc i) ≡ suc i)) ⊎ ((n ≤ suc i) × (wrap n (suc i) ≡ suc i - n)) → ((k + i < n) × (wrap n (k + i) ≡ k + i))
+        ⊎ ((n ≤ k + i) × (wrap n (k + i) ≡ k + i - n))
+        → ((k + wrap n (suc i) < n) × (wrap n (k + wrap n (suc i)) ≡ k + wrap n (suc i)))
+        ⊎ ((n ≤ k + wrap n (suc i)) × (wrap n (k + wrap n (suc i)) ≡ k + wrap n (suc i) - n))
+        → ((suc (wrap n (k + i)) < n) × (wrap n (suc (wrap n (k + i))) ≡ suc (wrap n (k + i))))
+        ⊎ ((n ≤ suc (wrap n (k + i))) × (wrap n (suc (wrap n (k + i))) ≡ suc (wrap n (k + i)) - n))
         → wrap n (k + wrap n (suc i)) ≡ wrap n (suc (wrap n (k + i)))
     go (inl (a, a′)) (inl (b, b′)) (inl (c, c′)) (inl (e, e′)) = omega arith
     go (inl (a, a′)) (inl (b, b′)) (inl (c, c′)) (inr (e, e′)) = omega arith
@@ -110,7 +115,9 @@ turned : {f g : List ℕ} → SameRing f g → Turned f g
 turned {f} {g} s = let p = parts s in go f g (p .front) (p .back) (p .before) (p .after)
   where
     go : (f g u w : List ℕ) → f ≡ u ++ w → g ≡ w ++ u → Turned f g
-    go f g u w e q = subst (λ (x : List ℕ). Turned x g) (sym e) (subst (λ (y : List ℕ). Turned (u ++ w) y) (sym q) (by (length-append u w) (length-append w u)))
+    go f g u w e q =
+        subst (λ (x : List ℕ). Turned x g) (sym e)
+        (subst (λ (y : List ℕ). Turned (u ++ w) y) (sym q) (by (length-append u w) (length-append w u)))
       where
         by : length (u ++ w) ≡ length u + length w → length (w ++ u) ≡ length w + length u → Turned (u ++ w) (w ++ u)
         by l m = record {
@@ -118,10 +125,12 @@ turned {f} {g} s = let p = parts s in go f g (p .front) (p .back) (p .before) (p
           low = λ i h. let z = wrap-below (length w + length u) (length u + i) (omega arith) in omega arith;
           same = λ i h. split-at u w i (omega arith);
           next = λ i h.
-              let a : wrap (length w + length u) (length u + wrap (length w + length u) (suc i)) ≡ wrap (length w + length u) (suc (wrap (length w + length u) (length u + i)))
+              let a : wrap (length w + length u) (length u + wrap (length w + length u) (suc i)) ≡ wrap (length w + length u)
+              (suc (wrap (length w + length u) (length u + i)))
               = wrap-step (length w + length u) (length u) i (omega arith) (omega arith) in
               let n : length (u ++ w) ≡ length w + length u = omega arith in
-              ap (λ (x : ℕ). wrap (length w + length u) (length u + wrap x (suc i))) m ∙ a ∙ ap (λ (x : ℕ). wrap x (suc (wrap (length w + length u) (length u + i)))) (sym n);
+              ap (λ (x : ℕ). wrap (length w + length u) (length u + wrap x (suc i))) m ∙ a
+              ∙ ap (λ (x : ℕ). wrap x (suc (wrap (length w + length u) (length u + i)))) (sym n);
         }
 
 goes-from : {f g : List ℕ} → SameRing f g → (a b : ℕ) → Goes g a b → Goes f a b
@@ -133,8 +142,12 @@ goes-from {f} {g} s a b h =
     record {
       at = t .to (h .at);
       here = l;
-      from = h .from ∙ around-at g (h .at) ∙ ap (λ (i : ℕ). getD g i 0) w ∙ t .same (h .at) (h .here) ∙ sym (around-at f (t .to (h .at)) ∙ ap (λ (i : ℕ). getD f i 0) (wrap-low (length f) (t .to (h .at)) l));
-      to = h .to ∙ around-at g (suc (h .at)) ∙ t .same (wrap (length g) (suc (h .at))) m ∙ ap (λ (i : ℕ). getD f i 0) (t .next (h .at) (h .here)) ∙ sym (around-at f (suc (t .to (h .at))));
+      from =
+          h .from ∙ around-at g (h .at) ∙ ap (λ (i : ℕ). getD g i 0) w ∙ t .same (h .at) (h .here)
+          ∙ sym (around-at f (t .to (h .at)) ∙ ap (λ (i : ℕ). getD f i 0) (wrap-low (length f) (t .to (h .at)) l));
+      to =
+          h .to ∙ around-at g (suc (h .at)) ∙ t .same (wrap (length g) (suc (h .at))) m
+          ∙ ap (λ (i : ℕ). getD f i 0) (t .next (h .at) (h .here)) ∙ sym (around-at f (suc (t .to (h .at))));
     }
 
 -- a corner of the reverse is a corner
@@ -155,10 +168,13 @@ goes-back f a b two h = go (h .at) (h .here) (h .from) (h .to)
     after : (i : ℕ) → i < length f → around (flipped f) (suc i) 0 ≡ getD f (length f - suc i) 0
     after i l = around-at (flipped f) (suc i) ∙ by (wrap-next (length (flipped f)) i (omega (arith, n)))
       where
-        by : ((suc i < length (flipped f)) × (wrap (length (flipped f)) (suc i) ≡ suc i)) ⊎ ((suc i ≡ length (flipped f)) × (wrap (length (flipped f)) (suc i) ≡ 0))
+        by : ((suc i < length (flipped f)) × (wrap (length (flipped f)) (suc i) ≡ suc i))
+            ⊎ ((suc i ≡ length (flipped f)) × (wrap (length (flipped f)) (suc i) ≡ 0))
             → getD (flipped f) (wrap (length (flipped f)) (suc i)) 0 ≡ getD f (length f - suc i) 0
         by (inl (p, e)) = ap (λ (j : ℕ). getD (flipped f) j 0) e ∙ flip-at f (suc i) (omega arith) (omega (arith, n))
-        by (inr (p, e)) = let z : length f - suc i ≡ 0 = omega (arith, n) in ap (λ (j : ℕ). getD (flipped f) j 0) e ∙ flip-first f ∙ sym (ap (λ (j : ℕ). getD f j 0) z)
+        by (inr (p, e)) =
+            let z : length f - suc i ≡ 0 = omega (arith, n) in
+            ap (λ (j : ℕ). getD (flipped f) j 0) e ∙ flip-first f ∙ sym (ap (λ (j : ℕ). getD f j 0) z)
 
     here : (i : ℕ) → i < length f → around (flipped f) i 0 ≡ around f (suc (length f - suc i)) 0
     here zero l =
@@ -167,8 +183,10 @@ goes-back f a b two h = go (h .at) (h .here) (h .from) (h .to)
         around-at (flipped f) 0 ∙ ap (λ (j : ℕ). getD (flipped f) j 0) (wrap-low (length (flipped f)) 0 (omega (arith, n))) ∙ flip-first f
         ∙ sym (around-at f (suc (length f - 1)) ∙ ap (λ (j : ℕ). getD f j 0) w)
     here (suc i) l =
-        let w : wrap (length f) (suc (length f - suc (suc i))) ≡ length f - suc i = wrap-low (length f) (suc (length f - suc (suc i))) (omega arith) ∙ omega arith in
-        around-at (flipped f) (suc i) ∙ ap (λ (j : ℕ). getD (flipped f) j 0) (wrap-low (length (flipped f)) (suc i) (omega (arith, n))) ∙ flip-at f (suc i) (omega arith) l
+        let w : wrap (length f) (suc (length f - suc (suc i))) ≡ length f - suc i = wrap-low (length f) (suc (length f - suc (suc i)))
+        (omega arith) ∙ omega arith in
+        around-at (flipped f) (suc i) ∙ ap (λ (j : ℕ). getD (flipped f) j 0) (wrap-low (length (flipped f)) (suc i) (omega (arith, n)))
+        ∙ flip-at f (suc i) (omega arith) l
         ∙ sym (around-at f (suc (length f - suc (suc i))) ∙ ap (λ (j : ℕ). getD f j 0) w)
 
     go : (i : ℕ) → i < length (flipped f) → a ≡ around (flipped f) i 0 → b ≡ around (flipped f) (suc i) 0 → Goes f b a
@@ -178,13 +196,15 @@ goes-back f a b two h = go (h .at) (h .here) (h .from) (h .to)
         record {
           at = length f - suc i;
           here = m;
-          from = q ∙ after i l′ ∙ sym (around-at f (length f - suc i) ∙ ap (λ (j : ℕ). getD f j 0) (wrap-low (length f) (length f - suc i) m));
+          from =
+              q ∙ after i l′ ∙ sym (around-at f (length f - suc i) ∙ ap (λ (j : ℕ). getD f j 0) (wrap-low (length f) (length f - suc i) m));
           to = p ∙ here i l′;
         }
 
 -- ---- a closed path from another start, and the other way round
 
-plane-from : (d : Wire) (f g : List ℕ) → ((i : ℕ) → i < length g → (j : ℕ) × (j < length f) × (getD g i 0 ≡ getD f j 0)) → InPlane (polygon d f) → InPlane (polygon d g)
+plane-from : (d : Wire) (f g : List ℕ) → ((i : ℕ) → i < length g → (j : ℕ) × (j < length f) × (getD g i 0 ≡ getD f j 0))
+    → InPlane (polygon d f) → InPlane (polygon d g)
 unfolding polygon
 plane-from d f g w y = record {
   across = y .across;
@@ -193,7 +213,8 @@ plane-from d f g w y = record {
   every = λ i h.
       let l : i < length g = omega (arith, length-map g (at d)) in
       let r = w i l in
-      ap (dot (y .across)) (map-at (at d) g i 0 origin l ∙ ap (at d) (r .2) ∙ sym (map-at (at d) f (r .0) 0 origin (r .1))) ∙ y .every (r .0) (omega (arith, r .1, length-map f (at d)));
+      ap (dot (y .across)) (map-at (at d) g i 0 origin l ∙ ap (at d) (r .2) ∙ sym (map-at (at d) f (r .0) 0 origin (r .1)))
+      ∙ y .every (r .0) (omega (arith, r .1, length-map f (at d)));
 }
 
 module _ (d : Wire) where
@@ -219,11 +240,16 @@ module _ (d : Wire) where
       go : (i j : ℕ) → i < length (flipped f) → j < length (flipped f) → getD (flipped f) i 0 ≡ getD (flipped f) j 0 → i ≡ j
       go zero zero hi hj p = refl
       go zero (suc j) hi hj p =
-          let q = e 0 (length f - suc j) (omega (arith, n)) (omega (arith, n)) (sym (flip-first f) ∙ p ∙ flip-at f (suc j) (omega arith) (omega (arith, n))) in absurd (omega (arith, n))
+          let q = e 0 (length f - suc j) (omega (arith, n)) (omega (arith, n))
+          (sym (flip-first f) ∙ p ∙ flip-at f (suc j) (omega arith) (omega (arith, n))) in
+          absurd (omega (arith, n))
       go (suc i) zero hi hj p =
-          let q = e (length f - suc i) 0 (omega (arith, n)) (omega (arith, n)) (sym (flip-at f (suc i) (omega arith) (omega (arith, n))) ∙ p ∙ flip-first f) in absurd (omega (arith, n))
+          let q = e (length f - suc i) 0 (omega (arith, n)) (omega (arith, n)) (sym (flip-at f (suc i) (omega arith) (omega (arith, n))) ∙ p
+          ∙ flip-first f) in
+          absurd (omega (arith, n))
       go (suc i) (suc j) hi hj p =
-          let q = e (length f - suc i) (length f - suc j) (omega (arith, n)) (omega (arith, n)) (sym (flip-at f (suc i) (omega arith) (omega (arith, n))) ∙ p ∙ flip-at f (suc j) (omega arith) (omega (arith, n))) in
+          let q = e (length f - suc i) (length f - suc j) (omega (arith, n)) (omega (arith, n))
+          (sym (flip-at f (suc i) (omega arith) (omega (arith, n))) ∙ p ∙ flip-at f (suc j) (omega arith) (omega (arith, n))) in
           omega (arith, n)
 
   pub path-flip : (f : List ℕ) → ClosedPath d f → ClosedPath d (flipped f)
@@ -253,7 +279,10 @@ module _ (d : Wire) where
     at = length q - 1;
     here = omega arith;
     from = sym (around-at q (length q - 1) ∙ ap (λ (j : ℕ). getD q j 0) (wrap-low (length q) (length q - 1) (omega arith)));
-    to = sym (around-at q (suc (length q - 1)) ∙ ap (λ (j : ℕ). getD q j 0) (wrap-high (length q) (suc (length q - 1)) (omega arith) ∙ omega arith));
+    to =
+        sym
+        (around-at q (suc (length q - 1))
+        ∙ ap (λ (j : ℕ). getD q j 0) (wrap-high (length q) (suc (length q - 1)) (omega arith) ∙ omega arith));
   }
 
   module _ (e : samePlace d ≡ none) where
@@ -264,7 +293,8 @@ module _ (d : Wire) where
     path-level (a ∷ (b ∷ t)) c (suc zero) h l = first-level d a b
     path-level (a ∷ (b ∷ t)) c (suc (suc i)) h l =
         plane-level d a b t
-        (places-differ d e a b (c .inside 0 (omega arith)) (c .inside 1 (omega arith)) (λ z. absurd (omega (arith, c .different 0 1 (omega arith) (omega arith) z))))
+        (places-differ d e a b (c .inside 0 (omega arith)) (c .inside 1 (omega arith))
+        (λ z. absurd (omega (arith, c .different 0 1 (omega arith) (omega arith) z))))
         (c .plane) i (omega arith)
 
     path-loop : (q : Loop) → ClosedPath d q → LowFirst q → getD q 1 0 < getD q (length q - 1) 0 → IsLoop d q
@@ -274,7 +304,9 @@ module _ (d : Wire) where
       inside = c .inside;
       different = c .different;
       edges = λ i h. edge-joined d (getD q i 0) (getD q (suc i) 0) (c .along (getD q i 0) (getD q (suc i) 0) (goes-next q i h));
-      closed = edge-joined d (getD q (length q - 1) 0) (getD q 0 0) (c .along (getD q (length q - 1) 0) (getD q 0 0) (goes-last q (let z = c .three in omega arith)));
+      closed =
+          edge-joined d (getD q (length q - 1) 0) (getD q 0 0)
+          (c .along (getD q (length q - 1) 0) (getD q 0 0) (goes-last q (let z = c .three in omega arith)));
       lowest = low;
       direction = dir;
       plane = path-level q c;
@@ -291,8 +323,10 @@ module _ (d : Wire) where
         low : LowFirst (fromLowest c)
         low = low-first c (p .different)
 
-        go : (b : Bool) → ltb (getD (fromLowest c) 1 0) (getD (fromLowest c) (length (fromLowest c) - 1) 0) ≡ b → IsLoop d (cond b (fromLowest c) (flipped (fromLowest c)))
-        go true q = path-loop (fromLowest c) pr low (ltb-true (getD (fromLowest c) 1 0) (getD (fromLowest c) (length (fromLowest c) - 1) 0) q)
+        go : (b : Bool) → ltb (getD (fromLowest c) 1 0) (getD (fromLowest c) (length (fromLowest c) - 1) 0) ≡ b
+            → IsLoop d (cond b (fromLowest c) (flipped (fromLowest c)))
+        go true q =
+            path-loop (fromLowest c) pr low (ltb-true (getD (fromLowest c) 1 0) (getD (fromLowest c) (length (fromLowest c) - 1) 0) q)
         go false q =
             let n = flip-length (fromLowest c) in
             let t = pr .three in
@@ -300,9 +334,11 @@ module _ (d : Wire) where
             let y : length (fromLowest c) - (length (fromLowest c) - 1) ≡ 1 = omega arith in
             let a = flip-at (fromLowest c) 1 (omega arith) (omega arith) in
             let b : getD (flipped (fromLowest c)) (length (flipped (fromLowest c)) - 1) 0 ≡ getD (fromLowest c) 1 0
-            = ap (λ (i : ℕ). getD (flipped (fromLowest c)) i 0) z ∙ flip-at (fromLowest c) (length (fromLowest c) - 1) (omega arith) (omega arith) ∙ ap (λ (i : ℕ). getD (fromLowest c) i 0) y in
+            = ap (λ (i : ℕ). getD (flipped (fromLowest c)) i 0) z
+            ∙ flip-at (fromLowest c) (length (fromLowest c) - 1) (omega arith) (omega arith) ∙ ap (λ (i : ℕ). getD (fromLowest c) i 0) y in
             let f = ltb-false (getD (fromLowest c) 1 0) (getD (fromLowest c) (length (fromLowest c) - 1) 0) q in
-            let ne : getD (fromLowest c) 1 0 ≡ getD (fromLowest c) (length (fromLowest c) - 1) 0 → ⊥ = λ w. absurd (omega (arith, pr .different 1 (length (fromLowest c) - 1) (omega arith) (omega arith) w)) in
+            let ne : getD (fromLowest c) 1 0 ≡ getD (fromLowest c) (length (fromLowest c) - 1) 0
+            → ⊥ = λ w. absurd (omega (arith, pr .different 1 (length (fromLowest c) - 1) (omega arith) (omega arith) w)) in
             path-loop (flipped (fromLowest c)) (path-flip (fromLowest c) pr) (flip-low (fromLowest c) low) (omega arith)
 
     pub loop-path : (q : Loop) → IsLoop d q → ClosedPath d q
@@ -315,7 +351,8 @@ module _ (d : Wire) where
       plane = loop-plane d e q l;
     }
       where
-        go : (a b : ℕ) (g : Goes q a b) → ((suc (g .at) < length q) × (wrap (length q) (suc (g .at)) ≡ suc (g .at))) ⊎ ((suc (g .at) ≡ length q) × (wrap (length q) (suc (g .at)) ≡ 0)) → EdgeOf d a b
+        go : (a b : ℕ) (g : Goes q a b) → ((suc (g .at) < length q) × (wrap (length q) (suc (g .at)) ≡ suc (g .at)))
+            ⊎ ((suc (g .at) ≡ length q) × (wrap (length q) (suc (g .at)) ≡ 0)) → EdgeOf d a b
         go a b g w = joined-edge d a b (by w)
           where
             pa : a ≡ getD q (g .at) 0
@@ -324,15 +361,19 @@ module _ (d : Wire) where
             pb : b ≡ getD q (wrap (length q) (suc (g .at))) 0
             pb = g .to ∙ around-at q (suc (g .at))
 
-            by : ((suc (g .at) < length q) × (wrap (length q) (suc (g .at)) ≡ suc (g .at))) ⊎ ((suc (g .at) ≡ length q) × (wrap (length q) (suc (g .at)) ≡ 0)) → joined d a b ≡ true
+            by : ((suc (g .at) < length q) × (wrap (length q) (suc (g .at)) ≡ suc (g .at)))
+                ⊎ ((suc (g .at) ≡ length q) × (wrap (length q) (suc (g .at)) ≡ 0)) → joined d a b ≡ true
             by (inl (u, v)) = ap₂ (joined d) pa (pb ∙ ap (λ (i : ℕ). getD q i 0) v) ∙ l .edges (g .at) u
             by (inr (u, v)) =
                 let z : g .at ≡ length q - 1 = omega arith in
                 ap₂ (joined d) (pa ∙ ap (λ (i : ℕ). getD q i 0) z) (pb ∙ ap (λ (i : ℕ). getD q i 0) v) ∙ l .closed
 
     -- every closed path is listed: by one loop, which it is from some start and in some direction
-    pub path-listed : (c : Loop) → ClosedPath d c → (i : ℕ) × (i < length (loops d)) × (SameRing (loopAt (loops d) i) c ⊎ SameRing (flipped (loopAt (loops d) i)) c)
-    path-listed c p = let r = loops-all d (normalForm c) (normal-loop c p) in (r .0, r .1, go (loopAt (loops d) (r .0)) (r .2) (onward c) refl)
+    pub path-listed : (c : Loop) → ClosedPath d c
+        → (i : ℕ) × (i < length (loops d)) × (SameRing (loopAt (loops d) i) c ⊎ SameRing (flipped (loopAt (loops d) i)) c)
+    path-listed c p =
+        let r = loops-all d (normalForm c) (normal-loop c p) in
+        (r .0, r .1, go (loopAt (loops d) (r .0)) (r .2) (onward c) refl)
       where
         go : (q : Loop) → q ≡ normalForm c → (b : Bool) → onward c ≡ b → SameRing q c ⊎ SameRing (flipped q) c
         go q w true o = inl (subst (λ (l : Loop). SameRing l c) (sym w) (normal-on c o))

@@ -36,7 +36,8 @@ pub in-one-line : (n m y : Point) → (n ≡ origin → ⊥) → cross n m ≡ o
 in-one-line n m y h e z =
     mul-zero (dot n n) (dot m y) (self-ne n h)
     (vring (num (dot n n) ∷ vec m ∷ vec y ∷ []) (x 0 *s (v 1 · v 2)) (v 2 · (x 0 *v v 1)) tt ∙ ap (dot y) (in-line n m e)
-    ∙ vring (num (dot n m) ∷ vec n ∷ vec y ∷ []) (v 2 · (x 0 *v v 1)) (x 0 *s (v 1 · v 2)) tt ∙ ap (λ (a : ℤ). dot n m *ℤ a) z ∙ *ℤ-zero (dot n m))
+    ∙ vring (num (dot n m) ∷ vec n ∷ vec y ∷ []) (v 2 · (x 0 *v v 1)) (x 0 *s (v 1 · v 2)) tt ∙ ap (λ (a : ℤ). dot n m *ℤ a) z
+    ∙ *ℤ-zero (dot n m))
 
 record Upright (p : Point) : Type 0 where
   to : Point
@@ -58,7 +59,9 @@ upright p = go (isZero (p .x)) refl
     go true e = record {
       to = pt (pos 1) (pos 0) (pos 0);
       real = λ h. one-not (ap (λ (q : Point). q .x) h);
-      right = vring (num (p .x) ∷ num (p .y) ∷ num (p .z) ∷ []) (k (pos 1) *s x 0 +s k (pos 0) *s x 1 +s k (pos 0) *s x 2) (x 0) tt ∙ zero-yes (p .x) e;
+      right =
+          vring (num (p .x) ∷ num (p .y) ∷ num (p .z) ∷ []) (k (pos 1) *s x 0 +s k (pos 0) *s x 1 +s k (pos 0) *s x 2) (x 0) tt
+          ∙ zero-yes (p .x) e;
     }
     go false e = record {
       to = pt (negℤ (p .y)) (p .x) (pos 0);
@@ -101,9 +104,11 @@ module _ (s b : Point) where
 
   found : (minus b s ≡ origin → ⊥) → (ws : List Point) → Level origin ws → Found ws
   found ne [] l = let u = upright (minus b s) in record { n = u .to; real = u .real; right = u .right; flat = tt }
-  found ne (w ∷ ws) l = go (isOrigin (cross (minus b s) (minus w s))) refl (subst (λ (m : Point). Level m ws) (begins w) (l .1)) (found ne ws)
+  found ne (w ∷ ws) l =
+      go (isOrigin (cross (minus b s) (minus w s))) refl (subst (λ (m : Point). Level m ws) (begins w) (l .1)) (found ne ws)
     where
-      go : (t : Bool) → isOrigin (cross (minus b s) (minus w s)) ≡ t → Level (cross (minus b s) (minus w s)) ws → (Level origin ws → Found ws) → Found (w ∷ ws)
+      go : (t : Bool) → isOrigin (cross (minus b s) (minus w s)) ≡ t → Level (cross (minus b s) (minus w s)) ws
+          → (Level origin ws → Found ws) → Found (w ∷ ws)
       go true e h f =
           let z = origin-yes (cross (minus b s) (minus w s)) e in
           let r = f (subst (λ (m : Point). Level m ws) z h) in
@@ -111,13 +116,20 @@ module _ (s b : Point) where
             n = r .n;
             real = r .real;
             right = r .right;
-            flat = (dot-comm (r .n) (minus w s) ∙ in-one-line (minus b s) (minus w s) (r .n) ne z (dot-comm (minus b s) (r .n) ∙ r .right), r .flat);
+            flat = (
+              dot-comm (r .n) (minus w s) ∙ in-one-line (minus b s) (minus w s) (r .n) ne z (dot-comm (minus b s) (r .n) ∙ r .right),
+              r .flat,
+            );
           }
       go false e h f = record {
         n = cross (minus b s) (minus w s);
         real = origin-no e;
         right = vring (vec (minus b s) ∷ vec (minus w s) ∷ []) ((v 0 ×v v 1) · v 0) (k (pos 0)) tt;
-        flat = (vring (vec (minus b s) ∷ vec (minus w s) ∷ []) ((v 0 ×v v 1) · v 1) (k (pos 0)) tt, fixed (cross (minus b s) (minus w s)) e ws h);
+        flat = (
+          vring (vec (minus b s) ∷ vec (minus w s) ∷ []) ((v 0 ×v v 1) · v 1) (k (pos 0)) tt,
+          fixed (cross (minus b s) (minus w s)) e ws
+              h,
+        );
       }
 
   flat-by : (n m : Point) → (n ≡ origin → ⊥) → cross n m ≡ origin → (ws : List Point) → Flat n ws → Flat m ws
@@ -137,16 +149,19 @@ module _ (s b : Point) where
           fixed-back (cross (minus b s) (minus w s)) e ws
           (flat-by n (cross (minus b s) (minus w s)) h
           (vring (vec n ∷ vec (minus b s) ∷ vec (minus w s) ∷ []) (v 0 ×v (v 1 ×v v 2)) ((v 0 · v 2) *v v 1 -v (v 0 · v 1) *v v 2) tt
-          ∙ (λ i. minus (times (f .0 i) (minus b s)) (times (z i) (minus w s))) ∙ vring (vec (minus b s) ∷ vec (minus w s) ∷ []) (k (pos 0) *v v 0 -v k (pos 0) *v v 1) o tt)
+          ∙ (λ i. minus (times (f .0 i) (minus b s)) (times (z i) (minus w s)))
+          ∙ vring (vec (minus b s) ∷ vec (minus w s) ∷ []) (k (pos 0) *v v 0 -v k (pos 0) *v v 1) o tt)
           ws (f .1))
 
   -- by the places of the rest
-  level-from : (n : Point) (ws : List Point) → ((j : ℕ) → j < length ws → dot (tilted s b n (take j ws)) (minus (getD ws j origin) s) ≡ pos 0) → Level n ws
+  level-from : (n : Point) (ws : List Point)
+      → ((j : ℕ) → j < length ws → dot (tilted s b n (take j ws)) (minus (getD ws j origin) s) ≡ pos 0) → Level n ws
   unfolding tilted
   level-from n [] f = tt
   level-from n (w ∷ ws) f = (f 0 (omega arith), level-from (tilt s b n w) ws (λ j h. f (suc j) (omega arith)))
 
-  level-at : (n : Point) (ws : List Point) → Level n ws → (j : ℕ) → j < length ws → dot (tilted s b n (take j ws)) (minus (getD ws j origin) s) ≡ pos 0
+  level-at : (n : Point) (ws : List Point) → Level n ws → (j : ℕ) → j < length ws
+      → dot (tilted s b n (take j ws)) (minus (getD ws j origin) s) ≡ pos 0
   unfolding tilted
   level-at n [] l j h = absurd (omega arith)
   level-at n (w ∷ ws) l zero h = l .0
@@ -171,44 +186,57 @@ module _ (s b : Point) where
 
   -- from directions to heights
   level-of : (n p : Point) → dot n (minus p s) ≡ pos 0 → dot n p ≡ dot n s
-  level-of n p e = vring (vec n ∷ vec p ∷ vec s ∷ []) (v 0 · v 1) ((v 0 · (v 1 -v v 2)) +s (v 0 · v 2)) tt ∙ ap (λ (z : ℤ). z +ℤ dot n s) e ∙ vring (num (dot n s) ∷ []) (k (pos 0) +s x 0) (x 0) tt
+  level-of n p e =
+      vring (vec n ∷ vec p ∷ vec s ∷ []) (v 0 · v 1) ((v 0 · (v 1 -v v 2)) +s (v 0 · v 2)) tt ∙ ap (λ (z : ℤ). z +ℤ dot n s) e
+      ∙ vring (num (dot n s) ∷ []) (k (pos 0) +s x 0) (x 0) tt
 
   of-level : (n p : Point) → dot n p ≡ dot n s → dot n (minus p s) ≡ pos 0
-  of-level n p e = vring (vec n ∷ vec p ∷ vec s ∷ []) (v 0 · (v 1 -v v 2)) ((v 0 · v 1) -s (v 0 · v 2)) tt ∙ ap (λ (z : ℤ). z -ℤ dot n s) e ∙ vring (num (dot n s) ∷ []) (x 0 -s x 0) (k (pos 0)) tt
+  of-level n p e =
+      vring (vec n ∷ vec p ∷ vec s ∷ []) (v 0 · (v 1 -v v 2)) ((v 0 · v 1) -s (v 0 · v 2)) tt ∙ ap (λ (z : ℤ). z -ℤ dot n s) e
+      ∙ vring (num (dot n s) ∷ []) (x 0 -s x 0) (k (pos 0)) tt
 
 -- ---- a path of a drawing
 
 module _ (d : Wire) (a b : ℕ) (t : List ℕ) (ne : at d a ≡ at d b → ⊥) where
-  across-at : (j : ℕ) → j < length t → (level d (take (suc (suc j)) (a ∷ b ∷ t)) (getD t j 0) ≡ isZero (dot (tilted (at d a) (at d b) origin (take j (map (at d) t))) (minus (getD (map (at d) t) j origin) (at d a))))
+  across-at : (j : ℕ) → j < length t
+      → (level d (take (suc (suc j)) (a ∷ b ∷ t)) (getD t j 0) ≡ isZero
+      (dot (tilted (at d a) (at d b) origin (take j (map (at d) t))) (minus (getD (map (at d) t) j origin) (at d a))))
   unfolding level across
   across-at j h =
-      ap₂ (λ (n p : Point). isZero (dot n (minus p (at d a)))) (start-tilt (at d a) (at d b) (map (at d) (take j t)) ∙ ap (tilted (at d a) (at d b) origin) (map-take j t)) (sym (map-at (at d) t j 0 origin h))
+      ap₂ (λ (n p : Point). isZero (dot n (minus p (at d a)))) (start-tilt (at d a) (at d b) (map (at d) (take j t))
+      ∙ ap (tilted (at d a) (at d b) origin) (map-take j t)) (sym (map-at (at d) t j 0 origin h))
     where
       map-take : (j : ℕ) (l : List ℕ) → map (at d) (take j l) ≡ take j (map (at d) l)
       map-take zero l = refl
       map-take (suc j) [] = refl
       map-take (suc j) (u ∷ l) = ap (λ (r : List Point). at d u ∷ r) (map-take j l)
 
-  pub level-plane : ((j : ℕ) → j < length t → level d (take (suc (suc j)) (a ∷ b ∷ t)) (getD t j 0) ≡ true) → InPlane (polygon d (a ∷ b ∷ t))
+  pub level-plane : ((j : ℕ) → j < length t → level d (take (suc (suc j)) (a ∷ b ∷ t)) (getD t j 0) ≡ true)
+      → InPlane (polygon d (a ∷ b ∷ t))
   unfolding polygon
   level-plane f =
       let l = level-from (at d a) (at d b) origin (map (at d) t) (λ j h.
       let h′ : j < length t = omega (arith, length-map t (at d)) in
-      zero-yes (dot (tilted (at d a) (at d b) origin (take j (map (at d) t))) (minus (getD (map (at d) t) j origin) (at d a))) (sym (across-at j h′) ∙ f j h′)) in
+      zero-yes (dot (tilted (at d a) (at d b) origin (take j (map (at d) t))) (minus (getD (map (at d) t) j origin) (at d a)))
+      (sym (across-at j h′) ∙ f j h′)) in
       let w = found (at d a) (at d b) (differ ne) (map (at d) t) l in
       record { across = w .n; height = dot (w .n) (at d a); real = w .real; every = λ i h. go w i h }
     where
-      go : (w : Found (at d a) (at d b) (map (at d) t)) (i : ℕ) → i < length (map (at d) (a ∷ b ∷ t)) → dot (w .n) (getD (map (at d) (a ∷ b ∷ t)) i origin) ≡ dot (w .n) (at d a)
+      go : (w : Found (at d a) (at d b) (map (at d) t)) (i : ℕ) → i < length (map (at d) (a ∷ b ∷ t))
+          → dot (w .n) (getD (map (at d) (a ∷ b ∷ t)) i origin) ≡ dot (w .n) (at d a)
       go w zero h = refl
       go w (suc zero) h = level-of (at d a) (at d b) (w .n) (at d b) (w .right)
-      go w (suc (suc i)) h = level-of (at d a) (at d b) (w .n) (getD (map (at d) t) i origin) (flat-at (at d a) (at d b) (w .n) (map (at d) t) (w .flat) i (omega arith))
+      go w (suc (suc i)) h =
+          level-of (at d a) (at d b) (w .n) (getD (map (at d) t) i origin)
+          (flat-at (at d a) (at d b) (w .n) (map (at d) t) (w .flat) i (omega arith))
 
   pub plane-level : InPlane (polygon d (a ∷ b ∷ t)) → (j : ℕ) → j < length t → level d (take (suc (suc j)) (a ∷ b ∷ t)) (getD t j 0) ≡ true
   unfolding polygon
   plane-level y j h =
       let s : dot (y .across) (at d a) ≡ y .height = y .every 0 (omega arith) in
       let z = of-level (at d a) (at d b) (y .across) (at d b) (y .every 1 (omega arith) ∙ sym s) in
-      let f = flat-from (at d a) (at d b) (y .across) (map (at d) t) (λ i k. of-level (at d a) (at d b) (y .across) (getD (map (at d) t) i origin) (y .every (suc (suc i)) (omega arith) ∙ sym s)) in
+      let f = flat-from (at d a) (at d b) (y .across) (map (at d) t)
+      (λ i k. of-level (at d a) (at d b) (y .across) (getD (map (at d) t) i origin) (y .every (suc (suc i)) (omega arith) ∙ sym s)) in
       let l = passes (at d a) (at d b) (y .across) (y .real) z (map (at d) t) f in
       across-at j h ∙ zero-is (level-at (at d a) (at d b) origin (map (at d) t) l j (omega (arith, length-map t (at d))))
 
@@ -216,18 +244,22 @@ module _ (d : Wire) (a b : ℕ) (t : List ℕ) (ne : at d a ≡ at d b → ⊥) 
 pub first-level : (d : Wire) (a b : ℕ) → level d (a ∷ []) b ≡ true
 unfolding level across tilted
 first-level d a b =
-    zero-is (ap (λ (n : Point). dot n (minus (at d b) (at d a))) (begins (at d a) (at d 0) (at d a) ∙ vring (vec (at d a) ∷ vec (at d 0) ∷ []) ((v 1 -v v 0) ×v (v 0 -v v 0)) o tt)
+    zero-is
+    (ap (λ (n : Point). dot n (minus (at d b) (at d a)))
+    (begins (at d a) (at d 0) (at d a) ∙ vring (vec (at d a) ∷ vec (at d 0) ∷ []) ((v 1 -v v 0) ×v (v 0 -v v 0)) o tt)
     ∙ vring (vec (minus (at d b) (at d a)) ∷ []) (o · v 0) (k (pos 0)) tt)
 
 -- ---- 11: no two vertices are at one point
 
-pub places-differ : (d : Wire) → samePlace d ≡ none → (u w : ℕ) → u < length (d .vertices) → w < length (d .vertices) → (u ≡ w → ⊥) → at d u ≡ at d w → ⊥
+pub places-differ : (d : Wire) → samePlace d ≡ none → (u w : ℕ) → u < length (d .vertices) → w < length (d .vertices) → (u ≡ w → ⊥)
+    → at d u ≡ at d w → ⊥
 unfolding samePlace samePoint
 places-differ d e u w hu hw n q =
     true≢false
     (sym (some-is (λ v. not (eqb u v) && samePoint (at d u) (at d v)) (length (d .vertices)) w hw
     (and-both (ap not (ne-eqb u w n)) (origin-is (ap (λ (p : Point). minus p (at d w)) q ∙ vring (vec (at d w) ∷ []) (v 0 -v v 0) o tt))))
-    ∙ lowest-none (λ u. any (λ v. not (eqb u v) && samePoint (at d u) (at d v)) (upto (length (d .vertices)))) (length (d .vertices)) e u hu)
+    ∙ lowest-none (λ u. any (λ v. not (eqb u v) && samePoint (at d u) (at d v)) (upto (length (d .vertices)))) (length (d .vertices)) e u
+    hu)
 
 -- a loop lies in one plane
 pub loop-plane : (d : Wire) → samePlace d ≡ none → (q : Loop) → IsLoop d q → InPlane (polygon d q)
@@ -238,5 +270,6 @@ loop-plane d e q l = go q l
     go (a ∷ []) l = absurd (let z = l .three in omega arith)
     go (a ∷ (b ∷ t)) l =
         level-plane d a b t
-        (places-differ d e a b (l .inside 0 (omega arith)) (l .inside 1 (omega arith)) (λ z. absurd (omega (arith, l .different 0 1 (omega arith) (omega arith) z))))
+        (places-differ d e a b (l .inside 0 (omega arith)) (l .inside 1 (omega arith))
+        (λ z. absurd (omega (arith, l .different 0 1 (omega arith) (omega arith) z))))
         (λ j h. l .plane (suc (suc j)) (omega arith) (omega arith))

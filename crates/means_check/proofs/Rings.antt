@@ -48,7 +48,10 @@ split (y ∷ b) a (x ∷ c) e q h =
     (r .0, (let v : b ≡ c ++ r .0 = r .1 in cc), r .2)
 
 pub same-trans : {f g h : List ℕ} → SameRing f g → SameRing g h → SameRing f h
-same-trans {f} {g} {h} s t = let p = parts s in let q = parts t in go (p .front) (p .back) (q .front) (q .back) (p .before) (sym (p .after) ∙ q .before) (q .after)
+same-trans {f} {g} {h} s t =
+    let p = parts s in
+    let q = parts t in
+    go (p .front) (p .back) (q .front) (q .back) (p .before) (sym (p .after) ∙ q .before) (q .after)
   where
     go : (a b c e : List ℕ) → f ≡ a ++ b → b ++ a ≡ c ++ e → h ≡ e ++ c → SameRing f h
     go a b c e p q r = by (decLt (length b) (length c))
@@ -109,11 +112,13 @@ flip-at (x ∷ t) (suc i) h k =
 flip-split : (x y : ℕ) (a b : List ℕ) → flipped ((x ∷ a) ++ y ∷ b) ≡ (x ∷ reverse b) ++ y ∷ reverse a
 unfolding flipped
 flip-split x y a b =
-    ap (λ (r : List ℕ). x ∷ r) (reverse-append a (y ∷ b) ∙ ap (λ (r : List ℕ). r ++ reverse a) (reverse-cons y b) ∙ append-assoc (reverse b) (y ∷ []) (reverse a))
+    ap (λ (r : List ℕ). x ∷ r) (reverse-append a (y ∷ b) ∙ ap (λ (r : List ℕ). r ++ reverse a) (reverse-cons y b)
+    ∙ append-assoc (reverse b) (y ∷ []) (reverse a))
 
 flip-parts : (a b : List ℕ) → SameRing (flipped (a ++ b)) (flipped (b ++ a))
 flip-parts [] b = subst (λ (r : List ℕ). SameRing (flipped b) (flipped r)) (sym (append-nil b)) (same-refl (flipped b))
-flip-parts (x ∷ a) [] = subst (λ (r : List ℕ). SameRing (flipped r) (flipped (x ∷ a))) (sym (append-nil (x ∷ a))) (same-refl (flipped (x ∷ a)))
+flip-parts (x ∷ a) [] =
+    subst (λ (r : List ℕ). SameRing (flipped r) (flipped (x ∷ a))) (sym (append-nil (x ∷ a))) (same-refl (flipped (x ∷ a)))
 flip-parts (x ∷ a) (y ∷ b) =
     same-parts (record { front = x ∷ reverse b; back = y ∷ reverse a; before = flip-split x y a b; after = flip-split y x b a })
 
@@ -121,4 +126,6 @@ pub flip-same : {f g : List ℕ} → SameRing f g → SameRing (flipped f) (flip
 flip-same {f} {g} s = let p = parts s in go (p .front) (p .back) (p .before) (p .after)
   where
     go : (a b : List ℕ) → f ≡ a ++ b → g ≡ b ++ a → SameRing (flipped f) (flipped g)
-    go a b p q = subst (λ (x : List ℕ). SameRing (flipped x) (flipped g)) (sym p) (subst (λ (y : List ℕ). SameRing (flipped (a ++ b)) (flipped y)) (sym q) (flip-parts a b))
+    go a b p q =
+        subst (λ (x : List ℕ). SameRing (flipped x) (flipped g)) (sym p)
+        (subst (λ (y : List ℕ). SameRing (flipped (a ++ b)) (flipped y)) (sym q) (flip-parts a b))

@@ -26,10 +26,15 @@ use Rattle.paper.specs.Solids.{runs, runsUp, has, faceSix, clashing, tablesOf, 
 use Rattle.paper.specs.Verdict.{edgeCount, direction, pieces, inward, clashes}
 use Rattle.means_check.specs.Shape.{Candidates}
 use Rattle.means_solid.specs.Solid.{Goes, Runs, Has, InTwo, Way, stay, cross, RunOnce, EachWay, share, sixOf}
+use Rattle.means_solid.proofs.Goes.{runs-goes, goes-runs, has-nil, up-nil, runs-nil, dig-map, ahead-one, back-one}
 use Rattle.means_check.proofs.Numbered.{none-lowest}
-use Rattle.means_check.proofs.Counts.{one-of, of-one, Two, two-of, of-two, dig-unlike}
-use Rattle.means_check.proofs.Goings.{runs-goes, goes-runs, has-cases, cases-has, has-is, up-is, has-nil, up-nil, runs-nil, dig-map, one-way}
-use Rattle.means_check.proofs.Reaching.{In, On, in-place, place-in, AllTwo, spread-ways, whole-first, whole-edge}
+use Rattle.means_check.proofs.Counts.{one-of, of-one, Two, two-of, of-two}
+use Rattle.means_check.proofs.Goings.{has-cases, cases-has, has-is, up-is}
+use Rattle.means_check.proofs.Goings.{one-way}
+use Rattle.means_leaf.specs.Meaning as Meaning
+use Rattle.means_leaf.specs.Meaning.{In, On}
+use Rattle.means_leaf.proofs.Spread.{in-place, place-in, spread-ways, whole-first, whole-edge}
+use Rattle.means_leaf.proofs.Unlike.{dig-unlike}
 
 -- ---- the tables
 
@@ -65,7 +70,8 @@ module _ (d : Wire) (cs : List Loop) where
     on-has (edge a b) k p =
         let q : (dig (map (has (edge a b)) cs) k && dig taken k) ≡ true = sym (dig-both (map (has (edge a b)) cs) taken k) ∙ p in (
           and-right (dig (map (has (edge a b)) cs) k) (dig taken k) q,
-          has-cases a b (loopAt cs k) (sym (dig-map (has (edge a b)) (has-nil (edge a b)) cs k) ∙ and-left (dig (map (has (edge a b)) cs) k) (dig taken k) q),
+          has-cases a b (loopAt cs k) (sym (dig-map (has (edge a b)) (has-nil (edge a b)) cs k)
+              ∙ and-left (dig (map (has (edge a b)) cs) k) (dig taken k) q),
         )
 
     has-on : (e : Edge) (k : ℕ) → dig taken k ≡ true → Has d cs taken turned k e → dig (both (map (has e) cs) taken) k ≡ true
@@ -100,10 +106,13 @@ module _ (d : Wire) (cs : List Loop) where
     pub edges-two : edgeCount (tablesOf d cs) taken ≡ none → (e : ℕ) → e < length (d .edges) → InTwo d cs taken turned (edgeAt d e)
     unfolding edgeCount
     edges-two p e h =
-        let q = lowest-none (λ e. not (inTwo (getD (tablesOf d cs .masks) e []) taken)) (length (tablesOf d cs .masks)) p e (omega (arith, rows-length)) in
-        two-in (edgeAt d e) (ap (λ (r : List Bool). inTwo r taken) (sym (rows-at e h)) ∙ not-false (inTwo (getD (tablesOf d cs .masks) e []) taken) q)
+        let q = lowest-none (λ e. not (inTwo (getD (tablesOf d cs .masks) e []) taken)) (length (tablesOf d cs .masks)) p e
+        (omega (arith, rows-length)) in
+        two-in (edgeAt d e) (ap (λ (r : List Bool). inTwo r taken) (sym (rows-at e h))
+        ∙ not-false (inTwo (getD (tablesOf d cs .masks) e []) taken) q)
 
-    two-edges-at : ((e : ℕ) → e < length (d .edges) → InTwo d cs taken turned (edgeAt d e)) → (e : ℕ) → e < length (d .edges) → inTwo (getD (tablesOf d cs .masks) e []) taken ≡ true
+    two-edges-at : ((e : ℕ) → e < length (d .edges) → InTwo d cs taken turned (edgeAt d e)) → (e : ℕ) → e < length (d .edges)
+        → inTwo (getD (tablesOf d cs .masks) e []) taken ≡ true
     two-edges-at f e h = ap (λ (r : List Bool). inTwo r taken) (rows-at e h) ∙ in-two (edgeAt d e) (f e h)
 
     pub two-edges : ((e : ℕ) → e < length (d .edges) → InTwo d cs taken turned (edgeAt d e)) → edgeCount (tablesOf d cs) taken ≡ none
@@ -113,20 +122,24 @@ module _ (d : Wire) (cs : List Loop) where
 
     -- ---- (iii)
 
-    run-face : (a b k : ℕ) → (dig taken k && cond (dig turned k) (runs b a (loopAt cs k)) (runs a b (loopAt cs k))) ≡ true → (dig taken k ≡ true) × Runs d cs taken turned k a b
+    run-face : (a b k : ℕ) → (dig taken k && cond (dig turned k) (runs b a (loopAt cs k)) (runs a b (loopAt cs k))) ≡ true
+        → (dig taken k ≡ true) × Runs d cs taken turned k a b
     run-face a b k p = (
       and-left (dig taken k) (cond (dig turned k) (runs b a (loopAt cs k)) (runs a b (loopAt cs k))) p,
       go (dig turned k) (and-right (dig taken k) (cond (dig turned k) (runs b a (loopAt cs k)) (runs a b (loopAt cs k))) p),
     )
       where
-        go : (t : Bool) → cond t (runs b a (loopAt cs k)) (runs a b (loopAt cs k)) ≡ true → cond t (Goes (loopAt cs k) b a) (Goes (loopAt cs k) a b)
+        go : (t : Bool) → cond t (runs b a (loopAt cs k)) (runs a b (loopAt cs k)) ≡ true
+            → cond t (Goes (loopAt cs k) b a) (Goes (loopAt cs k) a b)
         go true q = runs-goes b a (loopAt cs k) q
         go false q = runs-goes a b (loopAt cs k) q
 
-    face-run : (a b k : ℕ) → dig taken k ≡ true → Runs d cs taken turned k a b → (dig taken k && cond (dig turned k) (runs b a (loopAt cs k)) (runs a b (loopAt cs k))) ≡ true
+    face-run : (a b k : ℕ) → dig taken k ≡ true → Runs d cs taken turned k a b
+        → (dig taken k && cond (dig turned k) (runs b a (loopAt cs k)) (runs a b (loopAt cs k))) ≡ true
     face-run a b k f r = and-both f (go (dig turned k) r)
       where
-        go : (t : Bool) → cond t (Goes (loopAt cs k) b a) (Goes (loopAt cs k) a b) → cond t (runs b a (loopAt cs k)) (runs a b (loopAt cs k)) ≡ true
+        go : (t : Bool) → cond t (Goes (loopAt cs k) b a) (Goes (loopAt cs k) a b)
+            → cond t (runs b a (loopAt cs k)) (runs a b (loopAt cs k)) ≡ true
         go true q = goes-runs b a (loopAt cs k) q
         go false q = goes-runs a b (loopAt cs k) q
 
@@ -142,39 +155,12 @@ module _ (d : Wire) (cs : List Loop) where
 
     once-count : (a b : ℕ) (mask : List Bool) → RowOf a b mask → RunOnce d cs taken turned a b → count mask ≡ 1
     once-count a b mask h r =
-        of-one mask (record { by = r .by; set = h (r .by) ∙ face-run a b (r .by) (r .face) (r .runs); only = λ k f. let g = run-face a b k (sym (h k) ∙ f) in r .only k (g .0) (g .1) })
-
-ahead-one : (r q t taken : Bool) → (r ≡ true → q ≡ true → ⊥) → (((r || q) && taken) && xor r t) ≡ (taken && cond t q r)
-unfolding xor
-ahead-one true true t taken n = absurd (n refl refl)
-ahead-one true false true true n = refl
-ahead-one true false true false n = refl
-ahead-one true false false true n = refl
-ahead-one true false false false n = refl
-ahead-one false true true true n = refl
-ahead-one false true true false n = refl
-ahead-one false true false true n = refl
-ahead-one false true false false n = refl
-ahead-one false false true true n = refl
-ahead-one false false true false n = refl
-ahead-one false false false true n = refl
-ahead-one false false false false n = refl
-
-back-one : (r q t taken : Bool) → (r ≡ true → q ≡ true → ⊥) → (((r || q) && taken) && not (xor r t)) ≡ (taken && cond t r q)
-unfolding xor
-back-one true true t taken n = absurd (n refl refl)
-back-one true false true true n = refl
-back-one true false true false n = refl
-back-one true false false true n = refl
-back-one true false false false n = refl
-back-one false true true true n = refl
-back-one false true true false n = refl
-back-one false true false true n = refl
-back-one false true false false n = refl
-back-one false false true true n = refl
-back-one false false true false n = refl
-back-one false false false true n = refl
-back-one false false false false n = refl
+        of-one mask
+        (record {
+          by = r .by;
+          set = h (r .by) ∙ face-run a b (r .by) (r .face) (r .runs);
+          only = λ k f. let g = run-face a b k (sym (h k) ∙ f) in r .only k (g .0) (g .1);
+        })
 
 module _ (d : Wire) (cs : List Loop) (c : Candidates d cs) (taken turned : List Bool) where
   module _ (a b : ℕ) where
@@ -182,7 +168,9 @@ module _ (d : Wire) (cs : List Loop) (c : Candidates d cs) (taken turned : List 
     never-both k e f = go (decLt k (length cs))
       where
         go : Dec (k < length cs) → ⊥
-        go (yes h) = one-way a b (loopAt cs k) (c .normal k h .three) (c .normal k h .different) (runs-goes a b (loopAt cs k) e) (runs-goes b a (loopAt cs k) f)
+        go (yes h) =
+            one-way a b (loopAt cs k) (c .normal k h .three) (c .normal k h .different) (runs-goes a b (loopAt cs k) e)
+            (runs-goes b a (loopAt cs k) f)
         go (no h) = never (sym e ∙ ap (runs a b) (List·getD-eq-default cs [] (omega arith)) ∙ runs-nil a b)
 
     abbrev mine : List Bool
@@ -211,32 +199,41 @@ module _ (d : Wire) (cs : List Loop) (c : Candidates d cs) (taken turned : List 
   unfolding onceEachWay
   once-ways (edge a b) p = (
     count-once d cs taken turned a b (both (mine a b) (ahead a b)) (ahead-dig a b)
-        (eqb-true (count (both (mine a b) (ahead a b))) 1 (and-left (eqb (count (both (mine a b) (ahead a b))) 1) (eqb (count (less (mine a b) (ahead a b))) 1) p)),
+        (eqb-true (count (both (mine a b) (ahead a b))) 1
+        (and-left (eqb (count (both (mine a b) (ahead a b))) 1) (eqb (count (less (mine a b) (ahead a b))) 1) p)),
     count-once d cs taken turned b a (less (mine a b) (ahead a b)) (back-dig a b)
-        (eqb-true (count (less (mine a b) (ahead a b))) 1 (and-right (eqb (count (both (mine a b) (ahead a b))) 1) (eqb (count (less (mine a b) (ahead a b))) 1) p)),
+        (eqb-true (count (less (mine a b) (ahead a b))) 1
+        (and-right (eqb (count (both (mine a b) (ahead a b))) 1) (eqb (count (less (mine a b) (ahead a b))) 1) p)),
   )
 
   ways-once : (e : Edge) → EachWay d cs taken turned e → onceEachWay (map (has e) cs) (map (runsUp e) cs) taken turned ≡ true
   unfolding onceEachWay
   ways-once (edge a b) w = and-both
-      (eq-eqb (count (both (mine a b) (ahead a b))) 1 (once-count d cs taken turned a b (both (mine a b) (ahead a b)) (ahead-dig a b) (w .0)))
-      (eq-eqb (count (less (mine a b) (ahead a b))) 1 (once-count d cs taken turned b a (less (mine a b) (ahead a b)) (back-dig a b) (w .1)))
+      (eq-eqb (count (both (mine a b) (ahead a b))) 1
+      (once-count d cs taken turned a b (both (mine a b) (ahead a b)) (ahead-dig a b) (w .0)))
+      (eq-eqb (count (less (mine a b) (ahead a b))) 1
+      (once-count d cs taken turned b a (less (mine a b) (ahead a b)) (back-dig a b) (w .1)))
 
   pub edges-ways : direction (tablesOf d cs) taken turned ≡ none → (e : ℕ) → e < length (d .edges) → EachWay d cs taken turned (edgeAt d e)
   unfolding direction
   edges-ways p e h =
-      let q = lowest-none (λ e. not (onceEachWay (getD (tablesOf d cs .masks) e []) (getD (tablesOf d cs .ups) e []) taken turned)) (length (tablesOf d cs .masks)) p e (omega (arith, rows-length d cs)) in
+      let q = lowest-none (λ e. not (onceEachWay (getD (tablesOf d cs .masks) e []) (getD (tablesOf d cs .ups) e []) taken turned))
+      (length (tablesOf d cs .masks)) p e (omega (arith, rows-length d cs)) in
       once-ways (edgeAt d e)
       (ap₂ (λ (r u : List Bool). onceEachWay r u taken turned) (sym (rows-at d cs e h)) (sym (ups-at d cs e h))
       ∙ not-false (onceEachWay (getD (tablesOf d cs .masks) e []) (getD (tablesOf d cs .ups) e []) taken turned) q)
 
   ways-at : ((e : ℕ) → e < length (d .edges) → EachWay d cs taken turned (edgeAt d e)) → (e : ℕ) → e < length (d .edges)
       → onceEachWay (getD (tablesOf d cs .masks) e []) (getD (tablesOf d cs .ups) e []) taken turned ≡ true
-  ways-at f e h = ap₂ (λ (r u : List Bool). onceEachWay r u taken turned) (rows-at d cs e h) (ups-at d cs e h) ∙ ways-once (edgeAt d e) (f e h)
+  ways-at f e h =
+      ap₂ (λ (r u : List Bool). onceEachWay r u taken turned) (rows-at d cs e h) (ups-at d cs e h) ∙ ways-once (edgeAt d e) (f e h)
 
-  pub ways-edges : ((e : ℕ) → e < length (d .edges) → EachWay d cs taken turned (edgeAt d e)) → direction (tablesOf d cs) taken turned ≡ none
+  pub ways-edges : ((e : ℕ) → e < length (d .edges) → EachWay d cs taken turned (edgeAt d e))
+      → direction (tablesOf d cs) taken turned ≡ none
   unfolding direction
-  ways-edges f = none-lowest (λ e. not (onceEachWay (getD (tablesOf d cs .masks) e []) (getD (tablesOf d cs .ups) e []) taken turned)) (length (tablesOf d cs .masks))
+  ways-edges f =
+      none-lowest (λ e. not (onceEachWay (getD (tablesOf d cs .masks) e []) (getD (tablesOf d cs .ups) e []) taken turned))
+      (length (tablesOf d cs .masks))
       (λ e h. ap not (ways-at f e (omega (arith, rows-length d cs))))
 
 -- ---- (ii)
@@ -262,19 +259,23 @@ module _ (d : Wire) (cs : List Loop) (taken turned : List Bool) where
     same : length (tablesOf d cs .masks) ≡ length (tablesOf d cs .ups)
     same = rows-length d cs ∙ sym (ups-length d cs)
 
-    all-two : AllTwo (tablesOf d cs .masks) taken
+    all-two : Meaning.InTwo (tablesOf d cs .masks) taken
     unfolding inTwo
     all-two mask i =
         let r = in-place mask (tablesOf d cs .masks) i in
         ap (λ (x : List Bool). count (both x taken)) (sym (r .2))
-        ∙ eqb-true (count (both (getD (tablesOf d cs .masks) (r .0) []) taken)) 2 (two-edges-at d cs taken turned two (r .0) (omega (arith, r .1, rows-length d cs)))
+        ∙ eqb-true (count (both (getD (tablesOf d cs .masks) (r .0) []) taken)) 2
+        (two-edges-at d cs taken turned two (r .0) (omega (arith, r .1, rows-length d cs)))
 
     pub reach-way : (k : ℕ) → dig (facesFrom f (tablesOf d cs) taken .reached) k ≡ true → Way d cs taken turned f k
     unfolding facesFrom
-    reach-way = spread-ways (tablesOf d cs .masks) taken (Way d cs taken turned f) step (count taken) (tablesOf d cs .ups) (record { reached = only f; turned = [] })
+    reach-way =
+        spread-ways (tablesOf d cs .masks) taken (Way d cs taken turned f) step (count taken) (tablesOf d cs .ups)
+        (record { reached = only f; turned = [] })
         (λ k p. subst (Way d cs taken turned f) (sym (dig-only f k p)) (stay here))
       where
-        step : (mask : List Bool) → In mask (tablesOf d cs .masks) → (g h : ℕ) → On mask taken g → On mask taken h → Way d cs taken turned f g → Way d cs taken turned f h
+        step : (mask : List Bool) → In mask (tablesOf d cs .masks) → (g h : ℕ) → On mask taken g → On mask taken h
+            → Way d cs taken turned f g → Way d cs taken turned f h
         step mask i g h p q w =
             let r = in-place mask (tablesOf d cs .masks) i in
             let l : r .0 < length (d .edges) = omega (arith, r .1, rows-length d cs) in
@@ -298,19 +299,23 @@ module _ (d : Wire) (cs : List Loop) (taken turned : List Bool) where
     pub there : (k : ℕ) → dig taken k ≡ true → (i : ℕ) × (i < length ks) × (getD ks i 0 ≡ k)
 
   module _ (two : (e : ℕ) → e < length (d .edges) → InTwo d cs taken turned (edgeAt d e)) (ks : List ℕ) (l : Lists ks) where
-    pub pieces-ways : pieces (tablesOf d cs) ks taken ≡ none → (j k : ℕ) → dig taken j ≡ true → dig taken k ≡ true → Way d cs taken turned j k
+    pub pieces-ways : pieces (tablesOf d cs) ks taken ≡ none → (j k : ℕ) → dig taken j ≡ true → dig taken k ≡ true
+        → Way d cs taken turned j k
     unfolding pieces
     pieces-ways p j k hj hk =
         let from : (m : ℕ) → dig taken m ≡ true → Way d cs taken turned (getD ks 0 0) m
         = λ m hm.
         let r = l .there m hm in
         let h : 0 < length ks = let z = r .1 in omega arith in
-        let q = lowest-none (λ i. not (getD (facesFrom (getD ks 0 0) (tablesOf d cs) taken .reached) (getD ks i 0) false)) (length ks) p (r .0) (r .1) in
+        let q = lowest-none (λ i. not (getD (facesFrom (getD ks 0 0) (tablesOf d cs) taken .reached) (getD ks i 0) false)) (length ks) p
+        (r .0) (r .1) in
         let w = not-false (dig (facesFrom (getD ks 0 0) (tablesOf d cs) taken .reached) (getD ks (r .0) 0)) q in
-        reach-way two (getD ks 0 0) (l .each 0 h) m (subst (λ (x : ℕ). dig (facesFrom (getD ks 0 0) (tablesOf d cs) taken .reached) x ≡ true) (r .2) w) in
+        reach-way two (getD ks 0 0) (l .each 0 h) m
+        (subst (λ (x : ℕ). dig (facesFrom (getD ks 0 0) (tablesOf d cs) taken .reached) x ≡ true) (r .2) w) in
         way-on (way-back (from j hj)) (from k hk)
 
-    pub ways-pieces : ((j k : ℕ) → dig taken j ≡ true → dig taken k ≡ true → Way d cs taken turned j k) → pieces (tablesOf d cs) ks taken ≡ none
+    pub ways-pieces : ((j k : ℕ) → dig taken j ≡ true → dig taken k ≡ true → Way d cs taken turned j k)
+        → pieces (tablesOf d cs) ks taken ≡ none
     unfolding pieces
     ways-pieces w = none-lowest (λ i. not (getD (facesFrom (getD ks 0 0) (tablesOf d cs) taken .reached) (getD ks i 0) false)) (length ks)
         (λ i h.
@@ -343,7 +348,9 @@ module _ (d : Wire) (cs : List Loop) (taken turned : List Bool) where
 
   pub inward-six : inward (tablesOf d cs) taken turned ≡ none → (six : ℕ) × (sixOf d cs taken turned 0 cs ≡ pos six) × (0 < six)
   unfolding inward
-  inward-six p = let r = above-yes (sixFrom 0 (tablesOf d cs .sixes) taken turned) (go (above (sixFrom 0 (tablesOf d cs .sixes) taken turned)) p) in (r .0, sym six-is ∙ r .1, r .2)
+  inward-six p =
+      let r = above-yes (sixFrom 0 (tablesOf d cs .sixes) taken turned) (go (above (sixFrom 0 (tablesOf d cs .sixes) taken turned)) p) in
+      (r .0, sym six-is ∙ r .1, r .2)
     where
       go : (b : Bool) → offends (not b) 0 ≡ none → b ≡ true
       go true e = refl
@@ -366,47 +373,60 @@ module _ (d : Wire) (cs : List Loop) (taken turned : List Bool) where
         go (yes h) = h
         go (no h) = never (sym e ∙ List·getD-eq-default taken false (omega arith))
 
-    clashing-is : (j k : ℕ) → j < length cs → k < length cs → (j ≡ k → ⊥) → clashing (map (polygon d) cs) j k ≡ clash (polygon d (loopAt cs j)) (polygon d (loopAt cs k))
+    clashing-is : (j k : ℕ) → j < length cs → k < length cs → (j ≡ k → ⊥)
+        → clashing (map (polygon d) cs) j k ≡ clash (polygon d (loopAt cs j)) (polygon d (loopAt cs k))
     unfolding clashing
     clashing-is j k hj hk n = go (decLt j k)
       where
-        go : Dec (j < k) → cond (ltb j k) (clash (getD (map (polygon d) cs) j []) (getD (map (polygon d) cs) k [])) (ltb k j && clash (getD (map (polygon d) cs) k []) (getD (map (polygon d) cs) j []))
+        go : Dec (j < k) → cond (ltb j k) (clash (getD (map (polygon d) cs) j []) (getD (map (polygon d) cs) k []))
+            (ltb k j && clash (getD (map (polygon d) cs) k []) (getD (map (polygon d) cs) j []))
             ≡ clash (polygon d (loopAt cs j)) (polygon d (loopAt cs k))
         go (yes h) = rw (lt-ltb j k h) (ap₂ clash (polygon-at j hj) (polygon-at k hk))
-        go (no h) = rw (le-ltb j k (omega arith), lt-ltb k j (omega arith)) (ap₂ clash (polygon-at k hk) (polygon-at j hj) ∙ c .even k j hk hj)
+        go (no h) =
+            rw (le-ltb j k (omega arith), lt-ltb k j (omega arith)) (ap₂ clash (polygon-at k hk) (polygon-at j hj) ∙ c .even k j hk hj)
 
     clashing-self : (j : ℕ) → clashing (map (polygon d) cs) j j ≡ false
     unfolding clashing
     clashing-self j = let z : j ≤ j = omega arith in rw (le-ltb j j z)
 
     row-dig : (j k : ℕ) → j < length cs → k < length cs → dig (getD (tablesOf d cs .clashes) j []) k ≡ clashing (map (polygon d) cs) j k
-    row-dig j k hj hk = ap (λ (r : List Bool). dig r k) (clashes-at d cs j hj) ∙ made-at (clashing (map (polygon d) cs) j) (length cs) k false hk
+    row-dig j k hj hk =
+        ap (λ (r : List Bool). dig r k) (clashes-at d cs j hj) ∙ made-at (clashing (map (polygon d) cs) j) (length cs) k false hk
 
     module _ (ks : List ℕ) (l : Lists ks) where
-      pub clashes-none : clashes (tablesOf d cs) ks taken ≡ none → (j k : ℕ) → dig taken j ≡ true → dig taken k ≡ true → (j ≡ k → ⊥) → clash (polygon d (loopAt cs j)) (polygon d (loopAt cs k)) ≡ false
+      pub clashes-none : clashes (tablesOf d cs) ks taken ≡ none → (j k : ℕ) → dig taken j ≡ true → dig taken k ≡ true → (j ≡ k → ⊥)
+          → clash (polygon d (loopAt cs j)) (polygon d (loopAt cs k)) ≡ false
       unfolding clashes
       clashes-none p j k hj hk n = sym (clashing-is j k (inside j hj) (inside k hk) n) ∙ go (clashing (map (polygon d) cs) j k) refl
         where
           off : (dig (both (getD (tablesOf d cs .clashes) j []) taken) k ≡ true) → ⊥
           off =
               let r = l .there j hj in
-              let q = lowest-none (λ i. not (eqb (count (both (getD (tablesOf d cs .clashes) (getD ks i 0) []) taken)) 0)) (length ks) p (r .0) (r .1) in
-              let w = eqb-true (count (both (getD (tablesOf d cs .clashes) (getD ks (r .0) 0) []) taken)) 0 (not-false (eqb (count (both (getD (tablesOf d cs .clashes) (getD ks (r .0) 0) []) taken)) 0) q) in
-              count-none (both (getD (tablesOf d cs .clashes) j []) taken) (subst (λ (x : ℕ). count (both (getD (tablesOf d cs .clashes) x []) taken) ≡ 0) (r .2) w) k
+              let q = lowest-none (λ i. not (eqb (count (both (getD (tablesOf d cs .clashes) (getD ks i 0) []) taken)) 0)) (length ks) p
+              (r .0) (r .1) in
+              let w = eqb-true (count (both (getD (tablesOf d cs .clashes) (getD ks (r .0) 0) []) taken)) 0
+              (not-false (eqb (count (both (getD (tablesOf d cs .clashes) (getD ks (r .0) 0) []) taken)) 0) q) in
+              count-none (both (getD (tablesOf d cs .clashes) j []) taken)
+              (subst (λ (x : ℕ). count (both (getD (tablesOf d cs .clashes) x []) taken) ≡ 0) (r .2) w) k
 
           go : (b : Bool) → clashing (map (polygon d) cs) j k ≡ b → b ≡ false
           go false e = refl
-          go true e = absurd (off (dig-both (getD (tablesOf d cs .clashes) j []) taken k ∙ and-both (row-dig j k (inside j hj) (inside k hk) ∙ e) hk))
+          go true e =
+              absurd
+              (off (dig-both (getD (tablesOf d cs .clashes) j []) taken k ∙ and-both (row-dig j k (inside j hj) (inside k hk) ∙ e) hk))
 
-      pub none-clashes : ((j k : ℕ) → dig taken j ≡ true → dig taken k ≡ true → (j ≡ k → ⊥) → clash (polygon d (loopAt cs j)) (polygon d (loopAt cs k)) ≡ false) → clashes (tablesOf d cs) ks taken ≡ none
+      pub none-clashes : ((j k : ℕ) → dig taken j ≡ true → dig taken k ≡ true → (j ≡ k → ⊥)
+          → clash (polygon d (loopAt cs j)) (polygon d (loopAt cs k)) ≡ false) → clashes (tablesOf d cs) ks taken ≡ none
       unfolding clashes
       none-clashes f = none-lowest (λ i. not (eqb (count (both (getD (tablesOf d cs .clashes) (getD ks i 0) []) taken)) 0)) (length ks)
           (λ i h. ap not (eq-eqb (count (both (getD (tablesOf d cs .clashes) (getD ks i 0) []) taken)) 0
           (count-empty (both (getD (tablesOf d cs .clashes) (getD ks i 0) []) taken) (λ k q.
-          let b : (dig (getD (tablesOf d cs .clashes) (getD ks i 0) []) k && dig taken k) ≡ true = sym (dig-both (getD (tablesOf d cs .clashes) (getD ks i 0) []) taken k) ∙ q in
+          let b : (dig (getD (tablesOf d cs .clashes) (getD ks i 0) []) k && dig taken k) ≡ true = sym
+          (dig-both (getD (tablesOf d cs .clashes) (getD ks i 0) []) taken k) ∙ q in
           let hk = and-right (dig (getD (tablesOf d cs .clashes) (getD ks i 0) []) k) (dig taken k) b in
           let hj = l .each i h in
-          let e = sym (row-dig (getD ks i 0) k (inside (getD ks i 0) hj) (inside k hk)) ∙ and-left (dig (getD (tablesOf d cs .clashes) (getD ks i 0) []) k) (dig taken k) b in
+          let e = sym (row-dig (getD ks i 0) k (inside (getD ks i 0) hj) (inside k hk))
+          ∙ and-left (dig (getD (tablesOf d cs .clashes) (getD ks i 0) []) k) (dig taken k) b in
           differ (getD ks i 0) k hj hk e (ℕ-discrete (getD ks i 0) k)))))
         where
           differ : (j k : ℕ) → dig taken j ≡ true → dig taken k ≡ true → clashing (map (polygon d) cs) j k ≡ true → Dec (j ≡ k) → ⊥

@@ -17,7 +17,9 @@ Among fs gs = (i : ℕ) → i < length gs → (j : ℕ) × (j < length fs) × Sa
 
 -- the same, in any direction
 abbrev pub AmongEither : List Loop → List Loop → Type 0
-AmongEither fs gs = (i : ℕ) → i < length gs → (j : ℕ) × (j < length fs) × (SameRing (loopAt fs j) (loopAt gs i) ⊎ SameRing (flipped (loopAt fs j)) (loopAt gs i))
+AmongEither fs gs =
+    (i : ℕ) → i < length gs
+    → (j : ℕ) × (j < length fs) × (SameRing (loopAt fs j) (loopAt gs i) ⊎ SameRing (flipped (loopAt fs j)) (loopAt gs i))
 
 -- no face stands twice
 abbrev pub Singly : List Loop → Type 0

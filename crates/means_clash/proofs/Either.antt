@@ -4,34 +4,20 @@ use mathlib.Core.List.{List, [], _∷_}
 use mathlib.Core.Logic.{_⊎_, inl, inr}
 use mathlib.Core.Path.{_≡_, refl, sym, ap, ap₂, _∙_}
 use Prim.Native.Nat.{ℕ, _<_}
-use lib.IntN.{ℤ, pos, _-ℤ_}
+use lib.IntN.{ℤ, pos}
 use lib.ListN.{length, getD}
+use Rattle.paper_laws.proofs.Points.{same-yes, same-is, origin-yes}
 use Rattle.lists.specs.Lists.{any, sides, sidesFrom, anyTrue}
-use Rattle.lists.proofs.Truth.{and-left, and-right, and-both}
+use Rattle.lists.proofs.Truth.{and-left, and-right, and-both, same-truth}
 use Rattle.lists.proofs.Passing.{any-yes, any-is}
-use Rattle.exact.proofs.Laws.{eq-of-sub, sub-of-eq}
-use Rattle.paper.specs.Points.{origin, minus, cross, det, isZero, above, isOrigin, samePoint}
+use Rattle.paper.specs.Points.{origin, minus, cross, det, above, isOrigin, samePoint}
 use Rattle.paper.specs.Polygon.{Polygon, normal, onePlane}
 use Rattle.paper.specs.Clash.{pierces, enters, angleHolds, inAngle, Side, to, turnsAt, pointsIn, isCorner, bends, folds, clash}
 use Rattle.paper.specs.declared.Point.{Point}
 use Rattle.means_clash.specs.Flat.{Flat}
-use Rattle.means_clash.proofs.Planes.{zero-yes, yes-zero, none-dot, plane-either}
+use Rattle.means_clash.proofs.Planes.{none-dot, plane-either}
 
 -- ---- two points at one place are one
-same-yes : (p q : Point) → samePoint p q ≡ true → p ≡ q
-unfolding samePoint isOrigin minus
-same-yes p q e =
-    let a = and-left (isZero (p .x -ℤ q .x) && isZero (p .y -ℤ q .y)) (isZero (p .z -ℤ q .z)) e in
-    let x : p .x ≡ q .x = eq-of-sub (p .x) (q .x) (zero-yes (p .x -ℤ q .x) (and-left (isZero (p .x -ℤ q .x)) (isZero (p .y -ℤ q .y)) a)) in
-    let y : p .y ≡ q .y = eq-of-sub (p .y) (q .y) (zero-yes (p .y -ℤ q .y) (and-right (isZero (p .x -ℤ q .x)) (isZero (p .y -ℤ q .y)) a)) in
-    let z : p .z ≡ q .z = eq-of-sub (p .z) (q .z) (zero-yes (p .z -ℤ q .z) (and-right (isZero (p .x -ℤ q .x) && isZero (p .y -ℤ q .y)) (isZero (p .z -ℤ q .z)) e)) in
-    λ i. record { x = x i; y = y i; z = z i }
-
-yes-same : (p q : Point) → p ≡ q → samePoint p q ≡ true
-unfolding samePoint isOrigin minus
-yes-same p q e =
-    and-both (and-both (yes-zero (p .x -ℤ q .x) (sub-of-eq (p .x) (q .x) (ap (λ (r : Point). r .x) e))) (yes-zero (p .y -ℤ q .y) (sub-of-eq (p .y) (q .y) (ap (λ (r : Point). r .y) e))))
-    (yes-zero (p .z -ℤ q .z) (sub-of-eq (p .z) (q .z) (ap (λ (r : Point). r .z) e)))
 
 corner-yes : (g : Polygon) (p : Point) → isCorner g p ≡ true → (i : ℕ) × (i < length g) × (getD g i origin ≡ p)
 unfolding isCorner
@@ -41,7 +27,7 @@ corner-yes g p e =
 
 yes-corner : (g : Polygon) (i : ℕ) (p : Point) → i < length g → getD g i origin ≡ p → isCorner g p ≡ true
 unfolding isCorner
-yes-corner g i p h e = any-is (samePoint p) origin g i h (yes-same p (getD g i origin) (sym e))
+yes-corner g i p h e = any-is (samePoint p) origin g i h (same-is p (getD g i origin) (sym e))
 
 -- ---- rule C, but for the planes
 record Bend (f g : Polygon) : Type 0 where
@@ -105,12 +91,6 @@ bend-turned b = record {
   in-g = b .in-f;
 }
 
-equal-both : (a b : Bool) → (a ≡ true → b ≡ true) → (b ≡ true → a ≡ true) → a ≡ b
-equal-both true true f g = refl
-equal-both true false f g = sym (f refl)
-equal-both false true f g = g refl
-equal-both false false f g = refl
-
 -- ---- no direction points into an angle of a face without an area
 none-det : (p q : Point) → det origin p q ≡ pos 0
 unfolding det
@@ -146,15 +126,6 @@ none-sides f h (a ∷ r) = go a r
     go x [] = ap (λ (b : Bool). b || false) (h x a)
     go x (y ∷ ys) = ap₂ _||_ (h x y) (go y ys)
 
-pub origin-yes : (p : Point) → isOrigin p ≡ true → p ≡ origin
-unfolding isOrigin
-origin-yes p e =
-    let a = and-left (isZero (p .x) && isZero (p .y)) (isZero (p .z)) e in
-    let x : p .x ≡ pos 0 = zero-yes (p .x) (and-left (isZero (p .x)) (isZero (p .y)) a) in
-    let y : p .y ≡ pos 0 = zero-yes (p .y) (and-right (isZero (p .x)) (isZero (p .y)) a) in
-    let z : p .z ≡ pos 0 = zero-yes (p .z) (and-right (isZero (p .x) && isZero (p .y)) (isZero (p .z)) e) in
-    λ i. record { x = x i; y = y i; z = z i }
-
 none-points : (g : Polygon) → isOrigin (normal g) ≡ true → (u v : Point) → pointsIn g u v ≡ false
 unfolding pointsIn
 none-points g e u v =
@@ -185,7 +156,7 @@ folds-either f g hf hg = go (isOrigin (normal f)) refl (isOrigin (normal g)) ref
     go false p true q = and-no (not (onePlane f g)) (no-bend f g (inr q)) ∙ sym (and-no (not (onePlane g f)) (no-bend g f (inl q)))
     go false p false q =
         ap₂ (λ (x y : Bool). not x && y) (plane-either f g hf p hg q)
-        (equal-both (meets f g) (meets g f) (λ e. bend-meets g f (bend-turned (meets-bend f g e))) (λ e. bend-meets f g (bend-turned (meets-bend g f e))))
+        (same-truth (meets f g) (meets g f) (λ e. bend-meets g f (bend-turned (meets-bend f g e))) (λ e. bend-meets f g (bend-turned (meets-bend g f e))))
 
 swap : (a b c d e : Bool) → (a || b || (c || d) || e) ≡ (b || a || (d || c) || e)
 swap true true c d e = refl

@@ -5,6 +5,7 @@ use mathlib.Core.Path.{_≡_, refl, sym, ap, _∙_, subst}
 use Prim.Native.Nat.{ℕ, _<_}
 use lib.IntN.{pos, _*ℤ_}
 use lib.ListN.{length, getD}
+use Rattle.paper_laws.proofs.Points.{origin-yes, zero-yes}
 use Rattle.lists.specs.Lists.{sides, sidesFrom}
 use Rattle.lists.proofs.Passing.{all-is}
 use Rattle.exact.proofs.Ring.{con, _⊗_, neg, ring}
@@ -15,8 +16,7 @@ use Rattle.paper.specs.Loops.{tilt, tilted}
 use Rattle.paper.specs.declared.Point.{Point}
 use Rattle.means_clash.specs.Flat.{Flat}
 use Rattle.means_clash.proofs.Combine.{combine, E3, vars, zeroE, plusE, minusE, dotE, crossE}
-use Rattle.means_clash.proofs.Planes.{zero-yes, yes-zero, same-offset, self-zero, At, at-place, area-right}
-use Rattle.means_clash.proofs.Either.{origin-yes}
+use Rattle.means_clash.proofs.Planes.{yes-zero, same-offset, self-zero, At, at-place, area-right}
 
 -- ---- the tests of the search, point by point
 unfoldable pub Tests : Point → Point → Point → List Point → Type 0
@@ -51,7 +51,7 @@ pub first-zero : (e p : Point) → dot (cross e p) e ≡ pos 0
 unfolding dot cross
 first-zero e p = ring (e .x ∷ e .y ∷ e .z ∷ p .x ∷ p .y ∷ p .z ∷ []) (dotE (crossE (vars 0 1 2) (vars 3 4 5)) (vars 0 1 2)) (con (pos 0)) tt
 
-tilt-found : (s b n p : Point) → isOrigin n ≡ false → tilt s b n p ≡ n
+pub tilt-found : (s b n p : Point) → isOrigin n ≡ false → tilt s b n p ≡ n
 unfolding tilt
 tilt-found s b n p e = rw e
 

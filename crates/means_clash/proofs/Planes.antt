@@ -4,8 +4,9 @@ use mathlib.Core.List.{List, [], _∷_}
 use mathlib.Core.Path.{_≡_, refl, sym, _∙_}
 use Prim.Native.Nat.{ℕ, zero, suc, _<_}
 use native.Mathlib.Omega.{arith}
-use lib.IntN.{ℤ, pos, negsuc, _*ℤ_}
+use lib.IntN.{ℤ, pos, _*ℤ_}
 use lib.ListN.{length, getD}
+use Rattle.paper_laws.proofs.Points.{zero-yes}
 use Rattle.lists.specs.Lists.{sides, sidesFrom}
 use Rattle.lists.proofs.Truth.{and-both}
 use Rattle.lists.proofs.Passing.{all-yes, all-is}
@@ -17,12 +18,6 @@ use Rattle.paper.specs.Polygon.{Polygon, normal, corner, planeSide, onePlane}
 use Rattle.paper.specs.declared.Point.{Point}
 use Rattle.means_clash.specs.Flat.{Flat}
 use Rattle.means_clash.proofs.Combine.{combine, E3, vars, zeroE, plusE, minusE, dotE, crossE}
-
-pub zero-yes : (z : ℤ) → isZero z ≡ true → z ≡ pos 0
-unfolding isZero
-zero-yes (pos zero) e = refl
-zero-yes (pos (suc n)) e = absurd (true≢false (sym e))
-zero-yes (negsuc n) e = absurd (true≢false (sym e))
 
 pub yes-zero : (z : ℤ) → z ≡ pos 0 → isZero z ≡ true
 unfolding isZero
@@ -105,7 +100,7 @@ same-offset n p q e =
     combine (n .x ∷ n .y ∷ n .z ∷ p .x ∷ p .y ∷ p .z ∷ q .x ∷ q .y ∷ q .z ∷ [])
     (dotE N X) (dotE N Y) (record { times = con (pos 1); one = dotE N (minusE X Y); other = con (pos 0) } ∷ []) tt (e, tt)
 
-offset-same : (n p q : Point) → dot n p ≡ dot n q → dot n (minus p q) ≡ pos 0
+pub offset-same : (n p q : Point) → dot n p ≡ dot n q → dot n (minus p q) ≡ pos 0
 unfolding dot minus
 offset-same n p q e =
     combine (n .x ∷ n .y ∷ n .z ∷ p .x ∷ p .y ∷ p .z ∷ q .x ∷ q .y ∷ q .z ∷ [])

@@ -5,20 +5,23 @@ pub mod Vertices
 pub mod Edges
 pub mod Rows
 pub mod Lists
-use mathlib.Core.Path.{_≡_}
-use mathlib.Core.Bool.{true, false}
-use mathlib.Core.Logic.{_↔_}
-use mathlib.Core.Option.{none}
-use mathlib.Core.List.{List}
+use mathlib.Core.Path.{_≡_, refl, subst}
+use mathlib.Core.Logic.{_↔_, inl, inr}
+use mathlib.Core.Option.{Option, none, some}
+use mathlib.Core.List.{List, [], _∷_}
 use Prim.Native.Nat.{ℕ}
 use lib.IntN.{ℤ}
-use lib.ListN.{length, getD}
-use Rattle.paper.specs.Refusals.{firstOf}
-use Rattle.paper.specs.Sheet.{lentChecks}
-use Rattle.paper.specs.Drawing.{Wire, at, wire, samePlace, looseVertex, edgeMeets, verticesReached, apart}
+use lib.ListN.{length}
+use Rattle.paper.specs.Refusals as No
+use Rattle.paper.specs.Refusals.{check, firstOf}
+use Rattle.paper.specs.Format.{coordinatesIn, endsIn}
+use Rattle.paper.specs.Sheet.{lentChecks, sheetChecks}
+use Rattle.paper.specs.Drawing.{Wire, wire, samePlace, looseVertex, edgeMeets, apart, drawingChecks}
 use Rattle.paper.specs.declared.Format.{Format}
 use Rattle.paper.specs.declared.Answer.the-variants.{Fine}
-use Rattle.means_drawing.specs.Drawings.{Finds, Vertex, HasEdge, EndOf, Doubled, Loose, Meets, Reachable, Rising, Long}
+use Rattle.means_drawing.specs.Drawings.{Finds, Doubled, Loose, Meets, Reachable, Rising, Long}
+use Rattle.means_drawing.specs.Rules.{Passes11, Passes12, Passes13, Passes14, RulesSay, RoundsReach}
+use Rattle.means_sheets.proofs.Sheets.Read.{accepted-lent}
 use Rattle.means_drawing.proofs.Searches.{finds-none}
 use Rattle.means_drawing.proofs.Drawings.Vertices.{samePlace-search, samePlace-none, looseVertex-search, looseVertex-none}
 use Rattle.means_drawing.proofs.Drawings.Edges.{edgeMeets-search, rising-long}
@@ -31,7 +34,7 @@ module _ (d : Wire) where
   pub samePlace-finds : Finds (Doubled d) (length (d .vertices)) (samePlace d)
   samePlace-finds = samePlace-search d
 
-  pub samePlace-means : (samePlace d ≡ none) ↔ ((u w : ℕ) → Vertex d u → Vertex d w → at d u ≡ at d w → u ≡ w)
+  pub samePlace-means : (samePlace d ≡ none) ↔ Passes11 d
   samePlace-means = samePlace-none d
 
   -- ---- 12
@@ -39,7 +42,7 @@ module _ (d : Wire) where
   pub looseVertex-finds : Finds (Loose d) (length (d .vertices)) (looseVertex d)
   looseVertex-finds = looseVertex-search d
 
-  pub looseVertex-means : (looseVertex d ≡ none) ↔ ((v : ℕ) → Vertex d v → (e : ℕ) × HasEdge d e × EndOf d e v)
+  pub looseVertex-means : (looseVertex d ≡ none) ↔ Passes12 d
   looseVertex-means = looseVertex-none d
 
   -- ---- 13, where the ends of every edge are at two points
@@ -47,7 +50,7 @@ module _ (d : Wire) where
   pub edgeMeets-finds : Long d → Finds (Meets d) (length (d .edges)) (edgeMeets d)
   edgeMeets-finds = edgeMeets-search d
 
-  pub edgeMeets-means : Long d → (edgeMeets d ≡ none) ↔ ((e : ℕ) → HasEdge d e → Meets d e → ⊥)
+  pub edgeMeets-means : Long d → (edgeMeets d ≡ none) ↔ Passes13 d
   edgeMeets-means long = finds-none (Meets d) (length (d .edges)) (edgeMeets d) (edgeMeets-finds long)
 
   -- they are where 9 and 11 find nothing
@@ -56,15 +59,54 @@ module _ (d : Wire) where
 
   -- ---- 14
 
-  pub reached-means : (v : ℕ) → Vertex d v → (getD (verticesReached d (length (d .vertices))) v false ≡ true) ↔ Reachable d v
+  pub reached-means : RoundsReach d
   reached-means = marked-means d
 
   pub apart-finds : Finds (λ v. Reachable d v → ⊥) (length (d .vertices)) (apart d)
   apart-finds = apart-search d
 
-  pub apart-means : (apart d ≡ none) ↔ ((v : ℕ) → Vertex d v → Reachable d v)
+  pub apart-means : (apart d ≡ none) ↔ Passes14 d
   apart-means = apart-none d
 
--- 9 and 11 come before 13: where lists that are lent (or read from an accepted sheet) get to 13, the ends of every edge are at two points
-pub lent-long : (f : Format) (xyz : List ℤ) (ends : List ℕ) → Fine ≡ firstOf (lentChecks f xyz ends) → samePlace (wire xyz ends) ≡ none → Long (wire xyz ends)
+  -- ---- the four in order, where 9 finds nothing
+
+  pub rules-say : Rising d → RulesSay d (firstOf (drawingChecks d))
+  unfolding drawingChecks firstOf
+  rules-say rising = go (samePlace d) (looseVertex d) (edgeMeets d) (apart d) refl refl refl refl
+    where
+      go : (a b c e : Option ℕ) → samePlace d ≡ a → looseVertex d ≡ b → edgeMeets d ≡ c → apart d ≡ e
+          → RulesSay d (firstOf (check No.SamePlace a ∷ check No.LooseVertex b ∷ check No.EdgeMeets c ∷ check No.Apart e ∷ []))
+      go (some p) b c e pa pb pc pe = inl (refl, subst (Finds (Doubled d) (length (d .vertices))) pa samePlace-finds)
+      go none (some p) c e pa pb pc pe =
+          inr (inl (refl, samePlace-means .0 pa, subst (Finds (Loose d) (length (d .vertices))) pb looseVertex-finds))
+      go none none (some p) e pa pb pc pe =
+          inr (inr (inl (
+            refl,
+            samePlace-means .0 pa,
+            looseVertex-means .0 pb,
+            subst (Finds (Meets d) (length (d .edges))) pc (edgeMeets-finds (long-edges rising pa)),
+          )))
+      go none none none (some p) pa pb pc pe =
+          inr (inr (inr (
+            refl,
+            samePlace-means .0 pa,
+            looseVertex-means .0 pb,
+            edgeMeets-means (long-edges rising pa) .0 pc,
+            subst (Finds (λ v. Reachable d v → ⊥) (length (d .vertices))) pe apart-finds,
+          )))
+      go none none none none pa pb pc pe =
+          (samePlace-means .0 pa, looseVertex-means .0 pb, edgeMeets-means (long-edges rising pa) .0 pc, apart-means .0 pe)
+
+-- ---- of lists that are lent, and of a sheet that is accepted: 9 comes before 11
+
+pub lent-long : (f : Format) (xyz : List ℤ) (ends : List ℕ) → Fine ≡ firstOf (lentChecks f xyz ends)
+    → samePlace (wire xyz ends) ≡ none → Long (wire xyz ends)
 lent-long f xyz ends h = long-edges (wire xyz ends) (lent-rising f xyz ends h)
+
+pub lent-rules : (f : Format) (xyz : List ℤ) (ends : List ℕ) → Fine ≡ firstOf (lentChecks f xyz ends)
+    → RulesSay (wire xyz ends) (firstOf (drawingChecks (wire xyz ends)))
+lent-rules f xyz ends h = rules-say (wire xyz ends) (lent-rising f xyz ends h)
+
+pub sheet-rules : (f : Format) (s : List ℕ) → Fine ≡ firstOf (sheetChecks f s)
+    → RulesSay (wire (coordinatesIn f s) (endsIn f s)) (firstOf (drawingChecks (wire (coordinatesIn f s) (endsIn f s))))
+sheet-rules f s h = lent-rules f (coordinatesIn f s) (endsIn f s) (accepted-lent f s h)

@@ -1,28 +1,28 @@
 -- Two rings that do not cross, with the corners of each outside of the other or common; and the two parts of a ring cut at its lowest corner. Assumes nothing.
 use mathlib.Core.Path.{_≡_, refl, sym, _∙_, ap, subst}
-use mathlib.Core.Bool.{Bool, true, false, xor}
+use mathlib.Core.Bool.{Bool, false, xor}
 use mathlib.Core.Logic.{_⊎_, inl, inr}
 use mathlib.Core.List.{List, [], _∷_, _++_}
-use Prim.Native.Nat.{ℕ, _≤_}
+use Prim.Native.Nat.{_≤_}
 use native.Mathlib.Omega.{arith}
 use lib.ListN.{length, length-append}
-use lib.IntN.{ℤ, pos, negℤ}
+use lib.IntN.{ℤ}
 use lib.Signed.{_<ℤ_}
 use Rattle.exact.proofs.Signs.{<ℤ-ne}
 use Rattle.paper.specs.declared.Flat.{Flat}
 use Rattle.means_area.specs.Rings.{Of, Pair, Chain, Link}
-use Rattle.means_area.specs.Flats.{Up, Nn, turn, Cross, height, On, Net, Distinct, Fresh, Simple, Least, Same, both, none, lst}
-use Rattle.means_area.proofs.Flats.Signs.{up-is, up-nn, nn-is, zero-off}
-use Rattle.means_area.proofs.Flats.Turns.{spin, flip, flip-last, flat-first, flat-second}
+use Rattle.means_area.specs.Flats.{turn, Cross, height, On, Net, Distinct, Simple, Least, Same, both, none, lst}
+use Rattle.means_area.proofs.Flats.Signs.{up-is, up-nn, zero-off}
+use Rattle.means_area.proofs.Flats.Turns.{flip, flip-last, flat-first, flat-second}
 use Rattle.means_area.proofs.Flats.Net.{Ok}
 use Rattle.means_area.proofs.Flats.Choice.{compare}
 use Rattle.means_area.proofs.Flats.Rings.{lst-append, lst-of, link-back, link-of, chain-split, chain-left, chain-right, Sub, keep, skip, sub-all, sub-none, sub-append, sub-of, sub-distinct, narrow, of-append, of-left, of-right, distinct-across, cross-turned, cross-back}
 use Rattle.means_area.proofs.Flats.Lowest.{pair-swap}
 use Rattle.means_area.proofs.Flats.First.{first-link, last-link}
-use Rattle.means_inside.specs.Beams.{round, right, beam, Off, Clear, odd}
+use Rattle.means_inside.specs.Beams.{right, Clear, odd}
 use Rattle.means_inside.proofs.Parity.{xor-self}
 use Rattle.means_inside.proofs.Beams.{low-is, low-no}
-use Rattle.means_inside.proofs.Fan.{Seen, fan}
+use Rattle.means_inside.proofs.Fan.{fan}
 use Rattle.means_inside.proofs.Cap.{by-low}
 use Rattle.means_inside.proofs.Segment.{off-link, along}
 

@@ -1,12 +1,12 @@
 -- Every ray from a point on no side meets the same parity of sides. Assumes nothing.
-use mathlib.Core.Path.{_≡_, refl, sym, _∙_, ap, subst}
+use mathlib.Core.Path.{_≡_, refl, sym, _∙_, ap}
 use mathlib.Core.Bool.{Bool, true, false, not, _&&_, xor, true≢false}
 use mathlib.Core.Logic.{_⊎_, inl, inr}
 use mathlib.Core.List.{List, [], _∷_}
 use native.Mathlib.Omega.{arith}
-use lib.IntN.{ℤ, pos, negℤ, _+ℤ_, _-ℤ_, _*ℤ_, zero-*ℤ}
+use lib.IntN.{ℤ, pos, negℤ, _+ℤ_, _-ℤ_, _*ℤ_}
 use lib.Signed.{leZ, _≤ℤ_, _<ℤ_, clashℤ}
-use Rattle.lists.proofs.Truth.{never}
+use Rattle.lists.proofs.Truth.{never-true}
 use Prim.Native.Nat.{ℕ}
 use Rattle.exact.proofs.Ring.{Expr, var, con, _⊕_, _⊖_, _⊗_, neg, ring}
 use Rattle.exact.proofs.Linear.{le-by, lt-by, le-to, lt-to}
@@ -15,11 +15,10 @@ use Rattle.exact.proofs.Signs.{lt-yes, lt-is, le-yes, le-is, lt-or-ge}
 use Rattle.paper.specs.Points.{above, below}
 use Rattle.paper.specs.Polygon.{meetsRay}
 use Rattle.paper.specs.declared.Flat.{Flat}
-use Rattle.means_area.specs.Rings.{Link}
 use Rattle.means_area.specs.Flats.{Up, Nn, turn}
-use Rattle.means_area.proofs.Flats.Signs.{up-is, nn-is, up-nn, up-add, nn-up, off, zero-off, ways, up-out, nn-out}
+use Rattle.means_area.proofs.Flats.Signs.{up-is, nn-is, up-nn, off, zero-off, ways, nn-out}
 use Rattle.means_area.proofs.Flats.Turns.{env, uE, vE, tE, flip-last}
-use Rattle.means_inside.specs.Beams.{round, right, beam, facing, Off, Clear}
+use Rattle.means_inside.specs.Beams.{round, right, beam, facing, Clear}
 use Rattle.means_inside.proofs.Parity.{xor-self, potential}
 
 -- ---- tests and facts
@@ -30,7 +29,7 @@ above-is t h = lt-is h
 
 pub above-no : (t : ℤ) → Nn (negℤ t) → above t ≡ false
 unfolding above
-above-no t h = never (above t) (λ e. off {x = t} (lt-yes e) h)
+above-no t h = never-true (above t) (λ e. off {x = t} (lt-yes e) h)
 
 pub below-is : (t : ℤ) → Up (negℤ t) → below t ≡ true
 unfolding below
@@ -38,7 +37,7 @@ below-is t h = let ρ = t ∷ [] in lt-is (lt-by ρ (var 0) (con (pos 0)) (omega
 
 pub below-no : (t : ℤ) → Nn t → below t ≡ false
 unfolding below
-below-no t h = never (below t) (λ e. clashℤ (lt-yes e) h)
+below-no t h = never-true (below t) (λ e. clashℤ (lt-yes e) h)
 
 pub above-yes : (t : ℤ) → above t ≡ true → Up t
 unfolding above
@@ -53,7 +52,7 @@ pub low-is : (t : ℤ) → Nn (negℤ t) → leZ t (pos 0) ≡ true
 low-is t h = let ρ = t ∷ [] in le-is (le-by ρ (var 0) (con (pos 0)) (omega (arith, le-to ρ (con (pos 0)) (neg (var 0)) h)))
 
 pub low-no : (t : ℤ) → Up t → leZ t (pos 0) ≡ false
-low-no t h = never (leZ t (pos 0)) (λ e. clashℤ h (le-yes e))
+low-no t h = never-true (leZ t (pos 0)) (λ e. clashℤ h (le-yes e))
 
 pub yes-low : (t : ℤ) → leZ t (pos 0) ≡ true → Nn (negℤ t)
 yes-low t e = let ρ = t ∷ [] in le-by ρ (con (pos 0)) (neg (var 0)) (omega (arith, le-to ρ (var 0) (con (pos 0)) (le-yes e)))

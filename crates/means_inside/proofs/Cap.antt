@@ -1,22 +1,22 @@
 -- At the lowest corner v: the points of the triangle of v and its neighbours that no corner is beyond are inside. Assumes nothing.
 use mathlib.Core.Path.{_≡_, refl, sym, _∙_, ap, subst}
-use mathlib.Core.Bool.{Bool, true, false, xor}
-use mathlib.Core.Logic.{_⊎_, inl, inr}
-use mathlib.Core.List.{List, [], _∷_}
-use lib.IntN.{ℤ, pos, negℤ}
+use mathlib.Core.Bool.{true, false, xor}
+use mathlib.Core.Logic.{inl, inr}
+use mathlib.Core.List.{List, _∷_}
+use lib.IntN.{ℤ, negℤ}
 use lib.Signed.{_≤ℤ_, _<ℤ_, <ℤ-irrefl}
 use Rattle.paper.specs.declared.Flat.{Flat}
 use Rattle.means_area.specs.Rings.{Of, Link}
 use Rattle.means_area.specs.Flats.{Up, Nn, turn, height, Net, Simple, Least, lst}
 use Rattle.means_area.proofs.Flats.Signs.{up-is, up-nn, nn-is}
 use Rattle.means_area.proofs.Flats.Turns.{In, spin, flip}
-use Rattle.means_area.proofs.Flats.Net.{Ok, diagonal, higher}
+use Rattle.means_area.proofs.Flats.Net.{diagonal, higher}
 use Rattle.means_area.proofs.Flats.Choice.{Hit, in-sense}
 use Rattle.means_area.proofs.Flats.Rings.{lst-of}
 use Rattle.means_area.proofs.Flats.First.{first-link, last-link}
-use Rattle.means_inside.specs.Beams.{round, right, beam, facing, Clear, odd}
+use Rattle.means_inside.specs.Beams.{round, right, beam, Clear, odd, Seen}
 use Rattle.means_inside.proofs.Beams.{low-is, low-no}
-use Rattle.means_inside.proofs.Fan.{Seen, fan}
+use Rattle.means_inside.proofs.Fan.{fan}
 use Rattle.means_inside.proofs.Triangle.{self-up, by-ray}
 
 module _ (m : ℤ) where

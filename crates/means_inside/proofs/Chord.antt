@@ -1,9 +1,9 @@
 -- A chord from the lowest corner u to w that may be added: its points are seen from u. Assumes nothing.
-use mathlib.Core.Path.{_≡_, refl, sym, _∙_, ap, subst}
-use mathlib.Core.Logic.{_⊎_, inl, inr}
+use mathlib.Core.Path.{_≡_, sym, _∙_, ap}
+use mathlib.Core.Logic.{inl, inr}
 use mathlib.Core.List.{List, [], _∷_}
 use lib.IntN.{ℤ, pos, negℤ, _+ℤ_, _-ℤ_, _*ℤ_}
-use lib.Signed.{_≤ℤ_, _<ℤ_}
+use lib.Signed.{_<ℤ_}
 use native.Mathlib.Omega.{arith}
 use Rattle.exact.proofs.Linear.{lt-by, lt-to, le-to}
 use Rattle.exact.proofs.Ring.{var, con, _⊕_, _⊖_, _⊗_, neg, ring}
@@ -11,14 +11,13 @@ use Rattle.exact.proofs.Order.{ring-with, mul-pos, mul-nonneg, add-nonneg, sub-
 use Rattle.exact.proofs.Signs.{mul-zero, pos-ne, <ℤ-ne}
 use Rattle.paper.specs.declared.Flat.{Flat}
 use Rattle.means_area.specs.Rings.{Of, Link}
-use Rattle.means_area.specs.Flats.{Up, Nn, turn, Cross, height, On, Same, both, none}
+use Rattle.means_area.specs.Flats.{Up, Nn, turn, height, Same, both, none}
 use Rattle.means_area.proofs.Flats.Signs.{up-is, nn-is, up-nn, up-add, up-out, nn-out, off, diff-up}
 use Rattle.means_area.proofs.Flats.Turns.{env, uE, vE, tE, hE, flip, flip-last}
 use Rattle.means_area.proofs.Flats.Net.{Ok}
-use Rattle.means_inside.specs.Beams.{facing}
+use Rattle.means_inside.specs.Beams.{facing, Seen}
 use Rattle.means_inside.proofs.Triangle.{fE, self-nn, self-up}
-use Rattle.means_inside.proofs.Fan.{Seen}
-use Rattle.means_inside.proofs.Look.{Ang, Between}
+use Rattle.means_inside.proofs.Look.{Between}
 
 -- in the angle, by the signs
 pub same-between : (u c a w : Flat) → Same (turn u c w) (turn u c a) → Same (turn u w a) (turn u c a) → Between u c a w

@@ -1,28 +1,26 @@
 -- A point that is odd in a triangle, or on a side of it, is within; one that is so in a ring is so in one of its parts. Assumes nothing.
-use mathlib.Core.Path.{_≡_, refl, sym, _∙_, ap, subst}
+use mathlib.Core.Path.{_≡_, refl, sym, _∙_, ap}
 use mathlib.Core.Bool.{Bool, true, false, xor}
 use mathlib.Core.Logic.{_⊎_, inl, inr}
 use mathlib.Core.List.{List, [], _∷_, _++_}
 use native.Mathlib.Omega.{arith}
 use lib.IntN.{ℤ, pos, negℤ, _+ℤ_}
-use Rattle.lists.proofs.Truth.{false-xor}
-use Rattle.exact.proofs.Ring.{var, con, _⊕_, neg, ring}
 use Rattle.exact.proofs.Order.{add-nonneg}
 use Rattle.paper.specs.declared.Flat.{Flat}
-use Rattle.means_area.specs.Rings.{Of, Pair, Chain, Link}
-use Rattle.means_area.specs.Flats.{Up, Nn, turn, Simple, area, lst}
-use Rattle.means_area.proofs.Flats.Signs.{up-is, nn-is, up-nn, off, ways}
-use Rattle.means_area.proofs.Flats.Turns.{In, spin, flip, flip-last, sum-is, sum-neg}
+use Rattle.means_area.specs.Rings.{Pair, Chain, Link}
+use Rattle.means_area.specs.Flats.{Up, Nn, turn, Simple, lst}
+use Rattle.means_area.proofs.Flats.Signs.{up-is, nn-is, off, ways}
+use Rattle.means_area.proofs.Flats.Turns.{spin, flip, flip-last, sum-is, sum-neg}
 use Rattle.means_area.proofs.Flats.Choice.{Hit}
-use Rattle.means_area.proofs.Flats.Rings.{chain-split, chain-left, chain-right, chain-end, part-back, area-ear}
+use Rattle.means_area.proofs.Flats.Rings.{chain-split, chain-left, chain-end, part-back, area-ear}
 use Rattle.means_area.proofs.Flats.{area-not-zero}
-use Rattle.means_inside.specs.Beams.{round, beam, facing, Off, Clear, odd, east}
+use Rattle.means_inside.specs.Beams.{beam, facing, Off, odd, east}
 use Rattle.means_inside.specs.Regions.{InTriangle, left, right}
 use Rattle.means_inside.specs.Touch.{Touch}
 use Rattle.means_inside.proofs.Parity.{round-turned, round-cut, round-ear}
 use Rattle.means_inside.proofs.Triangle.{inn, base-a, base-b, odd-far, odd-a, odd-b, twice}
 use Rattle.means_inside.proofs.Segment.{beam-back}
-use Rattle.means_inside.proofs.Ears.{facing-back, off-back, off-or, bool, clear3, flip3}
+use Rattle.means_inside.proofs.Ears.{facing-back, off-back, off-or, clear3, flip3}
 use Rattle.means_inside.proofs.Disjoint.{turn-link}
 
 -- within a triangle, and on neither side at v

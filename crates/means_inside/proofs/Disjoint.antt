@@ -13,23 +13,23 @@ use Rattle.exact.proofs.Signs.{<ℤ-ne}
 use Rattle.exact.proofs.Order.{lt-chain}
 use Rattle.paper.specs.declared.Flat.{Flat}
 use Rattle.means_area.specs.Rings.{Of, Pair, Chain, Link}
-use Rattle.means_area.specs.Flats.{Up, Nn, turn, Cross, height, On, Net, Distinct, Simple, Least, Same, lst}
-use Rattle.means_area.proofs.Flats.Signs.{up-is, nn-is, up-nn, zero-off, same-ne, same-is, same-is2}
-use Rattle.means_area.proofs.Flats.Turns.{spin, flip, flip-last, flat-first, flat-second}
+use Rattle.means_area.specs.Flats.{Up, Nn, turn, Cross, height, On, Net, Simple, Least, Same, lst}
+use Rattle.means_area.proofs.Flats.Signs.{up-is, nn-is, zero-off, same-ne, same-is, same-is2}
+use Rattle.means_area.proofs.Flats.Turns.{spin, flip, flip-last, flat-second}
 use Rattle.means_area.proofs.Flats.Net.{Ok}
-use Rattle.means_area.proofs.Flats.Choice.{Hit, compare, ear-ok, bent}
+use Rattle.means_area.proofs.Flats.Choice.{Hit, compare, ear-ok}
 use Rattle.means_area.proofs.Flats.Rings.{lst-append, lst-of, link-back, link-of, chain-split, chain-left, chain-right, chain-end, of-append, of-left, of-right, of-swap, distinct-across, cross-turned, cross-back, turned}
-use Rattle.means_area.proofs.Flats.Lowest.{Split, of-split, pair-swap, Found, lowest}
+use Rattle.means_area.proofs.Flats.Lowest.{of-split, pair-swap, Found, lowest}
 use Rattle.means_area.proofs.Flats.First.{first-link, last-link, ends-apart, only-first, not-flat, ear-simple}
-use Rattle.means_inside.specs.Beams.{round, right, beam, facing, Off, Clear, odd, east}
+use Rattle.means_inside.specs.Beams.{right, beam, facing, Off, Clear, odd, east, Seen}
 use Rattle.means_inside.specs.Regions.{Cut, start, At}
 use Rattle.means_inside.proofs.Parity.{xor-self, round-turned, round-cut, round-ear}
 use Rattle.means_inside.proofs.Beams.{yes-low, no-low}
-use Rattle.means_inside.proofs.Fan.{Seen, fan, apart-fan}
+use Rattle.means_inside.proofs.Fan.{fan, apart-fan}
 use Rattle.means_inside.proofs.Cap.{by-low}
 use Rattle.means_inside.proofs.Segment.{off-link, off-low, beam-back}
 use Rattle.means_inside.proofs.Look.{Ang, Between, ang, View, Look, empty, far, look, view-ear}
-use Rattle.means_inside.proofs.Apart.{Apart, swap, clear-out, member, change, parts, in1, in2, f1, f2, simple1, simple2, outside1, outside2}
+use Rattle.means_inside.proofs.Apart.{Apart, swap, clear-out, member, change, parts, in1, in2, f1, f2, outside1, outside2}
 use Rattle.means_inside.proofs.Ears.{off-or, off-end, off-back, bool, chord-hit, odd-hit, odd-two, between-odd, low-even}
 
 pub map-app : (f : Flat → Flat) (l r : List Flat) → map f (l ++ r) ≡ map f l ++ map f r

@@ -3,22 +3,20 @@ use mathlib.Core.Path.{_≡_, refl, sym, _∙_, ap, subst}
 use mathlib.Core.Bool.{Bool, true, false, xor}
 use mathlib.Core.Logic.{_⊎_, inl, inr}
 use mathlib.Core.List.{List, [], _∷_}
-use lib.IntN.{ℤ, pos, negℤ, _+ℤ_, _-ℤ_, _*ℤ_}
-use lib.Signed.{_<ℤ_}
-use Rattle.lists.proofs.Truth.{xor-assoc, xor-false, false-xor}
-use Rattle.exact.proofs.Ring.{var, con, _⊕_, _⊖_, _⊗_, neg, ring}
+use lib.IntN.{ℤ, pos, negℤ, _+ℤ_, _-ℤ_}
+use Rattle.lists.proofs.Truth.{xor-assoc}
+use Rattle.exact.proofs.Ring.{var, con, _⊕_, _⊖_, _⊗_, ring}
 use Rattle.paper.specs.declared.Flat.{Flat}
 use Rattle.means_area.specs.Rings.{Of, Link, Pair}
 use Rattle.means_area.specs.Flats.{Up, Nn, turn, height, Least, lst}
-use Rattle.means_area.proofs.Flats.Signs.{up-is, nn-is, up-nn, zero-off, ways, which, up-diff}
-use Rattle.means_area.proofs.Flats.Turns.{In, env, uE, vE, tE, hE, spin, flip, flip-last, flat-first}
+use Rattle.means_area.proofs.Flats.Signs.{up-is, nn-is, zero-off, ways, which, up-diff}
+use Rattle.means_area.proofs.Flats.Turns.{env, uE, vE, hE, spin, flip, flip-last, flat-first}
 use Rattle.means_area.proofs.Flats.Choice.{Hit}
-use Rattle.means_inside.specs.Beams.{round, beam, facing, Off, Clear, odd, east}
+use Rattle.means_inside.specs.Beams.{round, beam, facing, Off, Clear, odd, east, Seen}
 use Rattle.means_inside.proofs.Parity.{xor-comm, xor-self}
-use Rattle.means_inside.proofs.Fan.{Seen}
 use Rattle.means_inside.proofs.Triangle.{fE, odd-far, odd-a, odd-b, inn, onto, out}
 use Rattle.means_inside.proofs.Cap.{fan-in, fan-in'}
-use Rattle.means_inside.proofs.Segment.{beam-back, off-low}
+use Rattle.means_inside.proofs.Segment.{beam-back}
 use Rattle.means_inside.proofs.Look.{Between}
 
 pub facing-back : (p a b : Flat) → facing p a b ≡ facing p b a

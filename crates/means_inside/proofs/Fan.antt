@@ -1,25 +1,25 @@
 -- The ray from p through a corner v that is lower than all others: where nothing crosses the segment from v to p, it meets a side only at v. Assumes nothing.
-use mathlib.Core.Path.{_≡_, refl, sym, _∙_, ap, subst}
+use mathlib.Core.Path.{_≡_, refl, sym, _∙_, ap}
 use mathlib.Core.Bool.{Bool, true, false, not, xor}
 use mathlib.Core.Logic.{_⊎_, inl, inr}
 use mathlib.Core.List.{List, [], _∷_}
 use lib.IntN.{ℤ, pos, negℤ, _+ℤ_, _-ℤ_, _*ℤ_}
-use lib.Signed.{leZ, _≤ℤ_, _<ℤ_}
-use Rattle.lists.proofs.Truth.{never}
+use lib.Signed.{leZ, _<ℤ_}
+use Rattle.lists.proofs.Truth.{never-true, xor-not}
 use Rattle.exact.proofs.Ring.{var, con, _⊕_, _⊖_, _⊗_, neg, ring}
 use Rattle.exact.proofs.Order.{ring-with, mul-pos, mul-nonneg, sub-pos}
-use Rattle.exact.proofs.Signs.{<ℤ-≤ℤ}
 use Rattle.paper.specs.Points.{above, below}
 use Rattle.paper.specs.Polygon.{meetsRay}
 use Rattle.paper.specs.declared.Flat.{Flat}
 use Rattle.means_area.specs.Rings.{Of, Chain, Link}
 use Rattle.means_area.specs.Flats.{Up, Nn, turn, Cross, height, On, Least, lst}
-use Rattle.means_area.proofs.Flats.Signs.{up-is, nn-is, up-nn, up-add, off, zero-off, ways, which, up-out, diff-up}
-use Rattle.means_area.proofs.Flats.Turns.{env, uE, vE, tE, hE, spin, flip, flat-first, flat-second}
+use Rattle.means_area.proofs.Flats.Signs.{up-is, nn-is, up-nn, up-add, off, zero-off, ways, up-out, diff-up}
+use Rattle.means_area.proofs.Flats.Turns.{env, tE, hE, spin, flip, flat-second}
 use Rattle.means_area.proofs.Flats.Rings.{chain-back, link-back, link-of}
-use Rattle.means_inside.specs.Beams.{walk, round, right, beam}
+use Rattle.means_inside.specs.Beams.{round, right, beam, Seen}
 use Rattle.means_inside.proofs.Parity.{quiet, silent}
-use Rattle.means_inside.proofs.Beams.{above-is, above-no, above-yes, below-is, below-no, below-yes, low-is, low-no, yes-low, no-low}
+use Rattle.means_inside.proofs.Beams.{above-is, above-yes, below-is, below-yes, yes-low, no-low}
+use Rattle.means_inside.specs.Theorems.{FanDecides}
 
 module _ (m : ℤ) (v p : Flat) (hp : height m v <ℤ height m p) (L : Flat → Flat → Type 0) (back : (x y : Flat) → L x y → L y x) (high : (x y : Flat) → L x y → height m v <ℤ height m x)
     (uncut : (x y : Flat) → L x y → Cross v p x y → ⊥) (bare : (x y : Flat) → L x y → On m v p x → ⊥) where
@@ -56,8 +56,8 @@ module _ (m : ℤ) (v p : Flat) (hp : height m v <ℤ height m p) (L : Flat → 
       go : (a b : Bool) → leZ (turn p v x) (pos 0) ≡ a → leZ (turn p v y) (pos 0) ≡ b → meetsRay a b (turn x y p) ≡ false
       go true true e f = refl
       go false false e f = refl
-      go true false e f = never (above (turn x y p)) (λ q. into x y l (right-nn x e) (no-low (turn p v y) f) (above-yes (turn x y p) q))
-      go false true e f = never (below (turn x y p)) (λ q. into y x (back x y l) (right-nn y f) (no-low (turn p v x) e) (up-is (sym (flip y x p)) (below-yes (turn x y p) q)))
+      go true false e f = never-true (above (turn x y p)) (λ q. into x y l (right-nn x e) (no-low (turn p v y) f) (above-yes (turn x y p) q))
+      go false true e f = never-true (below (turn x y p)) (λ q. into y x (back x y l) (right-nn y f) (no-low (turn p v x) e) (up-is (sym (flip y x p)) (below-yes (turn x y p) q)))
 
 -- the sides at v
 pub first-beam : (p v x : Flat) → beam p v v x ≡ not (right p v x)
@@ -78,25 +78,12 @@ last-beam p v x = go (leZ (turn p v x) (pos 0)) (leZ (turn p v v) (pos 0)) refl 
     go false true e f = below-is (turn x v p) (up-is (spin p v x ∙ flip v x p) (no-low (turn p v x) e))
     go a false e f = absurd (zero-off (flat-second p v) (no-low (turn p v v) f))
 
-pub not-not : (a b : Bool) → xor (not a) (not b) ≡ xor a b
-unfolding xor
-not-not true true = refl
-not-not true false = refl
-not-not false true = refl
-not-not false false = refl
-
--- nothing crosses the segment from v to p, and no corner is inside it
-pub record Seen (m : ℤ) (v p : Flat) (g : List Flat) : Type 0 where
-  pub up : height m v <ℤ height m p
-  pub uncut : (x y : Flat) → Link g x y → Cross v p x y → ⊥
-  pub bare : (x : Flat) → Of x g → On m v p x → ⊥
-
 -- the ring at v: the two sides at v decide
-pub fan : (m : ℤ) (p v x : Flat) (l : List Flat) → Least m v (x ∷ l) → Seen m v p (v ∷ x ∷ l) → round (beam p v) (v ∷ x ∷ l) ≡ xor (right p v x) (right p v (lst x l))
+pub fan : FanDecides
 fan m p v x l low s =
     (λ i. xor (first-beam p v x i) (quiet (beam p v) x l v quiet-side i))
     ∙ ap (xor (not (right p v x))) (last-beam p v (lst x l))
-    ∙ not-not (right p v x) (right p v (lst x l))
+    ∙ xor-not (right p v x) (right p v (lst x l))
   where
     quiet-side : (a b : Flat) → Of a (x ∷ l) → Of b (x ∷ l) → Chain x l v a b → beam p v a b ≡ false
     quiet-side a b oa ob c = none m v p (s .up) (λ a b. Of a (x ∷ l) × Of b (x ∷ l) × Chain x l v a b)

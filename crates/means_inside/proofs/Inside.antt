@@ -1,30 +1,30 @@
 -- The theorems: where a point lies in a simple polygon, by its triangles; for every ray; from every start; along a segment that touches no side. Assumes nothing.
 use mathlib.Core.Path.{_≡_, refl, sym, _∙_, ap}
 use mathlib.Core.Bool.{Bool, true, false, true≢false}
-use mathlib.Core.Logic.{_⊎_, inl, inr}
+use mathlib.Core.Logic.{inl, inr}
 use mathlib.Core.List.{List, [], _∷_, _++_, map}
-use Prim.Native.Nat.{ℕ, _≤_}
+use Prim.Native.Nat.{ℕ}
 use native.Mathlib.Omega.{arith}
-use lib.ListN.{length}
 use lib.IntN.{ℤ, pos}
 use Rattle.lists.specs.Lists.{sides, anyTrue, oddTrue}
 use Rattle.paper.specs.Polygon.{touches, crosses, placed, whereFlat}
 use Rattle.paper.specs.declared.Flat.{Flat}
 use Rattle.paper.specs.declared.Where.{Where}
 use Rattle.paper.specs.declared.Where.the-variants.{Outside, Border, Inside}
-use Rattle.means_area.specs.Rings.{Of, Link}
-use Rattle.means_area.specs.Flats.{Up, turn, Simple}
+use Rattle.means_area.specs.Rings.{Of}
+use Rattle.means_area.specs.Flats.{Up, turn}
 use Rattle.means_area.proofs.Flats.Rings.{link-of, link-back}
-use Rattle.means_inside.specs.Beams.{round, beam, facing, Clear, odd, east}
+use Rattle.means_inside.specs.Beams.{round, beam, facing, Clear, odd}
 use Rattle.means_inside.specs.Regions.{Cut, At, hits}
 use Rattle.means_inside.specs.Touch.{Touch}
-use Rattle.means_inside.specs.Means.{big, Means}
+use Rattle.means_inside.specs.Means.{big}
 use Rattle.means_inside.proofs.Parity.{odd-round}
 use Rattle.means_inside.proofs.Triangle.{by-ray, out, left-off}
 use Rattle.means_inside.proofs.Triangles.{hits-are}
 use Rattle.means_inside.proofs.Disjoint.{odd-turned, link-turned}
 use Rattle.means_inside.proofs.One.{cover-at, Whole, whole}
 use Rattle.means_inside.proofs.Scale.{crosses-back, odd-is, any-clear, any-touch, touch-not}
+use Rattle.means_inside.specs.Theorems.{WhereMeans}
 
 code : Where → ℕ
 code Outside = 0
@@ -79,7 +79,7 @@ any-cover m d k g t p n = go (ways m d k g p)
     go (at-outside c o e) = absurd (n e)
 
 -- the meaning
-pub means : (m : ℤ) (g : List Flat) → 3 ≤ length g → Simple m g → Means m g
+pub means : WhereMeans
 unfolding code
 means m g n s = record {
   cut = r .cut;

@@ -1,5 +1,5 @@
 -- What is seen from a corner v that is lower than its neighbours x and y, of any links: an empty triangle, or a farthest corner w; and points of the chord v w. Two angles at v. Assumes nothing.
-use mathlib.Core.Path.{_≡_, refl, sym, _∙_, ap, subst}
+use mathlib.Core.Path.{_≡_, sym, _∙_, ap}
 use mathlib.Core.Logic.{_⊎_, inl, inr}
 use mathlib.Core.List.{List, [], _∷_}
 use lib.IntN.{ℤ, pos, negℤ, _+ℤ_, _-ℤ_, _*ℤ_}
@@ -11,12 +11,12 @@ use Rattle.exact.proofs.Order.{ring-with, mul-pos, mul-nonneg, add-nonneg, sub-
 use Rattle.paper.specs.declared.Flat.{Flat}
 use Rattle.means_area.specs.Rings.{Of}
 use Rattle.means_area.specs.Flats.{Up, Nn, turn, height, Net, Same, both, none}
-use Rattle.means_area.proofs.Flats.Signs.{up-is, nn-is, up-nn, up-add, nn-up, off, zero-off, ways, which, up-out, nn-out}
+use Rattle.means_area.proofs.Flats.Signs.{up-is, nn-is, up-nn, up-add, off, zero-off, ways, up-out, nn-out}
 use Rattle.means_area.proofs.Flats.Turns.{In, env, uE, vE, tE, hE, spin, flip, flip-last, flat-first}
 use Rattle.means_area.proofs.Flats.Net.{Ok, diagonal, higher}
 use Rattle.means_area.proofs.Flats.Choice.{Hit, in-sense, best, Best, bent}
 use Rattle.means_inside.specs.Beams.{facing}
-use Rattle.means_inside.proofs.Triangle.{fE, self-nn, self-up, twice}
+use Rattle.means_inside.proofs.Triangle.{fE, self-nn, self-up}
 
 -- q is strictly in the angle from a to b at v; in the angle, whichever way round
 abbrev pub Ang : Flat → Flat → Flat → Flat → Type 0

@@ -1,6 +1,6 @@
 -- One triangulation for all points p / d. Assumes nothing.
 use mathlib.Core.Path.{_≡_, refl, sym, _∙_, ap, subst}
-use mathlib.Core.Bool.{Bool, true, false, xor, true≢false}
+use mathlib.Core.Bool.{true, xor}
 use mathlib.Core.Logic.{_⊎_, inl, inr}
 use mathlib.Core.List.{List, [], _∷_, _++_, map}
 use Prim.Native.Nat.{ℕ, zero, suc, _+_, _≤_}
@@ -8,7 +8,7 @@ use native.Mathlib.Omega.{arith}
 use lib.ListN.{length, length-append}
 use lib.IntN.{ℤ, pos, negℤ, _*ℤ_}
 use lib.Signed.{_<ℤ_, <ℤ-irrefl}
-use Rattle.lists.proofs.Truth.{false-xor, xor-false, never}
+use Rattle.lists.proofs.Truth.{false-xor, xor-false, never-true}
 use Rattle.exact.proofs.Ring.{var, _⊗_, neg, ring}
 use Rattle.exact.proofs.Order.{mul-pos, mul-lt}
 use Rattle.exact.proofs.Signs.{mul-zero, pos-ne}
@@ -20,20 +20,19 @@ use Rattle.means_area.proofs.Flats.Turns.{In, flat-second}
 use Rattle.means_area.proofs.Flats.Net.{Ok}
 use Rattle.means_area.proofs.Flats.Choice.{Hit}
 use Rattle.means_area.proofs.Flats.Rings.{lst-append, lst-of}
-use Rattle.means_area.proofs.Flats.Lowest.{Split, of-split}
+use Rattle.means_area.proofs.Flats.Lowest.{of-split}
 use Rattle.means_area.proofs.Flats.First.{first-link, last-link, ear-simple}
 use Rattle.means_area.proofs.Space.Maps.{map-of, map-link, length-map}
-use Rattle.means_inside.specs.Beams.{round, beam, facing, Off, Clear, odd, east}
+use Rattle.means_inside.specs.Beams.{beam, facing, Off, Clear, odd, east}
 use Rattle.means_inside.specs.Regions.{Cut, one, chord, ear, start, InTriangle, At}
-use Rattle.means_inside.specs.Touch.{Touch}
 use Rattle.means_inside.specs.Means.{big}
 use Rattle.means_inside.proofs.Parity.{round-cut}
 use Rattle.means_inside.proofs.Segment.{beam-back}
-use Rattle.means_inside.proofs.Look.{View, Look, empty, far, look}
+use Rattle.means_inside.proofs.Look.{Look, empty, far, look}
 use Rattle.means_inside.proofs.Apart.{parts, low1, low2, f1, f2, simple1, simple2}
 use Rattle.means_inside.proofs.Ears.{off-or, off-end, between-odd}
-use Rattle.means_inside.proofs.Disjoint.{map-app, lst-map, clear-with, disjoint, Form, form}
-use Rattle.means_inside.proofs.Covers.{within-hit, Here, chord-here, ear-here, start-here, tri-here, sums}
+use Rattle.means_inside.proofs.Disjoint.{map-app, lst-map, clear-with, disjoint, form}
+use Rattle.means_inside.proofs.Covers.{Here, chord-here, ear-here, start-here, tri-here, sums}
 use Rattle.means_inside.proofs.Region.{apart, three, ear-inside}
 use Rattle.means_inside.proofs.Scale.{big-turn, big-height, small-up, small-lt, big-simple}
 use Rattle.means_inside.proofs.Chord.{same-between, chord-seen, chord-between}
@@ -69,8 +68,8 @@ cut-inside m u c X w y Y s1 s2 A B i1 i2 s low ok p cl t = go (off-or p u w)
         clash o o' = disjoint m (length (u ∷ c ∷ (X ++ w ∷ [])) + length (u ∷ w ∷ y ∷ Y)) (u ∷ c ∷ (X ++ w ∷ [])) (u ∷ w ∷ y ∷ Y) (omega arith) (parts m u c X w y Y s low ok s1 s2) p c1 c2 o o'
 
         pick : A p ⊎ B p → odd p (u ∷ c ∷ (X ++ w ∷ y ∷ Y)) ≡ true
-        pick (inl x) = let o = i1 p c1 x in sum ∙ (λ i. xor (o i) (never (odd p (u ∷ w ∷ y ∷ Y)) (clash o) i)) ∙ xor-false true
-        pick (inr x) = let o = i2 p c2 x in sum ∙ (λ i. xor (never (odd p (u ∷ c ∷ (X ++ w ∷ []))) (λ q. clash q o) i) (o i)) ∙ false-xor true
+        pick (inl x) = let o = i1 p c1 x in sum ∙ (λ i. xor (o i) (never-true (odd p (u ∷ w ∷ y ∷ Y)) (clash o) i)) ∙ xor-false true
+        pick (inr x) = let o = i2 p c2 x in sum ∙ (λ i. xor (never-true (odd p (u ∷ c ∷ (X ++ w ∷ []))) (λ q. clash q o) i) (o i)) ∙ false-xor true
 
 module _ (m d : ℤ) (k : Up d) where
   abbrev B : Flat → Flat

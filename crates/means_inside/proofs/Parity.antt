@@ -1,10 +1,10 @@
 -- Parities around a ring: of a ring that is cut, and of two that differ by a potential. Assumes nothing.
 use mathlib.Core.Path.{_≡_, refl, sym, _∙_, ap}
 use mathlib.Core.Bool.{Bool, true, false, xor}
-use mathlib.Core.Logic.{_⊎_, inl, inr}
+use mathlib.Core.Logic.{inl, inr}
 use mathlib.Core.List.{List, [], _∷_, _++_}
 use Rattle.lists.specs.Lists.{sides, sidesFrom, oddTrue}
-use Rattle.lists.proofs.Truth.{xor-assoc, xor-false, false-xor}
+use Rattle.lists.proofs.Truth.{xor-assoc, xor-false, false-xor, xor-same}
 use Rattle.paper.specs.declared.Flat.{Flat}
 use Rattle.means_area.specs.Rings.{Of, Chain, Link}
 use Rattle.means_area.specs.Flats.{lst}
@@ -21,13 +21,6 @@ xor-comm true true = refl
 xor-comm true false = refl
 xor-comm false true = refl
 xor-comm false false = refl
-
-pub xor-none : (a b : Bool) → xor a b ≡ false → a ≡ b
-unfolding xor
-xor-none true true e = refl
-xor-none true false e = e
-xor-none false true e = sym e
-xor-none false false e = refl
 
 -- four that add up in another order
 swap4 : (a b c d : Bool) → xor (xor a b) (xor c d) ≡ xor (xor a c) (xor b d)
@@ -78,7 +71,7 @@ tele f k s x (y ∷ l) e h =
 
 pub potential : (f k : Flat → Flat → Bool) (s : Flat → Bool) (g : List Flat) → ((a b : Flat) → Link g a b → xor (f a b) (k a b) ≡ xor (s a) (s b)) → round f g ≡ round k g
 potential f k s [] h = refl
-potential f k s (x ∷ l) h = xor-none (walk f x l x) (walk k x l x) (tele f k s x l x h ∙ xor-self (s x))
+potential f k s (x ∷ l) h = xor-same (walk f x l x) (walk k x l x) (tele f k s x l x h ∙ xor-self (s x))
 
 -- only the last side counts
 pub quiet : (f : Flat → Flat → Bool) (x : Flat) (l : List Flat) (e : Flat) → ((a b : Flat) → Of a (x ∷ l) → Of b (x ∷ l) → Chain x l e a b → f a b ≡ false) → walk f x l e ≡ f (lst x l) e

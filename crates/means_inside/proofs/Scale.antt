@@ -7,30 +7,28 @@ use native.Mathlib.Omega.{arith}
 use lib.IntN.{ℤ, pos, negℤ, _+ℤ_, _-ℤ_, _*ℤ_}
 use lib.Signed.{leZ, _≤ℤ_, _<ℤ_, clashℤ}
 use Rattle.lists.specs.Lists.{sides, sidesFrom, anyTrue, oddTrue}
-use Rattle.lists.proofs.Truth.{never, or-none, and-left, and-right, and-both}
-use Rattle.lists.proofs.Sides.{sides-map}
+use Rattle.lists.proofs.Truth.{never-true, or-none, and-left, and-right, and-both}
 use Rattle.exact.proofs.Ring.{var, con, _⊕_, _⊖_, _⊗_, neg, ring}
-use Rattle.exact.proofs.Linear.{le-by, le-to, lt-by, lt-to}
-use Rattle.exact.proofs.Order.{mul-pos, mul-nonneg, add-nonneg, mul-lt, lt-cancel, sub-nonneg, sub-pos, square-nonneg, ring-with}
+use Rattle.exact.proofs.Linear.{le-by, le-to}
+use Rattle.exact.proofs.Order.{mul-pos, mul-nonneg, add-nonneg, lt-cancel, sub-nonneg, sub-pos, square-nonneg, ring-with}
 use Rattle.exact.proofs.Signs.{le-yes, le-is, lt-or-ge, mul-zero, mul-cancelℤ, pos-ne, <ℤ-≤ℤ}
 use Rattle.paper.specs.Points.{isZero, above, below}
-use Rattle.paper.specs.Polygon.{spans, between, touches, under, meetsRay, crosses, whereFlat, placed}
+use Rattle.paper.specs.Polygon.{spans, between, touches, under, meetsRay, crosses}
 use Rattle.paper.specs.declared.Flat.{Flat}
 use Rattle.paper_laws.proofs.Points.{zero-yes, zero-is}
 use Rattle.means_area.specs.Rings.{Of, Link, Chain, Pair}
 use Rattle.means_area.specs.Flats.{Up, Nn, turn, Cross, height, On, Distinct, Simple}
-use Rattle.means_area.proofs.Flats.Signs.{up-is, nn-is, up-nn, off, ways, which, up-out, up-add, nn-up, nn-out}
-use Rattle.means_area.proofs.Flats.Turns.{env, uE, vE, tE, hE}
+use Rattle.means_area.proofs.Flats.Signs.{up-is, nn-is, up-nn, off, ways, which, up-out, up-add, nn-out}
+use Rattle.means_area.proofs.Flats.Turns.{env, uE, vE, tE}
 use Rattle.means_area.proofs.Flats.Rings.{link-back, link-of}
 use Rattle.means_area.proofs.Space.Maps.{map-of, map-link}
-use Rattle.means_inside.specs.Beams.{walk, round, right, beam, facing, Off, Clear, odd, east}
+use Rattle.means_inside.specs.Beams.{walk, right, beam, facing, Off, Clear, odd, east}
 use Rattle.means_inside.specs.Touch.{Touch}
 use Rattle.means_inside.specs.Means.{big}
 use Rattle.means_inside.proofs.Parity.{odd-round}
 use Rattle.means_inside.proofs.Beams.{above-is, above-no, below-is, below-no}
-use Rattle.means_inside.proofs.Triangle.{fE, twice}
 use Rattle.means_inside.proofs.Segment.{beam-back}
-use Rattle.means_inside.proofs.Ears.{off-back, facing-back}
+use Rattle.means_inside.proofs.Ears.{off-back}
 
 -- ---- a simple ring stays simple
 module _ (m d : ℤ) (k : Up d) where
@@ -119,7 +117,7 @@ module _ (p : Flat) (d : ℤ) (k : Up d) where
       e = ring (d ∷ p .u ∷ p .v ∷ a .u ∷ a .v ∷ []) ((var 1 ⊕ con (pos 1) ⊖ var 1) ⊗ (var 0 ⊗ var 4 ⊖ var 2) ⊖ (var 2 ⊖ var 2) ⊗ (var 0 ⊗ var 3 ⊖ var 1)) (var 0 ⊗ var 4 ⊖ var 2) tt
 
       go : (p .v <ℤ (d *ℤ a .v)) ⊎ ((d *ℤ a .v) ≤ℤ p .v) → leZ (turn p (east p) (big d a)) (pos 0) ≡ leZ (d *ℤ a .v) (p .v)
-      go (inl h) = never (leZ (turn p (east p) (big d a)) (pos 0)) (λ q. clashℤ (up-is (sym e) (sub-pos h)) (le-yes q)) ∙ sym (never (leZ (d *ℤ a .v) (p .v)) (λ q. clashℤ h (le-yes q)))
+      go (inl h) = never-true (leZ (turn p (east p) (big d a)) (pos 0)) (λ q. clashℤ (up-is (sym e) (sub-pos h)) (le-yes q)) ∙ sym (never-true (leZ (d *ℤ a .v) (p .v)) (λ q. clashℤ h (le-yes q)))
       go (inr h) = ap (λ (z : ℤ). leZ z (pos 0)) e ∙ le-is (let ρ = (d *ℤ a .v) ∷ p .v ∷ [] in le-by ρ (var 0 ⊖ var 1) (con (pos 0)) (omega (arith, le-to ρ (var 0) (var 1) h))) ∙ sym (le-is h)
 
   crosses-is : (a b : Flat) → beam p (east p) (big d a) (big d b) ≡ crosses p d a b

@@ -1,23 +1,23 @@
 -- Along a segment that touches no side the parity stays. Assumes nothing.
-use mathlib.Core.Path.{_≡_, refl, sym, _∙_, ap, subst}
+use mathlib.Core.Path.{_≡_, refl, sym, _∙_, ap}
 use mathlib.Core.Bool.{Bool, true, false, xor}
 use mathlib.Core.Logic.{_⊎_, inl, inr}
 use mathlib.Core.List.{List, [], _∷_}
 use lib.IntN.{ℤ, pos, negℤ, _+ℤ_, _-ℤ_, _*ℤ_}
-use lib.Signed.{leZ, _≤ℤ_, _<ℤ_}
+use lib.Signed.{leZ, _<ℤ_}
 use Rattle.exact.proofs.Ring.{var, con, _⊕_, _⊖_, _⊗_, neg, ring}
 use Rattle.exact.proofs.Order.{ring-with, mul-pos, mul-nonneg, sub-pos}
 use Rattle.exact.proofs.Signs.{<ℤ-ne}
 use Rattle.paper.specs.Points.{above, below}
 use Rattle.paper.specs.Polygon.{meetsRay}
 use Rattle.paper.specs.declared.Flat.{Flat}
-use Rattle.means_area.specs.Rings.{Of, Link}
+use Rattle.means_area.specs.Rings.{Link}
 use Rattle.means_area.specs.Flats.{Up, Nn, turn, Cross, height, On}
-use Rattle.means_area.proofs.Flats.Signs.{up-is, nn-is, up-nn, up-add, nn-up, off, zero-off, ways, which, up-out, nn-out, diff-up}
-use Rattle.means_area.proofs.Flats.Turns.{env, uE, vE, tE, hE, spin, flip, flat-second}
+use Rattle.means_area.proofs.Flats.Signs.{up-is, nn-is, up-nn, up-add, off, ways, which, up-out, diff-up}
+use Rattle.means_area.proofs.Flats.Turns.{env, uE, vE, tE, hE, flip}
 use Rattle.means_area.proofs.Flats.Choice.{compare}
 use Rattle.means_area.proofs.Flats.Rings.{link-back}
-use Rattle.means_inside.specs.Beams.{round, right, beam, facing, Off, Clear, odd}
+use Rattle.means_inside.specs.Beams.{right, beam, facing, Off, Clear, odd}
 use Rattle.means_inside.proofs.Parity.{potential, xor-self}
 use Rattle.means_inside.proofs.Beams.{above-is, above-no, below-is, below-no, yes-low, no-low}
 use Rattle.means_inside.proofs.Triangle.{fE, self-nn, self-up, by-ray, twice}

@@ -1,25 +1,22 @@
 -- A triangle and a point: an odd number of sides is met only from within; and a point within on neither side at v is In. Assumes nothing.
-use mathlib.Core.Path.{_≡_, refl, sym, _∙_, ap, subst}
-use mathlib.Core.Bool.{Bool, true, false, true≢false}
+use mathlib.Core.Path.{_≡_, refl, sym, _∙_, ap}
+use mathlib.Core.Bool.{true, false, true≢false}
 use mathlib.Core.Logic.{_⊎_, inl, inr}
 use mathlib.Core.List.{List, [], _∷_}
-use native.Mathlib.Omega.{arith}
 use lib.IntN.{ℤ, pos, negℤ, _+ℤ_, _-ℤ_, _*ℤ_}
-use lib.Signed.{leZ, _≤ℤ_, _<ℤ_, <ℤ-irrefl}
 use Prim.Native.Nat.{ℕ}
 use Rattle.exact.proofs.Laws.{eq-of-sub}
 use Rattle.exact.proofs.Ring.{Expr, var, con, _⊕_, _⊖_, _⊗_, neg, ring}
-use Rattle.exact.proofs.Linear.{le-by, le-to, lt-to}
 use Rattle.exact.proofs.Order.{ring-with, mul-pos, mul-nonneg, add-nonneg, square-nonneg, sum-zero}
 use Rattle.exact.proofs.Signs.{square-zero}
 use Rattle.paper.specs.Polygon.{meetsRay}
 use Rattle.paper.specs.declared.Flat.{Flat}
-use Rattle.means_area.specs.Rings.{Of, Link, Chain}
-use Rattle.means_area.specs.Flats.{Up, Nn, turn, height}
-use Rattle.means_area.proofs.Flats.Signs.{up-is, nn-is, up-nn, up-add, nn-up, off, zero-off, ways, which, up-out, nn-out, nn-neg}
-use Rattle.means_area.proofs.Flats.Turns.{In, env, uE, vE, tE, spin, flip, sum-is}
+use Rattle.means_area.specs.Rings.{Of}
+use Rattle.means_area.specs.Flats.{Up, Nn, turn}
+use Rattle.means_area.proofs.Flats.Signs.{up-is, nn-is, up-nn, nn-up, off, zero-off, ways, which, nn-out}
+use Rattle.means_area.proofs.Flats.Turns.{In, env, uE, vE, tE, spin, flip}
 use Rattle.means_area.proofs.Flats.Rings.{link-of, link-back}
-use Rattle.means_inside.specs.Beams.{walk, round, right, beam, facing, Off, Clear, east, odd}
+use Rattle.means_inside.specs.Beams.{round, right, beam, facing, Off, Clear, east, odd}
 use Rattle.means_inside.proofs.Parity.{silent}
 use Rattle.means_inside.proofs.Beams.{low-no, every-ray}
 

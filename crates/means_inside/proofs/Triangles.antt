@@ -1,15 +1,11 @@
 -- Of any triangulation: the ring's parity is the sum of its triangles', and a point that is odd is in one of them. Assumes nothing.
-use mathlib.Core.Path.{_≡_, refl, sym, _∙_, ap, subst}
-use mathlib.Core.Bool.{Bool, true, false, xor}
-use mathlib.Core.Logic.{_⊎_, inl, inr}
+use mathlib.Core.Path.{_≡_, refl, _∙_, ap}
+use mathlib.Core.Bool.{Bool, xor}
 use mathlib.Core.List.{List, [], _∷_, _++_}
-use lib.IntN.{ℤ, pos, negℤ}
+use lib.IntN.{ℤ}
 use Rattle.paper.specs.declared.Flat.{Flat}
-use Rattle.paper.specs.Polygon.{meetsRay}
-use Rattle.paper.specs.Points.{above, below}
-use Rattle.means_area.specs.Flats.{Up, Nn, turn, Simple, lst}
-use Rattle.means_area.proofs.Flats.Turns.{flip}
-use Rattle.means_inside.specs.Beams.{round, right, beam, odd, east}
+use Rattle.means_area.specs.Flats.{lst}
+use Rattle.means_inside.specs.Beams.{round}
 use Rattle.means_inside.specs.Regions.{Cut, one, chord, ear, start, hits}
 use Rattle.means_inside.proofs.Parity.{round-turned, round-cut, round-ear}
 

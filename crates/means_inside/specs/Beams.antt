@@ -1,13 +1,13 @@
 -- Rays in any direction, and how many sides of a ring they meet. Assumes nothing.
 use mathlib.Core.Path.{_≡_}
-use mathlib.Core.Bool.{Bool, true, false, xor}
+use mathlib.Core.Bool.{Bool, false, xor}
 use mathlib.Core.List.{List, [], _∷_}
 use lib.IntN.{ℤ, pos, _+ℤ_, _-ℤ_, _*ℤ_}
-use lib.Signed.{leZ}
+use lib.Signed.{_<ℤ_, leZ}
 use Rattle.paper.specs.declared.Flat.{Flat}
 use Rattle.paper.specs.Polygon.{meetsRay}
-use Rattle.means_area.specs.Rings.{Link}
-use Rattle.means_area.specs.Flats.{Up, turn}
+use Rattle.means_area.specs.Rings.{Of, Link}
+use Rattle.means_area.specs.Flats.{Up, turn, Cross, height, On}
 
 -- the number of true ones is odd, of f at the steps from x along l to e; at the sides of a ring
 abbrev pub walk : (Flat → Flat → Bool) → Flat → List Flat → Flat → Bool
@@ -44,3 +44,9 @@ east p = record { u = p .u +ℤ pos 1; v = p .v }
 
 abbrev pub odd : Flat → List Flat → Bool
 odd p g = round (beam p (east p)) g
+
+-- nothing crosses the segment from v to p, and no corner is inside it
+pub record Seen (m : ℤ) (v p : Flat) (g : List Flat) : Type 0 where
+  pub up : height m v <ℤ height m p
+  pub uncut : (x y : Flat) → Link g x y → Cross v p x y → ⊥
+  pub bare : (x : Flat) → Of x g → On m v p x → ⊥

@@ -1,10 +1,9 @@
 -- What `whereFlat` means. Assumes nothing.
 use mathlib.Core.Path.{_≡_}
-use mathlib.Core.List.{List, [], _∷_, map}
+use mathlib.Core.List.{List, map}
 use lib.IntN.{ℤ, _*ℤ_}
 use Rattle.paper.specs.Polygon.{whereFlat}
 use Rattle.paper.specs.declared.Flat.{Flat}
-use Rattle.paper.specs.declared.Where.{Where}
 use Rattle.paper.specs.declared.Where.the-variants.{Outside, Border, Inside}
 use Rattle.means_area.specs.Flats.{Up}
 use Rattle.means_inside.specs.Regions.{Cut, At}

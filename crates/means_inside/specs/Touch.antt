@@ -4,7 +4,7 @@ use mathlib.Core.List.{List}
 use lib.IntN.{pos, negℤ}
 use Rattle.paper.specs.declared.Flat.{Flat}
 use Rattle.means_area.specs.Rings.{Link}
-use Rattle.means_area.specs.Flats.{Up, Nn, turn}
+use Rattle.means_area.specs.Flats.{Nn, turn}
 use Rattle.means_inside.specs.Beams.{facing}
 
 -- p is on the side from a to b of g: in its line, and its ends are not to one side of p

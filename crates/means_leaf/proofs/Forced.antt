@@ -1,4 +1,5 @@
--- The directions that the spread gives are forced: directions by which each edge is run once each way, with the first face not turned, are the spread's, wherever it reaches.
+-- The directions that the spread gives are forced: directions by which each edge is run once each way, with the first face not turned, are
+-- the spread's, wherever it reaches.
 -- Assumes nothing.
 use mathlib.Core.Bool.{Bool, true, false, not, _&&_, _||_, cond, xor}
 use mathlib.Core.List.{List, [], _∷_}
@@ -9,7 +10,7 @@ use native.Mathlib.Omega.{arith}
 use native.Mathlib.Decide.{ℕ-discrete}
 use lib.Dec.{eqb}
 use borrow.Author.Tests.{not-true, eq-eqb, ne-eqb, eqb-true}
-use Rattle.lists.proofs.Truth.{and-left, and-right, and-both}
+use Rattle.lists.proofs.Truth.{and-left, and-right, and-both, and-swap}
 use Rattle.sets.specs.Word.{bit, dig, Sub, count, both, less, first}
 use Rattle.paper.specs.Solids.{Reach, unlike, fresh, known, runsDown, acrossEdge, pass, spread, connected, onceEachWay, oriented}
 use Rattle.means_leaf.specs.Meaning.{start, faces, Alike, Opposite}
@@ -18,7 +19,9 @@ use Rattle.means_leaf.proofs.Unlike.{dig-unlike}
 
 -- ---- what an edge asks of two faces
 abbrev pub Suits : List Bool → List Bool → List Bool → List Bool → Type 0
-Suits mask up taken ts = (f g : ℕ) → dig (both mask taken) f ≡ true → dig (both mask taken) g ≡ true → (f ≡ g → ⊥) → xor (dig up f) (dig ts f) ≡ not (xor (dig up g) (dig ts g))
+Suits mask up taken ts =
+    (f g : ℕ) → dig (both mask taken) f ≡ true → dig (both mask taken) g ≡ true → (f ≡ g → ⊥)
+    → xor (dig up f) (dig ts f) ≡ not (xor (dig up g) (dig ts g))
 
 pub once-suits : (mask up taken ts : List Bool) → onceEachWay mask up taken ts ≡ true → Suits mask up taken ts
 unfolding onceEachWay
@@ -29,18 +32,28 @@ once-suits mask up taken ts e f g hf hg n =
     mine = both mask taken
 
     ahead : count (both mine (unlike up ts)) ≡ 1
-    ahead = eqb-true (count (both mine (unlike up ts))) 1 (and-left (eqb (count (both mine (unlike up ts))) 1) (eqb (count (less mine (unlike up ts))) 1) e)
+    ahead =
+        eqb-true (count (both mine (unlike up ts))) 1
+        (and-left (eqb (count (both mine (unlike up ts))) 1) (eqb (count (less mine (unlike up ts))) 1) e)
 
     back : count (less mine (unlike up ts)) ≡ 1
-    back = eqb-true (count (less mine (unlike up ts))) 1 (and-right (eqb (count (both mine (unlike up ts))) 1) (eqb (count (less mine (unlike up ts))) 1) e)
+    back =
+        eqb-true (count (less mine (unlike up ts))) 1
+        (and-right (eqb (count (both mine (unlike up ts))) 1) (eqb (count (less mine (unlike up ts))) 1) e)
 
     go : (x y : Bool) → dig (unlike up ts) f ≡ x → dig (unlike up ts) g ≡ y → xor (dig up f) (dig ts f) ≡ not (dig (unlike up ts) g)
     go true true p q =
-        absurd (n (count-one (both mine (unlike up ts)) ahead f g (dig-both mine (unlike up ts) f ∙ and-both hf p) (dig-both mine (unlike up ts) g ∙ and-both hg q)))
+        absurd
+        (n
+        (count-one (both mine (unlike up ts)) ahead f g (dig-both mine (unlike up ts) f ∙ and-both hf p)
+        (dig-both mine (unlike up ts) g ∙ and-both hg q)))
     go true false p q = sym (dig-unlike up ts f) ∙ p ∙ sym (ap not q)
     go false true p q = sym (dig-unlike up ts f) ∙ p ∙ sym (ap not q)
     go false false p q =
-        absurd (n (count-one (less mine (unlike up ts)) back f g (dig-less mine (unlike up ts) f ∙ and-both hf (ap not p)) (dig-less mine (unlike up ts) g ∙ and-both hg (ap not q))))
+        absurd
+        (n
+        (count-one (less mine (unlike up ts)) back f g (dig-less mine (unlike up ts) f ∙ and-both hf (ap not p))
+        (dig-less mine (unlike up ts) g ∙ and-both hg (ap not q))))
 
 -- ---- the turned are reached, and each reached has its direction
 pub record Right (ts : List Bool) (r : Reach) : Type 0 where
@@ -72,11 +85,13 @@ pub known-dig : (mask taken : List Bool) (r : Reach) (k : ℕ) → dig (known ma
 unfolding known
 known-dig mask taken r k = dig-both (both mask taken) (r .reached) k
 
-pub fresh-dig : (mask taken : List Bool) (r : Reach) (k : ℕ) → dig (fresh mask taken r) k ≡ dig (both mask taken) k && not (dig (r .reached) k)
+pub fresh-dig : (mask taken : List Bool) (r : Reach) (k : ℕ)
+    → dig (fresh mask taken r) k ≡ dig (both mask taken) k && not (dig (r .reached) k)
 unfolding fresh
 fresh-dig mask taken r k = dig-less (both mask taken) (r .reached) k
 
-picked-dig : (d : Bool) (fr up : List Bool) (k : ℕ) → dig (cond d (less fr up) (both fr up)) k ≡ dig fr k && cond d (not (dig up k)) (dig up k)
+picked-dig : (d : Bool) (fr up : List Bool) (k : ℕ) → dig (cond d (less fr up) (both fr up)) k ≡ dig fr k && cond d (not (dig up k))
+    (dig up k)
 picked-dig true fr up k = dig-less fr up k
 picked-dig false fr up k = dig-both fr up k
 
@@ -90,7 +105,9 @@ module _ (mask up taken : List Bool) (r : Reach) where
     unfolding acrossEdge
     reached-dig k = rw (eq-eqb (count (known mask taken r)) 1 one) (dig-either (r .reached) (fresh mask taken r) k)
 
-    pub turned-dig : (k : ℕ) → dig (acrossEdge mask up taken r .turned) k ≡ dig (r .turned) k || (dig (fresh mask taken r) k && cond (runsDown mask up taken r) (not (dig up k)) (dig up k))
+    pub turned-dig : (k : ℕ)
+        → dig (acrossEdge mask up taken r .turned) k ≡ dig (r .turned)
+        k || (dig (fresh mask taken r) k && cond (runsDown mask up taken r) (not (dig up k)) (dig up k))
     unfolding acrossEdge
     turned-dig k =
         rw (eq-eqb (count (known mask taken r)) 1 one)
@@ -100,7 +117,8 @@ module _ (mask up taken : List Bool) (r : Reach) where
     here-known : dig (known mask taken r) (first (known mask taken r)) ≡ true
     here-known = first-in (known mask taken r) (λ e. omega arith)
 
-    down-is : runsDown mask up taken r ≡ eqb (bit (dig up (first (known mask taken r)))) (bit (dig (r .turned) (first (known mask taken r))))
+    down-is : runsDown mask up taken r ≡ eqb (bit (dig up (first (known mask taken r))))
+        (bit (dig (r .turned) (first (known mask taken r))))
     unfolding runsDown
     down-is =
         ap₂ eqb (count-with (known mask taken r) up (first (known mask taken r)) one here-known)
@@ -108,21 +126,32 @@ module _ (mask up taken : List Bool) (r : Reach) where
 
     module _ (ts : List Bool) (s : Suits mask up taken ts) (h : Right ts r) where
       f-mine : dig (both mask taken) (first (known mask taken r)) ≡ true
-      f-mine = and-left (dig (both mask taken) (first (known mask taken r))) (dig (r .reached) (first (known mask taken r))) (sym (known-dig mask taken r (first (known mask taken r))) ∙ here-known)
+      f-mine =
+          and-left (dig (both mask taken) (first (known mask taken r))) (dig (r .reached) (first (known mask taken r)))
+          (sym (known-dig mask taken r (first (known mask taken r))) ∙ here-known)
 
       f-reached : dig (r .reached) (first (known mask taken r)) ≡ true
-      f-reached = and-right (dig (both mask taken) (first (known mask taken r))) (dig (r .reached) (first (known mask taken r))) (sym (known-dig mask taken r (first (known mask taken r))) ∙ here-known)
+      f-reached =
+          and-right (dig (both mask taken) (first (known mask taken r))) (dig (r .reached) (first (known mask taken r)))
+          (sym (known-dig mask taken r (first (known mask taken r))) ∙ here-known)
 
       -- a fresh face gets its direction
       fresh-right : (k : ℕ) → dig (fresh mask taken r) k ≡ true → cond (runsDown mask up taken r) (not (dig up k)) (dig up k) ≡ dig ts k
       fresh-right k e =
-          let mine : dig (both mask taken) k ≡ true = and-left (dig (both mask taken) k) (not (dig (r .reached) k)) (sym (fresh-dig mask taken r k) ∙ e) in
-          let out : dig (r .reached) k ≡ false = not-true (dig (r .reached) k) (and-right (dig (both mask taken) k) (not (dig (r .reached) k)) (sym (fresh-dig mask taken r k) ∙ e)) in
-          let apart : first (known mask taken r) ≡ k → ⊥ = λ q. never (sym (subst (λ (x : ℕ). dig (r .reached) x ≡ true) q f-reached) ∙ out) in
-          ap (λ (x : Bool). cond x (not (dig up k)) (dig up k)) (down-is ∙ ap (λ (x : Bool). eqb (bit (dig up (first (known mask taken r)))) (bit x)) (h .right (first (known mask taken r)) f-reached))
-          ∙ turn-of (dig up (first (known mask taken r))) (dig up k) (dig ts (first (known mask taken r))) (dig ts k) (s (first (known mask taken r)) k f-mine mine apart)
+          let mine : dig (both mask taken) k ≡ true = and-left (dig (both mask taken) k) (not (dig (r .reached) k))
+          (sym (fresh-dig mask taken r k) ∙ e) in
+          let out : dig (r .reached) k ≡ false = not-true (dig (r .reached) k)
+          (and-right (dig (both mask taken) k) (not (dig (r .reached) k)) (sym (fresh-dig mask taken r k) ∙ e)) in
+          let apart : first (known mask taken r) ≡ k
+          → ⊥ = λ q. never (sym (subst (λ (x : ℕ). dig (r .reached) x ≡ true) q f-reached) ∙ out) in
+          ap (λ (x : Bool). cond x (not (dig up k)) (dig up k))
+          (down-is
+          ∙ ap (λ (x : Bool). eqb (bit (dig up (first (known mask taken r)))) (bit x)) (h .right (first (known mask taken r)) f-reached))
+          ∙ turn-of (dig up (first (known mask taken r))) (dig up k) (dig ts (first (known mask taken r))) (dig ts k)
+          (s (first (known mask taken r)) k f-mine mine apart)
 
-      turned-right : (x y z t : Bool) → (x ≡ true → z ≡ true) → (z ≡ true → x ≡ t) → {p : Bool} → (y ≡ true → p ≡ t) → (z || y) ≡ true → (z ≡ true → y ≡ false) → (x || (y && p)) ≡ t
+      turned-right : (x y z t : Bool) → (x ≡ true → z ≡ true) → (z ≡ true → x ≡ t) → {p : Bool} → (y ≡ true → p ≡ t) → (z || y) ≡ true
+          → (z ≡ true → y ≡ false) → (x || (y && p)) ≡ t
       turned-right true y true t a b c d e = b refl
       turned-right true y false t a b c d e = never (sym (a refl))
       turned-right false true true t a b c d e = never (e refl)
@@ -145,8 +174,12 @@ module _ (mask up taken : List Bool) (r : Reach) where
 
       over-one : Right ts (acrossEdge mask up taken r)
       over-one = record {
-        within = λ k e. reached-dig k ∙ reached-within (dig (r .turned) k) (dig (fresh mask taken r) k) (dig (r .reached) k) (cond (runsDown mask up taken r) (not (dig up k)) (dig up k)) (h .within k) (sym (turned-dig k) ∙ e);
-        right = λ k e. turned-dig k ∙ turned-right (dig (r .turned) k) (dig (fresh mask taken r) k) (dig (r .reached) k) (dig ts k) (h .within k) (h .right k) (fresh-right k) (sym (reached-dig k) ∙ e) (fresh-out k);
+        within =
+            λ k e. reached-dig k ∙ reached-within (dig (r .turned) k) (dig (fresh mask taken r) k) (dig (r .reached) k)
+            (cond (runsDown mask up taken r) (not (dig up k)) (dig up k)) (h .within k) (sym (turned-dig k) ∙ e);
+        right =
+            λ k e. turned-dig k ∙ turned-right (dig (r .turned) k) (dig (fresh mask taken r) k) (dig (r .reached) k) (dig ts k)
+            (h .within k) (h .right k) (fresh-right k) (sym (reached-dig k) ∙ e) (fresh-out k);
       }
 
   over-right : (ts : List Bool) → Suits mask up taken ts → Right ts r → Right ts (acrossEdge mask up taken r)
@@ -157,7 +190,8 @@ module _ (mask up taken : List Bool) (r : Reach) where
       go (no n) = subst (λ (x : Reach). Right ts x) (sym (over-not n)) h
 
 -- ---- over all edges, and again and again
-pub oriented-here : (mask up : List Bool) (masks ups : List (List Bool)) (taken ts : List Bool) → oriented (mask ∷ masks) (up ∷ ups) taken ts ≡ true → (onceEachWay mask up taken ts ≡ true) × (oriented masks ups taken ts ≡ true)
+pub oriented-here : (mask up : List Bool) (masks ups : List (List Bool)) (taken ts : List Bool)
+    → oriented (mask ∷ masks) (up ∷ ups) taken ts ≡ true → (onceEachWay mask up taken ts ≡ true) × (oriented masks ups taken ts ≡ true)
 unfolding oriented
 oriented-here mask up masks ups taken ts e = go (onceEachWay mask up taken ts) e
   where
@@ -165,7 +199,8 @@ oriented-here mask up masks ups taken ts e = go (onceEachWay mask up taken ts) e
     go true e = (refl, e)
     go false e = never (sym e)
 
-pub pass-right : (masks ups : List (List Bool)) (taken ts : List Bool) → oriented masks ups taken ts ≡ true → (r : Reach) → Right ts r → Right ts (pass masks ups taken r)
+pub pass-right : (masks ups : List (List Bool)) (taken ts : List Bool) → oriented masks ups taken ts ≡ true → (r : Reach) → Right ts r
+    → Right ts (pass masks ups taken r)
 unfolding pass
 pass-right [] ups taken ts o r h = h
 pass-right (mask ∷ masks) [] taken ts o r h = h
@@ -173,12 +208,14 @@ pass-right (mask ∷ masks) (up ∷ ups) taken ts o r h =
     let q = oriented-here mask up masks ups taken ts o in
     pass-right masks ups taken ts (q .1) (acrossEdge mask up taken r) (over-right mask up taken r ts (once-suits mask up taken ts (q .0)) h)
 
-pub spread-right : (n : ℕ) (masks ups : List (List Bool)) (taken ts : List Bool) → oriented masks ups taken ts ≡ true → (r : Reach) → Right ts r → Right ts (spread n masks ups taken r)
+pub spread-right : (n : ℕ) (masks ups : List (List Bool)) (taken ts : List Bool) → oriented masks ups taken ts ≡ true → (r : Reach)
+    → Right ts r → Right ts (spread n masks ups taken r)
 unfolding spread
 spread-right zero masks ups taken ts o r h = h
 spread-right (suc n) masks ups taken ts o r h =
     let next = pass-right masks ups taken ts o r h in
-    go (eqb (count (pass masks ups taken r .reached)) (count (r .reached))) next (spread-right n masks ups taken ts o (pass masks ups taken r) next)
+    go (eqb (count (pass masks ups taken r .reached)) (count (r .reached))) next
+    (spread-right n masks ups taken ts o (pass masks ups taken r) next)
   where
     go : (b : Bool) → Right ts (pass masks ups taken r) → Right ts (spread n masks ups taken (pass masks ups taken r))
         → Right ts (cond b (pass masks ups taken r) (spread n masks ups taken (pass masks ups taken r)))
@@ -191,7 +228,8 @@ start-right taken ts e = record {
   right = λ k p. sym (ap (dig ts) (dig-only (first taken) k p) ∙ e);
 }
 
-pub faces-right : (masks ups : List (List Bool)) (taken ts : List Bool) → oriented masks ups taken ts ≡ true → dig ts (first taken) ≡ false → Right ts (faces masks ups taken)
+pub faces-right : (masks ups : List (List Bool)) (taken ts : List Bool) → oriented masks ups taken ts ≡ true → dig ts (first taken) ≡ false
+    → Right ts (faces masks ups taken)
 unfolding faces
 faces-right masks ups taken ts o e = spread-right (count taken) masks ups taken ts o (start taken) (start-right taken ts e)
 
@@ -202,12 +240,6 @@ guarded false x y h = refl
 
 mine-taken : (mask taken : List Bool) (k : ℕ) → dig (both mask taken) k ≡ true → dig taken k ≡ true
 mine-taken mask taken k e = and-right (dig mask k) (dig taken k) (sym (dig-both mask taken k) ∙ e)
-
-and-swap : (x y : Bool) → (x && y) ≡ (y && x)
-and-swap true true = refl
-and-swap true false = refl
-and-swap false true = refl
-and-swap false false = refl
 
 xor-not : (x y : Bool) → xor x (not y) ≡ not (xor x y)
 unfolding xor
@@ -226,9 +258,13 @@ module _ (mask up taken s t : List Bool) where
   once-alike h =
       ap₂ (λ (m n : ℕ). eqb m 1 && eqb n 1)
       (count-same (both (both mask taken) (unlike up s)) (both (both mask taken) (unlike up t))
-      (λ k. dig-both (both mask taken) (unlike up s) k ∙ guarded (dig (both mask taken) k) (dig (unlike up s) k) (dig (unlike up t) k) (same k) ∙ sym (dig-both (both mask taken) (unlike up t) k)))
+      (λ k. dig-both (both mask taken) (unlike up s) k
+      ∙ guarded (dig (both mask taken) k) (dig (unlike up s) k) (dig (unlike up t) k) (same k)
+      ∙ sym (dig-both (both mask taken) (unlike up t) k)))
       (count-same (less (both mask taken) (unlike up s)) (less (both mask taken) (unlike up t))
-      (λ k. dig-less (both mask taken) (unlike up s) k ∙ guarded (dig (both mask taken) k) (not (dig (unlike up s) k)) (not (dig (unlike up t) k)) (λ e. ap not (same k e)) ∙ sym (dig-less (both mask taken) (unlike up t) k)))
+      (λ k. dig-less (both mask taken) (unlike up s) k
+      ∙ guarded (dig (both mask taken) k) (not (dig (unlike up s) k)) (not (dig (unlike up t) k)) (λ e. ap not (same k e))
+      ∙ sym (dig-less (both mask taken) (unlike up t) k)))
     where
       same : (k : ℕ) → dig (both mask taken) k ≡ true → dig (unlike up s) k ≡ dig (unlike up t) k
       same k e = dig-unlike up s k ∙ ap (xor (dig up k)) (h k (mine-taken mask taken k e)) ∙ sym (dig-unlike up t k)
@@ -238,18 +274,23 @@ module _ (mask up taken s t : List Bool) where
   once-opposite h =
       ap₂ (λ (m n : ℕ). eqb m 1 && eqb n 1)
       (count-same (both (both mask taken) (unlike up s)) (less (both mask taken) (unlike up t))
-      (λ k. dig-both (both mask taken) (unlike up s) k ∙ guarded (dig (both mask taken) k) (dig (unlike up s) k) (not (dig (unlike up t) k)) (flip k) ∙ sym (dig-less (both mask taken) (unlike up t) k)))
+      (λ k. dig-both (both mask taken) (unlike up s) k ∙ guarded (dig (both mask taken) k) (dig (unlike up s) k) (not (dig (unlike up t) k))
+      (flip k) ∙ sym (dig-less (both mask taken) (unlike up t) k)))
       (count-same (less (both mask taken) (unlike up s)) (both (both mask taken) (unlike up t))
       (λ k. dig-less (both mask taken) (unlike up s) k
-      ∙ guarded (dig (both mask taken) k) (not (dig (unlike up s) k)) (dig (unlike up t) k) (λ e. ap not (flip k e) ∙ not-not (dig (unlike up t) k))
+      ∙ guarded (dig (both mask taken) k) (not (dig (unlike up s) k)) (dig (unlike up t) k)
+      (λ e. ap not (flip k e) ∙ not-not (dig (unlike up t) k))
       ∙ sym (dig-both (both mask taken) (unlike up t) k)))
       ∙ and-swap (eqb (count (less (both mask taken) (unlike up t))) 1) (eqb (count (both (both mask taken) (unlike up t))) 1)
     where
       flip : (k : ℕ) → dig (both mask taken) k ≡ true → dig (unlike up s) k ≡ not (dig (unlike up t) k)
-      flip k e = dig-unlike up s k ∙ ap (xor (dig up k)) (h k (mine-taken mask taken k e)) ∙ xor-not (dig up k) (dig t k) ∙ sym (ap not (dig-unlike up t k))
+      flip k e =
+          dig-unlike up s k ∙ ap (xor (dig up k)) (h k (mine-taken mask taken k e)) ∙ xor-not (dig up k) (dig t k)
+          ∙ sym (ap not (dig-unlike up t k))
 
 module _ (taken s t : List Bool) where
-  oriented-by : ((mask up : List Bool) → onceEachWay mask up taken s ≡ onceEachWay mask up taken t) → (masks ups : List (List Bool)) → oriented masks ups taken s ≡ oriented masks ups taken t
+  oriented-by : ((mask up : List Bool) → onceEachWay mask up taken s ≡ onceEachWay mask up taken t) → (masks ups : List (List Bool))
+      → oriented masks ups taken s ≡ oriented masks ups taken t
   unfolding oriented
   oriented-by h [] ups = refl
   oriented-by h (mask ∷ masks) [] = refl
@@ -268,25 +309,34 @@ all-reached taken r e k h = go (dig (r .reached) k) refl
   where
     go : (b : Bool) → dig (r .reached) k ≡ b → b ≡ true
     go true p = refl
-    go false p = absurd (count-none (less taken (r .reached)) (eqb-true (count (less taken (r .reached))) 0 e) k (dig-less taken (r .reached) k ∙ and-both h (ap not p)))
+    go false p =
+        absurd
+        (count-none (less taken (r .reached)) (eqb-true (count (less taken (r .reached))) 0 e) k
+        (dig-less taken (r .reached) k ∙ and-both h (ap not p)))
 
--- (iii): where the faces are connected and can be given directions so that each edge is run once each way, the spread's are such, and there are no others than these and all of them turned
-pub directions : (masks ups : List (List Bool)) (taken : List Bool) → connected taken (faces masks ups taken) ≡ true → (ts : List Bool) → oriented masks ups taken ts ≡ true
-    → (oriented masks ups taken (faces masks ups taken .turned) ≡ true) × (Alike taken ts (faces masks ups taken .turned) ⊎ Opposite taken ts (faces masks ups taken .turned))
+-- (iii): where the faces are connected and can be given directions so that each edge is run once each way, the spread's are such, and there
+-- are no others than these and all of them turned
+pub directions : (masks ups : List (List Bool)) (taken : List Bool) → connected taken (faces masks ups taken) ≡ true → (ts : List Bool)
+    → oriented masks ups taken ts ≡ true
+    → (oriented masks ups taken (faces masks ups taken .turned) ≡ true)
+    × (Alike taken ts (faces masks ups taken .turned) ⊎ Opposite taken ts (faces masks ups taken .turned))
 directions masks ups taken c ts o = go (dig ts (first taken)) refl
   where
-    agree : (s : List Bool) → oriented masks ups taken s ≡ true → dig s (first taken) ≡ false → Alike taken s (faces masks ups taken .turned)
+    agree : (s : List Bool) → oriented masks ups taken s ≡ true → dig s (first taken) ≡ false
+        → Alike taken s (faces masks ups taken .turned)
     agree s p e k h = sym (faces-right masks ups taken s p e .right k (all-reached taken (faces masks ups taken) c k h))
 
     other : Opposite taken (less taken ts) ts
     other k h = dig-less taken ts k ∙ ap (λ (x : Bool). x && not (dig ts k)) h
 
     go : (b : Bool) → dig ts (first taken) ≡ b
-        → (oriented masks ups taken (faces masks ups taken .turned) ≡ true) × (Alike taken ts (faces masks ups taken .turned) ⊎ Opposite taken ts (faces masks ups taken .turned))
+        → (oriented masks ups taken (faces masks ups taken .turned) ≡ true)
+        × (Alike taken ts (faces masks ups taken .turned) ⊎ Opposite taken ts (faces masks ups taken .turned))
     go false e = (sym (oriented-alike taken ts (faces masks ups taken .turned) (agree ts o e) masks ups) ∙ o, inl (agree ts o e))
     go true e =
         let p : oriented masks ups taken (less taken ts) ≡ true = oriented-opposite taken (less taken ts) ts other masks ups ∙ o in
-        let z : dig (less taken ts) (first taken) ≡ false = dig-less taken ts (first taken) ∙ ap (λ (x : Bool). dig taken (first taken) && not x) e ∙ and-off (dig taken (first taken)) in
+        let z : dig (less taken ts) (first taken) ≡ false = dig-less taken ts (first taken)
+        ∙ ap (λ (x : Bool). dig taken (first taken) && not x) e ∙ and-off (dig taken (first taken)) in
         let a : Alike taken (less taken ts) (faces masks ups taken .turned) = agree (less taken ts) p z in (
           sym (oriented-alike taken (less taken ts) (faces masks ups taken .turned) a masks ups) ∙ p,
           inr (λ k h. sym (not-not (dig ts k)) ∙ ap not (sym (other k h) ∙ a k h)),

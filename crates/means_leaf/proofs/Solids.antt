@@ -1,4 +1,5 @@
--- The verdict is document 01's: a selection in which every edge is in exactly two is judged a solid just where it passes (ii) to (v), and with the directions for which six volumes is above zero.
+-- The verdict is document 01's: a selection in which every edge is in exactly two is judged a solid just where it passes (ii) to (v), and
+-- with the directions for which six volumes is above zero.
 -- Assumes nothing.
 use mathlib.Core.Bool.{Bool, true, false, not, _&&_, cond}
 use mathlib.Core.List.{List, [], _∷_}
@@ -55,7 +56,8 @@ pub turned-opposite : (taken t : List Bool) → Opposite taken (less taken t) t
 turned-opposite taken t k h = dig-less taken t k ∙ ap (λ (x : Bool). x && not (dig t k)) h
 
 -- ---- the tests, one by one
-picked : (a b c d : Bool) (v : Judgement) {ts : List Bool} {n : ℕ} → cond a Fails (cond b (cond c (cond d v Fails) Fails) Fails) ≡ Solid ts n
+picked : (a b c d : Bool) (v : Judgement) {ts : List Bool} {n : ℕ}
+    → cond a Fails (cond b (cond c (cond d v Fails) Fails) Fails) ≡ Solid ts n
     → (a ≡ false) × (b ≡ true) × (c ≡ true) × (d ≡ true) × (v ≡ Solid ts n)
 picked true b c d v e = let z : _≡_ {A = ℕ} 0 1 = cc in absurd (omega arith)
 picked false false c d v e = let z : _≡_ {A = ℕ} 0 1 = cc in absurd (omega arith)
@@ -67,13 +69,16 @@ module _ (t : Tables) (taken : List Bool) (same : length (t .masks) ≡ length (
   pub judged-solid : {ts : List Bool} {v : ℕ} → judged t taken ≡ Solid ts v → IsSolid t taken ts v
   unfolding judged facesFrom faces
   judged-solid {ts} {v} e =
-      let q = picked (eqb (count taken) 0) (connected taken (faces (t .masks) (t .ups) taken)) (oriented (t .masks) (t .ups) taken (faces (t .masks) (t .ups) taken .turned)) (clearFrom 0 (t .clashes) taken)
+      let q = picked (eqb (count taken) 0) (connected taken (faces (t .masks) (t .ups) taken))
+      (oriented (t .masks) (t .ups) taken (faces (t .masks) (t .ups) taken .turned)) (clearFrom 0 (t .clashes) taken)
       (weighed taken (faces (t .masks) (t .ups) taken .turned) (sixFrom 0 (t .sixes) taken (faces (t .masks) (t .ups) taken .turned))) e in
       go (sixFrom 0 (t .sixes) taken (faces (t .masks) (t .ups) taken .turned)) refl (q .4)
       (connected-ways (t .masks) (t .ups) taken same two (eqb-false (count taken) 0 (q .0)) (q .1)) (q .2) (q .3)
     where
-      go : (z : ℤ) → sixFrom 0 (t .sixes) taken (faces (t .masks) (t .ups) taken .turned) ≡ z → weighed taken (faces (t .masks) (t .ups) taken .turned) z ≡ Solid ts v
-          → Connected (t .masks) taken → oriented (t .masks) (t .ups) taken (faces (t .masks) (t .ups) taken .turned) ≡ true → clearFrom 0 (t .clashes) taken ≡ true → IsSolid t taken ts v
+      go : (z : ℤ) → sixFrom 0 (t .sixes) taken (faces (t .masks) (t .ups) taken .turned) ≡ z
+          → weighed taken (faces (t .masks) (t .ups) taken .turned) z ≡ Solid ts v
+          → Connected (t .masks) taken → oriented (t .masks) (t .ups) taken (faces (t .masks) (t .ups) taken .turned) ≡ true
+          → clearFrom 0 (t .clashes) taken ≡ true → IsSolid t taken ts v
       go (pos zero) p w c o a = let z : _≡_ {A = ℕ} 0 1 = cc in absurd (omega arith)
       go (pos (suc n)) p w c o a =
           let d : faces (t .masks) (t .ups) taken .turned ≡ ts = cc in
@@ -88,14 +93,17 @@ module _ (t : Tables) (taken : List Bool) (same : length (t .masks) ≡ length (
       go (negsuc n) p w c o a =
           let d : less taken (faces (t .masks) (t .ups) taken .turned) ≡ ts = cc in
           let m : suc n ≡ v = cc in
-          let opp : Opposite taken (less taken (faces (t .masks) (t .ups) taken .turned)) (faces (t .masks) (t .ups) taken .turned) = turned-opposite taken (faces (t .masks) (t .ups) taken .turned) in
+          let opp : Opposite taken (less taken (faces (t .masks) (t .ups) taken .turned))
+          (faces (t .masks) (t .ups) taken .turned) = turned-opposite taken (faces (t .masks) (t .ups) taken .turned) in
           record {
             joined = c;
             directed = ap (oriented (t .masks) (t .ups) taken) (sym d)
-                ∙ oriented-opposite taken (less taken (faces (t .masks) (t .ups) taken .turned)) (faces (t .masks) (t .ups) taken .turned) opp (t .masks) (t .ups) ∙ o;
+                ∙ oriented-opposite taken (less taken (faces (t .masks) (t .ups) taken .turned)) (faces (t .masks) (t .ups) taken .turned)
+                opp (t .masks) (t .ups) ∙ o;
             apart = a;
             volume = ap (sixFrom 0 (t .sixes) taken) (sym d)
-                ∙ six-opposite taken (less taken (faces (t .masks) (t .ups) taken .turned)) (faces (t .masks) (t .ups) taken .turned) opp 0 (t .sixes) ∙ ap negℤ p ∙ ap pos m;
+                ∙ six-opposite taken (less taken (faces (t .masks) (t .ups) taken .turned)) (faces (t .masks) (t .ups) taken .turned) opp 0
+                (t .sixes) ∙ ap negℤ p ∙ ap pos m;
             above = omega arith;
           }
 
@@ -103,19 +111,24 @@ module _ (t : Tables) (taken : List Bool) (same : length (t .masks) ≡ length (
   unfolding judged facesFrom faces
   solid-judged {ts} {v} s =
       let some : count taken ≡ 0 → ⊥ = λ e. zero-not (sym (six-none taken ts (count-none taken e) 0 (t .sixes)) ∙ s .volume) (s .above) in
-      let c : connected taken (faces (t .masks) (t .ups) taken) ≡ true = ways-connected (t .masks) (t .ups) taken same two some (s .joined) in
+      let c : connected taken (faces (t .masks) (t .ups) taken) ≡ true = ways-connected (t .masks) (t .ups) taken same two some
+      (s .joined) in
       let d = directions (t .masks) (t .ups) taken c ts (s .directed) in
       rw (ne-eqb (count taken) 0 some, c, d .0, s .apart) (go v (s .above) (s .volume) (d .1))
     where
       zero-not : pos 0 ≡ pos v → 0 < v → ⊥
       zero-not e h = let z : 0 ≡ v = cc in omega arith
 
-      go : (n : ℕ) → 0 < n → sixFrom 0 (t .sixes) taken ts ≡ pos n → Alike taken ts (faces (t .masks) (t .ups) taken .turned) ⊎ Opposite taken ts (faces (t .masks) (t .ups) taken .turned)
-          → (us : List Bool) × (weighed taken (faces (t .masks) (t .ups) taken .turned) (sixFrom 0 (t .sixes) taken (faces (t .masks) (t .ups) taken .turned)) ≡ Solid us n) × Alike taken ts us
+      go : (n : ℕ) → 0 < n → sixFrom 0 (t .sixes) taken ts ≡ pos n → Alike taken ts (faces (t .masks) (t .ups) taken .turned)
+          ⊎ Opposite taken ts (faces (t .masks) (t .ups) taken .turned)
+          → (us : List Bool)
+          × (weighed taken (faces (t .masks) (t .ups) taken .turned) (sixFrom 0 (t .sixes) taken (faces (t .masks) (t .ups) taken .turned))
+          ≡ Solid us n) × Alike taken ts us
       go zero h e d = absurd (omega arith)
       go (suc n) h e (inl a) = (
         faces (t .masks) (t .ups) taken .turned,
-        ap (weighed taken (faces (t .masks) (t .ups) taken .turned)) (sym (six-alike taken ts (faces (t .masks) (t .ups) taken .turned) a 0 (t .sixes)) ∙ e),
+        ap (weighed taken (faces (t .masks) (t .ups) taken .turned))
+            (sym (six-alike taken ts (faces (t .masks) (t .ups) taken .turned) a 0 (t .sixes)) ∙ e),
         a,
       )
       go (suc n) h e (inr a) = (
@@ -130,7 +143,8 @@ module _ (t : Tables) (taken : List Bool) (same : length (t .masks) ≡ length (
 pub judged-within : (t : Tables) (taken : List Bool) {ts : List Bool} {v : ℕ} → judged t taken ≡ Solid ts v → Sub ts taken
 unfolding judged facesFrom faces
 judged-within t taken {ts} {v} e =
-    let q = picked (eqb (count taken) 0) (connected taken (faces (t .masks) (t .ups) taken)) (oriented (t .masks) (t .ups) taken (faces (t .masks) (t .ups) taken .turned)) (clearFrom 0 (t .clashes) taken)
+    let q = picked (eqb (count taken) 0) (connected taken (faces (t .masks) (t .ups) taken))
+    (oriented (t .masks) (t .ups) taken (faces (t .masks) (t .ups) taken .turned)) (clearFrom 0 (t .clashes) taken)
     (weighed taken (faces (t .masks) (t .ups) taken .turned) (sixFrom 0 (t .sixes) taken (faces (t .masks) (t .ups) taken .turned))) e in
     go (sixFrom 0 (t .sixes) taken (faces (t .masks) (t .ups) taken .turned)) (q .4) (eqb-false (count taken) 0 (q .0))
   where

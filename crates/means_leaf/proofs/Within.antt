@@ -26,7 +26,8 @@ over-fit mask up taken r f = go (ℕ-discrete (count (known mask taken r)) 1)
 
     go : Dec (count (known mask taken r) ≡ 1) → Fit (acrossEdge mask up taken r)
     go (yes e) = λ k h. reached-dig mask up taken r e k
-        ∙ more (dig (r .turned) k) (dig (fresh mask taken r) k) (dig (r .reached) k) (cond (runsDown mask up taken r) (not (dig up k)) (dig up k)) (f k) (sym (turned-dig mask up taken r e k) ∙ h)
+        ∙ more (dig (r .turned) k) (dig (fresh mask taken r) k) (dig (r .reached) k)
+        (cond (runsDown mask up taken r) (not (dig up k)) (dig up k)) (f k) (sym (turned-dig mask up taken r e k) ∙ h)
     go (no n) = subst Fit (sym (over-not mask up taken r n)) f
 
 pass-fit : (masks ups : List (List Bool)) (taken : List Bool) (r : Reach) → Fit r → Fit (pass masks ups taken r)
@@ -38,12 +39,14 @@ pass-fit (mask ∷ masks) (up ∷ ups) taken r f = pass-fit masks ups taken (acr
 abbrev Safe : List Bool → Reach → Type 0
 Safe taken r = Fit r × Sub (r .reached) taken
 
-spread-safe : (n : ℕ) (masks ups : List (List Bool)) (taken : List Bool) (r : Reach) → Safe taken r → Safe taken (spread n masks ups taken r)
+spread-safe : (n : ℕ) (masks ups : List (List Bool)) (taken : List Bool) (r : Reach) → Safe taken r
+    → Safe taken (spread n masks ups taken r)
 unfolding spread
 spread-safe zero masks ups taken r f = f
 spread-safe (suc n) masks ups taken r f =
     let next : Safe taken (pass masks ups taken r) = (pass-fit masks ups taken r (f .0), pass-taken masks ups taken r (f .1)) in
-    go (eqb (count (pass masks ups taken r .reached)) (count (r .reached))) next (spread-safe n masks ups taken (pass masks ups taken r) next)
+    go (eqb (count (pass masks ups taken r .reached)) (count (r .reached))) next
+    (spread-safe n masks ups taken (pass masks ups taken r) next)
   where
     go : (b : Bool) → Safe taken (pass masks ups taken r) → Safe taken (spread n masks ups taken (pass masks ups taken r))
         → Safe taken (cond b (pass masks ups taken r) (spread n masks ups taken (pass masks ups taken r)))

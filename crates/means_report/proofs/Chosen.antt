@@ -20,11 +20,10 @@ use Rattle.paper.specs.Walk.{Undecided}
 use Rattle.means_walk.specs.Lowest.{On, Chooses}
 use Rattle.means_walk.proofs.Chosen.{tree-chooses}
 use Rattle.means_solid.specs.Solid.{Goes}
+use Rattle.means_solid.proofs.Goes.{goes-runs, has-nil, dig-map}
 use Rattle.means_report.specs.Proper.{Proper}
 use Rattle.means_report.specs.Listed.{WalkTree}
-use Rattle.means_report.proofs.Goes.{goes-runs}
 use Rattle.means_report.proofs.Loops.{candidates-proper, candidates-closed}
-use Rattle.means_report.proofs.Rows.{dig-map, has-none}
 
 -- from its last corner a loop goes to its first
 goes-back : (l : Loop) → Proper l → Goes l (final l) (getD l 0 0)
@@ -65,7 +64,7 @@ on-an-edge d k h =
       r .0,
       omega (arith, r .1, length-map (d .edges) (λ e. map (has e) (candidates d))),
       ap (λ (mask : List Bool). getD mask k false) (map-at (λ e. map (has e) (candidates d)) (d .edges) (r .0) (edge 0 0) [] (r .1))
-          ∙ dig-map (has (getD (d .edges) (r .0) (edge 0 0))) (has-none (getD (d .edges) (r .0) (edge 0 0))) (candidates d) k ∙ q,
+          ∙ dig-map (has (getD (d .edges) (r .0) (edge 0 0))) (has-nil (getD (d .edges) (r .0) (edge 0 0))) (candidates d) k ∙ q,
     )
 
 -- at every branch of a drawing's walk

@@ -9,7 +9,7 @@ use lib.Dec.{eqb, ltb}
 use lib.IntN.{ℤ, _+ℤ_}
 use lib.ListN.{length, getD}
 use borrow.Author.Tests.{eqb-true, eq-eqb, lt-ltb, le-ltb, ltb-true, ltb-false}
-use Rattle.lists.specs.Lists.{sides, anyTrue, upto}
+use Rattle.lists.specs.Lists.{upto}
 use Rattle.lists.proofs.Truth.{and-left, and-right, and-both, or-left, or-right, or-cases}
 use Rattle.lists.proofs.Places.{map-at, made-length, made-at}
 use Rattle.sets.specs.Word.{dig, count, both, less}
@@ -21,35 +21,14 @@ use Rattle.paper.specs.Solids.{runs, runsUp, has, faceSix, clashing, unlike, on
 use Rattle.means_leaf.proofs.Unlike.{dig-unlike}
 use Rattle.means_leaf.proofs.Counts.{one-count, count-one-is, pair-count, count-pair}
 use Rattle.means_solid.specs.Solid.{Goes, Face, Runs, Has, InTwo, RunOnce, EachWay, share, sixOf}
+use Rattle.means_solid.proofs.Goes.{runs-goes, goes-runs, runs-nil, has-nil, up-nil, dig-map, taken-in, ahead-one, back-one}
 use Rattle.means_report.specs.Proper.{AllProper}
-use Rattle.means_report.proofs.Goes.{runs-goes, goes-runs, one-way}
+use Rattle.means_report.proofs.Goes.{one-way}
 
 -- ---- a mask, digit by digit
-pub dig-map : (f : Loop → Bool) → f [] ≡ false → (cs : List Loop) (k : ℕ) → dig (map f cs) k ≡ f (loopAt cs k)
-dig-map f e [] k = sym e
-dig-map f e (c ∷ cs) zero = refl
-dig-map f e (c ∷ cs) (suc k) = dig-map f e cs k
-
-runs-none : (a b : ℕ) → runs a b [] ≡ false
-unfolding runs sides anyTrue
-runs-none a b = refl
-
-pub has-none : (e : Edge) → has e [] ≡ false
-unfolding has
-has-none (edge a b) = ap₂ _||_ (runs-none a b) (runs-none b a)
-
-up-none : (e : Edge) → runsUp e [] ≡ false
-unfolding runsUp
-up-none (edge a b) = runs-none a b
-
--- a place that is not past the end
-pub taken-in : (a : List Bool) (k : ℕ) → dig a k ≡ true → k < length a
-taken-in [] k e = never (sym e)
-taken-in (x ∷ a) zero e = omega arith
-taken-in (x ∷ a) (suc k) e = omega (arith, taken-in a k e)
 
 runs-in : (a b : ℕ) (cs : List Loop) (k : ℕ) → runs a b (loopAt cs k) ≡ true → k < length cs
-runs-in a b [] k e = never (sym e ∙ runs-none a b)
+runs-in a b [] k e = never (sym e ∙ runs-nil a b)
 runs-in a b (c ∷ cs) zero e = omega arith
 runs-in a b (c ∷ cs) (suc k) e = omega (arith, runs-in a b cs k e)
 
@@ -69,7 +48,7 @@ module _ (d : Wire) (cs : List Loop) (taken turned : List Bool) where
   told-has k (edge a b) (inr g) = or-right (runs a b (loopAt cs k)) (runs b a (loopAt cs k)) (goes-runs b a (loopAt cs k) g)
 
   on-dig : (k : ℕ) (e : Edge) → dig (both (map (has e) cs) taken) k ≡ (has e (loopAt cs k) && dig taken k)
-  on-dig k e = dig-both (map (has e) cs) taken k ∙ ap (λ (x : Bool). x && dig taken k) (dig-map (has e) (has-none e) cs k)
+  on-dig k e = dig-both (map (has e) cs) taken k ∙ ap (λ (x : Bool). x && dig taken k) (dig-map (has e) (has-nil e) cs k)
 
   pub on-told : (k : ℕ) (e : Edge) → dig (both (map (has e) cs) taken) k ≡ true → Face d cs taken turned k × Has d cs taken turned k e
   on-told k e h =
@@ -135,39 +114,6 @@ module _ (d : Wire) (cs : List Loop) (taken turned : List Bool) where
   told-once a b mask at o =
       one-count mask (o .by) (at (o .by) ∙ told-run (o .by) a b (o .face) (o .runs)) (λ k h. let q = run-told k a b (sym (at k) ∙ h) in o .only k (q .0) (q .1))
 
-  -- r and q: whether the loop runs from a to b, and from b to a
-  ahead-one : (r q t taken : Bool) → (r ≡ true → q ≡ true → ⊥) → (((r || q) && taken) && xor r t) ≡ (taken && cond t q r)
-  unfolding xor
-  ahead-one true true t taken n = absurd (n refl refl)
-  ahead-one true false true true n = refl
-  ahead-one true false true false n = refl
-  ahead-one true false false true n = refl
-  ahead-one true false false false n = refl
-  ahead-one false true true true n = refl
-  ahead-one false true true false n = refl
-  ahead-one false true false true n = refl
-  ahead-one false true false false n = refl
-  ahead-one false false true true n = refl
-  ahead-one false false true false n = refl
-  ahead-one false false false true n = refl
-  ahead-one false false false false n = refl
-
-  back-one : (r q t taken : Bool) → (r ≡ true → q ≡ true → ⊥) → (((r || q) && taken) && not (xor r t)) ≡ (taken && cond t r q)
-  unfolding xor
-  back-one true true t taken n = absurd (n refl refl)
-  back-one true false true true n = refl
-  back-one true false true false n = refl
-  back-one true false false true n = refl
-  back-one true false false false n = refl
-  back-one false true true true n = refl
-  back-one false true true false n = refl
-  back-one false true false true n = refl
-  back-one false true false false n = refl
-  back-one false false true true n = refl
-  back-one false false true false n = refl
-  back-one false false false true n = refl
-  back-one false false false false n = refl
-
   module _ (ok : AllProper cs) (a b : ℕ) where
     not-both : (k : ℕ) → runs a b (loopAt cs k) ≡ true → runs b a (loopAt cs k) ≡ true → ⊥
     not-both k p q = one-way a b (loopAt cs k) (ok k (runs-in a b cs k p)) (runs-goes a b (loopAt cs k) p) (runs-goes b a (loopAt cs k) q)
@@ -178,7 +124,7 @@ module _ (d : Wire) (cs : List Loop) (taken turned : List Bool) where
 
     way-dig : (k : ℕ) → dig (unlike (map (runsUp (edge a b)) cs) turned) k ≡ xor (runs a b (loopAt cs k)) (dig turned k)
     unfolding runsUp
-    way-dig k = dig-unlike (map (runsUp (edge a b)) cs) turned k ∙ ap (λ (x : Bool). xor x (dig turned k)) (dig-map (runsUp (edge a b)) (up-none (edge a b)) cs k)
+    way-dig k = dig-unlike (map (runsUp (edge a b)) cs) turned k ∙ ap (λ (x : Bool). xor x (dig turned k)) (dig-map (runsUp (edge a b)) (up-nil (edge a b)) cs k)
 
     ahead-dig : (k : ℕ) → dig (both (both (map (has (edge a b)) cs) taken) (unlike (map (runsUp (edge a b)) cs) turned)) k
         ≡ (dig taken k && cond (dig turned k) (runs b a (loopAt cs k)) (runs a b (loopAt cs k)))

@@ -9,6 +9,7 @@ use lib.ListN.{getD, set}
 use lib.Dec.{eqb, ltb}
 use borrow.Author.Tests.{eq-eqb, eqb-true, eqb-false, ltb-true, ltb-false}
 use Rattle.lists.specs.Lists.{filter, keep}
+use Rattle.lists.proofs.Truth.{same-truth, or-cases}
 use Rattle.sets.specs.Word.{bit, count, both, first}
 use Rattle.paper.specs.Walk.{Status, Taken, Rejected, Undecided, isTaken, isOpen, takenOn, openOn, openCount, decideOne, decide, settle, contradicts, Outcome, Broken, Stands, onStands, sweep, stable, choose}
 use Rattle.means_walk.specs.Complete.{allows, agrees, exact, equal, same, times, solutions}
@@ -21,13 +22,6 @@ and-both false b e = absurd (true≢false (sym e))
 
 both-and : {a b : Bool} → a ≡ true → b ≡ true → (a && b) ≡ true
 both-and p q = rw (p, q)
-
--- two Bools are equal where each is true when the other is
-equal-both : (a b : Bool) → (a ≡ true → b ≡ true) → (b ≡ true → a ≡ true) → a ≡ b
-equal-both true true f g = refl
-equal-both true false f g = sym (f refl)
-equal-both false true f g = g refl
-equal-both false false f g = refl
 
 -- ---- a final list that a state allows: how many it has taken on an edge
 one-low : (b : Bool) (s v : Status) → allows s v ≡ true → bit (b && isTaken s) ≤ bit (b && isTaken v)
@@ -132,18 +126,14 @@ settle-agrees mask st x h = go (eqb (takenOn mask st) 2) refl (eqb (takenOn mask
   where
     go : (b : Bool) → eqb (takenOn mask st) 2 ≡ b → (c : Bool) → eqb (takenOn mask st + openOn mask st) 2 ≡ c
         → agrees (cond b (decide Rejected mask st) (cond c (decide Taken mask st) st)) x ≡ agrees st x
-    go true p c q = equal-both (agrees (decide Rejected mask st) x) (agrees st x) (decided-back Rejected refl mask st x) (λ e. rejected-agrees mask st x e (eqb-true (takenOn mask st) 2 p ∙ sym h))
-    go false p true q = equal-both (agrees (decide Taken mask st) x) (agrees st x) (decided-back Taken refl mask st x) (λ e. taken-agrees mask st x e (h ∙ sym (eqb-true (takenOn mask st + openOn mask st) 2 q)))
+    go true p c q = same-truth (agrees (decide Rejected mask st) x) (agrees st x) (decided-back Rejected refl mask st x) (λ e. rejected-agrees mask st x e (eqb-true (takenOn mask st) 2 p ∙ sym h))
+    go false p true q = same-truth (agrees (decide Taken mask st) x) (agrees st x) (decided-back Taken refl mask st x) (λ e. taken-agrees mask st x e (h ∙ sym (eqb-true (takenOn mask st + openOn mask st) 2 q)))
     go false p false q = refl
-
-or-either : (a b : Bool) → (a || b) ≡ true → (a ≡ true) ⊎ (b ≡ true)
-or-either true b e = inl refl
-or-either false b e = inr e
 
 -- a contradiction allows no x with two taken on the edge
 pub contradicts-agrees : (mask : List Bool) (st x : List Status) → takenOn mask x ≡ 2 → contradicts mask st ≡ true → agrees st x ≡ false
 unfolding contradicts
-contradicts-agrees mask st x h e = go (agrees st x) refl (or-either (ltb 2 (takenOn mask st)) (ltb (takenOn mask st + openOn mask st) 2) e)
+contradicts-agrees mask st x h e = go (agrees st x) refl (or-cases (ltb 2 (takenOn mask st)) (ltb (takenOn mask st + openOn mask st) 2) e)
   where
     go : (b : Bool) → agrees st x ≡ b → (ltb 2 (takenOn mask st) ≡ true) ⊎ (ltb (takenOn mask st + openOn mask st) 2 ≡ true) → b ≡ false
     go false a w = refl

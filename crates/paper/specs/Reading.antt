@@ -1,9 +1,11 @@
 -- Document 01, the numbers and values of each answer, and "The reading of a conversion's answer". Assumes nothing.
 use mathlib.Core.List.{List, [], _∷_}
+use mathlib.Core.Option.{Option, none, some}
 use Prim.Native.Nat.{ℕ}
 use lib.IntN.{pos}
 use lib.Ieee.{Float, binary64, div, ofInt}
 use Rattle.paper.specs.Refusals as No
+use Rattle.paper.specs.Refusals.{Check, check}
 use Rattle.paper.specs.declared.Refusal.{Refusal}
 use Rattle.paper.specs.declared.Answer.{Answer}
 use Rattle.paper.specs.declared.Answer.the-variants as Answer
@@ -29,6 +31,12 @@ refused r = record { number = r .number; place = r .place; values = [] }
 
 abbrev pub fine : List ℕ → Said
 fine vs = record { number = 0; place = 0; values = vs }
+
+-- "the first that applies is the answer", as it is said; the values are those that come back where none applies
+unfoldable pub firstSaid : List Check → List ℕ → Said
+firstSaid [] vs = fine vs
+firstSaid (check n none ∷ cs) vs = firstSaid cs vs
+firstSaid (check n (some p) ∷ cs) vs = record { number = n; place = p; values = [] }
 
 -- a sheet, a lent drawing or a face list that is read
 abbrev pub answerSays : Answer → Said
@@ -60,6 +68,15 @@ verdictSays (Verdict.Refused r) = refused r
 -- "The volume is six volumes divided by 6,000,000, both held exactly, rounded once."
 unfoldable pub volume : ℕ → Float
 volume six = div binary64 (ofInt binary64 (pos six)) (ofInt binary64 (pos 6000000))
+
+-- what a reading says: the number that says why nothing was assessed, 0 where there is a volume; and the volume
+pub record Shown : Type 0 where
+  pub number : ℕ
+  pub shown : Option Float
+
+abbrev pub readingSays : Reading → Shown
+readingSays (Reading.Volume v) = record { number = 0; shown = some v }
+readingSays (Reading.NotAssessed n) = record { number = n; shown = none }
 
 unfoldable pub readingOf : Conversion → Reading
 unfolding volume

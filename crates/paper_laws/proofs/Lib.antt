@@ -5,3 +5,5 @@ pub mod Coordinate
 pub mod Rows
 pub mod Vectors
 pub mod Points
+pub mod Wires
+pub mod Answers

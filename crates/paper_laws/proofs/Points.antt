@@ -9,7 +9,7 @@ use Rattle.lists.proofs.Truth.{and-left, and-right}
 use Rattle.exact.proofs.Laws.{eq-of-sub}
 use Rattle.exact.proofs.Signs.{mul-zero, square-zero, lt-of-le-ne}
 use Rattle.exact.proofs.Order.{add-nonneg, sum-zero, square-nonneg}
-use Rattle.paper.specs.Points.{pt, origin, isZero, isOrigin, plus, minus, times, dot, cross}
+use Rattle.paper.specs.Points.{pt, origin, isZero, isOrigin, plus, minus, times, dot, cross, samePoint}
 use Rattle.paper.specs.declared.Point.{Point}
 use Rattle.paper_laws.proofs.Vectors.{num, vec, k, x, _·_, o, v, _+v_, _-v_, _*v_, _×v_, vring}
 
@@ -94,3 +94,12 @@ self-zero p e =
 
 pub self-pos : (p : Point) → (p ≡ origin → ⊥) → pos 0 <ℤ dot p p
 self-pos p n = lt-of-le-ne (self-nonneg p) (λ e. n (self-zero p (sym e)))
+
+-- two points at one place
+pub same-yes : (p q : Point) → samePoint p q ≡ true → p ≡ q
+unfolding samePoint
+same-yes p q e = point-eq p q (origin-yes (minus p q) e)
+
+pub same-is : (p q : Point) → p ≡ q → samePoint p q ≡ true
+unfolding samePoint
+same-is p q e = origin-is (ap (λ (r : Point). minus r q) e ∙ vring (vec q ∷ []) (v 0 -v v 0) o tt)

@@ -2,7 +2,7 @@
 use mathlib.Core.Bool.{Bool, true, false, not, _&&_, _||_, true≢false, and-false, and-true, or-false}
 use mathlib.Core.List.{List, [], _∷_}
 use mathlib.Core.Path.{_≡_, refl, sym, ap, _∙_}
-use Prim.Native.Nat.{ℕ, zero, suc, _≤_, _<_}
+use Prim.Native.Nat.{ℕ, zero, suc, _≤_, _<_, _+_}
 use native.Mathlib.Omega.{arith}
 use lib.ListN.{length}
 use Rattle.sets.specs.Word.{bit, dig, Sub, count, first, both, either, less, only}
@@ -106,7 +106,7 @@ left false y e = e
 pub count-less : (a b : List Bool) → count (less a b) ≤ count a
 count-less a b = count-le (less a b) a (λ k e. left (dig a k) (not (dig b k)) (sym (dig-less a b k) ∙ e))
 
-less-nil : (a : List Bool) → less a [] ≡ a
+pub less-nil : (a : List Bool) → less a [] ≡ a
 unfolding less
 less-nil [] = refl
 less-nil (x ∷ xs) = refl
@@ -169,3 +169,24 @@ unfolding count first
 first-in [] n = absurd (n refl)
 first-in (true ∷ a) n = refl
 first-in (false ∷ a) n = first-in a (λ e. n (omega arith))
+
+-- what is in both and what is in the first alone
+pub count-split : (a b : List Bool) → count (both a b) + count (less a b) ≡ count a
+unfolding count both less
+count-split [] b = refl
+count-split (x ∷ a) [] = omega arith
+count-split (true ∷ a) (true ∷ b) = omega (arith, count-split a b)
+count-split (true ∷ a) (false ∷ b) = omega (arith, count-split a b)
+count-split (false ∷ a) (y ∷ b) = omega (arith, count-split a b)
+
+-- a digit alone is one; no more are set than there are
+pub count-alone : (j : ℕ) → count (only j) ≡ 1
+unfolding count only
+count-alone zero = refl
+count-alone (suc j) = omega (arith, count-alone j)
+
+pub count-length : (a : List Bool) → count a ≤ length a
+unfolding count
+count-length [] = omega arith
+count-length (true ∷ a) = omega (arith, count-length a)
+count-length (false ∷ a) = omega (arith, count-length a)

@@ -17,7 +17,7 @@ use Rattle.means_area.specs.Rings.{Of}
 use Rattle.means_area.specs.Space.{Level}
 
 -- the sum of the cross products is across the plane
-normal-across : (g : List Point) (n s : Point) → Level n s g → cross n (normal g) ≡ origin
+pub normal-across : (g : List Point) (n s : Point) → Level n s g → cross n (normal g) ≡ origin
 unfolding normal sum sides
 normal-across [] n s f = vring (vec n ∷ []) (v 0 ×v o) o tt
 normal-across (a ∷ l) n s f = go a l (inl refl) (λ q i. inr i) ∙ vring (num (dot n s) ∷ vec a ∷ []) (x 0 *v (v 1 -v v 1)) o tt
@@ -44,7 +44,7 @@ normal-across (a ∷ l) n s f = go a l (inl refl) (λ q i. inr i) ∙ vring (num
         ∙ vring (num (dot n s) ∷ vec p ∷ vec q ∷ vec a ∷ []) (x 0 *v (v 1 -v v 2) +v x 0 *v (v 2 -v v 3)) (x 0 *v (v 1 -v v 3)) tt
 
 -- what is across n is across what is in line with n
-across-too : (n m w : Point) → (n ≡ origin → ⊥) → cross n m ≡ origin → dot n w ≡ pos 0 → dot m w ≡ pos 0
+pub across-too : (n m w : Point) → (n ≡ origin → ⊥) → cross n m ≡ origin → dot n w ≡ pos 0 → dot m w ≡ pos 0
 across-too n m w ne e h =
     mul-zero (dot n n) (dot m w) (pos-ne (self-pos n ne))
     (vring (num (dot n n) ∷ vec m ∷ vec w ∷ []) (x 0 *s (v 1 · v 2)) ((x 0 *v v 1) · v 2) tt ∙ ap (λ (p : Point). dot p w) (in-line n m e)

@@ -6,13 +6,14 @@ use lib.IntN.{ℤ, pos, _+ℤ_, _-ℤ_, _*ℤ_}
 use Rattle.exact.proofs.Laws.{eq-of-sub, sub-of-eq}
 use Rattle.exact.proofs.Ring.{var, con, _⊕_, _⊖_, _⊗_, ring}
 use Rattle.exact.proofs.Signs.{mul-zero}
-use Rattle.paper.specs.Points.{pt, origin, minus, dot, isZero}
+use Rattle.paper.specs.Points.{pt, minus, dot, isZero}
 use Rattle.paper.specs.Polygon.{axis, seen}
 use Rattle.paper.specs.declared.Point.{Point}
 use Rattle.paper.specs.declared.Flat.{Flat}
 use Rattle.paper.specs.declared.Axis.{Axis}
 use Rattle.paper.specs.declared.Axis.the-variants.{AlongX, AlongY, AlongZ}
 use Rattle.paper_laws.proofs.Points.{zero-yes, zero-is}
+use Rattle.means_area.specs.Theorems.{AxisReal}
 use Rattle.means_area.specs.Space.{through}
 
 -- a sum of three products that is 0, whose last two have a factor 0
@@ -22,7 +23,7 @@ one a b c p q r s t u n e f g = eq-of-sub p q (mul-zero a (p -ℤ q) n
     ∙ (λ i. e i -ℤ b *ℤ sub-of-eq r s f i -ℤ c *ℤ sub-of-eq t u g i) ∙ ring (b ∷ c ∷ []) (con (pos 0) ⊖ var 0 ⊗ con (pos 0) ⊖ var 1 ⊗ con (pos 0)) (con (pos 0)) tt))
 
 -- along the axis that is chosen for a direction, it is not 0
-pub axis-real : (n : Point) → (n ≡ origin → ⊥) → through (axis n) n ≡ pos 0 → ⊥
+pub axis-real : AxisReal
 unfolding axis
 axis-real n ne = go (isZero (n .x)) refl (isZero (n .y)) refl
   where

@@ -1,40 +1,18 @@
 -- A drawing that 5, 8, 9 and 10 have nothing against: the ends of its edges rise and are vertices. Assumes nothing.
-use mathlib.Core.Path.{_≡_, refl}
-use mathlib.Core.List.{List, [], _∷_}
-use Prim.Native.Nat.{ℕ, zero, suc, _+_, _*_, _/_, _<_}
+use mathlib.Core.Path.{_≡_}
+use mathlib.Core.List.{List}
+use Prim.Native.Nat.{ℕ, _+_, _*_, _/_}
 use native.Mathlib.Omega.{arith}
 use lib.IntN.{ℤ}
-use lib.ListN.{length, getD}
+use lib.ListN.{length}
+use Rattle.paper_laws.proofs.Wires.{length-points, length-edges, edge-at}
 use Rattle.paper.specs.Refusals.{firstOf}
 use Rattle.paper.specs.Sheet.{lentChecks}
-use Rattle.paper.specs.Drawing.{Edge, edge, edgeAt, pointsOf, edgesOf, wire}
+use Rattle.paper.specs.Drawing.{edge, edgeAt, wire}
 use Rattle.paper.specs.declared.Format.{Format}
 use Rattle.paper.specs.declared.Answer.the-variants.{Fine}
 use Rattle.sheet_laws.proofs.Lent.{contents, lent}
 use Rattle.means_drawing.specs.Drawings.{Rising}
-
-length-points : (l : List ℤ) → length (pointsOf l) ≡ length l / 3
-unfolding pointsOf
-length-points [] = refl
-length-points (x ∷ []) = refl
-length-points (x ∷ (y ∷ [])) = refl
-length-points (x ∷ (y ∷ (z ∷ l))) = omega (arith, length-points l)
-
-length-edges : (l : List ℕ) → length (edgesOf l) ≡ length l / 2
-unfolding edgesOf
-length-edges [] = refl
-length-edges (a ∷ []) = refl
-length-edges (a ∷ (b ∷ l)) = omega (arith, length-edges l)
-
-edge-at : (l : List ℕ) (e : ℕ) (z : Edge) → e < length (edgesOf l) → getD (edgesOf l) e z ≡ edge (getD l (2 * e) 0) (getD l (2 * e + 1) 0)
-unfolding edgesOf
-edge-at [] e z h = absurd (omega arith)
-edge-at (a ∷ []) e z h = absurd (omega arith)
-edge-at (a ∷ (b ∷ l)) zero z h = refl
-edge-at (a ∷ (b ∷ l)) (suc e) z h =
-    let p : 2 * suc e ≡ suc (suc (2 * e)) = omega arith in
-    let q : 2 * suc e + 1 ≡ suc (suc (2 * e + 1)) = omega arith in
-    rw (q, p) (edge-at l e z (omega arith))
 
 pub lent-rising : (f : Format) (xyz : List ℤ) (ends : List ℕ) → Fine ≡ firstOf (lentChecks f xyz ends) → Rising (wire xyz ends)
 unfolding wire edgeAt

@@ -14,8 +14,8 @@ use lib.Seq.{ext-getD}
 use Rattle.lists.specs.Lists.{any, upto}
 use Rattle.lists.proofs.Lowest.{lowest-none}
 use Rattle.sets.specs.Word.{dig, Sub, count}
-use Rattle.sets.proofs.Digits.{count-back}
-use Rattle.lists.proofs.Truth.{and-left, and-right, and-both, or-left, or-right, or-cases, never}
+use Rattle.sets.proofs.Digits.{count-back, count-length}
+use Rattle.lists.proofs.Truth.{and-left, and-right, and-both, or-left, or-right, or-cases, never-true}
 use Rattle.lists.proofs.Places.{made-at, made-length}
 use Rattle.lists.proofs.Passing.{any-yes, any-is, some-yes, some-is}
 use Rattle.paper.specs.Drawing.{Wire, Edge, edge, edgeAt, joins, joined, further, verticesReached, apart}
@@ -23,12 +23,6 @@ use Rattle.means_drawing.specs.Drawings.{Finds, start, stop, Vertex, Joi
 use Rattle.means_drawing.proofs.Searches.{finds, finds-none}
 
 -- ---- counts of rows
-
-count-length : (a : List Bool) → count a ≤ length a
-unfolding count
-count-length [] = omega arith
-count-length (true ∷ a) = omega (arith, count-length a)
-count-length (false ∷ a) = omega (arith, count-length a)
 
 count-some : (a : List Bool) → dig a 0 ≡ true → 1 ≤ count a
 unfolding count
@@ -182,7 +176,7 @@ module _ (d : Wire) where
       to-not v h e r = true≢false (sym (marked-means v h .1 r) ∙ not-true (marked v) e)
 
       of-not : (v : ℕ) → v < n → (Reachable d v → ⊥) → not (marked v) ≡ true
-      of-not v h f = ap not (never (marked v) (λ q. f (marked-means v h .0 q)))
+      of-not v h f = ap not (never-true (marked v) (λ q. f (marked-means v h .0 q)))
 
   pub apart-none : (apart d ≡ none) ↔ ((v : ℕ) → Vertex d v → Reachable d v)
   unfolding apart

@@ -9,7 +9,7 @@ use borrow.Author.Tests.{eqb-true, eq-eqb, ne-eqb, not-true}
 use lib.Dec.{eqb}
 use lib.ListN.{length}
 use Rattle.lists.specs.Lists.{any, upto}
-use Rattle.lists.proofs.Truth.{and-left, and-right, and-both, or-left, or-right, or-cases, never}
+use Rattle.lists.proofs.Truth.{and-left, and-right, and-both, or-left, or-right, or-cases, never-true}
 use Rattle.lists.proofs.Passing.{any-yes, any-is, some-yes, some-is}
 use Rattle.paper.specs.Points.{minus, samePoint}
 use Rattle.paper.specs.Drawing.{Wire, Edge, edge, at, edgeAt, ends, samePlace, looseVertex}
@@ -76,7 +76,7 @@ module _ (d : Wire) where
     where
       of : Loose d v → not (any (ends v) (d .edges)) ≡ true
       of f =
-          ap not (never (any (ends v) (d .edges)) (λ q. let r = any-yes (ends v) (edge 0 0) (d .edges) q in f (r .0) (r .1) (end-yes v (edgeAt d (r .0)) (r .2))))
+          ap not (never-true (any (ends v) (d .edges)) (λ q. let r = any-yes (ends v) (edge 0 0) (d .edges) q in f (r .0) (r .1) (end-yes v (edgeAt d (r .0)) (r .2))))
 
       to : not (any (ends v) (d .edges)) ≡ true → Loose d v
       to e i l q = true≢false (sym (any-is (ends v) (edge 0 0) (d .edges) i l (end-is v (edgeAt d i) q)) ∙ not-true (any (ends v) (d .edges)) e)

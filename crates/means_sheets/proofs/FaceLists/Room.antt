@@ -1,11 +1,10 @@
 -- What the writer of face lists leaves in its room, where it writes. Assumes nothing.
 use mathlib.Core.Path.{_≡_, refl, sym, ap, ap₂, _∙_}
-use mathlib.Core.Bool.{Bool, true, false, not, _||_}
+use mathlib.Core.Bool.{false, not, _||_}
 use mathlib.Core.List.{List, _++_}
-use Prim.Native.Nat.{ℕ, _≤_, _<_}
+use Prim.Native.Nat.{ℕ, _≤_}
 use native.Mathlib.Nat.{le-trans, le-of-eq, lt-of-lt-of-le}
 use borrow.Author.Tests.{le-ltb, not-false}
-use lib.Dec.{ltb}
 use lib.ListN.{length, take, drop}
 use lib.Seq.{take-at}
 use Rattle.lists.specs.Lists.{all}
@@ -17,7 +16,6 @@ use Rattle.paper.specs.Format.{leastFaces, outside, bytesFor}
 use Rattle.paper.specs.Loops.{Loop}
 use Rattle.paper.specs.FaceList.{listBits, encodeFaces, bitsOf, faceFits, sendChecks, sentFor, sentRoomFor, sentOf, sentRoom}
 use Rattle.paper.specs.declared.Format.{Format}
-use Rattle.paper.specs.declared.Refusal.{Refusal}
 use Rattle.paper.specs.declared.Answer.{Answer}
 use Rattle.paper.specs.declared.Answer.the-variants as Answer
 use Rattle.paper.specs.declared.Written.{Written}

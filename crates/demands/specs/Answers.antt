@@ -1,0 +1,45 @@
+-- What is said of each answer: a number of the table, a place and values, and that these tell which answer it is. Assumes nothing.
+use mathlib.Core.Path.{_≡_}
+use mathlib.Core.List.{List}
+use Prim.Native.Nat.{ℕ, _<_}
+use lib.IntN.{ℤ}
+use Rattle.paper.specs.Format.{editionOne}
+use Rattle.paper.specs.Loops.{Loop}
+use Rattle.paper.specs.FaceList.{facesOf, sentOf}
+use Rattle.paper.specs.Sheet.{sheetOf, writtenOf}
+use Rattle.paper.specs.Reading.{answerSays, writtenSays, conversionSays, verdictSays, readingSays, readingOf}
+use Rattle.paper.specs.declared.Refusal.{Refusal}
+use Rattle.paper.specs.declared.Answer.the-variants as Answer
+use Rattle.paper.specs.declared.Written.{Written}
+use Rattle.paper.specs.declared.Written.the-variants as Written
+use Rattle.paper.specs.declared.Conversion.{Conversion}
+use Rattle.paper.specs.declared.Conversion.the-variants as Conversion
+use Rattle.paper.specs.declared.Verdict.the-variants as Verdict
+use Rattle.paper.specs.declared.Reading.{Reading}
+use Rattle.demands.specs.Input.{Input, converted, checked}
+
+-- no refusal has the number 0, which says that nothing is refused
+pub record Numbered : Type 0 where
+  pub reads : (s : List ℕ) (r : Refusal) → sheetOf editionOne s .answer ≡ Answer.Refused r → 0 < r .number
+  pub writes : (xyz : List ℤ) (ends room : List ℕ) (r : Refusal) → writtenOf editionOne xyz ends room ≡ Written.Refused r → 0 < r .number
+  pub reads-faces : (v : ℕ) (list : List ℕ) (r : Refusal) → facesOf editionOne v list .answer ≡ Answer.Refused r → 0 < r .number
+  pub sends : (fs : List Loop) (room : List ℕ) (r : Refusal) → sentOf editionOne fs room ≡ Written.Refused r → 0 < r .number
+  pub converts : (x : Input) (limit : ℕ) (room solids : List ℕ) (r : Refusal)
+      → converted x limit room solids .answer ≡ Conversion.Refused r → 0 < r .number
+  pub checks : (x : Input) (list : List ℕ) (r : Refusal) → checked x list ≡ Verdict.Refused r → 0 < r .number
+
+-- "a definition gives this paper's number and values for each of its cases": two answers of which the same is said are the same
+pub record Told : Type 0 where
+  pub sheets : (s t : List ℕ) → answerSays (sheetOf editionOne s .answer) ≡ answerSays (sheetOf editionOne t .answer)
+      → sheetOf editionOne s .answer ≡ sheetOf editionOne t .answer
+  pub faces : (v w : ℕ) (s t : List ℕ) → answerSays (facesOf editionOne v s .answer) ≡ answerSays (facesOf editionOne w t .answer)
+      → facesOf editionOne v s .answer ≡ facesOf editionOne w t .answer
+  pub verdicts : (x y : Input) (s t : List ℕ) → verdictSays (checked x s) ≡ verdictSays (checked y t) → checked x s ≡ checked y t
+  pub written : (a b : Written) → writtenSays a ≡ writtenSays b → a ≡ b
+  pub conversions : (a b : Conversion) → conversionSays a ≡ conversionSays b → a ≡ b
+  pub readings : (a b : Reading) → readingSays a ≡ readingSays b → a ≡ b
+
+-- a reading has the number 0 only where there is exactly one solid, so no volume follows from a refusal
+abbrev pub VolumeOfOne : Type 0
+VolumeOfOne = (x : Input) (limit : ℕ) (room solids : List ℕ) → readingSays (readingOf (converted x limit room solids .answer)) .number ≡ 0
+    → (l c work six : ℕ) × (converted x limit room solids .answer ≡ Conversion.One l c work six)

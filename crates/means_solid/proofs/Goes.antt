@@ -1,0 +1,119 @@
+-- A loop that `runs` from a to b goes so by one of its sides, and what an edge's mask of candidates is, digit by digit. Assumes nothing.
+use mathlib.Core.Bool.{Bool, true, false, not, _&&_, _||_, cond, xor, true≢false}
+use mathlib.Core.List.{List, [], _∷_, map}
+use mathlib.Core.Path.{_≡_, refl, sym, ap, _∙_}
+use Prim.Native.Nat.{ℕ, zero, suc, _+_, _<_}
+use native.Mathlib.Numerals.{add-one}
+use native.Mathlib.Omega.{arith}
+use lib.Dec.{eqb}
+use lib.ListN.{length, getD}
+use borrow.Author.Tests.{eqb-true, eq-eqb}
+use Rattle.lists.specs.Lists.{sides, anyTrue}
+use Rattle.lists.specs.Around.{around}
+use Rattle.lists.proofs.Truth.{and-left, and-right, and-both, or-left, or-right}
+use Rattle.lists.proofs.Sides.{sides-length, sides-at}
+use Rattle.sets.specs.Word.{dig}
+use Rattle.sets.proofs.Digits.{never}
+use Rattle.paper.specs.Drawing.{Edge, edge}
+use Rattle.paper.specs.Loops.{Loop, loopAt}
+use Rattle.paper.specs.Solids.{runs, runsUp, has}
+use Rattle.means_solid.specs.Solid.{Goes}
+
+-- ---- a list of tests, one of which is true
+
+pub true-yes : (bs : List Bool) → anyTrue bs ≡ true → (i : ℕ) × (i < length bs) × (getD bs i false ≡ true)
+unfolding anyTrue
+true-yes [] e = absurd (true≢false (sym e))
+true-yes (true ∷ bs) e = (0, omega arith, refl)
+true-yes (false ∷ bs) e = let r = true-yes bs e in (suc (r .0), (let l = r .1 in omega arith), r .2)
+
+pub true-is : (bs : List Bool) (i : ℕ) → getD bs i false ≡ true → anyTrue bs ≡ true
+unfolding anyTrue
+true-is [] i e = absurd (true≢false (sym e))
+true-is (b ∷ bs) zero e = or-left b (anyTrue bs) e
+true-is (b ∷ bs) (suc i) e = or-right b (anyTrue bs) (true-is bs i e)
+
+-- ---- a loop goes from a to b
+
+abbrev isSide : ℕ → ℕ → ℕ → ℕ → Bool
+isSide a b x y = eqb a x && eqb b y
+
+pub runs-goes : (a b : ℕ) (l : Loop) → runs a b l ≡ true → Goes l a b
+unfolding runs
+runs-goes a b l e =
+    let r = true-yes (sides (isSide a b) l) e in
+    let h : r .0 < length l = omega (arith, r .1, sides-length (isSide a b) l) in
+    let s : isSide a b (around l (r .0) 0) (around l (r .0 + 1) 0) ≡ true = sym (sides-at (isSide a b) l (r .0) false 0 h) ∙ r .2 in
+    record {
+      at = r .0;
+      here = h;
+      from = eqb-true a (around l (r .0) 0) (and-left (eqb a (around l (r .0) 0)) (eqb b (around l (r .0 + 1) 0)) s);
+      to = eqb-true b (around l (r .0 + 1) 0) (and-right (eqb a (around l (r .0) 0)) (eqb b (around l (r .0 + 1) 0)) s) ∙ ap (λ (k : ℕ). around l k 0) (add-one (r .0));
+    }
+
+pub goes-runs : (a b : ℕ) (l : Loop) → Goes l a b → runs a b l ≡ true
+unfolding runs
+goes-runs a b l g =
+    true-is (sides (isSide a b) l) (g .at)
+    (sides-at (isSide a b) l (g .at) false 0 (g .here)
+    ∙ and-both (eq-eqb a (around l (g .at) 0) (g .from)) (eq-eqb b (around l (g .at + 1) 0) (g .to ∙ ap (λ (k : ℕ). around l k 0) (sym (add-one (g .at))))))
+
+-- ---- no candidate stands past the last
+
+pub has-nil : (e : Edge) → has e [] ≡ false
+unfolding has runs anyTrue sides
+has-nil (edge a b) = refl
+
+pub up-nil : (e : Edge) → runsUp e [] ≡ false
+unfolding runsUp runs anyTrue sides
+up-nil (edge a b) = refl
+
+pub runs-nil : (a b : ℕ) → runs a b [] ≡ false
+unfolding runs anyTrue sides
+runs-nil a b = refl
+
+pub dig-map : (f : Loop → Bool) → f [] ≡ false → (cs : List Loop) (k : ℕ) → dig (map f cs) k ≡ f (loopAt cs k)
+dig-map f e [] k = sym e
+dig-map f e (c ∷ cs) zero = refl
+dig-map f e (c ∷ cs) (suc k) = dig-map f e cs k
+
+-- a place that is not past the end
+pub taken-in : (a : List Bool) (k : ℕ) → dig a k ≡ true → k < length a
+taken-in [] k e = never (sym e)
+taken-in (x ∷ a) zero e = omega arith
+taken-in (x ∷ a) (suc k) e = omega (arith, taken-in a k e)
+
+-- ---- of the faces on an edge, those that run it one way: r and q are whether the normal form runs it from a to b and from b to a, t
+-- whether the face is turned
+
+pub ahead-one : (r q t taken : Bool) → (r ≡ true → q ≡ true → ⊥) → (((r || q) && taken) && xor r t) ≡ (taken && cond t q r)
+unfolding xor
+ahead-one true true t taken n = absurd (n refl refl)
+ahead-one true false true true n = refl
+ahead-one true false true false n = refl
+ahead-one true false false true n = refl
+ahead-one true false false false n = refl
+ahead-one false true true true n = refl
+ahead-one false true true false n = refl
+ahead-one false true false true n = refl
+ahead-one false true false false n = refl
+ahead-one false false true true n = refl
+ahead-one false false true false n = refl
+ahead-one false false false true n = refl
+ahead-one false false false false n = refl
+
+pub back-one : (r q t taken : Bool) → (r ≡ true → q ≡ true → ⊥) → (((r || q) && taken) && not (xor r t)) ≡ (taken && cond t r q)
+unfolding xor
+back-one true true t taken n = absurd (n refl refl)
+back-one true false true true n = refl
+back-one true false true false n = refl
+back-one true false false true n = refl
+back-one true false false false n = refl
+back-one false true true true n = refl
+back-one false true true false n = refl
+back-one false true false true n = refl
+back-one false true false false n = refl
+back-one false false true true n = refl
+back-one false false true false n = refl
+back-one false false false true n = refl
+back-one false false false false n = refl

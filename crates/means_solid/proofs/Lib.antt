@@ -1,0 +1,2 @@
+-- What follows from the words. Assumes nothing.
+pub mod Goes
