@@ -11,18 +11,23 @@ use lib.Ieee.{Float}
 use lib.ListN.{length, getD, take, length-map}
 use Rattle.lists.specs.Lists.{any, all, upto, member}
 use Rattle.sets.specs.Word.{count, both}
-use Rattle.paper.specs.Format.{editionOne, leastVertices, leastEdges, outside, total, bytesFor, fillAfter, verticesIn, edgesIn, coordinatesIn, endsIn}
+use Rattle.paper.specs.Format.{editionOne, leastVertices, leastEdges, outside, total, bytesFor, fillAfter, verticesIn, edgesIn}
+use Rattle.paper.specs.Format.{coordinatesIn, endsIn}
 use Rattle.paper.specs.Numbers.{mostSolids}
 use Rattle.pack.specs.Bits.{fieldAt}
 use Rattle.paper.specs.Refusals.{check, firstOf, offends}
 use Rattle.paper.specs.Points.{samePoint, above}
 use Rattle.paper.specs.FaceList.{bitsOf, faceFits, facesIn, wellShaped, sendChecks, sentFor, sentRoomFor, sentOf, sentRoom}
-use Rattle.paper.specs.Sheet.{badCount, farAt, wrongAt, lowAt, edgeChecks, contentChecks, countChecks, openChecks, closeChecks, shapeChecks, sheetChecks, lentChecks, writerChecks, writtenFor, roomFor, blank, held, drawnFor, sheetOf, writtenOf, roomOf}
-use Rattle.paper.specs.Drawing.{Wire, at, ends, edgeAt, samePlace, looseVertex, vertexOn, edgesMeet, edgeMeets, verticesReached, apart, drawingChecks}
+use Rattle.paper.specs.Sheet.{badCount, farAt, wrongAt, lowAt, edgeChecks, contentChecks, countChecks, openChecks, closeChecks}
+use Rattle.paper.specs.Sheet.{shapeChecks, sheetChecks, lentChecks, writerChecks, writtenFor, roomFor, blank, held, drawnFor, sheetOf}
+use Rattle.paper.specs.Sheet.{writtenOf, roomOf}
+use Rattle.paper.specs.Drawing.{Wire, at, ends, edgeAt, samePlace, looseVertex, vertexOn, edgesMeet, edgeMeets, verticesReached, apart}
+use Rattle.paper.specs.Drawing.{drawingChecks}
 use Rattle.paper.specs.Loops.{Loop, loops, candidates, loopChecks}
 use Rattle.paper.specs.Solids.{Tables, tablesOf, inTwo, onceEachWay, facesFrom, sixFrom, has}
 use Rattle.paper.specs.Conversion.{Converted, entryChecks, conversion}
-use Rattle.paper.specs.Verdict.{numberIn, Listed, listed, notCandidate, faceTwice, edgeCount, direction, pieces, inward, clashes, faceChecks, verdictFor, verdict}
+use Rattle.paper.specs.Verdict.{numberIn, Listed, listed, notCandidate, faceTwice, edgeCount, direction, pieces, inward, clashes}
+use Rattle.paper.specs.Verdict.{faceChecks, verdictFor, verdict}
 use Rattle.paper.specs.Reading.{conversionSays, volume, readingOf}
 use Rattle.paper.specs.declared.Refusal.{Refusal}
 use Rattle.paper.specs.declared.Answer.{Answer}
@@ -60,7 +65,8 @@ entry-in : (limit : ℕ) (room solids : List ℕ) → Each rooms (entryChecks li
 unfolding entryChecks
 entry-in limit room solids =
     also (λ p e. inl (refl, zero-of-two (ltb (length room) 832) p e))
-    (also (λ p e. inl (refl, one-of-two (ltb (length solids) 24) p e)) (also (λ p e. inr (inl (refl, first-place (ltb 1000000 limit) p e))) end))
+    (also (λ p e. inl (refl, one-of-two (ltb (length solids) 24) p e))
+    (also (λ p e. inr (inl (refl, first-place (ltb 1000000 limit) p e))) end))
 
 content-in : (v : ℕ) (xyz : List ℤ) (ns : List ℕ) → Each (lists (length xyz) (length ns / 2)) (contentChecks v xyz ns)
 unfolding contentChecks edgeChecks
@@ -79,7 +85,8 @@ module _ (s : List ℕ) (v n : ℕ) where
   opens-in : Each (forms (sheet s)) (openChecks editionOne s)
   unfolding openChecks
   opens-in =
-      also (λ p e. inl (refl, first-place (ltb (length s) 3) p e)) (also (λ p e. inr (inl (refl, first-place (not (eqb (fieldAt s 0 4) 1)) p e))) end)
+      also (λ p e. inl (refl, first-place (ltb (length s) 3) p e))
+      (also (λ p e. inr (inl (refl, first-place (not (eqb (fieldAt s 0 4) 1)) p e))) end)
 
   counts-in : Each (forms (sheet s)) (countChecks editionOne v n)
   unfolding countChecks
@@ -96,11 +103,17 @@ module _ (s : List ℕ) (v n : ℕ) where
 sheet-in : (s : List ℕ) → Each (forms (sheet s)) (sheetChecks editionOne s)
 unfolding sheetChecks shapeChecks
 sheet-in s =
-    each-both (forms (sheet s)) (openChecks editionOne s ++ countChecks editionOne (verticesIn editionOne s) (edgesIn editionOne s) ++ closeChecks editionOne s (verticesIn editionOne s) (edgesIn editionOne s))
+    each-both (forms (sheet s))
+    (openChecks editionOne s ++ countChecks editionOne (verticesIn editionOne s) (edgesIn editionOne s) ++ closeChecks editionOne s
+    (verticesIn editionOne s) (edgesIn editionOne s))
     (contentChecks (verticesIn editionOne s) (coordinatesIn editionOne s) (endsIn editionOne s))
-    (each-both (forms (sheet s)) (openChecks editionOne s ++ countChecks editionOne (verticesIn editionOne s) (edgesIn editionOne s)) (closeChecks editionOne s (verticesIn editionOne s) (edgesIn editionOne s))
-    (each-both (forms (sheet s)) (openChecks editionOne s) (countChecks editionOne (verticesIn editionOne s) (edgesIn editionOne s)) (opens-in s 0 0) (counts-in s (verticesIn editionOne s) (edgesIn editionOne s))) (closes-in s (verticesIn editionOne s) (edgesIn editionOne s)))
-    (each-right (contentChecks (verticesIn editionOne s) (coordinatesIn editionOne s) (endsIn editionOne s)) (line 3 1 ∷ line 4 1 ∷ line 6 1 ∷ line 7 1 ∷ []) (lists (length (coordinatesIn editionOne s)) (length (endsIn editionOne s) / 2))
+    (each-both (forms (sheet s)) (openChecks editionOne s ++ countChecks editionOne (verticesIn editionOne s) (edgesIn editionOne s))
+    (closeChecks editionOne s (verticesIn editionOne s) (edgesIn editionOne s))
+    (each-both (forms (sheet s)) (openChecks editionOne s) (countChecks editionOne (verticesIn editionOne s) (edgesIn editionOne s))
+    (opens-in s 0 0) (counts-in s (verticesIn editionOne s) (edgesIn editionOne s)))
+    (closes-in s (verticesIn editionOne s) (edgesIn editionOne s)))
+    (each-right (contentChecks (verticesIn editionOne s) (coordinatesIn editionOne s) (endsIn editionOne s))
+    (line 3 1 ∷ line 4 1 ∷ line 6 1 ∷ line 7 1 ∷ []) (lists (length (coordinatesIn editionOne s)) (length (endsIn editionOne s) / 2))
     (content-in (verticesIn editionOne s) (coordinatesIn editionOne s) (endsIn editionOne s)))
 
 form-in : (x : Input) → Each (forms x) (form x)
@@ -111,7 +124,8 @@ form-in (sheet s) = sheet-in s
 module _ (d : Wire) where
   same-below : Below (samePlace d) (length (d .vertices))
   unfolding samePlace
-  same-below p e = lowest-below (λ u. any (λ v. not (eqb u v) && samePoint (at d u) (at d v)) (upto (length (d .vertices)))) (length (d .vertices)) p e
+  same-below p e =
+      lowest-below (λ u. any (λ v. not (eqb u v) && samePoint (at d u) (at d v)) (upto (length (d .vertices)))) (length (d .vertices)) p e
 
   loose-below : Below (looseVertex d) (length (d .vertices))
   unfolding looseVertex
@@ -120,7 +134,9 @@ module _ (d : Wire) where
   meets-below : Below (edgeMeets d) (length (d .edges))
   unfolding edgeMeets
   meets-below p e =
-      lowest-below (λ e. any (vertexOn d (edgeAt d e)) (upto (length (d .vertices))) || any (λ f. not (eqb e f) && edgesMeet d (edgeAt d e) (edgeAt d f)) (upto (length (d .edges)))) (length (d .edges)) p e
+      lowest-below
+      (λ e. any (vertexOn d (edgeAt d e)) (upto (length (d .vertices))) || any
+      (λ f. not (eqb e f) && edgesMeet d (edgeAt d e) (edgeAt d f)) (upto (length (d .edges)))) (length (d .edges)) p e
 
   apart-below : Below (apart d) (length (d .vertices))
   unfolding apart
@@ -130,7 +146,8 @@ module _ (d : Wire) where
   unfolding drawingChecks
   drawing-in =
       also (λ p e. inl (refl, same-below p e))
-      (also (λ p e. inr (inl (refl, loose-below p e))) (also (λ p e. inr (inr (inl (refl, meets-below p e)))) (also (λ p e. inr (inr (inr (inl (refl, apart-below p e))))) end)))
+      (also (λ p e. inr (inl (refl, loose-below p e)))
+      (also (λ p e. inr (inr (inl (refl, meets-below p e)))) (also (λ p e. inr (inr (inr (inl (refl, apart-below p e))))) end)))
 
   loops-in : (ls cs : List Loop) → Each (drawings (length (d .vertices)) (length (d .edges))) (loopChecks ls cs)
   unfolding loopChecks
@@ -147,15 +164,20 @@ module _ (x : Input) where
   rules-in =
       each-both (forms x ++ drawn x) (form x ++ drawingChecks (drawing x)) (loopChecks (loops (drawing x)) (candidates (drawing x)))
       (each-on (form x) (drawingChecks (drawing x)) (forms x) (drawn x) (form-in x) (drawing-in (drawing x)))
-      (each-right (loopChecks (loops (drawing x)) (candidates (drawing x))) (forms x) (drawn x) (loops-in (drawing x) (loops (drawing x)) (candidates (drawing x))))
+      (each-right (loopChecks (loops (drawing x)) (candidates (drawing x))) (forms x) (drawn x)
+      (loops-in (drawing x) (loops (drawing x)) (candidates (drawing x))))
 
   conversion-in : (limit : ℕ) (room solids : List ℕ)
-      → Each (rooms ++ forms x ++ drawn x) (entryChecks limit room solids ++ form x ++ drawingChecks (drawing x) ++ loopChecks (loops (drawing x)) (candidates (drawing x)))
+      → Each (rooms ++ forms x ++ drawn x)
+      (entryChecks limit room solids ++ form x ++ drawingChecks (drawing x) ++ loopChecks (loops (drawing x)) (candidates (drawing x)))
   conversion-in limit room solids =
-      each-both (rooms ++ forms x ++ drawn x) (entryChecks limit room solids ++ form x ++ drawingChecks (drawing x)) (loopChecks (loops (drawing x)) (candidates (drawing x)))
+      each-both (rooms ++ forms x ++ drawn x) (entryChecks limit room solids ++ form x ++ drawingChecks (drawing x))
+      (loopChecks (loops (drawing x)) (candidates (drawing x)))
       (each-on (entryChecks limit room solids ++ form x) (drawingChecks (drawing x)) (rooms ++ forms x) (drawn x)
-      (each-on (entryChecks limit room solids) (form x) rooms (forms x) (entry-in limit room solids) (form-in x)) (drawing-in (drawing x)))
-      (each-right (loopChecks (loops (drawing x)) (candidates (drawing x))) (rooms ++ forms x) (drawn x) (loops-in (drawing x) (loops (drawing x)) (candidates (drawing x))))
+      (each-on (entryChecks limit room solids) (form x) rooms (forms x) (entry-in limit room solids) (form-in x))
+      (drawing-in (drawing x)))
+      (each-right (loopChecks (loops (drawing x)) (candidates (drawing x))) (rooms ++ forms x) (drawn x)
+      (loops-in (drawing x) (loops (drawing x)) (candidates (drawing x))))
 
 -- 20 to 27
 module _ (t : Tables) (n : ℕ) (l : Listed) where
@@ -176,11 +198,13 @@ module _ (t : Tables) (n : ℕ) (l : Listed) where
 
   way-below : Below (direction t (l .taken) (l .turned)) (length (t .masks))
   unfolding direction
-  way-below p e = lowest-below (λ e. not (onceEachWay (getD (t .masks) e []) (getD (t .ups) e []) (l .taken) (l .turned))) (length (t .masks)) p e
+  way-below p e =
+      lowest-below (λ e. not (onceEachWay (getD (t .masks) e []) (getD (t .ups) e []) (l .taken) (l .turned))) (length (t .masks)) p e
 
   piece-below : Below (pieces t (l .numbers) (l .taken)) faceCount
   unfolding pieces
-  piece-below p e = lowest-below (λ i. not (getD (facesFrom (getD (l .numbers) 0 0) t (l .taken) .reached) (getD (l .numbers) i 0) false)) faceCount p e
+  piece-below p e =
+      lowest-below (λ i. not (getD (facesFrom (getD (l .numbers) 0 0) t (l .taken) .reached) (getD (l .numbers) i 0) false)) faceCount p e
 
   inward-below : Below (inward t (l .taken) (l .turned)) 1
   unfolding inward
@@ -222,11 +246,16 @@ unfolding verdict candidates
 check-in x list r e =
     let t = tablesOf (drawing x) (candidates (drawing x)) in
     let l = listed (candidates (drawing x)) (facesIn editionOne list) in
-    let ks = check 20 (offends (not (wellShaped editionOne (length (drawing x .vertices)) list)) 0) ∷ faceChecks t (length (candidates (drawing x))) l in
-    let h = each-on (rules x) ks (forms x ++ drawn x) (shells (length (t .masks)) (length (l .numbers))) (rules-in x) (shell-in t (length (candidates (drawing x))) l (not (wellShaped editionOne (length (drawing x .vertices)) list))) in
-    let i = first-in (forms x ++ drawn x ++ shells (length (t .masks)) (length (l .numbers))) (rules x ++ ks) h r (verdict-refused (firstOf (rules x ++ ks)) r e) in
-    subst (λ (n : ℕ). In r (forms x ++ drawn x ++ shells n (length (facesIn editionOne list)))) (edges-many (drawing x) (candidates (drawing x)))
-    (subst (λ (n : ℕ). In r (forms x ++ drawn x ++ shells (length (t .masks)) n)) (faces-many (candidates (drawing x)) (facesIn editionOne list)) i)
+    let ks = check 20 (offends (not (wellShaped editionOne (length (drawing x .vertices)) list)) 0) ∷ faceChecks t
+    (length (candidates (drawing x))) l in
+    let h = each-on (rules x) ks (forms x ++ drawn x) (shells (length (t .masks)) (length (l .numbers))) (rules-in x)
+    (shell-in t (length (candidates (drawing x))) l (not (wellShaped editionOne (length (drawing x .vertices)) list))) in
+    let i = first-in (forms x ++ drawn x ++ shells (length (t .masks)) (length (l .numbers))) (rules x ++ ks) h r
+    (verdict-refused (firstOf (rules x ++ ks)) r e) in
+    subst (λ (n : ℕ). In r (forms x ++ drawn x ++ shells n (length (facesIn editionOne list))))
+    (edges-many (drawing x) (candidates (drawing x)))
+    (subst (λ (n : ℕ). In r (forms x ++ drawn x ++ shells (length (t .masks)) n))
+    (faces-many (candidates (drawing x)) (facesIn editionOne list)) i)
 
 -- ---- conversion
 
@@ -235,38 +264,45 @@ never-refused l c w [] r e = let z : _≡_ {A = ℕ} 0 1 = cc in absurd (omega a
 never-refused l c w (a ∷ []) r e = let z : _≡_ {A = ℕ} 0 1 = cc in absurd (omega arith)
 never-refused l c w (a ∷ (b ∷ es)) r e = let z : _≡_ {A = ℕ} 0 1 = cc in absurd (omega arith)
 
-module _ (x : Input) (limit : ℕ) (room solids : List ℕ) (r : Converted) (s : Sound (drawing x) (the-walk (drawing x)) limit room solids r) where
-  abbrev t : WalkTree (drawing x) (candidates (drawing x))
-  t = the-walk (drawing x)
+module _ (x : Input) (limit : ℕ) (room solids : List ℕ) (r : Converted) (s : Sound (drawing x) (the-walk (drawing x)) limit room solids r)
+  where
+    abbrev t : WalkTree (drawing x) (candidates (drawing x))
+    t = the-walk (drawing x)
 
-  sound-answers : (a : Conversion) → r .answer ≡ a → Answers x limit a
-  sound-answers (Conversion.One l c w six) e = let o = says-one (drawing x) t limit room solids r s e in (o .within, o .is .iv .1)
-  sound-answers (Conversion.Several l c w n) e = let o = says-several (drawing x) t limit room solids r s e in (o .within, o .two, o .eight)
-  sound-answers (Conversion.NoSolid l c w) e = says-none (drawing x) t limit room solids r s e .within
-  sound-answers (Conversion.Many l c w) e = says-many (drawing x) t limit room solids r s e .within
-  sound-answers (Conversion.TooLong l c w) e = says-long (drawing x) t limit room solids r s e .works
-  sound-answers (Conversion.Refused q) e = go (s .tells)
-    where
-      go : Tells (drawing x) t limit room solids r → Answers x limit (Conversion.Refused q)
-      go (inl y) = never-refused (length (loops (drawing x))) (length (candidates (drawing x))) (assumptions t) (walked (drawing x) (candidates (drawing x)) t) q (sym (y .answer) ∙ e)
-      go (inr (inl y)) = let z : _≡_ {A = ℕ} 0 1 = cc (y .answer) in absurd (omega arith)
-      go (inr (inr y)) = let z : _≡_ {A = ℕ} 0 1 = cc (y .answer) in absurd (omega arith)
+    sound-answers : (a : Conversion) → r .answer ≡ a → Answers x limit a
+    sound-answers (Conversion.One l c w six) e = let o = says-one (drawing x) t limit room solids r s e in (o .within, o .is .iv .1)
+    sound-answers (Conversion.Several l c w n) e =
+        let o = says-several (drawing x) t limit room solids r s e in
+        (o .within, o .two, o .eight)
+    sound-answers (Conversion.NoSolid l c w) e = says-none (drawing x) t limit room solids r s e .within
+    sound-answers (Conversion.Many l c w) e = says-many (drawing x) t limit room solids r s e .within
+    sound-answers (Conversion.TooLong l c w) e = says-long (drawing x) t limit room solids r s e .works
+    sound-answers (Conversion.Refused q) e = go (s .tells)
+      where
+        go : Tells (drawing x) t limit room solids r → Answers x limit (Conversion.Refused q)
+        go (inl y) =
+            never-refused (length (loops (drawing x))) (length (candidates (drawing x))) (assumptions t)
+            (walked (drawing x) (candidates (drawing x)) t) q (sym (y .answer) ∙ e)
+        go (inr (inl y)) = let z : _≡_ {A = ℕ} 0 1 = cc (y .answer) in absurd (omega arith)
+        go (inr (inr y)) = let z : _≡_ {A = ℕ} 0 1 = cc (y .answer) in absurd (omega arith)
 
-  sound-kept : reported (r .answer) ≡ 0 → (r .faces ≡ room) × (r .solids ≡ solids)
-  unfolding solidsFor flatMap
-  sound-kept e = go (s .tells)
-    where
-      empty : (es : List Entry) → length es ≡ 0 → es ≡ []
-      empty [] h = refl
-      empty (y ∷ es) h = absurd (omega arith)
+    sound-kept : reported (r .answer) ≡ 0 → (r .faces ≡ room) × (r .solids ≡ solids)
+    unfolding solidsFor flatMap
+    sound-kept e = go (s .tells)
+      where
+        empty : (es : List Entry) → length es ≡ 0 → es ≡ []
+        empty [] h = refl
+        empty (y ∷ es) h = absurd (omega arith)
 
-      go : Tells (drawing x) t limit room solids r → (r .faces ≡ room) × (r .solids ≡ solids)
-      go (inl y) =
-          let n = counted (length (loops (drawing x))) (length (candidates (drawing x))) (assumptions t) (walked (drawing x) (candidates (drawing x)) t) in
-          let z : walked (drawing x) (candidates (drawing x)) t ≡ [] = empty (walked (drawing x) (candidates (drawing x)) t) (sym n ∙ sym (ap reported (y .answer)) ∙ e) in
-          (y .faces-left ∙ ap (facesFor (candidates (drawing x)) room) z, y .solids-left ∙ ap (solidsFor solids) z)
-      go (inr (inl y)) = (y .faces-left, y .solids-left)
-      go (inr (inr y)) = (y .faces-left, y .solids-left)
+        go : Tells (drawing x) t limit room solids r → (r .faces ≡ room) × (r .solids ≡ solids)
+        go (inl y) =
+            let n = counted (length (loops (drawing x))) (length (candidates (drawing x))) (assumptions t)
+            (walked (drawing x) (candidates (drawing x)) t) in
+            let z : walked (drawing x) (candidates (drawing x)) t ≡ [] = empty (walked (drawing x) (candidates (drawing x)) t)
+            (sym n ∙ sym (ap reported (y .answer)) ∙ e) in
+            (y .faces-left ∙ ap (facesFor (candidates (drawing x)) room) z, y .solids-left ∙ ap (solidsFor solids) z)
+        go (inr (inl y)) = (y .faces-left, y .solids-left)
+        go (inr (inr y)) = (y .faces-left, y .solids-left)
 
 module _ (x : Input) (limit : ℕ) (room solids : List ℕ) where
   abbrev made : Converted
@@ -275,28 +311,45 @@ module _ (x : Input) (limit : ℕ) (room solids : List ℕ) where
   answers : Answers x limit (made .answer)
   answers = go (conversion-says (drawing x) (the-walk (drawing x)) (form x) limit room solids)
     where
-      go : ((q : Refusal) × (firstOf (entryChecks limit room solids ++ form x ++ drawingChecks (drawing x) ++ loopChecks (loops (drawing x)) (candidates (drawing x))) ≡ Answer.Refused q) × (made ≡ record { answer = Conversion.Refused q; faces = room; solids = solids }))
-          ⊎ ((firstOf (entryChecks limit room solids ++ form x ++ drawingChecks (drawing x) ++ loopChecks (loops (drawing x)) (candidates (drawing x))) ≡ Answer.Fine) × Sound (drawing x) (the-walk (drawing x)) limit room solids made)
+      go : ((q : Refusal)
+          × (firstOf
+          (entryChecks limit room solids ++ form x ++ drawingChecks (drawing x) ++ loopChecks (loops (drawing x))
+          (candidates (drawing x))) ≡ Answer.Refused q)
+          × (made ≡ record { answer = Conversion.Refused q; faces = room; solids = solids }))
+          ⊎ ((firstOf
+          (entryChecks limit room solids ++ form x ++ drawingChecks (drawing x) ++ loopChecks (loops (drawing x))
+          (candidates (drawing x))) ≡ Answer.Fine) × Sound (drawing x) (the-walk (drawing x)) limit room solids made)
           → Answers x limit (made .answer)
-      go (inl p) = subst (Answers x limit) (sym (ap (λ (c : Converted). c .answer) (p .2))) (first-in (rooms ++ forms x ++ drawn x) _ (conversion-in x limit room solids) (p .0) (p .1))
+      go (inl p) =
+          subst (Answers x limit) (sym (ap (λ (c : Converted). c .answer) (p .2)))
+          (first-in (rooms ++ forms x ++ drawn x) _ (conversion-in x limit room solids) (p .0) (p .1))
       go (inr p) = sound-answers x limit room solids made (p .1) (made .answer) refl
 
   keeps : reported (made .answer) ≡ 0 → (made .faces ≡ room) × (made .solids ≡ solids)
   keeps e = go (conversion-says (drawing x) (the-walk (drawing x)) (form x) limit room solids)
     where
-      go : ((q : Refusal) × (firstOf (entryChecks limit room solids ++ form x ++ drawingChecks (drawing x) ++ loopChecks (loops (drawing x)) (candidates (drawing x))) ≡ Answer.Refused q) × (made ≡ record { answer = Conversion.Refused q; faces = room; solids = solids }))
-          ⊎ ((firstOf (entryChecks limit room solids ++ form x ++ drawingChecks (drawing x) ++ loopChecks (loops (drawing x)) (candidates (drawing x))) ≡ Answer.Fine) × Sound (drawing x) (the-walk (drawing x)) limit room solids made)
+      go : ((q : Refusal)
+          × (firstOf
+          (entryChecks limit room solids ++ form x ++ drawingChecks (drawing x) ++ loopChecks (loops (drawing x))
+          (candidates (drawing x))) ≡ Answer.Refused q)
+          × (made ≡ record { answer = Conversion.Refused q; faces = room; solids = solids }))
+          ⊎ ((firstOf
+          (entryChecks limit room solids ++ form x ++ drawingChecks (drawing x) ++ loopChecks (loops (drawing x))
+          (candidates (drawing x))) ≡ Answer.Fine) × Sound (drawing x) (the-walk (drawing x)) limit room solids made)
           → (made .faces ≡ room) × (made .solids ≡ solids)
       go (inl p) = (ap (λ (c : Converted). c .faces) (p .2), ap (λ (c : Converted). c .solids) (p .2))
       go (inr p) = sound-kept x limit room solids made (p .1) e
 
 -- ---- sheets
 
-read-in : (s : List ℕ) (r : Refusal) → sheetOf editionOne s .answer ≡ Answer.Refused r → In r (forms (sheet s)) × (sheetOf editionOne s .drawing ≡ blank)
+read-in : (s : List ℕ) (r : Refusal) → sheetOf editionOne s .answer ≡ Answer.Refused r
+    → In r (forms (sheet s)) × (sheetOf editionOne s .drawing ≡ blank)
 unfolding sheetOf
 read-in s r e = (
   first-in (forms (sheet s)) (sheetChecks editionOne s) (sheet-in s) r e,
-  ap (λ (a : Answer). drawnFor a (held (verticesIn editionOne s) (edgesIn editionOne s) (coordinatesIn editionOne s) (endsIn editionOne s))) e,
+  ap
+      (λ (a : Answer). drawnFor a (held (verticesIn editionOne s) (edgesIn editionOne s) (coordinatesIn editionOne s) (endsIn editionOne s)))
+      e,
 )
 
 module _ (xyz : List ℤ) (ns room : List ℕ) (r : Refusal) where
@@ -304,7 +357,8 @@ module _ (xyz : List ℤ) (ns room : List ℕ) (r : Refusal) where
   written-refused Answer.Fine e = let z : _≡_ {A = ℕ} 0 1 = cc in absurd (omega arith)
   written-refused (Answer.Refused q) e = let z : q ≡ r = cc in ap Answer.Refused z
 
-  refuses : writtenOf editionOne xyz ns room ≡ Written.Refused r → firstOf (writerChecks editionOne xyz ns (length room)) ≡ Answer.Refused r
+  refuses : writtenOf editionOne xyz ns room ≡ Written.Refused r
+      → firstOf (writerChecks editionOne xyz ns (length room)) ≡ Answer.Refused r
   unfolding writtenOf
   refuses e = written-refused (firstOf (writerChecks editionOne xyz ns (length room))) e
 
@@ -313,7 +367,8 @@ module _ (xyz : List ℤ) (ns room : List ℕ) (r : Refusal) where
   write-in e =
       first-in (forms (lent xyz ns) ++ line 1 1 ∷ []) (writerChecks editionOne xyz ns (length room))
       (each-on (lentChecks editionOne xyz ns) _ (forms (lent xyz ns)) (line 1 1 ∷ []) (lent-in xyz ns)
-      (also (λ p q. inl (refl, first-place (ltb (length room) (bytesFor (total editionOne (length xyz / 3) (length ns / 2)))) p q)) end)) r (refuses e)
+      (also (λ p q. inl (refl, first-place (ltb (length room) (bytesFor (total editionOne (length xyz / 3) (length ns / 2)))) p q)) end))
+      r (refuses e)
 
   write-keeps : writtenOf editionOne xyz ns room ≡ Written.Refused r → roomOf editionOne xyz ns room ≡ room
   unfolding roomOf
@@ -333,7 +388,8 @@ module _ (fs : List Loop) (room : List ℕ) (r : Refusal) where
   unfolding sendChecks
   send-in e =
       first-in (line 20 1 ∷ line 1 1 ∷ []) (sendChecks editionOne fs (length room))
-      (also (λ p q. inl (refl, first-place (outside 4 42 (length fs) || not (all (faceFits editionOne 32) fs)) p q)) (also (λ p q. inr (inl (refl, first-place (ltb (length room) (bytesFor (bitsOf editionOne fs))) p q))) end)) r (sending e)
+      (also (λ p q. inl (refl, first-place (outside 4 42 (length fs) || not (all (faceFits editionOne 32) fs)) p q))
+      (also (λ p q. inr (inl (refl, first-place (ltb (length room) (bytesFor (bitsOf editionOne fs))) p q))) end)) r (sending e)
 
   send-keeps : sentOf editionOne fs room ≡ Written.Refused r → sentRoom editionOne fs room ≡ room
   unfolding sentRoom
@@ -341,7 +397,8 @@ module _ (fs : List Loop) (room : List ℕ) (r : Refusal) where
 
 -- ---- the reading
 
-volume-one : (a : Conversion) (v : Float) → readingOf a ≡ Reading.Volume v → (l c work six : ℕ) × (a ≡ Conversion.One l c work six) × (v ≡ volume six)
+volume-one : (a : Conversion) (v : Float) → readingOf a ≡ Reading.Volume v → (l c work six : ℕ) × (a ≡ Conversion.One l c work six)
+    × (v ≡ volume six)
 unfolding readingOf volume
 volume-one (Conversion.One l c w six) v e = (l, c, w, six, refl, cc)
 volume-one (Conversion.Several l c w n) v e = let z : _≡_ {A = ℕ} 0 1 = cc in absurd (omega arith)
@@ -369,13 +426,16 @@ number-none (Conversion.Refused r) h = refl
 
 pub demand1 : Demand1
 demand1 = record {
-  converts = λ x limit room solids. subst (λ (c : Converted). Answers x limit (c .answer)) (sym (converted-is x limit room solids)) (answers x limit room solids);
+  converts =
+      λ x limit room solids. subst (λ (c : Converted). Answers x limit (c .answer)) (sym (converted-is x limit room solids))
+      (answers x limit room solids);
   checks = λ x list r e. check-in x list r (sym (checked-is x list) ∙ e);
   reads = read-in;
   writes = write-in;
   sends = send-in;
   rooms-kept = λ x limit room solids e.
-      subst (λ (c : Converted). reported (c .answer) ≡ 0 → (c .faces ≡ room) × (c .solids ≡ solids)) (sym (converted-is x limit room solids)) (keeps x limit room solids) e;
+      subst (λ (c : Converted). reported (c .answer) ≡ 0 → (c .faces ≡ room) × (c .solids ≡ solids))
+      (sym (converted-is x limit room solids)) (keeps x limit room solids) e;
   room-kept = write-keeps;
   send-room-kept = send-keeps;
   volume-of = volume-one;

@@ -34,12 +34,15 @@ entry-fine limit room solids a =
     (none-step 1 (offends (ltb (length solids) 24) 1) _ (ap (λ (b : Bool). offends b 1) (le-ltb (length solids) 24 (a .1)))
     (none-step 2 (offends (ltb 1000000 limit) 0) _ (ap (λ (b : Bool). offends b 0) (le-ltb 1000000 limit (a .2))) no-checks))
 
-module _ (x : Input) (p : Passes x) (t : WalkTree (drawing x) (candidatesOf x)) (limit : ℕ) (room solids : List ℕ) (a : Allowed limit room solids) where
+module _ (x : Input) (p : Passes x) (t : WalkTree (drawing x) (candidatesOf x)) (limit : ℕ) (room solids : List ℕ)
+    (a : Allowed limit room solids) where
   unrefused : Unrefused (drawing x) t limit room solids (form x)
   unrefused =
-      fine-both (entryChecks limit room solids ++ form x ++ drawingChecks (drawing x)) (loopChecks (loops (drawing x)) (candidates (drawing x)))
+      fine-both (entryChecks limit room solids ++ form x ++ drawingChecks (drawing x))
+      (loopChecks (loops (drawing x)) (candidates (drawing x)))
       (fine-both (entryChecks limit room solids ++ form x) (drawingChecks (drawing x))
-      (fine-both (entryChecks limit room solids) (form x) (entry-fine limit room solids a) (form-fine x p)) (drawing-fine x p)) (loops-fine x p)
+      (fine-both (entryChecks limit room solids) (form x) (entry-fine limit room solids a) (form-fine x p)) (drawing-fine x p))
+      (loops-fine x p)
 
   told : (r : Converted) → Sound (drawing x) t limit room solids r → Demand2 x t limit room solids r
   told r s = record {
@@ -47,7 +50,11 @@ module _ (x : Input) (p : Passes x) (t : WalkTree (drawing x) (candidatesOf x)) 
     answer = λ u. tells-few (drawing x) t limit room solids r (s .tells) (u .1) (u .0) .answer;
     rows = λ u. tells-few (drawing x) t limit room solids r (s .tells) (u .1) (u .0) .faces-left;
     words = λ u. tells-few (drawing x) t limit room solids r (s .tells) (u .1) (u .0) .solids-left;
-    none = λ w. (λ e. says-none (drawing x) t limit room solids r s (e .3) .none, λ n. (length (loops (drawing x)), length (candidatesOf x), assumptions t, none-says (drawing x) t limit room solids r s n w));
+    none =
+        λ w. (
+          λ e. says-none (drawing x) t limit room solids r s (e .3) .none,
+          λ n. (length (loops (drawing x)), length (candidatesOf x), assumptions t, none-says (drawing x) t limit room solids r s n w),
+        );
     ninth = λ f w. tells-many (drawing x) t limit room solids r (s .tells) f w .answer;
     whole = no-ninth (drawing x) t;
     long = λ w. tells-long (drawing x) t limit room solids r (s .tells) w .answer;
@@ -56,7 +63,8 @@ module _ (x : Input) (p : Passes x) (t : WalkTree (drawing x) (candidatesOf x)) 
   pub holds2 : Demand2 x t limit room solids (converted x limit room solids)
   holds2 =
       told (converted x limit room solids)
-      (subst (Sound (drawing x) t limit room solids) (sym (converted-is x limit room solids)) (conversion-sound (drawing x) t limit room solids (form x) unrefused))
+      (subst (Sound (drawing x) t limit room solids) (sym (converted-is x limit room solids))
+      (conversion-sound (drawing x) t limit room solids (form x) unrefused))
 
 pub faces : (x : Input) → Candidates x
 faces x = record {

@@ -39,12 +39,15 @@ module _ (x : Input) (p : Passes x) where
   fits = drawing-fits (drawing x) (drawing-fine x p)
 
   -- faces that name a solid are accepted, packed
-  packed : (taken turned : List Bool) (six : ℕ) → IsSolid (drawing x) (candidates (drawing x)) taken turned six → (fs : List Loop) → Names (drawing x) (candidates (drawing x)) taken turned fs → checked x (encodeFaces editionOne fs) ≡ Accepted
+  packed : (taken turned : List Bool) (six : ℕ) → IsSolid (drawing x) (candidates (drawing x)) taken turned six → (fs : List Loop)
+      → Names (drawing x) (candidates (drawing x)) taken turned fs → checked x (encodeFaces editionOne fs) ≡ Accepted
   packed taken turned six s fs n =
       let m = small x (form-fine x p) in
-      let b = faces-read-one (length (drawing x .vertices)) (m .0) fs (names-sent (drawing x) fits (drawing-places (drawing x) (drawing-fine x p)) (m .1) taken turned s fs n) in
+      let b = faces-read-one (length (drawing x .vertices)) (m .0) fs
+      (names-sent (drawing x) fits (drawing-places (drawing x) (drawing-fine x p)) (m .1) taken turned s fs n) in
       checked-is x (encodeFaces editionOne fs)
-      ∙ each-accepted (form x) (drawing x) (form-fine x p) (drawing-fine x p) (loops-fine x p) taken turned six s (encodeFaces editionOne fs) (b .shape)
+      ∙ each-accepted (form x) (drawing x) (form-fine x p) (drawing-fine x p) (loops-fine x p) taken turned six s
+      (encodeFaces editionOne fs) (b .shape)
       (subst (λ (gs : List Loop). Names (drawing x) (candidates (drawing x)) taken turned gs) (sym (b .faces)) n)
 
   named : (list : List ℕ) → checked x list ≡ Accepted → NamesSolid (drawing x) (candidates (drawing x)) (facesIn editionOne list)
@@ -58,19 +61,24 @@ module _ (x : Input) (p : Passes x) where
         let r = all .there (w .solid) in (
           r .0,
           r .1,
-          names-to (drawing x) (candidates (drawing x)) (entryAt es (r .0) .taken) (w .turned) (entryAt es (r .0) .turned) (λ k. sym (r .3 k))
-              (subst (λ (t : List Bool). Names (drawing x) (candidates (drawing x)) t (w .turned) (facesIn editionOne list)) (sym (r .2)) (w .names)),
+          names-to (drawing x) (candidates (drawing x)) (entryAt es (r .0) .taken) (w .turned) (entryAt es (r .0) .turned)
+              (λ k. sym (r .3 k))
+              (subst (λ (t : List Bool). Names (drawing x) (candidates (drawing x)) t (w .turned) (facesIn editionOne list)) (sym (r .2))
+              (w .names)),
         )
 
-    alone : length es ≡ 1 → (a b : List ℕ) → checked x a ≡ Accepted → checked x b ≡ Accepted → SameBody (facesIn editionOne a) (facesIn editionOne b)
+    alone : length es ≡ 1 → (a b : List ℕ) → checked x a ≡ Accepted → checked x b ≡ Accepted
+        → SameBody (facesIn editionOne a) (facesIn editionOne b)
     alone e a b p q =
         let r = among a p in
         let s = among b q in
         let z : s .0 ≡ r .0 = omega (arith, r .1, s .1) in
-        same-named (drawing x) (candidates (drawing x)) fits (entryAt es (r .0) .taken) (entryAt es (r .0) .turned) (facesIn editionOne a) (facesIn editionOne b) (r .2)
+        same-named (drawing x) (candidates (drawing x)) fits (entryAt es (r .0) .taken) (entryAt es (r .0) .turned) (facesIn editionOne a)
+        (facesIn editionOne b) (r .2)
         (subst (λ (i : ℕ). NamesIt x (entryAt es i) (facesIn editionOne b)) z (s .2))
 
-  report : (limit : ℕ) (room solids : List ℕ) (r : Converted) → Sound (drawing x) (the-walk (drawing x)) limit room solids r → 0 < reported (r .answer) → Report x solids r
+  report : (limit : ℕ) (room solids : List ℕ) (r : Converted) → Sound (drawing x) (the-walk (drawing x)) limit room solids r
+      → 0 < reported (r .answer) → Report x solids r
   unfolding solidsFor
   report limit room solids r sound h = go (sound .tells)
     where
@@ -86,11 +94,14 @@ module _ (x : Input) (p : Passes x) where
       written (e ∷ es) l = refl
 
       own : Reported (drawing x) (the-walk (drawing x)) limit room solids r → (i : ℕ) → i < length es
-          → solidFaces (r .faces) (getD (r .solids) (3 * i) 0) (getD (r .solids) (3 * i + 1) 0) ≡ faceList (drawing x) (candidates (drawing x)) (entryAt es i .taken) (entryAt es i .turned)
+          → solidFaces (r .faces) (getD (r .solids) (3 * i) 0) (getD (r .solids) (3 * i + 1) 0) ≡ faceList (drawing x)
+          (candidates (drawing x)) (entryAt es i .taken) (entryAt es i .turned)
       own t i l =
           let w = words-at es (drop (3 * length es) solids) i l in
-          let a : getD (r .solids) (3 * i) 0 ≡ word (entryAt es i .taken) = ap (λ (ws : List ℕ). getD ws (3 * i) 0) (t .solids-left) ∙ w .0 in
-          let b : getD (r .solids) (3 * i + 1) 0 ≡ word (entryAt es i .turned) = ap (λ (ws : List ℕ). getD ws (3 * i + 1) 0) (t .solids-left) ∙ w .1 in
+          let a : getD (r .solids) (3 * i) 0 ≡ word (entryAt es i .taken) = ap (λ (ws : List ℕ). getD ws (3 * i) 0) (t .solids-left)
+          ∙ w .0 in
+          let b : getD (r .solids) (3 * i + 1) 0 ≡ word (entryAt es i .turned) = ap (λ (ws : List ℕ). getD ws (3 * i + 1) 0)
+          (t .solids-left) ∙ w .1 in
           let f : r .faces ≡ facesAfter (candidates (drawing x)) room = t .faces-left ∙ written es (omega arith) in
           ap (λ (rs : List ℕ). solidFaces rs (getD (r .solids) (3 * i) 0) (getD (r .solids) (3 * i + 1) 0)) f
           ∙ ap₂ (solidFaces (facesAfter (candidates (drawing x)) room)) a b
@@ -99,11 +110,16 @@ module _ (x : Input) (p : Passes x) where
       go : Tells (drawing x) (the-walk (drawing x)) limit room solids r → Report x solids r
       go (inl t) = record {
         es = es;
-        n = sym (ap reported (t .answer) ∙ counted (length (loops (drawing x))) (length (candidates (drawing x))) (assumptions (the-walk (drawing x))) es);
+        n =
+            sym
+            (ap reported (t .answer)
+            ∙ counted (length (loops (drawing x))) (length (candidates (drawing x))) (assumptions (the-walk (drawing x))) es);
         all = all;
         words = t .solids-left;
         each = λ i l fs n. packed (entryAt es i .taken) (entryAt es i .turned) (entryAt es i .six) (all .each i l) fs n;
-        some = λ i l. subst (NamesIt x (entryAt es i)) (sym (own t i l)) (faceList-names (drawing x) (candidates (drawing x)) fits (entryAt es i .taken) (entryAt es i .turned) (all .each i l));
+        some =
+            λ i l. subst (NamesIt x (entryAt es i)) (sym (own t i l))
+            (faceList-names (drawing x) (candidates (drawing x)) fits (entryAt es i .taken) (entryAt es i .turned) (all .each i l));
         other = among es all;
         same = alone es all;
       }
@@ -114,13 +130,16 @@ module _ (x : Input) (p : Passes x) where
   holds = record {
     exactly = λ list. (
       λ a. let w = accepts-exactly (form x) (drawing x) list .0 (sym (checked-is x list) ∙ a) in (w .shape, w .named),
-      λ w. checked-is x list ∙ accepts-exactly (form x) (drawing x) list .1 (record { form-passes = form-fine x p; drawing-passes = drawing-fine x p; few = loops-fine x p; shape = w .0; named = w .1 }),
+      λ w. checked-is x list
+          ∙ accepts-exactly (form x) (drawing x) list .1
+          (record { form-passes = form-fine x p; drawing-passes = drawing-fine x p; few = loops-fine x p; shape = w .0; named = w .1 }),
     );
     one-solid = one-named (form x) (drawing x) (drawing-fine x p);
     reports = λ limit room solids h. report limit room solids (converted x limit room solids) (sound limit room solids h) h;
   }
     where
-      sound : (limit : ℕ) (room solids : List ℕ) → 0 < reported (converted x limit room solids .answer) → Sound (drawing x) (the-walk (drawing x)) limit room solids (converted x limit room solids)
+      sound : (limit : ℕ) (room solids : List ℕ) → 0 < reported (converted x limit room solids .answer)
+          → Sound (drawing x) (the-walk (drawing x)) limit room solids (converted x limit room solids)
       sound limit room solids h =
           subst (Sound (drawing x) (the-walk (drawing x)) limit room solids) (sym (converted-is x limit room solids))
           (conversion-unrefused (drawing x) (the-walk (drawing x)) (form x) limit room solids

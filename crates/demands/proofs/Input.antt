@@ -16,7 +16,8 @@ use Rattle.means_check.proofs.Accepting.{both-fine}
 use Rattle.means_check.proofs.Drawn.{InCounts, lent-small, sheet-small}
 use Rattle.demands.specs.Input.{Input, lent, sheet, drawing, form, Passes, converted, checked, reported}
 
-pub converted-is : (x : Input) (limit : ℕ) (room solids : List ℕ) → converted x limit room solids ≡ conversion mostSolids (form x) (drawing x) limit room solids
+pub converted-is : (x : Input) (limit : ℕ) (room solids : List ℕ)
+    → converted x limit room solids ≡ conversion mostSolids (form x) (drawing x) limit room solids
 unfolding convertLists convertSheet
 converted-is (lent xyz ends) limit room solids = refl
 converted-is (sheet s) limit room solids = refl
@@ -29,10 +30,14 @@ checked-is (sheet s) list = refl
 -- the parts of the rules
 module _ (x : Input) (p : Passes x) where
   pub form-fine : firstOf (form x) ≡ Fine
-  form-fine = both-fine (form x) (drawingChecks (drawing x)) (both-fine (form x ++ drawingChecks (drawing x)) (loopChecks (loops (drawing x)) (candidates (drawing x))) p .0) .0
+  form-fine =
+      both-fine (form x) (drawingChecks (drawing x))
+      (both-fine (form x ++ drawingChecks (drawing x)) (loopChecks (loops (drawing x)) (candidates (drawing x))) p .0) .0
 
   pub drawing-fine : firstOf (drawingChecks (drawing x)) ≡ Fine
-  drawing-fine = both-fine (form x) (drawingChecks (drawing x)) (both-fine (form x ++ drawingChecks (drawing x)) (loopChecks (loops (drawing x)) (candidates (drawing x))) p .0) .1
+  drawing-fine =
+      both-fine (form x) (drawingChecks (drawing x))
+      (both-fine (form x ++ drawingChecks (drawing x)) (loopChecks (loops (drawing x)) (candidates (drawing x))) p .0) .1
 
   pub loops-fine : firstOf (loopChecks (loops (drawing x)) (candidates (drawing x))) ≡ Fine
   loops-fine = both-fine (form x ++ drawingChecks (drawing x)) (loopChecks (loops (drawing x)) (candidates (drawing x))) p .1

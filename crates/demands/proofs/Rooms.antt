@@ -25,13 +25,17 @@ use Rattle.means_check.proofs.Accepting.{step-none}
 
 few-candidates : (ls cs : List Loop) → firstOf (loopChecks ls cs) ≡ Fine → length cs ≤ 64
 unfolding loopChecks
-few-candidates ls cs e = ltb-false 64 (length cs) (no-offence (ltb 64 (length cs)) (step-none 16 (offends (ltb 64 (length cs)) 0) _ (step-none 15 (offends (ltb 128 (length ls)) 0) _ e .1) .0))
+few-candidates ls cs e =
+    ltb-false 64 (length cs)
+    (no-offence (ltb 64 (length cs))
+    (step-none 16 (offends (ltb 64 (length cs)) 0) _ (step-none 15 (offends (ltb 128 (length ls)) 0) _ e .1) .0))
   where
     no-offence : (b : Bool) → offends b 0 ≡ none → b ≡ false
     no-offence true e = let z : _≡_ {A = ℕ} 0 1 = cc in absurd (omega arith)
     no-offence false e = refl
 
-module _ (d : Wire) (fine : firstOf (loopChecks (loops d) (candidates d)) ≡ Fine) (room : List ℕ) (taken turned : List Bool) (some : length taken ≡ length (candidates d)) where
+module _ (d : Wire) (fine : firstOf (loopChecks (loops d) (candidates d)) ≡ Fine) (room : List ℕ) (taken turned : List Bool)
+    (some : length taken ≡ length (candidates d)) where
   pub faces-reported : solidFaces (facesAfter (candidates d) room) (word taken) (word turned) ≡ faceList d (candidates d) taken turned
   unfolding facesAfter faceList
   faces-reported =
@@ -40,7 +44,9 @@ module _ (d : Wire) (fine : firstOf (loopChecks (loops d) (candidates d)) ≡ Fi
 
 -- the words of solid i
 pub words-at : (es : List Entry) (rest : List ℕ) (i : ℕ) → i < length es
-    → (getD (flatMap wordsOf es ++ rest) (3 * i) 0 ≡ word (entryAt es i .taken)) × (getD (flatMap wordsOf es ++ rest) (3 * i + 1) 0 ≡ word (entryAt es i .turned)) × (getD (flatMap wordsOf es ++ rest) (3 * i + 2) 0 ≡ entryAt es i .six)
+    → (getD (flatMap wordsOf es ++ rest) (3 * i) 0 ≡ word (entryAt es i .taken))
+    × (getD (flatMap wordsOf es ++ rest) (3 * i + 1) 0 ≡ word (entryAt es i .turned))
+    × (getD (flatMap wordsOf es ++ rest) (3 * i + 2) 0 ≡ entryAt es i .six)
 unfolding flatMap
 words-at [] rest i h = absurd (omega arith)
 words-at (e ∷ es) rest zero h = (refl, refl, refl)

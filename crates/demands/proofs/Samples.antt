@@ -42,8 +42,11 @@ cube-list : checked (of cube) (encodeFaces editionOne outward) ≡ Accepted
 unfolding reply
 cube-list = refl
 
-pub cube-body : (list : List ℕ) → checked (of cube) list ≡ Accepted → SameBody (facesIn editionOne (encodeFaces editionOne outward)) (facesIn editionOne list)
-cube-body list a = let r = told (of cube) cube-passes (omega (arith, cube-one)) in r .same (r .n ∙ cube-one) (encodeFaces editionOne outward) list cube-list a
+pub cube-body : (list : List ℕ) → checked (of cube) list ≡ Accepted
+    → SameBody (facesIn editionOne (encodeFaces editionOne outward)) (facesIn editionOne list)
+cube-body list a =
+    let r = told (of cube) cube-passes (omega (arith, cube-one)) in
+    r .same (r .n ∙ cube-one) (encodeFaces editionOne outward) list cube-list a
 
 -- "Cube of corners +-20 round a cube of corners +-10": three solids, and each, packed from the report's own rows and words, is accepted
 nested-passes : Passes (of nested)
@@ -55,11 +58,16 @@ unfolding reply
 nested-three = refl
 
 pub nested-each : (i : ℕ) → i < 3
-    → checked (of nested) (encodeFaces editionOne (solidFaces (result (of nested) .faces) (getD (result (of nested) .solids) (3 * i) 0) (getD (result (of nested) .solids) (3 * i + 1) 0))) ≡ Accepted
+    → checked (of nested)
+    (encodeFaces editionOne
+    (solidFaces (result (of nested) .faces) (getD (result (of nested) .solids) (3 * i) 0)
+    (getD (result (of nested) .solids) (3 * i + 1) 0))) ≡ Accepted
 nested-each i h =
     let r = told (of nested) nested-passes (omega (arith, nested-three)) in
     let l : i < length (r .es) = omega (arith, r .n, nested-three) in
-    r .each i l (solidFaces (result (of nested) .faces) (getD (result (of nested) .solids) (3 * i) 0) (getD (result (of nested) .solids) (3 * i + 1) 0)) (r .some i l)
+    r .each i l
+    (solidFaces (result (of nested) .faces) (getD (result (of nested) .solids) (3 * i) 0)
+    (getD (result (of nested) .solids) (3 * i + 1) 0)) (r .some i l)
 
 -- the tetrahedron on its sheet
 sheet-passes : Passes (on tetrahedron)
@@ -70,5 +78,6 @@ sheet-one : reported (result (on tetrahedron) .answer) ≡ 1
 unfolding reply
 sheet-one = refl
 
-pub tetrahedron-bodies : (a b : List ℕ) → checked (on tetrahedron) a ≡ Accepted → checked (on tetrahedron) b ≡ Accepted → SameBody (facesIn editionOne a) (facesIn editionOne b)
+pub tetrahedron-bodies : (a b : List ℕ) → checked (on tetrahedron) a ≡ Accepted → checked (on tetrahedron) b ≡ Accepted
+    → SameBody (facesIn editionOne a) (facesIn editionOne b)
 tetrahedron-bodies = let r = told (on tetrahedron) sheet-passes (omega (arith, sheet-one)) in r .same (r .n ∙ sheet-one)

@@ -44,7 +44,9 @@ unfolding out
 at-most zero n f h u = omega arith
 at-most (suc m) zero f h u = absurd (omega (arith, h 0 (omega arith)))
 at-most (suc m) (suc n) f h u =
-    let r = at-most m n (λ i. out f n m i (ℕ-discrete (f i) n)) (λ i l. low i l (ℕ-discrete (f i) n)) (λ i j li lj e. one i j li lj (ℕ-discrete (f i) n) (ℕ-discrete (f j) n) e) in omega arith
+    let r = at-most m n (λ i. out f n m i (ℕ-discrete (f i) n)) (λ i l. low i l (ℕ-discrete (f i) n))
+    (λ i j li lj e. one i j li lj (ℕ-discrete (f i) n) (ℕ-discrete (f j) n) e) in
+    omega arith
   where
     low : (i : ℕ) → i < m → (d : Dec (f i ≡ n)) → out f n m i d < n
     low i l (yes e) = go (ℕ-discrete (f m) n)
@@ -61,7 +63,8 @@ at-most (suc m) (suc n) f h u =
     one i j li lj (no a) (no b) e = u i j (omega arith) (omega arith) e
 
 -- the same of partners
-partners : (m n : ℕ) (R : ℕ → ℕ → Type 0) → ((i : ℕ) → i < m → (j : ℕ) × (j < n) × R i j) → ((i j k : ℕ) → i < m → j < m → R i k → R j k → i ≡ j) → m ≤ n
+partners : (m n : ℕ) (R : ℕ → ℕ → Type 0) → ((i : ℕ) → i < m → (j : ℕ) × (j < n) × R i j)
+    → ((i j k : ℕ) → i < m → j < m → R i k → R j k → i ≡ j) → m ≤ n
 partners m n R f u = at-most m n (λ i. to i (decLt i m)) (λ i l. low i l (decLt i m))
     (λ i j li lj e. u i j (to i (decLt i m)) li lj (has i li (decLt i m)) (subst (λ (k : ℕ). R j k) (sym e) (has j lj (decLt j m))))
   where
@@ -79,9 +82,11 @@ partners m n R f u = at-most m n (λ i. to i (decLt i m)) (λ i l. low i l (decL
 
 pub body-least : (fs gs : List Loop) → SameBody fs gs → Singly gs → length gs ≤ length fs
 body-least fs gs b y =
-    partners (length gs) (length fs) (λ i j. SameRing (loopAt fs j) (loopAt gs i)) (b .0) (λ i j k hi hj p q. y i j hi hj (same-trans (same-sym p) q))
+    partners (length gs) (length fs) (λ i j. SameRing (loopAt fs j) (loopAt gs i)) (b .0)
+    (λ i j k hi hj p q. y i j hi hj (same-trans (same-sym p) q))
 
-module _ (d : Wire) (c : Candidates d (candidates d)) (apart : samePlace d ≡ none) (few : length (d .edges) ≤ 64) (taken turned : List Bool) {six : ℕ} (s : IsSolid d (candidates d) taken turned six) where
+module _ (d : Wire) (c : Candidates d (candidates d)) (apart : samePlace d ≡ none) (few : length (d .edges) ≤ 64)
+    (taken turned : List Bool) {six : ℕ} (s : IsSolid d (candidates d) taken turned six) where
   singly : (fs : List Loop) → Names d (candidates d) taken turned fs → Singly fs
   singly fs n i j hi hj p = let r = n .each i hi in n .once i j (r .0) hi hj (r .2) (same-trans (r .2) p)
 
@@ -99,7 +104,9 @@ module _ (d : Wire) (c : Candidates d (candidates d)) (apart : samePlace d ≡ n
   path : (fs : List Loop) → Names d (candidates d) taken turned fs → (i : ℕ) → i < length fs → ClosedPath d (loopAt fs i)
   path fs n i h =
       let r = n .each i h in
-      path-same d (r .2) (turn (dig turned (r .0)) (loopAt (candidates d) (r .0)) (loop-path d apart (loopAt (candidates d) (r .0)) (candidates-are d (r .0) (inside (r .0) (r .1)) .loop)))
+      path-same d (r .2)
+      (turn (dig turned (r .0)) (loopAt (candidates d) (r .0))
+      (loop-path d apart (loopAt (candidates d) (r .0)) (candidates-are d (r .0) (inside (r .0) (r .1)) .loop)))
 
   pub names-sent : (fs : List Loop) → Names d (candidates d) taken turned fs → Sendable editionOne (length (d .vertices)) fs
   names-sent fs n =

@@ -21,10 +21,16 @@ module _ (s : List ℕ) (bytes : Under 256 s) (h : sheetOf editionOne s .answer 
       let v : length (coordinatesIn editionOne s) / 3 ≡ verticesIn editionOne s = omega (arith, length-coordinates editionOne s) in
       let e : length (endsIn editionOne s) / 2 ≡ edgesIn editionOne s = omega (arith, length-ends editionOne s) in
       ap₂ (λ a (d : Drawing). record { answer = a; drawing = d }) h
-      (writes-back-one s (bytes, sym h) .returned ∙ ap₂ (λ (v e : ℕ). held v e (coordinatesIn editionOne s) (endsIn editionOne s)) (sym v) (sym e))
+      (writes-back-one s (bytes, sym h) .returned ∙ ap₂ (λ (v e : ℕ). held v e (coordinatesIn editionOne s) (endsIn editionOne s)) (sym v)
+      (sym e))
 
 pub sheets2 : Sheets2
 sheets2 = record {
-  back = λ xyz ends h. (encode editionOne xyz ends, λ room l. writes editionOne xyz ends (encode editionOne xyz ends) room (sym h) refl l, reads-back-one xyz ends .sheet (sym h));
+  back =
+      λ xyz ends h. (
+        encode editionOne xyz ends,
+        λ room l. writes editionOne xyz ends (encode editionOne xyz ends) room (sym h) refl l,
+        reads-back-one xyz ends .sheet (sym h),
+      );
   again = λ s u h. (coordinatesIn editionOne s, endsIn editionOne s, whole s u h, λ room l. writes-back-one s (u, sym h) .room room l);
 }

@@ -22,7 +22,8 @@ unfolding find from
 find-below p zero i k e = let z : _≡_ {A = ℕ} 0 1 = cc in absurd (omega arith)
 find-below p (suc m) i k e = go (p i) (λ q. find-below p m (suc i) k q) e
   where
-    go : (b : Bool) → (find p (from (suc i) m) ≡ some k → k < suc i + m) → cond b (some i) (find p (from (suc i) m)) ≡ some k → k < i + suc m
+    go : (b : Bool) → (find p (from (suc i) m) ≡ some k → k < suc i + m) → cond b (some i) (find p (from (suc i) m)) ≡ some k
+        → k < i + suc m
     go true f q = let z : i ≡ k = cc in omega arith
     go false f q = let z = f q in omega arith
 
@@ -47,7 +48,9 @@ pub first-in : (table : List Line) (cs : List Check) → Each table cs → (r : 
 unfolding firstOf
 first-in table [] h r e = let z : _≡_ {A = ℕ} 0 1 = cc in absurd (omega arith)
 first-in table (check n none ∷ cs) (also a h) r e = first-in table cs h r e
-first-in table (check n (some p) ∷ cs) (also a h) r e = let z : record { number = n; place = p } ≡ r = cc in subst (λ (q : Refusal). In q table) z (a p refl)
+first-in table (check n (some p) ∷ cs) (also a h) r e =
+    let z : record { number = n; place = p } ≡ r = cc in
+    subst (λ (q : Refusal). In q table) z (a p refl)
 
 pub each-both : (table : List Line) (cs ds : List Check) → Each table cs → Each table ds → Each table (cs ++ ds)
 each-both table [] ds end b = b
@@ -65,11 +68,13 @@ in-right r (line n k ∷ table) more h = inr (in-right r table more h)
 
 pub each-left : (cs : List Check) (table more : List Line) → Each table cs → Each (table ++ more) cs
 each-left [] table more end = end
-each-left (check n o ∷ cs) table more (also a h) = also (λ p e. in-left (record { number = n; place = p }) table more (a p e)) (each-left cs table more h)
+each-left (check n o ∷ cs) table more (also a h) =
+    also (λ p e. in-left (record { number = n; place = p }) table more (a p e)) (each-left cs table more h)
 
 pub each-right : (cs : List Check) (table more : List Line) → Each more cs → Each (table ++ more) cs
 each-right [] table more end = end
-each-right (check n o ∷ cs) table more (also a h) = also (λ p e. in-right (record { number = n; place = p }) table more (a p e)) (each-right cs table more h)
+each-right (check n o ∷ cs) table more (also a h) =
+    also (λ p e. in-right (record { number = n; place = p }) table more (a p e)) (each-right cs table more h)
 
 -- checks and tables one behind the other
 pub each-on : (cs ds : List Check) (table more : List Line) → Each table cs → Each more ds → Each (table ++ more) (cs ++ ds)

@@ -31,15 +31,19 @@ module _ (x : Input) (t : WalkTree (drawing x) (candidatesOf x)) where
     pub record Demand2 : Type 0 where
       -- "every solid once"
       pub every : Listed (drawing x) (candidatesOf x) solidsOf
-      -- "the report lists" them: the answer, with the counts of loops and candidates; a row for each candidate; three words for each solid.
+      -- "the report lists" them: the answer, with the counts of loops and candidates; a row for each candidate; three words for each
+      -- solid.
       -- "The work reported is the number of assumptions in that walk."
       pub answer : Uncut → r .answer ≡ answered (length (loops (drawing x))) (length (candidatesOf x)) (assumptions t) solidsOf
       pub rows : Uncut → r .faces ≡ facesFor (candidatesOf x) room solidsOf
       pub words : Uncut → r .solids ≡ solidsFor solids solidsOf
       -- "and says 'no solid' exactly when there is none"
-      pub none : assumptions t ≤ limit → ((l c work : ℕ) × (r .answer ≡ NoSolid l c work)) ↔ ((taken turned : List Bool) (six : ℕ) → IsSolid (drawing x) (candidatesOf x) taken turned six → ⊥)
-      -- where it meets a ninth solid, and where it passes the limit before one: without a ninth that is the whole walk, so nothing else is left
-      pub ninth : 8 < length solidsOf → workToNinth (drawing x) t ≤ limit → r .answer ≡ Many (length (loops (drawing x))) (length (candidatesOf x)) (workToNinth (drawing x) t)
+      pub none : assumptions t ≤ limit → ((l c work : ℕ) × (r .answer ≡ NoSolid l c work))
+          ↔ ((taken turned : List Bool) (six : ℕ) → IsSolid (drawing x) (candidatesOf x) taken turned six → ⊥)
+      -- where it meets a ninth solid, and where it passes the limit before one: without a ninth that is the whole walk, so nothing else
+      -- is left
+      pub ninth : 8 < length solidsOf → workToNinth (drawing x) t ≤ limit
+          → r .answer ≡ Many (length (loops (drawing x))) (length (candidatesOf x)) (workToNinth (drawing x) t)
       pub whole : length solidsOf ≤ 8 → workToNinth (drawing x) t ≡ assumptions t
       pub long : limit < workToNinth (drawing x) t → r .answer ≡ TooLong (length (loops (drawing x))) (length (candidatesOf x)) limit
 
@@ -49,4 +53,5 @@ pub record Holds2 (x : Input) : Type 0 where
   pub walk : WalkTree (drawing x) (candidatesOf x)
   pub no-other : (t u : WalkTree (drawing x) (candidatesOf x)) → steps t ≡ steps u
   -- "For a drawing that passes the drawing rules"
-  pub holds : Passes x → (t : WalkTree (drawing x) (candidatesOf x)) (limit : ℕ) (room solids : List ℕ) → Allowed limit room solids → Demand2 x t limit room solids (converted x limit room solids)
+  pub holds : Passes x → (t : WalkTree (drawing x) (candidatesOf x)) (limit : ℕ) (room solids : List ℕ) → Allowed limit room solids
+      → Demand2 x t limit room solids (converted x limit room solids)

@@ -31,19 +31,26 @@ module _ (x : Input) where
     pub words : r .solids ≡ flatMap wordsOf es ++ drop (3 * length es) solids
     -- "each of the n is accepted": any faces that name it, packed; and the faces that its words and the report's rows give do name it
     pub each : (i : ℕ) → i < length es → (fs : List Loop) → NamesIt (entryAt es i) fs → checked x (encodeFaces editionOne fs) ≡ Accepted
-    pub some : (i : ℕ) → i < length es → NamesIt (entryAt es i) (solidFaces (r .faces) (getD (r .solids) (3 * i) 0) (getD (r .solids) (3 * i + 1) 0))
+    pub some : (i : ℕ) → i < length es
+        → NamesIt (entryAt es i) (solidFaces (r .faces) (getD (r .solids) (3 * i) 0) (getD (r .solids) (3 * i + 1) 0))
     -- "no other body is": what is accepted names one of the n
     pub other : (list : List ℕ) → checked x list ≡ Accepted → (i : ℕ) × (i < length es) × NamesIt (entryAt es i) (facesIn editionOne list)
     -- "with n = 1 any two accepted lists are the same body"
-    pub same : length es ≡ 1 → (a b : List ℕ) → checked x a ≡ Accepted → checked x b ≡ Accepted → SameBody (facesIn editionOne a) (facesIn editionOne b)
+    pub same : length es ≡ 1 → (a b : List ℕ) → checked x a ≡ Accepted → checked x b ≡ Accepted
+        → SameBody (facesIn editionOne a) (facesIn editionOne b)
 
   -- "For a drawing that passes the drawing rules"
   pub record Demand3 : Type 0 where
     -- "the check accepts a list exactly when it names one solid of demand 2 with its directions": a list of good shape, 20
-    pub exactly : (list : List ℕ) → (checked x list ≡ Accepted) ↔ ((wellShaped editionOne (length (drawing x .vertices)) list ≡ true) × NamesSolid (drawing x) (candidatesOf x) (facesIn editionOne list))
+    pub exactly : (list : List ℕ)
+        → (checked x list ≡ Accepted)
+        ↔ ((wellShaped editionOne (length (drawing x .vertices)) list ≡ true) × NamesSolid (drawing x) (candidatesOf x)
+        (facesIn editionOne list))
     -- "one solid": no list names two
-    pub one-solid : (fs : List Loop) (a b : NamesSolid (drawing x) (candidatesOf x) fs) → Same (a .taken) (b .taken) × Same (a .turned) (b .turned)
-    pub reports : (limit : ℕ) (room solids : List ℕ) → 0 < reported (converted x limit room solids .answer) → Report solids (converted x limit room solids)
+    pub one-solid : (fs : List Loop) (a b : NamesSolid (drawing x) (candidatesOf x) fs)
+        → Same (a .taken) (b .taken) × Same (a .turned) (b .turned)
+    pub reports : (limit : ℕ) (room solids : List ℕ) → 0 < reported (converted x limit room solids .answer)
+        → Report solids (converted x limit room solids)
 
 -- demand 3
 abbrev pub Holds3 : Type 0

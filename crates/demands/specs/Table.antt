@@ -28,7 +28,8 @@ lists coordinates edges = line 5 2 ∷ line 8 coordinates ∷ line 9 edges ∷ l
 -- 3 SheetShort, 4 SheetEdition, 6 SheetLength, 7 SheetPad: of a sheet. Of lent lists "3, 4, 6 and 7 don't arise"
 abbrev pub forms : Input → List Line
 forms (lent xyz ends) = lists (length xyz) (length ends / 2)
-forms (sheet s) = line 3 1 ∷ line 4 1 ∷ line 6 1 ∷ line 7 1 ∷ lists (length (coordinatesIn editionOne s)) (length (endsIn editionOne s) / 2)
+forms (sheet s) =
+    line 3 1 ∷ line 4 1 ∷ line 6 1 ∷ line 7 1 ∷ lists (length (coordinatesIn editionOne s)) (length (endsIn editionOne s) / 2)
 
 -- 11 SamePlace, 12 LooseVertex, 14 Apart: "vertex". 13 EdgeMeets: "edge". 15 ManyLoops, 16 ManyCandidates
 abbrev pub drawings : ℕ → ℕ → List Line

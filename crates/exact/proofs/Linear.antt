@@ -1,8 +1,10 @@
 -- Orders of linear expressions over ℤ as orders of ℕ, where `omega` works. Assumes nothing.
--- A number z is `up z` less `dn z`, two natural numbers of which one is 0, and an expression e over ρ is `Pos ρ e` less `Neg ρ e`, which compute to sums of those. So an
+-- A number z is `up z` less `dn z`, two natural numbers of which one is 0, and an expression e over ρ is `Pos ρ e` less `Neg ρ e`, which
+-- compute to sums of those. So an
 -- order of two expressions is one of ℕ, which `omega` proves from the hypotheses, handed over in the same form:
 --     le-by ρ a b (omega (arith, lt-to ρ c d h, le-to ρ e f k)) : eval ρ a ≤ℤ eval ρ b
--- with h : eval ρ c <ℤ eval ρ d and k : eval ρ e ≤ℤ eval ρ f. A product of two variables is an unknown to `omega`; a multiple is written `con (pos 3) ⊗ e`.
+-- with h : eval ρ c <ℤ eval ρ d and k : eval ρ e ≤ℤ eval ρ f. A product of two variables is an unknown to `omega`; a multiple is written
+-- `con (pos 3) ⊗ e`.
 use mathlib.Core.Path.{_≡_, refl, sym, _∙_, ap, subst₂}
 use mathlib.Core.Logic.{_⊎_, inl, inr}
 use mathlib.Core.List.{List, [], _∷_}
@@ -35,7 +37,11 @@ parts ρ (var v) = record { high = up (getD ρ v (pos 0)); low = dn (getD ρ v (
 parts ρ (con c) = record { high = up c; low = dn c }
 parts ρ (a ⊕ b) = record { high = parts ρ a .high + parts ρ b .high; low = parts ρ a .low + parts ρ b .low }
 parts ρ (a ⊖ b) = record { high = parts ρ a .high + parts ρ b .low; low = parts ρ a .low + parts ρ b .high }
-parts ρ (a ⊗ b) = record { high = parts ρ a .high * parts ρ b .high + parts ρ a .low * parts ρ b .low; low = parts ρ a .high * parts ρ b .low + parts ρ a .low * parts ρ b .high }
+parts ρ (a ⊗ b) =
+    record {
+      high = parts ρ a .high * parts ρ b .high + parts ρ a .low * parts ρ b .low;
+      low = parts ρ a .high * parts ρ b .low + parts ρ a .low * parts ρ b .high;
+    }
 parts ρ (neg a) = record { high = parts ρ a .low; low = parts ρ a .high }
 
 abbrev pub Pos : List ℤ → Expr → ℕ
@@ -53,11 +59,17 @@ parts-is : (ρ : List ℤ) (e : Expr) → eval ρ e ≡ pos (Pos ρ e) -ℤ pos 
 parts-is ρ (var v) = split (getD ρ v (pos 0))
 parts-is ρ (con c) = split c
 parts-is ρ (a ⊕ b) =
-    (λ i. parts-is ρ a i +ℤ parts-is ρ b i) ∙ ring (pos (Pos ρ a) ∷ pos (Neg ρ a) ∷ pos (Pos ρ b) ∷ pos (Neg ρ b) ∷ []) ((var 0 ⊖ var 1) ⊕ (var 2 ⊖ var 3)) ((var 0 ⊕ var 2) ⊖ (var 1 ⊕ var 3)) tt
+    (λ i. parts-is ρ a i +ℤ parts-is ρ b i)
+    ∙ ring (pos (Pos ρ a) ∷ pos (Neg ρ a) ∷ pos (Pos ρ b) ∷ pos (Neg ρ b) ∷ []) ((var 0 ⊖ var 1) ⊕ (var 2 ⊖ var 3))
+    ((var 0 ⊕ var 2) ⊖ (var 1 ⊕ var 3)) tt
 parts-is ρ (a ⊖ b) =
-    (λ i. parts-is ρ a i -ℤ parts-is ρ b i) ∙ ring (pos (Pos ρ a) ∷ pos (Neg ρ a) ∷ pos (Pos ρ b) ∷ pos (Neg ρ b) ∷ []) ((var 0 ⊖ var 1) ⊖ (var 2 ⊖ var 3)) ((var 0 ⊕ var 3) ⊖ (var 1 ⊕ var 2)) tt
+    (λ i. parts-is ρ a i -ℤ parts-is ρ b i)
+    ∙ ring (pos (Pos ρ a) ∷ pos (Neg ρ a) ∷ pos (Pos ρ b) ∷ pos (Neg ρ b) ∷ []) ((var 0 ⊖ var 1) ⊖ (var 2 ⊖ var 3))
+    ((var 0 ⊕ var 3) ⊖ (var 1 ⊕ var 2)) tt
 parts-is ρ (a ⊗ b) =
-    (λ i. parts-is ρ a i *ℤ parts-is ρ b i) ∙ ring (pos (Pos ρ a) ∷ pos (Neg ρ a) ∷ pos (Pos ρ b) ∷ pos (Neg ρ b) ∷ []) ((var 0 ⊖ var 1) ⊗ (var 2 ⊖ var 3)) ((var 0 ⊗ var 2 ⊕ var 1 ⊗ var 3) ⊖ (var 0 ⊗ var 3 ⊕ var 1 ⊗ var 2)) tt
+    (λ i. parts-is ρ a i *ℤ parts-is ρ b i)
+    ∙ ring (pos (Pos ρ a) ∷ pos (Neg ρ a) ∷ pos (Pos ρ b) ∷ pos (Neg ρ b) ∷ []) ((var 0 ⊖ var 1) ⊗ (var 2 ⊖ var 3))
+    ((var 0 ⊗ var 2 ⊕ var 1 ⊗ var 3) ⊖ (var 0 ⊗ var 3 ⊕ var 1 ⊗ var 2)) tt
 parts-is ρ (neg a) =
     ap negℤ (parts-is ρ a) ∙ ring (pos (Pos ρ a) ∷ pos (Neg ρ a) ∷ []) (neg (var 0 ⊖ var 1)) (var 1 ⊖ var 0) tt
 

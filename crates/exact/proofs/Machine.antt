@@ -1,6 +1,8 @@
 -- What an expression of i64s asks and gives on the machine, from the expression alone. Assumes nothing.
--- The variables of an expression are numbers that the code holds in locals: parameters, results of calls, elements of a slice, a loop's variables. `bits κ e` is what the
--- machine computes for e where the variables' locals hold the bits κ, `bound ns e` a bound on e's size where the variables have the bounds ns, and `small ns e` the test
+-- The variables of an expression are numbers that the code holds in locals: parameters, results of calls, elements of a slice, a loop's
+-- variables. `bits κ e` is what the
+-- machine computes for e where the variables' locals hold the bits κ, `bound ns e` a bound on e's size where the variables have the
+-- bounds ns, and `small ns e` the test
 -- that each bound on the way is below 2 ^ 63.
 --     asked env e tt    answers a need `add-..`, `sub-..`, `mul-..`, where e is the whole operation: that it does not overflow
 --     reads env e tt    is what the machine reads back of e's bits: the value of e. It answers `returns`
@@ -8,7 +10,8 @@
 --     sized env e       is |e| ≤ bound
 --     fits env e tt     is SFits w64 of e's value
 --     lt-taken, lt-left, eq-taken, eq-left   turn a branch's test into the fact about the two numbers
--- `env` has an entry for each variable, in order: `h ▸ ..` with h : Within n z, where the local holds the bits of z, and `raw q h (..)` where q : k ≡ ofZ w64 z says so of k.
+-- `env` has an entry for each variable, in order: `h ▸ ..` with h : Within n z, where the local holds the bits of z, and `raw q h (..)`
+-- where q : k ≡ ofZ w64 z says so of k.
 -- `-x` in the code is `neg x`.
 use mathlib.Core.Path.{_≡_, refl, sym, _∙_, ap, subst}
 use mathlib.Core.Bool.{Bool, true, false, not, _&&_}
@@ -209,13 +212,15 @@ eq-left a b h e = h (ap (ofZ w64) e)
 -- ---- a call: a callee is handed what the machine reads back of each argument's bits
 
 -- the callee's bound on an argument
-pub handed : {ns κ : List ℕ} {ρ : List ℤ} (n : ℕ) → Env ns κ ρ → (e : Expr) → T (small ns e) → T (leb (bound ns e) n) → Within n (toZ w64 (machine κ e))
+pub handed : {ns κ : List ℕ} {ρ : List ℤ} (n : ℕ) → Env ns κ ρ → (e : Expr) → T (small ns e) → T (leb (bound ns e) n)
+    → Within n (toZ w64 (machine κ e))
 handed n env e t u = subst (λ (z : ℤ). Within n z) (sym (reads env e t)) (within-up u (sized env e))
 
 -- ---- casts
 
 -- `x as u64`, of a number that is not negative
-pub to-u64 : {k n : ℕ} {z : ℤ} → Reads k z → T (fitting n) → Within n z → pos 0 ≤ℤ z → T (nonNeg (toZ w64 k)) × Fits w64 (natAbs (toZ w64 k))
+pub to-u64 : {k n : ℕ} {z : ℤ} → Reads k z → T (fitting n) → Within n z → pos 0 ≤ℤ z
+    → T (nonNeg (toZ w64 k)) × Fits w64 (natAbs (toZ w64 k))
 to-u64 {k} {n} {z} r t h p =
     subst (λ (y : ℤ). T (nonNeg y) × Fits w64 (natAbs y)) (sym (r .reading))
     (yes-nonNeg p, record { fits = lt-trans (lt-of-le-of-lt (h .within) (ltb→lt n (2 ^ 63) t)) (lit< tt) })

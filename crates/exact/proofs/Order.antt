@@ -95,10 +95,16 @@ square-nonneg a = go (three-ways a)
     go (inr (inr p)) = <ℤ-≤ℤ (mul-pos p p)
 
 pub mul-lt : (k : ℤ) {a b : ℤ} → pos 0 <ℤ k → a <ℤ b → (k *ℤ a) <ℤ (k *ℤ b)
-mul-lt k {a} {b} p h = lt-of-sub (k *ℤ a) (k *ℤ b) (subst (λ (z : ℤ). pos 0 <ℤ z) (ring (k ∷ a ∷ b ∷ []) (var 0 ⊗ (var 2 ⊖ var 1)) (var 0 ⊗ var 2 ⊖ var 0 ⊗ var 1) tt) (mul-pos p (sub-pos h)))
+mul-lt k {a} {b} p h =
+    lt-of-sub (k *ℤ a) (k *ℤ b)
+    (subst (λ (z : ℤ). pos 0 <ℤ z) (ring (k ∷ a ∷ b ∷ []) (var 0 ⊗ (var 2 ⊖ var 1)) (var 0 ⊗ var 2 ⊖ var 0 ⊗ var 1) tt)
+    (mul-pos p (sub-pos h)))
 
 pub mul-le : (k : ℤ) {a b : ℤ} → pos 0 ≤ℤ k → a ≤ℤ b → (k *ℤ a) ≤ℤ (k *ℤ b)
-mul-le k {a} {b} p h = le-of-sub (k *ℤ a) (k *ℤ b) (subst (λ (z : ℤ). pos 0 ≤ℤ z) (ring (k ∷ a ∷ b ∷ []) (var 0 ⊗ (var 2 ⊖ var 1)) (var 0 ⊗ var 2 ⊖ var 0 ⊗ var 1) tt) (mul-nonneg p (sub-nonneg h)))
+mul-le k {a} {b} p h =
+    le-of-sub (k *ℤ a) (k *ℤ b)
+    (subst (λ (z : ℤ). pos 0 ≤ℤ z) (ring (k ∷ a ∷ b ∷ []) (var 0 ⊗ (var 2 ⊖ var 1)) (var 0 ⊗ var 2 ⊖ var 0 ⊗ var 1) tt)
+    (mul-nonneg p (sub-nonneg h)))
 
 -- a factor above 0 goes out
 pub lt-cancel : (m : ℤ) {a b : ℤ} → pos 0 <ℤ m → (m *ℤ a) <ℤ (m *ℤ b) → a <ℤ b
@@ -122,8 +128,10 @@ ring-with ρ a b k c d t h =
     eq-of-sub (eval ρ a) (eval ρ b)
     (ring ρ (a ⊖ b) (k ⊗ (c ⊖ d)) t ∙ ap (λ (z : ℤ). eval ρ k *ℤ z) (sub-of-eq (eval ρ c) (eval ρ d) h) ∙ *ℤ-zero (eval ρ k))
 
-pub ring-with2 : (ρ : List ℤ) (a b k c d l e f : Expr) → T (allZ (norm ((a ⊖ b) ⊖ (k ⊗ (c ⊖ d) ⊕ l ⊗ (e ⊖ f))))) → eval ρ c ≡ eval ρ d → eval ρ e ≡ eval ρ f → eval ρ a ≡ eval ρ b
+pub ring-with2 : (ρ : List ℤ) (a b k c d l e f : Expr) → T (allZ (norm ((a ⊖ b) ⊖ (k ⊗ (c ⊖ d) ⊕ l ⊗ (e ⊖ f))))) → eval ρ c ≡ eval ρ d
+    → eval ρ e ≡ eval ρ f → eval ρ a ≡ eval ρ b
 ring-with2 ρ a b k c d l e f t g h =
     eq-of-sub (eval ρ a) (eval ρ b)
     (ring ρ (a ⊖ b) (k ⊗ (c ⊖ d) ⊕ l ⊗ (e ⊖ f)) t
-    ∙ (λ i. (ap (λ (z : ℤ). eval ρ k *ℤ z) (sub-of-eq (eval ρ c) (eval ρ d) g) ∙ *ℤ-zero (eval ρ k)) i +ℤ (ap (λ (z : ℤ). eval ρ l *ℤ z) (sub-of-eq (eval ρ e) (eval ρ f) h) ∙ *ℤ-zero (eval ρ l)) i))
+    ∙ (λ i. (ap (λ (z : ℤ). eval ρ k *ℤ z) (sub-of-eq (eval ρ c) (eval ρ d) g) ∙ *ℤ-zero (eval ρ k))
+    i +ℤ (ap (λ (z : ℤ). eval ρ l *ℤ z) (sub-of-eq (eval ρ e) (eval ρ f) h) ∙ *ℤ-zero (eval ρ l)) i))

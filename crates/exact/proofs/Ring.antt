@@ -1,6 +1,8 @@
 -- A polynomial identity over ℤ by one call, of `ring`. Assumes nothing.
--- `Expr` is a polynomial expression over variables that are numbered from 0, `eval ρ e` its value where the list ρ has the variables' values, and `norm` its normal
--- form, a sorted list of terms, each a sorted list of variables with a coefficient. antt computes `norm`, and `ring` says that two expressions whose difference has no
+-- `Expr` is a polynomial expression over variables that are numbered from 0, `eval ρ e` its value where the list ρ has the variables'
+-- values, and `norm` its normal
+-- form, a sorted list of terms, each a sorted list of variables with a coefficient. antt computes `norm`, and `ring` says that two
+-- expressions whose difference has no
 -- coefficient but 0 have one value:
 --     ring (a ∷ b ∷ []) ((var 0 ⊕ var 1) ⊗ (var 0 ⊖ var 1)) (var 0 ⊗ var 0 ⊖ var 1 ⊗ var 1) tt : (a +ℤ b) *ℤ (a -ℤ b) ≡ a *ℤ a -ℤ b *ℤ b
 use mathlib.Core.Path.{_≡_, refl, sym, _∙_, ap}
@@ -60,9 +62,11 @@ cmpM [] (w ∷ b) = Ordering·lt
 cmpM (v ∷ a) [] = Ordering·gt
 cmpM (v ∷ a) (w ∷ b) = let r = cmpM a b in firstOf (compare v w) r
 
-putPick-sound : (ρ : List ℤ) (t : Bool) (v w : ℕ) (m r : List ℕ) → evalM ρ r ≡ getD ρ v (pos 0) *ℤ evalM ρ m → evalM ρ (putPick t v w m r) ≡ getD ρ v (pos 0) *ℤ (getD ρ w (pos 0) *ℤ evalM ρ m)
+putPick-sound : (ρ : List ℤ) (t : Bool) (v w : ℕ) (m r : List ℕ) → evalM ρ r ≡ getD ρ v (pos 0) *ℤ evalM ρ m
+    → evalM ρ (putPick t v w m r) ≡ getD ρ v (pos 0) *ℤ (getD ρ w (pos 0) *ℤ evalM ρ m)
 putPick-sound ρ true v w m r h = refl
-putPick-sound ρ false v w m r h = ap (λ (x : ℤ). getD ρ w (pos 0) *ℤ x) h ∙ mul-left-commℤ (getD ρ w (pos 0)) (getD ρ v (pos 0)) (evalM ρ m)
+putPick-sound ρ false v w m r h =
+    ap (λ (x : ℤ). getD ρ w (pos 0) *ℤ x) h ∙ mul-left-commℤ (getD ρ w (pos 0)) (getD ρ v (pos 0)) (evalM ρ m)
 
 put-sound : (ρ : List ℤ) (v : ℕ) (m : List ℕ) → evalM ρ (put v m) ≡ getD ρ v (pos 0) *ℤ evalM ρ m
 put-sound ρ v [] = refl
@@ -71,7 +75,8 @@ put-sound ρ v (w ∷ m) = putPick-sound ρ (leb v w) v w m (put v m) (put-sound
 times-sound : (ρ : List ℤ) (a b : List ℕ) → evalM ρ (times a b) ≡ evalM ρ a *ℤ evalM ρ b
 times-sound ρ [] b = sym (one-*ℤ (evalM ρ b))
 times-sound ρ (v ∷ a) b =
-    put-sound ρ v (times a b) ∙ ap (λ (x : ℤ). getD ρ v (pos 0) *ℤ x) (times-sound ρ a b) ∙ sym (*ℤ-assoc (getD ρ v (pos 0)) (evalM ρ a) (evalM ρ b))
+    put-sound ρ v (times a b) ∙ ap (λ (x : ℤ). getD ρ v (pos 0) *ℤ x) (times-sound ρ a b)
+    ∙ sym (*ℤ-assoc (getD ρ v (pos 0)) (evalM ρ a) (evalM ρ b))
 
 first-eq : (o p : Ordering) → T (isEq (firstOf o p)) → T (isEq o) × T (isEq p)
 first-eq Ordering·lt p t = absurd t
@@ -140,12 +145,16 @@ allZ nil = true
 allZ (term m c p) = isZ c && allZ p
 
 module _ (ρ : List ℤ) where
-  joinPick-sound : (o : Ordering) (m : List ℕ) (c : ℤ) (n : List ℕ) (d : ℤ) (p r : Poly) → (T (isEq o) → m ≡ n) → evalP ρ r ≡ c *ℤ evalM ρ m +ℤ evalP ρ p → evalP ρ (joinPick o m c n d p r) ≡ c *ℤ evalM ρ m +ℤ (d *ℤ evalM ρ n +ℤ evalP ρ p)
+  joinPick-sound : (o : Ordering) (m : List ℕ) (c : ℤ) (n : List ℕ) (d : ℤ) (p r : Poly) → (T (isEq o) → m ≡ n)
+      → evalP ρ r ≡ c *ℤ evalM ρ m +ℤ evalP ρ p → evalP ρ (joinPick o m c n d p r) ≡ c *ℤ evalM ρ m +ℤ (d *ℤ evalM ρ n +ℤ evalP ρ p)
   joinPick-sound Ordering·lt m c n d p r e h = refl
   joinPick-sound Ordering·eq m c n d p r e h =
-      ap (λ (x : ℤ). x +ℤ evalP ρ p) (add-mulℤ c d (evalM ρ n)) ∙ +ℤ-assoc (c *ℤ evalM ρ n) (d *ℤ evalM ρ n) (evalP ρ p) ∙ ap (λ (k : List ℕ). c *ℤ evalM ρ k +ℤ (d *ℤ evalM ρ n +ℤ evalP ρ p)) (sym (e tt))
+      ap (λ (x : ℤ). x +ℤ evalP ρ p) (add-mulℤ c d (evalM ρ n)) ∙ +ℤ-assoc (c *ℤ evalM ρ n) (d *ℤ evalM ρ n) (evalP ρ p)
+      ∙ ap (λ (k : List ℕ). c *ℤ evalM ρ k +ℤ (d *ℤ evalM ρ n +ℤ evalP ρ p)) (sym (e tt))
   joinPick-sound Ordering·gt m c n d p r e h =
-      ap (λ (x : ℤ). d *ℤ evalM ρ n +ℤ x) h ∙ sym (+ℤ-assoc (d *ℤ evalM ρ n) (c *ℤ evalM ρ m) (evalP ρ p)) ∙ ap (λ (x : ℤ). x +ℤ evalP ρ p) (+ℤ-comm (d *ℤ evalM ρ n) (c *ℤ evalM ρ m)) ∙ +ℤ-assoc (c *ℤ evalM ρ m) (d *ℤ evalM ρ n) (evalP ρ p)
+      ap (λ (x : ℤ). d *ℤ evalM ρ n +ℤ x) h ∙ sym (+ℤ-assoc (d *ℤ evalM ρ n) (c *ℤ evalM ρ m) (evalP ρ p))
+      ∙ ap (λ (x : ℤ). x +ℤ evalP ρ p) (+ℤ-comm (d *ℤ evalM ρ n) (c *ℤ evalM ρ m))
+      ∙ +ℤ-assoc (c *ℤ evalM ρ m) (d *ℤ evalM ρ n) (evalP ρ p)
 
   join-sound : (m : List ℕ) (c : ℤ) (p : Poly) → evalP ρ (join m c p) ≡ c *ℤ evalM ρ m +ℤ evalP ρ p
   join-sound m c nil = refl
@@ -153,7 +162,9 @@ module _ (ρ : List ℤ) where
 
   add-sound : (p q : Poly) → evalP ρ (addP p q) ≡ evalP ρ p +ℤ evalP ρ q
   add-sound nil q = sym (+ℤ-idl (evalP ρ q))
-  add-sound (term m c p) q = join-sound m c (addP p q) ∙ ap (λ (x : ℤ). c *ℤ evalM ρ m +ℤ x) (add-sound p q) ∙ sym (+ℤ-assoc (c *ℤ evalM ρ m) (evalP ρ p) (evalP ρ q))
+  add-sound (term m c p) q =
+      join-sound m c (addP p q) ∙ ap (λ (x : ℤ). c *ℤ evalM ρ m +ℤ x) (add-sound p q)
+      ∙ sym (+ℤ-assoc (c *ℤ evalM ρ m) (evalP ρ p) (evalP ρ q))
 
   neg-sound : (p : Poly) → evalP ρ (negP p) ≡ negℤ (evalP ρ p)
   neg-sound nil = refl
@@ -170,14 +181,16 @@ module _ (ρ : List ℤ) where
   mul-sound : (p q : Poly) → evalP ρ (mulP p q) ≡ evalP ρ p *ℤ evalP ρ q
   mul-sound nil q = sym (zero-*ℤ (evalP ρ q))
   mul-sound (term m c p) q =
-      mulT-sound m c q (mulP p q) ∙ ap (λ (x : ℤ). (c *ℤ evalM ρ m) *ℤ evalP ρ q +ℤ x) (mul-sound p q) ∙ sym (add-mulℤ (c *ℤ evalM ρ m) (evalP ρ p) (evalP ρ q))
+      mulT-sound m c q (mulP p q) ∙ ap (λ (x : ℤ). (c *ℤ evalM ρ m) *ℤ evalP ρ q +ℤ x) (mul-sound p q)
+      ∙ sym (add-mulℤ (c *ℤ evalM ρ m) (evalP ρ p) (evalP ρ q))
 
   norm-sound : (e : Expr) → evalP ρ (norm e) ≡ eval ρ e
   norm-sound (var v) = +ℤ-idr (pos 1 *ℤ (getD ρ v (pos 0) *ℤ pos 1)) ∙ one-*ℤ (getD ρ v (pos 0) *ℤ pos 1) ∙ *ℤ-1 (getD ρ v (pos 0))
   norm-sound (con c) = +ℤ-idr (c *ℤ pos 1) ∙ *ℤ-1 c
   norm-sound (a ⊕ b) = add-sound (norm a) (norm b) ∙ (λ i. norm-sound a i +ℤ norm-sound b i)
   norm-sound (a ⊖ b) =
-      add-sound (negP (norm b)) (norm a) ∙ +ℤ-comm (evalP ρ (negP (norm b))) (evalP ρ (norm a)) ∙ (λ i. norm-sound a i +ℤ (neg-sound (norm b) ∙ ap negℤ (norm-sound b)) i)
+      add-sound (negP (norm b)) (norm a) ∙ +ℤ-comm (evalP ρ (negP (norm b))) (evalP ρ (norm a))
+      ∙ (λ i. norm-sound a i +ℤ (neg-sound (norm b) ∙ ap negℤ (norm-sound b)) i)
   norm-sound (a ⊗ b) = mul-sound (norm a) (norm b) ∙ (λ i. norm-sound a i *ℤ norm-sound b i)
   norm-sound (neg a) = neg-sound (norm a) ∙ ap negℤ (norm-sound a)
 

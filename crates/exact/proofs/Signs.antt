@@ -87,14 +87,20 @@ leZ-no {a} {b} t = record { lt = nle a b t }
 pub zero-product : (a b : ℤ) → a *ℤ b ≡ pos 0 → (a ≡ pos 0) ⊎ (b ≡ pos 0)
 zero-product (pos zero) b e = inl refl
 zero-product (pos (suc a)) (pos zero) e = inr refl
-zero-product (pos (suc a)) (pos (suc b)) e = absurd (<ℤ-irrefl (subst (λ (z : ℤ). pos 0 <ℤ z) e (above-lt _ (sign-mul (pos (suc a)) (pos (suc b))))))
-zero-product (pos (suc a)) (negsuc b) e = absurd (<ℤ-irrefl (subst (λ (z : ℤ). z <ℤ pos 0) e (below-lt _ (sign-mul (pos (suc a)) (negsuc b)))))
+zero-product (pos (suc a)) (pos (suc b)) e =
+    absurd (<ℤ-irrefl (subst (λ (z : ℤ). pos 0 <ℤ z) e (above-lt _ (sign-mul (pos (suc a)) (pos (suc b))))))
+zero-product (pos (suc a)) (negsuc b) e =
+    absurd (<ℤ-irrefl (subst (λ (z : ℤ). z <ℤ pos 0) e (below-lt _ (sign-mul (pos (suc a)) (negsuc b)))))
 zero-product (negsuc a) (pos zero) e = inr refl
-zero-product (negsuc a) (pos (suc b)) e = absurd (<ℤ-irrefl (subst (λ (z : ℤ). z <ℤ pos 0) e (below-lt _ (sign-mul (negsuc a) (pos (suc b))))))
+zero-product (negsuc a) (pos (suc b)) e =
+    absurd (<ℤ-irrefl (subst (λ (z : ℤ). z <ℤ pos 0) e (below-lt _ (sign-mul (negsuc a) (pos (suc b))))))
 zero-product (negsuc a) (negsuc b) e = absurd (<ℤ-irrefl (subst (λ (z : ℤ). pos 0 <ℤ z) e (above-lt _ (sign-mul (negsuc a) (negsuc b)))))
 
 pub mul-cancelℤ : (k a b : ℤ) → (k ≡ pos 0 → ⊥) → k *ℤ a ≡ k *ℤ b → a ≡ b
-mul-cancelℤ k a b h e = go (zero-product k (a -ℤ b) (mul-addℤ k a (negℤ b) ∙ ap (λ (z : ℤ). k *ℤ a +ℤ z) (mul-negℤ k b) ∙ ap (λ (z : ℤ). z -ℤ k *ℤ b) e ∙ +ℤ-invr (k *ℤ b)))
+mul-cancelℤ k a b h e =
+    go
+    (zero-product k (a -ℤ b) (mul-addℤ k a (negℤ b) ∙ ap (λ (z : ℤ). k *ℤ a +ℤ z) (mul-negℤ k b) ∙ ap (λ (z : ℤ). z -ℤ k *ℤ b) e
+    ∙ +ℤ-invr (k *ℤ b)))
   where
     go : (k ≡ pos 0) ⊎ (a -ℤ b ≡ pos 0) → a ≡ b
     go (inl z) = absurd (h z)

@@ -20,7 +20,8 @@ module _ (f : Format) where
 
   -- face k begins behind the faces before it
   faces-at : (n : ℕ) (bs : List ℕ) (k : ℕ) → k < n
-      → getD (facesAt f n bs) k [] ≡ cut (f .«vertex_number_bits») (val (take 4 (drop (span f (take k (facesAt f n bs))) bs))) (drop 4 (drop (span f (take k (facesAt f n bs))) bs))
+      → getD (facesAt f n bs) k [] ≡ cut (f .«vertex_number_bits») (val (take 4 (drop (span f (take k (facesAt f n bs))) bs)))
+      (drop 4 (drop (span f (take k (facesAt f n bs))) bs))
   unfolding facesAt span
   faces-at zero bs k h = absurd (not-suc-le-zero h)
   faces-at (suc n) bs zero h = refl
@@ -30,11 +31,14 @@ module _ (f : Format) where
       let fs = facesAt f n cs in
       let l = cut (f .«vertex_number_bits») c (drop 4 bs) in
       let e : drop (span f (take k fs)) cs ≡ drop (4 + f .«vertex_number_bits» * length l + span f (take k fs)) bs =
-      drop-drop (span f (take k fs)) (4 + f .«vertex_number_bits» * c) bs ∙ ap (λ (m : ℕ). drop (4 + f .«vertex_number_bits» * m + span f (take k fs)) bs) (sym (length-cut (f .«vertex_number_bits») c (drop 4 bs))) in
+      drop-drop (span f (take k fs)) (4 + f .«vertex_number_bits» * c) bs
+      ∙ ap (λ (m : ℕ). drop (4 + f .«vertex_number_bits» * m + span f (take k fs)) bs)
+      (sym (length-cut (f .«vertex_number_bits») c (drop 4 bs))) in
       faces-at n cs k (le-of-suc-le-suc h) ∙ ap (λ (t : List ℕ). cut (f .«vertex_number_bits») (val (take 4 t)) (drop 4 t)) e
 
   -- one face more; at most all of them
-  pub span-more : (fs : List Loop) (k : ℕ) → k < length fs → span f (take (suc k) fs) ≡ span f (take k fs) + (4 + f .«vertex_number_bits» * length (getD fs k []))
+  pub span-more : (fs : List Loop) (k : ℕ) → k < length fs
+      → span f (take (suc k) fs) ≡ span f (take k fs) + (4 + f .«vertex_number_bits» * length (getD fs k []))
   unfolding span
   span-more [] k h = absurd (not-suc-le-zero h)
   span-more (l ∷ fs) zero h = omega arith
@@ -56,12 +60,16 @@ module _ (f : Format) where
     unfolding facesIn
     length-in = length-faces (countIn f s) (drop (4 + f .«face_count_bits») (run 8 s))
 
-    pub face-is : (k : ℕ) → k < countIn f s → getD (facesIn f s) k [] ≡ fieldsAt s (start k + 4) (f .«vertex_number_bits») (fieldAt s (start k) 4)
+    pub face-is : (k : ℕ) → k < countIn f s → getD (facesIn f s) k [] ≡ fieldsAt s (start k + 4) (f .«vertex_number_bits»)
+        (fieldAt s (start k) 4)
     unfolding facesIn bitsOf fieldsAt fieldAt
     face-is k h =
         let fs = facesAt f (countIn f s) (drop (4 + f .«face_count_bits») (run 8 s)) in
-        let e : drop (span f (take k fs)) (drop (4 + f .«face_count_bits») (run 8 s)) ≡ drop (4 + f .«face_count_bits» + span f (take k fs)) (run 8 s) = drop-drop (span f (take k fs)) (4 + f .«face_count_bits») (run 8 s) in
-        let d : drop 4 (drop (4 + f .«face_count_bits» + span f (take k fs)) (run 8 s)) ≡ drop (4 + f .«face_count_bits» + span f (take k fs) + 4) (run 8 s) = drop-drop 4 (4 + f .«face_count_bits» + span f (take k fs)) (run 8 s) in
+        let e : drop (span f (take k fs)) (drop (4 + f .«face_count_bits») (run 8 s)) ≡ drop
+        (4 + f .«face_count_bits» + span f (take k fs)) (run 8 s) = drop-drop (span f (take k fs)) (4 + f .«face_count_bits») (run 8 s) in
+        let d : drop 4 (drop (4 + f .«face_count_bits» + span f (take k fs)) (run 8 s)) ≡ drop
+        (4 + f .«face_count_bits» + span f (take k fs) + 4) (run 8 s) = drop-drop 4 (4 + f .«face_count_bits» + span f (take k fs))
+        (run 8 s) in
         faces-at (countIn f s) (drop (4 + f .«face_count_bits») (run 8 s)) k h
         ∙ ap (λ (t : List ℕ). cut (f .«vertex_number_bits») (val (take 4 t)) (drop 4 t)) e
         ∙ ap (cut (f .«vertex_number_bits») (val (take 4 (drop (4 + f .«face_count_bits» + span f (take k fs)) (run 8 s))))) d
@@ -72,7 +80,8 @@ module _ (f : Format) where
         let e : k + 1 ≡ suc k = omega arith in
         rw e (omega (arith, span-more (facesIn f s) k (rw length-in h)))
 
-    pub start-most : (k : ℕ) → k < countIn f s → start k + 4 + f .«vertex_number_bits» * length (getD (facesIn f s) k []) ≤ bitsOf f (facesIn f s)
+    pub start-most : (k : ℕ) → k < countIn f s → start k + 4 + f .«vertex_number_bits» * length (getD (facesIn f s) k []) ≤ bitsOf f
+        (facesIn f s)
     unfolding bitsOf
     start-most k h = omega (arith, span-more (facesIn f s) k (rw length-in h), span-least (facesIn f s) (suc k))
 

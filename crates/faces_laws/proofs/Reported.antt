@@ -142,7 +142,8 @@ module _ (cs : List Loop) (short : Short cs) (few : length cs ≤ mostCandidates
       let e : mostCandidates ≡ length cs + (mostCandidates - length cs) = omega arith in
       kept-same (λ k. getD (digits mostCandidates (word taken)) k false) (dig taken) read face
       mostCandidates 0 (λ k a b. digit-of taken k (omega arith))
-      (λ k a b y. ap₂ (λ (t : Bool) (l : Loop). cond t (flipped l) l) (digit-of turned k (omega arith)) (row-loop cs short rest k (below k y)))
+      (λ k a b y. ap₂ (λ (t : Bool) (l : Loop). cond t (flipped l) l) (digit-of turned k (omega arith))
+      (row-loop cs short rest k (below k y)))
       ∙ ap (λ (n : ℕ). map face (filter (dig taken) (from 0 n))) e
       ∙ ap (map face) (kept-short (dig taken) (length cs) (mostCandidates - length cs) 0 (λ k a. past k (omega arith)))
 

@@ -32,7 +32,8 @@ at-lt [] e f h = never (sym h)
 at-lt (mask ∷ masks) zero f h = omega arith
 at-lt (mask ∷ masks) (suc e) f h = omega (arith, at-lt masks e f h)
 
-oriented-at : (masks ups : List (List Bool)) (taken ts : List Bool) → oriented masks ups taken ts ≡ true → length masks ≡ length ups → (e : ℕ) → e < length masks
+oriented-at : (masks ups : List (List Bool)) (taken ts : List Bool) → oriented masks ups taken ts ≡ true → length masks ≡ length ups
+    → (e : ℕ) → e < length masks
     → onceEachWay (getD masks e []) (getD ups e []) taken ts ≡ true
 oriented-at [] ups taken ts o l e h = absurd (omega arith)
 oriented-at (mask ∷ masks) [] taken ts o l e h = absurd (omega arith)
@@ -48,7 +49,8 @@ module _ (masks ups : List (List Bool)) (taken : List Bool) where
   around-none f left g z = rw z
 
   pub around-more : (f : ℕ) (left : List Bool) (g : Going) → (count left ≡ 0 → ⊥)
-      → aroundFace (count left) masks ups taken f left g ≡ aroundFace (count (after left)) masks ups taken f (after left) (atEdge (getD masks (first left) []) (getD ups (first left) []) taken f g)
+      → aroundFace (count left) masks ups taken f left g ≡ aroundFace (count (after left)) masks ups taken f (after left)
+      (atEdge (getD masks (first left) []) (getD ups (first left) []) taken f g)
   unfolding aroundFace
   around-more f left g n = rw (← count-after left n)
 
@@ -57,7 +59,8 @@ module _ (masks ups : List (List Bool)) (taken : List Bool) where
   on-none zero g z = refl
   on-none (suc n) g z = rw (eq-eqb (count (g .waiting)) 0 z)
 
-  pub on-more : (n : ℕ) (g : Going) → (count (g .waiting) ≡ 0 → ⊥) → goOn (suc n) masks ups taken g ≡ goOn n masks ups taken (atFace masks ups taken g)
+  pub on-more : (n : ℕ) (g : Going) → (count (g .waiting) ≡ 0 → ⊥)
+      → goOn (suc n) masks ups taken g ≡ goOn n masks ups taken (atFace masks ups taken g)
   unfolding goOn
   on-more n g z = rw (ne-eqb (count (g .waiting)) 0 z)
 
@@ -97,7 +100,8 @@ module _ (masks ups : List (List Bool)) (taken : List Bool) where
   on-same (suc m) (suc n) g l k = go (ℕ-discrete (count (g .waiting)) 0) (on-same m n (atFace masks ups taken g))
     where
       go : Dec (count (g .waiting) ≡ 0)
-          → (toGo taken (atFace masks ups taken g) ≤ m → toGo taken (atFace masks ups taken g) ≤ n → goOn m masks ups taken (atFace masks ups taken g) ≡ goOn n masks ups taken (atFace masks ups taken g))
+          → (toGo taken (atFace masks ups taken g) ≤ m → toGo taken (atFace masks ups taken g) ≤ n
+          → goOn m masks ups taken (atFace masks ups taken g) ≡ goOn n masks ups taken (atFace masks ups taken g))
           → goOn (suc m) masks ups taken g ≡ goOn (suc n) masks ups taken g
       go (yes z) ih = on-none (suc m) g z ∙ sym (on-none (suc n) g z)
       go (no z) ih = on-more m g z ∙ ih (omega (arith, face-togo g z)) (omega (arith, face-togo g z)) ∙ sym (on-more n g z)
@@ -107,13 +111,15 @@ module _ (masks ups : List (List Bool)) (taken : List Bool) where
       → goOn (toGo taken g) masks ups taken g ≡ goOn (toGo taken (atFace masks ups taken g)) masks ups taken (atFace masks ups taken g)
   rest-more g z =
       on-same (toGo taken g) (suc (toGo taken g)) g (omega arith) (omega arith) ∙ on-more (toGo taken g) g z
-      ∙ on-same (toGo taken g) (toGo taken (atFace masks ups taken g)) (atFace masks ups taken g) (omega (arith, face-togo g z)) (omega arith)
+      ∙ on-same (toGo taken g) (toGo taken (atFace masks ups taken g)) (atFace masks ups taken g) (omega (arith, face-togo g z))
+      (omega arith)
 
   pub lowest-togo : (count taken ≡ 0 → ⊥) → toGo taken (atLowest taken) ≡ count taken
   unfolding toGo
   lowest-togo n = omega (arith, count-only taken (first taken) (first-in taken n), count-alone (first taken))
 
-  pub rest-start : (count taken ≡ 0 → ⊥) → goOn (toGo taken (atLowest taken)) masks ups taken (atLowest taken) ≡ fromLowest masks ups taken
+  pub rest-start : (count taken ≡ 0 → ⊥) → goOn (toGo taken (atLowest taken)) masks ups taken (atLowest taken) ≡ fromLowest masks ups
+      taken
   unfolding fromLowest
   rest-start n = ap (λ (m : ℕ). goOn m masks ups taken (atLowest taken)) (lowest-togo n)
 
@@ -125,28 +131,32 @@ Done masks taken f left g =
 
 abbrev pub Closed : List (List Bool) → List Bool → Going → Type 0
 Closed masks taken g =
-    (k e : ℕ) → dig (g .reached) k ≡ true → dig (g .waiting) k ≡ false → dig (getD masks e []) k ≡ true → Sub (both (getD masks e []) taken) (g .reached)
+    (k e : ℕ) → dig (g .reached) k ≡ true → dig (g .waiting) k ≡ false → dig (getD masks e []) k ≡ true
+    → Sub (both (getD masks e []) taken) (g .reached)
 
 module _ (masks ups : List (List Bool)) (taken : List Bool) (same : length masks ≡ length ups) (two : InTwo masks taken) where
   abbrev Good : Going → Type 0
   Good g = Fair masks ups taken g × Closed masks taken g
 
-  module _ (e f : ℕ) (g : Going) (has : dig (getD masks e []) f ≡ true) (rf : dig (g .reached) f ≡ true) (h : Fair masks ups taken g) where
-    on-edge : dig (both (getD masks e []) taken) f ≡ true
-    on-edge = dig-both (getD masks e []) taken f ∙ and-both has (h .in-taken f rf)
+  module _ (e f : ℕ) (g : Going) (has : dig (getD masks e []) f ≡ true) (rf : dig (g .reached) f ≡ true) (h : Fair masks ups taken g)
+    where
+      on-edge : dig (both (getD masks e []) taken) f ≡ true
+      on-edge = dig-both (getD masks e []) taken f ∙ and-both has (h .in-taken f rf)
 
-    two-edge : count (both (getD masks e []) taken) ≡ 2
-    two-edge = two (getD masks e []) (place-in masks e (at-lt masks e f has))
+      two-edge : count (both (getD masks e []) taken) ≡ 2
+      two-edge = two (getD masks e []) (place-in masks e (at-lt masks e f has))
 
-    fair-at : Fair masks ups taken (atEdge (getD masks e []) (getD ups e []) taken f g)
-    fair-at =
-        edge-fair (getD masks e []) (getD ups e []) taken f g on-edge two-edge masks ups (place-in masks e (at-lt masks e f has))
-        (λ ts o. once-suits (getD masks e []) (getD ups e []) taken ts (oriented-at masks ups taken ts o same e (at-lt masks e f has))) rf h
+      fair-at : Fair masks ups taken (atEdge (getD masks e []) (getD ups e []) taken f g)
+      fair-at =
+          edge-fair (getD masks e []) (getD ups e []) taken f g on-edge two-edge masks ups (place-in masks e (at-lt masks e f has))
+          (λ ts o. once-suits (getD masks e []) (getD ups e []) taken ts (oriented-at masks ups taken ts o same e (at-lt masks e f has))) rf
+          h
 
-    covers-at : Sub (both (getD masks e []) taken) (atEdge (getD masks e []) (getD ups e []) taken f g .reached)
-    covers-at = edge-covers (getD masks e []) (getD ups e []) taken f g on-edge two-edge rf
+      covers-at : Sub (both (getD masks e []) taken) (atEdge (getD masks e []) (getD ups e []) taken f g .reached)
+      covers-at = edge-covers (getD masks e []) (getD ups e []) taken f g on-edge two-edge rf
 
-  done-at : (f : ℕ) (left : List Bool) (g : Going) → dig (getD masks (first left) []) f ≡ true → dig (g .reached) f ≡ true → Fair masks ups taken g → Done masks taken f left g
+  done-at : (f : ℕ) (left : List Bool) (g : Going) → dig (getD masks (first left) []) f ≡ true → dig (g .reached) f ≡ true
+      → Fair masks ups taken g → Done masks taken f left g
       → Done masks taken f (after left) (atEdge (getD masks (first left) []) (getD ups (first left) []) taken f g)
   done-at f left g has rf h d k e rk wk ek c = go (ℕ-discrete e (first left)) (ℕ-discrete k f)
     where
@@ -162,9 +172,11 @@ module _ (masks ups : List (List Bool)) (taken : List Bool) (same : length masks
       go : Dec (e ≡ first left) → Dec (k ≡ f) → Sub (both (getD masks e []) taken) (next .reached)
       go (no n) y = kept (λ p. after-out left e (c p) n)
       go (yes p) (no n) = kept (λ q. absurd (n q))
-      go (yes p) (yes q) = subst (λ (x : ℕ). Sub (both (getD masks x []) taken) (next .reached)) (sym p) (covers-at (first left) f g has rf h)
+      go (yes p) (yes q) =
+          subst (λ (x : ℕ). Sub (both (getD masks x []) taken) (next .reached)) (sym p) (covers-at (first left) f g has rf h)
 
-  around-good : (n f : ℕ) (left : List Bool) (g : Going) → count left ≡ n → ((e : ℕ) → dig left e ≡ true → dig (getD masks e []) f ≡ true) → dig (g .reached) f ≡ true
+  around-good : (n f : ℕ) (left : List Bool) (g : Going) → count left ≡ n → ((e : ℕ) → dig left e ≡ true → dig (getD masks e []) f ≡ true)
+      → dig (g .reached) f ≡ true
       → Fair masks ups taken g → Done masks taken f left g → Good (aroundFace n masks ups taken f left g)
   unfolding aroundFace
   around-good zero f left g z s rf h d = (h, λ k e rk wk ek. d k e rk wk ek (λ p. dig-none left z e))
@@ -181,7 +193,8 @@ module _ (masks ups : List (List Bool)) (taken : List Bool) (same : length masks
   face-good : (g : Going) → (count (g .waiting) ≡ 0 → ⊥) → Good g → Good (atFace masks ups taken g)
   unfolding atFace
   face-good g n w =
-      around-good (count (edgesWith masks f)) f (edgesWith masks f) g1 refl (λ e p. sym (dig-sides masks f e) ∙ p) (w .0 .in-reached f (first-in (g .waiting) n))
+      around-good (count (edgesWith masks f)) f (edgesWith masks f) g1 refl (λ e p. sym (dig-sides masks f e) ∙ p)
+      (w .0 .in-reached f (first-in (g .waiting) n))
       (record {
         in-taken = w .0 .in-taken;
         in-reached = λ k p. let q = after-in (g .waiting) k p in w .0 .in-reached k (q .1);
@@ -191,7 +204,9 @@ module _ (masks ups : List (List Bool)) (taken : List Bool) (same : length masks
         way = w .0 .way;
         right = w .0 .right;
       })
-      (λ k e rk wk ek c. w .1 k e rk (after-out (g .waiting) k wk (λ p. never (sym (dig-sides masks f e ∙ subst (λ (x : ℕ). dig (getD masks e []) x ≡ true) p ek) ∙ c p))) ek)
+      (λ k e rk wk ek c. w .1 k e rk
+      (after-out (g .waiting) k wk
+      (λ p. never (sym (dig-sides masks f e ∙ subst (λ (x : ℕ). dig (getD masks e []) x ≡ true) p ek) ∙ c p))) ek)
     where
       f : ℕ
       f = first (g .waiting)
@@ -210,10 +225,13 @@ module _ (masks ups : List (List Bool)) (taken : List Bool) (same : length masks
       go (no z) = absurd (omega (arith, face-togo masks ups taken g z))
   on-good (suc n) g l w = go (ℕ-discrete (count (g .waiting)) 0) (on-good n (atFace masks ups taken g))
     where
-      go : Dec (count (g .waiting) ≡ 0) → (toGo taken (atFace masks ups taken g) ≤ n → Good (atFace masks ups taken g) → Ended (goOn n masks ups taken (atFace masks ups taken g)))
+      go : Dec (count (g .waiting) ≡ 0)
+          → (toGo taken (atFace masks ups taken g) ≤ n → Good (atFace masks ups taken g)
+          → Ended (goOn n masks ups taken (atFace masks ups taken g)))
           → Ended (goOn (suc n) masks ups taken g)
       go (yes z) ih = subst Ended (sym (on-none masks ups taken (suc n) g z)) (w, z)
-      go (no z) ih = subst Ended (sym (on-more masks ups taken n g z)) (ih (omega (arith, face-togo masks ups taken g z)) (face-good g z w))
+      go (no z) ih =
+          subst Ended (sym (on-more masks ups taken n g z)) (ih (omega (arith, face-togo masks ups taken g z)) (face-good g z w))
 
   module _ (some : count taken ≡ 0 → ⊥) where
     lowest-good : Good (atLowest taken)

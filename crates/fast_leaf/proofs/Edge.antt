@@ -10,7 +10,8 @@ use lib.Dec.{eqb}
 use borrow.Author.Tests.{eq-eqb, ne-eqb}
 use Rattle.lists.proofs.Truth.{and-left, and-right, and-both, or-left, or-right, or-cases, never-true}
 use Rattle.sets.specs.Word.{bit, dig, Sub, count, both, either, less, only, first}
-use Rattle.sets.proofs.Digits.{never, dig-both, dig-either, dig-less, dig-self, count-le, count-none, count-one, count-only, count-with, first-in, count-split, count-alone}
+use Rattle.sets.proofs.Digits.{never, dig-both, dig-either, dig-less, dig-self, count-le, count-none, count-one, count-only, count-with}
+use Rattle.sets.proofs.Digits.{first-in, count-split, count-alone}
 use Rattle.paper.specs.Solids.{unlike, oriented}
 use Rattle.means_leaf.specs.Meaning.{In, Way, across}
 use Rattle.means_leaf.proofs.Unlike.{dig-unlike}
@@ -26,7 +27,8 @@ pub record Fair (masks ups : List (List Bool)) (taken : List Bool) (g : Going) :
   pub low : dig (g .reached) (first taken) ≡ true
   pub low-turned : dig (g .turned) (first taken) ≡ false
   pub way : (k : ℕ) → dig (g .reached) k ≡ true → Way masks taken (first taken) k
-  pub right : (ts : List Bool) → oriented masks ups taken ts ≡ true → dig ts (first taken) ≡ false → (k : ℕ) → dig (g .reached) k ≡ true → dig (g .turned) k ≡ dig ts k
+  pub right : (ts : List Bool) → oriented masks ups taken ts ≡ true → dig ts (first taken) ≡ false → (k : ℕ) → dig (g .reached) k ≡ true
+      → dig (g .turned) k ≡ dig ts k
 
 -- the direction that an edge asks of the other face
 turn-is : (r uk tk : Bool) → r ≡ not (xor uk tk) → not (xor (eqb (bit r) 0) (eqb (bit (xor uk false)) 0)) ≡ tk
@@ -80,12 +82,15 @@ module _ (mask up taken : List Bool) (f : ℕ) (g : Going) where
     unfolding atEdge
     edge-waiting k = rw (eq-eqb (count (both (g .reached) (others mask taken f))) 0 z) (dig-either (g .waiting) (others mask taken f) k)
 
-    edge-turned : atEdge mask up taken f g .turned ≡ cond (unlikeWays (unlike up (g .turned)) f (others mask taken f)) (g .turned) (either (g .turned) (others mask taken f))
+    edge-turned : atEdge mask up taken f g .turned ≡ cond (unlikeWays (unlike up (g .turned)) f (others mask taken f)) (g .turned)
+        (either (g .turned) (others mask taken f))
     unfolding atEdge
     edge-turned = rw (eq-eqb (count (both (g .reached) (others mask taken f))) 0 z)
 
     edge-new : (k : ℕ) → dig (others mask taken f) k ≡ true → dig (g .reached) k ≡ false
-    edge-new k h = never-true (dig (g .reached) k) (λ p. count-none (both (g .reached) (others mask taken f)) z k (dig-both (g .reached) (others mask taken f) k ∙ and-both p h))
+    edge-new k h =
+        never-true (dig (g .reached) k)
+        (λ p. count-none (both (g .reached) (others mask taken f)) z k (dig-both (g .reached) (others mask taken f) k ∙ and-both p h))
 
   -- nothing is lost, and what is new waits
   pub edge-keeps : Sub (g .reached) (atEdge mask up taken f g .reached)
@@ -95,7 +100,8 @@ module _ (mask up taken : List Bool) (f : ℕ) (g : Going) where
       go (yes z) = edge-reached z k ∙ or-left (dig (g .reached) k) (dig (others mask taken f) k) h
       go (no n) = ap (λ (x : Going). dig (x .reached) k) (edge-not n) ∙ h
 
-  pub edge-old : (k : ℕ) → dig (atEdge mask up taken f g .reached) k ≡ true → dig (atEdge mask up taken f g .waiting) k ≡ false → (dig (g .reached) k ≡ true) × (dig (g .waiting) k ≡ false)
+  pub edge-old : (k : ℕ) → dig (atEdge mask up taken f g .reached) k ≡ true → dig (atEdge mask up taken f g .waiting) k ≡ false
+      → (dig (g .reached) k ≡ true) × (dig (g .waiting) k ≡ false)
   edge-old k h w = go (ℕ-discrete (count (both (g .reached) (others mask taken f))) 0)
     where
       two : (x y o : Bool) → (x || o) ≡ true → (y || o) ≡ false → (x ≡ true) × (y ≡ false)
@@ -105,8 +111,11 @@ module _ (mask up taken : List Bool) (f : ℕ) (g : Going) where
       two false y false p q = never (sym p)
 
       go : Dec (count (both (g .reached) (others mask taken f)) ≡ 0) → (dig (g .reached) k ≡ true) × (dig (g .waiting) k ≡ false)
-      go (yes z) = two (dig (g .reached) k) (dig (g .waiting) k) (dig (others mask taken f) k) (sym (edge-reached z k) ∙ h) (sym (edge-waiting z k) ∙ w)
-      go (no n) = (sym (ap (λ (x : Going). dig (x .reached) k) (edge-not n)) ∙ h, sym (ap (λ (x : Going). dig (x .waiting) k) (edge-not n)) ∙ w)
+      go (yes z) =
+          two (dig (g .reached) k) (dig (g .waiting) k) (dig (others mask taken f) k) (sym (edge-reached z k) ∙ h)
+          (sym (edge-waiting z k) ∙ w)
+      go (no n) =
+          (sym (ap (λ (x : Going). dig (x .reached) k) (edge-not n)) ∙ h, sym (ap (λ (x : Going). dig (x .waiting) k) (edge-not n)) ∙ w)
 
   -- of an edge with two faces, one of which is f
   module _ (on : dig (both mask taken) f ≡ true) (two : count (both mask taken) ≡ 2) where
@@ -117,24 +126,34 @@ module _ (mask up taken : List Bool) (f : ℕ) (g : Going) where
     pub edge-covers : dig (g .reached) f ≡ true → Sub (both mask taken) (atEdge mask up taken f g .reached)
     edge-covers rf k h = here (ℕ-discrete k f)
       where
-        other : dig (others mask taken f) k ≡ true → Dec (count (both (g .reached) (others mask taken f)) ≡ 0) → dig (atEdge mask up taken f g .reached) k ≡ true
+        other : dig (others mask taken f) k ≡ true → Dec (count (both (g .reached) (others mask taken f)) ≡ 0)
+            → dig (atEdge mask up taken f g .reached) k ≡ true
         other o (yes z) = edge-reached z k ∙ or-right (dig (g .reached) k) (dig (others mask taken f) k) o
         other o (no n) =
-            let p : (dig (g .reached) (first (both (g .reached) (others mask taken f))) && dig (others mask taken f) (first (both (g .reached) (others mask taken f)))) ≡ true
-            = sym (dig-both (g .reached) (others mask taken f) (first (both (g .reached) (others mask taken f)))) ∙ first-in (both (g .reached) (others mask taken f)) n in
+            let p : (dig (g .reached) (first (both (g .reached) (others mask taken f))) && dig (others mask taken f)
+            (first (both (g .reached) (others mask taken f)))) ≡ true
+            = sym (dig-both (g .reached) (others mask taken f) (first (both (g .reached) (others mask taken f))))
+            ∙ first-in (both (g .reached) (others mask taken f)) n in
             let q : first (both (g .reached) (others mask taken f)) ≡ k
-            = count-one (others mask taken f) edge-one (first (both (g .reached) (others mask taken f))) k (and-right (dig (g .reached) (first (both (g .reached) (others mask taken f)))) (dig (others mask taken f) (first (both (g .reached) (others mask taken f)))) p) o in
-            edge-keeps k (subst (λ (x : ℕ). dig (g .reached) x ≡ true) q (and-left (dig (g .reached) (first (both (g .reached) (others mask taken f)))) (dig (others mask taken f) (first (both (g .reached) (others mask taken f)))) p))
+            = count-one (others mask taken f) edge-one (first (both (g .reached) (others mask taken f))) k
+            (and-right (dig (g .reached) (first (both (g .reached) (others mask taken f))))
+            (dig (others mask taken f) (first (both (g .reached) (others mask taken f)))) p) o in
+            edge-keeps k
+            (subst (λ (x : ℕ). dig (g .reached) x ≡ true) q
+            (and-left (dig (g .reached) (first (both (g .reached) (others mask taken f))))
+            (dig (others mask taken f) (first (both (g .reached) (others mask taken f)))) p))
 
         here : Dec (k ≡ f) → dig (atEdge mask up taken f g .reached) k ≡ true
         here (yes e) = edge-keeps k (subst (λ (x : ℕ). dig (g .reached) x ≡ true) (sym e) rf)
         here (no n) = other (left-in (both mask taken) f k h n) (ℕ-discrete (count (both (g .reached) (others mask taken f))) 0)
 
-    module _ (masks ups : List (List Bool)) (i : In mask masks) (s : (ts : List Bool) → oriented masks ups taken ts ≡ true → Suits mask up taken ts)
+    module _ (masks ups : List (List Bool)) (i : In mask masks) (s : (ts : List Bool) → oriented masks ups taken ts ≡ true
+        → Suits mask up taken ts)
         (rf : dig (g .reached) f ≡ true) (h : Fair masks ups taken g) where
       module _ (z : count (both (g .reached) (others mask taken f)) ≡ 0) where
         ways-are : (k : ℕ) → dig (others mask taken f) k ≡ true
-            → unlikeWays (unlike up (g .turned)) f (others mask taken f) ≡ xor (eqb (bit (xor (dig up f) (dig (g .turned) f))) 0) (eqb (bit (xor (dig up k) (dig (g .turned) k))) 0)
+            → unlikeWays (unlike up (g .turned)) f (others mask taken f) ≡ xor (eqb (bit (xor (dig up f) (dig (g .turned) f))) 0)
+            (eqb (bit (xor (dig up k) (dig (g .turned) k))) 0)
         ways-are k o =
             ap₂ (λ (m n : ℕ). xor (eqb m 0) (eqb n 0))
             (count-with (only f) (unlike up (g .turned)) f (count-alone f) (dig-self f) ∙ ap bit (dig-unlike up (g .turned) f))
@@ -143,22 +162,31 @@ module _ (mask up taken : List Bool) (f : ℕ) (g : Going) where
         not-turned : (k : ℕ) → dig (others mask taken f) k ≡ true → dig (g .turned) k ≡ false
         not-turned k o = never-true (dig (g .turned) k) (λ p. never (sym (h .turned-in k p) ∙ edge-new z k o))
 
-        new-right : (ts : List Bool) → oriented masks ups taken ts ≡ true → dig ts (first taken) ≡ false → (k : ℕ) → dig (others mask taken f) k ≡ true
+        new-right : (ts : List Bool) → oriented masks ups taken ts ≡ true → dig ts (first taken) ≡ false → (k : ℕ)
+            → dig (others mask taken f) k ≡ true
             → not (unlikeWays (unlike up (g .turned)) f (others mask taken f)) ≡ dig ts k
         new-right ts c e k o =
             let q = left-out (both mask taken) f k o in
             let suit : xor (dig up f) (dig (g .turned) f) ≡ not (xor (dig up k) (dig ts k))
             = ap (xor (dig up f)) (h .right ts c e f rf) ∙ s ts c f k on (q .0) (λ p. q .1 (sym p)) in
-            ap not (ways-are k o ∙ ap (λ (x : Bool). xor (eqb (bit (xor (dig up f) (dig (g .turned) f))) 0) (eqb (bit (xor (dig up k) x)) 0)) (not-turned k o))
+            ap not
+            (ways-are k o ∙ ap (λ (x : Bool). xor (eqb (bit (xor (dig up f) (dig (g .turned) f))) 0) (eqb (bit (xor (dig up k) x)) 0))
+            (not-turned k o))
             ∙ turn-is (xor (dig up f) (dig (g .turned) f)) (dig up k) (dig ts k) suit
 
         fair-new : Fair masks ups taken (atEdge mask up taken f g)
         fair-new = record {
           in-taken = λ k p. taken-by k (splits k p);
-          in-reached = λ k p. edge-reached z k ∙ waits (dig (g .waiting) k) (dig (g .reached) k) (dig (others mask taken f) k) (h .in-reached k) (sym (edge-waiting z k) ∙ p);
-          turned-in = λ k p. edge-reached z k ∙ turns k (turned-split b (g .turned) (others mask taken f) k (sym (ap (λ (x : List Bool). dig x k) (edge-turned z)) ∙ p));
+          in-reached =
+              λ k p. edge-reached z k ∙ waits (dig (g .waiting) k) (dig (g .reached) k) (dig (others mask taken f) k) (h .in-reached k)
+              (sym (edge-waiting z k) ∙ p);
+          turned-in =
+              λ k p. edge-reached z k
+              ∙ turns k (turned-split b (g .turned) (others mask taken f) k (sym (ap (λ (x : List Bool). dig x k) (edge-turned z)) ∙ p));
           low = edge-keeps (first taken) (h .low);
-          low-turned = ap (λ (x : List Bool). dig x (first taken)) (edge-turned z) ∙ turned-keep b (g .turned) (others mask taken f) (first taken) (not-new (first taken) (h .low)) ∙ h .low-turned;
+          low-turned =
+              ap (λ (x : List Bool). dig x (first taken)) (edge-turned z)
+              ∙ turned-keep b (g .turned) (others mask taken f) (first taken) (not-new (first taken) (h .low)) ∙ h .low-turned;
           way = λ k p. way-by k (splits k p);
           right = λ ts c e k p. ap (λ (x : List Bool). dig x k) (edge-turned z) ∙ right-by ts c e k (splits k p);
         }
@@ -166,7 +194,8 @@ module _ (mask up taken : List Bool) (f : ℕ) (g : Going) where
             b : Bool
             b = unlikeWays (unlike up (g .turned)) f (others mask taken f)
 
-            splits : (k : ℕ) → dig (atEdge mask up taken f g .reached) k ≡ true → (dig (g .reached) k ≡ true) ⊎ (dig (others mask taken f) k ≡ true)
+            splits : (k : ℕ) → dig (atEdge mask up taken f g .reached) k ≡ true
+                → (dig (g .reached) k ≡ true) ⊎ (dig (others mask taken f) k ≡ true)
             splits k p = or-cases (dig (g .reached) k) (dig (others mask taken f) k) (sym (edge-reached z k) ∙ p)
 
             not-new : (k : ℕ) → dig (g .reached) k ≡ true → dig (others mask taken f) k ≡ false
@@ -174,13 +203,16 @@ module _ (mask up taken : List Bool) (f : ℕ) (g : Going) where
 
             taken-by : (k : ℕ) → (dig (g .reached) k ≡ true) ⊎ (dig (others mask taken f) k ≡ true) → dig taken k ≡ true
             taken-by k (inl p) = h .in-taken k p
-            taken-by k (inr o) = let q = left-out (both mask taken) f k o in and-right (dig mask k) (dig taken k) (sym (dig-both mask taken k) ∙ q .0)
+            taken-by k (inr o) =
+                let q = left-out (both mask taken) f k o in
+                and-right (dig mask k) (dig taken k) (sym (dig-both mask taken k) ∙ q .0)
 
             waits : (w r o : Bool) → (w ≡ true → r ≡ true) → (w || o) ≡ true → (r || o) ≡ true
             waits true r o a p = or-left r o (a refl)
             waits false r o a p = or-right r o p
 
-            turns : (k : ℕ) → (dig (g .turned) k ≡ true) ⊎ (dig (others mask taken f) k ≡ true) → (dig (g .reached) k || dig (others mask taken f) k) ≡ true
+            turns : (k : ℕ) → (dig (g .turned) k ≡ true) ⊎ (dig (others mask taken f) k ≡ true)
+                → (dig (g .reached) k || dig (others mask taken f) k) ≡ true
             turns k (inl p) = or-left (dig (g .reached) k) (dig (others mask taken f) k) (h .turned-in k p)
             turns k (inr o) = or-right (dig (g .reached) k) (dig (others mask taken f) k) o
 
@@ -188,7 +220,8 @@ module _ (mask up taken : List Bool) (f : ℕ) (g : Going) where
             way-by k (inl p) = h .way k p
             way-by k (inr o) = let q = left-out (both mask taken) f k o in across mask f (h .way f rf) i on (q .0)
 
-            right-by : (ts : List Bool) → oriented masks ups taken ts ≡ true → dig ts (first taken) ≡ false → (k : ℕ) → (dig (g .reached) k ≡ true) ⊎ (dig (others mask taken f) k ≡ true)
+            right-by : (ts : List Bool) → oriented masks ups taken ts ≡ true → dig ts (first taken) ≡ false → (k : ℕ)
+                → (dig (g .reached) k ≡ true) ⊎ (dig (others mask taken f) k ≡ true)
                 → dig (cond b (g .turned) (either (g .turned) (others mask taken f))) k ≡ dig ts k
             right-by ts c e k (inl p) = turned-keep b (g .turned) (others mask taken f) k (not-new k p) ∙ h .right ts c e k p
             right-by ts c e k (inr o) = turned-new b (g .turned) (others mask taken f) k o (not-turned k o) ∙ new-right ts c e k o
@@ -215,21 +248,29 @@ pub edge-togo : (mask up taken : List Bool) (f : ℕ) (g : Going) → toGo taken
 unfolding toGo
 edge-togo mask up taken f g = go (ℕ-discrete (count (both (g .reached) (others mask taken f))) 0)
   where
-    go : Dec (count (both (g .reached) (others mask taken f)) ≡ 0) → count (less taken (atEdge mask up taken f g .reached)) + count (atEdge mask up taken f g .waiting) ≤ count (less taken (g .reached)) + count (g .waiting)
+    go : Dec (count (both (g .reached) (others mask taken f)) ≡ 0)
+        → count (less taken (atEdge mask up taken f g .reached)) + count (atEdge mask up taken f g .waiting) ≤ count
+        (less taken (g .reached)) + count (g .waiting)
     go (no n) = rw (edge-not mask up taken f g n) (omega arith)
     go (yes z) =
         let a : count (less taken (atEdge mask up taken f g .reached)) ≤ count (less (less taken (g .reached)) (others mask taken f))
         = count-le (less taken (atEdge mask up taken f g .reached)) (less (less taken (g .reached)) (others mask taken f)) (λ k h.
-        dig-less (less taken (g .reached)) (others mask taken f) k ∙ ap (λ (x : Bool). x && not (dig (others mask taken f) k)) (dig-less taken (g .reached) k)
-        ∙ apart (dig taken k) (dig (g .reached) k) (dig (others mask taken f) k) (sym (dig-less taken (atEdge mask up taken f g .reached) k ∙ ap (λ (x : Bool). dig taken k && not x) (edge-reached mask up taken f g z k)) ∙ h)) in
+        dig-less (less taken (g .reached)) (others mask taken f) k
+        ∙ ap (λ (x : Bool). x && not (dig (others mask taken f) k)) (dig-less taken (g .reached) k)
+        ∙ apart (dig taken k) (dig (g .reached) k) (dig (others mask taken f) k)
+        (sym (dig-less taken (atEdge mask up taken f g .reached) k
+        ∙ ap (λ (x : Bool). dig taken k && not x) (edge-reached mask up taken f g z k)) ∙ h)) in
         let b : count (others mask taken f) ≤ count (both (less taken (g .reached)) (others mask taken f))
         = count-le (others mask taken f) (both (less taken (g .reached)) (others mask taken f)) (λ k h.
         let q = left-out (both mask taken) f k h in
         let t : dig taken k ≡ true = and-right (dig mask k) (dig taken k) (sym (dig-both mask taken k) ∙ q .0) in
-        dig-both (less taken (g .reached)) (others mask taken f) k ∙ and-both (dig-less taken (g .reached) k ∙ and-both t (ap not (edge-new mask up taken f g z k h))) h) in
+        dig-both (less taken (g .reached)) (others mask taken f) k
+        ∙ and-both (dig-less taken (g .reached) k ∙ and-both t (ap not (edge-new mask up taken f g z k h))) h) in
         let c : count (atEdge mask up taken f g .waiting) ≤ count (either (g .waiting) (others mask taken f))
-        = count-le (atEdge mask up taken f g .waiting) (either (g .waiting) (others mask taken f)) (λ k h. dig-either (g .waiting) (others mask taken f) k ∙ sym (edge-waiting mask up taken f g z k) ∙ h) in
-        omega (arith, a, b, c, count-split (less taken (g .reached)) (others mask taken f), count-either (g .waiting) (others mask taken f))
+        = count-le (atEdge mask up taken f g .waiting) (either (g .waiting) (others mask taken f))
+        (λ k h. dig-either (g .waiting) (others mask taken f) k ∙ sym (edge-waiting mask up taken f g z k) ∙ h) in
+        omega
+        (arith, a, b, c, count-split (less taken (g .reached)) (others mask taken f), count-either (g .waiting) (others mask taken f))
       where
         apart : (t r o : Bool) → (t && not (r || o)) ≡ true → ((t && not r) && not o) ≡ true
         apart true true o e = e

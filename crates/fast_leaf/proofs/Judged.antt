@@ -25,7 +25,8 @@ use Rattle.fast_leaf.proofs.Sums.{clear-on, six-on}
 
 -- ---- ways
 
-module _ (masks ups : List (List Bool)) (taken : List Bool) (same : length masks ≡ length ups) (two : InTwo masks taken) (some : count taken ≡ 0 → ⊥) where
+module _ (masks ups : List (List Bool)) (taken : List Bool) (same : length masks ≡ length ups) (two : InTwo masks taken)
+    (some : count taken ≡ 0 → ⊥) where
   fair : Fair masks ups taken (fromLowest masks ups taken)
   fair = lowest-fair masks ups taken same two some
 
@@ -36,19 +37,25 @@ module _ (masks ups : List (List Bool)) (taken : List Bool) (same : length masks
       go : (b : Bool) → dig (fromLowest masks ups taken .reached) k ≡ b → b ≡ true
       go true p = refl
       go false p =
-          absurd (count-none (less taken (fromLowest masks ups taken .reached)) (eqb-true (count (less taken (fromLowest masks ups taken .reached))) 0 e) k
+          absurd
+          (count-none (less taken (fromLowest masks ups taken .reached))
+          (eqb-true (count (less taken (fromLowest masks ups taken .reached))) 0 e) k
           (dig-less taken (fromLowest masks ups taken .reached) k ∙ and-both h (ap not p)))
 
   pub same-connected : eqb (count (less taken (fromLowest masks ups taken .reached))) 0 ≡ connected taken (faces masks ups taken)
   same-connected =
       same-truth (eqb (count (less taken (fromLowest masks ups taken .reached))) 0) (connected taken (faces masks ups taken))
-      (λ e. ways-connected masks ups taken same two some (λ f g hf hg. way-on (way-back (fair .way f (missed e f hf))) (fair .way g (missed e g hg))))
+      (λ e. ways-connected masks ups taken same two some
+      (λ f g hf hg. way-on (way-back (fair .way f (missed e f hf))) (fair .way g (missed e g hg))))
       (λ c. eq-eqb (count (less taken (fromLowest masks ups taken .reached))) 0
       (count-empty (less taken (fromLowest masks ups taken .reached)) (λ k p.
-      let t : (dig taken k && not (dig (fromLowest masks ups taken .reached) k)) ≡ true = sym (dig-less taken (fromLowest masks ups taken .reached) k) ∙ p in
-      let out : dig (fromLowest masks ups taken .reached) k ≡ false = not-true (dig (fromLowest masks ups taken .reached) k) (and-right (dig taken k) (not (dig (fromLowest masks ups taken .reached) k)) t) in
+      let t : (dig taken k && not (dig (fromLowest masks ups taken .reached) k)) ≡ true = sym
+      (dig-less taken (fromLowest masks ups taken .reached) k) ∙ p in
+      let out : dig (fromLowest masks ups taken .reached) k ≡ false = not-true (dig (fromLowest masks ups taken .reached) k)
+      (and-right (dig taken k) (not (dig (fromLowest masks ups taken .reached) k)) t) in
       let w : Way masks taken (first taken) k
-      = connected-ways masks ups taken same two some c (first taken) k (first-in taken some) (and-left (dig taken k) (not (dig (fromLowest masks ups taken .reached) k)) t) in
+      = connected-ways masks ups taken same two some c (first taken) k (first-in taken some)
+      (and-left (dig taken k) (not (dig (fromLowest masks ups taken .reached) k)) t) in
       never (sym (lowest-reaches masks ups taken same two some k w) ∙ out))))
 
   -- (iii)
@@ -57,13 +64,19 @@ module _ (masks ups : List (List Bool)) (taken : List Bool) (same : length masks
     all-found = missed (same-connected ∙ c)
 
     -- directions that do with the lowest face not turned are those found
-    found-alike : (ts : List Bool) → oriented masks ups taken ts ≡ true → dig ts (first taken) ≡ false → Alike taken (fromLowest masks ups taken .turned) ts
+    found-alike : (ts : List Bool) → oriented masks ups taken ts ≡ true → dig ts (first taken) ≡ false
+        → Alike taken (fromLowest masks ups taken .turned) ts
     found-alike ts o e k h = fair .right ts o e k (all-found k h)
 
-    pub same-turned : oriented masks ups taken (fromLowest masks ups taken .turned) ≡ true → Alike taken (fromLowest masks ups taken .turned) (faces masks ups taken .turned)
-    same-turned o k h = sym (faces-right masks ups taken (fromLowest masks ups taken .turned) o (fair .low-turned) .right k (all-reached taken (faces masks ups taken) c k h))
+    pub same-turned : oriented masks ups taken (fromLowest masks ups taken .turned) ≡ true
+        → Alike taken (fromLowest masks ups taken .turned) (faces masks ups taken .turned)
+    same-turned o k h =
+        sym
+        (faces-right masks ups taken (fromLowest masks ups taken .turned) o (fair .low-turned) .right k
+        (all-reached taken (faces masks ups taken) c k h))
 
-    found-oriented : (ts : List Bool) → oriented masks ups taken ts ≡ true → oriented masks ups taken (fromLowest masks ups taken .turned) ≡ true
+    found-oriented : (ts : List Bool) → oriented masks ups taken ts ≡ true
+        → oriented masks ups taken (fromLowest masks ups taken .turned) ≡ true
     found-oriented ts o = go (dig ts (first taken)) refl
       where
         and-off : (x : Bool) → (x && false) ≡ false
@@ -73,19 +86,25 @@ module _ (masks ups : List (List Bool)) (taken : List Bool) (same : length masks
         go : (b : Bool) → dig ts (first taken) ≡ b → oriented masks ups taken (fromLowest masks ups taken .turned) ≡ true
         go false e = oriented-alike taken (fromLowest masks ups taken .turned) ts (found-alike ts o e) masks ups ∙ o
         go true e =
-            let p : oriented masks ups taken (less taken ts) ≡ true = oriented-opposite taken (less taken ts) ts (turned-opposite taken ts) masks ups ∙ o in
+            let p : oriented masks ups taken (less taken ts) ≡ true = oriented-opposite taken (less taken ts) ts
+            (turned-opposite taken ts) masks ups ∙ o in
             let z : dig (less taken ts) (first taken) ≡ false
-            = dig-less taken ts (first taken) ∙ ap (λ (x : Bool). dig taken (first taken) && not x) e ∙ and-off (dig taken (first taken)) in
+            = dig-less taken ts (first taken) ∙ ap (λ (x : Bool). dig taken (first taken) && not x) e
+            ∙ and-off (dig taken (first taken)) in
             oriented-alike taken (fromLowest masks ups taken .turned) (less taken ts) (found-alike (less taken ts) p z) masks ups ∙ p
 
-    pub same-oriented : oriented masks ups taken (fromLowest masks ups taken .turned) ≡ oriented masks ups taken (faces masks ups taken .turned)
+    pub same-oriented : oriented masks ups taken (fromLowest masks ups taken .turned) ≡ oriented masks ups taken
+        (faces masks ups taken .turned)
     same-oriented =
-        same-truth (oriented masks ups taken (fromLowest masks ups taken .turned)) (oriented masks ups taken (faces masks ups taken .turned))
-        (λ o. sym (oriented-alike taken (fromLowest masks ups taken .turned) (faces masks ups taken .turned) (same-turned o) masks ups) ∙ o)
+        same-truth (oriented masks ups taken (fromLowest masks ups taken .turned))
+        (oriented masks ups taken (faces masks ups taken .turned))
+        (λ o. sym (oriented-alike taken (fromLowest masks ups taken .turned) (faces masks ups taken .turned) (same-turned o) masks ups)
+        ∙ o)
         (found-oriented (faces masks ups taken .turned))
 
     -- where there are directions, all digits of them are the same
-    pub same-digits : oriented masks ups taken (faces masks ups taken .turned) ≡ true → (k : ℕ) → dig (fromLowest masks ups taken .turned) k ≡ dig (faces masks ups taken .turned) k
+    pub same-digits : oriented masks ups taken (faces masks ups taken .turned) ≡ true → (k : ℕ)
+        → dig (fromLowest masks ups taken .turned) k ≡ dig (faces masks ups taken .turned) k
     same-digits o k = go (dig taken k) refl
       where
         go : (b : Bool) → dig taken k ≡ b → dig (fromLowest masks ups taken .turned) k ≡ dig (faces masks ups taken .turned) k
@@ -98,11 +117,13 @@ module _ (masks ups : List (List Bool)) (taken : List Bool) (same : length masks
 weighs : (taken s t : List Bool) → ((k : ℕ) → dig s k ≡ dig t k) → (z : ℤ) → Agrees (weighed taken s z) (weighed taken t z)
 weighs taken s t h (pos zero) = fails
 weighs taken s t h (pos (suc v)) = solid (suc v) h
-weighs taken s t h (negsuc v) = solid (suc v) (λ k. dig-less taken s k ∙ ap (λ (x : Bool). dig taken k && not x) (h k) ∙ sym (dig-less taken t k))
+weighs taken s t h (negsuc v) =
+    solid (suc v) (λ k. dig-less taken s k ∙ ap (λ (x : Bool). dig taken k && not x) (h k) ∙ sym (dig-less taken t k))
 
 judges : (a b₁ b₂ c₁ c₂ d₁ d₂ : Bool) (v w : Judgement) → (a ≡ false → b₁ ≡ b₂) → (a ≡ false → b₂ ≡ true → c₁ ≡ c₂) → d₁ ≡ d₂
     → (a ≡ false → b₂ ≡ true → c₂ ≡ true → Agrees v w)
-    → Agrees (cond a Fails (cond b₁ (cond c₁ (cond d₁ v Fails) Fails) Fails)) (cond a Fails (cond b₂ (cond c₂ (cond d₂ w Fails) Fails) Fails))
+    → Agrees (cond a Fails (cond b₁ (cond c₁ (cond d₁ v Fails) Fails) Fails))
+    (cond a Fails (cond b₂ (cond c₂ (cond d₂ w Fails) Fails) Fails))
 judges true b₁ b₂ c₁ c₂ d₁ d₂ v w p q r s = fails
 judges false true false c₁ c₂ d₁ d₂ v w p q r s = never (p refl)
 judges false false true c₁ c₂ d₁ d₂ v w p q r s = never (sym (p refl))
@@ -115,14 +136,17 @@ judges false true true true true false true v w p q r s = never (sym r)
 judges false true true true true false false v w p q r s = fails
 judges false true true true true true true v w p q r s = s refl refl refl
 
-pub judged-by-faces : (t : Tables) (taken : List Bool) → length (t .masks) ≡ length (t .ups) → InTwo (t .masks) taken → Agrees (judgedByFaces t taken) (judged t taken)
+pub judged-by-faces : (t : Tables) (taken : List Bool) → length (t .masks) ≡ length (t .ups) → InTwo (t .masks) taken
+    → Agrees (judgedByFaces t taken) (judged t taken)
 unfolding judgedByFaces judged facesFrom faces
 judged-by-faces t taken same two =
     judges (eqb (count taken) 0)
     (eqb (count (less taken (fromLowest (t .masks) (t .ups) taken .reached))) 0) (connected taken (faces (t .masks) (t .ups) taken))
-    (oriented (t .masks) (t .ups) taken (fromLowest (t .masks) (t .ups) taken .turned)) (oriented (t .masks) (t .ups) taken (faces (t .masks) (t .ups) taken .turned))
+    (oriented (t .masks) (t .ups) taken (fromLowest (t .masks) (t .ups) taken .turned))
+    (oriented (t .masks) (t .ups) taken (faces (t .masks) (t .ups) taken .turned))
     (clearOn (count taken) (t .clashes) taken taken) (clearFrom 0 (t .clashes) taken)
-    (weighed taken (fromLowest (t .masks) (t .ups) taken .turned) (sixOn (count taken) (t .sixes) taken (fromLowest (t .masks) (t .ups) taken .turned)))
+    (weighed taken (fromLowest (t .masks) (t .ups) taken .turned)
+    (sixOn (count taken) (t .sixes) taken (fromLowest (t .masks) (t .ups) taken .turned)))
     (weighed taken (faces (t .masks) (t .ups) taken .turned) (sixFrom 0 (t .sixes) taken (faces (t .masks) (t .ups) taken .turned)))
     (λ n. same-connected (t .masks) (t .ups) taken same two (eqb-false (count taken) 0 n))
     (λ n c. same-oriented (t .masks) (t .ups) taken same two (eqb-false (count taken) 0 n) c)
@@ -130,11 +154,17 @@ judged-by-faces t taken same two =
     (λ n c o.
     let h : (k : ℕ) → dig (fromLowest (t .masks) (t .ups) taken .turned) k ≡ dig (faces (t .masks) (t .ups) taken .turned) k
     = same-digits (t .masks) (t .ups) taken same two (eqb-false (count taken) 0 n) c o in
-    let z : sixOn (count taken) (t .sixes) taken (fromLowest (t .masks) (t .ups) taken .turned) ≡ sixFrom 0 (t .sixes) taken (faces (t .masks) (t .ups) taken .turned)
+    let z : sixOn (count taken) (t .sixes) taken (fromLowest (t .masks) (t .ups) taken .turned) ≡ sixFrom 0 (t .sixes) taken
+    (faces (t .masks) (t .ups) taken .turned)
     = six-on (fromLowest (t .masks) (t .ups) taken .turned) (count taken) (t .sixes) taken refl
-    ∙ six-alike taken (fromLowest (t .masks) (t .ups) taken .turned) (faces (t .masks) (t .ups) taken .turned) (λ k p. h k) 0 (t .sixes) in
-    subst (λ (x : ℤ). Agrees (weighed taken (fromLowest (t .masks) (t .ups) taken .turned) x) (weighed taken (faces (t .masks) (t .ups) taken .turned) (sixFrom 0 (t .sixes) taken (faces (t .masks) (t .ups) taken .turned)))) (sym z)
-    (weighs taken (fromLowest (t .masks) (t .ups) taken .turned) (faces (t .masks) (t .ups) taken .turned) h (sixFrom 0 (t .sixes) taken (faces (t .masks) (t .ups) taken .turned))))
+    ∙ six-alike taken (fromLowest (t .masks) (t .ups) taken .turned) (faces (t .masks) (t .ups) taken .turned) (λ k p. h k) 0
+    (t .sixes) in
+    subst
+    (λ (x : ℤ). Agrees (weighed taken (fromLowest (t .masks) (t .ups) taken .turned) x)
+    (weighed taken (faces (t .masks) (t .ups) taken .turned) (sixFrom 0 (t .sixes) taken (faces (t .masks) (t .ups) taken .turned))))
+    (sym z)
+    (weighs taken (fromLowest (t .masks) (t .ups) taken .turned) (faces (t .masks) (t .ups) taken .turned) h
+    (sixFrom 0 (t .sixes) taken (faces (t .masks) (t .ups) taken .turned))))
 
 -- ---- what a report says of a judgement is the same
 pub record Reports (i j : Judgement) : Type 0 where
@@ -146,5 +176,6 @@ pub agrees-reports : {i j : Judgement} → Agrees i j → Reports i j
 agrees-reports fails = record { same-solid = refl; same-word = refl; same-six = refl }
 agrees-reports (solid {s} {t} v h) = record { same-solid = refl; same-word = word-same s t h; same-six = refl }
 
-pub reports-by-faces : (t : Tables) (taken : List Bool) → length (t .masks) ≡ length (t .ups) → InTwo (t .masks) taken → Reports (judgedByFaces t taken) (judged t taken)
+pub reports-by-faces : (t : Tables) (taken : List Bool) → length (t .masks) ≡ length (t .ups) → InTwo (t .masks) taken
+    → Reports (judgedByFaces t taken) (judged t taken)
 reports-by-faces t taken same two = agrees-reports (judged-by-faces t taken same two)

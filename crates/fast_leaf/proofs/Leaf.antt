@@ -25,7 +25,8 @@ pub exact-two : (masks : List (List Bool)) (st : List Status) → exact masks st
 unfolding exact
 exact-two [] st e mask i = absurd i
 exact-two (r ∷ masks) st e mask (inl q) =
-    ap (λ (l : List Bool). count (both l (takens st))) q ∙ count-takens r st ∙ eqb-true (takenOn r st) 2 (and-left (eqb (takenOn r st) 2) (exact masks st) e)
+    ap (λ (l : List Bool). count (both l (takens st))) q ∙ count-takens r st
+    ∙ eqb-true (takenOn r st) 2 (and-left (eqb (takenOn r st) 2) (exact masks st) e)
 exact-two (r ∷ masks) st e mask (inr i) = exact-two masks st (and-right (eqb (takenOn r st) 2) (exact masks st) e) mask i
 
 module _ (d : Wire) (cs : List Loop) (st : List Status) (two : exact (tablesOf d cs .masks) st ≡ true) where
@@ -40,6 +41,7 @@ module _ (d : Wire) (cs : List Loop) (st : List Status) (two : exact (tablesOf d
   unfolding accepted
   accepted-by-faces = reports .same-solid
 
-  pub words-by-faces : word (takens st) ∷ word (turnedOf (judgedByFaces (tablesOf d cs) (takens st))) ∷ sixOf (judgedByFaces (tablesOf d cs) (takens st)) ∷ [] ≡ words (tablesOf d cs) st
+  pub words-by-faces : word (takens st) ∷ word (turnedOf (judgedByFaces (tablesOf d cs) (takens st))) ∷ sixOf
+      (judgedByFaces (tablesOf d cs) (takens st)) ∷ [] ≡ words (tablesOf d cs) st
   unfolding words
   words-by-faces = ap₂ (λ (m n : ℕ). word (takens st) ∷ m ∷ n ∷ []) (reports .same-word) (reports .same-six)

@@ -15,13 +15,16 @@ use Rattle.fast_leaf.proofs.Judged.{judged-by-faces}
 abbrev pub tetrahedron : Tables
 tetrahedron = record {
   masks =
-      (true ∷ true ∷ false ∷ false ∷ []) ∷ (true ∷ false ∷ true ∷ false ∷ []) ∷ (false ∷ true ∷ true ∷ false ∷ []) ∷ (true ∷ false ∷ false ∷ true ∷ [])
+      (true ∷ true ∷ false ∷ false ∷ []) ∷ (true ∷ false ∷ true ∷ false ∷ []) ∷ (false ∷ true ∷ true ∷ false ∷ [])
+      ∷ (true ∷ false ∷ false ∷ true ∷ [])
       ∷ (false ∷ true ∷ false ∷ true ∷ []) ∷ (false ∷ false ∷ true ∷ true ∷ []) ∷ [];
   ups =
-      (true ∷ true ∷ false ∷ false ∷ []) ∷ (false ∷ false ∷ true ∷ false ∷ []) ∷ (false ∷ false ∷ false ∷ false ∷ []) ∷ (true ∷ false ∷ false ∷ true ∷ [])
+      (true ∷ true ∷ false ∷ false ∷ []) ∷ (false ∷ false ∷ true ∷ false ∷ []) ∷ (false ∷ false ∷ false ∷ false ∷ [])
+      ∷ (true ∷ false ∷ false ∷ true ∷ [])
       ∷ (false ∷ true ∷ false ∷ false ∷ []) ∷ (false ∷ false ∷ true ∷ true ∷ []) ∷ [];
   clashes =
-      (false ∷ false ∷ false ∷ false ∷ []) ∷ (false ∷ false ∷ false ∷ false ∷ []) ∷ (false ∷ false ∷ false ∷ false ∷ []) ∷ (false ∷ false ∷ false ∷ false ∷ []) ∷ [];
+      (false ∷ false ∷ false ∷ false ∷ []) ∷ (false ∷ false ∷ false ∷ false ∷ []) ∷ (false ∷ false ∷ false ∷ false ∷ [])
+      ∷ (false ∷ false ∷ false ∷ false ∷ []) ∷ [];
   sixes = pos 0 ∷ pos 0 ∷ pos 0 ∷ pos 216 ∷ [];
 }
 

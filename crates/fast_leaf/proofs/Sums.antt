@@ -53,16 +53,19 @@ module _ (taken : List Bool) where
       let z : k ≡ k + 0 = omega arith in
       let p : peaceful (dig taken k) (count (both c taken)) ≡ true
       = is-peace (dig taken k) (count (both c taken)) (λ e. h 0 (subst (λ (x : ℕ). dig taken x ≡ true) z e)) in
-      rw p (all-from cs (suc k) (λ m e. let y : suc k + m ≡ k + suc m = omega arith in h (suc m) (subst (λ (x : ℕ). dig taken x ≡ true) y e)))
+      rw p
+      (all-from cs (suc k) (λ m e. let y : suc k + m ≡ k + suc m = omega arith in h (suc m) (subst (λ (x : ℕ). dig taken x ≡ true) y e)))
 
-  on-all : (n : ℕ) (cs : List (List Bool)) (left : List Bool) → count left ≡ n → clearOn n cs left taken ≡ true → (k : ℕ) → dig left k ≡ true → Peace cs taken k
+  on-all : (n : ℕ) (cs : List (List Bool)) (left : List Bool) → count left ≡ n → clearOn n cs left taken ≡ true → (k : ℕ)
+      → dig left k ≡ true → Peace cs taken k
   unfolding clearOn
   on-all zero cs left z e k h = never (sym h ∙ dig-none left z k)
   on-all (suc n) cs left z e k h =
       let some : count left ≡ 0 → ⊥ = λ y. absurd (omega arith) in
       let m : count (after left) ≡ n = omega (arith, count-after left some) in
       let q = passes (eqb (count (both (getD cs (first left) []) taken)) 0) (clearOn n cs (after left) taken) e in
-      go (ℕ-discrete k (first left)) (eqb-true (count (both (getD cs (first left) []) taken)) 0 (q .0)) (on-all n cs (after left) m (q .1) k)
+      go (ℕ-discrete k (first left)) (eqb-true (count (both (getD cs (first left) []) taken)) 0 (q .0))
+      (on-all n cs (after left) m (q .1) k)
     where
       go : Dec (k ≡ first left) → Peace cs taken (first left) → (dig (after left) k ≡ true → Peace cs taken k) → Peace cs taken k
       go (yes p) here ih = subst (Peace cs taken) (sym p) here
@@ -72,7 +75,8 @@ module _ (taken : List Bool) where
           stays true f = refl
           stays false f = absurd (f refl)
 
-  all-on : (n : ℕ) (cs : List (List Bool)) (left : List Bool) → count left ≡ n → ((k : ℕ) → dig left k ≡ true → Peace cs taken k) → clearOn n cs left taken ≡ true
+  all-on : (n : ℕ) (cs : List (List Bool)) (left : List Bool) → count left ≡ n → ((k : ℕ) → dig left k ≡ true → Peace cs taken k)
+      → clearOn n cs left taken ≡ true
   unfolding clearOn
   all-on zero cs left z h = refl
   all-on (suc n) cs left z h =
@@ -85,8 +89,10 @@ module _ (taken : List Bool) where
   pub clear-on : (cs : List (List Bool)) → clearOn (count taken) cs taken taken ≡ clearFrom 0 cs taken
   clear-on cs =
       same-truth (clearOn (count taken) cs taken taken) (clearFrom 0 cs taken)
-      (λ e. all-from cs 0 (λ m h. let z : 0 + m ≡ m = omega arith in on-all (count taken) cs taken refl e m (subst (λ (x : ℕ). dig taken x ≡ true) z h)))
-      (λ e. all-on (count taken) cs taken refl (λ k h. let z : k ≡ 0 + k = omega arith in from-all cs 0 e k (subst (λ (x : ℕ). dig taken x ≡ true) z h)))
+      (λ e. all-from cs 0 (λ m h. let z : 0 + m ≡ m = omega arith in
+      on-all (count taken) cs taken refl e m (subst (λ (x : ℕ). dig taken x ≡ true) z h)))
+      (λ e. all-on (count taken) cs taken refl (λ k h. let z : k ≡ 0 + k = omega arith in
+      from-all cs 0 e k (subst (λ (x : ℕ). dig taken x ≡ true) z h)))
 
 -- ---- (iv)
 after-same : (a : List Bool) (j : ℕ) → first a < j → dig a j ≡ dig (after a) j
@@ -98,7 +104,8 @@ after-same (false ∷ a) zero h = refl
 after-same (false ∷ a) (suc j) h = after-same a j (omega arith)
 
 module _ (turned : List Bool) where
-  six-above : (zs : List ℤ) (k : ℕ) (a b : List Bool) → ((j : ℕ) → k ≤ j → dig a j ≡ dig b j) → sixFrom k zs a turned ≡ sixFrom k zs b turned
+  six-above : (zs : List ℤ) (k : ℕ) (a b : List Bool) → ((j : ℕ) → k ≤ j → dig a j ≡ dig b j)
+      → sixFrom k zs a turned ≡ sixFrom k zs b turned
   unfolding sixFrom
   six-above [] k a b h = refl
   six-above (z ∷ zs) k a b h =
@@ -123,17 +130,20 @@ module _ (turned : List Bool) where
       let f : k ≡ first a = omega arith in
       let here : dig a k ≡ true = subst (λ (x : ℕ). dig a x ≡ true) (sym f) (first-in a n) in
       let gone : dig (after a) k ≡ false = never-true (dig (after a) k) (λ p. let q = after-in a k p in absurd (omega (arith, q .0))) in
-      let rest : sixFrom (suc k) zs a turned ≡ sixFrom (suc k) zs (after a) turned = six-above zs (suc k) a (after a) (λ j l. after-same a j (omega arith)) in
+      let rest : sixFrom (suc k) zs a turned ≡ sixFrom (suc k) zs (after a) turned = six-above zs (suc k) a (after a)
+      (λ j l. after-same a j (omega arith)) in
       ap₂ (λ (x : Bool) (y : ℤ). part x (dig turned k) z +ℤ y) here rest
       ∙ ap₂ (λ (x : ℕ) (y : ℤ). part true (dig turned x) z +ℤ y) f
-      (sym (ap (λ (x : Bool). part x (dig turned k) z +ℤ sixFrom (suc k) zs (after a) turned) gone ∙ +ℤ-idl (sixFrom (suc k) zs (after a) turned)))
+      (sym (ap (λ (x : Bool). part x (dig turned k) z +ℤ sixFrom (suc k) zs (after a) turned) gone
+      ∙ +ℤ-idl (sixFrom (suc k) zs (after a) turned)))
   six-lowest (z ∷ zs) k (suc m) a n e =
       let low : dig a k ≡ false = first-low a k (omega arith) in
       let gone : dig (after a) k ≡ false = never-true (dig (after a) k) (λ p. let q = after-in a k p in absurd (omega (arith, q .0))) in
       ap (λ (x : Bool). part x (dig turned k) z +ℤ sixFrom (suc k) zs a turned) low ∙ +ℤ-idl (sixFrom (suc k) zs a turned)
       ∙ six-lowest zs (suc k) m a n (omega arith)
       ∙ ap (λ (y : ℤ). part true (dig turned (first a)) (getD zs m (pos 0)) +ℤ y)
-      (sym (ap (λ (x : Bool). part x (dig turned k) z +ℤ sixFrom (suc k) zs (after a) turned) gone ∙ +ℤ-idl (sixFrom (suc k) zs (after a) turned)))
+      (sym (ap (λ (x : Bool). part x (dig turned k) z +ℤ sixFrom (suc k) zs (after a) turned) gone
+      ∙ +ℤ-idl (sixFrom (suc k) zs (after a) turned)))
 
   pub six-on : (n : ℕ) (zs : List ℤ) (left : List Bool) → count left ≡ n → sixOn n zs left turned ≡ sixFrom 0 zs left turned
   unfolding sixOn
@@ -151,7 +161,8 @@ module _ (taken : List Bool) (cs : List (List Bool)) (left : List Bool) where
   clear-none z = rw z
 
   pub clear-more : (count left ≡ 0 → ⊥)
-      → clearOn (count left) cs left taken ≡ cond (eqb (count (both (getD cs (first left) []) taken)) 0) (clearOn (count (after left)) cs (after left) taken) false
+      → clearOn (count left) cs left taken ≡ cond (eqb (count (both (getD cs (first left) []) taken)) 0)
+      (clearOn (count (after left)) cs (after left) taken) false
   unfolding clearOn
   clear-more n = rw (← count-after left n)
 
@@ -161,6 +172,7 @@ module _ (turned : List Bool) (zs : List ℤ) (left : List Bool) where
   six-none z = rw z
 
   pub six-more : (count left ≡ 0 → ⊥)
-      → sixOn (count left) zs left turned ≡ part true (dig turned (first left)) (getD zs (first left) (pos 0)) +ℤ sixOn (count (after left)) zs (after left) turned
+      → sixOn (count left) zs left turned ≡ part true (dig turned (first left)) (getD zs (first left) (pos 0)) +ℤ sixOn
+      (count (after left)) zs (after left) turned
   unfolding sixOn
   six-more n = rw (← count-after left n)

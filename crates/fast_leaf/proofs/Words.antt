@@ -33,7 +33,8 @@ one-is a =
     ap₂ (λ (x y : Bool). not x && y) (none-is a) (none-is (after a))
     ∙ same-truth (not (eqb (count a) 0) && eqb (count (after a)) 0) (eqb (count a) 1)
     (λ e.
-    let n : count a ≡ 0 → ⊥ = λ z. never (sym (and-left (not (eqb (count a) 0)) (eqb (count (after a)) 0) e) ∙ ap not (eq-eqb (count a) 0 z)) in
+    let n : count a ≡ 0
+    → ⊥ = λ z. never (sym (and-left (not (eqb (count a) 0)) (eqb (count (after a)) 0) e) ∙ ap not (eq-eqb (count a) 0 z)) in
     let z : count (after a) ≡ 0 = eqb-true (count (after a)) 0 (and-right (not (eqb (count a) 0)) (eqb (count (after a)) 0) e) in
     let o : count a ≡ 1 = omega (arith, count-after a n) in
     eq-eqb (count a) 1 o)
@@ -54,7 +55,9 @@ less-both (false ∷ a) (y ∷ u) = ap (λ (t : List Bool). false ∷ t) (less-b
 -- "a ^ b"
 module _ (p q : ℕ) {x y : ℕ} (hx : x < 2) (hy : y < 2) where
   xor-digits : bitXor (p * 2 + x) (q * 2 + y) ≡ bitXor p q * 2 + differ x y
-  xor-digits = xor-step (p * 2 + x) (q * 2 + y) ∙ ap₂ (λ (u v : ℕ). u * 2 + v) (ap₂ bitXor (digits-div p hx) (digits-div q hy)) (ap₂ differ (digits-mod p hx) (digits-mod q hy))
+  xor-digits =
+      xor-step (p * 2 + x) (q * 2 + y) ∙ ap₂ (λ (u v : ℕ). u * 2 + v) (ap₂ bitXor (digits-div p hx) (digits-div q hy))
+      (ap₂ differ (digits-mod p hx) (digits-mod q hy))
 
 low : 0 < 2
 low = omega arith
@@ -73,15 +76,19 @@ unlike-word (false ∷ a) (true ∷ b) = xor-digits (word a) (word b) low high �
 unlike-word (false ∷ a) (false ∷ b) = xor-digits (word a) (word b) low low ∙ ap (λ (u : ℕ). u * 2 + 0) (unlike-word a b)
 
 -- "on & taken & !face", at a width k
-pub others-word : (k : ℕ) (mask taken : List Bool) (f : ℕ) → length mask ≤ k → f < k → bitAnd (bitAnd (word mask) (word taken)) ((2 ^ k - 1) - word (only f)) ≡ word (others mask taken f)
+pub others-word : (k : ℕ) (mask taken : List Bool) (f : ℕ) → length mask ≤ k → f < k
+    → bitAnd (bitAnd (word mask) (word taken)) ((2 ^ k - 1) - word (only f)) ≡ word (others mask taken f)
 others-word k mask taken f h l =
     let n : length (only f) ≤ k = omega (arith, length-only f) in
-    ap (λ (m : ℕ). bitAnd m ((2 ^ k - 1) - word (only f))) (and-word mask taken) ∙ less-word k (both mask taken) (only f) (le-trans (length-both mask taken) h) n
+    ap (λ (m : ℕ). bitAnd m ((2 ^ k - 1) - word (only f))) (and-word mask taken)
+    ∙ less-word k (both mask taken) (only f) (le-trans (length-both mask taken) h) n
 
 none-and : (a b : List Bool) → eqb (bitAnd (word a) (word b)) 0 ≡ eqb (count (both b a)) 0
 none-and a b =
     ap (λ (m : ℕ). eqb m 0) (and-word a b) ∙ none-is (both a b)
-    ∙ ap (λ (m : ℕ). eqb m 0) (count-same (both a b) (both b a) (λ k. dig-both a b k ∙ and-swap (dig a k) (dig b k) ∙ sym (dig-both b a k)))
+    ∙ ap (λ (m : ℕ). eqb m 0)
+    (count-same (both a b) (both b a) (λ k. dig-both a b k ∙ and-swap (dig a k) (dig b k) ∙ sym (dig-both b a k)))
 
-pub ways-word : (runs : List Bool) (f : ℕ) (other : List Bool) → xor (eqb (bitAnd (word runs) (word (only f))) 0) (eqb (bitAnd (word runs) (word other)) 0) ≡ unlikeWays runs f other
+pub ways-word : (runs : List Bool) (f : ℕ) (other : List Bool)
+    → xor (eqb (bitAnd (word runs) (word (only f))) 0) (eqb (bitAnd (word runs) (word other)) 0) ≡ unlikeWays runs f other
 ways-word runs f other = ap₂ (λ (x y : Bool). xor x y) (none-and runs (only f)) (none-and runs other)

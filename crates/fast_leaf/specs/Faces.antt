@@ -84,7 +84,8 @@ judgedByFaces t taken =
     cond (eqb (count taken) 0) Fails
     (cond (eqb (count (less taken (g .reached))) 0)
     (cond (oriented (t .masks) (t .ups) taken (g .turned))
-    (cond (clearOn (count taken) (t .clashes) taken taken) (weighed taken (g .turned) (sixOn (count taken) (t .sixes) taken (g .turned))) Fails)
+    (cond (clearOn (count taken) (t .clashes) taken taken) (weighed taken (g .turned) (sixOn (count taken) (t .sixes) taken (g .turned)))
+    Fails)
     Fails)
     Fails)
 

@@ -15,10 +15,12 @@ use Rattle.fast_search.proofs.Rows.{each-next, each-end}
 
 module _ {A : Type 0} (m : ℕ) where
   -- one more, with room for it: it comes behind the others
-  pub table-less : (l : List A) (x : A) → length l < m → table m (l ++ x ∷ []) ≡ record { rows = take m l ++ x ∷ []; count = suc (min (suc m) (length l)) }
+  pub table-less : (l : List A) (x : A) → length l < m
+      → table m (l ++ x ∷ []) ≡ record { rows = take m l ++ x ∷ []; count = suc (min (suc m) (length l)) }
   table-less l x h =
       let c : min (suc m) (length (l ++ x ∷ [])) ≡ suc (min (suc m) (length l)) = omega (arith, length-append l (x ∷ [])) in
-      let r : take m (l ++ x ∷ []) ≡ take m l ++ x ∷ [] = take-all m (l ++ x ∷ []) (omega (arith, length-append l (x ∷ []))) ∙ ap (λ (k : List A). k ++ x ∷ []) (sym (take-all m l (omega arith))) in
+      let r : take m (l ++ x ∷ []) ≡ take m l ++ x ∷ [] = take-all m (l ++ x ∷ []) (omega (arith, length-append l (x ∷ [])))
+      ∙ ap (λ (k : List A). k ++ x ∷ []) (sym (take-all m l (omega arith))) in
       λ i. record { rows = r i; count = c i }
 
   -- the table is full: nothing comes in, and the count is one above
@@ -48,7 +50,8 @@ module _ {A : Type 0} (m : ℕ) where
   pub take-all-is : (l xs : List A) → takeAll m (table m l) xs ≡ table m (l ++ xs)
   unfolding takeAll
   take-all-is l [] = ap (table m) (sym (append-nil l))
-  take-all-is l (x ∷ xs) = ap (λ (t : Table A). takeAll m t xs) (take-in-is l x) ∙ take-all-is (l ++ x ∷ []) xs ∙ ap (table m) (append-snoc l x xs)
+  take-all-is l (x ∷ xs) =
+      ap (λ (t : Table A). takeAll m t xs) (take-in-is l x) ∙ take-all-is (l ++ x ∷ []) xs ∙ ap (table m) (append-snoc l x xs)
 
   -- all of l, from an empty table: the first m of them, and their number up to one above m
   pub cut-is : (l : List A) → takeAll m (record { rows = []; count = 0 }) l ≡ record { rows = take m l; count = min (suc m) (length l) }
@@ -66,13 +69,16 @@ module _ {A : Type 0} (f : ℕ → List Bool → List A) where
   abbrev pub Whole : List A → List Bool → List A → Type 0
   Whole now left all = now ++ eachOf f 0 left ≡ all
 
-  pub whole-next : (now : List A) (left : List Bool) (all : List A) → (count left ≡ 0 → ⊥) → Whole now left all → Whole (now ++ f (first left) (less left (only (first left)))) (less left (only (first left))) all
+  pub whole-next : (now : List A) (left : List Bool) (all : List A) → (count left ≡ 0 → ⊥) → Whole now left all
+      → Whole (now ++ f (first left) (less left (only (first left)))) (less left (only (first left))) all
   whole-next now left all n w =
-      append-assoc now (f (first left) (less left (only (first left)))) (eachOf f 0 (less left (only (first left)))) ∙ ap (λ (l : List A). now ++ l) (sym (each-next f left n)) ∙ w
+      append-assoc now (f (first left) (less left (only (first left)))) (eachOf f 0 (less left (only (first left))))
+      ∙ ap (λ (l : List A). now ++ l) (sym (each-next f left n)) ∙ w
 
   pub whole-end : (now : List A) (left : List Bool) (all : List A) → empty left ≡ true → Whole now left all → now ≡ all
   whole-end now left all e w = sym (append-nil now) ∙ ap (λ (l : List A). now ++ l) (sym (each-end f left e)) ∙ w
 
   -- the table is full: it is that of the whole
-  pub whole-full : (m : ℕ) (now : List A) (left : List Bool) (all : List A) → m < min (suc m) (length now) → Whole now left all → table m now ≡ table m all
+  pub whole-full : (m : ℕ) (now : List A) (left : List Bool) (all : List A) → m < min (suc m) (length now) → Whole now left all
+      → table m now ≡ table m all
   whole-full m now left all h w = sym (table-full m now (eachOf f 0 left) h) ∙ ap (table m) w

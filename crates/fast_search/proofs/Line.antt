@@ -21,7 +21,8 @@ same-origin p e = ap isOrigin e
 pub self-above : (e : Point) → isOrigin e ≡ false → pos 0 <ℤ dot e e
 unfolding dot
 self-above e n =
-    lt-of-le-ne (add-nonneg (add-nonneg (square-nonneg (e .x)) (square-nonneg (e .y))) (square-nonneg (e .z))) (λ z. true≢false (sym (self-zero e (sym z)) ∙ n))
+    lt-of-le-ne (add-nonneg (add-nonneg (square-nonneg (e .x)) (square-nonneg (e .y))) (square-nonneg (e .z)))
+    (λ z. true≢false (sym (self-zero e (sym z)) ∙ n))
 
 abbrev A : E3
 A = vars 0 1 2
@@ -49,7 +50,9 @@ lagrange e u v h =
 -- in line with e, and at no distance along it
 pub no-place : (e v : Point) → isOrigin e ≡ false → cross e v ≡ origin → dot e v ≡ pos 0 → isOrigin v ≡ true
 no-place e v n h z =
-    self-zero v (mul-zero (dot e e) (dot v v) (λ s. true≢false (sym (self-zero e s) ∙ n)) (lagrange e v v h ∙ ap (λ (k : ℤ). dot e v *ℤ k) z ∙ *ℤ-zero (dot e v)))
+    self-zero v
+    (mul-zero (dot e e) (dot v v) (λ s. true≢false (sym (self-zero e s) ∙ n)) (lagrange e v v h ∙ ap (λ (k : ℤ). dot e v *ℤ k) z
+    ∙ *ℤ-zero (dot e v)))
 
 -- two in line with e are in line with each other, coordinate by coordinate
 module _ (e u v : Point) (n : isOrigin e ≡ false) (h : cross e u ≡ origin) (k : cross e v ≡ origin) where
@@ -105,9 +108,12 @@ turned a b p h =
     let r = a .x ∷ a .y ∷ a .z ∷ b .x ∷ b .y ∷ b .z ∷ p .x ∷ p .y ∷ p .z ∷ [] in
     let one = crossE (minusE B A) (minusE C A) in
     let two = crossE (minusE A B) (minusE C B) in
-    let X = combine r (two .ex) (con (pos 0)) (record { times = con (negsuc 0); one = one .ex; other = con (pos 0) } ∷ []) tt (ap (λ (q : Point). q .x) h, tt) in
-    let Y = combine r (two .ey) (con (pos 0)) (record { times = con (negsuc 0); one = one .ey; other = con (pos 0) } ∷ []) tt (ap (λ (q : Point). q .y) h, tt) in
-    let Z = combine r (two .ez) (con (pos 0)) (record { times = con (negsuc 0); one = one .ez; other = con (pos 0) } ∷ []) tt (ap (λ (q : Point). q .z) h, tt) in
+    let X = combine r (two .ex) (con (pos 0)) (record { times = con (negsuc 0); one = one .ex; other = con (pos 0) } ∷ []) tt
+    (ap (λ (q : Point). q .x) h, tt) in
+    let Y = combine r (two .ey) (con (pos 0)) (record { times = con (negsuc 0); one = one .ey; other = con (pos 0) } ∷ []) tt
+    (ap (λ (q : Point). q .y) h, tt) in
+    let Z = combine r (two .ez) (con (pos 0)) (record { times = con (negsuc 0); one = one .ez; other = con (pos 0) } ∷ []) tt
+    (ap (λ (q : Point). q .z) h, tt) in
     λ i. pt (X i) (Y i) (Z i)
 
 dot-turned : (u v : Point) → dot u v ≡ dot v u
@@ -115,7 +121,8 @@ unfolding dot
 dot-turned u v = ring (u .x ∷ u .y ∷ u .z ∷ v .x ∷ v .y ∷ v .z ∷ []) (dotE A B) (dotE B A) tt
 
 pub between-turned : {a b p : Point} → Between a b p → Between b a p
-between-turned {a} {b} {p} t = record { line = turned a b p (t .line); back = lt-subst (dot-turned (minus p a) (minus p b)) refl (t .back) }
+between-turned {a} {b} {p} t =
+    record { line = turned a b p (t .line); back = lt-subst (dot-turned (minus p a) (minus p b)) refl (t .back) }
 
 swapped : (e u : Point) → cross e u ≡ origin → cross u e ≡ origin
 unfolding cross
@@ -123,16 +130,20 @@ swapped e u h =
     let r = e .x ∷ e .y ∷ e .z ∷ u .x ∷ u .y ∷ u .z ∷ [] in
     let one = crossE A B in
     let two = crossE B A in
-    let X = combine r (two .ex) (con (pos 0)) (record { times = con (negsuc 0); one = one .ex; other = con (pos 0) } ∷ []) tt (ap (λ (q : Point). q .x) h, tt) in
-    let Y = combine r (two .ey) (con (pos 0)) (record { times = con (negsuc 0); one = one .ey; other = con (pos 0) } ∷ []) tt (ap (λ (q : Point). q .y) h, tt) in
-    let Z = combine r (two .ez) (con (pos 0)) (record { times = con (negsuc 0); one = one .ez; other = con (pos 0) } ∷ []) tt (ap (λ (q : Point). q .z) h, tt) in
+    let X = combine r (two .ex) (con (pos 0)) (record { times = con (negsuc 0); one = one .ex; other = con (pos 0) } ∷ []) tt
+    (ap (λ (q : Point). q .x) h, tt) in
+    let Y = combine r (two .ey) (con (pos 0)) (record { times = con (negsuc 0); one = one .ey; other = con (pos 0) } ∷ []) tt
+    (ap (λ (q : Point). q .y) h, tt) in
+    let Z = combine r (two .ez) (con (pos 0)) (record { times = con (negsuc 0); one = one .ez; other = con (pos 0) } ∷ []) tt
+    (ap (λ (q : Point). q .z) h, tt) in
     λ i. pt (X i) (Y i) (Z i)
 
 sub-below : {a b : ℤ} → a <ℤ b → (a -ℤ b) <ℤ pos 0
 sub-below {a} {b} h = lt-subst (ring (a ∷ b ∷ []) (neg (var 1 ⊖ var 0)) (var 0 ⊖ var 1) tt) refl (neg-lt (sub-pos h))
 
 -- ---- the line through x and y, and a point l of it beyond x, on the side of y
-module _ (x y l : Point) (n : isOrigin (minus y x) ≡ false) (h : cross (minus y x) (minus l x) ≡ origin) (ahead : pos 0 <ℤ dot (minus y x) (minus l x)) where
+module _ (x y l : Point) (n : isOrigin (minus y x) ≡ false) (h : cross (minus y x) (minus l x) ≡ origin)
+    (ahead : pos 0 <ℤ dot (minus y x) (minus l x)) where
   abbrev e : Point
   e = minus y x
 
@@ -154,7 +165,8 @@ module _ (x y l : Point) (n : isOrigin (minus y x) ≡ false) (h : cross (minus 
   moved-dot : (w : Point) → dot (minus l x) (minus w x) ≡ dot (minus x l) (minus x w)
   unfolding dot minus
   moved-dot w =
-      ring (x .x ∷ x .y ∷ x .z ∷ l .x ∷ l .y ∷ l .z ∷ w .x ∷ w .y ∷ w .z ∷ []) (dotE (minusE B A) (minusE C A)) (dotE (minusE A B) (minusE A C)) tt
+      ring (x .x ∷ x .y ∷ x .z ∷ l .x ∷ l .y ∷ l .z ∷ w .x ∷ w .y ∷ w .z ∷ []) (dotE (minusE B A) (minusE C A))
+      (dotE (minusE A B) (minusE A C)) tt
 
   pub start-between : (w : Point) → cross (minus y x) (minus w x) ≡ origin → dot (minus y x) (minus w x) <ℤ pos 0 → Between l w x
   start-between w k b = record {
@@ -169,12 +181,18 @@ module _ (x y l : Point) (n : isOrigin (minus y x) ≡ false) (h : cross (minus 
   unfolding dot cross minus
   short-dot =
       combine (x .x ∷ x .y ∷ x .z ∷ y .x ∷ y .y ∷ y .z ∷ l .x ∷ l .y ∷ l .z ∷ [])
-      (dotE (minusE B A) (minusE B A) ⊗ dotE (minusE C A) (minusE C B)) (dotE (minusE B A) (minusE C A) ⊗ (dotE (minusE B A) (minusE C A) ⊖ dotE (minusE B A) (minusE B A)))
+      (dotE (minusE B A) (minusE B A) ⊗ dotE (minusE C A) (minusE C B))
+      (dotE (minusE B A) (minusE C A) ⊗ (dotE (minusE B A) (minusE C A) ⊖ dotE (minusE B A) (minusE B A)))
       (zeros (crossE (minusE B A) (minusE C A)) (crossE (minusE B A) (minusE C A))) tt
       (ap (λ (r : Point). r .x) h, (ap (λ (r : Point). r .y) h, (ap (λ (r : Point). r .z) h, tt)))
 
   pub short-between : dot e u <ℤ dot e e → Between x y l
-  short-between b = record { line = h; back = lt-cancel (dot e e) (self-above e n) (lt-subst (sym short-dot) (*ℤ-zero (dot e u) ∙ sym (*ℤ-zero (dot e e))) (mul-lt (dot e u) ahead (sub-below b))) }
+  short-between b =
+      record {
+        line = h;
+        back = lt-cancel (dot e e) (self-above e n)
+            (lt-subst (sym short-dot) (*ℤ-zero (dot e u) ∙ sym (*ℤ-zero (dot e e))) (mul-lt (dot e u) ahead (sub-below b)));
+      }
 
   -- beyond it: y is between x and l
   long-dot : dot e e -ℤ dot e u ≡ dot (minus y x) (minus y l)
@@ -192,9 +210,14 @@ module _ (x y l : Point) (n : isOrigin (minus y x) ≡ false) (h : cross (minus 
   end-dot z =
       combine (x .x ∷ x .y ∷ x .z ∷ y .x ∷ y .y ∷ y .z ∷ l .x ∷ l .y ∷ l .z ∷ [])
       (dotE (minusE B A) (minusE B A) ⊗ dotE (minusE C B) (minusE C B)) (con (pos 0))
-      (record { times = dotE (minusE B A) (minusE C A) ⊖ dotE (minusE B A) (minusE B A); one = dotE (minusE B A) (minusE C A); other = dotE (minusE B A) (minusE B A) }
+      (record {
+        times = dotE (minusE B A) (minusE C A) ⊖ dotE (minusE B A) (minusE B A);
+        one = dotE (minusE B A) (minusE C A);
+        other = dotE (minusE B A) (minusE B A);
+      }
       ∷ zeros (crossE (minusE B A) (minusE C A)) (crossE (minusE B A) (minusE C A))) tt
       (z, (ap (λ (r : Point). r .x) h, (ap (λ (r : Point). r .y) h, (ap (λ (r : Point). r .z) h, tt))))
 
   pub at-end : dot e u ≡ dot e e → isOrigin (minus l y) ≡ true
-  at-end z = self-zero (minus l y) (mul-zero (dot e e) (dot (minus l y) (minus l y)) (λ s. true≢false (sym (self-zero e s) ∙ n)) (end-dot z))
+  at-end z =
+      self-zero (minus l y) (mul-zero (dot e e) (dot (minus l y) (minus l y)) (λ s. true≢false (sym (self-zero e s) ∙ n)) (end-dot z))

@@ -70,17 +70,21 @@ module _ (d : Wire) where
       ∙ tilt-none (at d x) (at d y) origin (at d y) origin-is ∙ none-self (minus (at d y) (at d x))) ∙ origin-is
 
   -- ---- one vertex more
-  across-more : (x y : ℕ) (r : List ℕ) (v : ℕ) → across d (x ∷ (y ∷ (r ++ v ∷ []))) ≡ tilt (at d x) (at d y) (across d (x ∷ (y ∷ r))) (at d v)
+  across-more : (x y : ℕ) (r : List ℕ) (v : ℕ) → across d (x ∷ (y ∷ (r ++ v ∷ []))) ≡ tilt (at d x) (at d y) (across d (x ∷ (y ∷ r)))
+      (at d v)
   unfolding across
   across-more x y r v =
-      ap (tilted (at d x) (at d y) origin) (map-more (at d) (x ∷ (y ∷ r)) v) ∙ tilted-more (at d x) (at d y) origin (map (at d) (x ∷ (y ∷ r))) (at d v)
+      ap (tilted (at d x) (at d y) origin) (map-more (at d) (x ∷ (y ∷ r)) v)
+      ∙ tilted-more (at d x) (at d y) origin (map (at d) (x ∷ (y ∷ r))) (at d v)
 
   -- the plane stays
-  pub across-found : (x y : ℕ) (r : List ℕ) (v : ℕ) → isOrigin (across d (x ∷ (y ∷ r))) ≡ false → across d (x ∷ (y ∷ (r ++ v ∷ []))) ≡ across d (x ∷ (y ∷ r))
+  pub across-found : (x y : ℕ) (r : List ℕ) (v : ℕ) → isOrigin (across d (x ∷ (y ∷ r))) ≡ false
+      → across d (x ∷ (y ∷ (r ++ v ∷ []))) ≡ across d (x ∷ (y ∷ r))
   across-found x y r v e = across-more x y r v ∙ tilt-found (at d x) (at d y) (across d (x ∷ (y ∷ r))) (at d v) e
 
   -- while there is none, the next vertex fixes it, unless it is in line too
-  pub across-turn : (x y : ℕ) (r : List ℕ) (v : ℕ) → isOrigin (across d (x ∷ (y ∷ r))) ≡ true → across d (x ∷ (y ∷ (r ++ v ∷ []))) ≡ turn d (x ∷ (y ∷ r)) v
+  pub across-turn : (x y : ℕ) (r : List ℕ) (v : ℕ) → isOrigin (across d (x ∷ (y ∷ r))) ≡ true
+      → across d (x ∷ (y ∷ (r ++ v ∷ []))) ≡ turn d (x ∷ (y ∷ r)) v
   unfolding turn
   across-turn x y r v e = across-more x y r v ∙ tilt-none (at d x) (at d y) (across d (x ∷ (y ∷ r))) (at d v) e
 
@@ -95,11 +99,14 @@ module _ (d : Wire) where
   unfolding level onPlane
   level-is p w = refl
 
-  pub level-found : (x y : ℕ) (r : List ℕ) (v : ℕ) → isOrigin (across d (x ∷ (y ∷ r))) ≡ false → (w : ℕ) → level d (x ∷ (y ∷ (r ++ v ∷ []))) w ≡ level d (x ∷ (y ∷ r)) w
+  pub level-found : (x y : ℕ) (r : List ℕ) (v : ℕ) → isOrigin (across d (x ∷ (y ∷ r))) ≡ false → (w : ℕ)
+      → level d (x ∷ (y ∷ (r ++ v ∷ []))) w ≡ level d (x ∷ (y ∷ r)) w
   level-found x y r v e w =
-      level-is (x ∷ (y ∷ (r ++ v ∷ []))) w ∙ ap (λ (n : Point). onPlane d (at d x) n w) (across-found x y r v e) ∙ sym (level-is (x ∷ (y ∷ r)) w)
+      level-is (x ∷ (y ∷ (r ++ v ∷ []))) w ∙ ap (λ (n : Point). onPlane d (at d x) n w) (across-found x y r v e)
+      ∙ sym (level-is (x ∷ (y ∷ r)) w)
 
-  pub level-turn : (x y : ℕ) (r : List ℕ) (v : ℕ) → isOrigin (across d (x ∷ (y ∷ r))) ≡ true → (w : ℕ) → level d (x ∷ (y ∷ (r ++ v ∷ []))) w ≡ onPlane d (at d x) (turn d (x ∷ (y ∷ r)) v) w
+  pub level-turn : (x y : ℕ) (r : List ℕ) (v : ℕ) → isOrigin (across d (x ∷ (y ∷ r))) ≡ true → (w : ℕ)
+      → level d (x ∷ (y ∷ (r ++ v ∷ []))) w ≡ onPlane d (at d x) (turn d (x ∷ (y ∷ r)) v) w
   level-turn x y r v e w = level-is (x ∷ (y ∷ (r ++ v ∷ []))) w ∙ ap (λ (n : Point). onPlane d (at d x) n w) (across-turn x y r v e)
 
   -- a vertex added never makes another level
@@ -131,11 +138,13 @@ module _ (d : Wire) where
   unfolding planeMask
   plane-length s m = made-length (onPlane d s m) (length (d .vertices))
 
-  pub planeOf-found : (x y : ℕ) (r : List ℕ) (v : ℕ) → isOrigin (across d (x ∷ (y ∷ r))) ≡ false → planeOf d (x ∷ (y ∷ (r ++ v ∷ []))) ≡ planeOf d (x ∷ (y ∷ r))
+  pub planeOf-found : (x y : ℕ) (r : List ℕ) (v : ℕ) → isOrigin (across d (x ∷ (y ∷ r))) ≡ false
+      → planeOf d (x ∷ (y ∷ (r ++ v ∷ []))) ≡ planeOf d (x ∷ (y ∷ r))
   unfolding planeOf
   planeOf-found x y r v e = ap (planeMask d (at d x)) (across-found x y r v e)
 
-  pub planeOf-turn : (x y : ℕ) (r : List ℕ) (v : ℕ) → isOrigin (across d (x ∷ (y ∷ r))) ≡ true → planeOf d (x ∷ (y ∷ (r ++ v ∷ []))) ≡ planeMask d (at d x) (turn d (x ∷ (y ∷ r)) v)
+  pub planeOf-turn : (x y : ℕ) (r : List ℕ) (v : ℕ) → isOrigin (across d (x ∷ (y ∷ r))) ≡ true
+      → planeOf d (x ∷ (y ∷ (r ++ v ∷ []))) ≡ planeMask d (at d x) (turn d (x ∷ (y ∷ r)) v)
   unfolding planeOf
   planeOf-turn x y r v e = ap (planeMask d (at d x)) (across-turn x y r v e)
 
@@ -143,7 +152,8 @@ module _ (d : Wire) where
   pub planeOf-line : (p : List ℕ) → isOrigin (across d p) ≡ true → planeOf d p ≡ every d
   unfolding planeOf
   planeOf-line p e =
-      ext-getD false (planeOf d p) (every d) (plane-length (at d (getD p 0 0)) (across d p) ∙ sym (length-replicate (length (d .vertices)) true))
+      ext-getD false (planeOf d p) (every d) (plane-length (at d (getD p 0 0)) (across d p)
+      ∙ sym (length-replicate (length (d .vertices)) true))
       (λ i h.
       let k : i < length (d .vertices) = omega (arith, plane-length (at d (getD p 0 0)) (across d p)) in
       planeOf-at p i k ∙ level-line p e i ∙ sym (getD-replicate (length (d .vertices)) i true false k))

@@ -18,7 +18,8 @@ use Rattle.fast_search.proofs.Phases.{plane-at, plane-length}
 use Rattle.fast_search.proofs.Search.{search-is}
 
 module _ (d : Wire) where
-  pub plane-digit : (l : Loop) (w : ℕ) → w < length (d .vertices) → dig (planeOf d l) w ≡ isZero (dot (across d l) (minus (at d w) (at d (getD l 0 0))))
+  pub plane-digit : (l : Loop) (w : ℕ) → w < length (d .vertices)
+      → dig (planeOf d l) w ≡ isZero (dot (across d l) (minus (at d w) (at d (getD l 0 0))))
   unfolding planeOf onPlane
   plane-digit l w h = plane-at d (at d (getD l 0 0)) (across d l) w h
 
@@ -28,7 +29,8 @@ module _ (d : Wire) where
 
   -- the loop of number i, and the vertices in its plane
   pub search-at : (i : ℕ) → i < length (loops d) → getD (search d) i (inItsPlane d []) ≡ inItsPlane d (loopAt (loops d) i)
-  search-at i h = ap (λ (l : List InItsPlane). getD l i (inItsPlane d [])) (search-is d) ∙ map-at (inItsPlane d) (loops d) i [] (inItsPlane d []) h
+  search-at i h =
+      ap (λ (l : List InItsPlane). getD l i (inItsPlane d [])) (search-is d) ∙ map-at (inItsPlane d) (loops d) i [] (inItsPlane d []) h
 
   -- in the plane: at the offset of s
   pub inside-offset : (s m : Point) (w : ℕ) → onPlane d s m w ≡ true → dot m (at d w) ≡ dot m s

@@ -69,7 +69,8 @@ module _ {A : Type 0} (f : ℕ → List Bool → List A) where
   unfolding eachOf count first less only
   each-at i [] n = absurd (n refl)
   each-at i (true ∷ bs) n =
-      let e : replicate (suc i) false ++ bs ≡ replicate i false ++ (false ∷ less bs []) = sym (nils-shift i bs) ∙ ap (λ (l : List Bool). replicate i false ++ (false ∷ l)) (sym (less-nil bs)) in
+      let e : replicate (suc i) false ++ bs ≡ replicate i false ++ (false ∷ less bs []) = sym (nils-shift i bs)
+      ∙ ap (λ (l : List Bool). replicate i false ++ (false ∷ l)) (sym (less-nil bs)) in
       let z : i ≡ i + 0 = omega arith in
       λ t. f (z t) (e t) ++ eachOf f (suc i) (sym (less-nil bs) t)
   each-at i (false ∷ bs) n =
@@ -77,7 +78,8 @@ module _ {A : Type 0} (f : ℕ → List Bool → List A) where
       each-at (suc i) bs (λ z. n (omega arith))
       ∙ (λ t. f (e t) (sym (nils-shift i (less bs (only (first bs)))) t) ++ eachOf f (suc i) (less bs (only (first bs))))
 
-  pub each-next : (a : List Bool) → (count a ≡ 0 → ⊥) → eachOf f 0 a ≡ f (first a) (less a (only (first a))) ++ eachOf f 0 (less a (only (first a)))
+  pub each-next : (a : List Bool) → (count a ≡ 0 → ⊥)
+      → eachOf f 0 a ≡ f (first a) (less a (only (first a))) ++ eachOf f 0 (less a (only (first a)))
   each-next a n =
       let e : 0 + first a ≡ first a = omega arith in
       each-at 0 a n ∙ (λ t. f (e t) (less a (only (first a))) ++ eachOf f 0 (less a (only (first a))))

@@ -23,12 +23,14 @@ module _ (n : ℕ) (linked : ℕ → ℕ → Bool) (level : List ℕ → ℕ →
   goes p w = ltb w n && follows n linked level p w
 
   module _ {A : Type 0} (g : Loop → A) (f : ℕ → List Bool → List A) (deeper : List ℕ → List Loop) (p : List ℕ)
-      (same : (w : ℕ) (rest : List Bool) → w < n → follows n linked level p w ≡ true → ((j : ℕ) → dig rest j ≡ (ltb w j && goes p j)) → f w rest ≡ map g (branch n linked level true deeper (p ++ w ∷ []))) where
+      (same : (w : ℕ) (rest : List Bool) → w < n → follows n linked level p w ≡ true → ((j : ℕ) → dig rest j ≡ (ltb w j && goes p j))
+      → f w rest ≡ map g (branch n linked level true deeper (p ++ w ∷ []))) where
     branch-none : (b : Bool) → b ≡ false → (q : List ℕ) → branch n linked level b deeper q ≡ []
     unfolding branch
     branch-none b e q = rw e refl
 
-    rest-is : (i : ℕ) (bs : List Bool) → ((j : ℕ) → dig bs j ≡ goes p (suc i + j)) → (j : ℕ) → dig (replicate (suc i) false ++ bs) j ≡ (ltb i j && goes p j)
+    rest-is : (i : ℕ) (bs : List Bool) → ((j : ℕ) → dig bs j ≡ goes p (suc i + j)) → (j : ℕ)
+        → dig (replicate (suc i) false ++ bs) j ≡ (ltb i j && goes p j)
     rest-is i bs h j = go (decLt i j)
       where
         go : Dec (i < j) → dig (replicate (suc i) false ++ bs) j ≡ (ltb i j && goes p j)
@@ -39,13 +41,16 @@ module _ (n : ℕ) (linked : ℕ → ℕ → Bool) (level : List ℕ → ℕ →
             ap (dig (replicate (suc i) false ++ bs)) e ∙ nils-high (suc i) (j - suc i) bs ∙ h (j - suc i) ∙ ap (goes p) e'
             ∙ sym (ap (λ (b : Bool). b && goes p j) (lt-ltb i j k))
 
-    pub each-scan : (i k : ℕ) → i + k ≡ n → (row : List Bool) → ((j : ℕ) → dig row j ≡ goes p (i + j)) → eachOf f i row ≡ map g (scan n linked level deeper p i k)
+    pub each-scan : (i k : ℕ) → i + k ≡ n → (row : List Bool) → ((j : ℕ) → dig row j ≡ goes p (i + j))
+        → eachOf f i row ≡ map g (scan n linked level deeper p i k)
     unfolding eachOf scan
     each-scan i zero s row h = each-none f i row (λ j. h j ∙ past j)
       where
         past : (j : ℕ) → goes p (i + j) ≡ false
         past j = ap (λ (b : Bool). b && follows n linked level p (i + j)) (le-ltb (i + j) n (omega arith))
-    each-scan i (suc k) s [] h = sym (map-append g (branch n linked level (follows n linked level p i) deeper (p ++ i ∷ [])) (scan n linked level deeper p (suc i) k)
+    each-scan i (suc k) s [] h =
+        sym
+        (map-append g (branch n linked level (follows n linked level p i) deeper (p ++ i ∷ [])) (scan n linked level deeper p (suc i) k)
         ∙ (λ t. map g (branch-none (follows n linked level p i) none (p ++ i ∷ []) t) ++ map g (scan n linked level deeper p (suc i) k))
         ∙ sym (each-scan (suc i) k (omega arith) [] later))
       where
@@ -64,7 +69,8 @@ module _ (n : ℕ) (linked : ℕ → ℕ → Bool) (level : List ℕ → ℕ →
             h (suc j) ∙ ap (goes p) e
     each-scan i (suc k) s (b ∷ bs) h =
         go b refl (each-scan (suc i) k (omega arith) bs later)
-        ∙ sym (map-append g (branch n linked level (follows n linked level p i) deeper (p ++ i ∷ [])) (scan n linked level deeper p (suc i) k))
+        ∙ sym
+        (map-append g (branch n linked level (follows n linked level p i) deeper (p ++ i ∷ [])) (scan n linked level deeper p (suc i) k))
       where
         here : ltb i n ≡ true
         here = lt-ltb i n (omega arith)
@@ -81,27 +87,34 @@ module _ (n : ℕ) (linked : ℕ → ℕ → Bool) (level : List ℕ → ℕ →
             h (suc j) ∙ ap (goes p) e
 
         go : (c : Bool) → b ≡ c → eachOf f (suc i) bs ≡ map g (scan n linked level deeper p (suc i) k)
-            → eachOf f i (c ∷ bs) ≡ map g (branch n linked level (follows n linked level p i) deeper (p ++ i ∷ [])) ++ map g (scan n linked level deeper p (suc i) k)
+            → eachOf f i (c ∷ bs) ≡ map g (branch n linked level (follows n linked level p i) deeper (p ++ i ∷ [])) ++ map g
+            (scan n linked level deeper p (suc i) k)
         go true e r =
             let t : follows n linked level p i ≡ true = sym first ∙ e in
-            let u : f i (replicate (suc i) false ++ bs) ≡ map g (branch n linked level true deeper (p ++ i ∷ [])) = same i (replicate (suc i) false ++ bs) (omega arith) t (rest-is i bs later) in
+            let u : f i (replicate (suc i) false ++ bs) ≡ map g (branch n linked level true deeper (p ++ i ∷ [])) = same i
+            (replicate (suc i) false ++ bs) (omega arith) t (rest-is i bs later) in
             λ x. (u ∙ ap (λ (c : Bool). map g (branch n linked level c deeper (p ++ i ∷ []))) (sym t)) x ++ r x
         go false e r =
-            r ∙ ap (λ (l : List Loop). map g l ++ map g (scan n linked level deeper p (suc i) k)) (sym (branch-none (follows n linked level p i) (sym first ∙ e) (p ++ i ∷ [])))
+            r ∙ ap (λ (l : List Loop). map g l ++ map g (scan n linked level deeper p (suc i) k))
+            (sym (branch-none (follows n linked level p i) (sym first ∙ e) (p ++ i ∷ [])))
 
   -- ---- a path that nothing can close
-  module _ (Dead : List ℕ → Type 0) (no-loop : (p : List ℕ) (v : ℕ) → v < n → Dead p → follows n linked level p v ≡ true → closes n linked level (p ++ v ∷ []) ≡ false)
+  module _ (Dead : List ℕ → Type 0) (no-loop : (p : List ℕ) (v : ℕ) → v < n → Dead p → follows n linked level p v ≡ true
+      → closes n linked level (p ++ v ∷ []) ≡ false)
       (dead-more : (p : List ℕ) (v : ℕ) → v < n → Dead p → follows n linked level p v ≡ true → Dead (p ++ v ∷ [])) where
-    branch-dead : (b : Bool) (deeper : List ℕ → List Loop) (q : List ℕ) → (b ≡ true → closes n linked level q ≡ false) → (b ≡ true → deeper q ≡ []) → branch n linked level b deeper q ≡ []
+    branch-dead : (b : Bool) (deeper : List ℕ → List Loop) (q : List ℕ) → (b ≡ true → closes n linked level q ≡ false)
+        → (b ≡ true → deeper q ≡ []) → branch n linked level b deeper q ≡ []
     unfolding branch
     branch-dead false deeper q c e = refl
     branch-dead true deeper q c e = ap (λ (b : Bool). cond b (q ∷ deeper q) (deeper q)) (c refl) ∙ e refl
 
-    scan-dead : (deeper : List ℕ → List Loop) → ((q : List ℕ) → Dead q → deeper q ≡ []) → (p : List ℕ) → Dead p → (v k : ℕ) → v + k ≤ n → scan n linked level deeper p v k ≡ []
+    scan-dead : (deeper : List ℕ → List Loop) → ((q : List ℕ) → Dead q → deeper q ≡ []) → (p : List ℕ) → Dead p → (v k : ℕ) → v + k ≤ n
+        → scan n linked level deeper p v k ≡ []
     unfolding scan
     scan-dead deeper f p d v zero h = refl
     scan-dead deeper f p d v (suc k) h =
-        λ t. branch-dead (follows n linked level p v) deeper (p ++ v ∷ []) (no-loop p v (omega arith) d) (λ e. f (p ++ v ∷ []) (dead-more p v (omega arith) d e)) t
+        λ t. branch-dead (follows n linked level p v) deeper (p ++ v ∷ []) (no-loop p v (omega arith) d)
+        (λ e. f (p ++ v ∷ []) (dead-more p v (omega arith) d e)) t
         ++ scan-dead deeper f p d (suc v) k (omega arith) t
 
     pub ext-dead : (c : ℕ) (p : List ℕ) → Dead p → ext n linked level c p 0 ≡ []

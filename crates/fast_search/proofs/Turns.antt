@@ -11,7 +11,8 @@ use Rattle.paper.specs.Points.{isOrigin}
 use Rattle.paper.specs.Drawing.{Wire, at}
 use Rattle.paper.specs.Loops.{final}
 use Rattle.fast_search.specs.Rows.{empty, when, eachOf, someOf}
-use Rattle.fast_search.specs.Search.{InItsPlane, own, near, every, higher, onPlane, planeMask, turn, inPlane, step, onLine, seconds, starts}
+use Rattle.fast_search.specs.Search.{InItsPlane, own, near, every, higher, onPlane, planeMask, turn, inPlane, step, onLine, seconds}
+use Rattle.fast_search.specs.Search.{starts}
 use Rattle.fast_search.specs.Bare.{bareLine, bareSeconds, bareStarts}
 use Rattle.fast_search.proofs.Cut.{Whole}
 
@@ -29,7 +30,8 @@ module _ (path : List ℕ) (len : ℕ) where
   path-more w h = take-suc-set path len w h
 
 -- the path itself: its last vertex is one to end at, or is not
-pub own-yes : (closing : List Bool) (p : List ℕ) (plane : List Bool) → dig closing (final p) ≡ true → own closing p plane ≡ record { loop = p; plane = plane } ∷ []
+pub own-yes : (closing : List Bool) (p : List ℕ) (plane : List Bool) → dig closing (final p) ≡ true
+    → own closing p plane ≡ record { loop = p; plane = plane } ∷ []
 unfolding own when
 own-yes closing p plane e = ap (λ (b : Bool). when b (record { loop = p; plane = plane } ∷ [])) e
 
@@ -48,15 +50,22 @@ module _ (d : Wire) where
     unfolding inPlane when
     plane-stop zero e = refl
     plane-stop (suc k) e =
-        ap (λ (b : Bool). own closing p plane ++ when (not b) (eachOf (λ w rest. inPlane d k (p ++ w ∷ []) (less free (only w)) closing plane) 0 (both (near d (final p)) free))) e
+        ap
+        (λ (b : Bool). own closing p plane ++ when (not b)
+        (eachOf (λ w rest. inPlane d k (p ++ w ∷ []) (less free (only w)) closing plane) 0 (both (near d (final p)) free))) e
         ∙ append-nil (own closing p plane)
 
     pub plane-start : (k : ℕ) (now : List InItsPlane) → empty (both closing free) ≡ false
-        → Whole (λ w rest. inPlane d k (p ++ w ∷ []) (less free (only w)) closing plane) (now ++ own closing p plane) (both (near d (final p)) free) (now ++ inPlane d (suc k) p free closing plane)
+        → Whole (λ w rest. inPlane d k (p ++ w ∷ []) (less free (only w)) closing plane) (now ++ own closing p plane)
+        (both (near d (final p)) free) (now ++ inPlane d (suc k) p free closing plane)
     unfolding inPlane when
     plane-start k now e =
-        append-assoc now (own closing p plane) (eachOf (λ w rest. inPlane d k (p ++ w ∷ []) (less free (only w)) closing plane) 0 (both (near d (final p)) free))
-        ∙ ap (λ (b : Bool). now ++ (own closing p plane ++ when (not b) (eachOf (λ w rest. inPlane d k (p ++ w ∷ []) (less free (only w)) closing plane) 0 (both (near d (final p)) free)))) (sym e)
+        append-assoc now (own closing p plane)
+        (eachOf (λ w rest. inPlane d k (p ++ w ∷ []) (less free (only w)) closing plane) 0 (both (near d (final p)) free))
+        ∙ ap
+        (λ (b : Bool).
+        now ++ (own closing p plane ++ when (not b)
+        (eachOf (λ w rest. inPlane d k (p ++ w ∷ []) (less free (only w)) closing plane) 0 (both (near d (final p)) free)))) (sym e)
 
   -- ---- on the line
   module _ (p : List ℕ) (free closing : List Bool) where
@@ -71,7 +80,9 @@ module _ (d : Wire) where
     pub line-stop : (k : ℕ) → empty (both closing free) ≡ true → onLine d k p free closing ≡ own closing p (every d)
     unfolding onLine when
     line-stop zero e = refl
-    line-stop (suc k) e = ap (λ (b : Bool). own closing p (every d) ++ when (not b) (eachOf (turns k) 0 (both (near d (final p)) free))) e ∙ append-nil (own closing p (every d))
+    line-stop (suc k) e =
+        ap (λ (b : Bool). own closing p (every d) ++ when (not b) (eachOf (turns k) 0 (both (near d (final p)) free))) e
+        ∙ append-nil (own closing p (every d))
 
     pub line-start : (k : ℕ) (now : List InItsPlane) → empty (both closing free) ≡ false
         → Whole (turns k) (now ++ own closing p (every d)) (both (near d (final p)) free) (now ++ onLine d (suc k) p free closing)
@@ -93,7 +104,8 @@ module _ (d : Wire) where
     bare-stop zero e = refl
     bare-stop (suc k) e = ap (λ (b : Bool). when (not b) (eachOf (bareTurns k) 0 (both (near d (final p)) free))) e
 
-    pub bare-start : (k : ℕ) (now : List InItsPlane) → empty (both closing free) ≡ false → Whole (bareTurns k) now (both (near d (final p)) free) (now ++ bareLine d (suc k) p free closing)
+    pub bare-start : (k : ℕ) (now : List InItsPlane) → empty (both closing free) ≡ false
+        → Whole (bareTurns k) now (both (near d (final p)) free) (now ++ bareLine d (suc k) p free closing)
     unfolding bareLine when
     bare-start k now e = ap (λ (b : Bool). now ++ when (not b) (eachOf (bareTurns k) 0 (both (near d (final p)) free))) (sym e)
 
@@ -104,35 +116,44 @@ module _ (d : Wire) where
       turn-line e =
           ap (λ (b : Bool). cond b (line (p ++ w ∷ []) (less free (only w)))
           (when (someOf (onPlane d (at d (getD p 0 0)) (turn d p w)) 0 (both closing free))
-          (inPlane d k (p ++ w ∷ []) (both (less free (only w)) (planeMask d (at d (getD p 0 0)) (turn d p w))) closing (planeMask d (at d (getD p 0 0)) (turn d p w))))) e
+          (inPlane d k (p ++ w ∷ []) (both (less free (only w)) (planeMask d (at d (getD p 0 0)) (turn d p w))) closing
+          (planeMask d (at d (getD p 0 0)) (turn d p w))))) e
 
-      turn-off : (b : Bool) → isOrigin (turn d p w) ≡ false → someOf (onPlane d (at d (getD p 0 0)) (turn d p w)) 0 (both closing free) ≡ b
+      turn-off : (b : Bool) → isOrigin (turn d p w) ≡ false
+          → someOf (onPlane d (at d (getD p 0 0)) (turn d p w)) 0 (both closing free) ≡ b
           → step d line k p free closing w
-          ≡ when b (inPlane d k (p ++ w ∷ []) (both (less free (only w)) (planeMask d (at d (getD p 0 0)) (turn d p w))) closing (planeMask d (at d (getD p 0 0)) (turn d p w)))
+          ≡ when b
+          (inPlane d k (p ++ w ∷ []) (both (less free (only w)) (planeMask d (at d (getD p 0 0)) (turn d p w))) closing
+          (planeMask d (at d (getD p 0 0)) (turn d p w)))
       unfolding step
       turn-off b e s =
           λ i. cond (e i) (line (p ++ w ∷ []) (less free (only w)))
           (when (s i)
-          (inPlane d k (p ++ w ∷ []) (both (less free (only w)) (planeMask d (at d (getD p 0 0)) (turn d p w))) closing (planeMask d (at d (getD p 0 0)) (turn d p w))))
+          (inPlane d k (p ++ w ∷ []) (both (less free (only w)) (planeMask d (at d (getD p 0 0)) (turn d p w))) closing
+          (planeMask d (at d (getD p 0 0)) (turn d p w))))
 
-      pub turn-none : isOrigin (turn d p w) ≡ false → someOf (onPlane d (at d (getD p 0 0)) (turn d p w)) 0 (both closing free) ≡ false → step d line k p free closing w ≡ []
+      pub turn-none : isOrigin (turn d p w) ≡ false → someOf (onPlane d (at d (getD p 0 0)) (turn d p w)) 0 (both closing free) ≡ false
+          → step d line k p free closing w ≡ []
       unfolding when
       turn-none e s = turn-off false e s
 
       pub turn-plane : isOrigin (turn d p w) ≡ false → someOf (onPlane d (at d (getD p 0 0)) (turn d p w)) 0 (both closing free) ≡ true
           → step d line k p free closing w
-          ≡ inPlane d k (p ++ w ∷ []) (both (less free (only w)) (planeMask d (at d (getD p 0 0)) (turn d p w))) closing (planeMask d (at d (getD p 0 0)) (turn d p w))
+          ≡ inPlane d k (p ++ w ∷ []) (both (less free (only w)) (planeMask d (at d (getD p 0 0)) (turn d p w))) closing
+          (planeMask d (at d (getD p 0 0)) (turn d p w))
       unfolding when
       turn-plane e s = turn-off true e s
 
   -- ---- the second vertices of a start, and the starts
   pub seconds-start : (s : ℕ) (now : List InItsPlane)
-      → Whole (λ w rest. onLine d 10 (s ∷ w ∷ []) (less (higher d s) (only w)) rest) now (both (near d s) (higher d s)) (now ++ seconds d s)
+      → Whole (λ w rest. onLine d 10 (s ∷ w ∷ []) (less (higher d s) (only w)) rest) now (both (near d s) (higher d s))
+      (now ++ seconds d s)
   unfolding seconds
   seconds-start s now = refl
 
   pub bare-seconds-start : (s : ℕ) (now : List InItsPlane)
-      → Whole (λ w rest. bareLine d 10 (s ∷ w ∷ []) (less (higher d s) (only w)) rest) now (both (near d s) (higher d s)) (now ++ bareSeconds d s)
+      → Whole (λ w rest. bareLine d 10 (s ∷ w ∷ []) (less (higher d s) (only w)) rest) now (both (near d s) (higher d s))
+      (now ++ bareSeconds d s)
   unfolding bareSeconds
   bare-seconds-start s now = refl
 
@@ -143,20 +164,24 @@ module _ (d : Wire) where
       let z : suc (length (d .vertices) - suc i) ≡ length (d .vertices) - i = omega arith in
       append-assoc now (seconds d i) (starts d (suc i) (length (d .vertices) - suc i)) ∙ ap (λ (k : ℕ). now ++ starts d i k) z ∙ e
 
-  pub starts-end : (i : ℕ) (now all : List InItsPlane) → length (d .vertices) ≤ i → now ++ starts d i (length (d .vertices) - i) ≡ all → now ≡ all
+  pub starts-end : (i : ℕ) (now all : List InItsPlane) → length (d .vertices) ≤ i → now ++ starts d i (length (d .vertices) - i) ≡ all
+      → now ≡ all
   unfolding starts
   starts-end i now all h e =
       let z : 0 ≡ length (d .vertices) - i = omega arith in
       sym (append-nil now) ∙ ap (λ (k : ℕ). now ++ starts d i k) z ∙ e
 
-  pub bare-starts-next : (i : ℕ) (now all : List InItsPlane) → i < length (d .vertices) → now ++ bareStarts d i (length (d .vertices) - i) ≡ all
+  pub bare-starts-next : (i : ℕ) (now all : List InItsPlane) → i < length (d .vertices)
+      → now ++ bareStarts d i (length (d .vertices) - i) ≡ all
       → (now ++ bareSeconds d i) ++ bareStarts d (suc i) (length (d .vertices) - suc i) ≡ all
   unfolding bareStarts
   bare-starts-next i now all h e =
       let z : suc (length (d .vertices) - suc i) ≡ length (d .vertices) - i = omega arith in
-      append-assoc now (bareSeconds d i) (bareStarts d (suc i) (length (d .vertices) - suc i)) ∙ ap (λ (k : ℕ). now ++ bareStarts d i k) z ∙ e
+      append-assoc now (bareSeconds d i) (bareStarts d (suc i) (length (d .vertices) - suc i)) ∙ ap (λ (k : ℕ). now ++ bareStarts d i k) z
+      ∙ e
 
-  pub bare-starts-end : (i : ℕ) (now all : List InItsPlane) → length (d .vertices) ≤ i → now ++ bareStarts d i (length (d .vertices) - i) ≡ all → now ≡ all
+  pub bare-starts-end : (i : ℕ) (now all : List InItsPlane) → length (d .vertices) ≤ i
+      → now ++ bareStarts d i (length (d .vertices) - i) ≡ all → now ≡ all
   unfolding bareStarts
   bare-starts-end i now all h e =
       let z : 0 ≡ length (d .vertices) - i = omega arith in

@@ -15,7 +15,8 @@ module _ (d : Wire) where
   unfolding when eachOf near step
   bareLine zero p free closing = []
   bareLine (suc k) p free closing =
-      when (not (empty (both closing free))) (eachOf (λ w rest. step d (λ q f. bareLine k q f closing) k p free closing w) 0 (both (near d (final p)) free))
+      when (not (empty (both closing free)))
+      (eachOf (λ w rest. step d (λ q f. bareLine k q f closing) k p free closing w) 0 (both (near d (final p)) free))
 
   unfoldable pub bareSeconds : ℕ → List InItsPlane
   unfolding eachOf bareLine higher near

@@ -56,7 +56,8 @@ module _ (d : Wire) where
   inPlane zero p free closing plane = own closing p plane
   inPlane (suc k) p free closing plane =
       own closing p plane
-      ++ when (not (empty (both closing free))) (eachOf (λ w rest. inPlane k (p ++ w ∷ []) (less free (only w)) closing plane) 0 (both (near (final p)) free))
+      ++ when (not (empty (both closing free)))
+      (eachOf (λ w rest. inPlane k (p ++ w ∷ []) (less free (only w)) closing plane) 0 (both (near (final p)) free))
 
   -- p and then w, where p is in one line: with w it still is, or w fixes the plane; then some vertex of it must be able to close
   unfoldable pub step : (List ℕ → List Bool → List InItsPlane) → ℕ → List ℕ → List Bool → List Bool → ℕ → List InItsPlane
@@ -74,7 +75,8 @@ module _ (d : Wire) where
   onLine zero p free closing = own closing p every
   onLine (suc k) p free closing =
       own closing p every
-      ++ when (not (empty (both closing free))) (eachOf (λ w rest. step (λ q f. onLine k q f closing) k p free closing w) 0 (both (near (final p)) free))
+      ++ when (not (empty (both closing free)))
+      (eachOf (λ w rest. step (λ q f. onLine k q f closing) k p free closing w) 0 (both (near (final p)) free))
 
   -- The loops that start at s: "then go to the lower of its two neighbours", so that a loop may end at those of its neighbours that
   -- are left. Those that start at i, i + 1, ..: k vertices in turn.

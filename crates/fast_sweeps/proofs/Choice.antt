@@ -12,7 +12,8 @@ use Rattle.lists.proofs.Places.{drop-more}
 use Rattle.lists.proofs.Truth.{and-both}
 use Rattle.sets.specs.Word.{bit, dig, first, both}
 use Rattle.sets.proofs.Digits.{dig-both, count-none}
-use Rattle.paper.specs.Walk.{Status, Taken, Rejected, Undecided, isOpen, takenOn, openOn, openCount, decideOne, decide, settle, contradicts, Outcome, Broken, Stands, sweep, stable, choose}
+use Rattle.paper.specs.Walk.{Status, Taken, Rejected, Undecided, isOpen, takenOn, openOn, openCount, decideOne, decide, settle}
+use Rattle.paper.specs.Walk.{contradicts, Outcome, Broken, Stands, sweep, stable, choose}
 use Rattle.means_walk.specs.Tree.{Sweeps, breaks, rests, again}
 use Rattle.means_walk.proofs.Status.{count-opens}
 use Rattle.means_walk.proofs.Grown.{sweeps, sweeps-stable}
@@ -33,12 +34,14 @@ choose-edge [] st = ap first (sym (both-self (map isOpen st)))
 choose-edge (mask ∷ masks) st = go (eqb (openOn mask st) 0) (choose-edge masks st)
   where
     go : (b : Bool) → choose masks st ≡ first (both (getD masks (openEdge masks st) (map isOpen st)) (map isOpen st))
-        → cond b (choose masks st) (first (both mask (map isOpen st))) ≡ first (both (getD (mask ∷ masks) (cond b (suc (openEdge masks st)) 0) (map isOpen st)) (map isOpen st))
+        → cond b (choose masks st) (first (both mask (map isOpen st))) ≡ first
+        (both (getD (mask ∷ masks) (cond b (suc (openEdge masks st)) 0) (map isOpen st)) (map isOpen st))
     go true ih = ih
     go false ih = refl
 
 -- looked for from e on
-pub open-from : (masks : List (List Bool)) (st : List Status) (e : ℕ) → e ≤ length masks → Shut masks e st → openFrom masks st e ≡ openEdge masks st
+pub open-from : (masks : List (List Bool)) (st : List Status) (e : ℕ) → e ≤ length masks → Shut masks e st
+    → openFrom masks st e ≡ openEdge masks st
 unfolding openFrom openEdge
 open-from masks st zero h s = omega arith
 open-from [] st (suc e) h s = absurd (omega arith)
@@ -53,9 +56,11 @@ choose-drop masks st zero s = refl
 choose-drop [] st (suc e) s = refl
 choose-drop (mask ∷ masks) st (suc e) s =
     choose-drop masks st e (λ j l. s (suc j) (omega arith))
-    ∙ ap (λ (b : Bool). cond b (choose masks st) (first (both mask (map isOpen st)))) (sym (eq-eqb (openOn mask st) 0 (s 0 (omega arith))))
+    ∙ ap (λ (b : Bool). cond b (choose masks st) (first (both mask (map isOpen st))))
+    (sym (eq-eqb (openOn mask st) 0 (s 0 (omega arith))))
 
-pub choose-from : (masks : List (List Bool)) (st : List Status) (e : ℕ) → e ≤ length masks → Shut masks e st → choose masks st ≡ lowestOn masks st (openFrom masks st e)
+pub choose-from : (masks : List (List Bool)) (st : List Status) (e : ℕ) → e ≤ length masks → Shut masks e st
+    → choose masks st ≡ lowestOn masks st (openFrom masks st e)
 choose-from masks st e h s = choose-edge masks st ∙ ap (lowestOn masks st) (sym (open-from masks st e h s))
 
 -- below the edge found there is none
@@ -73,13 +78,15 @@ unfolding openEdge
 edge-shut [] st = λ j h. absurd (omega arith)
 edge-shut (mask ∷ masks) st = go (eqb (openOn mask st) 0) refl (edge-shut masks st)
   where
-    go : (b : Bool) → eqb (openOn mask st) 0 ≡ b → Shut masks (openEdge masks st) st → Shut (mask ∷ masks) (cond b (suc (openEdge masks st)) 0) st
+    go : (b : Bool) → eqb (openOn mask st) 0 ≡ b → Shut masks (openEdge masks st) st
+        → Shut (mask ∷ masks) (cond b (suc (openEdge masks st)) 0) st
     go true e ih zero h = eqb-true (openOn mask st) 0 e
     go true e ih (suc j) h = ih j (omega arith)
     go false e ih j h = absurd (omega arith)
 
 -- ---- the loop that looks for it
-pub open-skip : (masks : List (List Bool)) (st : List Status) (e : ℕ) → e < length masks → openOn (getD masks e []) st ≡ 0 → openFrom masks st e ≡ openFrom masks st (e + 1)
+pub open-skip : (masks : List (List Bool)) (st : List Status) (e : ℕ) → e < length masks → openOn (getD masks e []) st ≡ 0
+    → openFrom masks st e ≡ openFrom masks st (e + 1)
 unfolding openFrom openEdge
 open-skip masks st e h z =
     let p : openEdge (drop e masks) st ≡ suc (openEdge (drop (e + 1) masks) st)
@@ -87,7 +94,8 @@ open-skip masks st e h z =
     ∙ ap (λ (b : Bool). cond b (suc (openEdge (drop (e + 1) masks) st)) 0) (eq-eqb (openOn (getD masks e []) st) 0 z) in
     omega arith
 
-pub open-here : (masks : List (List Bool)) (st : List Status) (e : ℕ) → e < length masks → (openOn (getD masks e []) st ≡ 0 → ⊥) → openFrom masks st e ≡ e
+pub open-here : (masks : List (List Bool)) (st : List Status) (e : ℕ) → e < length masks → (openOn (getD masks e []) st ≡ 0 → ⊥)
+    → openFrom masks st e ≡ e
 unfolding openFrom openEdge
 open-here masks st e h n =
     let p : openEdge (drop e masks) st ≡ 0
@@ -112,16 +120,19 @@ at-none [] e d h = refl
 at-none (mask ∷ masks) zero d h = absurd (omega arith)
 at-none (mask ∷ masks) (suc e) d h = at-none masks e d (omega arith)
 
-pub lowest-here : (masks : List (List Bool)) (st : List Status) (e : ℕ) → e < length masks → first (both (getD masks e []) (map isOpen st)) ≡ lowestOn masks st e
+pub lowest-here : (masks : List (List Bool)) (st : List Status) (e : ℕ) → e < length masks
+    → first (both (getD masks e []) (map isOpen st)) ≡ lowestOn masks st e
 unfolding lowestOn
 lowest-here masks st e h = ap (λ (r : List Bool). first (both r (map isOpen st))) (at-any masks e [] (map isOpen st) h)
 
 pub lowest-none : (masks : List (List Bool)) (st : List Status) (e : ℕ) → length masks ≤ e → first (map isOpen st) ≡ lowestOn masks st e
 unfolding lowestOn
-lowest-none masks st e h = ap first (sym (ap (λ (r : List Bool). both r (map isOpen st)) (at-none masks e (map isOpen st) h) ∙ both-self (map isOpen st)))
+lowest-none masks st e h =
+    ap first (sym (ap (λ (r : List Bool). both r (map isOpen st)) (at-none masks e (map isOpen st) h) ∙ both-self (map isOpen st)))
 
 -- there is one, where some candidate is undecided and each undecided one is on an edge
-pub edge-some : (masks : List (List Bool)) (st : List Status) → Covered masks st → (k : ℕ) → dig (map isOpen st) k ≡ true → openEdge masks st < length masks
+pub edge-some : (masks : List (List Bool)) (st : List Status) → Covered masks st → (k : ℕ) → dig (map isOpen st) k ≡ true
+    → openEdge masks st < length masks
 edge-some masks st c k u =
     let r = c k u in
     let f : openEdge masks st ≤ r .0 = below (r .0) (r .2) in
@@ -129,7 +140,8 @@ edge-some masks st c k u =
   where
     below : (e : ℕ) → dig (getD masks e []) k ≡ true → openEdge masks st ≤ e
     below e o =
-        let g : e < openEdge masks st → ⊥ = λ h. count-none (both (getD masks e []) (map isOpen st)) (count-opens (getD masks e []) st ∙ edge-shut masks st e h) k
+        let g : e < openEdge masks st
+        → ⊥ = λ h. count-none (both (getD masks e []) (map isOpen st)) (count-opens (getD masks e []) st ∙ edge-shut masks st e h) k
         (dig-both (getD masks e []) (map isOpen st) k ∙ and-both o u) in
         omega (arith, g)
 
@@ -162,16 +174,19 @@ unfolding sweep
 sweep-open r [] st s e = let p : st ≡ s = cc in omega (arith, ap (openOn r) p)
 sweep-open r (mask ∷ masks) st s e = go (sweep-open r masks (settle mask st) s) (contradicts mask st) e
   where
-    go : (sweep masks (settle mask st) ≡ Stands s → openOn r s ≤ openOn r (settle mask st)) → (b : Bool) → cond b Broken (sweep masks (settle mask st)) ≡ Stands s → openOn r s ≤ openOn r st
+    go : (sweep masks (settle mask st) ≡ Stands s → openOn r s ≤ openOn r (settle mask st)) → (b : Bool)
+        → cond b Broken (sweep masks (settle mask st)) ≡ Stands s → openOn r s ≤ openOn r st
     go ih true q = no-break q
     go ih false q = omega (arith, ih q, settle-open r mask st)
 
-sweeps-open : (r : List Bool) {masks : List (List Bool)} {st s : List Status} (o : Outcome) → Sweeps masks st o → o ≡ Stands s → openOn r s ≤ openOn r st
+sweeps-open : (r : List Bool) {masks : List (List Bool)} {st s : List Status} (o : Outcome) → Sweeps masks st o → o ≡ Stands s
+    → openOn r s ≤ openOn r st
 sweeps-open r {masks} {st} {s} o (breaks e) q = no-break q
 sweeps-open r {masks} {st} {s} o (rests {st = x} e) q = let p : x ≡ s = cc in omega (arith, ap (openOn r) p)
 sweeps-open r {masks} {st} {s} o (again {st = x} {st′ = y} e n w) q = omega (arith, sweeps-open r o w q, sweep-open r masks x y e)
 
-pub stable-open : (r : List Bool) (masks : List (List Bool)) (st s : List Status) → stable (suc (openCount st)) masks st ≡ Stands s → openOn r s ≤ openOn r st
+pub stable-open : (r : List Bool) (masks : List (List Bool)) (st s : List Status) → stable (suc (openCount st)) masks st ≡ Stands s
+    → openOn r s ≤ openOn r st
 stable-open r masks st s e =
     let w = sweeps masks (suc (openCount st)) st (omega arith) in
     sweeps-open r (w .0) (w .1) (sym (sweeps-stable masks (w .1) (suc (openCount st)) (omega arith)) ∙ e)
@@ -184,8 +199,10 @@ set-open (true ∷ r) (s ∷ st) zero v o = rw o (omega arith)
 set-open (false ∷ r) (s ∷ st) zero v o = omega arith
 set-open (a ∷ r) (s ∷ st) (suc k) v o = omega (arith, set-open r st k v o)
 
-pub shut-stable : (masks : List (List Bool)) (e : ℕ) (st s : List Status) → Shut masks e st → stable (suc (openCount st)) masks st ≡ Stands s → Shut masks e s
+pub shut-stable : (masks : List (List Bool)) (e : ℕ) (st s : List Status) → Shut masks e st
+    → stable (suc (openCount st)) masks st ≡ Stands s → Shut masks e s
 shut-stable masks e st s h w j l = omega (arith, h j l, stable-open (getD masks j []) masks st s w)
 
-pub shut-set : (masks : List (List Bool)) (e : ℕ) (st : List Status) (k : ℕ) (v : Status) → isOpen v ≡ false → Shut masks e st → Shut masks e (set st k v)
+pub shut-set : (masks : List (List Bool)) (e : ℕ) (st : List Status) (k : ℕ) (v : Status) → isOpen v ≡ false → Shut masks e st
+    → Shut masks e (set st k v)
 shut-set masks e st k v o h j l = omega (arith, h j l, set-open (getD masks j []) st k v o)

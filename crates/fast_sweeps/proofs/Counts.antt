@@ -51,7 +51,8 @@ one-decides v o true Rejected = refl
 one-decides v o true Undecided = o
 
 -- u & !(mask & u)
-pub opens-decided : (v : Status) → isOpen v ≡ false → (mask : List Bool) (st : List Status) → opens (decide v mask st) ≡ less (opens st) (both mask (opens st))
+pub opens-decided : (v : Status) → isOpen v ≡ false → (mask : List Bool) (st : List Status)
+    → opens (decide v mask st) ≡ less (opens st) (both mask (opens st))
 unfolding decide less both
 opens-decided v o [] st = sym (nil-less (opens st))
 opens-decided v o (b ∷ mask) [] = refl
@@ -83,11 +84,13 @@ module _ (mask : List Bool) (st : List Status) where
   unfolding contradicts
   contradicts-by m l p q = ap₂ (λ (x y : ℕ). ltb 2 x || ltb (x + y) 2) p q
 
-  settle-by : (m l : ℕ) → takenOn mask st ≡ m → openOn mask st ≡ l → settle mask st ≡ cond (eqb m 2) (decide Rejected mask st) (cond (eqb (m + l) 2) (decide Taken mask st) st)
+  settle-by : (m l : ℕ) → takenOn mask st ≡ m → openOn mask st ≡ l
+      → settle mask st ≡ cond (eqb m 2) (decide Rejected mask st) (cond (eqb (m + l) 2) (decide Taken mask st) st)
   unfolding settle
   settle-by m l p q = ap₂ (λ (x y : ℕ). cond (eqb x 2) (decide Rejected mask st) (cond (eqb (x + y) 2) (decide Taken mask st) st)) p q
 
-  decided-by : (m l : ℕ) → takenOn mask st ≡ m → openOn mask st ≡ l → decidedOn mask st ≡ cond (eqb m 2) (both mask (opens st)) (cond (eqb (m + l) 2) (both mask (opens st)) [])
+  decided-by : (m l : ℕ) → takenOn mask st ≡ m → openOn mask st ≡ l
+      → decidedOn mask st ≡ cond (eqb m 2) (both mask (opens st)) (cond (eqb (m + l) 2) (both mask (opens st)) [])
   unfolding decidedOn
   decided-by m l p q = ap₂ (λ (x y : ℕ). cond (eqb x 2) (both mask (opens st)) (cond (eqb (x + y) 2) (both mask (opens st)) [])) p q
 
@@ -114,10 +117,13 @@ module _ (mask : List Bool) (st : List Status) where
 
   pub two : M ≡ 2 → Rejects
   two h =
-      let s : settle mask st ≡ decide Rejected mask st = settle-by M L is-M is-L ∙ ap (λ (b : Bool). cond b (decide Rejected mask st) (cond (eqb (M + L) 2) (decide Taken mask st) st)) (eq-eqb M 2 h) in
+      let s : settle mask st ≡ decide Rejected mask st = settle-by M L is-M is-L
+      ∙ ap (λ (b : Bool). cond b (decide Rejected mask st) (cond (eqb (M + L) 2) (decide Taken mask st) st)) (eq-eqb M 2 h) in
       record {
         calm = contradicts-by M L is-M is-L ∙ ap₂ _||_ (le-ltb 2 M (omega arith)) (le-ltb (M + L) 2 (omega arith));
-        decided = decided-by M L is-M is-L ∙ ap (λ (b : Bool). cond b (both mask (opens st)) (cond (eqb (M + L) 2) (both mask (opens st)) [])) (eq-eqb M 2 h);
+        decided =
+            decided-by M L is-M is-L ∙ ap (λ (b : Bool). cond b (both mask (opens st)) (cond (eqb (M + L) 2) (both mask (opens st)) []))
+            (eq-eqb M 2 h);
         takes = ap takens s ∙ takens-rejected mask st;
         leaves = ap opens s ∙ opens-decided Rejected refl mask st;
       }
@@ -132,11 +138,13 @@ module _ (mask : List Bool) (st : List Status) where
   pub exactly : M < 2 → M + L ≡ 2 → Takes
   exactly h k =
       let s : settle mask st ≡ decide Taken mask st = settle-by M L is-M is-L
-      ∙ ap₂ (λ (a b : Bool). cond a (decide Rejected mask st) (cond b (decide Taken mask st) st)) (ne-eqb M 2 (λ e. omega arith)) (eq-eqb (M + L) 2 k) in
+      ∙ ap₂ (λ (a b : Bool). cond a (decide Rejected mask st) (cond b (decide Taken mask st) st)) (ne-eqb M 2 (λ e. omega arith))
+      (eq-eqb (M + L) 2 k) in
       record {
         calm = contradicts-by M L is-M is-L ∙ ap₂ _||_ (le-ltb 2 M (omega arith)) (le-ltb (M + L) 2 (omega arith));
         decided = decided-by M L is-M is-L
-            ∙ ap₂ (λ (a b : Bool). cond a (both mask (opens st)) (cond b (both mask (opens st)) [])) (ne-eqb M 2 (λ e. omega arith)) (eq-eqb (M + L) 2 k);
+            ∙ ap₂ (λ (a b : Bool). cond a (both mask (opens st)) (cond b (both mask (opens st)) [])) (ne-eqb M 2 (λ e. omega arith))
+            (eq-eqb (M + L) 2 k);
         takes = ap takens s ∙ takens-taken mask st;
         leaves = ap opens s ∙ opens-decided Taken refl mask st;
       }
@@ -151,9 +159,11 @@ module _ (mask : List Bool) (st : List Status) where
   more h k = record {
     calm = contradicts-by M L is-M is-L ∙ ap₂ _||_ (le-ltb 2 M (omega arith)) (le-ltb (M + L) 2 (omega arith));
     decided = decided-by M L is-M is-L
-        ∙ ap₂ (λ (a b : Bool). cond a (both mask (opens st)) (cond b (both mask (opens st)) [])) (ne-eqb M 2 (λ e. omega arith)) (ne-eqb (M + L) 2 (λ e. omega arith));
+        ∙ ap₂ (λ (a b : Bool). cond a (both mask (opens st)) (cond b (both mask (opens st)) [])) (ne-eqb M 2 (λ e. omega arith))
+        (ne-eqb (M + L) 2 (λ e. omega arith));
     still = settle-by M L is-M is-L
-        ∙ ap₂ (λ (a b : Bool). cond a (decide Rejected mask st) (cond b (decide Taken mask st) st)) (ne-eqb M 2 (λ e. omega arith)) (ne-eqb (M + L) 2 (λ e. omega arith));
+        ∙ ap₂ (λ (a b : Bool). cond a (decide Rejected mask st) (cond b (decide Taken mask st) st)) (ne-eqb M 2 (λ e. omega arith))
+        (ne-eqb (M + L) 2 (λ e. omega arith));
   }
 
   -- all at once: L is read only where M is below 2

@@ -8,7 +8,8 @@ use lib.ListN.{set}
 use lib.Dec.{eqb, ltb}
 use Rattle.lists.proofs.Truth.{or-none}
 use Rattle.sets.specs.Word.{bit, dig, count, both}
-use Rattle.paper.specs.Walk.{Status, Taken, Rejected, Undecided, isTaken, isOpen, takenOn, openOn, openCount, decideOne, decide, settle, contradicts, Broken, Stands, sweep}
+use Rattle.paper.specs.Walk.{Status, Taken, Rejected, Undecided, isTaken, isOpen, takenOn, openOn, openCount, decideOne, decide, settle}
+use Rattle.paper.specs.Walk.{contradicts, Broken, Stands, sweep}
 use Rattle.means_walk.proofs.Status.{count-opens}
 use Rattle.means_walk.proofs.Complete.{sweep-fewer, sweep-still}
 use Rattle.fast_sweeps.specs.Worklist.{meets, decidedOn, Settled}
@@ -42,14 +43,16 @@ decide-none v (true ∷ mask) (Undecided ∷ st) z = absurd (omega arith)
 
 -- ---- another edge r that has none of those decided
 
-one-taken : (v : Status) (a b : Bool) (s : Status) → (a && (b && isOpen s)) ≡ false → bit (a && isTaken (decideOne v b s)) ≡ bit (a && isTaken s)
+one-taken : (v : Status) (a b : Bool) (s : Status) → (a && (b && isOpen s)) ≡ false
+    → bit (a && isTaken (decideOne v b s)) ≡ bit (a && isTaken s)
 one-taken v false b s e = refl
 one-taken v true false s e = refl
 one-taken v true true Taken e = refl
 one-taken v true true Rejected e = refl
 one-taken v true true Undecided e = absurd (true≢false e)
 
-one-open : (v : Status) (a b : Bool) (s : Status) → (a && (b && isOpen s)) ≡ false → bit (a && isOpen (decideOne v b s)) ≡ bit (a && isOpen s)
+one-open : (v : Status) (a b : Bool) (s : Status) → (a && (b && isOpen s)) ≡ false
+    → bit (a && isOpen (decideOne v b s)) ≡ bit (a && isOpen s)
 one-open v false b s e = refl
 one-open v true false s e = refl
 one-open v true true Taken e = refl
@@ -61,7 +64,8 @@ pub record Same (r : List Bool) (s st : List Status) : Type 0 where
   pub taken : takenOn r s ≡ takenOn r st
   pub undecided : openOn r s ≡ openOn r st
 
-decide-same : (v : Status) (r mask : List Bool) (st : List Status) → meets r (both mask (map isOpen st)) ≡ false → Same r (decide v mask st) st
+decide-same : (v : Status) (r mask : List Bool) (st : List Status) → meets r (both mask (map isOpen st)) ≡ false
+    → Same r (decide v mask st) st
 unfolding takenOn openOn decide both meets
 decide-same v [] mask st e = record { taken = refl; undecided = refl }
 decide-same v (a ∷ r) [] st e = record { taken = refl; undecided = refl }
@@ -124,11 +128,13 @@ meets-self mask st = go (eqb (takenOn mask st) 2) (eqb (takenOn mask st + openOn
 
 -- how many are decided
 pub count-decided : (mask : List Bool) (st : List Status)
-    → count (decidedOn mask st) ≡ cond (eqb (takenOn mask st) 2) (openOn mask st) (cond (eqb (takenOn mask st + openOn mask st) 2) (openOn mask st) 0)
+    → count (decidedOn mask st) ≡ cond (eqb (takenOn mask st) 2) (openOn mask st)
+    (cond (eqb (takenOn mask st + openOn mask st) 2) (openOn mask st) 0)
 unfolding decidedOn count
 count-decided mask st = go (eqb (takenOn mask st) 2) (eqb (takenOn mask st + openOn mask st) 2)
   where
-    go : (a b : Bool) → count (cond a (both mask (map isOpen st)) (cond b (both mask (map isOpen st)) [])) ≡ cond a (openOn mask st) (cond b (openOn mask st) 0)
+    go : (a b : Bool) → count (cond a (both mask (map isOpen st)) (cond b (both mask (map isOpen st)) [])) ≡ cond a (openOn mask st)
+        (cond b (openOn mask st) 0)
     go true b = count-opens mask st
     go false true = count-opens mask st
     go false false = refl
@@ -144,9 +150,12 @@ settled-same {r} {s} {st} w t = record {
 }
   where
     zero-same : count (decidedOn r s) ≡ count (decidedOn r st)
-    zero-same = count-decided r s ∙ ap₂ (λ (m l : ℕ). cond (eqb m 2) l (cond (eqb (m + l) 2) l 0)) (w .taken) (w .undecided) ∙ sym (count-decided r st)
+    zero-same =
+        count-decided r s ∙ ap₂ (λ (m l : ℕ). cond (eqb m 2) l (cond (eqb (m + l) 2) l 0)) (w .taken) (w .undecided)
+        ∙ sym (count-decided r st)
 
-pub settled-none : (mask : List Bool) (st : List Status) → contradicts mask st ≡ false → count (decidedOn mask st) ≡ 0 → Settled mask (settle mask st)
+pub settled-none : (mask : List Bool) (st : List Status) → contradicts mask st ≡ false → count (decidedOn mask st) ≡ 0
+    → Settled mask (settle mask st)
 settled-none mask st c z = subst (Settled mask) (sym (settle-none mask st z)) (record { calm = c; still = settle-none mask st z })
 
 -- settling an edge without a contradiction decides none or leaves fewer undecided
@@ -157,10 +166,12 @@ sweep-one mask st c = rw c
 pub settle-fewer : (mask : List Bool) (st : List Status) → contradicts mask st ≡ false → openCount (settle mask st) ≤ openCount st
 settle-fewer mask st c = sweep-fewer (mask ∷ []) st (settle mask st) (sweep-one mask st c)
 
-pub settle-still : (mask : List Bool) (st : List Status) → contradicts mask st ≡ false → openCount st ≤ openCount (settle mask st) → settle mask st ≡ st
+pub settle-still : (mask : List Bool) (st : List Status) → contradicts mask st ≡ false → openCount st ≤ openCount (settle mask st)
+    → settle mask st ≡ st
 settle-still mask st c h = sweep-still (mask ∷ []) st (settle mask st) (sweep-one mask st c) h .0
 
-pub settle-decides : (mask : List Bool) (st : List Status) → contradicts mask st ≡ false → (count (decidedOn mask st) ≡ 0 → ⊥) → openCount (settle mask st) < openCount st
+pub settle-decides : (mask : List Bool) (st : List Status) → contradicts mask st ≡ false → (count (decidedOn mask st) ≡ 0 → ⊥)
+    → openCount (settle mask st) < openCount st
 settle-decides mask st c n =
     let f : openCount st ≤ openCount (settle mask st) → ⊥ = λ h. n (none-settle mask st (settle-still mask st c h)) in
     omega (arith, f)
@@ -174,4 +185,7 @@ set-same (true ∷ r) (s ∷ st) zero v e = absurd (true≢false e)
 set-same (false ∷ r) (s ∷ st) zero v e = record { taken = refl; undecided = refl }
 set-same (a ∷ r) (s ∷ st) (suc k) v e =
     let w = set-same r st k v e in
-    record { taken = ap (λ (n : ℕ). bit (a && isTaken s) + n) (w .taken); undecided = ap (λ (n : ℕ). bit (a && isOpen s) + n) (w .undecided) }
+    record {
+      taken = ap (λ (n : ℕ). bit (a && isTaken s) + n) (w .taken);
+      undecided = ap (λ (n : ℕ). bit (a && isOpen s) + n) (w .undecided);
+    }

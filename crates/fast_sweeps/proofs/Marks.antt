@@ -137,7 +137,8 @@ meets-first (false ∷ mask) (true ∷ d) n = refl
 meets-first (true ∷ mask) (false ∷ d) n = meets-first mask d (λ z. n (omega arith))
 meets-first (false ∷ mask) (false ∷ d) n = meets-first mask d (λ z. n (omega arith))
 
-pub touched-first : (masks : List (List Bool)) (d : List Bool) → (count d ≡ 0 → ⊥) → touched masks d ≡ either (edgesWith masks (first d)) (touched masks (after d))
+pub touched-first : (masks : List (List Bool)) (d : List Bool) → (count d ≡ 0 → ⊥)
+    → touched masks d ≡ either (edgesWith masks (first d)) (touched masks (after d))
 unfolding touched edgesWith either
 touched-first [] d n = refl
 touched-first (mask ∷ masks) d n = ap₂ (λ (x : Bool) (y : List Bool). x ∷ y) (meets-first mask d n) (touched-first masks d n)
@@ -175,26 +176,32 @@ pub record Gathers (masks : List (List Bool)) (d all left : List Bool) : Type 0 
   pub whole : either all (touched masks left) ≡ touched masks d
 
 pub gather-start : (masks : List (List Bool)) (d : List Bool) → Gathers masks d (replicate (length masks) false) d
-gather-start masks d = record { long = length-replicate (length masks) false; whole = none-either (length masks) (touched masks d) (length-touched masks d) }
+gather-start masks d =
+    record { long = length-replicate (length masks) false; whole = none-either (length masks) (touched masks d) (length-touched masks d) }
 
 pub gather-more : (masks : List (List Bool)) (d all left : List Bool) → (count left ≡ 0 → ⊥) → Gathers masks d all left
     → Gathers masks d (either all (edgesWith masks (first left))) (after left)
 gather-more masks d all left n g = record {
   long = length-same (length masks) all (edgesWith masks (first left)) (g .long) (length-sides masks (first left));
-  whole = either-assoc all (edgesWith masks (first left)) (touched masks (after left)) ∙ ap (either all) (sym (touched-first masks left n)) ∙ g .whole;
+  whole =
+      either-assoc all (edgesWith masks (first left)) (touched masks (after left)) ∙ ap (either all) (sym (touched-first masks left n))
+      ∙ g .whole;
 }
 
 pub gather-end : (masks : List (List Bool)) (d all left : List Bool) → count left ≡ 0 → Gathers masks d all left → all ≡ touched masks d
-gather-end masks d all left z g = sym (either-none (length masks) all (g .long)) ∙ ap (either all) (sym (touched-none masks left z)) ∙ g .whole
+gather-end masks d all left z g =
+    sym (either-none (length masks) all (g .long)) ∙ ap (either all) (sym (touched-none masks left z)) ∙ g .whole
 
 -- ---- no longer than the masks
-pub length-ahead : (masks : List (List Bool)) (d ahead : List Bool) → length ahead ≤ length masks → length (nextAhead masks d ahead) ≤ length masks
+pub length-ahead : (masks : List (List Bool)) (d ahead : List Bool) → length ahead ≤ length masks
+    → length (nextAhead masks d ahead) ≤ length masks
 unfolding nextAhead
 length-ahead masks d ahead h =
     length-either (length masks) (after ahead) (less (touched masks d) (passed ahead))
     (omega (arith, length-after ahead)) (omega (arith, length-less (touched masks d) (passed ahead), length-touched masks d))
 
-pub length-later : (masks : List (List Bool)) (d ahead later : List Bool) → length later ≤ length masks → length (nextLater masks d ahead later) ≤ length masks
+pub length-later : (masks : List (List Bool)) (d ahead later : List Bool) → length later ≤ length masks
+    → length (nextLater masks d ahead later) ≤ length masks
 unfolding nextLater
 length-later masks d ahead later h =
     length-either (length masks) later (both (touched masks d) (passed ahead)) h

@@ -19,9 +19,12 @@ use Rattle.means_walk.specs.Tree.{Sweeps, breaks, rests, again}
 use Rattle.means_walk.proofs.Complete.{sweep-fewer, sweep-still}
 use Rattle.means_walk.proofs.Grown.{sweeps, sweeps-stable}
 use Rattle.means_walk.proofs.Ends.{stable-fuel}
-use Rattle.fast_sweeps.specs.Worklist.{after, passed, edgesWith, meets, touched, decidedOn, nextAhead, nextLater, Settled, afterwards, Remains}
-use Rattle.fast_sweeps.proofs.Edge.{no-break, settle-same, settle-none, meets-self, settled-same, settled-none, settle-still, set-same}
-use Rattle.fast_sweeps.proofs.Marks.{dig-lt, dig-none, first-low, after-in, after-out, passed-in, passed-out, dig-sides, length-sides, dig-touched, length-touched}
+use Rattle.fast_sweeps.specs.Worklist.{after, passed, edgesWith, meets, touched, decidedOn, nextAhead, nextLater, Settled}
+use Rattle.fast_sweeps.specs.Worklist.{afterwards, Remains}
+use Rattle.fast_sweeps.proofs.Edge.{no-break, settle-same, settle-none, meets-self, settled-same, settled-none, settle-still}
+use Rattle.fast_sweeps.proofs.Edge.{set-same}
+use Rattle.fast_sweeps.proofs.Marks.{dig-lt, dig-none, first-low, after-in, after-out, passed-in, passed-out, dig-sides}
+use Rattle.fast_sweeps.proofs.Marks.{length-sides, dig-touched, length-touched}
 
 module _ (masks : List (List Bool)) where
   -- all sweeps from a state
@@ -42,28 +45,34 @@ module _ (masks : List (List Bool)) where
           → cond (eqb (openCount s) (openCount st)) (Stands s) (stable (openCount st) masks s) ≡ stable (suc (openCount s)) masks s
       next s e (yes q) =
           let p : s ≡ st = sweep-still masks st s e (omega arith) .0 in
-          rw (eq-eqb (openCount s) (openCount st) q) (sym (stable-still s (subst (λ (x : List Status). sweep masks x ≡ Stands s) (sym p) e)))
+          rw (eq-eqb (openCount s) (openCount st) q)
+          (sym (stable-still s (subst (λ (x : List Status). sweep masks x ≡ Stands s) (sym p) e)))
       next s e (no q) =
           let l : openCount s ≤ openCount st = sweep-fewer masks st s e in
           rw (ne-eqb (openCount s) (openCount st) q) (stable-fuel masks s (openCount st) (omega (arith, q)))
 
       go : (o : Outcome) → sweep masks st ≡ o
-          → onStands o Broken (λ s. cond (eqb (openCount s) (openCount st)) (Stands s) (stable (openCount st) masks s)) ≡ onStands o Broken (λ s. stable (suc (openCount s)) masks s)
+          → onStands o Broken (λ s. cond (eqb (openCount s) (openCount st)) (Stands s) (stable (openCount st) masks s)) ≡ onStands o
+          Broken (λ s. stable (suc (openCount s)) masks s)
       go Broken e = refl
       go (Stands s) e = next s e (ℕ-discrete (openCount s) (openCount st))
 
   module _ (st : List Status) where
     one-edge : (e : ℕ) → e < length masks
-        → afterwards masks (drop e masks) st ≡ cond (contradicts (getD masks e []) st) Broken (afterwards masks (drop (e + 1) masks) (settle (getD masks e []) st))
+        → afterwards masks (drop e masks) st ≡ cond (contradicts (getD masks e []) st) Broken
+        (afterwards masks (drop (e + 1) masks) (settle (getD masks e []) st))
     unfolding afterwards sweep
     one-edge e h = ap (λ (l : List (List Bool)). afterwards masks l st) (drop-more masks e [] h) ∙ go (contradicts (getD masks e []) st)
       where
-        go : (b : Bool) → onStands (cond b Broken (sweep (drop (e + 1) masks) (settle (getD masks e []) st))) Broken (λ s. stable (suc (openCount s)) masks s)
-            ≡ cond b Broken (onStands (sweep (drop (e + 1) masks) (settle (getD masks e []) st)) Broken (λ s. stable (suc (openCount s)) masks s))
+        go : (b : Bool) → onStands (cond b Broken (sweep (drop (e + 1) masks) (settle (getD masks e []) st))) Broken
+            (λ s. stable (suc (openCount s)) masks s)
+            ≡ cond b Broken
+            (onStands (sweep (drop (e + 1) masks) (settle (getD masks e []) st)) Broken (λ s. stable (suc (openCount s)) masks s))
         go true = refl
         go false = refl
 
-    one-settled : (e : ℕ) → e < length masks → Settled (getD masks e []) st → afterwards masks (drop e masks) st ≡ afterwards masks (drop (e + 1) masks) st
+    one-settled : (e : ℕ) → e < length masks → Settled (getD masks e []) st
+        → afterwards masks (drop e masks) st ≡ afterwards masks (drop (e + 1) masks) st
     one-settled e h s =
         one-edge e h ∙ ap₂ (λ (b : Bool) (x : List Status). cond b Broken (afterwards masks (drop (e + 1) masks) x)) (s .calm) (s .still)
 
@@ -92,7 +101,8 @@ module _ (masks : List (List Bool)) where
     at-start : afterwards masks (drop 0 masks) st ≡ allSweeps st
     at-start = sym (stable-more st)
 
-    pub skip-all : (e : ℕ) → e ≤ length masks → ((j : ℕ) → e ≤ j → j < length masks → Settled (getD masks j []) st) → afterwards masks (drop e masks) st ≡ allSweeps st
+    pub skip-all : (e : ℕ) → e ≤ length masks → ((j : ℕ) → e ≤ j → j < length masks → Settled (getD masks j []) st)
+        → afterwards masks (drop e masks) st ≡ allSweeps st
     skip-all e h s = skip-to e (length masks) h (omega arith) s ∙ at-end
 
   -- ---- all edges are settled
@@ -103,16 +113,20 @@ module _ (masks : List (List Bool)) where
       ap₂ (λ (b : Bool) (x : List Status). cond b Broken (sweep l x)) (s 0 (omega arith) .calm) (s 0 (omega arith) .still)
       ∙ sweep-settled l st (λ j h. s (suc j) (omega arith))
 
-  pub settled-sweep : (l : List (List Bool)) (st : List Status) → sweep l st ≡ Stands st → (j : ℕ) → j < length l → Settled (getD l j []) st
+  pub settled-sweep : (l : List (List Bool)) (st : List Status) → sweep l st ≡ Stands st → (j : ℕ) → j < length l
+      → Settled (getD l j []) st
   unfolding sweep
   settled-sweep [] st e j h = absurd (omega arith)
   settled-sweep (mask ∷ l) st e j h = go (contradicts mask st) refl e (settled-sweep l st) j h
     where
-      go : (b : Bool) → contradicts mask st ≡ b → cond b Broken (sweep l (settle mask st)) ≡ Stands st → (sweep l st ≡ Stands st → (j : ℕ) → j < length l → Settled (getD l j []) st)
+      go : (b : Bool) → contradicts mask st ≡ b → cond b Broken (sweep l (settle mask st)) ≡ Stands st
+          → (sweep l st ≡ Stands st → (j : ℕ) → j < length l → Settled (getD l j []) st)
           → (j : ℕ) → j < length (mask ∷ l) → Settled (getD (mask ∷ l) j []) st
       go true c q ih j h = no-break q
       go false c q ih zero h = record { calm = c; still = settle-still mask st c (sweep-fewer l (settle mask st) st q) }
-      go false c q ih (suc j) h = ih (subst (λ (x : List Status). sweep l x ≡ Stands st) (settle-still mask st c (sweep-fewer l (settle mask st) st q)) q) j (omega arith)
+      go false c q ih (suc j) h =
+          ih (subst (λ (x : List Status). sweep l x ≡ Stands st) (settle-still mask st c (sweep-fewer l (settle mask st) st q)) q) j
+          (omega arith)
 
   -- what all sweeps leave is left as it is by one more
   sweeps-still : {st s : List Status} (o : Outcome) → Sweeps masks st o → o ≡ Stands s → sweep masks s ≡ Stands s
@@ -144,9 +158,11 @@ module _ (masks : List (List Bool)) where
   dig-all (suc n) zero h = refl
   dig-all (suc n) (suc j) h = dig-all n j (omega arith)
 
-  pub start-all : (st : List Status) (none : List Bool) → count none ≡ 0 → Remains masks (allSweeps st) st (replicate (length masks) true) none
+  pub start-all : (st : List Status) (none : List Bool) → count none ≡ 0
+      → Remains masks (allSweeps st) st (replicate (length masks) true) none
   start-all st none z =
-      start st (replicate (length masks) true) none (omega (arith, length-replicate (length masks) true)) z (λ j h e. never (sym (dig-all (length masks) j h) ∙ e))
+      start st (replicate (length masks) true) none (omega (arith, length-replicate (length masks) true)) z
+      (λ j h e. never (sym (dig-all (length masks) j h) ∙ e))
 
   pub start-chosen : (st s : List Status) → allSweeps st ≡ Stands s → (k : ℕ) (v : Status) (none : List Bool) → count none ≡ 0
       → Remains masks (allSweeps (set s k v)) (set s k v) (edgesWith masks k) none
@@ -158,7 +174,8 @@ module _ (masks : List (List Bool)) where
     -- nothing is marked: the end
     pub finish : count ahead ≡ 0 → count later ≡ 0 → o ≡ Stands st
     finish a l =
-        let s : (j : ℕ) → j < length masks → Settled (getD masks j []) st = λ j h. i .settled j h (dig-none ahead a j) (dig-none later l j) in
+        let s : (j : ℕ) → j < length masks
+        → Settled (getD masks j []) st = λ j h. i .settled j h (dig-none ahead a j) (dig-none later l j) in
         sym (i .left) ∙ skip-all st (i .edge) (i .within) (λ j h k. s j k) ∙ stable-still st (sweep-settled masks st s)
 
     -- nothing is ahead: the next sweep
@@ -190,7 +207,8 @@ module _ (masks : List (List Bool)) where
       to-here =
           let b = i .on here (first-in ahead n) in
           skip-to st (i .edge) here (b .0) (omega (arith, here-lt))
-          (λ j h k. i .settled j (omega (arith, here-lt)) (first-low ahead j k) (Truth.never-true (dig later j) (λ e. omega (arith, i .off j e))))
+          (λ j h k. i .settled j (omega (arith, here-lt)) (first-low ahead j k)
+          (Truth.never-true (dig later j) (λ e. omega (arith, i .off j e))))
 
       passes : o ≡ cond (contradicts mask st) Broken (afterwards masks (drop (here + 1) masks) (settle mask st))
       passes = sym (i .left) ∙ to-here ∙ one-edge st here here-lt
@@ -200,8 +218,10 @@ module _ (masks : List (List Bool)) where
 
       module _ (c : contradicts mask st ≡ false) where
         -- with any marks that leave out settled edges only
-        pub pass : (a l : List Bool) → ((j : ℕ) → dig a j ≡ true → (here < j) × (j < length masks)) → ((j : ℕ) → dig l j ≡ true → j ≤ here)
-            → ((j : ℕ) → j < length masks → dig a j ≡ false → dig l j ≡ false → Settled (getD masks j []) (settle mask st)) → Remains masks o (settle mask st) a l
+        pub pass : (a l : List Bool) → ((j : ℕ) → dig a j ≡ true → (here < j) × (j < length masks))
+            → ((j : ℕ) → dig l j ≡ true → j ≤ here)
+            → ((j : ℕ) → j < length masks → dig a j ≡ false → dig l j ≡ false → Settled (getD masks j []) (settle mask st))
+            → Remains masks o (settle mask st) a l
         pass a l p q s = record {
           edge = here + 1;
           within = omega (arith, here-lt);
@@ -220,7 +240,8 @@ module _ (masks : List (List Bool)) where
             pass (after ahead) later (λ j e. let w = after-in ahead j e in (w .0, i .on j (w .1) .1)) off-here
             (λ j h e f. go j h e f (ℕ-discrete j here))
           where
-            go : (j : ℕ) → j < length masks → dig (after ahead) j ≡ false → dig later j ≡ false → Dec (j ≡ here) → Settled (getD masks j []) (settle mask st)
+            go : (j : ℕ) → j < length masks → dig (after ahead) j ≡ false → dig later j ≡ false → Dec (j ≡ here)
+                → Settled (getD masks j []) (settle mask st)
             go j h e f (yes p) = subst (λ (x : ℕ). Settled (getD masks x []) (settle mask st)) (sym p) (settled-none mask st c z)
             go j h e f (no p) = subst (Settled (getD masks j [])) (sym (settle-none mask st z)) (i .settled j h (after-out ahead j e p) f)
 
@@ -228,16 +249,21 @@ module _ (masks : List (List Bool)) where
         t = touched masks (decidedOn mask st)
 
         -- those decided mark their edges
-        pub pass-decided : Remains masks o (settle mask st) (nextAhead masks (decidedOn mask st) ahead) (nextLater masks (decidedOn mask st) ahead later)
+        pub pass-decided : Remains masks o (settle mask st) (nextAhead masks (decidedOn mask st) ahead)
+            (nextLater masks (decidedOn mask st) ahead later)
         unfolding nextAhead nextLater
         pass-decided =
             pass (either (after ahead) (less t (passed ahead))) (either later (both t (passed ahead)))
-            (λ j e. on j (or-cases (dig (after ahead) j) (dig (less t (passed ahead)) j) (sym (dig-either (after ahead) (less t (passed ahead)) j) ∙ e)))
+            (λ j e. on j
+            (or-cases (dig (after ahead) j) (dig (less t (passed ahead)) j) (sym (dig-either (after ahead) (less t (passed ahead)) j)
+            ∙ e)))
             (λ j e. off j (or-cases (dig later j) (dig (both t (passed ahead)) j) (sym (dig-either later (both t (passed ahead)) j) ∙ e)))
             (λ j h e f.
-            let p = or-none (dig (after ahead) j) (dig (less t (passed ahead)) j) (sym (dig-either (after ahead) (less t (passed ahead)) j) ∙ e) in
+            let p = or-none (dig (after ahead) j) (dig (less t (passed ahead)) j)
+            (sym (dig-either (after ahead) (less t (passed ahead)) j) ∙ e) in
             let q = or-none (dig later j) (dig (both t (passed ahead)) j) (sym (dig-either later (both t (passed ahead)) j) ∙ f) in
-            let m : dig t j ≡ false = neither (dig t j) (dig (passed ahead) j) (sym (dig-less t (passed ahead) j) ∙ p .1) (sym (dig-both t (passed ahead) j) ∙ q .1) in
+            let m : dig t j ≡ false = neither (dig t j) (dig (passed ahead) j) (sym (dig-less t (passed ahead) j) ∙ p .1)
+            (sym (dig-both t (passed ahead) j) ∙ q .1) in
             go j h (p .0) (q .0) (sym (dig-touched masks (decidedOn mask st) j) ∙ m) (ℕ-discrete j here))
           where
             neither : (a b : Bool) → (a && not b) ≡ false → (a && b) ≡ false → a ≡ false
@@ -253,14 +279,18 @@ module _ (masks : List (List Bool)) where
             on j (inl e) = let w = after-in ahead j e in (w .0, i .on j (w .1) .1)
             on j (inr e) =
                 let e′ : (dig t j && not (dig (passed ahead) j)) ≡ true = sym (dig-less t (passed ahead) j) ∙ e in
-                let l = dig-lt t j (and-left (dig t j) (not (dig (passed ahead) j)) e′) in
-                (passed-out ahead j n (not-true (dig (passed ahead) j) (and-right (dig t j) (not (dig (passed ahead) j)) e′)), omega (arith, length-touched masks (decidedOn mask st)))
+                let l = dig-lt t j (and-left (dig t j) (not (dig (passed ahead) j)) e′) in (
+                  passed-out ahead j n (not-true (dig (passed ahead) j) (and-right (dig t j) (not (dig (passed ahead) j)) e′)),
+                  omega
+                      (arith, length-touched masks (decidedOn mask st)),
+                )
 
             off : (j : ℕ) → (dig later j ≡ true) ⊎ (dig (both t (passed ahead)) j ≡ true) → j ≤ here
             off j (inl e) = off-here j e
             off j (inr e) = passed-in ahead j (and-right (dig t j) (dig (passed ahead) j) (sym (dig-both t (passed ahead) j) ∙ e))
 
-            go : (j : ℕ) → j < length masks → dig (after ahead) j ≡ false → dig later j ≡ false → meets (getD masks j []) (decidedOn mask st) ≡ false → Dec (j ≡ here)
+            go : (j : ℕ) → j < length masks → dig (after ahead) j ≡ false → dig later j ≡ false
+                → meets (getD masks j []) (decidedOn mask st) ≡ false → Dec (j ≡ here)
                 → Settled (getD masks j []) (settle mask st)
             go j h e f m (yes p) =
                 subst (λ (x : ℕ). Settled (getD masks x []) (settle mask st)) (sym p)

@@ -21,10 +21,14 @@ use Rattle.fast_sweeps.proofs.Work.{ahead-none, later-none}
 
 module _ (p q : ℕ) {x y : ℕ} (hx : x < 2) (hy : y < 2) where
   and-digits : bitAnd (p * 2 + x) (q * 2 + y) ≡ bitAnd p q * 2 + min x y
-  and-digits = and-step (p * 2 + x) (q * 2 + y) ∙ ap₂ (λ (u v : ℕ). u * 2 + v) (ap₂ bitAnd (digits-div p hx) (digits-div q hy)) (ap₂ min (digits-mod p hx) (digits-mod q hy))
+  and-digits =
+      and-step (p * 2 + x) (q * 2 + y) ∙ ap₂ (λ (u v : ℕ). u * 2 + v) (ap₂ bitAnd (digits-div p hx) (digits-div q hy))
+      (ap₂ min (digits-mod p hx) (digits-mod q hy))
 
   xor-digits : bitXor (p * 2 + x) (q * 2 + y) ≡ bitXor p q * 2 + differ x y
-  xor-digits = xor-step (p * 2 + x) (q * 2 + y) ∙ ap₂ (λ (u v : ℕ). u * 2 + v) (ap₂ bitXor (digits-div p hx) (digits-div q hy)) (ap₂ differ (digits-mod p hx) (digits-mod q hy))
+  xor-digits =
+      xor-step (p * 2 + x) (q * 2 + y) ∙ ap₂ (λ (u v : ℕ). u * 2 + v) (ap₂ bitXor (digits-div p hx) (digits-div q hy))
+      (ap₂ differ (digits-mod p hx) (digits-mod q hy))
 
 low : 0 < 2
 low = omega arith
@@ -82,7 +86,8 @@ passed-word (true ∷ a) h =
     ap (λ (u : ℕ). bitXor u (word a * 2 + 1)) e ∙ xor-digits (word a) (word a) low high ∙ ap (λ (u : ℕ). u * 2 + 1) (xor-self (word a))
 passed-word (false ∷ a) h =
     let e : (word a * 2 + 0) - 1 ≡ (word a - 1) * 2 + 1 = omega arith in
-    ap (λ (u : ℕ). bitXor u (word a * 2 + 0)) e ∙ xor-digits (word a - 1) (word a) high low ∙ ap (λ (u : ℕ). u * 2 + 1) (passed-word a (omega arith))
+    ap (λ (u : ℕ). bitXor u (word a * 2 + 0)) e ∙ xor-digits (word a - 1) (word a) high low
+    ∙ ap (λ (u : ℕ). u * 2 + 1) (passed-word a (omega arith))
 
 -- a & !(a - 1), at a width k
 less-self : (a : List Bool) → word (less a a) ≡ 0
@@ -98,17 +103,21 @@ word-fits zero (x ∷ a) h = absurd (omega arith)
 word-fits (suc k) (true ∷ a) h = omega (arith, word-fits k a (le-of-suc-le-suc h), pow-suc 2 k)
 word-fits (suc k) (false ∷ a) h = omega (arith, word-fits k a (le-of-suc-le-suc h), pow-suc 2 k)
 
-pub lowest-word : (k : ℕ) (a : List Bool) → length a ≤ k → 0 < word a → bitAnd (word a) ((2 ^ k - 1) - (word a - 1)) ≡ word (only (first a))
+pub lowest-word : (k : ℕ) (a : List Bool) → length a ≤ k → 0 < word a
+    → bitAnd (word a) ((2 ^ k - 1) - (word a - 1)) ≡ word (only (first a))
 unfolding word only first
 lowest-word k [] l h = absurd (omega arith)
 lowest-word zero (x ∷ a) l h = absurd (omega arith)
 lowest-word (suc k) (true ∷ a) l h =
-    let e : (2 ^ suc k - 1) - ((word a * 2 + 1) - 1) ≡ ((2 ^ k - 1) - word a) * 2 + 1 = omega (arith, pow-suc 2 k, word-fits k a (le-of-suc-le-suc l)) in
+    let e : (2 ^ suc k - 1) - ((word a * 2 + 1) - 1) ≡ ((2 ^ k - 1) - word a) * 2 + 1 = omega
+    (arith, pow-suc 2 k, word-fits k a (le-of-suc-le-suc l)) in
     ap (bitAnd (word a * 2 + 1)) e ∙ and-digits (word a) ((2 ^ k - 1) - word a) high high
     ∙ ap (λ (u : ℕ). u * 2 + 1) (less-word k a a (le-of-suc-le-suc l) (le-of-suc-le-suc l) ∙ less-self a)
 lowest-word (suc k) (false ∷ a) l h =
-    let e : (2 ^ suc k - 1) - ((word a * 2 + 0) - 1) ≡ ((2 ^ k - 1) - (word a - 1)) * 2 + 0 = omega (arith, pow-suc 2 k, word-fits k a (le-of-suc-le-suc l)) in
-    ap (bitAnd (word a * 2 + 0)) e ∙ and-digits (word a) ((2 ^ k - 1) - (word a - 1)) low low ∙ ap (λ (u : ℕ). u * 2 + 0) (lowest-word k a (le-of-suc-le-suc l) (omega arith))
+    let e : (2 ^ suc k - 1) - ((word a * 2 + 0) - 1) ≡ ((2 ^ k - 1) - (word a - 1)) * 2 + 0 = omega
+    (arith, pow-suc 2 k, word-fits k a (le-of-suc-le-suc l)) in
+    ap (bitAnd (word a * 2 + 0)) e ∙ and-digits (word a) ((2 ^ k - 1) - (word a - 1)) low low
+    ∙ ap (λ (u : ℕ). u * 2 + 0) (lowest-word k a (le-of-suc-le-suc l) (omega arith))
 
 -- ---- a candidate given a status
 or-true : (b : Bool) → true ≡ b || true
@@ -119,7 +128,8 @@ pub takens-set-taken : (st : List Status) (k : ℕ) → k < length st → takens
 unfolding either only
 takens-set-taken [] k h = absurd (omega arith)
 takens-set-taken (s ∷ st) zero h = ap₂ (λ (x : Bool) (y : List Bool). x ∷ y) (or-true (isTaken s)) (sym (nil-either (takens st)))
-takens-set-taken (s ∷ st) (suc k) h = ap₂ (λ (x : Bool) (y : List Bool). x ∷ y) (sym (or-false (isTaken s))) (takens-set-taken st k (omega arith))
+takens-set-taken (s ∷ st) (suc k) h =
+    ap₂ (λ (x : Bool) (y : List Bool). x ∷ y) (sym (or-false (isTaken s))) (takens-set-taken st k (omega arith))
 
 pub takens-set-rejected : (st : List Status) (k : ℕ) → dig (opens st) k ≡ true → takens (set st k Rejected) ≡ takens st
 takens-set-rejected [] k e = refl

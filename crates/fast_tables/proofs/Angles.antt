@@ -34,7 +34,9 @@ flat-above n p = ap above (vring (vec n ∷ vec p ∷ []) (dets (v 0) (v 1) (v 1
 -- along the side to the corner after, and to the one before
 pub angle-after : (n a u b : Point) → inAngle n a u b (minus b u) ≡ false
 unfolding inAngle angleHolds
-angle-after n a u b = ap (λ (x : Bool). angleHolds (above (det n (minus b u) (minus a u))) x (above (det n (minus b u) (minus a u)))) (flat-above n (minus b u)) ∙ none (above (det n (minus b u) (minus a u)))
+angle-after n a u b =
+    ap (λ (x : Bool). angleHolds (above (det n (minus b u) (minus a u))) x (above (det n (minus b u) (minus a u))))
+    (flat-above n (minus b u)) ∙ none (above (det n (minus b u) (minus a u)))
   where
     none : (x : Bool) → angleHolds x false x ≡ false
     none true = refl
@@ -42,7 +44,9 @@ angle-after n a u b = ap (λ (x : Bool). angleHolds (above (det n (minus b u) (m
 
 pub angle-before : (n a u b : Point) → inAngle n a u b (minus a u) ≡ false
 unfolding inAngle angleHolds
-angle-before n a u b = ap (λ (x : Bool). angleHolds (above (det n (minus b u) (minus a u))) (above (det n (minus b u) (minus a u))) x) (flat-above n (minus a u)) ∙ none (above (det n (minus b u) (minus a u)))
+angle-before n a u b =
+    ap (λ (x : Bool). angleHolds (above (det n (minus b u) (minus a u))) (above (det n (minus b u) (minus a u))) x)
+    (flat-above n (minus a u)) ∙ none (above (det n (minus b u) (minus a u)))
   where
     none : (x : Bool) → angleHolds x x false ≡ false
     none true = refl
@@ -54,29 +58,37 @@ module _ (d : Wire) (apart : Apart d) (l : Loop) (path : Path d l) where
 
   -- a corner of the loop where a direction points inside the angle
   turning : (n u w : Point) → anyTrue (sides (turnsAt n u w) (sides to (map (at d) l))) ≡ true
-      → (k : ℕ) × (k < length l) × (turnsAt n u w (to (at d (around l k 0)) (at d (around l (k + 1) 0))) (to (at d (around l (k + 1) 0)) (at d (around l (k + 1 + 1) 0))) ≡ true)
+      → (k : ℕ) × (k < length l)
+      × (turnsAt n u w (to (at d (around l k 0)) (at d (around l (k + 1) 0)))
+      (to (at d (around l (k + 1) 0)) (at d (around l (k + 1 + 1) 0))) ≡ true)
   turning n u w e =
-      let r = side-yes (to origin origin) (turnsAt n u w) (sides bound l) (sym (ap (λ (s : List Side). anyTrue (sides (turnsAt n u w) s)) (sides-map to (at d) l)) ∙ e) in
+      let r = side-yes (to origin origin) (turnsAt n u w) (sides bound l)
+      (sym (ap (λ (s : List Side). anyTrue (sides (turnsAt n u w) s)) (sides-map to (at d) l)) ∙ e) in
       let h : r .0 < length l = omega (arith, r .1, sides-length bound l) in
       (r .0, h, bounds (r .0) h (r .2))
     where
       bound : ℕ → ℕ → Side
       bound a b = to (at d a) (at d b)
 
-      bounds : (j : ℕ) → j < length l → turnsAt n u w (around (sides bound l) j (to origin origin)) (around (sides bound l) (j + 1) (to origin origin)) ≡ true
+      bounds : (j : ℕ) → j < length l
+          → turnsAt n u w (around (sides bound l) j (to origin origin)) (around (sides bound l) (j + 1) (to origin origin)) ≡ true
           → turnsAt n u w (bound (around l j 0) (around l (j + 1) 0)) (bound (around l (j + 1) 0) (around l (j + 1 + 1) 0)) ≡ true
       bounds j h t =
-          let f : around (sides bound l) j (to origin origin) ≡ bound (around l j 0) (around l (j + 1) 0) = sides-around bound l j (to origin origin) 0 two (omega (arith, h)) in
-          let g : around (sides bound l) (j + 1) (to origin origin) ≡ bound (around l (j + 1) 0) (around l (j + 1 + 1) 0) = sides-around bound l (j + 1) (to origin origin) 0 two (omega (arith, h)) in
+          let f : around (sides bound l) j (to origin origin) ≡ bound (around l j 0) (around l (j + 1) 0) = sides-around bound l j
+          (to origin origin) 0 two (omega (arith, h)) in
+          let g : around (sides bound l) (j + 1) (to origin origin) ≡ bound (around l (j + 1) 0) (around l (j + 1 + 1) 0) = sides-around
+          bound l (j + 1) (to origin origin) 0 two (omega (arith, h)) in
           (λ i. turnsAt n u w (sym f i) (sym g i)) ∙ t
 
   around-below : (k : ℕ) → k < length l + length l → around l k 0 < length (d .vertices)
   unfolding around
   around-below m h = path .below (wrap (length l) m) (wrap-below (length l) m h)
 
-  pub around-differ : (j k : ℕ) → j < length l + length l → k < length l + length l → around l j 0 ≡ around l k 0 → wrap (length l) j ≡ wrap (length l) k
+  pub around-differ : (j k : ℕ) → j < length l + length l → k < length l + length l → around l j 0 ≡ around l k 0
+      → wrap (length l) j ≡ wrap (length l) k
   unfolding around
-  around-differ j m hj hm e = path .differ (wrap (length l) j) (wrap (length l) m) (wrap-below (length l) j hj) (wrap-below (length l) m hm) e
+  around-differ j m hj hm e =
+      path .differ (wrap (length l) j) (wrap (length l) m) (wrap-below (length l) j hj) (wrap-below (length l) m hm) e
 
   around-same : (j k : ℕ) → wrap (length l) j ≡ wrap (length l) k → around l j 0 ≡ around l k 0
   unfolding around
@@ -90,7 +102,9 @@ module _ (d : Wire) (apart : Apart d) (l : Loop) (path : Path d l) where
       n : Point
       n = normal (polygon d l)
 
-      answers : (k : ℕ) × (k < length l) × ((samePoint (at d (around l (k + 1) 0)) (at d x) && inAngle n (at d (around l k 0)) (at d (around l (k + 1) 0)) (at d (around l (k + 1 + 1) 0)) (minus (at d y) (at d x))) ≡ true)
+      answers : (k : ℕ) × (k < length l)
+          × ((samePoint (at d (around l (k + 1) 0)) (at d x) && inAngle n (at d (around l k 0)) (at d (around l (k + 1) 0))
+          (at d (around l (k + 1 + 1) 0)) (minus (at d y) (at d x))) ≡ true)
       answers = turning n (at d x) (minus (at d y) (at d x)) e
 
       j : ℕ
@@ -110,7 +124,8 @@ module _ (d : Wire) (apart : Apart d) (l : Loop) (path : Path d l) where
 
       here : p ≡ x
       here = apart p x (around-below (j + 1) (let h = hj in omega (arith, h))) hx
-          (same-yes (at d p) (at d x) (and-left (samePoint (at d p) (at d x)) (inAngle n (at d a) (at d p) (at d b) (minus (at d y) (at d x))) (answers .2)))
+          (same-yes (at d p) (at d x)
+          (and-left (samePoint (at d p) (at d x)) (inAngle n (at d a) (at d p) (at d b) (minus (at d y) (at d x))) (answers .2)))
 
       inside : inAngle n (at d a) (at d p) (at d b) (minus (at d y) (at d p)) ≡ true
       inside = ap (λ (z : ℕ). inAngle n (at d a) (at d p) (at d b) (minus (at d y) (at d z))) here
@@ -121,13 +136,18 @@ module _ (d : Wire) (apart : Apart d) (l : Loop) (path : Path d l) where
           let r = runs-yes x y l t in
           let h = hj in
           let s = r .1 in
-          let w : wrap (length l) (r .0) ≡ wrap (length l) (j + 1) = around-differ (r .0) (j + 1) (omega (arith, s)) (omega (arith, h)) (r .2 ∙ sym here) in
-          let q : y ≡ b = sym (r .3) ∙ around-same (r .0 + 1) (j + 1 + 1) (wrap-after (length l) (r .0) (j + 1) two s (omega (arith, h)) w) in
-          true≢false (sym inside ∙ ap (λ (z : ℕ). inAngle n (at d a) (at d p) (at d b) (minus (at d z) (at d p))) q ∙ angle-after n (at d a) (at d p) (at d b))
+          let w : wrap (length l) (r .0) ≡ wrap (length l) (j + 1) = around-differ (r .0) (j + 1) (omega (arith, s)) (omega (arith, h))
+          (r .2 ∙ sym here) in
+          let q : y ≡ b = sym (r .3)
+          ∙ around-same (r .0 + 1) (j + 1 + 1) (wrap-after (length l) (r .0) (j + 1) two s (omega (arith, h)) w) in
+          true≢false (sym inside ∙ ap (λ (z : ℕ). inAngle n (at d a) (at d p) (at d b) (minus (at d z) (at d p))) q
+          ∙ angle-after n (at d a) (at d p) (at d b))
       clear (inr t) =
           let r = runs-yes y x l t in
           let h = hj in
           let s = r .1 in
-          let w : wrap (length l) (r .0 + 1) ≡ wrap (length l) (j + 1) = around-differ (r .0 + 1) (j + 1) (omega (arith, s)) (omega (arith, h)) (r .3 ∙ sym here) in
+          let w : wrap (length l) (r .0 + 1) ≡ wrap (length l) (j + 1) = around-differ (r .0 + 1) (j + 1) (omega (arith, s))
+          (omega (arith, h)) (r .3 ∙ sym here) in
           let q : y ≡ a = sym (r .2) ∙ ap (λ (i : ℕ). around l i 0) (wrap-before (length l) (r .0) j s hj w) in
-          true≢false (sym inside ∙ ap (λ (z : ℕ). inAngle n (at d a) (at d p) (at d b) (minus (at d z) (at d p))) q ∙ angle-before n (at d a) (at d p) (at d b))
+          true≢false (sym inside ∙ ap (λ (z : ℕ). inAngle n (at d a) (at d p) (at d b) (minus (at d z) (at d p))) q
+          ∙ angle-before n (at d a) (at d p) (at d b))

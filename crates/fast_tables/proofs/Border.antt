@@ -17,7 +17,8 @@ use Rattle.exact.proofs.Ring.{var, con, _⊕_, _⊖_, _⊗_, ring}
 use Rattle.exact.proofs.Signs.{le-is, lt-or-ge, <ℤ-≤ℤ}
 use Rattle.exact.proofs.Linear.{le-by, le-to}
 use Rattle.paper.specs.Points.{origin, plus}
-use Rattle.paper.specs.Polygon.{Polygon, normal, over, exactly, midpoint, axis, flat, seen, turn, spans, between, touches, crosses, placed, whereFlat, lies}
+use Rattle.paper.specs.Polygon.{Polygon, normal, over, exactly, midpoint, axis, flat, seen, turn, spans, between, touches, crosses}
+use Rattle.paper.specs.Polygon.{placed, whereFlat, lies}
 use Rattle.paper.specs.declared.Point.{Point}
 use Rattle.paper.specs.declared.Flat.{Flat}
 use Rattle.paper.specs.declared.Axis.{Axis}
@@ -54,20 +55,28 @@ spans-middle a b = spans-is (pos 2 *ℤ a) (pos 2 *ℤ b) (a +ℤ b) (go (lt-or-
     high' : (a b : ℤ) → b ≤ℤ a → (a +ℤ b) ≤ℤ (pos 2 *ℤ a)
     high' a b h = let ρ = a ∷ b ∷ [] in le-by ρ (var 0 ⊕ var 1) (con (pos 2) ⊗ var 0) (omega (arith, le-to ρ (var 1) (var 0) h))
 
-    go : (a <ℤ b) ⊎ (b ≤ℤ a) → (((pos 2 *ℤ a) ≤ℤ (a +ℤ b)) × ((a +ℤ b) ≤ℤ (pos 2 *ℤ b))) ⊎ (((pos 2 *ℤ b) ≤ℤ (a +ℤ b)) × ((a +ℤ b) ≤ℤ (pos 2 *ℤ a)))
+    go : (a <ℤ b) ⊎ (b ≤ℤ a) → (((pos 2 *ℤ a) ≤ℤ (a +ℤ b)) × ((a +ℤ b) ≤ℤ (pos 2 *ℤ b)))
+        ⊎ (((pos 2 *ℤ b) ≤ℤ (a +ℤ b)) × ((a +ℤ b) ≤ℤ (pos 2 *ℤ a)))
     go (inl h) = inl (low a b (<ℤ-≤ℤ h), high a b (<ℤ-≤ℤ h))
     go (inr h) = inr (low' a b h, high' a b h)
 
 touch-end : (a b : Flat) → touches a (pos 1) a b ≡ true
 unfolding touches turn between
 touch-end a b =
-    and-both (zero-is (ring (a .u ∷ a .v ∷ b .u ∷ b .v ∷ []) ((var 2 ⊖ var 0) ⊗ (var 1 ⊖ con (pos 1) ⊗ var 1) ⊖ (var 3 ⊖ var 1) ⊗ (var 0 ⊖ con (pos 1) ⊗ var 0)) (con (pos 0)) tt))
+    and-both
+    (zero-is
+    (ring (a .u ∷ a .v ∷ b .u ∷ b .v ∷ [])
+    ((var 2 ⊖ var 0) ⊗ (var 1 ⊖ con (pos 1) ⊗ var 1) ⊖ (var 3 ⊖ var 1) ⊗ (var 0 ⊖ con (pos 1) ⊗ var 0)) (con (pos 0)) tt))
     (and-both (spans-end (a .u) (b .u)) (spans-end (a .v) (b .v)))
 
 touch-middle : (a b : Flat) → touches (flat (a .u +ℤ b .u) (a .v +ℤ b .v)) (pos 2) a b ≡ true
 unfolding touches turn between
 touch-middle a b =
-    and-both (zero-is (ring (a .u ∷ a .v ∷ b .u ∷ b .v ∷ []) ((var 2 ⊖ var 0) ⊗ ((var 1 ⊕ var 3) ⊖ con (pos 2) ⊗ var 1) ⊖ (var 3 ⊖ var 1) ⊗ ((var 0 ⊕ var 2) ⊖ con (pos 2) ⊗ var 0)) (con (pos 0)) tt))
+    and-both
+    (zero-is
+    (ring (a .u ∷ a .v ∷ b .u ∷ b .v ∷ [])
+    ((var 2 ⊖ var 0) ⊗ ((var 1 ⊕ var 3) ⊖ con (pos 2) ⊗ var 1) ⊖ (var 3 ⊖ var 1) ⊗ ((var 0 ⊕ var 2) ⊖ con (pos 2) ⊗ var 0)) (con (pos 0))
+    tt))
     (and-both (spans-middle (a .u) (b .u)) (spans-middle (a .v) (b .v)))
 
 -- ---- in space
@@ -78,12 +87,14 @@ seen-plus AlongY p q = refl
 seen-plus AlongZ p q = refl
 
 module _ (g : Polygon) (k : ℕ) (h : k < length g) where
-  on-side : (m : Point) (d : ℤ) → touches (seen (axis (normal g)) m) d (seen (axis (normal g)) (around g k origin)) (seen (axis (normal g)) (around g (k + 1) origin)) ≡ true → lies (over m d) g ≡ Border
+  on-side : (m : Point) (d : ℤ) → touches (seen (axis (normal g)) m) d (seen (axis (normal g)) (around g k origin))
+      (seen (axis (normal g)) (around g (k + 1) origin)) ≡ true → lies (over m d) g ≡ Border
   unfolding lies whereFlat placed
   on-side m d e =
       let a = axis (normal g) in
       let t : anyTrue (sides (touches (seen a m) d) (map (seen a) g)) ≡ true
-      = ap anyTrue (sides-map (touches (seen a m) d) (seen a) g) ∙ side-is origin (λ y z. touches (seen a m) d (seen a y) (seen a z)) g k h e in
+      = ap anyTrue (sides-map (touches (seen a m) d) (seen a) g)
+      ∙ side-is origin (λ y z. touches (seen a m) d (seen a y) (seen a z)) g k h e in
       ap (λ (b : Bool). placed b (oddTrue (sides (crosses (seen a m) d) (map (seen a) g)))) t
 
   -- "A corner of g is on its border"
@@ -92,7 +103,8 @@ module _ (g : Polygon) (k : ℕ) (h : k < length g) where
       let a = axis (normal g) in
       let q : around g k origin ≡ p = around-low g k origin h ∙ e in
       on-side p (pos 1)
-      (ap (λ (r : Point). touches (seen a p) (pos 1) (seen a r) (seen a (around g (k + 1) origin))) q ∙ touch-end (seen a p) (seen a (around g (k + 1) origin)))
+      (ap (λ (r : Point). touches (seen a p) (pos 1) (seen a r) (seen a (around g (k + 1) origin))) q
+      ∙ touch-end (seen a p) (seen a (around g (k + 1) origin)))
 
   -- and so is the midpoint of its side
   pub side-border : lies (midpoint (around g k origin) (around g (k + 1) origin)) g ≡ Border
@@ -101,4 +113,5 @@ module _ (g : Polygon) (k : ℕ) (h : k < length g) where
       let a = axis (normal g) in
       let p = around g k origin in
       let q = around g (k + 1) origin in
-      on-side (plus p q) (pos 2) (ap (λ (m : Flat). touches m (pos 2) (seen a p) (seen a q)) (seen-plus a p q) ∙ touch-middle (seen a p) (seen a q))
+      on-side (plus p q) (pos 2) (ap (λ (m : Flat). touches m (pos 2) (seen a p) (seen a q)) (seen-plus a p q)
+      ∙ touch-middle (seen a p) (seen a q))

@@ -61,11 +61,13 @@ module _ (d : Wire) where
         where
           none : (v : ℕ) → dig mask v ≡ true → ⊥
           none v t =
-              let s = and-left (dig (map (λ v. member v k) (upto n)) v) (not (dig (map flat (upto n)) v)) (sym (dig-less (map (λ v. member v k) (upto n)) (map flat (upto n)) v) ∙ t) in
+              let s = and-left (dig (map (λ v. member v k) (upto n)) v) (not (dig (map flat (upto n)) v))
+              (sym (dig-less (map (λ v. member v k) (upto n)) (map flat (upto n)) v) ∙ t) in
               let r = map-yes (λ v. member v k) 0 (upto n) v s in
               let q = r .0 in
               let h : v < n = omega (arith, q, upto-length n) in
-              clear (member v k) (flat v) (ap (λ (w : ℕ). not (member w k) || flat w) (sym (upto-at n v h)) ∙ all-yes (λ v. not (member v k) || flat v) 0 (upto n) e v q) (sym (at-row v h) ∙ t)
+              clear (member v k) (flat v) (ap (λ (w : ℕ). not (member w k) || flat w) (sym (upto-at n v h))
+              ∙ all-yes (λ v. not (member v k) || flat v) 0 (upto n) e v q) (sym (at-row v h) ∙ t)
 
       back : eqb (count mask) 0 ≡ true → all (λ v. not (member v k) || flat v) (upto n) ≡ true
       back e = all-is (λ v. not (member v k) || flat v) 0 (upto n) (λ i h. each i (omega (arith, h, upto-length n)))
@@ -76,7 +78,8 @@ module _ (d : Wire) where
               ∙ given (member i k) (flat i) (λ t. count-none mask (eqb-true (count mask) 0 e) i (at-row i h ∙ t))
 
   -- ---- the edges of a loop as a mask
-  edges-row : (l k : Loop) → any (λ e. has e k && middleOutside d l e) (d .edges) ≡ leaves (length (d .edges)) (λ e. middleOutside d l (edgeAt d e)) (sideMask d k)
+  edges-row : (l k : Loop) → any (λ e. has e k && middleOutside d l e) (d .edges) ≡ leaves (length (d .edges))
+      (λ e. middleOutside d l (edgeAt d e)) (sideMask d k)
   unfolding sideMask edgeAt
   edges-row l k = equal-both forth back
     where
@@ -86,14 +89,16 @@ module _ (d : Wire) where
       here : ℕ → Edge
       here e = getD (d .edges) e (edge 0 0)
 
-      forth : any (λ e. has e k && middleOutside d l e) (d .edges) ≡ true → any (λ e. dig (map (λ e. has e k) (d .edges)) e && middleOutside d l (here e)) (upto m) ≡ true
+      forth : any (λ e. has e k && middleOutside d l e) (d .edges) ≡ true
+          → any (λ e. dig (map (λ e. has e k) (d .edges)) e && middleOutside d l (here e)) (upto m) ≡ true
       forth t =
           let r = any-yes (λ e. has e k && middleOutside d l e) (edge 0 0) (d .edges) t in
           let e = r .0 in
           some-is (λ e. dig (map (λ e. has e k) (d .edges)) e && middleOutside d l (here e)) m e (r .1)
           (ap (λ (b : Bool). b && middleOutside d l (here e)) (map-at (λ e. has e k) (d .edges) e (edge 0 0) false (r .1)) ∙ r .2)
 
-      back : any (λ e. dig (map (λ e. has e k) (d .edges)) e && middleOutside d l (here e)) (upto m) ≡ true → any (λ e. has e k && middleOutside d l e) (d .edges) ≡ true
+      back : any (λ e. dig (map (λ e. has e k) (d .edges)) e && middleOutside d l (here e)) (upto m) ≡ true
+          → any (λ e. has e k && middleOutside d l e) (d .edges) ≡ true
       back t =
           let r = some-yes (λ e. dig (map (λ e. has e k) (d .edges)) e && middleOutside d l (here e)) m t in
           let e = r .0 in
@@ -104,8 +109,10 @@ module _ (d : Wire) where
     pub covers-found : (i : ℕ) → coversOther d ls i ≡ coversByAnswers d ls i
     unfolding coversOther coversByAnswers sideMask edgeAt
     covers-found i =
-        any-below-same (λ j. not (eqb i j) && covers (polygon d l) (polygon d (loopAt ls j))) (length ls) (λ j. fits j && not (leaves m out (masks j))) each
-        ∙ sym (searched-is m out fits masks (λ j e t. map-yes (λ e. has e (loopAt ls j)) (edge 0 0) (d .edges) e t .0) (upto (length ls)) start right)
+        any-below-same (λ j. not (eqb i j) && covers (polygon d l) (polygon d (loopAt ls j))) (length ls)
+        (λ j. fits j && not (leaves m out (masks j))) each
+        ∙ sym (searched-is m out fits masks (λ j e t. map-yes (λ e. has e (loopAt ls j)) (edge 0 0) (d .edges) e t .0) (upto (length ls))
+        start right)
       where
         l : Loop
         l = loopAt ls i
@@ -135,7 +142,8 @@ module _ (d : Wire) where
         assoc true b c = refl
         assoc false b c = refl
 
-        each : (j : ℕ) → j < length ls → (not (eqb i j) && covers (polygon d l) (polygon d (loopAt ls j))) ≡ (fits j && not (leaves m out (masks j)))
+        each : (j : ℕ) → j < length ls
+            → (not (eqb i j) && covers (polygon d l) (polygon d (loopAt ls j))) ≡ (fits j && not (leaves m out (masks j)))
         each j h =
             let k = loopAt ls j in
             let p : covers (polygon d l) (polygon d k) ≡ (levelWith d l k && not (leaves m out (masks j)))
@@ -150,4 +158,7 @@ module _ (d : Wire) where
 
     pub uncovering-found : uncovering d ls ≡ map (loopAt ls) (filter (λ i. not (coversByAnswers d ls i)) (upto (length ls)))
     unfolding uncovering
-    uncovering-found = ap (map (loopAt ls)) (filter-same (λ i. not (coversOther d ls i)) (λ i. not (coversByAnswers d ls i)) (λ i. ap not (covers-found i)) (upto (length ls)))
+    uncovering-found =
+        ap (map (loopAt ls))
+        (filter-same (λ i. not (coversOther d ls i)) (λ i. not (coversByAnswers d ls i)) (λ i. ap not (covers-found i))
+        (upto (length ls)))

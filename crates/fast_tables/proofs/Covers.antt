@@ -27,7 +27,8 @@ use Rattle.fast_tables.proofs.Border.{side-border}
 use Rattle.fast_tables.proofs.Enter.{polygon-length, corner-at}
 
 -- ---- every side passes where none fails
-all-sides : {A B : Type 0} (t : B → Bool) (f : A → A → B) (l : List A) → all (λ m. not (t m)) (sides f l) ≡ not (anyTrue (sides (λ x y. t (f x y)) l))
+all-sides : {A B : Type 0} (t : B → Bool) (f : A → A → B) (l : List A)
+    → all (λ m. not (t m)) (sides f l) ≡ not (anyTrue (sides (λ x y. t (f x y)) l))
 unfolding sides sidesFrom all anyTrue
 all-sides t f [] = refl
 all-sides {A} {B} t f (a ∷ r) = go a r
@@ -48,7 +49,8 @@ module _ (d : Wire) where
   around-at : (l : Loop) (j : ℕ) → j < length l + length l → around (polygon d l) j origin ≡ at d (around l j 0)
   unfolding around
   around-at l j h =
-      ap (λ (n : ℕ). getD (polygon d l) (wrap n j) origin) (polygon-length d l) ∙ corner-at d l (wrap (length l) j) (wrap-below (length l) j h)
+      ap (λ (n : ℕ). getD (polygon d l) (wrap n j) origin) (polygon-length d l)
+      ∙ corner-at d l (wrap (length l) j) (wrap-below (length l) j h)
 
   -- the midpoint of a loop's own side is on its border
   middle-border : (l : Loop) (a b : ℕ) → runs a b l ≡ true → lies (midpoint (at d a) (at d b)) (polygon d l) ≡ Border
@@ -65,7 +67,8 @@ module _ (d : Wire) where
     where
       go : (runs a b l ≡ true) ⊎ (runs b a l ≡ true) → isOutside (lies (midpoint (at d a) (at d b)) (polygon d l)) ≡ false
       go (inl p) = ap isOutside (middle-border l a b p)
-      go (inr p) = ap (λ (m : Ratio). isOutside (lies m (polygon d l))) (middle-turned (at d a) (at d b)) ∙ ap isOutside (middle-border l b a p)
+      go (inr p) =
+          ap (λ (m : Ratio). isOutside (lies m (polygon d l))) (middle-turned (at d a) (at d b)) ∙ ap isOutside (middle-border l b a p)
 
   module _ (l k : Loop) (path : Path d k) where
     pub plane-by : onePlane (polygon d l) (polygon d k) ≡ inPlaneOf d l k
@@ -87,10 +90,12 @@ module _ (d : Wire) where
                     let r = member-yes w k q in
                     let h = r .1 in
                     ap (λ (p : Point). isZero (planeSide (polygon d l) p)) (sym (corner-at d k (r .0) h ∙ ap (at d) (r .2)))
-                    ∙ all-yes (λ p. isZero (planeSide (polygon d l) p)) origin (polygon d k) e (r .0) (omega (arith, h, polygon-length d k))
+                    ∙ all-yes (λ p. isZero (planeSide (polygon d l) p)) origin (polygon d k) e (r .0)
+                    (omega (arith, h, polygon-length d k))
 
         back : all test (upto (length (d .vertices))) ≡ true → all (λ p. isZero (planeSide (polygon d l) p)) (polygon d k) ≡ true
-        back e = all-is (λ p. isZero (planeSide (polygon d l) p)) origin (polygon d k) (λ i h. each i (omega (arith, h, polygon-length d k)))
+        back e =
+            all-is (λ p. isZero (planeSide (polygon d l) p)) origin (polygon d k) (λ i h. each i (omega (arith, h, polygon-length d k)))
           where
             given : (b c : Bool) → (not b || c) ≡ true → b ≡ true → c ≡ true
             given true c t u = t
@@ -102,7 +107,8 @@ module _ (d : Wire) where
                 let n = length (d .vertices) in
                 let b = path .below i h in
                 let t : test w ≡ true = ap test (sym (upto-at n w b)) ∙ all-yes test 0 (upto n) e w (omega (arith, b, upto-length n)) in
-                ap (λ (p : Point). isZero (planeSide (polygon d l) p)) (corner-at d k i h) ∙ given (member w k) (isZero (planeSide (polygon d l) (at d w))) t (member-is w k i h refl)
+                ap (λ (p : Point). isZero (planeSide (polygon d l) p)) (corner-at d k i h)
+                ∙ given (member w k) (isZero (planeSide (polygon d l) (at d w))) t (member-is w k i h refl)
 
     -- some edge of k has its midpoint outside l: its own sides need not be asked
     abbrev out : ℕ → ℕ → Bool
@@ -120,14 +126,19 @@ module _ (d : Wire) where
         go true q = own-middle l e q
 
     -- each of k's edges asked, and each but l's own
-    pub covers-edges : covers (polygon d l) (polygon d k) ≡ (inPlaneOf d l k && not (any (λ e. has e k && middleOutside d l e) (d .edges)))
+    pub covers-edges : covers (polygon d l)
+        (polygon d k) ≡ (inPlaneOf d l k && not (any (λ e. has e k && middleOutside d l e) (d .edges)))
     unfolding covers polygon
     covers-edges =
-        let s : all (λ m. not (isOutside (lies m (polygon d l)))) (sides midpoint (polygon d k)) ≡ not (any (λ e. has e k && middleOutside d l e) (d .edges))
+        let s : all (λ m. not (isOutside (lies m (polygon d l)))) (sides midpoint (polygon d k)) ≡ not
+        (any (λ e. has e k && middleOutside d l e) (d .edges))
         = all-sides (λ m. isOutside (lies m (polygon d l))) midpoint (polygon d k)
         ∙ ap (λ (bs : List Bool). not (anyTrue bs)) (sides-map (λ p q. isOutside (lies (midpoint p q) (polygon d l))) (at d) k)
-        ∙ ap not (sides-edges d k path out (λ a b. ap (λ (m : Ratio). isOutside (lies m (polygon d l))) (middle-turned (at d a) (at d b))))
-        ∙ ap not (any-same (λ e. has e k && ofEdge out e) (λ e. has e k && middleOutside d l e) (d .edges) (edge 0 0) (λ i h. same (getD (d .edges) i (edge 0 0)))) in
+        ∙ ap not
+        (sides-edges d k path out (λ a b. ap (λ (m : Ratio). isOutside (lies m (polygon d l))) (middle-turned (at d a) (at d b))))
+        ∙ ap not
+        (any-same (λ e. has e k && ofEdge out e) (λ e. has e k && middleOutside d l e) (d .edges) (edge 0 0)
+        (λ i h. same (getD (d .edges) i (edge 0 0)))) in
         ap₂ _&&_ plane-by s
 
     pub covers-by : covers (polygon d l) (polygon d k) ≡ coversBy d l k
@@ -135,4 +146,5 @@ module _ (d : Wire) where
     covers-by =
         covers-edges
         ∙ ap (λ (b : Bool). inPlaneOf d l k && not b)
-        (any-same (λ e. has e k && middleOutside d l e) (λ e. has e k && (not (has e l) && middleOutside d l e)) (d .edges) (edge 0 0) (λ i h. spared (getD (d .edges) i (edge 0 0))))
+        (any-same (λ e. has e k && middleOutside d l e) (λ e. has e k && (not (has e l) && middleOutside d l e)) (d .edges) (edge 0 0)
+        (λ i h. spared (getD (d .edges) i (edge 0 0))))

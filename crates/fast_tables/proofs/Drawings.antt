@@ -65,10 +65,12 @@ unfolding joined joins
 joined-turned d u w = any-same (joins u w) (joins w u) (d .edges) (edge 0 0) (λ i h. each (getD (d .edges) i (edge 0 0)))
   where
     each : (e : Edge) → joins u w e ≡ joins w u e
-    each (edge a b) = or-comm (eqb u a && eqb w b) (eqb u b && eqb w a) ∙ (λ i. and-comm (eqb u b) (eqb w a) i || and-comm (eqb u a) (eqb w b) i)
+    each (edge a b) =
+        or-comm (eqb u a && eqb w b) (eqb u b && eqb w a) ∙ (λ i. and-comm (eqb u b) (eqb w a) i || and-comm (eqb u a) (eqb w b) i)
 
 module _ (d : Wire) (l : Loop) (c : Closed (length (d .vertices)) (joined d) (level d) l) where
-  differ-at : (m : List ℕ) → Differ (length (d .vertices)) (joined d) (level d) m → (i j : ℕ) → i < length m → j < length m → getD m i 0 ≡ getD m j 0 → i ≡ j
+  differ-at : (m : List ℕ) → Differ (length (d .vertices)) (joined d) (level d) m → (i j : ℕ) → i < length m → j < length m
+      → getD m i 0 ≡ getD m j 0 → i ≡ j
   differ-at [] f i j hi hj e = absurd (omega arith)
   differ-at (a ∷ m) f zero zero hi hj e = refl
   differ-at (a ∷ m) f zero (suc j) hi hj e = absurd (f .0 (getD m j 0) (of-at m j 0 (omega arith)) (sym e))
@@ -79,7 +81,9 @@ module _ (d : Wire) (l : Loop) (c : Closed (length (d .vertices)) (joined d) (le
   closed-path = record {
     long = closed-long (length (d .vertices)) (joined d) (level d) l c;
     below = (λ i h. below (length (d .vertices)) (joined d) (level d) l (c .way) (getD l i 0) (of-at l i 0 h));
-    along = (λ i h. tied (around l i 0) (around l (i + 1) 0) (closed-tied (length (d .vertices)) (joined d) (level d) l c (around l i 0) (around l (i + 1) 0) (link-at l i h)));
+    along =
+        (λ i h. tied (around l i 0) (around l (i + 1) 0)
+        (closed-tied (length (d .vertices)) (joined d) (level d) l c (around l i 0) (around l (i + 1) 0) (link-at l i h)));
     differ = differ-at l (all-differ (length (d .vertices)) (joined d) (level d) l (c .way));
   }
     where
@@ -90,7 +94,9 @@ module _ (d : Wire) (l : Loop) (c : Closed (length (d .vertices)) (joined d) (le
 -- ---- the loops
 pub loop-closed : (d : Wire) (i : ℕ) → i < length (loops d) → Closed (length (d .vertices)) (joined d) (level d) (loopAt (loops d) i)
 unfolding loops
-loop-closed d i h = ext-closed (length (d .vertices)) (joined d) (level d) mostCorners [] 0 (omega arith) empty (loopAt (loops d) i) (of-at (loops d) i [] h)
+loop-closed d i h =
+    ext-closed (length (d .vertices)) (joined d) (level d) mostCorners [] 0 (omega arith) empty (loopAt (loops d) i)
+    (of-at (loops d) i [] h)
 
 pub loop-path : (d : Wire) (i : ℕ) → i < length (loops d) → Path d (loopAt (loops d) i)
 loop-path d i h = closed-path d (loopAt (loops d) i) (loop-closed d i h)
@@ -104,13 +110,15 @@ unfolding filter from keep
 filter-below p zero j k h = absurd (omega arith)
 filter-below p (suc n) j k h = go (p j) k h (λ m g. filter-below p n (suc j) m g)
   where
-    go : (b : Bool) (k : ℕ) → k < length (keep b j (filter p (from (suc j) n))) → ((m : ℕ) → m < length (filter p (from (suc j) n)) → getD (filter p (from (suc j) n)) m 0 < suc j + n)
+    go : (b : Bool) (k : ℕ) → k < length (keep b j (filter p (from (suc j) n)))
+        → ((m : ℕ) → m < length (filter p (from (suc j) n)) → getD (filter p (from (suc j) n)) m 0 < suc j + n)
         → getD (keep b j (filter p (from (suc j) n))) k 0 < j + suc n
     go false k h ih = let r = ih k h in omega (arith, r)
     go true zero h ih = omega arith
     go true (suc k) h ih = let r = ih k (omega (arith, h)) in omega (arith, r)
 
-pub candidate-of : (d : Wire) (k : ℕ) → k < length (candidates d) → (i : ℕ) × (i < length (loops d)) × (loopAt (loops d) i ≡ loopAt (candidates d) k)
+pub candidate-of : (d : Wire) (k : ℕ) → k < length (candidates d)
+    → (i : ℕ) × (i < length (loops d)) × (loopAt (loops d) i ≡ loopAt (candidates d) k)
 unfolding candidates uncovering upto
 candidate-of d k h =
     let ls = loops d in
@@ -121,7 +129,8 @@ candidate-of d k h =
     (getD ks k 0, omega (arith, b), sym (map-at (loopAt ls) ks k 0 [] s))
 
 -- the candidates of any drawing
-pub candidates-found : (d : Wire) → candidates d ≡ map (loopAt (loops d)) (filter (λ i. not (coversByAnswers d (loops d) i)) (upto (length (loops d))))
+pub candidates-found : (d : Wire)
+    → candidates d ≡ map (loopAt (loops d)) (filter (λ i. not (coversByAnswers d (loops d) i)) (upto (length (loops d))))
 unfolding candidates
 candidates-found d = uncovering-found d (loops d) (loop-path d)
 
@@ -133,5 +142,6 @@ module _ (d : Wire) (r11 : samePlace d ≡ none) (r13 : edgeMeets d ≡ none) wh
   candidate-level k h = let r = candidate-of d k h in subst (Level d) (r .2) (plane-holds d r11 r13 (r .0) (r .1))
 
   -- the clash masks of the drawing's tables
-  pub candidates-clashes : tablesOf d (candidates d) .clashes ≡ map (λ i. map (hits d (candidates d) i) (upto (length (candidates d)))) (upto (length (candidates d)))
+  pub candidates-clashes : tablesOf d (candidates d) .clashes ≡ map (λ i. map (hits d (candidates d) i) (upto (length (candidates d))))
+      (upto (length (candidates d)))
   candidates-clashes = table-clashes d (drawing-apart d r11) (candidates d) (candidate-path d) candidate-level

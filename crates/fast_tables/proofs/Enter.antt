@@ -51,19 +51,26 @@ module _ (d : Wire) where
       test : Point → Bool
       test p = isZero (planeSide (polygon d g) p) && isInside (lies (exactly p) (polygon d g))
 
-      forth : any test (polygon d f) ≡ true → any (λ v. member v f && (not (member v g) && test (at d v))) (upto (length (d .vertices))) ≡ true
+      forth : any test (polygon d f) ≡ true
+          → any (λ v. member v f && (not (member v g) && test (at d v))) (upto (length (d .vertices))) ≡ true
       forth e =
           let r = any-yes test origin (polygon d f) e in
           let h : r .0 < length f = omega (arith, r .1, polygon-length f) in
           let v = getD f (r .0) 0 in
           let t : test (at d v) ≡ true = ap test (sym (corner-at f (r .0) h)) ∙ r .2 in
           some-is (λ v. member v f && (not (member v g) && test (at d v))) (length (d .vertices)) v (path .below (r .0) h)
-          (and-both (member-is v f (r .0) h refl) (and-both (inside-new g v (and-right (isZero (planeSide (polygon d g) (at d v))) (isInside (lies (exactly (at d v)) (polygon d g))) t)) t))
+          (and-both (member-is v f (r .0) h refl)
+          (and-both
+          (inside-new g v (and-right (isZero (planeSide (polygon d g) (at d v))) (isInside (lies (exactly (at d v)) (polygon d g))) t))
+          t))
 
-      back : any (λ v. member v f && (not (member v g) && test (at d v))) (upto (length (d .vertices))) ≡ true → any test (polygon d f) ≡ true
+      back : any (λ v. member v f && (not (member v g) && test (at d v))) (upto (length (d .vertices))) ≡ true
+          → any test (polygon d f) ≡ true
       back e =
           let r = some-yes (λ v. member v f && (not (member v g) && test (at d v))) (length (d .vertices)) e in
           let v = r .0 in
           let s = member-yes v f (and-left (member v f) (not (member v g) && test (at d v)) (r .2)) in
-          let t : test (at d v) ≡ true = and-right (not (member v g)) (test (at d v)) (and-right (member v f) (not (member v g) && test (at d v)) (r .2)) in
-          any-is test origin (polygon d f) (s .0) (omega (arith, s .1, polygon-length f)) (ap test (corner-at f (s .0) (s .1) ∙ ap (at d) (s .2)) ∙ t)
+          let t : test (at d v) ≡ true = and-right (not (member v g)) (test (at d v))
+          (and-right (member v f) (not (member v g) && test (at d v)) (r .2)) in
+          any-is test origin (polygon d f) (s .0) (omega (arith, s .1, polygon-length f))
+          (ap test (corner-at f (s .0) (s .1) ∙ ap (at d) (s .2)) ∙ t)

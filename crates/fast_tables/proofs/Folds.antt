@@ -63,21 +63,26 @@ module _ (d : Wire) (apart : Apart d) (f g : Loop) (pf : Path d f) (pg : Path d 
       let j : s .0 < length f = omega (arith, s .1, polygon-length d f) in
       let y = getD f (s .0) 0 in
       let v = at d y in
-      let b : (isCorner G v && not (samePoint u v) && pointsIn F u v && pointsIn G u v) ≡ true = ap (bends F G u) (sym (corner-at d f (s .0) j)) ∙ s .2 in
+      let b : (isCorner G v && not (samePoint u v) && pointsIn F u v && pointsIn G u v) ≡ true = ap (bends F G u)
+      (sym (corner-at d f (s .0) j)) ∙ s .2 in
       let c = and-left (isCorner G v && not (samePoint u v) && pointsIn F u v) (pointsIn G u v) b in
       let a = and-left (isCorner G v && not (samePoint u v)) (pointsIn F u v) c in
       record {
         x = x;
         y = y;
-        other = λ q. true≢false (sym (same-is (ap (at d) q)) ∙ not-true (samePoint u v) (and-right (isCorner G v) (not (samePoint u v)) a));
+        other =
+            λ q. true≢false (sym (same-is (ap (at d) q)) ∙ not-true (samePoint u v) (and-right (isCorner G v) (not (samePoint u v)) a));
         x-below = pf .below (r .0) i;
         y-below = pf .below (s .0) j;
         x-in-f = member-is x f (r .0) i refl;
         x-in-g = corner-shared x (pf .below (r .0) i) (and-left (isCorner G u) (any (bends F G u) F) t);
         y-in-f = member-is y f (s .0) j refl;
         y-in-g = corner-shared y (pf .below (s .0) j) (and-left (isCorner G v) (not (samePoint u v)) a);
-        no-side-f = points-no-side d apart f pf x y (pf .below (r .0) i) (and-right (isCorner G v && not (samePoint u v)) (pointsIn F u v) c);
-        no-side-g = points-no-side d apart g pg x y (pf .below (r .0) i) (and-right (isCorner G v && not (samePoint u v) && pointsIn F u v) (pointsIn G u v) b);
+        no-side-f =
+            points-no-side d apart f pf x y (pf .below (r .0) i) (and-right (isCorner G v && not (samePoint u v)) (pointsIn F u v) c);
+        no-side-g =
+            points-no-side d apart g pg x y (pf .below (r .0) i)
+            (and-right (isCorner G v && not (samePoint u v) && pointsIn F u v) (pointsIn G u v) b);
       }
 
 -- ---- two corners of a triangle are a side
@@ -99,7 +104,8 @@ next-of-three (suc (suc (suc i))) j a b n = absurd (omega arith)
 
 pub triangle-side : (l : Loop) → length l ≡ 3 → (x y : ℕ) → (x ≡ y → ⊥) → member x l ≡ true → member y l ≡ true → has (edge x y) l ≡ true
 unfolding around
-triangle-side l e x y n mx my = go (next-of-three i j (omega (arith, hi, e)) (omega (arith, hj, e)) (λ q. n (sym (r .2) ∙ ap (λ (k : ℕ). getD l k 0) q ∙ s .2)))
+triangle-side l e x y n mx my =
+    go (next-of-three i j (omega (arith, hi, e)) (omega (arith, hj, e)) (λ q. n (sym (r .2) ∙ ap (λ (k : ℕ). getD l k 0) q ∙ s .2)))
   where
     r : (k : ℕ) × (k < length l) × (getD l k 0 ≡ x)
     r = member-yes x l mx
@@ -120,8 +126,14 @@ triangle-side l e x y n mx my = go (next-of-three i j (omega (arith, hi, e)) (om
     hj = s .1
 
     go : (wrap 3 (i + 1) ≡ j) ⊎ (wrap 3 (j + 1) ≡ i) → has (edge x y) l ≡ true
-    go (inl q) = has-up x y l (runs-is x y l i hi (around-low l i 0 hi ∙ r .2) (ap (λ (m : ℕ). getD l (wrap m (i + 1)) 0) e ∙ ap (λ (k : ℕ). getD l k 0) q ∙ s .2))
-    go (inr q) = has-down x y l (runs-is y x l j hj (around-low l j 0 hj ∙ s .2) (ap (λ (m : ℕ). getD l (wrap m (j + 1)) 0) e ∙ ap (λ (k : ℕ). getD l k 0) q ∙ r .2))
+    go (inl q) =
+        has-up x y l
+        (runs-is x y l i hi (around-low l i 0 hi ∙ r .2) (ap (λ (m : ℕ). getD l (wrap m (i + 1)) 0) e ∙ ap (λ (k : ℕ). getD l k 0) q
+        ∙ s .2))
+    go (inr q) =
+        has-down x y l
+        (runs-is y x l j hj (around-low l j 0 hj ∙ s .2) (ap (λ (m : ℕ). getD l (wrap m (j + 1)) 0) e ∙ ap (λ (k : ℕ). getD l k 0) q
+        ∙ r .2))
 
 -- so a face that is a triangle folds with none
 pub bent-long : (d : Wire) (f g : Loop) → Path d f → Path d g → Bent d f g → (3 < length f) × (3 < length g)

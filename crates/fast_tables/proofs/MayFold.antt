@@ -42,11 +42,14 @@ module _ (d : Wire) (apart : Apart d) where
       let r = runs-yes a b l e in
       let h = r .1 in
       let t = path .long in
-      let w : wrap (length l) (r .0) ≡ wrap (length l) (r .0 + 1) = around-differ d apart l path (r .0) (r .0 + 1) (omega (arith, h)) (omega (arith, h, t)) (r .2 ∙ q ∙ sym (r .3)) in
+      let w : wrap (length l) (r .0) ≡ wrap (length l) (r .0 + 1) = around-differ d apart l path (r .0) (r .0 + 1) (omega (arith, h))
+      (omega (arith, h, t)) (r .2 ∙ q ∙ sym (r .3)) in
       go (r .0) h t w (wrap-cases (length l) (r .0)) (wrap-cases (length l) (r .0 + 1))
     where
-      go : (k : ℕ) → k < length l → 3 ≤ length l → wrap (length l) k ≡ wrap (length l) (k + 1) → ((k < length l) × (wrap (length l) k ≡ k)) ⊎ ((length l ≤ k) × (wrap (length l) k ≡ k - length l))
-          → ((k + 1 < length l) × (wrap (length l) (k + 1) ≡ k + 1)) ⊎ ((length l ≤ k + 1) × (wrap (length l) (k + 1) ≡ k + 1 - length l)) → ⊥
+      go : (k : ℕ) → k < length l → 3 ≤ length l → wrap (length l) k ≡ wrap (length l) (k + 1)
+          → ((k < length l) × (wrap (length l) k ≡ k)) ⊎ ((length l ≤ k) × (wrap (length l) k ≡ k - length l))
+          → ((k + 1 < length l) × (wrap (length l) (k + 1) ≡ k + 1)) ⊎ ((length l ≤ k + 1) × (wrap (length l) (k + 1) ≡ k + 1 - length l))
+          → ⊥
       go k h t w (inl p) (inl s) = omega (arith, w, p .1, s .1)
       go k h t w (inl p) (inr s) = omega (arith, w, p .1, s .0, s .1)
       go k h t w (inr p) s = omega (arith, p .0)
@@ -59,11 +62,13 @@ module _ (d : Wire) (apart : Apart d) where
       go (inr p) = runs-apart l path b a p (sym q)
 
   module _ (f g : Loop) (pf : Path d f) (pg : Path d g) where
-    shared : (v : ℕ) → v < length (d .vertices) → member v f ≡ true → member v g ≡ true → dig (both (cornerMask d f) (cornerMask d g)) v ≡ true
+    shared : (v : ℕ) → v < length (d .vertices) → member v f ≡ true → member v g ≡ true
+        → dig (both (cornerMask d f) (cornerMask d g)) v ≡ true
     unfolding cornerMask
     shared v h p q =
         dig-both (cornerMask d f) (cornerMask d g) v
-        ∙ and-both (made-at (λ v. member v f) (length (d .vertices)) v false h ∙ p) (made-at (λ v. member v g) (length (d .vertices)) v false h ∙ q)
+        ∙ and-both (made-at (λ v. member v f) (length (d .vertices)) v false h ∙ p)
+        (made-at (λ v. member v g) (length (d .vertices)) v false h ∙ q)
 
     -- a common side of two loops that share the corners x and y alone is their side
     common : (b : Bent d f g) → count (both (cornerMask d f) (cornerMask d g)) ≡ 2 → (e : Edge) → has e f ≡ true → has e g ≡ true → ⊥
@@ -78,7 +83,8 @@ module _ (d : Wire) (apart : Apart d) where
 
         third : (v : ℕ) → member v f ≡ true → member v g ≡ true → (v ≡ b .x) ⊎ (v ≡ b .y)
         third v p q =
-            one-of-two (both (cornerMask d f) (cornerMask d g)) c (b .x) (b .y) (shared (b .x) (b .x-below) (b .x-in-f) (b .x-in-g)) (shared (b .y) (b .y-below) (b .y-in-f) (b .y-in-g))
+            one-of-two (both (cornerMask d f) (cornerMask d g)) c (b .x) (b .y) (shared (b .x) (b .x-below) (b .x-in-f) (b .x-in-g))
+            (shared (b .y) (b .y-below) (b .y-in-f) (b .y-in-g))
             (λ e. b .other (sym e)) v (shared v (below-n d f pf v p) p q)
 
         go : (s ≡ b .x) ⊎ (s ≡ b .y) → (t ≡ b .x) ⊎ (t ≡ b .y) → ⊥
@@ -93,10 +99,12 @@ module _ (d : Wire) (apart : Apart d) where
         let n = bent-long d f g pf pg b in
         and-both (and-both (lt-ltb 3 (length f) (n .0)) (lt-ltb 3 (length g) (n .1)))
         (enough (count (both (cornerMask d f) (cornerMask d g))) (count (both (sideMask d f) (sideMask d g)))
-        (count-two (both (cornerMask d f) (cornerMask d g)) (b .x) (b .y) (shared (b .x) (b .x-below) (b .x-in-f) (b .x-in-g)) (shared (b .y) (b .y-below) (b .y-in-f) (b .y-in-g)) (λ e. b .other (sym e)))
+        (count-two (both (cornerMask d f) (cornerMask d g)) (b .x) (b .y) (shared (b .x) (b .x-below) (b .x-in-f) (b .x-in-g))
+        (shared (b .y) (b .y-below) (b .y-in-f) (b .y-in-g)) (λ e. b .other (sym e)))
         (λ c. count-empty (both (sideMask d f) (sideMask d g)) (λ k e. none b c k (sym (dig-both (sideMask d f) (sideMask d g) k) ∙ e))))
       where
-        none : Bent d f g → count (both (cornerMask d f) (cornerMask d g)) ≡ 2 → (k : ℕ) → (dig (sideMask d f) k && dig (sideMask d g) k) ≡ true → ⊥
+        none : Bent d f g → count (both (cornerMask d f) (cornerMask d g)) ≡ 2 → (k : ℕ)
+            → (dig (sideMask d f) k && dig (sideMask d g) k) ≡ true → ⊥
         none b c k e =
             let p = map-yes (λ e. has e f) (edge 0 0) (d .edges) k (and-left (dig (sideMask d f) k) (dig (sideMask d g) k) e) in
             let q = map-yes (λ e. has e g) (edge 0 0) (d .edges) k (and-right (dig (sideMask d f) k) (dig (sideMask d g) k) e) in

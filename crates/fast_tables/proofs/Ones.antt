@@ -31,18 +31,22 @@ module _ (p q : ℕ → Bool) where
       let b : filter p (from (suc j) n) ≡ filter q (from (suc j) n) = filter-from n (suc j) (λ k l. h k (omega (arith, l))) in
       λ i. keep (a i) j (b i)
 
-  module _ (f : ℕ) (pf : p f ≡ true) (qf : q f ≡ false) (pl : (k : ℕ) → k < f → p k ≡ false) (ql : (k : ℕ) → k < f → q k ≡ false) (up : (k : ℕ) → f < k → p k ≡ q k) where
+  module _ (f : ℕ) (pf : p f ≡ true) (qf : q f ≡ false) (pl : (k : ℕ) → k < f → p k ≡ false) (ql : (k : ℕ) → k < f → q k ≡ false)
+      (up : (k : ℕ) → f < k → p k ≡ q k) where
     filter-first : (n j : ℕ) → j ≤ f → f < j + n → filter p (from j n) ≡ f ∷ filter q (from j n)
     unfolding filter from keep
     filter-first zero j a b = absurd (omega arith)
     filter-first (suc n) j a b = go (eq-or-lt-of-le a) (λ l. filter-first n (suc j) l (omega arith))
       where
-        go : (j ≡ f) ⊎ (j < f) → (suc j ≤ f → filter p (from (suc j) n) ≡ f ∷ filter q (from (suc j) n)) → keep (p j) j (filter p (from (suc j) n)) ≡ f ∷ keep (q j) j (filter q (from (suc j) n))
+        go : (j ≡ f) ⊎ (j < f) → (suc j ≤ f → filter p (from (suc j) n) ≡ f ∷ filter q (from (suc j) n))
+            → keep (p j) j (filter p (from (suc j) n)) ≡ f ∷ keep (q j) j (filter q (from (suc j) n))
         go (inl e) ih =
             let r : filter p (from (suc j) n) ≡ filter q (from (suc j) n) = filter-from n (suc j) (λ k l. up k (omega (arith, l, e))) in
             ap (λ (t : Bool). keep t j (filter p (from (suc j) n))) (ap p e ∙ pf) ∙ (λ i. e i ∷ r i)
             ∙ sym (ap (λ (t : Bool). f ∷ keep t j (filter q (from (suc j) n))) (ap q e ∙ qf))
-        go (inr l) ih = ap (λ (t : Bool). keep t j (filter p (from (suc j) n))) (pl j l) ∙ ih l ∙ sym (ap (λ (t : Bool). f ∷ keep t j (filter q (from (suc j) n))) (ql j l))
+        go (inr l) ih =
+            ap (λ (t : Bool). keep t j (filter p (from (suc j) n))) (pl j l) ∙ ih l
+            ∙ sym (ap (λ (t : Bool). f ∷ keep t j (filter q (from (suc j) n))) (ql j l))
 
 module _ (m : ℕ) (a : List Bool) where
   -- none is left
@@ -79,7 +83,11 @@ module _ (m : ℕ) (a : List Bool) where
       low' k l = dig-less a (only f) k ∙ ap (λ (t : Bool). t && not (dig (only f) k)) (low k l)
 
       high : (k : ℕ) → f < k → dig a k ≡ dig b k
-      high k l = sym (dig-less a (only f) k ∙ ap (λ (t : Bool). dig a k && not t) (never-true (dig (only f) k) (λ t. let s = dig-only f k t in omega (arith, s, l))) ∙ and-yes (dig a k))
+      high k l =
+          sym
+          (dig-less a (only f) k
+          ∙ ap (λ (t : Bool). dig a k && not t) (never-true (dig (only f) k) (λ t. let s = dig-only f k t in omega (arith, s, l)))
+          ∙ and-yes (dig a k))
         where
           and-yes : (t : Bool) → (t && true) ≡ t
           and-yes true = refl
@@ -90,12 +98,14 @@ cond-dig : (t : Bool) (r : List Bool) (j : ℕ) → dig (cond t r []) j ≡ (t &
 cond-dig true r j = refl
 cond-dig false r j = refl
 
-pub dig-gathered : (test : ℕ → Bool) (mask : ℕ → List Bool) (xs : List ℕ) (w : List Bool) (j : ℕ) → dig (gathered test mask xs w) j ≡ (dig w j || any (λ x. test x && dig (mask x) j) xs)
+pub dig-gathered : (test : ℕ → Bool) (mask : ℕ → List Bool) (xs : List ℕ) (w : List Bool) (j : ℕ)
+    → dig (gathered test mask xs w) j ≡ (dig w j || any (λ x. test x && dig (mask x) j) xs)
 unfolding gathered any
 dig-gathered test mask [] w j = sym (or-false (dig w j))
 dig-gathered test mask (x ∷ xs) w j =
     dig-gathered test mask xs (either w (cond (test x) (mask x) [])) j
-    ∙ ap (λ (t : Bool). t || any (λ x. test x && dig (mask x) j) xs) (dig-either w (cond (test x) (mask x) []) j ∙ ap (λ (t : Bool). dig w j || t) (cond-dig (test x) (mask x) j))
+    ∙ ap (λ (t : Bool). t || any (λ x. test x && dig (mask x) j) xs) (dig-either w (cond (test x) (mask x) []) j
+    ∙ ap (λ (t : Bool). dig w j || t) (cond-dig (test x) (mask x) j))
     ∙ or-assoc (dig w j) (test x && dig (mask x) j) (any (λ x. test x && dig (mask x) j) xs)
 
 -- some one of a word passes

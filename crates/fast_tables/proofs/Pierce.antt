@@ -25,28 +25,38 @@ use Rattle.fast_tables.proofs.Rounds.{ofEdge, sides-edges}
 
 opposite-turned : (a b : ℤ) → opposite a b ≡ opposite b a
 unfolding opposite
-opposite-turned a b = or-comm (below a && above b) (above a && below b) ∙ (λ i. and-comm (above a) (below b) i || and-comm (below a) (above b) i)
+opposite-turned a b =
+    or-comm (below a && above b) (above a && below b) ∙ (λ i. and-comm (above a) (below b) i || and-comm (below a) (above b) i)
 
 pub pierced-turned : (g : Polygon) (p q : Point) (a b : ℤ) → pierced g p q a b ≡ pierced g q p b a
 unfolding pierced
 pierced-turned g p q a b =
     let m : natAbs a + natAbs b ≡ natAbs b + natAbs a = omega arith in
     let w : plus (times (pos (natAbs b)) p) (times (pos (natAbs a)) q) ≡ plus (times (pos (natAbs a)) q) (times (pos (natAbs b)) p)
-    = vring (num (pos (natAbs b)) ∷ vec p ∷ num (pos (natAbs a)) ∷ vec q ∷ []) ((x 0 *v v 1) +v (x 2 *v v 3)) ((x 2 *v v 3) +v (x 0 *v v 1)) tt in
+    = vring (num (pos (natAbs b)) ∷ vec p ∷ num (pos (natAbs a)) ∷ vec q ∷ []) ((x 0 *v v 1) +v (x 2 *v v 3))
+    ((x 2 *v v 3) +v (x 0 *v v 1)) tt in
     λ i. opposite-turned a b i && isInside (lies (over (w i) (pos (m i))) g)
 
 -- an edge whose ends are not on opposite sides does not pierce
 pub pierced-opposite : (g : Polygon) (p q : Point) (a b : ℤ) → opposite a b ≡ false → pierced g p q a b ≡ false
 unfolding pierced
-pierced-opposite g p q a b e = ap (λ (t : Bool). t && isInside (lies (over (plus (times (pos (natAbs b)) p) (times (pos (natAbs a)) q)) (pos (natAbs a + natAbs b))) g)) e
+pierced-opposite g p q a b e =
+    ap
+    (λ (t : Bool). t && isInside (lies (over (plus (times (pos (natAbs b)) p) (times (pos (natAbs a)) q)) (pos (natAbs a + natAbs b))) g))
+    e
 
 -- one that does goes down, or up
-pub pierced-sides : (g : Polygon) (p q : Point) (a b : ℤ) → pierced g p q a b ≡ true → ((below a ≡ true) × (above b ≡ true)) ⊎ ((above a ≡ true) × (below b ≡ true))
+pub pierced-sides : (g : Polygon) (p q : Point) (a b : ℤ) → pierced g p q a b ≡ true → ((below a ≡ true) × (above b ≡ true))
+    ⊎ ((above a ≡ true) × (below b ≡ true))
 unfolding pierced opposite
 pierced-sides g p q a b e =
-    go (or-cases (below a && above b) (above a && below b) (and-left (opposite a b) (isInside (lies (over (plus (times (pos (natAbs b)) p) (times (pos (natAbs a)) q)) (pos (natAbs a + natAbs b))) g)) e))
+    go
+    (or-cases (below a && above b) (above a && below b)
+    (and-left (opposite a b)
+    (isInside (lies (over (plus (times (pos (natAbs b)) p) (times (pos (natAbs a)) q)) (pos (natAbs a + natAbs b))) g)) e))
   where
-    go : ((below a && above b) ≡ true) ⊎ ((above a && below b) ≡ true) → ((below a ≡ true) × (above b ≡ true)) ⊎ ((above a ≡ true) × (below b ≡ true))
+    go : ((below a && above b) ≡ true) ⊎ ((above a && below b) ≡ true) → ((below a ≡ true) × (above b ≡ true))
+        ⊎ ((above a ≡ true) × (below b ≡ true))
     go (inl h) = inl (and-left (below a) (above b) h, and-right (below a) (above b) h)
     go (inr h) = inr (and-left (above a) (below b) h, and-right (above a) (below b) h)
 
@@ -54,8 +64,10 @@ pub pierces-edges : (d : Wire) (f : Loop) → Path d f → (g : Loop) → pierce
 unfolding pierces piercedBy polygon edgePierces
 pierces-edges d f path g =
     ap anyTrue (sides-map (λ p q. pierced (polygon d g) p q (planeSide (polygon d g) p) (planeSide (polygon d g) q)) (at d) f)
-    ∙ sides-edges d f path test (λ a b. pierced-turned (polygon d g) (at d a) (at d b) (planeSide (polygon d g) (at d a)) (planeSide (polygon d g) (at d b)))
-    ∙ any-same (λ e. has e f && ofEdge test e) (λ e. has e f && edgePierces d g e) (d .edges) (edge 0 0) (λ k h. same (getD (d .edges) k (edge 0 0)))
+    ∙ sides-edges d f path test
+    (λ a b. pierced-turned (polygon d g) (at d a) (at d b) (planeSide (polygon d g) (at d a)) (planeSide (polygon d g) (at d b)))
+    ∙ any-same (λ e. has e f && ofEdge test e) (λ e. has e f && edgePierces d g e) (d .edges) (edge 0 0)
+    (λ k h. same (getD (d .edges) k (edge 0 0)))
   where
     test : ℕ → ℕ → Bool
     test a b = pierced (polygon d g) (at d a) (at d b) (planeSide (polygon d g) (at d a)) (planeSide (polygon d g) (at d b))

@@ -35,7 +35,8 @@ module _ {A : Type 0} (z : A) (q : A → A → Bool) (l : List A) where
       (r .0, h, sym (sides-at q l (r .0) false z h) ∙ r .2)
 
   pub side-is : (k : ℕ) → k < length l → q (around l k z) (around l (k + 1) z) ≡ true → anyTrue (sides q l) ≡ true
-  side-is k h e = any-true (sides q l) ∙ any-is (λ b. b) false (sides q l) k (omega (arith, sides-length q l)) (sides-at q l k false z h ∙ e)
+  side-is k h e =
+      any-true (sides q l) ∙ any-is (λ b. b) false (sides q l) k (omega (arith, sides-length q l)) (sides-at q l k false z h ∙ e)
 
 -- ---- places that wrap
 pub wrap-cases : (n k : ℕ) → ((k < n) × (wrap n k ≡ k)) ⊎ ((n ≤ k) × (wrap n k ≡ k - n))
@@ -149,11 +150,14 @@ unfolding joins
 joins-cases a b (edge x y) j = go (or-cases (eqb a x && eqb b y) (eqb a y && eqb b x) j)
   where
     go : ((eqb a x && eqb b y) ≡ true) ⊎ ((eqb a y && eqb b x) ≡ true) → (edge x y ≡ edge a b) ⊎ (edge x y ≡ edge b a)
-    go (inl u) = inl (λ i. edge (sym (eqb-true a x (and-left (eqb a x) (eqb b y) u)) i) (sym (eqb-true b y (and-right (eqb a x) (eqb b y) u)) i))
-    go (inr u) = inr (λ i. edge (sym (eqb-true b x (and-right (eqb a y) (eqb b x) u)) i) (sym (eqb-true a y (and-left (eqb a y) (eqb b x) u)) i))
+    go (inl u) =
+        inl (λ i. edge (sym (eqb-true a x (and-left (eqb a x) (eqb b y) u)) i) (sym (eqb-true b y (and-right (eqb a x) (eqb b y) u)) i))
+    go (inr u) =
+        inr (λ i. edge (sym (eqb-true b x (and-right (eqb a y) (eqb b x) u)) i) (sym (eqb-true a y (and-left (eqb a y) (eqb b x) u)) i))
 
 -- so a test that is one in both directions says of it what it says of a and b
-pub joins-same : {A : Type 0} (q : Edge → A) → ((x y : ℕ) → q (edge x y) ≡ q (edge y x)) → (a b : ℕ) (e : Edge) → joins a b e ≡ true → q e ≡ q (edge a b)
+pub joins-same : {A : Type 0} (q : Edge → A) → ((x y : ℕ) → q (edge x y) ≡ q (edge y x)) → (a b : ℕ) (e : Edge) → joins a b e ≡ true
+    → q e ≡ q (edge a b)
 joins-same {A} q turn a b e j = go (joins-cases a b e j)
   where
     go : (e ≡ edge a b) ⊎ (e ≡ edge b a) → q e ≡ q (edge a b)
@@ -176,7 +180,8 @@ module _ (d : Wire) (l : Loop) (path : Path d l) (q : ℕ → ℕ → Bool) (tur
           let y = around l (r .0 + 1) 0 in
           let s = any-yes (joins x y) (edge 0 0) (d .edges) (path .along (r .0) (r .1)) in
           any-is (λ e. has e l && ofEdge q e) (edge 0 0) (d .edges) (s .0) (s .1)
-          (joins-same (λ e. has e l && ofEdge q e) (λ a b. ap₂ _&&_ (has-turn a b l) (turn a b)) x y (getD (d .edges) (s .0) (edge 0 0)) (s .2)
+          (joins-same (λ e. has e l && ofEdge q e) (λ a b. ap₂ _&&_ (has-turn a b l) (turn a b)) x y (getD (d .edges) (s .0) (edge 0 0))
+          (s .2)
           ∙ and-both (has-up x y l (runs-is x y l (r .0) (r .1) refl refl)) (r .2))
 
       run : (a b : ℕ) → runs a b l ≡ true → q a b ≡ true → anyTrue (sides q l) ≡ true

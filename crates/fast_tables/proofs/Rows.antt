@@ -32,21 +32,26 @@ module _ (d : Wire) (l : Loop) where
   unfolding onePlane
   own-side level v e =
       let r = member-yes v l e in
-      let t = all-yes (λ p. isZero (planeSide (polygon d l) p)) origin (polygon d l) level (r .0) (omega (arith, r .1, polygon-length d l)) in
-      ap (λ p. planeSide (polygon d l) p) (sym (corner-at d l (r .0) (r .1) ∙ ap (at d) (r .2))) ∙ zero-yes (planeSide (polygon d l) (getD (polygon d l) (r .0) origin)) t
+      let t = all-yes (λ p. isZero (planeSide (polygon d l) p)) origin (polygon d l) level (r .0)
+      (omega (arith, r .1, polygon-length d l)) in
+      ap (λ p. planeSide (polygon d l) p) (sym (corner-at d l (r .0) (r .1) ∙ ap (at d) (r .2)))
+      ∙ zero-yes (planeSide (polygon d l) (getD (polygon d l) (r .0) origin)) t
 
   own-edge : Level d l → (e : Edge) → (has e l && edgePierces d l e) ≡ true → ⊥
   unfolding edgePierces opposite above below
   own-edge level (edge a b) t =
       let g = polygon d l in
       let h = has-ends a b l (and-left (has (edge a b) l) (edgePierces d l (edge a b)) t) in
-      let o : opposite (planeSide g (at d a)) (planeSide g (at d b)) ≡ false = λ i. opposite (own-side level a (h .0) i) (own-side level b (h .1) i) in
-      true≢false (sym (and-right (has (edge a b) l) (edgePierces d l (edge a b)) t) ∙ pierced-opposite g (at d a) (at d b) (planeSide g (at d a)) (planeSide g (at d b)) o)
+      let o : opposite (planeSide g (at d a)) (planeSide g (at d b)) ≡ false = λ i. opposite (own-side level a (h .0) i)
+      (own-side level b (h .1) i) in
+      true≢false (sym (and-right (has (edge a b) l) (edgePierces d l (edge a b)) t)
+      ∙ pierced-opposite g (at d a) (at d b) (planeSide g (at d a)) (planeSide g (at d b)) o)
 
   pub pierced-self : Level d l → piercedBy d l l ≡ false
   unfolding piercedBy
   pierced-self level = never-true (any (λ e. has e l && edgePierces d l e) (d .edges)) (λ t.
-      let r = any-yes (λ e. has e l && edgePierces d l e) (edge 0 0) (d .edges) t in own-edge level (getD (d .edges) (r .0) (edge 0 0)) (r .2))
+      let r = any-yes (λ e. has e l && edgePierces d l e) (edge 0 0) (d .edges) t in
+      own-edge level (getD (d .edges) (r .0) (edge 0 0)) (r .2))
 
   pub entered-self : enteredBy d l l ≡ false
   unfolding enteredBy vertexInside
@@ -54,7 +59,8 @@ module _ (d : Wire) (l : Loop) where
       let r = some-yes (λ v. member v l && vertexInside d l v) (length (d .vertices)) t in
       let v = r .0 in
       let rest = isZero (planeSide (polygon d l) (at d v)) && isInside (lies (exactly (at d v)) (polygon d l)) in
-      true≢false (sym (and-left (member v l) (not (member v l) && rest) (r .2)) ∙ not-true (member v l) (and-left (not (member v l)) rest (and-right (member v l) (not (member v l) && rest) (r .2)))))
+      true≢false (sym (and-left (member v l) (not (member v l) && rest) (r .2))
+      ∙ not-true (member v l) (and-left (not (member v l)) rest (and-right (member v l) (not (member v l) && rest) (r .2)))))
 
 -- ---- two tables with the same entries
 module _ {A : Type 0} (f g : ℕ → A) where
@@ -93,14 +99,17 @@ shuffle-down false false false true w = refl
 shuffle-down false false false false true = refl
 shuffle-down false false false false false = refl
 
-module _ (d : Wire) (apart : Apart d) (cs : List Loop) (path : (i : ℕ) → i < length cs → Path d (loopAt cs i)) (level : (i : ℕ) → i < length cs → Level d (loopAt cs i)) where
+module _ (d : Wire) (apart : Apart d) (cs : List Loop) (path : (i : ℕ) → i < length cs → Path d (loopAt cs i))
+    (level : (i : ℕ) → i < length cs → Level d (loopAt cs i)) where
   face : (i : ℕ) → i < length cs → getD (map (polygon d) cs) i [] ≡ polygon d (loopAt cs i)
   face i h = map-at (polygon d) cs i [] [] h
 
   -- a clash is asked of edges, vertices, and the faces that may fold
   pub clash-by : (i j : ℕ) → i < length cs → j < length cs
       → clash (polygon d (loopAt cs i)) (polygon d (loopAt cs j))
-      ≡ (piercedBy d (loopAt cs j) (loopAt cs i) || piercedBy d (loopAt cs i) (loopAt cs j) || (enteredBy d (loopAt cs j) (loopAt cs i) || enteredBy d (loopAt cs i) (loopAt cs j)) || foldsWith d (loopAt cs i) (loopAt cs j))
+      ≡ (piercedBy d (loopAt cs j) (loopAt cs i) || piercedBy d (loopAt cs i)
+      (loopAt cs j) || (enteredBy d (loopAt cs j) (loopAt cs i) || enteredBy d (loopAt cs i) (loopAt cs j)) || foldsWith d (loopAt cs i)
+      (loopAt cs j))
   unfolding clash
   clash-by i j hi hj =
       let f = loopAt cs i in
@@ -132,14 +141,17 @@ module _ (d : Wire) (apart : Apart d) (cs : List Loop) (path : (i : ℕ) → i <
           λ t. (a t || b t) || (c t || k t) || (false || false)
 
       go : (s : Bool) → ltb i j ≡ s → (t : Bool) → ltb j i ≡ t
-          → ((piercedBy d f g || enteredBy d f g) || (piercedBy d g f || enteredBy d g f) || (s && foldsWith d f g || t && foldsWith d g f))
-          ≡ cond s (clash (getD (map (polygon d) cs) i []) (getD (map (polygon d) cs) j [])) (t && clash (getD (map (polygon d) cs) j []) (getD (map (polygon d) cs) i []))
+          → ((piercedBy d f g || enteredBy d f g) || (piercedBy d g f || enteredBy d g f) || (s && foldsWith d f g || t && foldsWith d g
+          f))
+          ≡ cond s (clash (getD (map (polygon d) cs) i []) (getD (map (polygon d) cs) j []))
+          (t && clash (getD (map (polygon d) cs) j []) (getD (map (polygon d) cs) i []))
       go true p true q = let a = ltb-true i j p in let b = ltb-true j i q in absurd (omega (arith, a, b))
       go true p false q =
           shuffle-up (piercedBy d f g) (enteredBy d f g) (piercedBy d g f) (enteredBy d g f) (foldsWith d f g) ∙ sym (clash-by i j hi hj)
           ∙ (λ k. clash (sym (face i hi) k) (sym (face j hj) k))
       go false p true q =
-          shuffle-down (piercedBy d f g) (enteredBy d f g) (piercedBy d g f) (enteredBy d g f) (foldsWith d g f) ∙ sym (clash-by j i hj hi)
+          shuffle-down (piercedBy d f g) (enteredBy d f g) (piercedBy d g f) (enteredBy d g f) (foldsWith d g f)
+          ∙ sym (clash-by j i hj hi)
           ∙ (λ k. clash (sym (face j hj) k) (sym (face i hi) k))
       go false p false q = let a = ltb-false i j p in let b = ltb-false j i q in no (omega (arith, a, b))
 

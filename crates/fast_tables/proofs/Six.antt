@@ -16,7 +16,8 @@ unfolding fan sum sidesFrom
 six-rest a x [] = sym (vring (vec a ∷ vec x ∷ []) (v 0 · ((v 1 ×v v 0) +v o)) (k (pos 0)) tt)
 six-rest a x (y ∷ ys) =
     ap (λ (z : ℤ). det a x y +ℤ z) (six-rest a y ys)
-    ∙ vring (vec a ∷ vec x ∷ vec y ∷ vec (sum (sidesFrom cross a y ys)) ∷ []) (dets (v 0) (v 1) (v 2) +s v 0 · v 3) (v 0 · ((v 1 ×v v 2) +v v 3)) tt
+    ∙ vring (vec a ∷ vec x ∷ vec y ∷ vec (sum (sidesFrom cross a y ys)) ∷ []) (dets (v 0) (v 1) (v 2) +s v 0 · v 3)
+    (v 0 · ((v 1 ×v v 2) +v v 3)) tt
 
 pub six-is : (g : Polygon) → faceSix g ≡ dot (corner g) (normal g)
 unfolding faceSix fan normal sides sidesFrom corner sum

@@ -58,5 +58,6 @@ levelWith d l k = eqb (count (less (cornerMask d k) (planeMask d l))) 0
 -- loop i covers another
 unfoldable pub coversByAnswers : Wire → List Loop → ℕ → Bool
 coversByAnswers d ls i =
-    searched (length (d .edges)) (λ e. middleOutside d (loopAt ls i) (edgeAt d e)) (λ j. not (eqb i j) && levelWith d (loopAt ls i) (loopAt ls j)) (λ j. sideMask d (loopAt ls j))
+    searched (length (d .edges)) (λ e. middleOutside d (loopAt ls i) (edgeAt d e))
+    (λ j. not (eqb i j) && levelWith d (loopAt ls i) (loopAt ls j)) (λ j. sideMask d (loopAt ls j))
     (upto (length ls)) (record { held = sideMask d (loopAt ls i); outside = [] })

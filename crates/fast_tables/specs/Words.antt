@@ -1,4 +1,5 @@
--- The mask of those that go through a candidate, gathered from the masks of edges and of vertices in the order of a loop over the ones of words. Assumes nothing.
+-- The mask of those that go through a candidate, gathered from the masks of edges and of vertices in the order of a loop over the ones of
+-- words. Assumes nothing.
 use mathlib.Core.Bool.{Bool, cond}
 use mathlib.Core.List.{List, [], _∷_, map}
 use Prim.Native.Nat.{ℕ}
@@ -35,7 +36,8 @@ belowMask d l = map (λ v. below (planeSide (polygon d l) (at d v))) (upto (leng
 -- the candidates on an edge that goes down from a, from one of several, and from any
 unfoldable pub downFrom : Wire → List Loop → Loop → ℕ → List Bool → List Bool
 downFrom d cs l a w =
-    gathered (λ b. edgePierces d l (edge a b)) (λ b. map (has (edge a b)) cs) (ones (length (d .vertices)) (both (nearMask d a) (belowMask d l))) w
+    gathered (λ b. edgePierces d l (edge a b)) (λ b. map (has (edge a b)) cs)
+    (ones (length (d .vertices)) (both (nearMask d a) (belowMask d l))) w
 
 unfoldable pub goingDown : Wire → List Loop → Loop → List ℕ → List Bool → List Bool
 goingDown d cs l [] w = w
@@ -47,7 +49,8 @@ throughMask d cs l = goingDown d cs l (ones (length (d .vertices)) (aboveMask d 
 -- the candidates with a corner that is strictly inside l: of those in l's plane its own are not asked
 unfoldable pub insideMask : Wire → List Loop → Loop → List Bool
 insideMask d cs l =
-    gathered (λ v. isInside (lies (exactly (at d v)) (polygon d l))) (λ v. map (member v) cs) (ones (length (d .vertices)) (less (planeMask d l) (cornerMask d l))) []
+    gathered (λ v. isInside (lies (exactly (at d v)) (polygon d l))) (λ v. map (member v) cs)
+    (ones (length (d .vertices)) (less (planeMask d l) (cornerMask d l))) []
 
 -- of candidate i
 unfoldable pub hitMask : Wire → List Loop → ℕ → List Bool

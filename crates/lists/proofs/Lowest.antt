@@ -15,7 +15,8 @@ module _ (p : ℕ → Bool) where
   find-none zero i e k a b = absurd (omega arith)
   find-none (suc m) i e k a b = here (p i) refl (λ q t. find-none m (suc i) q k t (omega arith))
     where
-      past : p i ≡ false → ((find p (from (suc i) m) ≡ none) → suc i ≤ k → p k ≡ false) → find p (from (suc i) m) ≡ none → (t : Bool) → ltb i k ≡ t → p k ≡ false
+      past : p i ≡ false → ((find p (from (suc i) m) ≡ none) → suc i ≤ k → p k ≡ false) → find p (from (suc i) m) ≡ none → (t : Bool)
+          → ltb i k ≡ t → p k ≡ false
       past f ih q true t = ih q (ltb-true i k t)
       past f ih q false t = let s : i ≡ k = omega (arith, ltb-false i k t) in rw (← s) f
 

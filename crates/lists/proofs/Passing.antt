@@ -88,7 +88,8 @@ module _ {A : Type 0} (p : A → Bool) where
   unfolding all
   all-reverse [] = refl
   all-reverse (x ∷ xs) =
-      ap (all p) (reverse-cons x xs) ∙ all-append (reverse xs) (x ∷ []) ∙ ap (λ (b : Bool). b && (p x && true)) (all-reverse xs) ∙ swap (all p xs) (p x)
+      ap (all p) (reverse-cons x xs) ∙ all-append (reverse xs) (x ∷ []) ∙ ap (λ (b : Bool). b && (p x && true)) (all-reverse xs)
+      ∙ swap (all p xs) (p x)
     where
       swap : (a b : Bool) → (a && (b && true)) ≡ (b && a)
       swap true true = refl

@@ -93,9 +93,12 @@ module _ {A B : Type 0} (f : A → A → B) (g : List A) (k : ℕ) (d : B) (e : 
       go : (k ≡ length g) ⊎ (k < length g) → around (sides f g) k d ≡ f (around g k e) (around g (k + 1) e)
       go (inr p) = around-low (sides f g) k d (omega (arith, sides-length f g)) ∙ sides-at f g k d e p
       go (inl p) =
-          let z : wrap (length (sides f g)) k ≡ 0 = wrap-high (length (sides f g)) k (omega (arith, sides-length f g)) ∙ omega (arith, sides-length f g) in
-          let u : wrap (length g) 0 ≡ wrap (length g) k = wrap-low (length g) 0 (omega arith) ∙ omega (arith, wrap-high (length g) k (omega arith)) in
-          let v : wrap (length g) (0 + 1) ≡ wrap (length g) (k + 1) = wrap-low (length g) 1 (omega arith) ∙ omega (arith, wrap-high (length g) (k + 1) (omega arith)) in
+          let z : wrap (length (sides f g)) k ≡ 0 = wrap-high (length (sides f g)) k (omega (arith, sides-length f g))
+          ∙ omega (arith, sides-length f g) in
+          let u : wrap (length g) 0 ≡ wrap (length g) k = wrap-low (length g) 0 (omega arith)
+          ∙ omega (arith, wrap-high (length g) k (omega arith)) in
+          let v : wrap (length g) (0 + 1) ≡ wrap (length g) (k + 1) = wrap-low (length g) 1 (omega arith)
+          ∙ omega (arith, wrap-high (length g) (k + 1) (omega arith)) in
           ap (λ (j : ℕ). getD (sides f g) j d) z ∙ sides-at f g 0 d e (omega arith)
           ∙ (λ i. f (getD g (u i) e) (getD g (v i) e))
 

@@ -1,6 +1,8 @@
 -- A simple polygon in the flat has an area. Assumes nothing.
--- By induction on the number of corners, of two claims at once: twice the area has the sign of the turn at the lowest corner u; and so has what is left
--- without u, where the triangle of u and its neighbours has no corner inside. At u either that triangle is empty, or a chord from u to a corner in it
+-- By induction on the number of corners, of two claims at once: twice the area has the sign of the turn at the lowest corner u; and so
+-- has what is left
+-- without u, where the triangle of u and its neighbours has no corner inside. At u either that triangle is empty, or a chord from u to a
+-- corner in it
 -- cuts the ring into two smaller ones with the same lowest corner. For the second claim the same is asked at the lowest corner but u.
 pub mod Signs
 pub mod Turns
@@ -39,10 +41,14 @@ module _ (m : ℤ) where
 
   claims : (n : ℕ) → Claims n
   claims zero = record { of-area = (λ u c l b j s low. absurd (omega arith)); of-rest = (λ u c l b j s low e. absurd (omega arith)) }
-  claims (suc n) = let c = claims n in let r = rest-step m n (c .of-area) (c .of-rest) in record { of-area = area-step m n (c .of-area) r; of-rest = r }
+  claims (suc n) =
+      let c = claims n in
+      let r = rest-step m n (c .of-area) (c .of-rest) in
+      record { of-area = area-step m n (c .of-area) r; of-rest = r }
 
   -- of a ring u c l whose lowest corner is u, the area has the sign of the turn at u, and neither is 0
-  pub area-sign : (u c : Flat) (l : List Flat) → 1 ≤ length l → Simple m (u ∷ c ∷ l) → Least m u (c ∷ l) → Same (area (u ∷ c ∷ l)) (turn u c (lst c l))
+  pub area-sign : (u c : Flat) (l : List Flat) → 1 ≤ length l → Simple m (u ∷ c ∷ l) → Least m u (c ∷ l)
+      → Same (area (u ∷ c ∷ l)) (turn u c (lst c l))
   area-sign u c l j s low = claims (length l) .of-area u c l (omega arith) j s low
 
   -- from any start: a simple polygon has an area
@@ -52,7 +58,8 @@ module _ (m : ℤ) where
   area-not-zero (a ∷ (b ∷ [])) j s z = absurd (omega arith)
   area-not-zero (a ∷ (b ∷ (c ∷ r))) j s z = go (lowest m a (b ∷ c ∷ r) (s .apart))
     where
-      from : (X : List Flat) (v : Flat) (Y : List Flat) → 2 ≤ length (X ++ v ∷ Y) → Simple m (a ∷ (X ++ v ∷ Y)) → area (a ∷ (X ++ v ∷ Y)) ≡ pos 0 → Least m v (a ∷ X) → Least m v Y → ⊥
+      from : (X : List Flat) (v : Flat) (Y : List Flat) → 2 ≤ length (X ++ v ∷ Y) → Simple m (a ∷ (X ++ v ∷ Y))
+          → area (a ∷ (X ++ v ∷ Y)) ≡ pos 0 → Least m v (a ∷ X) → Least m v Y → ⊥
       from X v [] j t q lx ly =
           let e = length-append X (v ∷ []) in
           same-ne (area-sign v a X (omega (arith, e)) (turned m a X v [] t) lx) (sym (area-turned a X v []) ∙ q)

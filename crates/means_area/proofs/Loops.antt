@@ -1,4 +1,5 @@
--- The loops of a drawing that passes 11, no two vertices at one point, and 13, no edge shares a point with a vertex or edge other than at its own end vertices: their
+-- The loops of a drawing that passes 11, no two vertices at one point, and 13, no edge shares a point with a vertex or edge other than at
+-- its own end vertices: their
 -- normals are not the origin, so that they have planes, and are seen without loss. Assumes nothing.
 pub mod Paths
 pub mod Edges
@@ -45,7 +46,8 @@ record Good (g : Polygon) : Type 0 where
   flat : Level (normal g) (corner g) g
   simple : Clear g
 
-good : (d : Wire) → samePlace d ≡ none → edgeMeets d ≡ none → (l : Loop) → Closed (length (d .vertices)) (joined d) (level d) l → Good (polygon d l)
+good : (d : Wire) → samePlace d ≡ none → edgeMeets d ≡ none → (l : Loop) → Closed (length (d .vertices)) (joined d) (level d) l
+    → Good (polygon d l)
 unfolding polygon
 good d r11 r13 [] c = let q = long-loop d r11 r13 [] c in absurd (omega (arith, q))
 good d r11 r13 (a ∷ []) c = let q = long-loop d r11 r13 (a ∷ []) c in absurd (omega (arith, q))
@@ -55,10 +57,16 @@ good d r11 r13 (a ∷ (b ∷ r)) c =
     let n = length (d .vertices) in
     let q = long-loop d r11 r13 l c in
     let f = length-map (at d) l in
-    let ne : at d a ≡ at d b → ⊥ = λ s. all-differ n (joined d) (level d) l (c .way) .0 b (inl refl) (sym (one-place d r11 r13 l c a b (inl refl) (inr (inl refl)) s)) in
+    let ne : at d a ≡ at d b
+    → ⊥ = λ s. all-differ n (joined d) (level d) l (c .way) .0 b (inl refl)
+    (sym (one-place d r11 r13 l c a b (inl refl) (inr (inl refl)) s)) in
     let p = in-plane d a b r (plane d l (c .way)) ne in
     let t = clear d r11 r13 l c in
-    record { real = normal-not-zero g (p .0) (at d a) (p .1 .real) (p .1 .flat) t (omega (arith, q, f)); flat = ring-level g (p .0) (at d a) (p .1 .real) (p .1 .flat); simple = t }
+    record {
+      real = normal-not-zero g (p .0) (at d a) (p .1 .real) (p .1 .flat) t (omega (arith, q, f));
+      flat = ring-level g (p .0) (at d a) (p .1 .real) (p .1 .flat);
+      simple = t;
+    }
 
 -- loop i of a drawing that passes 11 and 13
 module _ (d : Wire) (r11 : samePlace d ≡ none) (r13 : edgeMeets d ≡ none) (i : ℕ) (h : i < length (loops d)) where
@@ -66,7 +74,8 @@ module _ (d : Wire) (r11 : samePlace d ≡ none) (r13 : edgeMeets d ≡ none) (i
   unfolding loops
   is-good =
       let n = length (d .vertices) in
-      good d r11 r13 (loopAt (loops d) i) (ext-closed n (joined d) (level d) mostCorners [] 0 (omega arith) empty (loopAt (loops d) i) (of-at (loops d) i [] h))
+      good d r11 r13 (loopAt (loops d) i)
+      (ext-closed n (joined d) (level d) mostCorners [] 0 (omega arith) empty (loopAt (loops d) i) (of-at (loops d) i [] h))
 
   -- its normal is not the origin
   pub normal-real : normal (loopOf d i) ≡ origin → ⊥
@@ -81,12 +90,14 @@ module _ (d : Wire) (r11 : samePlace d ≡ none) (r13 : edgeMeets d ≡ none) (i
   axis-holds = axis-real (normal (loopOf d i)) normal-real
 
   -- along that axis two points of its plane are seen as two
-  pub view-holds : (p q : Point) → planeSide (loopOf d i) p ≡ pos 0 → planeSide (loopOf d i) q ≡ pos 0 → seen (axis (normal (loopOf d i))) p ≡ seen (axis (normal (loopOf d i))) q → p ≡ q
+  pub view-holds : (p q : Point) → planeSide (loopOf d i) p ≡ pos 0 → planeSide (loopOf d i) q ≡ pos 0
+      → seen (axis (normal (loopOf d i))) p ≡ seen (axis (normal (loopOf d i))) q → p ≡ q
   unfolding planeSide
   view-holds p q ep eq s =
       let g = loopOf d i in
       view-one (axis (normal g)) (normal g) p q axis-holds
-      (vring (vec (normal g) ∷ vec p ∷ vec q ∷ vec (corner g) ∷ []) (v 0 · (v 1 -v v 2)) (v 0 · (v 1 -v v 3) -s v 0 · (v 2 -v v 3)) tt ∙ (λ t. ep t -ℤ eq t)) s
+      (vring (vec (normal g) ∷ vec p ∷ vec q ∷ vec (corner g) ∷ []) (v 0 · (v 1 -v v 2)) (v 0 · (v 1 -v v 3) -s v 0 · (v 2 -v v 3)) tt
+      ∙ (λ t. ep t -ℤ eq t)) s
 
   -- it is a simple ring in space, and is seen as one in the flat
   pub ring-clear : Clear (loopOf d i)

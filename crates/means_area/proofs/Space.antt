@@ -1,5 +1,6 @@
 -- A simple ring in a plane of space has a normal, and is seen as a simple ring in the flat. Assumes nothing.
--- Along an axis along which the plane's direction is not 0 the ring is seen as a simple ring in the flat, whose area is the normal's coordinate up to the sign.
+-- Along an axis along which the plane's direction is not 0 the ring is seen as a simple ring in the flat, whose area is the normal's
+-- coordinate up to the sign.
 pub mod Maps
 pub mod Heights
 pub mod View
@@ -34,13 +35,16 @@ module _ (g : List Point) (n s : Point) (a : Axis) (h : through a n ≡ pos 0 �
 
   -- the view of a simple ring in a plane across n, along an axis along which n is not 0, is simple
   pub view-simple : Simple (steepness (map (upright a) g)) (map (seen a) g)
-  view-simple = subst (Simple (steepness r)) (seen-down a g) (down-simple r (upright a n) (upright a s) last (level-upright a n s g level) (clear-upright a g clear))
+  view-simple =
+      subst (Simple (steepness r)) (seen-down a g)
+      (down-simple r (upright a n) (upright a s) last (level-upright a n s g level) (clear-upright a g clear))
 
   -- its normal is not 0 along that axis
   pub normal-through : 3 ≤ length g → through a (normal g) ≡ pos 0 → ⊥
   normal-through j e =
       let q = length-map (upright a) g in
-      third-not-zero r (upright a n) (upright a s) last (level-upright a n s g level) (clear-upright a g clear) (omega (arith, q)) (normal-upright a g e)
+      third-not-zero r (upright a n) (upright a s) last (level-upright a n s g level) (clear-upright a g clear) (omega (arith, q))
+      (normal-upright a g e)
 
 -- the normal of a simple ring in a plane is not the origin
 pub normal-not-zero : (g : List Point) (n s : Point) → (n ≡ origin → ⊥) → Level n s g → Clear g → 3 ≤ length g → normal g ≡ origin → ⊥

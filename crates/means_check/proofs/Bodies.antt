@@ -157,7 +157,8 @@ module _ (d : Wire) (cs : List Loop) (c : Candidates d cs) where
                     (loopAt cs (getD (filter (dig taken) (upto (length cs))) i 0)),
               ))
 
-  pub solid-accepted : (taken turned : List Bool) (six : ℕ) → IsSolid d cs taken turned six → (fs : List Loop) → Names d cs taken turned fs
+  pub solid-accepted : (taken turned : List Bool) (six : ℕ) → IsSolid d cs taken turned six → (fs : List Loop)
+      → Names d cs taken turned fs
       → Fair fs
   solid-accepted taken turned six s fs n =
       names-accepted d cs fs c (record { taken = taken; turned = turned; six = six; solid = s; names = n })
@@ -183,7 +184,8 @@ module _ (d : Wire) (cs : List Loop) (c : Candidates d cs) where
       once = λ i j k hi hj p q. y i j hi hj (same-trans (same-sym p) q);
     }
 
-  pub same-named : (taken turned : List Bool) (fs gs : List Loop) → Names d cs taken turned fs → Names d cs taken turned gs → SameBody fs gs
+  pub same-named : (taken turned : List Bool) (fs gs : List Loop) → Names d cs taken turned fs → Names d cs taken turned gs
+      → SameBody fs gs
   same-named taken turned fs gs n m = (among-named taken turned fs gs n m, among-named taken turned gs fs m n)
 
   -- no face of an accepted list stands twice
@@ -201,7 +203,8 @@ module _ (d : Wire) (cs : List Loop) (c : Candidates d cs) where
 
   -- a solid's masks are told by their digits
   rows-named : (taken turned taken′ turned′ : List Bool) {six six′ : ℕ} → IsSolid d cs taken turned six → IsSolid d cs taken′ turned′ six′
-      → ((k : ℕ) → dig taken k ≡ dig taken′ k) → ((k : ℕ) → dig turned k ≡ dig turned′ k) → (gs : List Loop) → Names d cs taken′ turned′ gs
+      → ((k : ℕ) → dig taken k ≡ dig taken′ k) → ((k : ℕ) → dig turned k ≡ dig turned′ k) → (gs : List Loop)
+      → Names d cs taken′ turned′ gs
       → Names d cs taken turned gs
   rows-named taken turned taken′ turned′ s r a b gs m =
       let e : taken′ ≡ taken = row-same taken′ taken (r .some ∙ sym (s .some)) (λ k. sym (a k)) in
@@ -245,7 +248,8 @@ module _ (d : Wire) (cs : List Loop) (c : Candidates d cs) where
       sym (either-number d cs c j g hj (other-way j g (dig turned j) (same-trans (flip-same p) s)))
       ∙ either-number d cs c k g hk (one-way k g (dig turned′ k) q)
 
-  -- an accepted list whose faces are all of another's, one way or the other, is the same body: so what comes of an accepted list by turning
+  -- an accepted list whose faces are all of another's, one way or the other, is the same body: so what comes of an accepted list by
+  -- turning
   -- or leaving out faces is refused
   pub part-body : (fs gs : List Loop) → Fair fs → Fair gs → AmongEither fs gs → SameBody fs gs
   part-body fs gs a b m =
@@ -287,7 +291,8 @@ module _ (d : Wire) (cs : List Loop) (c : Candidates d cs) where
       let q = n .each (x .0) (x .1) in
       let pl = inside cs (w .taken) (w .solid .some) (p .0) (p .1) in
       let ql = inside cs (w .taken) (w .solid .some) (q .0) (q .1) in
-      let e : p .0 ≡ q .0 = one-number (w .taken) (w .turned) (w .taken) (w .turned) (loopAt fs j) (loopAt gs i) (p .0) (q .0) pl ql (p .2)
+      let e : p .0 ≡ q .0 = one-number (w .taken) (w .turned) (w .taken) (w .turned) (loopAt fs j) (loopAt gs i) (p .0) (q .0) pl ql
+      (p .2)
       (same-trans (q .2) (x .2)) (inr s) in
       -- so face j of fs is the ring of gs i as well as its reverse
       let y : SameRing (directed d cs (w .taken) (w .turned) (p .0)) (loopAt gs i) = subst

@@ -32,7 +32,8 @@ use Rattle.means_check.specs.Path.{EdgeOf, ClosedPath}
 use Rattle.means_check.proofs.Goings.{around-at}
 use Rattle.means_check.proofs.Planes.{dot-comm, in-one-line}
 use Rattle.means_check.proofs.Evenly.{normal-across, corner-at, less-dot, dot-less}
-use Rattle.means_check.proofs.Sums.{sumTo, sum-same, sum-zero, sum-minus, sum-more, sum-list, sum2, sum2-zero, sum2-single, cancels}
+use Rattle.means_check.proofs.Sums.{sumTo, sum-same, sum-zero, sum-minus, sum-more, sum-list, sum2, sum2-zero, sum2-single}
+use Rattle.means_check.proofs.Sums.{cancels}
 
 -- ---- a face's part of six volumes is its normal's product with its first corner
 
@@ -171,7 +172,8 @@ module _ (d : Wire) (cs : List Loop) (taken turned : List Bool) (paths : (k : �
         go true g = (g .at, g .here, sym (g .to), sym (g .from))
         go false g = (g .at, g .here, sym (g .from), sym (g .to))
 
-    one-side : (t i j : ℕ) → t < length cs → i < length (loopAt cs t) → j < length (loopAt cs t) → start t i ≡ start t j → end t i ≡ end t j
+    one-side : (t i j : ℕ) → t < length cs → i < length (loopAt cs t) → j < length (loopAt cs t) → start t i ≡ start t j
+        → end t i ≡ end t j
         → i ≡ j
     one-side t i j ht hi hj p q = go (dig turned t) p q
       where
@@ -241,7 +243,8 @@ module _ (d : Wire) (cs : List Loop) (taken turned : List Bool) (paths : (k : �
 
     abbrev facing : ℕ → Point
     facing k =
-        cond (dig taken k) (cond (dig turned k) (minus origin (normal (polygon d (loopAt cs k)))) (normal (polygon d (loopAt cs k)))) origin
+        cond (dig taken k) (cond (dig turned k) (minus origin (normal (polygon d (loopAt cs k)))) (normal (polygon d (loopAt cs k))))
+        origin
 
     normal-sum : (l : Loop) → normal (polygon d l) ≡ sumTo (length l) (λ i. cross (at d (around l i 0)) (at d (around l (suc i) 0)))
     unfolding normal polygon

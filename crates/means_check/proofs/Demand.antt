@@ -28,7 +28,8 @@ use Rattle.means_check.proofs.Few.{solid-sent}
 use Rattle.means_check.proofs.Listing.{candidates-fit}
 use Rattle.means_check.proofs.Evenly.{candidates-even}
 use Rattle.means_check.proofs.Accepting.{step-none, fine-passes, verdict-accepts, accepts-verdict, names-accepted}
-use Rattle.means_check.proofs.Bodies.{one-body, part-body, turned-refused, missing-refused, doubled-refused, names-again, same-named}
+use Rattle.means_check.proofs.Bodies.{one-body, part-body, turned-refused, missing-refused, doubled-refused, names-again}
+use Rattle.means_check.proofs.Bodies.{same-named}
 use Rattle.means_check.proofs.Bodies.{faceList-names}
 
 -- a drawing that passes 11 has no two vertices at one point, and candidates that fit
@@ -56,7 +57,8 @@ module _ (form : List Check) (d : Wire) where
     told : Accepts form d list
     told = accepts-exactly list .0 a
 
-    fair : firstOf (faceChecks (tablesOf d (candidates d)) (length (candidates d)) (listed (candidates d) (facesIn editionOne list))) ≡ Fine
+    fair : firstOf (faceChecks (tablesOf d (candidates d)) (length (candidates d)) (listed (candidates d) (facesIn editionOne list)))
+        ≡ Fine
     fair = names-accepted d (candidates d) (facesIn editionOne list) fits (told .named)
 
     -- an accepted list, in another order of faces and from other starts, and of a good shape, is accepted
@@ -100,7 +102,8 @@ module _ (form : List Check) (d : Wire) where
           → SameBody (facesIn editionOne list) (facesIn editionOne other)
       part-same m = part-body d (candidates d) fits (facesIn editionOne list) (facesIn editionOne other) fair fair-other m
 
-      pub not-turned : AmongEither (facesIn editionOne list) (facesIn editionOne other) → (i j : ℕ) → i < length (facesIn editionOne other)
+      pub not-turned : AmongEither (facesIn editionOne list) (facesIn editionOne other) → (i j : ℕ)
+          → i < length (facesIn editionOne other)
           → j < length (facesIn editionOne list)
           → SameRing (flipped (loopAt (facesIn editionOne list) j)) (loopAt (facesIn editionOne other) i) → ⊥
       not-turned m i j hi hj s =

@@ -11,7 +11,8 @@ use lib.ListN.{length, length-map}
 use Rattle.lists.proofs.Truth.{or-none}
 use Rattle.pack.specs.Bits.{fieldsAt}
 use Rattle.pack.proofs.Laws.{length-fields}
-use Rattle.paper.specs.Format.{editionOne, leastVertices, leastEdges, outside, verticesIn, edgesIn, coordinatesIn, endsIn, coordinate, head}
+use Rattle.paper.specs.Format.{editionOne, leastVertices, leastEdges, outside, verticesIn, edgesIn, coordinatesIn, endsIn, coordinate}
+use Rattle.paper.specs.Format.{head}
 use Rattle.paper.specs.Format.{coordinateBits}
 use Rattle.paper.specs.Refusals.{firstOf, offends}
 use Rattle.paper.specs.Sheet.{badCount, contentChecks, countChecks, openChecks, closeChecks, shapeChecks, sheetChecks, lentChecks}
@@ -102,7 +103,8 @@ module _ (s : List ℕ) where
   pub sheet-exactly : (list : List ℕ)
       → ((verdictSheet s list ≡ Accepted) → Accepts (sheetChecks editionOne s) (wire (coordinatesIn editionOne s) (endsIn editionOne s))
       list)
-      × (Accepts (sheetChecks editionOne s) (wire (coordinatesIn editionOne s) (endsIn editionOne s)) list → verdictSheet s list ≡ Accepted)
+      × (Accepts (sheetChecks editionOne s) (wire (coordinatesIn editionOne s) (endsIn editionOne s)) list
+      → verdictSheet s list ≡ Accepted)
   unfolding verdictSheet
   sheet-exactly list = accepts-exactly (sheetChecks editionOne s) (wire (coordinatesIn editionOne s) (endsIn editionOne s)) list
 

@@ -75,7 +75,8 @@ dot-less n p q e =
 
 -- ---- two polygons in one plane, whichever is named first
 
-one-plane : (f g : Polygon) → InPlane f → 0 < length f → 0 < length g → (normal f ≡ origin → ⊥) → onePlane f g ≡ true → onePlane g f ≡ true
+one-plane : (f g : Polygon) → InPlane f → 0 < length f → 0 < length g → (normal f ≡ origin → ⊥) → onePlane f g ≡ true
+    → onePlane g f ≡ true
 unfolding onePlane planeSide
 one-plane f g y hf hg n e =
     all-is (λ p. isZero (planeSide g p)) origin f (λ i l.
@@ -130,7 +131,8 @@ unfolding pointsIn
 points-real g u w e z =
     let r = true-yes (sides (turnsAt (normal g) u (minus w u)) (sides to g)) e in
     let l : r .0 < length (sides to g) = omega (arith, r .1, sides-length (turnsAt (normal g) u (minus w u)) (sides to g)) in
-    turns-real (normal g) u (minus w u) (around (sides to g) (r .0) (to origin origin)) (around (sides to g) (r .0 + 1) (to origin origin))
+    turns-real (normal g) u (minus w u) (around (sides to g) (r .0) (to origin origin))
+    (around (sides to g) (r .0 + 1) (to origin origin))
     (sym (sides-at (turnsAt (normal g) u (minus w u)) (sides to g) (r .0) false (to origin origin) l) ∙ r .2) z
 
 -- ---- rule C

@@ -174,7 +174,8 @@ module _ (d : Wire) (cs : List Loop) (taken turned : List Bool) (paths : (k : �
   unfolding inTwo
   row-two e h =
       sym
-      (count-total (onEdge e) (length cs) (omega (arith, length-both (map (has (edgeAt d e)) cs) taken, length-map cs (has (edgeAt d e)))))
+      (count-total (onEdge e) (length cs)
+      (omega (arith, length-both (map (has (edgeAt d e)) cs) taken, length-map cs (has (edgeAt d e)))))
       ∙ eqb-true (count (onEdge e)) 2 (in-two d cs taken turned (edgeAt d e) (s .i e h))
 
   column : (k : ℕ) → k < length cs → 3 * bit (dig taken k) ≤ total (length (d .edges)) (λ e. bit (dig (onEdge e) k))

@@ -191,7 +191,8 @@ module _ (d : Wire) (cs : List Loop) (taken t less u : List Bool) where
       yes-two : k ≡ j .two → dig less k ≡ true
       yes-two e = subst (λ (x : ℕ). dig less x ≡ true) (sym e) (j .faces .1)
 
-      pick : (k ≡ i .one) ⊎ (k ≡ i .two) → (j .one ≡ i .one) ⊎ (j .one ≡ i .two) → (j .two ≡ i .one) ⊎ (j .two ≡ i .two) → dig less k ≡ true
+      pick : (k ≡ i .one) ⊎ (k ≡ i .two) → (j .one ≡ i .one) ⊎ (j .one ≡ i .two) → (j .two ≡ i .one) ⊎ (j .two ≡ i .two)
+          → dig less k ≡ true
       pick (inl p) (inl q) r = yes-one (p ∙ sym q)
       pick (inr p) (inr q) r = yes-one (p ∙ sym q)
       pick (inl p) (inr q) (inl r) = yes-two (p ∙ sym r)

@@ -3,7 +3,8 @@
 use mathlib.Core.Path.{_≡_, refl, sym, ap, ap₂, subst, _∙_}
 use mathlib.Core.Bool.{Bool, true, false, not, cond}
 use mathlib.Core.Logic.{_⊎_, inl, inr, ⊎-elim}
-use mathlib.Core.List.{List, [], _∷_, _++_, append-nil, List·Memᴰ, List·Memᴰ·head, List·Memᴰ·tail, List·Memᴰ·not-nil, List·Memᴰ·cases-cons}
+use mathlib.Core.List.{List, [], _∷_, _++_, append-nil, List·Memᴰ, List·Memᴰ·head, List·Memᴰ·tail, List·Memᴰ·not-nil}
+use mathlib.Core.List.{List·Memᴰ·cases-cons}
 use mathlib.Core.List.{List·Memᴰ·append-cases, Memᴰ·append-left, Memᴰ·append-right}
 use Prim.Native.Nat.{ℕ, zero, suc, _+_, _-_, _≤_, _<_}
 use native.Mathlib.Omega.{arith}
@@ -179,7 +180,8 @@ module _ (c : List ℕ) (h : Normal c) (f : List ℕ) where
         let r : length c - (length c - 1) ≡ 1 = omega arith in
         let z : length (flipped c) - 1 ≡ length c - 1 = omega arith in
         let u : getD c (length c - (length c - 1)) 0 ≡ getD c 1 0 = ap (λ (i : ℕ). getD c i 0) r in
-        let w : getD (flipped c) (length (flipped c) - 1) 0 ≡ getD (flipped c) (length c - 1) 0 = ap (λ (i : ℕ). getD (flipped c) i 0) z in
+        let w : getD (flipped c) (length (flipped c) - 1) 0 ≡ getD (flipped c) (length c - 1) 0 = ap (λ (i : ℕ). getD (flipped c) i 0)
+        z in
         let dir = h .direction in
         onward-is f ∙ ap (λ (l : List ℕ). ltb (getD l 1 0) (getD l (length l - 1) 0)) low-back
         ∙ le-ltb (getD (flipped c) 1 0) (getD (flipped c) (length (flipped c) - 1) 0) (omega arith)
@@ -273,7 +275,8 @@ form-same f g e = go (onward f) (onward g) refl refl
     go true true p q = inl (same-trans (same-sym (normal-on f p)) (subst (λ (l : List ℕ). SameRing l g) (sym e) (normal-on g q)))
     go true false p q =
         inr (same-trans (flip-same (same-sym (normal-on f p))) (subst (λ (l : List ℕ). SameRing (flipped l) g) (sym e) (normal-back g q)))
-    go false true p q = inr (same-trans (same-sym (flips (normal-back f p))) (subst (λ (l : List ℕ). SameRing l g) (sym e) (normal-on g q)))
+    go false true p q =
+        inr (same-trans (same-sym (flips (normal-back f p))) (subst (λ (l : List ℕ). SameRing l g) (sym e) (normal-on g q)))
     go false false p q =
         inl (same-trans (same-sym (normal-back f p)) (subst (λ (l : List ℕ). SameRing (flipped l) g) (sym e) (normal-back g q)))
 
@@ -322,7 +325,8 @@ flip-form r d = go (decLt (length r) 3)
     turn n = by (ltb (getD r 1 0) (getD r (length r - 1) 0)) refl
       where
         by : (b : Bool) → ltb (getD r 1 0) (getD r (length r - 1) 0) ≡ b → ltb (getD r (length r - 1) 0) (getD r 1 0) ≡ not b
-        by true e = le-ltb (getD r (length r - 1) 0) (getD r 1 0) (let q = ltb-true (getD r 1 0) (getD r (length r - 1) 0) e in omega arith)
+        by true e =
+            le-ltb (getD r (length r - 1) 0) (getD r 1 0) (let q = ltb-true (getD r 1 0) (getD r (length r - 1) 0) e in omega arith)
         by false e =
             let q = ltb-false (getD r 1 0) (getD r (length r - 1) 0) e in
             let ne : getD r 1 0 ≡ getD r (length r - 1) 0

@@ -112,7 +112,8 @@ module _ (d : Wire) (cs : List Loop) (taken turned : List Bool) (paths : (k : �
   beside-start q i k (inl g) = goes-start (loopAt cs k) (around (loopAt cs q) i 0) (around (loopAt cs q) (suc i) 0) g
   beside-start q i k (inr g) = goes-end (loopAt cs k) (around (loopAt cs q) (suc i) 0) (around (loopAt cs q) i 0) g
 
-  beside-end : (q i k : ℕ) → Beside q i k → (j : ℕ) × (j < length (loopAt cs k)) × (getD (loopAt cs k) j 0 ≡ around (loopAt cs q) (suc i) 0)
+  beside-end : (q i k : ℕ) → Beside q i k
+      → (j : ℕ) × (j < length (loopAt cs k)) × (getD (loopAt cs k) j 0 ≡ around (loopAt cs q) (suc i) 0)
   beside-end q i k (inl g) = goes-end (loopAt cs k) (around (loopAt cs q) i 0) (around (loopAt cs q) (suc i) 0) g
   beside-end q i k (inr g) = goes-start (loopAt cs k) (around (loopAt cs q) (suc i) 0) (around (loopAt cs q) i 0) g
 
@@ -266,7 +267,8 @@ module _ (d : Wire) (cs : List Loop) (taken turned : List Bool) (paths : (k : �
                   pick (inr (inl x)) =
                       never
                       (sym
-                      (yes-at (wrap (length (loopAt cs q)) (suc k)) (subst (Beside q (wrap (length (loopAt cs q)) (suc k))) x (o .beside)))
+                      (yes-at (wrap (length (loopAt cs q)) (suc k))
+                      (subst (Beside q (wrap (length (loopAt cs q)) (suc k))) x (o .beside)))
                       ∙ nk)
                   pick (inr (inr x)) = subst (Beside q (wrap (length (loopAt cs q)) (suc k))) x (o .beside)
 
@@ -317,7 +319,8 @@ module _ (d : Wire) (cs : List Loop) (taken turned : List Bool) (paths : (k : �
           third : (a : ℕ) → dig taken a ≡ true → 0 < length (loopAt cs a) → (b : ℕ) → dig taken b ≡ true → (b ≡ a → ⊥) → Beside a 0 b
               → Dec (count (less (less taken (only a)) (only b)) ≡ 0) → ⊥
           third a fa ha b fb n bs (yes e) =
-              no-volume d cs taken turned paths s (around (loopAt cs a) 0 0) (λ k f. on k (only-two k f (ℕ-discrete k a) (ℕ-discrete k b)))
+              no-volume d cs taken turned paths s (around (loopAt cs a) 0 0)
+              (λ k f. on k (only-two k f (ℕ-discrete k a) (ℕ-discrete k b)))
             where
               only-two : (k : ℕ) → dig taken k ≡ true → Dec (k ≡ a) → Dec (k ≡ b) → (k ≡ a) ⊎ (k ≡ b)
               only-two k f (yes x) y = inl x
@@ -326,7 +329,8 @@ module _ (d : Wire) (cs : List Loop) (taken turned : List Bool) (paths : (k : �
                   absurd
                   (count-none (less (less taken (only a)) (only b)) e k (rest-in (less taken (only a)) b k (rest-in taken a k f x) y))
 
-              on : (k : ℕ) → (k ≡ a) ⊎ (k ≡ b) → (i : ℕ) × (i < length (loopAt cs k)) × (getD (loopAt cs k) i 0 ≡ around (loopAt cs a) 0 0)
+              on : (k : ℕ) → (k ≡ a) ⊎ (k ≡ b)
+                  → (i : ℕ) × (i < length (loopAt cs k)) × (getD (loopAt cs k) i 0 ≡ around (loopAt cs a) 0 0)
               on k (inl x) =
                   subst (λ (y : ℕ). (i : ℕ) × (i < length (loopAt cs y)) × (getD (loopAt cs y) i 0 ≡ around (loopAt cs a) 0 0)) (sym x)
                   (beside-start a 0 a (own a 0 ha))
@@ -371,7 +375,8 @@ module _ (d : Wire) (cs : List Loop) (taken turned : List Bool) (paths : (k : �
                   pick g gc (e, h, p, q) (inr (inl x)) =
                       let r = shared (edgeAt d e) b c (subst (λ (m : ℕ). Has d cs taken turned m (edgeAt d e)) x p) q in
                       let t = flip bs in
-                      three b a c fb fa fc (λ y. n (sym y)) (λ y. ca (sym y)) (λ k f. turn-all (all k f)) (t .0) (t .1) (t .2) (r .0) (r .1)
+                      three b a c fb fa fc (λ y. n (sym y)) (λ y. ca (sym y)) (λ k f. turn-all (all k f)) (t .0) (t .1) (t .2) (r .0)
+                      (r .1)
                       (r .2) cb
                     where
                       turn-all : {k : ℕ} → (k ≡ a) ⊎ ((k ≡ b) ⊎ (k ≡ c)) → (k ≡ b) ⊎ ((k ≡ a) ⊎ (k ≡ c))

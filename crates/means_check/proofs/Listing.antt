@@ -71,7 +71,8 @@ module _ (d : Wire) (ls : List Loop) where
   at-bare : (i : ℕ) → ((j : ℕ) → j < length ls → (i ≡ j → ⊥) → covers (polygon d (loopAt ls i)) (polygon d (loopAt ls j)) ≡ false)
       → coversOther d ls i ≡ false
   unfolding coversOther
-  at-bare i f = never-true (any (λ j. not (eqb i j) && covers (polygon d (loopAt ls i)) (polygon d (loopAt ls j))) (upto (length ls))) (λ t.
+  at-bare i f =
+      never-true (any (λ j. not (eqb i j) && covers (polygon d (loopAt ls i)) (polygon d (loopAt ls j))) (upto (length ls))) (λ t.
       let r = some-yes (λ j. not (eqb i j) && covers (polygon d (loopAt ls i)) (polygon d (loopAt ls j))) (length ls) t in
       let a = and-left (not (eqb i (r .0))) (covers (polygon d (loopAt ls i)) (polygon d (loopAt ls (r .0)))) (r .2) in
       let b = and-right (not (eqb i (r .0))) (covers (polygon d (loopAt ls i)) (polygon d (loopAt ls (r .0)))) (r .2) in

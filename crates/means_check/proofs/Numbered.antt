@@ -123,7 +123,8 @@ module _ {A : Type 0} (z : A) (p : A → Bool) where
 
 pub number-at : (cs : List Loop) (f : List ℕ) → numberIn cs f < length cs → normalForm f ≡ loopAt cs (numberIn cs f)
 unfolding numberIn
-number-at cs f h = same-yes (normalForm f) (loopAt cs (first (map (sameList (normalForm f)) cs))) (first-hit (sameList (normalForm f)) cs h)
+number-at cs f h =
+    same-yes (normalForm f) (loopAt cs (first (map (sameList (normalForm f)) cs))) (first-hit (sameList (normalForm f)) cs h)
 
 pub number-in : (cs : List Loop) (f : List ℕ) (k : ℕ) → k < length cs → normalForm f ≡ loopAt cs k → numberIn cs f < length cs
 unfolding numberIn
@@ -228,7 +229,8 @@ module _ (cs : List Loop) (fs : List Loop) where
   unfolding notCandidate faceTwice
   numbered p q = record {
     known = λ i h.
-        let e : leb (length cs) (getD numbersOf i 0) ≡ false = lowest-none (λ i. leb (length cs) (getD numbersOf i 0)) (length numbersOf) p
+        let e : leb (length cs) (getD numbersOf i 0) ≡ false = lowest-none (λ i. leb (length cs) (getD numbersOf i 0)) (length numbersOf)
+        p
         i (omega (arith, numbers-length)) in
         omega (arith, leb-false (length cs) (getD numbersOf i 0) e, number-of i h);
     apart = λ i j hi hj e. go i j hi hj (number-of i hi ∙ e ∙ sym (number-of j hj));

@@ -1,4 +1,5 @@
--- The loops that are listed are the closed paths of document 01, each once: whatever start and direction a closed path has, its normal form
+-- The loops that are listed are the closed paths of document 01, each once: whatever start and direction a closed path has, its normal
+-- form
 -- is listed, and two closed paths have one normal form just where they differ only in start or direction. Assumes nothing.
 use mathlib.Core.Path.{_≡_, refl, sym, ap, ap₂, subst, _∙_}
 use mathlib.Core.Bool.{Bool, true, false, _&&_, cond}
@@ -73,7 +74,8 @@ split-at u w i h = go (wrap-is (length w + length u) (length u + i))
 wrap-step : (n k i : ℕ) → k ≤ n → i < n → wrap n (k + wrap n (suc i)) ≡ wrap n (suc (wrap n (k + i)))
 wrap-step n k i hk hi = go (wrap-is n (suc i)) (wrap-is n (k + i)) (wrap-is n (k + wrap n (suc i))) (wrap-is n (suc (wrap n (k + i))))
   where
-    go : ((suc i < n) × (wrap n (suc i) ≡ suc i)) ⊎ ((n ≤ suc i) × (wrap n (suc i) ≡ suc i - n)) → ((k + i < n) × (wrap n (k + i) ≡ k + i))
+    go : ((suc i < n) × (wrap n (suc i) ≡ suc i)) ⊎ ((n ≤ suc i) × (wrap n (suc i) ≡ suc i - n))
+        → ((k + i < n) × (wrap n (k + i) ≡ k + i))
         ⊎ ((n ≤ k + i) × (wrap n (k + i) ≡ k + i - n))
         → ((k + wrap n (suc i) < n) × (wrap n (k + wrap n (suc i)) ≡ k + wrap n (suc i)))
         ⊎ ((n ≤ k + wrap n (suc i)) × (wrap n (k + wrap n (suc i)) ≡ k + wrap n (suc i) - n))
@@ -197,7 +199,8 @@ goes-back f a b two h = go (h .at) (h .here) (h .from) (h .to)
           at = length f - suc i;
           here = m;
           from =
-              q ∙ after i l′ ∙ sym (around-at f (length f - suc i) ∙ ap (λ (j : ℕ). getD f j 0) (wrap-low (length f) (length f - suc i) m));
+              q ∙ after i l′
+              ∙ sym (around-at f (length f - suc i) ∙ ap (λ (j : ℕ). getD f j 0) (wrap-low (length f) (length f - suc i) m));
           to = p ∙ here i l′;
         }
 
@@ -244,7 +247,8 @@ module _ (d : Wire) where
           (sym (flip-first f) ∙ p ∙ flip-at f (suc j) (omega arith) (omega (arith, n))) in
           absurd (omega (arith, n))
       go (suc i) zero hi hj p =
-          let q = e (length f - suc i) 0 (omega (arith, n)) (omega (arith, n)) (sym (flip-at f (suc i) (omega arith) (omega (arith, n))) ∙ p
+          let q = e (length f - suc i) 0 (omega (arith, n)) (omega (arith, n)) (sym (flip-at f (suc i) (omega arith) (omega (arith, n)))
+          ∙ p
           ∙ flip-first f) in
           absurd (omega (arith, n))
       go (suc i) (suc j) hi hj p =
@@ -335,7 +339,8 @@ module _ (d : Wire) where
             let a = flip-at (fromLowest c) 1 (omega arith) (omega arith) in
             let b : getD (flipped (fromLowest c)) (length (flipped (fromLowest c)) - 1) 0 ≡ getD (fromLowest c) 1 0
             = ap (λ (i : ℕ). getD (flipped (fromLowest c)) i 0) z
-            ∙ flip-at (fromLowest c) (length (fromLowest c) - 1) (omega arith) (omega arith) ∙ ap (λ (i : ℕ). getD (fromLowest c) i 0) y in
+            ∙ flip-at (fromLowest c) (length (fromLowest c) - 1) (omega arith) (omega arith)
+            ∙ ap (λ (i : ℕ). getD (fromLowest c) i 0) y in
             let f = ltb-false (getD (fromLowest c) 1 0) (getD (fromLowest c) (length (fromLowest c) - 1) 0) q in
             let ne : getD (fromLowest c) 1 0 ≡ getD (fromLowest c) (length (fromLowest c) - 1) 0
             → ⊥ = λ w. absurd (omega (arith, pr .different 1 (length (fromLowest c) - 1) (omega arith) (omega arith) w)) in

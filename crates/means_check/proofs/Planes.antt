@@ -1,4 +1,5 @@
--- The plane test of the loop search in plain words: it lets the vertices of a path pass just if they all lie in one plane. Assumes nothing.
+-- The plane test of the loop search in plain words: it lets the vertices of a path pass just if they all lie in one plane. Assumes
+-- nothing.
 use mathlib.Core.Path.{_≡_, refl, sym, ap, ap₂, subst, _∙_}
 use mathlib.Core.Bool.{Bool, true, false, not, _&&_, cond, true≢false}
 use mathlib.Core.Option.{none}
@@ -230,7 +231,8 @@ module _ (d : Wire) (a b : ℕ) (t : List ℕ) (ne : at d a ≡ at d b → ⊥) 
           level-of (at d a) (at d b) (w .n) (getD (map (at d) t) i origin)
           (flat-at (at d a) (at d b) (w .n) (map (at d) t) (w .flat) i (omega arith))
 
-  pub plane-level : InPlane (polygon d (a ∷ b ∷ t)) → (j : ℕ) → j < length t → level d (take (suc (suc j)) (a ∷ b ∷ t)) (getD t j 0) ≡ true
+  pub plane-level : InPlane (polygon d (a ∷ b ∷ t)) → (j : ℕ) → j < length t
+      → level d (take (suc (suc j)) (a ∷ b ∷ t)) (getD t j 0) ≡ true
   unfolding polygon
   plane-level y j h =
       let s : dot (y .across) (at d a) ≡ y .height = y .every 0 (omega arith) in

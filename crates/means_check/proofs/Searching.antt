@@ -75,7 +75,8 @@ module _ (n : ℕ) (linked : ℕ → ℕ → Bool) (flat : List ℕ → ℕ → 
         go : Dec (x ≡ v) → (suc v ≤ x → List·Memᴰ q (scan n linked flat deeper p (suc v) k))
             → List·Memᴰ q (branch n linked flat (follows n linked flat p v) deeper (p ++ v ∷ []) ++ scan n linked flat deeper p (suc v) k)
         go (yes e) r = Memᴰ·append-left (scan n linked flat deeper p (suc v) k)
-            (subst (λ (y : ℕ). List·Memᴰ q (branch n linked flat (follows n linked flat p y) deeper (p ++ y ∷ []))) e (into-branch q x f m))
+            (subst (λ (y : ℕ). List·Memᴰ q (branch n linked flat (follows n linked flat p y) deeper (p ++ y ∷ []))) e
+            (into-branch q x f m))
         go (no u) r = Memᴰ·append-right (branch n linked flat (follows n linked flat p v) deeper (p ++ v ∷ [])) (r (omega arith))
 
   -- ---- a chain: each vertex of t may follow p and those of t before it
@@ -134,7 +135,8 @@ module _ (n : ℕ) (linked : ℕ → ℕ → Bool) (flat : List ℕ → ℕ → 
   follows-out : (p : List ℕ) (v : ℕ) → 0 < length p → follows n linked flat p v ≡ true → FollowsBy p v
   unfolding follows
   follows-out p v h e =
-      let u : (ltb (getD p 0 0) v && linked (final p) v && not (member v p) && flat p v) ≡ true = rw (ne-eqb (length p) 0 (omega arith)) at
+      let u : (ltb (getD p 0 0) v && linked (final p) v && not (member v p) && flat p v) ≡ true = rw (ne-eqb (length p) 0 (omega arith))
+      at
       e in
       let a = and-left (ltb (getD p 0 0) v && linked (final p) v && not (member v p)) (flat p v) u in
       let b = and-left (ltb (getD p 0 0) v && linked (final p) v) (not (member v p)) a in
@@ -239,7 +241,8 @@ module _ (n : ℕ) (linked : ℕ → ℕ → Bool) (flat : List ℕ → ℕ → 
 
   loop-chain : (q : Loop) → Closed n linked flat q → Chain [] q
   loop-chain q h =
-      chain-from [] q (λ i k. (h .inside i k, follows-in (take i q) (getD q i 0) (λ z. by i (rw (length-take-le i q (le-of-lt k)) at z) k)))
+      chain-from [] q
+      (λ i k. (h .inside i k, follows-in (take i q) (getD q i 0) (λ z. by i (rw (length-take-le i q (le-of-lt k)) at z) k)))
     where
       by : (i : ℕ) → 0 < i → i < length q → FollowsBy (take i q) (getD q i 0)
       by zero a b = absurd (not-suc-le-zero a)

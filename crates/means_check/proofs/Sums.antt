@@ -97,7 +97,8 @@ module _ (n m : ℕ) where
 
   sum2-swap : (f : ℕ → ℕ → ℕ → ℕ → Point) → sum2 (λ i j. sum2 (λ p q. f i j p q)) ≡ sum2 (λ p q. sum2 (λ i j. f i j p q))
   sum2-swap f =
-      sum-same n (λ i. sumTo m (λ j. sumTo n (λ p. sumTo m (λ q. f i j p q)))) (λ i. sumTo n (λ p. sumTo m (λ j. sumTo m (λ q. f i j p q))))
+      sum-same n (λ i. sumTo m (λ j. sumTo n (λ p. sumTo m (λ q. f i j p q))))
+      (λ i. sumTo n (λ p. sumTo m (λ j. sumTo m (λ q. f i j p q))))
       (λ i l. sum-swap m n (λ j p. sumTo m (λ q. f i j p q)))
       ∙ sum-swap n n (λ i p. sumTo m (λ j. sumTo m (λ q. f i j p q)))
       ∙ sum-same n (λ p. sumTo n (λ i. sumTo m (λ j. sumTo m (λ q. f i j p q))))

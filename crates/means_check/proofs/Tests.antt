@@ -214,7 +214,8 @@ module _ (d : Wire) (cs : List Loop) (c : Candidates d cs) (taken turned : List 
       (eq-eqb (count (less (mine a b) (ahead a b))) 1
       (once-count d cs taken turned b a (less (mine a b) (ahead a b)) (back-dig a b) (w .1)))
 
-  pub edges-ways : direction (tablesOf d cs) taken turned ≡ none → (e : ℕ) → e < length (d .edges) → EachWay d cs taken turned (edgeAt d e)
+  pub edges-ways : direction (tablesOf d cs) taken turned ≡ none → (e : ℕ) → e < length (d .edges)
+      → EachWay d cs taken turned (edgeAt d e)
   unfolding direction
   edges-ways p e h =
       let q = lowest-none (λ e. not (onceEachWay (getD (tablesOf d cs .masks) e []) (getD (tablesOf d cs .ups) e []) taken turned))
@@ -430,5 +431,6 @@ module _ (d : Wire) (cs : List Loop) (taken turned : List Bool) where
           differ (getD ks i 0) k hj hk e (ℕ-discrete (getD ks i 0) k)))))
         where
           differ : (j k : ℕ) → dig taken j ≡ true → dig taken k ≡ true → clashing (map (polygon d) cs) j k ≡ true → Dec (j ≡ k) → ⊥
-          differ j k hj hk e (yes z) = never (sym (subst (λ (x : ℕ). clashing (map (polygon d) cs) j x ≡ true) (sym z) e) ∙ clashing-self j)
+          differ j k hj hk e (yes z) =
+              never (sym (subst (λ (x : ℕ). clashing (map (polygon d) cs) j x ≡ true) (sym z) e) ∙ clashing-self j)
           differ j k hj hk e (no z) = never (sym e ∙ clashing-is j k (inside j hj) (inside k hk) z ∙ f j k hj hk z)

@@ -31,5 +31,6 @@ SameBody fs gs = Among fs gs × Among gs fs
 
 -- the drawing has no two solids
 abbrev pub OneSolid : Wire → List Loop → Type 0
-OneSolid d cs = (taken turned taken′ turned′ : List Bool) (six six′ : ℕ) → IsSolid d cs taken turned six → IsSolid d cs taken′ turned′ six′
+OneSolid d cs =
+    (taken turned taken′ turned′ : List Bool) (six six′ : ℕ) → IsSolid d cs taken turned six → IsSolid d cs taken′ turned′ six′
     → ((k : ℕ) → dig taken k ≡ dig taken′ k) × ((k : ℕ) → dig turned k ≡ dig turned′ k)

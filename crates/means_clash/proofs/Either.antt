@@ -76,7 +76,8 @@ bend-meets f g b =
     let inner : any (bends f g (b .u)) f ≡ true
     = any-is (bends f g (b .u)) origin f (b .v-in-f .0) (b .v-in-f .1) (ap (bends f g (b .u)) (b .v-in-f .2) ∙ bend-bends f g b) in
     any-is (λ u. isCorner g u && any (bends f g u) f) origin f (b .u-in-f .0) (b .u-in-f .1)
-    (ap (λ (p : Point). isCorner g p && any (bends f g p) f) (b .u-in-f .2) ∙ and-both (yes-corner g (b .u-in-g .0) (b .u) (b .u-in-g .1) (b .u-in-g .2)) inner)
+    (ap (λ (p : Point). isCorner g p && any (bends f g p) f) (b .u-in-f .2)
+    ∙ and-both (yes-corner g (b .u-in-g .0) (b .u) (b .u-in-g .1) (b .u-in-g .2)) inner)
 
 bend-turned : {f g : Polygon} → Bend f g → Bend g f
 bend-turned b = record {
@@ -151,12 +152,14 @@ folds-either f g hf hg = go (isOrigin (normal f)) refl (isOrigin (normal g)) ref
     and-no true e = e
     and-no false e = refl
 
-    go : (x : Bool) → isOrigin (normal f) ≡ x → (y : Bool) → isOrigin (normal g) ≡ y → (not (onePlane f g) && meets f g) ≡ (not (onePlane g f) && meets g f)
+    go : (x : Bool) → isOrigin (normal f) ≡ x → (y : Bool) → isOrigin (normal g) ≡ y
+        → (not (onePlane f g) && meets f g) ≡ (not (onePlane g f) && meets g f)
     go true p y q = and-no (not (onePlane f g)) (no-bend f g (inl p)) ∙ sym (and-no (not (onePlane g f)) (no-bend g f (inr p)))
     go false p true q = and-no (not (onePlane f g)) (no-bend f g (inr q)) ∙ sym (and-no (not (onePlane g f)) (no-bend g f (inl q)))
     go false p false q =
         ap₂ (λ (x y : Bool). not x && y) (plane-either f g hf p hg q)
-        (same-truth (meets f g) (meets g f) (λ e. bend-meets g f (bend-turned (meets-bend f g e))) (λ e. bend-meets f g (bend-turned (meets-bend g f e))))
+        (same-truth (meets f g) (meets g f) (λ e. bend-meets g f (bend-turned (meets-bend f g e)))
+        (λ e. bend-meets f g (bend-turned (meets-bend g f e))))
 
 swap : (a b c d e : Bool) → (a || b || (c || d) || e) ≡ (b || a || (d || c) || e)
 swap true true c d e = refl
@@ -170,4 +173,5 @@ swap false false false false e = refl
 pub clash-either : (f g : Polygon) → Flat f → Flat g → clash f g ≡ clash g f
 unfolding clash
 clash-either f g hf hg =
-    swap (pierces f g) (pierces g f) (enters f g) (enters g f) (folds f g) ∙ ap (λ (x : Bool). pierces g f || pierces f g || (enters g f || enters f g) || x) (folds-either f g hf hg)
+    swap (pierces f g) (pierces g f) (enters f g) (enters g f) (folds f g)
+    ∙ ap (λ (x : Bool). pierces g f || pierces f g || (enters g f || enters f g) || x) (folds-either f g hf hg)

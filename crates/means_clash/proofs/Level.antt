@@ -23,7 +23,8 @@ unfoldable pub Tests : Point → Point → Point → List Point → Type 0
 Tests s b n [] = Unit {0}
 Tests s b n (p ∷ ps) = (isZero (dot n (minus p s)) ≡ true) × Tests s b (tilt s b n p) ps
 
-pub tests-more : (s b n : Point) (ps : List Point) (p : Point) → Tests s b n ps → isZero (dot (tilted s b n ps) (minus p s)) ≡ true → Tests s b n (ps ++ p ∷ [])
+pub tests-more : (s b n : Point) (ps : List Point) (p : Point) → Tests s b n ps → isZero (dot (tilted s b n ps) (minus p s)) ≡ true
+    → Tests s b n (ps ++ p ∷ [])
 unfolding Tests tilted
 tests-more s b n [] p t h = (h, tt)
 tests-more s b n (q ∷ ps) p t h = (t .0, tests-more s b (tilt s b n q) ps p (t .1) h)
@@ -49,7 +50,8 @@ own-zero e p = ring (e .x ∷ e .y ∷ e .z ∷ p .x ∷ p .y ∷ p .z ∷ []) (
 
 pub first-zero : (e p : Point) → dot (cross e p) e ≡ pos 0
 unfolding dot cross
-first-zero e p = ring (e .x ∷ e .y ∷ e .z ∷ p .x ∷ p .y ∷ p .z ∷ []) (dotE (crossE (vars 0 1 2) (vars 3 4 5)) (vars 0 1 2)) (con (pos 0)) tt
+first-zero e p =
+    ring (e .x ∷ e .y ∷ e .z ∷ p .x ∷ p .y ∷ p .z ∷ []) (dotE (crossE (vars 0 1 2) (vars 3 4 5)) (vars 0 1 2)) (con (pos 0)) tt
 
 pub tilt-found : (s b n p : Point) → isOrigin n ≡ false → tilt s b n p ≡ n
 unfolding tilt
@@ -79,7 +81,9 @@ passed-here s b n p h = go (isOrigin n) refl
       plane = λ q. zero-yes (dot n (minus p s)) h;
       line = λ q. absurd (true≢false (sym q ∙ e));
     })
-    go true e = subst (λ (m : Point). Passed s b m p) (sym (tilt-none s b n p e)) (record { plane = λ q. own-zero (minus b s) (minus p s); line = λ q. q })
+    go true e =
+        subst (λ (m : Point). Passed s b m p) (sym (tilt-none s b n p e))
+        (record { plane = λ q. own-zero (minus b s) (minus p s); line = λ q. q })
 
 passed-rest : (s b n : Point) (ps : List Point) (u : Point) → Passed s b n u → Passed s b (tilted s b n ps) u
 unfolding tilted
@@ -93,7 +97,8 @@ AllPassed s b n (p ∷ ps) = Passed s b n p × AllPassed s b n ps
 tests-passed : (s b n : Point) (ps : List Point) → Tests s b n ps → AllPassed s b (tilted s b n ps) ps
 unfolding Tests tilted AllPassed
 tests-passed s b n [] t = tt
-tests-passed s b n (p ∷ ps) t = (passed-rest s b (tilt s b n p) ps p (passed-here s b n p (t .0)), tests-passed s b (tilt s b n p) ps (t .1))
+tests-passed s b n (p ∷ ps) t =
+    (passed-rest s b (tilt s b n p) ps p (passed-here s b n p (t .0)), tests-passed s b (tilt s b n p) ps (t .1))
 
 -- ---- points in one line: the area is none
 abbrev E : E3
@@ -121,14 +126,18 @@ abbrev KX : E3
 KX = plusE (crossE E (crossE S W)) (crossE E (crossE (minusE Y S) W))
 
 abbrev KY : E3
-KY = plusE (crossE E (crossE W S)) (record { ex = dotE E (minusE X S) ⊗ W .ex; ey = dotE E (minusE X S) ⊗ W .ey; ez = dotE E (minusE X S) ⊗ W .ez })
+KY =
+    plusE (crossE E (crossE W S))
+    (record { ex = dotE E (minusE X S) ⊗ W .ex; ey = dotE E (minusE X S) ⊗ W .ey; ez = dotE E (minusE X S) ⊗ W .ez })
 
-line-side : (e s x y a w r : Point) → cross e (minus x s) ≡ origin → cross e (minus y s) ≡ origin → dot e e *ℤ dot r w ≡ dot e (minus a y) *ℤ dot (cross s e) w
+line-side : (e s x y a w r : Point) → cross e (minus x s) ≡ origin → cross e (minus y s) ≡ origin
+    → dot e e *ℤ dot r w ≡ dot e (minus a y) *ℤ dot (cross s e) w
     → dot e e *ℤ dot (plus (cross x y) r) w ≡ dot e (minus a x) *ℤ dot (cross s e) w
 unfolding dot plus minus cross
 line-side e s x y a w r hx hy hr =
     combine
-    (e .x ∷ e .y ∷ e .z ∷ s .x ∷ s .y ∷ s .z ∷ x .x ∷ x .y ∷ x .z ∷ y .x ∷ y .y ∷ y .z ∷ a .x ∷ a .y ∷ a .z ∷ w .x ∷ w .y ∷ w .z ∷ r .x ∷ r .y ∷ r .z ∷ [])
+    (e .x ∷ e .y ∷ e .z ∷ s .x ∷ s .y ∷ s .z ∷ x .x ∷ x .y ∷ x .z ∷ y .x ∷ y .y ∷ y .z ∷ a .x ∷ a .y ∷ a .z ∷ w .x ∷ w .y ∷ w .z ∷ r .x
+    ∷ r .y ∷ r .z ∷ [])
     (dotE E E ⊗ dotE (plusE (crossE X Y) R) W) (dotE E (minusE A X) ⊗ dotE (crossE S E) W)
     (record { times = KX .ex; one = crossE E (minusE X S) .ex; other = con (pos 0) }
     ∷ record { times = KX .ey; one = crossE E (minusE X S) .ey; other = con (pos 0) }
@@ -168,24 +177,28 @@ sides-line : (e s w a x : Point) (ys : List Point) → cross e (minus a s) ≡ o
     → dot e e *ℤ dot (sum (sidesFrom cross a x ys)) w ≡ dot e (minus a x) *ℤ dot (cross s e) w
 unfolding sum sidesFrom
 sides-line e s w a x [] ha hx h = line-side e s x a a w origin hx ha (none-line e s a w)
-sides-line e s w a x (y ∷ ys) ha hx h = line-side e s x y a w (sum (sidesFrom cross a y ys)) hx (h .0) (sides-line e s w a y ys ha (h .0) (h .1))
+sides-line e s w a x (y ∷ ys) ha hx h =
+    line-side e s x y a w (sum (sidesFrom cross a y ys)) hx (h .0) (sides-line e s w a y ys ha (h .0) (h .1))
 
 line-area : (e s w a : Point) (r : List Point) → isOrigin e ≡ false → InLine e s (a ∷ r) → dot (normal (a ∷ r)) w ≡ pos 0
 unfolding normal sides
 line-area e s w a r real h =
-    mul-zero (dot e e) (dot (normal (a ∷ r)) w) (λ z. true≢false (sym (self-zero e z) ∙ real)) (sides-line e s w a a r (h .0) (h .0) (h .1) ∙ back-line e s a w)
+    mul-zero (dot e e) (dot (normal (a ∷ r)) w) (λ z. true≢false (sym (self-zero e z) ∙ real))
+    (sides-line e s w a a r (h .0) (h .0) (h .1) ∙ back-line e s a w)
 
 -- ---- the face
 module _ (a b : Point) (r : List Point) (real : isOrigin (minus b a) ≡ false) (t : Tests a b origin (a ∷ r)) where
   passed : AllPassed a b (tilted a b origin (a ∷ r)) (a ∷ r)
   passed = tests-passed a b origin (a ∷ r) t
 
-  in-plane : isOrigin (tilted a b origin (a ∷ r)) ≡ false → (ps : List Point) → AllPassed a b (tilted a b origin (a ∷ r)) ps → At (tilted a b origin (a ∷ r)) (dot (tilted a b origin (a ∷ r)) a) ps
+  in-plane : isOrigin (tilted a b origin (a ∷ r)) ≡ false → (ps : List Point) → AllPassed a b (tilted a b origin (a ∷ r)) ps
+      → At (tilted a b origin (a ∷ r)) (dot (tilted a b origin (a ∷ r)) a) ps
   unfolding AllPassed
   in-plane e [] h = tt
   in-plane e (p ∷ ps) h = (same-offset (tilted a b origin (a ∷ r)) p a (h .0 .plane e), in-plane e ps (h .1))
 
-  in-line : isOrigin (tilted a b origin (a ∷ r)) ≡ true → (ps : List Point) → AllPassed a b (tilted a b origin (a ∷ r)) ps → InLine (minus b a) a ps
+  in-line : isOrigin (tilted a b origin (a ∷ r)) ≡ true → (ps : List Point) → AllPassed a b (tilted a b origin (a ∷ r)) ps
+      → InLine (minus b a) a ps
   unfolding AllPassed
   in-line e [] h = tt
   in-line e (p ∷ ps) h = (origin-yes (cross (minus b a) (minus p a)) (h .0 .line e), in-line e ps (h .1))
@@ -202,4 +215,6 @@ module _ (a b : Point) (r : List Point) (real : isOrigin (minus b a) ≡ false) 
 
   pub tests-flat : Flat (a ∷ r)
   unfolding onePlane planeSide corner
-  tests-flat = all-is (λ p. isZero (planeSide (a ∷ r) p)) origin (a ∷ r) (λ i h. yes-zero (planeSide (a ∷ r) (getD (a ∷ r) i origin)) (each-side i h))
+  tests-flat =
+      all-is (λ p. isZero (planeSide (a ∷ r) p)) origin (a ∷ r)
+      (λ i h. yes-zero (planeSide (a ∷ r) (getD (a ∷ r) i origin)) (each-side i h))

@@ -45,7 +45,8 @@ S = vars 15 16 17
 abbrev C : Expr
 C = var 18
 
-pub one-side : (n x y a w s : Point) (c : ℤ) → dot n x ≡ c → dot n y ≡ c → dot n w ≡ pos 0 → dot n n *ℤ dot s w ≡ c *ℤ dot (minus y a) (cross n w)
+pub one-side : (n x y a w s : Point) (c : ℤ) → dot n x ≡ c → dot n y ≡ c → dot n w ≡ pos 0
+    → dot n n *ℤ dot s w ≡ c *ℤ dot (minus y a) (cross n w)
     → dot n n *ℤ dot (plus (cross x y) s) w ≡ c *ℤ dot (minus x a) (cross n w)
 unfolding dot plus minus cross
 one-side n x y a w s c hx hy hw hs =
@@ -79,7 +80,8 @@ sides-area : (n w : Point) (c : ℤ) → dot n w ≡ pos 0 → (a x : Point) (ys
     → dot n n *ℤ dot (sum (sidesFrom cross a x ys)) w ≡ c *ℤ dot (minus x a) (cross n w)
 unfolding sum sidesFrom
 sides-area n w c hw a x [] ha hx h = one-side n x a a w origin c hx ha hw (none-side n a w c)
-sides-area n w c hw a x (y ∷ ys) ha hx h = one-side n x y a w (sum (sidesFrom cross a y ys)) c hx (h .0) hw (sides-area n w c hw a y ys ha (h .0) (h .1))
+sides-area n w c hw a x (y ∷ ys) ha hx h =
+    one-side n x y a w (sum (sidesFrom cross a y ys)) c hx (h .0) hw (sides-area n w c hw a y ys ha (h .0) (h .1))
 
 area-across : (n w : Point) (c : ℤ) → dot n w ≡ pos 0 → (g : Polygon) → At n c g → dot n n *ℤ dot (normal g) w ≡ pos 0
 unfolding normal sides sum
@@ -90,8 +92,10 @@ area-across n w c hw (a ∷ r) h = sides-area n w c hw a a r (h .0) (h .0) (h .1
 pub self-zero : (n : Point) → dot n n ≡ pos 0 → isOrigin n ≡ true
 unfolding dot isOrigin
 self-zero n e =
-    let q = sum-zero (n .x *ℤ n .x) (n .y *ℤ n .y) (n .z *ℤ n .z) (square-nonneg (n .x)) (square-nonneg (n .y)) (square-nonneg (n .z)) e in
-    and-both (and-both (yes-zero (n .x) (square-zero (n .x) (q .0))) (yes-zero (n .y) (square-zero (n .y) (q .1)))) (yes-zero (n .z) (square-zero (n .z) (q .2)))
+    let q = sum-zero (n .x *ℤ n .x) (n .y *ℤ n .y) (n .z *ℤ n .z) (square-nonneg (n .x)) (square-nonneg (n .y)) (square-nonneg (n .z))
+    e in
+    and-both (and-both (yes-zero (n .x) (square-zero (n .x) (q .0))) (yes-zero (n .y) (square-zero (n .y) (q .1))))
+    (yes-zero (n .z) (square-zero (n .z) (q .2)))
 
 -- ---- offsets
 pub same-offset : (n p q : Point) → dot n (minus p q) ≡ pos 0 → dot n p ≡ dot n q
@@ -110,7 +114,8 @@ plane-at : (f : Polygon) (ps : List Point) → onePlane f ps ≡ true → At (no
 unfolding onePlane
 plane-at f ps e = go ps (all-yes (λ p. isZero (planeSide f p)) origin ps e)
   where
-    go : (ps : List Point) → ((i : ℕ) → i < length ps → isZero (planeSide f (getD ps i origin)) ≡ true) → At (normal f) (dot (normal f) (corner f)) ps
+    go : (ps : List Point) → ((i : ℕ) → i < length ps → isZero (planeSide f (getD ps i origin)) ≡ true)
+        → At (normal f) (dot (normal f) (corner f)) ps
     go [] h = tt
     go (p ∷ ps) h = (off p (h 0 (omega arith)), go ps (λ i l. h (suc i) (omega arith)))
       where
@@ -131,13 +136,16 @@ none-side-zero : (p : Point) → planeSide [] p ≡ pos 0
 unfolding planeSide normal sides sum corner
 none-side-zero p = none-dot (minus p origin)
 
--- the points ps all are at one offset across n, which isn't the origin; so are those of g, and the area's direction of g is at right angles to what is across from them
-pub area-right : (n : Point) → isOrigin n ≡ false → (c : ℤ) (a : Point) (r : List Point) → At n c (a ∷ r) → (p : Point) → dot n p ≡ c → dot (normal (a ∷ r)) (minus p a) ≡ pos 0
+-- the points ps all are at one offset across n, which isn't the origin; so are those of g, and the area's direction of g is at right
+-- angles to what is across from them
+pub area-right : (n : Point) → isOrigin n ≡ false → (c : ℤ) (a : Point) (r : List Point) → At n c (a ∷ r) → (p : Point) → dot n p ≡ c
+    → dot (normal (a ∷ r)) (minus p a) ≡ pos 0
 area-right n real c a r h p hp =
     mul-zero (dot n n) (dot (normal (a ∷ r)) (minus p a)) (λ z. true≢false (sym (self-zero n z) ∙ real))
     (area-across n (minus p a) c (offset-same n p a (hp ∙ sym (h .0))) (a ∷ r) h)
 
-zero-side : (f : Polygon) → Flat f → isOrigin (normal f) ≡ false → (g : Polygon) → onePlane f g ≡ true → (i : ℕ) → i < length f → planeSide g (getD f i origin) ≡ pos 0
+zero-side : (f : Polygon) → Flat f → isOrigin (normal f) ≡ false → (g : Polygon) → onePlane f g ≡ true → (i : ℕ) → i < length f
+    → planeSide g (getD f i origin) ≡ pos 0
 unfolding planeSide corner
 zero-side f flat real [] e i h = none-side-zero (getD f i origin)
 zero-side f flat real (a ∷ r) e i h =
@@ -146,9 +154,11 @@ zero-side f flat real (a ∷ r) e i h =
 
 pub plane-back : (f g : Polygon) → Flat f → isOrigin (normal f) ≡ false → onePlane f g ≡ true → onePlane g f ≡ true
 unfolding onePlane
-plane-back f g flat real e = all-is (λ p. isZero (planeSide g p)) origin f (λ i h. yes-zero (planeSide g (getD f i origin)) (zero-side f flat real g e i h))
+plane-back f g flat real e =
+    all-is (λ p. isZero (planeSide g p)) origin f (λ i h. yes-zero (planeSide g (getD f i origin)) (zero-side f flat real g e i h))
 
-pub plane-either : (f g : Polygon) → Flat f → isOrigin (normal f) ≡ false → Flat g → isOrigin (normal g) ≡ false → onePlane f g ≡ onePlane g f
+pub plane-either : (f g : Polygon) → Flat f → isOrigin (normal f) ≡ false → Flat g → isOrigin (normal g) ≡ false
+    → onePlane f g ≡ onePlane g f
 plane-either f g hf rf hg rg = go (onePlane f g) refl (onePlane g f) refl
   where
     go : (x : Bool) → onePlane f g ≡ x → (y : Bool) → onePlane g f ≡ y → x ≡ y

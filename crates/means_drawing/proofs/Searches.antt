@@ -31,7 +31,8 @@ module _ (p : ℕ → Bool) (P : ℕ → Type 0) where
   finds-from zero i h = λ k a b q. omega arith
   finds-from (suc m) i h = here (p i) refl (finds-from m (suc i) (λ k a b. h k (omega arith) (omega arith)))
     where
-      here : (b : Bool) → p i ≡ b → Among (suc i) m (find p (from (suc i) m)) → Among i (suc m) (cond b (some i) (find p (from (suc i) m)))
+      here : (b : Bool) → p i ≡ b → Among (suc i) m (find p (from (suc i) m))
+          → Among i (suc m) (cond b (some i) (find p (from (suc i) m)))
       here true e r = (omega arith, omega arith, h i (omega arith) (omega arith) .0 e, λ k a b q. omega arith)
       here false e r = past i m (λ q. true≢false (sym (h i (omega arith) (omega arith) .1 q) ∙ e)) (find p (from (suc i) m)) r
 

@@ -1,4 +1,5 @@
--- Two rings that do not cross, with the corners of each outside of the other or common; and the two parts of a ring cut at its lowest corner. Assumes nothing.
+-- Two rings that do not cross, with the corners of each outside of the other or common; and the two parts of a ring cut at its lowest
+-- corner. Assumes nothing.
 use mathlib.Core.Path.{_≡_, refl, sym, _∙_, ap, subst}
 use mathlib.Core.Bool.{Bool, false, xor}
 use mathlib.Core.Logic.{_⊎_, inl, inr}
@@ -16,7 +17,9 @@ use Rattle.means_area.proofs.Flats.Signs.{up-is, up-nn, zero-off}
 use Rattle.means_area.proofs.Flats.Turns.{flip, flip-last, flat-first, flat-second}
 use Rattle.means_area.proofs.Flats.Net.{Ok}
 use Rattle.means_area.proofs.Flats.Choice.{compare}
-use Rattle.means_area.proofs.Flats.Rings.{lst-append, lst-of, link-back, link-of, chain-split, chain-left, chain-right, Sub, keep, skip, sub-all, sub-none, sub-append, sub-of, sub-distinct, narrow, of-append, of-left, of-right, distinct-across, cross-turned, cross-back}
+use Rattle.means_area.proofs.Flats.Rings.{lst-append, lst-of, link-back, link-of, chain-split, chain-left, chain-right, Sub, keep, skip}
+use Rattle.means_area.proofs.Flats.Rings.{sub-all, sub-none, sub-append, sub-of, sub-distinct, narrow, of-append, of-left, of-right}
+use Rattle.means_area.proofs.Flats.Rings.{distinct-across, cross-turned, cross-back}
 use Rattle.means_area.proofs.Flats.Lowest.{pair-swap}
 use Rattle.means_area.proofs.Flats.First.{first-link, last-link}
 use Rattle.means_inside.specs.Beams.{right, Clear, odd}
@@ -42,7 +45,8 @@ module _ (m : ℤ) where
     pub outP : (z : Flat) → Of z R → (Of z P → ⊥) → odd z P ≡ false
     pub outR : (z : Flat) → Of z P → (Of z R → ⊥) → odd z R ≡ false
     pub link : (a b : Flat) → Of a P → Of b P → Of a R → Of b R → (h a ≡ h b → ⊥) → Link P a b × Link R a b
-    pub share : (a b c : Flat) → Of a P → Of b P → Of c P → Of a R → Of b R → Of c R → (h a ≡ h b → ⊥) → (h b ≡ h c → ⊥) → (h a ≡ h c → ⊥) → ⊥
+    pub share : (a b c : Flat) → Of a P → Of b P → Of c P → Of a R → Of b R → Of c R → (h a ≡ h b → ⊥) → (h b ≡ h c → ⊥) → (h a ≡ h c → ⊥)
+        → ⊥
 
   pub swap : (P R : List Flat) → Apart P R → Apart R P
   swap P R t = record {
@@ -79,11 +83,13 @@ module _ (m : ℤ) where
       lt-ne : (a b : ℤ) → a <ℤ b → a ≡ b → ⊥
       lt-ne a b k e = <ℤ-ne k e
 
-      rest : (h x ≡ h z → ⊥) → ((y : Flat) × Of y l × (h y ≡ h z)) ⊎ ((y : Flat) → Of y l → h y ≡ h z → ⊥) → ((y : Flat) × Of y (x ∷ l) × (h y ≡ h z)) ⊎ ((y : Flat) → Of y (x ∷ l) → h y ≡ h z → ⊥)
+      rest : (h x ≡ h z → ⊥) → ((y : Flat) × Of y l × (h y ≡ h z)) ⊎ ((y : Flat) → Of y l → h y ≡ h z → ⊥)
+          → ((y : Flat) × Of y (x ∷ l) × (h y ≡ h z)) ⊎ ((y : Flat) → Of y (x ∷ l) → h y ≡ h z → ⊥)
       rest n (inl t) = inl (t .0, inr (t .1), t .2)
       rest n (inr f) = inr (no n f)
 
-      go : (h x <ℤ h z) ⊎ ((h x ≡ h z) ⊎ (h z <ℤ h x)) → ((y : Flat) × Of y l × (h y ≡ h z)) ⊎ ((y : Flat) → Of y l → h y ≡ h z → ⊥) → ((y : Flat) × Of y (x ∷ l) × (h y ≡ h z)) ⊎ ((y : Flat) → Of y (x ∷ l) → h y ≡ h z → ⊥)
+      go : (h x <ℤ h z) ⊎ ((h x ≡ h z) ⊎ (h z <ℤ h x)) → ((y : Flat) × Of y l × (h y ≡ h z)) ⊎ ((y : Flat) → Of y l → h y ≡ h z → ⊥)
+          → ((y : Flat) × Of y (x ∷ l) × (h y ≡ h z)) ⊎ ((y : Flat) → Of y (x ∷ l) → h y ≡ h z → ⊥)
       go (inl k) r = rest (λ e. lt-ne (h x) (h z) k e) r
       go (inr (inl e)) r = inl (x, inl refl, e)
       go (inr (inr k)) r = rest (λ e. lt-ne (h z) (h x) k (sym e)) r
@@ -96,7 +102,9 @@ module _ (m : ℤ) where
       go (inr f) = inr (λ k. f z k refl)
 
   -- the same ring in another form
-  pub change : (P K R : List Flat) → Simple m K → length K ≡ length P → ((p q : Flat) → Link K p q → Link P p q) → ((p q : Flat) → Link P p q → Link K p q) → ((z : Flat) → Of z K → Of z P) → ((z : Flat) → Of z P → Of z K) → ((z : Flat) → odd z K ≡ odd z P)
+  pub change : (P K R : List Flat) → Simple m K → length K ≡ length P → ((p q : Flat) → Link K p q → Link P p q)
+      → ((p q : Flat) → Link P p q → Link K p q) → ((z : Flat) → Of z K → Of z P) → ((z : Flat) → Of z P → Of z K)
+      → ((z : Flat) → odd z K ≡ odd z P)
       → Apart P R → Apart K R
   change P K R s e f f' o o' d t = record {
     sp = s;
@@ -124,31 +132,41 @@ module _ (m : ℤ) where
   -- to one side
   pub same-right : (p v a b : Flat) → Same (turn v p a) (turn v p b) → right p v a ≡ right p v b
   unfolding right
-  same-right p v a b (both x y) = low-is (turn p v a) (up-nn (up-is (flip v p a ∙ refl) x)) ∙ sym (low-is (turn p v b) (up-nn (up-is (flip v p b ∙ refl) y)))
-  same-right p v a b (none x y) = low-no (turn p v a) (up-is (sym (flip p v a)) x) ∙ sym (low-no (turn p v b) (up-is (sym (flip p v b)) y))
+  same-right p v a b (both x y) =
+      low-is (turn p v a) (up-nn (up-is (flip v p a ∙ refl) x)) ∙ sym (low-is (turn p v b) (up-nn (up-is (flip v p b ∙ refl) y)))
+  same-right p v a b (none x y) =
+      low-no (turn p v a) (up-is (sym (flip p v a)) x) ∙ sym (low-no (turn p v b) (up-is (sym (flip p v b)) y))
 
   -- ---- along links that a ring does not touch
-  module _ (L : Flat → Flat → Type 0) (C : Flat → Type 0) (net : Net m L C) (R : List Flat) (fR : (p q : Flat) → Link R p q → L p q) (cR : (z : Flat) → Of z R → C z) where
+  module _ (L : Flat → Flat → Type 0) (C : Flat → Type 0) (net : Net m L C) (R : List Flat) (fR : (p q : Flat) → Link R p q → L p q)
+      (cR : (z : Flat) → Of z R → C z) where
     step : (z z' : Flat) → L z z' → (h z ≡ h z' → ⊥) → Clear z R → Clear z' R → odd z R ≡ odd z' R
-    step z z' l ne c c' = along m z z' ne R c c' (λ a b k x. net .clear l (fR a b k) x) (λ a b k x. net .free l (cR a (link-of R a b k)) x) (λ a b k x. net .free (net .back l) (cR a (link-of R a b k)) x)
+    step z z' l ne c c' =
+        along m z z' ne R c c' (λ a b k x. net .clear l (fR a b k) x) (λ a b k x. net .free l (cR a (link-of R a b k)) x)
+        (λ a b k x. net .free (net .back l) (cR a (link-of R a b k)) x)
 
-    pub onward : (x : Flat) (l : List Flat) (e : Flat) → Distinct m (x ∷ l) → ((p q : Flat) → Chain x l e p q → L p q) → ((z : Flat) → Of z (x ∷ l) → Clear z R) → odd x R ≡ false → (z : Flat) → Of z (x ∷ l) → odd z R ≡ false
+    pub onward : (x : Flat) (l : List Flat) (e : Flat) → Distinct m (x ∷ l) → ((p q : Flat) → Chain x l e p q → L p q)
+        → ((z : Flat) → Of z (x ∷ l) → Clear z R) → odd x R ≡ false → (z : Flat) → Of z (x ∷ l) → odd z R ≡ false
     onward x [] e d f c s z (inl q) = ap (λ (y : Flat). odd y R) q ∙ s
     onward x [] e d f c s z (inr o) = absurd o
     onward x (y ∷ l) e d f c s z (inl q) = ap (λ (y : Flat). odd y R) q ∙ s
     onward x (y ∷ l) e d f c s z (inr o) =
-        onward y l e (d .1) (λ p q k. f p q (inr k)) (λ t k. c t (inr k)) (sym (step x y (f x y (inl (inl (refl, refl)))) (λ q. d .0 y (inl refl) (sym q)) (c x (inl refl)) (c y (inr (inl refl)))) ∙ s) z o
+        onward y l e (d .1) (λ p q k. f p q (inr k)) (λ t k. c t (inr k))
+        (sym (step x y (f x y (inl (inl (refl, refl)))) (λ q. d .0 y (inl refl) (sym q)) (c x (inl refl)) (c y (inr (inl refl)))) ∙ s) z o
 
-    pub backward : (x : Flat) (l : List Flat) (e : Flat) → Distinct m (x ∷ l) → ((p q : Flat) → Chain x l e p q → L p q) → ((z : Flat) → Of z (x ∷ l) → Clear z R) → odd (lst x l) R ≡ false → (z : Flat) → Of z (x ∷ l) → odd z R ≡ false
+    pub backward : (x : Flat) (l : List Flat) (e : Flat) → Distinct m (x ∷ l) → ((p q : Flat) → Chain x l e p q → L p q)
+        → ((z : Flat) → Of z (x ∷ l) → Clear z R) → odd (lst x l) R ≡ false → (z : Flat) → Of z (x ∷ l) → odd z R ≡ false
     backward x [] e d f c s z (inl q) = ap (λ (y : Flat). odd y R) q ∙ s
     backward x [] e d f c s z (inr o) = absurd o
     backward x (y ∷ l) e d f c s z (inr o) = backward y l e (d .1) (λ p q k. f p q (inr k)) (λ t k. c t (inr k)) s z o
     backward x (y ∷ l) e d f c s z (inl q) =
-        ap (λ (y : Flat). odd y R) q ∙ step x y (f x y (inl (inl (refl, refl)))) (λ q. d .0 y (inl refl) (sym q)) (c x (inl refl)) (c y (inr (inl refl)))
+        ap (λ (y : Flat). odd y R) q ∙ step x y (f x y (inl (inl (refl, refl)))) (λ q. d .0 y (inl refl) (sym q)) (c x (inl refl))
+        (c y (inr (inl refl)))
         ∙ backward y l e (d .1) (λ p q k. f p q (inr k)) (λ t k. c t (inr k)) s y (inl refl)
 
   -- ---- a ring and a chord
-  pub joint : (g : List Flat) (x y : Flat) → Simple m g → Ok m (Link g) (λ z. Of z g) x y → Of x g → Of y g → Net m (λ p q. Link g p q ⊎ Pair x y p q) (λ z. Of z g)
+  pub joint : (g : List Flat) (x y : Flat) → Simple m g → Ok m (Link g) (λ z. Of z g) x y → Of x g → Of y g
+      → Net m (λ p q. Link g p q ⊎ Pair x y p q) (λ z. Of z g)
   joint g x y s ok ox oy = record {
     back = (λ {p} {q} l. bk p q l);
     end = (λ {p} {q} l. en p q l);
@@ -168,7 +186,9 @@ module _ (m : ℤ) where
 
       chord : (p q r t : Flat) → Pair x y p q → Link g r t → Cross p q r t → ⊥
       chord p q r t (inl e) l c = ok .uncut l (subst (λ (z : Flat). Cross z y r t) (e .0) (subst (λ (z : Flat). Cross p z r t) (e .1) c))
-      chord p q r t (inr e) l c = ok .uncut (link-back g r t l) (cross-back m (subst (λ (z : Flat). Cross z x r t) (e .0) (subst (λ (z : Flat). Cross p z r t) (e .1) c)))
+      chord p q r t (inr e) l c =
+          ok .uncut (link-back g r t l)
+          (cross-back m (subst (λ (z : Flat). Cross z x r t) (e .0) (subst (λ (z : Flat). Cross p z r t) (e .1) c)))
 
       twice : (p q r t : Flat) → Pair x y p q → Pair x y r t → Cross p q r t → ⊥
       twice p q r t (inl e) (inl f) c = zero-off (ap (turn p q) (f .0 ∙ sym (e .0)) ∙ flat-first p q) (c .left)
@@ -185,11 +205,14 @@ module _ (m : ℤ) where
       free2 : (p q r : Flat) → Link g p q ⊎ Pair x y p q → Of r g → On m p q r → ⊥
       free2 p q r (inl l) n c = s .net .free l n c
       free2 p q r (inr (inl e)) n c = ok .bare n (subst (λ (z : Flat). On m z y r) (e .0) (subst (λ (z : Flat). On m p z r) (e .1) c))
-      free2 p q r (inr (inr e)) n c = ok .bare-back n (subst (λ (z : Flat). On m z x r) (e .0) (subst (λ (z : Flat). On m p z r) (e .1) c))
+      free2 p q r (inr (inr e)) n c =
+          ok .bare-back n (subst (λ (z : Flat). On m z x r) (e .0) (subst (λ (z : Flat). On m p z r) (e .1) c))
 
   -- ---- the parts
-  module _ (v x : Flat) (X : List Flat) (w y : Flat) (Y : List Flat) (s : Simple m (v ∷ x ∷ (X ++ w ∷ y ∷ Y))) (low : Least m v (x ∷ (X ++ w ∷ y ∷ Y)))
-      (ok : Ok m (Link (v ∷ x ∷ (X ++ w ∷ y ∷ Y))) (λ z. Of z (v ∷ x ∷ (X ++ w ∷ y ∷ Y))) v w) (s1 : Same (turn v x w) (turn v x (lst y Y))) (s2 : Same (turn v w (lst y Y)) (turn v x (lst y Y))) where
+  module _ (v x : Flat) (X : List Flat) (w y : Flat) (Y : List Flat) (s : Simple m (v ∷ x ∷ (X ++ w ∷ y ∷ Y)))
+      (low : Least m v (x ∷ (X ++ w ∷ y ∷ Y)))
+      (ok : Ok m (Link (v ∷ x ∷ (X ++ w ∷ y ∷ Y))) (λ z. Of z (v ∷ x ∷ (X ++ w ∷ y ∷ Y))) v w)
+      (s1 : Same (turn v x w) (turn v x (lst y Y))) (s2 : Same (turn v w (lst y Y)) (turn v x (lst y Y))) where
     abbrev g : List Flat
     g = v ∷ x ∷ (X ++ w ∷ y ∷ Y)
 
@@ -257,18 +280,25 @@ module _ (m : ℤ) where
     clear2 : (z : Flat) → Of z (x ∷ X) → Clear z P2
     clear2 z o p q l =
         let oz = of-left z (x ∷ X) (w ∷ y ∷ Y) o in
-        off-link m z p q (not2 z o p (link-of P2 p q l)) (not2 z o q (link-of P2 q p (link-back P2 p q l))) (λ c. net .free (f2 p q l) (inr oz) c) (λ c. net .free (f2 q p (link-back P2 p q l)) (inr oz) c)
+        off-link m z p q (not2 z o p (link-of P2 p q l)) (not2 z o q (link-of P2 q p (link-back P2 p q l)))
+        (λ c. net .free (f2 p q l) (inr oz) c) (λ c. net .free (f2 q p (link-back P2 p q l)) (inr oz) c)
 
     clear1 : (z : Flat) → Of z (y ∷ Y) → Clear z P1
     clear1 z o p q l =
         let oz = of-right z (x ∷ X) (w ∷ y ∷ Y) (inr o) in
-        off-link m z p q (not1 z o p (link-of P1 p q l)) (not1 z o q (link-of P1 q p (link-back P1 p q l))) (λ c. net .free (f1 p q l) (inr oz) c) (λ c. net .free (f1 q p (link-back P1 p q l)) (inr oz) c)
+        off-link m z p q (not1 z o p (link-of P1 p q l)) (not1 z o q (link-of P1 q p (link-back P1 p q l)))
+        (λ c. net .free (f1 p q l) (inr oz) c) (λ c. net .free (f1 q p (link-back P1 p q l)) (inr oz) c)
 
     -- from x on, outside of the second
     start2 : odd x P2 ≡ false
     start2 =
         by-low m x v P2 (clear2 x (inl refl)) (low x (inl refl))
-        ∙ fan m x v w (y ∷ Y) low2 (record { up = low x (inl refl); uncut = (λ a b k c. net .clear (inl (first-link m v x (X ++ w ∷ y ∷ Y))) (f2 a b k) c); bare = (λ a k c. net .free (inl (first-link m v x (X ++ w ∷ y ∷ Y))) (in2 a k) c) })
+        ∙ fan m x v w (y ∷ Y) low2
+        (record {
+          up = low x (inl refl);
+          uncut = (λ a b k c. net .clear (inl (first-link m v x (X ++ w ∷ y ∷ Y))) (f2 a b k) c);
+          bare = (λ a k c. net .free (inl (first-link m v x (X ++ w ∷ y ∷ Y))) (in2 a k) c);
+        })
         ∙ ap (λ (b : Bool). xor b (right x v (lst y Y))) (same-right x v w (lst y Y) s1) ∙ xor-self (right x v (lst y Y))
 
     sub-x : Sub (x ∷ X) g
@@ -279,7 +309,9 @@ module _ (m : ℤ) where
         sub-left' (z ∷ l) r = keep (sub-left' l r)
 
     pub outside2 : (z : Flat) → Of z (x ∷ X) → odd z P2 ≡ false
-    outside2 = onward K (λ z. Of z g) net P2 f2 in2 x X w (sub-distinct m sub-x (s .apart)) (λ p q c. inl (chain-left v (x ∷ X) w (y ∷ Y) v p q (inr c))) clear2 start2
+    outside2 =
+        onward K (λ z. Of z g) net P2 f2 in2 x X w (sub-distinct m sub-x (s .apart))
+        (λ p q c. inl (chain-left v (x ∷ X) w (y ∷ Y) v p q (inr c))) clear2 start2
 
     -- from the last back, outside of the first
     v-last : Link g v (lst y Y)
@@ -290,7 +322,12 @@ module _ (m : ℤ) where
         let a = lst y Y in
         let k = low a (of-right a (x ∷ X) (w ∷ y ∷ Y) (inr (lst-of y Y))) in
         by-low m a v P1 (clear1 a (lst-of y Y)) k
-        ∙ fan m a v x (X ++ w ∷ []) low1 (record { up = k; uncut = (λ p q t c. net .clear (inl v-last) (f1 p q t) c); bare = (λ p t c. net .free (inl v-last) (in1 p t) c) })
+        ∙ fan m a v x (X ++ w ∷ []) low1
+        (record {
+          up = k;
+          uncut = (λ p q t c. net .clear (inl v-last) (f1 p q t) c);
+          bare = (λ p t c. net .free (inl v-last) (in1 p t) c);
+        })
         ∙ ap (λ (z : Flat). xor (right a v x) (right a v z)) (lst-append x X w [])
         ∙ ap (λ (b : Bool). xor b (right a v w)) (same-right a v x w (flip-same s2)) ∙ xor-self (right a v w)
       where
@@ -299,7 +336,9 @@ module _ (m : ℤ) where
         flip-same (none p q) = both (up-is (sym (flip-last v (lst y Y) x)) q) (up-is (sym (flip-last v (lst y Y) w)) p)
 
     pub outside1 : (z : Flat) → Of z (y ∷ Y) → odd z P1 ≡ false
-    outside1 = backward K (λ z. Of z g) net P1 f1 in1 y Y v (simple2 .apart .1 .1) (λ p q c. inl (chain-right v (x ∷ X) w (y ∷ Y) v p q (inr c))) clear1 start1
+    outside1 =
+        backward K (λ z. Of z g) net P1 f1 in1 y Y v (simple2 .apart .1 .1) (λ p q c. inl (chain-right v (x ∷ X) w (y ∷ Y) v p q (inr c)))
+        clear1 start1
 
     -- the common corners
     common : (z : Flat) → Of z P1 → Of z P2 → (z ≡ v) ⊎ (z ≡ w)
@@ -345,15 +384,19 @@ module _ (m : ℤ) where
             go (inr (inr t)) = absurd t
 
         put : (a b : Flat) → Link P1 v w × Link P2 v w → a ≡ v → b ≡ w → Link P1 a b × Link P2 a b
-        put a b q ea eb = subst (λ (t : Flat). Link P1 t b × Link P2 t b) (sym ea) (subst (λ (t : Flat). Link P1 v t × Link P2 v t) (sym eb) q)
+        put a b q ea eb =
+            subst (λ (t : Flat). Link P1 t b × Link P2 t b) (sym ea) (subst (λ (t : Flat). Link P1 v t × Link P2 v t) (sym eb) q)
 
         linked : (a b : Flat) → (a ≡ v) ⊎ (a ≡ w) → (b ≡ v) ⊎ (b ≡ w) → (h a ≡ h b → ⊥) → Link P1 a b × Link P2 a b
         linked a b (inl e) (inl f) n = absurd (n (ap h (e ∙ sym f)))
         linked a b (inr e) (inr f) n = absurd (n (ap h (e ∙ sym f)))
         linked a b (inl e) (inr f) n = put a b (vw1, first-link m v w (y ∷ Y)) e f
-        linked a b (inr e) (inl f) n = let q = put b a (vw1, first-link m v w (y ∷ Y)) f e in (link-back P1 b a (q .0), link-back P2 b a (q .1))
+        linked a b (inr e) (inl f) n =
+            let q = put b a (vw1, first-link m v w (y ∷ Y)) f e in
+            (link-back P1 b a (q .0), link-back P2 b a (q .1))
 
-        three : (a b c : Flat) → (a ≡ v) ⊎ (a ≡ w) → (b ≡ v) ⊎ (b ≡ w) → (c ≡ v) ⊎ (c ≡ w) → (h a ≡ h b → ⊥) → (h b ≡ h c → ⊥) → (h a ≡ h c → ⊥) → ⊥
+        three : (a b c : Flat) → (a ≡ v) ⊎ (a ≡ w) → (b ≡ v) ⊎ (b ≡ w) → (c ≡ v) ⊎ (c ≡ w) → (h a ≡ h b → ⊥) → (h b ≡ h c → ⊥)
+            → (h a ≡ h c → ⊥) → ⊥
         three a b c (inl e) (inl f) k n1 n2 n3 = n1 (ap h (e ∙ sym f))
         three a b c (inr e) (inr f) k n1 n2 n3 = n1 (ap h (e ∙ sym f))
         three a b c (inl e) (inr f) (inl k) n1 n2 n3 = n3 (ap h (e ∙ sym k))

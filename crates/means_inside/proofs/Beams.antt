@@ -77,7 +77,11 @@ module _ (Aa Ab Ba Bb t κ : ℤ) (k : Up κ) (e : t *ℤ κ ≡ Aa *ℤ Bb -ℤ
   t-nn x y = nn-out κ k (nn-is (ring ρ (var 4 ⊗ var 5) (var 5 ⊗ var 4) tt) (nn-is (sym e) (add-nonneg x y)))
 
   t-np : Nn (negℤ (Aa *ℤ Bb)) → Nn (Ab *ℤ Ba) → Nn (negℤ t)
-  t-np x y = nn-out κ k (nn-is (ring ρ (neg (var 4 ⊗ var 5)) (var 5 ⊗ neg (var 4)) tt) (nn-is (ap negℤ (sym e)) (nn-is (ring ρ (neg (var 0 ⊗ var 3) ⊕ var 1 ⊗ var 2) (neg (var 0 ⊗ var 3 ⊖ var 1 ⊗ var 2)) tt) (add-nonneg x y))))
+  t-np x y =
+      nn-out κ k
+      (nn-is (ring ρ (neg (var 4 ⊗ var 5)) (var 5 ⊗ neg (var 4)) tt)
+      (nn-is (ap negℤ (sym e))
+      (nn-is (ring ρ (neg (var 0 ⊗ var 3) ⊕ var 1 ⊗ var 2) (neg (var 0 ⊗ var 3 ⊖ var 1 ⊗ var 2)) tt) (add-nonneg x y))))
 
   -- products by signs
   nnp : (x y : ℤ) → Nn (negℤ x) → Nn (negℤ y) → Nn (x *ℤ y)
@@ -138,22 +142,47 @@ module _ (Aa Ab Ba Bb t κ : ℤ) (k : Up κ) (e : t *ℤ κ ≡ Aa *ℤ Bb -ℤ
     cases false false true true p q r s = refl
     cases false false false false p q r s = refl
     -- the first differs
-    cases true false true true p q r s = λ i. xor (above-is t (up-of (t-nn (nnp Aa Bb (yes-low Aa p) (yes-low Bb s)) (pnn Ab Ba (up-nn (no-low Ab q)) (yes-low Ba r))) (λ z. bad _ _ p q (sa z))) i) false
-    cases true false false false p q r s = λ i. xor (above-no t (t-np (npn Aa Bb (yes-low Aa p) (up-nn (no-low Bb s))) (mul-nonneg (up-nn (no-low Ab q)) (up-nn (no-low Ba r)))) i) false
-    cases false true true true p q r s = λ i. xor (below-is t (dn-of (t-np (pnn Aa Bb (up-nn (no-low Aa p)) (yes-low Bb s)) (nnp Ab Ba (yes-low Ab q) (yes-low Ba r))) (λ z. bad' _ _ p q (sa z))) i) false
-    cases false true false false p q r s = λ i. xor (below-no t (t-nn (mul-nonneg (up-nn (no-low Aa p)) (up-nn (no-low Bb s))) (npn Ab Ba (yes-low Ab q) (up-nn (no-low Ba r)))) i) false
+    cases true false true true p q r s =
+        λ i. xor
+        (above-is t
+        (up-of (t-nn (nnp Aa Bb (yes-low Aa p) (yes-low Bb s)) (pnn Ab Ba (up-nn (no-low Ab q)) (yes-low Ba r)))
+        (λ z. bad _ _ p q (sa z))) i) false
+    cases true false false false p q r s =
+        λ i. xor
+        (above-no t (t-np (npn Aa Bb (yes-low Aa p) (up-nn (no-low Bb s))) (mul-nonneg (up-nn (no-low Ab q)) (up-nn (no-low Ba r)))) i)
+        false
+    cases false true true true p q r s =
+        λ i. xor
+        (below-is t
+        (dn-of (t-np (pnn Aa Bb (up-nn (no-low Aa p)) (yes-low Bb s)) (nnp Ab Ba (yes-low Ab q) (yes-low Ba r)))
+        (λ z. bad' _ _ p q (sa z))) i) false
+    cases false true false false p q r s =
+        λ i. xor
+        (below-no t (t-nn (mul-nonneg (up-nn (no-low Aa p)) (up-nn (no-low Bb s))) (npn Ab Ba (yes-low Ab q) (up-nn (no-low Ba r)))) i)
+        false
     -- the second differs
-    cases true true true false p q r s = λ i. xor false (above-no t (t-np (npn Aa Bb (yes-low Aa p) (up-nn (no-low Bb s))) (nnp Ab Ba (yes-low Ab q) (yes-low Ba r))) i)
-    cases false false true false p q r s = λ i. xor false (above-is t (up-of (t-nn (mul-nonneg (up-nn (no-low Aa p)) (up-nn (no-low Bb s))) (pnn Ab Ba (up-nn (no-low Ab q)) (yes-low Ba r))) (λ z. bad _ _ r s (sb z))) i)
-    cases true true false true p q r s = λ i. xor false (below-no t (t-nn (nnp Aa Bb (yes-low Aa p) (yes-low Bb s)) (npn Ab Ba (yes-low Ab q) (up-nn (no-low Ba r)))) i)
-    cases false false false true p q r s = λ i. xor false (below-is t (dn-of (t-np (pnn Aa Bb (up-nn (no-low Aa p)) (yes-low Bb s)) (mul-nonneg (up-nn (no-low Ab q)) (up-nn (no-low Ba r)))) (λ z. bad' _ _ r s (sb z))) i)
+    cases true true true false p q r s =
+        λ i. xor false (above-no t (t-np (npn Aa Bb (yes-low Aa p) (up-nn (no-low Bb s))) (nnp Ab Ba (yes-low Ab q) (yes-low Ba r))) i)
+    cases false false true false p q r s =
+        λ i. xor false
+        (above-is t
+        (up-of (t-nn (mul-nonneg (up-nn (no-low Aa p)) (up-nn (no-low Bb s))) (pnn Ab Ba (up-nn (no-low Ab q)) (yes-low Ba r)))
+        (λ z. bad _ _ r s (sb z))) i)
+    cases true true false true p q r s =
+        λ i. xor false (below-no t (t-nn (nnp Aa Bb (yes-low Aa p) (yes-low Bb s)) (npn Ab Ba (yes-low Ab q) (up-nn (no-low Ba r)))) i)
+    cases false false false true p q r s =
+        λ i. xor false
+        (below-is t
+        (dn-of (t-np (pnn Aa Bb (up-nn (no-low Aa p)) (yes-low Bb s)) (mul-nonneg (up-nn (no-low Ab q)) (up-nn (no-low Ba r))))
+        (λ z. bad' _ _ r s (sb z))) i)
     -- both differ
     cases true false true false p q r s = xor-self (above t)
     cases true false false true p q r s = either (λ z. bad _ _ p q (sa z))
     cases false true true false p q r s = either' (λ z. bad' _ _ p q (sa z))
     cases false true false true p q r s = xor-self (below t)
 
-    pub two-rays : xor (meetsRay (leZ Aa (pos 0)) (leZ Ab (pos 0)) t) (meetsRay (leZ Ba (pos 0)) (leZ Bb (pos 0)) t) ≡ xor (sect (leZ Aa (pos 0)) (leZ Ba (pos 0))) (sect (leZ Ab (pos 0)) (leZ Bb (pos 0)))
+    pub two-rays : xor (meetsRay (leZ Aa (pos 0)) (leZ Ab (pos 0)) t) (meetsRay (leZ Ba (pos 0)) (leZ Bb (pos 0)) t) ≡ xor
+        (sect (leZ Aa (pos 0)) (leZ Ba (pos 0))) (sect (leZ Ab (pos 0)) (leZ Bb (pos 0)))
     two-rays = cases (leZ Aa (pos 0)) (leZ Ab (pos 0)) (leZ Ba (pos 0)) (leZ Bb (pos 0)) refl refl refl refl
 
 -- ---- of points
@@ -168,25 +197,37 @@ module _ (p : Flat) where
 
       -- by a's place, and by b's
       at-b : facing p a a *ℤ turn p q b ≡ facing p a b *ℤ turn p q a
-      at-b = ring-with σ (((uE 2 ⊖ uE 0) ⊗ (uE 2 ⊖ uE 0) ⊕ (vE 2 ⊖ vE 0) ⊗ (vE 2 ⊖ vE 0)) ⊗ tE 0 1 3) (((uE 2 ⊖ uE 0) ⊗ (uE 3 ⊖ uE 0) ⊕ (vE 2 ⊖ vE 0) ⊗ (vE 3 ⊖ vE 0)) ⊗ tE 0 1 2)
+      at-b =
+          ring-with σ (((uE 2 ⊖ uE 0) ⊗ (uE 2 ⊖ uE 0) ⊕ (vE 2 ⊖ vE 0) ⊗ (vE 2 ⊖ vE 0)) ⊗ tE 0 1 3)
+          (((uE 2 ⊖ uE 0) ⊗ (uE 3 ⊖ uE 0) ⊕ (vE 2 ⊖ vE 0) ⊗ (vE 3 ⊖ vE 0)) ⊗ tE 0 1 2)
           ((uE 1 ⊖ uE 0) ⊗ (uE 2 ⊖ uE 0) ⊕ (vE 1 ⊖ vE 0) ⊗ (vE 2 ⊖ vE 0)) (tE 2 3 0) (con (pos 0)) tt z
 
       at-a : facing p b b *ℤ turn p q a ≡ facing p a b *ℤ turn p q b
-      at-a = ring-with σ (((uE 3 ⊖ uE 0) ⊗ (uE 3 ⊖ uE 0) ⊕ (vE 3 ⊖ vE 0) ⊗ (vE 3 ⊖ vE 0)) ⊗ tE 0 1 2) (((uE 2 ⊖ uE 0) ⊗ (uE 3 ⊖ uE 0) ⊕ (vE 2 ⊖ vE 0) ⊗ (vE 3 ⊖ vE 0)) ⊗ tE 0 1 3)
+      at-a =
+          ring-with σ (((uE 3 ⊖ uE 0) ⊗ (uE 3 ⊖ uE 0) ⊕ (vE 3 ⊖ vE 0) ⊗ (vE 3 ⊖ vE 0)) ⊗ tE 0 1 2)
+          (((uE 2 ⊖ uE 0) ⊗ (uE 3 ⊖ uE 0) ⊕ (vE 2 ⊖ vE 0) ⊗ (vE 3 ⊖ vE 0)) ⊗ tE 0 1 3)
           (neg ((uE 1 ⊖ uE 0) ⊗ (uE 3 ⊖ uE 0) ⊕ (vE 1 ⊖ vE 0) ⊗ (vE 3 ⊖ vE 0))) (tE 2 3 0) (con (pos 0)) tt z
 
       -- a square with a factor above 0 times what is above 0
       clash : (s x y : ℤ) → Nn s → s *ℤ y ≡ facing p a b *ℤ x → Nn (negℤ y) → Up x → ⊥
-      clash s x y n e h l = off (up-is (sym e) (mul-pos f l)) (nn-is (ring (s ∷ y ∷ []) (var 0 ⊗ neg (var 1)) (neg (var 0 ⊗ var 1)) tt) (mul-nonneg n h))
+      clash s x y n e h l =
+          off (up-is (sym e) (mul-pos f l)) (nn-is (ring (s ∷ y ∷ []) (var 0 ⊗ neg (var 1)) (neg (var 0 ⊗ var 1)) tt) (mul-nonneg n h))
 
       sq : (x y : ℤ) → Nn (x *ℤ x +ℤ y *ℤ y)
       sq x y = add-nonneg (square-nonneg x) (square-nonneg y)
 
-      go : (x y : Bool) → leZ (turn p q a) (pos 0) ≡ x → leZ (turn p q b) (pos 0) ≡ y → leZ (turn p q a) (pos 0) ≡ leZ (turn p q b) (pos 0)
+      go : (x y : Bool) → leZ (turn p q a) (pos 0) ≡ x → leZ (turn p q b) (pos 0) ≡ y
+          → leZ (turn p q a) (pos 0) ≡ leZ (turn p q b) (pos 0)
       go true true e h = e ∙ sym h
       go false false e h = e ∙ sym h
-      go true false e h = absurd (clash (facing p b b) (turn p q b) (turn p q a) (sq (b .u -ℤ p .u) (b .v -ℤ p .v)) at-a (yes-low (turn p q a) e) (no-low (turn p q b) h))
-      go false true e h = absurd (clash (facing p a a) (turn p q a) (turn p q b) (sq (a .u -ℤ p .u) (a .v -ℤ p .v)) at-b (yes-low (turn p q b) h) (no-low (turn p q a) e))
+      go true false e h =
+          absurd
+          (clash (facing p b b) (turn p q b) (turn p q a) (sq (b .u -ℤ p .u) (b .v -ℤ p .v)) at-a (yes-low (turn p q a) e)
+          (no-low (turn p q b) h))
+      go false true e h =
+          absurd
+          (clash (facing p a a) (turn p q a) (turn p q b) (sq (a .u -ℤ p .u) (a .v -ℤ p .v)) at-b (yes-low (turn p q b) h)
+          (no-low (turn p q a) e))
 
   cross4 : (q r a b : Flat) → turn a b p *ℤ turn p q r ≡ turn p q a *ℤ turn p r b -ℤ turn p q b *ℤ turn p r a
   unfolding turn
@@ -212,12 +253,15 @@ module _ (p : Flat) where
 
   quarter-is : (q : Flat) → turn p q (quarter q) ≡ facing p q q
   unfolding turn facing quarter
-  quarter-is q = ring (env (pos 0) (p ∷ q ∷ [])) ((uE 1 ⊖ uE 0) ⊗ ((vE 0 ⊕ (uE 1 ⊖ uE 0)) ⊖ vE 0) ⊖ (vE 1 ⊖ vE 0) ⊗ ((uE 0 ⊖ (vE 1 ⊖ vE 0)) ⊖ uE 0))
+  quarter-is q =
+      ring (env (pos 0) (p ∷ q ∷ [])) ((uE 1 ⊖ uE 0) ⊗ ((vE 0 ⊕ (uE 1 ⊖ uE 0)) ⊖ vE 0) ⊖ (vE 1 ⊖ vE 0) ⊗ ((uE 0 ⊖ (vE 1 ⊖ vE 0)) ⊖ uE 0))
       ((uE 1 ⊖ uE 0) ⊗ (uE 1 ⊖ uE 0) ⊕ (vE 1 ⊖ vE 0) ⊗ (vE 1 ⊖ vE 0)) tt
 
   quarter-on : (q r : Flat) → turn p r (quarter q) ≡ facing p q r
   unfolding turn facing quarter
-  quarter-on q r = ring (env (pos 0) (p ∷ q ∷ r ∷ [])) ((uE 2 ⊖ uE 0) ⊗ ((vE 0 ⊕ (uE 1 ⊖ uE 0)) ⊖ vE 0) ⊖ (vE 2 ⊖ vE 0) ⊗ ((uE 0 ⊖ (vE 1 ⊖ vE 0)) ⊖ uE 0))
+  quarter-on q r =
+      ring (env (pos 0) (p ∷ q ∷ r ∷ []))
+      ((uE 2 ⊖ uE 0) ⊗ ((vE 0 ⊕ (uE 1 ⊖ uE 0)) ⊖ vE 0) ⊖ (vE 2 ⊖ vE 0) ⊗ ((uE 0 ⊖ (vE 1 ⊖ vE 0)) ⊖ uE 0))
       ((uE 1 ⊖ uE 0) ⊗ (uE 2 ⊖ uE 0) ⊕ (vE 1 ⊖ vE 0) ⊗ (vE 2 ⊖ vE 0)) tt
 
   -- the two cannot both be 0
@@ -228,7 +272,8 @@ module _ (p : Flat) where
       ring (env (pos 0) (p ∷ q ∷ r ∷ [])) (tE 0 1 2 ⊗ tE 0 1 2 ⊕ fE 1 2 ⊗ fE 1 2) (fE 1 1 ⊗ fE 2 2) tt
 
   -- the rays through any two points other than p
-  pub every-ray : (q r : Flat) → Up (facing p q q) → Up (facing p r r) → (g : List Flat) → Clear p g → round (beam p q) g ≡ round (beam p r) g
+  pub every-ray : (q r : Flat) → Up (facing p q q) → Up (facing p r r) → (g : List Flat) → Clear p g
+      → round (beam p q) g ≡ round (beam p r) g
   every-ray q r hq hr g c = go (ways (turn p q r))
     where
       straight : turn p q r ≡ pos 0 → facing p q r ≡ pos 0 → ⊥
@@ -236,5 +281,7 @@ module _ (p : Flat) where
 
       go : Up (turn p q r) ⊎ ((turn p q r ≡ pos 0) ⊎ Up (negℤ (turn p q r))) → round (beam p q) g ≡ round (beam p r) g
       go (inl k) = left-of q r k g c
-      go (inr (inl z)) = left-of q (quarter q) (up-is (sym (quarter-is q)) hq) g c ∙ sym (any-of r (quarter q) (λ e. straight z (sym (quarter-on q r) ∙ e)) g c)
+      go (inr (inl z)) =
+          left-of q (quarter q) (up-is (sym (quarter-is q)) hq) g c
+          ∙ sym (any-of r (quarter q) (λ e. straight z (sym (quarter-on q r) ∙ e)) g c)
       go (inr (inr k)) = sym (left-of r q (up-is (sym (flip-last p r q)) k) g c)

@@ -21,13 +21,18 @@ use Rattle.means_inside.proofs.Triangle.{self-up, by-ray}
 
 module _ (m : ℤ) where
   -- what is seen from v, of any links
-  module _ (L : Flat → Flat → Type 0) (Corner : Flat → Type 0) (net : Net m L Corner) (v a b : Flat) (va : L v a) (vb : L v b) (ha : height m v <ℤ height m a) (hb : height m v <ℤ height m b)
+  module _ (L : Flat → Flat → Type 0) (Corner : Flat → Type 0) (net : Net m L Corner) (v a b : Flat) (va : L v a) (vb : L v b)
+      (ha : height m v <ℤ height m a) (hb : height m v <ℤ height m b)
       (p : Flat) (i : In v a b p) (top : (r : Flat) → Corner r → In v a b r → turn a b r ≤ℤ turn a b p) where
     pub seen-from : (g : List Flat) → ((x y : Flat) → Link g x y → L x y) → ((x : Flat) → Of x g → Corner x) → Seen m v p g
     seen-from g f o =
         let D = in-sense v a b p i in
         let k = diagonal m L Corner net v a b D va vb ha hb p i top in
-        record { up = higher m L Corner net v a b D va vb ha hb p i top; uncut = (λ x y l c. k .uncut (f x y l) c); bare = (λ x c q. k .bare (o x c) q) }
+        record {
+          up = higher m L Corner net v a b D va vb ha hb p i top;
+          uncut = (λ x y l c. k .uncut (f x y l) c);
+          bare = (λ x c q. k .bare (o x c) q);
+        }
 
   -- the ray through a lower point
   pub by-low : (p v : Flat) (g : List Flat) → Clear p g → height m v <ℤ height m p → odd p g ≡ round (beam p v) g
@@ -46,19 +51,29 @@ module _ (m : ℤ) where
     -- between the neighbours
     pub fan-in : Seen m v p (v ∷ x ∷ l) → Up (turn v x p) → Up (turn (lst x l) v p) → odd p (v ∷ x ∷ l) ≡ true
     unfolding xor
-    fan-in s hx hy = by-low p v (v ∷ x ∷ l) c (s .up) ∙ fan m p v x l low s ∙ (λ i. xor (on-left p v x hx i) (on-right p v (lst x l) (up-nn hy) i))
+    fan-in s hx hy =
+        by-low p v (v ∷ x ∷ l) c (s .up) ∙ fan m p v x l low s ∙ (λ i. xor (on-left p v x hx i) (on-right p v (lst x l) (up-nn hy) i))
 
     pub fan-in' : Seen m v p (v ∷ x ∷ l) → Up (turn x v p) → Up (turn v (lst x l) p) → odd p (v ∷ x ∷ l) ≡ true
     unfolding xor
-    fan-in' s hx hy = by-low p v (v ∷ x ∷ l) c (s .up) ∙ fan m p v x l low s ∙ (λ i. xor (on-right p v x (up-nn hx) i) (on-left p v (lst x l) hy i))
+    fan-in' s hx hy =
+        by-low p v (v ∷ x ∷ l) c (s .up) ∙ fan m p v x l low s ∙ (λ i. xor (on-right p v x (up-nn hx) i) (on-left p v (lst x l) hy i))
 
     module _ (s : Simple m (v ∷ x ∷ l)) where
       -- in the triangle, and no corner is farther
-      pub cap : In v x (lst x l) p → ((r : Flat) → Of r (v ∷ x ∷ l) → In v x (lst x l) r → turn x (lst x l) r ≤ℤ turn x (lst x l) p) → odd p (v ∷ x ∷ l) ≡ true
-      cap i top = fan-in (seen-from (Link (v ∷ x ∷ l)) (λ r. Of r (v ∷ x ∷ l)) (s .net) v x (lst x l) (first-link m v x l) (last-link m v x l) (low x (inl refl)) (low (lst x l) (lst-of x l)) p i top (v ∷ x ∷ l) (λ a b t. t) (λ a o. o)) (i .by-b) (i .by-a)
+      pub cap : In v x (lst x l) p → ((r : Flat) → Of r (v ∷ x ∷ l) → In v x (lst x l) r → turn x (lst x l) r ≤ℤ turn x (lst x l) p)
+          → odd p (v ∷ x ∷ l) ≡ true
+      cap i top =
+          fan-in
+          (seen-from (Link (v ∷ x ∷ l)) (λ r. Of r (v ∷ x ∷ l)) (s .net) v x (lst x l) (first-link m v x l) (last-link m v x l)
+          (low x (inl refl)) (low (lst x l) (lst-of x l)) p i top (v ∷ x ∷ l) (λ a b t. t) (λ a o. o)) (i .by-b) (i .by-a)
 
-      pub cap' : In v (lst x l) x p → ((r : Flat) → Of r (v ∷ x ∷ l) → In v (lst x l) x r → turn (lst x l) x r ≤ℤ turn (lst x l) x p) → odd p (v ∷ x ∷ l) ≡ true
-      cap' i top = fan-in' (seen-from (Link (v ∷ x ∷ l)) (λ r. Of r (v ∷ x ∷ l)) (s .net) v (lst x l) x (last-link m v x l) (first-link m v x l) (low (lst x l) (lst-of x l)) (low x (inl refl)) p i top (v ∷ x ∷ l) (λ a b t. t) (λ a o. o)) (i .by-a) (i .by-b)
+      pub cap' : In v (lst x l) x p → ((r : Flat) → Of r (v ∷ x ∷ l) → In v (lst x l) x r → turn (lst x l) x r ≤ℤ turn (lst x l) x p)
+          → odd p (v ∷ x ∷ l) ≡ true
+      cap' i top =
+          fan-in'
+          (seen-from (Link (v ∷ x ∷ l)) (λ r. Of r (v ∷ x ∷ l)) (s .net) v (lst x l) x (last-link m v x l) (first-link m v x l)
+          (low (lst x l) (lst-of x l)) (low x (inl refl)) p i top (v ∷ x ∷ l) (λ a b t. t) (λ a o. o)) (i .by-a) (i .by-b)
 
       -- in an empty triangle
       pub ear-in : ((z : Flat) → Of z (v ∷ x ∷ l) → Hit v x (lst x l) z → ⊥) → Hit v x (lst x l) p → odd p (v ∷ x ∷ l) ≡ true

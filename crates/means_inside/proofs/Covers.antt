@@ -36,7 +36,10 @@ within-hit v x y p n ox oy (right a b c) = go (ways (turn v x y))
     go : Up (turn v x y) ⊎ ((turn v x y ≡ pos 0) ⊎ Up (negℤ (turn v x y))) → Hit v x y p
     go (inl D) = absurd (off D (nn-is (sum-neg v x y p) (add-nonneg (add-nonneg (nn-is (sym (flip y x p)) b) c) a)))
     go (inr (inl k)) = absurd (n k)
-    go (inr (inr D)) = inr (inn v y x p (up-is (sym (flip-last v y x)) D) oy ox (nn-is (sym (flip y x p)) b) (nn-is (sym (flip x v p)) a) (nn-is (sym (flip v y p)) c))
+    go (inr (inr D)) =
+        inr
+        (inn v y x p (up-is (sym (flip-last v y x)) D) oy ox (nn-is (sym (flip y x p)) b) (nn-is (sym (flip x v p)) a)
+        (nn-is (sym (flip v y p)) c))
 
 -- a simple triangle is no line
 pub three-turn : (m : ℤ) (a b c : Flat) → Simple m (a ∷ b ∷ c ∷ []) → turn a b c ≡ pos 0 → ⊥
@@ -57,7 +60,8 @@ on-side v a b p n e f = go (ways (turn v a b))
         let D' = up-is (sym (flip-last v b a)) D in
         let e' = flip b a p ∙ ap negℤ e in
         let f' = nn-is (ap negℤ (facing-back p a b)) f in
-        right (nn-is (flip a v p) (base-a v b a p D' e' f')) (nn-is (ap negℤ (sym e)) (record { le = tt })) (nn-is (flip v b p) (base-b v b a p D' e' f'))
+        right (nn-is (flip a v p) (base-a v b a p D' e' f')) (nn-is (ap negℤ (sym e)) (record { le = tt }))
+        (nn-is (flip v b p) (base-b v b a p D' e' f'))
 
 -- the next corner first
 turn-within : (a b c p : Flat) → InTriangle b c a p → InTriangle a b c p
@@ -82,15 +86,19 @@ module _ (a b c p : Flat) (n : turn a b c ≡ pos 0 → ⊥) where
       clear x y z = pick (ways (turn a b c))
         where
           pick : Up (turn a b c) ⊎ ((turn a b c ≡ pos 0) ⊎ Up (negℤ (turn a b c))) → InTriangle a b c p
-          pick (inl D) = let k = clear3 a b c p x (off-back p c a z) n b c x (off-back p c a z) y in left (odd-b a b c p D k o) (odd-far a b c p D k o) (odd-a a b c p D k o)
+          pick (inl D) =
+              let k = clear3 a b c p x (off-back p c a z) n b c x (off-back p c a z) y in
+              left (odd-b a b c p D k o) (odd-far a b c p D k o) (odd-a a b c p D k o)
           pick (inr (inl k)) = absurd (n k)
           pick (inr (inr D)) =
               let D' = up-is (sym (flip-last a c b)) D in
               let k = clear3 a b c p x (off-back p c a z) n c b (off-back p c a z) x (off-back p b c y) in
               let o' = sym (flip3 a b c p x (off-back p c a z) n (beam p (east p)) (beam-back p (east p))) ∙ o in
-              right (nn-is (flip b a p) (odd-a a c b p D' k o')) (nn-is (flip c b p) (odd-far a c b p D' k o')) (nn-is (flip a c p) (odd-b a c b p D' k o'))
+              right (nn-is (flip b a p) (odd-a a c b p D' k o')) (nn-is (flip c b p) (odd-far a c b p D' k o'))
+              (nn-is (flip a c p) (odd-b a c b p D' k o'))
 
-      go : Off p a b ⊎ ((turn a b p ≡ pos 0) × Nn (negℤ (facing p a b))) → Off p b c ⊎ ((turn b c p ≡ pos 0) × Nn (negℤ (facing p b c))) → Off p c a ⊎ ((turn c a p ≡ pos 0) × Nn (negℤ (facing p c a))) → InTriangle a b c p
+      go : Off p a b ⊎ ((turn a b p ≡ pos 0) × Nn (negℤ (facing p a b))) → Off p b c ⊎ ((turn b c p ≡ pos 0) × Nn (negℤ (facing p b c)))
+          → Off p c a ⊎ ((turn c a p ≡ pos 0) × Nn (negℤ (facing p c a))) → InTriangle a b c p
       go (inr k) y z = ab (k .0) (k .1)
       go (inl x) (inr k) z = bc (k .0) (k .1)
       go (inl x) (inl y) (inr k) = ca (k .0) (k .1)
@@ -99,8 +107,10 @@ module _ (a b c p : Flat) (n : turn a b c ≡ pos 0 → ⊥) where
   pub touch-within : Touch p (a ∷ b ∷ c ∷ []) → InTriangle a b c p
   touch-within t = go (t .side)
     where
-      pair : (d e : Flat) → (turn d e p ≡ pos 0 → Nn (negℤ (facing p d e)) → InTriangle a b c p) → Pair d e (t .a) (t .b) → InTriangle a b c p
-      pair d e f (inl q) = f ((λ i. turn (sym (q .0) i) (sym (q .1) i) p) ∙ t .line) (nn-is (λ i. negℤ (facing p (q .0 i) (q .1 i))) (t .mid))
+      pair : (d e : Flat) → (turn d e p ≡ pos 0 → Nn (negℤ (facing p d e)) → InTriangle a b c p) → Pair d e (t .a) (t .b)
+          → InTriangle a b c p
+      pair d e f (inl q) =
+          f ((λ i. turn (sym (q .0) i) (sym (q .1) i) p) ∙ t .line) (nn-is (λ i. negℤ (facing p (q .0 i) (q .1 i))) (t .mid))
       pair d e f (inr q) =
           f (flip d e p ∙ ap negℤ ((λ i. turn (sym (q .0) i) (sym (q .1) i) p) ∙ t .line))
           (nn-is (ap negℤ (facing-back p e d)) (nn-is (λ i. negℤ (facing p (q .0 i) (q .1 i))) (t .mid)))
@@ -127,8 +137,10 @@ module _ (m : ℤ) (p : Flat) where
   at-side : (g k : List Flat) (t : Touch p g) → Link k (t .a) (t .b) → Here k
   at-side g k t j = inr (record { a = t .a; b = t .b; side = j; line = t .line; mid = t .mid })
 
-  pub chord-here : (u : Flat) (l : List Flat) (w : Flat) (r : List Flat) → Here (u ∷ (l ++ w ∷ r)) → Here (u ∷ (l ++ w ∷ [])) ⊎ Here (u ∷ w ∷ r)
-  chord-here u l w r (inl o) = go (one-of (odd p (u ∷ (l ++ w ∷ []))) (odd p (u ∷ w ∷ r)) (sym (round-cut f u l w r (beam-back p (east p) w u)) ∙ o))
+  pub chord-here : (u : Flat) (l : List Flat) (w : Flat) (r : List Flat) → Here (u ∷ (l ++ w ∷ r))
+      → Here (u ∷ (l ++ w ∷ [])) ⊎ Here (u ∷ w ∷ r)
+  chord-here u l w r (inl o) =
+      go (one-of (odd p (u ∷ (l ++ w ∷ []))) (odd p (u ∷ w ∷ r)) (sym (round-cut f u l w r (beam-back p (east p) w u)) ∙ o))
     where
       go : (odd p (u ∷ (l ++ w ∷ [])) ≡ true) ⊎ (odd p (u ∷ w ∷ r) ≡ true) → Here (u ∷ (l ++ w ∷ [])) ⊎ Here (u ∷ w ∷ r)
       go (inl k) = inl (inl k)
@@ -140,7 +152,8 @@ module _ (m : ℤ) (p : Flat) where
       go (inr c) = inr (at-side (u ∷ (l ++ w ∷ r)) (u ∷ w ∷ r) k (inr c))
 
   pub ear-here : (u c : Flat) (l : List Flat) → Here (u ∷ c ∷ l) → Here (u ∷ c ∷ lst c l ∷ []) ⊎ Here (c ∷ l)
-  ear-here u c l (inl o) = go (one-of (odd p (u ∷ c ∷ lst c l ∷ [])) (odd p (c ∷ l)) (sym (round-ear f u c l (beam-back p (east p) (lst c l) c)) ∙ o))
+  ear-here u c l (inl o) =
+      go (one-of (odd p (u ∷ c ∷ lst c l ∷ [])) (odd p (c ∷ l)) (sym (round-ear f u c l (beam-back p (east p) (lst c l) c)) ∙ o))
     where
       go : (odd p (u ∷ c ∷ lst c l ∷ []) ≡ true) ⊎ (odd p (c ∷ l) ≡ true) → Here (u ∷ c ∷ lst c l ∷ []) ⊎ Here (c ∷ l)
       go (inl k) = inl (inl k)

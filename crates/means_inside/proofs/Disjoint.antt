@@ -1,4 +1,5 @@
--- No point is odd in both of two rings that are apart. By induction on the number of corners, at the lowest corner of both. Assumes nothing.
+-- No point is odd in both of two rings that are apart. By induction on the number of corners, at the lowest corner of both. Assumes
+-- nothing.
 use mathlib.Core.Path.{_≡_, refl, sym, _∙_, ap, subst}
 use mathlib.Core.Bool.{Bool, true, false, xor, true≢false}
 use mathlib.Core.Logic.{_⊎_, inl, inr}
@@ -18,7 +19,8 @@ use Rattle.means_area.proofs.Flats.Signs.{up-is, nn-is, zero-off, same-ne, same
 use Rattle.means_area.proofs.Flats.Turns.{spin, flip, flip-last, flat-second}
 use Rattle.means_area.proofs.Flats.Net.{Ok}
 use Rattle.means_area.proofs.Flats.Choice.{Hit, compare, ear-ok}
-use Rattle.means_area.proofs.Flats.Rings.{lst-append, lst-of, link-back, link-of, chain-split, chain-left, chain-right, chain-end, of-append, of-left, of-right, of-swap, distinct-across, cross-turned, cross-back, turned}
+use Rattle.means_area.proofs.Flats.Rings.{lst-append, lst-of, link-back, link-of, chain-split, chain-left, chain-right, chain-end}
+use Rattle.means_area.proofs.Flats.Rings.{of-append, of-left, of-right, of-swap, distinct-across, cross-turned, cross-back, turned}
 use Rattle.means_area.proofs.Flats.Lowest.{of-split, pair-swap, Found, lowest}
 use Rattle.means_area.proofs.Flats.First.{first-link, last-link, ends-apart, only-first, not-flat, ear-simple}
 use Rattle.means_inside.specs.Beams.{right, beam, facing, Off, Clear, odd, east, Seen}
@@ -49,7 +51,8 @@ eqd a b = go (compare a b)
     go (inr (inr k)) = inr (λ e. <ℤ-ne k (sym e))
 
 -- a point off a ring and off a chord is off what they make
-pub clear-with : (p : Flat) (P K : List Flat) (c d : Flat) → Clear p P → Off p c d → ((a b : Flat) → Link K a b → Link P a b ⊎ Pair c d a b) → Clear p K
+pub clear-with : (p : Flat) (P K : List Flat) (c d : Flat) → Clear p P → Off p c d
+    → ((a b : Flat) → Link K a b → Link P a b ⊎ Pair c d a b) → Clear p K
 clear-with p P K c d k o f a b l = go (f a b l)
   where
     go : Link P a b ⊎ Pair c d a b → Off p a b
@@ -70,10 +73,12 @@ module _ (m : ℤ) where
   h = height m
 
   abbrev pub Disjoint : ℕ → Type 0
-  Disjoint n = (P R : List Flat) → length P + length R ≤ n → Apart m P R → (p : Flat) → Clear p P → Clear p R → odd p P ≡ true → odd p R ≡ true → ⊥
+  Disjoint n =
+      (P R : List Flat) → length P + length R ≤ n → Apart m P R → (p : Flat) → Clear p P → Clear p R → odd p P ≡ true → odd p R ≡ true → ⊥
 
   -- a part of P, with a chord from c to d
-  sub-apart : (P K R : List Flat) (c d : Flat) → Apart m P R → Simple m K → 3 ≤ length K → ((a b : Flat) → Link K a b → Link P a b ⊎ Pair c d a b) → ((z : Flat) → Of z K → Of z P)
+  sub-apart : (P K R : List Flat) (c d : Flat) → Apart m P R → Simple m K → 3 ≤ length K
+      → ((a b : Flat) → Link K a b → Link P a b ⊎ Pair c d a b) → ((z : Flat) → Of z K → Of z P)
       → ((a b : Flat) → Link P a b → Of a K → Of b K → Link K a b)
       → ((a b : Flat) → Link R a b → Cross c d a b → ⊥) → ((r : Flat) → Of r R → On m c d r → ⊥) → ((r : Flat) → Of r R → On m d c r → ⊥)
       → ((z : Flat) → Of z R → (Of z K → ⊥) → odd z K ≡ false) → Apart m K R
@@ -94,8 +99,11 @@ module _ (m : ℤ) where
     where
       cl : (p q r s : Flat) → Link P p q ⊎ Pair c d p q → Link R r s → Cross p q r s → ⊥
       cl p q r s (inl l) j x = t .clear p q r s l j x
-      cl p q r s (inr (inl e)) j x = uncut r s j (subst (λ (z : Flat). Cross z d r s) (e .0) (subst (λ (z : Flat). Cross p z r s) (e .1) x))
-      cl p q r s (inr (inr e)) j x = uncut s r (link-back R r s j) (cross-back m (subst (λ (z : Flat). Cross z c r s) (e .0) (subst (λ (z : Flat). Cross p z r s) (e .1) x)))
+      cl p q r s (inr (inl e)) j x =
+          uncut r s j (subst (λ (z : Flat). Cross z d r s) (e .0) (subst (λ (z : Flat). Cross p z r s) (e .1) x))
+      cl p q r s (inr (inr e)) j x =
+          uncut s r (link-back R r s j)
+          (cross-back m (subst (λ (z : Flat). Cross z c r s) (e .0) (subst (λ (z : Flat). Cross p z r s) (e .1) x)))
 
       fr : (p q r : Flat) → Link P p q ⊎ Pair c d p q → Of r R → On m p q r → ⊥
       fr p q r (inl l) j x = t .freeP p q r l j x
@@ -104,7 +112,13 @@ module _ (m : ℤ) where
 
   -- both rings together
   together : (P R : List Flat) → Apart m P R → Net m (λ a b. Link P a b ⊎ Link R a b) (λ z. Of z (P ++ R))
-  together P R t = record { back = (λ {p} {q} l. bk p q l); end = (λ {p} {q} l. en p q l); clear = (λ {p} {q} {r} {s} l k c. cl p q r s l k c); free = (λ {p} {q} {r} l o c. fr p q r l (of-append r P R o) c) }
+  together P R t =
+      record {
+        back = (λ {p} {q} l. bk p q l);
+        end = (λ {p} {q} l. en p q l);
+        clear = (λ {p} {q} {r} {s} l k c. cl p q r s l k c);
+        free = (λ {p} {q} {r} l o c. fr p q r l (of-append r P R o) c);
+      }
     where
       bk : (p q : Flat) → Link P p q ⊎ Link R p q → Link P q p ⊎ Link R q p
       bk p q (inl l) = inl (link-back P p q l)
@@ -126,14 +140,24 @@ module _ (m : ℤ) where
       fr p q r (inr l) (inl o) c = t .freeR p q r l o c
       fr p q r (inr l) (inr o) c = t .sr .net .free l o c
 
-  fewer : (L K : Flat → Flat → Type 0) (C : Flat → Type 0) → Net m L C → ((a b : Flat) → K a b → L a b) → ((a b : Flat) → K a b → K b a) → Net m K C
-  fewer L K C n f b = record { back = (λ {p} {q} l. b p q l); end = (λ {p} {q} l. n .end (f p q l)); clear = (λ {p} {q} {r} {s} l k c. n .clear (f p q l) (f r s k) c); free = (λ {p} {q} {r} l o c. n .free (f p q l) o c) }
+  fewer : (L K : Flat → Flat → Type 0) (C : Flat → Type 0) → Net m L C → ((a b : Flat) → K a b → L a b) → ((a b : Flat) → K a b → K b a)
+      → Net m K C
+  fewer L K C n f b =
+      record {
+        back = (λ {p} {q} l. b p q l);
+        end = (λ {p} {q} l. n .end (f p q l));
+        clear = (λ {p} {q} {r} {s} l k c. n .clear (f p q l) (f r s k) c);
+        free = (λ {p} {q} {r} l o c. n .free (f p q l) o c);
+      }
 
   -- ---- the ring is cut at v by a chord to w
   module _ (n : ℕ) (ih : Disjoint n) (R : List Flat) where
-    module _ (v x : Flat) (X : List Flat) (w y : Flat) (Y : List Flat) (t : Apart m (v ∷ x ∷ (X ++ w ∷ y ∷ Y)) R) (bound : length (v ∷ x ∷ (X ++ w ∷ y ∷ Y)) + length R ≤ suc n) (low : Least m v (x ∷ (X ++ w ∷ y ∷ Y)))
-        (ok : Ok m (Link (v ∷ x ∷ (X ++ w ∷ y ∷ Y))) (λ z. Of z (v ∷ x ∷ (X ++ w ∷ y ∷ Y))) v w) (s1 : Same (turn v x w) (turn v x (lst y Y))) (s2 : Same (turn v w (lst y Y)) (turn v x (lst y Y)))
-        (uncut : (a b : Flat) → Link R a b → Cross v w a b → ⊥) (bare : (r : Flat) → Of r R → On m v w r → ⊥) (bare' : (r : Flat) → Of r R → On m w v r → ⊥) where
+    module _ (v x : Flat) (X : List Flat) (w y : Flat) (Y : List Flat) (t : Apart m (v ∷ x ∷ (X ++ w ∷ y ∷ Y)) R)
+        (bound : length (v ∷ x ∷ (X ++ w ∷ y ∷ Y)) + length R ≤ suc n) (low : Least m v (x ∷ (X ++ w ∷ y ∷ Y)))
+        (ok : Ok m (Link (v ∷ x ∷ (X ++ w ∷ y ∷ Y))) (λ z. Of z (v ∷ x ∷ (X ++ w ∷ y ∷ Y))) v w)
+        (s1 : Same (turn v x w) (turn v x (lst y Y))) (s2 : Same (turn v w (lst y Y)) (turn v x (lst y Y)))
+        (uncut : (a b : Flat) → Link R a b → Cross v w a b → ⊥) (bare : (r : Flat) → Of r R → On m v w r → ⊥)
+        (bare' : (r : Flat) → Of r R → On m w v r → ⊥) where
       abbrev g : List Flat
       g = v ∷ x ∷ (X ++ w ∷ y ∷ Y)
 
@@ -198,7 +222,10 @@ module _ (m : ℤ) where
           go (inr k) = inl (inr k)
 
       off-vw : (z : Flat) → Of z R → (Of z g → ⊥) → Off z v w
-      off-vw z o nay = off-link m z v w (λ e. nay (subst (λ (q : Flat). Of q g) (t .one v z (inl refl) o e) (inl refl))) (λ e. nay (subst (λ (q : Flat). Of q g) (t .one w z (into2 w (inr (inl refl))) o e) (into2 w (inr (inl refl))))) (bare z o) (bare' z o)
+      off-vw z o nay =
+          off-link m z v w (λ e. nay (subst (λ (q : Flat). Of q g) (t .one v z (inl refl) o e) (inl refl)))
+          (λ e. nay (subst (λ (q : Flat). Of q g) (t .one w z (into2 w (inr (inl refl))) o e) (into2 w (inr (inl refl))))) (bare z o)
+          (bare' z o)
 
       -- a corner of R is even in both
       even12 : (z : Flat) → Of z R → (Of z g → ⊥) → (odd z P1 ≡ false) × (odd z P2 ≡ false)
@@ -219,7 +246,9 @@ module _ (m : ℤ) where
 
           go : (odd z P1 ≡ true) ⊎ (odd z P1 ≡ false) → (odd z P2 ≡ true) ⊎ (odd z P2 ≡ false) → (odd z P1 ≡ false) × (odd z P2 ≡ false)
           go (inr p) (inr q) = (p, q)
-          go (inl p) (inl q) = absurd (ih P1 P2 len12 two z (clear-with z g P1 v w c (off-vw z o nay) link1) (clear-with z g P2 v w c (off-vw z o nay) link2) p q)
+          go (inl p) (inl q) =
+              absurd
+              (ih P1 P2 len12 two z (clear-with z g P1 v w c (off-vw z o nay) link1) (clear-with z g P2 v w c (off-vw z o nay) link2) p q)
           go (inl p) (inr q) = absurd (one p q)
           go (inr p) (inl q) = absurd (other p q)
 
@@ -298,7 +327,8 @@ module _ (m : ℤ) where
           go (inl c) = nay (inner v x X w a b c)
           go (inr c) = inr c
 
-      pub by-cut : ((p : Flat) → turn v w p ≡ pos 0 → Nn (negℤ (facing p v w)) → (p ≡ v → ⊥) → Clear p R → odd p R ≡ false) → (p : Flat) → Clear p g → Clear p R → odd p g ≡ true → odd p R ≡ true → ⊥
+      pub by-cut : ((p : Flat) → turn v w p ≡ pos 0 → Nn (negℤ (facing p v w)) → (p ≡ v → ⊥) → Clear p R → odd p R ≡ false) → (p : Flat)
+          → Clear p g → Clear p R → odd p g ≡ true → odd p R ≡ true → ⊥
       by-cut on p c cR o oR = go (off-or p v w)
         where
           go : Off p v w ⊎ ((turn v w p ≡ pos 0) × Nn (negℤ (facing p v w))) → ⊥
@@ -306,12 +336,18 @@ module _ (m : ℤ) where
           go (inl q) = pick (where1 p o)
             where
               pick : (odd p P1 ≡ true) ⊎ (odd p P2 ≡ true) → ⊥
-              pick (inl e) = ih P1 R len1 (sub-apart g P1 R v w t (two .sp) (two .np) link1 into1 keep1 uncut bare bare' out1) p (clear-with p g P1 v w c q link1) cR e oR
-              pick (inr e) = ih P2 R len2 (sub-apart g P2 R v w t (two .sr) (two .nr) link2 into2 keep2 uncut bare bare' out2) p (clear-with p g P2 v w c q link2) cR e oR
+              pick (inl e) =
+                  ih P1 R len1 (sub-apart g P1 R v w t (two .sp) (two .np) link1 into1 keep1 uncut bare bare' out1) p
+                  (clear-with p g P1 v w c q link1) cR e oR
+              pick (inr e) =
+                  ih P2 R len2 (sub-apart g P2 R v w t (two .sr) (two .nr) link2 into2 keep2 uncut bare bare' out2) p
+                  (clear-with p g P2 v w c q link2) cR e oR
 
     -- ---- at the lowest corner of both
-    module _ (v x : Flat) (l : List Flat) (t : Apart m (v ∷ x ∷ l) R) (bound : length (v ∷ x ∷ l) + length R ≤ suc n) (low : Least m v (x ∷ l))
-        (even : (p : Flat) → Clear p R → Seen m v p R → Between v x (lst x l) p → odd p R ≡ false) (notin : (q : Flat) → Link R v q → Between v x (lst x l) q → ⊥) where
+    module _ (v x : Flat) (l : List Flat) (t : Apart m (v ∷ x ∷ l) R) (bound : length (v ∷ x ∷ l) + length R ≤ suc n)
+        (low : Least m v (x ∷ l))
+        (even : (p : Flat) → Clear p R → Seen m v p R → Between v x (lst x l) p → odd p R ≡ false)
+        (notin : (q : Flat) → Link R v q → Between v x (lst x l) q → ⊥) where
       abbrev P : List Flat
       P = v ∷ x ∷ l
 
@@ -409,12 +445,15 @@ module _ (m : ℤ) where
         rest : (p : Flat) → Clear p P → Off p x z0 → (Hit v x z0 p → ⊥) → odd p P ≡ odd p (x ∷ l)
         rest p c oc nh = sum3 p ∙ go (bool (odd p (v ∷ x ∷ z0 ∷ [])))
           where
-            go : (odd p (v ∷ x ∷ z0 ∷ []) ≡ true) ⊎ (odd p (v ∷ x ∷ z0 ∷ []) ≡ false) → xor (odd p (v ∷ x ∷ z0 ∷ [])) (odd p (x ∷ l)) ≡ odd p (x ∷ l)
+            go : (odd p (v ∷ x ∷ z0 ∷ []) ≡ true) ⊎ (odd p (v ∷ x ∷ z0 ∷ []) ≡ false)
+                → xor (odd p (v ∷ x ∷ z0 ∷ [])) (odd p (x ∷ l)) ≡ odd p (x ∷ l)
             go (inl q) = absurd (nh (odd-hit v x z0 p (c v x vx) (c v z0 vy) crooked oc q))
             go (inr q) = ap (λ (b : Bool). xor b (odd p (x ∷ l))) q ∙ false-xor (odd p (x ∷ l))
 
         off-xy : (z : Flat) → Of z R → (Of z (x ∷ l) → ⊥) → Off z x z0
-        off-xy z o nay = off-link m z x z0 (λ q. nay (subst (λ (y : Flat). Of y (x ∷ l)) (t .one x z (inr (inl refl)) o q) (inl refl))) (λ q. nay (subst (λ (y : Flat). Of y (x ∷ l)) (t .one z0 z (inr (lst-of x l)) o q) (lst-of x l)))
+        off-xy z o nay =
+            off-link m z x z0 (λ q. nay (subst (λ (y : Flat). Of y (x ∷ l)) (t .one x z (inr (inl refl)) o q) (inl refl)))
+            (λ q. nay (subst (λ (y : Flat). Of y (x ∷ l)) (t .one z0 z (inr (lst-of x l)) o q) (lst-of x l)))
             (λ c. okc .bare (of-right z P R o) c) (λ c. okc .bare-back (of-right z P R o) c)
 
         clear-v : Clear v (x ∷ l)
@@ -439,7 +478,9 @@ module _ (m : ℤ) where
             go (inr (inr q)) = absurd (t .sp .apart .0 a oa (ap h (q .0)))
 
         smaller : 3 ≤ length (x ∷ l) → Apart m (x ∷ l) R
-        smaller k = sub-apart P (x ∷ l) R x z0 t (ear-simple m v x l long (t .sp) hx hy eP) k (rest-link v x l) (λ z o. inr o) keep' uncutR (λ r o c. okc .bare (of-right r P R o) c) (λ r o c. okc .bare-back (of-right r P R o) c) out'
+        smaller k =
+            sub-apart P (x ∷ l) R x z0 t (ear-simple m v x l long (t .sp) hx hy eP) k (rest-link v x l) (λ z o. inr o) keep' uncutR
+            (λ r o c. okc .bare (of-right r P R o) c) (λ r o c. okc .bare-back (of-right r P R o) c) out'
 
         by-ear : (p : Flat) → Clear p P → Clear p R → odd p P ≡ true → odd p R ≡ true → ⊥
         by-ear p c cR o oR = go (off-or p x z0)
@@ -455,7 +496,9 @@ module _ (m : ℤ) where
                 o' = sym (rest p c q nh) ∙ o
 
                 big : 2 ≤ length l → ⊥
-                big k = ih (x ∷ l) R (omega (arith, bound)) (smaller (omega (arith, k))) p (clear-with p P (x ∷ l) x z0 c q (rest-link v x l)) cR o' oR
+                big k =
+                    ih (x ∷ l) R (omega (arith, bound)) (smaller (omega (arith, k))) p (clear-with p P (x ∷ l) x z0 c q (rest-link v x l))
+                    cR o' oR
 
                 last : (k : List Flat) → l ≡ k → ⊥
                 last [] eq = let j = subst (λ (r : List Flat). 1 ≤ length r) eq long in absurd (omega (arith, j))
@@ -464,7 +507,10 @@ module _ (m : ℤ) where
 
       -- ---- a chord to w
       CutGoal : Flat → List Flat → Type 0
-      CutGoal w l = Apart m (v ∷ x ∷ l) R → length (v ∷ x ∷ l) + length R ≤ suc n → Least m v (x ∷ l) → Ok m (Link (v ∷ x ∷ l)) (λ z. Of z (v ∷ x ∷ l)) v w → Same (turn v x w) (turn v x (lst x l)) → Same (turn v w (lst x l)) (turn v x (lst x l))
+      CutGoal w l =
+          Apart m (v ∷ x ∷ l) R → length (v ∷ x ∷ l) + length R ≤ suc n → Least m v (x ∷ l)
+          → Ok m (Link (v ∷ x ∷ l)) (λ z. Of z (v ∷ x ∷ l)) v w → Same (turn v x w) (turn v x (lst x l))
+          → Same (turn v w (lst x l)) (turn v x (lst x l))
           → ((p : Flat) → Clear p (v ∷ x ∷ l) → Clear p R → odd p (v ∷ x ∷ l) ≡ true → odd p R ≡ true → ⊥)
 
       module _ (w : Flat) (vw : Vw w) (on : (p : Flat) → turn v w p ≡ pos 0 → Nn (negℤ (facing p v w)) → (p ≡ v → ⊥) → Vw p) where
@@ -474,17 +520,26 @@ module _ (m : ℤ) where
         split-cut X (y ∷ Y) t' b' low' ok s1 s2 =
             let q = lst-append x X w (y ∷ Y) in
             by-cut v x X w y Y t' b' low' ok (same-is2 (ap (turn v x) q) s1) (same-is2 (ap (turn v x) q) (same-is (ap (turn v w) q) s2))
-            (λ a b k c. vw .ok .uncut (inr k) c) (λ r o c. vw .ok .bare (of-right r P R o) c) (λ r o c. vw .ok .bare-back (of-right r P R o) c)
+            (λ a b k c. vw .ok .uncut (inr k) c) (λ r o c. vw .ok .bare (of-right r P R o) c)
+            (λ r o c. vw .ok .bare-back (of-right r P R o) c)
             (λ p e f nv cR. viewed p (on p e f nv) cR)
 
         okP : Ok m (Link P) (λ z. Of z P) v w
-        okP = record { uncut = (λ {p} {q} k c. vw .ok .uncut (inl k) c); bare = (λ {r} o c. vw .ok .bare (of-left r P R o) c); bare-back = (λ {r} o c. vw .ok .bare-back (of-left r P R o) c) }
+        okP =
+            record {
+              uncut = (λ {p} {q} k c. vw .ok .uncut (inl k) c);
+              bare = (λ {r} o c. vw .ok .bare (of-left r P R o) c);
+              bare-back = (λ {r} o c. vw .ok .bare-back (of-left r P R o) c);
+            }
 
-        by-far : Of w P → Same (turn v x w) (turn v x z0) → Same (turn v w z0) (turn v x z0) → (p : Flat) → Clear p P → Clear p R → odd p P ≡ true → odd p R ≡ true → ⊥
+        by-far : Of w P → Same (turn v x w) (turn v x z0) → Same (turn v w z0) (turn v x z0) → (p : Flat) → Clear p P → Clear p R
+            → odd p P ≡ true → odd p R ≡ true → ⊥
         unfolding CutGoal
         by-far (inl e) s1 s2 = absurd (<ℤ-irrefl (subst (λ (z : Flat). h v <ℤ h z) e (vw .up)))
         by-far (inr (inl e)) s1 s2 = absurd (same-ne s1 (ap (turn v x) e ∙ flat-second v x))
-        by-far (inr (inr o)) s1 s2 = let k = of-split w l o in subst (CutGoal w) (sym (k .is)) (split-cut (k .before) (k .after)) t bound low okP s1 s2
+        by-far (inr (inr o)) s1 s2 =
+            let k = of-split w l o in
+            subst (CutGoal w) (sym (k .is)) (split-cut (k .before) (k .after)) t bound low okP s1 s2
 
         -- w is a corner of P
         ofP : Of w (P ++ R) → Of w P
@@ -492,7 +547,8 @@ module _ (m : ℤ) where
           where
             pick : Of w R → Of w P ⊎ (Of w P → ⊥) → Of w P
             pick k (inl q) = q
-            pick k (inr q) = absurd (true≢false (sym (between-odd m v x l low w (clear-out m P R t w k q) (seenP w vw) (vw .mid)) ∙ t .outP w k q))
+            pick k (inr q) =
+                absurd (true≢false (sym (between-odd m v x l low w (clear-out m P R t w k q) (seenP w vw) (vw .mid)) ∙ t .outP w k q))
 
             go : Of w P ⊎ Of w R → Of w P
             go (inl k) = k
@@ -501,19 +557,23 @@ module _ (m : ℤ) where
       pub at-lowest : (p : Flat) → Clear p P → Clear p R → odd p P ≡ true → odd p R ≡ true → ⊥
       at-lowest = go (look m J (P ++ R) net v x z0 (inl vx) (inl vy) hx hy apart)
         where
-          go : Look m J (P ++ R) net v x z0 (inl vx) (inl vy) hx hy → (p : Flat) → Clear p P → Clear p R → odd p P ≡ true → odd p R ≡ true → ⊥
+          go : Look m J (P ++ R) net v x z0 (inl vx) (inl vy) hx hy → (p : Flat) → Clear p P → Clear p R → odd p P ≡ true → odd p R ≡ true
+              → ⊥
           go (empty e) = by-ear e
           go (far w o vw s1 s2 on) = by-far w vw on (ofP w vw on o) s1 s2
 
   -- ---- R is above v
-  above : (n : ℕ) → Disjoint n → (v x : Flat) (l R : List Flat) → Apart m (v ∷ x ∷ l) R → length (v ∷ x ∷ l) + length R ≤ suc n → Least m v (x ∷ l) → Least m v R
+  above : (n : ℕ) → Disjoint n → (v x : Flat) (l R : List Flat) → Apart m (v ∷ x ∷ l) R → length (v ∷ x ∷ l) + length R ≤ suc n
+      → Least m v (x ∷ l) → Least m v R
       → (p : Flat) → Clear p (v ∷ x ∷ l) → Clear p R → odd p (v ∷ x ∷ l) ≡ true → odd p R ≡ true → ⊥
   above n ih v x l R t b low lowR =
-      at-lowest n ih R v x l t b low (λ p c s k. by-low m p v R c (s .up) ∙ apart-fan m p v R lowR s) (λ q k i. absurd (<ℤ-irrefl (lowR v (link-of R v q k))))
+      at-lowest n ih R v x l t b low (λ p c s k. by-low m p v R c (s .up) ∙ apart-fan m p v R lowR s)
+      (λ q k i. absurd (<ℤ-irrefl (lowR v (link-of R v q k))))
 
   -- ---- v is in both
   -- a link of R at v is not in P's angle
-  outside-angle : (v x : Flat) (l : List Flat) (x' : Flat) (l' : List Flat) → Apart m (v ∷ x ∷ l) (v ∷ x' ∷ l') → Least m v (x ∷ l) → Least m v (x' ∷ l') → (q : Flat) → Link (v ∷ x' ∷ l') v q → Between v x (lst x l) q → ⊥
+  outside-angle : (v x : Flat) (l : List Flat) (x' : Flat) (l' : List Flat) → Apart m (v ∷ x ∷ l) (v ∷ x' ∷ l') → Least m v (x ∷ l)
+      → Least m v (x' ∷ l') → (q : Flat) → Link (v ∷ x' ∷ l') v q → Between v x (lst x l) q → ⊥
   outside-angle v x l x' l' t low low' q k i = go (member m P R t q oq)
     where
       P : List Flat
@@ -548,15 +608,20 @@ module _ (m : ℤ) where
       }) i) ∙ t .outP q oq o)
 
   -- two links at v in one line are one
-  in-line : (P R : List Flat) → Apart m P R → (v a a' : Flat) → Link P v a → Link R v a' → h v <ℤ h a → h v <ℤ h a' → turn v a a' ≡ pos 0 → a ≡ a'
+  in-line : (P R : List Flat) → Apart m P R → (v a a' : Flat) → Link P v a → Link R v a' → h v <ℤ h a → h v <ℤ h a' → turn v a a' ≡ pos 0
+      → a ≡ a'
   in-line P R t v a a' k k' ha ha' e = go (compare (h a) (h a'))
     where
       go : (h a <ℤ h a') ⊎ ((h a ≡ h a') ⊎ (h a' <ℤ h a)) → a ≡ a'
-      go (inl q) = absurd (t .freeR v a' a k' (link-of P a v (link-back P v a k)) (record { line = flip-last v a' a ∙ ap negℤ e; after = ha; before = q }))
+      go (inl q) =
+          absurd
+          (t .freeR v a' a k' (link-of P a v (link-back P v a k))
+          (record { line = flip-last v a' a ∙ ap negℤ e; after = ha; before = q }))
       go (inr (inl q)) = t .one a a' (link-of P a v (link-back P v a k)) (link-of R a' v (link-back R v a' k')) q
       go (inr (inr q)) = absurd (t .freeP v a a' k (link-of R a' v (link-back R v a' k')) (record { line = e; after = ha'; before = q }))
 
-  module _ (v x : Flat) (l : List Flat) (x' : Flat) (l' : List Flat) (t : Apart m (v ∷ x ∷ l) (v ∷ x' ∷ l')) (low : Least m v (x ∷ l)) (low' : Least m v (x' ∷ l')) where
+  module _ (v x : Flat) (l : List Flat) (x' : Flat) (l' : List Flat) (t : Apart m (v ∷ x ∷ l) (v ∷ x' ∷ l')) (low : Least m v (x ∷ l))
+      (low' : Least m v (x' ∷ l')) where
     abbrev PA : List Flat
     PA = v ∷ x ∷ l
 
@@ -564,17 +629,20 @@ module _ (m : ℤ) where
     RA = v ∷ x' ∷ l'
 
     -- the angles have no common direction
-    clash : (a b a' b' p : Flat) → Link PA v a → Link PA v b → Link RA v a' → Link RA v b' → h v <ℤ h a → h v <ℤ h b → h v <ℤ h a' → h v <ℤ h b' → h v <ℤ h p → (h a ≡ h b → ⊥)
+    clash : (a b a' b' p : Flat) → Link PA v a → Link PA v b → Link RA v a' → Link RA v b' → h v <ℤ h a → h v <ℤ h b → h v <ℤ h a'
+        → h v <ℤ h b' → h v <ℤ h p → (h a ≡ h b → ⊥)
         → ((q : Flat) → Ang v a b q → Between v x (lst x l) q) → ((q : Flat) → Ang v a' b' q → Between v x' (lst x' l') q)
         → Ang v a b p → Up (turn v a' p) → Nn (turn v p b') → ⊥
     clash a b a' b' p ka kb ka' kb' ha hb ha' hb' hp ne f f' i s s' =
         let z = ang m v a b a' b' p ha hb ha' hb' hp (i .0) (i .1) s s'
         (λ j. outside-angle v x l x' l' t low low' a' ka' (f a' j)) (λ j. outside-angle v x l x' l' t low low' b' kb' (f b' j))
-        (λ j. outside-angle v x' l' x l (swap m PA RA t) low' low a ka (f' a j)) (λ j. outside-angle v x' l' x l (swap m PA RA t) low' low b kb (f' b j)) in
+        (λ j. outside-angle v x' l' x l (swap m PA RA t) low' low a ka (f' a j))
+        (λ j. outside-angle v x' l' x l (swap m PA RA t) low' low b kb (f' b j)) in
         let ea = in-line PA RA t v a a' ka ka' ha ha' (z .0) in
         let eb = in-line PA RA t v b b' kb kb' hb hb' (z .1) in
         t .share v a b (inl refl) (link-of PA a v (link-back PA v a ka)) (link-of PA b v (link-back PA v b kb)) (inl refl)
-        (subst (λ (y : Flat). Of y RA) (sym ea) (link-of RA a' v (link-back RA v a' ka'))) (subst (λ (y : Flat). Of y RA) (sym eb) (link-of RA b' v (link-back RA v b' kb')))
+        (subst (λ (y : Flat). Of y RA) (sym ea) (link-of RA a' v (link-back RA v a' ka')))
+        (subst (λ (y : Flat). Of y RA) (sym eb) (link-of RA b' v (link-back RA v b' kb')))
         (λ e. <ℤ-ne ha e) ne (λ e. <ℤ-ne hb e)
 
     longer : 1 ≤ length l
@@ -582,7 +650,10 @@ module _ (m : ℤ) where
 
     even-at : (p : Flat) → Clear p RA → Seen m v p RA → Between v x (lst x l) p → odd p RA ≡ false
     unfolding right
-    even-at p c s i = by-low m p v RA c (s .up) ∙ fan m p v x' l' low' s ∙ ap (λ (b : Bool). xor b (right p v (lst x' l'))) (go (bool (right p v x')) (bool (right p v (lst x' l')))) ∙ xor-self (right p v (lst x' l'))
+    even-at p c s i =
+        by-low m p v RA c (s .up) ∙ fan m p v x' l' low' s
+        ∙ ap (λ (b : Bool). xor b (right p v (lst x' l'))) (go (bool (right p v x')) (bool (right p v (lst x' l'))))
+        ∙ xor-self (right p v (lst x' l'))
       where
         left : (q : Flat) → right p v q ≡ false → Up (turn v q p)
         left q e = up-is (spin p v q) (no-low (turn p v q) e)
@@ -617,17 +688,23 @@ module _ (m : ℤ) where
         ne : h x ≡ h (lst x l) → ⊥
         ne = ends-apart m v x l longer (t .sp .apart)
 
-        meet : (a' b' : Flat) → Link RA v a' → Link RA v b' → h v <ℤ h a' → h v <ℤ h b' → ((q : Flat) → Ang v a' b' q → Between v x' (lst x' l') q) → right p v a' ≡ false → right p v b' ≡ true → Between v x (lst x l) p → ⊥
-        meet a' b' ka' kb' ha' hb' f' ea eb (inl j) = clash x (lst x l) a' b' p k1 k2 ka' kb' h1 h2 ha' hb' (s .up) ne (λ q u. inl u) f' j (left a' ea) (weak b' eb)
-        meet a' b' ka' kb' ha' hb' f' ea eb (inr j) = clash (lst x l) x a' b' p k2 k1 ka' kb' h2 h1 ha' hb' (s .up) (λ q. ne (sym q)) (λ q u. inr u) f' j (left a' ea) (weak b' eb)
+        meet : (a' b' : Flat) → Link RA v a' → Link RA v b' → h v <ℤ h a' → h v <ℤ h b'
+            → ((q : Flat) → Ang v a' b' q → Between v x' (lst x' l') q) → right p v a' ≡ false → right p v b' ≡ true
+            → Between v x (lst x l) p → ⊥
+        meet a' b' ka' kb' ha' hb' f' ea eb (inl j) =
+            clash x (lst x l) a' b' p k1 k2 ka' kb' h1 h2 ha' hb' (s .up) ne (λ q u. inl u) f' j (left a' ea) (weak b' eb)
+        meet a' b' ka' kb' ha' hb' f' ea eb (inr j) =
+            clash (lst x l) x a' b' p k2 k1 ka' kb' h2 h1 ha' hb' (s .up) (λ q. ne (sym q)) (λ q u. inr u) f' j (left a' ea) (weak b' eb)
 
-        go : (right p v x' ≡ true) ⊎ (right p v x' ≡ false) → (right p v (lst x' l') ≡ true) ⊎ (right p v (lst x' l') ≡ false) → right p v x' ≡ right p v (lst x' l')
+        go : (right p v x' ≡ true) ⊎ (right p v x' ≡ false) → (right p v (lst x' l') ≡ true) ⊎ (right p v (lst x' l') ≡ false)
+            → right p v x' ≡ right p v (lst x' l')
         go (inl a) (inl b) = a ∙ sym b
         go (inr a) (inr b) = a ∙ sym b
         go (inr a) (inl b) = absurd (meet x' (lst x' l') k3 k4 h3 h4 (λ q u. inl u) a b i)
         go (inl a) (inr b) = absurd (meet (lst x' l') x' k4 k3 h4 h3 (λ q u. inr u) b a i)
 
-    at : (n : ℕ) → Disjoint n → length PA + length RA ≤ suc n → (p : Flat) → Clear p PA → Clear p RA → odd p PA ≡ true → odd p RA ≡ true → ⊥
+    at : (n : ℕ) → Disjoint n → length PA + length RA ≤ suc n → (p : Flat) → Clear p PA → Clear p RA → odd p PA ≡ true → odd p RA ≡ true
+        → ⊥
     at n ih b = at-lowest n ih RA v x l t b low even-at (λ q k i. outside-angle v x l x' l' t low low' q k i)
 
   -- ---- from the lowest corner
@@ -648,27 +725,33 @@ module _ (m : ℤ) where
     pub odd-map : (f : Flat → Flat) (z : Flat) → odd z (map f (v ∷ x ∷ l)) ≡ odd z (map f P)
     pub link-map : (f : Flat → Flat) (p q : Flat) → Link (map f (v ∷ x ∷ l)) p q → Link (map f P) p q
 
-  pub turn-link : (x : Flat) (l : List Flat) (y : Flat) (r : List Flat) (p q : Flat) → Link (x ∷ (l ++ y ∷ r)) p q → Link (y ∷ (r ++ x ∷ l)) p q
+  pub turn-link : (x : Flat) (l : List Flat) (y : Flat) (r : List Flat) (p q : Flat) → Link (x ∷ (l ++ y ∷ r)) p q
+      → Link (y ∷ (r ++ x ∷ l)) p q
   turn-link x l y r p q k = go (chain-split x l y r x p q k)
     where
       go : Chain x l y p q ⊎ Chain y r x p q → Link (y ∷ (r ++ x ∷ l)) p q
       go (inl d) = chain-right y r x l y p q d
       go (inr d) = chain-left y r x l y p q d
 
-  pub odd-turned : (f : Flat → Flat) (z : Flat) (x : Flat) (l : List Flat) (y : Flat) (r : List Flat) → odd z (map f (y ∷ (r ++ x ∷ l))) ≡ odd z (map f (x ∷ (l ++ y ∷ r)))
+  pub odd-turned : (f : Flat → Flat) (z : Flat) (x : Flat) (l : List Flat) (y : Flat) (r : List Flat)
+      → odd z (map f (y ∷ (r ++ x ∷ l))) ≡ odd z (map f (x ∷ (l ++ y ∷ r)))
   odd-turned f z x l y r =
-      ap (λ (t : List Flat). odd z (f y ∷ t)) (map-app f r (x ∷ l)) ∙ sym (round-turned (beam z (east z)) (f x) (map f l) (f y) (map f r)) ∙ ap (λ (t : List Flat). odd z (f x ∷ t)) (sym (map-app f l (y ∷ r)))
+      ap (λ (t : List Flat). odd z (f y ∷ t)) (map-app f r (x ∷ l)) ∙ sym (round-turned (beam z (east z)) (f x) (map f l) (f y) (map f r))
+      ∙ ap (λ (t : List Flat). odd z (f x ∷ t)) (sym (map-app f l (y ∷ r)))
 
-  pub link-turned : (f : Flat → Flat) (x : Flat) (l : List Flat) (y : Flat) (r : List Flat) (p q : Flat) → Link (map f (y ∷ (r ++ x ∷ l))) p q → Link (map f (x ∷ (l ++ y ∷ r))) p q
+  pub link-turned : (f : Flat → Flat) (x : Flat) (l : List Flat) (y : Flat) (r : List Flat) (p q : Flat)
+      → Link (map f (y ∷ (r ++ x ∷ l))) p q → Link (map f (x ∷ (l ++ y ∷ r))) p q
   link-turned f x l y r p q j =
-      subst (λ (t : List Flat). Link (f x ∷ t) p q) (sym (map-app f l (y ∷ r))) (turn-link (f y) (map f r) (f x) (map f l) p q (subst (λ (t : List Flat). Link (f y ∷ t) p q) (map-app f r (x ∷ l)) j))
+      subst (λ (t : List Flat). Link (f x ∷ t) p q) (sym (map-app f l (y ∷ r)))
+      (turn-link (f y) (map f r) (f x) (map f l) p q (subst (λ (t : List Flat). Link (f y ∷ t) p q) (map-app f r (x ∷ l)) j))
 
   pub form : (P : List Flat) → Simple m P → 3 ≤ length P → Form P
   form [] s k = absurd (omega (arith, k))
   form (a ∷ []) s k = absurd (omega (arith, k))
   form (a ∷ (b ∷ r)) s k = go (lowest m a (b ∷ r) (s .apart))
     where
-      from1 : (X : List Flat) (v : Flat) (Y : List Flat) → Simple m (a ∷ (X ++ v ∷ Y)) → Least m v (a ∷ X) → Least m v Y → Form (a ∷ (X ++ v ∷ Y))
+      from1 : (X : List Flat) (v : Flat) (Y : List Flat) → Simple m (a ∷ (X ++ v ∷ Y)) → Least m v (a ∷ X) → Least m v Y
+          → Form (a ∷ (X ++ v ∷ Y))
       from1 X v [] t lx ly = record {
         v = v;
         x = a;
@@ -712,13 +795,33 @@ module _ (m : ℤ) where
               pick (inr p) = lx z p
 
       go : Least m a (b ∷ r) ⊎ Found m a (b ∷ r) → Form (a ∷ b ∷ r)
-      go (inl low) = record { v = a; x = b; l = r; simple = s; low = low; size = refl; to = (λ p q j. j); from = (λ p q j. j); in-to = (λ z o. o); in-from = (λ z o. o); odds = (λ z. refl); recut = (λ t. t); at = (λ f t z k. k); odd-map = (λ f z. refl); link-map = (λ f p q j. j) }
-      go (inr f) = subst (λ (z : List Flat). Simple m (a ∷ z) → Form (a ∷ z)) (sym (f .is)) (λ t. from1 (f .before) (f .v) (f .after) t (f .low) (f .low')) s
+      go (inl low) =
+          record {
+            v = a;
+            x = b;
+            l = r;
+            simple = s;
+            low = low;
+            size = refl;
+            to = (λ p q j. j);
+            from = (λ p q j. j);
+            in-to = (λ z o. o);
+            in-from = (λ z o. o);
+            odds = (λ z. refl);
+            recut = (λ t. t);
+            at = (λ f t z k. k);
+            odd-map = (λ f z. refl);
+            link-map = (λ f p q j. j);
+          }
+      go (inr f) =
+          subst (λ (z : List Flat). Simple m (a ∷ z) → Form (a ∷ z)) (sym (f .is))
+          (λ t. from1 (f .before) (f .v) (f .after) t (f .low) (f .low')) s
 
   pub formed : (P R : List Flat) → Apart m P R → (f : Form P) → Apart m (f .v ∷ f .x ∷ f .l) R
   formed P R t f = change m P (f .v ∷ f .x ∷ f .l) R (f .simple) (f .size) (f .to) (f .from) (f .in-to) (f .in-from) (f .odds) t
 
-  both-formed : (n : ℕ) → Disjoint n → (v x : Flat) (l : List Flat) (v' x' : Flat) (l' : List Flat) → Apart m (v ∷ x ∷ l) (v' ∷ x' ∷ l') → Least m v (x ∷ l) → Least m v' (x' ∷ l') → length (v ∷ x ∷ l) + length (v' ∷ x' ∷ l') ≤ suc n
+  both-formed : (n : ℕ) → Disjoint n → (v x : Flat) (l : List Flat) (v' x' : Flat) (l' : List Flat) → Apart m (v ∷ x ∷ l) (v' ∷ x' ∷ l')
+      → Least m v (x ∷ l) → Least m v' (x' ∷ l') → length (v ∷ x ∷ l) + length (v' ∷ x' ∷ l') ≤ suc n
       → (p : Flat) → Clear p (v ∷ x ∷ l) → Clear p (v' ∷ x' ∷ l') → odd p (v ∷ x ∷ l) ≡ true → odd p (v' ∷ x' ∷ l') ≡ true → ⊥
   both-formed n ih v x l v' x' l' t low low' b = go (compare (h v) (h v'))
     where
@@ -726,11 +829,15 @@ module _ (m : ℤ) where
       all v v' r k f z (inl e) = subst (λ (y : Flat). h v <ℤ h y) (sym e) k
       all v v' r k f z (inr o) = lt-chain k (f z o)
 
-      go : (h v <ℤ h v') ⊎ ((h v ≡ h v') ⊎ (h v' <ℤ h v)) → (p : Flat) → Clear p (v ∷ x ∷ l) → Clear p (v' ∷ x' ∷ l') → odd p (v ∷ x ∷ l) ≡ true → odd p (v' ∷ x' ∷ l') ≡ true → ⊥
+      go : (h v <ℤ h v') ⊎ ((h v ≡ h v') ⊎ (h v' <ℤ h v)) → (p : Flat) → Clear p (v ∷ x ∷ l) → Clear p (v' ∷ x' ∷ l')
+          → odd p (v ∷ x ∷ l) ≡ true → odd p (v' ∷ x' ∷ l') ≡ true → ⊥
       go (inl k) = above n ih v x l (v' ∷ x' ∷ l') t b low (all v v' (x' ∷ l') k low')
-      go (inr (inr k)) = λ p c c' o o'. above n ih v' x' l' (v ∷ x ∷ l) (swap m (v ∷ x ∷ l) (v' ∷ x' ∷ l') t) (omega (arith, b)) low' (all v' v (x ∷ l) k low) p c' c o' o
+      go (inr (inr k)) =
+          λ p c c' o o'. above n ih v' x' l' (v ∷ x ∷ l) (swap m (v ∷ x ∷ l) (v' ∷ x' ∷ l') t) (omega (arith, b)) low'
+          (all v' v (x ∷ l) k low) p c' c o' o
       go (inr (inl k)) =
-          subst (λ (z : Flat). Apart m (v ∷ x ∷ l) (z ∷ x' ∷ l') → Least m z (x' ∷ l') → (p : Flat) → Clear p (v ∷ x ∷ l) → Clear p (z ∷ x' ∷ l') → odd p (v ∷ x ∷ l) ≡ true → odd p (z ∷ x' ∷ l') ≡ true → ⊥)
+          subst (λ (z : Flat). Apart m (v ∷ x ∷ l) (z ∷ x' ∷ l') → Least m z (x' ∷ l') → (p : Flat) → Clear p (v ∷ x ∷ l)
+          → Clear p (z ∷ x' ∷ l') → odd p (v ∷ x ∷ l) ≡ true → odd p (z ∷ x' ∷ l') ≡ true → ⊥)
           (t .one v v' (inl refl) (inl refl) k) (λ t' lw. at v x l x' l' t' low lw n ih b) t low'
 
   pub disjoint : (n : ℕ) → Disjoint n

@@ -30,7 +30,8 @@ off-back p a b o e = up-is (facing-back p a b) (o (flip a b p ∙ ap negℤ e))
 pub off-or : (p a b : Flat) → Off p a b ⊎ ((turn a b p ≡ pos 0) × Nn (negℤ (facing p a b)))
 off-or p a b = go (ways (turn a b p)) (which (facing p a b))
   where
-    go : Up (turn a b p) ⊎ ((turn a b p ≡ pos 0) ⊎ Up (negℤ (turn a b p))) → Up (facing p a b) ⊎ Nn (negℤ (facing p a b)) → Off p a b ⊎ ((turn a b p ≡ pos 0) × Nn (negℤ (facing p a b)))
+    go : Up (turn a b p) ⊎ ((turn a b p ≡ pos 0) ⊎ Up (negℤ (turn a b p))) → Up (facing p a b) ⊎ Nn (negℤ (facing p a b))
+        → Off p a b ⊎ ((turn a b p ≡ pos 0) × Nn (negℤ (facing p a b)))
     go (inl k) y = inl (λ e. absurd (zero-off e k))
     go (inr (inl e)) (inl f) = inl (λ z. f)
     go (inr (inl e)) (inr f) = inr (e, f)
@@ -40,7 +41,8 @@ off-or p a b = go (ways (turn a b p)) (which (facing p a b))
 pub off-end : (p a b : Flat) → Off p a b → p ≡ a → ⊥
 unfolding facing
 off-end p a b o e =
-    zero-off (ap (λ (z : Flat). facing z a b) e ∙ ring (env (pos 0) (a ∷ b ∷ [])) (fE 0 0 1) (con (pos 0)) tt) (o (ap (turn a b) e ∙ flat-first a b))
+    zero-off (ap (λ (z : Flat). facing z a b) e ∙ ring (env (pos 0) (a ∷ b ∷ [])) (fE 0 0 1) (con (pos 0)) tt)
+    (o (ap (turn a b) e ∙ flat-first a b))
 
 pub bool : (b : Bool) → (b ≡ true) ⊎ (b ≡ false)
 bool true = inl refl
@@ -53,7 +55,8 @@ module _ (v x y p : Flat) (ox : Off p v x) (oy : Off p v y) (n : turn v x y ≡ 
       go : Up (turn v x y) ⊎ ((turn v x y ≡ pos 0) ⊎ Up (negℤ (turn v x y))) → Hit v x y p
       go (inl D) = inl (onto v x y p D ox oy e f)
       go (inr (inl k)) = absurd (n k)
-      go (inr (inr D)) = inr (onto v y x p (up-is (sym (flip-last v y x)) D) oy ox (flip y x p ∙ ap negℤ e) (nn-is (ap negℤ (facing-back p x y)) f))
+      go (inr (inr D)) =
+          inr (onto v y x p (up-is (sym (flip-last v y x)) D) oy ox (flip y x p ∙ ap negℤ e) (nn-is (ap negℤ (facing-back p x y)) f))
 
   pub clear3 : (a b : Flat) → Off p v a → Off p v b → Off p a b → Clear p (v ∷ a ∷ b ∷ [])
   clear3 a b oa ob oc q r l = go l
@@ -77,7 +80,9 @@ module _ (v x y p : Flat) (ox : Off p v x) (oy : Off p v y) (n : turn v x y ≡ 
   odd-hit oc o = go (ways (turn v x y))
     where
       go : Up (turn v x y) ⊎ ((turn v x y ≡ pos 0) ⊎ Up (negℤ (turn v x y))) → Hit v x y p
-      go (inl D) = let c = clear3 x y ox oy oc in inl (inn v x y p D ox oy (odd-far v x y p D c o) (odd-a v x y p D c o) (odd-b v x y p D c o))
+      go (inl D) =
+          let c = clear3 x y ox oy oc in
+          inl (inn v x y p D ox oy (odd-far v x y p D c o) (odd-a v x y p D c o) (odd-b v x y p D c o))
       go (inr (inl k)) = absurd (n k)
       go (inr (inr D)) =
           let D' = up-is (sym (flip-last v y x)) D in
@@ -91,7 +96,8 @@ odd-two p x y = ap (λ (b : Bool). xor b (beam p (east p) y x)) (beam-back p (ea
 
 module _ (m : ℤ) where
   -- in the angle, and seen
-  pub between-odd : (v x : Flat) (l : List Flat) → Least m v (x ∷ l) → (p : Flat) → Clear p (v ∷ x ∷ l) → Seen m v p (v ∷ x ∷ l) → Between v x (lst x l) p → odd p (v ∷ x ∷ l) ≡ true
+  pub between-odd : (v x : Flat) (l : List Flat) → Least m v (x ∷ l) → (p : Flat) → Clear p (v ∷ x ∷ l) → Seen m v p (v ∷ x ∷ l)
+      → Between v x (lst x l) p → odd p (v ∷ x ∷ l) ≡ true
   between-odd v x l low p c s (inl t) = fan-in m v x l low p c s (t .0) (up-is (sym (spin (lst x l) v p)) (t .1))
   between-odd v x l low p c s (inr t) = fan-in' m v x l low p c s (up-is (sym (spin x v p)) (t .1)) (t .0)
 
@@ -101,7 +107,8 @@ module _ (m : ℤ) where
 
   under-is : (v z : Flat) → turn v (under v) z ≡ height m z -ℤ height m v
   unfolding turn height under
-  under-is v z = ring (env m (v ∷ z ∷ [])) (((uE 0 ⊕ con (pos 1)) ⊖ uE 0) ⊗ (vE 1 ⊖ vE 0) ⊖ ((vE 0 ⊖ var 0) ⊖ vE 0) ⊗ (uE 1 ⊖ uE 0)) (hE 1 ⊖ hE 0) tt
+  under-is v z =
+      ring (env m (v ∷ z ∷ [])) (((uE 0 ⊕ con (pos 1)) ⊖ uE 0) ⊗ (vE 1 ⊖ vE 0) ⊖ ((vE 0 ⊖ var 0) ⊖ vE 0) ⊗ (uE 1 ⊖ uE 0)) (hE 1 ⊖ hE 0) tt
 
   pub low-even : (v x : Flat) (l : List Flat) → Least m v (x ∷ l) → Clear v (x ∷ l) → odd v (x ∷ l) ≡ false
   low-even v x l low c = out v (under v) x (x ∷ l) c (all x (inl refl)) all

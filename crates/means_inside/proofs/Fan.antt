@@ -1,4 +1,5 @@
--- The ray from p through a corner v that is lower than all others: where nothing crosses the segment from v to p, it meets a side only at v. Assumes nothing.
+-- The ray from p through a corner v that is lower than all others: where nothing crosses the segment from v to p, it meets a side only at
+-- v. Assumes nothing.
 use mathlib.Core.Path.{_≡_, refl, sym, _∙_, ap}
 use mathlib.Core.Bool.{Bool, true, false, not, xor}
 use mathlib.Core.Logic.{_⊎_, inl, inr}
@@ -21,7 +22,8 @@ use Rattle.means_inside.proofs.Parity.{quiet, silent}
 use Rattle.means_inside.proofs.Beams.{above-is, above-yes, below-is, below-yes, yes-low, no-low}
 use Rattle.means_inside.specs.Theorems.{FanDecides}
 
-module _ (m : ℤ) (v p : Flat) (hp : height m v <ℤ height m p) (L : Flat → Flat → Type 0) (back : (x y : Flat) → L x y → L y x) (high : (x y : Flat) → L x y → height m v <ℤ height m x)
+module _ (m : ℤ) (v p : Flat) (hp : height m v <ℤ height m p) (L : Flat → Flat → Type 0) (back : (x y : Flat) → L x y → L y x)
+    (high : (x y : Flat) → L x y → height m v <ℤ height m x)
     (uncut : (x y : Flat) → L x y → Cross v p x y → ⊥) (bare : (x y : Flat) → L x y → On m v p x → ⊥) where
   abbrev h : Flat → ℤ
   h = height m
@@ -33,17 +35,27 @@ module _ (m : ℤ) (v p : Flat) (hp : height m v <ℤ height m p) (L : Flat → 
 
   before : (x y : Flat) → turn v p x ≡ pos 0 → turn p v y *ℤ (h p -ℤ h x) ≡ turn x y p *ℤ (h p -ℤ h v)
   unfolding turn height
-  before x y e = ring-with (env m (v ∷ p ∷ x ∷ y ∷ [])) (tE 1 0 3 ⊗ (hE 1 ⊖ hE 2)) (tE 2 3 1 ⊗ (hE 1 ⊖ hE 0)) (hE 3 ⊖ hE 1) (tE 0 1 2) (con (pos 0)) tt e
+  before x y e =
+      ring-with (env m (v ∷ p ∷ x ∷ y ∷ [])) (tE 1 0 3 ⊗ (hE 1 ⊖ hE 2)) (tE 2 3 1 ⊗ (hE 1 ⊖ hE 0)) (hE 3 ⊖ hE 1) (tE 0 1 2) (con (pos 0))
+      tt e
 
   into : (x y : Flat) → L x y → Nn (turn v p x) → Up (turn p v y) → Up (turn x y p) → ⊥
   into x y l a b t = go (ways (turn v p x))
     where
       behind : Up (turn y x v)
-      behind = up-out (h p -ℤ h v) (sub-pos hp) (up-is (sym (place x y)) (up-add (mul-pos b (sub-pos (high x y l))) (mul-nonneg a (up-nn (sub-pos (high y x (back x y l)))))))
+      behind =
+          up-out (h p -ℤ h v) (sub-pos hp)
+          (up-is (sym (place x y)) (up-add (mul-pos b (sub-pos (high x y l))) (mul-nonneg a (up-nn (sub-pos (high y x (back x y l)))))))
 
       go : Up (turn v p x) ⊎ ((turn v p x ≡ pos 0) ⊎ Up (negℤ (turn v p x))) → ⊥
       go (inl k) = uncut x y l (record { left = k; right = b; ahead = t; behind = behind })
-      go (inr (inl e)) = bare x y l (record { line = e; after = high x y l; before = diff-up (h x) (h p) (up-out (turn p v y) b (up-is (sym (before x y e)) (mul-pos t (sub-pos hp)))) })
+      go (inr (inl e)) =
+          bare x y l
+          (record {
+            line = e;
+            after = high x y l;
+            before = diff-up (h x) (h p) (up-out (turn p v y) b (up-is (sym (before x y e)) (mul-pos t (sub-pos hp))));
+          })
       go (inr (inr k)) = off k (nn-is (ring (turn v p x ∷ []) (var 0) (neg (neg (var 0))) tt) a)
 
   pub none : (x y : Flat) → L x y → beam p v x y ≡ false
@@ -56,8 +68,11 @@ module _ (m : ℤ) (v p : Flat) (hp : height m v <ℤ height m p) (L : Flat → 
       go : (a b : Bool) → leZ (turn p v x) (pos 0) ≡ a → leZ (turn p v y) (pos 0) ≡ b → meetsRay a b (turn x y p) ≡ false
       go true true e f = refl
       go false false e f = refl
-      go true false e f = never-true (above (turn x y p)) (λ q. into x y l (right-nn x e) (no-low (turn p v y) f) (above-yes (turn x y p) q))
-      go false true e f = never-true (below (turn x y p)) (λ q. into y x (back x y l) (right-nn y f) (no-low (turn p v x) e) (up-is (sym (flip y x p)) (below-yes (turn x y p) q)))
+      go true false e f =
+          never-true (above (turn x y p)) (λ q. into x y l (right-nn x e) (no-low (turn p v y) f) (above-yes (turn x y p) q))
+      go false true e f =
+          never-true (below (turn x y p))
+          (λ q. into y x (back x y l) (right-nn y f) (no-low (turn p v x) e) (up-is (sym (flip y x p)) (below-yes (turn x y p) q)))
 
 -- the sides at v
 pub first-beam : (p v x : Flat) → beam p v v x ≡ not (right p v x)
@@ -87,10 +102,12 @@ fan m p v x l low s =
   where
     quiet-side : (a b : Flat) → Of a (x ∷ l) → Of b (x ∷ l) → Chain x l v a b → beam p v a b ≡ false
     quiet-side a b oa ob c = none m v p (s .up) (λ a b. Of a (x ∷ l) × Of b (x ∷ l) × Chain x l v a b)
-        (λ a b t. (t .1, t .0, chain-back x l v a b (t .2))) (λ a b t. low a (t .0)) (λ a b t. s .uncut a b (inr (t .2))) (λ a b t. s .bare a (inr (t .0))) a b (oa, ob, c)
+        (λ a b t. (t .1, t .0, chain-back x l v a b (t .2))) (λ a b t. low a (t .0)) (λ a b t. s .uncut a b (inr (t .2)))
+        (λ a b t. s .bare a (inr (t .0))) a b (oa, ob, c)
 
 -- a ring without v
 pub apart-fan : (m : ℤ) (p v : Flat) (g : List Flat) → Least m v g → Seen m v p g → round (beam p v) g ≡ false
 apart-fan m p v [] low s = refl
 apart-fan m p v (x ∷ l) low s = silent (beam p v) x l x (λ a b c.
-    none m v p (s .up) (Link (x ∷ l)) (λ a b t. link-back (x ∷ l) a b t) (λ a b t. low a (link-of (x ∷ l) a b t)) (s .uncut) (λ a b t. s .bare a (link-of (x ∷ l) a b t)) a b c)
+    none m v p (s .up) (Link (x ∷ l)) (λ a b t. link-back (x ∷ l) a b t) (λ a b t. low a (link-of (x ∷ l) a b t)) (s .uncut)
+    (λ a b t. s .bare a (link-of (x ∷ l) a b t)) a b c)

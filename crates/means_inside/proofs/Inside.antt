@@ -1,4 +1,5 @@
--- The theorems: where a point lies in a simple polygon, by its triangles; for every ray; from every start; along a segment that touches no side. Assumes nothing.
+-- The theorems: where a point lies in a simple polygon, by its triangles; for every ray; from every start; along a segment that touches
+-- no side. Assumes nothing.
 use mathlib.Core.Path.{_≡_, refl, sym, _∙_, ap}
 use mathlib.Core.Bool.{Bool, true, false, true≢false}
 use mathlib.Core.Logic.{inl, inr}
@@ -57,15 +58,18 @@ module _ (m d : ℤ) (k : Up d) (g : List Flat) (p : Flat) where
 
 -- whatever ray is asked, not only the one in the first coordinate's direction
 pub every-ray-says : (d : ℤ) → Up d → (g : List Flat) (p q : Flat) → Up (facing p q q) → (Touch p (map (big d) g) → ⊥)
-    → (round (beam p q) (map (big d) g) ≡ true → whereFlat p d g ≡ Inside) × (round (beam p q) (map (big d) g) ≡ false → whereFlat p d g ≡ Outside)
+    → (round (beam p q) (map (big d) g) ≡ true → whereFlat p d g ≡ Inside)
+    × (round (beam p q) (map (big d) g) ≡ false → whereFlat p d g ≡ Outside)
 every-ray-says d k g p q h n = go (ways (pos 0) d k g p)
   where
-    go : Ways (pos 0) d k g p → (round (beam p q) (map (big d) g) ≡ true → whereFlat p d g ≡ Inside) × (round (beam p q) (map (big d) g) ≡ false → whereFlat p d g ≡ Outside)
+    go : Ways (pos 0) d k g p → (round (beam p q) (map (big d) g) ≡ true → whereFlat p d g ≡ Inside)
+        × (round (beam p q) (map (big d) g) ≡ false → whereFlat p d g ≡ Outside)
     go (at-border t e) = absurd (n t)
     go (at-inside c o e) = ((λ r. e), (λ r. absurd (true≢false (sym o ∙ by-ray p q (map (big d) g) c h ∙ r))))
     go (at-outside c o e) = ((λ r. absurd (true≢false (sym r ∙ sym (by-ray p q (map (big d) g) c h) ∙ o))), (λ r. e))
 
--- the number of sides met is odd where the number of triangles with an odd number of sides met is, for every triangulation and every point
+-- the number of sides met is odd where the number of triangles with an odd number of sides met is, for every triangulation and every
+-- point
 pub any-triangles : (m d : ℤ) → Up d → (g : List Flat) (t : Cut m g) (p : Flat) → oddTrue (sides (crosses p d) g) ≡ hits (crosses p d) t
 any-triangles m d k g t p = odd-round (crosses p d) g ∙ hits-are m (crosses p d) (crosses-back p d k) g t
 
@@ -113,12 +117,14 @@ means m g n s = record {
     on-border d k p t (at-inside c o f) = absurd (touch-not p d k g c t)
     on-border d k p t (at-outside c o f) = absurd (touch-not p d k g c t)
 
-    inside : (d : ℤ) (k : Up d) (p : Flat) → whereFlat p d g ≡ Inside → Ways m d k g p → At (big d) (r .cut) p × (Touch p (map (big d) g) → ⊥)
+    inside : (d : ℤ) (k : Up d) (p : Flat) → whereFlat p d g ≡ Inside → Ways m d k g p
+        → At (big d) (r .cut) p × (Touch p (map (big d) g) → ⊥)
     inside d k p e (at-border t f) = absurd (bi (sym f ∙ e))
     inside d k p e (at-inside c o f) = (cover-at m d k p g (r .cut) (inl o), touch-not p d k g c)
     inside d k p e (at-outside c o f) = absurd (io (sym e ∙ f))
 
-    is-inside : (d : ℤ) (k : Up d) (p : Flat) → At (big d) (r .cut) p → (Touch p (map (big d) g) → ⊥) → Ways m d k g p → whereFlat p d g ≡ Inside
+    is-inside : (d : ℤ) (k : Up d) (p : Flat) → At (big d) (r .cut) p → (Touch p (map (big d) g) → ⊥) → Ways m d k g p
+        → whereFlat p d g ≡ Inside
     is-inside d k p a n (at-border t f) = absurd (n t)
     is-inside d k p a n (at-inside c o f) = f
     is-inside d k p a n (at-outside c o f) = absurd (true≢false (sym (r .inside d k p c a) ∙ o))
@@ -134,7 +140,8 @@ means m g n s = record {
     is-outside d k p a (at-outside c o f) = f
 
 -- from every start: of any ring
-pub any-start : (d : ℤ) → Up d → (x : Flat) (l : List Flat) (y : Flat) (r : List Flat) (p : Flat) → whereFlat p d (x ∷ (l ++ y ∷ r)) ≡ whereFlat p d (y ∷ (r ++ x ∷ l))
+pub any-start : (d : ℤ) → Up d → (x : Flat) (l : List Flat) (y : Flat) (r : List Flat) (p : Flat)
+    → whereFlat p d (x ∷ (l ++ y ∷ r)) ≡ whereFlat p d (y ∷ (r ++ x ∷ l))
 any-start d k x l y r p = go (ways (pos 0) d k g p) (ways (pos 0) d k g' p)
   where
     g : List Flat
@@ -143,13 +150,16 @@ any-start d k x l y r p = go (ways (pos 0) d k g p) (ways (pos 0) d k g' p)
     g' : List Flat
     g' = y ∷ (r ++ x ∷ l)
 
-    touch : (a : Flat) (u : List Flat) (b : Flat) (v : List Flat) → Touch p (map (big d) (a ∷ (u ++ b ∷ v))) → Touch p (map (big d) (b ∷ (v ++ a ∷ u)))
-    touch a u b v t = record { a = t .a; b = t .b; side = link-turned (pos 0) (big d) b v a u (t .a) (t .b) (t .side); line = t .line; mid = t .mid }
+    touch : (a : Flat) (u : List Flat) (b : Flat) (v : List Flat) → Touch p (map (big d) (a ∷ (u ++ b ∷ v)))
+        → Touch p (map (big d) (b ∷ (v ++ a ∷ u)))
+    touch a u b v t =
+        record { a = t .a; b = t .b; side = link-turned (pos 0) (big d) b v a u (t .a) (t .b) (t .side); line = t .line; mid = t .mid }
 
     odds : odd p (map (big d) (y ∷ (r ++ x ∷ l))) ≡ odd p (map (big d) (x ∷ (l ++ y ∷ r)))
     odds = odd-turned (pos 0) (big d) p x l y r
 
-    go : Ways (pos 0) d k (x ∷ (l ++ y ∷ r)) p → Ways (pos 0) d k (y ∷ (r ++ x ∷ l)) p → whereFlat p d (x ∷ (l ++ y ∷ r)) ≡ whereFlat p d (y ∷ (r ++ x ∷ l))
+    go : Ways (pos 0) d k (x ∷ (l ++ y ∷ r)) p → Ways (pos 0) d k (y ∷ (r ++ x ∷ l)) p
+        → whereFlat p d (x ∷ (l ++ y ∷ r)) ≡ whereFlat p d (y ∷ (r ++ x ∷ l))
     go (at-border t e) (at-border u f) = e ∙ sym f
     go (at-border t e) (at-inside c o f) = absurd (touch-not p d k (y ∷ (r ++ x ∷ l)) c (touch x l y r t))
     go (at-border t e) (at-outside c o f) = absurd (touch-not p d k (y ∷ (r ++ x ∷ l)) c (touch x l y r t))
@@ -161,7 +171,8 @@ any-start d k x l y r p = go (ways (pos 0) d k g p) (ways (pos 0) d k g' p)
     go (at-outside c o e) (at-inside c' o' f) = absurd (true≢false (sym o' ∙ odds ∙ o))
 
 -- a point that has a line to one side of which all corners are is outside
-pub one-sided : (d : ℤ) → Up d → (g : List Flat) (p q : Flat) → ((z : Flat) → Of z (map (big d) g) → Up (turn p q z)) → whereFlat p d g ≡ Outside
+pub one-sided : (d : ℤ) → Up d → (g : List Flat) (p q : Flat) → ((z : Flat) → Of z (map (big d) g) → Up (turn p q z))
+    → whereFlat p d g ≡ Outside
 one-sided d k [] p q h = go (ways (pos 0) d k [] p)
   where
     go : Ways (pos 0) d k [] p → whereFlat p d [] ≡ Outside
@@ -171,6 +182,10 @@ one-sided d k [] p q h = go (ways (pos 0) d k [] p)
 one-sided d k (x ∷ l) p q h = go (ways (pos 0) d k (x ∷ l) p)
   where
     go : Ways (pos 0) d k (x ∷ l) p → whereFlat p d (x ∷ l) ≡ Outside
-    go (at-border t e) = absurd (left-off p q (t .a) (t .b) (h (t .a) (link-of (map (big d) (x ∷ l)) (t .a) (t .b) (t .side))) (h (t .b) (link-of (map (big d) (x ∷ l)) (t .b) (t .a) (link-back (map (big d) (x ∷ l)) (t .a) (t .b) (t .side)))) (t .line) (t .mid))
+    go (at-border t e) =
+        absurd
+        (left-off p q (t .a) (t .b) (h (t .a) (link-of (map (big d) (x ∷ l)) (t .a) (t .b) (t .side)))
+        (h (t .b) (link-of (map (big d) (x ∷ l)) (t .b) (t .a) (link-back (map (big d) (x ∷ l)) (t .a) (t .b) (t .side)))) (t .line)
+        (t .mid))
     go (at-inside c o e) = absurd (true≢false (sym o ∙ out p q (big d x) (map (big d) (x ∷ l)) c (h (big d x) (inl refl)) h))
     go (at-outside c o e) = e

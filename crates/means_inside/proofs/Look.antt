@@ -1,4 +1,5 @@
--- What is seen from a corner v that is lower than its neighbours x and y, of any links: an empty triangle, or a farthest corner w; and points of the chord v w. Two angles at v. Assumes nothing.
+-- What is seen from a corner v that is lower than its neighbours x and y, of any links: an empty triangle, or a farthest corner w; and
+-- points of the chord v w. Two angles at v. Assumes nothing.
 use mathlib.Core.Path.{_≡_, sym, _∙_, ap}
 use mathlib.Core.Logic.{_⊎_, inl, inr}
 use mathlib.Core.List.{List, [], _∷_}
@@ -43,7 +44,9 @@ module _ (m : ℤ) where
 
   module _ (v : Flat) where
     pub lt-le : (a q b : Flat) → h v <ℤ h a → h v <ℤ h q → h v <ℤ h b → Up (turn v a q) → Nn (turn v q b) → Up (turn v a b)
-    lt-le a q b ka kq kb s t = up-out (h q -ℤ h v) (sub-pos kq) (up-is (sym (turn3 v a q b)) (up-add (mul-pos (sub-pos kb) s) (mul-nonneg (up-nn (sub-pos ka)) t)))
+    lt-le a q b ka kq kb s t =
+        up-out (h q -ℤ h v) (sub-pos kq)
+        (up-is (sym (turn3 v a q b)) (up-add (mul-pos (sub-pos kb) s) (mul-nonneg (up-nn (sub-pos ka)) t)))
 
     -- two angles with a common direction p, neither of which has a side of the other strictly inside: they have the same sides
     pub ang : (a b a' b' p : Flat) → h v <ℤ h a → h v <ℤ h b → h v <ℤ h a' → h v <ℤ h b' → h v <ℤ h p
@@ -63,7 +66,8 @@ module _ (m : ℤ) where
         second (inr (inl e)) = e
         second (inr (inr k)) = absurd (n2 (lt-le a p b' ka kp kb' s t', up-is (sym (flip-last v b' b)) k))
 
-  module _ (L : Flat → Flat → Type 0) (cs : List Flat) (net : Net m L (λ z. Of z cs)) (v x y : Flat) (vx : L v x) (vy : L v y) (hx : h v <ℤ h x) (hy : h v <ℤ h y) where
+  module _ (L : Flat → Flat → Type 0) (cs : List Flat) (net : Net m L (λ z. Of z cs)) (v x y : Flat) (vx : L v x) (vy : L v y)
+      (hx : h v <ℤ h x) (hy : h v <ℤ h y) where
     abbrev Free : Flat → Type 0
     Free p = Ok m L (λ z. Of z cs) v p
 
@@ -75,16 +79,25 @@ module _ (m : ℤ) where
 
     pub data Look : Type 0 where
       empty : ((z : Flat) → Of z cs → Hit v x y z → ⊥) → Look
-      far : (w : Flat) → Of w cs → View w → Same (turn v x w) (turn v x y) → Same (turn v w y) (turn v x y) → ((p : Flat) → turn v w p ≡ pos 0 → Nn (negℤ (facing p v w)) → (p ≡ v → ⊥) → View p) → Look
+      far : (w : Flat) → Of w cs → View w → Same (turn v x w) (turn v x y) → Same (turn v w y) (turn v x y)
+          → ((p : Flat) → turn v w p ≡ pos 0 → Nn (negℤ (facing p v w)) → (p ≡ v → ⊥) → View p) → Look
 
     -- in the triangle, with nothing farther
     pub view : (p : Flat) → In v x y p → ((r : Flat) → Of r cs → In v x y r → turn x y r ≤ℤ turn x y p) → View p
     view p i top = let D = in-sense v x y p i in
-        record { up = higher m L (λ z. Of z cs) net v x y D vx vy hx hy p i top; ok = diagonal m L (λ z. Of z cs) net v x y D vx vy hx hy p i top; mid = inl (in-ang v x y p i) }
+        record {
+          up = higher m L (λ z. Of z cs) net v x y D vx vy hx hy p i top;
+          ok = diagonal m L (λ z. Of z cs) net v x y D vx vy hx hy p i top;
+          mid = inl (in-ang v x y p i);
+        }
 
     pub view' : (p : Flat) → In v y x p → ((r : Flat) → Of r cs → In v y x r → turn y x r ≤ℤ turn y x p) → View p
     view' p i top = let D = in-sense v y x p i in
-        record { up = higher m L (λ z. Of z cs) net v y x D vy vx hy hx p i top; ok = diagonal m L (λ z. Of z cs) net v y x D vy vx hy hx p i top; mid = inr (in-ang v y x p i) }
+        record {
+          up = higher m L (λ z. Of z cs) net v y x D vy vx hy hx p i top;
+          ok = diagonal m L (λ z. Of z cs) net v y x D vy vx hy hx p i top;
+          mid = inr (in-ang v y x p i);
+        }
 
     pub view-ear : ((z : Flat) → Of z cs → Hit v x y z → ⊥) → (p : Flat) → Hit v x y p → View p
     view-ear e p (inl i) = view p i (λ r o j. absurd (e r o (inl j)))
@@ -108,13 +121,17 @@ module _ (m : ℤ) where
 
       along-f : facing v w w *ℤ (turn a b p -ℤ turn a b w) ≡ (facing p w w +ℤ negℤ (facing p v w)) *ℤ (turn b v w +ℤ turn v a w)
       unfolding turn facing ρ
-      along-f = ring-with ρ (fE 0 3 3 ⊗ (tE 1 2 4 ⊖ tE 1 2 3)) ((fE 4 3 3 ⊕ neg (fE 4 0 3)) ⊗ (tE 2 0 3 ⊕ tE 0 1 3)) ((uE 3 ⊖ uE 0) ⊗ (uE 2 ⊖ uE 1) ⊕ (vE 3 ⊖ vE 0) ⊗ (vE 2 ⊖ vE 1)) (tE 0 3 4) (con (pos 0)) tt e
+      along-f =
+          ring-with ρ (fE 0 3 3 ⊗ (tE 1 2 4 ⊖ tE 1 2 3)) ((fE 4 3 3 ⊕ neg (fE 4 0 3)) ⊗ (tE 2 0 3 ⊕ tE 0 1 3))
+          ((uE 3 ⊖ uE 0) ⊗ (uE 2 ⊖ uE 1) ⊕ (vE 3 ⊖ vE 0) ⊗ (vE 2 ⊖ vE 1)) (tE 0 3 4) (con (pos 0)) tt e
 
       pv : Up (facing p v v +ℤ negℤ (facing p v w))
       pv = up-add (self-up p v (λ q. n (sym q))) f
 
       farther : Nn (turn a b p -ℤ turn a b w)
-      farther = nn-out (facing v w w) ww (nn-is (sym along-f) (mul-nonneg (add-nonneg (self-nn p w) f) (up-nn (up-add (i .by-a) (up-nn (i .by-b))))))
+      farther =
+          nn-out (facing v w w) ww
+          (nn-is (sym along-f) (mul-nonneg (add-nonneg (self-nn p w) f) (up-nn (up-add (i .by-a) (up-nn (i .by-b))))))
 
       pub chord-in : In v a b p
       chord-in = record {
@@ -124,7 +141,9 @@ module _ (m : ℤ) where
       }
 
       pub chord-far : (t : ℤ) → t ≤ℤ turn a b w → t ≤ℤ turn a b p
-      chord-far t k = let σ = t ∷ turn a b w ∷ turn a b p ∷ [] in le-by σ (var 0) (var 2) (omega (arith, le-to σ (var 0) (var 1) k, le-to σ (con (pos 0)) (var 2 ⊖ var 1) farther))
+      chord-far t k =
+          let σ = t ∷ turn a b w ∷ turn a b p ∷ [] in
+          le-by σ (var 0) (var 2) (omega (arith, le-to σ (var 0) (var 1) k, le-to σ (con (pos 0)) (var 2 ⊖ var 1) farther))
 
     pub look : (h x ≡ h y → ⊥) → Look
     look ne = go (ways (turn v x y))
@@ -135,8 +154,10 @@ module _ (m : ℤ) where
             no : (z : Flat) → (In v x y z → ⊥) → Hit v x y z → ⊥
             no z n (inl i) = n i
             no z n (inr i) = off D (up-nn (up-is (flip-last v y x) (in-sense v y x z i)))
-        up D (inr t) = far (t .w) (t .of) (view (t .w) (t .inn) (t .top)) (both (t .inn .by-b) D) (both (up-is (spin y v (t .w)) (t .inn .by-a)) D)
-            (λ p e f n. view p (chord-in x y (t .w) p e f n (t .inn)) (λ r o j. chord-far x y (t .w) p e f n (t .inn) (turn x y r) (t .top r o j)))
+        up D (inr t) =
+            far (t .w) (t .of) (view (t .w) (t .inn) (t .top)) (both (t .inn .by-b) D) (both (up-is (spin y v (t .w)) (t .inn .by-a)) D)
+            (λ p e f n. view p (chord-in x y (t .w) p e f n (t .inn))
+            (λ r o j. chord-far x y (t .w) p e f n (t .inn) (turn x y r) (t .top r o j)))
 
         down : Up (turn v y x) → ((z : Flat) → Of z cs → In v y x z → ⊥) ⊎ Best v y x cs → Look
         down D (inl e) = empty (λ z o. no z (e z o))
@@ -145,8 +166,10 @@ module _ (m : ℤ) where
             no z n (inr i) = n i
             no z n (inl i) = off D (up-nn (up-is (flip-last v x y) (in-sense v x y z i)))
         down D (inr t) = far (t .w) (t .of) (view' (t .w) (t .inn) (t .top))
-            (none (up-is (flip x v (t .w)) (t .inn .by-a)) (up-is (flip-last v y x) D)) (none (up-is (flip-last v y (t .w)) (t .inn .by-b)) (up-is (flip-last v y x) D))
-            (λ p e f n. view' p (chord-in y x (t .w) p e f n (t .inn)) (λ r o j. chord-far y x (t .w) p e f n (t .inn) (turn y x r) (t .top r o j)))
+            (none (up-is (flip x v (t .w)) (t .inn .by-a)) (up-is (flip-last v y x) D))
+            (none (up-is (flip-last v y (t .w)) (t .inn .by-b)) (up-is (flip-last v y x) D))
+            (λ p e f n. view' p (chord-in y x (t .w) p e f n (t .inn))
+            (λ r o j. chord-far y x (t .w) p e f n (t .inn) (turn y x r) (t .top r o j)))
 
         go : Up (turn v x y) ⊎ ((turn v x y ≡ pos 0) ⊎ Up (negℤ (turn v x y))) → Look
         go (inl D) = up D (best v x y cs)

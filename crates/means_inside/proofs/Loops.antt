@@ -29,4 +29,8 @@ module _ (d : Wire) (r11 : samePlace d ≡ none) (r13 : edgeMeets d ≡ none) (i
 
   -- and that means: in a triangle of the view, on a side
   pub loop-means : (m : ℤ) × Means m view
-  loop-means = let s = ring-seen d r11 r13 i h in let n = loop-long d r11 r13 i h in let e = length-map (seen (axis (normal (loopOf d i)))) (loopOf d i) in (s .0, means (s .0) view (omega (arith, e, n)) (s .1))
+  loop-means =
+      let s = ring-seen d r11 r13 i h in
+      let n = loop-long d r11 r13 i h in
+      let e = length-map (seen (axis (normal (loopOf d i)))) (loopOf d i) in
+      (s .0, means (s .0) view (omega (arith, e, n)) (s .1))

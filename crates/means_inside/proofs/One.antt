@@ -38,9 +38,12 @@ use Rattle.means_inside.proofs.Scale.{big-turn, big-height, small-up, s
 use Rattle.means_inside.proofs.Chord.{same-between, chord-seen, chord-between}
 
 -- a chord from the lowest corner: in one of the parts is inside
-cut-inside : (m : ℤ) (u c : Flat) (X : List Flat) (w y : Flat) (Y : List Flat) → Same (turn u c w) (turn u c (lst y Y)) → Same (turn u w (lst y Y)) (turn u c (lst y Y)) → (A B : Flat → Type 0)
-    → ((p : Flat) → Clear p (u ∷ c ∷ (X ++ w ∷ [])) → A p → odd p (u ∷ c ∷ (X ++ w ∷ [])) ≡ true) → ((p : Flat) → Clear p (u ∷ w ∷ y ∷ Y) → B p → odd p (u ∷ w ∷ y ∷ Y) ≡ true)
-    → Simple m (u ∷ c ∷ (X ++ w ∷ y ∷ Y)) → Least m u (c ∷ (X ++ w ∷ y ∷ Y)) → Ok m (Link (u ∷ c ∷ (X ++ w ∷ y ∷ Y))) (λ z. Of z (u ∷ c ∷ (X ++ w ∷ y ∷ Y))) u w
+cut-inside : (m : ℤ) (u c : Flat) (X : List Flat) (w y : Flat) (Y : List Flat) → Same (turn u c w) (turn u c (lst y Y))
+    → Same (turn u w (lst y Y)) (turn u c (lst y Y)) → (A B : Flat → Type 0)
+    → ((p : Flat) → Clear p (u ∷ c ∷ (X ++ w ∷ [])) → A p → odd p (u ∷ c ∷ (X ++ w ∷ [])) ≡ true)
+    → ((p : Flat) → Clear p (u ∷ w ∷ y ∷ Y) → B p → odd p (u ∷ w ∷ y ∷ Y) ≡ true)
+    → Simple m (u ∷ c ∷ (X ++ w ∷ y ∷ Y)) → Least m u (c ∷ (X ++ w ∷ y ∷ Y))
+    → Ok m (Link (u ∷ c ∷ (X ++ w ∷ y ∷ Y))) (λ z. Of z (u ∷ c ∷ (X ++ w ∷ y ∷ Y))) u w
     → (p : Flat) → Clear p (u ∷ c ∷ (X ++ w ∷ y ∷ Y)) → A p ⊎ B p → odd p (u ∷ c ∷ (X ++ w ∷ y ∷ Y)) ≡ true
 cut-inside m u c X w y Y s1 s2 A B i1 i2 s low ok p cl t = go (off-or p u w)
   where
@@ -55,7 +58,9 @@ cut-inside m u c X w y Y s1 s2 A B i1 i2 s low ok p cl t = go (off-or p u w)
         let n = off-end p u c (cl u c (first-link m u c (X ++ w ∷ y ∷ Y))) in
         let z = lst-append c X w (y ∷ Y) in
         between-odd m u c (X ++ w ∷ y ∷ Y) low p cl (chord-seen m u w p hw (q .0) (q .1) n (u ∷ c ∷ (X ++ w ∷ y ∷ Y)) ok)
-        (chord-between m u w p hw (q .0) (q .1) n c (lst c (X ++ w ∷ y ∷ Y)) (same-between u c (lst c (X ++ w ∷ y ∷ Y)) w (same-is2 (ap (turn u c) (sym z)) s1) (same-is2 (ap (turn u c) (sym z)) (same-is (ap (turn u w) (sym z)) s2))))
+        (chord-between m u w p hw (q .0) (q .1) n c (lst c (X ++ w ∷ y ∷ Y))
+        (same-between u c (lst c (X ++ w ∷ y ∷ Y)) w (same-is2 (ap (turn u c) (sym z)) s1)
+        (same-is2 (ap (turn u c) (sym z)) (same-is (ap (turn u w) (sym z)) s2))))
     go (inl q) = pick t
       where
         c1 : Clear p (u ∷ c ∷ (X ++ w ∷ []))
@@ -65,11 +70,15 @@ cut-inside m u c X w y Y s1 s2 A B i1 i2 s low ok p cl t = go (off-or p u w)
         c2 = clear-with p (u ∷ c ∷ (X ++ w ∷ y ∷ Y)) (u ∷ w ∷ y ∷ Y) u w cl q (f2 m u c X w y Y s low ok s1 s2)
 
         clash : odd p (u ∷ c ∷ (X ++ w ∷ [])) ≡ true → odd p (u ∷ w ∷ y ∷ Y) ≡ true → ⊥
-        clash o o' = disjoint m (length (u ∷ c ∷ (X ++ w ∷ [])) + length (u ∷ w ∷ y ∷ Y)) (u ∷ c ∷ (X ++ w ∷ [])) (u ∷ w ∷ y ∷ Y) (omega arith) (parts m u c X w y Y s low ok s1 s2) p c1 c2 o o'
+        clash o o' =
+            disjoint m (length (u ∷ c ∷ (X ++ w ∷ [])) + length (u ∷ w ∷ y ∷ Y)) (u ∷ c ∷ (X ++ w ∷ [])) (u ∷ w ∷ y ∷ Y) (omega arith)
+            (parts m u c X w y Y s low ok s1 s2) p c1 c2 o o'
 
         pick : A p ⊎ B p → odd p (u ∷ c ∷ (X ++ w ∷ y ∷ Y)) ≡ true
         pick (inl x) = let o = i1 p c1 x in sum ∙ (λ i. xor (o i) (never-true (odd p (u ∷ w ∷ y ∷ Y)) (clash o) i)) ∙ xor-false true
-        pick (inr x) = let o = i2 p c2 x in sum ∙ (λ i. xor (never-true (odd p (u ∷ c ∷ (X ++ w ∷ []))) (λ q. clash q o) i) (o i)) ∙ false-xor true
+        pick (inr x) =
+            let o = i2 p c2 x in
+            sum ∙ (λ i. xor (never-true (odd p (u ∷ c ∷ (X ++ w ∷ []))) (λ q. clash q o) i) (o i)) ∙ false-xor true
 
 module _ (m d : ℤ) (k : Up d) where
   abbrev B : Flat → Flat
@@ -79,17 +88,27 @@ module _ (m d : ℤ) (k : Up d) where
   low-big : (u : Flat) (l : List Flat) → Least m u l → Least m (B u) (map B l)
   low-big u l low z o =
       let r = map-of B z l o in
-      subst (λ (y : Flat). height m (B u) <ℤ height m y) (sym (r .2)) (subst (λ (t : ℤ). t <ℤ height m (B (r .0))) (sym (big-height m d k u)) (subst (λ (t : ℤ). (d *ℤ height m u) <ℤ t) (sym (big-height m d k (r .0))) (mul-lt d k (low (r .0) (r .1)))))
+      subst (λ (y : Flat). height m (B u) <ℤ height m y) (sym (r .2))
+      (subst (λ (t : ℤ). t <ℤ height m (B (r .0))) (sym (big-height m d k u))
+      (subst (λ (t : ℤ). (d *ℤ height m u) <ℤ t) (sym (big-height m d k (r .0))) (mul-lt d k (low (r .0) (r .1)))))
 
   small-in : (v a b z : Flat) → In (B v) (B a) (B b) (B z) → In v a b z
-  small-in v a b z i = record { far = nn-out d k (nn-out d k (nn-is (big-turn m d k a b z) (i .far))); by-a = small-up m d k b v z (i .by-a); by-b = small-up m d k v a z (i .by-b) }
+  small-in v a b z i =
+      record {
+        far = nn-out d k (nn-out d k (nn-is (big-turn m d k a b z) (i .far)));
+        by-a = small-up m d k b v z (i .by-a);
+        by-b = small-up m d k v a z (i .by-b);
+      }
 
   small-hit : (v a b z : Flat) → Hit (B v) (B a) (B b) (B z) → Hit v a b z
   small-hit v a b z (inl i) = inl (small-in v a b z i)
   small-hit v a b z (inr i) = inr (small-in v b a z i)
 
-  free-big : (g : List Flat) (v a b : Flat) → ((z : Flat) → Of z g → Hit v a b z → ⊥) → (z : Flat) → Of z (map B g) → Hit (B v) (B a) (B b) z → ⊥
-  free-big g v a b e z o i = let r = map-of B z g o in e (r .0) (r .1) (small-hit v a b (r .0) (subst (λ (y : Flat). Hit (B v) (B a) (B b) y) (r .2) i))
+  free-big : (g : List Flat) (v a b : Flat) → ((z : Flat) → Of z g → Hit v a b z → ⊥) → (z : Flat) → Of z (map B g)
+      → Hit (B v) (B a) (B b) z → ⊥
+  free-big g v a b e z o i =
+      let r = map-of B z g o in
+      e (r .0) (r .1) (small-hit v a b (r .0) (subst (λ (y : Flat). Hit (B v) (B a) (B b) y) (r .2) i))
 
   ok-big : (g : List Flat) (u w : Flat) → Ok m (Link g) (λ z. Of z g) u w → Ok m (Link (map B g)) (λ z. Of z (map B g)) (B u) (B w)
   ok-big g u w ok = record {
@@ -108,7 +127,9 @@ module _ (m d : ℤ) (k : Up d) where
 
       on : (a b r : Flat) (z : Flat) → r ≡ B z → On m (B a) (B b) r → On m a b z
       on a b r z q c = record {
-        line = mul-zero d (turn a b z) (pos-ne k) (mul-zero d (d *ℤ turn a b z) (pos-ne k) (sym (big-turn m d k a b z) ∙ sym (ap (turn (B a) (B b)) q) ∙ c .line));
+        line =
+            mul-zero d (turn a b z) (pos-ne k)
+            (mul-zero d (d *ℤ turn a b z) (pos-ne k) (sym (big-turn m d k a b z) ∙ sym (ap (turn (B a) (B b)) q) ∙ c .line));
         after = small-lt m d k a z (subst (λ (y : Flat). height m (B a) <ℤ height m y) q (c .after));
         before = small-lt m d k z b (subst (λ (y : Flat). height m y <ℤ height m (B b)) q (c .before));
       }
@@ -123,49 +144,72 @@ module _ (m d : ℤ) (k : Up d) where
   up-big a b c h = up-is (sym (big-turn m d k a b c)) (mul-pos k (mul-pos k h))
 
   down-big : (a b c : Flat) → Up (negℤ (turn a b c)) → Up (negℤ (turn (B a) (B b) (B c)))
-  down-big a b c h = up-is (ap negℤ (sym (big-turn m d k a b c))) (up-is (ring (d ∷ turn a b c ∷ []) (var 0 ⊗ (var 0 ⊗ neg (var 1))) (neg (var 0 ⊗ (var 0 ⊗ var 1))) tt) (mul-pos k (mul-pos k h)))
+  down-big a b c h =
+      up-is (ap negℤ (sym (big-turn m d k a b c)))
+      (up-is (ring (d ∷ turn a b c ∷ []) (var 0 ⊗ (var 0 ⊗ neg (var 1))) (neg (var 0 ⊗ (var 0 ⊗ var 1))) tt) (mul-pos k (mul-pos k h)))
 
   same-big : (a b c a' b' c' : Flat) → Same (turn a b c) (turn a' b' c') → Same (turn (B a) (B b) (B c)) (turn (B a') (B b') (B c'))
   same-big a b c a' b' c' (both x y) = both (up-big a b c x) (up-big a' b' c' y)
   same-big a b c a' b' c' (none x y) = none (down-big a b c x) (down-big a' b' c' y)
 
   -- ---- inside, of the larger ring
-  ear-big : (u c : Flat) (l : List Flat) → 1 ≤ length l → Simple m (u ∷ c ∷ l) → Least m u (c ∷ l) → ((z : Flat) → Of z (u ∷ c ∷ l) → Hit u c (lst c l) z → ⊥) → (A : Flat → Type 0) → ((p : Flat) → Clear p (map B (c ∷ l)) → A p → odd p (map B (c ∷ l)) ≡ true)
+  ear-big : (u c : Flat) (l : List Flat) → 1 ≤ length l → Simple m (u ∷ c ∷ l) → Least m u (c ∷ l)
+      → ((z : Flat) → Of z (u ∷ c ∷ l) → Hit u c (lst c l) z → ⊥) → (A : Flat → Type 0)
+      → ((p : Flat) → Clear p (map B (c ∷ l)) → A p → odd p (map B (c ∷ l)) ≡ true)
       → (p : Flat) → Clear p (map B (u ∷ c ∷ l)) → InTriangle (B u) (B c) (B (lst c l)) p ⊎ A p → odd p (map B (u ∷ c ∷ l)) ≡ true
   ear-big u c l j s low e A f p cl t =
       let q = length-map B l in
       ear-inside m (B u) (B c) (map B l) (omega (arith, q, j)) (big-simple m d k (u ∷ c ∷ l) s) (low-big u (c ∷ l) low)
-      (subst (λ (a : Flat). (z : Flat) → Of z (map B (u ∷ c ∷ l)) → Hit (B u) (B c) a z → ⊥) (sym (lst-map B c l)) (free-big (u ∷ c ∷ l) u c (lst c l) e)) A f p cl
+      (subst (λ (a : Flat). (z : Flat) → Of z (map B (u ∷ c ∷ l)) → Hit (B u) (B c) a z → ⊥) (sym (lst-map B c l))
+      (free-big (u ∷ c ∷ l) u c (lst c l) e)) A f p cl
       (subst (λ (a : Flat). InTriangle (B u) (B c) a p ⊎ A p) (sym (lst-map B c l)) t)
 
-  cut-big : (u c : Flat) (X : List Flat) (w y : Flat) (Y : List Flat) → Simple m (u ∷ c ∷ (X ++ w ∷ y ∷ Y)) → Least m u (c ∷ (X ++ w ∷ y ∷ Y)) → Ok m (Link (u ∷ c ∷ (X ++ w ∷ y ∷ Y))) (λ z. Of z (u ∷ c ∷ (X ++ w ∷ y ∷ Y))) u w
+  cut-big : (u c : Flat) (X : List Flat) (w y : Flat) (Y : List Flat) → Simple m (u ∷ c ∷ (X ++ w ∷ y ∷ Y))
+      → Least m u (c ∷ (X ++ w ∷ y ∷ Y)) → Ok m (Link (u ∷ c ∷ (X ++ w ∷ y ∷ Y))) (λ z. Of z (u ∷ c ∷ (X ++ w ∷ y ∷ Y))) u w
       → Same (turn u c w) (turn u c (lst y Y)) → Same (turn u w (lst y Y)) (turn u c (lst y Y)) → (A C : Flat → Type 0)
-      → ((p : Flat) → Clear p (map B (u ∷ c ∷ (X ++ w ∷ []))) → A p → odd p (map B (u ∷ c ∷ (X ++ w ∷ []))) ≡ true) → ((p : Flat) → Clear p (map B (u ∷ w ∷ y ∷ Y)) → C p → odd p (map B (u ∷ w ∷ y ∷ Y)) ≡ true)
+      → ((p : Flat) → Clear p (map B (u ∷ c ∷ (X ++ w ∷ []))) → A p → odd p (map B (u ∷ c ∷ (X ++ w ∷ []))) ≡ true)
+      → ((p : Flat) → Clear p (map B (u ∷ w ∷ y ∷ Y)) → C p → odd p (map B (u ∷ w ∷ y ∷ Y)) ≡ true)
       → (p : Flat) → Clear p (map B (u ∷ c ∷ (X ++ w ∷ y ∷ Y))) → A p ⊎ C p → odd p (map B (u ∷ c ∷ (X ++ w ∷ y ∷ Y))) ≡ true
   cut-big u c X w y Y s low ok s1 s2 A C i1 i2 =
-      subst (λ (r : List Flat). Simple m (B u ∷ B c ∷ r) → Least m (B u) (B c ∷ r) → Ok m (Link (B u ∷ B c ∷ r)) (λ z. Of z (B u ∷ B c ∷ r)) (B u) (B w) → (p : Flat) → Clear p (B u ∷ B c ∷ r) → A p ⊎ C p → odd p (B u ∷ B c ∷ r) ≡ true)
+      subst (λ (r : List Flat). Simple m (B u ∷ B c ∷ r) → Least m (B u) (B c ∷ r)
+      → Ok m (Link (B u ∷ B c ∷ r)) (λ z. Of z (B u ∷ B c ∷ r)) (B u) (B w) → (p : Flat) → Clear p (B u ∷ B c ∷ r) → A p ⊎ C p
+      → odd p (B u ∷ B c ∷ r) ≡ true)
       (sym (map-app B X (w ∷ y ∷ Y)))
       (cut-inside m (B u) (B c) (map B X) (B w) (B y) (map B Y)
       (same-is2 (ap (turn (B u) (B c)) (sym (lst-map B y Y))) (same-big u c w u c (lst y Y) s1))
-      (same-is2 (ap (turn (B u) (B c)) (sym (lst-map B y Y))) (same-is (ap (turn (B u) (B w)) (sym (lst-map B y Y))) (same-big u w (lst y Y) u c (lst y Y) s2)))
-      A C (subst (λ (r : List Flat). (p : Flat) → Clear p (B u ∷ B c ∷ r) → A p → odd p (B u ∷ B c ∷ r) ≡ true) (map-app B X (w ∷ [])) i1) i2)
+      (same-is2 (ap (turn (B u) (B c)) (sym (lst-map B y Y)))
+      (same-is (ap (turn (B u) (B w)) (sym (lst-map B y Y))) (same-big u w (lst y Y) u c (lst y Y) s2)))
+      A C (subst (λ (r : List Flat). (p : Flat) → Clear p (B u ∷ B c ∷ r) → A p → odd p (B u ∷ B c ∷ r) ≡ true) (map-app B X (w ∷ [])) i1)
+      i2)
       (big-simple m d k (u ∷ c ∷ (X ++ w ∷ y ∷ Y)) s) (low-big u (c ∷ (X ++ w ∷ y ∷ Y)) low) (ok-big (u ∷ c ∷ (X ++ w ∷ y ∷ Y)) u w ok)
 
   -- ---- every triangulation covers
   module _ (p : Flat) where
-    chord-at : (u : Flat) (l : List Flat) (w : Flat) (r : List Flat) → Here m p (map B (u ∷ (l ++ w ∷ r))) → Here m p (map B (u ∷ (l ++ w ∷ []))) ⊎ Here m p (map B (u ∷ w ∷ r))
-    chord-at u l w r t = sums m p (λ q. subst (λ (x : List Flat). Here m p (B u ∷ x)) (sym (map-app B l (w ∷ []))) q) (λ q. q) (chord-here m p (B u) (map B l) (B w) (map B r) (subst (λ (x : List Flat). Here m p (B u ∷ x)) (map-app B l (w ∷ r)) t))
+    chord-at : (u : Flat) (l : List Flat) (w : Flat) (r : List Flat) → Here m p (map B (u ∷ (l ++ w ∷ r)))
+        → Here m p (map B (u ∷ (l ++ w ∷ []))) ⊎ Here m p (map B (u ∷ w ∷ r))
+    chord-at u l w r t =
+        sums m p (λ q. subst (λ (x : List Flat). Here m p (B u ∷ x)) (sym (map-app B l (w ∷ []))) q) (λ q. q)
+        (chord-here m p (B u) (map B l) (B w) (map B r) (subst (λ (x : List Flat). Here m p (B u ∷ x)) (map-app B l (w ∷ r)) t))
 
-    ear-at : (u c : Flat) (l : List Flat) → Here m p (map B (u ∷ c ∷ l)) → Here m p (B u ∷ B c ∷ B (lst c l) ∷ []) ⊎ Here m p (map B (c ∷ l))
-    ear-at u c l t = subst (λ (a : Flat). Here m p (B u ∷ B c ∷ a ∷ []) ⊎ Here m p (map B (c ∷ l))) (lst-map B c l) (ear-here m p (B u) (B c) (map B l) t)
+    ear-at : (u c : Flat) (l : List Flat) → Here m p (map B (u ∷ c ∷ l)) → Here m p (B u ∷ B c ∷ B (lst c l) ∷ [])
+        ⊎ Here m p (map B (c ∷ l))
+    ear-at u c l t =
+        subst (λ (a : Flat). Here m p (B u ∷ B c ∷ a ∷ []) ⊎ Here m p (map B (c ∷ l))) (lst-map B c l)
+        (ear-here m p (B u) (B c) (map B l) t)
 
-    start-at : (x : Flat) (l : List Flat) (y : Flat) (r : List Flat) → Here m p (map B (x ∷ (l ++ y ∷ r))) → Here m p (map B (y ∷ (r ++ x ∷ l)))
-    start-at x l y r t = subst (λ (z : List Flat). Here m p (B y ∷ z)) (sym (map-app B r (x ∷ l))) (start-here m p (B x) (map B l) (B y) (map B r) (subst (λ (z : List Flat). Here m p (B x ∷ z)) (map-app B l (y ∷ r)) t))
+    start-at : (x : Flat) (l : List Flat) (y : Flat) (r : List Flat) → Here m p (map B (x ∷ (l ++ y ∷ r)))
+        → Here m p (map B (y ∷ (r ++ x ∷ l)))
+    start-at x l y r t =
+        subst (λ (z : List Flat). Here m p (B y ∷ z)) (sym (map-app B r (x ∷ l)))
+        (start-here m p (B x) (map B l) (B y) (map B r) (subst (λ (z : List Flat). Here m p (B x ∷ z)) (map-app B l (y ∷ r)) t))
 
     pub cover-at : (g : List Flat) (t : Cut m g) → Here m p (map B g) → At B t p
     cover-at _ (one a b c s) t = tri-here m p (B a) (B b) (B c) (big-simple m d k (a ∷ b ∷ c ∷ []) s) t
-    cover-at _ (chord u l w r s x y) t = sums m p (λ q. cover-at (u ∷ (l ++ w ∷ [])) x q) (λ q. cover-at (u ∷ w ∷ r) y q) (chord-at u l w r t)
-    cover-at _ (ear u c l s z x) t = sums m p (λ q. tri-here m p (B u) (B c) (B (lst c l)) (big-simple m d k (u ∷ c ∷ lst c l ∷ []) z) q) (λ q. cover-at (c ∷ l) x q) (ear-at u c l t)
+    cover-at _ (chord u l w r s x y) t =
+        sums m p (λ q. cover-at (u ∷ (l ++ w ∷ [])) x q) (λ q. cover-at (u ∷ w ∷ r) y q) (chord-at u l w r t)
+    cover-at _ (ear u c l s z x) t =
+        sums m p (λ q. tri-here m p (B u) (B c) (B (lst c l)) (big-simple m d k (u ∷ c ∷ lst c l ∷ []) z) q) (λ q. cover-at (c ∷ l) x q)
+        (ear-at u c l t)
     cover-at _ (start x l y r z) t = cover-at (y ∷ (r ++ x ∷ l)) z (start-at x l y r t)
 
 -- ---- the triangulation
@@ -183,10 +227,16 @@ module _ (m : ℤ) where
         let f = form m g s k in
         let e = f .size in
         let r = ih (f .v) (f .x) (f .l) (omega (arith, e, b)) (omega (arith, e, k)) (f .simple) (f .low) in
-        record { cut = f .recut (r .cut); inside = (λ d j p c a. sym (f .odd-map (big d) p) ∙ r .inside d j p (λ x y t. c x y (f .link-map (big d) x y t)) (f .at (big d) (r .cut) p a)) }
+        record {
+          cut = f .recut (r .cut);
+          inside = (λ d j p c a. sym (f .odd-map (big d) p)
+              ∙ r .inside d j p (λ x y t. c x y (f .link-map (big d) x y t)) (f .at (big d) (r .cut) p a));
+        }
 
     CutGoal : Flat → Flat → Flat → List Flat → Type 0
-    CutGoal u c w l = length l ≤ suc n → (s : Simple m (u ∷ c ∷ l)) → Least m u (c ∷ l) → Ok m (Link (u ∷ c ∷ l)) (λ z. Of z (u ∷ c ∷ l)) u w → Same (turn u c w) (turn u c (lst c l)) → Same (turn u w (lst c l)) (turn u c (lst c l)) → Whole (u ∷ c ∷ l)
+    CutGoal u c w l =
+        length l ≤ suc n → (s : Simple m (u ∷ c ∷ l)) → Least m u (c ∷ l) → Ok m (Link (u ∷ c ∷ l)) (λ z. Of z (u ∷ c ∷ l)) u w
+        → Same (turn u c w) (turn u c (lst c l)) → Same (turn u w (lst c l)) (turn u c (lst c l)) → Whole (u ∷ c ∷ l)
 
     split-cut : (u c w : Flat) (X Y : List Flat) → CutGoal u c w (X ++ w ∷ Y)
     unfolding CutGoal
@@ -197,30 +247,47 @@ module _ (m : ℤ) where
         let t2 = same-is2 (ap (turn u c) q) (same-is (ap (turn u w) q) s2) in
         let e1 = length-append X (w ∷ y ∷ Y) in
         let e2 = length-append X (w ∷ []) in
-        let r1 = ih u c (X ++ w ∷ []) (omega (arith, b, e1, e2)) (omega (arith, e2)) (simple1 m u c X w y Y s low ok t1 t2) (low1 m u c X w y Y s low ok t1 t2) in
-        let r2 = ih u w (y ∷ Y) (omega (arith, b, e1)) (omega arith) (simple2 m u c X w y Y s low ok t1 t2) (low2 m u c X w y Y s low ok t1 t2) in
-        record { cut = chord u (c ∷ X) w (y ∷ Y) s (r1 .cut) (r2 .cut); inside = (λ d j p cl t. cut-big m d j u c X w y Y s low ok t1 t2 (λ z. At (big d) (r1 .cut) z) (λ z. At (big d) (r2 .cut) z) (r1 .inside d j) (r2 .inside d j) p cl t) }
+        let r1 = ih u c (X ++ w ∷ []) (omega (arith, b, e1, e2)) (omega (arith, e2)) (simple1 m u c X w y Y s low ok t1 t2)
+        (low1 m u c X w y Y s low ok t1 t2) in
+        let r2 = ih u w (y ∷ Y) (omega (arith, b, e1)) (omega arith) (simple2 m u c X w y Y s low ok t1 t2)
+        (low2 m u c X w y Y s low ok t1 t2) in
+        record {
+          cut = chord u (c ∷ X) w (y ∷ Y) s (r1 .cut) (r2 .cut);
+          inside = (λ d j p cl t. cut-big m d j u c X w y Y s low ok t1 t2 (λ z. At (big d) (r1 .cut) z) (λ z. At (big d) (r2 .cut) z)
+              (r1 .inside d j) (r2 .inside d j) p cl t);
+        }
 
     step : Claim1 (suc n)
     unfolding CutGoal
-    step u c l b k s low = go (look m (Link (u ∷ c ∷ l)) (u ∷ c ∷ l) (s .net) u c (lst c l) (first-link m u c l) (last-link m u c l) (low c (inl refl)) (low (lst c l) (lst-of c l)) (apart m u c l k s low))
+    step u c l b k s low =
+        go (look m (Link (u ∷ c ∷ l)) (u ∷ c ∷ l) (s .net) u c (lst c l) (first-link m u c l) (last-link m u c l) (low c (inl refl))
+        (low (lst c l) (lst-of c l)) (apart m u c l k s low))
       where
         ears : (r : List Flat) → l ≡ r → ((z : Flat) → Of z (u ∷ c ∷ l) → Hit u c (lst c l) z → ⊥) → Whole (u ∷ c ∷ l)
         ears [] q e = let j = subst (λ (r : List Flat). 1 ≤ length r) q k in absurd (omega (arith, j))
         ears (x ∷ []) q e =
-            subst (λ (r : List Flat). Simple m (u ∷ c ∷ r) → ((d : ℤ) → Up d → (p : Flat) → Clear p (map (big d) (u ∷ c ∷ r)) → InTriangle (big d u) (big d c) (big d (lst c r)) p ⊎ ⊥ → odd p (map (big d) (u ∷ c ∷ r)) ≡ true) → Whole (u ∷ c ∷ r)) (sym q)
+            subst (λ (r : List Flat). Simple m (u ∷ c ∷ r)
+            → ((d : ℤ) → Up d → (p : Flat) → Clear p (map (big d) (u ∷ c ∷ r)) → InTriangle (big d u) (big d c) (big d (lst c r)) p ⊎ ⊥
+            → odd p (map (big d) (u ∷ c ∷ r)) ≡ true) → Whole (u ∷ c ∷ r)) (sym q)
             (λ s f. record { cut = one u c x s; inside = (λ d j p cl w. f d j p cl (inl w)) }) s
             (λ d j p cl w. ear-big m d j u c l k s low e (λ z. ⊥) (λ p cl v. absurd v) p cl w)
         ears (x ∷ (y ∷ r)) q e =
             let j = subst (λ (r : List Flat). 2 ≤ length r) (sym q) (omega arith) in
-            let r = smaller (c ∷ l) (omega (arith, b)) (omega (arith, j)) (ear-simple m u c l k s (low c (inl refl)) (low (lst c l) (lst-of c l)) e) in
-            record { cut = ear u c l s (three m u c l k s low e) (r .cut); inside = (λ d i p cl w. ear-big m d i u c l k s low e (λ z. At (big d) (r .cut) z) (r .inside d i) p cl w) }
+            let r = smaller (c ∷ l) (omega (arith, b)) (omega (arith, j))
+            (ear-simple m u c l k s (low c (inl refl)) (low (lst c l) (lst-of c l)) e) in
+            record {
+              cut = ear u c l s (three m u c l k s low e) (r .cut);
+              inside = (λ d i p cl w. ear-big m d i u c l k s low e (λ z. At (big d) (r .cut) z) (r .inside d i) p cl w);
+            }
 
-        go : Look m (Link (u ∷ c ∷ l)) (u ∷ c ∷ l) (s .net) u c (lst c l) (first-link m u c l) (last-link m u c l) (low c (inl refl)) (low (lst c l) (lst-of c l)) → Whole (u ∷ c ∷ l)
+        go : Look m (Link (u ∷ c ∷ l)) (u ∷ c ∷ l) (s .net) u c (lst c l) (first-link m u c l) (last-link m u c l) (low c (inl refl))
+            (low (lst c l) (lst-of c l)) → Whole (u ∷ c ∷ l)
         go (empty e) = ears l refl e
         go (far w (inl q) vw s1 s2 on) = absurd (<ℤ-irrefl (subst (λ (z : Flat). height m u <ℤ height m z) q (vw .up)))
         go (far w (inr (inl q)) vw s1 s2 on) = absurd (same-ne s1 (ap (turn u c) q ∙ flat-second u c))
-        go (far w (inr (inr o)) vw s1 s2 on) = let t = of-split w l o in subst (CutGoal u c w) (sym (t .is)) (split-cut u c w (t .before) (t .after)) b s low (vw .ok) s1 s2
+        go (far w (inr (inr o)) vw s1 s2 on) =
+            let t = of-split w l o in
+            subst (CutGoal u c w) (sym (t .is)) (split-cut u c w (t .before) (t .after)) b s low (vw .ok) s1 s2
 
   claims1 : (n : ℕ) → Claim1 n
   claims1 zero u c l b k s low = absurd (omega (arith, b, k))

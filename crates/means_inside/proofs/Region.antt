@@ -87,9 +87,12 @@ module _ (m : ℤ) where
         where
           go : (odd p (u ∷ c ∷ a ∷ []) ≡ true) ⊎ (odd p (u ∷ c ∷ a ∷ []) ≡ false) → odd p g ≡ true
           go (inl q) = hit p cl (odd-hit u c a p (cl u c uc) (cl u a ua) crooked o q)
-          go (inr q) = round-ear (beam p (east p)) u c l (beam-back p (east p) a c) ∙ ap (λ (z : Bool). xor z (odd p (c ∷ l))) q ∙ false-xor (odd p (c ∷ l)) ∙ r
+          go (inr q) =
+              round-ear (beam p (east p)) u c l (beam-back p (east p) a c) ∙ ap (λ (z : Bool). xor z (odd p (c ∷ l))) q
+              ∙ false-xor (odd p (c ∷ l)) ∙ r
 
-      pub ear-inside : (A : Flat → Type 0) → ((p : Flat) → Clear p (c ∷ l) → A p → odd p (c ∷ l) ≡ true) → (p : Flat) → Clear p g → InTriangle u c a p ⊎ A p → odd p g ≡ true
+      pub ear-inside : (A : Flat → Type 0) → ((p : Flat) → Clear p (c ∷ l) → A p → odd p (c ∷ l) ≡ true) → (p : Flat) → Clear p g
+          → InTriangle u c a p ⊎ A p → odd p g ≡ true
       ear-inside A f p cl (inl w) = hit p cl (within-hit u c a p crooked (cl u c uc) (cl u a ua) w)
       ear-inside A f p cl (inr w) = pick (off-or p c a)
         where

@@ -35,7 +35,9 @@ module _ (m d : ℤ) (k : Up d) where
   pub big-turn : (a b c : Flat) → turn (big d a) (big d b) (big d c) ≡ d *ℤ (d *ℤ turn a b c)
   unfolding turn
   big-turn a b c =
-      ring (env d (a ∷ b ∷ c ∷ [])) ((var 0 ⊗ uE 1 ⊖ var 0 ⊗ uE 0) ⊗ (var 0 ⊗ vE 2 ⊖ var 0 ⊗ vE 0) ⊖ (var 0 ⊗ vE 1 ⊖ var 0 ⊗ vE 0) ⊗ (var 0 ⊗ uE 2 ⊖ var 0 ⊗ uE 0)) (var 0 ⊗ (var 0 ⊗ tE 0 1 2)) tt
+      ring (env d (a ∷ b ∷ c ∷ []))
+      ((var 0 ⊗ uE 1 ⊖ var 0 ⊗ uE 0) ⊗ (var 0 ⊗ vE 2 ⊖ var 0 ⊗ vE 0) ⊖ (var 0 ⊗ vE 1 ⊖ var 0 ⊗ vE 0) ⊗ (var 0 ⊗ uE 2 ⊖ var 0 ⊗ uE 0))
+      (var 0 ⊗ (var 0 ⊗ tE 0 1 2)) tt
 
   pub big-height : (a : Flat) → height m (big d a) ≡ d *ℤ height m a
   unfolding height
@@ -45,14 +47,20 @@ module _ (m d : ℤ) (k : Up d) where
   small-up a b c h = up-out d k (up-out d k (up-is (big-turn a b c) h))
 
   pub small-lt : (a b : Flat) → height m (big d a) <ℤ height m (big d b) → height m a <ℤ height m b
-  small-lt a b h = lt-cancel d k (subst (λ (z : ℤ). z <ℤ (d *ℤ height m b)) (big-height a) (subst (λ (z : ℤ). height m (big d a) <ℤ z) (big-height b) h))
+  small-lt a b h =
+      lt-cancel d k
+      (subst (λ (z : ℤ). z <ℤ (d *ℤ height m b)) (big-height a) (subst (λ (z : ℤ). height m (big d a) <ℤ z) (big-height b) h))
 
   small-eq : (a b : Flat) → height m (big d a) ≡ height m (big d b) → height m a ≡ height m b
   small-eq a b e = mul-cancelℤ d (height m a) (height m b) (pos-ne k) (sym (big-height a) ∙ e ∙ big-height b)
 
   big-distinct : (g : List Flat) → Distinct m g → Distinct m (map (big d) g)
   big-distinct [] s = s
-  big-distinct (x ∷ l) s = ((λ z o e. let r = map-of (big d) z l o in s .0 (r .0) (r .1) (small-eq (r .0) x (sym (ap (height m) (r .2)) ∙ e))), big-distinct l (s .1))
+  big-distinct (x ∷ l) s = (
+    (λ z o e. let r = map-of (big d) z l o in s .0 (r .0) (r .1) (small-eq (r .0) x (sym (ap (height m) (r .2)) ∙ e))),
+    big-distinct l
+        (s .1),
+  )
 
   pub big-simple : (g : List Flat) → Simple m g → Simple m (map (big d) g)
   big-simple g s = record {
@@ -65,7 +73,8 @@ module _ (m d : ℤ) (k : Up d) where
     };
   }
     where
-      cl : (p q r t : Flat) → (b : Flat) × (c : Flat) × Link g b c × (p ≡ big d b) × (q ≡ big d c) → (b : Flat) × (c : Flat) × Link g b c × (r ≡ big d b) × (t ≡ big d c) → Cross p q r t → ⊥
+      cl : (p q r t : Flat) → (b : Flat) × (c : Flat) × Link g b c × (p ≡ big d b) × (q ≡ big d c)
+          → (b : Flat) × (c : Flat) × Link g b c × (r ≡ big d b) × (t ≡ big d c) → Cross p q r t → ⊥
       cl p q r t x y c = s .net .clear (x .2) (y .2) (record {
         left = small-up (x .0) (x .1) (y .0) (up-is (λ i. turn (x .3 i) (x .4 i) (y .3 i)) (c .left));
         right = small-up (x .1) (x .0) (y .1) (up-is (λ i. turn (x .4 i) (x .3 i) (y .4 i)) (c .right));
@@ -73,11 +82,21 @@ module _ (m d : ℤ) (k : Up d) where
         behind = small-up (y .1) (y .0) (x .0) (up-is (λ i. turn (y .4 i) (y .3 i) (x .3 i)) (c .behind));
       })
 
-      fr : (p q r : Flat) → (b : Flat) × (c : Flat) × Link g b c × (p ≡ big d b) × (q ≡ big d c) → (b : Flat) × Of b g × (r ≡ big d b) → On m p q r → ⊥
+      fr : (p q r : Flat) → (b : Flat) × (c : Flat) × Link g b c × (p ≡ big d b) × (q ≡ big d c) → (b : Flat) × Of b g × (r ≡ big d b)
+          → On m p q r → ⊥
       fr p q r x y c = s .net .free (x .2) (y .1) (record {
-        line = mul-zero d (turn (x .0) (x .1) (y .0)) (pos-ne k) (mul-zero d (d *ℤ turn (x .0) (x .1) (y .0)) (pos-ne k) (sym (big-turn (x .0) (x .1) (y .0)) ∙ sym (λ i. turn (x .3 i) (x .4 i) (y .2 i)) ∙ c .line));
-        after = small-lt (x .0) (y .0) (subst (λ (z : Flat). height m z <ℤ height m (big d (y .0))) (x .3) (subst (λ (z : Flat). height m p <ℤ height m z) (y .2) (c .after)));
-        before = small-lt (y .0) (x .1) (subst (λ (z : Flat). height m z <ℤ height m (big d (x .1))) (y .2) (subst (λ (z : Flat). height m r <ℤ height m z) (x .4) (c .before)));
+        line =
+            mul-zero d (turn (x .0) (x .1) (y .0)) (pos-ne k)
+            (mul-zero d (d *ℤ turn (x .0) (x .1) (y .0)) (pos-ne k)
+            (sym (big-turn (x .0) (x .1) (y .0)) ∙ sym (λ i. turn (x .3 i) (x .4 i) (y .2 i)) ∙ c .line));
+        after =
+            small-lt (x .0) (y .0)
+            (subst (λ (z : Flat). height m z <ℤ height m (big d (y .0))) (x .3)
+            (subst (λ (z : Flat). height m p <ℤ height m z) (y .2) (c .after)));
+        before =
+            small-lt (y .0) (x .1)
+            (subst (λ (z : Flat). height m z <ℤ height m (big d (x .1))) (y .2)
+            (subst (λ (z : Flat). height m r <ℤ height m z) (x .4) (c .before)));
       })
 
 -- ---- the tests
@@ -85,7 +104,8 @@ module _ (p : Flat) (d : ℤ) (k : Up d) where
   turn-is : (a b : Flat) → turn (big d a) (big d b) p ≡ d *ℤ Rattle.paper.specs.Polygon.turn a b p d
   unfolding turn Rattle.paper.specs.Polygon.turn
   turn-is a b =
-      ring (env d (a ∷ b ∷ p ∷ [])) ((var 0 ⊗ uE 1 ⊖ var 0 ⊗ uE 0) ⊗ (vE 2 ⊖ var 0 ⊗ vE 0) ⊖ (var 0 ⊗ vE 1 ⊖ var 0 ⊗ vE 0) ⊗ (uE 2 ⊖ var 0 ⊗ uE 0))
+      ring (env d (a ∷ b ∷ p ∷ []))
+      ((var 0 ⊗ uE 1 ⊖ var 0 ⊗ uE 0) ⊗ (vE 2 ⊖ var 0 ⊗ vE 0) ⊖ (var 0 ⊗ vE 1 ⊖ var 0 ⊗ vE 0) ⊗ (uE 2 ⊖ var 0 ⊗ uE 0))
       (var 0 ⊗ ((uE 1 ⊖ uE 0) ⊗ (vE 2 ⊖ var 0 ⊗ vE 0) ⊖ (vE 1 ⊖ vE 0) ⊗ (uE 2 ⊖ var 0 ⊗ uE 0))) tt
 
   times-np : (t : ℤ) → Up (negℤ t) → Up (negℤ (d *ℤ t))
@@ -114,15 +134,24 @@ module _ (p : Flat) (d : ℤ) (k : Up d) where
   under-is a = go (lt-or-ge (p .v) (d *ℤ a .v))
     where
       e : turn p (east p) (big d a) ≡ d *ℤ a .v -ℤ p .v
-      e = ring (d ∷ p .u ∷ p .v ∷ a .u ∷ a .v ∷ []) ((var 1 ⊕ con (pos 1) ⊖ var 1) ⊗ (var 0 ⊗ var 4 ⊖ var 2) ⊖ (var 2 ⊖ var 2) ⊗ (var 0 ⊗ var 3 ⊖ var 1)) (var 0 ⊗ var 4 ⊖ var 2) tt
+      e =
+          ring (d ∷ p .u ∷ p .v ∷ a .u ∷ a .v ∷ [])
+          ((var 1 ⊕ con (pos 1) ⊖ var 1) ⊗ (var 0 ⊗ var 4 ⊖ var 2) ⊖ (var 2 ⊖ var 2) ⊗ (var 0 ⊗ var 3 ⊖ var 1)) (var 0 ⊗ var 4 ⊖ var 2) tt
 
       go : (p .v <ℤ (d *ℤ a .v)) ⊎ ((d *ℤ a .v) ≤ℤ p .v) → leZ (turn p (east p) (big d a)) (pos 0) ≡ leZ (d *ℤ a .v) (p .v)
-      go (inl h) = never-true (leZ (turn p (east p) (big d a)) (pos 0)) (λ q. clashℤ (up-is (sym e) (sub-pos h)) (le-yes q)) ∙ sym (never-true (leZ (d *ℤ a .v) (p .v)) (λ q. clashℤ h (le-yes q)))
-      go (inr h) = ap (λ (z : ℤ). leZ z (pos 0)) e ∙ le-is (let ρ = (d *ℤ a .v) ∷ p .v ∷ [] in le-by ρ (var 0 ⊖ var 1) (con (pos 0)) (omega (arith, le-to ρ (var 0) (var 1) h))) ∙ sym (le-is h)
+      go (inl h) =
+          never-true (leZ (turn p (east p) (big d a)) (pos 0)) (λ q. clashℤ (up-is (sym e) (sub-pos h)) (le-yes q))
+          ∙ sym (never-true (leZ (d *ℤ a .v) (p .v)) (λ q. clashℤ h (le-yes q)))
+      go (inr h) =
+          ap (λ (z : ℤ). leZ z (pos 0)) e
+          ∙ le-is (let ρ = (d *ℤ a .v) ∷ p .v ∷ [] in le-by ρ (var 0 ⊖ var 1) (con (pos 0)) (omega (arith, le-to ρ (var 0) (var 1) h)))
+          ∙ sym (le-is h)
 
   crosses-is : (a b : Flat) → beam p (east p) (big d a) (big d b) ≡ crosses p d a b
   unfolding beam crosses
-  crosses-is a b = (λ i. meetsRay (under-is a i) (under-is b i) (turn-is a b i)) ∙ ray-scale (under p d a) (under p d b) (Rattle.paper.specs.Polygon.turn a b p d)
+  crosses-is a b =
+      (λ i. meetsRay (under-is a i) (under-is b i) (turn-is a b i))
+      ∙ ray-scale (under p d a) (under p d b) (Rattle.paper.specs.Polygon.turn a b p d)
 
   pub crosses-back : (a b : Flat) → crosses p d a b ≡ crosses p d b a
   crosses-back a b = sym (crosses-is a b) ∙ beam-back p (east p) (big d a) (big d b) ∙ crosses-is b a
@@ -142,14 +171,20 @@ module _ (p : Flat) (d : ℤ) (k : Up d) where
   span-yes a b q e = go (leZ a q && leZ q b) refl
     where
       one : a ≤ℤ q → q ≤ℤ b → Nn (negℤ ((a -ℤ q) *ℤ (b -ℤ q)))
-      one h l = nn-is (ring (a ∷ b ∷ q ∷ []) ((var 2 ⊖ var 0) ⊗ (var 1 ⊖ var 2)) (neg ((var 0 ⊖ var 2) ⊗ (var 1 ⊖ var 2))) tt) (mul-nonneg (sub-nonneg h) (sub-nonneg l))
+      one h l =
+          nn-is (ring (a ∷ b ∷ q ∷ []) ((var 2 ⊖ var 0) ⊗ (var 1 ⊖ var 2)) (neg ((var 0 ⊖ var 2) ⊗ (var 1 ⊖ var 2))) tt)
+          (mul-nonneg (sub-nonneg h) (sub-nonneg l))
 
       two : b ≤ℤ q → q ≤ℤ a → Nn (negℤ ((a -ℤ q) *ℤ (b -ℤ q)))
-      two h l = nn-is (ring (a ∷ b ∷ q ∷ []) ((var 2 ⊖ var 1) ⊗ (var 0 ⊖ var 2)) (neg ((var 0 ⊖ var 2) ⊗ (var 1 ⊖ var 2))) tt) (mul-nonneg (sub-nonneg h) (sub-nonneg l))
+      two h l =
+          nn-is (ring (a ∷ b ∷ q ∷ []) ((var 2 ⊖ var 1) ⊗ (var 0 ⊖ var 2)) (neg ((var 0 ⊖ var 2) ⊗ (var 1 ⊖ var 2))) tt)
+          (mul-nonneg (sub-nonneg h) (sub-nonneg l))
 
       go : (x : Bool) → (leZ a q && leZ q b) ≡ x → Nn (negℤ ((a -ℤ q) *ℤ (b -ℤ q)))
       go true f = one (le-yes (and-left (leZ a q) (leZ q b) f)) (le-yes (and-right (leZ a q) (leZ q b) f))
-      go false f = let f' : (leZ b q && leZ q a) ≡ true = (λ i. sym f i || (leZ b q && leZ q a)) ∙ e in two (le-yes (and-left (leZ b q) (leZ q a) f')) (le-yes (and-right (leZ b q) (leZ q a) f'))
+      go false f =
+          let f' : (leZ b q && leZ q a) ≡ true = (λ i. sym f i || (leZ b q && leZ q a)) ∙ e in
+          two (le-yes (and-left (leZ b q) (leZ q a) f')) (le-yes (and-right (leZ b q) (leZ q a) f'))
 
   span-is : (a b q : ℤ) → Nn (negℤ ((a -ℤ q) *ℤ (b -ℤ q))) → spans a b q ≡ true
   unfolding spans
@@ -168,11 +203,16 @@ module _ (p : Flat) (d : ℤ) (k : Up d) where
           or-right true y f = refl
           or-right false y f = f
 
-      go : (q <ℤ a) ⊎ (a ≤ℤ q) → (q <ℤ b) ⊎ (b ≤ℤ q) → (a <ℤ q) ⊎ (q ≤ℤ a) → (b <ℤ q) ⊎ (q ≤ℤ b) → (leZ a q && leZ q b) || (leZ b q && leZ q a) ≡ true
+      go : (q <ℤ a) ⊎ (a ≤ℤ q) → (q <ℤ b) ⊎ (b ≤ℤ q) → (a <ℤ q) ⊎ (q ≤ℤ a) → (b <ℤ q) ⊎ (q ≤ℤ b)
+          → (leZ a q && leZ q b) || (leZ b q && leZ q a) ≡ true
       go (inl s) (inl t) x y = absurd (off (mul-pos (sub-pos s) (sub-pos t)) h)
       go (inl s) (inr t) x y = second t (low s)
       go (inr s) (inl t) x y = first s (low t)
-      go (inr s) (inr t) (inl x) (inl y) = absurd (off (up-is (ring (a ∷ b ∷ q ∷ []) ((var 2 ⊖ var 0) ⊗ (var 2 ⊖ var 1)) ((var 0 ⊖ var 2) ⊗ (var 1 ⊖ var 2)) tt) (mul-pos (sub-pos x) (sub-pos y))) h)
+      go (inr s) (inr t) (inl x) (inl y) =
+          absurd
+          (off
+          (up-is (ring (a ∷ b ∷ q ∷ []) ((var 2 ⊖ var 0) ⊗ (var 2 ⊖ var 1)) ((var 0 ⊖ var 2) ⊗ (var 1 ⊖ var 2)) tt)
+          (mul-pos (sub-pos x) (sub-pos y))) h)
       go (inr s) (inr t) (inr x) y = second t x
       go (inr s) (inr t) (inl x) (inr y) = first s y
 
@@ -194,15 +234,21 @@ module _ (p : Flat) (d : ℤ) (k : Up d) where
       let su = spans (d *ℤ a .u) (d *ℤ b .u) (p .u) in
       let sv = spans (d *ℤ a .v) (d *ℤ b .v) (p .v) in
       let f = and-right z (su && sv) e in (
-        turn-is a b ∙ ap (λ (t : ℤ). d *ℤ t) (zero-yes (Rattle.paper.specs.Polygon.turn a b p d) (and-left z (su && sv) e)) ∙ ring (d ∷ []) (var 0 ⊗ con (pos 0)) (con (pos 0)) tt,
+        turn-is a b ∙ ap (λ (t : ℤ). d *ℤ t) (zero-yes (Rattle.paper.specs.Polygon.turn a b p d) (and-left z (su && sv) e))
+            ∙ ring (d ∷ []) (var 0 ⊗ con (pos 0)) (con (pos 0)) tt,
         nn-is (neg-sum ((d *ℤ a .u -ℤ p .u) *ℤ (d *ℤ b .u -ℤ p .u)) ((d *ℤ a .v -ℤ p .v) *ℤ (d *ℤ b .v -ℤ p .v)))
-            (add-nonneg (span-yes (d *ℤ a .u) (d *ℤ b .u) (p .u) (and-left su sv f)) (span-yes (d *ℤ a .v) (d *ℤ b .v) (p .v) (and-right su sv f))),
+            (add-nonneg (span-yes (d *ℤ a .u) (d *ℤ b .u) (p .u) (and-left su sv f))
+            (span-yes (d *ℤ a .v) (d *ℤ b .v) (p .v) (and-right su sv f))),
       )
 
   -- the products of the coordinates of two directions in a line
-  in-line : (a b : Flat) → turn a b p ≡ pos 0 → ((a .u -ℤ p .u) *ℤ (b .u -ℤ p .u)) *ℤ ((a .v -ℤ p .v) *ℤ (b .v -ℤ p .v)) ≡ ((a .u -ℤ p .u) *ℤ (b .v -ℤ p .v)) *ℤ ((a .u -ℤ p .u) *ℤ (b .v -ℤ p .v))
+  in-line : (a b : Flat) → turn a b p ≡ pos 0
+      → ((a .u -ℤ p .u) *ℤ (b .u -ℤ p .u)) *ℤ ((a .v -ℤ p .v) *ℤ (b .v -ℤ p .v))
+      ≡ ((a .u -ℤ p .u) *ℤ (b .v -ℤ p .v)) *ℤ ((a .u -ℤ p .u) *ℤ (b .v -ℤ p .v))
   unfolding turn
-  in-line a b e = ring-with (env (pos 0) (a ∷ b ∷ p ∷ [])) (((uE 0 ⊖ uE 2) ⊗ (uE 1 ⊖ uE 2)) ⊗ ((vE 0 ⊖ vE 2) ⊗ (vE 1 ⊖ vE 2))) (((uE 0 ⊖ uE 2) ⊗ (vE 1 ⊖ vE 2)) ⊗ ((uE 0 ⊖ uE 2) ⊗ (vE 1 ⊖ vE 2)))
+  in-line a b e =
+      ring-with (env (pos 0) (a ∷ b ∷ p ∷ [])) (((uE 0 ⊖ uE 2) ⊗ (uE 1 ⊖ uE 2)) ⊗ ((vE 0 ⊖ vE 2) ⊗ (vE 1 ⊖ vE 2)))
+      (((uE 0 ⊖ uE 2) ⊗ (vE 1 ⊖ vE 2)) ⊗ ((uE 0 ⊖ uE 2) ⊗ (vE 1 ⊖ vE 2)))
       (neg ((uE 0 ⊖ uE 2) ⊗ (vE 1 ⊖ vE 2))) (tE 0 1 2) (con (pos 0)) tt e
 
   side-is : (a b : Flat) → turn (big d a) (big d b) p ≡ pos 0 → Nn (negℤ (facing p (big d a) (big d b))) → touches p d a b ≡ true
@@ -214,13 +260,16 @@ module _ (p : Flat) (d : ℤ) (k : Up d) where
       let q : Nn (X *ℤ Y) = nn-is (sym (in-line (big d a) (big d b) e)) (square-nonneg W) in
       and-both (zero-is (mul-zero d (Rattle.paper.specs.Polygon.turn a b p d) (pos-ne k) (sym (turn-is a b) ∙ e)))
       (and-both (span-is (d *ℤ a .u) (d *ℤ b .u) (p .u) (both-low X Y q f))
-      (span-is (d *ℤ a .v) (d *ℤ b .v) (p .v) (both-low Y X (nn-is (ring (X ∷ Y ∷ []) (var 0 ⊗ var 1) (var 1 ⊗ var 0) tt) q) (nn-is (ring (X ∷ Y ∷ []) (neg (var 0 ⊕ var 1)) (neg (var 1 ⊕ var 0)) tt) f))))
+      (span-is (d *ℤ a .v) (d *ℤ b .v) (p .v)
+      (both-low Y X (nn-is (ring (X ∷ Y ∷ []) (var 0 ⊗ var 1) (var 1 ⊗ var 0) tt) q)
+      (nn-is (ring (X ∷ Y ∷ []) (neg (var 0 ⊕ var 1)) (neg (var 1 ⊕ var 0)) tt) f))))
 
   -- ---- the ring
   abbrev G : List Flat → List Flat
   G g = map (big d) g
 
-  some-side : (a x : Flat) (l : List Flat) → anyTrue (sidesFrom (touches p d) a x l) ≡ true → (q : Flat) × (r : Flat) × Chain (big d x) (map (big d) l) (big d a) (big d q) (big d r) × (touches p d q r ≡ true)
+  some-side : (a x : Flat) (l : List Flat) → anyTrue (sidesFrom (touches p d) a x l) ≡ true
+      → (q : Flat) × (r : Flat) × Chain (big d x) (map (big d) l) (big d a) (big d q) (big d r) × (touches p d q r ≡ true)
   unfolding anyTrue sidesFrom
   some-side a x [] e = (x, a, inl (refl, refl), or-one (touches p d x a) false e)
     where
@@ -229,7 +278,12 @@ module _ (p : Flat) (d : ℤ) (k : Up d) where
       or-one false t f = f
   some-side a x (y ∷ l) e = go (touches p d x y) refl (λ q. some-side a y l q)
     where
-      go : (s : Bool) → touches p d x y ≡ s → (anyTrue (sidesFrom (touches p d) a y l) ≡ true → (q : Flat) × (r : Flat) × Chain (big d y) (map (big d) l) (big d a) (big d q) (big d r) × (touches p d q r ≡ true)) → (q : Flat) × (r : Flat) × (Pair (big d x) (big d y) (big d q) (big d r) ⊎ Chain (big d y) (map (big d) l) (big d a) (big d q) (big d r)) × (touches p d q r ≡ true)
+      go : (s : Bool) → touches p d x y ≡ s
+          → (anyTrue (sidesFrom (touches p d) a y l) ≡ true
+          → (q : Flat) × (r : Flat) × Chain (big d y) (map (big d) l) (big d a) (big d q) (big d r) × (touches p d q r ≡ true))
+          → (q : Flat) × (r : Flat)
+          × (Pair (big d x) (big d y) (big d q) (big d r) ⊎ Chain (big d y) (map (big d) l) (big d a) (big d q) (big d r))
+          × (touches p d q r ≡ true)
       go true f rec = (x, y, inl (inl (refl, refl)), f)
       go false f rec = let t = rec ((λ i. sym f i || anyTrue (sidesFrom (touches p d) a y l)) ∙ e) in (t .0, t .1, inr (t .2), t .3)
 
@@ -243,12 +297,15 @@ module _ (p : Flat) (d : ℤ) (k : Up d) where
 
   pair-off : (x y q r : Flat) → Off p x y → Pair x y q r → Off p q r
   pair-off x y q r o (inl e) = subst (λ (z : Flat). Off p z r) (sym (e .0)) (subst (λ (z : Flat). Off p x z) (sym (e .1)) o)
-  pair-off x y q r o (inr e) = subst (λ (z : Flat). Off p z r) (sym (e .0)) (subst (λ (z : Flat). Off p y z) (sym (e .1)) (off-back p x y o))
+  pair-off x y q r o (inr e) =
+      subst (λ (z : Flat). Off p z r) (sym (e .0)) (subst (λ (z : Flat). Off p y z) (sym (e .1)) (off-back p x y o))
 
-  no-side : (a x : Flat) (l : List Flat) → anyTrue (sidesFrom (touches p d) a x l) ≡ false → (q r : Flat) → Chain (big d x) (map (big d) l) (big d a) q r → Off p q r
+  no-side : (a x : Flat) (l : List Flat) → anyTrue (sidesFrom (touches p d) a x l) ≡ false → (q r : Flat)
+      → Chain (big d x) (map (big d) l) (big d a) q r → Off p q r
   unfolding anyTrue sidesFrom
   no-side a x [] e q r c = pair-off (big d x) (big d a) q r (off-no x a (or-none (touches p d x a) false e .0)) c
-  no-side a x (y ∷ l) e q r (inl c) = pair-off (big d x) (big d y) q r (off-no x y (or-none (touches p d x y) (anyTrue (sidesFrom (touches p d) a y l)) e .0)) c
+  no-side a x (y ∷ l) e q r (inl c) =
+      pair-off (big d x) (big d y) q r (off-no x y (or-none (touches p d x y) (anyTrue (sidesFrom (touches p d) a y l)) e .0)) c
   no-side a x (y ∷ l) e q r (inr c) = no-side a y l (or-none (touches p d x y) (anyTrue (sidesFrom (touches p d) a y l)) e .1) q r c
 
   pub any-clear : (g : List Flat) → anyTrue (sides (touches p d) g) ≡ false → Clear p (G g)
@@ -259,7 +316,10 @@ module _ (p : Flat) (d : ℤ) (k : Up d) where
   pub any-touch : (g : List Flat) → anyTrue (sides (touches p d) g) ≡ true → Touch p (G g)
   unfolding sides anyTrue
   any-touch [] e = absurd (true≢false (sym e))
-  any-touch (x ∷ l) e = let t = some-side x x l e in let s = side-yes (t .0) (t .1) (t .3) in record { a = big d (t .0); b = big d (t .1); side = t .2; line = s .0; mid = s .1 }
+  any-touch (x ∷ l) e =
+      let t = some-side x x l e in
+      let s = side-yes (t .0) (t .1) (t .3) in
+      record { a = big d (t .0); b = big d (t .1); side = t .2; line = s .0; mid = s .1 }
 
   -- a point on a side is not off all
   pub touch-not : (g : List Flat) → Clear p (G g) → Touch p (G g) → ⊥

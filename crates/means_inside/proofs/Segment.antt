@@ -27,7 +27,8 @@ below-neg t = go (ways t)
   where
     go : Up t ⊎ ((t ≡ pos 0) ⊎ Up (negℤ t)) → below (negℤ t) ≡ above t
     go (inl k) = below-is (negℤ t) (up-is (twice t) k) ∙ sym (above-is t k)
-    go (inr (inl e)) = below-no (negℤ t) (nn-is (ap negℤ (sym e)) (record { le = tt })) ∙ sym (above-no t (nn-is (ap negℤ (sym e)) (record { le = tt })))
+    go (inr (inl e)) =
+        below-no (negℤ t) (nn-is (ap negℤ (sym e)) (record { le = tt })) ∙ sym (above-no t (nn-is (ap negℤ (sym e)) (record { le = tt })))
     go (inr (inr k)) = below-no (negℤ t) (up-nn k) ∙ sym (above-no t (up-nn k))
 
 -- a test does not ask for the direction of a side
@@ -42,9 +43,12 @@ beam-back p q a b = go (right p q a) (right p q b)
     go false true = ap below (flip a b p) ∙ below-neg (turn b a p)
 
 -- ---- a corner and a link
-at-height : (m : ℤ) (a b z : Flat) → turn a b z ≡ pos 0 → facing z b b *ℤ (height m a -ℤ height m z) ≡ facing z a b *ℤ (height m b -ℤ height m z)
+at-height : (m : ℤ) (a b z : Flat) → turn a b z ≡ pos 0
+    → facing z b b *ℤ (height m a -ℤ height m z) ≡ facing z a b *ℤ (height m b -ℤ height m z)
 unfolding turn facing height
-at-height m a b z e = ring-with (env m (a ∷ b ∷ z ∷ [])) (fE 2 1 1 ⊗ (hE 0 ⊖ hE 2)) (fE 2 0 1 ⊗ (hE 1 ⊖ hE 2)) (neg ((uE 1 ⊖ uE 2) ⊕ neg (var 0 ⊗ (vE 1 ⊖ vE 2)))) (tE 0 1 2) (con (pos 0)) tt e
+at-height m a b z e =
+    ring-with (env m (a ∷ b ∷ z ∷ [])) (fE 2 1 1 ⊗ (hE 0 ⊖ hE 2)) (fE 2 0 1 ⊗ (hE 1 ⊖ hE 2))
+    (neg ((uE 1 ⊖ uE 2) ⊕ neg (var 0 ⊗ (vE 1 ⊖ vE 2)))) (tE 0 1 2) (con (pos 0)) tt e
 
 module _ (m : ℤ) where
   abbrev h : Flat → ℤ
@@ -59,7 +63,11 @@ module _ (m : ℤ) where
 
       go : Up (facing z a b) ⊎ Nn (negℤ (facing z a b)) → Up (facing z a b)
       go (inl k) = k
-      go (inr k) = absurd (off (up-is (at-height m a b z e) (mul-pos bb (sub-pos ka))) (nn-is (ring (facing z a b ∷ (h b -ℤ h z) ∷ []) (neg (var 0) ⊗ var 1) (neg (var 0 ⊗ var 1)) tt) (mul-nonneg k (up-nn (sub-pos kb)))))
+      go (inr k) =
+          absurd
+          (off (up-is (at-height m a b z e) (mul-pos bb (sub-pos ka)))
+          (nn-is (ring (facing z a b ∷ (h b -ℤ h z) ∷ []) (neg (var 0) ⊗ var 1) (neg (var 0 ⊗ var 1)) tt)
+          (mul-nonneg k (up-nn (sub-pos kb)))))
 
   -- not inside it, and none of its ends
   pub off-link : (z a b : Flat) → (h a ≡ h z → ⊥) → (h b ≡ h z → ⊥) → (On m a b z → ⊥) → (On m b a z → ⊥) → Off z a b
@@ -73,10 +81,15 @@ module _ (m : ℤ) where
       up2 k ka kb = off (off-low z a b ka kb e) k
 
       dn2 : Nn (negℤ (facing z a b)) → h a <ℤ h z → h b <ℤ h z → ⊥
-      dn2 k ka kb = off (mul-pos bb (sub-pos ka)) (nn-is (ring (facing z b b ∷ h a ∷ h z ∷ []) (var 0 ⊗ (var 1 ⊖ var 2)) (neg (var 0 ⊗ (var 2 ⊖ var 1))) tt) (nn-is (sym (at-height m a b z e))
-          (nn-is (ring (facing z a b ∷ h b ∷ h z ∷ []) (neg (var 0) ⊗ (var 2 ⊖ var 1)) (var 0 ⊗ (var 1 ⊖ var 2)) tt) (mul-nonneg k (up-nn (sub-pos kb))))))
+      dn2 k ka kb =
+          off (mul-pos bb (sub-pos ka))
+          (nn-is (ring (facing z b b ∷ h a ∷ h z ∷ []) (var 0 ⊗ (var 1 ⊖ var 2)) (neg (var 0 ⊗ (var 2 ⊖ var 1))) tt)
+          (nn-is (sym (at-height m a b z e))
+          (nn-is (ring (facing z a b ∷ h b ∷ h z ∷ []) (neg (var 0) ⊗ (var 2 ⊖ var 1)) (var 0 ⊗ (var 1 ⊖ var 2)) tt)
+          (mul-nonneg k (up-nn (sub-pos kb))))))
 
-      go : Up (facing z a b) ⊎ Nn (negℤ (facing z a b)) → (h a <ℤ h z) ⊎ ((h a ≡ h z) ⊎ (h z <ℤ h a)) → (h b <ℤ h z) ⊎ ((h b ≡ h z) ⊎ (h z <ℤ h b)) → Up (facing z a b)
+      go : Up (facing z a b) ⊎ Nn (negℤ (facing z a b)) → (h a <ℤ h z) ⊎ ((h a ≡ h z) ⊎ (h z <ℤ h a))
+          → (h b <ℤ h z) ⊎ ((h b ≡ h z) ⊎ (h z <ℤ h b)) → Up (facing z a b)
       go (inl k) p q = k
       go (inr k) (inr (inl p)) q = absurd (na p)
       go (inr k) (inl p) (inr (inl q)) = absurd (nb q)
@@ -88,13 +101,16 @@ module _ (m : ℤ) where
 
   -- ---- from z to z'
   module _ (z z' : Flat) (ne : h z ≡ h z' → ⊥) (g : List Flat) (cz : Clear z g) (cz' : Clear z' g)
-      (uncut : (a b : Flat) → Link g a b → Cross z z' a b → ⊥) (bare : (a b : Flat) → Link g a b → On m z z' a → ⊥) (bare' : (a b : Flat) → Link g a b → On m z' z a → ⊥) where
+      (uncut : (a b : Flat) → Link g a b → Cross z z' a b → ⊥) (bare : (a b : Flat) → Link g a b → On m z z' a → ⊥)
+      (bare' : (a b : Flat) → Link g a b → On m z' z a → ⊥) where
     beyond : Flat
     beyond = record { u = z' .u +ℤ (z' .u -ℤ z .u); v = z' .v +ℤ (z' .v -ℤ z .v) }
 
     beyond-is : (a : Flat) → turn z' beyond a ≡ turn z z' a
     unfolding turn beyond
-    beyond-is a = ring (env (pos 0) (z ∷ z' ∷ a ∷ [])) (((uE 1 ⊕ (uE 1 ⊖ uE 0)) ⊖ uE 1) ⊗ (vE 2 ⊖ vE 1) ⊖ ((vE 1 ⊕ (vE 1 ⊖ vE 0)) ⊖ vE 1) ⊗ (uE 2 ⊖ uE 1)) (tE 0 1 2) tt
+    beyond-is a =
+        ring (env (pos 0) (z ∷ z' ∷ a ∷ []))
+        (((uE 1 ⊕ (uE 1 ⊖ uE 0)) ⊖ uE 1) ⊗ (vE 2 ⊖ vE 1) ⊖ ((vE 1 ⊕ (vE 1 ⊖ vE 0)) ⊖ vE 1) ⊗ (uE 2 ⊖ uE 1)) (tE 0 1 2) tt
 
     less : (a b : Flat) → turn a b z ≡ turn a b z' +ℤ (turn z z' b +ℤ turn z' z a)
     unfolding turn
@@ -102,15 +118,21 @@ module _ (m : ℤ) where
 
     on-side : (a b : Flat) → turn a b z' ≡ pos 0 → turn z z' b *ℤ facing z' a b ≡ negℤ (turn z' z a *ℤ facing z' b b)
     unfolding turn facing
-    on-side a b e = ring-with (env (pos 0) (z ∷ z' ∷ a ∷ b ∷ [])) (tE 0 1 3 ⊗ fE 1 2 3) (neg (tE 1 0 2 ⊗ fE 1 3 3)) (neg (fE 1 0 3)) (tE 2 3 1) (con (pos 0)) tt e
+    on-side a b e =
+        ring-with (env (pos 0) (z ∷ z' ∷ a ∷ b ∷ [])) (tE 0 1 3 ⊗ fE 1 2 3) (neg (tE 1 0 2 ⊗ fE 1 3 3)) (neg (fE 1 0 3)) (tE 2 3 1)
+        (con (pos 0)) tt e
 
     after-z : (a b : Flat) → turn z' z a ≡ pos 0 → turn z z' b *ℤ (h a -ℤ h z) ≡ turn a b z *ℤ (h z' -ℤ h z)
     unfolding turn height
-    after-z a b e = ring-with (env m (z ∷ z' ∷ a ∷ b ∷ [])) (tE 0 1 3 ⊗ (hE 2 ⊖ hE 0)) (tE 2 3 0 ⊗ (hE 1 ⊖ hE 0)) (hE 0 ⊖ hE 3) (tE 1 0 2) (con (pos 0)) tt e
+    after-z a b e =
+        ring-with (env m (z ∷ z' ∷ a ∷ b ∷ [])) (tE 0 1 3 ⊗ (hE 2 ⊖ hE 0)) (tE 2 3 0 ⊗ (hE 1 ⊖ hE 0)) (hE 0 ⊖ hE 3) (tE 1 0 2)
+        (con (pos 0)) tt e
 
     before-z' : (a b : Flat) → turn z' z a ≡ pos 0 → turn z z' b *ℤ (h z' -ℤ h a) ≡ turn b a z' *ℤ (h z' -ℤ h z)
     unfolding turn height
-    before-z' a b e = ring-with (env m (z ∷ z' ∷ a ∷ b ∷ [])) (tE 0 1 3 ⊗ (hE 1 ⊖ hE 2)) (tE 3 2 1 ⊗ (hE 1 ⊖ hE 0)) (hE 3 ⊖ hE 1) (tE 1 0 2) (con (pos 0)) tt e
+    before-z' a b e =
+        ring-with (env m (z ∷ z' ∷ a ∷ b ∷ [])) (tE 0 1 3 ⊗ (hE 1 ⊖ hE 2)) (tE 3 2 1 ⊗ (hE 1 ⊖ hE 0)) (hE 3 ⊖ hE 1) (tE 1 0 2)
+        (con (pos 0)) tt e
 
     -- the side does not pass between
     between : (a b : Flat) → Link g a b → Nn (turn z' z a) → Up (turn z z' b) → Up (turn a b z) → Nn (turn b a z') → ⊥
@@ -119,16 +141,23 @@ module _ (m : ℤ) where
         neg-mul : (x y : ℤ) → x *ℤ negℤ y ≡ negℤ (x *ℤ y)
         neg-mul x y = ring (x ∷ y ∷ []) (var 0 ⊗ neg (var 1)) (neg (var 0 ⊗ var 1)) tt
 
-        go : Up (turn b a z') ⊎ ((turn b a z' ≡ pos 0) ⊎ Up (negℤ (turn b a z'))) → Up (turn z' z a) ⊎ ((turn z' z a ≡ pos 0) ⊎ Up (negℤ (turn z' z a))) → ⊥
+        go : Up (turn b a z') ⊎ ((turn b a z' ≡ pos 0) ⊎ Up (negℤ (turn b a z')))
+            → Up (turn z' z a) ⊎ ((turn z' z a ≡ pos 0) ⊎ Up (negℤ (turn z' z a))) → ⊥
         go (inr (inr k)) x = off k (nn-is (twice (turn b a z')) t')
         go (inr (inl e)) x = let e' = flip a b z' ∙ ap negℤ e in
-            off (up-is (on-side a b e') (mul-pos β (cz' a b l e'))) (nn-is (twice (turn z' z a *ℤ facing z' b b)) (mul-nonneg α (self-nn z' b)))
+            off (up-is (on-side a b e') (mul-pos β (cz' a b l e')))
+            (nn-is (twice (turn z' z a *ℤ facing z' b b)) (mul-nonneg α (self-nn z' b)))
         go (inl k') (inl k) = uncut b a (link-back g a b l) (record { left = β; right = k; ahead = k'; behind = t })
         go (inl k') (inr (inr k)) = off k (nn-is (twice (turn z' z a)) α)
         go (inl k') (inr (inl e)) = way (compare (h z) (h z'))
           where
             dn : (x y s : ℤ) → h z' <ℤ h z → s *ℤ x ≡ y *ℤ (h z' -ℤ h z) → Up s → Up y → Up (negℤ x)
-            dn x y s k q us uy = up-out s us (up-is (ring (s ∷ x ∷ []) (neg (var 0 ⊗ var 1)) (var 0 ⊗ neg (var 1)) tt) (up-is (ap negℤ (sym q)) (up-is (ring (y ∷ h z ∷ h z' ∷ []) (var 0 ⊗ (var 1 ⊖ var 2)) (neg (var 0 ⊗ (var 2 ⊖ var 1))) tt) (mul-pos uy (sub-pos k)))))
+            dn x y s k q us uy =
+                up-out s us
+                (up-is (ring (s ∷ x ∷ []) (neg (var 0 ⊗ var 1)) (var 0 ⊗ neg (var 1)) tt)
+                (up-is (ap negℤ (sym q))
+                (up-is (ring (y ∷ h z ∷ h z' ∷ []) (var 0 ⊗ (var 1 ⊖ var 2)) (neg (var 0 ⊗ (var 2 ⊖ var 1))) tt)
+                (mul-pos uy (sub-pos k)))))
 
             way : (h z <ℤ h z') ⊎ ((h z ≡ h z') ⊎ (h z' <ℤ h z)) → ⊥
             way (inr (inl q)) = ne q
@@ -139,14 +168,21 @@ module _ (m : ℤ) where
             })
             way (inr (inr k)) = bare' a b l (record {
               line = e;
-              after = diff-up (h z') (h a) (up-is (ring (h z' ∷ h a ∷ []) (neg (var 0 ⊖ var 1)) (var 1 ⊖ var 0) tt) (dn (h z' -ℤ h a) (turn b a z') (turn z z' b) k (before-z' a b e) β k'));
-              before = diff-up (h a) (h z) (up-is (ring (h z ∷ h a ∷ []) (neg (var 1 ⊖ var 0)) (var 0 ⊖ var 1) tt) (dn (h a -ℤ h z) (turn a b z) (turn z z' b) k (after-z a b e) β t));
+              after =
+                  diff-up (h z') (h a)
+                  (up-is (ring (h z' ∷ h a ∷ []) (neg (var 0 ⊖ var 1)) (var 1 ⊖ var 0) tt)
+                  (dn (h z' -ℤ h a) (turn b a z') (turn z z' b) k (before-z' a b e) β k'));
+              before =
+                  diff-up (h a) (h z)
+                  (up-is (ring (h z ∷ h a ∷ []) (neg (var 1 ⊖ var 0)) (var 0 ⊖ var 1) tt)
+                  (dn (h a -ℤ h z) (turn a b z) (turn z z' b) k (after-z a b e) β t));
             })
 
     keeps : (a b : Flat) → Link g a b → Nn (turn z' z a) → Up (turn z z' b) → above (turn a b z) ≡ above (turn a b z')
     keeps a b l α β = go (which (turn a b z)) (which (turn a b z'))
       where
-        go : Up (turn a b z) ⊎ Nn (negℤ (turn a b z)) → Up (turn a b z') ⊎ Nn (negℤ (turn a b z')) → above (turn a b z) ≡ above (turn a b z')
+        go : Up (turn a b z) ⊎ Nn (negℤ (turn a b z)) → Up (turn a b z') ⊎ Nn (negℤ (turn a b z'))
+            → above (turn a b z) ≡ above (turn a b z')
         go (inl t) (inl t') = above-is (turn a b z) t ∙ sym (above-is (turn a b z') t')
         go (inr t) (inr t') = above-no (turn a b z) t ∙ sym (above-no (turn a b z') t')
         go (inl t) (inr t') = absurd (between a b l α β t (nn-is (sym (flip b a z')) t'))
@@ -154,26 +190,37 @@ module _ (m : ℤ) where
 
     same : (a b : Flat) → Link g a b → beam z z' a b ≡ beam z' beyond a b
     unfolding beam right meetsRay
-    same a b l = go (leZ (turn z z' a) (pos 0)) (leZ (turn z z' b) (pos 0)) refl refl ∙ (λ i. meetsRay (leZ (sym (beyond-is a) i) (pos 0)) (leZ (sym (beyond-is b) i) (pos 0)) (turn a b z'))
+    same a b l =
+        go (leZ (turn z z' a) (pos 0)) (leZ (turn z z' b) (pos 0)) refl refl
+        ∙ (λ i. meetsRay (leZ (sym (beyond-is a) i) (pos 0)) (leZ (sym (beyond-is b) i) (pos 0)) (turn a b z'))
       where
         nn : (x : Flat) → leZ (turn z z' x) (pos 0) ≡ true → Nn (turn z' z x)
         nn x e = nn-is (sym (flip z' z x)) (yes-low (turn z z' x) e)
 
-        go : (x y : Bool) → leZ (turn z z' a) (pos 0) ≡ x → leZ (turn z z' b) (pos 0) ≡ y → meetsRay (leZ (turn z z' a) (pos 0)) (leZ (turn z z' b) (pos 0)) (turn a b z) ≡ meetsRay (leZ (turn z z' a) (pos 0)) (leZ (turn z z' b) (pos 0)) (turn a b z')
+        go : (x y : Bool) → leZ (turn z z' a) (pos 0) ≡ x → leZ (turn z z' b) (pos 0) ≡ y
+            → meetsRay (leZ (turn z z' a) (pos 0)) (leZ (turn z z' b) (pos 0)) (turn a b z) ≡ meetsRay (leZ (turn z z' a) (pos 0))
+            (leZ (turn z z' b) (pos 0)) (turn a b z')
         go x y e f = (λ i. meetsRay (e i) (f i) (turn a b z)) ∙ cases x y e f ∙ (λ i. meetsRay (sym e i) (sym f i) (turn a b z'))
           where
-            cases : (x y : Bool) → leZ (turn z z' a) (pos 0) ≡ x → leZ (turn z z' b) (pos 0) ≡ y → meetsRay x y (turn a b z) ≡ meetsRay x y (turn a b z')
+            cases : (x y : Bool) → leZ (turn z z' a) (pos 0) ≡ x → leZ (turn z z' b) (pos 0) ≡ y
+                → meetsRay x y (turn a b z) ≡ meetsRay x y (turn a b z')
             cases true true e f = refl
             cases false false e f = refl
             cases true false e f = keeps a b l (nn a e) (no-low (turn z z' b) f)
-            cases false true e f = ap below (flip a b z) ∙ below-neg (turn b a z) ∙ keeps b a (link-back g a b l) (nn b f) (no-low (turn z z' a) e) ∙ sym (ap below (flip a b z') ∙ below-neg (turn b a z'))
+            cases false true e f =
+                ap below (flip a b z) ∙ below-neg (turn b a z) ∙ keeps b a (link-back g a b l) (nn b f) (no-low (turn z z' a) e)
+                ∙ sym (ap below (flip a b z') ∙ below-neg (turn b a z'))
 
     far : facing z' beyond beyond ≡ facing z z' z'
     unfolding facing beyond
-    far = ring (env (pos 0) (z ∷ z' ∷ [])) (((uE 1 ⊕ (uE 1 ⊖ uE 0)) ⊖ uE 1) ⊗ ((uE 1 ⊕ (uE 1 ⊖ uE 0)) ⊖ uE 1) ⊕ ((vE 1 ⊕ (vE 1 ⊖ vE 0)) ⊖ vE 1) ⊗ ((vE 1 ⊕ (vE 1 ⊖ vE 0)) ⊖ vE 1)) (fE 0 1 1) tt
+    far =
+        ring (env (pos 0) (z ∷ z' ∷ []))
+        (((uE 1 ⊕ (uE 1 ⊖ uE 0)) ⊖ uE 1) ⊗ ((uE 1 ⊕ (uE 1 ⊖ uE 0)) ⊖ uE 1) ⊕ ((vE 1 ⊕ (vE 1 ⊖ vE 0)) ⊖ vE 1) ⊗
+        ((vE 1 ⊕ (vE 1 ⊖ vE 0)) ⊖ vE 1)) (fE 0 1 1) tt
 
     pub along : odd z g ≡ odd z' g
     along =
         by-ray z z' g cz (self-up z z' (λ e. ne (ap h (sym e))))
-        ∙ potential (beam z z') (beam z' beyond) (λ a. false) g (λ a b l. ap (λ (x : Bool). xor x (beam z' beyond a b)) (same a b l) ∙ xor-self (beam z' beyond a b) ∙ sym (xor-self false))
+        ∙ potential (beam z z') (beam z' beyond) (λ a. false) g (λ a b l. ap (λ (x : Bool). xor x (beam z' beyond a b)) (same a b l)
+        ∙ xor-self (beam z' beyond a b) ∙ sym (xor-self false))
         ∙ sym (by-ray z' beyond g cz' (up-is (sym far) (self-up z z' (λ e. ne (ap h (sym e))))))

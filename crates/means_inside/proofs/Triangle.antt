@@ -29,7 +29,8 @@ twice x = ring (x ∷ []) (var 0) (neg (neg (var 0))) tt
 -- ---- another point
 two-zero : (x y : ℤ) → x *ℤ x +ℤ y *ℤ y ≡ pos 0 → (x ≡ pos 0) × (y ≡ pos 0)
 two-zero x y e =
-    let s = sum-zero (x *ℤ x) (y *ℤ y) (pos 0) (square-nonneg x) (square-nonneg y) (record { le = tt }) (ring (x ∷ y ∷ []) (var 0 ⊗ var 0 ⊕ var 1 ⊗ var 1 ⊕ con (pos 0)) (var 0 ⊗ var 0 ⊕ var 1 ⊗ var 1) tt ∙ e) in
+    let s = sum-zero (x *ℤ x) (y *ℤ y) (pos 0) (square-nonneg x) (square-nonneg y) (record { le = tt })
+    (ring (x ∷ y ∷ []) (var 0 ⊗ var 0 ⊕ var 1 ⊗ var 1 ⊕ con (pos 0)) (var 0 ⊗ var 0 ⊕ var 1 ⊗ var 1) tt ∙ e) in
     (square-zero x (s .0), square-zero y (s .1))
 
 pub self-nn : (p q : Flat) → Nn (facing p q q)
@@ -43,16 +44,22 @@ self-up p q n = go (ways (facing p q q))
   where
     go : Up (facing p q q) ⊎ ((facing p q q ≡ pos 0) ⊎ Up (negℤ (facing p q q))) → Up (facing p q q)
     go (inl k) = k
-    go (inr (inl e)) = let z = two-zero (q .u -ℤ p .u) (q .v -ℤ p .v) e in absurd (n (λ i. record { u = eq-of-sub (q .u) (p .u) (z .0) i; v = eq-of-sub (q .v) (p .v) (z .1) i }))
+    go (inr (inl e)) =
+        let z = two-zero (q .u -ℤ p .u) (q .v -ℤ p .v) e in
+        absurd (n (λ i. record { u = eq-of-sub (q .u) (p .u) (z .0) i; v = eq-of-sub (q .v) (p .v) (z .1) i }))
     go (inr (inr k)) = absurd (off k (nn-is (ring (facing p q q ∷ []) (var 0) (neg (neg (var 0))) tt) (self-nn p q)))
 
 pub moved : (p q z : Flat) → Up (turn p q z) → Up (facing p q q)
 unfolding turn
-moved p q z k = self-up p q (λ e. zero-off (ap (λ (y : Flat). turn p y z) e ∙ ring (env (pos 0) (p ∷ z ∷ [])) (tE 0 0 1) (con (pos 0)) tt) k)
+moved p q z k =
+    self-up p q (λ e. zero-off (ap (λ (y : Flat). turn p y z) e ∙ ring (env (pos 0) (p ∷ z ∷ [])) (tE 0 0 1) (con (pos 0)) tt) k)
 
 pub east-up : (p : Flat) → Up (facing p (east p) (east p))
 unfolding facing
-east-up p = up-is (ring (p .u ∷ p .v ∷ []) (con (pos 1)) ((var 0 ⊕ con (pos 1) ⊖ var 0) ⊗ (var 0 ⊕ con (pos 1) ⊖ var 0) ⊕ (var 1 ⊖ var 1) ⊗ (var 1 ⊖ var 1)) tt) (record { lt = tt })
+east-up p =
+    up-is
+    (ring (p .u ∷ p .v ∷ []) (con (pos 1))
+    ((var 0 ⊕ con (pos 1) ⊖ var 0) ⊗ (var 0 ⊕ con (pos 1) ⊖ var 0) ⊕ (var 1 ⊖ var 1) ⊗ (var 1 ⊖ var 1)) tt) (record { lt = tt })
 
 -- the definition's ray, and any other
 pub by-ray : (p q : Flat) (g : List Flat) → Clear p g → Up (facing p q q) → odd p g ≡ round (beam p q) g
@@ -62,18 +69,24 @@ by-ray p q g c k = every-ray p (east p) q (east-up p) k g c
 pub aside : (p q : Flat) (g : List Flat) → ((z : Flat) → Of z g → Up (turn p q z)) → round (beam p q) g ≡ false
 unfolding beam right meetsRay
 aside p q [] h = refl
-aside p q (x ∷ l) h = silent (beam p q) x l x (λ a b c. λ i. meetsRay (low-no (turn p q a) (h a (link-of (x ∷ l) a b c)) i) (low-no (turn p q b) (h b (link-of (x ∷ l) b a (link-back (x ∷ l) a b c))) i) (turn a b p))
+aside p q (x ∷ l) h =
+    silent (beam p q) x l x
+    (λ a b c. λ i. meetsRay (low-no (turn p q a) (h a (link-of (x ∷ l) a b c)) i)
+    (low-no (turn p q b) (h b (link-of (x ∷ l) b a (link-back (x ∷ l) a b c))) i) (turn a b p))
 
 -- a side to the left of a ray's line does not touch p
 left-is : (p q a b : Flat) → turn a b p ≡ pos 0 → facing p b b *ℤ turn p q a ≡ facing p a b *ℤ turn p q b
 unfolding turn facing
-left-is p q a b e = ring-with (env (pos 0) (p ∷ q ∷ a ∷ b ∷ [])) (fE 0 3 3 ⊗ tE 0 1 2) (fE 0 2 3 ⊗ tE 0 1 3) (neg (fE 0 1 3)) (tE 2 3 0) (con (pos 0)) tt e
+left-is p q a b e =
+    ring-with (env (pos 0) (p ∷ q ∷ a ∷ b ∷ [])) (fE 0 3 3 ⊗ tE 0 1 2) (fE 0 2 3 ⊗ tE 0 1 3) (neg (fE 0 1 3)) (tE 2 3 0) (con (pos 0)) tt
+    e
 
 pub left-off : (p q a b : Flat) → Up (turn p q a) → Up (turn p q b) → turn a b p ≡ pos 0 → Nn (negℤ (facing p a b)) → ⊥
 unfolding turn
 left-off p q a b ha hb e f =
     let n : b ≡ p → ⊥ = λ z. zero-off (ap (turn p q) z ∙ ring (env (pos 0) (p ∷ q ∷ [])) (tE 0 1 0) (con (pos 0)) tt) hb in
-    off (up-is (left-is p q a b e) (mul-pos (self-up p b n) ha)) (nn-is (ring (facing p a b ∷ turn p q b ∷ []) (neg (var 0) ⊗ var 1) (neg (var 0 ⊗ var 1)) tt) (mul-nonneg f (up-nn hb)))
+    off (up-is (left-is p q a b e) (mul-pos (self-up p b n) ha))
+    (nn-is (ring (facing p a b ∷ turn p q b ∷ []) (neg (var 0) ⊗ var 1) (neg (var 0 ⊗ var 1)) tt) (mul-nonneg f (up-nn hb)))
 
 -- a point that has a line to one side of which all corners are
 pub out : (p q z : Flat) (g : List Flat) → Clear p g → Up (turn p q z) → ((z : Flat) → Of z g → Up (turn p q z)) → odd p g ≡ false
@@ -88,10 +101,12 @@ module _ (v a b p : Flat) (D : Up (turn v a b)) where
   shift-is : (x y z : Flat) → turn p (shift x y) z ≡ turn x y z +ℤ negℤ (turn x y p)
   unfolding turn shift
   shift-is x y z =
-      ring (env (pos 0) (p ∷ x ∷ y ∷ z ∷ [])) (((uE 0 ⊕ (uE 2 ⊖ uE 1)) ⊖ uE 0) ⊗ (vE 3 ⊖ vE 0) ⊖ ((vE 0 ⊕ (vE 2 ⊖ vE 1)) ⊖ vE 0) ⊗ (uE 3 ⊖ uE 0)) (tE 1 2 3 ⊕ neg (tE 1 2 0)) tt
+      ring (env (pos 0) (p ∷ x ∷ y ∷ z ∷ []))
+      (((uE 0 ⊕ (uE 2 ⊖ uE 1)) ⊖ uE 0) ⊗ (vE 3 ⊖ vE 0) ⊖ ((vE 0 ⊕ (vE 2 ⊖ vE 1)) ⊖ vE 0) ⊗ (uE 3 ⊖ uE 0)) (tE 1 2 3 ⊕ neg (tE 1 2 0)) tt
 
   -- beyond one of its sides
-  beyond : (x y : Flat) → Clear p (v ∷ a ∷ b ∷ []) → Nn (turn x y v) → Nn (turn x y a) → Nn (turn x y b) → odd p (v ∷ a ∷ b ∷ []) ≡ true → Nn (turn x y p)
+  beyond : (x y : Flat) → Clear p (v ∷ a ∷ b ∷ []) → Nn (turn x y v) → Nn (turn x y a) → Nn (turn x y b) → odd p (v ∷ a ∷ b ∷ []) ≡ true
+      → Nn (turn x y p)
   beyond x y c hv ha hb o = go (which (negℤ (turn x y p)))
     where
       left : Up (negℤ (turn x y p)) → (z : Flat) → Of z (v ∷ a ∷ b ∷ []) → Up (turn p (shift x y) z)
@@ -141,12 +156,18 @@ module _ (v a b p : Flat) (D : Up (turn v a b)) where
     where
       go-a : Up (turn b v p) ⊎ ((turn b v p ≡ pos 0) ⊎ Up (negℤ (turn b v p))) → Up (turn b v p)
       go-a (inl k) = k
-      go-a (inr (inl e)) = absurd (off (up-is (on-vb e) (mul-pos (mul-pos D D) (ob (flip v b p ∙ ap negℤ e)))) (nn-is (twice (turn v a p *ℤ turn a b p *ℤ facing v b b)) (mul-nonneg (mul-nonneg xb far) (self-nn v b))))
+      go-a (inr (inl e)) =
+          absurd
+          (off (up-is (on-vb e) (mul-pos (mul-pos D D) (ob (flip v b p ∙ ap negℤ e))))
+          (nn-is (twice (turn v a p *ℤ turn a b p *ℤ facing v b b)) (mul-nonneg (mul-nonneg xb far) (self-nn v b))))
       go-a (inr (inr k)) = absurd (off k (nn-is (ring (turn b v p ∷ []) (var 0) (neg (neg (var 0))) tt) xa))
 
       go-b : Up (turn v a p) ⊎ ((turn v a p ≡ pos 0) ⊎ Up (negℤ (turn v a p))) → Up (turn v a p)
       go-b (inl k) = k
-      go-b (inr (inl e)) = absurd (off (up-is (on-va e) (mul-pos (mul-pos D D) (oa e))) (nn-is (twice (turn b v p *ℤ turn a b p *ℤ facing v a a)) (mul-nonneg (mul-nonneg xa far) (self-nn v a))))
+      go-b (inr (inl e)) =
+          absurd
+          (off (up-is (on-va e) (mul-pos (mul-pos D D) (oa e)))
+          (nn-is (twice (turn b v p *ℤ turn a b p *ℤ facing v a a)) (mul-nonneg (mul-nonneg xa far) (self-nn v a))))
       go-b (inr (inr k)) = absurd (off k (nn-is (ring (turn v a p ∷ []) (var 0) (neg (neg (var 0))) tt) xb))
 
   -- a point of the chord

@@ -12,6 +12,7 @@ use Rattle.means_inside.proofs.Parity.{round-turned, round-cut, round-e
 module _ (m : ℤ) (f : Flat → Flat → Bool) (sy : (a b : Flat) → f a b ≡ f b a) where
   pub hits-are : (g : List Flat) (t : Cut m g) → round f g ≡ hits f t
   hits-are _ (one a b c s) = refl
-  hits-are _ (chord u l w r s x y) = round-cut f u l w r (sy w u) ∙ (λ i. xor (hits-are (u ∷ (l ++ w ∷ [])) x i) (hits-are (u ∷ w ∷ r) y i))
+  hits-are _ (chord u l w r s x y) =
+      round-cut f u l w r (sy w u) ∙ (λ i. xor (hits-are (u ∷ (l ++ w ∷ [])) x i) (hits-are (u ∷ w ∷ r) y i))
   hits-are _ (ear u c l s t x) = round-ear f u c l (sy (lst c l) c) ∙ ap (xor (round f (u ∷ c ∷ lst c l ∷ []))) (hits-are (c ∷ l) x)
   hits-are _ (start x l y r t) = round-turned f x l y r ∙ hits-are (y ∷ (r ++ x ∷ l)) t

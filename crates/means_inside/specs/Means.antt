@@ -13,7 +13,8 @@ use Rattle.means_inside.specs.Touch.{Touch}
 abbrev pub big : ℤ → Flat → Flat
 big d a = record { u = d *ℤ a .u; v = d *ℤ a .v }
 
--- g has a triangulation such that a point p / d (p, against g d times as large) is inside or on the border where it is in one of the closed triangles, and on the
+-- g has a triangulation such that a point p / d (p, against g d times as large) is inside or on the border where it is in one of the
+-- closed triangles, and on the
 -- border where it is on a side
 pub record Means (m : ℤ) (g : List Flat) : Type 0 where
   pub cut : Cut m g

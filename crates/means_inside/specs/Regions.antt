@@ -7,11 +7,14 @@ use Rattle.paper.specs.declared.Flat.{Flat}
 use Rattle.means_area.specs.Flats.{Nn, turn, Simple, lst}
 use Rattle.means_inside.specs.Beams.{round}
 
--- a simple ring cut into triangles by chords: it is a triangle; a chord from its first corner u to the corner w cuts it in two; its first corner is cut
--- off by the chord between its neighbours; or it is cut from another start. All parts are simple: no chord crosses a side, or has a corner inside.
+-- a simple ring cut into triangles by chords: it is a triangle; a chord from its first corner u to the corner w cuts it in two; its first
+-- corner is cut
+-- off by the chord between its neighbours; or it is cut from another start. All parts are simple: no chord crosses a side, or has a
+-- corner inside.
 pub data Cut (m : ℤ) : List Flat → Type 0 where
   one : (a b c : Flat) → Simple m (a ∷ b ∷ c ∷ []) → Cut m (a ∷ b ∷ c ∷ [])
-  chord : (u : Flat) (l : List Flat) (w : Flat) (r : List Flat) → Simple m (u ∷ (l ++ w ∷ r)) → Cut m (u ∷ (l ++ w ∷ [])) → Cut m (u ∷ w ∷ r) → Cut m (u ∷ (l ++ w ∷ r))
+  chord : (u : Flat) (l : List Flat) (w : Flat) (r : List Flat) → Simple m (u ∷ (l ++ w ∷ r)) → Cut m (u ∷ (l ++ w ∷ []))
+      → Cut m (u ∷ w ∷ r) → Cut m (u ∷ (l ++ w ∷ r))
   ear : (u c : Flat) (l : List Flat) → Simple m (u ∷ c ∷ l) → Simple m (u ∷ c ∷ lst c l ∷ []) → Cut m (c ∷ l) → Cut m (u ∷ c ∷ l)
   start : (x : Flat) (l : List Flat) (y : Flat) (r : List Flat) → Cut m (y ∷ (r ++ x ∷ l)) → Cut m (x ∷ (l ++ y ∷ r))
 

@@ -1,4 +1,5 @@
--- The directions that the spread gives are forced: directions by which each edge is run once each way, with the first face not turned, are
+-- The directions that the spread gives are forced: directions by which each edge is run once each way, with the first face not turned,
+-- are
 -- the spread's, wherever it reaches.
 -- Assumes nothing.
 use mathlib.Core.Bool.{Bool, true, false, not, _&&_, _||_, cond, xor}
@@ -206,7 +207,8 @@ pass-right [] ups taken ts o r h = h
 pass-right (mask ∷ masks) [] taken ts o r h = h
 pass-right (mask ∷ masks) (up ∷ ups) taken ts o r h =
     let q = oriented-here mask up masks ups taken ts o in
-    pass-right masks ups taken ts (q .1) (acrossEdge mask up taken r) (over-right mask up taken r ts (once-suits mask up taken ts (q .0)) h)
+    pass-right masks ups taken ts (q .1) (acrossEdge mask up taken r)
+    (over-right mask up taken r ts (once-suits mask up taken ts (q .0)) h)
 
 pub spread-right : (n : ℕ) (masks ups : List (List Bool)) (taken ts : List Bool) → oriented masks ups taken ts ≡ true → (r : Reach)
     → Right ts r → Right ts (spread n masks ups taken r)
@@ -228,7 +230,8 @@ start-right taken ts e = record {
   right = λ k p. sym (ap (dig ts) (dig-only (first taken) k p) ∙ e);
 }
 
-pub faces-right : (masks ups : List (List Bool)) (taken ts : List Bool) → oriented masks ups taken ts ≡ true → dig ts (first taken) ≡ false
+pub faces-right : (masks ups : List (List Bool)) (taken ts : List Bool) → oriented masks ups taken ts ≡ true
+    → dig ts (first taken) ≡ false
     → Right ts (faces masks ups taken)
 unfolding faces
 faces-right masks ups taken ts o e = spread-right (count taken) masks ups taken ts o (start taken) (start-right taken ts e)
@@ -274,7 +277,8 @@ module _ (mask up taken s t : List Bool) where
   once-opposite h =
       ap₂ (λ (m n : ℕ). eqb m 1 && eqb n 1)
       (count-same (both (both mask taken) (unlike up s)) (less (both mask taken) (unlike up t))
-      (λ k. dig-both (both mask taken) (unlike up s) k ∙ guarded (dig (both mask taken) k) (dig (unlike up s) k) (not (dig (unlike up t) k))
+      (λ k. dig-both (both mask taken) (unlike up s) k
+      ∙ guarded (dig (both mask taken) k) (dig (unlike up s) k) (not (dig (unlike up t) k))
       (flip k) ∙ sym (dig-less (both mask taken) (unlike up t) k)))
       (count-same (less (both mask taken) (unlike up s)) (both (both mask taken) (unlike up t))
       (λ k. dig-less (both mask taken) (unlike up s) k
@@ -314,7 +318,8 @@ all-reached taken r e k h = go (dig (r .reached) k) refl
         (count-none (less taken (r .reached)) (eqb-true (count (less taken (r .reached))) 0 e) k
         (dig-less taken (r .reached) k ∙ and-both h (ap not p)))
 
--- (iii): where the faces are connected and can be given directions so that each edge is run once each way, the spread's are such, and there
+-- (iii): where the faces are connected and can be given directions so that each edge is run once each way, the spread's are such, and
+-- there
 -- are no others than these and all of them turned
 pub directions : (masks ups : List (List Bool)) (taken : List Bool) → connected taken (faces masks ups taken) ≡ true → (ts : List Bool)
     → oriented masks ups taken ts ≡ true

@@ -71,7 +71,8 @@ module _ (t : Tables) (taken : List Bool) (same : length (t .masks) ≡ length (
   judged-solid {ts} {v} e =
       let q = picked (eqb (count taken) 0) (connected taken (faces (t .masks) (t .ups) taken))
       (oriented (t .masks) (t .ups) taken (faces (t .masks) (t .ups) taken .turned)) (clearFrom 0 (t .clashes) taken)
-      (weighed taken (faces (t .masks) (t .ups) taken .turned) (sixFrom 0 (t .sixes) taken (faces (t .masks) (t .ups) taken .turned))) e in
+      (weighed taken (faces (t .masks) (t .ups) taken .turned) (sixFrom 0 (t .sixes) taken (faces (t .masks) (t .ups) taken .turned)))
+      e in
       go (sixFrom 0 (t .sixes) taken (faces (t .masks) (t .ups) taken .turned)) refl (q .4)
       (connected-ways (t .masks) (t .ups) taken same two (eqb-false (count taken) 0 (q .0)) (q .1)) (q .2) (q .3)
     where
@@ -102,12 +103,14 @@ module _ (t : Tables) (taken : List Bool) (same : length (t .masks) ≡ length (
                 opp (t .masks) (t .ups) ∙ o;
             apart = a;
             volume = ap (sixFrom 0 (t .sixes) taken) (sym d)
-                ∙ six-opposite taken (less taken (faces (t .masks) (t .ups) taken .turned)) (faces (t .masks) (t .ups) taken .turned) opp 0
+                ∙ six-opposite taken (less taken (faces (t .masks) (t .ups) taken .turned)) (faces (t .masks) (t .ups) taken .turned) opp
+                0
                 (t .sixes) ∙ ap negℤ p ∙ ap pos m;
             above = omega arith;
           }
 
-  pub solid-judged : {ts : List Bool} {v : ℕ} → IsSolid t taken ts v → (us : List Bool) × (judged t taken ≡ Solid us v) × Alike taken ts us
+  pub solid-judged : {ts : List Bool} {v : ℕ} → IsSolid t taken ts v → (us : List Bool) × (judged t taken ≡ Solid us v)
+      × Alike taken ts us
   unfolding judged facesFrom faces
   solid-judged {ts} {v} s =
       let some : count taken ≡ 0 → ⊥ = λ e. zero-not (sym (six-none taken ts (count-none taken e) 0 (t .sixes)) ∙ s .volume) (s .above) in
@@ -122,7 +125,8 @@ module _ (t : Tables) (taken : List Bool) (same : length (t .masks) ≡ length (
       go : (n : ℕ) → 0 < n → sixFrom 0 (t .sixes) taken ts ≡ pos n → Alike taken ts (faces (t .masks) (t .ups) taken .turned)
           ⊎ Opposite taken ts (faces (t .masks) (t .ups) taken .turned)
           → (us : List Bool)
-          × (weighed taken (faces (t .masks) (t .ups) taken .turned) (sixFrom 0 (t .sixes) taken (faces (t .masks) (t .ups) taken .turned))
+          × (weighed taken (faces (t .masks) (t .ups) taken .turned)
+          (sixFrom 0 (t .sixes) taken (faces (t .masks) (t .ups) taken .turned))
           ≡ Solid us n) × Alike taken ts us
       go zero h e d = absurd (omega arith)
       go (suc n) h e (inl a) = (

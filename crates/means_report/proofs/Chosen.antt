@@ -54,13 +54,16 @@ joins-has u v l g (edge a b) h = go (or-cases (eqb u a && eqb v b) (eqb u b && e
         let y : v ≡ a = eqb-true v a (and-right (eqb u b) (eqb v a) p) in
         or-right (runs a b l) (runs b a l) (sym (λ i. runs (x i) (y i) l) ∙ goes-runs u v l g)
 
-pub on-an-edge : (d : Wire) (k : ℕ) → k < length (candidates d) → (e : ℕ) × (e < length (tablesOf d (candidates d) .masks)) × On (tablesOf d (candidates d) .masks) e k
+pub on-an-edge : (d : Wire) (k : ℕ) → k < length (candidates d) → (e : ℕ) × (e < length (tablesOf d (candidates d) .masks))
+    × On (tablesOf d (candidates d) .masks) e k
 unfolding tablesOf joined
 on-an-edge d k h =
     let l : Loop = loopAt (candidates d) k in
-    let r = any-yes (joins (final (loopAt (candidates d) k)) (getD (loopAt (candidates d) k) 0 0)) (edge 0 0) (d .edges) (candidates-closed d k h) in
+    let r = any-yes (joins (final (loopAt (candidates d) k)) (getD (loopAt (candidates d) k) 0 0)) (edge 0 0) (d .edges)
+    (candidates-closed d k h) in
     let q : has (getD (d .edges) (r .0) (edge 0 0)) (loopAt (candidates d) k) ≡ true
-    = joins-has (final (loopAt (candidates d) k)) (getD (loopAt (candidates d) k) 0 0) (loopAt (candidates d) k) (goes-back (loopAt (candidates d) k) (candidates-proper d k h)) (getD (d .edges) (r .0) (edge 0 0)) (r .2) in (
+    = joins-has (final (loopAt (candidates d) k)) (getD (loopAt (candidates d) k) 0 0) (loopAt (candidates d) k)
+    (goes-back (loopAt (candidates d) k) (candidates-proper d k h)) (getD (d .edges) (r .0) (edge 0 0)) (r .2) in (
       r .0,
       omega (arith, r .1, length-map (d .edges) (λ e. map (has e) (candidates d))),
       ap (λ (mask : List Bool). getD mask k false) (map-at (λ e. map (has e) (candidates d)) (d .edges) (r .0) (edge 0 0) [] (r .1))

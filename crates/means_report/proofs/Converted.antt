@@ -43,22 +43,26 @@ module _ (d : Wire) (t : WalkTree d (candidates d)) where
   pub no-ninth : length (walked d (candidates d) t) ≤ mostSolids → workToNinth d t ≡ assumptions t
   unfolding walked
   no-ninth h =
-      let f : length (filter (accepted (tablesOf d (candidates d))) (leaves t)) ≤ mostSolids = omega (arith, length-map (filter (accepted (tablesOf d (candidates d))) (leaves t)) (entry (tablesOf d (candidates d)))) in
+      let f : length (filter (accepted (tablesOf d (candidates d))) (leaves t)) ≤ mostSolids = omega
+      (arith, length-map (filter (accepted (tablesOf d (candidates d))) (leaves t)) (entry (tablesOf d (candidates d)))) in
       whole-cap (accepted (tablesOf d (candidates d))) (length (candidates d)) (tablesOf d (candidates d) .masks) t mostSolids 0 f
 
   -- and it is never more than that
   pub ninth-least : workToNinth d t ≤ assumptions t
   ninth-least =
-      subst (λ (m : ℕ). workToNinth d t ≤ m) (made-steps t) (up-least mostSolids (accepted (tablesOf d (candidates d))) 0 (steps t) mostSolids)
+      subst (λ (m : ℕ). workToNinth d t ≤ m) (made-steps t)
+      (up-least mostSolids (accepted (tablesOf d (candidates d))) 0 (steps t) mostSolids)
 
   module _ (limit : ℕ) (faces solids : List ℕ) where
     -- the answer goes by the solids and the assumptions
-    pub tells-few : (r : Converted) → Tells d t limit faces solids r → length (walked d (candidates d) t) ≤ mostSolids → assumptions t ≤ limit → Reported d t limit faces solids r
+    pub tells-few : (r : Converted) → Tells d t limit faces solids r → length (walked d (candidates d) t) ≤ mostSolids
+        → assumptions t ≤ limit → Reported d t limit faces solids r
     tells-few r (inl x) f s = x
     tells-few r (inr (inl x)) f s = absurd (omega (arith, x .nine))
     tells-few r (inr (inr x)) f s = absurd (omega (arith, x .far, no-ninth f))
 
-    pub tells-many : (r : Converted) → Tells d t limit faces solids r → mostSolids < length (walked d (candidates d) t) → workToNinth d t ≤ limit → TooMany d t limit faces solids r
+    pub tells-many : (r : Converted) → Tells d t limit faces solids r → mostSolids < length (walked d (candidates d) t)
+        → workToNinth d t ≤ limit → TooMany d t limit faces solids r
     tells-many r (inl x) f s = absurd (omega (arith, x .few))
     tells-many r (inr (inl x)) f s = x
     tells-many r (inr (inr x)) f s = absurd (omega (arith, x .far))
@@ -69,10 +73,12 @@ module _ (d : Wire) (t : WalkTree d (candidates d)) where
     tells-long r (inr (inr x)) s = x
 
     -- "says 'no solid' exactly when there is none", where the limit lets the walk end
-    pub none-says : (r : Converted) → Sound d t limit faces solids r → ((taken turned : List Bool) (six : ℕ) → IsSolid d (candidates d) taken turned six → ⊥) → assumptions t ≤ limit
+    pub none-says : (r : Converted) → Sound d t limit faces solids r
+        → ((taken turned : List Bool) (six : ℕ) → IsSolid d (candidates d) taken turned six → ⊥) → assumptions t ≤ limit
         → r .answer ≡ Conversion.NoSolid (length (loops d)) (length (candidates d)) (assumptions t)
     none-says r sound n s =
-        let e : walked d (candidates d) t ≡ [] = listed-none d (candidates d) (walked d (candidates d) t) (walked-lists d (candidates d) (sound .fair) t) n in
+        let e : walked d (candidates d) t ≡ [] = listed-none d (candidates d) (walked d (candidates d) t)
+        (walked-lists d (candidates d) (sound .fair) t) n in
         let x = tells-few r (sound .tells) (omega (arith, ap length e)) s in
         x .answer ∙ ap (answered (length (loops d)) (length (candidates d)) (assumptions t)) e
 
@@ -85,13 +91,28 @@ module _ (d : Wire) (t : WalkTree d (candidates d)) where
     pub tells-one : (r q : Converted) → Tells d t limit faces solids r → Tells d t limit faces solids q → Alike r q
     tells-one r q (inl x) u =
         let y = tells-few q u (x .few) (x .short) in
-        record { answers = x .answer ∙ sym (y .answer); faces-same = x .faces-left ∙ sym (y .faces-left); solids-same = x .solids-left ∙ sym (y .solids-left) }
+        record {
+          answers = x .answer ∙ sym (y .answer);
+          faces-same = x .faces-left ∙ sym (y .faces-left);
+          solids-same = x .solids-left
+              ∙ sym (y .solids-left);
+        }
     tells-one r q (inr (inl x)) u =
         let y = tells-many q u (x .nine) (x .short) in
-        record { answers = x .answer ∙ sym (y .answer); faces-same = x .faces-left ∙ sym (y .faces-left); solids-same = x .solids-left ∙ sym (y .solids-left) }
+        record {
+          answers = x .answer ∙ sym (y .answer);
+          faces-same = x .faces-left ∙ sym (y .faces-left);
+          solids-same = x .solids-left
+              ∙ sym (y .solids-left);
+        }
     tells-one r q (inr (inr x)) u =
         let y = tells-long q u (x .far) in
-        record { answers = x .answer ∙ sym (y .answer); faces-same = x .faces-left ∙ sym (y .faces-left); solids-same = x .solids-left ∙ sym (y .solids-left) }
+        record {
+          answers = x .answer ∙ sym (y .answer);
+          faces-same = x .faces-left ∙ sym (y .faces-left);
+          solids-same = x .solids-left
+              ∙ sym (y .solids-left);
+        }
 
 -- ---- conversion: a refusal 1 to 16 that leaves the rooms as they were, or what is told
 module _ (d : Wire) (t : WalkTree d (candidates d)) (form : List Check) (limit : ℕ) (faces solids : List ℕ) where
@@ -103,28 +124,35 @@ module _ (d : Wire) (t : WalkTree d (candidates d)) (form : List Check) (limit :
   unfolding conversion candidates
   conversion-refuses x e = rw e
 
-  pub conversion-says : ((x : Refusal) × (firstOf checks ≡ Answer.Refused x) × (conversion mostSolids form d limit faces solids ≡ record { answer = Conversion.Refused x; faces = faces; solids = solids }))
+  pub
+      conversion-says : ((x : Refusal) × (firstOf checks ≡ Answer.Refused x)
+      × (conversion mostSolids form d limit faces solids ≡ record { answer = Conversion.Refused x; faces = faces; solids = solids }))
       ⊎ ((firstOf checks ≡ Answer.Fine) × Sound d t limit faces solids (conversion mostSolids form d limit faces solids))
   conversion-says = go (firstOf checks) refl
     where
       go : (a : Answer) → firstOf checks ≡ a
-          → ((x : Refusal) × (firstOf checks ≡ Answer.Refused x) × (conversion mostSolids form d limit faces solids ≡ record { answer = Conversion.Refused x; faces = faces; solids = solids }))
+          → ((x : Refusal) × (firstOf checks ≡ Answer.Refused x)
+          × (conversion mostSolids form d limit faces solids ≡ record { answer = Conversion.Refused x; faces = faces; solids = solids }))
           ⊎ ((firstOf checks ≡ Answer.Fine) × Sound d t limit faces solids (conversion mostSolids form d limit faces solids))
       go Answer.Fine e = inr (e, conversion-sound d t limit faces solids form e)
       go (Answer.Refused x) e = inl (x, e, conversion-refuses x e)
 
 -- two lists of numbers; a sheet
-pub lists-tell : (xyz : List ℤ) (ends : List ℕ) (limit : ℕ) (faces solids : List ℕ) (t : WalkTree (wire xyz ends) (candidates (wire xyz ends)))
-    → Unrefused (wire xyz ends) t limit faces solids (lentChecks editionOne xyz ends) → Sound (wire xyz ends) t limit faces solids (convertLists xyz ends limit faces solids)
+pub lists-tell : (xyz : List ℤ) (ends : List ℕ) (limit : ℕ) (faces solids : List ℕ)
+    (t : WalkTree (wire xyz ends) (candidates (wire xyz ends)))
+    → Unrefused (wire xyz ends) t limit faces solids (lentChecks editionOne xyz ends)
+    → Sound (wire xyz ends) t limit faces solids (convertLists xyz ends limit faces solids)
 unfolding convertLists
 lists-tell xyz ends limit faces solids t h = conversion-sound (wire xyz ends) t limit faces solids (lentChecks editionOne xyz ends) h
 
 pub sheet-tells : (s : List ℕ) (limit : ℕ) (faces solids : List ℕ)
-    (t : WalkTree (wire (coordinatesIn editionOne s) (endsIn editionOne s)) (candidates (wire (coordinatesIn editionOne s) (endsIn editionOne s))))
+    (t : WalkTree (wire (coordinatesIn editionOne s) (endsIn editionOne s))
+    (candidates (wire (coordinatesIn editionOne s) (endsIn editionOne s))))
     → Unrefused (wire (coordinatesIn editionOne s) (endsIn editionOne s)) t limit faces solids (sheetChecks editionOne s)
     → Sound (wire (coordinatesIn editionOne s) (endsIn editionOne s)) t limit faces solids (convertSheet s limit faces solids)
 unfolding convertSheet
-sheet-tells s limit faces solids t h = conversion-sound (wire (coordinatesIn editionOne s) (endsIn editionOne s)) t limit faces solids (sheetChecks editionOne s) h
+sheet-tells s limit faces solids t h =
+    conversion-sound (wire (coordinatesIn editionOne s) (endsIn editionOne s)) t limit faces solids (sheetChecks editionOne s) h
 
 -- a higher limit changes no answer but 19: where neither limit is refused and the lower did not cut the walk
 pub higher-converts : (d : Wire) (t : WalkTree d (candidates d)) (form : List Check) (a b : ℕ) (faces solids : List ℕ) → a ≤ b
@@ -134,18 +162,28 @@ pub higher-converts : (d : Wire) (t : WalkTree d (candidates d)) (form : List Ch
 unfolding conversion candidates
 higher-converts d t form a b faces solids h ua ub w =
     rw (ua, ub) (ap (λ (log : Log). concluded (length (loops d)) (candidates d) (tablesOf d (candidates d)) log faces solids)
-    (higher-limit mostSolids (accepted (tablesOf d (candidates d))) a b h (length (candidates d)) (tablesOf d (candidates d) .masks) (λ e. not-long e)))
+    (higher-limit mostSolids (accepted (tablesOf d (candidates d))) a b h (length (candidates d)) (tablesOf d (candidates d) .masks)
+    (λ e. not-long e)))
   where
-    not-long : search mostSolids (accepted (tablesOf d (candidates d))) a (length (candidates d)) (tablesOf d (candidates d) .masks) .ended ≡ No.TooLong → ⊥
-    not-long e = omega (arith, ended-long (accepted (tablesOf d (candidates d))) (length (candidates d)) (tablesOf d (candidates d) .masks) t mostSolids a e .long)
+    not-long : search mostSolids (accepted (tablesOf d (candidates d))) a (length (candidates d))
+        (tablesOf d (candidates d) .masks) .ended ≡ No.TooLong → ⊥
+    not-long e =
+        omega (
+          arith,
+          ended-long (accepted (tablesOf d (candidates d))) (length (candidates d)) (tablesOf d (candidates d) .masks) t
+              mostSolids a e .long,
+        )
 
 -- ---- an answer that is no refusal is told
 module _ (d : Wire) (t : WalkTree d (candidates d)) (form : List Check) (limit : ℕ) (faces solids : List ℕ) where
-  pub conversion-unrefused : ((x : Refusal) → conversion mostSolids form d limit faces solids .answer ≡ Conversion.Refused x → ⊥) → Sound d t limit faces solids (conversion mostSolids form d limit faces solids)
+  pub conversion-unrefused : ((x : Refusal) → conversion mostSolids form d limit faces solids .answer ≡ Conversion.Refused x → ⊥)
+      → Sound d t limit faces solids (conversion mostSolids form d limit faces solids)
   conversion-unrefused f = go (conversion-says d t form limit faces solids)
     where
-      go : ((x : Refusal) × (firstOf (checks d t form limit faces solids) ≡ Answer.Refused x) × (conversion mostSolids form d limit faces solids ≡ record { answer = Conversion.Refused x; faces = faces; solids = solids }))
-          ⊎ ((firstOf (checks d t form limit faces solids) ≡ Answer.Fine) × Sound d t limit faces solids (conversion mostSolids form d limit faces solids))
+      go : ((x : Refusal) × (firstOf (checks d t form limit faces solids) ≡ Answer.Refused x)
+          × (conversion mostSolids form d limit faces solids ≡ record { answer = Conversion.Refused x; faces = faces; solids = solids }))
+          ⊎ ((firstOf (checks d t form limit faces solids) ≡ Answer.Fine)
+          × Sound d t limit faces solids (conversion mostSolids form d limit faces solids))
           → Sound d t limit faces solids (conversion mostSolids form d limit faces solids)
       go (inl p) = absurd (f (p .0) (ap (λ (c : Converted). c .answer) (p .2)))
       go (inr p) = p .1
@@ -154,11 +192,14 @@ pub lists-unrefused : (xyz : List ℤ) (ends : List ℕ) (limit : ℕ) (faces so
     → ((x : Refusal) → convertLists xyz ends limit faces solids .answer ≡ Conversion.Refused x → ⊥)
     → Sound (wire xyz ends) (the-walk (wire xyz ends)) limit faces solids (convertLists xyz ends limit faces solids)
 unfolding convertLists
-lists-unrefused xyz ends limit faces solids f = conversion-unrefused (wire xyz ends) (the-walk (wire xyz ends)) (lentChecks editionOne xyz ends) limit faces solids f
+lists-unrefused xyz ends limit faces solids f =
+    conversion-unrefused (wire xyz ends) (the-walk (wire xyz ends)) (lentChecks editionOne xyz ends) limit faces solids f
 
 pub sheet-unrefused : (s : List ℕ) (limit : ℕ) (faces solids : List ℕ)
     → ((x : Refusal) → convertSheet s limit faces solids .answer ≡ Conversion.Refused x → ⊥)
-    → Sound (wire (coordinatesIn editionOne s) (endsIn editionOne s)) (the-walk (wire (coordinatesIn editionOne s) (endsIn editionOne s))) limit faces solids (convertSheet s limit faces solids)
+    → Sound (wire (coordinatesIn editionOne s) (endsIn editionOne s)) (the-walk (wire (coordinatesIn editionOne s) (endsIn editionOne s)))
+    limit faces solids (convertSheet s limit faces solids)
 unfolding convertSheet
 sheet-unrefused s limit faces solids f =
-    conversion-unrefused (wire (coordinatesIn editionOne s) (endsIn editionOne s)) (the-walk (wire (coordinatesIn editionOne s) (endsIn editionOne s))) (sheetChecks editionOne s) limit faces solids f
+    conversion-unrefused (wire (coordinatesIn editionOne s) (endsIn editionOne s))
+    (the-walk (wire (coordinatesIn editionOne s) (endsIn editionOne s))) (sheetChecks editionOne s) limit faces solids f

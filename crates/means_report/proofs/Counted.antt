@@ -41,12 +41,15 @@ fits zero m R s a = omega arith
 fits (suc n) zero R s a = absurd (let r = s 0 (omega arith) in omega (arith, r .1))
 fits (suc n) (suc m) R s a =
     let last = s n (omega arith) in
-    let ih = fits n m (λ i j. R i (past (last .0) j)) (λ i h. move last i h (s i (omega arith))) (λ i k j hi hk p q. a i k (past (last .0) j) (omega arith) (omega arith) p q) in
+    let ih = fits n m (λ i j. R i (past (last .0) j)) (λ i h. move last i h (s i (omega arith)))
+    (λ i k j hi hk p q. a i k (past (last .0) j) (omega arith) (omega arith) p q) in
     omega arith
   where
-    move : (last : (j : ℕ) × (j < suc m) × R n j) → (i : ℕ) → i < n → (j : ℕ) × (j < suc m) × R i j → (j : ℕ) × (j < m) × R i (past (last .0) j)
+    move : (last : (j : ℕ) × (j < suc m) × R n j) → (i : ℕ) → i < n → (j : ℕ) × (j < suc m) × R i j
+        → (j : ℕ) × (j < m) × R i (past (last .0) j)
     move last i h t =
-        let other : t .0 ≡ last .0 → ⊥ = λ e. absurd (let z : i ≡ n = a i n (last .0) (omega arith) (omega arith) (subst (R i) e (t .2)) (last .2) in omega arith) in
+        let other : t .0 ≡ last .0
+        → ⊥ = λ e. absurd (let z : i ≡ n = a i n (last .0) (omega arith) (omega arith) (subst (R i) e (t .2)) (last .2) in omega arith) in
         let q = past-to (last .0) (t .0) m other (last .1) (t .1) in
         (q .0, q .1, subst (R i) (sym (q .2)) (t .2))
 
@@ -74,6 +77,7 @@ same-list (x ∷ a) (y ∷ b) n s = ap₂ (λ (u : Bool) (v : List Bool). u ∷ 
 pub word-row : (a b : List Bool) → length a ≡ length b → word a ≡ word b → a ≡ b
 word-row a b n e = same-list a b n (word-same a b e)
 
-pub words-differ : (d : Wire) (cs : List Loop) (es : List Entry) → Listed d cs es → (i j : ℕ) → i < length es → j < length es → word (entryAt es i .taken) ≡ word (entryAt es j .taken) → i ≡ j
+pub words-differ : (d : Wire) (cs : List Loop) (es : List Entry) → Listed d cs es → (i j : ℕ) → i < length es → j < length es
+    → word (entryAt es i .taken) ≡ word (entryAt es j .taken) → i ≡ j
 words-differ d cs es l i j hi hj e =
     l .once i j hi hj (word-row (entryAt es i .taken) (entryAt es j .taken) (l .each i hi .some ∙ sym (l .each j hj .some)) e)

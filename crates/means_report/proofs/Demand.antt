@@ -41,7 +41,8 @@ module _ (L C W : ℕ) where
   answered-none (x ∷ []) e = absurd (omega (arith, ap kind e))
   answered-none (x ∷ (y ∷ es)) e = absurd (omega (arith, ap kind e))
 
-  answered-one : (es : List Entry) {l c w s : ℕ} → answered L C W es ≡ Conversion.One l c w s → (x : Entry) × (es ≡ x ∷ []) × (s ≡ x .six) × (l ≡ L) × (c ≡ C) × (w ≡ W)
+  answered-one : (es : List Entry) {l c w s : ℕ} → answered L C W es ≡ Conversion.One l c w s → (x : Entry) × (es ≡ x ∷ []) × (s ≡ x .six)
+      × (l ≡ L) × (c ≡ C) × (w ≡ W)
   answered-one [] e = absurd (omega (arith, ap kind e))
   answered-one (x ∷ []) {l} {c} {w} {s} e =
       let a : l ≡ L = cc in
@@ -51,7 +52,8 @@ module _ (L C W : ℕ) where
       (x, refl, z, a, b, y)
   answered-one (x ∷ (y ∷ es)) e = absurd (omega (arith, ap kind e))
 
-  answered-several : (es : List Entry) {l c w n : ℕ} → answered L C W es ≡ Conversion.Several l c w n → (length es ≡ n) × (2 ≤ n) × ((x : Entry) × (ys : List Entry) × (es ≡ x ∷ ys)) × (l ≡ L) × (c ≡ C) × (w ≡ W)
+  answered-several : (es : List Entry) {l c w n : ℕ} → answered L C W es ≡ Conversion.Several l c w n
+      → (length es ≡ n) × (2 ≤ n) × ((x : Entry) × (ys : List Entry) × (es ≡ x ∷ ys)) × (l ≡ L) × (c ≡ C) × (w ≡ W)
   answered-several [] e = absurd (omega (arith, ap kind e))
   answered-several (x ∷ []) e = absurd (omega (arith, ap kind e))
   answered-several (x ∷ (y ∷ es)) {l} {c} {w} {n} e =
@@ -71,7 +73,8 @@ module _ (L C W : ℕ) where
   answered-long (x ∷ []) e = absurd (omega (arith, ap kind e))
   answered-long (x ∷ (y ∷ es)) e = absurd (omega (arith, ap kind e))
 
-module _ (d : Wire) (t : WalkTree d (candidates d)) (limit : ℕ) (faces solids : List ℕ) (r : Converted) (sound : Sound d t limit faces solids r) where
+module _ (d : Wire) (t : WalkTree d (candidates d)) (limit : ℕ) (faces solids : List ℕ) (r : Converted)
+    (sound : Sound d t limit faces solids r) where
   pub all-listed : Listed d (candidates d) (walked d (candidates d) t)
   all-listed = walked-lists d (candidates d) (sound .fair) t
 
@@ -81,7 +84,8 @@ module _ (d : Wire) (t : WalkTree d (candidates d)) (limit : ℕ) (faces solids 
     where
       go : Tells d t limit faces solids r → SaysNone d t limit faces solids r l c w
       go (inl x) =
-          let q = answered-none (length (loops d)) (length (candidates d)) (assumptions t) (walked d (candidates d) t) (sym (x .answer) ∙ e) in
+          let q = answered-none (length (loops d)) (length (candidates d)) (assumptions t) (walked d (candidates d) t)
+          (sym (x .answer) ∙ e) in
           record {
             none = none-listed d (candidates d) (walked d (candidates d) t) all-listed (q .0);
             counts = (q .1, q .2);
@@ -98,7 +102,8 @@ module _ (d : Wire) (t : WalkTree d (candidates d)) (limit : ℕ) (faces solids 
     where
       go : Tells d t limit faces solids r → SaysOne d t limit faces solids r l c w six
       go (inl x) =
-          let q = answered-one (length (loops d)) (length (candidates d)) (assumptions t) (walked d (candidates d) t) (sym (x .answer) ∙ e) in
+          let q = answered-one (length (loops d)) (length (candidates d)) (assumptions t) (walked d (candidates d) t)
+          (sym (x .answer) ∙ e) in
           let one : Listed d (candidates d) (q .0 ∷ []) = subst (Listed d (candidates d)) (q .1) all-listed in
           record {
             taken = q .0 .taken;
@@ -109,7 +114,9 @@ module _ (d : Wire) (t : WalkTree d (candidates d)) (limit : ℕ) (faces solids 
             works = q .5;
             within = omega (arith, q .5, x .short);
             faces-left = x .faces-left ∙ ap (facesFor (candidates d) faces) (q .1);
-            solids-left = x .solids-left ∙ ap (solidsFor solids) (q .1) ∙ ap (λ (n : ℕ). word (q .0 .taken) ∷ word (q .0 .turned) ∷ n ∷ drop 3 solids) (sym (q .2));
+            solids-left =
+                x .solids-left ∙ ap (solidsFor solids) (q .1)
+                ∙ ap (λ (n : ℕ). word (q .0 .taken) ∷ word (q .0 .turned) ∷ n ∷ drop 3 solids) (sym (q .2));
           }
         where
           alone : (x : Entry) (taken′ : List Bool) (i : ℕ) → i < length (x ∷ []) → entryAt (x ∷ []) i .taken ≡ taken′ → taken′ ≡ x .taken
@@ -123,7 +130,8 @@ module _ (d : Wire) (t : WalkTree d (candidates d)) (limit : ℕ) (faces solids 
     where
       go : Tells d t limit faces solids r → SaysSeveral d t limit faces solids r l c w n
       go (inl x) =
-          let q = answered-several (length (loops d)) (length (candidates d)) (assumptions t) (walked d (candidates d) t) (sym (x .answer) ∙ e) in
+          let q = answered-several (length (loops d)) (length (candidates d)) (assumptions t) (walked d (candidates d) t)
+          (sym (x .answer) ∙ e) in
           record {
             listed = all-listed;
             how-many = q .0;
@@ -142,20 +150,30 @@ module _ (d : Wire) (t : WalkTree d (candidates d)) (limit : ℕ) (faces solids 
   says-many {l} {c} {w} e = go (sound .tells)
     where
       go : Tells d t limit faces solids r → SaysMany d t limit faces solids r l c w
-      go (inl x) = answered-many (length (loops d)) (length (candidates d)) (assumptions t) (walked d (candidates d) t) (sym (x .answer) ∙ e)
+      go (inl x) =
+          answered-many (length (loops d)) (length (candidates d)) (assumptions t) (walked d (candidates d) t) (sym (x .answer) ∙ e)
       go (inr (inl x)) =
-          let p : Conversion.Many l c w ≡ Conversion.Many (length (loops d)) (length (candidates d)) (workToNinth d t) = sym e ∙ x .answer in
+          let p : Conversion.Many l c w ≡ Conversion.Many (length (loops d)) (length (candidates d)) (workToNinth d t) = sym e
+          ∙ x .answer in
           let a : l ≡ length (loops d) = cc in
           let b : c ≡ length (candidates d) = cc in
           let z : w ≡ workToNinth d t = cc in
-          record { listed = all-listed; nine = x .nine; counts = (a, b); works = z; within = omega (arith, x .short); kept = (x .faces-left, x .solids-left) }
+          record {
+            listed = all-listed;
+            nine = x .nine;
+            counts = (a, b);
+            works = z;
+            within = omega (arith, x .short);
+            kept = (x .faces-left, x .solids-left);
+          }
       go (inr (inr x)) = absurd (omega (arith, ap kind (sym (x .answer) ∙ e)))
 
   pub says-long : {l c w : ℕ} → r .answer ≡ Conversion.TooLong l c w → SaysLong d t limit faces solids r l c w
   says-long {l} {c} {w} e = go (sound .tells)
     where
       go : Tells d t limit faces solids r → SaysLong d t limit faces solids r l c w
-      go (inl x) = answered-long (length (loops d)) (length (candidates d)) (assumptions t) (walked d (candidates d) t) (sym (x .answer) ∙ e)
+      go (inl x) =
+          answered-long (length (loops d)) (length (candidates d)) (assumptions t) (walked d (candidates d) t) (sym (x .answer) ∙ e)
       go (inr (inl x)) = absurd (omega (arith, ap kind (sym (x .answer) ∙ e)))
       go (inr (inr x)) =
           let p : Conversion.TooLong l c w ≡ Conversion.TooLong (length (loops d)) (length (candidates d)) limit = sym e ∙ x .answer in

@@ -17,7 +17,8 @@ next-at : (l : Loop) (i : ℕ) → i < length l
 unfolding around
 next-at l i h = go (ℕ-discrete (suc i) (length l))
   where
-    go : Dec (suc i ≡ length l) → (j : ℕ) × (j < length l) × (around l (suc i) 0 ≡ getD l j 0) × ((suc i ≡ j) ⊎ ((suc i ≡ length l) × (j ≡ 0)))
+    go : Dec (suc i ≡ length l) → (j : ℕ) × (j < length l) × (around l (suc i) 0 ≡ getD l j 0)
+        × ((suc i ≡ j) ⊎ ((suc i ≡ length l) × (j ≡ 0)))
     go (yes e) = (0, omega arith, wraps, inr (e, refl))
       where
         wraps : around l (suc i) 0 ≡ getD l 0 0
@@ -28,8 +29,10 @@ pub one-way : (a b : ℕ) (l : Loop) → Proper l → Goes l a b → Goes l b a 
 one-way a b l p g h =
     let m = next-at l (g .at) (g .here) in
     let n = next-at l (h .at) (h .here) in
-    let u : m .0 ≡ h .at = p .different (m .0) (h .at) (m .1) (h .here) (sym (m .2) ∙ sym (g .to) ∙ h .from ∙ around-low l (h .at) 0 (h .here)) in
-    let v : n .0 ≡ g .at = p .different (n .0) (g .at) (n .1) (g .here) (sym (n .2) ∙ sym (h .to) ∙ g .from ∙ around-low l (g .at) 0 (g .here)) in
+    let u : m .0 ≡ h .at = p .different (m .0) (h .at) (m .1) (h .here)
+    (sym (m .2) ∙ sym (g .to) ∙ h .from ∙ around-low l (h .at) 0 (h .here)) in
+    let v : n .0 ≡ g .at = p .different (n .0) (g .at) (n .1) (g .here)
+    (sym (n .2) ∙ sym (h .to) ∙ g .from ∙ around-low l (g .at) 0 (g .here)) in
     cases (g .at) (h .at) (m .0) (n .0) (length l) u v (p .three) (m .3) (n .3)
   where
     cases : (i j x y n : ℕ) → x ≡ j → y ≡ i → 3 ≤ n → (suc i ≡ x) ⊎ ((suc i ≡ n) × (x ≡ 0)) → (suc j ≡ y) ⊎ ((suc j ≡ n) × (y ≡ 0)) → ⊥

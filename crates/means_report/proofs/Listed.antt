@@ -33,13 +33,15 @@ exact-two : (masks : List (List Bool)) (x : List Status) → exact masks x ≡ t
 unfolding exact
 exact-two [] x e mask i = absurd i
 exact-two (r ∷ masks) x e mask (inl q) =
-    ap (λ (l : List Bool). count (both l (takens x))) q ∙ count-takens r x ∙ eqb-true (takenOn r x) 2 (and-left (eqb (takenOn r x) 2) (exact masks x) e)
+    ap (λ (l : List Bool). count (both l (takens x))) q ∙ count-takens r x
+    ∙ eqb-true (takenOn r x) 2 (and-left (eqb (takenOn r x) 2) (exact masks x) e)
 exact-two (r ∷ masks) x e mask (inr i) = exact-two masks x (and-right (eqb (takenOn r x) 2) (exact masks x) e) mask i
 
 two-exact : (masks : List (List Bool)) (x : List Status) → Rows.InTwo masks (takens x) → exact masks x ≡ true
 unfolding exact
 two-exact [] x h = refl
-two-exact (r ∷ masks) x h = ap₂ _&&_ (eq-eqb (takenOn r x) 2 (sym (count-takens r x) ∙ h r (inl refl))) (two-exact masks x (λ mask i. h mask (inr i)))
+two-exact (r ∷ masks) x h =
+    ap₂ _&&_ (eq-eqb (takenOn r x) 2 (sym (count-takens r x) ∙ h r (inl refl))) (two-exact masks x (λ mask i. h mask (inr i)))
 
 solid-of : (j : Judgement) → isSolid j ≡ true → j ≡ Solid (turnedOf j) (sixOf j)
 solid-of Fails e = absurd (true≢false (sym e))
@@ -49,7 +51,9 @@ module _ (d : Wire) (cs : List Loop) (ok : Fair d cs) (t : WalkTree d cs) where
   abbrev found : List (List Status)
   found = filter (accepted (tablesOf d cs)) (leaves t)
 
-  how-often : (x : List Status) → times x found ≡ cond (accepted (tablesOf d cs) x) (bit (agrees (replicate (length cs) Undecided) x && exact (tablesOf d cs .masks) x)) 0
+  how-often : (x : List Status)
+      → times x found ≡ cond (accepted (tablesOf d cs) x)
+      (bit (agrees (replicate (length cs) Undecided) x && exact (tablesOf d cs .masks) x)) 0
   how-often x = leaves-once (accepted (tablesOf d cs)) (length cs) (tablesOf d cs .masks) t x
 
   -- what is found passes
@@ -59,9 +63,12 @@ module _ (d : Wire) (cs : List Loop) (ok : Fair d cs) (t : WalkTree d cs) where
     pub two : exact (tablesOf d cs .masks) x ≡ true
 
   found-passes : (x : List Status) → 0 < times x found → Passes x
-  found-passes x h = go (accepted (tablesOf d cs) x) refl (agrees (replicate (length cs) Undecided) x) refl (exact (tablesOf d cs .masks) x) refl (subst (λ (m : ℕ). 0 < m) (how-often x) h)
+  found-passes x h =
+      go (accepted (tablesOf d cs) x) refl (agrees (replicate (length cs) Undecided) x) refl (exact (tablesOf d cs .masks) x) refl
+      (subst (λ (m : ℕ). 0 < m) (how-often x) h)
     where
-      go : (a : Bool) → accepted (tablesOf d cs) x ≡ a → (b : Bool) → agrees (replicate (length cs) Undecided) x ≡ b → (c : Bool) → exact (tablesOf d cs .masks) x ≡ c → 0 < cond a (bit (b && c)) 0 → Passes x
+      go : (a : Bool) → accepted (tablesOf d cs) x ≡ a → (b : Bool) → agrees (replicate (length cs) Undecided) x ≡ b → (c : Bool)
+          → exact (tablesOf d cs .masks) x ≡ c → 0 < cond a (bit (b && c)) 0 → Passes x
       go true p true q true r h = record { accepts = p; whole = q; two = r }
       go true p true q false r h = absurd (omega arith)
       go true p false q c r h = absurd (omega arith)
@@ -71,7 +78,9 @@ module _ (d : Wire) (cs : List Loop) (ok : Fair d cs) (t : WalkTree d cs) where
   passes-found x p = how-often x ∙ (λ i. cond (p .accepts i) (bit (p .whole i && p .two i)) 0)
 
   at-most-once : (x : List Status) → times x found ≤ 1
-  at-most-once x = subst (λ (m : ℕ). m ≤ 1) (sym (how-often x)) (low (accepted (tablesOf d cs) x) (agrees (replicate (length cs) Undecided) x && exact (tablesOf d cs .masks) x))
+  at-most-once x =
+      subst (λ (m : ℕ). m ≤ 1) (sym (how-often x))
+      (low (accepted (tablesOf d cs) x) (agrees (replicate (length cs) Undecided) x && exact (tablesOf d cs .masks) x))
     where
       low : (a b : Bool) → cond a (bit b) 0 ≤ 1
       low true true = omega arith
@@ -79,7 +88,8 @@ module _ (d : Wire) (cs : List Loop) (ok : Fair d cs) (t : WalkTree d cs) where
       low false b = omega arith
 
   -- a selection that passes is a solid
-  passes-solid : (x : List Status) → Passes x → IsSolid d cs (takens x) (turnedOf (judged (tablesOf d cs) (takens x))) (sixOf (judged (tablesOf d cs) (takens x)))
+  passes-solid : (x : List Status) → Passes x
+      → IsSolid d cs (takens x) (turnedOf (judged (tablesOf d cs) (takens x))) (sixOf (judged (tablesOf d cs) (takens x)))
   unfolding accepted tablesOf
   passes-solid x p =
       judged-is d cs ok (takens x) (agrees-state (length cs) x (p .whole) .1)
@@ -94,12 +104,16 @@ module _ (d : Wire) (cs : List Loop) (ok : Fair d cs) (t : WalkTree d cs) where
       record {
         accepts = ap (λ (b : List Bool). isSolid (judged (tablesOf d cs) b)) (takens-state taken) ∙ ap isSolid (j .1);
         whole = subst (λ (m : ℕ). agrees (replicate m Undecided) (stateOf taken) ≡ true) (s .some) (state-agrees taken);
-        two = two-exact (tablesOf d cs .masks) (stateOf taken) (subst (λ (b : List Bool). Rows.InTwo (tablesOf d cs .masks) b) (sym (takens-state taken)) (two-rows d cs taken turned (s .i)));
+        two =
+            two-exact (tablesOf d cs .masks) (stateOf taken)
+            (subst (λ (b : List Bool). Rows.InTwo (tablesOf d cs .masks) b) (sym (takens-state taken))
+            (two-rows d cs taken turned (s .i)));
       }
 
   -- of the selections that the walk comes to, those are accepted that are solids
   pub leaf-solid : (i : ℕ) → i < length (leaves t)
-      → (accepted (tablesOf d cs) (getD (leaves t) i []) ≡ true) ↔ ((turned : List Bool) × (six : ℕ) × IsSolid d cs (takens (getD (leaves t) i [])) turned six)
+      → (accepted (tablesOf d cs) (getD (leaves t) i []) ≡ true)
+      ↔ ((turned : List Bool) × (six : ℕ) × IsSolid d cs (takens (getD (leaves t) i [])) turned six)
   unfolding accepted
   leaf-solid i h = (
     λ a. (
@@ -110,10 +124,12 @@ module _ (d : Wire) (cs : List Loop) (ok : Fair d cs) (t : WalkTree d cs) where
     λ s. ap isSolid (is-judged d cs ok (takens (getD (leaves t) i [])) (s .2 .some) (s .2) .1),
   )
     where
-      both-true : (agrees (replicate (length cs) Undecided) (getD (leaves t) i []) ≡ true) × (exact (tablesOf d cs .masks) (getD (leaves t) i []) ≡ true)
+      both-true : (agrees (replicate (length cs) Undecided) (getD (leaves t) i []) ≡ true)
+          × (exact (tablesOf d cs .masks) (getD (leaves t) i []) ≡ true)
       both-true =
           split (agrees (replicate (length cs) Undecided) (getD (leaves t) i [])) (exact (tablesOf d cs .masks) (getD (leaves t) i []))
-          (subst (λ (m : ℕ). 0 < m) (leaves-all (accepted (tablesOf d cs)) (length cs) (tablesOf d cs .masks) t (getD (leaves t) i [])) (at-times (leaves t) (getD (leaves t) i []) i h refl))
+          (subst (λ (m : ℕ). 0 < m) (leaves-all (accepted (tablesOf d cs)) (length cs) (tablesOf d cs .masks) t (getD (leaves t) i []))
+          (at-times (leaves t) (getD (leaves t) i []) i h refl))
         where
           split : (x y : Bool) → 0 < bit (x && y) → (x ≡ true) × (y ≡ true)
           split true true p = (refl, refl)
@@ -136,19 +152,23 @@ module _ (d : Wire) (cs : List Loop) (ok : Fair d cs) (t : WalkTree d cs) where
   walked-lists = record {
     each = λ i h.
         let l : i < length found = omega (arith, length-walked) in
-        subst (λ (e : Entry). IsSolid d cs (e .taken) (e .turned) (e .six)) (sym (at-walked i l)) (passes-solid (getD found i []) (passes-at i l));
+        subst (λ (e : Entry). IsSolid d cs (e .taken) (e .turned) (e .six)) (sym (at-walked i l))
+        (passes-solid (getD found i []) (passes-at i l));
     there = λ {taken} {turned} {six} s. here taken turned six s;
     once = λ i j hi hj e.
         let li : i < length found = omega (arith, length-walked) in
         let lj : j < length found = omega (arith, length-walked) in
-        let p : takens (getD found i []) ≡ takens (getD found j []) = sym (ap (λ (x : Entry). x .taken) (at-walked i li)) ∙ e ∙ ap (λ (x : Entry). x .taken) (at-walked j lj) in
+        let p : takens (getD found i []) ≡ takens (getD found j []) = sym (ap (λ (x : Entry). x .taken) (at-walked i li)) ∙ e
+        ∙ ap (λ (x : Entry). x .taken) (at-walked j lj) in
         let q : getD found j [] ≡ getD found i [] =
-        agrees-state (length cs) (getD found j []) (passes-at j lj .whole) .0 ∙ sym (ap stateOf p) ∙ sym (agrees-state (length cs) (getD found i []) (passes-at i li .whole) .0) in
+        agrees-state (length cs) (getD found j []) (passes-at j lj .whole) .0 ∙ sym (ap stateOf p)
+        ∙ sym (agrees-state (length cs) (getD found i []) (passes-at i li .whole) .0) in
         times-one found (getD found i []) (at-most-once (getD found i [])) i j li lj refl q;
   }
     where
       here : (taken turned : List Bool) (six : ℕ) → IsSolid d cs taken turned six
-          → (i : ℕ) × (i < length (walked d cs t)) × (entryAt (walked d cs t) i .taken ≡ taken) × Same (entryAt (walked d cs t) i .turned) turned × (entryAt (walked d cs t) i .six ≡ six)
+          → (i : ℕ) × (i < length (walked d cs t)) × (entryAt (walked d cs t) i .taken ≡ taken) × Same (entryAt (walked d cs t) i .turned)
+          turned × (entryAt (walked d cs t) i .six ≡ six)
       here taken turned six s =
           let j = is-judged d cs ok taken (s .some) s in
           let r = times-at (stateOf taken) found (omega (arith, passes-found (stateOf taken) (solid-passes s))) in

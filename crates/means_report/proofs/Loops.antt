@@ -19,7 +19,8 @@ use Rattle.lists.proofs.Lowest.{lowest-none}
 use Rattle.paper.specs.Numbers.{mostCorners}
 use Rattle.paper.specs.Points.{origin, minus, dot, isZero, isOrigin, samePoint}
 use Rattle.paper.specs.Drawing.{Wire, at, joined, samePlace}
-use Rattle.paper.specs.Loops.{Loop, loopAt, final, follows, closes, branch, scan, ext, tilt, tilted, across, level, loops, polygon, coversOther, uncovering, candidates}
+use Rattle.paper.specs.Loops.{Loop, loopAt, final, follows, closes, branch, scan, ext, tilt, tilted, across, level, loops, polygon}
+use Rattle.paper.specs.Loops.{coversOther, uncovering, candidates}
 use Rattle.paper.specs.declared.Point.{Point}
 use Rattle.means_clash.specs.Flat.{Flat}
 use Rattle.means_clash.proofs.Planes.{yes-zero, none-dot}
@@ -42,7 +43,8 @@ all-at P d [] p k h = absurd (omega arith)
 all-at P d (x ∷ xs) p zero h = p .0
 all-at P d (x ∷ xs) p (suc k) h = all-at P d xs (p .1) k (omega arith)
 
-all-map : {A B : Type 0} (P : A → Type 0) (Q : B → Type 0) (f : A → B) → ((x : A) → P x → Q (f x)) → (xs : List A) → All P xs → All Q (map f xs)
+all-map : {A B : Type 0} (P : A → Type 0) (Q : B → Type 0) (f : A → B) → ((x : A) → P x → Q (f x)) → (xs : List A) → All P xs
+    → All Q (map f xs)
 unfolding All
 all-map P Q f h [] p = tt
 all-map P Q f h (x ∷ xs) p = (h x (p .0), all-map P Q f h xs (p .1))
@@ -89,7 +91,8 @@ longer p v n d i j hi hj e = go (decLt i (length p)) (decLt j (length p))
     go (no a) (yes b) = absurd (n j b (sym (end i (last i a hi)) ∙ e ∙ at j b))
     go (no a) (no b) = last i a hi ∙ sym (last j b hj)
 
-inside-longer : (m : ℕ) (p : List ℕ) (v : ℕ) → v < m → ((i : ℕ) → i < length p → getD p i 0 < m) → (i : ℕ) → i < length (p ++ v ∷ []) → getD (p ++ v ∷ []) i 0 < m
+inside-longer : (m : ℕ) (p : List ℕ) (v : ℕ) → v < m → ((i : ℕ) → i < length p → getD p i 0 < m) → (i : ℕ) → i < length (p ++ v ∷ [])
+    → getD (p ++ v ∷ []) i 0 < m
 inside-longer m [] v h f zero l = h
 inside-longer m [] v h f (suc i) l = absurd (omega arith)
 inside-longer m (x ∷ p) v h f zero l = f 0 (omega arith)
@@ -100,20 +103,28 @@ module _ (n : ℕ) (linked : ℕ → ℕ → Bool) (lev : List ℕ → ℕ → B
   unfolding follows
   follows-new p v f d = longer p v (λ i h e. go (eqb (length p) 0) refl f i h e) d
     where
-      go : (b : Bool) → eqb (length p) 0 ≡ b → (b || (ltb (getD p 0 0) v && linked (final p) v && not (member v p) && lev p v)) ≡ true → (i : ℕ) → i < length p → v ≡ getD p i 0 → ⊥
+      go : (b : Bool) → eqb (length p) 0 ≡ b → (b || (ltb (getD p 0 0) v && linked (final p) v && not (member v p) && lev p v)) ≡ true
+          → (i : ℕ) → i < length p → v ≡ getD p i 0 → ⊥
       go true z f i h e = let q : length p ≡ 0 = eqb-true (length p) 0 z in omega arith
       go false z f i h e =
-          new p v (not-true (member v p) (and-right (ltb (getD p 0 0) v && linked (final p) v) (not (member v p)) (and-left (ltb (getD p 0 0) v && linked (final p) v && not (member v p)) (lev p v) f))) i h e
+          new p v
+          (not-true (member v p)
+          (and-right (ltb (getD p 0 0) v && linked (final p) v) (not (member v p))
+          (and-left (ltb (getD p 0 0) v && linked (final p) v && not (member v p)) (lev p v) f))) i h e
 
   follows-level : (x : ℕ) (p : List ℕ) (v : ℕ) → follows n linked lev (x ∷ p) v ≡ true → lev (x ∷ p) v ≡ true
   unfolding follows
   follows-level x p v f =
       and-right (ltb x v && linked (final (x ∷ p)) v && not (member v (x ∷ p))) (lev (x ∷ p) v)
-      (ap (λ (b : Bool). b || (ltb x v && linked (final (x ∷ p)) v && not (member v (x ∷ p)) && lev (x ∷ p) v)) (sym (ne-eqb (length (x ∷ p)) 0 (λ z. absurd (omega arith)))) ∙ f)
+      (ap (λ (b : Bool). b || (ltb x v && linked (final (x ∷ p)) v && not (member v (x ∷ p)) && lev (x ∷ p) v))
+      (sym (ne-eqb (length (x ∷ p)) 0 (λ z. absurd (omega arith)))) ∙ f)
 
   closes-three : (p : List ℕ) → closes n linked lev p ≡ true → 3 ≤ length p
   unfolding closes
-  closes-three p c = leb-true 3 (length p) (and-left (leb 3 (length p)) (ltb (getD p 1 0) (final p)) (and-left (leb 3 (length p) && ltb (getD p 1 0) (final p)) (linked (final p) (getD p 0 0)) c))
+  closes-three p c =
+      leb-true 3 (length p)
+      (and-left (leb 3 (length p)) (ltb (getD p 1 0) (final p))
+      (and-left (leb 3 (length p) && ltb (getD p 1 0) (final p)) (linked (final p) (getD p 0 0)) c))
 
   closes-back : (p : List ℕ) → closes n linked lev p ≡ true → linked (final p) (getD p 0 0) ≡ true
   unfolding closes
@@ -124,7 +135,8 @@ module _ (n : ℕ) (linked : ℕ → ℕ → Bool) (lev : List ℕ → ℕ → B
     abbrev Good : Loop → Type 0
     Good q = P q × (closes n linked lev q ≡ true)
 
-    branch-good : (b : Bool) (deeper : List ℕ → List Loop) (q : List ℕ) → (b ≡ true → P q) → (P q → All Good (deeper q)) → All Good (branch n linked lev b deeper q)
+    branch-good : (b : Bool) (deeper : List ℕ → List Loop) (q : List ℕ) → (b ≡ true → P q) → (P q → All Good (deeper q))
+        → All Good (branch n linked lev b deeper q)
     unfolding All branch
     branch-good false deeper q d f = tt
     branch-good true deeper q d f = go (closes n linked lev q) refl
@@ -133,7 +145,8 @@ module _ (n : ℕ) (linked : ℕ → ℕ → Bool) (lev : List ℕ → ℕ → B
         go true e = ((d refl, e), f (d refl))
         go false e = f (d refl)
 
-    scan-good : (deeper : List ℕ → List Loop) → ((q : List ℕ) → P q → All Good (deeper q)) → (p : List ℕ) → P p → (v k : ℕ) → v + k ≤ n → All Good (scan n linked lev deeper p v k)
+    scan-good : (deeper : List ℕ → List Loop) → ((q : List ℕ) → P q → All Good (deeper q)) → (p : List ℕ) → P p → (v k : ℕ) → v + k ≤ n
+        → All Good (scan n linked lev deeper p v k)
     unfolding All scan
     scan-good deeper f p d v zero h = tt
     scan-good deeper f p d v (suc k) h =
@@ -173,19 +186,25 @@ two-places : (d : Wire) (x y : ℕ) → samePoint (at d y) (at d x) ≡ false �
 unfolding samePoint
 two-places d x y e = e
 
-tests-longer : (d : Wire) (p : List ℕ) (v : ℕ) → follows (length (d .vertices)) (joined d) (level d) p v ≡ true → Tests (at d (getD p 0 0)) (at d (getD p 1 0)) origin (map (at d) p)
+tests-longer : (d : Wire) (p : List ℕ) (v : ℕ) → follows (length (d .vertices)) (joined d) (level d) p v ≡ true
+    → Tests (at d (getD p 0 0)) (at d (getD p 1 0)) origin (map (at d) p)
     → Tests (at d (getD (p ++ v ∷ []) 0 0)) (at d (getD (p ++ v ∷ []) 1 0)) origin (map (at d) (p ++ v ∷ []))
 unfolding Tests
 tests-longer d [] v f t = (none-yes (minus (at d v) (at d v)), tt)
-tests-longer d (x ∷ []) v f t = (none-yes (minus (at d x) (at d x)), (yes-zero (dot (tilt (at d x) (at d v) origin (at d x)) (minus (at d v) (at d x))) (start (at d x) (at d v)), tt))
+tests-longer d (x ∷ []) v f t = (
+  none-yes (minus (at d x) (at d x)),
+  (yes-zero (dot (tilt (at d x) (at d v) origin (at d x)) (minus (at d v) (at d x))) (start (at d x) (at d v)), tt),
+)
   where
     start : (s b : Point) → dot (tilt s b origin s) (minus b s) ≡ pos 0
     start s b = ap (λ (n : Point). dot n (minus b s)) (tilt-none s b origin s origin-is) ∙ first-zero (minus b s) (minus s s)
 tests-longer d (x ∷ (y ∷ p)) v f t =
     subst (λ (l : List Point). Tests (at d x) (at d y) origin l) (sym (map-more (at d) (x ∷ (y ∷ p)) v))
-    (tests-more (at d x) (at d y) origin (map (at d) (x ∷ (y ∷ p))) (at d v) t (level-is d x y p v (follows-level (length (d .vertices)) (joined d) (level d) x (y ∷ p) v f)))
+    (tests-more (at d x) (at d y) origin (map (at d) (x ∷ (y ∷ p))) (at d v) t
+    (level-is d x y p v (follows-level (length (d .vertices)) (joined d) (level d) x (y ∷ p) v f)))
 
-path-longer : (d : Wire) (p : List ℕ) (v : ℕ) → v < length (d .vertices) → follows (length (d .vertices)) (joined d) (level d) p v ≡ true → Path d p → Path d (p ++ v ∷ [])
+path-longer : (d : Wire) (p : List ℕ) (v : ℕ) → v < length (d .vertices) → follows (length (d .vertices)) (joined d) (level d) p v ≡ true
+    → Path d p → Path d (p ++ v ∷ [])
 path-longer d p v h f q = record {
   different = follows-new (length (d .vertices)) (joined d) (level d) p v f (q .different);
   inside = inside-longer (length (d .vertices)) p v h (q .inside);
@@ -216,8 +235,10 @@ candidates-good : (d : Wire) (k : ℕ) → k < length (candidates d) → GoodIn 
 unfolding candidates uncovering upto
 candidates-good d k h =
     all-at (GoodIn d) [] (map (loopAt (loops d)) (filter (λ i. not (coversOther d (loops d) i)) (from 0 (length (loops d)))))
-    (all-map (λ j. j < length (loops d)) (GoodIn d) (loopAt (loops d)) (λ j l. loops-good d j l) (filter (λ i. not (coversOther d (loops d) i)) (from 0 (length (loops d))))
-    (all-filter (λ j. j < length (loops d)) (λ i. not (coversOther d (loops d) i)) (from 0 (length (loops d))) (from-below (length (loops d)) 0 (length (loops d)) (omega arith))))
+    (all-map (λ j. j < length (loops d)) (GoodIn d) (loopAt (loops d)) (λ j l. loops-good d j l)
+    (filter (λ i. not (coversOther d (loops d) i)) (from 0 (length (loops d))))
+    (all-filter (λ j. j < length (loops d)) (λ i. not (coversOther d (loops d) i)) (from 0 (length (loops d)))
+    (from-below (length (loops d)) 0 (length (loops d)) (omega arith))))
     k h
 
 good-proper : (d : Wire) (q : Loop) → GoodIn d q → Proper q
@@ -230,16 +251,20 @@ loops-proper d k h = good-proper d (loopAt (loops d) k) (loops-good d k h)
 pub candidates-proper : (d : Wire) → AllProper (candidates d)
 candidates-proper d k h = good-proper d (loopAt (candidates d) k) (candidates-good d k h)
 
-pub candidates-closed : (d : Wire) (k : ℕ) → k < length (candidates d) → joined d (final (loopAt (candidates d) k)) (getD (loopAt (candidates d) k) 0 0) ≡ true
+pub candidates-closed : (d : Wire) (k : ℕ) → k < length (candidates d)
+    → joined d (final (loopAt (candidates d) k)) (getD (loopAt (candidates d) k) 0 0) ≡ true
 candidates-closed d k h = closes-back (length (d .vertices)) (joined d) (level d) (loopAt (candidates d) k) (candidates-good d k h .1)
 
 -- ---- where no two vertices are at one place, each candidate lies in its plane
-apart-at : (d : Wire) → samePlace d ≡ none → (u v : ℕ) → u < length (d .vertices) → v < length (d .vertices) → (u ≡ v → ⊥) → samePoint (at d u) (at d v) ≡ false
+apart-at : (d : Wire) → samePlace d ≡ none → (u v : ℕ) → u < length (d .vertices) → v < length (d .vertices) → (u ≡ v → ⊥)
+    → samePoint (at d u) (at d v) ≡ false
 unfolding samePlace
 apart-at d s u v hu hv n = go (samePoint (at d u) (at d v)) refl
   where
     here : any (λ w. not (eqb u w) && samePoint (at d u) (at d w)) (upto (length (d .vertices))) ≡ false
-    here = lowest-none (λ u. any (λ v. not (eqb u v) && samePoint (at d u) (at d v)) (upto (length (d .vertices)))) (length (d .vertices)) s u hu
+    here =
+        lowest-none (λ u. any (λ v. not (eqb u v) && samePoint (at d u) (at d v)) (upto (length (d .vertices)))) (length (d .vertices)) s
+        u hu
 
     go : (b : Bool) → samePoint (at d u) (at d v) ≡ b → b ≡ false
     go false e = refl
@@ -253,7 +278,8 @@ good-flat d s [] g = absurd (let h = closes-three (length (d .vertices)) (joined
 good-flat d s (x ∷ []) g = absurd (let h = closes-three (length (d .vertices)) (joined d) (level d) (x ∷ []) (g .1) in omega arith)
 good-flat d s (x ∷ (y ∷ p)) g =
     tests-flat (at d x) (at d y) (map (at d) (y ∷ p)) (two-places d x y
-    (apart-at d s y x (g .0 .inside 1 (omega arith)) (g .0 .inside 0 (omega arith)) (λ e. absurd (let z : 1 ≡ 0 = g .0 .different 1 0 (omega arith) (omega arith) e in omega arith)))) (g .0 .tests)
+    (apart-at d s y x (g .0 .inside 1 (omega arith)) (g .0 .inside 0 (omega arith))
+    (λ e. absurd (let z : 1 ≡ 0 = g .0 .different 1 0 (omega arith) (omega arith) e in omega arith)))) (g .0 .tests)
 
 pub candidates-flat : (d : Wire) → samePlace d ≡ none → (k : ℕ) → k < length (candidates d) → Flat (polygon d (loopAt (candidates d) k))
 candidates-flat d s k h = good-flat d s (loopAt (candidates d) k) (candidates-good d k h)

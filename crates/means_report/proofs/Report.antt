@@ -41,7 +41,8 @@ unfolding solidsAfter solidsFor
 solids-told t l solids = ap₂ (λ (a : List ℕ) (n : ℕ). a ++ drop (solidWords * n) solids) (flat-words t l) (sym (length-map l (entry t)))
 
 module _ (l : ℕ) (cs : List Loop) (t : Tables) (work : ℕ) (faces solids : List ℕ) where
-  reported-answer : (found : List (List Status)) → reported l cs t work found faces solids .answer ≡ answered l (length cs) work (map (entry t) found)
+  reported-answer : (found : List (List Status)) → reported l cs t work found faces solids .answer ≡ answered l (length cs) work
+      (map (entry t) found)
   unfolding reported
   reported-answer [] = refl
   reported-answer (x ∷ []) = refl
@@ -55,7 +56,8 @@ module _ (l : ℕ) (cs : List Loop) (t : Tables) (work : ℕ) (faces solids : Li
   reported-faces (x ∷ []) = refl
   reported-faces (x ∷ (y ∷ found)) = refl
 
-  reported-solids : (found : List (List Status)) → reported l cs t work found faces solids .solids ≡ solidsFor solids (map (entry t) found)
+  reported-solids : (found : List (List Status))
+      → reported l cs t work found faces solids .solids ≡ solidsFor solids (map (entry t) found)
   unfolding reported solidsFor flatMap
   reported-solids [] = refl
   reported-solids (x ∷ []) = solids-told t (x ∷ []) solids
@@ -67,11 +69,17 @@ module _ (l : ℕ) (cs : List Loop) (t : Tables) (log : Log) (faces solids : Lis
   unfolding concluded
   concluded-zero e = rw e
 
-  concluded-many : log .ended ≡ No.Many → concluded l cs t log faces solids ≡ record { answer = Conversion.Many l (length cs) (log .work); faces = faces; solids = solids }
+  concluded-many : log .ended ≡ No.Many
+      → concluded l cs t log faces solids ≡ record { answer = Conversion.Many l (length cs) (log .work); faces = faces; solids = solids }
   unfolding concluded
   concluded-many e = rw e
 
-  concluded-long : log .ended ≡ No.TooLong → concluded l cs t log faces solids ≡ record { answer = Conversion.TooLong l (length cs) (log .work); faces = faces; solids = solids }
+  concluded-long : log .ended ≡ No.TooLong
+      → concluded l cs t log faces solids ≡ record {
+        answer = Conversion.TooLong l (length cs) (log .work);
+        faces = faces;
+        solids = solids;
+      }
   unfolding concluded
   concluded-long e = rw e
 
@@ -123,11 +131,16 @@ module _ (d : Wire) (t : WalkTree d (candidates d)) (limit : ℕ) (faces solids 
       record {
         few = omega (arith, w .few, length-map (filter (accepted tb) (leaves t)) (entry tb));
         short = w .short;
-        answer = ap (λ (r : Converted). r .answer) c ∙ reported-answer (length (loops d)) (candidates d) tb (log .work) faces solids (log .found)
+        answer =
+            ap (λ (r : Converted). r .answer) c ∙ reported-answer (length (loops d)) (candidates d) tb (log .work) faces solids
+            (log .found)
             ∙ ap₂ (λ (n : ℕ) (es : List Entry). answered (length (loops d)) (length (candidates d)) n es) (w .work) f;
-        faces-left = ap (λ (r : Converted). r .faces) c ∙ reported-faces (length (loops d)) (candidates d) tb (log .work) faces solids (log .found)
+        faces-left =
+            ap (λ (r : Converted). r .faces) c ∙ reported-faces (length (loops d)) (candidates d) tb (log .work) faces solids (log .found)
             ∙ ap (facesFor (candidates d) faces) f;
-        solids-left = ap (λ (r : Converted). r .solids) c ∙ reported-solids (length (loops d)) (candidates d) tb (log .work) faces solids (log .found)
+        solids-left =
+            ap (λ (r : Converted). r .solids) c ∙ reported-solids (length (loops d)) (candidates d) tb (log .work) faces solids
+            (log .found)
             ∙ ap (solidsFor solids) f;
       }
 
@@ -165,7 +178,8 @@ module _ (d : Wire) (t : WalkTree d (candidates d)) (limit : ℕ) (faces solids 
 
   -- a drawing with no refusal 1 to 16
   abbrev pub Unrefused : List Check → Type 0
-  Unrefused form = firstOf (entryChecks limit faces solids ++ form ++ drawingChecks d ++ loopChecks (loops d) (candidates d)) ≡ Answer.Fine
+  Unrefused form =
+      firstOf (entryChecks limit faces solids ++ form ++ drawingChecks d ++ loopChecks (loops d) (candidates d)) ≡ Answer.Fine
 
   pub conversion-tells : (form : List Check) → Unrefused form → Tells (conversion mostSolids form d limit faces solids)
   unfolding conversion candidates

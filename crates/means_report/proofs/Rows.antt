@@ -85,21 +85,31 @@ module _ (d : Wire) (cs : List Loop) (taken turned : List Bool) where
       })
 
   -- ---- (iii)
-  run-told : (k a b : ℕ) → (dig taken k && cond (dig turned k) (runs b a (loopAt cs k)) (runs a b (loopAt cs k))) ≡ true → Face d cs taken turned k × Runs d cs taken turned k a b
-  run-told k a b h = (and-left (dig taken k) (cond (dig turned k) (runs b a (loopAt cs k)) (runs a b (loopAt cs k))) h, go (dig turned k) (and-right (dig taken k) (cond (dig turned k) (runs b a (loopAt cs k)) (runs a b (loopAt cs k))) h))
+  run-told : (k a b : ℕ) → (dig taken k && cond (dig turned k) (runs b a (loopAt cs k)) (runs a b (loopAt cs k))) ≡ true
+      → Face d cs taken turned k × Runs d cs taken turned k a b
+  run-told k a b h = (
+    and-left (dig taken k) (cond (dig turned k) (runs b a (loopAt cs k)) (runs a b (loopAt cs k))) h,
+    go (dig turned k)
+        (and-right (dig taken k) (cond (dig turned k) (runs b a (loopAt cs k)) (runs a b (loopAt cs k))) h),
+  )
     where
-      go : (t : Bool) → cond t (runs b a (loopAt cs k)) (runs a b (loopAt cs k)) ≡ true → cond t (Goes (loopAt cs k) b a) (Goes (loopAt cs k) a b)
+      go : (t : Bool) → cond t (runs b a (loopAt cs k)) (runs a b (loopAt cs k)) ≡ true
+          → cond t (Goes (loopAt cs k) b a) (Goes (loopAt cs k) a b)
       go true e = runs-goes b a (loopAt cs k) e
       go false e = runs-goes a b (loopAt cs k) e
 
-  told-run : (k a b : ℕ) → Face d cs taken turned k → Runs d cs taken turned k a b → (dig taken k && cond (dig turned k) (runs b a (loopAt cs k)) (runs a b (loopAt cs k))) ≡ true
+  told-run : (k a b : ℕ) → Face d cs taken turned k → Runs d cs taken turned k a b
+      → (dig taken k && cond (dig turned k) (runs b a (loopAt cs k)) (runs a b (loopAt cs k))) ≡ true
   told-run k a b f r = and-both f (go (dig turned k) r)
     where
-      go : (t : Bool) → cond t (Goes (loopAt cs k) b a) (Goes (loopAt cs k) a b) → cond t (runs b a (loopAt cs k)) (runs a b (loopAt cs k)) ≡ true
+      go : (t : Bool) → cond t (Goes (loopAt cs k) b a) (Goes (loopAt cs k) a b)
+          → cond t (runs b a (loopAt cs k)) (runs a b (loopAt cs k)) ≡ true
       go true g = goes-runs b a (loopAt cs k) g
       go false g = goes-runs a b (loopAt cs k) g
 
-  once-told : (a b : ℕ) (mask : List Bool) → ((k : ℕ) → dig mask k ≡ (dig taken k && cond (dig turned k) (runs b a (loopAt cs k)) (runs a b (loopAt cs k)))) → count mask ≡ 1 → RunOnce d cs taken turned a b
+  once-told : (a b : ℕ) (mask : List Bool)
+      → ((k : ℕ) → dig mask k ≡ (dig taken k && cond (dig turned k) (runs b a (loopAt cs k)) (runs a b (loopAt cs k)))) → count mask ≡ 1
+      → RunOnce d cs taken turned a b
   once-told a b mask at h =
       let p = count-one-is mask h in
       let q = run-told (p .0) a b (sym (at (p .0)) ∙ p .1) in
@@ -110,21 +120,27 @@ module _ (d : Wire) (cs : List Loop) (taken turned : List Bool) where
         only = λ k f r. p .2 k (at k ∙ told-run k a b f r);
       }
 
-  told-once : (a b : ℕ) (mask : List Bool) → ((k : ℕ) → dig mask k ≡ (dig taken k && cond (dig turned k) (runs b a (loopAt cs k)) (runs a b (loopAt cs k)))) → RunOnce d cs taken turned a b → count mask ≡ 1
+  told-once : (a b : ℕ) (mask : List Bool)
+      → ((k : ℕ) → dig mask k ≡ (dig taken k && cond (dig turned k) (runs b a (loopAt cs k)) (runs a b (loopAt cs k))))
+      → RunOnce d cs taken turned a b → count mask ≡ 1
   told-once a b mask at o =
-      one-count mask (o .by) (at (o .by) ∙ told-run (o .by) a b (o .face) (o .runs)) (λ k h. let q = run-told k a b (sym (at k) ∙ h) in o .only k (q .0) (q .1))
+      one-count mask (o .by) (at (o .by) ∙ told-run (o .by) a b (o .face) (o .runs)) (λ k h. let q = run-told k a b (sym (at k) ∙ h) in
+      o .only k (q .0) (q .1))
 
   module _ (ok : AllProper cs) (a b : ℕ) where
     not-both : (k : ℕ) → runs a b (loopAt cs k) ≡ true → runs b a (loopAt cs k) ≡ true → ⊥
     not-both k p q = one-way a b (loopAt cs k) (ok k (runs-in a b cs k p)) (runs-goes a b (loopAt cs k) p) (runs-goes b a (loopAt cs k) q)
 
-    mine-dig : (k : ℕ) → dig (both (map (has (edge a b)) cs) taken) k ≡ ((runs a b (loopAt cs k) || runs b a (loopAt cs k)) && dig taken k)
+    mine-dig : (k : ℕ)
+        → dig (both (map (has (edge a b)) cs) taken) k ≡ ((runs a b (loopAt cs k) || runs b a (loopAt cs k)) && dig taken k)
     unfolding has
     mine-dig k = on-dig k (edge a b)
 
     way-dig : (k : ℕ) → dig (unlike (map (runsUp (edge a b)) cs) turned) k ≡ xor (runs a b (loopAt cs k)) (dig turned k)
     unfolding runsUp
-    way-dig k = dig-unlike (map (runsUp (edge a b)) cs) turned k ∙ ap (λ (x : Bool). xor x (dig turned k)) (dig-map (runsUp (edge a b)) (up-nil (edge a b)) cs k)
+    way-dig k =
+        dig-unlike (map (runsUp (edge a b)) cs) turned k
+        ∙ ap (λ (x : Bool). xor x (dig turned k)) (dig-map (runsUp (edge a b)) (up-nil (edge a b)) cs k)
 
     ahead-dig : (k : ℕ) → dig (both (both (map (has (edge a b)) cs) taken) (unlike (map (runsUp (edge a b)) cs) turned)) k
         ≡ (dig taken k && cond (dig turned k) (runs b a (loopAt cs k)) (runs a b (loopAt cs k)))
@@ -135,10 +151,12 @@ module _ (d : Wire) (cs : List Loop) (taken turned : List Bool) where
     back-dig : (k : ℕ) → dig (less (both (map (has (edge a b)) cs) taken) (unlike (map (runsUp (edge a b)) cs) turned)) k
         ≡ (dig taken k && cond (dig turned k) (runs a b (loopAt cs k)) (runs b a (loopAt cs k)))
     back-dig k =
-        dig-less (both (map (has (edge a b)) cs) taken) (unlike (map (runsUp (edge a b)) cs) turned) k ∙ ap₂ (λ (x y : Bool). x && not y) (mine-dig k) (way-dig k)
+        dig-less (both (map (has (edge a b)) cs) taken) (unlike (map (runsUp (edge a b)) cs) turned) k
+        ∙ ap₂ (λ (x y : Bool). x && not y) (mine-dig k) (way-dig k)
         ∙ back-one (runs a b (loopAt cs k)) (runs b a (loopAt cs k)) (dig turned k) (dig taken k) (not-both k)
 
-    each-edge : onceEachWay (map (has (edge a b)) cs) (map (runsUp (edge a b)) cs) taken turned ≡ true → EachWay d cs taken turned (edge a b)
+    each-edge : onceEachWay (map (has (edge a b)) cs) (map (runsUp (edge a b)) cs) taken turned ≡ true
+        → EachWay d cs taken turned (edge a b)
     unfolding onceEachWay
     each-edge h = (
       once-told a b (both (both (map (has (edge a b)) cs) taken) (unlike (map (runsUp (edge a b)) cs) turned)) ahead-dig
@@ -151,7 +169,8 @@ module _ (d : Wire) (cs : List Loop) (taken turned : List Bool) where
           (eqb (count (less (both (map (has (edge a b)) cs) taken) (unlike (map (runsUp (edge a b)) cs) turned))) 1) h)),
     )
 
-    edge-each : EachWay d cs taken turned (edge a b) → onceEachWay (map (has (edge a b)) cs) (map (runsUp (edge a b)) cs) taken turned ≡ true
+    edge-each : EachWay d cs taken turned (edge a b)
+        → onceEachWay (map (has (edge a b)) cs) (map (runsUp (edge a b)) cs) taken turned ≡ true
     unfolding onceEachWay
     edge-each h =
         and-both
@@ -160,10 +179,12 @@ module _ (d : Wire) (cs : List Loop) (taken turned : List Bool) where
         (eq-eqb (count (less (both (map (has (edge a b)) cs) taken) (unlike (map (runsUp (edge a b)) cs) turned))) 1
         (told-once b a (less (both (map (has (edge a b)) cs) taken) (unlike (map (runsUp (edge a b)) cs) turned)) back-dig (h .1)))
 
-  pub each-told : AllProper cs → (e : Edge) → onceEachWay (map (has e) cs) (map (runsUp e) cs) taken turned ≡ true → EachWay d cs taken turned e
+  pub each-told : AllProper cs → (e : Edge) → onceEachWay (map (has e) cs) (map (runsUp e) cs) taken turned ≡ true
+      → EachWay d cs taken turned e
   each-told ok (edge a b) h = each-edge ok a b h
 
-  pub told-each : AllProper cs → (e : Edge) → EachWay d cs taken turned e → onceEachWay (map (has e) cs) (map (runsUp e) cs) taken turned ≡ true
+  pub told-each : AllProper cs → (e : Edge) → EachWay d cs taken turned e
+      → onceEachWay (map (has e) cs) (map (runsUp e) cs) taken turned ≡ true
   told-each ok (edge a b) h = edge-each ok a b h
 
   -- ---- (iv)
@@ -189,18 +210,22 @@ clear-yes k (c ∷ masks) taken e i h t = go (dig taken k) refl (eqb (count (bot
     shift : (k j : ℕ) → suc k + j ≡ k + suc j
     shift k j = omega arith
 
-    rest : ((i : ℕ) → i < length masks → dig taken (suc k + i) ≡ true → count (both (getD masks i []) taken) ≡ 0) → (i : ℕ) → i < length (c ∷ masks) → dig taken (k + i) ≡ true → count (both c taken) ≡ 0
+    rest : ((i : ℕ) → i < length masks → dig taken (suc k + i) ≡ true → count (both (getD masks i []) taken) ≡ 0) → (i : ℕ)
+        → i < length (c ∷ masks) → dig taken (k + i) ≡ true → count (both c taken) ≡ 0
         → count (both (getD (c ∷ masks) i []) taken) ≡ 0
     rest f zero h t z = z
     rest f (suc i) h t z = f i (omega arith) (ap (dig taken) (shift k i) ∙ t)
 
-    off : ((i : ℕ) → i < length masks → dig taken (suc k + i) ≡ true → count (both (getD masks i []) taken) ≡ 0) → dig taken k ≡ false → (i : ℕ) → i < length (c ∷ masks) → dig taken (k + i) ≡ true
+    off : ((i : ℕ) → i < length masks → dig taken (suc k + i) ≡ true → count (both (getD masks i []) taken) ≡ 0) → dig taken k ≡ false
+        → (i : ℕ) → i < length (c ∷ masks) → dig taken (k + i) ≡ true
         → count (both (getD (c ∷ masks) i []) taken) ≡ 0
     off f z zero h t = let q : k ≡ k + 0 = omega arith in never (sym t ∙ sym (ap (dig taken) q) ∙ z)
     off f z (suc i) h t = f i (omega arith) (ap (dig taken) (shift k i) ∙ t)
 
-    go : (b : Bool) → dig taken k ≡ b → (y : Bool) → eqb (count (both c taken)) 0 ≡ y → cond (not b || y) (clearFrom (suc k) masks taken) false ≡ true → (i : ℕ) → i < length (c ∷ masks) → dig taken (k + i) ≡ true
-        → (clearFrom (suc k) masks taken ≡ true → (i : ℕ) → i < length masks → dig taken (suc k + i) ≡ true → count (both (getD masks i []) taken) ≡ 0) → count (both (getD (c ∷ masks) i []) taken) ≡ 0
+    go : (b : Bool) → dig taken k ≡ b → (y : Bool) → eqb (count (both c taken)) 0 ≡ y
+        → cond (not b || y) (clearFrom (suc k) masks taken) false ≡ true → (i : ℕ) → i < length (c ∷ masks) → dig taken (k + i) ≡ true
+        → (clearFrom (suc k) masks taken ≡ true → (i : ℕ) → i < length masks → dig taken (suc k + i) ≡ true
+        → count (both (getD masks i []) taken) ≡ 0) → count (both (getD (c ∷ masks) i []) taken) ≡ 0
     go true p true q e i h t f = rest (f e) i h t (eqb-true (count (both c taken)) 0 q)
     go true p false q e i h t f = never (sym e)
     go false p y q e i h t f = off (f e) p i h t
@@ -214,7 +239,8 @@ yes-clear k (c ∷ masks) taken f =
     shift : (k j : ℕ) → k + suc j ≡ suc k + j
     shift k j = omega arith
 
-    go : (b : Bool) → dig taken k ≡ b → clearFrom (suc k) masks taken ≡ true → cond (peaceful b (count (both c taken))) (clearFrom (suc k) masks taken) false ≡ true
+    go : (b : Bool) → dig taken k ≡ b → clearFrom (suc k) masks taken ≡ true
+        → cond (peaceful b (count (both c taken))) (clearFrom (suc k) masks taken) false ≡ true
     go false p e = e
     go true p e = let q : k + 0 ≡ k = omega arith in rw (eq-eqb (count (both c taken)) 0 (f 0 (omega arith) (ap (dig taken) q ∙ p))) e
 
@@ -230,11 +256,13 @@ module _ (d : Wire) (cs : List Loop) (taken turned : List Bool) (n : length take
   row-dig i k h = made-at (clashing (map (polygon d) cs) i) (length cs) k false h
 
   -- of two faces
-  pair-clash : (j k : ℕ) → j < k → k < length cs → clashing (map (polygon d) cs) j k ≡ clash (polygon d (loopAt cs j)) (polygon d (loopAt cs k))
+  pair-clash : (j k : ℕ) → j < k → k < length cs
+      → clashing (map (polygon d) cs) j k ≡ clash (polygon d (loopAt cs j)) (polygon d (loopAt cs k))
   unfolding clashing
   pair-clash j k h l = rw (lt-ltb j k h) (ap₂ clash (poly-at j (omega arith)) (poly-at k l))
 
-  clash-pair : (j k : ℕ) → k < j → j < length cs → clashing (map (polygon d) cs) j k ≡ clash (polygon d (loopAt cs k)) (polygon d (loopAt cs j))
+  clash-pair : (j k : ℕ) → k < j → j < length cs
+      → clashing (map (polygon d) cs) j k ≡ clash (polygon d (loopAt cs k)) (polygon d (loopAt cs j))
   unfolding clashing
   clash-pair j k h l = rw (le-ltb j k (omega arith), lt-ltb k j h) (ap₂ clash (poly-at k (omega arith)) (poly-at j l))
 
@@ -258,26 +286,35 @@ module _ (d : Wire) (cs : List Loop) (taken turned : List Bool) (n : length take
       none : count (both (clash-row j) taken) ≡ 0
       none =
           let z : 0 + j ≡ j = omega arith in
-          let s : j < length clashMasks = omega (arith, face-in j hj, made-length (λ i. map (clashing (map (polygon d) cs) i) (upto (length cs))) (length cs)) in
-          ap (λ (r : List Bool). count (both r taken)) (sym (made-at (λ i. map (clashing (map (polygon d) cs) i) (upto (length cs))) (length cs) j [] (face-in j hj)))
+          let s : j < length clashMasks = omega
+          (arith, face-in j hj, made-length (λ i. map (clashing (map (polygon d) cs) i) (upto (length cs))) (length cs)) in
+          ap (λ (r : List Bool). count (both r taken))
+          (sym (made-at (λ i. map (clashing (map (polygon d) cs) i) (upto (length cs))) (length cs) j [] (face-in j hj)))
           ∙ clear-yes 0 clashMasks taken e j s (ap (dig taken) z ∙ hj)
 
       go : (b : Bool) → clash (polygon d (loopAt cs j)) (polygon d (loopAt cs k)) ≡ b → b ≡ false
       go false p = refl
-      go true p = absurd (count-none (both (clash-row j) taken) none k (dig-both (clash-row j) taken k ∙ and-both (row-dig j k (face-in k hk) ∙ pair-clash j k l (face-in k hk) ∙ p) hk))
+      go true p =
+          absurd
+          (count-none (both (clash-row j) taken) none k
+          (dig-both (clash-row j) taken k ∙ and-both (row-dig j k (face-in k hk) ∙ pair-clash j k l (face-in k hk) ∙ p) hk))
 
   pub told-clear : Peace → clearFrom 0 clashMasks taken ≡ true
   unfolding Clear clash-row
   told-clear f = yes-clear 0 clashMasks taken (λ i h t.
       let m : i < length cs = omega (arith, made-length (λ i. map (clashing (map (polygon d) cs) i) (upto (length cs))) (length cs)) in
       let z : i ≡ 0 + i = omega arith in
-      ap (λ (r : List Bool). count (both r taken)) (made-at (λ i. map (clashing (map (polygon d) cs) i) (upto (length cs))) (length cs) i [] m)
+      ap (λ (r : List Bool). count (both r taken))
+      (made-at (λ i. map (clashing (map (polygon d) cs) i) (upto (length cs))) (length cs) i [] m)
       ∙ count-empty (both (clash-row i) taken) (λ k e. none i k m (ap (dig taken) z ∙ t) (sym (dig-both (clash-row i) taken k) ∙ e)))
     where
-      order : (i k : ℕ) → (b : Bool) → ltb i k ≡ b → (c : Bool) → ltb k i ≡ c → dig taken i ≡ true → dig taken k ≡ true → clashing (map (polygon d) cs) i k ≡ false
+      order : (i k : ℕ) → (b : Bool) → ltb i k ≡ b → (c : Bool) → ltb k i ≡ c → dig taken i ≡ true → dig taken k ≡ true
+          → clashing (map (polygon d) cs) i k ≡ false
       order i k true p c q ti tk = let l : i < k = ltb-true i k p in pair-clash i k l (face-in k tk) ∙ f i k ti tk l
       order i k false p true q ti tk = let l : k < i = ltb-true k i q in clash-pair i k l (face-in i ti) ∙ f k i tk ti l
-      order i k false p false q ti tk = let l : i ≡ k = omega (arith, ltb-false i k p, ltb-false k i q) in ap (λ (x : ℕ). clashing (map (polygon d) cs) i x) (sym l) ∙ clash-self i
+      order i k false p false q ti tk =
+          let l : i ≡ k = omega (arith, ltb-false i k p, ltb-false k i q) in
+          ap (λ (x : ℕ). clashing (map (polygon d) cs) i x) (sym l) ∙ clash-self i
 
       none : (i k : ℕ) → i < length cs → dig taken i ≡ true → (dig (clash-row i) k && dig taken k) ≡ true → ⊥
       none i k m t e =

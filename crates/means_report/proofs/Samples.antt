@@ -34,9 +34,11 @@ tetrahedron-answer : result tetrahedron mostWork .answer ≡ Conversion.One 4 4 
 unfolding reply
 tetrahedron-answer = refl
 
-pub tetrahedron-told : SaysOne (of tetrahedron) (the-walk (of tetrahedron)) mostWork (faceBefore faceRoom) (solidBefore solidRoom) (result tetrahedron mostWork) 4 4 0 216
+pub tetrahedron-told : SaysOne (of tetrahedron) (the-walk (of tetrahedron)) mostWork (faceBefore faceRoom) (solidBefore solidRoom)
+    (result tetrahedron mostWork) 4 4 0 216
 tetrahedron-told =
-    says-one (of tetrahedron) (the-walk (of tetrahedron)) mostWork (faceBefore faceRoom) (solidBefore solidRoom) (result tetrahedron mostWork)
+    says-one (of tetrahedron) (the-walk (of tetrahedron)) mostWork (faceBefore faceRoom) (solidBefore solidRoom)
+    (result tetrahedron mostWork)
     (told tetrahedron mostWork (Conversion.One 4 4 0 216) tetrahedron-answer (λ x e. omega (arith, ap kind e))) tetrahedron-answer
 
 -- the cube "without one edge: NoSolid, work 0": there is none
@@ -44,7 +46,8 @@ open-answer : result openCube mostWork .answer ≡ Conversion.NoSolid 4 4 0
 unfolding reply
 open-answer = refl
 
-pub open-told : SaysNone (of openCube) (the-walk (of openCube)) mostWork (faceBefore faceRoom) (solidBefore solidRoom) (result openCube mostWork) 4 4 0
+pub open-told : SaysNone (of openCube) (the-walk (of openCube)) mostWork (faceBefore faceRoom) (solidBefore solidRoom)
+    (result openCube mostWork) 4 4 0
 open-told =
     says-none (of openCube) (the-walk (of openCube)) mostWork (faceBefore faceRoom) (solidBefore solidRoom) (result openCube mostWork)
     (told openCube mostWork (Conversion.NoSolid 4 4 0) open-answer (λ x e. omega (arith, ap kind e))) open-answer
@@ -54,16 +57,19 @@ octahedron-answer : result octahedron mostWork .answer ≡ Conversion.One 11 11 
 unfolding reply
 octahedron-answer = refl
 
-pub octahedron-told : SaysOne (of octahedron) (the-walk (of octahedron)) mostWork (faceBefore faceRoom) (solidBefore solidRoom) (result octahedron mostWork) 11 11 4 8000
+pub octahedron-told : SaysOne (of octahedron) (the-walk (of octahedron)) mostWork (faceBefore faceRoom) (solidBefore solidRoom)
+    (result octahedron mostWork) 11 11 4 8000
 octahedron-told =
-    says-one (of octahedron) (the-walk (of octahedron)) mostWork (faceBefore faceRoom) (solidBefore solidRoom) (result octahedron mostWork)
+    says-one (of octahedron) (the-walk (of octahedron)) mostWork (faceBefore faceRoom) (solidBefore solidRoom)
+    (result octahedron mostWork)
     (told octahedron mostWork (Conversion.One 11 11 4 8000) octahedron-answer (λ x e. omega (arith, ap kind e))) octahedron-answer
 
 octahedron-cut : result octahedron 3 .answer ≡ Conversion.TooLong 11 11 3
 unfolding reply
 octahedron-cut = refl
 
-pub octahedron-long : SaysLong (of octahedron) (the-walk (of octahedron)) 3 (faceBefore faceRoom) (solidBefore solidRoom) (result octahedron 3) 11 11 3
+pub octahedron-long : SaysLong (of octahedron) (the-walk (of octahedron)) 3 (faceBefore faceRoom) (solidBefore solidRoom)
+    (result octahedron 3) 11 11 3
 octahedron-long =
     says-long (of octahedron) (the-walk (of octahedron)) 3 (faceBefore faceRoom) (solidBefore solidRoom) (result octahedron 3)
     (told octahedron 3 (Conversion.TooLong 11 11 3) octahedron-cut (λ x e. omega (arith, ap kind e))) octahedron-cut
@@ -73,7 +79,8 @@ nested-answer : result nested mostWork .answer ≡ Conversion.Several 24 24 4 3
 unfolding reply
 nested-answer = refl
 
-pub nested-told : SaysSeveral (of nested) (the-walk (of nested)) mostWork (faceBefore faceRoom) (solidBefore solidRoom) (result nested mostWork) 24 24 4 3
+pub nested-told : SaysSeveral (of nested) (the-walk (of nested)) mostWork (faceBefore faceRoom) (solidBefore solidRoom)
+    (result nested mostWork) 24 24 4 3
 nested-told =
     says-several (of nested) (the-walk (of nested)) mostWork (faceBefore faceRoom) (solidBefore solidRoom) (result nested mostWork)
     (told nested mostWork (Conversion.Several 24 24 4 3) nested-answer (λ x e. omega (arith, ap kind e))) nested-answer

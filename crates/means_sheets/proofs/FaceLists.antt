@@ -25,7 +25,8 @@ use Rattle.faces_laws.proofs.FaceList.{length-in}
 use Rattle.faces_laws.proofs.Shape.{shape-yes}
 use Rattle.faces_laws.proofs.Reported.{solid-faces, all-taken}
 use Rattle.means_sheets.specs.Sound.{Sound}
-use Rattle.means_sheets.specs.FaceLists.{Sendable, returned, FacesReadBack, ReadBackOne, SentIsSendable, AcceptedList, FacesWriteBack, RowsGiveFaces, OneList}
+use Rattle.means_sheets.specs.FaceLists.{Sendable, returned, FacesReadBack, ReadBackOne, SentIsSendable, AcceptedList}
+use Rattle.means_sheets.specs.FaceLists.{FacesWriteBack, RowsGiveFaces, OneList}
 use Rattle.means_sheets.proofs.Sheets.{one-sound}
 use Rattle.means_sheets.proofs.FaceLists.Written.{faces-accepted, faces-read-back, rows-returned}
 use Rattle.means_sheets.proofs.FaceLists.Read.{written-again, can-be-sent}
@@ -33,7 +34,8 @@ use Rattle.means_sheets.proofs.FaceLists.Room.{sent-sendable, sent-room
 
 -- ---- faces that a face list can hold, for a drawing of v vertices
 
-pub faces-read : (f : Format) → Sound f → (v : ℕ) → v ≤ 2 ^ f .«vertex_number_bits» → (fs : List Loop) → Sendable f v fs → FacesReadBack f v fs
+pub faces-read : (f : Format) → Sound f → (v : ℕ) → v ≤ 2 ^ f .«vertex_number_bits» → (fs : List Loop) → Sendable f v fs
+    → FacesReadBack f v fs
 faces-read f sound v fits fs g = record {
   shape = faces-accepted f sound v fits fs g;
   list = rows-returned f sound v fits fs g;

@@ -40,7 +40,8 @@ module _ (n : ℕ) (bs : List ℕ) where
     unfolding fillAfter
     fill-filled =
         ap (λ (m : ℕ). fieldAt (filled n bs) n (m * 8 - n)) length-filled
-        ∙ field-in (filled n bs) bs [] n l (bytesFor n * 8 - n) 0 (run-filled ∙ ap (λ (t : List ℕ). bs ++ t) (sym (append-nil zeros))) (pow-pos (bytesFor n * 8 - n))
+        ∙ field-in (filled n bs) bs [] n l (bytesFor n * 8 - n) 0 (run-filled ∙ ap (λ (t : List ℕ). bs ++ t) (sym (append-nil zeros)))
+        (pow-pos (bytesFor n * 8 - n))
 
   pub filled-again : (s : List ℕ) → Under (2 ^ 8) s → length s ≡ bytesFor n → fillAfter n s ≡ 0 → bs ≡ take n (run 8 s) → filled n bs ≡ s
   unfolding filled fillAfter

@@ -48,7 +48,9 @@ runs-goes a b l e =
       at = r .0;
       here = h;
       from = eqb-true a (around l (r .0) 0) (and-left (eqb a (around l (r .0) 0)) (eqb b (around l (r .0 + 1) 0)) s);
-      to = eqb-true b (around l (r .0 + 1) 0) (and-right (eqb a (around l (r .0) 0)) (eqb b (around l (r .0 + 1) 0)) s) ∙ ap (λ (k : ℕ). around l k 0) (add-one (r .0));
+      to =
+          eqb-true b (around l (r .0 + 1) 0) (and-right (eqb a (around l (r .0) 0)) (eqb b (around l (r .0 + 1) 0)) s)
+          ∙ ap (λ (k : ℕ). around l k 0) (add-one (r .0));
     }
 
 pub goes-runs : (a b : ℕ) (l : Loop) → Goes l a b → runs a b l ≡ true
@@ -56,7 +58,8 @@ unfolding runs
 goes-runs a b l g =
     true-is (sides (isSide a b) l) (g .at)
     (sides-at (isSide a b) l (g .at) false 0 (g .here)
-    ∙ and-both (eq-eqb a (around l (g .at) 0) (g .from)) (eq-eqb b (around l (g .at + 1) 0) (g .to ∙ ap (λ (k : ℕ). around l k 0) (sym (add-one (g .at))))))
+    ∙ and-both (eq-eqb a (around l (g .at) 0) (g .from))
+    (eq-eqb b (around l (g .at + 1) 0) (g .to ∙ ap (λ (k : ℕ). around l k 0) (sym (add-one (g .at))))))
 
 -- ---- no candidate stands past the last
 

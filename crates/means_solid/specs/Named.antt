@@ -23,4 +23,5 @@ module _ (d : Wire) (cs : List Loop) (taken turned : List Bool) where
   pub record Names (fs : List (List ℕ)) : Type 0 where
     pub each : (i : ℕ) → i < length fs → (k : ℕ) × Face d cs taken turned k × SameRing (directed k) (loopAt fs i)
     pub there : (k : ℕ) → Face d cs taken turned k → (i : ℕ) × (i < length fs) × SameRing (directed k) (loopAt fs i)
-    pub once : (i j k : ℕ) → i < length fs → j < length fs → SameRing (directed k) (loopAt fs i) → SameRing (directed k) (loopAt fs j) → i ≡ j
+    pub once : (i j k : ℕ) → i < length fs → j < length fs → SameRing (directed k) (loopAt fs i) → SameRing (directed k) (loopAt fs j)
+        → i ≡ j

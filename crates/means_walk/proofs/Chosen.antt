@@ -10,7 +10,8 @@ use borrow.Author.Tests.{eqb-true, eqb-false}
 use Rattle.lists.proofs.Truth.{and-left, and-right, and-both}
 use Rattle.sets.specs.Word.{dig, count, both, first}
 use Rattle.sets.proofs.Digits.{dig-both, count-none, first-in}
-use Rattle.paper.specs.Walk.{Status, Taken, Rejected, isOpen, takenOn, openOn, openCount, decide, settle, contradicts, Outcome, Broken, Stands, sweep, choose}
+use Rattle.paper.specs.Walk.{Status, Taken, Rejected, isOpen, takenOn, openOn, openCount, decide, settle, contradicts, Outcome, Broken}
+use Rattle.paper.specs.Walk.{Stands, sweep, choose}
 use Rattle.means_walk.specs.Tree.{Sweeps, breaks, rests, again, Tree, broken, leaf, branch}
 use Rattle.means_walk.specs.Lowest.{Undecided, On, Lowest, Chooses}
 use Rattle.means_walk.proofs.Status.{count-open, count-opens, open-lt}
@@ -27,9 +28,11 @@ abbrev pub Covered : List (List Bool) → List Status → Type 0
 Covered masks st = (k : ℕ) → Undecided st k → (e : ℕ) × (e < length masks) × On masks e k
 
 none-open : (mask : List Bool) (st : List Status) → openOn mask st ≡ 0 → (j : ℕ) → dig mask j ≡ true → Undecided st j → ⊥
-none-open mask st z j h u = count-none (both mask (map isOpen st)) (count-opens mask st ∙ z) j (dig-both mask (map isOpen st) j ∙ and-both h u)
+none-open mask st z j h u =
+    count-none (both mask (map isOpen st)) (count-opens mask st ∙ z) j (dig-both mask (map isOpen st) j ∙ and-both h u)
 
-pub choose-lowest : (masks : List (List Bool)) (st : List Status) → Covered masks st → (k : ℕ) → Undecided st k → Lowest masks st (choose masks st)
+pub choose-lowest : (masks : List (List Bool)) (st : List Status) → Covered masks st → (k : ℕ) → Undecided st k
+    → Lowest masks st (choose masks st)
 unfolding choose
 choose-lowest [] st c k u = absurd (let r = c k u in omega (arith, r .1))
 choose-lowest (mask ∷ masks) st c k u = go (eqb (openOn mask st) 0) refl (choose-lowest masks st)
@@ -48,11 +51,13 @@ choose-lowest (mask ∷ masks) st c k u = go (eqb (openOn mask st) 0) refl (choo
           lower = r .lower;
         }
       where
-        rest : openOn mask st ≡ 0 → (j : ℕ) → Undecided st j → (f : ℕ) × (f < length (mask ∷ masks)) × On (mask ∷ masks) f j → (f : ℕ) × (f < length masks) × On masks f j
+        rest : openOn mask st ≡ 0 → (j : ℕ) → Undecided st j → (f : ℕ) × (f < length (mask ∷ masks)) × On (mask ∷ masks) f j
+            → (f : ℕ) × (f < length masks) × On masks f j
         rest z j w (zero, h, o) = absurd (none-open mask st z j o w)
         rest z j w (suc f, h, o) = (f, omega arith, o)
 
-        below : openOn mask st ≡ 0 → (r : Lowest masks st (choose masks st)) → (f j : ℕ) → f < suc (r .edge) → On (mask ∷ masks) f j → Undecided st j → ⊥
+        below : openOn mask st ≡ 0 → (r : Lowest masks st (choose masks st)) → (f j : ℕ) → f < suc (r .edge) → On (mask ∷ masks) f j
+            → Undecided st j → ⊥
         below z r zero j h o w = none-open mask st z j o w
         below z r (suc f) j h o w = r .lower-edge f j (omega arith) o w
     go false e ih =
@@ -63,7 +68,8 @@ choose-lowest (mask ∷ masks) st c k u = go (eqb (openOn mask st) 0) refl (choo
           edge = 0;
           here = omega arith;
           on = and-left (dig mask (first (both mask (map isOpen st)))) (dig (map isOpen st) (first (both mask (map isOpen st)))) m;
-          undecided = and-right (dig mask (first (both mask (map isOpen st)))) (dig (map isOpen st) (first (both mask (map isOpen st)))) m;
+          undecided =
+              and-right (dig mask (first (both mask (map isOpen st)))) (dig (map isOpen st) (first (both mask (map isOpen st)))) m;
           lower-edge = λ f j h o w. omega arith;
           lower = λ j h o w. first-low (both mask (map isOpen st)) j h (dig-both mask (map isOpen st) j ∙ and-both o w);
         }
@@ -89,7 +95,8 @@ unfolding sweep
 sweep-length [] st s e = let p : st ≡ s = cc in sym (ap length p)
 sweep-length (mask ∷ masks) st s e = go (sweep-length masks (settle mask st) s) (contradicts mask st) e
   where
-    go : (sweep masks (settle mask st) ≡ Stands s → length s ≡ length (settle mask st)) → (b : Bool) → cond b Broken (sweep masks (settle mask st)) ≡ Stands s → length s ≡ length st
+    go : (sweep masks (settle mask st) ≡ Stands s → length s ≡ length (settle mask st)) → (b : Bool)
+        → cond b Broken (sweep masks (settle mask st)) ≡ Stands s → length s ≡ length st
     go ih true q = let z : _≡_ {A = ℕ} 0 1 = cc in absurd (omega arith)
     go ih false q = ih q ∙ settle-length mask st
 
@@ -105,7 +112,8 @@ sweeps-long {masks} (again {st} {st′} {o} e n w) = subst (λ (m : ℕ). Long m
 some-open : (st : List Status) → (openCount st ≡ 0 → ⊥) → Undecided st (first (map isOpen st))
 some-open st n = first-in (map isOpen st) (λ e. n (sym (count-open st) ∙ e))
 
-pub tree-chooses : {masks : List (List Bool)} {st : List Status} (n : ℕ) → length st ≡ n → ((k : ℕ) → k < n → (e : ℕ) × (e < length masks) × On masks e k) → (t : Tree masks st) → Chooses t
+pub tree-chooses : {masks : List (List Bool)} {st : List Status} (n : ℕ) → length st ≡ n
+    → ((k : ℕ) → k < n → (e : ℕ) × (e < length masks) × On masks e k) → (t : Tree masks st) → Chooses t
 unfolding Chooses
 tree-chooses n l c (broken w) = tt
 tree-chooses n l c (leaf s w z) = tt

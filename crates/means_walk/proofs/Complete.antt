@@ -11,7 +11,8 @@ use borrow.Author.Tests.{eq-eqb, eqb-true, eqb-false, ltb-true, ltb-false}
 use Rattle.lists.specs.Lists.{filter, keep}
 use Rattle.lists.proofs.Truth.{same-truth, or-cases}
 use Rattle.sets.specs.Word.{bit, count, both, first}
-use Rattle.paper.specs.Walk.{Status, Taken, Rejected, Undecided, isTaken, isOpen, takenOn, openOn, openCount, decideOne, decide, settle, contradicts, Outcome, Broken, Stands, onStands, sweep, stable, choose}
+use Rattle.paper.specs.Walk.{Status, Taken, Rejected, Undecided, isTaken, isOpen, takenOn, openOn, openCount, decideOne, decide, settle}
+use Rattle.paper.specs.Walk.{contradicts, Outcome, Broken, Stands, onStands, sweep, stable, choose}
 use Rattle.means_walk.specs.Complete.{allows, agrees, exact, equal, same, times, solutions}
 use Rattle.means_walk.proofs.Status.{opens, count-open, count-opens, count-set}
 
@@ -64,7 +65,8 @@ high (b ∷ mask) (s ∷ st) (v ∷ x) e =
     omega (arith, one-high b s v (p .0), high mask st x (p .1))
 
 -- ---- an edge settled
-one-rejected : (b : Bool) (s v : Status) → allows s v ≡ true → bit (b && isTaken s) ≡ bit (b && isTaken v) → allows (decideOne Rejected b s) v ≡ true
+one-rejected : (b : Bool) (s v : Status) → allows s v ≡ true → bit (b && isTaken s) ≡ bit (b && isTaken v)
+    → allows (decideOne Rejected b s) v ≡ true
 one-rejected false s v e q = e
 one-rejected true Taken v e q = e
 one-rejected true Rejected v e q = e
@@ -72,7 +74,8 @@ one-rejected true Undecided Taken e q = absurd (omega arith)
 one-rejected true Undecided Rejected e q = refl
 one-rejected true Undecided Undecided e q = absurd (true≢false (sym e))
 
-rejected-agrees : (mask : List Bool) (st x : List Status) → agrees st x ≡ true → takenOn mask st ≡ takenOn mask x → agrees (decide Rejected mask st) x ≡ true
+rejected-agrees : (mask : List Bool) (st x : List Status) → agrees st x ≡ true → takenOn mask st ≡ takenOn mask x
+    → agrees (decide Rejected mask st) x ≡ true
 unfolding takenOn agrees decide
 rejected-agrees [] st x e q = e
 rejected-agrees (b ∷ mask) [] x e q = e
@@ -82,7 +85,8 @@ rejected-agrees (b ∷ mask) (s ∷ st) (v ∷ x) e q =
     both-and (one-rejected b s v (p .0) (omega (arith, one-low b s v (p .0), low mask st x (p .1))))
     (rejected-agrees mask st x (p .1) (omega (arith, one-low b s v (p .0), low mask st x (p .1))))
 
-one-taken : (b : Bool) (s v : Status) → allows s v ≡ true → bit (b && isTaken v) ≡ bit (b && isTaken s) + bit (b && isOpen s) → allows (decideOne Taken b s) v ≡ true
+one-taken : (b : Bool) (s v : Status) → allows s v ≡ true → bit (b && isTaken v) ≡ bit (b && isTaken s) + bit (b && isOpen s)
+    → allows (decideOne Taken b s) v ≡ true
 one-taken false s v e q = e
 one-taken true Taken v e q = e
 one-taken true Rejected v e q = e
@@ -90,7 +94,8 @@ one-taken true Undecided Taken e q = refl
 one-taken true Undecided Rejected e q = absurd (omega arith)
 one-taken true Undecided Undecided e q = absurd (true≢false (sym e))
 
-taken-agrees : (mask : List Bool) (st x : List Status) → agrees st x ≡ true → takenOn mask x ≡ takenOn mask st + openOn mask st → agrees (decide Taken mask st) x ≡ true
+taken-agrees : (mask : List Bool) (st x : List Status) → agrees st x ≡ true → takenOn mask x ≡ takenOn mask st + openOn mask st
+    → agrees (decide Taken mask st) x ≡ true
 unfolding takenOn openOn agrees decide
 taken-agrees [] st x e q = e
 taken-agrees (b ∷ mask) [] x e q = e
@@ -110,7 +115,8 @@ one-back Taken o true Undecided Undecided e = absurd (true≢false (sym e))
 one-back Rejected o true Undecided Undecided e = absurd (true≢false (sym e))
 one-back Undecided o true Undecided Undecided e = absurd (true≢false o)
 
-decided-back : (d : Status) → isOpen d ≡ false → (mask : List Bool) (st x : List Status) → agrees (decide d mask st) x ≡ true → agrees st x ≡ true
+decided-back : (d : Status) → isOpen d ≡ false → (mask : List Bool) (st x : List Status) → agrees (decide d mask st) x ≡ true
+    → agrees st x ≡ true
 unfolding agrees decide
 decided-back d o [] st x e = e
 decided-back d o (b ∷ mask) [] x e = e
@@ -126,8 +132,12 @@ settle-agrees mask st x h = go (eqb (takenOn mask st) 2) refl (eqb (takenOn mask
   where
     go : (b : Bool) → eqb (takenOn mask st) 2 ≡ b → (c : Bool) → eqb (takenOn mask st + openOn mask st) 2 ≡ c
         → agrees (cond b (decide Rejected mask st) (cond c (decide Taken mask st) st)) x ≡ agrees st x
-    go true p c q = same-truth (agrees (decide Rejected mask st) x) (agrees st x) (decided-back Rejected refl mask st x) (λ e. rejected-agrees mask st x e (eqb-true (takenOn mask st) 2 p ∙ sym h))
-    go false p true q = same-truth (agrees (decide Taken mask st) x) (agrees st x) (decided-back Taken refl mask st x) (λ e. taken-agrees mask st x e (h ∙ sym (eqb-true (takenOn mask st + openOn mask st) 2 q)))
+    go true p c q =
+        same-truth (agrees (decide Rejected mask st) x) (agrees st x) (decided-back Rejected refl mask st x)
+        (λ e. rejected-agrees mask st x e (eqb-true (takenOn mask st) 2 p ∙ sym h))
+    go false p true q =
+        same-truth (agrees (decide Taken mask st) x) (agrees st x) (decided-back Taken refl mask st x)
+        (λ e. taken-agrees mask st x e (h ∙ sym (eqb-true (takenOn mask st + openOn mask st) 2 q)))
     go false p false q = refl
 
 -- a contradiction allows no x with two taken on the edge
@@ -141,10 +151,12 @@ contradicts-agrees mask st x h e = go (agrees st x) refl (or-cases (ltb 2 (taken
     go true a (inr w) = absurd (omega (arith, ltb-true (takenOn mask st + openOn mask st) 2 w, high mask st x a))
 
 -- ---- sweeps allow x as before, where x has two taken on each edge
-sweep-agrees : (masks : List (List Bool)) (x : List Status) → exact masks x ≡ true → (st : List Status) → onStands (sweep masks st) false (λ st′. agrees st′ x) ≡ agrees st x
+sweep-agrees : (masks : List (List Bool)) (x : List Status) → exact masks x ≡ true → (st : List Status)
+    → onStands (sweep masks st) false (λ st′. agrees st′ x) ≡ agrees st x
 unfolding sweep exact
 sweep-agrees [] x e st = refl
-sweep-agrees (mask ∷ masks) x e st = go (sweep-agrees masks x (and-both (eqb (takenOn mask x) 2) (exact masks x) e .1)) (contradicts mask st) refl
+sweep-agrees (mask ∷ masks) x e st =
+    go (sweep-agrees masks x (and-both (eqb (takenOn mask x) 2) (exact masks x) e .1)) (contradicts mask st) refl
   where
     two : takenOn mask x ≡ 2
     two = eqb-true (takenOn mask x) 2 (and-both (eqb (takenOn mask x) 2) (exact masks x) e .0)
@@ -154,7 +166,8 @@ sweep-agrees (mask ∷ masks) x e st = go (sweep-agrees masks x (and-both (eqb (
     go ih true c = sym (contradicts-agrees mask st x two c)
     go ih false c = ih (settle mask st) ∙ settle-agrees mask st x two
 
-stable-agrees : (f : ℕ) (masks : List (List Bool)) (x : List Status) → exact masks x ≡ true → (st : List Status) → onStands (stable f masks st) false (λ st′. agrees st′ x) ≡ agrees st x
+stable-agrees : (f : ℕ) (masks : List (List Bool)) (x : List Status) → exact masks x ≡ true → (st : List Status)
+    → onStands (stable f masks st) false (λ st′. agrees st′ x) ≡ agrees st x
 unfolding stable
 stable-agrees zero masks x e st = refl
 stable-agrees (suc f) masks x e st = go (stable-agrees f masks x e) (sweep masks st) (sweep-agrees masks x e st)
@@ -164,8 +177,10 @@ stable-agrees (suc f) masks x e st = go (stable-agrees f masks x e) (sweep masks
     next ih s true = refl
     next ih s false = ih s
 
-    go : ((s : List Status) → onStands (stable f masks s) false (λ st′. agrees st′ x) ≡ agrees s x) → (o : Outcome) → onStands o false (λ st′. agrees st′ x) ≡ agrees st x
-        → onStands (onStands o Broken (λ s. cond (eqb (openCount s) (openCount st)) (Stands s) (stable f masks s))) false (λ st′. agrees st′ x) ≡ agrees st x
+    go : ((s : List Status) → onStands (stable f masks s) false (λ st′. agrees st′ x) ≡ agrees s x) → (o : Outcome)
+        → onStands o false (λ st′. agrees st′ x) ≡ agrees st x
+        → onStands (onStands o Broken (λ s. cond (eqb (openCount s) (openCount st)) (Stands s) (stable f masks s))) false
+        (λ st′. agrees st′ x) ≡ agrees st x
     go ih Broken a = a
     go ih (Stands s) a = next ih s (eqb (openCount s) (openCount st)) ∙ a
 
@@ -182,13 +197,15 @@ decide-fewer d o [] st = omega arith
 decide-fewer d o (b ∷ mask) [] = omega arith
 decide-fewer d o (b ∷ mask) (s ∷ st) = omega (arith, one-fewer d o b s, decide-fewer d o mask st)
 
-one-still : (d : Status) → isOpen d ≡ false → (b : Bool) (s : Status) → bit (isOpen s) ≤ bit (isOpen (decideOne d b s)) → decideOne d b s ≡ s
+one-still : (d : Status) → isOpen d ≡ false → (b : Bool) (s : Status) → bit (isOpen s) ≤ bit (isOpen (decideOne d b s))
+    → decideOne d b s ≡ s
 one-still d o false s h = refl
 one-still d o true Taken h = refl
 one-still d o true Rejected h = refl
 one-still d o true Undecided h = absurd (omega (arith, ap bit o))
 
-decide-still : (d : Status) → isOpen d ≡ false → (mask : List Bool) (st : List Status) → openCount st ≤ openCount (decide d mask st) → decide d mask st ≡ st
+decide-still : (d : Status) → isOpen d ≡ false → (mask : List Bool) (st : List Status) → openCount st ≤ openCount (decide d mask st)
+    → decide d mask st ≡ st
 unfolding decide openCount
 decide-still d o [] st h = refl
 decide-still d o (b ∷ mask) [] h = refl
@@ -205,13 +222,15 @@ settle-fewer : (mask : List Bool) (st : List Status) → openCount (settle mask 
 unfolding settle
 settle-fewer mask st =
     let P : List Status → Type 0 = λ x. openCount x ≤ openCount st in
-    cond-is P (eqb (takenOn mask st) 2) (decide-fewer Rejected refl mask st) (cond-is P (eqb (takenOn mask st + openOn mask st) 2) (decide-fewer Taken refl mask st) (omega arith))
+    cond-is P (eqb (takenOn mask st) 2) (decide-fewer Rejected refl mask st)
+    (cond-is P (eqb (takenOn mask st + openOn mask st) 2) (decide-fewer Taken refl mask st) (omega arith))
 
 settle-still : (mask : List Bool) (st : List Status) → openCount st ≤ openCount (settle mask st) → settle mask st ≡ st
 unfolding settle
 settle-still mask st =
     let P : List Status → Type 0 = λ x. openCount st ≤ openCount x → x ≡ st in
-    cond-is P (eqb (takenOn mask st) 2) (decide-still Rejected refl mask st) (cond-is P (eqb (takenOn mask st + openOn mask st) 2) (decide-still Taken refl mask st) (λ h. refl))
+    cond-is P (eqb (takenOn mask st) 2) (decide-still Rejected refl mask st)
+    (cond-is P (eqb (takenOn mask st + openOn mask st) 2) (decide-still Taken refl mask st) (λ h. refl))
 
 -- no edge has a contradiction
 abbrev pub Calm : List (List Bool) → List Status → Type 0
@@ -226,11 +245,13 @@ unfolding sweep
 sweep-fewer [] st st′ e = let p : st ≡ st′ = cc in omega (arith, ap openCount p)
 sweep-fewer (mask ∷ masks) st st′ e = go (sweep-fewer masks (settle mask st) st′) (contradicts mask st) e
   where
-    go : (sweep masks (settle mask st) ≡ Stands st′ → openCount st′ ≤ openCount (settle mask st)) → (b : Bool) → cond b Broken (sweep masks (settle mask st)) ≡ Stands st′ → openCount st′ ≤ openCount st
+    go : (sweep masks (settle mask st) ≡ Stands st′ → openCount st′ ≤ openCount (settle mask st)) → (b : Bool)
+        → cond b Broken (sweep masks (settle mask st)) ≡ Stands st′ → openCount st′ ≤ openCount st
     go ih true q = not-broken q
     go ih false q = omega (arith, ih q, settle-fewer mask st)
 
-pub sweep-still : (masks : List (List Bool)) (st st′ : List Status) → sweep masks st ≡ Stands st′ → openCount st ≤ openCount st′ → (st′ ≡ st) × Calm masks st
+pub sweep-still : (masks : List (List Bool)) (st st′ : List Status) → sweep masks st ≡ Stands st′ → openCount st ≤ openCount st′
+    → (st′ ≡ st) × Calm masks st
 unfolding sweep
 sweep-still [] st st′ e h = (let p : st′ ≡ st = cc in p, tt)
 sweep-still (mask ∷ masks) st st′ e h = go (sweep-still masks st st′) (contradicts mask st) refl e
@@ -244,7 +265,8 @@ sweep-still (mask ∷ masks) st st′ e h = go (sweep-still masks st st′) (con
         (r .0, (c, r .1))
 
 -- what sweeping until nothing changes leaves
-pub stable-rest : (f : ℕ) (masks : List (List Bool)) (st st′ : List Status) → openCount st < f → stable f masks st ≡ Stands st′ → (openCount st′ ≤ openCount st) × Calm masks st′
+pub stable-rest : (f : ℕ) (masks : List (List Bool)) (st st′ : List Status) → openCount st < f → stable f masks st ≡ Stands st′
+    → (openCount st′ ≤ openCount st) × Calm masks st′
 unfolding stable
 stable-rest zero masks st st′ h e = absurd (omega arith)
 stable-rest (suc f) masks st st′ h e = go (λ s. stable-rest f masks s st′) (sweep masks st) refl e
@@ -252,7 +274,8 @@ stable-rest (suc f) masks st st′ h e = go (λ s. stable-rest f masks s st′) 
     IH : Type 0
     IH = (s : List Status) → openCount s < f → stable f masks s ≡ Stands st′ → (openCount st′ ≤ openCount s) × Calm masks st′
 
-    next : IH → (s : List Status) → sweep masks st ≡ Stands s → (b : Bool) → eqb (openCount s) (openCount st) ≡ b → cond b (Stands s) (stable f masks s) ≡ Stands st′ → (openCount st′ ≤ openCount st) × Calm masks st′
+    next : IH → (s : List Status) → sweep masks st ≡ Stands s → (b : Bool) → eqb (openCount s) (openCount st) ≡ b
+        → cond b (Stands s) (stable f masks s) ≡ Stands st′ → (openCount st′ ≤ openCount st) × Calm masks st′
     next ih s q true c r =
         let n : openCount s ≡ openCount st = eqb-true (openCount s) (openCount st) c in
         let p : s ≡ st′ = cc in
@@ -264,7 +287,9 @@ stable-rest (suc f) masks st st′ h e = go (λ s. stable-rest f masks s st′) 
         let w = ih s (omega (arith, n)) r in
         (omega (arith, w .0), w .1)
 
-    go : IH → (o : Outcome) → sweep masks st ≡ o → onStands o Broken (λ s. cond (eqb (openCount s) (openCount st)) (Stands s) (stable f masks s)) ≡ Stands st′ → (openCount st′ ≤ openCount st) × Calm masks st′
+    go : IH → (o : Outcome) → sweep masks st ≡ o
+        → onStands o Broken (λ s. cond (eqb (openCount s) (openCount st)) (Stands s) (stable f masks s)) ≡ Stands st′
+        → (openCount st′ ≤ openCount st) × Calm masks st′
     go ih Broken q r = not-broken r
     go ih (Stands s) q r = next ih s q (eqb (openCount s) (openCount st)) refl r
 
@@ -285,7 +310,9 @@ unfolding exact contradicts
 calm-exact [] st z c = refl
 calm-exact (mask ∷ masks) st z c =
     let p = or-neither (ltb 2 (takenOn mask st)) (ltb (takenOn mask st + openOn mask st) 2) (c .0) in
-    both-and (eq-eqb (takenOn mask st) 2 (omega (arith, ltb-false 2 (takenOn mask st) (p .0), ltb-false (takenOn mask st + openOn mask st) 2 (p .1), open-under mask st)))
+    both-and
+    (eq-eqb (takenOn mask st) 2
+    (omega (arith, ltb-false 2 (takenOn mask st) (p .0), ltb-false (takenOn mask st + openOn mask st) 2 (p .1), open-under mask st)))
     (calm-exact masks st z (c .1))
 
 one-full : (s v : Status) → bit (isOpen s) ≡ 0 → allows s v ≡ equal s v
@@ -329,7 +356,8 @@ split-tail : (a p q r : Bool) → bit p ≡ bit q + bit r → bit (a && p) ≡ b
 split-tail true p q r e = e
 split-tail false p q r e = refl
 
-split-agrees : (st : List Status) (k : ℕ) → getD (opens st) k false ≡ true → (x : List Status) → bit (agrees st x) ≡ bit (agrees (set st k Taken) x) + bit (agrees (set st k Rejected) x)
+split-agrees : (st : List Status) (k : ℕ) → getD (opens st) k false ≡ true → (x : List Status)
+    → bit (agrees st x) ≡ bit (agrees (set st k Taken) x) + bit (agrees (set st k Rejected) x)
 unfolding agrees
 split-agrees [] k e x = absurd (true≢false (sym e))
 split-agrees (Taken ∷ st) zero e x = absurd (true≢false (sym e))
@@ -339,7 +367,8 @@ split-agrees (Undecided ∷ st) zero e (Taken ∷ x) = omega arith
 split-agrees (Undecided ∷ st) zero e (Rejected ∷ x) = omega arith
 split-agrees (Undecided ∷ st) zero e (Undecided ∷ x) = refl
 split-agrees (s ∷ st) (suc k) e [] = refl
-split-agrees (s ∷ st) (suc k) e (v ∷ x) = split-tail (allows s v) (agrees st x) (agrees (set st k Taken) x) (agrees (set st k Rejected) x) (split-agrees st k e x)
+split-agrees (s ∷ st) (suc k) e (v ∷ x) =
+    split-tail (allows s v) (agrees st x) (agrees (set st k Taken) x) (agrees (set st k Rejected) x) (split-agrees st k e x)
 
 -- ---- the candidate chosen is undecided
 first-open : (a : List Bool) → (count a ≡ 0 → ⊥) → getD a (first a) false ≡ true
@@ -360,9 +389,12 @@ unfolding choose
 choose-open [] st n = first-open (opens st) (λ e. n (sym (count-open st) ∙ e))
 choose-open (mask ∷ masks) st n = go (choose-open masks st n) (eqb (openOn mask st) 0) refl
   where
-    go : getD (opens st) (choose masks st) false ≡ true → (b : Bool) → eqb (openOn mask st) 0 ≡ b → getD (opens st) (cond b (choose masks st) (first (both mask (opens st)))) false ≡ true
+    go : getD (opens st) (choose masks st) false ≡ true → (b : Bool) → eqb (openOn mask st) 0 ≡ b
+        → getD (opens st) (cond b (choose masks st) (first (both mask (opens st)))) false ≡ true
     go ih true c = ih
-    go ih false c = both-second mask (opens st) (first (both mask (opens st))) (first-open (both mask (opens st)) (λ e. eqb-false (openOn mask st) 0 c (sym (count-opens mask st) ∙ e)))
+    go ih false c =
+        both-second mask (opens st) (first (both mask (opens st)))
+        (first-open (both mask (opens st)) (λ e. eqb-false (openOn mask st) 0 c (sym (count-opens mask st) ∙ e)))
 
 times-append : (x : List Status) (a b : List (List Status)) → times x (a ++ b) ≡ times x a + times x b
 unfolding times
@@ -386,7 +418,9 @@ module _ (masks : List (List Bool)) (x : List Status) where
       IH = (s : List Status) → openCount s < f → times x (solutions f masks s) ≡ g s
 
       next : IH → (s : List Status) → openCount s ≤ openCount st → Calm masks s → (b : Bool) → eqb (openCount s) 0 ≡ b
-          → times x (cond b (s ∷ []) (solutions f masks (set s (choose masks s) Taken) ++ solutions f masks (set s (choose masks s) Rejected))) ≡ g s
+          → times x
+          (cond b (s ∷ []) (solutions f masks (set s (choose masks s) Taken) ++ solutions f masks (set s (choose masks s) Rejected))) ≡ g
+          s
       next ih s l c true q = omega (arith, w .1 s (eqb-true (openCount s) 0 q) c)
       next ih s l c false q =
           let o : getD (opens s) (choose masks s) false ≡ true = choose-open masks s (eqb-false (openCount s) 0 q) in
@@ -399,7 +433,10 @@ module _ (masks : List (List Bool)) (x : List Status) where
           )
 
       go : IH → (o : Outcome) → stable (suc (openCount st)) masks st ≡ o → onStands o 0 g ≡ g st
-          → times x (onStands o [] (λ s. cond (eqb (openCount s) 0) (s ∷ []) (solutions f masks (set s (choose masks s) Taken) ++ solutions f masks (set s (choose masks s) Rejected)))) ≡ g st
+          → times x
+          (onStands o []
+          (λ s. cond (eqb (openCount s) 0) (s ∷ [])
+          (solutions f masks (set s (choose masks s) Taken) ++ solutions f masks (set s (choose masks s) Rejected)))) ≡ g st
       go ih Broken q a = a
       go ih (Stands s) q a =
           let r = stable-rest (suc (openCount st)) masks st s (omega arith) q in
@@ -439,7 +476,11 @@ module _ (masks : List (List Bool)) (x : List Status) where
           ) f st h
           ∙ ap bit (and-true (agrees st x))
       go false e =
-          shared (λ s. 0) ((λ s. on-none (stable (suc (openCount s)) masks s)), (λ s z c. not-same s e (calm-exact masks s z c) (same s x) refl), (λ s k o. refl)) f st h
+          shared (λ s. 0) (
+            (λ s. on-none (stable (suc (openCount s)) masks s)),
+            (λ s z c. not-same s e (calm-exact masks s z c) (same s x) refl),
+            (λ s k o. refl),
+          ) f st h
           ∙ and-false (agrees st x)
 
 -- ---- those that the test accepts
@@ -449,7 +490,8 @@ module _ (accept : List Status → Bool) where
   times-filter x [] = cond-is (λ (n : ℕ). 0 ≡ n) (accept x) refl refl
   times-filter x (y ∷ xs) = go (times-filter x xs) (accept x) refl (accept y) refl (same y x) refl
     where
-      go : times x (filter accept xs) ≡ cond (accept x) (times x xs) 0 → (a : Bool) → accept x ≡ a → (b : Bool) → accept y ≡ b → (c : Bool) → same y x ≡ c
+      go : times x (filter accept xs) ≡ cond (accept x) (times x xs) 0 → (a : Bool) → accept x ≡ a → (b : Bool) → accept y ≡ b
+          → (c : Bool) → same y x ≡ c
           → times x (keep b y (filter accept xs)) ≡ cond a (bit (same y x) + times x xs) 0
       go ih true p true q c r = omega (arith, rw p at ih)
       go ih false p false q c r = rw p at ih

@@ -26,13 +26,16 @@ module _ (accept : List Status → Bool) (n : ℕ) (masks : List (List Bool)) (t
   -- the leaves: each selection that has two taken on each edge, once, and no other
   pub leaves-all : (x : List Status) → times x (leaves t) ≡ bit (agrees (replicate n Undecided) x && exact masks x)
   leaves-all x =
-      ap (times x) (sym (tree-leaves masks t (suc n) (omega (arith, open-blank n)))) ∙ finds masks x (suc n) (replicate n Undecided) (omega (arith, open-blank n))
+      ap (times x) (sym (tree-leaves masks t (suc n) (omega (arith, open-blank n))))
+      ∙ finds masks x (suc n) (replicate n Undecided) (omega (arith, open-blank n))
 
   -- the accepted leaves: each selection that has two taken on each edge and that the test accepts, once, and no other
-  pub leaves-once : (x : List Status) → times x (filter accept (leaves t)) ≡ cond (accept x) (bit (agrees (replicate n Undecided) x && exact masks x)) 0
+  pub leaves-once : (x : List Status)
+      → times x (filter accept (leaves t)) ≡ cond (accept x) (bit (agrees (replicate n Undecided) x && exact masks x)) 0
   leaves-once x =
       ap (λ (l : List (List Status)). times x (filter accept l)) (sym (tree-leaves masks t (suc n) (omega (arith, open-blank n))))
-      ∙ times-filter accept x _ ∙ ap (λ (m : ℕ). cond (accept x) m 0) (finds masks x (suc n) (replicate n Undecided) (omega (arith, open-blank n)))
+      ∙ times-filter accept x _
+      ∙ ap (λ (m : ℕ). cond (accept x) m 0) (finds masks x (suc n) (replicate n Undecided) (omega (arith, open-blank n)))
 
   module _ (cap limit : ℕ) where
     search-follows : search cap accept limit n masks ≡ follow cap accept limit (steps t) (record { work = 0; found = []; ended = 0 })
@@ -40,9 +43,13 @@ module _ (accept : List Status → Bool) (n : ℕ) (masks : List (List Bool)) (t
     search-follows = walk-follows cap accept limit t (suc n) (omega (arith, open-blank n)) nothing
 
     pub search-ends : Exhausted accept cap limit (steps t) (search cap accept limit n masks)
-        ⊎ (OneMore accept cap limit (steps t) (search cap accept limit n masks) ⊎ Passed accept cap limit (steps t) (search cap accept limit n masks))
+        ⊎ (OneMore accept cap limit (steps t) (search cap accept limit n masks)
+        ⊎ Passed accept cap limit (steps t) (search cap accept limit n masks))
     search-ends =
-        subst (λ (l : Log). Exhausted accept cap limit (steps t) l ⊎ (OneMore accept cap limit (steps t) l ⊎ Passed accept cap limit (steps t) l)) (sym search-follows) (follow-ends cap accept limit (steps t))
+        subst
+        (λ (l : Log). Exhausted accept cap limit (steps t) l
+        ⊎ (OneMore accept cap limit (steps t) l ⊎ Passed accept cap limit (steps t) l)) (sym search-follows)
+        (follow-ends cap accept limit (steps t))
 
     -- the walk's assumptions up to one accepted leaf more than the cap
     abbrev pub upToCap : ℕ
@@ -71,7 +78,8 @@ module _ (accept : List Status → Bool) (n : ℕ) (masks : List (List Bool)) (t
     ended-whole e = go search-ends
       where
         go : Exhausted accept cap limit (steps t) (search cap accept limit n masks)
-            ⊎ (OneMore accept cap limit (steps t) (search cap accept limit n masks) ⊎ Passed accept cap limit (steps t) (search cap accept limit n masks)) → Whole
+            ⊎ (OneMore accept cap limit (steps t) (search cap accept limit n masks)
+            ⊎ Passed accept cap limit (steps t) (search cap accept limit n masks)) → Whole
         go (inl x) = record {
           few = subst (λ (l : List (List Status)). length (filter accept l) ≤ cap) (sought-steps t) (x .few);
           short = subst (λ (m : ℕ). m ≤ limit) (made-steps t) (x .short);
@@ -90,7 +98,8 @@ module _ (accept : List Status → Bool) (n : ℕ) (masks : List (List Bool)) (t
     ended-many e = go search-ends
       where
         go : Exhausted accept cap limit (steps t) (search cap accept limit n masks)
-            ⊎ (OneMore accept cap limit (steps t) (search cap accept limit n masks) ⊎ Passed accept cap limit (steps t) (search cap accept limit n masks)) → Many
+            ⊎ (OneMore accept cap limit (steps t) (search cap accept limit n masks)
+            ⊎ Passed accept cap limit (steps t) (search cap accept limit n masks)) → Many
         go (inl x) = zero-many (x .ended) e
         go (inr (inl x)) = record {
           many = subst (λ (l : List (List Status)). cap < length (filter accept l)) (sought-steps t) (x .many);
@@ -107,30 +116,38 @@ module _ (accept : List Status → Bool) (n : ℕ) (masks : List (List Bool)) (t
     ended-long e = go search-ends
       where
         go : Exhausted accept cap limit (steps t) (search cap accept limit n masks)
-            ⊎ (OneMore accept cap limit (steps t) (search cap accept limit n masks) ⊎ Passed accept cap limit (steps t) (search cap accept limit n masks)) → Long
+            ⊎ (OneMore accept cap limit (steps t) (search cap accept limit n masks)
+            ⊎ Passed accept cap limit (steps t) (search cap accept limit n masks)) → Long
         go (inl x) = zero-long (x .ended) e
         go (inr (inl x)) = many-long (x .ended) e
         go (inr (inr x)) = record { long = x .long; work = x .work }
 
     -- it ends in one of the three ways
-    pub ends : (search cap accept limit n masks .ended ≡ 0) ⊎ ((search cap accept limit n masks .ended ≡ No.Many) ⊎ (search cap accept limit n masks .ended ≡ No.TooLong))
+    pub ends : (search cap accept limit n masks .ended ≡ 0)
+        ⊎ ((search cap accept limit n masks .ended ≡ No.Many) ⊎ (search cap accept limit n masks .ended ≡ No.TooLong))
     ends = go search-ends
       where
         go : Exhausted accept cap limit (steps t) (search cap accept limit n masks)
-            ⊎ (OneMore accept cap limit (steps t) (search cap accept limit n masks) ⊎ Passed accept cap limit (steps t) (search cap accept limit n masks))
-            → (search cap accept limit n masks .ended ≡ 0) ⊎ ((search cap accept limit n masks .ended ≡ No.Many) ⊎ (search cap accept limit n masks .ended ≡ No.TooLong))
+            ⊎ (OneMore accept cap limit (steps t) (search cap accept limit n masks)
+            ⊎ Passed accept cap limit (steps t) (search cap accept limit n masks))
+            → (search cap accept limit n masks .ended ≡ 0)
+            ⊎ ((search cap accept limit n masks .ended ≡ No.Many) ⊎ (search cap accept limit n masks .ended ≡ No.TooLong))
         go (inl x) = inl (x .ended)
         go (inr (inl x)) = inr (inl (x .ended))
         go (inr (inr x)) = inr (inr (x .ended))
 
     -- the other way round
     pub whole-cap : length accepted-leaves ≤ cap → upToCap ≡ assumptions t
-    whole-cap h = up-whole cap accept limit (steps t) (subst (λ (l : List (List Status)). length (filter accept l) ≤ cap) (sym (sought-steps t)) h) ∙ made-steps t
+    whole-cap h =
+        up-whole cap accept limit (steps t) (subst (λ (l : List (List Status)). length (filter accept l) ≤ cap) (sym (sought-steps t)) h)
+        ∙ made-steps t
 
     pub whole-ended : length accepted-leaves ≤ cap → assumptions t ≤ limit → search cap accept limit n masks .ended ≡ 0
     whole-ended f s = go ends
       where
-        go : (search cap accept limit n masks .ended ≡ 0) ⊎ ((search cap accept limit n masks .ended ≡ No.Many) ⊎ (search cap accept limit n masks .ended ≡ No.TooLong)) → search cap accept limit n masks .ended ≡ 0
+        go : (search cap accept limit n masks .ended ≡ 0)
+            ⊎ ((search cap accept limit n masks .ended ≡ No.Many) ⊎ (search cap accept limit n masks .ended ≡ No.TooLong))
+            → search cap accept limit n masks .ended ≡ 0
         go (inl e) = e
         go (inr (inl e)) = absurd (omega (arith, ended-many e .many))
         go (inr (inr e)) = absurd (omega (arith, ended-long e .long, whole-cap f))
@@ -138,7 +155,9 @@ module _ (accept : List Status → Bool) (n : ℕ) (masks : List (List Bool)) (t
     pub many-ended : cap < length accepted-leaves → upToCap ≤ limit → search cap accept limit n masks .ended ≡ No.Many
     many-ended m s = go ends
       where
-        go : (search cap accept limit n masks .ended ≡ 0) ⊎ ((search cap accept limit n masks .ended ≡ No.Many) ⊎ (search cap accept limit n masks .ended ≡ No.TooLong)) → search cap accept limit n masks .ended ≡ No.Many
+        go : (search cap accept limit n masks .ended ≡ 0)
+            ⊎ ((search cap accept limit n masks .ended ≡ No.Many) ⊎ (search cap accept limit n masks .ended ≡ No.TooLong))
+            → search cap accept limit n masks .ended ≡ No.Many
         go (inl e) = absurd (omega (arith, ended-whole e .few))
         go (inr (inl e)) = e
         go (inr (inr e)) = absurd (omega (arith, ended-long e .long))
@@ -146,13 +165,16 @@ module _ (accept : List Status → Bool) (n : ℕ) (masks : List (List Bool)) (t
     pub long-ended : limit < upToCap → search cap accept limit n masks .ended ≡ No.TooLong
     long-ended l = go ends
       where
-        go : (search cap accept limit n masks .ended ≡ 0) ⊎ ((search cap accept limit n masks .ended ≡ No.Many) ⊎ (search cap accept limit n masks .ended ≡ No.TooLong)) → search cap accept limit n masks .ended ≡ No.TooLong
+        go : (search cap accept limit n masks .ended ≡ 0)
+            ⊎ ((search cap accept limit n masks .ended ≡ No.Many) ⊎ (search cap accept limit n masks .ended ≡ No.TooLong))
+            → search cap accept limit n masks .ended ≡ No.TooLong
         go (inl e) = absurd (omega (arith, ended-whole e .short, whole-cap (ended-whole e .few)))
         go (inr (inl e)) = absurd (omega (arith, ended-many e .short))
         go (inr (inr e)) = e
 
 -- ---- the fuel that `stable` and `search` are given is enough: any more gives the same
-pub stable-fuel : (masks : List (List Bool)) (st : List Status) (f : ℕ) → openCount st < f → stable f masks st ≡ stable (suc (openCount st)) masks st
+pub stable-fuel : (masks : List (List Bool)) (st : List Status) (f : ℕ) → openCount st < f
+    → stable f masks st ≡ stable (suc (openCount st)) masks st
 stable-fuel masks st f h =
     let r = sweeps masks (suc (openCount st)) st (omega arith) in
     sweeps-stable masks (r .1) f h ∙ sym (sweeps-stable masks (r .1) (suc (openCount st)) (omega arith))
@@ -162,7 +184,8 @@ pub search-fuel : (cap : ℕ) (accept : List Status → Bool) (limit n : ℕ) (m
 unfolding search
 search-fuel cap accept limit n masks f h =
     let t = tree masks (replicate n Undecided) in
-    walk-follows cap accept limit t f (omega (arith, open-blank n)) nothing ∙ sym (walk-follows cap accept limit t (suc n) (omega (arith, open-blank n)) nothing)
+    walk-follows cap accept limit t f (omega (arith, open-blank n)) nothing
+    ∙ sym (walk-follows cap accept limit t (suc n) (omega (arith, open-blank n)) nothing)
 
 -- a higher limit changes no answer but 19
 pub higher-limit : (cap : ℕ) (accept : List Status → Bool) (a b : ℕ) → a ≤ b → (n : ℕ) (masks : List (List Bool))

@@ -13,7 +13,8 @@ use Rattle.lists.specs.Lists.{filter, keep}
 use Rattle.paper.specs.Refusals as No
 use Rattle.paper.specs.Walk.{Status, Taken, Rejected, openCount, choose, Log, assume, leaf, walk}
 use Rattle.means_walk.specs.Tree as Tree
-use Rattle.means_walk.specs.Tree.{Tree, broken, branch, assumptions, leaves, Step, assumes, comes, steps, made, sought, upTo, Exhausted, OneMore, Passed}
+use Rattle.means_walk.specs.Tree.{Tree, broken, branch, assumptions, leaves, Step, assumes, comes, steps, made, sought, upTo}
+use Rattle.means_walk.specs.Tree.{Exhausted, OneMore, Passed}
 use Rattle.means_walk.proofs.Grown.{sweeps-stable, sweeps-fewer, chosen-fewer}
 
 -- ---- the steps of a tree: its assumptions and its leaves
@@ -64,7 +65,8 @@ module _ (cap : ℕ) (accept : List Status → Bool) (limit : ℕ) where
   unfolding follow
   follow-leaf s log e = rw e
 
-  follow-branch : (a b : List Step) (log : Log) → follow b (assume limit (follow a (assume limit log))) ≡ follow (assumes ∷ (a ++ (assumes ∷ b))) log
+  follow-branch : (a b : List Step) (log : Log)
+      → follow b (assume limit (follow a (assume limit log))) ≡ follow (assumes ∷ (a ++ (assumes ∷ b))) log
   unfolding follow
   follow-branch a b log = sym (follow-append a (assumes ∷ b) (assume limit log))
 
@@ -106,11 +108,13 @@ module _ (cap : ℕ) (accept : List Status → Bool) (limit : ℕ) where
       go false e p q = rw e (sym (follow-ended (assumes ∷ (steps a ++ (assumes ∷ steps b))) log e))
 
   -- ---- one step
-  assume-one : (log : Log) → log .ended ≡ 0 → log .work < limit → assume limit log ≡ record { work = log .work + 1; found = log .found; ended = 0 }
+  assume-one : (log : Log) → log .ended ≡ 0 → log .work < limit
+      → assume limit log ≡ record { work = log .work + 1; found = log .found; ended = 0 }
   unfolding assume
   assume-one log e h = rw (eq-eqb (log .ended) 0 e, lt-ltb (log .work) limit h)
 
-  assume-end : (log : Log) → log .ended ≡ 0 → limit ≤ log .work → assume limit log ≡ record { work = log .work; found = log .found; ended = No.TooLong }
+  assume-end : (log : Log) → log .ended ≡ 0 → limit ≤ log .work
+      → assume limit log ≡ record { work = log .work; found = log .found; ended = No.TooLong }
   unfolding assume
   assume-end log e h = rw (eq-eqb (log .ended) 0 e, le-ltb (log .work) limit h)
 
@@ -143,7 +147,8 @@ module _ (cap : ℕ) (accept : List Status → Bool) (limit : ℕ) where
   abbrev Full : List Step → Log → Log → Type 0
   Full ss log r = (r .ended ≡ 0) × (r .work ≡ log .work + made ss) × (r .found ≡ log .found ++ filter accept (sought ss))
 
-  follow-full : (ss : List Step) (log : Log) → log .ended ≡ 0 → log .work + made ss ≤ limit → length (log .found) + length (filter accept (sought ss)) ≤ cap
+  follow-full : (ss : List Step) (log : Log) → log .ended ≡ 0 → log .work + made ss ≤ limit
+      → length (log .found) + length (filter accept (sought ss)) ≤ cap
       → Full ss log (follow ss log)
   unfolding follow made sought filter keep
   follow-full [] log e h l = (e, omega arith, sym (append-nil (log .found)))
@@ -155,9 +160,12 @@ module _ (cap : ℕ) (accept : List Status → Bool) (limit : ℕ) where
   follow-full (comes st ∷ ss) log e h l = go (accept st) refl l (follow-full ss)
     where
       IH : Type 0
-      IH = (log : Log) → log .ended ≡ 0 → log .work + made ss ≤ limit → length (log .found) + length (filter accept (sought ss)) ≤ cap → Full ss log (follow ss log)
+      IH =
+          (log : Log) → log .ended ≡ 0 → log .work + made ss ≤ limit → length (log .found) + length (filter accept (sought ss)) ≤ cap
+          → Full ss log (follow ss log)
 
-      go : (b : Bool) → accept st ≡ b → length (log .found) + length (keep b st (filter accept (sought ss))) ≤ cap → IH → Full (comes st ∷ ss) log (follow (comes st ∷ ss) log)
+      go : (b : Bool) → accept st ≡ b → length (log .found) + length (keep b st (filter accept (sought ss))) ≤ cap → IH
+          → Full (comes st ∷ ss) log (follow (comes st ∷ ss) log)
       go true a l ih =
           let next : Log = record { work = log .work; found = log .found ++ (st ∷ []); ended = log .ended } in
           let r = ih next e h (omega (arith, length-append (log .found) (st ∷ []))) in
@@ -173,7 +181,8 @@ module _ (cap : ℕ) (accept : List Status → Bool) (limit : ℕ) where
   abbrev Over : ℕ → List Step → Log → Log → Type 0
   Over c ss log r = (r .ended ≡ No.Many) × (r .work ≡ log .work + made (upTo accept c ss))
 
-  follow-over : (ss : List Step) (log : Log) (c : ℕ) → log .ended ≡ 0 → length (log .found) + c ≡ cap → c < length (filter accept (sought ss)) → log .work + made (upTo accept c ss) ≤ limit
+  follow-over : (ss : List Step) (log : Log) (c : ℕ) → log .ended ≡ 0 → length (log .found) + c ≡ cap
+      → c < length (filter accept (sought ss)) → log .work + made (upTo accept c ss) ≤ limit
       → Over c ss log (follow ss log)
   unfolding follow made sought filter keep upTo
   follow-over [] log c e n m h = absurd (omega arith)
@@ -184,8 +193,10 @@ module _ (cap : ℕ) (accept : List Status → Bool) (limit : ℕ) where
       subst (λ (x : Log). Over c (assumes ∷ ss) log x) (sym q) (r .0, omega arith)
   follow-over (comes st ∷ ss) log zero e n m h = go (accept st) refl m h (follow-over ss log zero e n)
     where
-      go : (b : Bool) → accept st ≡ b → 0 < length (keep b st (filter accept (sought ss))) → log .work + made (cond b [] (comes st ∷ upTo accept 0 ss)) ≤ limit
-          → (0 < length (filter accept (sought ss)) → log .work + made (upTo accept 0 ss) ≤ limit → Over 0 ss log (follow ss log)) → Over 0 (comes st ∷ ss) log (follow (comes st ∷ ss) log)
+      go : (b : Bool) → accept st ≡ b → 0 < length (keep b st (filter accept (sought ss)))
+          → log .work + made (cond b [] (comes st ∷ upTo accept 0 ss)) ≤ limit
+          → (0 < length (filter accept (sought ss)) → log .work + made (upTo accept 0 ss) ≤ limit → Over 0 ss log (follow ss log))
+          → Over 0 (comes st ∷ ss) log (follow (comes st ∷ ss) log)
       go true a m h ih =
           let next : Log = record { work = log .work; found = log .found; ended = No.Many } in
           let q = follow-comes st ss log next (come-full st log e a (omega arith)) ∙ follow-ended ss next refl in
@@ -197,9 +208,12 @@ module _ (cap : ℕ) (accept : List Status → Bool) (limit : ℕ) where
   follow-over (comes st ∷ ss) log (suc c) e n m h = go (accept st) refl m h (follow-over ss)
     where
       IH : Type 0
-      IH = (log : Log) (c : ℕ) → log .ended ≡ 0 → length (log .found) + c ≡ cap → c < length (filter accept (sought ss)) → log .work + made (upTo accept c ss) ≤ limit → Over c ss log (follow ss log)
+      IH =
+          (log : Log) (c : ℕ) → log .ended ≡ 0 → length (log .found) + c ≡ cap → c < length (filter accept (sought ss))
+          → log .work + made (upTo accept c ss) ≤ limit → Over c ss log (follow ss log)
 
-      go : (b : Bool) → accept st ≡ b → suc c < length (keep b st (filter accept (sought ss))) → log .work + made (cond b (upTo accept c ss) (upTo accept (suc c) ss)) ≤ limit
+      go : (b : Bool) → accept st ≡ b → suc c < length (keep b st (filter accept (sought ss)))
+          → log .work + made (cond b (upTo accept c ss) (upTo accept (suc c) ss)) ≤ limit
           → IH → Over (suc c) (comes st ∷ ss) log (follow (comes st ∷ ss) log)
       go true a m h ih =
           let next : Log = record { work = log .work; found = log .found ++ (st ∷ []); ended = log .ended } in
@@ -215,13 +229,16 @@ module _ (cap : ℕ) (accept : List Status → Bool) (limit : ℕ) where
   abbrev Late : Log → Type 0
   Late r = (r .ended ≡ No.TooLong) × (r .work ≡ limit)
 
-  follow-late : (ss : List Step) (log : Log) (c : ℕ) → log .ended ≡ 0 → log .work ≤ limit → length (log .found) + c ≡ cap → limit < log .work + made (upTo accept c ss) → Late (follow ss log)
+  follow-late : (ss : List Step) (log : Log) (c : ℕ) → log .ended ≡ 0 → log .work ≤ limit → length (log .found) + c ≡ cap
+      → limit < log .work + made (upTo accept c ss) → Late (follow ss log)
   unfolding follow made upTo
   follow-late [] log c e w n h = absurd (omega arith)
   follow-late (assumes ∷ ss) log c e w n h = go (decLt (log .work) limit) (follow-late ss)
     where
       IH : Type 0
-      IH = (log : Log) (c : ℕ) → log .ended ≡ 0 → log .work ≤ limit → length (log .found) + c ≡ cap → limit < log .work + made (upTo accept c ss) → Late (follow ss log)
+      IH =
+          (log : Log) (c : ℕ) → log .ended ≡ 0 → log .work ≤ limit → length (log .found) + c ≡ cap
+          → limit < log .work + made (upTo accept c ss) → Late (follow ss log)
 
       go : Dec (log .work < limit) → IH → Late (follow (assumes ∷ ss) log)
       go (yes l) ih =
@@ -234,15 +251,19 @@ module _ (cap : ℕ) (accept : List Status → Bool) (limit : ℕ) where
           subst Late (sym q) (refl, omega (arith, l))
   follow-late (comes st ∷ ss) log zero e w n h = go (accept st) refl h (follow-late ss log zero e w n)
     where
-      go : (b : Bool) → accept st ≡ b → limit < log .work + made (cond b [] (comes st ∷ upTo accept 0 ss)) → (limit < log .work + made (upTo accept 0 ss) → Late (follow ss log)) → Late (follow (comes st ∷ ss) log)
+      go : (b : Bool) → accept st ≡ b → limit < log .work + made (cond b [] (comes st ∷ upTo accept 0 ss))
+          → (limit < log .work + made (upTo accept 0 ss) → Late (follow ss log)) → Late (follow (comes st ∷ ss) log)
       go true a h ih = absurd (omega arith)
       go false a h ih = subst Late (sym (follow-comes st ss log log (come-not st log e a))) (ih h)
   follow-late (comes st ∷ ss) log (suc c) e w n h = go (accept st) refl h (follow-late ss)
     where
       IH : Type 0
-      IH = (log : Log) (c : ℕ) → log .ended ≡ 0 → log .work ≤ limit → length (log .found) + c ≡ cap → limit < log .work + made (upTo accept c ss) → Late (follow ss log)
+      IH =
+          (log : Log) (c : ℕ) → log .ended ≡ 0 → log .work ≤ limit → length (log .found) + c ≡ cap
+          → limit < log .work + made (upTo accept c ss) → Late (follow ss log)
 
-      go : (b : Bool) → accept st ≡ b → limit < log .work + made (cond b (upTo accept c ss) (upTo accept (suc c) ss)) → IH → Late (follow (comes st ∷ ss) log)
+      go : (b : Bool) → accept st ≡ b → limit < log .work + made (cond b (upTo accept c ss) (upTo accept (suc c) ss)) → IH
+          → Late (follow (comes st ∷ ss) log)
       go true a h ih =
           let next : Log = record { work = log .work; found = log .found ++ (st ∷ []); ended = log .ended } in
           subst Late (sym (follow-comes st ss log next (come-more st log e a (omega arith))))
@@ -256,13 +277,15 @@ module _ (cap : ℕ) (accept : List Status → Bool) (limit : ℕ) where
   up-all (assumes ∷ ss) c h = ap suc (up-all ss c h)
   up-all (comes st ∷ ss) zero h = go (accept st) h (up-all ss zero)
     where
-      go : (b : Bool) → length (keep b st (filter accept (sought ss))) ≤ 0 → (length (filter accept (sought ss)) ≤ 0 → made (upTo accept 0 ss) ≡ made ss)
+      go : (b : Bool) → length (keep b st (filter accept (sought ss))) ≤ 0
+          → (length (filter accept (sought ss)) ≤ 0 → made (upTo accept 0 ss) ≡ made ss)
           → made (cond b [] (comes st ∷ upTo accept 0 ss)) ≡ made ss
       go true h ih = absurd (omega arith)
       go false h ih = ih h
   up-all (comes st ∷ ss) (suc c) h = go (accept st) h (up-all ss)
     where
-      go : (b : Bool) → length (keep b st (filter accept (sought ss))) ≤ suc c → ((c : ℕ) → length (filter accept (sought ss)) ≤ c → made (upTo accept c ss) ≡ made ss)
+      go : (b : Bool) → length (keep b st (filter accept (sought ss))) ≤ suc c
+          → ((c : ℕ) → length (filter accept (sought ss)) ≤ c → made (upTo accept c ss) ≡ made ss)
           → made (cond b (upTo accept c ss) (upTo accept (suc c) ss)) ≡ made ss
       go true h ih = ih c (omega arith)
       go false h ih = ih (suc c) h
@@ -279,7 +302,8 @@ module _ (cap : ℕ) (accept : List Status → Bool) (limit : ℕ) where
       go false h = h
   up-least (comes st ∷ ss) (suc c) = go (accept st) (up-least ss c) (up-least ss (suc c))
     where
-      go : (b : Bool) → made (upTo accept c ss) ≤ made ss → made (upTo accept (suc c) ss) ≤ made ss → made (cond b (upTo accept c ss) (upTo accept (suc c) ss)) ≤ made ss
+      go : (b : Bool) → made (upTo accept c ss) ≤ made ss → made (upTo accept (suc c) ss) ≤ made ss
+          → made (cond b (upTo accept c ss) (upTo accept (suc c) ss)) ≤ made ss
       go true h k = h
       go false h k = k
 
@@ -290,14 +314,16 @@ module _ (cap : ℕ) (accept : List Status → Bool) (limit : ℕ) where
   abbrev none : Log
   none = record { work = 0; found = []; ended = 0 }
 
-  pub follow-ends : (ss : List Step) → Exhausted accept cap limit ss (follow ss none) ⊎ (OneMore accept cap limit ss (follow ss none) ⊎ Passed accept cap limit ss (follow ss none))
+  pub follow-ends : (ss : List Step) → Exhausted accept cap limit ss (follow ss none)
+      ⊎ (OneMore accept cap limit ss (follow ss none) ⊎ Passed accept cap limit ss (follow ss none))
   follow-ends ss = go (decLt limit (made (upTo accept cap ss))) (decLt cap (length (filter accept (sought ss))))
     where
       plus : (n : ℕ) → 0 + n ≡ n
       plus n = omega arith
 
       go : Dec (limit < made (upTo accept cap ss)) → Dec (cap < length (filter accept (sought ss)))
-          → Exhausted accept cap limit ss (follow ss none) ⊎ (OneMore accept cap limit ss (follow ss none) ⊎ Passed accept cap limit ss (follow ss none))
+          → Exhausted accept cap limit ss (follow ss none)
+          ⊎ (OneMore accept cap limit ss (follow ss none) ⊎ Passed accept cap limit ss (follow ss none))
       go (yes l) d =
           let r = follow-late ss none cap refl (omega arith) (plus cap) (omega arith) in
           inr (inr (record { ended = r .0; long = l; work = r .1 }))

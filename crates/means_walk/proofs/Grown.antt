@@ -32,20 +32,23 @@ module _ (masks : List (List Bool)) where
   sweeps zero st h = absurd (omega arith)
   sweeps (suc f) st h = go (sweep masks st) refl (sweeps f)
     where
-      next : (s : List Status) → sweep masks st ≡ Stands s → ((s : List Status) → openCount s < f → (o : Outcome) × Sweeps masks s o) → Dec (openCount s ≡ openCount st) → (o : Outcome) × Sweeps masks st o
+      next : (s : List Status) → sweep masks st ≡ Stands s → ((s : List Status) → openCount s < f → (o : Outcome) × Sweeps masks s o)
+          → Dec (openCount s ≡ openCount st) → (o : Outcome) × Sweeps masks st o
       next s e ih (yes q) = let p : s ≡ st = sweep-still masks st s e (omega arith) .0 in (Stands st, rests (e ∙ ap Stands p))
       next s e ih (no q) =
           let l : openCount s ≤ openCount st = sweep-fewer masks st s e in
           let r = ih s (omega (arith, q)) in
           (r .0, again e (λ p. q (ap openCount p)) (r .1))
 
-      go : (o : Outcome) → sweep masks st ≡ o → ((s : List Status) → openCount s < f → (o : Outcome) × Sweeps masks s o) → (o : Outcome) × Sweeps masks st o
+      go : (o : Outcome) → sweep masks st ≡ o → ((s : List Status) → openCount s < f → (o : Outcome) × Sweeps masks s o)
+          → (o : Outcome) × Sweeps masks st o
       go Broken e ih = (Broken, breaks e)
       go (Stands s) e ih = next s e ih (ℕ-discrete (openCount s) (openCount st))
 
   -- what is left has no more undecided, and after an assumption it has fewer
   pub sweeps-fewer : {st s : List Status} → Sweeps masks st (Stands s) → openCount s ≤ openCount st
-  sweeps-fewer {st} {s} w = stable-rest (suc (openCount st)) masks st s (omega arith) (sweeps-stable w (suc (openCount st)) (omega arith)) .0
+  sweeps-fewer {st} {s} w =
+      stable-rest (suc (openCount st)) masks st s (omega arith) (sweeps-stable w (suc (openCount st)) (omega arith)) .0
 
   pub chosen-fewer : (s : List Status) → (openCount s ≡ 0 → ⊥)
       → (suc (openCount (set s (choose masks s) Taken)) ≡ openCount s) × (suc (openCount (set s (choose masks s) Rejected)) ≡ openCount s)
@@ -57,7 +60,8 @@ module _ (masks : List (List Bool)) where
   grow zero st h = absurd (omega arith)
   grow (suc f) st h = go (sweeps (suc (openCount st)) st (omega arith)) (grow f)
     where
-      next : (s : List Status) → Sweeps masks st (Stands s) → ((s : List Status) → openCount s < f → Tree masks s) → Dec (openCount s ≡ 0) → Tree masks st
+      next : (s : List Status) → Sweeps masks st (Stands s) → ((s : List Status) → openCount s < f → Tree masks s) → Dec (openCount s ≡ 0)
+          → Tree masks st
       next s w ih (yes q) = leaf s w q
       next s w ih (no q) =
           let l = sweeps-fewer w in

@@ -27,7 +27,8 @@ unfolding times
 times-at x [] h = absurd (omega arith)
 times-at x (y ∷ l) h = go (same y x) refl h (times-at x l)
   where
-    go : (b : Bool) → same y x ≡ b → 0 < bit b + times x l → (0 < times x l → (i : ℕ) × (i < length l) × (getD l i [] ≡ x)) → (i : ℕ) × (i < length (y ∷ l)) × (getD (y ∷ l) i [] ≡ x)
+    go : (b : Bool) → same y x ≡ b → 0 < bit b + times x l → (0 < times x l → (i : ℕ) × (i < length l) × (getD l i [] ≡ x))
+        → (i : ℕ) × (i < length (y ∷ l)) × (getD (y ∷ l) i [] ≡ x)
     go true e h f = (0, omega arith, same-path y x e)
     go false e h f = let r = f (omega arith) in (suc (r .0), (let q = r .1 in omega arith), r .2)
 
@@ -37,7 +38,8 @@ at-times [] x i h e = absurd (omega arith)
 at-times (y ∷ l) x zero h e = let q : bit (same y x) ≡ 1 = ap bit (ap (λ (z : List Status). same z x) e ∙ same-self x) in omega arith
 at-times (y ∷ l) x (suc i) h e = omega (arith, at-times l x i (omega arith) e)
 
-pub times-one : (l : List (List Status)) (x : List Status) → times x l ≤ 1 → (i j : ℕ) → i < length l → j < length l → getD l i [] ≡ x → getD l j [] ≡ x → i ≡ j
+pub times-one : (l : List (List Status)) (x : List Status) → times x l ≤ 1 → (i j : ℕ) → i < length l → j < length l → getD l i [] ≡ x
+    → getD l j [] ≡ x → i ≡ j
 unfolding times
 times-one [] x t i j hi hj p q = absurd (omega arith)
 times-one (y ∷ l) x t zero zero hi hj p q = refl
@@ -79,11 +81,15 @@ allowed-decided Taken e = refl
 allowed-decided Rejected e = refl
 allowed-decided Undecided e = absurd (true≢false (sym e))
 
-pub agrees-state : (n : ℕ) (x : List Status) → agrees (replicate n Undecided) x ≡ true → (x ≡ stateOf (takens x)) × (length (takens x) ≡ n)
+pub agrees-state : (n : ℕ) (x : List Status) → agrees (replicate n Undecided) x ≡ true
+    → (x ≡ stateOf (takens x)) × (length (takens x) ≡ n)
 unfolding agrees
 agrees-state zero [] e = (refl, refl)
 agrees-state zero (s ∷ x) e = absurd (true≢false (sym e))
 agrees-state (suc n) [] e = absurd (true≢false (sym e))
 agrees-state (suc n) (s ∷ x) e =
-    let r = agrees-state n x (and-right (allows Undecided s) (agrees (replicate n Undecided) x) e) in
-    (ap₂ (λ (a : Status) (b : List Status). a ∷ b) (allowed-decided s (and-left (allows Undecided s) (agrees (replicate n Undecided) x) e)) (r .0), ap suc (r .1))
+    let r = agrees-state n x (and-right (allows Undecided s) (agrees (replicate n Undecided) x) e) in (
+      ap₂ (λ (a : Status) (b : List Status). a ∷ b)
+          (allowed-decided s (and-left (allows Undecided s) (agrees (replicate n Undecided) x) e)) (r .0),
+      ap suc (r .1),
+    )

@@ -11,7 +11,8 @@ use lib.ListN.{length, getD, take, drop, set, length-append}
 use lib.Seq.{take-length, set-getD, length-take-le, take-append-add}
 use Rattle.pack.specs.Bits.{bits, val, run, fieldAt, overwrite}
 use Rattle.pack.specs.Bytes.{three, windowAt, patched}
-use Rattle.pack.proofs.Laws.{length-bits, bits-same, bits-append, val-bits, val-append, bits-val, length-run, run-append, under-run}
+use Rattle.pack.proofs.Laws.{length-bits, bits-same, bits-append, val-bits, val-append, bits-val, length-run, run-append}
+use Rattle.pack.proofs.Laws.{under-run}
 use Rattle.pack.proofs.Overwrite.{run-take, overwrite-at}
 use Rattle.pack.proofs.Trip.{field-at}
 
@@ -27,7 +28,8 @@ module _ (x k w v : ℕ) where
   patched-low = bits-same k (patched x k w v) x (low (x / 2 ^ k / 2 ^ w * 2 ^ w + v % 2 ^ w) k (mod-lt x (pow-pos k)))
 
   patched-here : bits w (patched x k w v / 2 ^ k) ≡ bits w v
-  patched-here = ap (bits w) patched-high ∙ bits-same w (x / 2 ^ k / 2 ^ w * 2 ^ w + v % 2 ^ w) v (low (x / 2 ^ k / 2 ^ w) w (mod-lt v (pow-pos w)))
+  patched-here =
+      ap (bits w) patched-high ∙ bits-same w (x / 2 ^ k / 2 ^ w * 2 ^ w + v % 2 ^ w) v (low (x / 2 ^ k / 2 ^ w) w (mod-lt v (pow-pos w)))
 
   patched-above : patched x k w v / 2 ^ (w + k) ≡ x / 2 ^ (w + k)
   patched-above =
@@ -54,7 +56,8 @@ module _ (x k w v : ℕ) where
 
 -- ---- three bytes of a list replaced, as far as the list goes
 
-set-three : (s : List ℕ) (q a b c : ℕ) → set (set (set s q a) (suc q) b) (suc (suc q)) c ≡ take (length s) (take q s ++ (a ∷ b ∷ c ∷ drop (suc (suc (suc q))) s))
+set-three : (s : List ℕ) (q a b c : ℕ)
+    → set (set (set s q a) (suc q) b) (suc (suc q)) c ≡ take (length s) (take q s ++ (a ∷ b ∷ c ∷ drop (suc (suc (suc q))) s))
 set-three [] q a b c = refl
 set-three (x ∷ []) zero a b c = refl
 set-three (x ∷ y ∷ []) zero a b c = refl
@@ -71,7 +74,8 @@ bytes-of x =
 
 -- ---- the number in three bytes
 
-pub window-is : (s : List ℕ) (q : ℕ) {a b c : ℕ} → (a ≡ getD s q 0) × (a < 256) → (b ≡ getD s (q + 1) 0) × (b < 256) → (c ≡ getD s (q + 2) 0) × (c < 256)
+pub window-is : (s : List ℕ) (q : ℕ) {a b c : ℕ} → (a ≡ getD s q 0) × (a < 256) → (b ≡ getD s (q + 1) 0) × (b < 256)
+    → (c ≡ getD s (q + 2) 0) × (c < 256)
     → a * 65536 + b * 256 + c ≡ windowAt s q
 unfolding windowAt run
 window-is s q {a} {b} {c} (d, ha) (e, hb) (f, hc) =
@@ -82,13 +86,16 @@ window-is s q {a} {b} {c} (d, ha) (e, hb) (f, hc) =
 module _ (s : List ℕ) (q : ℕ) where
   three-bits : run 8 (three s q) ≡ bits 24 (windowAt s q)
   unfolding windowAt
-  three-bits = sym (bits-val (run 8 (three s q)) (under-run 8 (three s q))) ∙ ap (λ (n : ℕ). bits n (val (run 8 (three s q)))) (length-run 8 (three s q))
+  three-bits =
+      sym (bits-val (run 8 (three s q)) (under-run 8 (three s q)))
+      ∙ ap (λ (n : ℕ). bits n (val (run 8 (three s q)))) (length-run 8 (three s q))
 
   -- the three bytes in place of themselves
   three-self : take (length s) (take q s ++ (three s q ++ drop (suc (suc (suc q))) s)) ≡ s
   three-self =
       let f : q + 2 ≡ suc (suc q) = omega arith in
-      rw (add-one, f) (sym (set-three s q (getD s q 0) (getD s (suc q) 0) (getD s (suc (suc q)) 0)) ∙ rw (set-getD s q 0, set-getD s (suc q) 0, set-getD s (suc (suc q)) 0) refl)
+      rw (add-one, f) (sym (set-three s q (getD s q 0) (getD s (suc q) 0) (getD s (suc (suc q)) 0))
+      ∙ rw (set-getD s q 0, set-getD s (suc q) 0, set-getD s (suc (suc q)) 0) refl)
 
 -- ---- the bits of a list around a field of it: w bits from bit i on, and k more to the end of the three bytes
 
@@ -113,8 +120,10 @@ module _ (s : List ℕ) (i w k : ℕ) (h : i + w ≤ length s * 8) (e : i % 8 + 
       let p : List ℕ = take (i / 8) s in
       let r : List ℕ = drop (suc (suc (suc (i / 8)))) s in
       let b : bits 24 x ≡ bits (i % 8) (x / 2 ^ (w + k)) ++ (bits w (x / 2 ^ k) ++ bits k x) =
-      ap (λ (n : ℕ). bits n x) (sym e) ∙ bits-append (i % 8) (w + k) x ∙ ap (λ (t : List ℕ). bits (i % 8) (x / 2 ^ (w + k)) ++ t) (bits-append w k x) in
-      let n : length s * 8 ≡ length (ahead x) + (length (bits w (x / 2 ^ k)) + (length s * 8 - (i + w))) = omega (arith, length-ahead x, length-bits w (x / 2 ^ k)) in
+      ap (λ (n : ℕ). bits n x) (sym e) ∙ bits-append (i % 8) (w + k) x
+      ∙ ap (λ (t : List ℕ). bits (i % 8) (x / 2 ^ (w + k)) ++ t) (bits-append w k x) in
+      let n : length s * 8 ≡ length (ahead x) + (length (bits w (x / 2 ^ k)) + (length s * 8 - (i + w))) = omega
+      (arith, length-ahead x, length-bits w (x / 2 ^ k)) in
       run-take 8 (length s) (p ++ (vs ++ r))
       ∙ ap (take (length s * 8)) (rw (run-append, run-append, f, b) (simp append-assoc))
       ∙ ap (λ (m : ℕ). take m (ahead x ++ (bits w (x / 2 ^ k) ++ (bits k x ++ run 8 r)))) n
@@ -130,17 +139,20 @@ module _ (s : List ℕ) (i w k : ℕ) (h : i + w ≤ length s * 8) (e : i % 8 + 
       let t = windowAt s (i / 8) in
       (λ j. f j / 2 ^ k % g j) ∙ sym (field-at s (ahead t) (behind t) i (length-ahead t) w (t / 2 ^ k) whole)
 
-  patched-window : (v : ℕ) → let x = patched (windowAt s (i / 8)) k w v in ahead x ++ (bits w (x / 2 ^ k) ++ behind x) ≡ overwrite (run 8 s) i (bits w v)
+  patched-window : (v : ℕ) → let x = patched (windowAt s (i / 8)) k w v in
+      ahead x ++ (bits w (x / 2 ^ k) ++ behind x) ≡ overwrite (run 8 s) i (bits w v)
   unfolding ahead behind
   patched-window v =
       let t = windowAt s (i / 8) in
       let l : length (bits w (t / 2 ^ k)) ≡ length (bits w v) = length-bits w (t / 2 ^ k) ∙ sym (length-bits w v) in
       rw (patched-above t k w v, patched-here t k w v, patched-low t k w v)
-      (sym (overwrite-at (ahead t) (bits w (t / 2 ^ k)) (bits w v) (behind t) i (length-ahead t) l) ∙ ap (λ (d : List ℕ). overwrite d i (bits w v)) (sym whole))
+      (sym (overwrite-at (ahead t) (bits w (t / 2 ^ k)) (bits w v) (behind t) i (length-ahead t) l)
+      ∙ ap (λ (d : List ℕ). overwrite d i (bits w v)) (sym whole))
 
   -- what three stores leave
   pub put-window : (v : ℕ) {t x : ℕ} {a b c : List ℕ} → t ≡ windowAt s (i / 8) → x ≡ patched t k w v
-      → a ≡ set s (i / 8) (x / 65536) → b ≡ set a (i / 8 + 1) (x / 256 % 256) → c ≡ set b (i / 8 + 2) (x % 256) → run 8 c ≡ overwrite (run 8 s) i (bits w v)
+      → a ≡ set s (i / 8) (x / 65536) → b ≡ set a (i / 8 + 1) (x / 256 % 256) → c ≡ set b (i / 8 + 2) (x % 256)
+      → run 8 c ≡ overwrite (run 8 s) i (bits w v)
   put-window v {x = x} p q f g h =
       let m : i / 8 + 2 ≡ suc (suc (i / 8)) = omega arith in
       let e : x ≡ patched (windowAt s (i / 8)) k w v = q ∙ ap (λ (n : ℕ). patched n k w v) p in

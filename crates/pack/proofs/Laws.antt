@@ -2,7 +2,8 @@
 use mathlib.Core.Path.{_≡_, refl, sym, ap, ap₂, _∙_}
 use mathlib.Core.List.{List, [], _∷_, _++_, append-assoc}
 use Prim.Native.Nat.{ℕ, zero, suc, _+_, _*_, _/_, _%_, _^_, _≤_, _<_}
-use native.Mathlib.Nat.{mod-one, mod-eq-of-lt, mod-lt, zero-add, suc-add, add-assoc, add-mul, zero-mul, suc-mul, pow-succ', add-comm, mul-assoc, mul-comm, lt-of-lt-of-le, min-le-left, le-trans, le-of-eq, mul-suc, mul-zero, mul-le-mul-left}
+use native.Mathlib.Nat.{mod-one, mod-eq-of-lt, mod-lt, zero-add, suc-add, add-assoc, add-mul, zero-mul, suc-mul, pow-succ', add-comm}
+use native.Mathlib.Nat.{mul-assoc, mul-comm, lt-of-lt-of-le, min-le-left, le-trans, le-of-eq, mul-suc, mul-zero, mul-le-mul-left}
 use native.Mathlib.Numerals.{one-add, add-one}
 use native.Mathlib.Omega.{arith}
 use lib.Pow.{mod-pow-add, field as pow-field, mod-mod-pow, high, low, pow-add, pow-mono, shr-shr}
@@ -52,7 +53,8 @@ pub val-append : (xs ys : List ℕ) → val (xs ++ ys) ≡ val xs * 2 ^ length y
 unfolding val
 val-append [] ys = rw (zero-mul, zero-add) refl
 val-append (x ∷ xs) ys =
-    let e : 2 ^ length (xs ++ ys) ≡ 2 ^ length xs * 2 ^ length ys = ap (λ (n : ℕ). 2 ^ n) (length-append xs ys) ∙ pow-add 2 (length xs) (length ys) in
+    let e : 2 ^ length (xs ++ ys) ≡ 2 ^ length xs * 2 ^ length ys = ap (λ (n : ℕ). 2 ^ n) (length-append xs ys)
+    ∙ pow-add 2 (length xs) (length ys) in
     rw (e, val-append xs ys, add-mul, mul-assoc, add-assoc) refl
 
 pub val-lt : (bs : List ℕ) → Under 2 bs → val bs < 2 ^ length bs

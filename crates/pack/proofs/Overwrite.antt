@@ -9,7 +9,8 @@ use lib.Pow.{pow-mono, pow-pos}
 use lib.ListN.{length, getD, take, drop, length-append, length-drop, take-append-drop, length-take}
 use lib.Seq.{take-nil, take-append-add, take-at, drop-at, drop-drop, length-take-le, take-all, drop-nil, take-suc}
 use Rattle.pack.specs.Bits.{bits, run, cut, overwrite, Under}
-use Rattle.pack.proofs.Laws.{length-bits, length-run, length-cut, cut-run, run-cut, val-lt, under-take, under-drop, under-append, run-append}
+use Rattle.pack.proofs.Laws.{length-bits, length-run, length-cut, cut-run, run-cut, val-lt, under-take, under-drop, under-append}
+use Rattle.pack.proofs.Laws.{run-append}
 
 pub overwrite-none : (d : List ℕ) (i : ℕ) → d ≡ overwrite d i []
 unfolding overwrite

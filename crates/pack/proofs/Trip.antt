@@ -1,4 +1,5 @@
--- A field that was packed is read again, and a field that was read packs to the bits that it was read from; over the width. Assumes nothing.
+-- A field that was packed is read again, and a field that was read packs to the bits that it was read from; over the width. Assumes
+-- nothing.
 use mathlib.Core.Path.{_≡_, _∙_}
 use mathlib.Core.List.{List, [], _++_, append-nil}
 use Prim.Native.Nat.{ℕ, _+_, _*_, _%_, _^_, _≤_, _<_}
@@ -19,7 +20,8 @@ module _ (s x y : List ℕ) (i : ℕ) (l : length x ≡ i) where
   field-in w v e h = field-at w v e ∙ mod-eq-of-lt h
 
   -- the fields behind x
-  pub fields-in : (w : ℕ) (vs : List ℕ) (n : ℕ) → n ≡ length vs → run 8 s ≡ x ++ (run w vs ++ y) → Under (2 ^ w) vs → fieldsAt s i w n ≡ vs
+  pub fields-in : (w : ℕ) (vs : List ℕ) (n : ℕ) → n ≡ length vs → run 8 s ≡ x ++ (run w vs ++ y) → Under (2 ^ w) vs
+      → fieldsAt s i w n ≡ vs
   unfolding fieldsAt
   fields-in w vs n m e h =
       rw (e, drop-at x (run w vs ++ y) i l, m) (cut-run w vs y h)

@@ -45,14 +45,16 @@ said-number : {a b : Said} → a ≡ b → a .number ≡ b .number
 said-number e = λ i. e i .number
 
 -- of answers whose refusals have a number above 0
-pub answer-told : (a b : Answer) → ((r : Refusal) → a ≡ Answer.Refused r → 0 < r .number) → ((r : Refusal) → b ≡ Answer.Refused r → 0 < r .number)
+pub answer-told : (a b : Answer) → ((r : Refusal) → a ≡ Answer.Refused r → 0 < r .number)
+    → ((r : Refusal) → b ≡ Answer.Refused r → 0 < r .number)
     → answerSays a ≡ answerSays b → a ≡ b
 answer-told Answer.Fine Answer.Fine f g e = refl
 answer-told Answer.Fine (Answer.Refused r) f g e = absurd (omega (arith, g r refl, said-number e))
 answer-told (Answer.Refused r) Answer.Fine f g e = absurd (omega (arith, f r refl, said-number e))
 answer-told (Answer.Refused r) (Answer.Refused s) f g e = λ i. Answer.Refused (record { number = e i .number; place = e i .place })
 
-pub verdict-told : (a b : Verdict) → ((r : Refusal) → a ≡ Verdict.Refused r → 0 < r .number) → ((r : Refusal) → b ≡ Verdict.Refused r → 0 < r .number)
+pub verdict-told : (a b : Verdict) → ((r : Refusal) → a ≡ Verdict.Refused r → 0 < r .number)
+    → ((r : Refusal) → b ≡ Verdict.Refused r → 0 < r .number)
     → verdictSays a ≡ verdictSays b → a ≡ b
 verdict-told Verdict.Accepted Verdict.Accepted f g e = refl
 verdict-told Verdict.Accepted (Verdict.Refused r) f g e = absurd (omega (arith, g r refl, said-number e))

@@ -72,13 +72,17 @@ scale-zero m p n e =
     λ i. pt (first i) (second i) (third i)
 
 pub cancel : (m : ℤ) (p q : Point) → (m ≡ pos 0 → ⊥) → times m p ≡ times m q → p ≡ q
-cancel m p q n e = point-eq p q (scale-zero m (minus p q) n (vring (num m ∷ vec p ∷ vec q ∷ []) (x 0 *v (v 1 -v v 2)) ((x 0 *v v 1) -v (x 0 *v v 2)) tt ∙ point-diff e))
+cancel m p q n e =
+    point-eq p q
+    (scale-zero m (minus p q) n (vring (num m ∷ vec p ∷ vec q ∷ []) (x 0 *v (v 1 -v v 2)) ((x 0 *v v 1) -v (x 0 *v v 2)) tt
+    ∙ point-diff e))
 
 -- directions in one line
 pub in-line : (d w : Point) → cross d w ≡ origin → times (dot d d) w ≡ times (dot d w) d
 in-line d w e =
     point-eq (times (dot d d) w) (times (dot d w) d)
-    (vring (vec d ∷ vec w ∷ []) ((v 0 · v 0) *v v 1 -v (v 0 · v 1) *v v 0) ((v 0 ×v v 1) ×v v 0) tt ∙ ap (λ (y : Point). cross y d) e ∙ vring (vec d ∷ []) (o ×v v 0) o tt)
+    (vring (vec d ∷ vec w ∷ []) ((v 0 · v 0) *v v 1 -v (v 0 · v 1) *v v 0) ((v 0 ×v v 1) ×v v 0) tt ∙ ap (λ (y : Point). cross y d) e
+    ∙ vring (vec d ∷ []) (o ×v v 0) o tt)
 
 -- ---- squares
 
@@ -89,7 +93,8 @@ self-nonneg p = add-nonneg (add-nonneg (square-nonneg (p .x)) (square-nonneg (p 
 self-zero : (p : Point) → dot p p ≡ pos 0 → p ≡ origin
 unfolding dot
 self-zero p e =
-    let h = sum-zero (p .x *ℤ p .x) (p .y *ℤ p .y) (p .z *ℤ p .z) (square-nonneg (p .x)) (square-nonneg (p .y)) (square-nonneg (p .z)) e in
+    let h = sum-zero (p .x *ℤ p .x) (p .y *ℤ p .y) (p .z *ℤ p .z) (square-nonneg (p .x)) (square-nonneg (p .y)) (square-nonneg (p .z))
+    e in
     λ i. pt (square-zero (p .x) (h .0) i) (square-zero (p .y) (h .1) i) (square-zero (p .z) (h .2) i)
 
 pub self-pos : (p : Point) → (p ≡ origin → ⊥) → pos 0 <ℤ dot p p

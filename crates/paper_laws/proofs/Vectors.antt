@@ -122,7 +122,9 @@ num-at (vec p ∷ ρ) zero = refl
 num-at (num z ∷ ρ) (suc n) = num-at ρ n
 num-at (vec p ∷ ρ) (suc n) = num-at ρ n
 
-vec-at : (ρ : List Val) (n : ℕ) → vecOf (getD ρ n (num (pos 0))) ≡ pt (getD (flat ρ) (triple n) (pos 0)) (getD (flat ρ) (suc (triple n)) (pos 0)) (getD (flat ρ) (suc (suc (triple n))) (pos 0))
+vec-at : (ρ : List Val) (n : ℕ)
+    → vecOf (getD ρ n (num (pos 0))) ≡ pt (getD (flat ρ) (triple n) (pos 0)) (getD (flat ρ) (suc (triple n)) (pos 0))
+    (getD (flat ρ) (suc (suc (triple n))) (pos 0))
 vec-at [] n = refl
 vec-at (num z ∷ ρ) zero = refl
 vec-at (vec p ∷ ρ) zero = refl
@@ -158,7 +160,9 @@ at-coords : (s : Sort) (ρ : List Val) (a b : Den s) (e f : Coord s) → Same s 
 at-coords scalar ρ a b e f p q t = p ∙ ring (flat ρ) e f t ∙ sym q
 at-coords vector ρ a b e f p q t =
     let h = three (allZ (norm (e .ex ⊖ f .ex))) (allZ (norm (e .ey ⊖ f .ey))) (allZ (norm (e .ez ⊖ f .ez))) t in
-    p ∙ (λ i. pt (ring (flat ρ) (e .ex) (f .ex) (h .0) i) (ring (flat ρ) (e .ey) (f .ey) (h .1) i) (ring (flat ρ) (e .ez) (f .ez) (h .2) i)) ∙ sym q
+    p
+    ∙ (λ i. pt (ring (flat ρ) (e .ex) (f .ex) (h .0) i) (ring (flat ρ) (e .ey) (f .ey) (h .1) i) (ring (flat ρ) (e .ez) (f .ez) (h .2) i))
+    ∙ sym q
 
 pub vring : {s : Sort} (ρ : List Val) (a b : Term s) → T (agree s (coords a) (coords b)) → value ρ a ≡ value ρ b
 vring {s} ρ a b t = at-coords s ρ (value ρ a) (value ρ b) (coords a) (coords b) (sound ρ a) (sound ρ b) t

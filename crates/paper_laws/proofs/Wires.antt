@@ -20,7 +20,8 @@ length-edges [] = refl
 length-edges (a ∷ []) = refl
 length-edges (a ∷ (b ∷ l)) = omega (arith, length-edges l)
 
-pub edge-at : (l : List ℕ) (e : ℕ) (z : Edge) → e < length (edgesOf l) → getD (edgesOf l) e z ≡ edge (getD l (2 * e) 0) (getD l (2 * e + 1) 0)
+pub edge-at : (l : List ℕ) (e : ℕ) (z : Edge) → e < length (edgesOf l)
+    → getD (edgesOf l) e z ≡ edge (getD l (2 * e) 0) (getD l (2 * e + 1) 0)
 unfolding edgesOf
 edge-at [] e z h = absurd (omega arith)
 edge-at (a ∷ []) e z h = absurd (omega arith)

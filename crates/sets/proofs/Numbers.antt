@@ -5,7 +5,8 @@ use mathlib.Core.List.{List, [], _∷_}
 use mathlib.Core.Logic.{_⊎_, inl, inr, ⊎-elim}
 use Prim.Native.Nat.{ℕ, zero, suc, _+_, _-_, _/_, _%_, _^_, _≤_, _<_}
 use native.Mathlib.Omega.{arith}
-use native.Mathlib.Nat.{div-self, div-eq-of-lt, mul-div-cancel-left, mul-mod-left, pow-suc, zero-div, div-one, mul-comm, div-div-eq-div-mul}
+use native.Mathlib.Nat.{div-self, div-eq-of-lt, mul-div-cancel-left, mul-mod-left, pow-suc, zero-div, div-one, mul-comm}
+use native.Mathlib.Nat.{div-div-eq-div-mul}
 use native.Mathlib.Decide.{decLt, ℕ-discrete}
 use borrow.Author.Tests.{eqb-true, eq-eqb, ne-eqb}
 use lib.Bits.{bitOr, or-shr, or-mod}
@@ -31,7 +32,8 @@ power-other b k n = go (decLt b k)
     go (no h) =
         let e : b ≡ k + suc (b - k - 1) = omega arith in
         ap (λ (j : ℕ). 2 ^ j / 2 ^ k % 2) e ∙ ap (λ (j : ℕ). j / 2 ^ k % 2) (pow-add 2 k (suc (b - k - 1)))
-        ∙ ap (λ (j : ℕ). j % 2) (mul-div-cancel-left (2 ^ suc (b - k - 1)) (pow-pos k) ∙ pow-suc 2 (b - k - 1)) ∙ mul-mod-left (2 ^ (b - k - 1)) 2
+        ∙ ap (λ (j : ℕ). j % 2) (mul-div-cancel-left (2 ^ suc (b - k - 1)) (pow-pos k) ∙ pow-suc 2 (b - k - 1))
+        ∙ mul-mod-left (2 ^ (b - k - 1)) 2
 
 pub digit-power : (b k : ℕ) → digit (2 ^ b) k ≡ eqb k b
 unfolding digit

@@ -14,7 +14,8 @@ use Rattle.sets.specs.Sets.{room, packedSet, Is, digitsOf, size, Joint, 
 use Rattle.sets.specs.declared.Set.{Set}
 use Rattle.sets.proofs.Digits.{length-both, length-either, length-less, length-only, count-less, count-only, first-lt, first-in}
 use Rattle.sets.proofs.Numbers.{digit-word}
-use Rattle.sets.proofs.Word.{and-word, or-word, less-word, ones-word, only-word, trailing-word, length-digits, word-digits, full-word, none-word, word-more}
+use Rattle.sets.proofs.Word.{and-word, or-word, less-word, ones-word, only-word, trailing-word, length-digits, word-digits}
+use Rattle.sets.proofs.Word.{full-word, none-word, word-more}
 
 -- ---- the word and the digits
 
@@ -33,7 +34,8 @@ packs a p = ap (λ (m : ℕ). record { word = m }) p
 -- every word is that of its digits
 pub is-digits : (x : Set) → x .word < 2 ^ room → Is x (digitsOf x)
 unfolding digitsOf
-is-digits x h = record { short = le-of-eq (length-digits room (x .word)); words = packs (digits room (x .word)) (sym (word-digits room (x .word) h)) }
+is-digits x h =
+    record { short = le-of-eq (length-digits room (x .word)); words = packs (digits room (x .word)) (sym (word-digits room (x .word) h)) }
 
 -- ---- two sets
 
@@ -53,7 +55,9 @@ module _ {x y : Set} where
   less-is : Joint x y (record { word = bitAnd (x .word) ((2 ^ room - 1) - y .word) }) less
   less-is a b i j = record {
     short = le-trans (le-of-eq (length-less a b)) (i .short);
-    words = packs (less a b) (ap₂ (λ (m n : ℕ). bitAnd m ((2 ^ room - 1) - n)) (word-is i) (word-is j) ∙ less-word room a b (i .short) (j .short));
+    words =
+        packs (less a b) (ap₂ (λ (m n : ℕ). bitAnd m ((2 ^ room - 1) - n)) (word-is i) (word-is j)
+        ∙ less-word room a b (i .short) (j .short));
   }
 
   pub minus-is : x .word < 2 ^ room → y .word < 2 ^ room → Minus x y (record { word = bitAnd (x .word) ((2 ^ room - 1) - y .word) })
@@ -78,7 +82,8 @@ pub lowest-is : {x : Set} → x .word < 2 ^ room → 0 < size x → Lowest x (tr
 lowest-is {x} h p =
     let z : (a : List Bool) → Is x a → count a ≡ 0 → ⊥ = λ a i e. absurd (omega (arith, size-is i)) in
     let w : (a : List Bool) → Is x a → 0 < word a = λ a i. positive (word a) (λ e. z a i (word-count a e)) in
-    let f : (a : List Bool) → Is x a → trailingZeros room (x .word) ≡ first a = λ a i. ap (trailingZeros room) (word-is i) ∙ trailing-word room a (i .short) (w a i) in
+    let f : (a : List Bool) → Is x a → trailingZeros room (x .word) ≡ first a = λ a i. ap (trailingZeros room) (word-is i)
+    ∙ trailing-word room a (i .short) (w a i) in
     let d : Is x (digitsOf x) = is-digits x h in
     record {
       narrow = lt-of-le-of-lt (le-of-eq (f (digitsOf x) d)) (le-trans (first-lt (digitsOf x) (z (digitsOf x) d)) (d .short));
@@ -98,13 +103,15 @@ none-is = record { short = omega arith; words = packs [] refl }
 -- no digit of n is set
 pub none-all : {x : Set} (n : ℕ) → n ≤ room → Is x [] → Is x (replicate n false)
 unfolding packedSet word
-none-all n h i = record { short = le-trans (le-of-eq (length-replicate n false)) h; words = i .words ∙ packs (replicate n false) (sym (none-word n)) }
+none-all n h i =
+    record { short = le-trans (le-of-eq (length-replicate n false)) h; words = i .words ∙ packs (replicate n false) (sym (none-word n)) }
 
 pub just-is : (k : ℕ) → k < room → (b : ℕ) → b ≡ 2 ^ k → Is (record { word = b }) (only k)
 just-is k h b e = record { short = omega (arith, length-only k); words = packs (only k) (e ∙ sym (only-word k)) }
 
 pub full-is : (n : ℕ) → n ≤ room → (w : ℕ) → w ≡ 2 ^ n - 1 → Is (record { word = w }) (replicate n true)
-full-is n h w e = record { short = le-trans (le-of-eq (length-replicate n true)) h; words = packs (replicate n true) (e ∙ sym (full-word n)) }
+full-is n h w e =
+    record { short = le-trans (le-of-eq (length-replicate n true)) h; words = packs (replicate n true) (e ∙ sym (full-word n)) }
 
 -- ---- one digit; the word b is that of k alone
 
@@ -115,7 +122,8 @@ module _ {x : Set} (k : ℕ) (h : k < room) (b : ℕ) (e : b ≡ 2 ^ k) where
   pub without-is : x .word < 2 ^ room → Dropped x k (record { word = bitAnd (x .word) ((2 ^ room - 1) - b) })
   without-is hx =
       let d : Is x (digitsOf x) = is-digits x hx in
-      let f : (a : List Bool) → Is x a → Is (record { word = bitAnd (x .word) ((2 ^ room - 1) - b) }) (less a (only k)) = λ a i. less-is a (only k) i (just-is k h b e) in
+      let f : (a : List Bool) → Is x a → Is (record { word = bitAnd (x .word) ((2 ^ room - 1) - b) }) (less a (only k)) = λ a i. less-is a
+      (only k) i (just-is k h b e) in
       record {
         fewer = λ q. omega (arith, count-only (digitsOf x) k (q (digitsOf x) d), size-is d, size-is (f (digitsOf x) d));
         same = f;

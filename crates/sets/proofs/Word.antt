@@ -22,10 +22,14 @@ bit-lt false = omega arith
 
 module _ (p q : ℕ) {x y : ℕ} (hx : x < 2) (hy : y < 2) where
   and-digits : bitAnd (p * 2 + x) (q * 2 + y) ≡ bitAnd p q * 2 + min x y
-  and-digits = and-step (p * 2 + x) (q * 2 + y) ∙ ap₂ (λ (u v : ℕ). u * 2 + v) (ap₂ bitAnd (digits-div p hx) (digits-div q hy)) (ap₂ min (digits-mod p hx) (digits-mod q hy))
+  and-digits =
+      and-step (p * 2 + x) (q * 2 + y) ∙ ap₂ (λ (u v : ℕ). u * 2 + v) (ap₂ bitAnd (digits-div p hx) (digits-div q hy))
+      (ap₂ min (digits-mod p hx) (digits-mod q hy))
 
   or-digits : bitOr (p * 2 + x) (q * 2 + y) ≡ bitOr p q * 2 + max x y
-  or-digits = or-step (p * 2 + x) (q * 2 + y) ∙ ap₂ (λ (u v : ℕ). u * 2 + v) (ap₂ bitOr (digits-div p hx) (digits-div q hy)) (ap₂ max (digits-mod p hx) (digits-mod q hy))
+  or-digits =
+      or-step (p * 2 + x) (q * 2 + y) ∙ ap₂ (λ (u v : ℕ). u * 2 + v) (ap₂ bitOr (digits-div p hx) (digits-div q hy))
+      (ap₂ max (digits-mod p hx) (digits-mod q hy))
 
 ones-digits : (p : ℕ) {x : ℕ} → x < 2 → ones (p * 2 + x) ≡ x + ones p
 ones-digits p hx = ones-step _ ∙ ap₂ (λ (u v : ℕ). u + ones v) (digits-mod p hx) (digits-div p hx)
@@ -79,11 +83,13 @@ not-digits k p x hp hx = omega (arith, pow-suc 2 k)
 pub less-word : (k : ℕ) (a b : List Bool) → length a ≤ k → length b ≤ k → bitAnd (word a) ((2 ^ k - 1) - word b) ≡ word (less a b)
 unfolding word less
 less-word k [] b ha hb = refl
-less-word k (x ∷ xs) [] ha hb = ap (bitAnd (word (x ∷ xs))) (omega arith) ∙ and-mask (word (x ∷ xs)) k ∙ mod-eq-of-lt (word-fits k (x ∷ xs) ha)
+less-word k (x ∷ xs) [] ha hb =
+    ap (bitAnd (word (x ∷ xs))) (omega arith) ∙ and-mask (word (x ∷ xs)) k ∙ mod-eq-of-lt (word-fits k (x ∷ xs) ha)
 less-word zero (x ∷ xs) (y ∷ ys) ha hb = absurd (omega arith)
 less-word (suc k) (x ∷ xs) (y ∷ ys) ha hb =
     let hy : word ys < 2 ^ k = word-fits k ys (le-of-suc-le-suc hb) in
-    ap (bitAnd (word xs * 2 + bit x)) (not-digits k (word ys) (bit y) hy (bit-lt y) ∙ ap (λ (v : ℕ). ((2 ^ k - 1) - word ys) * 2 + v) (not-bit y))
+    ap (bitAnd (word xs * 2 + bit x)) (not-digits k (word ys) (bit y) hy (bit-lt y)
+    ∙ ap (λ (v : ℕ). ((2 ^ k - 1) - word ys) * 2 + v) (not-bit y))
     ∙ and-digits (word xs) ((2 ^ k - 1) - word ys) (bit-lt x) (bit-lt (not y))
     ∙ join (less-word k xs ys (le-of-suc-le-suc ha) (le-of-suc-le-suc hb)) (min-bit x (not y))
 
@@ -116,7 +122,8 @@ pub trailing-word : (k : ℕ) (a : List Bool) → length a ≤ k → 0 < word a 
 unfolding word first trailingZeros
 trailing-word k [] h p = absurd (omega arith)
 trailing-word zero (x ∷ xs) h p = absurd (omega arith)
-trailing-word (suc k) (true ∷ xs) h p = ap (λ (d : ℕ). under d (trailingZeros k ((word xs * 2 + 1) / 2))) (digits-mod (word xs) (bit-lt true))
+trailing-word (suc k) (true ∷ xs) h p =
+    ap (λ (d : ℕ). under d (trailingZeros k ((word xs * 2 + 1) / 2))) (digits-mod (word xs) (bit-lt true))
 trailing-word (suc k) (false ∷ xs) h p =
     ap (λ (d : ℕ). under d (trailingZeros k ((word xs * 2 + 0) / 2))) (digits-mod (word xs) (bit-lt false))
     ∙ ap (λ (v : ℕ). suc (trailingZeros k v)) (digits-div (word xs) (bit-lt false))

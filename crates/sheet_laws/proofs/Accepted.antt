@@ -19,7 +19,8 @@ use Rattle.sheet_laws.proofs.Shaped.{Shaped, shaped}
 module _ (f : Format) (s : List ℕ) where
   -- as many coordinates and vertex numbers as the counts say
   pub length-coordinates : length (coordinatesIn f s) ≡ 3 * verticesIn f s
-  length-coordinates = length-map (fieldsAt s (head f) 11 (3 * verticesIn f s)) coordinate ∙ length-fields s (head f) 11 (3 * verticesIn f s)
+  length-coordinates =
+      length-map (fieldsAt s (head f) 11 (3 * verticesIn f s)) coordinate ∙ length-fields s (head f) 11 (3 * verticesIn f s)
 
   pub length-ends : length (endsIn f s) ≡ 2 * edgesIn f s
   length-ends = length-fields s (head f + 33 * verticesIn f s) (f .«vertex_number_bits») (2 * edgesIn f s)

@@ -33,15 +33,19 @@ contents v xyz ends h =
     record {
       near = λ k. near-at k (ltb k (length xyz)) refl (lowest-none (farAt xyz) (length xyz) (p8 .0));
       below = λ k u. below-at k u right;
-      rising = λ e u. leb-false (getD ends (2 * e + 1) 0) _ (or-none (leb v (getD ends (2 * e + 1) 0)) _ (or-none (leb v (getD ends (2 * e) 0)) _ (right e u) .1) .1);
+      rising =
+          λ e u. leb-false (getD ends (2 * e + 1) 0) _
+          (or-none (leb v (getD ends (2 * e + 1) 0)) _ (or-none (leb v (getD ends (2 * e) 0)) _ (right e u) .1) .1);
     }
   where
-    near-at : (k : ℕ) (b : Bool) → ltb k (length xyz) ≡ b → ((j : ℕ) → j < length xyz → farAt xyz j ≡ false) → far (getD xyz k (pos 0)) ≡ false
+    near-at : (k : ℕ) (b : Bool) → ltb k (length xyz) ≡ b → ((j : ℕ) → j < length xyz → farAt xyz j ≡ false)
+        → far (getD xyz k (pos 0)) ≡ false
     near-at k true t q = q k (ltb-true k (length xyz) t)
     near-at k false t q = ap far (List·getD-eq-default xyz (pos 0) (ltb-false k (length xyz) t))
 
     -- an end of an edge is its first or its second
-    either : (k e : ℕ) → getD ends (2 * e) 0 < v → getD ends (2 * e + 1) 0 < v → (t : Bool) → leb (k % 2) 0 ≡ t → k ≡ 2 * e + k % 2 → k % 2 < 2 → getD ends k 0 < v
+    either : (k e : ℕ) → getD ends (2 * e) 0 < v → getD ends (2 * e + 1) 0 < v → (t : Bool) → leb (k % 2) 0 ≡ t → k ≡ 2 * e + k % 2
+        → k % 2 < 2 → getD ends k 0 < v
     either k e a b true t d m = let z : k ≡ 2 * e = omega (arith, leb-true (k % 2) 0 t) in rw z a
     either k e a b false t d m = let z : k ≡ 2 * e + 1 = omega (arith, leb-false (k % 2) 0 t) in rw z b
 
@@ -50,7 +54,8 @@ contents v xyz ends h =
         let e : ℕ = k / 2 in
         let w : wrong v (getD ends (2 * e) 0) (getD ends (2 * e + 1) 0) ≡ false = q e (omega arith) in
         let a : getD ends (2 * e) 0 < v = leb-false v _ (or-none (leb v (getD ends (2 * e) 0)) _ w .0) in
-        let b : getD ends (2 * e + 1) 0 < v = leb-false v _ (or-none (leb v (getD ends (2 * e + 1) 0)) _ (or-none (leb v (getD ends (2 * e) 0)) _ w .1) .0) in
+        let b : getD ends (2 * e + 1) 0 < v = leb-false v _
+        (or-none (leb v (getD ends (2 * e + 1) 0)) _ (or-none (leb v (getD ends (2 * e) 0)) _ w .1) .0) in
         either k e a b (leb (k % 2) 0) refl (omega arith) (omega arith)
 
 pub record Lent (f : Format) (xyz : List ℤ) (ends : List ℕ) : Type 0 where
@@ -75,4 +80,12 @@ lent f xyz ends h =
     let p1 = passed _ _ _ (p0 .1) in
     let v = whole 3 4 (f .«most_vertices») (length xyz) (p0 .0) in
     let e = whole 2 6 (f .«most_edges») (length ends) (p1 .0) in
-    record { v-whole = omega (arith, v .0); v-least = v .1; v-most = v .2; e-whole = omega (arith, e .0); e-least = e .1; e-most = e .2; fine = p1 .1 }
+    record {
+      v-whole = omega (arith, v .0);
+      v-least = v .1;
+      v-most = v .2;
+      e-whole = omega (arith, e .0);
+      e-least = e .1;
+      e-most = e .2;
+      fine = p1 .1;
+    }

@@ -15,7 +15,8 @@ use Rattle.means_area.proofs.Flats.Signs.{same-flip, same-trans, same-a
 use Rattle.means_area.proofs.Flats.Turns.{flat-second}
 use Rattle.means_area.proofs.Flats.Net.{Ok}
 use Rattle.means_area.proofs.Flats.Choice.{Choice, whole, cut}
-use Rattle.means_area.proofs.Flats.Rings.{lst-append, lst-of, chain-split, chain-left, chain-right, Sub, keep, skip, sub-all, sub-none, sub-append, sub-of, sub-distinct, narrow, part-back, area-cut, area-ear}
+use Rattle.means_area.proofs.Flats.Rings.{lst-append, lst-of, chain-split, chain-left, chain-right, Sub, keep, skip, sub-all}
+use Rattle.means_area.proofs.Flats.Rings.{sub-none, sub-append, sub-of, sub-distinct, narrow, part-back, area-cut, area-ear}
 use Rattle.means_area.proofs.Flats.Lowest.{Split, of-split, pair-swap}
 use Rattle.means_area.proofs.Flats.First.{Free, choice, not-flat, Area, Rest}
 
@@ -24,10 +25,13 @@ module _ (m : ℤ) (n : ℕ) (A : Area m n) (R : Rest m (suc n)) where
   h = height m
 
   -- the triangle is empty
-  no-cut : (u c : Flat) (l : List Flat) → length l ≤ suc n → 1 ≤ length l → Simple m (u ∷ c ∷ l) → Least m u (c ∷ l) → Free u c (lst c l) (u ∷ c ∷ l) → Same (area (u ∷ c ∷ l)) (turn u c (lst c l))
+  no-cut : (u c : Flat) (l : List Flat) → length l ≤ suc n → 1 ≤ length l → Simple m (u ∷ c ∷ l) → Least m u (c ∷ l)
+      → Free u c (lst c l) (u ∷ c ∷ l) → Same (area (u ∷ c ∷ l)) (turn u c (lst c l))
   no-cut u c [] b k s low e = absurd (omega arith)
   no-cut u c (a ∷ []) b k s low e =
-      same-is (sym (area-ear u c (a ∷ []) ∙ ap (λ (z : ℤ). turn u c a +ℤ z) (flat2 c a) ∙ ring (turn u c a ∷ []) (var 0 ⊕ con (pos 0)) (var 0) tt))
+      same-is
+      (sym (area-ear u c (a ∷ []) ∙ ap (λ (z : ℤ). turn u c a +ℤ z) (flat2 c a)
+      ∙ ring (turn u c a ∷ []) (var 0 ⊕ con (pos 0)) (var 0) tt))
       (same-self (not-flat m u c (a ∷ []) k s (low c (inl refl)) (low a (inr (inl refl)))))
     where
       flat2 : (c a : Flat) → area (c ∷ a ∷ []) ≡ pos 0
@@ -37,7 +41,8 @@ module _ (m : ℤ) (n : ℕ) (A : Area m n) (R : Rest m (suc n)) where
       same-is (sym (area-ear u c (d ∷ f ∷ l))) (same-add (same-trans (same-flip r) r) r)
 
   -- a chord from u to w
-  module _ (u c : Flat) (X : List Flat) (w y : Flat) (Y : List Flat) (b : length (X ++ w ∷ y ∷ Y) ≤ suc n) (s : Simple m (u ∷ c ∷ (X ++ w ∷ y ∷ Y))) (low : Least m u (c ∷ (X ++ w ∷ y ∷ Y)))
+  module _ (u c : Flat) (X : List Flat) (w y : Flat) (Y : List Flat) (b : length (X ++ w ∷ y ∷ Y) ≤ suc n)
+      (s : Simple m (u ∷ c ∷ (X ++ w ∷ y ∷ Y))) (low : Least m u (c ∷ (X ++ w ∷ y ∷ Y)))
       (ok : Ok m (Link (u ∷ c ∷ (X ++ w ∷ y ∷ Y))) (λ z. Of z (u ∷ c ∷ (X ++ w ∷ y ∷ Y))) u w) where
     abbrev g : List Flat
     g = u ∷ c ∷ (X ++ w ∷ y ∷ Y)
@@ -75,17 +80,25 @@ module _ (m : ℤ) (n : ℕ) (A : Area m n) (R : Rest m (suc n)) where
         (same-add (same-trans (same-is2 (ap (turn u c) (lst-append c X w [])) a1) s1) (same-trans a2 s2))
 
   -- the same, with the split as an equation
-  cut-split : (u c : Flat) (l : List Flat) (w : Flat) (t : Split w l) → length l ≤ suc n → Simple m (u ∷ c ∷ l) → Least m u (c ∷ l) → Ok m (Link (u ∷ c ∷ l)) (λ z. Of z (u ∷ c ∷ l)) u w
-      → Same (turn u c w) (turn u c (lst c l)) → Same (turn u w (lst c l)) (turn u c (lst c l)) → Same (area (u ∷ c ∷ l)) (turn u c (lst c l))
-  cut-split u c l w t = subst (λ (r : List Flat). length r ≤ suc n → Simple m (u ∷ c ∷ r) → Least m u (c ∷ r) → Ok m (Link (u ∷ c ∷ r)) (λ z. Of z (u ∷ c ∷ r)) u w
-      → Same (turn u c w) (turn u c (lst c r)) → Same (turn u w (lst c r)) (turn u c (lst c r)) → Same (area (u ∷ c ∷ r)) (turn u c (lst c r))) (sym (t .is)) (go (t .before) (t .after))
+  cut-split : (u c : Flat) (l : List Flat) (w : Flat) (t : Split w l) → length l ≤ suc n → Simple m (u ∷ c ∷ l) → Least m u (c ∷ l)
+      → Ok m (Link (u ∷ c ∷ l)) (λ z. Of z (u ∷ c ∷ l)) u w
+      → Same (turn u c w) (turn u c (lst c l)) → Same (turn u w (lst c l)) (turn u c (lst c l))
+      → Same (area (u ∷ c ∷ l)) (turn u c (lst c l))
+  cut-split u c l w t =
+      subst (λ (r : List Flat). length r ≤ suc n → Simple m (u ∷ c ∷ r) → Least m u (c ∷ r)
+      → Ok m (Link (u ∷ c ∷ r)) (λ z. Of z (u ∷ c ∷ r)) u w
+      → Same (turn u c w) (turn u c (lst c r)) → Same (turn u w (lst c r)) (turn u c (lst c r))
+      → Same (area (u ∷ c ∷ r)) (turn u c (lst c r))) (sym (t .is)) (go (t .before) (t .after))
     where
-      go : (X Y : List Flat) → length (X ++ w ∷ Y) ≤ suc n → Simple m (u ∷ c ∷ (X ++ w ∷ Y)) → Least m u (c ∷ (X ++ w ∷ Y)) → Ok m (Link (u ∷ c ∷ (X ++ w ∷ Y))) (λ z. Of z (u ∷ c ∷ (X ++ w ∷ Y))) u w
-          → Same (turn u c w) (turn u c (lst c (X ++ w ∷ Y))) → Same (turn u w (lst c (X ++ w ∷ Y))) (turn u c (lst c (X ++ w ∷ Y))) → Same (area (u ∷ c ∷ (X ++ w ∷ Y))) (turn u c (lst c (X ++ w ∷ Y)))
+      go : (X Y : List Flat) → length (X ++ w ∷ Y) ≤ suc n → Simple m (u ∷ c ∷ (X ++ w ∷ Y)) → Least m u (c ∷ (X ++ w ∷ Y))
+          → Ok m (Link (u ∷ c ∷ (X ++ w ∷ Y))) (λ z. Of z (u ∷ c ∷ (X ++ w ∷ Y))) u w
+          → Same (turn u c w) (turn u c (lst c (X ++ w ∷ Y))) → Same (turn u w (lst c (X ++ w ∷ Y))) (turn u c (lst c (X ++ w ∷ Y)))
+          → Same (area (u ∷ c ∷ (X ++ w ∷ Y))) (turn u c (lst c (X ++ w ∷ Y)))
       go X [] b s low ok s1 s2 = absurd (same-ne s2 (ap (turn u w) (lst-append c X w []) ∙ flat-second u w))
       go X (y ∷ Y) b s low ok s1 s2 =
           let e = lst-append c X w (y ∷ Y) in
-          same-is2 (ap (turn u c) (sym e)) (cutting u c X w y Y b s low ok (same-is2 (ap (turn u c) e) s1) (same-is2 (ap (turn u c) e) (same-is (ap (turn u w) e) s2)))
+          same-is2 (ap (turn u c) (sym e))
+          (cutting u c X w y Y b s low ok (same-is2 (ap (turn u c) e) s1) (same-is2 (ap (turn u c) e) (same-is (ap (turn u w) e) s2)))
 
   pub area-step : Area m (suc n)
   area-step u c l b k s low = go (choice m u c l k s (low c (inl refl)) (low (lst c l) (lst-of c l)))

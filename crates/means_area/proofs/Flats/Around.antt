@@ -1,4 +1,5 @@
--- The ring u c X v y Y, where the triangle at its lowest corner u is empty and v, the lowest but u, is no neighbour of u: the turns at v and at u have one
+-- The ring u c X v y Y, where the triangle at its lowest corner u is empty and v, the lowest but u, is no neighbour of u: the turns at v
+-- and at u have one
 -- sign if the triangle at v is empty too, or the ring is smaller. Assumes nothing.
 use mathlib.Core.Path.{_≡_, refl, sym, _∙_, ap, subst}
 use mathlib.Core.Logic.{_⊎_, inl, inr}
@@ -14,7 +15,9 @@ use Rattle.means_area.specs.Flats.{turn, height, Simple, Least, area, Sa
 use Rattle.means_area.proofs.Flats.Signs.{same-flip, same-trans, same-is, same-is2}
 use Rattle.means_area.proofs.Flats.Net.{Ok}
 use Rattle.means_area.proofs.Flats.Choice.{Hit, four}
-use Rattle.means_area.proofs.Flats.Rings.{lst-append, lst-of, link-back, chain-split, chain-left, chain-right, chain-last, chain-cut, Sub, keep, skip, sub-all, sub-append, sub-of, of-append, of-right, sub-distinct, narrow, turned, ok-turned, area-turned}
+use Rattle.means_area.proofs.Flats.Rings.{lst-append, lst-of, link-back, chain-split, chain-left, chain-right, chain-last}
+use Rattle.means_area.proofs.Flats.Rings.{chain-cut, Sub, keep, skip, sub-all, sub-append, sub-of, of-append, of-right}
+use Rattle.means_area.proofs.Flats.Rings.{sub-distinct, narrow, turned, ok-turned, area-turned}
 use Rattle.means_area.proofs.Flats.Lowest.{pair-swap}
 use Rattle.means_area.proofs.Flats.First.{Free, ends-apart, first-link, last-link, ear-simple, Area, Rest}
 
@@ -30,7 +33,8 @@ pub record Second (m : ℤ) (u c : Flat) (X : List Flat) (v y : Flat) (Y : List 
 abbrev pub OneTurn : Flat → Flat → List Flat → Flat → Flat → List Flat → Type 0
 OneTurn u c X v y Y = Same (turn v y (lst c X)) (turn u c (lst y Y))
 
-module _ (m : ℤ) (n : ℕ) (A : Area m n) (R : Rest m n) (u c : Flat) (X : List Flat) (v y : Flat) (Y : List Flat) (b : length (X ++ v ∷ y ∷ Y) ≤ suc n) (q : Second m u c X v y Y) where
+module _ (m : ℤ) (n : ℕ) (A : Area m n) (R : Rest m n) (u c : Flat) (X : List Flat) (v y : Flat) (Y : List Flat)
+    (b : length (X ++ v ∷ y ∷ Y) ≤ suc n) (q : Second m u c X v y Y) where
   abbrev h : Flat → ℤ
   h = height m
 
@@ -73,7 +77,8 @@ module _ (m : ℤ) (n : ℕ) (A : Area m n) (R : Rest m n) (u c : Flat) (X : Lis
       let e1 = length-append X (v ∷ y ∷ Y) in
       let e2 = length-append Y (c ∷ X) in
       same-is (sym (area-turned c X v (y ∷ Y)))
-      (same-is2 (ap (turn v y) (lst-append y Y c X)) (A v y (Y ++ c ∷ X) (omega (arith, e1, e2)) (omega (arith, e2)) (turned m c X v (y ∷ Y) inner) least-v))
+      (same-is2 (ap (turn v y) (lst-append y Y c X))
+      (A v y (Y ++ c ∷ X) (omega (arith, e1, e2)) (omega (arith, e2)) (turned m c X v (y ∷ Y) inner) least-v))
 
   -- so has the turn at u, in a ring that is smaller
   pub reduced : length (X ++ v ∷ y ∷ Y) ≤ n → OneTurn u c X v y Y
@@ -100,18 +105,23 @@ module _ (m : ℤ) (n : ℕ) (A : Area m n) (R : Rest m n) (u c : Flat) (X : Lis
       let ya : y ≡ lst c l = sym ay in
       let g = u ∷ c ∷ l in
       let t : Same (area (c ∷ l)) (turn v (lst c l) c) = same-is2 (λ i. turn v (ya i) (cx i)) at-v in
-      let r = four m (Link g) g (q .simple .net) u c (lst c l) (first-link m u c l) (last-link m u c l) hc ha free-is (ends-apart m u c l (omega (arith, two)) (q .simple .apart)) v
+      let r = four m (Link g) g (q .simple .net) u c (lst c l) (first-link m u c l) (last-link m u c l) hc ha free-is
+      (ends-apart m u c l (omega (arith, two)) (q .simple .apart)) v
       (subst (λ (z : Flat). Link g v z) cx v-x) (subst (λ (z : Flat). Link g v z) ya v-y) u-v t in
       same-is (λ i. turn v (ay i) (sym cx i)) (same-is2 (ap (turn u c) last-is) r)
 
   -- ---- more corners, and an empty triangle at v: without v, and without u and v
-  module _ (e' : Free v y (lst y (Y ++ u ∷ c ∷ X)) (v ∷ y ∷ (Y ++ u ∷ c ∷ X))) (ok : Ok m (Link (v ∷ y ∷ (Y ++ u ∷ c ∷ X))) (λ z. Of z (v ∷ y ∷ (Y ++ u ∷ c ∷ X))) y (lst y (Y ++ u ∷ c ∷ X))) where
+  module _ (e' : Free v y (lst y (Y ++ u ∷ c ∷ X)) (v ∷ y ∷ (Y ++ u ∷ c ∷ X)))
+      (ok : Ok m (Link (v ∷ y ∷ (Y ++ u ∷ c ∷ X))) (λ z. Of z (v ∷ y ∷ (Y ++ u ∷ c ∷ X))) y (lst y (Y ++ u ∷ c ∷ X))) where
     sub : Sub (c ∷ (X ++ y ∷ Y)) (c ∷ (X ++ v ∷ y ∷ Y))
     sub = keep (sub-append (sub-all X) (skip (sub-all (y ∷ Y))))
 
     less : Simple m (u ∷ c ∷ (X ++ y ∷ Y))
-    less = narrow m (u ∷ c ∷ l) (u ∷ c ∷ (X ++ y ∷ Y)) y (lst c X) (q .simple) f (λ z o. sub-of z (keep sub) o) (sub-distinct m (keep sub) (q .simple .apart))
-        (subst (λ (z : Flat). Ok m (Link (u ∷ c ∷ l)) (λ r. Of r (u ∷ c ∷ l)) y z) x-is (ok-turned m u (c ∷ X) v (y ∷ Y) y (lst y (Y ++ u ∷ c ∷ X)) ok))
+    less =
+        narrow m (u ∷ c ∷ l) (u ∷ c ∷ (X ++ y ∷ Y)) y (lst c X) (q .simple) f (λ z o. sub-of z (keep sub) o)
+        (sub-distinct m (keep sub) (q .simple .apart))
+        (subst (λ (z : Flat). Ok m (Link (u ∷ c ∷ l)) (λ r. Of r (u ∷ c ∷ l)) y z) x-is
+        (ok-turned m u (c ∷ X) v (y ∷ Y) y (lst y (Y ++ u ∷ c ∷ X)) ok))
       where
         f : (p r : Flat) → Link (u ∷ c ∷ (X ++ y ∷ Y)) p r → Link (u ∷ c ∷ l) p r ⊎ Pair y (lst c X) p r
         f p r t = go (chain-split u (c ∷ X) y Y u p r t)
@@ -140,4 +150,5 @@ module _ (m : ℤ) (n : ℕ) (A : Area m n) (R : Rest m n) (u c : Flat) (X : Lis
         let e3 = length-append Y (c ∷ X) in
         let r1 = R u c (X ++ y ∷ Y) (omega (arith, e1, e2)) (omega (arith, e2)) less (λ z o. q .low z (sub-of z sub o)) free1 in
         let r2 = R v y (Y ++ c ∷ X) (omega (arith, e1, e3)) (omega (arith, e3)) (turned m c X v (y ∷ Y) inner) least-v free2 in
-        same-trans (same-flip (same-is2 (ap (turn v y) (lst-append y Y c X)) r2)) (same-is (area-turned c X y Y) (same-is2 (ap (turn u c) (lst-append c X y Y)) r1))
+        same-trans (same-flip (same-is2 (ap (turn v y) (lst-append y Y c X)) r2))
+        (same-is (area-turned c X y Y) (same-is2 (ap (turn u c) (lst-append c X y Y)) r1))

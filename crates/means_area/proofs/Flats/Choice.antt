@@ -1,4 +1,5 @@
--- At a corner v that is lower than its neighbours x and y: the three are in no line, and either the triangle has no other corner and the chord
+-- At a corner v that is lower than its neighbours x and y: the three are in no line, and either the triangle has no other corner and the
+-- chord
 -- x y may be added, or a chord from v to a corner w inside the angle. Assumes nothing.
 use mathlib.Core.Path.{_≡_, refl, sym, _∙_, ap, subst}
 use mathlib.Core.Logic.{_⊎_, inl, inr}
@@ -27,7 +28,8 @@ module _ (v a b : Flat) where
   inside : (x : Flat) → In v a b x ⊎ (In v a b x → ⊥)
   inside x = go (lt-or-ge (turn a b x) (pos 0)) (which (turn b v x)) (which (turn v a x))
     where
-      go : (turn a b x <ℤ pos 0) ⊎ Nn (turn a b x) → Up (turn b v x) ⊎ Nn (negℤ (turn b v x)) → Up (turn v a x) ⊎ Nn (negℤ (turn v a x)) → In v a b x ⊎ (In v a b x → ⊥)
+      go : (turn a b x <ℤ pos 0) ⊎ Nn (turn a b x) → Up (turn b v x) ⊎ Nn (negℤ (turn b v x)) → Up (turn v a x) ⊎ Nn (negℤ (turn v a x))
+          → In v a b x ⊎ (In v a b x → ⊥)
       go (inl h) y z = inr (λ i. clashℤ h (i .far))
       go (inr h) (inr k) z = inr (λ i. off (i .by-a) k)
       go (inr h) (inl k) (inr l) = inr (λ i. off (i .by-b) l)
@@ -97,7 +99,8 @@ module _ (m : ℤ) (L : Flat → Flat → Type 0) (cs : List Flat) (net : Net m 
 
   pub data Choice (v x y : Flat) : Type 0 where
     whole : ((z : Flat) → Of z cs → Hit v x y z → ⊥) → Ok m L (λ r. Of r cs) x y → Choice v x y
-    cut : (w : Flat) → Of w cs → Ok m L (λ r. Of r cs) v w → h v <ℤ h w → Same (turn v x w) (turn v x y) → Same (turn v w y) (turn v x y) → Choice v x y
+    cut : (w : Flat) → Of w cs → Ok m L (λ r. Of r cs) v w → h v <ℤ h w → Same (turn v x w) (turn v x y) → Same (turn v w y) (turn v x y)
+        → Choice v x y
 
   module _ (v x y : Flat) (vx : L v x) (vy : L v y) (hx : h v <ℤ h x) (hy : h v <ℤ h y) where
     -- three corners are in no line
@@ -117,7 +120,8 @@ module _ (m : ℤ) (L : Flat → Flat → Type 0) (cs : List Flat) (net : Net m 
     }
 
     -- the chord of an empty triangle
-    pub ear-ok : (h x ≡ h y → ⊥) → ((q : Flat) → L v q → (q ≡ x) ⊎ (q ≡ y)) → ((z : Flat) → Of z cs → Hit v x y z → ⊥) → Ok m L (λ r. Of r cs) x y
+    pub ear-ok : (h x ≡ h y → ⊥) → ((q : Flat) → L v q → (q ≡ x) ⊎ (q ≡ y)) → ((z : Flat) → Of z cs → Hit v x y z → ⊥)
+        → Ok m L (λ r. Of r cs) x y
     ear-ok ne only e = go (ways (turn v x y))
       where
         swap : (q : Flat) → (q ≡ x) ⊎ (q ≡ y) → (q ≡ y) ⊎ (q ≡ x)
@@ -128,22 +132,31 @@ module _ (m : ℤ) (L : Flat → Flat → Type 0) (cs : List Flat) (net : Net m 
         go (inl D) = ear m L (λ r. Of r cs) net v x y D vx vy hx hy (λ z o i. e z o (inl i)) only
         go (inr (inl k)) = absurd (bent ne k)
         go (inr (inr D)) =
-            ok-back (ear m L (λ r. Of r cs) net v y x (up-is (sym (flip-last v y x)) D) vy vx hy hx (λ z o i. e z o (inr i)) (λ q l. swap q (only q l)))
+            ok-back
+            (ear m L (λ r. Of r cs) net v y x (up-is (sym (flip-last v y x)) D) vy vx hy hx (λ z o i. e z o (inr i))
+            (λ q l. swap q (only q l)))
 
     -- y is lower than x, and r is its other neighbour: r is not on v's side of the chord
-    pub near : {t : ℤ} → ((z : Flat) → Of z cs → Hit v x y z → ⊥) → (h x ≡ h y → ⊥) → h y <ℤ h x → (r : Flat) → L r y → h y <ℤ h r → Same t (turn y x r) → Same (turn y x r) (turn v x y)
+    pub near : {t : ℤ} → ((z : Flat) → Of z cs → Hit v x y z → ⊥) → (h x ≡ h y → ⊥) → h y <ℤ h x → (r : Flat) → L r y → h y <ℤ h r
+        → Same t (turn y x r) → Same (turn y x r) (turn v x y)
     near {t} e ne k r l hr s = go (ways (turn v x y)) s
       where
         go : Up (turn v x y) ⊎ ((turn v x y ≡ pos 0) ⊎ Up (negℤ (turn v x y))) → Same t (turn y x r) → Same (turn y x r) (turn v x y)
         go (inl D) (both a b) = both b D
-        go (inl D) (none a b) = absurd (next-b m L (λ r. Of r cs) net v x y D vx vy hx hy (λ z o i. e z o (inl i)) {r = r} (net .end l) (up-is (sym (flip x y r)) b) l hr k)
+        go (inl D) (none a b) =
+            absurd
+            (next-b m L (λ r. Of r cs) net v x y D vx vy hx hy (λ z o i. e z o (inl i)) {r = r} (net .end l) (up-is (sym (flip x y r)) b)
+            l hr k)
         go (inr (inl d)) u = absurd (bent ne d)
         go (inr (inr D)) (none a b) = none b D
         go (inr (inr D)) (both a b) =
-            absurd (next-a m L (λ r. Of r cs) net v y x (up-is (sym (flip-last v y x)) D) vy vx hy hx (λ z o i. e z o (inr i)) {r = r} (net .end l) b l hr k)
+            absurd
+            (next-a m L (λ r. Of r cs) net v y x (up-is (sym (flip-last v y x)) D) vy vx hy hx (λ z o i. e z o (inr i)) {r = r}
+            (net .end l) b l hr k)
 
     -- r is the other neighbour of both
-    pub four : {t : ℤ} → ((z : Flat) → Of z cs → Hit v x y z → ⊥) → (h x ≡ h y → ⊥) → (r : Flat) → L r x → L r y → h v <ℤ h r → Same t (turn r y x) → Same (turn r y x) (turn v x y)
+    pub four : {t : ℤ} → ((z : Flat) → Of z cs → Hit v x y z → ⊥) → (h x ≡ h y → ⊥) → (r : Flat) → L r x → L r y → h v <ℤ h r
+        → Same t (turn r y x) → Same (turn r y x) (turn v x y)
     four {t} e ne r lx ly hr s = go (ways (turn v x y)) s
       where
         go : Up (turn v x y) ⊎ ((turn v x y ≡ pos 0) ⊎ Up (negℤ (turn v x y))) → Same t (turn r y x) → Same (turn r y x) (turn v x y)
@@ -154,7 +167,9 @@ module _ (m : ℤ) (L : Flat → Flat → Type 0) (cs : List Flat) (net : Net m 
         go (inr (inl d)) u = absurd (bent ne d)
         go (inr (inr D)) (none a b) = none b D
         go (inr (inr D)) (both a b) =
-            absurd (fourth m L (λ r. Of r cs) net v y x (up-is (sym (flip-last v y x)) D) vy vx hy hx (λ z o i. e z o (inr i)) {r = r} (net .end lx)
+            absurd
+            (fourth m L (λ r. Of r cs) net v y x (up-is (sym (flip-last v y x)) D) vy vx hy hx (λ z o i. e z o (inr i)) {r = r}
+            (net .end lx)
             (up-is (spin r y x) b) ly lx hr)
 
     pub choose : (h x ≡ h y → ⊥) → ((q : Flat) → L v q → (q ≡ x) ⊎ (q ≡ y)) → Choice v x y
@@ -170,17 +185,23 @@ module _ (m : ℤ) (L : Flat → Flat → Type 0) (cs : List Flat) (net : Net m 
             elim-hit : (z : Flat) → (In v x y z → ⊥) → Hit v x y z → ⊥
             elim-hit z n (inl i) = n i
             elim-hit z n (inr i) = off D (up-nn (up-is (flip-last v y x) (in-sense v y x z i)))
-        up D (inr t) = cut (t .w) (t .of) (diagonal m L (λ r. Of r cs) net v x y D vx vy hx hy (t .w) (t .inn) (t .top)) (higher m L (λ r. Of r cs) net v x y D vx vy hx hy (t .w) (t .inn) (t .top))
+        up D (inr t) =
+            cut (t .w) (t .of) (diagonal m L (λ r. Of r cs) net v x y D vx vy hx hy (t .w) (t .inn) (t .top))
+            (higher m L (λ r. Of r cs) net v x y D vx vy hx hy (t .w) (t .inn) (t .top))
             (both (t .inn .by-b) D) (both (up-is (spin y v (t .w)) (t .inn .by-a)) D)
 
         down : Up (turn v y x) → Empty v y x cs ⊎ Best v y x cs → Choice v x y
-        down D (inl e) = whole (λ z o. elim-hit z (e z o)) (ok-back (ear m L (λ r. Of r cs) net v y x D vy vx hy hx e (λ q l. swap q (only q l))))
+        down D (inl e) =
+            whole (λ z o. elim-hit z (e z o)) (ok-back (ear m L (λ r. Of r cs) net v y x D vy vx hy hx e (λ q l. swap q (only q l))))
           where
             elim-hit : (z : Flat) → (In v y x z → ⊥) → Hit v x y z → ⊥
             elim-hit z n (inr i) = n i
             elim-hit z n (inl i) = off D (up-nn (up-is (flip-last v x y) (in-sense v x y z i)))
-        down D (inr t) = cut (t .w) (t .of) (diagonal m L (λ r. Of r cs) net v y x D vy vx hy hx (t .w) (t .inn) (t .top)) (higher m L (λ r. Of r cs) net v y x D vy vx hy hx (t .w) (t .inn) (t .top))
-            (none (up-is (flip x v (t .w)) (t .inn .by-a)) (up-is (flip-last v y x) D)) (none (up-is (flip-last v y (t .w)) (t .inn .by-b)) (up-is (flip-last v y x) D))
+        down D (inr t) =
+            cut (t .w) (t .of) (diagonal m L (λ r. Of r cs) net v y x D vy vx hy hx (t .w) (t .inn) (t .top))
+            (higher m L (λ r. Of r cs) net v y x D vy vx hy hx (t .w) (t .inn) (t .top))
+            (none (up-is (flip x v (t .w)) (t .inn .by-a)) (up-is (flip-last v y x) D))
+            (none (up-is (flip-last v y (t .w)) (t .inn .by-b)) (up-is (flip-last v y x) D))
 
         go : Up (turn v x y) ⊎ ((turn v x y ≡ pos 0) ⊎ Up (negℤ (turn v x y))) → Choice v x y
         go (inl D) = up D (best v x y cs)

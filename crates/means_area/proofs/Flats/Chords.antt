@@ -13,7 +13,8 @@ use Rattle.means_area.proofs.Flats.Signs.{same-flip, same-trans, same-i
 use Rattle.means_area.proofs.Flats.Turns.{flat-second}
 use Rattle.means_area.proofs.Flats.Net.{Ok}
 use Rattle.means_area.proofs.Flats.Choice.{Hit}
-use Rattle.means_area.proofs.Flats.Rings.{lst-append, chain-split, chain-left, chain-right, chain-cut, Sub, keep, skip, sub-all, sub-none, sub-append, sub-of, sub-distinct, narrow}
+use Rattle.means_area.proofs.Flats.Rings.{lst-append, chain-split, chain-left, chain-right, chain-cut, Sub, keep, skip, sub-all}
+use Rattle.means_area.proofs.Flats.Rings.{sub-none, sub-append, sub-of, sub-distinct, narrow}
 use Rattle.means_area.proofs.Flats.Lowest.{Split, Prefix, lst-nil, sub-left, pair-swap}
 use Rattle.means_area.proofs.Flats.First.{Area, Rest}
 use Rattle.means_area.proofs.Flats.Around.{Second, OneTurn, reduced}
@@ -24,10 +25,13 @@ Chord m u c X v y Y w = Ok m (Link (u ∷ c ∷ (X ++ v ∷ y ∷ Y))) (λ z. Of
 
 module _ (m : ℤ) (n : ℕ) (A : Area m n) (R : Rest m n) where
   -- ---- w is behind v: the corners from y up to w are cut off
-  cut-y : (u c : Flat) (X : List Flat) (v y : Flat) (Z : List Flat) (w : Flat) (W : List Flat) → length (X ++ v ∷ y ∷ (Z ++ w ∷ W)) ≤ suc n → Second m u c X v y (Z ++ w ∷ W)
+  cut-y : (u c : Flat) (X : List Flat) (v y : Flat) (Z : List Flat) (w : Flat) (W : List Flat)
+      → length (X ++ v ∷ y ∷ (Z ++ w ∷ W)) ≤ suc n → Second m u c X v y (Z ++ w ∷ W)
       → Chord m u c X v y (Z ++ w ∷ W) w → Same (turn v w (lst c X)) (turn v y (lst c X)) → OneTurn u c X v y (Z ++ w ∷ W)
   cut-y u c X v y Z w W b q ok s2 =
-      same-trans (same-flip s2) (same-is2 (ap (turn u c) (sym (lst-append y Z w W))) (reduced m n A R u c X v w W (omega (arith, e1, e2, e3)) smaller (omega (arith, e1, e2, e3))))
+      same-trans (same-flip s2)
+      (same-is2 (ap (turn u c) (sym (lst-append y Z w W)))
+      (reduced m n A R u c X v w W (omega (arith, e1, e2, e3)) smaller (omega (arith, e1, e2, e3))))
     where
       e1 : length (X ++ v ∷ y ∷ (Z ++ w ∷ W)) ≡ length X + suc (suc (length (Z ++ w ∷ W)))
       e1 = length-append X (v ∷ y ∷ (Z ++ w ∷ W))
@@ -57,23 +61,30 @@ module _ (m : ℤ) (n : ℕ) (A : Area m n) (R : Rest m n) where
 
       smaller : Second m u c X v w W
       smaller = record {
-        simple = narrow m g (u ∷ c ∷ (X ++ v ∷ w ∷ W)) v w (q .simple) f (λ z o. sub-of z (keep sub) o) (sub-distinct m (keep sub) (q .simple .apart)) ok;
+        simple =
+            narrow m g (u ∷ c ∷ (X ++ v ∷ w ∷ W)) v w (q .simple) f (λ z o. sub-of z (keep sub) o)
+            (sub-distinct m (keep sub) (q .simple .apart)) ok;
         low = (λ z o. q .low z (sub-of z sub o));
         empty = (λ z o. subst (λ (a : Flat). Hit u c a z → ⊥) (lst-append y Z w W) (q .empty z (sub-of z (keep sub) o)));
         low-c = q .low-c;
         low-y = (λ z o. q .low-y z (sub-of z late o));
       }
 
-  pub cut-behind : (u c : Flat) (X : List Flat) (v y : Flat) (Y : List Flat) (w : Flat) → Split w Y → length (X ++ v ∷ y ∷ Y) ≤ suc n → Second m u c X v y Y
+  pub cut-behind : (u c : Flat) (X : List Flat) (v y : Flat) (Y : List Flat) (w : Flat) → Split w Y → length (X ++ v ∷ y ∷ Y) ≤ suc n
+      → Second m u c X v y Y
       → Chord m u c X v y Y w → Same (turn v w (lst c X)) (turn v y (lst c X)) → OneTurn u c X v y Y
   cut-behind u c X v y Y w t =
-      subst (λ (Y : List Flat). length (X ++ v ∷ y ∷ Y) ≤ suc n → Second m u c X v y Y → Chord m u c X v y Y w → Same (turn v w (lst c X)) (turn v y (lst c X)) → OneTurn u c X v y Y)
+      subst (λ (Y : List Flat). length (X ++ v ∷ y ∷ Y) ≤ suc n → Second m u c X v y Y → Chord m u c X v y Y w
+      → Same (turn v w (lst c X)) (turn v y (lst c X)) → OneTurn u c X v y Y)
       (sym (t .is)) (cut-y u c X v y (t .before) w (t .after))
 
   -- ---- w is before v: the corners after w, up to v, are cut off; w is the last of c X
-  cut-x : (u c : Flat) (X : List Flat) (x : Flat) (W : List Flat) (v y : Flat) (Y : List Flat) → length ((X ++ x ∷ W) ++ v ∷ y ∷ Y) ≤ suc n → Second m u c (X ++ x ∷ W) v y Y
-      → Chord m u c (X ++ x ∷ W) v y Y (lst c X) → Same (turn v y (lst c X)) (turn v y (lst c (X ++ x ∷ W))) → OneTurn u c (X ++ x ∷ W) v y Y
-  cut-x u c X x W v y Y b q ok s1 = same-trans (same-flip s1) (reduced m n A R u c X v y Y (omega (arith, e1, e2, e3)) smaller (omega (arith, e1, e2, e3)))
+  cut-x : (u c : Flat) (X : List Flat) (x : Flat) (W : List Flat) (v y : Flat) (Y : List Flat)
+      → length ((X ++ x ∷ W) ++ v ∷ y ∷ Y) ≤ suc n → Second m u c (X ++ x ∷ W) v y Y
+      → Chord m u c (X ++ x ∷ W) v y Y (lst c X) → Same (turn v y (lst c X)) (turn v y (lst c (X ++ x ∷ W)))
+      → OneTurn u c (X ++ x ∷ W) v y Y
+  cut-x u c X x W v y Y b q ok s1 =
+      same-trans (same-flip s1) (reduced m n A R u c X v y Y (omega (arith, e1, e2, e3)) smaller (omega (arith, e1, e2, e3)))
     where
       e1 : length ((X ++ x ∷ W) ++ v ∷ y ∷ Y) ≡ length (X ++ x ∷ W) + suc (suc (length Y))
       e1 = length-append (X ++ x ∷ W) (v ∷ y ∷ Y)
@@ -103,7 +114,9 @@ module _ (m : ℤ) (n : ℕ) (A : Area m n) (R : Rest m n) where
 
       smaller : Second m u c X v y Y
       smaller = record {
-        simple = narrow m g (u ∷ c ∷ (X ++ v ∷ y ∷ Y)) v (lst c X) (q .simple) f (λ z o. sub-of z (keep sub) o) (sub-distinct m (keep sub) (q .simple .apart)) ok;
+        simple =
+            narrow m g (u ∷ c ∷ (X ++ v ∷ y ∷ Y)) v (lst c X) (q .simple) f (λ z o. sub-of z (keep sub) o)
+            (sub-distinct m (keep sub) (q .simple .apart)) ok;
         low = (λ z o. q .low z (sub-of z sub o));
         empty = (λ z o. q .empty z (sub-of z (keep sub) o));
         low-c = (λ z o. q .low-c z (sub-of z (keep (sub-left X (x ∷ W))) o));
@@ -111,14 +124,18 @@ module _ (m : ℤ) (n : ℕ) (A : Area m n) (R : Rest m n) where
       }
 
   abbrev Before : Flat → Flat → List Flat → Flat → Flat → List Flat → Flat → Type 0
-  Before u c X v y Y w = length (X ++ v ∷ y ∷ Y) ≤ suc n → Second m u c X v y Y → Chord m u c X v y Y w → Same (turn v y w) (turn v y (lst c X))
+  Before u c X v y Y w =
+      length (X ++ v ∷ y ∷ Y) ≤ suc n → Second m u c X v y Y → Chord m u c X v y Y w → Same (turn v y w) (turn v y (lst c X))
       → Same (turn v w (lst c X)) (turn v y (lst c X)) → OneTurn u c X v y Y
 
-  pub cut-before : (u c : Flat) (X : List Flat) (v y : Flat) (Y : List Flat) (w : Flat) → Prefix w c X → length (X ++ v ∷ y ∷ Y) ≤ suc n → Second m u c X v y Y
-      → Chord m u c X v y Y w → Same (turn v y w) (turn v y (lst c X)) → Same (turn v w (lst c X)) (turn v y (lst c X)) → OneTurn u c X v y Y
+  pub cut-before : (u c : Flat) (X : List Flat) (v y : Flat) (Y : List Flat) (w : Flat) → Prefix w c X → length (X ++ v ∷ y ∷ Y) ≤ suc n
+      → Second m u c X v y Y
+      → Chord m u c X v y Y w → Same (turn v y w) (turn v y (lst c X)) → Same (turn v w (lst c X)) (turn v y (lst c X))
+      → OneTurn u c X v y Y
   cut-before u c X v y Y w t = subst (λ (X : List Flat). Before u c X v y Y w) (sym (t .is)) (go (t .upto) (t .rest) (t .last))
     where
       go : (X W : List Flat) → lst c X ≡ w → Before u c (X ++ W) v y Y w
       go X [] e b q ok s1 s2 = absurd (same-ne s2 (ap (turn v w) (lst-nil c X ∙ e) ∙ flat-second v w))
       go X (x ∷ W) e b q ok s1 s2 =
-          cut-x u c X x W v y Y b q (subst (λ (z : Flat). Chord m u c (X ++ x ∷ W) v y Y z) (sym e) ok) (same-is (ap (turn v y) (sym e)) s1)
+          cut-x u c X x W v y Y b q (subst (λ (z : Flat). Chord m u c (X ++ x ∷ W) v y Y z) (sym e) ok)
+          (same-is (ap (turn v y) (sym e)) s1)

@@ -1,4 +1,5 @@
--- The first corner u of a ring u c l, lower than its neighbours c and the last of l; and the two claims that are proved together. Assumes nothing.
+-- The first corner u of a ring u c l, lower than its neighbours c and the last of l; and the two claims that are proved together. Assumes
+-- nothing.
 use mathlib.Core.Path.{_≡_, refl, sym, ap}
 use mathlib.Core.Logic.{_⊎_, inl, inr}
 use mathlib.Core.List.{List, [], _∷_}
@@ -47,15 +48,20 @@ module _ (m : ℤ) where
 
   module _ (u c : Flat) (l : List Flat) (k : 1 ≤ length l) (s : Simple m (u ∷ c ∷ l)) (hc : h u <ℤ h c) (ha : h u <ℤ h (lst c l)) where
     pub choice : Choice m (Link (u ∷ c ∷ l)) (u ∷ c ∷ l) (s .net) u c (lst c l)
-    choice = choose m (Link (u ∷ c ∷ l)) (u ∷ c ∷ l) (s .net) u c (lst c l) (first-link u c l) (last-link u c l) hc ha (ends-apart u c l k (s .apart)) (only-first u c l (s .apart .0))
+    choice =
+        choose m (Link (u ∷ c ∷ l)) (u ∷ c ∷ l) (s .net) u c (lst c l) (first-link u c l) (last-link u c l) hc ha
+        (ends-apart u c l k (s .apart)) (only-first u c l (s .apart .0))
 
     pub not-flat : turn u c (lst c l) ≡ pos 0 → ⊥
-    not-flat = bent m (Link (u ∷ c ∷ l)) (u ∷ c ∷ l) (s .net) u c (lst c l) (first-link u c l) (last-link u c l) hc ha (ends-apart u c l k (s .apart))
+    not-flat =
+        bent m (Link (u ∷ c ∷ l)) (u ∷ c ∷ l) (s .net) u c (lst c l) (first-link u c l) (last-link u c l) hc ha
+        (ends-apart u c l k (s .apart))
 
     -- without the first corner
     pub ear-simple : Free u c (lst c l) (u ∷ c ∷ l) → Simple m (c ∷ l)
     ear-simple e = narrow m (u ∷ c ∷ l) (c ∷ l) c (lst c l) s f (λ z o. inr o) (s .apart .1)
-        (ear-ok m (Link (u ∷ c ∷ l)) (u ∷ c ∷ l) (s .net) u c (lst c l) (first-link u c l) (last-link u c l) hc ha (ends-apart u c l k (s .apart)) (only-first u c l (s .apart .0)) e)
+        (ear-ok m (Link (u ∷ c ∷ l)) (u ∷ c ∷ l) (s .net) u c (lst c l) (first-link u c l) (last-link u c l) hc ha
+        (ends-apart u c l k (s .apart)) (only-first u c l (s .apart .0)) e)
       where
         f : (p q : Flat) → Link (c ∷ l) p q → Link (u ∷ c ∷ l) p q ⊎ Pair c (lst c l) p q
         f p q t = go (chain-end c l c u p q t)
@@ -68,8 +74,12 @@ module _ (m : ℤ) where
 
   -- the area has the sign of the turn at u
   abbrev pub Area : ℕ → Type 0
-  Area n = (u c : Flat) (l : List Flat) → length l ≤ n → 1 ≤ length l → Simple m (u ∷ c ∷ l) → Least m u (c ∷ l) → Same (area (u ∷ c ∷ l)) (turn u c (lst c l))
+  Area n =
+      (u c : Flat) (l : List Flat) → length l ≤ n → 1 ≤ length l → Simple m (u ∷ c ∷ l) → Least m u (c ∷ l)
+      → Same (area (u ∷ c ∷ l)) (turn u c (lst c l))
 
   -- what is left without u has it too, where the triangle at u is empty
   abbrev pub Rest : ℕ → Type 0
-  Rest n = (u c : Flat) (l : List Flat) → length l ≤ n → 2 ≤ length l → Simple m (u ∷ c ∷ l) → Least m u (c ∷ l) → Free u c (lst c l) (u ∷ c ∷ l) → Same (area (c ∷ l)) (turn u c (lst c l))
+  Rest n =
+      (u c : Flat) (l : List Flat) → length l ≤ n → 2 ≤ length l → Simple m (u ∷ c ∷ l) → Least m u (c ∷ l)
+      → Free u c (lst c l) (u ∷ c ∷ l) → Same (area (c ∷ l)) (turn u c (lst c l))

@@ -24,7 +24,9 @@ pub record Split (w : Flat) (l : List Flat) : Type 0 where
 pub of-split : (w : Flat) (l : List Flat) → Of w l → Split w l
 of-split w [] o = absurd o
 of-split w (x ∷ l) (inl e) = record { before = []; after = l; is = (λ i. sym e i ∷ l) }
-of-split w (x ∷ l) (inr o) = let s = of-split w l o in record { before = x ∷ s .before; after = s .after; is = ap (λ (r : List Flat). x ∷ r) (s .is) }
+of-split w (x ∷ l) (inr o) =
+    let s = of-split w l o in
+    record { before = x ∷ s .before; after = s .after; is = ap (λ (r : List Flat). x ∷ r) (s .is) }
 
 -- the corners up to w
 pub record Prefix (w c : Flat) (l : List Flat) : Type 0 where
@@ -110,4 +112,13 @@ module _ (m : ℤ) where
           pick : (h c <ℤ h (f .v)) ⊎ ((h c ≡ h (f .v)) ⊎ (h (f .v) <ℤ h c)) → Least m c (d ∷ l) ⊎ Found c (d ∷ l)
           pick (inl s) = inl (below-all d l f c s)
           pick (inr (inl e)) = absurd (a .0 (f .v) there (sym e))
-          pick (inr (inr s)) = inr (record { before = d ∷ f .before; v = f .v; after = f .after; is = ap (λ (r : List Flat). d ∷ r) (f .is); low = one s; low' = f .low' })
+          pick (inr (inr s)) =
+              inr
+              (record {
+                before = d ∷ f .before;
+                v = f .v;
+                after = f .after;
+                is = ap (λ (r : List Flat). d ∷ r) (f .is);
+                low = one s;
+                low' = f .low';
+              })

@@ -25,7 +25,8 @@ module _ (m : ℤ) (n : ℕ) (A : Area m n) (R : Rest m n) where
   h = height m
 
   -- ---- the lowest but u is no neighbour of u
-  middle : (u c : Flat) (X : List Flat) (v y : Flat) (Y : List Flat) → length (X ++ v ∷ y ∷ Y) ≤ suc n → Second m u c X v y Y → OneTurn u c X v y Y
+  middle : (u c : Flat) (X : List Flat) (v y : Flat) (Y : List Flat) → length (X ++ v ∷ y ∷ Y) ≤ suc n → Second m u c X v y Y
+      → OneTurn u c X v y Y
   middle u c X v y Y b q =
       go (choice m v y (Y ++ u ∷ c ∷ X) (let e = length-append Y (u ∷ c ∷ X) in omega (arith, e)) s (q .low-y y (inl refl))
       (subst (λ (z : Flat). h v <ℤ h z) (sym xi) (q .low-c (lst c X) (lst-of c X))))
@@ -36,7 +37,8 @@ module _ (m : ℤ) (n : ℕ) (A : Area m n) (R : Rest m n) where
       xi : lst y (Y ++ u ∷ c ∷ X) ≡ lst c X
       xi = x-is m n A R u c X v y Y b q
 
-      go : Choice m (Link (v ∷ y ∷ (Y ++ u ∷ c ∷ X))) (v ∷ y ∷ (Y ++ u ∷ c ∷ X)) (s .net) v y (lst y (Y ++ u ∷ c ∷ X)) → OneTurn u c X v y Y
+      go : Choice m (Link (v ∷ y ∷ (Y ++ u ∷ c ∷ X))) (v ∷ y ∷ (Y ++ u ∷ c ∷ X)) (s .net) v y (lst y (Y ++ u ∷ c ∷ X))
+          → OneTurn u c X v y Y
       go (whole e' ok) = pick (both-empty X Y)
         where
           pick : (1 ≤ length X + length Y) ⊎ ((X ≡ []) × (Y ≡ [])) → OneTurn u c X v y Y
@@ -61,7 +63,8 @@ module _ (m : ℤ) (n : ℕ) (A : Area m n) (R : Rest m n) where
           place (inr (inr p)) = cut-before m n A R u c X v y Y w (of-prefix w c X p) b q chord t1 t2
 
   -- ---- it is the next corner
-  rest-next : (u c d : Flat) (l : List Flat) → length (d ∷ l) ≤ suc n → 2 ≤ length (d ∷ l) → Simple m (u ∷ c ∷ d ∷ l) → Least m u (c ∷ d ∷ l) → Free u c (lst d l) (u ∷ c ∷ d ∷ l) → Least m c (d ∷ l)
+  rest-next : (u c d : Flat) (l : List Flat) → length (d ∷ l) ≤ suc n → 2 ≤ length (d ∷ l) → Simple m (u ∷ c ∷ d ∷ l)
+      → Least m u (c ∷ d ∷ l) → Free u c (lst d l) (u ∷ c ∷ d ∷ l) → Least m c (d ∷ l)
       → Same (area (c ∷ d ∷ l)) (turn u c (lst d l))
   rest-next u c d l b j s low e lc =
       let a = lst d l in
@@ -72,7 +75,8 @@ module _ (m : ℤ) (n : ℕ) (A : Area m n) (R : Rest m n) where
       let i = ear-simple m u c (d ∷ l) (omega arith) s hc ha e in
       let t : Same (area (c ∷ d ∷ l)) (turn c d a) = A c d l (omega arith) (omega arith) i lc in
       let t' : Same (negℤ (area (c ∷ d ∷ l))) (turn c a d) = same-is2 (sym (flip-last c a d)) (same-neg t) in
-      let r = near m (Link g) g (s .net) u a c (last-link m u c (d ∷ l)) (first-link m u c (d ∷ l)) ha hc (λ z o j. e z o (swap z j)) (λ q. ne (sym q)) (lc a (lst-of d l)) d (inr (inl (inr (refl, refl))))
+      let r = near m (Link g) g (s .net) u a c (last-link m u c (d ∷ l)) (first-link m u c (d ∷ l)) ha hc (λ z o j. e z o (swap z j))
+      (λ q. ne (sym q)) (lc a (lst-of d l)) d (inr (inl (inr (refl, refl))))
       (lc d (inl refl)) t' in
       same-trans t (same-is (sym (flip-last c d a)) (same-is2 (sym (flip-last u c a)) (same-neg r)))
     where
@@ -81,8 +85,10 @@ module _ (m : ℤ) (n : ℕ) (A : Area m n) (R : Rest m n) where
       swap z (inr j) = inl j
 
   -- ---- it is the last corner
-  rest-last : (u c : Flat) (X : List Flat) (v : Flat) → length (X ++ v ∷ []) ≤ suc n → 2 ≤ length (X ++ v ∷ []) → Simple m (u ∷ c ∷ (X ++ v ∷ [])) → Least m u (c ∷ (X ++ v ∷ []))
-      → Free u c (lst c (X ++ v ∷ [])) (u ∷ c ∷ (X ++ v ∷ [])) → Least m v (c ∷ X) → Same (area (c ∷ (X ++ v ∷ []))) (turn u c (lst c (X ++ v ∷ [])))
+  rest-last : (u c : Flat) (X : List Flat) (v : Flat) → length (X ++ v ∷ []) ≤ suc n → 2 ≤ length (X ++ v ∷ [])
+      → Simple m (u ∷ c ∷ (X ++ v ∷ [])) → Least m u (c ∷ (X ++ v ∷ []))
+      → Free u c (lst c (X ++ v ∷ [])) (u ∷ c ∷ (X ++ v ∷ [])) → Least m v (c ∷ X)
+      → Same (area (c ∷ (X ++ v ∷ []))) (turn u c (lst c (X ++ v ∷ [])))
   rest-last u c X v b j s low e lv =
       let l = X ++ v ∷ [] in
       let g = u ∷ c ∷ l in
@@ -93,18 +99,22 @@ module _ (m : ℤ) (n : ℕ) (A : Area m n) (R : Rest m n) where
       let one : 1 ≤ length l = omega (arith, j) in
       let i = ear-simple m u c l one s hc ha e in
       let t = A v c X (omega (arith, q)) (omega (arith, q)) (turned m c X v [] i) lv in
-      let r = near m (Link g) g (s .net) u c v (first-link m u c l) (subst (λ (z : Flat). Link g u z) vi (last-link m u c l)) hc (subst (λ (z : Flat). h u <ℤ h z) vi ha)
+      let r = near m (Link g) g (s .net) u c v (first-link m u c l) (subst (λ (z : Flat). Link g u z) vi (last-link m u c l)) hc
+      (subst (λ (z : Flat). h u <ℤ h z) vi ha)
       (subst (λ (z : Flat). Free u c z g) vi e) (λ p. ends-apart m u c l one (s .apart) (p ∙ ap h (sym vi))) (lv c (inl refl)) (lst c X)
       (chain-left u (c ∷ X) v [] u (lst c X) v (chain-last u (c ∷ X) v)) (lv (lst c X) (lst-of c X)) t in
       same-is (sym (area-turned c X v [])) (same-is2 (ap (turn u c) (sym vi)) (same-trans t r))
 
   -- ---- the three places
-  found : (u c : Flat) (X : List Flat) (v : Flat) (Y : List Flat) → length (X ++ v ∷ Y) ≤ suc n → 2 ≤ length (X ++ v ∷ Y) → Simple m (u ∷ c ∷ (X ++ v ∷ Y)) → Least m u (c ∷ (X ++ v ∷ Y))
-      → Free u c (lst c (X ++ v ∷ Y)) (u ∷ c ∷ (X ++ v ∷ Y)) → Least m v (c ∷ X) → Least m v Y → Same (area (c ∷ (X ++ v ∷ Y))) (turn u c (lst c (X ++ v ∷ Y)))
+  found : (u c : Flat) (X : List Flat) (v : Flat) (Y : List Flat) → length (X ++ v ∷ Y) ≤ suc n → 2 ≤ length (X ++ v ∷ Y)
+      → Simple m (u ∷ c ∷ (X ++ v ∷ Y)) → Least m u (c ∷ (X ++ v ∷ Y))
+      → Free u c (lst c (X ++ v ∷ Y)) (u ∷ c ∷ (X ++ v ∷ Y)) → Least m v (c ∷ X) → Least m v Y
+      → Same (area (c ∷ (X ++ v ∷ Y))) (turn u c (lst c (X ++ v ∷ Y)))
   found u c X v [] b j s low e lc ly = rest-last u c X v b j s low e lc
   found u c X v (y ∷ Y) b j s low e lc ly =
       let li = lst-append c X v (y ∷ Y) in
-      let q : Second m u c X v y Y = record { simple = s; low = low; empty = subst (λ (a : Flat). Free u c a (u ∷ c ∷ (X ++ v ∷ y ∷ Y))) li e; low-c = lc; low-y = ly } in
+      let q : Second m u c X v y Y = record
+      { simple = s; low = low; empty = subst (λ (a : Flat). Free u c a (u ∷ c ∷ (X ++ v ∷ y ∷ Y))) li e; low-c = lc; low-y = ly } in
       same-is2 (ap (turn u c) (sym li)) (same-trans (at-v m n A R u c X v y Y b q) (middle u c X v y Y b q))
 
   pub rest-step : Rest m (suc n)
@@ -113,5 +123,7 @@ module _ (m : ℤ) (n : ℕ) (A : Area m n) (R : Rest m n) where
     where
       go : Least m c (d ∷ l) ⊎ Found m c (d ∷ l) → Same (area (c ∷ d ∷ l)) (turn u c (lst d l))
       go (inl lc) = rest-next u c d l b j s low e lc
-      go (inr f) = subst (λ (r : List Flat). length r ≤ suc n → 2 ≤ length r → Simple m (u ∷ c ∷ r) → Least m u (c ∷ r) → Free u c (lst c r) (u ∷ c ∷ r) → Same (area (c ∷ r)) (turn u c (lst c r)))
+      go (inr f) =
+          subst (λ (r : List Flat). length r ≤ suc n → 2 ≤ length r → Simple m (u ∷ c ∷ r) → Least m u (c ∷ r)
+          → Free u c (lst c r) (u ∷ c ∷ r) → Same (area (c ∷ r)) (turn u c (lst c r)))
           (sym (f .is)) (λ b j s low e. found u c (f .before) (f .v) (f .after) b j s low e (f .low) (f .low')) b j s low e

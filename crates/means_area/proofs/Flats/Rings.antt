@@ -57,7 +57,8 @@ module _ {A : Type 0} where
   chain-last x (y ∷ l) e = inr (chain-last y l e)
 
   -- all links but the last go on where the way goes on
-  pub chain-cut : (x : A) (l : List A) (e : A) (y : A) (r : List A) (f p q : A) → Chain x l e p q → Chain x (l ++ y ∷ r) f p q ⊎ Pair (lst x l) e p q
+  pub chain-cut : (x : A) (l : List A) (e : A) (y : A) (r : List A) (f p q : A) → Chain x l e p q
+      → Chain x (l ++ y ∷ r) f p q ⊎ Pair (lst x l) e p q
   chain-cut x [] e y r f p q c = inr c
   chain-cut x (z ∷ l) e y r f p q (inl c) = inl (inl c)
   chain-cut x (z ∷ l) e y r f p q (inr c) = go (chain-cut z l e y r f p q c)
@@ -175,7 +176,8 @@ module _ (m : ℤ) where
 
   pub distinct-swap : (l r : List Flat) → Distinct m (l ++ r) → Distinct m (r ++ l)
   distinct-swap l r d =
-      distinct-both r l (sub-distinct (sub-right l r) d) (sub-distinct (sub-left l r) d) (λ z w o p q. distinct-across l r d w z p o (sym q))
+      distinct-both r l (sub-distinct (sub-right l r) d) (sub-distinct (sub-left l r) d)
+      (λ z w o p q. distinct-across l r d w z p o (sym q))
     where
       sub-left : (l r : List Flat) → Sub l (l ++ r)
       sub-left [] r = sub-none r
@@ -193,7 +195,8 @@ module _ (m : ℤ) where
   cross-back c = record { left = c .right; right = c .left; ahead = c .behind; behind = c .ahead }
 
   -- some links are left out, and the chord x y may be new
-  pub narrow : (g k : List Flat) (x y : Flat) → Simple m g → ((p q : Flat) → Link k p q → Link g p q ⊎ Pair x y p q) → ((z : Flat) → Of z k → Of z g) → Distinct m k
+  pub narrow : (g k : List Flat) (x y : Flat) → Simple m g → ((p q : Flat) → Link k p q → Link g p q ⊎ Pair x y p q)
+      → ((z : Flat) → Of z k → Of z g) → Distinct m k
       → Ok m (Link g) (λ z. Of z g) x y → Simple m k
   narrow g k x y s f o d ok = record {
     apart = d;
@@ -207,7 +210,9 @@ module _ (m : ℤ) where
     where
       chord : (p q r t : Flat) → Pair x y p q → Link g r t → Cross p q r t → ⊥
       chord p q r t (inl e) l c = ok .uncut l (subst (λ (z : Flat). Cross z y r t) (e .0) (subst (λ (z : Flat). Cross p z r t) (e .1) c))
-      chord p q r t (inr e) l c = ok .uncut (link-back g r t l) (cross-back (subst (λ (z : Flat). Cross z x r t) (e .0) (subst (λ (z : Flat). Cross p z r t) (e .1) c)))
+      chord p q r t (inr e) l c =
+          ok .uncut (link-back g r t l)
+          (cross-back (subst (λ (z : Flat). Cross z x r t) (e .0) (subst (λ (z : Flat). Cross p z r t) (e .1) c)))
 
       twice : (p q r t : Flat) → Pair x y p q → Pair x y r t → Cross p q r t → ⊥
       twice p q r t (inl e) (inl f) c = zero-off (ap (turn p q) (f .0 ∙ sym (e .0)) ∙ flat-first p q) (c .left)
@@ -224,7 +229,8 @@ module _ (m : ℤ) where
       free2 : (p q r : Flat) → Link g p q ⊎ Pair x y p q → Of r g → On m p q r → ⊥
       free2 p q r (inl l) n c = s .net .free l n c
       free2 p q r (inr (inl e)) n c = ok .bare n (subst (λ (z : Flat). On m z y r) (e .0) (subst (λ (z : Flat). On m p z r) (e .1) c))
-      free2 p q r (inr (inr e)) n c = ok .bare-back n (subst (λ (z : Flat). On m z x r) (e .0) (subst (λ (z : Flat). On m p z r) (e .1) c))
+      free2 p q r (inr (inr e)) n c =
+          ok .bare-back n (subst (λ (z : Flat). On m z x r) (e .0) (subst (λ (z : Flat). On m p z r) (e .1) c))
 
   -- another start
   pub turned : (x : Flat) (l : List Flat) (y : Flat) (r : List Flat) → Simple m (x ∷ (l ++ y ∷ r)) → Simple m (y ∷ (r ++ x ∷ l))
@@ -248,7 +254,8 @@ module _ (m : ℤ) where
           go (inl d) = chain-right x l y r x p q d
           go (inr d) = chain-left x l y r x p q d
 
-  pub ok-turned : (x : Flat) (l : List Flat) (y : Flat) (r : List Flat) (s t : Flat) → Ok m (Link (y ∷ (r ++ x ∷ l))) (λ z. Of z (y ∷ (r ++ x ∷ l))) s t
+  pub ok-turned : (x : Flat) (l : List Flat) (y : Flat) (r : List Flat) (s t : Flat)
+      → Ok m (Link (y ∷ (r ++ x ∷ l))) (λ z. Of z (y ∷ (r ++ x ∷ l))) s t
       → Ok m (Link (x ∷ (l ++ y ∷ r))) (λ z. Of z (x ∷ (l ++ y ∷ r))) s t
   ok-turned x l y r s t ok = record {
     uncut = (λ {p} {q} n c. ok .uncut (f p q (chain-split x l y r x p q n)) c);
@@ -265,10 +272,12 @@ module _ (m : ℤ) where
 pub along-split : (x : Flat) (l : List Flat) (y : Flat) (r : List Flat) (e : Flat) → along x (l ++ y ∷ r) e ≡ along x l y +ℤ along y r e
 along-split x [] y r e = refl
 along-split x (z ∷ l) y r e =
-    ap (λ (t : ℤ). part x z +ℤ t) (along-split z l y r e) ∙ ring (part x z ∷ along z l y ∷ along y r e ∷ []) (var 0 ⊕ (var 1 ⊕ var 2)) (var 0 ⊕ var 1 ⊕ var 2) tt
+    ap (λ (t : ℤ). part x z +ℤ t) (along-split z l y r e)
+    ∙ ring (part x z ∷ along z l y ∷ along y r e ∷ []) (var 0 ⊕ (var 1 ⊕ var 2)) (var 0 ⊕ var 1 ⊕ var 2) tt
 
 pub area-turned : (x : Flat) (l : List Flat) (y : Flat) (r : List Flat) → area (x ∷ (l ++ y ∷ r)) ≡ area (y ∷ (r ++ x ∷ l))
-area-turned x l y r = along-split x l y r x ∙ ring (along x l y ∷ along y r x ∷ []) (var 0 ⊕ var 1) (var 1 ⊕ var 0) tt ∙ sym (along-split y r x l y)
+area-turned x l y r =
+    along-split x l y r x ∙ ring (along x l y ∷ along y r x ∷ []) (var 0 ⊕ var 1) (var 1 ⊕ var 0) tt ∙ sym (along-split y r x l y)
 
 pub part-back : (p q : Flat) → part p q +ℤ part q p ≡ pos 0
 unfolding part
@@ -276,10 +285,13 @@ part-back p q = ring (env (pos 0) (p ∷ q ∷ [])) ((uE 0 ⊗ vE 1 ⊖ vE 0 ⊗
 
 part-turn : (u c a : Flat) → part u c +ℤ part a u -ℤ part a c ≡ turn u c a
 unfolding part turn
-part-turn u c a = ring (env (pos 0) (u ∷ c ∷ a ∷ [])) ((uE 0 ⊗ vE 1 ⊖ vE 0 ⊗ uE 1) ⊕ (uE 2 ⊗ vE 0 ⊖ vE 2 ⊗ uE 0) ⊖ (uE 2 ⊗ vE 1 ⊖ vE 2 ⊗ uE 1)) (tE 0 1 2) tt
+part-turn u c a =
+    ring (env (pos 0) (u ∷ c ∷ a ∷ [])) ((uE 0 ⊗ vE 1 ⊖ vE 0 ⊗ uE 1) ⊕ (uE 2 ⊗ vE 0 ⊖ vE 2 ⊗ uE 0) ⊖ (uE 2 ⊗ vE 1 ⊖ vE 2 ⊗ uE 1))
+    (tE 0 1 2) tt
 
 -- a chord from the first corner
-pub area-cut : (u : Flat) (l : List Flat) (w : Flat) (r : List Flat) → area (u ∷ (l ++ w ∷ r)) ≡ area (u ∷ (l ++ w ∷ [])) +ℤ area (u ∷ w ∷ r)
+pub area-cut : (u : Flat) (l : List Flat) (w : Flat) (r : List Flat)
+    → area (u ∷ (l ++ w ∷ r)) ≡ area (u ∷ (l ++ w ∷ [])) +ℤ area (u ∷ w ∷ r)
 area-cut u l w r =
     along-split u l w r u
     ∙ ring (along u l w ∷ along w r u ∷ []) (var 0 ⊕ var 1) (var 0 ⊕ con (pos 0) ⊕ var 1) tt
@@ -290,11 +302,13 @@ area-cut u l w r =
 along-end : (x : Flat) (l : List Flat) (e f : Flat) → along x l e ≡ along x l f +ℤ (part (lst x l) e -ℤ part (lst x l) f)
 along-end x [] e f = ring (part x e ∷ part x f ∷ []) (var 0) (var 1 ⊕ (var 0 ⊖ var 1)) tt
 along-end x (y ∷ l) e f =
-    ap (λ (z : ℤ). part x y +ℤ z) (along-end y l e f) ∙ ring (part x y ∷ along y l f ∷ (part (lst y l) e -ℤ part (lst y l) f) ∷ []) (var 0 ⊕ (var 1 ⊕ var 2)) (var 0 ⊕ var 1 ⊕ var 2) tt
+    ap (λ (z : ℤ). part x y +ℤ z) (along-end y l e f)
+    ∙ ring (part x y ∷ along y l f ∷ (part (lst y l) e -ℤ part (lst y l) f) ∷ []) (var 0 ⊕ (var 1 ⊕ var 2)) (var 0 ⊕ var 1 ⊕ var 2) tt
 
 -- the first corner off
 pub area-ear : (u c : Flat) (l : List Flat) → area (u ∷ c ∷ l) ≡ turn u c (lst c l) +ℤ area (c ∷ l)
 area-ear u c l =
     ap (λ (z : ℤ). part u c +ℤ z) (along-end c l u c)
-    ∙ ring (part u c ∷ along c l c ∷ part (lst c l) u ∷ part (lst c l) c ∷ []) (var 0 ⊕ (var 1 ⊕ (var 2 ⊖ var 3))) (var 0 ⊕ var 2 ⊖ var 3 ⊕ var 1) tt
+    ∙ ring (part u c ∷ along c l c ∷ part (lst c l) u ∷ part (lst c l) c ∷ []) (var 0 ⊕ (var 1 ⊕ (var 2 ⊖ var 3)))
+    (var 0 ⊕ var 2 ⊖ var 3 ⊕ var 1) tt
     ∙ ap (λ (z : ℤ). z +ℤ along c l c) (part-turn u c (lst c l))

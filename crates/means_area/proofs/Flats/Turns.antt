@@ -1,4 +1,5 @@
--- A triangle v a b and its points: the places of a point x in it are the turns a b x, b v x and v a x, whose sum is the turn v a b. The identities
+-- A triangle v a b and its points: the places of a point x in it are the turns a b x, b v x and v a x, whose sum is the turn v a b. The
+-- identities
 -- between turns and heights that the proofs use, each by one call of `ring`. Assumes nothing.
 use mathlib.Core.Path.{_≡_}
 use mathlib.Core.List.{List, [], _∷_}
@@ -71,29 +72,38 @@ pub sum-is : (v a b x : Flat) → turn a b x +ℤ turn b v x +ℤ turn v a x ≡
 unfolding turn
 sum-is v a b x = ring (env (pos 0) (v ∷ a ∷ b ∷ x ∷ [])) (tE 1 2 3 ⊕ tE 2 0 3 ⊕ tE 0 1 3) (tE 0 1 2) tt
 
-pub low-v : (m : ℤ) (v a b x : Flat) → turn v a b *ℤ (height m x -ℤ height m v) ≡ turn b v x *ℤ (height m a -ℤ height m v) +ℤ turn v a x *ℤ (height m b -ℤ height m v)
+pub low-v : (m : ℤ) (v a b x : Flat) → turn v a b *ℤ (height m x -ℤ height m v) ≡ turn b v x *ℤ (height m a -ℤ height m v) +ℤ turn v a
+    x *ℤ (height m b -ℤ height m v)
 unfolding turn height
 low-v m v a b x = ring (env m (v ∷ a ∷ b ∷ x ∷ [])) (tE 0 1 2 ⊗ (hE 3 ⊖ hE 0)) (tE 2 0 3 ⊗ (hE 1 ⊖ hE 0) ⊕ tE 0 1 3 ⊗ (hE 2 ⊖ hE 0)) tt
 
-pub low-up : (m : ℤ) (v a b x : Flat) → turn v a b *ℤ (height m v -ℤ height m x) ≡ negℤ (turn b v x) *ℤ (height m a -ℤ height m v) +ℤ negℤ (turn v a x) *ℤ (height m b -ℤ height m v)
+pub low-up : (m : ℤ) (v a b x : Flat) → turn v a b *ℤ (height m v -ℤ height m x) ≡ negℤ (turn b v x) *ℤ (height m a -ℤ height m v) +ℤ negℤ
+    (turn v a x) *ℤ (height m b -ℤ height m v)
 unfolding turn height
-low-up m v a b x = ring (env m (v ∷ a ∷ b ∷ x ∷ [])) (tE 0 1 2 ⊗ (hE 0 ⊖ hE 3)) (neg (tE 2 0 3) ⊗ (hE 1 ⊖ hE 0) ⊕ neg (tE 0 1 3) ⊗ (hE 2 ⊖ hE 0)) tt
+low-up m v a b x =
+    ring (env m (v ∷ a ∷ b ∷ x ∷ [])) (tE 0 1 2 ⊗ (hE 0 ⊖ hE 3)) (neg (tE 2 0 3) ⊗ (hE 1 ⊖ hE 0) ⊕ neg (tE 0 1 3) ⊗ (hE 2 ⊖ hE 0)) tt
 
-pub low-a : (m : ℤ) (v a b x : Flat) → turn v a b *ℤ (height m a -ℤ height m x) ≡ turn a b x *ℤ (height m a -ℤ height m v) +ℤ negℤ (turn v a x) *ℤ (height m b -ℤ height m a)
+pub low-a : (m : ℤ) (v a b x : Flat) → turn v a b *ℤ (height m a -ℤ height m x) ≡ turn a b x *ℤ (height m a -ℤ height m v) +ℤ negℤ
+    (turn v a x) *ℤ (height m b -ℤ height m a)
 unfolding turn height
-low-a m v a b x = ring (env m (v ∷ a ∷ b ∷ x ∷ [])) (tE 0 1 2 ⊗ (hE 1 ⊖ hE 3)) (tE 1 2 3 ⊗ (hE 1 ⊖ hE 0) ⊕ neg (tE 0 1 3) ⊗ (hE 2 ⊖ hE 1)) tt
+low-a m v a b x =
+    ring (env m (v ∷ a ∷ b ∷ x ∷ [])) (tE 0 1 2 ⊗ (hE 1 ⊖ hE 3)) (tE 1 2 3 ⊗ (hE 1 ⊖ hE 0) ⊕ neg (tE 0 1 3) ⊗ (hE 2 ⊖ hE 1)) tt
 
-pub low-b : (m : ℤ) (v a b x : Flat) → turn v a b *ℤ (height m b -ℤ height m x) ≡ turn a b x *ℤ (height m b -ℤ height m v) +ℤ negℤ (turn b v x) *ℤ (height m a -ℤ height m b)
+pub low-b : (m : ℤ) (v a b x : Flat) → turn v a b *ℤ (height m b -ℤ height m x) ≡ turn a b x *ℤ (height m b -ℤ height m v) +ℤ negℤ
+    (turn b v x) *ℤ (height m a -ℤ height m b)
 unfolding turn height
-low-b m v a b x = ring (env m (v ∷ a ∷ b ∷ x ∷ [])) (tE 0 1 2 ⊗ (hE 2 ⊖ hE 3)) (tE 1 2 3 ⊗ (hE 2 ⊖ hE 0) ⊕ neg (tE 2 0 3) ⊗ (hE 1 ⊖ hE 2)) tt
+low-b m v a b x =
+    ring (env m (v ∷ a ∷ b ∷ x ∷ [])) (tE 0 1 2 ⊗ (hE 2 ⊖ hE 3)) (tE 1 2 3 ⊗ (hE 2 ⊖ hE 0) ⊕ neg (tE 2 0 3) ⊗ (hE 1 ⊖ hE 2)) tt
 
 pub place-u : (v a b x : Flat) → turn v a b *ℤ (x .u -ℤ v .u) ≡ turn b v x *ℤ (a .u -ℤ v .u) +ℤ turn v a x *ℤ (b .u -ℤ v .u)
 unfolding turn
-place-u v a b x = ring (env (pos 0) (v ∷ a ∷ b ∷ x ∷ [])) (tE 0 1 2 ⊗ (uE 3 ⊖ uE 0)) (tE 2 0 3 ⊗ (uE 1 ⊖ uE 0) ⊕ tE 0 1 3 ⊗ (uE 2 ⊖ uE 0)) tt
+place-u v a b x =
+    ring (env (pos 0) (v ∷ a ∷ b ∷ x ∷ [])) (tE 0 1 2 ⊗ (uE 3 ⊖ uE 0)) (tE 2 0 3 ⊗ (uE 1 ⊖ uE 0) ⊕ tE 0 1 3 ⊗ (uE 2 ⊖ uE 0)) tt
 
 pub place-v : (v a b x : Flat) → turn v a b *ℤ (x .v -ℤ v .v) ≡ turn b v x *ℤ (a .v -ℤ v .v) +ℤ turn v a x *ℤ (b .v -ℤ v .v)
 unfolding turn
-place-v v a b x = ring (env (pos 0) (v ∷ a ∷ b ∷ x ∷ [])) (tE 0 1 2 ⊗ (vE 3 ⊖ vE 0)) (tE 2 0 3 ⊗ (vE 1 ⊖ vE 0) ⊕ tE 0 1 3 ⊗ (vE 2 ⊖ vE 0)) tt
+place-v v a b x =
+    ring (env (pos 0) (v ∷ a ∷ b ∷ x ∷ [])) (tE 0 1 2 ⊗ (vE 3 ⊖ vE 0)) (tE 2 0 3 ⊗ (vE 1 ⊖ vE 0) ⊕ tE 0 1 3 ⊗ (vE 2 ⊖ vE 0)) tt
 
 pub sum-neg : (v a b x : Flat) → turn b a x +ℤ negℤ (turn b v x) +ℤ negℤ (turn v a x) ≡ negℤ (turn v a b)
 unfolding turn
@@ -134,11 +144,13 @@ module _ (v a b w p q : Flat) where
   σ = env (pos 0) (v ∷ a ∷ b ∷ w ∷ p ∷ q ∷ [])
 
   -- p's place is further from a b than w's
-  pub over-p : (turn w v q +ℤ turn v w p) *ℤ (turn a b p -ℤ turn a b w) ≡ turn p q w *ℤ (turn b v w +ℤ turn v a w) +ℤ turn v w p *ℤ (turn a b p -ℤ turn a b q)
+  pub over-p : (turn w v q +ℤ turn v w p) *ℤ (turn a b p -ℤ turn a b w) ≡ turn p q w *ℤ (turn b v w +ℤ turn v a w) +ℤ turn v w
+      p *ℤ (turn a b p -ℤ turn a b q)
   unfolding turn
   over-p = ring σ ((tE 3 0 5 ⊕ tE 0 3 4) ⊗ (tE 1 2 4 ⊖ tE 1 2 3)) (tE 4 5 3 ⊗ (tE 2 0 3 ⊕ tE 0 1 3) ⊕ tE 0 3 4 ⊗ (tE 1 2 4 ⊖ tE 1 2 5)) tt
 
-  pub over-q : (turn w v q +ℤ turn v w p) *ℤ (turn a b q -ℤ turn a b w) ≡ turn p q w *ℤ (turn b v w +ℤ turn v a w) +ℤ turn w v q *ℤ (turn a b q -ℤ turn a b p)
+  pub over-q : (turn w v q +ℤ turn v w p) *ℤ (turn a b q -ℤ turn a b w) ≡ turn p q w *ℤ (turn b v w +ℤ turn v a w) +ℤ turn w v
+      q *ℤ (turn a b q -ℤ turn a b p)
   unfolding turn
   over-q = ring σ ((tE 3 0 5 ⊕ tE 0 3 4) ⊗ (tE 1 2 5 ⊖ tE 1 2 3)) (tE 4 5 3 ⊗ (tE 2 0 3 ⊕ tE 0 1 3) ⊕ tE 3 0 5 ⊗ (tE 1 2 5 ⊖ tE 1 2 4)) tt
 
@@ -152,11 +164,13 @@ module _ (v a b w p q : Flat) where
   other-p = ring σ (tE 3 0 5 ⊗ tE 0 1 4) (tE 5 4 0 ⊗ tE 0 1 3 ⊕ tE 0 3 4 ⊗ neg (tE 0 1 5)) tt
 
   -- b, or a, is to the left of p q
-  pub left-b : (turn b v w +ℤ turn v a w) *ℤ turn p q b ≡ turn v a b *ℤ turn p q w +ℤ turn a b w *ℤ turn q p v +ℤ turn b v w *ℤ (turn a b p -ℤ turn a b q)
+  pub left-b : (turn b v w +ℤ turn v a w) *ℤ turn p q b ≡ turn v a b *ℤ turn p q w +ℤ turn a b w *ℤ turn q p v +ℤ turn b v
+      w *ℤ (turn a b p -ℤ turn a b q)
   unfolding turn
   left-b = ring σ ((tE 2 0 3 ⊕ tE 0 1 3) ⊗ tE 4 5 2) (tE 0 1 2 ⊗ tE 4 5 3 ⊕ tE 1 2 3 ⊗ tE 5 4 0 ⊕ tE 2 0 3 ⊗ (tE 1 2 4 ⊖ tE 1 2 5)) tt
 
-  pub left-a : (turn b v w +ℤ turn v a w) *ℤ turn p q a ≡ turn v a b *ℤ turn p q w +ℤ turn a b w *ℤ turn q p v +ℤ turn v a w *ℤ (turn a b q -ℤ turn a b p)
+  pub left-a : (turn b v w +ℤ turn v a w) *ℤ turn p q a ≡ turn v a b *ℤ turn p q w +ℤ turn a b w *ℤ turn q p v +ℤ turn v a
+      w *ℤ (turn a b q -ℤ turn a b p)
   unfolding turn
   left-a = ring σ ((tE 2 0 3 ⊕ tE 0 1 3) ⊗ tE 4 5 1) (tE 0 1 2 ⊗ tE 4 5 3 ⊕ tE 1 2 3 ⊗ tE 5 4 0 ⊕ tE 0 1 3 ⊗ (tE 1 2 5 ⊖ tE 1 2 4)) tt
 
@@ -184,23 +198,33 @@ module _ (m : ℤ) (v a b w r : Flat) (e : turn v w r ≡ pos 0) where
 
   pub along-far : (height m w -ℤ height m v) *ℤ (turn a b r -ℤ turn a b w) ≡ (height m w -ℤ height m r) *ℤ (turn b v w +ℤ turn v a w)
   unfolding turn height
-  along-far = ring-with τ ((hE 3 ⊖ hE 0) ⊗ (tE 1 2 4 ⊖ tE 1 2 3)) ((hE 3 ⊖ hE 4) ⊗ (tE 2 0 3 ⊕ tE 0 1 3)) (hE 2 ⊖ hE 1) (tE 0 3 4) (con (pos 0)) tt e
+  along-far =
+      ring-with τ ((hE 3 ⊖ hE 0) ⊗ (tE 1 2 4 ⊖ tE 1 2 3)) ((hE 3 ⊖ hE 4) ⊗ (tE 2 0 3 ⊕ tE 0 1 3)) (hE 2 ⊖ hE 1) (tE 0 3 4) (con (pos 0))
+      tt e
 
 -- a point r in the line from a to b
 module _ (m : ℤ) (v a b r : Flat) (e : turn a b r ≡ pos 0) where
   pub base-a : (height m b -ℤ height m a) *ℤ turn b v r ≡ (height m b -ℤ height m r) *ℤ turn v a b
   unfolding turn height
-  base-a = ring-with (env m (v ∷ a ∷ b ∷ r ∷ [])) ((hE 2 ⊖ hE 1) ⊗ tE 2 0 3) ((hE 2 ⊖ hE 3) ⊗ tE 0 1 2) (hE 0 ⊖ hE 2) (tE 1 2 3) (con (pos 0)) tt e
+  base-a =
+      ring-with (env m (v ∷ a ∷ b ∷ r ∷ [])) ((hE 2 ⊖ hE 1) ⊗ tE 2 0 3) ((hE 2 ⊖ hE 3) ⊗ tE 0 1 2) (hE 0 ⊖ hE 2) (tE 1 2 3) (con (pos 0))
+      tt e
 
   pub base-b : (height m b -ℤ height m a) *ℤ turn v a r ≡ (height m r -ℤ height m a) *ℤ turn v a b
   unfolding turn height
-  base-b = ring-with (env m (v ∷ a ∷ b ∷ r ∷ [])) ((hE 2 ⊖ hE 1) ⊗ tE 0 1 3) ((hE 3 ⊖ hE 1) ⊗ tE 0 1 2) (hE 1 ⊖ hE 0) (tE 1 2 3) (con (pos 0)) tt e
+  base-b =
+      ring-with (env m (v ∷ a ∷ b ∷ r ∷ [])) ((hE 2 ⊖ hE 1) ⊗ tE 0 1 3) ((hE 3 ⊖ hE 1) ⊗ tE 0 1 2) (hE 1 ⊖ hE 0) (tE 1 2 3) (con (pos 0))
+      tt e
 
 module _ (m : ℤ) (v a b r : Flat) (e : turn b a r ≡ pos 0) where
   pub back-a : (height m a -ℤ height m b) *ℤ turn b v r ≡ (height m r -ℤ height m b) *ℤ turn v a b
   unfolding turn height
-  back-a = ring-with (env m (v ∷ a ∷ b ∷ r ∷ [])) ((hE 1 ⊖ hE 2) ⊗ tE 2 0 3) ((hE 3 ⊖ hE 2) ⊗ tE 0 1 2) (hE 0 ⊖ hE 2) (tE 2 1 3) (con (pos 0)) tt e
+  back-a =
+      ring-with (env m (v ∷ a ∷ b ∷ r ∷ [])) ((hE 1 ⊖ hE 2) ⊗ tE 2 0 3) ((hE 3 ⊖ hE 2) ⊗ tE 0 1 2) (hE 0 ⊖ hE 2) (tE 2 1 3) (con (pos 0))
+      tt e
 
   pub back-b : (height m a -ℤ height m b) *ℤ turn v a r ≡ (height m a -ℤ height m r) *ℤ turn v a b
   unfolding turn height
-  back-b = ring-with (env m (v ∷ a ∷ b ∷ r ∷ [])) ((hE 1 ⊖ hE 2) ⊗ tE 0 1 3) ((hE 1 ⊖ hE 3) ⊗ tE 0 1 2) (hE 1 ⊖ hE 0) (tE 2 1 3) (con (pos 0)) tt e
+  back-b =
+      ring-with (env m (v ∷ a ∷ b ∷ r ∷ [])) ((hE 1 ⊖ hE 2) ⊗ tE 0 1 3) ((hE 1 ⊖ hE 3) ⊗ tE 0 1 2) (hE 1 ⊖ hE 0) (tE 2 1 3) (con (pos 0))
+      tt e

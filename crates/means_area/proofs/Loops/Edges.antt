@@ -1,4 +1,5 @@
--- In a drawing that passes 13: no vertex is inside a joined pair, and no two joined pairs without a common vertex have a common point. Assumes nothing.
+-- In a drawing that passes 13: no vertex is inside a joined pair, and no two joined pairs without a common vertex have a common point.
+-- Assumes nothing.
 use mathlib.Core.Path.{_≡_, refl, sym, _∙_, ap, subst}
 use mathlib.Core.Bool.{Bool, true, not, _&&_, _||_, true≢false}
 use mathlib.Core.Logic.{_⊎_, inl, inr}
@@ -33,8 +34,16 @@ between-back a b p t =
     let T = t .here .place in
     let ρ = T ∷ S ∷ [] in
     record {
-      here = record { scale = S; place = S -ℤ T; after = sub-pos (t .here .before); before = lt-by ρ (var 1 ⊖ var 0) (var 1) (omega (arith, lt-to ρ (con (pos 0)) (var 0) (t .here .after))) };
-      is = t .is ∙ vring (num S ∷ num T ∷ vec a ∷ vec b ∷ []) (x 0 *v v 2 +v x 1 *v (v 3 -v v 2)) (x 0 *v v 3 +v (x 0 -s x 1) *v (v 2 -v v 3)) tt;
+      here =
+          record {
+            scale = S;
+            place = S -ℤ T;
+            after = sub-pos (t .here .before);
+            before = lt-by ρ (var 1 ⊖ var 0) (var 1) (omega (arith, lt-to ρ (con (pos 0)) (var 0) (t .here .after)));
+          };
+      is =
+          t .is ∙ vring (num S ∷ num T ∷ vec a ∷ vec b ∷ []) (x 0 *v v 2 +v x 1 *v (v 3 -v v 2))
+          (x 0 *v v 3 +v (x 0 -s x 1) *v (v 2 -v v 3)) tt;
     }
 
 common-back : (a b c d : Point) → Common a b c d → Common b a c d
@@ -43,9 +52,18 @@ common-back a b c d t =
     let T = t .here .place in
     let ρ = T ∷ S ∷ [] in
     record {
-      here = record { scale = S; place = S -ℤ T; after = sub-pos (t .here .before); before = lt-by ρ (var 1 ⊖ var 0) (var 1) (omega (arith, lt-to ρ (con (pos 0)) (var 0) (t .here .after))) };
+      here =
+          record {
+            scale = S;
+            place = S -ℤ T;
+            after = sub-pos (t .here .before);
+            before = lt-by ρ (var 1 ⊖ var 0) (var 1) (omega (arith, lt-to ρ (con (pos 0)) (var 0) (t .here .after)));
+          };
       there = t .there;
-      is = ap (times (t .there .scale)) (vring (num S ∷ num T ∷ vec a ∷ vec b ∷ []) (x 0 *v v 3 +v (x 0 -s x 1) *v (v 2 -v v 3)) (x 0 *v v 2 +v x 1 *v (v 3 -v v 2)) tt) ∙ t .is;
+      is =
+          ap (times (t .there .scale))
+          (vring (num S ∷ num T ∷ vec a ∷ vec b ∷ []) (x 0 *v v 3 +v (x 0 -s x 1) *v (v 2 -v v 3)) (x 0 *v v 2 +v x 1 *v (v 3 -v v 2)) tt)
+          ∙ t .is;
     }
 
 common-turned : (a b c d : Point) → Common a b c d → Common a b d c
@@ -55,8 +73,19 @@ common-turned a b c d t =
     let ρ = T ∷ S ∷ [] in
     record {
       here = t .here;
-      there = record { scale = S; place = S -ℤ T; some = t .there .some; least = sub-nonneg (t .there .most); most = le-by ρ (var 1 ⊖ var 0) (var 1) (omega (arith, le-to ρ (con (pos 0)) (var 0) (t .there .least))) };
-      is = t .is ∙ ap (times (t .here .scale)) (vring (num S ∷ num T ∷ vec c ∷ vec d ∷ []) (x 0 *v v 2 +v x 1 *v (v 3 -v v 2)) (x 0 *v v 3 +v (x 0 -s x 1) *v (v 2 -v v 3)) tt);
+      there =
+          record {
+            scale = S;
+            place = S -ℤ T;
+            some = t .there .some;
+            least = sub-nonneg (t .there .most);
+            most = le-by ρ (var 1 ⊖ var 0) (var 1) (omega (arith, le-to ρ (con (pos 0)) (var 0) (t .there .least)));
+          };
+      is =
+          t .is
+          ∙ ap (times (t .here .scale))
+          (vring (num S ∷ num T ∷ vec c ∷ vec d ∷ []) (x 0 *v v 2 +v x 1 *v (v 3 -v v 2)) (x 0 *v v 3 +v (x 0 -s x 1) *v (v 2 -v v 3))
+          tt);
     }
 
 -- ---- edges
@@ -79,7 +108,8 @@ module _ (d : Wire) where
   tie-edge u w (inl h) = joined-yes u w h
   tie-edge u w (inr h) = let j = joined-yes w u h in (j .0, j .1, turn (j .0) (j .2))
     where
-      turn : (e : ℕ) → ((w ≡ from d e) × (u ≡ to d e)) ⊎ ((w ≡ to d e) × (u ≡ from d e)) → ((u ≡ from d e) × (w ≡ to d e)) ⊎ ((u ≡ to d e) × (w ≡ from d e))
+      turn : (e : ℕ) → ((w ≡ from d e) × (u ≡ to d e)) ⊎ ((w ≡ to d e) × (u ≡ from d e))
+          → ((u ≡ from d e) × (w ≡ to d e)) ⊎ ((u ≡ to d e) × (w ≡ from d e))
       turn e (inl t) = inr (t .1, t .0)
       turn e (inr t) = inl (t .1, t .0)
 
@@ -95,26 +125,34 @@ module _ (d : Wire) where
     nothing : onVertex || any others (upto (length (d .edges))) ≡ true → ⊥
     unfolding edgeMeets
     nothing t =
-        true≢false (sym t ∙ lowest-none (λ e. any (vertexOn d (edgeAt d e)) (upto (length (d .vertices))) || any (λ f. not (eqb e f) && edgesMeet d (edgeAt d e) (edgeAt d f)) (upto (length (d .edges))))
+        true≢false
+        (sym t
+        ∙ lowest-none
+        (λ e. any (vertexOn d (edgeAt d e)) (upto (length (d .vertices))) || any
+        (λ f. not (eqb e f) && edgesMeet d (edgeAt d e) (edgeAt d f)) (upto (length (d .edges))))
         (length (d .edges)) r13 e h)
 
     clean : Meets d e → ⊥
     clean (vertex w k t) =
         nothing (or-left onVertex (any others (upto (length (d .edges))))
-        (some-is (vertexOn d (edgeAt d e)) (length (d .vertices)) w k (on-is (edgeAt d e) ∙ onOpen-means (at d (from d e)) (at d (to d e)) (at d w) long .1 t)))
+        (some-is (vertexOn d (edgeAt d e)) (length (d .vertices)) w k
+        (on-is (edgeAt d e) ∙ onOpen-means (at d (from d e)) (at d (to d e)) (at d w) long .1 t)))
       where
         on-is : (e : Edge) → vertexOn d e w ≡ onOpen (at d (start e)) (at d (stop e)) (at d w)
         on-is (edge a b) = unfold vertexOn in refl
     clean (other f k ne t) =
         nothing (or-right onVertex (any others (upto (length (d .edges))))
         (some-is others (length (d .edges)) f k
-        (and-both (ap not (ne-eqb e f ne)) (meet-is (edgeAt d e) (edgeAt d f) ∙ openMeets-means (at d (from d e)) (at d (to d e)) (at d (from d f)) (at d (to d f)) long .1 t))))
+        (and-both (ap not (ne-eqb e f ne))
+        (meet-is (edgeAt d e) (edgeAt d f) ∙ openMeets-means (at d (from d e)) (at d (to d e)) (at d (from d f)) (at d (to d f)) long .1
+        t))))
       where
         meet-is : (e f : Edge) → edgesMeet d e f ≡ openMeets (at d (start e)) (at d (stop e)) (at d (start f)) (at d (stop f))
         meet-is (edge a b) (edge u w) = unfold edgesMeet in refl
 
   -- the ends of a joined pair
-  ends-two : (u w e : ℕ) → ((u ≡ from d e) × (w ≡ to d e)) ⊎ ((u ≡ to d e) × (w ≡ from d e)) → (at d u ≡ at d w → ⊥) → at d (from d e) ≡ at d (to d e) → ⊥
+  ends-two : (u w e : ℕ) → ((u ≡ from d e) × (w ≡ to d e)) ⊎ ((u ≡ to d e) × (w ≡ from d e)) → (at d u ≡ at d w → ⊥)
+      → at d (from d e) ≡ at d (to d e) → ⊥
   ends-two u w e (inl p) ne q = ne (ap (at d) (p .0) ∙ q ∙ ap (at d) (sym (p .1)))
   ends-two u w e (inr p) ne q = ne (ap (at d) (p .0) ∙ sym q ∙ ap (at d) (sym (p .1)))
 
@@ -126,11 +164,17 @@ module _ (d : Wire) where
         e = j .0
 
         go : ((u ≡ from d e) × (w ≡ to d e)) ⊎ ((u ≡ to d e) × (w ≡ from d e)) → ⊥
-        go (inl q) = clean r13 e (j .1) (ends-two u w e (j .2) ne) (vertex z h (subst (λ (y : ℕ). Between (at d y) (at d (to d e)) (at d z)) (q .0) (subst (λ (y : ℕ). Between (at d u) (at d y) (at d z)) (q .1) t)))
+        go (inl q) =
+            clean r13 e (j .1) (ends-two u w e (j .2) ne)
+            (vertex z h
+            (subst (λ (y : ℕ). Between (at d y) (at d (to d e)) (at d z)) (q .0)
+            (subst (λ (y : ℕ). Between (at d u) (at d y) (at d z)) (q .1) t)))
         go (inr q) = clean r13 e (j .1) (ends-two u w e (j .2) ne) (vertex z h (between-back (at d (to d e)) (at d (from d e)) (at d z)
-            (subst (λ (y : ℕ). Between (at d y) (at d (from d e)) (at d z)) (q .0) (subst (λ (y : ℕ). Between (at d u) (at d y) (at d z)) (q .1) t))))
+            (subst (λ (y : ℕ). Between (at d y) (at d (from d e)) (at d z)) (q .0)
+            (subst (λ (y : ℕ). Between (at d u) (at d y) (at d z)) (q .1) t))))
 
-    pub crossing : (u w y z : ℕ) → Joined d u w → (at d u ≡ at d w → ⊥) → Joined d y z → (u ≡ y → ⊥) → (u ≡ z → ⊥) → Common (at d u) (at d w) (at d y) (at d z) → ⊥
+    pub crossing : (u w y z : ℕ) → Joined d u w → (at d u ≡ at d w → ⊥) → Joined d y z → (u ≡ y → ⊥) → (u ≡ z → ⊥)
+        → Common (at d u) (at d w) (at d y) (at d z) → ⊥
     crossing u w y z j ne l n1 n2 t = go (j .2) (l .2)
       where
         e : ℕ
@@ -145,14 +189,23 @@ module _ (d : Wire) where
         meet (inr p) (inl q) s = n2 (p ∙ ap (to d) s ∙ sym (q .1))
         meet (inr p) (inr q) s = n1 (p ∙ ap (to d) s ∙ sym (q .0))
 
-        second : (a b : ℕ) → Common (at d a) (at d b) (at d y) (at d z) → ((y ≡ from d f) × (z ≡ to d f)) ⊎ ((y ≡ to d f) × (z ≡ from d f)) → Common (at d a) (at d b) (at d (from d f)) (at d (to d f))
-        second a b c (inl q) = subst (λ (i : ℕ). Common (at d a) (at d b) (at d i) (at d (to d f))) (q .0) (subst (λ (i : ℕ). Common (at d a) (at d b) (at d y) (at d i)) (q .1) c)
+        second : (a b : ℕ) → Common (at d a) (at d b) (at d y) (at d z)
+            → ((y ≡ from d f) × (z ≡ to d f)) ⊎ ((y ≡ to d f) × (z ≡ from d f))
+            → Common (at d a) (at d b) (at d (from d f)) (at d (to d f))
+        second a b c (inl q) =
+            subst (λ (i : ℕ). Common (at d a) (at d b) (at d i) (at d (to d f))) (q .0)
+            (subst (λ (i : ℕ). Common (at d a) (at d b) (at d y) (at d i)) (q .1) c)
         second a b c (inr q) = common-turned (at d a) (at d b) (at d (to d f)) (at d (from d f))
-            (subst (λ (i : ℕ). Common (at d a) (at d b) (at d i) (at d (from d f))) (q .0) (subst (λ (i : ℕ). Common (at d a) (at d b) (at d y) (at d i)) (q .1) c))
+            (subst (λ (i : ℕ). Common (at d a) (at d b) (at d i) (at d (from d f))) (q .0)
+            (subst (λ (i : ℕ). Common (at d a) (at d b) (at d y) (at d i)) (q .1) c))
 
-        go : ((u ≡ from d e) × (w ≡ to d e)) ⊎ ((u ≡ to d e) × (w ≡ from d e)) → ((y ≡ from d f) × (z ≡ to d f)) ⊎ ((y ≡ to d f) × (z ≡ from d f)) → ⊥
+        go : ((u ≡ from d e) × (w ≡ to d e)) ⊎ ((u ≡ to d e) × (w ≡ from d e))
+            → ((y ≡ from d f) × (z ≡ to d f)) ⊎ ((y ≡ to d f) × (z ≡ from d f)) → ⊥
         go (inl p) q = clean r13 e (j .1) (ends-two u w e (j .2) ne) (other f (l .1) (meet (inl (p .0)) q)
-            (second (from d e) (to d e) (subst (λ (i : ℕ). Common (at d i) (at d (to d e)) (at d y) (at d z)) (p .0) (subst (λ (i : ℕ). Common (at d u) (at d i) (at d y) (at d z)) (p .1) t)) q))
+            (second (from d e) (to d e)
+            (subst (λ (i : ℕ). Common (at d i) (at d (to d e)) (at d y) (at d z)) (p .0)
+            (subst (λ (i : ℕ). Common (at d u) (at d i) (at d y) (at d z)) (p .1) t)) q))
         go (inr p) q = clean r13 e (j .1) (ends-two u w e (j .2) ne) (other f (l .1) (meet (inr (p .0)) q)
             (second (from d e) (to d e) (common-back (at d (to d e)) (at d (from d e)) (at d y) (at d z)
-            (subst (λ (i : ℕ). Common (at d i) (at d (from d e)) (at d y) (at d z)) (p .0) (subst (λ (i : ℕ). Common (at d u) (at d i) (at d y) (at d z)) (p .1) t))) q))
+            (subst (λ (i : ℕ). Common (at d i) (at d (from d e)) (at d y) (at d z)) (p .0)
+            (subst (λ (i : ℕ). Common (at d u) (at d i) (at d y) (at d z)) (p .1) t))) q))

@@ -1,4 +1,5 @@
--- The loops that the search meets are closed paths of different vertices, each step linked and in the plane of the steps before. Assumes nothing.
+-- The loops that the search meets are closed paths of different vertices, each step linked and in the plane of the steps before. Assumes
+-- nothing.
 use mathlib.Core.Path.{_≡_, refl, sym, _∙_, ap, subst}
 use mathlib.Core.Bool.{Bool, true, false, not, _&&_, _||_, cond, true≢false}
 use mathlib.Core.Logic.{_⊎_, inl, inr}
@@ -25,7 +26,8 @@ module _ (n : ℕ) (linked : ℕ → ℕ → Bool) (level : List ℕ → ℕ →
     pub way : Way l
     pub shut : closes n linked level l ≡ true
 
-  branch-closed : (t : Bool) (deeper : List ℕ → List Loop) (q : List ℕ) → Way q → ((l : Loop) → Of l (deeper q) → Closed l) → (l : Loop) → Of l (branch n linked level t deeper q) → Closed l
+  branch-closed : (t : Bool) (deeper : List ℕ → List Loop) (q : List ℕ) → Way q → ((l : Loop) → Of l (deeper q) → Closed l) → (l : Loop)
+      → Of l (branch n linked level t deeper q) → Closed l
   unfolding branch
   branch-closed false deeper q w f l i = absurd i
   branch-closed true deeper q w f l i = go (closes n linked level q) refl i
@@ -39,23 +41,28 @@ module _ (n : ℕ) (linked : ℕ → ℕ → Bool) (level : List ℕ → ℕ →
       → (v j : ℕ) → v + j ≤ n → (l : Loop) → Of l (scan n linked level deeper p v j) → Closed l
   unfolding scan branch
   scan-closed deeper p w f v zero b l i = absurd i
-  scan-closed deeper p w f v (suc j) b l i = go (of-append l (branch n linked level (follows n linked level p v) deeper (p ++ v ∷ [])) (scan n linked level deeper p (suc v) j) i) (scan-closed deeper p w f (suc v) j (omega arith) l)
+  scan-closed deeper p w f v (suc j) b l i =
+      go (of-append l (branch n linked level (follows n linked level p v) deeper (p ++ v ∷ [])) (scan n linked level deeper p (suc v) j)
+      i) (scan-closed deeper p w f (suc v) j (omega arith) l)
     where
       here : (t : Bool) → follows n linked level p v ≡ t → Of l (branch n linked level t deeper (p ++ v ∷ [])) → Closed l
       here false e k = absurd k
       here true e k = let w' = more p v w (omega arith) e in branch-closed true deeper (p ++ v ∷ []) w' (f (p ++ v ∷ []) w') l k
 
-      go : Of l (branch n linked level (follows n linked level p v) deeper (p ++ v ∷ [])) ⊎ Of l (scan n linked level deeper p (suc v) j) → (Of l (scan n linked level deeper p (suc v) j) → Closed l) → Closed l
+      go : Of l (branch n linked level (follows n linked level p v) deeper (p ++ v ∷ [])) ⊎ Of l (scan n linked level deeper p (suc v) j)
+          → (Of l (scan n linked level deeper p (suc v) j) → Closed l) → Closed l
       go (inl k) r = here (follows n linked level p v) refl k
       go (inr k) r = r k
 
   pub ext-closed : (d : ℕ) (p : List ℕ) (v : ℕ) → v ≤ n → Way p → (l : Loop) → Of l (ext n linked level d p v) → Closed l
   unfolding ext
   ext-closed zero p v b w l i = absurd i
-  ext-closed (suc d) p v b w l i = scan-closed (λ q. ext n linked level d q 0) p w (λ q u. ext-closed d q 0 (omega arith) u) v (n - v) (omega arith) l i
+  ext-closed (suc d) p v b w l i =
+      scan-closed (λ q. ext n linked level d q 0) p w (λ q u. ext-closed d q 0 (omega arith) u) v (n - v) (omega arith) l i
 
   -- what holds of no vertices and of one vertex more holds of a path
-  pub by-steps : (P : List ℕ → Type 0) → P [] → ((p : List ℕ) (v : ℕ) → P p → v < n → follows n linked level p v ≡ true → P (p ++ v ∷ [])) → (l : List ℕ) → Way l → P l
+  pub by-steps : (P : List ℕ → Type 0) → P [] → ((p : List ℕ) (v : ℕ) → P p → v < n → follows n linked level p v ≡ true → P (p ++ v ∷ []))
+      → (l : List ℕ) → Way l → P l
   by-steps P z s l empty = z
   by-steps P z s l (more p v w b f) = s p v (by-steps P z s p w) b f
 
@@ -74,9 +81,11 @@ module _ (n : ℕ) (linked : ℕ → ℕ → Bool) (level : List ℕ → ℕ →
 
   pub next : (a : ℕ) (r : List ℕ) (v : ℕ) → follows n linked level (a ∷ r) v ≡ true → Next a r v
   unfolding follows
-  next a r v f = go (or-cases (eqb (length (a ∷ r)) 0) (ltb a v && linked (final (a ∷ r)) v && not (member v (a ∷ r)) && level (a ∷ r) v) f)
+  next a r v f =
+      go (or-cases (eqb (length (a ∷ r)) 0) (ltb a v && linked (final (a ∷ r)) v && not (member v (a ∷ r)) && level (a ∷ r) v) f)
     where
-      go : (eqb (length (a ∷ r)) 0 ≡ true) ⊎ ((ltb a v && linked (final (a ∷ r)) v && not (member v (a ∷ r)) && level (a ∷ r) v) ≡ true) → Next a r v
+      go : (eqb (length (a ∷ r)) 0 ≡ true) ⊎ ((ltb a v && linked (final (a ∷ r)) v && not (member v (a ∷ r)) && level (a ∷ r) v) ≡ true)
+          → Next a r v
       go (inl e) = absurd (true≢false (sym e ∙ ne-eqb (length (a ∷ r)) 0 (λ z. omega arith)))
       go (inr e) =
           let x = ltb a v && linked (final (a ∷ r)) v && not (member v (a ∷ r)) in
@@ -85,7 +94,9 @@ module _ (n : ℕ) (linked : ℕ → ℕ → Bool) (level : List ℕ → ℕ →
           record {
             flat = and-right x (level (a ∷ r) v) e;
             new = and-right y (not (member v (a ∷ r))) h;
-            along = subst (λ (z : ℕ). linked z v ≡ true) (final-is a r) (and-right (ltb a v) (linked (final (a ∷ r)) v) (and-left y (not (member v (a ∷ r))) h));
+            along =
+                subst (λ (z : ℕ). linked z v ≡ true) (final-is a r)
+                (and-right (ltb a v) (linked (final (a ∷ r)) v) (and-left y (not (member v (a ∷ r))) h));
           }
 
   -- ---- the vertices are below n, and different
@@ -104,7 +115,8 @@ module _ (n : ℕ) (linked : ℕ → ℕ → Bool) (level : List ℕ → ℕ →
   not-member : (v : ℕ) (l : List ℕ) → not (member v l) ≡ true → (z : ℕ) → Of z l → v ≡ z → ⊥
   unfolding member any
   not-member v [] e z i q = absurd i
-  not-member v (a ∷ l) e z (inl p) q = true≢false (sym (or-left (eqb v a) (any (eqb v) l) (eq-eqb v a (q ∙ p))) ∙ not-true (eqb v a || any (eqb v) l) e)
+  not-member v (a ∷ l) e z (inl p) q =
+      true≢false (sym (or-left (eqb v a) (any (eqb v) l) (eq-eqb v a (q ∙ p))) ∙ not-true (eqb v a || any (eqb v) l) e)
   not-member v (a ∷ l) e z (inr i) q = not-member v l (rest (eqb v a) (any (eqb v) l) e) z i q
     where
       rest : (a b : Bool) → not (a || b) ≡ true → not b ≡ true
@@ -157,7 +169,10 @@ module _ (n : ℕ) (linked : ℕ → ℕ → Bool) (level : List ℕ → ℕ →
   -- ---- of a closed path
   pub closed-long : (l : List ℕ) → Closed l → 3 ≤ length l
   unfolding closes
-  closed-long l c = long (and-left (leb 3 (length l)) (ltb (getD l 1 0) (final l)) (and-left (leb 3 (length l) && ltb (getD l 1 0) (final l)) (linked (final l) (getD l 0 0)) (c .shut)))
+  closed-long l c =
+      long
+      (and-left (leb 3 (length l)) (ltb (getD l 1 0) (final l))
+      (and-left (leb 3 (length l) && ltb (getD l 1 0) (final l)) (linked (final l) (getD l 0 0)) (c .shut)))
     where
       long : leb 3 (length l) ≡ true → 3 ≤ length l
       long e = leb-true 3 (length l) e
@@ -168,7 +183,9 @@ module _ (n : ℕ) (linked : ℕ → ℕ → Bool) (level : List ℕ → ℕ →
   closed-tied (a ∷ r) c p q k = pick (ties (a ∷ r) (c .way) a p q k)
     where
       shut : linked (lst a r) a ≡ true
-      shut = subst (λ (z : ℕ). linked z a ≡ true) (final-is a r) (and-right (leb 3 (length (a ∷ r)) && ltb (getD (a ∷ r) 1 0) (final (a ∷ r))) (linked (final (a ∷ r)) a) (c .shut))
+      shut =
+          subst (λ (z : ℕ). linked z a ≡ true) (final-is a r)
+          (and-right (leb 3 (length (a ∷ r)) && ltb (getD (a ∷ r) 1 0) (final (a ∷ r))) (linked (final (a ∷ r)) a) (c .shut))
 
       pick : Tied p q ⊎ Pair (lst a r) a p q → Tied p q
       pick (inl t) = t

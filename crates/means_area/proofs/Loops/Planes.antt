@@ -1,4 +1,5 @@
--- The vertices of a path are in one plane: across the direction that the path has, or any across its line while it has none. Assumes nothing.
+-- The vertices of a path are in one plane: across the direction that the path has, or any across its line while it has none. Assumes
+-- nothing.
 use mathlib.Core.Path.{_≡_, refl, sym, _∙_, ap}
 use mathlib.Core.Bool.{Bool, true, false, cond, true≢false}
 use mathlib.Core.Logic.{_⊎_, inl, inr}
@@ -44,7 +45,9 @@ module _ (d : Wire) where
 
   across-more : (a b : ℕ) (r : List ℕ) (w : ℕ) → across d (a ∷ b ∷ (r ++ w ∷ [])) ≡ tilt (at d a) (at d b) (across d (a ∷ b ∷ r)) (at d w)
   unfolding across
-  across-more a b r w = ap (tilted (at d a) (at d b) origin) (map-more (a ∷ b ∷ r) w) ∙ tilted-more (at d a) (at d b) origin (map (at d) (a ∷ b ∷ r)) (at d w)
+  across-more a b r w =
+      ap (tilted (at d a) (at d b) origin) (map-more (a ∷ b ∷ r) w)
+      ∙ tilted-more (at d a) (at d b) origin (map (at d) (a ∷ b ∷ r)) (at d w)
 
   dot-origin : (p : Point) → dot origin p ≡ pos 0
   dot-origin p = vring (vec p ∷ []) (o · v 0) (k (pos 0)) tt
@@ -99,10 +102,13 @@ module _ (d : Wire) where
           flat z (inl i) =
               vring (vec (dir a b) ∷ vec (dir a w) ∷ vec (dir a z) ∷ []) ((v 0 ×v v 1) · v 2) (negs ((v 0 ×v v 2) · v 1)) tt
               ∙ ap (λ (p : Point). negℤ (dot p (dir a w))) (old z i) ∙ ap negℤ (dot-origin (dir a w))
-          flat z (inr (inl q)) = ap (λ (t : ℕ). dot (cross (dir a b) (dir a w)) (dir a t)) q ∙ vring (vec (dir a b) ∷ vec (dir a w) ∷ []) ((v 0 ×v v 1) · v 1) (k (pos 0)) tt
+          flat z (inr (inl q)) =
+              ap (λ (t : ℕ). dot (cross (dir a b) (dir a w)) (dir a t)) q
+              ∙ vring (vec (dir a b) ∷ vec (dir a w) ∷ []) ((v 0 ×v v 1) · v 1) (k (pos 0)) tt
           flat z (inr (inr i)) = absurd i
 
-          line : across d (a ∷ b ∷ (r ++ w ∷ [])) ≡ origin → (z : ℕ) → Of z (a ∷ b ∷ r) ⊎ Of z (w ∷ []) → cross (dir a b) (dir a z) ≡ origin
+          line : across d (a ∷ b ∷ (r ++ w ∷ [])) ≡ origin → (z : ℕ) → Of z (a ∷ b ∷ r) ⊎ Of z (w ∷ [])
+              → cross (dir a b) (dir a z) ≡ origin
           line q z (inl i) = old z i
           line q z (inr (inl p)) = ap (λ (t : ℕ). cross (dir a b) (dir a t)) p ∙ sym is ∙ q
           line q z (inr (inr i)) = absurd i
@@ -144,7 +150,9 @@ module _ (d : Wire) where
       go true e true f = record {
         across' = pt (pos 1) (pos 0) (pos 0);
         real = (λ q. let z : _≡_ {A = ℕ} 0 1 = cc (ap (λ (p : Point). p .x) q) in omega arith);
-        right = ring (δ .x ∷ δ .y ∷ δ .z ∷ []) (con (pos 1) ⊗ var 0 ⊕ con (pos 0) ⊗ var 1 ⊕ con (pos 0) ⊗ var 2) (var 0) tt ∙ zero-yes (δ .x) e;
+        right =
+            ring (δ .x ∷ δ .y ∷ δ .z ∷ []) (con (pos 1) ⊗ var 0 ⊕ con (pos 0) ⊗ var 1 ⊕ con (pos 0) ⊗ var 2) (var 0) tt
+            ∙ zero-yes (δ .x) e;
       }
 
   -- a direction that is not the origin, and all vertices in the plane through a across it
@@ -162,14 +170,24 @@ module _ (d : Wire) where
       δ = dir a b
 
       go : (t : Bool) → isOrigin N ≡ t → (n : Point) × Real n a (a ∷ b ∷ r)
-      go false e = (N, record { real = origin-no e; flat = record { every = (λ p i. let t = map-of (at d) p (a ∷ b ∷ r) i in ap (λ (q : Point). dot N (minus q (at d a))) (t .2) ∙ h .0 (t .0) (t .1)) } })
+      go false e = (
+        N,
+        record {
+          real = origin-no e;
+          flat = record {
+            every = (λ p i. let t = map-of (at d) p (a ∷ b ∷ r) i in ap (λ (q : Point). dot N (minus q (at d a))) (t .2)
+                ∙ h .0 (t .0) (t .1));
+          };
+        },
+      )
       go true e = (
         A .across',
         record {
           real = A .real;
           flat = record {
             every = (λ p i. let t = map-of (at d) p (a ∷ b ∷ r) i in
-                ap (λ (q : Point). dot (A .across') (minus q (at d a))) (t .2) ∙ flat (dir a (t .0)) (h .1 (origin-yes N e) (t .0) (t .1)));
+                ap (λ (q : Point). dot (A .across') (minus q (at d a))) (t .2)
+                ∙ flat (dir a (t .0)) (h .1 (origin-yes N e) (t .0) (t .1)));
           };
         },
       )

@@ -24,32 +24,40 @@ module _ (d : Wire) where
 
   module _ (r11 : samePlace d ≡ none) (r13 : edgeMeets d ≡ none) (l : Loop) (c : Closed size (joined d) (level d) l) where
     pub one-place : (u w : ℕ) → Of u l → Of w l → at d u ≡ at d w → u ≡ w
-    one-place u w i j = samePlace-means d .0 r11 u w (below size (joined d) (level d) l (c .way) u i) (below size (joined d) (level d) l (c .way) w j)
+    one-place u w i j =
+        samePlace-means d .0 r11 u w (below size (joined d) (level d) l (c .way) u i) (below size (joined d) (level d) l (c .way) w j)
 
     different : (m : List ℕ) → ((z : ℕ) → Of z m → Of z l) → Differ size (joined d) (level d) m → Different (map (at d) m)
     different [] f h = tt
     different (a ∷ m) f h = (go, different m (λ z i. f z (inr i)) (h .1))
       where
         go : (r : Point) → Of r (map (at d) m) → r ≡ at d a → ⊥
-        go r i e = let t = map-of (at d) r m i in h .0 (t .0) (t .1) (one-place (t .0) a (f (t .0) (inr (t .1))) (f a (inl refl)) (sym (t .2) ∙ e))
+        go r i e =
+            let t = map-of (at d) r m i in
+            h .0 (t .0) (t .1) (one-place (t .0) a (f (t .0) (inr (t .1))) (f a (inl refl)) (sym (t .2) ∙ e))
 
     edge-of : (u w : ℕ) → Link l u w → Joined d u w
     edge-of u w i = tie-edge d u w (closed-tied size (joined d) (level d) l c u w i)
 
     -- its ends are at two points
     two-ends : (u w : ℕ) → Link l u w → at d u ≡ at d w → ⊥
-    two-ends u w i e = closed-apart size (joined d) (level d) l c u w i (one-place u w (link-of l u w i) (link-of l w u (link-back l u w i)) e)
+    two-ends u w i e =
+        closed-apart size (joined d) (level d) l c u w i (one-place u w (link-of l u w i) (link-of l w u (link-back l u w i)) e)
 
     pub clear : Clear (map (at d) l)
     clear = record {
       apart = different l (λ z i. i) (all-differ size (joined d) (level d) l (c .way));
       corners = (λ p q r i j b. let a = map-link (at d) l p q i in let t = map-of (at d) r l j in
-          free d r13 (a .0) (a .1) (t .0) (edge-of (a .0) (a .1) (a .2)) (two-ends (a .0) (a .1) (a .2)) (below size (joined d) (level d) l (c .way) (t .0) (t .1))
-          (subst (λ (z : Point). Between z (at d (a .1)) (at d (t .0))) (a .3) (subst (λ (z : Point). Between p z (at d (t .0))) (a .4) (subst (λ (z : Point). Between p q z) (t .2) b))));
+          free d r13 (a .0) (a .1) (t .0) (edge-of (a .0) (a .1) (a .2)) (two-ends (a .0) (a .1) (a .2))
+          (below size (joined d) (level d) l (c .way) (t .0) (t .1))
+          (subst (λ (z : Point). Between z (at d (a .1)) (at d (t .0))) (a .3)
+          (subst (λ (z : Point). Between p z (at d (t .0))) (a .4) (subst (λ (z : Point). Between p q z) (t .2) b))));
       edges = (λ p q r s i j n1 n2 n3 n4 b. let a = map-link (at d) l p q i in let t = map-link (at d) l r s j in
-          crossing d r13 (a .0) (a .1) (t .0) (t .1) (edge-of (a .0) (a .1) (a .2)) (two-ends (a .0) (a .1) (a .2)) (edge-of (t .0) (t .1) (t .2))
+          crossing d r13 (a .0) (a .1) (t .0) (t .1) (edge-of (a .0) (a .1) (a .2)) (two-ends (a .0) (a .1) (a .2))
+          (edge-of (t .0) (t .1) (t .2))
           (λ e. n1 (a .3 ∙ ap (at d) e ∙ sym (t .3))) (λ e. n2 (a .3 ∙ ap (at d) e ∙ sym (t .4)))
-          (subst (λ (z : Point). Common z (at d (a .1)) (at d (t .0)) (at d (t .1))) (a .3) (subst (λ (z : Point). Common p z (at d (t .0)) (at d (t .1))) (a .4)
+          (subst (λ (z : Point). Common z (at d (a .1)) (at d (t .0)) (at d (t .1))) (a .3)
+          (subst (λ (z : Point). Common p z (at d (t .0)) (at d (t .1))) (a .4)
           (subst (λ (z : Point). Common p q z (at d (t .1))) (t .3) (subst (λ (z : Point). Common p q r z) (t .4) b)))));
     }
 

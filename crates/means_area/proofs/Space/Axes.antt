@@ -68,27 +68,33 @@ module _ (a : Axis) where
   different-upright (p ∷ l) d = (go, different-upright l (d .1))
     where
       go : (r : Point) → Of r (map f l) → r ≡ f p → ⊥
-      go r i e = let t = map-of f r l i in d .0 (t .0) (t .1) (sym (laid-upright a (t .0)) ∙ ap (laid a) (sym (t .2) ∙ e) ∙ laid-upright a p)
+      go r i e =
+          let t = map-of f r l i in
+          d .0 (t .0) (t .1) (sym (laid-upright a (t .0)) ∙ ap (laid a) (sym (t .2) ∙ e) ∙ laid-upright a p)
 
   pub clear-upright : (g : List Point) → Clear g → Clear (map (upright a) g)
   clear-upright g c = record {
     apart = different-upright g (c .apart);
     corners = (λ p q r l j b. let w = map-link f g p q l in let t = map-of f r g j in
         c .corners (w .0) (w .1) (t .0) (w .2) (t .1) (between-laid a (w .0) (w .1) (t .0)
-        (subst (λ (z : Point). Between z (f (w .1)) (f (t .0))) (w .3) (subst (λ (z : Point). Between p z (f (t .0))) (w .4) (subst (λ (z : Point). Between p q z) (t .2) b)))));
+        (subst (λ (z : Point). Between z (f (w .1)) (f (t .0))) (w .3)
+        (subst (λ (z : Point). Between p z (f (t .0))) (w .4) (subst (λ (z : Point). Between p q z) (t .2) b)))));
     edges = (λ p q r s l j n1 n2 n3 n4 b. let w = map-link f g p q l in let t = map-link f g r s j in
         c .edges (w .0) (w .1) (t .0) (t .1) (w .2) (t .2) (λ e. n1 (w .3 ∙ ap f e ∙ sym (t .3))) (λ e. n2 (w .3 ∙ ap f e ∙ sym (t .4)))
         (λ e. n3 (w .4 ∙ ap f e ∙ sym (t .3))) (λ e. n4 (w .4 ∙ ap f e ∙ sym (t .4))) (common-laid a (w .0) (w .1) (t .0) (t .1)
-        (subst (λ (z : Point). Common z (f (w .1)) (f (t .0)) (f (t .1))) (w .3) (subst (λ (z : Point). Common p z (f (t .0)) (f (t .1))) (w .4)
+        (subst (λ (z : Point). Common z (f (w .1)) (f (t .0)) (f (t .1))) (w .3)
+        (subst (λ (z : Point). Common p z (f (t .0)) (f (t .1))) (w .4)
         (subst (λ (z : Point). Common p q z (f (t .1))) (t .3) (subst (λ (z : Point). Common p q r z) (t .4) b))))));
   }
 
 dot-upright : (a : Axis) (n p s : Point) → dot (upright a n) (minus (upright a p) (upright a s)) ≡ dot n (minus p s)
 unfolding dot minus
 dot-upright AlongX n p s =
-    ring (n .x ∷ n .y ∷ n .z ∷ (p .x -ℤ s .x) ∷ (p .y -ℤ s .y) ∷ (p .z -ℤ s .z) ∷ []) (var 1 ⊗ var 4 ⊕ var 2 ⊗ var 5 ⊕ var 0 ⊗ var 3) (var 0 ⊗ var 3 ⊕ var 1 ⊗ var 4 ⊕ var 2 ⊗ var 5) tt
+    ring (n .x ∷ n .y ∷ n .z ∷ (p .x -ℤ s .x) ∷ (p .y -ℤ s .y) ∷ (p .z -ℤ s .z) ∷ []) (var 1 ⊗ var 4 ⊕ var 2 ⊗ var 5 ⊕ var 0 ⊗ var 3)
+    (var 0 ⊗ var 3 ⊕ var 1 ⊗ var 4 ⊕ var 2 ⊗ var 5) tt
 dot-upright AlongY n p s =
-    ring (n .x ∷ n .y ∷ n .z ∷ (p .x -ℤ s .x) ∷ (p .y -ℤ s .y) ∷ (p .z -ℤ s .z) ∷ []) (var 0 ⊗ var 3 ⊕ var 2 ⊗ var 5 ⊕ var 1 ⊗ var 4) (var 0 ⊗ var 3 ⊕ var 1 ⊗ var 4 ⊕ var 2 ⊗ var 5) tt
+    ring (n .x ∷ n .y ∷ n .z ∷ (p .x -ℤ s .x) ∷ (p .y -ℤ s .y) ∷ (p .z -ℤ s .z) ∷ []) (var 0 ⊗ var 3 ⊕ var 2 ⊗ var 5 ⊕ var 1 ⊗ var 4)
+    (var 0 ⊗ var 3 ⊕ var 1 ⊗ var 4 ⊕ var 2 ⊗ var 5) tt
 dot-upright AlongZ n p s = refl
 
 pub level-upright : (a : Axis) (n s : Point) (g : List Point) → Level n s g → Level (upright a n) (upright a s) (map (upright a) g)
@@ -104,16 +110,22 @@ unfolding normal sum sides
 normal-upright a [] e = refl
 normal-upright AlongX (b ∷ l) e = unfold cross plus in go b l ∙ e
   where
-    go : (p : Point) (l : List Point) → sum (sidesFrom cross (upright AlongX b) (upright AlongX p) (map (upright AlongX) l)) .z ≡ sum (sidesFrom cross b p l) .x
+    go : (p : Point) (l : List Point) → sum (sidesFrom cross (upright AlongX b) (upright AlongX p) (map (upright AlongX) l)) .z ≡ sum
+        (sidesFrom cross b p l) .x
     go p [] = unfold cross plus in refl
     go p (q ∷ l) = unfold cross plus in ap (λ (z : ℤ). (p .y *ℤ q .z -ℤ p .z *ℤ q .y) +ℤ z) (go q l)
 normal-upright AlongY (b ∷ l) e = go b l ∙ ap negℤ e
   where
-    go : (p : Point) (l : List Point) → sum (sidesFrom cross (upright AlongY b) (upright AlongY p) (map (upright AlongY) l)) .z ≡ negℤ (sum (sidesFrom cross b p l) .y)
-    go p [] = unfold cross plus in ring (p .x ∷ p .z ∷ b .x ∷ b .z ∷ []) (var 0 ⊗ var 3 ⊖ var 1 ⊗ var 2 ⊕ con (pos 0)) (neg (var 1 ⊗ var 2 ⊖ var 0 ⊗ var 3 ⊕ con (pos 0))) tt
+    go : (p : Point) (l : List Point) → sum (sidesFrom cross (upright AlongY b) (upright AlongY p) (map (upright AlongY) l)) .z ≡ negℤ
+        (sum (sidesFrom cross b p l) .y)
+    go p [] =
+        unfold cross plus in
+        ring (p .x ∷ p .z ∷ b .x ∷ b .z ∷ []) (var 0 ⊗ var 3 ⊖ var 1 ⊗ var 2 ⊕ con (pos 0))
+        (neg (var 1 ⊗ var 2 ⊖ var 0 ⊗ var 3 ⊕ con (pos 0))) tt
     go p (q ∷ l) = unfold cross plus in
         ap (λ (z : ℤ). (p .x *ℤ q .z -ℤ p .z *ℤ q .x) +ℤ z) (go q l)
-        ∙ ring (p .x ∷ p .z ∷ q .x ∷ q .z ∷ sum (sidesFrom cross b q l) .y ∷ []) ((var 0 ⊗ var 3 ⊖ var 1 ⊗ var 2) ⊕ neg (var 4)) (neg ((var 1 ⊗ var 2 ⊖ var 0 ⊗ var 3) ⊕ var 4)) tt
+        ∙ ring (p .x ∷ p .z ∷ q .x ∷ q .z ∷ sum (sidesFrom cross b q l) .y ∷ []) ((var 0 ⊗ var 3 ⊖ var 1 ⊗ var 2) ⊕ neg (var 4))
+        (neg ((var 1 ⊗ var 2 ⊖ var 0 ⊗ var 3) ⊕ var 4)) tt
 normal-upright AlongZ (b ∷ l) e = go b l ∙ e
   where
     go : (p : Point) (l : List Point) → sum (sidesFrom cross b p (map (upright AlongZ) l)) .z ≡ sum (sidesFrom cross b p l) .z

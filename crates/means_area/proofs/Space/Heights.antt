@@ -24,7 +24,12 @@ nat n = le-by (pos n ∷ []) (con (pos 0)) (var 0) (omega arith)
 size-up : (z : ℤ) → Nn (size z -ℤ z) × Nn (size z +ℤ z) × Nn (size z)
 unfolding size
 size-up (pos n) = (nn-is (ring (pos n ∷ []) (con (pos 0)) (var 0 ⊖ var 0) tt) (≤ℤ-refl (pos 0)), add-nonneg (nat n) (nat n), nat n)
-size-up (negsuc n) = (add-nonneg (nat (suc n)) (nat (suc n)), nn-is (ring (pos (suc n) ∷ []) (con (pos 0)) (var 0 ⊖ var 0) tt) (≤ℤ-refl (pos 0)), nat (suc n))
+size-up (negsuc n) = (
+  add-nonneg (nat (suc n)) (nat (suc n)),
+  nn-is (ring (pos (suc n) ∷ []) (con (pos 0)) (var 0 ⊖ var 0) tt) (≤ℤ-refl (pos 0)),
+  nat
+      (suc n),
+)
 
 -- a number that the sizes of the second coordinates are within
 pub bound : List Point → ℤ
@@ -43,13 +48,19 @@ bounded p (q ∷ l) (inl e) =
     let t = size-up (q .y) in
     let m = bound-nn l in
     let ρ = size (q .y) ∷ q .y ∷ bound l ∷ [] in
-    subst (λ (r : Point). Nn (bound (q ∷ l) -ℤ r .y) × Nn (bound (q ∷ l) +ℤ r .y)) (sym e)
-    (nn-is (ring ρ ((var 0 ⊖ var 1) ⊕ var 2) ((var 0 ⊕ var 2) ⊖ var 1) tt) (add-nonneg (t .0) m), nn-is (ring ρ ((var 0 ⊕ var 1) ⊕ var 2) ((var 0 ⊕ var 2) ⊕ var 1) tt) (add-nonneg (t .1) m))
+    subst (λ (r : Point). Nn (bound (q ∷ l) -ℤ r .y) × Nn (bound (q ∷ l) +ℤ r .y)) (sym e) (
+      nn-is (ring ρ ((var 0 ⊖ var 1) ⊕ var 2) ((var 0 ⊕ var 2) ⊖ var 1) tt) (add-nonneg (t .0) m),
+      nn-is
+          (ring ρ ((var 0 ⊕ var 1) ⊕ var 2) ((var 0 ⊕ var 2) ⊕ var 1) tt) (add-nonneg (t .1) m),
+    )
 bounded p (q ∷ l) (inr i) =
     let t = size-up (q .y) in
     let m = bounded p l i in
-    let ρ = size (q .y) ∷ p .y ∷ bound l ∷ [] in
-    (nn-is (ring ρ (var 0 ⊕ (var 2 ⊖ var 1)) ((var 0 ⊕ var 2) ⊖ var 1) tt) (add-nonneg (t .2) (m .0)), nn-is (ring ρ (var 0 ⊕ (var 2 ⊕ var 1)) ((var 0 ⊕ var 2) ⊕ var 1) tt) (add-nonneg (t .2) (m .1)))
+    let ρ = size (q .y) ∷ p .y ∷ bound l ∷ [] in (
+      nn-is (ring ρ (var 0 ⊕ (var 2 ⊖ var 1)) ((var 0 ⊕ var 2) ⊖ var 1) tt) (add-nonneg (t .2) (m .0)),
+      nn-is
+          (ring ρ (var 0 ⊕ (var 2 ⊕ var 1)) ((var 0 ⊕ var 2) ⊕ var 1) tt) (add-nonneg (t .2) (m .1)),
+    )
 
 -- (2 B + 1) a + b is 0 only where a is, for b between -2 B and 2 B
 one-up : (a : ℤ) → Up a → Nn (a -ℤ pos 1)
@@ -68,8 +79,18 @@ steep B a b nb lo hi e = go (ways a)
     m = add-nonneg (add-nonneg (up-nn one) nb) nb
 
     go : Up a ⊎ ((a ≡ pos 0) ⊎ Up (negℤ a)) → a ≡ pos 0
-    go (inl h) = absurd (zero-off e (up-is (ring ρ ((con (pos 1) ⊕ var 0 ⊕ var 0) ⊗ (var 1 ⊖ con (pos 1)) ⊕ (con (pos 1) ⊕ (var 0 ⊕ var 0 ⊕ var 2))) ((con (pos 1) ⊕ var 0 ⊕ var 0) ⊗ var 1 ⊕ var 2) tt)
+    go (inl h) =
+        absurd
+        (zero-off e
+        (up-is
+        (ring ρ ((con (pos 1) ⊕ var 0 ⊕ var 0) ⊗ (var 1 ⊖ con (pos 1)) ⊕ (con (pos 1) ⊕ (var 0 ⊕ var 0 ⊕ var 2)))
+        ((con (pos 1) ⊕ var 0 ⊕ var 0) ⊗ var 1 ⊕ var 2) tt)
         (nn-up (mul-nonneg m (one-up a h)) (up-add one hi))))
     go (inr (inl h)) = h
-    go (inr (inr h)) = absurd (zero-off (ap negℤ e) (up-is (ring ρ ((con (pos 1) ⊕ var 0 ⊕ var 0) ⊗ (neg (var 1) ⊖ con (pos 1)) ⊕ (con (pos 1) ⊕ (var 0 ⊕ var 0 ⊖ var 2))) (neg ((con (pos 1) ⊕ var 0 ⊕ var 0) ⊗ var 1 ⊕ var 2)) tt)
+    go (inr (inr h)) =
+        absurd
+        (zero-off (ap negℤ e)
+        (up-is
+        (ring ρ ((con (pos 1) ⊕ var 0 ⊕ var 0) ⊗ (neg (var 1) ⊖ con (pos 1)) ⊕ (con (pos 1) ⊕ (var 0 ⊕ var 0 ⊖ var 2)))
+        (neg ((con (pos 1) ⊕ var 0 ⊕ var 0) ⊗ var 1 ⊕ var 2)) tt)
         (nn-up (mul-nonneg m (one-up (negℤ a) h)) (up-add one lo))))

@@ -17,7 +17,8 @@ module _ {A B : Type 0} (f : A → B) where
   pair-of a e p q (inl t) = (a, e, inl (refl, refl), t .0, t .1)
   pair-of a e p q (inr t) = (e, a, inr (refl, refl), t .0, t .1)
 
-  chain-map : (a : A) (l : List A) (e : A) (p q : B) → Chain (f a) (map f l) (f e) p q → (b : A) × (c : A) × Chain a l e b c × (p ≡ f b) × (q ≡ f c)
+  chain-map : (a : A) (l : List A) (e : A) (p q : B) → Chain (f a) (map f l) (f e) p q → (b : A) × (c : A) × Chain a l e b c × (p ≡ f b)
+      × (q ≡ f c)
   chain-map a [] e p q c = pair-of a e p q c
   chain-map a (d ∷ l) e p q (inl c) = let r = pair-of a d p q c in (r .0, r .1, inl (r .2), r .3, r .4)
   chain-map a (d ∷ l) e p q (inr c) = let r = chain-map d l e p q c in (r .0, r .1, inr (r .2), r .3, r .4)

@@ -34,9 +34,11 @@ normal-across (a ∷ l) n s f = go a l (inl refl) (λ q i. inr i) ∙ vring (num
     step : (p q : Point) → Of p g → Of q g → cross n (cross p q) ≡ times (dot n s) (minus p q)
     step p q i j =
         vring (vec n ∷ vec p ∷ vec q ∷ []) (v 0 ×v (v 1 ×v v 2)) ((v 0 · v 2) *v v 1 -v (v 0 · v 1) *v v 2) tt
-        ∙ (λ t. minus (times (same q j t) p) (times (same p i t) q)) ∙ vring (num (dot n s) ∷ vec p ∷ vec q ∷ []) (x 0 *v v 1 -v x 0 *v v 2) (x 0 *v (v 1 -v v 2)) tt
+        ∙ (λ t. minus (times (same q j t) p) (times (same p i t) q))
+        ∙ vring (num (dot n s) ∷ vec p ∷ vec q ∷ []) (x 0 *v v 1 -v x 0 *v v 2) (x 0 *v (v 1 -v v 2)) tt
 
-    go : (p : Point) (r : List Point) → Of p g → ((q : Point) → Of q r → Of q g) → cross n (sum (sidesFrom cross a p r)) ≡ times (dot n s) (minus p a)
+    go : (p : Point) (r : List Point) → Of p g → ((q : Point) → Of q r → Of q g)
+        → cross n (sum (sidesFrom cross a p r)) ≡ times (dot n s) (minus p a)
     go p [] i h = vring (vec n ∷ vec (cross p a) ∷ []) (v 0 ×v (v 1 +v o)) (v 0 ×v v 1) tt ∙ step p a i (inl refl)
     go p (q ∷ r) i h =
         vring (vec n ∷ vec (cross p q) ∷ vec (sum (sidesFrom cross a q r)) ∷ []) (v 0 ×v (v 1 +v v 2)) (v 0 ×v v 1 +v v 0 ×v v 2) tt
@@ -48,7 +50,8 @@ pub across-too : (n m w : Point) → (n ≡ origin → ⊥) → cross n m ≡ or
 across-too n m w ne e h =
     mul-zero (dot n n) (dot m w) (pos-ne (self-pos n ne))
     (vring (num (dot n n) ∷ vec m ∷ vec w ∷ []) (x 0 *s (v 1 · v 2)) ((x 0 *v v 1) · v 2) tt ∙ ap (λ (p : Point). dot p w) (in-line n m e)
-    ∙ vring (num (dot n m) ∷ vec n ∷ vec w ∷ []) ((x 0 *v v 1) · v 2) (x 0 *s (v 1 · v 2)) tt ∙ ap (λ (z : ℤ). dot n m *ℤ z) h ∙ *ℤ-zero (dot n m))
+    ∙ vring (num (dot n m) ∷ vec n ∷ vec w ∷ []) ((x 0 *v v 1) · v 2) (x 0 *s (v 1 · v 2)) tt ∙ ap (λ (z : ℤ). dot n m *ℤ z) h
+    ∙ *ℤ-zero (dot n m))
 
 all-of : (p : Point → Bool) (l : List Point) → ((q : Point) → Of q l → p q ≡ true) → all p l ≡ true
 unfolding all
@@ -61,7 +64,8 @@ own-level [] n s ne f = record { every = (λ p i. absurd i) }
 own-level (a ∷ l) n s ne f = record {
   every = (λ p i.
       across-too n (normal (a ∷ l)) (minus p a) ne (normal-across (a ∷ l) n s f)
-      (vring (vec n ∷ vec p ∷ vec a ∷ vec s ∷ []) (v 0 · (v 1 -v v 2)) (v 0 · (v 1 -v v 3) -s v 0 · (v 2 -v v 3)) tt ∙ (λ t. f .every p i t -ℤ f .every a (inl refl) t)));
+      (vring (vec n ∷ vec p ∷ vec a ∷ vec s ∷ []) (v 0 · (v 1 -v v 2)) (v 0 · (v 1 -v v 3) -s v 0 · (v 2 -v v 3)) tt
+      ∙ (λ t. f .every p i t -ℤ f .every a (inl refl) t)));
 }
 
 pub own-plane : (g : List Point) → Level (normal g) (corner g) g → onePlane g g ≡ true

@@ -1,4 +1,5 @@
--- A simple ring in a plane of space that is seen along the third axis without loss: the view is simple, and its area is the third coordinate of the normal.
+-- A simple ring in a plane of space that is seen along the third axis without loss: the view is simple, and its area is the third
+-- coordinate of the normal.
 -- Assumes nothing.
 use mathlib.Core.Path.{_≡_, refl, sym, _∙_, ap, subst}
 use mathlib.Core.Logic.{inl, inr}
@@ -63,8 +64,10 @@ module _ (g : List Point) (n s : Point) (nz : n .z ≡ pos 0 → ⊥) (level : L
   unfolding dot
   unseen w ex ey e =
       let ez : w .z ≡ pos 0 = mul-zero (n .z) (w .z) nz
-      (ring (n .x ∷ n .y ∷ n .z ∷ w .x ∷ w .y ∷ w .z ∷ []) (var 2 ⊗ var 5) ((var 0 ⊗ var 3 ⊕ var 1 ⊗ var 4 ⊕ var 2 ⊗ var 5) ⊖ var 0 ⊗ var 3 ⊖ var 1 ⊗ var 4) tt
-      ∙ (λ i. e i -ℤ n .x *ℤ ex i -ℤ n .y *ℤ ey i) ∙ ring (n .x ∷ n .y ∷ []) (con (pos 0) ⊖ var 0 ⊗ con (pos 0) ⊖ var 1 ⊗ con (pos 0)) (con (pos 0)) tt) in
+      (ring (n .x ∷ n .y ∷ n .z ∷ w .x ∷ w .y ∷ w .z ∷ []) (var 2 ⊗ var 5)
+      ((var 0 ⊗ var 3 ⊕ var 1 ⊗ var 4 ⊕ var 2 ⊗ var 5) ⊖ var 0 ⊗ var 3 ⊖ var 1 ⊗ var 4) tt
+      ∙ (λ i. e i -ℤ n .x *ℤ ex i -ℤ n .y *ℤ ey i) ∙ ring (n .x ∷ n .y ∷ []) (con (pos 0) ⊖ var 0 ⊗ con (pos 0) ⊖ var 1 ⊗ con (pos 0))
+      (con (pos 0)) tt) in
       λ i. pt (ex i) (ey i) (ez i)
 
   -- one view is one point
@@ -72,7 +75,8 @@ module _ (g : List Point) (n s : Point) (nz : n .z ≡ pos 0 → ⊥) (level : L
   unfolding minus
   seen-same p q op oq ex ey =
       point-eq p q (unseen (minus p q) (sub-of-eq (p .x) (q .x) ex) (sub-of-eq (p .y) (q .y) ey)
-      (vring (vec n ∷ vec p ∷ vec q ∷ vec s ∷ []) (v 0 · (v 1 -v v 2)) (v 0 · (v 1 -v v 3) -s v 0 · (v 2 -v v 3)) tt ∙ (λ i. level .every p op i -ℤ level .every q oq i)))
+      (vring (vec n ∷ vec p ∷ vec q ∷ vec s ∷ []) (v 0 · (v 1 -v v 2)) (v 0 · (v 1 -v v 3) -s v 0 · (v 2 -v v 3)) tt
+      ∙ (λ i. level .every p op i -ℤ level .every q oq i)))
 
   -- ---- a crossing is a common point
   cross-common : (p q r t : Point) → Of p g → Of q g → Of r g → Of t g → Cross (down p) (down q) (down r) (down t) → Common p q r t
@@ -80,13 +84,25 @@ module _ (g : List Point) (n s : Point) (nz : n .z ≡ pos 0 → ⊥) (level : L
   cross-common p q r t op oq ol ot c =
       record {
         here = record { scale = K; place = D; after = c .behind; before = diff-up D K (up-is K-is (c .ahead)) };
-        there = record { scale = K; place = E; some = up-add (c .left) (up-nn (c .right)); least = up-nn (c .left); most = le-by (E ∷ F ∷ []) (var 0) (var 0 ⊕ var 1) (omega (arith, le-to (F ∷ []) (con (pos 0)) (var 0) (up-nn (c .right)))) };
+        there =
+            record {
+              scale = K;
+              place = E;
+              some = up-add (c .left) (up-nn (c .right));
+              least = up-nn (c .left);
+              most = le-by (E ∷ F ∷ []) (var 0) (var 0 ⊕ var 1) (omega (arith, le-to (F ∷ []) (con (pos 0)) (var 0) (up-nn (c .right))));
+            };
         is = ap (times K) (point-eq (plus (times K p) (times D (minus q p))) (plus (times K r) (times E (minus t r)))
             (unseen (minus (plus (times K p) (times D (minus q p))) (plus (times K r) (times E (minus t r)))) x-is y-is
-            (vring (num K ∷ num D ∷ num E ∷ vec n ∷ vec p ∷ vec q ∷ vec r ∷ vec t ∷ vec s ∷ []) (v 3 · ((x 0 *v v 4 +v x 1 *v (v 5 -v v 4)) -v (x 0 *v v 6 +v x 2 *v (v 7 -v v 6))))
-            (x 0 *s (v 3 · (v 4 -v v 8)) +s x 1 *s (v 3 · (v 5 -v v 8) -s v 3 · (v 4 -v v 8)) -s x 0 *s (v 3 · (v 6 -v v 8)) -s x 2 *s (v 3 · (v 7 -v v 8) -s v 3 · (v 6 -v v 8))) tt
-            ∙ (λ i. K *ℤ level .every p op i +ℤ D *ℤ (level .every q oq i -ℤ level .every p op i) -ℤ K *ℤ level .every r ol i -ℤ E *ℤ (level .every t ot i -ℤ level .every r ol i))
-            ∙ ring (K ∷ D ∷ E ∷ []) (var 0 ⊗ con (pos 0) ⊕ var 1 ⊗ (con (pos 0) ⊖ con (pos 0)) ⊖ var 0 ⊗ con (pos 0) ⊖ var 2 ⊗ (con (pos 0) ⊖ con (pos 0))) (con (pos 0)) tt)));
+            (vring (num K ∷ num D ∷ num E ∷ vec n ∷ vec p ∷ vec q ∷ vec r ∷ vec t ∷ vec s ∷ [])
+            (v 3 · ((x 0 *v v 4 +v x 1 *v (v 5 -v v 4)) -v (x 0 *v v 6 +v x 2 *v (v 7 -v v 6))))
+            (x 0 *s (v 3 · (v 4 -v v 8)) +s x 1 *s (v 3 · (v 5 -v v 8) -s v 3 · (v 4 -v v 8)) -s x 0 *s (v 3 · (v 6 -v v 8)) -s x 2 *s
+            (v 3 · (v 7 -v v 8) -s v 3 · (v 6 -v v 8))) tt
+            ∙ (λ i. K *ℤ level .every p op i +ℤ D *ℤ (level .every q oq i -ℤ level .every p op i) -ℤ K *ℤ level .every r ol
+            i -ℤ E *ℤ (level .every t ot i -ℤ level .every r ol i))
+            ∙ ring (K ∷ D ∷ E ∷ [])
+            (var 0 ⊗ con (pos 0) ⊕ var 1 ⊗ (con (pos 0) ⊖ con (pos 0)) ⊖ var 0 ⊗ con (pos 0) ⊖ var 2 ⊗ (con (pos 0) ⊖ con (pos 0)))
+            (con (pos 0)) tt)));
       }
     where
       E : ℤ
@@ -108,20 +124,36 @@ module _ (g : List Point) (n s : Point) (nz : n .z ≡ pos 0 → ⊥) (level : L
       K-is = ring ρ (tu 4 5 6 7 2 3) (tu 0 1 2 3 4 5 ⊕ tu 2 3 0 1 6 7 ⊖ tu 6 7 4 5 0 1) tt
 
       x-is : (K *ℤ p .x +ℤ D *ℤ (q .x -ℤ p .x)) -ℤ (K *ℤ r .x +ℤ E *ℤ (t .x -ℤ r .x)) ≡ pos 0
-      x-is = ring ρ (((tu 0 1 2 3 4 5 ⊕ tu 2 3 0 1 6 7) ⊗ var 0 ⊕ tu 6 7 4 5 0 1 ⊗ (var 2 ⊖ var 0)) ⊖ ((tu 0 1 2 3 4 5 ⊕ tu 2 3 0 1 6 7) ⊗ var 4 ⊕ tu 0 1 2 3 4 5 ⊗ (var 6 ⊖ var 4))) (con (pos 0)) tt
+      x-is =
+          ring ρ
+          (((tu 0 1 2 3 4 5 ⊕ tu 2 3 0 1 6 7) ⊗ var 0 ⊕ tu 6 7 4 5 0 1 ⊗ (var 2 ⊖ var 0)) ⊖
+          ((tu 0 1 2 3 4 5 ⊕ tu 2 3 0 1 6 7) ⊗ var 4 ⊕ tu 0 1 2 3 4 5 ⊗ (var 6 ⊖ var 4))) (con (pos 0)) tt
 
       y-is : (K *ℤ p .y +ℤ D *ℤ (q .y -ℤ p .y)) -ℤ (K *ℤ r .y +ℤ E *ℤ (t .y -ℤ r .y)) ≡ pos 0
-      y-is = ring ρ (((tu 0 1 2 3 4 5 ⊕ tu 2 3 0 1 6 7) ⊗ var 1 ⊕ tu 6 7 4 5 0 1 ⊗ (var 3 ⊖ var 1)) ⊖ ((tu 0 1 2 3 4 5 ⊕ tu 2 3 0 1 6 7) ⊗ var 5 ⊕ tu 0 1 2 3 4 5 ⊗ (var 7 ⊖ var 5))) (con (pos 0)) tt
+      y-is =
+          ring ρ
+          (((tu 0 1 2 3 4 5 ⊕ tu 2 3 0 1 6 7) ⊗ var 1 ⊕ tu 6 7 4 5 0 1 ⊗ (var 3 ⊖ var 1)) ⊖
+          ((tu 0 1 2 3 4 5 ⊕ tu 2 3 0 1 6 7) ⊗ var 5 ⊕ tu 0 1 2 3 4 5 ⊗ (var 7 ⊖ var 5))) (con (pos 0)) tt
 
   -- ---- a corner inside a side
   on-between : (m : ℤ) (p q r : Point) → Of p g → Of q g → Of r g → On m (down p) (down q) (down r) → Between p q r
   unfolding turn height plus minus times
   on-between m p q r op oq ol c =
       record {
-        here = record { scale = S; place = T; after = sub-pos (c .after); before = diff-up T S (up-is (ring (height m (down p) ∷ height m (down q) ∷ height m (down r) ∷ []) (var 1 ⊖ var 2) ((var 1 ⊖ var 0) ⊖ (var 2 ⊖ var 0)) tt) (sub-pos (c .before))) };
+        here =
+            record {
+              scale = S;
+              place = T;
+              after = sub-pos (c .after);
+              before = diff-up T S
+                  (up-is
+                  (ring (height m (down p) ∷ height m (down q) ∷ height m (down r) ∷ []) (var 1 ⊖ var 2) ((var 1 ⊖ var 0) ⊖ (var 2 ⊖ var 0)) tt)
+                  (sub-pos (c .before)));
+            };
         is = point-eq (times S r) (plus (times S p) (times T (minus q p)))
             (unseen (minus (times S r) (plus (times S p) (times T (minus q p)))) x-is y-is
-            (vring (num S ∷ num T ∷ vec n ∷ vec p ∷ vec q ∷ vec r ∷ vec s ∷ []) (v 2 · (x 0 *v v 5 -v (x 0 *v v 3 +v x 1 *v (v 4 -v v 3))))
+            (vring (num S ∷ num T ∷ vec n ∷ vec p ∷ vec q ∷ vec r ∷ vec s ∷ [])
+            (v 2 · (x 0 *v v 5 -v (x 0 *v v 3 +v x 1 *v (v 4 -v v 3))))
             (x 0 *s (v 2 · (v 5 -v v 6)) -s x 0 *s (v 2 · (v 3 -v v 6)) -s x 1 *s (v 2 · (v 4 -v v 6) -s v 2 · (v 3 -v v 6))) tt
             ∙ (λ i. S *ℤ level .every r ol i -ℤ S *ℤ level .every p op i -ℤ T *ℤ (level .every q oq i -ℤ level .every p op i))
             ∙ ring (S ∷ T ∷ []) (var 0 ⊗ con (pos 0) ⊖ var 0 ⊗ con (pos 0) ⊖ var 1 ⊗ (con (pos 0) ⊖ con (pos 0))) (con (pos 0)) tt));
@@ -137,10 +169,13 @@ module _ (g : List Point) (n s : Point) (nz : n .z ≡ pos 0 → ⊥) (level : L
       ρ = p .x ∷ p .y ∷ q .x ∷ q .y ∷ r .x ∷ r .y ∷ m ∷ []
 
       x-is : S *ℤ r .x -ℤ (S *ℤ p .x +ℤ T *ℤ (q .x -ℤ p .x)) ≡ pos 0
-      x-is = ring-with ρ (Se ⊗ var 4 ⊖ (Se ⊗ var 0 ⊕ Te ⊗ (var 2 ⊖ var 0))) (con (pos 0)) (con (negsuc 0)) (tu 0 1 2 3 4 5) (con (pos 0)) tt (c .line)
+      x-is =
+          ring-with ρ (Se ⊗ var 4 ⊖ (Se ⊗ var 0 ⊕ Te ⊗ (var 2 ⊖ var 0))) (con (pos 0)) (con (negsuc 0)) (tu 0 1 2 3 4 5) (con (pos 0)) tt
+          (c .line)
 
       y-is : S *ℤ r .y -ℤ (S *ℤ p .y +ℤ T *ℤ (q .y -ℤ p .y)) ≡ pos 0
-      y-is = ring-with ρ (Se ⊗ var 5 ⊖ (Se ⊗ var 1 ⊕ Te ⊗ (var 3 ⊖ var 1))) (con (pos 0)) (var 6) (tu 0 1 2 3 4 5) (con (pos 0)) tt (c .line)
+      y-is =
+          ring-with ρ (Se ⊗ var 5 ⊖ (Se ⊗ var 1 ⊕ Te ⊗ (var 3 ⊖ var 1))) (con (pos 0)) (var 6) (tu 0 1 2 3 4 5) (con (pos 0)) tt (c .line)
 
   -- ---- heights
   height-same : (p q : Point) → Of p g → Of q g → height (steepness g) (down p) ≡ height (steepness g) (down q) → p ≡ q
@@ -150,13 +185,15 @@ module _ (g : List Point) (n s : Point) (nz : n .z ≡ pos 0 → ⊥) (level : L
       let bq = bounded q g oq in
       let ρ = bound g ∷ p .x ∷ p .y ∷ q .x ∷ q .y ∷ [] in
       let d : (steepness g) *ℤ (p .x -ℤ q .x) +ℤ (p .y -ℤ q .y) ≡ pos 0 =
-      ring ((steepness g) ∷ p .x ∷ p .y ∷ q .x ∷ q .y ∷ []) (var 0 ⊗ (var 1 ⊖ var 3) ⊕ (var 2 ⊖ var 4)) ((var 0 ⊗ var 1 ⊕ var 2) ⊖ (var 0 ⊗ var 3 ⊕ var 4)) tt
+      ring ((steepness g) ∷ p .x ∷ p .y ∷ q .x ∷ q .y ∷ []) (var 0 ⊗ (var 1 ⊖ var 3) ⊕ (var 2 ⊖ var 4))
+      ((var 0 ⊗ var 1 ⊕ var 2) ⊖ (var 0 ⊗ var 3 ⊕ var 4)) tt
       ∙ sub-of-eq ((steepness g) *ℤ p .x +ℤ p .y) ((steepness g) *ℤ q .x +ℤ q .y) e in
       let ex : p .x -ℤ q .x ≡ pos 0 = steep (bound g) (p .x -ℤ q .x) (p .y -ℤ q .y) (bound-nn g)
       (nn-is (ring ρ ((var 0 ⊖ var 2) ⊕ (var 0 ⊕ var 4)) (var 0 ⊕ var 0 ⊖ (var 2 ⊖ var 4)) tt) (add-nonneg (bp .0) (bq .1)))
       (nn-is (ring ρ ((var 0 ⊕ var 2) ⊕ (var 0 ⊖ var 4)) (var 0 ⊕ var 0 ⊕ (var 2 ⊖ var 4)) tt) (add-nonneg (bp .1) (bq .0))) d in
       let ey : p .y -ℤ q .y ≡ pos 0 =
-      ring ((steepness g) ∷ (p .x -ℤ q .x) ∷ (p .y -ℤ q .y) ∷ []) (var 2) ((var 0 ⊗ var 1 ⊕ var 2) ⊖ var 0 ⊗ var 1) tt ∙ (λ i. d i -ℤ (steepness g) *ℤ ex i)
+      ring ((steepness g) ∷ (p .x -ℤ q .x) ∷ (p .y -ℤ q .y) ∷ []) (var 2) ((var 0 ⊗ var 1 ⊕ var 2) ⊖ var 0 ⊗ var 1) tt
+      ∙ (λ i. d i -ℤ (steepness g) *ℤ ex i)
       ∙ ring ((steepness g) ∷ []) (con (pos 0) ⊖ var 0 ⊗ con (pos 0)) (con (pos 0)) tt in
       seen-same p q op oq (eq-of-sub (p .x) (q .x) ex) (eq-of-sub (p .y) (q .y) ey)
 
@@ -165,7 +202,9 @@ module _ (g : List Point) (n s : Point) (nz : n .z ≡ pos 0 → ⊥) (level : L
   distinct-view (p ∷ l) f d = (go, distinct-view l (λ r o. f r (inr o)) (d .1))
     where
       go : (z : Flat) → Of z (map down l) → height (steepness g) z ≡ height (steepness g) (down p) → ⊥
-      go z o e = let r = map-of down z l o in d .0 (r .0) (r .1) (height-same (r .0) p (f (r .0) (inr (r .1))) (f p (inl refl)) (ap (height (steepness g)) (sym (r .2)) ∙ e))
+      go z o e =
+          let r = map-of down z l o in
+          d .0 (r .0) (r .1) (height-same (r .0) p (f (r .0) (inr (r .1))) (f p (inl refl)) (ap (height (steepness g)) (sym (r .2)) ∙ e))
 
   -- ---- the view is simple
   no-cross : (P Q R S : Flat) → Link (map down g) P Q → Link (map down g) R S → Cross P Q R S → ⊥
@@ -178,7 +217,8 @@ module _ (g : List Point) (n s : Point) (nz : n .z ≡ pos 0 → ⊥) (level : L
       let t = b .1 in
       let oa = end-of g p q (a .2) in
       let ob = end-of g r t (b .2) in
-      let c' : Cross (down p) (down q) (down r) (down t) = subst (λ (z : Flat). Cross z (down q) (down r) (down t)) (a .3) (subst (λ (z : Flat). Cross P z (down r) (down t)) (a .4)
+      let c' : Cross (down p) (down q) (down r) (down t) = subst (λ (z : Flat). Cross z (down q) (down r) (down t)) (a .3)
+      (subst (λ (z : Flat). Cross P z (down r) (down t)) (a .4)
       (subst (λ (z : Flat). Cross P Q z (down t)) (b .3) (subst (λ (z : Flat). Cross P Q R z) (b .4) c))) in
       clear .edges p q r t (a .2) (b .2)
       (λ e. zero-off (ap (turn (down p) (down q)) (ap down (sym e)) ∙ flat-first (down p) (down q)) (c' .left))
@@ -193,7 +233,8 @@ module _ (g : List Point) (n s : Point) (nz : n .z ≡ pos 0 → ⊥) (level : L
       let b = map-of down R g o in
       let oa = end-of g (a .0) (a .1) (a .2) in
       clear .corners (a .0) (a .1) (b .0) (a .2) (b .1) (on-between (steepness g) (a .0) (a .1) (b .0) (oa .0) (oa .1) (b .1)
-      (subst (λ (z : Flat). On (steepness g) z (down (a .1)) (down (b .0))) (a .3) (subst (λ (z : Flat). On (steepness g) P z (down (b .0))) (a .4) (subst (λ (z : Flat). On (steepness g) P Q z) (b .2) c))))
+      (subst (λ (z : Flat). On (steepness g) z (down (a .1)) (down (b .0))) (a .3)
+      (subst (λ (z : Flat). On (steepness g) P z (down (b .0))) (a .4) (subst (λ (z : Flat). On (steepness g) P Q z) (b .2) c))))
 
   pub down-simple : Simple (steepness g) (map down g)
   down-simple = record {
@@ -208,4 +249,6 @@ module _ (g : List Point) (n s : Point) (nz : n .z ≡ pos 0 → ⊥) (level : L
 
   -- the third coordinate of the normal is not 0
   pub third-not-zero : 3 ≤ length g → normal g .z ≡ pos 0 → ⊥
-  third-not-zero k e = let q = length-map down g in area-not-zero (steepness g) (map down g) (omega (arith, q)) down-simple (sym (area-is g) ∙ e)
+  third-not-zero k e =
+      let q = length-map down g in
+      area-not-zero (steepness g) (map down g) (omega (arith, q)) down-simple (sym (area-is g) ∙ e)

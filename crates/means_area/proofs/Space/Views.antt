@@ -19,8 +19,10 @@ use Rattle.means_area.specs.Space.{through}
 -- a sum of three products that is 0, whose last two have a factor 0
 one : (a b c p q r s t u : ℤ) → (a ≡ pos 0 → ⊥) → a *ℤ (p -ℤ q) +ℤ b *ℤ (r -ℤ s) +ℤ c *ℤ (t -ℤ u) ≡ pos 0 → r ≡ s → t ≡ u → p ≡ q
 one a b c p q r s t u n e f g = eq-of-sub p q (mul-zero a (p -ℤ q) n
-    (ring (a ∷ b ∷ c ∷ (p -ℤ q) ∷ (r -ℤ s) ∷ (t -ℤ u) ∷ []) (var 0 ⊗ var 3) ((var 0 ⊗ var 3 ⊕ var 1 ⊗ var 4 ⊕ var 2 ⊗ var 5) ⊖ var 1 ⊗ var 4 ⊖ var 2 ⊗ var 5) tt
-    ∙ (λ i. e i -ℤ b *ℤ sub-of-eq r s f i -ℤ c *ℤ sub-of-eq t u g i) ∙ ring (b ∷ c ∷ []) (con (pos 0) ⊖ var 0 ⊗ con (pos 0) ⊖ var 1 ⊗ con (pos 0)) (con (pos 0)) tt))
+    (ring (a ∷ b ∷ c ∷ (p -ℤ q) ∷ (r -ℤ s) ∷ (t -ℤ u) ∷ []) (var 0 ⊗ var 3)
+    ((var 0 ⊗ var 3 ⊕ var 1 ⊗ var 4 ⊕ var 2 ⊗ var 5) ⊖ var 1 ⊗ var 4 ⊖ var 2 ⊗ var 5) tt
+    ∙ (λ i. e i -ℤ b *ℤ sub-of-eq r s f i -ℤ c *ℤ sub-of-eq t u g i)
+    ∙ ring (b ∷ c ∷ []) (con (pos 0) ⊖ var 0 ⊗ con (pos 0) ⊖ var 1 ⊗ con (pos 0)) (con (pos 0)) tt))
 
 -- along the axis that is chosen for a direction, it is not 0
 pub axis-real : AxisReal
@@ -46,11 +48,13 @@ view-one AlongY n p q h e s = λ i. pt (s i .u) (third i) (s i .v)
   where
     third : p .y ≡ q .y
     third = one (n .y) (n .x) (n .z) (p .y) (q .y) (p .x) (q .x) (p .z) (q .z) h
-        (ring (n .x ∷ n .y ∷ n .z ∷ (p .x -ℤ q .x) ∷ (p .y -ℤ q .y) ∷ (p .z -ℤ q .z) ∷ []) (var 1 ⊗ var 4 ⊕ var 0 ⊗ var 3 ⊕ var 2 ⊗ var 5) (var 0 ⊗ var 3 ⊕ var 1 ⊗ var 4 ⊕ var 2 ⊗ var 5) tt ∙ e)
+        (ring (n .x ∷ n .y ∷ n .z ∷ (p .x -ℤ q .x) ∷ (p .y -ℤ q .y) ∷ (p .z -ℤ q .z) ∷ []) (var 1 ⊗ var 4 ⊕ var 0 ⊗ var 3 ⊕ var 2 ⊗ var 5)
+        (var 0 ⊗ var 3 ⊕ var 1 ⊗ var 4 ⊕ var 2 ⊗ var 5) tt ∙ e)
         (ap (λ (f : Flat). f .u) s) (ap (λ (f : Flat). f .v) s)
 view-one AlongZ n p q h e s = λ i. pt (s i .u) (s i .v) (third i)
   where
     third : p .z ≡ q .z
     third = one (n .z) (n .x) (n .y) (p .z) (q .z) (p .x) (q .x) (p .y) (q .y) h
-        (ring (n .x ∷ n .y ∷ n .z ∷ (p .x -ℤ q .x) ∷ (p .y -ℤ q .y) ∷ (p .z -ℤ q .z) ∷ []) (var 2 ⊗ var 5 ⊕ var 0 ⊗ var 3 ⊕ var 1 ⊗ var 4) (var 0 ⊗ var 3 ⊕ var 1 ⊗ var 4 ⊕ var 2 ⊗ var 5) tt ∙ e)
+        (ring (n .x ∷ n .y ∷ n .z ∷ (p .x -ℤ q .x) ∷ (p .y -ℤ q .y) ∷ (p .z -ℤ q .z) ∷ []) (var 2 ⊗ var 5 ⊕ var 0 ⊗ var 3 ⊕ var 1 ⊗ var 4)
+        (var 0 ⊗ var 3 ⊕ var 1 ⊗ var 4 ⊕ var 2 ⊗ var 5) tt ∙ e)
         (ap (λ (f : Flat). f .u) s) (ap (λ (f : Flat). f .v) s)

@@ -41,7 +41,8 @@ module _ (d : Wire) where
       yes-way : (onVertex e ≡ true) ⊎ (onEdge e ≡ true) → Meets d e
       yes-way (inl h) =
           let r = some-yes (vertexOn d (edgeAt d e)) (length (d .vertices)) h in
-          vertex (r .0) (r .1) (onOpen-means (at d (from d e)) (at d (to d e)) (at d (r .0)) long .0 (sym (vertexOn-is (edgeAt d e) (r .0)) ∙ r .2))
+          vertex (r .0) (r .1)
+          (onOpen-means (at d (from d e)) (at d (to d e)) (at d (r .0)) long .0 (sym (vertexOn-is (edgeAt d e) (r .0)) ∙ r .2))
       yes-way (inr h) =
           let r = some-yes (others e) (length (d .edges)) h in
           let f = r .0 in
@@ -49,16 +50,19 @@ module _ (d : Wire) where
           let ne : e ≡ f → ⊥ = λ q. true≢false (sym (eq-eqb e f q) ∙ not-true (eqb e f) a) in
           let b = and-right (not (eqb e f)) (edgesMeet d (edgeAt d e) (edgeAt d f)) (r .2) in
           other f (r .1) ne
-          (openMeets-means (at d (from d e)) (at d (to d e)) (at d (from d f)) (at d (to d f)) long .0 (sym (edgesMeet-is (edgeAt d e) (edgeAt d f)) ∙ b))
+          (openMeets-means (at d (from d e)) (at d (to d e)) (at d (from d f)) (at d (to d f)) long .0
+          (sym (edgesMeet-is (edgeAt d e) (edgeAt d f)) ∙ b))
 
       is-way : Meets d e → onVertex e || onEdge e ≡ true
       is-way (vertex w h t) =
           or-left (onVertex e) (onEdge e)
-          (some-is (vertexOn d (edgeAt d e)) (length (d .vertices)) w h (vertexOn-is (edgeAt d e) w ∙ onOpen-means (at d (from d e)) (at d (to d e)) (at d w) long .1 t))
+          (some-is (vertexOn d (edgeAt d e)) (length (d .vertices)) w h
+          (vertexOn-is (edgeAt d e) w ∙ onOpen-means (at d (from d e)) (at d (to d e)) (at d w) long .1 t))
       is-way (other f h ne t) =
           or-right (onVertex e) (onEdge e)
           (some-is (others e) (length (d .edges)) f h
-          (and-both (ap not (ne-eqb e f ne)) (edgesMeet-is (edgeAt d e) (edgeAt d f) ∙ openMeets-means (at d (from d e)) (at d (to d e)) (at d (from d f)) (at d (to d f)) long .1 t)))
+          (and-both (ap not (ne-eqb e f ne)) (edgesMeet-is (edgeAt d e) (edgeAt d f)
+          ∙ openMeets-means (at d (from d e)) (at d (to d e)) (at d (from d f)) (at d (to d f)) long .1 t)))
 
   pub edgeMeets-search : Long d → Finds (Meets d) (length (d .edges)) (edgeMeets d)
   unfolding edgeMeets

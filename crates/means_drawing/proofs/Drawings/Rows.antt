@@ -141,14 +141,17 @@ module _ (d : Wire) where
   closed-next : (k : ℕ) → Closed (row k) → Closed (row (suc k))
   unfolding verticesReached
   closed-next k c =
-      subst Closed (same-row (row k) (further d (row k)) (length-reached k ∙ sym (length-further (row k))) (further-keeps (row k) (length-reached k)) c) c
+      subst Closed
+      (same-row (row k) (further d (row k)) (length-reached k ∙ sym (length-further (row k))) (further-keeps (row k) (length-reached k))
+      c) c
 
   grows : Vertex d 0 → (k : ℕ) → Closed (row k) ⊎ (suc k ≤ count (row k))
   unfolding verticesReached
   grows h zero = inr (count-some (row 0) (has-first h 0))
   grows h (suc k) = go (grows h k) (decLe (count (further d (row k))) (count (row k)))
     where
-      go : Closed (row k) ⊎ (suc k ≤ count (row k)) → Dec (count (further d (row k)) ≤ count (row k)) → Closed (row (suc k)) ⊎ (suc (suc k) ≤ count (row (suc k)))
+      go : Closed (row k) ⊎ (suc k ≤ count (row k)) → Dec (count (further d (row k)) ≤ count (row k))
+          → Closed (row (suc k)) ⊎ (suc (suc k) ≤ count (row (suc k)))
       go (inl c) e = inl (closed-next k c)
       go (inr c) (yes e) = inl (closed-next k (count-back (row k) (further d (row k)) (further-keeps (row k) (length-reached k)) e))
       go (inr c) (no e) = inr (omega arith)

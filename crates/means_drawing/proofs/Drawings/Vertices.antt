@@ -48,8 +48,10 @@ module _ (d : Wire) where
 
   pub samePlace-none : (samePlace d ≡ none) ↔ ((u w : ℕ) → Vertex d u → Vertex d w → at d u ≡ at d w → u ≡ w)
   samePlace-none =
-      let o = finds-none (Doubled d) n (samePlace d) samePlace-search in
-      ((λ e u w hu hw q. same u w (ℕ-discrete u w) (λ ne. o .0 e u hu (w, hw, ne, q))), (λ h. o .1 (λ u hu t. t .2 (h u (t .0) hu (t .1) (t .3)))))
+      let o = finds-none (Doubled d) n (samePlace d) samePlace-search in (
+        (λ e u w hu hw q. same u w (ℕ-discrete u w) (λ ne. o .0 e u hu (w, hw, ne, q))),
+        (λ h. o .1 (λ u hu t. t .2 (h u (t .0) hu (t .1) (t .3)))),
+      )
     where
       same : (u w : ℕ) → Dec (u ≡ w) → ((u ≡ w → ⊥) → ⊥) → u ≡ w
       same u w (yes e) f = e
@@ -76,10 +78,13 @@ module _ (d : Wire) where
     where
       of : Loose d v → not (any (ends v) (d .edges)) ≡ true
       of f =
-          ap not (never-true (any (ends v) (d .edges)) (λ q. let r = any-yes (ends v) (edge 0 0) (d .edges) q in f (r .0) (r .1) (end-yes v (edgeAt d (r .0)) (r .2))))
+          ap not
+          (never-true (any (ends v) (d .edges)) (λ q. let r = any-yes (ends v) (edge 0 0) (d .edges) q in
+          f (r .0) (r .1) (end-yes v (edgeAt d (r .0)) (r .2))))
 
       to : not (any (ends v) (d .edges)) ≡ true → Loose d v
-      to e i l q = true≢false (sym (any-is (ends v) (edge 0 0) (d .edges) i l (end-is v (edgeAt d i) q)) ∙ not-true (any (ends v) (d .edges)) e)
+      to e i l q =
+          true≢false (sym (any-is (ends v) (edge 0 0) (d .edges) i l (end-is v (edgeAt d i) q)) ∙ not-true (any (ends v) (d .edges)) e)
 
   pub looseVertex-search : Finds (Loose d) n (looseVertex d)
   unfolding looseVertex

@@ -42,7 +42,9 @@ module _ (m u g : ℤ) (mp : pos 0 <ℤ m) where
   at-d h l = record {
     here = record { scale = m; place = u +ℤ g; after = h; before = l };
     there = record { scale = pos 1; place = pos 1; some = one-pos; least = <ℤ-≤ℤ one-pos; most = ≤ℤ-refl (pos 1) };
-    is = vring (num m ∷ num u ∷ num g ∷ []) ((k (pos 1) *s (x 1 +s x 2)) *s x 0) ((x 0 *s k (pos 1)) *s x 1 +s (x 0 *s k (pos 1)) *s x 2) tt;
+    is =
+        vring (num m ∷ num u ∷ num g ∷ []) ((k (pos 1) *s (x 1 +s x 2)) *s x 0) ((x 0 *s k (pos 1)) *s x 1 +s (x 0 *s k (pos 1)) *s x 2)
+        tt;
   }
 
   two : pos 1 <ℤ pos 2
@@ -120,7 +122,8 @@ module _ (m u g : ℤ) (mp : pos 0 <ℤ m) where
     mean : (E *ℤ P) *ℤ m ≡ D *ℤ ((E -ℤ S) *ℤ u +ℤ S *ℤ (u +ℤ g))
     mean =
         t .is
-        ∙ vring (num D ∷ num E ∷ num S ∷ num u ∷ num g ∷ []) ((x 0 *s x 1) *s x 3 +s (x 0 *s x 2) *s x 4) (x 0 *s ((x 1 -s x 2) *s x 3 +s x 2 *s (x 3 +s x 4))) tt
+        ∙ vring (num D ∷ num E ∷ num S ∷ num u ∷ num g ∷ []) ((x 0 *s x 1) *s x 3 +s (x 0 *s x 2) *s x 4)
+        (x 0 *s ((x 1 -s x 2) *s x 3 +s x 2 *s (x 3 +s x 4))) tt
 
     mean-le : (b : ℤ) → u ≤ℤ b → (u +ℤ g) ≤ℤ b → ((E *ℤ P) *ℤ m) ≤ℤ (D *ℤ (E *ℤ b))
     mean-le b h l =
@@ -149,13 +152,17 @@ module _ (m u g : ℤ) (mp : pos 0 <ℤ m) where
 pub overlap-yes : (u w m : ℤ) → overlap u w m ≡ true → (((u ≤ℤ pos 0) × (w ≤ℤ pos 0)) → ⊥) × (((m ≤ℤ u) × (m ≤ℤ w)) → ⊥)
 unfolding overlap
 overlap-yes u w m e = (
-  (λ h. true≢false (sym (and-left (not (leZ u (pos 0) && leZ w (pos 0))) (not (leZ m u && leZ m w)) e) ∙ ap not (and-both (le-is (h .0)) (le-is (h .1))))),
-  (λ h. true≢false (sym (and-right (not (leZ u (pos 0) && leZ w (pos 0))) (not (leZ m u && leZ m w)) e) ∙ ap not (and-both (le-is (h .0)) (le-is (h .1))))),
+  (λ h. true≢false (sym (and-left (not (leZ u (pos 0) && leZ w (pos 0))) (not (leZ m u && leZ m w)) e)
+      ∙ ap not (and-both (le-is (h .0)) (le-is (h .1))))),
+  (λ h. true≢false (sym (and-right (not (leZ u (pos 0) && leZ w (pos 0))) (not (leZ m u && leZ m w)) e)
+      ∙ ap not (and-both (le-is (h .0)) (le-is (h .1))))),
 )
 
 pub overlap-is : (u w m : ℤ) → (u ≤ℤ pos 0 → w ≤ℤ pos 0 → ⊥) → (m ≤ℤ u → m ≤ℤ w → ⊥) → overlap u w m ≡ true
 unfolding overlap
-overlap-is u w m f g = and-both (not-both (leZ u (pos 0)) (leZ w (pos 0)) (λ a b. f (le-yes a) (le-yes b))) (not-both (leZ m u) (leZ m w) (λ a b. g (le-yes a) (le-yes b)))
+overlap-is u w m f g =
+    and-both (not-both (leZ u (pos 0)) (leZ w (pos 0)) (λ a b. f (le-yes a) (le-yes b)))
+    (not-both (leZ m u) (leZ m w) (λ a b. g (le-yes a) (le-yes b)))
 
 module _ (p q r : Point) (pn : p ≡ origin → ⊥) (par : cross p q ≡ origin) where
   -- by the numbers that p, r and q are times
@@ -164,9 +171,11 @@ module _ (p q r : Point) (pn : p ≡ origin → ⊥) (par : cross p q ≡ origin
       cancel (dot p p) (times l p) (plus (times m r) (times n q)) (pos-ne (self-pos p pn))
       (vring (num (dot p p) ∷ num l ∷ vec p ∷ []) (x 0 *v (x 1 *v v 2)) ((x 1 *s x 0) *v v 2) tt
       ∙ ap (λ (z : ℤ). times z p) h
-      ∙ vring (num m ∷ num n ∷ num (dot p r) ∷ num (dot p q) ∷ vec p ∷ []) ((x 0 *s x 2 +s x 1 *s x 3) *v v 4) (x 0 *v (x 2 *v v 4) +v x 1 *v (x 3 *v v 4)) tt
+      ∙ vring (num m ∷ num n ∷ num (dot p r) ∷ num (dot p q) ∷ vec p ∷ []) ((x 0 *s x 2 +s x 1 *s x 3) *v v 4)
+      (x 0 *v (x 2 *v v 4) +v x 1 *v (x 3 *v v 4)) tt
       ∙ (λ i. plus (times m (sym (in-line p r e) i)) (times n (sym (in-line p q par) i)))
-      ∙ vring (num m ∷ num n ∷ num (dot p p) ∷ vec q ∷ vec r ∷ []) (x 0 *v (x 2 *v v 4) +v x 1 *v (x 2 *v v 3)) (x 2 *v (x 0 *v v 4 +v x 1 *v v 3)) tt)
+      ∙ vring (num m ∷ num n ∷ num (dot p p) ∷ vec q ∷ vec r ∷ []) (x 0 *v (x 2 *v v 4) +v x 1 *v (x 2 *v v 3))
+      (x 2 *v (x 0 *v v 4 +v x 1 *v v 3)) tt)
 
   pub line-meet : cross p r ≡ origin → (t : Places (dot p p) (dot p r) (dot p q))
       → Meet p q r (t .here .scale) (t .here .place) (t .there .scale) (t .there .place)
@@ -177,7 +186,8 @@ module _ (p q r : Point) (pn : p ≡ origin → ⊥) (par : cross p q ≡ origin
     pub meet-line : cross p r ≡ origin
     meet-line =
         scale-zero (h .scale *ℤ t .scale) (cross p r) (pos-ne (mul-pos (lt-chain (h .after) (h .before)) (t .some)))
-        (vring (num (h .scale) ∷ num (h .place) ∷ num (t .scale) ∷ num (t .place) ∷ vec p ∷ vec q ∷ vec r ∷ []) ((x 0 *s x 2) *v (v 4 ×v v 6))
+        (vring (num (h .scale) ∷ num (h .place) ∷ num (t .scale) ∷ num (t .place) ∷ vec p ∷ vec q ∷ vec r ∷ [])
+        ((x 0 *s x 2) *v (v 4 ×v v 6))
         ((v 4 ×v ((((x 0 *s x 2) *v v 6) +v ((x 0 *s x 3) *v v 5)) -v (x 2 *s x 1) *v v 4)) -v ((x 0 *s x 3) *v (v 4 ×v v 5))) tt
         ∙ (λ i. minus (cross p (point-diff (sym e) i)) (times (h .scale *ℤ t .place) (par i)))
         ∙ vring (num (h .scale) ∷ num (t .place) ∷ vec p ∷ []) ((v 2 ×v o) -v ((x 0 *s x 1) *v o)) o tt)

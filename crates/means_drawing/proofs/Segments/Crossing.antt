@@ -51,13 +51,15 @@ module _ (p q r : Point) where
   crossing e =
       let m = v 0 ×v v 1 in
       point-eq (times tOf p) (plus (times nn r) (times sOf q))
-      (vring (vec p ∷ vec q ∷ vec r ∷ []) (((v 2 ×v v 1) · m) *v v 0 -v ((m · m) *v v 2 +v ((v 2 ×v v 0) · m) *v v 1)) (negs (v 2 · m) *v m) tt
+      (vring (vec p ∷ vec q ∷ vec r ∷ []) (((v 2 ×v v 1) · m) *v v 0 -v ((m · m) *v v 2 +v ((v 2 ×v v 0) · m) *v v 1))
+      (negs (v 2 · m) *v m) tt
       ∙ ap (λ (z : ℤ). times (negℤ z) n) e ∙ vring (vec n ∷ []) (negs (k (pos 0)) *v v 0) o tt)
 
   pub crossing-meet : dot r n ≡ pos 0 → Meet p q r nn tOf nn sOf
   crossing-meet e =
       from-eq nn (vring (num nn ∷ num tOf ∷ num sOf ∷ vec p ∷ vec q ∷ vec r ∷ [])
-      ((x 0 *s x 1) *v v 3 -v ((x 0 *s x 0) *v v 5 +v (x 0 *s x 2) *v v 4)) (x 0 *v (x 1 *v v 3 -v (x 0 *v v 5 +v x 2 *v v 4))) tt) (crossing e)
+      ((x 0 *s x 1) *v v 3 -v ((x 0 *s x 0) *v v 5 +v (x 0 *s x 2) *v v 4)) (x 0 *v (x 1 *v v 3 -v (x 0 *v v 5 +v x 2 *v v 4))) tt)
+      (crossing e)
 
   module _ (h : Inner) (t : Whole) (e : Meet p q r (h .scale) (h .place) (t .scale) (t .place)) where
     abbrev D : ℤ
@@ -80,21 +82,24 @@ module _ (p q r : Point) where
         let m = v 4 ×v v 5 in
         mul-zero (D *ℤ E) (dot r n) (pos-ne (mul-pos dp (t .some)))
         (from-dot (minus origin n) (vring (num D ∷ num P ∷ num E ∷ num S ∷ vec p ∷ vec q ∷ vec r ∷ [])
-        (((x 0 *s x 2) *s (v 6 · m)) -s k (pos 0)) ((o -v m) · ((x 2 *s x 1) *v v 4 -v ((x 0 *s x 2) *v v 6 +v (x 0 *s x 3) *v v 5))) tt) e)
+        (((x 0 *s x 2) *s (v 6 · m)) -s k (pos 0)) ((o -v m) · ((x 2 *s x 1) *v v 4 -v ((x 0 *s x 2) *v v 6 +v (x 0 *s x 3) *v v 5))) tt)
+        e)
 
     along-p : P *ℤ nn ≡ D *ℤ tOf
     along-p =
         let m = v 4 ×v v 5 in
         mul-cancelℤ E (P *ℤ nn) (D *ℤ tOf) (pos-ne (t .some))
         (from-dot (cross q n) (vring (num D ∷ num P ∷ num E ∷ num S ∷ vec p ∷ vec q ∷ vec r ∷ [])
-        (x 2 *s (x 1 *s (m · m)) -s x 2 *s (x 0 *s ((v 6 ×v v 5) · m))) ((v 5 ×v m) · ((x 2 *s x 1) *v v 4 -v ((x 0 *s x 2) *v v 6 +v (x 0 *s x 3) *v v 5))) tt) e)
+        (x 2 *s (x 1 *s (m · m)) -s x 2 *s (x 0 *s ((v 6 ×v v 5) · m)))
+        ((v 5 ×v m) · ((x 2 *s x 1) *v v 4 -v ((x 0 *s x 2) *v v 6 +v (x 0 *s x 3) *v v 5))) tt) e)
 
     along-q : S *ℤ nn ≡ E *ℤ sOf
     along-q =
         let m = v 4 ×v v 5 in
         mul-cancelℤ D (S *ℤ nn) (E *ℤ sOf) (pos-ne dp)
         (from-dot (cross p n) (vring (num D ∷ num P ∷ num E ∷ num S ∷ vec p ∷ vec q ∷ vec r ∷ [])
-        (x 0 *s (x 3 *s (m · m)) -s x 0 *s (x 2 *s ((v 6 ×v v 4) · m))) ((v 4 ×v m) · ((x 2 *s x 1) *v v 4 -v ((x 0 *s x 2) *v v 6 +v (x 0 *s x 3) *v v 5))) tt) e)
+        (x 0 *s (x 3 *s (m · m)) -s x 0 *s (x 2 *s ((v 6 ×v v 4) · m)))
+        ((v 4 ×v m) · ((x 2 *s x 1) *v v 4 -v ((x 0 *s x 2) *v v 6 +v (x 0 *s x 3) *v v 5))) tt) e)
 
     pub meet-cuts : (n ≡ origin → ⊥) → cutsOpen tOf sOf nn ≡ true
     unfolding cutsOpen

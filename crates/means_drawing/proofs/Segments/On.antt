@@ -31,8 +31,11 @@ module _ (a b p : Point) where
   between-is : (a ≡ b → ⊥) → Between a b p → (cross d w ≡ origin) × (dot w (minus p b) <ℤ pos 0)
   between-is n t = (
     scale-zero D (cross d w) (pos-ne dp)
-        (vring (num D ∷ vec d ∷ vec w ∷ []) (x 0 *v (v 1 ×v v 2)) (v 1 ×v (x 0 *v v 2)) tt ∙ ap (cross d) line ∙ vring (num S ∷ vec d ∷ []) (v 1 ×v (x 0 *v v 1)) o tt),
-    lt-cancel (D *ℤ D) (mul-pos dp dp) (lt-subst (sym twice) (sym (*ℤ-zero (D *ℤ D))) (neg-lt (mul-pos (mul-pos (t .here .after) (sub-pos (t .here .before))) (self-pos d (differ n))))),
+        (vring (num D ∷ vec d ∷ vec w ∷ []) (x 0 *v (v 1 ×v v 2)) (v 1 ×v (x 0 *v v 2)) tt ∙ ap (cross d) line
+        ∙ vring (num S ∷ vec d ∷ []) (v 1 ×v (x 0 *v v 1)) o tt),
+    lt-cancel (D *ℤ D) (mul-pos dp dp)
+        (lt-subst (sym twice) (sym (*ℤ-zero (D *ℤ D)))
+        (neg-lt (mul-pos (mul-pos (t .here .after) (sub-pos (t .here .before))) (self-pos d (differ n))))),
   )
     where
       D : ℤ
@@ -53,7 +56,8 @@ module _ (a b p : Point) where
           ap (λ (y : Point). (D *ℤ D) *ℤ dot w y) from-b
           ∙ vring (num D ∷ vec w ∷ vec d ∷ []) ((x 0 *s x 0) *s (v 1 · (v 1 -v v 2))) ((x 0 *v v 1) · ((x 0 *v v 1) -v x 0 *v v 2)) tt
           ∙ ap (λ (y : Point). dot y (minus y (times D d))) line
-          ∙ vring (num D ∷ num S ∷ vec d ∷ []) ((x 1 *v v 2) · ((x 1 *v v 2) -v x 0 *v v 2)) (negs ((x 1 *s (x 0 -s x 1)) *s (v 2 · v 2))) tt
+          ∙ vring (num D ∷ num S ∷ vec d ∷ []) ((x 1 *v v 2) · ((x 1 *v v 2) -v x 0 *v v 2)) (negs ((x 1 *s (x 0 -s x 1)) *s (v 2 · v 2)))
+          tt
 
   between-of : cross d w ≡ origin → dot w (minus p b) <ℤ pos 0 → Between a b p
   between-of e h = record {
@@ -78,7 +82,9 @@ module _ (a b p : Point) where
       wu = let ρ = dot w w ∷ u ∷ [] in lt-by ρ (var 0) (var 1) (omega (arith, lt-to ρ (var 0 ⊖ var 1) (con (pos 0)) small))
 
       up : pos 0 <ℤ u
-      up = let ρ = dot w w ∷ u ∷ [] in lt-by ρ (con (pos 0)) (var 1) (omega (arith, lt-to ρ (var 0) (var 1) wu, le-to ρ (con (pos 0)) (var 0) (self-nonneg w)))
+      up =
+          let ρ = dot w w ∷ u ∷ [] in
+          lt-by ρ (con (pos 0)) (var 1) (omega (arith, lt-to ρ (var 0) (var 1) wu, le-to ρ (con (pos 0)) (var 0) (self-nonneg w)))
 
       mp : pos 0 <ℤ m
       mp = self-pos d (λ z. pos-ne up (ap (λ (y : Point). dot y w) z ∙ vring (vec w ∷ []) (o · v 0) (k (pos 0)) tt))

@@ -32,7 +32,8 @@ module _ (f : Format) (v : ℕ) (s : List ℕ) (g : Shaped f v s) where
   count-is = length-in f s
 
   room : 4 + f .«face_count_bits» + length (flatMap (faceBits f) fs) ≤ length s * 8
-  room = le-trans (le-of-eq (sym (bits-are f fs))) (le-trans (bytes-hold (bitsOf f fs)) (le-of-eq (ap (λ (n : ℕ). n * 8) (sym (g .sized)))))
+  room =
+      le-trans (le-of-eq (sym (bits-are f fs))) (le-trans (bytes-hold (bitsOf f fs)) (le-of-eq (ap (λ (n : ℕ). n * 8) (sym (g .sized)))))
 
   at-head : bits 4 (f .edition) ++ bits (f .«face_count_bits») (length fs) ≡ take (4 + f .«face_count_bits») all
   at-head =
@@ -51,12 +52,14 @@ module _ (f : Format) (v : ℕ) (s : List ℕ) (g : Shaped f v s) where
   unfolding listBits
   at-list =
       ap₂ (λ (x y : List ℕ). x ++ y) at-head at-faces
-      ∙ sym (take-add (4 + f .«face_count_bits») (length (flatMap (faceBits f) fs)) all) ∙ ap (λ (n : ℕ). take n all) (sym (bits-are f fs))
+      ∙ sym (take-add (4 + f .«face_count_bits») (length (flatMap (faceBits f) fs)) all)
+      ∙ ap (λ (n : ℕ). take n all) (sym (bits-are f fs))
 
   pub written-again : Under (2 ^ 8) s → encodeFaces f fs ≡ s
   unfolding encodeFaces
   written-again u =
-      ap (λ (n : ℕ). filled n (listBits f fs)) (length-list f fs) ∙ filled-again (bitsOf f fs) (listBits f fs) s u (g .sized) (g .filled) at-list
+      ap (λ (n : ℕ). filled n (listBits f fs)) (length-list f fs)
+      ∙ filled-again (bitsOf f fs) (listBits f fs) s u (g .sized) (g .filled) at-list
 
   pub can-be-sent : Sendable f v fs
   can-be-sent = sendable-is f v fs (omega (arith, count-is, g .least)) (omega (arith, count-is, g .most)) (g .faces)

@@ -60,7 +60,8 @@ module _ (f : Format) (fs : List Loop) (room : List ℕ) where
 
   module _ (g : Sendable f (f .«most_vertices») fs) where
     neither : (outside leastFaces (f .«most_faces») (length fs) || not (all (faceFits f (f .«most_vertices»)) fs)) ≡ false
-    neither = rw (not-outside leastFaces (f .«most_faces») (length fs) (g .least) (g .most), sendable-fits f (f .«most_vertices») fs g) refl
+    neither =
+        rw (not-outside leastFaces (f .«most_faces») (length fs) (g .least) (g .most), sendable-fits f (f .«most_vertices») fs g) refl
 
     pub sends : (s : List ℕ) → encodeFaces f fs ≡ s → length s ≤ length room
         → (sentOf f fs room ≡ Written.Bytes (length s)) × (sentRoom f fs room ≡ s ++ drop (length s) room)

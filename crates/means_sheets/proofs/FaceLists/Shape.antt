@@ -26,7 +26,10 @@ module _ (f : Format) (v : ℕ) where
   pub shape-is : (s : List ℕ) → Shaped f v s → wellShaped f v s ≡ true
   unfolding wellShaped
   shape-is s g =
-      and-both (and-both (and-both (and-both (eq-eqb _ _ (g .edition)) (ap not (not-outside 4 (f .«most_faces») (countIn f s) (g .least) (g .most)))) (g .faces)) (eq-eqb _ _ (g .sized)))
+      and-both
+      (and-both
+      (and-both (and-both (eq-eqb _ _ (g .edition)) (ap not (not-outside 4 (f .«most_faces») (countIn f s) (g .least) (g .most))))
+      (g .faces)) (eq-eqb _ _ (g .sized)))
       (eq-eqb _ _ (g .filled))
 
   -- ---- a face
@@ -42,7 +45,8 @@ module _ (f : Format) (v : ℕ) where
 
   pub sendable-is : (fs : List Loop) → 4 ≤ length fs → length fs ≤ f .«most_faces» → all (faceFits f v) fs ≡ true → Sendable f v fs
   sendable-is fs a b h =
-      let each : (i : ℕ) → i < length fs → (3 ≤ length (getD fs i [])) × (length (getD fs i []) ≤ 12) × ((j : ℕ) → j < length (getD fs i []) → getD (getD fs i []) j 0 < v) =
+      let each : (i : ℕ) → i < length fs → (3 ≤ length (getD fs i [])) × (length (getD fs i []) ≤ 12)
+      × ((j : ℕ) → j < length (getD fs i []) → getD (getD fs i []) j 0 < v) =
       λ i l. face-yes f v (getD fs i []) (all-yes (faceFits f v) [] fs h i l) in
       record { least = a; most = b; few = λ i l. each i l .0; many = λ i l. each i l .1; numbers = λ i j l m. each i l .2 j m }
 
@@ -51,9 +55,14 @@ module _ (f : Format) (v : ℕ) where
   unfolding all
   fit w [] h = tt
   fit w (l ∷ fs) h =
-      let q = face-yes f v l (and-left (faceFits f v l) (all (faceFits f v) fs) h) in
-      (omega (arith, q .1), (λ j. under j (ltb j (length l)) refl (q .2)), fit w fs (and-right (faceFits f v l) (all (faceFits f v) fs) h))
+      let q = face-yes f v l (and-left (faceFits f v l) (all (faceFits f v) fs) h) in (
+        omega (arith, q .1),
+        (λ j. under j (ltb j (length l)) refl (q .2)),
+        fit w fs
+            (and-right (faceFits f v l) (all (faceFits f v) fs) h),
+      )
     where
-      under : (j : ℕ) (t : Bool) → ltb j (length l) ≡ t → ((j : ℕ) → j < length l → getD l j 0 < v) → getD l j 0 < 2 ^ f .«vertex_number_bits»
+      under : (j : ℕ) (t : Bool) → ltb j (length l) ≡ t → ((j : ℕ) → j < length l → getD l j 0 < v)
+          → getD l j 0 < 2 ^ f .«vertex_number_bits»
       under j true t q = lt-of-lt-of-le (q j (ltb-true j (length l) t)) w
       under j false t q = rw (List·getD-eq-default l 0 (ltb-false j (length l) t)) (pow-pos (f .«vertex_number_bits»))

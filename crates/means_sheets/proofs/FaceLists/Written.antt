@@ -36,18 +36,24 @@ module _ (f : Format) (sound : Sound f) (v : ℕ) (w : v ≤ 2 ^ f .«vertex_num
   run-s = run-filled (length (listBits f fs)) (listBits f fs) (under-list f fs) refl ∙ simp append-assoc
 
   at-edition : fieldAt s 0 4 ≡ f .edition
-  at-edition = field-in s [] (bits (f .«face_count_bits») (length fs) ++ (flatMap (faceBits f) fs ++ fill)) 0 refl 4 (f .edition) run-s (sound .edition-fits)
+  at-edition =
+      field-in s [] (bits (f .«face_count_bits») (length fs) ++ (flatMap (faceBits f) fs ++ fill)) 0 refl 4 (f .edition) run-s
+      (sound .edition-fits)
 
   at-count : countIn f s ≡ length fs
   at-count =
-      field-in s (bits 4 (f .edition)) (flatMap (faceBits f) fs ++ fill) 4 (length-bits 4 (f .edition)) (f .«face_count_bits») (length fs) run-s
+      field-in s (bits 4 (f .edition)) (flatMap (faceBits f) fs ++ fill) 4 (length-bits 4 (f .edition)) (f .«face_count_bits») (length fs)
+      run-s
       (lt-of-le-of-lt (g .most) (sound .faces-fit))
 
   behind : drop (4 + f .«face_count_bits») (run 8 s) ≡ flatMap (faceBits f) fs ++ fill
   behind =
-      ap (drop (4 + f .«face_count_bits»)) (run-s ∙ sym (append-assoc (bits 4 (f .edition)) (bits (f .«face_count_bits») (length fs)) (flatMap (faceBits f) fs ++ fill)))
-      ∙ drop-at (bits 4 (f .edition) ++ bits (f .«face_count_bits») (length fs)) (flatMap (faceBits f) fs ++ fill) (4 + f .«face_count_bits»)
-      (length-append (bits 4 (f .edition)) (bits (f .«face_count_bits») (length fs)) ∙ ap₂ (λ (x y : ℕ). x + y) (length-bits 4 (f .edition)) (length-bits (f .«face_count_bits») (length fs)))
+      ap (drop (4 + f .«face_count_bits»))
+      (run-s ∙ sym (append-assoc (bits 4 (f .edition)) (bits (f .«face_count_bits») (length fs)) (flatMap (faceBits f) fs ++ fill)))
+      ∙ drop-at (bits 4 (f .edition) ++ bits (f .«face_count_bits») (length fs)) (flatMap (faceBits f) fs ++ fill)
+      (4 + f .«face_count_bits»)
+      (length-append (bits 4 (f .edition)) (bits (f .«face_count_bits») (length fs))
+      ∙ ap₂ (λ (x y : ℕ). x + y) (length-bits 4 (f .edition)) (length-bits (f .«face_count_bits») (length fs)))
 
   pub faces-read-back : facesIn f s ≡ fs
   unfolding facesIn
@@ -66,7 +72,10 @@ module _ (f : Format) (sound : Sound f) (v : ℕ) (w : v ≤ 2 ^ f .«vertex_num
         filled = ap (λ (m : ℕ). fillAfter m s) (sym n) ∙ fill-filled (length (listBits f fs)) (listBits f fs) (under-list f fs) refl;
       })
 
-  pub rows-returned : facesOf f v s ≡ record { answer = Fine; count = length fs; rows = padded (flatMap row fs) (rowBytes * editionOne .«most_faces») 0 }
+  pub rows-returned : facesOf f v s ≡ record
+      { answer = Fine; count = length fs; rows = padded (flatMap row fs) (rowBytes * editionOne .«most_faces») 0 }
   unfolding facesOf
   rows-returned =
-      rw faces-accepted (λ i. record { answer = Fine; count = at-count i; rows = padded (flatMap row (faces-read-back i)) (rowBytes * editionOne .«most_faces») 0 })
+      rw faces-accepted
+      (λ i. record
+      { answer = Fine; count = at-count i; rows = padded (flatMap row (faces-read-back i)) (rowBytes * editionOne .«most_faces») 0 })

@@ -66,18 +66,24 @@ module _ (f : Format) (s : List ℕ) (g : Shaped f s) where
       ∙ run-fields s (head f) 11 (3 * v) (omega (arith, room)) ∙ ap (λ (n : ℕ). take n (drop (head f) all)) m)
       ∙ sym (take-add (head f) (33 * v) all)
 
-  at-numbers : headBits f v e ++ run 11 (map onSheet (coordinatesIn f s)) ++ run (f .«vertex_number_bits») (endsIn f s) ≡ take (total f v e) all
+  at-numbers : headBits f v e ++ run 11 (map onSheet (coordinatesIn f s)) ++ run (f .«vertex_number_bits») (endsIn f s) ≡ take
+      (total f v e) all
   at-numbers =
-      let m : 2 * e * f .«vertex_number_bits» ≡ 2 * f .«vertex_number_bits» * e = mul-assoc 2 e (f .«vertex_number_bits») ∙ ap (λ (n : ℕ). 2 * n) (mul-comm e (f .«vertex_number_bits»)) ∙ sym (mul-assoc 2 (f .«vertex_number_bits») e) in
+      let m : 2 * e * f .«vertex_number_bits» ≡ 2 * f .«vertex_number_bits» * e = mul-assoc 2 e (f .«vertex_number_bits»)
+      ∙ ap (λ (n : ℕ). 2 * n) (mul-comm e (f .«vertex_number_bits»)) ∙ sym (mul-assoc 2 (f .«vertex_number_bits») e) in
       ap₂ (λ (x y : List ℕ). x ++ y) at-points
-      (run-fields s (head f + 33 * v) (f .«vertex_number_bits») (2 * e) (omega (arith, room, m)) ∙ ap (λ (n : ℕ). take n (drop (head f + 33 * v) all)) m)
+      (run-fields s (head f + 33 * v) (f .«vertex_number_bits») (2 * e) (omega (arith, room, m))
+      ∙ ap (λ (n : ℕ). take n (drop (head f + 33 * v) all)) m)
       ∙ sym (take-add (head f + 33 * v) (2 * f .«vertex_number_bits» * e) all)
 
   pub written-again : Under (2 ^ 8) s → encode f (coordinatesIn f s) (endsIn f s) ≡ s
   unfolding encode
   written-again u =
-      ap₂ (λ (a b : ℕ). filled (total f a b) (headBits f a b ++ run 11 (map onSheet (coordinatesIn f s)) ++ run (f .«vertex_number_bits») (endsIn f s))) v-is e-is
-      ∙ filled-again (total f v e) (headBits f v e ++ run 11 (map onSheet (coordinatesIn f s)) ++ run (f .«vertex_number_bits») (endsIn f s)) s u
+      ap₂
+      (λ (a b : ℕ). filled (total f a b)
+      (headBits f a b ++ run 11 (map onSheet (coordinatesIn f s)) ++ run (f .«vertex_number_bits») (endsIn f s))) v-is e-is
+      ∙ filled-again (total f v e)
+      (headBits f v e ++ run 11 (map onSheet (coordinatesIn f s)) ++ run (f .«vertex_number_bits») (endsIn f s)) s u
       (g .close-is .sized) (g .close-is .filled) at-numbers
 
 good-count : (k lo hi n m : ℕ) → n % k ≡ 0 → n / k ≡ m → lo ≤ m → m ≤ hi → badCount k lo hi n ≡ false
@@ -95,9 +101,11 @@ module _ (f : Format) (s : List ℕ) (h : Fine ≡ firstOf (sheetChecks f s)) wh
       accepted-contents f s h
       ∙ ap (λ (n : ℕ). firstOf (contentChecks n (coordinatesIn f s) (endsIn f s))) (sym (v-is f s g))
       ∙ fails _ _ _ (good-count 2 6 (f .«most_edges») (length (endsIn f s)) (edgesIn f s) w2 (e-is f s g) (k .e-least) (k .e-most))
-      ∙ fails _ _ _ (good-count 3 4 (f .«most_vertices») (length (coordinatesIn f s)) (verticesIn f s) w3 (v-is f s g) (k .v-least) (k .v-most))
+      ∙ fails _ _ _
+      (good-count 3 4 (f .«most_vertices») (length (coordinatesIn f s)) (verticesIn f s) w3 (v-is f s g) (k .v-least) (k .v-most))
 
-pub same-lists : (f : Format) (s t : List ℕ) → Fine ≡ firstOf (sheetChecks f s) → Fine ≡ firstOf (sheetChecks f t) → sheetOf f s .drawing ≡ sheetOf f t .drawing
+pub same-lists : (f : Format) (s t : List ℕ) → Fine ≡ firstOf (sheetChecks f s) → Fine ≡ firstOf (sheetChecks f t)
+    → sheetOf f s .drawing ≡ sheetOf f t .drawing
     → (coordinatesIn f s ≡ coordinatesIn f t) × (endsIn f s ≡ endsIn f t)
 same-lists f s t hs ht e = (
   coordinates-are f s hs ∙ ap (λ (d : Drawing). take (3 * d .vertices) (d .xyz)) e ∙ sym (coordinates-are f t ht),

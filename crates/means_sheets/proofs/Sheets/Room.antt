@@ -20,7 +20,8 @@ use Rattle.means_sheets.proofs.Filled.{length-filled}
 use Rattle.means_sheets.proofs.Writers.{wrote}
 
 -- the sheet's length
-pub length-sheet : (f : Format) (xyz : List ℤ) (ends : List ℕ) → length (encode f xyz ends) ≡ bytesFor (total f (length xyz / 3) (length ends / 2))
+pub length-sheet : (f : Format) (xyz : List ℤ) (ends : List ℕ)
+    → length (encode f xyz ends) ≡ bytesFor (total f (length xyz / 3) (length ends / 2))
 unfolding encode
 length-sheet f xyz ends =
     length-filled (total f (length xyz / 3) (length ends / 2))
@@ -41,7 +42,8 @@ module _ (f : Format) (xyz : List ℤ) (ends room : List ℕ) (n : ℕ) (e : wri
   pub written-room : take n (roomOf f xyz ends room) ≡ encode f xyz ends
   unfolding roomOf
   written-room =
-      ap (λ (a : Answer). take n (roomFor f xyz ends a room)) (sym (fine .0)) ∙ take-at (encode f xyz ends) (drop size room) n (length-sheet f xyz ends ∙ sym (fine .1))
+      ap (λ (a : Answer). take n (roomFor f xyz ends a room)) (sym (fine .0))
+      ∙ take-at (encode f xyz ends) (drop size room) n (length-sheet f xyz ends ∙ sym (fine .1))
 
 -- lists that the writer takes, in room for their sheet
 pub writes : (f : Format) (xyz : List ℤ) (ends s room : List ℕ) → Answer.Fine ≡ firstOf (lentChecks f xyz ends)

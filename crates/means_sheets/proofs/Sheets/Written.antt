@@ -16,7 +16,8 @@ use Rattle.pack.proofs.Trip.{field-in, fields-in}
 use Rattle.paper_laws.proofs.Checks.{clear, fails, first-passes}
 use Rattle.paper_laws.proofs.Limits.{not-outside}
 use Rattle.paper.specs.Refusals.{firstOf}
-use Rattle.paper.specs.Format.{head, total, bytesFor, fillAfter, headBits, onSheet, coordinate, verticesIn, edgesIn, coordinatesIn, endsIn, encode}
+use Rattle.paper.specs.Format.{head, total, bytesFor, fillAfter, headBits, onSheet, coordinate, verticesIn, edgesIn, coordinatesIn}
+use Rattle.paper.specs.Format.{endsIn, encode}
 use Rattle.paper.specs.Sheet.{contentChecks, openChecks, countChecks, closeChecks, shapeChecks, sheetChecks, drawnFor, held, sheetOf}
 use Rattle.paper.specs.declared.Format.{Format}
 use Rattle.paper.specs.declared.Answer.{Answer}
@@ -53,7 +54,8 @@ module _ (f : Format) (s : List ℕ) where
   count-passes : (v e : ℕ) → Counted f v e → Fine ≡ firstOf (countChecks f v e)
   unfolding countChecks
   count-passes v e g =
-      clear ∙ fails _ _ _ (not-outside 6 (f .«most_edges») e (g .e-least) (g .e-most)) ∙ fails _ _ _ (not-outside 4 (f .«most_vertices») v (g .v-least) (g .v-most))
+      clear ∙ fails _ _ _ (not-outside 6 (f .«most_edges») e (g .e-least) (g .e-most))
+      ∙ fails _ _ _ (not-outside 4 (f .«most_vertices») v (g .v-least) (g .v-most))
 
   close-passes : (v e : ℕ) → Closed f s v e → Fine ≡ firstOf (closeChecks f s v e)
   unfolding closeChecks
@@ -67,7 +69,8 @@ module _ (f : Format) (s : List ℕ) where
   shape-passes g =
       let v = verticesIn f s in
       let e = edgesIn f s in
-      let o : Fine ≡ firstOf (openChecks f s ++ countChecks f v e) = count-passes v e (g .counts-are) ∙ first-passes (openChecks f s) _ (open-passes (g .open-is)) in
+      let o : Fine ≡ firstOf (openChecks f s ++ countChecks f v e) = count-passes v e (g .counts-are)
+      ∙ first-passes (openChecks f s) _ (open-passes (g .open-is)) in
       close-passes v e (g .close-is) ∙ first-passes (openChecks f s ++ countChecks f v e) _ o
 
 -- ---- what stands in the bytes of a drawing's sheet
@@ -98,11 +101,14 @@ module _ (f : Format) (sound : Sound f) (xyz : List ℤ) (ends : List ℕ) (g : 
       (under-content f xyz ends v e (g .v-whole) (g .e-whole)) (length-content f xyz ends v e (g .v-whole) (g .e-whole))
 
   -- field by field
-  nested : run 8 s ≡ bits 4 (f .edition) ++ (bits (f .«vertex_count_bits») v ++ (bits (f .«edge_count_bits») e ++ (points ++ (numbers ++ fill))))
+  nested : run 8 s ≡ bits 4
+      (f .edition) ++ (bits (f .«vertex_count_bits») v ++ (bits (f .«edge_count_bits») e ++ (points ++ (numbers ++ fill))))
   nested = run-s ∙ simp append-assoc
 
   at-edition : fieldAt s 0 4 ≡ f .edition
-  at-edition = field-in s [] (bits (f .«vertex_count_bits») v ++ (bits (f .«edge_count_bits») e ++ (points ++ (numbers ++ fill)))) 0 refl 4 (f .edition) nested (sound .edition-fits)
+  at-edition =
+      field-in s [] (bits (f .«vertex_count_bits») v ++ (bits (f .«edge_count_bits») e ++ (points ++ (numbers ++ fill)))) 0 refl 4
+      (f .edition) nested (sound .edition-fits)
 
   at-vertices : verticesIn f s ≡ v
   at-vertices =
@@ -112,7 +118,8 @@ module _ (f : Format) (sound : Sound f) (xyz : List ℤ) (ends : List ℕ) (g : 
   at-edges : edgesIn f s ≡ e
   at-edges =
       field-in s (bits 4 (f .edition) ++ bits (f .«vertex_count_bits») v) (points ++ (numbers ++ fill)) (4 + f .«vertex_count_bits»)
-      (length-append (bits 4 (f .edition)) (bits (f .«vertex_count_bits») v) ∙ ap₂ (λ (x y : ℕ). x + y) (length-bits 4 (f .edition)) (length-bits (f .«vertex_count_bits») v))
+      (length-append (bits 4 (f .edition)) (bits (f .«vertex_count_bits») v)
+      ∙ ap₂ (λ (x y : ℕ). x + y) (length-bits 4 (f .edition)) (length-bits (f .«vertex_count_bits») v))
       (f .«edge_count_bits») e (run-s ∙ simp append-assoc) (lt-of-le-of-lt (g .e-most) (sound .edges-fit))
 
   holds : Contents v xyz ends
@@ -130,7 +137,9 @@ module _ (f : Format) (sound : Sound f) (xyz : List ℤ) (ends : List ℕ) (g : 
   under-ends k = go (ltb k (length ends)) refl
     where
       go : (b : Bool) → ltb k (length ends) ≡ b → getD ends k 0 < 2 ^ f .«vertex_number_bits»
-      go true t = lt-of-lt-of-le (holds .below k (omega (arith, ltb-true k (length ends) t, g .e-whole))) (le-trans (g .v-most) (sound .numbers-fit))
+      go true t =
+          lt-of-lt-of-le (holds .below k (omega (arith, ltb-true k (length ends) t, g .e-whole)))
+          (le-trans (g .v-most) (sound .numbers-fit))
       go false t = rw (List·getD-eq-default ends 0 (ltb-false k (length ends) t)) (pow-pos (f .«vertex_number_bits»))
 
   at-ends : endsIn f s ≡ ends
@@ -174,5 +183,7 @@ module _ (f : Format) (sound : Sound f) (xyz : List ℤ) (ends : List ℕ) (g : 
   pub read-written : sheetOf f s ≡ record { answer = Fine; drawing = held v e xyz ends }
   unfolding sheetOf
   read-written =
-      ap (λ (a : Answer). record { answer = a; drawing = drawnFor a (held (verticesIn f s) (edgesIn f s) (coordinatesIn f s) (endsIn f s)) }) (sym fine-s)
+      ap
+      (λ (a : Answer). record { answer = a; drawing = drawnFor a (held (verticesIn f s) (edgesIn f s) (coordinatesIn f s) (endsIn f s)) })
+      (sym fine-s)
       ∙ (λ i. record { answer = Fine; drawing = held (at-vertices i) (at-edges i) (at-coordinates i) (at-ends i) })
