@@ -6,6 +6,7 @@ use mathlib.Core.Bool.{Bool, true, _||_}
 use mathlib.Core.List.{List, [], _∷_, map, flatMap}
 use lib.IntN.{ℤ, pos, negℤ}
 use lib.ListN.{length, replicate}
+use lib.Ieee.{div, ofInt}
 use Rattle.pack.specs.Bits.{bits, val, run, cut, fieldAt, fieldsAt}
 use Rattle.pack.specs.Fill.{padded}
 use Rattle.sets.specs.Word as Word
@@ -23,8 +24,8 @@ use Rattle.paper.specs.Clash.{pierces, enters, folds, clash}
 use Rattle.paper.specs.Solids.{runs, runsUp, has, faceSix, clashing, tablesOf, inTwo, unlike, fresh, known, runsDown, over, pass, spread, facesFrom, connected, onceEachWay, oriented, sixFrom, clearFrom, judged}
 use Rattle.paper.specs.Walk.{takenOn, openOn, openCount, decide, contradicts, settle, sweep, stable, choose, assume, leaf, walk, search}
 use Rattle.paper.specs.Conversion.{takens, accepted, facesAfter, words, solidsAfter, reported, concluded, entryChecks, conversion, convertLists, convertSheet}
-use Rattle.paper.specs.FaceList.{faceBits, listBits, encodeFaces, facesAt, facesIn, span, bitsOf, faceFits, wellShaped}
-use Rattle.paper.specs.Verdict.{lowestAt, fromPlace, fromLowest, onward, normalForm, numberIn, rowOf, listed, notCandidate, faceTwice, edgeCount, direction, pieces, inward, clashes, faceChecks, verdict, verdictLists}
+use Rattle.paper.specs.FaceList.{faceBits, listBits, encodeFaces, facesAt, facesIn, span, bitsOf, faceFits, wellShaped, rowAt, solidFaces, sendChecks, sentOf, sentRoom}
+use Rattle.paper.specs.Verdict.{lowestAt, fromPlace, fromLowest, onward, normalForm, numberIn, rowOf, listed, notCandidate, faceTwice, edgeCount, direction, pieces, inward, clashes, faceChecks, verdict, verdictLists, verdictSheet}
 use Rattle.paper.specs.Reading.{readingOf}
 use Rattle.paper.specs.Desk.{text, decimalIn, decimal, signed, facesText, solidText, solidsText, headText, answerText, deskText}
 use Rattle.paper.specs.declared.Answer.{Answer}
@@ -64,6 +65,14 @@ pub data Question : Type 0 where
   covering : List ℤ → List ℤ → Question
   -- the selections that have every edge twice, as the walk meets them: do they pass (iii)?
   selected : Drawn → Question
+  -- an answer of conversion: its reading; what the desk program prints of it, the solids in these words
+  read : Conversion → Question
+  worded : (vertices edges : ℕ) → Conversion → (words : List ℕ) → Question
+  -- a packed list of faces sent for a sheet; a list of faces for a drawing's sheet
+  ruled : (sheet list : List ℕ) → Question
+  enclosed : Drawn → List (List ℕ) → Question
+  -- a reported solid, by the rows of the report and its first two words, written as a face list to room of a length
+  posted : (rows : List ℕ) → (taken turned room : ℕ) → Question
 
 pub data Reply : Type 0 where
   solved : Conversion → Reading → List ℕ → Reply
@@ -76,6 +85,7 @@ pub data Reply : Type 0 where
   verdicts : Verdict → Reply
   rules : (A B C : Bool) → Reply
   tests : List Bool → Reply
+  reads : Reading → Reply
 
 -- rooms that were not empty before: later room keeps its contents
 abbrev pub faceBefore : ℕ → List ℕ
@@ -117,6 +127,13 @@ reply (paired f g) =
     rules (pierces p q || pierces q p) (enters p q || enters q p) (folds p q || folds q p)
 reply (covering f g) = tests (covers (pointsOf f) (pointsOf g) ∷ [])
 reply (selected d) = tests (selections d)
+reply (read c) = reads (readingOf c)
+reply (worded v e c ws) = bytes (answerText v e c ws)
+reply (ruled s list) = verdicts (verdictSheet s list)
+reply (enclosed d fs) = verdicts (verdictSheet (encode one (d .xyz) (d .ends)) (encodeFaces one fs))
+reply (posted rows taken turned n) =
+    let fs = solidFaces rows taken turned in
+    wrote (sentOf one fs (faceBefore n)) (sentRoom one fs (faceBefore n))
 
 infix 80 _yields_
 pub data Row : Type 0 where
@@ -124,7 +141,7 @@ pub data Row : Type 0 where
 
 -- what a row asks, and what it says
 unfoldable pub asked : Row → Reply
-unfolding reply
+unfolding reply div ofInt verdictSheet rowAt solidFaces sendChecks sentOf sentRoom
 asked (q yields r) = reply q
 
 unfoldable pub said : Row → Reply
