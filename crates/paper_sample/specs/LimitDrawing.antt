@@ -46,7 +46,7 @@ hold1 = refl
 unfoldable pub rows2 : List Row
 unfolding text ofBits
 rows2 =
-    wholly 8 (record { xyz = (pos 0 ∷ pos 0 ∷ pos 0 ∷ pos 6 ∷ pos 0 ∷ pos 0 ∷ pos 0 ∷ pos 6 ∷ pos 0 ∷ pos 0 ∷ pos 0 ∷ pos 6 ∷ []); ends = (0 ∷ 1 ∷ 0 ∷ 2 ∷ 0 ∷ 3 ∷ 1 ∷ 2 ∷ 1 ∷ 3 ∷ 2 ∷ []) }) 1000000 832 24
+    wholly 8 (record { xyz = (pos 0 ∷ pos 0 ∷ pos 0 ∷ pos 6 ∷ pos 0 ∷ pos 0 ∷ pos 0 ∷ pos 6 ∷ pos 0 ∷ pos 0 ∷ pos 0 ∷ pos 6 ∷ []); ends = (0 ∷ 1 ∷ 0 ∷ 2 ∷ 0 ∷ 3 ∷ 1 ∷ 2 ∷ 1 ∷ 3 ∷ 2 ∷ 3 ∷ 3 ∷ []) }) 1000000 832 24
     yields left (Conversion.Refused (record { number = 5; place = 1 })) (([]) ++ faceBefore 832) (([]) ++ solidBefore 24)
     ∷ wholly 8 (record { xyz = (pos 0 ∷ pos 0 ∷ pos 0 ∷ neg 1001 ∷ pos 0 ∷ pos 0 ∷ pos 0 ∷ pos 6 ∷ pos 0 ∷ pos 0 ∷ pos 0 ∷ pos 6 ∷ []); ends = (0 ∷ 1 ∷ 0 ∷ 2 ∷ 0 ∷ 3 ∷ 1 ∷ 2 ∷ 1 ∷ 3 ∷ 2 ∷ 3 ∷ []) }) 1000000 832 24
     yields left (Conversion.Refused (record { number = 8; place = 3 })) (([]) ++ faceBefore 832) (([]) ++ solidBefore 24)

@@ -93,7 +93,7 @@ unfolding text ofBits
 rows5 =
     checked (record { xyz = (pos 0 ∷ pos 0 ∷ pos 0 ∷ pos 6 ∷ pos 0 ∷ pos 0 ∷ pos 0 ∷ pos 6 ∷ pos 0 ∷ pos 0 ∷ pos 0 ∷ pos 6 ∷ pos 0 ∷ []); ends = (0 ∷ 1 ∷ 0 ∷ 2 ∷ 0 ∷ 3 ∷ 1 ∷ 2 ∷ 1 ∷ 3 ∷ 2 ∷ 3 ∷ []) }) (17 ∷ 144 ∷ 67 ∷ 8 ∷ 16 ∷ 1 ∷ 41 ∷ 16 ∷ 134 ∷ 16 ∷ 16 ∷ 35 ∷ 57 ∷ 80 ∷ 199 ∷ 24 ∷ 144 ∷ 133 ∷ 57 ∷ 128 ∷ [])
     yields verdicts (Verdict.Refused (record { number = 5; place = 0 }))
-    ∷ checked (record { xyz = (pos 0 ∷ pos 0 ∷ pos 0 ∷ pos 6 ∷ pos 0 ∷ pos 0 ∷ pos 0 ∷ pos 6 ∷ pos 0 ∷ pos 0 ∷ pos 0 ∷ pos 6 ∷ []); ends = (0 ∷ 1 ∷ 0 ∷ 2 ∷ 0 ∷ 3 ∷ 1 ∷ 2 ∷ 1 ∷ 3 ∷ 2 ∷ []) }) (17 ∷ 144 ∷ 67 ∷ 8 ∷ 16 ∷ 1 ∷ 41 ∷ 16 ∷ 134 ∷ 16 ∷ 16 ∷ 35 ∷ 57 ∷ 80 ∷ 199 ∷ 24 ∷ 144 ∷ 133 ∷ 57 ∷ 128 ∷ [])
+    ∷ checked (record { xyz = (pos 0 ∷ pos 0 ∷ pos 0 ∷ pos 6 ∷ pos 0 ∷ pos 0 ∷ pos 0 ∷ pos 6 ∷ pos 0 ∷ pos 0 ∷ pos 0 ∷ pos 6 ∷ []); ends = (0 ∷ 1 ∷ 0 ∷ 2 ∷ 0 ∷ 3 ∷ 1 ∷ 2 ∷ 1 ∷ 3 ∷ 2 ∷ 3 ∷ 3 ∷ []) }) (17 ∷ 144 ∷ 67 ∷ 8 ∷ 16 ∷ 1 ∷ 41 ∷ 16 ∷ 134 ∷ 16 ∷ 16 ∷ 35 ∷ 57 ∷ 80 ∷ 199 ∷ 24 ∷ 144 ∷ 133 ∷ 57 ∷ 128 ∷ [])
     yields verdicts (Verdict.Refused (record { number = 5; place = 1 }))
     ∷ checked (record { xyz = (pos 0 ∷ pos 0 ∷ pos 0 ∷ neg 1001 ∷ pos 0 ∷ pos 0 ∷ pos 0 ∷ pos 6 ∷ pos 0 ∷ pos 0 ∷ pos 0 ∷ pos 6 ∷ []); ends = (0 ∷ 1 ∷ 0 ∷ 2 ∷ 0 ∷ 3 ∷ 1 ∷ 2 ∷ 1 ∷ 3 ∷ 2 ∷ 3 ∷ []) }) (17 ∷ 144 ∷ 67 ∷ 8 ∷ 16 ∷ 1 ∷ 41 ∷ 16 ∷ 134 ∷ 16 ∷ 16 ∷ 35 ∷ 57 ∷ 80 ∷ 199 ∷ 24 ∷ 144 ∷ 133 ∷ 57 ∷ 128 ∷ [])
     yields verdicts (Verdict.Refused (record { number = 8; place = 3 }))

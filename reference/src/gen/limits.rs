@@ -1,5 +1,5 @@
 //! Cases at the limits of the document, and for each number of the table a drawing, a sheet or a list that it refuses.
-use super::ambiguous::{general, mirrored_octahedra};
+use super::ambiguous::general;
 use super::bodies::pyramid;
 use super::flat::{convex, lift, Spot};
 use super::known::*;
@@ -47,13 +47,12 @@ pub fn pierced() -> Drawing {
     ordered(d.vertices, d.edges)
 }
 
-/// The mirrored octahedra with some corners moved, so that fewer loops are in one plane: nine solids.
+/// Nine points with 33 loops, all of them candidates, and nine solids.
 pub fn nine_solids() -> Drawing {
-    let mut d = mirrored_octahedra(true);
-    for (vertex, place) in [(1, [-1, 3, -1]), (3, [0, -1, 3]), (5, [-3, 1, 0]), (9, [1, 5, 4])] {
-        d.vertices[vertex] = place;
-    }
-    d
+    let places =
+        [[4, 12, 0], [0, 0, 4], [4, 12, 12], [5, 8, 8], [4, 0, 12], [1, 14, 4], [8, 8, 6], [4, 8, 8], [4, 2, 4]];
+    let apart = [(0, 2), (0, 3), (0, 4), (1, 6), (2, 7), (2, 8), (4, 5), (4, 7), (5, 8)];
+    ordered(places.to_vec(), pairs(9, |a, b| !apart.contains(&(a, b))))
 }
 
 /// The tetrahedron with something changed.
@@ -97,9 +96,10 @@ pub fn unruly() -> Vec<Drawing> {
 pub fn lists_alone() -> Vec<(Vec<i64>, Vec<i64>)> {
     let (xyz, ends) = tetrahedron().lists();
     let low = xyz.iter().enumerate().map(|(k, c)| if k == 3 { -1_001 } else { *c }).collect();
-    vec![([&xyz[..], &[0]].concat(), ends.clone()), (xyz, ends[..11].to_vec()), (low, ends)]
+    vec![([&xyz[..], &[0]].concat(), ends.clone()), (xyz, [&ends[..], &[3]].concat()), (low, ends)]
 }
 
+/// All of these as two lists.
 pub fn refused_lists() -> Vec<(Vec<i64>, Vec<i64>)> {
     lists_alone().into_iter().chain([misshapen(), unruly()].concat().iter().map(Drawing::lists)).collect()
 }
@@ -107,6 +107,7 @@ pub fn refused_lists() -> Vec<(Vec<i64>, Vec<i64>)> {
 /// The cube's faces, outward: bottom, four walls, top.
 const OUTWARD: [[usize; 4]; 6] = [[2, 3, 1, 0], [0, 1, 5, 4], [4, 6, 2, 0], [1, 3, 7, 5], [6, 7, 3, 2], [4, 5, 7, 6]];
 
+/// The cube's face list with something changed.
 pub fn faces_with(change: impl Fn(&mut Vec<Loop>)) -> Vec<u8> {
     let mut faces = OUTWARD.map(|face| face.to_vec()).to_vec();
     change(&mut faces);

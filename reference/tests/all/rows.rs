@@ -1,4 +1,8 @@
 //! The rows: repeatable, small, and between them every refusal.
+use nibgravel_reference::convert::{convert_most, Answer};
+use nibgravel_reference::drawing::Source;
+use nibgravel_reference::gen::limits::nine_solids;
+use nibgravel_reference::numbers::{FACE_ROOM, MOST_WORK};
 use nibgravel_reference::rows::{limits, row, Order, KINDS, SMALL};
 use std::collections::BTreeSet;
 
@@ -77,4 +81,11 @@ fn limits_meet_every_number_and_reading() {
     for text in ["solids 1\\n", "solids 3\\n", "no solid\\n", "many\\n", "refused 14 4\\n"] {
         assert!(of("desk").iter().any(|row| row.contains(text)), "{text}");
     }
+}
+
+#[test]
+fn nine_solids_are_nine() {
+    let (xyz, ends) = nine_solids().lists();
+    let answer = convert_most(9, Source::Lists(&xyz, &ends), MOST_WORK, &mut [0; FACE_ROOM], &mut [0; 27]);
+    assert!(matches!(answer, Answer::Report { solids: 9, .. }), "{answer:?}");
 }
