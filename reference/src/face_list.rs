@@ -1,4 +1,4 @@
-//! The packed face list: reading it (refusal 20) and writing it.
+//! The packed face list: reading it (refusal 20), writing it, and a reported solid written as one.
 use crate::bits::{FieldReader, FieldWriter};
 use crate::drawing::Loop;
 use crate::numbers::*;
@@ -41,4 +41,27 @@ pub fn pack_faces(faces: &[Loop]) -> Vec<u8> {
         }
     }
     fields.bytes()
+}
+
+/// Writes a solid as a face list, from the rows of a report and the solid's first two words: its faces in order, turned
+/// ones from the same corner the other way round. 20 where they make no list, 1 where the room is shorter than it.
+pub fn send_solid(rows: &[u8], taken: u64, turned: u64, room: &mut [u8]) -> Result<usize, Refusal> {
+    let chosen = (0..MOST_CANDIDATES).filter(|c| taken >> c & 1 == 1);
+    let faces = chosen.map(|c| row_face(rows, c, turned >> c & 1 == 1)).collect::<Option<Vec<Loop>>>();
+    let Some(faces) = faces.filter(|faces| FACES.contains(&faces.len())) else { return refuse(SHELL_SHAPE, 0) };
+    let list = pack_faces(&faces);
+    let Some(part) = room.get_mut(..list.len()) else { return refuse(NO_ROOM, 0) };
+    part.copy_from_slice(&list);
+    Ok(list.len())
+}
+
+/// The face in row c, if the row is there and holds one.
+fn row_face(rows: &[u8], c: usize, turned: bool) -> Option<Loop> {
+    let row = rows.get(FACE_ROW * c..FACE_ROW * (c + 1))?;
+    let corners = Some(row[0] as usize).filter(|corners| CORNERS.contains(corners))?;
+    let mut face: Loop = row[1..=corners].iter().map(|corner| *corner as usize).collect();
+    if turned {
+        face[1..].reverse();
+    }
+    Some(face).filter(|face| face.iter().all(|corner| *corner < *VERTICES.end()))
 }

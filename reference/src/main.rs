@@ -39,6 +39,10 @@ reference: document 01 in plain Rust, in a clear version and a fast one
       --cap C                the most solids reported, 1 to 8 (8); not for the desk, which has 8
       --size small|any       small: 4 to 10 vertices mostly, a few up to 16, little work (small)
 
+  reference limits
+      prints fixed cases in the same form: each number of the table by each function that gives it, each reading, each
+      text of the desk, and the document's limits
+
   reference trial KIND DIR
       writes what a trial program reads, DIR/stdin, and what it must print, DIR/stdout. KIND is sheet (sheets read and
       written back) or geometry (drawing rules 11 to 14, and clash and cover of faces)
@@ -64,6 +68,7 @@ fn run(args: Args) -> Result<(), String> {
         Some("stats") => command::stats::stats(&args),
         Some("bench") => command::bench::bench(&args),
         Some("rows") => command::texts::rows(&args),
+        Some("limits") => command::texts::limits(&args),
         Some("trial") => command::trial::trial(&args),
         Some("help") | None => {
             print!("{HELP}");

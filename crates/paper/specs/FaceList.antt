@@ -75,7 +75,11 @@ module _ (f : Format) where
   unfoldable pub facesOf : ℕ → List ℕ → Faces
   facesOf v s =
       cond (wellShaped v s)
-      (record { answer = Answer.Fine; count = countIn s; rows = padded (flatMap row (facesIn s)) (rowBytes * editionOne .«most_faces») 0 })
+      (record {
+        answer = Answer.Fine;
+        count = countIn s;
+        rows = padded (flatMap row (facesIn s)) (rowBytes * editionOne .«most_faces») 0;
+      })
       noFaces
 
 -- ---- a reported solid, sent as a list: from the rows of a report and the first two words of the solid

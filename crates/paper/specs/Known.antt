@@ -8,22 +8,27 @@ use mathlib.Core.Bool.{true, false}
 use mathlib.Core.List.{List, [], _∷_, _++_, flatMap}
 use lib.IntN.{pos}
 use lib.ListN.{replicate}
-use Rattle.paper.specs.Numbers.{mostWork}
+use lib.Ieee.{binary64, ofBits}
+use Rattle.paper.specs.Numbers.{mostSolids, mostWork}
 use Rattle.paper.specs.Refusals as No
 use Rattle.paper.specs.Refusals.{refuse}
 use Rattle.paper.specs.Loops.{row}
 use Rattle.paper.specs.Reading.{volume}
 use Rattle.paper.specs.Desk.{text}
-use Rattle.paper.specs.Questions.{converted, faced, printed, sized, lent, sent, paired, covering, selected, solved, bytes, number, answer, verdicts, rules, tests, faceBefore, solidBefore, Row, _yields_, asked, said, Holds}
-use Rattle.paper.specs.Known.Drawings.{tetrahedron, cube, outward, inward, openCube, octahedron, nested, centred, touching, eight, sixEnds}
+use Rattle.paper.specs.Questions.{converted, faced, wholly, printed, sized, lent, sent, paired, covering, selected, read, worded}
+use Rattle.paper.specs.Questions.{enclosed, posted, solved, left, bytes, number, answer, wrote, verdicts, rules, tests, reads}
+use Rattle.paper.specs.Questions.{faceBefore, solidBefore, Case, _yields_, asked, said, Holds}
+use Rattle.paper.specs.Known.Drawings.{tetrahedron, corners, cube, outward, inward, openCube, octahedron, nested, centred, touching}
+use Rattle.paper.specs.Known.Drawings.{eight, sixEnds}
 use Rattle.paper.specs.Known.Polygons as Faces
 use Rattle.paper.specs.declared.Answer.the-variants as Answer
+use Rattle.paper.specs.declared.Written.the-variants as Written
 use Rattle.paper.specs.declared.Conversion.the-variants as Conversion
 use Rattle.paper.specs.declared.Verdict.the-variants as Verdict
 use Rattle.paper.specs.declared.Reading.the-variants as Reading
 
-unfoldable pub table : List Row
-unfolding flatMap row text volume
+unfoldable pub table : List Case
+unfolding flatMap row text volume ofBits
 table =
     -- "Pairs": A, none, B, C
     paired Faces.face Faces.piercing yields rules true false false
@@ -46,8 +51,29 @@ table =
     ∷ lent (record { xyz = replicate 99 (pos 1000); ends = sixEnds }) yields answer (refuse No.BadCount 0)
     ∷ lent (record { xyz = replicate 95 (pos 1000) ++ (pos 1001 ∷ []); ends = sixEnds }) yields answer (refuse No.BadCoordinate 95)
     ∷ sized (record { xyz = replicate 96 (pos 0); ends = replicate 128 0 }) yields number 215
+    -- "a volume in cubic metres as a double": 3.6e-5 by its bits; "or "not assessed" with a number from the table, or 30"
+    ∷ read (Conversion.One 4 4 0 216) yields reads (Reading.Volume (ofBits binary64 4540437487055317823))
+    ∷ read (Conversion.Several 24 24 4 3) yields reads (Reading.NotAssessed 30)
+    ∷ read (Conversion.NoSolid 4 4 0) yields reads (Reading.NotAssessed 17)
+    ∷ read (Conversion.Many 18 18 4) yields reads (Reading.NotAssessed 18)
+    ∷ read (Conversion.TooLong 11 11 3) yields reads (Reading.NotAssessed 19)
+    ∷ read (Conversion.Refused (record { number = 5; place = 0 })) yields reads (Reading.NotAssessed 5)
+    -- "the line after `work` is the last and reads `no solid`, `many` or `too long`; for another refusal the only line is `refused`"
+    ∷ worded 8 11 (Conversion.NoSolid 4 4 0) [] yields bytes (text "wire 8 11\nloops 4 candidates 4\nwork 0\nno solid\n")
+    ∷ worded 9 20 (Conversion.Many 18 18 4) [] yields bytes (text "wire 9 20\nloops 18 candidates 18\nwork 4\nmany\n")
+    ∷ worded 6 12 (Conversion.TooLong 11 11 3) [] yields bytes (text "wire 6 12\nloops 11 candidates 11\nwork 3\ntoo long\n")
+    ∷ worded 0 0 (Conversion.Refused (record { number = 13; place = 20 })) [] yields bytes (text "refused 13 20\n")
+    -- "under 832 bytes for faces; under 24 words for solids"
+    ∷ wholly mostSolids tetrahedron mostWork 831 24
+    yields left (Conversion.Refused (record { number = 1; place = 0 })) (faceBefore 831) (solidBefore 24)
+    ∷ wholly mostSolids tetrahedron mostWork 832 23
+    yields left (Conversion.Refused (record { number = 1; place = 1 })) (faceBefore 832) (solidBefore 23)
+    -- the tetrahedron's solid written as a face list, its turned faces the other way round; later room is kept
+    ∷ posted (flatMap row corners) 15 5 12
+    yields wrote (Written.Bytes 11) (17 ∷ 12 ∷ 2 ∷ 9 ∷ 128 ∷ 35 ∷ 48 ∷ 12 ∷ 70 ∷ 17 ∷ 12 ∷ faceBefore 1)
     -- "4 loops, work 0, six volumes 216"; its rows in the face room; "A tetrahedron takes 27 bytes"
-    ∷ converted tetrahedron mostWork yields solved (Conversion.One 4 4 0 216) (Reading.Volume (volume 216)) (15 ∷ 5 ∷ 216 ∷ solidBefore 21)
+    ∷ converted tetrahedron mostWork yields solved (Conversion.One 4 4 0 216) (Reading.Volume (volume 216))
+    (15 ∷ 5 ∷ 216 ∷ solidBefore 21)
     ∷ faced tetrahedron
     yields bytes (flatMap row ((0 ∷ 1 ∷ 2 ∷ []) ∷ (0 ∷ 1 ∷ 3 ∷ []) ∷ (0 ∷ 2 ∷ 3 ∷ []) ∷ (1 ∷ 2 ∷ 3 ∷ []) ∷ []) ++ faceBefore 780)
     ∷ sized tetrahedron yields number 27
@@ -55,6 +81,9 @@ table =
     ∷ converted cube mostWork yields solved (Conversion.One 6 6 0 6000) (Reading.Volume (volume 6000)) (63 ∷ 21 ∷ 6000 ∷ solidBefore 21)
     ∷ sent cube outward yields verdicts Verdict.Accepted
     ∷ sent cube inward yields verdicts (Verdict.Refused (record { number = 26; place = 0 }))
+    -- the same by its sheet; without the edge that two of the faces have, those are no candidates
+    ∷ enclosed cube outward yields verdicts Verdict.Accepted
+    ∷ enclosed openCube outward yields verdicts (Verdict.Refused (record { number = 21; place = 0 }))
     ∷ converted openCube mostWork yields solved (Conversion.NoSolid 4 4 0) (Reading.NotAssessed 17) (solidBefore 24)
     -- "11 candidates, work 4, three selections, two fail (iii), one solid. With limit 3: TooLong."; "prints exactly"
     ∷ converted octahedron mostWork

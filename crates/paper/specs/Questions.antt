@@ -6,6 +6,7 @@ use mathlib.Core.Bool.{Bool, true, _||_}
 use mathlib.Core.List.{List, [], _∷_, map, flatMap}
 use lib.IntN.{ℤ, pos, negℤ}
 use lib.ListN.{length, replicate}
+use lib.Ieee.{div, ofInt}
 use Rattle.pack.specs.Bits.{bits, val, run, cut, fieldAt, fieldsAt}
 use Rattle.pack.specs.Fill.{padded}
 use Rattle.sets.specs.Word as Word
@@ -14,17 +15,25 @@ use Rattle.lists.specs.Lists.{any, all, filter, sides, anyTrue, upto, lowest, m
 use Rattle.paper.specs.Numbers.{mostSolids, mostWork, faceRoom, solidRoom}
 use Rattle.paper.specs.Refusals.{firstOf}
 use Rattle.paper.specs.Format.{editionOne, filled, fillAfter, encode}
-use Rattle.paper.specs.Sheet.{farAt, wrongAt, lowAt, edgeChecks, contentChecks, openChecks, countChecks, closeChecks, shapeChecks, sheetChecks, lentChecks, sheetOf, writerChecks, writtenOf, roomOf}
+use Rattle.paper.specs.Sheet.{farAt, wrongAt, lowAt, edgeChecks, contentChecks, openChecks, countChecks, closeChecks, shapeChecks}
+use Rattle.paper.specs.Sheet.{sheetChecks, lentChecks, sheetOf, writerChecks, writtenOf, roomOf}
 use Rattle.paper.specs.Points.{above}
 use Rattle.paper.specs.Polygon.{covers}
 use Rattle.paper.specs.Drawing.{pointsOf, wire, joined, drawingChecks}
-use Rattle.paper.specs.Loops.{flipped, row, follows, closes, branch, scan, ext, level, loops, polygon, uncovering, candidates, loopChecks}
+use Rattle.paper.specs.Loops.{flipped, row, follows, closes, branch, scan, ext, level, loops, polygon, uncovering, candidates}
+use Rattle.paper.specs.Loops.{loopChecks}
 use Rattle.paper.specs.Clash.{pierces, enters, folds, clash}
-use Rattle.paper.specs.Solids.{runs, runsUp, has, faceSix, clashing, tablesOf, inTwo, unlike, fresh, known, runsDown, acrossEdge, pass, spread, facesFrom, connected, onceEachWay, oriented, sixFrom, clearFrom, judged}
-use Rattle.paper.specs.Walk.{takenOn, openOn, openCount, decide, contradicts, settle, sweep, stable, choose, assume, leaf, walk, search}
-use Rattle.paper.specs.Conversion.{takens, accepted, facesAfter, words, solidsAfter, reported, concluded, entryChecks, conversion, convertLists, convertSheet}
-use Rattle.paper.specs.FaceList.{faceBits, listBits, encodeFaces, facesAt, facesIn, span, bitsOf, faceFits, wellShaped}
-use Rattle.paper.specs.Verdict.{lowestAt, fromPlace, fromLowest, onward, normalForm, numberIn, maskOf, listed, notCandidate, faceTwice, edgeCount, direction, pieces, inward, clashes, faceChecks, verdict, verdictLists}
+use Rattle.paper.specs.Solids.{runs, runsUp, has, faceSix, clashing, tablesOf, inTwo, unlike, fresh, known, runsDown, acrossEdge}
+use Rattle.paper.specs.Solids.{pass, spread, facesFrom, connected, onceEachWay, oriented, sixFrom, clearFrom, judged}
+use Rattle.paper.specs.Walk.{takenOn, openOn, openCount, decide, contradicts, settle, sweep, stable, choose, assume, leaf, walk}
+use Rattle.paper.specs.Walk.{search}
+use Rattle.paper.specs.Conversion.{takens, accepted, facesAfter, words, solidsAfter, reported, concluded, entryChecks, conversion}
+use Rattle.paper.specs.Conversion.{convertLists, convertSheet}
+use Rattle.paper.specs.FaceList.{faceBits, listBits, encodeFaces, facesAt, facesIn, span, bitsOf, faceFits, wellShaped, rowAt}
+use Rattle.paper.specs.FaceList.{solidFaces, sendChecks, sentOf, sentRoom}
+use Rattle.paper.specs.Verdict.{lowestAt, fromPlace, fromLowest, onward, normalForm, numberIn, maskOf, listed, notCandidate}
+use Rattle.paper.specs.Verdict.{faceTwice, edgeCount, direction, pieces, inward, clashes, faceChecks, verdict, verdictLists}
+use Rattle.paper.specs.Verdict.{verdictSheet}
 use Rattle.paper.specs.Reading.{readingOf}
 use Rattle.paper.specs.Desk.{text, decimalIn, decimal, signed, facesText, solidText, solidsText, headText, answerText, deskText}
 use Rattle.paper.specs.declared.Answer.{Answer}
@@ -64,6 +73,14 @@ pub data Question : Type 0 where
   covering : List ℤ → List ℤ → Question
   -- the selections that have every edge twice, as the walk meets them: do they pass (iii)?
   selected : Drawn → Question
+  -- an answer of conversion: its reading; what the desk program prints of it, the solids in these words
+  read : Conversion → Question
+  worded : (vertices edges : ℕ) → Conversion → (words : List ℕ) → Question
+  -- a packed list of faces sent for a sheet; a list of faces for a drawing's sheet
+  ruled : (sheet list : List ℕ) → Question
+  enclosed : Drawn → List (List ℕ) → Question
+  -- a reported solid, by the rows of the report and its first two words, written as a face list to room of a length
+  posted : (rows : List ℕ) → (taken turned room : ℕ) → Question
 
 pub data Reply : Type 0 where
   solved : Conversion → Reading → List ℕ → Reply
@@ -76,6 +93,7 @@ pub data Reply : Type 0 where
   verdicts : Verdict → Reply
   rules : (A B C : Bool) → Reply
   tests : List Bool → Reply
+  reads : Reading → Reply
 
 -- rooms that were not empty before: later room keeps its contents
 abbrev pub faceBefore : ℕ → List ℕ
@@ -95,7 +113,16 @@ selections d =
     (search mostSolids (λ st. true) mostWork (length cs) (t .masks) .found)
 
 unfoldable pub reply : Question → Reply
-unfolding bits val run cut fieldAt fieldsAt Word.digits word count both either less only first any all filter sides anyTrue upto lowest member sameList flatMap firstOf filled fillAfter encode farAt wrongAt lowAt edgeChecks contentChecks openChecks countChecks closeChecks shapeChecks sheetChecks lentChecks padded sheetOf writerChecks writtenOf roomOf above covers pointsOf wire joined drawingChecks row follows closes branch scan ext level loops polygon uncovering candidates loopChecks pierces enters folds clash runs runsUp has faceSix clashing tablesOf inTwo unlike fresh known runsDown acrossEdge pass spread facesFrom connected onceEachWay oriented sixFrom clearFrom judged takenOn openOn openCount decide contradicts settle sweep stable choose assume leaf walk search accepted facesAfter words solidsAfter reported concluded entryChecks conversion convertLists convertSheet faceBits listBits encodeFaces facesAt facesIn span bitsOf faceFits wellShaped lowestAt fromPlace flipped fromLowest onward normalForm numberIn maskOf listed notCandidate faceTwice edgeCount direction pieces inward clashes faceChecks verdict verdictLists readingOf text decimalIn decimal signed facesText solidText solidsText headText answerText deskText selections
+unfolding bits val run cut fieldAt fieldsAt Word.digits word count both either less only first any all filter sides anyTrue upto lowest
+    member sameList flatMap firstOf filled fillAfter encode farAt wrongAt lowAt edgeChecks contentChecks openChecks countChecks
+    closeChecks shapeChecks sheetChecks lentChecks padded sheetOf writerChecks writtenOf roomOf above covers pointsOf wire joined
+    drawingChecks row follows closes branch scan ext level loops polygon uncovering candidates loopChecks pierces enters folds clash runs
+    runsUp has faceSix clashing tablesOf inTwo unlike fresh known runsDown acrossEdge pass spread facesFrom connected onceEachWay oriented
+    sixFrom clearFrom judged takenOn openOn openCount decide contradicts settle sweep stable choose assume leaf walk search accepted
+    facesAfter words solidsAfter reported concluded entryChecks conversion convertLists convertSheet faceBits listBits encodeFaces facesAt
+    facesIn span bitsOf faceFits wellShaped lowestAt fromPlace flipped fromLowest onward normalForm numberIn maskOf listed notCandidate
+    faceTwice edgeCount direction pieces inward clashes faceChecks verdict verdictLists readingOf text decimalIn decimal signed facesText
+    solidText solidsText headText answerText deskText selections
 reply (converted d limit) =
     let c = convertLists (d .xyz) (d .ends) limit (faceBefore faceRoom) (solidBefore solidRoom) in
     solved (c .answer) (readingOf (c .answer)) (c .solids)
@@ -117,19 +144,26 @@ reply (paired f g) =
     rules (pierces p q || pierces q p) (enters p q || enters q p) (folds p q || folds q p)
 reply (covering f g) = tests (covers (pointsOf f) (pointsOf g) ∷ [])
 reply (selected d) = tests (selections d)
+reply (read c) = reads (readingOf c)
+reply (worded v e c ws) = bytes (answerText v e c ws)
+reply (ruled s list) = verdicts (verdictSheet s list)
+reply (enclosed d fs) = verdicts (verdictSheet (encode editionOne (d .xyz) (d .ends)) (encodeFaces editionOne fs))
+reply (posted rows taken turned n) =
+    let fs = solidFaces rows taken turned in
+    wrote (sentOf editionOne fs (faceBefore n)) (sentRoom editionOne fs (faceBefore n))
 
 infix 80 _yields_
-pub data Row : Type 0 where
-  _yields_ : Question → Reply → Row
+pub data Case : Type 0 where
+  _yields_ : Question → Reply → Case
 
 -- what a row asks, and what it says
-unfoldable pub asked : Row → Reply
-unfolding reply
+unfoldable pub asked : Case → Reply
+unfolding reply div ofInt verdictSheet rowAt solidFaces sendChecks sentOf sentRoom
 asked (q yields r) = reply q
 
-unfoldable pub said : Row → Reply
+unfoldable pub said : Case → Reply
 said (q yields r) = r
 
 -- every row of a table says what the definitions reply
-abbrev pub Holds : List Row → Type 0
+abbrev pub Holds : List Case → Type 0
 Holds rows = map asked rows ≡ map said rows

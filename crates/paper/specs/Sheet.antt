@@ -12,7 +12,8 @@ use Rattle.lists.specs.Lists.{lowest}
 use Rattle.paper.specs.Numbers.{farthest}
 use Rattle.paper.specs.Refusals as No
 use Rattle.paper.specs.Refusals.{Check, check, firstOf, offends}
-use Rattle.paper.specs.Format.{editionOne, leastVertices, leastEdges, editionBits, outside, total, bytesFor, fillAfter, verticesIn, edgesIn, coordinatesIn, endsIn, encode}
+use Rattle.paper.specs.Format.{editionOne, leastVertices, leastEdges, editionBits, outside, total, bytesFor, fillAfter, verticesIn}
+use Rattle.paper.specs.Format.{edgesIn, coordinatesIn, endsIn, encode}
 use Rattle.paper.specs.declared.Format.{Format}
 use Rattle.paper.specs.declared.Answer.{Answer}
 use Rattle.paper.specs.declared.Answer.the-variants as Answer
@@ -86,7 +87,13 @@ module _ (f : Format) (s : List ℕ) where
 
 -- "returns the drawing by value": entries past the counts are 0, and a sheet that is refused returns a blank one
 abbrev pub held : ℕ → ℕ → List ℤ → List ℕ → Drawing
-held v e xyz ends = record { vertices = v; edges = e; xyz = padded xyz (3 * editionOne .«most_vertices») (pos 0); ends = padded ends (2 * editionOne .«most_edges») 0 }
+held v e xyz ends =
+    record {
+      vertices = v;
+      edges = e;
+      xyz = padded xyz (3 * editionOne .«most_vertices») (pos 0);
+      ends = padded ends (2 * editionOne .«most_edges») 0;
+    }
 
 abbrev pub blank : Drawing
 blank = held 0 0 [] []

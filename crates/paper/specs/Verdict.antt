@@ -64,7 +64,11 @@ pub record Listed : Type 0 where
 unfoldable pub listed : List Loop → List (List ℕ) → Listed
 listed cs fs =
     let ks = map (numberIn cs) fs in
-    record { numbers = ks; taken = maskOf (length cs) ks; turned = maskOf (length cs) (map (numberIn cs) (filter (λ f. not (onward f)) fs)) }
+    record {
+      numbers = ks;
+      taken = maskOf (length cs) ks;
+      turned = maskOf (length cs) (map (numberIn cs) (filter (λ f. not (onward f)) fs));
+    }
 
 -- 21: no candidate. 22: equal to an earlier one
 unfoldable pub notCandidate : ℕ → List ℕ → Option ℕ

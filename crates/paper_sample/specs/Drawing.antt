@@ -3,16 +3,18 @@ use mathlib.Core.Path.{refl}
 use mathlib.Core.Bool.{true, false}
 use mathlib.Core.List.{List, [], _∷_, _++_}
 use lib.IntN.{pos}
+use lib.Ieee.{binary64, ofBits}
 use Rattle.paper.specs.Sheet.{held, blank}
 use Rattle.paper.specs.Desk.{text}
-use Rattle.paper.specs.Questions.{neg, wholly, fetched, stored, checked, paired, covering, desk, left, wrote, sheet, bytes, verdicts, rules, tests, faceBefore, solidBefore, Row, _yields_, asked, said, Holds}
+use Rattle.paper.specs.Questions.{neg, wholly, fetched, stored, checked, paired, covering, desk, read, ruled, posted, left, wrote, sheet, bytes, verdicts, rules, tests, reads, faceBefore, solidBefore, Case, _yields_, asked, said, Holds}
 use Rattle.paper.specs.declared.Answer.the-variants as Answer
 use Rattle.paper.specs.declared.Written.the-variants as Written
 use Rattle.paper.specs.declared.Conversion.the-variants as Conversion
 use Rattle.paper.specs.declared.Verdict.the-variants as Verdict
+use Rattle.paper.specs.declared.Reading.the-variants as Reading
 
-unfoldable pub rows0 : List Row
-unfolding text
+unfoldable pub rows0 : List Case
+unfolding text ofBits
 rows0 =
     wholly 8 (record { xyz = (pos 830 ∷ neg 372 ∷ pos 309 ∷ pos 1000 ∷ neg 441 ∷ pos 29 ∷ pos 762 ∷ neg 372 ∷ pos 309 ∷ pos 762 ∷ neg 326 ∷ pos 309 ∷ pos 1000 ∷ neg 257 ∷ pos 29 ∷ pos 728 ∷ neg 257 ∷ pos 29 ∷ pos 830 ∷ neg 326 ∷ pos 309 ∷ pos 728 ∷ neg 441 ∷ pos 29 ∷ []); ends = (0 ∷ 1 ∷ 0 ∷ 2 ∷ 0 ∷ 6 ∷ 1 ∷ 4 ∷ 1 ∷ 7 ∷ 2 ∷ 3 ∷ 2 ∷ 7 ∷ 3 ∷ 5 ∷ 3 ∷ 6 ∷ 4 ∷ 5 ∷ 4 ∷ 6 ∷ 5 ∷ 7 ∷ []) }) 23 840 27
     yields left (Conversion.One 6 6 0 36785280) ((4 ∷ 0 ∷ 1 ∷ 4 ∷ 6 ∷ 255 ∷ 255 ∷ 255 ∷ 255 ∷ 255 ∷ 255 ∷ 255 ∷ 255 ∷ 4 ∷ 0 ∷ 1 ∷ 7 ∷ 2 ∷ 255 ∷ 255 ∷ 255 ∷ 255 ∷ 255 ∷ 255 ∷ 255 ∷ 255 ∷ 4 ∷ 0 ∷ 2 ∷ 3 ∷ 6 ∷ 255 ∷ 255 ∷ 255 ∷ 255 ∷ 255 ∷ 255 ∷ 255 ∷ 255 ∷ 4 ∷ 1 ∷ 4 ∷ 5 ∷ 7 ∷ 255 ∷ 255 ∷ 255 ∷ 255 ∷ 255 ∷ 255 ∷ 255 ∷ 255 ∷ 4 ∷ 2 ∷ 3 ∷ 5 ∷ 7 ∷ 255 ∷ 255 ∷ 255 ∷ 255 ∷ 255 ∷ 255 ∷ 255 ∷ 255 ∷ 4 ∷ 3 ∷ 5 ∷ 4 ∷ 6 ∷ 255 ∷ 255 ∷ 255 ∷ 255 ∷ 255 ∷ 255 ∷ 255 ∷ 255 ∷ []) ++ faceBefore 762) ((63 ∷ 46 ∷ 36785280 ∷ []) ++ solidBefore 24)
@@ -26,8 +28,8 @@ pub hold0 : Holds rows0
 unfolding rows0 asked said
 hold0 = refl
 
-unfoldable pub rows1 : List Row
-unfolding text
+unfoldable pub rows1 : List Case
+unfolding text ofBits
 rows1 =
     wholly 8 (record { xyz = (pos 10 ∷ pos 0 ∷ pos 0 ∷ neg 10 ∷ pos 0 ∷ pos 0 ∷ pos 0 ∷ pos 10 ∷ pos 0 ∷ []); ends = (0 ∷ 2 ∷ 0 ∷ 3 ∷ 0 ∷ 4 ∷ 0 ∷ 5 ∷ 1 ∷ 2 ∷ 1 ∷ 3 ∷ 1 ∷ 4 ∷ 1 ∷ 5 ∷ 2 ∷ 4 ∷ 2 ∷ 5 ∷ 3 ∷ 4 ∷ 3 ∷ 5 ∷ []) }) 1000000 832 24
     yields left (Conversion.Refused (record { number = 5; place = 0 })) (([]) ++ faceBefore 832) (([]) ++ solidBefore 24)
@@ -41,8 +43,8 @@ pub hold1 : Holds rows1
 unfolding rows1 asked said
 hold1 = refl
 
-unfoldable pub rows2 : List Row
-unfolding text
+unfoldable pub rows2 : List Case
+unfolding text ofBits
 rows2 =
     wholly 8 (record { xyz = (pos 227 ∷ pos 999 ∷ neg 999 ∷ pos 0 ∷ pos 0 ∷ pos 0 ∷ pos 3 ∷ pos 0 ∷ pos 0 ∷ pos 0 ∷ pos 3 ∷ pos 0 ∷ pos 0 ∷ pos 0 ∷ pos 3 ∷ pos 3 ∷ pos 3 ∷ pos 0 ∷ pos 3 ∷ pos 0 ∷ pos 3 ∷ pos 0 ∷ pos 3 ∷ pos 3 ∷ pos 3 ∷ pos 3 ∷ pos 3 ∷ []); ends = (0 ∷ 1 ∷ 0 ∷ 2 ∷ 0 ∷ 3 ∷ 1 ∷ 4 ∷ 1 ∷ 5 ∷ 2 ∷ 4 ∷ 2 ∷ 6 ∷ 3 ∷ 5 ∷ 3 ∷ 6 ∷ 4 ∷ 7 ∷ 5 ∷ 7 ∷ 6 ∷ 7 ∷ []) }) 1 832 24
     yields left (Conversion.Refused (record { number = 12; place = 8 })) (([]) ++ faceBefore 832) (([]) ++ solidBefore 24)
@@ -56,8 +58,8 @@ pub hold2 : Holds rows2
 unfolding rows2 asked said
 hold2 = refl
 
-unfoldable pub rows3 : List Row
-unfolding text
+unfoldable pub rows3 : List Case
+unfolding text ofBits
 rows3 =
     wholly 8 (record { xyz = (neg 10 ∷ pos 0 ∷ pos 0 ∷ pos 0 ∷ neg 10 ∷ pos 0 ∷ pos 0 ∷ pos 0 ∷ neg 10 ∷ pos 10 ∷ pos 0 ∷ pos 0 ∷ pos 0 ∷ pos 0 ∷ pos 10 ∷ pos 0 ∷ pos 10 ∷ pos 0 ∷ []); ends = (0 ∷ 1 ∷ 0 ∷ 2 ∷ 0 ∷ 4 ∷ 0 ∷ 5 ∷ 1 ∷ 2 ∷ 1 ∷ 3 ∷ 1 ∷ 4 ∷ 2 ∷ 3 ∷ 2 ∷ 5 ∷ 3 ∷ 4 ∷ 3 ∷ 5 ∷ 4 ∷ 5 ∷ []) }) 3 832 24
     yields left (Conversion.TooLong 11 11 3) (([]) ++ faceBefore 832) (([]) ++ solidBefore 24)
@@ -71,8 +73,8 @@ pub hold3 : Holds rows3
 unfolding rows3 asked said
 hold3 = refl
 
-unfoldable pub rows4 : List Row
-unfolding text
+unfoldable pub rows4 : List Case
+unfolding text ofBits
 rows4 =
     wholly 8 (record { xyz = (pos 990 ∷ pos 198 ∷ neg 980 ∷ pos 990 ∷ pos 198 ∷ neg 1000 ∷ pos 990 ∷ pos 208 ∷ neg 980 ∷ pos 990 ∷ pos 188 ∷ neg 1000 ∷ pos 1000 ∷ pos 208 ∷ neg 1000 ∷ pos 982 ∷ pos 190 ∷ neg 982 ∷ []); ends = (0 ∷ 2 ∷ 0 ∷ 3 ∷ 0 ∷ 4 ∷ 0 ∷ 5 ∷ 1 ∷ 2 ∷ 1 ∷ 3 ∷ 1 ∷ 4 ∷ 1 ∷ 5 ∷ 2 ∷ 4 ∷ 2 ∷ 5 ∷ 3 ∷ 4 ∷ 3 ∷ 5 ∷ []) }) 16 840 27
     yields left (Conversion.One 11 11 4 7200) ((4 ∷ 0 ∷ 2 ∷ 1 ∷ 3 ∷ 255 ∷ 255 ∷ 255 ∷ 255 ∷ 255 ∷ 255 ∷ 255 ∷ 255 ∷ 3 ∷ 0 ∷ 2 ∷ 4 ∷ 255 ∷ 255 ∷ 255 ∷ 255 ∷ 255 ∷ 255 ∷ 255 ∷ 255 ∷ 255 ∷ 3 ∷ 0 ∷ 2 ∷ 5 ∷ 255 ∷ 255 ∷ 255 ∷ 255 ∷ 255 ∷ 255 ∷ 255 ∷ 255 ∷ 255 ∷ 3 ∷ 0 ∷ 3 ∷ 4 ∷ 255 ∷ 255 ∷ 255 ∷ 255 ∷ 255 ∷ 255 ∷ 255 ∷ 255 ∷ 255 ∷ 3 ∷ 0 ∷ 3 ∷ 5 ∷ 255 ∷ 255 ∷ 255 ∷ 255 ∷ 255 ∷ 255 ∷ 255 ∷ 255 ∷ 255 ∷ 4 ∷ 0 ∷ 4 ∷ 1 ∷ 5 ∷ 255 ∷ 255 ∷ 255 ∷ 255 ∷ 255 ∷ 255 ∷ 255 ∷ 255 ∷ 3 ∷ 1 ∷ 2 ∷ 4 ∷ 255 ∷ 255 ∷ 255 ∷ 255 ∷ 255 ∷ 255 ∷ 255 ∷ 255 ∷ 255 ∷ 3 ∷ 1 ∷ 2 ∷ 5 ∷ 255 ∷ 255 ∷ 255 ∷ 255 ∷ 255 ∷ 255 ∷ 255 ∷ 255 ∷ 255 ∷ 3 ∷ 1 ∷ 3 ∷ 4 ∷ 255 ∷ 255 ∷ 255 ∷ 255 ∷ 255 ∷ 255 ∷ 255 ∷ 255 ∷ 255 ∷ 3 ∷ 1 ∷ 3 ∷ 5 ∷ 255 ∷ 255 ∷ 255 ∷ 255 ∷ 255 ∷ 255 ∷ 255 ∷ 255 ∷ 255 ∷ 4 ∷ 2 ∷ 4 ∷ 3 ∷ 5 ∷ 255 ∷ 255 ∷ 255 ∷ 255 ∷ 255 ∷ 255 ∷ 255 ∷ 255 ∷ []) ++ faceBefore 697) ((990 ∷ 402 ∷ 7200 ∷ []) ++ solidBefore 24)
@@ -86,8 +88,8 @@ pub hold4 : Holds rows4
 unfolding rows4 asked said
 hold4 = refl
 
-unfoldable pub rows5 : List Row
-unfolding text
+unfoldable pub rows5 : List Case
+unfolding text ofBits
 rows5 =
     wholly 1 (record { xyz = (neg 7 ∷ neg 4 ∷ pos 0 ∷ neg 4 ∷ neg 7 ∷ pos 0 ∷ pos 2 ∷ pos 3 ∷ pos 0 ∷ pos 0 ∷ pos 6 ∷ pos 0 ∷ pos 1 ∷ pos 2 ∷ pos 5 ∷ pos 6 ∷ neg 5 ∷ pos 0 ∷ pos 3 ∷ pos 9 ∷ pos 0 ∷ []); ends = (0 ∷ 1 ∷ 0 ∷ 3 ∷ 0 ∷ 4 ∷ 1 ∷ 4 ∷ 1 ∷ 5 ∷ 2 ∷ 4 ∷ 2 ∷ 5 ∷ 2 ∷ 6 ∷ 3 ∷ 4 ∷ 3 ∷ 6 ∷ 4 ∷ 5 ∷ 4 ∷ 6 ∷ []) }) 1000000 840 27
     yields left (Conversion.One 7 7 0 960) ((3 ∷ 0 ∷ 1 ∷ 4 ∷ 255 ∷ 255 ∷ 255 ∷ 255 ∷ 255 ∷ 255 ∷ 255 ∷ 255 ∷ 255 ∷ 6 ∷ 0 ∷ 1 ∷ 5 ∷ 2 ∷ 6 ∷ 3 ∷ 255 ∷ 255 ∷ 255 ∷ 255 ∷ 255 ∷ 255 ∷ 3 ∷ 0 ∷ 3 ∷ 4 ∷ 255 ∷ 255 ∷ 255 ∷ 255 ∷ 255 ∷ 255 ∷ 255 ∷ 255 ∷ 255 ∷ 3 ∷ 1 ∷ 4 ∷ 5 ∷ 255 ∷ 255 ∷ 255 ∷ 255 ∷ 255 ∷ 255 ∷ 255 ∷ 255 ∷ 255 ∷ 3 ∷ 2 ∷ 4 ∷ 5 ∷ 255 ∷ 255 ∷ 255 ∷ 255 ∷ 255 ∷ 255 ∷ 255 ∷ 255 ∷ 255 ∷ 3 ∷ 2 ∷ 4 ∷ 6 ∷ 255 ∷ 255 ∷ 255 ∷ 255 ∷ 255 ∷ 255 ∷ 255 ∷ 255 ∷ 255 ∷ 3 ∷ 3 ∷ 4 ∷ 6 ∷ 255 ∷ 255 ∷ 255 ∷ 255 ∷ 255 ∷ 255 ∷ 255 ∷ 255 ∷ 255 ∷ []) ++ faceBefore 749) ((127 ∷ 46 ∷ 960 ∷ []) ++ solidBefore 24)

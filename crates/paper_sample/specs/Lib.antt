@@ -5,3 +5,8 @@ pub mod Write
 pub mod Pair
 pub mod List
 pub mod Desk
+pub mod LimitDrawing
+pub mod LimitReading
+pub mod LimitList
+pub mod LimitSheet
+pub mod LimitDesk

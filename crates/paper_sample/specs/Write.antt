@@ -3,16 +3,18 @@ use mathlib.Core.Path.{refl}
 use mathlib.Core.Bool.{true, false}
 use mathlib.Core.List.{List, [], _∷_, _++_}
 use lib.IntN.{pos}
+use lib.Ieee.{binary64, ofBits}
 use Rattle.paper.specs.Sheet.{held, blank}
 use Rattle.paper.specs.Desk.{text}
-use Rattle.paper.specs.Questions.{neg, wholly, fetched, stored, checked, paired, covering, desk, left, wrote, sheet, bytes, verdicts, rules, tests, faceBefore, solidBefore, Row, _yields_, asked, said, Holds}
+use Rattle.paper.specs.Questions.{neg, wholly, fetched, stored, checked, paired, covering, desk, read, ruled, posted, left, wrote, sheet, bytes, verdicts, rules, tests, reads, faceBefore, solidBefore, Case, _yields_, asked, said, Holds}
 use Rattle.paper.specs.declared.Answer.the-variants as Answer
 use Rattle.paper.specs.declared.Written.the-variants as Written
 use Rattle.paper.specs.declared.Conversion.the-variants as Conversion
 use Rattle.paper.specs.declared.Verdict.the-variants as Verdict
+use Rattle.paper.specs.declared.Reading.the-variants as Reading
 
-unfoldable pub rows0 : List Row
-unfolding text
+unfoldable pub rows0 : List Case
+unfolding text ofBits
 rows0 =
     stored (record { xyz = (pos 23 ∷ pos 49 ∷ pos 40 ∷ neg 32 ∷ neg 15 ∷ pos 7 ∷ neg 22 ∷ pos 18 ∷ neg 20 ∷ neg 13 ∷ pos 30 ∷ neg 35 ∷ []); ends = (0 ∷ 1 ∷ 0 ∷ 2 ∷ 0 ∷ 3 ∷ 1 ∷ 2 ∷ 1 ∷ 3 ∷ 2 ∷ 3 ∷ []) }) 230
     yields wrote (Written.Bytes 27) ((17 ∷ 3 ∷ 63 ∷ 248 ∷ 51 ∷ 4 ∷ 30 ∷ 67 ∷ 217 ∷ 125 ∷ 239 ∷ 73 ∷ 253 ∷ 61 ∷ 71 ∷ 183 ∷ 1 ∷ 158 ∷ 40 ∷ 2 ∷ 1 ∷ 0 ∷ 97 ∷ 16 ∷ 70 ∷ 33 ∷ 128 ∷ []) ++ faceBefore 203)

@@ -1,4 +1,4 @@
-//! `desk`, `check` and `rows`: what the clear version says.
+//! `desk`, `check`, `rows` and `limits`: what the clear version says.
 use super::args::Args;
 use nibgravel_reference::check::check as check_list;
 use nibgravel_reference::convert::convert;
@@ -6,7 +6,7 @@ use nibgravel_reference::desk::desk_with;
 use nibgravel_reference::drawing::Source;
 use nibgravel_reference::fast;
 use nibgravel_reference::numbers::MOST_SOLIDS;
-use nibgravel_reference::rows::{row, Order, ANY, KINDS, SMALL};
+use nibgravel_reference::rows::{self, row, Order, ANY, KINDS, SMALL};
 use std::io::{BufWriter, Read, Write};
 
 pub fn desk(args: &Args) -> Result<(), String> {
@@ -50,5 +50,11 @@ pub fn rows(args: &Args) -> Result<(), String> {
     for k in 0..count {
         writeln!(out, "{}", row(&order, number(k))).map_err(|e| e.to_string())?;
     }
+    Ok(())
+}
+
+pub fn limits(args: &Args) -> Result<(), String> {
+    args.allow(&[])?;
+    rows::limits().iter().for_each(|row| println!("{row}"));
     Ok(())
 }

@@ -10,6 +10,7 @@ pub mod extremes;
 pub mod families;
 pub mod flat;
 pub mod known;
+pub mod limits;
 pub mod lists;
 pub mod maker;
 pub mod named;

@@ -15,12 +15,12 @@ use crate::sheet::{pack_sheet, sheet_length};
 /// Reports are most frequent; 3, 4, 6 and 7 don't arise with lists.
 const AIMS: [u32; 24] = [0, 0, 0, 0, 0, 0, 1, 2, 5, 8, 9, 10, 11, 12, 13, 14, 15, 16, 17, 17, 18, 18, 19, 19];
 
-struct Lent {
-    xyz: Vec<i64>,
-    ends: Vec<i64>,
-    limit: u64,
-    face_room: usize,
-    solid_room: usize,
+pub struct Lent {
+    pub xyz: Vec<i64>,
+    pub ends: Vec<i64>,
+    pub limit: u64,
+    pub face_room: usize,
+    pub solid_room: usize,
 }
 
 impl Lent {
@@ -38,11 +38,15 @@ pub fn drawing_row(r: &mut Rng, order: &Order, turn: usize) -> Object {
         let fits = order.size.admits(lent.xyz.len() / 3) || aim == BAD_COUNT;
         answer.number() == aim && fits && is_light(order, &answer)
     };
-    let lent = aimed(r, make, good);
+    converted(order.cap, &aimed(r, make, good))
+}
+
+/// A drawing lent as two lists, with what conversion says of it.
+pub fn converted(cap: usize, lent: &Lent) -> Object {
     let (mut face_room, mut solid_room) = (vec![0; lent.face_room], vec![0; lent.solid_room]);
-    let answer = convert_most(order.cap, lent.source(), lent.limit, &mut face_room, &mut solid_room);
+    let answer = convert_most(cap, lent.source(), lent.limit, &mut face_room, &mut solid_room);
     let row = Object::of_kind("drawing").put("xyz", &lent.xyz).put("ends", &lent.ends).put("limit", &lent.limit);
-    let row = row.put("cap", &order.cap).put("faceroom", &lent.face_room).put("solidroom", &lent.solid_room);
+    let row = row.put("cap", &cap).put("faceroom", &lent.face_room).put("solidroom", &lent.solid_room);
     row.put("answer", &conversion(&answer, &face_room, &solid_room))
         .put("reading", &read(reading(&answer, &solid_room)))
 }
@@ -126,6 +130,10 @@ pub fn desk_row(r: &mut Rng, order: &Order, turn: usize) -> Object {
         let fits = sheet.len() <= sheet_length(order.size.vertices.1, *EDGES.end());
         answer.number() == aim && fits && is_light(order, &answer)
     };
-    let sheet = aimed(r, make, good);
-    Object::of_kind("desk").put("bytes", &sheet).put("text", desk(&sheet).as_str())
+    printed(&aimed(r, make, good))
+}
+
+/// A sheet, with what the desk prints of it.
+pub fn printed(sheet: &[u8]) -> Object {
+    Object::of_kind("desk").put("bytes", sheet).put("text", desk(sheet).as_str())
 }

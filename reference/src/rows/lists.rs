@@ -39,10 +39,24 @@ pub fn list_row(r: &mut Rng, order: &Order, turn: usize) -> Object {
         number == aim && order.size.admits(case.xyz.len() / 3)
     };
     let case = aimed(r, make, good);
-    let answer = match check(case.source(), &case.list) {
+    checked_lists(&case.xyz, &case.ends, &case.list)
+}
+
+/// A face list for a drawing lent as two lists, with what the check says of it.
+pub fn checked_lists(xyz: &[i64], ends: &[i64], list: &[u8]) -> Object {
+    let row = Object::of_kind("list").put("xyz", xyz).put("ends", ends).put("list", list);
+    row.put("answer", &verdict(Source::Lists(xyz, ends), list))
+}
+
+/// The same for a sheet.
+pub fn checked_sheet(sheet: &[u8], list: &[u8]) -> Object {
+    let row = Object::of_kind("ruled").put("bytes", sheet).put("list", list);
+    row.put("answer", &verdict(Source::Sheet(sheet), list))
+}
+
+fn verdict(source: Source, list: &[u8]) -> Object {
+    match check(source, list) {
         Ok(()) => Object::that_is("accepted"),
         Err(refusal) => refused(refusal),
-    };
-    let row = Object::of_kind("list").put("xyz", &case.xyz).put("ends", &case.ends);
-    row.put("list", &case.list).put("answer", &answer)
+    }
 }

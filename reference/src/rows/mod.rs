@@ -1,6 +1,7 @@
 //! Seeded cases with what the clear version says of each, one JSON object per line.
 mod conversion;
 mod json;
+mod limits;
 mod lists;
 mod pairs;
 mod sheets;
@@ -11,6 +12,7 @@ use crate::gen::sheets::counted_drawing;
 use crate::numbers::*;
 use json::{Json, Object};
 
+pub use limits::limits;
 pub use sheets::sheet_to_read;
 
 /// The kinds of rows take turns: row n is of kind n modulo 6.

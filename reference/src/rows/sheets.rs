@@ -28,15 +28,19 @@ pub fn sheet_to_read(r: &mut Rng, order: &Order, turn: usize) -> Vec<u8> {
 }
 
 pub fn sheet_row(r: &mut Rng, order: &Order, turn: usize) -> Object {
-    let sheet = sheet_to_read(r, order, turn);
-    let answer = match read_sheet(&sheet) {
+    fetched(&sheet_to_read(r, order, turn))
+}
+
+/// A sheet, with what reading gives.
+pub fn fetched(sheet: &[u8]) -> Object {
+    let answer = match read_sheet(sheet) {
         Ok(d) => {
             let (xyz, ends) = d.lists();
             Object::that_is("drawing").put("xyz", &xyz).put("ends", &ends)
         }
         Err(refusal) => refused(refusal),
     };
-    Object::of_kind("sheet").put("bytes", &sheet).put("answer", &answer)
+    Object::of_kind("sheet").put("bytes", sheet).put("answer", &answer)
 }
 
 pub fn write_row(r: &mut Rng, order: &Order, turn: usize) -> Object {
@@ -60,10 +64,15 @@ pub fn write_row(r: &mut Rng, order: &Order, turn: usize) -> Object {
         0 => r.pick(&[length, length + 1, 230]),
         _ => r.pick(&[length, 0, 230]),
     };
+    stored(&xyz, &ends, room)
+}
+
+/// A drawing lent as two lists, with what the sheet writer makes of it in so much room.
+pub fn stored(xyz: &[i64], ends: &[i64], room: usize) -> Object {
     let mut bytes = vec![0; room];
-    let answer = match write_sheet(&xyz, &ends, &mut bytes) {
+    let answer = match write_sheet(xyz, ends, &mut bytes) {
         Ok(length) => Object::that_is("written").put("length", &length).put("bytes", &bytes[..length]),
         Err(refusal) => refused(refusal),
     };
-    Object::of_kind("write").put("xyz", &xyz).put("ends", &ends).put("room", &room).put("answer", &answer)
+    Object::of_kind("write").put("xyz", xyz).put("ends", ends).put("room", &room).put("answer", &answer)
 }

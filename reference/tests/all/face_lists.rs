@@ -1,7 +1,7 @@
 //! The face-list check: each of 20 to 27, and that exactly the solids are accepted.
 use crate::common::*;
 use nibgravel_reference::drawing::{Drawing, Loop, Source};
-use nibgravel_reference::face_list::{pack_faces, read_faces};
+use nibgravel_reference::face_list::{pack_faces, read_faces, send_solid};
 use nibgravel_reference::gen::ambiguous::no_volume;
 use nibgravel_reference::gen::known::*;
 use nibgravel_reference::gen::lists::any_list;
@@ -106,4 +106,20 @@ fn exactly_the_solids_are_accepted() {
     }
     let all: Vec<u32> = [0].into_iter().chain(SHELL_SHAPE..=CLASH).collect();
     assert_eq!(met.keys().copied().collect::<Vec<u32>>(), all, "{met:?}");
+}
+
+#[test]
+fn a_solid_that_is_sent_is_accepted() {
+    for d in [tetrahedron(), cube(), octahedron(), nested_cubes()] {
+        let outcome = converted(&d, MOST_WORK);
+        for (words, faces) in outcome.solids.chunks(3).zip(solids_of(&d)) {
+            let mut room = vec![0x5a; 100];
+            let length = send_solid(&outcome.faces, words[0], words[1], &mut room).expect("a solid");
+            assert_eq!(verdict(&d, &faces), (0, 0));
+            assert_eq!(checked(Source::Sheet(&pack_sheet(&d)), &room[..length]), (0, 0));
+            assert!(room[length..].iter().all(|byte| *byte == 0x5a));
+            let short = send_solid(&outcome.faces, words[0], words[1], &mut room[..length - 1]);
+            assert_eq!(short, refuse(NO_ROOM, 0));
+        }
+    }
 }

@@ -1,5 +1,9 @@
 //! The rows: repeatable, small, and between them every refusal.
-use nibgravel_reference::rows::{row, Order, KINDS, SMALL};
+use nibgravel_reference::convert::{convert_most, Answer};
+use nibgravel_reference::drawing::Source;
+use nibgravel_reference::gen::limits::nine_solids;
+use nibgravel_reference::numbers::{FACE_ROOM, MOST_WORK};
+use nibgravel_reference::rows::{limits, row, Order, KINDS, SMALL};
 use std::collections::BTreeSet;
 
 fn rows(kind: &str, cap: usize, count: u64) -> Vec<String> {
@@ -57,4 +61,31 @@ fn pairs_meet_every_rule() {
         assert!(rows.iter().filter(|row| row.contains(fact)).count() > 5, "{fact}");
     }
     assert!(rows.iter().all(|row| !row.contains("\"c\":[true,false]") && !row.contains("\"c\":[false,true]")));
+}
+
+#[test]
+fn limits_meet_every_number_and_reading() {
+    let (rows, named) = (limits(), |kind: &str| format!("{{\"kind\":\"{kind}\","));
+    let of = |kind: &str| rows.iter().filter(|row| row.starts_with(&named(kind))).cloned().collect::<Vec<_>>();
+    let numbers = |all: &[u32]| all.iter().copied().collect::<BTreeSet<u32>>();
+    let conversion = [0, 1, 2, 5].into_iter().chain(8..=19).collect::<Vec<u32>>();
+    assert_eq!(answers(&of("drawing")), numbers(&conversion));
+    assert_eq!(answers(&of("list")), [0, 5].into_iter().chain(8..=16).chain(20..=27).collect());
+    assert_eq!(answers(&of("ruled")), [0, 21, 26].into_iter().chain(3..=10).collect());
+    assert_eq!(answers(&of("sheet")), [0].into_iter().chain(3..=10).collect());
+    assert_eq!(answers(&of("write")), numbers(&[0, 1, 5, 8, 9, 10]));
+    assert_eq!(answers(&of("sent")), numbers(&[0, 1, 20]));
+    let reading = |row: &String| row.split_once("\"reading\":").and_then(|(_, reading)| number(reading, "number"));
+    let readings: BTreeSet<u32> = of("drawing").iter().map(|row| reading(row).unwrap_or(0)).collect();
+    assert_eq!(readings, conversion.into_iter().chain([30]).collect());
+    for text in ["solids 1\\n", "solids 3\\n", "no solid\\n", "many\\n", "refused 14 4\\n"] {
+        assert!(of("desk").iter().any(|row| row.contains(text)), "{text}");
+    }
+}
+
+#[test]
+fn nine_solids_are_nine() {
+    let (xyz, ends) = nine_solids().lists();
+    let answer = convert_most(9, Source::Lists(&xyz, &ends), MOST_WORK, &mut [0; FACE_ROOM], &mut [0; 27]);
+    assert!(matches!(answer, Answer::Report { solids: 9, .. }), "{answer:?}");
 }

@@ -13,6 +13,10 @@ tetrahedron = record {
       0 ∷ 1 ∷ 0 ∷ 2 ∷ 0 ∷ 3 ∷ 1 ∷ 2 ∷ 1 ∷ 3 ∷ 2 ∷ 3 ∷ [];
 }
 
+-- its four loops, all of them candidates
+abbrev pub corners : List (List ℕ)
+corners = (0 ∷ 1 ∷ 2 ∷ []) ∷ (0 ∷ 1 ∷ 3 ∷ []) ∷ (0 ∷ 2 ∷ 3 ∷ []) ∷ (1 ∷ 2 ∷ 3 ∷ []) ∷ []
+
 -- "Cube of side 10"
 abbrev pub cube : Drawn
 cube = record {
