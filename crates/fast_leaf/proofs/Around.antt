@@ -13,8 +13,8 @@ use Rattle.sets.specs.Word.{dig, Sub, count, both, first}
 use Rattle.sets.proofs.Digits.{never, dig-both, dig-only, dig-self, count-only, first-in, count-alone}
 use Rattle.paper.specs.Solids.{onceEachWay, oriented}
 use Rattle.means_leaf.specs.Meaning.{In, InTwo, Way, stay, across}
-use Rattle.means_leaf.proofs.Forced.{once-suits, oriented-here}
 use Rattle.means_leaf.proofs.Spread.{place-in}
+use Rattle.means_leaf.proofs.Directions.{once-suits, oriented-here}
 use Rattle.fast_sweeps.specs.Worklist.{after, edgesWith}
 use Rattle.fast_sweeps.proofs.Marks.{dig-none, after-in, after-out, count-after, dig-sides}
 use Rattle.fast_leaf.specs.Faces.{Going, atEdge, aroundFace, atFace, goOn, toGo, atLowest, fromLowest}

@@ -16,7 +16,7 @@ use Rattle.paper.specs.Solids.{unlike, oriented}
 use Rattle.means_leaf.specs.Meaning.{In, Way, across}
 use Rattle.means_leaf.proofs.Unlike.{dig-unlike}
 use Rattle.means_leaf.proofs.Counts.{left-in, left-out}
-use Rattle.means_leaf.proofs.Forced.{Suits}
+use Rattle.means_leaf.proofs.Directions.{Suits}
 use Rattle.fast_leaf.specs.Faces.{Going, others, unlikeWays, atEdge, toGo}
 
 -- ---- what is kept of the faces found so far

@@ -13,10 +13,11 @@ use Rattle.sets.proofs.Digits.{never, dig-less, count-none, count-empty, first-
 use Rattle.paper.specs.Solids.{facesFrom, connected, oriented, sixFrom, clearFrom, weighed, Tables, Judgement, Fails, judged}
 use Rattle.paper.specs.Conversion.{isSolid, turnedOf, sixOf}
 use Rattle.means_leaf.specs.Meaning.{faces, InTwo, Way, Alike}
-use Rattle.means_leaf.proofs.Forced.{faces-right, oriented-alike, oriented-opposite, all-reached}
+use Rattle.means_leaf.proofs.Forced.{oriented-alike, oriented-opposite, all-reached}
 use Rattle.means_leaf.proofs.Reaches.{connected-ways, ways-connected, way-on, way-back}
 use Rattle.means_leaf.proofs.Within.{turned-taken}
 use Rattle.means_leaf.proofs.Solids.{six-alike, turned-opposite}
+use Rattle.means_leaf.proofs.Directions.{faces-right}
 use Rattle.fast_sweeps.proofs.Words.{word-same}
 use Rattle.fast_leaf.specs.Faces.{fromLowest, clearOn, sixOn, judgedByFaces, Agrees, fails, solid}
 use Rattle.fast_leaf.proofs.Edge.{Fair}

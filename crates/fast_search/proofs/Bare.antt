@@ -29,9 +29,9 @@ use Rattle.fast_search.proofs.Scan.{map-append, goes, each-scan}
 use Rattle.fast_search.proofs.Phases.{none-self, two-line, across-turn, level-line}
 use Rattle.fast_search.proofs.Line.{Between, between-open, between-turned, self-above, no-place, start-between, short-between}
 use Rattle.fast_search.proofs.Line.{long-between, at-end}
-use Rattle.fast_search.proofs.Search.{joined-back, final-more, can, ends, size, follow, deep, begun, Free, Closing, row-is}
-use Rattle.fast_search.proofs.Search.{free-more, deeper-is, step-is, higher-free, start-level, start-closing, follow-can}
-use Rattle.fast_search.proofs.Search.{follow-uses, closes-ends, final-in}
+use Rattle.fast_search.proofs.Search.{deeper-is, step-is, higher-free, start-level, start-closing}
+use Rattle.fast_search.proofs.Search.{follow-uses, final-in}
+use Rattle.fast_search.proofs.Sets.{joined-back, final-more, can, ends, size, follow, deep, begun, Free, Closing, row-is, free-more, follow-can, closes-ends}
 
 module _ (d : Wire) (places : samePlace d ≡ none) (meets : edgeMeets d ≡ none) where
   apart : (u v : ℕ) → u < size d → v < size d → (u ≡ v → ⊥) → isOrigin (minus (at d u) (at d v)) ≡ false

@@ -11,7 +11,7 @@ use Rattle.sets.specs.Word.{bit, dig, count, both}
 use Rattle.paper.specs.Walk.{Status, Taken, Rejected, Undecided, isTaken, isOpen, takenOn, openOn, openCount, decideOne, decide, settle}
 use Rattle.paper.specs.Walk.{contradicts, Broken, Stands, sweep}
 use Rattle.means_walk.proofs.Status.{count-opens}
-use Rattle.means_walk.proofs.Complete.{sweep-fewer, sweep-still}
+use Rattle.means_walk.proofs.Settled.{sweep-fewer, sweep-still}
 use Rattle.fast_sweeps.specs.Worklist.{meets, decidedOn, Settled}
 
 pub no-break : {A : Type 0} {st : List Status} → Broken ≡ Stands st → A

@@ -16,9 +16,9 @@ use Rattle.sets.specs.Word.{dig, count, first, both, either, less}
 use Rattle.sets.proofs.Digits.{never, dig-both, dig-either, dig-less, first-in}
 use Rattle.paper.specs.Walk.{Status, openCount, settle, contradicts, Outcome, Broken, Stands, onStands, sweep, stable}
 use Rattle.means_walk.specs.Tree.{Sweeps, breaks, rests, again}
-use Rattle.means_walk.proofs.Complete.{sweep-fewer, sweep-still}
 use Rattle.means_walk.proofs.Grown.{sweeps, sweeps-stable}
 use Rattle.means_walk.proofs.Ends.{stable-fuel}
+use Rattle.means_walk.proofs.Settled.{sweep-fewer, sweep-still}
 use Rattle.fast_sweeps.specs.Worklist.{after, passed, edgesWith, meets, touched, decidedOn, nextAhead, nextLater, Settled}
 use Rattle.fast_sweeps.specs.Worklist.{afterwards, Remains}
 use Rattle.fast_sweeps.proofs.Edge.{no-break, settle-same, settle-none, meets-self, settled-same, settled-none, settle-still}

@@ -8,6 +8,7 @@ pub mod Signs
 pub mod Turns
 pub mod Net
 pub mod Choice
+pub mod Chains
 pub mod Rings
 pub mod Lowest
 pub mod First
@@ -28,11 +29,12 @@ use Rattle.means_area.specs.Theorems.{AreaNotZero}
 use Rattle.means_area.specs.Rings.{Of}
 use Rattle.means_area.specs.Flats.{turn, height, Simple, Least, area, Same, lst}
 use Rattle.means_area.proofs.Flats.Signs.{same-ne}
-use Rattle.means_area.proofs.Flats.Rings.{of-append, turned, area-turned}
+use Rattle.means_area.proofs.Flats.Rings.{area-turned}
 use Rattle.means_area.proofs.Flats.Lowest.{Found, lowest}
 use Rattle.means_area.proofs.Flats.First.{Area, Rest}
 use Rattle.means_area.proofs.Flats.Areas.{area-step}
 use Rattle.means_area.proofs.Flats.Rests.{rest-step}
+use Rattle.means_area.proofs.Flats.Chains.{of-append, turned}
 
 module _ (m : ℤ) where
   record Claims (n : ℕ) : Type 0 where

@@ -22,11 +22,13 @@ use Rattle.means_check.specs.Shape.{Candidates}
 use Rattle.means_solid.specs.Named.{Names}
 use Rattle.means_check.specs.Accepts.{NamesSolid, Accepts}
 use Rattle.means_check.proofs.Numbered.{numbersOf, takenOf, turnedOf, numbers-length, number-of, taken-yes, taken-is, turned-yes}
-use Rattle.means_check.proofs.Numbered.{row-length, Numbered, numbered, numbered-21, numbered-22, numbered-names, names-numbered}
+use Rattle.means_check.proofs.Numbered.{Numbered, numbered, numbered-21, numbered-22, numbered-names, names-numbered}
 use Rattle.means_check.proofs.Numbered.{names-taken, names-turned}
-use Rattle.means_check.proofs.Tests.{edges-two, two-edges, edges-ways, ways-edges, Lists, pieces-ways, ways-pieces, inward-six}
+use Rattle.means_check.proofs.Tests.{Lists, pieces-ways, ways-pieces, inward-six}
 use Rattle.means_check.proofs.Tests.{six-inward, clashes-none, none-clashes}
 use Rattle.means_check.proofs.Alike.{solid-to, row-same}
+use Rattle.means_check.proofs.EdgeTests.{edges-ways, ways-edges, edges-two, two-edges}
+use Rattle.means_check.proofs.Numbers.{row-length}
 
 -- ---- a list of checks has nothing against
 

@@ -4,14 +4,13 @@ use mathlib.Core.Path.{_≡_, refl, sym, ap, subst, _∙_}
 use mathlib.Core.Bool.{Bool, true, false, cond}
 use mathlib.Core.Logic.{_⊎_, inl, inr}
 use mathlib.Core.List.{List, [], map}
-use Prim.Native.Nat.{ℕ, zero, suc, _≤_, _<_}
+use Prim.Native.Nat.{ℕ, _<_}
 use native.Mathlib.Omega.{arith}
 use native.Mathlib.Decide.{decLt}
 use lib.ListN.{length, getD, length-map, List·getD-eq-default}
-use Rattle.lists.specs.Lists.{keep, filter, from, upto}
+use Rattle.lists.specs.Lists.{filter, upto}
 use Rattle.lists.proofs.Places.{map-at, upto-length, upto-at}
 use Rattle.sets.specs.Word.{dig}
-use Rattle.sets.proofs.Digits.{never}
 use Rattle.paper.specs.Refusals.{firstOf}
 use Rattle.paper.specs.Drawing.{Wire}
 use Rattle.paper.specs.Loops.{Loop, loopAt, flipped}
@@ -24,50 +23,12 @@ use Rattle.means_solid.specs.Named.{SameRing, directed, Names}
 use Rattle.means_check.specs.Sent.{faceList}
 use Rattle.means_check.specs.Bodies.{Among, AmongEither, Singly, SameBody, OneSolid}
 use Rattle.means_check.proofs.Rings.{same-refl, same-sym, same-trans, same-length, flip-flip, flip-length, flip-same}
-use Rattle.means_check.proofs.Numbered.{filter-yes, filter-is, ring-number, either-number, not-both}
+use Rattle.means_check.proofs.Numbered.{ring-number, either-number, not-both}
 use Rattle.means_check.proofs.Alike.{names-to, row-same}
 use Rattle.means_check.proofs.Forced.{directions-same, no-part}
 use Rattle.means_check.proofs.Accepting.{accepted-names, names-accepted}
-
--- a digit that is set is one of the row's
-inside : (cs : List Loop) (taken : List Bool) → length taken ≡ length cs → (k : ℕ) → dig taken k ≡ true → k < length cs
-inside cs taken some k e = go (decLt k (length cs))
-  where
-    go : Dec (k < length cs) → k < length cs
-    go (yes h) = h
-    go (no h) = never (sym e ∙ List·getD-eq-default taken false (omega arith))
-
--- the numbers that pass, each once
-kept-low : (p : ℕ → Bool) (m i k : ℕ) → k < length (filter p (from i m)) → i ≤ getD (filter p (from i m)) k 0
-unfolding filter keep from
-kept-low p zero i k h = absurd (omega arith)
-kept-low p (suc m) i k h = go (p i) k h (kept-low p m (suc i))
-  where
-    go : (b : Bool) (k : ℕ) → k < length (keep b i (filter p (from (suc i) m)))
-        → ((k : ℕ) → k < length (filter p (from (suc i) m)) → suc i ≤ getD (filter p (from (suc i) m)) k 0)
-        → i ≤ getD (keep b i (filter p (from (suc i) m))) k 0
-    go true zero h r = omega arith
-    go true (suc k) h r = omega (arith, r k (omega arith))
-    go false k h r = omega (arith, r k h)
-
-kept-once : (p : ℕ → Bool) (m i j k : ℕ) → j < length (filter p (from i m)) → k < length (filter p (from i m))
-    → getD (filter p (from i m)) j 0 ≡ getD (filter p (from i m)) k 0 → j ≡ k
-unfolding filter keep from
-kept-once p zero i j k hj hk e = absurd (omega arith)
-kept-once p (suc m) i j k hj hk e = go (p i) j k hj hk e (kept-once p m (suc i))
-  where
-    low : (k : ℕ) → k < length (filter p (from (suc i) m)) → suc i ≤ getD (filter p (from (suc i) m)) k 0
-    low k h = kept-low p m (suc i) k h
-
-    go : (b : Bool) (j k : ℕ) → j < length (keep b i (filter p (from (suc i) m))) → k < length (keep b i (filter p (from (suc i) m)))
-        → getD (keep b i (filter p (from (suc i) m))) j 0 ≡ getD (keep b i (filter p (from (suc i) m))) k 0
-        → ((j k : ℕ) → j < length (filter p (from (suc i) m)) → k < length (filter p (from (suc i) m))
-        → getD (filter p (from (suc i) m)) j 0 ≡ getD (filter p (from (suc i) m)) k 0 → j ≡ k) → j ≡ k
-    go true zero zero hj hk e r = refl
-    go true zero (suc k) hj hk e r = absurd (omega (arith, low k (omega arith)))
-    go true (suc j) zero hj hk e r = absurd (omega (arith, low j (omega arith)))
-    go true (suc j) (suc k) hj hk e r = ap suc (r j k (omega arith) (omega arith) e)
-    go false j k hj hk e r = r j k hj hk e
+use Rattle.means_check.proofs.Numbers.{filter-yes, filter-is}
+use Rattle.means_check.proofs.Picked.{inside, kept-once}
 
 module _ (d : Wire) (cs : List Loop) (c : Candidates d cs) where
   -- 21 to 27 have nothing against the list

@@ -24,13 +24,13 @@ use Rattle.means_solid.specs.Named.{directed}
 use Rattle.means_solid.proofs.Goes.{has-nil, dig-map}
 use Rattle.means_sheets.specs.FaceLists.{Sendable}
 use Rattle.means_check.specs.Sent.{faceList}
-use Rattle.means_check.proofs.Numbered.{filter-yes}
 use Rattle.means_check.proofs.Counts.{rest-in}
 use Rattle.means_check.proofs.Goings.{cases-has, around-at, one-way}
-use Rattle.means_check.proofs.Tests.{in-two}
 use Rattle.means_check.proofs.Listing.{candidates-are}
 use Rattle.means_check.proofs.Paths.{loop-path, path-flip}
 use Rattle.means_check.proofs.Four.{four-faces}
+use Rattle.means_check.proofs.Numbers.{filter-yes}
+use Rattle.means_check.proofs.EdgeTests.{in-two}
 
 -- ---- sums of numbers
 

@@ -3,215 +3,44 @@ use mathlib.Core.Path.{_≡_, refl, sym, ap, subst, _∙_}
 use mathlib.Core.Bool.{Bool, true, false}
 use mathlib.Core.Logic.{_⊎_, inl, inr}
 use mathlib.Core.List.{List}
-use Prim.Native.Nat.{ℕ, zero, suc, _+_, _-_, _≤_, _<_}
+use Prim.Native.Nat.{ℕ, suc, _-_, _≤_, _<_}
 use native.Mathlib.Omega.{arith}
 use native.Mathlib.Decide.{decLt, ℕ-discrete}
-use lib.ListN.{length, getD, List·getD-eq-default}
+use lib.ListN.{length, getD}
 use Rattle.lists.specs.Around.{wrap, around}
-use Rattle.lists.proofs.Sides.{wrap-low, wrap-high}
+use Rattle.lists.proofs.Sides.{wrap-low}
 use Rattle.sets.specs.Word.{dig, count, first, less, only}
 use Rattle.sets.proofs.Digits.{never, count-only, count-none, first-in}
-use Rattle.paper.specs.Drawing.{Wire, Edge, edge, edgeAt}
+use Rattle.paper.specs.Drawing.{Wire, edge, edgeAt}
 use Rattle.paper.specs.Loops.{Loop, loopAt}
 use Rattle.paper.specs.Solids.{has}
-use Rattle.means_solid.specs.Solid.{Goes, Has, InTwo, Way, stay, cross, IsSolid}
-use Rattle.means_check.specs.Path.{EdgeOf, ClosedPath}
+use Rattle.means_solid.specs.Solid.{Has, Way, stay, cross, IsSolid}
+use Rattle.means_check.specs.Path.{ClosedPath}
 use Rattle.means_check.proofs.Counts.{rest-in, rest-out}
 use Rattle.means_check.proofs.Goings.{has-cases, cases-has, around-at, wrap-next}
 use Rattle.means_check.proofs.Forced.{some-face}
 use Rattle.means_check.proofs.Closing.{no-volume}
-
--- ---- round a ring, from where a test passes to where it does not
-
-module _ (p : ℕ → Bool) where
-  scan : (m i : ℕ) → p i ≡ true → p (i + m) ≡ false → (j : ℕ) × (i ≤ j) × (j < i + m) × (p j ≡ true) × (p (suc j) ≡ false)
-  scan zero i e f = never (sym e ∙ ap p (plus-zero i) ∙ f)
-    where
-      plus-zero : (i : ℕ) → i ≡ i + 0
-      plus-zero i = omega arith
-  scan (suc m) i e f = go (p (suc i)) refl (scan m (suc i))
-    where
-      plus-suc : (i m : ℕ) → suc i + m ≡ i + suc m
-      plus-suc i m = omega arith
-
-      go : (b : Bool) → p (suc i) ≡ b
-          → (p (suc i) ≡ true → p (suc i + m) ≡ false → (j : ℕ) × (suc i ≤ j) × (j < suc i + m) × (p j ≡ true) × (p (suc j) ≡ false))
-          → (j : ℕ) × (i ≤ j) × (j < i + suc m) × (p j ≡ true) × (p (suc j) ≡ false)
-      go false q r = (i, omega arith, omega arith, e, q)
-      go true q r = let w = r q (ap p (plus-suc i m) ∙ f) in (w .0, omega (arith, w .1), omega (arith, w .2), w .3, w .4)
-
-  turn : (n i j : ℕ) → i < n → j < n → p i ≡ true → p j ≡ false → (k : ℕ) × (k < n) × (p k ≡ true) × (p (wrap n (suc k)) ≡ false)
-  turn n i j hi hj e f = go (decLt i j)
-    where
-      up : (i j : ℕ) → i < j → j < n → p i ≡ true → p j ≡ false → (k : ℕ) × (k < n) × (p k ≡ true) × (p (wrap n (suc k)) ≡ false)
-      up i j l hj e f =
-          let z : i + (j - i) ≡ j = omega arith in
-          let r = scan (j - i) i e (ap p z ∙ f) in
-          (r .0, omega (arith, r .2), r .3, ap p (wrap-low n (suc (r .0)) (omega (arith, r .2))) ∙ r .4)
-
-      -- from i to the last, then from the first to j
-      last : (b : Bool) → p (n - 1) ≡ b → i < n - 1 ⊎ (i ≡ n - 1) → (k : ℕ) × (k < n) × (p k ≡ true) × (p (wrap n (suc k)) ≡ false)
-      last false q (inl l) = up i (n - 1) l (omega arith) e q
-      last false q (inr l) = never (sym e ∙ ap p l ∙ q)
-      last true q w = begin (p 0) refl
-        where
-          begin : (b : Bool) → p 0 ≡ b → (k : ℕ) × (k < n) × (p k ≡ true) × (p (wrap n (suc k)) ≡ false)
-          begin false z =
-              let y : wrap n (suc (n - 1)) ≡ 0 = wrap-high n (suc (n - 1)) (omega arith) ∙ omega arith in
-              (n - 1, omega arith, q, ap p y ∙ z)
-          begin true z = first-up (ℕ-discrete j 0)
-            where
-              first-up : Dec (j ≡ 0) → (k : ℕ) × (k < n) × (p k ≡ true) × (p (wrap n (suc k)) ≡ false)
-              first-up (yes y) = never (sym z ∙ ap p (sym y) ∙ f)
-              first-up (no y) = up 0 j (omega arith) hj z f
-
-      near : i < n → (i < n - 1) ⊎ (i ≡ n - 1)
-      near h = by (decLt i (n - 1))
-        where
-          by : Dec (i < n - 1) → (i < n - 1) ⊎ (i ≡ n - 1)
-          by (yes l) = inl l
-          by (no l) = inr (omega arith)
-
-      go : Dec (i < j) → (k : ℕ) × (k < n) × (p k ≡ true) × (p (wrap n (suc k)) ≡ false)
-      go (yes l) = up i j l hj e f
-      go (no l) = last (p (n - 1)) refl (near hi)
-
--- ---- a ring's sides and corners
-
-goes-start : (l : Loop) (a b : ℕ) → Goes l a b → (i : ℕ) × (i < length l) × (getD l i 0 ≡ a)
-goes-start l a b g =
-    (g .at, g .here, sym (g .from ∙ around-at l (g .at) ∙ ap (λ (i : ℕ). getD l i 0) (wrap-low (length l) (g .at) (g .here))))
-
-goes-end : (l : Loop) (a b : ℕ) → Goes l a b → (i : ℕ) × (i < length l) × (getD l i 0 ≡ b)
-goes-end l a b g = (wrap (length l) (suc (g .at)), go (wrap-next (length l) (g .at) (g .here)), sym (g .to ∙ around-at l (suc (g .at))))
-  where
-    go : ((suc (g .at) < length l) × (wrap (length l) (suc (g .at)) ≡ suc (g .at)))
-        ⊎ ((suc (g .at) ≡ length l) × (wrap (length l) (suc (g .at)) ≡ 0)) → wrap (length l) (suc (g .at)) < length l
-    go (inl (p, q)) = omega arith
-    go (inr (p, q)) = let h = g .here in omega arith
+use Rattle.means_check.proofs.Shared.{turn, inside, Beside, own, beside-start, beside-end, Other, other, shared}
 
 module _ (d : Wire) (cs : List Loop) (taken turned : List Bool) (paths : (k : ℕ) → k < length cs → ClosedPath d (loopAt cs k)) {six : ℕ}
     (s : IsSolid d cs taken turned six) where
-  inside : (k : ℕ) → dig taken k ≡ true → k < length cs
-  inside k e = go (decLt k (length cs))
-    where
-      go : Dec (k < length cs) → k < length cs
-      go (yes h) = h
-      go (no h) = never (sym e ∙ List·getD-eq-default taken false (omega (arith, s .some)))
-
-  -- face k has side i of face q
-  abbrev Beside : ℕ → ℕ → ℕ → Type 0
-  Beside q i k =
-      Goes (loopAt cs k) (around (loopAt cs q) i 0) (around (loopAt cs q) (suc i) 0) ⊎ Goes (loopAt cs k) (around (loopAt cs q) (suc i) 0)
-      (around (loopAt cs q) i 0)
-
-  own : (q i : ℕ) → i < length (loopAt cs q) → Beside q i q
-  own q i h = inl (record { at = i; here = h; from = refl; to = refl })
-
-  beside-start : (q i k : ℕ) → Beside q i k → (j : ℕ) × (j < length (loopAt cs k)) × (getD (loopAt cs k) j 0 ≡ around (loopAt cs q) i 0)
-  beside-start q i k (inl g) = goes-start (loopAt cs k) (around (loopAt cs q) i 0) (around (loopAt cs q) (suc i) 0) g
-  beside-start q i k (inr g) = goes-end (loopAt cs k) (around (loopAt cs q) (suc i) 0) (around (loopAt cs q) i 0) g
-
-  beside-end : (q i k : ℕ) → Beside q i k
-      → (j : ℕ) × (j < length (loopAt cs k)) × (getD (loopAt cs k) j 0 ≡ around (loopAt cs q) (suc i) 0)
-  beside-end q i k (inl g) = goes-end (loopAt cs k) (around (loopAt cs q) i 0) (around (loopAt cs q) (suc i) 0) g
-  beside-end q i k (inr g) = goes-start (loopAt cs k) (around (loopAt cs q) (suc i) 0) (around (loopAt cs q) i 0) g
-
-  -- a face's side is in one face more
-  record Other (q i : ℕ) : Type 0 where
-    face : ℕ
-    taken-too : dig taken face ≡ true
-    another : face ≡ q → ⊥
-    beside : Beside q i face
-    no-more : (k : ℕ) → dig taken k ≡ true → Beside q i k → (k ≡ q) ⊎ (k ≡ face)
-
-  other : (q i : ℕ) → dig taken q ≡ true → i < length (loopAt cs q) → Other q i
-  other q i f h =
-      go
-      (paths q (inside q f) .along (around (loopAt cs q) i 0) (around (loopAt cs q) (suc i) 0)
-      (record { at = i; here = h; from = refl; to = refl }))
-    where
-      swap : (a b : ℕ) (l : Loop) → Goes l a b ⊎ Goes l b a → Goes l b a ⊎ Goes l a b
-      swap a b l (inl g) = inr g
-      swap a b l (inr g) = inl g
-
-      by-two : (e : Edge) → InTwo d cs taken turned e → ((k : ℕ) → Has d cs taken turned k e → Beside q i k)
-          → ((k : ℕ) → Beside q i k → Has d cs taken turned k e) → Other q i
-      by-two e t out into = pick (t .only q f (into q (own q i h)))
-        where
-          pick : (q ≡ t .one) ⊎ (q ≡ t .two) → Other q i
-          pick (inl z) = record {
-            face = t .two;
-            taken-too = t .faces .1;
-            another = λ w. absurd (omega (arith, t .differ));
-            beside = out (t .two) (t .have .1);
-            no-more = λ k g b. left k (t .only k g (into k b));
-          }
-            where
-              left : (k : ℕ) → (k ≡ t .one) ⊎ (k ≡ t .two) → (k ≡ q) ⊎ (k ≡ t .two)
-              left k (inl w) = inl (w ∙ sym z)
-              left k (inr w) = inr w
-          pick (inr z) = record {
-            face = t .one;
-            taken-too = t .faces .0;
-            another = λ w. absurd (omega (arith, t .differ));
-            beside = out (t .one) (t .have .0);
-            no-more = λ k g b. right k (t .only k g (into k b));
-          }
-            where
-              right : (k : ℕ) → (k ≡ t .one) ⊎ (k ≡ t .two) → (k ≡ q) ⊎ (k ≡ t .one)
-              right k (inl w) = inr w
-              right k (inr w) = inl (w ∙ sym z)
-
-      go : EdgeOf d (around (loopAt cs q) i 0) (around (loopAt cs q) (suc i) 0) → Other q i
-      go (e, l, inl w) =
-          by-two (edge (around (loopAt cs q) i 0) (around (loopAt cs q) (suc i) 0)) (subst (InTwo d cs taken turned) w (s .i e l))
-          (λ k g. g) (λ k g. g)
-      go (e, l, inr w) =
-          by-two (edge (around (loopAt cs q) (suc i) 0) (around (loopAt cs q) i 0)) (subst (InTwo d cs taken turned) w (s .i e l))
-          (λ k g. swap (around (loopAt cs q) (suc i) 0) (around (loopAt cs q) i 0) (loopAt cs k) g)
-          (λ k g. swap (around (loopAt cs q) i 0) (around (loopAt cs q) (suc i) 0) (loopAt cs k) g)
-
-  -- two faces that share an edge: one of the first one's sides is in the other
-  shared : (e : Edge) (q k : ℕ) → Has d cs taken turned q e → Has d cs taken turned k e
-      → (i : ℕ) × (i < length (loopAt cs q)) × Beside q i k
-  shared (edge a b) q k (inl g) h = (g .at, g .here, to h)
-    where
-      to : Goes (loopAt cs k) a b ⊎ Goes (loopAt cs k) b a → Beside q (g .at) k
-      to (inl y) =
-          inl
-          (subst (λ (u : ℕ). Goes (loopAt cs k) u (around (loopAt cs q) (suc (g .at)) 0)) (g .from)
-          (subst (λ (w : ℕ). Goes (loopAt cs k) a w) (g .to) y))
-      to (inr y) =
-          inr
-          (subst (λ (u : ℕ). Goes (loopAt cs k) (around (loopAt cs q) (suc (g .at)) 0) u) (g .from)
-          (subst (λ (w : ℕ). Goes (loopAt cs k) w a) (g .to) y))
-  shared (edge a b) q k (inr g) h = (g .at, g .here, to h)
-    where
-      to : Goes (loopAt cs k) a b ⊎ Goes (loopAt cs k) b a → Beside q (g .at) k
-      to (inr y) =
-          inl
-          (subst (λ (u : ℕ). Goes (loopAt cs k) u (around (loopAt cs q) (suc (g .at)) 0)) (g .from)
-          (subst (λ (w : ℕ). Goes (loopAt cs k) b w) (g .to) y))
-      to (inl y) =
-          inr
-          (subst (λ (u : ℕ). Goes (loopAt cs k) (around (loopAt cs q) (suc (g .at)) 0) u) (g .from)
-          (subst (λ (w : ℕ). Goes (loopAt cs k) w b) (g .to) y))
-
   -- ---- three faces: one of them shares edges with both others
 
   three : (q z c : ℕ) → dig taken q ≡ true → dig taken z ≡ true → dig taken c ≡ true → (z ≡ q → ⊥) → (z ≡ c → ⊥)
       → ((k : ℕ) → dig taken k ≡ true → (k ≡ q) ⊎ ((k ≡ z) ⊎ (k ≡ c)))
-      → (i : ℕ) → i < length (loopAt cs q) → Beside q i z → (j : ℕ) → j < length (loopAt cs q) → Beside q j c → (c ≡ q → ⊥) → ⊥
+      → (i : ℕ) → i < length (loopAt cs q) → Beside d cs taken turned paths s q i z → (j : ℕ) → j < length (loopAt cs q)
+      → Beside d cs taken turned paths s q j c → (c ≡ q → ⊥) → ⊥
   three q z c fq fz fc zq zc all i hi bi j hj bj cq = found (turn p (length (loopAt cs q)) i j hi hj (yes-at i bi) not-at)
     where
       p : ℕ → Bool
       p m = has (edge (around (loopAt cs q) m 0) (around (loopAt cs q) (suc m) 0)) (loopAt cs z)
 
-      yes-at : (m : ℕ) → Beside q m z → has (edge (around (loopAt cs q) m 0) (around (loopAt cs q) (suc m) 0)) (loopAt cs z) ≡ true
+      yes-at : (m : ℕ) → Beside d cs taken turned paths s q m z
+          → has (edge (around (loopAt cs q) m 0) (around (loopAt cs q) (suc m) 0)) (loopAt cs z) ≡ true
       yes-at m b = cases-has (around (loopAt cs q) m 0) (around (loopAt cs q) (suc m) 0) (loopAt cs z) b
 
-      at-yes : (m : ℕ) → has (edge (around (loopAt cs q) m 0) (around (loopAt cs q) (suc m) 0)) (loopAt cs z) ≡ true → Beside q m z
+      at-yes : (m : ℕ) → has (edge (around (loopAt cs q) m 0) (around (loopAt cs q) (suc m) 0)) (loopAt cs z) ≡ true
+          → Beside d cs taken turned paths s q m z
       at-yes m e = has-cases (around (loopAt cs q) m 0) (around (loopAt cs q) (suc m) 0) (loopAt cs z) e
 
       -- a side that c has is not z's
@@ -220,9 +49,9 @@ module _ (d : Wire) (cs : List Loop) (taken turned : List Bool) (paths : (k : �
         where
           go : (b : Bool) → has (edge (around (loopAt cs q) j 0) (around (loopAt cs q) (suc j) 0)) (loopAt cs z) ≡ b → b ≡ false
           go false e = refl
-          go true e = absurd (by (other q j fq hj))
+          go true e = absurd (by (other d cs taken turned paths s q j fq hj))
             where
-              by : Other q j → ⊥
+              by : Other d cs taken turned paths s q j → ⊥
               by o = pick (o .no-more z fz (at-yes j e)) (o .no-more c fc bj)
                 where
                   pick : (z ≡ q) ⊎ (z ≡ o .face) → (c ≡ q) ⊎ (c ≡ o .face) → ⊥
@@ -256,32 +85,34 @@ module _ (d : Wire) (cs : List Loop) (taken turned : List Bool) (paths : (k : �
               ∙ sym (around-at (loopAt cs q) (suc k))
 
           -- the next side is c's
-          next-c : Beside q (wrap (length (loopAt cs q)) (suc k)) c
-          next-c = by (other q (wrap (length (loopAt cs q)) (suc k)) fq low)
+          next-c : Beside d cs taken turned paths s q (wrap (length (loopAt cs q)) (suc k)) c
+          next-c = by (other d cs taken turned paths s q (wrap (length (loopAt cs q)) (suc k)) fq low)
             where
-              by : Other q (wrap (length (loopAt cs q)) (suc k)) → Beside q (wrap (length (loopAt cs q)) (suc k)) c
+              by : Other d cs taken turned paths s q (wrap (length (loopAt cs q)) (suc k))
+                  → Beside d cs taken turned paths s q (wrap (length (loopAt cs q)) (suc k)) c
               by o = pick (all (o .face) (o .taken-too))
                 where
-                  pick : (o .face ≡ q) ⊎ ((o .face ≡ z) ⊎ (o .face ≡ c)) → Beside q (wrap (length (loopAt cs q)) (suc k)) c
+                  pick : (o .face ≡ q) ⊎ ((o .face ≡ z) ⊎ (o .face ≡ c))
+                      → Beside d cs taken turned paths s q (wrap (length (loopAt cs q)) (suc k)) c
                   pick (inl x) = absurd (o .another x)
                   pick (inr (inl x)) =
                       never
                       (sym
                       (yes-at (wrap (length (loopAt cs q)) (suc k))
-                      (subst (Beside q (wrap (length (loopAt cs q)) (suc k))) x (o .beside)))
+                      (subst (Beside d cs taken turned paths s q (wrap (length (loopAt cs q)) (suc k))) x (o .beside)))
                       ∙ nk)
-                  pick (inr (inr x)) = subst (Beside q (wrap (length (loopAt cs q)) (suc k))) x (o .beside)
+                  pick (inr (inr x)) = subst (Beside d cs taken turned paths s q (wrap (length (loopAt cs q)) (suc k))) x (o .beside)
 
           on : (m : ℕ) → (m ≡ q) ⊎ ((m ≡ z) ⊎ (m ≡ c))
               → (n : ℕ) × (n < length (loopAt cs m)) × (getD (loopAt cs m) n 0 ≡ around (loopAt cs q) (suc k) 0)
           on m (inl x) =
               subst (λ (y : ℕ). (n : ℕ) × (n < length (loopAt cs y)) × (getD (loopAt cs y) n 0 ≡ around (loopAt cs q) (suc k) 0)) (sym x)
-              (beside-end q k q (own q k hk))
+              (beside-end d cs taken turned paths s q k q (own d cs taken turned paths s q k hk))
           on m (inr (inl x)) =
               subst (λ (y : ℕ). (n : ℕ) × (n < length (loopAt cs y)) × (getD (loopAt cs y) n 0 ≡ around (loopAt cs q) (suc k) 0)) (sym x)
-              (beside-end q k z (at-yes k yk))
+              (beside-end d cs taken turned paths s q k z (at-yes k yk))
           on m (inr (inr x)) =
-              let r = beside-start q (wrap (length (loopAt cs q)) (suc k)) c next-c in
+              let r = beside-start d cs taken turned paths s q (wrap (length (loopAt cs q)) (suc k)) c next-c in
               subst (λ (y : ℕ). (n : ℕ) × (n < length (loopAt cs y)) × (getD (loopAt cs y) n 0 ≡ around (loopAt cs q) (suc k) 0)) (sym x)
               (r .0, r .1, r .2 ∙ same)
 
@@ -311,12 +142,14 @@ module _ (d : Wire) (cs : List Loop) (taken turned : List Bool) (paths : (k : �
       fewer : count taken < 4 → ⊥
       fewer few =
           let f = some-face d cs taken turned s in
-          let ha : 0 < length (loopAt cs (f .0)) = let t = paths (f .0) (inside (f .0) (f .1)) .three in omega arith in
-          let o = other (f .0) 0 (f .1) ha in
+          let ha : 0 < length (loopAt cs (f .0)) = let t = paths (f .0) (inside d cs taken turned paths s (f .0) (f .1)) .three in
+          omega arith in
+          let o = other d cs taken turned paths s (f .0) 0 (f .1) ha in
           third (f .0) (f .1) ha (o .face) (o .taken-too) (o .another) (o .beside)
           (ℕ-discrete (count (less (less taken (only (f .0))) (only (o .face)))) 0)
         where
-          third : (a : ℕ) → dig taken a ≡ true → 0 < length (loopAt cs a) → (b : ℕ) → dig taken b ≡ true → (b ≡ a → ⊥) → Beside a 0 b
+          third : (a : ℕ) → dig taken a ≡ true → 0 < length (loopAt cs a) → (b : ℕ) → dig taken b ≡ true → (b ≡ a → ⊥)
+              → Beside d cs taken turned paths s a 0 b
               → Dec (count (less (less taken (only a)) (only b)) ≡ 0) → ⊥
           third a fa ha b fb n bs (yes e) =
               no-volume d cs taken turned paths s (around (loopAt cs a) 0 0)
@@ -333,10 +166,10 @@ module _ (d : Wire) (cs : List Loop) (taken turned : List Bool) (paths : (k : �
                   → (i : ℕ) × (i < length (loopAt cs k)) × (getD (loopAt cs k) i 0 ≡ around (loopAt cs a) 0 0)
               on k (inl x) =
                   subst (λ (y : ℕ). (i : ℕ) × (i < length (loopAt cs y)) × (getD (loopAt cs y) i 0 ≡ around (loopAt cs a) 0 0)) (sym x)
-                  (beside-start a 0 a (own a 0 ha))
+                  (beside-start d cs taken turned paths s a 0 a (own d cs taken turned paths s a 0 ha))
               on k (inr x) =
                   subst (λ (y : ℕ). (i : ℕ) × (i < length (loopAt cs y)) × (getD (loopAt cs y) i 0 ≡ around (loopAt cs a) 0 0)) (sym x)
-                  (beside-start a 0 b bs)
+                  (beside-start d cs taken turned paths s a 0 b bs)
           third a fa ha b fb n bs (no e) =
               let hc = first-in (less (less taken (only a)) (only b)) e in
               let u = rest-out (less taken (only a)) b (first (less (less taken (only a)) (only b))) hc in
@@ -370,10 +203,12 @@ module _ (d : Wire) (cs : List Loop) (taken turned : List Bool) (paths : (k : �
                       → ((e : ℕ) × (e < length (d .edges)) × Has d cs taken turned g (edgeAt d e) × Has d cs taken turned c (edgeAt d e))
                       → (g ≡ a) ⊎ ((g ≡ b) ⊎ (g ≡ c)) → ⊥
                   pick g gc (e, h, p, q) (inl x) =
-                      let r = shared (edgeAt d e) a c (subst (λ (m : ℕ). Has d cs taken turned m (edgeAt d e)) x p) q in
+                      let r = shared d cs taken turned paths s (edgeAt d e) a c
+                      (subst (λ (m : ℕ). Has d cs taken turned m (edgeAt d e)) x p) q in
                       three a b c fa fb fc n (λ y. cb (sym y)) all 0 ha bs (r .0) (r .1) (r .2) ca
                   pick g gc (e, h, p, q) (inr (inl x)) =
-                      let r = shared (edgeAt d e) b c (subst (λ (m : ℕ). Has d cs taken turned m (edgeAt d e)) x p) q in
+                      let r = shared d cs taken turned paths s (edgeAt d e) b c
+                      (subst (λ (m : ℕ). Has d cs taken turned m (edgeAt d e)) x p) q in
                       let t = flip bs in
                       three b a c fb fa fc (λ y. n (sym y)) (λ y. ca (sym y)) (λ k f. turn-all (all k f)) (t .0) (t .1) (t .2) (r .0)
                       (r .1)
@@ -384,8 +219,11 @@ module _ (d : Wire) (cs : List Loop) (taken turned : List Bool) (paths : (k : �
                       turn-all (inr (inl y)) = inl y
                       turn-all (inr (inr y)) = inr (inr y)
 
-                      flip : Beside a 0 b → (i : ℕ) × (i < length (loopAt cs b)) × Beside b i a
-                      flip w = shared (edge (around (loopAt cs a) 0 0) (around (loopAt cs a) 1 0)) b a w (own a 0 ha)
+                      flip : Beside d cs taken turned paths s a 0 b
+                          → (i : ℕ) × (i < length (loopAt cs b)) × Beside d cs taken turned paths s b i a
+                      flip w =
+                          shared d cs taken turned paths s (edge (around (loopAt cs a) 0 0) (around (loopAt cs a) 1 0)) b a w
+                          (own d cs taken turned paths s a 0 ha)
                   pick g gc w (inr (inr x)) = gc x
 
       go : Dec (count taken < 4) → 4 ≤ count taken

@@ -19,9 +19,9 @@ use Rattle.paper.specs.Loops.{Loop, loopAt, loops, level, polygon, coversOther,
 use Rattle.paper.specs.Clash.{clash}
 use Rattle.means_check.specs.Shape.{Normal, Candidates}
 use Rattle.means_check.specs.Loop.{IsLoop, IsCandidate, Before, Ascending}
-use Rattle.means_check.proofs.Numbered.{filter-yes, filter-is}
 use Rattle.means_check.proofs.Searching.{found-are, found-all}
 use Rattle.means_check.proofs.Ordered.{before-self, loop-in, ascending-at, found-ascend}
+use Rattle.means_check.proofs.Numbers.{filter-yes, filter-is}
 
 -- ---- loops
 

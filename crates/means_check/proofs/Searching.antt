@@ -17,7 +17,7 @@ use Rattle.lists.proofs.Truth.{and-left, and-right, and-both, or-left, or-right
 use Rattle.paper.specs.Numbers.{mostCorners}
 use Rattle.paper.specs.Loops.{Loop, follows, closes, branch, scan, ext, final}
 use Rattle.means_check.specs.Loop.{Closed}
-use Rattle.means_check.proofs.Numbered.{member-yes, member-is}
+use Rattle.means_check.proofs.Numbers.{member-yes, member-is}
 
 module _ (n : ℕ) (linked : ℕ → ℕ → Bool) (flat : List ℕ → ℕ → Bool) where
   -- ---- what a vertex x brings after p, and what is in a scan

@@ -12,8 +12,8 @@ use Rattle.means_area.proofs.Flats.Signs.{up-is, up-nn, nn-is}
 use Rattle.means_area.proofs.Flats.Turns.{In, spin, flip}
 use Rattle.means_area.proofs.Flats.Net.{diagonal, higher}
 use Rattle.means_area.proofs.Flats.Choice.{Hit, in-sense}
-use Rattle.means_area.proofs.Flats.Rings.{lst-of}
 use Rattle.means_area.proofs.Flats.First.{first-link, last-link}
+use Rattle.means_area.proofs.Flats.Chains.{lst-of}
 use Rattle.means_inside.specs.Beams.{round, right, beam, Clear, odd, Seen}
 use Rattle.means_inside.proofs.Beams.{low-is, low-no}
 use Rattle.means_inside.proofs.Fan.{fan}

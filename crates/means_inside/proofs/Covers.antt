@@ -12,8 +12,9 @@ use Rattle.means_area.specs.Flats.{Up, Nn, turn, Simple, lst}
 use Rattle.means_area.proofs.Flats.Signs.{up-is, nn-is, off, ways}
 use Rattle.means_area.proofs.Flats.Turns.{spin, flip, flip-last, sum-is, sum-neg}
 use Rattle.means_area.proofs.Flats.Choice.{Hit}
-use Rattle.means_area.proofs.Flats.Rings.{chain-split, chain-left, chain-end, part-back, area-ear}
+use Rattle.means_area.proofs.Flats.Rings.{part-back, area-ear}
 use Rattle.means_area.proofs.Flats.{area-not-zero}
+use Rattle.means_area.proofs.Flats.Chains.{chain-split, chain-left, chain-end}
 use Rattle.means_inside.specs.Beams.{beam, facing, Off, odd, east}
 use Rattle.means_inside.specs.Regions.{InTriangle, left, right}
 use Rattle.means_inside.specs.Touch.{Touch}
@@ -21,7 +22,7 @@ use Rattle.means_inside.proofs.Parity.{round-turned, round-cut, round-e
 use Rattle.means_inside.proofs.Triangle.{inn, base-a, base-b, odd-far, odd-a, odd-b, twice}
 use Rattle.means_inside.proofs.Segment.{beam-back}
 use Rattle.means_inside.proofs.Ears.{facing-back, off-back, off-or, clear3, flip3}
-use Rattle.means_inside.proofs.Disjoint.{turn-link}
+use Rattle.means_inside.proofs.Form.{turn-link}
 
 -- within a triangle, and on neither side at v
 pub within-hit : (v x y p : Flat) → (turn v x y ≡ pos 0 → ⊥) → Off p v x → Off p v y → InTriangle v x y p → Hit v x y p

@@ -16,7 +16,7 @@ use Rattle.means_area.specs.Rings.{Of, Chain, Link}
 use Rattle.means_area.specs.Flats.{Up, Nn, turn, Cross, height, On, Least, lst}
 use Rattle.means_area.proofs.Flats.Signs.{up-is, nn-is, up-nn, up-add, off, zero-off, ways, up-out, diff-up}
 use Rattle.means_area.proofs.Flats.Turns.{env, tE, hE, spin, flip, flat-second}
-use Rattle.means_area.proofs.Flats.Rings.{chain-back, link-back, link-of}
+use Rattle.means_area.proofs.Flats.Chains.{chain-back, link-back, link-of}
 use Rattle.means_inside.specs.Beams.{round, right, beam, Seen}
 use Rattle.means_inside.proofs.Parity.{quiet, silent}
 use Rattle.means_inside.proofs.Beams.{above-is, above-yes, below-is, below-yes, yes-low, no-low}

@@ -14,7 +14,7 @@ use Rattle.paper.specs.declared.Where.{Where}
 use Rattle.paper.specs.declared.Where.the-variants.{Outside, Border, Inside}
 use Rattle.means_area.specs.Rings.{Of}
 use Rattle.means_area.specs.Flats.{Up, turn}
-use Rattle.means_area.proofs.Flats.Rings.{link-of, link-back}
+use Rattle.means_area.proofs.Flats.Chains.{link-of, link-back}
 use Rattle.means_inside.specs.Beams.{round, beam, facing, Clear, odd}
 use Rattle.means_inside.specs.Regions.{Cut, At, hits}
 use Rattle.means_inside.specs.Touch.{Touch}
@@ -22,10 +22,10 @@ use Rattle.means_inside.specs.Means.{big}
 use Rattle.means_inside.proofs.Parity.{odd-round}
 use Rattle.means_inside.proofs.Triangle.{by-ray, out, left-off}
 use Rattle.means_inside.proofs.Triangles.{hits-are}
-use Rattle.means_inside.proofs.Disjoint.{odd-turned, link-turned}
 use Rattle.means_inside.proofs.One.{cover-at, Whole, whole}
 use Rattle.means_inside.proofs.Scale.{crosses-back, odd-is, any-clear, any-touch, touch-not}
 use Rattle.means_inside.specs.Theorems.{WhereMeans}
+use Rattle.means_inside.proofs.Form.{odd-turned, link-turned}
 
 code : Where → ℕ
 code Outside = 0

@@ -19,10 +19,10 @@ use Rattle.means_area.proofs.Flats.Signs.{up-is, nn-is, nn-out, same-ne, same-i
 use Rattle.means_area.proofs.Flats.Turns.{In, flat-second}
 use Rattle.means_area.proofs.Flats.Net.{Ok}
 use Rattle.means_area.proofs.Flats.Choice.{Hit}
-use Rattle.means_area.proofs.Flats.Rings.{lst-append, lst-of}
 use Rattle.means_area.proofs.Flats.Lowest.{of-split}
 use Rattle.means_area.proofs.Flats.First.{first-link, last-link, ear-simple}
 use Rattle.means_area.proofs.Space.Maps.{map-of, map-link, length-map}
+use Rattle.means_area.proofs.Flats.Chains.{lst-append, lst-of}
 use Rattle.means_inside.specs.Beams.{beam, facing, Off, Clear, odd, east}
 use Rattle.means_inside.specs.Regions.{Cut, one, chord, ear, start, InTriangle, At}
 use Rattle.means_inside.specs.Means.{big}
@@ -31,11 +31,13 @@ use Rattle.means_inside.proofs.Segment.{beam-back}
 use Rattle.means_inside.proofs.Look.{Look, empty, far, look}
 use Rattle.means_inside.proofs.Apart.{parts, low1, low2, f1, f2, simple1, simple2}
 use Rattle.means_inside.proofs.Ears.{off-or, off-end, between-odd}
-use Rattle.means_inside.proofs.Disjoint.{map-app, lst-map, clear-with, disjoint, form}
+use Rattle.means_inside.proofs.Disjoint.{disjoint}
 use Rattle.means_inside.proofs.Covers.{Here, chord-here, ear-here, start-here, tri-here, sums}
 use Rattle.means_inside.proofs.Region.{apart, three, ear-inside}
-use Rattle.means_inside.proofs.Scale.{big-turn, big-height, small-up, small-lt, big-simple}
 use Rattle.means_inside.proofs.Chord.{same-between, chord-seen, chord-between}
+use Rattle.means_inside.proofs.Larger.{big-turn, big-height, small-up, small-lt, big-simple}
+use Rattle.means_inside.proofs.Form.{form}
+use Rattle.means_inside.proofs.Together.{map-app, lst-map, clear-with}
 
 -- a chord from the lowest corner: in one of the parts is inside
 cut-inside : (m : ℤ) (u c : Flat) (X : List Flat) (w y : Flat) (Y : List Flat) → Same (turn u c w) (turn u c (lst y Y))

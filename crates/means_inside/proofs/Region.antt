@@ -14,16 +14,16 @@ use Rattle.means_area.specs.Rings.{Of, Pair, Link}
 use Rattle.means_area.specs.Flats.{Nn, turn, height, Simple, Least, lst}
 use Rattle.means_area.proofs.Flats.Net.{Ok}
 use Rattle.means_area.proofs.Flats.Choice.{Hit, ear-ok}
-use Rattle.means_area.proofs.Flats.Rings.{lst-of, Sub, keep, skip, done, sub-of, sub-distinct, narrow}
 use Rattle.means_area.proofs.Flats.First.{first-link, last-link, ends-apart, only-first, not-flat}
+use Rattle.means_area.proofs.Flats.Chains.{lst-of, Sub, keep, skip, done, sub-of, sub-distinct, narrow}
 use Rattle.means_inside.specs.Beams.{beam, facing, Off, Clear, odd, east}
 use Rattle.means_inside.specs.Regions.{InTriangle}
 use Rattle.means_inside.proofs.Parity.{round-ear}
 use Rattle.means_inside.proofs.Segment.{beam-back}
 use Rattle.means_inside.proofs.Cap.{ear-in}
 use Rattle.means_inside.proofs.Ears.{off-or, bool, chord-hit, odd-hit}
-use Rattle.means_inside.proofs.Disjoint.{clear-with, rest-link}
 use Rattle.means_inside.proofs.Covers.{within-hit}
+use Rattle.means_inside.proofs.Together.{clear-with, rest-link}
 
 module _ (m : ℤ) where
   abbrev h : Flat → ℤ

@@ -16,7 +16,7 @@ use Rattle.means_area.specs.Flats.{Up, Nn, turn, Cross, height, On}
 use Rattle.means_area.proofs.Flats.Signs.{up-is, nn-is, up-nn, up-add, off, ways, which, up-out, diff-up}
 use Rattle.means_area.proofs.Flats.Turns.{env, uE, vE, tE, hE, flip}
 use Rattle.means_area.proofs.Flats.Choice.{compare}
-use Rattle.means_area.proofs.Flats.Rings.{link-back}
+use Rattle.means_area.proofs.Flats.Chains.{link-back}
 use Rattle.means_inside.specs.Beams.{right, beam, facing, Off, Clear, odd}
 use Rattle.means_inside.proofs.Parity.{potential, xor-self}
 use Rattle.means_inside.proofs.Beams.{above-is, above-no, below-is, below-no, yes-low, no-low}

@@ -15,7 +15,7 @@ use Rattle.means_area.specs.Rings.{Of}
 use Rattle.means_area.specs.Flats.{Up, Nn, turn}
 use Rattle.means_area.proofs.Flats.Signs.{up-is, nn-is, up-nn, nn-up, off, zero-off, ways, which, nn-out}
 use Rattle.means_area.proofs.Flats.Turns.{In, env, uE, vE, tE, spin, flip}
-use Rattle.means_area.proofs.Flats.Rings.{link-of, link-back}
+use Rattle.means_area.proofs.Flats.Chains.{link-of, link-back}
 use Rattle.means_inside.specs.Beams.{round, right, beam, facing, Off, Clear, east, odd}
 use Rattle.means_inside.proofs.Parity.{silent}
 use Rattle.means_inside.proofs.Beams.{low-no, every-ray}

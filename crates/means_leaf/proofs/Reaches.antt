@@ -12,8 +12,9 @@ use Rattle.sets.specs.Word.{dig, Sub, count, both, less, first}
 use Rattle.paper.specs.Solids.{Reach, fresh, known, acrossEdge, pass, connected}
 use Rattle.means_leaf.specs.Meaning.{start, faces, InTwo, Way, stay, across, Connected}
 use Rattle.sets.proofs.Digits.{never, dig-both, dig-less, dig-only, count-empty, first-in}
-use Rattle.means_leaf.proofs.Forced.{fresh-dig, over-not, reached-dig, all-reached}
+use Rattle.means_leaf.proofs.Forced.{all-reached}
 use Rattle.means_leaf.proofs.Spread.{spread-ways, whole-first, whole-edge}
+use Rattle.means_leaf.proofs.Directions.{fresh-dig, over-not, reached-dig}
 
 -- ---- ways
 pub way-on : {masks : List (List Bool)} {taken : List Bool} {f g h : ℕ} → Way masks taken f g → Way masks taken g h → Way masks taken f h

@@ -9,8 +9,8 @@ use Rattle.sets.specs.Word.{dig, Sub, count, first}
 use Rattle.sets.proofs.Digits.{never, dig-only, first-in}
 use Rattle.paper.specs.Solids.{Reach, fresh, known, runsDown, acrossEdge, pass, spread}
 use Rattle.means_leaf.specs.Meaning.{start, faces}
-use Rattle.means_leaf.proofs.Forced.{over-not, reached-dig, turned-dig}
 use Rattle.means_leaf.proofs.Reaches.{pass-taken}
+use Rattle.means_leaf.proofs.Directions.{over-not, reached-dig, turned-dig}
 
 abbrev Fit : Reach → Type 0
 Fit r = Sub (r .turned) (r .reached)

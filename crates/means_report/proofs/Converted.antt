@@ -25,8 +25,9 @@ use Rattle.paper.specs.declared.Conversion.{Conversion}
 use Rattle.paper.specs.declared.Conversion.the-variants as Conversion
 use Rattle.means_walk.specs.Tree.{assumptions, leaves, steps}
 use Rattle.means_walk.proofs.Grown.{tree}
-use Rattle.means_walk.proofs.Follow.{made-steps, up-least}
+use Rattle.means_walk.proofs.Follow.{up-least}
 use Rattle.means_walk.proofs.Ends.{whole-cap, ended-long, higher-limit}
+use Rattle.means_walk.proofs.Steps.{made-steps}
 use Rattle.means_solid.specs.Solid.{IsSolid}
 use Rattle.means_report.specs.Listed.{entry, WalkTree, walked}
 use Rattle.means_report.specs.Report.{answered, workToNinth, Reported, TooMany, TooFar}

@@ -15,12 +15,14 @@ use Rattle.paper.specs.Clash.{clash}
 use Rattle.paper.specs.Solids.{tablesOf, runsUp, has, faceSix, onceEachWay, oriented, Judgement, Fails, Solid, judged}
 use Rattle.means_clash.proofs.Either.{clash-either}
 use Rattle.means_leaf.specs.Meaning as Rows
-use Rattle.means_leaf.proofs.Forced.{oriented-here, oriented-alike}
+use Rattle.means_leaf.proofs.Forced.{oriented-alike}
 use Rattle.means_leaf.proofs.Solids.{six-alike, judged-solid, solid-judged, judged-within}
+use Rattle.means_leaf.proofs.Directions.{oriented-here}
 use Rattle.means_solid.specs.Solid.{Face, InTwo, Way, stay, cross, IsSolid}
 use Rattle.means_solid.proofs.Goes.{taken-in}
 use Rattle.means_report.specs.Proper.{Fair, Same}
-use Rattle.means_report.proofs.Rows.{on-told, told-on, two-told, told-two, each-told, told-each, six-told, clear-told, told-clear}
+use Rattle.means_report.proofs.Rows.{clear-told, told-clear}
+use Rattle.means_report.proofs.EdgeMasks.{on-told, told-on, two-told, told-two, each-told, told-each, six-told}
 
 -- ---- the masks are those of the edges
 module _ (g : Edge → List Bool) where

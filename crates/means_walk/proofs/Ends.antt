@@ -15,7 +15,8 @@ use Rattle.means_walk.specs.Tree.{Tree, assumptions, leaves, steps, made
 use Rattle.means_walk.proofs.Complete.{finds, times-filter}
 use Rattle.means_walk.proofs.Limit.{walk-higher}
 use Rattle.means_walk.proofs.Grown.{sweeps-stable, sweeps, tree, tree-leaves}
-use Rattle.means_walk.proofs.Follow.{follow, walk-follows, follow-ends, made-steps, sought-steps, up-whole}
+use Rattle.means_walk.proofs.Follow.{follow-ends, up-whole}
+use Rattle.means_walk.proofs.Steps.{follow, walk-follows, made-steps, sought-steps}
 
 open-blank : (n : ℕ) → openCount (replicate n Undecided) ≡ n
 unfolding openCount

@@ -12,7 +12,8 @@ use Rattle.paper.specs.Walk.{Status, Taken, Rejected, openCount, Outcome, Broke
 use Rattle.means_walk.specs.Complete.{solutions}
 use Rattle.means_walk.specs.Tree.{Sweeps, breaks, rests, again, Tree, broken, leaf, branch, leaves, Step, assumes, comes, steps}
 use Rattle.means_walk.proofs.Status.{opens, count-set}
-use Rattle.means_walk.proofs.Complete.{sweep-fewer, sweep-still, stable-rest, choose-open}
+use Rattle.means_walk.proofs.Complete.{choose-open}
+use Rattle.means_walk.proofs.Settled.{sweep-fewer, sweep-still, stable-rest}
 
 module _ (masks : List (List Bool)) where
   -- the sweeps end as `stable` says, with any fuel above the undecided

@@ -12,8 +12,8 @@ use Rattle.paper.specs.declared.Flat.{Flat}
 use Rattle.means_area.specs.Rings.{Of, Pair, Chain, Link}
 use Rattle.means_area.specs.Flats.{turn, height, Fresh, Distinct, Simple, Least, area, Same, lst}
 use Rattle.means_area.proofs.Flats.Choice.{Hit, Choice, bent, ear-ok, choose}
-use Rattle.means_area.proofs.Flats.Rings.{lst-of, link-back, chain-last, chain-end, narrow}
 use Rattle.means_area.proofs.Flats.Lowest.{pair-swap}
+use Rattle.means_area.proofs.Flats.Chains.{lst-of, link-back, chain-last, chain-end, narrow}
 
 -- no corner of g is in the triangle
 abbrev pub Free : Flat → Flat → Flat → List Flat → Type 0

@@ -12,7 +12,7 @@ use Rattle.paper.specs.declared.Flat.{Flat}
 use Rattle.means_area.specs.Rings.{Of, Pair}
 use Rattle.means_area.specs.Flats.{height, Distinct, Least, lst}
 use Rattle.means_area.proofs.Flats.Choice.{compare}
-use Rattle.means_area.proofs.Flats.Rings.{Sub, keep, sub-none, of-append, of-right}
+use Rattle.means_area.proofs.Flats.Chains.{Sub, keep, sub-none, of-append, of-right}
 
 -- ---- splitting a list at a corner
 

@@ -14,11 +14,12 @@ use Rattle.means_area.specs.Flats.{turn, height, Simple, Least, area, Sa
 use Rattle.means_area.proofs.Flats.Signs.{same-trans, same-is, same-is2, same-ne, same-neg}
 use Rattle.means_area.proofs.Flats.Turns.{flip-last, flat-second}
 use Rattle.means_area.proofs.Flats.Choice.{Hit, Choice, whole, cut, near}
-use Rattle.means_area.proofs.Flats.Rings.{lst-append, lst-of, chain-left, chain-last, of-append, turned, ok-turned, area-turned}
+use Rattle.means_area.proofs.Flats.Rings.{area-turned}
 use Rattle.means_area.proofs.Flats.Lowest.{of-split, of-prefix, both-empty, Found, lowest}
 use Rattle.means_area.proofs.Flats.First.{Free, ends-apart, first-link, last-link, choice, ear-simple, Area, Rest}
 use Rattle.means_area.proofs.Flats.Around.{Second, OneTurn, u-v, at-v, from-v, x-is, square, without}
 use Rattle.means_area.proofs.Flats.Chords.{Chord, cut-behind, cut-before}
+use Rattle.means_area.proofs.Flats.Chains.{lst-append, lst-of, chain-left, chain-last, of-append, turned, ok-turned}
 
 module _ (m : ℤ) (n : ℕ) (A : Area m n) (R : Rest m n) where
   abbrev h : Flat → ℤ

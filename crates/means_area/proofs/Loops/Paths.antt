@@ -14,7 +14,7 @@ use Rattle.lists.proofs.Truth.{and-left, and-right, or-cases, or-left}
 use Rattle.paper.specs.Loops.{Loop, final, follows, closes, branch, scan, ext}
 use Rattle.means_area.specs.Rings.{Of, Pair, Chain, Link}
 use Rattle.means_area.specs.Flats.{lst}
-use Rattle.means_area.proofs.Flats.Rings.{lst-append, lst-of, chain-split, of-append}
+use Rattle.means_area.proofs.Flats.Chains.{lst-append, lst-of, chain-split, of-append}
 
 module _ (n : ℕ) (linked : ℕ → ℕ → Bool) (level : List ℕ → ℕ → Bool) where
   -- a path, vertex by vertex

@@ -18,9 +18,9 @@ use Rattle.paper_laws.proofs.Points.{zero-yes, zero-is, origin-yes, origin-no, 
 use Rattle.paper_laws.proofs.Vectors.{num, vec, x, _*s_, negs, _·_, o, v, k, _-v_, _*v_, _×v_, vring}
 use Rattle.means_area.specs.Rings.{Of}
 use Rattle.means_area.specs.Space.{Level}
-use Rattle.means_area.proofs.Flats.Rings.{of-append}
 use Rattle.means_area.proofs.Space.Maps.{map-of}
 use Rattle.means_area.proofs.Loops.Paths.{Way, by-steps, next}
+use Rattle.means_area.proofs.Flats.Chains.{of-append}
 
 module _ (d : Wire) where
   -- ---- the plane of a path

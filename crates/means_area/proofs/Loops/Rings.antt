@@ -13,10 +13,10 @@ use Rattle.means_drawing.specs.Drawings.{Joined}
 use Rattle.means_drawing.proofs.Drawings.{samePlace-means}
 use Rattle.means_area.specs.Rings.{Of, Link}
 use Rattle.means_area.specs.Space.{Different, Clear}
-use Rattle.means_area.proofs.Flats.Rings.{link-back, link-of}
 use Rattle.means_area.proofs.Space.Maps.{map-of, map-link}
 use Rattle.means_area.proofs.Loops.Paths.{Closed, below, Differ, all-differ, closed-long, closed-tied, closed-apart}
 use Rattle.means_area.proofs.Loops.Edges.{tie-edge, free, crossing}
+use Rattle.means_area.proofs.Flats.Chains.{link-back, link-of}
 
 module _ (d : Wire) where
   abbrev size : ℕ

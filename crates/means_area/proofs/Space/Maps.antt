@@ -5,7 +5,7 @@ use mathlib.Core.List.{List, [], _∷_, map}
 use Prim.Native.Nat.{suc}
 use lib.ListN.{length}
 use Rattle.means_area.specs.Rings.{Of, Pair, Chain, Link}
-use Rattle.means_area.proofs.Flats.Rings.{link-back, link-of}
+use Rattle.means_area.proofs.Flats.Chains.{link-back, link-of}
 
 module _ {A B : Type 0} (f : A → B) where
   pub map-of : (y : B) (l : List A) → Of y (map f l) → (a : A) × Of a l × (y ≡ f a)

@@ -26,11 +26,11 @@ use Rattle.means_area.specs.Flats.{turn, Cross, height, On, Distinct, Si
 use Rattle.means_area.specs.Space.{Different, Clear, Level}
 use Rattle.means_area.proofs.Flats.Signs.{up-is, nn-is, up-nn, up-add, zero-off, diff-up}
 use Rattle.means_area.proofs.Flats.Turns.{flat-first, flat-second}
-use Rattle.means_area.proofs.Flats.Rings.{link-back, link-of}
 use Rattle.means_area.proofs.Flats.Around.{x-is}
 use Rattle.means_area.proofs.Flats.{area-not-zero}
 use Rattle.means_area.proofs.Space.Maps.{map-of, map-link, length-map, end-of}
 use Rattle.means_area.proofs.Space.Heights.{bound, bound-nn, bounded, steep}
+use Rattle.means_area.proofs.Flats.Chains.{link-back, link-of}
 
 abbrev pub down : Point → Flat
 down p = record { u = p .x; v = p .y }
