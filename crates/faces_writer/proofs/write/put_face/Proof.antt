@@ -19,8 +19,11 @@ use Rattle.faces_writer.proofs.write.put_face.Tie as tie
 
 -- ---- the way back from each call to the one before it
 
+abbrev entry : tie.After-shared-slice-known2 → tie.Start
+entry c = c .before .before .before
+
 abbrev start : tie.After-put → tie.Start
-start c = c .before .before .before .before .before
+start c = entry (c .before .before)
 
 abbrev counted : tie.After-put-corners → tie.After-put
 counted c = c .before .before .before .before
@@ -52,13 +55,13 @@ mul-first : tie.Need-mul-first
 mul-first c = search needs
 
 shared-slice-read-c : tie.Need-shared-slice-read-c
-shared-slice-read-c c = omega (arith, whole (c .before .before .before))
+shared-slice-read-c c = omega (arith, whole (entry c))
 
 cast-c : tie.Need-cast-c
-cast-c c = omega (arith, c .shared-slice-known2 .given (rowBytes * c .before .before .before .args .k))
+cast-c c = omega (arith, c .shared-slice-known2 .given (rowBytes * entry c .args .k))
 
 put-requires : tie.Need-put-requires
-put-requires c κs = let s = c .before .before .before .before in omega (arith, span-is s, s .pre .faces .roomy)
+put-requires c κs = let s = entry (c .before) in omega (arith, span-is s, s .pre .faces .roomy)
 
 add-put-corners : tie.Need-add-put-corners
 add-put-corners c = search needs
