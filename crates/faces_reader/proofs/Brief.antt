@@ -2,6 +2,7 @@
 use Prim.Native.Nat.{ℕ, _≤_, _*_}
 use native.Mathlib.Nat.{mul-le-mul}
 use native.Mathlib.Omega.{arith}
+use Rattle.paper.specs.Numbers.{mostCorners}
 use Rattle.paper.specs.Format.{editionOne}
 use Rattle.faces_reader.specs.Face.{Brief}
 
@@ -9,5 +10,5 @@ pub one-brief : Brief editionOne
 one-brief = record { slender = omega arith; f-held = omega arith; face-count-wide = omega arith }
 
 -- at most 12 fields of at most 8 bits
-pub corners-small : {w c : ℕ} → w ≤ 8 → c ≤ 12 → w * c ≤ 96
-corners-small {w} {c} hw hc = mul-le-mul {n₁ = w} {m₁ = c} {n₂ = 8} {m₂ = 12} hw hc
+pub corners-small : {w c : ℕ} → w ≤ 8 → c ≤ mostCorners → w * c ≤ 96
+corners-small {w} {c} hw hc = mul-le-mul {n₁ = w} {m₁ = c} {n₂ = 8} {m₂ = mostCorners} hw hc

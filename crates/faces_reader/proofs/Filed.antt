@@ -1,4 +1,4 @@
--- The rows of a face list that 20 has nothing against hold its faces. Assumes nothing.
+-- The rows of a face list that passes 20 hold its faces. Assumes nothing.
 use mathlib.Core.Path.{_≡_, refl, sym, ap, subst, _∙_}
 use mathlib.Core.Bool.{Bool, true, false, cond}
 use mathlib.Core.List.{List, [], flatMap}
@@ -17,7 +17,7 @@ use Rattle.paper.specs.declared.Faces.{Faces}
 use Rattle.paper.specs.declared.Answer.the-variants.{Fine}
 use Rattle.paper_laws.proofs.Rows.{row-first, row-corner, rows-long, rows-at}
 use Rattle.faces_reader.specs.Face.{Brief}
-use Rattle.faces_reader.specs.Filed.{Filed}
+use Rattle.faces_reader.specs.Filed.{allRows, Filed}
 use Rattle.faces_laws.proofs.Shape.{shape-yes, face-yes}
 use Rattle.faces_laws.proofs.FaceList.{length-in}
 
@@ -29,31 +29,32 @@ module _ (v : ℕ) (fs : List Loop)
     × ((j : ℕ) → j < length (getD fs k []) → getD (getD fs k []) j 0 < v))
     (few : length fs ≤ editionOne .«most_faces») where
   abbrev rows : List ℕ
-  rows = padded (flatMap row fs) (rowBytes * editionOne .«most_faces») 0
+  rows = padded (flatMap row fs) allRows 0
 
-  long : length (flatMap row fs) ≡ 13 * length fs
+  long : length (flatMap row fs) ≡ rowBytes * length fs
   long = rows-long fs (λ k h. fit k h .1)
 
   module _ (r : ℕ) (h : r < length fs) where
     abbrev l : Loop
     l = getD fs r []
 
-    cell : (j : ℕ) → j < 13 → getD rows (13 * r + j) 0 ≡ getD (row l) j 0
-    cell j m = getD-padded (flatMap row fs) 546 (13 * r + j) 0 (omega (arith, long)) ∙ rows-at fs (λ k n. fit k n .1) r j h m
+    cell : (j : ℕ) → j < rowBytes → getD rows (rowBytes * r + j) 0 ≡ getD (row l) j 0
+    cell j m =
+        getD-padded (flatMap row fs) allRows (rowBytes * r + j) 0 (omega (arith, long)) ∙ rows-at fs (λ k n. fit k n .1) r j h m
 
-    count-is : getD rows (13 * r) 0 ≡ length l
+    count-is : getD rows (rowBytes * r) 0 ≡ length l
     count-is =
-        let e : 13 * r ≡ 13 * r + 0 = omega arith in
+        let e : rowBytes * r ≡ rowBytes * r + 0 = omega arith in
         ap (λ (i : ℕ). getD rows i 0) e ∙ cell 0 (omega arith) ∙ row-first l
 
-    corner-is : (k : ℕ) → k < length l → getD rows (13 * r + 1 + k) 0 ≡ getD l k 0
+    corner-is : (k : ℕ) → k < length l → getD rows (rowBytes * r + 1 + k) 0 ≡ getD l k 0
     corner-is k n =
-        let e : 13 * r + 1 + k ≡ 13 * r + suc k = omega arith in
+        let e : rowBytes * r + 1 + k ≡ rowBytes * r + suc k = omega arith in
         ap (λ (i : ℕ). getD rows i 0) e ∙ cell (suc k) (omega (arith, fit r h .1)) ∙ row-corner l k n
 
     pub row-filed : Filed rows v r
     row-filed = record {
-      room = omega (arith, length-padded (flatMap row fs) 546 0 (omega (arith, long)));
+      room = omega (arith, length-padded (flatMap row fs) allRows 0 (omega (arith, long)));
       least = omega (arith, count-is, fit r h .0);
       most = omega (arith, count-is, fit r h .1);
       below = λ k n. let m : k < length l = omega (arith, count-is) in rw (corner-is k m) (fit r h .2 k m);
@@ -63,13 +64,14 @@ module _ (v : ℕ) (fs : List Loop)
 
 module _ (f : Format) (v : ℕ) (s : List ℕ) where
   abbrev held : Faces
-  held = record { answer = Fine; count = countIn f s; rows = padded (flatMap row (facesIn f s)) (rowBytes * editionOne .«most_faces») 0 }
+  held = record { answer = Fine; count = countIn f s; rows = padded (flatMap row (facesIn f s)) allRows 0 }
 
   fine-is : Fine ≡ facesOf f v s .answer → (wellShaped f v s ≡ true) × (facesOf f v s ≡ held)
   unfolding facesOf
   fine-is e = go (wellShaped f v s) refl e
     where
-      go : (b : Bool) → wellShaped f v s ≡ b → Fine ≡ cond b held noFaces .answer → (wellShaped f v s ≡ true) × (cond b held noFaces ≡ held)
+      go : (b : Bool) → wellShaped f v s ≡ b → Fine ≡ cond b held noFaces .answer
+          → (wellShaped f v s ≡ true) × (cond b held noFaces ≡ held)
       go true t q = (t, refl)
       go false t q = let z : _≡_ {A = ℕ} 0 1 = cc in absurd (omega arith)
 

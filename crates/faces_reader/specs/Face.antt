@@ -18,17 +18,26 @@ pub record Brief (f : Format) : Type 0 where
   pub face-count-wide : 5 ≤ f .«face_count_bits»
 
 module _ (f : Format) where
-  -- the face count, if edition and count are right and the list has bits for them
+  -- edition and count are right, and the list has bits for them
+  abbrev pub begins : List ℕ → Bool
+  begins s = leb 2 (length s) && eqb (fieldAt s 0 editionBits) (f .edition) && not (outside leastFaces (f .«most_faces») (countIn f s))
+
+  -- the face count, if the list begins so
   unfoldable pub countOf : List ℕ → Option ℕ
-  countOf s =
-      cond (leb 2 (length s) && eqb (fieldAt s 0 editionBits) (f .edition) && not (outside leastFaces (f .«most_faces») (countIn f s)))
-      (some (countIn f s)) none
+  countOf s = cond (begins s) (some (countIn f s)) none
+
+  -- the bit behind a face of c corners that starts at bit p, and these corners
+  abbrev pub faceEnd : ℕ → ℕ → ℕ
+  faceEnd p c = p + cornerBits + f .«vertex_number_bits» * c
+
+  abbrev pub cornersIn : List ℕ → ℕ → ℕ → List ℕ
+  cornersIn s p c = fieldsAt s (p + cornerBits) (f .«vertex_number_bits») c
 
   -- the corner count of the face at bit p, if it fits a drawing of v vertices and the list has its bits
   unfoldable pub faceAt : ℕ → List ℕ → ℕ → Option ℕ
   faceAt v s p =
       let c = fieldAt s p cornerBits in
-      cond (leb (p + cornerBits + f .«vertex_number_bits» * c) (length s * 8) && faceFits f v (fieldsAt s (p + cornerBits) (f .«vertex_number_bits») c)) (some c) none
+      cond (leb (faceEnd p c) (length s * 8) && faceFits f v (cornersIn s p c)) (some c) none
 
 -- the list ends with the fill of p bits
 unfoldable pub closesAt : List ℕ → ℕ → Bool

@@ -4,6 +4,11 @@ use mathlib.Core.List.{List}
 use Prim.Native.Nat.{ℕ, _+_, _*_, _≤_, _<_}
 use lib.ListN.{length, getD}
 use Rattle.paper.specs.Numbers.{leastCorners, mostCorners, rowBytes}
+use Rattle.paper.specs.Format.{editionOne}
+
+-- the bytes of the rows that a face list by value has
+abbrev pub allRows : ℕ
+allRows = rowBytes * editionOne .«most_faces»
 
 -- row r of rows
 pub record Filed (rows : List ℕ) (v r : ℕ) : Type 0 where

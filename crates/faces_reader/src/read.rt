@@ -1,17 +1,17 @@
 // A packed face list, read for a drawing of v vertices: refusal 20. Nothing is assumed of the list.
 ghost use mathlib.Core.Path.{_≡_};
-ghost use mathlib.Core.Bool.{true};
-ghost use Prim.Native.Nat.{_+_, _*_, _≤_, _<_};
+ghost use Prim.Native.Nat.{_≤_};
 ghost use lib.Dec.{ltb};
-ghost use lib.ListN.{length, getD};
+ghost use lib.ListN.{getD};
 ghost use lib.Seq.{paste};
 ghost use Rattle.pack.specs.Bits.{fieldsAt};
 ghost use Rattle.lists.specs.Lists.{all};
 ghost use Rattle.lists.specs.Found.{found};
+ghost use Rattle.paper.specs.Numbers.{rowBytes};
 ghost use Rattle.paper.specs.Loops.{row};
 ghost use Rattle.paper.specs.FaceList.{noFaces, facesOf};
-ghost use Rattle.faces_reader.specs.Face.{Brief};
-ghost use Rattle.faces_reader.specs.Face.{faceAt, countOf, closesAt};
+ghost use Rattle.faces_reader.specs.Face.{Brief, countOf, faceAt, closesAt};
+ghost use Rattle.faces_reader.specs.Asked.{Fields, Cell, PutRow, FacePlace};
 use lists::Found;
 use paper::Answer;
 use paper::Faces;
@@ -47,7 +47,7 @@ fn count_in(f: Format, s: &[u8]) -> Found
 
 // Whether the c numbers of w bits from bit i on are vertices below v.
 fn are_below(v: usize, s: &[u8], i: usize, w: usize, c: usize) -> bool
-    requires { ⌜ (w ≤ 8) × (c ≤ 12) × (i + w * c ≤ length (now s) * 8) × (i ≤ 8192) ⌝ }
+    requires { ⌜ Fields (now s) i w c ⌝ }
     ensures { λ r. ⌜ r ≡ all (λ x. ltb x v) (fieldsAt (now (s .entry)) i w c) ⌝ }
 {
     let mut k: usize = 0;
@@ -62,10 +62,10 @@ fn are_below(v: usize, s: &[u8], i: usize, w: usize, c: usize) -> bool
 
 // The corner count of the face that starts at bit `at`, where there is such a face.
 fn face_at(f: Format, s: &[u8], at: usize, v: usize) -> Found
-    requires { ⌜ Brief f × (at ≤ 8000) ⌝ }
+    requires { ⌜ FacePlace f at ⌝ }
     ensures { λ r. ⌜ found r ≡ faceAt f v (now (s .entry)) at ⌝ }
 {
-    if s.len() < (at + 11) / 8 {
+    if s.len() < (at + paper::CORNER_BITS + 7) / 8 {
         return Found::Nothing;
     }
     let c = pack::field(s, at, paper::CORNER_BITS);
@@ -73,7 +73,7 @@ fn face_at(f: Format, s: &[u8], at: usize, v: usize) -> Found
         return Found::Nothing;
     }
     let n = c as usize;
-    if s.len() < (at + 11 + f.vertex_number_bits * n) / 8 {
+    if s.len() < (at + paper::CORNER_BITS + f.vertex_number_bits * n + 7) / 8 {
         return Found::Nothing;
     }
     if are_below(v, s, at + paper::CORNER_BITS, f.vertex_number_bits, n) {
@@ -84,7 +84,7 @@ fn face_at(f: Format, s: &[u8], at: usize, v: usize) -> Found
 
 // Cell j of the row of the c numbers of w bits from bit i on.
 fn cell(s: &[u8], i: usize, w: usize, c: usize, j: usize) -> u8
-    requires { ⌜ (w ≤ 8) × (c ≤ 12) × (i + w * c ≤ length (now s) * 8) × (i ≤ 8192) × (j < 13) ⌝ }
+    requires { ⌜ Cell (now s) i w c j ⌝ }
     ensures { λ r. ⌜ r ≡ getD (row (fieldsAt (now (s .entry)) i w c)) j 0 ⌝ }
 {
     if j == 0 {
@@ -98,8 +98,8 @@ fn cell(s: &[u8], i: usize, w: usize, c: usize, j: usize) -> u8
 
 // Writes that row at byte `at`.
 fn put_row(s: &[u8], i: usize, w: usize, c: usize, rows: &mut [u8], at: usize)
-    requires { ⌜ (w ≤ 8) × (c ≤ 12) × (i + w * c ≤ length (now s) * 8) × (i ≤ 8192) × (at + 13 ≤ length (now rows)) ⌝ }
-    ensures { λ _. ⌜ now (rows .exit) ≡ paste (now (rows .entry)) at (row (fieldsAt (now (s .entry)) i w c)) 13 ⌝ }
+    requires { ⌜ PutRow (now s) i w c (now rows) at ⌝ }
+    ensures { λ _. ⌜ now (rows .exit) ≡ paste (now (rows .entry)) at (row (fieldsAt (now (s .entry)) i w c)) rowBytes ⌝ }
 {
     let mut j: usize = 0;
     while j < paper::ROW {

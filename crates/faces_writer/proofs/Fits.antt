@@ -9,6 +9,7 @@ use lib.ListN.{length, getD, length-reverse}
 use Rattle.lists.specs.Lists.{all}
 use Rattle.lists.proofs.Passing.{all-reverse}
 use Rattle.lists.proofs.Backwards.{getD-reverse}
+use Rattle.paper.specs.Numbers.{leastCorners, mostCorners}
 use Rattle.paper.specs.Format.{outside}
 use Rattle.paper.specs.Loops.{Loop, flipped}
 use Rattle.paper.specs.FaceList.{faceFits}
@@ -33,7 +34,8 @@ way-length false l = refl
 
 pub way-fits : (f : Format) (v : ℕ) (b : Bool) (l : Loop) → faceFits f v (way b l) ≡ faceFits f v l
 unfolding faceFits
-way-fits f v true l = ap₂ (λ (n : ℕ) (b : Bool). not (outside 3 12 n) && b) (flipped-length l) (flipped-all (λ c. ltb c v) l)
+way-fits f v true l =
+    ap₂ (λ (n : ℕ) (b : Bool). not (outside leastCorners mostCorners n) && b) (flipped-length l) (flipped-all (λ c. ltb c v) l)
 way-fits f v false l = refl
 
 pub way-first : (b : Bool) (l : Loop) → getD (way b l) 0 0 ≡ getD l 0 0

@@ -1,27 +1,31 @@
 -- What faces weigh: their count and their bits where all fit, candidate by candidate. Assumes nothing.
 use mathlib.Core.Path.{_≡_, refl, sym, ap, ap₂, _∙_}
 use mathlib.Core.Bool.{Bool, true, false, _&&_, cond}
-use mathlib.Core.Option.{none, some}
+use mathlib.Core.Option.{Option, none, some}
 use mathlib.Core.List.{List, [], _∷_}
 use Prim.Native.Nat.{ℕ, suc, _+_, _*_, _≤_, _<_}
 use native.Mathlib.Nat.{add-assoc, zero-add, add-zero}
 use native.Mathlib.Omega.{arith}
-use lib.ListN.{length}
-use Rattle.lists.specs.Lists.{all, keep}
+use lib.ListN.{length, length-map}
+use Rattle.lists.specs.Lists.{all, keep, filter, upto}
 use Rattle.lists.proofs.Truth.{and-left, and-right}
+use Rattle.lists.proofs.Places.{upto-length}
 use Rattle.lists.proofs.Kept.{keptFrom, kept-start, kept-next, kept-end}
+use Rattle.paper.specs.Numbers.{mostCandidates}
+use Rattle.paper.specs.Format.{cornerBits}
 use Rattle.paper.specs.Loops.{Loop}
 use Rattle.paper.specs.FaceList.{span, rowAt, solidFaces}
 use Rattle.paper.specs.declared.Format.{Format}
 use Rattle.faces_reader.specs.Face.{Brief}
-use Rattle.faces_writer.specs.Send.{marked, faceOf, faceAlone, fits, cornersOf, weight}
+use Rattle.faces_writer.specs.Send.{marked, faceOf, faceAlone, fits, cornersOf, weight, Weighed}
 use Rattle.faces_writer.specs.declared.write.Extent.{Extent}
 use Rattle.faces_writer.specs.declared.write.Extent.the-variants.{Misfit, Of}
 use Rattle.faces_reader.proofs.Brief.{corners-small}
 use Rattle.faces_laws.proofs.Shape.{face-yes}
 use Rattle.faces_writer.proofs.Fits.{way-length, way-fits}
 
--- two weights one behind the other
+-- ---- two weights one behind the other
+
 abbrev pub plus : Extent → Extent → Extent
 plus Misfit y = Misfit
 plus (Of n a) Misfit = Misfit
@@ -38,7 +42,31 @@ plus-plus : (n a m b : ℕ) (w : Extent) → plus (Of n a) (plus (Of m b) w) ≡
 plus-plus n a m b Misfit = refl
 plus-plus n a m b (Of o c) = of (sym (add-assoc n m o)) (sym (add-assoc a b c))
 
+-- ---- a solid has at most 64 faces
+
+length-keep : {A : Type 0} (b : Bool) (x : A) (xs : List A) → length (keep b x xs) ≤ suc (length xs)
+unfolding keep
+length-keep true x xs = omega arith
+length-keep false x xs = omega arith
+
+length-filter : (p : ℕ → Bool) (xs : List ℕ) → length (filter p xs) ≤ length xs
+unfolding filter
+length-filter p [] = omega arith
+length-filter p (x ∷ xs) = omega (arith, length-keep (p x) x (filter p xs), length-filter p xs)
+
+faces-few : (rows : List ℕ) (taken turned : ℕ) → length (solidFaces rows taken turned) ≤ mostCandidates
+unfolding solidFaces
+faces-few rows taken turned =
+    let ks = filter (marked taken) (upto mostCandidates) in
+    omega (arith, length-map ks (faceOf rows turned), length-filter (marked taken) (upto mostCandidates), upto-length mostCandidates)
+
 module _ (f : Format) where
+  -- the bits of a face of c corners
+  abbrev pub faceSpan : ℕ → ℕ
+  faceSpan c = cornerBits + f .«vertex_number_bits» * c
+
+  -- ---- the weight of a list
+
   weight-none : weight f [] ≡ Of 0 0
   unfolding weight all span
   weight-none = refl
@@ -47,24 +75,18 @@ module _ (f : Format) where
   unfolding weight all span keep
   weight-keep true l fs = go (fits f l) (all (fits f) fs)
     where
-      go : (x y : Bool) → cond (x && y) (Of (suc (length fs)) (4 + f .«vertex_number_bits» * length l + span f fs)) Misfit
-          ≡ plus (cond (x && true) (Of 1 (4 + f .«vertex_number_bits» * length l + 0)) Misfit) (cond y (Of (length fs) (span f fs)) Misfit)
+      go : (x y : Bool) → cond (x && y) (Of (suc (length fs)) (faceSpan (length l) + span f fs)) Misfit
+          ≡ plus (cond (x && true) (Of 1 (faceSpan (length l) + 0)) Misfit) (cond y (Of (length fs) (span f fs)) Misfit)
       go true true = of (omega arith) (omega arith)
       go true false = refl
       go false y = refl
   weight-keep false l fs = plus-none (cond (all (fits f) fs) (Of (length fs) (span f fs)) Misfit)
 
-  -- what a weight says of the faces
-  pub record Weighed (fs : List Loop) (n s : ℕ) : Type 0 where
-    pub fit : all (fits f) fs ≡ true
-    pub count-is : n ≡ length fs
-    pub span-is : s ≡ span f fs
-
-  pub weighed : (fs : List Loop) {n s : ℕ} → Of n s ≡ weight f fs → Weighed fs n s
+  pub weighed : (fs : List Loop) {n b : ℕ} → Of n b ≡ weight f fs → Weighed f fs n b
   unfolding weight
-  weighed fs {n} {s} e = go (all (fits f) fs) refl e
+  weighed fs {n} {b} e = go (all (fits f) fs) refl e
     where
-      go : (b : Bool) → all (fits f) fs ≡ b → Of n s ≡ cond b (Of (length fs) (span f fs)) Misfit → Weighed fs n s
+      go : (x : Bool) → all (fits f) fs ≡ x → Of n b ≡ cond x (Of (length fs) (span f fs)) Misfit → Weighed f fs n b
       go true t q = record { fit = t; count-is = cc; span-is = cc }
       go false t q = let z : _≡_ {A = ℕ} 0 1 = cc in absurd (omega arith)
 
@@ -72,106 +94,131 @@ module _ (f : Format) where
   unfolding weight
   misfit fs e = go (all (fits f) fs) refl e
     where
-      go : (b : Bool) → all (fits f) fs ≡ b → Misfit ≡ cond b (Of (length fs) (span f fs)) Misfit → all (fits f) fs ≡ false
+      go : (x : Bool) → all (fits f) fs ≡ x → Misfit ≡ cond x (Of (length fs) (span f fs)) Misfit → all (fits f) fs ≡ false
       go true t q = let z : _≡_ {A = ℕ} 0 1 = cc in absurd (omega arith)
       go false t q = t
 
   -- faces that fit are small
-  pub span-small : Brief f → (fs : List Loop) → all (fits f) fs ≡ true → span f fs ≤ 100 * length fs
+  span-small : Brief f → (fs : List Loop) → all (fits f) fs ≡ true → span f fs ≤ 100 * length fs
   unfolding all span
   span-small g [] h = omega arith
   span-small g (l ∷ fs) h =
       let a = and-left (fits f l) (all (fits f) fs) h in
       let b = and-right (fits f l) (all (fits f) fs) h in
-      omega (arith, span-small g fs b, corners-small (g .slender .vertex-number-narrow) (face-yes f (f .«most_vertices») l a .1))
+      let c = face-yes f (f .«most_vertices») l a .1 in
+      omega (arith, span-small g fs b, corners-small (g .slender .vertex-number-narrow) c)
 
   module _ (rows : List ℕ) (taken : ℕ) where
-    -- one candidate: not taken, no face, a face
-    pub weigh-left : (k : ℕ) → marked taken k ≡ false → (turned : ℕ) → Of 0 0 ≡ weight f (faceAlone rows taken turned k)
-    unfolding faceAlone keep
-    weigh-left k e turned = rw e (sym weight-none)
+    pub solid-small : Brief f → (turned : ℕ) → all (fits f) (solidFaces rows taken turned) ≡ true
+        → span f (solidFaces rows taken turned) ≤ 6400
+    solid-small g turned h =
+        omega (arith, span-small g (solidFaces rows taken turned) h, faces-few rows taken turned)
 
-    weigh-one : (k turned : ℕ) → marked taken k ≡ true → cond (fits f (rowAt rows k)) (Of 1 (4 + f .«vertex_number_bits» * length (rowAt rows k))) Misfit ≡ weight f (faceAlone rows taken turned k)
-    unfolding faceAlone keep weight all span
-    weigh-one k turned e =
-        let l = rowAt rows k in
-        let b = marked turned k in
-        rw (e, way-fits f (f .«most_vertices») b l, way-length b l) (go (fits f l))
-      where
-        go : (b : Bool) → cond b (Of 1 (4 + f .«vertex_number_bits» * length (rowAt rows k))) Misfit ≡ cond (b && true) (Of 1 (4 + f .«vertex_number_bits» * length (rowAt rows k) + 0)) Misfit
-        go true = of refl (omega arith)
-        go false = refl
-
-    pub weigh-none : (k : ℕ) → marked taken k ≡ true → none ≡ cornersOf f (rowAt rows k) → (turned : ℕ) → Misfit ≡ weight f (faceAlone rows taken turned k)
-    unfolding cornersOf
-    weigh-none k e q turned = go (fits f (rowAt rows k)) q (weigh-one k turned e)
-      where
-        go : (b : Bool) → none ≡ cond b (some (length (rowAt rows k))) none → cond b (Of 1 (4 + f .«vertex_number_bits» * length (rowAt rows k))) Misfit ≡ weight f (faceAlone rows taken turned k)
-            → Misfit ≡ weight f (faceAlone rows taken turned k)
-        go true q w = let z : _≡_ {A = ℕ} 0 1 = cc in absurd (omega arith)
-        go false q w = w
-
-    pub weigh-face : (k : ℕ) {c : ℕ} → marked taken k ≡ true → some c ≡ cornersOf f (rowAt rows k) → (turned : ℕ) → Of 1 (4 + f .«vertex_number_bits» * c) ≡ weight f (faceAlone rows taken turned k)
-    unfolding cornersOf
-    weigh-face k {c} e q turned = go (fits f (rowAt rows k)) q (weigh-one k turned e)
-      where
-        go : (b : Bool) → some c ≡ cond b (some (length (rowAt rows k))) none → cond b (Of 1 (4 + f .«vertex_number_bits» * length (rowAt rows k))) Misfit ≡ weight f (faceAlone rows taken turned k)
-            → Of 1 (4 + f .«vertex_number_bits» * c) ≡ weight f (faceAlone rows taken turned k)
-        go true q w = let d : c ≡ length (rowAt rows k) = cc in ap (λ (n : ℕ). Of 1 (4 + f .«vertex_number_bits» * n)) d ∙ w
-        go false q w = let z : _≡_ {A = ℕ} 0 1 = cc in absurd (omega arith)
-
-    -- the faces from candidate k on
-    unfoldable pub facesLeft : ℕ → ℕ → List Loop
-    facesLeft turned k = keptFrom (faceOf rows turned) (marked taken) 64 k
-
-    pub faces-start : (turned : ℕ) → solidFaces rows taken turned ≡ facesLeft turned 0
-    unfolding solidFaces facesLeft
-    faces-start turned = kept-start (faceOf rows turned) (marked taken) 64
-
-    pub faces-next : (turned k : ℕ) → k < 64 → facesLeft turned k ≡ keep (marked taken k) (faceOf rows turned k) (facesLeft turned (k + 1))
-    unfolding facesLeft
-    faces-next turned k h = kept-next (faceOf rows turned) (marked taken) 64 k h
-
-    pub faces-end : (turned k : ℕ) → 64 ≤ k → facesLeft turned k ≡ []
-    unfolding facesLeft
-    faces-end turned k h = kept-end (faceOf rows turned) (marked taken) 64 k h
-
-    -- what is weighed and what is left give the whole
-    abbrev pub Passed : ℕ → ℕ → ℕ → Type 0
-    Passed k n s = (turned : ℕ) → weight f (solidFaces rows taken turned) ≡ plus (Of n s) (weight f (facesLeft turned k))
+    -- ---- one candidate: not taken, no face, a face
 
     abbrev pub One : ℕ → Extent → Type 0
     One k w = (turned : ℕ) → w ≡ weight f (faceAlone rows taken turned k)
 
-    pub passed-start : Passed 0 0 0
-    passed-start turned = ap (weight f) (faces-start turned) ∙ plus-none (weight f (facesLeft turned 0))
+    pub weigh-left : (k : ℕ) → marked taken k ≡ false → One k (Of 0 0)
+    unfolding faceAlone keep
+    weigh-left k e turned = rw e (sym weight-none)
 
-    module _ (k n s : ℕ) (h : k < 64) (r : Passed k n s) where
-      split : (turned : ℕ) → weight f (solidFaces rows taken turned) ≡ plus (Of n s) (plus (weight f (faceAlone rows taken turned k)) (weight f (facesLeft turned (k + 1))))
-      unfolding faceAlone
-      split turned = r turned ∙ ap (plus (Of n s)) (ap (weight f) (faces-next turned k h) ∙ weight-keep (marked taken k) (faceOf rows turned k) (facesLeft turned (k + 1)))
+    -- a taken candidate, by the corner count that is found
+    abbrev found-extent : Option ℕ → Extent
+    found-extent none = Misfit
+    found-extent (some c) = Of 1 (faceSpan c)
 
-      pub passed-next : {m b : ℕ} → One k (Of m b) → Passed (k + 1) (n + m) (s + b)
-      passed-next {m} {b} o turned =
-          split turned ∙ ap (λ (w : Extent). plus (Of n s) (plus w (weight f (facesLeft turned (k + 1))))) (sym (o turned)) ∙ plus-plus n s m b (weight f (facesLeft turned (k + 1)))
+    weigh-one : (k turned : ℕ) → marked taken k ≡ true
+        → found-extent (cornersOf f (rowAt rows k)) ≡ weight f (faceAlone rows taken turned k)
+    unfolding faceAlone keep weight all span cornersOf
+    weigh-one k turned e =
+        let l = rowAt rows k in
+        let b = marked turned k in
+        rw (e, way-fits f (f .«most_vertices») b l, way-length b l) (go (fits f l) (length l))
+      where
+        go : (b : Bool) (n : ℕ) → found-extent (cond b (some n) none) ≡ cond (b && true) (Of 1 (faceSpan n + 0)) Misfit
+        go true n = of refl (omega arith)
+        go false n = refl
 
-      pub passed-stop : One k Misfit → (turned : ℕ) → Misfit ≡ weight f (solidFaces rows taken turned)
-      passed-stop o turned = sym (split turned ∙ ap (λ (w : Extent). plus (Of n s) (plus w (weight f (facesLeft turned (k + 1))))) (sym (o turned)))
-
-    pub passed-end : (k n s : ℕ) → 64 ≤ k → Passed k n s → (turned : ℕ) → Of n s ≡ weight f (solidFaces rows taken turned)
-    passed-end k n s h r turned =
-        sym (r turned ∙ ap (plus (Of n s)) (ap (weight f) (faces-end turned k h) ∙ weight-none) ∙ of (add-zero n) (add-zero s))
+    pub weigh-row : (k : ℕ) {o : Option ℕ} → marked taken k ≡ true → o ≡ cornersOf f (rowAt rows k) → One k (found-extent o)
+    weigh-row k e q turned = ap found-extent q ∙ weigh-one k turned e
 
     -- one candidate weighs little
     pub one-small : Brief f → (k : ℕ) {m b : ℕ} → One k (Of m b) → (m ≤ 1) × (b ≤ 100)
-    unfolding faceAlone keep
+    unfolding faceAlone
     one-small g k {m} {b} o =
         let fs = keep (marked taken k) (faceOf rows 0 k) [] in
         let w = weighed fs (o 0) in
-        let c : length fs ≤ 1 = few (marked taken k) (faceOf rows 0 k) in
+        let c : length fs ≤ 1 = length-keep (marked taken k) (faceOf rows 0 k) [] in
         let d : span f fs ≤ 100 * length fs = span-small g fs (w .fit) in
         (omega (arith, w .count-is), omega (arith, w .span-is))
-      where
-        few : (b : Bool) (l : Loop) → length (keep b l []) ≤ 1
-        few true l = omega arith
-        few false l = omega arith
+
+    -- ---- the faces from candidate k on
+
+    unfoldable pub facesLeft : ℕ → ℕ → List Loop
+    facesLeft turned k = keptFrom (faceOf rows turned) (marked taken) mostCandidates k
+
+    pub faces-start : (turned : ℕ) → solidFaces rows taken turned ≡ facesLeft turned 0
+    unfolding solidFaces facesLeft
+    faces-start turned = kept-start (faceOf rows turned) (marked taken) mostCandidates
+
+    pub faces-next : (turned k : ℕ) → k < mostCandidates
+        → facesLeft turned k ≡ keep (marked taken k) (faceOf rows turned k) (facesLeft turned (k + 1))
+    unfolding facesLeft
+    faces-next turned k h = kept-next (faceOf rows turned) (marked taken) mostCandidates k h
+
+    pub faces-end : (turned k : ℕ) → mostCandidates ≤ k → facesLeft turned k ≡ []
+    unfolding facesLeft
+    faces-end turned k h = kept-end (faceOf rows turned) (marked taken) mostCandidates k h
+
+    -- ---- what is weighed and what is left give the whole
+
+    abbrev Passed : ℕ → ℕ → ℕ → Type 0
+    Passed k n b = (turned : ℕ) → weight f (solidFaces rows taken turned) ≡ plus (Of n b) (weight f (facesLeft turned k))
+
+    -- candidate k is next, and those before it are n faces of b bits
+    pub record Weighing (k n b : ℕ) : Type 0 where
+      pub reached : k ≤ mostCandidates
+      pub count-small : n ≤ k
+      pub bits-small : b ≤ 100 * k
+      pub passed : Passed k n b
+
+    pub weigh-start : Weighing 0 0 0
+    weigh-start = record {
+      reached = omega arith;
+      count-small = omega arith;
+      bits-small = omega arith;
+      passed = λ turned. ap (weight f) (faces-start turned) ∙ plus-none (weight f (facesLeft turned 0));
+    }
+
+    module _ (k n b : ℕ) (h : k < mostCandidates) (r : Weighing k n b) where
+      abbrev rest : ℕ → Extent
+      rest turned = weight f (facesLeft turned (k + 1))
+
+      -- the faces left are those of candidate k and the rest
+      split : (turned : ℕ) {w : Extent} → One k w → weight f (solidFaces rows taken turned) ≡ plus (Of n b) (plus w (rest turned))
+      unfolding faceAlone
+      split turned {w} o =
+          r .passed turned
+          ∙ ap (plus (Of n b)) (ap (weight f) (faces-next turned k h))
+          ∙ ap (plus (Of n b)) (weight-keep (marked taken k) (faceOf rows turned k) (facesLeft turned (k + 1)))
+          ∙ ap (λ (x : Extent). plus (Of n b) (plus x (rest turned))) (sym (o turned))
+
+      pub weigh-next : Brief f → {m c : ℕ} → One k (Of m c) → Weighing (k + 1) (n + m) (b + c)
+      weigh-next g {m} {c} o =
+          let s = one-small g k o in
+          record {
+            reached = omega arith;
+            count-small = omega (arith, s, r .count-small);
+            bits-small = omega (arith, s, r .bits-small);
+            passed = λ turned. split turned o ∙ plus-plus n b m c (rest turned);
+          }
+
+      pub weigh-stop : One k Misfit → (turned : ℕ) → Misfit ≡ weight f (solidFaces rows taken turned)
+      weigh-stop o turned = sym (split turned o)
+
+    pub weigh-end : (k n b : ℕ) → mostCandidates ≤ k → Weighing k n b
+        → (turned : ℕ) → Of n b ≡ weight f (solidFaces rows taken turned)
+    weigh-end k n b h r turned =
+        let none-left = ap (weight f) (faces-end turned k h) ∙ weight-none in
+        sym (r .passed turned ∙ ap (plus (Of n b)) none-left ∙ of (add-zero n) (add-zero b))

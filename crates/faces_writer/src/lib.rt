@@ -7,7 +7,8 @@ mod write;
 
 use paper::Written;
 
-// Writes a reported solid as a face list to the start of the room, from the report's rows and the first two words of the solid: refusal 20, then 1. Later room keeps its contents.
+// Writes a reported solid as a face list to the start of the room, from the report's rows and the first two words of the solid:
+// refusal 20, then 1. Later room keeps its contents.
 pub fn write_faces(rows: &[u8], taken: u64, turned: u64, room: &mut [u8]) -> Written
     ensures answer { λ r. ⌜ r ≡ sentOf editionOne (solidFaces (now (rows .entry)) taken turned) (now (room .entry)) ⌝ }
     ensures kept { λ _. ⌜ now (room .exit) ≡ sentRoom editionOne (solidFaces (now (rows .entry)) taken turned) (now (room .entry)) ⌝ }

@@ -1,17 +1,16 @@
 // A reported solid, written as a face list to the start of a lent room: refusal 20, then 1. Nothing is assumed of rows, words or room.
 ghost use mathlib.Core.Path.{_≡_};
-ghost use mathlib.Core.Bool.{true};
-ghost use mathlib.Core.List.{_++_, flatMap};
-ghost use Prim.Native.Nat.{ℕ, _+_, _*_, _≤_, _<_};
+ghost use Prim.Native.Nat.{ℕ, _+_, _≤_, _<_};
 ghost use lib.Dec.{ltb};
-ghost use lib.ListN.{length, getD, take, drop};
-ghost use Rattle.pack.specs.Bits.{run, overwrite};
+ghost use lib.ListN.{length, getD};
+ghost use Rattle.pack.specs.Bits.{run};
 ghost use Rattle.lists.specs.Lists.{all};
 ghost use Rattle.lists.specs.Found.{found};
-ghost use Rattle.paper.specs.Format.{bytesFor};
-ghost use Rattle.paper.specs.FaceList.{faceBits, encodeFaces, span, bitsOf, rowAt, solidFaces, sentOf, sentRoom};
+ghost use Rattle.paper.specs.Numbers.{mostCandidates};
+ghost use Rattle.paper.specs.FaceList.{span, rowAt, solidFaces, sentOf, sentRoom};
 ghost use Rattle.faces_reader.specs.Face.{Brief};
-ghost use Rattle.faces_writer.specs.Send.{way, faceAlone, fits, cornersOf, weight};
+ghost use Rattle.faces_writer.specs.Send.{cornersAt, way, rowAlone, faceAlone, Put, cornersOf, listHead, facesBits, weight, listIn};
+ghost use Rattle.faces_writer.specs.Asked.{Corner, CornerFields, Candidate, Sends, SendsOne, SendsList};
 use lists::Found;
 use paper::Format;
 use paper::Refusal;
@@ -27,7 +26,7 @@ pub enum Extent {
 // Whether the c numbers from place i on are below v.
 fn are_under(v: u64, rows: &[u8], i: usize, c: usize) -> bool
     requires { ⌜ i + c ≤ length (now rows) ⌝ }
-    ensures { λ r. ⌜ r ≡ all (λ x. ltb x v) (take c (drop i (now (rows .entry)))) ⌝ }
+    ensures { λ r. ⌜ r ≡ all (λ x. ltb x v) (cornersAt (now (rows .entry)) i c) ⌝ }
 {
     let mut j: usize = 0;
     while j < c {
@@ -41,7 +40,7 @@ fn are_under(v: u64, rows: &[u8], i: usize, c: usize) -> bool
 
 // The corner count of candidate k, where it is a face.
 fn row_fits(f: Format, rows: &[u8], k: usize) -> Found
-    requires { ⌜ k < 64 ⌝ }
+    requires { ⌜ k < mostCandidates ⌝ }
     ensures { λ r. ⌜ found r ≡ cornersOf f (rowAt (now (rows .entry)) k) ⌝ }
 {
     let first = paper::ROW * k;
@@ -61,7 +60,7 @@ fn row_fits(f: Format, rows: &[u8], k: usize) -> Found
 
 // What candidate k weighs: nothing where it is not taken.
 fn weigh(f: Format, rows: &[u8], taken: u64, k: usize) -> Extent
-    requires { ⌜ Brief f × (k < 64) ⌝ }
+    requires { ⌜ Candidate f k ⌝ }
     ensures { λ r. ⌜ ((turned : ℕ) → r ≡ weight f (faceAlone (now (rows .entry)) taken turned k)) ⌝ }
 {
     if is_set(taken, k) {
@@ -96,8 +95,8 @@ fn weigh_all(f: Format, rows: &[u8], taken: u64) -> Extent
 
 // Corner j of the c corners from place i on: against their order the first stays first.
 fn corner(rows: &[u8], i: usize, c: usize, back: bool, j: usize) -> u64
-    requires { ⌜ (i + c ≤ length (now rows)) × (j < c) ⌝ }
-    ensures { λ r. ⌜ r ≡ getD (way back (take c (drop i (now (rows .entry))))) j 0 ⌝ }
+    requires { ⌜ Corner (now rows) i c j ⌝ }
+    ensures { λ r. ⌜ r ≡ getD (way back (cornersAt (now (rows .entry)) i c)) j 0 ⌝ }
 {
     if back {
         if 0 < j {
@@ -110,8 +109,8 @@ fn corner(rows: &[u8], i: usize, c: usize, back: bool, j: usize) -> u64
 
 // Writes these corners into the fields of w bits from bit b on.
 fn put_corners(rows: &[u8], i: usize, c: usize, back: bool, room: &mut [u8], b: usize, w: usize)
-    requires { ⌜ (i + c ≤ length (now rows)) × (w ≤ 8) × (c ≤ 12) × (b + w * c ≤ length (now room) * 8) × (b ≤ 8192) ⌝ }
-    ensures { λ _. ⌜ run 8 (now (room .exit)) ≡ overwrite (run 8 (now (room .entry))) b (run w (way back (take c (drop i (now (rows .entry)))))) ⌝ }
+    requires { ⌜ CornerFields (now rows) i c (now room) b w ⌝ }
+    ensures { λ _. ⌜ Put (now (room .entry)) (now (room .exit)) b (run w (way back (cornersAt (now (rows .entry)) i c))) ⌝ }
 {
     let mut j: usize = 0;
     while j < c {
@@ -122,9 +121,9 @@ fn put_corners(rows: &[u8], i: usize, c: usize, back: bool, room: &mut [u8], b: 
 
 // Writes candidate k as a face at bit b, and answers the bit behind it.
 fn put_face(f: Format, rows: &[u8], k: usize, back: bool, room: &mut [u8], b: usize) -> usize
-    requires { ⌜ Brief f × (k < 64) × (fits f (rowAt (now rows) k) ≡ true) × (b + (4 + f .«vertex_number_bits» * length (rowAt (now rows) k)) ≤ length (now room) * 8) × (b ≤ 8000) ⌝ }
-    ensures end { λ r. ⌜ r ≡ b + (4 + f .«vertex_number_bits» * length (rowAt (now (rows .entry)) k)) ⌝ }
-    ensures put { λ _. ⌜ run 8 (now (room .exit)) ≡ overwrite (run 8 (now (room .entry))) b (faceBits f (way back (rowAt (now (rows .entry)) k))) ⌝ }
+    requires { ⌜ SendsOne f k (rowAlone (now rows) k back) (now room) b ⌝ }
+    ensures end { λ r. ⌜ r ≡ b + span f (rowAlone (now (rows .entry)) k back) ⌝ }
+    ensures put { λ _. ⌜ Put (now (room .entry)) (now (room .exit)) b (facesBits f (rowAlone (now (rows .entry)) k back)) ⌝ }
 {
     let first = paper::ROW * k;
     let c = rows[first] as usize;
@@ -151,9 +150,9 @@ fn put_taken(
     room: &mut [u8],
     b: usize,
 ) -> usize
-    requires { ⌜ Brief f × (k < 64) × (all (fits f) (faceAlone (now rows) taken turned k) ≡ true) × (b + span f (faceAlone (now rows) taken turned k) ≤ length (now room) * 8) × (b ≤ 8000) ⌝ }
+    requires { ⌜ SendsOne f k (faceAlone (now rows) taken turned k) (now room) b ⌝ }
     ensures end { λ r. ⌜ r ≡ b + span f (faceAlone (now (rows .entry)) taken turned k) ⌝ }
-    ensures put { λ _. ⌜ run 8 (now (room .exit)) ≡ overwrite (run 8 (now (room .entry))) b (flatMap (faceBits f) (faceAlone (now (rows .entry)) taken turned k)) ⌝ }
+    ensures put { λ _. ⌜ Put (now (room .entry)) (now (room .exit)) b (facesBits f (faceAlone (now (rows .entry)) taken turned k)) ⌝ }
 {
     if is_set(taken, k) {
         return put_face(f, rows, k, is_set(turned, k), room, b);
@@ -163,8 +162,8 @@ fn put_taken(
 
 // Writes the solid's faces behind the head.
 fn put_faces(f: Format, rows: &[u8], taken: u64, turned: u64, room: &mut [u8])
-    requires { ⌜ Brief f × (all (fits f) (solidFaces (now rows) taken turned) ≡ true) × (bitsOf f (solidFaces (now rows) taken turned) ≤ length (now room) * 8) × (bitsOf f (solidFaces (now rows) taken turned) ≤ 8000) ⌝ }
-    ensures { λ _. ⌜ run 8 (now (room .exit)) ≡ overwrite (run 8 (now (room .entry))) (4 + f .«face_count_bits») (flatMap (faceBits f) (solidFaces (now (rows .entry)) taken turned)) ⌝ }
+    requires { ⌜ Sends f (solidFaces (now rows) taken turned) (now room) (listHead f) ⌝ }
+    ensures { λ _. ⌜ Put (now (room .entry)) (now (room .exit)) (listHead f) (facesBits f (solidFaces (now (rows .entry)) taken turned)) ⌝ }
 {
     let mut b = paper::EDITION_BITS + f.face_count_bits;
     let mut k: usize = 0;
@@ -176,8 +175,8 @@ fn put_faces(f: Format, rows: &[u8], taken: u64, turned: u64, room: &mut [u8])
 
 // Writes the list of n faces of b bits, all of which fit, into room that is long enough.
 fn put_list(f: Format, rows: &[u8], taken: u64, turned: u64, room: &mut [u8], n: usize, b: usize)
-    requires { ⌜ Brief f × (all (fits f) (solidFaces (now rows) taken turned) ≡ true) × (n ≡ length (solidFaces (now rows) taken turned)) × (b ≡ span f (solidFaces (now rows) taken turned)) × (bytesFor (bitsOf f (solidFaces (now rows) taken turned)) ≤ length (now room)) × (bitsOf f (solidFaces (now rows) taken turned) ≤ 8000) ⌝ }
-    ensures { λ _. ⌜ now (room .exit) ≡ encodeFaces f (solidFaces (now (rows .entry)) taken turned) ++ drop (bytesFor (bitsOf f (solidFaces (now (rows .entry)) taken turned))) (now (room .entry)) ⌝ }
+    requires { ⌜ SendsList f (solidFaces (now rows) taken turned) (now room) n b ⌝ }
+    ensures { λ _. ⌜ now (room .exit) ≡ listIn f (solidFaces (now (rows .entry)) taken turned) (now (room .entry)) ⌝ }
 {
     pack::put(room, 0, paper::EDITION_BITS, f.edition);
     pack::put(room, paper::EDITION_BITS, f.face_count_bits, n as u64);

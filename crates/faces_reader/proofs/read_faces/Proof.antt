@@ -1,4 +1,4 @@
--- `faces_reader::read_faces` meets its contract. Assumes nothing.
+-- `faces_reader::read_faces`: it is `read` with the layout that `edition_one` answers, edition 1. Assumes nothing.
 use mathlib.Core.Path.{_∙_, ap}
 use Rattle.paper.specs.FaceList.{facesOf}
 use Rattle.paper.specs.declared.Format.{Format}
@@ -16,7 +16,7 @@ read-requires c κs = rw (c .edition-one .ensures) one-brief
 returns : tie.Need-returns
 returns c =
     let a = c .before .before .before .args in
-    (c .read .ensures) ∙ ap (λ (f : Format). facesOf f (a .vertices) (a .list .now)) (c .before .edition-one .ensures)
+    c .read .ensures ∙ ap (λ (f : Format). facesOf f (a .vertices) (a .list .now)) (c .before .edition-one .ensures)
 
 pub read-faces-spec : {M : Type 1} → statement M
 read-faces-spec = tie.close (tie.spec edition-one-requires read-requires returns)

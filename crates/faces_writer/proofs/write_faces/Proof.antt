@@ -1,4 +1,4 @@
--- `faces_writer::write_faces` meets its contract. Assumes nothing.
+-- `faces_writer::write_faces`: it is `write` with the layout that `edition_one` answers, edition 1. Assumes nothing.
 use mathlib.Core.Path.{_∙_, ap}
 use Rattle.paper.specs.FaceList.{solidFaces, sentOf, sentRoom}
 use Rattle.paper.specs.declared.Format.{Format}
@@ -18,9 +18,13 @@ same-length c = search needs
 
 returns : tie.Need-returns
 returns c =
-    let a = c .before .before .before .before .before .before .before .args in
-    let p = c .before .before .before .before in
-    ((c .before .before .write .ensures) .0 ∙ ap (λ (f : Format). sentOf f (solidFaces (a .rows .now) (a .taken) (a .turned)) (a .room .now)) (p .edition-one .ensures), (c .before .before .write .ensures) .1 ∙ ap (λ (f : Format). sentRoom f (solidFaces (a .rows .now) (a .taken) (a .turned)) (a .room .now)) (p .edition-one .ensures))
+    let w = c .before .before in
+    let o = w .before .before in
+    let a = o .before .before .before .args in
+    let fs = solidFaces (a .rows .now) (a .taken) (a .turned) in (
+      w .write .ensures .0 ∙ ap (λ (f : Format). sentOf f fs (a .room .now)) (o .edition-one .ensures),
+      w .write .ensures .1 ∙ ap (λ (f : Format). sentRoom f fs (a .room .now)) (o .edition-one .ensures),
+    )
 
 pub write-faces-spec : {M : Type 1} → statement M
 write-faces-spec = tie.close (tie.spec edition-one-requires write-requires same-length returns)

@@ -1,4 +1,4 @@
--- `faces_reader::read::closes` meets its contract. Assumes nothing.
+-- `faces_reader::read::closes`: the length is tested first, then the bits behind the first n. Assumes nothing.
 use mathlib.Core.Path.{refl}
 use borrow.Author.Tests.{eq-eqb, ne-eqb}
 use Rattle.paper.specs.Format.{fillAfter}
@@ -25,7 +25,7 @@ field-requires c κs = search needs
 
 returns-2 : tie.Need-returns-2
 unfolding closesAt fillAfter
-returns-2 c = rw (eq-eqb _ _ (c .before .if1 .left), (c .field .ensures)) refl
+returns-2 c = rw (eq-eqb _ _ (c .before .if1 .left), c .field .ensures) refl
 
 pub closes-spec : {M : Type 1} → statement M
 closes-spec = tie.close (tie.spec add-if1 returns mul-field sub-field field-requires returns-2)

@@ -1,8 +1,9 @@
--- `faces_reader::read::no_faces` meets its contract. Assumes nothing.
+-- `faces_reader::read::no_faces`: refusal 20, no faces and rows of zeros. Assumes nothing.
 use mathlib.Core.Path.{ap}
 use mathlib.Core.List.{[]}
 use Rattle.pack.specs.Fill.{padded}
 use Rattle.paper.specs.declared.Answer.{Answer}
+use Rattle.faces_reader.specs.Filed.{allRows}
 use borrow.Author.Needs.{needs}
 use Rattle.faces_reader.proofs.read.no_faces.Statement.{statement}
 use Rattle.faces_reader.proofs.read.no_faces.Tie as tie
@@ -12,7 +13,7 @@ refused-requires c κs = search needs
 
 returns : tie.Need-returns
 unfolding padded
-returns c = ap (λ (a : Answer). record { answer = a; count = 0; rows = padded [] 546 0 }) (c .refused .ensures)
+returns c = ap (λ (a : Answer). record { answer = a; count = 0; rows = padded [] allRows 0 }) (c .refused .ensures)
 
 pub no-faces-spec : {M : Type 1} → statement M
 no-faces-spec = tie.close (tie.spec refused-requires returns)

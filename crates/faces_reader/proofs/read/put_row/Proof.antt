@@ -1,4 +1,4 @@
--- `faces_reader::read::put_row` meets its contract. Assumes nothing.
+-- `faces_reader::read::put_row`: the loop keeps that the first j cells of the row are pasted at byte `at`. Assumes nothing.
 use mathlib.Core.Path.{_≡_, refl, sym, ap, subst, _∙_}
 use mathlib.Core.List.{List}
 use Prim.Native.Nat.{ℕ, _≤_, _-_, _+_}
@@ -8,22 +8,47 @@ use lib.Seq.{paste, paste-zero, paste-suc}
 use Rattle.pack.specs.Bits.{fieldsAt}
 use Rattle.pack.proofs.Laws.{length-fields}
 use Rattle.paper_laws.proofs.Rows.{row-length}
+use Rattle.paper.specs.Numbers.{rowBytes}
 use Rattle.paper.specs.Loops.{row}
 use native.Mathlib.Omega.{arith}
 use Rattle.faces_reader.proofs.read.put_row.Statement.{statement}
 use Rattle.faces_reader.proofs.read.put_row.Tie as tie
 
+-- j cells of the row q are written: rows have become last
+record Filling (q rows : List ℕ) (at : ℕ) (last : List ℕ) (j : ℕ) : Type 0 where
+  reached : j ≤ rowBytes
+  pasted : last ≡ paste rows at q j
+  kept : length last ≡ length rows
+
 abbrev Inv-loop : tie.InvT-loop
-Inv-loop s i w c rows₀ at j₀ rows j = (j ≤ 13) × (rows ≡ paste rows₀ at (row (fieldsAt s i w c)) j) × (length rows ≡ length rows₀)
+Inv-loop s i w c rows₀ at j₀ rows j = Filling (row (fieldsAt s i w c)) rows₀ at rows j
 
 abbrev μ-loop : tie.MeasureT-loop
-μ-loop s i w c rows₀ at j₀ rows j = 13 - j
+μ-loop s i w c rows₀ at j₀ rows j = rowBytes - j
+
+-- ---- the way back from the loop, and the row there
+
+abbrev entry : tie.At-loop Inv-loop μ-loop → tie.Start Inv-loop μ-loop
+entry c = c .before .before .before
+
+abbrev cells : tie.Start Inv-loop μ-loop → List ℕ
+cells s = let a = s .args in row (fieldsAt (a .s .now) (a .i) (a .w) (a .c))
+
+length-is : (s : tie.Start Inv-loop μ-loop) → length (cells s) ≡ rowBytes
+length-is s =
+    let a = s .args in
+    let l = fieldsAt (a .s .now) (a .i) (a .w) (a .c) in
+    row-length l (omega (arith, length-fields (a .s .now) (a .i) (a .w) (a .c), s .pre .fields .few))
+
+-- ---- the needs
 
 loop-holds : tie.Need-loop-holds Inv-loop μ-loop
-loop-holds c = (omega arith, paste-zero (c .before .before .args .rows .now) (c .before .before .args .at) (row (fieldsAt (c .before .before .args .s .now) (c .before .before .args .i) (c .before .before .args .w) (c .before .before .args .c))), refl)
+loop-holds c =
+    let s = c .before .before in
+    record { reached = omega arith; pasted = paste-zero (s .args .rows .now) (s .args .at) (cells s); kept = refl }
 
 cell-requires : tie.Need-cell-requires Inv-loop μ-loop
-cell-requires c κs = omega arith
+cell-requires c κs = record { fields = entry (c .before) .pre .fields; known = omega arith }
 
 add-rows : tie.Need-add-rows Inv-loop μ-loop
 add-rows c = omega arith
@@ -39,27 +64,30 @@ loop-less c = omega arith
 
 loop-again : tie.Need-loop-again Inv-loop μ-loop
 loop-again c =
-    let a2 = c .before .before .before .before .before .args in
-    let a = (a2) in
-    let l = (c .before .before .loop) in
-    let q = row (fieldsAt (a2 .s .now) (a2 .i) (a2 .w) (a2 .c)) in
-    let n : length q ≡ 13 = row-length (fieldsAt (a2 .s .now) (a2 .i) (a2 .w) (a2 .c)) (omega (arith, length-fields (a2 .s .now) (a2 .i) (a2 .w) (a2 .c))) in (
-      omega arith,
-      ap (λ (x : List ℕ). set x (a .at + l .j) (c .cell .result)) (l .inv .1)
+    let t = c .before .before in
+    let l = t .loop in
+    let s = entry t in
+    let a = s .args in
+    let q = cells s in
+    let n : length q ≡ rowBytes = length-is s in
+    record {
+      reached = omega arith;
+      pasted = ap (λ (x : List ℕ). set x (a .at + l .j) (c .cell .result)) (l .inv .pasted)
           ∙ ap (λ (x : ℕ). set (paste (a .rows .now) (a .at) q (l .j)) (a .at + l .j) x) (c .cell .ensures)
-          ∙ paste-suc (a .rows .now) (a .at) q (l .j) 0 (omega arith) (omega arith)
-          ∙ ap (λ (k : ℕ). paste (a .rows .now) (a .at) q k) (sym (add-one (l .j))),
-      simp length-set (l .inv .2),
-    )
+          ∙ paste-suc (a .rows .now) (a .at) q (l .j) 0 (omega arith) (omega (arith, s .pre .roomy))
+          ∙ ap (λ (k : ℕ). paste (a .rows .now) (a .at) q k) (sym (add-one (l .j)));
+      kept = simp length-set (l .inv .kept);
+    }
 
 same-length : tie.Need-same-length Inv-loop μ-loop
-same-length c = omega arith
+same-length c = c .before .loop .inv .kept
 
 returns : tie.Need-returns Inv-loop μ-loop
 returns c =
-    let a = c .before .before .before .before .args in
-    let e : (c .before .loop .j) ≡ 13 = omega arith in
-    subst (λ (n : ℕ). (c .before .loop .rows) ≡ paste (a .rows .now) (a .at) (row (fieldsAt (a .s .now) (a .i) (a .w) (a .c))) n) e (c .before .loop .inv .1)
+    let l = c .before .loop in
+    let s = entry (c .before) in
+    let e : l .j ≡ rowBytes = omega arith in
+    subst (λ (n : ℕ). l .rows ≡ paste (s .args .rows .now) (s .args .at) (cells s) n) e (l .inv .pasted)
 
 pub put-row-spec : {M : Type 1} → statement M
 put-row-spec =

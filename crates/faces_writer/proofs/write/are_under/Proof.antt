@@ -1,21 +1,48 @@
--- `faces_writer::write::are_under` meets its contract. Assumes nothing.
-use mathlib.Core.Path.{refl, sym}
-use Prim.Native.Nat.{ℕ, _≤_, _-_, _+_}
+-- `faces_writer::write::are_under`: the loop keeps that the corners left decide for all, since those before are low. Assumes nothing.
+use mathlib.Core.Path.{_≡_, refl, sym}
+use mathlib.Core.List.{List}
+use Prim.Native.Nat.{ℕ, _≤_, _<_, _-_, _+_}
 use lib.Dec.{ltb}
-use lib.ListN.{take, drop}
+use lib.ListN.{length, getD}
 use Rattle.lists.specs.Lists.{all}
 use Rattle.lists.proofs.Search.{Left, all-search, search-end}
 use Rattle.lists.proofs.Below.{high-hit, high-miss}
+use Rattle.faces_writer.specs.Send.{cornersAt}
 use Rattle.faces_writer.proofs.RowAt.{length-corners, corner-at}
 use native.Mathlib.Omega.{arith}
 use Rattle.faces_writer.proofs.write.are_under.Statement.{statement}
 use Rattle.faces_writer.proofs.write.are_under.Tie as tie
 
 abbrev Inv-loop : tie.InvT-loop
-Inv-loop v rows i c j₀ j = (j ≤ c) × Left (all (λ x. ltb x v)) (take c (drop i rows)) j
+Inv-loop v rows i c j₀ j = (j ≤ c) × Left (all (λ x. ltb x v)) (cornersAt rows i c) j
 
 abbrev μ-loop : tie.MeasureT-loop
 μ-loop v rows i c j₀ j = c - j
+
+-- ---- the corners, and the one that a turn of the loop looks at
+
+abbrev Round : Type 0
+Round = tie.In-loop Inv-loop μ-loop
+
+abbrev start : Round → tie.Start Inv-loop μ-loop
+start c = c .before .before
+
+abbrev corners : tie.Start Inv-loop μ-loop → List ℕ
+corners s = cornersAt (s .args .rows .now) (s .args .i) (s .args .c)
+
+length-is : (s : tie.Start Inv-loop μ-loop) → length (corners s) ≡ s .args .c
+length-is s = length-corners (s .args .rows .now) (s .args .i) (s .args .c) (s .pre)
+
+abbrev j : Round → ℕ
+j c = c .before .loop .j
+
+inside : (c : Round) → j c < length (corners (start c))
+inside c = omega (arith, length-is (start c))
+
+here : (c : Round) → getD (corners (start c)) (j c) 0 ≡ getD (start c .args .rows .now) (start c .args .i + j c) 0
+here c = let s = start c in corner-at (s .args .rows .now) (s .args .i) (s .args .c) (s .pre) (j c) (omega arith)
+
+-- ---- the needs
 
 loop-holds : tie.Need-loop-holds Inv-loop μ-loop
 loop-holds c = (omega arith, refl)
@@ -27,14 +54,12 @@ shared-slice-read-if1 : tie.Need-shared-slice-read-if1 Inv-loop μ-loop
 shared-slice-read-if1 c = omega arith
 
 cast-if1 : tie.Need-cast-if1 Inv-loop μ-loop
-cast-if1 c = omega (arith, (c .shared-slice-known .given) ((c .before .before .before .args .i) + (c .before .before .loop .j)))
+cast-if1 c = let r = c .before in omega (arith, c .shared-slice-known .given (start r .args .i + j r))
 
 returns : tie.Need-returns Inv-loop μ-loop
 returns c =
-    let a = c .before .before .before .before .args in
-    let l = c .before .before .before .loop in
-    let p = c .before .before .before .before in
-    high-hit (a .v) (take (a .c) (drop (a .i) (a .rows .now))) (l .j) (omega (arith, length-corners (a .rows .now) (a .i) (a .c) (p .pre))) (l .inv .1) (corner-at (a .rows .now) (a .i) (a .c) (p .pre) (l .j) (omega arith)) (c .if1 .taken)
+    let r = c .before .before in
+    high-hit (start r .args .v) (corners (start r)) (j r) (inside r) (r .before .loop .inv .1) (here r) (c .if1 .taken)
 
 add-j : tie.Need-add-j Inv-loop μ-loop
 add-j c = omega arith
@@ -44,13 +69,16 @@ loop-less c = omega arith
 
 loop-again : tie.Need-loop-again Inv-loop μ-loop
 loop-again c =
-    let a = c .before .before .before .before .args in
-    let l = c .before .before .before .loop in
-    let p = c .before .before .before .before in
-    (omega arith, high-miss (a .v) (take (a .c) (drop (a .i) (a .rows .now))) (l .j) (omega (arith, length-corners (a .rows .now) (a .i) (a .c) (p .pre))) (l .inv .1) (corner-at (a .rows .now) (a .i) (a .c) (p .pre) (l .j) (omega arith)) (c .if1 .left))
+    let r = c .before .before in
+    let low = high-miss (start r .args .v) (corners (start r)) (j r) (inside r) (r .before .loop .inv .1) (here r) (c .if1 .left) in
+    (omega arith, low)
 
 returns-2 : tie.Need-returns-2 Inv-loop μ-loop
-returns-2 c = sym (search-end (all-search (λ (x : ℕ). ltb x (c .before .before .args .v))) (take (c .before .before .args .c) (drop (c .before .before .args .i) (c .before .before .args .rows .now))) (c .before .loop .j) (omega (arith, length-corners (c .before .before .args .rows .now) (c .before .before .args .i) (c .before .before .args .c) (c .before .before .pre))) (c .before .loop .inv .1))
+returns-2 c =
+    let l = c .before in
+    let s = l .before in
+    let behind : length (corners s) ≤ l .loop .j = omega (arith, length-is s) in
+    sym (search-end (all-search (λ (x : ℕ). ltb x (s .args .v))) (corners s) (l .loop .j) behind (l .loop .inv .1))
 
 pub are-under-spec : {M : Type 1} → statement M
 are-under-spec =

@@ -1,33 +1,42 @@
--- `faces_writer::write::put_faces` meets its contract. Assumes nothing.
-use mathlib.Core.Path.{_≡_, refl, _∙_}
-use Prim.Native.Nat.{_≤_, _-_}
-use lib.ListN.{length}
-use Rattle.pack.specs.Bits.{run}
-use Rattle.pack.proofs.Laws.{length-run}
-use Rattle.faces_writer.proofs.SendFaces.{Sending, send-start, send-fits, send-inside, send-next, send-end}
+-- `faces_writer::write::put_faces`: the loop keeps that the room, with the faces left at bit b, will hold all. Assumes nothing.
+use Prim.Native.Nat.{_-_}
+use Rattle.paper.specs.Numbers.{mostCandidates}
+use Rattle.faces_writer.proofs.SendFaces.{Sending, send-start, send-one, send-next, send-end}
 use native.Mathlib.Omega.{arith}
 use Rattle.faces_writer.proofs.write.put_faces.Statement.{statement}
 use Rattle.faces_writer.proofs.write.put_faces.Tie as tie
 
 abbrev Inv-loop : tie.InvT-loop
-Inv-loop f rows taken turned room₀ b₀ k₀ room b k = (k ≤ 64) × Sending f rows taken turned room₀ k b room × (length room ≡ length room₀)
+Inv-loop f rows taken turned room₀ b₀ k₀ room b k = Sending f rows taken turned room₀ k b room
 
 abbrev μ-loop : tie.MeasureT-loop
-μ-loop f rows taken turned room₀ b₀ k₀ room b k = 64 - k
+μ-loop f rows taken turned room₀ b₀ k₀ room b k = mostCandidates - k
+
+-- ---- the places that the proof goes back to
+
+abbrev entry : tie.At-loop Inv-loop μ-loop → tie.Start Inv-loop μ-loop
+entry c = c .before .before .before .before
+
+abbrev turn : tie.After-put-taken-arg Inv-loop μ-loop → tie.At-loop Inv-loop μ-loop
+turn c = c .before .before
+
+-- ---- the needs
 
 add-b : tie.Need-add-b Inv-loop μ-loop
-add-b c = omega (arith, (c .before .before .before .pre .0) .slender .face-count-narrow)
+add-b c = omega (arith, c .before .before .before .pre .brief .slender .face-count-narrow)
 
 loop-holds : tie.Need-loop-holds Inv-loop μ-loop
 loop-holds c =
-    let a = c .before .before .before .args in
-    (omega arith, send-start (a .f) (a .rows .now) (a .taken) (a .turned) (a .room .now) ((c .before .before .before .pre .1)), refl)
+    let s = c .before .before .before in
+    let a = s .args in
+    send-start (a .f) (a .rows .now) (a .taken) (a .turned) (a .room .now) (s .pre)
 
 put-taken-requires : tie.Need-put-taken-requires Inv-loop μ-loop
 put-taken-requires c κs =
-    let a = c .before .before .before .before .before .before .args in
-    let p = c .before .before .before .before .before .before in
-    ((p .pre .0), omega arith, send-fits (a .f) (a .rows .now) (a .taken) (a .turned) (a .room .now) (c .before .before .loop .k) (c .before .before .loop .b) (c .before .before .loop .room) (omega arith) ((c .before .before .loop .inv .1)), omega (arith, send-inside (a .f) (a .rows .now) (a .taken) (a .turned) (a .room .now) (c .before .before .loop .k) (c .before .before .loop .b) (c .before .before .loop .room) (omega arith) ((c .before .before .loop .inv .1)), (p .pre .2), (c .before .before .loop .inv .2)), omega (arith, send-inside (a .f) (a .rows .now) (a .taken) (a .turned) (a .room .now) (c .before .before .loop .k) (c .before .before .loop .b) (c .before .before .loop .room) (omega arith) ((c .before .before .loop .inv .1)), (p .pre .3)))
+    let l = turn c .loop in
+    let s = entry (turn c) in
+    let a = s .args in
+    send-one (a .f) (a .rows .now) (a .taken) (a .turned) (a .room .now) (s .pre) (l .k) (l .b) (l .room) (omega arith) (l .inv)
 
 add-k : tie.Need-add-k Inv-loop μ-loop
 add-k c = omega arith
@@ -37,21 +46,22 @@ loop-less c = omega arith
 
 loop-again : tie.Need-loop-again Inv-loop μ-loop
 loop-again c =
-    let a = c .before .before .before .before .before .before .before .before .before .args in
-    let l = c .before .before .before .before .before .loop in
-    let h : (l .b) ≤ length (run 8 (l .room)) = rw length-run (omega (arith, send-inside (a .f) (a .rows .now) (a .taken) (a .turned) (a .room .now) (l .k) (l .b) (l .room) (omega arith) (l .inv .1), (c .before .before .before .before .before .before .before .before .before .pre .2), (l .inv .2))) in (
-      omega arith,
-      send-next (a .f) (a .rows .now) (a .taken) (a .turned) (a .room .now) (l .k) (l .b) (l .room) (omega arith) (l .inv .1) (c .before .before .put-taken .last .1 .1 .1 .1 .1 .0) h ((c .before .before .put-taken .ensures) .0) ((c .before .before .put-taken .ensures) .1),
-      (c .before .before .put-taken .kept .1 .1 .1 .1 .1 .0) ∙ (l .inv .2),
-    )
+    let p = c .before .before .put-taken in
+    let t = turn (c .before .before .before) in
+    let l = t .loop in
+    let s = entry t in
+    let a = s .args in
+    send-next (a .f) (a .rows .now) (a .taken) (a .turned) (a .room .now) (s .pre) (l .k) (l .b) (l .room) (omega arith) (l .inv)
+    (p .last .1 .1 .1 .1 .1 .0) (p .kept .1 .1 .1 .1 .1 .0) (p .ensures .0) (p .ensures .1)
 
 same-length : tie.Need-same-length Inv-loop μ-loop
-same-length c = (c .before .loop .inv .2)
+same-length c = c .before .loop .inv .kept
 
 returns : tie.Need-returns Inv-loop μ-loop
 returns c =
-    let a = c .before .before .before .before .before .args in
-    send-end (a .f) (a .rows .now) (a .taken) (a .turned) (a .room .now) (c .before .loop .k) (c .before .loop .b) (c .before .loop .room) (omega arith) ((c .before .loop .inv .1))
+    let l = c .before .loop in
+    let a = entry (c .before) .args in
+    send-end (a .f) (a .rows .now) (a .taken) (a .turned) (a .room .now) (l .k) (l .b) (l .room) (omega arith) (l .inv)
 
 pub put-faces-spec : {M : Type 1} → statement M
 put-faces-spec =

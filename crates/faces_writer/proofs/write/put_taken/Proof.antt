@@ -1,15 +1,48 @@
--- `faces_writer::write::put_taken` meets its contract. Assumes nothing.
-use mathlib.Core.Path.{sym, ap, _∙_}
-use mathlib.Core.Bool.{Bool}
-use Prim.Native.Nat.{ℕ, _+_}
+-- `faces_writer::write::put_taken`: a taken candidate is the one face that is put, one left out is no face. Assumes nothing.
+use mathlib.Core.Path.{_≡_, sym, ap, _∙_, subst}
+use mathlib.Core.List.{List, []}
+use Prim.Native.Nat.{_+_}
 use borrow.Author.Needs.{needs}
 use Rattle.pack.specs.Bits.{run, overwrite}
-use Rattle.paper.specs.FaceList.{faceBits, rowAt}
-use Rattle.faces_writer.specs.Send.{way}
-use Rattle.faces_writer.proofs.SendFaces.{taken-fits, taken-span, taken-bits, left-span, left-bits}
-use native.Mathlib.Omega.{arith}
+use Rattle.paper.specs.Loops.{Loop}
+use Rattle.paper.specs.FaceList.{span}
+use Rattle.faces_writer.specs.Send.{rowAlone, faceAlone, facesBits}
+use Rattle.faces_writer.specs.Asked.{SendsOne}
+use Rattle.faces_writer.proofs.SendFaces.{alone-taken, alone-left, none-span, none-put}
 use Rattle.faces_writer.proofs.write.put_taken.Statement.{statement}
 use Rattle.faces_writer.proofs.write.put_taken.Tie as tie
+
+-- ---- the places that the proof goes back to
+
+abbrev start : tie.After-is-set → tie.Start
+start c = c .before .before .before
+
+abbrev looked : tie.After-is-set2 → tie.After-is-set
+looked c = c .before .before
+
+abbrev asked : tie.After-put-face → tie.After-is-set2
+asked c = c .before .before
+
+-- ---- what candidate k gives
+
+abbrev alone : tie.Start → List Loop
+alone s = let a = s .args in faceAlone (a .rows .now) (a .taken) (a .turned) (a .k)
+
+-- it is the face that is put, as the two words tell
+is-put : (c : tie.After-is-set2) → let s = start (looked c) in
+    alone s ≡ rowAlone (s .args .rows .now) (s .args .k) (c .is-set2 .result)
+is-put c =
+    let t = looked c in
+    let a = start t .args in
+    alone-taken (a .rows .now) (a .taken) (a .turned) (a .k) (sym (t .is-set .ensures) ∙ c .before .if1 .taken)
+    ∙ sym (ap (rowAlone (a .rows .now) (a .k)) (c .is-set2 .ensures))
+
+is-none : (c : tie.Else1) → alone (start (c .before)) ≡ []
+is-none c =
+    let a = start (c .before) .args in
+    alone-left (a .rows .now) (a .taken) (a .turned) (a .k) (sym (c .before .is-set .ensures) ∙ c .if1 .left)
+
+-- ---- the needs
 
 is-set-requires : tie.Need-is-set-requires
 is-set-requires c κs = search needs
@@ -19,32 +52,26 @@ is-set-requires-2 c κs = search needs
 
 put-face-requires : tie.Need-put-face-requires
 put-face-requires c κs =
-    let a = c .before .before .before .before .before .before .args in
-    let p = c .before .before .before .before .before .before in
-    let p2 = c .before .before .before in
-    ((p .pre .0), (p .pre .1), taken-fits (a .f) (a .rows .now) (a .taken) (a .turned) (a .k) (sym (p2 .is-set .ensures) ∙ (c .before .before .if1 .taken)) (p .pre .2), omega (arith, taken-span (a .f) (a .rows .now) (a .taken) (a .turned) (a .k) (sym (p2 .is-set .ensures) ∙ (c .before .before .if1 .taken)), (p .pre .3)), (p .pre .4))
+    let s = start (looked (c .before)) in
+    let a = s .args in
+    subst (λ (fs : List Loop). SendsOne (a .f) (a .k) fs (a .room .now) (a .b)) (is-put (c .before)) (s .pre)
 
 same-length : tie.Need-same-length
 same-length c = search needs
 
 returns : tie.Need-returns
 returns c =
-    let a2 = c .before .before .before .before .before .before .before .before .before .args in
-    let p = c .before .before .before .before .before .before in
-    let p2 = c .before .before .before .before .before in
-    let a = (a2) in (
-      (c .before .before .put-face .ensures) .0 ∙ ap (λ (n : ℕ). a .b + n) (taken-span (a2 .f) (a2 .rows .now) (a2 .taken) (a2 .turned) (a2 .k) (sym (p .is-set .ensures) ∙ (p2 .if1 .taken))),
-      (c .before .before .put-face .ensures) .1
-          ∙ ap (λ (x : Bool). overwrite (run 8 (a .room .now)) (a .b) (faceBits (a .f) (way x (rowAt (a .rows .now) (a .k))))) (c .before .before .before .before .is-set2 .ensures)
-          ∙ ap (overwrite (run 8 (a .room .now)) (a .b)) (taken-bits (a2 .f) (a2 .rows .now) (a2 .taken) (a2 .turned) (a2 .k) (sym (p .is-set .ensures) ∙ (p2 .if1 .taken))),
+    let p = c .before .before in
+    let a = start (looked (asked p)) .args in
+    let e = sym (is-put (asked p)) in (
+      p .put-face .ensures .0 ∙ ap (λ (fs : List Loop). a .b + span (a .f) fs) e,
+      p .put-face .ensures .1 ∙ ap (λ (fs : List Loop). overwrite (run 8 (a .room .now)) (a .b) (facesBits (a .f) fs)) e,
     )
 
 returns-2 : tie.Need-returns-2
 returns-2 c =
-    let a = c .before .before .before .before .args in
-    (left-span (a .f) (a .rows .now) (a .taken) (a .turned) (a .k) (sym (c .before .is-set .ensures) ∙ (c .if1 .left)) (a .b), left-bits (a .f) (a .rows .now) (a .taken) (a .turned) (a .k) (sym (c .before .is-set .ensures) ∙ (c .if1 .left)) (run 8 (a .room .now)) (a .b))
+    let a = start (c .before) .args in
+    (none-span (a .f) (a .b) (is-none c), none-put (a .f) (run 8 (a .room .now)) (a .b) (is-none c))
 
 pub put-taken-spec : {M : Type 1} → statement M
-put-taken-spec =
-    tie.close
-    (tie.spec is-set-requires is-set-requires-2 put-face-requires same-length returns returns-2)
+put-taken-spec = tie.close (tie.spec is-set-requires is-set-requires-2 put-face-requires same-length returns returns-2)

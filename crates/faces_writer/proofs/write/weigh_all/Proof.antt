@@ -1,23 +1,57 @@
--- `faces_writer::write::weigh_all` meets its contract. Assumes nothing.
+-- `faces_writer::write::weigh_all`: the loop keeps that what the candidates before k weigh and what the rest weighs is the whole.
+-- Assumes nothing.
 use mathlib.Core.Path.{sym, _∙_}
-use Prim.Native.Nat.{ℕ, _≤_, _-_, _*_}
+use Prim.Native.Nat.{ℕ, _≤_, _-_}
 use borrow.Author.Needs.{needs}
-use Rattle.faces_writer.proofs.Weight.{Passed, passed-start, passed-next, passed-stop, passed-end, one-small}
+use Rattle.paper.specs.Numbers.{mostCandidates}
+use Rattle.faces_writer.specs.declared.write.Extent.the-variants.{Of}
+use Rattle.faces_writer.proofs.Weight.{One, Weighing, weigh-start, weigh-next, weigh-stop, weigh-end, one-small}
 use native.Mathlib.Omega.{arith}
 use Rattle.faces_writer.proofs.write.weigh_all.Statement.{statement}
 use Rattle.faces_writer.proofs.write.weigh_all.Tie as tie
 
 abbrev Inv-loop : tie.InvT-loop
-Inv-loop f rows taken faces₀ bits₀ k₀ faces bits k = (k ≤ 64) × (faces ≤ k) × (bits ≤ 100 * k) × Passed f rows taken k faces bits
+Inv-loop f rows taken faces₀ bits₀ k₀ faces bits k = Weighing f rows taken k faces bits
 
 abbrev μ-loop : tie.MeasureT-loop
-μ-loop f rows taken faces₀ bits₀ k₀ faces bits k = 64 - k
+μ-loop f rows taken faces₀ bits₀ k₀ faces bits k = mostCandidates - k
+
+-- ---- the places that the proof goes back to
+
+abbrev entry : tie.At-loop Inv-loop μ-loop → tie.Start Inv-loop μ-loop
+entry c = c .before .before
+
+abbrev turn : tie.After-weigh Inv-loop μ-loop → tie.At-loop Inv-loop μ-loop
+turn c = c .before .before
+
+abbrev weighing : tie.After-one Inv-loop μ-loop → tie.After-weigh Inv-loop μ-loop
+weighing c = c .before .before
+
+-- ---- what candidate k weighs: m faces of b bits
+
+abbrev m : tie.After-one Inv-loop μ-loop → ℕ
+m c = c .one .given .0 .0
+
+abbrev b : tie.After-one Inv-loop μ-loop → ℕ
+b c = c .one .given .0 .1 .0
+
+one : (c : tie.After-one Inv-loop μ-loop) → let t = turn (weighing c) in let a = entry t .args in
+    One (a .f) (a .rows .now) (a .taken) (t .loop .k) (Of (m c) (b c))
+one c turned = sym (c .one .given .1) ∙ weighing c .weigh .ensures turned
+
+small : (c : tie.After-one Inv-loop μ-loop) → (m c ≤ 1) × (b c ≤ 100)
+small c =
+    let t = turn (weighing c) in
+    let s = entry t in
+    one-small (s .args .f) (s .args .rows .now) (s .args .taken) (s .pre) (t .loop .k) (one c)
+
+-- ---- the needs
 
 loop-holds : tie.Need-loop-holds Inv-loop μ-loop
-loop-holds c = (omega arith, omega arith, omega arith, passed-start (c .before .args .f) (c .before .args .rows .now) (c .before .args .taken))
+loop-holds c = let a = c .before .args in weigh-start (a .f) (a .rows .now) (a .taken)
 
 weigh-requires : tie.Need-weigh-requires Inv-loop μ-loop
-weigh-requires c κs = ((c .before .before .before .pre), omega arith)
+weigh-requires c κs = record { brief = entry (c .before) .pre; known = omega arith }
 
 enum-known-one : tie.Need-enum-known-one Inv-loop μ-loop
 enum-known-one c = search needs
@@ -27,19 +61,18 @@ enum-told c = search needs
 
 returns : tie.Need-returns Inv-loop μ-loop
 returns c =
-    let a = c .before .before .before .before .before .before .args in
-    let l = c .before .before .before .before .loop in
-    passed-stop (a .f) (a .rows .now) (a .taken) (l .k) (l .faces) (l .bits) (omega arith) ((l .inv) .3) (λ (t : ℕ). sym ((c .enum-told .given) .1) ∙ (c .before .before .weigh .ensures) t)
+    let w = c .before .before in
+    let t = turn w in
+    let a = entry t .args in
+    let l = t .loop in
+    weigh-stop (a .f) (a .rows .now) (a .taken) (l .k) (l .faces) (l .bits) (omega arith) (l .inv)
+    (λ turned. sym (c .enum-told .given .1) ∙ w .weigh .ensures turned)
 
 add-faces : tie.Need-add-faces Inv-loop μ-loop
-add-faces c =
-    let a = c .before .before .before .before .before .before .before .args in
-    omega (arith, one-small (a .f) (a .rows .now) (a .taken) (c .before .before .before .before .before .before .before .pre) (c .before .before .before .before .before .loop .k) (λ (t : ℕ). sym ((c .before .one .given) .1) ∙ (c .before .before .before .weigh .ensures) t))
+add-faces c = omega (arith, small (c .before))
 
 add-bits : tie.Need-add-bits Inv-loop μ-loop
-add-bits c =
-    let a = c .before .before .before .before .before .before .before .args in
-    omega (arith, one-small (a .f) (a .rows .now) (a .taken) (c .before .before .before .before .before .before .before .pre) (c .before .before .before .before .before .loop .k) (λ (t : ℕ). sym ((c .before .one .given) .1) ∙ (c .before .before .before .weigh .ensures) t))
+add-bits c = omega (arith, small (c .before))
 
 add-k : tie.Need-add-k Inv-loop μ-loop
 add-k c = omega arith
@@ -49,15 +82,17 @@ loop-less c = omega arith
 
 loop-again : tie.Need-loop-again Inv-loop μ-loop
 loop-again c =
-    let a = c .before .before .before .before .before .before .before .args in
-    let l = c .before .before .before .before .before .loop in
-    let p = c .before .before .before in
-    let s = one-small (a .f) (a .rows .now) (a .taken) (c .before .before .before .before .before .before .before .pre) (l .k) (λ (t : ℕ). sym ((c .before .one .given) .1) ∙ (p .weigh .ensures) t) in (omega arith, omega (arith, s), omega (arith, s), passed-next (a .f) (a .rows .now) (a .taken) (l .k) (l .faces) (l .bits) (omega arith) ((l .inv) .3) (λ (t : ℕ). sym ((c .before .one .given) .1) ∙ (p .weigh .ensures) t))
+    let t = turn (weighing (c .before)) in
+    let s = entry t in
+    let a = s .args in
+    let l = t .loop in
+    weigh-next (a .f) (a .rows .now) (a .taken) (l .k) (l .faces) (l .bits) (omega arith) (l .inv) (s .pre) (one (c .before))
 
 returns-2 : tie.Need-returns-2 Inv-loop μ-loop
 returns-2 c =
-    let a = c .before .before .before .args in
-    passed-end (a .f) (a .rows .now) (a .taken) (c .before .loop .k) (c .before .loop .faces) (c .before .loop .bits) (omega arith) ((c .before .loop .inv) .3)
+    let a = entry (c .before) .args in
+    let l = c .before .loop in
+    weigh-end (a .f) (a .rows .now) (a .taken) (l .k) (l .faces) (l .bits) (omega arith) (l .inv)
 
 pub weigh-all-spec : {M : Type 1} → statement M
 weigh-all-spec =

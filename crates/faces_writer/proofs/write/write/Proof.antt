@@ -1,18 +1,70 @@
--- `faces_writer::write::write` meets its contract. Assumes nothing.
-use mathlib.Core.Path.{sym, ap, _∙_}
-use Prim.Native.Nat.{ℕ}
+-- `faces_writer::write::write`: each return is one way out of the table: faces that do not fit, their count, the room, the list. What
+-- the faces weigh is known from `weigh_all`. Assumes nothing.
+use mathlib.Core.Path.{_≡_, sym, ap, _∙_}
+use mathlib.Core.List.{List}
+use Prim.Native.Nat.{ℕ, _+_, _≤_}
 use lib.ListN.{length}
-use Rattle.paper_laws.proofs.Limits.{outside-false}
-use Rattle.paper.specs.Format.{outside, bytesFor}
-use Rattle.paper.specs.FaceList.{solidFaces}
+use Rattle.paper.specs.Format.{leastFaces, outside, bytesFor}
+use Rattle.paper.specs.Loops.{Loop}
+use Rattle.paper.specs.FaceList.{solidFaces, bitsOf}
 use Rattle.paper.specs.declared.Written.the-variants.{Bytes}
-use Rattle.faces_writer.proofs.Weight.{weighed, misfit, span-small}
 use Rattle.faces_laws.proofs.Packed.{size-is}
+use Rattle.faces_writer.specs.Send.{listHead, Weighed}
+use Rattle.faces_writer.proofs.Weight.{weighed, misfit, solid-small}
 use Rattle.faces_writer.proofs.Sent.{result-misfit, result-count, result-short, result-fine}
 use native.Mathlib.Omega.{arith}
 use borrow.Author.Needs.{needs}
 use Rattle.faces_writer.proofs.write.write.Statement.{statement}
 use Rattle.faces_writer.proofs.write.write.Tie as tie
+
+-- ---- the way back from each test to the one before it
+
+abbrev start : tie.After-weigh-all → tie.Start
+start c = c .before .before .before
+
+abbrev told : tie.After-is-outside → tie.After-weighed
+told c = c .before .before
+
+abbrev sized : tie.After-struct-known → tie.After-is-outside
+sized c = c .before .before
+
+abbrev entry : tie.After-weighed → tie.Start
+entry c = start (c .before .before)
+
+-- ---- what is known there: the faces, n of b bits, all of which fit
+
+abbrev faces : tie.Start → List Loop
+faces s = let a = s .args in solidFaces (a .rows .now) (a .taken) (a .turned)
+
+abbrev n : tie.After-weighed → ℕ
+n c = c .weighed .given .0 .0
+
+abbrev b : tie.After-weighed → ℕ
+b c = c .weighed .given .0 .1 .0
+
+known : (c : tie.After-weighed) → Weighed (entry c .args .f) (faces (entry c)) (n c) (b c)
+known c =
+    let a = entry c .args in
+    weighed (a .f) (faces (entry c)) (sym (c .weighed .given .1) ∙ c .before .before .weigh-all .ensures (a .turned))
+
+-- where they end is a small number
+ends : (c : tie.After-weighed) → listHead (entry c .args .f) + b c ≡ bitsOf (entry c .args .f) (faces (entry c))
+ends c = size-is (entry c .args .f) (faces (entry c)) (known c .span-is)
+
+small : (c : tie.After-weighed) → listHead (entry c .args .f) + b c ≤ 6412
+small c =
+    let s = entry c in
+    let a = s .args in
+    let bits = solid-small (a .f) (a .rows .now) (a .taken) (s .pre) (a .turned) (known c .fit) in
+    omega (arith, bits, known c .span-is, s .pre .slender .face-count-narrow)
+
+-- what the test of the count finds
+miscounted : (c : tie.After-is-outside) → let s = entry (told c) in
+    outside leastFaces (s .args .f .«most_faces») (length (faces s)) ≡ c .is-outside .result
+miscounted c = let a = entry (told c) .args in
+    ap (outside leastFaces (a .f .«most_faces»)) (sym (known (told c) .count-is)) ∙ sym (c .is-outside .ensures)
+
+-- ---- the needs
 
 weigh-all-requires : tie.Need-weigh-all-requires
 weigh-all-requires c κs = search needs
@@ -28,8 +80,12 @@ refused-requires c κs = search needs
 
 returns : tie.Need-returns
 returns c =
-    let a = c .before .before .before .before .before .before .args in
-    let r = result-misfit (a .f) (solidFaces (a .rows .now) (a .taken) (a .turned)) (a .room .now) (misfit (a .f) (solidFaces (a .rows .now) (a .taken) (a .turned)) (sym ((c .before .enum-told .given) .1) ∙ (c .before .before .before .weigh-all .ensures) (a .turned))) in ((c .refused .ensures) ∙ r .0, r .1)
+    let w = c .before .before .before in
+    let s = start w in
+    let a = s .args in
+    let wrong = misfit (a .f) (faces s) (sym (c .before .enum-told .given .1) ∙ w .weigh-all .ensures (a .turned)) in
+    let r = result-misfit (a .f) (faces s) (a .room .now) wrong in
+    (c .refused .ensures ∙ r .0, r .1)
 
 is-outside-requires : tie.Need-is-outside-requires
 is-outside-requires c κs = search needs
@@ -39,48 +95,54 @@ refused-requires-2 c κs = search needs
 
 returns-2 : tie.Need-returns-2
 returns-2 c =
-    let a = c .before .before .before .before .before .before .before .before .before .args in
-    let w = weighed (a .f) (solidFaces (a .rows .now) (a .taken) (a .turned)) (sym ((c .before .before .before .before .weighed .given) .1) ∙ (c .before .before .before .before .before .before .weigh-all .ensures) (a .turned)) in let r = result-count (a .f) (solidFaces (a .rows .now) (a .taken) (a .turned)) (a .room .now) (ap (outside 4 (a .f .«most_faces»)) (sym (w .count-is)) ∙ sym (c .before .before .is-outside .ensures) ∙ (c .before .if1 .taken)) in ((c .refused2 .ensures) ∙ r .0, r .1)
+    let o = c .before .before in
+    let s = entry (told o) in
+    let r = result-count (s .args .f) (faces s) (s .args .room .now) (miscounted o ∙ c .before .if1 .taken) in
+    (c .refused2 .ensures ∙ r .0, r .1)
 
 add-size : tie.Need-add-size
 add-size c = search needs
 
 add-size-2 : tie.Need-add-size-2
-add-size-2 c =
-    let a = c .before .before .before .before .before .before .before .before .before .args in
-    let p = c .before .before .before .before .before .before .before .before .before in
-    let w = weighed (a .f) (solidFaces (a .rows .now) (a .taken) (a .turned)) (sym ((c .before .before .before .before .weighed .given) .1) ∙ (c .before .before .before .before .before .before .weigh-all .ensures) (a .turned)) in let o = outside-false 4 (a .f .«most_faces») (length (solidFaces (a .rows .now) (a .taken) (a .turned))) (ap (outside 4 (a .f .«most_faces»)) (sym (w .count-is)) ∙ sym (c .before .before .is-outside .ensures) ∙ (c .before .if1 .left)) in omega (arith, span-small (a .f) (p .pre) (solidFaces (a .rows .now) (a .taken) (a .turned)) (w .fit), w .span-is, o, (p .pre) .f-held, (p .pre) .slender .face-count-narrow)
+add-size-2 c = omega (arith, small (told (sized c)))
 
 add-size-3 : tie.Need-add-size-3
-add-size-3 c =
-    let a = c .before .before .before .before .before .before .before .before .before .args in
-    let p = c .before .before .before .before .before .before .before .before .before in
-    let w = weighed (a .f) (solidFaces (a .rows .now) (a .taken) (a .turned)) (sym ((c .before .before .before .before .weighed .given) .1) ∙ (c .before .before .before .before .before .before .weigh-all .ensures) (a .turned)) in let o = outside-false 4 (a .f .«most_faces») (length (solidFaces (a .rows .now) (a .taken) (a .turned))) (ap (outside 4 (a .f .«most_faces»)) (sym (w .count-is)) ∙ sym (c .before .before .is-outside .ensures) ∙ (c .before .if1 .left)) in omega (arith, span-small (a .f) (p .pre) (solidFaces (a .rows .now) (a .taken) (a .turned)) (w .fit), w .span-is, o, (p .pre) .f-held, (p .pre) .slender .face-count-narrow)
+add-size-3 c = omega (arith, small (told (sized c)))
 
 refused-requires-3 : tie.Need-refused-requires-3
 refused-requires-3 c κs = search needs
 
 returns-3 : tie.Need-returns-3
 returns-3 c =
-    let a = c .before .before .before .before .before .before .before .before .before .before .before .args in
-    let w = weighed (a .f) (solidFaces (a .rows .now) (a .taken) (a .turned)) (sym ((c .before .before .before .before .before .before .weighed .given) .1) ∙ (c .before .before .before .before .before .before .before .before .weigh-all .ensures) (a .turned)) in let hb = size-is (a .f) (solidFaces (a .rows .now) (a .taken) (a .turned)) (w .span-is) in let r = result-short (a .f) (solidFaces (a .rows .now) (a .taken) (a .turned)) (a .room .now) (ap (outside 4 (a .f .«most_faces»)) (sym (w .count-is)) ∙ sym (c .before .before .before .before .is-outside .ensures) ∙ (c .before .before .before .if1 .left)) (w .fit) (rw hb at (c .before .if2 .taken)) in ((c .refused3 .ensures) ∙ r .0, r .1)
+    let t = c .before in
+    let o = sized (t .before) in
+    let w = told o in
+    let s = entry w in
+    let a = s .args in
+    let counted = miscounted o ∙ t .before .before .if1 .left in
+    let r = result-short (a .f) (faces s) (a .room .now) counted (known w .fit) (rw (ends w) at (t .if2 .taken)) in
+    (c .refused3 .ensures ∙ r .0, r .1)
 
 put-list-requires : tie.Need-put-list-requires
 put-list-requires c κs =
-    let a = c .before .before .before .before .before .before .before .before .before .before .before .args in
-    let p = c .before .before .before .before .before .before .before .before .before .before .before in
-    let w = weighed (a .f) (solidFaces (a .rows .now) (a .taken) (a .turned)) (sym ((c .before .before .before .before .before .before .weighed .given) .1) ∙ (c .before .before .before .before .before .before .before .before .weigh-all .ensures) (a .turned)) in let hb = size-is (a .f) (solidFaces (a .rows .now) (a .taken) (a .turned)) (w .span-is) in let o = outside-false 4 (a .f .«most_faces») (length (solidFaces (a .rows .now) (a .taken) (a .turned))) (ap (outside 4 (a .f .«most_faces»)) (sym (w .count-is)) ∙ sym (c .before .before .before .before .is-outside .ensures) ∙ (c .before .before .before .if1 .left)) in ((p .pre), w .fit, w .count-is, w .span-is, rw hb at (c .before .if2 .left), omega (arith, hb, span-small (a .f) (p .pre) (solidFaces (a .rows .now) (a .taken) (a .turned)) (w .fit), w .span-is, o, (p .pre) .f-held, (p .pre) .slender .face-count-narrow))
+    let t = c .before in
+    let w = told (sized (t .before)) in
+    record { brief = entry w .pre; weighed = known w; roomy = rw (ends w) at (t .if2 .left) }
 
 same-length : tie.Need-same-length
 same-length c = search needs
 
 returns-4 : tie.Need-returns-4
 returns-4 c =
-    let a = c .before .before .before .before .before .before .before .before .before .before .before .before .before .before .args in
-    let w = weighed (a .f) (solidFaces (a .rows .now) (a .taken) (a .turned)) (sym ((c .before .before .before .before .before .before .before .before .before .weighed .given) .1) ∙ (c .before .before .before .before .before .before .before .before .before .before .before .weigh-all .ensures) (a .turned)) in
-    let hb = size-is (a .f) (solidFaces (a .rows .now) (a .taken) (a .turned)) (w .span-is) in
-    let r = result-fine (a .f) (solidFaces (a .rows .now) (a .taken) (a .turned)) (a .room .now) (ap (outside 4 (a .f .«most_faces»)) (sym (w .count-is)) ∙ sym (c .before .before .before .before .before .before .before .is-outside .ensures) ∙ (c .before .before .before .before .before .before .if1 .left)) (w .fit) (rw hb at (c .before .before .before .before .if2 .left)) in
-    (ap (λ (t : ℕ). Bytes (bytesFor t)) hb ∙ r .0, (c .before .before .put-list .ensures) ∙ r .1)
+    let p = c .before .before in
+    let t = p .before .before in
+    let o = sized (t .before) in
+    let w = told o in
+    let s = entry w in
+    let a = s .args in
+    let counted = miscounted o ∙ t .before .before .if1 .left in
+    let r = result-fine (a .f) (faces s) (a .room .now) counted (known w .fit) (rw (ends w) at (t .if2 .left)) in
+    (ap (λ (t : ℕ). Bytes (bytesFor t)) (ends w) ∙ r .0, p .put-list .ensures ∙ r .1)
 
 pub write-spec : {M : Type 1} → statement M
 write-spec =
