@@ -1,4 +1,4 @@
--- Lists that refusals 5 and 8 to 10 have nothing against are a drawing in range. Assumes nothing.
+-- Lists that pass 5 and 8 to 10 are a drawing in range. Assumes nothing.
 use mathlib.Core.Path.{_≡_}
 use mathlib.Core.List.{List}
 use Prim.Native.Nat.{ℕ, _*_, _/_, _≤_}
@@ -6,22 +6,32 @@ use native.Mathlib.Omega.{arith}
 use lib.IntN.{ℤ, pos}
 use lib.ListN.{length, getD}
 use Rattle.paper.specs.Refusals.{firstOf}
-use Rattle.paper.specs.Format.{editionOne}
+use Rattle.paper.specs.Format.{editionOne, leastEdges}
 use Rattle.paper.specs.Sheet.{contentChecks, lentChecks}
 use Rattle.paper.specs.declared.Answer.the-variants.{Fine}
 use Rattle.paper_laws.proofs.Coordinate.{in-reach}
 use Rattle.paper_laws.specs.InRange.{Points, Ends, InRange}
 use Rattle.sheet_laws.proofs.Lent.{contents, lent}
 
--- v vertices and e edges in number, and nothing against the contents
-module _ (xyz : List ℤ) (ends : List ℕ) (v e : ℕ) (three : length xyz ≡ 3 * v) (two : length ends ≡ 2 * e) (h : Fine ≡ firstOf (contentChecks v xyz ends)) where
+-- v vertices and e edges in number, whose contents pass
+module _ (xyz : List ℤ) (ends : List ℕ) (v e : ℕ) (three : length xyz ≡ 3 * v) (two : length ends ≡ 2 * e)
+    (h : Fine ≡ firstOf (contentChecks v xyz ends)) where
   pub points-are : Points xyz v
-  points-are = record { whole = three; near = λ k. record { within = in-reach (getD xyz k (pos 0)) (contents v xyz ends h .near k) } }
+  points-are =
+      let c = contents v xyz ends h in
+      record { whole = three; near = λ k. record { within = in-reach (getD xyz k (pos 0)) (c .near k) } }
 
-  pub ends-are : 6 ≤ e → e ≤ editionOne .«most_edges» → Ends ends v
+  pub ends-are : leastEdges ≤ e → e ≤ editionOne .«most_edges» → Ends ends v
   ends-are least most =
       let c = contents v xyz ends h in
-      record { edges = e; whole = two; least = least; most = most; known = λ k u. c .below k (omega arith); rising = λ k u. c .rising k (omega arith) }
+      record {
+        edges = e;
+        whole = two;
+        least = least;
+        most = most;
+        known = λ k u. c .below k (omega arith);
+        rising = λ k u. c .rising k (omega arith);
+      }
 
 pub lent-range : (xyz : List ℤ) (ends : List ℕ) → Fine ≡ firstOf (lentChecks editionOne xyz ends) → InRange xyz ends
 lent-range xyz ends h =

@@ -1,4 +1,5 @@
-// What a drawing's two lists are refused for, lent or read off a sheet: 8, 9 and 10 here, with 5 of lent ones in lend. Nothing is assumed of them.
+// What a drawing's two lists are refused for, lent or read off a sheet: 8, 9 and 10 here, with 5 of lent ones in lend. Nothing is
+// assumed of them.
 pub mod lend;
 
 ghost use mathlib.Core.Path.{_≡_};

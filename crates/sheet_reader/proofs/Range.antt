@@ -1,9 +1,10 @@
 -- The drawing that an accepted sheet holds is in range. Assumes nothing.
 use mathlib.Core.Path.{_≡_, sym, subst}
 use mathlib.Core.List.{List}
-use Prim.Native.Nat.{ℕ, _*_}
+use Prim.Native.Nat.{ℕ, _*_, _≤_}
 use native.Mathlib.Omega.{arith}
 use lib.IntN.{pos}
+use lib.ListN.{length}
 use Rattle.pack.proofs.Fill.{length-padded, take-padded}
 use Rattle.paper.specs.Format.{editionOne, verticesIn, edgesIn, coordinatesIn, endsIn}
 use Rattle.paper.specs.Sheet.{held, sheetOf}
@@ -24,14 +25,16 @@ read-range s h =
     let two = length-ends editionOne s in
     let k = accepted-shape editionOne s h .counts-are in
     let fine = accepted-contents editionOne s h in
+    let xyz-fit : length xyz ≤ 3 * editionOne .«most_vertices» = omega (arith, k .v-most, three) in
+    let ends-fit : length ends ≤ 2 * editionOne .«most_edges» = omega (arith, k .e-most, two) in
     let all : Held (held v e xyz ends) =
     record {
       least = k .v-least;
       most = k .v-most;
       few = k .e-most;
-      xyz-room = omega (arith, k .v-most, three, length-padded xyz 96 (pos 0) (omega (arith, k .v-most, three)));
-      ends-room = omega (arith, k .e-most, two, length-padded ends 128 0 (omega (arith, k .e-most, two)));
-      points = rw (take-padded xyz 96 (3 * v) (pos 0) three) (points-are xyz ends v e three two fine);
-      links = rw (take-padded ends 128 (2 * e) 0 two) (ends-are xyz ends v e three two fine (k .e-least) (k .e-most));
+      xyz-room = omega (arith, k .v-most, length-padded xyz _ (pos 0) xyz-fit);
+      ends-room = omega (arith, k .e-most, length-padded ends _ 0 ends-fit);
+      points = rw (take-padded xyz _ (3 * v) (pos 0) three) (points-are xyz ends v e three two fine);
+      links = rw (take-padded ends _ (2 * e) 0 two) (ends-are xyz ends v e three two fine (k .e-least) (k .e-most));
     } in
     subst Held (sym (returns editionOne s h)) all

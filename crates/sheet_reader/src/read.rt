@@ -1,16 +1,13 @@
 // A drawing from the bytes of a sheet, over an edition's layout: refusals 3 to 10. Nothing is assumed of the sheet.
 ghost use mathlib.Core.Path.{_≡_};
 ghost use mathlib.Core.List.{map};
-ghost use Prim.Native.Nat.{_+_, _*_, _≤_, _<_, _^_};
-ghost use lib.IntN.{pos};
-ghost use lib.ListN.{length};
+ghost use Prim.Native.Nat.{_<_, _^_};
 ghost use Rattle.pack.specs.Bits.{fieldsAt};
-ghost use Rattle.pack.specs.Fill.{padded};
-ghost use Rattle.paper.specs.Refusals.{firstOf};
-ghost use Rattle.paper.specs.Format.{coordinate};
-ghost use Rattle.paper.specs.Sheet.{shapeChecks, blank, sheetOf};
+ghost use Rattle.paper.specs.Format.{coordinateBits, coordinate};
+ghost use Rattle.paper.specs.Sheet.{blank, sheetOf};
 ghost use Rattle.sheet_shape.specs.Narrow.{FitsDrawing};
-ghost use Rattle.sheet_reader.specs.Kept.{keptOf};
+ghost use Rattle.sheet_reader.specs.Asked.{Coordinates, Numbers, Few, Readable};
+ghost use Rattle.sheet_reader.specs.Kept.{heldXyz, heldEnds, keptOf};
 use drawing_lists::content;
 use paper::Answer;
 use paper::Drawing;
@@ -20,16 +17,16 @@ use sheet_shape::shape;
 
 // A coordinate, from its number on the sheet.
 fn to_coordinate(f: u64) -> i64
-    requires { ⌜ f < 2048 ⌝ }
+    requires { ⌜ f < 2 ^ coordinateBits ⌝ }
     ensures { λ r. ⌜ r ≡ coordinate f ⌝ }
 {
     f as i64 - paper::FARTHEST
 }
 
-// The n coordinates in the fields of 11 bits of s from bit i on, then zeros.
+// The n coordinates in the fields of s from bit i on, then zeros.
 fn coordinates(s: &[u8], i: usize, n: usize) -> [i64; paper::COORDINATES]
-    requires { ⌜ (n ≤ 96) × (i + 11 * n ≤ length (now s) * 8) × (i ≤ 4096) ⌝ }
-    ensures { λ r. ⌜ r ≡ padded (map coordinate (fieldsAt (now (s .entry)) i 11 n)) 96 (pos 0) ⌝ }
+    requires { ⌜ Coordinates (now s) i n ⌝ }
+    ensures { λ r. ⌜ r ≡ heldXyz (map coordinate (fieldsAt (now (s .entry)) i coordinateBits n)) ⌝ }
 {
     let mut xyz = [0i64; paper::COORDINATES];
     let mut k: usize = 0;
@@ -47,8 +44,8 @@ fn coordinates(s: &[u8], i: usize, n: usize) -> [i64; paper::COORDINATES]
 
 // The n numbers in the fields of w bits of s from bit i on, then zeros.
 fn numbers(s: &[u8], i: usize, w: usize, n: usize) -> [u8; paper::ENDS]
-    requires { ⌜ (n ≤ 128) × (w ≤ 8) × (i + w * n ≤ length (now s) * 8) × (i + w * n < 2 ^ 32) ⌝ }
-    ensures { λ r. ⌜ r ≡ padded (fieldsAt (now (s .entry)) i w n) 128 0 ⌝ }
+    requires { ⌜ Numbers (now s) i w n ⌝ }
+    ensures { λ r. ⌜ r ≡ heldEnds (fieldsAt (now (s .entry)) i w n) ⌝ }
 {
     let mut ends = [0u8; paper::ENDS];
     let mut k: usize = 0;
@@ -71,9 +68,9 @@ fn no_drawing() -> Drawing
     }
 }
 
-// The drawing, if refusals 8 to 10 have nothing against it.
+// The drawing, if it passes 8 to 10.
 fn kept(v: usize, e: usize, xyz: [i64; paper::COORDINATES], ends: [u8; paper::ENDS]) -> Sheet
-    requires { ⌜ (v ≤ 32) × (e ≤ 64) ⌝ }
+    requires { ⌜ Few v e ⌝ }
     ensures { λ r. ⌜ r ≡ keptOf v e xyz ends ⌝ }
 {
     let m = 3 * v;
@@ -95,9 +92,9 @@ fn kept(v: usize, e: usize, xyz: [i64; paper::COORDINATES], ends: [u8; paper::EN
     }
 }
 
-// The drawing of a sheet that refusals 3 to 7 passed.
+// The drawing of a sheet that passes 3 to 7.
 fn drawn(f: Format, s: &[u8]) -> Sheet
-    requires { ⌜ FitsDrawing f × (Answer.Fine ≡ firstOf (shapeChecks f (now s))) ⌝ }
+    requires { ⌜ Readable f (now s) ⌝ }
     ensures { λ r. ⌜ r ≡ sheetOf f (now (s .entry)) ⌝ }
 {
     let first = paper::EDITION_BITS + f.vertex_count_bits + f.edge_count_bits;

@@ -7,38 +7,40 @@ use native.Mathlib.Omega.{arith}
 use lib.ListN.{length}
 use Rattle.sheet_laws.proofs.Shaped.{shaped}
 use Rattle.paper.specs.Refusals.{firstOf}
-use Rattle.paper.specs.Format.{total, bytesFor, verticesIn, edgesIn}
+use Rattle.paper.specs.Format.{editionOne, total, bytesFor, verticesIn, edgesIn}
 use Rattle.paper.specs.Sheet.{shapeChecks}
 use Rattle.paper.specs.declared.Format.{Format}
 use Rattle.paper.specs.declared.Answer.the-variants.{Fine}
-use Rattle.sheet_shape.specs.Narrow.{FitsDrawing}
+use Rattle.sheet_shape.specs.Narrow.{narrowBits, fewEdges, FitsDrawing, NarrowCounts}
 use Rattle.sheet_shape.proofs.Sizes.{numbers-small}
 
 -- of its own v and e
 pub record Bounds (f : Format) (s : List ℕ) (v e : ℕ) : Type 0 where
-  pub v-most : v ≤ 32
-  pub e-most : e ≤ 64
+  pub v-most : v ≤ editionOne .«most_vertices»
+  pub e-most : e ≤ editionOne .«most_edges»
   pub long : 3 ≤ length s
   pub fits : total f v e ≤ length s * 8
-  pub few : 2 * f .«vertex_number_bits» * e ≤ 2048
+  pub few : 2 * f .«vertex_number_bits» * e ≤ 2 * narrowBits * fewEdges
   pub twice : f .«vertex_number_bits» * (2 * e) ≡ 2 * f .«vertex_number_bits» * e
 
-pub bounds : (f : Format) (s : List ℕ) {v e : ℕ} → FitsDrawing f → Fine ≡ firstOf (shapeChecks f s) → v ≡ verticesIn f s → e ≡ edgesIn f s → Bounds f s v e
-bounds f s {v} {e} g o hv he =
-    let h = shaped f s o in
-    let k = h .counts-are in
-    let t : total f (verticesIn f s) (edgesIn f s) ≡ total f v e = ap₂ (λ (x y : ℕ). total f x y) (sym hv) (sym he) in
-    let a : v ≤ 32 = omega (arith, k .v-most, g .v-held) in
-    let b : e ≤ 64 = omega (arith, k .e-most, g .e-held) in
-    let d : length s ≡ bytesFor (total f v e) = h .close-is .sized ∙ ap bytesFor t in
-    record {
-      v-most = a;
-      e-most = b;
-      long = h .open-is .long;
-      fits = rw d (up (total f v e));
-      few = numbers-small f (g .narrow) v e (omega arith) (omega arith);
-      twice = mul-left-comm (f .«vertex_number_bits») 2 e ∙ sym (mul-assoc 2 (f .«vertex_number_bits») e);
-    }
-  where
-    up : (n : ℕ) → n ≤ (n + 7) / 8 * 8
-    up n = omega arith
+module _ (f : Format) (s : List ℕ) {v e : ℕ} (g : FitsDrawing f) where
+  pub bounds : Fine ≡ firstOf (shapeChecks f s) → v ≡ verticesIn f s → e ≡ edgesIn f s → Bounds f s v e
+  bounds o hv he =
+      let h = shaped f s o in
+      let k = h .counts-are in
+      let t : total f (verticesIn f s) (edgesIn f s) ≡ total f v e = ap₂ (λ (x y : ℕ). total f x y) (sym hv) (sym he) in
+      let a : v ≤ editionOne .«most_vertices» = omega (arith, k .v-most, g .v-held) in
+      let b : e ≤ editionOne .«most_edges» = omega (arith, k .e-most, g .e-held) in
+      let n : NarrowCounts f v e = record { narrow = g .narrow; v-few = omega arith; e-few = omega arith } in
+      let d : length s ≡ bytesFor (total f v e) = h .close-is .sized ∙ ap bytesFor t in
+      record {
+        v-most = a;
+        e-most = b;
+        long = h .open-is .long;
+        fits = rw d (up (total f v e));
+        few = numbers-small n;
+        twice = mul-left-comm (f .«vertex_number_bits») 2 e ∙ sym (mul-assoc 2 (f .«vertex_number_bits») e);
+      }
+    where
+      up : (n : ℕ) → n ≤ (n + 7) / 8 * 8
+      up n = omega arith

@@ -1,10 +1,9 @@
 // Refusals 3 to 7, the shape of a sheet, over any edition's layout. Nothing is assumed of the sheet.
 ghost use mathlib.Core.Path.{_≡_};
-ghost use Prim.Native.Nat.{_≤_};
 ghost use Rattle.paper.specs.Refusals.{firstOf};
 ghost use Rattle.paper.specs.Format.{total};
 ghost use Rattle.paper.specs.Sheet.{openChecks, closeChecks, shapeChecks};
-ghost use Rattle.sheet_shape.specs.Narrow.{Narrow};
+ghost use Rattle.sheet_shape.specs.Narrow.{Narrow, NarrowCounts};
 use paper::Answer;
 use paper::Format;
 use paper::refused;
@@ -12,7 +11,7 @@ use sheet_counts::counts;
 
 // The bits before the fill.
 pub fn total_bits(f: Format, v: usize, e: usize) -> usize
-    requires { ⌜ Narrow f × (v ≤ 64) × (e ≤ 128) ⌝ }
+    requires { ⌜ NarrowCounts f v e ⌝ }
     ensures { λ r. ⌜ r ≡ total f v e ⌝ }
 {
     paper::EDITION_BITS
@@ -37,7 +36,7 @@ fn opening(f: Format, s: &[u8]) -> Answer
 
 // Refusals 6 and 7.
 fn closing(f: Format, s: &[u8], v: usize, e: usize) -> Answer
-    requires { ⌜ Narrow f × (v ≤ 64) × (e ≤ 128) ⌝ }
+    requires { ⌜ NarrowCounts f v e ⌝ }
     ensures { λ r. ⌜ r ≡ firstOf (closeChecks f (now (s .entry)) v e) ⌝ }
 {
     let bits = total_bits(f, v, e);

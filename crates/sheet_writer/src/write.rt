@@ -1,15 +1,13 @@
 // A drawing's sheet, written to the start of a lent room: refusals 5, 8, 9, 10, then 1. Nothing is assumed of lists or room.
 ghost use mathlib.Core.Path.{_≡_};
 ghost use mathlib.Core.Bool.{false};
-ghost use mathlib.Core.List.{map, _++_};
-ghost use Prim.Native.Nat.{_+_, _*_, _-_, _/_, _≤_, _<_, _^_};
-ghost use lib.ListN.{length, drop};
-ghost use Rattle.pack.specs.Bits.{bits, run, overwrite};
-ghost use Rattle.paper.specs.Refusals.{firstOf};
-ghost use Rattle.paper.specs.Format.{onSheet, total, bytesFor, headBits, encode};
-ghost use Rattle.paper.specs.Sheet.{far, lentChecks, writtenOf, roomOf};
-ghost use Rattle.sheet_laws.specs.Near.{Near};
+ghost use mathlib.Core.List.{map};
+ghost use Rattle.pack.specs.Bits.{run};
+ghost use Rattle.paper.specs.Format.{coordinateBits, onSheet, headBits};
+ghost use Rattle.paper.specs.Sheet.{far, writtenOf, roomOf};
 ghost use Rattle.sheet_shape.specs.Narrow.{Narrow};
+ghost use Rattle.sheet_writer.specs.Asked.{Coordinates, Numbers, HeadRoom, Writable};
+ghost use Rattle.sheet_writer.specs.Put.{Put, sheetIn};
 use drawing_lists::lend::lent;
 use paper::Answer;
 use paper::Format;
@@ -25,10 +23,10 @@ fn to_field(z: i64) -> u64
     (z + paper::FARTHEST) as u64
 }
 
-// Writes the coordinates into the fields of 11 bits from bit i on.
+// Writes the coordinates into their fields from bit i on.
 fn put_coordinates(xyz: &[i64], room: &mut [u8], i: usize)
-    requires { ⌜ Near (now xyz) × (i + 11 * length (now xyz) ≤ length (now room) * 8) × (i + 11 * length (now xyz) < 2 ^ 32) ⌝ }
-    ensures { λ _. ⌜ run 8 (now (room .exit)) ≡ overwrite (run 8 (now (room .entry))) i (run 11 (map onSheet (now (xyz .entry)))) ⌝ }
+    requires { ⌜ Coordinates (now xyz) (now room) i ⌝ }
+    ensures { λ _. ⌜ Put (now (room .entry)) (now (room .exit)) i (run coordinateBits (map onSheet (now (xyz .entry)))) ⌝ }
 {
     let mut k: usize = 0;
     while k < xyz.len() {
@@ -44,8 +42,8 @@ fn put_coordinates(xyz: &[i64], room: &mut [u8], i: usize)
 
 // Writes the numbers into the fields of w bits from bit i on.
 fn put_numbers(list: &[u8], room: &mut [u8], i: usize, w: usize)
-    requires { ⌜ (w ≤ 8) × (i + w * length (now list) ≤ length (now room) * 8) × (i + w * length (now list) < 2 ^ 32) ⌝ }
-    ensures { λ _. ⌜ run 8 (now (room .exit)) ≡ overwrite (run 8 (now (room .entry))) i (run w (now (list .entry))) ⌝ }
+    requires { ⌜ Numbers (now list) (now room) i w ⌝ }
+    ensures { λ _. ⌜ Put (now (room .entry)) (now (room .exit)) i (run w (now (list .entry))) ⌝ }
 {
     let mut k: usize = 0;
     while k < list.len() {
@@ -56,8 +54,8 @@ fn put_numbers(list: &[u8], room: &mut [u8], i: usize, w: usize)
 
 // Writes the edition and the counts.
 fn put_head(f: Format, room: &mut [u8], v: usize, e: usize)
-    requires { ⌜ Narrow f × (4 + f .«vertex_count_bits» + f .«edge_count_bits» ≤ length (now room) * 8) ⌝ }
-    ensures { λ _. ⌜ run 8 (now (room .exit)) ≡ overwrite (run 8 (now (room .entry))) 0 (headBits f v e) ⌝ }
+    requires { ⌜ HeadRoom f (now room) ⌝ }
+    ensures { λ _. ⌜ Put (now (room .entry)) (now (room .exit)) 0 (headBits f v e) ⌝ }
 {
     pack::put(room, 0, paper::EDITION_BITS, f.edition);
     pack::put(room, paper::EDITION_BITS, f.vertex_count_bits, v as u64);
@@ -71,8 +69,8 @@ fn put_head(f: Format, room: &mut [u8], v: usize, e: usize)
 
 // Writes the sheet of a drawing that fits, into room that is long enough.
 fn put_sheet(f: Format, xyz: &[i64], ends: &[u8], room: &mut [u8], v: usize, e: usize)
-    requires { ⌜ Narrow f × (Answer.Fine ≡ firstOf (lentChecks f (now xyz) (now ends))) × (v ≡ length (now xyz) / 3) × (e ≡ length (now ends) / 2) × (bytesFor (total f v e) ≤ length (now room)) ⌝ }
-    ensures { λ _. ⌜ now (room .exit) ≡ encode f (now (xyz .entry)) (now (ends .entry)) ++ drop (bytesFor (total f v e)) (now (room .entry)) ⌝ }
+    requires { ⌜ Writable f (now xyz) (now ends) (now room) v e ⌝ }
+    ensures { λ _. ⌜ now (room .exit) ≡ sheetIn f (now (xyz .entry)) (now (ends .entry)) v e (now (room .entry)) ⌝ }
 {
     let first = paper::EDITION_BITS + f.vertex_count_bits + f.edge_count_bits;
     let bits = total_bits(f, v, e);

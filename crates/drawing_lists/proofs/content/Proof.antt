@@ -1,4 +1,4 @@
--- `drawing_lists::content` meets its contract. Assumes nothing.
+-- `drawing_lists::content`: the lowest coordinate out of range is 8, and the rest is that of 9 and 10. Assumes nothing.
 use mathlib.Core.Path.{_∙_, sym, ap}
 use Rattle.lists.specs.Found.{found}
 use Rattle.paper_laws.proofs.Checks.{stops, passes}
@@ -24,11 +24,15 @@ edges-requires c κs = search needs
 
 returns : tie.Need-returns
 unfolding contentChecks
-returns c = (c .refused .ensures) ∙ stops _ _ (sym (ap found ((c .before .before .i .given) .1)) ∙ (c .before .before .before .before .first-far .ensures))
+returns c =
+    let i = c .before .before in
+    c .refused .ensures ∙ stops _ _ (sym (ap found (i .i .given .1)) ∙ i .before .before .first-far .ensures)
 
 returns-2 : tie.Need-returns-2
 unfolding contentChecks
-returns-2 c = (c .edges .ensures) ∙ passes _ _ (sym (ap found ((c .before .enum-told .given) .1)) ∙ (c .before .before .before .first-far .ensures))
+returns-2 c =
+    let n = c .before in
+    c .edges .ensures ∙ passes _ _ (sym (ap found (n .enum-told .given .1)) ∙ n .before .before .first-far .ensures)
 
 pub content-spec : {M : Type 1} → statement M
 content-spec =

@@ -1,4 +1,4 @@
--- `drawing_lists::first_far` meets its contract. Assumes nothing.
+-- `drawing_lists::first_far`: the loop keeps that what is left to search holds the whole answer. Assumes nothing.
 use mathlib.Core.Path.{_≡_, _∙_, sym}
 use lib.IntN.{ℤ, pos}
 use mir.Val.{toZ, ofZ}
@@ -18,12 +18,20 @@ Inv-loop xyz i₀ i = (i ≤ length xyz) × LowestLeft (farAt xyz) (length xyz) 
 abbrev μ-loop : tie.MeasureT-loop
 μ-loop xyz i₀ i = length xyz - i
 
--- the element that was read, as it was passed on
-abbrev Z : tie.After-is-far Inv-loop μ-loop → ℤ
-Z c = getD (c .before .before .before .before .args .xyz .now) (c .before .before .before .loop .i) (pos 0)
+abbrev turn : tie.After-is-far Inv-loop μ-loop → tie.At-loop Inv-loop μ-loop
+turn c = c .before .before .before
 
-same : (c : tie.After-is-far Inv-loop μ-loop) → toZ w64 (ofZ w64 (Z c)) ≡ Z c
-same c = toZ-ofZ w64 (Z c) (record { sfits = c .before .is-far-arg .given })
+-- the coordinate that was read, as it was passed on
+abbrev read : tie.After-is-far Inv-loop μ-loop → ℤ
+read c = getD (turn c .before .args .xyz .now) (turn c .loop .i) (pos 0)
+
+same : (c : tie.After-is-far Inv-loop μ-loop) → toZ w64 (ofZ w64 (read c)) ≡ read c
+same c = toZ-ofZ w64 (read c) (record { sfits = c .before .is-far-arg .given })
+
+-- the code's test is that of 8
+tested : (c : tie.After-is-far Inv-loop μ-loop) → farAt (turn c .before .args .xyz .now) (turn c .loop .i) ≡ c .is-far .result
+unfolding farAt
+tested c = sym (rw (same c) at (c .is-far .ensures))
 
 loop-holds : tie.Need-loop-holds Inv-loop μ-loop
 loop-holds c = (omega arith, lowest-start _ _)
@@ -38,8 +46,7 @@ is-far-requires : tie.Need-is-far-requires Inv-loop μ-loop
 is-far-requires c κs = omega arith
 
 returns : tie.Need-returns Inv-loop μ-loop
-unfolding farAt
-returns c = sym (lowest-hit _ _ _ (omega arith) (c .before .before .before .before .loop .inv .1) (sym (rw (same (c .before)) at (c .before .is-far .ensures)) ∙ (c .if1 .taken)))
+returns c = sym (lowest-hit _ _ _ (omega arith) (turn (c .before) .loop .inv .1) (tested (c .before) ∙ c .if1 .taken))
 
 add-i : tie.Need-add-i Inv-loop μ-loop
 add-i c = omega arith
@@ -48,11 +55,13 @@ loop-less : tie.Need-loop-less Inv-loop μ-loop
 loop-less c = omega arith
 
 loop-again : tie.Need-loop-again Inv-loop μ-loop
-unfolding farAt
-loop-again c = (omega arith, lowest-miss _ _ _ (omega arith) (c .before .before .before .before .loop .inv .1) (sym (rw (same (c .before)) at (c .before .is-far .ensures)) ∙ (c .if1 .left)))
+loop-again c = (omega arith, lowest-miss _ _ _ (omega arith) (turn (c .before) .loop .inv .1) (tested (c .before) ∙ c .if1 .left))
 
 returns-2 : tie.Need-returns-2 Inv-loop μ-loop
-returns-2 c = let a = c .before .before .args in sym (lowest-end (farAt (a .xyz .now)) (length (a .xyz .now)) (c .before .loop .i) (omega arith) (c .before .loop .inv .1))
+returns-2 c =
+    let xyz = c .before .before .args .xyz .now in
+    let l = c .before .loop in
+    sym (lowest-end (farAt xyz) (length xyz) (l .i) (omega arith) (l .inv .1))
 
 pub first-far-spec : {M : Type 1} → statement M
 first-far-spec =

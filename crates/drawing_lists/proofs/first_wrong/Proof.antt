@@ -1,4 +1,4 @@
--- `drawing_lists::first_wrong` meets its contract. Assumes nothing.
+-- `drawing_lists::first_wrong`: the loop keeps that what is left to search holds the whole answer. Assumes nothing.
 use mathlib.Core.Path.{_≡_, _∙_, sym}
 use Prim.Native.Nat.{_≤_, _-_, _/_}
 use lib.ListN.{length}
@@ -13,6 +13,9 @@ Inv-loop v ends n e₀ e = (e ≤ n) × (n ≡ length ends / 2) × LowestLeft (w
 
 abbrev μ-loop : tie.MeasureT-loop
 μ-loop v ends n e₀ e = n - e
+
+abbrev turn : tie.After-is-wrong Inv-loop μ-loop → tie.At-loop Inv-loop μ-loop
+turn c = c .before .before .before .before
 
 loop-holds : tie.Need-loop-holds Inv-loop μ-loop
 loop-holds c = (omega arith, omega arith, lowest-start _ _)
@@ -37,7 +40,9 @@ is-wrong-requires c κs = omega arith
 
 returns : tie.Need-returns Inv-loop μ-loop
 unfolding wrongAt
-returns c = sym (lowest-hit _ _ _ (omega arith) (c .before .before .before .before .before .loop .inv .2) (sym (c .before .is-wrong .ensures) ∙ (c .if1 .taken)))
+returns c =
+    let t = c .before in
+    sym (lowest-hit _ _ _ (omega arith) (turn t .loop .inv .2) (sym (t .is-wrong .ensures) ∙ c .if1 .taken))
 
 add-e : tie.Need-add-e Inv-loop μ-loop
 add-e c = omega arith
@@ -47,10 +52,15 @@ loop-less c = omega arith
 
 loop-again : tie.Need-loop-again Inv-loop μ-loop
 unfolding wrongAt
-loop-again c = (omega arith, omega arith, lowest-miss _ _ _ (omega arith) (c .before .before .before .before .before .loop .inv .2) (sym (c .before .is-wrong .ensures) ∙ (c .if1 .left)))
+loop-again c =
+    let t = c .before in
+    (omega arith, omega arith, lowest-miss _ _ _ (omega arith) (turn t .loop .inv .2) (sym (t .is-wrong .ensures) ∙ c .if1 .left))
 
 returns-2 : tie.Need-returns-2 Inv-loop μ-loop
-returns-2 c = let a = c .before .before .before .args in sym (lowest-end (wrongAt (a .v) (a .ends .now)) (length (a .ends .now) / 2) (c .before .loop .e) (omega arith) (c .before .loop .inv .2))
+returns-2 c =
+    let a = c .before .before .before .args in
+    let l = c .before .loop in
+    sym (lowest-end (wrongAt (a .v) (a .ends .now)) (length (a .ends .now) / 2) (l .e) (omega arith) (l .inv .2))
 
 pub first-wrong-spec : {M : Type 1} → statement M
 first-wrong-spec =

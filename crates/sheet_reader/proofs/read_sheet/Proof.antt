@@ -1,4 +1,4 @@
--- `sheet_reader::read_sheet` meets its contract. Assumes nothing.
+-- `sheet_reader::read_sheet`: the reader, at edition 1, which fits. Assumes nothing.
 use mathlib.Core.Path.{_∙_, ap}
 use Rattle.paper.specs.Sheet.{sheetOf}
 use Rattle.paper.specs.declared.Format.{Format}
@@ -14,7 +14,9 @@ read-requires : tie.Need-read-requires
 read-requires c κs = rw (c .edition-one .ensures) one-fits
 
 returns : tie.Need-returns
-returns c = (c .read .ensures) ∙ ap (λ (f : Format). sheetOf f (c .before .before .before .args .sheet .now)) (c .before .edition-one .ensures)
+returns c =
+    let e = c .before in
+    c .read .ensures ∙ ap (λ (f : Format). sheetOf f (e .before .before .args .sheet .now)) (e .edition-one .ensures)
 
 pub read-sheet-spec : {M : Type 1} → statement M
 read-sheet-spec = tie.close (tie.spec edition-one-requires read-requires returns)

@@ -1,12 +1,13 @@
--- `sheet_shape::closing` meets its contract. Assumes nothing.
-use mathlib.Core.Path.{_∙_, ap, sym}
-use mathlib.Core.Bool.{not}
-use Prim.Native.Nat.{ℕ, _+_, _*_, _-_, _/_}
+-- `sheet_shape::closing`: the bits that the code counts are the layout's, so its two tests are those of 6 and 7. Assumes nothing.
+use mathlib.Core.Path.{_≡_, _∙_, ap, sym}
+use mathlib.Core.Bool.{false, not}
+use mathlib.Core.List.{List}
+use Prim.Native.Nat.{ℕ, _≤_}
 use borrow.Author.Tests.{eq-eqb, ne-eqb}
+use lib.Dec.{eqb}
 use lib.ListN.{length}
-use Rattle.pack.specs.Bits.{fieldAt}
 use Rattle.paper_laws.proofs.Checks.{holds, fails, clear}
-use Rattle.paper.specs.Format.{fillAfter}
+use Rattle.paper.specs.Format.{total, bytesFor, fillAfter}
 use Rattle.paper.specs.Sheet.{closeChecks}
 use Rattle.sheet_shape.proofs.Sizes.{total-small}
 use native.Mathlib.Omega.{arith}
@@ -14,50 +15,78 @@ use borrow.Author.Needs.{needs}
 use Rattle.sheet_shape.proofs.closing.Statement.{statement}
 use Rattle.sheet_shape.proofs.closing.Tie as tie
 
+-- ---- the ways back
+
+abbrev start : tie.After-total-bits → tie.Start
+start c = c .before .before
+
+abbrev counted : tie.After-field → tie.After-total-bits
+counted c = c .before .before
+
+abbrev sheet : tie.After-total-bits → List ℕ
+sheet c = start c .args .s .now
+
+-- the layout's bits
+abbrev bits : tie.After-total-bits → ℕ
+bits c = let a = start c .args in total (a .f) (a .v) (a .e)
+
+-- ---- what is known there
+
+few : (c : tie.After-total-bits) → c .total-bits .result ≤ 4200
+few c = omega (arith, c .total-bits .ensures, total-small (start c .pre))
+
+-- past the first test 6 doesn't apply
+six-passes : (c : tie.Else1) → not (eqb (length (sheet (c .before))) (bytesFor (bits (c .before)))) ≡ false
+six-passes c = ap not (eq-eqb _ _ (c .if1 .left ∙ ap bytesFor (c .before .total-bits .ensures)))
+
+-- the field that the code reads is the fill
+fill : (c : tie.After-field) → c .field .result ≡ fillAfter (bits (counted c)) (sheet (counted c))
+unfolding fillAfter
+fill c = c .field .ensures ∙ ap (λ (n : ℕ). fillAfter n (sheet (counted c))) (counted c .total-bits .ensures)
+
+-- ---- the needs
+
 total-bits-requires : tie.Need-total-bits-requires
 total-bits-requires c κs = search needs
 
 add-if1 : tie.Need-add-if1
-add-if1 c = omega (arith, (c .total-bits .ensures), total-small (c .before .before .args .f) ((c .before .before .pre .0)) (c .before .before .args .v) (c .before .before .args .e) ((c .before .before .pre .1)) ((c .before .before .pre .2)))
+add-if1 c = omega (arith, few c)
 
 refused-requires : tie.Need-refused-requires
 refused-requires c κs = search needs
 
 returns : tie.Need-returns
 unfolding closeChecks
-returns c = (c .refused .ensures) ∙ holds _ _ _ (ap not (ne-eqb _ _ (λ q. (c .before .if1 .taken) (q ∙ ap (λ (n : ℕ). (n + 7) / 8) (sym (c .before .before .total-bits .ensures))))))
+returns c =
+    let t = c .before in
+    let other = ap not (ne-eqb _ _ (λ q. t .if1 .taken (q ∙ ap bytesFor (sym (t .before .total-bits .ensures))))) in
+    c .refused .ensures ∙ holds _ _ _ other
 
 mul-field : tie.Need-mul-field
-mul-field c =
-    let a = c .before .before .before .args in
-    let p = c .before .before .before in
-    omega (arith, (c .if1 .left), (c .before .total-bits .ensures), total-small (a .f) (p .pre .0) (a .v) (a .e) (p .pre .1) (p .pre .2))
+mul-field c = omega (arith, few (c .before))
 
 sub-field : tie.Need-sub-field
 sub-field c = search needs
 
 field-requires : tie.Need-field-requires
-field-requires c κs =
-    let a = c .before .before .before .args in
-    let p = c .before .before .before in
-    omega (arith, (c .if1 .left), (c .before .total-bits .ensures), total-small (a .f) (p .pre .0) (a .v) (a .e) (p .pre .1) (p .pre .2))
+field-requires c κs = omega (arith, few (c .before))
 
 refused-requires-2 : tie.Need-refused-requires-2
 refused-requires-2 c κs = search needs
 
 returns-2 : tie.Need-returns-2
-unfolding closeChecks fillAfter
+unfolding closeChecks
 returns-2 c =
-    let a = c .before .before .before .before .before .before .args in
-    let p = c .before .before .before .before in
-    (c .refused2 .ensures) ∙ holds _ _ _ (ap not (ne-eqb _ _ (λ q. (c .before .if2 .taken) ((c .before .before .field .ensures) ∙ ap (λ (n : ℕ). fieldAt (a .s .now) n (length (a .s .now) * 8 - n)) (p .total-bits .ensures) ∙ q)))) ∙ fails _ _ _ (ap not (eq-eqb _ _ ((c .before .before .before .if1 .left) ∙ ap (λ (n : ℕ). (n + 7) / 8) (p .total-bits .ensures))))
+    let f = c .before .before in
+    let filled = ap not (ne-eqb _ _ (λ q. c .before .if2 .taken (fill f ∙ q))) in
+    c .refused2 .ensures ∙ holds _ _ _ filled ∙ fails _ _ _ (six-passes (f .before))
 
 returns-3 : tie.Need-returns-3
-unfolding closeChecks fillAfter
+unfolding closeChecks
 returns-3 c =
-    let a = c .before .before .before .before .before .args in
-    let p = c .before .before .before in
-    clear ∙ fails _ _ _ (ap not (eq-eqb _ _ (ap (λ (n : ℕ). fieldAt (a .s .now) n (length (a .s .now) * 8 - n)) (sym (p .total-bits .ensures)) ∙ sym (c .before .field .ensures) ∙ (c .if2 .left)))) ∙ fails _ _ _ (ap not (eq-eqb _ _ ((c .before .before .if1 .left) ∙ ap (λ (n : ℕ). (n + 7) / 8) (p .total-bits .ensures))))
+    let f = c .before in
+    let blank = ap not (eq-eqb _ _ (sym (fill f) ∙ c .if2 .left)) in
+    clear ∙ fails _ _ _ blank ∙ fails _ _ _ (six-passes (f .before))
 
 pub closing-spec : {M : Type 1} → statement M
 closing-spec =

@@ -1,10 +1,42 @@
--- `sheet_shape::shape` meets its contract. Assumes nothing.
-use mathlib.Core.Path.{_∙_, sym}
-use Rattle.sheet_laws.proofs.Shaped.{opened, counted, shape-open, shape-counts, shape-close}
+-- `sheet_shape::shape`: the three groups of checks one behind the other. A sheet that passes 3 and 4 has the bits of its counts, and
+-- counts that pass 5 are few enough for the length. Assumes nothing.
+use mathlib.Core.Path.{_≡_, _∙_, sym}
 use native.Mathlib.Omega.{arith}
 use borrow.Author.Needs.{needs}
+use Rattle.paper.specs.Refusals.{firstOf}
+use Rattle.paper.specs.Sheet.{openChecks, countChecks}
+use Rattle.paper.specs.declared.Answer.the-variants.{Fine}
+use Rattle.sheet_laws.proofs.Shaped.{Opened, opened, counted, shape-open, shape-counts, shape-close}
 use Rattle.sheet_shape.proofs.shape.Statement.{statement}
 use Rattle.sheet_shape.proofs.shape.Tie as tie
+
+-- ---- the ways back
+
+abbrev start : tie.After-opening → tie.Start
+start c = c .before .before
+
+abbrev passed : tie.After-field2 → tie.After-enum-told
+passed c = c .before .before .before
+
+abbrev counting : tie.After-enum-told2 → tie.After-counts
+counting c = c .before .before
+
+-- ---- what is known there
+
+-- 3 and 4 don't apply
+open-passes : (c : tie.After-enum-told) → let a = start (c .before .before) .args in Fine ≡ firstOf (openChecks (a .f) (a .s .now))
+open-passes c = sym (c .enum-told .given .1) ∙ c .before .before .opening .ensures
+
+open-is : (c : tie.After-enum-told) → let a = start (c .before .before) .args in Opened (a .f) (a .s .now)
+open-is c = opened _ _ (open-passes c)
+
+-- 5 doesn't apply to the counts that were read
+count-passes : (c : tie.After-enum-told2)
+    → let r = counting c .before in
+    Fine ≡ firstOf (countChecks (start (passed r .before .before) .args .f) (r .before .before .field .result) (r .field2 .result))
+count-passes c = sym (c .enum-told2 .given .1) ∙ counting c .counts .ensures
+
+-- ---- the needs
 
 opening-requires : tie.Need-opening-requires
 opening-requires c κs = search needs
@@ -16,17 +48,15 @@ enum-told : tie.Need-enum-told
 enum-told c = search needs
 
 field-requires : tie.Need-field-requires
-field-requires c κs =
-    let a = c .before .before .before .before .args in
-    omega (arith, (c .before .before .before .before .pre), opened (a .f) (a .s .now) (sym ((c .enum-told .given) .1) ∙ (c .before .before .opening .ensures)))
+field-requires c κs = omega (arith, start (c .before .before) .pre, open-is c)
 
 add-field : tie.Need-add-field
 add-field c = search needs
 
 field-requires-2 : tie.Need-field-requires-2
 field-requires-2 c κs =
-    let a = c .before .before .before .before .before .before .args in
-    omega (arith, (c .before .before .before .before .before .before .pre), opened (a .f) (a .s .now) (sym ((c .before .before .enum-told .given) .1) ∙ (c .before .before .before .before .opening .ensures)))
+    let p = c .before .before in
+    omega (arith, start (p .before .before) .pre, open-is p)
 
 counts-requires : tie.Need-counts-requires
 counts-requires c κs = search needs
@@ -39,23 +69,25 @@ enum-told-2 c = search needs
 
 closing-requires : tie.Need-closing-requires
 closing-requires c κs =
-    let p = c .before .before .before .before .before .before .before .before .before .before in
-    let k = counted (p .args .f) (c .before .before .before .before .before .field .result) (c .before .before .before .field2 .result) (sym ((c .enum-told2 .given) .1) ∙ (c .before .before .counts .ensures)) in ((p .pre), omega (arith, (p .pre), k), omega (arith, (p .pre), k))
+    let g = start (passed (counting c .before) .before .before) .pre in
+    let k = counted _ _ _ (count-passes c) in
+    record { narrow = g; v-few = omega (arith, g, k); e-few = omega (arith, g, k) }
 
 returns : tie.Need-returns
-returns c =
-    let a = c .before .before .before .before .before .args in
-    shape-open (a .f) (a .s .now) (sym ((c .before .r .given) .1) ∙ (c .before .before .before .opening .ensures))
+returns c = shape-open _ _ (sym (c .before .r .given .1) ∙ c .before .before .before .opening .ensures)
 
 returns-2 : tie.Need-returns-2
 returns-2 c =
-    let a = c .before .before .before .before .before .before .before .before .before .before .before .args in
-    shape-counts (a .f) (a .s .now) (c .before .before .before .before .before .before .field .ensures) (c .before .before .before .before .field2 .ensures) (sym ((c .before .before .before .before .before .before .before .enum-told .given) .1) ∙ (c .before .before .before .before .before .before .before .before .before .opening .ensures)) (sym ((c .before .r2 .given) .1) ∙ (c .before .before .before .counts .ensures))
+    let n = c .before .before .before in
+    let r = n .before in
+    let refused = sym (c .before .r2 .given .1) ∙ n .counts .ensures in
+    shape-counts _ _ (r .before .before .field .ensures) (r .field2 .ensures) (open-passes (passed r)) refused
 
 returns-3 : tie.Need-returns-3
 returns-3 c =
-    let a = c .before .before .before .before .before .before .before .before .before .before .before .args in
-    (c .closing .ensures) ∙ shape-close (a .f) (a .s .now) (c .before .before .before .before .before .before .field .ensures) (c .before .before .before .before .field2 .ensures) (sym ((c .before .before .before .before .before .before .before .enum-told .given) .1) ∙ (c .before .before .before .before .before .before .before .before .before .opening .ensures)) (sym ((c .before .enum-told2 .given) .1) ∙ (c .before .before .before .counts .ensures))
+    let r = counting (c .before) .before in
+    c .closing .ensures
+    ∙ shape-close _ _ (r .before .before .field .ensures) (r .field2 .ensures) (open-passes (passed r)) (count-passes (c .before))
 
 pub shape-spec : {M : Type 1} → statement M
 shape-spec =

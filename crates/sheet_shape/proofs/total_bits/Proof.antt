@@ -1,9 +1,12 @@
--- `sheet_shape::total_bits` meets its contract. Assumes nothing.
+-- `sheet_shape::total_bits`: no sum wraps, since the vertex numbers of a narrow layout have few bits. Assumes nothing.
 use Rattle.sheet_shape.proofs.Sizes.{numbers-small}
 use native.Mathlib.Omega.{arith}
 use borrow.Author.Needs.{needs}
 use Rattle.sheet_shape.proofs.total_bits.Statement.{statement}
 use Rattle.sheet_shape.proofs.total_bits.Tie as tie
+
+abbrev start : tie.After-struct-known3 → tie.Start
+start c = c .before .before .before
 
 add-result : tie.Need-add-result
 add-result c = search needs
@@ -21,16 +24,10 @@ mul-result-2 : tie.Need-mul-result-2
 mul-result-2 c = search needs
 
 mul-result-3 : tie.Need-mul-result-3
-mul-result-3 c =
-    let a = c .before .before .before .args in
-    let p = c .before .before .before in
-    omega (arith, numbers-small (a .f) (p .pre .0) (a .v) (a .e) (p .pre .1) (p .pre .2))
+mul-result-3 c = omega (arith, numbers-small (start c .pre))
 
 add-result-4 : tie.Need-add-result-4
-add-result-4 c =
-    let a = c .before .before .before .args in
-    let p = c .before .before .before in
-    omega (arith, (p .pre .0), numbers-small (a .f) (p .pre .0) (a .v) (a .e) (p .pre .1) (p .pre .2))
+add-result-4 c = omega (arith, start c .pre .narrow, numbers-small (start c .pre))
 
 returns : tie.Need-returns
 returns c = search needs

@@ -1,4 +1,4 @@
--- `sheet_writer::write_sheet` meets its contract. Assumes nothing.
+-- `sheet_writer::write_sheet`: the writer, at edition 1, which is narrow. Assumes nothing.
 use mathlib.Core.Path.{_∙_, ap}
 use Rattle.paper.specs.Sheet.{writtenOf, roomOf}
 use Rattle.paper.specs.declared.Format.{Format}
@@ -18,9 +18,13 @@ same-length c = search needs
 
 returns : tie.Need-returns
 returns c =
-    let a = c .before .before .before .before .before .before .before .args in
-    let p = c .before .before .before .before in
-    ((c .before .before .write .ensures) .0 ∙ ap (λ (f : Format). writtenOf f (a .xyz .now) (a .ends .now) (a .room .now)) (p .edition-one .ensures), (c .before .before .write .ensures) .1 ∙ ap (λ (f : Format). roomOf f (a .xyz .now) (a .ends .now) (a .room .now)) (p .edition-one .ensures))
+    let w = c .before .before in
+    let e = w .before .before in
+    let a = e .before .before .before .args in
+    let one = e .edition-one .ensures in (
+      w .write .ensures .0 ∙ ap (λ (f : Format). writtenOf f (a .xyz .now) (a .ends .now) (a .room .now)) one,
+      w .write .ensures .1 ∙ ap (λ (f : Format). roomOf f (a .xyz .now) (a .ends .now) (a .room .now)) one,
+    )
 
 pub write-sheet-spec : {M : Type 1} → statement M
 write-sheet-spec = tie.close (tie.spec edition-one-requires write-requires same-length returns)

@@ -1,5 +1,5 @@
--- `sheet_reader::read::kept` meets its contract. Assumes nothing.
-use mathlib.Core.Path.{_∙_, sym, ap}
+-- `sheet_reader::read::kept`: what is returned follows the answer of the lists' checks. Assumes nothing.
+use mathlib.Core.Path.{_≡_, _∙_, sym, ap}
 use lib.Seq.{length-take-le}
 use Rattle.sheet_reader.specs.Kept.{keptFor, keptOf}
 use Rattle.paper.specs.declared.Answer.{Answer}
@@ -9,6 +9,17 @@ use native.Mathlib.Omega.{arith}
 use borrow.Author.Needs.{needs}
 use Rattle.sheet_reader.proofs.read.kept.Statement.{statement}
 use Rattle.sheet_reader.proofs.read.kept.Tie as tie
+
+abbrev start : tie.After-content → tie.Start
+start c = c .before .before .before
+
+-- what is returned where the lists' answer is a
+answered : (c : tie.After-content) {a : Answer} → a ≡ c .content .result
+    → let s = start c .args in keptFor a (s .v) (s .e) (s .t3) (s .t4) ≡ keptOf (s .v) (s .e) (s .t3) (s .t4)
+unfolding keptOf
+answered c e =
+    let s = start c .args in
+    ap (λ (a : Answer). keptFor a (s .v) (s .e) (s .t3) (s .t4)) (e ∙ c .content .ensures)
 
 mul-m : tie.Need-mul-m
 mul-m c = search needs
@@ -41,16 +52,13 @@ enum-told : tie.Need-enum-told
 enum-told c = search needs
 
 returns : tie.Need-returns
-unfolding keptOf
 returns c =
-    let a2 = c .before .before .before .before .before .before .before .args in
-    ap (λ (d : Drawing). record { answer = Answer.Refused ((c .before .before .r .given) .0 .0); drawing = d }) (c .no-drawing .ensures) ∙ ap (λ (a : Answer). keptFor a (a2 .v) (a2 .e) (a2 .t3) (a2 .t4)) (sym ((c .before .before .r .given) .1) ∙ (c .before .before .before .before .content .ensures))
+    let r = c .before .before in
+    ap (λ (d : Drawing). record { answer = Answer.Refused (r .r .given .0 .0); drawing = d }) (c .no-drawing .ensures)
+    ∙ answered (r .before .before) (sym (r .r .given .1))
 
 returns-2 : tie.Need-returns-2
-unfolding keptOf
-returns-2 c =
-    let a2 = c .before .before .before .before .before .args in
-    ap (λ (a : Answer). keptFor a (a2 .v) (a2 .e) (a2 .t3) (a2 .t4)) (sym ((c .enum-told .given) .1) ∙ (c .before .before .content .ensures))
+returns-2 c = answered (c .before .before) (sym (c .enum-told .given .1))
 
 pub kept-spec : {M : Type 1} → statement M
 kept-spec =

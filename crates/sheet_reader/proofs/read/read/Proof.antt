@@ -1,4 +1,4 @@
--- `sheet_reader::read::read` meets its contract. Assumes nothing.
+-- `sheet_reader::read::read`: a sheet that 3 to 7 refuse has no drawing, and any other is read. Assumes nothing.
 use mathlib.Core.Path.{_∙_, sym, ap}
 use Rattle.paper.specs.declared.Answer.the-variants as Answer
 use Rattle.paper.specs.declared.Drawing.{Drawing}
@@ -20,12 +20,15 @@ enum-told : tie.Need-enum-told
 enum-told c = search needs
 
 drawn-requires : tie.Need-drawn-requires
-drawn-requires c κs = ((c .before .before .before .before .pre), sym ((c .enum-told .given) .1) ∙ (c .before .before .shape .ensures))
+drawn-requires c κs =
+    let s = c .before .before in
+    record { fits = s .before .before .pre; passes = sym (c .enum-told .given .1) ∙ s .shape .ensures }
 
 returns : tie.Need-returns
 returns c =
-    let a = c .before .before .before .before .before .before .args in
-    ap (λ (d : Drawing). record { answer = Answer.Refused ((c .before .before .r .given) .0 .0); drawing = d }) (c .no-drawing .ensures) ∙ sheet-misshapen (a .f) (a .s .now) (sym ((c .before .before .r .given) .1) ∙ (c .before .before .before .before .shape .ensures))
+    let r = c .before .before in
+    ap (λ (d : Drawing). record { answer = Answer.Refused (r .r .given .0 .0); drawing = d }) (c .no-drawing .ensures)
+    ∙ sheet-misshapen _ _ (sym (r .r .given .1) ∙ r .before .before .shape .ensures)
 
 returns-2 : tie.Need-returns-2
 returns-2 c = search needs
