@@ -6,3 +6,5 @@ pub mod FaceList
 pub mod Packed
 -- a solid's faces, from rows and its two words
 pub mod Reported
+-- what is said of both
+pub mod Said

@@ -2,6 +2,7 @@
 ghost use mathlib.Core.Path.{_≡_};
 ghost use Rattle.paper.specs.Format.{editionOne};
 ghost use Rattle.paper.specs.FaceList.{facesOf};
+ghost use Rattle.paper.specs.Reading.{answerSays, facesSaid};
 
 mod read;
 
@@ -9,7 +10,8 @@ use paper::Faces;
 
 // Reads a packed face list for a drawing of so many vertices: refusal 20, and the faces by value, a row of 13 bytes for each.
 pub fn read_faces(list: &[u8], vertices: usize) -> Faces
-    ensures { λ r. ⌜ r ≡ facesOf editionOne vertices (now (list .entry)) ⌝ }
+    ensures result { λ r. ⌜ r ≡ facesOf editionOne vertices (now (list .entry)) ⌝ }
+    ensures said { λ r. ⌜ answerSays (r .answer) ≡ facesSaid editionOne vertices (now (list .entry)) ⌝ }
 {
     read::read(paper::edition_one(), list, vertices)
 }

@@ -2,6 +2,7 @@
 ghost use mathlib.Core.Path.{_≡_};
 ghost use Rattle.paper.specs.Format.{editionOne};
 ghost use Rattle.paper.specs.FaceList.{solidFaces, sentOf, sentRoom};
+ghost use Rattle.paper.specs.Reading.{writtenSays, sentSaid};
 
 mod write;
 
@@ -11,6 +12,7 @@ use paper::Written;
 // refusal 20, then 1. Later room keeps its contents.
 pub fn write_faces(rows: &[u8], taken: u64, turned: u64, room: &mut [u8]) -> Written
     ensures answer { λ r. ⌜ r ≡ sentOf editionOne (solidFaces (now (rows .entry)) taken turned) (now (room .entry)) ⌝ }
+    ensures said { λ r. ⌜ writtenSays r ≡ sentSaid editionOne (solidFaces (now (rows .entry)) taken turned) (now (room .entry)) ⌝ }
     ensures kept { λ _. ⌜ now (room .exit) ≡ sentRoom editionOne (solidFaces (now (rows .entry)) taken turned) (now (room .entry)) ⌝ }
 {
     write::write(paper::edition_one(), rows, taken, turned, room)

@@ -1,11 +1,18 @@
 -- Document 01, the numbers and values of each answer, and "The reading of a conversion's answer". Assumes nothing.
+use mathlib.Core.Bool.{not}
 use mathlib.Core.List.{List, [], _∷_}
 use mathlib.Core.Option.{Option, none, some}
-use Prim.Native.Nat.{ℕ}
-use lib.IntN.{pos}
+use Prim.Native.Nat.{ℕ, _/_}
+use lib.IntN.{ℤ, pos}
+use lib.ListN.{length}
 use lib.Ieee.{Float, binary64, div, ofInt}
 use Rattle.paper.specs.Refusals as No
-use Rattle.paper.specs.Refusals.{Check, check}
+use Rattle.paper.specs.Refusals.{Check, check, offends}
+use Rattle.paper.specs.Format.{total, bytesFor}
+use Rattle.paper.specs.Sheet.{sheetChecks, writerChecks}
+use Rattle.paper.specs.Loops.{Loop}
+use Rattle.paper.specs.FaceList.{bitsOf, wellShaped, sendChecks}
+use Rattle.paper.specs.declared.Format.{Format}
 use Rattle.paper.specs.declared.Refusal.{Refusal}
 use Rattle.paper.specs.declared.Answer.{Answer}
 use Rattle.paper.specs.declared.Answer.the-variants as Answer
@@ -61,6 +68,21 @@ conversionSays (Conversion.Refused r) = refused r
 abbrev pub verdictSays : Verdict → Said
 verdictSays Verdict.Accepted = fine []
 verdictSays (Verdict.Refused r) = refused r
+
+-- ---- what is said of a sheet and of a face list that are read, and of those that are written
+
+unfoldable pub sheetSaid : Format → List ℕ → Said
+sheetSaid f s = firstSaid (sheetChecks f s) []
+
+unfoldable pub writtenSaid : Format → List ℤ → List ℕ → List ℕ → Said
+writtenSaid f xyz ends room =
+    firstSaid (writerChecks f xyz ends (length room)) (bytesFor (total f (length xyz / 3) (length ends / 2)) ∷ [])
+
+unfoldable pub facesSaid : Format → ℕ → List ℕ → Said
+facesSaid f v s = firstSaid (check No.ShellShape (offends (not (wellShaped f v s)) 0) ∷ []) []
+
+unfoldable pub sentSaid : Format → List Loop → List ℕ → Said
+sentSaid f fs room = firstSaid (sendChecks f fs (length room)) (bytesFor (bitsOf f fs) ∷ [])
 
 -- ---- "either a volume in cubic metres as a double or "not assessed" with a number from the table, or 30 where two to eight solids
 -- exist, equal volumes included"

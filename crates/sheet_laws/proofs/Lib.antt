@@ -7,3 +7,4 @@ pub mod Accepted
 -- what is written one behind the other, and the writer's answer and room
 pub mod Encoded
 pub mod Written
+pub mod Said

@@ -1,6 +1,7 @@
 // Sheets, read at the rim of the service: nothing is assumed of any input.
 ghost use mathlib.Core.Path.{_≡_};
 ghost use Rattle.paper.specs.Format.{editionOne};
+ghost use Rattle.paper.specs.Reading.{answerSays, sheetSaid};
 ghost use Rattle.paper.specs.Sheet.{sheetOf};
 
 mod read;
@@ -9,7 +10,8 @@ use paper::Sheet;
 
 // Reads a sheet: refusals 3 to 10, and the drawing by value.
 pub fn read_sheet(sheet: &[u8]) -> Sheet
-    ensures { λ r. ⌜ r ≡ sheetOf editionOne (now (sheet .entry)) ⌝ }
+    ensures result { λ r. ⌜ r ≡ sheetOf editionOne (now (sheet .entry)) ⌝ }
+    ensures said { λ r. ⌜ answerSays (r .answer) ≡ sheetSaid editionOne (now (sheet .entry)) ⌝ }
 {
     read::read(paper::edition_one(), sheet)
 }

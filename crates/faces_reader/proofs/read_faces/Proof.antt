@@ -1,7 +1,11 @@
 -- `faces_reader::read_faces`: it is `read` with the layout that `edition_one` answers, edition 1. Assumes nothing.
 use mathlib.Core.Path.{_∙_, ap}
+use Rattle.paper.specs.Format.{editionOne}
 use Rattle.paper.specs.FaceList.{facesOf}
+use Rattle.paper.specs.Reading.{answerSays}
 use Rattle.paper.specs.declared.Format.{Format}
+use Rattle.paper.specs.declared.Faces.{Faces}
+use Rattle.faces_laws.proofs.Said.{faces-said}
 use Rattle.faces_reader.proofs.Brief.{one-brief}
 use borrow.Author.Needs.{needs}
 use Rattle.faces_reader.proofs.read_faces.Statement.{statement}
@@ -16,7 +20,8 @@ read-requires c κs = rw (c .edition-one .ensures) one-brief
 returns : tie.Need-returns
 returns c =
     let a = c .before .before .before .args in
-    c .read .ensures ∙ ap (λ (f : Format). facesOf f (a .vertices) (a .list .now)) (c .before .edition-one .ensures)
+    let is = c .read .ensures ∙ ap (λ (f : Format). facesOf f (a .vertices) (a .list .now)) (c .before .edition-one .ensures) in
+    (is, ap (λ (r : Faces). answerSays (r .answer)) is ∙ faces-said editionOne (a .vertices) (a .list .now))
 
 pub read-faces-spec : {M : Type 1} → statement M
 read-faces-spec = tie.close (tie.spec edition-one-requires read-requires returns)

@@ -1,7 +1,10 @@
 -- `faces_writer::write_faces`: it is `write` with the layout that `edition_one` answers, edition 1. Assumes nothing.
 use mathlib.Core.Path.{_∙_, ap}
+use Rattle.paper.specs.Format.{editionOne}
 use Rattle.paper.specs.FaceList.{solidFaces, sentOf, sentRoom}
+use Rattle.paper.specs.Reading.{writtenSays}
 use Rattle.paper.specs.declared.Format.{Format}
+use Rattle.faces_laws.proofs.Said.{sent-said}
 use Rattle.faces_reader.proofs.Brief.{one-brief}
 use borrow.Author.Needs.{needs}
 use Rattle.faces_writer.proofs.write_faces.Statement.{statement}
@@ -21,9 +24,13 @@ returns c =
     let w = c .before .before in
     let o = w .before .before in
     let a = o .before .before .before .args in
-    let fs = solidFaces (a .rows .now) (a .taken) (a .turned) in (
-      w .write .ensures .0 ∙ ap (λ (f : Format). sentOf f fs (a .room .now)) (o .edition-one .ensures),
-      w .write .ensures .1 ∙ ap (λ (f : Format). sentRoom f fs (a .room .now)) (o .edition-one .ensures),
+    let fs = solidFaces (a .rows .now) (a .taken) (a .turned) in
+    let is = w .write .ensures .0 ∙ ap (λ (f : Format). sentOf f fs (a .room .now)) (o .edition-one .ensures) in (
+      is,
+      (
+        ap writtenSays is ∙ sent-said editionOne fs (a .room .now),
+        w .write .ensures .1 ∙ ap (λ (f : Format). sentRoom f fs (a .room .now)) (o .edition-one .ensures),
+      ),
     )
 
 pub write-faces-spec : {M : Type 1} → statement M

@@ -1,7 +1,11 @@
 -- `sheet_reader::read_sheet`: the reader, at edition 1, which fits. Assumes nothing.
 use mathlib.Core.Path.{_∙_, ap}
+use Rattle.paper.specs.Format.{editionOne}
+use Rattle.paper.specs.Reading.{answerSays}
 use Rattle.paper.specs.Sheet.{sheetOf}
 use Rattle.paper.specs.declared.Format.{Format}
+use Rattle.paper.specs.declared.Sheet.{Sheet}
+use Rattle.sheet_laws.proofs.Said.{sheet-said}
 use Rattle.sheet_shape.proofs.Sizes.{one-fits}
 use borrow.Author.Needs.{needs}
 use Rattle.sheet_reader.proofs.read_sheet.Statement.{statement}
@@ -16,7 +20,9 @@ read-requires c κs = rw (c .edition-one .ensures) one-fits
 returns : tie.Need-returns
 returns c =
     let e = c .before in
-    c .read .ensures ∙ ap (λ (f : Format). sheetOf f (e .before .before .args .sheet .now)) (e .edition-one .ensures)
+    let s = e .before .before .args .sheet .now in
+    let is = c .read .ensures ∙ ap (λ (f : Format). sheetOf f s) (e .edition-one .ensures) in
+    (is, ap (λ (r : Sheet). answerSays (r .answer)) is ∙ sheet-said editionOne s)
 
 pub read-sheet-spec : {M : Type 1} → statement M
 read-sheet-spec = tie.close (tie.spec edition-one-requires read-requires returns)

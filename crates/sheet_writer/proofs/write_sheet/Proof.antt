@@ -1,7 +1,10 @@
 -- `sheet_writer::write_sheet`: the writer, at edition 1, which is narrow. Assumes nothing.
 use mathlib.Core.Path.{_∙_, ap}
+use Rattle.paper.specs.Format.{editionOne}
+use Rattle.paper.specs.Reading.{writtenSays}
 use Rattle.paper.specs.Sheet.{writtenOf, roomOf}
 use Rattle.paper.specs.declared.Format.{Format}
+use Rattle.sheet_laws.proofs.Said.{sheet-written-said}
 use Rattle.sheet_shape.proofs.Sizes.{one-fits}
 use borrow.Author.Needs.{needs}
 use Rattle.sheet_writer.proofs.write_sheet.Statement.{statement}
@@ -21,9 +24,13 @@ returns c =
     let w = c .before .before in
     let e = w .before .before in
     let a = e .before .before .before .args in
-    let one = e .edition-one .ensures in (
-      w .write .ensures .0 ∙ ap (λ (f : Format). writtenOf f (a .xyz .now) (a .ends .now) (a .room .now)) one,
-      w .write .ensures .1 ∙ ap (λ (f : Format). roomOf f (a .xyz .now) (a .ends .now) (a .room .now)) one,
+    let one = e .edition-one .ensures in
+    let is = w .write .ensures .0 ∙ ap (λ (f : Format). writtenOf f (a .xyz .now) (a .ends .now) (a .room .now)) one in (
+      is,
+      (
+        ap writtenSays is ∙ sheet-written-said editionOne (a .xyz .now) (a .ends .now) (a .room .now),
+        w .write .ensures .1 ∙ ap (λ (f : Format). roomOf f (a .xyz .now) (a .ends .now) (a .room .now)) one,
+      ),
     )
 
 pub write-sheet-spec : {M : Type 1} → statement M

@@ -20,7 +20,7 @@ enum-told : tie.Need-enum-told
 enum-told c = search needs
 
 show-drawing-requires : tie.Need-show-drawing-requires
-show-drawing-requires c κs = subst (λ (r : Sheet). Held (r .drawing)) (sym (c .before .before .read-sheet .ensures)) (read-range _ (sym ((c .enum-told .given) .1) ∙ ap (λ (r : Sheet). r .answer) (c .before .before .read-sheet .ensures)))
+show-drawing-requires c κs = subst (λ (r : Sheet). Held (r .drawing)) (sym (c .before .before .read-sheet .ensures .0)) (read-range _ (sym ((c .enum-told .given) .1) ∙ ap (λ (r : Sheet). r .answer) (c .before .before .read-sheet .ensures .0)))
 
 returns : tie.Need-returns
 returns c = search needs

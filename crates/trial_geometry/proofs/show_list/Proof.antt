@@ -30,7 +30,7 @@ show-faces-requires : tie.Need-show-faces-requires
 show-faces-requires c κs =
     let p = c .before .before .before .before .before .before in
     let p2 = c .before .before .before .before in
-    λ r h. filed-row (p .pre) (subst (λ (x : Faces). r < x .count → Filed (x .rows) (p .args .v) r) (sym (p2 .read-faces .ensures)) (filed editionOne one-brief _ _ (sym ((c .before .before .enum-told .given) .1) ∙ ap (λ (x : Faces). x .answer) (p2 .read-faces .ensures)) r) h)
+    λ r h. filed-row (p .pre) (subst (λ (x : Faces). r < x .count → Filed (x .rows) (p .args .v) r) (sym (p2 .read-faces .ensures .0)) (filed editionOne one-brief _ _ (sym ((c .before .before .enum-told .given) .1) ∙ ap (λ (x : Faces). x .answer) (p2 .read-faces .ensures .0)) r) h)
 
 returns : tie.Need-returns
 returns c = search needs
