@@ -1,14 +1,15 @@
-// Two faces clash: A and B, either way round, here, and C in crate fold. Assumes rows of a loop table in range, each with its normal.
+// Two faces clash: A and B, either way round, here, and C in clash_fold. Assumes rows of a loop table in range, each with its normal.
 ghost use mathlib.Core.Path.{_≡_};
-ghost use mathlib.Core.Bool.{_&&_, _||_};
+ghost use mathlib.Core.Bool.{_&&_};
 ghost use lib.IntN.{pos, natAbs};
 ghost use Rattle.exact.specs.Size.{Within};
-ghost use Rattle.paper.specs.Numbers.{farthest};
 ghost use Rattle.paper.specs.Points.{plus, times, isZero};
 ghost use Rattle.paper.specs.Polygon.{lies, exactly, isInside};
-ghost use Rattle.paper.specs.Clash.{opposite, pierced, pierces, enters, clash};
-ghost use Rattle.polygon.specs.Sizes.{PointWithin, mostPlaneSide};
-ghost use Rattle.polygon.specs.Rings.{ring, Row, Face};
+ghost use Rattle.paper.specs.Clash.{opposite, pierced, clash};
+ghost use Rattle.polygon.specs.Sizes.{mostPlaneSide};
+ghost use Rattle.polygon.specs.Rings.{ring, FaceAndRow, TwoFaces};
+ghost use Rattle.clash.specs.Asked.{MixWithin, FaceAndEdge, FaceAndCorner};
+ghost use Rattle.clash.specs.Strike.{strikes};
 use clash_fold::folds;
 use inside::lies_inside;
 use paper::Point;
@@ -31,7 +32,7 @@ fn size(z: i64) -> i64
 }
 
 fn mix(s: i64, p: Point, t: i64, q: Point) -> Point
-    requires { ⌜ Within mostPlaneSide s × PointWithin farthest p × Within mostPlaneSide t × PointWithin farthest q ⌝ }
+    requires { ⌜ MixWithin s p t q ⌝ }
     ensures { λ r. ⌜ r ≡ plus (times s p) (times t q) ⌝ }
 {
     Point {
@@ -52,7 +53,7 @@ fn pierced(
     a: i64,
     b: i64,
 ) -> bool
-    requires { ⌜ Face (now xyz) (now table) g m × PointWithin farthest p × PointWithin farthest q × Within mostPlaneSide a × Within mostPlaneSide b ⌝ }
+    requires { ⌜ FaceAndEdge (now xyz) (now table) g m p q a b ⌝ }
     ensures { λ w. ⌜ w ≡ pierced (ring (now (xyz .entry)) (now (table .entry)) g) p q a b ⌝ }
 {
     if !opposite(a, b) {
@@ -65,7 +66,7 @@ fn pierced(
 
 // B: the point p, which is at s from the plane of row g, is strictly inside.
 fn dips(xyz: &[i64], table: &[u8], g: usize, m: Point, p: Point, s: i64) -> bool
-    requires { ⌜ Face (now xyz) (now table) g m × PointWithin farthest p ⌝ }
+    requires { ⌜ FaceAndCorner (now xyz) (now table) g m p ⌝ }
     ensures { λ w. ⌜ w ≡ (isZero s && isInside (lies (exactly p) (ring (now (xyz .entry)) (now (table .entry)) g))) ⌝ }
 {
     if is_zero(s) {
@@ -77,8 +78,8 @@ fn dips(xyz: &[i64], table: &[u8], g: usize, m: Point, p: Point, s: i64) -> bool
 
 // A and B in one pass over the corners of row f, against row g, whose normal is m.
 pub fn strikes(xyz: &[i64], table: &[u8], f: usize, g: usize, m: Point) -> bool
-    requires { ⌜ Row (now xyz) (now table) f × Face (now xyz) (now table) g m ⌝ }
-    ensures { λ w. ⌜ w ≡ (pierces (ring (now (xyz .entry)) (now (table .entry)) f) (ring (now (xyz .entry)) (now (table .entry)) g) || enters (ring (now (xyz .entry)) (now (table .entry)) f) (ring (now (xyz .entry)) (now (table .entry)) g)) ⌝ }
+    requires { ⌜ FaceAndRow (now xyz) (now table) g m f ⌝ }
+    ensures { λ w. ⌜ w ≡ strikes (ring (now (xyz .entry)) (now (table .entry)) f) (ring (now (xyz .entry)) (now (table .entry)) g) ⌝ }
 {
     let n = count(table, f);
     let o = corner(xyz, table, g, 0);
@@ -103,7 +104,7 @@ pub fn strikes(xyz: &[i64], table: &[u8], f: usize, g: usize, m: Point) -> bool
 
 // Rows f and g, whose normals are mf and mg, clash.
 pub fn clash(xyz: &[i64], table: &[u8], f: usize, mf: Point, g: usize, mg: Point) -> bool
-    requires { ⌜ Face (now xyz) (now table) f mf × Face (now xyz) (now table) g mg ⌝ }
+    requires { ⌜ TwoFaces (now xyz) (now table) f mf g mg ⌝ }
     ensures { λ w. ⌜ w ≡ clash (ring (now (xyz .entry)) (now (table .entry)) f) (ring (now (xyz .entry)) (now (table .entry)) g) ⌝ }
 {
     if strikes(xyz, table, f, g, mg) {

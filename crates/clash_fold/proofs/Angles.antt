@@ -32,16 +32,21 @@ module _ (m u w : Point) (g : Polygon) (k : ℕ) where
   unfolding turnsAt
   here-is two h =
       let e : k + 1 + 1 ≡ k + 2 = omega arith in
-      (λ i. turnsAt m u w (sides-around to g k (to origin origin) origin two (omega arith) i) (sides-around to g (k + 1) (to origin origin) origin two (omega arith) i))
+      let a = sides-around to g k (to origin origin) origin two (omega arith) in
+      let b = sides-around to g (k + 1) (to origin origin) origin two (omega arith) in
+      (λ i. turnsAt m u w (a i) (b i))
       ∙ ap (λ (j : ℕ). samePoint (cornerOf g (k + 1)) u && inAngle m (cornerOf g k) (cornerOf g (k + 1)) (cornerOf g j) w) e
 
-  pub turns-hit : 2 ≤ length g → k < length g → TurnsLeft m u w g k → turnsHere m u w g k ≡ true → anyTrue (sides (turnsAt m u w) (sides to g)) ≡ true
+  pub turns-hit : 2 ≤ length g → k < length g → TurnsLeft m u w g k → turnsHere m u w g k ≡ true
+      → anyTrue (sides (turnsAt m u w) (sides to g)) ≡ true
   turns-hit two h l e =
-      side-hit anyTrue-search (turnsAt m u w) (sides to g) k false (to origin origin) (omega (arith, sides-length to g)) l (here-is two h ∙ e)
+      let n : k < length (sides to g) = omega (arith, sides-length to g) in
+      side-hit anyTrue-search (turnsAt m u w) (sides to g) k false (to origin origin) n l (here-is two h ∙ e)
 
   pub turns-miss : 2 ≤ length g → k < length g → TurnsLeft m u w g k → turnsHere m u w g k ≡ false → TurnsLeft m u w g (k + 1)
   turns-miss two h l e =
-      side-miss anyTrue-search (turnsAt m u w) (sides to g) k false (to origin origin) (omega (arith, sides-length to g)) l (here-is two h ∙ e)
+      let n : k < length (sides to g) = omega (arith, sides-length to g) in
+      side-miss anyTrue-search (turnsAt m u w) (sides to g) k false (to origin origin) n l (here-is two h ∙ e)
 
   pub turns-end : length g ≤ k → TurnsLeft m u w g k → anyTrue (sides (turnsAt m u w) (sides to g)) ≡ false
   turns-end h l = side-end anyTrue-search (turnsAt m u w) (sides to g) k (omega (arith, sides-length to g)) l

@@ -2,12 +2,11 @@
 // normal.
 ghost use mathlib.Core.Path.{_≡_};
 ghost use mathlib.Core.Bool.{_&&_};
-ghost use Rattle.lists.specs.Lists.{any};
-ghost use Rattle.paper.specs.Numbers.{farthest};
 ghost use Rattle.paper.specs.Points.{samePoint};
 ghost use Rattle.paper.specs.Clash.{angleHolds, inAngle, pointsIn, isCorner, bends, folds};
-ghost use Rattle.polygon.specs.Sizes.{PointWithin, mostStep, mostNormal};
-ghost use Rattle.polygon.specs.Rings.{ring, Row, Face};
+ghost use Rattle.polygon.specs.Rings.{ring, TwoFaces};
+ghost use Rattle.clash_fold.specs.Asked.{AngleWithin, TurnWithin, RowAndPoint, FaceAndPoints, FacesAndPoint, FacesAndPoints};
+ghost use Rattle.clash_fold.specs.Fold.{foldsAt};
 use paper::Point;
 use polygon::points::det;
 use polygon::points::minus;
@@ -24,7 +23,7 @@ fn angle_holds(convex: bool, l: bool, r: bool) -> bool
 
 // At the corner p between a and b of a polygon with normal m: w points strictly inside the angle.
 fn in_angle(m: Point, a: Point, p: Point, b: Point, w: Point) -> bool
-    requires { ⌜ PointWithin mostNormal m × PointWithin farthest a × PointWithin farthest p × PointWithin farthest b × PointWithin mostStep w ⌝ }
+    requires { ⌜ AngleWithin m a p b w ⌝ }
     ensures { λ r. ⌜ r ≡ inAngle m a p b w ⌝ }
 {
     let x = minus(b, p);
@@ -33,7 +32,7 @@ fn in_angle(m: Point, a: Point, p: Point, b: Point, w: Point) -> bool
 }
 
 fn turns_at(m: Point, u: Point, w: Point, a: Point, p: Point, b: Point) -> bool
-    requires { ⌜ PointWithin mostNormal m × PointWithin farthest u × PointWithin mostStep w × PointWithin farthest a × PointWithin farthest p × PointWithin farthest b ⌝ }
+    requires { ⌜ TurnWithin m u w a p b ⌝ }
     ensures { λ r. ⌜ r ≡ (samePoint p u && inAngle m a p b w) ⌝ }
 {
     if same_point(p, u) {
@@ -45,7 +44,7 @@ fn turns_at(m: Point, u: Point, w: Point, a: Point, p: Point, b: Point) -> bool
 
 // From u to v is strictly inside the angle at u of row r, whose normal is m.
 fn points_in(xyz: &[i64], table: &[u8], r: usize, m: Point, u: Point, v: Point) -> bool
-    requires { ⌜ Face (now xyz) (now table) r m × PointWithin farthest u × PointWithin farthest v ⌝ }
+    requires { ⌜ FaceAndPoints (now xyz) (now table) r m u v ⌝ }
     ensures { λ w. ⌜ w ≡ pointsIn (ring (now (xyz .entry)) (now (table .entry)) r) u v ⌝ }
 {
     let n = count(table, r);
@@ -66,7 +65,7 @@ fn points_in(xyz: &[i64], table: &[u8], r: usize, m: Point, u: Point, v: Point) 
 }
 
 fn is_corner(xyz: &[i64], table: &[u8], r: usize, p: Point) -> bool
-    requires { ⌜ Row (now xyz) (now table) r × PointWithin farthest p ⌝ }
+    requires { ⌜ RowAndPoint (now xyz) (now table) r p ⌝ }
     ensures { λ w. ⌜ w ≡ isCorner (ring (now (xyz .entry)) (now (table .entry)) r) p ⌝ }
 {
     let n = count(table, r);
@@ -91,7 +90,7 @@ fn bends(
     u: Point,
     v: Point,
 ) -> bool
-    requires { ⌜ Face (now xyz) (now table) f mf × Face (now xyz) (now table) g mg × PointWithin farthest u × PointWithin farthest v ⌝ }
+    requires { ⌜ FacesAndPoints (now xyz) (now table) f mf g mg u v ⌝ }
     ensures { λ w. ⌜ w ≡ bends (ring (now (xyz .entry)) (now (table .entry)) f) (ring (now (xyz .entry)) (now (table .entry)) g) u v ⌝ }
 {
     if !is_corner(xyz, table, g, v) {
@@ -108,8 +107,8 @@ fn bends(
 
 // A corner u of row f is one of row g, and another of both is seen from it inside both angles.
 fn folds_at(xyz: &[i64], table: &[u8], f: usize, mf: Point, g: usize, mg: Point, u: Point) -> bool
-    requires { ⌜ Face (now xyz) (now table) f mf × Face (now xyz) (now table) g mg × PointWithin farthest u ⌝ }
-    ensures { λ w. ⌜ w ≡ (isCorner (ring (now (xyz .entry)) (now (table .entry)) g) u && any (bends (ring (now (xyz .entry)) (now (table .entry)) f) (ring (now (xyz .entry)) (now (table .entry)) g) u) (ring (now (xyz .entry)) (now (table .entry)) f)) ⌝ }
+    requires { ⌜ FacesAndPoint (now xyz) (now table) f mf g mg u ⌝ }
+    ensures { λ w. ⌜ w ≡ foldsAt (ring (now (xyz .entry)) (now (table .entry)) f) (ring (now (xyz .entry)) (now (table .entry)) g) u ⌝ }
 {
     if !is_corner(xyz, table, g, u) {
         return false;
@@ -127,7 +126,7 @@ fn folds_at(xyz: &[i64], table: &[u8], f: usize, mf: Point, g: usize, mg: Point,
 
 // Rows f and g, whose normals are mf and mg, clash by C.
 pub fn folds(xyz: &[i64], table: &[u8], f: usize, mf: Point, g: usize, mg: Point) -> bool
-    requires { ⌜ Face (now xyz) (now table) f mf × Face (now xyz) (now table) g mg ⌝ }
+    requires { ⌜ TwoFaces (now xyz) (now table) f mf g mg ⌝ }
     ensures { λ w. ⌜ w ≡ folds (ring (now (xyz .entry)) (now (table .entry)) f) (ring (now (xyz .entry)) (now (table .entry)) g) ⌝ }
 {
     if in_plane(xyz, table, f, mf, g) {

@@ -1,5 +1,6 @@
--- What is reached from vertex 0: a set of vertices by its digits, against a row of them; and that nothing is added once a step adds nothing.
--- Assumes nothing.
+-- What is reached from vertex 0: a set of vertices by its digits, against a row of them; and that nothing is added once a step adds
+-- nothing. Assumes nothing.
+use Rattle.drawing_links.specs.Reach.{Stands, Grown}
 use mathlib.Core.Path.{_≡_, sym, ap, _∙_}
 use mathlib.Core.Bool.{Bool, false, _||_, _&&_}
 use mathlib.Core.List.{List}
@@ -16,14 +17,6 @@ use Rattle.paper.specs.Drawing.{Wire, joined, further, verticesReached}
 use Rattle.sets.specs.Word.{digit}
 use Rattle.sets.proofs.Numbers.{digit-power}
 
--- the digits of m, for the v vertices, are the row
-abbrev pub Stands : ℕ → ℕ → List Bool → Type 0
-Stands m v row = (w : ℕ) → w < v → digit m w ≡ getD row w false
-
--- what one edge more makes of a set
-abbrev pub Grown : ℕ → ℕ → Wire → ℕ → Type 0
-Grown m v d n = (w : ℕ) → digit n w ≡ (digit m w || any (λ u. digit m u && joined d u w) (upto v))
-
 eqb-flip : (a b : ℕ) → eqb a b ≡ eqb b a
 eqb-flip a b = go (ℕ-discrete a b)
   where
@@ -39,8 +32,10 @@ module _ (d : Wire) (v : ℕ) (n : length (d .vertices) ≡ v) where
   pub reach-start : Stands 1 v (verticesReached d 0)
   unfolding verticesReached
   reach-start w h =
-      digit-power 0 w ∙ eqb-flip w 0
-      ∙ sym (map-at (eqb 0) (upto (length (d .vertices))) w 0 false (omega (arith, upto-count)) ∙ ap (eqb 0) (upto-at (length (d .vertices)) w (omega arith)))
+      let m = length (d .vertices) in
+      digit-power 0 w
+      ∙ eqb-flip w 0
+      ∙ sym (map-at (eqb 0) (upto m) w 0 false (omega (arith, upto-count)) ∙ ap (eqb 0) (upto-at m w (omega arith)))
 
   further-at : (row : List Bool) (w : ℕ) → w < v
       → getD (further d row) w false ≡ (getD row w false || any (λ u. getD row u false && joined d u w) (upto v))
@@ -53,16 +48,20 @@ module _ (d : Wire) (v : ℕ) (n : length (d .vertices) ≡ v) where
 
   pub reach-more : (m k : ℕ) (row : List Bool) → Stands m v row → Grown m v d k → Stands k v (further d row)
   reach-more m k row s g w h =
-      g w
-      ∙ (λ i. s w h i || any-below-same (λ u. digit m u && joined d u w) v (λ u. getD row u false && joined d u w) (λ u l. ap (λ (t : Bool). t && joined d u w) (s u l)) i)
-      ∙ sym (further-at row w h)
+      let all =
+      any-below-same (λ u. digit m u && joined d u w) v (λ u. getD row u false && joined d u w)
+      (λ u l. ap (λ (t : Bool). t && joined d u w) (s u l)) in
+      g w ∙ (λ i. s w h i || all i) ∙ sym (further-at row w h)
 
   -- ---- at rest
 
   reached-length : (k : ℕ) → length (verticesReached d k) ≡ v
   unfolding verticesReached further
   reached-length zero = length-map (upto (length (d .vertices))) (eqb 0) ∙ upto-count
-  reached-length (suc k) = length-map (upto (length (d .vertices))) (λ w. getD (verticesReached d k) w false || any (λ u. getD (verticesReached d k) u false && joined d u w) (upto (length (d .vertices)))) ∙ upto-count
+  reached-length (suc k) =
+      let m = length (d .vertices) in
+      let row = verticesReached d k in
+      length-map (upto m) (λ w. getD row w false || any (λ u. getD row u false && joined d u w) (upto m)) ∙ upto-count
 
   rests : (k j : ℕ) → further d (verticesReached d k) ≡ verticesReached d k → verticesReached d (k + j) ≡ verticesReached d k
   unfolding verticesReached
@@ -74,7 +73,10 @@ module _ (d : Wire) (v : ℕ) (n : length (d .vertices) ≡ v) where
   pub reach-rest : (m k : ℕ) → k ≤ v → Stands m v (verticesReached d k) → Grown m v d m → Stands m v (verticesReached d v)
   unfolding verticesReached
   reach-rest m k l s g w h =
-      let still : further d (verticesReached d k) ≡ verticesReached d k = ext-getD false (further d (verticesReached d k)) (verticesReached d k) (reached-length (suc k) ∙ sym (reached-length k))
-      (λ u q. sym (reach-more m m (verticesReached d k) s g u (omega (arith, reached-length (suc k)))) ∙ s u (omega (arith, reached-length (suc k)))) in
+      let row = verticesReached d k in
+      let longer = reached-length (suc k) in
+      let still : further d row ≡ row =
+      ext-getD false (further d row) row (longer ∙ sym (reached-length k))
+      (λ u q. sym (reach-more m m row s g u (omega (arith, longer))) ∙ s u (omega (arith, longer))) in
       let e : k + (v - k) ≡ v = omega arith in
       s w h ∙ ap (λ (row : List Bool). getD row w false) (sym (rests k (v - k) still) ∙ ap (verticesReached d) e)

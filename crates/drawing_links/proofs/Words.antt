@@ -24,31 +24,40 @@ use Rattle.drawing_links.proofs.Edges.{unknown}
 
 -- ---- the words by their digits
 
+-- whether an edge joins u to each of the v vertices
+abbrev row : List ℕ → ℕ → ℕ → List Bool
+row es v u = map (λ k. any (joins u k) (edgesOf es)) (upto v)
+
+-- as many words as there may be vertices
+abbrev most : ℕ
+most = editionOne .«most_vertices»
+
 module _ {es : List ℕ} {v : ℕ} (p : Ends es v) where
-  row-at : (u w : ℕ) → getD (map (λ k. any (joins u k) (edgesOf es)) (upto v)) w false ≡ any (joins u w) (edgesOf es)
+  row-at : (u w : ℕ) → getD (row es v u) w false ≡ any (joins u w) (edgesOf es)
   row-at u w = go (decLt w v)
     where
-      go : Dec (w < v) → getD (map (λ k. any (joins u k) (edgesOf es)) (upto v)) w false ≡ any (joins u w) (edgesOf es)
+      go : Dec (w < v) → getD (row es v u) w false ≡ any (joins u w) (edgesOf es)
       go (yes h) =
           map-at (λ k. any (joins u k) (edgesOf es)) (upto v) w 0 false (omega (arith, upto-length v))
           ∙ ap (λ (k : ℕ). any (joins u k) (edgesOf es)) (upto-at v w h)
       go (no h) =
-          List·getD-eq-default (map (λ k. any (joins u k) (edgesOf es)) (upto v)) false (omega (arith, length-map (upto v) (λ k. any (joins u k) (edgesOf es)), upto-length v))
-          ∙ sym (unknown p u w (omega arith))
+          let n = length-map (upto v) (λ k. any (joins u k) (edgesOf es)) in
+          List·getD-eq-default (row es v u) false (omega (arith, n, upto-length v)) ∙ sym (unknown p u w (omega arith))
 
-  word-at : (u : ℕ) → u < editionOne .«most_vertices» → getD (neighbourWords (edgesOf es) v) u 0 ≡ neighbourWord (edgesOf es) v u
+  word-at : (u : ℕ) → u < most → getD (neighbourWords (edgesOf es) v) u 0 ≡ neighbourWord (edgesOf es) v u
   unfolding neighbourWords
   word-at u h =
-      map-at (neighbourWord (edgesOf es) v) (upto (editionOne .«most_vertices»)) u 0 0 (omega (arith, upto-length (editionOne .«most_vertices»)))
-      ∙ ap (neighbourWord (edgesOf es) v) (upto-at (editionOne .«most_vertices») u h)
+      map-at (neighbourWord (edgesOf es) v) (upto most) u 0 0 (omega (arith, upto-length most))
+      ∙ ap (neighbourWord (edgesOf es) v) (upto-at most u h)
 
   -- digit w of word u says whether an edge joins the two
-  pub neighbour-digit : (u w : ℕ) → u < editionOne .«most_vertices» → digit (getD (neighbourWords (edgesOf es) v) u 0) w ≡ any (joins u w) (edgesOf es)
+  pub neighbour-digit : (u w : ℕ) → u < most
+      → digit (getD (neighbourWords (edgesOf es) v) u 0) w ≡ any (joins u w) (edgesOf es)
   unfolding neighbourWord
-  neighbour-digit u w h =
-      ap (λ (m : ℕ). digit m w) (word-at u h) ∙ digit-word (map (λ k. any (joins u k) (edgesOf es)) (upto v)) w ∙ row-at u w
+  neighbour-digit u w h = ap (λ (m : ℕ). digit m w) (word-at u h) ∙ digit-word (row es v u) w ∙ row-at u w
 
-  pub links-are : {d : Wire} → v ≤ editionOne .«most_vertices» → length (d .vertices) ≡ v → d .edges ≡ edgesOf es → Links (neighbourWords (edgesOf es) v) v d
+  pub links-are : {d : Wire} → v ≤ most → length (d .vertices) ≡ v → d .edges ≡ edgesOf es
+      → Links (neighbourWords (edgesOf es) v) v d
   unfolding joined
   links-are h n e = record {
     count = n;
@@ -56,14 +65,15 @@ module _ {es : List ℕ} {v : ℕ} (p : Ends es v) where
   }
 
   -- words with these digits are the words
-  pub words-are : (l : List ℕ) → length l ≡ editionOne .«most_vertices» → ((u w : ℕ) → digit (getD l u 0) w ≡ any (joins u w) (edgesOf es))
+  pub words-are : (l : List ℕ) → length l ≡ most
+      → ((u w : ℕ) → digit (getD l u 0) w ≡ any (joins u w) (edgesOf es))
       → l ≡ neighbourWords (edgesOf es) v
   unfolding neighbourWord neighbourWords
   words-are l n h =
-      let m : length (neighbourWords (edgesOf es) v) ≡ editionOne .«most_vertices» = length-map (upto (editionOne .«most_vertices»)) (neighbourWord (edgesOf es) v) ∙ upto-length (editionOne .«most_vertices») in
+      let m : length (neighbourWords (edgesOf es) v) ≡ most =
+      length-map (upto most) (neighbourWord (edgesOf es) v) ∙ upto-length most in
       ext-getD 0 l (neighbourWords (edgesOf es) v) (n ∙ sym m)
-      (λ u k.
-      by-digits (getD l u 0) (map (λ k. any (joins u k) (edgesOf es)) (upto v)) (λ w. h u w ∙ sym (row-at u w)) ∙ sym (word-at u (omega arith)))
+      (λ u k. by-digits (getD l u 0) (row es v u) (λ w. h u w ∙ sym (row-at u w)) ∙ sym (word-at u (omega arith)))
 
 -- ---- an edge more
 
@@ -72,13 +82,17 @@ no-marks n u w = go (decLt u n)
   where
     go : Dec (u < n) → digit (getD (replicate n 0) u 0) w ≡ false
     go (yes h) = ap (λ (m : ℕ). digit m w) (getD-replicate n u 0 0 h) ∙ digit-zero w
-    go (no h) = ap (λ (m : ℕ). digit m w) (List·getD-eq-default (replicate n 0) 0 (omega (arith, length-replicate {A = ℕ} n 0))) ∙ digit-zero w
+    go (no h) =
+        let none : List ℕ = replicate n 0 in
+        let past : getD none u 0 ≡ 0 = List·getD-eq-default none 0 (omega (arith, length-replicate {A = ℕ} n 0)) in
+        ap (λ (m : ℕ). digit m w) past ∙ digit-zero w
 
 -- `l[a] = l[a] | 1 << b`
 abbrev pub mark : List ℕ → ℕ → ℕ → List ℕ
 mark l a b = set l a (bitOr (getD l a 0) ((1 * 2 ^ b) % 2 ^ 64))
 
-mark-digit : (l : List ℕ) (a b u w : ℕ) → a < length l → b < 64 → digit (getD (mark l a b) u 0) w ≡ digit (getD l u 0) w || eqb u a && eqb w b
+mark-digit : (l : List ℕ) (a b u w : ℕ) → a < length l → b < 64
+    → digit (getD (mark l a b) u 0) w ≡ digit (getD l u 0) w || eqb u a && eqb w b
 mark-digit l a b u w h k =
     ap (λ (m : ℕ). digit (getD (set l a (bitOr (getD l a 0) m)) u 0) w) (one-shl 64 b k) ∙ digit-stored l a (2 ^ b) u w h
     ∙ ap (λ (t : Bool). digit (getD l u 0) w || eqb u a && t) (digit-power b w)
@@ -88,7 +102,8 @@ pub marked : (l : List ℕ) (a b u w : ℕ) → a < length l → b < length l �
     → digit (getD (mark (mark l a b) b a) u 0) w ≡ digit (getD l u 0) w || joins u w (edge a b)
 unfolding joins
 marked l a b u w h k n =
-    mark-digit (mark l a b) b a u w (omega (arith, length-set l a (bitOr (getD l a 0) ((1 * 2 ^ b) % 2 ^ 64)))) (omega arith)
+    let m = length-set l a (bitOr (getD l a 0) ((1 * 2 ^ b) % 2 ^ 64)) in
+    mark-digit (mark l a b) b a u w (omega (arith, m)) (omega arith)
     ∙ ap (λ (t : Bool). t || eqb u b && eqb w a) (mark-digit l a b u w h (omega arith))
     ∙ or-assoc (digit (getD l u 0) w) (eqb u a && eqb w b) (eqb u b && eqb w a)
 
@@ -124,12 +139,17 @@ none-ends (edge a b ∷ es) u h w =
     let n = or-none (ends u (edge a b)) (any (ends u) es) h in
     λ i. none-end u a b (n .0) w i || none-ends es u (n .1) w i
 
-pub loose-is : {words : List ℕ} {v : ℕ} {d : Wire} → Links words v d → (u : ℕ) → u < v → eqb (getD words u 0) 0 ≡ not (any (ends u) (d .edges))
+pub loose-is : {words : List ℕ} {v : ℕ} {d : Wire} → Links words v d → (u : ℕ) → u < v
+    → eqb (getD words u 0) 0 ≡ not (any (ends u) (d .edges))
 unfolding joined
 loose-is {words} {v} {d} l u h = go (any (ends u) (d .edges)) refl
   where
     go : (t : Bool) → any (ends u) (d .edges) ≡ t → eqb (getD words u 0) 0 ≡ not t
-    go false e = eq-eqb (getD words u 0) 0 (none-digits (getD words u 0) (λ w. l .joins u h w ∙ none-ends (d .edges) u e w))
+    go false e =
+        eq-eqb (getD words u 0) 0 (none-digits (getD words u 0) (λ w. l .joins u h w ∙ none-ends (d .edges) u e w))
     go true e =
         ne-eqb (getD words u 0) 0
-        (λ z. true≢false (sym e ∙ ends-none (d .edges) u (λ w. sym (l .joins u h w) ∙ ap (λ (m : ℕ). digit m w) z ∙ digit-zero w)))
+        (λ z.
+        let none : (w : ℕ) → any (joins u w) (d .edges) ≡ false =
+        λ w. sym (l .joins u h w) ∙ ap (λ (m : ℕ). digit m w) z ∙ digit-zero w in
+        true≢false (sym e ∙ ends-none (d .edges) u none))

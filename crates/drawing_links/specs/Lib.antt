@@ -1,2 +1,3 @@
 -- What contracts of this crate cite beside the paper. Assumes nothing.
 pub mod Neighbours
+pub mod Reach

@@ -1,7 +1,8 @@
 -- Neighbours as one word for each vertex: digit w of word u says whether an edge joins u and w. Assumes nothing.
+use Rattle.paper_laws.specs.InRange.{Ends}
 use mathlib.Core.Path.{_≡_}
 use mathlib.Core.List.{List, map}
-use Prim.Native.Nat.{ℕ, _<_}
+use Prim.Native.Nat.{ℕ, _<_, _≤_}
 use lib.ListN.{length, getD}
 use Rattle.lists.specs.Lists.{any, upto}
 use Rattle.sets.specs.Word.{word, digit}
@@ -16,6 +17,11 @@ neighbourWord es v u = word (map (λ w. any (joins u w) es) (upto v))
 unfoldable pub neighbourWords : List Edge → ℕ → List ℕ
 unfolding neighbourWord upto
 neighbourWords es v = map (neighbourWord es v) (upto (editionOne .«most_vertices»))
+
+-- the ends of a drawing with v vertices, a word for each of which there is room for
+pub record FewEnds (ends : List ℕ) (v : ℕ) : Type 0 where
+  pub most : v ≤ editionOne .«most_vertices»
+  pub links : Ends ends v
 
 -- the words are those of the drawing d, which has v vertices
 pub record Links (words : List ℕ) (v : ℕ) (d : Wire) : Type 0 where

@@ -1,18 +1,14 @@
 // The neighbour words of a drawing, and rules 12 and 14 on them: LooseVertex, on no edge; Apart, not reachable from vertex 0. Assumes at
 // most 32 vertices, and ends in range.
 ghost use mathlib.Core.Path.{_≡_};
-ghost use mathlib.Core.Bool.{false, _&&_, _||_};
 ghost use mathlib.Core.List.{[], _∷_};
-ghost use Prim.Native.Nat.{ℕ, _≤_, _<_};
-ghost use lib.ListN.{getD};
-ghost use Rattle.lists.specs.Lists.{any, upto};
-ghost use Rattle.sets.specs.Word.{digit};
+ghost use Prim.Native.Nat.{_≤_};
 ghost use Rattle.paper.specs.Format.{editionOne};
 ghost use Rattle.paper.specs.Refusals as No;
 ghost use Rattle.paper.specs.Refusals.{check, firstOf};
-ghost use Rattle.paper.specs.Drawing.{Wire, edgesOf, joined, looseVertex, verticesReached, apart};
-ghost use Rattle.paper_laws.specs.InRange.{Ends};
-ghost use Rattle.drawing_links.specs.Neighbours.{neighbourWords, Links};
+ghost use Rattle.paper.specs.Drawing.{Wire, edgesOf, looseVertex, verticesReached, apart};
+ghost use Rattle.drawing_links.specs.Neighbours.{neighbourWords, FewEnds, Links};
+ghost use Rattle.drawing_links.specs.Reach.{Stands, Grown};
 use lists::wide;
 use paper::APART;
 use paper::Answer;
@@ -23,7 +19,7 @@ use sets::is_set;
 
 // One word for each vertex: bit w of word u says whether an edge joins u and w.
 pub fn neighbours(ends: &[u8], v: usize) -> [u64; MOST_VERTICES]
-    requires { ⌜ (v ≤ editionOne .«most_vertices») × Ends (now ends) v ⌝ }
+    requires { ⌜ FewEnds (now ends) v ⌝ }
     ensures { λ r. ⌜ r ≡ neighbourWords (edgesOf (now (ends .entry))) v ⌝ }
 {
     let mut near = [0u64; MOST_VERTICES];
@@ -56,7 +52,7 @@ pub fn loose_vertex(near: &[u64; MOST_VERTICES], v: usize) -> Answer
 // The vertices of a set, and those that one edge more leads to.
 fn further(near: &[u64; MOST_VERTICES], v: usize, set: u64) -> u64
     requires { ⌜ v ≤ editionOne .«most_vertices» ⌝ }
-    ensures { λ r. ⌜ ((d : Wire) → Links (now (near .entry)) v d → (w : ℕ) → digit r w ≡ (digit set w || any (λ u. digit set u && joined d u w) (upto v))) ⌝ }
+    ensures { λ r. ⌜ ((d : Wire) → Links (now (near .entry)) v d → Grown set v d r) ⌝ }
 {
     let mut more = set;
     let mut u = 0;
@@ -72,7 +68,7 @@ fn further(near: &[u64; MOST_VERTICES], v: usize, set: u64) -> u64
 // The vertices that edges lead to from vertex 0: once a step finds no more, no later one does.
 fn vertices_reached(near: &[u64; MOST_VERTICES], v: usize) -> u64
     requires { ⌜ v ≤ editionOne .«most_vertices» ⌝ }
-    ensures { λ r. ⌜ ((d : Wire) → Links (now (near .entry)) v d → (w : ℕ) → w < v → digit r w ≡ getD (verticesReached d v) w false) ⌝ }
+    ensures { λ r. ⌜ ((d : Wire) → Links (now (near .entry)) v d → Stands r v (verticesReached d v)) ⌝ }
 {
     let mut set = 1u64;
     let mut k = 0;

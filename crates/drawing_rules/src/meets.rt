@@ -1,19 +1,11 @@
 // Rule 13, EdgeMeets: an edge shares a point with a vertex or an edge other than at its own end vertices. Assumes a drawing in range.
 ghost use mathlib.Core.Path.{_≡_};
-ghost use mathlib.Core.Bool.{_&&_, not};
 ghost use mathlib.Core.List.{[], _∷_};
-ghost use Prim.Native.Nat.{_+_, _*_, _/_, _<_};
-ghost use lib.Dec.{eqb};
-ghost use lib.ListN.{length, getD};
-ghost use Rattle.lists.specs.Lists.{any, upto};
-ghost use Rattle.paper.specs.Numbers.{farthest};
 ghost use Rattle.paper.specs.Refusals as No;
 ghost use Rattle.paper.specs.Refusals.{check, firstOf};
-ghost use Rattle.paper.specs.Drawing.{wire, onOpen, openMeets, edgeMeets};
-ghost use Rattle.polygon.specs.Sizes.{PointWithin};
-ghost use Rattle.polygon.specs.Rings.{pointOf};
-ghost use Rattle.paper_laws.specs.InRange.{Points, Ends};
-ghost use Rattle.drawing_rules.specs.Meets.{meetsAt};
+ghost use Rattle.paper.specs.Drawing.{wire, edgeMeets};
+ghost use Rattle.drawing_rules.specs.Asked.{Lists, EndAt, EdgeAt, ListsAndSegment, PointsAndSegment};
+ghost use Rattle.drawing_rules.specs.Meets.{endIn, vertexMetIn, edgeMetIn, meetsAt};
 use drawing_segments::on_open;
 use drawing_segments::open_meets;
 use lists::wide;
@@ -25,8 +17,8 @@ use polygon::rings::point_at;
 
 // The segment from a to b without its ends has one of the v vertices on it.
 fn meets_vertex(xyz: &[i64], v: usize, a: Point, b: Point) -> bool
-    requires { ⌜ Points (now xyz) v × PointWithin farthest a × PointWithin farthest b ⌝ }
-    ensures { λ r. ⌜ r ≡ any (λ w. onOpen a b (pointOf (now (xyz .entry)) w)) (upto v) ⌝ }
+    requires { ⌜ PointsAndSegment (now xyz) v a b ⌝ }
+    ensures { λ r. ⌜ r ≡ vertexMetIn (now (xyz .entry)) v a b ⌝ }
 {
     let mut w = 0;
     while w < v {
@@ -40,16 +32,16 @@ fn meets_vertex(xyz: &[i64], v: usize, a: Point, b: Point) -> bool
 
 // The place of end k of the list.
 fn end_at(xyz: &[i64], v: usize, ends: &[u8], k: usize) -> Point
-    requires { ⌜ Points (now xyz) v × Ends (now ends) v × (k < length (now ends)) ⌝ }
-    ensures { λ p. ⌜ p ≡ pointOf (now (xyz .entry)) (getD (now (ends .entry)) k 0) ⌝ }
+    requires { ⌜ EndAt (now xyz) v (now ends) k ⌝ }
+    ensures { λ p. ⌜ p ≡ endIn (now (xyz .entry)) (now (ends .entry)) k ⌝ }
 {
     point_at(xyz, wide(ends[k]))
 }
 
 // Edge e, which goes from a to b, meets another edge.
 fn meets_edge(xyz: &[i64], v: usize, ends: &[u8], e: usize, a: Point, b: Point) -> bool
-    requires { ⌜ Points (now xyz) v × Ends (now ends) v × PointWithin farthest a × PointWithin farthest b ⌝ }
-    ensures { λ r. ⌜ r ≡ any (λ f. not (eqb e f) && openMeets a b (pointOf (now (xyz .entry)) (getD (now (ends .entry)) (2 * f) 0)) (pointOf (now (xyz .entry)) (getD (now (ends .entry)) (2 * f + 1) 0))) (upto (length (now (ends .entry)) / 2)) ⌝ }
+    requires { ⌜ ListsAndSegment (now xyz) v (now ends) a b ⌝ }
+    ensures { λ r. ⌜ r ≡ edgeMetIn (now (xyz .entry)) (now (ends .entry)) a b e ⌝ }
 {
     let n = ends.len() / 2;
     let mut f = 0;
@@ -68,7 +60,7 @@ fn meets_edge(xyz: &[i64], v: usize, ends: &[u8], e: usize, a: Point, b: Point) 
 
 // Edge e meets a vertex or another edge.
 fn meets(xyz: &[i64], v: usize, ends: &[u8], e: usize) -> bool
-    requires { ⌜ Points (now xyz) v × Ends (now ends) v × (2 * e + 1 < length (now ends)) ⌝ }
+    requires { ⌜ EdgeAt (now xyz) v (now ends) e ⌝ }
     ensures { λ r. ⌜ r ≡ meetsAt (wire (now (xyz .entry)) (now (ends .entry))) e ⌝ }
 {
     let a = end_at(xyz, v, ends, 2 * e);
@@ -80,7 +72,7 @@ fn meets(xyz: &[i64], v: usize, ends: &[u8], e: usize) -> bool
 }
 
 pub fn edge_meets(xyz: &[i64], v: usize, ends: &[u8]) -> Answer
-    requires { ⌜ Points (now xyz) v × Ends (now ends) v ⌝ }
+    requires { ⌜ Lists (now xyz) v (now ends) ⌝ }
     ensures { λ r. ⌜ r ≡ firstOf (check No.EdgeMeets (edgeMeets (wire (now (xyz .entry)) (now (ends .entry)))) ∷ []) ⌝ }
 {
     let n = ends.len() / 2;

@@ -1,10 +1,8 @@
 // The point tests of rule 13, on segments without their ends. Assumes points in range.
 ghost use mathlib.Core.Path.{_≡_};
-ghost use mathlib.Core.Bool.{_&&_};
-ghost use Rattle.paper.specs.Numbers.{farthest};
-ghost use Rattle.paper.specs.Points.{dot, cross, isZero, isOrigin};
 ghost use Rattle.paper.specs.Drawing.{onOpen, overlap, cutsOpen, openMeets};
-ghost use Rattle.polygon.specs.Sizes.{PointWithin, mostStep, mostNormal};
+ghost use Rattle.drawing_segments.specs.Asked.{SegmentAndPoint, TwoSegments, AlongWithin, AcrossWithin};
+ghost use Rattle.drawing_segments.specs.Ways.{meetsAlong, meetsAcross};
 use paper::Point;
 use polygon::points::cross;
 use polygon::points::dot;
@@ -14,7 +12,7 @@ use polygon::points::minus;
 
 // p is strictly between a and b on their segment.
 pub fn on_open(a: Point, b: Point, p: Point) -> bool
-    requires { ⌜ PointWithin farthest a × PointWithin farthest b × PointWithin farthest p ⌝ }
+    requires { ⌜ SegmentAndPoint a b p ⌝ }
     ensures { λ r. ⌜ r ≡ onOpen a b p ⌝ }
 {
     let r = minus(p, a);
@@ -38,8 +36,8 @@ fn cuts_open(t: i64, s: i64, m: i64) -> bool
 
 // Of segments of one direction p, the other with its ends at r and s from the start of the one.
 fn along(p: Point, r: Point, s: Point) -> bool
-    requires { ⌜ PointWithin mostStep p × PointWithin mostStep r × PointWithin mostStep s ⌝ }
-    ensures { λ w. ⌜ w ≡ (isOrigin (cross p r) && overlap (dot p r) (dot p s) (dot p p)) ⌝ }
+    requires { ⌜ AlongWithin p r s ⌝ }
+    ensures { λ w. ⌜ w ≡ meetsAlong p r s ⌝ }
 {
     if !is_origin(cross(p, r)) {
         return false;
@@ -50,8 +48,8 @@ fn along(p: Point, r: Point, s: Point) -> bool
 // Of segments of two directions p and q, whose cross product is n, the other starting at r from the start of the one. Most pairs are not
 // in one plane.
 fn across(p: Point, q: Point, r: Point, n: Point) -> bool
-    requires { ⌜ PointWithin mostStep p × PointWithin mostStep q × PointWithin mostStep r × PointWithin mostNormal n ⌝ }
-    ensures { λ w. ⌜ w ≡ (isZero (dot r n) && cutsOpen (dot (cross r q) n) (dot (cross r p) n) (dot n n)) ⌝ }
+    requires { ⌜ AcrossWithin p q r n ⌝ }
+    ensures { λ w. ⌜ w ≡ meetsAcross p q r n ⌝ }
 {
     if !is_zero(dot(r, n)) {
         return false;
@@ -61,7 +59,7 @@ fn across(p: Point, q: Point, r: Point, n: Point) -> bool
 
 // The segment from a to b without its ends has a point in common with the one from c to d with its ends.
 pub fn open_meets(a: Point, b: Point, c: Point, d: Point) -> bool
-    requires { ⌜ PointWithin farthest a × PointWithin farthest b × PointWithin farthest c × PointWithin farthest d ⌝ }
+    requires { ⌜ TwoSegments a b c d ⌝ }
     ensures { λ r. ⌜ r ≡ openMeets a b c d ⌝ }
 {
     let p = minus(b, a);

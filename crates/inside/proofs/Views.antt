@@ -59,7 +59,9 @@ module _ (p : Point) (d : ℤ) (g : Polygon) {v : Axis} {q : Flat} (e : v ≡ ax
       (λ i. placed (sym j i) (sym k i))
       ∙ (λ i. placed (anyTrue (sym (sides-map (touches q d) (seen v) g) i)) (oddTrue (sym (sides-map (crosses q d) (seen v) g) i)))
       ∙ (λ i. placed (anyTrue (sides (touches (f i) d) (map (seen v) g))) (oddTrue (sides (crosses (f i) d) (map (seen v) g))))
-      ∙ (λ i. placed (anyTrue (sides (touches (seen (e i) p) d) (map (seen (e i)) g))) (oddTrue (sides (crosses (seen (e i) p) d) (map (seen (e i)) g))))
+      ∙ (λ i.
+      let h = map (seen (e i)) g in
+      placed (anyTrue (sides (touches (seen (e i) p) d) h)) (oddTrue (sides (crosses (seen (e i) p) d) h)))
 
 -- what an `if let` of `Outside` leaves
 pub not-outside : (w : Where) → OneOf (1 ∷ 2 ∷ []) (tagOf the-type w) → isOutside w ≡ false

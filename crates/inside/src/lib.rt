@@ -2,12 +2,10 @@
 // no larger than a piercing point.
 ghost use mathlib.Core.Path.{_≡_};
 ghost use mathlib.Core.Bool.{false, _&&_};
-ghost use Rattle.exact.specs.Size.{Within};
-ghost use Rattle.paper.specs.Numbers.{farthest};
 ghost use Rattle.paper.specs.Points.{isZero};
 ghost use Rattle.paper.specs.Polygon.{axis, seen, turn, spans, between, under, meetsRay, placed, lies, over, isInside};
-ghost use Rattle.polygon.specs.Sizes.{PointWithin, FlatWithin, mostScale, mostScaled};
-ghost use Rattle.polygon.specs.Rings.{ring, Face};
+ghost use Rattle.polygon.specs.Rings.{ring};
+ghost use Rattle.inside.specs.Asked.{EndWithin, SideWithin, TurnWithin, FaceAndPoint};
 use paper::Axis;
 use paper::Flat;
 use paper::Point;
@@ -43,7 +41,7 @@ fn seen(v: Axis, p: Point) -> Flat
 
 // Twice the area of the triangle a, b, p / d, times d.
 fn turn(a: Flat, b: Flat, p: Flat, d: i64) -> i64
-    requires { ⌜ FlatWithin farthest a × FlatWithin farthest b × FlatWithin mostScaled p × Within mostScale d ⌝ }
+    requires { ⌜ TurnWithin a b p d ⌝ }
     ensures { λ r. ⌜ r ≡ turn a b p d ⌝ }
 {
     (b.u - a.u) * (p.v - d * a.v) - (b.v - a.v) * (p.u - d * a.u)
@@ -56,7 +54,7 @@ fn spans(a: i64, b: i64, p: i64) -> bool
 }
 
 fn between(a: Flat, b: Flat, p: Flat, d: i64) -> bool
-    requires { ⌜ FlatWithin farthest a × FlatWithin farthest b × Within mostScale d ⌝ }
+    requires { ⌜ SideWithin a b d ⌝ }
     ensures { λ r. ⌜ r ≡ between a b p d ⌝ }
 {
     spans(d * a.u, d * b.u, p.u) & spans(d * a.v, d * b.v, p.v)
@@ -64,7 +62,7 @@ fn between(a: Flat, b: Flat, p: Flat, d: i64) -> bool
 
 // p / d is on the side from a to b, of which t is the turn: the box is asked only on the side's line.
 fn touches(a: Flat, b: Flat, p: Flat, d: i64, t: i64) -> bool
-    requires { ⌜ FlatWithin farthest a × FlatWithin farthest b × Within mostScale d ⌝ }
+    requires { ⌜ SideWithin a b d ⌝ }
     ensures { λ r. ⌜ r ≡ (isZero t && between a b p d) ⌝ }
 {
     if is_zero(t) {
@@ -75,7 +73,7 @@ fn touches(a: Flat, b: Flat, p: Flat, d: i64, t: i64) -> bool
 }
 
 fn under(p: Flat, d: i64, a: Flat) -> bool
-    requires { ⌜ Within mostScale d × FlatWithin farthest a ⌝ }
+    requires { ⌜ EndWithin a d ⌝ }
     ensures { λ r. ⌜ r ≡ under p d a ⌝ }
 {
     d * a.v <= p.v
@@ -95,7 +93,7 @@ fn placed(odd: bool) -> Where
 
 // Where p / d lies in row r, whose normal is m.
 pub fn lies(xyz: &[i64], table: &[u8], r: usize, m: Point, p: Point, d: i64) -> Where
-    requires { ⌜ Face (now xyz) (now table) r m × PointWithin mostScaled p × Within mostScale d ⌝ }
+    requires { ⌜ FaceAndPoint (now xyz) (now table) r m p d ⌝ }
     ensures { λ w. ⌜ w ≡ lies (over p d) (ring (now (xyz .entry)) (now (table .entry)) r) ⌝ }
 {
     let n = count(table, r);
@@ -119,7 +117,7 @@ pub fn lies(xyz: &[i64], table: &[u8], r: usize, m: Point, p: Point, d: i64) -> 
 
 // Whether p / d is strictly inside row r, whose normal is m.
 pub fn lies_inside(xyz: &[i64], table: &[u8], r: usize, m: Point, p: Point, d: i64) -> bool
-    requires { ⌜ Face (now xyz) (now table) r m × PointWithin mostScaled p × Within mostScale d ⌝ }
+    requires { ⌜ FaceAndPoint (now xyz) (now table) r m p d ⌝ }
     ensures { λ w. ⌜ w ≡ isInside (lies (over p d) (ring (now (xyz .entry)) (now (table .entry)) r)) ⌝ }
 {
     let w = lies(xyz, table, r, m, p, d);

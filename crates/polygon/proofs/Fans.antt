@@ -24,7 +24,8 @@ fan-take a (b ∷ (c ∷ r)) (suc k) h =
     ∙ sym (+ℤ-assoc (det a b c) (fan a (take (suc k) (c ∷ r))) (det a (getD (c ∷ r) k origin) (getD (c ∷ r) (suc k) origin)))
 
 six-take : (g : Polygon) (k : ℕ) → suc (suc k) < length g
-    → faceSix (take (suc (suc (suc k))) g) ≡ faceSix (take (suc (suc k)) g) +ℤ det (getD g 0 origin) (getD g (suc k) origin) (getD g (suc (suc k)) origin)
+    → faceSix (take (suc (suc (suc k))) g)
+    ≡ faceSix (take (suc (suc k)) g) +ℤ det (getD g 0 origin) (getD g (suc k) origin) (getD g (suc (suc k)) origin)
 unfolding faceSix
 six-take [] k h = absurd (not-suc-le-zero h)
 six-take (a ∷ r) k h = fan-take a r k (le-of-suc-le-suc h)
@@ -36,9 +37,13 @@ six-more g zero h k = absurd (not-suc-le-zero h)
 six-more g (suc j) h k =
     let e : suc (suc j) ≡ suc j + 1 = omega arith in
     let f : suc j + 1 + 1 ≡ suc (suc (suc j)) = omega arith in
-    let p : getD g (suc (suc j)) origin ≡ cornerOf g (suc j + 1) = ap (λ (n : ℕ). getD g n origin) e ∙ sym (around-low g (suc j + 1) origin k) in
-    ap (λ (n : ℕ). faceSix (take n g)) f ∙ six-take g j (omega arith)
-    ∙ (λ i. faceSix (take (e i) g) +ℤ det (sym (around-low g 0 origin (omega arith)) i) (sym (around-low g (suc j) origin (omega arith)) i) (p i))
+    let a = sym (around-low g 0 origin (omega arith)) in
+    let b = sym (around-low g (suc j) origin (omega arith)) in
+    let c : getD g (suc (suc j)) origin ≡ cornerOf g (suc j + 1) =
+    ap (λ (n : ℕ). getD g n origin) e ∙ sym (around-low g (suc j + 1) origin k) in
+    ap (λ (n : ℕ). faceSix (take n g)) f
+    ∙ six-take g j (omega arith)
+    ∙ (λ i. faceSix (take (e i) g) +ℤ det (a i) (b i) (c i))
 
 pub six-none : (g : Polygon) → 2 ≤ length g → faceSix (take (1 + 1) g) ≡ pos 0
 unfolding faceSix fan

@@ -6,3 +6,4 @@ pub mod Areas
 pub mod Planes
 pub mod Fans
 pub mod Drawn
+pub mod Pairs

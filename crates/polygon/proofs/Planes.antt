@@ -33,4 +33,5 @@ module _ {l : List ℤ} {t : List ℕ} {r : ℕ} {m : Point} (f : Face l t r m) 
 
   pub side-within : {p : Point} → PointWithin farthest p → Within mostPlaneSide (planeSide (ring l t r) p)
   side-within {p} h =
-      subst (λ (z : ℤ). Within mostPlaneSide z) (side-is refl p) (within-up tt (dot-small face-normal (minus-small h (corner-small (f .row) 0))))
+      let step = minus-small h (corner-small (f .row) 0) in
+      subst (λ (z : ℤ). Within mostPlaneSide z) (side-is refl p) (within-up tt (dot-small face-normal step))

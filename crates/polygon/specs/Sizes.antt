@@ -16,6 +16,11 @@ pub record FlatWithin (n : ℕ) (p : Flat) : Type 0 where
   pub u-in : Within n (p .u)
   pub v-in : Within n (p .v)
 
+-- two points, each within n
+pub record PointsWithin (n : ℕ) (a b : Point) : Type 0 where
+  pub a-in : PointWithin n a
+  pub b-in : PointWithin n b
+
 -- 2,000: from one point to another
 abbrev pub mostStep : ℕ
 mostStep = 2 * farthest
@@ -34,3 +39,15 @@ mostScale = 2 * mostPlaneSide
 
 abbrev pub mostScaled : ℕ
 mostScaled = mostScale * farthest
+
+-- what a determinant takes: a point or a normal, and two points or steps
+pub record DetWithin (p q r : Point) : Type 0 where
+  pub p-in : PointWithin mostNormal p
+  pub q-in : PointWithin mostStep q
+  pub r-in : PointWithin mostStep r
+
+-- a plane by its normal and a point of it, and a point to be tested
+pub record PlaneWithin (m o p : Point) : Type 0 where
+  pub m-in : PointWithin mostNormal m
+  pub o-in : PointWithin farthest o
+  pub p-in : PointWithin farthest p

@@ -2,7 +2,7 @@
 ghost use mathlib.Core.Path.{_≡_};
 ghost use Rattle.paper.specs.Numbers.{farthest};
 ghost use Rattle.paper.specs.Points.{plus, minus, cross, dot, det, isZero, isOrigin, samePoint};
-ghost use Rattle.polygon.specs.Sizes.{PointWithin, mostStep, mostNormal};
+ghost use Rattle.polygon.specs.Sizes.{PointsWithin, DetWithin, mostStep, mostNormal};
 use paper::Point;
 
 pub fn is_zero(z: i64) -> bool
@@ -12,7 +12,7 @@ pub fn is_zero(z: i64) -> bool
 }
 
 pub fn plus(a: Point, b: Point) -> Point
-    requires { ⌜ PointWithin mostNormal a × PointWithin mostNormal b ⌝ }
+    requires { ⌜ PointsWithin mostNormal a b ⌝ }
     ensures { λ r. ⌜ r ≡ plus a b ⌝ }
 {
     Point {
@@ -24,7 +24,7 @@ pub fn plus(a: Point, b: Point) -> Point
 
 // The direction to a from b.
 pub fn minus(a: Point, b: Point) -> Point
-    requires { ⌜ PointWithin farthest a × PointWithin farthest b ⌝ }
+    requires { ⌜ PointsWithin farthest a b ⌝ }
     ensures { λ r. ⌜ r ≡ minus a b ⌝ }
 {
     Point {
@@ -35,14 +35,14 @@ pub fn minus(a: Point, b: Point) -> Point
 }
 
 pub fn dot(a: Point, b: Point) -> i64
-    requires { ⌜ PointWithin mostNormal a × PointWithin mostNormal b ⌝ }
+    requires { ⌜ PointsWithin mostNormal a b ⌝ }
     ensures { λ r. ⌜ r ≡ dot a b ⌝ }
 {
     a.x * b.x + a.y * b.y + a.z * b.z
 }
 
 pub fn cross(a: Point, b: Point) -> Point
-    requires { ⌜ PointWithin mostStep a × PointWithin mostStep b ⌝ }
+    requires { ⌜ PointsWithin mostStep a b ⌝ }
     ensures { λ r. ⌜ r ≡ cross a b ⌝ }
 {
     Point {
@@ -53,7 +53,7 @@ pub fn cross(a: Point, b: Point) -> Point
 }
 
 pub fn det(p: Point, q: Point, r: Point) -> i64
-    requires { ⌜ PointWithin mostNormal p × PointWithin mostStep q × PointWithin mostStep r ⌝ }
+    requires { ⌜ DetWithin p q r ⌝ }
     ensures { λ z. ⌜ z ≡ det p q r ⌝ }
 {
     dot(p, cross(q, r))
@@ -66,7 +66,7 @@ pub fn is_origin(p: Point) -> bool
 }
 
 pub fn same_point(p: Point, q: Point) -> bool
-    requires { ⌜ PointWithin farthest p × PointWithin farthest q ⌝ }
+    requires { ⌜ PointsWithin farthest p q ⌝ }
     ensures { λ r. ⌜ r ≡ samePoint p q ⌝ }
 {
     is_origin(minus(p, q))

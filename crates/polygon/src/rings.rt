@@ -1,14 +1,14 @@
 // The rows of a loop table as polygons: corners, normal, plane and six volumes. Assumes a row whose vertices the coordinates have.
 ghost use mathlib.Core.Path.{_≡_};
 ghost use Prim.Native.Nat.{_+_, _*_, _<_, _≤_};
-ghost use lib.ListN.{length, getD};
+ghost use lib.ListN.{length};
 ghost use Rattle.lists.specs.Around.{wrap};
-ghost use Rattle.paper.specs.Numbers.{farthest, rowBytes};
+ghost use Rattle.paper.specs.Numbers.{rowBytes};
 ghost use Rattle.paper.specs.Points.{dot, minus};
 ghost use Rattle.paper.specs.Polygon.{normal, onePlane};
 ghost use Rattle.paper.specs.Solids.{faceSix};
-ghost use Rattle.polygon.specs.Sizes.{PointWithin, mostNormal};
-ghost use Rattle.polygon.specs.Rings.{pointOf, ring, cornerOf, Row, Face};
+ghost use Rattle.polygon.specs.Sizes.{PlaneWithin};
+ghost use Rattle.polygon.specs.Rings.{pointOf, countIn, ring, cornerOf, Row, CornerIn, FaceAndRow};
 use super::points::cross;
 use super::points::det;
 use super::points::dot;
@@ -34,7 +34,7 @@ pub fn point_at(xyz: &[i64], v: usize) -> Point
 // The corner count of row r.
 pub fn count(table: &[u8], r: usize) -> usize
     requires { ⌜ rowBytes * r + rowBytes ≤ length (now table) ⌝ }
-    ensures { λ n. ⌜ n ≡ getD (now (table .entry)) (rowBytes * r) 0 ⌝ }
+    ensures { λ n. ⌜ n ≡ countIn (now (table .entry)) r ⌝ }
 {
     wide(table[ROW * r])
 }
@@ -48,7 +48,7 @@ fn round(n: usize, j: usize) -> usize
 
 // Corner j of row r, counted on past the last.
 pub fn corner(xyz: &[i64], table: &[u8], r: usize, j: usize) -> Point
-    requires { ⌜ Row (now xyz) (now table) r × (j < 2 * length (ring (now xyz) (now table) r)) ⌝ }
+    requires { ⌜ CornerIn (now xyz) (now table) r j ⌝ }
     ensures { λ p. ⌜ p ≡ cornerOf (ring (now (xyz .entry)) (now (table .entry)) r) j ⌝ }
 {
     let k = round(count(table, r), j);
@@ -75,7 +75,7 @@ pub fn normal(xyz: &[i64], table: &[u8], r: usize) -> Point
 
 // On which side of the plane through o with normal m the point p lies.
 pub fn plane_side(m: Point, o: Point, p: Point) -> i64
-    requires { ⌜ PointWithin mostNormal m × PointWithin farthest o × PointWithin farthest p ⌝ }
+    requires { ⌜ PlaneWithin m o p ⌝ }
     ensures { λ r. ⌜ r ≡ dot m (minus p o) ⌝ }
 {
     dot(m, minus(p, o))
@@ -83,7 +83,7 @@ pub fn plane_side(m: Point, o: Point, p: Point) -> i64
 
 // All corners of row h are in the plane of row g, whose normal is m.
 pub fn in_plane(xyz: &[i64], table: &[u8], g: usize, m: Point, h: usize) -> bool
-    requires { ⌜ Face (now xyz) (now table) g m × Row (now xyz) (now table) h ⌝ }
+    requires { ⌜ FaceAndRow (now xyz) (now table) g m h ⌝ }
     ensures { λ w. ⌜ w ≡ onePlane (ring (now (xyz .entry)) (now (table .entry)) g) (ring (now (xyz .entry)) (now (table .entry)) h) ⌝ }
 {
     let n = count(table, h);

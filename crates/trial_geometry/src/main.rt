@@ -1,9 +1,9 @@
 // Runs stored drawings through rules 11 to 14, and stored faces through clash and cover. Standard input has sheets, each with a face list
 // behind it, all behind their lengths in two bytes, high byte first. Of each drawing it prints what the rules say, and of each face a line
 // with a digit for each: 1 where the two clash, and 2 more where the line's covers the other.
-ghost use Prim.Native.Nat.{ℕ, _<_};
-ghost use Rattle.polygon.specs.Rings.{Row, Face};
+ghost use Rattle.polygon.specs.Rings.{FaceAndRow};
 ghost use Rattle.paper_laws.specs.InRange.{Points, InRange, Held};
+ghost use Rattle.trial_geometry.specs.Asked.{Rows, RowOf};
 use clash::clash;
 use cover::covers;
 use drawing_rules::drawing_rules;
@@ -19,7 +19,7 @@ use trial::say_number;
 use trial::say_refused;
 
 fn digit(xyz: &[i64], rows: &[u8], i: usize, m: Point, j: usize) -> u64
-    requires { ⌜ Face (now xyz) (now rows) i m × Row (now xyz) (now rows) j ⌝ }
+    requires { ⌜ FaceAndRow (now xyz) (now rows) i m j ⌝ }
 {
     let k = normal(xyz, rows, j);
     let hit = clash(xyz, rows, i, m, j, k);
@@ -32,7 +32,7 @@ fn digit(xyz: &[i64], rows: &[u8], i: usize, m: Point, j: usize) -> u64
 
 // Face i against each.
 fn show_face(xyz: &[i64], rows: &[u8], count: usize, i: usize)
-    requires { ⌜ ((r : ℕ) → r < count → Row (now xyz) (now rows) r) × (i < count) ⌝ }
+    requires { ⌜ RowOf (now xyz) (now rows) count i ⌝ }
 {
     let m = normal(xyz, rows, i);
     let mut j = 0;
@@ -44,7 +44,7 @@ fn show_face(xyz: &[i64], rows: &[u8], count: usize, i: usize)
 }
 
 fn show_faces(xyz: &[i64], rows: &[u8], count: usize)
-    requires { ⌜ ((r : ℕ) → r < count → Row (now xyz) (now rows) r) ⌝ }
+    requires { ⌜ Rows (now xyz) (now rows) count ⌝ }
 {
     let mut i = 0;
     while i < count {

@@ -1,4 +1,4 @@
--- `clash::opposite` meets its contract. Assumes nothing.
+-- `clash::opposite`: numbers that fit an `i64` are compared as they are. Assumes nothing.
 use mathlib.Core.Bool.{_&&_, _||_}
 use lib.IntN.{pos}
 use lib.Signed.{ltZ}

@@ -1,15 +1,31 @@
--- `clash_fold::bends` meets its contract. Assumes nothing.
-use mathlib.Core.Bool.{_&&_, not}
-use mathlib.Core.Path.{_∙_, sym}
+-- `clash_fold::bends`: the code asks the four parts of the definition one by one. Assumes nothing.
+use mathlib.Core.Bool.{_&&_, not, true, false}
+use mathlib.Core.Path.{_∙_, sym, _≡_}
 use denote.Ref.{now}
 use borrow.Author.Needs.{needs}
 use borrow.Author.Tests.{not-false, not-true}
-use Rattle.paper.specs.Clash.{bends, pointsIn}
+use Rattle.paper.specs.Clash.{bends, pointsIn, isCorner}
 use Rattle.paper.specs.Points.{samePoint}
 use Rattle.paper.specs.Polygon.{Polygon}
 use Rattle.polygon.specs.Rings.{ring}
 use Rattle.clash_fold.proofs.bends.Statement.{statement}
 use Rattle.clash_fold.proofs.bends.Tie as tie
+
+-- ---- the ways back
+
+abbrev start : tie.After-is-corner → tie.Start
+start c = c .before .before
+
+abbrev cornered : tie.After-same-point → tie.Else1
+cornered c = c .before
+
+abbrev apart : tie.After-points-in → tie.Else2
+apart c = c .before
+
+abbrev pointed : tie.After-points-in2 → tie.Else3
+pointed c = c .before
+
+-- ---- the two rows, and what each test that is passed says of them
 
 abbrev F : tie.Start → Polygon
 F c = ring (now (c .args .xyz)) (now (c .args .table)) (c .args .f)
@@ -17,17 +33,30 @@ F c = ring (now (c .args .xyz)) (now (c .args .table)) (c .args .f)
 abbrev G : tie.Start → Polygon
 G c = ring (now (c .args .xyz)) (now (c .args .table)) (c .args .g)
 
+corner-yes : (c : tie.Else1) → let s = start (c .before) in isCorner (G s) (s .args .v) ≡ true
+corner-yes c = sym (c .before .is-corner .ensures) ∙ not-false (c .before .is-corner .result) (c .if1 .left)
+
+same-no : (c : tie.Else2) → let a = start (cornered (c .before) .before) .args in samePoint (a .u) (a .v) ≡ false
+same-no c = sym (c .before .same-point .ensures) ∙ c .if2 .left
+
+in-yes : (c : tie.Else3)
+    → let s = start (cornered (apart (c .before) .before) .before) in pointsIn (F s) (s .args .u) (s .args .v) ≡ true
+in-yes c = sym (c .before .points-in .ensures) ∙ not-false (c .before .points-in .result) (c .if3 .left)
+
+-- ---- the needs
+
 is-corner-requires : tie.Need-is-corner-requires
 is-corner-requires c κs = search needs
 
 returns : tie.Need-returns
 unfolding bends
 returns c =
-    let s = c .before .before .before in
+    let k = c .before in
+    let s = start k in
     let u = s .args .u in
     let v = s .args .v in
-    let b = sym (c .before .is-corner .ensures) ∙ not-true (c .before .is-corner .result) (c .if1 .taken) in
-    λ i. ((sym b i && not (samePoint u v)) && pointsIn (F s) u v) && pointsIn (G s) u v
+    let no = sym (k .is-corner .ensures) ∙ not-true (k .is-corner .result) (c .if1 .taken) in
+    λ i. ((sym no i && not (samePoint u v)) && pointsIn (F s) u v) && pointsIn (G s) u v
 
 same-point-requires : tie.Need-same-point-requires
 same-point-requires c κs = search needs
@@ -35,13 +64,12 @@ same-point-requires c κs = search needs
 returns-2 : tie.Need-returns-2
 unfolding bends
 returns-2 c =
-    let p = c .before .before .before in
-    let s = c .before .before .before .before .before in
+    let e = cornered (c .before) in
+    let s = start (e .before) in
     let u = s .args .u in
     let v = s .args .v in
-    let b = sym (p .is-corner .ensures) ∙ not-false (p .is-corner .result) (c .before .before .if1 .left) in
-    let d = sym (c .before .same-point .ensures) ∙ c .if2 .taken in
-    λ i. ((sym b i && not (sym d i)) && pointsIn (F s) u v) && pointsIn (G s) u v
+    let same = sym (c .before .same-point .ensures) ∙ c .if2 .taken in
+    λ i. ((sym (corner-yes e) i && not (sym same i)) && pointsIn (F s) u v) && pointsIn (G s) u v
 
 points-in-requires : tie.Need-points-in-requires
 points-in-requires c κs = search needs
@@ -49,14 +77,11 @@ points-in-requires c κs = search needs
 returns-3 : tie.Need-returns-3
 unfolding bends
 returns-3 c =
-    let p2 = c .before .before .before .before .before in
-    let s = c .before .before .before .before .before .before .before in
-    let u = s .args .u in
-    let v = s .args .v in
-    let b = sym (p2 .is-corner .ensures) ∙ not-false (p2 .is-corner .result) (c .before .before .before .before .if1 .left) in
-    let d = sym (c .before .before .before .same-point .ensures) ∙ c .before .before .if2 .left in
-    let p = sym (c .before .points-in .ensures) ∙ not-true (c .before .points-in .result) (c .if3 .taken) in
-    λ i. ((sym b i && not (sym d i)) && sym p i) && pointsIn (G s) u v
+    let d = apart (c .before) in
+    let e = cornered (d .before) in
+    let s = start (e .before) in
+    let no = sym (c .before .points-in .ensures) ∙ not-true (c .before .points-in .result) (c .if3 .taken) in
+    λ i. ((sym (corner-yes e) i && not (sym (same-no d) i)) && sym no i) && pointsIn (G s) (s .args .u) (s .args .v)
 
 points-in-requires-2 : tie.Need-points-in-requires-2
 points-in-requires-2 c κs = search needs
@@ -64,14 +89,12 @@ points-in-requires-2 c κs = search needs
 returns-4 : tie.Need-returns-4
 unfolding bends
 returns-4 c =
-    let p2 = c .before .before .before .before .before .before in
-    let s = c .before .before .before .before .before .before .before .before in
-    let u = s .args .u in
-    let v = s .args .v in
-    let b = sym (p2 .is-corner .ensures) ∙ not-false (p2 .is-corner .result) (c .before .before .before .before .before .if1 .left) in
-    let d = sym (c .before .before .before .before .same-point .ensures) ∙ c .before .before .before .if2 .left in
-    let p = sym (c .before .before .points-in .ensures) ∙ not-false (c .before .before .points-in .result) (c .before .if3 .left) in
-    c .points-in2 .ensures ∙ (λ i. ((sym b i && not (sym d i)) && sym p i) && pointsIn (G s) u v)
+    let p = pointed c in
+    let d = apart (p .before) in
+    let e = cornered (d .before) in
+    let s = start (e .before) in
+    let last = pointsIn (G s) (s .args .u) (s .args .v) in
+    c .points-in2 .ensures ∙ (λ i. ((sym (corner-yes e) i && not (sym (same-no d) i)) && sym (in-yes p) i) && last)
 
 pub bends-spec : {M : Type 1} → statement M
 bends-spec =

@@ -1,4 +1,5 @@
--- `clash_fold::folds_at` meets its contract. Assumes nothing.
+-- `clash_fold::folds_at`: the loop keeps that what is left of row f decides, since no corner before bends with u. Assumes nothing.
+use Rattle.clash_fold.specs.Fold.{foldsAt}
 use mathlib.Core.Bool.{Bool, _&&_}
 use mathlib.Core.Path.{_∙_, _≡_, ap, refl, sym}
 use Prim.Native.Nat.{_-_, _≤_}
@@ -9,13 +10,12 @@ use borrow.Author.Tests.{not-false, not-true}
 use Rattle.lists.proofs.Search.{Left, any-search, search-end}
 use Rattle.lists.proofs.Sides.{ring-hit, ring-miss}
 use Rattle.lists.specs.Lists.{any}
-use Rattle.paper.specs.Clash.{bends, isCorner}
+use Rattle.paper.specs.Clash.{bends}
 use Rattle.paper.specs.Points.{origin}
 use Rattle.paper.specs.Polygon.{Polygon}
 use Rattle.paper.specs.declared.Point.{Point}
 use Rattle.polygon.specs.Rings.{cornerOf, ring}
-use Rattle.polygon.proofs.Rows.{corner-small, ring-length}
-use Rattle.polygon.proofs.Sizes.{small-eq}
+use Rattle.polygon.proofs.Rows.{ring-length, corner-in, corner-near}
 use Rattle.clash_fold.proofs.folds_at.Statement.{statement}
 use Rattle.clash_fold.proofs.folds_at.Tie as tie
 
@@ -25,6 +25,22 @@ Inv-loop xyz table f mf g mg u n j₀ j =
 
 abbrev μ-loop : tie.MeasureT-loop
 μ-loop xyz table f mf g mg u n j₀ j = n - j
+
+-- ---- the ways back
+
+abbrev cornered : tie.At-loop Inv-loop μ-loop → tie.Else1 Inv-loop μ-loop
+cornered c = c .before .before
+
+abbrev start : tie.Else1 Inv-loop μ-loop → tie.Start Inv-loop μ-loop
+start c = c .before .before .before
+
+abbrev turn : tie.After-corner Inv-loop μ-loop → tie.At-loop Inv-loop μ-loop
+turn c = c .before .before
+
+abbrev tested : tie.After-bends Inv-loop μ-loop → tie.At-loop Inv-loop μ-loop
+tested c = turn (c .before)
+
+-- ---- the two rows, and the code's test of corner j
 
 abbrev F : tie.Start Inv-loop μ-loop → Polygon
 F c = ring (now (c .args .xyz)) (now (c .args .table)) (c .args .f)
@@ -36,45 +52,51 @@ abbrev Bend : tie.Start Inv-loop μ-loop → Point → Bool
 Bend c = bends (F c) (G c) (c .args .u)
 
 here : (c : tie.After-bends Inv-loop μ-loop) {b : Bool} → c .bends .result ≡ b
-    → Bend (c .before .before .before .before .before .before .before .before) (cornerOf (F (c .before .before .before .before .before .before .before .before)) (c .before .before .before .loop .j)) ≡ b
-here c e = ap (Bend (c .before .before .before .before .before .before .before .before)) (sym (c .before .corner .ensures)) ∙ sym (c .bends .ensures) ∙ e
+    → let l = tested c in
+    let s = start (cornered l) in Bend s (cornerOf (F s) (l .loop .j)) ≡ b
+here c e = ap (Bend (start (cornered (tested c)))) (sym (c .before .corner .ensures)) ∙ sym (c .bends .ensures) ∙ e
 
 -- what is found of the corners is the answer, for a u that is one of row g
-answer : (c : tie.At-loop Inv-loop μ-loop)
-    → any (Bend (c .before .before .before .before .before)) (F (c .before .before .before .before .before)) ≡ (isCorner (G (c .before .before .before .before .before)) (c .before .before .before .before .before .args .u) && any (Bend (c .before .before .before .before .before)) (F (c .before .before .before .before .before)))
+answer : (c : tie.Else1 Inv-loop μ-loop)
+    → let s = start c in any (Bend s) (F s) ≡ foldsAt (F s) (G s) (s .args .u)
 answer c =
-    let p = c .before .before .before in
-    let s = c .before .before .before .before .before in
-    ap (λ (b : Bool). b && any (Bend s) (F s)) (sym (not-false (p .is-corner .result) (c .before .before .if1 .left)) ∙ p .is-corner .ensures)
+    let k = c .before .is-corner in
+    let s = start c in
+    ap (λ (b : Bool). b && any (Bend s) (F s)) (sym (not-false (k .result) (c .if1 .left)) ∙ k .ensures)
+
+-- ---- the needs
 
 is-corner-requires : tie.Need-is-corner-requires Inv-loop μ-loop
-is-corner-requires c κs = (c .before .pre .1 .row, c .before .pre .2)
+is-corner-requires c κs =
+    let s = c .before .pre in
+    record { row = s .faces .g-face .row; p-in = s .u-in }
 
 returns : tie.Need-returns Inv-loop μ-loop
 returns c =
+    let k = c .before .is-corner in
     let s = c .before .before .before in
-    ap (λ (b : Bool). b && any (Bend s) (F s)) (sym (not-true (c .before .is-corner .result) (c .if1 .taken)) ∙ c .before .is-corner .ensures)
+    ap (λ (b : Bool). b && any (Bend s) (F s)) (sym (not-true (k .result) (c .if1 .taken)) ∙ k .ensures)
 
 count-requires : tie.Need-count-requires Inv-loop μ-loop
-count-requires c κs = c .before .before .before .pre .0 .row .room
+count-requires c κs = start c .pre .faces .f-face .row .room
 
 loop-holds : tie.Need-loop-holds Inv-loop μ-loop
-loop-holds c = (omega arith, c .count .ensures ∙ sym (ring-length (c .before .before .before .before .pre .0 .row)), refl)
+loop-holds c = (omega arith, c .count .ensures ∙ sym (ring-length (start (c .before) .pre .faces .f-face .row)), refl)
 
 corner-requires : tie.Need-corner-requires Inv-loop μ-loop
-corner-requires c κs = (c .before .before .before .before .before .before .pre .0 .row, omega arith)
+corner-requires c κs = corner-in (start (cornered (c .before)) .pre .faces .f-face .row) _ (omega arith)
 
 bends-requires : tie.Need-bends-requires Inv-loop μ-loop
 bends-requires c κs =
-    let s = c .before .before .before .before .before .before .before in
-    (s .pre .0, s .pre .1, s .pre .2, small-eq (c .corner .ensures) (corner-small (s .pre .0 .row) _))
+    let s = start (cornered (turn c)) .pre in
+    record { faces = s .faces; u-in = s .u-in; v-in = corner-near (s .faces .f-face .row) _ (c .corner .ensures) }
 
 returns-2 : tie.Need-returns-2 Inv-loop μ-loop
 returns-2 c =
-    let p = c .before .before .before .before in
-    let s = c .before .before .before .before .before .before .before .before .before in
-    let l = p .loop in
-    sym (ring-hit (any-search (Bend s)) (F s) (l .j) origin (omega arith) (l .inv .2) (here (c .before) (c .if2 .taken))) ∙ answer (p)
+    let l = tested (c .before) in
+    let s = start (cornered l) in
+    let bent = here (c .before) (c .if2 .taken) in
+    sym (ring-hit (any-search (Bend s)) (F s) (l .loop .j) origin (omega arith) (l .loop .inv .2) bent) ∙ answer (cornered l)
 
 add-j : tie.Need-add-j Inv-loop μ-loop
 add-j c = omega arith
@@ -84,15 +106,17 @@ loop-less c = omega arith
 
 loop-again : tie.Need-loop-again Inv-loop μ-loop
 loop-again c =
-    let s = c .before .before .before .before .before .before .before .before .before in
-    let l = c .before .before .before .before .loop in
-    (omega arith, l .inv .1, ring-miss (any-search (Bend s)) (F s) (l .j) origin (omega arith) (l .inv .2) (here (c .before) (c .if2 .left)))
+    let l = tested (c .before) in
+    let s = start (cornered l) in
+    let straight = here (c .before) (c .if2 .left) in
+    let left = ring-miss (any-search (Bend s)) (F s) (l .loop .j) origin (omega arith) (l .loop .inv .2) straight in
+    (omega arith, l .loop .inv .1, left)
 
 returns-3 : tie.Need-returns-3 Inv-loop μ-loop
 returns-3 c =
-    let s = c .before .before .before .before .before .before in
-    let l = c .before .loop in
-    sym (search-end (any-search (Bend s)) (F s) (l .j) (omega arith) (l .inv .2)) ∙ answer (c .before)
+    let l = c .before in
+    let s = start (cornered l) in
+    sym (search-end (any-search (Bend s)) (F s) (l .loop .j) (omega arith) (l .loop .inv .2)) ∙ answer (cornered l)
 
 pub folds-at-spec : {M : Type 1} → statement M
 folds-at-spec =

@@ -1,4 +1,5 @@
--- `clash_fold::is_corner` meets its contract. Assumes nothing.
+-- `clash_fold::is_corner`: the loop keeps that what is left of the row decides, since no corner before is the point. Assumes
+-- nothing.
 use mathlib.Core.Bool.{Bool}
 use mathlib.Core.Path.{_∙_, _≡_, ap, refl, sym}
 use Prim.Native.Nat.{_-_, _≤_}
@@ -12,8 +13,7 @@ use Rattle.paper.specs.Clash.{isCorner}
 use Rattle.paper.specs.Points.{origin, samePoint}
 use Rattle.paper.specs.Polygon.{Polygon}
 use Rattle.polygon.specs.Rings.{cornerOf, ring}
-use Rattle.polygon.proofs.Rows.{corner-small, ring-length}
-use Rattle.polygon.proofs.Sizes.{small-eq}
+use Rattle.polygon.proofs.Rows.{ring-length, corner-in, corner-near}
 use Rattle.clash_fold.proofs.is_corner.Statement.{statement}
 use Rattle.clash_fold.proofs.is_corner.Tie as tie
 
@@ -23,33 +23,49 @@ Inv-loop xyz table r p n j₀ j = (j ≤ n) × (n ≡ length (ring xyz table r))
 abbrev μ-loop : tie.MeasureT-loop
 μ-loop xyz table r p n j₀ j = n - j
 
+-- ---- the ways back
+
+abbrev start : tie.At-loop Inv-loop μ-loop → tie.Start Inv-loop μ-loop
+start c = c .before .before .before
+
+abbrev turn : tie.After-corner Inv-loop μ-loop → tie.At-loop Inv-loop μ-loop
+turn c = c .before .before
+
+abbrev tested : tie.After-same-point Inv-loop μ-loop → tie.At-loop Inv-loop μ-loop
+tested c = turn (c .before)
+
 abbrev R : tie.Start Inv-loop μ-loop → Polygon
 R c = ring (now (c .args .xyz)) (now (c .args .table)) (c .args .r)
 
+-- the code's test of corner j
 here : (c : tie.After-same-point Inv-loop μ-loop) {b : Bool} → c .same-point .result ≡ b
-    → samePoint (c .before .before .before .before .before .before .args .p) (cornerOf (R (c .before .before .before .before .before .before)) (c .before .before .before .loop .j)) ≡ b
-here c e = ap (samePoint (c .before .before .before .before .before .before .args .p)) (sym (c .before .corner .ensures)) ∙ sym (c .same-point .ensures) ∙ e
+    → let l = tested c in
+    let s = start l in samePoint (s .args .p) (cornerOf (R s) (l .loop .j)) ≡ b
+here c e = ap (samePoint (start (tested c) .args .p)) (sym (c .before .corner .ensures)) ∙ sym (c .same-point .ensures) ∙ e
+
+-- ---- the needs
 
 count-requires : tie.Need-count-requires Inv-loop μ-loop
 count-requires c κs = omega arith
 
 loop-holds : tie.Need-loop-holds Inv-loop μ-loop
-loop-holds c = (omega arith, c .count .ensures ∙ sym (ring-length (c .before .before .pre .0)), refl)
+loop-holds c = (omega arith, c .count .ensures ∙ sym (ring-length (c .before .before .pre .row)), refl)
 
 corner-requires : tie.Need-corner-requires Inv-loop μ-loop
-corner-requires c κs = (c .before .before .before .before .pre .0, omega arith)
+corner-requires c κs = corner-in (start (c .before) .pre .row) _ (omega arith)
 
 same-point-requires : tie.Need-same-point-requires Inv-loop μ-loop
 same-point-requires c κs =
-    let p = c .before .before .before .before .before in
-    (p .pre .1, small-eq (c .corner .ensures) (corner-small (p .pre .0) _))
+    let s = start (turn c) .pre in
+    record { a-in = s .p-in; b-in = corner-near (s .row) _ (c .corner .ensures) }
 
 returns : tie.Need-returns Inv-loop μ-loop
 unfolding isCorner
 returns c =
-    let s = c .before .before .before .before .before .before .before in
-    let a = c .before .before .before .before in
-    sym (ring-hit (any-search (samePoint (s .args .p))) (R s) (a .loop .j) origin (omega arith) (a .loop .inv .2) (here (c .before) (c .if1 .taken)))
+    let l = tested (c .before) in
+    let s = start l in
+    let same = here (c .before) (c .if1 .taken) in
+    sym (ring-hit (any-search (samePoint (s .args .p))) (R s) (l .loop .j) origin (omega arith) (l .loop .inv .2) same)
 
 add-j : tie.Need-add-j Inv-loop μ-loop
 add-j c = omega arith
@@ -59,16 +75,18 @@ loop-less c = omega arith
 
 loop-again : tie.Need-loop-again Inv-loop μ-loop
 loop-again c =
-    let s = c .before .before .before .before .before .before .before in
-    let a = c .before .before .before .before in
-    (omega arith, a .loop .inv .1, ring-miss (any-search (samePoint (s .args .p))) (R s) (a .loop .j) origin (omega arith) (a .loop .inv .2) (here (c .before) (c .if1 .left)))
+    let l = tested (c .before) in
+    let s = start l in
+    let other = here (c .before) (c .if1 .left) in
+    let left = ring-miss (any-search (samePoint (s .args .p))) (R s) (l .loop .j) origin (omega arith) (l .loop .inv .2) other in
+    (omega arith, l .loop .inv .1, left)
 
 returns-2 : tie.Need-returns-2 Inv-loop μ-loop
 unfolding isCorner
 returns-2 c =
-    let s = c .before .before .before .before in
-    let a = c .before in
-    sym (search-end (any-search (samePoint (s .args .p))) (R s) (a .loop .j) (omega arith) (a .loop .inv .2))
+    let l = c .before in
+    let s = start l in
+    sym (search-end (any-search (samePoint (s .args .p))) (R s) (l .loop .j) (omega arith) (l .loop .inv .2))
 
 pub is-corner-spec : {M : Type 1} → statement M
 is-corner-spec =

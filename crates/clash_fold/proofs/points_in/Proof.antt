@@ -1,7 +1,9 @@
--- `clash_fold::points_in` meets its contract. Assumes nothing.
+-- `clash_fold::points_in`: the loop keeps that what is left of the corners decides, and that a and p are corners j and j + 1.
+-- Assumes nothing.
+use Rattle.paper.specs.declared.Point.{Point}
 use mathlib.Core.Bool.{Bool, _&&_}
 use mathlib.Core.Path.{_∙_, _≡_, ap, refl, sym}
-use Prim.Native.Nat.{_+_, _-_, _≤_}
+use Prim.Native.Nat.{_+_, _-_, _≤_, ℕ}
 use native.Mathlib.Omega.{arith}
 use lib.ListN.{length}
 use denote.Ref.{now}
@@ -13,28 +15,70 @@ use Rattle.paper.specs.Polygon.{Polygon}
 use Rattle.polygon.specs.Rings.{cornerOf, ring}
 use Rattle.clash_fold.proofs.Angles.{TurnsLeft, turns-end, turns-hit, turns-miss, turnsHere}
 use Rattle.polygon.proofs.Planes.{face-normal}
-use Rattle.polygon.proofs.Rows.{corner-small, ring-least, ring-length}
+use Rattle.polygon.proofs.Rows.{ring-least, ring-length, corner-in, corner-near}
 use Rattle.polygon.proofs.Sizes.{minus-small, small-eq}
 use Rattle.clash_fold.proofs.points_in.Statement.{statement}
 use Rattle.clash_fold.proofs.points_in.Tie as tie
 
+-- what the loop keeps: at no corner before does w point inside the angle at u, and a and p are corners j and j + 1
+record Turned (m u w : Point) (g : Polygon) (n : ℕ) (a p : Point) (j : ℕ) : Type 0 where
+  pub not-past : j ≤ n
+  pub whole : n ≡ length g
+  pub left : TurnsLeft m u w g j
+  pub a-is : a ≡ cornerOf g j
+  pub p-is : p ≡ cornerOf g (j + 1)
+
 abbrev Inv-loop : tie.InvT-loop
-Inv-loop xyz table r m u n w a₀ p₀ j₀ a p j = (j ≤ n) × (n ≡ length (ring xyz table r)) × TurnsLeft m u w (ring xyz table r) j × (a ≡ cornerOf (ring xyz table r) j) × (p ≡ cornerOf (ring xyz table r) (j + 1))
+Inv-loop xyz table r m u n w a₀ p₀ j₀ a p j = Turned m u w (ring xyz table r) n a p j
 
 abbrev μ-loop : tie.MeasureT-loop
 μ-loop xyz table r m u n w a₀ p₀ j₀ a p j = n - j
 
+-- ---- the ways back
+
+abbrev aimed : tie.At-loop Inv-loop μ-loop → tie.After-minus Inv-loop μ-loop
+aimed c = c .before .before .before
+
+abbrev start : tie.After-minus Inv-loop μ-loop → tie.Start Inv-loop μ-loop
+start c = c .before .before .before
+
+abbrev turn : tie.After-corner3 Inv-loop μ-loop → tie.At-loop Inv-loop μ-loop
+turn c = c .before .before
+
+abbrev tested : tie.After-turns-at Inv-loop μ-loop → tie.At-loop Inv-loop μ-loop
+tested c = turn (c .before)
+
+-- ---- the row, the direction, and the code's test of corner j + 1
+
 abbrev R : tie.Start Inv-loop μ-loop → Polygon
 R c = ring (now (c .args .xyz)) (now (c .args .table)) (c .args .r)
 
+two : (c : tie.Start Inv-loop μ-loop) → 2 ≤ length (R c)
+two c = omega (arith, ring-least (c .pre .face .row))
+
 here : (c : tie.After-turns-at Inv-loop μ-loop) {b : Bool} → c .turns-at .result ≡ b
-    → turnsHere (c .before .before .before .before .before .before .before .before .before .args .m) (c .before .before .before .before .before .before .before .before .before .args .u) (c .before .before .before .before .before .before .minus .result) (R (c .before .before .before .before .before .before .before .before .before)) (c .before .before .before .loop .j) ≡ b
+    → let l = tested c in
+    let s = start (aimed l) in turnsHere (s .args .m) (s .args .u) (aimed l .minus .result) (R s) (l .loop .j) ≡ b
 here c e =
-    let s = c .before .before .before .before .before .before .before .before .before in
-    let l = c .before .before .before .loop in
-    let w = c .before .before .before .before .before .before .minus .result in
-    (λ i. samePoint (sym (l .inv .4) i) (s .args .u) && inAngle (s .args .m) (sym (l .inv .3) i) (sym (l .inv .4) i) (sym (c .before .corner3 .ensures) i) w)
-    ∙ sym (c .turns-at .ensures) ∙ e
+    let l = tested c in
+    let a = start (aimed l) .args in
+    let w = aimed l .minus .result in
+    let p = sym (l .loop .inv .p-is) in
+    let q = sym (l .loop .inv .a-is) in
+    let b = sym (c .before .corner3 .ensures) in
+    (λ i. samePoint (p i) (a .u) && inAngle (a .m) (q i) (p i) (b i) w) ∙ sym (c .turns-at .ensures) ∙ e
+
+-- what is found with the code's normal and direction is the answer
+answer : (c : tie.After-minus Inv-loop μ-loop)
+    → let s = start c in
+    let u = s .args .u in
+    anyTrue (sides (turnsAt (s .args .m) u (c .minus .result)) (sides to (R s))) ≡ pointsIn (R s) u (s .args .v)
+unfolding pointsIn
+answer c =
+    let s = start c in
+    λ i. anyTrue (sides (turnsAt (s .pre .face .across i) (s .args .u) (c .minus .ensures i)) (sides to (R s)))
+
+-- ---- the needs
 
 count-requires : tie.Need-count-requires Inv-loop μ-loop
 count-requires c κs = omega arith
@@ -43,48 +87,55 @@ minus-requires : tie.Need-minus-requires Inv-loop μ-loop
 minus-requires c κs = search needs
 
 corner-requires : tie.Need-corner-requires Inv-loop μ-loop
-corner-requires c κs =
-    let p = c .before .before .before in
-    (p .pre .0 .row, omega (arith, ring-least (p .pre .0 .row)))
+corner-requires c κs = corner-in (start c .pre .face .row) _ (omega arith)
 
 corner-requires-2 : tie.Need-corner-requires-2 Inv-loop μ-loop
-corner-requires-2 c κs =
-    let p = c .before .before .before .before in
-    (p .pre .0 .row, omega (arith, ring-least (p .pre .0 .row)))
+corner-requires-2 c κs = corner-in (start (c .before) .pre .face .row) _ (omega arith)
 
 loop-holds : tie.Need-loop-holds Inv-loop μ-loop
-loop-holds c = (omega arith, c .before .before .before .count .ensures ∙ sym (ring-length (c .before .before .before .before .before .pre .0 .row)), refl, c .before .corner .ensures, c .corner2 .ensures)
+loop-holds c =
+    let w = c .before .before in
+    record {
+      not-past = omega arith;
+      whole = w .before .count .ensures ∙ sym (ring-length (start w .pre .face .row));
+      left = refl;
+      a-is = c .before .corner .ensures;
+      p-is = c .corner2 .ensures;
+    }
 
 add-corner : tie.Need-add-corner Inv-loop μ-loop
 add-corner c = omega arith
 
 corner-requires-3 : tie.Need-corner-requires-3 Inv-loop μ-loop
-corner-requires-3 c κs =
-    let p = c .before .before .before .before .before .before .before in
-    (p .pre .0 .row, omega (arith, ring-least (p .pre .0 .row)))
+corner-requires-3 c κs = corner-in (start (aimed (c .before)) .pre .face .row) _ (omega arith)
 
 turns-at-requires : tie.Need-turns-at-requires Inv-loop μ-loop
 turns-at-requires c κs =
-    let s = c .before .before .before .before .before .before .before .before in
-    let l = c .before .before .loop in
-    let near = corner-small (s .pre .0 .row) in (
-      face-normal (s .pre .0),
-      s .pre .1,
-      small-eq (c .before .before .before .before .before .minus .ensures) (minus-small (s .pre .2) (s .pre .1)),
-      small-eq (l .inv .3) (near _),
-      small-eq (l .inv .4) (near _),
-      small-eq (c .corner3 .ensures) (near _),
-    )
+    let l = turn c in
+    let w = aimed l in
+    let s = start w .pre in
+    let row = s .face .row in
+    record {
+      angle =
+          record {
+            m-in = face-normal (s .face);
+            a-in = corner-near row _ (l .loop .inv .a-is);
+            p-in = corner-near row _ (l .loop .inv .p-is);
+            b-in = corner-near row _ (c .corner3 .ensures);
+            w-in = small-eq (w .minus .ensures) (minus-small (s .v-in) (s .u-in));
+          };
+      u-in = s .u-in;
+    }
 
 returns : tie.Need-returns Inv-loop μ-loop
-unfolding pointsIn
 returns c =
-    let p = c .before .before .before .before .before .before .before in
-    let s = c .before .before .before .before .before .before .before .before .before .before in
-    let l = c .before .before .before .before .loop in
-    let two : 2 ≤ length (R s) = omega (arith, ring-least (s .pre .0 .row)) in
-    sym (turns-hit (s .args .m) (s .args .u) (p .minus .result) (R s) (l .j) two (omega arith) (l .inv .2) (here (c .before) (c .if1 .taken)))
-    ∙ (λ i. anyTrue (sides (turnsAt (s .pre .0 .across i) (s .args .u) (p .minus .ensures i)) (sides to (R s))))
+    let l = tested (c .before) in
+    let w = aimed l in
+    let s = start w in
+    let k = l .loop in
+    let inside = here (c .before) (c .if1 .taken) in
+    sym (turns-hit (s .args .m) (s .args .u) (w .minus .result) (R s) (k .j) (two s) (omega arith) (k .inv .left) inside)
+    ∙ answer w
 
 add-j : tie.Need-add-j Inv-loop μ-loop
 add-j c = omega arith
@@ -94,25 +145,28 @@ loop-less c = omega arith
 
 loop-again : tie.Need-loop-again Inv-loop μ-loop
 loop-again c =
-    let s = c .before .before .before .before .before .before .before .before .before .before in
-    let l = c .before .before .before .before .loop in
-    let two : 2 ≤ length (R s) = omega (arith, ring-least (s .pre .0 .row)) in
-    let after : l .j + 2 ≡ l .j + 1 + 1 = omega arith in (
-      omega arith,
-      l .inv .1,
-      turns-miss (s .args .m) (s .args .u) (c .before .before .before .before .before .before .before .minus .result) (R s) (l .j) two (omega arith) (l .inv .2) (here (c .before) (c .if1 .left)),
-      l .inv .4,
-      c .before .before .corner3 .ensures ∙ ap (cornerOf (R s)) after,
-    )
+    let l = tested (c .before) in
+    let w = aimed l in
+    let s = start w in
+    let k = l .loop in
+    let outside = here (c .before) (c .if1 .left) in
+    let after : k .j + 2 ≡ k .j + 1 + 1 = omega arith in
+    record {
+      not-past = omega arith;
+      whole = k .inv .whole;
+      left =
+          turns-miss (s .args .m) (s .args .u) (w .minus .result) (R s) (k .j) (two s) (omega arith) (k .inv .left) outside;
+      a-is = k .inv .p-is;
+      p-is = c .before .before .corner3 .ensures ∙ ap (cornerOf (R s)) after;
+    }
 
 returns-2 : tie.Need-returns-2 Inv-loop μ-loop
-unfolding pointsIn
 returns-2 c =
-    let p = c .before .before .before .before in
-    let s = c .before .before .before .before .before .before .before in
-    let l = c .before .loop in
-    sym (turns-end (s .args .m) (s .args .u) (p .minus .result) (R s) (l .j) (omega arith) (l .inv .2))
-    ∙ (λ i. anyTrue (sides (turnsAt (s .pre .0 .across i) (s .args .u) (p .minus .ensures i)) (sides to (R s))))
+    let l = c .before in
+    let w = aimed l in
+    let s = start w in
+    sym (turns-end (s .args .m) (s .args .u) (w .minus .result) (R s) (l .loop .j) (omega arith) (l .loop .inv .left))
+    ∙ answer w
 
 pub points-in-spec : {M : Type 1} → statement M
 points-in-spec =

@@ -1,10 +1,14 @@
--- `clash_fold::turns_at` meets its contract. Assumes nothing.
+-- `clash_fold::turns_at`: the angle is asked only at the point, as `&&` does. Assumes nothing.
 use mathlib.Core.Bool.{Bool, _&&_}
 use mathlib.Core.Path.{_∙_, ap, sym}
 use borrow.Author.Needs.{needs}
 use Rattle.paper.specs.Clash.{inAngle}
 use Rattle.clash_fold.proofs.turns_at.Statement.{statement}
 use Rattle.clash_fold.proofs.turns_at.Tie as tie
+
+-- the answer, where the corner is at the point or not
+abbrev answer : tie.Start → Bool → Bool
+answer c b = let a = c .args in b && inAngle (a .m) (a .a) (a .p) (a .b) (a .w)
 
 same-point-requires : tie.Need-same-point-requires
 same-point-requires c κs = search needs
@@ -14,13 +18,14 @@ in-angle-requires c κs = search needs
 
 returns : tie.Need-returns
 returns c =
-    let s = c .before .before .before in
-    c .in-angle .ensures ∙ ap (λ (b : Bool). b && inAngle (s .args .m) (s .args .a) (s .args .p) (s .args .b) (s .args .w)) (sym (c .before .if1 .taken) ∙ c .before .before .same-point .ensures)
+    let t = c .before in
+    let p = t .before in
+    c .in-angle .ensures ∙ ap (answer (p .before)) (sym (t .if1 .taken) ∙ p .same-point .ensures)
 
 returns-2 : tie.Need-returns-2
 returns-2 c =
-    let s = c .before .before in
-    ap (λ (b : Bool). b && inAngle (s .args .m) (s .args .a) (s .args .p) (s .args .b) (s .args .w)) (sym (c .if1 .left) ∙ c .before .same-point .ensures)
+    let p = c .before in
+    ap (answer (p .before)) (sym (c .if1 .left) ∙ p .same-point .ensures)
 
 pub turns-at-spec : {M : Type 1} → statement M
 turns-at-spec = tie.close (tie.spec same-point-requires in-angle-requires returns returns-2)

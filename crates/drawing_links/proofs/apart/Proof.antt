@@ -1,4 +1,4 @@
--- `drawing_links::apart` meets its contract. Assumes nothing.
+-- `drawing_links::apart`: the loop keeps that what is left to search holds the whole answer. Assumes nothing.
 use mathlib.Core.List.{[]}
 use mathlib.Core.Bool.{Bool, false, not}
 use mathlib.Core.Path.{_∙_, _≡_, ap, sym}
@@ -26,14 +26,29 @@ Inv-loop near v set w₀ w = (w ≤ v) × ((d : Wire) → Links near v d → Low
 abbrev μ-loop : tie.MeasureT-loop
 μ-loop near v set w₀ w = v - w
 
+-- ---- the ways back
+
+abbrev start : tie.At-loop Inv-loop μ-loop → tie.Start Inv-loop μ-loop
+start c = c .before .before
+
+abbrev turn : tie.After-is-set Inv-loop μ-loop → tie.At-loop Inv-loop μ-loop
+turn c = c .before .before
+
+-- the code's test of vertex w
 here : (c : tie.After-is-set Inv-loop μ-loop) {b : Bool} → not (c .is-set .result) ≡ b
-    → (d : Wire) → Links (now (c .before .before .before .before .args .near)) (c .before .before .before .before .args .v) d → Missing d (c .before .before .before .before .args .v) (c .before .before .loop .w) ≡ b
-here c e d k = ap not (sym (c .is-set .ensures ∙ digit-bits 64 _ _ (omega arith) ∙ c .before .before .before .vertices-reached .ensures d k (c .before .before .loop .w) (omega arith))) ∙ e
+    → let a = start (turn c) .args in
+    (d : Wire) → Links (now (a .near)) (a .v) d → Missing d (a .v) (turn c .loop .w) ≡ b
+here c e d k =
+    let l = turn c in
+    let reached = l .before .vertices-reached .ensures d k (l .loop .w) (omega arith) in
+    ap not (sym (c .is-set .ensures ∙ digit-bits 64 _ _ (omega arith) ∙ reached)) ∙ e
 
 -- the answer, by the count of vertices
 answer : (d : Wire) {v : ℕ} → length (d .vertices) ≡ v → lowest (Missing d v) v ≡ apart d
 unfolding apart
 answer d e = ap (λ (n : ℕ). lowest (Missing d n) n) (sym e)
+
+-- ---- the needs
 
 vertices-reached-requires : tie.Need-vertices-reached-requires Inv-loop μ-loop
 vertices-reached-requires c κs = omega arith
@@ -49,9 +64,13 @@ refused-requires c κs = search needs
 
 returns : tie.Need-returns Inv-loop μ-loop
 returns c =
-    let v = c .before .before .before .before .before .before .args .v in
-    let l = c .before .before .before .before .loop in
-    λ d k. c .refused .ensures ∙ stops Apart [] (sym (sym (answer d (k .count)) ∙ lowest-hit (Missing d v) v (l .w) (omega arith) (l .inv .1 d k) (here (c .before .before) (c .before .if1 .taken) d k)))
+    let f = c .before .before in
+    let l = turn f in
+    let v = start l .args .v in
+    λ d k.
+    let missing = here f (c .before .if1 .taken) d k in
+    let hit = lowest-hit (Missing d v) v (l .loop .w) (omega arith) (l .loop .inv .1 d k) missing in
+    c .refused .ensures ∙ stops Apart [] (sym (sym (answer d (k .count)) ∙ hit))
 
 add-w : tie.Need-add-w Inv-loop μ-loop
 add-w c = omega arith
@@ -61,15 +80,18 @@ loop-less c = omega arith
 
 loop-again : tie.Need-loop-again Inv-loop μ-loop
 loop-again c =
-    let v = c .before .before .before .before .before .args .v in
-    let l = c .before .before .before .loop in
-    (omega arith, λ d k. lowest-miss (Missing d v) v (l .w) (omega arith) (l .inv .1 d k) (here (c .before) (c .if1 .left) d k))
+    let f = c .before in
+    let l = turn f in
+    let v = start l .args .v in
+    (omega arith, λ d k. lowest-miss (Missing d v) v (l .loop .w) (omega arith) (l .loop .inv .1 d k) (here f (c .if1 .left) d k))
 
 returns-2 : tie.Need-returns-2 Inv-loop μ-loop
 returns-2 c =
-    let v = c .before .before .before .args .v in
-    let l = c .before .loop in
-    λ d k. clear ∙ passes Apart [] (sym (sym (answer d (k .count)) ∙ lowest-end (Missing d v) v (l .w) (omega arith) (l .inv .1 d k)))
+    let l = c .before in
+    let v = start l .args .v in
+    λ d k.
+    let none = lowest-end (Missing d v) v (l .loop .w) (omega arith) (l .loop .inv .1 d k) in
+    clear ∙ passes Apart [] (sym (sym (answer d (k .count)) ∙ none))
 
 pub apart-spec : {M : Type 1} → statement M
 apart-spec =

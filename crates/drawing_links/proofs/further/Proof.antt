@@ -1,5 +1,5 @@
--- `drawing_links::further` meets its contract. Assumes nothing.
-use mathlib.Core.Bool.{Bool, _&&_, _||_, false, true, or-assoc, or-false}
+-- `drawing_links::further`: the loop keeps that `more` has the set and what the first u vertices of it lead to. Assumes nothing.
+use mathlib.Core.Bool.{Bool, _&&_, _||_, false, or-assoc, or-false}
 use mathlib.Core.List.{List}
 use mathlib.Core.Logic.{⊎-elim}
 use mathlib.Core.Path.{_∙_, _≡_, ap, sym}
@@ -28,26 +28,51 @@ Inv-loop near v set more₀ u₀ more u =
 abbrev μ-loop : tie.MeasureT-loop
 μ-loop near v set more₀ u₀ more u = v - u
 
--- the sets before and after vertex u, by the digit w
-grows : (c : tie.Joined1 Inv-loop μ-loop) (d : Wire) → Links (now (c .before .before .before .before .args .near)) (c .before .before .before .before .args .v) d → (w : ℕ)
-    → digit (c .if1 .more) w ≡ (digit (c .before .before .before .before .args .set) w || (any (Leads (c .before .before .before .before .args .set) d w) (take (c .before .before .before .loop .u) (upto (c .before .before .before .before .args .v))) || Leads (c .before .before .before .before .args .set) d w (c .before .before .before .loop .u)))
+-- ---- the ways back
+
+abbrev turn : tie.Joined1 Inv-loop μ-loop → tie.At-loop Inv-loop μ-loop
+turn c = c .before .before .before
+
+-- the vertices before u that lead to w
+abbrev before-u : tie.At-loop Inv-loop μ-loop → Wire → ℕ → Bool
+before-u c d w = let a = c .before .args in any (Leads (a .set) d w) (take (c .loop .u) (upto (a .v)))
+
+-- ---- the set before vertex u and after it, by the digit w
+
+-- what `is_set` said of u
+said : (c : tie.After-is-set Inv-loop μ-loop) {b : Bool} → c .is-set .result ≡ b
+    → let l = c .before .before in digit (l .before .args .set) (l .loop .u) ≡ b
+said c e =
+    let l = c .before .before in
+    sym (c .is-set .ensures ∙ digit-bits 64 (l .before .args .set) (l .loop .u) (omega arith)) ∙ e
+
+grows : (c : tie.Joined1 Inv-loop μ-loop) (d : Wire)
+    → let l = turn c in
+    let a = l .before .args in
+    Links (now (a .near)) (a .v) d → (w : ℕ)
+    → digit (c .if1 .more) w ≡ (digit (a .set) w || (before-u l d w || Leads (a .set) d w (l .loop .u)))
 grows c d k w =
-    let s = c .before .before .before .before in
-    let l = c .before .before .before .loop in
-    let set = s .args .set in
-    let A = any (Leads set d w) (take (l .u) (upto (s .args .v))) in
-    let u< : l .u < s .args .v = omega arith in
+    let l = turn c .loop in
+    let a = turn c .before .args in
+    let old = digit (a .set) w in
+    let some = before-u (turn c) d w in
+    let near = joined d (l .u) w in
+    let u< : l .u < a .v = omega arith in
     ⊎-elim
     (λ t.
-    let in-set : digit set (l .u) ≡ true = sym (c .before .is-set .ensures ∙ digit-bits 64 set (l .u) (omega arith)) ∙ t .0 .taken in
-    ap (λ (m : ℕ). digit m w) (t .2) ∙ digit-or (l .more) (getD (now (s .args .near)) (l .u) 0) w
-    ∙ (λ i. l .inv .1 d k w i || k .joins (l .u) u< w i) ∙ or-assoc (digit set w) A (joined d (l .u) w)
-    ∙ ap (λ (b : Bool). digit set w || (A || (b && joined d (l .u) w))) (sym in-set))
+    ap (λ (m : ℕ). digit m w) (t .2)
+    ∙ digit-or (l .more) (getD (now (a .near)) (l .u) 0) w
+    ∙ (λ i. l .inv .1 d k w i || k .joins (l .u) u< w i)
+    ∙ or-assoc old some near
+    ∙ ap (λ (b : Bool). old || (some || (b && near))) (sym (said (c .before) (t .0 .taken))))
     (λ t.
-    let not-in-set : digit set (l .u) ≡ false = sym (c .before .is-set .ensures ∙ digit-bits 64 set (l .u) (omega arith)) ∙ t .0 .left in
-    ap (λ (m : ℕ). digit m w) (t .1) ∙ l .inv .1 d k w ∙ ap (λ (b : Bool). digit set w || b) (sym (or-false A))
-    ∙ ap (λ (b : Bool). digit set w || (A || (b && joined d (l .u) w))) (sym not-in-set))
+    ap (λ (m : ℕ). digit m w) (t .1)
+    ∙ l .inv .1 d k w
+    ∙ ap (λ (b : Bool). old || b) (sym (or-false some))
+    ∙ ap (λ (b : Bool). old || (some || (b && near))) (sym (said (c .before) (t .0 .left))))
     (c .if1 .came)
+
+-- ---- the needs
 
 loop-holds : tie.Need-loop-holds Inv-loop μ-loop
 unfolding any
@@ -70,16 +95,22 @@ loop-less c = omega arith
 
 loop-again : tie.Need-loop-again Inv-loop μ-loop
 loop-again c =
-    let s = c .before .before .before .before in
-    let l = c .before .before .before .loop in
-    (omega arith, λ d k w. grows (c) d k w ∙ ap (λ (b : Bool). digit (s .args .set) w || b) (sym (any-below-more (Leads (s .args .set) d w) (s .args .v) (l .u) (omega arith))))
+    let u = turn c .loop .u in
+    let a = turn c .before .args in (
+      omega arith,
+      λ d k w.
+          let one = sym (any-below-more (Leads (a .set) d w) (a .v) u (omega arith)) in
+          grows c d k w ∙ ap (λ (b : Bool). digit (a .set) w || b) one,
+    )
 
 returns : tie.Need-returns Inv-loop μ-loop
 returns c =
-    let s = c .before .before in
     let l = c .before .loop in
-    let e : l .u ≡ length (upto (s .args .v)) = omega (arith, upto-length (s .args .v)) in
-    λ d k w. l .inv .1 d k w ∙ ap (λ (us : List ℕ). digit (s .args .set) w || any (Leads (s .args .set) d w) us) (ap (λ (n : ℕ). take n (upto (s .args .v))) e ∙ take-length (upto (s .args .v)))
+    let a = c .before .before .args in
+    let us = upto (a .v) in
+    let e : l .u ≡ length us = omega (arith, upto-length (a .v)) in
+    let all = ap (λ (n : ℕ). take n us) e ∙ take-length us in
+    λ d k w. l .inv .1 d k w ∙ ap (λ (l : List ℕ). digit (a .set) w || any (Leads (a .set) d w) l) all
 
 pub further-spec : {M : Type 1} → statement M
 further-spec =

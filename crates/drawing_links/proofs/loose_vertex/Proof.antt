@@ -1,4 +1,4 @@
--- `drawing_links::loose_vertex` meets its contract. Assumes nothing.
+-- `drawing_links::loose_vertex`: the loop keeps that what is left to search holds the whole answer. Assumes nothing.
 use mathlib.Core.List.{[]}
 use mathlib.Core.Bool.{Bool, not}
 use mathlib.Core.Path.{_∙_, ap, sym}
@@ -25,6 +25,9 @@ Inv-loop near v u₀ u = (u ≤ v) × ((d : Wire) → Links near v d → LowestL
 abbrev μ-loop : tie.MeasureT-loop
 μ-loop near v u₀ u = v - u
 
+abbrev turn : tie.After-if12 Inv-loop μ-loop → tie.At-loop Inv-loop μ-loop
+turn c = c .before .before
+
 loop-holds : tie.Need-loop-holds Inv-loop μ-loop
 loop-holds c = (omega arith, λ d k. lowest-start (Loose d) _)
 
@@ -40,8 +43,13 @@ refused-requires c κs = search needs
 returns : tie.Need-returns Inv-loop μ-loop
 unfolding looseVertex
 returns c =
-    let l = c .before .before .before .before .loop in
-    λ d k. c .refused .ensures ∙ stops LooseVertex [] (sym (ap (lowest (Loose d)) (k .count) ∙ lowest-hit (Loose d) (c .before .before .before .before .before .args .v) (l .u) (omega arith) (l .inv .1 d k) (sym (loose-is k (l .u) (omega arith)) ∙ eq-eqb _ 0 (c .before .if1 .taken))))
+    let t = c .before in
+    let l = turn (t .before) .loop in
+    let v = turn (t .before) .before .args .v in
+    λ d k.
+    let loose = sym (loose-is k (l .u) (omega arith)) ∙ eq-eqb _ 0 (t .if1 .taken) in
+    let hit = lowest-hit (Loose d) v (l .u) (omega arith) (l .inv .1 d k) loose in
+    c .refused .ensures ∙ stops LooseVertex [] (sym (ap (lowest (Loose d)) (k .count) ∙ hit))
 
 add-u : tie.Need-add-u Inv-loop μ-loop
 add-u c = omega arith
@@ -51,14 +59,22 @@ loop-less c = omega arith
 
 loop-again : tie.Need-loop-again Inv-loop μ-loop
 loop-again c =
-    let l = c .before .before .before .loop in
-    (omega arith, λ d k. lowest-miss (Loose d) (c .before .before .before .before .args .v) (l .u) (omega arith) (l .inv .1 d k) (sym (loose-is k (l .u) (omega arith)) ∙ ne-eqb _ 0 (c .if1 .left)))
+    let l = turn (c .before) .loop in
+    let v = turn (c .before) .before .args .v in (
+      omega arith,
+      λ d k.
+          let linked = sym (loose-is k (l .u) (omega arith)) ∙ ne-eqb _ 0 (c .if1 .left) in
+          lowest-miss (Loose d) v (l .u) (omega arith) (l .inv .1 d k) linked,
+    )
 
 returns-2 : tie.Need-returns-2 Inv-loop μ-loop
 unfolding looseVertex
 returns-2 c =
     let l = c .before .loop in
-    λ d k. clear ∙ passes LooseVertex [] (sym (ap (lowest (Loose d)) (k .count) ∙ lowest-end (Loose d) (c .before .before .args .v) (l .u) (omega arith) (l .inv .1 d k)))
+    let v = c .before .before .args .v in
+    λ d k.
+    let none = lowest-end (Loose d) v (l .u) (omega arith) (l .inv .1 d k) in
+    clear ∙ passes LooseVertex [] (sym (ap (lowest (Loose d)) (k .count) ∙ none))
 
 pub loose-vertex-spec : {M : Type 1} → statement M
 loose-vertex-spec =

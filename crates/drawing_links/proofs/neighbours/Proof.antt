@@ -1,4 +1,5 @@
--- `drawing_links::neighbours` meets its contract. Assumes nothing.
+-- `drawing_links::neighbours`: the loop keeps that the words say which vertices the first e edges join. Assumes nothing.
+use mathlib.Core.List.{List}
 use mathlib.Core.Bool.{_||_}
 use mathlib.Core.Path.{_∙_, _≡_, ap, refl, sym}
 use Prim.Native.Nat.{_*_, _+_, _-_, _<_, _≤_, ℕ}
@@ -17,39 +18,70 @@ use Rattle.drawing_links.proofs.Words.{marked, no-marks, words-are}
 use Rattle.drawing_links.proofs.neighbours.Statement.{statement}
 use Rattle.drawing_links.proofs.neighbours.Tie as tie
 
+-- what the loop keeps: the words say of each two vertices whether one of the first e edges joins them
+record Marked (ends : List ℕ) (n : ℕ) (near : List ℕ) (e : ℕ) : Type 0 where
+  pub not-past : e ≤ n
+  pub whole : n ≡ length (edgesOf ends)
+  pub room : length near ≡ editionOne .«most_vertices»
+  pub marks : (u w : ℕ) → digit (getD near u 0) w ≡ any (joins u w) (take e (edgesOf ends))
+
 abbrev Inv-loop : tie.InvT-loop
-Inv-loop ends v near₀ n e₀ near e =
-    (e ≤ n) × (n ≡ length (edgesOf ends)) × (length near ≡ editionOne .«most_vertices») × ((u w : ℕ) → digit (getD near u 0) w ≡ any (joins u w) (take e (edgesOf ends)))
+Inv-loop ends v near₀ n e₀ near e = Marked ends n near e
 
 abbrev μ-loop : tie.MeasureT-loop
 μ-loop ends v near₀ n e₀ near e = n - e
 
--- the ends of edge e are vertices
+-- ---- the ways back
+
+abbrev start : tie.At-loop Inv-loop μ-loop → tie.Start Inv-loop μ-loop
+start c = c .before .before
+
+abbrev turn : tie.After-wide Inv-loop μ-loop → tie.At-loop Inv-loop μ-loop
+turn c = c .before .before .before
+
+-- the first end was read before the second
+abbrev first : tie.After-wide2 Inv-loop μ-loop → tie.After-wide Inv-loop μ-loop
+first c = c .before .before
+
+-- ---- the ends of edge e are vertices
+
 a-low : (c : tie.After-wide Inv-loop μ-loop) → c .wide .result < editionOne .«most_vertices»
 a-low c =
-    let p = c .before .before .before .before .before .pre in
-    let low = p .1 .known (2 * c .before .before .before .loop .e) (omega (arith, edge-count (p .1), p .1 .whole)) in
-    omega (arith, c .wide .ensures)
+    let p = start (turn c) .pre in
+    let low = p .links .known (2 * turn c .loop .e) (omega (arith, edge-count (p .links), p .links .whole)) in
+    omega (arith, c .wide .ensures, p .most)
 
 b-low : (c : tie.After-wide2 Inv-loop μ-loop) → c .wide2 .result < editionOne .«most_vertices»
 b-low c =
-    let p = c .before .before .before .before .before .before .before .pre in
-    let low = p .1 .known (2 * c .before .before .before .before .before .loop .e + 1) (omega (arith, edge-count (p .1), p .1 .whole)) in
-    omega (arith, c .wide2 .ensures)
+    let l = turn (first c) in
+    let p = start l .pre in
+    let low = p .links .known (2 * l .loop .e + 1) (omega (arith, edge-count (p .links), p .links .whole)) in
+    omega (arith, c .wide2 .ensures, p .most)
+
+both-low : (c : tie.After-wide2 Inv-loop μ-loop)
+    → (first c .wide .result < editionOne .«most_vertices») × (c .wide2 .result < editionOne .«most_vertices»)
+both-low c = (a-low (first c), b-low c)
+
+-- ---- the needs
 
 loop-holds : tie.Need-loop-holds Inv-loop μ-loop
 unfolding any
 loop-holds c =
-    let p = c .before .pre .1 in
-    (omega arith, half-count p ∙ sym (edge-count p), refl, λ u w. no-marks (editionOne .«most_vertices») u w)
+    let p = c .before .pre .links in
+    record {
+      not-past = omega arith;
+      whole = half-count p ∙ sym (edge-count p);
+      room = refl;
+      marks = λ u w. no-marks (editionOne .«most_vertices») u w;
+    }
 
 mul-wide : tie.Need-mul-wide Inv-loop μ-loop
 mul-wide c = omega arith
 
 shared-slice-read-wide : tie.Need-shared-slice-read-wide Inv-loop μ-loop
 shared-slice-read-wide c =
-    let p = c .before .before .before .before in
-    omega (arith, edge-count (p .pre .1), p .pre .1 .whole)
+    let p = start (c .before .before) .pre .links in
+    omega (arith, edge-count p, p .whole)
 
 wide-requires : tie.Need-wide-requires Inv-loop μ-loop
 wide-requires c κs = search needs
@@ -62,41 +94,41 @@ add-wide c = omega arith
 
 shared-slice-read-wide-2 : tie.Need-shared-slice-read-wide-2 Inv-loop μ-loop
 shared-slice-read-wide-2 c =
-    let p = c .before .before .before .before .before .before in
-    omega (arith, edge-count (p .pre .1), p .pre .1 .whole)
+    let p = start (turn (c .before)) .pre .links in
+    omega (arith, edge-count p, p .whole)
 
 wide-requires-2 : tie.Need-wide-requires-2 Inv-loop μ-loop
 wide-requires-2 c κs = search needs
 
 mul-near : tie.Need-mul-near Inv-loop μ-loop
-mul-near c = omega (arith, a-low (c .before .before))
+mul-near c = omega (arith, both-low c)
 
 array-read-near : tie.Need-array-read-near Inv-loop μ-loop
-array-read-near c = omega (arith, a-low (c .before .before))
+array-read-near c = omega (arith, both-low c)
 
 shl-near : tie.Need-shl-near Inv-loop μ-loop
-shl-near c = omega (arith, b-low (c))
+shl-near c = omega (arith, both-low c)
 
 mul-near-2 : tie.Need-mul-near-2 Inv-loop μ-loop
-mul-near-2 c = omega (arith, a-low (c .before .before))
+mul-near-2 c = omega (arith, both-low c)
 
 array-write-near : tie.Need-array-write-near Inv-loop μ-loop
-array-write-near c = omega (arith, a-low (c .before .before))
+array-write-near c = omega (arith, both-low c)
 
 mul-near-3 : tie.Need-mul-near-3 Inv-loop μ-loop
-mul-near-3 c = omega (arith, b-low (c))
+mul-near-3 c = omega (arith, both-low c)
 
 array-read-near-2 : tie.Need-array-read-near-2 Inv-loop μ-loop
-array-read-near-2 c = omega (arith, b-low (c))
+array-read-near-2 c = omega (arith, both-low c)
 
 shl-near-2 : tie.Need-shl-near-2 Inv-loop μ-loop
-shl-near-2 c = omega (arith, a-low (c .before .before))
+shl-near-2 c = omega (arith, both-low c)
 
 mul-near-4 : tie.Need-mul-near-4 Inv-loop μ-loop
-mul-near-4 c = omega (arith, b-low (c))
+mul-near-4 c = omega (arith, both-low c)
 
 array-write-near-2 : tie.Need-array-write-near-2 Inv-loop μ-loop
-array-write-near-2 c = omega (arith, b-low (c))
+array-write-near-2 c = omega (arith, both-low c)
 
 add-e : tie.Need-add-e Inv-loop μ-loop
 add-e c = omega arith
@@ -106,29 +138,35 @@ loop-less c = omega arith
 
 loop-again : tie.Need-loop-again Inv-loop μ-loop
 loop-again c =
-    let p2 = c .before .before .before .before .before .before .before in
-    let p = p2 .pre .1 in
-    let l = c .before .before .before .before .before .loop in
-    let es = edgesOf (now (p2 .args .ends)) in
-    let a = c .before .before .wide .result in
+    let l = turn (first c) .loop in
+    let s = start (turn (first c)) in
+    let p = s .pre .links in
+    let es = edgesOf (now (s .args .ends)) in
+    let a = first c .wide .result in
     let b = c .wide2 .result in
-    let here : edge a b ≡ getD es (l .e) (edge 0 0) = (λ i. edge (c .before .before .wide .ensures i) (c .wide2 .ensures i)) ∙ sym (edge-is p (l .e) (omega (arith, edge-count p))) in
-    let a< : a < length (l .near) = omega (arith, a-low (c .before .before)) in
-    let b< : b < length (l .near) = omega (arith, b-low (c)) in (
-      omega arith,
-      l .inv .1,
-      simp length-set (l .inv .2),
-      λ u w. marked (l .near) a b u w a< b< (omega arith) ∙ (λ i. l .inv .3 u w i || joins u w (here i)) ∙ sym (any-more (joins u w) es (l .e) (edge 0 0) (omega arith)),
-    )
+    let here : edge a b ≡ getD es (l .e) (edge 0 0) =
+    (λ i. edge (first c .wide .ensures i) (c .wide2 .ensures i)) ∙ sym (edge-is p (l .e) (omega (arith, edge-count p))) in
+    let a< : a < length (l .near) = omega (arith, both-low c) in
+    let b< : b < length (l .near) = omega (arith, both-low c) in
+    record {
+      not-past = omega arith;
+      whole = l .inv .whole;
+      room = simp length-set (l .inv .room);
+      marks =
+          λ u w.
+          marked (l .near) a b u w a< b< (omega arith)
+          ∙ (λ i. l .inv .marks u w i || joins u w (here i))
+          ∙ sym (any-more (joins u w) es (l .e) (edge 0 0) (omega arith));
+    }
 
 returns : tie.Need-returns Inv-loop μ-loop
 returns c =
-    let p2 = c .before .before .before in
-    let p = p2 .pre .1 in
     let l = c .before .loop in
-    let es = edgesOf (now (p2 .args .ends)) in
+    let s = start (c .before) in
+    let es = edgesOf (now (s .args .ends)) in
     let e : l .e ≡ length es = omega arith in
-    words-are p (l .near) (l .inv .2) (λ u w. l .inv .3 u w ∙ ap (any (joins u w)) (ap (λ (n : ℕ). take n es) e ∙ take-length es))
+    let all = ap (λ (n : ℕ). take n es) e ∙ take-length es in
+    words-are (s .pre .links) (l .near) (l .inv .room) (λ u w. l .inv .marks u w ∙ ap (any (joins u w)) all)
 
 pub neighbours-spec : {M : Type 1} → statement M
 neighbours-spec =

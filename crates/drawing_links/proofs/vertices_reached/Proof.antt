@@ -1,4 +1,6 @@
--- `drawing_links::vertices_reached` meets its contract. Assumes nothing.
+-- `drawing_links::vertices_reached`: the loop keeps that the set is what k steps reach, and a step that adds nothing ends them all.
+-- Assumes nothing.
+use Rattle.drawing_links.specs.Reach.{Stands, Grown}
 use mathlib.Core.Bool.{false}
 use mathlib.Core.Path.{_∙_, _≡_, ap, sym}
 use Prim.Native.Nat.{_-_, _≤_, ℕ}
@@ -8,7 +10,7 @@ use lib.ListN.{getD, set}
 use Rattle.paper.specs.Drawing.{Wire, further, verticesReached}
 use Rattle.sets.specs.Word.{digit}
 use Rattle.drawing_links.specs.Neighbours.{Links}
-use Rattle.drawing_links.proofs.Reach.{Stands, reach-more, reach-rest, reach-start}
+use Rattle.drawing_links.proofs.Reach.{reach-more, reach-rest, reach-start}
 use Rattle.drawing_links.proofs.vertices_reached.Statement.{statement}
 use Rattle.drawing_links.proofs.vertices_reached.Tie as tie
 
@@ -18,6 +20,9 @@ Inv-loop near v set₀ k₀ set k = (k ≤ v) × ((d : Wire) → Links near v d 
 abbrev μ-loop : tie.MeasureT-loop
 μ-loop near v set₀ k₀ set k = v - k
 
+abbrev turn : tie.After-further Inv-loop μ-loop → tie.At-loop Inv-loop μ-loop
+turn c = c .before .before
+
 loop-holds : tie.Need-loop-holds Inv-loop μ-loop
 loop-holds c = (omega arith, λ d l. reach-start d _ (l .count))
 
@@ -26,8 +31,13 @@ further-requires c κs = omega arith
 
 returns : tie.Need-returns Inv-loop μ-loop
 returns c =
-    let p = c .before .before .before .loop in
-    λ d l. reach-rest d (c .before .before .before .before .args .v) (l .count) (p .set) (p .k) (omega arith) (p .inv .1 d l) (λ w. ap (λ (m : ℕ). digit m w) (sym (c .if1 .taken)) ∙ c .before .further .ensures d l w)
+    let f = c .before in
+    let p = turn f .loop in
+    let v = turn f .before .args .v in
+    λ d l.
+    let still : Grown (p .set) v d (p .set) =
+    λ w. ap (λ (m : ℕ). digit m w) (sym (c .if1 .taken)) ∙ f .further .ensures d l w in
+    reach-rest d v (l .count) (p .set) (p .k) (omega arith) (p .inv .1 d l) still
 
 add-k : tie.Need-add-k Inv-loop μ-loop
 add-k c = omega arith
@@ -38,10 +48,13 @@ loop-less c = omega arith
 loop-again : tie.Need-loop-again Inv-loop μ-loop
 unfolding verticesReached
 loop-again c =
-    let p = c .before .before .before .loop in (
+    let f = c .before .further in
+    let p = turn (c .before) .loop in
+    let v = turn (c .before) .before .args .v in (
       omega arith,
-      λ d l w h. reach-more d (c .before .before .before .before .args .v) (l .count) (p .set) (c .before .further .result) (verticesReached d (p .k)) (p .inv .1 d l) (c .before .further .ensures d l) w h
-          ∙ ap (λ (n : ℕ). getD (verticesReached d n) w false) (sym (add-one (p .k))),
+      λ d l w h.
+          let one = reach-more d v (l .count) (p .set) (f .result) (verticesReached d (p .k)) (p .inv .1 d l) (f .ensures d l) in
+          one w h ∙ ap (λ (n : ℕ). getD (verticesReached d n) w false) (sym (add-one (p .k))),
     )
 
 returns-2 : tie.Need-returns-2 Inv-loop μ-loop

@@ -1,4 +1,4 @@
--- `drawing_rules::drawing_rules` meets its contract. Assumes nothing.
+-- `drawing_rules::drawing_rules`: the four checks in number order, each asked where those before it pass. Assumes nothing.
 use mathlib.Core.List.{List, [], _∷_}
 use mathlib.Core.Path.{_∙_, _≡_, refl, subst, sym}
 use Prim.Native.Nat.{_/_, _≤_, ℕ}
@@ -36,13 +36,46 @@ ends-in c = subst (Ends (now (c .args .ends))) (counted c) (c .pre .links)
 few : (c : tie.Start) → N c ≤ editionOne .«most_vertices»
 few c = let h = c .pre .most in omega (arith, counted c)
 
-links : (c : tie.After-neighbours) → Links (c .neighbours .result) (N (c .before .before .before .before .before)) (D (c .before .before .before .before .before))
+-- ---- the ways back
+
+abbrev start : tie.After-enum-told2 → tie.Start
+start c = c .before .before .before .before
+
+-- 11 passes
+abbrev apart-places : tie.After-neighbours → tie.After-enum-told2
+apart-places c = c .before
+
+abbrev linked : tie.After-loose-vertex → tie.After-neighbours
+linked c = c .before .before
+
+-- 12 passes
+abbrev tied : tie.After-edge-meets → tie.After-enum-told4
+tied c = c .before
+
+abbrev loose-asked : tie.After-enum-told4 → tie.After-loose-vertex
+loose-asked c = c .before .before
+
+-- 13 passes
+abbrev unmet : tie.After-apart → tie.After-enum-told6
+unmet c = c .before .before
+
+abbrev meets-asked : tie.After-enum-told6 → tie.After-edge-meets
+meets-asked c = c .before .before
+
+abbrev begun : tie.After-loose-vertex → tie.Start
+begun c = start (apart-places (linked c))
+
+-- ---- the words that the code holds are those of the drawing
+
+links : (c : tie.After-neighbours) → let s = start (apart-places c) in Links (c .neighbours .result) (N s) (D s)
 unfolding wire
 links c =
-    let s = c .before .before .before .before .before in
-    subst (λ (l : List ℕ). Links l (N s) (D s)) (sym (c .neighbours .ensures)) (links-are (ends-in s) (few s) (vertex-count (points-in s)) refl)
+    let s = start (apart-places c) in
+    let known = links-are (ends-in s) (few s) (vertex-count (points-in s)) refl in
+    subst (λ (l : List ℕ). Links l (N s) (D s)) (sym (c .neighbours .ensures)) known
 
--- the checks, in number order
+-- ---- the checks, in number order, and the answer behind those that pass
+
 abbrev c11 : tie.Start → Check
 c11 c = check SamePlace (samePlace (D c))
 
@@ -55,18 +88,31 @@ c13 c = check EdgeMeets (edgeMeets (D c))
 abbrev c14 : tie.Start → Check
 c14 c = check Apart (apart (D c))
 
--- what passed
-passed-11 : (c : tie.After-enum-told2) → firstOf (c12 (c .before .before .before .before) ∷ c13 (c .before .before .before .before) ∷ c14 (c .before .before .before .before) ∷ []) ≡ firstOf (drawingChecks (D (c .before .before .before .before)))
+passed-11 : (c : tie.After-enum-told2)
+    → let s = start c in firstOf (c12 s ∷ c13 s ∷ c14 s ∷ []) ≡ firstOf (drawingChecks (D s))
 unfolding wire drawingChecks
 passed-11 c =
-    let s = c .before .before .before .before in
-    first-passes (c11 s ∷ []) (c12 s ∷ c13 s ∷ c14 s ∷ []) (sym (c .enum-told2 .given .1) ∙ c .before .before .same-place .ensures (D s) refl)
+    let s = start c in
+    let fine = sym (c .enum-told2 .given .1) ∙ c .before .before .same-place .ensures (D s) refl in
+    first-passes (c11 s ∷ []) (c12 s ∷ c13 s ∷ c14 s ∷ []) fine
 
-passed-12 : (c : tie.After-enum-told4) → firstOf (c13 (c .before .before .before .before .before .before .before .before .before) ∷ c14 (c .before .before .before .before .before .before .before .before .before) ∷ []) ≡ firstOf (drawingChecks (D (c .before .before .before .before .before .before .before .before .before)))
+passed-12 : (c : tie.After-enum-told4)
+    → let s = begun (loose-asked c) in firstOf (c13 s ∷ c14 s ∷ []) ≡ firstOf (drawingChecks (D s))
 passed-12 c =
-    let s = c .before .before .before .before .before .before .before .before .before in
-    first-passes (c12 s ∷ []) (c13 s ∷ c14 s ∷ []) (sym (c .enum-told4 .given .1) ∙ c .before .before .loose-vertex .ensures (D s) (links (c .before .before .before .before)))
-    ∙ passed-11 (c .before .before .before .before .before)
+    let l = loose-asked c in
+    let s = begun l in
+    let fine = sym (c .enum-told4 .given .1) ∙ l .loose-vertex .ensures (D s) (links (linked l)) in
+    first-passes (c12 s ∷ []) (c13 s ∷ c14 s ∷ []) fine ∙ passed-11 (apart-places (linked l))
+
+passed-13 : (c : tie.After-enum-told6)
+    → let s = begun (loose-asked (tied (meets-asked c))) in firstOf (c14 s ∷ []) ≡ firstOf (drawingChecks (D s))
+passed-13 c =
+    let m = meets-asked c in
+    let s = begun (loose-asked (tied m)) in
+    let fine = sym (c .enum-told6 .given .1) ∙ m .edge-meets .ensures in
+    first-passes (c13 s ∷ []) (c14 s ∷ []) fine ∙ passed-12 (tied m)
+
+-- ---- the needs
 
 same-place-requires : tie.Need-same-place-requires
 same-place-requires c κs = search needs
@@ -77,16 +123,16 @@ enum-told c = search needs
 returns : tie.Need-returns
 unfolding wire drawingChecks
 returns c =
-    let s = c .before .before .before .before in
-    c .enum-told .given .1 ∙ first-stops (c11 s ∷ []) (c12 s ∷ c13 s ∷ c14 s ∷ []) (sym (c .enum-told .given .1) ∙ c .before .before .same-place .ensures (D s) refl)
+    let a = c .before .before in
+    let s = a .before .before in
+    let told = c .enum-told .given .1 in
+    told ∙ first-stops (c11 s ∷ []) (c12 s ∷ c13 s ∷ c14 s ∷ []) (sym told ∙ a .same-place .ensures (D s) refl)
 
 enum-told-2 : tie.Need-enum-told-2
 enum-told-2 c = search needs
 
 neighbours-requires : tie.Need-neighbours-requires
-neighbours-requires c κs =
-    let p = c .before .before .before .before in
-    (few (p), ends-in (p))
+neighbours-requires c κs = record { most = few (start c); links = ends-in (start c) }
 
 loose-vertex-requires : tie.Need-loose-vertex-requires
 loose-vertex-requires c κs = search needs
@@ -96,24 +142,29 @@ enum-told-3 c = search needs
 
 returns-2 : tie.Need-returns-2
 returns-2 c =
-    let s = c .before .before .before .before .before .before .before .before .before in
-    c .enum-told3 .given .1 ∙ first-stops (c12 s ∷ []) (c13 s ∷ c14 s ∷ []) (sym (c .enum-told3 .given .1) ∙ c .before .before .loose-vertex .ensures (D s) (links (c .before .before .before .before))) ∙ passed-11 (c .before .before .before .before .before)
+    let l = c .before .before in
+    let s = begun l in
+    let told = c .enum-told3 .given .1 in
+    let loose = sym told ∙ l .loose-vertex .ensures (D s) (links (linked l)) in
+    told ∙ first-stops (c12 s ∷ []) (c13 s ∷ c14 s ∷ []) loose ∙ passed-11 (apart-places (linked l))
 
 enum-told-4 : tie.Need-enum-told-4
 enum-told-4 c = search needs
 
 edge-meets-requires : tie.Need-edge-meets-requires
 edge-meets-requires c κs =
-    let p = c .before .before .before .before .before .before .before .before .before in
-    (points-in (p), ends-in (p))
+    let s = begun (loose-asked c) in
+    record { points = points-in s; links = ends-in s }
 
 enum-told-5 : tie.Need-enum-told-5
 enum-told-5 c = search needs
 
 returns-3 : tie.Need-returns-3
 returns-3 c =
-    let s = c .before .before .before .before .before .before .before .before .before .before .before .before in
-    c .enum-told5 .given .1 ∙ first-stops (c13 s ∷ []) (c14 s ∷ []) (sym (c .enum-told5 .given .1) ∙ c .before .before .edge-meets .ensures) ∙ passed-12 (c .before .before .before)
+    let m = c .before .before in
+    let s = begun (loose-asked (tied m)) in
+    let told = c .enum-told5 .given .1 in
+    told ∙ first-stops (c13 s ∷ []) (c14 s ∷ []) (sym told ∙ m .edge-meets .ensures) ∙ passed-12 (tied m)
 
 enum-told-6 : tie.Need-enum-told-6
 enum-told-6 c = search needs
@@ -123,8 +174,9 @@ apart-requires c κs = search needs
 
 returns-4 : tie.Need-returns-4
 returns-4 c =
-    let s = c .before .before .before .before .before .before .before .before .before .before .before .before .before .before in
-    c .apart .ensures (D s) (links (c .before .before .before .before .before .before .before .before .before)) ∙ first-passes (c13 s ∷ []) (c14 s ∷ []) (sym (c .before .before .enum-told6 .given .1) ∙ c .before .before .before .before .edge-meets .ensures) ∙ passed-12 (c .before .before .before .before .before)
+    let u = unmet c in
+    let l = loose-asked (tied (meets-asked u)) in
+    c .apart .ensures (D (begun l)) (links (linked l)) ∙ passed-13 u
 
 pub drawing-rules-spec : {M : Type 1} → statement M
 drawing-rules-spec =

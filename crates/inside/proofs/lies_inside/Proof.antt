@@ -1,4 +1,4 @@
--- `inside::lies_inside` meets its contract. Assumes nothing.
+-- `inside::lies_inside`: each of the three answers, asked whether it is inside. Assumes nothing.
 use mathlib.Core.Path.{_∙_, _≡_, ap, sym}
 use lib.IntN.{ℤ}
 use denote.Ref.{now}
@@ -12,7 +12,8 @@ use Rattle.inside.proofs.lies_inside.Tie as tie
 abbrev R : tie.Start → Polygon
 R c = ring (now (c .args .xyz)) (now (c .args .table)) (c .args .r)
 
-inside : (c : tie.After-lies) → isInside (c .lies .result) ≡ isInside (lies (over (c .before .before .args .p) (c .before .before .args .d)) (R (c .before .before)))
+inside : (c : tie.After-lies)
+    → let s = c .before .before in isInside (c .lies .result) ≡ isInside (lies (over (s .args .p) (s .args .d)) (R s))
 inside c =
     let s = c .before .before in
     ap isInside (c .lies .ensures ∙ ap (λ (z : ℤ). lies (over (s .args .p) z) (R s)) (plain (s .fits .d) .reading))

@@ -1,4 +1,4 @@
--- `inside::spans` meets its contract. Assumes nothing.
+-- `inside::spans`: numbers that fit an `i64` are compared as they are. Assumes nothing.
 use mathlib.Core.Bool.{_&&_, _||_}
 use lib.Signed.{leZ}
 use Rattle.exact.proofs.Machine.{plain}

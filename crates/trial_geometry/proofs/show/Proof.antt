@@ -1,4 +1,4 @@
--- `trial_geometry::show` meets its contract. Assumes nothing.
+-- `trial_geometry::show`: a sheet that the reader accepts holds a drawing in range. Assumes nothing.
 use mathlib.Core.Path.{sym, ap, subst, _∙_}
 use Rattle.paper_laws.specs.InRange.{Held}
 use Rattle.paper.specs.declared.Sheet.{Sheet}
@@ -20,7 +20,10 @@ enum-told : tie.Need-enum-told
 enum-told c = search needs
 
 show-drawing-requires : tie.Need-show-drawing-requires
-show-drawing-requires c κs = subst (λ (r : Sheet). Held (r .drawing)) (sym (c .before .before .read-sheet .ensures .0)) (read-range _ (sym ((c .enum-told .given) .1) ∙ ap (λ (r : Sheet). r .answer) (c .before .before .read-sheet .ensures .0)))
+show-drawing-requires c κs =
+    let e = c .before .before .read-sheet .ensures .0 in
+    let held = read-range _ (sym (c .enum-told .given .1) ∙ ap (λ (r : Sheet). r .answer) e) in
+    subst (λ (r : Sheet). Held (r .drawing)) (sym e) held
 
 returns : tie.Need-returns
 returns c = search needs

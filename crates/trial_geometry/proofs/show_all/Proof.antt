@@ -1,6 +1,7 @@
--- `trial_geometry::show_all` meets its contract. Assumes nothing.
+-- `trial_geometry::show_all`: the loop keeps that the place is in the book; each item ends in it, behind its start. Assumes
+-- nothing.
 use mathlib.Core.Path.{sym, ap}
-use Prim.Native.Nat.{_-_, _≤_}
+use Prim.Native.Nat.{_-_, _≤_, _+_}
 use lib.ListN.{length}
 use native.Mathlib.Omega.{arith}
 use Rattle.lists.specs.Found.{found}
@@ -12,6 +13,30 @@ Inv-loop book at₀ at = at ≤ length book
 
 abbrev μ-loop : tie.MeasureT-loop
 μ-loop book at₀ at = length book - at
+
+-- ---- where the two items end
+
+-- of the first
+middle-in : (c : tie.After-middle Inv-loop μ-loop)
+    → let l = c .before .before .before .before in
+    let k = c .middle .given .0 .0 in
+    (l .loop .at + 2 ≤ k) × (k ≤ length (l .before .before .args .book .now))
+middle-in c = c .before .before .end-of .ensures _ (sym (ap found (c .middle .given .1)))
+
+-- of the second
+abbrev between : tie.After-known-told2 Inv-loop μ-loop → tie.After-middle Inv-loop μ-loop
+between c = c .before .before .before .before .before
+
+end-in : (c : tie.After-known-told2 Inv-loop μ-loop)
+    → let m = between c in
+    let k = c .before .end .given .0 .0 in
+    (m .middle .given .0 .0 + 2 ≤ k) × (k ≤ length (m .before .before .before .before .before .before .args .book .now))
+end-in c = c .before .before .before .end-of2 .ensures _ (sym (ap found (c .before .end .given .1)))
+
+abbrev shown : tie.After-show Inv-loop μ-loop → tie.After-known-told2 Inv-loop μ-loop
+shown c = c .before .before .before
+
+-- ---- the needs
 
 loop-holds : tie.Need-loop-holds Inv-loop μ-loop
 loop-holds c = omega arith
@@ -41,37 +66,37 @@ returns-2 : tie.Need-returns-2 Inv-loop μ-loop
 returns-2 c = omega arith
 
 add-show : tie.Need-add-show Inv-loop μ-loop
-add-show c = omega (arith, (c .before .before .before .before .before .before .before .end-of .ensures) _ (sym (ap found ((c .before .before .before .before .before .middle .given) .1))), (c .before .before .before .end-of2 .ensures) _ (sym (ap found ((c .before .end .given) .1))))
+add-show c = omega (arith, middle-in (between c), end-in c)
 
 sub-show : tie.Need-sub-show Inv-loop μ-loop
-sub-show c = omega (arith, (c .before .before .before .before .before .before .before .end-of .ensures) _ (sym (ap found ((c .before .before .before .before .before .middle .given) .1))), (c .before .before .before .end-of2 .ensures) _ (sym (ap found ((c .before .end .given) .1))))
+sub-show c = omega (arith, middle-in (between c), end-in c)
 
 part-show-start : tie.Need-part-show-start Inv-loop μ-loop
-part-show-start c = omega (arith, (c .before .before .before .before .before .before .before .end-of .ensures) _ (sym (ap found ((c .before .before .before .before .before .middle .given) .1))), (c .before .before .before .end-of2 .ensures) _ (sym (ap found ((c .before .end .given) .1))))
+part-show-start c = omega (arith, middle-in (between c), end-in c)
 
 part-show-end : tie.Need-part-show-end Inv-loop μ-loop
-part-show-end c = omega (arith, (c .before .before .before .before .before .before .before .end-of .ensures) _ (sym (ap found ((c .before .before .before .before .before .middle .given) .1))), (c .before .before .before .end-of2 .ensures) _ (sym (ap found ((c .before .end .given) .1))))
+part-show-end c = omega (arith, middle-in (between c), end-in c)
 
 add-show-2 : tie.Need-add-show-2 Inv-loop μ-loop
-add-show-2 c = omega (arith, (c .before .before .before .before .before .before .before .before .end-of .ensures) _ (sym (ap found ((c .before .before .before .before .before .before .middle .given) .1))), (c .before .before .before .before .end-of2 .ensures) _ (sym (ap found ((c .before .before .end .given) .1))))
+add-show-2 c = omega (arith, middle-in (between (c .before)), end-in (c .before))
 
 sub-show-2 : tie.Need-sub-show-2 Inv-loop μ-loop
-sub-show-2 c = omega (arith, (c .before .before .before .before .before .before .before .before .end-of .ensures) _ (sym (ap found ((c .before .before .before .before .before .before .middle .given) .1))), (c .before .before .before .before .end-of2 .ensures) _ (sym (ap found ((c .before .before .end .given) .1))))
+sub-show-2 c = omega (arith, middle-in (between (c .before)), end-in (c .before))
 
 part-show-start-2 : tie.Need-part-show-start-2 Inv-loop μ-loop
-part-show-start-2 c = omega (arith, (c .before .before .before .before .before .before .before .before .end-of .ensures) _ (sym (ap found ((c .before .before .before .before .before .before .middle .given) .1))), (c .before .before .before .before .end-of2 .ensures) _ (sym (ap found ((c .before .before .end .given) .1))))
+part-show-start-2 c = omega (arith, middle-in (between (c .before)), end-in (c .before))
 
 part-show-end-2 : tie.Need-part-show-end-2 Inv-loop μ-loop
-part-show-end-2 c = omega (arith, (c .before .before .before .before .before .before .before .before .end-of .ensures) _ (sym (ap found ((c .before .before .before .before .before .before .middle .given) .1))), (c .before .before .before .before .end-of2 .ensures) _ (sym (ap found ((c .before .before .end .given) .1))))
+part-show-end-2 c = omega (arith, middle-in (between (c .before)), end-in (c .before))
 
 show-requires : tie.Need-show-requires Inv-loop μ-loop
 show-requires c κs = omega arith
 
 loop-less : tie.Need-loop-less Inv-loop μ-loop
-loop-less c = omega (arith, (c .before .before .before .before .before .before .before .before .before .before .end-of .ensures) _ (sym (ap found ((c .before .before .before .before .before .before .before .before .middle .given) .1))), (c .before .before .before .before .before .before .end-of2 .ensures) _ (sym (ap found ((c .before .before .before .before .end .given) .1))))
+loop-less c = omega (arith, middle-in (between (shown c)), end-in (shown c))
 
 loop-again : tie.Need-loop-again Inv-loop μ-loop
-loop-again c = omega (arith, (c .before .before .before .before .before .before .before .before .before .before .end-of .ensures) _ (sym (ap found ((c .before .before .before .before .before .before .before .before .middle .given) .1))), (c .before .before .before .before .before .before .end-of2 .ensures) _ (sym (ap found ((c .before .before .before .before .end .given) .1))))
+loop-again c = omega (arith, middle-in (between (shown c)), end-in (shown c))
 
 returns-3 : tie.Need-returns-3 Inv-loop μ-loop
 returns-3 c = omega arith

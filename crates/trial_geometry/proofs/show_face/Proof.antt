@@ -1,4 +1,4 @@
--- `trial_geometry::show_face` meets its contract. Assumes nothing.
+-- `trial_geometry::show_face`: each row is a loop, and row i comes with its normal. Assumes nothing.
 use Prim.Native.Nat.{_-_}
 use native.Mathlib.Omega.{arith}
 use Rattle.trial_geometry.proofs.show_face.Statement.{statement}
@@ -11,15 +11,19 @@ abbrev μ-loop : tie.MeasureT-loop
 μ-loop xyz rows count i m j₀ t7 j = count - j
 
 normal-requires : tie.Need-normal-requires Inv-loop μ-loop
-normal-requires c κs = (c .before .pre) .0 _ ((c .before .pre) .1)
+normal-requires c κs = let h = c .before .pre in h .rows _ (h .i-in)
 
 loop-holds : tie.Need-loop-holds Inv-loop μ-loop
 loop-holds c = tt
 
 digit-requires : tie.Need-digit-requires Inv-loop μ-loop
 digit-requires c κs =
-    let p = c .before .before .before .before in
-    (record { row = (p .pre) .0 _ ((p .pre) .1); across = (c .before .before .normal .ensures) }, (p .pre) .0 _ (c .loop-test .taken))
+    let m = c .before .before in
+    let h = m .before .before .pre in
+    record {
+      face = record { row = h .rows _ (h .i-in); across = m .normal .ensures };
+      row = h .rows _ (c .loop-test .taken);
+    }
 
 say-number-requires : tie.Need-say-number-requires Inv-loop μ-loop
 say-number-requires c κs = omega arith

@@ -1,4 +1,4 @@
--- `trial_geometry::show_faces` meets its contract. Assumes nothing.
+-- `trial_geometry::show_faces`: each row is a loop. Assumes nothing.
 use Prim.Native.Nat.{_-_}
 use native.Mathlib.Omega.{arith}
 use Rattle.trial_geometry.proofs.show_faces.Statement.{statement}
@@ -14,7 +14,7 @@ loop-holds : tie.Need-loop-holds Inv-loop μ-loop
 loop-holds c = tt
 
 show-face-requires : tie.Need-show-face-requires Inv-loop μ-loop
-show-face-requires c κs = ((c .before .before .before .pre), (c .loop-test .taken))
+show-face-requires c κs = record { rows = c .before .before .before .pre; i-in = c .loop-test .taken }
 
 add-i : tie.Need-add-i Inv-loop μ-loop
 add-i c = omega arith

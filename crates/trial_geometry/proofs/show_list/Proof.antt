@@ -1,4 +1,4 @@
--- `trial_geometry::show_list` meets its contract. Assumes nothing.
+-- `trial_geometry::show_list`: the rows of an accepted face list are loops of the drawing's vertices. Assumes nothing.
 use mathlib.Core.Path.{sym, ap, subst, _∙_}
 use Prim.Native.Nat.{_<_}
 use Rattle.paper.specs.Format.{editionOne}
@@ -10,6 +10,9 @@ use Rattle.trial_geometry.proofs.Rows.{filed-row}
 use borrow.Author.Needs.{needs}
 use Rattle.trial_geometry.proofs.show_list.Statement.{statement}
 use Rattle.trial_geometry.proofs.show_list.Tie as tie
+
+abbrev fine : tie.After-rows2 → tie.After-enum-told
+fine c = c .before .before
 
 read-faces-requires : tie.Need-read-faces-requires
 read-faces-requires c κs = search needs
@@ -28,9 +31,14 @@ slice-aggregate-show-faces c = search needs
 
 show-faces-requires : tie.Need-show-faces-requires
 show-faces-requires c κs =
-    let p = c .before .before .before .before .before .before in
-    let p2 = c .before .before .before .before in
-    λ r h. filed-row (p .pre) (subst (λ (x : Faces). r < x .count → Filed (x .rows) (p .args .v) r) (sym (p2 .read-faces .ensures .0)) (filed editionOne one-brief _ _ (sym ((c .before .before .enum-told .given) .1) ∙ ap (λ (x : Faces). x .answer) (p2 .read-faces .ensures .0)) r) h)
+    let t = fine c in
+    let r = t .before .before in
+    let s = r .before .before in
+    let e = r .read-faces .ensures .0 in
+    let passes = sym (t .enum-told .given .1) ∙ ap (λ (x : Faces). x .answer) e in
+    λ k h.
+    let row = subst (λ (x : Faces). k < x .count → Filed (x .rows) (s .args .v) k) (sym e) (filed editionOne one-brief _ _ passes k) in
+    filed-row (s .pre) (row h)
 
 returns : tie.Need-returns
 returns c = search needs

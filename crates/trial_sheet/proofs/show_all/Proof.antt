@@ -1,6 +1,6 @@
--- `trial_sheet::show_all` meets its contract. Assumes nothing.
+-- `trial_sheet::show_all`: the loop keeps that the place is in the book; each item ends in it, behind its start. Assumes nothing.
 use mathlib.Core.Path.{sym, ap}
-use Prim.Native.Nat.{_-_, _≤_}
+use Prim.Native.Nat.{_-_, _≤_, _+_}
 use lib.ListN.{length}
 use native.Mathlib.Omega.{arith}
 use Rattle.lists.specs.Found.{found}
@@ -12,6 +12,16 @@ Inv-loop book at₀ at = at ≤ length book
 
 abbrev μ-loop : tie.MeasureT-loop
 μ-loop book at₀ at = length book - at
+
+-- where the item ends
+end-in : (c : tie.After-known-told Inv-loop μ-loop)
+    → let l = c .before .before .before .before .before in
+    let k = c .before .end .given .0 .0 in
+    (l .loop .at + 2 ≤ k) × (k ≤ length (l .before .before .args .book .now))
+end-in c = c .before .before .before .end-of .ensures _ (sym (ap found (c .before .end .given .1)))
+
+abbrev shown : tie.After-show Inv-loop μ-loop → tie.After-known-told Inv-loop μ-loop
+shown c = c .before .before
 
 loop-holds : tie.Need-loop-holds Inv-loop μ-loop
 loop-holds c = omega arith
@@ -29,25 +39,25 @@ returns : tie.Need-returns Inv-loop μ-loop
 returns c = omega arith
 
 add-show : tie.Need-add-show Inv-loop μ-loop
-add-show c = omega (arith, (c .before .before .before .end-of .ensures) _ (sym (ap found ((c .before .end .given) .1))))
+add-show c = omega (arith, end-in c)
 
 sub-show : tie.Need-sub-show Inv-loop μ-loop
-sub-show c = omega (arith, (c .before .before .before .end-of .ensures) _ (sym (ap found ((c .before .end .given) .1))))
+sub-show c = omega (arith, end-in c)
 
 part-show-start : tie.Need-part-show-start Inv-loop μ-loop
-part-show-start c = omega (arith, (c .before .before .before .end-of .ensures) _ (sym (ap found ((c .before .end .given) .1))))
+part-show-start c = omega (arith, end-in c)
 
 part-show-end : tie.Need-part-show-end Inv-loop μ-loop
-part-show-end c = omega (arith, (c .before .before .before .end-of .ensures) _ (sym (ap found ((c .before .end .given) .1))))
+part-show-end c = omega (arith, end-in c)
 
 show-requires : tie.Need-show-requires Inv-loop μ-loop
 show-requires c κs = omega arith
 
 loop-less : tie.Need-loop-less Inv-loop μ-loop
-loop-less c = omega (arith, (c .before .before .before .before .before .end-of .ensures) _ (sym (ap found ((c .before .before .before .end .given) .1))))
+loop-less c = omega (arith, end-in (shown c))
 
 loop-again : tie.Need-loop-again Inv-loop μ-loop
-loop-again c = omega (arith, (c .before .before .before .before .before .end-of .ensures) _ (sym (ap found ((c .before .before .before .end .given) .1))))
+loop-again c = omega (arith, end-in (shown c))
 
 returns-2 : tie.Need-returns-2 Inv-loop μ-loop
 returns-2 c = omega arith

@@ -1,4 +1,4 @@
--- `drawing_rules::meets::end_at` meets its contract. Assumes nothing.
+-- `drawing_rules::meets::end_at`: an end of the list is one of the vertices, so its point can be read. Assumes nothing.
 use mathlib.Core.Path.{_∙_, ap}
 use native.Mathlib.Omega.{arith}
 use denote.Ref.{now}
@@ -17,10 +17,14 @@ wide-requires c κs = search needs
 point-at-requires : tie.Need-point-at-requires
 point-at-requires c κs =
     let s = c .before .before .before in
-    vertex-read (s .pre .0) (c .wide .result) (omega (arith, c .wide .ensures, s .pre .1 .known (s .args .k) (s .pre .2)))
+    let lists = s .pre .lists in
+    let low = lists .links .known (s .args .k) (s .pre .k-in) in
+    vertex-read (lists .points) (c .wide .result) (omega (arith, c .wide .ensures, low))
 
 returns : tie.Need-returns
-returns c = c .point-at .ensures ∙ ap (pointOf (now (c .before .before .before .before .args .xyz))) (c .before .wide .ensures)
+returns c =
+    let e = c .before in
+    c .point-at .ensures ∙ ap (pointOf (now (e .before .before .before .args .xyz))) (e .wide .ensures)
 
 pub end-at-spec : {M : Type 1} → statement M
 end-at-spec = tie.close (tie.spec shared-slice-read-wide wide-requires point-at-requires returns)

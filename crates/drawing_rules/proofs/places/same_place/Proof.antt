@@ -1,4 +1,4 @@
--- `drawing_rules::places::same_place` meets its contract. Assumes nothing.
+-- `drawing_rules::places::same_place`: the loop keeps that what is left to search holds the whole answer. Assumes nothing.
 use mathlib.Core.List.{[]}
 use mathlib.Core.Bool.{Bool}
 use mathlib.Core.Path.{_∙_, _≡_, ap, sym}
@@ -21,15 +21,25 @@ Inv-loop xyz v u₀ u = (u ≤ v) × ((d : Wire) → d .vertices ≡ pointsOf xy
 abbrev μ-loop : tie.MeasureT-loop
 μ-loop xyz v u₀ u = v - u
 
+-- ---- the ways back
+
+abbrev turn : tie.After-shares Inv-loop μ-loop → tie.At-loop Inv-loop μ-loop
+turn c = c .before .before
+
+-- the code's test of vertex u
 here : (c : tie.After-shares Inv-loop μ-loop) {b : Bool} → c .shares .result ≡ b
-    → (d : Wire) → d .vertices ≡ pointsOf (now (c .before .before .before .args .xyz)) → shared d (c .before .before .loop .u) ≡ b
-here c e d k = sym (c .shares .ensures ∙ shared-is (c .before .before .before .pre) d k (c .before .before .loop .u) (omega arith)) ∙ e
+    → (d : Wire) → d .vertices ≡ pointsOf (now (turn c .before .args .xyz)) → shared d (turn c .loop .u) ≡ b
+here c e d k =
+    let l = turn c in
+    sym (c .shares .ensures ∙ shared-is (l .before .pre) d k (l .loop .u) (omega arith)) ∙ e
+
+-- ---- the needs
 
 loop-holds : tie.Need-loop-holds Inv-loop μ-loop
 loop-holds c = (omega arith, λ d k. lowest-start (shared d) _)
 
 shares-requires : tie.Need-shares-requires Inv-loop μ-loop
-shares-requires c κs = (c .before .before .pre, omega arith)
+shares-requires c κs = record { points = c .before .before .pre; u-in = omega arith }
 
 refused-requires : tie.Need-refused-requires Inv-loop μ-loop
 refused-requires c κs = search needs
@@ -37,9 +47,13 @@ refused-requires c κs = search needs
 returns : tie.Need-returns Inv-loop μ-loop
 unfolding samePlace
 returns c =
-    let s = c .before .before .before .before .before in
-    let l = c .before .before .before .before .loop in
-    λ d k. c .refused .ensures ∙ stops SamePlace [] (sym (ap (lowest (shared d)) (drawn-count (s .pre) d k) ∙ lowest-hit (shared d) (s .args .v) (l .u) (omega arith) (l .inv .1 d k) (here (c .before .before) (c .before .if1 .taken) d k)))
+    let f = c .before .before in
+    let l = turn f .loop in
+    let s = turn f .before in
+    λ d k.
+    let same = here f (c .before .if1 .taken) d k in
+    let hit = lowest-hit (shared d) (s .args .v) (l .u) (omega arith) (l .inv .1 d k) same in
+    c .refused .ensures ∙ stops SamePlace [] (sym (ap (lowest (shared d)) (drawn-count (s .pre) d k) ∙ hit))
 
 add-u : tie.Need-add-u Inv-loop μ-loop
 add-u c = omega arith
@@ -49,15 +63,19 @@ loop-less c = omega arith
 
 loop-again : tie.Need-loop-again Inv-loop μ-loop
 loop-again c =
-    let l = c .before .before .before .loop in
-    (omega arith, λ d k. lowest-miss (shared d) (c .before .before .before .before .args .v) (l .u) (omega arith) (l .inv .1 d k) (here (c .before) (c .if1 .left) d k))
+    let f = c .before in
+    let l = turn f .loop in
+    let v = turn f .before .args .v in
+    (omega arith, λ d k. lowest-miss (shared d) v (l .u) (omega arith) (l .inv .1 d k) (here f (c .if1 .left) d k))
 
 returns-2 : tie.Need-returns-2 Inv-loop μ-loop
 unfolding samePlace
 returns-2 c =
-    let s = c .before .before in
     let l = c .before .loop in
-    λ d k. clear ∙ passes SamePlace [] (sym (ap (lowest (shared d)) (drawn-count (s .pre) d k) ∙ lowest-end (shared d) (s .args .v) (l .u) (omega arith) (l .inv .1 d k)))
+    let s = c .before .before in
+    λ d k.
+    let none = lowest-end (shared d) (s .args .v) (l .u) (omega arith) (l .inv .1 d k) in
+    clear ∙ passes SamePlace [] (sym (ap (lowest (shared d)) (drawn-count (s .pre) d k) ∙ none))
 
 pub same-place-spec : {M : Type 1} → statement M
 same-place-spec =

@@ -1,12 +1,12 @@
--- `drawing_rules::places::shares` meets its contract. Assumes nothing.
+-- `drawing_rules::places::shares`: the loop keeps that what is left to search decides, since no vertex before w is where u is.
+-- Assumes nothing.
+use Rattle.drawing_rules.specs.Meets.{shareIn}
 use mathlib.Core.Bool.{Bool, _&&_, false, not}
-use mathlib.Core.List.{List}
 use mathlib.Core.Logic.{⊎-elim}
 use mathlib.Core.Path.{_∙_, _≡_, ap, refl, sym}
 use Prim.Native.Nat.{_-_, _≤_, ℕ}
 use native.Mathlib.Omega.{arith}
 use lib.Dec.{eqb}
-use lib.IntN.{ℤ}
 use denote.Ref.{now}
 use borrow.Author.Tests.{eq-eqb, ne-eqb}
 use Rattle.lists.proofs.Search.{Left, any-search, below-end, below-hit, below-miss}
@@ -18,53 +18,76 @@ use Rattle.drawing_rules.proofs.Vertices.{vertex-read, vertex-small}
 use Rattle.drawing_rules.proofs.places.shares.Statement.{statement}
 use Rattle.drawing_rules.proofs.places.shares.Tie as tie
 
-abbrev Same : List ℤ → ℕ → ℕ → Bool
-Same xyz u w = not (eqb u w) && samePoint (pointOf xyz u) (pointOf xyz w)
-
 abbrev Inv-loop : tie.InvT-loop
-Inv-loop xyz v u p w₀ w = (w ≤ v) × Left (any (Same xyz u)) (upto v) w
+Inv-loop xyz v u p w₀ w = (w ≤ v) × Left (any (shareIn xyz u)) (upto v) w
 
 abbrev μ-loop : tie.MeasureT-loop
 μ-loop xyz v u p w₀ w = v - w
 
-abbrev Here : tie.Start Inv-loop μ-loop → ℕ → Bool
-Here c = Same (now (c .args .xyz)) (c .args .u)
+-- ---- the ways back
+
+abbrev start : tie.At-loop Inv-loop μ-loop → tie.Start Inv-loop μ-loop
+start c = c .before .before
+
+abbrev turn : tie.After-point-at2 Inv-loop μ-loop → tie.At-loop Inv-loop μ-loop
+turn c = c .before .before .before
+
+abbrev joined : tie.Joined1 Inv-loop μ-loop → tie.At-loop Inv-loop μ-loop
+joined c = c .before .before
+
+-- ---- the test of vertex w
+
+abbrev Here : tie.At-loop Inv-loop μ-loop → ℕ → Bool
+Here c = let a = start c .args in shareIn (now (a .xyz)) (a .u)
 
 -- of another vertex, what `same_point` said
-other : (c : tie.After-same-point Inv-loop μ-loop) {b : Bool} → c .same-point .result ≡ b → Here (c .before .before .before .before .before .before) (c .before .before .before .before .loop .w) ≡ b
+other : (c : tie.After-same-point Inv-loop μ-loop) {b : Bool} → c .same-point .result ≡ b
+    → let l = turn (c .before) in Here l (l .loop .w) ≡ b
 other c e =
-    let s = c .before .before .before .before .before .before in
-    let w = c .before .before .before .before .loop .w in
-    let n : eqb (s .args .u) w ≡ false = ne-eqb (s .args .u) w (λ q. c .before .before .if1 .taken (sym q)) in
-    let p : samePoint (pointOf (now (s .args .xyz)) (s .args .u)) (pointOf (now (s .args .xyz)) w) ≡ _ = sym (c .same-point .ensures ∙ (λ i. samePoint (c .before .before .before .before .before .point-at .ensures i) (c .before .point-at2 .ensures i))) ∙ e in
-    λ i. not (n i) && p i
+    let l = turn (c .before) in
+    let u = start l .args .u in
+    let differs = ne-eqb u (l .loop .w) (λ q. c .before .before .if1 .taken (sym q)) in
+    let same =
+    sym (c .same-point .ensures ∙ (λ i. samePoint (l .before .point-at .ensures i) (c .before .point-at2 .ensures i))) ∙ e in
+    λ i. not (differs i) && same i
 
-missed : (c : tie.Joined1 Inv-loop μ-loop) → Here (c .before .before .before .before) (c .before .before .loop .w) ≡ false
+missed : (c : tie.Joined1 Inv-loop μ-loop) → Here (joined c) (joined c .loop .w) ≡ false
 missed c =
-    let a = c .before .before .before .before .args in
-    ⊎-elim (λ t. other (record { before = record { before = record { before = c .before; if1 = t .0 }; point-at2 = t .1 }; same-point = t .2 }) (t .3 .left))
-    (λ t. ap (λ (b : Bool). not b && samePoint (pointOf (now (a .xyz)) (a .u)) (pointOf (now (a .xyz)) (c .before .before .loop .w))) (eq-eqb (a .u) (c .before .before .loop .w) (sym (t .left))))
+    let w = joined c .loop .w in
+    let a = start (joined c) .args in
+    let place = pointOf (now (a .xyz)) in
+    ⊎-elim
+    (λ t.
+    other (record { before = record { before = record { before = c .before; if1 = t .0 }; point-at2 = t .1 }; same-point = t .2 })
+    (t .3 .left))
+    (λ t. ap (λ (b : Bool). not b && samePoint (place (a .u)) (place w)) (eq-eqb (a .u) w (sym (t .left))))
     (c .if1 .came)
 
+-- ---- the needs
+
 point-at-requires : tie.Need-point-at-requires Inv-loop μ-loop
-point-at-requires c κs = vertex-read (c .pre .0) (c .args .u) (c .pre .1)
+point-at-requires c κs = vertex-read (c .pre .points) (c .args .u) (c .pre .u-in)
 
 loop-holds : tie.Need-loop-holds Inv-loop μ-loop
 loop-holds c = (omega arith, refl)
 
 point-at-requires-2 : tie.Need-point-at-requires-2 Inv-loop μ-loop
-point-at-requires-2 c κs = vertex-read (c .before .before .before .before .pre .0) (c .before .before .loop .w) (omega arith)
+point-at-requires-2 c κs =
+    let l = c .before .before in
+    vertex-read (start l .pre .points) (l .loop .w) (omega arith)
 
 same-point-requires : tie.Need-same-point-requires Inv-loop μ-loop
 same-point-requires c κs =
-    let near = vertex-small (c .before .before .before .before .before .pre .0) in
-    (small-eq (c .before .before .before .before .point-at .ensures) (near _), small-eq (c .point-at2 .ensures) (near _))
+    let l = turn c in
+    let near = vertex-small (start l .pre .points) in
+    record { a-in = small-eq (l .before .point-at .ensures) (near _); b-in = small-eq (c .point-at2 .ensures) (near _) }
 
 returns : tie.Need-returns Inv-loop μ-loop
 returns c =
-    let s = c .before .before .before .before .before .before .before in
-    let l = c .before .before .before .before .before .loop in
-    sym (below-hit (any-search (Here s)) (s .args .v) (l .w) (omega arith) (l .inv .1) (other (c .before) (c .if2 .taken)))
+    let l = turn (c .before .before) in
+    let v = start l .args .v in
+    let hit = other (c .before) (c .if2 .taken) in
+    sym (below-hit (any-search (Here l)) v (l .loop .w) (omega arith) (l .loop .inv .1) hit)
 
 add-w : tie.Need-add-w Inv-loop μ-loop
 add-w c = omega arith
@@ -74,15 +97,13 @@ loop-less c = omega arith
 
 loop-again : tie.Need-loop-again Inv-loop μ-loop
 loop-again c =
-    let s = c .before .before .before .before in
-    let l = c .before .before .loop in
-    (omega arith, below-miss (any-search (Here s)) (s .args .v) (l .w) (omega arith) (l .inv .1) (missed (c)))
+    let l = joined c in
+    (omega arith, below-miss (any-search (Here l)) (start l .args .v) (l .loop .w) (omega arith) (l .loop .inv .1) (missed c))
 
 returns-2 : tie.Need-returns-2 Inv-loop μ-loop
 returns-2 c =
-    let s = c .before .before .before in
-    let l = c .before .loop in
-    sym (below-end (any-search (Here s)) (s .args .v) (l .w) (omega arith) (l .inv .1))
+    let l = c .before in
+    sym (below-end (any-search (Here l)) (start l .args .v) (l .loop .w) (omega arith) (l .loop .inv .1))
 
 pub shares-spec : {M : Type 1} → statement M
 shares-spec =

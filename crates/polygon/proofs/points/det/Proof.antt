@@ -1,4 +1,4 @@
--- `polygon::points::det` meets its contract. Assumes nothing.
+-- `polygon::points::det`: the cross product is small enough for the scalar product. Assumes nothing.
 use mathlib.Core.Path.{_∙_, ap}
 use borrow.Author.Needs.{needs}
 use Rattle.paper.specs.Points.{cross, det, dot}
@@ -12,12 +12,14 @@ cross-requires c κs = search needs
 
 dot-requires : tie.Need-dot-requires
 dot-requires c κs =
-    let s = c .before in
-    (s .pre .0, small-eq (c .cross .ensures) (small-up tt (cross-small (s .pre .1) (s .pre .2))))
+    let s = c .before .pre in
+    record { a-in = s .p-in; b-in = small-eq (c .cross .ensures) (small-up tt (cross-small (s .q-in) (s .r-in))) }
 
 returns : tie.Need-returns
 unfolding det
-returns c = reads-back (c .dot .result) (c .dot .ok) ∙ c .dot .ensures ∙ ap (dot (c .before .before .args .p)) (c .before .cross .ensures)
+returns c =
+    let x = c .before in
+    reads-back (c .dot .result) (c .dot .ok) ∙ c .dot .ensures ∙ ap (dot (x .before .args .p)) (x .cross .ensures)
 
 pub det-spec : {M : Type 1} → statement M
 det-spec = tie.close (tie.spec cross-requires dot-requires returns)

@@ -1,32 +1,42 @@
--- `polygon::points::plus` meets its contract. Assumes nothing.
-use mathlib.Core.List.{[], _∷_}
-use Rattle.exact.proofs.Machine.{Every, _▸_, asked, done, reads}
+-- `polygon::points::plus`: each sum of two coordinates fits an `i64`, and is read back as it is. Assumes nothing.
+use Rattle.exact.proofs.Machine.{asked, reads}
 use Rattle.exact.proofs.Ring.{_⊕_, var}
 use Rattle.paper.specs.Points.{plus}
-use Rattle.polygon.specs.Sizes.{mostNormal}
+use Rattle.polygon.proofs.Pairs.{both}
 use Rattle.polygon.proofs.points.plus.Statement.{statement}
 use Rattle.polygon.proofs.points.plus.Tie as tie
 
--- a, then b
-abbrev env : (c : tie.Start) → Every mostNormal (c .args .a .x ∷ c .args .a .y ∷ c .args .a .z ∷ c .args .b .x ∷ c .args .b .y ∷ c .args .b .z ∷ [])
-env c =
-    let (a, b) = c .pre in
-    a .x-in ▸ a .y-in ▸ a .z-in ▸ b .x-in ▸ b .y-in ▸ b .z-in ▸ done
+-- ---- the way back from each pair of numbers that is read to the one before it
+
+abbrev first : tie.After-struct-told2 → tie.Start
+first c = c .before .before .before .before
+
+abbrev second : tie.After-struct-told4 → tie.Start
+second c = first (c .before .before .before .before)
+
+abbrev third : tie.After-struct-told6 → tie.Start
+third c = second (c .before .before .before .before)
+
+-- ---- the needs
 
 add-t3 : tie.Need-add-t3
-add-t3 c = asked (env (c .before .before .before .before)) (var 0 ⊕ var 3) tt
+add-t3 c = asked (both (first c .pre)) (var 0 ⊕ var 3) tt
 
 add-t4 : tie.Need-add-t4
-add-t4 c = asked (env (c .before .before .before .before .before .before .before .before)) (var 1 ⊕ var 4) tt
+add-t4 c = asked (both (second c .pre)) (var 1 ⊕ var 4) tt
 
 add-t5 : tie.Need-add-t5
-add-t5 c = asked (env (c .before .before .before .before .before .before .before .before .before .before .before .before)) (var 2 ⊕ var 5) tt
+add-t5 c = asked (both (third c .pre)) (var 2 ⊕ var 5) tt
 
 returns : tie.Need-returns
 unfolding plus
 returns c =
-    let s = env (c .before .before .before .before .before .before .before .before .before .before .before .before) in
-    λ i. record { x = reads s (var 0 ⊕ var 3) tt i; y = reads s (var 1 ⊕ var 4) tt i; z = reads s (var 2 ⊕ var 5) tt i }
+    let s = both (third c .pre) in
+    λ i. record {
+      x = reads s (var 0 ⊕ var 3) tt i;
+      y = reads s (var 1 ⊕ var 4) tt i;
+      z = reads s (var 2 ⊕ var 5) tt i;
+    }
 
 pub plus-spec : {M : Type 1} → statement M
 plus-spec = tie.close (tie.spec add-t3 add-t4 add-t5 returns)

@@ -1,4 +1,4 @@
--- `polygon::rings::normal` meets its contract. Assumes nothing.
+-- `polygon::rings::normal`: the loop keeps that the sum is that of the first j sides, and that a is corner j. Assumes nothing.
 use mathlib.Core.Path.{_∙_, _≡_, sym}
 use Prim.Native.Nat.{_-_, _≤_}
 use native.Mathlib.Omega.{arith}
@@ -8,7 +8,7 @@ use Rattle.paper.specs.Points.{cross, plus}
 use Rattle.paper.specs.Polygon.{Polygon}
 use Rattle.polygon.specs.Rings.{cornerOf, ring}
 use Rattle.polygon.proofs.Areas.{normal-all, normal-more, normal-none, normalTo, normalTo-small}
-use Rattle.polygon.proofs.Rows.{corner-small, ring-least, ring-length, ring-most}
+use Rattle.polygon.proofs.Rows.{corner-small, ring-length, ring-most, corner-in, corner-near}
 use Rattle.polygon.proofs.Sizes.{cross-small, small-eq, small-up}
 use Rattle.polygon.proofs.rings.normal.Statement.{statement}
 use Rattle.polygon.proofs.rings.normal.Tie as tie
@@ -20,14 +20,24 @@ Inv-loop xyz table r n sum₀ a₀ j₀ sum a j =
 abbrev μ-loop : tie.MeasureT-loop
 μ-loop xyz table r n sum₀ a₀ j₀ sum a j = n - j
 
+-- ---- the ways back
+
+abbrev start : tie.At-loop Inv-loop μ-loop → tie.Start Inv-loop μ-loop
+start c = c .before .before .before .before
+
+abbrev turn : tie.After-corner2 Inv-loop μ-loop → tie.At-loop Inv-loop μ-loop
+turn c = c .before .before
+
 abbrev R : tie.Start Inv-loop μ-loop → Polygon
 R c = ring (now (c .args .xyz)) (now (c .args .table)) (c .args .r)
+
+-- ---- the needs
 
 count-requires : tie.Need-count-requires Inv-loop μ-loop
 count-requires c κs = omega arith
 
 corner-requires : tie.Need-corner-requires Inv-loop μ-loop
-corner-requires c κs = (c .before .before .pre, omega (arith, ring-least (c .before .before .pre)))
+corner-requires c κs = corner-in (c .before .before .pre) _ (omega arith)
 
 loop-holds : tie.Need-loop-holds Inv-loop μ-loop
 loop-holds c =
@@ -38,23 +48,26 @@ add-corner : tie.Need-add-corner Inv-loop μ-loop
 add-corner c = omega arith
 
 corner-requires-2 : tie.Need-corner-requires-2 Inv-loop μ-loop
-corner-requires-2 c κs =
-    let p = c .before .before .before .before .before in
-    (p .pre, omega (arith, ring-least (p .pre)))
+corner-requires-2 c κs = corner-in (start (c .before) .pre) _ (omega arith)
 
 cross-requires : tie.Need-cross-requires Inv-loop μ-loop
 cross-requires c κs =
-    let near = corner-small (c .before .before .before .before .before .before .pre) in
-    (small-up tt (small-eq (c .before .before .loop .inv .3) (near _)), small-up tt (small-eq (c .corner2 .ensures) (near _)))
+    let row = start (turn c) .pre in
+    record {
+      a-in = small-up tt (corner-near row _ (turn c .loop .inv .3));
+      b-in = small-up tt (corner-near row _ (c .corner2 .ensures));
+    }
 
 plus-requires : tie.Need-plus-requires Inv-loop μ-loop
 plus-requires c κs =
-    let s = c .before .before .before .before .before .before .before in
-    let l = c .before .before .before .loop in
-    let near = corner-small (s .pre) in (
-      small-eq (l .inv .2) (normalTo-small (R s) near (ring-most (s .pre)) (l .j) (omega arith)),
-      small-eq (c .cross .ensures) (small-up tt (cross-small (small-eq (l .inv .3) (near _)) (small-eq (c .before .corner2 .ensures) (near _)))),
-    )
+    let l = turn (c .before) .loop in
+    let s = start (turn (c .before)) in
+    let row = s .pre in
+    let one = cross-small (corner-near row _ (l .inv .3)) (corner-near row _ (c .before .corner2 .ensures)) in
+    record {
+      a-in = small-eq (l .inv .2) (normalTo-small (R s) (corner-small row) (ring-most row) (l .j) (omega arith));
+      b-in = small-eq (c .cross .ensures) (small-up tt one);
+    }
 
 add-j : tie.Need-add-j Inv-loop μ-loop
 add-j c = omega arith
@@ -64,14 +77,16 @@ loop-less c = omega arith
 
 loop-again : tie.Need-loop-again Inv-loop μ-loop
 loop-again c =
-    let s = c .before .before .before .before .before .before .before .before in
-    let l = c .before .before .before .before .loop in
-    let b = c .before .before .corner2 .ensures in
-    let one = c .before .cross .ensures ∙ (λ i. cross (l .inv .3 i) (b i)) in
-    (omega arith, l .inv .1, c .plus .ensures ∙ (λ i. plus (l .inv .2 i) (one i)) ∙ sym (normal-more (R s) (l .j) (omega arith)), b)
+    let x = c .before in
+    let l = turn (x .before) .loop in
+    let s = start (turn (x .before)) in
+    let b = x .before .corner2 .ensures in
+    let one = x .cross .ensures ∙ (λ i. cross (l .inv .3 i) (b i)) in
+    let sum = c .plus .ensures ∙ (λ i. plus (l .inv .2 i) (one i)) ∙ sym (normal-more (R s) (l .j) (omega arith)) in
+    (omega arith, l .inv .1, sum, b)
 
 returns : tie.Need-returns Inv-loop μ-loop
-returns c = c .before .loop .inv .2 ∙ normal-all (R (c .before .before .before .before .before)) (c .before .loop .j) (omega arith)
+returns c = let l = c .before in l .loop .inv .2 ∙ normal-all (R (start l)) (l .loop .j) (omega arith)
 
 pub normal-spec : {M : Type 1} → statement M
 normal-spec =

@@ -1,4 +1,4 @@
--- `polygon::rings::plane_side` meets its contract. Assumes nothing.
+-- `polygon::rings::plane_side`: the step from the plane to the point is small enough for the scalar product. Assumes nothing.
 use mathlib.Core.Path.{_∙_, ap}
 use borrow.Author.Needs.{needs}
 use Rattle.paper.specs.Points.{dot, minus}
@@ -11,10 +11,14 @@ minus-requires : tie.Need-minus-requires
 minus-requires c κs = search needs
 
 dot-requires : tie.Need-dot-requires
-dot-requires c κs = (c .before .pre .0, small-eq (c .minus .ensures) (small-up tt (minus-small (c .before .pre .2) (c .before .pre .1))))
+dot-requires c κs =
+    let s = c .before .pre in
+    record { a-in = s .m-in; b-in = small-eq (c .minus .ensures) (small-up tt (minus-small (s .p-in) (s .o-in))) }
 
 returns : tie.Need-returns
-returns c = reads-back (c .dot .result) (c .dot .ok) ∙ c .dot .ensures ∙ ap (dot (c .before .before .args .m)) (c .before .minus .ensures)
+returns c =
+    let d = c .before in
+    reads-back (c .dot .result) (c .dot .ok) ∙ c .dot .ensures ∙ ap (dot (d .before .args .m)) (d .minus .ensures)
 
 pub plane-side-spec : {M : Type 1} → statement M
 plane-side-spec = tie.close (tie.spec minus-requires dot-requires returns)
