@@ -26,7 +26,7 @@ use Rattle.demands.specs.Faces.{Candidates}
 use Rattle.demands.specs.Demand2.{Allowed, Demand2, Holds2}
 use Rattle.demands.proofs.Input.{converted-is, form-fine, drawing-fine, loops-fine}
 
--- 1 and 2 have nothing against room and a limit that are allowed
+-- room and a limit that are allowed pass 1 and 2
 entry-fine : (limit : ℕ) (room solids : List ℕ) → Allowed limit room solids → firstOf (entryChecks limit room solids) ≡ Fine
 unfolding entryChecks
 entry-fine limit room solids a =

@@ -30,7 +30,7 @@ use Rattle.means_check.proofs.Alike.{solid-to, row-same}
 use Rattle.means_check.proofs.EdgeTests.{edges-ways, ways-edges, edges-two, two-edges}
 use Rattle.means_check.proofs.Numbers.{row-length}
 
--- ---- a list of checks has nothing against
+-- ---- a list of checks is passed
 
 pub no-checks : firstOf [] ≡ Fine
 unfolding firstOf
@@ -60,7 +60,7 @@ fine-both (check n (some p) ∷ cs) ds e f = let z : _≡_ {A = ℕ} 0 1 = cc in
 -- ---- 21 to 27
 
 module _ (d : Wire) (cs : List Loop) (fs : List (List ℕ)) where
-  -- each has nothing against the list
+  -- the list passes each
   pub record AllPass : Type 0 where
     pub p21 : notCandidate (length cs) (numbersOf cs fs) ≡ none
     pub p22 : faceTwice (numbersOf cs fs) ≡ none
@@ -154,7 +154,7 @@ module _ (d : Wire) (cs : List Loop) (fs : List (List ℕ)) where
         rows-pass (names-numbered d cs c fs (w .taken) (w .turned) (w .solid .some) (w .solid .within) (w .names))
         (rows-solid (w .taken) (w .turned) (w .solid) (w .names))
 
-    -- 21 to 27 have nothing against a list exactly when it names one solid with its directions
+    -- a list passes 21 to 27 exactly when it names one solid with its directions
     pub accepted-names : firstOf (faceChecks (tablesOf d cs) (length cs) (listed cs fs)) ≡ Fine → NamesSolid d cs fs
     accepted-names e = pass-solid (checks-pass e)
 

@@ -31,7 +31,7 @@ use Rattle.means_check.proofs.Numbers.{filter-yes, filter-is}
 use Rattle.means_check.proofs.Picked.{inside, kept-once}
 
 module _ (d : Wire) (cs : List Loop) (c : Candidates d cs) where
-  -- 21 to 27 have nothing against the list
+  -- the list passes 21 to 27
   abbrev pub Fair : List Loop → Type 0
   Fair fs = firstOf (faceChecks (tablesOf d cs) (length cs) (listed cs fs)) ≡ Fine
 

@@ -82,7 +82,7 @@ module _ (cs : List Loop) (fs : List Loop) where
       (member-is k (map (numberIn cs) gs) (w .0) (omega (arith, w .1, length-map gs (numberIn cs)))
       (map-at (numberIn cs) gs (w .0) [] 0 (w .1) ∙ ap (numberIn cs) (w .2) ∙ e))
 
-  -- 21 and 22 have nothing against the list: each face has a number, and no two have one
+  -- the list passes 21 and 22: each face has a number, and no two have one
   pub record Numbered : Type 0 where
     pub known : (i : ℕ) → i < length fs → numberIn cs (loopAt fs i) < length cs
     pub apart : (i j : ℕ) → i < length fs → j < length fs → numberIn cs (loopAt fs i) ≡ numberIn cs (loopAt fs j) → i ≡ j

@@ -120,7 +120,7 @@ pub struct Refusal {
     pub place: usize,
 }
 
-// What a check says: nothing against it, or the first refusal that applies.
+// What a list of checks says: all are passed, or the first refusal that applies.
 pub enum Answer {
     Fine,
     Refused(Refusal),

@@ -51,7 +51,7 @@ module _ (n p : ℕ) {b : Bool} (cs : List Check) where
       go true e = let z : _≡_ {A = ℕ} 0 1 = cc in absurd (omega arith)
       go false e = (refl, e)
 
--- two lists: the first one's answer, unless it has nothing against
+-- two lists: the first one's answer, unless it is passed
 pub first-stops : (cs ds : List Check) {r : Refusal} → Refused r ≡ firstOf cs → Refused r ≡ firstOf (cs ++ ds)
 unfolding firstOf
 first-stops [] ds {r} e = let z : _≡_ {A = ℕ} 0 1 = cc in absurd (omega arith)
@@ -64,7 +64,7 @@ first-passes [] ds e = refl
 first-passes (check n none ∷ cs) ds e = first-passes cs ds e
 first-passes (check n (some p) ∷ cs) ds e = let z : _≡_ {A = ℕ} 0 1 = cc in absurd (omega arith)
 
--- both have nothing against where the whole has not
+-- both are passed where the whole is
 pub first-both : (cs ds : List Check) → Fine ≡ firstOf (cs ++ ds) → (Fine ≡ firstOf cs) × (Fine ≡ firstOf ds)
 unfolding firstOf
 first-both [] ds e = (refl, e)
