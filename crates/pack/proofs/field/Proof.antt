@@ -1,4 +1,5 @@
--- `pack::field` meets its contract. Assumes nothing.
+-- `pack::field`: a field of up to 16 bits lies within three bytes, so it is the window, shifted, without what stands above. Assumes
+-- nothing.
 use Prim.Native.Nat.{_-_, _%_}
 use native.Mathlib.Omega.{arith}
 use borrow.Author.Needs.{needs}

@@ -1,4 +1,4 @@
--- `pack::put` meets its contract. Assumes nothing.
+-- `pack::put`: the three bytes of the patched window are set one by one, and only the field's bits change. Assumes nothing.
 use Prim.Native.Nat.{_-_, _%_}
 use native.Mathlib.Omega.{arith}
 use borrow.Author.Needs.{needs}

@@ -1,4 +1,5 @@
--- `sets::Set::lowest` meets its contract. Assumes nothing.
+-- `sets::Set::lowest`: the zeros below the lowest one of a word are that number, which is below 64 since the set is not empty.
+-- Assumes nothing.
 use native.Mathlib.Omega.{arith}
 use lib.Count.{trailingZeros}
 use Rattle.sets.specs.Sets.{room, Lowest}
