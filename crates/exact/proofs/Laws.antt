@@ -42,9 +42,6 @@ neg-mulℤ a c = neg-unique (negℤ a *ℤ c) (a *ℤ c) (sym (add-mulℤ (neg�
 pub mul-negℤ : (a c : ℤ) → a *ℤ negℤ c ≡ negℤ (a *ℤ c)
 mul-negℤ a c = *ℤ-comm a (negℤ c) ∙ neg-mulℤ c a ∙ ap negℤ (*ℤ-comm c a)
 
-pub neg-mul-negℤ : (a c : ℤ) → negℤ a *ℤ negℤ c ≡ a *ℤ c
-neg-mul-negℤ a c = neg-mulℤ a (negℤ c) ∙ ap negℤ (mul-negℤ a c) ∙ negℤ-negℤ (a *ℤ c)
-
 pub *ℤ-assoc : (a b c : ℤ) → (a *ℤ b) *ℤ c ≡ a *ℤ (b *ℤ c)
 *ℤ-assoc a b c =
     by-steps (λ (a : ℤ). (a *ℤ b) *ℤ c ≡ a *ℤ (b *ℤ c))

@@ -127,11 +127,3 @@ pub ring-with : (ρ : List ℤ) (a b k c d : Expr) → T (allZ (norm ((a ⊖ b) 
 ring-with ρ a b k c d t h =
     eq-of-sub (eval ρ a) (eval ρ b)
     (ring ρ (a ⊖ b) (k ⊗ (c ⊖ d)) t ∙ ap (λ (z : ℤ). eval ρ k *ℤ z) (sub-of-eq (eval ρ c) (eval ρ d) h) ∙ *ℤ-zero (eval ρ k))
-
-pub ring-with2 : (ρ : List ℤ) (a b k c d l e f : Expr) → T (allZ (norm ((a ⊖ b) ⊖ (k ⊗ (c ⊖ d) ⊕ l ⊗ (e ⊖ f))))) → eval ρ c ≡ eval ρ d
-    → eval ρ e ≡ eval ρ f → eval ρ a ≡ eval ρ b
-ring-with2 ρ a b k c d l e f t g h =
-    eq-of-sub (eval ρ a) (eval ρ b)
-    (ring ρ (a ⊖ b) (k ⊗ (c ⊖ d) ⊕ l ⊗ (e ⊖ f)) t
-    ∙ (λ i. (ap (λ (z : ℤ). eval ρ k *ℤ z) (sub-of-eq (eval ρ c) (eval ρ d) g) ∙ *ℤ-zero (eval ρ k))
-    i +ℤ (ap (λ (z : ℤ). eval ρ l *ℤ z) (sub-of-eq (eval ρ e) (eval ρ f) h) ∙ *ℤ-zero (eval ρ l)) i))

@@ -9,7 +9,7 @@ use lib.Dec.{T, leb→le, le→leb, ltb→lt, lt→ltb, nleb→lt}
 use lib.IntN.{ℤ, pos, negsuc, negℤ, _+ℤ_, _-ℤ_, _*ℤ_, zero-*ℤ, *ℤ-zero, +ℤ-invr}
 use lib.Signed.{leZ, ltZ, _≤ℤ_, _<ℤ_, <ℤ-irrefl, ltZ-no, ltZ-yes, leZ-yes}
 use Rattle.lists.proofs.Truth.{is-true}
-use Rattle.exact.specs.Signs.{Sign3, below, level, above, sign, turned, product}
+use Rattle.exact.specs.Signs.{below, level, above, sign, turned, product}
 use Rattle.exact.proofs.Laws.{mul-addℤ, mul-negℤ, eq-of-sub}
 
 -- ---- the sign
@@ -18,11 +18,6 @@ pub sign-neg : (a : ℤ) → sign (negℤ a) ≡ turned (sign a)
 sign-neg (pos zero) = refl
 sign-neg (pos (suc n)) = refl
 sign-neg (negsuc n) = refl
-
-pub turned-turned : (s : Sign3) → turned (turned s) ≡ s
-turned-turned below = refl
-turned-turned level = refl
-turned-turned above = refl
 
 -- a natural number above 0
 sign-pos : (n : ℕ) → 0 < n → sign (pos n) ≡ above
@@ -78,9 +73,6 @@ nle (pos a) (pos b) t = lt→ltb b a (nleb→lt a b t)
 nle (pos a) (negsuc b) t = tt
 nle (negsuc a) (pos b) t = absurd t
 nle (negsuc a) (negsuc b) t = lt→ltb a b (nleb→lt b a t)
-
-pub leZ-no : {a b : ℤ} → T (not (leZ a b)) → b <ℤ a
-leZ-no {a} {b} t = record { lt = nle a b t }
 
 -- ---- zero products
 

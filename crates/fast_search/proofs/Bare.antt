@@ -31,7 +31,8 @@ use Rattle.fast_search.proofs.Line.{Between, between-open, between-turn
 use Rattle.fast_search.proofs.Line.{long-between, at-end}
 use Rattle.fast_search.proofs.Search.{deeper-is, step-is, higher-free, start-level, start-closing}
 use Rattle.fast_search.proofs.Search.{follow-uses, final-in}
-use Rattle.fast_search.proofs.Sets.{joined-back, final-more, can, ends, size, follow, deep, begun, Free, Closing, row-is, free-more, follow-can, closes-ends}
+use Rattle.fast_search.proofs.Sets.{joined-back, final-more, can, ends, size, follow, deep, begun, Free, Closing, row-is}
+use Rattle.fast_search.proofs.Sets.{free-more, follow-can, closes-ends}
 
 module _ (d : Wire) (places : samePlace d ≡ none) (meets : edgeMeets d ≡ none) where
   apart : (u v : ℕ) → u < size d → v < size d → (u ≡ v → ⊥) → isOrigin (minus (at d u) (at d v)) ≡ false

@@ -27,7 +27,7 @@ use Rattle.fast_tables.specs.Asked.{coversByAnswers}
 use Rattle.fast_tables.proofs.Rows.{table-clashes}
 use Rattle.fast_tables.proofs.Candidates.{uncovering-found}
 
--- ---- what area says of a closed path, by places
+-- ---- what `means_area` says of a closed path, by places
 
 chain-at : (x : ℕ) (r : List ℕ) (e i : ℕ) → i < length r → Chain x r e (getD (x ∷ r) i 0) (getD r i 0)
 chain-at x [] e i h = absurd (omega arith)

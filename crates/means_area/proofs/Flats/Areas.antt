@@ -18,7 +18,8 @@ use Rattle.means_area.proofs.Flats.Choice.{Choice, whole, cut}
 use Rattle.means_area.proofs.Flats.Rings.{part-back, area-cut, area-ear}
 use Rattle.means_area.proofs.Flats.Lowest.{Split, of-split, pair-swap}
 use Rattle.means_area.proofs.Flats.First.{Free, choice, not-flat, Area, Rest}
-use Rattle.means_area.proofs.Flats.Chains.{lst-append, lst-of, chain-split, chain-left, chain-right, Sub, keep, skip, sub-all, sub-none, sub-append, sub-of, sub-distinct, narrow}
+use Rattle.means_area.proofs.Flats.Chains.{lst-append, lst-of, chain-split, chain-left, chain-right, Sub, keep, skip, sub-all}
+use Rattle.means_area.proofs.Flats.Chains.{sub-none, sub-append, sub-of, sub-distinct, narrow}
 
 module _ (m : ℤ) (n : ℕ) (A : Area m n) (R : Rest m (suc n)) where
   abbrev h : Flat → ℤ

@@ -18,7 +18,9 @@ use Rattle.means_area.proofs.Flats.Choice.{Hit, four}
 use Rattle.means_area.proofs.Flats.Rings.{area-turned}
 use Rattle.means_area.proofs.Flats.Lowest.{pair-swap}
 use Rattle.means_area.proofs.Flats.First.{Free, ends-apart, first-link, last-link, ear-simple, Area, Rest}
-use Rattle.means_area.proofs.Flats.Chains.{lst-append, lst-of, link-back, chain-split, chain-left, chain-right, chain-last, chain-cut, Sub, keep, skip, sub-all, sub-append, sub-of, of-append, of-right, sub-distinct, narrow, turned, ok-turned}
+use Rattle.means_area.proofs.Flats.Chains.{lst-append, lst-of, link-back, chain-split, chain-left, chain-right, chain-last}
+use Rattle.means_area.proofs.Flats.Chains.{chain-cut, Sub, keep, skip, sub-all, sub-append, sub-of, of-append, of-right}
+use Rattle.means_area.proofs.Flats.Chains.{sub-distinct, narrow, turned, ok-turned}
 
 -- the ring u c X v y Y, with u the lowest, an empty triangle at u, and v the lowest but u
 pub record Second (m : ℤ) (u c : Flat) (X : List Flat) (v y : Flat) (Y : List Flat) : Type 0 where

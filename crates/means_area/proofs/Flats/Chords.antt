@@ -16,7 +16,8 @@ use Rattle.means_area.proofs.Flats.Choice.{Hit}
 use Rattle.means_area.proofs.Flats.Lowest.{Split, Prefix, lst-nil, sub-left, pair-swap}
 use Rattle.means_area.proofs.Flats.First.{Area, Rest}
 use Rattle.means_area.proofs.Flats.Around.{Second, OneTurn, reduced}
-use Rattle.means_area.proofs.Flats.Chains.{lst-append, chain-split, chain-left, chain-right, chain-cut, Sub, keep, skip, sub-all, sub-none, sub-append, sub-of, sub-distinct, narrow}
+use Rattle.means_area.proofs.Flats.Chains.{lst-append, chain-split, chain-left, chain-right, chain-cut, Sub, keep, skip, sub-all}
+use Rattle.means_area.proofs.Flats.Chains.{sub-none, sub-append, sub-of, sub-distinct, narrow}
 
 -- the chord from v to w may be added
 abbrev pub Chord : ℤ → Flat → Flat → List Flat → Flat → Flat → List Flat → Flat → Type 0

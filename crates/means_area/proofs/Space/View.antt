@@ -147,7 +147,8 @@ module _ (g : List Point) (n s : Point) (nz : n .z ≡ pos 0 → ⊥) (level : L
               after = sub-pos (c .after);
               before = diff-up T S
                   (up-is
-                  (ring (height m (down p) ∷ height m (down q) ∷ height m (down r) ∷ []) (var 1 ⊖ var 2) ((var 1 ⊖ var 0) ⊖ (var 2 ⊖ var 0)) tt)
+                  (ring (height m (down p) ∷ height m (down q) ∷ height m (down r) ∷ []) (var 1 ⊖ var 2)
+                  ((var 1 ⊖ var 0) ⊖ (var 2 ⊖ var 0)) tt)
                   (sub-pos (c .before)));
             };
         is = point-eq (times S r) (plus (times S p) (times T (minus q p)))

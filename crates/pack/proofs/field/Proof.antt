@@ -28,7 +28,8 @@ rem-result c = search needs
 returns : tie.Need-returns
 returns c =
     let a = c .before .before .before .args in
-    field-window (a .s .now) (a .i) (a .width) (24 - a .i % 8 - a .width) (omega arith) (omega arith) (c .before .window .ensures .0) (c .power .ensures .0)
+    field-window (a .s .now) (a .i) (a .width) (24 - a .i % 8 - a .width) (omega arith) (omega arith) (c .before .window .ensures .0)
+    (c .power .ensures .0)
 
 pub field-spec : {M : Type 1} → statement M
 field-spec = tie.close (tie.spec window-requires sub-result sub-result-2 shr-result power-requires rem-result returns)

@@ -10,7 +10,9 @@ use Rattle.pack.proofs.patch.Tie as tie
 
 -- what stands above the k lowest bits
 abbrev Above : tie.After-power2 → ℕ
-Above c = c .before .before .args .x / 2 ^ c .before .before .args .k / c .power2 .result * c .power2 .result + c .before .before .args .v % c .power2 .result
+Above c =
+    c .before .before .args .x / 2 ^ c .before .before .args .k / c .power2 .result * c .power2 .result + c .before .before .args .v %
+    c .power2 .result
 
 whole : (c : tie.After-power2) → Above c * c .before .power .result + c .before .before .args .x % c .before .power .result < 2 ^ 24
 whole c =
@@ -56,4 +58,6 @@ returns c =
     (patch-is (a .x) (a .k) (a .width) (a .v) (c .before .power .ensures .0) (c .power2 .ensures .0), whole c)
 
 pub patch-spec : {M : Type 1} → statement M
-patch-spec = tie.close (tie.spec power-requires power-requires-2 shr-result div-result mul-result rem-result add-result mul-result-2 rem-result-2 add-result-2 returns)
+patch-spec =
+    tie.close (tie.spec power-requires power-requires-2 shr-result div-result mul-result rem-result add-result mul-result-2 rem-result-2
+    add-result-2 returns)

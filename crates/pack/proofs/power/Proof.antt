@@ -13,7 +13,8 @@ shl-result c = search needs
 
 returns : tie.Need-returns
 returns c =
-    let e : (1 * 2 ^ c .args .k) % 2 ^ 64 ≡ 2 ^ c .args .k = shl-exact 1 (c .args .k) 64 (omega arith) (omega arith) ∙ one-mul (2 ^ c .args .k) in
+    let e : (1 * 2 ^ c .args .k) % 2 ^ 64 ≡ 2 ^ c .args .k = shl-exact 1 (c .args .k) 64 (omega arith) (omega arith)
+    ∙ one-mul (2 ^ c .args .k) in
     (e, rw e (pow-pos (c .args .k)))
 
 pub power-spec : {M : Type 1} → statement M

@@ -40,8 +40,13 @@ returns : tie.Need-returns
 returns c =
     let d = c .before .before .before .before .before .before .before .before .before .before .before .before in
     let a = d .before .before .before .before .args in
-    put-window (a .s .now) (a .i) (a .width) (24 - a .i % 8 - a .width) (omega arith) (omega arith) (a .v) (d .before .window .ensures .0) (d .patch .ensures .0)
-    (c .before .before .before .before .before .before .before .before .before .before .set-byte .ensures) (c .before .before .before .before .before .before .set-byte2 .ensures) (c .before .before .set-byte3 .ensures)
+    put-window (a .s .now) (a .i) (a .width) (24 - a .i % 8 - a .width) (omega arith) (omega arith) (a .v) (d .before .window .ensures .0)
+    (d .patch .ensures .0)
+    (c .before .before .before .before .before .before .before .before .before .before .set-byte .ensures)
+    (c .before .before .before .before .before .before .set-byte2 .ensures) (c .before .before .set-byte3 .ensures)
 
 pub put-spec : {M : Type 1} → statement M
-put-spec = tie.close (tie.spec window-requires sub-patch sub-patch-2 patch-requires set-byte-requires add-set-byte set-byte-requires-2 add-set-byte-2 set-byte-requires-3 same-length returns)
+put-spec =
+    tie.close
+    (tie.spec window-requires sub-patch sub-patch-2 patch-requires set-byte-requires add-set-byte set-byte-requires-2 add-set-byte-2
+    set-byte-requires-3 same-length returns)

@@ -39,4 +39,6 @@ returns c =
     (window-is (a .s .now) (a .i / 8) (c .before .before .byte .ensures) (c .before .byte2 .ensures) (c .byte3 .ensures), omega arith)
 
 pub window-spec : {M : Type 1} → statement M
-window-spec = tie.close (tie.spec byte-requires mul-result add-byte byte-requires-2 mul-result-2 add-result add-byte-2 byte-requires-3 add-result-2 returns)
+window-spec =
+    tie.close (tie.spec byte-requires mul-result add-byte byte-requires-2 mul-result-2 add-result add-byte-2 byte-requires-3 add-result-2
+    returns)
