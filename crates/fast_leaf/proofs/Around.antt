@@ -11,12 +11,13 @@ use borrow.Author.Tests.{eq-eqb, ne-eqb}
 use Rattle.lists.proofs.Truth.{and-left, and-both}
 use Rattle.sets.specs.Word.{dig, Sub, count, both, first}
 use Rattle.sets.proofs.Digits.{never, dig-both, dig-only, dig-self, count-only, first-in, count-alone}
+use Rattle.sets.proofs.Ones.{dig-none}
 use Rattle.paper.specs.Solids.{onceEachWay, oriented}
 use Rattle.means_leaf.specs.Meaning.{In, InTwo, Way, stay, across}
 use Rattle.means_leaf.proofs.Spread.{place-in}
 use Rattle.means_leaf.proofs.Directions.{once-suits, oriented-here}
 use Rattle.fast_sweeps.specs.Worklist.{after, edgesWith}
-use Rattle.fast_sweeps.proofs.Marks.{dig-none, after-in, after-out, count-after, dig-sides}
+use Rattle.fast_sweeps.proofs.Marks.{after-in, after-out, count-after, dig-sides}
 use Rattle.fast_leaf.specs.Faces.{Going, atEdge, aroundFace, atFace, goOn, toGo, atLowest, fromLowest}
 use Rattle.fast_leaf.proofs.Edge.{Fair, edge-keeps, edge-old, edge-covers, edge-fair, edge-togo}
 

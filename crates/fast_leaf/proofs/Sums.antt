@@ -12,9 +12,10 @@ use borrow.Author.Tests.{eq-eqb, eqb-true}
 use Rattle.lists.proofs.Truth.{same-truth, never-true}
 use Rattle.sets.specs.Word.{dig, count, both, first}
 use Rattle.sets.proofs.Digits.{never, first-in}
+use Rattle.sets.proofs.Ones.{dig-none, first-low}
 use Rattle.paper.specs.Solids.{part, sixFrom, peaceful, clearFrom}
 use Rattle.fast_sweeps.specs.Worklist.{after}
-use Rattle.fast_sweeps.proofs.Marks.{dig-none, first-low, after-in, after-out, count-after}
+use Rattle.fast_sweeps.proofs.Marks.{after-in, after-out, count-after}
 use Rattle.fast_leaf.specs.Faces.{clearOn, sixOn}
 
 passes : (b c : Bool) → cond b c false ≡ true → (b ≡ true) × (c ≡ true)

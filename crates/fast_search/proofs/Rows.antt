@@ -2,12 +2,10 @@
 use mathlib.Core.Bool.{Bool, true, false, _&&_, _||_, true≢false}
 use mathlib.Core.List.{List, [], _∷_, _++_}
 use mathlib.Core.Path.{_≡_, refl, sym, ap, _∙_}
-use Prim.Native.Nat.{ℕ, zero, suc, _+_, _<_}
+use Prim.Native.Nat.{ℕ, zero, suc, _+_}
 use native.Mathlib.Omega.{arith}
-use lib.Dec.{eqb, ltb, eqb·zero-suc, eqb·suc-zero, eqb·suc-suc}
-use lib.ListN.{replicate, length-replicate, getD-replicate, List·getD-eq-default}
-use borrow.Author.Tests.{eqb-true, eq-eqb, lt-ltb, le-ltb}
-use native.Mathlib.Decide.{decLt}
+use lib.ListN.{replicate}
+use borrow.Author.Tests.{eqb-true, eq-eqb}
 use Rattle.lists.proofs.Truth.{never-true, or-none}
 use Rattle.sets.specs.Word.{word, digit, dig, count, first, less, only}
 use Rattle.sets.proofs.Numbers.{digit-zero, digit-word, none-digits}
@@ -15,35 +13,6 @@ use Rattle.sets.proofs.Digits.{count-none, count-empty, less-nil}
 use Rattle.fast_search.specs.Rows.{empty, eachOf, someOf}
 
 -- ---- one digit
-pub only-is : (v j : ℕ) → dig (only v) j ≡ eqb j v
-unfolding only
-only-is zero zero = sym (eq-eqb 0 0 refl)
-only-is zero (suc j) = sym (eqb·suc-zero j)
-only-is (suc v) zero = sym (eqb·zero-suc v)
-only-is (suc v) (suc j) = only-is v j ∙ sym (eqb·suc-suc j v)
-
-pub full-is : (m j : ℕ) → dig (replicate m true) j ≡ ltb j m
-full-is m j = go (decLt j m)
-  where
-    past : (j < m → ⊥) → dig (replicate m true) j ≡ false
-    past h = List·getD-eq-default (replicate m true) false (omega (arith, h, length-replicate m true))
-
-    go : Dec (j < m) → dig (replicate m true) j ≡ ltb j m
-    go (yes h) = getD-replicate m j true false h ∙ sym (lt-ltb j m h)
-    go (no h) = past h ∙ sym (le-ltb j m (omega (arith, h)))
-
-pub nils-low : (m j : ℕ) (bs : List Bool) → j < m → dig (replicate m false ++ bs) j ≡ false
-nils-low zero j bs h = absurd (omega arith)
-nils-low (suc m) zero bs h = refl
-nils-low (suc m) (suc j) bs h = nils-low m j bs (omega arith)
-
-pub nils-high : (m j : ℕ) (bs : List Bool) → dig (replicate m false ++ bs) (j + m) ≡ dig bs j
-nils-high zero j bs =
-    let e : j + 0 ≡ j = omega arith in
-    ap (dig bs) e
-nils-high (suc m) j bs =
-    let e : j + suc m ≡ suc (j + m) = omega arith in
-    ap (dig (replicate (suc m) false ++ bs)) e ∙ nils-high m j bs
 
 nils-shift : (m : ℕ) (bs : List Bool) → replicate m false ++ (false ∷ bs) ≡ replicate (suc m) false ++ bs
 nils-shift zero bs = refl

@@ -9,9 +9,10 @@ use lib.Dec.{ltb}
 use lib.ListN.{replicate}
 use borrow.Author.Tests.{lt-ltb, le-ltb}
 use Rattle.sets.specs.Word.{dig}
+use Rattle.sets.proofs.Ones.{nils-low, nils-high}
 use Rattle.paper.specs.Loops.{Loop, follows, closes, branch, scan, ext}
 use Rattle.fast_search.specs.Rows.{eachOf}
-use Rattle.fast_search.proofs.Rows.{nils-low, nils-high, each-none}
+use Rattle.fast_search.proofs.Rows.{each-none}
 
 pub map-append : {A B : Type 0} (g : A → B) (xs ys : List A) → map g (xs ++ ys) ≡ map g xs ++ map g ys
 map-append g [] ys = refl

@@ -13,11 +13,11 @@ use Rattle.lists.specs.Lists.{any, member, upto}
 use Rattle.lists.proofs.Places.{made-length, made-at}
 use Rattle.sets.specs.Word.{dig, both, less, only}
 use Rattle.sets.proofs.Digits.{dig-both, dig-less}
+use Rattle.sets.proofs.Ones.{only-is}
 use Rattle.paper.specs.Points.{isOrigin}
 use Rattle.paper.specs.Drawing.{Wire, Edge, edge, at, joins, joined}
 use Rattle.paper.specs.Loops.{Loop, final, follows, closes, branch, ext, across, level}
 use Rattle.fast_search.specs.Search.{near, planeMask, turn}
-use Rattle.fast_search.proofs.Rows.{only-is}
 use Rattle.fast_search.proofs.Scan.{goes}
 use Rattle.fast_search.proofs.Phases.{level-line, level-turn}
 use Rattle.fast_search.proofs.Phases.{plane-at}

@@ -8,11 +8,12 @@ use native.Mathlib.Omega.{arith}
 use lib.Dec.{eqb, ltb}
 use borrow.Author.Tests.{eq-eqb, ne-eqb, lt-ltb, le-ltb}
 use Rattle.sets.specs.Word.{bit, count, both, either, less}
+use Rattle.sets.proofs.Ones.{nil-either}
+use Rattle.sets.proofs.Digits.{less-nil}
 use Rattle.paper.specs.Conversion.{takens}
 use Rattle.paper.specs.Walk.{Status, Taken, Rejected, Undecided, isTaken, isOpen, takenOn, openOn, decideOne, decide, settle, contradicts}
 use Rattle.means_walk.proofs.Status.{opens, count-opens, count-takens}
 use Rattle.fast_sweeps.specs.Worklist.{decidedOn}
-use Rattle.fast_sweeps.proofs.Marks.{nil-either, nil-less}
 
 -- ---- the sets of those taken and of those undecided
 one-takes : (b : Bool) (s : Status) → isTaken (decideOne Taken b s) ≡ isTaken s || (b && isOpen s)
@@ -54,7 +55,7 @@ one-decides v o true Undecided = o
 pub opens-decided : (v : Status) → isOpen v ≡ false → (mask : List Bool) (st : List Status)
     → opens (decide v mask st) ≡ less (opens st) (both mask (opens st))
 unfolding decide less both
-opens-decided v o [] st = sym (nil-less (opens st))
+opens-decided v o [] st = sym (less-nil (opens st))
 opens-decided v o (b ∷ mask) [] = refl
 opens-decided v o (b ∷ mask) (s ∷ st) = ap₂ (λ (x : Bool) (y : List Bool). x ∷ y) (one-decides v o b s) (opens-decided v o mask st)
 

@@ -9,35 +9,6 @@ use Rattle.sets.specs.Word.{dig, count, first, both, either, less}
 use Rattle.sets.proofs.Digits.{never, length-either, length-both, length-less}
 use Rattle.fast_sweeps.specs.Worklist.{after, passed, edgesWith, meets, touched, nextAhead, nextLater}
 
-pub nil-either : (x : List Bool) → either x [] ≡ x
-unfolding either
-nil-either [] = refl
-nil-either (b ∷ x) = refl
-
-pub nil-less : (x : List Bool) → less x [] ≡ x
-unfolding less
-nil-less [] = refl
-nil-less (b ∷ x) = refl
-
-pub dig-lt : (a : List Bool) (j : ℕ) → dig a j ≡ true → j < length a
-dig-lt [] j e = never (sym e)
-dig-lt (b ∷ a) zero e = omega arith
-dig-lt (b ∷ a) (suc j) e = omega (arith, dig-lt a j e)
-
-pub dig-none : (a : List Bool) → count a ≡ 0 → (j : ℕ) → dig a j ≡ false
-unfolding count
-dig-none [] z j = refl
-dig-none (true ∷ a) z j = absurd (omega arith)
-dig-none (false ∷ a) z zero = refl
-dig-none (false ∷ a) z (suc j) = dig-none a (omega arith) j
-
-pub first-low : (a : List Bool) (j : ℕ) → j < first a → dig a j ≡ false
-unfolding first
-first-low [] j h = refl
-first-low (true ∷ a) j h = absurd (omega arith)
-first-low (false ∷ a) zero h = refl
-first-low (false ∷ a) (suc j) h = first-low a j (omega arith)
-
 -- ---- without the lowest
 pub after-in : (a : List Bool) (j : ℕ) → dig (after a) j ≡ true → (first a < j) × (dig a j ≡ true)
 unfolding after first

@@ -14,6 +14,7 @@ use Rattle.lists.proofs.Truth.{or-none, or-cases, and-left, and-right}
 use Rattle.lists.proofs.Truth as Truth
 use Rattle.sets.specs.Word.{dig, count, first, both, either, less}
 use Rattle.sets.proofs.Digits.{never, dig-both, dig-either, dig-less, first-in}
+use Rattle.sets.proofs.Ones.{dig-lt, dig-none, first-low}
 use Rattle.paper.specs.Walk.{Status, openCount, settle, contradicts, Outcome, Broken, Stands, onStands, sweep, stable}
 use Rattle.means_walk.specs.Tree.{Sweeps, breaks, rests, again}
 use Rattle.means_walk.proofs.Grown.{sweeps, sweeps-stable}
@@ -23,7 +24,7 @@ use Rattle.fast_sweeps.specs.Worklist.{after, passed, edgesWith, meets, 
 use Rattle.fast_sweeps.specs.Worklist.{afterwards, Remains}
 use Rattle.fast_sweeps.proofs.Edge.{no-break, settle-same, settle-none, meets-self, settled-same, settled-none, settle-still}
 use Rattle.fast_sweeps.proofs.Edge.{set-same}
-use Rattle.fast_sweeps.proofs.Marks.{dig-lt, dig-none, first-low, after-in, after-out, passed-in, passed-out, dig-sides}
+use Rattle.fast_sweeps.proofs.Marks.{after-in, after-out, passed-in, passed-out, dig-sides}
 use Rattle.fast_sweeps.proofs.Marks.{length-sides, dig-touched, length-touched}
 
 module _ (masks : List (List Bool)) where

@@ -10,13 +10,13 @@ use lib.Bits.{bitAnd, bitXor, differ, and-step, xor-step, and-self, xor-self}
 use lib.ListN.{length, set}
 use lib.Pow.{pow-pos}
 use Rattle.sets.specs.Word.{bit, word, dig, count, first, either, less, only}
-use Rattle.sets.proofs.Digits.{never}
+use Rattle.sets.proofs.Digits.{never, less-nil}
 use Rattle.sets.proofs.Word.{less-word}
+use Rattle.sets.proofs.Ones.{nil-either}
 use Rattle.paper.specs.Conversion.{takens}
 use Rattle.paper.specs.Walk.{Status, Taken, Rejected, Undecided, isTaken, isOpen}
 use Rattle.means_walk.proofs.Status.{opens}
 use Rattle.fast_sweeps.specs.Worklist.{after, passed, nextAhead, nextLater}
-use Rattle.fast_sweeps.proofs.Marks.{nil-either, nil-less}
 use Rattle.fast_sweeps.proofs.Work.{ahead-none, later-none}
 
 module _ (p q : ℕ) {x y : ℕ} (hx : x < 2) (hy : y < 2) where
@@ -145,5 +145,5 @@ and-none false = refl
 pub opens-set : (v : Status) → isOpen v ≡ false → (st : List Status) (k : ℕ) → opens (set st k v) ≡ less (opens st) (only k)
 unfolding less only
 opens-set v o [] k = refl
-opens-set v o (s ∷ st) zero = ap₂ (λ (x : Bool) (y : List Bool). x ∷ y) (o ∙ and-none (isOpen s)) (sym (nil-less (opens st)))
+opens-set v o (s ∷ st) zero = ap₂ (λ (x : Bool) (y : List Bool). x ∷ y) (o ∙ and-none (isOpen s)) (sym (less-nil (opens st)))
 opens-set v o (s ∷ st) (suc k) = ap₂ (λ (x : Bool) (y : List Bool). x ∷ y) (sym (and-true (isOpen s))) (opens-set v o st k)

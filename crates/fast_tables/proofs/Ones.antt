@@ -1,6 +1,6 @@
 -- A loop over the ones of a word. Assumes nothing.
 use mathlib.Core.Path.{_≡_, refl, sym, ap, _∙_}
-use mathlib.Core.Bool.{Bool, true, false, not, _&&_, _||_, cond, true≢false, and-false, or-false, or-assoc}
+use mathlib.Core.Bool.{Bool, true, false, not, _&&_, _||_, cond, and-false, or-false, or-assoc}
 use mathlib.Core.Logic.{_⊎_, inl, inr}
 use mathlib.Core.List.{List, [], _∷_}
 use Prim.Native.Nat.{ℕ, zero, suc, _+_, _≤_, _<_}
@@ -10,16 +10,10 @@ use Rattle.lists.specs.Lists.{any, keep, filter, from, upto}
 use Rattle.lists.proofs.Truth.{never-true}
 use Rattle.sets.specs.Word.{dig, count, first, either, less, only}
 use Rattle.sets.proofs.Digits.{dig-either, dig-less, dig-only, dig-self, count-none, first-in}
+use Rattle.sets.proofs.Ones.{first-least}
 use Rattle.fast_tables.specs.Asked.{Answers, unheld}
 use Rattle.fast_tables.specs.Words.{ones, gathered}
 use Rattle.fast_tables.proofs.Asked.{any-filter}
-
-pub first-least : (a : List Bool) (k : ℕ) → dig a k ≡ true → first a ≤ k
-unfolding first
-first-least [] k e = absurd (true≢false (sym e))
-first-least (true ∷ a) k e = omega arith
-first-least (false ∷ a) zero e = absurd (true≢false (sym e))
-first-least (false ∷ a) (suc k) e = omega (arith, first-least a k e)
 
 -- ---- the first that passes goes out
 module _ (p q : ℕ → Bool) where

@@ -6,7 +6,6 @@ pub mod Edges
 pub mod Planes
 pub mod Rings
 use mathlib.Core.Path.{_≡_, refl, sym, _∙_}
-use mathlib.Core.Bool.{true}
 use mathlib.Core.Logic.{inl, inr}
 use mathlib.Core.Option.{none}
 use mathlib.Core.List.{List, [], _∷_, map}
@@ -15,12 +14,13 @@ use native.Mathlib.Omega.{arith}
 use lib.ListN.{length, getD}
 use lib.IntN.{ℤ, pos, _-ℤ_}
 use Rattle.paper.specs.Points.{origin}
-use Rattle.paper.specs.Polygon.{Polygon, normal, corner, planeSide, onePlane, axis, seen}
+use Rattle.paper.specs.Polygon.{Polygon, normal, corner, planeSide, axis, seen}
 use Rattle.paper.specs.Numbers.{mostCorners}
 use Rattle.paper.specs.Drawing.{Wire, at, joined, samePlace, edgeMeets}
 use Rattle.paper.specs.Loops.{Loop, level, loops, polygon, loopAt}
 use Rattle.paper.specs.declared.Point.{Point}
 use Rattle.paper_laws.proofs.Vectors.{vec, _-s_, _·_, v, _-v_, vring}
+use Rattle.paper_laws.specs.Planes.{InOwnPlane}
 use Rattle.means_area.specs.Theorems.{LoopsHold}
 use Rattle.means_area.specs.Rings.{Of}
 use Rattle.means_area.specs.Flats.{Simple}
@@ -82,7 +82,7 @@ module _ (d : Wire) (r11 : samePlace d ≡ none) (r13 : edgeMeets d ≡ none) (i
   normal-real = is-good .real
 
   -- its plane has all its corners
-  pub plane-holds : onePlane (loopOf d i) (loopOf d i) ≡ true
+  pub plane-holds : InOwnPlane (loopOf d i)
   plane-holds = own-plane (loopOf d i) (is-good .flat)
 
   -- its normal is not 0 along the axis that it is seen along

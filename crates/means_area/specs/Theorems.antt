@@ -1,17 +1,17 @@
 -- What is proved of polygons and loops: that they have an area, a plane of their own, and are seen without loss. Assumes nothing.
 use mathlib.Core.Path.{_≡_}
-use mathlib.Core.Bool.{true}
 use mathlib.Core.Option.{none}
 use mathlib.Core.List.{List, map}
 use Prim.Native.Nat.{ℕ, _≤_, _<_}
 use lib.IntN.{ℤ, pos}
 use lib.ListN.{length}
 use Rattle.paper.specs.Points.{origin}
-use Rattle.paper.specs.Polygon.{Polygon, normal, planeSide, onePlane, axis, seen}
+use Rattle.paper.specs.Polygon.{Polygon, normal, planeSide, axis, seen}
 use Rattle.paper.specs.Drawing.{Wire, samePlace, edgeMeets}
 use Rattle.paper.specs.Loops.{loops}
 use Rattle.paper.specs.declared.Point.{Point}
 use Rattle.paper.specs.declared.Flat.{Flat}
+use Rattle.paper_laws.specs.Planes.{InOwnPlane}
 use Rattle.means_area.specs.Flats.{Simple, area}
 use Rattle.means_area.specs.Space.{Clear, through}
 use Rattle.means_area.specs.Loops.{loopOf}
@@ -29,7 +29,7 @@ AxisReal = (n : Point) → (n ≡ origin → ⊥) → through (axis n) n ≡ pos
 pub record Holds (g : Polygon) : Type 0 where
   pub corners : 3 ≤ length g
   pub normal-real : normal g ≡ origin → ⊥
-  pub plane-holds : onePlane g g ≡ true
+  pub plane-holds : InOwnPlane g
   pub axis-holds : through (axis (normal g)) (normal g) ≡ pos 0 → ⊥
   pub view-holds : (p q : Point) → planeSide g p ≡ pos 0 → planeSide g q ≡ pos 0
       → seen (axis (normal g)) p ≡ seen (axis (normal g)) q → p ≡ q

@@ -73,13 +73,13 @@ upright p = go (isZero (p .x)) refl
 -- ---- the test, step by step, on the rest of a path from s by b
 
 module _ (s b : Point) where
-  abbrev Level : Point → List Point → Type 0
-  Level n [] = Unit {0}
-  Level n (w ∷ ws) = (dot n (minus w s) ≡ pos 0) × Level (tilt s b n w) ws
+  abbrev StepsLevel : Point → List Point → Type 0
+  StepsLevel n [] = Unit {0}
+  StepsLevel n (w ∷ ws) = (dot n (minus w s) ≡ pos 0) × StepsLevel (tilt s b n w) ws
 
-  abbrev Flat : Point → List Point → Type 0
-  Flat n [] = Unit {0}
-  Flat n (w ∷ ws) = (dot n (minus w s) ≡ pos 0) × Flat n ws
+  abbrev AllLevel : Point → List Point → Type 0
+  AllLevel n [] = Unit {0}
+  AllLevel n (w ∷ ws) = (dot n (minus w s) ≡ pos 0) × AllLevel n ws
 
   keeps : (n w : Point) → isOrigin n ≡ false → tilt s b n w ≡ n
   unfolding tilt
@@ -89,30 +89,30 @@ module _ (s b : Point) where
   unfolding tilt isOrigin isZero
   begins w = refl
 
-  fixed : (n : Point) → isOrigin n ≡ false → (ws : List Point) → Level n ws → Flat n ws
+  fixed : (n : Point) → isOrigin n ≡ false → (ws : List Point) → StepsLevel n ws → AllLevel n ws
   fixed n i [] l = tt
-  fixed n i (w ∷ ws) l = (l .0, fixed n i ws (subst (λ (m : Point). Level m ws) (keeps n w i) (l .1)))
+  fixed n i (w ∷ ws) l = (l .0, fixed n i ws (subst (λ (m : Point). StepsLevel m ws) (keeps n w i) (l .1)))
 
-  fixed-back : (n : Point) → isOrigin n ≡ false → (ws : List Point) → Flat n ws → Level n ws
+  fixed-back : (n : Point) → isOrigin n ≡ false → (ws : List Point) → AllLevel n ws → StepsLevel n ws
   fixed-back n i [] l = tt
-  fixed-back n i (w ∷ ws) l = (l .0, subst (λ (m : Point). Level m ws) (sym (keeps n w i)) (fixed-back n i ws (l .1)))
+  fixed-back n i (w ∷ ws) l = (l .0, subst (λ (m : Point). StepsLevel m ws) (sym (keeps n w i)) (fixed-back n i ws (l .1)))
 
-  record Found (ws : List Point) : Type 0 where
+  record Across (ws : List Point) : Type 0 where
     n : Point
     real : n ≡ origin → ⊥
     right : dot n (minus b s) ≡ pos 0
-    flat : Flat n ws
+    flat : AllLevel n ws
 
-  found : (minus b s ≡ origin → ⊥) → (ws : List Point) → Level origin ws → Found ws
+  found : (minus b s ≡ origin → ⊥) → (ws : List Point) → StepsLevel origin ws → Across ws
   found ne [] l = let u = upright (minus b s) in record { n = u .to; real = u .real; right = u .right; flat = tt }
   found ne (w ∷ ws) l =
-      go (isOrigin (cross (minus b s) (minus w s))) refl (subst (λ (m : Point). Level m ws) (begins w) (l .1)) (found ne ws)
+      go (isOrigin (cross (minus b s) (minus w s))) refl (subst (λ (m : Point). StepsLevel m ws) (begins w) (l .1)) (found ne ws)
     where
-      go : (t : Bool) → isOrigin (cross (minus b s) (minus w s)) ≡ t → Level (cross (minus b s) (minus w s)) ws
-          → (Level origin ws → Found ws) → Found (w ∷ ws)
+      go : (t : Bool) → isOrigin (cross (minus b s) (minus w s)) ≡ t → StepsLevel (cross (minus b s) (minus w s)) ws
+          → (StepsLevel origin ws → Across ws) → Across (w ∷ ws)
       go true e h f =
           let z = origin-yes (cross (minus b s) (minus w s)) e in
-          let r = f (subst (λ (m : Point). Level m ws) z h) in
+          let r = f (subst (λ (m : Point). StepsLevel m ws) z h) in
           record {
             n = r .n;
             real = r .real;
@@ -133,19 +133,19 @@ module _ (s b : Point) where
         );
       }
 
-  flat-by : (n m : Point) → (n ≡ origin → ⊥) → cross n m ≡ origin → (ws : List Point) → Flat n ws → Flat m ws
+  flat-by : (n m : Point) → (n ≡ origin → ⊥) → cross n m ≡ origin → (ws : List Point) → AllLevel n ws → AllLevel m ws
   flat-by n m h e [] f = tt
   flat-by n m h e (w ∷ ws) f = (in-one-line n m (minus w s) h e (f .0), flat-by n m h e ws (f .1))
 
-  passes : (n : Point) → (n ≡ origin → ⊥) → dot n (minus b s) ≡ pos 0 → (ws : List Point) → Flat n ws → Level origin ws
+  passes : (n : Point) → (n ≡ origin → ⊥) → dot n (minus b s) ≡ pos 0 → (ws : List Point) → AllLevel n ws → StepsLevel origin ws
   passes n h z [] f = tt
   passes n h z (w ∷ ws) f = (
     vring (vec (minus w s) ∷ []) (o · v 0) (k (pos 0)) tt,
-    subst (λ (m : Point). Level m ws) (sym (begins w)) (go (isOrigin (cross (minus b s) (minus w s))) refl (passes n h z ws (f .1))),
+    subst (λ (m : Point). StepsLevel m ws) (sym (begins w)) (go (isOrigin (cross (minus b s) (minus w s))) refl (passes n h z ws (f .1))),
   )
     where
-      go : (t : Bool) → isOrigin (cross (minus b s) (minus w s)) ≡ t → Level origin ws → Level (cross (minus b s) (minus w s)) ws
-      go true e l = subst (λ (m : Point). Level m ws) (sym (origin-yes (cross (minus b s) (minus w s)) e)) l
+      go : (t : Bool) → isOrigin (cross (minus b s) (minus w s)) ≡ t → StepsLevel origin ws → StepsLevel (cross (minus b s) (minus w s)) ws
+      go true e l = subst (λ (m : Point). StepsLevel m ws) (sym (origin-yes (cross (minus b s) (minus w s)) e)) l
       go false e l =
           fixed-back (cross (minus b s) (minus w s)) e ws
           (flat-by n (cross (minus b s) (minus w s)) h
@@ -156,24 +156,24 @@ module _ (s b : Point) where
 
   -- by the places of the rest
   level-from : (n : Point) (ws : List Point)
-      → ((j : ℕ) → j < length ws → dot (tilted s b n (take j ws)) (minus (getD ws j origin) s) ≡ pos 0) → Level n ws
+      → ((j : ℕ) → j < length ws → dot (tilted s b n (take j ws)) (minus (getD ws j origin) s) ≡ pos 0) → StepsLevel n ws
   unfolding tilted
   level-from n [] f = tt
   level-from n (w ∷ ws) f = (f 0 (omega arith), level-from (tilt s b n w) ws (λ j h. f (suc j) (omega arith)))
 
-  level-at : (n : Point) (ws : List Point) → Level n ws → (j : ℕ) → j < length ws
+  level-at : (n : Point) (ws : List Point) → StepsLevel n ws → (j : ℕ) → j < length ws
       → dot (tilted s b n (take j ws)) (minus (getD ws j origin) s) ≡ pos 0
   unfolding tilted
   level-at n [] l j h = absurd (omega arith)
   level-at n (w ∷ ws) l zero h = l .0
   level-at n (w ∷ ws) l (suc j) h = level-at (tilt s b n w) ws (l .1) j (omega arith)
 
-  flat-at : (n : Point) (ws : List Point) → Flat n ws → (j : ℕ) → j < length ws → dot n (minus (getD ws j origin) s) ≡ pos 0
+  flat-at : (n : Point) (ws : List Point) → AllLevel n ws → (j : ℕ) → j < length ws → dot n (minus (getD ws j origin) s) ≡ pos 0
   flat-at n [] f j h = absurd (omega arith)
   flat-at n (w ∷ ws) f zero h = f .0
   flat-at n (w ∷ ws) f (suc j) h = flat-at n ws (f .1) j (omega arith)
 
-  flat-from : (n : Point) (ws : List Point) → ((j : ℕ) → j < length ws → dot n (minus (getD ws j origin) s) ≡ pos 0) → Flat n ws
+  flat-from : (n : Point) (ws : List Point) → ((j : ℕ) → j < length ws → dot n (minus (getD ws j origin) s) ≡ pos 0) → AllLevel n ws
   flat-from n [] f = tt
   flat-from n (w ∷ ws) f = (f 0 (omega arith), flat-from n ws (λ j h. f (suc j) (omega arith)))
 
@@ -223,7 +223,7 @@ module _ (d : Wire) (a b : ℕ) (t : List ℕ) (ne : at d a ≡ at d b → ⊥) 
       let w = found (at d a) (at d b) (differ ne) (map (at d) t) l in
       record { across = w .n; height = dot (w .n) (at d a); real = w .real; every = λ i h. go w i h }
     where
-      go : (w : Found (at d a) (at d b) (map (at d) t)) (i : ℕ) → i < length (map (at d) (a ∷ b ∷ t))
+      go : (w : Across (at d a) (at d b) (map (at d) t)) (i : ℕ) → i < length (map (at d) (a ∷ b ∷ t))
           → dot (w .n) (getD (map (at d) (a ∷ b ∷ t)) i origin) ≡ dot (w .n) (at d a)
       go w zero h = refl
       go w (suc zero) h = level-of (at d a) (at d b) (w .n) (at d b) (w .right)

@@ -14,7 +14,7 @@ use Rattle.paper.specs.Points.{origin, minus, cross, det, above, isOrigin, same
 use Rattle.paper.specs.Polygon.{Polygon, normal, onePlane}
 use Rattle.paper.specs.Clash.{pierces, enters, angleHolds, inAngle, Side, to, turnsAt, pointsIn, isCorner, bends, folds, clash}
 use Rattle.paper.specs.declared.Point.{Point}
-use Rattle.means_clash.specs.Flat.{Flat}
+use Rattle.paper_laws.specs.Planes.{InOwnPlane}
 use Rattle.means_clash.proofs.Planes.{none-dot, plane-either}
 
 -- ---- two points at one place are one
@@ -144,7 +144,7 @@ no-bend f g h = go (meets f g) refl
     go true e = absurd (clear (meets-bend f g e) h)
     go false e = refl
 
-pub folds-either : (f g : Polygon) → Flat f → Flat g → folds f g ≡ folds g f
+pub folds-either : (f g : Polygon) → InOwnPlane f → InOwnPlane g → folds f g ≡ folds g f
 unfolding folds
 folds-either f g hf hg = go (isOrigin (normal f)) refl (isOrigin (normal g)) refl
   where
@@ -170,7 +170,7 @@ swap false false true false e = refl
 swap false false false true e = refl
 swap false false false false e = refl
 
-pub clash-either : (f g : Polygon) → Flat f → Flat g → clash f g ≡ clash g f
+pub clash-either : (f g : Polygon) → InOwnPlane f → InOwnPlane g → clash f g ≡ clash g f
 unfolding clash
 clash-either f g hf hg =
     swap (pierces f g) (pierces g f) (enters f g) (enters g f) (folds f g)

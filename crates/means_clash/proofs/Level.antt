@@ -14,7 +14,7 @@ use Rattle.paper.specs.Points.{origin, plus, minus, dot, cross, sum, isZero, is
 use Rattle.paper.specs.Polygon.{normal, corner, planeSide, onePlane}
 use Rattle.paper.specs.Loops.{tilt, tilted}
 use Rattle.paper.specs.declared.Point.{Point}
-use Rattle.means_clash.specs.Flat.{Flat}
+use Rattle.paper_laws.specs.Planes.{InOwnPlane}
 use Rattle.means_clash.proofs.Combine.{combine, E3, vars, zeroE, plusE, minusE, dotE, crossE}
 use Rattle.means_clash.proofs.Planes.{yes-zero, same-offset, self-zero, At, at-place, area-right}
 
@@ -213,7 +213,7 @@ module _ (a b : Point) (r : List Point) (real : isOrigin (minus b a) ≡ false) 
           (at-place (tilted a b origin (a ∷ r)) (dot (tilted a b origin (a ∷ r)) a) (a ∷ r) at-all i h)
       go true e = line-area (minus b a) a (minus (getD (a ∷ r) i origin) a) a r real (in-line e (a ∷ r) passed)
 
-  pub tests-flat : Flat (a ∷ r)
+  pub tests-flat : InOwnPlane (a ∷ r)
   unfolding onePlane planeSide corner
   tests-flat =
       all-is (λ p. isZero (planeSide (a ∷ r) p)) origin (a ∷ r)

@@ -16,7 +16,7 @@ use Rattle.exact.proofs.Signs.{mul-zero, square-zero}
 use Rattle.paper.specs.Points.{origin, plus, minus, dot, cross, sum, isZero, isOrigin}
 use Rattle.paper.specs.Polygon.{Polygon, normal, corner, planeSide, onePlane}
 use Rattle.paper.specs.declared.Point.{Point}
-use Rattle.means_clash.specs.Flat.{Flat}
+use Rattle.paper_laws.specs.Planes.{InOwnPlane}
 use Rattle.means_clash.proofs.Combine.{combine, E3, vars, zeroE, plusE, minusE, dotE, crossE}
 
 pub yes-zero : (z : ℤ) → z ≡ pos 0 → isZero z ≡ true
@@ -144,7 +144,7 @@ area-right n real c a r h p hp =
     mul-zero (dot n n) (dot (normal (a ∷ r)) (minus p a)) (λ z. true≢false (sym (self-zero n z) ∙ real))
     (area-across n (minus p a) c (offset-same n p a (hp ∙ sym (h .0))) (a ∷ r) h)
 
-zero-side : (f : Polygon) → Flat f → isOrigin (normal f) ≡ false → (g : Polygon) → onePlane f g ≡ true → (i : ℕ) → i < length f
+zero-side : (f : Polygon) → InOwnPlane f → isOrigin (normal f) ≡ false → (g : Polygon) → onePlane f g ≡ true → (i : ℕ) → i < length f
     → planeSide g (getD f i origin) ≡ pos 0
 unfolding planeSide corner
 zero-side f flat real [] e i h = none-side-zero (getD f i origin)
@@ -152,12 +152,12 @@ zero-side f flat real (a ∷ r) e i h =
     area-right (normal f) real (dot (normal f) (corner f)) a r (plane-at f (a ∷ r) e) (getD f i origin)
     (at-place (normal f) (dot (normal f) (corner f)) f (plane-at f f flat) i h)
 
-pub plane-back : (f g : Polygon) → Flat f → isOrigin (normal f) ≡ false → onePlane f g ≡ true → onePlane g f ≡ true
+pub plane-back : (f g : Polygon) → InOwnPlane f → isOrigin (normal f) ≡ false → onePlane f g ≡ true → onePlane g f ≡ true
 unfolding onePlane
 plane-back f g flat real e =
     all-is (λ p. isZero (planeSide g p)) origin f (λ i h. yes-zero (planeSide g (getD f i origin)) (zero-side f flat real g e i h))
 
-pub plane-either : (f g : Polygon) → Flat f → isOrigin (normal f) ≡ false → Flat g → isOrigin (normal g) ≡ false
+pub plane-either : (f g : Polygon) → InOwnPlane f → isOrigin (normal f) ≡ false → InOwnPlane g → isOrigin (normal g) ≡ false
     → onePlane f g ≡ onePlane g f
 plane-either f g hf rf hg rg = go (onePlane f g) refl (onePlane g f) refl
   where

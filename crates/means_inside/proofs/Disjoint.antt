@@ -28,7 +28,7 @@ use Rattle.means_inside.proofs.Cap.{by-low}
 use Rattle.means_inside.proofs.Look.{Ang, Between, ang}
 use Rattle.means_inside.proofs.Ears.{bool, between-odd}
 use Rattle.means_inside.proofs.Beside.{Apart, swap, clear-out, member}
-use Rattle.means_inside.proofs.Cut.{at-lowest}
+use Rattle.means_inside.proofs.AtLowest.{at-lowest}
 use Rattle.means_inside.proofs.Form.{form, formed}
 use Rattle.means_inside.proofs.Together.{h, Disjoint}
 

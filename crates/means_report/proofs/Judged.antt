@@ -9,6 +9,7 @@ use native.Mathlib.Decide.{decLt}
 use lib.ListN.{length, getD, length-map}
 use Rattle.sets.specs.Word.{dig, word, count, both}
 use Rattle.sets.proofs.Numbers.{digit-word, by-digits}
+use Rattle.sets.proofs.Ones.{dig-lt}
 use Rattle.paper.specs.Drawing.{Wire, Edge, edge, edgeAt}
 use Rattle.paper.specs.Loops.{Loop, loopAt, polygon}
 use Rattle.paper.specs.Clash.{clash}
@@ -19,7 +20,6 @@ use Rattle.means_leaf.proofs.Forced.{oriented-alike}
 use Rattle.means_leaf.proofs.Solids.{six-alike, judged-solid, solid-judged, judged-within}
 use Rattle.means_leaf.proofs.Directions.{oriented-here}
 use Rattle.means_solid.specs.Solid.{Face, InTwo, Way, stay, cross, IsSolid}
-use Rattle.means_solid.proofs.Goes.{taken-in}
 use Rattle.means_report.specs.Proper.{Fair, Same}
 use Rattle.means_report.proofs.Rows.{clear-told, told-clear}
 use Rattle.means_report.proofs.EdgeMasks.{on-told, told-on, two-told, told-two, each-told, told-each, six-told}
@@ -115,7 +115,7 @@ module _ (d : Wire) (cs : List Loop) (ok : Fair d cs) (taken : List Bool) (n : l
   either f j k hj hk m = go (decLt j k)
     where
       inside : (i : ℕ) → dig taken i ≡ true → i < length cs
-      inside i h = omega (arith, taken-in taken i h, n)
+      inside i h = omega (arith, dig-lt taken i h, n)
 
       go : Dec (j < k) → clash (polygon d (loopAt cs j)) (polygon d (loopAt cs k)) ≡ false
       go (yes l) = f j k hj hk l

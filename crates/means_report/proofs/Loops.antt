@@ -22,7 +22,7 @@ use Rattle.paper.specs.Drawing.{Wire, at, joined, samePlace}
 use Rattle.paper.specs.Loops.{Loop, loopAt, final, follows, closes, branch, scan, ext, tilt, tilted, across, level, loops, polygon}
 use Rattle.paper.specs.Loops.{coversOther, uncovering, candidates}
 use Rattle.paper.specs.declared.Point.{Point}
-use Rattle.means_clash.specs.Flat.{Flat}
+use Rattle.paper_laws.specs.Planes.{InOwnPlane}
 use Rattle.means_clash.proofs.Planes.{yes-zero, none-dot}
 use Rattle.means_clash.proofs.Level.{Tests, tests-more, tilt-none, first-zero, tests-flat}
 use Rattle.means_report.specs.Proper.{Proper, AllProper, Fair}
@@ -272,7 +272,7 @@ apart-at d s u v hu hv n = go (samePoint (at d u) (at d v)) refl
         absurd (true≢false (sym (some-is (λ w. not (eqb u w) && samePoint (at d u) (at d w)) (length (d .vertices)) v hv
         (and-both (ap not (ne-eqb u v n)) e)) ∙ here))
 
-good-flat : (d : Wire) → samePlace d ≡ none → (q : Loop) → GoodIn d q → Flat (polygon d q)
+good-flat : (d : Wire) → samePlace d ≡ none → (q : Loop) → GoodIn d q → InOwnPlane (polygon d q)
 unfolding polygon Different
 good-flat d s [] g = absurd (let h = closes-three (length (d .vertices)) (joined d) (level d) [] (g .1) in omega arith)
 good-flat d s (x ∷ []) g = absurd (let h = closes-three (length (d .vertices)) (joined d) (level d) (x ∷ []) (g .1) in omega arith)
@@ -281,7 +281,7 @@ good-flat d s (x ∷ (y ∷ p)) g =
     (apart-at d s y x (g .0 .inside 1 (omega arith)) (g .0 .inside 0 (omega arith))
     (λ e. absurd (let z : 1 ≡ 0 = g .0 .different 1 0 (omega arith) (omega arith) e in omega arith)))) (g .0 .tests)
 
-pub candidates-flat : (d : Wire) → samePlace d ≡ none → (k : ℕ) → k < length (candidates d) → Flat (polygon d (loopAt (candidates d) k))
+pub candidates-flat : (d : Wire) → samePlace d ≡ none → (k : ℕ) → k < length (candidates d) → InOwnPlane (polygon d (loopAt (candidates d) k))
 candidates-flat d s k h = good-flat d s (loopAt (candidates d) k) (candidates-good d k h)
 
 pub candidates-fair : (d : Wire) → samePlace d ≡ none → Fair d (candidates d)

@@ -12,11 +12,11 @@ use Rattle.lists.proofs.Truth.{and-left, and-right, and-both}
 use Rattle.lists.proofs.Places.{map-at, made-length, made-at}
 use Rattle.sets.specs.Word.{dig, count, both}
 use Rattle.sets.proofs.Digits.{never, dig-both, count-none, count-empty}
+use Rattle.sets.proofs.Ones.{dig-lt}
 use Rattle.paper.specs.Drawing.{Wire}
 use Rattle.paper.specs.Loops.{Loop, loopAt, polygon}
 use Rattle.paper.specs.Clash.{clash}
 use Rattle.paper.specs.Solids.{clashing, peaceful, clearFrom}
-use Rattle.means_solid.proofs.Goes.{taken-in}
 
 -- ---- (v), of any masks: one for each place from k on
 Clear : ℕ → List (List Bool) → List Bool → Type 0
@@ -91,7 +91,7 @@ module _ (d : Wire) (cs : List Loop) (taken turned : List Bool) (n : length take
   clash-self j = rw (le-ltb j j (omega arith))
 
   face-in : (k : ℕ) → dig taken k ≡ true → k < length cs
-  face-in k e = omega (arith, taken-in taken k e)
+  face-in k e = omega (arith, dig-lt taken k e)
 
   abbrev pub Peace : Type 0
   Peace = (j k : ℕ) → dig taken j ≡ true → dig taken k ≡ true → j < k → clash (polygon d (loopAt cs j)) (polygon d (loopAt cs k)) ≡ false

@@ -7,7 +7,7 @@ use lib.ListN.{length, getD}
 use Rattle.sets.specs.Word.{dig}
 use Rattle.paper.specs.Drawing.{Wire}
 use Rattle.paper.specs.Loops.{Loop, loopAt, polygon}
-use Rattle.means_clash.specs.Flat.{Flat}
+use Rattle.paper_laws.specs.Planes.{InOwnPlane}
 
 pub record Proper (l : Loop) : Type 0 where
   pub three : 3 ≤ length l
@@ -19,7 +19,7 @@ AllProper cs = (k : ℕ) → k < length cs → Proper (loopAt cs k)
 -- what holds of the candidates of every drawing that passes rule 11: they are proper, and each lies in its plane
 pub record Fair (d : Wire) (cs : List Loop) : Type 0 where
   pub proper : AllProper cs
-  pub flat : (k : ℕ) → k < length cs → Flat (polygon d (loopAt cs k))
+  pub flat : (k : ℕ) → k < length cs → InOwnPlane (polygon d (loopAt cs k))
 
 -- the same digits, past the end of the shorter list too
 abbrev pub Same : List Bool → List Bool → Type 0

@@ -13,7 +13,6 @@ use Rattle.lists.specs.Around.{around}
 use Rattle.lists.proofs.Truth.{and-left, and-right, and-both, or-left, or-right}
 use Rattle.lists.proofs.Sides.{sides-length, sides-at}
 use Rattle.sets.specs.Word.{dig}
-use Rattle.sets.proofs.Digits.{never}
 use Rattle.paper.specs.Drawing.{Edge, edge}
 use Rattle.paper.specs.Loops.{Loop, loopAt}
 use Rattle.paper.specs.Solids.{runs, runsUp, has}
@@ -79,12 +78,6 @@ pub dig-map : (f : Loop → Bool) → f [] ≡ false → (cs : List Loop) (k : �
 dig-map f e [] k = sym e
 dig-map f e (c ∷ cs) zero = refl
 dig-map f e (c ∷ cs) (suc k) = dig-map f e cs k
-
--- a place that is not past the end
-pub taken-in : (a : List Bool) (k : ℕ) → dig a k ≡ true → k < length a
-taken-in [] k e = never (sym e)
-taken-in (x ∷ a) zero e = omega arith
-taken-in (x ∷ a) (suc k) e = omega (arith, taken-in a k e)
 
 -- ---- of the faces on an edge, those that run it one way: r and q are whether the normal form runs it from a to b and from b to a, t
 -- whether the face is turned

@@ -3,3 +3,4 @@ pub mod Digits
 pub mod Word
 pub mod Numbers
 pub mod Sets
+pub mod Ones
