@@ -14,7 +14,7 @@ use paper::APART;
 use paper::Answer;
 use paper::LOOSE_VERTEX;
 use paper::MOST_VERTICES;
-use paper::refused;
+use paper_values::refused;
 use sets::is_set;
 
 // One word for each vertex: bit w of word u says whether an edge joins u and w.

@@ -6,7 +6,7 @@ ghost use Rattle.paper.specs.Sheet.{badCount, lentChecks};
 use super::content;
 use paper::Answer;
 use paper::Format;
-use paper::refused;
+use paper_values::refused;
 use sheet_counts::is_outside;
 
 // A list of n numbers that is no whole number of parts of k, or of too few or too many.

@@ -11,7 +11,7 @@ ghost use Rattle.paper.specs.Refusals.{firstOf};
 ghost use Rattle.paper.specs.Sheet.{far, farAt, wrong, wrongAt, edgeAbove, lowAt, edgeChecks, contentChecks};
 use lists::Found;
 use paper::Answer;
-use paper::refused;
+use paper_values::refused;
 
 fn is_far(z: i64) -> bool
     ensures { λ r. ⌜ r ≡ far z ⌝ }

@@ -12,7 +12,7 @@ use lists::wide;
 use paper::Answer;
 use paper::EDGE_MEETS;
 use paper::Point;
-use paper::refused;
+use paper_values::refused;
 use polygon::rings::point_at;
 
 // The segment from a to b without its ends has one of the v vertices on it.

@@ -9,7 +9,7 @@ ghost use Rattle.drawing_rules.specs.Asked.{VertexAt};
 ghost use Rattle.drawing_rules.specs.Meets.{sharedIn};
 use paper::Answer;
 use paper::SAME_PLACE;
-use paper::refused;
+use paper_values::refused;
 use polygon::points::same_point;
 use polygon::rings::point_at;
 

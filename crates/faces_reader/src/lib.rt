@@ -13,5 +13,5 @@ pub fn read_faces(list: &[u8], vertices: usize) -> Faces
     ensures result { λ r. ⌜ r ≡ facesOf editionOne vertices (now (list .entry)) ⌝ }
     ensures said { λ r. ⌜ answerSays (r .answer) ≡ facesSaid editionOne vertices (now (list .entry)) ⌝ }
 {
-    read::read(paper::edition_one(), list, vertices)
+    read::read(paper_values::edition_one(), list, vertices)
 }

@@ -21,7 +21,7 @@ fn no_faces() -> Faces
     ensures { λ r. ⌜ r ≡ noFaces ⌝ }
 {
     Faces {
-        answer: paper::refused(paper::SHELL_SHAPE, 0),
+        answer: paper_values::refused(paper::SHELL_SHAPE, 0),
         count: 0,
         rows: [0u8; paper::ROWS],
     }

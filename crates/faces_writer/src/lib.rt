@@ -15,5 +15,5 @@ pub fn write_faces(rows: &[u8], taken: u64, turned: u64, room: &mut [u8]) -> Wri
     ensures said { λ r. ⌜ writtenSays r ≡ sentSaid editionOne (solidFaces (now (rows .entry)) taken turned) (now (room .entry)) ⌝ }
     ensures kept { λ _. ⌜ now (room .exit) ≡ sentRoom editionOne (solidFaces (now (rows .entry)) taken turned) (now (room .entry)) ⌝ }
 {
-    write::write(paper::edition_one(), rows, taken, turned, room)
+    write::write(paper_values::edition_one(), rows, taken, turned, room)
 }

@@ -1,7 +1,4 @@
 // Document 01's numbers and types: what every crate of the project hands to the next. The definitions are in specs/.
-ghost use mathlib.Core.Path.{_≡_};
-ghost use Rattle.paper.specs.Refusals.{refuse};
-ghost use Rattle.paper.specs.Format.{editionOne};
 
 // "Numbers": what a drawing may have and what is held at once.
 pub const LEAST_VERTICES: usize = 4;
@@ -126,12 +123,6 @@ pub enum Answer {
     Refused(Refusal),
 }
 
-pub fn refused(number: u8, place: usize) -> Answer
-    ensures { λ r. ⌜ r ≡ refuse number place ⌝ }
-{
-    Answer::Refused(Refusal { number, place })
-}
-
 // An edition's layout of sheets and face lists: its number; the widths of the vertex count, the edge count, a vertex
 // number and the face count; and the largest counts.
 pub struct Format {
@@ -143,22 +134,6 @@ pub struct Format {
     pub most_vertices: u64,
     pub most_edges: u64,
     pub most_faces: u64,
-}
-
-// Edition 1.
-pub fn edition_one() -> Format
-    ensures { λ r. ⌜ r ≡ editionOne ⌝ }
-{
-    Format {
-        edition: 1,
-        vertex_count_bits: 6,
-        edge_count_bits: 7,
-        vertex_number_bits: 5,
-        face_count_bits: 6,
-        most_vertices: MOST_VERTICES as u64,
-        most_edges: MOST_EDGES as u64,
-        most_faces: MOST_FACES as u64,
-    }
 }
 
 // A drawing by value: three coordinates for each vertex, two vertex numbers for each edge, and 0 in unused entries.

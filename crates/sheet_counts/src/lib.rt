@@ -5,7 +5,7 @@ ghost use Rattle.paper.specs.Format.{outside};
 ghost use Rattle.paper.specs.Sheet.{countChecks};
 use paper::Answer;
 use paper::Format;
-use paper::refused;
+use paper_values::refused;
 
 pub fn is_outside(lo: u64, hi: u64, n: u64) -> bool
     ensures { λ r. ⌜ r ≡ outside lo hi n ⌝ }

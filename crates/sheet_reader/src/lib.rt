@@ -13,5 +13,5 @@ pub fn read_sheet(sheet: &[u8]) -> Sheet
     ensures result { λ r. ⌜ r ≡ sheetOf editionOne (now (sheet .entry)) ⌝ }
     ensures said { λ r. ⌜ answerSays (r .answer) ≡ sheetSaid editionOne (now (sheet .entry)) ⌝ }
 {
-    read::read(paper::edition_one(), sheet)
+    read::read(paper_values::edition_one(), sheet)
 }

@@ -6,7 +6,7 @@ ghost use Rattle.paper.specs.Sheet.{openChecks, closeChecks, shapeChecks};
 ghost use Rattle.sheet_shape.specs.Narrow.{Narrow, NarrowCounts};
 use paper::Answer;
 use paper::Format;
-use paper::refused;
+use paper_values::refused;
 use sheet_counts::counts;
 
 // The bits before the fill.

@@ -14,5 +14,5 @@ pub fn write_sheet(xyz: &[i64], ends: &[u8], room: &mut [u8]) -> Written
     ensures said { λ r. ⌜ writtenSays r ≡ writtenSaid editionOne (now (xyz .entry)) (now (ends .entry)) (now (room .entry)) ⌝ }
     ensures kept { λ _. ⌜ now (room .exit) ≡ roomOf editionOne (now (xyz .entry)) (now (ends .entry)) (now (room .entry)) ⌝ }
 {
-    write::write(paper::edition_one(), xyz, ends, room)
+    write::write(paper_values::edition_one(), xyz, ends, room)
 }
