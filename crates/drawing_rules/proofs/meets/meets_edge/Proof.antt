@@ -6,7 +6,6 @@ use mathlib.Core.Logic.{⊎-elim}
 use mathlib.Core.Path.{_∙_, _≡_, ap, refl, sym}
 use Prim.Native.Nat.{_*_, _+_, _-_, _/_, _≤_, ℕ}
 use native.Mathlib.Omega.{arith}
-use lib.Dec.{eqb}
 use lib.ListN.{length}
 use denote.Ref.{now}
 use borrow.Author.Tests.{eq-eqb, ne-eqb}
@@ -59,7 +58,7 @@ other c e =
     let a = start l .args in
     let p = c .before .before .end-at .ensures in
     let q = c .before .end-at2 .ensures in
-    let differs = ne-eqb (a .e) (l .loop .f) (λ r. told-apart (c .before) .if1 .taken (sym r)) in
+    let differs = ne-eqb (a .e) (l .loop .f) (λ r. omega (arith, r, told-apart (c .before) .if1 .taken)) in
     let meets = sym (c .open-meets .ensures ∙ (λ i. openMeets (a .a) (a .b) (p i) (q i))) ∙ e in
     λ i. not (differs i) && meets i
 
@@ -74,7 +73,7 @@ missed c =
     record { before = record { before = record { before = c .before; if1 = t .0 }; end-at = t .1 }; end-at2 = t .2 } in
     other (record { before = both; open-meets = t .3 }) (t .4 .left))
     (λ t.
-    let same = eq-eqb (a .e) f (sym (t .left)) in
+    let same = eq-eqb (a .e) f (omega (arith, t .left)) in
     ap (λ (b : Bool). not b && openMeets (a .a) (a .b) (end (2 * f)) (end (2 * f + 1))) same)
     (c .if1 .came)
 

@@ -6,7 +6,6 @@ use mathlib.Core.Logic.{⊎-elim}
 use mathlib.Core.Path.{_∙_, _≡_, ap, refl, sym}
 use Prim.Native.Nat.{_-_, _≤_, ℕ}
 use native.Mathlib.Omega.{arith}
-use lib.Dec.{eqb}
 use denote.Ref.{now}
 use borrow.Author.Tests.{eq-eqb, ne-eqb}
 use Rattle.lists.proofs.Search.{Left, any-search, below-end, below-hit, below-miss}
@@ -46,7 +45,7 @@ other : (c : tie.After-same-point Inv-loop μ-loop) {b : Bool} → c .same-point
 other c e =
     let l = turn (c .before) in
     let u = start l .args .u in
-    let differs = ne-eqb u (l .loop .w) (λ q. c .before .before .if1 .taken (sym q)) in
+    let differs = ne-eqb u (l .loop .w) (λ q. omega (arith, q, c .before .before .if1 .taken)) in
     let same =
     sym (c .same-point .ensures ∙ (λ i. samePoint (l .before .point-at .ensures i) (c .before .point-at2 .ensures i))) ∙ e in
     λ i. not (differs i) && same i
@@ -60,7 +59,7 @@ missed c =
     (λ t.
     other (record { before = record { before = record { before = c .before; if1 = t .0 }; point-at2 = t .1 }; same-point = t .2 })
     (t .3 .left))
-    (λ t. ap (λ (b : Bool). not b && samePoint (place (a .u)) (place w)) (eq-eqb (a .u) w (sym (t .left))))
+    (λ t. ap (λ (b : Bool). not b && samePoint (place (a .u)) (place w)) (eq-eqb (a .u) w (omega (arith, t .left))))
     (c .if1 .came)
 
 -- ---- the needs
