@@ -78,14 +78,16 @@ returns-2 : tie.Need-returns-2
 unfolding closeChecks
 returns-2 c =
     let f = c .before .before in
-    let filled = ap not (ne-eqb _ _ (λ q. c .before .if2 .taken (fill f ∙ q))) in
+    let behind = fillAfter (bits (counted f)) (sheet (counted f)) in
+    let filled = ap not (ne-eqb behind 0 (λ q. omega (arith, q, fill f, c .before .if2 .taken))) in
     c .refused2 .ensures ∙ holds _ _ _ filled ∙ fails _ _ _ (six-passes (f .before))
 
 returns-3 : tie.Need-returns-3
 unfolding closeChecks
 returns-3 c =
     let f = c .before in
-    let blank = ap not (eq-eqb _ _ (sym (fill f) ∙ c .if2 .left)) in
+    let behind = fillAfter (bits (counted f)) (sheet (counted f)) in
+    let blank = ap not (eq-eqb behind 0 (omega (arith, fill f, c .if2 .left))) in
     clear ∙ fails _ _ _ blank ∙ fails _ _ _ (six-passes (f .before))
 
 pub closing-spec : {M : Type 1} → statement M
