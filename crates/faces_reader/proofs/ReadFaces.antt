@@ -2,7 +2,7 @@
 use mathlib.Core.Path.{_≡_, refl, sym, ap, ap₂, subst, _∙_}
 use mathlib.Core.Bool.{Bool, true, false, _&&_, not}
 use mathlib.Core.Option.{none, some}
-use mathlib.Core.List.{List, [], _∷_, _++_, flatMap, append-assoc, append-nil}
+use mathlib.Core.List.{List, [], _∷_, _++_, flatMap}
 use Prim.Native.Nat.{ℕ, _+_, _*_, _/_, _≤_, _<_}
 use native.Mathlib.Numerals.{add-one}
 use native.Mathlib.Omega.{arith}
@@ -29,14 +29,9 @@ use Rattle.faces_reader.specs.Face.{Brief, begins, countOf, faceEnd, cor
 use Rattle.faces_reader.specs.Filed.{allRows}
 use Rattle.faces_reader.proofs.Brief.{corners-small}
 use Rattle.faces_reader.proofs.Tests.{picked, dropped, third, fourth, first-two, last-two}
+use Rattle.lists.proofs.After.{each-snoc}
 use Rattle.faces_laws.proofs.Shape.{face-yes}
 use Rattle.faces_laws.proofs.FaceList.{start, length-in, face-is, start-more, start-most, start-all}
-
--- rows one behind the other
-rows-snoc : (fs : List Loop) (l : Loop) → flatMap row (fs ++ (l ∷ [])) ≡ flatMap row fs ++ row l
-unfolding flatMap
-rows-snoc [] l = append-nil (row l)
-rows-snoc (k ∷ fs) l = ap (λ (t : List ℕ). row k ++ t) (rows-snoc fs l) ∙ sym (append-assoc (row k) (flatMap row fs) (row l))
 
 -- bits past the end of the bytes
 long : (n k : ℕ) → n * 8 < k → n ≡ (k + 7) / 8 → ⊥
@@ -174,7 +169,7 @@ module _ (f : Format) (v : ℕ) (s : List ℕ) where
         let n : length here ≡ c = here-long ∙ sym (x .count-is) in
         let t : take (k + 1) faces ≡ before ++ (here ∷ []) = rw add-one (take-suc faces k [] (rw (length-in f s) h)) in
         let w : length (row here) ≡ rowBytes = row-length here (omega (arith, n, x .corners-most)) in
-        let m : flatMap row (take (k + 1) faces) ≡ flatMap row before ++ row here = ap (flatMap row) t ∙ rows-snoc before here in
+        let m : flatMap row (take (k + 1) faces) ≡ flatMap row before ++ row here = ap (flatMap row) t ∙ each-snoc row before here in
         let fits : faceFits f v here ≡ true = subst (λ (l : Loop). faceFits f v l ≡ true) q (x .fits-in) in
         record {
           few = omega arith;

@@ -8,8 +8,8 @@ use lib.Dec.{ltb}
 use lib.ListN.{length, take, length-append}
 use lib.Seq.{take-all, take-append-le, append-snoc}
 use borrow.Author.Tests.{ltb-true, ltb-false}
-use Rattle.sets.specs.Word.{count, first, less, only}
-use Rattle.fast_search.specs.Rows.{empty, eachOf}
+use Rattle.sets.specs.Word.{count, first, less, only, empty}
+use Rattle.fast_search.specs.Rows.{eachOf}
 use Rattle.fast_search.specs.Cut.{Table, table, recorded, takeIn, takeAll}
 use Rattle.fast_search.proofs.Rows.{each-next, each-end}
 

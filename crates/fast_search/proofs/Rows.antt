@@ -7,10 +7,10 @@ use native.Mathlib.Omega.{arith}
 use lib.ListN.{replicate}
 use borrow.Author.Tests.{eqb-true, eq-eqb}
 use Rattle.lists.proofs.Truth.{never-true, or-none}
-use Rattle.sets.specs.Word.{word, digit, dig, count, first, less, only}
-use Rattle.sets.proofs.Numbers.{digit-zero, digit-word, none-digits}
-use Rattle.sets.proofs.Digits.{count-none, count-empty, less-nil}
-use Rattle.fast_search.specs.Rows.{empty, eachOf, someOf}
+use Rattle.sets.specs.Word.{dig, count, empty, first, less, only}
+use Rattle.sets.proofs.Digits.{less-nil}
+use Rattle.sets.proofs.Ones.{dig-none}
+use Rattle.fast_search.specs.Rows.{eachOf, someOf}
 
 -- ---- one digit
 
@@ -18,18 +18,9 @@ nils-shift : (m : ℕ) (bs : List Bool) → replicate m false ++ (false ∷ bs) 
 nils-shift zero bs = refl
 nils-shift (suc m) bs = ap (λ (l : List Bool). false ∷ l) (nils-shift m bs)
 
--- ---- the word is 0, or is not
+-- ---- no digit is set
 pub empty-none : (a : List Bool) → empty a ≡ true → (k : ℕ) → dig a k ≡ false
-empty-none a e k = sym (digit-word a k) ∙ ap (λ (w : ℕ). digit w k) (eqb-true (word a) 0 e) ∙ digit-zero k
-
-pub empty-count : (a : List Bool) → empty a ≡ true → count a ≡ 0
-empty-count a e = count-empty a (λ k h. absurd (clash (dig a k) h (empty-none a e k)))
-  where
-    clash : (b : Bool) → b ≡ true → b ≡ false → ⊥
-    clash b p q = let z : true ≡ false = sym p ∙ q in absurd (true≢false z)
-
-pub count-is-empty : (a : List Bool) → count a ≡ 0 → empty a ≡ true
-count-is-empty a e = eq-eqb (word a) 0 (none-digits (word a) (λ k. digit-word a k ∙ never-true (dig a k) (count-none a e k)))
+empty-none a e k = dig-none a (eqb-true (count a) 0 e) k
 
 -- ---- a loop over the set digits: at each turn the first that is set, and what is left without it
 module _ {A : Type 0} (f : ℕ → List Bool → List A) where

@@ -2,7 +2,7 @@
 use mathlib.Core.List.{[], _∷_}
 use mathlib.Core.Path.{_≡_, refl}
 use lib.IntN.{pos}
-use Rattle.sets.specs.Word.{word, both, less, only}
+use Rattle.sets.specs.Word.{count, both, less, only}
 use Rattle.lists.specs.Lists.{any, from, upto, member}
 use Rattle.paper.specs.Points.{pt, minus, dot, cross, isZero, isOrigin}
 use Rattle.paper.specs.Drawing.{Wire, edge, at, joins, joined}
@@ -23,5 +23,5 @@ unfolding loops ext scan branch closes follows level across tilted tilt joined j
 three-loops = refl
 
 three-bare : bareSearch three ≡ []
-unfolding bareSearch bareStarts bareSeconds bareLine step inPlane turn planeMask onPlane own near higher when eachOf someOf joined joins any from upto at minus dot cross isZero isOrigin word both less only
+unfolding bareSearch bareStarts bareSeconds bareLine step inPlane turn planeMask onPlane own near higher when eachOf someOf joined joins any from upto at minus dot cross isZero isOrigin count both less only
 three-bare = refl

@@ -10,13 +10,13 @@ use lib.ListN.{replicate}
 use borrow.Author.Tests.{ltb-true, lt-ltb, le-ltb, ne-eqb, not-true}
 use Rattle.lists.specs.Lists.{any, member}
 use Rattle.lists.proofs.Truth.{and-left, and-right, and-both, never-true, or-none}
-use Rattle.sets.specs.Word.{dig, both, less, only}
+use Rattle.sets.specs.Word.{dig, both, less, only, empty}
 use Rattle.sets.proofs.Digits.{dig-both, dig-less}
 use Rattle.sets.proofs.Ones.{full-is}
 use Rattle.paper.specs.Points.{isOrigin}
 use Rattle.paper.specs.Drawing.{Wire, at, joined}
 use Rattle.paper.specs.Loops.{Loop, final, follows, closes, branch, scan, ext, across, level, loops}
-use Rattle.fast_search.specs.Rows.{empty, when, eachOf, someOf}
+use Rattle.fast_search.specs.Rows.{when, eachOf, someOf}
 use Rattle.fast_search.specs.Search.{InItsPlane, own, near, every, higher, onPlane, planeMask, turn, inPlane, step, onLine, seconds}
 use Rattle.fast_search.specs.Search.{starts, search, planeOf, inItsPlane}
 use Rattle.fast_search.proofs.Rows.{empty-none, some-not}

@@ -6,11 +6,11 @@ use Prim.Native.Nat.{ℕ, zero, suc, _-_, _≤_, _<_}
 use native.Mathlib.Omega.{arith}
 use lib.ListN.{length, take, set, getD}
 use lib.Seq.{getD-take, take-suc-set, length-take-le}
-use Rattle.sets.specs.Word.{dig, both, less, only}
+use Rattle.sets.specs.Word.{dig, both, less, only, empty}
 use Rattle.paper.specs.Points.{isOrigin}
 use Rattle.paper.specs.Drawing.{Wire, at}
 use Rattle.paper.specs.Loops.{final}
-use Rattle.fast_search.specs.Rows.{empty, when, eachOf, someOf}
+use Rattle.fast_search.specs.Rows.{when, eachOf, someOf}
 use Rattle.fast_search.specs.Search.{InItsPlane, own, near, every, higher, onPlane, planeMask, turn, inPlane, step, onLine, seconds}
 use Rattle.fast_search.specs.Search.{starts}
 use Rattle.fast_search.specs.Bare.{bareLine, bareSeconds, bareStarts}

@@ -3,10 +3,10 @@ use mathlib.Core.Bool.{Bool, not}
 use mathlib.Core.List.{List, [], _∷_, _++_}
 use Prim.Native.Nat.{ℕ, zero, suc}
 use lib.ListN.{length}
-use Rattle.sets.specs.Word.{both, less, only}
+use Rattle.sets.specs.Word.{both, less, only, empty}
 use Rattle.paper.specs.Drawing.{Wire}
 use Rattle.paper.specs.Loops.{final}
-use Rattle.fast_search.specs.Rows.{empty, when, eachOf}
+use Rattle.fast_search.specs.Rows.{when, eachOf}
 use Rattle.fast_search.specs.Search.{InItsPlane, near, higher, step}
 
 module _ (d : Wire) where

@@ -5,12 +5,12 @@ use mathlib.Core.List.{List, [], _∷_, _++_, map}
 use Prim.Native.Nat.{ℕ, zero, suc}
 use lib.ListN.{length, getD, replicate}
 use Rattle.lists.specs.Lists.{upto}
-use Rattle.sets.specs.Word.{dig, both, less, only}
+use Rattle.sets.specs.Word.{dig, both, less, only, empty}
 use Rattle.paper.specs.Points.{minus, dot, cross, isZero, isOrigin}
 use Rattle.paper.specs.Drawing.{Wire, at, joined}
 use Rattle.paper.specs.Loops.{Loop, final, across}
 use Rattle.paper.specs.declared.Point.{Point}
-use Rattle.fast_search.specs.Rows.{empty, when, eachOf, someOf}
+use Rattle.fast_search.specs.Rows.{when, eachOf, someOf}
 
 -- a loop, and the digits of the vertices in its plane
 pub record InItsPlane : Type 0 where

@@ -8,3 +8,4 @@ pub mod Lowest
 pub mod Passing
 pub mod Kept
 pub mod Backwards
+pub mod After

@@ -2,3 +2,4 @@
 pub mod Lists
 pub mod Around
 pub mod Found
+pub mod After

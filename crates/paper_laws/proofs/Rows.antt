@@ -1,11 +1,12 @@
 -- A loop's row of 13 bytes, cell by cell, and rows one behind the other. Assumes nothing.
 use mathlib.Core.Path.{_≡_, refl, sym, ap, _∙_}
-use mathlib.Core.List.{List, [], _∷_, _++_, flatMap}
-use Prim.Native.Nat.{ℕ, zero, suc, _+_, _*_, _-_, _≤_, _<_}
+use mathlib.Core.List.{List, [], _++_, flatMap}
+use Prim.Native.Nat.{ℕ, suc, _+_, _*_, _-_, _≤_, _<_}
 use native.Mathlib.Nat.{add-sub-of-le}
 use native.Mathlib.Omega.{arith}
 use lib.ListN.{length, getD, replicate, length-append, length-replicate, getD-replicate, List·getD-append}
 use lib.Seq.{getD-append-add}
+use Rattle.lists.proofs.After.{Wide, each-long, each-at}
 use Rattle.paper.specs.Numbers.{mostCorners, rowBytes}
 use Rattle.paper.specs.Loops.{Loop, row}
 
@@ -33,24 +34,13 @@ row-length q h = simp (length-append, length-replicate) (omega arith)
 abbrev pub Short : List Loop → Type 0
 Short fs = (k : ℕ) → k < length fs → length (getD fs k []) ≤ mostCorners
 
+pub rows-wide : (fs : List Loop) → Short fs → Wide row rowBytes [] fs
+rows-wide fs h i m = row-length (getD fs i []) (h i m)
+
 pub rows-long : (fs : List Loop) → Short fs → length (flatMap row fs) ≡ rowBytes * length fs
-unfolding flatMap
-rows-long [] h = refl
-rows-long (l ∷ fs) h =
-    let n : length (row l) ≡ 13 = row-length l (h 0 (omega arith)) in
-    length-append (row l) (flatMap row fs) ∙ omega (arith, n, rows-long fs (λ k m. h (suc k) (omega arith)))
+rows-long fs h = each-long row rowBytes [] fs (rows-wide fs h)
 
 -- cell j of row k
 pub rows-at : (fs : List Loop) → Short fs → (k j : ℕ) → k < length fs → j < rowBytes
     → getD (flatMap row fs) (rowBytes * k + j) 0 ≡ getD (row (getD fs k [])) j 0
-unfolding flatMap
-rows-at [] h k j a b = absurd (omega arith)
-rows-at (l ∷ fs) h zero j a b =
-    let n : length (row l) ≡ 13 = row-length l (h 0 (omega arith)) in
-    let e : 13 * 0 + j ≡ j = omega arith in
-    ap (λ (i : ℕ). getD (row l ++ flatMap row fs) i 0) e ∙ List·getD-append (row l) (flatMap row fs) 0 j (omega arith)
-rows-at (l ∷ fs) h (suc k) j a b =
-    let n : length (row l) ≡ 13 = row-length l (h 0 (omega arith)) in
-    let e : 13 * suc k + j ≡ length (row l) + (13 * k + j) = omega arith in
-    ap (λ (i : ℕ). getD (row l ++ flatMap row fs) i 0) e ∙ getD-append-add (row l) (flatMap row fs) (13 * k + j) 0
-    ∙ rows-at fs (λ i m. h (suc i) (omega arith)) k j (omega arith) b
+rows-at fs h k j a b = each-at row rowBytes [] fs (rows-wide fs h) k j 0 a b

@@ -2,9 +2,10 @@
 use mathlib.Core.Bool.{Bool, true, false}
 use mathlib.Core.List.{List, [], _∷_, _++_}
 use mathlib.Core.Path.{_≡_, refl, sym, ap, ap₂, _∙_, subst}
-use Prim.Native.Nat.{ℕ, _-_, _/_, _%_, _^_, _≤_, _<_}
+use Prim.Native.Nat.{ℕ, zero, suc, _-_, _/_, _%_, _^_, _≤_, _<_}
 use native.Mathlib.Nat.{le-of-eq, le-trans, lt-of-le-of-lt}
 use native.Mathlib.Omega.{arith}
+use borrow.Author.Tests.{ne-eqb}
 use lib.ListN.{length, getD, length-append, replicate, length-replicate}
 use lib.Bits.{bitAnd, bitOr, and-mask}
 use lib.Dec.{eqb}
@@ -77,6 +78,22 @@ counted x h = record { size-is = refl; under = ones-le room (x .word) h }
 word-count : (bs : List Bool) → word bs ≡ 0 → count bs ≡ 0
 unfolding ones onesIn
 word-count bs e = sym (ones-word bs) ∙ ap ones e
+
+count-word : (bs : List Bool) → count bs ≡ 0 → word bs ≡ 0
+unfolding count word
+count-word [] e = refl
+count-word (b ∷ bs) e = let h : word bs ≡ 0 = count-word bs (omega (arith, e)) in omega (arith, h, e)
+
+zero-tests : (m n : ℕ) → (m ≡ 0 → n ≡ 0) → (n ≡ 0 → m ≡ 0) → eqb m 0 ≡ eqb n 0
+zero-tests zero n f g = ap (λ (k : ℕ). eqb k 0) (sym (f refl))
+zero-tests (suc m) zero f g = ap (λ (k : ℕ). eqb k 0) (g refl)
+zero-tests (suc m) (suc n) f g = ne-eqb (suc m) 0 (λ e. omega (arith, e)) ∙ sym (ne-eqb (suc n) 0 (λ e. omega (arith, e)))
+
+pub empty-is : {x : Set} → x .word < 2 ^ room → eqb (x .word) 0 ≡ eqb (size x) 0
+empty-is {x} h =
+    let d : Is x (digitsOf x) = is-digits x h in
+    zero-tests (x .word) (size x) (λ e. size-is d ∙ word-count (digitsOf x) (sym (word-is d) ∙ e))
+    (λ e. word-is d ∙ count-word (digitsOf x) (sym (size-is d) ∙ e))
 
 pub lowest-is : {x : Set} → x .word < 2 ^ room → 0 < size x → Lowest x (trailingZeros room (x .word))
 lowest-is {x} h p =

@@ -37,6 +37,10 @@ unfoldable pub count : List Bool → ℕ
 count [] = 0
 count (b ∷ bs) = bit b + count bs
 
+-- none is
+abbrev pub empty : List Bool → Bool
+empty a = eqb (count a) 0
+
 -- the place of the first set digit, the length where there is none
 unfoldable pub first : List Bool → ℕ
 first [] = 0

@@ -3,6 +3,7 @@ ghost use mathlib.Core.Path.{_≡_};
 ghost use mathlib.Core.Bool.{Bool, true};
 ghost use mathlib.Core.List.{List, []};
 ghost use Prim.Native.Nat.{_≤_, _<_};
+ghost use lib.Dec.{eqb};
 ghost use lib.ListN.{replicate};
 ghost use Rattle.sets.specs.Word.{digits, dig, both, either, only};
 ghost use Rattle.sets.specs.Sets.{room, Is, size, edgeCount, Joint, Minus, Counted, Lowest, Dropped, EdgeSet};
@@ -42,6 +43,13 @@ impl Set {
         ensures { λ r. ⌜ Counted self r ⌝ }
     {
         u64::count_ones(self.word) as usize
+    }
+
+    // Whether none is in the set: cheaper than the count.
+    pub fn is_empty(self) -> bool
+        ensures { λ r. ⌜ r ≡ eqb (size self) 0 ⌝ }
+    {
+        self.word == 0
     }
 
     pub fn lowest(self) -> usize

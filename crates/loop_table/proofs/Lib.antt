@@ -1,0 +1,2 @@
+-- Laws of loops as the code holds them. Assumes nothing.
+pub mod Rows

@@ -1,0 +1,1 @@
+-- x. Assumes nothing.

@@ -1,0 +1,3 @@
+-- What contracts on loops cite beside the paper. Assumes nothing.
+pub mod Passed
+pub mod Tables
