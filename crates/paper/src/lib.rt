@@ -50,6 +50,9 @@ pub const WORDS: usize = 3;
 
 pub const FACE_ROOM: usize = 832;
 
+// A row for each of 128 loops.
+pub const LOOP_ROOM: usize = 1664;
+
 pub const SOLID_ROOM: usize = 24;
 
 pub const FILL: u8 = 255;

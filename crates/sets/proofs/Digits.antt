@@ -18,6 +18,12 @@ length-both [] b = omega arith
 length-both (x ∷ xs) [] = omega arith
 length-both (x ∷ xs) (y ∷ ys) = omega (arith, length-both xs ys)
 
+pub length-both-last : (a b : List Bool) → length (both a b) ≤ length b
+unfolding both
+length-both-last [] b = omega arith
+length-both-last (x ∷ a) [] = omega arith
+length-both-last (x ∷ a) (y ∷ b) = omega (arith, length-both-last a b)
+
 pub length-either : (n : ℕ) (a b : List Bool) → length a ≤ n → length b ≤ n → length (either a b) ≤ n
 unfolding either
 length-either n [] b h k = k

@@ -21,7 +21,7 @@ use Rattle.sets.proofs.Word.{full-word, none-word, word-more}
 -- ---- the word and the digits
 
 module _ {x : Set} {a : List Bool} (i : Is x a) where
-  word-is : x .word ≡ word a
+  pub word-is : x .word ≡ word a
   unfolding packedSet
   word-is = ap (λ (s : Set). s .word) (i .words)
 

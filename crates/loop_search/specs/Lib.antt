@@ -1,0 +1,5 @@
+-- What contracts of this crate cite beside the paper. Assumes nothing.
+pub mod Rooms
+pub mod Paths
+pub mod Lines
+pub mod Starts
