@@ -24,7 +24,7 @@ use Rattle.means_check.specs.Shape.{Candidates}
 use Rattle.means_check.specs.Accepts.{NamesSolid}
 use Rattle.means_check.specs.Sent.{faceList}
 use Rattle.means_check.specs.Bodies.{SameBody}
-use Rattle.means_check.proofs.Alike.{names-to}
+use Rattle.means_solid.proofs.Alike.{names-to}
 use Rattle.means_check.proofs.Bodies.{faceList-names, same-named}
 use Rattle.means_check.proofs.Demand.{drawing-places, drawing-fits, accepts-exactly, each-accepted, one-named}
 use Rattle.means_sheets.proofs.FaceLists.{faces-read-one}

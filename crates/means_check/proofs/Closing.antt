@@ -29,7 +29,7 @@ use Rattle.paper_laws.proofs.Vectors.{vec, k as con, _+s_, _-s_, negs, _·_, o,
 use Rattle.means_solid.specs.Solid.{Goes, Runs, RunOnce, EachWay, share, sixOf, IsSolid}
 use Rattle.means_check.specs.Plane.{InPlane}
 use Rattle.means_check.specs.Path.{EdgeOf, ClosedPath}
-use Rattle.means_check.proofs.Goings.{around-at}
+use Rattle.means_solid.proofs.Goes.{around-at}
 use Rattle.means_check.proofs.Planes.{dot-comm, in-one-line}
 use Rattle.means_check.proofs.Evenly.{normal-across, corner-at, less-dot, dot-less}
 use Rattle.means_check.proofs.Sums.{sumTo, sum-same, sum-zero, sum-minus, sum-more, sum-list, sum2, sum2-zero, sum2-single}

@@ -16,7 +16,7 @@ use Rattle.lists.proofs.Places.{map-at, upto-length, upto-at}
 use Rattle.paper.specs.Drawing.{Wire, Edge, edge, edgeAt, joins, joined}
 use Rattle.paper.specs.Polygon.{covers}
 use Rattle.paper.specs.Loops.{Loop, loopAt, loops, level, polygon, coversOther, uncovering, candidates}
-use Rattle.paper.specs.Clash.{clash}
+use Rattle.means_masks.proofs.Tables.{Even}
 use Rattle.means_check.specs.Shape.{Normal, Candidates}
 use Rattle.means_check.specs.Loop.{IsLoop, IsCandidate, Before, Ascending}
 use Rattle.means_check.proofs.Searching.{found-are, found-all}
@@ -177,13 +177,7 @@ module _ (d : Wire) where
   pub loop-normal : (q : Loop) → IsLoop d q → Normal q
   loop-normal q l = record { three = l .three; different = l .different; lowest = l .lowest; direction = l .direction }
 
-  -- two candidates clash, whichever is named first
-  abbrev pub Even : Type 0
-  Even = (j k : ℕ) → j < length (candidates d) → k < length (candidates d)
-      → clash (polygon d (loopAt (candidates d) j)) (polygon d (loopAt (candidates d) k)) ≡ clash (polygon d (loopAt (candidates d) k))
-      (polygon d (loopAt (candidates d) j))
-
-  pub candidates-fit : Even → Candidates d (candidates d)
+  pub candidates-fit : Even d (candidates d) → Candidates d (candidates d)
   candidates-fit even = record {
     normal = λ k h. loop-normal (loopAt (candidates d) k) (candidates-are k h .loop);
     differ = candidates-once;

@@ -19,14 +19,14 @@ use Rattle.paper.specs.Drawing.{Wire, at, joined, samePlace}
 use Rattle.paper.specs.Loops.{Loop, loopAt, loops, level, polygon, flipped}
 use Rattle.paper.specs.Verdict.{fromLowest, onward, normalForm}
 use Rattle.means_solid.specs.Solid.{Goes}
-use Rattle.means_check.specs.Shape.{Different}
+use Rattle.means_solid.specs.Proper.{Different}
 use Rattle.means_check.specs.Loop.{IsLoop}
 use Rattle.means_check.specs.Plane.{InPlane}
 use Rattle.means_check.specs.Path.{EdgeOf, ClosedPath}
 use Rattle.means_solid.specs.Named.{SameRing}
 use Rattle.means_check.proofs.Rings.{same-length, flip-length, flip-first, flip-at}
 use Rattle.means_check.proofs.Forms.{low-first, different-same}
-use Rattle.means_check.proofs.Goings.{wrap-next, around-at}
+use Rattle.means_solid.proofs.Goes.{wrap-next, around-at}
 use Rattle.means_check.proofs.Listing.{joined-edge, loops-are, loops-all}
 use Rattle.means_check.proofs.Planes.{places-differ, plane-level, first-level, loop-plane}
 use Rattle.means_check.proofs.Places.{edge-joined, edge-back, turned, goes-from, flip-place, goes-back}

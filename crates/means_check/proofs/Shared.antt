@@ -15,7 +15,7 @@ use Rattle.paper.specs.Drawing.{Wire, Edge, edge}
 use Rattle.paper.specs.Loops.{Loop, loopAt}
 use Rattle.means_solid.specs.Solid.{Goes, Has, InTwo, IsSolid}
 use Rattle.means_check.specs.Path.{EdgeOf, ClosedPath}
-use Rattle.means_check.proofs.Goings.{around-at, wrap-next}
+use Rattle.means_solid.proofs.Goes.{around-at, wrap-next}
 
 -- ---- round a ring, from where a test passes to where it does not
 

@@ -19,9 +19,9 @@ use Rattle.paper.specs.Solids.{tablesOf, runs, has}
 use Rattle.paper.specs.Walk.{Undecided}
 use Rattle.means_walk.specs.Lowest.{On, Chooses}
 use Rattle.means_walk.proofs.Chosen.{tree-chooses}
+use Rattle.means_solid.specs.Proper.{Proper}
 use Rattle.means_solid.specs.Solid.{Goes}
 use Rattle.means_solid.proofs.Goes.{goes-runs, has-nil, dig-map}
-use Rattle.means_report.specs.Proper.{Proper}
 use Rattle.means_report.specs.Listed.{WalkTree}
 use Rattle.means_report.proofs.Loops.{candidates-proper, candidates-closed}
 

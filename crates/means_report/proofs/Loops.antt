@@ -25,7 +25,8 @@ use Rattle.paper.specs.declared.Point.{Point}
 use Rattle.paper_laws.specs.Planes.{InOwnPlane}
 use Rattle.means_clash.proofs.Planes.{yes-zero, none-dot}
 use Rattle.means_clash.proofs.Level.{Tests, tests-more, tilt-none, first-zero, tests-flat}
-use Rattle.means_report.specs.Proper.{Proper, AllProper, Fair}
+use Rattle.means_solid.specs.Proper.{Proper, AllProper}
+use Rattle.means_report.specs.Fair.{Fair}
 
 -- ---- of all members of a list
 All : {A : Type 0} → (A → Type 0) → List A → Type 0

@@ -22,7 +22,7 @@ use Rattle.paper.specs.declared.Conversion.{Conversion}
 use Rattle.paper.specs.declared.Conversion.the-variants as Conversion
 use Rattle.means_walk.specs.Tree.{leaves}
 use Rattle.means_walk.proofs.Ends.{ends, ended-whole, ended-many, ended-long}
-use Rattle.means_report.specs.Proper.{Fair}
+use Rattle.means_report.specs.Fair.{Fair}
 use Rattle.means_report.specs.Listed.{Entry, wordsOf, entry, WalkTree, walked}
 use Rattle.means_report.proofs.Loops.{candidates-fair}
 use Rattle.means_report.specs.Report.{answered, facesFor, solidsFor, Reported, TooMany, TooFar}
