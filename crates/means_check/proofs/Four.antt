@@ -19,7 +19,7 @@ use Rattle.means_check.specs.Path.{ClosedPath}
 use Rattle.means_leaf.proofs.Counts.{left-in, left-out}
 use Rattle.means_solid.proofs.Goes.{has-cases, cases-has, around-at, wrap-next}
 use Rattle.means_check.proofs.Parts.{some-face}
-use Rattle.means_check.proofs.Closing.{no-volume}
+use Rattle.means_check.proofs.Volume.{no-volume}
 use Rattle.means_check.proofs.Shared.{turn, inside, Beside, own, beside-start, beside-end, Other, other, shared}
 
 module _ (d : Wire) (cs : List Loop) (taken turned : List Bool) (paths : (k : ℕ) → k < length cs → ClosedPath d (loopAt cs k)) {six : ℕ}
