@@ -24,7 +24,7 @@ use Rattle.paper.specs.Loops.{Loop, loopAt, polygon}
 use Rattle.paper.specs.declared.Point.{Point}
 use Rattle.paper_laws.proofs.Vectors.{vec, _-s_, o, v, _-v_, _×v_, vring}
 use Rattle.means_solid.specs.Solid.{Goes, Runs, RunOnce, EachWay, IsSolid}
-use Rattle.means_check.specs.Path.{EdgeOf, ClosedPath}
+use Rattle.means_loops.specs.Path.{EdgeOf, ClosedPath}
 use Rattle.means_solid.proofs.Goes.{around-at}
 use Rattle.means_check.proofs.Sums.{sumTo, sum-same, sum-zero, sum-minus, sum-more, sum-list, sum2, sum2-zero, sum2-single}
 use Rattle.means_check.proofs.Sums.{cancels}

@@ -18,16 +18,16 @@ use Rattle.paper.specs.Drawing.{Wire, Edge, edge, edgeAt, samePlace}
 use Rattle.paper.specs.Loops.{Loop, loopAt, flipped, candidates}
 use Rattle.paper.specs.Solids.{has}
 use Rattle.means_solid.specs.Solid.{IsSolid}
-use Rattle.means_check.specs.Path.{EdgeOf, ClosedPath}
+use Rattle.means_loops.specs.Path.{EdgeOf, ClosedPath}
 use Rattle.means_solid.specs.Named.{directed}
 use Rattle.means_solid.proofs.Goes.{cases-has, around-at, one-way}
 use Rattle.means_sheets.specs.FaceLists.{Sendable}
 use Rattle.means_check.specs.Sent.{faceList}
 use Rattle.means_leaf.proofs.Counts.{left-in}
-use Rattle.means_check.proofs.Listing.{candidates-are}
-use Rattle.means_check.proofs.Paths.{loop-path, path-flip}
+use Rattle.means_loops.proofs.Listing.{candidates-are}
+use Rattle.means_loops.proofs.Paths.{loop-path, path-flip}
 use Rattle.means_check.proofs.Four.{four-faces}
-use Rattle.means_check.proofs.Numbers.{filter-yes}
+use Rattle.means_loops.proofs.Kept.{filter-yes}
 use Rattle.means_masks.proofs.Edges.{on-dig, in-two}
 
 -- ---- sums of numbers

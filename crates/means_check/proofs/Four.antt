@@ -15,7 +15,7 @@ use Rattle.paper.specs.Drawing.{Wire, edge, edgeAt}
 use Rattle.paper.specs.Loops.{Loop, loopAt}
 use Rattle.paper.specs.Solids.{has}
 use Rattle.means_solid.specs.Solid.{Has, Way, stay, cross, IsSolid}
-use Rattle.means_check.specs.Path.{ClosedPath}
+use Rattle.means_loops.specs.Path.{ClosedPath}
 use Rattle.means_leaf.proofs.Counts.{left-in, left-out}
 use Rattle.means_solid.proofs.Goes.{has-cases, cases-has, around-at, wrap-next}
 use Rattle.means_check.proofs.Parts.{some-face}

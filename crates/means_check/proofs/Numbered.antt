@@ -21,12 +21,12 @@ use Rattle.sets.proofs.Ones.{dig-lt}
 use Rattle.paper.specs.Drawing.{Wire}
 use Rattle.paper.specs.Loops.{Loop, loopAt, flipped}
 use Rattle.paper.specs.Verdict.{onward, normalForm, numberIn, maskOf, notCandidate, faceTwice}
-use Rattle.means_check.specs.Shape.{Candidates}
+use Rattle.means_check.specs.Candidates.{Candidates}
 use Rattle.means_solid.specs.Named.{SameRing, directed, Names}
-use Rattle.means_check.proofs.Rings.{same-length, flip-length}
-use Rattle.means_check.proofs.Numbers.{member-yes, member-is, number-at, number-in, row-yes, row-is, none-lowest, filter-yes}
-use Rattle.means_check.proofs.Numbers.{filter-is}
-use Rattle.means_check.proofs.Lowest.{normal-on, normal-back, on-onward, on-normal, back-onward, back-normal}
+use Rattle.means_loops.proofs.Rings.{same-length, flip-length}
+use Rattle.means_check.proofs.Numbers.{number-at, number-in, row-yes, row-is, none-lowest}
+use Rattle.means_loops.proofs.Kept.{member-yes, member-is, filter-yes, filter-is}
+use Rattle.means_loops.proofs.Lowest.{normal-on, normal-back, on-onward, on-normal, back-onward, back-normal}
 
 -- ---- the faces of a list by their numbers
 

@@ -26,7 +26,7 @@ use Rattle.means_solid.specs.Proper.{AllProper}
 use Rattle.means_solid.specs.Solid.{Way, EachWay, sixOf}
 use Rattle.means_masks.proofs.Tables.{Even, EachTwo, Apart, masks-length, as-many, two-masks, masks-two, way-through, through-way}
 use Rattle.means_masks.proofs.Tables.{ways-at, at-ways, six-is, clear-apart, apart-clear}
-use Rattle.means_check.specs.Shape.{Candidates}
+use Rattle.means_check.specs.Candidates.{Candidates}
 use Rattle.means_check.proofs.Numbers.{none-lowest}
 
 -- candidates are proper loops

@@ -18,10 +18,10 @@ use Rattle.paper.specs.Solids.{fan, faceSix}
 use Rattle.paper.specs.declared.Point.{Point}
 use Rattle.paper_laws.proofs.Vectors.{vec, k as con, _+s_, _-s_, negs, _·_, o, v, _+v_, _-v_, _×v_, vring}
 use Rattle.means_solid.specs.Solid.{share, sixOf, IsSolid}
-use Rattle.means_check.specs.Plane.{InPlane}
-use Rattle.means_check.specs.Path.{ClosedPath}
-use Rattle.means_check.proofs.Planes.{dot-comm, in-one-line}
-use Rattle.means_check.proofs.Evenly.{normal-across, corner-at, less-dot, dot-less}
+use Rattle.means_loops.specs.Plane.{InPlane}
+use Rattle.means_loops.specs.Path.{ClosedPath}
+use Rattle.means_loops.proofs.Planes.{dot-comm, in-one-line}
+use Rattle.means_loops.proofs.OwnPlane.{normal-across, corner-at, less-dot, dot-less}
 use Rattle.means_check.proofs.Sums.{sumTo, sum-same}
 use Rattle.means_check.proofs.Closing.{facing, normals-close}
 

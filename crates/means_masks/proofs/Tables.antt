@@ -18,6 +18,8 @@ use Rattle.paper.specs.Drawing.{Wire, edge, edgeAt}
 use Rattle.paper.specs.Loops.{Loop, loopAt, polygon}
 use Rattle.paper.specs.Clash.{clash}
 use Rattle.paper.specs.Solids.{runsUp, has, faceSix, clashing, tablesOf, onceEachWay, part, sixFrom}
+use Rattle.paper_laws.specs.Planes.{InOwnPlane}
+use Rattle.means_clash.proofs.Either.{clash-either}
 use Rattle.means_leaf.specs.Meaning as Masks
 use Rattle.means_leaf.specs.Meaning.{In, On}
 use Rattle.means_leaf.proofs.Spread.{in-place, place-in}
@@ -30,6 +32,10 @@ abbrev pub Even : Wire → List Loop → Type 0
 Even d cs =
     (j k : ℕ) → j < length cs → k < length cs
     → clash (polygon d (loopAt cs j)) (polygon d (loopAt cs k)) ≡ clash (polygon d (loopAt cs k)) (polygon d (loopAt cs j))
+
+-- they do where each lies in its plane
+pub flat-even : (d : Wire) (cs : List Loop) → ((k : ℕ) → k < length cs → InOwnPlane (polygon d (loopAt cs k))) → Even d cs
+flat-even d cs flat j k hj hk = clash-either (polygon d (loopAt cs j)) (polygon d (loopAt cs k)) (flat j hj) (flat k hk)
 
 module _ (d : Wire) (cs : List Loop) where
   -- ---- the masks of the edges
@@ -45,7 +51,7 @@ module _ (d : Wire) (cs : List Loop) where
   pub as-many : length (tablesOf d cs .masks) ≡ length (tablesOf d cs .ups)
   as-many = masks-length ∙ sym ups-length
 
-  mask-at : (e : ℕ) → e < length (d .edges) → getD (tablesOf d cs .masks) e [] ≡ map (has (edgeAt d e)) cs
+  pub mask-at : (e : ℕ) → e < length (d .edges) → getD (tablesOf d cs .masks) e [] ≡ map (has (edgeAt d e)) cs
   unfolding tablesOf edgeAt
   mask-at e h = map-at (λ x. map (has x) cs) (d .edges) e (edge 0 0) [] h
 

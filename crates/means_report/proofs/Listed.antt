@@ -13,7 +13,7 @@ use Rattle.lists.proofs.Truth.{and-left, and-right}
 use Rattle.lists.proofs.Places.{map-at}
 use Rattle.sets.specs.Word.{bit, dig, count, both}
 use Rattle.paper.specs.Drawing.{Wire}
-use Rattle.paper.specs.Loops.{Loop, loopAt, polygon}
+use Rattle.paper.specs.Loops.{Loop}
 use Rattle.paper.specs.Solids.{tablesOf, Judgement, Fails, Solid, judged}
 use Rattle.paper.specs.Walk.{Status, Undecided, takenOn}
 use Rattle.paper.specs.Conversion.{takens, isSolid, turnedOf, sixOf, accepted}
@@ -23,8 +23,7 @@ use Rattle.means_walk.specs.Tree.{leaves}
 use Rattle.means_walk.proofs.Status.{count-takens}
 use Rattle.means_walk.proofs.Ends.{leaves-all, leaves-once}
 use Rattle.means_walk.proofs.Times.{times-at, at-times, times-one, stateOf, takens-state, state-agrees, agrees-state}
-use Rattle.means_clash.proofs.Either.{clash-either}
-use Rattle.means_masks.proofs.Tables.{Even, two-masks, masks-two}
+use Rattle.means_masks.proofs.Tables.{Even, flat-even, two-masks, masks-two}
 use Rattle.means_masks.proofs.Judged.{judged-is, is-judged}
 use Rattle.means_solid.specs.Solid.{IsSolid}
 use Rattle.means_report.specs.Fair.{Fair, Same}
@@ -50,9 +49,8 @@ solid-of Fails e = absurd (true≢false (sym e))
 solid-of (Solid t n) e = refl
 
 module _ (d : Wire) (cs : List Loop) (ok : Fair d cs) (t : WalkTree d cs) where
-  -- clash goes either way round, since each candidate lies in its plane
   even : Even d cs
-  even j k hj hk = clash-either (polygon d (loopAt cs j)) (polygon d (loopAt cs k)) (ok .flat j hj) (ok .flat k hk)
+  even = flat-even d cs (ok .flat)
 
   abbrev found : List (List Status)
   found = filter (accepted (tablesOf d cs)) (leaves t)

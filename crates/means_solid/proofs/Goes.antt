@@ -79,7 +79,7 @@ unfolding has
 cases-has a b l (inl g) = or-left (runs a b l) (runs b a l) (goes-runs a b l g)
 cases-has a b l (inr g) = or-right (runs a b l) (runs b a l) (goes-runs b a l g)
 
--- ---- a proper loop does not go by one edge both ways
+-- ---- from corner to corner
 
 pub wrap-next : (n i : ℕ) → i < n → ((suc i < n) × (wrap n (suc i) ≡ suc i)) ⊎ ((suc i ≡ n) × (wrap n (suc i) ≡ 0))
 wrap-next n i h = go (decLt (suc i) n)
@@ -91,6 +91,27 @@ wrap-next n i h = go (decLt (suc i) n)
 pub around-at : (l : Loop) (m : ℕ) → around l m 0 ≡ getD l (wrap (length l) m) 0
 unfolding around
 around-at l m = refl
+
+pub goes-next : (q : Loop) (i : ℕ) → suc i < length q → Goes q (getD q i 0) (getD q (suc i) 0)
+goes-next q i h = record {
+  at = i;
+  here = omega arith;
+  from = sym (around-at q i ∙ ap (λ (j : ℕ). getD q j 0) (wrap-low (length q) i (omega arith)));
+  to = sym (around-at q (suc i) ∙ ap (λ (j : ℕ). getD q j 0) (wrap-low (length q) (suc i) h));
+}
+
+pub goes-last : (q : Loop) → 0 < length q → Goes q (getD q (length q - 1) 0) (getD q 0 0)
+goes-last q h = record {
+  at = length q - 1;
+  here = omega arith;
+  from = sym (around-at q (length q - 1) ∙ ap (λ (j : ℕ). getD q j 0) (wrap-low (length q) (length q - 1) (omega arith)));
+  to =
+      sym
+      (around-at q (suc (length q - 1))
+      ∙ ap (λ (j : ℕ). getD q j 0) (wrap-high (length q) (suc (length q - 1)) (omega arith) ∙ omega arith));
+}
+
+-- ---- a proper loop does not go by one edge both ways
 
 pub one-way : (a b : ℕ) (l : Loop) → Proper l → Goes l a b → Goes l b a → ⊥
 one-way a b l p g h = ends (g .at) (h .at) (wrap-next (length l) (g .at) (g .here)) (wrap-next (length l) (h .at) (h .here))

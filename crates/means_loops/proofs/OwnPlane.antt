@@ -1,4 +1,4 @@
--- Two candidates clash, whichever is named first, since each lies in a plane. Assumes nothing.
+-- Corners in a plane are in the plane of the polygon's own normal; so are those of a candidate. Assumes nothing.
 use mathlib.Core.Path.{_≡_, refl, ap, ap₂, _∙_}
 use mathlib.Core.Option.{none}
 use mathlib.Core.List.{List, [], _∷_}
@@ -16,11 +16,9 @@ use Rattle.paper.specs.declared.Point.{Point}
 use Rattle.paper_laws.proofs.Vectors.{num, vec, k, x, _+s_, _-s_, _·_, o, v, _+v_, _-v_, _*v_, _×v_, vring}
 use Rattle.paper_laws.proofs.Points.{zero-is}
 use Rattle.paper_laws.specs.Planes.{InOwnPlane}
-use Rattle.means_clash.proofs.Either.{clash-either}
-use Rattle.means_masks.proofs.Tables.{Even}
-use Rattle.means_check.specs.Plane.{InPlane}
-use Rattle.means_check.proofs.Planes.{in-one-line, loop-plane}
-use Rattle.means_check.proofs.Listing.{candidates-are}
+use Rattle.means_loops.specs.Plane.{InPlane}
+use Rattle.means_loops.proofs.Planes.{in-one-line, loop-plane}
+use Rattle.means_loops.proofs.Listing.{candidates-are}
 
 -- ---- the normal of corners in a plane is across it
 
@@ -82,12 +80,8 @@ polygon-length : (d : Wire) (q : Loop) → length (polygon d q) ≡ length q
 unfolding polygon
 polygon-length d q = length-map q (at d)
 
-pub candidates-even : (d : Wire) → samePlace d ≡ none → Even d (candidates d)
-candidates-even d e j i hj hi =
-    clash-either (polygon d (loopAt (candidates d) j)) (polygon d (loopAt (candidates d) i)) (own j hj) (own i hi)
-  where
-    own : (i : ℕ) → i < length (candidates d) → InOwnPlane (polygon d (loopAt (candidates d) i))
-    own i h =
-        let a = candidates-are d i h .loop in
-        own-plane (polygon d (loopAt (candidates d) i)) (loop-plane d e (loopAt (candidates d) i) a)
-        (omega (arith, a .three, polygon-length d (loopAt (candidates d) i)))
+pub candidates-flat : (d : Wire) → samePlace d ≡ none → (i : ℕ) → i < length (candidates d) → InOwnPlane (polygon d (loopAt (candidates d) i))
+candidates-flat d e i h =
+    let a = candidates-are d i h .loop in
+    own-plane (polygon d (loopAt (candidates d) i)) (loop-plane d e (loopAt (candidates d) i) a)
+    (omega (arith, a .three, polygon-length d (loopAt (candidates d) i)))
