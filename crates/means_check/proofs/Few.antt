@@ -187,7 +187,8 @@ module _ (d : Wire) (cs : List Loop) (taken turned : List Bool) (paths : (k : �
       go false e = omega arith
       go true e =
           let w = total-same (length (d .edges)) (λ e. bit (dig (onEdge e) k)) (λ e. bit (has (edgeAt d e) (loopAt cs k)))
-          (λ m l. ap bit (on-dig d cs taken turned (edgeAt d m) k ∙ ap (λ (b : Bool). has (edgeAt d m) (loopAt cs k) && b) e ∙ and-yes (has (edgeAt d m) (loopAt cs k)))) in
+          (λ m l. ap bit (on-dig d cs taken turned (edgeAt d m) k
+          ∙ ap (λ (b : Bool). has (edgeAt d m) (loopAt cs k) && b) e ∙ and-yes (has (edgeAt d m) (loopAt cs k)))) in
           omega (arith, three-edges d (loopAt cs k) (paths k h))
 
   pub faces-few : 3 * count taken ≤ 2 * length (d .edges)

@@ -54,7 +54,8 @@ six-corner f i y h =
 -- ---- a vertex on all faces
 
 module _ (d : Wire) (cs : List Loop) (taken turned : List Bool) (paths : (k : ℕ) → k < length cs → ClosedPath d (loopAt cs k))
-    {six : ℕ} (s : IsSolid d cs taken turned six) (u : ℕ) (common : (k : ℕ) → dig taken k ≡ true → (i : ℕ) × (i < length (loopAt cs k)) × (getD (loopAt cs k) i 0 ≡ u)) where
+    {six : ℕ} (s : IsSolid d cs taken turned six) (u : ℕ)
+    (common : (k : ℕ) → dig taken k ≡ true → (i : ℕ) × (i < length (loopAt cs k)) × (getD (loopAt cs k) i 0 ≡ u)) where
   abbrev faces : ℕ → Point
   faces = facing d cs taken turned paths
 
@@ -100,7 +101,8 @@ module _ (d : Wire) (cs : List Loop) (taken turned : List Bool) (paths : (k : �
   no-volume =
       let e : sixOf d cs taken turned 0 cs ≡ pos 0
       = six-sum 0 cs (λ i h. ap (loopAt cs) (zero-plus i))
-      ∙ ap (dot (at d u)) (sum-same (length cs) (λ i. faces (0 + i)) faces (λ i h. ap faces (sym (zero-plus i))) ∙ normals-close d cs taken turned paths s)
+      ∙ ap (dot (at d u)) (sum-same (length cs) (λ i. faces (0 + i)) faces (λ i h. ap faces (sym (zero-plus i)))
+      ∙ normals-close d cs taken turned paths s)
       ∙ vring (vec (at d u) ∷ []) (v 0 · o) (con (pos 0)) tt in
       let p : pos 0 ≡ pos six = sym e ∙ s .iv .0 in
       let z : 0 ≡ six = cc in

@@ -80,7 +80,8 @@ polygon-length : (d : Wire) (q : Loop) → length (polygon d q) ≡ length q
 unfolding polygon
 polygon-length d q = length-map q (at d)
 
-pub candidates-flat : (d : Wire) → samePlace d ≡ none → (i : ℕ) → i < length (candidates d) → InOwnPlane (polygon d (loopAt (candidates d) i))
+pub candidates-flat : (d : Wire) → samePlace d ≡ none → (i : ℕ) → i < length (candidates d)
+    → InOwnPlane (polygon d (loopAt (candidates d) i))
 candidates-flat d e i h =
     let a = candidates-are d i h .loop in
     own-plane (polygon d (loopAt (candidates d) i)) (loop-plane d e (loopAt (candidates d) i) a)

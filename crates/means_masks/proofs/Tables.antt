@@ -168,7 +168,9 @@ module _ (d : Wire) (cs : List Loop) where
 
     -- no face clashes with another; no face's mask of clashes has a face
     abbrev pub Apart : Type 0
-    Apart = (j k : ℕ) → dig taken j ≡ true → dig taken k ≡ true → (j ≡ k → ⊥) → clash (polygon d (loopAt cs j)) (polygon d (loopAt cs k)) ≡ false
+    Apart =
+        (j k : ℕ) → dig taken j ≡ true → dig taken k ≡ true → (j ≡ k → ⊥)
+        → clash (polygon d (loopAt cs j)) (polygon d (loopAt cs k)) ≡ false
 
     abbrev pub Clear : Type 0
     Clear = (j : ℕ) → dig taken j ≡ true → count (both (getD (tablesOf d cs .clashes) j []) taken) ≡ 0

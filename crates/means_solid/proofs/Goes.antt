@@ -127,7 +127,8 @@ one-way a b l p g h = ends (g .at) (h .at) (wrap-next (length l) (g .at) (g .her
         below (inl (u, w)) = omega arith
         below (inr (u, w)) = omega arith
 
-    ends : {n x y : ℕ} (i j : ℕ) → ((suc i < n) × (x ≡ suc i)) ⊎ ((suc i ≡ n) × (x ≡ 0)) → ((suc j < n) × (y ≡ suc j)) ⊎ ((suc j ≡ n) × (y ≡ 0))
+    ends : {n x y : ℕ} (i j : ℕ) → ((suc i < n) × (x ≡ suc i)) ⊎ ((suc i ≡ n) × (x ≡ 0))
+        → ((suc j < n) × (y ≡ suc j)) ⊎ ((suc j ≡ n) × (y ≡ 0))
         → x ≡ j → y ≡ i → 3 ≤ n → ⊥
     ends i j (inl (u, w)) (inl (v, z)) p q t = omega arith
     ends i j (inl (u, w)) (inr (v, z)) p q t = omega arith
