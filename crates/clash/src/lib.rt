@@ -7,7 +7,7 @@ ghost use Rattle.paper.specs.Points.{plus, times, isZero};
 ghost use Rattle.paper.specs.Polygon.{lies, exactly, isInside};
 ghost use Rattle.paper.specs.Clash.{opposite, pierced, clash};
 ghost use Rattle.polygon.specs.Sizes.{mostPlaneSide};
-ghost use Rattle.polygon.specs.Rings.{ring, FaceAndRow, TwoFaces};
+ghost use Rattle.polygon.specs.Rings.{ring, ofRows, FaceAndRow, TwoFaces};
 ghost use Rattle.clash.specs.Asked.{MixWithin, FaceAndEdge, FaceAndCorner};
 ghost use Rattle.clash.specs.Strike.{strikes};
 use clash_fold::folds;
@@ -79,7 +79,7 @@ fn dips(xyz: &[i64], table: &[u8], g: usize, m: Point, p: Point, s: i64) -> bool
 // A and B in one pass over the corners of row f, against row g, whose normal is m.
 pub fn strikes(xyz: &[i64], table: &[u8], f: usize, g: usize, m: Point) -> bool
     requires { ⌜ FaceAndRow (now xyz) (now table) g m f ⌝ }
-    ensures { λ w. ⌜ w ≡ strikes (ring (now (xyz .entry)) (now (table .entry)) f) (ring (now (xyz .entry)) (now (table .entry)) g) ⌝ }
+    ensures { λ w. ⌜ w ≡ ofRows strikes (now (xyz .entry)) (now (table .entry)) f g ⌝ }
 {
     let n = count(table, f);
     let o = corner(xyz, table, g, 0);
@@ -105,7 +105,7 @@ pub fn strikes(xyz: &[i64], table: &[u8], f: usize, g: usize, m: Point) -> bool
 // Rows f and g, whose normals are mf and mg, clash.
 pub fn clash(xyz: &[i64], table: &[u8], f: usize, mf: Point, g: usize, mg: Point) -> bool
     requires { ⌜ TwoFaces (now xyz) (now table) f mf g mg ⌝ }
-    ensures { λ w. ⌜ w ≡ clash (ring (now (xyz .entry)) (now (table .entry)) f) (ring (now (xyz .entry)) (now (table .entry)) g) ⌝ }
+    ensures { λ w. ⌜ w ≡ ofRows clash (now (xyz .entry)) (now (table .entry)) f g ⌝ }
 {
     if strikes(xyz, table, f, g, mg) {
         return true;

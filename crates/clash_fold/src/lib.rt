@@ -4,7 +4,7 @@ ghost use mathlib.Core.Path.{_≡_};
 ghost use mathlib.Core.Bool.{_&&_};
 ghost use Rattle.paper.specs.Points.{samePoint};
 ghost use Rattle.paper.specs.Clash.{angleHolds, inAngle, pointsIn, isCorner, bends, folds};
-ghost use Rattle.polygon.specs.Rings.{ring, TwoFaces};
+ghost use Rattle.polygon.specs.Rings.{ring, ofRows, TwoFaces};
 ghost use Rattle.clash_fold.specs.Asked.{AngleWithin, TurnWithin, RowAndPoint, FaceAndPoints, FacesAndPoint, FacesAndPoints};
 ghost use Rattle.clash_fold.specs.Fold.{foldsAt};
 use paper::Point;
@@ -91,7 +91,7 @@ fn bends(
     v: Point,
 ) -> bool
     requires { ⌜ FacesAndPoints (now xyz) (now table) f mf g mg u v ⌝ }
-    ensures { λ w. ⌜ w ≡ bends (ring (now (xyz .entry)) (now (table .entry)) f) (ring (now (xyz .entry)) (now (table .entry)) g) u v ⌝ }
+    ensures { λ w. ⌜ w ≡ ofRows bends (now (xyz .entry)) (now (table .entry)) f g u v ⌝ }
 {
     if !is_corner(xyz, table, g, v) {
         return false;
@@ -108,7 +108,7 @@ fn bends(
 // A corner u of row f is one of row g, and another of both is seen from it inside both angles.
 fn folds_at(xyz: &[i64], table: &[u8], f: usize, mf: Point, g: usize, mg: Point, u: Point) -> bool
     requires { ⌜ FacesAndPoint (now xyz) (now table) f mf g mg u ⌝ }
-    ensures { λ w. ⌜ w ≡ foldsAt (ring (now (xyz .entry)) (now (table .entry)) f) (ring (now (xyz .entry)) (now (table .entry)) g) u ⌝ }
+    ensures { λ w. ⌜ w ≡ ofRows foldsAt (now (xyz .entry)) (now (table .entry)) f g u ⌝ }
 {
     if !is_corner(xyz, table, g, u) {
         return false;
@@ -127,7 +127,7 @@ fn folds_at(xyz: &[i64], table: &[u8], f: usize, mf: Point, g: usize, mg: Point,
 // Rows f and g, whose normals are mf and mg, clash by C.
 pub fn folds(xyz: &[i64], table: &[u8], f: usize, mf: Point, g: usize, mg: Point) -> bool
     requires { ⌜ TwoFaces (now xyz) (now table) f mf g mg ⌝ }
-    ensures { λ w. ⌜ w ≡ folds (ring (now (xyz .entry)) (now (table .entry)) f) (ring (now (xyz .entry)) (now (table .entry)) g) ⌝ }
+    ensures { λ w. ⌜ w ≡ ofRows folds (now (xyz .entry)) (now (table .entry)) f g ⌝ }
 {
     if in_plane(xyz, table, f, mf, g) {
         return false;

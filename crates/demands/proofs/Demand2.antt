@@ -18,8 +18,8 @@ use Rattle.means_report.specs.Listed.{WalkTree}
 use Rattle.means_report.proofs.Report.{Unrefused, Sound, conversion-sound}
 use Rattle.means_report.proofs.Demand.{all-listed, says-none}
 use Rattle.means_report.proofs.Converted.{the-walk, no-ninth, tells-few, tells-many, tells-long, none-says}
-use Rattle.means_check.specs.Loop.{IsCandidate}
-use Rattle.means_check.proofs.Listing.{candidates-are, candidates-all, candidates-ascend}
+use Rattle.means_loops.specs.Loop.{IsCandidate}
+use Rattle.means_loops.proofs.Listing.{candidates-are, candidates-all, candidates-ascend}
 use Rattle.means_check.proofs.Accepting.{fine-both, none-step, no-checks}
 use Rattle.demands.specs.Input.{Input, drawing, candidatesOf, form, Passes, converted}
 use Rattle.demands.specs.Faces.{Candidates}

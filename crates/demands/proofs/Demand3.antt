@@ -20,11 +20,11 @@ use Rattle.means_report.specs.Report.{facesFor, solidsFor, Reported}
 use Rattle.means_report.proofs.Listed.{walked-lists}
 use Rattle.means_report.proofs.Report.{Tells, Sound}
 use Rattle.means_report.proofs.Converted.{the-walk, conversion-unrefused}
-use Rattle.means_check.specs.Shape.{Candidates}
+use Rattle.means_check.specs.Candidates.{Candidates}
 use Rattle.means_check.specs.Accepts.{NamesSolid}
 use Rattle.means_check.specs.Sent.{faceList}
 use Rattle.means_check.specs.Bodies.{SameBody}
-use Rattle.means_check.proofs.Alike.{names-to}
+use Rattle.means_solid.proofs.Alike.{names-to}
 use Rattle.means_check.proofs.Bodies.{faceList-names, same-named}
 use Rattle.means_check.proofs.Demand.{drawing-places, drawing-fits, accepts-exactly, each-accepted, one-named}
 use Rattle.means_sheets.proofs.FaceLists.{faces-read-one}

@@ -18,7 +18,7 @@ use Rattle.paper.specs.declared.Answer.the-variants.{Fine}
 use Rattle.faces_laws.proofs.Reported.{solid-faces}
 use Rattle.means_report.specs.Listed.{Entry, entryAt, wordsOf}
 use Rattle.means_check.specs.Sent.{faceList}
-use Rattle.means_check.proofs.Listing.{candidates-are}
+use Rattle.means_loops.proofs.Listing.{candidates-are}
 use Rattle.means_check.proofs.Accepting.{step-none}
 
 -- ---- a solid's faces, from the rows and its two words

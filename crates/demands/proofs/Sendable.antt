@@ -14,14 +14,14 @@ use Rattle.paper.specs.Drawing.{Wire, samePlace}
 use Rattle.paper.specs.Loops.{Loop, loopAt, flipped, candidates}
 use Rattle.means_solid.specs.Solid.{IsSolid}
 use Rattle.means_solid.specs.Named.{SameRing, Names}
-use Rattle.means_check.specs.Path.{ClosedPath}
+use Rattle.means_loops.specs.Path.{ClosedPath}
 use Rattle.means_sheets.specs.FaceLists.{Sendable}
 use Rattle.means_check.specs.Sent.{faceList}
-use Rattle.means_check.specs.Shape.{Candidates}
+use Rattle.means_check.specs.Candidates.{Candidates}
 use Rattle.means_check.specs.Bodies.{Singly, SameBody}
-use Rattle.means_check.proofs.Rings.{same-sym, same-trans}
-use Rattle.means_check.proofs.Paths.{path-same, path-flip, loop-path}
-use Rattle.means_check.proofs.Listing.{candidates-are}
+use Rattle.means_loops.proofs.Rings.{same-sym, same-trans}
+use Rattle.means_loops.proofs.Paths.{path-same, path-flip, loop-path}
+use Rattle.means_loops.proofs.Listing.{candidates-are}
 use Rattle.means_check.proofs.Few.{solid-sent}
 use Rattle.means_check.proofs.Bodies.{faceList-names, same-named}
 

@@ -11,7 +11,7 @@ use Rattle.paper.specs.Loops.{Loop}
 use Rattle.paper.specs.Conversion.{Converted}
 use Rattle.paper.specs.declared.Verdict.the-variants.{Accepted}
 use Rattle.means_solid.specs.Named.{Names}
-use Rattle.means_report.specs.Proper.{Same}
+use Rattle.means_report.specs.Fair.{Same}
 use Rattle.means_report.specs.Listed.{Entry, entryAt, wordsOf, Listed}
 use Rattle.means_check.specs.Accepts.{NamesSolid}
 use Rattle.means_check.specs.Bodies.{SameBody}

@@ -5,7 +5,7 @@ use mathlib.Core.Logic.{_↔_}
 use Prim.Native.Nat.{ℕ, _<_}
 use lib.ListN.{length}
 use Rattle.paper.specs.Loops.{Loop, loopAt}
-use Rattle.means_check.specs.Loop.{IsCandidate, Ascending}
+use Rattle.means_loops.specs.Loop.{IsCandidate, Ascending}
 use Rattle.demands.specs.Input.{Input, drawing, candidatesOf}
 
 pub record Candidates (x : Input) : Type 0 where

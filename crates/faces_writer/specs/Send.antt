@@ -11,7 +11,7 @@ use Rattle.lists.specs.Lists.{all, keep}
 use Rattle.paper.specs.Numbers.{mostCandidates}
 use Rattle.paper.specs.Format.{editionBits}
 use Rattle.paper.specs.Loops.{Loop, flipped}
-use Rattle.paper.specs.FaceList.{faceBits, span, faceFits, rowAt, sentRoomFor}
+use Rattle.paper.specs.FaceList.{faceBits, span, faceFits, rowAt, solidFaces, sentRoomFor}
 use Rattle.paper.specs.declared.Format.{Format}
 use Rattle.paper.specs.declared.Answer.the-variants as Answer
 use Rattle.faces_writer.specs.declared.write.Extent.{Extent}
@@ -40,6 +40,10 @@ faceOf rows turned k = way (marked turned k) (rowAt rows k)
 unfoldable pub faceAlone : List ℕ → ℕ → ℕ → ℕ → List Loop
 faceAlone rows taken turned k = keep (marked taken k) (faceOf rows turned k) []
 
+-- what is said of a list of the faces of a reported solid, and of the room for it
+abbrev pub ofSolid : {A : Type 0} → (List Loop → List ℕ → A) → List ℕ → ℕ → ℕ → List ℕ → A
+ofSolid say rows taken turned room = say (solidFaces rows taken turned) room
+
 -- room holds last when these bits are written from bit b on
 abbrev pub Put : List ℕ → List ℕ → ℕ → List ℕ → Type 0
 Put room last b bs = run 8 last ≡ overwrite (run 8 room) b bs
@@ -58,6 +62,10 @@ module _ (f : Format) where
 
   abbrev pub facesBits : List Loop → List ℕ
   facesBits fs = flatMap (faceBits f) fs
+
+  -- room holds last when these faces are written from bit b on
+  abbrev pub PutFaces : List Loop → List ℕ → List ℕ → ℕ → Type 0
+  PutFaces fs room last b = Put room last b (facesBits fs)
 
   -- the count and the bits of faces that all fit
   unfoldable pub weight : List Loop → Extent

@@ -9,7 +9,7 @@ ghost use Rattle.lists.specs.Found.{found};
 ghost use Rattle.paper.specs.Numbers.{mostCandidates};
 ghost use Rattle.paper.specs.FaceList.{span, rowAt, solidFaces, sentOf, sentRoom};
 ghost use Rattle.faces_reader.specs.Face.{Brief};
-ghost use Rattle.faces_writer.specs.Send.{cornersAt, way, rowAlone, faceAlone, Put, cornersOf, listHead, facesBits, weight, listIn};
+ghost use Rattle.faces_writer.specs.Send.{cornersAt, way, rowAlone, faceAlone, Put, PutFaces, cornersOf, listHead, weight, listIn};
 ghost use Rattle.faces_writer.specs.Asked.{Corner, CornerFields, Candidate, Sends, SendsOne, SendsList};
 use lists::Found;
 use paper::Format;
@@ -123,7 +123,7 @@ fn put_corners(rows: &[u8], i: usize, c: usize, back: bool, room: &mut [u8], b: 
 fn put_face(f: Format, rows: &[u8], k: usize, back: bool, room: &mut [u8], b: usize) -> usize
     requires { ⌜ SendsOne f k (rowAlone (now rows) k back) (now room) b ⌝ }
     ensures end { λ r. ⌜ r ≡ b + span f (rowAlone (now (rows .entry)) k back) ⌝ }
-    ensures put { λ _. ⌜ Put (now (room .entry)) (now (room .exit)) b (facesBits f (rowAlone (now (rows .entry)) k back)) ⌝ }
+    ensures put { λ _. ⌜ PutFaces f (rowAlone (now (rows .entry)) k back) (now (room .entry)) (now (room .exit)) b ⌝ }
 {
     let first = paper::ROW * k;
     let c = rows[first] as usize;
@@ -152,7 +152,7 @@ fn put_taken(
 ) -> usize
     requires { ⌜ SendsOne f k (faceAlone (now rows) taken turned k) (now room) b ⌝ }
     ensures end { λ r. ⌜ r ≡ b + span f (faceAlone (now (rows .entry)) taken turned k) ⌝ }
-    ensures put { λ _. ⌜ Put (now (room .entry)) (now (room .exit)) b (facesBits f (faceAlone (now (rows .entry)) taken turned k)) ⌝ }
+    ensures put { λ _. ⌜ PutFaces f (faceAlone (now (rows .entry)) taken turned k) (now (room .entry)) (now (room .exit)) b ⌝ }
 {
     if is_set(taken, k) {
         return put_face(f, rows, k, is_set(turned, k), room, b);
@@ -163,7 +163,7 @@ fn put_taken(
 // Writes the solid's faces behind the head.
 fn put_faces(f: Format, rows: &[u8], taken: u64, turned: u64, room: &mut [u8])
     requires { ⌜ Sends f (solidFaces (now rows) taken turned) (now room) (listHead f) ⌝ }
-    ensures { λ _. ⌜ Put (now (room .entry)) (now (room .exit)) (listHead f) (facesBits f (solidFaces (now (rows .entry)) taken turned)) ⌝ }
+    ensures { λ _. ⌜ PutFaces f (solidFaces (now (rows .entry)) taken turned) (now (room .entry)) (now (room .exit)) (listHead f) ⌝ }
 {
     let mut b = paper::EDITION_BITS + f.face_count_bits;
     let mut k: usize = 0;

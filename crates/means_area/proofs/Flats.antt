@@ -7,6 +7,7 @@
 pub mod Signs
 pub mod Turns
 pub mod Net
+pub mod Ear
 pub mod Choice
 pub mod Chains
 pub mod Rings

@@ -18,16 +18,15 @@ use Rattle.paper.specs.declared.Answer.{Answer}
 use Rattle.paper.specs.declared.Answer.the-variants.{Fine, Refused}
 use Rattle.paper.specs.declared.Verdict.the-variants.{Accepted}
 use Rattle.means_solid.specs.Solid.{IsSolid}
-use Rattle.means_check.specs.Shape.{Candidates}
+use Rattle.means_check.specs.Candidates.{Candidates}
 use Rattle.means_solid.specs.Named.{Names}
 use Rattle.means_check.specs.Accepts.{NamesSolid, Accepts}
 use Rattle.means_check.proofs.Numbered.{numbersOf, takenOf, turnedOf, numbers-length, number-of, taken-yes, taken-is, turned-yes}
 use Rattle.means_check.proofs.Numbered.{Numbered, numbered, numbered-21, numbered-22, numbered-names, names-numbered}
 use Rattle.means_check.proofs.Numbered.{names-taken, names-turned}
-use Rattle.means_check.proofs.Tests.{Lists, pieces-ways, ways-pieces, inward-six}
-use Rattle.means_check.proofs.Tests.{six-inward, clashes-none, none-clashes}
-use Rattle.means_check.proofs.Alike.{solid-to, row-same}
-use Rattle.means_check.proofs.EdgeTests.{edges-ways, ways-edges, edges-two, two-edges}
+use Rattle.means_check.proofs.Tests.{Lists, edges-two, two-edges, pieces-ways, ways-pieces, edges-ways, ways-edges, inward-six}
+use Rattle.means_check.proofs.Tests.{six-inward, clashes-apart, apart-clashes, all-proper}
+use Rattle.means_solid.proofs.Alike.{solid-to, row-same}
 use Rattle.means_check.proofs.Numbers.{row-length}
 
 -- ---- a list of checks is passed
@@ -121,9 +120,9 @@ module _ (d : Wire) (cs : List Loop) (fs : List (List ℕ)) where
             within = λ k e. let r = turned-yes cs fs k e in let q = r .1 in taken-is cs fs (q .0) k (q .1) (q .2) (r .0);
             i = two;
             ii = pieces-ways d cs (takenOf cs fs) (turnedOf cs fs) two (numbersOf cs fs) (lists n) (p .p25);
-            iii = edges-ways d cs c (takenOf cs fs) (turnedOf cs fs) (p .p24);
+            iii = edges-ways d cs (takenOf cs fs) (turnedOf cs fs) (all-proper c) (p .p24);
             iv = (six .1, six .2);
-            v = clashes-none d cs (takenOf cs fs) (turnedOf cs fs) c some (numbersOf cs fs) (lists n) (p .p27);
+            v = clashes-apart d cs (takenOf cs fs) (turnedOf cs fs) (c .even) some (numbersOf cs fs) (lists n) (p .p27);
           };
           names = numbered-names d cs c fs n;
         }
@@ -134,10 +133,10 @@ module _ (d : Wire) (cs : List Loop) (fs : List (List ℕ)) where
       p21 = numbered-21 cs fs n;
       p22 = numbered-22 cs fs n;
       p23 = two-edges d cs (takenOf cs fs) (turnedOf cs fs) (s .i);
-      p24 = ways-edges d cs c (takenOf cs fs) (turnedOf cs fs) (s .iii);
+      p24 = ways-edges d cs (takenOf cs fs) (turnedOf cs fs) (all-proper c) (s .iii);
       p25 = ways-pieces d cs (takenOf cs fs) (turnedOf cs fs) (s .i) (numbersOf cs fs) (lists n) (s .ii);
       p26 = six-inward d cs (takenOf cs fs) (turnedOf cs fs) six (s .iv .0) (s .iv .1);
-      p27 = none-clashes d cs (takenOf cs fs) (turnedOf cs fs) c (s .some) (numbersOf cs fs) (lists n) (s .v);
+      p27 = apart-clashes d cs (takenOf cs fs) (turnedOf cs fs) (c .even) (s .some) (numbersOf cs fs) (lists n) (s .v);
     }
 
     -- the masks that are read off a list are those of any solid that it names

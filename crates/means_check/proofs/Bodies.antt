@@ -18,16 +18,18 @@ use Rattle.paper.specs.Solids.{tablesOf}
 use Rattle.paper.specs.Verdict.{listed, faceChecks}
 use Rattle.paper.specs.declared.Answer.the-variants.{Fine}
 use Rattle.means_solid.specs.Solid.{IsSolid}
-use Rattle.means_check.specs.Shape.{Candidates}
+use Rattle.means_check.specs.Candidates.{Candidates}
 use Rattle.means_solid.specs.Named.{SameRing, directed, Names}
 use Rattle.means_check.specs.Sent.{faceList}
 use Rattle.means_check.specs.Bodies.{Among, AmongEither, Singly, SameBody, OneSolid}
-use Rattle.means_check.proofs.Rings.{same-refl, same-sym, same-trans, same-length, flip-flip, flip-length, flip-same}
+use Rattle.means_loops.proofs.Rings.{same-refl, same-sym, same-trans, same-length, flip-flip, flip-length, flip-same}
 use Rattle.means_check.proofs.Numbered.{ring-number, either-number, not-both}
-use Rattle.means_check.proofs.Alike.{names-to, row-same}
-use Rattle.means_check.proofs.Forced.{directions-same, no-part}
+use Rattle.means_solid.proofs.Alike.{names-to, row-same}
+use Rattle.means_masks.proofs.Judged.{one-solid}
+use Rattle.means_check.proofs.Parts.{no-part}
+use Rattle.means_check.proofs.Tests.{all-proper}
 use Rattle.means_check.proofs.Accepting.{accepted-names, names-accepted}
-use Rattle.means_check.proofs.Numbers.{filter-yes, filter-is}
+use Rattle.means_loops.proofs.Kept.{filter-yes, filter-is}
 use Rattle.means_check.proofs.Picked.{inside, kept-once}
 
 module _ (d : Wire) (cs : List Loop) (c : Candidates d cs) where
@@ -233,7 +235,7 @@ module _ (d : Wire) (cs : List Loop) (c : Candidates d cs) where
           let e : taken′ ≡ taken = row-same taken′ taken (r .some ∙ sym (s .some)) (λ k. sym (same k)) in
           let t : IsSolid d cs taken turned′ six′ = subst (λ (x : List Bool). IsSolid d cs x turned′ six′) e r in
           same-named taken turned fs gs n
-          (rows-named taken turned taken′ turned′ s r same (directions-same d cs taken turned turned′ s t) gs o)
+          (rows-named taken turned taken′ turned′ s r same (one-solid d cs (all-proper c) (c .even) taken (s .some) s t .0) gs o)
         where
           equal : (x y : Bool) → (x ≡ true → y ≡ true) → (y ≡ true → x ≡ true) → x ≡ y
           equal true y f g = sym (f refl)

@@ -1,65 +1,33 @@
--- The faces of a solid close: their normals add up to (0,0,0), and so a solid whose faces all pass through one vertex has no volume.
+-- The faces of a solid close: their normals, each in its face's direction, add up to (0,0,0), for each side meets one of another face.
 -- Assumes nothing.
 use mathlib.Core.Path.{_≡_, refl, sym, ap, ap₂, subst, _∙_}
 use mathlib.Core.Bool.{Bool, true, false, _&&_, cond}
 use mathlib.Core.Logic.{_⊎_, inl, inr}
 use mathlib.Core.List.{List, [], _∷_}
-use Prim.Native.Nat.{ℕ, suc, _+_, _-_, _<_}
+use Prim.Native.Nat.{ℕ, suc, _-_, _<_}
 use native.Mathlib.Numerals.{add-one}
 use native.Mathlib.Omega.{arith}
-use native.Mathlib.Decide.{decLt}
 use lib.Dec.{eqb, ltb}
-use lib.IntN.{ℤ, pos, negℤ, _+ℤ_}
-use lib.ListN.{length, getD, List·getD-eq-default}
+use lib.ListN.{length, getD}
 use borrow.Author.Tests.{eqb-true, eq-eqb, ltb-true, lt-ltb, le-ltb}
-use Rattle.lists.specs.Lists.{sides, sidesFrom}
+use Rattle.lists.specs.Lists.{sides}
 use Rattle.lists.specs.Around.{around}
 use Rattle.lists.proofs.Truth.{and-left, and-right, and-both}
 use Rattle.lists.proofs.Sides.{wrap-low, sides-length, sides-at, sides-map}
-use Rattle.lists.proofs.Places.{map-at}
 use Rattle.sets.specs.Word.{dig}
 use Rattle.sets.proofs.Digits.{never}
-use Rattle.paper.specs.Points.{origin, minus, dot, cross, det, sum}
-use Rattle.paper.specs.Polygon.{Polygon, normal, corner}
+use Rattle.sets.proofs.Ones.{dig-lt}
+use Rattle.paper.specs.Points.{origin, minus, cross, sum}
+use Rattle.paper.specs.Polygon.{normal}
 use Rattle.paper.specs.Drawing.{Wire, edge, edgeAt, at}
 use Rattle.paper.specs.Loops.{Loop, loopAt, polygon}
-use Rattle.paper.specs.Solids.{fan, faceSix}
 use Rattle.paper.specs.declared.Point.{Point}
-use Rattle.paper_laws.proofs.Vectors.{vec, k as con, _+s_, _-s_, negs, _·_, o, v, _+v_, _-v_, _×v_, vring}
-use Rattle.means_solid.specs.Solid.{Goes, Runs, RunOnce, EachWay, share, sixOf, IsSolid}
-use Rattle.means_check.specs.Plane.{InPlane}
-use Rattle.means_check.specs.Path.{EdgeOf, ClosedPath}
-use Rattle.means_check.proofs.Goings.{around-at}
-use Rattle.means_check.proofs.Planes.{dot-comm, in-one-line}
-use Rattle.means_check.proofs.Evenly.{normal-across, corner-at, less-dot, dot-less}
+use Rattle.paper_laws.proofs.Vectors.{vec, _-s_, o, v, _-v_, _×v_, vring}
+use Rattle.means_solid.specs.Solid.{Goes, Runs, RunOnce, EachWay, IsSolid}
+use Rattle.means_loops.specs.Path.{EdgeOf, ClosedPath}
+use Rattle.means_solid.proofs.Goes.{around-at}
 use Rattle.means_check.proofs.Sums.{sumTo, sum-same, sum-zero, sum-minus, sum-more, sum-list, sum2, sum2-zero, sum2-single}
 use Rattle.means_check.proofs.Sums.{cancels}
-
--- ---- a face's part of six volumes is its normal's product with its first corner
-
-fan-is : (a b : Point) (r : List Point) → fan a (b ∷ r) ≡ dot a (sum (sidesFrom cross a b r))
-unfolding fan sum sidesFrom det
-fan-is a b [] = sym (vring (vec a ∷ vec b ∷ []) (v 0 · ((v 1 ×v v 0) +v o)) (con (pos 0)) tt)
-fan-is a b (c ∷ r) =
-    ap (λ (z : ℤ). dot a (cross b c) +ℤ z) (fan-is a c r)
-    ∙ vring (vec a ∷ vec (cross b c) ∷ vec (sum (sidesFrom cross a c r)) ∷ []) ((v 0 · v 1) +s (v 0 · v 2)) (v 0 · (v 1 +v v 2)) tt
-
-six-normal : (f : Polygon) → faceSix f ≡ dot (corner f) (normal f)
-unfolding faceSix corner normal sides sidesFrom sum fan
-six-normal [] = sym (vring [] (o · o) (con (pos 0)) tt)
-six-normal (a ∷ []) = sym (vring (vec a ∷ []) (v 0 · ((v 0 ×v v 0) +v o)) (con (pos 0)) tt)
-six-normal (a ∷ (b ∷ r)) =
-    fan-is a b r ∙ vring (vec a ∷ vec b ∷ vec (sum (sidesFrom cross a b r)) ∷ []) (v 0 · v 2) (v 0 · ((v 0 ×v v 1) +v v 2)) tt
-
--- with any of its corners
-six-corner : (f : Polygon) (i : ℕ) → InPlane f → i < length f → faceSix f ≡ dot (getD f i origin) (normal f)
-six-corner f i y h =
-    let m = normal-across (y .across) (y .height) f (y .every) in
-    let z : dot (y .across) (minus (corner f) (getD f i origin)) ≡ pos 0 = less-dot (y .across) (corner f) (getD f i origin) (y .height)
-    (ap (dot (y .across)) (corner-at f) ∙ y .every 0 (omega arith)) (y .every i h) in
-    let w = in-one-line (y .across) (normal f) (minus (corner f) (getD f i origin)) (y .real) m z in
-    six-normal f ∙ dot-comm (corner f) (normal f) ∙ dot-less (normal f) (corner f) (getD f i origin) w
-    ∙ dot-comm (normal f) (getD f i origin)
 
 -- ---- the sides of all faces, each in its face's direction
 
@@ -122,13 +90,15 @@ module _ (d : Wire) (cs : List Loop) (taken turned : List Bool) (paths : (k : �
       go true false e f = never (sym (meets-is p q k i (back k i p q (meets-yes k i p q e))) ∙ f)
       go false true e f = never (sym (meets-is k i p q (back p q k i (meets-yes p q k i f))) ∙ e)
 
+  -- the normal of face k, in its direction
+  abbrev pub facing : ℕ → Point
+  facing k =
+      cond (dig taken k) (cond (dig turned k) (minus origin (normal (polygon d (loopAt cs k)))) (normal (polygon d (loopAt cs k))))
+      origin
+
   module _ {six : ℕ} (s : IsSolid d cs taken turned six) where
     inside : (k : ℕ) → dig taken k ≡ true → k < length cs
-    inside k e = go (decLt k (length cs))
-      where
-        go : Dec (k < length cs) → k < length cs
-        go (yes h) = h
-        go (no h) = never (sym e ∙ List·getD-eq-default taken false (omega (arith, s .some)))
+    inside k e = omega (arith, dig-lt taken k e, s .some)
 
     -- a side is run by its face
     side-runs : (k i : ℕ) → there k i ≡ true → (dig taken k ≡ true) × (i < length (loopAt cs k))
@@ -236,15 +206,10 @@ module _ (d : Wire) (cs : List Loop) (taken turned : List Bool) (paths : (k : �
                     (m .to ∙ sym qs ∙ ap (λ (x : ℕ). end x s) (sym z))))
 
     -- the sides cancel
-    pub sides-cancel : sum2 (length cs) 12 given ≡ origin
+    sides-cancel : sum2 (length cs) 12 given ≡ origin
     sides-cancel = cancels (length cs) 12 given pair pair-anti pair-one
 
     -- ---- a face's sides add up to its normal
-
-    abbrev facing : ℕ → Point
-    facing k =
-        cond (dig taken k) (cond (dig turned k) (minus origin (normal (polygon d (loopAt cs k)))) (normal (polygon d (loopAt cs k))))
-        origin
 
     normal-sum : (l : Loop) → normal (polygon d l) ≡ sumTo (length l) (λ i. cross (at d (around l i 0)) (at d (around l (suc i) 0)))
     unfolding normal polygon
@@ -298,58 +263,3 @@ module _ (d : Wire) (cs : List Loop) (taken turned : List Bool) (paths : (k : �
     -- the normals of the faces, in their directions, add up to (0,0,0)
     pub normals-close : sumTo (length cs) facing ≡ origin
     normals-close = sym (sum-same (length cs) (λ k. sumTo 12 (λ i. given k i)) facing face-sum) ∙ sides-cancel
-
-    -- ---- a vertex on all faces
-
-    module _ (u : ℕ) (common : (k : ℕ) → dig taken k ≡ true → (i : ℕ) × (i < length (loopAt cs k)) × (getD (loopAt cs k) i 0 ≡ u)) where
-      face-six : (k : ℕ) → dig taken k ≡ true → faceSix (polygon d (loopAt cs k)) ≡ dot (at d u) (normal (polygon d (loopAt cs k)))
-      unfolding polygon
-      face-six k f =
-          let r = common k f in
-          six-corner (polygon d (loopAt cs k)) (r .0) (paths k (inside k f) .plane)
-          (omega (arith, r .1, lib.ListN.length-map (loopAt cs k) (at d)))
-          ∙ ap (λ (p : Point). dot p (normal (polygon d (loopAt cs k)))) (map-at (at d) (loopAt cs k) (r .0) 0 origin (r .1)
-          ∙ ap (at d) (r .2))
-
-      share-dot : (b t : Bool) (z : ℤ) (n : Point) → (b ≡ true → z ≡ dot (at d u) n)
-          → share d cs taken turned b t z ≡ dot (at d u) (cond b (cond t (minus origin n) n) origin)
-      share-dot false t z n h = sym (vring (vec (at d u) ∷ []) (v 0 · o) (con (pos 0)) tt)
-      share-dot true false z n h = h refl
-      share-dot true true z n h = ap negℤ (h refl) ∙ vring (vec (at d u) ∷ vec n ∷ []) (negs (v 0 · v 1)) (v 0 · (o -v v 1)) tt
-
-      six-sum : (j : ℕ) (ls : List Loop) → ((i : ℕ) → i < length ls → loopAt ls i ≡ loopAt cs (j + i))
-          → sixOf d cs taken turned j ls ≡ dot (at d u) (sumTo (length ls) (λ i. facing (j + i)))
-      unfolding sixOf sumTo
-      six-sum j [] f = sym (vring (vec (at d u) ∷ []) (v 0 · o) (con (pos 0)) tt)
-      six-sum j (l ∷ ls) f =
-          let z : l ≡ loopAt cs j = f 0 (omega arith) ∙ ap (loopAt cs) (plus-zero j) in
-          ap₂ _+ℤ_
-          (ap (λ (q : Loop). share d cs taken turned (dig taken j) (dig turned j) (faceSix (polygon d q))) z
-          ∙ share-dot (dig taken j) (dig turned j) (faceSix (polygon d (loopAt cs j))) (normal (polygon d (loopAt cs j))) (face-six j)
-          ∙ ap (λ (m : ℕ). dot (at d u) (facing m)) (sym (plus-zero j)))
-          (six-sum (suc j) ls (λ i h. f (suc i) (omega arith) ∙ ap (loopAt cs) (plus-suc j i))
-          ∙ ap (dot (at d u))
-          (sum-same (length ls) (λ i. facing (suc j + i)) (λ i. facing (j + suc i)) (λ i h. ap facing (sym (plus-suc j i)))))
-          ∙ vring (vec (at d u) ∷ vec (facing (j + 0)) ∷ vec (sumTo (length ls) (λ i. facing (j + suc i))) ∷ [])
-          ((v 0 · v 1) +s (v 0 · v 2)) (v 0 · (v 1 +v v 2)) tt
-        where
-          plus-zero : (j : ℕ) → j + 0 ≡ j
-          plus-zero j = omega arith
-
-          plus-suc : (j i : ℕ) → j + suc i ≡ suc j + i
-          plus-suc j i = omega arith
-
-      -- such a solid has no volume
-      pub no-volume : ⊥
-      no-volume =
-          let e : sixOf d cs taken turned 0 cs ≡ pos 0
-          = six-sum 0 cs (λ i h. ap (loopAt cs) (zero-plus i))
-          ∙ ap (dot (at d u)) (sum-same (length cs) (λ i. facing (0 + i)) facing (λ i h. ap facing (sym (zero-plus i))) ∙ normals-close)
-          ∙ vring (vec (at d u) ∷ []) (v 0 · o) (con (pos 0)) tt in
-          let p : pos 0 ≡ pos six = sym e ∙ s .iv .0 in
-          let z : 0 ≡ six = cc in
-          let h = s .iv .1 in
-          omega arith
-        where
-          zero-plus : (i : ℕ) → i ≡ 0 + i
-          zero-plus i = omega arith

@@ -17,7 +17,7 @@ use Rattle.paper.specs.Verdict.{listed, faceChecks, verdict}
 use Rattle.paper.specs.declared.Answer.the-variants.{Fine}
 use Rattle.paper.specs.declared.Verdict.the-variants.{Accepted}
 use Rattle.means_solid.specs.Solid.{IsSolid}
-use Rattle.means_check.specs.Shape.{Candidates}
+use Rattle.means_check.specs.Candidates.{Candidates}
 use Rattle.means_solid.specs.Named.{SameRing, Names}
 use Rattle.means_check.specs.Accepts.{NamesSolid, Accepts}
 use Rattle.means_sheets.proofs.FaceLists.{faces-read-one}
@@ -25,8 +25,9 @@ use Rattle.means_check.specs.Sent.{faceList}
 use Rattle.means_check.specs.Bodies.{AmongEither, Singly, SameBody, OneSolid}
 use Rattle.means_check.proofs.Numbered.{names-taken, names-turned}
 use Rattle.means_check.proofs.Few.{solid-sent}
-use Rattle.means_check.proofs.Listing.{candidates-fit}
-use Rattle.means_check.proofs.Evenly.{candidates-even}
+use Rattle.means_masks.proofs.Tables.{flat-even}
+use Rattle.means_loops.proofs.Listing.{loop-normal, candidates-are, candidates-once}
+use Rattle.means_loops.proofs.OwnPlane.{candidates-flat}
 use Rattle.means_check.proofs.Accepting.{step-none, fine-passes, verdict-accepts, accepts-verdict, names-accepted}
 use Rattle.means_check.proofs.Bodies.{one-body, part-body, turned-refused, missing-refused, doubled-refused, names-again}
 use Rattle.means_check.proofs.Bodies.{same-named}
@@ -38,7 +39,11 @@ unfolding drawingChecks
 drawing-places d e = step-none 11 (samePlace d) (check 12 (looseVertex d) ∷ check 13 (edgeMeets d) ∷ check 14 (apart d) ∷ []) e .0
 
 pub drawing-fits : (d : Wire) → firstOf (drawingChecks d) ≡ Fine → Candidates d (candidates d)
-drawing-fits d e = candidates-fit d (candidates-even d (drawing-places d e))
+drawing-fits d e = record {
+  normal = λ k h. loop-normal d (loopAt (candidates d) k) (candidates-are d k h .loop);
+  differ = candidates-once d;
+  even = flat-even d (candidates d) (candidates-flat d (drawing-places d e));
+}
 
 module _ (form : List Check) (d : Wire) where
   -- "For a drawing that passes the drawing rules, the check accepts a list exactly when it names one solid of demand 2 with its

@@ -7,30 +7,28 @@ use mathlib.Core.List.{List, [], _∷_, map}
 use Prim.Native.Nat.{ℕ, zero, suc, _+_, _-_, _*_, _≤_, _<_}
 use native.Mathlib.Omega.{arith}
 use lib.ListN.{length, getD, length-map}
-use borrow.Author.Tests.{eqb-true}
 use Rattle.lists.specs.Lists.{keep, filter, from, upto}
 use Rattle.lists.specs.Around.{around}
 use Rattle.lists.proofs.Places.{map-at, made-at, made-length, upto-length, upto-at}
 use Rattle.lists.proofs.Sides.{wrap-low}
 use Rattle.sets.specs.Word.{bit, dig, count, both, less, only}
-use Rattle.sets.proofs.Digits.{never, dig-both, length-both, count-only}
+use Rattle.sets.proofs.Digits.{never, length-both, count-only}
 use Rattle.paper.specs.Format.{editionOne}
 use Rattle.paper.specs.Drawing.{Wire, Edge, edge, edgeAt, samePlace}
 use Rattle.paper.specs.Loops.{Loop, loopAt, flipped, candidates}
-use Rattle.paper.specs.Solids.{has, inTwo}
+use Rattle.paper.specs.Solids.{has}
 use Rattle.means_solid.specs.Solid.{IsSolid}
-use Rattle.means_check.specs.Path.{EdgeOf, ClosedPath}
+use Rattle.means_loops.specs.Path.{EdgeOf, ClosedPath}
 use Rattle.means_solid.specs.Named.{directed}
-use Rattle.means_solid.proofs.Goes.{has-nil, dig-map}
+use Rattle.means_solid.proofs.Goes.{cases-has, around-at, one-way}
 use Rattle.means_sheets.specs.FaceLists.{Sendable}
 use Rattle.means_check.specs.Sent.{faceList}
-use Rattle.means_check.proofs.Counts.{rest-in}
-use Rattle.means_check.proofs.Goings.{cases-has, around-at, one-way}
-use Rattle.means_check.proofs.Listing.{candidates-are}
-use Rattle.means_check.proofs.Paths.{loop-path, path-flip}
+use Rattle.means_leaf.proofs.Counts.{left-in}
+use Rattle.means_loops.proofs.Listing.{candidates-are}
+use Rattle.means_loops.proofs.Paths.{loop-path, path-flip}
 use Rattle.means_check.proofs.Four.{four-faces}
-use Rattle.means_check.proofs.Numbers.{filter-yes}
-use Rattle.means_check.proofs.EdgeTests.{in-two}
+use Rattle.means_loops.proofs.Kept.{filter-yes}
+use Rattle.means_masks.proofs.Edges.{on-dig, in-two}
 
 -- ---- sums of numbers
 
@@ -86,9 +84,9 @@ three-set : (a : List Bool) (i j k : ℕ) → dig a i ≡ true → dig a j ≡ t
     → 3 ≤ count a
 three-set a i j k p q r n m o =
     let x = count-only a i p in
-    let hj = rest-in a i j q n in
+    let hj = left-in a i j q n in
     let y = count-only (less a (only i)) j hj in
-    let hk = rest-in (less a (only i)) j k (rest-in a i k r m) o in
+    let hk = left-in (less a (only i)) j k (left-in a i k r m) o in
     let z = count-only (less (less a (only i)) (only j)) k hk in
     omega arith
 
@@ -122,7 +120,8 @@ module _ (d : Wire) (l : Loop) (c : ClosedPath d l) where
 
       back : around l i 0 ≡ around l (suc j) 0 → around l (suc i) 0 ≡ around l j 0 → ⊥
       back p q =
-          one-way (around l i 0) (around l (suc i) 0) l (c .three) (c .different) (record { at = i; here = hi; from = refl; to = refl })
+          one-way (around l i 0) (around l (suc i) 0) l (record { three = c .three; different = c .different })
+          (record { at = i; here = hi; from = refl; to = refl })
           (record { at = j; here = hj; from = q; to = p })
 
       both-are : (a b e f : ℕ) → edge a b ≡ edge e f → (a ≡ e) × (b ≡ f)
@@ -171,21 +170,15 @@ module _ (d : Wire) (cs : List Loop) (taken turned : List Bool) (paths : (k : �
   onEdge e = both (map (has (edgeAt d e)) cs) taken
 
   row-two : (e : ℕ) → e < length (d .edges) → total (length cs) (λ k. bit (dig (onEdge e) k)) ≡ 2
-  unfolding inTwo
   row-two e h =
       sym
       (count-total (onEdge e) (length cs)
       (omega (arith, length-both (map (has (edgeAt d e)) cs) taken, length-map cs (has (edgeAt d e)))))
-      ∙ eqb-true (count (onEdge e)) 2 (in-two d cs taken turned (edgeAt d e) (s .i e h))
+      ∙ in-two d cs taken turned (edgeAt d e) (s .i e h)
 
   column : (k : ℕ) → k < length cs → 3 * bit (dig taken k) ≤ total (length (d .edges)) (λ e. bit (dig (onEdge e) k))
   column k h = go (dig taken k) refl
     where
-      at : (e : ℕ) → dig (onEdge e) k ≡ has (edgeAt d e) (loopAt cs k) && dig taken k
-      at e =
-          dig-both (map (has (edgeAt d e)) cs) taken k
-          ∙ ap (λ (b : Bool). b && dig taken k) (dig-map (has (edgeAt d e)) (has-nil (edgeAt d e)) cs k)
-
       and-yes : (b : Bool) → (b && true) ≡ b
       and-yes true = refl
       and-yes false = refl
@@ -194,7 +187,8 @@ module _ (d : Wire) (cs : List Loop) (taken turned : List Bool) (paths : (k : �
       go false e = omega arith
       go true e =
           let w = total-same (length (d .edges)) (λ e. bit (dig (onEdge e) k)) (λ e. bit (has (edgeAt d e) (loopAt cs k)))
-          (λ m l. ap bit (at m ∙ ap (λ (b : Bool). has (edgeAt d m) (loopAt cs k) && b) e ∙ and-yes (has (edgeAt d m) (loopAt cs k)))) in
+          (λ m l. ap bit (on-dig d cs taken turned (edgeAt d m) k
+          ∙ ap (λ (b : Bool). has (edgeAt d m) (loopAt cs k) && b) e ∙ and-yes (has (edgeAt d m) (loopAt cs k)))) in
           omega (arith, three-edges d (loopAt cs k) (paths k h))
 
   pub faces-few : 3 * count taken ≤ 2 * length (d .edges)

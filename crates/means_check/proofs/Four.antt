@@ -15,11 +15,11 @@ use Rattle.paper.specs.Drawing.{Wire, edge, edgeAt}
 use Rattle.paper.specs.Loops.{Loop, loopAt}
 use Rattle.paper.specs.Solids.{has}
 use Rattle.means_solid.specs.Solid.{Has, Way, stay, cross, IsSolid}
-use Rattle.means_check.specs.Path.{ClosedPath}
-use Rattle.means_check.proofs.Counts.{rest-in, rest-out}
-use Rattle.means_check.proofs.Goings.{has-cases, cases-has, around-at, wrap-next}
-use Rattle.means_check.proofs.Forced.{some-face}
-use Rattle.means_check.proofs.Closing.{no-volume}
+use Rattle.means_loops.specs.Path.{ClosedPath}
+use Rattle.means_leaf.proofs.Counts.{left-in, left-out}
+use Rattle.means_solid.proofs.Goes.{has-cases, cases-has, around-at, wrap-next}
+use Rattle.means_check.proofs.Parts.{some-face}
+use Rattle.means_check.proofs.Volume.{no-volume}
 use Rattle.means_check.proofs.Shared.{turn, inside, Beside, own, beside-start, beside-end, Other, other, shared}
 
 module _ (d : Wire) (cs : List Loop) (taken turned : List Bool) (paths : (k : ℕ) → k < length cs → ClosedPath d (loopAt cs k)) {six : ℕ}
@@ -160,7 +160,7 @@ module _ (d : Wire) (cs : List Loop) (taken turned : List Bool) (paths : (k : �
               only-two k f (no x) (yes y) = inr y
               only-two k f (no x) (no y) =
                   absurd
-                  (count-none (less (less taken (only a)) (only b)) e k (rest-in (less taken (only a)) b k (rest-in taken a k f x) y))
+                  (count-none (less (less taken (only a)) (only b)) e k (left-in (less taken (only a)) b k (left-in taken a k f x) y))
 
               on : (k : ℕ) → (k ≡ a) ⊎ (k ≡ b)
                   → (i : ℕ) × (i < length (loopAt cs k)) × (getD (loopAt cs k) i 0 ≡ around (loopAt cs a) 0 0)
@@ -172,8 +172,8 @@ module _ (d : Wire) (cs : List Loop) (taken turned : List Bool) (paths : (k : �
                   (beside-start d cs taken turned paths s a 0 b bs)
           third a fa ha b fb n bs (no e) =
               let hc = first-in (less (less taken (only a)) (only b)) e in
-              let u = rest-out (less taken (only a)) b (first (less (less taken (only a)) (only b))) hc in
-              let w = rest-out taken a (first (less (less taken (only a)) (only b))) (u .0) in
+              let u = left-out (less taken (only a)) b (first (less (less taken (only a)) (only b))) hc in
+              let w = left-out taken a (first (less (less taken (only a)) (only b))) (u .0) in
               last (first (less (less taken (only a)) (only b))) (w .0) (w .1) (u .1)
               (λ k f. only-three (first (less (less taken (only a)) (only b))) hc k f (ℕ-discrete k a) (ℕ-discrete k b)
               (ℕ-discrete k (first (less (less taken (only a)) (only b)))))
@@ -185,10 +185,10 @@ module _ (d : Wire) (cs : List Loop) (taken turned : List Bool) (paths : (k : �
               only-three c hc k f (no x) (no y) (yes z) = inr (inr z)
               only-three c hc k f (no x) (no y) (no z) =
                   let p1 = count-only taken a fa in
-                  let hb = rest-in taken a b fb n in
+                  let hb = left-in taken a b fb n in
                   let p2 = count-only (less taken (only a)) b hb in
                   let p3 = count-only (less (less taken (only a)) (only b)) c hc in
-                  let hk = rest-in (less (less taken (only a)) (only b)) c k (rest-in (less taken (only a)) b k (rest-in taken a k f x) y)
+                  let hk = left-in (less (less taken (only a)) (only b)) c k (left-in (less taken (only a)) b k (left-in taken a k f x) y)
                   z in
                   let p4 = count-only (less (less (less taken (only a)) (only b)) (only c)) k hk in
                   absurd (omega arith)

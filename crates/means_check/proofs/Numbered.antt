@@ -17,15 +17,16 @@ use Rattle.lists.proofs.Places.{map-at}
 use Rattle.lists.proofs.Lowest.{lowest-none}
 use Rattle.sets.specs.Word.{dig}
 use Rattle.sets.proofs.Digits.{never}
+use Rattle.sets.proofs.Ones.{dig-lt}
 use Rattle.paper.specs.Drawing.{Wire}
 use Rattle.paper.specs.Loops.{Loop, loopAt, flipped}
 use Rattle.paper.specs.Verdict.{onward, normalForm, numberIn, maskOf, notCandidate, faceTwice}
-use Rattle.means_check.specs.Shape.{Candidates}
+use Rattle.means_check.specs.Candidates.{Candidates}
 use Rattle.means_solid.specs.Named.{SameRing, directed, Names}
-use Rattle.means_check.proofs.Rings.{same-length, flip-length}
-use Rattle.means_check.proofs.Numbers.{member-yes, member-is, number-at, number-in, row-yes, row-is, none-lowest, filter-yes}
-use Rattle.means_check.proofs.Numbers.{filter-is}
-use Rattle.means_check.proofs.Lowest.{normal-on, normal-back, on-onward, on-normal, back-onward, back-normal}
+use Rattle.means_loops.proofs.Rings.{same-length, flip-length}
+use Rattle.means_check.proofs.Numbers.{number-at, number-in, row-yes, row-is, none-lowest}
+use Rattle.means_loops.proofs.Kept.{member-yes, member-is, filter-yes, filter-is}
+use Rattle.means_loops.proofs.Lowest.{normal-on, normal-back, on-onward, on-normal, back-onward, back-normal}
 
 -- ---- the faces of a list by their numbers
 
@@ -240,11 +241,7 @@ module _ (d : Wire) (cs : List Loop) (c : Candidates d cs) where
     module _ (taken turned : List Bool) (some : length taken ≡ length cs) (within : (k : ℕ) → dig turned k ≡ true → dig taken k ≡ true)
         (n : Names d cs taken turned fs) where
       inside : (k : ℕ) → dig taken k ≡ true → k < length cs
-      inside k e = go (decLt k (length cs))
-        where
-          go : Dec (k < length cs) → k < length cs
-          go (yes h) = h
-          go (no h) = never (sym e ∙ List·getD-eq-default taken false (omega arith))
+      inside k e = omega (arith, dig-lt taken k e)
 
       -- the number of face i is that of the face it is
       number-each : (i : ℕ) → i < length fs → (k : ℕ) × (dig taken k ≡ true) × (numberIn cs (loopAt fs i) ≡ k)

@@ -1,23 +1,18 @@
 -- The numbers that pass, each once, and digits that are set. Assumes nothing.
-use mathlib.Core.Path.{_≡_, refl, sym, ap, _∙_}
+use mathlib.Core.Path.{_≡_, refl, ap}
 use mathlib.Core.Bool.{Bool, true, false}
 use mathlib.Core.List.{List}
 use Prim.Native.Nat.{ℕ, zero, suc, _≤_, _<_}
 use native.Mathlib.Omega.{arith}
-use native.Mathlib.Decide.{decLt}
-use lib.ListN.{length, getD, List·getD-eq-default}
+use lib.ListN.{length, getD}
 use Rattle.lists.specs.Lists.{keep, filter, from}
 use Rattle.sets.specs.Word.{dig}
-use Rattle.sets.proofs.Digits.{never}
+use Rattle.sets.proofs.Ones.{dig-lt}
 use Rattle.paper.specs.Loops.{Loop}
 
 -- a digit that is set is one of the row's
 pub inside : (cs : List Loop) (taken : List Bool) → length taken ≡ length cs → (k : ℕ) → dig taken k ≡ true → k < length cs
-inside cs taken some k e = go (decLt k (length cs))
-  where
-    go : Dec (k < length cs) → k < length cs
-    go (yes h) = h
-    go (no h) = never (sym e ∙ List·getD-eq-default taken false (omega arith))
+inside cs taken some k e = omega (arith, dig-lt taken k e)
 
 -- the numbers that pass, each once
 kept-low : (p : ℕ → Bool) (m i k : ℕ) → k < length (filter p (from i m)) → i ≤ getD (filter p (from i m)) k 0

@@ -6,16 +6,17 @@ use mathlib.Core.List.{List}
 use Prim.Native.Nat.{ℕ, zero, suc, _+_, _-_, _≤_, _<_}
 use native.Mathlib.Omega.{arith}
 use native.Mathlib.Decide.{decLt, ℕ-discrete}
-use lib.ListN.{length, getD, List·getD-eq-default}
+use lib.ListN.{length, getD}
 use Rattle.lists.specs.Around.{wrap, around}
 use Rattle.lists.proofs.Sides.{wrap-low, wrap-high}
 use Rattle.sets.specs.Word.{dig, only}
 use Rattle.sets.proofs.Digits.{never}
+use Rattle.sets.proofs.Ones.{dig-lt}
 use Rattle.paper.specs.Drawing.{Wire, Edge, edge}
 use Rattle.paper.specs.Loops.{Loop, loopAt}
 use Rattle.means_solid.specs.Solid.{Goes, Has, InTwo, IsSolid}
-use Rattle.means_check.specs.Path.{EdgeOf, ClosedPath}
-use Rattle.means_check.proofs.Goings.{around-at, wrap-next}
+use Rattle.means_loops.specs.Path.{EdgeOf, ClosedPath}
+use Rattle.means_solid.proofs.Goes.{around-at, wrap-next}
 
 -- ---- round a ring, from where a test passes to where it does not
 
@@ -89,11 +90,7 @@ goes-end l a b g = (wrap (length l) (suc (g .at)), go (wrap-next (length l) (g .
 module _ (d : Wire) (cs : List Loop) (taken turned : List Bool) (paths : (k : ℕ) → k < length cs → ClosedPath d (loopAt cs k)) {six : ℕ}
     (s : IsSolid d cs taken turned six) where
   pub inside : (k : ℕ) → dig taken k ≡ true → k < length cs
-  inside k e = go (decLt k (length cs))
-    where
-      go : Dec (k < length cs) → k < length cs
-      go (yes h) = h
-      go (no h) = never (sym e ∙ List·getD-eq-default taken false (omega (arith, s .some)))
+  inside k e = omega (arith, dig-lt taken k e, s .some)
 
   -- face k has side i of face q
   abbrev pub Beside : ℕ → ℕ → ℕ → Type 0

@@ -45,7 +45,7 @@ S = vars 15 16 17
 abbrev C : Expr
 C = var 18
 
-pub one-side : (n x y a w s : Point) (c : ℤ) → dot n x ≡ c → dot n y ≡ c → dot n w ≡ pos 0
+one-side : (n x y a w s : Point) (c : ℤ) → dot n x ≡ c → dot n y ≡ c → dot n w ≡ pos 0
     → dot n n *ℤ dot s w ≡ c *ℤ dot (minus y a) (cross n w)
     → dot n n *ℤ dot (plus (cross x y) s) w ≡ c *ℤ dot (minus x a) (cross n w)
 unfolding dot plus minus cross
@@ -72,7 +72,7 @@ back-side n a w c =
     (var 9 ⊗ dotE (minusE X X) (crossE N (vars 6 7 8))) (con (pos 0)) tt
 
 -- all points are at c across n
-abbrev pub At : Point → ℤ → List Point → Type 0
+abbrev At : Point → ℤ → List Point → Type 0
 At n c [] = Unit {0}
 At n c (p ∷ ps) = (dot n p ≡ c) × At n c ps
 
@@ -123,7 +123,7 @@ plane-at f ps e = go ps (all-yes (λ p. isZero (planeSide f p)) origin ps e)
         off p z = same-offset (normal f) p (corner f) (zero-yes (planeSide f p) z)
 
 -- ---- if g lies in f's plane, f lies in g's
-pub at-place : (n : Point) (c : ℤ) (ps : List Point) → At n c ps → (i : ℕ) → i < length ps → dot n (getD ps i origin) ≡ c
+at-place : (n : Point) (c : ℤ) (ps : List Point) → At n c ps → (i : ℕ) → i < length ps → dot n (getD ps i origin) ≡ c
 at-place n c [] h i l = absurd (omega arith)
 at-place n c (p ∷ ps) h zero l = h .0
 at-place n c (p ∷ ps) h (suc i) l = at-place n c ps (h .1) i (omega arith)
@@ -138,7 +138,7 @@ none-side-zero p = none-dot (minus p origin)
 
 -- the points ps all are at one offset across n, which isn't the origin; so are those of g, and the area's direction of g is at right
 -- angles to what is across from them
-pub area-right : (n : Point) → isOrigin n ≡ false → (c : ℤ) (a : Point) (r : List Point) → At n c (a ∷ r) → (p : Point) → dot n p ≡ c
+area-right : (n : Point) → isOrigin n ≡ false → (c : ℤ) (a : Point) (r : List Point) → At n c (a ∷ r) → (p : Point) → dot n p ≡ c
     → dot (normal (a ∷ r)) (minus p a) ≡ pos 0
 area-right n real c a r h p hp =
     mul-zero (dot n n) (dot (normal (a ∷ r)) (minus p a)) (λ z. true≢false (sym (self-zero n z) ∙ real))
@@ -152,7 +152,7 @@ zero-side f flat real (a ∷ r) e i h =
     area-right (normal f) real (dot (normal f) (corner f)) a r (plane-at f (a ∷ r) e) (getD f i origin)
     (at-place (normal f) (dot (normal f) (corner f)) f (plane-at f f flat) i h)
 
-pub plane-back : (f g : Polygon) → InOwnPlane f → isOrigin (normal f) ≡ false → onePlane f g ≡ true → onePlane g f ≡ true
+plane-back : (f g : Polygon) → InOwnPlane f → isOrigin (normal f) ≡ false → onePlane f g ≡ true → onePlane g f ≡ true
 unfolding onePlane
 plane-back f g flat real e =
     all-is (λ p. isZero (planeSide g p)) origin f (λ i h. yes-zero (planeSide g (getD f i origin)) (zero-side f flat real g e i h))

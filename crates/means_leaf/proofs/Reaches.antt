@@ -1,4 +1,4 @@
--- The spread reaches just those faces to which one can go from the first across shared edges. Assumes nothing.
+-- The spread reaches just those faces to which one can go from its start across shared edges. Assumes nothing.
 use mathlib.Core.Bool.{Bool, true, false, not}
 use mathlib.Core.List.{List, [], _∷_}
 use mathlib.Core.Logic.{_⊎_, inl, inr}
@@ -8,12 +8,12 @@ use native.Mathlib.Decide.{ℕ-discrete}
 use lib.ListN.{length}
 use borrow.Author.Tests.{not-true, eq-eqb}
 use Rattle.lists.proofs.Truth.{and-left, and-right, or-cases}
-use Rattle.sets.specs.Word.{dig, Sub, count, both, less, first}
+use Rattle.sets.specs.Word.{dig, Sub, count, both, less, only, first}
 use Rattle.paper.specs.Solids.{Reach, fresh, known, acrossEdge, pass, connected}
-use Rattle.means_leaf.specs.Meaning.{start, faces, InTwo, Way, stay, across, Connected}
+use Rattle.means_leaf.specs.Meaning.{faces, InTwo, Way, stay, across, Connected}
 use Rattle.sets.proofs.Digits.{never, dig-both, dig-less, dig-only, count-empty, first-in}
 use Rattle.means_leaf.proofs.Forced.{all-reached}
-use Rattle.means_leaf.proofs.Spread.{spread-ways, whole-first, whole-edge}
+use Rattle.means_leaf.proofs.Spread.{allFrom, spread-ways, whole-first, whole-edge}
 use Rattle.means_leaf.proofs.Directions.{fresh-dig, over-not, reached-dig}
 
 -- ---- ways
@@ -25,14 +25,13 @@ pub way-back : {masks : List (List Bool)} {taken : List Bool} {f g : ℕ} → Wa
 way-back stay = stay
 way-back (across mask k v i p q) = way-on (across mask _ stay i q p) (way-back v)
 
--- ---- what is reached lies on a way from the first
+-- ---- what is reached lies on a way from the start
 
-pub faces-ways : (masks ups : List (List Bool)) (taken : List Bool) (k : ℕ) → dig (faces masks ups taken .reached) k ≡ true
-    → Way masks taken (first taken) k
-unfolding faces
-faces-ways masks ups taken =
-    spread-ways masks taken (Way masks taken (first taken)) (λ mask i g h p q w. across mask g w i p q) (count taken) ups (start taken)
-    (λ k p. subst (Way masks taken (first taken)) (sym (dig-only (first taken) k p)) stay)
+pub reached-ways : (masks ups : List (List Bool)) (taken : List Bool) (f k : ℕ) → dig (allFrom masks ups taken f .reached) k ≡ true
+    → Way masks taken f k
+reached-ways masks ups taken f =
+    spread-ways masks taken (Way masks taken f) (λ mask i g h p q w. across mask g w i p q) (count taken) ups
+    (record { reached = only f; turned = [] }) (λ k p. subst (Way masks taken f) (sym (dig-only f k p)) stay)
 
 -- ---- only taken faces are reached
 
@@ -56,24 +55,24 @@ pass-taken [] ups taken r s = s
 pass-taken (mask ∷ masks) [] taken r s = s
 pass-taken (mask ∷ masks) (up ∷ ups) taken r s = pass-taken masks ups taken (acrossEdge mask up taken r) (over-taken mask up taken r s)
 
--- ---- and whatever lies on a way from the first is reached
+-- ---- and whatever lies on a way from the start is reached
 
 module _ (masks ups : List (List Bool)) (taken : List Bool) (l : length masks ≡ length ups) (two : InTwo masks taken) where
-  module _ (some : count taken ≡ 0 → ⊥) where
-    way-reached : (k : ℕ) → Way masks taken (first taken) k → dig (faces masks ups taken .reached) k ≡ true
-    unfolding faces
-    way-reached k stay = whole-first masks ups taken l two (first taken) (first-in taken some)
-    way-reached k (across mask g w i p q) =
-        whole-edge masks ups taken l two (first taken) (first-in taken some) mask i g k p q (way-reached g w)
+  pub ways-reached : (f : ℕ) → dig taken f ≡ true → (k : ℕ) → Way masks taken f k → dig (allFrom masks ups taken f .reached) k ≡ true
+  ways-reached f here k stay = whole-first masks ups taken l two f here
+  ways-reached f here k (across mask g w i p q) =
+      whole-edge masks ups taken l two f here mask i g k p q (ways-reached f here g w)
 
+  module _ (some : count taken ≡ 0 → ⊥) where
     -- (ii): all are reached just where one can go from any face to any other
     pub connected-ways : connected taken (faces masks ups taken) ≡ true → Connected masks taken
+    unfolding faces
     connected-ways c f g hf hg =
-        way-on (way-back (faces-ways masks ups taken f (all-reached taken (faces masks ups taken) c f hf)))
-        (faces-ways masks ups taken g (all-reached taken (faces masks ups taken) c g hg))
+        way-on (way-back (reached-ways masks ups taken (first taken) f (all-reached taken (faces masks ups taken) c f hf)))
+        (reached-ways masks ups taken (first taken) g (all-reached taken (faces masks ups taken) c g hg))
 
     pub ways-connected : Connected masks taken → connected taken (faces masks ups taken) ≡ true
-    unfolding connected
+    unfolding connected faces
     ways-connected w =
         eq-eqb (count (less taken (faces masks ups taken .reached))) 0
         (count-empty (less taken (faces masks ups taken .reached)) (λ k p.
@@ -82,4 +81,4 @@ module _ (masks ups : List (List Bool)) (taken : List Bool) (l : length masks �
         let out : dig (faces masks ups taken .reached) k ≡ false = not-true (dig (faces masks ups taken .reached) k)
         (and-right (dig taken k) (not (dig (faces masks ups taken .reached) k)) (sym (dig-less taken (faces masks ups taken .reached) k)
         ∙ p)) in
-        never (sym (way-reached k (w (first taken) k (first-in taken some) t)) ∙ out)))
+        never (sym (ways-reached (first taken) (first-in taken some) k (w (first taken) k (first-in taken some) t)) ∙ out)))

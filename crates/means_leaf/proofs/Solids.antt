@@ -43,7 +43,7 @@ module _ (taken s t : List Bool) where
       ap₂ _+ℤ_ (part-opposite (dig taken k) (dig s k) (dig t k) z (h k)) (six-opposite h (suc k) zs)
       ∙ sym (negℤ-+ℤ (part (dig taken k) (dig t k) z) (sixFrom (suc k) zs taken t))
 
-six-none : (taken t : List Bool) → ((k : ℕ) → dig taken k ≡ true → ⊥) → (k : ℕ) (zs : List ℤ) → sixFrom k zs taken t ≡ pos 0
+pub six-none : (taken t : List Bool) → ((k : ℕ) → dig taken k ≡ true → ⊥) → (k : ℕ) (zs : List ℤ) → sixFrom k zs taken t ≡ pos 0
 unfolding sixFrom
 six-none taken t h k [] = refl
 six-none taken t h k (z ∷ zs) = ap₂ _+ℤ_ (off (dig taken k) (h k)) (six-none taken t h (suc k) zs)

@@ -12,7 +12,7 @@ use Rattle.sets.specs.Word.{digit, word}
 use Rattle.sets.proofs.Numbers.{digit-word}
 use Rattle.paper.specs.Drawing.{Wire}
 use Rattle.paper.specs.Loops.{Loop}
-use Rattle.means_report.specs.Proper.{Same}
+use Rattle.means_report.specs.Fair.{Same}
 use Rattle.means_report.specs.Listed.{Entry, entryAt, Listed}
 
 -- ---- what goes to different places below m from places below n: n is at most m

@@ -17,19 +17,20 @@ use Rattle.paper.specs.Loops.{Loop}
 use Rattle.paper.specs.Solids.{tablesOf, Judgement, Fails, Solid, judged}
 use Rattle.paper.specs.Walk.{Status, Undecided, takenOn}
 use Rattle.paper.specs.Conversion.{takens, isSolid, turnedOf, sixOf, accepted}
-use Rattle.means_leaf.specs.Meaning as Rows
+use Rattle.means_leaf.specs.Meaning as Masks
 use Rattle.means_walk.specs.Complete.{agrees, exact, times}
 use Rattle.means_walk.specs.Tree.{leaves}
 use Rattle.means_walk.proofs.Status.{count-takens}
 use Rattle.means_walk.proofs.Ends.{leaves-all, leaves-once}
 use Rattle.means_walk.proofs.Times.{times-at, at-times, times-one, stateOf, takens-state, state-agrees, agrees-state}
+use Rattle.means_masks.proofs.Tables.{Even, flat-even, two-masks, masks-two}
+use Rattle.means_masks.proofs.Judged.{judged-is, is-judged}
 use Rattle.means_solid.specs.Solid.{IsSolid}
-use Rattle.means_report.specs.Proper.{Fair, Same}
+use Rattle.means_report.specs.Fair.{Fair, Same}
 use Rattle.means_report.specs.Listed.{Entry, entryAt, Listed, entry, WalkTree, walked}
-use Rattle.means_report.proofs.Judged.{two-rows, rows-two, judged-is, is-judged}
 
 -- (i) of a selection
-exact-two : (masks : List (List Bool)) (x : List Status) → exact masks x ≡ true → Rows.InTwo masks (takens x)
+exact-two : (masks : List (List Bool)) (x : List Status) → exact masks x ≡ true → Masks.InTwo masks (takens x)
 unfolding exact
 exact-two [] x e mask i = absurd i
 exact-two (r ∷ masks) x e mask (inl q) =
@@ -37,7 +38,7 @@ exact-two (r ∷ masks) x e mask (inl q) =
     ∙ eqb-true (takenOn r x) 2 (and-left (eqb (takenOn r x) 2) (exact masks x) e)
 exact-two (r ∷ masks) x e mask (inr i) = exact-two masks x (and-right (eqb (takenOn r x) 2) (exact masks x) e) mask i
 
-two-exact : (masks : List (List Bool)) (x : List Status) → Rows.InTwo masks (takens x) → exact masks x ≡ true
+two-exact : (masks : List (List Bool)) (x : List Status) → Masks.InTwo masks (takens x) → exact masks x ≡ true
 unfolding exact
 two-exact [] x h = refl
 two-exact (r ∷ masks) x h =
@@ -48,6 +49,9 @@ solid-of Fails e = absurd (true≢false (sym e))
 solid-of (Solid t n) e = refl
 
 module _ (d : Wire) (cs : List Loop) (ok : Fair d cs) (t : WalkTree d cs) where
+  even : Even d cs
+  even = flat-even d cs (ok .flat)
+
   abbrev found : List (List Status)
   found = filter (accepted (tablesOf d cs)) (leaves t)
 
@@ -90,24 +94,24 @@ module _ (d : Wire) (cs : List Loop) (ok : Fair d cs) (t : WalkTree d cs) where
   -- a selection that passes is a solid
   passes-solid : (x : List Status) → Passes x
       → IsSolid d cs (takens x) (turnedOf (judged (tablesOf d cs) (takens x))) (sixOf (judged (tablesOf d cs) (takens x)))
-  unfolding accepted tablesOf
+  unfolding accepted
   passes-solid x p =
-      judged-is d cs ok (takens x) (agrees-state (length cs) x (p .whole) .1)
-      (rows-two d cs (takens x) (turnedOf (judged (tablesOf d cs) (takens x))) (exact-two (tablesOf d cs .masks) x (p .two)))
+      judged-is d cs (ok .proper) even (takens x) (agrees-state (length cs) x (p .whole) .1)
+      (masks-two d cs (takens x) (turnedOf (judged (tablesOf d cs) (takens x))) (exact-two (tablesOf d cs .masks) x (p .two)))
       (solid-of (judged (tablesOf d cs) (takens x)) (p .accepts))
 
   -- a solid is a selection that passes
   solid-passes : {taken turned : List Bool} {six : ℕ} → IsSolid d cs taken turned six → Passes (stateOf taken)
-  unfolding accepted tablesOf
+  unfolding accepted
   solid-passes {taken} {turned} {six} s =
-      let j = is-judged d cs ok taken (s .some) s in
+      let j = is-judged d cs (ok .proper) even taken (s .some) s in
       record {
         accepts = ap (λ (b : List Bool). isSolid (judged (tablesOf d cs) b)) (takens-state taken) ∙ ap isSolid (j .1);
         whole = subst (λ (m : ℕ). agrees (replicate m Undecided) (stateOf taken) ≡ true) (s .some) (state-agrees taken);
         two =
             two-exact (tablesOf d cs .masks) (stateOf taken)
-            (subst (λ (b : List Bool). Rows.InTwo (tablesOf d cs .masks) b) (sym (takens-state taken))
-            (two-rows d cs taken turned (s .i)));
+            (subst (λ (b : List Bool). Masks.InTwo (tablesOf d cs .masks) b) (sym (takens-state taken))
+            (two-masks d cs taken turned (s .i)));
       }
 
   -- of the selections that the walk comes to, those are accepted that are solids
@@ -121,7 +125,7 @@ module _ (d : Wire) (cs : List Loop) (ok : Fair d cs) (t : WalkTree d cs) where
       sixOf (judged (tablesOf d cs) (takens (getD (leaves t) i []))),
       passes-solid (getD (leaves t) i []) (record { accepts = a; whole = both-true .0; two = both-true .1 }),
     ),
-    λ s. ap isSolid (is-judged d cs ok (takens (getD (leaves t) i [])) (s .2 .some) (s .2) .1),
+    λ s. ap isSolid (is-judged d cs (ok .proper) even (takens (getD (leaves t) i [])) (s .2 .some) (s .2) .1),
   )
     where
       both-true : (agrees (replicate (length cs) Undecided) (getD (leaves t) i []) ≡ true)
@@ -170,7 +174,7 @@ module _ (d : Wire) (cs : List Loop) (ok : Fair d cs) (t : WalkTree d cs) where
           → (i : ℕ) × (i < length (walked d cs t)) × (entryAt (walked d cs t) i .taken ≡ taken) × Same (entryAt (walked d cs t) i .turned)
           turned × (entryAt (walked d cs t) i .six ≡ six)
       here taken turned six s =
-          let j = is-judged d cs ok taken (s .some) s in
+          let j = is-judged d cs (ok .proper) even taken (s .some) s in
           let r = times-at (stateOf taken) found (omega (arith, passes-found (stateOf taken) (solid-passes s))) in
           let l = r .1 in
           let m : r .0 < length (walked d cs t) = omega (arith, length-walked) in

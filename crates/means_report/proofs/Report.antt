@@ -22,9 +22,10 @@ use Rattle.paper.specs.declared.Conversion.{Conversion}
 use Rattle.paper.specs.declared.Conversion.the-variants as Conversion
 use Rattle.means_walk.specs.Tree.{leaves}
 use Rattle.means_walk.proofs.Ends.{ends, ended-whole, ended-many, ended-long}
-use Rattle.means_report.specs.Proper.{Fair}
+use Rattle.means_report.specs.Fair.{Fair}
 use Rattle.means_report.specs.Listed.{Entry, wordsOf, entry, WalkTree, walked}
-use Rattle.means_report.proofs.Loops.{candidates-fair}
+use Rattle.means_loops.proofs.Listing.{candidates-proper}
+use Rattle.means_loops.proofs.OwnPlane.{candidates-flat}
 use Rattle.means_report.specs.Report.{answered, facesFor, solidsFor, Reported, TooMany, TooFar}
 
 -- ---- a report
@@ -198,4 +199,7 @@ module _ (d : Wire) (t : WalkTree d (candidates d)) (limit : ℕ) (faces solids 
       (first-part (entryChecks limit faces solids ++ form ++ drawingChecks d) (loopChecks (loops d) (candidates d)) h))
 
   pub conversion-sound : (form : List Check) → Unrefused form → Sound (conversion mostSolids form d limit faces solids)
-  conversion-sound form h = record { fair = candidates-fair d (unrefused-apart form h); tells = conversion-tells form h }
+  conversion-sound form h = record {
+    fair = record { proper = candidates-proper d; flat = candidates-flat d (unrefused-apart form h) };
+    tells = conversion-tells form h;
+  }

@@ -18,7 +18,7 @@ use Rattle.means_walk.specs.Tree.{leaves}
 use Rattle.means_walk.proofs.Grown.{tree}
 use Rattle.means_walk.proofs.Ends.{ended-whole, ended-many}
 use Rattle.means_solid.specs.Solid.{IsSolid}
-use Rattle.means_report.specs.Proper.{Fair}
+use Rattle.means_report.specs.Fair.{Fair}
 use Rattle.means_report.specs.Listed.{Entry, Listed, entry, WalkTree, walked}
 use Rattle.means_report.proofs.Listed.{walked-lists}
 

@@ -13,7 +13,7 @@ use Rattle.paper.specs.Walk.{Status, Undecided}
 use Rattle.paper.specs.Conversion.{takens, turnedOf, sixOf, accepted}
 use Rattle.means_walk.specs.Tree.{Tree, leaves}
 use Rattle.means_solid.specs.Solid.{IsSolid}
-use Rattle.means_report.specs.Proper.{Same}
+use Rattle.means_report.specs.Fair.{Same}
 
 pub record Entry : Type 0 where
   pub taken : List Bool

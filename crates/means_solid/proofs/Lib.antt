@@ -1,2 +1,3 @@
 -- What follows from the words. Assumes nothing.
 pub mod Goes
+pub mod Alike

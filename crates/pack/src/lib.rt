@@ -1,9 +1,10 @@
 // Packed fields, most significant bit first. A field of up to 16 bits lies within three bytes, and is read and written there at once.
 ghost use mathlib.Core.Path.{_≡_};
-ghost use Prim.Native.Nat.{_+_, _*_, _-_, _≤_, _<_, _/_, _^_};
-ghost use lib.ListN.{length, getD, set};
+ghost use Prim.Native.Nat.{_+_, _*_, _-_, _<_, _/_, _^_};
+ghost use lib.ListN.{getD, set};
 ghost use Rattle.pack.specs.Bits.{bits, run, fieldAt, overwrite};
 ghost use Rattle.pack.specs.Bytes.{windowAt, patched};
+ghost use Rattle.pack.specs.Asked.{Field, Patch, Fill};
 
 // 2 to the k.
 fn power(k: usize) -> u64
@@ -33,7 +34,7 @@ fn window(s: &[u8], i: usize) -> u64
 
 // The number in the width bits of s that start at bit i.
 pub fn field(s: &[u8], i: usize, width: usize) -> u64
-    requires { ⌜ (width ≤ 16) × (i + width ≤ length (now s) * 8) ⌝ }
+    requires { ⌜ Field (now s) i width ⌝ }
     ensures { λ r. ⌜ r ≡ fieldAt (now (s .entry)) i width ⌝ }
 {
     (window(s, i) >> (24 - i % 8 - width)) % power(width)
@@ -41,7 +42,7 @@ pub fn field(s: &[u8], i: usize, width: usize) -> u64
 
 // x with the width bits above its k lowest set to those of v.
 fn patch(x: u64, k: usize, width: usize, v: u64) -> u64
-    requires { ⌜ (x < 2 ^ 24) × (k + width ≤ 24) ⌝ }
+    requires { ⌜ Patch x k width ⌝ }
     ensures { λ r. ⌜ (r ≡ patched x k width v) × (r < 2 ^ 24) ⌝ }
 {
     let low = power(k);
@@ -62,7 +63,7 @@ fn set_byte(s: &mut [u8], k: usize, b: u64)
 
 // Sets the width bits of s from bit i on to those of v.
 pub fn put(s: &mut [u8], i: usize, width: usize, v: u64)
-    requires { ⌜ (width ≤ 16) × (i + width ≤ length (now s) * 8) ⌝ }
+    requires { ⌜ Field (now s) i width ⌝ }
     ensures { λ _. ⌜ run 8 (now (s .exit)) ≡ overwrite (run 8 (now (s .entry))) i (bits width v) ⌝ }
 {
     let q = i / 8;
@@ -74,7 +75,7 @@ pub fn put(s: &mut [u8], i: usize, width: usize, v: u64)
 
 // Fills the last byte of the first n bits with zeros.
 pub fn put_fill(s: &mut [u8], n: usize)
-    requires { ⌜ ((n + 7) / 8 ≤ length (now s)) × (n < 2 ^ 31) ⌝ }
+    requires { ⌜ Fill (now s) n ⌝ }
     ensures { λ _. ⌜ run 8 (now (s .exit)) ≡ overwrite (run 8 (now (s .entry))) n (bits ((n + 7) / 8 * 8 - n) 0) ⌝ }
 {
     put(s, n, (n + 7) / 8 * 8 - n, 0);

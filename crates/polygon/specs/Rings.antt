@@ -30,6 +30,10 @@ unfoldable pub ring : List ℤ → List ℕ → ℕ → Polygon
 unfolding loopIn pointOf
 ring l t r = map (pointOf l) (loopIn t r)
 
+-- what is said of two rows of a table
+abbrev pub ofRows : {A : Type 0} → (Polygon → Polygon → A) → List ℤ → List ℕ → ℕ → ℕ → A
+ofRows say l t f g = say (ring l t f) (ring l t g)
+
 -- corner j, counted on past the last
 abbrev pub cornerOf : Polygon → ℕ → Point
 cornerOf g j = around g j origin

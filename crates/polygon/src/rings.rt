@@ -8,7 +8,7 @@ ghost use Rattle.paper.specs.Points.{dot, minus};
 ghost use Rattle.paper.specs.Polygon.{normal, onePlane};
 ghost use Rattle.paper.specs.Solids.{faceSix};
 ghost use Rattle.polygon.specs.Sizes.{PlaneWithin};
-ghost use Rattle.polygon.specs.Rings.{pointOf, countIn, ring, cornerOf, Row, CornerIn, FaceAndRow};
+ghost use Rattle.polygon.specs.Rings.{pointOf, countIn, ring, ofRows, cornerOf, Row, CornerIn, FaceAndRow};
 use super::points::cross;
 use super::points::det;
 use super::points::dot;
@@ -84,7 +84,7 @@ pub fn plane_side(m: Point, o: Point, p: Point) -> i64
 // All corners of row h are in the plane of row g, whose normal is m.
 pub fn in_plane(xyz: &[i64], table: &[u8], g: usize, m: Point, h: usize) -> bool
     requires { ⌜ FaceAndRow (now xyz) (now table) g m h ⌝ }
-    ensures { λ w. ⌜ w ≡ onePlane (ring (now (xyz .entry)) (now (table .entry)) g) (ring (now (xyz .entry)) (now (table .entry)) h) ⌝ }
+    ensures { λ w. ⌜ w ≡ ofRows onePlane (now (xyz .entry)) (now (table .entry)) g h ⌝ }
 {
     let n = count(table, h);
     let o = corner(xyz, table, g, 0);

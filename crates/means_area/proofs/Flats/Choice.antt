@@ -13,7 +13,8 @@ use Rattle.means_area.specs.Rings.{Of}
 use Rattle.means_area.specs.Flats.{Up, Nn, turn, height, Net, Same, both, none}
 use Rattle.means_area.proofs.Flats.Signs.{up-is, up-nn, up-add, nn-up, off, which, ways}
 use Rattle.means_area.proofs.Flats.Turns.{In, spin, flip, flip-last, sum-is}
-use Rattle.means_area.proofs.Flats.Net.{Ok, ear, next-a, next-b, fourth, higher, diagonal}
+use Rattle.means_area.proofs.Flats.Net.{Ok, higher, diagonal}
+use Rattle.means_area.proofs.Flats.Ear.{ear, next-a, next-b, fourth}
 
 -- which of two is lower
 pub compare : (a b : ℤ) → (a <ℤ b) ⊎ ((a ≡ b) ⊎ (b <ℤ a))

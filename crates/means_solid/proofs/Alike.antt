@@ -42,7 +42,7 @@ module _ (d : Wire) (cs : List Loop) (taken t u : List Bool) (same : (k : ℕ) �
       go true false = refl
       go true true = refl
 
-  pub six-to : (k : ℕ) (ls : List Loop) → sixOf d cs taken t k ls ≡ sixOf d cs taken u k ls
+  six-to : (k : ℕ) (ls : List Loop) → sixOf d cs taken t k ls ≡ sixOf d cs taken u k ls
   unfolding sixOf
   six-to k [] = refl
   six-to k (x ∷ ls) = ap₂ _+ℤ_ (share-to (dig taken k) (dig t k) (dig u k) (faceSix (polygon d x)) (same k)) (six-to (suc k) ls)

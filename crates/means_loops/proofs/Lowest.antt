@@ -15,9 +15,9 @@ use lib.Seq.{getD-append-seam, drop-append-seam, take-append-seam}
 use borrow.Author.Tests.{lt-ltb, le-ltb}
 use Rattle.paper.specs.Loops.{flipped}
 use Rattle.paper.specs.Verdict.{lowestAt, fromPlace, fromLowest, onward, normalForm}
-use Rattle.means_check.specs.Shape.{Normal}
+use Rattle.means_loops.specs.Shape.{Normal}
 use Rattle.means_solid.specs.Named.{SameRing}
-use Rattle.means_check.proofs.Rings.{parts, same-sym, flip-flip, flip-length, flip-first, flip-at}
+use Rattle.means_loops.proofs.Rings.{parts, same-sym, flip-flip, flip-length, flip-first, flip-at}
 
 -- ---- members and places
 

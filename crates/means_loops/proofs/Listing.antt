@@ -16,12 +16,12 @@ use Rattle.lists.proofs.Places.{map-at, upto-length, upto-at}
 use Rattle.paper.specs.Drawing.{Wire, Edge, edge, edgeAt, joins, joined}
 use Rattle.paper.specs.Polygon.{covers}
 use Rattle.paper.specs.Loops.{Loop, loopAt, loops, level, polygon, coversOther, uncovering, candidates}
-use Rattle.paper.specs.Clash.{clash}
-use Rattle.means_check.specs.Shape.{Normal, Candidates}
-use Rattle.means_check.specs.Loop.{IsLoop, IsCandidate, Before, Ascending}
-use Rattle.means_check.proofs.Searching.{found-are, found-all}
-use Rattle.means_check.proofs.Ordered.{before-self, loop-in, ascending-at, found-ascend}
-use Rattle.means_check.proofs.Numbers.{filter-yes, filter-is}
+use Rattle.means_solid.specs.Proper.{AllProper}
+use Rattle.means_loops.specs.Shape.{Normal}
+use Rattle.means_loops.specs.Loop.{IsLoop, IsCandidate, Before, Ascending}
+use Rattle.means_loops.proofs.Searching.{found-are, found-all}
+use Rattle.means_loops.proofs.Ordered.{before-self, loop-in, ascending-at, found-ascend}
+use Rattle.means_loops.proofs.Kept.{filter-yes, filter-is}
 
 -- ---- loops
 
@@ -174,21 +174,11 @@ module _ (d : Wire) where
       let r = are-bare d (loops d) (s .0) (s .1) e in
       (r .0, r .1, r .2 ∙ s .2)
 
+  pub candidates-proper : AllProper (candidates d)
+  candidates-proper k h = let a = candidates-are k h .loop in record { three = a .three; different = a .different }
+
   pub loop-normal : (q : Loop) → IsLoop d q → Normal q
   loop-normal q l = record { three = l .three; different = l .different; lowest = l .lowest; direction = l .direction }
-
-  -- two candidates clash, whichever is named first
-  abbrev pub Even : Type 0
-  Even = (j k : ℕ) → j < length (candidates d) → k < length (candidates d)
-      → clash (polygon d (loopAt (candidates d) j)) (polygon d (loopAt (candidates d) k)) ≡ clash (polygon d (loopAt (candidates d) k))
-      (polygon d (loopAt (candidates d) j))
-
-  pub candidates-fit : Even → Candidates d (candidates d)
-  candidates-fit even = record {
-    normal = λ k h. loop-normal (loopAt (candidates d) k) (candidates-are k h .loop);
-    differ = candidates-once;
-    even = even;
-  }
 
 -- ---- joined vertices are the ends of an edge
 

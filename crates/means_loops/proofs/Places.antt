@@ -17,10 +17,10 @@ use Rattle.lists.proofs.Sides.{wrap-low, wrap-high}
 use Rattle.paper.specs.Drawing.{Wire, Edge, edge, edgeAt, at, joins, joined}
 use Rattle.paper.specs.Loops.{flipped}
 use Rattle.means_solid.specs.Solid.{Goes}
-use Rattle.means_check.specs.Path.{EdgeOf}
+use Rattle.means_loops.specs.Path.{EdgeOf}
 use Rattle.means_solid.specs.Named.{SameRing}
-use Rattle.means_check.proofs.Rings.{parts, flip-length, flip-first, flip-at}
-use Rattle.means_check.proofs.Goings.{wrap-next, around-at}
+use Rattle.means_loops.proofs.Rings.{parts, flip-length, flip-first, flip-at}
+use Rattle.means_solid.proofs.Goes.{wrap-next, around-at}
 
 -- ---- joined vertices
 

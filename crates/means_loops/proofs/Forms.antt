@@ -14,12 +14,12 @@ use lib.Seq.{getD-append-add}
 use borrow.Author.Tests.{lt-ltb, le-ltb, ltb-true, ltb-false}
 use Rattle.paper.specs.Loops.{flipped}
 use Rattle.paper.specs.Verdict.{lowestAt, fromPlace, fromLowest, onward, normalForm}
-use Rattle.means_check.specs.Shape.{Different}
+use Rattle.means_solid.specs.Proper.{Different}
 use Rattle.means_solid.specs.Named.{SameRing}
-use Rattle.means_check.proofs.Rings.{parts, same-sym, same-trans, same-length, flip-flip, flip-length, flip-at}
-use Rattle.means_check.proofs.Rings.{flip-same}
-use Rattle.means_check.proofs.Lowest.{mem-at, mem-index, lowest-below, lowest-le, LowFirst, ring-low, same-low, flip-low}
-use Rattle.means_check.proofs.Lowest.{normal-on, normal-back}
+use Rattle.means_loops.proofs.Rings.{parts, same-sym, same-trans, same-length, flip-flip, flip-length, flip-at}
+use Rattle.means_loops.proofs.Rings.{flip-same}
+use Rattle.means_loops.proofs.Lowest.{mem-at, mem-index, lowest-below, lowest-le, LowFirst, ring-low, same-low, flip-low}
+use Rattle.means_loops.proofs.Lowest.{normal-on, normal-back}
 
 -- ---- of any face with different corners
 

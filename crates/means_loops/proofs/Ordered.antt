@@ -8,8 +8,8 @@ use native.Mathlib.Omega.{arith}
 use lib.ListN.{length}
 use Rattle.paper.specs.Numbers.{mostCorners}
 use Rattle.paper.specs.Loops.{Loop, loopAt, follows, closes, branch, scan, ext}
-use Rattle.means_check.specs.Loop.{Before, Ascending}
-use Rattle.means_check.proofs.Searching.{Brings, Found, ext-in, scan-in, branch-in}
+use Rattle.means_loops.specs.Loop.{Before, Ascending}
+use Rattle.means_loops.proofs.Searching.{Brings, Found, ext-in, scan-in, branch-in}
 
 before-more : (p : List ℕ) (x : ℕ) (t : List ℕ) → Before p (p ++ x ∷ t)
 unfolding Before

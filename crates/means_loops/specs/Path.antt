@@ -7,8 +7,8 @@ use lib.ListN.{length, getD}
 use Rattle.paper.specs.Drawing.{Wire, edge, edgeAt}
 use Rattle.paper.specs.Loops.{Loop, polygon}
 use Rattle.means_solid.specs.Solid.{Goes}
-use Rattle.means_check.specs.Shape.{Different}
-use Rattle.means_check.specs.Plane.{InPlane}
+use Rattle.means_solid.specs.Proper.{Different}
+use Rattle.means_loops.specs.Plane.{InPlane}
 
 -- an edge of the drawing has the ends a and b
 abbrev pub EdgeOf : Wire → ℕ → ℕ → Type 0

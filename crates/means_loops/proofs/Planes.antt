@@ -23,8 +23,8 @@ use Rattle.paper.specs.Loops.{Loop, tilt, tilted, across, level, polygon}
 use Rattle.paper.specs.declared.Point.{Point}
 use Rattle.paper_laws.proofs.Vectors.{num, vec, k, x, _+s_, _-s_, _*s_, negs, _·_, o, v, _-v_, _*v_, _×v_, vring}
 use Rattle.paper_laws.proofs.Points.{zero-yes, zero-is, origin-yes, origin-is, origin-no, differ, in-line, self-pos}
-use Rattle.means_check.specs.Loop.{IsLoop}
-use Rattle.means_check.specs.Plane.{InPlane}
+use Rattle.means_loops.specs.Loop.{IsLoop}
+use Rattle.means_loops.specs.Plane.{InPlane}
 
 pub dot-comm : (p q : Point) → dot p q ≡ dot q p
 dot-comm p q = vring (vec p ∷ vec q ∷ []) (v 0 · v 1) (v 1 · v 0) tt

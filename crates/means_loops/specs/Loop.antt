@@ -8,7 +8,7 @@ use lib.ListN.{length, getD, take}
 use Rattle.paper.specs.Drawing.{Wire, joined}
 use Rattle.paper.specs.Polygon.{covers}
 use Rattle.paper.specs.Loops.{Loop, level, polygon}
-use Rattle.means_check.specs.Shape.{Different}
+use Rattle.means_solid.specs.Proper.{Different}
 
 -- a closed path of 3 to 12 different ones of n vertices, each linked to the next, in normal form; each stays level with those before it
 module _ (n : ℕ) (linked : ℕ → ℕ → Bool) (flat : List ℕ → ℕ → Bool) where

@@ -13,24 +13,24 @@ use lib.ListN.{length, getD, take, length-map}
 use borrow.Author.Tests.{ltb-true, ltb-false}
 use Rattle.lists.specs.Around.{wrap}
 use Rattle.lists.proofs.Places.{map-at}
-use Rattle.lists.proofs.Sides.{wrap-low, wrap-high}
+use Rattle.lists.proofs.Sides.{wrap-low}
 use Rattle.paper.specs.Points.{origin, dot}
 use Rattle.paper.specs.Drawing.{Wire, at, joined, samePlace}
 use Rattle.paper.specs.Loops.{Loop, loopAt, loops, level, polygon, flipped}
 use Rattle.paper.specs.Verdict.{fromLowest, onward, normalForm}
 use Rattle.means_solid.specs.Solid.{Goes}
-use Rattle.means_check.specs.Shape.{Different}
-use Rattle.means_check.specs.Loop.{IsLoop}
-use Rattle.means_check.specs.Plane.{InPlane}
-use Rattle.means_check.specs.Path.{EdgeOf, ClosedPath}
+use Rattle.means_solid.specs.Proper.{Different}
+use Rattle.means_loops.specs.Loop.{IsLoop}
+use Rattle.means_loops.specs.Plane.{InPlane}
+use Rattle.means_loops.specs.Path.{EdgeOf, ClosedPath}
 use Rattle.means_solid.specs.Named.{SameRing}
-use Rattle.means_check.proofs.Rings.{same-length, flip-length, flip-first, flip-at}
-use Rattle.means_check.proofs.Forms.{low-first, different-same}
-use Rattle.means_check.proofs.Goings.{wrap-next, around-at}
-use Rattle.means_check.proofs.Listing.{joined-edge, loops-are, loops-all}
-use Rattle.means_check.proofs.Planes.{places-differ, plane-level, first-level, loop-plane}
-use Rattle.means_check.proofs.Places.{edge-joined, edge-back, turned, goes-from, flip-place, goes-back}
-use Rattle.means_check.proofs.Lowest.{LowFirst, same-low, flip-low, normal-on, normal-back}
+use Rattle.means_loops.proofs.Rings.{same-length, flip-length, flip-first, flip-at}
+use Rattle.means_loops.proofs.Forms.{low-first, different-same}
+use Rattle.means_solid.proofs.Goes.{wrap-next, around-at, goes-next, goes-last}
+use Rattle.means_loops.proofs.Listing.{joined-edge, loops-are, loops-all}
+use Rattle.means_loops.proofs.Planes.{places-differ, plane-level, first-level, loop-plane}
+use Rattle.means_loops.proofs.Places.{edge-joined, edge-back, turned, goes-from, flip-place, goes-back}
+use Rattle.means_loops.proofs.Lowest.{LowFirst, same-low, flip-low, normal-on, normal-back}
 
 -- ---- a closed path from another start, and the other way round
 
@@ -97,25 +97,6 @@ module _ (d : Wire) where
       }
 
   -- ---- a closed path in normal form is a loop, and a loop is a closed path
-
-  goes-next : (q : Loop) (i : ℕ) → suc i < length q → Goes q (getD q i 0) (getD q (suc i) 0)
-  goes-next q i h = record {
-    at = i;
-    here = omega arith;
-    from = sym (around-at q i ∙ ap (λ (j : ℕ). getD q j 0) (wrap-low (length q) i (omega arith)));
-    to = sym (around-at q (suc i) ∙ ap (λ (j : ℕ). getD q j 0) (wrap-low (length q) (suc i) h));
-  }
-
-  goes-last : (q : Loop) → 0 < length q → Goes q (getD q (length q - 1) 0) (getD q 0 0)
-  goes-last q h = record {
-    at = length q - 1;
-    here = omega arith;
-    from = sym (around-at q (length q - 1) ∙ ap (λ (j : ℕ). getD q j 0) (wrap-low (length q) (length q - 1) (omega arith)));
-    to =
-        sym
-        (around-at q (suc (length q - 1))
-        ∙ ap (λ (j : ℕ). getD q j 0) (wrap-high (length q) (suc (length q - 1)) (omega arith) ∙ omega arith));
-  }
 
   module _ (e : samePlace d ≡ none) where
     path-level : (q : Loop) → ClosedPath d q → (i : ℕ) → 0 < i → i < length q → level d (take i q) (getD q i 0) ≡ true

@@ -1,20 +1,14 @@
--- A closed path of at least three corners, all different; candidates as the rules leave them. Assumes nothing.
+-- Candidates as the rules leave them, and masks that say the same. Assumes nothing.
 use mathlib.Core.List.{List}
 use mathlib.Core.Bool.{Bool}
 use mathlib.Core.Path.{_≡_}
-use Prim.Native.Nat.{ℕ, _≤_, _<_}
-use lib.ListN.{length, getD}
+use Prim.Native.Nat.{ℕ, _<_}
+use lib.ListN.{length}
 use Rattle.sets.specs.Word.{dig}
 use Rattle.paper.specs.Drawing.{Wire}
 use Rattle.paper.specs.Loops.{Loop, loopAt, polygon}
 use Rattle.paper_laws.specs.Planes.{InOwnPlane}
-
-pub record Proper (l : Loop) : Type 0 where
-  pub three : 3 ≤ length l
-  pub different : (i j : ℕ) → i < length l → j < length l → getD l i 0 ≡ getD l j 0 → i ≡ j
-
-abbrev pub AllProper : List Loop → Type 0
-AllProper cs = (k : ℕ) → k < length cs → Proper (loopAt cs k)
+use Rattle.means_solid.specs.Proper.{AllProper}
 
 -- what holds of the candidates of every drawing that passes rule 11: they are proper, and each lies in its plane
 pub record Fair (d : Wire) (cs : List Loop) : Type 0 where

@@ -16,8 +16,8 @@ use Rattle.lists.specs.Lists.{member}
 use Rattle.lists.proofs.Truth.{and-left, and-right, and-both, or-left, or-right, never-true}
 use Rattle.paper.specs.Numbers.{mostCorners}
 use Rattle.paper.specs.Loops.{Loop, follows, closes, branch, scan, ext, final}
-use Rattle.means_check.specs.Loop.{Closed}
-use Rattle.means_check.proofs.Numbers.{member-yes, member-is}
+use Rattle.means_loops.specs.Loop.{Closed}
+use Rattle.means_loops.proofs.Kept.{member-yes, member-is}
 
 module _ (n : ℕ) (linked : ℕ → ℕ → Bool) (flat : List ℕ → ℕ → Bool) where
   -- ---- what a vertex x brings after p, and what is in a scan
