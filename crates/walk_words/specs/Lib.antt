@@ -1,0 +1,2 @@
+-- What contracts on the walk cite beside the paper. Assumes nothing.
+pub mod Words

@@ -1,0 +1,40 @@
+-- Masks in lists of words, and six volumes in a list of numbers, for up to 64 candidates and edges. Assumes nothing.
+use mathlib.Core.Bool.{Bool}
+use mathlib.Core.List.{List, []}
+use mathlib.Core.Path.{_≡_}
+use Prim.Native.Nat.{ℕ, _*_, _≤_, _<_}
+use lib.IntN.{ℤ, pos}
+use lib.ListN.{length, getD}
+use Rattle.exact.specs.Size.{Within}
+use Rattle.sets.specs.Sets.{room, Is, maskAt}
+use Rattle.paper.specs.Numbers.{farthest}
+use Rattle.paper.specs.Solids.{Tables}
+use Rattle.polygon.specs.Sizes.{mostNormal}
+use Rattle.fast_sweeps.specs.Worklist.{edgesWith}
+
+-- word i has the digits of mask i
+pub record Masks (words : List ℕ) (masks : List (List Bool)) : Type 0 where
+  pub few : length masks ≤ room
+  pub at : (i : ℕ) → i < length masks → Is (maskAt words i) (getD masks i [])
+
+-- word k has the edges of candidate k: of each of the masks, whether k is in it
+pub record Sides (words : List ℕ) (masks : List (List Bool)) : Type 0 where
+  pub few : length masks ≤ room
+  pub at : (k : ℕ) → k < room → Is (maskAt words k) (edgesWith masks k)
+
+-- 72,000,000,000: a candidate's part of six volumes, a corner times its normal
+abbrev pub mostSix : ℕ
+mostSix = 3 * (farthest * mostNormal)
+
+pub record Sixes (numbers zs : List ℤ) : Type 0 where
+  pub few : length zs ≤ room
+  pub at : (k : ℕ) → k < length zs → getD numbers k (pos 0) ≡ getD zs k (pos 0)
+  pub small : (k : ℕ) → Within mostSix (getD zs k (pos 0))
+
+-- all of it
+pub record Held (on up sides clashes : List ℕ) (sixes : List ℤ) (t : Tables) : Type 0 where
+  pub on-are : Masks on (t .masks)
+  pub up-are : Masks up (t .ups)
+  pub sides-are : Sides sides (t .masks)
+  pub clashes-are : Masks clashes (t .clashes)
+  pub sixes-are : Sixes sixes (t .sixes)
