@@ -45,7 +45,8 @@ reference: document 01 in plain Rust, in a clear version and a fast one
 
   reference trial KIND DIR
       writes what a trial program reads, DIR/stdin, and what it must print, DIR/stdout. KIND is sheet (sheets read and
-      written back) or geometry (drawing rules 11 to 14, and clash and cover of faces)
+      written back), geometry (drawing rules 11 to 14, and clash and cover of faces) or loops (loops and candidates with
+      their words)
       --count N              generated cases of each sort (200)
       --seed S               (11)
 ";

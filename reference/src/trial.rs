@@ -1,15 +1,20 @@
 //! What the trial programs read, and what they must print of it by the clear version.
 use crate::clash::clash;
-use crate::cover::polygon_covers;
-use crate::drawing::Drawing;
+use crate::cover::{find_candidates, polygon_covers};
+use crate::drawing::{Drawing, Loop};
 use crate::face_list::{pack_faces, read_faces};
 use crate::gen::extremes::extreme_sheets;
+use crate::gen::limits::{all_but_three, flat_128, flat_129};
+use crate::gen::named::named;
 use crate::gen::rng::Rng;
 use crate::gen::scenes::{four_polygons, ruled_drawing};
+use crate::gen::sheets::{changed, counted_drawing};
+use crate::loops::{find_loops, loop_edges};
 use crate::numbers::*;
 use crate::rows::{sheet_to_read, Order};
 use crate::rules::rules_11_to_14;
 use crate::sheet::{pack_sheet, read_sheet, sheet_length, write_sheet};
+use crate::vector::{cross, dot, sub};
 
 /// Standard input and standard output.
 #[derive(Default)]
@@ -78,4 +83,61 @@ fn against_each_other(d: &Drawing, list: &[u8]) -> String {
     let faces: Vec<_> = faces.iter().map(|face| d.points(face)).collect();
     let digit = |f, g| clash(f, g).is_some() as u8 + 2 * polygon_covers(f, g) as u8;
     faces.iter().map(|f| faces.iter().map(|g| digit(f, g).to_string()).collect::<String>() + "\n").collect()
+}
+
+/// Sheets of the named drawings, of those with 128 and 129 loops and with 64 and 65 candidates, and of generated ones.
+pub fn loops(seed: u64, count: u64) -> Trial {
+    let mut trial = Trial::default();
+    let limits = [flat_128(), flat_129(), all_but_three(false), all_but_three(true)];
+    let generated = (0..count).map(|k| {
+        let mut r = Rng::of_case(seed, k);
+        let d = counted_drawing(&mut r, *VERTICES.end());
+        changed(&mut r, d)
+    });
+    for d in named().into_iter().map(|(_, d)| d).chain(limits).chain(generated) {
+        let sheet = pack_sheet(&d);
+        trial.put(&sheet);
+        trial.output += &read_sheet(&sheet).map_or_else(refused, |d| loops_and_candidates(&d));
+    }
+    trial
+}
+
+/// How many loops and candidates there are, each with a checksum of their rows and words.
+fn loops_and_candidates(d: &Drawing) -> String {
+    let loops = match rules_11_to_14(d).and_then(|()| find_loops(d)) {
+        Ok(loops) => loops,
+        Err(refusal) => return refused(refusal),
+    };
+    let planes = loops.iter().flat_map(|l| [row_and_words(d, l), vec![word(in_plane_of(d, l))]].concat());
+    let found = format!("loops {} {} ", loops.len(), checksum(planes));
+    found
+        + &find_candidates(d, &loops).map_or_else(refused, |candidates| {
+            let words = candidates.iter().flat_map(|l| row_and_words(d, l));
+            format!("candidates {} {}\n", candidates.len(), checksum(words))
+        })
+}
+
+/// The row's bytes, and the words of its corners and of its edges.
+fn row_and_words(d: &Drawing, l: &Loop) -> Vec<u64> {
+    let fill = vec![FACE_FILL as usize; *CORNERS.end() - l.len()];
+    let row = [&[l.len()], &l[..], &fill].concat().into_iter().map(|n| n as u64);
+    row.chain([word(l.iter().copied()), word(loop_edges(d, l))]).collect()
+}
+
+/// Of numbers in order.
+fn checksum(numbers: impl IntoIterator<Item = u64>) -> u64 {
+    const PRIME: u64 = 4_294_967_291;
+    numbers.into_iter().fold(0, |sum, n| (31 * sum + n % PRIME) % PRIME)
+}
+
+fn word(members: impl IntoIterator<Item = usize>) -> u64 {
+    members.into_iter().map(|k| 1 << k).sum()
+}
+
+/// The vertices in the loop's plane, through its first three corners that aren't in line.
+fn in_plane_of(d: &Drawing, l: &Loop) -> Vec<usize> {
+    let from = |v: usize| sub(d.point(v), d.point(l[0]));
+    let across = l[2..].iter().map(|v| cross(from(l[1]), from(*v))).find(|n| *n != [0; 3]);
+    let across = across.expect("after rule 13 no loop is on one line");
+    (0..d.vertices.len()).filter(|v| dot(across, from(*v)) == 0).collect()
 }

@@ -2,7 +2,7 @@
 use super::args::Args;
 use nibgravel_reference::numbers::MOST_SOLIDS;
 use nibgravel_reference::rows::{Order, SMALL};
-use nibgravel_reference::trial::{geometry, sheets};
+use nibgravel_reference::trial::{geometry, loops, sheets};
 use std::fs;
 use std::path::Path;
 
@@ -12,7 +12,8 @@ pub fn trial(args: &Args) -> Result<(), String> {
     let trial = match args.word(1) {
         Some("sheet") => sheets(&Order { seed, cap: MOST_SOLIDS, size: SMALL }, count),
         Some("geometry") => geometry(seed, count),
-        _ => return Err("a trial is of kind sheet or geometry".to_string()),
+        Some("loops") => loops(seed, count),
+        _ => return Err("a trial is of kind sheet, geometry or loops".to_string()),
     };
     let dir = Path::new(args.path(2)?);
     fs::write(dir.join("stdin"), trial.input)
