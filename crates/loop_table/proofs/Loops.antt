@@ -1,18 +1,16 @@
 -- The loops of a drawing in range: what is read of them, and their rows as polygons. Assumes nothing.
 use mathlib.Core.Path.{_≡_, refl, sym, ap, _∙_}
-use mathlib.Core.List.{List, [], map}
-use Prim.Native.Nat.{ℕ, _+_, _*_, _≤_, _<_}
+use mathlib.Core.List.{List}
+use Prim.Native.Nat.{ℕ, _<_}
 use native.Mathlib.Omega.{arith}
 use lib.IntN.{ℤ}
-use lib.ListN.{length, getD}
-use Rattle.paper.specs.Format.{editionOne}
-use Rattle.paper.specs.Drawing.{Wire, wire, pointsOf, edgesOf}
+use lib.ListN.{length}
+use Rattle.paper.specs.Drawing.{Wire, wire}
 use Rattle.paper.specs.Loops.{Loop, loopAt, loops, polygon}
 use Rattle.paper_laws.specs.InRange.{InRange}
 use Rattle.paper_laws.proofs.Wires.{length-points, length-edges}
-use Rattle.polygon.specs.Rings.{loopIn, ring, Row}
+use Rattle.polygon.specs.Rings.{ring, Row}
 use Rattle.polygon.proofs.Drawn.{polygon-is}
-use Rattle.fast_tables.specs.Paths.{Path}
 use Rattle.fast_tables.proofs.Drawings.{loop-path}
 use Rattle.means_check.proofs.Listing.{loops-are}
 use Rattle.loop_table.specs.Tables.{HoldsRows}

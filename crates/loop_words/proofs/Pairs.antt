@@ -1,7 +1,7 @@
 -- The entries of edges in a table with one for each pair of vertices: those of two edges are different, since edges rise. Assumes
 -- nothing.
-use mathlib.Core.Path.{_≡_, refl, sym, ap, _∙_}
-use mathlib.Core.Bool.{true, false, not, _&&_}
+use mathlib.Core.Path.{_≡_, sym, ap, _∙_}
+use mathlib.Core.Bool.{true, _&&_}
 use mathlib.Core.Logic.{_⊎_, inl, inr}
 use mathlib.Core.List.{List}
 use Prim.Native.Nat.{ℕ, zero, suc, _+_, _*_, _/_, _-_, _≤_, _<_}
@@ -18,7 +18,7 @@ use Rattle.paper.specs.Drawing.{edge, edgesOf}
 use Rattle.paper_laws.proofs.Wires.{length-edges, edge-at}
 use Rattle.loop_words.specs.Numbered.{Rising, pairAt, Numbered}
 
--- the table of pairs, and how many edges there are
+-- how many entries the table has
 abbrev pub allPairs : ℕ
 allPairs = 1024
 

@@ -1,6 +1,5 @@
 // Of each loop its corners and its sides, as words: a bit for each vertex, a bit for each edge. Assumes a table of loops of a drawing
 // whose edges are numbered.
-ghost use mathlib.Core.Path.{_≡_};
 ghost use Rattle.paper.specs.Drawing.{edgesOf};
 ghost use Rattle.loop_words.specs.Numbered.{Rising, Numbered};
 ghost use Rattle.loop_words.specs.Drawn.{RowDrawn, RowWords, Drawn, WithRoom, LoopWords};

@@ -1,10 +1,9 @@
 -- `loop_words::number_edges`: the loop keeps that the entries of the first e edges are their numbers. Assumes nothing.
 use mathlib.Core.List.{List}
-use mathlib.Core.Path.{_≡_, ap, refl, subst, sym, _∙_}
-use Prim.Native.Nat.{_/_, _*_, _+_, _-_, _<_, _≤_, ℕ}
+use mathlib.Core.Path.{_≡_, refl, subst, sym}
+use Prim.Native.Nat.{_+_, _-_, _<_, _≤_, ℕ}
 use native.Mathlib.Omega.{arith}
-use lib.ListN.{getD, length, length-set, set}
-use denote.Ref.{now}
+use lib.ListN.{length, length-set, set}
 use borrow.Author.Needs.{needs}
 use Rattle.loop_words.specs.Numbered.{Rising, pairAt}
 use Rattle.loop_words.proofs.Pairs.{Numbering, allPairs, half, high-known, low-known, numbering-end, numbering-more, numbering-none}
