@@ -1,1 +1,69 @@
--- x. Assumes nothing.
+-- The rows of a table that holds loops, read as the code reads them, and one row more. Assumes nothing.
+use mathlib.Core.Path.{_≡_, refl, sym, ap, _∙_}
+use mathlib.Core.List.{List, [], _∷_, _++_, flatMap}
+use Prim.Native.Nat.{ℕ, suc, _+_, _*_, _≤_, _<_}
+use native.Mathlib.Omega.{arith}
+use lib.ListN.{length, getD, take, drop, length-append, length-drop}
+use lib.Seq.{paste, ext-getD, getD-take, getD-drop, length-take-le}
+use Rattle.lists.proofs.After.{after-more, after-again, after-at}
+use Rattle.paper.specs.Numbers.{mostCorners, rowBytes}
+use Rattle.paper.specs.Loops.{Loop, loopAt, row}
+use Rattle.paper_laws.proofs.Rows.{Short, rows-wide, rows-long, row-first, row-corner, row-length}
+use Rattle.polygon.specs.Rings.{countIn, vertexIn, loopIn}
+use Rattle.loop_table.specs.Tables.{rowsAfter, HoldsRows}
+
+-- ---- a table that rows were written to holds them
+pub rows-held : (ls : List Loop) → Short ls → (table before : List ℕ) → table ≡ rowsAfter ls before → HoldsRows table ls
+rows-held ls short table before e = e ∙ sym (ap (rowsAfter ls) e ∙ after-again row rowBytes [] ls (rows-wide ls short) before)
+
+-- none written, and one row more
+pub rows-none : (before : List ℕ) → before ≡ rowsAfter [] before
+unfolding flatMap
+rows-none before = refl
+
+pub row-more : (ls : List Loop) → Short ls → (l : Loop) → length l ≤ mostCorners → (table before : List ℕ) → table ≡ rowsAfter ls before
+    → paste table (rowBytes * length ls) (row l) rowBytes ≡ rowsAfter (ls ++ l ∷ []) before
+row-more ls short l most table before e =
+    ap (λ (t : List ℕ). paste t (rowBytes * length ls) (row l) rowBytes) e
+    ∙ after-more row rowBytes [] ls (rows-wide ls short) before l (row-length l most)
+
+-- ---- its rows
+module _ (table : List ℕ) (ls : List Loop) (held : HoldsRows table ls) (short : Short ls) where
+  pub rows-room : rowBytes * length ls ≤ length table
+  rows-room =
+      omega (
+        arith,
+        ap length held ∙ length-append (flatMap row ls) (drop (rowBytes * length ls) table),
+        rows-long ls short,
+        length-drop (rowBytes * length ls) table,
+      )
+
+  module _ (k : ℕ) (h : k < length ls) where
+    -- cell j of row k
+    pub cell-is : (j : ℕ) → j < rowBytes → getD table (rowBytes * k + j) 0 ≡ getD (row (loopAt ls k)) j 0
+    cell-is j m =
+        ap (λ (t : List ℕ). getD t (rowBytes * k + j) 0) held
+        ∙ after-at row rowBytes [] ls (rows-wide ls short) table k j 0 h m (omega arith)
+
+    pub count-is : countIn table k ≡ length (loopAt ls k)
+    count-is =
+        let e : rowBytes * k ≡ rowBytes * k + 0 = omega arith in
+        ap (λ (i : ℕ). getD table i 0) e ∙ cell-is 0 (omega arith) ∙ row-first (loopAt ls k)
+
+    pub vertex-is : (i : ℕ) → i < length (loopAt ls k) → vertexIn table k i ≡ getD (loopAt ls k) i 0
+    vertex-is i m =
+        let e : rowBytes * k + 1 + i ≡ rowBytes * k + suc i = omega arith in
+        ap (λ (t : ℕ). getD table t 0) e ∙ cell-is (suc i) (omega (arith, short k h)) ∙ row-corner (loopAt ls k) i m
+
+    pub loop-is : loopIn table k ≡ loopAt ls k
+    unfolding loopIn
+    loop-is =
+        let l = loopAt ls k in
+        let rest = drop (rowBytes * k + 1) table in
+        let long : length (take (countIn table k) rest) ≡ length l
+        = length-take-le (countIn table k) rest
+        (omega (arith, count-is, short k h, rows-room, length-drop (rowBytes * k + 1) table)) ∙ count-is in
+        ext-getD 0 (take (countIn table k) rest) l long
+        (λ i m.
+        let n : i < length l = omega (arith, long) in
+        getD-take (countIn table k) rest i 0 (omega (arith, count-is)) ∙ getD-drop (rowBytes * k + 1) table i 0 ∙ vertex-is i n)

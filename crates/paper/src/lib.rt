@@ -50,12 +50,12 @@ pub const WORDS: usize = 3;
 
 pub const FACE_ROOM: usize = 832;
 
-// A row for each of 128 loops.
-pub const LOOP_ROOM: usize = 1664;
-
 pub const SOLID_ROOM: usize = 24;
 
 pub const FILL: u8 = 255;
+
+// The loop table's room: 13 bytes for each of 128 loops.
+pub const LOOP_ROOM: usize = 1664;
 
 // "What comes back": the numbers of the refusals, by the table's names.
 pub const NO_ROOM: u8 = 1;

@@ -1,0 +1,3 @@
+-- What contracts of this crate and its callers cite beside the paper. Assumes nothing.
+pub mod Midpoints
+pub mod Known

@@ -1,0 +1,144 @@
+-- `loop_words::loop_words`: the loop keeps that the words of the first k rows are written. Assumes nothing.
+use mathlib.Core.Bool.{Bool}
+use mathlib.Core.List.{List, []}
+use mathlib.Core.Path.{_≡_, ap, sym, _∙_}
+use Prim.Native.Nat.{_+_, _-_, _<_, _≤_, ℕ}
+use native.Mathlib.Omega.{arith}
+use lib.ListN.{length, set, take}
+use lib.Seq.{length-take-le, take-length}
+use denote.Ref.{now}
+use Rattle.sets.specs.Word.{word}
+use Rattle.paper.specs.Loops.{Loop, loopAt}
+use Rattle.lists.proofs.Places.{take-more}
+use Rattle.fast_tables.specs.Hits.{cornerMask, sideMask}
+use Rattle.loop_table.specs.Tables.{wordsAfter}
+use Rattle.loop_table.proofs.Rows.{rows-room, count-is, vertex-is}
+use Rattle.loop_table.proofs.Words.{words-none, word-more}
+use Rattle.loop_words.specs.Drawn.{RowDrawn, Drawn}
+use Rattle.loop_words.proofs.loop_words.Statement.{statement}
+use Rattle.loop_words.proofs.loop_words.Tie as tie
+
+-- what the loop keeps, of every drawing and loops that the rows are
+record Kept {table : List ℕ} {n : ℕ} {number : List ℕ} (w : Drawn table n number) (corners₀ corners sides₀ sides : List ℕ) (k : ℕ) : Type 0 where
+  pub not-past : k ≤ n
+  pub corners-in : corners ≡ wordsAfter (cornerMask (w .drawing)) (take k (w .loops)) corners₀
+  pub sides-in : sides ≡ wordsAfter (sideMask (w .drawing)) (take k (w .loops)) sides₀
+
+abbrev Inv-loop : tie.InvT-loop
+Inv-loop table n number corners₀ sides₀ k₀ corners sides k = (w : Drawn table n number) → Kept w corners₀ corners sides₀ sides k
+
+abbrev μ-loop : tie.MeasureT-loop
+μ-loop table n number corners₀ sides₀ k₀ corners sides k = n - k
+
+-- ---- the ways back
+
+abbrev entry : tie.At-loop Inv-loop μ-loop → tie.Start Inv-loop μ-loop
+entry c = c .before .before
+
+abbrev turn : tie.After-row-words Inv-loop μ-loop → tie.At-loop Inv-loop μ-loop
+turn c = c .before .before
+
+-- row k of the table is loop k
+unfoldable row-drawn : {table : List ℕ} {n : ℕ} {number : List ℕ} (w : Drawn table n number) (k : ℕ) → k < n → RowDrawn table k number
+row-drawn {table} w k h =
+    let i : k < length (w .loops) = omega (arith, w .count) in
+    let short = w .of .short in
+    record {
+      drawing = w .drawing;
+      small = w .small;
+      loop = loopAt (w .loops) k;
+      path = w .of .path k i;
+      short = short k i;
+      room = omega (arith, rows-room table (w .loops) (w .held) short);
+      count = count-is table (w .loops) (w .held) short k i;
+      vertex = vertex-is table (w .loops) (w .held) short k i;
+    }
+
+-- one word more, of loop k
+more : (mask : Loop → List Bool) (ls : List Loop) (k : ℕ) (words before : List ℕ) (x : ℕ) → k < length ls → k < length before
+    → words ≡ wordsAfter mask (take k ls) before → x ≡ word (mask (loopAt ls k)) → set words k x ≡ wordsAfter mask (take (k + 1) ls) before
+more mask ls k words before x h m e q =
+    let s : length (take k ls) ≡ k = length-take-le k ls (omega arith) in
+    (λ i. set words (sym s i) (q i))
+    ∙ word-more mask (take k ls) (loopAt ls k) words before (omega (arith, s)) e
+    ∙ ap (λ (t : List Loop). wordsAfter mask t before) (sym (take-more ls k [] h))
+
+-- ---- the needs
+
+loop-holds : tie.Need-loop-holds Inv-loop μ-loop
+loop-holds c w =
+    let a = c .before .args in
+    record {
+      not-past = omega arith;
+      corners-in = words-none (cornerMask (w .drawing)) (now (a .corners));
+      sides-in = words-none (sideMask (w .drawing)) (now (a .sides));
+    }
+
+row-words-requires : tie.Need-row-words-requires Inv-loop μ-loop
+row-words-requires c κs = row-drawn (entry (c .before) .pre .drawn) (c .before .loop .k) (omega arith)
+
+mul-corners : tie.Need-mul-corners Inv-loop μ-loop
+mul-corners c = let w = entry (turn c) .pre in omega (arith, w .drawn .most)
+
+element-write-corners : tie.Need-element-write-corners Inv-loop μ-loop
+element-write-corners c = let w = entry (turn c) .pre in omega (arith, w .drawn .most)
+
+mul-sides : tie.Need-mul-sides Inv-loop μ-loop
+mul-sides c = let w = entry (turn c) .pre in omega (arith, w .drawn .most)
+
+element-write-sides : tie.Need-element-write-sides Inv-loop μ-loop
+element-write-sides c = let w = entry (turn c) .pre in omega (arith, w .drawn .most)
+
+add-k : tie.Need-add-k Inv-loop μ-loop
+add-k c = omega arith
+
+loop-less : tie.Need-loop-less Inv-loop μ-loop
+loop-less c = omega arith
+
+loop-again : tie.Need-loop-again Inv-loop μ-loop
+unfolding row-drawn
+loop-again c w =
+    let s = entry (turn c) in
+    let a = s .args in
+    let l = turn c .loop in
+    let k = l .inv w in
+    let row = c .row-words .ensures (row-drawn w (l .k) (omega arith)) in
+    let h : l .k < length (w .loops) = omega (arith, w .count) in
+    record {
+      not-past = omega arith;
+      corners-in =
+          more (cornerMask (w .drawing)) (w .loops) (l .k) (l .corners) (now (a .corners)) (c .row-words .result .corners) h
+          (omega (arith, s .pre .corner-room)) (k .corners-in) (row .corners);
+      sides-in =
+          more (sideMask (w .drawing)) (w .loops) (l .k) (l .sides) (now (a .sides)) (c .row-words .result .sides) h
+          (omega (arith, s .pre .side-room)) (k .sides-in) (row .sides);
+    }
+
+returns : tie.Need-returns Inv-loop μ-loop
+returns c w =
+    let a = entry (c .before) .args in
+    let l = c .before .loop in
+    let k = l .inv w in
+    let e : l .k ≡ length (w .loops) = omega (arith, k .not-past, w .count) in
+    let all = ap (λ (n : ℕ). take n (w .loops)) e ∙ take-length (w .loops) in
+    record {
+      corners-are = k .corners-in ∙ ap (λ (t : List Loop). wordsAfter (cornerMask (w .drawing)) t (now (a .corners))) all;
+      sides-are = k .sides-in ∙ ap (λ (t : List Loop). wordsAfter (sideMask (w .drawing)) t (now (a .sides))) all;
+    }
+
+pub loop-words-spec : {M : Type 1} → statement M
+loop-words-spec =
+    tie.close
+    (tie.spec
+    Inv-loop
+    μ-loop
+    loop-holds
+    row-words-requires
+    mul-corners
+    element-write-corners
+    mul-sides
+    element-write-sides
+    add-k
+    loop-less
+    loop-again
+    returns)
