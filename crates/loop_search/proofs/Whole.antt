@@ -56,12 +56,11 @@ module _ {xyz : List ℤ} {words : List ℕ} {v : ℕ} (points : Points xyz v) {
     met = λ d n.
         let m = k .met d n in
         let e : suc s ≡ s + 1 = omega arith in
-        let b : s < length (d .vertices) = omega (arith, vertices-length points d (n .vertices-are)) in
-        (
+        let b : s < length (d .vertices) = omega (arith, vertices-length points d (n .vertices-are)) in (
           m .0 ++ bareSeconds d s,
           adds-then (m .0) (bareSeconds d s) (m .1) (t .adds d n),
           ap (λ (i : ℕ). (m .0 ++ bareSeconds d s) ++ bareStarts d i (length (d .vertices) - i)) (sym e)
-          ∙ bare-starts-next d s (m .0) (bareSearch d) b (m .2),
+              ∙ bare-starts-next d s (m .0) (bareSearch d) b (m .2),
         );
   }
 

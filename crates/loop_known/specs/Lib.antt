@@ -1,0 +1,2 @@
+-- What contracts of this crate and its callers cite beside the paper. Assumes nothing.
+pub mod Known
