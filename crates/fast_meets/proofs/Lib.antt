@@ -1,0 +1,6 @@
+-- Rule 13 by pairs of edges, each asked once. Assumes nothing.
+pub mod Boxes
+pub mod Both
+pub mod Searches
+pub mod Vertices
+pub mod Pairs
