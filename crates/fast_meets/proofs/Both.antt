@@ -1,18 +1,18 @@
 -- The two answers of a pair of segments from one set of steps, and segments with a common end. Assumes nothing.
 use mathlib.Core.Path.{_≡_, refl, sym, _∙_, ap}
 use mathlib.Core.Bool.{Bool, true, false, _&&_, cond, and-false}
-use mathlib.Core.Logic.{_⊎_, inl, inr}
+use mathlib.Core.Logic.{inl, inr}
 use mathlib.Core.List.{[], _∷_}
 use lib.IntN.{ℤ, pos, negℤ}
 use lib.Signed.{ltZ, leZ, _<ℤ_}
 use Rattle.exact.proofs.Signs.{lt-yes, pos-ne, <ℤ-ne}
 use Rattle.lists.proofs.Truth.{same-truth, never-true, and-left, and-right}
 use Rattle.paper.specs.Points.{origin, minus, times, dot, cross, isZero, isOrigin}
-use Rattle.paper.specs.Drawing.{overlap, cutsOpen, openMeets}
+use Rattle.paper.specs.Drawing.{cutsOpen, openMeets}
 use Rattle.paper.specs.declared.Point.{Point}
 use Rattle.paper_laws.proofs.Points.{origin-yes, origin-is, differ, scale-zero, in-line, self-pos}
 use Rattle.paper_laws.proofs.Vectors.{num, vec, k, x, negs, _·_, o, v, _-v_, _*v_, _×v_, vring}
-use Rattle.fast_meets.specs.Theorems.{Longs, NoneMet, EndShared, laps, second, OneGivesBoth, JoinedMeetNoMore}
+use Rattle.fast_meets.specs.Theorems.{Longs, EndShared, laps, second, OneGivesBoth, JoinedMeetNoMore}
 
 -- ---- directions in one line
 

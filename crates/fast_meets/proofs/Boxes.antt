@@ -6,8 +6,8 @@ use mathlib.Core.List.{[], _∷_}
 use lib.IntN.{ℤ, pos, _+ℤ_, _-ℤ_, _*ℤ_}
 use lib.Signed.{leZ, ltZ, _≤ℤ_, _<ℤ_, ≤ℤ-refl, <ℤ-≤ℤ-trans, clashℤ}
 use Rattle.exact.proofs.Ring.{var, _⊕_, _⊖_, _⊗_, ring}
-use Rattle.exact.proofs.Signs.{lt-yes, lt-or-ge, le-yes, le-is, <ℤ-≤ℤ, le-subst, lt-subst}
-use Rattle.exact.proofs.Order.{mul-pos, mul-le, mul-lt, add-le, sub-nonneg, lt-chain}
+use Rattle.exact.proofs.Signs.{lt-yes, lt-or-ge, le-yes, le-is, <ℤ-≤ℤ, le-subst}
+use Rattle.exact.proofs.Order.{mul-le, mul-lt, add-le, sub-nonneg, lt-chain}
 use Rattle.lists.proofs.Truth.{or-cases, never-true}
 use Rattle.paper.specs.Points.{plus, minus, times}
 use Rattle.paper.specs.Drawing.{openMeets}
@@ -15,7 +15,7 @@ use Rattle.paper.specs.declared.Point.{Point}
 use Rattle.means_drawing.specs.Segments.{Inner, Whole, Common}
 use Rattle.means_drawing.proofs.Segments.{openMeets-means}
 use Rattle.fast_meets.specs.Boxes.{lesser, greater, lowCorner, highCorner, clear, boxesApart, areApart}
-use Rattle.fast_meets.specs.Theorems.{Longs, NoneMet, BoxesTell}
+use Rattle.fast_meets.specs.Theorems.{BoxesTell}
 
 -- ---- the lesser and the greater of two numbers
 

@@ -4,3 +4,6 @@ pub mod Both
 pub mod Searches
 pub mod Vertices
 pub mod Pairs
+pub mod First
+pub mod Later
+pub mod Steps

@@ -1,7 +1,7 @@
 -- What is gathered over the pairs is what some other edge makes offend. Assumes nothing.
 use mathlib.Core.Path.{_≡_, refl, sym, _∙_, subst}
 use mathlib.Core.Bool.{Bool, true, false, true≢false}
-use mathlib.Core.Logic.{_⊎_, inl, inr, ⊎-elim, _↔_}
+use mathlib.Core.Logic.{_⊎_, ⊎-elim, _↔_}
 use mathlib.Core.List.{List, []}
 use Prim.Native.Nat.{ℕ, zero, suc, _+_, _≤_, _<_}
 use native.Mathlib.Decide.{decLe, ℕ-discrete}
@@ -101,16 +101,16 @@ module _ (meet : ℕ → ℕ → Bool) where
   -- ---- nothing else is marked
 
   module _ (n : ℕ) where
-    -- another edge makes k offend
+    -- k is an edge, and another edge makes it offend
     abbrev Offends : ℕ → Type 0
-    Offends k = (f : ℕ) × (f < n) × (k ≡ f → ⊥) × (meet k f ≡ true)
+    Offends k = (k < n) × ((f : ℕ) × (f < n) × (k ≡ f → ⊥) × (meet k f ≡ true))
 
     pair-sound : (e f : ℕ) (w : List Bool) → e < f → f < n → Sound Offends w → Sound Offends (pairMarked meet e f w)
     unfolding pairMarked
     pair-sound e f w h l s =
         mark-sound Offends (meet f e) f (mark (meet e f) e w)
-        (mark-sound Offends (meet e f) e w s (λ q. (f, l, (λ z. omega (arith, z)), q)))
-        (λ q. (e, omega arith, (λ z. omega (arith, z)), q))
+        (mark-sound Offends (meet e f) e w s (λ q. (omega arith, (f, l, (λ z. omega (arith, z)), q))))
+        (λ q. (l, (e, omega arith, (λ z. omega (arith, z)), q)))
 
     rest-sound : (e f m : ℕ) (w : List Bool) → e < f → f + m ≤ n → Sound Offends w → Sound Offends (withRest meet e f m w)
     unfolding withRest
@@ -124,16 +124,26 @@ module _ (meet : ℕ → ℕ → Bool) where
     pairs-sound e (suc m) w l s =
         pairs-sound (suc e) m (withRest meet e (suc e) m w) (omega arith) (rest-sound e (suc e) m w (omega arith) (omega arith) s)
 
-    pairs-mean : (k : ℕ) → k < n → (dig (pairsFrom meet 0 n []) k ≡ true) ↔ Offends k
-    pairs-mean k h = (pairs-sound 0 n [] (omega arith) (λ j q. absurd (true≢false (sym q))) k, of)
+    all-sound : Sound Offends (pairsFrom meet 0 n [])
+    all-sound = pairs-sound 0 n [] (omega arith) (λ j q. absurd (true≢false (sym q)))
+
+    all-mean : (k : ℕ) → k < n → (dig (pairsFrom meet 0 n []) k ≡ true) ↔ ((f : ℕ) × (f < n) × (k ≡ f → ⊥) × (meet k f ≡ true))
+    all-mean k h = ((λ q. all-sound k q .1), of)
       where
-        of : Offends k → dig (pairsFrom meet 0 n []) k ≡ true
+        of : (f : ℕ) × (f < n) × (k ≡ f → ⊥) × (meet k f ≡ true) → dig (pairsFrom meet 0 n []) k ≡ true
         of (f, l, ne, q) = go (decLe k f)
           where
             go : Dec (k ≤ f) → dig (pairsFrom meet 0 n []) k ≡ true
             go (yes t) = pairs-set 0 n k f [] (omega arith) (omega (arith, ne)) (omega arith) .0 q
             go (no t) = pairs-set 0 n f k [] (omega arith) (omega arith) (omega arith) .1 q
 
-pub pairs-tell : (d : Wire) → PairsTell d
-unfolding offenders
-pairs-tell d t = by-others d t (dig (offenders d)) (pairs-mean (meetAt d) (length (d .edges)))
+-- ---- of a drawing
+
+module _ (d : Wire) where
+  pub offenders-below : (k : ℕ) → dig (offenders d) k ≡ true → k < length (d .edges)
+  unfolding offenders
+  offenders-below k q = all-sound (meetAt d) (length (d .edges)) k q .0
+
+  pub pairs-tell : PairsTell d
+  unfolding offenders
+  pairs-tell t = by-others d t (dig (offenders d)) (all-mean (meetAt d) (length (d .edges)))

@@ -1,7 +1,7 @@
 -- Where 9, 11 and 12 have passed, an edge that meets a vertex meets an edge that ends there. Assumes nothing.
 use mathlib.Core.Path.{_≡_, refl, sym, _∙_, ap, subst}
 use mathlib.Core.Bool.{Bool, true, not, _&&_, true≢false}
-use mathlib.Core.Logic.{_⊎_, inl, inr, _↔_}
+use mathlib.Core.Logic.{inl, inr, _↔_}
 use mathlib.Core.List.{[], _∷_}
 use Prim.Native.Nat.{ℕ, _<_}
 use borrow.Author.Tests.{eq-eqb, ne-eqb, not-true}
@@ -20,7 +20,7 @@ use Rattle.paper.specs.declared.Point.{Point}
 use Rattle.paper_laws.proofs.Points.{differ, from-eq, scale-zero}
 use Rattle.paper_laws.proofs.Vectors.{num, vec, k, x, _-s_, o, v, _+v_, _-v_, _*v_, vring}
 use Rattle.means_drawing.specs.Segments.{Between, Common, along}
-use Rattle.means_drawing.specs.Drawings.{start, stop, from, to, Vertex, HasEdge, EndOf, Long, Meets, vertex, other}
+use Rattle.means_drawing.specs.Drawings.{start, stop, from, to, HasEdge, EndOf, Long, Meets, vertex, other}
 use Rattle.means_drawing.proofs.Segments.{openMeets-means}
 use Rattle.means_drawing.proofs.Drawings.{looseVertex-means, edgeMeets-finds, long-edges}
 use Rattle.means_drawing.proofs.Searches.{finds}

@@ -3,13 +3,13 @@ use mathlib.Core.Path.{_≡_}
 use mathlib.Core.Bool.{Bool, true, false, not, _&&_, cond}
 use mathlib.Core.Logic.{_⊎_}
 use mathlib.Core.Option.{none}
-use Prim.Native.Nat.{ℕ}
+use Prim.Native.Nat.{ℕ, suc, _-_}
 use lib.Dec.{eqb}
 use lib.ListN.{length}
-use Rattle.lists.specs.Lists.{any, upto, lowest}
+use Rattle.lists.specs.Lists.{any, from, upto, lowest}
 use Rattle.sets.specs.Word.{dig}
-use Rattle.paper.specs.Points.{minus, dot, cross, isZero, isOrigin}
-use Rattle.paper.specs.Drawing.{Wire, overlap, cutsOpen, openMeets, samePlace, looseVertex, edgeMeets}
+use Rattle.paper.specs.Points.{minus, dot, cross, isZero, isOrigin, samePoint}
+use Rattle.paper.specs.Drawing.{Wire, at, overlap, cutsOpen, openMeets, samePlace, looseVertex, edgeMeets}
 use Rattle.paper.specs.declared.Point.{Point}
 use Rattle.means_drawing.specs.Drawings.{Rising}
 use Rattle.fast_meets.specs.Boxes.{areApart}
@@ -54,6 +54,15 @@ module _ (a b c d : Point) where
 
   abbrev pub JoinedMeetNoMore : Type 0
   JoinedMeetNoMore = isOrigin (cross (minus b a) (minus d c)) ≡ false → EndShared a b c d → NoneMet a b c d
+
+-- ---- of any drawing: 11 need look only at the vertices after each
+
+module _ (d : Wire) where
+  abbrev pub laterAt : ℕ → Bool
+  laterAt u = any (λ w. samePoint (at d u) (at d w)) (from (suc u) (length (d .vertices) - suc u))
+
+  abbrev pub LaterTell : Type 0
+  LaterTell = samePlace d ≡ lowest laterAt (length (d .vertices))
 
 -- ---- of a drawing that has passed 9, 11 and 12
 
