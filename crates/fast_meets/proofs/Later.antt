@@ -84,11 +84,11 @@ module _ (d : Wire) where
   there u w = samePoint (at d u) (at d w)
 
   later-is : (u w : ℕ) → u < w → w < n → at d u ≡ at d w → laterAt d u ≡ true
-  later-is u w h l e = from-is (there u) (suc u) _ w h (omega arith) (same-is (at d u) (at d w) e)
+  later-is u w h l e = from-is (there u) _ _ w (omega arith) (omega arith) (same-is (at d u) (at d w) e)
 
   doubled : (u : ℕ) → u < n → laterAt d u ≡ true → Doubled d u
   doubled u h e =
-      let r = from-yes (there u) (suc u) _ e in
+      let r = from-yes (there u) _ _ e in
       (r .0, omega (arith, r .2), (λ q. omega (arith, q, r .1)), same-yes (at d u) (at d (r .0)) (r .3))
 
   lower : (u : ℕ) → u < n → Doubled d u → (j : ℕ) × (j ≤ u) × (laterAt d j ≡ true)
