@@ -1,90 +1,146 @@
--- The tests of rules 11 and 13 on the lent lists are those on the drawing. Assumes nothing.
-use mathlib.Core.Path.{_≡_, refl, sym, ap, _∙_}
-use mathlib.Core.Bool.{Bool, not, _&&_, _||_}
+-- Pairs of edges on the lent lists are those of the drawing. Assumes nothing.
+use mathlib.Core.Path.{_≡_, refl, sym, ap, _∙_, subst}
+use mathlib.Core.Bool.{Bool, true, false, _||_}
+use mathlib.Core.Logic.{_⊎_, inl, inr}
 use mathlib.Core.List.{List}
-use Prim.Native.Nat.{ℕ, _+_, _*_, _/_, _<_}
+use mathlib.Core.Option.{none}
+use Prim.Native.Nat.{ℕ, _+_, _*_, _<_}
 use native.Mathlib.Omega.{arith}
+use borrow.Author.Tests.{eqb-true}
 use lib.Dec.{eqb}
 use lib.IntN.{ℤ}
 use lib.ListN.{length, getD}
-use Rattle.lists.specs.Lists.{any, upto}
-use Rattle.lists.proofs.Places.{any-below-same}
-use Rattle.paper.specs.Points.{samePoint}
-use Rattle.paper.specs.Drawing.{Wire, edge, pointsOf, wire, at, edgeAt, onOpen, openMeets, vertexOn, edgesMeet}
+use Rattle.lists.proofs.Truth.{or-cases}
+use Rattle.paper.specs.Drawing.{Wire, Edge, edge, wire, at, edgeAt, openMeets, edgesMeet, samePlace}
 use Rattle.paper.specs.declared.Point.{Point}
-use Rattle.paper_laws.specs.InRange.{Points, Ends}
-use Rattle.drawing_rules.specs.Meets.{meetsAt, endIn, shareIn, sharedIn, onIn, vertexMetIn, meetIn, edgeMetIn}
-use Rattle.drawing_links.proofs.Edges.{edge-count, half-count, edge-is}
-use Rattle.drawing_rules.proofs.Vertices.{vertex-count, vertex-is}
+use Rattle.paper_laws.specs.InRange.{Ends}
+use Rattle.polygon.specs.Rings.{pointOf}
+use Rattle.means_drawing.specs.Drawings.{start, stop, Rising}
+use Rattle.means_drawing.proofs.Drawings.{long-edges}
+use Rattle.fast_meets.specs.Boxes.{areApart}
+use Rattle.fast_meets.specs.Pairs.{meetAt}
+use Rattle.fast_meets.specs.Theorems.{EndShared, Longs}
+use Rattle.fast_meets.proofs.Boxes.{boxes-tell}
+use Rattle.drawing_segments.specs.Asked.{Pair}
+use Rattle.drawing_segments.specs.Ways.{answers, bothMeet}
+use Rattle.drawing_links.proofs.Edges.{edge-count, edge-is}
+use Rattle.drawing_rules.specs.Asked.{Lists, TwoEdges}
+use Rattle.drawing_rules.specs.Meets.{endIn, joinedIn, bothAt}
+use Rattle.drawing_rules.proofs.Vertices.{vertex-count, vertex-is, vertex-small}
 
--- ---- rule 11: another vertex is where u is
-
-abbrev pub share : Wire → ℕ → ℕ → Bool
-share d u w = not (eqb u w) && samePoint (at d u) (at d w)
-
-abbrev pub shared : Wire → ℕ → Bool
-shared d u = any (share d u) (upto (length (d .vertices)))
-
-module _ {xyz : List ℤ} {v : ℕ} (p : Points xyz v) where
-  pub drawn-count : (d : Wire) → d .vertices ≡ pointsOf xyz → length (d .vertices) ≡ v
-  drawn-count d e = ap length e ∙ vertex-count p
-
-  pub shared-is : (d : Wire) → d .vertices ≡ pointsOf xyz → (u : ℕ) → u < v → sharedIn xyz v u ≡ shared d u
-  shared-is d e u h =
-      any-below-same (shareIn xyz u) v (share d u)
-      (λ w k i. not (eqb u w) && samePoint (sym (vertex-is p d e u h) i) (sym (vertex-is p d e w k) i))
-      ∙ ap (λ (n : ℕ). any (share d u) (upto n)) (sym (drawn-count d e))
-
--- ---- rule 13: an edge meets a vertex or another edge
-
-module _ {xyz : List ℤ} {ends : List ℕ} {v : ℕ} (p : Points xyz v) (q : Ends ends v) where
+module _ {xyz : List ℤ} {ends : List ℕ} {v : ℕ} (lists : Lists xyz v ends) where
   abbrev drawing : Wire
   drawing = wire xyz ends
 
+  abbrev q : Ends ends v
+  q = lists .links
+
   end-is : (k : ℕ) → k < length ends → at drawing (getD ends k 0) ≡ endIn xyz ends k
   unfolding wire
-  end-is k h = vertex-is p drawing refl (getD ends k 0) (q .known k h)
+  end-is k h = vertex-is (lists .points) drawing refl (getD ends k 0) (q .known k h)
 
   edge-at : (e : ℕ) → 2 * e + 1 < length ends → edgeAt drawing e ≡ edge (getD ends (2 * e) 0) (getD ends (2 * e + 1) 0)
   unfolding wire edgeAt
   edge-at e h = edge-is q e (omega (arith, q .whole))
 
-  -- of edge e, from A to B
-  module _ (e : ℕ) (h : 2 * e + 1 < length ends) where
+  -- ---- what 9 leaves, and 11
+
+  pub rising : Rising drawing
+  unfolding wire
+  rising e h =
+      let n : e < q .edges = omega (arith, edge-count q) in
+      let here = sym (edge-at e (omega (arith, q .whole))) in
+      let up : getD ends (2 * e) 0 < getD ends (2 * e + 1) 0 = q .rising e n in
+      let low : getD ends (2 * e + 1) 0 < v = q .known (2 * e + 1) (omega (arith, q .whole)) in
+      rw (← here) (up, omega (arith, vertex-count (lists .points)))
+
+  module _ (places : samePlace drawing ≡ none) where
+    ends-differ : (e : ℕ) → 2 * e + 1 < length ends → endIn xyz ends (2 * e) ≡ endIn xyz ends (2 * e + 1) → ⊥
+    unfolding wire
+    ends-differ e h s =
+        let here = edge-at e h in
+        long-edges drawing rising places e (omega (arith, edge-count q, q .whole))
+        (ap (λ (x : Edge). at drawing (start x)) here ∙ end-is (2 * e) (omega arith) ∙ s ∙ sym (end-is (2 * e + 1) h)
+        ∙ ap (λ (x : Edge). at drawing (stop x)) (sym here))
+
+  -- ---- edge e from A to B, and edge f from C to D
+
+  module _ (e f : ℕ) (t : TwoEdges ends e f) where
     abbrev A : Point
     A = endIn xyz ends (2 * e)
 
     abbrev B : Point
     B = endIn xyz ends (2 * e + 1)
 
-    a-is : at drawing (getD ends (2 * e) 0) ≡ A
-    a-is = end-is (2 * e) (omega arith)
+    abbrev C : Point
+    C = endIn xyz ends (2 * f)
 
-    b-is : at drawing (getD ends (2 * e + 1) 0) ≡ B
-    b-is = end-is (2 * e + 1) h
+    abbrev D : Point
+    D = endIn xyz ends (2 * f + 1)
 
-    on-is : (w : ℕ) → w < v → vertexOn drawing (edgeAt drawing e) w ≡ onIn xyz A B w
-    unfolding vertexOn wire
-    on-is w k =
-        ap (λ x. vertexOn drawing x w) (edge-at e h) ∙ (λ i. onOpen (a-is i) (b-is i) (vertex-is p drawing refl w k i))
+    both-long : samePlace drawing ≡ none → Longs A B C D
+    both-long s = record { ab = ends-differ s e (t .e-in); cd = ends-differ s f (t .f-in) }
 
-    meet-is : (f : ℕ) → 2 * f + 1 < length ends
-        → edgesMeet drawing (edgeAt drawing e) (edgeAt drawing f) ≡ openMeets A B (endIn xyz ends (2 * f)) (endIn xyz ends (2 * f + 1))
-    unfolding edgesMeet
-    meet-is f k =
-        let c = end-is (2 * f) (omega arith) in
-        let d = end-is (2 * f + 1) k in
-        (λ i. edgesMeet drawing (edge-at e h i) (edge-at f k i)) ∙ (λ i. openMeets (a-is i) (b-is i) (c i) (d i))
+    joined-shared : joinedIn ends e f ≡ true → EndShared A B C D
+    joined-shared h = go (or-cases (eqb a c || eqb a d || eqb b c) (eqb b d) h)
+      where
+        a : ℕ
+        a = getD ends (2 * e) 0
 
-    pub meets-is : (vertexMetIn xyz v A B || edgeMetIn xyz ends A B e) ≡ meetsAt drawing e
-    unfolding wire
-    meets-is =
-        let other : ℕ → Bool = λ f. not (eqb e f) && edgesMeet drawing (edgeAt drawing e) (edgeAt drawing f) in
-        let vs = any-below-same (vertexOn drawing (edgeAt drawing e)) v (onIn xyz A B) on-is in
-        let es =
-        any-below-same other (length ends / 2) (meetIn xyz ends A B e)
-        (λ f k. ap (λ (b : Bool). not (eqb e f) && b) (meet-is f (omega arith))) in
-        let n = sym (vertex-count p) in
-        let m = half-count q ∙ sym (edge-count q) in
-        (λ i. sym vs i || sym es i)
-        ∙ (λ i. any (vertexOn drawing (edgeAt drawing e)) (upto (n i)) || any other (upto (m i)))
+        b : ℕ
+        b = getD ends (2 * e + 1) 0
+
+        c : ℕ
+        c = getD ends (2 * f) 0
+
+        d : ℕ
+        d = getD ends (2 * f + 1) 0
+
+        same : (i j : ℕ) → eqb i j ≡ true → pointOf xyz i ≡ pointOf xyz j
+        same i j s = ap (pointOf xyz) (eqb-true i j s)
+
+        first : (eqb a c ≡ true) ⊎ (eqb a d ≡ true) → EndShared A B C D
+        first (inl s) = inl (same a c s)
+        first (inr s) = inr (inl (same a d s))
+
+        second : ((eqb a c || eqb a d) ≡ true) ⊎ (eqb b c ≡ true) → EndShared A B C D
+        second (inl s) = first (or-cases (eqb a c) (eqb a d) s)
+        second (inr s) = inr (inr (inl (same b c s)))
+
+        go : ((eqb a c || eqb a d || eqb b c) ≡ true) ⊎ (eqb b d ≡ true) → EndShared A B C D
+        go (inl s) = second (or-cases (eqb a c || eqb a d) (eqb b c) s)
+        go (inr s) = inr (inr (inr (same b d s)))
+
+    -- what `both_meet` asks
+    asked : samePlace drawing ≡ none → Pair A B C D (joinedIn ends e f)
+    asked s =
+        let near = vertex-small (lists .points) in
+        record {
+          segments = record { a-in = near _; b-in = near _; c-in = near _; d-in = near _ };
+          long = both-long s;
+          shared = joined-shared;
+        }
+
+    pub pair-asked : samePlace drawing ≡ none → {a b c d : Point} {j : Bool} → a ≡ A → b ≡ B → c ≡ C → d ≡ D → j ≡ joinedIn ends e f
+        → Pair a b c d j
+    pair-asked s pa pb pc pd pj =
+        subst (λ (T : Type 0). T) (λ i. Pair (sym pa i) (sym pb i) (sym pc i) (sym pd i) (sym pj i)) (asked s)
+
+    pub both-are : bothMeet A B C D ≡ bothAt drawing e f
+    unfolding meetAt edgesMeet
+    both-are =
+        let he = edge-at e (t .e-in) in
+        let hf = edge-at f (t .f-in) in
+        let a = end-is (2 * e) (omega (arith, t .e-in)) in
+        let b = end-is (2 * e + 1) (t .e-in) in
+        let c = end-is (2 * f) (omega (arith, t .f-in)) in
+        let d = end-is (2 * f + 1) (t .f-in) in
+        let first = (λ i. edgesMeet drawing (he i) (hf i)) ∙ (λ i. openMeets (a i) (b i) (c i) (d i)) in
+        let second = (λ i. edgesMeet drawing (hf i) (he i)) ∙ (λ i. openMeets (c i) (d i) (a i) (b i)) in
+        λ i. answers (sym first i) (sym second i)
+
+    -- boxes that are apart
+    pub apart-none : samePlace drawing ≡ none → areApart A B C D ≡ true → answers false false ≡ bothAt drawing e f
+    apart-none s h =
+        let none = boxes-tell A B C D (both-long s) h in
+        (λ i. answers (sym (none .first) i) (sym (none .second) i)) ∙ both-are

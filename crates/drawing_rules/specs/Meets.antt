@@ -1,43 +1,51 @@
--- The tests of rules 11 and 13 by which the lowest place is found: on the lent lists, and on the drawing. Assumes nothing.
-use mathlib.Core.Bool.{Bool, not, _&&_, _||_}
-use mathlib.Core.List.{List}
-use Prim.Native.Nat.{ℕ, _+_, _*_, _/_}
+-- The tests of rules 11 and 13 on the lent lists and on the drawing. Assumes nothing.
+use mathlib.Core.Path.{_≡_}
+use mathlib.Core.Bool.{Bool, _||_}
+use mathlib.Core.List.{List, [], _∷_}
+use Prim.Native.Nat.{ℕ, suc, _+_, _*_, _-_}
 use lib.Dec.{eqb}
 use lib.IntN.{ℤ}
 use lib.ListN.{length, getD}
-use Rattle.lists.specs.Lists.{any, upto}
+use Rattle.lists.specs.Lists.{any, from, lowest}
+use Rattle.sets.specs.Word.{dig}
+use Rattle.paper.specs.Refusals as No
+use Rattle.paper.specs.Refusals.{check, firstOf}
 use Rattle.paper.specs.Points.{samePoint}
-use Rattle.paper.specs.Drawing.{Wire, edgeAt, vertexOn, edgesMeet, onOpen, openMeets}
+use Rattle.paper.specs.Drawing.{Wire, pointsOf, samePlace}
+use Rattle.paper.specs.declared.Answer.{Answer}
 use Rattle.paper.specs.declared.Point.{Point}
 use Rattle.polygon.specs.Rings.{pointOf}
+use Rattle.drawing_segments.specs.declared.Both.{Both}
+use Rattle.fast_meets.specs.Pairs.{meetAt, offenders}
 
 -- the point of end k of the list
 abbrev pub endIn : List ℤ → List ℕ → ℕ → Point
 endIn xyz ends k = pointOf xyz (getD ends k 0)
 
--- rule 11: w is another vertex where u is; one of the v is
+-- edges e and f have a common end
+abbrev pub joinedIn : List ℕ → ℕ → ℕ → Bool
+joinedIn ends e f =
+    let a = getD ends (2 * e) 0 in
+    let b = getD ends (2 * e + 1) 0 in
+    let c = getD ends (2 * f) 0 in
+    let d = getD ends (2 * f + 1) 0 in
+    eqb a c || eqb a d || eqb b c || eqb b d
+
+-- rule 11: w is where u is; one of those after u is
 abbrev pub shareIn : List ℤ → ℕ → ℕ → Bool
-shareIn xyz u w = not (eqb u w) && samePoint (pointOf xyz u) (pointOf xyz w)
+shareIn xyz u w = samePoint (pointOf xyz u) (pointOf xyz w)
 
 abbrev pub sharedIn : List ℤ → ℕ → ℕ → Bool
-sharedIn xyz v u = any (shareIn xyz u) (upto v)
+sharedIn xyz v u = any (shareIn xyz u) (from (suc u) (v - suc u))
 
--- rule 13: vertex w is on the segment from a to b without its ends; one of the v is
-abbrev pub onIn : List ℤ → Point → Point → ℕ → Bool
-onIn xyz a b w = onOpen a b (pointOf xyz w)
+-- the answer of 11, of every drawing with these points
+abbrev pub Told11 : List ℤ → Answer → Type 0
+Told11 xyz r = (d : Wire) → d .vertices ≡ pointsOf xyz → r ≡ firstOf (check No.SamePlace (samePlace d) ∷ [])
 
-abbrev pub vertexMetIn : List ℤ → ℕ → Point → Point → Bool
-vertexMetIn xyz v a b = any (onIn xyz a b) (upto v)
+-- rule 13: whether e meets f, and f e
+abbrev pub bothAt : Wire → ℕ → ℕ → Both
+bothAt d e f = record { first = meetAt d e f; second = meetAt d f e }
 
--- f is another edge than e and meets the segment from a to b without its ends; one of them does
-abbrev pub meetIn : List ℤ → List ℕ → Point → Point → ℕ → ℕ → Bool
-meetIn xyz ends a b e f = not (eqb e f) && openMeets a b (endIn xyz ends (2 * f)) (endIn xyz ends (2 * f + 1))
-
-abbrev pub edgeMetIn : List ℤ → List ℕ → Point → Point → ℕ → Bool
-edgeMetIn xyz ends a b e = any (meetIn xyz ends a b e) (upto (length ends / 2))
-
--- the same of edge e of a drawing
-abbrev pub meetsAt : Wire → ℕ → Bool
-meetsAt d e =
-    any (vertexOn d (edgeAt d e)) (upto (length (d .vertices)))
-    || any (λ f. not (eqb e f) && edgesMeet d (edgeAt d e) (edgeAt d f)) (upto (length (d .edges)))
+-- the lowest of the edges that the pairs make offend
+abbrev pub Lowest13 : Wire → Answer → Type 0
+Lowest13 d r = r ≡ firstOf (check No.EdgeMeets (lowest (dig (offenders d)) (length (d .edges))) ∷ [])

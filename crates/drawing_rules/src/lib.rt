@@ -1,4 +1,6 @@
 // The drawing rules that need no loops: refusals 11 to 14, the first that applies being the answer. Assumes a drawing in range.
+mod boxes;
+mod ends;
 mod meets;
 mod places;
 

@@ -1,87 +1,119 @@
-// Rule 13, EdgeMeets: an edge shares a point with a vertex or an edge other than at its own end vertices. Assumes a drawing in range.
+// Rule 13, EdgeMeets: an edge shares a point with a vertex or an edge other than at its own end vertices. Each pair of edges is asked
+// once, boxes first; as every vertex is an end of an edge, no vertex is. Assumes a drawing in range that has passed 11 and 12.
 ghost use mathlib.Core.Path.{_≡_};
-ghost use mathlib.Core.List.{[], _∷_};
+ghost use mathlib.Core.Bool.{Bool};
+ghost use mathlib.Core.List.{List, [], _∷_};
+ghost use Prim.Native.Nat.{_<_};
 ghost use Rattle.paper.specs.Refusals as No;
 ghost use Rattle.paper.specs.Refusals.{check, firstOf};
-ghost use Rattle.paper.specs.Drawing.{wire, edgeMeets};
-ghost use Rattle.drawing_rules.specs.Asked.{Lists, EndAt, EdgeAt, ListsAndSegment, PointsAndSegment};
-ghost use Rattle.drawing_rules.specs.Meets.{endIn, vertexMetIn, edgeMetIn, meetsAt};
-use drawing_segments::on_open;
-use drawing_segments::open_meets;
-use lists::wide;
+ghost use Rattle.paper.specs.Drawing.{Wire, wire, edgeMeets};
+ghost use Rattle.sets.specs.Sets.{room, Is};
+ghost use Rattle.fast_meets.specs.Pairs.{mark, laterMarked, offenders};
+ghost use Rattle.drawing_rules.specs.Asked.{Passed, EdgesBoxed, EdgeBoxed, PairBoxed};
+ghost use Rattle.drawing_rules.specs.Meets.{bothAt, Lowest13};
+use super::boxes::CORNERS;
+use super::boxes::box_at;
+use super::boxes::put_boxes;
+use super::ends::are_joined;
+use super::ends::end_at;
+use drawing_segments::Both;
+use drawing_segments::are_apart;
+use drawing_segments::both_meet;
 use paper::Answer;
 use paper::EDGE_MEETS;
-use paper::Point;
 use paper_values::refused;
-use polygon::rings::point_at;
+use sets::Set;
 
-// The segment from a to b without its ends has one of the v vertices on it.
-fn meets_vertex(xyz: &[i64], v: usize, a: Point, b: Point) -> bool
-    requires { ⌜ PointsAndSegment (now xyz) v a b ⌝ }
-    ensures { λ r. ⌜ r ≡ vertexMetIn (now (xyz .entry)) v a b ⌝ }
+// Whether e meets f, and f e, each off its own ends.
+fn pair(
+    xyz: &[i64],
+    v: usize,
+    ends: &[u8],
+    low: &[i64; CORNERS],
+    high: &[i64; CORNERS],
+    e: usize,
+    f: usize,
+) -> Both
+    requires { ⌜ PairBoxed (now xyz) v (now ends) (now low) (now high) e f ⌝ }
+    ensures { λ r. ⌜ r ≡ bothAt (wire (now (xyz .entry)) (now (ends .entry))) e f ⌝ }
 {
-    let mut w = 0;
-    while w < v {
-        if on_open(a, b, point_at(xyz, w)) {
-            return true;
-        }
-        w += 1;
+    if are_apart(box_at(low, high, e), box_at(low, high, f)) {
+        return Both {
+            first: false,
+            second: false,
+        };
     }
-    false
-}
-
-// The place of end k of the list.
-fn end_at(xyz: &[i64], v: usize, ends: &[u8], k: usize) -> Point
-    requires { ⌜ EndAt (now xyz) v (now ends) k ⌝ }
-    ensures { λ p. ⌜ p ≡ endIn (now (xyz .entry)) (now (ends .entry)) k ⌝ }
-{
-    point_at(xyz, wide(ends[k]))
-}
-
-// Edge e, which goes from a to b, meets another edge.
-fn meets_edge(xyz: &[i64], v: usize, ends: &[u8], e: usize, a: Point, b: Point) -> bool
-    requires { ⌜ ListsAndSegment (now xyz) v (now ends) a b ⌝ }
-    ensures { λ r. ⌜ r ≡ edgeMetIn (now (xyz .entry)) (now (ends .entry)) a b e ⌝ }
-{
-    let n = ends.len() / 2;
-    let mut f = 0;
-    while f < n {
-        if f != e {
-            let c = end_at(xyz, v, ends, 2 * f);
-            let d = end_at(xyz, v, ends, 2 * f + 1);
-            if open_meets(a, b, c, d) {
-                return true;
-            }
-        }
-        f += 1;
-    }
-    false
-}
-
-// Edge e meets a vertex or another edge.
-fn meets(xyz: &[i64], v: usize, ends: &[u8], e: usize) -> bool
-    requires { ⌜ EdgeAt (now xyz) v (now ends) e ⌝ }
-    ensures { λ r. ⌜ r ≡ meetsAt (wire (now (xyz .entry)) (now (ends .entry))) e ⌝ }
-{
     let a = end_at(xyz, v, ends, 2 * e);
     let b = end_at(xyz, v, ends, 2 * e + 1);
-    if meets_vertex(xyz, v, a, b) {
-        return true;
+    let c = end_at(xyz, v, ends, 2 * f);
+    let d = end_at(xyz, v, ends, 2 * f + 1);
+    both_meet(a, b, c, d, are_joined(ends, e, f))
+}
+
+// The set, with k where it offends.
+fn mark(hit: Set, k: usize, offends: bool) -> Set
+    requires { ⌜ k < room ⌝ }
+    ensures { λ r. ⌜ ((w : List Bool) → Is hit w → Is r (mark offends k w)) ⌝ }
+{
+    if offends { hit.with(k) } else { hit }
+}
+
+// The set, with what e and the later edges make offend.
+fn meets(
+    xyz: &[i64],
+    v: usize,
+    ends: &[u8],
+    low: &[i64; CORNERS],
+    high: &[i64; CORNERS],
+    e: usize,
+    hit: Set,
+) -> Set
+    requires { ⌜ EdgeBoxed (now xyz) v (now ends) (now low) (now high) e ⌝ }
+    ensures { λ r. ⌜ ((w : List Bool) → Is hit w → Is r (laterMarked (wire (now (xyz .entry)) (now (ends .entry))) e w)) ⌝ }
+{
+    let n = ends.len() / 2;
+    let mut met = hit;
+    let mut f = e + 1;
+    while f < n {
+        let both = pair(xyz, v, ends, low, high, e, f);
+        met = mark(met, e, both.first);
+        met = mark(met, f, both.second);
+        f += 1;
     }
-    meets_edge(xyz, v, ends, e, a, b)
+    met
+}
+
+// The edges that offend.
+fn offenders(xyz: &[i64], v: usize, ends: &[u8], low: &[i64; CORNERS], high: &[i64; CORNERS]) -> Set
+    requires { ⌜ EdgesBoxed (now xyz) v (now ends) (now low) (now high) ⌝ }
+    ensures { λ r. ⌜ Is r (offenders (wire (now (xyz .entry)) (now (ends .entry)))) ⌝ }
+{
+    let n = ends.len() / 2;
+    let mut hit = Set::none();
+    let mut e = 0;
+    while e < n {
+        hit = meets(xyz, v, ends, low, high, e, hit);
+        e += 1;
+    }
+    hit
+}
+
+// The lowest of them.
+fn lowest(hit: Set) -> Answer
+    ensures { λ r. ⌜ ((d : Wire) → Is hit (offenders d) → Lowest13 d r) ⌝ }
+{
+    if hit.count() == 0 {
+        return Answer::Fine;
+    }
+    refused(EDGE_MEETS, hit.lowest())
 }
 
 pub fn edge_meets(xyz: &[i64], v: usize, ends: &[u8]) -> Answer
-    requires { ⌜ Lists (now xyz) v (now ends) ⌝ }
+    requires { ⌜ Passed (now xyz) v (now ends) ⌝ }
     ensures { λ r. ⌜ r ≡ firstOf (check No.EdgeMeets (edgeMeets (wire (now (xyz .entry)) (now (ends .entry)))) ∷ []) ⌝ }
 {
-    let n = ends.len() / 2;
-    let mut e = 0;
-    while e < n {
-        if meets(xyz, v, ends, e) {
-            return refused(EDGE_MEETS, e);
-        }
-        e += 1;
-    }
-    Answer::Fine
+    let mut low = [0i64; CORNERS];
+    let mut high = [0i64; CORNERS];
+    put_boxes(xyz, v, ends, &mut low, &mut high);
+    lowest(offenders(xyz, v, ends, &low, &high))
 }

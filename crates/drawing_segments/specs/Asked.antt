@@ -1,13 +1,10 @@
 -- What the functions of this crate ask of points and directions. Assumes nothing.
+use mathlib.Core.Path.{_≡_}
+use mathlib.Core.Bool.{Bool, true}
 use Rattle.paper.specs.Numbers.{farthest}
 use Rattle.paper.specs.declared.Point.{Point}
 use Rattle.polygon.specs.Sizes.{PointWithin, mostStep, mostNormal}
-
--- the segment from a to b, and a point
-pub record SegmentAndPoint (a b p : Point) : Type 0 where
-  pub a-in : PointWithin farthest a
-  pub b-in : PointWithin farthest b
-  pub p-in : PointWithin farthest p
+use Rattle.fast_meets.specs.Theorems.{Longs, EndShared}
 
 -- the segments from a to b and from c to d
 pub record TwoSegments (a b c d : Point) : Type 0 where
@@ -16,11 +13,11 @@ pub record TwoSegments (a b c d : Point) : Type 0 where
   pub c-in : PointWithin farthest c
   pub d-in : PointWithin farthest d
 
--- three steps
-pub record AlongWithin (p r s : Point) : Type 0 where
-  pub p-in : PointWithin mostStep p
-  pub r-in : PointWithin mostStep r
-  pub s-in : PointWithin mostStep s
+-- neither is a point, and they have a common end where `joined` says so
+pub record Pair (a b c d : Point) (joined : Bool) : Type 0 where
+  pub segments : TwoSegments a b c d
+  pub long : Longs a b c d
+  pub shared : joined ≡ true → EndShared a b c d
 
 -- three steps, and the cross product of two
 pub record AcrossWithin (p q r n : Point) : Type 0 where

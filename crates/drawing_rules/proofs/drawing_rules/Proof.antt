@@ -9,9 +9,10 @@ use borrow.Author.Needs.{needs}
 use Rattle.paper.specs.Drawing.{Wire, apart, drawingChecks, edgeMeets, ends, looseVertex, samePlace, wire}
 use Rattle.paper.specs.Format.{editionOne}
 use Rattle.paper.specs.Refusals.{Apart, Check, EdgeMeets, LooseVertex, SamePlace, check, firstOf}
+use Rattle.paper.specs.declared.Answer.the-variants.{Fine}
 use Rattle.paper_laws.specs.InRange.{Ends, Points}
 use Rattle.drawing_links.specs.Neighbours.{Links}
-use Rattle.paper_laws.proofs.Checks.{first-stops, first-passes}
+use Rattle.paper_laws.proofs.Checks.{first-passes, first-stops, found-none}
 use Rattle.drawing_rules.proofs.Vertices.{vertex-count}
 use Rattle.drawing_links.proofs.Words.{links-are}
 use Rattle.drawing_rules.proofs.drawing_rules.Statement.{statement}
@@ -88,21 +89,28 @@ c13 c = check EdgeMeets (edgeMeets (D c))
 abbrev c14 : tie.Start → Check
 c14 c = check Apart (apart (D c))
 
+fine-11 : (c : tie.After-enum-told2) → Fine ≡ firstOf (c11 (start c) ∷ [])
+unfolding wire
+fine-11 c = sym (c .enum-told2 .given .1) ∙ c .before .before .same-place .ensures (D (start c)) refl
+
+fine-12 : (c : tie.After-enum-told4) → Fine ≡ firstOf (c12 (begun (loose-asked c)) ∷ [])
+fine-12 c =
+    let l = loose-asked c in
+    sym (c .enum-told4 .given .1) ∙ l .loose-vertex .ensures (D (begun l)) (links (linked l))
+
 passed-11 : (c : tie.After-enum-told2)
     → let s = start c in firstOf (c12 s ∷ c13 s ∷ c14 s ∷ []) ≡ firstOf (drawingChecks (D s))
-unfolding wire drawingChecks
+unfolding drawingChecks
 passed-11 c =
     let s = start c in
-    let fine = sym (c .enum-told2 .given .1) ∙ c .before .before .same-place .ensures (D s) refl in
-    first-passes (c11 s ∷ []) (c12 s ∷ c13 s ∷ c14 s ∷ []) fine
+    first-passes (c11 s ∷ []) (c12 s ∷ c13 s ∷ c14 s ∷ []) (fine-11 c)
 
 passed-12 : (c : tie.After-enum-told4)
     → let s = begun (loose-asked c) in firstOf (c13 s ∷ c14 s ∷ []) ≡ firstOf (drawingChecks (D s))
 passed-12 c =
     let l = loose-asked c in
     let s = begun l in
-    let fine = sym (c .enum-told4 .given .1) ∙ l .loose-vertex .ensures (D s) (links (linked l)) in
-    first-passes (c12 s ∷ []) (c13 s ∷ c14 s ∷ []) fine ∙ passed-11 (apart-places (linked l))
+    first-passes (c12 s ∷ []) (c13 s ∷ c14 s ∷ []) (fine-12 c) ∙ passed-11 (apart-places (linked l))
 
 passed-13 : (c : tie.After-enum-told6)
     → let s = begun (loose-asked (tied (meets-asked c))) in firstOf (c14 s ∷ []) ≡ firstOf (drawingChecks (D s))
@@ -153,8 +161,13 @@ enum-told-4 c = search needs
 
 edge-meets-requires : tie.Need-edge-meets-requires
 edge-meets-requires c κs =
-    let s = begun (loose-asked c) in
-    record { points = points-in s; links = ends-in s }
+    let l = loose-asked c in
+    let s = begun l in
+    record {
+      lists = record { points = points-in s; links = ends-in s };
+      places = found-none SamePlace [] (fine-11 (apart-places (linked l))) .0;
+      tied = found-none LooseVertex [] (fine-12 c) .0;
+    }
 
 enum-told-5 : tie.Need-enum-told-5
 enum-told-5 c = search needs

@@ -1,83 +1,80 @@
--- `drawing_segments::along`: the overlap is asked only of segments on one line, as `&&` does, and no product is too large. Assumes
--- nothing.
-use Rattle.polygon.proofs.Sizes.{small-up}
-use mathlib.Core.Bool.{Bool, _&&_}
+-- `drawing_segments::along`: the overlap is asked only of segments on one line, as `&&` does, both ways round. Assumes nothing.
+use mathlib.Core.Bool.{Bool, _&&_, false, true}
 use mathlib.Core.Path.{_∙_, _≡_, ap, sym}
 use borrow.Author.Needs.{needs}
 use borrow.Author.Tests.{not-false, not-true}
-use Rattle.paper.specs.Drawing.{overlap}
-use Rattle.paper.specs.Points.{cross, dot, isOrigin}
-use Rattle.polygon.proofs.Zeros.{reads-back}
+use Rattle.paper.specs.Points.{cross, isOrigin, minus}
+use Rattle.polygon.proofs.Sizes.{minus-small, small-eq}
+use Rattle.fast_meets.specs.Theorems.{laps}
+use Rattle.drawing_segments.specs.Ways.{answers, bothAlong}
 use Rattle.drawing_segments.proofs.along.Statement.{statement}
 use Rattle.drawing_segments.proofs.along.Tie as tie
 
 -- ---- the ways back
 
-abbrev start : tie.After-is-origin → tie.Start
-start c = c .before .before
+abbrev start : tie.After-cross → tie.Start
+start c = c .before .before .before
 
-abbrev inLine : tie.After-overlap → tie.Else1
-inLine c = c .before .before .before .before
+abbrev inLine : tie.After-laps2 → tie.Else1
+inLine c = c .before .before
 
--- what `is_origin` said
-line : (c : tie.After-is-origin) {b : Bool} → c .is-origin .result ≡ b → isOrigin (cross (start c .args .p) (start c .args .r)) ≡ b
-line c e = ap isOrigin (sym (c .before .cross .ensures)) ∙ sym (c .is-origin .ensures) ∙ e
+-- ---- the answers by what `is_origin` said
+
+answer : (c : tie.After-is-origin) (t : Bool) → c .is-origin .result ≡ t
+    → let a = start (c .before) .args in
+    answers (t && laps (a .a) (a .b) (a .c) (a .d)) (t && laps (a .c) (a .d) (a .a) (a .b)) ≡ bothAlong (a .a) (a .b) (a .c) (a .d)
+answer c t e =
+    let x = c .before in
+    let a = start x .args in
+    let steps = x .cross .ensures ∙ (λ i. cross (x .before .before .minus .ensures i) (x .before .minus2 .ensures i)) in
+    ap (λ (t : Bool). answers (t && laps (a .a) (a .b) (a .c) (a .d)) (t && laps (a .c) (a .d) (a .a) (a .b)))
+    (sym e ∙ c .is-origin .ensures ∙ ap isOrigin steps)
 
 -- ---- the needs
 
+minus-requires : tie.Need-minus-requires
+minus-requires c κs = search needs
+
+minus-requires-2 : tie.Need-minus-requires-2
+minus-requires-2 c κs = search needs
+
 cross-requires : tie.Need-cross-requires
-cross-requires c κs = search needs
+cross-requires c κs =
+    let s = c .before .before .pre in
+    record {
+      a-in = small-eq (c .before .minus .ensures) (minus-small (s .b-in) (s .a-in));
+      b-in = small-eq (c .minus2 .ensures) (minus-small (s .c-in) (s .a-in));
+    }
 
 is-origin-requires : tie.Need-is-origin-requires
 is-origin-requires c κs = search needs
 
 returns : tie.Need-returns
-returns c =
-    let o = c .before in
-    let a = start o .args in
-    let laps = overlap (dot (a .p) (a .r)) (dot (a .p) (a .s)) (dot (a .p) (a .p)) in
-    ap (λ (b : Bool). b && laps) (sym (line o (not-true (o .is-origin .result) (c .if1 .taken))))
+returns c = let o = c .before in answer o false (not-true (o .is-origin .result) (c .if1 .taken))
 
-dot-requires : tie.Need-dot-requires
-dot-requires c κs =
-    let s = start (c .before) .pre in
-    record { a-in = small-up tt (s .p-in); b-in = small-up tt (s .r-in) }
+laps-requires : tie.Need-laps-requires
+laps-requires c κs = search needs
 
-dot-requires-2 : tie.Need-dot-requires-2
-dot-requires-2 c κs =
-    let s = start (c .before .before) .pre in
-    record { a-in = small-up tt (s .p-in); b-in = small-up tt (s .s-in) }
-
-dot-requires-3 : tie.Need-dot-requires-3
-dot-requires-3 c κs =
-    let s = start (c .before .before .before) .pre in
-    record { a-in = small-up tt (s .p-in); b-in = small-up tt (s .p-in) }
-
-overlap-requires : tie.Need-overlap-requires
-overlap-requires c κs = search needs
+laps-requires-2 : tie.Need-laps-requires-2
+laps-requires-2 c κs = search needs
 
 returns-2 : tie.Need-returns-2
 returns-2 c =
     let e = inLine c in
     let o = e .before in
-    let d1 = c .before .before .before .dot in
-    let d2 = c .before .before .dot2 in
-    let d3 = c .before .dot3 in
-    let a = reads-back (d1 .result) (d1 .ok) ∙ d1 .ensures in
-    let b = reads-back (d2 .result) (d2 .ok) ∙ d2 .ensures in
-    let m = reads-back (d3 .result) (d3 .ok) ∙ d3 .ensures in
-    let straight = sym (line o (not-false (o .is-origin .result) (e .if1 .left))) in
-    c .overlap .ensures ∙ (λ i. straight i && overlap (a i) (b i) (m i))
+    let one = c .before .laps .ensures in
+    let other = c .laps2 .ensures in
+    (λ i. answers (one i) (other i)) ∙ answer o true (not-false (o .is-origin .result) (e .if1 .left))
 
 pub along-spec : {M : Type 1} → statement M
 along-spec =
     tie.close
     (tie.spec
+    minus-requires
+    minus-requires-2
     cross-requires
     is-origin-requires
     returns
-    dot-requires
-    dot-requires-2
-    dot-requires-3
-    overlap-requires
+    laps-requires
+    laps-requires-2
     returns-2)

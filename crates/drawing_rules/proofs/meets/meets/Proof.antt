@@ -1,111 +1,117 @@
--- `drawing_rules::meets::meets`: the two tests on the lent lists, one after the other, are the rule's test of the edge. Assumes
--- nothing.
-use Rattle.polygon.specs.Sizes.{PointWithin}
-use Rattle.paper.specs.Numbers.{farthest}
-use mathlib.Core.Bool.{Bool, _||_, not}
-use mathlib.Core.Path.{_∙_, _≡_, ap, sym}
-use Prim.Native.Nat.{_*_, _+_}
+-- `drawing_rules::meets::meets`: the loop keeps that what is left to mark makes the whole of what is marked. Assumes nothing.
+use mathlib.Core.Bool.{Bool}
+use mathlib.Core.List.{List}
+use mathlib.Core.Path.{_∙_, _≡_, ap, subst, sym}
+use Prim.Native.Nat.{_-_, _≤_, ℕ}
+use native.Mathlib.Omega.{arith}
+use lib.ListN.{length}
 use denote.Ref.{now}
-use borrow.Author.Needs.{needs}
-use Rattle.paper.specs.Drawing.{ends, wire}
-use Rattle.paper.specs.declared.Point.{Point}
-use Rattle.polygon.proofs.Sizes.{small-eq}
-use Rattle.drawing_rules.specs.Meets.{meetsAt, endIn, vertexMetIn, edgeMetIn}
-use Rattle.drawing_rules.proofs.Meeting.{meets-is}
-use Rattle.drawing_rules.proofs.Vertices.{vertex-small}
+use Rattle.sets.specs.Sets.{Is}
+use Rattle.sets.specs.declared.Set.{Set}
+use Rattle.paper.specs.Drawing.{Wire, wire}
+use Rattle.drawing_segments.specs.declared.Both.{Both}
+use Rattle.fast_meets.specs.Pairs.{mark, laterMarked, meetAt, pairMarked}
+use Rattle.fast_meets.proofs.Steps.{rest-end, rest-start, rest-turn, restOf}
+use Rattle.drawing_links.proofs.Edges.{edge-count, half-count}
 use Rattle.drawing_rules.proofs.meets.meets.Statement.{statement}
 use Rattle.drawing_rules.proofs.meets.meets.Tie as tie
 
+-- what the loop keeps, of edge e of the drawing d
+record Marking (d : Wire) (e n : ℕ) (hit met : Set) (f : ℕ) : Type 0 where
+  pub not-past : f ≤ n
+  pub whole : n ≡ length (d .edges)
+  pub left : (w : List Bool) → Is hit w → (u : List Bool) × Is met u × (laterMarked d e w ≡ restOf d e f u)
+
+abbrev Inv-loop : tie.InvT-loop
+Inv-loop xyz v ends low high e n met₀ f₀ met f = Marking (wire xyz ends) e n met₀ met f
+
+abbrev μ-loop : tie.MeasureT-loop
+μ-loop xyz v ends low high e n met₀ f₀ met f = n - f
+
 -- ---- the ways back
 
-abbrev start : tie.After-end-at2 → tie.Start
-start c = c .before .before .before
+abbrev start : tie.At-loop Inv-loop μ-loop → tie.Start Inv-loop μ-loop
+start c = c .before .before
 
-abbrev ended : tie.Else1 → tie.After-end-at2
-ended c = c .before .before
-
--- ---- the edge's own ends, and the two tests
-
-abbrev A : tie.Start → Point
-A c = let a = c .args in endIn (now (a .xyz)) (now (a .ends)) (2 * a .e)
-
-abbrev B : tie.Start → Point
-B c = let a = c .args in endIn (now (a .xyz)) (now (a .ends)) (2 * a .e + 1)
-
-abbrev byVertex : tie.Start → Bool
-byVertex c = vertexMetIn (now (c .args .xyz)) (c .args .v) (A c) (B c)
-
-abbrev byEdge : tie.Start → Bool
-byEdge c = edgeMetIn (now (c .args .xyz)) (now (c .args .ends)) (A c) (B c) (c .args .e)
-
-by-vertex : (c : tie.After-meets-vertex) {b : Bool} → c .meets-vertex .result ≡ b → byVertex (start (c .before)) ≡ b
-by-vertex c e =
-    let d = c .before in
-    let a = start d .args in
-    let p = d .before .end-at .ensures in
-    sym (c .meets-vertex .ensures ∙ (λ i. vertexMetIn (now (a .xyz)) (a .v) (p i) (d .end-at2 .ensures i))) ∙ e
-
-answer : (c : tie.Start) → (byVertex c || byEdge c) ≡ meetsAt (wire (now (c .args .xyz)) (now (c .args .ends))) (c .args .e)
-answer c = let l = c .pre .lists in meets-is (l .points) (l .links) (c .args .e) (c .pre .e-in)
-
-a-small : (c : tie.After-end-at2) → PointWithin farthest (c .before .end-at .result)
-a-small c = small-eq (c .before .end-at .ensures) (vertex-small (start c .pre .lists .points) _)
-
-b-small : (c : tie.After-end-at2) → PointWithin farthest (c .end-at2 .result)
-b-small c = small-eq (c .end-at2 .ensures) (vertex-small (start c .pre .lists .points) _)
+abbrev turn : tie.After-pair Inv-loop μ-loop → tie.At-loop Inv-loop μ-loop
+turn c = c .before .before
 
 -- ---- the needs
 
-mul-end-at : tie.Need-mul-end-at
-mul-end-at c = search needs
+add-f : tie.Need-add-f Inv-loop μ-loop
+add-f c = omega arith
 
-end-at-requires : tie.Need-end-at-requires
-end-at-requires c κs = search needs
+loop-holds : tie.Need-loop-holds Inv-loop μ-loop
+unfolding wire
+loop-holds c =
+    let s = c .before in
+    let q = s .pre .edges .lists .links in
+    let d = wire (now (s .args .xyz)) (now (s .args .ends)) in
+    record {
+      not-past = omega (arith, s .pre .e-in);
+      whole = half-count q ∙ sym (edge-count q);
+      left = λ w i. (w, i, rest-start d (s .args .e) w);
+    }
 
-mul-end-at-2 : tie.Need-mul-end-at-2
-mul-end-at-2 c = search needs
+pair-requires : tie.Need-pair-requires Inv-loop μ-loop
+pair-requires c κs =
+    let p = start (c .before) .pre in
+    record { edges = p .edges; pair = record { e-in = p .e-in; f-in = omega arith } }
 
-add-end-at : tie.Need-add-end-at
-add-end-at c = search needs
+mark-requires : tie.Need-mark-requires Inv-loop μ-loop
+mark-requires c κs = let p = start (turn c) .pre in omega (arith, p .e-in, p .edges .lists .links .whole, p .edges .lists .links .most)
 
-end-at-requires-2 : tie.Need-end-at-requires-2
-end-at-requires-2 c κs = search needs
+mark-requires-2 : tie.Need-mark-requires-2 Inv-loop μ-loop
+mark-requires-2 c κs = let p = start (turn (c .before)) .pre in omega (arith, p .edges .lists .links .whole, p .edges .lists .links .most)
 
-meets-vertex-requires : tie.Need-meets-vertex-requires
-meets-vertex-requires c κs = record { points = start c .pre .lists .points; a-in = a-small c; b-in = b-small c }
+add-f-2 : tie.Need-add-f-2 Inv-loop μ-loop
+add-f-2 c = omega arith
 
-returns : tie.Need-returns
-returns c =
-    let s = start (c .before .before) in
-    ap (λ (b : Bool). b || byEdge s) (sym (by-vertex (c .before) (c .if1 .taken))) ∙ answer s
+loop-less : tie.Need-loop-less Inv-loop μ-loop
+loop-less c = omega arith
 
-meets-edge-requires : tie.Need-meets-edge-requires
-meets-edge-requires c κs =
-    let d = ended c in
-    record { lists = start d .pre .lists; a-in = a-small d; b-in = b-small d }
+loop-again : tie.Need-loop-again Inv-loop μ-loop
+unfolding pairMarked
+loop-again c =
+    let p = c .before .before in
+    let l = turn p .loop in
+    let a = start (turn p) .args in
+    let d = wire (now (a .xyz)) (now (a .ends)) in
+    record {
+      not-past = omega arith;
+      whole = l .inv .whole;
+      left = λ w i.
+          let r = l .inv .left w i in
+          let u = r .0 in
+          let one = c .before .mark .ensures u (r .1) in
+          let two = c .mark2 .ensures (mark (p .pair .result .first) (a .e) u) one in
+          let marked = ap (λ (b : Both). mark (b .second) (l .f) (mark (b .first) (a .e) u)) (p .pair .ensures) in (
+            pairMarked (meetAt d) (a .e) (l .f) u,
+            subst (Is (c .mark2 .result)) marked two,
+            r .2 ∙ rest-turn d (a .e) (l .f) u (omega (arith, l .inv .whole)),
+          );
+    }
 
-returns-2 : tie.Need-returns-2
-returns-2 c =
-    let e = c .before in
-    let d = ended e in
-    let s = start d in
-    let p = d .before .end-at .ensures in
-    let q = d .end-at2 .ensures in
-    c .meets-edge .ensures
-    ∙ (λ i. edgeMetIn (now (s .args .xyz)) (now (s .args .ends)) (p i) (q i) (s .args .e))
-    ∙ ap (λ (b : Bool). b || byEdge s) (sym (by-vertex (e .before) (e .if1 .left)))
-    ∙ answer s
+returns : tie.Need-returns Inv-loop μ-loop
+returns c = λ w i.
+    let l = c .before .loop in
+    let s = start (c .before) in
+    let d = wire (now (s .args .xyz)) (now (s .args .ends)) in
+    let r = l .inv .left w i in
+    subst (Is (l .met)) (sym (r .2 ∙ rest-end d (s .args .e) (l .f) (r .0) (omega (arith, l .inv .whole)))) (r .1)
 
 pub meets-spec : {M : Type 1} → statement M
 meets-spec =
     tie.close
     (tie.spec
-    mul-end-at
-    end-at-requires
-    mul-end-at-2
-    add-end-at
-    end-at-requires-2
-    meets-vertex-requires
-    returns
-    meets-edge-requires
-    returns-2)
+    Inv-loop
+    μ-loop
+    add-f
+    loop-holds
+    pair-requires
+    mark-requires
+    mark-requires-2
+    add-f-2
+    loop-less
+    loop-again
+    returns)

@@ -1,12 +1,12 @@
--- `drawing_rules::meets::end_at`: an end of the list is one of the vertices, so its point can be read. Assumes nothing.
+-- `drawing_rules::ends::end_at`: an end of the list is one of the vertices, so its point can be read. Assumes nothing.
 use mathlib.Core.Path.{_∙_, ap}
 use native.Mathlib.Omega.{arith}
 use denote.Ref.{now}
 use borrow.Author.Needs.{needs}
 use Rattle.polygon.specs.Rings.{pointOf}
 use Rattle.drawing_rules.proofs.Vertices.{vertex-read}
-use Rattle.drawing_rules.proofs.meets.end_at.Statement.{statement}
-use Rattle.drawing_rules.proofs.meets.end_at.Tie as tie
+use Rattle.drawing_rules.proofs.ends.end_at.Statement.{statement}
+use Rattle.drawing_rules.proofs.ends.end_at.Tie as tie
 
 shared-slice-read-wide : tie.Need-shared-slice-read-wide
 shared-slice-read-wide c = search needs

@@ -1,0 +1,3 @@
+-- The laws that this crate's proofs share. Assumes nothing.
+pub mod Bits
+pub mod Answers
