@@ -1,26 +1,56 @@
+-- `loop_known::known_loops`: what the search and the words ensure, for the drawing that the lists are of. Assumes nothing.
+use Prim.Native.Nat.{_≤_}
+use native.Mathlib.Omega.{arith}
+use denote.Ref.{now}
 use borrow.Author.Needs.{needs}
+use Rattle.paper.specs.Numbers.{mostLoops}
+use Rattle.paper.specs.Drawing.{wire}
+use Rattle.loop_known.proofs.Loops.{points-in, few-vertices, clear, too-many, drawn, all-known}
 use Rattle.loop_known.proofs.known_loops.Statement.{statement}
 use Rattle.loop_known.proofs.known_loops.Tie as tie
-use Rattle.loop_known.proofs.known_loops.Reads as reads
-use Rattle.loop_known.proofs.known_loops.Lts as lts
-use Rattle.loop_search.proofs.search.Reads as search-reads
-use Rattle.loop_words.proofs.loop_words.Reads as loop-words-reads
 
--- src/lib.rt:27:9
+-- ---- the ways back from behind the search, and to it
+
+abbrev start : tie.After-search → tie.Start
+start c = c .before .before .before
+
+abbrev searched : tie.After-loop-words-arg4 → tie.After-search
+searched c = c .before .before .before .before .before
+
+-- ---- the needs
+
 search-requires : tie.Need-search-requires
-search-requires c κs = search needs
+search-requires c κs =
+    let g = c .before .before .pre in
+    record {
+      points = points-in (g .drawn);
+      few = few-vertices (g .drawn);
+      sized = record { table-long = g .table-long; planes-long = g .planes-long; most = omega arith };
+    }
 
--- src/lib.rt:29:9
 returns : tie.Need-returns
-returns c = ?
+returns c ends a =
+    let s = c .before in
+    let r = start s .args in
+    too-many a (s .search .ensures (wire (now (r .xyz)) ends) (clear a)) (omega arith) (now (r .corners)) (now (r .sides))
 
--- src/lib.rt:31:5
 loop-words-requires : tie.Need-loop-words-requires
-loop-words-requires c κs = ?
+loop-words-requires c κs =
+    let s = searched c in
+    let g = start s .pre in
+    record {
+      drawn = drawn (g .drawn) (s .search .ensures (wire (now (start s .args .xyz)) (g .ends)) (clear (g .drawn))) (omega arith);
+      corner-room = omega (arith, g .corners-long);
+      side-room = omega (arith, g .sides-long);
+    }
 
--- src/lib.rt:14:1
 returns-2 : tie.Need-returns-2
-returns-2 c = ?
+returns-2 c ends a =
+    let s = searched (c .before) in
+    let r = start s .args in
+    let f = s .search .ensures (wire (now (r .xyz)) ends) (clear a) in
+    let few : s .search .result ≤ mostLoops = omega arith in
+    all-known a f few (now (r .corners)) (c .loop-words .last .1 .1 .1 .0) (now (r .sides)) (c .loop-words .last .1 .1 .1 .1 .0) (c .loop-words .ensures (drawn a f few))
 
 pub known-loops-spec : {M : Type 1} → statement M
 known-loops-spec = tie.close (tie.spec search-requires returns loop-words-requires returns-2)

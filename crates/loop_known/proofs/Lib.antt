@@ -1,0 +1,2 @@
+-- Laws of what is known of a drawing's loops. Assumes nothing.
+pub mod Loops
