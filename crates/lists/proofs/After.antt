@@ -1,10 +1,10 @@
 -- Entries that are written one behind the other, so many for each element of a list. Assumes nothing.
 use mathlib.Core.Path.{_≡_, refl, sym, ap, _∙_}
 use mathlib.Core.List.{List, [], _∷_, _++_, flatMap, append-assoc, append-nil}
-use Prim.Native.Nat.{ℕ, zero, suc, _+_, _*_, _<_}
+use Prim.Native.Nat.{ℕ, zero, suc, _+_, _*_, _≤_, _<_}
 use native.Mathlib.Nat.{mul-suc}
 use native.Mathlib.Omega.{arith}
-use lib.ListN.{length, getD, take, drop, length-append, List·getD-append}
+use lib.ListN.{length, getD, take, drop, length-append, length-drop, List·getD-append}
 use lib.Seq.{paste, take-at, drop-at, drop-drop, take-all, getD-append-add}
 use Rattle.lists.specs.After.{after}
 
@@ -13,6 +13,11 @@ module _ {A B : Type 0} (f : A → List B) where
   unfolding flatMap
   each-snoc [] x = append-nil (f x)
   each-snoc (y ∷ xs) x = ap (λ (t : List B). f y ++ t) (each-snoc xs x) ∙ sym (append-assoc (f y) (flatMap f xs) (f x))
+
+-- nothing written
+pub after-none : {A B : Type 0} (f : A → List B) (k : ℕ) (room : List B) → room ≡ after f k [] room
+unfolding flatMap
+after-none {A} {B} f k room = let s : 0 ≡ k * 0 = omega arith in ap (λ (n : ℕ). drop n room) s
 
 module _ {A B : Type 0} (f : A → List B) (k : ℕ) (z : A) where
   -- f makes k entries of each element
@@ -46,6 +51,12 @@ module _ {A B : Type 0} (f : A → List B) (k : ℕ) (z : A) where
   module _ (xs : List A) (wide : Wide xs) (room : List B) where
     rest : drop (k * length xs) (after f k xs room) ≡ drop (k * length xs) room
     rest = drop-at (flatMap f xs) (drop (k * length xs) room) (k * length xs) (each-long xs wide)
+
+    -- as long as it was
+    pub after-long : k * length xs ≤ length room → length (after f k xs room) ≡ length room
+    after-long h =
+        length-append (flatMap f xs) (drop (k * length xs) room)
+        ∙ omega (arith, each-long xs wide, length-drop (k * length xs) room)
 
     -- written again, it is the same
     pub after-again : after f k xs (after f k xs room) ≡ after f k xs room

@@ -1,26 +1,34 @@
 -- The rows of a table that holds loops, read as the code reads them, and one row more. Assumes nothing.
-use mathlib.Core.Path.{_≡_, refl, sym, ap, _∙_}
+use mathlib.Core.Path.{_≡_, sym, ap, _∙_}
 use mathlib.Core.List.{List, [], _∷_, _++_, flatMap}
-use Prim.Native.Nat.{ℕ, suc, _+_, _*_, _≤_, _<_}
+use Prim.Native.Nat.{ℕ, zero, suc, _+_, _*_, _≤_, _<_}
 use native.Mathlib.Omega.{arith}
 use lib.ListN.{length, getD, take, drop, length-append, length-drop}
 use lib.Seq.{paste, ext-getD, getD-take, getD-drop, length-take-le}
-use Rattle.lists.proofs.After.{after-more, after-again, after-at}
+use Rattle.lists.proofs.After.{after-long, after-more, after-again, after-at}
 use Rattle.paper.specs.Numbers.{mostCorners, rowBytes}
 use Rattle.paper.specs.Loops.{Loop, loopAt, row}
 use Rattle.paper_laws.proofs.Rows.{Short, rows-wide, rows-long, row-first, row-corner, row-length}
 use Rattle.polygon.specs.Rings.{countIn, vertexIn, loopIn}
 use Rattle.loop_table.specs.Tables.{rowsAfter, HoldsRows}
 
+-- ---- one loop more is short too
+pub short-more : (ls : List Loop) → Short ls → (l : Loop) → length l ≤ mostCorners → Short (ls ++ l ∷ [])
+short-more [] short l most zero h = most
+short-more [] short l most (suc k) h = absurd (omega arith)
+short-more (x ∷ ls) short l most zero h = short 0 (omega arith)
+short-more (x ∷ ls) short l most (suc k) h = short-more ls (λ i m. short (suc i) (omega arith)) l most k (omega arith)
+
 -- ---- a table that rows were written to holds them
 pub rows-held : (ls : List Loop) → Short ls → (table before : List ℕ) → table ≡ rowsAfter ls before → HoldsRows table ls
 rows-held ls short table before e = e ∙ sym (ap (rowsAfter ls) e ∙ after-again row rowBytes [] ls (rows-wide ls short) before)
 
--- none written, and one row more
-pub rows-none : (before : List ℕ) → before ≡ rowsAfter [] before
-unfolding flatMap
-rows-none before = refl
+-- it is as long as it was
+pub rows-kept : (ls : List Loop) → Short ls → (table before : List ℕ) → rowBytes * length ls ≤ length before → table ≡ rowsAfter ls before
+    → length table ≡ length before
+rows-kept ls short table before h e = ap length e ∙ after-long row rowBytes [] ls (rows-wide ls short) before h
 
+-- one row more
 pub row-more : (ls : List Loop) → Short ls → (l : Loop) → length l ≤ mostCorners → (table before : List ℕ) → table ≡ rowsAfter ls before
     → paste table (rowBytes * length ls) (row l) rowBytes ≡ rowsAfter (ls ++ l ∷ []) before
 row-more ls short l most table before e =
@@ -67,3 +75,14 @@ module _ (table : List ℕ) (ls : List Loop) (held : HoldsRows table ls) (short 
         (λ i m.
         let n : i < length l = omega (arith, long) in
         getD-take (countIn table k) rest i 0 (omega (arith, count-is)) ∙ getD-drop (rowBytes * k + 1) table i 0 ∙ vertex-is i n)
+
+    -- the bytes of the row
+    pub bytes-are : take rowBytes (drop (rowBytes * k) table) ≡ row (loopAt ls k)
+    bytes-are =
+        let rest = drop (rowBytes * k) table in
+        let long : length (take rowBytes rest) ≡ rowBytes
+        = length-take-le rowBytes rest (omega (arith, rows-room, length-drop (rowBytes * k) table)) in
+        ext-getD 0 (take rowBytes rest) (row (loopAt ls k)) (long ∙ sym (row-length (loopAt ls k) (short k h)))
+        (λ i m.
+        let n : i < rowBytes = omega (arith, long) in
+        getD-take rowBytes rest i 0 n ∙ getD-drop (rowBytes * k) table i 0 ∙ cell-is i n)

@@ -1,12 +1,12 @@
 -- Words of masks, one for each loop: read as the code reads them, and one word more. Assumes nothing.
 use mathlib.Core.Bool.{Bool}
 use mathlib.Core.Path.{_≡_, refl, sym, ap, _∙_}
-use mathlib.Core.List.{List, [], _∷_, _++_, flatMap}
+use mathlib.Core.List.{List, [], _∷_, _++_}
 use Prim.Native.Nat.{ℕ, _+_, _*_, _≤_, _<_}
 use native.Mathlib.Omega.{arith}
-use lib.ListN.{length, getD, set, drop, length-append, length-drop}
+use lib.ListN.{length, getD, set}
 use lib.Seq.{paste, paste-zero, paste-suc}
-use Rattle.lists.proofs.After.{Wide, each-long, after-more, after-again, after-at}
+use Rattle.lists.proofs.After.{Wide, after-long, after-more, after-again, after-at}
 use Rattle.sets.specs.Word.{word}
 use Rattle.sets.specs.Sets.{room, Is, packedSet, maskAt}
 use Rattle.paper.specs.Loops.{Loop, loopAt}
@@ -20,24 +20,11 @@ module _ (mask : Loop → List Bool) where
   pub words-held : (ls : List Loop) (words before : List ℕ) → words ≡ wordsAfter mask ls before → HoldsWords mask words ls
   words-held ls words before e = e ∙ sym (ap (wordsAfter mask ls) e ∙ after-again (maskWord mask) 1 [] ls (wide ls) before)
 
-  length-words : (ls : List Loop) (before : List ℕ) → length ls ≤ length before → length (wordsAfter mask ls before) ≡ length before
-  length-words ls before h =
-      omega (
-        arith,
-        length-append (flatMap (maskWord mask) ls) (drop (1 * length ls) before),
-        each-long (maskWord mask) 1 [] ls (wide ls),
-        length-drop (1 * length ls) before,
-      )
-
-  -- none written, and one word more
-  pub words-none : (before : List ℕ) → before ≡ wordsAfter mask [] before
-  unfolding flatMap
-  words-none before = refl
-
+  -- one word more
   pub word-more : (ls : List Loop) (l : Loop) (words before : List ℕ) → length ls < length before → words ≡ wordsAfter mask ls before
       → set words (length ls) (word (mask l)) ≡ wordsAfter mask (ls ++ l ∷ []) before
   word-more ls l words before h e =
-      let n : length words ≡ length before = ap length e ∙ length-words ls before (omega arith) in
+      let n : length words ≡ length before = ap length e ∙ after-long (maskWord mask) 1 [] ls (wide ls) before (omega arith) in
       let s : length ls ≡ 1 * length ls + 0 = omega arith in
       let w = maskWord mask l in
       (λ i. set (paste-zero words (1 * length ls) w i) (s i) (word (mask l)))

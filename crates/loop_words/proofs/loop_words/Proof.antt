@@ -9,11 +9,12 @@ use lib.Seq.{length-take-le, take-length}
 use denote.Ref.{now}
 use Rattle.sets.specs.Word.{word}
 use Rattle.paper.specs.Loops.{Loop, loopAt}
+use Rattle.lists.proofs.After.{after-none}
 use Rattle.lists.proofs.Places.{take-more}
 use Rattle.fast_tables.specs.Hits.{cornerMask, sideMask}
-use Rattle.loop_table.specs.Tables.{wordsAfter}
+use Rattle.loop_table.specs.Tables.{maskWord, wordsAfter}
 use Rattle.loop_table.proofs.Rows.{rows-room, count-is, vertex-is}
-use Rattle.loop_table.proofs.Words.{words-none, word-more}
+use Rattle.loop_table.proofs.Words.{word-more}
 use Rattle.loop_words.specs.Drawn.{RowDrawn, Drawn}
 use Rattle.loop_words.proofs.loop_words.Statement.{statement}
 use Rattle.loop_words.proofs.loop_words.Tie as tie
@@ -70,8 +71,8 @@ loop-holds c w =
     let a = c .before .args in
     record {
       not-past = omega arith;
-      corners-in = words-none (cornerMask (w .drawing)) (now (a .corners));
-      sides-in = words-none (sideMask (w .drawing)) (now (a .sides));
+      corners-in = after-none (maskWord (cornerMask (w .drawing))) 1 (now (a .corners));
+      sides-in = after-none (maskWord (sideMask (w .drawing))) 1 (now (a .sides));
     }
 
 row-words-requires : tie.Need-row-words-requires Inv-loop μ-loop

@@ -1,0 +1,2 @@
+-- Laws that the proofs of this crate's functions apply. Assumes nothing.
+pub mod Keeping
