@@ -1,2 +1,3 @@
 -- Laws that the proofs of this crate's functions apply. Assumes nothing.
 pub mod Keeping
+pub mod Roomy

@@ -1,10 +1,11 @@
 -- From what the search and the words of loops ensure to what is known of the loops. Assumes nothing.
+use mathlib.Core.Bool.{Bool}
 use mathlib.Core.List.{List}
 use mathlib.Core.Path.{_≡_, refl, sym, ap, _∙_}
 use Prim.Native.Nat.{ℕ, suc, _*_, _/_, _≤_, _<_, min}
 use native.Mathlib.Omega.{arith}
 use lib.IntN.{ℤ}
-use lib.ListN.{length, take}
+use lib.ListN.{length, take, length-take}
 use lib.Seq.{take-all}
 use Rattle.paper.specs.Numbers.{mostLoops, rowBytes}
 use Rattle.paper.specs.Format.{editionOne}
@@ -14,14 +15,13 @@ use Rattle.paper_laws.specs.InRange.{Points}
 use Rattle.fast_search.specs.Search.{planeOf}
 use Rattle.fast_tables.specs.Hits.{cornerMask, sideMask}
 use Rattle.loop_table.specs.Tables.{rowsAfter, wordsAfter, HoldsRows}
-use Rattle.loop_table.proofs.Rows.{rows-held}
-use Rattle.loop_table.proofs.Words.{words-held}
+use Rattle.loop_table.proofs.Rows.{rows-held, rows-kept, short-take}
+use Rattle.loop_table.proofs.Words.{words-held, words-kept}
 use Rattle.loop_table.proofs.Loops.{loops-of, vertices-are, edges-are}
 use Rattle.loop_search.specs.Rooms.{Found}
-use Rattle.loop_search.specs.Starts.{SearchAt, Clear}
+use Rattle.loop_search.specs.Starts.{Clear}
 use Rattle.loop_words.specs.Drawn.{Drawn, LoopWords}
-use Rattle.loop_cover.specs.Known.{Known}
-use Rattle.loop_known.specs.Known.{DrawnBy, LoopsAt, LoopsKnown}
+use Rattle.loop_known.specs.Known.{DrawnBy, Roomy, LoopsKnown}
 
 module _ {xyz : List ℤ} {ends near number : List ℕ} (a : DrawnBy xyz ends near number) where
   abbrev d : Wire
@@ -44,9 +44,34 @@ module _ {xyz : List ℤ} {ends near number : List ℕ} (a : DrawnBy xyz ends ne
   unfolding wire
   clear = record { vertices-are = refl; words-are = a .near-are; places = a .passed .places; meets = a .passed .clear }
 
-  module _ {table₀ planes₀ table planes : List ℕ} {r : ℕ} (f : Found d table₀ planes₀ table planes r) where
-    pub too-many : mostLoops < r → (corners sides : List ℕ) → LoopsKnown xyz ends r table planes corners sides
-    too-many h corners sides = record { count = f .count-is; known = λ k. absurd (omega arith) }
+  module _ {table₀ planes₀ corners₀ sides₀ table planes : List ℕ} (room : Roomy table₀ planes₀ corners₀ sides₀) {r : ℕ}
+      (f : Found d table₀ planes₀ table planes r) where
+    -- what the search leaves of the rooms
+    abbrev held : List Loop
+    held = take mostLoops (loops d)
+
+    held-few : length held ≤ mostLoops
+    held-few = omega (arith, length-take mostLoops (loops d))
+
+    table-long : length table ≡ rowBytes * mostLoops
+    table-long =
+        rows-kept held (short-take mostLoops (loops d) (loops-of d .short)) table table₀ (omega (arith, room .table-long, held-few)) (f .table-is)
+        ∙ room .table-long
+
+    planes-long : length planes ≡ mostLoops
+    planes-long = words-kept (planeOf d) held planes planes₀ (omega (arith, room .planes-long, held-few)) (f .planes-is) ∙ room .planes-long
+
+    pub too-many : mostLoops < r → LoopsKnown xyz ends r table planes corners₀ sides₀
+    too-many h = record {
+      count = f .count-is;
+      roomy = record {
+        table-long = table-long;
+        planes-long = planes-long;
+        corners-long = room .corners-long;
+        sides-long = room .sides-long;
+      };
+      known = λ k. absurd (omega arith);
+    }
 
     module _ (few : r ≤ mostLoops) where
       all-held : take mostLoops (loops d) ≡ loops d
@@ -71,11 +96,21 @@ module _ {xyz : List ℤ} {ends near number : List ℕ} (a : DrawnBy xyz ends ne
         most = few;
       }
 
-      pub all-known : (corners₀ corners sides₀ sides : List ℕ) → LoopWords drawn corners₀ corners sides₀ sides
+      word-long : (mask : Loop → List Bool) (words₀ words : List ℕ) → length words₀ ≡ mostLoops → words ≡ wordsAfter mask (loops d) words₀
+          → length words ≡ mostLoops
+      word-long mask words₀ words h e = words-kept mask (loops d) words words₀ (omega (arith, h, f .count-is)) e ∙ h
+
+      pub all-known : (corners sides : List ℕ) → LoopWords drawn corners₀ corners sides₀ sides
           → LoopsKnown xyz ends r table planes corners sides
       unfolding wire drawn loops
-      all-known corners₀ corners sides₀ sides w = record {
+      all-known corners sides w = record {
         count = f .count-is;
+        roomy = record {
+          table-long = table-long;
+          planes-long = planes-long;
+          corners-long = word-long (cornerMask d) corners₀ corners (room .corners-long) (w .corners-are);
+          sides-long = word-long (sideMask d) sides₀ sides (room .sides-long) (w .sides-are);
+        };
         known = λ k. record {
           passed = a .passed;
           count = omega (arith, f .count-is);

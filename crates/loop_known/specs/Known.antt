@@ -18,16 +18,21 @@ pub record DrawnBy (xyz : List ℤ) (ends near number : List ℕ) : Type 0 where
   pub near-are : near ≡ neighbourWords (edgesOf ends) (length xyz / 3)
   pub numbered : Numbered number (edgesOf ends)
 
--- there is one, and the rooms have their sizes
-pub record LoopsAt (xyz : List ℤ) (near number table planes corners sides : List ℕ) : Type 0 where
-  pub ends : List ℕ
-  pub drawn : DrawnBy xyz ends near number
+-- rooms of their sizes
+pub record Roomy (table planes corners sides : List ℕ) : Type 0 where
   pub table-long : length table ≡ rowBytes * mostLoops
   pub planes-long : length planes ≡ mostLoops
   pub corners-long : length corners ≡ mostLoops
   pub sides-long : length sides ≡ mostLoops
 
+-- there is one, and there are the rooms
+pub record LoopsAt (xyz : List ℤ) (near number table planes corners sides : List ℕ) : Type 0 where
+  pub ends : List ℕ
+  pub drawn : DrawnBy xyz ends near number
+  pub roomy : Roomy table planes corners sides
+
 -- how many there are; and where they all are held, what is known of them
 pub record LoopsKnown (xyz : List ℤ) (ends : List ℕ) (r : ℕ) (table planes corners sides : List ℕ) : Type 0 where
   pub count : r ≡ min (suc mostLoops) (length (loops (wire xyz ends)))
+  pub roomy : Roomy table planes corners sides
   pub known : r ≤ mostLoops → Known xyz ends table r corners sides planes

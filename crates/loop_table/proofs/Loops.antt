@@ -1,17 +1,18 @@
 -- The loops of a drawing in range: what is read of them, and their rows as polygons. Assumes nothing.
-use mathlib.Core.Path.{_≡_, refl, sym, ap, _∙_}
+use mathlib.Core.Path.{_≡_, refl, sym, ap, _∙_, subst}
 use mathlib.Core.List.{List}
-use Prim.Native.Nat.{ℕ, _<_}
+use Prim.Native.Nat.{ℕ, _≤_, _<_}
 use native.Mathlib.Omega.{arith}
 use lib.IntN.{ℤ}
 use lib.ListN.{length}
+use Rattle.paper.specs.Numbers.{mostCorners}
 use Rattle.paper.specs.Drawing.{Wire, wire}
-use Rattle.paper.specs.Loops.{Loop, loopAt, loops, polygon}
+use Rattle.paper.specs.Loops.{Loop, loopAt, loops, candidates, polygon}
 use Rattle.paper_laws.specs.InRange.{InRange}
 use Rattle.paper_laws.proofs.Wires.{length-points, length-edges}
 use Rattle.polygon.specs.Rings.{ring, Row}
 use Rattle.polygon.proofs.Drawn.{polygon-is}
-use Rattle.fast_tables.proofs.Drawings.{loop-path}
+use Rattle.fast_tables.proofs.Drawings.{loop-path, candidate-of, candidate-path}
 use Rattle.means_loops.proofs.Listing.{loops-are}
 use Rattle.loop_table.specs.Tables.{HoldsRows}
 use Rattle.loop_table.specs.Loops.{LoopsOf}
@@ -20,6 +21,15 @@ use Rattle.loop_table.proofs.Rows.{rows-room, count-is, vertex-is, loop
 -- what the search finds are loops of the drawing
 pub loops-of : (d : Wire) → LoopsOf d (loops d)
 loops-of d = record { path = loop-path d; short = λ k h. loops-are d k h .twelve }
+
+-- so are the candidates
+pub candidates-of : (d : Wire) → LoopsOf d (candidates d)
+candidates-of d = record {
+  path = candidate-path d;
+  short = λ k h.
+      let i = candidate-of d k h in
+      subst (λ (l : Loop). length l ≤ mostCorners) (i .2) (loops-of d .short (i .0) (i .1));
+}
 
 -- ---- the numbers of vertices and edges
 module _ {xyz : List ℤ} {ends : List ℕ} (range : InRange xyz ends) where

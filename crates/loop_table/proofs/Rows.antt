@@ -3,7 +3,7 @@ use mathlib.Core.Path.{_≡_, sym, ap, _∙_}
 use mathlib.Core.List.{List, [], _∷_, _++_, flatMap}
 use Prim.Native.Nat.{ℕ, zero, suc, _+_, _*_, _≤_, _<_}
 use native.Mathlib.Omega.{arith}
-use lib.ListN.{length, getD, take, drop, length-append, length-drop}
+use lib.ListN.{length, getD, take, drop, length-append, length-drop, length-take}
 use lib.Seq.{paste, ext-getD, getD-take, getD-drop, length-take-le}
 use Rattle.lists.proofs.After.{after-long, after-more, after-again, after-at}
 use Rattle.paper.specs.Numbers.{mostCorners, rowBytes}
@@ -22,6 +22,14 @@ short-more (x ∷ ls) short l most (suc k) h = short-more ls (λ i m. short (suc
 -- ---- a table that rows were written to holds them
 pub rows-held : (ls : List Loop) → Short ls → (table before : List ℕ) → table ≡ rowsAfter ls before → HoldsRows table ls
 rows-held ls short table before e = e ∙ sym (ap (rowsAfter ls) e ∙ after-again row rowBytes [] ls (rows-wide ls short) before)
+
+-- the first of loops with few corners
+pub short-take : (n : ℕ) (ls : List Loop) → Short ls → Short (take n ls)
+short-take n ls short k h =
+    let m : k < n = omega (arith, length-take n ls) in
+    let b : k < length ls = omega (arith, length-take n ls) in
+    let e : getD (take n ls) k [] ≡ getD ls k [] = getD-take n ls k [] m in
+    rw e (short k b)
 
 -- it is as long as it was
 pub rows-kept : (ls : List Loop) → Short ls → (table before : List ℕ) → rowBytes * length ls ≤ length before → table ≡ rowsAfter ls before

@@ -20,11 +20,15 @@ module _ (mask : Loop → List Bool) where
   pub words-held : (ls : List Loop) (words before : List ℕ) → words ≡ wordsAfter mask ls before → HoldsWords mask words ls
   words-held ls words before e = e ∙ sym (ap (wordsAfter mask ls) e ∙ after-again (maskWord mask) 1 [] ls (wide ls) before)
 
+  pub words-kept : (ls : List Loop) (words before : List ℕ) → length ls ≤ length before → words ≡ wordsAfter mask ls before
+      → length words ≡ length before
+  words-kept ls words before h e = ap length e ∙ after-long (maskWord mask) 1 [] ls (wide ls) before (omega arith)
+
   -- one word more
   pub word-more : (ls : List Loop) (l : Loop) (words before : List ℕ) → length ls < length before → words ≡ wordsAfter mask ls before
       → set words (length ls) (word (mask l)) ≡ wordsAfter mask (ls ++ l ∷ []) before
   word-more ls l words before h e =
-      let n : length words ≡ length before = ap length e ∙ after-long (maskWord mask) 1 [] ls (wide ls) before (omega arith) in
+      let n : length words ≡ length before = words-kept ls words before (omega arith) e in
       let s : length ls ≡ 1 * length ls + 0 = omega arith in
       let w = maskWord mask l in
       (λ i. set (paste-zero words (1 * length ls) w i) (s i) (word (mask l)))

@@ -25,23 +25,23 @@ search-requires c κs =
     record {
       points = points-in (g .drawn);
       few = few-vertices (g .drawn);
-      sized = record { table-long = g .table-long; planes-long = g .planes-long; most = omega arith };
+      sized = record { table-long = g .roomy .table-long; planes-long = g .roomy .planes-long; most = omega arith };
     }
 
 returns : tie.Need-returns
 returns c ends a =
     let s = c .before in
     let r = start s .args in
-    too-many a (s .search .ensures (wire (now (r .xyz)) ends) (clear a)) (omega arith) (now (r .corners)) (now (r .sides))
+    too-many a (start s .pre .roomy) (s .search .ensures (wire (now (r .xyz)) ends) (clear a)) (omega arith)
 
 loop-words-requires : tie.Need-loop-words-requires
 loop-words-requires c κs =
     let s = searched c in
     let g = start s .pre in
     record {
-      drawn = drawn (g .drawn) (s .search .ensures (wire (now (start s .args .xyz)) (g .ends)) (clear (g .drawn))) (omega arith);
-      corner-room = omega (arith, g .corners-long);
-      side-room = omega (arith, g .sides-long);
+      drawn = drawn (g .drawn) (g .roomy) (s .search .ensures (wire (now (start s .args .xyz)) (g .ends)) (clear (g .drawn))) (omega arith);
+      corner-room = omega (arith, g .roomy .corners-long);
+      side-room = omega (arith, g .roomy .sides-long);
     }
 
 returns-2 : tie.Need-returns-2
@@ -50,7 +50,8 @@ returns-2 c ends a =
     let r = start s .args in
     let f = s .search .ensures (wire (now (r .xyz)) ends) (clear a) in
     let few : s .search .result ≤ mostLoops = omega arith in
-    all-known a f few (now (r .corners)) (c .loop-words .last .1 .1 .1 .0) (now (r .sides)) (c .loop-words .last .1 .1 .1 .1 .0) (c .loop-words .ensures (drawn a f few))
+    let room = start s .pre .roomy in
+    all-known a room f few (c .loop-words .last .1 .1 .1 .0) (c .loop-words .last .1 .1 .1 .1 .0) (c .loop-words .ensures (drawn a room f few))
 
 pub known-loops-spec : {M : Type 1} → statement M
 known-loops-spec = tie.close (tie.spec search-requires returns loop-words-requires returns-2)

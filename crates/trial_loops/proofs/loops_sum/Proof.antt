@@ -1,0 +1,85 @@
+-- `trial_loops::loops_sum`: the loop keeps that the checksum is below the prime. Assumes nothing.
+use Prim.Native.Nat.{_-_, _≤_, _<_}
+use native.Mathlib.Omega.{arith}
+use borrow.Author.Needs.{needs}
+use Rattle.trial_loops.specs.Sums.{prime}
+use Rattle.trial_loops.proofs.loops_sum.Statement.{statement}
+use Rattle.trial_loops.proofs.loops_sum.Tie as tie
+
+abbrev Inv-loop : tie.InvT-loop
+Inv-loop table n corners sides planes s₀ k₀ s k = (k ≤ n) × (s < prime)
+
+abbrev μ-loop : tie.MeasureT-loop
+μ-loop table n corners sides planes s₀ k₀ s k = n - k
+
+abbrev start : tie.At-loop Inv-loop μ-loop → tie.Start Inv-loop μ-loop
+start c = c .before .before .before .before .before
+
+loop-holds : tie.Need-loop-holds Inv-loop μ-loop
+loop-holds c = (omega arith, omega arith)
+
+more-row-requires : tie.Need-more-row-requires Inv-loop μ-loop
+more-row-requires c κs =
+    let l = c .before in
+    record { there = omega (arith, start l .pre .rows .there); low = l .loop .inv .1 }
+
+mul-more : tie.Need-mul-more Inv-loop μ-loop
+mul-more c = omega (arith, start (c .before .before) .pre .rows .few)
+
+shared-slice-read-more : tie.Need-shared-slice-read-more Inv-loop μ-loop
+shared-slice-read-more c = omega (arith, start (c .before .before .before) .pre .rows .corners-there)
+
+more-requires : tie.Need-more-requires Inv-loop μ-loop
+more-requires c κs = c .before .more-row .ensures
+
+mul-more-2 : tie.Need-mul-more-2 Inv-loop μ-loop
+mul-more-2 c = omega (arith, start (c .before .before .before .before) .pre .rows .few)
+
+shared-slice-read-more-2 : tie.Need-shared-slice-read-more-2 Inv-loop μ-loop
+shared-slice-read-more-2 c = omega (arith, start (c .before .before .before .before .before) .pre .rows .sides-there)
+
+more-requires-2 : tie.Need-more-requires-2 Inv-loop μ-loop
+more-requires-2 c κs = c .before .more .ensures
+
+mul-more-3 : tie.Need-mul-more-3 Inv-loop μ-loop
+mul-more-3 c = omega (arith, start (c .before .before .before .before .before .before) .pre .rows .few)
+
+shared-slice-read-more-3 : tie.Need-shared-slice-read-more-3 Inv-loop μ-loop
+shared-slice-read-more-3 c = omega (arith, start (c .before .before .before .before .before .before .before) .pre .planes-there)
+
+more-requires-3 : tie.Need-more-requires-3 Inv-loop μ-loop
+more-requires-3 c κs = c .before .more2 .ensures
+
+add-k : tie.Need-add-k Inv-loop μ-loop
+add-k c = omega arith
+
+loop-less : tie.Need-loop-less Inv-loop μ-loop
+loop-less c = omega arith
+
+loop-again : tie.Need-loop-again Inv-loop μ-loop
+loop-again c = (omega arith, c .more3 .ensures)
+
+returns : tie.Need-returns Inv-loop μ-loop
+returns c = search needs
+
+pub loops-sum-spec : {M : Type 1} → statement M
+loops-sum-spec =
+    tie.close
+    (tie.spec
+    Inv-loop
+    μ-loop
+    loop-holds
+    more-row-requires
+    mul-more
+    shared-slice-read-more
+    more-requires
+    mul-more-2
+    shared-slice-read-more-2
+    more-requires-2
+    mul-more-3
+    shared-slice-read-more-3
+    more-requires-3
+    add-k
+    loop-less
+    loop-again
+    returns)

@@ -1,0 +1,2 @@
+-- What the functions of this program ask. Assumes nothing.
+pub mod Sums

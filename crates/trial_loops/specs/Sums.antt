@@ -1,0 +1,31 @@
+-- Tables and words of which a checksum is made, and lists that have passed 3 to 10. Assumes nothing.
+use mathlib.Core.List.{List}
+use mathlib.Core.Path.{_≡_}
+use Prim.Native.Nat.{ℕ, _+_, _*_, _≤_, _<_}
+use lib.IntN.{ℤ}
+use lib.ListN.{length}
+use Rattle.paper.specs.Numbers.{mostLoops, rowBytes}
+use Rattle.paper.specs.Refusals.{firstOf}
+use Rattle.paper.specs.Format.{editionOne}
+use Rattle.paper.specs.Sheet.{lentChecks}
+use Rattle.paper.specs.declared.Answer.the-variants.{Fine}
+
+abbrev pub prime : ℕ
+prime = 4294967291
+
+pub record RowOf (table : List ℕ) (k sum : ℕ) : Type 0 where
+  pub there : rowBytes * k + rowBytes ≤ length table
+  pub low : sum < prime
+
+pub record RowsOf (table : List ℕ) (n : ℕ) (corners sides : List ℕ) : Type 0 where
+  pub few : n ≤ mostLoops
+  pub there : rowBytes * n ≤ length table
+  pub corners-there : n ≤ length corners
+  pub sides-there : n ≤ length sides
+
+pub record LoopsOf (table : List ℕ) (n : ℕ) (corners sides planes : List ℕ) : Type 0 where
+  pub rows : RowsOf table n corners sides
+  pub planes-there : n ≤ length planes
+
+abbrev pub Ruled : List ℤ → List ℕ → Type 0
+Ruled xyz ends = Fine ≡ firstOf (lentChecks editionOne xyz ends)
