@@ -1,11 +1,11 @@
+-- `trial_loops::show`: a sheet that the reader accepts holds a drawing in range. Assumes nothing.
+use mathlib.Core.Path.{sym, ap, subst, _∙_}
+use Rattle.paper_laws.specs.InRange.{Held}
+use Rattle.paper.specs.declared.Sheet.{Sheet}
+use Rattle.sheet_reader.proofs.Range.{read-range}
 use borrow.Author.Needs.{needs}
 use Rattle.trial_loops.proofs.show.Statement.{statement}
 use Rattle.trial_loops.proofs.show.Tie as tie
-use Rattle.trial_loops.proofs.show.Reads as reads
-use Rattle.trial_loops.proofs.show.Lts as lts
-use Rattle.sheet_reader.proofs.read_sheet.Reads as read-sheet-reads
-use Rattle.trial.proofs.say_refused.Reads as say-refused-reads
-use Rattle.trial_loops.proofs.show_drawing.Reads as show-drawing-reads
 
 read-sheet-requires : tie.Need-read-sheet-requires
 read-sheet-requires c κs = search needs
@@ -20,7 +20,10 @@ enum-told : tie.Need-enum-told
 enum-told c = search needs
 
 show-drawing-requires : tie.Need-show-drawing-requires
-show-drawing-requires c κs = ?
+show-drawing-requires c κs =
+    let e = c .before .before .read-sheet .ensures .0 in
+    let held = read-range _ (sym (c .enum-told .given .1) ∙ ap (λ (r : Sheet). r .answer) e) in
+    subst (λ (r : Sheet). Held (r .drawing)) (sym e) held
 
 returns : tie.Need-returns
 returns c = search needs

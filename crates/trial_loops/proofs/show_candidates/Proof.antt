@@ -1,13 +1,14 @@
+-- `trial_loops::show_candidates`: the rooms keep their sizes, and there are at most 64 candidates. Assumes nothing.
+use mathlib.Core.Path.{refl, sym}
+use native.Mathlib.Omega.{arith}
 use borrow.Author.Needs.{needs}
+use Rattle.candidates.proofs.Roomy.{rows-long, corners-long, sides-long}
 use Rattle.trial_loops.proofs.show_candidates.Statement.{statement}
 use Rattle.trial_loops.proofs.show_candidates.Tie as tie
-use Rattle.trial_loops.proofs.show_candidates.Reads as reads
-use Rattle.trial_loops.proofs.show_candidates.Lts as lts
-use Rattle.candidates.proofs.candidates.Reads as candidates-reads
-use Rattle.trial.proofs.say.Reads as say-reads
-use Rattle.trial.proofs.say_refused.Reads as say-refused-reads
-use Rattle.trial_loops.proofs.candidates_sum.Reads as candidates-sum-reads
-use Rattle.trial_loops.proofs.say_count.Reads as say-count-reads
+
+-- back to the candidates
+abbrev kept : tie.After-kept-sides2 → tie.After-candidates
+kept c = c .before .before .before .before .before
 
 candidates-requires : tie.Need-candidates-requires
 candidates-requires c κs = search needs
@@ -22,16 +23,23 @@ slice-aggregate-say-count : tie.Need-slice-aggregate-say-count
 slice-aggregate-say-count c = search needs
 
 slice-aggregate-candidates-sum : tie.Need-slice-aggregate-candidates-sum
-slice-aggregate-candidates-sum c = ?
+slice-aggregate-candidates-sum c = sym (rows-long (c .before .before .before .candidates .ensures) refl)
 
 slice-aggregate-candidates-sum-2 : tie.Need-slice-aggregate-candidates-sum-2
-slice-aggregate-candidates-sum-2 c = ?
+slice-aggregate-candidates-sum-2 c = sym (corners-long (c .before .before .before .before .candidates .ensures) refl)
 
 slice-aggregate-candidates-sum-3 : tie.Need-slice-aggregate-candidates-sum-3
-slice-aggregate-candidates-sum-3 c = ?
+slice-aggregate-candidates-sum-3 c = sym (sides-long (kept c .candidates .ensures) refl)
 
 candidates-sum-requires : tie.Need-candidates-sum-requires
-candidates-sum-requires c κs = ?
+candidates-sum-requires c κs =
+    let k = kept c .candidates .ensures in
+    record {
+      few = omega arith;
+      there = omega (arith, rows-long k refl);
+      corners-there = omega (arith, corners-long k refl);
+      sides-there = omega (arith, sides-long k refl);
+    }
 
 say-count-requires : tie.Need-say-count-requires
 say-count-requires c κs = search needs

@@ -1,9 +1,13 @@
+-- `trial_loops::show_drawing`: the fronts of the two arrays. Assumes nothing.
+use mathlib.Core.Path.{sym}
+use lib.Seq.{length-take-le}
 use borrow.Author.Needs.{needs}
 use Rattle.trial_loops.proofs.show_drawing.Statement.{statement}
 use Rattle.trial_loops.proofs.show_drawing.Tie as tie
-use Rattle.trial_loops.proofs.show_drawing.Reads as reads
-use Rattle.trial_loops.proofs.show_drawing.Lts as lts
-use Rattle.trial_loops.proofs.show_lists.Reads as show-lists-reads
+
+-- back to the start
+abbrev start : tie.After-ends2 → tie.Start
+start c = c .before .before .before .before .before .before
 
 mul-m : tie.Need-mul-m
 mul-m c = search needs
@@ -21,7 +25,7 @@ array-share-prefix-ends : tie.Need-array-share-prefix-ends
 array-share-prefix-ends c = search needs
 
 slice-aggregate-show-lists-2 : tie.Need-slice-aggregate-show-lists-2
-slice-aggregate-show-lists-2 c = ?
+slice-aggregate-show-lists-2 c = sym (length-take-le _ _ (start c .pre .ends-room))
 
 show-lists-requires : tie.Need-show-lists-requires
 show-lists-requires c κs = search needs

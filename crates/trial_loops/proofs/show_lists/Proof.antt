@@ -1,12 +1,12 @@
+-- `trial_loops::show_lists`: what 5 and 8 to 10 let through. Assumes nothing.
+use mathlib.Core.Path.{sym, ap, _∙_}
 use borrow.Author.Needs.{needs}
+use denote.Ref.{now}
+use Rattle.paper.specs.Refusals.{firstOf}
+use Rattle.paper.specs.Sheet.{lentChecks}
+use Rattle.paper.specs.declared.Format.{Format}
 use Rattle.trial_loops.proofs.show_lists.Statement.{statement}
 use Rattle.trial_loops.proofs.show_lists.Tie as tie
-use Rattle.trial_loops.proofs.show_lists.Reads as reads
-use Rattle.trial_loops.proofs.show_lists.Lts as lts
-use Rattle.drawing_lists.proofs.lend.lent.Reads as lent-reads
-use Rattle.paper_values.proofs.edition_one.Reads as edition-one-reads
-use Rattle.trial.proofs.say_refused.Reads as say-refused-reads
-use Rattle.trial_loops.proofs.show_rules.Reads as show-rules-reads
 
 edition-one-requires : tie.Need-edition-one-requires
 edition-one-requires c κs = search needs
@@ -24,7 +24,11 @@ enum-told : tie.Need-enum-told
 enum-told c = search needs
 
 show-rules-requires : tie.Need-show-rules-requires
-show-rules-requires c κs = ?
+show-rules-requires c κs =
+    let l = c .before .before in
+    let a = l .before .before .before .args in
+    sym (c .enum-told .given .1) ∙ l .lent .ensures
+    ∙ ap (λ (f : Format). firstOf (lentChecks f (now (a .xyz)) (now (a .ends)))) (l .before .edition-one .ensures)
 
 returns : tie.Need-returns
 returns c = search needs

@@ -1,25 +1,52 @@
+-- `trial_loops::show_loops`: what has passed gives what the loops ask for; they are held, at most 128. Assumes nothing.
+use mathlib.Core.Path.{refl, sym}
+use native.Mathlib.Omega.{arith}
 use borrow.Author.Needs.{needs}
+use denote.Ref.{now}
+use Rattle.loop_known.specs.Known.{DrawnBy, LoopsKnown}
+use Rattle.loop_known.proofs.Passed.{few-ends, rising-ends}
 use Rattle.trial_loops.proofs.show_loops.Statement.{statement}
 use Rattle.trial_loops.proofs.show_loops.Tie as tie
-use Rattle.trial_loops.proofs.show_loops.Reads as reads
-use Rattle.trial_loops.proofs.show_loops.Lts as lts
-use Rattle.drawing_links.proofs.neighbours.Reads as neighbours-reads
-use Rattle.loop_known.proofs.known_loops.Reads as known-loops-reads
-use Rattle.loop_words.proofs.number_edges.Reads as number-edges-reads
-use Rattle.trial.proofs.say.Reads as say-reads
-use Rattle.trial.proofs.say_refused.Reads as say-refused-reads
-use Rattle.trial_loops.proofs.loops_sum.Reads as loops-sum-reads
-use Rattle.trial_loops.proofs.say_count.Reads as say-count-reads
-use Rattle.trial_loops.proofs.show_candidates.Reads as show-candidates-reads
+
+-- ---- back to the start, and the drawing there
+
+abbrev start : tie.After-sides → tie.Start
+start c = c .before .before .before .before .before .before .before .before .before
+
+drawn-by : (c : tie.After-sides)
+    → let a = start c .args in
+    DrawnBy (now (a .xyz)) (now (a .ends)) (c .before .before .before .before .before .before .before .neighbours .result)
+    (c .before .before .before .before .before .before .number-edges .result)
+drawn-by c =
+    let e = c .before .before .before .before .before .before in
+    record { passed = start c .pre; near-are = e .before .neighbours .ensures; numbered = e .number-edges .ensures }
+
+-- what is known behind the call
+known : (c : tie.After-known-loops)
+    → let a = start (c .before) .args in
+    let l = c .known-loops .last .1 .1 .1 in
+    LoopsKnown (now (a .xyz)) (now (a .ends)) (c .known-loops .result) (l .0) (l .1 .0) (l .1 .1 .0) (l .1 .1 .1 .0)
+known c = c .known-loops .ensures (now (start (c .before) .args .ends)) (drawn-by (c .before))
+
+abbrev found : tie.After-planes2 → tie.After-known-loops
+found c = c .before .before .before .before .before .before
+
+-- ---- the needs
 
 neighbours-requires : tie.Need-neighbours-requires
-neighbours-requires c κs = ?
+neighbours-requires c κs = few-ends (c .before .pre)
 
 number-edges-requires : tie.Need-number-edges-requires
-number-edges-requires c κs = search needs
+number-edges-requires c κs = rising-ends (c .before .before .pre)
 
 known-loops-requires : tie.Need-known-loops-requires
-known-loops-requires c κs = ?
+known-loops-requires c κs =
+    let s = start c in
+    record {
+      ends = now (s .args .ends);
+      drawn = drawn-by c;
+      roomy = record { table-long = refl; planes-long = refl; corners-long = refl; sides-long = refl };
+    }
 
 say-refused-requires : tie.Need-say-refused-requires
 say-refused-requires c κs = search needs
@@ -31,19 +58,29 @@ slice-aggregate-say-count : tie.Need-slice-aggregate-say-count
 slice-aggregate-say-count c = search needs
 
 slice-aggregate-loops-sum : tie.Need-slice-aggregate-loops-sum
-slice-aggregate-loops-sum c = ?
+slice-aggregate-loops-sum c = sym (known (c .before .before .before) .roomy .table-long)
 
 slice-aggregate-loops-sum-2 : tie.Need-slice-aggregate-loops-sum-2
-slice-aggregate-loops-sum-2 c = ?
+slice-aggregate-loops-sum-2 c = sym (known (c .before .before .before .before) .roomy .corners-long)
 
 slice-aggregate-loops-sum-3 : tie.Need-slice-aggregate-loops-sum-3
-slice-aggregate-loops-sum-3 c = ?
+slice-aggregate-loops-sum-3 c = sym (known (c .before .before .before .before .before) .roomy .sides-long)
 
 slice-aggregate-loops-sum-4 : tie.Need-slice-aggregate-loops-sum-4
-slice-aggregate-loops-sum-4 c = ?
+slice-aggregate-loops-sum-4 c = sym (known (found c) .roomy .planes-long)
 
 loops-sum-requires : tie.Need-loops-sum-requires
-loops-sum-requires c κs = ?
+loops-sum-requires c κs =
+    let r = known (found c) .roomy in
+    record {
+      rows = record {
+        few = omega arith;
+        there = omega (arith, r .table-long);
+        corners-there = omega (arith, r .corners-long);
+        sides-there = omega (arith, r .sides-long);
+      };
+      planes-there = omega (arith, r .planes-long);
+    }
 
 say-count-requires : tie.Need-say-count-requires
 say-count-requires c κs = search needs
@@ -55,10 +92,11 @@ say-requires : tie.Need-say-requires
 say-requires c κs = search needs
 
 slice-aggregate-show-candidates : tie.Need-slice-aggregate-show-candidates
-slice-aggregate-show-candidates c = ?
+slice-aggregate-show-candidates c = sym (known (c .before .before .before .before .before .before .before .before .before .before .before) .roomy .table-long)
 
 show-candidates-requires : tie.Need-show-candidates-requires
-show-candidates-requires c κs = ?
+show-candidates-requires c κs =
+    known (c .before .before .before .before .before .before .before .before .before .before .before .before .before .before) .known (omega arith)
 
 returns-2 : tie.Need-returns-2
 returns-2 c = search needs

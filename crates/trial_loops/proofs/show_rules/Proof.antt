@@ -1,14 +1,13 @@
+-- `trial_loops::show_rules`: lists that pass 3 to 10 and then 11 to 14 have passed. Assumes nothing.
+use mathlib.Core.Path.{sym, _∙_}
 use borrow.Author.Needs.{needs}
+use Rattle.drawing_lists.proofs.Range.{lent-range}
+use Rattle.loop_known.proofs.Passed.{has-passed}
 use Rattle.trial_loops.proofs.show_rules.Statement.{statement}
 use Rattle.trial_loops.proofs.show_rules.Tie as tie
-use Rattle.trial_loops.proofs.show_rules.Reads as reads
-use Rattle.trial_loops.proofs.show_rules.Lts as lts
-use Rattle.drawing_rules.proofs.drawing_rules.Reads as drawing-rules-reads
-use Rattle.trial.proofs.say_refused.Reads as say-refused-reads
-use Rattle.trial_loops.proofs.show_loops.Reads as show-loops-reads
 
 drawing-rules-requires : tie.Need-drawing-rules-requires
-drawing-rules-requires c κs = ?
+drawing-rules-requires c κs = lent-range _ _ (c .before .pre)
 
 enum-known-answer : tie.Need-enum-known-answer
 enum-known-answer c = search needs
@@ -20,7 +19,9 @@ enum-told : tie.Need-enum-told
 enum-told c = search needs
 
 show-loops-requires : tie.Need-show-loops-requires
-show-loops-requires c κs = ?
+show-loops-requires c κs =
+    let r = c .before .before in
+    has-passed _ _ (r .before .before .pre) (sym (c .enum-told .given .1) ∙ r .drawing-rules .ensures)
 
 returns : tie.Need-returns
 returns c = search needs
