@@ -5,6 +5,7 @@ use mathlib.Core.Option.{none}
 use Prim.Native.Nat.{ℕ, _+_, _*_, _≤_, _<_}
 use lib.IntN.{ℤ}
 use lib.ListN.{length}
+use Rattle.sets.specs.Sets.{room}
 use Rattle.paper.specs.Drawing.{wire, samePlace, looseVertex}
 use Rattle.paper.specs.Format.{editionOne}
 use Rattle.paper_laws.specs.InRange.{Points, Ends}
@@ -61,3 +62,8 @@ pub record EdgeBoxed (xyz : List ℤ) (v : ℕ) (ends : List ℕ) (low high : Li
 pub record PairBoxed (xyz : List ℤ) (v : ℕ) (ends : List ℕ) (low high : List ℤ) (e f : ℕ) : Type 0 where
   pub edges : EdgesBoxed xyz v ends low high
   pub pair : TwoEdges ends e f
+
+-- two edges to be marked in a set
+pub record TwoMarks (e f : ℕ) : Type 0 where
+  pub e-low : e < room
+  pub f-low : f < room

@@ -9,7 +9,7 @@ ghost use Rattle.paper.specs.Refusals.{check, firstOf};
 ghost use Rattle.paper.specs.Drawing.{Wire, wire, edgeMeets};
 ghost use Rattle.sets.specs.Sets.{room, Is};
 ghost use Rattle.fast_meets.specs.Pairs.{mark, laterMarked, offenders};
-ghost use Rattle.drawing_rules.specs.Asked.{Passed, EdgesBoxed, EdgeBoxed, PairBoxed};
+ghost use Rattle.drawing_rules.specs.Asked.{Passed, EdgesBoxed, EdgeBoxed, PairBoxed, TwoMarks};
 ghost use Rattle.drawing_rules.specs.Meets.{bothAt, Lowest13};
 use super::boxes::CORNERS;
 use super::boxes::box_at;
@@ -58,6 +58,17 @@ fn mark(hit: Set, k: usize, offends: bool) -> Set
     if offends { hit.with(k) } else { hit }
 }
 
+// The set, with those of e and f that offend: of most pairs, neither.
+fn mark_both(hit: Set, e: usize, f: usize, both: Both) -> Set
+    requires { ⌜ TwoMarks e f ⌝ }
+    ensures { λ r. ⌜ ((w : List Bool) → Is hit w → Is r (mark (both .second) f (mark (both .first) e w))) ⌝ }
+{
+    if !(both.first | both.second) {
+        return hit;
+    }
+    mark(mark(hit, e, both.first), f, both.second)
+}
+
 // The set, with what e and the later edges make offend.
 fn meets(
     xyz: &[i64],
@@ -75,9 +86,7 @@ fn meets(
     let mut met = hit;
     let mut f = e + 1;
     while f < n {
-        let both = pair(xyz, v, ends, low, high, e, f);
-        met = mark(met, e, both.first);
-        met = mark(met, f, both.second);
+        met = mark_both(met, e, f, pair(xyz, v, ends, low, high, e, f));
         f += 1;
     }
     met

@@ -65,10 +65,13 @@ fn clear(low: i64, high: i64, l: i64, h: i64) -> bool
 pub fn are_apart(s: Span, t: Span) -> bool
     ensures { λ r. ⌜ r ≡ spansApart s t ⌝ }
 {
-    let x = clear(s.low.x, s.high.x, t.low.x, t.high.x);
-    let y = clear(s.low.y, s.high.y, t.low.y, t.high.y);
-    let z = clear(s.low.z, s.high.z, t.low.z, t.high.z);
-    x | y | z
+    if clear(s.low.x, s.high.x, t.low.x, t.high.x) {
+        return true;
+    }
+    if clear(s.low.y, s.high.y, t.low.y, t.high.y) {
+        return true;
+    }
+    clear(s.low.z, s.high.z, t.low.z, t.high.z)
 }
 
 fn overlap(p: i64, q: i64, m: i64) -> bool

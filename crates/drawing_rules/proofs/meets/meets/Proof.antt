@@ -58,11 +58,13 @@ pair-requires c κs =
     let p = start (c .before) .pre in
     record { edges = p .edges; pair = record { e-in = p .e-in; f-in = omega arith } }
 
-mark-requires : tie.Need-mark-requires Inv-loop μ-loop
-mark-requires c κs = let p = start (turn c) .pre in omega (arith, p .e-in, p .edges .lists .links .whole, p .edges .lists .links .most)
-
-mark-requires-2 : tie.Need-mark-requires-2 Inv-loop μ-loop
-mark-requires-2 c κs = let p = start (turn (c .before)) .pre in omega (arith, p .edges .lists .links .whole, p .edges .lists .links .most)
+mark-both-requires : tie.Need-mark-both-requires Inv-loop μ-loop
+mark-both-requires c κs =
+    let p = start (turn c) .pre in
+    record {
+      e-low = omega (arith, p .e-in, p .edges .lists .links .whole, p .edges .lists .links .most);
+      f-low = omega (arith, p .edges .lists .links .whole, p .edges .lists .links .most);
+    }
 
 add-f-2 : tie.Need-add-f-2 Inv-loop μ-loop
 add-f-2 c = omega arith
@@ -73,7 +75,7 @@ loop-less c = omega arith
 loop-again : tie.Need-loop-again Inv-loop μ-loop
 unfolding pairMarked
 loop-again c =
-    let p = c .before .before in
+    let p = c .before in
     let l = turn p .loop in
     let a = start (turn p) .args in
     let d = wire (now (a .xyz)) (now (a .ends)) in
@@ -83,11 +85,9 @@ loop-again c =
       left = λ w i.
           let r = l .inv .left w i in
           let u = r .0 in
-          let one = c .before .mark .ensures u (r .1) in
-          let two = c .mark2 .ensures (mark (p .pair .result .first) (a .e) u) one in
           let marked = ap (λ (b : Both). mark (b .second) (l .f) (mark (b .first) (a .e) u)) (p .pair .ensures) in (
             pairMarked (meetAt d) (a .e) (l .f) u,
-            subst (Is (c .mark2 .result)) marked two,
+            subst (Is (c .mark-both .result)) marked (c .mark-both .ensures u (r .1)),
             r .2 ∙ rest-turn d (a .e) (l .f) u (omega (arith, l .inv .whole)),
           );
     }
@@ -109,8 +109,7 @@ meets-spec =
     add-f
     loop-holds
     pair-requires
-    mark-requires
-    mark-requires-2
+    mark-both-requires
     add-f-2
     loop-less
     loop-again
