@@ -1,0 +1,5 @@
+-- How large six volumes of a solid can be. Assumes nothing.
+pub mod Terms
+pub mod Counted
+pub mod Near
+pub mod Reports
