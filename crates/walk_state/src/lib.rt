@@ -41,9 +41,9 @@ impl State {
         requires { ⌜ Has (self .undecided) k ⌝ }
         ensures { λ r. ⌜ Decided self k Rejected r ⌝ }
     {
-        let taken = self.taken;
+        let kept = self.taken;
         State {
-            taken: taken,
+            taken: kept,
             undecided: self.undecided.without(k),
         }
     }

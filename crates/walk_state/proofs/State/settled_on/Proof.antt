@@ -38,7 +38,7 @@ returns : tie.Need-returns
 returns c =
     let m = c .before in
     let a = start m .args in
-    edge-many (a .self) (a .mask) (m .before .before .and .ensures) (m .before .and2 .ensures) (m .count .ensures) (c .if1 .taken)
+    edge-many (a .self) (a .mask) (m .before .before .and .ensures) (m .before .and2 .ensures) (m .count .ensures) (omega (arith, c .if1 .taken))
 
 minus-requires : tie.Need-minus-requires
 minus-requires c κs = search needs
@@ -48,7 +48,7 @@ returns-2 c =
     let m = c .before .before .before in
     let a = start m .args in
     edge-two (a .self) (a .mask) (m .before .before .and .ensures) (m .before .and2 .ensures) (m .count .ensures)
-    (c .minus .ensures) (c .before .if2 .taken) (mask-fits (start m)) (undecided-fits (start m))
+    (c .minus .ensures) (omega (arith, c .before .if2 .taken)) (mask-fits (start m)) (undecided-fits (start m))
 
 count-requires-2 : tie.Need-count-requires-2
 count-requires-2 c κs = search needs
@@ -62,7 +62,7 @@ returns-3 c =
     let m = earlier l in
     let a = start m .args in
     edge-few (a .self) (a .mask) (m .before .before .and .ensures) (m .before .and2 .ensures) (m .count .ensures)
-    (l .count2 .ensures) (c .if3 .taken)
+    (l .count2 .ensures) (omega (arith, c .if3 .taken))
 
 add-if4 : tie.Need-add-if4
 add-if4 c = search needs
@@ -79,7 +79,7 @@ returns-4 c =
     let m = earlier l in
     let a = start m .args in
     edge-exactly (a .self) (a .mask) (m .before .before .and .ensures) (m .before .and2 .ensures) (m .count .ensures)
-    (l .count2 .ensures) (c .before .or .ensures) (c .minus2 .ensures) (omega (arith, l .before .if2 .left)) (c .before .before .if4 .taken)
+    (l .count2 .ensures) (c .before .or .ensures) (c .minus2 .ensures) (omega (arith, l .before .if2 .left)) (omega (arith, c .before .before .if4 .taken))
     (mask-fits (start m)) (undecided-fits (start m))
 
 none-requires : tie.Need-none-requires
