@@ -23,7 +23,7 @@ use Rattle.walk_state.specs.declared.Change.{Change}
 use Rattle.walk_state.specs.declared.Passed.the-variants as P
 use Rattle.walk_state.specs.declared.Marks.{Marks}
 use Rattle.walk_state.specs.declared.Swept.the-variants as S
-use Rattle.walk_state.proofs.Gathering.{some-in, none-in}
+use Rattle.walk_state.proofs.Lowest.{some-in, none-in}
 
 -- what the state and the marks stand for in the midst of the sweeps that end as o
 pub record Midst (masks : List (List Bool)) (o : Outcome) (v : State) (m : Marks) : Type 0 where
