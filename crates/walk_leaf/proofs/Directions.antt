@@ -1,6 +1,6 @@
 -- (iii): one alone, an edge run once each way, and all edges in order. Assumes nothing.
-use mathlib.Core.Bool.{Bool, true, false, _&&_, cond, not}
-use mathlib.Core.List.{List, [], _∷_}
+use mathlib.Core.Bool.{Bool, true, false, _&&_, cond}
+use mathlib.Core.List.{List, []}
 use mathlib.Core.Path.{_≡_, refl, sym, ap, ap₂, _∙_}
 use Prim.Native.Nat.{ℕ, zero, suc, _+_, _^_, _≤_, _<_}
 use native.Mathlib.Omega.{arith}
@@ -15,7 +15,7 @@ use Rattle.sets.proofs.Sets.{size-is}
 use Rattle.paper.specs.Solids.{unlike, onceEachWay, oriented}
 use Rattle.walk_state.proofs.Lowest.{drop-one}
 use Rattle.walk_leaf.specs.Faces.{Edges}
-use Rattle.walk_leaf.specs.Tests.{Count, OrientedIs}
+use Rattle.walk_leaf.specs.Tests.{WayIs, OrientedIs}
 use Rattle.walk_leaf.proofs.Rounds.{mask-at}
 
 -- ---- one alone
@@ -37,12 +37,12 @@ module _ (mask up taken turned : Set) {mine runs ours : Set} (jm : Joint mask ta
   ups : (m u t s : List Bool) → Is mask m → Is up u → Is taken t → Is turned s → eqb (count (both (both m t) (unlike u s))) 1 ≡ b
   ups m u t s i j k l = sym (e ∙ ap (λ (n : ℕ). eqb n 1) (size-is (jo (both m t) (unlike u s) (jm m t i k) (ju u s j l))))
 
-  pub way-not : b ≡ false → Count mask up taken turned false
+  pub way-not : b ≡ false → WayIs mask up taken turned false
   unfolding onceEachWay
   way-not f m u t s i j k l =
       sym (ap (λ (x : Bool). x && eqb (count (less (both m t) (unlike u s))) 1) (ups m u t s i j k l ∙ f))
 
-  pub way-once : b ≡ true → {theirs : Set} → Minus mine runs theirs → {r : Bool} → r ≡ eqb (size theirs) 1 → Count mask up taken turned r
+  pub way-once : b ≡ true → {theirs : Set} → Minus mine runs theirs → {r : Bool} → r ≡ eqb (size theirs) 1 → WayIs mask up taken turned r
   unfolding onceEachWay
   way-once f d {r} q m u t s i j k l =
       sym (ap₂ (λ (x y : Bool). x && y) (ups m u t s i j k l ∙ f)
@@ -57,7 +57,7 @@ Asking on up n taken turned e =
 
 module _ (on up : List ℕ) (n : ℕ) (taken turned : Set) (e : ℕ) (a : Asking on up n taken turned e) where
   module _ (h : e < n) {mask other : Set} (eo : EdgeSet on e mask) (eu : EdgeSet up e other) {b : Bool}
-      (c : Count mask other taken turned b) where
+      (c : WayIs mask other taken turned b) where
     here : (masks ups : List (List Bool)) (t s : List Bool) → Edges on up masks ups → length masks ≡ n → Is taken t → Is turned s
         → oriented masks ups t s ≡ cond b (oriented (drop (e + 1) masks) (drop (e + 1) ups) t s) false
     unfolding oriented

@@ -3,3 +3,5 @@ pub mod Steps
 pub mod Rounds
 pub mod Directions
 pub mod Sums
+pub mod Volumes
+pub mod Judging

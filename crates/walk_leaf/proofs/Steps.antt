@@ -6,7 +6,6 @@ use Prim.Native.Nat.{ℕ, _+_, _^_, _≤_, _<_}
 use native.Mathlib.Omega.{arith}
 use lib.Bits.{bitXor}
 use lib.Dec.{eqb}
-use lib.ListN.{length}
 use borrow.Author.Tests.{eq-eqb}
 use Rattle.sets.specs.Word.{count, both, either, less, only}
 use Rattle.sets.specs.Sets.{room, packedSet, Is, size, digitsOf, Joint, Dropped}

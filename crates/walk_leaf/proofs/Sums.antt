@@ -2,7 +2,7 @@
 use mathlib.Core.Bool.{Bool, true, false, cond}
 use mathlib.Core.List.{List, []}
 use mathlib.Core.Path.{_≡_, refl, sym, ap, ap₂, _∙_, subst}
-use Prim.Native.Nat.{ℕ, _+_, _-_, _*_, _≤_, _<_}
+use Prim.Native.Nat.{ℕ, _-_, _*_, _≤_, _<_}
 use native.Mathlib.Omega.{arith}
 use lib.Dec.{eqb}
 use lib.IntN.{ℤ, pos, negℤ, _+ℤ_, +ℤ-assoc, +ℤ-idl, +ℤ-idr}
@@ -42,10 +42,10 @@ module _ (clashes : List ℕ) (taken : Set) where
   clear-start cs t m h i = record { rest = t; short = h; left-is = i; whole = refl }
 
   module _ {left : Set} (a : Clear clashes taken left) where
-    module _ (p : 0 < size left) {k : ℕ} (low : Lowest left k) {mask enemies : Set} (e : EdgeSet clashes k mask)
-        (j : Joint mask taken enemies both) where
+    module _ (p : 0 < size left) {k : ℕ} (low : Lowest left k) {mask clashing : Set} (e : EdgeSet clashes k mask)
+        (j : Joint mask taken clashing both) where
       met : {cs : List (List Bool)} {t : List Bool} → Masks clashes cs → Is taken t → (w : Clearing cs t left)
-          → Is enemies (both (getD cs (first (w .rest)) []) t)
+          → Is clashing (both (getD cs (first (w .rest)) []) t)
       met {cs} {t} m i w =
           let f : ℕ = first (w .rest) in
           j (getD cs f []) t (mask-at m e (low .same (w .rest) (w .left-is)) (lowest-in (w .left-is) p (w .short))) i
@@ -54,13 +54,13 @@ module _ (clashes : List ℕ) (taken : Set) where
           ≡ cond (eqb (count (both (getD cs (first (w .rest)) []) t)) 0) (clearOn (count (after (w .rest))) cs (after (w .rest)) t) false
       here {cs} {t} w = w .whole ∙ clear-more t cs (w .rest) (some-in (w .left-is) p)
 
-      pub clear-not : 0 < size enemies → ClearIs clashes taken false
+      pub clear-not : 0 < size clashing → ClearIs clashes taken false
       clear-not n cs t m h i =
           let w = a cs t m h i in
           let z = ne-eqb (count (both (getD cs (first (w .rest)) []) t)) 0 (some-in (met m i w) n) in
           sym (here w ∙ ap (λ (b : Bool). cond b (clearOn (count (after (w .rest))) cs (after (w .rest)) t) false) z)
 
-      pub clear-next : size enemies ≡ 0 → {left′ : Set} → Dropped left k left′ → Clear clashes taken left′
+      pub clear-next : size clashing ≡ 0 → {left′ : Set} → Dropped left k left′ → Clear clashes taken left′
       clear-next n d cs t m h i =
           let w = a cs t m h i in
           let z = eq-eqb (count (both (getD cs (first (w .rest)) []) t)) 0 (none-in (met m i w) n) in

@@ -20,12 +20,9 @@ use Rattle.walk_leaf.specs.declared.Leaf.the-variants as L
 
 -- ---- (iii)
 
-abbrev pub Count : Set → Set → Set → Set → Bool → Type 0
-Count mask up taken turned r =
+abbrev pub WayIs : Set → Set → Set → Set → Bool → Type 0
+WayIs mask up taken turned r =
     (m u t s : List Bool) → Is mask m → Is up u → Is taken t → Is turned s → r ≡ onceEachWay m u t s
-
-abbrev pub Asked : ℕ → Type 0
-Asked n = n ≤ editionOne .«most_edges»
 
 abbrev pub OrientedIs : List ℕ → List ℕ → ℕ → Set → Set → Bool → Type 0
 OrientedIs on up n taken turned r =

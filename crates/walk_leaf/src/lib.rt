@@ -3,9 +3,12 @@
 mod faces;
 
 ghost use mathlib.Core.Path.{_≡_};
+ghost use Prim.Native.Nat.{_≤_};
 ghost use lib.Dec.{eqb};
 ghost use Rattle.sets.specs.Sets.{size};
-ghost use Rattle.walk_leaf.specs.Tests.{Count, OrientedIs, ClearIs, SmallSixes, PartAt, PartIs, Weighs, WeighedIs, Asked, Judging, Judges};
+ghost use Rattle.paper.specs.Format.{editionOne};
+ghost use Rattle.walk_leaf.specs.Tests.{WayIs, OrientedIs, ClearIs, SmallSixes, PartAt, PartIs, Weighs, WeighedIs};
+ghost use Rattle.walk_leaf.specs.Tests.{Judging, Judges};
 use faces::from_lowest;
 use faces::unlike;
 use paper::MOST_CANDIDATES;
@@ -29,7 +32,7 @@ fn is_one(x: Set) -> bool
 
 // Whether an edge is run once each way by the faces taken: `up` are those whose normal form runs it upwards.
 fn once_each_way(mask: Set, up: Set, taken: Set, turned: Set) -> bool
-    ensures { λ r. ⌜ Count mask up taken turned r ⌝ }
+    ensures { λ r. ⌜ WayIs mask up taken turned r ⌝ }
 {
     let mine = mask.and(taken);
     let runs = unlike(up, turned);
@@ -46,7 +49,7 @@ fn oriented(
     taken: Set,
     turned: Set,
 ) -> bool
-    requires { ⌜ Asked n ⌝ }
+    requires { ⌜ n ≤ editionOne .«most_edges» ⌝ }
     ensures { λ r. ⌜ OrientedIs (now (on .entry)) (now (up .entry)) n taken turned r ⌝ }
 {
     let mut e = 0;
@@ -66,8 +69,8 @@ fn clear(clashes: &[u64; MOST_CANDIDATES], taken: Set) -> bool
     let mut left = taken;
     while !left.is_empty() {
         let k = left.lowest();
-        let enemies = Set::of_edge(clashes, k).and(taken);
-        if !enemies.is_empty() {
+        let clashing = Set::of_edge(clashes, k).and(taken);
+        if !clashing.is_empty() {
             return false;
         }
         left = left.without(k);
@@ -127,7 +130,8 @@ pub fn judge(
     taken: Set,
 ) -> Leaf
     requires { ⌜ Judging n (now sixes) ⌝ }
-    ensures { λ r. ⌜ Judges (now (on .entry)) (now (up .entry)) n (now (sides .entry)) (now (clashes .entry)) (now (sixes .entry)) taken r ⌝ }
+    ensures { λ r. ⌜ Judges (now (on .entry)) (now (up .entry)) n (now (sides .entry)) (now (clashes .entry)) (now (sixes .entry))
+        taken r ⌝ }
 {
     if taken.is_empty() {
         return Leaf::Fails;

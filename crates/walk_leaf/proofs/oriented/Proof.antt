@@ -52,10 +52,12 @@ loop-again : tie.Need-loop-again Inv-loop μ-loop
 loop-again c =
     let o = c .before in
     let t = turn o in
-    let a = t .before .args in
-    (omega arith, asking-next (a .on .now) (a .up .now) (a .n) (a .taken) (a .turned) (t .loop .e) (t .loop .inv .1) (omega arith)
-    (o .before .before .before .of-edge .ensures) (o .before .of-edge2 .ensures) (o .once-each-way .ensures)
-    (not-false (o .once-each-way .result) (c .if1 .left)))
+    let a = t .before .args in (
+      omega arith,
+      asking-next (a .on .now) (a .up .now) (a .n) (a .taken) (a .turned) (t .loop .e) (t .loop .inv .1) (omega arith)
+          (o .before .before .before .of-edge .ensures) (o .before .of-edge2 .ensures) (o .once-each-way .ensures)
+          (not-false (o .once-each-way .result) (c .if1 .left)),
+    )
 
 returns-2 : tie.Need-returns-2 Inv-loop μ-loop
 returns-2 c =

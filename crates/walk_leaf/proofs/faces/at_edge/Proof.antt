@@ -69,8 +69,8 @@ returns-2 c =
     let s = start q in
     let a = s .args in
     let z = is-none (m .and2 .result) (q .is-empty .ensures) (not-false (q .is-empty .result) (c .before .before .before .if1 .left)) in
-    edge-goes (a .mask) (a .up) (a .taken) (a .f) (a .g) (m .before .before .and .ensures) (m .before .without .ensures) (m .and2 .ensures) z
-    (c .before .before .or .ensures) (c .before .or2 .ensures) (c .turned-at .ensures)
+    edge-goes (a .mask) (a .up) (a .taken) (a .f) (a .g) (m .before .before .and .ensures) (m .before .without .ensures) (m .and2 .ensures)
+    z (c .before .before .or .ensures) (c .before .or2 .ensures) (c .turned-at .ensures)
     (mask-fits s) (taken-fits s) (reached-fits s) (waiting-fits s)
 
 pub at-edge-spec : {M : Type 1} → statement M
