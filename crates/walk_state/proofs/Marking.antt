@@ -1,0 +1,108 @@
+-- The marks after an edge is passed: edges above it are still ahead in this sweep, the others wait for the next. Assumes nothing.
+use mathlib.Core.Bool.{Bool, true, false}
+use mathlib.Core.List.{List, [], _∷_}
+use mathlib.Core.Path.{_≡_, refl, ap, _∙_, subst}
+use Prim.Native.Nat.{ℕ, suc, _+_, _^_, _≤_, _<_}
+use native.Mathlib.Numerals.{add-one}
+use native.Mathlib.Omega.{arith}
+use lib.Dec.{eqb}
+use lib.ListN.{length, replicate}
+use borrow.Author.Tests.{eq-eqb, ne-eqb}
+use Rattle.sets.specs.Word.{word, count, first, both, either, less}
+use Rattle.sets.specs.Sets.{room, packedSet, Is, size, Joint, Minus, Lowest, Dropped}
+use Rattle.sets.specs.declared.Set.{Set}
+use Rattle.sets.proofs.Digits.{length-both, length-either, length-less}
+use Rattle.sets.proofs.Sets.{size-is, counted}
+use Rattle.fast_sweeps.specs.Worklist.{after, passed, touched, nextAhead, nextLater, turnAhead, turnLater}
+use Rattle.fast_sweeps.proofs.Marks.{length-after, length-touched}
+use Rattle.fast_sweeps.proofs.Words.{ahead-word, later-word}
+use Rattle.walk_words.specs.Words.{Sides}
+use Rattle.walk_state.specs.Sweeps.{Gathered, Turned, Marked}
+use Rattle.walk_state.specs.declared.Marks.{Marks}
+use Rattle.walk_state.proofs.Lowest.{drops, some-in, none-in}
+
+-- ---- "if ahead == 0 { ahead = later; later = 0; }"
+
+module _ (ahead later : Set) where
+  pub turned-over : size ahead ≡ 0 → {none : Set} → Is none [] → Turned ahead later (record { ahead = later; later = none })
+  unfolding turnAhead turnLater count
+  turned-over z n = record {
+    sum = omega (arith, size-is n);
+    same = λ a l i j.
+        let e : eqb (count a) 0 ≡ true = eq-eqb (count a) 0 (none-in i z) in
+        record { ahead-is = rw e j; later-is = rw e n };
+  }
+
+  pub turned-on : 0 < size ahead → Turned ahead later (record { ahead = ahead; later = later })
+  unfolding turnAhead turnLater
+  turned-on p = record {
+    sum = refl;
+    same = λ a l i j.
+        let e : eqb (count a) 0 ≡ false = ne-eqb (count a) 0 (some-in i p) in
+        record { ahead-is = rw e i; later-is = rw e j };
+  }
+
+-- ---- up to the lowest
+
+passed-is : (a : List Bool) → (count a ≡ 0 → ⊥) → replicate (suc (first a)) true ≡ passed a
+unfolding count first passed
+passed-is [] n = absurd (n refl)
+passed-is (true ∷ a) n = refl
+passed-is (false ∷ a) n = ap (λ (x : List Bool). true ∷ x) (passed-is a (λ z. n (omega arith)))
+
+-- other digits of the same word
+other-digits : {x : Set} {a : List Bool} (b : List Bool) → Is x a → length b ≤ room → word a ≡ word b → Is x b
+unfolding packedSet
+other-digits b i h e = record { short = h; words = i .words ∙ ap (λ (w : ℕ). record { word = w }) e }
+
+-- ---- the next marks
+
+module _ (sides : List ℕ) (m : Marks) (p : 0 < size (m .ahead)) {e : ℕ} (low : Lowest (m .ahead) e) {gone : Set}
+    (d : Dropped (m .ahead) e gone) where
+  short-ahead : (masks : List (List Bool)) (x a : List Bool) → Sides sides masks → length a ≤ room
+      → length (nextAhead masks x a) ≤ room
+  unfolding nextAhead
+  short-ahead masks x a s h =
+      length-either room (after a) (less (touched masks x) (passed a)) (omega (arith, length-after a))
+      (omega (arith, length-less (touched masks x) (passed a), length-touched masks x, s .few))
+
+  short-later : (masks : List (List Bool)) (x a l : List Bool) → Sides sides masks → length l ≤ room
+      → length (nextLater masks x a l) ≤ room
+  unfolding nextLater
+  short-later masks x a l s h =
+      length-either room l (both (touched masks x) (passed a)) h
+      (omega (arith, length-both (touched masks x) (passed a), length-touched masks x, s .few))
+
+  -- none was decided
+  pub marked-none : m .ahead .word < 2 ^ room → m .later .word < 2 ^ room → (decided : Set) → size decided ≡ 0 → {r : Marks}
+      → Turned gone (m .later) r → Marked sides m decided r
+  marked-none ha hl decided z t = record {
+    few = omega (arith, t .sum, d .fewer (low .there), counted (m .ahead) ha .under, counted (m .later) hl .under);
+    fewer = λ q. omega (arith, t .sum, d .fewer (low .there));
+    same = λ masks x a l s i k.
+        let c : count x ≡ 0 = none-in i z in
+        let f = k .ahead-is in
+        t .same (nextAhead masks x a) (nextLater masks x a l)
+        (other-digits (nextAhead masks x a) (drops low d a f) (short-ahead masks x a s (f .short)) (ahead-word masks x a c))
+        (other-digits (nextLater masks x a l) (k .later-is) (short-later masks x a l s (k .later-is .short)) (later-word masks x a l c));
+  }
+
+  -- some were: of their edges, those up to the one passed wait
+  pub marked-some : (decided : Set) → 0 < size decided → {x low-ones above below ahead later : Set} → Gathered sides decided x
+      → Is low-ones (replicate (e + 1) true) → Minus x low-ones above → Joint gone above ahead either → Joint x low-ones below both
+      → Joint (m .later) below later either → ahead .word < 2 ^ room → later .word < 2 ^ room → {r : Marks} → Turned ahead later r
+      → Marked sides m decided r
+  unfolding nextAhead nextLater
+  marked-some decided n {x} {low-ones} {above} {below} {ahead} {later} g w up ja down jl ha hl t = record {
+    few = omega (arith, t .sum, counted ahead ha .under, counted later hl .under);
+    fewer = λ z. absurd (omega arith);
+    same = λ masks y a l s i k.
+        let f = k .ahead-is in
+        let q : replicate (e + 1) true ≡ passed a
+        = ap (λ (j : ℕ). replicate j true) (add-one e ∙ ap suc (low .same a f)) ∙ passed-is a (some-in f p) in
+        let o : Is low-ones (passed a) = subst (Is low-ones) q w in
+        let u = g masks y s i in
+        t .same (either (after a) (less (touched masks y) (passed a))) (either l (both (touched masks y) (passed a)))
+        (ja (after a) (less (touched masks y) (passed a)) (drops low d a f) (up .same (touched masks y) (passed a) u o))
+        (jl l (both (touched masks y) (passed a)) (k .later-is) (down (touched masks y) (passed a) u o));
+  }

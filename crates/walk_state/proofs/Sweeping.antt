@@ -1,0 +1,126 @@
+-- The sweeps over marked edges. After each edge the sets stand for a state and for marks from which what is left of the whole sweeps ends
+-- as it did from the first; and each edge passed leaves fewer undecided, or as many and fewer marks. Assumes nothing.
+use mathlib.Core.Bool.{Bool}
+use mathlib.Core.List.{List, []}
+use mathlib.Core.Path.{_≡_, sym, ap, subst, _∙_}
+use Prim.Native.Nat.{ℕ, _+_, _*_, _≤_, _<_}
+use native.Mathlib.Decide.{ℕ-discrete}
+use native.Mathlib.Omega.{arith}
+use lib.ListN.{getD}
+use Rattle.sets.specs.Word.{first}
+use Rattle.sets.specs.Sets.{room, Is, size, maskAt, Lowest, EdgeSet}
+use Rattle.sets.specs.declared.Set.{Set}
+use Rattle.paper.specs.Walk.{Status, settle, Outcome, Broken, Stands}
+use Rattle.fast_sweeps.specs.Worklist.{decidedOn, nextAhead, nextLater, turnAhead, turnLater, Loop}
+use Rattle.fast_sweeps.proofs.Marks.{length-ahead, length-later}
+use Rattle.fast_sweeps.proofs.Remain.{finish, breaks-off, pass-decided, here-lt}
+use Rattle.fast_sweeps.proofs.Work.{turn-loop}
+use Rattle.walk_words.specs.Words.{Masks, Sides}
+use Rattle.walk_state.specs.State.{Holds, SettledOn}
+use Rattle.walk_state.specs.Sweeps.{markCount, MarksAre, Marked, Left, SweptOut}
+use Rattle.walk_state.specs.declared.State.{State}
+use Rattle.walk_state.specs.declared.Change.{Change}
+use Rattle.walk_state.specs.declared.Passed.the-variants as P
+use Rattle.walk_state.specs.declared.Marks.{Marks}
+use Rattle.walk_state.specs.declared.Swept.the-variants as S
+use Rattle.walk_state.proofs.Lowest.{some-in, none-in}
+
+-- what the state and the marks stand for in the midst of the sweeps that end as o
+pub record Midst (masks : List (List Bool)) (o : Outcome) (v : State) (m : Marks) : Type 0 where
+  pub st : List Status
+  pub ahead : List Bool
+  pub later : List Bool
+  pub holds : Holds v st
+  pub marks-are : MarksAre m ahead later
+  pub loop : Loop masks o st ahead later
+
+pub record Sweeping (on sides : List ℕ) (s : State) (changed : Set) (v : State) (m : Marks) : Type 0 where
+  pub fewer : size (v .undecided) ≤ size (s .undecided)
+  pub same : (masks : List (List Bool)) (o : Outcome) (st : List Status) (marks : List Bool) → Masks on masks → Sides sides masks
+      → Holds s st → Is changed marks → Loop masks o st marks [] → Midst masks o v m
+
+-- each edge passed makes this smaller: at most 128 edges are marked, and each mark is of no more weight than one undecided
+abbrev pub togo : State → Marks → ℕ
+togo v m = size (v .undecided) * (2 * room + 1) + markCount m
+
+module _ (on sides : List ℕ) (s : State) (changed : Set) where
+  pub sweeping-start : {none : Set} → Is none [] → Sweeping on sides s changed s (record { ahead = changed; later = none })
+  sweeping-start n = record {
+    fewer = omega arith;
+    same = λ masks o st marks i j h w p.
+        record { st = st; ahead = marks; later = []; holds = h; marks-are = record { ahead-is = w; later-is = n }; loop = p };
+  }
+
+  module _ {v : State} {m : Marks} (g : Sweeping on sides s changed v m) where
+    pub sweeping-end : size (m .ahead) ≡ 0 → SweptOut on sides s changed (S.Stands v)
+    sweeping-end z = record {
+      fewer = g .fewer;
+      same = λ masks o st marks i j h w p.
+          let r = g .same masks o st marks i j h w p in
+          let n = none-in (r .marks-are .ahead-is) z in
+          let e : o ≡ Stands (r .st) = finish masks (r .loop .remains) n (r .loop .turned n) in
+          subst (λ (y : Outcome). Left y (S.Stands v)) (sym e) (r .holds);
+    }
+
+    module _ (n : 0 < size (m .ahead)) {e : ℕ} (low : Lowest (m .ahead) e) {mask : Set} (edge : EdgeSet on e mask) where
+      mask-is : {masks : List (List Bool)} {o : Outcome} → Masks on masks → (r : Midst masks o v m)
+          → Is mask (getD masks (first (r .ahead)) [])
+      mask-is {masks} i r =
+          let a = r .marks-are .ahead-is in
+          let f = first (r .ahead) in
+          let h : Is (maskAt on f) (getD masks f []) = i .at f (here-lt masks (r .loop .remains) (some-in a n)) in
+          let q : mask ≡ maskAt on f = edge .is ∙ ap (λ (k : ℕ). maskAt on k) (low .same (r .ahead) a) in
+          subst (λ (x : Set). Is x (getD masks f [])) (sym q) h
+
+      pub sweeping-broken : SettledOn v mask P.Broken → SweptOut on sides s changed S.Broken
+      sweeping-broken d = record {
+        fewer = tt;
+        same = λ masks o st marks i j h w p.
+            let r = g .same masks o st marks i j h w p in
+            let c = some-in (r .marks-are .ahead-is) n in
+            let b : o ≡ Broken
+            = breaks-off masks (r .loop .remains) c (d .same (getD masks (first (r .ahead)) []) (r .st) (mask-is i r) (r .holds)) in
+            subst (λ (y : Outcome). Left y S.Broken) (sym b) tt;
+      }
+
+      module _ {c : Change} (d : SettledOn v mask (P.Stays c)) {q : Marks} (t : Marked sides m (c .decided) q) where
+        no-more : size (c .state .undecided) ≤ size (v .undecided)
+        no-more = go (ℕ-discrete (size (c .decided)) 0)
+          where
+            go : Dec (size (c .decided) ≡ 0) → size (c .state .undecided) ≤ size (v .undecided)
+            go (yes z) = omega (arith, d .fewer .none z)
+            go (no z) = omega (arith, d .fewer .some (omega (arith, z)))
+
+        pub sweeping-less : togo (c .state) q < togo v m
+        sweeping-less = go (ℕ-discrete (size (c .decided)) 0)
+          where
+            go : Dec (size (c .decided) ≡ 0) → togo (c .state) q < togo v m
+            go (yes z) = omega (arith, d .fewer .none z, t .fewer z)
+            go (no z) = omega (arith, d .fewer .some (omega (arith, z)), t .few)
+
+        next : {masks : List (List Bool)} {o : Outcome} → Masks on masks → Sides sides masks → Midst masks o v m
+            → Midst masks o (c .state) q
+        next {masks} i j r =
+            let b = some-in (r .marks-are .ahead-is) n in
+            let k : List Bool = getD masks (first (r .ahead)) [] in
+            let y = d .same k (r .st) (mask-is i r) (r .holds) in
+            let f : List Bool = decidedOn k (r .st) in
+            let a : List Bool = nextAhead masks f (r .ahead) in
+            let l : List Bool = nextLater masks f (r .ahead) (r .later) in
+            record {
+              st = settle k (r .st);
+              ahead = turnAhead a l;
+              later = turnLater a l;
+              holds = y .holds;
+              marks-are = t .same masks f (r .ahead) (r .later) j (y .decides) (r .marks-are);
+              loop =
+                  turn-loop masks a l (pass-decided masks (r .loop .remains) b (y .calm))
+                  (length-ahead masks f (r .ahead) (r .loop .short-ahead))
+                  (length-later masks f (r .ahead) (r .later) (r .loop .short-later));
+            }
+
+        pub sweeping-more : Sweeping on sides s changed (c .state) q
+        sweeping-more = record {
+          fewer = omega (arith, g .fewer, no-more);
+          same = λ masks o st marks i j h w p. next i j (g .same masks o st marks i j h w p);
+        }

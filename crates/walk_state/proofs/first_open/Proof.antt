@@ -1,0 +1,84 @@
+-- `walk_state::first_open`: the loop keeps that the answer is that of the search from e on. Assumes nothing.
+use borrow.Author.Needs.{needs}
+use borrow.Author.Tests.{not-true, not-false}
+use mathlib.Core.Path.{refl}
+use native.Mathlib.Omega.{arith}
+use Prim.Native.Nat.{_-_, _≤_}
+use Rattle.walk_state.proofs.Lowest.{is-none, is-some}
+use Rattle.walk_state.proofs.Choosing.{Looking, open-found, open-next, open-last}
+use Rattle.walk_state.proofs.first_open.Statement.{statement}
+use Rattle.walk_state.proofs.first_open.Tie as tie
+
+abbrev Inv-loop : tie.InvT-loop
+Inv-loop on n undecided from e₀ e = (e ≤ n) × Looking on n undecided from e
+
+abbrev μ-loop : tie.MeasureT-loop
+μ-loop on n undecided from e₀ e = n - e
+
+-- ---- the ways back: from the edge's undecided to the loop
+
+abbrev turn : tie.After-and Inv-loop μ-loop → tie.At-loop Inv-loop μ-loop
+turn c = c .before .before .before .before
+
+-- ---- the needs
+
+loop-holds : tie.Need-loop-holds Inv-loop μ-loop
+loop-holds c = (c .pre .within, λ masks st i l w. refl)
+
+of-edge-requires : tie.Need-of-edge-requires Inv-loop μ-loop
+of-edge-requires c κs = let p = c .before .before .before .pre in omega (arith, p)
+
+and-requires : tie.Need-and-requires Inv-loop μ-loop
+and-requires c κs = search needs
+
+is-empty-requires : tie.Need-is-empty-requires Inv-loop μ-loop
+is-empty-requires c κs = search needs
+
+returns : tie.Need-returns Inv-loop μ-loop
+returns c =
+    let f = c .before .before in
+    let t = turn f in
+    let a = t .before .args in
+    let e = c .before .is-empty in
+    open-found (a .on .now) (a .n) (a .undecided) (a .from) (t .loop .e) (t .loop .inv .1) (omega arith) (f .before .of-edge .ensures)
+    (f .and .ensures) (is-some (f .and .result) (e .ensures) (not-true (e .result) (c .if1 .taken)))
+
+add-e : tie.Need-add-e Inv-loop μ-loop
+add-e c = let p = turn (c .before .before) .before .pre in omega (arith, p)
+
+loop-less : tie.Need-loop-less Inv-loop μ-loop
+loop-less c = omega arith
+
+loop-again : tie.Need-loop-again Inv-loop μ-loop
+loop-again c =
+    let f = c .before .before in
+    let t = turn f in
+    let a = t .before .args in
+    let e = c .before .is-empty in
+    let z = is-none (f .and .result) (e .ensures) (not-false (e .result) (c .if1 .left)) in (
+      omega arith,
+      open-next (a .on .now) (a .n) (a .undecided) (a .from) (t .loop .e) (t .loop .inv .1) (omega arith)
+          (f .before .of-edge .ensures) (f .and .ensures) z,
+    )
+
+returns-2 : tie.Need-returns-2 Inv-loop μ-loop
+returns-2 c =
+    let t = c .before in
+    let a = t .before .args in
+    open-last (a .on .now) (a .n) (a .undecided) (a .from) (t .loop .e) (t .loop .inv .1) (omega (arith, t .loop .inv .0))
+
+pub first-open-spec : {M : Type 1} → statement M
+first-open-spec =
+    tie.close
+    (tie.spec
+    Inv-loop
+    μ-loop
+    loop-holds
+    of-edge-requires
+    and-requires
+    is-empty-requires
+    returns
+    add-e
+    loop-less
+    loop-again
+    returns-2)

@@ -1,0 +1,34 @@
+-- The edge of the next assumption, and the undecided candidates on it. Assumes nothing.
+use mathlib.Core.Bool.{Bool}
+use mathlib.Core.List.{List}
+use mathlib.Core.Path.{_≡_}
+use Prim.Native.Nat.{ℕ, _≤_, _<_}
+use lib.ListN.{length}
+use Rattle.sets.specs.Word.{first}
+use Rattle.sets.specs.Sets.{Is, Has, size}
+use Rattle.sets.specs.declared.Set.{Set}
+use Rattle.paper.specs.Format.{editionOne}
+use Rattle.paper.specs.Walk.{Status}
+use Rattle.means_walk.proofs.Status.{opens}
+use Rattle.fast_sweeps.specs.Worklist.{openFrom, lowestOn}
+use Rattle.walk_words.specs.Words.{Masks}
+use Rattle.walk_state.specs.declared.Opening.{Opening}
+
+pub record From (n from : ℕ) : Type 0 where
+  pub few : n ≤ editionOne .«most_edges»
+  pub within : from ≤ n
+
+-- the edge is the lowest that has an undecided candidate, and the lowest of the set the lowest such candidate on it
+pub record Chosen (masks : List (List Bool)) (st : List Status) (from : ℕ) (r : Opening) : Type 0 where
+  pub edge-is : r .edge ≡ openFrom masks st from
+  pub digits : List Bool
+  pub free-is : Is (r .free) digits
+  pub lowest-is : first digits ≡ lowestOn masks st (r .edge)
+
+-- also, where any is undecided there is one to choose, and only undecided ones are
+pub record Opened (on : List ℕ) (n : ℕ) (undecided : Set) (from : ℕ) (r : Opening) : Type 0 where
+  pub within : r .edge ≤ n
+  pub some : 0 < size undecided → 0 < size (r .free)
+  pub there : (k : ℕ) → Has (r .free) k → Has undecided k
+  pub same : (masks : List (List Bool)) (st : List Status) → Masks on masks → length masks ≡ n → Is undecided (opens st)
+      → Chosen masks st from r

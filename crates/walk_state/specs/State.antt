@@ -1,0 +1,51 @@
+-- A state as the code holds it, one candidate decided, and one edge settled. Assumes nothing.
+use mathlib.Core.Bool.{Bool, true, false}
+use mathlib.Core.List.{List}
+use mathlib.Core.Path.{_≡_}
+use Prim.Native.Nat.{ℕ, suc, _<_}
+use lib.ListN.{set}
+use Rattle.sets.specs.Sets.{Is, size}
+use Rattle.sets.specs.declared.Set.{Set}
+use Rattle.paper.specs.Conversion.{takens}
+use Rattle.paper.specs.Walk.{Status, settle, contradicts}
+use Rattle.means_walk.proofs.Status.{opens}
+use Rattle.fast_sweeps.specs.Worklist.{decidedOn}
+use Rattle.walk_state.specs.declared.State.{State}
+use Rattle.walk_state.specs.declared.Change.{Change}
+use Rattle.walk_state.specs.declared.Passed.{Passed}
+use Rattle.walk_state.specs.declared.Passed.the-variants as P
+
+-- s is the state st of the document: its taken and its undecided candidates
+pub record Holds (s : State) (st : List Status) : Type 0 where
+  pub takes : Is (s .taken) (takens st)
+  pub leaves : Is (s .undecided) (opens st)
+
+-- candidate k gets the status v, and one fewer is undecided
+pub record Decided (s : State) (k : ℕ) (v : Status) (r : State) : Type 0 where
+  pub fewer : suc (size (r .undecided)) ≡ size (s .undecided)
+  pub same : (st : List Status) → Holds s st → Holds r (set st k v)
+
+-- ---- one edge
+
+-- the edge has no contradiction, and c is what settling it makes of st
+pub record ChangeIs (c : Change) (mask : List Bool) (st : List Status) : Type 0 where
+  pub calm : contradicts mask st ≡ false
+  pub holds : Holds (c .state) (settle mask st)
+  pub decides : Is (c .decided) (decidedOn mask st)
+
+abbrev pub PassedIs : Passed → List Bool → List Status → Type 0
+PassedIs P.Broken mask st = contradicts mask st ≡ true
+PassedIs (P.Stays c) mask st = ChangeIs c mask st
+
+-- those decided are no more undecided
+pub record Fewer (c : Change) (undecided : Set) : Type 0 where
+  pub none : size (c .decided) ≡ 0 → size (c .state .undecided) ≡ size undecided
+  pub some : 0 < size (c .decided) → size (c .state .undecided) < size undecided
+
+abbrev pub PassedFewer : Passed → Set → Type 0
+PassedFewer P.Broken u = Unit {0}
+PassedFewer (P.Stays c) u = Fewer c u
+
+pub record SettledOn (s : State) (mask : Set) (r : Passed) : Type 0 where
+  pub fewer : PassedFewer r (s .undecided)
+  pub same : (a : List Bool) (st : List Status) → Is mask a → Holds s st → PassedIs r a st

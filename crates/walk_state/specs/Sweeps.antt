@@ -1,0 +1,59 @@
+-- Sweeps over marked edges: the marks, and what is left in the end. Assumes nothing.
+use mathlib.Core.Bool.{Bool}
+use mathlib.Core.List.{List, []}
+use mathlib.Core.Path.{_≡_}
+use Prim.Native.Nat.{ℕ, _+_, _*_, _≤_, _<_}
+use Rattle.sets.specs.Sets.{room, Is, size}
+use Rattle.sets.specs.declared.Set.{Set}
+use Rattle.paper.specs.Walk.{Status, Outcome, Broken, Stands}
+use Rattle.fast_sweeps.specs.Worklist.{touched, nextAhead, nextLater, turnAhead, turnLater, Loop}
+use Rattle.walk_words.specs.Words.{Masks, Sides}
+use Rattle.walk_state.specs.State.{Holds}
+use Rattle.walk_state.specs.declared.State.{State}
+use Rattle.walk_state.specs.declared.Marks.{Marks}
+use Rattle.walk_state.specs.declared.Swept.{Swept}
+use Rattle.walk_state.specs.declared.Swept.the-variants as S
+
+-- ---- the marks
+
+-- r are the edges of the candidates of a set
+abbrev pub Gathered : List ℕ → Set → Set → Type 0
+Gathered sides set r = (masks : List (List Bool)) (d : List Bool) → Sides sides masks → Is set d → Is r (touched masks d)
+
+-- how many edges are marked
+abbrev pub markCount : Marks → ℕ
+markCount m = size (m .ahead) + size (m .later)
+
+pub record MarksAre (m : Marks) (ahead later : List Bool) : Type 0 where
+  pub ahead-is : Is (m .ahead) ahead
+  pub later-is : Is (m .later) later
+
+pub record Turned (ahead later : Set) (r : Marks) : Type 0 where
+  pub sum : markCount r ≡ size ahead + size later
+  pub same : (a l : List Bool) → Is ahead a → Is later l → MarksAre r (turnAhead a l) (turnLater a l)
+
+-- the lowest edge ahead is passed, and a set was decided on it
+pub record Marked (sides : List ℕ) (m : Marks) (decided : Set) (r : Marks) : Type 0 where
+  pub few : markCount r ≤ 2 * room
+  pub fewer : size decided ≡ 0 → markCount r < markCount m
+  pub same : (masks : List (List Bool)) (d a l : List Bool) → Sides sides masks → Is decided d → MarksAre m a l
+      → MarksAre r (turnAhead (nextAhead masks d a) (nextLater masks d a l)) (turnLater (nextAhead masks d a) (nextLater masks d a l))
+
+-- ---- what is left in the end
+
+abbrev pub Left : Outcome → Swept → Type 0
+Left Broken S.Broken = Unit {0}
+Left Broken (S.Stands s) = ⊥
+Left (Stands st) S.Broken = ⊥
+Left (Stands st) (S.Stands s) = Holds s st
+
+-- at most n are undecided
+abbrev pub AtMost : ℕ → Swept → Type 0
+AtMost n S.Broken = Unit {0}
+AtMost n (S.Stands s) = size (s .undecided) ≤ n
+
+-- the sweeps end as all whole sweeps would, and no more are undecided than before
+pub record SweptOut (on sides : List ℕ) (s : State) (changed : Set) (r : Swept) : Type 0 where
+  pub fewer : AtMost (size (s .undecided)) r
+  pub same : (masks : List (List Bool)) (o : Outcome) (st : List Status) (marked : List Bool) → Masks on masks → Sides sides masks
+      → Holds s st → Is changed marked → Loop masks o st marked [] → Left o r

@@ -1,0 +1,205 @@
+// The walk's state and the sweeps over it: those taken and those undecided as sets, one edge settled, edges swept again only where a
+// candidate on them was decided, and the edge of the next assumption. Assumes at most 64 candidates and 64 edges.
+ghost use Prim.Native.Nat.{_<_};
+ghost use Rattle.sets.specs.Sets.{Has, size};
+ghost use Rattle.paper.specs.Walk.{Taken, Rejected};
+ghost use Rattle.walk_state.specs.State.{Decided, SettledOn};
+ghost use Rattle.walk_state.specs.Sweeps.{Gathered, Turned, Marked, SweptOut};
+ghost use Rattle.walk_state.specs.Choice.{From, Opened};
+use paper::MOST_CANDIDATES;
+use paper::MOST_EDGES;
+use sets::Set;
+
+pub struct State {
+    pub taken: Set,
+    pub undecided: Set,
+}
+
+// What settling an edge leaves: the state, and the candidates that it decided.
+struct Change {
+    pub state: State,
+    pub decided: Set,
+}
+
+enum Passed {
+    Broken,
+    Stays(Change),
+}
+
+impl State {
+    pub fn with_taken(self, k: usize) -> State
+        requires { ⌜ Has (self .undecided) k ⌝ }
+        ensures { λ r. ⌜ Decided self k Taken r ⌝ }
+    {
+        State {
+            taken: self.taken.with(k),
+            undecided: self.undecided.without(k),
+        }
+    }
+
+    pub fn with_rejected(self, k: usize) -> State
+        requires { ⌜ Has (self .undecided) k ⌝ }
+        ensures { λ r. ⌜ Decided self k Rejected r ⌝ }
+    {
+        let kept = self.taken;
+        State {
+            taken: kept,
+            undecided: self.undecided.without(k),
+        }
+    }
+
+    // On the edge m are taken and l undecided; l is counted only where m is below 2.
+    fn settled_on(self, mask: Set) -> Passed
+        ensures { λ r. ⌜ SettledOn self mask r ⌝ }
+    {
+        let taken = self.taken;
+        let undecided = self.undecided;
+        let free = mask.and(undecided);
+        let m = mask.and(taken).count();
+        if 2 < m {
+            return Passed::Broken;
+        }
+        if m == 2 {
+            let state = State {
+                taken: taken,
+                undecided: undecided.minus(free),
+            };
+            return Passed::Stays(Change {
+                state: state,
+                decided: free,
+            });
+        }
+        let l = free.count();
+        if m + l < 2 {
+            return Passed::Broken;
+        }
+        if m + l == 2 {
+            let state = State {
+                taken: taken.or(free),
+                undecided: undecided.minus(free),
+            };
+            return Passed::Stays(Change {
+                state: state,
+                decided: free,
+            });
+        }
+        Passed::Stays(Change {
+            state: self,
+            decided: Set::none(),
+        })
+    }
+}
+
+pub enum Swept {
+    Broken,
+    Stands(State),
+}
+
+// The edges to pass in this sweep, and those to pass in the next.
+struct Marks {
+    pub ahead: Set,
+    pub later: Set,
+}
+
+// The edges of all candidates of a set.
+fn gathered(sides: &[u64; MOST_CANDIDATES], set: Set) -> Set
+    ensures { λ r. ⌜ Gathered (now (sides .entry)) set r ⌝ }
+{
+    let mut all = Set::none();
+    let mut left = set;
+    while !left.is_empty() {
+        let k = left.lowest();
+        all = all.or(Set::of_edge(sides, k));
+        left = left.without(k);
+    }
+    all
+}
+
+// If none is ahead, those left for later are.
+fn turned(ahead: Set, later: Set) -> Marks
+    ensures { λ r. ⌜ Turned ahead later r ⌝ }
+{
+    if ahead.is_empty() {
+        return Marks {
+            ahead: later,
+            later: Set::none(),
+        };
+    }
+    Marks {
+        ahead: ahead,
+        later: later,
+    }
+}
+
+// The marks after the lowest edge ahead is passed and a set was decided on it: edges up to it wait for the next sweep.
+fn marked(sides: &[u64; MOST_CANDIDATES], m: Marks, decided: Set) -> Marks
+    requires { ⌜ 0 < size (m .ahead) ⌝ }
+    ensures { λ r. ⌜ Marked (now (sides .entry)) m decided r ⌝ }
+{
+    let ahead = m.ahead;
+    let later = m.later;
+    let e = ahead.lowest();
+    let after = ahead.without(e);
+    if decided.is_empty() {
+        return turned(after, later);
+    }
+    let touched = gathered(sides, decided);
+    let passed = Set::lowest_of(e + 1);
+    turned(
+        after.or(touched.minus(passed)),
+        later.or(touched.and(passed)),
+    )
+}
+
+// "Sweep edges in order until a whole sweep changes nothing or a contradiction appears."
+pub fn settled(
+    on: &[u64; MOST_EDGES],
+    sides: &[u64; MOST_CANDIDATES],
+    s: State,
+    changed: Set,
+) -> Swept
+    ensures { λ r. ⌜ SweptOut (now (on .entry)) (now (sides .entry)) s changed r ⌝ }
+{
+    let mut state = s;
+    let mut marks = Marks {
+        ahead: changed,
+        later: Set::none(),
+    };
+    while !marks.ahead.is_empty() {
+        let e = marks.ahead.lowest();
+        let passed = state.settled_on(Set::of_edge(on, e));
+        let Passed::Stays(change) = passed else {
+            return Swept::Broken;
+        };
+        state = change.state;
+        marks = marked(sides, marks, change.decided);
+    }
+    Swept::Stands(state)
+}
+
+pub struct Opening {
+    pub edge: usize,
+    pub free: Set,
+}
+
+// The lowest edge from `from` on that has one undecided, and those undecided on it; n and all where there is none.
+pub fn first_open(on: &[u64; MOST_EDGES], n: usize, undecided: Set, from: usize) -> Opening
+    requires { ⌜ From n from ⌝ }
+    ensures { λ r. ⌜ Opened (now (on .entry)) n undecided from r ⌝ }
+{
+    let mut e = from;
+    while e < n {
+        let free = Set::of_edge(on, e).and(undecided);
+        if !free.is_empty() {
+            return Opening {
+                edge: e,
+                free: free,
+            };
+        }
+        e += 1;
+    }
+    Opening {
+        edge: e,
+        free: undecided,
+    }
+}
