@@ -12,6 +12,7 @@ mod tables;
 mod walk;
 
 pub use check::check;
+pub use cover::candidates;
 pub use drawing::Drawing;
 pub use loops::{find_loops, Loop};
 pub use rules::edges_meet;
@@ -22,7 +23,6 @@ pub use walk::{End, Walk};
 use crate::convert::Answer;
 use crate::drawing::Source;
 use crate::numbers::*;
-use cover::candidates;
 use leaf::Leaf;
 
 /// What the drawing rules, 3 to 16, let through.

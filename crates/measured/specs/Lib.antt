@@ -1,0 +1,2 @@
+-- What the stages ask. Assumes nothing.
+pub mod Asked

@@ -1,0 +1,71 @@
+// The stages of a conversion one by one, for a program that counts what each costs (tools/measure). No entry points: each asks what its
+// stage asks.
+ghost use Rattle.paper_laws.specs.InRange.{InRange};
+ghost use Rattle.candidates.specs.Keeps.{Keeps};
+ghost use Rattle.measured.specs.Asked.{Loops};
+use paper::Answer;
+use paper::FACE_ROOM;
+use paper::LOOP_ROOM;
+use paper::MOST_CANDIDATES;
+use paper::MOST_LOOPS;
+use paper::MOST_VERTICES;
+
+// Rules 11 to 14: the number of the one that refuses the drawing, or 0.
+#[no_mangle]
+pub extern "C" fn measured_rules(xyz: &[i64], ends: &[u8]) -> u64
+    requires { ⌜ InRange (now xyz) (now ends) ⌝ }
+{
+    let answer = drawing_rules::drawing_rules(xyz, ends);
+    match answer {
+        Answer::Refused(r) => r.number as u64,
+        Answer::Fine => 0,
+    }
+}
+
+// All loops with their words: how many, 129 for more than 128.
+#[no_mangle]
+pub extern "C" fn measured_loops(
+    xyz: &[i64],
+    ends: &[u8],
+    near: &[u64; MOST_VERTICES],
+    table: &mut [u8; LOOP_ROOM],
+    planes: &mut [u64; MOST_LOOPS],
+    corners: &mut [u64; MOST_LOOPS],
+    sides: &mut [u64; MOST_LOOPS],
+) -> usize
+    requires { ⌜ Loops (now xyz) (now ends) (now near) (now table) (now planes) (now corners) (now sides) ⌝ }
+{
+    let number = loop_words::number_edges(ends);
+    loop_known::known_loops(xyz, near, &number, table, planes, corners, sides)
+}
+
+// The candidates with their words: how many, 65 for more than 64.
+#[no_mangle]
+pub extern "C" fn measured_candidates(
+    xyz: &[i64],
+    ends: &[u8],
+    table: &[u8],
+    n: usize,
+    corners: &[u64; MOST_LOOPS],
+    sides: &[u64; MOST_LOOPS],
+    planes: &[u64; MOST_LOOPS],
+    rows: &mut [u8; FACE_ROOM],
+    kept_corners: &mut [u64; MOST_CANDIDATES],
+    kept_sides: &mut [u64; MOST_CANDIDATES],
+) -> usize
+    requires { ⌜ Keeps (now xyz) (now ends) (now table) n (now corners) (now sides) (now planes)
+        (now rows) (now «kept_corners») (now «kept_sides») ⌝ }
+{
+    candidates::candidates(
+        xyz,
+        ends,
+        table,
+        n,
+        corners,
+        sides,
+        planes,
+        rows,
+        kept_corners,
+        kept_sides,
+    )
+}
