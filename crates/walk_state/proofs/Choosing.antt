@@ -17,7 +17,7 @@ use Rattle.fast_sweeps.specs.Worklist.{openFrom}
 use Rattle.fast_sweeps.proofs.Choice.{open-here, open-skip, open-end, lowest-here, lowest-none}
 use Rattle.walk_words.specs.Words.{Masks}
 use Rattle.walk_state.specs.Choice.{Opened}
-use Rattle.walk_state.proofs.Gathering.{some-in, none-in}
+use Rattle.walk_state.proofs.Lowest.{some-in, none-in}
 
 abbrev pub Looking : List ℕ → ℕ → Set → ℕ → ℕ → Type 0
 Looking on n u from e =

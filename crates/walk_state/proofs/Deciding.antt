@@ -2,21 +2,21 @@
 use mathlib.Core.Bool.{Bool}
 use mathlib.Core.List.{List}
 use mathlib.Core.Path.{_≡_, refl, sym, subst}
-use Prim.Native.Nat.{ℕ, suc, _^_, _<_}
+use Prim.Native.Nat.{ℕ, _^_, _<_}
 use native.Mathlib.Omega.{arith}
 use lib.ListN.{set}
 use Rattle.sets.specs.Word.{either, only}
-use Rattle.sets.specs.Sets.{room, Is, Has, size, digitsOf, Dropped}
+use Rattle.sets.specs.Sets.{room, Is, Has, digitsOf, Dropped}
 use Rattle.sets.specs.declared.Set.{Set}
-use Rattle.sets.proofs.Digits.{count-only}
 use Rattle.sets.proofs.Ones.{dig-lt}
-use Rattle.sets.proofs.Sets.{is-digits, size-is}
+use Rattle.sets.proofs.Sets.{is-digits}
 use Rattle.paper.specs.Conversion.{takens}
 use Rattle.paper.specs.Walk.{Taken, Rejected}
 use Rattle.means_walk.proofs.Status.{opens, open-lt}
 use Rattle.fast_sweeps.proofs.Words.{takens-set-taken, takens-set-rejected, opens-set}
 use Rattle.walk_state.specs.State.{Decided}
 use Rattle.walk_state.specs.declared.State.{State}
+use Rattle.walk_state.proofs.Lowest.{drop-one}
 
 -- what is in a set is below 64
 pub narrow : {x : Set} (k : ℕ) → x .word < 2 ^ room → Has x k → k < room
@@ -26,16 +26,10 @@ narrow {x} k h there =
 
 module _ (s : State) (k : ℕ) (h : s .undecided .word < 2 ^ room) (there : Has (s .undecided) k) {u : Set}
     (d : Dropped (s .undecided) k u) where
-  falls : suc (size u) ≡ size (s .undecided)
-  falls =
-      let a = digitsOf (s .undecided) in
-      let i = is-digits (s .undecided) h in
-      omega (arith, size-is i, size-is (d .same a i), count-only a k (there a i))
-
   pub taken-is : {t : Set} → ((a : List Bool) → Is (s .taken) a → Is t (either a (only k)))
       → Decided s k Taken (record { taken = t; undecided = u })
   taken-is {t} f = record {
-    fewer = falls;
+    fewer = drop-one k h there d;
     same = λ st i.
         let e : takens (set st k Taken) ≡ either (takens st) (only k)
         = takens-set-taken st k (open-lt st k (there (opens st) (i .leaves))) in
@@ -47,7 +41,7 @@ module _ (s : State) (k : ℕ) (h : s .undecided .word < 2 ^ room) (there : Has 
 
   pub rejected-is : Decided s k Rejected (record { taken = s .taken; undecided = u })
   rejected-is = record {
-    fewer = falls;
+    fewer = drop-one k h there d;
     same = λ st i.
         record {
           takes = subst (Is (s .taken)) (sym (takens-set-rejected st k (there (opens st) (i .leaves)))) (i .takes);

@@ -1,48 +1,18 @@
 -- The edges of all candidates of a set, gathered from the lowest on. Assumes nothing.
-use mathlib.Core.Bool.{Bool, true, false}
-use mathlib.Core.List.{List, [], _∷_}
-use mathlib.Core.Path.{_≡_, refl, sym, ap, _∙_, subst}
+use mathlib.Core.Bool.{Bool, false}
+use mathlib.Core.List.{List, []}
+use mathlib.Core.Path.{_≡_, sym, subst}
 use Prim.Native.Nat.{ℕ, _<_}
-use native.Mathlib.Omega.{arith}
-use lib.Dec.{eqb}
 use lib.ListN.{length, replicate}
-use borrow.Author.Tests.{eqb-true, eqb-false}
-use Rattle.sets.specs.Word.{count, first, either, less, only}
+use Rattle.sets.specs.Word.{first, either}
 use Rattle.sets.specs.Sets.{Is, size, maskAt, Joint, Lowest, Dropped, EdgeSet}
 use Rattle.sets.specs.declared.Set.{Set}
-use Rattle.sets.proofs.Digits.{less-nil}
-use Rattle.sets.proofs.Sets.{size-is, none-all}
+use Rattle.sets.proofs.Sets.{none-all}
 use Rattle.fast_sweeps.specs.Worklist.{after, edgesWith}
 use Rattle.fast_sweeps.proofs.Marks.{Gathers, gather-start, gather-more, gather-end}
 use Rattle.walk_words.specs.Words.{Sides}
 use Rattle.walk_state.specs.Sweeps.{Gathered}
-
--- ---- without the lowest
-
-after-is : (a : List Bool) → less a (only (first a)) ≡ after a
-unfolding less only first after
-after-is [] = refl
-after-is (true ∷ a) = ap (λ (x : List Bool). false ∷ x) (less-nil a)
-after-is (false ∷ a) = ap (λ (x : List Bool). false ∷ x) (after-is a)
-
-module _ {x y : Set} {e : ℕ} (low : Lowest x e) (d : Dropped x e y) where
-  pub drops : (a : List Bool) → Is x a → Is y (after a)
-  drops a i = subst (Is y) (ap (λ (k : ℕ). less a (only k)) (low .same a i) ∙ after-is a) (d .same a i)
-
--- ---- whether a set is empty, as the code asks it
-
-module _ (x : Set) {b : Bool} (e : b ≡ eqb (size x) 0) where
-  pub is-none : b ≡ true → size x ≡ 0
-  is-none t = eqb-true (size x) 0 (sym e ∙ t)
-
-  pub is-some : b ≡ false → 0 < size x
-  is-some f = let n = eqb-false (size x) 0 (sym e ∙ f) in omega (arith, n)
-
-pub some-in : {x : Set} {a : List Bool} → Is x a → 0 < size x → count a ≡ 0 → ⊥
-some-in i p z = omega (arith, size-is i)
-
-pub none-in : {x : Set} {a : List Bool} → Is x a → size x ≡ 0 → count a ≡ 0
-none-in i z = sym (size-is i) ∙ z
+use Rattle.walk_state.proofs.Lowest.{drops, some-in, none-in}
 
 -- ---- the loop: `all` has the edges of the candidates gone through, `left` are those to come
 

@@ -1,4 +1,5 @@
 -- Laws of the walk's state and of the sweeps, one for each place in the code. Assumes nothing.
+pub mod Lowest
 pub mod Deciding
 pub mod Settling
 pub mod Gathering

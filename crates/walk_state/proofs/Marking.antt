@@ -19,7 +19,7 @@ use Rattle.fast_sweeps.proofs.Words.{ahead-word, later-word}
 use Rattle.walk_words.specs.Words.{Sides}
 use Rattle.walk_state.specs.Sweeps.{Gathered, Turned, Marked}
 use Rattle.walk_state.specs.declared.Marks.{Marks}
-use Rattle.walk_state.proofs.Gathering.{drops, some-in, none-in}
+use Rattle.walk_state.proofs.Lowest.{drops, some-in, none-in}
 
 -- ---- "if ahead == 0 { ahead = later; later = 0; }"
 

@@ -23,7 +23,7 @@ use Rattle.walk_state.specs.declared.Change.{Change}
 use Rattle.walk_state.specs.declared.Passed.the-variants as P
 use Rattle.walk_state.specs.declared.Marks.{Marks}
 use Rattle.walk_state.specs.declared.Swept.the-variants as S
-use Rattle.walk_state.proofs.Gathering.{some-in, none-in}
+use Rattle.walk_state.proofs.Lowest.{some-in, none-in}
 
 -- what the state and the marks stand for in the midst of the sweeps that end as o
 pub record Midst (masks : List (List Bool)) (o : Outcome) (v : State) (m : Marks) : Type 0 where
@@ -39,7 +39,7 @@ pub record Sweeping (on sides : List ℕ) (s : State) (changed : Set) (v : State
   pub same : (masks : List (List Bool)) (o : Outcome) (st : List Status) (marks : List Bool) → Masks on masks → Sides sides masks
       → Holds s st → Is changed marks → Loop masks o st marks [] → Midst masks o v m
 
--- each edge passed makes this smaller: at most 128 edges are marked, and each mark is of no more weight than one undecided
+-- each edge passed makes this smaller: at most 128 edges are marked, so that one undecided outweighs all marks
 abbrev pub togo : State → Marks → ℕ
 togo v m = size (v .undecided) * (2 * room + 1) + markCount m
 

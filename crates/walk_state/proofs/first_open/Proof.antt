@@ -4,7 +4,7 @@ use borrow.Author.Tests.{not-true, not-false}
 use mathlib.Core.Path.{refl}
 use native.Mathlib.Omega.{arith}
 use Prim.Native.Nat.{_-_, _≤_}
-use Rattle.walk_state.proofs.Gathering.{is-none, is-some}
+use Rattle.walk_state.proofs.Lowest.{is-none, is-some}
 use Rattle.walk_state.proofs.Choosing.{Looking, open-found, open-next, open-last}
 use Rattle.walk_state.proofs.first_open.Statement.{statement}
 use Rattle.walk_state.proofs.first_open.Tie as tie

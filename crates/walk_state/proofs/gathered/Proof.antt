@@ -5,7 +5,8 @@ use borrow.Author.Tests.{not-true, not-false}
 use native.Mathlib.Omega.{arith}
 use Prim.Native.Nat.{_<_}
 use Rattle.sets.specs.Sets.{size}
-use Rattle.walk_state.proofs.Gathering.{is-none, is-some, Gathering, gathering-start, gathering-more, gathering-end}
+use Rattle.walk_state.proofs.Lowest.{is-none, is-some}
+use Rattle.walk_state.proofs.Gathering.{Gathering, gathering-start, gathering-more, gathering-end}
 use Rattle.walk_state.proofs.gathered.Statement.{statement}
 use Rattle.walk_state.proofs.gathered.Tie as tie
 

@@ -3,7 +3,7 @@ use borrow.Author.Needs.{needs}
 use native.Mathlib.Omega.{arith}
 use Prim.Native.Nat.{_^_, _<_}
 use Rattle.sets.specs.Sets.{room}
-use Rattle.walk_state.proofs.Gathering.{is-none, is-some}
+use Rattle.walk_state.proofs.Lowest.{is-none, is-some}
 use Rattle.walk_state.proofs.Marking.{marked-none, marked-some}
 use Rattle.walk_state.proofs.marked.Statement.{statement}
 use Rattle.walk_state.proofs.marked.Tie as tie

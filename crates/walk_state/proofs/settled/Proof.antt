@@ -7,7 +7,7 @@ use native.Mathlib.Omega.{arith}
 use Prim.Native.Nat.{_<_}
 use Rattle.sets.specs.Sets.{size}
 use Rattle.walk_state.specs.State.{SettledOn}
-use Rattle.walk_state.proofs.Gathering.{is-none, is-some}
+use Rattle.walk_state.proofs.Lowest.{is-none, is-some}
 use Rattle.walk_state.proofs.Sweeping.{Sweeping, togo, sweeping-start, sweeping-end, sweeping-broken, sweeping-less, sweeping-more}
 use Rattle.walk_state.proofs.settled.Statement.{statement}
 use Rattle.walk_state.proofs.settled.Tie as tie

@@ -1,6 +1,6 @@
 -- `walk_state::turned`: where none is ahead, the next sweep begins. Assumes nothing.
 use borrow.Author.Needs.{needs}
-use Rattle.walk_state.proofs.Gathering.{is-none, is-some}
+use Rattle.walk_state.proofs.Lowest.{is-none, is-some}
 use Rattle.walk_state.proofs.Marking.{turned-over, turned-on}
 use Rattle.walk_state.proofs.turned.Statement.{statement}
 use Rattle.walk_state.proofs.turned.Tie as tie

@@ -38,7 +38,8 @@ returns : tie.Need-returns
 returns c =
     let m = c .before in
     let a = start m .args in
-    edge-many (a .self) (a .mask) (m .before .before .and .ensures) (m .before .and2 .ensures) (m .count .ensures) (omega (arith, c .if1 .taken))
+    edge-many (a .self) (a .mask) (m .before .before .and .ensures) (m .before .and2 .ensures) (m .count .ensures)
+    (omega (arith, c .if1 .taken))
 
 minus-requires : tie.Need-minus-requires
 minus-requires c κs = search needs
@@ -79,7 +80,8 @@ returns-4 c =
     let m = earlier l in
     let a = start m .args in
     edge-exactly (a .self) (a .mask) (m .before .before .and .ensures) (m .before .and2 .ensures) (m .count .ensures)
-    (l .count2 .ensures) (c .before .or .ensures) (c .minus2 .ensures) (omega (arith, l .before .if2 .left)) (omega (arith, c .before .before .if4 .taken))
+    (l .count2 .ensures) (c .before .or .ensures) (c .minus2 .ensures) (omega (arith, l .before .if2 .left))
+    (omega (arith, c .before .before .if4 .taken))
     (mask-fits (start m)) (undecided-fits (start m))
 
 none-requires : tie.Need-none-requires

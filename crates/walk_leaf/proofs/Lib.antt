@@ -1,0 +1,7 @@
+-- Laws of the tests, one for each place in the code. Assumes nothing.
+pub mod Steps
+pub mod Rounds
+pub mod Directions
+pub mod Sums
+pub mod Volumes
+pub mod Judging

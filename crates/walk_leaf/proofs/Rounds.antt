@@ -1,0 +1,156 @@
+-- All edges of a face, and face by face until none waits: what is left to do gives the whole answer. Each face is gone round once, since
+-- no more wait than are reached anew. Assumes nothing.
+use mathlib.Core.Bool.{Bool}
+use mathlib.Core.List.{List, []}
+use mathlib.Core.Path.{_≡_, refl, sym, ap, _∙_, subst}
+use Prim.Native.Nat.{ℕ, _+_, _-_, _≤_, _<_}
+use native.Mathlib.Omega.{arith}
+use lib.ListN.{length, getD}
+use Rattle.sets.specs.Word.{count, first, only}
+use Rattle.sets.specs.Sets.{room, Is, size, maskAt, Lowest, Dropped, EdgeSet}
+use Rattle.sets.specs.declared.Set.{Set}
+use Rattle.sets.proofs.Digits.{first-lt}
+use Rattle.fast_sweeps.specs.Worklist.{after, edgesWith}
+use Rattle.fast_sweeps.proofs.Marks.{length-after, length-sides}
+use Rattle.fast_leaf.specs.Faces.{atEdge, aroundFace, atFace, goOn, toGo, atLowest, fromLowest}
+use Rattle.fast_leaf.specs.Faces as Lists
+use Rattle.fast_leaf.proofs.Around.{around-none, around-more, on-none, rest-more, rest-start}
+use Rattle.walk_words.specs.Words.{Masks, Sides}
+use Rattle.walk_state.proofs.Lowest.{drops, some-in, none-in}
+use Rattle.walk_leaf.specs.Faces.{GoingIs, Edges, Grows, AtEdge, AroundFace, FromLowest}
+use Rattle.walk_leaf.specs.declared.faces.Going.{Going}
+use Rattle.walk_leaf.proofs.Steps.{size-room}
+
+-- ---- a mask by its place
+
+pub mask-at : {words : List ℕ} {masks : List (List Bool)} → Masks words masks → {e : ℕ} {x : Set} → EdgeSet words e x → {k : ℕ} → e ≡ k
+    → k < length masks → Is x (getD masks k [])
+mask-at {words} {masks} i {e} {x} edge {k} p h =
+    subst (λ (y : Set). Is y (getD masks k [])) (sym (edge .is ∙ ap (λ (j : ℕ). maskAt words j) p)) (i .at k h)
+
+pub lowest-in : {x : Set} {a : List Bool} {n : ℕ} → Is x a → 0 < size x → length a ≤ n → first a < n
+lowest-in {x} {a} i p h = omega (arith, first-lt a (some-in i p))
+
+-- ---- all edges of a face
+
+grows-on : {g h r : Going} → Grows g h → Grows h r → Grows g r
+grows-on a b = record { few = b .few; anew = omega (arith, a .anew, b .anew) }
+
+pub record Turning (masks ups : List (List Bool)) (t : List Bool) (f : ℕ) (l : List Bool) (s : Lists.Going) (g : Going) (left : Set)
+    : Type 0 where
+  pub rest : List Bool
+  pub now : Lists.Going
+  pub short : length rest ≤ length masks
+  pub left-is : Is left rest
+  pub going-is : GoingIs g now
+  pub whole : aroundFace (count l) masks ups t f l s ≡ aroundFace (count rest) masks ups t f rest now
+
+pub record Around (on up : List ℕ) (taken : Set) (f : ℕ) (g₀ : Going) (edges : Set) (g : Going) (left : Set) : Type 0 where
+  pub grows : Grows g₀ g
+  pub same : (masks ups : List (List Bool)) (t l : List Bool) (s : Lists.Going) → Edges on up masks ups → length l ≤ length masks
+      → Is taken t → Is edges l → GoingIs g₀ s → Turning masks ups t f l s g left
+
+module _ (on up : List ℕ) (taken : Set) (f : ℕ) (g₀ : Going) (edges : Set) where
+  pub around-start : size (g₀ .reached) ≤ room → Around on up taken f g₀ edges g₀ edges
+  around-start h = record {
+    grows = record { few = h; anew = omega arith };
+    same = λ masks ups t l s e p i j v.
+        record { rest = l; now = s; short = p; left-is = j; going-is = v; whole = refl };
+  }
+
+  module _ {g : Going} {left : Set} (a : Around on up taken f g₀ edges g left) where
+    pub around-next : 0 < size left → {e : ℕ} → Lowest left e → {mask other : Set} → EdgeSet on e mask → EdgeSet up e other → {r : Going}
+        → AtEdge mask other taken f g r → {left′ : Set} → Dropped left e left′ → Around on up taken f g₀ edges r left′
+    around-next p {e} low {mask} {other} eo eu {r} st {left′} d = record {
+      grows = grows-on (a .grows) (st .grows);
+      same = λ masks ups t l s q h i j v.
+          let w = a .same masks ups t l s q h i j v in
+          let k : ℕ = first (w .rest) in
+          let m : k < length masks = lowest-in (w .left-is) p (w .short) in
+          let n : k < length ups = omega (arith, q .as-many) in
+          let c : e ≡ k = low .same (w .rest) (w .left-is) in
+          record {
+            rest = after (w .rest);
+            now = atEdge (getD masks k []) (getD ups k []) t f (w .now);
+            short = omega (arith, length-after (w .rest), w .short);
+            left-is = drops low d (w .rest) (w .left-is);
+            going-is =
+                st .same (getD masks k []) (getD ups k []) t (w .now) (mask-at (q .on-are) eo c m) (mask-at (q .up-are) eu c n) i
+                (w .going-is);
+            whole = w .whole ∙ around-more masks ups t f (w .rest) (w .now) (some-in (w .left-is) p);
+          };
+    }
+
+    pub around-end : size left ≡ 0 → AroundFace on up edges taken f g₀ g
+    around-end z = record {
+      grows = a .grows;
+      same = λ masks ups t l s q h i j v.
+          let w = a .same masks ups t l s q h i j v in
+          let e = w .whole ∙ around-none masks ups t f (w .rest) (w .now) (none-in (w .left-is) z) in
+          subst (GoingIs g) (sym e) (w .going-is);
+    }
+
+-- ---- face by face
+
+pub record Round (masks ups : List (List Bool)) (t : List Bool) (g : Going) : Type 0 where
+  pub now : Lists.Going
+  pub going-is : GoingIs g now
+  pub whole : goOn (toGo t now) masks ups t now ≡ fromLowest masks ups t
+
+pub record Rounds (on up sides : List ℕ) (taken : Set) (g : Going) : Type 0 where
+  pub few : size (g .reached) ≤ room
+  pub same : (masks ups : List (List Bool)) (t : List Bool) → Edges on up masks ups → Sides sides masks → Is taken t → Round masks ups t g
+
+-- those not yet reached, and those that wait
+abbrev pub togo : Going → ℕ
+togo g = (room - size (g .reached)) + size (g .waiting)
+
+module _ (on up sides : List ℕ) (taken : Set) where
+  pub rounds-start : 0 < size taken → {k : ℕ} → Lowest taken k → {one none : Set} → Is one (only k) → Is none []
+      → Rounds on up sides taken (record { reached = one; waiting = one; turned = none })
+  rounds-start p {k} low {one} i n = record {
+    few = size-room i;
+    same = λ masks ups t q s j.
+        let w : Is one (only (first t)) = subst (λ (m : ℕ). Is one (only m)) (low .same t j) i in
+        record {
+          now = atLowest t;
+          going-is = record { reached-is = w; waiting-is = w; turned-is = n };
+          whole = rest-start masks ups t (some-in j p);
+        };
+  }
+
+  module _ {g : Going} (a : Rounds on up sides taken g) where
+    module _ (p : 0 < size (g .waiting)) {f : ℕ} (low : Lowest (g .waiting) f) {edges : Set} (e : EdgeSet sides f edges) {waiting : Set}
+        (d : Dropped (g .waiting) f waiting) {r : Going}
+        (b : AroundFace on up edges taken f (record { reached = g .reached; waiting = waiting; turned = g .turned }) r) where
+      pub rounds-less : togo r < togo g
+      rounds-less = omega (arith, a .few, b .grows .few, b .grows .anew, d .fewer (low .there))
+
+      next : {masks ups : List (List Bool)} {t : List Bool} → Edges on up masks ups → Sides sides masks → Is taken t → Round masks ups t g
+          → Round masks ups t r
+      unfolding atFace
+      next {masks} {ups} {t} q s i w =
+          let v = w .going-is in
+          let k : ℕ = first (w .now .waiting) in
+          let c : f ≡ k = low .same (w .now .waiting) (v .waiting-is) in
+          let l : List Bool = edgesWith masks f in
+          let h : Is edges l = subst (λ (y : Set). Is y l) (sym (e .is)) (s .at f (low .narrow)) in
+          let o : Lists.Going = record { reached = w .now .reached; waiting = after (w .now .waiting); turned = w .now .turned } in
+          let u : GoingIs r (aroundFace (count l) masks ups t f l o)
+          = b .same masks ups t l o q (omega (arith, length-sides masks f)) i h
+          (record { reached-is = v .reached-is; waiting-is = drops low d (w .now .waiting) (v .waiting-is); turned-is = v .turned-is }) in
+          record {
+            now = atFace masks ups t (w .now);
+            going-is =
+                subst (λ (j : ℕ). GoingIs r (aroundFace (count (edgesWith masks j)) masks ups t j (edgesWith masks j) o)) c u;
+            whole = sym (rest-more masks ups t (w .now) (some-in (v .waiting-is) p)) ∙ w .whole;
+          }
+
+      pub rounds-next : Rounds on up sides taken r
+      rounds-next = record { few = b .grows .few; same = λ masks ups t q s i. next q s i (a .same masks ups t q s i) }
+
+    pub rounds-end : size (g .waiting) ≡ 0 → FromLowest on up sides taken g
+    rounds-end z masks ups t q s i =
+        let w = a .same masks ups t q s i in
+        let e = sym (w .whole) ∙ on-none masks ups t (toGo t (w .now)) (w .now) (none-in (w .going-is .waiting-is) z) in
+        subst (GoingIs g) (sym e) (w .going-is)

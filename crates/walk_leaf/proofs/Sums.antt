@@ -1,0 +1,163 @@
+-- (v) and (iv) over the faces taken, from the lowest on: what is left gives the whole answer. Assumes nothing.
+use mathlib.Core.Bool.{Bool, true, false, cond}
+use mathlib.Core.List.{List, []}
+use mathlib.Core.Path.{_≡_, refl, sym, ap, ap₂, _∙_, subst}
+use Prim.Native.Nat.{ℕ, _-_, _*_, _≤_, _<_}
+use native.Mathlib.Omega.{arith}
+use lib.Dec.{eqb}
+use lib.IntN.{ℤ, pos, negℤ, _+ℤ_, +ℤ-assoc, +ℤ-idl, +ℤ-idr}
+use lib.ListN.{length, getD}
+use borrow.Author.Tests.{eq-eqb, ne-eqb}
+use mir.Syntax.{w64}
+use mir.Val.{ofZ}
+use Rattle.exact.specs.Size.{Within}
+use Rattle.exact.proofs.Size.{within-add, within-le, within-lit, within-neg}
+use Rattle.sets.specs.Word.{dig, count, first, both}
+use Rattle.sets.specs.Sets.{room, Is, size, Joint, Lowest, Dropped, EdgeSet}
+use Rattle.sets.specs.declared.Set.{Set}
+use Rattle.paper.specs.Solids.{part}
+use Rattle.fast_sweeps.specs.Worklist.{after}
+use Rattle.fast_sweeps.proofs.Marks.{length-after}
+use Rattle.fast_leaf.specs.Faces.{clearOn, sixOn}
+use Rattle.fast_leaf.proofs.Sums.{clear-none, clear-more, six-none, six-more}
+use Rattle.walk_words.specs.Words.{Masks, mostSix, Sixes}
+use Rattle.walk_state.proofs.Lowest.{drops, some-in, none-in}
+use Rattle.walk_leaf.specs.Tests.{ClearIs, PartIs, Weighs}
+use Rattle.walk_leaf.proofs.Rounds.{mask-at, lowest-in}
+
+-- ---- (v)
+
+pub record Clearing (cs : List (List Bool)) (t : List Bool) (left : Set) : Type 0 where
+  pub rest : List Bool
+  pub short : length rest ≤ length cs
+  pub left-is : Is left rest
+  pub whole : clearOn (count t) cs t t ≡ clearOn (count rest) cs rest t
+
+abbrev pub Clear : List ℕ → Set → Set → Type 0
+Clear clashes taken left =
+    (cs : List (List Bool)) (t : List Bool) → Masks clashes cs → length t ≤ length cs → Is taken t → Clearing cs t left
+
+module _ (clashes : List ℕ) (taken : Set) where
+  pub clear-start : Clear clashes taken taken
+  clear-start cs t m h i = record { rest = t; short = h; left-is = i; whole = refl }
+
+  module _ {left : Set} (a : Clear clashes taken left) where
+    module _ (p : 0 < size left) {k : ℕ} (low : Lowest left k) {mask clashing : Set} (e : EdgeSet clashes k mask)
+        (j : Joint mask taken clashing both) where
+      met : {cs : List (List Bool)} {t : List Bool} → Masks clashes cs → Is taken t → (w : Clearing cs t left)
+          → Is clashing (both (getD cs (first (w .rest)) []) t)
+      met {cs} {t} m i w =
+          let f : ℕ = first (w .rest) in
+          j (getD cs f []) t (mask-at m e (low .same (w .rest) (w .left-is)) (lowest-in (w .left-is) p (w .short))) i
+
+      here : {cs : List (List Bool)} {t : List Bool} (w : Clearing cs t left) → clearOn (count t) cs t t
+          ≡ cond (eqb (count (both (getD cs (first (w .rest)) []) t)) 0) (clearOn (count (after (w .rest))) cs (after (w .rest)) t) false
+      here {cs} {t} w = w .whole ∙ clear-more t cs (w .rest) (some-in (w .left-is) p)
+
+      pub clear-not : 0 < size clashing → ClearIs clashes taken false
+      clear-not n cs t m h i =
+          let w = a cs t m h i in
+          let z = ne-eqb (count (both (getD cs (first (w .rest)) []) t)) 0 (some-in (met m i w) n) in
+          sym (here w ∙ ap (λ (b : Bool). cond b (clearOn (count (after (w .rest))) cs (after (w .rest)) t) false) z)
+
+      pub clear-next : size clashing ≡ 0 → {left′ : Set} → Dropped left k left′ → Clear clashes taken left′
+      clear-next n d cs t m h i =
+          let w = a cs t m h i in
+          let z = eq-eqb (count (both (getD cs (first (w .rest)) []) t)) 0 (none-in (met m i w) n) in
+          record {
+            rest = after (w .rest);
+            short = omega (arith, length-after (w .rest), w .short);
+            left-is = drops low d (w .rest) (w .left-is);
+            whole = here w ∙ ap (λ (b : Bool). cond b (clearOn (count (after (w .rest))) cs (after (w .rest)) t) false) z;
+          }
+
+    pub clear-end : size left ≡ 0 → ClearIs clashes taken true
+    clear-end z cs t m h i =
+        let w = a cs t m h i in
+        sym (w .whole ∙ clear-none t cs (w .rest) (none-in (w .left-is) z))
+
+-- ---- (iv): the sum so far and what is left make the whole sum
+
+pub record Summing (zs : List ℤ) (t s : List Bool) (done : ℤ) (left : Set) : Type 0 where
+  pub rest : List Bool
+  pub short : length rest ≤ length zs
+  pub left-is : Is left rest
+  pub whole : done +ℤ sixOn (count rest) zs rest s ≡ sixOn (count t) zs t s
+
+pub record Weighing (sixes : List ℤ) (taken turned : Set) (sum : ℕ) (left : Set) : Type 0 where
+  pub done : ℤ
+  pub sum-is : sum ≡ ofZ w64 done
+  pub few : size left ≤ room
+  pub small : Within ((room - size left) * mostSix) done
+  pub same : (zs : List ℤ) (t s : List Bool) → Sixes sixes zs → length t ≤ length zs → Is taken t → Is turned s
+      → Summing zs t s done left
+
+-- a face's part
+pub part-turned : {sixes : List ℤ} {k : ℕ} {b : Bool} {r : ℤ} → Within mostSix (getD sixes k (pos 0)) → b ≡ true
+    → r ≡ negℤ (getD sixes k (pos 0)) → PartIs sixes k b r
+part-turned {sixes} {k} w e f = record {
+  is = f ∙ ap (λ (x : Bool). part true x (getD sixes k (pos 0))) (sym e);
+  small = subst (λ (z : ℤ). Within mostSix z) (sym f) (within-neg w);
+}
+
+pub part-plain : {sixes : List ℤ} {k : ℕ} {b : Bool} {r : ℤ} → Within mostSix (getD sixes k (pos 0)) → b ≡ false
+    → r ≡ getD sixes k (pos 0) → PartIs sixes k b r
+part-plain {sixes} {k} w e f = record {
+  is = f ∙ ap (λ (x : Bool). part true x (getD sixes k (pos 0))) (sym e);
+  small = subst (λ (z : ℤ). Within mostSix z) (sym f) w;
+}
+
+module _ (sixes : List ℤ) (taken turned : Set) where
+  pub weighing-start : size taken ≤ room → {sum : ℕ} → sum ≡ ofZ w64 (pos 0) → Weighing sixes taken turned sum taken
+  weighing-start h e = record {
+    done = pos 0;
+    sum-is = e;
+    few = h;
+    small = within-le (omega arith) (within-lit {n = 0} tt);
+    same = λ zs t s m l i j. record { rest = t; short = l; left-is = i; whole = +ℤ-idl (sixOn (count t) zs t s) };
+  }
+
+  module _ {sum : ℕ} {left : Set} (w : Weighing sixes taken turned sum left) where
+    module _ (p : 0 < size left) {k : ℕ} (low : Lowest left k) {b : Bool} (h : (a : List Bool) → Is turned a → b ≡ dig a k) {z : ℤ}
+        (q : PartIs sixes k b z) where
+      one : {zs : List ℤ} {t s : List Bool} → Sixes sixes zs → Is turned s → (v : Summing zs t s (w .done) left)
+          → z ≡ part true (dig s (first (v .rest))) (getD zs (first (v .rest)) (pos 0))
+      one {zs} {t} {s} m j v =
+          let c : k ≡ first (v .rest) = low .same (v .rest) (v .left-is) in
+          let n : k < length zs = omega (arith, lowest-in (v .left-is) p (v .short)) in
+          q .is ∙ ap₂ (λ (x : Bool) (y : ℤ). part true x y) (h s j) (m .at k n)
+          ∙ ap (λ (f : ℕ). part true (dig s f) (getD zs f (pos 0))) c
+
+      pub weighing-next : {sum′ : ℕ} → sum′ ≡ ofZ w64 (w .done +ℤ z) → {left′ : Set} → Dropped left k left′
+          → Weighing sixes taken turned sum′ left′
+      weighing-next e d = record {
+        done = w .done +ℤ z;
+        sum-is = e;
+        few = omega (arith, w .few, d .fewer (low .there));
+        small = within-le (omega (arith, w .few, d .fewer (low .there))) (within-add (w .small) (q .small));
+        same = λ zs t s m l i j.
+            let v = w .same zs t s m l i j in
+            let r : List Bool = after (v .rest) in
+            record {
+              rest = r;
+              short = omega (arith, length-after (v .rest), v .short);
+              left-is = drops low d (v .rest) (v .left-is);
+              whole =
+                  +ℤ-assoc (w .done) z (sixOn (count r) zs r s)
+                  ∙ ap (λ (y : ℤ). w .done +ℤ y)
+                  (ap (λ (y : ℤ). y +ℤ sixOn (count r) zs r s) (one m j v) ∙ sym (six-more s zs (v .rest) (some-in (v .left-is) p)))
+                  ∙ v .whole;
+            };
+      }
+
+    pub all-small : Within (room * mostSix) (w .done)
+    all-small = within-le (omega arith) (w .small)
+
+    pub weighing-end : size left ≡ 0 → {v : ℤ} → v ≡ w .done → Weighs sixes taken turned v
+    weighing-end z {v} e = record {
+      small = subst (λ (y : ℤ). Within (room * mostSix) y) (sym e) all-small;
+      same = λ zs t s m l i j.
+          let u = w .same zs t s m l i j in
+          let n = six-none s zs (u .rest) (none-in (u .left-is) z) in
+          e ∙ sym (+ℤ-idr (w .done)) ∙ ap (λ (y : ℤ). w .done +ℤ y) (sym n) ∙ u .whole;
+    }

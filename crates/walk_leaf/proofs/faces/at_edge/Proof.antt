@@ -1,0 +1,88 @@
+-- `walk_leaf::faces::at_edge`: if one of the others is reached already nothing changes, else all of them are reached. Assumes nothing.
+use borrow.Author.Needs.{needs}
+use borrow.Author.Tests.{not-true, not-false}
+use native.Mathlib.Omega.{arith}
+use Prim.Native.Nat.{_^_, _<_}
+use Rattle.sets.specs.Sets.{room}
+use Rattle.walk_state.proofs.Lowest.{is-none, is-some}
+use Rattle.walk_leaf.proofs.Steps.{edge-stays, edge-goes}
+use Rattle.walk_leaf.proofs.faces.at_edge.Statement.{statement}
+use Rattle.walk_leaf.proofs.faces.at_edge.Tie as tie
+
+-- ---- the ways back: to where it was asked whether one is reached, and to the start
+
+abbrev asked : tie.After-turned-at → tie.After-is-empty
+asked c = c .before .before .before .before
+
+abbrev start : tie.After-is-empty → tie.Start
+start c = c .before .before .before .before .before .before .before
+
+-- all are words
+mask-fits : (c : tie.Start) → c .args .mask .word < 2 ^ room
+mask-fits c = omega arith
+
+taken-fits : (c : tie.Start) → c .args .taken .word < 2 ^ room
+taken-fits c = omega arith
+
+reached-fits : (c : tie.Start) → c .args .g .reached .word < 2 ^ room
+reached-fits c = omega arith
+
+waiting-fits : (c : tie.Start) → c .args .g .waiting .word < 2 ^ room
+waiting-fits c = omega arith
+
+-- ---- the needs
+
+and-requires : tie.Need-and-requires
+and-requires c κs = search needs
+
+without-requires : tie.Need-without-requires
+without-requires c κs = search needs
+
+and-requires-2 : tie.Need-and-requires-2
+and-requires-2 c κs = search needs
+
+is-empty-requires : tie.Need-is-empty-requires
+is-empty-requires c κs = search needs
+
+returns : tie.Need-returns
+returns c =
+    let q = c .before in
+    let m = q .before in
+    let s = start q in
+    let a = s .args in
+    edge-stays (a .mask) (a .up) (a .taken) (a .f) (a .g) (m .before .before .and .ensures) (m .before .without .ensures) (m .and2 .ensures)
+    (reached-fits s) (is-some (m .and2 .result) (q .is-empty .ensures) (not-true (q .is-empty .result) (c .if1 .taken)))
+
+or-requires : tie.Need-or-requires
+or-requires c κs = search needs
+
+or-requires-2 : tie.Need-or-requires-2
+or-requires-2 c κs = search needs
+
+turned-at-requires : tie.Need-turned-at-requires
+turned-at-requires c κs = search needs
+
+returns-2 : tie.Need-returns-2
+returns-2 c =
+    let q = asked c in
+    let m = q .before in
+    let s = start q in
+    let a = s .args in
+    let z = is-none (m .and2 .result) (q .is-empty .ensures) (not-false (q .is-empty .result) (c .before .before .before .if1 .left)) in
+    edge-goes (a .mask) (a .up) (a .taken) (a .f) (a .g) (m .before .before .and .ensures) (m .before .without .ensures) (m .and2 .ensures)
+    z (c .before .before .or .ensures) (c .before .or2 .ensures) (c .turned-at .ensures)
+    (mask-fits s) (taken-fits s) (reached-fits s) (waiting-fits s)
+
+pub at-edge-spec : {M : Type 1} → statement M
+at-edge-spec =
+    tie.close
+    (tie.spec
+    and-requires
+    without-requires
+    and-requires-2
+    is-empty-requires
+    returns
+    or-requires
+    or-requires-2
+    turned-at-requires
+    returns-2)

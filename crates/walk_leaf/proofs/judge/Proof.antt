@@ -1,0 +1,123 @@
+-- `walk_leaf::judge`: the tests in order; each way out is one of the laws. Assumes nothing.
+use borrow.Author.Needs.{needs}
+use borrow.Author.Tests.{not-true, not-false}
+use mathlib.Core.Path.{_≡_}
+use Prim.Native.Nat.{_<_}
+use Rattle.sets.specs.Sets.{size}
+use Rattle.walk_state.proofs.Lowest.{is-none, is-some}
+use Rattle.walk_leaf.proofs.Judging.{judge-none, judge-apart, judge-ways, judge-clash, judge-weighed}
+use Rattle.walk_leaf.proofs.judge.Statement.{statement}
+use Rattle.walk_leaf.proofs.judge.Tie as tie
+
+-- ---- the ways back: to the answer on directions, to the question whether all are reached, to the faces gone round, and to the start
+
+abbrev ways : tie.After-clear → tie.After-oriented
+ways c = c .before .before
+
+abbrev asked : tie.After-oriented → tie.After-is-empty2
+asked c = c .before .before
+
+abbrev round : tie.After-is-empty2 → tie.After-from-lowest
+round c = c .before .before .before
+
+abbrev start : tie.After-from-lowest → tie.Start
+start c = c .before .before .before
+
+-- some are taken
+some-taken : (c : tie.Else1) → 0 < size (c .before .before .args .taken)
+some-taken c = is-some (c .before .before .args .taken) (c .before .is-empty .ensures) (c .if1 .left)
+
+-- all are reached
+none-far : (c : tie.Else2) → size (c .before .before .minus .result) ≡ 0
+none-far c =
+    let q = c .before in
+    is-none (q .before .minus .result) (q .is-empty2 .ensures) (not-false (q .is-empty2 .result) (c .if2 .left))
+
+-- ---- the needs
+
+is-empty-requires : tie.Need-is-empty-requires
+is-empty-requires c κs = search needs
+
+returns : tie.Need-returns
+returns c =
+    let a = c .before .before .args in
+    judge-none (a .on .now) (a .up .now) (a .n) (a .sides .now) (a .clashes .now) (a .sixes .now) (a .taken)
+    (is-none (a .taken) (c .before .is-empty .ensures) (c .if1 .taken))
+
+from-lowest-requires : tie.Need-from-lowest-requires
+from-lowest-requires c κs = some-taken c
+
+minus-requires : tie.Need-minus-requires
+minus-requires c κs = search needs
+
+is-empty-requires-2 : tie.Need-is-empty-requires-2
+is-empty-requires-2 c κs = search needs
+
+returns-2 : tie.Need-returns-2
+returns-2 c =
+    let q = c .before in
+    let r = round q in
+    let a = start r .args in
+    let m = q .before .minus in
+    judge-apart (a .on .now) (a .up .now) (a .n) (a .sides .now) (a .clashes .now) (a .sixes .now) (a .taken)
+    (some-taken (r .before)) (r .from-lowest .ensures) (m .ensures)
+    (is-some (m .result) (q .is-empty2 .ensures) (not-true (q .is-empty2 .result) (c .if2 .taken)))
+
+oriented-requires : tie.Need-oriented-requires
+oriented-requires c κs = search needs
+
+returns-3 : tie.Need-returns-3
+returns-3 c =
+    let o = c .before in
+    let q = asked o in
+    let r = round q in
+    let a = start r .args in
+    judge-ways (a .on .now) (a .up .now) (a .n) (a .sides .now) (a .clashes .now) (a .sixes .now) (a .taken)
+    (some-taken (r .before)) (r .from-lowest .ensures) (q .before .minus .ensures) (none-far (o .before)) (o .oriented .ensures)
+    (not-true (o .oriented .result) (c .if3 .taken))
+
+clear-requires : tie.Need-clear-requires
+clear-requires c κs = search needs
+
+returns-4 : tie.Need-returns-4
+returns-4 c =
+    let k = c .before in
+    let o = ways k in
+    let q = asked o in
+    let r = round q in
+    let a = start r .args in
+    judge-clash (a .on .now) (a .up .now) (a .n) (a .sides .now) (a .clashes .now) (a .sixes .now) (a .taken)
+    (some-taken (r .before)) (r .from-lowest .ensures) (q .before .minus .ensures) (none-far (o .before)) (o .oriented .ensures)
+    (not-false (o .oriented .result) (k .before .if3 .left)) (k .clear .ensures) (not-true (k .clear .result) (c .if4 .taken))
+
+weighed-requires : tie.Need-weighed-requires
+weighed-requires c κs = search needs
+
+returns-5 : tie.Need-returns-5
+returns-5 c =
+    let k = c .before .before in
+    let o = ways k in
+    let q = asked o in
+    let r = round q in
+    let a = start r .args in
+    judge-weighed (a .on .now) (a .up .now) (a .n) (a .sides .now) (a .clashes .now) (a .sixes .now) (a .taken)
+    (some-taken (r .before)) (r .from-lowest .ensures) (q .before .minus .ensures) (none-far (o .before)) (o .oriented .ensures)
+    (not-false (o .oriented .result) (k .before .if3 .left)) (k .clear .ensures) (not-false (k .clear .result) (c .before .if4 .left))
+    (c .weighed .result) (c .weighed .ensures)
+
+pub judge-spec : {M : Type 1} → statement M
+judge-spec =
+    tie.close
+    (tie.spec
+    is-empty-requires
+    returns
+    from-lowest-requires
+    minus-requires
+    is-empty-requires-2
+    returns-2
+    oriented-requires
+    returns-3
+    clear-requires
+    returns-4
+    weighed-requires
+    returns-5)

@@ -1,0 +1,53 @@
+-- `walk_leaf::once_each_way`: one face taken runs the edge upwards and one downwards. Assumes nothing.
+use borrow.Author.Needs.{needs}
+use Rattle.walk_leaf.proofs.Directions.{way-not, way-once}
+use Rattle.walk_leaf.proofs.once_each_way.Statement.{statement}
+use Rattle.walk_leaf.proofs.once_each_way.Tie as tie
+
+abbrev start : tie.After-is-one → tie.Start
+start c = c .before .before .before .before
+
+and-requires : tie.Need-and-requires
+and-requires c κs = search needs
+
+unlike-requires : tie.Need-unlike-requires
+unlike-requires c κs = search needs
+
+and-requires-2 : tie.Need-and-requires-2
+and-requires-2 c κs = search needs
+
+is-one-requires : tie.Need-is-one-requires
+is-one-requires c κs = search needs
+
+minus-requires : tie.Need-minus-requires
+minus-requires c κs = search needs
+
+is-one-requires-2 : tie.Need-is-one-requires-2
+is-one-requires-2 c κs = search needs
+
+returns : tie.Need-returns
+returns c =
+    let o = c .before .before .before in
+    let a = start o .args in
+    way-once (a .mask) (a .up) (a .taken) (a .turned) (o .before .before .before .and .ensures) (o .before .before .unlike .ensures)
+    (o .before .and2 .ensures) (o .is-one .ensures) (c .before .before .if1 .taken) (c .before .minus .ensures) (c .is-one2 .ensures)
+
+returns-2 : tie.Need-returns-2
+returns-2 c =
+    let o = c .before in
+    let a = start o .args in
+    way-not (a .mask) (a .up) (a .taken) (a .turned) (o .before .before .before .and .ensures) (o .before .before .unlike .ensures)
+    (o .before .and2 .ensures) (o .is-one .ensures) (c .if1 .left)
+
+pub once-each-way-spec : {M : Type 1} → statement M
+once-each-way-spec =
+    tie.close
+    (tie.spec
+    and-requires
+    unlike-requires
+    and-requires-2
+    is-one-requires
+    minus-requires
+    is-one-requires-2
+    returns
+    returns-2)

@@ -1,0 +1,82 @@
+-- `walk_leaf::oriented`: the loop keeps that the edges from e on give the whole answer. Assumes nothing.
+use borrow.Author.Needs.{needs}
+use borrow.Author.Tests.{not-true, not-false}
+use mathlib.Core.Path.{refl}
+use native.Mathlib.Omega.{arith}
+use Prim.Native.Nat.{_-_, _≤_}
+use Rattle.walk_leaf.proofs.Directions.{Asking, asking-next, asking-not, asking-end}
+use Rattle.walk_leaf.proofs.oriented.Statement.{statement}
+use Rattle.walk_leaf.proofs.oriented.Tie as tie
+
+abbrev Inv-loop : tie.InvT-loop
+Inv-loop on up n taken turned e₀ e = (e ≤ n) × Asking on up n taken turned e
+
+abbrev μ-loop : tie.MeasureT-loop
+μ-loop on up n taken turned e₀ e = n - e
+
+-- ---- the ways back: from the edge's answer to the loop
+
+abbrev turn : tie.After-once-each-way Inv-loop μ-loop → tie.At-loop Inv-loop μ-loop
+turn c = c .before .before .before .before .before .before
+
+-- ---- the needs
+
+loop-holds : tie.Need-loop-holds Inv-loop μ-loop
+loop-holds c = (omega arith, λ masks ups t s q l i j. refl)
+
+of-edge-requires : tie.Need-of-edge-requires Inv-loop μ-loop
+of-edge-requires c κs = let p = c .before .before .before .pre in omega (arith, p)
+
+of-edge-requires-2 : tie.Need-of-edge-requires-2 Inv-loop μ-loop
+of-edge-requires-2 c κs = let p = c .before .before .before .before .before .pre in omega (arith, p)
+
+once-each-way-requires : tie.Need-once-each-way-requires Inv-loop μ-loop
+once-each-way-requires c κs = search needs
+
+returns : tie.Need-returns Inv-loop μ-loop
+returns c =
+    let o = c .before in
+    let t = turn o in
+    let a = t .before .args in
+    asking-not (a .on .now) (a .up .now) (a .n) (a .taken) (a .turned) (t .loop .e) (t .loop .inv .1) (omega arith)
+    (o .before .before .before .of-edge .ensures) (o .before .of-edge2 .ensures) (o .once-each-way .ensures)
+    (not-true (o .once-each-way .result) (c .if1 .taken))
+
+add-e : tie.Need-add-e Inv-loop μ-loop
+add-e c = let p = turn (c .before) .before .pre in omega (arith, p)
+
+loop-less : tie.Need-loop-less Inv-loop μ-loop
+loop-less c = omega arith
+
+loop-again : tie.Need-loop-again Inv-loop μ-loop
+loop-again c =
+    let o = c .before in
+    let t = turn o in
+    let a = t .before .args in (
+      omega arith,
+      asking-next (a .on .now) (a .up .now) (a .n) (a .taken) (a .turned) (t .loop .e) (t .loop .inv .1) (omega arith)
+          (o .before .before .before .of-edge .ensures) (o .before .of-edge2 .ensures) (o .once-each-way .ensures)
+          (not-false (o .once-each-way .result) (c .if1 .left)),
+    )
+
+returns-2 : tie.Need-returns-2 Inv-loop μ-loop
+returns-2 c =
+    let t = c .before in
+    let a = t .before .args in
+    asking-end (a .on .now) (a .up .now) (a .n) (a .taken) (a .turned) (t .loop .e) (t .loop .inv .1) (omega (arith, t .loop .inv .0))
+
+pub oriented-spec : {M : Type 1} → statement M
+oriented-spec =
+    tie.close
+    (tie.spec
+    Inv-loop
+    μ-loop
+    loop-holds
+    of-edge-requires
+    of-edge-requires-2
+    once-each-way-requires
+    returns
+    add-e
+    loop-less
+    loop-again
+    returns-2)

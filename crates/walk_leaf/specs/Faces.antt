@@ -1,0 +1,53 @@
+-- The faces of a selection gone round one by one, as the code holds them. Assumes nothing.
+use mathlib.Core.Bool.{Bool, cond}
+use mathlib.Core.List.{List}
+use mathlib.Core.Path.{_≡_}
+use Prim.Native.Nat.{ℕ, _+_, _≤_}
+use lib.ListN.{length}
+use Rattle.sets.specs.Word.{count, either}
+use Rattle.sets.specs.Sets.{room, Is, size}
+use Rattle.sets.specs.declared.Set.{Set}
+use Rattle.paper.specs.Solids.{unlike}
+use Rattle.fast_leaf.specs.Faces.{unlikeWays, atEdge, aroundFace, fromLowest}
+use Rattle.fast_leaf.specs.Faces as Lists
+use Rattle.walk_words.specs.Words.{Masks, Sides}
+use Rattle.walk_leaf.specs.declared.faces.Going.{Going}
+
+-- ---- what the sets stand for
+
+pub record GoingIs (g : Going) (s : Lists.Going) : Type 0 where
+  pub reached-is : Is (g .reached) (s .reached)
+  pub waiting-is : Is (g .waiting) (s .waiting)
+  pub turned-is : Is (g .turned) (s .turned)
+
+-- two masks of each edge
+pub record Edges (on up : List ℕ) (masks ups : List (List Bool)) : Type 0 where
+  pub on-are : Masks on masks
+  pub up-are : Masks up ups
+  pub as-many : length ups ≡ length masks
+
+-- ---- whatever they stand for: no more wait than are reached anew, so each face is gone round once
+
+pub record Grows (g r : Going) : Type 0 where
+  pub few : size (r .reached) ≤ room
+  pub anew : size (r .waiting) + size (g .reached) ≤ size (g .waiting) + size (r .reached)
+
+-- ---- the steps
+
+abbrev pub TurnedAt : Set → Set → ℕ → Set → Set → Type 0
+TurnedAt up turned f other r =
+    (u s o : List Bool) → Is up u → Is turned s → Is other o → Is r (cond (unlikeWays (unlike u s) f o) s (either s o))
+
+pub record AtEdge (mask up taken : Set) (f : ℕ) (g r : Going) : Type 0 where
+  pub grows : Grows g r
+  pub same : (m u t : List Bool) (s : Lists.Going) → Is mask m → Is up u → Is taken t → GoingIs g s → GoingIs r (atEdge m u t f s)
+
+pub record AroundFace (on up : List ℕ) (edges taken : Set) (f : ℕ) (g r : Going) : Type 0 where
+  pub grows : Grows g r
+  pub same : (masks ups : List (List Bool)) (t left : List Bool) (s : Lists.Going) → Edges on up masks ups → length left ≤ length masks
+      → Is taken t → Is edges left → GoingIs g s → GoingIs r (aroundFace (count left) masks ups t f left s)
+
+abbrev pub FromLowest : List ℕ → List ℕ → List ℕ → Set → Going → Type 0
+FromLowest on up sides taken r =
+    (masks ups : List (List Bool)) (t : List Bool) → Edges on up masks ups → Sides sides masks → Is taken t
+    → GoingIs r (fromLowest masks ups t)

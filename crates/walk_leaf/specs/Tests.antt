@@ -1,0 +1,86 @@
+-- The tests of a selection on words. Assumes nothing.
+use mathlib.Core.Bool.{Bool, true}
+use mathlib.Core.List.{List}
+use mathlib.Core.Path.{_≡_}
+use Prim.Native.Nat.{ℕ, _*_, _≤_, _<_}
+use lib.IntN.{ℤ, pos}
+use lib.ListN.{length, getD}
+use Rattle.exact.specs.Size.{Within}
+use Rattle.sets.specs.Word.{count}
+use Rattle.sets.specs.Sets.{room, Is}
+use Rattle.sets.specs.declared.Set.{Set}
+use Rattle.paper.specs.Format.{editionOne}
+use Rattle.paper.specs.Solids as Paper
+use Rattle.paper.specs.Solids.{Tables, onceEachWay, Judgement, Fails, Solid}
+use Rattle.fast_leaf.specs.Faces.{clearOn, sixOn, judgedByFaces}
+use Rattle.walk_words.specs.Words.{Masks, mostSix, Sixes, Held}
+use Rattle.walk_leaf.specs.Faces.{Edges}
+use Rattle.walk_leaf.specs.declared.Leaf.{Leaf}
+use Rattle.walk_leaf.specs.declared.Leaf.the-variants as L
+
+-- ---- (iii)
+
+abbrev pub WayIs : Set → Set → Set → Set → Bool → Type 0
+WayIs mask up taken turned r =
+    (m u t s : List Bool) → Is mask m → Is up u → Is taken t → Is turned s → r ≡ onceEachWay m u t s
+
+abbrev pub OrientedIs : List ℕ → List ℕ → ℕ → Set → Set → Bool → Type 0
+OrientedIs on up n taken turned r =
+    (masks ups : List (List Bool)) (t s : List Bool) → Edges on up masks ups → length masks ≡ n → Is taken t → Is turned s
+    → r ≡ Paper.oriented masks ups t s
+
+-- ---- (v)
+
+abbrev pub ClearIs : List ℕ → Set → Bool → Type 0
+ClearIs clashes taken r =
+    (cs : List (List Bool)) (t : List Bool) → Masks clashes cs → length t ≤ length cs → Is taken t → r ≡ clearOn (count t) cs t t
+
+-- ---- (iv)
+
+-- each number is small enough that 64 of them can be added
+pub record SmallSixes (sixes : List ℤ) : Type 0 where
+  pub small : (k : ℕ) → k < room → Within mostSix (getD sixes k (pos 0))
+
+pub record PartAt (sixes : List ℤ) (k : ℕ) : Type 0 where
+  pub narrow : k < room
+  pub all : SmallSixes sixes
+
+pub record PartIs (sixes : List ℤ) (k : ℕ) (turned : Bool) (r : ℤ) : Type 0 where
+  pub is : r ≡ Paper.part true turned (getD sixes k (pos 0))
+  pub small : Within mostSix r
+
+pub record Weighs (sixes : List ℤ) (taken turned : Set) (r : ℤ) : Type 0 where
+  pub small : Within (room * mostSix) r
+  pub same : (zs : List ℤ) (t s : List Bool) → Sixes sixes zs → length t ≤ length zs → Is taken t → Is turned s
+      → r ≡ sixOn (count t) zs t s
+
+-- the same judgement: of a solid, the same faces turned and the same six volumes
+pub record SolidIs (turned : Set) (six : ℕ) (s : List Bool) (v : ℕ) : Type 0 where
+  pub turned-is : Is turned s
+  pub six-is : six ≡ v
+
+abbrev pub LeafIs : Leaf → Judgement → Type 0
+LeafIs L.Fails Fails = Unit {0}
+LeafIs L.Fails (Solid s v) = ⊥
+LeafIs (L.Solid turned six) Fails = ⊥
+LeafIs (L.Solid turned six) (Solid s v) = SolidIs turned six s v
+
+abbrev pub WeighedIs : List ℤ → Set → Set → Leaf → Type 0
+WeighedIs sixes taken turned r =
+    (zs : List ℤ) (t s : List Bool) → Sixes sixes zs → length t ≤ length zs → Is taken t → Is turned s
+    → LeafIs r (Paper.weighed t s (sixOn (count t) zs t s))
+
+-- ---- all of it: of n edges and of so many candidates that the selection is one of them
+pub record Selects (t : Tables) (n : ℕ) (a : List Bool) : Type 0 where
+  pub masks-are : length (t .masks) ≡ n
+  pub ups-are : length (t .ups) ≡ n
+  pub in-clashes : length a ≤ length (t .clashes)
+  pub in-sixes : length a ≤ length (t .sixes)
+
+pub record Judging (n : ℕ) (sixes : List ℤ) : Type 0 where
+  pub few : n ≤ editionOne .«most_edges»
+  pub small : SmallSixes sixes
+
+abbrev pub Judges : List ℕ → List ℕ → ℕ → List ℕ → List ℕ → List ℤ → Set → Leaf → Type 0
+Judges on up n sides clashes sixes taken r =
+    (t : Tables) (a : List Bool) → Held on up sides clashes sixes t → Selects t n a → Is taken a → LeafIs r (judgedByFaces t a)

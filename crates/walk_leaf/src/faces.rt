@@ -1,0 +1,111 @@
+// The faces of a selection, gone round once each: from the lowest over its edges, then from each face that is reached so. Assumes nothing.
+ghost use Prim.Native.Nat.{_<_};
+ghost use Rattle.sets.specs.Sets.{room, size, Joint};
+ghost use Rattle.paper.specs.Solids.{unlike};
+ghost use Rattle.walk_leaf.specs.Faces.{TurnedAt, AtEdge, AroundFace, FromLowest};
+use paper::MOST_CANDIDATES;
+use paper::MOST_EDGES;
+use sets::Set;
+
+// The faces that are reached, those of them whose edges are still to be gone over, and those that are turned against their normal form.
+pub struct Going {
+    pub reached: Set,
+    pub waiting: Set,
+    pub turned: Set,
+}
+
+// What is in one and not in the other.
+pub fn unlike(x: Set, y: Set) -> Set
+    ensures { λ r. ⌜ Joint x y r unlike ⌝ }
+{
+    Set {
+        word: x.word ^ y.word,
+    }
+}
+
+// Those turned after an edge of face f: the others on it are, where they run it as f does.
+fn turned_at(up: Set, turned: Set, f: usize, other: Set) -> Set
+    requires { ⌜ f < room ⌝ }
+    ensures { λ r. ⌜ TurnedAt up turned f other r ⌝ }
+{
+    let runs = unlike(up, turned);
+    let down = Set::just(f).and(runs).is_empty();
+    let other_down = other.and(runs).is_empty();
+    if down ^ other_down {
+        return turned;
+    }
+    turned.or(other)
+}
+
+// Over an edge of face f, where none of the others on it is reached yet: they are, and they wait.
+fn at_edge(mask: Set, up: Set, taken: Set, f: usize, g: Going) -> Going
+    requires { ⌜ f < room ⌝ }
+    ensures { λ r. ⌜ AtEdge mask up taken f g r ⌝ }
+{
+    let reached = g.reached;
+    let waiting = g.waiting;
+    let turned = g.turned;
+    let other = mask.and(taken).without(f);
+    if !reached.and(other).is_empty() {
+        return g;
+    }
+    Going {
+        reached: reached.or(other),
+        waiting: waiting.or(other),
+        turned: turned_at(up, turned, f, other),
+    }
+}
+
+// Over all edges of face f, in order.
+fn around_face(
+    on: &[u64; MOST_EDGES],
+    up: &[u64; MOST_EDGES],
+    edges: Set,
+    taken: Set,
+    f: usize,
+    g: Going,
+) -> Going
+    requires { ⌜ f < room ⌝ }
+    ensures { λ r. ⌜ AroundFace (now (on .entry)) (now (up .entry)) edges taken f g r ⌝ }
+{
+    let mut going = g;
+    let mut left = edges;
+    while !left.is_empty() {
+        let e = left.lowest();
+        let mask = Set::of_edge(on, e);
+        going = at_edge(mask, Set::of_edge(up, e), taken, f, going);
+        left = left.without(e);
+    }
+    going
+}
+
+// From the lowest face taken until none waits.
+pub fn from_lowest(
+    on: &[u64; MOST_EDGES],
+    up: &[u64; MOST_EDGES],
+    sides: &[u64; MOST_CANDIDATES],
+    taken: Set,
+) -> Going
+    requires { ⌜ 0 < size taken ⌝ }
+    ensures { λ r. ⌜ FromLowest (now (on .entry)) (now (up .entry)) (now (sides .entry)) taken r ⌝ }
+{
+    let lowest = Set::just(taken.lowest());
+    let mut going = Going {
+        reached: lowest,
+        waiting: lowest,
+        turned: Set::none(),
+    };
+    while !going.waiting.is_empty() {
+        let f = going.waiting.lowest();
+        let edges = Set::of_edge(sides, f);
+        let reached = going.reached;
+        let turned = going.turned;
+        let next = Going {
+            reached: reached,
+            waiting: going.waiting.without(f),
+            turned: turned,
+        };
+        going = around_face(on, up, edges, taken, f, next);
+    }
+    going
+}

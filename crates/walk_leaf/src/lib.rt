@@ -1,0 +1,151 @@
+// The tests (ii) to (v) of a selection that has (i). No ones are counted: one alone, or none, is asked for. Assumes at most 64 candidates
+// and 64 edges.
+mod faces;
+
+ghost use mathlib.Core.Path.{_≡_};
+ghost use Prim.Native.Nat.{_≤_};
+ghost use lib.Dec.{eqb};
+ghost use Rattle.sets.specs.Sets.{size};
+ghost use Rattle.paper.specs.Format.{editionOne};
+ghost use Rattle.walk_leaf.specs.Tests.{WayIs, OrientedIs, ClearIs, SmallSixes, PartAt, PartIs, Weighs, WeighedIs};
+ghost use Rattle.walk_leaf.specs.Tests.{Judging, Judges};
+use faces::from_lowest;
+use faces::unlike;
+use paper::MOST_CANDIDATES;
+use paper::MOST_EDGES;
+use sets::Set;
+
+// A solid: the faces that are turned against their normal form, and six volumes.
+pub enum Leaf {
+    Fails,
+    Solid(Set, u64),
+}
+
+fn is_one(x: Set) -> bool
+    ensures { λ r. ⌜ r ≡ eqb (size x) 1 ⌝ }
+{
+    if x.is_empty() {
+        return false;
+    }
+    x.without(x.lowest()).is_empty()
+}
+
+// Whether an edge is run once each way by the faces taken: `up` are those whose normal form runs it upwards.
+fn once_each_way(mask: Set, up: Set, taken: Set, turned: Set) -> bool
+    ensures { λ r. ⌜ WayIs mask up taken turned r ⌝ }
+{
+    let mine = mask.and(taken);
+    let runs = unlike(up, turned);
+    if is_one(mine.and(runs)) {
+        return is_one(mine.minus(runs));
+    }
+    false
+}
+
+fn oriented(
+    on: &[u64; MOST_EDGES],
+    up: &[u64; MOST_EDGES],
+    n: usize,
+    taken: Set,
+    turned: Set,
+) -> bool
+    requires { ⌜ n ≤ editionOne .«most_edges» ⌝ }
+    ensures { λ r. ⌜ OrientedIs (now (on .entry)) (now (up .entry)) n taken turned r ⌝ }
+{
+    let mut e = 0;
+    while e < n {
+        let mask = Set::of_edge(on, e);
+        if !once_each_way(mask, Set::of_edge(up, e), taken, turned) {
+            return false;
+        }
+        e += 1;
+    }
+    true
+}
+
+fn clear(clashes: &[u64; MOST_CANDIDATES], taken: Set) -> bool
+    ensures { λ r. ⌜ ClearIs (now (clashes .entry)) taken r ⌝ }
+{
+    let mut left = taken;
+    while !left.is_empty() {
+        let k = left.lowest();
+        let clashing = Set::of_edge(clashes, k).and(taken);
+        if !clashing.is_empty() {
+            return false;
+        }
+        left = left.without(k);
+    }
+    true
+}
+
+// A face's part of six volumes, the other way round where it is turned.
+fn part(sixes: &[i64; MOST_CANDIDATES], k: usize, turned: bool) -> i64
+    requires { ⌜ PartAt (now sixes) k ⌝ }
+    ensures { λ r. ⌜ PartIs (now (sixes .entry)) k turned r ⌝ }
+{
+    let z = sixes[k];
+    if turned {
+        return -z;
+    }
+    z
+}
+
+fn weight(sixes: &[i64; MOST_CANDIDATES], taken: Set, turned: Set) -> i64
+    requires { ⌜ SmallSixes (now sixes) ⌝ }
+    ensures { λ r. ⌜ Weighs (now (sixes .entry)) taken turned r ⌝ }
+{
+    let mut sum: i64 = 0;
+    let mut left = taken;
+    while !left.is_empty() {
+        let k = left.lowest();
+        sum = sum + part(sixes, k, turned.has(k));
+        left = left.without(k);
+    }
+    sum
+}
+
+// Six volumes is above zero with these directions, or with all of them turned.
+fn weighed(sixes: &[i64; MOST_CANDIDATES], taken: Set, turned: Set) -> Leaf
+    requires { ⌜ SmallSixes (now sixes) ⌝ }
+    ensures { λ r. ⌜ WeighedIs (now (sixes .entry)) taken turned r ⌝ }
+{
+    let v = weight(sixes, taken, turned);
+    if 0 < v {
+        return Leaf::Solid(turned, v as u64);
+    }
+    if v < 0 {
+        return Leaf::Solid(taken.minus(turned), (-v) as u64);
+    }
+    Leaf::Fails
+}
+
+// Whether a selection with (i) is a solid: "With nothing undecided, test (ii) to (v)".
+pub fn judge(
+    on: &[u64; MOST_EDGES],
+    up: &[u64; MOST_EDGES],
+    n: usize,
+    sides: &[u64; MOST_CANDIDATES],
+    clashes: &[u64; MOST_CANDIDATES],
+    sixes: &[i64; MOST_CANDIDATES],
+    taken: Set,
+) -> Leaf
+    requires { ⌜ Judging n (now sixes) ⌝ }
+    ensures { λ r. ⌜ Judges (now (on .entry)) (now (up .entry)) n (now (sides .entry)) (now (clashes .entry)) (now (sixes .entry))
+        taken r ⌝ }
+{
+    if taken.is_empty() {
+        return Leaf::Fails;
+    }
+    let g = from_lowest(on, up, sides, taken);
+    let turned = g.turned;
+    if !taken.minus(g.reached).is_empty() {
+        return Leaf::Fails;
+    }
+    if !oriented(on, up, n, taken, turned) {
+        return Leaf::Fails;
+    }
+    if !clear(clashes, taken) {
+        return Leaf::Fails;
+    }
+    weighed(sixes, taken, turned)
+}
