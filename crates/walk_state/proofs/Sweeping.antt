@@ -39,7 +39,7 @@ pub record Sweeping (on sides : List ℕ) (s : State) (changed : Set) (v : State
   pub same : (masks : List (List Bool)) (o : Outcome) (st : List Status) (marks : List Bool) → Masks on masks → Sides sides masks
       → Holds s st → Is changed marks → Loop masks o st marks [] → Midst masks o v m
 
--- each edge passed makes this smaller: at most 128 edges are marked, and each mark is of no more weight than one undecided
+-- each edge passed makes this smaller: at most 128 edges are marked, so that one undecided outweighs all marks
 abbrev pub togo : State → Marks → ℕ
 togo v m = size (v .undecided) * (2 * room + 1) + markCount m
 
