@@ -1,4 +1,7 @@
 fn main() {
-    println!("cargo:rustc-link-search={}/../target/staticlib", env!("CARGO_MANIFEST_DIR"));
+    println!(
+        "cargo:rustc-link-search={}/../target/staticlib",
+        env!("CARGO_MANIFEST_DIR")
+    );
     println!("cargo:rustc-link-lib=static=measured");
 }

@@ -11,7 +11,7 @@ use std::hint::black_box;
 
 const LOOP_ROOM: usize = FACE_ROW * MOST_LOOPS;
 
-/// A slice is lent as its address and its length, an array as its address.
+// A slice is lent as its address and its length, an array as its address.
 #[rustfmt::skip]
 extern "C" {
     fn measured_rules(xyz: *const i64, xyz_len: usize, ends: *const u8, ends_len: usize) -> u64;
@@ -51,7 +51,8 @@ fn proved_rules(d: &Lists) -> u64 {
 #[no_mangle]
 #[inline(never)]
 fn fast_rules(d: &fast::Drawing) -> u64 {
-    d.rules_11_to_14().map_or_else(|refusal| refusal.number as u64, |()| 0)
+    d.rules_11_to_14()
+        .map_or_else(|refusal| refusal.number as u64, |()| 0)
 }
 
 #[no_mangle]
@@ -59,7 +60,19 @@ fn fast_rules(d: &fast::Drawing) -> u64 {
 fn proved_loops(d: &Lists, l: &mut Loops) {
     let (x, e) = (&d.xyz, &d.ends);
     let (t, p, c, s) = (&mut l.table, &mut l.planes, &mut l.corners, &mut l.sides);
-    l.count = unsafe { measured_loops(x.as_ptr(), x.len(), e.as_ptr(), e.len(), &d.near, t, p, c, s) };
+    l.count = unsafe {
+        measured_loops(
+            x.as_ptr(),
+            x.len(),
+            e.as_ptr(),
+            e.len(),
+            &d.near,
+            t,
+            p,
+            c,
+            s,
+        )
+    };
 }
 
 #[no_mangle]
@@ -77,7 +90,21 @@ fn proved_candidates(d: &Lists, l: &Loops, rows: &mut [u8; FACE_ROOM]) -> usize 
         let lists = (x.as_ptr(), x.len(), e.as_ptr(), e.len());
         let (c, s) = (&mut corners, &mut sides);
         let (x, xl, e, el) = lists;
-        measured_candidates(x, xl, e, el, t.as_ptr(), t.len(), l.count, &l.corners, &l.sides, &l.planes, rows, c, s)
+        measured_candidates(
+            x,
+            xl,
+            e,
+            el,
+            t.as_ptr(),
+            t.len(),
+            l.count,
+            &l.corners,
+            &l.sides,
+            &l.planes,
+            rows,
+            c,
+            s,
+        )
     }
 }
 
@@ -90,9 +117,15 @@ fn fast_candidates(d: &fast::Drawing, loops: &[fast::Loop]) -> Vec<fast::Loop> {
 /// One drawing through the stages, as far as it is not refused.
 fn stages(d: &Drawing) {
     let sheet = pack_sheet(d);
-    let Ok(fast) = fast::Drawing::read(Source::Sheet(&sheet)) else { return };
+    let Ok(fast) = fast::Drawing::read(Source::Sheet(&sheet)) else {
+        return;
+    };
     let (xyz, ends) = d.lists();
-    let mut lists = Lists { xyz, ends: ends.iter().map(|end| *end as u8).collect(), near: [0; 32] };
+    let mut lists = Lists {
+        xyz,
+        ends: ends.iter().map(|end| *end as u8).collect(),
+        near: [0; 32],
+    };
     for (a, b) in &d.edges {
         lists.near[*a] |= 1 << b;
         lists.near[*b] |= 1 << a;
@@ -103,7 +136,13 @@ fn stages(d: &Drawing) {
         return;
     }
     let none = [0; MOST_LOOPS];
-    let mut loops = Loops { count: 0, table: [0; LOOP_ROOM], planes: none, corners: none, sides: none };
+    let mut loops = Loops {
+        count: 0,
+        table: [0; LOOP_ROOM],
+        planes: none,
+        corners: none,
+        sides: none,
+    };
     proved_loops(black_box(&lists), &mut loops);
     let Some(found) = fast_loops(black_box(&fast)) else {
         assert_eq!(loops.count, MOST_LOOPS + 1);
@@ -113,11 +152,19 @@ fn stages(d: &Drawing) {
     for (k, l) in found.iter().enumerate() {
         assert_eq!(loops.table[FACE_ROW * k], l.corners as u8);
         assert_eq!(loops.table[FACE_ROW * k + 1..FACE_ROW * (k + 1)], l.ring);
-        assert_eq!((loops.corners[k], loops.sides[k], loops.planes[k]), (l.corner_set as u64, l.edge_set, l.plane as u64));
+        assert_eq!(
+            (loops.corners[k], loops.sides[k], loops.planes[k]),
+            (l.corner_set as u64, l.edge_set, l.plane as u64)
+        );
     }
     let mut rows = [0; FACE_ROOM];
     let count = proved_candidates(black_box(&lists), &loops, &mut rows);
-    assert_eq!(count, fast_candidates(black_box(&fast), black_box(&found)).len().min(MOST_CANDIDATES + 1));
+    assert_eq!(
+        count,
+        fast_candidates(black_box(&fast), black_box(&found))
+            .len()
+            .min(MOST_CANDIDATES + 1)
+    );
 }
 
 fn main() {
