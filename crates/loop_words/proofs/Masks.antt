@@ -62,7 +62,7 @@ module _ (d : Wire) (l : Loop) (path : Path d l) where
   prior-low zero h = omega arith
   prior-low (suc j) h = omega arith
 
-  after-prior : (j : ℕ) → j < n → around l (prior n j + 1) 0 ≡ getD l j 0
+  pub after-prior : (j : ℕ) → j < n → around l (prior n j + 1) 0 ≡ getD l j 0
   unfolding around
   after-prior zero h =
       let s : wrap n (n - 1 + 1) ≡ 0 = omega (arith, wrap-high n (n - 1 + 1) (omega arith)) in
@@ -72,7 +72,7 @@ module _ (d : Wire) (l : Loop) (path : Path d l) where
       ap (λ (i : ℕ). around l i 0) s ∙ around-low l (suc j) 0 h
 
   -- and each side goes to some corner
-  after-is : (k : ℕ) → k < n → (j : ℕ) × (j < n) × (prior n j ≡ k)
+  pub after-is : (k : ℕ) → k < n → (j : ℕ) × (j < n) × (prior n j ≡ k)
   after-is k h = go (ℕ-discrete (suc k) n)
     where
       go : Dec (suc k ≡ n) → (j : ℕ) × (j < n) × (prior n j ≡ k)
@@ -89,7 +89,7 @@ module _ (d : Wire) (l : Loop) (path : Path d l) where
         go (inr q) = numbered .down e b a h q
 
     -- the edge of the side to corner j
-    side-edge : (j : ℕ) → j < n
+    pub side-edge : (j : ℕ) → j < n
         → (f : ℕ) × (f < length (d .edges)) × (joins (getD l (prior n j) 0) (getD l j 0) (getD (d .edges) f (edge 0 0)) ≡ true)
     unfolding joined
     side-edge j h =
@@ -100,7 +100,7 @@ module _ (d : Wire) (l : Loop) (path : Path d l) where
         any-yes (joins (getD l k 0) (getD l j 0)) (edge 0 0) (d .edges)
         ((λ i. any (joins (sym x i) (sym y i)) (d .edges)) ∙ path .along k p)
 
-    side-number : (j : ℕ) (h : j < n) → sideNumber number l j ≡ side-edge j h .0
+    pub side-number : (j : ℕ) (h : j < n) → sideNumber number l j ≡ side-edge j h .0
     side-number j h = let m = side-edge j h in number-is (m .0) (getD l (prior n j) 0) (getD l j 0) (m .1) (m .2)
 
     pub side-low : (j : ℕ) → j < n → sideNumber number l j < length (d .edges)

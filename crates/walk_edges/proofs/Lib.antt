@@ -1,0 +1,6 @@
+-- Laws of the words of edges. Assumes nothing.
+pub mod Stored
+pub mod Ups
+pub mod Turns
+pub mod Columns
+pub mod Upward

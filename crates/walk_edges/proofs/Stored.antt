@@ -1,0 +1,71 @@
+-- One bit that is set in several words of a list, one after the other. Assumes nothing.
+use mathlib.Core.Path.{_≡_, refl, sym, ap, _∙_}
+use mathlib.Core.Bool.{Bool, true, false, _&&_, _||_, or-false}
+use mathlib.Core.List.{List}
+use Prim.Native.Nat.{ℕ, _+_, _*_, _%_, _^_, _<_}
+use native.Mathlib.Omega.{arith}
+use lib.Bits.{bitOr}
+use lib.Dec.{eqb}
+use lib.ListN.{length, getD, set, take}
+use lib.Seq.{take-length}
+use Rattle.lists.specs.Lists.{any, upto}
+use Rattle.lists.proofs.Places.{upto-length, any-below-more}
+use Rattle.sets.specs.Word.{dig, digit}
+use Rattle.sets.specs.Sets.{room}
+use Rattle.sets.proofs.Word.{one-shl}
+use Rattle.sets.proofs.Numbers.{digit-power, digit-stored}
+use Rattle.walk_edges.specs.Marks.{Marked}
+
+-- the store `words[x] = words[x] | 1 << k`
+abbrev pub stored : List ℕ → ℕ → ℕ → List ℕ
+stored words x k = set words x (bitOr (getD words x 0) ((1 * 2 ^ k) % 2 ^ room))
+
+-- which passes over those that fail the test
+module _ (test : ℕ → Bool) (f : ℕ → ℕ) (n k : ℕ) (words₀ : List ℕ) where
+  -- e is one of those of the first i numbers f 0, f 1, .. that pass
+  abbrev among : ℕ → ℕ → Bool
+  among i e = any (λ j. test j && eqb e (f j)) (take i (upto n))
+
+  abbrev pub Stored : List ℕ → ℕ → Type 0
+  Stored words i = (e u : ℕ) → digit (getD words e 0) u ≡ (digit (getD words₀ e 0) u || (among i e && eqb u k))
+
+  pub stored-none : Stored words₀ 0
+  unfolding any
+  stored-none e u = sym (or-false (digit (getD words₀ e 0) u))
+
+  -- one more, which passes or fails
+  pub stored-more : (words : List ℕ) (i x : ℕ) → i < n → x < length words → k < room → x ≡ f i → test i ≡ true → Stored words i
+      → Stored (stored words x k) (i + 1)
+  stored-more words i x h room-x few q t s e u =
+      let d = digit (getD words₀ e 0) u in
+      ap (λ (m : ℕ). digit (getD (set words x (bitOr (getD words x 0) m)) e 0) u) (one-shl room k few)
+      ∙ digit-stored words x (2 ^ k) e u room-x
+      ∙ (λ r. s e u r || (eqb e (q r) && digit-power k u r))
+      ∙ ap (λ (b : Bool). (d || (among i e && eqb u k)) || ((b && eqb e (f i)) && eqb u k)) (sym t)
+      ∙ spread d (among i e) (test i && eqb e (f i)) (eqb u k)
+      ∙ ap (λ (b : Bool). d || (b && eqb u k)) (sym (any-below-more (λ j. test j && eqb e (f j)) n i h))
+    where
+      spread : (d a b c : Bool) → ((d || (a && c)) || (b && c)) ≡ (d || ((a || b) && c))
+      spread true a b c = refl
+      spread false true true true = refl
+      spread false true true false = refl
+      spread false true false true = refl
+      spread false true false false = refl
+      spread false false b c = refl
+
+  pub stored-same : (words : List ℕ) (i : ℕ) → i < n → test i ≡ false → Stored words i → Stored words (i + 1)
+  stored-same words i h t s e u =
+      let d = digit (getD words₀ e 0) u in
+      s e u
+      ∙ ap (λ (b : Bool). d || (b && eqb u k))
+      (sym (any-below-more (λ j. test j && eqb e (f j)) n i h ∙ ap (λ (b : Bool). among i e || (b && eqb e (f i))) t
+      ∙ or-false (among i e)))
+
+  -- all: just those of a mask
+  pub stored-all : (words : List ℕ) (i : ℕ) → i ≡ n → (mask : List Bool)
+      → ((e : ℕ) → dig mask e ≡ any (λ j. test j && eqb e (f j)) (upto n)) → Stored words i → Marked mask k words₀ words
+  stored-all words i q mask m s e u =
+      let p : i ≡ length (upto n) = omega (arith, upto-length n) in
+      let all = ap (λ (k : ℕ). take k (upto n)) p ∙ take-length (upto n) in
+      s e u
+      ∙ ap (λ (b : Bool). digit (getD words₀ e 0) u || (b && eqb u k)) (ap (any (λ j. test j && eqb e (f j))) all ∙ sym (m e))
