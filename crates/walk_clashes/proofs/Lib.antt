@@ -1,0 +1,2 @@
+-- Laws of candidates' tables. Assumes nothing.
+pub mod Parts
