@@ -43,7 +43,7 @@ fn mix(s: i64, p: Point, t: i64, q: Point) -> Point
 }
 
 // A: the edge from p to q, whose ends are at a and b from the plane of row g, pierces it strictly inside.
-fn pierced(
+pub fn pierced(
     xyz: &[i64],
     table: &[u8],
     g: usize,

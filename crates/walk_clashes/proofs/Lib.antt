@@ -1,2 +1,7 @@
 -- Laws of candidates' tables. Assumes nothing.
 pub mod Parts
+pub mod Sorting
+pub mod Folding
+pub mod Crossed
+pub mod Gathering
+pub mod Planes

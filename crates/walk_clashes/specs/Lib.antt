@@ -1,2 +1,4 @@
 -- What contracts of this crate cite beside the paper. Assumes nothing.
 pub mod Faces
+pub mod Sorted
+pub mod Lent

@@ -1,0 +1,61 @@
+-- The masks of rules A and B as folds over the vertices above a plane and over those to ask in it. Assumes nothing.
+use mathlib.Core.Bool.{Bool, true, cond}
+use mathlib.Core.Path.{_≡_, refl, sym, _∙_}
+use mathlib.Core.List.{List, [], _∷_, map}
+use Prim.Native.Nat.{ℕ, _<_}
+use native.Mathlib.Omega.{arith}
+use lib.ListN.{length}
+use Rattle.lists.specs.Lists.{upto, member}
+use Rattle.lists.proofs.Truth.{and-left}
+use Rattle.lists.proofs.Places.{upto-length}
+use Rattle.sets.specs.Word.{dig, either, less}
+use Rattle.sets.proofs.Digits.{dig-less}
+use Rattle.paper.specs.Points.{isZero, above}
+use Rattle.paper.specs.Polygon.{planeSide, exactly, lies, isInside}
+use Rattle.paper.specs.Drawing.{Wire, at}
+use Rattle.paper.specs.Loops.{Loop, polygon}
+use Rattle.fast_tables.specs.Hits.{cornerMask}
+use Rattle.fast_tables.specs.Asked.{planeMask}
+use Rattle.fast_tables.specs.Words.{ones, aboveMask, downFrom, goingDown, throughMask, insideMask}
+use Rattle.fast_tables.proofs.Counts.{map-yes}
+use Rattle.walk_clashes.proofs.Folding.{folded}
+use Rattle.walk_clashes.proofs.Crossed.{gathered-fold}
+
+module _ (d : Wire) (cs : List Loop) (l : Loop) where
+  -- a digit of a mask of the vertices is a vertex
+  vertex : (test : ℕ → Bool) (v : ℕ) → dig (map test (upto (length (d .vertices)))) v ≡ true → v < length (d .vertices)
+  vertex test v t =
+      let n = length (d .vertices) in
+      omega (arith, map-yes test 0 (upto n) v t .0, upto-length n)
+
+  -- ---- A
+  pub above-low : (a : ℕ) → dig (aboveMask d l) a ≡ true → a < length (d .vertices)
+  unfolding aboveMask
+  above-low a t = vertex (λ v. above (planeSide (polygon d l) (at d v))) a t
+
+  going-fold : (xs : List ℕ) (s : List Bool) → folded (downFrom d cs l) xs s ≡ goingDown d cs l xs s
+  unfolding folded goingDown
+  going-fold [] s = refl
+  going-fold (a ∷ xs) s = going-fold xs (downFrom d cs l a s)
+
+  pub through-fold : folded (downFrom d cs l) (ones (length (d .vertices)) (aboveMask d l)) [] ≡ throughMask d cs l
+  unfolding throughMask
+  through-fold = going-fold (ones (length (d .vertices)) (aboveMask d l)) []
+
+  -- ---- B
+  abbrev pub askedMask : List Bool
+  askedMask = less (planeMask d l) (cornerMask d l)
+
+  abbrev pub enterStep : ℕ → List Bool → List Bool
+  enterStep v s = either s (cond (isInside (lies (exactly (at d v)) (polygon d l))) (map (member v) cs) [])
+
+  pub asked-low : (v : ℕ) → dig askedMask v ≡ true → v < length (d .vertices)
+  unfolding planeMask
+  asked-low v t =
+      vertex (λ u. isZero (planeSide (polygon d l) (at d u))) v
+      (and-left (dig (planeMask d l) v) _ (sym (dig-less (planeMask d l) (cornerMask d l) v) ∙ t))
+
+  pub inside-fold : folded enterStep (ones (length (d .vertices)) askedMask) [] ≡ insideMask d cs l
+  unfolding insideMask
+  inside-fold =
+      gathered-fold (λ v. isInside (lies (exactly (at d v)) (polygon d l))) (λ v. map (member v) cs) (ones (length (d .vertices)) askedMask) []
