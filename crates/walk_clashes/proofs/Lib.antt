@@ -5,3 +5,4 @@ pub mod Folding
 pub mod Crossed
 pub mod Gathering
 pub mod Planes
+pub mod Marking

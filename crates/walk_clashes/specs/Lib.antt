@@ -2,3 +2,4 @@
 pub mod Faces
 pub mod Sorted
 pub mod Lent
+pub mod Marking

@@ -1,5 +1,7 @@
 // Of each candidate its part of six volumes, and the candidates that go through it: those on edges that pierce it, and those with a vertex
 // strictly inside it. Assumes a table of candidates of a drawing in range.
+pub mod marks;
+
 ghost use mathlib.Core.Path.{_≡_};
 ghost use Rattle.paper.specs.Solids.{faceSix};
 ghost use Rattle.polygon.specs.Rings.{ring, pointOf, Face};

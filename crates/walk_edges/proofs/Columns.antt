@@ -72,8 +72,8 @@ module _ (mask : Loop → List Bool) (cs : List Loop) where
 past-end : (a : List Bool) (k : ℕ) → length a ≤ k → dig a k ≡ false
 past-end a k h = never-true (dig a k) (λ t. let s = dig-lt a k t in omega (arith, s))
 
-module _ (f : Edge → Loop → Bool) (es : List Edge) (cs : List Loop) where
-  -- all candidates: the words are those of a table with a mask for each edge
+module _ {A : Type 0} (z : A) (f : A → Loop → Bool) (es : List A) (cs : List Loop) where
+  -- all candidates: the words are those of a table with a mask for each edge, or for each of other things that candidates have
   pub columns-all : (words : List ℕ) (n : ℕ) → n ≡ length cs → n ≤ room → length es ≤ room → Columns (λ l. map (λ e. f e l) es) cs words n
       → Masks words (map (λ e. map (f e) cs) es)
   unfolding packedSet
@@ -81,25 +81,25 @@ module _ (f : Edge → Loop → Bool) (es : List Edge) (cs : List Loop) where
       record { few = omega (arith, length-map es (λ e. map (f e) cs)); at = λ e h. at e (omega (arith, h, length-map es (λ e. map (f e) cs))) }
     where
       digits-are : (e : ℕ) → e < length es → (u : ℕ) (b : Bool) → ltb u n ≡ b
-          → digit (getD words e 0) u ≡ dig (map (f (getD es e (edge 0 0))) cs) u
+          → digit (getD words e 0) u ≡ dig (map (f (getD es e z)) cs) u
       digits-are e h u true p =
           let m : u < length cs = omega (arith, ltb-true u n p, q) in
           s e u ∙ ap (λ (b : Bool). b && dig (map (λ g. f g (loopAt cs u)) es) e) p
-          ∙ map-at (λ g. f g (loopAt cs u)) es e (edge 0 0) false h
-          ∙ sym (map-at (f (getD es e (edge 0 0))) cs u [] false m)
+          ∙ map-at (λ g. f g (loopAt cs u)) es e z false h
+          ∙ sym (map-at (f (getD es e z)) cs u [] false m)
       digits-are e h u false p =
           s e u ∙ ap (λ (b : Bool). b && dig (map (λ g. f g (loopAt cs u)) es) e) p
           ∙ sym
-          (past-end (map (f (getD es e (edge 0 0))) cs) u
-          (omega (arith, ltb-false u n p, q, length-map cs (f (getD es e (edge 0 0))))))
+          (past-end (map (f (getD es e z)) cs) u
+          (omega (arith, ltb-false u n p, q, length-map cs (f (getD es e z)))))
 
       at : (e : ℕ) → e < length es → Is (maskAt words e) (getD (map (λ e. map (f e) cs) es) e [])
       at e h =
-          let m : getD (map (λ e. map (f e) cs) es) e [] ≡ map (f (getD es e (edge 0 0))) cs
-          = map-at (λ e. map (f e) cs) es e (edge 0 0) [] h in
-          let w = by-digits (getD words e 0) (map (f (getD es e (edge 0 0))) cs) (λ u. digits-are e h u (ltb u n) refl) in
-          let is : Is (maskAt words e) (map (f (getD es e (edge 0 0))) cs)
-          = record { short = omega (arith, q, length-map cs (f (getD es e (edge 0 0)))); words = λ i. record { word = w i } } in
+          let m : getD (map (λ e. map (f e) cs) es) e [] ≡ map (f (getD es e z)) cs
+          = map-at (λ e. map (f e) cs) es e z [] h in
+          let w = by-digits (getD words e 0) (map (f (getD es e z)) cs) (λ u. digits-are e h u (ltb u n) refl) in
+          let is : Is (maskAt words e) (map (f (getD es e z)) cs)
+          = record { short = omega (arith, q, length-map cs (f (getD es e z))); words = λ i. record { word = w i } } in
           rw m is
 
 -- ---- the edges of a candidate are a column, and past the last candidate it is empty

@@ -5,6 +5,7 @@ use Prim.Native.Nat.{_-_, _<_, _≤_, ℕ}
 use native.Mathlib.Omega.{arith}
 use lib.ListN.{length}
 use denote.Ref.{now}
+use Rattle.paper.specs.Drawing.{edge}
 use Rattle.paper.specs.Loops.{loopAt}
 use Rattle.paper.specs.Solids.{has, runsUp, tablesOf}
 use Rattle.fast_tables.specs.Hits.{sideMask}
@@ -109,8 +110,8 @@ returns c w =
     let es = w .drawing .edges in
     let most : l .k ≤ 64 = omega (arith, w .most, o .not-past) in
     record {
-      on-are = columns-all has es (w .loops) (l .on) (l .k) e most (w .small .edges) (o .on-in);
-      up-are = columns-all runsUp es (w .loops) (l .up) (l .k) e most (w .small .edges) (o .up-in);
+      on-are = columns-all (edge 0 0) has es (w .loops) (l .on) (l .k) e most (w .small .edges) (o .on-in);
+      up-are = columns-all (edge 0 0) runsUp es (w .loops) (l .up) (l .k) e most (w .small .edges) (o .up-in);
     }
 
 pub edge-words-spec : {M : Type 1} → statement M

@@ -1,0 +1,111 @@
+-- The words of some numbers of a set are marked already, and the others are left. Assumes nothing.
+use mathlib.Core.Bool.{Bool, true, false, not, _&&_, _||_, or-false}
+use mathlib.Core.Path.{_≡_, refl, sym, ap, _∙_}
+use mathlib.Core.List.{List}
+use Prim.Native.Nat.{ℕ, _^_, _<_}
+use native.Mathlib.Decide.{ℕ-discrete}
+use borrow.Author.Tests.{eqb-true, eqb-false, eq-eqb, ne-eqb}
+use lib.Bits.{bitOr}
+use lib.Dec.{eqb}
+use lib.ListN.{length, getD, set}
+use Rattle.lists.proofs.Truth.{and-left}
+use Rattle.sets.specs.Word.{dig, digit, count, less, only, Sub}
+use Rattle.sets.specs.Sets.{room, Is, size, Lowest, Dropped}
+use Rattle.sets.specs.declared.Set.{Set}
+use Rattle.sets.proofs.Word.{one-shl}
+use Rattle.sets.proofs.Digits.{dig-less}
+use Rattle.sets.proofs.Ones.{dig-none, only-is}
+use Rattle.sets.proofs.Numbers.{digit-power, digit-stored}
+use Rattle.sets.proofs.Sets.{size-is}
+use Rattle.walk_edges.specs.Marks.{Marked}
+use Rattle.walk_edges.proofs.Stored.{stored}
+
+module _ (mask : List Bool) (k : ℕ) (words₀ : List ℕ) where
+  pub record Half (rest : Set) (words : List ℕ) : Type 0 where
+    pub rest-now : List Bool
+    pub rest-is : Is rest rest-now
+    pub known : Sub rest-now mask
+    pub each : (e u : ℕ) → digit (getD words e 0) u ≡ (digit (getD words₀ e 0) u || ((dig mask e && not (dig rest-now e)) && eqb u k))
+
+  pub half-start : {rest : Set} → Is rest mask → Half rest words₀
+  half-start i =
+      record {
+        rest-now = mask;
+        rest-is = i;
+        known = λ j t. t;
+        each = λ e u. sym (ap (λ (b : Bool). digit (getD words₀ e 0) u || (b && eqb u k)) (never (dig mask e)) ∙ or-false (digit (getD words₀ e 0) u));
+      }
+    where
+      never : (b : Bool) → (b && not b) ≡ false
+      never true = refl
+      never false = refl
+
+  module _ {rest : Set} {words : List ℕ} (h : Half rest words) where
+    pub half-end : eqb (size rest) 0 ≡ true → Marked mask k words₀ words
+    half-end t e u =
+        let z : count (h .rest-now) ≡ 0 = sym (size-is (h .rest-is)) ∙ eqb-true (size rest) 0 t in
+        h .each e u
+        ∙ ap (λ (b : Bool). digit (getD words₀ e 0) u || (b && eqb u k))
+        (ap (λ (b : Bool). dig mask e && not b) (dig-none (h .rest-now) z e) ∙ keeps (dig mask e))
+      where
+        keeps : (b : Bool) → (b && true) ≡ b
+        keeps true = refl
+        keeps false = refl
+
+    module _ (x : ℕ) (lowest : Lowest rest x) where
+      there : dig (h .rest-now) x ≡ true
+      there = lowest .there (h .rest-now) (h .rest-is)
+
+      pub half-known : dig mask x ≡ true
+      half-known = h .known x there
+
+      pub half-next : {rest' : Set} → k < room → x < length words → Dropped rest x rest' → Half rest' (stored words x k)
+      half-next few low dropped =
+          record {
+            rest-now = less (h .rest-now) (only x);
+            rest-is = dropped .same (h .rest-now) (h .rest-is);
+            known = λ j t. h .known j (and-left (dig (h .rest-now) j) _ (sym (dig-less (h .rest-now) (only x) j) ∙ t));
+            each = λ e u.
+                ap (λ (m : ℕ). digit (getD (set words x (bitOr (getD words x 0) m)) e 0) u) (one-shl room k few)
+                ∙ digit-stored words x (2 ^ k) e u low
+                ∙ (λ i. h .each e u i || (eqb e x && digit-power k u i))
+                ∙ spread (digit (getD words₀ e 0) u) (dig mask e && not (dig (h .rest-now) e)) (eqb e x) (eqb u k)
+                ∙ ap (λ (b : Bool). digit (getD words₀ e 0) u || (b && eqb u k)) (go e (ℕ-discrete e x));
+          }
+        where
+          spread : (d a b c : Bool) → ((d || (a && c)) || (b && c)) ≡ (d || ((a || b) && c))
+          spread true a b c = refl
+          spread false true true true = refl
+          spread false true true false = refl
+          spread false true false true = refl
+          spread false true false false = refl
+          spread false false b c = refl
+
+          here : (b : Bool) → (b || true) ≡ true
+          here true = refl
+          here false = refl
+
+          off : (b : Bool) → (b && false) ≡ false
+          off true = refl
+          off false = refl
+
+          on : (b : Bool) → (b && true) ≡ b
+          on true = refl
+          on false = refl
+
+          digit-less : (e : ℕ) → dig (less (h .rest-now) (only x)) e ≡ (dig (h .rest-now) e && not (eqb e x))
+          digit-less e = dig-less (h .rest-now) (only x) e ∙ ap (λ (b : Bool). dig (h .rest-now) e && not b) (only-is x e)
+
+          go : (e : ℕ) → Dec (e ≡ x)
+              → ((dig mask e && not (dig (h .rest-now) e)) || eqb e x) ≡ (dig mask e && not (dig (less (h .rest-now) (only x)) e))
+          go e (yes q) =
+              ap (λ (b : Bool). (dig mask e && not (dig (h .rest-now) e)) || b) (eq-eqb e x q)
+              ∙ here (dig mask e && not (dig (h .rest-now) e))
+              ∙ sym
+              ((λ i. (ap (dig mask) q ∙ half-known) i && not (digit-less e i))
+              ∙ ap not (ap (λ (b : Bool). dig (h .rest-now) e && not b) (eq-eqb e x q) ∙ off (dig (h .rest-now) e)))
+          go e (no q) =
+              ap (λ (b : Bool). (dig mask e && not (dig (h .rest-now) e)) || b) (ne-eqb e x q)
+              ∙ or-false (dig mask e && not (dig (h .rest-now) e))
+              ∙ ap (λ (b : Bool). dig mask e && not b)
+              (sym (digit-less e ∙ ap (λ (b : Bool). dig (h .rest-now) e && not b) (ne-eqb e x q) ∙ on (dig (h .rest-now) e)))

@@ -1,0 +1,111 @@
+-- `walk_clashes::marks::mark_all`: the loop keeps that the words of those that went out are marked. Assumes nothing.
+use mathlib.Core.Bool.{Bool, false}
+use mathlib.Core.List.{List}
+use mathlib.Core.Path.{_≡_, refl, sym, _∙_}
+use Prim.Native.Nat.{ℕ, _<_}
+use native.Mathlib.Omega.{arith}
+use lib.Dec.{eqb}
+use lib.ListN.{length, length-set}
+use denote.Ref.{now}
+use borrow.Author.Needs.{needs}
+use borrow.Author.Tests.{eqb-false, not-true, not-false}
+use Rattle.sets.specs.Sets.{Is, size}
+use Rattle.walk_clashes.proofs.Marking.{Half, half-start, half-end, half-known, half-next}
+use Rattle.walk_clashes.proofs.marks.mark_all.Statement.{statement}
+use Rattle.walk_clashes.proofs.marks.mark_all.Tie as tie
+
+abbrev Inv-loop : tie.InvT-loop
+Inv-loop words₀ k open₀ words «open» = (length words ≡ length words₀) × ((mask : List Bool) → Is open₀ mask → Half mask k words₀ «open» words)
+
+abbrev μ-loop : tie.MeasureT-loop
+μ-loop words₀ k open₀ words «open» = size «open»
+
+-- ---- the ways back
+
+abbrev start : tie.At-loop Inv-loop μ-loop → tie.Start Inv-loop μ-loop
+start c = c .before .before
+
+abbrev turn : tie.Then1 Inv-loop μ-loop → tie.At-loop Inv-loop μ-loop
+turn c = c .before .before
+
+-- some are left, and the lowest of them has a word
+some : (c : tie.Then1 Inv-loop μ-loop) → eqb (size (turn c .loop .«open»)) 0 ≡ false
+some c = sym (c .before .is-empty .ensures) ∙ not-true (c .before .is-empty .result) (c .if1 .taken)
+
+low : (c : tie.After-lowest Inv-loop μ-loop) → c .lowest .result < length (turn (c .before) .loop .words)
+low c =
+    let l = turn (c .before) in
+    let p = start l .pre in
+    let h = l .loop .inv .1 (p .mask) (p .mask-is) in
+    let t = half-known (p .mask) _ _ h (c .lowest .result) (c .lowest .ensures) in
+    omega (arith, p .low (c .lowest .result) t, l .loop .inv .0)
+
+-- ---- the needs
+
+loop-holds : tie.Need-loop-holds Inv-loop μ-loop
+loop-holds c = (refl, λ mask i. half-start mask _ _ i)
+
+is-empty-requires : tie.Need-is-empty-requires Inv-loop μ-loop
+is-empty-requires c κs = search needs
+
+lowest-requires : tie.Need-lowest-requires Inv-loop μ-loop
+lowest-requires c κs = let n = eqb-false (size (turn c .loop .«open»)) 0 (some c) in omega (arith, n)
+
+mul-words : tie.Need-mul-words Inv-loop μ-loop
+mul-words c = omega (arith, c .lowest .ensures .narrow)
+
+slice-read-words : tie.Need-slice-read-words Inv-loop μ-loop
+slice-read-words c = low (c .before)
+
+shl-words : tie.Need-shl-words Inv-loop μ-loop
+shl-words c = omega (arith, start (turn (c .before .before)) .pre .few, c .before .lowest .ensures .narrow)
+
+mul-words-2 : tie.Need-mul-words-2 Inv-loop μ-loop
+mul-words-2 c = omega (arith, c .before .lowest .ensures .narrow)
+
+slice-write-words : tie.Need-slice-write-words Inv-loop μ-loop
+slice-write-words c = low (c .before)
+
+without-requires : tie.Need-without-requires Inv-loop μ-loop
+without-requires c κs = c .before .lowest .ensures .narrow
+
+loop-less : tie.Need-loop-less Inv-loop μ-loop
+loop-less c = c .without .ensures .fewer (c .before .before .lowest .ensures .there)
+
+loop-again : tie.Need-loop-again Inv-loop μ-loop
+loop-again c =
+    let a = c .before .before in
+    let l = turn (a .before) in
+    let j = a .lowest in (
+      length-set (l .loop .words) (j .result) _ ∙ l .loop .inv .0,
+      λ mask i. half-next mask _ _ (l .loop .inv .1 mask i) (j .result) (j .ensures) (start l .pre .few) (low a) (c .without .ensures),
+    )
+
+same-length : tie.Need-same-length Inv-loop μ-loop
+same-length c = c .before .before .loop .inv .0
+
+returns : tie.Need-returns Inv-loop μ-loop
+returns c =
+    let e = c .before in
+    let none = sym (e .is-empty .ensures) ∙ not-false (e .is-empty .result) (c .if1 .left) in
+    record { marked = λ mask i. half-end mask _ _ (e .before .loop .inv .1 mask i) none; long = e .before .loop .inv .0 }
+
+pub mark-all-spec : {M : Type 1} → statement M
+mark-all-spec =
+    tie.close
+    (tie.spec
+    Inv-loop
+    μ-loop
+    loop-holds
+    is-empty-requires
+    lowest-requires
+    mul-words
+    slice-read-words
+    shl-words
+    mul-words-2
+    slice-write-words
+    without-requires
+    loop-less
+    loop-again
+    same-length
+    returns)
