@@ -1,11 +1,12 @@
 -- One bit that is set in the words of all numbers of a set. Assumes nothing.
-use mathlib.Core.Bool.{Bool, true}
+use mathlib.Core.Bool.{Bool, true, _&&_, _||_}
 use mathlib.Core.Path.{_≡_}
 use mathlib.Core.List.{List, map}
 use Prim.Native.Nat.{ℕ, _≤_, _<_}
+use lib.Dec.{eqb}
 use lib.ListN.{length, getD}
 use Rattle.lists.specs.Lists.{member}
-use Rattle.sets.specs.Word.{dig}
+use Rattle.sets.specs.Word.{dig, digit}
 use Rattle.sets.specs.Sets.{room, Is, maskAt}
 use Rattle.sets.specs.declared.Set.{Set}
 use Rattle.paper.specs.Format.{editionOne}
@@ -24,6 +25,19 @@ pub record MarkRoom (words : List ℕ) (set : Set) (k : ℕ) : Type 0 where
 -- the number is in their words, and all else is as before
 pub record MarkedBy (set : Set) (k : ℕ) (words₀ words : List ℕ) : Type 0 where
   pub marked : (mask : List Bool) → Is set mask → Marked mask k words₀ words
+  pub long : length words ≡ length words₀
+
+-- ---- both ways
+
+pub record BothRoom (words : List ℕ) (set : Set) (k : ℕ) : Type 0 where
+  pub mask : List Bool
+  pub mask-is : Is set mask
+  pub whole : length words ≡ room
+  pub few : k < room
+
+pub record BothBy (set : Set) (k : ℕ) (words₀ words : List ℕ) : Type 0 where
+  pub marked : (mask : List Bool) → Is set mask → (e u : ℕ)
+      → digit (getD words e 0) u ≡ ((digit (getD words₀ e 0) u || (eqb e k && dig mask u)) || (dig mask e && eqb u k))
   pub long : length words ≡ length words₀
 
 -- ---- the corners of n candidates, in words

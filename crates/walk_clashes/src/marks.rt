@@ -1,6 +1,7 @@
-// One bit that is set in the words of all numbers of a set: of each vertex the word of the candidates with it. Assumes that lists have a
+// One bit that is set in the words of all numbers of a set, one way or both: of each vertex the word of the candidates with it. Assumes that lists have a
 // word for each.
-ghost use Rattle.walk_clashes.specs.Marking.{MarkRoom, MarkedBy, CornersOf, CornerRoom, VertexWords};
+ghost use Rattle.walk_clashes.specs.Marking.{MarkRoom, MarkedBy, BothRoom, BothBy};
+ghost use Rattle.walk_clashes.specs.Marking.{CornersOf, CornerRoom, VertexWords};
 use paper::MOST_CANDIDATES;
 use paper::MOST_VERTICES;
 use sets::Set;
@@ -16,6 +17,15 @@ pub fn mark_all(words: &mut [u64], set: Set, k: usize)
         words[j] = words[j] | 1u64 << k;
         open = open.without(j);
     }
+}
+
+// Both ways: the set goes into the word of k too.
+pub fn mark_both(words: &mut [u64; MOST_CANDIDATES], set: Set, k: usize)
+    requires { ⌜ BothRoom (now words) set k ⌝ }
+    ensures { λ _. ⌜ BothBy set k (now (words .entry)) (now (words .exit)) ⌝ }
+{
+    words[k] = words[k] | set.word;
+    mark_all(words, set, k);
 }
 
 // Of each vertex the candidates with it, from the words of n candidates' corners.

@@ -1,0 +1,76 @@
+-- `walk_clashes::marks::mark_both`: the word of k takes the set, and then each of the set takes k. Assumes nothing.
+use mathlib.Core.Bool.{Bool, _&&_, _||_}
+use mathlib.Core.List.{List}
+use mathlib.Core.Path.{_≡_, ap, _∙_}
+use Prim.Native.Nat.{ℕ}
+use native.Mathlib.Omega.{arith}
+use lib.Bits.{bitOr}
+use lib.Dec.{eqb}
+use lib.ListN.{getD, length, length-set}
+use denote.Ref.{now}
+use borrow.Author.Needs.{needs}
+use Rattle.sets.specs.Word.{dig, digit}
+use Rattle.sets.specs.Sets.{Is, packedSet}
+use Rattle.sets.specs.declared.Set.{Set}
+use Rattle.sets.proofs.Ones.{dig-lt}
+use Rattle.sets.proofs.Numbers.{digit-word, digit-stored}
+use Rattle.walk_clashes.proofs.marks.mark_both.Statement.{statement}
+use Rattle.walk_clashes.proofs.marks.mark_both.Tie as tie
+
+-- the digits of a set's word
+digit-set : {x : Set} (mask : List Bool) → Is x mask → (u : ℕ) → digit (x .word) u ≡ dig mask u
+unfolding packedSet
+digit-set mask i u = ap (λ (s : Set). digit (s .word) u) (i .words) ∙ digit-word mask u
+
+mul-words : tie.Need-mul-words
+mul-words c = search needs
+
+element-copy-out-words : tie.Need-element-copy-out-words
+element-copy-out-words c = search needs
+
+mul-words-2 : tie.Need-mul-words-2
+mul-words-2 c = search needs
+
+element-write-words : tie.Need-element-write-words
+element-write-words c = search needs
+
+mark-all-requires : tie.Need-mark-all-requires
+mark-all-requires c κs =
+    let s = c .before .before .before in
+    let p = s .pre in
+    let w = now (s .args .words) in
+    let k = s .args .k in
+    let long = length-set w k (bitOr (getD w k 0) (s .args .set .word)) in
+    record {
+      mask = p .mask;
+      mask-is = p .mask-is;
+      low = λ j t. let h = dig-lt (p .mask) j t in omega (arith, h, p .mask-is .short, long, p .whole);
+      few = p .few;
+    }
+
+returns : tie.Need-returns
+returns c =
+    let s = c .before .before .before .before in
+    let w = now (s .args .words) in
+    let k = s .args .k in
+    let m = c .mark-all .ensures in
+    record {
+      marked =
+          λ mask i e u.
+          m .marked mask i e u
+          ∙ ap (λ (b : Bool). b || (dig mask e && eqb u k))
+          (digit-stored w k (s .args .set .word) e u (omega (arith, s .pre .few, s .pre .whole))
+          ∙ ap (λ (b : Bool). digit (getD w e 0) u || (eqb e k && b)) (digit-set mask i u));
+      long = m .long ∙ length-set w k _;
+    }
+
+pub mark-both-spec : {M : Type 1} → statement M
+mark-both-spec =
+    tie.close
+    (tie.spec
+    mul-words
+    element-copy-out-words
+    mul-words-2
+    element-write-words
+    mark-all-requires
+    returns)
