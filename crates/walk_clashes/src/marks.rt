@@ -1,5 +1,5 @@
-// One bit that is set in the words of all numbers of a set, one way or both: of each vertex the word of the candidates with it. Assumes that lists have a
-// word for each.
+// One bit that is set in the words of all numbers of a set, one way or both, and of each vertex the word of the candidates with it.
+// Assumes that lists have a word for each.
 ghost use Rattle.walk_clashes.specs.Marking.{MarkRoom, MarkedBy, BothRoom, BothBy};
 ghost use Rattle.walk_clashes.specs.Marking.{CornersOf, CornerRoom, VertexWords};
 use paper::MOST_CANDIDATES;

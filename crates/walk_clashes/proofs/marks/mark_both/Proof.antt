@@ -4,7 +4,6 @@ use mathlib.Core.List.{List}
 use mathlib.Core.Path.{_≡_, ap, _∙_}
 use Prim.Native.Nat.{ℕ}
 use native.Mathlib.Omega.{arith}
-use lib.Bits.{bitOr}
 use lib.Dec.{eqb}
 use lib.ListN.{getD, length, length-set}
 use denote.Ref.{now}
@@ -38,13 +37,10 @@ mark-all-requires : tie.Need-mark-all-requires
 mark-all-requires c κs =
     let s = c .before .before .before in
     let p = s .pre in
-    let w = now (s .args .words) in
-    let k = s .args .k in
-    let long = length-set w k (bitOr (getD w k 0) (s .args .set .word)) in
     record {
       mask = p .mask;
       mask-is = p .mask-is;
-      low = λ j t. let h = dig-lt (p .mask) j t in omega (arith, h, p .mask-is .short, long, p .whole);
+      low = λ j t. let h = dig-lt (p .mask) j t in rw length-set (omega (arith, h, p .mask-is .short, p .whole));
       few = p .few;
     }
 
