@@ -66,7 +66,8 @@ pub record EdgeLent (xyz : List ℤ) (rows number on : List ℕ) (g : ℕ) (m : 
   pub tied : joined (wireOf (lent .known)) a b ≡ true
 
 -- the candidates on it join a set where it pierces g
-abbrev pub EdgeJoins : {xyz : List ℤ} {rows number on : List ℕ} {g : ℕ} {m : Point} {a b : ℕ} → EdgeLent xyz rows number on g m a b → Set → Set
+abbrev pub EdgeJoins : {xyz : List ℤ} {rows number on : List ℕ} {g : ℕ} {m : Point} {a b : ℕ}
+    → EdgeLent xyz rows number on g m a b → Set → Set
     → Type 0
 EdgeJoins {a = a} {b = b} w x r =
     let d = wireOf (w .lent .known) in
@@ -88,7 +89,9 @@ pub record DownStart (xyz : List ℤ) (rows number on : List ℕ) (g : ℕ) (m :
 
 abbrev pub DownJoins : {xyz : List ℤ} {rows number on : List ℕ} {g : ℕ} {m : Point} {a : ℕ} {under : Set}
     → DownLent xyz rows number on g m a under → Set → Set → Type 0
-DownJoins {a = a} w x r = (s : List Bool) → Is x s → Is r (downFrom (wireOf (w .lent .known)) (allOf (w .lent .known)) (loopOf (w .lent .known)) a s)
+DownJoins {a = a} w x r =
+    let k = w .lent .known in
+    (s : List Bool) → Is x s → Is r (downFrom (wireOf k) (allOf k) (loopOf k) a s)
 
 -- ---- rule A, of all edges: the vertices joined to each, those above g's plane and those below it
 
@@ -113,16 +116,19 @@ pub record VertexLent (xyz : List ℤ) (rows corner-words : List ℕ) (g : ℕ) 
   pub v-low : v < length (wireOf (lent .known) .vertices)
 
 -- the candidates with vertex v join a set where it is strictly inside g
-abbrev pub VertexJoins : {xyz : List ℤ} {rows corner-words : List ℕ} {g : ℕ} {m : Point} {v : ℕ} → VertexLent xyz rows corner-words g m v → Set → Set → Type 0
+abbrev pub VertexJoins : {xyz : List ℤ} {rows corner-words : List ℕ} {g : ℕ} {m : Point} {v : ℕ}
+    → VertexLent xyz rows corner-words g m v → Set → Set → Type 0
 VertexJoins {v = v} w x r =
     let k = w .lent .known in
-    (s : List Bool) → Is x s → Is r (either s (cond (isInside (lies (exactly (vertexOf k v)) (polygon (wireOf k) (loopOf k)))) (map (member v) (allOf k)) []))
+    (s : List Bool) → Is x s
+    → Is r (either s (cond (isInside (lies (exactly (vertexOf k v)) (polygon (wireOf k) (loopOf k)))) (map (member v) (allOf k)) []))
 
 pub record EnterLent (xyz : List ℤ) (rows corner-words : List ℕ) (g : ℕ) (m : Point) (asked : Set) : Type 0 where
   pub lent : CornersLent xyz rows corner-words g m
   pub asked-is : let k = lent .known in Is asked (less (planeMask (wireOf k) (loopOf k)) (cornerMask (wireOf k) (loopOf k)))
 
-abbrev pub Inside : {xyz : List ℤ} {rows corner-words : List ℕ} {g : ℕ} {m : Point} {asked : Set} → EnterLent xyz rows corner-words g m asked → Set → Type 0
+abbrev pub Inside : {xyz : List ℤ} {rows corner-words : List ℕ} {g : ℕ} {m : Point} {asked : Set}
+    → EnterLent xyz rows corner-words g m asked → Set → Type 0
 Inside w r = let k = w .lent .known in Is r (insideMask (wireOf k) (allOf k) (loopOf k))
 
 -- ---- both, of candidate g

@@ -207,7 +207,8 @@ loop-again c w =
     let up-low : p .wide4 .result < length (l .up) = omega (arith, o .up-long, s .pre .up-room, edge-low p w) in
     let b = corner-is (corner p) w in
     let Next : List ℕ → Type 0
-    = λ x. Kept w (now (s .args .on)) (stored (l .on) (p .wide4 .result) (s .args .k)) (now (s .args .up)) x (t .before .before .before .before .wide .result) (corner p .wide3 .result) (l .i + 1) in
+    = λ x. Kept w (now (s .args .on)) (stored (l .on) (p .wide4 .result) (s .args .k)) (now (s .args .up)) x
+    (t .before .before .before .before .wide .result) (corner p .wide3 .result) (l .i + 1) in
     ⊎-elim
     (λ m. subst Next (sym (m .2))
     (turn-up w o (here t w) b (side-is p w) on-low up-low (omega (arith, m .0 .taken))))
