@@ -6,3 +6,4 @@ pub mod Crossed
 pub mod Gathering
 pub mod Planes
 pub mod Marking
+pub mod Ways

@@ -4,7 +4,7 @@ use mathlib.Core.Path.{_≡_, refl, sym, ap, _∙_}
 use mathlib.Core.List.{List}
 use Prim.Native.Nat.{ℕ, _^_, _<_}
 use native.Mathlib.Decide.{ℕ-discrete}
-use borrow.Author.Tests.{eqb-true, eqb-false, eq-eqb, ne-eqb}
+use borrow.Author.Tests.{eqb-true, eq-eqb, ne-eqb}
 use lib.Bits.{bitOr}
 use lib.Dec.{eqb}
 use lib.ListN.{length, getD, set}
@@ -18,6 +18,7 @@ use Rattle.sets.proofs.Ones.{dig-none, only-is}
 use Rattle.sets.proofs.Numbers.{digit-power, digit-stored}
 use Rattle.sets.proofs.Sets.{size-is}
 use Rattle.walk_edges.specs.Marks.{Marked}
+use Rattle.walk_edges.proofs.Firsts.{spread}
 use Rattle.walk_edges.proofs.Stored.{stored}
 
 module _ (mask : List Bool) (k : ℕ) (words₀ : List ℕ) where
@@ -73,14 +74,6 @@ module _ (mask : List Bool) (k : ℕ) (words₀ : List ℕ) where
                 ∙ ap (λ (b : Bool). digit (getD words₀ e 0) u || (b && eqb u k)) (go e (ℕ-discrete e x));
           }
         where
-          spread : (d a b c : Bool) → ((d || (a && c)) || (b && c)) ≡ (d || ((a || b) && c))
-          spread true a b c = refl
-          spread false true true true = refl
-          spread false true true false = refl
-          spread false true false true = refl
-          spread false true false false = refl
-          spread false false b c = refl
-
           here : (b : Bool) → (b || true) ≡ true
           here true = refl
           here false = refl

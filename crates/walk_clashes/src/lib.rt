@@ -11,11 +11,13 @@ ghost use Rattle.walk_clashes.specs.Faces.{Faces, SixRoom, SixesOf};
 ghost use Rattle.clash.specs.Strike.{pierceAt};
 ghost use Rattle.walk_clashes.specs.Sorted.{Plane, Vertex, Sorted};
 ghost use Rattle.walk_clashes.specs.Lent.{Crossing, EdgeLent, EdgeJoins, DownLent, DownStart, DownJoins};
-ghost use Rattle.walk_clashes.specs.Lent.{PierceLent, Through, VertexLent, VertexJoins, EnterLent, Inside, HitLent, Hits};
+ghost use Rattle.walk_clashes.specs.Lent.{PierceLent, Through, VertexLent, VertexJoins, EnterLent, Inside};
+ghost use Rattle.walk_clashes.specs.Lent.{AllLent, HitLent, Hits, HitRoom, BothWays};
 use clash::pierced;
 use inside::lies_inside;
 use lists::wide;
 use loop_words::PAIRS;
+use marks::mark_both;
 use paper::MOST_CANDIDATES;
 use paper::MOST_EDGES;
 use paper::MOST_VERTICES;
@@ -266,4 +268,28 @@ pub fn hit_set(
     let flat = s.flat;
     let through = piercing(xyz, rows, near, number, on, g, m, s);
     through.or(entering(xyz, rows, at, g, m, flat.minus(own)))
+}
+
+// Of each candidate in the first n rows those that go through it and those that it goes through.
+pub fn hit_words(
+    xyz: &[i64],
+    rows: &[u8],
+    n: usize,
+    near: &[u64; MOST_VERTICES],
+    number: &[u8; PAIRS],
+    on: &[u64; MOST_EDGES],
+    at: &[u64; MOST_VERTICES],
+    corners: &[u64; MOST_CANDIDATES],
+    words: &mut [u64; MOST_CANDIDATES],
+)
+    requires { ⌜ HitRoom (now xyz) (now rows) (now near) (now number) (now on) (now at) (now corners) n (now words) ⌝ }
+    ensures { λ _. ⌜ ((w : AllLent (now (xyz .entry)) (now (rows .entry)) (now (near .entry)) (now (number .entry))
+        (now (on .entry)) (now (at .entry)) (now (corners .entry)) n) → BothWays w n (now (words .exit))) ⌝ }
+{
+    let mut g = 0;
+    while g < n {
+        let set = hit_set(xyz, rows, near, number, on, at, corners, g);
+        mark_both(words, set, g);
+        g += 1;
+    }
 }

@@ -3,9 +3,8 @@ use mathlib.Core.Path.{_≡_, refl, sym, ap, _∙_}
 use mathlib.Core.Bool.{Bool, true, false, _&&_, _||_}
 use mathlib.Core.List.{List, [], _∷_, map}
 use Prim.Native.Nat.{ℕ, zero, suc, _+_, _≤_, _<_}
-use native.Mathlib.Decide.{ℕ-discrete}
 use native.Mathlib.Omega.{arith}
-use borrow.Author.Tests.{eq-eqb, ne-eqb, lt-ltb, le-ltb, ltb-true, ltb-false}
+use borrow.Author.Tests.{le-ltb, ltb-true, ltb-false}
 use lib.Dec.{eqb, ltb}
 use lib.ListN.{length, getD, length-map}
 use Rattle.lists.proofs.Truth.{never-true}
@@ -14,7 +13,7 @@ use Rattle.sets.specs.Word.{word, dig, digit}
 use Rattle.sets.specs.Sets.{room, Is, packedSet, maskAt}
 use Rattle.sets.proofs.Ones.{dig-lt}
 use Rattle.sets.proofs.Numbers.{digit-zero, by-digits}
-use Rattle.paper.specs.Drawing.{Wire, Edge, edge}
+use Rattle.paper.specs.Drawing.{Wire, Edge}
 use Rattle.paper.specs.Loops.{Loop, loopAt}
 use Rattle.paper.specs.Solids.{has, tablesOf}
 use Rattle.fast_sweeps.specs.Worklist.{edgesWith}
@@ -23,6 +22,7 @@ use Rattle.loop_table.specs.Tables.{HoldsWords}
 use Rattle.loop_table.proofs.Words.{word-is}
 use Rattle.walk_words.specs.Words.{Masks, Sides}
 use Rattle.walk_edges.specs.Marks.{Marked}
+use Rattle.walk_edges.proofs.Firsts.{before-next, at-next, spread}
 
 module _ (mask : Loop → List Bool) (cs : List Loop) where
   -- the words of edges have those of the first k candidates whose mask has the edge
@@ -36,37 +36,9 @@ module _ (mask : Loop → List Bool) (cs : List Loop) where
   -- candidate k too
   pub columns-more : (words after : List ℕ) (k : ℕ) → Marked (mask (loopAt cs k)) k words after → Columns words k → Columns after (k + 1)
   columns-more words after k m s e u =
-      m e u ∙ ap (λ (b : Bool). b || (dig (mask (loopAt cs k)) e && eqb u k)) (s e u) ∙ go (ℕ-discrete u k)
-    where
-      x : Bool
-      x = dig (mask (loopAt cs u)) e
-
-      y : Bool
-      y = dig (mask (loopAt cs k)) e
-
-      keeps : (b : Bool) → (b && true) ≡ b
-      keeps true = refl
-      keeps false = refl
-
-      drops : (a b : Bool) → (a || (b && false)) ≡ a
-      drops true b = refl
-      drops false true = refl
-      drops false false = refl
-
-      below : (u ≡ k → ⊥) → (b : Bool) → ltb u k ≡ b → ltb u k ≡ ltb u (k + 1)
-      below q true p = p ∙ sym (lt-ltb u (k + 1) (omega (arith, ltb-true u k p)))
-      below q false p = p ∙ sym (le-ltb u (k + 1) (let n = ltb-false u k p in past q n))
-        where
-          past : (u ≡ k → ⊥) → k ≤ u → k + 1 ≤ u
-          past q n = omega arith
-
-      go : Dec (u ≡ k) → ((ltb u k && x) || (y && eqb u k)) ≡ (ltb u (k + 1) && x)
-      go (yes q) =
-          (λ i. (le-ltb u k (omega arith) i && x) || (dig (mask (loopAt cs (sym q i))) e && eq-eqb u k q i)) ∙ keeps x
-          ∙ ap (λ (b : Bool). b && x) (sym (lt-ltb u (k + 1) (omega arith)))
-      go (no q) =
-          ap (λ (b : Bool). (ltb u k && x) || (y && b)) (ne-eqb u k q) ∙ drops (ltb u k && x) y
-          ∙ ap (λ (b : Bool). b && x) (below q (ltb u k) refl)
+      let test : ℕ → Bool = λ v. dig (mask (loopAt cs v)) e in
+      m e u ∙ (λ i. s e u i || at-next test u k i) ∙ spread false (ltb u k) (eqb u k) (test u)
+      ∙ ap (λ (b : Bool). b && test u) (sym (before-next u k))
 
 -- past the last digit none is set
 past-end : (a : List Bool) (k : ℕ) → length a ≤ k → dig a k ≡ false

@@ -4,3 +4,4 @@ pub mod Ups
 pub mod Turns
 pub mod Columns
 pub mod Upward
+pub mod Firsts

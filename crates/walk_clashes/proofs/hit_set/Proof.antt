@@ -32,7 +32,7 @@ HitAt s =
 -- row g with its normal
 known : (c : tie.After-normal) → HitAt (start c)
     → let a = start c .args in Known (now (a .xyz)) (now (a .rows)) (a .g) (c .normal .result)
-known c w = record { n = w .n; faces = w .faces; there = w .there; across = c .normal .ensures }
+known c w = record { n = w .n; faces = w .all .faces; there = w .there; across = c .normal .ensures }
 
 -- what rules A and B are asked of
 pierce : (c : tie.After-flat) → HitAt (start (made c))
@@ -45,8 +45,8 @@ pierce c w =
     let o = level c .corner .ensures in
     let s = c .before .sort-vertices .ensures in
     record {
-      lent = record { known = k; numbered = w .numbered; on-are = w .on-are };
-      near-are = w .near-are;
+      lent = record { known = k; numbered = w .all .numbered; on-are = w .all .on-are };
+      near-are = w .all .near-are;
       above-is = above-is k o (s .above-in);
       below-is = below-is k o (s .below-in);
     }
@@ -60,8 +60,8 @@ enter c w =
     let k = known (made f) w in
     let s = f .before .sort-vertices .ensures in
     record {
-      lent = record { known = k; at-are = w .at-are };
-      asked-is = c .minus .ensures .same _ _ (flat-is k (level f .corner .ensures) (s .flat-in)) (w .own-are);
+      lent = record { known = k; at-are = w .all .at-are };
+      asked-is = c .minus .ensures .same _ _ (flat-is k (level f .corner .ensures) (s .flat-in)) (w .all .own-are _ (w .there));
     }
 
 -- ---- the needs
@@ -69,7 +69,8 @@ enter c w =
 normal-requires : tie.Need-normal-requires
 normal-requires c κs =
     let w = c .before .pre in
-    row-of (w .faces .range) _ (w .faces .of) (w .faces .held) _ (omega (arith, w .there, w .faces .count))
+    let f = w .all .faces in
+    row-of (f .range) _ (f .of) (f .held) _ (omega (arith, w .there, f .count))
 
 corner-requires : tie.Need-corner-requires
 corner-requires c κs = corner-in (face-of (known c (start c .pre)) .row) _ (omega arith)
@@ -87,7 +88,7 @@ sort-vertices-requires c κs =
     let f = face-of (known (l .before) w) in
     record {
       near = f .row .near;
-      few = omega (arith, w .faces .range .points .whole, w .faces .range .most);
+      few = omega (arith, w .all .faces .range .points .whole, w .all .faces .range .most);
       m-in = face-normal f;
       o-in = corner-near (f .row) _ (l .corner .ensures);
     }
