@@ -11,7 +11,7 @@ use Rattle.paper.specs.Points.{isOrigin}
 use Rattle.paper.specs.Drawing.{Wire, at}
 use Rattle.paper.specs.Loops.{final}
 use Rattle.fast_search.specs.Rows.{when, eachOf, someOf}
-use Rattle.fast_search.specs.Search.{InItsPlane, own, near, every, higher, onPlane, planeMask, turn, inPlane, step, onLine, seconds}
+use Rattle.fast_search.specs.Search.{InItsPlane, own, near, higher, onPlane, planeMask, turn, inPlane, step, onLine}
 use Rattle.fast_search.specs.Search.{starts}
 use Rattle.fast_search.specs.Bare.{bareLine, bareSeconds, bareStarts}
 use Rattle.fast_search.proofs.Cut.{Whole}
@@ -69,29 +69,7 @@ module _ (d : Wire) where
 
   -- ---- on the line
   module _ (p : List ℕ) (free closing : List Bool) where
-    pub line-last : onLine d 0 p free closing ≡ own closing p (every d)
-    unfolding onLine
-    line-last = refl
-
-    -- one turn
-    abbrev pub turns : ℕ → ℕ → List Bool → List InItsPlane
-    turns k w rest = step d (λ q f. onLine d k q f closing) k p free closing w
-
-    pub line-stop : (k : ℕ) → empty (both closing free) ≡ true → onLine d k p free closing ≡ own closing p (every d)
-    unfolding onLine when
-    line-stop zero e = refl
-    line-stop (suc k) e =
-        ap (λ (b : Bool). own closing p (every d) ++ when (not b) (eachOf (turns k) 0 (both (near d (final p)) free))) e
-        ∙ append-nil (own closing p (every d))
-
-    pub line-start : (k : ℕ) (now : List InItsPlane) → empty (both closing free) ≡ false
-        → Whole (turns k) (now ++ own closing p (every d)) (both (near d (final p)) free) (now ++ onLine d (suc k) p free closing)
-    unfolding onLine when
-    line-start k now e =
-        append-assoc now (own closing p (every d)) (eachOf (turns k) 0 (both (near d (final p)) free))
-        ∙ ap (λ (b : Bool). now ++ (own closing p (every d) ++ when (not b) (eachOf (turns k) 0 (both (near d (final p)) free)))) (sym e)
-
-    -- the same where a path in one line is never recorded
+    -- a path in one line is never recorded
     pub bare-last : bareLine d 0 p free closing ≡ []
     unfolding bareLine
     bare-last = refl
@@ -145,31 +123,11 @@ module _ (d : Wire) where
       turn-plane e s = turn-off true e s
 
   -- ---- the second vertices of a start, and the starts
-  pub seconds-start : (s : ℕ) (now : List InItsPlane)
-      → Whole (λ w rest. onLine d 10 (s ∷ w ∷ []) (less (higher d s) (only w)) rest) now (both (near d s) (higher d s))
-      (now ++ seconds d s)
-  unfolding seconds
-  seconds-start s now = refl
-
   pub bare-seconds-start : (s : ℕ) (now : List InItsPlane)
       → Whole (λ w rest. bareLine d 10 (s ∷ w ∷ []) (less (higher d s) (only w)) rest) now (both (near d s) (higher d s))
       (now ++ bareSeconds d s)
   unfolding bareSeconds
   bare-seconds-start s now = refl
-
-  pub starts-next : (i : ℕ) (now all : List InItsPlane) → i < length (d .vertices) → now ++ starts d i (length (d .vertices) - i) ≡ all
-      → (now ++ seconds d i) ++ starts d (suc i) (length (d .vertices) - suc i) ≡ all
-  unfolding starts
-  starts-next i now all h e =
-      let z : suc (length (d .vertices) - suc i) ≡ length (d .vertices) - i = omega arith in
-      append-assoc now (seconds d i) (starts d (suc i) (length (d .vertices) - suc i)) ∙ ap (λ (k : ℕ). now ++ starts d i k) z ∙ e
-
-  pub starts-end : (i : ℕ) (now all : List InItsPlane) → length (d .vertices) ≤ i → now ++ starts d i (length (d .vertices) - i) ≡ all
-      → now ≡ all
-  unfolding starts
-  starts-end i now all h e =
-      let z : 0 ≡ length (d .vertices) - i = omega arith in
-      sym (append-nil now) ∙ ap (λ (k : ℕ). now ++ starts d i k) z ∙ e
 
   pub bare-starts-next : (i : ℕ) (now all : List InItsPlane) → i < length (d .vertices)
       → now ++ bareStarts d i (length (d .vertices) - i) ≡ all

@@ -1,11 +1,11 @@
 -- The search from a path whose plane is fixed: where it stops, one law for each return, and what its loop keeps. Assumes nothing.
-use mathlib.Core.Bool.{Bool, true, false}
+use mathlib.Core.Bool.{Bool, false}
 use mathlib.Core.List.{List, [], _∷_, _++_}
 use mathlib.Core.Path.{_≡_, refl, sym, ap, _∙_, subst}
 use Prim.Native.Nat.{ℕ, suc, _+_, _-_, _≤_, _<_}
 use native.Mathlib.Omega.{arith}
 use borrow.Author.Tests.{eq-eqb, ne-eqb}
-use lib.ListN.{length, getD, take, set}
+use lib.ListN.{getD, take, set}
 use lib.Seq.{set-set, set-getD}
 use Rattle.sets.specs.Word.{count, empty, both, less, only}
 use Rattle.sets.specs.Sets.{Is, size, Joint, Lowest, Dropped, EdgeSet}
@@ -19,10 +19,9 @@ use Rattle.fast_search.specs.Rows.{eachOf}
 use Rattle.fast_search.specs.Search.{InItsPlane, own, near, inPlane}
 use Rattle.fast_search.proofs.Turns.{path-last, path-more, plane-last, plane-stop, plane-start}
 use Rattle.loop_search.specs.Rooms.{Rooms, Sized, Adds}
-use Rattle.loop_search.specs.Paths.{PathAt, Below, mostVertices, Near, Onward, Going, Ended, InPlane}
+use Rattle.loop_search.specs.Paths.{PathAt, Below, mostVertices, Near, Onward, Ended, InPlane}
 use Rattle.loop_search.proofs.Filling.{adds-then}
 use Rattle.loop_search.proofs.Kept.{Kept, kept-start, kept-next, kept-end, kept-full}
-use Rattle.loop_search.proofs.Way.{path-next}
 
 -- ---- sets of vertices
 pub below-dropped : {x x' : Set} {n v : ℕ} → Below x n → Dropped x v x' → Below x' n
@@ -31,9 +30,6 @@ below-dropped {x} {x'} {n} {v} b d = record {
   is = d .same (b .digits) (b .is);
   few = omega (arith, length-less (b .digits) (only v), b .few);
 }
-
-pub below-up : {x : Set} {n m : ℕ} → n ≤ m → Below x n → Below x m
-below-up h b = record { digits = b .digits; is = b .is; few = omega (arith, b .few) }
 
 pub lowest-below : {x : Set} {n v : ℕ} → Below x n → 0 < size x → Lowest x v → v < n
 lowest-below {x} {n} {v} b some low =

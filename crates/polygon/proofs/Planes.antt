@@ -18,7 +18,7 @@ use Rattle.polygon.proofs.Sizes.{small-eq, minus-small, dot-small}
 use Rattle.polygon.proofs.Rows.{ring-least, ring-most, corner-small}
 use Rattle.polygon.proofs.Areas.{normal-small}
 
-first-is : (g : Polygon) → 1 ≤ length g → cornerOf g 0 ≡ corner g
+pub first-is : (g : Polygon) → 1 ≤ length g → cornerOf g 0 ≡ corner g
 unfolding corner
 first-is [] h = around-low [] 0 origin h
 first-is (p ∷ ps) h = around-low (p ∷ ps) 0 origin h

@@ -1,7 +1,7 @@
 -- A candidate's part of six volumes: the product of a corner and the normal, and the column of them. Assumes nothing.
 use mathlib.Core.Path.{_≡_, refl, sym, ap, subst, _∙_}
 use mathlib.Core.Bool.{Bool, true, false}
-use mathlib.Core.List.{List, [], _∷_, map}
+use mathlib.Core.List.{List, [], map}
 use Prim.Native.Nat.{ℕ, _+_, _<_, _≤_}
 use native.Mathlib.Omega.{arith}
 use borrow.Author.Tests.{ltb-true, ltb-false}
@@ -17,32 +17,25 @@ use Rattle.exact.proofs.Machine.{_▸_, done, reads}
 use Rattle.exact.proofs.Ring.{var}
 use Rattle.exact.proofs.Size.{within-lit, within-up}
 use Rattle.lists.proofs.Places.{map-at}
-use Rattle.lists.proofs.Sides.{around-low}
-use Rattle.paper.specs.Points.{dot, origin}
-use Rattle.paper.specs.Polygon.{Polygon, normal, corner}
+use Rattle.paper.specs.Points.{dot}
+use Rattle.paper.specs.Polygon.{normal}
 use Rattle.paper.specs.Loops.{polygon}
 use Rattle.paper.specs.Solids.{faceSix, tablesOf}
 use Rattle.paper.specs.declared.Point.{Point}
 use Rattle.polygon.specs.Rings.{ring, cornerOf, Face}
 use Rattle.polygon.proofs.Rows.{corner-small, ring-least}
-use Rattle.polygon.proofs.Planes.{face-normal}
+use Rattle.polygon.proofs.Planes.{face-normal, first-is}
 use Rattle.polygon.proofs.Sizes.{dot-small}
 use Rattle.fast_tables.proofs.Six.{six-is}
 use Rattle.loop_table.proofs.Loops.{row-of, ring-of}
 use Rattle.walk_words.specs.Words.{mostSix}
 use Rattle.walk_clashes.specs.Faces.{Faces, drawingOf, SixesOf}
 
--- the first corner
-corner-first : (g : Polygon) → 1 ≤ length g → cornerOf g 0 ≡ corner g
-unfolding corner
-corner-first [] h = around-low [] 0 origin h
-corner-first (p ∷ g) h = around-low (p ∷ g) 0 origin h
-
 module _ {xyz : List ℤ} {rows : List ℕ} {k : ℕ} {m : Point} (f : Face xyz rows k m) where
   pub part-is : {o : Point} → o ≡ cornerOf (ring xyz rows k) 0 → dot o m ≡ faceSix (ring xyz rows k)
   part-is e =
       let g = ring xyz rows k in
-      (λ i. dot ((e ∙ corner-first g (omega (arith, ring-least (f .row)))) i) (f .across i)) ∙ sym (six-is g)
+      (λ i. dot ((e ∙ first-is g (omega (arith, ring-least (f .row)))) i) (f .across i)) ∙ sym (six-is g)
 
   pub part-small : Within mostSix (faceSix (ring xyz rows k))
   part-small =

@@ -70,9 +70,6 @@ up-diff h = sub-pos h
 pub diff-up : (a b : ℤ) → Up (b -ℤ a) → a <ℤ b
 diff-up a b h = let ρ = a ∷ b ∷ [] in lt-by ρ (var 0) (var 1) (omega (arith, lt-to ρ (con (pos 0)) (var 1 ⊖ var 0) h))
 
-pub nn-neg : (x : ℤ) → x ≡ pos 0 → Nn (negℤ x)
-nn-neg x e = nn-is (ap negℤ (sym e)) (record { le = tt })
-
 -- ---- one sign
 
 pub same-flip : {a b : ℤ} → Same a b → Same b a

@@ -126,10 +126,6 @@ module _ (v a b p q : Flat) where
   unfolding turn
   line-pb = ring ρ (tE 3 4 2 ⊗ tE 0 1 3) (tE 1 2 3 ⊗ tE 4 3 0 ⊕ tE 2 0 3 ⊗ tE 4 3 1) tt
 
-  pub line-qa : turn q p a *ℤ turn b v q ≡ turn a b q *ℤ turn p q v +ℤ turn v a q *ℤ turn p q b
-  unfolding turn
-  line-qa = ring ρ (tE 4 3 1 ⊗ tE 2 0 4) (tE 1 2 4 ⊗ tE 3 4 0 ⊕ tE 0 1 4 ⊗ tE 3 4 2) tt
-
   pub line-qa' : turn q p a *ℤ negℤ (turn b v q) ≡ turn b a q *ℤ turn p q v +ℤ negℤ (turn v a q) *ℤ turn p q b
   unfolding turn
   line-qa' = ring ρ (tE 4 3 1 ⊗ neg (tE 2 0 4)) (tE 2 1 4 ⊗ tE 3 4 0 ⊕ neg (tE 0 1 4) ⊗ tE 3 4 2) tt
