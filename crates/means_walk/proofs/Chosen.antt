@@ -11,10 +11,11 @@ use Rattle.lists.proofs.Truth.{and-left, and-right, and-both}
 use Rattle.sets.specs.Word.{dig, count, both, first}
 use Rattle.sets.proofs.Digits.{dig-both, count-none, first-in}
 use Rattle.paper.specs.Walk.{Status, Taken, Rejected, isOpen, takenOn, openOn, openCount, decide, settle, contradicts, Outcome, Broken}
-use Rattle.paper.specs.Walk.{Stands, sweep, choose}
+use Rattle.paper.specs.Walk.{Stands, sweep, stable, choose}
 use Rattle.means_walk.specs.Tree.{Sweeps, breaks, rests, again, Tree, broken, leaf, branch}
 use Rattle.means_walk.specs.Lowest.{Undecided, On, Lowest, Chooses}
 use Rattle.means_walk.proofs.Status.{count-open, count-opens, open-lt}
+use Rattle.means_walk.proofs.Grown.{sweeps-stable, sweeps}
 
 first-low : (a : List Bool) (j : ℕ) → j < first a → dig a j ≡ true → ⊥
 unfolding first
@@ -108,6 +109,11 @@ sweeps-long : {masks : List (List Bool)} {st : List Status} {o : Outcome} → Sw
 sweeps-long (breaks e) = tt
 sweeps-long (rests e) = refl
 sweeps-long {masks} (again {st} {st′} {o} e n w) = subst (λ (m : ℕ). Long m o) (sweep-length masks st st′ e) (sweeps-long w)
+
+pub stable-long : (masks : List (List Bool)) (st s : List Status) → stable (suc (openCount st)) masks st ≡ Stands s → length s ≡ length st
+stable-long masks st s e =
+    let w = sweeps masks (suc (openCount st)) st (omega arith) in
+    subst (Long (length st)) (sym (sweeps-stable masks (w .1) (suc (openCount st)) (omega arith)) ∙ e) (sweeps-long (w .1))
 
 some-open : (st : List Status) → (openCount st ≡ 0 → ⊥) → Undecided st (first (map isOpen st))
 some-open st n = first-in (map isOpen st) (λ e. n (sym (count-open st) ∙ e))

@@ -27,7 +27,7 @@ or-neither : (a b : Bool) → (a || b) ≡ false → (a ≡ false) × (b ≡ fal
 or-neither true b e = absurd (true≢false e)
 or-neither false b e = (refl, e)
 
-calm-exact : (masks : List (List Bool)) (st : List Status) → openCount st ≡ 0 → Calm masks st → exact masks st ≡ true
+pub calm-exact : (masks : List (List Bool)) (st : List Status) → openCount st ≡ 0 → Calm masks st → exact masks st ≡ true
 unfolding exact contradicts
 calm-exact [] st z c = refl
 calm-exact (mask ∷ masks) st z c =

@@ -1,0 +1,7 @@
+-- Laws of the walk, one for each way out of the code. Assumes nothing.
+pub mod Tallies
+pub mod Keeping
+pub mod Branching
+pub mod Turns
+pub mod Walking
+pub mod Starting

@@ -1,0 +1,59 @@
+-- The start of the walk: all undecided, all edges to be passed, nothing found. Assumes nothing.
+use mathlib.Core.Bool.{Bool, true, false}
+use mathlib.Core.List.{List, [], _∷_, map}
+use mathlib.Core.Path.{_≡_, refl, sym, ap, _∙_, subst}
+use Prim.Native.Nat.{ℕ, zero, suc, _≤_, _<_}
+use native.Mathlib.Omega.{arith}
+use lib.IntN.{ℤ}
+use lib.ListN.{length, replicate, length-replicate}
+use Rattle.lists.proofs.After.{after-none}
+use Rattle.sets.specs.Sets.{room, Is}
+use Rattle.sets.specs.declared.Set.{Set}
+use Rattle.sets.proofs.Sets.{none-all}
+use Rattle.paper.specs.Numbers.{solidWords}
+use Rattle.paper.specs.Walk.{Status, Undecided, isTaken, isOpen, openCount, nothing, search}
+use Rattle.paper.specs.Conversion.{words, solidsAfter}
+use Rattle.fast_sweeps.proofs.Walk.{call-first}
+use Rattle.walk_state.specs.State.{Holds}
+use Rattle.walk.specs.Walk.{Walked, Searched}
+use Rattle.walk.specs.declared.tally.Tally.{Tally}
+
+each-is : {A B : Type 0} (f : A → B) (x : A) (n : ℕ) → map f (replicate n x) ≡ replicate n (f x)
+each-is f x zero = refl
+each-is f x (suc n) = ap (λ (l : List _). f x ∷ l) (each-is f x n)
+
+all-open : (n : ℕ) → openCount (replicate n Undecided) ≡ n
+unfolding openCount
+all-open zero = refl
+all-open (suc n) = omega (arith, all-open n)
+
+-- nothing taken and n undecided
+holds-all : {n : ℕ} {taken undecided : Set} → n ≤ room → Is taken [] → Is undecided (replicate n true)
+    → Holds (record { taken = taken; undecided = undecided }) (replicate n Undecided)
+holds-all {n} {taken} {undecided} few none all = record {
+  takes = subst (Is taken) (sym (each-is isTaken Undecided n)) (none-all n few none);
+  leaves = subst (Is undecided) (sym (each-is isOpen Undecided n)) all;
+}
+
+pub searched : {on up : List ℕ} {e : ℕ} {sides clashes : List ℕ} {sixes : List ℤ} {n limit : ℕ} {none all edges : Set} {out₀ : List ℕ}
+    {r : Tally} {out : List ℕ} → n ≤ room → Is none [] → Is all (replicate n true) → Is edges (replicate e true)
+    → Walked on up e sides clashes sixes (record { state = record { taken = none; undecided = all }; changed = edges; edge = 0 }) limit
+    (record { work = 0; found = 0; ended = 0 }) out₀ r out
+    → Searched on up e sides clashes sixes n limit out₀ r out
+unfolding search solidsAfter
+searched {n = n} {edges = edges} {out₀ = out₀} few i j k w = record {
+  roomy = w .roomy;
+  same = λ t lent.
+      let masks = t .masks in
+      w .same n t (replicate n Undecided) (replicate (length masks) true) 0 (suc n) lent (length-replicate n Undecided)
+      (record {
+        holds = holds-all few i j;
+        marked-is = subst (λ (m : ℕ). Is edges (replicate m true)) (sym (lent .masks-are)) k;
+        edge-is = refl;
+      })
+      (call-first masks (replicate n Undecided)) (omega (arith, all-open n)) nothing out₀
+      (record {
+        counts = record { work-is = refl; found-is = refl; ended-is = refl };
+        words-are = after-none (words t) solidWords out₀;
+      });
+}

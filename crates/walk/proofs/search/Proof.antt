@@ -1,0 +1,27 @@
+-- `walk::search`: the walk with nothing decided and all edges to be passed. Assumes nothing.
+use borrow.Author.Needs.{needs}
+use Rattle.walk.proofs.Starting.{searched}
+use Rattle.walk.proofs.search.Statement.{statement}
+use Rattle.walk.proofs.search.Tie as tie
+
+none-requires : tie.Need-none-requires
+none-requires c κs = search needs
+
+lowest-of-requires : tie.Need-lowest-of-requires
+lowest-of-requires c κs = search needs
+
+lowest-of-requires-2 : tie.Need-lowest-of-requires-2
+lowest-of-requires-2 c κs = search needs
+
+walk-requires : tie.Need-walk-requires
+walk-requires c κs = search needs
+
+returns : tie.Need-returns
+returns c =
+    let edges = c .before .before in
+    let all = edges .before in
+    let none = all .before in
+    searched (none .before .pre .few) (none .none .ensures) (all .lowest-of .ensures) (edges .lowest-of2 .ensures) (c .walk .ensures)
+
+pub search-spec : {M : Type 1} → statement M
+search-spec = tie.close (tie.spec none-requires lowest-of-requires lowest-of-requires-2 walk-requires returns)

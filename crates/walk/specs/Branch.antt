@@ -1,0 +1,39 @@
+-- A branch of an assumption as the code holds it. Assumes nothing.
+use mathlib.Core.Bool.{Bool}
+use mathlib.Core.List.{List}
+use mathlib.Core.Path.{_≡_}
+use Prim.Native.Nat.{ℕ, suc, _≤_, _<_}
+use lib.ListN.{length, set}
+use Rattle.sets.specs.Sets.{Is, size}
+use Rattle.paper.specs.Walk.{Status, Taken, Rejected}
+use Rattle.fast_sweeps.specs.Worklist.{edgesWith, openFrom, lowestOn}
+use Rattle.walk_words.specs.Words.{Masks, Sides}
+use Rattle.walk_state.specs.State.{Holds}
+use Rattle.walk_state.specs.Choice.{From}
+use Rattle.walk_state.specs.declared.State.{State}
+use Rattle.walk.specs.declared.branch.Branch.{Branch}
+use Rattle.walk.specs.declared.branch.Both.{Both}
+
+-- a state with some undecided, and an edge to look for them from
+pub record Branching (n : ℕ) (s : State) (from : ℕ) : Type 0 where
+  pub from-in : From n from
+  pub some : 0 < size (s .undecided)
+
+-- it starts at the state st, with these edges marked and from the edge e
+pub record BranchIs (b : Branch) (st : List Status) (marked : List Bool) (e : ℕ) : Type 0 where
+  pub holds : Holds (b .state) st
+  pub marked-is : Is (b .changed) marked
+  pub edge-is : b .edge ≡ e
+
+-- the lowest undecided candidate on the lowest edge that has one gets the status v, and its edges are marked
+pub record Assumes (on : List ℕ) (n : ℕ) (sides : List ℕ) (s : State) (from : ℕ) (v : Status) (b : Branch) : Type 0 where
+  pub within : b .edge ≤ n
+  pub fewer : suc (size (b .state .undecided)) ≡ size (s .undecided)
+  pub same : (masks : List (List Bool)) (st : List Status) → Masks on masks → Sides sides masks → length masks ≡ n → Holds s st
+      → let g = openFrom masks st from in
+      let k = lowestOn masks st g in
+      BranchIs b (set st k v) (edgesWith masks k) g
+
+pub record Branches (on : List ℕ) (n : ℕ) (sides : List ℕ) (s : State) (from : ℕ) (r : Both) : Type 0 where
+  pub takes : Assumes on n sides s from Taken (r .take)
+  pub rejects : Assumes on n sides s from Rejected (r .reject)

@@ -1,0 +1,5 @@
+-- What contracts of this crate cite beside the paper. Assumes nothing.
+pub mod Tally
+pub mod Leaf
+pub mod Branch
+pub mod Walk

@@ -1,0 +1,49 @@
+// A state with nothing undecided: tested, and stored where it is a solid and there is room. Assumes two taken on each edge.
+ghost use Rattle.walk.specs.Leaf.{Keeping, Keeps};
+use super::tally::Tally;
+use paper::MANY;
+use paper::MOST_CANDIDATES;
+use paper::MOST_EDGES;
+use paper::MOST_SOLIDS;
+use paper::SOLID_ROOM;
+use paper::WORDS;
+use sets::Set;
+use walk_leaf::Leaf;
+use walk_leaf::judge;
+
+pub fn kept(
+    on: &[u64; MOST_EDGES],
+    up: &[u64; MOST_EDGES],
+    n: usize,
+    sides: &[u64; MOST_CANDIDATES],
+    clashes: &[u64; MOST_CANDIDATES],
+    sixes: &[i64; MOST_CANDIDATES],
+    taken: Set,
+    t: Tally,
+    out: &mut [u64; SOLID_ROOM],
+) -> Tally
+    requires { ⌜ Keeping n (now sixes) t (now out) ⌝ }
+    ensures { λ r. ⌜ Keeps (now (on .entry)) (now (up .entry)) n (now (sides .entry)) (now (clashes .entry)) (now (sixes .entry))
+        taken t (now (out .entry)) r (now (out .exit)) ⌝ }
+{
+    let verdict = judge(on, up, n, sides, clashes, sixes, taken);
+    let Leaf::Solid(turned, six) = verdict else {
+        return t;
+    };
+    let k = t.found;
+    if MOST_SOLIDS <= k {
+        return Tally {
+            work: t.work,
+            found: k,
+            ended: MANY,
+        };
+    }
+    out[WORDS * k] = taken.word;
+    out[WORDS * k + 1] = turned.word;
+    out[WORDS * k + 2] = six;
+    Tally {
+        work: t.work,
+        found: k + 1,
+        ended: t.ended,
+    }
+}
