@@ -1,9 +1,12 @@
 -- Laws of candidates' tables. Assumes nothing.
+pub mod Normals
 pub mod Parts
 pub mod Sorting
 pub mod Folding
 pub mod Crossed
 pub mod Gathering
 pub mod Planes
+pub mod Sharing
 pub mod Marking
 pub mod Ways
+pub mod Clashing

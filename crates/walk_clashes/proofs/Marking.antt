@@ -15,11 +15,15 @@ use Rattle.sets.specs.declared.Set.{Set}
 use Rattle.sets.proofs.Word.{one-shl}
 use Rattle.sets.proofs.Digits.{dig-less}
 use Rattle.sets.proofs.Ones.{dig-none, only-is}
-use Rattle.sets.proofs.Numbers.{digit-power, digit-stored}
-use Rattle.sets.proofs.Sets.{size-is}
+use Rattle.sets.proofs.Numbers.{digit-word, digit-power, digit-stored}
+use Rattle.sets.proofs.Sets.{word-is, size-is}
 use Rattle.walk_edges.specs.Marks.{Marked}
 use Rattle.walk_edges.proofs.Firsts.{spread}
 use Rattle.walk_edges.proofs.Stored.{stored}
+
+-- the digits of a set's word
+pub digit-set : {x : Set} (mask : List Bool) → Is x mask → (u : ℕ) → digit (x .word) u ≡ dig mask u
+digit-set mask i u = ap (λ (m : ℕ). digit m u) (word-is i) ∙ digit-word mask u
 
 module _ (mask : List Bool) (k : ℕ) (words₀ : List ℕ) where
   pub record Half (rest : Set) (words : List ℕ) : Type 0 where

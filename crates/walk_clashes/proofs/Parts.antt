@@ -1,4 +1,4 @@
--- A candidate's part of six volumes: the product of a corner and the normal, and the column of them. Assumes nothing.
+-- A candidate's normal and its part of six volumes, the product of a corner and the normal; the two columns of them. Assumes nothing.
 use mathlib.Core.Path.{_≡_, refl, sym, ap, subst, _∙_}
 use mathlib.Core.Bool.{Bool, true, false}
 use mathlib.Core.List.{List, [], map}
@@ -22,14 +22,14 @@ use Rattle.paper.specs.Polygon.{normal}
 use Rattle.paper.specs.Loops.{polygon}
 use Rattle.paper.specs.Solids.{faceSix, tablesOf}
 use Rattle.paper.specs.declared.Point.{Point}
-use Rattle.polygon.specs.Rings.{ring, cornerOf, Face}
+use Rattle.polygon.specs.Rings.{ring, pointOf, cornerOf, Face}
 use Rattle.polygon.proofs.Rows.{corner-small, ring-least}
 use Rattle.polygon.proofs.Planes.{face-normal, first-is}
 use Rattle.polygon.proofs.Sizes.{dot-small}
 use Rattle.fast_tables.proofs.Six.{six-is}
 use Rattle.loop_table.proofs.Loops.{row-of, ring-of}
 use Rattle.walk_words.specs.Words.{mostSix}
-use Rattle.walk_clashes.specs.Faces.{Faces, drawingOf, SixesOf}
+use Rattle.walk_clashes.specs.Faces.{Faces, drawingOf, PointPut, PartsOf}
 
 module _ {xyz : List ℤ} {rows : List ℕ} {k : ℕ} {m : Point} (f : Face xyz rows k m) where
   pub part-is : {o : Point} → o ≡ cornerOf (ring xyz rows k) 0 → dot o m ≡ faceSix (ring xyz rows k)
@@ -48,39 +48,58 @@ kept h = reads (h ▸ done) (var 0) tt
 -- ---- the column
 
 module _ {xyz : List ℤ} {rows : List ℕ} {n : ℕ} (w : Faces xyz rows n) where
-  -- those of the first k candidates
-  pub record Parts (sixes : List ℤ) (k : ℕ) : Type 0 where
+  -- those of the first k candidates, and their normals
+  pub record Parts (normals sixes : List ℤ) (k : ℕ) : Type 0 where
     pub not-past : k ≤ n
-    pub whole : length sixes ≡ 64
+    pub normal-room : length normals ≡ 192
+    pub six-room : length sixes ≡ 64
+    pub across : (i : ℕ) → i < k → pointOf normals i ≡ normal (ring xyz rows i)
     pub each : (i : ℕ) → i < k → getD sixes i (pos 0) ≡ faceSix (ring xyz rows i)
 
-  pub parts-none : (sixes : List ℤ) → length sixes ≡ 64 → Parts sixes 0
-  parts-none sixes e = record { not-past = omega arith; whole = e; each = λ i h. absurd (omega arith) }
+  pub parts-none : (normals sixes : List ℤ) → length normals ≡ 192 → length sixes ≡ 64 → Parts normals sixes 0
+  parts-none normals sixes e q = record {
+    not-past = omega arith;
+    normal-room = e;
+    six-room = q;
+    across = λ i h. absurd (omega arith);
+    each = λ i h. absurd (omega arith);
+  }
 
-  pub parts-more : (sixes : List ℤ) (k : ℕ) (z : ℤ) → k < n → z ≡ faceSix (ring xyz rows k) → Parts sixes k → Parts (set sixes k z) (k + 1)
-  parts-more sixes k z h q p =
+  pub parts-more : (normals after sixes : List ℤ) (k : ℕ) (m : Point) (z : ℤ) → k < n → m ≡ normal (ring xyz rows k)
+      → PointPut k m normals after → z ≡ faceSix (ring xyz rows k) → Parts normals sixes k → Parts after (set sixes k z) (k + 1)
+  parts-more normals after sixes k m z h e put q p =
       record {
         not-past = omega arith;
-        whole = length-set sixes k z ∙ p .whole;
-        each = λ i m. go i m (ℕ-discrete i k);
+        normal-room = put .long ∙ p .normal-room;
+        six-room = length-set sixes k z ∙ p .six-room;
+        across = λ i l. point i l (ℕ-discrete i k);
+        each = λ i l. go i l (ℕ-discrete i k);
       }
     where
+      point : (i : ℕ) → i < k + 1 → Dec (i ≡ k) → pointOf after i ≡ normal (ring xyz rows i)
+      point i l (yes r) = ap (pointOf after) r ∙ put .here ∙ e ∙ ap (λ (j : ℕ). normal (ring xyz rows j)) (sym r)
+      point i l (no r) = put .others i r ∙ p .across i (omega arith)
+
       go : (i : ℕ) → i < k + 1 → Dec (i ≡ k) → getD (set sixes k z) i (pos 0) ≡ faceSix (ring xyz rows i)
-      go i m (yes e) =
-          ap (λ (j : ℕ). getD (set sixes k z) j (pos 0)) e ∙ getD-set-same sixes k z (pos 0) (omega (arith, p .whole, w .most)) ∙ q
-          ∙ ap (λ (j : ℕ). faceSix (ring xyz rows j)) (sym e)
-      go i m (no e) = getD-set-other sixes k i z (pos 0) e ∙ p .each i (omega arith)
+      go i l (yes r) =
+          ap (λ (j : ℕ). getD (set sixes k z) j (pos 0)) r ∙ getD-set-same sixes k z (pos 0) (omega (arith, p .six-room, w .most)) ∙ q
+          ∙ ap (λ (j : ℕ). faceSix (ring xyz rows j)) (sym r)
+      go i l (no r) = getD-set-other sixes k i z (pos 0) r ∙ p .each i (omega arith)
 
   face-at : (i : ℕ) → i < length (w .loops) → Face xyz rows i (normal (ring xyz rows i))
   face-at i h = record { row = row-of (w .range) rows (w .of) (w .held) i h; across = λ t. normal (ring xyz rows i) }
 
-  pub parts-all : (sixes : List ℤ) → Parts sixes n → SixesOf w sixes
+  pub parts-all : (normals sixes : List ℤ) → Parts normals sixes n → PartsOf w normals sixes
   unfolding tablesOf
-  parts-all sixes p =
+  parts-all normals sixes p =
       record {
-        few = omega (arith, long, w .count, w .most);
-        at = λ i h. let m : i < length (w .loops) = omega (arith, long) in p .each i (omega (arith, w .count)) ∙ sym (entry i m);
-        small = λ i. small i (ltb i (length (w .loops))) refl;
+        normals-are = record { whole = p .normal-room; each = p .across };
+        sixes-are =
+            record {
+              few = omega (arith, long, w .count, w .most);
+              at = λ i h. let m : i < length (w .loops) = omega (arith, long) in p .each i (omega (arith, w .count)) ∙ sym (entry i m);
+              small = λ i. small i (ltb i (length (w .loops))) refl;
+            };
       }
     where
       zs : List ℤ

@@ -2,7 +2,7 @@
 use mathlib.Core.Bool.{Bool, true, false, _&&_, _||_}
 use mathlib.Core.Path.{_≡_, refl, sym, ap, _∙_}
 use mathlib.Core.List.{List, [], map}
-use Prim.Native.Nat.{ℕ, zero, suc, _+_, _≤_}
+use Prim.Native.Nat.{ℕ, zero, suc, _+_, _≤_, _<_}
 use native.Mathlib.Decide.{ℕ-discrete}
 use native.Mathlib.Omega.{arith}
 use borrow.Author.Tests.{eq-eqb, ne-eqb, lt-ltb, le-ltb, ltb-true, ltb-false}
@@ -27,6 +27,17 @@ unfolding packedSet
 is-same {x} {a} b i n e =
     let w : word a ≡ word b = by-digits (word a) b (λ u. digit-word a u ∙ e u) in
     record { short = n; words = i .words ∙ (λ t. record { word = w t }) }
+
+-- a digit of a mask of the numbers below n
+pub dig-made : (test : ℕ → Bool) (n u : ℕ) → dig (map test (upto n)) u ≡ (ltb u n && test u)
+dig-made test n u = go (ltb u n) refl
+  where
+    go : (b : Bool) → ltb u n ≡ b → dig (map test (upto n)) u ≡ (ltb u n && test u)
+    go true p = made-at test n u false (ltb-true u n p) ∙ sym (ap (λ (b : Bool). b && test u) p)
+    go false p =
+        never-true (dig (map test (upto n)) u)
+        (λ t. let h = dig-lt (map test (upto n)) u t in omega (arith, h, made-length test n, ltb-false u n p))
+        ∙ sym (ap (λ (b : Bool). b && test u) p)
 
 module _ (test : ℕ → Bool) where
   pub upto-none : {x : Set} → Is x [] → Upto test 0 x
@@ -79,15 +90,15 @@ module _ (test : ℕ → Bool) where
   -- all
   pub upto-all : {x : Set} (n : ℕ) → n ≤ room → Upto test n x → Is x (map test (upto n))
   upto-all n few k =
-      is-same (map test (upto n)) (k .is) (omega (arith, made-length test n)) (λ u. k .each u ∙ go u (ltb u n) refl)
+      is-same (map test (upto n)) (k .is) (omega (arith, made-length test n)) (λ u. k .each u ∙ sym (dig-made test n u))
+
+  -- none of the first n passes
+  pub upto-fail : {x : Set} (n : ℕ) → ((u : ℕ) → u < n → test u ≡ false) → Is x [] → Upto test n x
+  upto-fail n f i = record { digits = []; is = i; each = λ u. sym (go u (ltb u n) refl) }
     where
-      go : (u : ℕ) (b : Bool) → ltb u n ≡ b → (ltb u n && test u) ≡ dig (map test (upto n)) u
-      go u true p = ap (λ (b : Bool). b && test u) p ∙ sym (made-at test n u false (ltb-true u n p))
-      go u false p =
-          ap (λ (b : Bool). b && test u) p
-          ∙ sym
-          (never-true (dig (map test (upto n)) u)
-          (λ t. let h = dig-lt (map test (upto n)) u t in omega (arith, h, made-length test n, ltb-false u n p)))
+      go : (u : ℕ) (b : Bool) → ltb u n ≡ b → (ltb u n && test u) ≡ false
+      go u true p = (λ t. p t && f u (ltb-true u n p) t)
+      go u false p = ap (λ (b : Bool). b && test u) p
 
 -- ---- a number is above zero, below it or zero
 pub above-not-below : (z : ℤ) → above z ≡ true → below z ≡ false

@@ -1,15 +1,14 @@
 -- A candidate with its normal, and what is known of its drawing: the numbers of edges and the words of the candidates on them. Contracts
 -- speak of every drawing of which that is known. Assumes nothing.
-use mathlib.Core.Bool.{Bool, true, cond, _&&_, _||_}
+use mathlib.Core.Bool.{Bool, true, cond}
 use mathlib.Core.Path.{_≡_}
 use mathlib.Core.List.{List, [], map}
 use Prim.Native.Nat.{ℕ, _+_, _*_, _<_}
-use lib.Dec.{ltb}
 use lib.IntN.{ℤ}
-use lib.ListN.{length, getD}
+use lib.ListN.{length}
 use Rattle.lists.specs.Lists.{member}
-use Rattle.sets.specs.Word.{dig, digit, both, either, less}
-use Rattle.sets.specs.Sets.{room, Is, maskAt}
+use Rattle.sets.specs.Word.{both, either, less}
+use Rattle.sets.specs.Sets.{Is, maskAt}
 use Rattle.sets.specs.declared.Set.{Set}
 use Rattle.paper.specs.Polygon.{normal, exactly, lies, isInside}
 use Rattle.paper.specs.Drawing.{Wire, edge, at, joined}
@@ -22,8 +21,8 @@ use Rattle.fast_tables.specs.Asked.{planeMask}
 use Rattle.fast_tables.specs.Words.{nearMask, aboveMask, belowMask, downFrom, throughMask, insideMask, hitMask}
 use Rattle.loop_words.specs.Numbered.{Numbered}
 use Rattle.walk_words.specs.Words.{Masks}
-use Rattle.walk_clashes.specs.declared.Sides.{Sides}
-use Rattle.walk_clashes.specs.Faces.{Faces, drawingOf}
+use Rattle.walk_clashes.specs.declared.hits.Sides.{Sides}
+use Rattle.walk_clashes.specs.Faces.{Faces, drawingOf, NormalsOf}
 
 -- a row with its normal, and two vertices
 pub record Crossing (xyz : List ℤ) (rows : List ℕ) (g : ℕ) (m : Point) (a b : ℕ) : Type 0 where
@@ -134,36 +133,21 @@ Inside w r = let k = w .lent .known in Is r (insideMask (wireOf k) (allOf k) (lo
 
 -- ---- both, of n candidates and of one of them
 
-pub record AllLent (xyz : List ℤ) (rows near number on corner-words corners : List ℕ) (n : ℕ) : Type 0 where
+pub record AllLent (xyz : List ℤ) (rows near number on corner-words corners : List ℕ) (normals : List ℤ) (n : ℕ) : Type 0 where
   pub faces : Faces xyz rows n
   pub numbered : Numbered number (drawingOf faces .edges)
   pub on-are : Masks on (tablesOf (drawingOf faces) (faces .loops) .masks)
   pub near-are : (a : ℕ) → a < length (drawingOf faces .vertices) → Is (maskAt near a) (nearMask (drawingOf faces) a)
   pub at-are : (v : ℕ) → v < length (drawingOf faces .vertices) → Is (maskAt corner-words v) (map (member v) (faces .loops))
   pub own-are : (k : ℕ) → k < n → Is (maskAt corners k) (cornerMask (drawingOf faces) (loopAt (faces .loops) k))
+  pub normals-are : NormalsOf xyz rows n normals
 
--- those that go through candidate k
-abbrev pub hitsOf : {xyz : List ℤ} {rows near number on corner-words corners : List ℕ} {n : ℕ}
-    → AllLent xyz rows near number on corner-words corners n → ℕ → List Bool
-hitsOf w k = hitMask (drawingOf (w .faces)) (w .faces .loops) k
-
-pub record HitLent (xyz : List ℤ) (rows near number on corner-words corners : List ℕ) (g : ℕ) : Type 0 where
+pub record HitLent (xyz : List ℤ) (rows near number on corner-words corners : List ℕ) (normals : List ℤ) (g : ℕ) : Type 0 where
   pub n : ℕ
-  pub all : AllLent xyz rows near number on corner-words corners n
+  pub all : AllLent xyz rows near number on corner-words corners normals n
   pub there : g < n
 
-abbrev pub Hits : {xyz : List ℤ} {rows near number on corner-words corners : List ℕ} {g : ℕ}
-    → HitLent xyz rows near number on corner-words corners g → Set → Type 0
-Hits {g = g} w r = Is r (hitsOf (w .all) g)
-
--- and words for the candidates, with nothing in them
-pub record HitRoom (xyz : List ℤ) (rows near number on corner-words corners : List ℕ) (n : ℕ) (words : List ℕ) : Type 0 where
-  pub all : AllLent xyz rows near number on corner-words corners n
-  pub whole : length words ≡ room
-  pub none : (k : ℕ) → getD words k 0 ≡ 0
-
--- word i has those that go through i and those that i goes through, as far as they are among the first k
-abbrev pub BothWays : {xyz : List ℤ} {rows near number on corner-words corners : List ℕ} {n : ℕ}
-    → AllLent xyz rows near number on corner-words corners n → ℕ → List ℕ → Type 0
-BothWays w k words =
-    (i j : ℕ) → digit (getD words i 0) j ≡ ((ltb i k && dig (hitsOf w i) j) || (ltb j k && dig (hitsOf w j) i))
+-- those that go through candidate g
+abbrev pub Hits : {xyz : List ℤ} {rows near number on corner-words corners : List ℕ} {normals : List ℤ} {g : ℕ}
+    → HitLent xyz rows near number on corner-words corners normals g → Set → Type 0
+Hits {g = g} w r = Is r (hitMask (drawingOf (w .all .faces)) (w .all .faces .loops) g)

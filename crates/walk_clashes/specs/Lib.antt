@@ -2,4 +2,6 @@
 pub mod Faces
 pub mod Sorted
 pub mod Lent
+pub mod Folds
+pub mod Clashes
 pub mod Marking

@@ -15,7 +15,7 @@ use Rattle.paper.specs.Points.{dot, minus, isZero, above, below}
 use Rattle.paper.specs.declared.Point.{Point}
 use Rattle.polygon.specs.Rings.{pointOf}
 use Rattle.polygon.specs.Sizes.{PointWithin, mostNormal}
-use Rattle.walk_clashes.specs.declared.Sides.{Sides}
+use Rattle.walk_clashes.specs.declared.hits.Sides.{Sides}
 
 -- how far vertex v is from the plane through o with normal m
 abbrev pub sideAt : List ℤ → Point → Point → ℕ → ℤ

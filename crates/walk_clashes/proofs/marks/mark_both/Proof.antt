@@ -1,25 +1,17 @@
 -- `walk_clashes::marks::mark_both`: the word of k takes the set, and then each of the set takes k. Assumes nothing.
 use mathlib.Core.Bool.{Bool, _&&_, _||_}
-use mathlib.Core.List.{List}
-use mathlib.Core.Path.{_≡_, ap, _∙_}
-use Prim.Native.Nat.{ℕ}
+use mathlib.Core.Path.{ap, _∙_}
 use native.Mathlib.Omega.{arith}
 use lib.Dec.{eqb}
-use lib.ListN.{getD, length, length-set}
+use lib.ListN.{getD, length-set}
 use denote.Ref.{now}
 use borrow.Author.Needs.{needs}
 use Rattle.sets.specs.Word.{dig, digit}
-use Rattle.sets.specs.Sets.{Is, packedSet}
-use Rattle.sets.specs.declared.Set.{Set}
 use Rattle.sets.proofs.Ones.{dig-lt}
-use Rattle.sets.proofs.Numbers.{digit-word, digit-stored}
+use Rattle.sets.proofs.Numbers.{digit-stored}
+use Rattle.walk_clashes.proofs.Marking.{digit-set}
 use Rattle.walk_clashes.proofs.marks.mark_both.Statement.{statement}
 use Rattle.walk_clashes.proofs.marks.mark_both.Tie as tie
-
--- the digits of a set's word
-digit-set : {x : Set} (mask : List Bool) → Is x mask → (u : ℕ) → digit (x .word) u ≡ dig mask u
-unfolding packedSet
-digit-set mask i u = ap (λ (s : Set). digit (s .word) u) (i .words) ∙ digit-word mask u
 
 mul-words : tie.Need-mul-words
 mul-words c = search needs

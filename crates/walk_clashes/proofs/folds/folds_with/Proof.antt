@@ -1,0 +1,96 @@
+-- `walk_clashes::folds::folds_with`: each of the three tests, and rule C where all pass. Assumes nothing.
+use mathlib.Core.Path.{refl}
+use native.Mathlib.Omega.{arith}
+use borrow.Author.Tests.{not-true, not-false}
+use borrow.Author.Needs.{needs}
+use Rattle.walk_clashes.proofs.Sharing.{face-at, first-low, share-less, three-less, folds-are}
+use Rattle.walk_clashes.proofs.folds.folds_with.Statement.{statement}
+use Rattle.walk_clashes.proofs.folds.folds_with.Tie as tie
+
+-- ---- the ways back
+
+abbrev start : tie.After-may-fold → tie.Start
+start c = c .before .before .before .before .before .before
+
+-- rows g and j, each with a normal
+abbrev asked : tie.After-count → tie.After-may-fold
+asked c = c .before .before
+
+-- ---- the needs
+
+mul-t10 : tie.Need-mul-t10
+mul-t10 c = search needs
+
+element-copy-out-t13 : tie.Need-element-copy-out-t13
+element-copy-out-t13 c = search needs
+
+mul-t14 : tie.Need-mul-t14
+mul-t14 c = search needs
+
+element-copy-out-t17 : tie.Need-element-copy-out-t17
+element-copy-out-t17 c = search needs
+
+mul-t10-2 : tie.Need-mul-t10-2
+mul-t10-2 c = search needs
+
+element-copy-out-t18 : tie.Need-element-copy-out-t18
+element-copy-out-t18 c = search needs
+
+mul-t14-2 : tie.Need-mul-t14-2
+mul-t14-2 c = search needs
+
+element-copy-out-t17-2 : tie.Need-element-copy-out-t17-2
+element-copy-out-t17-2 c = search needs
+
+may-fold-requires : tie.Need-may-fold-requires
+may-fold-requires c κs = search needs
+
+returns : tie.Need-returns
+returns c w = share-less w (c .before .may-fold .ensures) (not-true (c .before .may-fold .result) (c .if1 .taken))
+
+count-requires : tie.Need-count-requires
+count-requires c κs = let p = start (c .before) .pre in face-at (p .lent) _ (p .there) refl .row .room
+
+returns-2 : tie.Need-returns-2
+returns-2 c w = three-less w (omega (arith, c .before .count .ensures, c .if2 .taken))
+
+point-at-requires : tie.Need-point-at-requires
+point-at-requires c κs = search needs
+
+point-at-requires-2 : tie.Need-point-at-requires-2
+point-at-requires-2 c κs = search needs
+
+folds-requires : tie.Need-folds-requires
+folds-requires c κs =
+    let m = c .before .before in
+    let p = start (asked (m .before .before .before)) .pre in
+    record { f-face = face-at (p .lent) _ (first-low p) (m .point-at .ensures); g-face = face-at (p .lent) _ (p .there) (c .point-at2 .ensures) }
+
+returns-3 : tie.Need-returns-3
+returns-3 c w =
+    let e = c .before .before .before .before .before in
+    let f = e .before .before in
+    let m = f .before in
+    folds-are w (m .may-fold .ensures) (not-false (m .may-fold .result) (f .if1 .left)) (omega (arith, e .before .count .ensures, e .if2 .left))
+    (c .folds .ensures)
+
+pub folds-with-spec : {M : Type 1} → statement M
+folds-with-spec =
+    tie.close
+    (tie.spec
+    mul-t10
+    element-copy-out-t13
+    mul-t14
+    element-copy-out-t17
+    mul-t10-2
+    element-copy-out-t18
+    mul-t14-2
+    element-copy-out-t17-2
+    may-fold-requires
+    returns
+    count-requires
+    returns-2
+    point-at-requires
+    point-at-requires-2
+    folds-requires
+    returns-3)

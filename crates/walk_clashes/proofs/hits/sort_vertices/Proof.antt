@@ -1,0 +1,75 @@
+-- `walk_clashes::hits::sort_vertices`: the loop keeps that the first v vertices are sorted. Assumes nothing.
+use mathlib.Core.Path.{_≡_, subst}
+use Prim.Native.Nat.{_-_, _/_, _≤_}
+use native.Mathlib.Omega.{arith}
+use lib.ListN.{length}
+use denote.Ref.{now}
+use borrow.Author.Needs.{needs}
+use Rattle.walk_clashes.specs.Sorted.{Sorted}
+use Rattle.walk_clashes.proofs.Sorting.{upto-none}
+use Rattle.walk_clashes.proofs.hits.sort_vertices.Statement.{statement}
+use Rattle.walk_clashes.proofs.hits.sort_vertices.Tie as tie
+
+abbrev Inv-loop : tie.InvT-loop
+Inv-loop xyz m o n s₀ v₀ s v = (v ≤ n) × (n ≡ length xyz / 3) × Sorted xyz m o v s
+
+abbrev μ-loop : tie.MeasureT-loop
+μ-loop xyz m o n s₀ v₀ s v = n - v
+
+none-requires : tie.Need-none-requires Inv-loop μ-loop
+none-requires c κs = search needs
+
+none-requires-2 : tie.Need-none-requires-2 Inv-loop μ-loop
+none-requires-2 c κs = search needs
+
+none-requires-3 : tie.Need-none-requires-3 Inv-loop μ-loop
+none-requires-3 c κs = search needs
+
+loop-holds : tie.Need-loop-holds Inv-loop μ-loop
+loop-holds c = (
+  omega arith,
+  omega arith,
+  record {
+    above-in = upto-none _ (c .before .before .none .ensures);
+    below-in = upto-none _ (c .before .none2 .ensures);
+    flat-in = upto-none _ (c .none3 .ensures);
+  },
+)
+
+sort-vertex-requires : tie.Need-sort-vertex-requires Inv-loop μ-loop
+sort-vertex-requires c κs =
+    let l = c .before in
+    record { plane = l .before .before .before .before .pre; there = omega (arith, l .loop .inv .1, c .loop-test .taken) }
+
+add-v : tie.Need-add-v Inv-loop μ-loop
+add-v c = omega arith
+
+loop-less : tie.Need-loop-less Inv-loop μ-loop
+loop-less c = omega arith
+
+loop-again : tie.Need-loop-again Inv-loop μ-loop
+loop-again c = let k = c .before .before .loop .inv in (omega arith, k .1, c .sort-vertex .ensures (k .2))
+
+returns : tie.Need-returns Inv-loop μ-loop
+returns c =
+    let l = c .before .loop in
+    let k = l .inv in
+    let a = c .before .before .before .before .before .args in
+    let e : l .v ≡ length (now (a .xyz)) / 3 = omega (arith, k .0, k .1, c .loop-test .left) in
+    subst (λ u. Sorted (now (a .xyz)) (a .m) (a .o) u (l .s)) e (k .2)
+
+pub sort-vertices-spec : {M : Type 1} → statement M
+sort-vertices-spec =
+    tie.close
+    (tie.spec
+    Inv-loop
+    μ-loop
+    none-requires
+    none-requires-2
+    none-requires-3
+    loop-holds
+    sort-vertex-requires
+    add-v
+    loop-less
+    loop-again
+    returns)

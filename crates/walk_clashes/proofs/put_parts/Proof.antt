@@ -1,0 +1,110 @@
+-- `walk_clashes::put_parts`: the loop keeps that the normals and the parts of the first k candidates are written. Assumes nothing.
+use mathlib.Core.Path.{_≡_, subst, sym, _∙_}
+use Prim.Native.Nat.{_-_, _<_}
+use native.Mathlib.Omega.{arith}
+use lib.ListN.{length}
+use denote.Ref.{now}
+use Rattle.exact.specs.Size.{Within}
+use Rattle.polygon.specs.Rings.{Face}
+use Rattle.polygon.proofs.Planes.{face-normal}
+use Rattle.loop_table.proofs.Loops.{row-of}
+use Rattle.walk_words.specs.Words.{mostSix}
+use Rattle.walk_clashes.specs.Faces.{Faces}
+use Rattle.walk_clashes.proofs.Parts.{Parts, parts-none, parts-more, parts-all, part-small, kept}
+use Rattle.walk_clashes.proofs.put_parts.Statement.{statement}
+use Rattle.walk_clashes.proofs.put_parts.Tie as tie
+
+abbrev Inv-loop : tie.InvT-loop
+Inv-loop xyz rows n normals₀ sixes₀ k₀ normals sixes k = (w : Faces xyz rows n) → Parts w normals sixes k
+
+abbrev μ-loop : tie.MeasureT-loop
+μ-loop xyz rows n normals₀ sixes₀ k₀ normals sixes k = n - k
+
+-- ---- the ways back
+
+abbrev entry : tie.At-loop Inv-loop μ-loop → tie.Start Inv-loop μ-loop
+entry c = c .before .before
+
+abbrev turn : tie.After-six-of Inv-loop μ-loop → tie.After-normal Inv-loop μ-loop
+turn c = c .before .before .before
+
+-- the candidates that are asked for
+abbrev faces : (c : tie.At-loop Inv-loop μ-loop)
+    → Faces (now (entry c .args .xyz)) (now (entry c .args .rows)) (entry c .args .n)
+faces c = entry c .pre .faces
+
+-- row k, with its normal
+face-of : (c : tie.After-normal Inv-loop μ-loop)
+    → let a = entry (c .before .before) .args in Face (now (a .xyz)) (now (a .rows)) (c .before .before .loop .k) (c .normal .result)
+face-of c =
+    let l = c .before .before in
+    let w = faces l in
+    let h : l .loop .k < length (w .loops) = omega (arith, w .count, c .before .loop-test .taken) in
+    record { row = row-of (w .range) _ (w .of) (w .held) (l .loop .k) h; across = c .normal .ensures }
+
+low : (c : tie.In-loop Inv-loop μ-loop) → c .before .loop .k < 64
+low c = omega (arith, faces (c .before) .most, c .loop-test .taken)
+
+-- ---- the needs
+
+loop-holds : tie.Need-loop-holds Inv-loop μ-loop
+loop-holds c w = parts-none w _ _ (c .before .pre .normal-room) (c .before .pre .six-room)
+
+normal-requires : tie.Need-normal-requires Inv-loop μ-loop
+normal-requires c κs =
+    let w = faces (c .before) in
+    row-of (w .range) _ (w .of) (w .held) (c .before .loop .k) (omega (arith, w .count, c .loop-test .taken))
+
+put-normal-requires : tie.Need-put-normal-requires Inv-loop μ-loop
+put-normal-requires c κs =
+    let n = c .before in
+    let l = n .before .before in
+    record { whole = l .loop .inv (faces l) .normal-room; low = low (n .before); small = face-normal (face-of n) }
+
+six-of-requires : tie.Need-six-of-requires Inv-loop μ-loop
+six-of-requires c κs = face-of (c .before .before)
+
+mul-t12 : tie.Need-mul-t12 Inv-loop μ-loop
+mul-t12 c = omega (arith, low (turn c .before))
+
+element-set-from-sixes : tie.Need-element-set-from-sixes Inv-loop μ-loop
+element-set-from-sixes c = low (turn c .before)
+
+add-k : tie.Need-add-k Inv-loop μ-loop
+add-k c = omega arith
+
+loop-less : tie.Need-loop-less Inv-loop μ-loop
+loop-less c = omega arith
+
+loop-again : tie.Need-loop-again Inv-loop μ-loop
+loop-again c w =
+    let t = turn c .before in
+    let l = t .before .loop in
+    let six = c .six-of in
+    let small = subst (Within mostSix) (sym (six .ensures)) (part-small (face-of (turn c))) in
+    parts-more w (l .normals) _ (l .sixes) (l .k) _ _ (t .loop-test .taken) (turn c .normal .ensures) (c .before .put-normal .ensures)
+    (kept small ∙ six .ensures) (l .inv w)
+
+returns : tie.Need-returns Inv-loop μ-loop
+returns c w =
+    let l = c .before .loop in
+    let p = l .inv w in
+    let e : l .k ≡ entry (c .before) .args .n = omega (arith, p .not-past, c .loop-test .left) in
+    parts-all w (l .normals) (l .sixes) (subst (Parts w (l .normals) (l .sixes)) e p)
+
+pub put-parts-spec : {M : Type 1} → statement M
+put-parts-spec =
+    tie.close
+    (tie.spec
+    Inv-loop
+    μ-loop
+    loop-holds
+    normal-requires
+    put-normal-requires
+    six-of-requires
+    mul-t12
+    element-set-from-sixes
+    add-k
+    loop-less
+    loop-again
+    returns)
