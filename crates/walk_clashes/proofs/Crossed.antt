@@ -25,9 +25,10 @@ use Rattle.fast_tables.specs.Hits.{edgePierces}
 use Rattle.fast_tables.specs.Words.{ones, gathered, nearMask, belowMask, downFrom}
 use Rattle.fast_tables.proofs.Counts.{map-yes}
 use Rattle.fast_tables.proofs.Rounds.{joins-cases, has-turn}
-use Rattle.loop_table.proofs.Loops.{vertices-are, row-of, ring-of}
+use Rattle.loop_table.proofs.Loops.{vertices-are}
 use Rattle.loop_words.specs.Numbered.{pairAt}
 use Rattle.walk_clashes.specs.Lent.{Known, Lent, wireOf, allOf, loopOf}
+use Rattle.walk_clashes.proofs.Rows.{face-at, polygon-at}
 use Rattle.walk_clashes.proofs.Folding.{folded}
 
 -- what is gathered is folded
@@ -38,14 +39,11 @@ gathered-fold test mask [] s = refl
 gathered-fold test mask (x ∷ xs) s = gathered-fold test mask xs (either s (cond (test x) (mask x) []))
 
 module _ {xyz : List ℤ} {rows : List ℕ} {g : ℕ} {m : Point} (k : Known xyz rows g m) where
-  here : g < length (allOf k)
-  here = omega (arith, k .there, k .faces .count)
-
   pub face-of : Face xyz rows g m
-  face-of = record { row = row-of (k .faces .range) rows (k .faces .of) (k .faces .held) g here; across = k .across }
+  face-of = face-at (k .faces) g (k .there) (k .across)
 
   pub polygon-of : ring xyz rows g ≡ polygon (wireOf k) (loopOf k)
-  polygon-of = ring-of (k .faces .range) rows (k .faces .of) (k .faces .held) g here
+  polygon-of = polygon-at (k .faces) g (k .there)
 
   -- a vertex
   pub vertex-in : (v : ℕ) → v < length (wireOf k .vertices) → 3 * v + 2 < length xyz

@@ -1,4 +1,5 @@
 -- Laws of candidates' tables. Assumes nothing.
+pub mod Rows
 pub mod Normals
 pub mod Parts
 pub mod Sorting

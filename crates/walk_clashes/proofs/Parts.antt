@@ -27,9 +27,9 @@ use Rattle.polygon.proofs.Rows.{corner-small, ring-least}
 use Rattle.polygon.proofs.Planes.{face-normal, first-is}
 use Rattle.polygon.proofs.Sizes.{dot-small}
 use Rattle.fast_tables.proofs.Six.{six-is}
-use Rattle.loop_table.proofs.Loops.{row-of, ring-of}
 use Rattle.walk_words.specs.Words.{mostSix}
 use Rattle.walk_clashes.specs.Faces.{Faces, drawingOf, PointPut, PartsOf}
+use Rattle.walk_clashes.proofs.Rows.{face-at, polygon-at}
 
 module _ {xyz : List ℤ} {rows : List ℕ} {k : ℕ} {m : Point} (f : Face xyz rows k m) where
   pub part-is : {o : Point} → o ≡ cornerOf (ring xyz rows k) 0 → dot o m ≡ faceSix (ring xyz rows k)
@@ -86,9 +86,6 @@ module _ {xyz : List ℤ} {rows : List ℕ} {n : ℕ} (w : Faces xyz rows n) whe
           ∙ ap (λ (j : ℕ). faceSix (ring xyz rows j)) (sym r)
       go i l (no r) = getD-set-other sixes k i z (pos 0) r ∙ p .each i (omega arith)
 
-  face-at : (i : ℕ) → i < length (w .loops) → Face xyz rows i (normal (ring xyz rows i))
-  face-at i h = record { row = row-of (w .range) rows (w .of) (w .held) i h; across = λ t. normal (ring xyz rows i) }
-
   pub parts-all : (normals sixes : List ℤ) → Parts normals sixes n → PartsOf w normals sixes
   unfolding tablesOf
   parts-all normals sixes p =
@@ -97,8 +94,8 @@ module _ {xyz : List ℤ} {rows : List ℕ} {n : ℕ} (w : Faces xyz rows n) whe
         sixes-are =
             record {
               few = omega (arith, long, w .count, w .most);
-              at = λ i h. let m : i < length (w .loops) = omega (arith, long) in p .each i (omega (arith, w .count)) ∙ sym (entry i m);
-              small = λ i. small i (ltb i (length (w .loops))) refl;
+              at = λ i h. let l : i < n = omega (arith, h, long, w .count) in p .each i l ∙ sym (entry i l);
+              small = λ i. small i (ltb i n) refl;
             };
       }
     where
@@ -108,13 +105,14 @@ module _ {xyz : List ℤ} {rows : List ℕ} {n : ℕ} (w : Faces xyz rows n) whe
       long : length zs ≡ length (w .loops)
       long = length-map (map (polygon (drawingOf w)) (w .loops)) faceSix ∙ length-map (w .loops) (polygon (drawingOf w))
 
-      entry : (i : ℕ) → i < length (w .loops) → getD zs i (pos 0) ≡ faceSix (ring xyz rows i)
+      entry : (i : ℕ) → i < n → getD zs i (pos 0) ≡ faceSix (ring xyz rows i)
       entry i h =
-          map-at faceSix (map (polygon (drawingOf w)) (w .loops)) i [] (pos 0) (omega (arith, length-map (w .loops) (polygon (drawingOf w))))
-          ∙ ap faceSix (map-at (polygon (drawingOf w)) (w .loops) i [] [] h ∙ sym (ring-of (w .range) rows (w .of) (w .held) i h))
+          map-at faceSix (map (polygon (drawingOf w)) (w .loops)) i [] (pos 0)
+          (omega (arith, h, w .count, length-map (w .loops) (polygon (drawingOf w))))
+          ∙ ap faceSix (map-at (polygon (drawingOf w)) (w .loops) i [] [] (omega (arith, h, w .count)) ∙ sym (polygon-at w i h))
 
-      small : (i : ℕ) (b : Bool) → ltb i (length (w .loops)) ≡ b → Within mostSix (getD zs i (pos 0))
-      small i true t = let h = ltb-true i (length (w .loops)) t in subst (Within mostSix) (sym (entry i h)) (part-small (face-at i h))
+      small : (i : ℕ) (b : Bool) → ltb i n ≡ b → Within mostSix (getD zs i (pos 0))
+      small i true t = let h = ltb-true i n t in subst (Within mostSix) (sym (entry i h)) (part-small (face-at w i h refl))
       small i false t =
-          let h = ltb-false i (length (w .loops)) t in
-          subst (Within mostSix) (sym (List·getD-eq-default zs (pos 0) (omega (arith, long)))) (within-lit tt)
+          let h = ltb-false i n t in
+          subst (Within mostSix) (sym (List·getD-eq-default zs (pos 0) (omega (arith, h, long, w .count)))) (within-lit tt)

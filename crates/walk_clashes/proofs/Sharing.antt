@@ -20,13 +20,12 @@ use Rattle.paper.specs.Drawing.{Wire}
 use Rattle.paper.specs.Loops.{Loop, loopAt, polygon}
 use Rattle.paper.specs.Clash.{folds}
 use Rattle.paper.specs.declared.Point.{Point}
-use Rattle.polygon.specs.Rings.{ring, ofRows, pointOf, countIn, Face}
+use Rattle.polygon.specs.Rings.{ofRows, pointOf, countIn, Face}
 use Rattle.fast_tables.specs.Hits.{cornerMask, sideMask, shareEnough, mayFold, foldsWith}
-use Rattle.loop_table.proofs.Rows.{count-is}
-use Rattle.loop_table.proofs.Loops.{row-of, ring-of}
 use Rattle.walk_clashes.specs.Faces.{drawingOf}
 use Rattle.walk_clashes.specs.Sorted.{Upto}
 use Rattle.walk_clashes.specs.Folds.{foldsAfter, foldMask, FoldLent, PairLent, PairFolds}
+use Rattle.walk_clashes.proofs.Rows.{face-at, corners-at, polygon-at}
 use Rattle.walk_clashes.proofs.Sorting.{is-same, dig-made, upto-fail}
 
 -- ---- how many corners are enough
@@ -53,28 +52,29 @@ module _ {xyz : List ℤ} {rows corners sides : List ℕ} {normals : List ℤ} {
   drawing = drawingOf (w .faces)
 
   -- with the normal that is read
-  pub face-at : (k : ℕ) → k < n → {m : Point} → m ≡ pointOf normals k → Face xyz rows k m
-  face-at k h e =
-      let f = w .faces in
-      record {
-        row = row-of (f .range) rows (f .of) (f .held) k (omega (arith, h, f .count));
-        across = e ∙ w .normals-are .each k h;
-      }
+  pub face-read : (k : ℕ) → k < n → {m : Point} → m ≡ pointOf normals k → Face xyz rows k m
+  face-read k h e = face-at (w .faces) k h (e ∙ w .normals-are .each k h)
 
-  corners-in : (k : ℕ) → k < n → countIn rows k ≡ length (here k)
-  corners-in k h = let f = w .faces in count-is rows (f .loops) (f .held) (f .of .short) k (omega (arith, h, f .count))
+  -- the tests that rule C comes after, and rule C
+  abbrev share : ℕ → ℕ → Bool
+  share g j =
+      shareEnough (count (both (cornerMask drawing (here g)) (cornerMask drawing (here j))))
+      (count (both (sideMask drawing (here g)) (sideMask drawing (here j))))
 
-  polygon-at : (k : ℕ) → k < n → ring xyz rows k ≡ polygon drawing (here k)
-  polygon-at k h = let f = w .faces in ring-of (f .range) rows (f .of) (f .held) k (omega (arith, h, f .count))
+  abbrev fold : ℕ → ℕ → Bool
+  fold g j = folds (polygon drawing (here g)) (polygon drawing (here j))
+
+  tests-are : (g j : ℕ) (a b c : Bool) → ltb 3 (length (here g)) ≡ a → ltb 3 (length (here j)) ≡ b → share g j ≡ c
+      → foldsAfter drawing (w .faces .loops) g j ≡ (ltb g j && (((a && b) && c) && fold g j))
+  unfolding foldsAfter foldsWith mayFold
+  tests-are g j a b c ea eb ec = λ i. ltb g j && (((ea i && eb i) && ec i) && fold g j)
 
   -- a triangle folds with none
-  pub three-fold : (k : ℕ) → k < n → countIn rows k ≤ 3 → (j : ℕ) → foldsAfter drawing (w .faces .loops) k j ≡ false
-  unfolding foldsAfter foldsWith mayFold
-  three-fold k h few j =
-      ap
-      (λ (b : Bool). ltb k j && (((b && ltb 3 (length (here j))) && shareEnough (count (both (cornerMask drawing (here k)) (cornerMask drawing (here j)))) (count (both (sideMask drawing (here k)) (sideMask drawing (here j))))) && folds (polygon drawing (here k)) (polygon drawing (here j))))
-      (le-ltb 3 (length (here k)) (omega (arith, few, corners-in k h)))
-      ∙ and-false (ltb k j)
+  three-fold : (g : ℕ) → g < n → countIn rows g ≤ 3 → (j : ℕ) → foldsAfter drawing (w .faces .loops) g j ≡ false
+  three-fold g h few j =
+      tests-are g j false (ltb 3 (length (here j))) (share g j) (le-ltb 3 (length (here g)) (omega (arith, few, corners-at (w .faces) g h)))
+      refl refl
+      ∙ and-false (ltb g j)
 
   -- ---- those that fold with g and are not known
 
@@ -114,20 +114,8 @@ module _ {xyz : List ℤ} {rows corners sides : List ℕ} {normals : List ℤ} {
 -- ---- two of them
 
 module _ {xyz : List ℤ} {rows corners sides : List ℕ} {normals : List ℤ} {g j : ℕ} (w : PairLent xyz rows corners sides normals g j) where
-  abbrev d : Wire
-  d = drawingOf (w .lent .faces)
-
-  abbrev f : Loop
-  f = loopAt (w .lent .faces .loops) g
-
-  abbrev h : Loop
-  h = loopAt (w .lent .faces .loops) j
-
   pub first-low : g < w .n
   first-low = omega (arith, w .after, w .there)
-
-  abbrev enough : Bool
-  enough = shareEnough (count (both (cornerMask d f) (cornerMask d h))) (count (both (sideMask d f) (sideMask d h)))
 
   -- the words have those that they share
   abbrev shared : Set
@@ -136,33 +124,42 @@ module _ {xyz : List ℤ} {rows corners sides : List ℕ} {normals : List ℤ} {
   abbrev common : Set
   common = record { word = bitAnd (getD sides g 0) (getD sides j 0) }
 
-  enough-is : shareEnough (size shared) (size common) ≡ enough
-  enough-is =
-      let c = size-is (and-is _ _ (w .lent .own-are g first-low) (w .lent .own-are j (w .there))) in
-      let s = size-is (and-is _ _ (w .lent .sides-are g first-low) (w .lent .sides-are j (w .there))) in
+  share-is : shareEnough (size shared) (size common) ≡ share (w .lent) g j
+  share-is =
+      let l = w .lent in
+      let c = size-is (and-is _ _ (l .own-are g first-low) (l .own-are j (w .there))) in
+      let s = size-is (and-is _ _ (l .sides-are g first-low) (l .sides-are j (w .there))) in
       λ i. shareEnough (c i) (s i)
 
-  folds-all : (a b c : Bool) → ltb 3 (length f) ≡ a → ltb 3 (length h) ≡ b → enough ≡ c
-      → foldsAfter d (w .lent .faces .loops) g j ≡ (((a && b) && c) && folds (polygon d f) (polygon d h))
-  unfolding foldsAfter foldsWith mayFold
-  folds-all a b c ea eb ec = λ i. lt-ltb g j (w .after) i && (((ea i && eb i) && ec i) && folds (polygon d f) (polygon d h))
+  -- how many corners they have
+  abbrev first-long : Bool
+  first-long = ltb 3 (length (here (w .lent) g))
+
+  abbrev last-long : Bool
+  last-long = ltb 3 (length (here (w .lent) j))
 
   pub share-less : {b : Bool} → b ≡ shareEnough (size shared) (size common) → b ≡ false → PairFolds w false
   share-less e z =
       sym
-      (folds-all (ltb 3 (length f)) (ltb 3 (length h)) false refl refl (sym enough-is ∙ sym e ∙ z)
-      ∙ ap (λ (b : Bool). b && folds (polygon d f) (polygon d h)) (and-false (ltb 3 (length f) && ltb 3 (length h))))
+      (tests-are (w .lent) g j first-long last-long false refl refl (sym share-is ∙ sym e ∙ z)
+      ∙ ap (λ (b : Bool). ltb g j && (b && fold (w .lent) g j)) (and-false (first-long && last-long))
+      ∙ and-false (ltb g j))
 
   pub three-less : countIn rows j ≤ 3 → PairFolds w false
   three-less q =
+      let few = le-ltb 3 (length (here (w .lent) j)) (omega (arith, q, corners-at (w .lent .faces) j (w .there))) in
       sym
-      (folds-all (ltb 3 (length f)) false enough refl (le-ltb 3 (length h) (omega (arith, q, corners-in (w .lent) j (w .there)))) refl
-      ∙ ap (λ (b : Bool). (b && enough) && folds (polygon d f) (polygon d h)) (and-false (ltb 3 (length f))))
+      (tests-are (w .lent) g j first-long false (share (w .lent) g j) refl few refl
+      ∙ ap (λ (b : Bool). ltb g j && ((b && share (w .lent) g j) && fold (w .lent) g j)) (and-false first-long)
+      ∙ and-false (ltb g j))
 
   pub folds-are : {b : Bool} → b ≡ shareEnough (size shared) (size common) → b ≡ true → 3 < countIn rows j
       → {r : Bool} → r ≡ ofRows folds xyz rows g j → PairFolds w r
   folds-are e t q s =
-      s ∙ (λ i. folds (polygon-at (w .lent) g first-low i) (polygon-at (w .lent) j (w .there) i))
+      let f = w .lent .faces in
+      let a = lt-ltb 3 (length (here (w .lent) g)) (omega (arith, w .long, corners-at f g first-low)) in
+      let b = lt-ltb 3 (length (here (w .lent) j)) (omega (arith, q, corners-at f j (w .there))) in
+      s ∙ (λ i. folds (polygon-at f g first-low i) (polygon-at f j (w .there) i))
       ∙ sym
-      (folds-all true true true (lt-ltb 3 (length f) (omega (arith, w .long, corners-in (w .lent) g first-low)))
-      (lt-ltb 3 (length h) (omega (arith, q, corners-in (w .lent) j (w .there)))) (sym enough-is ∙ sym e ∙ t))
+      (tests-are (w .lent) g j true true true a b (sym share-is ∙ sym e ∙ t)
+      ∙ ap (λ (c : Bool). c && fold (w .lent) g j) (lt-ltb g j (w .after)))

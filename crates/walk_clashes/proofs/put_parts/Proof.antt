@@ -2,14 +2,13 @@
 use mathlib.Core.Path.{_≡_, subst, sym, _∙_}
 use Prim.Native.Nat.{_-_, _<_}
 use native.Mathlib.Omega.{arith}
-use lib.ListN.{length}
 use denote.Ref.{now}
 use Rattle.exact.specs.Size.{Within}
 use Rattle.polygon.specs.Rings.{Face}
 use Rattle.polygon.proofs.Planes.{face-normal}
-use Rattle.loop_table.proofs.Loops.{row-of}
 use Rattle.walk_words.specs.Words.{mostSix}
 use Rattle.walk_clashes.specs.Faces.{Faces}
+use Rattle.walk_clashes.proofs.Rows.{row-at, face-at}
 use Rattle.walk_clashes.proofs.Parts.{Parts, parts-none, parts-more, parts-all, part-small, kept}
 use Rattle.walk_clashes.proofs.put_parts.Statement.{statement}
 use Rattle.walk_clashes.proofs.put_parts.Tie as tie
@@ -36,11 +35,7 @@ faces c = entry c .pre .faces
 -- row k, with its normal
 face-of : (c : tie.After-normal Inv-loop μ-loop)
     → let a = entry (c .before .before) .args in Face (now (a .xyz)) (now (a .rows)) (c .before .before .loop .k) (c .normal .result)
-face-of c =
-    let l = c .before .before in
-    let w = faces l in
-    let h : l .loop .k < length (w .loops) = omega (arith, w .count, c .before .loop-test .taken) in
-    record { row = row-of (w .range) _ (w .of) (w .held) (l .loop .k) h; across = c .normal .ensures }
+face-of c = face-at (faces (c .before .before)) _ (c .before .loop-test .taken) (c .normal .ensures)
 
 low : (c : tie.In-loop Inv-loop μ-loop) → c .before .loop .k < 64
 low c = omega (arith, faces (c .before) .most, c .loop-test .taken)
@@ -51,9 +46,7 @@ loop-holds : tie.Need-loop-holds Inv-loop μ-loop
 loop-holds c w = parts-none w _ _ (c .before .pre .normal-room) (c .before .pre .six-room)
 
 normal-requires : tie.Need-normal-requires Inv-loop μ-loop
-normal-requires c κs =
-    let w = faces (c .before) in
-    row-of (w .range) _ (w .of) (w .held) (c .before .loop .k) (omega (arith, w .count, c .loop-test .taken))
+normal-requires c κs = row-at (faces (c .before)) _ (c .loop-test .taken)
 
 put-normal-requires : tie.Need-put-normal-requires Inv-loop μ-loop
 put-normal-requires c κs =

@@ -1,7 +1,7 @@
 -- `walk_clashes::folds::fold_set`: the loop keeps that the set has those before j that pass. Assumes nothing.
 use mathlib.Core.Bool.{Bool}
 use mathlib.Core.List.{List}
-use mathlib.Core.Path.{_≡_, refl, subst}
+use mathlib.Core.Path.{_≡_, subst}
 use Prim.Native.Nat.{ℕ, _-_, _≤_, _<_}
 use native.Mathlib.Omega.{arith}
 use lib.IntN.{ℤ}
@@ -11,7 +11,8 @@ use Rattle.sets.specs.Sets.{Is}
 use Rattle.sets.specs.declared.Set.{Set}
 use Rattle.walk_clashes.specs.Sorted.{Upto}
 use Rattle.walk_clashes.specs.Folds.{FoldLent, PairLent}
-use Rattle.walk_clashes.proofs.Sharing.{face-at, Passes, pass-start, pass-none, pass-all}
+use Rattle.walk_clashes.proofs.Rows.{row-at}
+use Rattle.walk_clashes.proofs.Sharing.{Passes, pass-start, pass-none, pass-all}
 use Rattle.walk_clashes.proofs.folds.fold_set.Statement.{statement}
 use Rattle.walk_clashes.proofs.folds.fold_set.Tie as tie
 
@@ -62,7 +63,7 @@ none-requires : tie.Need-none-requires Inv-loop μ-loop
 none-requires c κs = search needs
 
 count-requires : tie.Need-count-requires Inv-loop μ-loop
-count-requires c κs = let p = c .before .before .pre in face-at (p .lent) _ (p .there) refl .row .room
+count-requires c κs = let p = c .before .before .pre in row-at (p .lent .faces) _ (p .there) .room
 
 returns : tie.Need-returns Inv-loop μ-loop
 returns c w s i =

@@ -1,9 +1,9 @@
 -- `walk_clashes::folds::folds_with`: each of the three tests, and rule C where all pass. Assumes nothing.
-use mathlib.Core.Path.{refl}
 use native.Mathlib.Omega.{arith}
 use borrow.Author.Tests.{not-true, not-false}
 use borrow.Author.Needs.{needs}
-use Rattle.walk_clashes.proofs.Sharing.{face-at, first-low, share-less, three-less, folds-are}
+use Rattle.walk_clashes.proofs.Rows.{row-at}
+use Rattle.walk_clashes.proofs.Sharing.{face-read, first-low, share-less, three-less, folds-are}
 use Rattle.walk_clashes.proofs.folds.folds_with.Statement.{statement}
 use Rattle.walk_clashes.proofs.folds.folds_with.Tie as tie
 
@@ -49,7 +49,7 @@ returns : tie.Need-returns
 returns c w = share-less w (c .before .may-fold .ensures) (not-true (c .before .may-fold .result) (c .if1 .taken))
 
 count-requires : tie.Need-count-requires
-count-requires c κs = let p = start (c .before) .pre in face-at (p .lent) _ (p .there) refl .row .room
+count-requires c κs = let p = start (c .before) .pre in row-at (p .lent .faces) _ (p .there) .room
 
 returns-2 : tie.Need-returns-2
 returns-2 c w = three-less w (omega (arith, c .before .count .ensures, c .if2 .taken))
@@ -64,7 +64,7 @@ folds-requires : tie.Need-folds-requires
 folds-requires c κs =
     let m = c .before .before in
     let p = start (asked (m .before .before .before)) .pre in
-    record { f-face = face-at (p .lent) _ (first-low p) (m .point-at .ensures); g-face = face-at (p .lent) _ (p .there) (c .point-at2 .ensures) }
+    record { f-face = face-read (p .lent) _ (first-low p) (m .point-at .ensures); g-face = face-read (p .lent) _ (p .there) (c .point-at2 .ensures) }
 
 returns-3 : tie.Need-returns-3
 returns-3 c w =
