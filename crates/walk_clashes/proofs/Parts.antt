@@ -49,31 +49,35 @@ kept h = reads (h ▸ done) (var 0) tt
 
 module _ {xyz : List ℤ} {rows : List ℕ} {n : ℕ} (w : Faces xyz rows n) where
   -- those of the first k candidates, and their normals
-  pub record Parts (normals sixes : List ℤ) (k : ℕ) : Type 0 where
+  pub record Parts (normals sixes₀ sixes : List ℤ) (k : ℕ) : Type 0 where
     pub not-past : k ≤ n
     pub normal-room : length normals ≡ 192
     pub six-room : length sixes ≡ 64
     pub across : (i : ℕ) → i < k → pointOf normals i ≡ normal (ring xyz rows i)
     pub each : (i : ℕ) → i < k → getD sixes i (pos 0) ≡ faceSix (ring xyz rows i)
+    pub later : (i : ℕ) → k ≤ i → getD sixes i (pos 0) ≡ getD sixes₀ i (pos 0)
 
-  pub parts-none : (normals sixes : List ℤ) → length normals ≡ 192 → length sixes ≡ 64 → Parts normals sixes 0
+  pub parts-none : (normals sixes : List ℤ) → length normals ≡ 192 → length sixes ≡ 64 → Parts normals sixes sixes 0
   parts-none normals sixes e q = record {
     not-past = omega arith;
     normal-room = e;
     six-room = q;
     across = λ i h. absurd (omega arith);
     each = λ i h. absurd (omega arith);
+    later = λ i h. refl;
   }
 
-  pub parts-more : (normals after sixes : List ℤ) (k : ℕ) (m : Point) (z : ℤ) → k < n → m ≡ normal (ring xyz rows k)
-      → PointPut k m normals after → z ≡ faceSix (ring xyz rows k) → Parts normals sixes k → Parts after (set sixes k z) (k + 1)
-  parts-more normals after sixes k m z h e put q p =
+  pub parts-more : (normals after sixes₀ sixes : List ℤ) (k : ℕ) (m : Point) (z : ℤ) → k < n → m ≡ normal (ring xyz rows k)
+      → PointPut k m normals after → z ≡ faceSix (ring xyz rows k) → Parts normals sixes₀ sixes k
+      → Parts after sixes₀ (set sixes k z) (k + 1)
+  parts-more normals after sixes₀ sixes k m z h e put q p =
       record {
         not-past = omega arith;
         normal-room = put .long ∙ p .normal-room;
         six-room = length-set sixes k z ∙ p .six-room;
         across = λ i l. point i l (ℕ-discrete i k);
         each = λ i l. go i l (ℕ-discrete i k);
+        later = λ i l. getD-set-other sixes k i z (pos 0) (λ r. omega arith) ∙ p .later i (omega arith);
       }
     where
       point : (i : ℕ) → i < k + 1 → Dec (i ≡ k) → pointOf after i ≡ normal (ring xyz rows i)
@@ -86,9 +90,9 @@ module _ {xyz : List ℤ} {rows : List ℕ} {n : ℕ} (w : Faces xyz rows n) whe
           ∙ ap (λ (j : ℕ). faceSix (ring xyz rows j)) (sym r)
       go i l (no r) = getD-set-other sixes k i z (pos 0) r ∙ p .each i (omega arith)
 
-  pub parts-all : (normals sixes : List ℤ) → Parts normals sixes n → PartsOf w normals sixes
+  pub parts-all : (normals sixes₀ sixes : List ℤ) → Parts normals sixes₀ sixes n → PartsOf w normals sixes₀ sixes
   unfolding tablesOf
-  parts-all normals sixes p =
+  parts-all normals sixes₀ sixes p =
       record {
         normals-are = record { whole = p .normal-room; each = p .across };
         sixes-are =
@@ -97,6 +101,7 @@ module _ {xyz : List ℤ} {rows : List ℕ} {n : ℕ} (w : Faces xyz rows n) whe
               at = λ i h. let l : i < n = omega (arith, h, long, w .count) in p .each i l ∙ sym (entry i l);
               small = λ i. small i (ltb i n) refl;
             };
+        later = p .later;
       }
     where
       zs : List ℤ

@@ -3,8 +3,8 @@
 use mathlib.Core.Path.{_≡_}
 use mathlib.Core.List.{List}
 use Prim.Native.Nat.{ℕ, _*_, _≤_, _<_}
-use lib.IntN.{ℤ}
-use lib.ListN.{length}
+use lib.IntN.{ℤ, pos}
+use lib.ListN.{length, getD}
 use Rattle.sets.specs.Sets.{room}
 use Rattle.paper.specs.Numbers.{mostCandidates}
 use Rattle.paper.specs.Polygon.{normal}
@@ -56,7 +56,8 @@ pub record PartRoom (xyz : List ℤ) (rows : List ℕ) (n : ℕ) (normals sixes 
   pub normal-room : length normals ≡ 3 * mostCandidates
   pub six-room : length sixes ≡ mostCandidates
 
--- the candidates' normals, and their parts of six volumes
-pub record PartsOf {xyz : List ℤ} {rows : List ℕ} {n : ℕ} (w : Faces xyz rows n) (normals sixes : List ℤ) : Type 0 where
+-- the candidates' normals, and their parts of six volumes; later room keeps its contents
+pub record PartsOf {xyz : List ℤ} {rows : List ℕ} {n : ℕ} (w : Faces xyz rows n) (normals sixes₀ sixes : List ℤ) : Type 0 where
   pub normals-are : NormalsOf xyz rows n normals
   pub sixes-are : Sixes sixes (tablesOf (drawingOf w) (w .loops) .sixes)
+  pub later : (i : ℕ) → n ≤ i → getD sixes i (pos 0) ≡ getD sixes₀ i (pos 0)

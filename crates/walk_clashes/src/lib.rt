@@ -57,7 +57,7 @@ pub fn put_parts(
 )
     requires { ⌜ PartRoom (now xyz) (now rows) n (now normals) (now sixes) ⌝ }
     ensures { λ _. ⌜ ((w : Faces (now (xyz .entry)) (now (rows .entry)) n)
-        → PartsOf w (now (normals .exit)) (now (sixes .exit))) ⌝ }
+        → PartsOf w (now (normals .exit)) (now (sixes .entry)) (now (sixes .exit))) ⌝ }
 {
     let mut k = 0;
     while k < n {

@@ -14,7 +14,7 @@ use Rattle.walk_clashes.proofs.put_parts.Statement.{statement}
 use Rattle.walk_clashes.proofs.put_parts.Tie as tie
 
 abbrev Inv-loop : tie.InvT-loop
-Inv-loop xyz rows n normals₀ sixes₀ k₀ normals sixes k = (w : Faces xyz rows n) → Parts w normals sixes k
+Inv-loop xyz rows n normals₀ sixes₀ k₀ normals sixes k = (w : Faces xyz rows n) → Parts w normals sixes₀ sixes k
 
 abbrev μ-loop : tie.MeasureT-loop
 μ-loop xyz rows n normals₀ sixes₀ k₀ normals sixes k = n - k
@@ -75,7 +75,7 @@ loop-again c w =
     let l = t .before .loop in
     let six = c .six-of in
     let small = subst (Within mostSix) (sym (six .ensures)) (part-small (face-of (turn c))) in
-    parts-more w (l .normals) _ (l .sixes) (l .k) _ _ (t .loop-test .taken) (turn c .normal .ensures) (c .before .put-normal .ensures)
+    parts-more w (l .normals) _ _ (l .sixes) (l .k) _ _ (t .loop-test .taken) (turn c .normal .ensures) (c .before .put-normal .ensures)
     (kept small ∙ six .ensures) (l .inv w)
 
 returns : tie.Need-returns Inv-loop μ-loop
@@ -83,7 +83,8 @@ returns c w =
     let l = c .before .loop in
     let p = l .inv w in
     let e : l .k ≡ entry (c .before) .args .n = omega (arith, p .not-past, c .loop-test .left) in
-    parts-all w (l .normals) (l .sixes) (subst (Parts w (l .normals) (l .sixes)) e p)
+    let before = now (entry (c .before) .args .sixes) in
+    parts-all w (l .normals) before (l .sixes) (subst (Parts w (l .normals) before (l .sixes)) e p)
 
 pub put-parts-spec : {M : Type 1} → statement M
 put-parts-spec =
