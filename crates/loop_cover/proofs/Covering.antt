@@ -27,7 +27,7 @@ use Rattle.fast_tables.proofs.Candidates.{covers-found}
 use Rattle.fast_tables.proofs.Planes.{level-search}
 use Rattle.loop_table.proofs.Rows.{loop-is}
 use Rattle.loop_table.proofs.Words.{mask-is}
-use Rattle.loop_table.proofs.Loops.{loops-of, vertices-are, edges-are, row-of}
+use Rattle.loop_table.proofs.Loops.{loops-of, vertices-are, corners-short, sides-short, row-of}
 use Rattle.loop_cover.specs.declared.Asked.{Asked}
 use Rattle.loop_cover.specs.declared.Tried.{Tried}
 use Rattle.loop_cover.specs.Midpoints.{outsideOf, Stands, EdgesOf, Asks, askedNow, Trial, TriedOf}
@@ -95,16 +95,6 @@ module _ {xyz : List ℤ} {ends table : List ℕ} {n : ℕ} {corners sides plane
   row = row-of (known .passed .range) table (loops-of d) (known .rows) k (there-in k (q .there))
 
   -- ---- its words
-  corners-short : (l : Loop) → length (cornerMask d l) ≤ room
-  unfolding cornerMask
-  corners-short l =
-      let r = known .passed .range in
-      omega (arith, made-length (λ v. member v l) (length (d .vertices)), vertices-are r, r .most)
-
-  sides-short : (l : Loop) → length (sideMask d l) ≤ room
-  unfolding sideMask
-  sides-short l = let r = known .passed .range in omega (arith, length-map (d .edges) (λ e. has e l), edges-are r, r .links .most)
-
   plane-level : (l : Loop) → planeOf d l ≡ map (level d l) (upto (length (d .vertices)))
   unfolding planeOf planeMask onPlane level
   plane-level l = refl
@@ -120,7 +110,7 @@ module _ {xyz : List ℤ} {ends table : List ℕ} {n : ℕ} {corners sides plane
   side-set j h =
       let l = loopAt ls j in
       record {
-        is = mask-is (sideMask d) sides ls (known .sides-are) j (there-in j h) (sides-short l);
+        is = mask-is (sideMask d) sides ls (known .sides-are) j (there-in j h) (sides-short (known .passed .range) l);
         known = λ e t. map-yes (λ e. has e l) (edge 0 0) (d .edges) e t .0;
       }
 
@@ -140,7 +130,7 @@ module _ {xyz : List ℤ} {ends table : List ℕ} {n : ℕ} {corners sides plane
       let l = loopAt ls k in
       let i = loopAt ls j in
       let p = known .passed in
-      let a = mask-is (cornerMask d) corners ls (known .corners-are) j (there-in j h) (corners-short i) in
+      let a = mask-is (cornerMask d) corners ls (known .corners-are) j (there-in j h) (corners-short (known .passed .range) i) in
       let b = mask-is (planeOf d) planes ls (known .planes-are) k (there-in k (q .there)) (plane-short l) in
       f (cornerMask d i) (planeOf d l) a b
       ∙ ap (λ (mask : List Bool). not (eqb k j) && eqb (count (less (cornerMask d i) mask)) 0) (plane-level l)

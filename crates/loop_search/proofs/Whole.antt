@@ -65,7 +65,7 @@ module _ {xyz : List ℤ} {words : List ℕ} {v : ℕ} (points : Points xyz v) {
   }
 
 -- ---- the words of neighbours
-near-is : (d : Wire) (v : ℕ) → length (d .vertices) ≡ v → v ≤ mostVertices → Near d (neighbourWords (d .edges) v)
+pub near-is : (d : Wire) (v : ℕ) → length (d .vertices) ≡ v → v ≤ mostVertices → Near d (neighbourWords (d .edges) v)
 unfolding neighbourWords neighbourWord near joined packedSet
 near-is d v n few u h =
     record {

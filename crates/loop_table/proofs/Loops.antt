@@ -4,14 +4,19 @@ use mathlib.Core.List.{List}
 use Prim.Native.Nat.{ℕ, _≤_, _<_}
 use native.Mathlib.Omega.{arith}
 use lib.IntN.{ℤ}
-use lib.ListN.{length}
+use lib.ListN.{length, length-map}
+use Rattle.lists.specs.Lists.{member}
+use Rattle.lists.proofs.Places.{made-length}
+use Rattle.sets.specs.Sets.{room}
 use Rattle.paper.specs.Numbers.{mostCorners}
 use Rattle.paper.specs.Drawing.{Wire, wire}
 use Rattle.paper.specs.Loops.{Loop, loopAt, loops, candidates, polygon}
+use Rattle.paper.specs.Solids.{has}
 use Rattle.paper_laws.specs.InRange.{InRange}
 use Rattle.paper_laws.proofs.Wires.{length-points, length-edges}
 use Rattle.polygon.specs.Rings.{ring, Row}
 use Rattle.polygon.proofs.Drawn.{polygon-is}
+use Rattle.fast_tables.specs.Hits.{cornerMask, sideMask}
 use Rattle.fast_tables.proofs.Drawings.{loop-path, candidate-of, candidate-path}
 use Rattle.means_loops.proofs.Listing.{loops-are}
 use Rattle.loop_table.specs.Tables.{HoldsRows}
@@ -40,6 +45,15 @@ module _ {xyz : List ℤ} {ends : List ℕ} (range : InRange xyz ends) where
   pub edges-are : length (wire xyz ends .edges) ≡ range .links .edges
   unfolding wire
   edges-are = omega (arith, length-edges ends, range .links .whole)
+
+  -- ---- their masks fit into a word
+  pub corners-short : (l : Loop) → length (cornerMask (wire xyz ends) l) ≤ room
+  unfolding cornerMask
+  corners-short l = omega (arith, made-length (λ v. member v l) (length (wire xyz ends .vertices)), vertices-are, range .most)
+
+  pub sides-short : (l : Loop) → length (sideMask (wire xyz ends) l) ≤ room
+  unfolding sideMask
+  sides-short l = omega (arith, length-map (wire xyz ends .edges) (λ e. has e l), edges-are, range .links .most)
 
   -- ---- a row of a table that holds loops
   module _ (table : List ℕ) {ls : List Loop} (of : LoopsOf (wire xyz ends) ls) (held : HoldsRows table ls) (k : ℕ) (h : k < length ls) where

@@ -20,11 +20,12 @@ use Rattle.means_walk.specs.Complete.{exact}
 use Rattle.fast_leaf.specs.Faces.{judgedByFaces}
 use Rattle.fast_leaf.proofs.Judged.{Reports, reports-by-faces}
 use Rattle.fast_leaf.proofs.Leaf.{exact-two}
+use Rattle.walk_words.specs.Words.{Lent}
 use Rattle.walk_leaf.specs.Tests.{LeafIs, Judges}
 use Rattle.walk_leaf.specs.declared.Leaf.{Leaf}
 use Rattle.walk_leaf.specs.declared.Leaf.the-variants as L
 use Rattle.walk.specs.Tally.{Roomy, Stored, Follows}
-use Rattle.walk.specs.Leaf.{Lent, Keeps}
+use Rattle.walk.specs.Leaf.{Keeps}
 use Rattle.walk.specs.declared.tally.Tally.{Tally}
 use Rattle.walk.proofs.Tallies.{three-long, stored-more}
 

@@ -20,13 +20,14 @@ use Rattle.means_walk.proofs.Complete.{calm-exact}
 use Rattle.means_walk.proofs.Chosen.{stable-long}
 use Rattle.fast_sweeps.specs.Worklist.{edgesWith, openFrom, lowestOn, Call}
 use Rattle.fast_sweeps.proofs.Walk.{call-next, call-choice}
+use Rattle.walk_words.specs.Words.{Lent}
 use Rattle.walk_state.specs.State.{Holds}
 use Rattle.walk_state.specs.Sweeps.{Left, SweptOut}
 use Rattle.walk_state.specs.declared.State.{State}
 use Rattle.walk_state.specs.declared.Swept.{Swept}
 use Rattle.walk_state.specs.declared.Swept.the-variants as S
 use Rattle.walk.specs.Tally.{Roomy, Assumed, Stored, Follows}
-use Rattle.walk.specs.Leaf.{Lent, Keeps}
+use Rattle.walk.specs.Leaf.{Keeps}
 use Rattle.walk.specs.Branch.{BranchIs, Assumes, Branches}
 use Rattle.walk.specs.Walk.{Walked}
 use Rattle.walk.specs.declared.tally.Tally.{Tally}

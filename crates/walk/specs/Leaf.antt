@@ -1,4 +1,4 @@
--- The tables of the candidates as words, and a state with nothing undecided. Assumes nothing.
+-- A state with nothing undecided. Assumes nothing.
 use mathlib.Core.Bool.{true}
 use mathlib.Core.List.{List}
 use mathlib.Core.Path.{_≡_}
@@ -12,18 +12,10 @@ use Rattle.paper.specs.Solids.{Tables}
 use Rattle.paper.specs.Walk.{Status, leaf}
 use Rattle.paper.specs.Conversion.{takens, accepted}
 use Rattle.means_walk.specs.Complete.{exact}
-use Rattle.walk_words.specs.Words.{Held}
+use Rattle.walk_words.specs.Words.{Lent}
 use Rattle.walk_leaf.specs.Tests.{Judging}
 use Rattle.walk.specs.Tally.{Roomy, Follows}
 use Rattle.walk.specs.declared.tally.Tally.{Tally}
-
--- the tables of m candidates on n edges
-pub record Lent (on up : List ℕ) (n : ℕ) (sides clashes : List ℕ) (sixes : List ℤ) (m : ℕ) (t : Tables) : Type 0 where
-  pub held : Held on up sides clashes sixes t
-  pub masks-are : length (t .masks) ≡ n
-  pub ups-are : length (t .ups) ≡ n
-  pub clashes-are : length (t .clashes) ≡ m
-  pub sixes-are : length (t .sixes) ≡ m
 
 pub record Keeping (n : ℕ) (sixes : List ℤ) (x : Tally) (out : List ℕ) : Type 0 where
   pub judging : Judging n sixes

@@ -11,9 +11,9 @@ use Rattle.paper.specs.Solids.{Tables}
 use Rattle.paper.specs.Walk.{Status, openCount, walk, search}
 use Rattle.paper.specs.Conversion.{accepted}
 use Rattle.fast_sweeps.specs.Worklist.{Call}
+use Rattle.walk_words.specs.Words.{Lent}
 use Rattle.walk_leaf.specs.Tests.{Judging}
 use Rattle.walk.specs.Tally.{Roomy, Stored, Follows}
-use Rattle.walk.specs.Leaf.{Lent}
 use Rattle.walk.specs.Branch.{BranchIs}
 use Rattle.walk.specs.declared.tally.Tally.{Tally}
 use Rattle.walk.specs.declared.branch.Branch.{Branch}

@@ -13,7 +13,7 @@ use Rattle.paper.specs.Format.{editionOne}
 use Rattle.paper.specs.Solids as Paper
 use Rattle.paper.specs.Solids.{Tables, onceEachWay, Judgement, Fails, Solid}
 use Rattle.fast_leaf.specs.Faces.{clearOn, sixOn, judgedByFaces}
-use Rattle.walk_words.specs.Words.{Masks, mostSix, Sixes, Held}
+use Rattle.walk_words.specs.Words.{Masks, mostSix, Sixes, SmallSixes, Held}
 use Rattle.walk_leaf.specs.Faces.{Edges}
 use Rattle.walk_leaf.specs.declared.Leaf.{Leaf}
 use Rattle.walk_leaf.specs.declared.Leaf.the-variants as L
@@ -36,10 +36,6 @@ ClearIs clashes taken r =
     (cs : List (List Bool)) (t : List Bool) → Masks clashes cs → length t ≤ length cs → Is taken t → r ≡ clearOn (count t) cs t t
 
 -- ---- (iv)
-
--- each number is small enough that 64 of them can be added
-pub record SmallSixes (sixes : List ℤ) : Type 0 where
-  pub small : (k : ℕ) → k < room → Within mostSix (getD sixes k (pos 0))
 
 pub record PartAt (sixes : List ℤ) (k : ℕ) : Type 0 where
   pub narrow : k < room

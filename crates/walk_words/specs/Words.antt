@@ -31,6 +31,10 @@ pub record Sixes (numbers zs : List ℤ) : Type 0 where
   pub at : (k : ℕ) → k < length zs → getD numbers k (pos 0) ≡ getD zs k (pos 0)
   pub small : (k : ℕ) → Within mostSix (getD zs k (pos 0))
 
+-- each number is small enough that 64 of them can be added
+pub record SmallSixes (sixes : List ℤ) : Type 0 where
+  pub small : (k : ℕ) → k < room → Within mostSix (getD sixes k (pos 0))
+
 -- all of it
 pub record Held (on up sides clashes : List ℕ) (sixes : List ℤ) (t : Tables) : Type 0 where
   pub on-are : Masks on (t .masks)
@@ -38,3 +42,11 @@ pub record Held (on up sides clashes : List ℕ) (sixes : List ℤ) (t : Tables)
   pub sides-are : Sides sides (t .masks)
   pub clashes-are : Masks clashes (t .clashes)
   pub sixes-are : Sixes sixes (t .sixes)
+
+-- and the tables are of m candidates on n edges
+pub record Lent (on up : List ℕ) (n : ℕ) (sides clashes : List ℕ) (sixes : List ℤ) (m : ℕ) (t : Tables) : Type 0 where
+  pub held : Held on up sides clashes sixes t
+  pub masks-are : length (t .masks) ≡ n
+  pub ups-are : length (t .ups) ≡ n
+  pub clashes-are : length (t .clashes) ≡ m
+  pub sixes-are : length (t .sixes) ≡ m
