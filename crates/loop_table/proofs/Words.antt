@@ -1,12 +1,12 @@
 -- Words of masks, one for each loop: read as the code reads them, and one word more. Assumes nothing.
 use mathlib.Core.Bool.{Bool}
 use mathlib.Core.Path.{_≡_, refl, sym, ap, _∙_}
-use mathlib.Core.List.{List, [], _∷_, _++_}
-use Prim.Native.Nat.{ℕ, _+_, _*_, _≤_, _<_}
+use mathlib.Core.List.{List, [], _∷_, _++_, flatMap}
+use Prim.Native.Nat.{ℕ, _+_, _-_, _*_, _≤_, _<_}
 use native.Mathlib.Omega.{arith}
-use lib.ListN.{length, getD, set}
-use lib.Seq.{paste, paste-zero, paste-suc}
-use Rattle.lists.proofs.After.{Wide, after-long, after-more, after-again, after-at}
+use lib.ListN.{length, getD, set, drop}
+use lib.Seq.{paste, paste-zero, paste-suc, getD-append-add, getD-drop}
+use Rattle.lists.proofs.After.{Wide, each-long, after-long, after-more, after-again, after-at}
 use Rattle.sets.specs.Word.{word}
 use Rattle.sets.specs.Sets.{room, Is, packedSet, maskAt}
 use Rattle.paper.specs.Loops.{Loop, loopAt}
@@ -23,6 +23,16 @@ module _ (mask : Loop → List Bool) where
   pub words-kept : (ls : List Loop) (words before : List ℕ) → length ls ≤ length before → words ≡ wordsAfter mask ls before
       → length words ≡ length before
   words-kept ls words before h e = ap length e ∙ after-long (maskWord mask) 1 [] ls (wide ls) before (omega arith)
+
+  -- later words stay
+  pub words-later : (ls : List Loop) (words before : List ℕ) → words ≡ wordsAfter mask ls before → (k : ℕ) → length ls ≤ k
+      → getD words k 0 ≡ getD before k 0
+  words-later ls words before e k h =
+      let n : length (flatMap (maskWord mask) ls) ≡ 1 * length ls = each-long (maskWord mask) 1 [] ls (wide ls) in
+      let at : k ≡ length (flatMap (maskWord mask) ls) + (k - length ls) = omega (arith, n) in
+      ap (λ (l : List ℕ). getD l k 0) e ∙ ap (λ (i : ℕ). getD (wordsAfter mask ls before) i 0) at
+      ∙ getD-append-add (flatMap (maskWord mask) ls) (drop (1 * length ls) before) (k - length ls) 0
+      ∙ getD-drop (1 * length ls) before (k - length ls) 0 ∙ ap (λ (i : ℕ). getD before i 0) (omega arith)
 
   -- one word more
   pub word-more : (ls : List Loop) (l : Loop) (words before : List ℕ) → length ls < length before → words ≡ wordsAfter mask ls before

@@ -1,0 +1,53 @@
+-- What a drawing that passed 3 to 10 comes to before the walk: a refusal, 11 to 16, or its candidates with their tables. Assumes nothing.
+use mathlib.Core.List.{List, _++_}
+use mathlib.Core.Path.{_≡_}
+use Prim.Native.Nat.{ℕ, _≤_, _/_}
+use lib.IntN.{ℤ}
+use lib.ListN.{length, getD}
+use Rattle.sets.specs.Sets.{room}
+use Rattle.paper.specs.Numbers.{mostCandidates, faceRoom}
+use Rattle.paper.specs.Refusals.{Check, firstOf}
+use Rattle.paper.specs.Format.{editionOne}
+use Rattle.paper.specs.Sheet.{lentChecks}
+use Rattle.paper.specs.Drawing.{Wire, wire, drawingChecks}
+use Rattle.paper.specs.Loops.{loops, candidates, loopChecks}
+use Rattle.paper.specs.Solids.{tablesOf}
+use Rattle.paper.specs.declared.Answer.the-variants as Answer
+use Rattle.loop_table.specs.Tables.{rowsAfter}
+use Rattle.walk_words.specs.Words.{SmallSixes, Lent}
+use Rattle.walk_edges.specs.Marks.{Clear}
+use Rattle.tables.specs.declared.rows.Counts.{Counts}
+use Rattle.tables.specs.declared.Tabled.{Tabled}
+use Rattle.tables.specs.declared.Tabled.the-variants as T
+
+-- 11 to 16
+abbrev pub checksOf : Wire → List Check
+checksOf d = drawingChecks d ++ loopChecks (loops d) (candidates d)
+
+-- lists that passed 3 to 10, and rooms of their sizes with nothing in them
+pub record TablesAt (xyz : List ℤ) (ends rows on up sides clashes : List ℕ) (sixes : List ℤ) : Type 0 where
+  pub passed : Answer.Fine ≡ firstOf (lentChecks editionOne xyz ends)
+  pub row-room : length rows ≡ faceRoom
+  pub on-clear : Clear on
+  pub up-clear : Clear up
+  pub side-room : length sides ≡ mostCandidates
+  pub no-side : (k : ℕ) → getD sides k 0 ≡ 0
+  pub clash-room : length clashes ≡ room
+  pub no-clash : (k : ℕ) → getD clashes k 0 ≡ 0
+  pub six-room : length sixes ≡ mostCandidates
+  pub small : SmallSixes sixes
+
+-- none of 11 to 16 applies; so many loops and candidates, their rows, and the tables
+pub record Ready (xyz : List ℤ) (ends rows₀ rows on up sides clashes : List ℕ) (sixes : List ℤ) (c : Counts) : Type 0 where
+  pub fine : Answer.Fine ≡ firstOf (checksOf (wire xyz ends))
+  pub loops-are : c .loops ≡ length (loops (wire xyz ends))
+  pub candidates-are : c .candidates ≡ length (candidates (wire xyz ends))
+  pub few : c .candidates ≤ room
+  pub rows-are : rows ≡ rowsAfter (candidates (wire xyz ends)) rows₀
+  pub small : SmallSixes sixes
+  pub lent : Lent on up (length ends / 2) sides clashes sixes (c .candidates)
+      (tablesOf (wire xyz ends) (candidates (wire xyz ends)))
+
+abbrev pub TabledIs : List ℤ → List ℕ → List ℕ → List ℕ → List ℕ → List ℕ → List ℕ → List ℕ → List ℤ → Tabled → Type 0
+TabledIs xyz ends rows₀ rows on up sides clashes sixes (T.Refused r) = Answer.Refused r ≡ firstOf (checksOf (wire xyz ends))
+TabledIs xyz ends rows₀ rows on up sides clashes sixes (T.Ready c) = Ready xyz ends rows₀ rows on up sides clashes sixes c

@@ -1,0 +1,52 @@
+-- The words and numbers that the walk is lent, of the candidates of a drawing that passed 3 to 14. Contracts speak of every drawing whose
+-- candidates the rows are. Assumes nothing.
+use mathlib.Core.List.{List}
+use mathlib.Core.Path.{_≡_}
+use Prim.Native.Nat.{ℕ, _≤_}
+use lib.IntN.{ℤ, pos}
+use lib.ListN.{length, getD}
+use Rattle.sets.specs.Sets.{room}
+use Rattle.paper.specs.Numbers.{mostCandidates, faceRoom}
+use Rattle.paper.specs.Drawing.{Wire, wire}
+use Rattle.paper.specs.Loops.{candidates}
+use Rattle.paper.specs.Solids.{tablesOf}
+use Rattle.fast_tables.specs.Hits.{cornerMask, sideMask}
+use Rattle.loop_table.specs.Tables.{HoldsRows, HoldsWords}
+use Rattle.loop_known.specs.Known.{DrawnBy}
+use Rattle.walk_words.specs.Words.{Masks, Sixes}
+use Rattle.walk_edges.specs.Marks.{Clear}
+
+-- the candidates are listed, in rows and words
+pub record Listed (xyz : List ℤ) (rows : List ℕ) (n : ℕ) (near number corners sides : List ℕ) : Type 0 where
+  pub ends : List ℕ
+  pub drawn : DrawnBy xyz ends near number
+  pub count : n ≡ length (candidates (wire xyz ends))
+  pub most : n ≤ room
+  pub held : HoldsRows rows (candidates (wire xyz ends))
+  pub corners-are : HoldsWords (cornerMask (wire xyz ends)) corners (candidates (wire xyz ends))
+  pub sides-are : HoldsWords (sideMask (wire xyz ends)) sides (candidates (wire xyz ends))
+
+-- the drawing
+abbrev pub drawingOf : {xyz : List ℤ} {rows : List ℕ} {n : ℕ} {near number corners sides : List ℕ}
+    → Listed xyz rows n near number corners sides → Wire
+drawingOf {xyz} w = wire xyz (w .ends)
+
+-- and rooms of their sizes, with nothing in them
+pub record WordsAt (xyz : List ℤ) (rows : List ℕ) (n : ℕ) (near number corners sides on up clashes : List ℕ) (sixes : List ℤ)
+    : Type 0 where
+  pub all : Listed xyz rows n near number corners sides
+  pub row-room : length rows ≡ faceRoom
+  pub on-clear : Clear on
+  pub up-clear : Clear up
+  pub clash-room : length clashes ≡ room
+  pub no-clash : (k : ℕ) → getD clashes k 0 ≡ 0
+  pub six-room : length sixes ≡ mostCandidates
+
+-- the words are those of the document's tables; later numbers are as they were
+pub record WordsMade {xyz : List ℤ} {rows : List ℕ} {n : ℕ} {near number corners sides : List ℕ}
+    (w : Listed xyz rows n near number corners sides) (on up clashes : List ℕ) (sixes₀ sixes : List ℤ) : Type 0 where
+  pub on-are : Masks on (tablesOf (drawingOf w) (candidates (drawingOf w)) .masks)
+  pub up-are : Masks up (tablesOf (drawingOf w) (candidates (drawingOf w)) .ups)
+  pub clashes-are : Masks clashes (tablesOf (drawingOf w) (candidates (drawingOf w)) .clashes)
+  pub sixes-are : Sixes sixes (tablesOf (drawingOf w) (candidates (drawingOf w)) .sixes)
+  pub later : (i : ℕ) → n ≤ i → getD sixes i (pos 0) ≡ getD sixes₀ i (pos 0)
