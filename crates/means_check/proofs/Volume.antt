@@ -6,17 +6,17 @@ use Prim.Native.Nat.{ℕ, suc, _+_, _-_, _<_}
 use native.Mathlib.Omega.{arith}
 use lib.IntN.{ℤ, pos, negℤ, _+ℤ_}
 use lib.ListN.{length, getD, length-map}
-use Rattle.lists.specs.Lists.{sides, sidesFrom}
 use Rattle.lists.proofs.Places.{map-at}
 use Rattle.sets.specs.Word.{dig}
 use Rattle.sets.proofs.Ones.{dig-lt}
-use Rattle.paper.specs.Points.{origin, minus, dot, cross, det, sum}
+use Rattle.paper.specs.Points.{origin, minus, dot}
 use Rattle.paper.specs.Polygon.{Polygon, normal, corner}
 use Rattle.paper.specs.Drawing.{Wire, at}
 use Rattle.paper.specs.Loops.{Loop, loopAt, polygon}
-use Rattle.paper.specs.Solids.{fan, faceSix}
+use Rattle.paper.specs.Solids.{faceSix}
 use Rattle.paper.specs.declared.Point.{Point}
-use Rattle.paper_laws.proofs.Vectors.{vec, k as con, _+s_, _-s_, negs, _·_, o, v, _+v_, _-v_, _×v_, vring}
+use Rattle.paper_laws.proofs.Vectors.{vec, k as con, _+s_, negs, _·_, o, v, _+v_, _-v_, vring}
+use Rattle.paper_laws.proofs.Six.{six-normal}
 use Rattle.means_solid.specs.Solid.{share, sixOf, IsSolid}
 use Rattle.means_loops.specs.Plane.{InPlane}
 use Rattle.means_loops.specs.Path.{ClosedPath}
@@ -25,23 +25,7 @@ use Rattle.means_loops.proofs.OwnPlane.{normal-across, corner-at, less-dot, dot
 use Rattle.means_check.proofs.Sums.{sumTo, sum-same}
 use Rattle.means_check.proofs.Closing.{facing, normals-close}
 
--- ---- a face's part of six volumes is its normal's product with its first corner
-
-fan-is : (a b : Point) (r : List Point) → fan a (b ∷ r) ≡ dot a (sum (sidesFrom cross a b r))
-unfolding fan sum sidesFrom det
-fan-is a b [] = sym (vring (vec a ∷ vec b ∷ []) (v 0 · ((v 1 ×v v 0) +v o)) (con (pos 0)) tt)
-fan-is a b (c ∷ r) =
-    ap (λ (z : ℤ). dot a (cross b c) +ℤ z) (fan-is a c r)
-    ∙ vring (vec a ∷ vec (cross b c) ∷ vec (sum (sidesFrom cross a c r)) ∷ []) ((v 0 · v 1) +s (v 0 · v 2)) (v 0 · (v 1 +v v 2)) tt
-
-six-normal : (f : Polygon) → faceSix f ≡ dot (corner f) (normal f)
-unfolding faceSix corner normal sides sidesFrom sum fan
-six-normal [] = sym (vring [] (o · o) (con (pos 0)) tt)
-six-normal (a ∷ []) = sym (vring (vec a ∷ []) (v 0 · ((v 0 ×v v 0) +v o)) (con (pos 0)) tt)
-six-normal (a ∷ (b ∷ r)) =
-    fan-is a b r ∙ vring (vec a ∷ vec b ∷ vec (sum (sidesFrom cross a b r)) ∷ []) (v 0 · v 2) (v 0 · ((v 0 ×v v 1) +v v 2)) tt
-
--- with any of its corners
+-- a face's part of six volumes is its normal's product with any of its corners
 six-corner : (f : Polygon) (i : ℕ) → InPlane f → i < length f → faceSix f ≡ dot (getD f i origin) (normal f)
 six-corner f i y h =
     let m = normal-across (y .across) (y .height) f (y .every) in

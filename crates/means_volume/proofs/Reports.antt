@@ -31,9 +31,10 @@ use Rattle.means_report.proofs.Demand.{kind, says-one}
 use Rattle.means_report.proofs.Converted.{the-walk, conversion-says}
 use Rattle.means_check.proofs.Accepting.{both-fine}
 use Rattle.means_check.proofs.Drawn.{InCounts, lent-small, sheet-small}
+use Rattle.means_check.proofs.Corners.{over}
 use Rattle.means_check.proofs.Four.{four-faces}
 use Rattle.means_volume.specs.Bound.{mostTerm, mostTerms, mostSix, ReadExactly, SmallEnough}
-use Rattle.means_volume.proofs.Terms.{over, terms, by-terms}
+use Rattle.means_volume.proofs.Terms.{terms, by-terms}
 use Rattle.means_volume.proofs.Counted.{terms-few}
 use Rattle.means_volume.proofs.Near.{lent-near, sheet-near}
 

@@ -19,6 +19,7 @@ use Rattle.paper.specs.declared.Point.{Point}
 use Rattle.polygon.specs.Sizes.{PointWithin}
 use Rattle.polygon.proofs.Sizes.{origin-small, det-small}
 use Rattle.means_solid.specs.Solid.{share, sixOf}
+use Rattle.means_check.proofs.Corners.{over}
 use Rattle.means_volume.specs.Bound.{mostTerm}
 
 -- every point is in range; behind the list's end there is the origin
@@ -52,12 +53,6 @@ module _ (d : Wire) (near : (v : ℕ) → PointWithin farthest (at d v)) where
   loop-most l =
       subst (λ (n : ℕ). Within ((n - 2) * mostTerm) (faceSix (polygon d l))) (length-map l (at d))
       (face-most (polygon d l) (corners-near l))
-
--- the sum of a number of each face that is taken
-unfoldable pub over : List Bool → (Loop → ℕ) → List Loop → ℕ
-over [] f ls = 0
-over (t ∷ ts) f [] = 0
-over (t ∷ ts) f (l ∷ ls) = cond t (f l) 0 + over ts f ls
 
 -- how many determinants a face has
 abbrev pub terms : Loop → ℕ

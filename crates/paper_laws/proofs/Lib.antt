@@ -4,6 +4,7 @@ pub mod Limits
 pub mod Coordinate
 pub mod Rows
 pub mod Vectors
+pub mod Six
 pub mod Points
 pub mod Wires
 pub mod Answers

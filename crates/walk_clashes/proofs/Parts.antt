@@ -26,7 +26,7 @@ use Rattle.polygon.specs.Rings.{ring, pointOf, cornerOf, Face}
 use Rattle.polygon.proofs.Rows.{corner-small, ring-least}
 use Rattle.polygon.proofs.Planes.{face-normal, first-is}
 use Rattle.polygon.proofs.Sizes.{dot-small}
-use Rattle.fast_tables.proofs.Six.{six-is}
+use Rattle.paper_laws.proofs.Six.{six-normal}
 use Rattle.walk_words.specs.Words.{mostSix}
 use Rattle.walk_clashes.specs.Faces.{Faces, drawingOf, PointPut, PartsOf}
 use Rattle.walk_clashes.proofs.Rows.{face-at, polygon-at}
@@ -35,7 +35,7 @@ module _ {xyz : List ℤ} {rows : List ℕ} {k : ℕ} {m : Point} (f : Face xyz 
   pub part-is : {o : Point} → o ≡ cornerOf (ring xyz rows k) 0 → dot o m ≡ faceSix (ring xyz rows k)
   part-is e =
       let g = ring xyz rows k in
-      (λ i. dot ((e ∙ first-is g (omega (arith, ring-least (f .row)))) i) (f .across i)) ∙ sym (six-is g)
+      (λ i. dot ((e ∙ first-is g (omega (arith, ring-least (f .row)))) i) (f .across i)) ∙ sym (six-normal g)
 
   pub part-small : Within mostSix (faceSix (ring xyz rows k))
   part-small =
