@@ -35,7 +35,7 @@ rows1 =
     yields left (Conversion.Refused (record { number = 2; place = 0 })) (([]) ++ faceBefore 832) (([]) ++ solidBefore 24)
     ∷ wholly 8 (record { xyz = (pos 0 ∷ pos 0 ∷ pos 0 ∷ pos 6 ∷ pos 0 ∷ pos 0 ∷ pos 0 ∷ pos 6 ∷ pos 0 ∷ pos 0 ∷ pos 0 ∷ pos 6 ∷ []); ends = (0 ∷ 1 ∷ 0 ∷ 2 ∷ 0 ∷ 3 ∷ 1 ∷ 2 ∷ 1 ∷ 3 ∷ 2 ∷ 3 ∷ []) }) 1000000 840 27
     yields left (Conversion.One 4 4 0 216) ((3 ∷ 0 ∷ 1 ∷ 2 ∷ 255 ∷ 255 ∷ 255 ∷ 255 ∷ 255 ∷ 255 ∷ 255 ∷ 255 ∷ 255 ∷ 3 ∷ 0 ∷ 1 ∷ 3 ∷ 255 ∷ 255 ∷ 255 ∷ 255 ∷ 255 ∷ 255 ∷ 255 ∷ 255 ∷ 255 ∷ 3 ∷ 0 ∷ 2 ∷ 3 ∷ 255 ∷ 255 ∷ 255 ∷ 255 ∷ 255 ∷ 255 ∷ 255 ∷ 255 ∷ 255 ∷ 3 ∷ 1 ∷ 2 ∷ 3 ∷ 255 ∷ 255 ∷ 255 ∷ 255 ∷ 255 ∷ 255 ∷ 255 ∷ 255 ∷ 255 ∷ []) ++ faceBefore 788) ((15 ∷ 5 ∷ 216 ∷ []) ++ solidBefore 24)
-    ∷ wholly 8 (record { xyz = (pos 0 ∷ pos 0 ∷ pos 0 ∷ pos 6 ∷ pos 0 ∷ pos 0 ∷ pos 0 ∷ pos 6 ∷ pos 0 ∷ pos 0 ∷ pos 0 ∷ pos 6 ∷ pos 0 ∷ []); ends = (0 ∷ 1 ∷ 0 ∷ 2 ∷ 0 ∷ 3 ∷ 1 ∷ 2 ∷ 1 ∷ 3 ∷ 2 ∷ 3 ∷ []) }) 1000000 832 24
+    ∷ wholly 8 (record { xyz = (pos 0 ∷ pos 0 ∷ pos 0 ∷ pos 6 ∷ pos 0 ∷ pos 0 ∷ pos 0 ∷ pos 6 ∷ pos 0 ∷ pos 0 ∷ pos 0 ∷ pos 6 ∷ pos 0 ∷ []); ends = (0 ∷ 1 ∷ 0 ∷ 2 ∷ 0 ∷ 3 ∷ 1 ∷ 2 ∷ 1 ∷ 3 ∷ 2 ∷ 3 ∷ []) }) 0 832 24
     yields left (Conversion.Refused (record { number = 5; place = 0 })) (([]) ++ faceBefore 832) (([]) ++ solidBefore 24)
     ∷ []
 
@@ -46,11 +46,11 @@ hold1 = refl
 unfoldable pub rows2 : List Case
 unfolding text ofBits
 rows2 =
-    wholly 8 (record { xyz = (pos 0 ∷ pos 0 ∷ pos 0 ∷ pos 6 ∷ pos 0 ∷ pos 0 ∷ pos 0 ∷ pos 6 ∷ pos 0 ∷ pos 0 ∷ pos 0 ∷ pos 6 ∷ []); ends = (0 ∷ 1 ∷ 0 ∷ 2 ∷ 0 ∷ 3 ∷ 1 ∷ 2 ∷ 1 ∷ 3 ∷ 2 ∷ 3 ∷ 3 ∷ []) }) 1000000 832 24
+    wholly 8 (record { xyz = (pos 0 ∷ pos 0 ∷ pos 0 ∷ pos 6 ∷ pos 0 ∷ pos 0 ∷ pos 0 ∷ pos 6 ∷ pos 0 ∷ pos 0 ∷ pos 0 ∷ pos 6 ∷ []); ends = (0 ∷ 1 ∷ 0 ∷ 2 ∷ 0 ∷ 3 ∷ 1 ∷ 2 ∷ 1 ∷ 3 ∷ 2 ∷ 3 ∷ 3 ∷ []) }) 0 832 24
     yields left (Conversion.Refused (record { number = 5; place = 1 })) (([]) ++ faceBefore 832) (([]) ++ solidBefore 24)
-    ∷ wholly 8 (record { xyz = (pos 0 ∷ pos 0 ∷ pos 0 ∷ neg 1001 ∷ pos 0 ∷ pos 0 ∷ pos 0 ∷ pos 6 ∷ pos 0 ∷ pos 0 ∷ pos 0 ∷ pos 6 ∷ []); ends = (0 ∷ 1 ∷ 0 ∷ 2 ∷ 0 ∷ 3 ∷ 1 ∷ 2 ∷ 1 ∷ 3 ∷ 2 ∷ 3 ∷ []) }) 1000000 832 24
+    ∷ wholly 8 (record { xyz = (pos 0 ∷ pos 0 ∷ pos 0 ∷ neg 1001 ∷ pos 0 ∷ pos 0 ∷ pos 0 ∷ pos 6 ∷ pos 0 ∷ pos 0 ∷ pos 0 ∷ pos 6 ∷ []); ends = (0 ∷ 1 ∷ 0 ∷ 2 ∷ 0 ∷ 3 ∷ 1 ∷ 2 ∷ 1 ∷ 3 ∷ 2 ∷ 3 ∷ []) }) 0 832 24
     yields left (Conversion.Refused (record { number = 8; place = 3 })) (([]) ++ faceBefore 832) (([]) ++ solidBefore 24)
-    ∷ wholly 8 (record { xyz = (pos 0 ∷ pos 0 ∷ pos 0 ∷ pos 6 ∷ pos 0 ∷ pos 0 ∷ pos 0 ∷ pos 6 ∷ pos 0 ∷ []); ends = (0 ∷ 1 ∷ 0 ∷ 2 ∷ 0 ∷ 3 ∷ 1 ∷ 2 ∷ 1 ∷ 3 ∷ 2 ∷ 3 ∷ []) }) 1000000 832 24
+    ∷ wholly 8 (record { xyz = (pos 0 ∷ pos 0 ∷ pos 0 ∷ pos 6 ∷ pos 0 ∷ pos 0 ∷ pos 0 ∷ pos 6 ∷ pos 0 ∷ []); ends = (0 ∷ 1 ∷ 0 ∷ 2 ∷ 0 ∷ 3 ∷ 1 ∷ 2 ∷ 1 ∷ 3 ∷ 2 ∷ 3 ∷ []) }) 0 832 24
     yields left (Conversion.Refused (record { number = 5; place = 0 })) (([]) ++ faceBefore 832) (([]) ++ solidBefore 24)
     ∷ []
 
@@ -61,11 +61,11 @@ hold2 = refl
 unfoldable pub rows3 : List Case
 unfolding text ofBits
 rows3 =
-    wholly 8 (record { xyz = (pos 7 ∷ pos 8 ∷ pos 9 ∷ pos 7 ∷ pos 8 ∷ pos 9 ∷ pos 7 ∷ pos 8 ∷ pos 9 ∷ pos 7 ∷ pos 8 ∷ pos 9 ∷ pos 7 ∷ pos 8 ∷ pos 9 ∷ pos 7 ∷ pos 8 ∷ pos 9 ∷ pos 7 ∷ pos 8 ∷ pos 9 ∷ pos 7 ∷ pos 8 ∷ pos 9 ∷ pos 7 ∷ pos 8 ∷ pos 9 ∷ pos 7 ∷ pos 8 ∷ pos 9 ∷ pos 7 ∷ pos 8 ∷ pos 9 ∷ pos 7 ∷ pos 8 ∷ pos 9 ∷ pos 7 ∷ pos 8 ∷ pos 9 ∷ pos 7 ∷ pos 8 ∷ pos 9 ∷ pos 7 ∷ pos 8 ∷ pos 9 ∷ pos 7 ∷ pos 8 ∷ pos 9 ∷ pos 7 ∷ pos 8 ∷ pos 9 ∷ pos 7 ∷ pos 8 ∷ pos 9 ∷ pos 7 ∷ pos 8 ∷ pos 9 ∷ pos 7 ∷ pos 8 ∷ pos 9 ∷ pos 7 ∷ pos 8 ∷ pos 9 ∷ pos 7 ∷ pos 8 ∷ pos 9 ∷ pos 7 ∷ pos 8 ∷ pos 9 ∷ pos 7 ∷ pos 8 ∷ pos 9 ∷ pos 7 ∷ pos 8 ∷ pos 9 ∷ pos 7 ∷ pos 8 ∷ pos 9 ∷ pos 7 ∷ pos 8 ∷ pos 9 ∷ pos 7 ∷ pos 8 ∷ pos 9 ∷ pos 7 ∷ pos 8 ∷ pos 9 ∷ pos 7 ∷ pos 8 ∷ pos 9 ∷ pos 7 ∷ pos 8 ∷ pos 9 ∷ pos 7 ∷ pos 8 ∷ pos 9 ∷ pos 7 ∷ pos 8 ∷ pos 9 ∷ []); ends = (0 ∷ 1 ∷ 0 ∷ 2 ∷ 0 ∷ 3 ∷ 1 ∷ 2 ∷ 1 ∷ 3 ∷ 2 ∷ 3 ∷ []) }) 1000000 832 24
+    wholly 8 (record { xyz = (pos 7 ∷ pos 8 ∷ pos 9 ∷ pos 7 ∷ pos 8 ∷ pos 9 ∷ pos 7 ∷ pos 8 ∷ pos 9 ∷ pos 7 ∷ pos 8 ∷ pos 9 ∷ pos 7 ∷ pos 8 ∷ pos 9 ∷ pos 7 ∷ pos 8 ∷ pos 9 ∷ pos 7 ∷ pos 8 ∷ pos 9 ∷ pos 7 ∷ pos 8 ∷ pos 9 ∷ pos 7 ∷ pos 8 ∷ pos 9 ∷ pos 7 ∷ pos 8 ∷ pos 9 ∷ pos 7 ∷ pos 8 ∷ pos 9 ∷ pos 7 ∷ pos 8 ∷ pos 9 ∷ pos 7 ∷ pos 8 ∷ pos 9 ∷ pos 7 ∷ pos 8 ∷ pos 9 ∷ pos 7 ∷ pos 8 ∷ pos 9 ∷ pos 7 ∷ pos 8 ∷ pos 9 ∷ pos 7 ∷ pos 8 ∷ pos 9 ∷ pos 7 ∷ pos 8 ∷ pos 9 ∷ pos 7 ∷ pos 8 ∷ pos 9 ∷ pos 7 ∷ pos 8 ∷ pos 9 ∷ pos 7 ∷ pos 8 ∷ pos 9 ∷ pos 7 ∷ pos 8 ∷ pos 9 ∷ pos 7 ∷ pos 8 ∷ pos 9 ∷ pos 7 ∷ pos 8 ∷ pos 9 ∷ pos 7 ∷ pos 8 ∷ pos 9 ∷ pos 7 ∷ pos 8 ∷ pos 9 ∷ pos 7 ∷ pos 8 ∷ pos 9 ∷ pos 7 ∷ pos 8 ∷ pos 9 ∷ pos 7 ∷ pos 8 ∷ pos 9 ∷ pos 7 ∷ pos 8 ∷ pos 9 ∷ pos 7 ∷ pos 8 ∷ pos 9 ∷ pos 7 ∷ pos 8 ∷ pos 9 ∷ pos 7 ∷ pos 8 ∷ pos 9 ∷ []); ends = (0 ∷ 1 ∷ 0 ∷ 2 ∷ 0 ∷ 3 ∷ 1 ∷ 2 ∷ 1 ∷ 3 ∷ 2 ∷ 3 ∷ []) }) 0 832 24
     yields left (Conversion.Refused (record { number = 5; place = 0 })) (([]) ++ faceBefore 832) (([]) ++ solidBefore 24)
-    ∷ wholly 8 (record { xyz = (pos 0 ∷ pos 0 ∷ pos 0 ∷ pos 6 ∷ pos 0 ∷ pos 0 ∷ pos 0 ∷ pos 6 ∷ pos 0 ∷ pos 0 ∷ pos 0 ∷ pos 6 ∷ []); ends = (0 ∷ 1 ∷ 0 ∷ 2 ∷ 0 ∷ 3 ∷ 1 ∷ 2 ∷ 1 ∷ 3 ∷ []) }) 1000000 832 24
+    ∷ wholly 8 (record { xyz = (pos 0 ∷ pos 0 ∷ pos 0 ∷ pos 6 ∷ pos 0 ∷ pos 0 ∷ pos 0 ∷ pos 6 ∷ pos 0 ∷ pos 0 ∷ pos 0 ∷ pos 6 ∷ []); ends = (0 ∷ 1 ∷ 0 ∷ 2 ∷ 0 ∷ 3 ∷ 1 ∷ 2 ∷ 1 ∷ 3 ∷ []) }) 0 832 24
     yields left (Conversion.Refused (record { number = 5; place = 1 })) (([]) ++ faceBefore 832) (([]) ++ solidBefore 24)
-    ∷ wholly 8 (record { xyz = (pos 0 ∷ pos 0 ∷ pos 0 ∷ pos 6 ∷ pos 0 ∷ pos 0 ∷ pos 0 ∷ pos 6 ∷ pos 0 ∷ pos 0 ∷ pos 0 ∷ pos 6 ∷ []); ends = (0 ∷ 1 ∷ 0 ∷ 1 ∷ 0 ∷ 1 ∷ 0 ∷ 1 ∷ 0 ∷ 1 ∷ 0 ∷ 1 ∷ 0 ∷ 1 ∷ 0 ∷ 1 ∷ 0 ∷ 1 ∷ 0 ∷ 1 ∷ 0 ∷ 1 ∷ 0 ∷ 1 ∷ 0 ∷ 1 ∷ 0 ∷ 1 ∷ 0 ∷ 1 ∷ 0 ∷ 1 ∷ 0 ∷ 1 ∷ 0 ∷ 1 ∷ 0 ∷ 1 ∷ 0 ∷ 1 ∷ 0 ∷ 1 ∷ 0 ∷ 1 ∷ 0 ∷ 1 ∷ 0 ∷ 1 ∷ 0 ∷ 1 ∷ 0 ∷ 1 ∷ 0 ∷ 1 ∷ 0 ∷ 1 ∷ 0 ∷ 1 ∷ 0 ∷ 1 ∷ 0 ∷ 1 ∷ 0 ∷ 1 ∷ 0 ∷ 1 ∷ 0 ∷ 1 ∷ 0 ∷ 1 ∷ 0 ∷ 1 ∷ 0 ∷ 1 ∷ 0 ∷ 1 ∷ 0 ∷ 1 ∷ 0 ∷ 1 ∷ 0 ∷ 1 ∷ 0 ∷ 1 ∷ 0 ∷ 1 ∷ 0 ∷ 1 ∷ 0 ∷ 1 ∷ 0 ∷ 1 ∷ 0 ∷ 1 ∷ 0 ∷ 1 ∷ 0 ∷ 1 ∷ 0 ∷ 1 ∷ 0 ∷ 1 ∷ 0 ∷ 1 ∷ 0 ∷ 1 ∷ 0 ∷ 1 ∷ 0 ∷ 1 ∷ 0 ∷ 1 ∷ 0 ∷ 1 ∷ 0 ∷ 1 ∷ 0 ∷ 1 ∷ 0 ∷ 1 ∷ 0 ∷ 1 ∷ 0 ∷ 1 ∷ 0 ∷ 1 ∷ 0 ∷ 1 ∷ 0 ∷ 1 ∷ []) }) 1000000 832 24
+    ∷ wholly 8 (record { xyz = (pos 0 ∷ pos 0 ∷ pos 0 ∷ pos 6 ∷ pos 0 ∷ pos 0 ∷ pos 0 ∷ pos 6 ∷ pos 0 ∷ pos 0 ∷ pos 0 ∷ pos 6 ∷ []); ends = (0 ∷ 1 ∷ 0 ∷ 1 ∷ 0 ∷ 1 ∷ 0 ∷ 1 ∷ 0 ∷ 1 ∷ 0 ∷ 1 ∷ 0 ∷ 1 ∷ 0 ∷ 1 ∷ 0 ∷ 1 ∷ 0 ∷ 1 ∷ 0 ∷ 1 ∷ 0 ∷ 1 ∷ 0 ∷ 1 ∷ 0 ∷ 1 ∷ 0 ∷ 1 ∷ 0 ∷ 1 ∷ 0 ∷ 1 ∷ 0 ∷ 1 ∷ 0 ∷ 1 ∷ 0 ∷ 1 ∷ 0 ∷ 1 ∷ 0 ∷ 1 ∷ 0 ∷ 1 ∷ 0 ∷ 1 ∷ 0 ∷ 1 ∷ 0 ∷ 1 ∷ 0 ∷ 1 ∷ 0 ∷ 1 ∷ 0 ∷ 1 ∷ 0 ∷ 1 ∷ 0 ∷ 1 ∷ 0 ∷ 1 ∷ 0 ∷ 1 ∷ 0 ∷ 1 ∷ 0 ∷ 1 ∷ 0 ∷ 1 ∷ 0 ∷ 1 ∷ 0 ∷ 1 ∷ 0 ∷ 1 ∷ 0 ∷ 1 ∷ 0 ∷ 1 ∷ 0 ∷ 1 ∷ 0 ∷ 1 ∷ 0 ∷ 1 ∷ 0 ∷ 1 ∷ 0 ∷ 1 ∷ 0 ∷ 1 ∷ 0 ∷ 1 ∷ 0 ∷ 1 ∷ 0 ∷ 1 ∷ 0 ∷ 1 ∷ 0 ∷ 1 ∷ 0 ∷ 1 ∷ 0 ∷ 1 ∷ 0 ∷ 1 ∷ 0 ∷ 1 ∷ 0 ∷ 1 ∷ 0 ∷ 1 ∷ 0 ∷ 1 ∷ 0 ∷ 1 ∷ 0 ∷ 1 ∷ 0 ∷ 1 ∷ 0 ∷ 1 ∷ 0 ∷ 1 ∷ 0 ∷ 1 ∷ []) }) 0 832 24
     yields left (Conversion.Refused (record { number = 5; place = 1 })) (([]) ++ faceBefore 832) (([]) ++ solidBefore 24)
     ∷ []
 
@@ -76,11 +76,11 @@ hold3 = refl
 unfoldable pub rows4 : List Case
 unfolding text ofBits
 rows4 =
-    wholly 8 (record { xyz = (pos 0 ∷ pos 0 ∷ pos 0 ∷ pos 6 ∷ pos 0 ∷ pos 0 ∷ pos 0 ∷ pos 6 ∷ pos 0 ∷ pos 0 ∷ pos 0 ∷ pos 1001 ∷ []); ends = (0 ∷ 1 ∷ 0 ∷ 2 ∷ 0 ∷ 3 ∷ 1 ∷ 2 ∷ 1 ∷ 3 ∷ 2 ∷ 3 ∷ []) }) 1000000 832 24
+    wholly 8 (record { xyz = (pos 0 ∷ pos 0 ∷ pos 0 ∷ pos 6 ∷ pos 0 ∷ pos 0 ∷ pos 0 ∷ pos 6 ∷ pos 0 ∷ pos 0 ∷ pos 0 ∷ pos 1001 ∷ []); ends = (0 ∷ 1 ∷ 0 ∷ 2 ∷ 0 ∷ 3 ∷ 1 ∷ 2 ∷ 1 ∷ 3 ∷ 2 ∷ 3 ∷ []) }) 0 832 24
     yields left (Conversion.Refused (record { number = 8; place = 11 })) (([]) ++ faceBefore 832) (([]) ++ solidBefore 24)
-    ∷ wholly 8 (record { xyz = (pos 0 ∷ pos 0 ∷ pos 0 ∷ pos 6 ∷ pos 0 ∷ pos 0 ∷ pos 0 ∷ pos 6 ∷ pos 0 ∷ pos 0 ∷ pos 0 ∷ pos 6 ∷ []); ends = (0 ∷ 1 ∷ 0 ∷ 2 ∷ 0 ∷ 3 ∷ 1 ∷ 2 ∷ 1 ∷ 3 ∷ 2 ∷ 4 ∷ []) }) 1000000 832 24
+    ∷ wholly 8 (record { xyz = (pos 0 ∷ pos 0 ∷ pos 0 ∷ pos 6 ∷ pos 0 ∷ pos 0 ∷ pos 0 ∷ pos 6 ∷ pos 0 ∷ pos 0 ∷ pos 0 ∷ pos 6 ∷ []); ends = (0 ∷ 1 ∷ 0 ∷ 2 ∷ 0 ∷ 3 ∷ 1 ∷ 2 ∷ 1 ∷ 3 ∷ 2 ∷ 4 ∷ []) }) 0 832 24
     yields left (Conversion.Refused (record { number = 9; place = 5 })) (([]) ++ faceBefore 832) (([]) ++ solidBefore 24)
-    ∷ wholly 8 (record { xyz = (pos 0 ∷ pos 0 ∷ pos 0 ∷ pos 6 ∷ pos 0 ∷ pos 0 ∷ pos 0 ∷ pos 6 ∷ pos 0 ∷ pos 0 ∷ pos 0 ∷ pos 6 ∷ []); ends = (0 ∷ 1 ∷ 0 ∷ 2 ∷ 0 ∷ 3 ∷ 2 ∷ 1 ∷ 1 ∷ 3 ∷ 2 ∷ 3 ∷ []) }) 1000000 832 24
+    ∷ wholly 8 (record { xyz = (pos 0 ∷ pos 0 ∷ pos 0 ∷ pos 6 ∷ pos 0 ∷ pos 0 ∷ pos 0 ∷ pos 6 ∷ pos 0 ∷ pos 0 ∷ pos 0 ∷ pos 6 ∷ []); ends = (0 ∷ 1 ∷ 0 ∷ 2 ∷ 0 ∷ 3 ∷ 2 ∷ 1 ∷ 1 ∷ 3 ∷ 2 ∷ 3 ∷ []) }) 0 832 24
     yields left (Conversion.Refused (record { number = 9; place = 3 })) (([]) ++ faceBefore 832) (([]) ++ solidBefore 24)
     ∷ []
 
@@ -91,11 +91,11 @@ hold4 = refl
 unfoldable pub rows5 : List Case
 unfolding text ofBits
 rows5 =
-    wholly 8 (record { xyz = (pos 0 ∷ pos 0 ∷ pos 0 ∷ pos 6 ∷ pos 0 ∷ pos 0 ∷ pos 0 ∷ pos 6 ∷ pos 0 ∷ pos 0 ∷ pos 0 ∷ pos 6 ∷ []); ends = (0 ∷ 1 ∷ 0 ∷ 2 ∷ 0 ∷ 3 ∷ 1 ∷ 2 ∷ 1 ∷ 2 ∷ 2 ∷ 3 ∷ []) }) 1000000 832 24
+    wholly 8 (record { xyz = (pos 0 ∷ pos 0 ∷ pos 0 ∷ pos 6 ∷ pos 0 ∷ pos 0 ∷ pos 0 ∷ pos 6 ∷ pos 0 ∷ pos 0 ∷ pos 0 ∷ pos 6 ∷ []); ends = (0 ∷ 1 ∷ 0 ∷ 2 ∷ 0 ∷ 3 ∷ 1 ∷ 2 ∷ 1 ∷ 2 ∷ 2 ∷ 3 ∷ []) }) 0 832 24
     yields left (Conversion.Refused (record { number = 10; place = 4 })) (([]) ++ faceBefore 832) (([]) ++ solidBefore 24)
-    ∷ wholly 8 (record { xyz = (pos 0 ∷ pos 0 ∷ pos 0 ∷ pos 6 ∷ pos 0 ∷ pos 0 ∷ pos 0 ∷ pos 6 ∷ pos 0 ∷ pos 0 ∷ pos 0 ∷ pos 6 ∷ []); ends = (0 ∷ 1 ∷ 0 ∷ 3 ∷ 0 ∷ 2 ∷ 1 ∷ 2 ∷ 1 ∷ 3 ∷ 2 ∷ 3 ∷ []) }) 1000000 832 24
+    ∷ wholly 8 (record { xyz = (pos 0 ∷ pos 0 ∷ pos 0 ∷ pos 6 ∷ pos 0 ∷ pos 0 ∷ pos 0 ∷ pos 6 ∷ pos 0 ∷ pos 0 ∷ pos 0 ∷ pos 6 ∷ []); ends = (0 ∷ 1 ∷ 0 ∷ 3 ∷ 0 ∷ 2 ∷ 1 ∷ 2 ∷ 1 ∷ 3 ∷ 2 ∷ 3 ∷ []) }) 0 832 24
     yields left (Conversion.Refused (record { number = 10; place = 2 })) (([]) ++ faceBefore 832) (([]) ++ solidBefore 24)
-    ∷ wholly 8 (record { xyz = (pos 0 ∷ pos 0 ∷ pos 0 ∷ pos 6 ∷ pos 0 ∷ pos 0 ∷ pos 0 ∷ pos 6 ∷ pos 0 ∷ pos 0 ∷ pos 6 ∷ pos 0 ∷ []); ends = (0 ∷ 1 ∷ 0 ∷ 2 ∷ 0 ∷ 3 ∷ 1 ∷ 2 ∷ 1 ∷ 3 ∷ 2 ∷ 3 ∷ []) }) 1000000 832 24
+    ∷ wholly 8 (record { xyz = (pos 0 ∷ pos 0 ∷ pos 0 ∷ pos 6 ∷ pos 0 ∷ pos 0 ∷ pos 0 ∷ pos 6 ∷ pos 0 ∷ pos 0 ∷ pos 6 ∷ pos 0 ∷ []); ends = (0 ∷ 1 ∷ 0 ∷ 2 ∷ 0 ∷ 3 ∷ 1 ∷ 2 ∷ 1 ∷ 3 ∷ 2 ∷ 3 ∷ []) }) 0 832 24
     yields left (Conversion.Refused (record { number = 11; place = 2 })) (([]) ++ faceBefore 832) (([]) ++ solidBefore 24)
     ∷ []
 
@@ -106,11 +106,11 @@ hold5 = refl
 unfoldable pub rows6 : List Case
 unfolding text ofBits
 rows6 =
-    wholly 8 (record { xyz = (pos 0 ∷ pos 0 ∷ pos 0 ∷ pos 6 ∷ pos 0 ∷ pos 0 ∷ pos 0 ∷ pos 6 ∷ pos 0 ∷ pos 0 ∷ pos 0 ∷ pos 6 ∷ pos 9 ∷ pos 9 ∷ pos 9 ∷ []); ends = (0 ∷ 1 ∷ 0 ∷ 2 ∷ 0 ∷ 3 ∷ 1 ∷ 2 ∷ 1 ∷ 3 ∷ 2 ∷ 3 ∷ []) }) 1000000 832 24
+    wholly 8 (record { xyz = (pos 0 ∷ pos 0 ∷ pos 0 ∷ pos 6 ∷ pos 0 ∷ pos 0 ∷ pos 0 ∷ pos 6 ∷ pos 0 ∷ pos 0 ∷ pos 0 ∷ pos 6 ∷ pos 9 ∷ pos 9 ∷ pos 9 ∷ []); ends = (0 ∷ 1 ∷ 0 ∷ 2 ∷ 0 ∷ 3 ∷ 1 ∷ 2 ∷ 1 ∷ 3 ∷ 2 ∷ 3 ∷ []) }) 0 832 24
     yields left (Conversion.Refused (record { number = 12; place = 4 })) (([]) ++ faceBefore 832) (([]) ++ solidBefore 24)
-    ∷ wholly 8 (record { xyz = (pos 0 ∷ pos 0 ∷ pos 0 ∷ pos 6 ∷ pos 0 ∷ pos 0 ∷ pos 0 ∷ pos 6 ∷ pos 0 ∷ pos 6 ∷ pos 6 ∷ pos 0 ∷ []); ends = (0 ∷ 1 ∷ 0 ∷ 2 ∷ 0 ∷ 3 ∷ 1 ∷ 2 ∷ 1 ∷ 3 ∷ 2 ∷ 3 ∷ []) }) 1000000 832 24
+    ∷ wholly 8 (record { xyz = (pos 0 ∷ pos 0 ∷ pos 0 ∷ pos 6 ∷ pos 0 ∷ pos 0 ∷ pos 0 ∷ pos 6 ∷ pos 0 ∷ pos 6 ∷ pos 6 ∷ pos 0 ∷ []); ends = (0 ∷ 1 ∷ 0 ∷ 2 ∷ 0 ∷ 3 ∷ 1 ∷ 2 ∷ 1 ∷ 3 ∷ 2 ∷ 3 ∷ []) }) 0 832 24
     yields left (Conversion.Refused (record { number = 13; place = 2 })) (([]) ++ faceBefore 832) (([]) ++ solidBefore 24)
-    ∷ wholly 8 (record { xyz = (pos 0 ∷ pos 0 ∷ pos 0 ∷ pos 6 ∷ pos 0 ∷ pos 0 ∷ pos 0 ∷ pos 6 ∷ pos 0 ∷ pos 0 ∷ pos 0 ∷ pos 6 ∷ pos 50 ∷ pos 60 ∷ pos 70 ∷ pos 56 ∷ pos 60 ∷ pos 70 ∷ pos 50 ∷ pos 66 ∷ pos 70 ∷ pos 50 ∷ pos 60 ∷ pos 76 ∷ []); ends = (0 ∷ 1 ∷ 0 ∷ 2 ∷ 0 ∷ 3 ∷ 1 ∷ 2 ∷ 1 ∷ 3 ∷ 2 ∷ 3 ∷ 4 ∷ 5 ∷ 4 ∷ 6 ∷ 4 ∷ 7 ∷ 5 ∷ 6 ∷ 5 ∷ 7 ∷ 6 ∷ 7 ∷ []) }) 1000000 832 24
+    ∷ wholly 8 (record { xyz = (pos 0 ∷ pos 0 ∷ pos 0 ∷ pos 6 ∷ pos 0 ∷ pos 0 ∷ pos 0 ∷ pos 6 ∷ pos 0 ∷ pos 0 ∷ pos 0 ∷ pos 6 ∷ pos 50 ∷ pos 60 ∷ pos 70 ∷ pos 56 ∷ pos 60 ∷ pos 70 ∷ pos 50 ∷ pos 66 ∷ pos 70 ∷ pos 50 ∷ pos 60 ∷ pos 76 ∷ []); ends = (0 ∷ 1 ∷ 0 ∷ 2 ∷ 0 ∷ 3 ∷ 1 ∷ 2 ∷ 1 ∷ 3 ∷ 2 ∷ 3 ∷ 4 ∷ 5 ∷ 4 ∷ 6 ∷ 4 ∷ 7 ∷ 5 ∷ 6 ∷ 5 ∷ 7 ∷ 6 ∷ 7 ∷ []) }) 0 832 24
     yields left (Conversion.Refused (record { number = 14; place = 4 })) (([]) ++ faceBefore 832) (([]) ++ solidBefore 24)
     ∷ []
 
@@ -121,9 +121,9 @@ hold6 = refl
 unfoldable pub rows7 : List Case
 unfolding text ofBits
 rows7 =
-    wholly 8 (record { xyz = (pos 0 ∷ pos 1 ∷ pos 0 ∷ pos 2 ∷ pos 1 ∷ pos 0 ∷ pos 3 ∷ pos 3 ∷ pos 0 ∷ pos 4 ∷ pos 0 ∷ pos 0 ∷ pos 2 ∷ pos 3 ∷ pos 0 ∷ pos 1 ∷ pos 6 ∷ pos 0 ∷ pos 3 ∷ pos 1 ∷ pos 0 ∷ pos 4 ∷ pos 5 ∷ pos 0 ∷ []); ends = (0 ∷ 1 ∷ 0 ∷ 3 ∷ 0 ∷ 5 ∷ 1 ∷ 4 ∷ 1 ∷ 5 ∷ 1 ∷ 6 ∷ 2 ∷ 3 ∷ 2 ∷ 5 ∷ 2 ∷ 6 ∷ 2 ∷ 7 ∷ 3 ∷ 6 ∷ 3 ∷ 7 ∷ 4 ∷ 5 ∷ 4 ∷ 6 ∷ 5 ∷ 6 ∷ 5 ∷ 7 ∷ []) }) 1000000 832 24
+    wholly 8 (record { xyz = (pos 0 ∷ pos 1 ∷ pos 0 ∷ pos 2 ∷ pos 1 ∷ pos 0 ∷ pos 3 ∷ pos 3 ∷ pos 0 ∷ pos 4 ∷ pos 0 ∷ pos 0 ∷ pos 2 ∷ pos 3 ∷ pos 0 ∷ pos 1 ∷ pos 6 ∷ pos 0 ∷ pos 3 ∷ pos 1 ∷ pos 0 ∷ pos 4 ∷ pos 5 ∷ pos 0 ∷ []); ends = (0 ∷ 1 ∷ 0 ∷ 3 ∷ 0 ∷ 5 ∷ 1 ∷ 4 ∷ 1 ∷ 5 ∷ 1 ∷ 6 ∷ 2 ∷ 3 ∷ 2 ∷ 5 ∷ 2 ∷ 6 ∷ 2 ∷ 7 ∷ 3 ∷ 6 ∷ 3 ∷ 7 ∷ 4 ∷ 5 ∷ 4 ∷ 6 ∷ 5 ∷ 6 ∷ 5 ∷ 7 ∷ []) }) 0 832 24
     yields left (Conversion.Refused (record { number = 15; place = 0 })) (([]) ++ faceBefore 832) (([]) ++ solidBefore 24)
-    ∷ wholly 8 (record { xyz = (neg 4 ∷ pos 16 ∷ neg 64 ∷ neg 3 ∷ pos 9 ∷ neg 27 ∷ neg 2 ∷ pos 4 ∷ neg 8 ∷ neg 1 ∷ pos 1 ∷ neg 1 ∷ pos 0 ∷ pos 0 ∷ pos 0 ∷ pos 1 ∷ pos 1 ∷ pos 1 ∷ pos 2 ∷ pos 4 ∷ pos 8 ∷ pos 3 ∷ pos 9 ∷ pos 27 ∷ pos 4 ∷ pos 16 ∷ pos 64 ∷ []); ends = (0 ∷ 2 ∷ 0 ∷ 3 ∷ 0 ∷ 4 ∷ 0 ∷ 5 ∷ 0 ∷ 6 ∷ 0 ∷ 7 ∷ 0 ∷ 8 ∷ 1 ∷ 3 ∷ 1 ∷ 4 ∷ 1 ∷ 5 ∷ 1 ∷ 6 ∷ 1 ∷ 7 ∷ 1 ∷ 8 ∷ 2 ∷ 4 ∷ 2 ∷ 5 ∷ 2 ∷ 6 ∷ 2 ∷ 7 ∷ 2 ∷ 8 ∷ 3 ∷ 4 ∷ 3 ∷ 5 ∷ 3 ∷ 6 ∷ 3 ∷ 7 ∷ 3 ∷ 8 ∷ 4 ∷ 5 ∷ 4 ∷ 6 ∷ 4 ∷ 7 ∷ 4 ∷ 8 ∷ 5 ∷ 6 ∷ 5 ∷ 7 ∷ 5 ∷ 8 ∷ 6 ∷ 7 ∷ 6 ∷ 8 ∷ 7 ∷ 8 ∷ []) }) 1000000 832 24
+    ∷ wholly 8 (record { xyz = (neg 4 ∷ pos 16 ∷ neg 64 ∷ neg 3 ∷ pos 9 ∷ neg 27 ∷ neg 2 ∷ pos 4 ∷ neg 8 ∷ neg 1 ∷ pos 1 ∷ neg 1 ∷ pos 0 ∷ pos 0 ∷ pos 0 ∷ pos 1 ∷ pos 1 ∷ pos 1 ∷ pos 2 ∷ pos 4 ∷ pos 8 ∷ pos 3 ∷ pos 9 ∷ pos 27 ∷ pos 4 ∷ pos 16 ∷ pos 64 ∷ []); ends = (0 ∷ 2 ∷ 0 ∷ 3 ∷ 0 ∷ 4 ∷ 0 ∷ 5 ∷ 0 ∷ 6 ∷ 0 ∷ 7 ∷ 0 ∷ 8 ∷ 1 ∷ 3 ∷ 1 ∷ 4 ∷ 1 ∷ 5 ∷ 1 ∷ 6 ∷ 1 ∷ 7 ∷ 1 ∷ 8 ∷ 2 ∷ 4 ∷ 2 ∷ 5 ∷ 2 ∷ 6 ∷ 2 ∷ 7 ∷ 2 ∷ 8 ∷ 3 ∷ 4 ∷ 3 ∷ 5 ∷ 3 ∷ 6 ∷ 3 ∷ 7 ∷ 3 ∷ 8 ∷ 4 ∷ 5 ∷ 4 ∷ 6 ∷ 4 ∷ 7 ∷ 4 ∷ 8 ∷ 5 ∷ 6 ∷ 5 ∷ 7 ∷ 5 ∷ 8 ∷ 6 ∷ 7 ∷ 6 ∷ 8 ∷ 7 ∷ 8 ∷ []) }) 0 832 24
     yields left (Conversion.Refused (record { number = 16; place = 0 })) (([]) ++ faceBefore 832) (([]) ++ solidBefore 24)
     ∷ wholly 8 (record { xyz = (pos 2 ∷ pos 3 ∷ pos 0 ∷ pos 4 ∷ pos 5 ∷ pos 0 ∷ pos 6 ∷ pos 0 ∷ pos 0 ∷ pos 0 ∷ pos 4 ∷ pos 0 ∷ pos 5 ∷ pos 5 ∷ pos 0 ∷ pos 4 ∷ pos 4 ∷ pos 0 ∷ pos 5 ∷ pos 6 ∷ pos 0 ∷ pos 2 ∷ pos 2 ∷ pos 0 ∷ []); ends = (0 ∷ 1 ∷ 0 ∷ 3 ∷ 0 ∷ 7 ∷ 1 ∷ 3 ∷ 1 ∷ 5 ∷ 1 ∷ 6 ∷ 1 ∷ 7 ∷ 2 ∷ 4 ∷ 2 ∷ 5 ∷ 2 ∷ 6 ∷ 2 ∷ 7 ∷ 3 ∷ 6 ∷ 3 ∷ 7 ∷ 4 ∷ 5 ∷ 4 ∷ 6 ∷ 5 ∷ 6 ∷ []) }) 1000000 832 24
     yields left (Conversion.NoSolid 128 9 0) (([]) ++ faceBefore 832) (([]) ++ solidBefore 24)

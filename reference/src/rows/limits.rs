@@ -30,7 +30,8 @@ fn drawings() -> Vec<Object> {
     let drawn = |cap: usize, d: Drawing, limit: u64| converted(cap, &lent(d.lists(), limit, FACE_ROOM, SOLID_ROOM));
     let entry = [(1_000_001, 831, 24), (1_000_001, 832, 23), (0, 831, 23), (1_000_001, 832, 24), (1_000_000, 840, 27)];
     let entry = entry.map(|(limit, faces, solids)| converted(8, &lent(tetrahedron().lists(), limit, faces, solids)));
-    let refused = refused_lists().into_iter().map(|lists| converted(8, &lent(lists, MOST_WORK, FACE_ROOM, SOLID_ROOM)));
+    // under limit 0, so that a definition without the refusal can be told: a proof can't walk 65 candidates
+    let refused = refused_lists().into_iter().map(|lists| converted(8, &lent(lists, 0, FACE_ROOM, SOLID_ROOM)));
     let at_limits = [
         drawn(8, flat_128(), MOST_WORK),
         drawn(8, all_but_three(false), 0),
