@@ -1,0 +1,4 @@
+-- Laws of the report. Assumes nothing.
+pub mod Copying
+pub mod Reporting
+pub mod Concluding

@@ -1,0 +1,40 @@
+-- `report::room::copy_bytes`: the loop keeps that the first i bytes are copied. Assumes nothing.
+use Prim.Native.Nat.{_-_}
+use native.Mathlib.Omega.{arith}
+use Rattle.report.proofs.Copying.{Copying, copying-start, copying-long, copying-more, copying-end}
+use Rattle.report.proofs.room.copy_bytes.Statement.{statement}
+use Rattle.report.proofs.room.copy_bytes.Tie as tie
+
+abbrev Inv-loop : tie.InvT-loop
+Inv-loop bytes m room₀ i₀ room i = Copying m bytes room₀ room i
+
+abbrev μ-loop : tie.MeasureT-loop
+μ-loop bytes m room₀ i₀ room i = m - i
+
+loop-holds : tie.Need-loop-holds Inv-loop μ-loop
+loop-holds c = copying-start
+
+shared-slice-read-room : tie.Need-shared-slice-read-room Inv-loop μ-loop
+shared-slice-read-room c = let at = c .before .before in omega (arith, at .before .pre .there)
+
+slice-write-room : tie.Need-slice-write-room Inv-loop μ-loop
+slice-write-room c = let at = c .before .before in omega (arith, copying-long (at .loop .inv) (at .before .pre), at .before .pre .fits)
+
+add-i : tie.Need-add-i Inv-loop μ-loop
+add-i c = omega arith
+
+loop-less : tie.Need-loop-less Inv-loop μ-loop
+loop-less c = omega arith
+
+loop-again : tie.Need-loop-again Inv-loop μ-loop
+loop-again c = let at = c .before .before in copying-more (at .loop .inv) (at .before .pre) (omega arith)
+
+same-length : tie.Need-same-length Inv-loop μ-loop
+same-length c = let at = c .before in copying-long (at .loop .inv) (at .before .pre)
+
+returns : tie.Need-returns Inv-loop μ-loop
+returns c = copying-end (c .before .loop .inv) (omega arith)
+
+pub copy-bytes-spec : {M : Type 1} → statement M
+copy-bytes-spec =
+    tie.close (tie.spec Inv-loop μ-loop loop-holds shared-slice-read-room slice-write-room add-i loop-less loop-again same-length returns)
