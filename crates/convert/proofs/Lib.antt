@@ -1,0 +1,3 @@
+-- Laws behind the contracts of this crate. Assumes nothing.
+pub mod Walking
+pub mod Converting

@@ -1,0 +1,90 @@
+-- `convert::walked::walk_drawing`: rooms with nothing in them are lent to the tables, and the tables to the walk. Assumes nothing.
+use mathlib.Core.Path.{_≡_, refl, subst}
+use borrow.Author.Needs.{needs}
+use denote.Ref.{now}
+use Rattle.tables.specs.Tables.{TabledIs, Ready}
+use Rattle.tables.specs.declared.Tabled.{Tabled}
+use Rattle.tables.specs.declared.Tabled.the-variants as T
+use Rattle.tables.proofs.Listing.{all-same}
+use Rattle.convert.proofs.Walking.{no-sixes, searching, done}
+use Rattle.convert.proofs.walked.walk_drawing.Statement.{statement}
+use Rattle.convert.proofs.walked.walk_drawing.Tie as tie
+
+-- ---- the ways back: from the walk to the tables, and to the start
+
+abbrev ready : tie.After-search-arg → tie.After-tabled2
+ready c = c .before .before .before .before .before .before .before
+
+abbrev made : tie.After-tabled2 → tie.After-tables
+made c = c .before .before
+
+abbrev start : tie.After-tables → tie.Start
+start c = c .before .before .before .before .before .before .before .before
+
+-- what was promised of the tables, once it is known which it is
+said : (c : tie.After-tables) (v : Tabled) → c .tables .result ≡ v
+    → let a = start c .args in
+    let l = c .tables .last .1 .1 in
+    TabledIs (now (a .xyz)) (now (a .ends)) (now (a .rows)) (l .0) (l .1 .0) (l .1 .1 .0) (l .1 .1 .1 .0) (l .1 .1 .1 .1 .0)
+    (l .1 .1 .1 .1 .1 .0) v
+said c v e =
+    let a = start c .args in
+    let l = c .tables .last .1 .1 in
+    subst
+    (TabledIs (now (a .xyz)) (now (a .ends)) (now (a .rows)) (l .0) (l .1 .0) (l .1 .1 .0) (l .1 .1 .1 .0) (l .1 .1 .1 .1 .0)
+    (l .1 .1 .1 .1 .1 .0))
+    e (c .tables .ensures)
+
+tabled : (c : tie.After-tabled2)
+    → let a = start (made c) .args in
+    let l = made c .tables .last .1 .1 in
+    Ready (now (a .xyz)) (now (a .ends)) (now (a .rows)) (l .0) (l .1 .0) (l .1 .1 .0) (l .1 .1 .1 .0) (l .1 .1 .1 .1 .0)
+    (l .1 .1 .1 .1 .1 .0) (c .tabled2 .given .0 .0)
+tabled c = said (made c) (T.Ready (c .tabled2 .given .0 .0)) (c .tabled2 .given .1)
+
+-- ---- the needs
+
+tables-requires : tie.Need-tables-requires
+tables-requires c κs =
+    let p = c .before .before .before .before .before .before .before .pre in
+    record {
+      passed = p .passed;
+      row-room = p .row-room;
+      on-clear = record { room-is = refl; none = all-same 0 64 };
+      up-clear = record { room-is = refl; none = all-same 0 64 };
+      side-room = refl;
+      no-side = all-same 0 64;
+      clash-room = refl;
+      no-clash = all-same 0 64;
+      six-room = refl;
+      small = no-sixes;
+    }
+
+enum-known-tabled : tie.Need-enum-known-tabled
+enum-known-tabled c = search needs
+
+enum-known-tabled-2 : tie.Need-enum-known-tabled-2
+enum-known-tabled-2 c = search needs
+
+search-requires : tie.Need-search-requires
+search-requires c κs =
+    let r = ready c in
+    let p = start (made r) .pre in
+    searching (tabled r) (p .passed) (p .word-room)
+
+returns : tie.Need-returns
+returns c = said (c .before .before .before) (T.Refused (c .before .tabled .given .0 .0)) (c .before .tabled .given .1)
+
+returns-2 : tie.Need-returns-2
+returns-2 c = done (tabled (ready (c .before))) (c .search .ensures)
+
+pub walk-drawing-spec : {M : Type 1} → statement M
+walk-drawing-spec =
+    tie.close
+    (tie.spec
+    tables-requires
+    enum-known-tabled
+    enum-known-tabled-2
+    search-requires
+    returns
+    returns-2)
