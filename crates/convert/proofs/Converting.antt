@@ -5,16 +5,13 @@ use Prim.Native.Nat.{ℕ, _≤_, _<_}
 use native.Mathlib.Omega.{arith}
 use borrow.Author.Tests.{lt-ltb, le-ltb, ltb-false}
 use lib.Dec.{ltb}
-use lib.IntN.{ℤ}
 use lib.ListN.{length}
 use Rattle.paper.specs.Numbers.{mostSolids, mostWork, faceRoom, solidRoom}
 use Rattle.paper.specs.Refusals as No
 use Rattle.paper.specs.Refusals.{Check, firstOf, refuse}
-use Rattle.paper.specs.Format.{editionOne}
-use Rattle.paper.specs.Sheet.{lentChecks}
-use Rattle.paper.specs.Drawing.{Wire, wire, drawingChecks}
+use Rattle.paper.specs.Drawing.{Wire, drawingChecks}
 use Rattle.paper.specs.Loops.{loops, candidates, loopChecks}
-use Rattle.paper.specs.Conversion.{Converted, entryChecks, orConvert, concluded, conversion, convertLists}
+use Rattle.paper.specs.Conversion.{Converted, entryChecks, orConvert, concluded, conversion}
 use Rattle.paper.specs.Reading.{conversionSays}
 use Rattle.paper.specs.declared.Answer.{Answer}
 use Rattle.paper.specs.declared.Answer.the-variants as Answer
@@ -29,7 +26,7 @@ use Rattle.tables.specs.Tables.{checksOf}
 use Rattle.tables.specs.declared.rows.Counts.{Counts}
 use Rattle.walk.specs.declared.tally.Tally.{Tally}
 use Rattle.convert.specs.Walked.{tablesIn, logOf, Done}
-use Rattle.convert.specs.Converts.{leaves, Entered, behind, Converts}
+use Rattle.convert.specs.Converts.{leaves, Entered, behind}
 
 -- ---- 1 and 2
 
@@ -120,29 +117,25 @@ roomy-enough limit faces solids ok =
     let s = passed No.NoRoom 1 {b = ltb (length solids) solidRoom} _ (f .1) in
     (ltb-false (length faces) faceRoom (f .0), ltb-false (length solids) solidRoom (s .0))
 
--- ---- of lent lists: what is left in the rooms, and what is said
+-- ---- what is left in the rooms, and what is said
 
-says : {r : Conversion} {faces solids : List ℕ} (c : Converted) → leaves r faces solids ≡ c
-    → (leaves r faces solids ≡ c) × (conversionSays r ≡ conversionSays (c .answer))
-says c e = (e, ap (λ (x : Converted). conversionSays (x .answer)) e)
-
-module _ (xyz : List ℤ) (ends : List ℕ) (limit : ℕ) (faces₀ solids₀ : List ℕ) where
-  abbrev Left : Conversion → List ℕ → List ℕ → Type 0
+module _ (form : List Check) (d : Wire) (limit : ℕ) (faces₀ solids₀ : List ℕ) where
+  abbrev pub Left : Conversion → List ℕ → List ℕ → Type 0
   Left r faces solids =
-      (leaves r faces solids ≡ convertLists xyz ends limit faces₀ solids₀)
-      × (conversionSays r ≡ conversionSays (convertLists xyz ends limit faces₀ solids₀ .answer))
+      (leaves r faces solids ≡ conversion mostSolids form d limit faces₀ solids₀)
+      × (conversionSays r ≡ conversionSays (conversion mostSolids form d limit faces₀ solids₀ .answer))
 
-  pub lists-stop : {r : Refusal} → Answer.Refused r ≡ firstOf (entryChecks limit faces₀ solids₀) → Left (Conversion.Refused r) faces₀ solids₀
-  unfolding convertLists
-  lists-stop e = says _ (stops-at-entry (lentChecks editionOne xyz ends) (wire xyz ends) limit faces₀ solids₀ e)
+  says : {r : Conversion} {faces solids : List ℕ} → leaves r faces solids ≡ conversion mostSolids form d limit faces₀ solids₀
+      → Left r faces solids
+  says e = (e, ap (λ (x : Converted). conversionSays (x .answer)) e)
+
+  pub stopped : {r : Refusal} → Answer.Refused r ≡ firstOf (entryChecks limit faces₀ solids₀) → Left (Conversion.Refused r) faces₀ solids₀
+  stopped e = says (stops-at-entry form d limit faces₀ solids₀ e)
 
   module _ (ok : Answer.Fine ≡ firstOf (entryChecks limit faces₀ solids₀)) where
-    pub lists-stop-at-form : {r : Refusal} → Answer.Refused r ≡ firstOf (lentChecks editionOne xyz ends)
-        → Left (Conversion.Refused r) faces₀ solids₀
-    unfolding convertLists
-    lists-stop-at-form e = says _ (stops-at-form (lentChecks editionOne xyz ends) (wire xyz ends) limit faces₀ solids₀ ok e)
+    pub stopped-at-form : {r : Refusal} → Answer.Refused r ≡ firstOf form → Left (Conversion.Refused r) faces₀ solids₀
+    stopped-at-form e = says (stops-at-form form d limit faces₀ solids₀ ok e)
 
-    pub lists-go : {r : Conversion} {faces solids : List ℕ} → Answer.Fine ≡ firstOf (lentChecks editionOne xyz ends)
-        → Converts xyz ends limit faces₀ faces solids₀ solids r → Left r faces solids
-    unfolding convertLists
-    lists-go e w = says _ (w ∙ goes-behind (lentChecks editionOne xyz ends) (wire xyz ends) limit faces₀ solids₀ ok e)
+    pub gone-behind : {r : Conversion} {faces solids : List ℕ} → Answer.Fine ≡ firstOf form
+        → leaves r faces solids ≡ behind d limit faces₀ solids₀ → Left r faces solids
+    gone-behind e w = says (w ∙ goes-behind form d limit faces₀ solids₀ ok e)

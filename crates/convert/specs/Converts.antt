@@ -1,9 +1,9 @@
 -- What a conversion says and leaves in the two rooms. Assumes nothing.
 use mathlib.Core.List.{List}
 use mathlib.Core.Path.{_≡_}
-use Prim.Native.Nat.{ℕ, _≤_}
+use Prim.Native.Nat.{ℕ, _*_, _≤_}
 use lib.IntN.{ℤ}
-use lib.ListN.{length}
+use lib.ListN.{length, take}
 use Rattle.paper.specs.Numbers.{faceRoom, solidRoom}
 use Rattle.paper.specs.Refusals.{firstOf}
 use Rattle.paper.specs.Format.{editionOne}
@@ -14,6 +14,8 @@ use Rattle.paper.specs.Conversion.{Converted, entryChecks, orConvert, concluded
 use Rattle.paper.specs.declared.Answer.{Answer}
 use Rattle.paper.specs.declared.Answer.the-variants.{Fine}
 use Rattle.paper.specs.declared.Conversion.{Conversion}
+use Rattle.paper.specs.declared.Drawing.{Drawing}
+use Rattle.paper_laws.specs.InRange.{Held}
 use Rattle.tables.specs.Tables.{checksOf}
 use Rattle.convert.specs.Walked.{tablesIn, logOf}
 
@@ -40,3 +42,16 @@ pub record Converting (xyz : List ℤ) (ends faces solids : List ℕ) : Type 0 w
 
 abbrev pub Converts : List ℤ → List ℕ → ℕ → List ℕ → List ℕ → List ℕ → List ℕ → Conversion → Type 0
 Converts xyz ends limit faces₀ faces solids₀ solids r = leaves r faces solids ≡ behind (wire xyz ends) limit faces₀ solids₀
+
+-- ---- the same of a drawing by value
+
+-- its two lists
+abbrev pub pointsOf : Drawing → List ℤ
+pointsOf d = take (3 * d .vertices) (d .xyz)
+
+abbrev pub linksOf : Drawing → List ℕ
+linksOf d = take (2 * d .edges) (d .ends)
+
+pub record DrawingAt (d : Drawing) (faces solids : List ℕ) : Type 0 where
+  pub held : Held d
+  pub lists : Converting (pointsOf d) (linksOf d) faces solids

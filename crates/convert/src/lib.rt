@@ -2,13 +2,14 @@
 mod walked;
 
 ghost use mathlib.Core.Path.{_≡_};
-ghost use Rattle.paper.specs.Conversion.{convertLists};
+ghost use Rattle.paper.specs.Conversion.{convertLists, convertSheet};
 ghost use Rattle.paper.specs.Reading.{conversionSays};
-ghost use Rattle.convert.specs.Converts.{leaves, Entered, Converting, Converts};
+ghost use Rattle.convert.specs.Converts.{leaves, Entered, Converting, Converts, pointsOf, linksOf, DrawingAt};
 use drawing_lists::lend::lent;
 use paper::Answer;
 use paper::BAD_LIMIT;
 use paper::Conversion;
+use paper::Drawing;
 use paper::FACE_ROOM;
 use paper::FILL;
 use paper::MOST_WORK;
@@ -17,6 +18,7 @@ use paper::SOLID_ROOM;
 use paper_values::edition_one;
 use paper_values::refused;
 use report::concluded;
+use sheet_reader::read_sheet;
 use walked::Walked;
 use walked::walk_drawing;
 
@@ -81,4 +83,38 @@ pub fn convert(
         Answer::Fine => {}
     }
     converted(xyz, ends, limit, faces, solids)
+}
+
+// The same of a drawing by value, whose arrays have its lists in front.
+fn drawing_converted(d: Drawing, limit: u64, faces: &mut [u8], solids: &mut [u64]) -> Conversion
+    requires { ⌜ DrawingAt d (now faces) (now solids) ⌝ }
+    ensures { λ r. ⌜ Converts (pointsOf d) (linksOf d) limit (now (faces .entry)) (now (faces .exit)) (now (solids .entry))
+        (now (solids .exit)) r ⌝ }
+{
+    let xyz = d.xyz;
+    let ends = d.ends;
+    let m = 3 * d.vertices;
+    let n = 2 * d.edges;
+    converted(&xyz[..m], &ends[..n], limit, faces, solids)
+}
+
+// Converts a sheet: refusals 1 to 19, or a report in the two rooms.
+pub fn convert_sheet(sheet: &[u8], limit: u64, faces: &mut [u8], solids: &mut [u64]) -> Conversion
+    ensures result { λ r. ⌜ leaves r (now (faces .exit)) (now (solids .exit))
+        ≡ convertSheet (now (sheet .entry)) limit (now (faces .entry)) (now (solids .entry)) ⌝ }
+    ensures said { λ r. ⌜ conversionSays r
+        ≡ conversionSays (convertSheet (now (sheet .entry)) limit (now (faces .entry)) (now (solids .entry)) .answer) ⌝ }
+{
+    let entry = entered(limit, faces.len(), solids.len());
+    match entry {
+        Answer::Refused(r) => return Conversion::Refused(r),
+        Answer::Fine => {}
+    }
+    let read = read_sheet(sheet);
+    let form = read.answer;
+    match form {
+        Answer::Refused(r) => return Conversion::Refused(r),
+        Answer::Fine => {}
+    }
+    drawing_converted(read.drawing, limit, faces, solids)
 }

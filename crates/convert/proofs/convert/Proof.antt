@@ -5,9 +5,10 @@ use denote.Ref.{now}
 use Rattle.paper.specs.Refusals.{firstOf}
 use Rattle.paper.specs.Format.{editionOne}
 use Rattle.paper.specs.Sheet.{lentChecks}
-use Rattle.paper.specs.Conversion.{entryChecks}
+use Rattle.paper.specs.Drawing.{wire}
+use Rattle.paper.specs.Conversion.{entryChecks, convertLists}
 use Rattle.paper.specs.declared.Format.{Format}
-use Rattle.convert.proofs.Converting.{lists-stop, lists-stop-at-form, lists-go, roomy-enough}
+use Rattle.convert.proofs.Converting.{stopped, stopped-at-form, gone-behind, roomy-enough}
 use Rattle.convert.proofs.convert.Statement.{statement}
 use Rattle.convert.proofs.convert.Tie as tie
 
@@ -47,10 +48,11 @@ enum-known-entry : tie.Need-enum-known-entry
 enum-known-entry c = search needs
 
 returns : tie.Need-returns
+unfolding convertLists
 returns c =
     let n = c .before .before .before in
     let a = n .before .before .before .before .args in
-    lists-stop (now (a .xyz)) (now (a .ends)) (a .limit) (now (a .faces)) (now (a .solids))
+    stopped (lentChecks editionOne (now (a .xyz)) (now (a .ends))) (wire (now (a .xyz)) (now (a .ends))) (a .limit) (now (a .faces)) (now (a .solids))
     (sym (c .before .entry .given .1) ∙ entry-is n)
 
 enum-told : tie.Need-enum-told
@@ -66,11 +68,12 @@ enum-known-form : tie.Need-enum-known-form
 enum-known-form c = search needs
 
 returns-2 : tie.Need-returns-2
+unfolding convertLists
 returns-2 c =
     let l = c .before .before .before in
     let n = entered l in
     let a = start n .args in
-    lists-stop-at-form (now (a .xyz)) (now (a .ends)) (a .limit) (now (a .faces)) (now (a .solids))
+    stopped-at-form (lentChecks editionOne (now (a .xyz)) (now (a .ends))) (wire (now (a .xyz)) (now (a .ends))) (a .limit) (now (a .faces)) (now (a .solids))
     (sym (n .enum-told .given .1) ∙ entry-is (n .before .before)) (sym (c .before .form .given .1) ∙ form-is l)
 
 enum-told-2 : tie.Need-enum-told-2
@@ -91,12 +94,13 @@ same-length-2 : tie.Need-same-length-2
 same-length-2 c = search needs
 
 returns-3 : tie.Need-returns-3
+unfolding convertLists
 returns-3 c =
     let k = c .before .before .before .before in
     let f = formed (k .before) in
     let n = entered (lists f) in
     let a = start n .args in
-    lists-go (now (a .xyz)) (now (a .ends)) (a .limit) (now (a .faces)) (now (a .solids))
+    gone-behind (lentChecks editionOne (now (a .xyz)) (now (a .ends))) (wire (now (a .xyz)) (now (a .ends))) (a .limit) (now (a .faces)) (now (a .solids))
     (sym (n .enum-told .given .1) ∙ entry-is (n .before .before)) (sym (f .enum-told2 .given .1) ∙ form-is (lists f))
     (k .converted .ensures)
 
