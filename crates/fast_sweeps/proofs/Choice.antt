@@ -9,15 +9,11 @@ use lib.Dec.{eqb}
 use lib.ListN.{length, getD, drop, set, drop-of-length-le}
 use borrow.Author.Tests.{eq-eqb, ne-eqb, eqb-true}
 use Rattle.lists.proofs.Places.{drop-more}
-use Rattle.lists.proofs.Truth.{and-both}
-use Rattle.sets.specs.Word.{bit, dig, first, both}
-use Rattle.sets.proofs.Digits.{dig-both, count-none}
+use Rattle.sets.specs.Word.{bit, first, both}
 use Rattle.paper.specs.Walk.{Status, Taken, Rejected, Undecided, isOpen, takenOn, openOn, openCount, decideOne, decide, settle}
 use Rattle.paper.specs.Walk.{contradicts, Outcome, Broken, Stands, sweep, stable, choose}
 use Rattle.means_walk.specs.Tree.{Sweeps, breaks, rests, again}
-use Rattle.means_walk.proofs.Status.{count-opens}
 use Rattle.means_walk.proofs.Grown.{sweeps, sweeps-stable}
-use Rattle.means_walk.proofs.Chosen.{Covered}
 use Rattle.fast_sweeps.specs.Worklist.{openEdge, openFrom, lowestOn, Shut}
 use Rattle.fast_sweeps.proofs.Edge.{no-break}
 
@@ -49,15 +45,6 @@ open-from (mask ∷ masks) st (suc e) h s =
     let i : e + openEdge (drop e masks) st ≡ openEdge masks st = open-from masks st e (omega arith) (λ j l. s (suc j) (omega arith)) in
     let p : suc e + openEdge (drop e masks) st ≡ suc (openEdge masks st) = omega arith in
     p ∙ ap (λ (b : Bool). cond b (suc (openEdge masks st)) 0) (sym (eq-eqb (openOn mask st) 0 (s 0 (omega arith))))
-
-pub choose-drop : (masks : List (List Bool)) (st : List Status) (e : ℕ) → Shut masks e st → choose (drop e masks) st ≡ choose masks st
-unfolding choose
-choose-drop masks st zero s = refl
-choose-drop [] st (suc e) s = refl
-choose-drop (mask ∷ masks) st (suc e) s =
-    choose-drop masks st e (λ j l. s (suc j) (omega arith))
-    ∙ ap (λ (b : Bool). cond b (choose masks st) (first (both mask (map isOpen st))))
-    (sym (eq-eqb (openOn mask st) 0 (s 0 (omega arith))))
 
 pub choose-from : (masks : List (List Bool)) (st : List Status) (e : ℕ) → e ≤ length masks → Shut masks e st
     → choose masks st ≡ lowestOn masks st (openFrom masks st e)
@@ -129,21 +116,6 @@ pub lowest-none : (masks : List (List Bool)) (st : List Status) (e : ℕ) → le
 unfolding lowestOn
 lowest-none masks st e h =
     ap first (sym (ap (λ (r : List Bool). both r (map isOpen st)) (at-none masks e (map isOpen st) h) ∙ both-self (map isOpen st)))
-
--- there is one, where some candidate is undecided and each undecided one is on an edge
-pub edge-some : (masks : List (List Bool)) (st : List Status) → Covered masks st → (k : ℕ) → dig (map isOpen st) k ≡ true
-    → openEdge masks st < length masks
-edge-some masks st c k u =
-    let r = c k u in
-    let f : openEdge masks st ≤ r .0 = below (r .0) (r .2) in
-    omega (arith, r .1)
-  where
-    below : (e : ℕ) → dig (getD masks e []) k ≡ true → openEdge masks st ≤ e
-    below e o =
-        let g : e < openEdge masks st
-        → ⊥ = λ h. count-none (both (getD masks e []) (map isOpen st)) (count-opens (getD masks e []) st ∙ edge-shut masks st e h) k
-        (dig-both (getD masks e []) (map isOpen st) k ∙ and-both o u) in
-        omega (arith, g)
 
 -- ---- no edge gets a new undecided candidate
 one-open : (v : Status) → isOpen v ≡ false → (a b : Bool) (s : Status) → bit (a && isOpen (decideOne v b s)) ≤ bit (a && isOpen s)

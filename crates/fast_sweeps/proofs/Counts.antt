@@ -1,9 +1,9 @@
 -- An edge by its two counts as the code takes them: M, the taken, and L, the undecided, only where M is below 2; and what settling does
 -- to the sets of those taken and those undecided. One law for each way through the code. Assumes nothing.
-use mathlib.Core.Bool.{Bool, true, false, _&&_, _||_, cond, not, or-false}
+use mathlib.Core.Bool.{Bool, true, false, _&&_, _||_, cond, not}
 use mathlib.Core.List.{List, [], _∷_}
 use mathlib.Core.Path.{_≡_, refl, sym, ap, ap₂, _∙_}
-use Prim.Native.Nat.{ℕ, zero, suc, _+_, _≤_, _<_}
+use Prim.Native.Nat.{ℕ, _+_, _<_}
 use native.Mathlib.Omega.{arith}
 use lib.Dec.{eqb, ltb}
 use borrow.Author.Tests.{eq-eqb, ne-eqb, lt-ltb, le-ltb}
@@ -166,25 +166,3 @@ module _ (mask : List Bool) (st : List Status) where
         ∙ ap₂ (λ (a b : Bool). cond a (decide Rejected mask st) (cond b (decide Taken mask st) st)) (ne-eqb M 2 (λ e. omega arith))
         (ne-eqb (M + L) 2 (λ e. omega arith));
   }
-
-  -- all at once: L is read only where M is below 2
-  pub contradicts-ml : contradicts mask st ≡ cond (ltb M 2) (ltb (M + L) 2) (ltb 2 M)
-  contradicts-ml = contradicts-by M L is-M is-L ∙ small M L
-    where
-      small : (m l : ℕ) → (ltb 2 m || ltb (m + l) 2) ≡ cond (ltb m 2) (ltb (m + l) 2) (ltb 2 m)
-      small zero l = refl
-      small (suc zero) l = refl
-      small (suc (suc m)) l =
-          let p : ltb (suc (suc m) + l) 2 ≡ false = le-ltb (suc (suc m) + l) 2 (omega arith) in
-          let q : ltb (suc (suc m)) 2 ≡ false = le-ltb (suc (suc m)) 2 (omega arith) in
-          rw (p, q) (or-false (ltb 2 (suc (suc m))))
-
-  pub settle-ml : M ≤ 2 → settle mask st ≡ cond (ltb M 2) (cond (eqb (M + L) 2) (decide Taken mask st) st) (decide Rejected mask st)
-  settle-ml h = settle-by M L is-M is-L ∙ small M L h
-    where
-      small : (m l : ℕ) → m ≤ 2 → cond (eqb m 2) (decide Rejected mask st) (cond (eqb (m + l) 2) (decide Taken mask st) st)
-          ≡ cond (ltb m 2) (cond (eqb (m + l) 2) (decide Taken mask st) st) (decide Rejected mask st)
-      small zero l k = refl
-      small (suc zero) l k = refl
-      small (suc (suc zero)) l k = refl
-      small (suc (suc (suc m))) l k = absurd (omega arith)

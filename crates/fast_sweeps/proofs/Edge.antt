@@ -2,7 +2,7 @@
 use mathlib.Core.Bool.{Bool, true, false, _&&_, _||_, cond, true≢false}
 use mathlib.Core.List.{List, [], _∷_, map}
 use mathlib.Core.Path.{_≡_, refl, sym, ap, ap₂, _∙_, subst}
-use Prim.Native.Nat.{ℕ, zero, suc, _+_, _≤_, _<_}
+use Prim.Native.Nat.{ℕ, zero, suc, _+_, _≤_}
 use native.Mathlib.Omega.{arith}
 use lib.ListN.{set}
 use lib.Dec.{eqb, ltb}
@@ -11,7 +11,7 @@ use Rattle.sets.specs.Word.{bit, dig, count, both}
 use Rattle.paper.specs.Walk.{Status, Taken, Rejected, Undecided, isTaken, isOpen, takenOn, openOn, openCount, decideOne, decide, settle}
 use Rattle.paper.specs.Walk.{contradicts, Broken, Stands, sweep}
 use Rattle.means_walk.proofs.Status.{count-opens}
-use Rattle.means_walk.proofs.Settled.{sweep-fewer, sweep-still}
+use Rattle.means_walk.proofs.Settled.{sweep-still}
 use Rattle.fast_sweeps.specs.Worklist.{meets, decidedOn, Settled}
 
 pub no-break : {A : Type 0} {st : List Status} → Broken ≡ Stands st → A
@@ -158,23 +158,14 @@ pub settled-none : (mask : List Bool) (st : List Status) → contradicts mask st
     → Settled mask (settle mask st)
 settled-none mask st c z = subst (Settled mask) (sym (settle-none mask st z)) (record { calm = c; still = settle-none mask st z })
 
--- settling an edge without a contradiction decides none or leaves fewer undecided
+-- settling an edge without a contradiction changes nothing where it leaves as many undecided
 sweep-one : (mask : List Bool) (st : List Status) → contradicts mask st ≡ false → sweep (mask ∷ []) st ≡ Stands (settle mask st)
 unfolding sweep
 sweep-one mask st c = rw c
 
-pub settle-fewer : (mask : List Bool) (st : List Status) → contradicts mask st ≡ false → openCount (settle mask st) ≤ openCount st
-settle-fewer mask st c = sweep-fewer (mask ∷ []) st (settle mask st) (sweep-one mask st c)
-
 pub settle-still : (mask : List Bool) (st : List Status) → contradicts mask st ≡ false → openCount st ≤ openCount (settle mask st)
     → settle mask st ≡ st
 settle-still mask st c h = sweep-still (mask ∷ []) st (settle mask st) (sweep-one mask st c) h .0
-
-pub settle-decides : (mask : List Bool) (st : List Status) → contradicts mask st ≡ false → (count (decidedOn mask st) ≡ 0 → ⊥)
-    → openCount (settle mask st) < openCount st
-settle-decides mask st c n =
-    let f : openCount st ≤ openCount (settle mask st) → ⊥ = λ h. n (none-settle mask st (settle-still mask st c h)) in
-    omega (arith, f)
 
 -- ---- one candidate given a status: the counts of the edges that do not have it stay
 pub set-same : (r : List Bool) (st : List Status) (k : ℕ) (v : Status) → dig r k ≡ false → Same r (set st k v) st

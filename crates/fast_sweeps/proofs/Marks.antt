@@ -55,12 +55,6 @@ passed-out (true ∷ a) (suc j) n e = omega arith
 passed-out (false ∷ a) zero n e = never e
 passed-out (false ∷ a) (suc j) n e = omega (arith, passed-out a j (λ z. n (omega arith)) e)
 
-pub length-passed : (a : List Bool) → length (passed a) ≤ length a
-unfolding passed
-length-passed [] = omega arith
-length-passed (true ∷ a) = omega arith
-length-passed (false ∷ a) = omega (arith, length-passed a)
-
 -- ---- the edges of candidates
 pub dig-sides : (masks : List (List Bool)) (k j : ℕ) → dig (edgesWith masks k) j ≡ dig (getD masks j []) k
 unfolding edgesWith

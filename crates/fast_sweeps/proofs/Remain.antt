@@ -22,7 +22,7 @@ use Rattle.means_walk.proofs.Ends.{stable-fuel}
 use Rattle.means_walk.proofs.Settled.{sweep-fewer, sweep-still}
 use Rattle.fast_sweeps.specs.Worklist.{after, passed, edgesWith, meets, touched, decidedOn, nextAhead, nextLater, Settled}
 use Rattle.fast_sweeps.specs.Worklist.{afterwards, Remains}
-use Rattle.fast_sweeps.proofs.Edge.{no-break, settle-same, settle-none, meets-self, settled-same, settled-none, settle-still}
+use Rattle.fast_sweeps.proofs.Edge.{no-break, settle-same, meets-self, settled-same, settled-none, settle-still}
 use Rattle.fast_sweeps.proofs.Edge.{set-same}
 use Rattle.fast_sweeps.proofs.Marks.{after-in, after-out, passed-in, passed-out, dig-sides}
 use Rattle.fast_sweeps.proofs.Marks.{length-sides, dig-touched, length-touched}
@@ -234,17 +234,6 @@ module _ (masks : List (List Bool)) where
 
         off-here : (j : ℕ) → dig later j ≡ true → j ≤ here
         off-here j e = let b = i .on here (first-in ahead n) in omega (arith, i .off j e, b .0)
-
-        -- none was decided: the edge is passed
-        pub pass-still : count (decidedOn mask st) ≡ 0 → Remains masks o (settle mask st) (after ahead) later
-        pass-still z =
-            pass (after ahead) later (λ j e. let w = after-in ahead j e in (w .0, i .on j (w .1) .1)) off-here
-            (λ j h e f. go j h e f (ℕ-discrete j here))
-          where
-            go : (j : ℕ) → j < length masks → dig (after ahead) j ≡ false → dig later j ≡ false → Dec (j ≡ here)
-                → Settled (getD masks j []) (settle mask st)
-            go j h e f (yes p) = subst (λ (x : ℕ). Settled (getD masks x []) (settle mask st)) (sym p) (settled-none mask st c z)
-            go j h e f (no p) = subst (Settled (getD masks j [])) (sym (settle-none mask st z)) (i .settled j h (after-out ahead j e p) f)
 
         abbrev t : List Bool
         t = touched masks (decidedOn mask st)
