@@ -1,8 +1,10 @@
 //! What the trial programs read, and what they must print of it by the clear version.
 use crate::clash::clash;
+use crate::convert::{convert, Answer};
 use crate::cover::{find_candidates, polygon_covers};
-use crate::drawing::{Drawing, Loop};
+use crate::drawing::{Drawing, Loop, Source};
 use crate::face_list::{pack_faces, read_faces};
+use crate::fast;
 use crate::gen::extremes::extreme_sheets;
 use crate::gen::limits::{all_but_three, flat_128, flat_129};
 use crate::gen::named::named;
@@ -11,7 +13,7 @@ use crate::gen::scenes::{four_polygons, ruled_drawing};
 use crate::gen::sheets::{changed, counted_drawing};
 use crate::loops::{find_loops, loop_edges};
 use crate::numbers::*;
-use crate::rows::{sheet_to_read, Order};
+use crate::rows::{aimed, sheet_to_read, Order};
 use crate::rules::rules_11_to_14;
 use crate::sheet::{pack_sheet, read_sheet, sheet_length, write_sheet};
 use crate::vector::{cross, dot, sub};
@@ -28,6 +30,13 @@ impl Trial {
     fn put(&mut self, bytes: &[u8]) {
         self.input.extend((bytes.len() as u16).to_be_bytes());
         self.input.extend(bytes);
+    }
+
+    /// Appends a sheet behind a work limit.
+    fn walked(&mut self, sheet: &[u8], limit: u64) {
+        self.input.extend(&(limit as u32).to_be_bytes()[1..]);
+        self.put(sheet);
+        self.output += &walked(sheet, limit);
     }
 }
 
@@ -128,6 +137,63 @@ fn row_and_words(d: &Drawing, l: &Loop) -> Vec<u64> {
 fn checksum(numbers: impl IntoIterator<Item = u64>) -> u64 {
     const PRIME: u64 = 4_294_967_291;
     numbers.into_iter().fold(0, |sum, n| (31 * sum + n % PRIME) % PRIME)
+}
+
+/// Sheets, each behind a work limit in three bytes, high byte first: the named drawings, and generated ones.
+pub fn walks(seed: u64, count: u64) -> Trial {
+    let mut trial = Trial::default();
+    for (_, d) in named() {
+        let sheet = pack_sheet(&d);
+        let work = work_of(&sheet);
+        trial.walked(&sheet, MOST_WORK);
+        if work > 0 {
+            trial.walked(&sheet, work);
+            trial.walked(&sheet, work - 1);
+        }
+    }
+    for k in 0..count {
+        let mut r = Rng::of_case(seed, k);
+        let any = |r: &mut Rng| {
+            let d = counted_drawing(r, *VERTICES.end());
+            pack_sheet(&changed(r, d))
+        };
+        // Two in three make assumptions, and most limits are about as high as the work.
+        let sheet = aimed(&mut r, any, |sheet| k % 3 == 0 || work_of(sheet) > 0);
+        let work = work_of(&sheet);
+        let below = r.below(work as usize + 1) as u64;
+        let limits = [MOST_WORK, work, work.saturating_sub(1), k / 6 % 2, below, MOST_WORK];
+        trial.walked(&sheet, limits[k as usize % limits.len()]);
+    }
+    trial
+}
+
+/// The assumptions of a whole walk; none where the drawing is refused.
+fn work_of(sheet: &[u8]) -> u64 {
+    match fast::convert(Source::Sheet(sheet), MOST_WORK, &mut [0; FACE_ROOM], &mut [0; SOLID_ROOM]) {
+        Answer::Refused(_) => 0,
+        Answer::Ended { work, .. } | Answer::Report { work, .. } => work as u64,
+    }
+}
+
+/// What refuses the sheet, or how many loops, candidates and assumptions there are, and the solids' words or why there
+/// are none.
+fn walked(sheet: &[u8], limit: u64) -> String {
+    let mut room = [0; SOLID_ROOM];
+    match convert(Source::Sheet(sheet), limit, &mut [0; FACE_ROOM], &mut room) {
+        Answer::Refused(refusal) => refused(refusal),
+        Answer::Ended { number, loops, candidates, work } => {
+            let why = match number {
+                NO_SOLID => "no solid",
+                MANY => "many",
+                _ => "too long",
+            };
+            format!("loops {loops} candidates {candidates} work {work} {why}\n")
+        }
+        Answer::Report { loops, candidates, work, solids } => {
+            let words = room.chunks(3).take(solids as usize).map(|w| format!(" solid {} {} {}", w[0], w[1], w[2]));
+            format!("loops {loops} candidates {candidates} work {work}{}\n", words.collect::<String>())
+        }
+    }
 }
 
 fn word(members: impl IntoIterator<Item = usize>) -> u64 {

@@ -2,7 +2,7 @@
 use super::args::Args;
 use nibgravel_reference::numbers::MOST_SOLIDS;
 use nibgravel_reference::rows::{Order, SMALL};
-use nibgravel_reference::trial::{geometry, loops, sheets};
+use nibgravel_reference::trial::{geometry, loops, sheets, walks};
 use std::fs;
 use std::path::Path;
 
@@ -13,7 +13,8 @@ pub fn trial(args: &Args) -> Result<(), String> {
         Some("sheet") => sheets(&Order { seed, cap: MOST_SOLIDS, size: SMALL }, count),
         Some("geometry") => geometry(seed, count),
         Some("loops") => loops(seed, count),
-        _ => return Err("a trial is of kind sheet, geometry or loops".to_string()),
+        Some("walk") => walks(seed, count),
+        _ => return Err("a trial is of kind sheet, geometry, loops or walk".to_string()),
     };
     let dir = Path::new(args.path(2)?);
     fs::write(dir.join("stdin"), trial.input)

@@ -69,7 +69,7 @@ impl Size {
 }
 
 /// Tries until a case answers as aimed at, or long enough; then the last one has to do.
-fn aimed<T>(r: &mut Rng, mut make: impl FnMut(&mut Rng) -> T, good: impl Fn(&T) -> bool) -> T {
+pub fn aimed<T>(r: &mut Rng, mut make: impl FnMut(&mut Rng) -> T, good: impl Fn(&T) -> bool) -> T {
     for _ in 0..1_000 {
         let case = make(r);
         if good(&case) {
