@@ -1,118 +1,18 @@
 //! Runs each stage of a conversion once, by the proved archive and by the reference's fast version, on the named drawing or on 1,000
 //! generated ones, and holds the two to each other. `tools/measure` counts what each stage executes.
+mod plain;
+mod proved;
+
 use nibgravel_reference::drawing::{Drawing, Source};
 use nibgravel_reference::fast;
 use nibgravel_reference::gen::named::named;
 use nibgravel_reference::gen::rng::Rng;
 use nibgravel_reference::gen::sheets::{changed, counted_drawing};
-use nibgravel_reference::numbers::{FACE_ROOM, FACE_ROW, MOST_CANDIDATES, MOST_LOOPS};
+use nibgravel_reference::numbers::*;
 use nibgravel_reference::sheet::pack_sheet;
+use plain::*;
+use proved::*;
 use std::hint::black_box;
-
-const LOOP_ROOM: usize = FACE_ROW * MOST_LOOPS;
-
-// A slice is lent as its address and its length, an array as its address.
-#[rustfmt::skip]
-extern "C" {
-    fn measured_rules(xyz: *const i64, xyz_len: usize, ends: *const u8, ends_len: usize) -> u64;
-    fn measured_loops(
-        xyz: *const i64, xyz_len: usize, ends: *const u8, ends_len: usize, near: &[u64; 32], table: &mut [u8; LOOP_ROOM],
-        planes: &mut [u64; MOST_LOOPS], corners: &mut [u64; MOST_LOOPS], sides: &mut [u64; MOST_LOOPS],
-    ) -> usize;
-    fn measured_candidates(
-        xyz: *const i64, xyz_len: usize, ends: *const u8, ends_len: usize, table: *const u8, table_len: usize, n: usize,
-        corners: &[u64; MOST_LOOPS], sides: &[u64; MOST_LOOPS], planes: &[u64; MOST_LOOPS], rows: &mut [u8; FACE_ROOM],
-        kept_corners: &mut [u64; MOST_CANDIDATES], kept_sides: &mut [u64; MOST_CANDIDATES],
-    ) -> usize;
-}
-
-/// The two lists of a drawing, and its neighbour words.
-struct Lists {
-    xyz: Vec<i64>,
-    ends: Vec<u8>,
-    near: [u64; 32],
-}
-
-/// The loops, with what is known of each.
-struct Loops {
-    count: usize,
-    table: [u8; LOOP_ROOM],
-    planes: [u64; MOST_LOOPS],
-    corners: [u64; MOST_LOOPS],
-    sides: [u64; MOST_LOOPS],
-}
-
-#[no_mangle]
-#[inline(never)]
-fn proved_rules(d: &Lists) -> u64 {
-    unsafe { measured_rules(d.xyz.as_ptr(), d.xyz.len(), d.ends.as_ptr(), d.ends.len()) }
-}
-
-#[no_mangle]
-#[inline(never)]
-fn fast_rules(d: &fast::Drawing) -> u64 {
-    d.rules_11_to_14()
-        .map_or_else(|refusal| refusal.number as u64, |()| 0)
-}
-
-#[no_mangle]
-#[inline(never)]
-fn proved_loops(d: &Lists, l: &mut Loops) {
-    let (x, e) = (&d.xyz, &d.ends);
-    let (t, p, c, s) = (&mut l.table, &mut l.planes, &mut l.corners, &mut l.sides);
-    l.count = unsafe {
-        measured_loops(
-            x.as_ptr(),
-            x.len(),
-            e.as_ptr(),
-            e.len(),
-            &d.near,
-            t,
-            p,
-            c,
-            s,
-        )
-    };
-}
-
-#[no_mangle]
-#[inline(never)]
-fn fast_loops(d: &fast::Drawing) -> Option<Vec<fast::Loop>> {
-    fast::find_loops(d)
-}
-
-#[no_mangle]
-#[inline(never)]
-fn proved_candidates(d: &Lists, l: &Loops, rows: &mut [u8; FACE_ROOM]) -> usize {
-    let (x, e, t) = (&d.xyz, &d.ends, &l.table);
-    let (mut corners, mut sides) = ([0; MOST_CANDIDATES], [0; MOST_CANDIDATES]);
-    unsafe {
-        let lists = (x.as_ptr(), x.len(), e.as_ptr(), e.len());
-        let (c, s) = (&mut corners, &mut sides);
-        let (x, xl, e, el) = lists;
-        measured_candidates(
-            x,
-            xl,
-            e,
-            el,
-            t.as_ptr(),
-            t.len(),
-            l.count,
-            &l.corners,
-            &l.sides,
-            &l.planes,
-            rows,
-            c,
-            s,
-        )
-    }
-}
-
-#[no_mangle]
-#[inline(never)]
-fn fast_candidates(d: &fast::Drawing, loops: &[fast::Loop]) -> Vec<fast::Loop> {
-    fast::candidates(d, loops)
-}
 
 /// One drawing through the stages, as far as it is not refused.
 fn stages(d: &Drawing) {
@@ -120,16 +20,7 @@ fn stages(d: &Drawing) {
     let Ok(fast) = fast::Drawing::read(Source::Sheet(&sheet)) else {
         return;
     };
-    let (xyz, ends) = d.lists();
-    let mut lists = Lists {
-        xyz,
-        ends: ends.iter().map(|end| *end as u8).collect(),
-        near: [0; 32],
-    };
-    for (a, b) in &d.edges {
-        lists.near[*a] |= 1 << b;
-        lists.near[*b] |= 1 << a;
-    }
+    let lists = lists(d);
     let refused = proved_rules(black_box(&lists));
     assert_eq!(refused, fast_rules(black_box(&fast)));
     if refused != 0 {
@@ -148,6 +39,65 @@ fn stages(d: &Drawing) {
         assert_eq!(loops.count, MOST_LOOPS + 1);
         return;
     };
+    same_loops(&loops, &found);
+    let none = [0; MOST_CANDIDATES];
+    let mut faces = Faces {
+        count: 0,
+        rows: [0; FACE_ROOM],
+        corners: none,
+        sides: none,
+    };
+    proved_candidates(black_box(&lists), &loops, &mut faces);
+    let candidates = fast_candidates(black_box(&fast), black_box(&found));
+    assert_eq!(faces.count, candidates.len().min(MOST_CANDIDATES + 1));
+    if faces.count <= MOST_CANDIDATES {
+        walks(fast, found, candidates, &faces);
+    }
+}
+
+/// The tables and the walk.
+fn walks(
+    drawing: fast::Drawing,
+    loops: Vec<fast::Loop>,
+    candidates: Vec<fast::Loop>,
+    faces: &Faces,
+) {
+    let (tables, clashes) = fast_clashes(black_box(&drawing), black_box(&candidates));
+    let mut lent = Tables {
+        on: tables.on,
+        up: tables.up,
+        clashes: [0; MOST_CANDIDATES],
+        sixes: tables.six,
+    };
+    lent.clashes[..clashes.len()].copy_from_slice(&clashes);
+    let mut solids = [0; SOLID_ROOM];
+    let work = proved_walk(black_box(&lent), drawing.edges, faces, &mut solids);
+    let passed = fast::Passed {
+        drawing,
+        loops,
+        candidates,
+    };
+    let mut leaf = fast::Leaf::new(&passed, &tables, MOST_SOLIDS);
+    leaf.clashes = Some(clashes);
+    assert_eq!(
+        work,
+        fast_walk(black_box(&tables), &passed.candidates, &mut leaf)
+    );
+    assert_eq!(solids, leaf.words);
+}
+
+fn lists(d: &Drawing) -> Lists {
+    let (xyz, ends) = d.lists();
+    let ends = ends.iter().map(|end| *end as u8).collect();
+    let mut near = [0; 32];
+    for (a, b) in &d.edges {
+        near[*a] |= 1 << b;
+        near[*b] |= 1 << a;
+    }
+    Lists { xyz, ends, near }
+}
+
+fn same_loops(loops: &Loops, found: &[fast::Loop]) {
     assert_eq!(loops.count, found.len());
     for (k, l) in found.iter().enumerate() {
         assert_eq!(loops.table[FACE_ROW * k], l.corners as u8);
@@ -157,14 +107,6 @@ fn stages(d: &Drawing) {
             (l.corner_set as u64, l.edge_set, l.plane as u64)
         );
     }
-    let mut rows = [0; FACE_ROOM];
-    let count = proved_candidates(black_box(&lists), &loops, &mut rows);
-    assert_eq!(
-        count,
-        fast_candidates(black_box(&fast), black_box(&found))
-            .len()
-            .min(MOST_CANDIDATES + 1)
-    );
 }
 
 fn main() {

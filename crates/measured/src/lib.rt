@@ -2,13 +2,16 @@
 // stage asks.
 ghost use Rattle.paper_laws.specs.InRange.{InRange};
 ghost use Rattle.candidates.specs.Keeps.{Keeps};
+ghost use Rattle.walk.specs.Walk.{Searching};
 ghost use Rattle.measured.specs.Asked.{Loops};
 use paper::Answer;
 use paper::FACE_ROOM;
 use paper::LOOP_ROOM;
 use paper::MOST_CANDIDATES;
+use paper::MOST_EDGES;
 use paper::MOST_LOOPS;
 use paper::MOST_VERTICES;
+use paper::SOLID_ROOM;
 
 // Rules 11 to 14: the number of the one that refuses the drawing, or 0.
 #[no_mangle]
@@ -68,4 +71,23 @@ pub extern "C" fn measured_candidates(
         kept_corners,
         kept_sides,
     )
+}
+
+// The walk: how many assumptions it made.
+#[no_mangle]
+pub extern "C" fn measured_walk(
+    on: &[u64; MOST_EDGES],
+    up: &[u64; MOST_EDGES],
+    e: usize,
+    sides: &[u64; MOST_CANDIDATES],
+    clashes: &[u64; MOST_CANDIDATES],
+    sixes: &[i64; MOST_CANDIDATES],
+    n: usize,
+    limit: u64,
+    out: &mut [u64; SOLID_ROOM],
+) -> u64
+    requires { ⌜ Searching e (now sixes) n (now out) ⌝ }
+{
+    let t = walk::search(on, up, e, sides, clashes, sixes, n, limit, out);
+    t.work
 }

@@ -10,7 +10,7 @@ pub struct Leaf<'a> {
     tables: &'a Tables,
     most: usize,
     /// Per candidate those it clashes with; many drawings end before anyone asks.
-    clashes: Option<Vec<u64>>,
+    pub clashes: Option<Vec<u64>>,
     pub found: usize,
     pub words: [u64; SOLID_ROOM],
 }

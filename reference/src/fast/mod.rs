@@ -12,8 +12,10 @@ mod tables;
 mod walk;
 
 pub use check::check;
+pub use clash::clashes;
 pub use cover::candidates;
 pub use drawing::Drawing;
+pub use leaf::Leaf;
 pub use loops::{find_loops, Loop};
 pub use rules::edges_meet;
 pub use sets::Members;
@@ -23,7 +25,6 @@ pub use walk::{End, Walk};
 use crate::convert::Answer;
 use crate::drawing::Source;
 use crate::numbers::*;
-use leaf::Leaf;
 
 /// What the drawing rules, 3 to 16, let through.
 pub struct Passed {
