@@ -1,0 +1,19 @@
+-- Tables for a walk, and lists that have passed 5 and 8 to 10. Assumes nothing.
+use mathlib.Core.List.{List}
+use mathlib.Core.Path.{_≡_}
+use Prim.Native.Nat.{ℕ, _≤_}
+use lib.IntN.{ℤ}
+use Rattle.sets.specs.Sets.{room}
+use Rattle.paper.specs.Refusals.{firstOf}
+use Rattle.paper.specs.Format.{editionOne}
+use Rattle.paper.specs.Sheet.{lentChecks}
+use Rattle.paper.specs.declared.Answer.the-variants.{Fine}
+use Rattle.walk_leaf.specs.Tests.{Judging}
+use Rattle.tables.specs.declared.rows.Counts.{Counts}
+
+pub record Walking (e : ℕ) (sixes : List ℤ) (c : Counts) : Type 0 where
+  pub judging : Judging e sixes
+  pub few : c .candidates ≤ room
+
+abbrev pub Ruled : List ℤ → List ℕ → Type 0
+Ruled xyz ends = Fine ≡ firstOf (lentChecks editionOne xyz ends)

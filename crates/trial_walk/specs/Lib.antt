@@ -1,0 +1,2 @@
+-- What the functions ask. Assumes nothing.
+pub mod Asked
