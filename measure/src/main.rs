@@ -26,32 +26,19 @@ fn stages(d: &Drawing) {
     if refused != 0 {
         return;
     }
-    let none = [0; MOST_LOOPS];
-    let mut loops = Loops {
-        count: 0,
-        table: [0; LOOP_ROOM],
-        planes: none,
-        corners: none,
-        sides: none,
-    };
+    let mut loops = NO_LOOPS;
     proved_loops(black_box(&lists), &mut loops);
     let Some(found) = fast_loops(black_box(&fast)) else {
         assert_eq!(loops.count, MOST_LOOPS + 1);
         return;
     };
     same_loops(&loops, &found);
-    let none = [0; MOST_CANDIDATES];
-    let mut faces = Faces {
-        count: 0,
-        rows: [0; FACE_ROOM],
-        corners: none,
-        sides: none,
-    };
+    let mut faces = NO_FACES;
     proved_candidates(black_box(&lists), &loops, &mut faces);
     let candidates = fast_candidates(black_box(&fast), black_box(&found));
     assert_eq!(faces.count, candidates.len().min(MOST_CANDIDATES + 1));
     if faces.count <= MOST_CANDIDATES {
-        walks(fast, found, candidates, &faces);
+        walks(fast, found, candidates, &lists, &faces);
     }
 }
 
@@ -60,16 +47,17 @@ fn walks(
     drawing: fast::Drawing,
     loops: Vec<fast::Loop>,
     candidates: Vec<fast::Loop>,
+    lists: &Lists,
     faces: &Faces,
 ) {
+    let mut lent = NO_TABLES;
+    proved_clashes(black_box(lists), faces, &mut lent);
     let (tables, clashes) = fast_clashes(black_box(&drawing), black_box(&candidates));
-    let mut lent = Tables {
-        on: tables.on,
-        up: tables.up,
-        clashes: [0; MOST_CANDIDATES],
-        sixes: tables.six,
-    };
-    lent.clashes[..clashes.len()].copy_from_slice(&clashes);
+    assert_eq!((lent.on, lent.up), (tables.on, tables.up));
+    assert_eq!(
+        (&lent.clashes[..clashes.len()], lent.sixes),
+        (&clashes[..], tables.six)
+    );
     let mut solids = [0; SOLID_ROOM];
     let work = proved_walk(black_box(&lent), drawing.edges, faces, &mut solids);
     let passed = fast::Passed {
@@ -89,12 +77,19 @@ fn walks(
 fn lists(d: &Drawing) -> Lists {
     let (xyz, ends) = d.lists();
     let ends = ends.iter().map(|end| *end as u8).collect();
-    let mut near = [0; 32];
-    for (a, b) in &d.edges {
+    let (mut near, mut number) = ([0; 32], [0; PAIRS]);
+    for (e, (a, b)) in d.edges.iter().enumerate() {
         near[*a] |= 1 << b;
         near[*b] |= 1 << a;
+        number[32 * a + b] = e as u8;
+        number[32 * b + a] = e as u8;
     }
-    Lists { xyz, ends, near }
+    Lists {
+        xyz,
+        ends,
+        near,
+        number,
+    }
 }
 
 fn same_loops(loops: &Loops, found: &[fast::Loop]) {

@@ -3,6 +3,7 @@ use nibgravel_reference::numbers::*;
 
 pub const LOOP_ROOM: usize = FACE_ROW * MOST_LOOPS;
 pub const MOST_EDGES: usize = *EDGES.end();
+pub const PAIRS: usize = 32 * 32;
 
 // A slice is lent as its address and its length, an array as its address.
 #[rustfmt::skip]
@@ -17,17 +18,23 @@ extern "C" {
         corners: &[u64; MOST_LOOPS], sides: &[u64; MOST_LOOPS], planes: &[u64; MOST_LOOPS], rows: &mut [u8; FACE_ROOM],
         kept_corners: &mut [u64; MOST_CANDIDATES], kept_sides: &mut [u64; MOST_CANDIDATES],
     ) -> usize;
+    fn measured_clashes(
+        xyz: *const i64, xyz_len: usize, rows: &[u8; FACE_ROOM], n: usize, near: &[u64; 32], number: &[u8; PAIRS],
+        corners: &[u64; MOST_CANDIDATES], sides: &[u64; MOST_CANDIDATES], on: &mut [u64; MOST_EDGES], up: &mut [u64; MOST_EDGES],
+        clashes: &mut [u64; MOST_CANDIDATES], sixes: &mut [i64; MOST_CANDIDATES],
+    );
     fn measured_walk(
         on: &[u64; MOST_EDGES], up: &[u64; MOST_EDGES], e: usize, sides: &[u64; MOST_CANDIDATES],
         clashes: &[u64; MOST_CANDIDATES], sixes: &[i64; MOST_CANDIDATES], n: usize, limit: u64, out: &mut [u64; SOLID_ROOM],
     ) -> u64;
 }
 
-/// The two lists of a drawing, and its neighbour words.
+/// The two lists of a drawing, its neighbour words, and the numbers of its edges by their ends.
 pub struct Lists {
     pub xyz: Vec<i64>,
     pub ends: Vec<u8>,
     pub near: [u64; 32],
+    pub number: [u8; PAIRS],
 }
 
 /// The loops, with what is known of each.
@@ -55,6 +62,28 @@ pub struct Tables {
     pub sixes: [i64; MOST_CANDIDATES],
 }
 
+pub const NO_LOOPS: Loops = Loops {
+    count: 0,
+    table: [0; LOOP_ROOM],
+    planes: [0; MOST_LOOPS],
+    corners: [0; MOST_LOOPS],
+    sides: [0; MOST_LOOPS],
+};
+
+pub const NO_FACES: Faces = Faces {
+    count: 0,
+    rows: [0; FACE_ROOM],
+    corners: [0; MOST_CANDIDATES],
+    sides: [0; MOST_CANDIDATES],
+};
+
+pub const NO_TABLES: Tables = Tables {
+    on: [0; MOST_EDGES],
+    up: [0; MOST_EDGES],
+    clashes: [0; MOST_CANDIDATES],
+    sixes: [0; MOST_CANDIDATES],
+};
+
 #[no_mangle]
 #[inline(never)]
 pub fn proved_rules(d: &Lists) -> u64 {
@@ -81,6 +110,17 @@ pub fn proved_candidates(d: &Lists, l: &Loops, f: &mut Faces) {
             &l.corners, &l.sides, &l.planes, &mut f.rows, &mut f.corners, &mut f.sides,
         )
     };
+}
+
+#[no_mangle]
+#[inline(never)]
+#[rustfmt::skip]
+pub fn proved_clashes(d: &Lists, f: &Faces, t: &mut Tables) {
+    let (x, n) = (&d.xyz, f.count);
+    let (on, up, c, s) = (&mut t.on, &mut t.up, &mut t.clashes, &mut t.sixes);
+    unsafe {
+        measured_clashes(x.as_ptr(), x.len(), &f.rows, n, &d.near, &d.number, &f.corners, &f.sides, on, up, c, s)
+    }
 }
 
 /// The work of the whole walk; the words of the solids go into `out`.

@@ -2,8 +2,10 @@
 // stage asks.
 ghost use Rattle.paper_laws.specs.InRange.{InRange};
 ghost use Rattle.candidates.specs.Keeps.{Keeps};
+ghost use Rattle.tables.specs.Words.{WordsAt};
 ghost use Rattle.walk.specs.Walk.{Searching};
 ghost use Rattle.measured.specs.Asked.{Loops};
+use loop_words::PAIRS;
 use paper::Answer;
 use paper::FACE_ROOM;
 use paper::LOOP_ROOM;
@@ -71,6 +73,39 @@ pub extern "C" fn measured_candidates(
         kept_corners,
         kept_sides,
     )
+}
+
+// The words of edges, the candidates that clash and their parts of six volumes.
+#[no_mangle]
+pub extern "C" fn measured_clashes(
+    xyz: &[i64],
+    rows: &[u8; FACE_ROOM],
+    n: usize,
+    near: &[u64; MOST_VERTICES],
+    number: &[u8; PAIRS],
+    corners: &[u64; MOST_CANDIDATES],
+    sides: &[u64; MOST_CANDIDATES],
+    on: &mut [u64; MOST_EDGES],
+    up: &mut [u64; MOST_EDGES],
+    clashes: &mut [u64; MOST_CANDIDATES],
+    sixes: &mut [i64; MOST_CANDIDATES],
+)
+    requires { ⌜ WordsAt (now xyz) (now rows) n (now near) (now number) (now corners) (now sides)
+        (now on) (now up) (now clashes) (now sixes) ⌝ }
+{
+    tables::words::put_words(
+        xyz,
+        rows,
+        n,
+        near,
+        number,
+        corners,
+        sides,
+        on,
+        up,
+        clashes,
+        sixes,
+    );
 }
 
 // The walk: how many assumptions it made.

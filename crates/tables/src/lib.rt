@@ -1,7 +1,7 @@
 // The way from a drawing to the tables that the walk is lent, or to what refuses it: rules, loops, candidates, words. Assumes lists that
 // passed 3 to 10.
 pub mod rows;
-mod words;
+pub mod words;
 
 ghost use Rattle.tables.specs.Tables.{TablesAt, TabledIs};
 use drawing_links::neighbours;
