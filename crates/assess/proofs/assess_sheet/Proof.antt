@@ -1,0 +1,51 @@
+-- `assess::assess_sheet`: the rooms are large enough, and the answer does not go by what they hold. Assumes nothing.
+use mathlib.Core.List.{List}
+use mathlib.Core.Path.{_≡_, ap}
+use Prim.Native.Nat.{ℕ}
+use native.Mathlib.Omega.{arith}
+use lib.ListN.{replicate}
+use borrow.Author.Needs.{needs}
+use denote.Ref.{now}
+use Rattle.paper.specs.Numbers.{mostSolids, faceRoom, solidRoom}
+use Rattle.paper.specs.Format.{editionOne, coordinatesIn, endsIn}
+use Rattle.paper.specs.Sheet.{sheetChecks}
+use Rattle.paper.specs.Drawing.{wire}
+use Rattle.paper.specs.Conversion.{Converted, convertSheet}
+use Rattle.means_volume.proofs.Reports.{small-enough}
+use Rattle.assess.proofs.Rooms.{answer-same, assessed}
+use Rattle.assess.proofs.assess_sheet.Statement.{statement}
+use Rattle.assess.proofs.assess_sheet.Tie as tie
+
+slice-aggregate-convert-sheet : tie.Need-slice-aggregate-convert-sheet
+slice-aggregate-convert-sheet c = search needs
+
+slice-aggregate-convert-sheet-2 : tie.Need-slice-aggregate-convert-sheet-2
+slice-aggregate-convert-sheet-2 c = search needs
+
+convert-sheet-requires : tie.Need-convert-sheet-requires
+convert-sheet-requires c κs = search needs
+
+reading-requires : tie.Need-reading-requires
+reading-requires c κs = search needs
+
+returns : tie.Need-returns
+unfolding convertSheet
+returns c =
+    let k = c .before .before .before in
+    let a = k .before .before .before .before .args in
+    let form = (sheetChecks editionOne (now (a .sheet))) in
+    let d = (wire (coordinatesIn editionOne (now (a .sheet))) (endsIn editionOne (now (a .sheet)))) in
+    assessed (convertSheet (now (a .sheet)) (a .limit))
+    (λ f s f′ s′ p q p′ q′. answer-same f s f′ s′ p q p′ q′ mostSolids form d (a .limit)) (small-enough .sheets-read (now (a .sheet)) (a .limit))
+    (replicate faceRoom 0) (replicate solidRoom 0) (omega arith) (omega arith)
+    (ap (λ (x : Converted). x .answer) (k .convert-sheet .ensures .0)) (c .reading .ensures .0) (c .reading .ensures .1 .0)
+
+pub assess-sheet-spec : {M : Type 1} → statement M
+assess-sheet-spec =
+    tie.close
+    (tie.spec
+    slice-aggregate-convert-sheet
+    slice-aggregate-convert-sheet-2
+    convert-sheet-requires
+    reading-requires
+    returns)
