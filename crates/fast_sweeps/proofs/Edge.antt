@@ -6,6 +6,7 @@ use Prim.Native.Nat.{ℕ, zero, suc, _+_, _≤_}
 use native.Mathlib.Omega.{arith}
 use lib.ListN.{set}
 use lib.Dec.{eqb, ltb}
+use borrow.Author.Tests.{eqb-true}
 use Rattle.lists.proofs.Truth.{or-none}
 use Rattle.sets.specs.Word.{bit, dig, count, both}
 use Rattle.paper.specs.Walk.{Status, Taken, Rejected, Undecided, isTaken, isOpen, takenOn, openOn, openCount, decideOne, decide, settle}
@@ -108,24 +109,6 @@ none-settle mask st = go (eqb (takenOn mask st) 2) (eqb (takenOn mask st + openO
     go false true e = count-opens mask st ∙ sym (ap (openOn mask) e) ∙ decide-shut Taken refl mask st
     go false false e = refl
 
--- the edge has one of those decided, if there is one
-pub meets-self : (mask : List Bool) (st : List Status) → meets mask (decidedOn mask st) ≡ false → count (decidedOn mask st) ≡ 0
-unfolding decidedOn count both meets
-meets-self mask st = go (eqb (takenOn mask st) 2) (eqb (takenOn mask st + openOn mask st) 2)
-  where
-    both-self : (r x : List Bool) → meets r (both r x) ≡ false → count (both r x) ≡ 0
-    both-self [] x e = refl
-    both-self (b ∷ r) [] e = refl
-    both-self (false ∷ r) (c ∷ x) e = omega (arith, both-self r x e)
-    both-self (true ∷ r) (false ∷ x) e = omega (arith, both-self r x e)
-    both-self (true ∷ r) (true ∷ x) e = absurd (true≢false e)
-
-    go : (a b : Bool) → meets mask (cond a (both mask (map isOpen st)) (cond b (both mask (map isOpen st)) [])) ≡ false
-        → count (cond a (both mask (map isOpen st)) (cond b (both mask (map isOpen st)) [])) ≡ 0
-    go true b e = both-self mask (map isOpen st) e
-    go false true e = both-self mask (map isOpen st) e
-    go false false e = refl
-
 -- how many are decided
 pub count-decided : (mask : List Bool) (st : List Status)
     → count (decidedOn mask st) ≡ cond (eqb (takenOn mask st) 2) (openOn mask st)
@@ -154,9 +137,53 @@ settled-same {r} {s} {st} w t = record {
         count-decided r s ∙ ap₂ (λ (m l : ℕ). cond (eqb m 2) l (cond (eqb (m + l) 2) l 0)) (w .taken) (w .undecided)
         ∙ sym (count-decided r st)
 
-pub settled-none : (mask : List Bool) (st : List Status) → contradicts mask st ≡ false → count (decidedOn mask st) ≡ 0
-    → Settled mask (settle mask st)
-settled-none mask st c z = subst (Settled mask) (sym (settle-none mask st z)) (record { calm = c; still = settle-none mask st z })
+-- two taken and none undecided
+two-settled : (mask : List Bool) (s : List Status) → takenOn mask s ≡ 2 → openOn mask s ≡ 0 → Settled mask s
+unfolding contradicts
+two-settled mask s m l = record {
+  calm = ap₂ (λ (m l : ℕ). ltb 2 m || ltb (m + l) 2) m l;
+  still = settle-none mask s (count-decided mask s ∙ ap₂ (λ (m l : ℕ). cond (eqb m 2) l (cond (eqb (m + l) 2) l 0)) m l);
+}
+
+one-rejected : (b : Bool) (s : Status) → bit (b && isTaken (decideOne Rejected b s)) ≡ bit (b && isTaken s)
+one-rejected false s = refl
+one-rejected true Taken = refl
+one-rejected true Rejected = refl
+one-rejected true Undecided = refl
+
+rejected-taken : (mask : List Bool) (st : List Status) → takenOn mask (decide Rejected mask st) ≡ takenOn mask st
+unfolding takenOn decide
+rejected-taken [] st = refl
+rejected-taken (b ∷ mask) [] = refl
+rejected-taken (b ∷ mask) (s ∷ st) = ap₂ _+_ (one-rejected b s) (rejected-taken mask st)
+
+one-accepted : (b : Bool) (s : Status) → bit (b && isTaken (decideOne Taken b s)) ≡ bit (b && isTaken s) + bit (b && isOpen s)
+one-accepted false s = refl
+one-accepted true Taken = refl
+one-accepted true Rejected = refl
+one-accepted true Undecided = refl
+
+taken-taken : (mask : List Bool) (st : List Status) → takenOn mask (decide Taken mask st) ≡ takenOn mask st + openOn mask st
+unfolding takenOn openOn decide
+taken-taken [] st = refl
+taken-taken (b ∷ mask) [] = refl
+taken-taken (b ∷ mask) (s ∷ st) = omega (arith, one-accepted b s, taken-taken mask st)
+
+-- an edge that was just settled is settled
+pub settle-settled : (mask : List Bool) (st : List Status) → contradicts mask st ≡ false → Settled mask (settle mask st)
+unfolding settle
+settle-settled mask st c = go (eqb (takenOn mask st) 2) refl (eqb (takenOn mask st + openOn mask st) 2) refl
+  where
+    go : (a : Bool) → eqb (takenOn mask st) 2 ≡ a → (b : Bool) → eqb (takenOn mask st + openOn mask st) 2 ≡ b
+        → Settled mask (cond a (decide Rejected mask st) (cond b (decide Taken mask st) st))
+    go true p b q =
+        two-settled mask (decide Rejected mask st) (rejected-taken mask st ∙ eqb-true (takenOn mask st) 2 p)
+        (decide-shut Rejected refl mask st)
+    go false p true q =
+        two-settled mask (decide Taken mask st) (taken-taken mask st ∙ eqb-true (takenOn mask st + openOn mask st) 2 q)
+        (decide-shut Taken refl mask st)
+    go false p false q =
+        record { calm = c; still = ap₂ (λ (a b : Bool). cond a (decide Rejected mask st) (cond b (decide Taken mask st) st)) p q }
 
 -- settling an edge without a contradiction changes nothing where it leaves as many undecided
 sweep-one : (mask : List Bool) (st : List Status) → contradicts mask st ≡ false → sweep (mask ∷ []) st ≡ Stands (settle mask st)

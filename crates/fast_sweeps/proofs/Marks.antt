@@ -5,7 +5,7 @@ use mathlib.Core.Path.{_≡_, refl, sym, ap, ap₂, _∙_}
 use Prim.Native.Nat.{ℕ, zero, suc, _≤_, _<_}
 use native.Mathlib.Omega.{arith}
 use lib.ListN.{length, getD, replicate, length-replicate}
-use Rattle.sets.specs.Word.{dig, count, first, both, either, less}
+use Rattle.sets.specs.Word.{dig, count, first, both, either, less, only}
 use Rattle.sets.proofs.Digits.{never, length-either, length-both, length-less}
 use Rattle.fast_sweeps.specs.Worklist.{after, passed, edgesWith, meets, touched, nextAhead, nextLater}
 
@@ -169,5 +169,10 @@ pub length-later : (masks : List (List Bool)) (d ahead later : List Bool) → le
     → length (nextLater masks d ahead later) ≤ length masks
 unfolding nextLater
 length-later masks d ahead later h =
-    length-either (length masks) later (both (touched masks d) (passed ahead)) h
-    (omega (arith, length-both (touched masks d) (passed ahead), length-touched masks d))
+    length-either (length masks) later (less (both (touched masks d) (passed ahead)) (only (first ahead))) h
+    (omega (
+      arith,
+      length-less (both (touched masks d) (passed ahead)) (only (first ahead)),
+      length-both (touched masks d) (passed ahead),
+      length-touched masks d,
+    ))

@@ -12,17 +12,17 @@ use borrow.Author.Tests.{eq-eqb, ne-eqb}
 use Rattle.lists.proofs.Places.{drop-more}
 use Rattle.lists.proofs.Truth.{or-none, or-cases, and-left, and-right}
 use Rattle.lists.proofs.Truth as Truth
-use Rattle.sets.specs.Word.{dig, count, first, both, either, less}
-use Rattle.sets.proofs.Digits.{never, dig-both, dig-either, dig-less, first-in}
+use Rattle.sets.specs.Word.{dig, count, first, both, either, less, only}
+use Rattle.sets.proofs.Digits.{never, dig-both, dig-either, dig-less, dig-only, first-in}
 use Rattle.sets.proofs.Ones.{dig-lt, dig-none, first-low}
 use Rattle.paper.specs.Walk.{Status, openCount, settle, contradicts, Outcome, Broken, Stands, onStands, sweep, stable}
 use Rattle.means_walk.specs.Tree.{Sweeps, breaks, rests, again}
 use Rattle.means_walk.proofs.Grown.{sweeps, sweeps-stable}
 use Rattle.means_walk.proofs.Ends.{stable-fuel}
 use Rattle.means_walk.proofs.Settled.{sweep-fewer, sweep-still}
-use Rattle.fast_sweeps.specs.Worklist.{after, passed, edgesWith, meets, touched, decidedOn, nextAhead, nextLater, Settled}
+use Rattle.fast_sweeps.specs.Worklist.{after, passed, edgesWith, touched, decidedOn, nextAhead, nextLater, Settled}
 use Rattle.fast_sweeps.specs.Worklist.{afterwards, Remains}
-use Rattle.fast_sweeps.proofs.Edge.{no-break, settle-same, meets-self, settled-same, settled-none, settle-still}
+use Rattle.fast_sweeps.proofs.Edge.{no-break, settle-same, settled-same, settle-settled, settle-still}
 use Rattle.fast_sweeps.proofs.Edge.{set-same}
 use Rattle.fast_sweeps.proofs.Marks.{after-in, after-out, passed-in, passed-out, dig-sides}
 use Rattle.fast_sweeps.proofs.Marks.{length-sides, dig-touched, length-touched}
@@ -243,23 +243,30 @@ module _ (masks : List (List Bool)) where
             (nextLater masks (decidedOn mask st) ahead later)
         unfolding nextAhead nextLater
         pass-decided =
-            pass (either (after ahead) (less t (passed ahead))) (either later (both t (passed ahead)))
+            pass (either (after ahead) (less t (passed ahead))) (either later (less (both t (passed ahead)) (only here)))
             (λ j e. on j
             (or-cases (dig (after ahead) j) (dig (less t (passed ahead)) j) (sym (dig-either (after ahead) (less t (passed ahead)) j)
             ∙ e)))
-            (λ j e. off j (or-cases (dig later j) (dig (both t (passed ahead)) j) (sym (dig-either later (both t (passed ahead)) j) ∙ e)))
+            (λ j e. off j
+            (or-cases (dig later j) (dig (less (both t (passed ahead)) (only here)) j)
+            (sym (dig-either later (less (both t (passed ahead)) (only here)) j) ∙ e)))
             (λ j h e f.
             let p = or-none (dig (after ahead) j) (dig (less t (passed ahead)) j)
             (sym (dig-either (after ahead) (less t (passed ahead)) j) ∙ e) in
-            let q = or-none (dig later j) (dig (both t (passed ahead)) j) (sym (dig-either later (both t (passed ahead)) j) ∙ f) in
-            let m : dig t j ≡ false = neither (dig t j) (dig (passed ahead) j) (sym (dig-less t (passed ahead) j) ∙ p .1)
-            (sym (dig-both t (passed ahead) j) ∙ q .1) in
-            go j h (p .0) (q .0) (sym (dig-touched masks (decidedOn mask st) j) ∙ m) (ℕ-discrete j here))
+            let q = or-none (dig later j) (dig (less (both t (passed ahead)) (only here)) j)
+            (sym (dig-either later (less (both t (passed ahead)) (only here)) j) ∙ f) in
+            go j h (p .0) (q .0) (sym (dig-less t (passed ahead) j) ∙ p .1) (sym (dig-less (both t (passed ahead)) (only here) j) ∙ q .1)
+            (ℕ-discrete j here))
           where
             neither : (a b : Bool) → (a && not b) ≡ false → (a && b) ≡ false → a ≡ false
             neither false b p q = refl
             neither true true p q = q
             neither true false p q = p
+
+            left-off : (a b : Bool) → b ≡ false → (a && not b) ≡ false → a ≡ false
+            left-off false b p q = refl
+            left-off true true p q = never p
+            left-off true false p q = q
 
             not-true : (a : Bool) → not a ≡ true → a ≡ false
             not-true true e = sym e
@@ -275,14 +282,21 @@ module _ (masks : List (List Bool)) where
                       (arith, length-touched masks (decidedOn mask st)),
                 )
 
-            off : (j : ℕ) → (dig later j ≡ true) ⊎ (dig (both t (passed ahead)) j ≡ true) → j ≤ here
+            off : (j : ℕ) → (dig later j ≡ true) ⊎ (dig (less (both t (passed ahead)) (only here)) j ≡ true) → j ≤ here
             off j (inl e) = off-here j e
-            off j (inr e) = passed-in ahead j (and-right (dig t j) (dig (passed ahead) j) (sym (dig-both t (passed ahead) j) ∙ e))
+            off j (inr e) =
+                let b : dig (both t (passed ahead)) j ≡ true = and-left (dig (both t (passed ahead)) j) (not (dig (only here) j))
+                (sym (dig-less (both t (passed ahead)) (only here) j) ∙ e) in
+                passed-in ahead j (and-right (dig t j) (dig (passed ahead) j) (sym (dig-both t (passed ahead) j) ∙ b))
 
             go : (j : ℕ) → j < length masks → dig (after ahead) j ≡ false → dig later j ≡ false
-                → meets (getD masks j []) (decidedOn mask st) ≡ false → Dec (j ≡ here)
-                → Settled (getD masks j []) (settle mask st)
-            go j h e f m (yes p) =
-                subst (λ (x : ℕ). Settled (getD masks x []) (settle mask st)) (sym p)
-                (settled-none mask st c (meets-self mask st (subst (λ (x : ℕ). meets (getD masks x []) (decidedOn mask st) ≡ false) p m)))
-            go j h e f m (no p) = settled-same (settle-same (getD masks j []) mask st m) (i .settled j h (after-out ahead j e p) f)
+                → (dig t j && not (dig (passed ahead) j)) ≡ false → (dig (both t (passed ahead)) j && not (dig (only here) j)) ≡ false
+                → Dec (j ≡ here) → Settled (getD masks j []) (settle mask st)
+            go j h e f a b (yes p) =
+                subst (λ (x : ℕ). Settled (getD masks x []) (settle mask st)) (sym p) (settle-settled mask st c)
+            go j h e f a b (no p) =
+                let w : dig (both t (passed ahead)) j ≡ false = left-off (dig (both t (passed ahead)) j) (dig (only here) j)
+                (Truth.never-true (dig (only here) j) (λ e. p (dig-only here j e))) b in
+                let m : dig t j ≡ false = neither (dig t j) (dig (passed ahead) j) a (sym (dig-both t (passed ahead) j) ∙ w) in
+                settled-same (settle-same (getD masks j []) mask st (sym (dig-touched masks (decidedOn mask st) j) ∙ m))
+                (i .settled j h (after-out ahead j e p) f)

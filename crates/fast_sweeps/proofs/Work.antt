@@ -7,7 +7,7 @@ use native.Mathlib.Omega.{arith}
 use lib.Dec.{eqb}
 use lib.ListN.{length, set, replicate, length-replicate}
 use borrow.Author.Tests.{eqb-true, eqb-false}
-use Rattle.sets.specs.Word.{dig, count, both, less}
+use Rattle.sets.specs.Word.{dig, count, both, less, only, first}
 use Rattle.sets.proofs.Digits.{never, dig-both, dig-either, dig-less}
 use Rattle.paper.specs.Walk.{Status, openCount, Outcome, Stands, stable}
 use Rattle.fast_sweeps.specs.Worklist.{after, passed, edgesWith, touched, nextAhead, nextLater, turnAhead, turnLater}
@@ -45,9 +45,12 @@ pub later-none : (masks : List (List Bool)) (d ahead later : List Bool) → coun
     → dig (nextLater masks d ahead later) j ≡ dig later j
 unfolding nextLater
 later-none masks d ahead later z j =
-    dig-either later (both (touched masks d) (passed ahead)) j
-    ∙ or-first (dig later j) (dig (both (touched masks d) (passed ahead)) j) (dig-both (touched masks d) (passed ahead) j
-    ∙ and-off (dig (touched masks d) j) (dig (passed ahead) j) (touched-off masks d z j))
+    let t = both (touched masks d) (passed ahead) in
+    let off : dig t j ≡ false
+    = dig-both (touched masks d) (passed ahead) j ∙ and-off (dig (touched masks d) j) (dig (passed ahead) j) (touched-off masks d z j) in
+    dig-either later (less t (only (first ahead))) j
+    ∙ or-first (dig later j) (dig (less t (only (first ahead))) j)
+    (dig-less t (only (first ahead)) j ∙ and-off (dig t j) (not (dig (only (first ahead)) j)) off)
 
 module _ (masks : List (List Bool)) where
   -- "if ahead == 0 { ahead = later; later = 0; }"

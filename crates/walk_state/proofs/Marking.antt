@@ -1,4 +1,4 @@
--- The marks after an edge is passed: edges above it are still ahead in this sweep, the others wait for the next. Assumes nothing.
+-- The marks after an edge is passed: edges above it are still ahead in this sweep, those below wait for the next. Assumes nothing.
 use mathlib.Core.Bool.{Bool, true, false}
 use mathlib.Core.List.{List, [], _∷_}
 use mathlib.Core.Path.{_≡_, refl, ap, _∙_, subst}
@@ -8,7 +8,7 @@ use native.Mathlib.Omega.{arith}
 use lib.Dec.{eqb}
 use lib.ListN.{length, replicate}
 use borrow.Author.Tests.{eq-eqb, ne-eqb}
-use Rattle.sets.specs.Word.{word, count, first, both, either, less}
+use Rattle.sets.specs.Word.{word, count, first, both, either, less, only}
 use Rattle.sets.specs.Sets.{room, packedSet, Is, size, Joint, Minus, Lowest, Dropped}
 use Rattle.sets.specs.declared.Set.{Set}
 use Rattle.sets.proofs.Digits.{length-both, length-either, length-less}
@@ -70,8 +70,14 @@ module _ (sides : List ℕ) (m : Marks) (p : 0 < size (m .ahead)) {e : ℕ} (low
       → length (nextLater masks x a l) ≤ room
   unfolding nextLater
   short-later masks x a l s h =
-      length-either room l (both (touched masks x) (passed a)) h
-      (omega (arith, length-both (touched masks x) (passed a), length-touched masks x, s .few))
+      length-either room l (less (both (touched masks x) (passed a)) (only (first a))) h
+      (omega (
+        arith,
+        length-less (both (touched masks x) (passed a)) (only (first a)),
+        length-both (touched masks x) (passed a),
+        length-touched masks x,
+        s .few,
+      ))
 
   -- none was decided
   pub marked-none : m .ahead .word < 2 ^ room → m .later .word < 2 ^ room → (decided : Set) → size decided ≡ 0 → {r : Marks}
@@ -87,13 +93,13 @@ module _ (sides : List ℕ) (m : Marks) (p : 0 < size (m .ahead)) {e : ℕ} (low
         (other-digits (nextLater masks x a l) (k .later-is) (short-later masks x a l s (k .later-is .short)) (later-word masks x a l c));
   }
 
-  -- some were: of their edges, those up to the one passed wait
-  pub marked-some : (decided : Set) → 0 < size decided → {x low-ones above below ahead later : Set} → Gathered sides decided x
-      → Is low-ones (replicate (e + 1) true) → Minus x low-ones above → Joint gone above ahead either → Joint x low-ones below both
+  -- some were: of their edges, those below the one passed wait
+  pub marked-some : (decided : Set) → 0 < size decided → {x low-ones above upto below ahead later : Set} → Gathered sides decided x
+      → Is low-ones (replicate (e + 1) true) → Minus x low-ones above → Joint gone above ahead either → Joint x low-ones upto both → Dropped upto e below
       → Joint (m .later) below later either → ahead .word < 2 ^ room → later .word < 2 ^ room → {r : Marks} → Turned ahead later r
       → Marked sides m decided r
   unfolding nextAhead nextLater
-  marked-some decided n {x} {low-ones} {above} {below} {ahead} {later} g w up ja down jl ha hl t = record {
+  marked-some decided n {x} {low-ones} {above} {upto} {below} {ahead} {later} g w up ja down drop jl ha hl t = record {
     few = omega (arith, t .sum, counted ahead ha .under, counted later hl .under);
     fewer = λ z. absurd (omega arith);
     same = λ masks y a l s i k.
@@ -102,7 +108,10 @@ module _ (sides : List ℕ) (m : Marks) (p : 0 < size (m .ahead)) {e : ℕ} (low
         = ap (λ (j : ℕ). replicate j true) (add-one e ∙ ap suc (low .same a f)) ∙ passed-is a (some-in f p) in
         let o : Is low-ones (passed a) = subst (Is low-ones) q w in
         let u = g masks y s i in
-        t .same (either (after a) (less (touched masks y) (passed a))) (either l (both (touched masks y) (passed a)))
+        let b = both (touched masks y) (passed a) in
+        let v : Is below (less b (only (first a)))
+        = subst (λ (j : ℕ). Is below (less b (only j))) (low .same a f) (drop .same b (down (touched masks y) (passed a) u o)) in
+        t .same (either (after a) (less (touched masks y) (passed a))) (either l (less b (only (first a))))
         (ja (after a) (less (touched masks y) (passed a)) (drops low d a f) (up .same (touched masks y) (passed a) u o))
-        (jl l (both (touched masks y) (passed a)) (k .later-is) (down (touched masks y) (passed a) u o));
+        (jl l (less b (only (first a))) (k .later-is) v);
   }

@@ -131,7 +131,8 @@ fn turned(ahead: Set, later: Set) -> Marks
     }
 }
 
-// The marks after the lowest edge ahead is passed and a set was decided on it: edges up to it wait for the next sweep.
+// The marks after the lowest edge ahead is passed and a set was decided on it: edges below it wait for the next sweep, and it itself is
+// settled.
 fn marked(sides: &[u64; MOST_CANDIDATES], m: Marks, decided: Set) -> Marks
     requires { ⌜ 0 < size (m .ahead) ⌝ }
     ensures { λ r. ⌜ Marked (now (sides .entry)) m decided r ⌝ }
@@ -147,7 +148,7 @@ fn marked(sides: &[u64; MOST_CANDIDATES], m: Marks, decided: Set) -> Marks
     let passed = Set::lowest_of(e + 1);
     turned(
         after.or(touched.minus(passed)),
-        later.or(touched.and(passed)),
+        later.or(touched.and(passed).without(e)),
     )
 }
 

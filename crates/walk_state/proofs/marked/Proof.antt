@@ -11,7 +11,7 @@ use Rattle.walk_state.proofs.marked.Tie as tie
 -- ---- the ways back: from the edges gathered to where it was asked whether any are, from there to the edge passed, and to the start
 
 abbrev asked : tie.After-or2 → tie.After-is-empty
-asked c = c .before .before .before .before .before .before .before
+asked c = c .before .before .before .before .before .before .before .before
 
 abbrev low : tie.After-is-empty → tie.After-lowest
 low c = c .before .before
@@ -72,6 +72,9 @@ or-requires c κs = search needs
 and-requires : tie.Need-and-requires
 and-requires c κs = search needs
 
+without-requires-2 : tie.Need-without-requires-2
+without-requires-2 c κs = let l = c .before .before .before .before .before .before .before .before .lowest .ensures in omega (arith, l)
+
 or-requires-2 : tie.Need-or-requires-2
 or-requires-2 c κs = search needs
 
@@ -81,14 +84,15 @@ turned-requires-2 c κs = search needs
 returns-2 : tie.Need-returns-2
 returns-2 c =
     let l = c .before in
-    let d = l .before in
+    let w = l .before in
+    let d = w .before in
     let u = d .before .before in
     let q = asked l in
     let s = start (low q) in
     let a = s .args in
     marked-some (a .sides .now) (a .m) (s .pre) (low q .lowest .ensures) (q .before .without .ensures) (a .decided)
     (is-some (a .decided) (q .is-empty .ensures) (u .before .before .before .if1 .left)) (u .before .before .gathered .ensures)
-    (u .before .lowest-of .ensures) (u .minus .ensures) (d .before .or .ensures) (d .and .ensures) (l .or2 .ensures)
+    (u .before .lowest-of .ensures) (u .minus .ensures) (d .before .or .ensures) (d .and .ensures) (w .without2 .ensures) (l .or2 .ensures)
     (next-ahead-fits (d .before)) (next-later-fits l) (c .turned2 .ensures)
 
 pub marked-spec : {M : Type 1} → statement M
@@ -106,6 +110,7 @@ marked-spec =
     minus-requires
     or-requires
     and-requires
+    without-requires-2
     or-requires-2
     turned-requires-2
     returns-2)
