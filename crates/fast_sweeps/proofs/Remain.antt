@@ -1,154 +1,33 @@
--- What is left of the whole sweeps, edge by edge: passing over a settled edge changes nothing. Assumes nothing.
+-- What a loop over marked edges keeps: where it starts, one edge passed, the next sweep, and the end. Assumes nothing.
 use mathlib.Core.Bool.{Bool, true, false, _&&_, not, cond}
-use mathlib.Core.List.{List, [], _∷_}
+use mathlib.Core.List.{List, []}
 use mathlib.Core.Logic.{_⊎_, inl, inr}
-use mathlib.Core.Path.{_≡_, refl, sym, ap, ap₂, _∙_, subst}
-use Prim.Native.Nat.{ℕ, zero, suc, _+_, _-_, _≤_, _<_}
+use mathlib.Core.Path.{_≡_, refl, sym, ap, _∙_, subst}
+use Prim.Native.Nat.{ℕ, zero, suc, _+_, _≤_, _<_}
 use native.Mathlib.Omega.{arith}
 use native.Mathlib.Decide.{ℕ-discrete}
-use lib.Dec.{eqb}
-use lib.ListN.{length, getD, drop, set, replicate, length-replicate, drop-of-length-le}
-use borrow.Author.Tests.{eq-eqb, ne-eqb}
-use Rattle.lists.proofs.Places.{drop-more}
+use lib.ListN.{length, getD, drop, set, replicate, length-replicate}
 use Rattle.lists.proofs.Truth.{or-none, or-cases, and-left, and-right}
 use Rattle.lists.proofs.Truth as Truth
 use Rattle.sets.specs.Word.{dig, count, first, both, either, less, only}
 use Rattle.sets.proofs.Digits.{never, dig-both, dig-either, dig-less, dig-only, first-in}
 use Rattle.sets.proofs.Ones.{dig-lt, dig-none, first-low}
-use Rattle.paper.specs.Walk.{Status, openCount, settle, contradicts, Outcome, Broken, Stands, onStands, sweep, stable}
-use Rattle.means_walk.specs.Tree.{Sweeps, breaks, rests, again}
-use Rattle.means_walk.proofs.Grown.{sweeps, sweeps-stable}
-use Rattle.means_walk.proofs.Ends.{stable-fuel}
-use Rattle.means_walk.proofs.Settled.{sweep-fewer, sweep-still}
+use Rattle.paper.specs.Walk.{Status, settle, contradicts, Outcome, Broken, Stands}
 use Rattle.fast_sweeps.specs.Worklist.{after, passed, edgesWith, touched, decidedOn, nextAhead, nextLater, Settled}
 use Rattle.fast_sweeps.specs.Worklist.{afterwards, Remains}
-use Rattle.fast_sweeps.proofs.Edge.{no-break, settle-same, settled-same, settle-settled, settle-still}
-use Rattle.fast_sweeps.proofs.Edge.{set-same}
+use Rattle.fast_sweeps.proofs.Edge.{settle-same, settled-same, settle-settled, set-same}
 use Rattle.fast_sweeps.proofs.Marks.{after-in, after-out, passed-in, passed-out, dig-sides}
 use Rattle.fast_sweeps.proofs.Marks.{length-sides, dig-touched, length-touched}
+use Rattle.fast_sweeps.proofs.Skips.{allSweeps, stable-still, one-edge, skip-to, at-start, skip-all, sweep-settled, stable-settled}
 
 module _ (masks : List (List Bool)) where
-  -- all sweeps from a state
-  abbrev pub allSweeps : List Status → Outcome
-  allSweeps st = stable (suc (openCount st)) masks st
-
-  -- where a sweep changes nothing, that is the end
-  pub stable-still : (st : List Status) → sweep masks st ≡ Stands st → allSweeps st ≡ Stands st
-  unfolding stable
-  stable-still st e = rw (e, eq-eqb (openCount st) (openCount st) refl)
-
-  -- the sweeps from a state: one sweep, and the sweeps from what it leaves
-  pub stable-more : (st : List Status) → allSweeps st ≡ afterwards masks masks st
-  unfolding stable afterwards
-  stable-more st = go (sweep masks st) refl
-    where
-      next : (s : List Status) → sweep masks st ≡ Stands s → Dec (openCount s ≡ openCount st)
-          → cond (eqb (openCount s) (openCount st)) (Stands s) (stable (openCount st) masks s) ≡ stable (suc (openCount s)) masks s
-      next s e (yes q) =
-          let p : s ≡ st = sweep-still masks st s e (omega arith) .0 in
-          rw (eq-eqb (openCount s) (openCount st) q)
-          (sym (stable-still s (subst (λ (x : List Status). sweep masks x ≡ Stands s) (sym p) e)))
-      next s e (no q) =
-          let l : openCount s ≤ openCount st = sweep-fewer masks st s e in
-          rw (ne-eqb (openCount s) (openCount st) q) (stable-fuel masks s (openCount st) (omega (arith, q)))
-
-      go : (o : Outcome) → sweep masks st ≡ o
-          → onStands o Broken (λ s. cond (eqb (openCount s) (openCount st)) (Stands s) (stable (openCount st) masks s)) ≡ onStands o
-          Broken (λ s. stable (suc (openCount s)) masks s)
-      go Broken e = refl
-      go (Stands s) e = next s e (ℕ-discrete (openCount s) (openCount st))
-
-  module _ (st : List Status) where
-    one-edge : (e : ℕ) → e < length masks
-        → afterwards masks (drop e masks) st ≡ cond (contradicts (getD masks e []) st) Broken
-        (afterwards masks (drop (e + 1) masks) (settle (getD masks e []) st))
-    unfolding afterwards sweep
-    one-edge e h = ap (λ (l : List (List Bool)). afterwards masks l st) (drop-more masks e [] h) ∙ go (contradicts (getD masks e []) st)
-      where
-        go : (b : Bool) → onStands (cond b Broken (sweep (drop (e + 1) masks) (settle (getD masks e []) st))) Broken
-            (λ s. stable (suc (openCount s)) masks s)
-            ≡ cond b Broken
-            (onStands (sweep (drop (e + 1) masks) (settle (getD masks e []) st)) Broken (λ s. stable (suc (openCount s)) masks s))
-        go true = refl
-        go false = refl
-
-    one-settled : (e : ℕ) → e < length masks → Settled (getD masks e []) st
-        → afterwards masks (drop e masks) st ≡ afterwards masks (drop (e + 1) masks) st
-    one-settled e h s =
-        one-edge e h ∙ ap₂ (λ (b : Bool) (x : List Status). cond b Broken (afterwards masks (drop (e + 1) masks) x)) (s .calm) (s .still)
-
-    -- edges that are settled are skipped
-    skip : (d e : ℕ) → e + d ≤ length masks → ((j : ℕ) → e ≤ j → j < e + d → Settled (getD masks j []) st)
-        → afterwards masks (drop e masks) st ≡ afterwards masks (drop (e + d) masks) st
-    skip zero e h s = let p : e ≡ e + 0 = omega arith in ap (λ (x : ℕ). afterwards masks (drop x masks) st) p
-    skip (suc d) e h s =
-        let p : (e + 1) + d ≡ e + suc d = omega arith in
-        one-settled e (omega arith) (s e (omega arith) (omega arith))
-        ∙ skip d (e + 1) (omega arith) (λ j a b. s j (omega arith) (omega arith))
-        ∙ ap (λ (x : ℕ). afterwards masks (drop x masks) st) p
-
-    pub skip-to : (e g : ℕ) → e ≤ g → g ≤ length masks → ((j : ℕ) → e ≤ j → j < g → Settled (getD masks j []) st)
-        → afterwards masks (drop e masks) st ≡ afterwards masks (drop g masks) st
-    skip-to e g h k s =
-        let p : e + (g - e) ≡ g = omega arith in
-        skip (g - e) e (omega arith) (λ j a b. s j a (omega arith)) ∙ ap (λ (x : ℕ). afterwards masks (drop x masks) st) p
-
-    at-end : afterwards masks (drop (length masks) masks) st ≡ allSweeps st
-    unfolding afterwards sweep
-    at-end =
-        let h : length masks ≤ length masks = omega arith in
-        ap (λ (l : List (List Bool)). onStands (sweep l st) Broken (λ s. stable (suc (openCount s)) masks s)) (drop-of-length-le masks h)
-
-    at-start : afterwards masks (drop 0 masks) st ≡ allSweeps st
-    at-start = sym (stable-more st)
-
-    pub skip-all : (e : ℕ) → e ≤ length masks → ((j : ℕ) → e ≤ j → j < length masks → Settled (getD masks j []) st)
-        → afterwards masks (drop e masks) st ≡ allSweeps st
-    skip-all e h s = skip-to e (length masks) h (omega arith) s ∙ at-end
-
-  -- ---- all edges are settled
-  sweep-settled : (l : List (List Bool)) (st : List Status) → ((j : ℕ) → j < length l → Settled (getD l j []) st) → sweep l st ≡ Stands st
-  unfolding sweep
-  sweep-settled [] st s = refl
-  sweep-settled (mask ∷ l) st s =
-      ap₂ (λ (b : Bool) (x : List Status). cond b Broken (sweep l x)) (s 0 (omega arith) .calm) (s 0 (omega arith) .still)
-      ∙ sweep-settled l st (λ j h. s (suc j) (omega arith))
-
-  pub settled-sweep : (l : List (List Bool)) (st : List Status) → sweep l st ≡ Stands st → (j : ℕ) → j < length l
-      → Settled (getD l j []) st
-  unfolding sweep
-  settled-sweep [] st e j h = absurd (omega arith)
-  settled-sweep (mask ∷ l) st e j h = go (contradicts mask st) refl e (settled-sweep l st) j h
-    where
-      go : (b : Bool) → contradicts mask st ≡ b → cond b Broken (sweep l (settle mask st)) ≡ Stands st
-          → (sweep l st ≡ Stands st → (j : ℕ) → j < length l → Settled (getD l j []) st)
-          → (j : ℕ) → j < length (mask ∷ l) → Settled (getD (mask ∷ l) j []) st
-      go true c q ih j h = no-break q
-      go false c q ih zero h = record { calm = c; still = settle-still mask st c (sweep-fewer l (settle mask st) st q) }
-      go false c q ih (suc j) h =
-          ih (subst (λ (x : List Status). sweep l x ≡ Stands st) (settle-still mask st c (sweep-fewer l (settle mask st) st q)) q) j
-          (omega arith)
-
-  -- what all sweeps leave is left as it is by one more
-  sweeps-still : {st s : List Status} (o : Outcome) → Sweeps masks st o → o ≡ Stands s → sweep masks s ≡ Stands s
-  sweeps-still {st} {s} o (breaks e) q = no-break q
-  sweeps-still {st} {s} o (rests {st = x} e) q = let p : x ≡ s = cc in subst (λ (y : List Status). sweep masks y ≡ Stands y) p e
-  sweeps-still {st} {s} o (again e n w) q = sweeps-still o w q
-
-  pub stable-settled : (st s : List Status) → allSweeps st ≡ Stands s → (j : ℕ) → j < length masks → Settled (getD masks j []) s
-  stable-settled st s e =
-      let r = sweeps masks (suc (openCount st)) st (omega arith) in
-      settled-sweep masks s (sweeps-still (r .0) (r .1) (sym (sweeps-stable masks (r .1) (suc (openCount st)) (omega arith)) ∙ e))
-
-  -- ---- the laws of a loop over marked edges
-
   -- it starts where every edge that is not marked is settled
   pub start : (st : List Status) (marked none : List Bool) → length marked ≤ length masks → count none ≡ 0
-      → ((j : ℕ) → j < length masks → dig marked j ≡ false → Settled (getD masks j []) st) → Remains masks (allSweeps st) st marked none
+      → ((j : ℕ) → j < length masks → dig marked j ≡ false → Settled (getD masks j []) st) → Remains masks (allSweeps masks st) st marked none
   start st marked none h z s = record {
     edge = 0;
     within = omega arith;
-    left = at-start st;
+    left = at-start masks st;
     on = λ j e. (omega arith, let l = dig-lt marked j e in omega arith);
     off = λ j e. never (sym e ∙ dig-none none z j);
     settled = λ j l e f. s j l e;
@@ -160,16 +39,16 @@ module _ (masks : List (List Bool)) where
   dig-all (suc n) (suc j) h = dig-all n j (omega arith)
 
   pub start-all : (st : List Status) (none : List Bool) → count none ≡ 0
-      → Remains masks (allSweeps st) st (replicate (length masks) true) none
+      → Remains masks (allSweeps masks st) st (replicate (length masks) true) none
   start-all st none z =
       start st (replicate (length masks) true) none (omega (arith, length-replicate (length masks) true)) z
       (λ j h e. never (sym (dig-all (length masks) j h) ∙ e))
 
-  pub start-chosen : (st s : List Status) → allSweeps st ≡ Stands s → (k : ℕ) (v : Status) (none : List Bool) → count none ≡ 0
-      → Remains masks (allSweeps (set s k v)) (set s k v) (edgesWith masks k) none
+  pub start-chosen : (st s : List Status) → allSweeps masks st ≡ Stands s → (k : ℕ) (v : Status) (none : List Bool) → count none ≡ 0
+      → Remains masks (allSweeps masks (set s k v)) (set s k v) (edgesWith masks k) none
   start-chosen st s w k v none z =
       start (set s k v) (edgesWith masks k) none (omega (arith, length-sides masks k)) z
-      (λ j h e. settled-same (set-same (getD masks j []) s k v (sym (dig-sides masks k j) ∙ e)) (stable-settled st s w j h))
+      (λ j h e. settled-same (set-same (getD masks j []) s k v (sym (dig-sides masks k j) ∙ e)) (stable-settled masks st s w j h))
 
   module _ {o : Outcome} {st : List Status} {ahead later : List Bool} (i : Remains masks o st ahead later) where
     -- nothing is marked: the end
@@ -177,14 +56,14 @@ module _ (masks : List (List Bool)) where
     finish a l =
         let s : (j : ℕ) → j < length masks
         → Settled (getD masks j []) st = λ j h. i .settled j h (dig-none ahead a j) (dig-none later l j) in
-        sym (i .left) ∙ skip-all st (i .edge) (i .within) (λ j h k. s j k) ∙ stable-still st (sweep-settled masks st s)
+        sym (i .left) ∙ skip-all masks st (i .edge) (i .within) (λ j h k. s j k) ∙ stable-still masks st (sweep-settled masks masks st s)
 
     -- nothing is ahead: the next sweep
     pub turn : (none : List Bool) → count ahead ≡ 0 → count none ≡ 0 → Remains masks o st later none
     turn none a z = record {
       edge = 0;
       within = omega arith;
-      left = at-start st ∙ sym (skip-all st (i .edge) (i .within) (λ j h k. i .settled j k (dig-none ahead a j) (low j h))) ∙ i .left;
+      left = at-start masks st ∙ sym (skip-all masks st (i .edge) (i .within) (λ j h k. i .settled j k (dig-none ahead a j) (low j h))) ∙ i .left;
       on = λ j e. (omega arith, let l = i .off j e in omega (arith, i .within));
       off = λ j e. never (sym e ∙ dig-none none z j);
       settled = λ j h e f. i .settled j h (dig-none ahead a j) e;
@@ -207,12 +86,12 @@ module _ (masks : List (List Bool)) where
       to-here : afterwards masks (drop (i .edge) masks) st ≡ afterwards masks (drop here masks) st
       to-here =
           let b = i .on here (first-in ahead n) in
-          skip-to st (i .edge) here (b .0) (omega (arith, here-lt))
+          skip-to masks st (i .edge) here (b .0) (omega (arith, here-lt))
           (λ j h k. i .settled j (omega (arith, here-lt)) (first-low ahead j k)
           (Truth.never-true (dig later j) (λ e. omega (arith, i .off j e))))
 
       passes : o ≡ cond (contradicts mask st) Broken (afterwards masks (drop (here + 1) masks) (settle mask st))
-      passes = sym (i .left) ∙ to-here ∙ one-edge st here here-lt
+      passes = sym (i .left) ∙ to-here ∙ one-edge masks st here here-lt
 
       pub breaks-off : contradicts mask st ≡ true → o ≡ Broken
       breaks-off c = passes ∙ ap (λ (b : Bool). cond b Broken (afterwards masks (drop (here + 1) masks) (settle mask st))) c
