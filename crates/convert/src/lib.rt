@@ -69,8 +69,8 @@ pub fn convert(
 ) -> Conversion
     ensures result { λ r. ⌜ leaves r (now (faces .exit)) (now (solids .exit))
         ≡ convertLists (now (xyz .entry)) (now (ends .entry)) limit (now (faces .entry)) (now (solids .entry)) ⌝ }
-    ensures said { λ r. ⌜ conversionSays r
-        ≡ conversionSays (convertLists (now (xyz .entry)) (now (ends .entry)) limit (now (faces .entry)) (now (solids .entry)) .answer) ⌝ }
+    ensures said { λ r. ⌜ conversionSays r ≡ conversionSays
+        (convertLists (now (xyz .entry)) (now (ends .entry)) limit (now (faces .entry)) (now (solids .entry)) .answer) ⌝ }
 {
     let entry = entered(limit, faces.len(), solids.len());
     match entry {
@@ -102,8 +102,8 @@ fn drawing_converted(d: Drawing, limit: u64, faces: &mut [u8], solids: &mut [u64
 pub fn convert_sheet(sheet: &[u8], limit: u64, faces: &mut [u8], solids: &mut [u64]) -> Conversion
     ensures result { λ r. ⌜ leaves r (now (faces .exit)) (now (solids .exit))
         ≡ convertSheet (now (sheet .entry)) limit (now (faces .entry)) (now (solids .entry)) ⌝ }
-    ensures said { λ r. ⌜ conversionSays r
-        ≡ conversionSays (convertSheet (now (sheet .entry)) limit (now (faces .entry)) (now (solids .entry)) .answer) ⌝ }
+    ensures said { λ r. ⌜ conversionSays r ≡ conversionSays
+        (convertSheet (now (sheet .entry)) limit (now (faces .entry)) (now (solids .entry)) .answer) ⌝ }
 {
     let entry = entered(limit, faces.len(), solids.len());
     match entry {
