@@ -1,4 +1,3 @@
 -- Laws of the report. Assumes nothing.
-pub mod Copying
 pub mod Reporting
 pub mod Concluding

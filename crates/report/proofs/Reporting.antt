@@ -16,7 +16,8 @@ use Rattle.paper.specs.declared.Conversion.the-variants as Conversion
 use Rattle.loop_table.specs.Tables.{HoldsRows}
 use Rattle.walk.specs.Tally.{Stored}
 use Rattle.walk.specs.declared.tally.Tally.{Tally}
-use Rattle.report.specs.Room.{copied, Wrote}
+use Rattle.rooms.specs.Rooms.{copied}
+use Rattle.report.specs.Room.{Wrote}
 use Rattle.report.specs.Concluded.{Concluding, Reported}
 
 -- ---- the definition, by the number of solids

@@ -1,19 +1,9 @@
--- Entries copied to the start of a lent room. Assumes nothing.
-use mathlib.Core.List.{List, _++_}
+-- A report written to the start of the two lent rooms. Assumes nothing.
+use mathlib.Core.List.{List}
 use mathlib.Core.Path.{_≡_}
-use Prim.Native.Nat.{ℕ, _*_, _≤_}
-use lib.ListN.{length, take, drop}
-use Rattle.paper.specs.Numbers.{faceRoom, rowBytes, solidWords}
-
--- the room once the first m entries were copied: later room keeps its contents
-abbrev pub copied : ℕ → List ℕ → List ℕ → List ℕ
-copied m from room = take m from ++ drop m room
-
--- m are there and there is room for them. They are few, since the code's place of a word, counted in bytes, has to fit.
-pub record Copies (m : ℕ) (from room : List ℕ) : Type 0 where
-  pub few : m ≤ faceRoom
-  pub there : m ≤ length from
-  pub fits : m ≤ length room
+use Prim.Native.Nat.{ℕ, _*_}
+use Rattle.paper.specs.Numbers.{rowBytes, solidWords}
+use Rattle.rooms.specs.Rooms.{copied, Copies}
 
 -- the rows of n candidates and the words of the solids found
 pub record Writing (rows : List ℕ) (n : ℕ) (out : List ℕ) (found : ℕ) (faces solids : List ℕ) : Type 0 where

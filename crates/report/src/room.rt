@@ -1,32 +1,11 @@
 // A report written to the start of the two lent rooms; later room keeps its contents. Assumes that there is room.
-ghost use mathlib.Core.Path.{_≡_};
-ghost use Rattle.report.specs.Room.{copied, Copies, Writing, Wrote};
+ghost use Rattle.report.specs.Room.{Writing, Wrote};
 use paper::FACE_ROOM;
 use paper::ROW;
 use paper::SOLID_ROOM;
 use paper::WORDS;
-
-fn copy_bytes(bytes: &[u8], m: usize, room: &mut [u8])
-    requires { ⌜ Copies m (now bytes) (now room) ⌝ }
-    ensures { λ _. ⌜ now (room .exit) ≡ copied m (now (bytes .entry)) (now (room .entry)) ⌝ }
-{
-    let mut i = 0;
-    while i < m {
-        room[i] = bytes[i];
-        i += 1;
-    }
-}
-
-fn copy_words(words: &[u64], m: usize, room: &mut [u64])
-    requires { ⌜ Copies m (now words) (now room) ⌝ }
-    ensures { λ _. ⌜ now (room .exit) ≡ copied m (now (words .entry)) (now (room .entry)) ⌝ }
-{
-    let mut i = 0;
-    while i < m {
-        room[i] = words[i];
-        i += 1;
-    }
-}
+use rooms::copy_bytes;
+use rooms::copy_words;
 
 // "A report writes 13 bytes per candidate and three words per solid"
 pub fn write_report(

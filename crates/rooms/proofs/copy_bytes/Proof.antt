@@ -1,9 +1,9 @@
--- `report::room::copy_bytes`: the loop keeps that the first i bytes are copied. Assumes nothing.
+-- `rooms::copy_bytes`: the loop keeps that the first i bytes are copied. Assumes nothing.
 use Prim.Native.Nat.{_-_}
 use native.Mathlib.Omega.{arith}
-use Rattle.report.proofs.Copying.{Copying, copying-start, copying-long, copying-more, copying-end}
-use Rattle.report.proofs.room.copy_bytes.Statement.{statement}
-use Rattle.report.proofs.room.copy_bytes.Tie as tie
+use Rattle.rooms.proofs.Copying.{Copying, copying-start, copying-long, copying-more, copying-end}
+use Rattle.rooms.proofs.copy_bytes.Statement.{statement}
+use Rattle.rooms.proofs.copy_bytes.Tie as tie
 
 abbrev Inv-loop : tie.InvT-loop
 Inv-loop bytes m room₀ i₀ room i = Copying m bytes room₀ room i
@@ -27,7 +27,7 @@ loop-less : tie.Need-loop-less Inv-loop μ-loop
 loop-less c = omega arith
 
 loop-again : tie.Need-loop-again Inv-loop μ-loop
-loop-again c = let at = c .before .before in copying-more (at .loop .inv) (at .before .pre) (omega arith)
+loop-again c = let at = c .before .before in copying-more (at .loop .inv) 0 (at .before .pre) (omega arith)
 
 same-length : tie.Need-same-length Inv-loop μ-loop
 same-length c = let at = c .before in copying-long (at .loop .inv) (at .before .pre)

@@ -1,4 +1,4 @@
--- Entries copied one by one to the start of a room: what the loops keep, for bytes and for words. Assumes nothing.
+-- Entries copied one by one to the start of a room: what the loops keep, for entries of any type. Assumes nothing.
 use mathlib.Core.List.{List, _++_}
 use mathlib.Core.Path.{_≡_, sym, ap, _∙_}
 use Prim.Native.Nat.{ℕ, _+_, _≤_, _<_}
@@ -7,28 +7,28 @@ use native.Mathlib.Numerals.{add-one}
 use native.Mathlib.Omega.{arith}
 use lib.ListN.{length, getD, set, take, drop}
 use lib.Seq.{paste, paste-zero, paste-suc, length-paste}
-use Rattle.report.specs.Room.{copied, Copies}
+use Rattle.rooms.specs.Rooms.{copied, Copies}
 
 -- the first i of m entries are copied
-pub record Copying (m : ℕ) (from room₀ room : List ℕ) (i : ℕ) : Type 0 where
+pub record Copying {A : Type 0} (m : ℕ) (from room₀ room : List A) (i : ℕ) : Type 0 where
   pub within : i ≤ m
   pub done : room ≡ paste room₀ 0 from i
 
-module _ {m : ℕ} {from room₀ : List ℕ} where
+module _ {A : Type 0} {m : ℕ} {from room₀ : List A} where
   pub copying-start : Copying m from room₀ room₀ 0
   copying-start = record { within = omega arith; done = paste-zero room₀ 0 from }
 
-  module _ {room : List ℕ} {i : ℕ} (s : Copying m from room₀ room i) where
+  module _ {room : List A} {i : ℕ} (s : Copying m from room₀ room i) where
     pub copying-long : Copies m from room₀ → length room ≡ length room₀
     copying-long p =
         ap length (s .done) ∙ length-paste room₀ 0 from i (omega (arith, s .within, p .fits)) (omega (arith, s .within, p .there))
 
-    pub copying-more : Copies m from room₀ → i < m → Copying m from room₀ (set room i (getD from i 0)) (i + 1)
-    copying-more p h = record {
+    pub copying-more : (z : A) → Copies m from room₀ → i < m → Copying m from room₀ (set room i (getD from i z)) (i + 1)
+    copying-more z p h = record {
       within = omega arith;
       done =
-          (λ k. set (s .done k) (sym (zero-add i) k) (getD from i 0))
-          ∙ paste-suc room₀ 0 from i 0 (omega (arith, p .fits)) (omega (arith, p .there))
+          (λ k. set (s .done k) (sym (zero-add i) k) (getD from i z))
+          ∙ paste-suc room₀ 0 from i z (omega (arith, p .fits)) (omega (arith, p .there))
           ∙ ap (paste room₀ 0 from) (sym (add-one i));
     }
 

@@ -1,9 +1,9 @@
--- `report::room::copy_words`: the loop keeps that the first i words are copied. Assumes nothing.
+-- `rooms::copy_words`: the loop keeps that the first i words are copied. Assumes nothing.
 use Prim.Native.Nat.{_-_}
 use native.Mathlib.Omega.{arith}
-use Rattle.report.proofs.Copying.{Copying, copying-start, copying-long, copying-more, copying-end}
-use Rattle.report.proofs.room.copy_words.Statement.{statement}
-use Rattle.report.proofs.room.copy_words.Tie as tie
+use Rattle.rooms.proofs.Copying.{Copying, copying-start, copying-long, copying-more, copying-end}
+use Rattle.rooms.proofs.copy_words.Statement.{statement}
+use Rattle.rooms.proofs.copy_words.Tie as tie
 
 abbrev Inv-loop : tie.InvT-loop
 Inv-loop words m room₀ i₀ room i = Copying m words room₀ room i
@@ -14,14 +14,15 @@ abbrev μ-loop : tie.MeasureT-loop
 loop-holds : tie.Need-loop-holds Inv-loop μ-loop
 loop-holds c = copying-start
 
+-- a place in the words fits a count of bytes, since the words do
 mul-room : tie.Need-mul-room Inv-loop μ-loop
-mul-room c = let at = c .before in omega (arith, at .before .pre .few)
+mul-room c = let at = c .before in omega (arith, at .before .pre .there, at .before .good .0 .1)
 
 shared-slice-read-room : tie.Need-shared-slice-read-room Inv-loop μ-loop
 shared-slice-read-room c = let at = c .before .before in omega (arith, at .before .pre .there)
 
 mul-room-2 : tie.Need-mul-room-2 Inv-loop μ-loop
-mul-room-2 c = let at = c .before .before in omega (arith, at .before .pre .few)
+mul-room-2 c = let at = c .before .before in omega (arith, at .before .pre .there, at .before .good .0 .1)
 
 slice-write-room : tie.Need-slice-write-room Inv-loop μ-loop
 slice-write-room c = let at = c .before .before in omega (arith, copying-long (at .loop .inv) (at .before .pre), at .before .pre .fits)
@@ -33,7 +34,7 @@ loop-less : tie.Need-loop-less Inv-loop μ-loop
 loop-less c = omega arith
 
 loop-again : tie.Need-loop-again Inv-loop μ-loop
-loop-again c = let at = c .before .before in copying-more (at .loop .inv) (at .before .pre) (omega arith)
+loop-again c = let at = c .before .before in copying-more (at .loop .inv) 0 (at .before .pre) (omega arith)
 
 same-length : tie.Need-same-length Inv-loop μ-loop
 same-length c = let at = c .before in copying-long (at .loop .inv) (at .before .pre)

@@ -1,0 +1,2 @@
+-- What the copying loops keep. Assumes nothing.
+pub mod Copying

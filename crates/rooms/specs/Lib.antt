@@ -1,0 +1,2 @@
+-- What contracts on copied entries cite. Assumes nothing.
+pub mod Rooms
