@@ -1,0 +1,122 @@
+-- `export::lists::handed`: each way out knows the lengths of the lists that were tested. Its three ways out are three laws. Assumes nothing.
+use native.Mathlib.Omega.{arith}
+use denote.Ref.{now}
+use Rattle.export.proofs.Handing.{points-short, links-short, both-handed}
+use borrow.Author.Needs.{needs}
+use Rattle.export.proofs.lists.handed.Statement.{statement}
+use Rattle.export.proofs.lists.handed.Tie as tie
+
+-- ---- the ways back: to the start, to the ends' copy, to both lists tested
+
+abbrev start : tie.After-struct-known2 → tie.Start
+start c = c .before .before .before .before
+
+abbrev copied : tie.After-counts-said → tie.After-copy-bytes
+copied c = c .before .before .before
+
+abbrev tested : tie.After-copy-bytes → tie.Else2
+tested c = c .before .before .before .before .before .before .before .before .before
+
+mul-m : tie.Need-mul-m
+mul-m c = omega (arith, c .before .before .before .pre .most)
+
+mul-n : tie.Need-mul-n
+mul-n c = omega (arith, c .before .before .before .before .pre .few)
+
+refusal-said-requires : tie.Need-refusal-said-requires
+refusal-said-requires c κs = search needs
+
+tell-requires : tie.Need-tell-requires
+tell-requires c κs = search needs
+
+same-length : tie.Need-same-length
+same-length c = search needs
+
+returns : tie.Need-returns
+returns c =
+    let t = c .before .before in
+    let s = t .before .before in
+    let b = s .before in
+    let a = start (b .before) .args in
+    points-short (a .d) (start (b .before) .pre) (now (a .xyz)) (now (a .ends)) (t .tell .ensures) (b .if1 .taken) (s .refusal-said .ensures)
+
+refusal-said-requires-2 : tie.Need-refusal-said-requires-2
+refusal-said-requires-2 c κs = search needs
+
+tell-requires-2 : tie.Need-tell-requires-2
+tell-requires-2 c κs = search needs
+
+same-length-2 : tie.Need-same-length-2
+same-length-2 c = search needs
+
+returns-2 : tie.Need-returns-2
+returns-2 c =
+    let t = c .before .before in
+    let s = t .before .before in
+    let b = s .before in
+    let o = start (b .before .before) in
+    let a = o .args in
+    links-short (a .d) (o .pre) (now (a .xyz)) (now (a .ends)) (t .tell2 .ensures) (b .before .if1 .left) (b .if2 .taken) (s .refusal-said2 .ensures)
+
+slice-aggregate-copy-numbers : tie.Need-slice-aggregate-copy-numbers
+slice-aggregate-copy-numbers c = search needs
+
+copy-numbers-requires : tie.Need-copy-numbers-requires
+copy-numbers-requires c κs = search needs
+
+slice-aggregate-copy-bytes : tie.Need-slice-aggregate-copy-bytes
+slice-aggregate-copy-bytes c = search needs
+
+copy-bytes-requires : tie.Need-copy-bytes-requires
+copy-bytes-requires c κs = search needs
+
+counts-said-requires : tie.Need-counts-said-requires
+counts-said-requires c κs = search needs
+
+tell-requires-3 : tie.Need-tell-requires-3
+tell-requires-3 c κs = search needs
+
+same-length-3 : tie.Need-same-length-3
+same-length-3 c = search needs
+
+same-length-4 : tie.Need-same-length-4
+same-length-4 c = search needs
+
+same-length-5 : tie.Need-same-length-5
+same-length-5 c = search needs
+
+returns-3 : tie.Need-returns-3
+returns-3 c =
+    let t = c .before .before in
+    let s = t .before .before in
+    let n = copied s in
+    let b = tested n in
+    let o = start (b .before .before) in
+    let a = o .args in
+    both-handed (a .d) (o .pre) (now (a .xyz)) (now (a .ends)) (t .tell3 .ensures) (b .before .if1 .left) (b .if2 .left)
+    (n .before .before .before .before .copy-numbers .ensures) (n .copy-bytes .ensures) (s .counts-said .ensures)
+
+pub handed-spec : {M : Type 1} → statement M
+handed-spec =
+    tie.close
+    (tie.spec
+    mul-m
+    mul-n
+    refusal-said-requires
+    tell-requires
+    same-length
+    returns
+    refusal-said-requires-2
+    tell-requires-2
+    same-length-2
+    returns-2
+    slice-aggregate-copy-numbers
+    copy-numbers-requires
+    slice-aggregate-copy-bytes
+    copy-bytes-requires
+    counts-said-requires
+    tell-requires-3
+    same-length-3
+    same-length-4
+    same-length-5
+    returns-3)

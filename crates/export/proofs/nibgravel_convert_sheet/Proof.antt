@@ -1,0 +1,45 @@
+-- `export::nibgravel_convert_sheet`: the answer is told as it is, and the rooms are the conversion's. Assumes nothing.
+use Rattle.export.proofs.Telling.{converts-as}
+use borrow.Author.Needs.{needs}
+use Rattle.export.proofs.nibgravel_convert_sheet.Statement.{statement}
+use Rattle.export.proofs.nibgravel_convert_sheet.Tie as tie
+
+-- the way back from the answer in words to the conversion
+abbrev converted : tie.After-conversion-said → tie.After-convert-sheet
+converted c = c .before .before .before .before .before
+
+convert-sheet-requires : tie.Need-convert-sheet-requires
+convert-sheet-requires c κs = search needs
+
+conversion-said-requires : tie.Need-conversion-said-requires
+conversion-said-requires c κs = search needs
+
+tell-requires : tie.Need-tell-requires
+tell-requires c κs = search needs
+
+same-length : tie.Need-same-length
+same-length c = search needs
+
+same-length-2 : tie.Need-same-length-2
+same-length-2 c = search needs
+
+same-length-3 : tie.Need-same-length-3
+same-length-3 c = search needs
+
+returns : tie.Need-returns
+returns c =
+    let t = c .before .before in
+    let s = t .before .before in
+    converts-as (t .tell .ensures) (s .conversion-said .ensures) (converted s .convert-sheet .ensures .0)
+
+pub nibgravel-convert-sheet-spec : {M : Type 1} → statement M
+nibgravel-convert-sheet-spec =
+    tie.close
+    (tie.spec
+    convert-sheet-requires
+    conversion-said-requires
+    tell-requires
+    same-length
+    same-length-2
+    same-length-3
+    returns)

@@ -1,0 +1,91 @@
+-- `export::nibgravel_read_sheet`: a sheet that is refused is told so, another is handed over. Assumes nothing.
+use mathlib.Core.Path.{_≡_, sym, ap, _∙_, subst}
+use denote.Ref.{now}
+use Rattle.paper.specs.Refusals.{firstOf}
+use Rattle.paper.specs.Format.{editionOne}
+use Rattle.paper.specs.Sheet.{sheetChecks, sheetOf}
+use Rattle.paper.specs.declared.Sheet.{Sheet}
+use Rattle.paper_laws.specs.InRange.{Held}
+use Rattle.sheet_reader.proofs.Range.{read-range}
+use Rattle.export.proofs.Handing.{sheet-refused, sheet-handed}
+use borrow.Author.Needs.{needs}
+use Rattle.export.proofs.nibgravel_read_sheet.Statement.{statement}
+use Rattle.export.proofs.nibgravel_read_sheet.Tie as tie
+
+-- the way back to the start
+abbrev start : tie.After-read-sheet → tie.Start
+start c = c .before .before .before .before
+
+form-is : (c : tie.After-read-sheet) → c .read-sheet .result .answer ≡ firstOf (sheetChecks editionOne (now (start c .args .sheet)))
+unfolding sheetOf
+form-is c = ap (λ (r : Sheet). r .answer) (c .read-sheet .ensures .0)
+
+read-sheet-requires : tie.Need-read-sheet-requires
+read-sheet-requires c κs = search needs
+
+enum-known-answer : tie.Need-enum-known-answer
+enum-known-answer c = search needs
+
+refusal-said-requires : tie.Need-refusal-said-requires
+refusal-said-requires c κs = search needs
+
+tell-requires : tie.Need-tell-requires
+tell-requires c κs = search needs
+
+enum-told : tie.Need-enum-told
+enum-told c = search needs
+
+handed-requires : tie.Need-handed-requires
+unfolding sheetOf
+handed-requires c κs =
+    let f = c .before .before .before in
+    let l = f .before .before in
+    subst (λ (r : Sheet). Held (r .drawing)) (sym (l .read-sheet .ensures .0))
+    (read-range (now (start l .args .sheet)) (sym (f .enum-told .given .1) ∙ form-is l))
+
+same-length : tie.Need-same-length
+same-length c = search needs
+
+returns : tie.Need-returns
+returns c =
+    let t = c .before .before in
+    let s = t .before .before in
+    let l = s .before .before .before .before in
+    let a = start l .args in
+    sheet-refused (now (a .sheet)) (now (a .xyz)) (now (a .ends)) (t .tell .ensures) (s .refusal-said .ensures)
+    (sym (s .before .before .answer .given .1) ∙ form-is l)
+
+same-length-2 : tie.Need-same-length-2
+same-length-2 c = search needs
+
+same-length-3 : tie.Need-same-length-3
+same-length-3 c = search needs
+
+same-length-4 : tie.Need-same-length-4
+same-length-4 c = search needs
+
+returns-2 : tie.Need-returns-2
+returns-2 c =
+    let h = c .before .before .before .before .before in
+    let f = h .before .before .before .before in
+    let l = f .before .before in
+    let a = start l .args in
+    sheet-handed (now (a .sheet)) (now (a .xyz)) (now (a .ends)) (l .read-sheet .ensures .0) (sym (f .enum-told .given .1) ∙ form-is l)
+    (h .handed .ensures)
+
+pub nibgravel-read-sheet-spec : {M : Type 1} → statement M
+nibgravel-read-sheet-spec =
+    tie.close
+    (tie.spec
+    read-sheet-requires
+    enum-known-answer
+    refusal-said-requires
+    tell-requires
+    enum-told
+    handed-requires
+    same-length
+    returns
+    same-length-2
+    same-length-3
+    same-length-4
+    returns-2)

@@ -1,0 +1,77 @@
+-- `export::words::conversion_said`: each arm knows which answer it has. Assumes nothing.
+use borrow.Author.Needs.{needs}
+use Rattle.paper.specs.Reading.{conversionSays}
+use mathlib.Core.Path.{refl}
+use native.Mathlib.Omega.{arith}
+use Rattle.export.proofs.Telling.{said-as}
+use Rattle.export.proofs.words.conversion_said.Statement.{statement}
+use Rattle.export.proofs.words.conversion_said.Tie as tie
+
+enum-known-c : tie.Need-enum-known-c
+enum-known-c c = search needs
+
+enum-known-c-2 : tie.Need-enum-known-c-2
+enum-known-c-2 c = search needs
+
+enum-known-c-3 : tie.Need-enum-known-c-3
+enum-known-c-3 c = search needs
+
+ended-said-requires : tie.Need-ended-said-requires
+ended-said-requires c κs = search needs
+
+enum-known-c-4 : tie.Need-enum-known-c-4
+enum-known-c-4 c = search needs
+
+ended-said-requires-2 : tie.Need-ended-said-requires-2
+ended-said-requires-2 c κs = search needs
+
+enum-known-c-5 : tie.Need-enum-known-c-5
+enum-known-c-5 c = search needs
+
+ended-said-requires-3 : tie.Need-ended-said-requires-3
+ended-said-requires-3 c κs = search needs
+
+enum-known-c-6 : tie.Need-enum-known-c-6
+enum-known-c-6 c = search needs
+
+refusal-said-requires : tie.Need-refusal-said-requires
+refusal-said-requires c κs = search needs
+
+returns : tie.Need-returns
+returns c = said-as conversionSays (c .before .c .given .1) (record { telling = record { few = omega arith; long = refl }; are = refl })
+
+returns-2 : tie.Need-returns-2
+returns-2 c = said-as conversionSays (c .before .c2 .given .1) (record { telling = record { few = omega arith; long = refl }; are = refl })
+
+returns-3 : tie.Need-returns-3
+returns-3 c = said-as conversionSays (c .before .before .c3 .given .1) (c .ended-said .ensures)
+
+returns-4 : tie.Need-returns-4
+returns-4 c = said-as conversionSays (c .before .before .c4 .given .1) (c .ended-said2 .ensures)
+
+returns-5 : tie.Need-returns-5
+returns-5 c = said-as conversionSays (c .before .before .c5 .given .1) (c .ended-said3 .ensures)
+
+returns-6 : tie.Need-returns-6
+returns-6 c = said-as conversionSays (c .before .before .c6 .given .1) (c .refusal-said .ensures)
+
+pub conversion-said-spec : {M : Type 1} → statement M
+conversion-said-spec =
+    tie.close
+    (tie.spec
+    enum-known-c
+    enum-known-c-2
+    enum-known-c-3
+    ended-said-requires
+    enum-known-c-4
+    ended-said-requires-2
+    enum-known-c-5
+    ended-said-requires-3
+    enum-known-c-6
+    refusal-said-requires
+    returns
+    returns-2
+    returns-3
+    returns-4
+    returns-5
+    returns-6)

@@ -1,0 +1,4 @@
+-- What contracts of this crate cite beside the paper. Assumes nothing.
+pub mod Words
+pub mod Lists
+pub mod Volume

@@ -1,0 +1,133 @@
+// The interface for C and Rust: numbers and lent slices only. Nothing is assumed of any input. An answer is document 01's number, which is
+// returned, 0 where nothing is refused; `said` gets it with its place and values, as far as it reaches.
+mod lists;
+mod volume;
+mod words;
+
+ghost use Rattle.paper.specs.Format.{editionOne};
+ghost use Rattle.paper.specs.Conversion.{convertLists, convertSheet};
+ghost use Rattle.paper.specs.FaceList.{sentRoom};
+ghost use Rattle.paper.specs.Reading.{sentSaid, writtenSaid};
+ghost use Rattle.paper.specs.Sheet.{roomOf};
+ghost use Rattle.faces_writer.specs.Send.{ofSolid};
+ghost use Rattle.export.specs.Words.{Tells, WritesAs, ConvertsAs};
+ghost use Rattle.export.specs.Lists.{readInto, ReadsAs};
+ghost use Rattle.export.specs.Volume.{AssessesAs};
+use assess::assess;
+use assess::assess_sheet;
+use convert::convert;
+use convert::convert_sheet;
+use faces_writer::write_faces;
+use lists::handed;
+use paper::Answer;
+use sheet_reader::read_sheet;
+use sheet_writer::write_sheet;
+use volume::show;
+use words::conversion_said;
+use words::refusal_said;
+use words::tell;
+use words::written_said;
+
+// Reads a sheet into two lent lists: 3 to 10, then 1 where a list is too short (0 coordinates, 1 ends). Values: vertices, edges.
+#[no_mangle]
+pub extern "C" fn nibgravel_read_sheet(
+    sheet: &[u8],
+    xyz: &mut [i64],
+    ends: &mut [u8],
+    said: &mut [u64],
+) -> u64
+    ensures { λ r. ⌜ ReadsAs (readInto (now (sheet .entry)) (now (xyz .entry)) (now (ends .entry))) r (now (xyz .exit)) (now (ends .exit))
+        (now (said .entry)) (now (said .exit)) ⌝ }
+{
+    let read = read_sheet(sheet);
+    let answer = read.answer;
+    match answer {
+        Answer::Refused(r) => tell(refusal_said(r), said),
+        Answer::Fine => handed(read.drawing, xyz, ends, said),
+    }
+}
+
+// Writes a drawing's sheet: 5, 8, 9, 10, then 1. Value: its length.
+#[no_mangle]
+pub extern "C" fn nibgravel_write_sheet(
+    xyz: &[i64],
+    ends: &[u8],
+    room: &mut [u8],
+    said: &mut [u64],
+) -> u64
+    ensures { λ r. ⌜ WritesAs (writtenSaid editionOne (now (xyz .entry)) (now (ends .entry)) (now (room .entry)))
+        (roomOf editionOne (now (xyz .entry)) (now (ends .entry)) (now (room .entry))) r (now (room .exit))
+        (now (said .entry)) (now (said .exit)) ⌝ }
+{
+    tell(written_said(write_sheet(xyz, ends, room)), said)
+}
+
+// Writes a reported solid as a face list, from the report's rows and the solid's first two words: 20, then 1. Value: its length.
+#[no_mangle]
+pub extern "C" fn nibgravel_write_faces(
+    rows: &[u8],
+    taken: u64,
+    turned: u64,
+    room: &mut [u8],
+    said: &mut [u64],
+) -> u64
+    ensures { λ r. ⌜ WritesAs (ofSolid (sentSaid editionOne) (now (rows .entry)) taken turned (now (room .entry)))
+        (ofSolid (sentRoom editionOne) (now (rows .entry)) taken turned (now (room .entry))) r (now (room .exit))
+        (now (said .entry)) (now (said .exit)) ⌝ }
+{
+    tell(written_said(write_faces(rows, taken, turned, room)), said)
+}
+
+// Converts two lent lists: 1, 2, 5, 8 to 19. Values: loops, candidates; of a report also work, solids and, of one solid, six volumes.
+#[no_mangle]
+pub extern "C" fn nibgravel_convert(
+    xyz: &[i64],
+    ends: &[u8],
+    limit: u64,
+    faces: &mut [u8],
+    solids: &mut [u64],
+    said: &mut [u64],
+) -> u64
+    ensures { λ r. ⌜ ConvertsAs (convertLists (now (xyz .entry)) (now (ends .entry)) limit (now (faces .entry)) (now (solids .entry))) r
+        (now (faces .exit)) (now (solids .exit)) (now (said .entry)) (now (said .exit)) ⌝ }
+{
+    tell(
+        conversion_said(convert(xyz, ends, limit, faces, solids)),
+        said,
+    )
+}
+
+// Converts a sheet: 1 to 19. Values as above.
+#[no_mangle]
+pub extern "C" fn nibgravel_convert_sheet(
+    sheet: &[u8],
+    limit: u64,
+    faces: &mut [u8],
+    solids: &mut [u64],
+    said: &mut [u64],
+) -> u64
+    ensures { λ r. ⌜ ConvertsAs (convertSheet (now (sheet .entry)) limit (now (faces .entry)) (now (solids .entry))) r
+        (now (faces .exit)) (now (solids .exit)) (now (said .entry)) (now (said .exit)) ⌝ }
+{
+    tell(
+        conversion_said(convert_sheet(sheet, limit, faces, solids)),
+        said,
+    )
+}
+
+// The reading of two lent lists, for which no rooms are lent: 0 with a volume in cubic metres, or why there is none.
+#[no_mangle]
+pub extern "C" fn nibgravel_assess(xyz: &[i64], ends: &[u8], limit: u64, volume: &mut [f64]) -> u64
+    ensures { λ r. ⌜ AssessesAs (convertLists (now (xyz .entry)) (now (ends .entry)) limit) r
+        (now (volume .entry)) (now (volume .exit)) ⌝ }
+{
+    show(assess(xyz, ends, limit), volume)
+}
+
+// The reading of a sheet.
+#[no_mangle]
+pub extern "C" fn nibgravel_assess_sheet(sheet: &[u8], limit: u64, volume: &mut [f64]) -> u64
+    ensures { λ r. ⌜ AssessesAs (convertSheet (now (sheet .entry)) limit) r (now (volume .entry)) (now (volume .exit)) ⌝ }
+{
+    show(assess_sheet(sheet, limit), volume)
+}
