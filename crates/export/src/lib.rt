@@ -1,32 +1,28 @@
 // The interface for C and Rust: numbers and lent slices only. Nothing is assumed of any input. An answer is document 01's number, which is
 // returned, 0 where nothing is refused; `said` gets it with its place and values, as far as it reaches.
-mod lists;
-mod volume;
-mod words;
-
 ghost use Rattle.paper.specs.Format.{editionOne};
 ghost use Rattle.paper.specs.Conversion.{convertLists, convertSheet};
 ghost use Rattle.paper.specs.FaceList.{sentRoom};
 ghost use Rattle.paper.specs.Reading.{sentSaid, writtenSaid};
 ghost use Rattle.paper.specs.Sheet.{roomOf};
 ghost use Rattle.faces_writer.specs.Send.{ofSolid};
-ghost use Rattle.export.specs.Words.{Tells, WritesAs, ConvertsAs};
-ghost use Rattle.export.specs.Lists.{readInto, ReadsAs};
-ghost use Rattle.export.specs.Volume.{AssessesAs};
+ghost use Rattle.export_words.specs.Words.{Tells, WritesAs, ConvertsAs};
+ghost use Rattle.export_words.specs.Lists.{readInto, ReadsAs};
+ghost use Rattle.export_words.specs.Volume.{AssessesAs};
 use assess::assess;
 use assess::assess_sheet;
 use convert::convert;
 use convert::convert_sheet;
+use export_words::lists::handed;
+use export_words::volume::show;
+use export_words::words::conversion_said;
+use export_words::words::refusal_said;
+use export_words::words::tell;
+use export_words::words::written_said;
 use faces_writer::write_faces;
-use lists::handed;
 use paper::Answer;
 use sheet_reader::read_sheet;
 use sheet_writer::write_sheet;
-use volume::show;
-use words::conversion_said;
-use words::refusal_said;
-use words::tell;
-use words::written_said;
 
 // Reads a sheet into two lent lists: 3 to 10, then 1 where a list is too short (0 coordinates, 1 ends). Values: vertices, edges.
 #[no_mangle]

@@ -1,5 +1,5 @@
 -- `export::nibgravel_assess`: the reading is shown as it is. Assumes nothing.
-use Rattle.export.proofs.Showing.{assesses}
+use Rattle.export_words.proofs.Showing.{assesses}
 use borrow.Author.Needs.{needs}
 use Rattle.export.proofs.nibgravel_assess.Statement.{statement}
 use Rattle.export.proofs.nibgravel_assess.Tie as tie

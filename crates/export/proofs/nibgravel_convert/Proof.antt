@@ -1,5 +1,5 @@
 -- `export::nibgravel_convert`: the answer is told as it is, and the rooms are the conversion's. Assumes nothing.
-use Rattle.export.proofs.Telling.{converts-as}
+use Rattle.export_words.proofs.Telling.{converts-as}
 use borrow.Author.Needs.{needs}
 use Rattle.export.proofs.nibgravel_convert.Statement.{statement}
 use Rattle.export.proofs.nibgravel_convert.Tie as tie

@@ -7,7 +7,7 @@ use Rattle.paper.specs.Sheet.{sheetChecks, sheetOf}
 use Rattle.paper.specs.declared.Sheet.{Sheet}
 use Rattle.paper_laws.specs.InRange.{Held}
 use Rattle.sheet_reader.proofs.Range.{read-range}
-use Rattle.export.proofs.Handing.{sheet-refused, sheet-handed}
+use Rattle.export_words.proofs.Handing.{sheet-refused, sheet-handed}
 use borrow.Author.Needs.{needs}
 use Rattle.export.proofs.nibgravel_read_sheet.Statement.{statement}
 use Rattle.export.proofs.nibgravel_read_sheet.Tie as tie

@@ -1,5 +1,5 @@
 -- `export::nibgravel_write_faces`: the answer is told as it is, and the room is the writer's. Assumes nothing.
-use Rattle.export.proofs.Telling.{told-as}
+use Rattle.export_words.proofs.Telling.{told-as}
 use borrow.Author.Needs.{needs}
 use Rattle.export.proofs.nibgravel_write_faces.Statement.{statement}
 use Rattle.export.proofs.nibgravel_write_faces.Tie as tie

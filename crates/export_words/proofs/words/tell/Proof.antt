@@ -1,9 +1,9 @@
--- `export::words::tell`: as many words are copied as there are, or as there is room for. Assumes nothing.
+-- `export_words::words::tell`: as many words are copied as there are, or as there is room for. Assumes nothing.
 use borrow.Author.Needs.{needs}
 use denote.Ref.{now}
-use Rattle.export.proofs.Telling.{tells-short, tells-whole}
-use Rattle.export.proofs.words.tell.Statement.{statement}
-use Rattle.export.proofs.words.tell.Tie as tie
+use Rattle.export_words.proofs.Telling.{tells-short, tells-whole}
+use Rattle.export_words.proofs.words.tell.Statement.{statement}
+use Rattle.export_words.proofs.words.tell.Tie as tie
 
 -- the way back to the start from where the words and the room's length are known
 abbrev start : tie.After-words → tie.Start

@@ -1,11 +1,11 @@
--- `export::words::conversion_said`: each arm knows which answer it has. Assumes nothing.
+-- `export_words::words::conversion_said`: each arm knows which answer it has. Assumes nothing.
 use borrow.Author.Needs.{needs}
 use Rattle.paper.specs.Reading.{conversionSays}
 use mathlib.Core.Path.{refl}
 use native.Mathlib.Omega.{arith}
-use Rattle.export.proofs.Telling.{said-as}
-use Rattle.export.proofs.words.conversion_said.Statement.{statement}
-use Rattle.export.proofs.words.conversion_said.Tie as tie
+use Rattle.export_words.proofs.Telling.{said-as}
+use Rattle.export_words.proofs.words.conversion_said.Statement.{statement}
+use Rattle.export_words.proofs.words.conversion_said.Tie as tie
 
 enum-known-c : tie.Need-enum-known-c
 enum-known-c c = search needs

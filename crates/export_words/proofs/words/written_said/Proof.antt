@@ -1,11 +1,11 @@
--- `export::words::written_said`: each arm knows which answer it has. Assumes nothing.
+-- `export_words::words::written_said`: each arm knows which answer it has. Assumes nothing.
 use borrow.Author.Needs.{needs}
 use Rattle.paper.specs.Reading.{writtenSays}
 use mathlib.Core.Path.{refl}
 use native.Mathlib.Omega.{arith}
-use Rattle.export.proofs.Telling.{said-as}
-use Rattle.export.proofs.words.written_said.Statement.{statement}
-use Rattle.export.proofs.words.written_said.Tie as tie
+use Rattle.export_words.proofs.Telling.{said-as}
+use Rattle.export_words.proofs.words.written_said.Statement.{statement}
+use Rattle.export_words.proofs.words.written_said.Tie as tie
 
 enum-known-w : tie.Need-enum-known-w
 enum-known-w c = search needs

@@ -13,7 +13,7 @@ use Rattle.paper.specs.Reading.{Said, fine, refused}
 use Rattle.paper.specs.declared.Answer.{Answer}
 use Rattle.paper.specs.declared.Answer.the-variants as Answer
 use Rattle.paper.specs.declared.Drawing.{Drawing}
-use Rattle.export.specs.Words.{Tells}
+use Rattle.export_words.specs.Words.{Tells}
 
 -- what is said, and both lists at exit
 pub record Read : Type 0 where

@@ -1,10 +1,10 @@
--- `export::lists::handed`: each way out knows the lengths of the lists that were tested. Its three ways out are three laws. Assumes nothing.
+-- `export_words::lists::handed`: each way out knows the lengths of the lists that were tested. Its three ways out are three laws. Assumes nothing.
 use native.Mathlib.Omega.{arith}
 use denote.Ref.{now}
-use Rattle.export.proofs.Handing.{points-short, links-short, both-handed}
+use Rattle.export_words.proofs.Handing.{points-short, links-short, both-handed}
 use borrow.Author.Needs.{needs}
-use Rattle.export.proofs.lists.handed.Statement.{statement}
-use Rattle.export.proofs.lists.handed.Tie as tie
+use Rattle.export_words.proofs.lists.handed.Statement.{statement}
+use Rattle.export_words.proofs.lists.handed.Tie as tie
 
 -- ---- the ways back: to the start, to the ends' copy, to both lists tested
 

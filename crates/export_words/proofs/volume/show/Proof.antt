@@ -1,9 +1,9 @@
--- `export::volume::show`: each way out knows which reading it has, and whether a double was lent. Assumes nothing.
+-- `export_words::volume::show`: each way out knows which reading it has, and whether a double was lent. Assumes nothing.
 use denote.Ref.{now}
-use Rattle.export.proofs.Showing.{volume-shown, none-lent, none-shown}
+use Rattle.export_words.proofs.Showing.{volume-shown, none-lent, none-shown}
 use borrow.Author.Needs.{needs}
-use Rattle.export.proofs.volume.show.Statement.{statement}
-use Rattle.export.proofs.volume.show.Tie as tie
+use Rattle.export_words.proofs.volume.show.Statement.{statement}
+use Rattle.export_words.proofs.volume.show.Tie as tie
 
 enum-known-r : tie.Need-enum-known-r
 enum-known-r c = search needs

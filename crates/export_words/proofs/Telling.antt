@@ -11,8 +11,8 @@ use Rattle.paper.specs.Reading as Paper
 use Rattle.paper.specs.declared.Conversion.{Conversion}
 use Rattle.rooms.specs.Rooms.{copied}
 use Rattle.convert.specs.Converts.{leaves}
-use Rattle.export.specs.Words.{onto, Tells, ConvertsAs, SaidIs, ToldBy}
-use Rattle.export.specs.declared.words.Said.{Said}
+use Rattle.export_words.specs.Words.{onto, Tells, ConvertsAs, SaidIs, ToldBy}
+use Rattle.export_words.specs.declared.words.Said.{Said}
 
 -- ---- the first `count` of `from` are the entries
 

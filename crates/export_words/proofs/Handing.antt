@@ -23,9 +23,9 @@ use Rattle.paper_laws.specs.InRange.{Held}
 use Rattle.paper_laws.proofs.Checks.{first-stops, first-passes}
 use Rattle.rooms.specs.Rooms.{copied}
 use Rattle.sheet_laws.proofs.Accepted.{returns, coordinates-are, ends-are}
-use Rattle.export.specs.Words.{SaidIs, ToldBy}
-use Rattle.export.specs.Lists.{Read, listChecks, readFor, readInto, ReadsAs, Handed}
-use Rattle.export.specs.declared.words.Said.{Said}
+use Rattle.export_words.specs.Words.{SaidIs, ToldBy}
+use Rattle.export_words.specs.Lists.{Read, listChecks, readFor, readInto, ReadsAs, Handed}
+use Rattle.export_words.specs.declared.words.Said.{Said}
 
 -- refusal 1, with its place
 abbrev pub noRoom : ℕ → Refusal

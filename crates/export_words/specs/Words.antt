@@ -6,7 +6,7 @@ use lib.ListN.{length, take, drop}
 use Rattle.paper.specs.Conversion.{Converted}
 use Rattle.paper.specs.Reading.{conversionSays}
 use Rattle.paper.specs.Reading as Paper
-use Rattle.export.specs.declared.words.Said.{Said}
+use Rattle.export_words.specs.declared.words.Said.{Said}
 
 -- its number, its place, its values
 abbrev pub wordsOf : Paper.Said → List ℕ

@@ -1,7 +1,7 @@
 // An answer as words: document 01's number, its place, and the values that come with it. Assumes nothing.
 ghost use mathlib.Core.List.{[], _∷_};
 ghost use Rattle.paper.specs.Reading.{fine, refused, writtenSays, conversionSays};
-ghost use Rattle.export.specs.Words.{SaidIs, Telling, ToldBy};
+ghost use Rattle.export_words.specs.Words.{SaidIs, Telling, ToldBy};
 use paper::Conversion;
 use paper::MANY;
 use paper::NO_SOLID;

@@ -1,6 +1,6 @@
 // A drawing that was read, handed over in two lent lists. Assumes a drawing by value whose arrays have its lists in front.
 ghost use Rattle.paper_laws.specs.InRange.{Held};
-ghost use Rattle.export.specs.Lists.{Handed};
+ghost use Rattle.export_words.specs.Lists.{Handed};
 use super::words::counts_said;
 use super::words::refusal_said;
 use super::words::tell;

@@ -8,7 +8,7 @@ use lib.ListN.{length}
 use Rattle.paper.specs.Numbers.{faceRoom, solidRoom}
 use Rattle.paper.specs.Conversion.{Converted}
 use Rattle.paper.specs.Reading.{Shown, readingOf, readingSays}
-use Rattle.export.specs.Words.{onto}
+use Rattle.export_words.specs.Words.{onto}
 
 -- the volume, if one is shown
 abbrev pub volumes : Option Float → List Float

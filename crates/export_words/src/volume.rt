@@ -1,6 +1,6 @@
 // A reading in a lent double, which is written only where a volume was assessed. Assumes nothing.
 ghost use Rattle.paper.specs.Reading.{readingSays};
-ghost use Rattle.export.specs.Volume.{Shows};
+ghost use Rattle.export_words.specs.Volume.{Shows};
 use paper::Reading;
 
 // The number that says why nothing was assessed, 0 where there is a volume.

@@ -11,7 +11,7 @@ use Rattle.paper.specs.Conversion.{Converted}
 use Rattle.paper.specs.declared.Reading.{Reading}
 use Rattle.paper.specs.declared.Reading.the-variants as Reading
 use Rattle.assess.specs.Assessed.{Assessed}
-use Rattle.export.specs.Volume.{Shows, AssessesAs}
+use Rattle.export_words.specs.Volume.{Shows, AssessesAs}
 
 -- of one that is known to be another
 shows-as : {r q : Reading} {n : ℕ} {volume₀ volume : List Float} → r ≡ q → Shows (readingSays q) n volume₀ volume
