@@ -1,5 +1,5 @@
 //! Document 01 in plain Rust: the modules up to `desk` are the clear version, `fast` is the quick one, and `gen`,
-//! `rows` and `trial` make drawings and cases.
+//! `rows`, `trial` and `calls` make drawings and cases.
 pub mod bits;
 pub mod check;
 pub mod clash;
@@ -19,6 +19,7 @@ pub mod subsets;
 pub mod vector;
 pub mod walk;
 
+pub mod calls;
 pub mod fast;
 pub mod gen;
 pub mod rows;

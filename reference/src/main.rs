@@ -49,6 +49,12 @@ reference: document 01 in plain Rust, in a clear version and a fast one
       their words) or walk (work and solids of drawings under a work limit)
       --count N              generated cases of each sort (200)
       --seed S               (11)
+
+  reference calls
+      writes calls of the interface for other programs to standard output, each with what it must return and leave in the
+      lists that are lent; src/calls/stream.rs has their form
+      --count N              (42000)
+      --seed S               (7)
 ";
 
 fn main() -> ExitCode {
@@ -71,6 +77,7 @@ fn run(args: Args) -> Result<(), String> {
         Some("rows") => command::texts::rows(&args),
         Some("limits") => command::texts::limits(&args),
         Some("trial") => command::trial::trial(&args),
+        Some("calls") => command::texts::calls(&args),
         Some("help") | None => {
             print!("{HELP}");
             Ok(())

@@ -1,5 +1,6 @@
-//! `desk`, `check`, `rows` and `limits`: what the clear version says.
+//! `desk`, `check`, `rows`, `limits` and `calls`: what the reference says.
 use super::args::Args;
+use nibgravel_reference::calls;
 use nibgravel_reference::check::check as check_list;
 use nibgravel_reference::convert::convert;
 use nibgravel_reference::desk::desk_with;
@@ -57,4 +58,10 @@ pub fn limits(args: &Args) -> Result<(), String> {
     args.allow(&[])?;
     rows::limits().iter().for_each(|row| println!("{row}"));
     Ok(())
+}
+
+pub fn calls(args: &Args) -> Result<(), String> {
+    args.allow(&["count", "seed"])?;
+    let stream = calls::calls(args.number("seed", 7)?, args.number("count", 42_000)?);
+    std::io::stdout().write_all(&stream).map_err(|e| e.to_string())
 }

@@ -1,0 +1,70 @@
+//! Face lists for calls of the check: any list of the corpus, and solids in any order and from any corner, as they are or spoiled at
+//! their first or last face.
+use crate::convert::Answer;
+use crate::drawing::{Drawing, Loop, Source};
+use crate::face_list::{pack_faces, read_faces, send_solid};
+use crate::fast::convert;
+use crate::gen::bodies::dented;
+use crate::gen::change::{affine, renumbered};
+use crate::gen::known::{nested_cubes, octahedron, two_tetrahedra};
+use crate::gen::lists::any_list;
+use crate::gen::rng::Rng;
+use crate::numbers::*;
+
+/// One in four times a drawing some of whose selections are in pieces, or inward, or have faces that clash.
+pub fn bodies_for(r: &mut Rng, turn: usize) -> Option<Drawing> {
+    let d = match turn % 16 {
+        0 => two_tetrahedra(),
+        4 => dented([5, 4, -1]),
+        8 => nested_cubes(),
+        12 => octahedron(),
+        _ => return None,
+    };
+    let d = if r.chance(50) { affine(r, &d) } else { d };
+    Some(renumbered(r, &d))
+}
+
+pub fn list_for(r: &mut Rng, source: Source, turn: usize) -> Vec<u8> {
+    match solid(r, source) {
+        Some(faces) if turn % 3 != 0 => pack_faces(&spoiled(r, faces)),
+        _ => any_list(r, source),
+    }
+}
+
+/// A reported solid's faces, in any order and from any corners.
+fn solid(r: &mut Rng, source: Source) -> Option<Vec<Loop>> {
+    let (mut rows, mut words, mut list) = ([0; FACE_ROOM], [0; SOLID_ROOM], [0; 400]);
+    let Answer::Report { solids, .. } = convert(source, 200, &mut rows, &mut words) else { return None };
+    let solid = 3 * r.below(solids as usize);
+    let length = send_solid(&rows, words[solid], words[solid + 1], &mut list).ok()?;
+    let mut faces = read_faces(&list[..length], *VERTICES.end())?;
+    for face in &mut faces {
+        let start = r.below(face.len());
+        face.rotate_left(start);
+    }
+    r.shuffle(&mut faces);
+    Some(faces)
+}
+
+/// Half of them as they are; the others with a face changed, doubled, lost or turned, at the first or the last place, or all turned.
+fn spoiled(r: &mut Rng, mut faces: Vec<Loop>) -> Vec<Loop> {
+    let last = faces.len() - 1;
+    let place = r.pick(&[0, last]);
+    match r.below(10) {
+        0 => {
+            let other = r.below(faces[place].len());
+            faces[place][other] = faces[place][0];
+        }
+        1 => {
+            faces[place.max(1)] = faces[0].clone();
+            faces[place.max(1)].reverse();
+        }
+        2 => {
+            faces.remove(place);
+        }
+        3 => faces[place].reverse(),
+        4 => faces.iter_mut().for_each(|face| face.reverse()),
+        _ => {}
+    }
+    faces
+}
