@@ -8,17 +8,18 @@ use native.Mathlib.Omega.{arith}
 use native.Mathlib.Decide.{ℕ-discrete}
 use lib.ListN.{length, getD}
 use borrow.Author.Tests.{eq-eqb, ne-eqb}
-use Rattle.lists.proofs.Truth.{and-left, and-both}
+use Rattle.lists.proofs.Truth.{and-left, and-both, same-truth}
 use Rattle.sets.specs.Word.{dig, Sub, count, both, first}
 use Rattle.sets.proofs.Digits.{never, dig-both, dig-only, dig-self, count-only, first-in, count-alone}
 use Rattle.sets.proofs.Ones.{dig-none}
 use Rattle.paper.specs.Solids.{onceEachWay, oriented}
 use Rattle.means_leaf.specs.Meaning.{In, InTwo, Way, stay, across}
-use Rattle.means_leaf.proofs.Spread.{place-in}
+use Rattle.means_leaf.proofs.Spread.{place-in, allFrom}
+use Rattle.means_leaf.proofs.Reaches.{reached-ways, ways-reached}
 use Rattle.means_leaf.proofs.Directions.{once-suits, oriented-here}
 use Rattle.fast_sweeps.specs.Worklist.{after, edgesWith}
 use Rattle.fast_sweeps.proofs.Marks.{after-in, after-out, count-after, dig-sides}
-use Rattle.fast_leaf.specs.Faces.{Going, atEdge, aroundFace, atFace, goOn, toGo, atLowest, fromLowest}
+use Rattle.fast_leaf.specs.Faces.{Going, atEdge, aroundFace, atFace, goOn, toGo, alone, fromFace}
 use Rattle.fast_leaf.proofs.Edge.{Fair, edge-keeps, edge-old, edge-covers, edge-fair, edge-togo}
 
 -- ---- edges by their places
@@ -115,14 +116,14 @@ module _ (masks ups : List (List Bool)) (taken : List Bool) where
       ∙ on-same (toGo taken g) (toGo taken (atFace masks ups taken g)) (atFace masks ups taken g) (omega (arith, face-togo g z))
       (omega arith)
 
-  pub lowest-togo : (count taken ≡ 0 → ⊥) → toGo taken (atLowest taken) ≡ count taken
-  unfolding toGo
-  lowest-togo n = omega (arith, count-only taken (first taken) (first-in taken n), count-alone (first taken))
+  module _ (start : ℕ) (here : dig taken start ≡ true) where
+    pub start-togo : toGo taken (alone start) ≡ count taken
+    unfolding toGo
+    start-togo = omega (arith, count-only taken start here, count-alone start)
 
-  pub rest-start : (count taken ≡ 0 → ⊥) → goOn (toGo taken (atLowest taken)) masks ups taken (atLowest taken) ≡ fromLowest masks ups
-      taken
-  unfolding fromLowest
-  rest-start n = ap (λ (m : ℕ). goOn m masks ups taken (atLowest taken)) (lowest-togo n)
+    pub rest-start : goOn (toGo taken (alone start)) masks ups taken (alone start) ≡ fromFace masks ups taken start
+    unfolding fromFace
+    rest-start = ap (λ (m : ℕ). goOn m masks ups taken (alone start)) start-togo
 
 -- ---- the edges of the faces that do not wait are done; of face f those that are not left
 abbrev Done : List (List Bool) → List Bool → ℕ → List Bool → Going → Type 0
@@ -135,11 +136,11 @@ Closed masks taken g =
     (k e : ℕ) → dig (g .reached) k ≡ true → dig (g .waiting) k ≡ false → dig (getD masks e []) k ≡ true
     → Sub (both (getD masks e []) taken) (g .reached)
 
-module _ (masks ups : List (List Bool)) (taken : List Bool) (same : length masks ≡ length ups) (two : InTwo masks taken) where
+module _ (masks ups : List (List Bool)) (taken : List Bool) (start : ℕ) (same : length masks ≡ length ups) (two : InTwo masks taken) where
   abbrev Good : Going → Type 0
-  Good g = Fair masks ups taken g × Closed masks taken g
+  Good g = Fair masks ups taken start g × Closed masks taken g
 
-  module _ (e f : ℕ) (g : Going) (has : dig (getD masks e []) f ≡ true) (rf : dig (g .reached) f ≡ true) (h : Fair masks ups taken g)
+  module _ (e f : ℕ) (g : Going) (has : dig (getD masks e []) f ≡ true) (rf : dig (g .reached) f ≡ true) (h : Fair masks ups taken start g)
     where
       on-edge : dig (both (getD masks e []) taken) f ≡ true
       on-edge = dig-both (getD masks e []) taken f ∙ and-both has (h .in-taken f rf)
@@ -147,7 +148,7 @@ module _ (masks ups : List (List Bool)) (taken : List Bool) (same : length masks
       two-edge : count (both (getD masks e []) taken) ≡ 2
       two-edge = two (getD masks e []) (place-in masks e (at-lt masks e f has))
 
-      fair-at : Fair masks ups taken (atEdge (getD masks e []) (getD ups e []) taken f g)
+      fair-at : Fair masks ups taken start (atEdge (getD masks e []) (getD ups e []) taken f g)
       fair-at =
           edge-fair (getD masks e []) (getD ups e []) taken f g on-edge two-edge masks ups (place-in masks e (at-lt masks e f has))
           (λ ts o. once-suits (getD masks e []) (getD ups e []) taken ts (oriented-at masks ups taken ts o same e (at-lt masks e f has))) rf
@@ -157,7 +158,7 @@ module _ (masks ups : List (List Bool)) (taken : List Bool) (same : length masks
       covers-at = edge-covers (getD masks e []) (getD ups e []) taken f g on-edge two-edge rf
 
   done-at : (f : ℕ) (left : List Bool) (g : Going) → dig (getD masks (first left) []) f ≡ true → dig (g .reached) f ≡ true
-      → Fair masks ups taken g → Done masks taken f left g
+      → Fair masks ups taken start g → Done masks taken f left g
       → Done masks taken f (after left) (atEdge (getD masks (first left) []) (getD ups (first left) []) taken f g)
   done-at f left g has rf h d k e rk wk ek c = go (ℕ-discrete e (first left)) (ℕ-discrete k f)
     where
@@ -178,7 +179,7 @@ module _ (masks ups : List (List Bool)) (taken : List Bool) (same : length masks
 
   around-good : (n f : ℕ) (left : List Bool) (g : Going) → count left ≡ n → ((e : ℕ) → dig left e ≡ true → dig (getD masks e []) f ≡ true)
       → dig (g .reached) f ≡ true
-      → Fair masks ups taken g → Done masks taken f left g → Good (aroundFace n masks ups taken f left g)
+      → Fair masks ups taken start g → Done masks taken f left g → Good (aroundFace n masks ups taken f left g)
   unfolding aroundFace
   around-good zero f left g z s rf h d = (h, λ k e rk wk ek. d k e rk wk ek (λ p. dig-none left z e))
   around-good (suc n) f left g z s rf h d =
@@ -234,27 +235,27 @@ module _ (masks ups : List (List Bool)) (taken : List Bool) (same : length masks
       go (no z) ih =
           subst Ended (sym (on-more masks ups taken n g z)) (ih (omega (arith, face-togo masks ups taken g z)) (face-good g z w))
 
-  module _ (some : count taken ≡ 0 → ⊥) where
-    lowest-good : Good (atLowest taken)
-    lowest-good = (
+  module _ (here : dig taken start ≡ true) where
+    start-good : Good (alone start)
+    start-good = (
       record {
-        in-taken = λ k p. subst (λ (x : ℕ). dig taken x ≡ true) (sym (dig-only (first taken) k p)) (first-in taken some);
+        in-taken = λ k p. subst (λ (x : ℕ). dig taken x ≡ true) (sym (dig-only start k p)) here;
         in-reached = λ k p. p;
         turned-in = λ k p. never (sym p);
-        low = dig-self (first taken);
+        low = dig-self start;
         low-turned = refl;
-        way = λ k p. subst (λ (x : ℕ). Way masks taken (first taken) x) (sym (dig-only (first taken) k p)) stay;
-        right = λ ts o e k p. sym (ap (dig ts) (dig-only (first taken) k p) ∙ e);
+        way = λ k p. subst (λ (x : ℕ). Way masks taken start x) (sym (dig-only start k p)) stay;
+        right = λ ts o e k p. sym (ap (dig ts) (dig-only start k p) ∙ e);
       },
       λ k e p q. never (sym p ∙ q),
     )
 
-    lowest-ends : Ended (fromLowest masks ups taken)
-    unfolding fromLowest
-    lowest-ends = on-good (count taken) (atLowest taken) (omega (arith, lowest-togo masks ups taken some)) lowest-good
+    start-ends : Ended (fromFace masks ups taken start)
+    unfolding fromFace
+    start-ends = on-good (count taken) (alone start) (omega (arith, start-togo masks ups taken start here)) start-good
 
-    pub lowest-fair : Fair masks ups taken (fromLowest masks ups taken)
-    lowest-fair = lowest-ends .0 .0
+    pub face-fair : Fair masks ups taken start (fromFace masks ups taken start)
+    face-fair = start-ends .0 .0
 
     -- all to which one can go are reached
     way-ends : (g : Going) → Ended g → (f k : ℕ) → dig (g .reached) f ≡ true → Way masks taken f k → dig (g .reached) k ≡ true
@@ -266,5 +267,12 @@ module _ (masks ups : List (List Bool)) (taken : List Bool) (same : length masks
         w .0 .1 j (a .0) (way-ends g w f j rf v) (dig-none (g .waiting) (w .1) j)
         (and-left (dig (getD masks (a .0) []) j) (dig taken j) (sym (dig-both (getD masks (a .0) []) taken j) ∙ oj)) k ok
 
-    pub lowest-reaches : (k : ℕ) → Way masks taken (first taken) k → dig (fromLowest masks ups taken .reached) k ≡ true
-    lowest-reaches k v = way-ends (fromLowest masks ups taken) lowest-ends (first taken) k (lowest-fair .low) v
+    pub face-reaches : (k : ℕ) → Way masks taken start k → dig (fromFace masks ups taken start .reached) k ≡ true
+    face-reaches k v = way-ends (fromFace masks ups taken start) start-ends start k (face-fair .low) v
+
+    -- the passes over all edges reach the same
+    pub same-reached : (k : ℕ) → dig (fromFace masks ups taken start .reached) k ≡ dig (allFrom masks ups taken start .reached) k
+    same-reached k =
+        same-truth (dig (fromFace masks ups taken start .reached) k) (dig (allFrom masks ups taken start .reached) k)
+        (λ p. ways-reached masks ups taken same two start here k (face-fair .way k p))
+        (λ p. face-reaches k (reached-ways masks ups taken start k p))

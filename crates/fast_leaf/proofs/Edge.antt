@@ -19,15 +19,15 @@ use Rattle.means_leaf.proofs.Counts.{left-in, left-out}
 use Rattle.means_leaf.proofs.Directions.{Suits}
 use Rattle.fast_leaf.specs.Faces.{Going, others, unlikeWays, atEdge, toGo}
 
--- ---- what is kept of the faces found so far
-pub record Fair (masks ups : List (List Bool)) (taken : List Bool) (g : Going) : Type 0 where
+-- ---- what is kept of the faces found so far, from face `start` on
+pub record Fair (masks ups : List (List Bool)) (taken : List Bool) (start : ℕ) (g : Going) : Type 0 where
   pub in-taken : Sub (g .reached) taken
   pub in-reached : Sub (g .waiting) (g .reached)
   pub turned-in : Sub (g .turned) (g .reached)
-  pub low : dig (g .reached) (first taken) ≡ true
-  pub low-turned : dig (g .turned) (first taken) ≡ false
-  pub way : (k : ℕ) → dig (g .reached) k ≡ true → Way masks taken (first taken) k
-  pub right : (ts : List Bool) → oriented masks ups taken ts ≡ true → dig ts (first taken) ≡ false → (k : ℕ) → dig (g .reached) k ≡ true
+  pub low : dig (g .reached) start ≡ true
+  pub low-turned : dig (g .turned) start ≡ false
+  pub way : (k : ℕ) → dig (g .reached) k ≡ true → Way masks taken start k
+  pub right : (ts : List Bool) → oriented masks ups taken ts ≡ true → dig ts start ≡ false → (k : ℕ) → dig (g .reached) k ≡ true
       → dig (g .turned) k ≡ dig ts k
 
 -- the direction that an edge asks of the other face
@@ -147,9 +147,9 @@ module _ (mask up taken : List Bool) (f : ℕ) (g : Going) where
         here (yes e) = edge-keeps k (subst (λ (x : ℕ). dig (g .reached) x ≡ true) (sym e) rf)
         here (no n) = other (left-in (both mask taken) f k h n) (ℕ-discrete (count (both (g .reached) (others mask taken f))) 0)
 
-    module _ (masks ups : List (List Bool)) (i : In mask masks) (s : (ts : List Bool) → oriented masks ups taken ts ≡ true
+    module _ (masks ups : List (List Bool)) {start : ℕ} (i : In mask masks) (s : (ts : List Bool) → oriented masks ups taken ts ≡ true
         → Suits mask up taken ts)
-        (rf : dig (g .reached) f ≡ true) (h : Fair masks ups taken g) where
+        (rf : dig (g .reached) f ≡ true) (h : Fair masks ups taken start g) where
       module _ (z : count (both (g .reached) (others mask taken f)) ≡ 0) where
         ways-are : (k : ℕ) → dig (others mask taken f) k ≡ true
             → unlikeWays (unlike up (g .turned)) f (others mask taken f) ≡ xor (eqb (bit (xor (dig up f) (dig (g .turned) f))) 0)
@@ -162,7 +162,7 @@ module _ (mask up taken : List Bool) (f : ℕ) (g : Going) where
         not-turned : (k : ℕ) → dig (others mask taken f) k ≡ true → dig (g .turned) k ≡ false
         not-turned k o = never-true (dig (g .turned) k) (λ p. never (sym (h .turned-in k p) ∙ edge-new z k o))
 
-        new-right : (ts : List Bool) → oriented masks ups taken ts ≡ true → dig ts (first taken) ≡ false → (k : ℕ)
+        new-right : (ts : List Bool) → oriented masks ups taken ts ≡ true → dig ts start ≡ false → (k : ℕ)
             → dig (others mask taken f) k ≡ true
             → not (unlikeWays (unlike up (g .turned)) f (others mask taken f)) ≡ dig ts k
         new-right ts c e k o =
@@ -174,7 +174,7 @@ module _ (mask up taken : List Bool) (f : ℕ) (g : Going) where
             (not-turned k o))
             ∙ turn-is (xor (dig up f) (dig (g .turned) f)) (dig up k) (dig ts k) suit
 
-        fair-new : Fair masks ups taken (atEdge mask up taken f g)
+        fair-new : Fair masks ups taken start (atEdge mask up taken f g)
         fair-new = record {
           in-taken = λ k p. taken-by k (splits k p);
           in-reached =
@@ -183,10 +183,10 @@ module _ (mask up taken : List Bool) (f : ℕ) (g : Going) where
           turned-in =
               λ k p. edge-reached z k
               ∙ turns k (turned-split b (g .turned) (others mask taken f) k (sym (ap (λ (x : List Bool). dig x k) (edge-turned z)) ∙ p));
-          low = edge-keeps (first taken) (h .low);
+          low = edge-keeps start (h .low);
           low-turned =
-              ap (λ (x : List Bool). dig x (first taken)) (edge-turned z)
-              ∙ turned-keep b (g .turned) (others mask taken f) (first taken) (not-new (first taken) (h .low)) ∙ h .low-turned;
+              ap (λ (x : List Bool). dig x start) (edge-turned z)
+              ∙ turned-keep b (g .turned) (others mask taken f) start (not-new start (h .low)) ∙ h .low-turned;
           way = λ k p. way-by k (splits k p);
           right = λ ts c e k p. ap (λ (x : List Bool). dig x k) (edge-turned z) ∙ right-by ts c e k (splits k p);
         }
@@ -216,22 +216,22 @@ module _ (mask up taken : List Bool) (f : ℕ) (g : Going) where
             turns k (inl p) = or-left (dig (g .reached) k) (dig (others mask taken f) k) (h .turned-in k p)
             turns k (inr o) = or-right (dig (g .reached) k) (dig (others mask taken f) k) o
 
-            way-by : (k : ℕ) → (dig (g .reached) k ≡ true) ⊎ (dig (others mask taken f) k ≡ true) → Way masks taken (first taken) k
+            way-by : (k : ℕ) → (dig (g .reached) k ≡ true) ⊎ (dig (others mask taken f) k ≡ true) → Way masks taken start k
             way-by k (inl p) = h .way k p
             way-by k (inr o) = let q = left-out (both mask taken) f k o in across mask f (h .way f rf) i on (q .0)
 
-            right-by : (ts : List Bool) → oriented masks ups taken ts ≡ true → dig ts (first taken) ≡ false → (k : ℕ)
+            right-by : (ts : List Bool) → oriented masks ups taken ts ≡ true → dig ts start ≡ false → (k : ℕ)
                 → (dig (g .reached) k ≡ true) ⊎ (dig (others mask taken f) k ≡ true)
                 → dig (cond b (g .turned) (either (g .turned) (others mask taken f))) k ≡ dig ts k
             right-by ts c e k (inl p) = turned-keep b (g .turned) (others mask taken f) k (not-new k p) ∙ h .right ts c e k p
             right-by ts c e k (inr o) = turned-new b (g .turned) (others mask taken f) k o (not-turned k o) ∙ new-right ts c e k o
 
-      pub edge-fair : Fair masks ups taken (atEdge mask up taken f g)
+      pub edge-fair : Fair masks ups taken start (atEdge mask up taken f g)
       edge-fair = go (ℕ-discrete (count (both (g .reached) (others mask taken f))) 0)
         where
-          go : Dec (count (both (g .reached) (others mask taken f)) ≡ 0) → Fair masks ups taken (atEdge mask up taken f g)
+          go : Dec (count (both (g .reached) (others mask taken f)) ≡ 0) → Fair masks ups taken start (atEdge mask up taken f g)
           go (yes z) = fair-new z
-          go (no n) = subst (λ (x : Going). Fair masks ups taken x) (sym (edge-not n)) h
+          go (no n) = subst (λ (x : Going). Fair masks ups taken start x) (sym (edge-not n)) h
 
 -- ---- what is still to go does not grow, whatever the masks are
 

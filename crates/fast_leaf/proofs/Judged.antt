@@ -6,30 +6,29 @@ use Prim.Native.Nat.{ℕ, zero, suc}
 use lib.Dec.{eqb}
 use lib.IntN.{ℤ, pos, negsuc}
 use lib.ListN.{length}
-use borrow.Author.Tests.{not-true, eq-eqb, eqb-true, eqb-false}
-use Rattle.lists.proofs.Truth.{and-left, and-right, and-both, same-truth, never-true}
+use borrow.Author.Tests.{eqb-true, eqb-false}
+use Rattle.lists.proofs.Truth.{and-both, same-truth, never-true}
 use Rattle.sets.specs.Word.{word, dig, Sub, count, less, first}
-use Rattle.sets.proofs.Digits.{never, dig-less, count-none, count-empty, first-in}
+use Rattle.sets.proofs.Digits.{never, dig-less, count-none, count-same, first-in}
 use Rattle.paper.specs.Solids.{facesFrom, connected, oriented, sixFrom, clearFrom, weighed, Tables, Judgement, Fails, judged}
 use Rattle.paper.specs.Conversion.{isSolid, turnedOf, sixOf}
-use Rattle.means_leaf.specs.Meaning.{faces, InTwo, Way, Alike}
+use Rattle.means_leaf.specs.Meaning.{faces, InTwo, Alike}
 use Rattle.means_leaf.proofs.Forced.{oriented-alike, oriented-opposite, all-reached}
-use Rattle.means_leaf.proofs.Reaches.{connected-ways, ways-connected, way-on, way-back}
 use Rattle.means_leaf.proofs.Within.{turned-taken}
 use Rattle.means_leaf.proofs.Solids.{six-alike, turned-opposite}
 use Rattle.means_leaf.proofs.Directions.{faces-right}
 use Rattle.fast_sweeps.proofs.Words.{word-same}
 use Rattle.fast_leaf.specs.Faces.{fromLowest, clearOn, sixOn, judgedByFaces, Agrees, fails, solid}
 use Rattle.fast_leaf.proofs.Edge.{Fair}
-use Rattle.fast_leaf.proofs.Around.{lowest-fair, lowest-reaches}
+use Rattle.fast_leaf.proofs.Around.{face-fair, same-reached}
 use Rattle.fast_leaf.proofs.Sums.{clear-on, six-on}
 
 -- ---- ways
 
 module _ (masks ups : List (List Bool)) (taken : List Bool) (same : length masks ≡ length ups) (two : InTwo masks taken)
     (some : count taken ≡ 0 → ⊥) where
-  fair : Fair masks ups taken (fromLowest masks ups taken)
-  fair = lowest-fair masks ups taken same two some
+  fair : Fair masks ups taken (first taken) (fromLowest masks ups taken)
+  fair = face-fair masks ups taken (first taken) same two (first-in taken some)
 
   -- (ii)
   missed : eqb (count (less taken (fromLowest masks ups taken .reached))) 0 ≡ true → Sub taken (fromLowest masks ups taken .reached)
@@ -44,20 +43,14 @@ module _ (masks ups : List (List Bool)) (taken : List Bool) (same : length masks
           (dig-less taken (fromLowest masks ups taken .reached) k ∙ and-both h (ap not p)))
 
   pub same-connected : eqb (count (less taken (fromLowest masks ups taken .reached))) 0 ≡ connected taken (faces masks ups taken)
+  unfolding connected faces
   same-connected =
-      same-truth (eqb (count (less taken (fromLowest masks ups taken .reached))) 0) (connected taken (faces masks ups taken))
-      (λ e. ways-connected masks ups taken same two some
-      (λ f g hf hg. way-on (way-back (fair .way f (missed e f hf))) (fair .way g (missed e g hg))))
-      (λ c. eq-eqb (count (less taken (fromLowest masks ups taken .reached))) 0
-      (count-empty (less taken (fromLowest masks ups taken .reached)) (λ k p.
-      let t : (dig taken k && not (dig (fromLowest masks ups taken .reached) k)) ≡ true = sym
-      (dig-less taken (fromLowest masks ups taken .reached) k) ∙ p in
-      let out : dig (fromLowest masks ups taken .reached) k ≡ false = not-true (dig (fromLowest masks ups taken .reached) k)
-      (and-right (dig taken k) (not (dig (fromLowest masks ups taken .reached) k)) t) in
-      let w : Way masks taken (first taken) k
-      = connected-ways masks ups taken same two some c (first taken) k (first-in taken some)
-      (and-left (dig taken k) (not (dig (fromLowest masks ups taken .reached) k)) t) in
-      never (sym (lowest-reaches masks ups taken same two some k w) ∙ out))))
+      let r = fromLowest masks ups taken .reached in
+      let q = faces masks ups taken .reached in
+      ap (λ (n : ℕ). eqb n 0)
+      (count-same (less taken r) (less taken q) (λ k. dig-less taken r k
+      ∙ ap (λ (x : Bool). dig taken k && not x) (same-reached masks ups taken (first taken) same two (first-in taken some) k)
+      ∙ sym (dig-less taken q k)))
 
   -- (iii)
   module _ (c : connected taken (faces masks ups taken) ≡ true) where

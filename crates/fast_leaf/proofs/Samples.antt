@@ -8,7 +8,7 @@ use Rattle.sets.specs.Word.{count, first, both, either, less, only}
 use Rattle.paper.specs.Solids.{Tables, unlike, onceEachWay, oriented, Solid, judged}
 use Rattle.means_leaf.specs.Meaning.{InTwo}
 use Rattle.fast_sweeps.specs.Worklist.{after, edgesWith}
-use Rattle.fast_leaf.specs.Faces.{atEdge, aroundFace, atFace, goOn, fromLowest, clearOn, sixOn, judgedByFaces, Agrees}
+use Rattle.fast_leaf.specs.Faces.{atEdge, aroundFace, atFace, goOn, fromFace, clearOn, sixOn, judgedByFaces, Agrees}
 use Rattle.fast_leaf.proofs.Judged.{judged-by-faces}
 
 -- "Tetrahedron (0,0,0) (6,0,0) (0,6,0) (0,0,6)": its faces 0 1 2, 0 1 3, 0 2 3 and 1 2 3
@@ -43,7 +43,7 @@ tetrahedron-two mask (inr (inr (inr (inr (inr (inr i)))))) = absurd i
 
 -- "six volumes 216"
 pub tetrahedron-faces : judgedByFaces tetrahedron four ≡ Solid (true ∷ false ∷ true ∷ false ∷ []) 216
-unfolding count first both either less only unlike onceEachWay oriented after edgesWith atEdge aroundFace atFace goOn fromLowest clearOn sixOn judgedByFaces xor
+unfolding count first both either less only unlike onceEachWay oriented after edgesWith atEdge aroundFace atFace goOn fromFace clearOn sixOn judgedByFaces xor
 tetrahedron-faces = refl
 
 pub tetrahedron-agrees : Agrees (judgedByFaces tetrahedron four) (judged tetrahedron four)

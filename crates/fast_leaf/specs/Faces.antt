@@ -1,5 +1,5 @@
--- The tests (ii) to (v) of a selection that has (i), with each face gone round once: from the lowest taken face over its edges, then from
--- each face that is reached so. Sets of edges and of faces are lists of digits, the lowest first. Assumes nothing.
+-- The tests (ii) to (v) of a selection that has (i), with each face gone round once: from one taken face over its edges, then from each
+-- face that is reached so. Sets of edges and of faces are lists of digits, the lowest first. Assumes nothing.
 use mathlib.Core.Bool.{Bool, true, false, cond, xor}
 use mathlib.Core.List.{List, []}
 use mathlib.Core.Path.{_≡_}
@@ -61,12 +61,16 @@ goOn (suc n) masks ups taken g =
 unfoldable pub toGo : List Bool → Going → ℕ
 toGo taken g = count (less taken (g .reached)) + count (g .waiting)
 
--- from the lowest taken face
-abbrev pub atLowest : List Bool → Going
-atLowest taken = record { reached = only (first taken); waiting = only (first taken); turned = [] }
+-- from face k
+abbrev pub alone : ℕ → Going
+alone k = record { reached = only k; waiting = only k; turned = [] }
 
-unfoldable pub fromLowest : List (List Bool) → List (List Bool) → List Bool → Going
-fromLowest masks ups taken = goOn (count taken) masks ups taken (atLowest taken)
+unfoldable pub fromFace : List (List Bool) → List (List Bool) → List Bool → ℕ → Going
+fromFace masks ups taken k = goOn (count taken) masks ups taken (alone k)
+
+-- from the lowest taken face
+abbrev pub fromLowest : List (List Bool) → List (List Bool) → List Bool → Going
+fromLowest masks ups taken = fromFace masks ups taken (first taken)
 
 -- ---- (v) and (iv) over the n lowest of the taken faces `left`
 unfoldable pub clearOn : ℕ → List (List Bool) → List Bool → List Bool → Bool

@@ -1,19 +1,19 @@
 -- The tests in order: the first that fails is the answer. Assumes nothing.
 use mathlib.Core.Bool.{Bool, true, false}
 use mathlib.Core.List.{List}
-use mathlib.Core.Path.{_≡_, sym, _∙_}
+use mathlib.Core.Path.{_≡_, sym, _∙_, subst}
 use Prim.Native.Nat.{ℕ, _<_}
 use lib.Dec.{eqb}
 use lib.IntN.{ℤ}
 use borrow.Author.Tests.{eq-eqb, ne-eqb}
 use Rattle.sets.specs.Word.{count, less}
-use Rattle.sets.specs.Sets.{Is, size, Minus}
+use Rattle.sets.specs.Sets.{Is, size, Lowest, Minus}
 use Rattle.sets.specs.declared.Set.{Set}
 use Rattle.paper.specs.Solids.{Tables, oriented}
-use Rattle.fast_leaf.specs.Faces.{fromLowest, clearOn, judgedByFaces}
+use Rattle.fast_leaf.specs.Faces.{fromFace, fromLowest, clearOn, judgedByFaces}
 use Rattle.walk_words.specs.Words.{Held}
 use Rattle.walk_state.proofs.Lowest.{some-in, none-in}
-use Rattle.walk_leaf.specs.Faces.{GoingIs, Edges, FromLowest}
+use Rattle.walk_leaf.specs.Faces.{GoingIs, Edges, FromFace}
 use Rattle.walk_leaf.specs.Tests.{OrientedIs, ClearIs, WeighedIs, Selects, Judges}
 use Rattle.walk_leaf.specs.declared.faces.Going.{Going}
 use Rattle.walk_leaf.specs.declared.Leaf.{Leaf}
@@ -24,7 +24,8 @@ module _ (on up : List ℕ) (n : ℕ) (sides clashes : List ℕ) (sixes : List �
   unfolding judgedByFaces
   judge-none z t a h s i = rw (eq-eqb (count a) 0 (none-in i z)) tt
 
-  module _ (p : 0 < size taken) {g : Going} (f : FromLowest on up sides taken g) {far : Set} (d : Minus taken (g .reached) far) where
+  module _ (p : 0 < size taken) {start : ℕ} (low : Lowest taken start) {g : Going} (f : FromFace on up sides taken start g) {far : Set}
+      (d : Minus taken (g .reached) far) where
     some : {a : List Bool} → Is taken a → eqb (count a) 0 ≡ false
     some {a} i = ne-eqb (count a) 0 (some-in i p)
 
@@ -33,7 +34,9 @@ module _ (on up : List ℕ) (n : ℕ) (sides clashes : List ℕ) (sixes : List �
 
     going : {t : Tables} {a : List Bool} → Held on up sides clashes sixes t → Selects t n a → Is taken a
         → GoingIs g (fromLowest (t .masks) (t .ups) a)
-    going {t} {a} h s i = f (t .masks) (t .ups) a (edges h s) (h .sides-are) i
+    going {t} {a} h s i =
+        subst (λ (j : ℕ). GoingIs g (fromFace (t .masks) (t .ups) a j)) (low .same a i)
+        (f (t .masks) (t .ups) a (edges h s) (h .sides-are) i (low .there a i))
 
     far-is : {t : Tables} {a : List Bool} → Held on up sides clashes sixes t → Selects t n a → Is taken a
         → Is far (less a (fromLowest (t .masks) (t .ups) a .reached))

@@ -1,23 +1,23 @@
 -- All edges of a face, and face by face until none waits: what is left to do gives the whole answer. Each face is gone round once, since
 -- no more wait than are reached anew. Assumes nothing.
-use mathlib.Core.Bool.{Bool}
+use mathlib.Core.Bool.{Bool, true}
 use mathlib.Core.List.{List, []}
 use mathlib.Core.Path.{_≡_, refl, sym, ap, _∙_, subst}
 use Prim.Native.Nat.{ℕ, _+_, _-_, _≤_, _<_}
 use native.Mathlib.Omega.{arith}
 use lib.ListN.{length, getD}
-use Rattle.sets.specs.Word.{count, first, only}
+use Rattle.sets.specs.Word.{dig, count, first, only}
 use Rattle.sets.specs.Sets.{room, Is, size, maskAt, Lowest, Dropped, EdgeSet}
 use Rattle.sets.specs.declared.Set.{Set}
 use Rattle.sets.proofs.Digits.{first-lt}
 use Rattle.fast_sweeps.specs.Worklist.{after, edgesWith}
 use Rattle.fast_sweeps.proofs.Marks.{length-after, length-sides}
-use Rattle.fast_leaf.specs.Faces.{atEdge, aroundFace, atFace, goOn, toGo, atLowest, fromLowest}
+use Rattle.fast_leaf.specs.Faces.{atEdge, aroundFace, atFace, goOn, toGo, alone, fromFace}
 use Rattle.fast_leaf.specs.Faces as Lists
 use Rattle.fast_leaf.proofs.Around.{around-none, around-more, on-none, rest-more, rest-start}
 use Rattle.walk_words.specs.Words.{Masks, Sides}
 use Rattle.walk_state.proofs.Lowest.{drops, some-in, none-in}
-use Rattle.walk_leaf.specs.Faces.{GoingIs, Edges, Grows, AtEdge, AroundFace, FromLowest}
+use Rattle.walk_leaf.specs.Faces.{GoingIs, Edges, Grows, AtEdge, AroundFace, FromFace}
 use Rattle.walk_leaf.specs.declared.faces.Going.{Going}
 use Rattle.walk_leaf.proofs.Steps.{size-room}
 
@@ -92,42 +92,42 @@ module _ (on up : List ℕ) (taken : Set) (f : ℕ) (g₀ : Going) (edges : Set)
 
 -- ---- face by face
 
-pub record Round (masks ups : List (List Bool)) (t : List Bool) (g : Going) : Type 0 where
+pub record Round (masks ups : List (List Bool)) (t : List Bool) (start : ℕ) (g : Going) : Type 0 where
   pub now : Lists.Going
   pub going-is : GoingIs g now
-  pub whole : goOn (toGo t now) masks ups t now ≡ fromLowest masks ups t
+  pub whole : goOn (toGo t now) masks ups t now ≡ fromFace masks ups t start
 
-pub record Rounds (on up sides : List ℕ) (taken : Set) (g : Going) : Type 0 where
+pub record Rounds (on up sides : List ℕ) (taken : Set) (start : ℕ) (g : Going) : Type 0 where
   pub few : size (g .reached) ≤ room
-  pub same : (masks ups : List (List Bool)) (t : List Bool) → Edges on up masks ups → Sides sides masks → Is taken t → Round masks ups t g
+  pub same : (masks ups : List (List Bool)) (t : List Bool) → Edges on up masks ups → Sides sides masks → Is taken t
+      → dig t start ≡ true → Round masks ups t start g
 
 -- those not yet reached, and those that wait
 abbrev pub togo : Going → ℕ
 togo g = (room - size (g .reached)) + size (g .waiting)
 
-module _ (on up sides : List ℕ) (taken : Set) where
-  pub rounds-start : 0 < size taken → {k : ℕ} → Lowest taken k → {one none : Set} → Is one (only k) → Is none []
-      → Rounds on up sides taken (record { reached = one; waiting = one; turned = none })
-  rounds-start p {k} low {one} i n = record {
+module _ (on up sides : List ℕ) (taken : Set) (start : ℕ) where
+  pub rounds-start : {one none : Set} → Is one (only start) → Is none []
+      → Rounds on up sides taken start (record { reached = one; waiting = one; turned = none })
+  rounds-start i n = record {
     few = size-room i;
-    same = λ masks ups t q s j.
-        let w : Is one (only (first t)) = subst (λ (m : ℕ). Is one (only m)) (low .same t j) i in
+    same = λ masks ups t q s j h.
         record {
-          now = atLowest t;
-          going-is = record { reached-is = w; waiting-is = w; turned-is = n };
-          whole = rest-start masks ups t (some-in j p);
+          now = alone start;
+          going-is = record { reached-is = i; waiting-is = i; turned-is = n };
+          whole = rest-start masks ups t start h;
         };
   }
 
-  module _ {g : Going} (a : Rounds on up sides taken g) where
+  module _ {g : Going} (a : Rounds on up sides taken start g) where
     module _ (p : 0 < size (g .waiting)) {f : ℕ} (low : Lowest (g .waiting) f) {edges : Set} (e : EdgeSet sides f edges) {waiting : Set}
         (d : Dropped (g .waiting) f waiting) {r : Going}
         (b : AroundFace on up edges taken f (record { reached = g .reached; waiting = waiting; turned = g .turned }) r) where
       pub rounds-less : togo r < togo g
       rounds-less = omega (arith, a .few, b .grows .few, b .grows .anew, d .fewer (low .there))
 
-      next : {masks ups : List (List Bool)} {t : List Bool} → Edges on up masks ups → Sides sides masks → Is taken t → Round masks ups t g
-          → Round masks ups t r
+      next : {masks ups : List (List Bool)} {t : List Bool} → Edges on up masks ups → Sides sides masks → Is taken t → Round masks ups t start g
+          → Round masks ups t start r
       unfolding atFace
       next {masks} {ups} {t} q s i w =
           let v = w .going-is in
@@ -146,11 +146,11 @@ module _ (on up sides : List ℕ) (taken : Set) where
             whole = sym (rest-more masks ups t (w .now) (some-in (v .waiting-is) p)) ∙ w .whole;
           }
 
-      pub rounds-next : Rounds on up sides taken r
-      rounds-next = record { few = b .grows .few; same = λ masks ups t q s i. next q s i (a .same masks ups t q s i) }
+      pub rounds-next : Rounds on up sides taken start r
+      rounds-next = record { few = b .grows .few; same = λ masks ups t q s i h. next q s i (a .same masks ups t q s i h) }
 
-    pub rounds-end : size (g .waiting) ≡ 0 → FromLowest on up sides taken g
-    rounds-end z masks ups t q s i =
-        let w = a .same masks ups t q s i in
+    pub rounds-end : size (g .waiting) ≡ 0 → FromFace on up sides taken start g
+    rounds-end z masks ups t q s i h =
+        let w = a .same masks ups t q s i h in
         let e = sym (w .whole) ∙ on-none masks ups t (toGo t (w .now)) (w .now) (none-in (w .going-is .waiting-is) z) in
         subst (GoingIs g) (sym e) (w .going-is)

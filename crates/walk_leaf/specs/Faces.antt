@@ -1,14 +1,14 @@
 -- The faces of a selection gone round one by one, as the code holds them. Assumes nothing.
-use mathlib.Core.Bool.{Bool, cond}
+use mathlib.Core.Bool.{Bool, true, cond}
 use mathlib.Core.List.{List}
 use mathlib.Core.Path.{_≡_}
 use Prim.Native.Nat.{ℕ, _+_, _≤_}
 use lib.ListN.{length}
-use Rattle.sets.specs.Word.{count, either}
+use Rattle.sets.specs.Word.{dig, count, either}
 use Rattle.sets.specs.Sets.{room, Is, size}
 use Rattle.sets.specs.declared.Set.{Set}
 use Rattle.paper.specs.Solids.{unlike}
-use Rattle.fast_leaf.specs.Faces.{unlikeWays, atEdge, aroundFace, fromLowest}
+use Rattle.fast_leaf.specs.Faces.{unlikeWays, atEdge, aroundFace, fromFace}
 use Rattle.fast_leaf.specs.Faces as Lists
 use Rattle.walk_words.specs.Words.{Masks, Sides}
 use Rattle.walk_leaf.specs.declared.faces.Going.{Going}
@@ -47,7 +47,8 @@ pub record AroundFace (on up : List ℕ) (edges taken : Set) (f : ℕ) (g r : Go
   pub same : (masks ups : List (List Bool)) (t left : List Bool) (s : Lists.Going) → Edges on up masks ups → length left ≤ length masks
       → Is taken t → Is edges left → GoingIs g s → GoingIs r (aroundFace (count left) masks ups t f left s)
 
-abbrev pub FromLowest : List ℕ → List ℕ → List ℕ → Set → Going → Type 0
-FromLowest on up sides taken r =
-    (masks ups : List (List Bool)) (t : List Bool) → Edges on up masks ups → Sides sides masks → Is taken t
-    → GoingIs r (fromLowest masks ups t)
+-- from a face that is taken
+abbrev pub FromFace : List ℕ → List ℕ → List ℕ → Set → ℕ → Going → Type 0
+FromFace on up sides taken k r =
+    (masks ups : List (List Bool)) (t : List Bool) → Edges on up masks ups → Sides sides masks → Is taken t → dig t k ≡ true
+    → GoingIs r (fromFace masks ups t k)

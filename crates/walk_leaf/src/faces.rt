@@ -1,8 +1,8 @@
-// The faces of a selection, gone round once each: from the lowest over its edges, then from each face that is reached so. Assumes nothing.
+// The faces of a selection, gone round once each: from one of them over its edges, then from each face that is reached so. Assumes nothing.
 ghost use Prim.Native.Nat.{_<_};
-ghost use Rattle.sets.specs.Sets.{room, size, Joint};
+ghost use Rattle.sets.specs.Sets.{room, Joint};
 ghost use Rattle.paper.specs.Solids.{unlike};
-ghost use Rattle.walk_leaf.specs.Faces.{TurnedAt, AtEdge, AroundFace, FromLowest};
+ghost use Rattle.walk_leaf.specs.Faces.{TurnedAt, AtEdge, AroundFace, FromFace};
 use paper::MOST_CANDIDATES;
 use paper::MOST_EDGES;
 use sets::Set;
@@ -79,20 +79,21 @@ fn around_face(
     going
 }
 
-// From the lowest face taken until none waits.
-pub fn from_lowest(
+// From face k until none waits.
+pub fn from_face(
     on: &[u64; MOST_EDGES],
     up: &[u64; MOST_EDGES],
     sides: &[u64; MOST_CANDIDATES],
     taken: Set,
+    k: usize,
 ) -> Going
-    requires { ⌜ 0 < size taken ⌝ }
-    ensures { λ r. ⌜ FromLowest (now (on .entry)) (now (up .entry)) (now (sides .entry)) taken r ⌝ }
+    requires { ⌜ k < room ⌝ }
+    ensures { λ r. ⌜ FromFace (now (on .entry)) (now (up .entry)) (now (sides .entry)) taken k r ⌝ }
 {
-    let lowest = Set::just(taken.lowest());
+    let alone = Set::just(k);
     let mut going = Going {
-        reached: lowest,
-        waiting: lowest,
+        reached: alone,
+        waiting: alone,
         turned: Set::none(),
     };
     while !going.waiting.is_empty() {

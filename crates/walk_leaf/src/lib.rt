@@ -1,6 +1,6 @@
 // The tests (ii) to (v) of a selection that has (i). No ones are counted: one alone, or none, is asked for. Assumes at most 64 candidates
 // and 64 edges.
-mod faces;
+pub mod faces;
 
 ghost use mathlib.Core.Path.{_≡_};
 ghost use Prim.Native.Nat.{_≤_};
@@ -10,7 +10,7 @@ ghost use Rattle.paper.specs.Format.{editionOne};
 ghost use Rattle.walk_words.specs.Words.{SmallSixes};
 ghost use Rattle.walk_leaf.specs.Tests.{WayIs, OrientedIs, ClearIs, PartAt, PartIs, Weighs, WeighedIs};
 ghost use Rattle.walk_leaf.specs.Tests.{Judging, Judges};
-use faces::from_lowest;
+use faces::from_face;
 use faces::unlike;
 use paper::MOST_CANDIDATES;
 use paper::MOST_EDGES;
@@ -32,7 +32,7 @@ fn is_one(x: Set) -> bool
 }
 
 // Whether an edge is run once each way by the faces taken: `up` are those whose normal form runs it upwards.
-fn once_each_way(mask: Set, up: Set, taken: Set, turned: Set) -> bool
+pub fn once_each_way(mask: Set, up: Set, taken: Set, turned: Set) -> bool
     ensures { λ r. ⌜ WayIs mask up taken turned r ⌝ }
 {
     let mine = mask.and(taken);
@@ -91,7 +91,8 @@ fn part(sixes: &[i64; MOST_CANDIDATES], k: usize, turned: bool) -> i64
     z
 }
 
-fn weight(sixes: &[i64; MOST_CANDIDATES], taken: Set, turned: Set) -> i64
+// Six volumes of the faces taken, with these directions.
+pub fn weight(sixes: &[i64; MOST_CANDIDATES], taken: Set, turned: Set) -> i64
     requires { ⌜ SmallSixes (now sixes) ⌝ }
     ensures { λ r. ⌜ Weighs (now (sixes .entry)) taken turned r ⌝ }
 {
@@ -137,7 +138,7 @@ pub fn judge(
     if taken.is_empty() {
         return Leaf::Fails;
     }
-    let g = from_lowest(on, up, sides, taken);
+    let g = from_face(on, up, sides, taken, taken.lowest());
     let turned = g.turned;
     if !taken.minus(g.reached).is_empty() {
         return Leaf::Fails;

@@ -17,11 +17,11 @@ ways c = c .before .before
 abbrev asked : tie.After-oriented → tie.After-is-empty2
 asked c = c .before .before
 
-abbrev round : tie.After-is-empty2 → tie.After-from-lowest
+abbrev round : tie.After-is-empty2 → tie.After-from-face
 round c = c .before .before .before
 
-abbrev start : tie.After-from-lowest → tie.Start
-start c = c .before .before .before
+abbrev start : tie.After-from-face → tie.Start
+start c = c .before .before .before .before
 
 -- some are taken
 some-taken : (c : tie.Else1) → 0 < size (c .before .before .args .taken)
@@ -44,8 +44,11 @@ returns c =
     judge-none (a .on .now) (a .up .now) (a .n) (a .sides .now) (a .clashes .now) (a .sixes .now) (a .taken)
     (is-none (a .taken) (c .before .is-empty .ensures) (c .if1 .taken))
 
-from-lowest-requires : tie.Need-from-lowest-requires
-from-lowest-requires c κs = some-taken c
+lowest-requires : tie.Need-lowest-requires
+lowest-requires c κs = some-taken c
+
+from-face-requires : tie.Need-from-face-requires
+from-face-requires c κs = c .lowest .ensures .narrow
 
 minus-requires : tie.Need-minus-requires
 minus-requires c κs = search needs
@@ -60,7 +63,7 @@ returns-2 c =
     let a = start r .args in
     let m = q .before .minus in
     judge-apart (a .on .now) (a .up .now) (a .n) (a .sides .now) (a .clashes .now) (a .sixes .now) (a .taken)
-    (some-taken (r .before)) (r .from-lowest .ensures) (m .ensures)
+    (some-taken (r .before .before)) (r .before .lowest .ensures) (r .from-face .ensures) (m .ensures)
     (is-some (m .result) (q .is-empty2 .ensures) (not-true (q .is-empty2 .result) (c .if2 .taken)))
 
 oriented-requires : tie.Need-oriented-requires
@@ -73,7 +76,7 @@ returns-3 c =
     let r = round q in
     let a = start r .args in
     judge-ways (a .on .now) (a .up .now) (a .n) (a .sides .now) (a .clashes .now) (a .sixes .now) (a .taken)
-    (some-taken (r .before)) (r .from-lowest .ensures) (q .before .minus .ensures) (none-far (o .before)) (o .oriented .ensures)
+    (some-taken (r .before .before)) (r .before .lowest .ensures) (r .from-face .ensures) (q .before .minus .ensures) (none-far (o .before)) (o .oriented .ensures)
     (not-true (o .oriented .result) (c .if3 .taken))
 
 clear-requires : tie.Need-clear-requires
@@ -87,7 +90,7 @@ returns-4 c =
     let r = round q in
     let a = start r .args in
     judge-clash (a .on .now) (a .up .now) (a .n) (a .sides .now) (a .clashes .now) (a .sixes .now) (a .taken)
-    (some-taken (r .before)) (r .from-lowest .ensures) (q .before .minus .ensures) (none-far (o .before)) (o .oriented .ensures)
+    (some-taken (r .before .before)) (r .before .lowest .ensures) (r .from-face .ensures) (q .before .minus .ensures) (none-far (o .before)) (o .oriented .ensures)
     (not-false (o .oriented .result) (k .before .if3 .left)) (k .clear .ensures) (not-true (k .clear .result) (c .if4 .taken))
 
 weighed-requires : tie.Need-weighed-requires
@@ -101,7 +104,7 @@ returns-5 c =
     let r = round q in
     let a = start r .args in
     judge-weighed (a .on .now) (a .up .now) (a .n) (a .sides .now) (a .clashes .now) (a .sixes .now) (a .taken)
-    (some-taken (r .before)) (r .from-lowest .ensures) (q .before .minus .ensures) (none-far (o .before)) (o .oriented .ensures)
+    (some-taken (r .before .before)) (r .before .lowest .ensures) (r .from-face .ensures) (q .before .minus .ensures) (none-far (o .before)) (o .oriented .ensures)
     (not-false (o .oriented .result) (k .before .if3 .left)) (k .clear .ensures) (not-false (k .clear .result) (c .before .if4 .left))
     (c .weighed .result) (c .weighed .ensures)
 
@@ -111,7 +114,8 @@ judge-spec =
     (tie.spec
     is-empty-requires
     returns
-    from-lowest-requires
+    lowest-requires
+    from-face-requires
     minus-requires
     is-empty-requires-2
     returns-2

@@ -1,4 +1,4 @@
--- `walk_leaf::faces::from_lowest`: the loop keeps that going on from the faces that wait gives the whole answer (`Rounds`). Each turn
+-- `walk_leaf::faces::from_face`: the loop keeps that going on from the faces that wait gives the whole answer (`Rounds`). Each turn
 -- leaves fewer of those not reached and those waiting. Assumes nothing.
 use borrow.Author.Needs.{needs}
 use borrow.Author.Tests.{not-true, not-false}
@@ -7,25 +7,25 @@ use Prim.Native.Nat.{_<_}
 use Rattle.sets.specs.Sets.{size}
 use Rattle.walk_state.proofs.Lowest.{is-none, is-some}
 use Rattle.walk_leaf.proofs.Rounds.{Rounds, togo, rounds-start, rounds-less, rounds-next, rounds-end}
-use Rattle.walk_leaf.proofs.faces.from_lowest.Statement.{statement}
-use Rattle.walk_leaf.proofs.faces.from_lowest.Tie as tie
+use Rattle.walk_leaf.proofs.faces.from_face.Statement.{statement}
+use Rattle.walk_leaf.proofs.faces.from_face.Tie as tie
 
 abbrev Inv-loop : tie.InvT-loop
-Inv-loop on up sides taken going₀ going = Rounds on up sides taken going
+Inv-loop on up sides taken k going₀ going = Rounds on up sides taken k going
 
 abbrev μ-loop : tie.MeasureT-loop
-μ-loop on up sides taken going₀ going = togo going
+μ-loop on up sides taken k going₀ going = togo going
 
 -- ---- the ways back: from the end of a turn to its face, from there to the loop, and from the loop to the start
 
-abbrev chosen : tie.After-without Inv-loop μ-loop → tie.After-lowest2 Inv-loop μ-loop
+abbrev chosen : tie.After-without Inv-loop μ-loop → tie.After-lowest Inv-loop μ-loop
 chosen c = c .before .before .before .before .before
 
 abbrev turn : tie.Then1 Inv-loop μ-loop → tie.At-loop Inv-loop μ-loop
 turn c = c .before .before
 
 abbrev start : tie.At-loop Inv-loop μ-loop → tie.Start Inv-loop μ-loop
-start c = c .before .before .before .before
+start c = c .before .before .before
 
 -- in a turn some wait
 some-wait : (c : tie.Then1 Inv-loop μ-loop) → 0 < size (turn c .loop .going .waiting)
@@ -35,37 +35,31 @@ some-wait c =
 
 -- ---- the needs
 
-lowest-requires : tie.Need-lowest-requires Inv-loop μ-loop
-lowest-requires c κs = c .pre
-
 just-requires : tie.Need-just-requires Inv-loop μ-loop
-just-requires c κs = c .lowest .ensures .narrow
+just-requires c κs = c .pre
 
 none-requires : tie.Need-none-requires Inv-loop μ-loop
 none-requires c κs = search needs
 
 loop-holds : tie.Need-loop-holds Inv-loop μ-loop
 loop-holds c =
-    let l = c .before .before in
-    let s = l .before in
-    let a = s .args in
-    rounds-start (a .on .now) (a .up .now) (a .sides .now) (a .taken) (s .pre) (l .lowest .ensures) (c .before .just .ensures)
-    (c .none .ensures)
+    let a = c .before .before .args in
+    rounds-start (a .on .now) (a .up .now) (a .sides .now) (a .taken) (a .k) (c .before .just .ensures) (c .none .ensures)
 
 is-empty-requires : tie.Need-is-empty-requires Inv-loop μ-loop
 is-empty-requires c κs = search needs
 
-lowest-requires-2 : tie.Need-lowest-requires-2 Inv-loop μ-loop
-lowest-requires-2 c κs = some-wait c
+lowest-requires : tie.Need-lowest-requires Inv-loop μ-loop
+lowest-requires c κs = some-wait c
 
 of-edge-requires : tie.Need-of-edge-requires Inv-loop μ-loop
-of-edge-requires c κs = let low = c .before .lowest2 .ensures in omega (arith, low)
+of-edge-requires c κs = let low = c .before .lowest .ensures in omega (arith, low)
 
 without-requires : tie.Need-without-requires Inv-loop μ-loop
-without-requires c κs = c .before .before .before .before .lowest2 .ensures .narrow
+without-requires c κs = c .before .before .before .before .lowest .ensures .narrow
 
 around-face-requires : tie.Need-around-face-requires Inv-loop μ-loop
-around-face-requires c κs = chosen c .lowest2 .ensures .narrow
+around-face-requires c κs = chosen c .lowest .ensures .narrow
 
 loop-less : tie.Need-loop-less Inv-loop μ-loop
 loop-less c =
@@ -73,7 +67,7 @@ loop-less c =
     let l = chosen w in
     let t = turn (l .before) in
     let a = start t .args in
-    rounds-less (a .on .now) (a .up .now) (a .sides .now) (a .taken) (t .loop .inv) (some-wait (l .before)) (l .lowest2 .ensures)
+    rounds-less (a .on .now) (a .up .now) (a .sides .now) (a .taken) (a .k) (t .loop .inv) (some-wait (l .before)) (l .lowest .ensures)
     (w .before .before .before .of-edge .ensures) (w .without .ensures) (c .around-face .ensures)
 
 loop-again : tie.Need-loop-again Inv-loop μ-loop
@@ -82,7 +76,7 @@ loop-again c =
     let l = chosen w in
     let t = turn (l .before) in
     let a = start t .args in
-    rounds-next (a .on .now) (a .up .now) (a .sides .now) (a .taken) (t .loop .inv) (some-wait (l .before)) (l .lowest2 .ensures)
+    rounds-next (a .on .now) (a .up .now) (a .sides .now) (a .taken) (a .k) (t .loop .inv) (some-wait (l .before)) (l .lowest .ensures)
     (w .before .before .before .of-edge .ensures) (w .without .ensures) (c .around-face .ensures)
 
 returns : tie.Need-returns Inv-loop μ-loop
@@ -90,21 +84,20 @@ returns c =
     let e = c .before .is-empty in
     let t = c .before .before in
     let a = start t .args in
-    rounds-end (a .on .now) (a .up .now) (a .sides .now) (a .taken) (t .loop .inv)
+    rounds-end (a .on .now) (a .up .now) (a .sides .now) (a .taken) (a .k) (t .loop .inv)
     (is-none (t .loop .going .waiting) (e .ensures) (not-false (e .result) (c .if1 .left)))
 
-pub from-lowest-spec : {M : Type 1} → statement M
-from-lowest-spec =
+pub from-face-spec : {M : Type 1} → statement M
+from-face-spec =
     tie.close
     (tie.spec
     Inv-loop
     μ-loop
-    lowest-requires
     just-requires
     none-requires
     loop-holds
     is-empty-requires
-    lowest-requires-2
+    lowest-requires
     of-edge-requires
     without-requires
     around-face-requires
