@@ -19,7 +19,8 @@ use Rattle.paper.specs.Drawing.{Wire, edgeAt}
 use Rattle.paper.specs.Loops.{Loop}
 use Rattle.paper.specs.Solids.{tablesOf, inTwo, facesFrom, onceEachWay, sixFrom}
 use Rattle.paper.specs.Verdict.{edgeCount, direction, pieces, inward, clashes}
-use Rattle.means_leaf.proofs.Spread.{in-place, place-in}
+use Rattle.means_leaf.proofs.Each.{counted-two}
+use Rattle.means_leaf.proofs.Spread.{place-in}
 use Rattle.means_leaf.proofs.Reaches.{way-on, way-back, reached-ways, ways-reached}
 use Rattle.means_leaf.specs.Meaning as Masks
 use Rattle.means_solid.specs.Proper.{AllProper}
@@ -40,13 +41,7 @@ module _ (d : Wire) (cs : List Loop) (taken turned : List Bool) where
   notTwo e = not (inTwo (getD (tablesOf d cs .masks) e []) taken)
 
   pub edges-two : edgeCount (tablesOf d cs) taken ≡ none → EachTwo d cs taken turned
-  unfolding edgeCount inTwo
-  edges-two p = masks-two d cs taken turned (λ mask i.
-      let r = in-place mask (tablesOf d cs .masks) i in
-      let q = lowest-none notTwo (length (tablesOf d cs .masks)) p (r .0) (r .1) in
-      ap (λ (m : List Bool). count (both m taken)) (sym (r .2))
-      ∙ eqb-true (count (both (getD (tablesOf d cs .masks) (r .0) []) taken)) 2
-      (not-false (inTwo (getD (tablesOf d cs .masks) (r .0) []) taken) q))
+  edges-two p = masks-two d cs taken turned (counted-two taken (tablesOf d cs) p)
 
   pub two-edges : EachTwo d cs taken turned → edgeCount (tablesOf d cs) taken ≡ none
   unfolding edgeCount inTwo

@@ -1,17 +1,33 @@
--- (iii) and (v) go through the masks in order, and so ask the same of each place. Assumes nothing.
-use mathlib.Core.Bool.{Bool, true, false, cond}
+-- (i), (iii) and (v) go through the masks in order, and so ask the same of each place. Assumes nothing.
+use mathlib.Core.Bool.{Bool, true, false, not, cond}
 use mathlib.Core.List.{List, [], _∷_}
+use mathlib.Core.Option.{none}
 use mathlib.Core.Path.{_≡_, refl, sym, ap, _∙_, subst}
 use Prim.Native.Nat.{ℕ, zero, suc, _+_, _<_}
 use native.Mathlib.Omega.{arith}
 use lib.ListN.{length, getD}
-use borrow.Author.Tests.{eqb-true, eq-eqb}
+use borrow.Author.Tests.{eqb-true, eq-eqb, not-false}
+use Rattle.lists.proofs.Lowest.{lowest-none}
 use Rattle.sets.specs.Word.{dig, count, both}
 use Rattle.sets.proofs.Digits.{never}
-use Rattle.paper.specs.Solids.{onceEachWay, oriented, peaceful, clearFrom}
+use Rattle.paper.specs.Solids.{Tables, inTwo, onceEachWay, oriented, peaceful, clearFrom}
+use Rattle.paper.specs.Verdict.{edgeCount}
+use Rattle.means_leaf.specs.Meaning.{InTwo}
 use Rattle.means_leaf.proofs.Directions.{oriented-here}
+use Rattle.means_leaf.proofs.Spread.{in-place}
 
 module _ (taken : List Bool) where
+  -- ---- (i), where 23 finds no edge
+
+  pub counted-two : (t : Tables) → edgeCount t taken ≡ none → InTwo (t .masks) taken
+  unfolding edgeCount inTwo
+  counted-two t p mask i =
+      let r = in-place mask (t .masks) i in
+      let two = inTwo (getD (t .masks) (r .0) []) taken in
+      let q = lowest-none (λ e. not (inTwo (getD (t .masks) e []) taken)) (length (t .masks)) p (r .0) (r .1) in
+      ap (λ (m : List Bool). count (both m taken)) (sym (r .2))
+      ∙ eqb-true (count (both (getD (t .masks) (r .0) []) taken)) 2 (not-false two q)
+
   -- ---- (iii)
 
   module _ (turned : List Bool) where
