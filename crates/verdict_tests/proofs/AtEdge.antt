@@ -1,0 +1,62 @@
+-- 23 and 24 of one edge: the code's test of its words is the definition's of its masks. Assumes nothing.
+use mathlib.Core.Bool.{Bool, true, false, not}
+use mathlib.Core.List.{List, []}
+use mathlib.Core.Path.{_≡_, refl, sym, ap, _∙_}
+use Prim.Native.Nat.{ℕ, _<_}
+use native.Mathlib.Omega.{arith}
+use lib.ListN.{length, getD}
+use borrow.Author.Tests.{eq-eqb, ne-eqb}
+use Rattle.lists.specs.Lists.{lowest}
+use Rattle.sets.specs.Word.{count, both}
+use Rattle.sets.specs.Sets.{Is, Joint, Counted, EdgeSet}
+use Rattle.sets.specs.declared.Set.{Set}
+use Rattle.sets.proofs.Sets.{size-is}
+use Rattle.paper.specs.Solids.{Tables, inTwo, onceEachWay}
+use Rattle.paper.specs.Verdict as Paper
+use Rattle.paper.specs.Verdict.{Listed}
+use Rattle.walk_leaf.specs.Tests.{WayIs}
+use Rattle.walk_leaf.proofs.Rounds.{mask-at}
+use Rattle.verdict_tests.specs.Tests.{edgeCount, direction, Counting, Running}
+use Rattle.verdict_tests.proofs.Searching.{Offends, Finds}
+
+-- ---- the tests, as the definitions ask them
+
+abbrev pub notTwo : Tables → Listed → ℕ → Bool
+notTwo t l e = not (inTwo (getD (t .masks) e []) (l .taken))
+
+abbrev pub notOnce : Tables → Listed → ℕ → Bool
+notOnce t l e = not (onceEachWay (getD (t .masks) e []) (getD (t .ups) e []) (l .taken) (l .turned))
+
+module _ (on : List ℕ) (n : ℕ) (taken : Set) where
+  pub finds-23 : Finds (Counting on n taken) notTwo n edgeCount
+  unfolding Paper.edgeCount
+  finds-23 t l w = ap (lowest (notTwo t l)) (w .as-many)
+
+  module _ (e : ℕ) (h : e < n) {mask mine : Set} (o : EdgeSet on e mask) (j : Joint mask taken mine both) {k : ℕ} (c : Counted mine k)
+    where
+      counts : (t : Tables) (l : Listed) → Counting on n taken t l → k ≡ count (both (getD (t .masks) e []) (l .taken))
+      counts t l w =
+          let m : e < length (t .masks) = omega (arith, w .as-many) in
+          c .size-is ∙ size-is (j (getD (t .masks) e []) (l .taken) (mask-at (w .on-are) o refl m) (w .taken-is))
+
+      pub not-two : (k ≡ 2 → ⊥) → Offends (Counting on n taken) notTwo n e true
+      unfolding inTwo
+      not-two f t l w = ap not (ne-eqb (count (both (getD (t .masks) e []) (l .taken))) 2 (λ z. f (counts t l w ∙ z)))
+
+      pub in-two : k ≡ 2 → Offends (Counting on n taken) notTwo n e false
+      unfolding inTwo
+      in-two z t l w = ap not (eq-eqb (count (both (getD (t .masks) e []) (l .taken))) 2 (sym (counts t l w) ∙ z))
+
+module _ (on up : List ℕ) (n : ℕ) (taken turned : Set) where
+  pub finds-24 : Finds (Running on up n taken turned) notOnce n direction
+  unfolding Paper.direction
+  finds-24 t l w = ap (lowest (notOnce t l)) (w .as-many)
+
+  module _ (e : ℕ) (h : e < n) {mask other : Set} (o : EdgeSet on e mask) (u : EdgeSet up e other) {b : Bool}
+      (s : WayIs mask other taken turned b) where
+    pub way-at : {r : Bool} → not b ≡ r → Offends (Running on up n taken turned) notOnce n e r
+    way-at q t l w =
+        let m : e < length (t .masks) = omega (arith, w .as-many) in
+        let k : e < length (t .ups) = omega (arith, w .edges-are .as-many) in
+        ap not (sym (s (getD (t .masks) e []) (getD (t .ups) e []) (l .taken) (l .turned) (mask-at (w .edges-are .on-are) o refl m)
+        (mask-at (w .edges-are .up-are) u refl k) (w .taken-is) (w .turned-is))) ∙ q

@@ -1,0 +1,116 @@
+-- `verdict_tests::faces::clash`: the loop keeps that what is left to search holds the whole answer; of each face the word of its
+-- clashes is asked (`AtFace`). Assumes nothing.
+use Prim.Native.Nat.{_-_, _≤_}
+use native.Mathlib.Omega.{arith}
+use borrow.Author.Needs.{needs}
+use mathlib.Core.Path.{_∙_}
+use Rattle.paper.specs.Refusals.{Clash}
+use Rattle.verdict_tests.specs.Tests.{Clashing, clash}
+use Rattle.verdict_tests.proofs.AtFace.{clashing, finds-27, clash-at}
+use Rattle.verdict_tests.proofs.Searching.{Asking, asking-start, asking-next, asking-hit, asking-end}
+use Rattle.verdict_tests.proofs.faces.clash.Statement.{statement}
+use Rattle.verdict_tests.proofs.faces.clash.Tie as tie
+
+abbrev Inv-loop : tie.InvT-loop
+Inv-loop clashes numbers count taken i₀ i = (i ≤ count) × Asking (Clashing clashes numbers count taken) clashing count i
+
+abbrev μ-loop : tie.MeasureT-loop
+μ-loop clashes numbers count taken i₀ i = count - i
+
+-- ---- the way back: from the face's answer to its word, and from there to the loop
+
+abbrev named : tie.After-is-empty Inv-loop μ-loop → tie.After-wide Inv-loop μ-loop
+named c = c .before .before .before
+
+abbrev turn : tie.After-wide Inv-loop μ-loop → tie.At-loop Inv-loop μ-loop
+turn c = c .before .before .before .before
+
+-- ---- the needs
+
+loop-holds : tie.Need-loop-holds Inv-loop μ-loop
+loop-holds c =
+    let a = c .args in
+    (omega arith, asking-start (Clashing (a .clashes .now) (a .numbers .now) (a .count) (a .taken)) clashing (a .count))
+
+element-copy-out-wide : tie.Need-element-copy-out-wide Inv-loop μ-loop
+element-copy-out-wide c = omega arith
+
+wide-requires : tie.Need-wide-requires Inv-loop μ-loop
+wide-requires c κs = search needs
+
+of-edge-requires : tie.Need-of-edge-requires Inv-loop μ-loop
+of-edge-requires c κs =
+    let t = turn c in
+    let h = t .before .pre .narrow (t .loop .i) (omega arith) in
+    omega (arith, h, c .wide .ensures)
+
+and-requires : tie.Need-and-requires Inv-loop μ-loop
+and-requires c κs = search needs
+
+is-empty-requires : tie.Need-is-empty-requires Inv-loop μ-loop
+is-empty-requires c κs = search needs
+
+refused-requires : tie.Need-refused-requires Inv-loop μ-loop
+refused-requires c κs = search needs
+
+returns : tie.Need-returns Inv-loop μ-loop
+returns c =
+    let o = c .before .before in
+    let k = named o in
+    let t = turn k in
+    let a = t .before .args in
+    let cs = a .clashes .now in
+    let ns = a .numbers .now in
+    λ d l w.
+    c .refused .ensures ∙ asking-hit (Clashing cs ns (a .count) (a .taken)) clashing (a .count) Clash clash
+    (finds-27 cs ns (a .count) (a .taken) (t .before .pre .held)) (t .loop .i) (omega arith) (t .loop .inv .1)
+    (clash-at cs ns (a .count) (a .taken) (t .before .pre .held) (t .loop .i) (omega arith) (k .wide .ensures)
+    (o .before .before .of-edge .ensures) (o .before .and .ensures) (o .is-empty .ensures) (c .before .if1 .taken)) d l w
+
+add-i : tie.Need-add-i Inv-loop μ-loop
+add-i c = omega arith
+
+loop-less : tie.Need-loop-less Inv-loop μ-loop
+loop-less c = omega arith
+
+loop-again : tie.Need-loop-again Inv-loop μ-loop
+loop-again c =
+    let o = c .before in
+    let k = named o in
+    let t = turn k in
+    let a = t .before .args in
+    let cs = a .clashes .now in
+    let ns = a .numbers .now in (
+      omega arith,
+      asking-next (Clashing cs ns (a .count) (a .taken)) clashing (a .count) (t .loop .i) (omega arith) (t .loop .inv .1)
+          (clash-at cs ns (a .count) (a .taken) (t .before .pre .held) (t .loop .i) (omega arith) (k .wide .ensures)
+          (o .before .before .of-edge .ensures) (o .before .and .ensures) (o .is-empty .ensures) (c .if1 .left)),
+    )
+
+returns-2 : tie.Need-returns-2 Inv-loop μ-loop
+returns-2 c =
+    let t = c .before in
+    let a = t .before .args in
+    let cs = a .clashes .now in
+    let ns = a .numbers .now in
+    asking-end (Clashing cs ns (a .count) (a .taken)) clashing (a .count) Clash clash
+    (finds-27 cs ns (a .count) (a .taken) (t .before .pre .held)) (t .loop .i) (omega arith) (t .loop .inv .1)
+
+pub clash-spec : {M : Type 1} → statement M
+clash-spec =
+    tie.close
+    (tie.spec
+    Inv-loop
+    μ-loop
+    loop-holds
+    element-copy-out-wide
+    wide-requires
+    of-edge-requires
+    and-requires
+    is-empty-requires
+    refused-requires
+    returns
+    add-i
+    loop-less
+    loop-again
+    returns-2)

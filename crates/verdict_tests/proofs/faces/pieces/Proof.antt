@@ -1,0 +1,116 @@
+-- `verdict_tests::faces::pieces`: the loop keeps that what is left to search holds the whole answer, for every list of which the set
+-- has the faces joined to face 0; those of `from_first` are (`AtFace`). Assumes nothing.
+use Prim.Native.Nat.{_-_, _≤_}
+use native.Mathlib.Omega.{arith}
+use borrow.Author.Needs.{needs}
+use mathlib.Core.Path.{_∙_}
+use Rattle.paper.specs.Refusals.{Pieces}
+use Rattle.verdict_tests.specs.Tests.{pieces}
+use Rattle.verdict_tests.proofs.AtFace.{unjoined, Reaching, reaches, finds-25, joined-at}
+use Rattle.verdict_tests.proofs.Searching.{Asking, asking-start, asking-next, asking-hit, asking-end}
+use Rattle.verdict_tests.proofs.faces.pieces.Statement.{statement}
+use Rattle.verdict_tests.proofs.faces.pieces.Tie as tie
+
+abbrev Inv-loop : tie.InvT-loop
+Inv-loop on up sides numbers count reached i₀ i = (i ≤ count) × Asking (Reaching numbers count reached) unjoined count i
+
+abbrev μ-loop : tie.MeasureT-loop
+μ-loop on up sides numbers count reached i₀ i = count - i
+
+-- ---- the ways back: from the face's answer to the loop, and from there to the faces gone round
+
+abbrev turn : tie.After-has Inv-loop μ-loop → tie.At-loop Inv-loop μ-loop
+turn c = c .before .before .before .before
+
+abbrev round : tie.At-loop Inv-loop μ-loop → tie.After-from-first Inv-loop μ-loop
+round c = c .before .before
+
+-- ---- the needs
+
+from-first-requires : tie.Need-from-first-requires Inv-loop μ-loop
+from-first-requires c κs = c .pre .narrow 0 (c .pre .some)
+
+loop-holds : tie.Need-loop-holds Inv-loop μ-loop
+loop-holds c =
+    let a = c .before .before .args in
+    (omega arith, asking-start (Reaching (a .numbers .now) (a .count) (c .before .from-first .result .reached)) unjoined (a .count))
+
+element-copy-out-wide : tie.Need-element-copy-out-wide Inv-loop μ-loop
+element-copy-out-wide c = omega arith
+
+wide-requires : tie.Need-wide-requires Inv-loop μ-loop
+wide-requires c κs = search needs
+
+has-requires : tie.Need-has-requires Inv-loop μ-loop
+has-requires c κs =
+    let t = c .before .before .before in
+    let h = round t .before .pre .narrow (t .loop .i) (omega arith) in
+    omega (arith, h, c .wide .ensures)
+
+refused-requires : tie.Need-refused-requires Inv-loop μ-loop
+refused-requires c κs = search needs
+
+returns : tie.Need-returns Inv-loop μ-loop
+returns c =
+    let o = c .before .before in
+    let t = turn o in
+    let r = round t in
+    let a = r .before .args in
+    let fits = r .before .pre .held in
+    let ns = a .numbers .now in
+    let s = r .from-first .result .reached in
+    λ d l w.
+    c .refused .ensures ∙ asking-hit (Reaching ns (a .count) s) unjoined (a .count) Pieces pieces (finds-25 ns (a .count) fits s)
+    (t .loop .i) (omega arith) (t .loop .inv .1)
+    (joined-at ns (a .count) fits s (t .loop .i) (omega arith) (o .before .wide .ensures) (o .has .ensures) (c .before .if1 .taken)) d l
+    (reaches ns (a .count) fits (r .before .pre .some) (r .from-first .ensures) d l w)
+
+add-i : tie.Need-add-i Inv-loop μ-loop
+add-i c = omega arith
+
+loop-less : tie.Need-loop-less Inv-loop μ-loop
+loop-less c = omega arith
+
+loop-again : tie.Need-loop-again Inv-loop μ-loop
+loop-again c =
+    let o = c .before in
+    let t = turn o in
+    let r = round t in
+    let a = r .before .args in
+    let ns = a .numbers .now in
+    let s = r .from-first .result .reached in (
+      omega arith,
+      asking-next (Reaching ns (a .count) s) unjoined (a .count) (t .loop .i) (omega arith) (t .loop .inv .1)
+          (joined-at ns (a .count) (r .before .pre .held) s (t .loop .i) (omega arith) (o .before .wide .ensures) (o .has .ensures)
+          (c .if1 .left)),
+    )
+
+returns-2 : tie.Need-returns-2 Inv-loop μ-loop
+returns-2 c =
+    let t = c .before in
+    let r = round t in
+    let a = r .before .args in
+    let fits = r .before .pre .held in
+    let ns = a .numbers .now in
+    let s = r .from-first .result .reached in
+    λ d l w.
+    asking-end (Reaching ns (a .count) s) unjoined (a .count) Pieces pieces (finds-25 ns (a .count) fits s) (t .loop .i) (omega arith)
+    (t .loop .inv .1) d l (reaches ns (a .count) fits (r .before .pre .some) (r .from-first .ensures) d l w)
+
+pub pieces-spec : {M : Type 1} → statement M
+pieces-spec =
+    tie.close
+    (tie.spec
+    Inv-loop
+    μ-loop
+    from-first-requires
+    loop-holds
+    element-copy-out-wide
+    wide-requires
+    has-requires
+    refused-requires
+    returns
+    add-i
+    loop-less
+    loop-again
+    returns-2)

@@ -1,0 +1,39 @@
+-- `verdict_tests::inward`: six volumes is above zero, or it is not (`Volumes`). Assumes nothing.
+use borrow.Author.Needs.{needs}
+use mathlib.Core.List.{[], _∷_}
+use mathlib.Core.Path.{_∙_}
+use Prim.Native.Nat.{_*_}
+use lib.IntN.{pos}
+use mir.Syntax.{w64}
+use mir.Val.{ofZ}
+use Rattle.exact.proofs.Machine.{Env, _▸_, done, lit, lt-left, lt-taken, value}
+use Rattle.exact.proofs.Ring.{var}
+use Rattle.sets.specs.Sets.{room}
+use Rattle.walk_words.specs.Words.{mostSix}
+use Rattle.verdict_tests.proofs.Volumes.{six-above, six-not}
+use Rattle.verdict_tests.proofs.inward.Statement.{statement}
+use Rattle.verdict_tests.proofs.inward.Tie as tie
+
+env : (c : tie.After-weight) → Env (room * mostSix ∷ []) (ofZ w64 (c .weight .result) ∷ []) (c .weight .result ∷ [])
+env c = c .weight .ensures .small ▸ done
+
+weight-requires : tie.Need-weight-requires
+weight-requires c κs = search needs
+
+returns : tie.Need-returns
+returns c =
+    let w = c .before in
+    six-above (w .weight .ensures) (lt-taken (lit (pos 0) tt) (value (env w) (var 0) tt) (c .if1 .taken))
+
+refused-requires : tie.Need-refused-requires
+refused-requires c κs = search needs
+
+returns-2 : tie.Need-returns-2
+returns-2 c =
+    let w = c .before .before in
+    λ t l s.
+    c .refused .ensures
+    ∙ six-not (w .weight .ensures) (lt-left (lit (pos 0) tt) (value (env w) (var 0) tt) (c .before .if1 .left)) t l s
+
+pub inward-spec : {M : Type 1} → statement M
+inward-spec = tie.close (tie.spec weight-requires returns refused-requires returns-2)

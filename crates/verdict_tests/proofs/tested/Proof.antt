@@ -1,0 +1,70 @@
+-- `verdict_tests::tested`: the answers of the five checks, and the first of them that refuses (`Testing`). Assumes nothing.
+use borrow.Author.Needs.{needs}
+use Rattle.verdict_tests.proofs.Testing.{tests}
+use Rattle.verdict_tests.proofs.tested.Statement.{statement}
+use Rattle.verdict_tests.proofs.tested.Tie as tie
+
+-- ---- the ways back: from the answer to the last of the five, from there to the middle one, and from there to the start
+
+abbrev asked : tie.After-first-of4 → tie.After-clash
+asked c = c .before .before .before .before
+
+abbrev half : tie.After-clash → tie.After-pieces
+half c = c .before .before
+
+abbrev start : tie.After-pieces → tie.Start
+start c = c .before .before .before
+
+-- ---- the needs
+
+edge-count-requires : tie.Need-edge-count-requires
+edge-count-requires c κs = search needs
+
+direction-requires : tie.Need-direction-requires
+direction-requires c κs = search needs
+
+pieces-requires : tie.Need-pieces-requires
+pieces-requires c κs = search needs
+
+inward-requires : tie.Need-inward-requires
+inward-requires c κs = search needs
+
+clash-requires : tie.Need-clash-requires
+clash-requires c κs = search needs
+
+first-of-requires : tie.Need-first-of-requires
+first-of-requires c κs = search needs
+
+first-of-requires-2 : tie.Need-first-of-requires-2
+first-of-requires-2 c κs = search needs
+
+first-of-requires-3 : tie.Need-first-of-requires-3
+first-of-requires-3 c κs = search needs
+
+first-of-requires-4 : tie.Need-first-of-requires-4
+first-of-requires-4 c κs = search needs
+
+returns : tie.Need-returns
+returns c =
+    let k = asked c in
+    let p = half k in
+    let a = start p .args in
+    tests (a .on .now) (a .up .now) (a .e) (a .sides .now) (a .clashes .now) (a .sixes .now) (a .numbers .now) (a .count) (a .taken)
+    (a .turned) (p .before .before .edge-count .ensures) (p .before .direction .ensures) (p .pieces .ensures)
+    (k .before .inward .ensures) (k .clash .ensures) (c .before .before .before .first-of .ensures)
+    (c .before .before .first-of2 .ensures) (c .before .first-of3 .ensures) (c .first-of4 .ensures)
+
+pub tested-spec : {M : Type 1} → statement M
+tested-spec =
+    tie.close
+    (tie.spec
+    edge-count-requires
+    direction-requires
+    pieces-requires
+    inward-requires
+    clash-requires
+    first-of-requires
+    first-of-requires-2
+    first-of-requires-3
+    first-of-requires-4
+    returns)

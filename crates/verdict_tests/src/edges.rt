@@ -1,0 +1,48 @@
+// Refusals 23 and 24, edge by edge: EdgeCount, not in two faces of the list; Direction, both run one way. Assumes at most 64 edges.
+ghost use Prim.Native.Nat.{_≤_};
+ghost use Rattle.paper.specs.Format.{editionOne};
+ghost use Rattle.paper.specs.Refusals as No;
+ghost use Rattle.verdict_tests.specs.Tests.{Told, Counting, Running, edgeCount, direction};
+use paper::Answer;
+use paper::DIRECTION;
+use paper::EDGE_COUNT;
+use paper::MOST_EDGES;
+use paper_values::refused;
+use sets::Set;
+use walk_leaf::once_each_way;
+
+pub fn edge_count(on: &[u64; MOST_EDGES], n: usize, taken: Set) -> Answer
+    requires { ⌜ n ≤ editionOne .«most_edges» ⌝ }
+    ensures { λ r. ⌜ Told (Counting (now (on .entry)) n taken) No.EdgeCount edgeCount r ⌝ }
+{
+    let mut e = 0;
+    while e < n {
+        let mine = Set::of_edge(on, e).and(taken);
+        if mine.count() != 2 {
+            return refused(EDGE_COUNT, e);
+        }
+        e += 1;
+    }
+    Answer::Fine
+}
+
+pub fn direction(
+    on: &[u64; MOST_EDGES],
+    up: &[u64; MOST_EDGES],
+    n: usize,
+    taken: Set,
+    turned: Set,
+) -> Answer
+    requires { ⌜ n ≤ editionOne .«most_edges» ⌝ }
+    ensures { λ r. ⌜ Told (Running (now (on .entry)) (now (up .entry)) n taken turned) No.Direction direction r ⌝ }
+{
+    let mut e = 0;
+    while e < n {
+        let mask = Set::of_edge(on, e);
+        if !once_each_way(mask, Set::of_edge(up, e), taken, turned) {
+            return refused(DIRECTION, e);
+        }
+        e += 1;
+    }
+    Answer::Fine
+}
