@@ -41,7 +41,8 @@ pub fn pieces(
     taken: Set,
 ) -> Answer
     requires { ⌜ Faces (now numbers) count ⌝ }
-    ensures { λ r. ⌜ Told (Joining (now (on .entry)) (now (up .entry)) (now (sides .entry)) (now (numbers .entry)) count taken) No.Pieces pieces r ⌝ }
+    ensures { λ r. ⌜ Told (Joining (now (on .entry)) (now (up .entry)) (now (sides .entry)) (now (numbers .entry)) count taken)
+        No.Pieces pieces r ⌝ }
 {
     let g = from_first(on, up, sides, numbers, taken);
     let reached = g.reached;
@@ -64,13 +65,13 @@ pub fn clash(
     requires { ⌜ Faces (now numbers) count ⌝ }
     ensures { λ r. ⌜ Told (Clashing (now (clashes .entry)) (now (numbers .entry)) count taken) No.Clash clash r ⌝ }
 {
-    let mut i = 0;
-    while i < count {
-        let clashing = Set::of_edge(clashes, wide(numbers[i])).and(taken);
+    let mut f = 0;
+    while f < count {
+        let clashing = Set::of_edge(clashes, wide(numbers[f])).and(taken);
         if !clashing.is_empty() {
-            return refused(CLASH, i);
+            return refused(CLASH, f);
         }
-        i += 1;
+        f += 1;
     }
     Answer::Fine
 }

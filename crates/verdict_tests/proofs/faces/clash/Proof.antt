@@ -12,10 +12,10 @@ use Rattle.verdict_tests.proofs.faces.clash.Statement.{statement}
 use Rattle.verdict_tests.proofs.faces.clash.Tie as tie
 
 abbrev Inv-loop : tie.InvT-loop
-Inv-loop clashes numbers count taken i₀ i = (i ≤ count) × Asking (Clashing clashes numbers count taken) clashing count i
+Inv-loop clashes numbers count taken f₀ f = (f ≤ count) × Asking (Clashing clashes numbers count taken) clashing count f
 
 abbrev μ-loop : tie.MeasureT-loop
-μ-loop clashes numbers count taken i₀ i = count - i
+μ-loop clashes numbers count taken f₀ f = count - f
 
 -- ---- the way back: from the face's answer to its word, and from there to the loop
 
@@ -41,7 +41,7 @@ wide-requires c κs = search needs
 of-edge-requires : tie.Need-of-edge-requires Inv-loop μ-loop
 of-edge-requires c κs =
     let t = turn c in
-    let h = t .before .pre .narrow (t .loop .i) (omega arith) in
+    let h = t .before .pre .narrow (t .loop .f) (omega arith) in
     omega (arith, h, c .wide .ensures)
 
 and-requires : tie.Need-and-requires Inv-loop μ-loop
@@ -63,12 +63,12 @@ returns c =
     let ns = a .numbers .now in
     λ d l w.
     c .refused .ensures ∙ asking-hit (Clashing cs ns (a .count) (a .taken)) clashing (a .count) Clash clash
-    (finds-27 cs ns (a .count) (a .taken) (t .before .pre .held)) (t .loop .i) (omega arith) (t .loop .inv .1)
-    (clash-at cs ns (a .count) (a .taken) (t .before .pre .held) (t .loop .i) (omega arith) (k .wide .ensures)
+    (finds-27 cs ns (a .count) (a .taken) (t .before .pre .held)) (t .loop .f) (omega arith) (t .loop .inv .1)
+    (clash-at cs ns (a .count) (a .taken) (t .before .pre .held) (t .loop .f) (omega arith) (k .wide .ensures)
     (o .before .before .of-edge .ensures) (o .before .and .ensures) (o .is-empty .ensures) (c .before .if1 .taken)) d l w
 
-add-i : tie.Need-add-i Inv-loop μ-loop
-add-i c = omega arith
+add-f : tie.Need-add-f Inv-loop μ-loop
+add-f c = omega arith
 
 loop-less : tie.Need-loop-less Inv-loop μ-loop
 loop-less c = omega arith
@@ -82,8 +82,8 @@ loop-again c =
     let cs = a .clashes .now in
     let ns = a .numbers .now in (
       omega arith,
-      asking-next (Clashing cs ns (a .count) (a .taken)) clashing (a .count) (t .loop .i) (omega arith) (t .loop .inv .1)
-          (clash-at cs ns (a .count) (a .taken) (t .before .pre .held) (t .loop .i) (omega arith) (k .wide .ensures)
+      asking-next (Clashing cs ns (a .count) (a .taken)) clashing (a .count) (t .loop .f) (omega arith) (t .loop .inv .1)
+          (clash-at cs ns (a .count) (a .taken) (t .before .pre .held) (t .loop .f) (omega arith) (k .wide .ensures)
           (o .before .before .of-edge .ensures) (o .before .and .ensures) (o .is-empty .ensures) (c .if1 .left)),
     )
 
@@ -94,7 +94,7 @@ returns-2 c =
     let cs = a .clashes .now in
     let ns = a .numbers .now in
     asking-end (Clashing cs ns (a .count) (a .taken)) clashing (a .count) Clash clash
-    (finds-27 cs ns (a .count) (a .taken) (t .before .pre .held)) (t .loop .i) (omega arith) (t .loop .inv .1)
+    (finds-27 cs ns (a .count) (a .taken) (t .before .pre .held)) (t .loop .f) (omega arith) (t .loop .inv .1)
 
 pub clash-spec : {M : Type 1} → statement M
 clash-spec =
@@ -110,7 +110,7 @@ clash-spec =
     is-empty-requires
     refused-requires
     returns
-    add-i
+    add-f
     loop-less
     loop-again
     returns-2)
