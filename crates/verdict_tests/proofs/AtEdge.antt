@@ -1,14 +1,14 @@
 -- 23 and 24 of one edge: the code's test of its words is the definition's of its masks. Assumes nothing.
-use mathlib.Core.Bool.{Bool, true, false, not}
+use mathlib.Core.Bool.{Bool, not}
 use mathlib.Core.List.{List, []}
 use mathlib.Core.Path.{_≡_, refl, sym, ap, _∙_}
 use Prim.Native.Nat.{ℕ, _<_}
 use native.Mathlib.Omega.{arith}
 use lib.ListN.{length, getD}
-use borrow.Author.Tests.{eq-eqb, ne-eqb}
+use lib.Dec.{eqb}
 use Rattle.lists.specs.Lists.{lowest}
 use Rattle.sets.specs.Word.{count, both}
-use Rattle.sets.specs.Sets.{Is, Joint, Counted, EdgeSet}
+use Rattle.sets.specs.Sets.{Joint, Counted, EdgeSet}
 use Rattle.sets.specs.declared.Set.{Set}
 use Rattle.sets.proofs.Sets.{size-is}
 use Rattle.paper.specs.Solids.{Tables, inTwo, onceEachWay}
@@ -39,13 +39,9 @@ module _ (on : List ℕ) (n : ℕ) (taken : Set) where
           let m : e < length (t .masks) = omega (arith, w .as-many) in
           c .size-is ∙ size-is (j (getD (t .masks) e []) (l .taken) (mask-at (w .on-are) o refl m) (w .taken-is))
 
-      pub not-two : (k ≡ 2 → ⊥) → Offends (Counting on n taken) notTwo n e true
+      pub two-at : (b : Bool) → eqb k 2 ≡ b → Offends (Counting on n taken) notTwo n e (not b)
       unfolding inTwo
-      not-two f t l w = ap not (ne-eqb (count (both (getD (t .masks) e []) (l .taken))) 2 (λ z. f (counts t l w ∙ z)))
-
-      pub in-two : k ≡ 2 → Offends (Counting on n taken) notTwo n e false
-      unfolding inTwo
-      in-two z t l w = ap not (eq-eqb (count (both (getD (t .masks) e []) (l .taken))) 2 (sym (counts t l w) ∙ z))
+      two-at b q t l w = ap not (ap (λ (m : ℕ). eqb m 2) (sym (counts t l w)) ∙ q)
 
 module _ (on up : List ℕ) (n : ℕ) (taken turned : Set) where
   pub finds-24 : Finds (Running on up n taken turned) notOnce n direction

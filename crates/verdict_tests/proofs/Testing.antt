@@ -4,7 +4,6 @@ use mathlib.Core.Path.{_≡_, sym, _∙_}
 use Prim.Native.Nat.{ℕ}
 use native.Mathlib.Omega.{arith}
 use lib.IntN.{ℤ}
-use lib.ListN.{length}
 use Rattle.sets.specs.declared.Set.{Set}
 use Rattle.paper.specs.Refusals.{check, firstOf, EdgeCount, Direction, Pieces, Inward, Clash}
 use Rattle.paper.specs.Solids.{Tables}

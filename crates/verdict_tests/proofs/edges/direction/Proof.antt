@@ -3,11 +3,14 @@
 use Prim.Native.Nat.{_-_, _≤_}
 use native.Mathlib.Omega.{arith}
 use borrow.Author.Needs.{needs}
-use mathlib.Core.Path.{_∙_}
+use mathlib.Core.Bool.{Bool, not}
+use mathlib.Core.Path.{_≡_, _∙_}
 use Rattle.paper.specs.Refusals.{Direction}
+use Rattle.paper.specs.Solids.{Tables}
+use Rattle.paper.specs.Verdict.{Listed}
 use Rattle.verdict_tests.specs.Tests.{Running, direction}
 use Rattle.verdict_tests.proofs.AtEdge.{notOnce, finds-24, way-at}
-use Rattle.verdict_tests.proofs.Searching.{Asking, asking-start, asking-next, asking-hit, asking-end}
+use Rattle.verdict_tests.proofs.Searching.{Offends, Asking, Finds, asking-start, asking-next, asking-hit, asking-end}
 use Rattle.verdict_tests.proofs.edges.direction.Statement.{statement}
 use Rattle.verdict_tests.proofs.edges.direction.Tie as tie
 
@@ -17,17 +20,30 @@ Inv-loop on up n taken turned e₀ e = (e ≤ n) × Asking (Running on up n take
 abbrev μ-loop : tie.MeasureT-loop
 μ-loop on up n taken turned e₀ e = n - e
 
--- ---- the way back: from the edge's answer to the loop
+-- ---- the way back: from the edge's answer to the loop; and what the words stand for
 
 abbrev turn : tie.After-once-each-way Inv-loop μ-loop → tie.At-loop Inv-loop μ-loop
 turn c = c .before .before .before .before .before .before
 
+abbrev Meant : tie.Start Inv-loop μ-loop → Tables → Listed → Type 0
+Meant c = Running (c .args .on .now) (c .args .up .now) (c .args .n) (c .args .taken) (c .args .turned)
+
+finds : (c : tie.Start Inv-loop μ-loop) → Finds (Meant c) notOnce (c .args .n) direction
+finds c = finds-24 (c .args .on .now) (c .args .up .now) (c .args .n) (c .args .taken) (c .args .turned)
+
+-- the code's test of edge e
+here : (o : tie.After-once-each-way Inv-loop μ-loop) {b : Bool} → not (o .once-each-way .result) ≡ b
+    → let t = turn o in Offends (Meant (t .before)) notOnce (t .before .args .n) (t .loop .e) b
+here o q =
+    let t = turn o in
+    let a = t .before .args in
+    way-at (a .on .now) (a .up .now) (a .n) (a .taken) (a .turned) (t .loop .e) (omega arith)
+    (o .before .before .before .of-edge .ensures) (o .before .of-edge2 .ensures) (o .once-each-way .ensures) q
+
 -- ---- the needs
 
 loop-holds : tie.Need-loop-holds Inv-loop μ-loop
-loop-holds c =
-    let a = c .args in
-    (omega arith, asking-start (Running (a .on .now) (a .up .now) (a .n) (a .taken) (a .turned)) notOnce (a .n))
+loop-holds c = (omega arith, asking-start (Meant c) notOnce (c .args .n))
 
 of-edge-requires : tie.Need-of-edge-requires Inv-loop μ-loop
 of-edge-requires c κs = omega arith
@@ -45,14 +61,10 @@ returns : tie.Need-returns Inv-loop μ-loop
 returns c =
     let o = c .before .before in
     let t = turn o in
-    let a = t .before .args in
-    let on = a .on .now in
-    let up = a .up .now in
+    let s = t .before in
     λ d l w.
-    c .refused .ensures ∙ asking-hit (Running on up (a .n) (a .taken) (a .turned)) notOnce (a .n) Direction direction
-    (finds-24 on up (a .n) (a .taken) (a .turned)) (t .loop .e) (omega arith) (t .loop .inv .1)
-    (way-at on up (a .n) (a .taken) (a .turned) (t .loop .e) (omega arith) (o .before .before .before .of-edge .ensures)
-    (o .before .of-edge2 .ensures) (o .once-each-way .ensures) (c .before .if1 .taken)) d l w
+    c .refused .ensures ∙ asking-hit (Meant s) notOnce (s .args .n) Direction direction (finds s) (t .loop .e) (omega arith)
+    (t .loop .inv .1) (here o (c .before .if1 .taken)) d l w
 
 add-e : tie.Need-add-e Inv-loop μ-loop
 add-e c = omega arith
@@ -64,23 +76,14 @@ loop-again : tie.Need-loop-again Inv-loop μ-loop
 loop-again c =
     let o = c .before in
     let t = turn o in
-    let a = t .before .args in
-    let on = a .on .now in
-    let up = a .up .now in (
-      omega arith,
-      asking-next (Running on up (a .n) (a .taken) (a .turned)) notOnce (a .n) (t .loop .e) (omega arith) (t .loop .inv .1)
-          (way-at on up (a .n) (a .taken) (a .turned) (t .loop .e) (omega arith) (o .before .before .before .of-edge .ensures)
-          (o .before .of-edge2 .ensures) (o .once-each-way .ensures) (c .if1 .left)),
-    )
+    let s = t .before in
+    (omega arith, asking-next (Meant s) notOnce (s .args .n) (t .loop .e) (omega arith) (t .loop .inv .1) (here o (c .if1 .left)))
 
 returns-2 : tie.Need-returns-2 Inv-loop μ-loop
 returns-2 c =
     let t = c .before in
-    let a = t .before .args in
-    let on = a .on .now in
-    let up = a .up .now in
-    asking-end (Running on up (a .n) (a .taken) (a .turned)) notOnce (a .n) Direction direction
-    (finds-24 on up (a .n) (a .taken) (a .turned)) (t .loop .e) (omega arith) (t .loop .inv .1)
+    let s = t .before in
+    asking-end (Meant s) notOnce (s .args .n) Direction direction (finds s) (t .loop .e) (omega arith) (t .loop .inv .1)
 
 pub direction-spec : {M : Type 1} → statement M
 direction-spec =

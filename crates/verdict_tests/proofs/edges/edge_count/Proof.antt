@@ -3,11 +3,16 @@
 use Prim.Native.Nat.{_-_, _≤_}
 use native.Mathlib.Omega.{arith}
 use borrow.Author.Needs.{needs}
-use mathlib.Core.Path.{_∙_}
+use mathlib.Core.Bool.{Bool, true, false, not}
+use mathlib.Core.Path.{_≡_, _∙_}
+use lib.Dec.{eqb}
+use borrow.Author.Tests.{eq-eqb, ne-eqb}
 use Rattle.paper.specs.Refusals.{EdgeCount}
+use Rattle.paper.specs.Solids.{Tables}
+use Rattle.paper.specs.Verdict.{Listed}
 use Rattle.verdict_tests.specs.Tests.{Counting, edgeCount}
-use Rattle.verdict_tests.proofs.AtEdge.{notTwo, finds-23, not-two, in-two}
-use Rattle.verdict_tests.proofs.Searching.{Asking, asking-start, asking-next, asking-hit, asking-end}
+use Rattle.verdict_tests.proofs.AtEdge.{notTwo, finds-23, two-at}
+use Rattle.verdict_tests.proofs.Searching.{Offends, Asking, Finds, asking-start, asking-next, asking-hit, asking-end}
 use Rattle.verdict_tests.proofs.edges.edge_count.Statement.{statement}
 use Rattle.verdict_tests.proofs.edges.edge_count.Tie as tie
 
@@ -17,18 +22,30 @@ Inv-loop on n taken e₀ e = (e ≤ n) × Asking (Counting on n taken) notTwo n 
 abbrev μ-loop : tie.MeasureT-loop
 μ-loop on n taken e₀ e = n - e
 
--- ---- the way back: from the count to the loop
+-- ---- the way back: from the count to the loop; and what the words stand for
 
 abbrev turn : tie.After-count Inv-loop μ-loop → tie.At-loop Inv-loop μ-loop
 turn c = c .before .before .before .before .before
 
+abbrev Meant : tie.Start Inv-loop μ-loop → Tables → Listed → Type 0
+Meant c = Counting (c .args .on .now) (c .args .n) (c .args .taken)
+
+finds : (c : tie.Start Inv-loop μ-loop) → Finds (Meant c) notTwo (c .args .n) edgeCount
+finds c = finds-23 (c .args .on .now) (c .args .n) (c .args .taken)
+
+-- the code's test of edge e
+here : (k : tie.After-count Inv-loop μ-loop) (b : Bool) → eqb (k .count .result) 2 ≡ b
+    → let t = turn k in Offends (Meant (t .before)) notTwo (t .before .args .n) (t .loop .e) (not b)
+here k b q =
+    let t = turn k in
+    let a = t .before .args in
+    two-at (a .on .now) (a .n) (a .taken) (t .loop .e) (omega arith) (k .before .before .of-edge .ensures) (k .before .and .ensures)
+    (k .count .ensures) b q
+
 -- ---- the needs
 
 loop-holds : tie.Need-loop-holds Inv-loop μ-loop
-loop-holds c = (
-  omega arith,
-  asking-start (Counting (c .args .on .now) (c .args .n) (c .args .taken)) notTwo (c .args .n),
-)
+loop-holds c = (omega arith, asking-start (Meant c) notTwo (c .args .n))
 
 of-edge-requires : tie.Need-of-edge-requires Inv-loop μ-loop
 of-edge-requires c κs = omega arith
@@ -46,14 +63,10 @@ returns : tie.Need-returns Inv-loop μ-loop
 returns c =
     let k = c .before .before in
     let t = turn k in
-    let a = t .before .args in
-    let on = a .on .now in
-    let P = Counting on (a .n) (a .taken) in
+    let s = t .before in
     λ d l w.
-    c .refused .ensures ∙ asking-hit P notTwo (a .n) EdgeCount edgeCount (finds-23 on (a .n) (a .taken)) (t .loop .e) (omega arith)
-    (t .loop .inv .1)
-    (not-two on (a .n) (a .taken) (t .loop .e) (omega arith) (k .before .before .of-edge .ensures) (k .before .and .ensures)
-    (k .count .ensures) (c .before .if1 .taken)) d l w
+    c .refused .ensures ∙ asking-hit (Meant s) notTwo (s .args .n) EdgeCount edgeCount (finds s) (t .loop .e) (omega arith)
+    (t .loop .inv .1) (here k false (ne-eqb (k .count .result) 2 (λ z. omega (arith, z)))) d l w
 
 add-e : tie.Need-add-e Inv-loop μ-loop
 add-e c = omega arith
@@ -65,21 +78,17 @@ loop-again : tie.Need-loop-again Inv-loop μ-loop
 loop-again c =
     let k = c .before in
     let t = turn k in
-    let a = t .before .args in
-    let on = a .on .now in (
+    let s = t .before in (
       omega arith,
-      asking-next (Counting on (a .n) (a .taken)) notTwo (a .n) (t .loop .e) (omega arith) (t .loop .inv .1)
-          (in-two on (a .n) (a .taken) (t .loop .e) (omega arith) (k .before .before .of-edge .ensures) (k .before .and .ensures)
-          (k .count .ensures) (c .if1 .left)),
+      asking-next (Meant s) notTwo (s .args .n) (t .loop .e) (omega arith) (t .loop .inv .1)
+          (here k true (eq-eqb (k .count .result) 2 (omega arith))),
     )
 
 returns-2 : tie.Need-returns-2 Inv-loop μ-loop
 returns-2 c =
     let t = c .before in
-    let a = t .before .args in
-    let on = a .on .now in
-    asking-end (Counting on (a .n) (a .taken)) notTwo (a .n) EdgeCount edgeCount (finds-23 on (a .n) (a .taken)) (t .loop .e)
-    (omega arith) (t .loop .inv .1)
+    let s = t .before in
+    asking-end (Meant s) notTwo (s .args .n) EdgeCount edgeCount (finds s) (t .loop .e) (omega arith) (t .loop .inv .1)
 
 pub edge-count-spec : {M : Type 1} → statement M
 edge-count-spec =

@@ -3,11 +3,14 @@
 use Prim.Native.Nat.{_-_, _≤_}
 use native.Mathlib.Omega.{arith}
 use borrow.Author.Needs.{needs}
-use mathlib.Core.Path.{_∙_}
+use mathlib.Core.Bool.{Bool, not}
+use mathlib.Core.Path.{_≡_, _∙_}
 use Rattle.paper.specs.Refusals.{Clash}
+use Rattle.paper.specs.Solids.{Tables}
+use Rattle.paper.specs.Verdict.{Listed}
 use Rattle.verdict_tests.specs.Tests.{Clashing, clash}
 use Rattle.verdict_tests.proofs.AtFace.{clashing, finds-27, clash-at}
-use Rattle.verdict_tests.proofs.Searching.{Asking, asking-start, asking-next, asking-hit, asking-end}
+use Rattle.verdict_tests.proofs.Searching.{Offends, Asking, Finds, asking-start, asking-next, asking-hit, asking-end}
 use Rattle.verdict_tests.proofs.faces.clash.Statement.{statement}
 use Rattle.verdict_tests.proofs.faces.clash.Tie as tie
 
@@ -25,12 +28,28 @@ named c = c .before .before .before
 abbrev turn : tie.After-wide Inv-loop μ-loop → tie.At-loop Inv-loop μ-loop
 turn c = c .before .before .before .before
 
+-- ---- what the words stand for
+
+abbrev Meant : tie.Start Inv-loop μ-loop → Tables → Listed → Type 0
+Meant c = Clashing (c .args .clashes .now) (c .args .numbers .now) (c .args .count) (c .args .taken)
+
+finds : (c : tie.Start Inv-loop μ-loop) → Finds (Meant c) clashing (c .args .count) clash
+finds c = finds-27 (c .args .clashes .now) (c .args .numbers .now) (c .args .count) (c .args .taken) (c .pre .held)
+
+-- the code's test of face f
+here : (o : tie.After-is-empty Inv-loop μ-loop) {b : Bool} → not (o .is-empty .result) ≡ b
+    → let t = turn (named o) in Offends (Meant (t .before)) clashing (t .before .args .count) (t .loop .f) b
+here o q =
+    let k = named o in
+    let t = turn k in
+    let a = t .before .args in
+    clash-at (a .clashes .now) (a .numbers .now) (a .count) (a .taken) (t .before .pre .held) (t .loop .f) (omega arith)
+    (k .wide .ensures) (o .before .before .of-edge .ensures) (o .before .and .ensures) (o .is-empty .ensures) q
+
 -- ---- the needs
 
 loop-holds : tie.Need-loop-holds Inv-loop μ-loop
-loop-holds c =
-    let a = c .args in
-    (omega arith, asking-start (Clashing (a .clashes .now) (a .numbers .now) (a .count) (a .taken)) clashing (a .count))
+loop-holds c = (omega arith, asking-start (Meant c) clashing (c .args .count))
 
 element-copy-out-wide : tie.Need-element-copy-out-wide Inv-loop μ-loop
 element-copy-out-wide c = omega arith
@@ -56,16 +75,11 @@ refused-requires c κs = search needs
 returns : tie.Need-returns Inv-loop μ-loop
 returns c =
     let o = c .before .before in
-    let k = named o in
-    let t = turn k in
-    let a = t .before .args in
-    let cs = a .clashes .now in
-    let ns = a .numbers .now in
+    let t = turn (named o) in
+    let s = t .before in
     λ d l w.
-    c .refused .ensures ∙ asking-hit (Clashing cs ns (a .count) (a .taken)) clashing (a .count) Clash clash
-    (finds-27 cs ns (a .count) (a .taken) (t .before .pre .held)) (t .loop .f) (omega arith) (t .loop .inv .1)
-    (clash-at cs ns (a .count) (a .taken) (t .before .pre .held) (t .loop .f) (omega arith) (k .wide .ensures)
-    (o .before .before .of-edge .ensures) (o .before .and .ensures) (o .is-empty .ensures) (c .before .if1 .taken)) d l w
+    c .refused .ensures ∙ asking-hit (Meant s) clashing (s .args .count) Clash clash (finds s) (t .loop .f) (omega arith)
+    (t .loop .inv .1) (here o (c .before .if1 .taken)) d l w
 
 add-f : tie.Need-add-f Inv-loop μ-loop
 add-f c = omega arith
@@ -76,25 +90,17 @@ loop-less c = omega arith
 loop-again : tie.Need-loop-again Inv-loop μ-loop
 loop-again c =
     let o = c .before in
-    let k = named o in
-    let t = turn k in
-    let a = t .before .args in
-    let cs = a .clashes .now in
-    let ns = a .numbers .now in (
+    let t = turn (named o) in
+    let s = t .before in (
       omega arith,
-      asking-next (Clashing cs ns (a .count) (a .taken)) clashing (a .count) (t .loop .f) (omega arith) (t .loop .inv .1)
-          (clash-at cs ns (a .count) (a .taken) (t .before .pre .held) (t .loop .f) (omega arith) (k .wide .ensures)
-          (o .before .before .of-edge .ensures) (o .before .and .ensures) (o .is-empty .ensures) (c .if1 .left)),
+      asking-next (Meant s) clashing (s .args .count) (t .loop .f) (omega arith) (t .loop .inv .1) (here o (c .if1 .left)),
     )
 
 returns-2 : tie.Need-returns-2 Inv-loop μ-loop
 returns-2 c =
     let t = c .before in
-    let a = t .before .args in
-    let cs = a .clashes .now in
-    let ns = a .numbers .now in
-    asking-end (Clashing cs ns (a .count) (a .taken)) clashing (a .count) Clash clash
-    (finds-27 cs ns (a .count) (a .taken) (t .before .pre .held)) (t .loop .f) (omega arith) (t .loop .inv .1)
+    let s = t .before in
+    asking-end (Meant s) clashing (s .args .count) Clash clash (finds s) (t .loop .f) (omega arith) (t .loop .inv .1)
 
 pub clash-spec : {M : Type 1} → statement M
 clash-spec =

@@ -3,11 +3,14 @@
 use Prim.Native.Nat.{_-_, _≤_}
 use native.Mathlib.Omega.{arith}
 use borrow.Author.Needs.{needs}
-use mathlib.Core.Path.{_∙_}
+use mathlib.Core.Bool.{Bool, not}
+use mathlib.Core.Path.{_≡_, _∙_}
 use Rattle.paper.specs.Refusals.{Pieces}
-use Rattle.verdict_tests.specs.Tests.{pieces}
+use Rattle.paper.specs.Solids.{Tables}
+use Rattle.paper.specs.Verdict.{Listed}
+use Rattle.verdict_tests.specs.Tests.{pieces, Joining}
 use Rattle.verdict_tests.proofs.AtFace.{unjoined, Reaching, reaches, finds-25, joined-at}
-use Rattle.verdict_tests.proofs.Searching.{Asking, asking-start, asking-next, asking-hit, asking-end}
+use Rattle.verdict_tests.proofs.Searching.{Offends, Asking, Finds, asking-start, asking-next, asking-hit, asking-end}
 use Rattle.verdict_tests.proofs.faces.pieces.Statement.{statement}
 use Rattle.verdict_tests.proofs.faces.pieces.Tie as tie
 
@@ -25,15 +28,39 @@ turn c = c .before .before .before .before
 abbrev round : tie.At-loop Inv-loop μ-loop → tie.After-from-first Inv-loop μ-loop
 round c = c .before .before
 
+-- ---- what the set stands for
+
+abbrev Meant : tie.After-from-first Inv-loop μ-loop → Tables → Listed → Type 0
+Meant r = Reaching (r .before .args .numbers .now) (r .before .args .count) (r .from-first .result .reached)
+
+finds : (r : tie.After-from-first Inv-loop μ-loop) → Finds (Meant r) unjoined (r .before .args .count) pieces
+finds r = finds-25 (r .before .args .numbers .now) (r .before .args .count) (r .before .pre .held) (r .from-first .result .reached)
+
+-- as `from_first` says
+meant : (r : tie.After-from-first Inv-loop μ-loop) (t : Tables) (l : Listed)
+    → let a = r .before .args in
+    Joining (a .on .now) (a .up .now) (a .sides .now) (a .numbers .now) (a .count) (a .taken) t l → Meant r t l
+meant r =
+    let s = r .before in
+    reaches (s .args .numbers .now) (s .args .count) (s .pre .held) (s .pre .some) (r .from-first .ensures)
+
+-- the code's test of face i
+here : (o : tie.After-has Inv-loop μ-loop) {b : Bool} → not (o .has .result) ≡ b
+    → let r = round (turn o) in Offends (Meant r) unjoined (r .before .args .count) (turn o .loop .i) b
+here o q =
+    let t = turn o in
+    let r = round t in
+    let a = r .before .args in
+    joined-at (a .numbers .now) (a .count) (r .before .pre .held) (r .from-first .result .reached) (t .loop .i) (omega arith)
+    (o .before .wide .ensures) (o .has .ensures) q
+
 -- ---- the needs
 
 from-first-requires : tie.Need-from-first-requires Inv-loop μ-loop
 from-first-requires c κs = c .pre .narrow 0 (c .pre .some)
 
 loop-holds : tie.Need-loop-holds Inv-loop μ-loop
-loop-holds c =
-    let a = c .before .before .args in
-    (omega arith, asking-start (Reaching (a .numbers .now) (a .count) (c .before .from-first .result .reached)) unjoined (a .count))
+loop-holds c = (omega arith, asking-start (Meant (c .before)) unjoined (c .before .before .args .count))
 
 element-copy-out-wide : tie.Need-element-copy-out-wide Inv-loop μ-loop
 element-copy-out-wide c = omega arith
@@ -55,15 +82,9 @@ returns c =
     let o = c .before .before in
     let t = turn o in
     let r = round t in
-    let a = r .before .args in
-    let fits = r .before .pre .held in
-    let ns = a .numbers .now in
-    let s = r .from-first .result .reached in
     λ d l w.
-    c .refused .ensures ∙ asking-hit (Reaching ns (a .count) s) unjoined (a .count) Pieces pieces (finds-25 ns (a .count) fits s)
-    (t .loop .i) (omega arith) (t .loop .inv .1)
-    (joined-at ns (a .count) fits s (t .loop .i) (omega arith) (o .before .wide .ensures) (o .has .ensures) (c .before .if1 .taken)) d l
-    (reaches ns (a .count) fits (r .before .pre .some) (r .from-first .ensures) d l w)
+    c .refused .ensures ∙ asking-hit (Meant r) unjoined (r .before .args .count) Pieces pieces (finds r) (t .loop .i) (omega arith)
+    (t .loop .inv .1) (here o (c .before .if1 .taken)) d l (meant r d l w)
 
 add-i : tie.Need-add-i Inv-loop μ-loop
 add-i c = omega arith
@@ -75,27 +96,18 @@ loop-again : tie.Need-loop-again Inv-loop μ-loop
 loop-again c =
     let o = c .before in
     let t = turn o in
-    let r = round t in
-    let a = r .before .args in
-    let ns = a .numbers .now in
-    let s = r .from-first .result .reached in (
+    let r = round t in (
       omega arith,
-      asking-next (Reaching ns (a .count) s) unjoined (a .count) (t .loop .i) (omega arith) (t .loop .inv .1)
-          (joined-at ns (a .count) (r .before .pre .held) s (t .loop .i) (omega arith) (o .before .wide .ensures) (o .has .ensures)
-          (c .if1 .left)),
+      asking-next (Meant r) unjoined (r .before .args .count) (t .loop .i) (omega arith) (t .loop .inv .1) (here o (c .if1 .left)),
     )
 
 returns-2 : tie.Need-returns-2 Inv-loop μ-loop
 returns-2 c =
     let t = c .before in
     let r = round t in
-    let a = r .before .args in
-    let fits = r .before .pre .held in
-    let ns = a .numbers .now in
-    let s = r .from-first .result .reached in
     λ d l w.
-    asking-end (Reaching ns (a .count) s) unjoined (a .count) Pieces pieces (finds-25 ns (a .count) fits s) (t .loop .i) (omega arith)
-    (t .loop .inv .1) d l (reaches ns (a .count) fits (r .before .pre .some) (r .from-first .ensures) d l w)
+    asking-end (Meant r) unjoined (r .before .args .count) Pieces pieces (finds r) (t .loop .i) (omega arith) (t .loop .inv .1) d l
+    (meant r d l w)
 
 pub pieces-spec : {M : Type 1} → statement M
 pieces-spec =
