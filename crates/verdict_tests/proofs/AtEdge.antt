@@ -39,7 +39,7 @@ module _ (on : List ℕ) (n : ℕ) (taken : Set) where
           let m : e < length (t .masks) = omega (arith, w .as-many) in
           c .size-is ∙ size-is (j (getD (t .masks) e []) (l .taken) (mask-at (w .on-are) o refl m) (w .taken-is))
 
-      pub two-at : (b : Bool) → eqb k 2 ≡ b → Offends (Counting on n taken) notTwo n e (not b)
+      pub two-at : (b : Bool) → eqb k 2 ≡ b → Offends (Counting on n taken) notTwo e (not b)
       unfolding inTwo
       two-at b q t l w = ap not (ap (λ (m : ℕ). eqb m 2) (sym (counts t l w)) ∙ q)
 
@@ -50,7 +50,7 @@ module _ (on up : List ℕ) (n : ℕ) (taken turned : Set) where
 
   module _ (e : ℕ) (h : e < n) {mask other : Set} (o : EdgeSet on e mask) (u : EdgeSet up e other) {b : Bool}
       (s : WayIs mask other taken turned b) where
-    pub way-at : {r : Bool} → not b ≡ r → Offends (Running on up n taken turned) notOnce n e r
+    pub way-at : {r : Bool} → not b ≡ r → Offends (Running on up n taken turned) notOnce e r
     way-at q t l w =
         let m : e < length (t .masks) = omega (arith, w .as-many) in
         let k : e < length (t .ups) = omega (arith, w .edges-are .as-many) in

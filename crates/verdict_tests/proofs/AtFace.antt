@@ -74,7 +74,7 @@ module _ (numbers : List ℕ) (n : ℕ) (fits : n ≤ length numbers) where
     finds-25 t l w = ap (lowest (unjoined t l)) (faces-count numbers n fits (w .numbers-are))
 
     pub joined-at : (i : ℕ) → i < n → {k : ℕ} → k ≡ getD numbers i 0 → {b : Bool} → ((a : List Bool) → Is reached a → b ≡ dig a k)
-        → {r : Bool} → not b ≡ r → Offends (Reaching numbers n reached) unjoined n i r
+        → {r : Bool} → not b ≡ r → Offends (Reaching numbers n reached) unjoined i r
     joined-at i h e s q t l w =
         let d = facesFrom (getD (l .numbers) 0 0) t (l .taken) .reached in
         ap not (ap (dig d) (number-at numbers n fits (w .numbers-are) i h ∙ sym e) ∙ sym (s (w .digits) (w .reached-is) ∙ w .same _)) ∙ q
@@ -88,7 +88,7 @@ module _ (clashes numbers : List ℕ) (n : ℕ) (taken : Set) (fits : n ≤ leng
 
   module _ (i : ℕ) (h : i < n) {k : ℕ} (e : k ≡ getD numbers i 0) {mask mine : Set} (o : EdgeSet clashes k mask)
       (j : Joint mask taken mine both) {b : Bool} (s : b ≡ eqb (size mine) 0) where
-    pub clash-at : {r : Bool} → not b ≡ r → Offends (Clashing clashes numbers n taken) clashing n i r
+    pub clash-at : {r : Bool} → not b ≡ r → Offends (Clashing clashes numbers n taken) clashing i r
     clash-at q t l w =
         let v = w .faces-are in
         let m : ℕ = getD (l .numbers) i 0 in

@@ -14,13 +14,12 @@ use Rattle.paper.specs.declared.Answer.the-variants.{Fine}
 use Rattle.paper_laws.proofs.Checks.{clear, stops, passes}
 use Rattle.verdict_tests.specs.Tests.{Told}
 
-module _ (P : Tables → Listed → Type 0) (p : Tables → Listed → ℕ → Bool) (n i : ℕ) where
-  -- the answer of place i, and what is left from it on
-  abbrev pub Offends : Bool → Type 0
-  Offends b = (t : Tables) (l : Listed) → P t l → p t l i ≡ b
+-- the answer of place i; and what is left of n places from i on
+abbrev pub Offends : (Tables → Listed → Type 0) → (Tables → Listed → ℕ → Bool) → ℕ → Bool → Type 0
+Offends P p i b = (t : Tables) (l : Listed) → P t l → p t l i ≡ b
 
-  abbrev pub Asking : Type 0
-  Asking = (t : Tables) (l : Listed) → P t l → LowestLeft (p t l) n i
+abbrev pub Asking : (Tables → Listed → Type 0) → (Tables → Listed → ℕ → Bool) → ℕ → ℕ → Type 0
+Asking P p n i = (t : Tables) (l : Listed) → P t l → LowestLeft (p t l) n i
 
 -- the check finds the lowest of n places
 abbrev pub Finds : (Tables → Listed → Type 0) → (Tables → Listed → ℕ → Bool) → ℕ → (Tables → Listed → Option ℕ) → Type 0
@@ -30,11 +29,11 @@ module _ (P : Tables → Listed → Type 0) (p : Tables → Listed → ℕ → B
   pub asking-start : Asking P p n 0
   asking-start t l w = lowest-start (p t l) n
 
-  pub asking-next : (i : ℕ) → i < n → Asking P p n i → Offends P p n i false → Asking P p n (i + 1)
+  pub asking-next : (i : ℕ) → i < n → Asking P p n i → Offends P p i false → Asking P p n (i + 1)
   asking-next i h a o t l w = lowest-miss (p t l) n i h (a t l w) (o t l w)
 
   module _ (number : ℕ) (place : Tables → Listed → Option ℕ) (f : Finds P p n place) where
-    pub asking-hit : (i : ℕ) → i < n → Asking P p n i → Offends P p n i true → Told P number place (refuse number i)
+    pub asking-hit : (i : ℕ) → i < n → Asking P p n i → Offends P p i true → Told P number place (refuse number i)
     asking-hit i h a o t l w = stops number [] (sym (f t l w ∙ lowest-hit (p t l) n i h (a t l w) (o t l w)))
 
     pub asking-end : (i : ℕ) → n ≤ i → Asking P p n i → Told P number place Fine

@@ -1,13 +1,13 @@
 -- The five checks in the table's order, each said where those before it pass. Assumes nothing.
 use mathlib.Core.List.{List, [], _∷_}
-use mathlib.Core.Path.{_≡_, sym, _∙_}
+use mathlib.Core.Path.{_≡_, refl, sym, _∙_}
 use Prim.Native.Nat.{ℕ}
 use native.Mathlib.Omega.{arith}
 use lib.IntN.{ℤ}
 use Rattle.sets.specs.declared.Set.{Set}
-use Rattle.paper.specs.Refusals.{check, firstOf, EdgeCount, Direction, Pieces, Inward, Clash}
+use Rattle.paper.specs.Refusals.{check, firstOf, NotCandidate, FaceTwice, EdgeCount, Direction, Pieces, Inward, Clash}
 use Rattle.paper.specs.Solids.{Tables}
-use Rattle.paper.specs.Verdict.{Listed}
+use Rattle.paper.specs.Verdict.{Listed, notCandidate, faceTwice, faceChecks}
 use Rattle.paper.specs.declared.Answer.{Answer}
 use Rattle.paper.specs.declared.Answer.the-variants.{Fine, Refused}
 use Rattle.paper.specs.declared.Refusal.{Refusal}
@@ -15,7 +15,15 @@ use Rattle.paper_laws.proofs.Checks.{first-passes, first-stops, found-none}
 use Rattle.walk_words.specs.Words.{Lent}
 use Rattle.walk_leaf.specs.Faces.{Edges}
 use Rattle.verdict_tests.specs.Tests.{FirstOf, Told, Counting, Running, Numbered, Joining, Weighing, Clashing, ListedIn, ListIs, Tested}
-use Rattle.verdict_tests.specs.Tests.{edgeCount, direction, pieces, inward, clash}
+use Rattle.verdict_tests.specs.Tests.{edgeCount, direction, pieces, inward, clash, testChecks}
+
+-- ---- the checks of a face list, 21 to 27, end with these
+
+pub last-five : (t : Tables) (n : ℕ) (l : Listed)
+    → faceChecks t n l
+    ≡ check NotCandidate (notCandidate n (l .numbers)) ∷ check FaceTwice (faceTwice (l .numbers)) ∷ testChecks t l
+unfolding faceChecks
+last-five t n l = refl
 
 -- ---- two answers: a refusal stands, and where all is fine the second is asked
 

@@ -40,7 +40,8 @@ fn inward(sixes: &[i64; MOST_CANDIDATES], taken: Set, turned: Set) -> Answer
     refused(INWARD, 0)
 }
 
-// 23 to 27 of a list whose faces are candidates, each once: `numbers` are those of its faces, in the list's order.
+// 23 to 27 of a list whose faces are candidates, each once: `numbers` are those of its faces, in the list's order. All five are asked, as
+// an accepted list needs them all.
 pub fn tested(
     on: &[u64; MOST_EDGES],
     up: &[u64; MOST_EDGES],

@@ -33,7 +33,7 @@ finds c = finds-24 (c .args .on .now) (c .args .up .now) (c .args .n) (c .args .
 
 -- the code's test of edge e
 here : (o : tie.After-once-each-way Inv-loop μ-loop) {b : Bool} → not (o .once-each-way .result) ≡ b
-    → let t = turn o in Offends (Meant (t .before)) notOnce (t .before .args .n) (t .loop .e) b
+    → let t = turn o in Offends (Meant (t .before)) notOnce (t .loop .e) b
 here o q =
     let t = turn o in
     let a = t .before .args in

@@ -35,7 +35,7 @@ finds c = finds-23 (c .args .on .now) (c .args .n) (c .args .taken)
 
 -- the code's test of edge e
 here : (k : tie.After-count Inv-loop μ-loop) (b : Bool) → eqb (k .count .result) 2 ≡ b
-    → let t = turn k in Offends (Meant (t .before)) notTwo (t .before .args .n) (t .loop .e) (not b)
+    → let t = turn k in Offends (Meant (t .before)) notTwo (t .loop .e) (not b)
 here k b q =
     let t = turn k in
     let a = t .before .args in

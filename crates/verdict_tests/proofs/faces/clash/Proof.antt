@@ -38,7 +38,7 @@ finds c = finds-27 (c .args .clashes .now) (c .args .numbers .now) (c .args .cou
 
 -- the code's test of face f
 here : (o : tie.After-is-empty Inv-loop μ-loop) {b : Bool} → not (o .is-empty .result) ≡ b
-    → let t = turn (named o) in Offends (Meant (t .before)) clashing (t .before .args .count) (t .loop .f) b
+    → let t = turn (named o) in Offends (Meant (t .before)) clashing (t .loop .f) b
 here o q =
     let k = named o in
     let t = turn k in

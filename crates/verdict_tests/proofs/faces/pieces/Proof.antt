@@ -46,7 +46,7 @@ meant r =
 
 -- the code's test of face i
 here : (o : tie.After-has Inv-loop μ-loop) {b : Bool} → not (o .has .result) ≡ b
-    → let r = round (turn o) in Offends (Meant r) unjoined (r .before .args .count) (turn o .loop .i) b
+    → let r = round (turn o) in Offends (Meant r) unjoined (turn o .loop .i) b
 here o q =
     let t = turn o in
     let r = round t in
