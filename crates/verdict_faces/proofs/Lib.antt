@@ -1,0 +1,4 @@
+-- The laws of this crate. Assumes nothing.
+pub mod Rows
+pub mod Turns
+pub mod Same
