@@ -105,7 +105,7 @@ pub row-length : (n : ℕ) (ks : List ℕ) → length (maskOf n ks) ≡ n
 unfolding maskOf
 row-length n ks = made-length (λ k. member k ks) n
 
-row-at : (n : ℕ) (ks : List ℕ) (k : ℕ) → k < n → dig (maskOf n ks) k ≡ member k ks
+pub row-at : (n : ℕ) (ks : List ℕ) (k : ℕ) → k < n → dig (maskOf n ks) k ≡ member k ks
 unfolding maskOf
 row-at n ks k h = made-at (λ j. member j ks) n k false h
 

@@ -2,3 +2,4 @@
 pub mod Rows
 pub mod Turns
 pub mod Same
+pub mod Marks

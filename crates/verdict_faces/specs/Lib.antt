@@ -1,3 +1,7 @@
--- What contracts of this crate cite beside the paper. Assumes nothing.
+-- What contracts of this crate and its callers cite beside the paper. Assumes nothing.
 -- one face of a table and its normal form
 pub mod Form
+-- the whole list: 21, 22 and the candidates of its faces
+pub mod Named
+-- what each pass over the list answers
+pub mod Passes
