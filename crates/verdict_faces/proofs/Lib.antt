@@ -3,3 +3,4 @@ pub mod Rows
 pub mod Turns
 pub mod Same
 pub mod Marks
+pub mod Passing
