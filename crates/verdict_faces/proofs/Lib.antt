@@ -4,3 +4,5 @@ pub mod Turns
 pub mod Same
 pub mod Marks
 pub mod Passing
+pub mod Held
+pub mod Answers

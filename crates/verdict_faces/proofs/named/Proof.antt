@@ -1,0 +1,68 @@
+-- `verdict_faces::named`: 21 is what the first pass finds, 22 what the second does; the numbers of the first are what the second asks
+-- for. Assumes nothing.
+use borrow.Author.Needs.{needs}
+use Rattle.verdict_faces.proofs.Answers.{answer-21, all-taken, answer-22, answer-are}
+use Rattle.verdict_faces.proofs.named.Statement.{statement}
+use Rattle.verdict_faces.proofs.named.Tie as tie
+
+-- ---- the ways back
+
+abbrev start : tie.After-number-faces → tie.Start
+start c = c .before .before
+
+abbrev counted : tie.After-take-each-arg → tie.After-number-faces
+counted c = c .before .before .before .before
+
+abbrev known : tie.After-take-each-arg → tie.After-numbered2
+known c = c .before .before
+
+-- ---- the needs
+
+number-faces-requires : tie.Need-number-faces-requires
+number-faces-requires c κs = search needs
+
+enum-known-numbered : tie.Need-enum-known-numbered
+enum-known-numbered c = search needs
+
+returns : tie.Need-returns
+returns c = answer-21 (c .before .before .before .number-faces .ensures) (c .before .numbered .given .1)
+
+enum-known-numbered-2 : tie.Need-enum-known-numbered-2
+enum-known-numbered-2 c = search needs
+
+take-each-requires : tie.Need-take-each-requires
+take-each-requires c κs =
+    let n = counted c in
+    all-taken (n .number-faces .ensures) (start n .pre) (known c .numbered2 .given .1)
+
+enum-known-each : tie.Need-enum-known-each
+enum-known-each c = search needs
+
+returns-2 : tie.Need-returns-2
+returns-2 c =
+    let t = c .before .before .before in
+    let n = counted (t .before) in
+    answer-22 (n .number-faces .ensures) (start n .pre) (known (t .before) .numbered2 .given .1) (t .take-each .ensures) (c .before .each .given .1)
+
+enum-known-each-2 : tie.Need-enum-known-each-2
+enum-known-each-2 c = search needs
+
+returns-3 : tie.Need-returns-3
+returns-3 c =
+    let t = c .before .before .before in
+    let n = counted (t .before) in
+    answer-are (n .number-faces .ensures) (start n .pre) (known (t .before) .numbered2 .given .1) (t .take-each .ensures) (c .before .each2 .given .1)
+
+pub named-spec : {M : Type 1} → statement M
+named-spec =
+    tie.close
+    (tie.spec
+    number-faces-requires
+    enum-known-numbered
+    returns
+    enum-known-numbered-2
+    take-each-requires
+    enum-known-each
+    returns-2
+    enum-known-each-2
+    returns-3)
