@@ -1,26 +1,23 @@
 -- What the two passes answer, said of all faces and candidates that the rows hold: 21, then 22, or the selection. Assumes nothing.
-use mathlib.Core.Path.{_≡_, refl, sym, ap, subst, _∙_}
-use mathlib.Core.Bool.{Bool}
+use mathlib.Core.Path.{_≡_, sym, ap, subst, _∙_}
 use mathlib.Core.List.{List, []}
-use mathlib.Core.Option.{Option, none, some}
-use Prim.Native.Nat.{ℕ, _≤_, _<_}
+use mathlib.Core.Option.{none}
+use Prim.Native.Nat.{ℕ, _<_}
 use native.Mathlib.Omega.{arith}
 use lib.Dec.{leb}
 use lib.ListN.{length, getD, take}
 use lib.Seq.{getD-take}
 use borrow.Author.Tests.{leb-false}
 use Rattle.lists.proofs.Lowest.{lowest-none}
-use Rattle.sets.specs.Sets.{room, Is}
+use Rattle.sets.specs.Sets.{Is}
 use Rattle.sets.specs.declared.Set.{Set}
 use Rattle.paper.specs.Refusals as No
-use Rattle.paper.specs.Refusals.{refuse, firstOf}
 use Rattle.paper.specs.Loops.{Loop}
 use Rattle.paper.specs.Verdict.{maskOf, listed, notCandidate, faceTwice}
-use Rattle.paper.specs.declared.Answer.the-variants.{Fine}
 use Rattle.paper_laws.proofs.Checks.{clear, stops, passes}
 use Rattle.verdict_faces.specs.Form.{rowsIn}
-use Rattle.verdict_faces.specs.Named.{Naming, Holds, namedChecks, NamedIs}
-use Rattle.verdict_faces.specs.Passes.{numbersOf, turnedOf, AllNumbered, NumberedAs, Numbering, Takes, TakenOnce, TakenAs}
+use Rattle.verdict_faces.specs.Named.{Naming, Holds, NamedIs}
+use Rattle.verdict_faces.specs.Passes.{numbersOf, turnedOf, AllNumbered, NumberedAs, Numbering, Takes, TakenAs}
 use Rattle.verdict_faces.specs.declared.selection.Named.the-variants as N
 use Rattle.verdict_faces.specs.declared.selection.Marked.{Marked}
 use Rattle.verdict_faces.specs.declared.selection.Marked.the-variants as M
@@ -48,7 +45,8 @@ module _ {faces rows numbers₀ numbers : List ℕ} {count n : ℕ} {r : Marked}
   said = NumberedAs (rowsIn faces count) (rowsIn rows n) count n numbers
 
   -- some face is no candidate
-  pub answer-21 : {i : ℕ} → r ≡ M.At i → NamedIs faces count rows n numbers₀ numbers (N.Refused (record { number = No.NotCandidate; place = i }))
+  pub answer-21 : {i : ℕ} → r ≡ M.At i
+      → NamedIs faces count rows n numbers₀ numbers (N.Refused (record { number = No.NotCandidate; place = i }))
   answer-21 e = record {
     long = p .long;
     same = λ fs cs hf hc. stops No.NotCandidate _ (sym (subst said e (p .said)) ∙ unknown-held hf hc);

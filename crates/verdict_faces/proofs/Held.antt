@@ -2,7 +2,6 @@
 -- nothing.
 use mathlib.Core.Path.{_≡_, refl, sym, ap, _∙_}
 use mathlib.Core.List.{List, []}
-use mathlib.Core.Option.{none}
 use Prim.Native.Nat.{ℕ, _*_, _≤_, _<_}
 use native.Mathlib.Omega.{arith}
 use lib.ListN.{length, getD, drop}
@@ -13,7 +12,7 @@ use Rattle.paper.specs.Refusals as No
 use Rattle.paper.specs.Refusals.{firstOf}
 use Rattle.paper.specs.Loops.{Loop, loopAt}
 use Rattle.paper.specs.FaceList.{rowAt}
-use Rattle.paper.specs.Verdict.{maskOf, listed, notCandidate, faceTwice}
+use Rattle.paper.specs.Verdict.{maskOf, listed}
 use Rattle.paper.specs.declared.Answer.the-variants.{Fine}
 use Rattle.paper_laws.proofs.Checks.{found-none}
 use Rattle.faces_laws.proofs.Reported.{row-loop}

@@ -4,12 +4,11 @@ use mathlib.Core.Bool.{Bool, true, false, _||_}
 use mathlib.Core.List.{List, [], _∷_, _++_, map, map-append, append-nil}
 use Prim.Native.Nat.{ℕ, suc, _+_, _≤_, _<_}
 use native.Mathlib.Omega.{arith}
-use lib.Dec.{eqb}
 use lib.ListN.{length, getD, take, replicate, length-replicate, getD-replicate}
 use lib.Seq.{ext-getD}
 use Rattle.lists.specs.Lists.{keep, filter, member}
 use Rattle.lists.proofs.Places.{take-more}
-use Rattle.sets.specs.Word.{dig, either, only}
+use Rattle.sets.specs.Word.{either, only}
 use Rattle.sets.specs.Sets.{room, Is}
 use Rattle.sets.specs.declared.Set.{Set}
 use Rattle.sets.proofs.Digits.{length-only, dig-either}

@@ -1,6 +1,6 @@
 -- The code's search for a face among candidates: two loops corner by corner, and the first of the rows that is the face. What is left
 -- to look at gives the whole answer. Assumes nothing.
-use mathlib.Core.Path.{_≡_, refl, sym, ap, _∙_}
+use mathlib.Core.Path.{_≡_, sym, ap, _∙_}
 use mathlib.Core.Bool.{Bool, true, false, _&&_}
 use mathlib.Core.List.{List, [], _∷_, map}
 use Prim.Native.Nat.{ℕ, suc, _+_, _*_, _≤_, _<_}
@@ -8,7 +8,7 @@ use native.Mathlib.Omega.{arith}
 use lib.Dec.{eqb}
 use lib.ListN.{length, getD, drop, length-map, drop-of-length-le}
 use borrow.Author.Tests.{eq-eqb, ne-eqb}
-use Rattle.lists.specs.Lists.{upto, sameList}
+use Rattle.lists.specs.Lists.{sameList}
 use Rattle.lists.proofs.Places.{drop-more, map-at, made-length, made-at}
 use Rattle.lists.proofs.Truth.{never-true}
 use Rattle.sets.specs.Word.{dig, first}
@@ -19,7 +19,7 @@ use Rattle.paper.specs.Verdict.{normalForm, numberIn}
 use Rattle.polygon.specs.Rings.{countIn}
 use Rattle.means_check.proofs.Numbers.{same-yes}
 use Rattle.verdict_faces.specs.declared.form.Way.{Way}
-use Rattle.verdict_faces.specs.Form.{rowsIn, FaceIn, Compared}
+use Rattle.verdict_faces.specs.Form.{rowsIn, Compared}
 use Rattle.verdict_faces.proofs.Rows.{row-long, corner-at, other-count}
 use Rattle.verdict_faces.proofs.Turns.{face-long, normal-long}
 

@@ -34,7 +34,8 @@ pub record Holds (table : List ℕ) (n : ℕ) (ls : List Loop) : Type 0 where
 -- 21 and 22, of the faces fs and the candidates cs
 abbrev pub namedChecks : List Loop → List (List ℕ) → List Check
 namedChecks cs fs =
-    check No.NotCandidate (notCandidate (length cs) (listed cs fs .numbers)) ∷ check No.FaceTwice (faceTwice (listed cs fs .numbers)) ∷ []
+    let ks = listed cs fs .numbers in
+    check No.NotCandidate (notCandidate (length cs) ks) ∷ check No.FaceTwice (faceTwice ks) ∷ []
 
 -- neither applies: the numbers in list order, the candidates that are taken, and those of them that are turned
 pub record Selected (cs : List Loop) (fs : List (List ℕ)) (count : ℕ) (numbers : List ℕ) (s : Selection) : Type 0 where

@@ -42,7 +42,8 @@ returns-2 : tie.Need-returns-2
 returns-2 c =
     let t = c .before .before .before in
     let n = counted (t .before) in
-    answer-22 (n .number-faces .ensures) (start n .pre) (known (t .before) .numbered2 .given .1) (t .take-each .ensures) (c .before .each .given .1)
+    answer-22 (n .number-faces .ensures) (start n .pre) (known (t .before) .numbered2 .given .1) (t .take-each .ensures)
+    (c .before .each .given .1)
 
 enum-known-each-2 : tie.Need-enum-known-each-2
 enum-known-each-2 c = search needs
@@ -51,7 +52,8 @@ returns-3 : tie.Need-returns-3
 returns-3 c =
     let t = c .before .before .before in
     let n = counted (t .before) in
-    answer-are (n .number-faces .ensures) (start n .pre) (known (t .before) .numbered2 .given .1) (t .take-each .ensures) (c .before .each2 .given .1)
+    answer-are (n .number-faces .ensures) (start n .pre) (known (t .before) .numbered2 .given .1) (t .take-each .ensures)
+    (c .before .each2 .given .1)
 
 pub named-spec : {M : Type 1} → statement M
 named-spec =

@@ -1,7 +1,7 @@
 -- `verdict_faces::number_faces`: the loop keeps the numbers and the marks of the faces passed, each of which is a candidate. Assumes
 -- nothing.
 use mathlib.Core.Logic.{⊎-elim}
-use mathlib.Core.Path.{_≡_, _∙_, sym, subst}
+use mathlib.Core.Path.{sym, subst}
 use Prim.Native.Nat.{_+_, _-_, _≤_, _<_}
 use native.Mathlib.Omega.{arith}
 use lib.ListN.{length, set}
@@ -46,7 +46,11 @@ number-in-requires c κs =
     let w = c .before .before in
     let t = turn w in
     let p = start t .pre in
-    record { face = p .cornered (t .loop .i) (omega arith); way = w .way-of .ensures; there = omega (arith, p .few-candidates, p .rows-long) }
+    record {
+      face = p .cornered (t .loop .i) (omega arith);
+      way = w .way-of .ensures;
+      there = omega (arith, p .few-candidates, p .rows-long);
+    }
 
 returns : tie.Need-returns Inv-loop μ-loop
 returns c =
@@ -85,13 +89,16 @@ loop-again c =
     let l = t .loop in
     let a = start t .args in
     let p = start t .pre in
-    let to : Set → Type 0 = λ u. Numbered (now (a .faces)) (a .count) (now (a .rows)) (a .n) (now (a .numbers)) (set (l .numbers) (l .i) (k .result)) u (l .i + 1) in
+    let to : Set → Type 0 = λ u.
+    Numbered (now (a .faces)) (a .count) (now (a .rows)) (a .n) (now (a .numbers)) (set (l .numbers) (l .i) (k .result)) u (l .i + 1) in
     let o = w .way-of .ensures .onward-is in
     let m : k .result < a .n = e .if1 .left in
     let r : l .i < length (l .numbers) = omega (arith, p .few, p .numbers-long, l .inv .1 .long) in (
       omega arith,
       ⊎-elim
-          (λ y. subst to (sym (y .2)) (numbered-back _ _ _ _ (l .inv .1) (omega arith) (k .ensures) m r o (not-true _ (y .0 .taken)) (y .1 .ensures)))
+          (λ y.
+          subst to (sym (y .2))
+          (numbered-back _ _ _ _ (l .inv .1) (omega arith) (k .ensures) m r o (not-true _ (y .0 .taken)) (y .1 .ensures)))
           (λ y. subst to (sym (y .1)) (numbered-on _ _ _ _ (l .inv .1) (omega arith) (k .ensures) m r o (not-false _ (y .0 .left))))
           (c .if2 .came),
     )

@@ -66,7 +66,9 @@ loop-again c =
     let h = c .before .before in
     let t = turn h in (
       omega arith,
-      λ q. passed-more q (t .loop .inv .1 q) (omega arith) (read h .wide .ensures) (h .has .ensures) (c .before .if1 .left) (c .with .ensures),
+      λ q.
+          passed-more q (t .loop .inv .1 q) (omega arith) (read h .wide .ensures) (h .has .ensures) (c .before .if1 .left)
+          (c .with .ensures),
     )
 
 returns-2 : tie.Need-returns-2 Inv-loop μ-loop

@@ -1,5 +1,5 @@
 -- `verdict_faces::form::corner`: from the lowest corner on, or back from it, as the face's direction says. Assumes nothing.
-use mathlib.Core.Path.{_≡_, _∙_, sym}
+use mathlib.Core.Path.{_∙_, sym}
 use native.Mathlib.Omega.{arith}
 use borrow.Author.Needs.{needs}
 use Rattle.verdict_faces.proofs.Turns.{face-long, lowest-in, corner-on, corner-first, corner-back}
@@ -17,7 +17,9 @@ back c = c .before .before
 -- ---- the needs
 
 from-place-requires : tie.Need-from-place-requires
-from-place-requires c κs = let p = start (c .before) .pre in record { face = p .face; start = lowest-in (p .face) (p .way .lowest-is); below = p .below }
+from-place-requires c κs =
+    let p = start (c .before) .pre in
+    record { face = p .face; start = lowest-in (p .face) (p .way .lowest-is); below = p .below }
 
 returns : tie.Need-returns
 returns c =
@@ -45,7 +47,11 @@ sub-from-place c = search needs
 from-place-requires-3 : tie.Need-from-place-requires-3
 from-place-requires-3 c κs =
     let p = start (back c .before) .pre in
-    record { face = p .face; start = lowest-in (p .face) (p .way .lowest-is); below = omega (arith, c .count .ensures, c .before .if2 .left, p .below) }
+    record {
+      face = p .face;
+      start = lowest-in (p .face) (p .way .lowest-is);
+      below = omega (arith, c .count .ensures, c .before .if2 .left, p .below);
+    }
 
 returns-3 : tie.Need-returns-3
 returns-3 c =

@@ -1,6 +1,6 @@
 -- `verdict_faces::number::is_row`: rows of another count are other loops; of one count the loop keeps that what is left of the corners
 -- decides. Assumes nothing.
-use mathlib.Core.Path.{_≡_, refl, sym, _∙_}
+use mathlib.Core.Path.{refl, sym, _∙_}
 use Prim.Native.Nat.{_-_, _≤_}
 use native.Mathlib.Omega.{arith}
 use Rattle.paper.specs.FaceList.{rowAt}
