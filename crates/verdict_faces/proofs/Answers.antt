@@ -22,7 +22,7 @@ use Rattle.verdict_faces.specs.declared.selection.Named.the-variants as 
 use Rattle.verdict_faces.specs.declared.selection.Marked.{Marked}
 use Rattle.verdict_faces.specs.declared.selection.Marked.the-variants as M
 use Rattle.verdict_faces.proofs.Passing.{numbers-long}
-use Rattle.verdict_faces.proofs.Held.{rows-held, taken-mask}
+use Rattle.verdict_faces.proofs.Held.{rows-held}
 
 -- ---- what is said of the rows is said of what they hold
 
@@ -33,6 +33,10 @@ module _ {faces rows : List ℕ} {count n : ℕ} {fs cs : List Loop} (hf : Holds
 
   unknown-held : notCandidate n (numbersOf (rowsIn rows n) (rowsIn faces count)) ≡ notCandidate (length cs) (listed cs fs .numbers)
   unknown-held = λ i. notCandidate (sym (hc .count) i) (numbers-held i)
+
+  taken-held : maskOf n (listed cs fs .numbers) ≡ listed cs fs .taken
+  unfolding listed
+  taken-held = ap (λ (m : ℕ). maskOf m (listed cs fs .numbers)) (sym (hc .count))
 
   turned-held : turnedOf n (rowsIn rows n) (rowsIn faces count) ≡ listed cs fs .turned
   unfolding listed
@@ -107,9 +111,7 @@ module _ {faces rows numbers₀ numbers : List ℕ} {count n : ℕ} {r : Marked}
                   ∙ passes No.NotCandidate _ (past-21 hf hc);
               numbers-are = numbers-are hf hc;
               taken-is =
-                  subst (Is taken)
-                  ((λ i. maskOf (sym (hc .count) i) (numbers-are hf hc i)) ∙ sym (taken-mask cs fs))
-                  (o .taken-is n (q .few-candidates) below);
+                  subst (Is taken) (ap (maskOf n) (numbers-are hf hc) ∙ taken-held hf hc) (o .taken-is n (q .few-candidates) below);
               turned-is = subst (Is turned) (turned-held hf hc) (all .turned-is);
             };
           }

@@ -6,3 +6,5 @@ pub mod Marks
 pub mod Passing
 pub mod Held
 pub mod Answers
+-- for the caller
+pub mod Listed

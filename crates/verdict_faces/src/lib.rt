@@ -31,7 +31,7 @@ fn number_faces(
     requires { ⌜ Naming (now faces) count (now rows) n (now numbers) ⌝ }
     ensures { λ r. ⌜ Numbering (now (faces .entry)) count (now (rows .entry)) n (now (numbers .entry)) (now (numbers .exit)) r ⌝ }
 {
-    let mut turned = Set::none();
+    let mut against = Set::none();
     let mut i = 0;
     while i < count {
         let way = way_of(faces, i);
@@ -41,11 +41,11 @@ fn number_faces(
         }
         numbers[i] = k as u8;
         if !way.onward {
-            turned = turned.with(k);
+            against = against.with(k);
         }
         i += 1;
     }
-    Marked::All(turned)
+    Marked::All(against)
 }
 
 // Marks the numbers in turn, up to one that is marked already.

@@ -57,7 +57,7 @@ returns c =
     let k = c .before in
     let t = turn (wayed k) in
     let s = t .loop .inv .1 in
-    record { long = s .long; said = numbered-hit _ _ _ _ s (omega arith) (k .number-in .ensures) (c .if1 .taken) }
+    record { long = s .long; said = numbered-hit _ _ _ _ s (omega arith) (k .number-in .ensures) (omega (arith, c .if1 .taken)) }
 
 cast-numbers : tie.Need-cast-numbers Inv-loop μ-loop
 cast-numbers c = let p = start (turn (wayed (c .before))) .pre in omega (arith, p .few-candidates, c .if1 .left)
@@ -92,7 +92,7 @@ loop-again c =
     let to : Set → Type 0 = λ u.
     Numbered (now (a .faces)) (a .count) (now (a .rows)) (a .n) (now (a .numbers)) (set (l .numbers) (l .i) (k .result)) u (l .i + 1) in
     let o = w .way-of .ensures .onward-is in
-    let m : k .result < a .n = e .if1 .left in
+    let m : k .result < a .n = omega (arith, e .if1 .left) in
     let r : l .i < length (l .numbers) = omega (arith, p .few, p .numbers-long, l .inv .1 .long) in (
       omega arith,
       ⊎-elim

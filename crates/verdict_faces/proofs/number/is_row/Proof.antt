@@ -1,10 +1,12 @@
 -- `verdict_faces::number::is_row`: rows of another count are other loops; of one count the loop keeps that what is left of the corners
 -- decides. Assumes nothing.
-use mathlib.Core.Path.{refl, sym, _∙_}
+use mathlib.Core.Path.{_≡_, refl}
 use Prim.Native.Nat.{_-_, _≤_}
 use native.Mathlib.Omega.{arith}
+use denote.Ref.{now}
 use Rattle.paper.specs.FaceList.{rowAt}
 use Rattle.paper.specs.Verdict.{normalForm}
+use Rattle.polygon.specs.Rings.{countIn}
 use Rattle.verdict_faces.proofs.Same.{SameLeft, row-other, row-differs, row-goes-on, row-same}
 use Rattle.verdict_faces.proofs.number.is_row.Statement.{statement}
 use Rattle.verdict_faces.proofs.number.is_row.Tie as tie
@@ -26,9 +28,10 @@ counted c = c .before .before .before
 abbrev turn : tie.After-shared-slice-known3 Inv-loop μ-loop → tie.At-loop Inv-loop μ-loop
 turn c = c .before .before .before
 
--- the two counts are one
-abbrev one : tie.At-loop Inv-loop μ-loop → tie.Else1 Inv-loop μ-loop
-one c = c .before
+-- ---- in the loop the two counts are one
+one-count : (c : tie.At-loop Inv-loop μ-loop)
+    → let a = start (counted c) .args in countIn (now (a .rows)) (a .k) ≡ counted c .count .result
+one-count c = omega (arith, c .before .before .count2 .ensures, c .before .if1 .left)
 
 -- ---- the needs
 
@@ -41,7 +44,7 @@ count-requires-2 c κs = omega (arith, start c .pre .there)
 returns : tie.Need-returns Inv-loop μ-loop
 returns c =
     let n = c .before .before in
-    row-other (start n .pre) (n .count .ensures) (λ e. c .if1 .taken (c .before .count2 .ensures ∙ e))
+    row-other (start n .pre) (n .count .ensures) (λ e. omega (arith, c .before .count2 .ensures, c .if1 .taken))
 
 mul-first : tie.Need-mul-first Inv-loop μ-loop
 mul-first c = omega (arith, start (c .before .before) .pre .there)
@@ -74,7 +77,7 @@ returns-2 : tie.Need-returns-2 Inv-loop μ-loop
 returns-2 c =
     let t = turn (c .before) in
     let n = counted t in
-    row-differs (start n .pre) (n .count .ensures) (sym (one t .before .count2 .ensures) ∙ one t .if1 .left) (t .loop .i) (omega arith)
+    row-differs (start n .pre) (n .count .ensures) (one-count t) (t .loop .i) (omega arith)
     (t .loop .inv .1) (c .before .before .corner .ensures) (c .if2 .taken)
 
 add-i : tie.Need-add-i Inv-loop μ-loop
@@ -88,7 +91,7 @@ loop-again c =
     let t = turn (c .before) in
     let n = counted t in (
       omega arith,
-      row-goes-on (start n .pre) (n .count .ensures) (sym (one t .before .count2 .ensures) ∙ one t .if1 .left) (t .loop .i) (omega arith)
+      row-goes-on (start n .pre) (n .count .ensures) (one-count t) (t .loop .i) (omega arith)
           (t .loop .inv .1) (c .before .before .corner .ensures) (c .if2 .left),
     )
 
@@ -96,7 +99,7 @@ returns-3 : tie.Need-returns-3 Inv-loop μ-loop
 returns-3 c =
     let t = c .before in
     let n = counted t in
-    row-same (start n .pre) (n .count .ensures) (sym (one t .before .count2 .ensures) ∙ one t .if1 .left) (t .loop .i) (omega arith)
+    row-same (start n .pre) (n .count .ensures) (one-count t) (t .loop .i) (omega arith)
     (t .loop .inv .1)
 
 pub is-row-spec : {M : Type 1} → statement M
