@@ -16,6 +16,12 @@ counted c = c .before .before .before .before
 abbrev known : tie.After-take-each-arg → tie.After-numbered2
 known c = c .before .before
 
+abbrev twice : tie.After-known-told3 → tie.After-take-each
+twice c = c .before .before .before
+
+abbrev once : tie.After-known-told4 → tie.After-take-each
+once c = c .before .before .before
+
 -- ---- the needs
 
 number-faces-requires : tie.Need-number-faces-requires
@@ -40,7 +46,7 @@ enum-known-each c = search needs
 
 returns-2 : tie.Need-returns-2
 returns-2 c =
-    let t = c .before .before .before in
+    let t = twice c in
     let n = counted (t .before) in
     answer-22 (n .number-faces .ensures) (start n .pre) (known (t .before) .numbered2 .given .1) (t .take-each .ensures)
     (c .before .each .given .1)
@@ -50,7 +56,7 @@ enum-known-each-2 c = search needs
 
 returns-3 : tie.Need-returns-3
 returns-3 c =
-    let t = c .before .before .before in
+    let t = once c in
     let n = counted (t .before) in
     answer-are (n .number-faces .ensures) (start n .pre) (known (t .before) .numbered2 .given .1) (t .take-each .ensures)
     (c .before .each2 .given .1)

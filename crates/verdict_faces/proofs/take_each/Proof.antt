@@ -18,11 +18,8 @@ abbrev μ-loop : tie.MeasureT-loop
 abbrev start : tie.At-loop Inv-loop μ-loop → tie.Start Inv-loop μ-loop
 start c = c .before .before
 
-abbrev turn : tie.After-has Inv-loop μ-loop → tie.At-loop Inv-loop μ-loop
-turn c = c .before .before .before .before
-
-abbrev read : tie.After-has Inv-loop μ-loop → tie.After-wide Inv-loop μ-loop
-read c = c .before
+abbrev turn : tie.After-wide Inv-loop μ-loop → tie.At-loop Inv-loop μ-loop
+turn c = c .before .before .before
 
 -- ---- the needs
 
@@ -40,20 +37,21 @@ wide-requires c κs = search needs
 
 has-requires : tie.Need-has-requires Inv-loop μ-loop
 has-requires c κs =
-    let t = c .before .before .before in
+    let t = turn c in
     omega (arith, c .wide .ensures, start t .pre .below (t .loop .i) (omega arith))
 
 returns : tie.Need-returns Inv-loop μ-loop
 returns c =
     let h = c .before in
-    let t = turn h in
+    let t = turn (h .before) in
     let q = start t .pre in
-    passed-hit q (t .loop .inv .1 q) (omega arith) (read h .wide .ensures) (h .has .ensures) (c .if1 .taken)
+    passed-hit q (t .loop .inv .1 q) (omega arith) (h .before .wide .ensures) (h .has .ensures) (c .if1 .taken)
 
 with-requires : tie.Need-with-requires Inv-loop μ-loop
 with-requires c κs =
-    let t = turn (c .before) in
-    omega (arith, read (c .before) .wide .ensures, start t .pre .below (t .loop .i) (omega arith))
+    let w = c .before .before in
+    let t = turn w in
+    omega (arith, w .wide .ensures, start t .pre .below (t .loop .i) (omega arith))
 
 add-i : tie.Need-add-i Inv-loop μ-loop
 add-i c = omega arith
@@ -64,10 +62,10 @@ loop-less c = omega arith
 loop-again : tie.Need-loop-again Inv-loop μ-loop
 loop-again c =
     let h = c .before .before in
-    let t = turn h in (
+    let t = turn (h .before) in (
       omega arith,
       λ q.
-          passed-more q (t .loop .inv .1 q) (omega arith) (read h .wide .ensures) (h .has .ensures) (c .before .if1 .left)
+          passed-more q (t .loop .inv .1 q) (omega arith) (h .before .wide .ensures) (h .has .ensures) (c .before .if1 .left)
           (c .with .ensures),
     )
 

@@ -22,6 +22,9 @@ abbrev μ-loop : tie.MeasureT-loop
 abbrev start : tie.After-count Inv-loop μ-loop → tie.Start Inv-loop μ-loop
 start c = c .before .before
 
+abbrev counted : tie.After-shared-slice-known2 Inv-loop μ-loop → tie.After-count Inv-loop μ-loop
+counted c = c .before .before .before
+
 abbrev turn : tie.After-shared-slice-known3 Inv-loop μ-loop → tie.At-loop Inv-loop μ-loop
 turn c = c .before .before .before
 
@@ -43,13 +46,13 @@ add-if1 : tie.Need-add-if1 Inv-loop μ-loop
 add-if1 c = let n = c .before .before in omega (arith, start n .pre .room, start n .pre .most, n .count .ensures)
 
 shared-slice-read-if1 : tie.Need-shared-slice-read-if1 Inv-loop μ-loop
-shared-slice-read-if1 c = let n = c .before .before .before in omega (arith, start n .pre .room, start n .pre .most, n .count .ensures)
+shared-slice-read-if1 c = let n = counted c in omega (arith, start n .pre .room, start n .pre .most, n .count .ensures)
 
 add-if1-2 : tie.Need-add-if1-2 Inv-loop μ-loop
-add-if1-2 c = let n = c .before .before .before in omega (arith, start n .pre .room, start n .pre .most, n .count .ensures)
+add-if1-2 c = let n = counted c in omega (arith, start n .pre .room, start n .pre .most, n .count .ensures)
 
 shared-slice-read-if1-2 : tie.Need-shared-slice-read-if1-2 Inv-loop μ-loop
-shared-slice-read-if1-2 c = let n = turn c .before in omega (arith, start n .pre .room, start n .pre .most, n .count .ensures)
+shared-slice-read-if1-2 c = let n = counted (c .before) in omega (arith, start n .pre .room, start n .pre .most, n .count .ensures)
 
 add-k : tie.Need-add-k Inv-loop μ-loop
 add-k c = omega arith

@@ -22,8 +22,11 @@ abbrev μ-loop : tie.MeasureT-loop
 abbrev start : tie.After-count Inv-loop μ-loop → tie.Start Inv-loop μ-loop
 start c = c .before .before .before
 
+abbrev alike : tie.Else1 Inv-loop μ-loop → tie.After-count Inv-loop μ-loop
+alike c = c .before .before
+
 abbrev counted : tie.At-loop Inv-loop μ-loop → tie.After-count Inv-loop μ-loop
-counted c = c .before .before .before
+counted c = alike (c .before)
 
 abbrev turn : tie.After-shared-slice-known3 Inv-loop μ-loop → tie.At-loop Inv-loop μ-loop
 turn c = c .before .before .before
@@ -47,10 +50,10 @@ returns c =
     row-other (start n .pre) (n .count .ensures) (λ e. omega (arith, c .before .count2 .ensures, c .if1 .taken))
 
 mul-first : tie.Need-mul-first Inv-loop μ-loop
-mul-first c = omega (arith, start (c .before .before) .pre .there)
+mul-first c = omega (arith, start (alike c) .pre .there)
 
 add-first : tie.Need-add-first Inv-loop μ-loop
-add-first c = omega (arith, start (c .before .before) .pre .there)
+add-first c = omega (arith, start (alike c) .pre .there)
 
 loop-holds : tie.Need-loop-holds Inv-loop μ-loop
 loop-holds c = (omega arith, refl)
