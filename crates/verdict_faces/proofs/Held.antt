@@ -1,14 +1,16 @@
--- Rows that hold faces or candidates, read as the code reads them. Assumes nothing.
-use mathlib.Core.Path.{_≡_, sym, ap, _∙_}
-use mathlib.Core.List.{List, []}
-use Prim.Native.Nat.{ℕ, _*_, _≤_, _<_}
+-- Rows that hold faces or candidates, read as the code reads them; the rows of faces by value are such. Assumes nothing.
+use mathlib.Core.Path.{_≡_, refl, sym, ap, _∙_}
+use mathlib.Core.List.{List, [], _++_, flatMap}
+use Prim.Native.Nat.{ℕ, _-_, _*_, _≤_, _<_}
 use native.Mathlib.Omega.{arith}
-use lib.ListN.{length, drop}
-use lib.Seq.{ext-getD}
+use lib.ListN.{length, drop, replicate}
+use lib.Seq.{ext-getD, drop-at}
+use Rattle.pack.specs.Fill.{padded}
 use Rattle.lists.proofs.Places.{made-length, made-at}
 use Rattle.paper.specs.Numbers.{leastCorners, rowBytes}
-use Rattle.paper.specs.Loops.{Loop, loopAt}
+use Rattle.paper.specs.Loops.{Loop, loopAt, row}
 use Rattle.paper.specs.FaceList.{rowAt}
+use Rattle.paper_laws.proofs.Rows.{Short, rows-long}
 use Rattle.faces_laws.proofs.Reported.{row-loop}
 use Rattle.loop_table.proofs.Rows.{rows-room, count-is}
 use Rattle.verdict_faces.specs.Form.{rowsIn, FaceIn}
@@ -34,3 +36,15 @@ module _ {table : List ℕ} {n : ℕ} {ls : List Loop} (h : Holds table n ls) wh
         least = omega (arith, c);
         most = omega (arith, c, h .short k l);
       }
+
+-- the rows of faces by value
+pub padded-held : (fs : List Loop) → Short fs → (m : ℕ) → Holds (padded (flatMap row fs) m 0) (length fs) fs
+unfolding padded
+padded-held fs short m =
+    let xs = flatMap row fs in
+    let rest : List ℕ = replicate (m - length xs) 0 in
+    record {
+      rows = ap (λ (t : List ℕ). xs ++ t) (sym (drop-at xs rest (rowBytes * length fs) (rows-long fs short)));
+      count = refl;
+      short = short;
+    }
