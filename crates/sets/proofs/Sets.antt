@@ -11,11 +11,11 @@ use lib.Bits.{bitAnd, bitOr, and-mask}
 use lib.Dec.{eqb}
 use lib.Count.{ones, onesIn, ones-le, trailingZeros}
 use Rattle.sets.specs.Word.{word, digits, digit, dig, count, first, both, either, less, only}
-use Rattle.sets.specs.Sets.{room, packedSet, Is, digitsOf, size, Joint, Minus, Counted, Lowest, Dropped, EdgeSet, maskAt}
+use Rattle.sets.specs.Sets.{room, packedSet, Is, digitsOf, size, Joint, Minus, Counted, Lowest, Dropped, Rest, EdgeSet, maskAt}
 use Rattle.sets.specs.declared.Set.{Set}
 use Rattle.sets.proofs.Digits.{length-both, length-either, length-less, length-only, count-less, count-only, first-lt, first-in}
 use Rattle.sets.proofs.Numbers.{digit-word}
-use Rattle.sets.proofs.Word.{and-word, or-word, less-word, ones-word, only-word, trailing-word, length-digits, word-digits}
+use Rattle.sets.proofs.Word.{and-word, or-word, less-word, ones-word, only-word, rest-word, trailing-word, length-digits, word-digits}
 use Rattle.sets.proofs.Word.{full-word, none-word, word-more}
 
 -- ---- the word and the digits
@@ -95,21 +95,52 @@ empty-is {x} h =
     zero-tests (x .word) (size x) (λ e. size-is d ∙ word-count (digitsOf x) (sym (word-is d) ∙ e))
     (λ e. word-is d ∙ count-word (digitsOf x) (sym (size-is d) ∙ e))
 
-pub lowest-is : {x : Set} → x .word < 2 ^ room → 0 < size x → Lowest x (trailingZeros room (x .word))
-lowest-is {x} h p =
-    let z : (a : List Bool) → Is x a → count a ≡ 0 → ⊥ = λ a i e. absurd (omega (arith, size-is i)) in
-    let w : (a : List Bool) → Is x a → 0 < word a = λ a i. positive (word a) (λ e. z a i (word-count a e)) in
-    let f : (a : List Bool) → Is x a → trailingZeros room (x .word) ≡ first a = λ a i. ap (trailingZeros room) (word-is i)
-    ∙ trailing-word room a (i .short) (w a i) in
-    let d : Is x (digitsOf x) = is-digits x h in
-    record {
-      narrow = lt-of-le-of-lt (le-of-eq (f (digitsOf x) d)) (le-trans (first-lt (digitsOf x) (z (digitsOf x) d)) (d .short));
-      there = λ a i. subst (λ (k : ℕ). dig a k ≡ true) (sym (f a i)) (first-in a (z a i));
-      same = f;
-    }
-  where
-    positive : (n : ℕ) → (n ≡ 0 → ⊥) → 0 < n
-    positive n f = omega (arith, f)
+-- ---- the lowest of a set that is not empty, and the set without it
+
+module _ {x : Set} (h : x .word < 2 ^ room) (p : 0 < size x) where
+  some-digit : (a : List Bool) → Is x a → count a ≡ 0 → ⊥
+  some-digit a i e = absurd (omega (arith, size-is i))
+
+  pub word-some : 0 < x .word
+  unfolding ones onesIn
+  word-some = positive (x .word) (λ e. let z : size x ≡ 0 = ap ones e in omega arith)
+    where
+      positive : (n : ℕ) → (n ≡ 0 → ⊥) → 0 < n
+      positive n f = omega (arith, f)
+
+  digits-some : (a : List Bool) → Is x a → 0 < word a
+  digits-some a i = subst (λ (w : ℕ). 0 < w) (word-is i) word-some
+
+  pub lowest-is : Lowest x (trailingZeros room (x .word))
+  lowest-is =
+      let f : (a : List Bool) → Is x a → trailingZeros room (x .word) ≡ first a = λ a i. ap (trailingZeros room) (word-is i)
+      ∙ trailing-word room a (i .short) (digits-some a i) in
+      let d : Is x (digitsOf x) = is-digits x h in
+      record {
+        narrow = lt-of-le-of-lt (le-of-eq (f (digitsOf x) d)) (le-trans (first-lt (digitsOf x) (some-digit (digitsOf x) d)) (d .short));
+        there = λ a i. subst (λ (k : ℕ). dig a k ≡ true) (sym (f a i)) (first-in a (some-digit a i));
+        same = f;
+      }
+
+  pub rest-is : Rest x (record { word = bitAnd (x .word) (x .word - 1) })
+  rest-is =
+      let f : (a : List Bool) → Is x a → Is (record { word = bitAnd (x .word) (x .word - 1) }) (less a (only (first a))) = λ a i. record {
+        short = le-trans (le-of-eq (length-less a (only (first a)))) (i .short);
+        words = packs (less a (only (first a))) (ap (λ (w : ℕ). bitAnd w (w - 1)) (word-is i) ∙ rest-word a (digits-some a i));
+      } in
+      let a = digitsOf x in
+      let d : Is x (digitsOf x) = is-digits x h in
+      record {
+        one-fewer = omega (arith, count-only a (first a) (first-in a (some-digit a d)), size-is d, size-is (f a d));
+        same = f;
+      }
+
+-- it is the set without that number
+pub rest-drops : {x r : Set} {k : ℕ} → Lowest x k → Rest x r → Dropped x k r
+rest-drops {x} {r} {k} low d = record {
+  fewer = λ q. omega (arith, d .one-fewer);
+  same = λ a i. subst (λ (j : ℕ). Is r (less a (only j))) (sym (low .same a i)) (d .same a i);
+}
 
 -- ---- none, one alone, and the n lowest
 

@@ -8,11 +8,12 @@ use native.Mathlib.Nat.{pow-suc, mod-eq-of-lt, le-of-suc-le-suc, le-trans, zero-
 use native.Mathlib.Omega.{arith}
 use lib.ListN.{length, replicate}
 use lib.Arith.{digits-div, digits-mod}
-use lib.Bits.{bitAnd, bitOr, and-step, or-step, and-zero-r, or-zero-r, and-mask}
+use lib.Bits.{bitAnd, bitOr, and-step, or-step, and-zero-r, or-zero-r, and-self, and-mask}
 use lib.Dec.{eqb}
 use lib.Count.{ones, onesIn, ones-step, trailingZeros, under}
 use lib.Pow.{pow-pos, pow-mono, pow-lt}
 use Rattle.sets.specs.Word.{bit, word, digits, dig, count, first, both, either, less, only}
+use Rattle.sets.proofs.Digits.{less-nil}
 
 bit-lt : (b : Bool) → bit b < 2
 bit-lt true = omega arith
@@ -128,6 +129,19 @@ trailing-word (suc k) (false ∷ xs) h p =
     ap (λ (d : ℕ). under d (trailingZeros k ((word xs * 2 + 0) / 2))) (digits-mod (word xs) (bit-lt false))
     ∙ ap (λ (v : ℕ). suc (trailingZeros k v)) (digits-div (word xs) (bit-lt false))
     ∙ ap suc (trailing-word k xs (le-of-suc-le-suc h) (omega arith))
+
+-- `a & (a - 1)`
+pub rest-word : (a : List Bool) → 0 < word a → bitAnd (word a) (word a - 1) ≡ word (less a (only (first a)))
+unfolding word less only first
+rest-word [] p = absurd (omega arith)
+rest-word (true ∷ xs) p =
+    let e : word xs * 2 + 1 - 1 ≡ word xs * 2 + 0 = omega arith in
+    ap (bitAnd (word xs * 2 + 1)) e ∙ and-digits (word xs) (word xs) (bit-lt true) (bit-lt false)
+    ∙ ap (λ (w : ℕ). w * 2 + 0) (and-self (word xs) ∙ ap word (sym (less-nil xs)))
+rest-word (false ∷ xs) p =
+    let e : word xs * 2 + 0 - 1 ≡ (word xs - 1) * 2 + 1 = omega arith in
+    ap (bitAnd (word xs * 2 + 0)) e ∙ and-digits (word xs) (word xs - 1) (bit-lt false) (bit-lt true)
+    ∙ ap (λ (w : ℕ). w * 2 + 0) (rest-word xs (omega arith))
 
 -- ---- every word below 2 ^ n is that of a list of n digits
 

@@ -2,7 +2,7 @@
 use mathlib.Core.Bool.{Bool, true}
 use mathlib.Core.List.{List}
 use mathlib.Core.Path.{_≡_}
-use Prim.Native.Nat.{ℕ, _≤_, _<_}
+use Prim.Native.Nat.{ℕ, suc, _≤_, _<_}
 use lib.Count.{ones}
 use lib.ListN.{length, getD}
 use Rattle.sets.specs.Word.{word, digits, dig, less, only, first}
@@ -52,6 +52,11 @@ pub record Lowest (x : Set) (r : ℕ) : Type 0 where
 pub record Dropped (x : Set) (k : ℕ) (r : Set) : Type 0 where
   pub fewer : Has x k → size r < size x
   pub same : (a : List Bool) → Is x a → Is r (less a (only k))
+
+-- r is x without its lowest
+pub record Rest (x r : Set) : Type 0 where
+  pub one-fewer : suc (size r) ≡ size x
+  pub same : (a : List Bool) → Is x a → Is r (less a (only (first a)))
 
 -- how many edges a list of words is of
 abbrev pub edgeCount : List ℕ → ℕ
