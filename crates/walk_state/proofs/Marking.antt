@@ -1,9 +1,8 @@
 -- The marks after an edge is passed: edges above it are still ahead in this sweep, those below wait for the next. Assumes nothing.
-use mathlib.Core.Bool.{Bool, true, false}
+use mathlib.Core.Bool.{Bool, true, false, _&&_, and-true}
 use mathlib.Core.List.{List, [], _∷_}
-use mathlib.Core.Path.{_≡_, refl, ap, _∙_, subst}
-use Prim.Native.Nat.{ℕ, suc, _+_, _^_, _≤_, _<_}
-use native.Mathlib.Numerals.{add-one}
+use mathlib.Core.Path.{_≡_, refl, ap, ap₂, _∙_, subst}
+use Prim.Native.Nat.{ℕ, zero, suc, _+_, _*_, _^_, _≤_, _<_}
 use native.Mathlib.Omega.{arith}
 use lib.Dec.{eqb}
 use lib.ListN.{length, replicate}
@@ -55,6 +54,24 @@ other-digits : {x : Set} {a : List Bool} (b : List Bool) → Is x a → length b
 unfolding packedSet
 other-digits b i h e = record { short = h; words = i .words ∙ ap (λ (w : ℕ). record { word = w }) e }
 
+-- those above e, as the code takes them: not below e, and not e
+above-is : (t : List Bool) (e : ℕ) → less (less t (replicate e true)) (only e) ≡ less t (replicate (suc e) true)
+unfolding less only
+above-is [] e = refl
+above-is (x ∷ t) zero = refl
+above-is (x ∷ t) (suc e) = ap₂ (λ (b : Bool) (y : List Bool). b ∷ y) (and-true (x && false)) (above-is t e)
+
+-- those below e: the same word
+below-word : (t : List Bool) (e : ℕ) → word (both t (replicate e true)) ≡ word (less (both t (replicate (suc e) true)) (only e))
+unfolding word both less only
+below-word [] e = refl
+below-word (true ∷ []) zero = refl
+below-word (true ∷ y ∷ t) zero = refl
+below-word (false ∷ []) zero = refl
+below-word (false ∷ y ∷ t) zero = refl
+below-word (true ∷ t) (suc e) = ap (λ (w : ℕ). w * 2 + 1) (below-word t e)
+below-word (false ∷ t) (suc e) = ap (λ (w : ℕ). w * 2 + 0) (below-word t e)
+
 -- ---- the next marks
 
 module _ (sides : List ℕ) (m : Marks) (p : 0 < size (m .ahead)) {e : ℕ} (low : Lowest (m .ahead) e) {gone : Set}
@@ -94,24 +111,27 @@ module _ (sides : List ℕ) (m : Marks) (p : 0 < size (m .ahead)) {e : ℕ} (low
   }
 
   -- some were: of their edges, those below the one passed wait
-  pub marked-some : (decided : Set) → 0 < size decided → {x low-ones above upto below ahead later : Set} → Gathered sides decided x
-      → Is low-ones (replicate (e + 1) true) → Minus x low-ones above → Joint gone above ahead either → Joint x low-ones upto both → Dropped upto e below
-      → Joint (m .later) below later either → ahead .word < 2 ^ room → later .word < 2 ^ room → {r : Marks} → Turned ahead later r
-      → Marked sides m decided r
+  pub marked-some : (decided : Set) → 0 < size decided → {x low-ones most above ahead below later : Set} → Gathered sides decided x
+      → Is low-ones (replicate e true) → Minus x low-ones most → Dropped most e above → Joint gone above ahead either
+      → Joint x low-ones below both → Joint (m .later) below later either → ahead .word < 2 ^ room → later .word < 2 ^ room → {r : Marks}
+      → Turned ahead later r → Marked sides m decided r
   unfolding nextAhead nextLater
-  marked-some decided n {x} {low-ones} {above} {upto} {below} {ahead} {later} g w up ja down drop jl ha hl t = record {
+  marked-some decided n {x} {low-ones} {most} {above} {ahead} {below} {later} g w up drop ja down jl ha hl t = record {
     few = omega (arith, t .sum, counted ahead ha .under, counted later hl .under);
     fewer = λ z. absurd (omega arith);
     same = λ masks y a l s i k.
         let f = k .ahead-is in
-        let q : replicate (e + 1) true ≡ passed a
-        = ap (λ (j : ℕ). replicate j true) (add-one e ∙ ap suc (low .same a f)) ∙ passed-is a (some-in f p) in
-        let o : Is low-ones (passed a) = subst (Is low-ones) q w in
+        let o = touched masks y in
         let u = g masks y s i in
-        let b = both (touched masks y) (passed a) in
-        let v : Is below (less b (only (first a)))
-        = subst (λ (j : ℕ). Is below (less b (only j))) (low .same a f) (drop .same b (down (touched masks y) (passed a) u o)) in
-        t .same (either (after a) (less (touched masks y) (passed a))) (either l (less b (only (first a))))
-        (ja (after a) (less (touched masks y) (passed a)) (drops low d a f) (up .same (touched masks y) (passed a) u o))
-        (jl l (less b (only (first a))) (k .later-is) v);
+        let q : replicate (suc e) true ≡ passed a
+        = ap (λ (j : ℕ). replicate (suc j) true) (low .same a f) ∙ passed-is a (some-in f p) in
+        let v : Is above (less o (passed a))
+        = subst (Is above) (above-is o e ∙ ap (less o) q) (drop .same (less o (replicate e true)) (up .same o (replicate e true) u w)) in
+        let b = less (both o (passed a)) (only (first a)) in
+        let c : word (both o (replicate e true)) ≡ word b
+        = below-word o e ∙ ap₂ (λ (z : List Bool) (j : ℕ). word (less (both o z) (only j))) q (low .same a f) in
+        let h : length b ≤ room
+        = omega (arith, length-less (both o (passed a)) (only (first a)), length-both o (passed a), length-touched masks y, s .few) in
+        t .same (either (after a) (less o (passed a))) (either l b) (ja (after a) (less o (passed a)) (drops low d a f) v)
+        (jl l b (k .later-is) (other-digits b (down o (replicate e true) u w) h c));
   }

@@ -48,18 +48,19 @@ impl State {
         }
     }
 
-    // On the edge m are taken and l undecided; l is counted only where m is below 2.
+    // On the edge M are taken and L undecided: the ones of `on` and of `free`, M + L those of both. Each count is held to one number
+    // only, which a machine that has no instruction for counts then need not count beyond.
     fn settled_on(self, mask: Set) -> Passed
         ensures { λ r. ⌜ SettledOn self mask r ⌝ }
     {
         let taken = self.taken;
         let undecided = self.undecided;
+        let on = mask.and(taken);
         let free = mask.and(undecided);
-        let m = mask.and(taken).count();
-        if 2 < m {
-            return Passed::Broken;
-        }
-        if m == 2 {
+        if 1 < on.count() {
+            if 1 < on.rest().count() {
+                return Passed::Broken;
+            }
             let state = State {
                 taken: taken,
                 undecided: undecided.minus(free),
@@ -69,11 +70,11 @@ impl State {
                 decided: free,
             });
         }
-        let l = free.count();
-        if m + l < 2 {
+        let known = on.or(free);
+        if known.count() < 2 {
             return Passed::Broken;
         }
-        if m + l == 2 {
+        if known.rest().count() < 2 {
             let state = State {
                 taken: taken.or(free),
                 undecided: undecided.minus(free),
@@ -110,7 +111,7 @@ fn gathered(sides: &[u64; MOST_CANDIDATES], set: Set) -> Set
     while !left.is_empty() {
         let k = left.lowest();
         all = all.or(Set::of_edge(sides, k));
-        left = left.without(k);
+        left = left.rest();
     }
     all
 }
@@ -140,15 +141,15 @@ fn marked(sides: &[u64; MOST_CANDIDATES], m: Marks, decided: Set) -> Marks
     let ahead = m.ahead;
     let later = m.later;
     let e = ahead.lowest();
-    let after = ahead.without(e);
+    let after = ahead.rest();
     if decided.is_empty() {
         return turned(after, later);
     }
     let touched = gathered(sides, decided);
-    let passed = Set::lowest_of(e + 1);
+    let below = Set::lowest_of(e);
     turned(
-        after.or(touched.minus(passed)),
-        later.or(touched.and(passed).without(e)),
+        after.or(touched.minus(below).without(e)),
+        later.or(touched.and(below)),
     )
 }
 

@@ -5,6 +5,7 @@ use borrow.Author.Tests.{not-true, not-false}
 use native.Mathlib.Omega.{arith}
 use Prim.Native.Nat.{_<_}
 use Rattle.sets.specs.Sets.{size}
+use Rattle.sets.proofs.Sets.{rest-drops}
 use Rattle.walk_state.proofs.Lowest.{is-none, is-some}
 use Rattle.walk_state.proofs.Gathering.{Gathering, gathering-start, gathering-more, gathering-end}
 use Rattle.walk_state.proofs.gathered.Statement.{statement}
@@ -18,7 +19,7 @@ abbrev μ-loop : tie.MeasureT-loop
 
 -- ---- the ways back: from the end of a turn to its candidate, from there to the loop, and from the loop to the start
 
-abbrev chosen : tie.After-without Inv-loop μ-loop → tie.After-lowest Inv-loop μ-loop
+abbrev chosen : tie.After-rest Inv-loop μ-loop → tie.After-lowest Inv-loop μ-loop
 chosen c = c .before .before .before .before
 
 abbrev turn : tie.Then1 Inv-loop μ-loop → tie.At-loop Inv-loop μ-loop
@@ -53,11 +54,11 @@ of-edge-requires c κs = let low = c .before .lowest .ensures in omega (arith, l
 or-requires : tie.Need-or-requires Inv-loop μ-loop
 or-requires c κs = search needs
 
-without-requires : tie.Need-without-requires Inv-loop μ-loop
-without-requires c κs = c .before .before .before .lowest .ensures .narrow
+rest-requires : tie.Need-rest-requires Inv-loop μ-loop
+rest-requires c κs = some-left (c .before .before .before .before)
 
 loop-less : tie.Need-loop-less Inv-loop μ-loop
-loop-less c = c .without .ensures .fewer (chosen c .lowest .ensures .there)
+loop-less c = let d = c .rest .ensures in omega (arith, d)
 
 loop-again : tie.Need-loop-again Inv-loop μ-loop
 loop-again c =
@@ -65,7 +66,7 @@ loop-again c =
     let t = turn (l .before) in
     let a = start t .args in
     gathering-more (a .sides .now) (a .set) (t .loop .inv) (some-left (l .before)) (l .lowest .ensures)
-    (c .before .before .of-edge .ensures) (c .before .or .ensures) (c .without .ensures)
+    (c .before .before .of-edge .ensures) (c .before .or .ensures) (rest-drops (l .lowest .ensures) (c .rest .ensures))
 
 returns : tie.Need-returns Inv-loop μ-loop
 returns c =
@@ -86,7 +87,7 @@ gathered-spec =
     lowest-requires
     of-edge-requires
     or-requires
-    without-requires
+    rest-requires
     loop-less
     loop-again
     returns)
