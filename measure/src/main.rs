@@ -1,7 +1,9 @@
-//! Runs each stage of a conversion once, by the proved archive and by the reference's fast version, on the named drawing or on 1,000
-//! generated ones, and holds the two to each other. `tools/measure` counts what each stage executes.
+//! Runs each stage of a conversion once, and the conversion as a whole, by the proved archive and by the reference's fast version, on the
+//! named drawing or on 1,000 generated ones, and holds the two to each other. `tools/measure` counts what each stage executes. With the
+//! word `stack` it only converts, and prints how many bytes of stack that took at most, proved and fast.
 mod plain;
 mod proved;
+mod stack;
 
 use nibgravel_reference::drawing::{Drawing, Source};
 use nibgravel_reference::fast;
@@ -21,6 +23,7 @@ fn stages(d: &Drawing) {
         return;
     };
     let lists = lists(d);
+    conversion(d, &lists);
     let refused = proved_rules(black_box(&lists));
     assert_eq!(refused, fast_rules(black_box(&fast)));
     if refused != 0 {
@@ -40,6 +43,26 @@ fn stages(d: &Drawing) {
     if faces.count <= MOST_CANDIDATES {
         walks(fast, found, candidates, &lists, &faces);
     }
+}
+
+fn conversion(d: &Drawing, lists: &Lists) {
+    let (xyz, ends) = d.lists();
+    let (mut proved, mut fast) = (NO_ROOMS, NO_ROOMS);
+    assert_eq!(
+        proved_conversion(black_box(lists), &mut proved),
+        fast_conversion(black_box(&xyz), black_box(&ends), &mut fast)
+    );
+    assert_eq!(proved, fast);
+}
+
+/// How many bytes of stack a conversion takes, proved and fast.
+fn stack_of(d: &Drawing) -> (usize, usize) {
+    let (lists, (xyz, ends)) = (lists(d), d.lists());
+    let mut rooms = NO_ROOMS;
+    (
+        stack::bytes(|| proved_conversion(black_box(&lists), &mut rooms)),
+        stack::bytes(|| fast_conversion(black_box(&xyz), black_box(&ends), &mut rooms)),
+    )
 }
 
 /// The tables and the walk.
@@ -104,18 +127,41 @@ fn same_loops(loops: &Loops, found: &[fast::Loop]) {
     }
 }
 
-fn main() {
-    let name = std::env::args().nth(1).unwrap_or_default();
+/// The drawing of this name, or all that are generated.
+fn drawings(name: &str) -> Vec<Drawing> {
     if name == "generated" {
         let mut r = Rng::new(77);
-        for _ in 0..1_000 {
+        let mut generated = || {
             let d = counted_drawing(&mut r, 32);
-            stages(&changed(&mut r, d));
-        }
-    } else if let Some((_, d)) = named().iter().find(|(known, _)| *known == name) {
-        stages(d);
-    } else {
+            changed(&mut r, d)
+        };
+        return (0..1_000).map(|_| generated()).collect();
+    }
+    let named = named();
+    named
+        .into_iter()
+        .filter(|(known, _)| *known == name)
+        .map(|(_, d)| d)
+        .collect()
+}
+
+fn main() {
+    let name = std::env::args().nth(1).unwrap_or_default();
+    let drawings = drawings(&name);
+    if drawings.is_empty() {
         eprintln!("no drawing `{name}`");
         std::process::exit(2);
     }
+    if std::env::args().nth(2).as_deref() == Some("stack") {
+        let read = |d: &&Drawing| fast::Drawing::read(Source::Sheet(&pack_sheet(d))).is_ok();
+        let most = |(p, f): (usize, usize), (q, g): (usize, usize)| (p.max(q), f.max(g));
+        let (proved, fast) = drawings
+            .iter()
+            .filter(read)
+            .map(stack_of)
+            .fold((0, 0), most);
+        println!("{proved} {fast}");
+        return;
+    }
+    drawings.iter().for_each(stages);
 }

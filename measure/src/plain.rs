@@ -1,4 +1,7 @@
 //! The stages by the reference's fast version.
+use crate::proved::Rooms;
+use nibgravel_reference::convert::Answer;
+use nibgravel_reference::drawing::Source;
 use nibgravel_reference::fast;
 use nibgravel_reference::numbers::MOST_WORK;
 
@@ -35,4 +38,15 @@ pub fn fast_clashes(d: &fast::Drawing, candidates: &[fast::Loop]) -> (fast::Tabl
 #[inline(never)]
 pub fn fast_walk(tables: &fast::Tables, candidates: &[fast::Loop], leaf: &mut fast::Leaf) -> u64 {
     fast::Walk::run(tables, candidates, MOST_WORK, |taken| leaf.test(taken)).1
+}
+
+/// The work of a conversion, or the number that refuses it.
+#[no_mangle]
+#[inline(never)]
+pub fn fast_conversion(xyz: &[i64], ends: &[i64], r: &mut Rooms) -> u64 {
+    let source = Source::Lists(xyz, ends);
+    match fast::convert(source, MOST_WORK, &mut r.faces, &mut r.solids) {
+        Answer::Refused(refusal) => refusal.number as u64,
+        Answer::Ended { work, .. } | Answer::Report { work, .. } => work as u64,
+    }
 }

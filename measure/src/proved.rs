@@ -27,6 +27,10 @@ extern "C" {
         on: &[u64; MOST_EDGES], up: &[u64; MOST_EDGES], e: usize, sides: &[u64; MOST_CANDIDATES],
         clashes: &[u64; MOST_CANDIDATES], sixes: &[i64; MOST_CANDIDATES], n: usize, limit: u64, out: &mut [u64; SOLID_ROOM],
     ) -> u64;
+    fn measured_conversion(
+        xyz: *const i64, xyz_len: usize, ends: *const u8, ends_len: usize, limit: u64, faces: *mut u8, faces_len: usize,
+        solids: *mut u64, solids_len: usize,
+    ) -> u64;
 }
 
 /// The two lists of a drawing, its neighbour words, and the numbers of its edges by their ends.
@@ -62,6 +66,13 @@ pub struct Tables {
     pub sixes: [i64; MOST_CANDIDATES],
 }
 
+/// The two rooms that a conversion writes to.
+#[derive(Debug, PartialEq)]
+pub struct Rooms {
+    pub faces: [u8; FACE_ROOM],
+    pub solids: [u64; SOLID_ROOM],
+}
+
 pub const NO_LOOPS: Loops = Loops {
     count: 0,
     table: [0; LOOP_ROOM],
@@ -82,6 +93,11 @@ pub const NO_TABLES: Tables = Tables {
     up: [0; MOST_EDGES],
     clashes: [0; MOST_CANDIDATES],
     sixes: [0; MOST_CANDIDATES],
+};
+
+pub const NO_ROOMS: Rooms = Rooms {
+    faces: [0; FACE_ROOM],
+    solids: [0; SOLID_ROOM],
 };
 
 #[no_mangle]
@@ -131,5 +147,16 @@ pub fn proved_walk(t: &Tables, edges: usize, f: &Faces, out: &mut [u64; SOLID_RO
         measured_walk(
             &t.on, &t.up, edges, &f.sides, &t.clashes, &t.sixes, f.count, MOST_WORK, out,
         )
+    }
+}
+
+/// The work of a conversion, or the number that refuses it.
+#[no_mangle]
+#[inline(never)]
+#[rustfmt::skip]
+pub fn proved_conversion(d: &Lists, r: &mut Rooms) -> u64 {
+    let (x, e, f, s) = (&d.xyz, &d.ends, &mut r.faces, &mut r.solids);
+    unsafe {
+        measured_conversion(x.as_ptr(), x.len(), e.as_ptr(), e.len(), MOST_WORK, f.as_mut_ptr(), f.len(), s.as_mut_ptr(), s.len())
     }
 }

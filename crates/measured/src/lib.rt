@@ -1,5 +1,5 @@
-// The stages of a conversion one by one, for a program that counts what each costs (tools/measure). No entry points: each asks what its
-// stage asks.
+// The stages of a conversion one by one, and a conversion as a whole, for a program that counts what each costs (tools/measure). No entry
+// points: each asks what its stage asks.
 ghost use Rattle.paper_laws.specs.InRange.{InRange};
 ghost use Rattle.candidates.specs.Keeps.{Keeps};
 ghost use Rattle.tables.specs.Words.{WordsAt};
@@ -7,6 +7,7 @@ ghost use Rattle.walk.specs.Walk.{Searching};
 ghost use Rattle.measured.specs.Asked.{Loops};
 use loop_words::PAIRS;
 use paper::Answer;
+use paper::Conversion;
 use paper::FACE_ROOM;
 use paper::LOOP_ROOM;
 use paper::MOST_CANDIDATES;
@@ -125,4 +126,24 @@ pub extern "C" fn measured_walk(
 {
     let t = walk::search(on, up, e, sides, clashes, sixes, n, limit, out);
     t.work
+}
+
+// A conversion of lent lists: how many assumptions its walk made, or the number of 1 to 16 that refuses it.
+#[no_mangle]
+pub extern "C" fn measured_conversion(
+    xyz: &[i64],
+    ends: &[u8],
+    limit: u64,
+    faces: &mut [u8],
+    solids: &mut [u64],
+) -> u64 {
+    let answer = convert::convert(xyz, ends, limit, faces, solids);
+    match answer {
+        Conversion::One { work, .. } => work,
+        Conversion::Several { work, .. } => work,
+        Conversion::NoSolid { work, .. } => work,
+        Conversion::Many { work, .. } => work,
+        Conversion::TooLong { work, .. } => work,
+        Conversion::Refused(r) => r.number as u64,
+    }
 }
