@@ -48,8 +48,8 @@ impl State {
         }
     }
 
-    // On the edge M are taken and L undecided: the ones of `on` and of `free`, M + L those of both. Each count is held to one number
-    // only, which a machine that has no instruction for counts then need not count beyond.
+    // On the edge M are taken and L undecided, the ones of `on` and of `free`; M + L are those of both. A rest has one fewer, so that
+    // each count is only told from 2, and a machine that has no instruction for counts need not count any further.
     fn settled_on(self, mask: Set) -> Passed
         ensures { λ r. ⌜ SettledOn self mask r ⌝ }
     {
