@@ -1,12 +1,10 @@
 -- From the tables of a drawing to the walk of them. Assumes nothing.
 use mathlib.Core.List.{List}
-use mathlib.Core.Path.{_≡_, sym, subst, _∙_}
+use mathlib.Core.Path.{_≡_, subst, _∙_}
 use Prim.Native.Nat.{ℕ, _≤_, _/_}
 use native.Mathlib.Omega.{arith}
-use lib.IntN.{ℤ, pos}
-use lib.ListN.{length, replicate}
-use Rattle.exact.specs.Size.{Within}
-use Rattle.exact.proofs.Size.{within-lit}
+use lib.IntN.{ℤ}
+use lib.ListN.{length}
 use Rattle.paper.specs.Numbers.{mostSolids, faceRoom}
 use Rattle.paper.specs.Refusals.{firstOf}
 use Rattle.paper.specs.Format.{editionOne}
@@ -16,26 +14,15 @@ use Rattle.paper.specs.Loops.{candidates}
 use Rattle.paper.specs.Walk.{search}
 use Rattle.paper.specs.Conversion.{accepted}
 use Rattle.paper.specs.declared.Answer.the-variants.{Fine}
-use Rattle.drawing_lists.proofs.Range.{lent-range}
 use Rattle.loop_table.proofs.Loops.{candidates-of}
 use Rattle.loop_table.proofs.Rows.{rows-kept}
-use Rattle.walk_words.specs.Words.{mostSix, SmallSixes}
 use Rattle.walk.specs.Tally.{Stored}
 use Rattle.walk.specs.Walk.{Searching, Searched}
 use Rattle.walk.specs.declared.tally.Tally.{Tally}
 use Rattle.tables.specs.Tables.{Ready}
 use Rattle.tables.specs.declared.rows.Counts.{Counts}
-use Rattle.tables.proofs.Listing.{all-same}
+use Rattle.tables.proofs.Given.{few-edges}
 use Rattle.convert.specs.Walked.{tablesIn, Done}
-
--- numbers that are all 0 are small
-pub no-sixes : SmallSixes (replicate 64 (pos 0))
-no-sixes = record { small = λ k h. subst (Within mostSix) (sym (all-same (pos 0) 64 k)) (within-lit tt) }
-
--- at most 64 edges, which 5 sees to
-pub few-edges : (xyz : List ℤ) (ends : List ℕ) → Fine ≡ firstOf (lentChecks editionOne xyz ends)
-    → length ends / 2 ≤ editionOne .«most_edges»
-few-edges xyz ends ok = let r = lent-range xyz ends ok in omega (arith, r .links .whole, r .links .most)
 
 module _ {xyz : List ℤ} {ends rows₀ rows on up sides clashes : List ℕ} {sixes : List ℤ} {c : Counts}
     (r : Ready xyz ends rows₀ rows on up sides clashes sixes c) where

@@ -1,9 +1,9 @@
 -- What a conversion says and leaves in the two rooms. Assumes nothing.
 use mathlib.Core.List.{List}
 use mathlib.Core.Path.{_≡_}
-use Prim.Native.Nat.{ℕ, _*_, _≤_}
+use Prim.Native.Nat.{ℕ, _≤_}
 use lib.IntN.{ℤ}
-use lib.ListN.{length, take}
+use lib.ListN.{length}
 use Rattle.paper.specs.Numbers.{faceRoom, solidRoom}
 use Rattle.paper.specs.Refusals.{firstOf}
 use Rattle.paper.specs.Format.{editionOne}
@@ -17,6 +17,7 @@ use Rattle.paper.specs.declared.Conversion.{Conversion}
 use Rattle.paper.specs.declared.Drawing.{Drawing}
 use Rattle.paper_laws.specs.InRange.{Held}
 use Rattle.tables.specs.Tables.{checksOf}
+use Rattle.tables.specs.Given.{pointsOf, linksOf}
 use Rattle.convert.specs.Walked.{tablesIn, logOf}
 
 -- an answer, and the rooms at exit
@@ -44,13 +45,6 @@ abbrev pub Converts : List ℤ → List ℕ → ℕ → List ℕ → List ℕ �
 Converts xyz ends limit faces₀ faces solids₀ solids r = leaves r faces solids ≡ behind (wire xyz ends) limit faces₀ solids₀
 
 -- ---- the same of a drawing by value
-
--- its two lists
-abbrev pub pointsOf : Drawing → List ℤ
-pointsOf d = take (3 * d .vertices) (d .xyz)
-
-abbrev pub linksOf : Drawing → List ℕ
-linksOf d = take (2 * d .edges) (d .ends)
 
 pub record DrawingAt (d : Drawing) (faces solids : List ℕ) : Type 0 where
   pub held : Held d

@@ -2,3 +2,4 @@
 pub mod Rows
 pub mod Words
 pub mod Tables
+pub mod Given

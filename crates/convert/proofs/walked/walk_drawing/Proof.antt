@@ -1,12 +1,12 @@
 -- `convert::walked::walk_drawing`: rooms with nothing in them are lent to the tables, and the tables to the walk. Assumes nothing.
-use mathlib.Core.Path.{_≡_, refl, subst}
+use mathlib.Core.Path.{_≡_, subst}
 use borrow.Author.Needs.{needs}
 use denote.Ref.{now}
 use Rattle.tables.specs.Tables.{TabledIs, Ready}
 use Rattle.tables.specs.declared.Tabled.{Tabled}
 use Rattle.tables.specs.declared.Tabled.the-variants as T
-use Rattle.tables.proofs.Listing.{all-same}
-use Rattle.convert.proofs.Walking.{no-sixes, searching, done}
+use Rattle.tables.proofs.Given.{clear-rooms}
+use Rattle.convert.proofs.Walking.{searching, done}
 use Rattle.convert.proofs.walked.walk_drawing.Statement.{statement}
 use Rattle.convert.proofs.walked.walk_drawing.Tie as tie
 
@@ -45,20 +45,7 @@ tabled c = said (made c) (T.Ready (c .tabled2 .given .0 .0)) (c .tabled2 .given 
 -- ---- the needs
 
 tables-requires : tie.Need-tables-requires
-tables-requires c κs =
-    let p = c .before .before .before .before .before .before .before .pre in
-    record {
-      passed = p .passed;
-      row-room = p .row-room;
-      on-clear = record { room-is = refl; none = all-same 0 64 };
-      up-clear = record { room-is = refl; none = all-same 0 64 };
-      side-room = refl;
-      no-side = all-same 0 64;
-      clash-room = refl;
-      no-clash = all-same 0 64;
-      six-room = refl;
-      small = no-sixes;
-    }
+tables-requires c κs = let p = c .before .before .before .before .before .before .before .pre in clear-rooms (p .passed) (p .row-room)
 
 enum-known-tabled : tie.Need-enum-known-tabled
 enum-known-tabled c = search needs

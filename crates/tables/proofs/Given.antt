@@ -1,0 +1,69 @@
+-- From a drawing that passed 3 to 10, lent or read off a sheet, to what the tables ask for. Assumes nothing.
+use mathlib.Core.List.{List}
+use mathlib.Core.Path.{_≡_, refl, sym, subst, transport, _∙_}
+use Prim.Native.Nat.{ℕ, _≤_, _/_}
+use native.Mathlib.Omega.{arith}
+use lib.IntN.{ℤ, pos}
+use lib.ListN.{length, replicate}
+use Rattle.exact.specs.Size.{Within}
+use Rattle.exact.proofs.Size.{within-lit}
+use Rattle.paper.specs.Numbers.{faceRoom}
+use Rattle.paper.specs.Refusals.{firstOf}
+use Rattle.paper.specs.Format.{editionOne, coordinatesIn, endsIn}
+use Rattle.paper.specs.Sheet.{sheetChecks, lentChecks, sheetOf}
+use Rattle.paper.specs.Drawing.{wire}
+use Rattle.paper.specs.declared.Answer.the-variants.{Fine}
+use Rattle.paper.specs.declared.Sheet.{Sheet}
+use Rattle.sheet_laws.proofs.Accepted.{coordinates-are, ends-are}
+use Rattle.sheet_reader.proofs.Range.{read-range}
+use Rattle.means_sheets.proofs.Sheets.Read.{accepted-lent}
+use Rattle.drawing_lists.proofs.Range.{lent-range}
+use Rattle.walk_words.specs.Words.{mostSix, SmallSixes}
+use Rattle.tables.specs.Given.{pointsOf, linksOf, Passed, Given}
+use Rattle.tables.specs.Tables.{TablesAt}
+use Rattle.tables.proofs.Listing.{all-same}
+
+-- ---- rooms with nothing in them
+
+-- numbers that are all 0 are small
+no-sixes : SmallSixes (replicate 64 (pos 0))
+no-sixes = record { small = λ k h. subst (Within mostSix) (sym (all-same (pos 0) 64 k)) (within-lit tt) }
+
+pub clear-rooms : {xyz : List ℤ} {ends rows : List ℕ} → Passed xyz ends → length rows ≡ faceRoom
+    → TablesAt xyz ends rows (replicate 64 0) (replicate 64 0) (replicate 64 0) (replicate 64 0) (replicate 64 (pos 0))
+clear-rooms ok long = record {
+  passed = ok;
+  row-room = long;
+  on-clear = record { room-is = refl; none = all-same 0 64 };
+  up-clear = record { room-is = refl; none = all-same 0 64 };
+  side-room = refl;
+  no-side = all-same 0 64;
+  clash-room = refl;
+  no-clash = all-same 0 64;
+  six-room = refl;
+  small = no-sixes;
+}
+
+-- ---- at most 64 edges, which 5 sees to
+pub few-edges : (xyz : List ℤ) (ends : List ℕ) → Passed xyz ends → length ends / 2 ≤ editionOne .«most_edges»
+few-edges xyz ends ok = let r = lent-range xyz ends ok in omega (arith, r .links .whole, r .links .most)
+
+-- ---- the lists that an accepted sheet holds are those in front of the arrays of the drawing that is read
+
+module _ (s : List ℕ) {r : Sheet} (e : r ≡ sheetOf editionOne s) (ok : Fine ≡ firstOf (sheetChecks editionOne s)) where
+  pub sheet-given : Given (r .drawing)
+  unfolding sheetOf
+  sheet-given =
+      let c = coordinates-are editionOne s ok in
+      let n = ends-are editionOne s ok in
+      let fine = accepted-lent editionOne s ok ∙ (λ i. firstOf (lentChecks editionOne (c i) (n i))) in
+      subst (λ (x : Sheet). Given (x .drawing)) (sym e) (record { held = read-range s ok; passed = fine })
+
+  -- what holds of its lists holds of those on the sheet
+  pub sheet-lists : (P : List ℤ → List ℕ → Type 0) → P (pointsOf (r .drawing)) (linksOf (r .drawing))
+      → P (coordinatesIn editionOne s) (endsIn editionOne s)
+  sheet-lists P h =
+      let same = subst (λ (x : Sheet). P (pointsOf (x .drawing)) (linksOf (x .drawing))) e h in
+      let c = sym (coordinates-are editionOne s ok) in
+      let n = sym (ends-are editionOne s ok) in
+      transport (λ i. P (c i) (n i)) same
