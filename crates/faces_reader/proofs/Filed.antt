@@ -63,10 +63,10 @@ module _ (v : ℕ) (fs : List Loop)
 -- ---- the rows of a list
 
 module _ (f : Format) (v : ℕ) (s : List ℕ) where
-  abbrev held : Faces
+  abbrev pub held : Faces
   held = record { answer = Fine; count = countIn f s; rows = padded (flatMap row (facesIn f s)) allRows 0 }
 
-  fine-is : Fine ≡ facesOf f v s .answer → (wellShaped f v s ≡ true) × (facesOf f v s ≡ held)
+  pub fine-is : Fine ≡ facesOf f v s .answer → (wellShaped f v s ≡ true) × (facesOf f v s ≡ held)
   unfolding facesOf
   fine-is e = go (wellShaped f v s) refl e
     where

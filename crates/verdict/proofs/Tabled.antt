@@ -1,0 +1,51 @@
+-- From the tables of a drawing that passed 3 to 16 to what the list's check asks for. Assumes nothing.
+use mathlib.Core.List.{List}
+use mathlib.Core.Path.{_≡_, sym, _∙_}
+use Prim.Native.Nat.{ℕ, _/_}
+use native.Mathlib.Omega.{arith}
+use lib.IntN.{ℤ}
+use lib.ListN.{length}
+use Rattle.paper.specs.Numbers.{faceRoom}
+use Rattle.paper.specs.Drawing.{wire}
+use Rattle.paper.specs.Loops.{candidates}
+use Rattle.drawing_lists.proofs.Range.{lent-range}
+use Rattle.loop_table.proofs.Loops as Loops
+use Rattle.loop_table.proofs.Loops.{candidates-of}
+use Rattle.loop_table.proofs.Rows.{rows-held, rows-kept}
+use Rattle.tables.specs.Given.{Passed}
+use Rattle.tables.specs.Tables.{Ready}
+use Rattle.tables.specs.declared.rows.Counts.{Counts}
+use Rattle.tables.proofs.Given.{few-edges}
+use Rattle.verdict_faces.specs.Named.{Holds}
+use Rattle.verdict.specs.Checked.{ListAt}
+
+-- three coordinates for each vertex
+pub vertices-are : (xyz : List ℤ) (ends : List ℕ) → Passed xyz ends → length xyz / 3 ≡ length (wire xyz ends .vertices)
+vertices-are xyz ends ok =
+    let r = lent-range xyz ends ok in
+    omega (arith, r .points .whole, Loops.vertices-are r)
+
+module _ {xyz : List ℤ} {ends rows₀ rows on up sides clashes : List ℕ} {sixes : List ℤ} {c : Counts}
+    (r : Ready xyz ends rows₀ rows on up sides clashes sixes c) where
+  -- the rows are those of the candidates
+  pub rows-hold : Holds rows (c .candidates) (candidates (wire xyz ends))
+  rows-hold =
+      let d = wire xyz ends in
+      record {
+        rows = rows-held (candidates d) (candidates-of d .short) rows rows₀ (r .rows-are);
+        count = sym (r .candidates-are);
+        short = candidates-of d .short;
+      }
+
+  pub list-at : Passed xyz ends → length rows₀ ≡ faceRoom → ListAt rows (c .candidates) (length ends / 2) sixes
+  list-at ok whole =
+      let d = wire xyz ends in
+      record {
+        loops = candidates d;
+        held = rows-hold;
+        few = r .few;
+        rows-long =
+            rows-kept (candidates d) (candidates-of d .short) rows rows₀ (omega (arith, r .few, r .candidates-are, whole)) (r .rows-are) ∙ whole;
+        edges = few-edges xyz ends ok;
+        small = r .small;
+      }

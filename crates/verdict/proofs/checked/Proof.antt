@@ -1,0 +1,98 @@
+-- `verdict::checked`: rooms with nothing in them are lent to the tables, and the tables to the list's check. Assumes nothing.
+use mathlib.Core.Path.{_≡_, refl, subst}
+use Prim.Native.Nat.{ℕ}
+use lib.ListN.{replicate}
+use denote.Ref.{now}
+use Rattle.paper.specs.Refusals.{firstOf}
+use Rattle.paper.specs.Verdict.{verdictFor}
+use Rattle.verdict.specs.Checked.{listChecks}
+use Rattle.paper.specs.Drawing.{wire}
+use Rattle.paper.specs.Loops.{candidates}
+use Rattle.paper.specs.Solids.{tablesOf}
+use Rattle.tables.specs.Tables.{TabledIs, Ready}
+use Rattle.tables.specs.declared.Tabled.{Tabled}
+use Rattle.tables.specs.declared.Tabled.the-variants as T
+use Rattle.tables.proofs.Given.{clear-rooms}
+use Rattle.verdict.proofs.Deciding.{drawing-stops, list-decides}
+use Rattle.verdict.proofs.Tabled.{list-at, vertices-are, rows-hold}
+use borrow.Author.Needs.{needs}
+use Rattle.verdict.proofs.checked.Statement.{statement}
+use Rattle.verdict.proofs.checked.Tie as tie
+
+-- ---- the ways back: from the list's check to the tables, and to the start
+
+abbrev ready : tie.After-sixes2 → tie.After-tabled2
+ready c = c .before .before .before .before .before .before .before
+
+abbrev made : tie.After-tabled2 → tie.After-tables
+made c = c .before .before
+
+abbrev start : tie.After-tables → tie.Start
+start c = c .before .before .before .before .before .before .before .before .before
+
+-- what was promised of the tables, once it is known which it is
+said : (c : tie.After-tables) (v : Tabled) → c .tables .result ≡ v
+    → let a = start c .args in
+    let l = c .tables .last .1 .1 in
+    TabledIs (now (a .xyz)) (now (a .ends)) (replicate 832 255) (l .0) (l .1 .0) (l .1 .1 .0) (l .1 .1 .1 .0) (l .1 .1 .1 .1 .0)
+    (l .1 .1 .1 .1 .1 .0) v
+said c v e =
+    let a = start c .args in
+    let l = c .tables .last .1 .1 in
+    subst
+    (TabledIs (now (a .xyz)) (now (a .ends)) (replicate 832 255) (l .0) (l .1 .0) (l .1 .1 .0) (l .1 .1 .1 .0) (l .1 .1 .1 .1 .0)
+    (l .1 .1 .1 .1 .1 .0))
+    e (c .tables .ensures)
+
+tabled : (c : tie.After-tabled2)
+    → let a = start (made c) .args in
+    let l = made c .tables .last .1 .1 in
+    Ready (now (a .xyz)) (now (a .ends)) (replicate 832 255) (l .0) (l .1 .0) (l .1 .1 .0) (l .1 .1 .1 .0) (l .1 .1 .1 .1 .0)
+    (l .1 .1 .1 .1 .1 .0) (c .tabled2 .given .0 .0)
+tabled c = said (made c) (T.Ready (c .tabled2 .given .0 .0)) (c .tabled2 .given .1)
+
+-- ---- the needs
+
+tables-requires : tie.Need-tables-requires
+tables-requires c κs = clear-rooms (c .before .before .before .before .before .before .before .before .pre) refl
+
+enum-known-tabled : tie.Need-enum-known-tabled
+enum-known-tabled c = search needs
+
+enum-known-tabled-2 : tie.Need-enum-known-tabled-2
+enum-known-tabled-2 c = search needs
+
+faces-checked-requires : tie.Need-faces-checked-requires
+faces-checked-requires c κs =
+    let t = ready c in
+    let o = start (made t) in
+    list-at (tabled t) (o .pre) refl
+
+returns : tie.Need-returns
+returns c =
+    let m = c .before .before .before in
+    let a = start m .args in
+    drawing-stops (wire (now (a .xyz)) (now (a .ends))) (now (a .list))
+    (said m (T.Refused (c .before .tabled .given .0 .0)) (c .before .tabled .given .1))
+
+returns-2 : tie.Need-returns-2
+returns-2 c =
+    let t = ready (c .before) in
+    let o = start (made t) in
+    let a = o .args in
+    let d = wire (now (a .xyz)) (now (a .ends)) in
+    let r = tabled t in
+    list-decides d (now (a .list)) (r .fine)
+    (subst (λ (v : ℕ). c .faces-checked .result ≡ verdictFor (firstOf (listChecks v (candidates d) (tablesOf d (candidates d)) (now (a .list)))))
+    (vertices-are (now (a .xyz)) (now (a .ends)) (o .pre)) (c .faces-checked .ensures (candidates d) (tablesOf d (candidates d)) (rows-hold r) (r .lent)))
+
+pub checked-spec : {M : Type 1} → statement M
+checked-spec =
+    tie.close
+    (tie.spec
+    tables-requires
+    enum-known-tabled
+    enum-known-tabled-2
+    faces-checked-requires
+    returns
+    returns-2)

@@ -1,0 +1,48 @@
+-- What the check says of a drawing behind 3 to 10, and of a face list behind 3 to 16. Assumes nothing.
+use mathlib.Core.Bool.{not}
+use mathlib.Core.List.{List, _∷_, _++_}
+use mathlib.Core.Path.{_≡_}
+use Prim.Native.Nat.{ℕ, _≤_}
+use lib.IntN.{ℤ}
+use lib.ListN.{length}
+use Rattle.paper.specs.Numbers.{mostCandidates, faceRoom}
+use Rattle.paper.specs.Refusals as No
+use Rattle.paper.specs.Refusals.{Check, check, offends, firstOf}
+use Rattle.paper.specs.Format.{editionOne}
+use Rattle.paper.specs.Drawing.{Wire, wire}
+use Rattle.paper.specs.Loops.{Loop, candidates}
+use Rattle.paper.specs.Solids.{Tables, tablesOf}
+use Rattle.paper.specs.FaceList.{facesIn, wellShaped}
+use Rattle.paper.specs.Verdict.{listed, faceChecks, verdictFor}
+use Rattle.paper.specs.declared.Verdict.{Verdict}
+use Rattle.walk_words.specs.Words.{SmallSixes, Lent}
+use Rattle.tables.specs.Tables.{checksOf}
+use Rattle.verdict_faces.specs.Named.{Holds}
+
+-- ---- a list, of n candidates whose rows and tables are lent
+
+-- 20 to 27, in a drawing of v vertices
+abbrev pub listChecks : ℕ → List Loop → Tables → List ℕ → List Check
+listChecks v cs t list =
+    check No.ShellShape (offends (not (wellShaped editionOne v list)) 0) ∷ faceChecks t (length cs) (listed cs (facesIn editionOne list))
+
+pub record ListAt (rows : List ℕ) (n e : ℕ) (sixes : List ℤ) : Type 0 where
+  pub loops : List Loop
+  pub held : Holds rows n loops
+  pub few : n ≤ mostCandidates
+  pub rows-long : length rows ≡ faceRoom
+  pub edges : e ≤ editionOne .«most_edges»
+  pub small : SmallSixes sixes
+
+abbrev pub ListChecked : List ℕ → ℕ → List ℕ → ℕ → List ℕ → List ℕ → ℕ → List ℕ → List ℕ → List ℤ → Verdict → Type 0
+ListChecked list v rows n on up e sides clashes sixes r =
+    (cs : List Loop) (t : Tables) → Holds rows n cs → Lent on up e sides clashes sixes n t → r ≡ verdictFor (firstOf (listChecks v cs t list))
+
+-- ---- a drawing that passed 3 to 10
+
+-- 11 to 16, then 20 to 27
+abbrev pub restChecks : Wire → List ℕ → List Check
+restChecks d list = checksOf d ++ listChecks (length (d .vertices)) (candidates d) (tablesOf d (candidates d)) list
+
+abbrev pub Checks : List ℤ → List ℕ → List ℕ → Verdict → Type 0
+Checks xyz ends list r = r ≡ verdictFor (firstOf (restChecks (wire xyz ends) list))

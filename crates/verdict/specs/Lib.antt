@@ -1,0 +1,2 @@
+-- What contracts of this crate cite beside the paper. Assumes nothing.
+pub mod Checked
