@@ -3,8 +3,9 @@
 ghost use Rattle.paper.specs.Format.{editionOne};
 ghost use Rattle.paper.specs.Conversion.{convertLists, convertSheet};
 ghost use Rattle.paper.specs.FaceList.{sentRoom};
-ghost use Rattle.paper.specs.Reading.{sentSaid, writtenSaid};
+ghost use Rattle.paper.specs.Reading.{sentSaid, writtenSaid, verdictSays};
 ghost use Rattle.paper.specs.Sheet.{roomOf};
+ghost use Rattle.paper.specs.Verdict.{verdictLists, verdictSheet};
 ghost use Rattle.faces_writer.specs.Send.{ofSolid};
 ghost use Rattle.export_words.specs.Words.{Tells, WritesAs, ConvertsAs};
 ghost use Rattle.export_words.specs.Lists.{readInto, ReadsAs};
@@ -18,11 +19,14 @@ use export_words::volume::show;
 use export_words::words::conversion_said;
 use export_words::words::refusal_said;
 use export_words::words::tell;
+use export_words::words::verdict_said;
 use export_words::words::written_said;
 use faces_writer::write_faces;
 use paper::Answer;
 use sheet_reader::read_sheet;
 use sheet_writer::write_sheet;
+use verdict::check;
+use verdict::check_sheet;
 
 // Reads a sheet into two lent lists: 3 to 10, then 1 where a list is too short (0 coordinates, 1 ends). Values: vertices, edges.
 #[no_mangle]
@@ -126,4 +130,22 @@ pub extern "C" fn nibgravel_assess_sheet(sheet: &[u8], limit: u64, volume: &mut 
     ensures { λ r. ⌜ AssessesAs (convertSheet (now (sheet .entry)) limit) r (now (volume .entry)) (now (volume .exit)) ⌝ }
 {
     show(assess_sheet(sheet, limit), volume)
+}
+
+// Checks a face list against two lent lists: 5, 8 to 16, then 20 to 27. No values; 0 is "accepted".
+#[no_mangle]
+pub extern "C" fn nibgravel_check(xyz: &[i64], ends: &[u8], list: &[u8], said: &mut [u64]) -> u64
+    ensures { λ r. ⌜ Tells (verdictSays (verdictLists (now (xyz .entry)) (now (ends .entry)) (now (list .entry)))) r
+        (now (said .entry)) (now (said .exit)) ⌝ }
+{
+    tell(verdict_said(check(xyz, ends, list)), said)
+}
+
+// Checks a face list against a sheet: 3 to 16, then 20 to 27.
+#[no_mangle]
+pub extern "C" fn nibgravel_check_sheet(sheet: &[u8], list: &[u8], said: &mut [u64]) -> u64
+    ensures { λ r. ⌜ Tells (verdictSays (verdictSheet (now (sheet .entry)) (now (list .entry)))) r
+        (now (said .entry)) (now (said .exit)) ⌝ }
+{
+    tell(verdict_said(check_sheet(sheet, list)), said)
 }

@@ -1,12 +1,13 @@
 // An answer as words: document 01's number, its place, and the values that come with it. Assumes nothing.
 ghost use mathlib.Core.List.{[], _∷_};
-ghost use Rattle.paper.specs.Reading.{fine, refused, writtenSays, conversionSays};
+ghost use Rattle.paper.specs.Reading.{fine, refused, writtenSays, conversionSays, verdictSays};
 ghost use Rattle.export_words.specs.Words.{SaidIs, Telling, ToldBy};
 use paper::Conversion;
 use paper::MANY;
 use paper::NO_SOLID;
 use paper::Refusal;
 use paper::TOO_LONG;
+use paper::Verdict;
 use paper::Written;
 use rooms::copy_words;
 
@@ -103,6 +104,19 @@ pub fn conversion_said(c: Conversion) -> Said
             work,
         } => ended_said(TOO_LONG, loops, candidates, work),
         Conversion::Refused(r) => refusal_said(r),
+    }
+}
+
+// An accepted list has no number in the table.
+pub fn verdict_said(v: Verdict) -> Said
+    ensures { λ s. ⌜ SaidIs s (verdictSays v) ⌝ }
+{
+    match v {
+        Verdict::Refused(r) => refusal_said(r),
+        Verdict::Accepted => Said {
+            words: [0, 0, 0, 0, 0, 0, 0],
+            count: 2,
+        },
     }
 }
 
