@@ -13,8 +13,9 @@
  * caller who needs the number only may lend an empty list. NIBGRAVEL_SAID entries are always enough. Apart from `said`, a call with a
  * number above 0 leaves every lent list as it was.
  *
- * THREADS AND STACK. There are no globals: any number of threads may call at once, on lists of their own. A conversion takes about 32 KiB
- * of stack at the deepest (docs/MEASURES.md), whatever the drawing.
+ * THREADS AND STACK. There are no globals: any number of threads may call at once, on lists of their own. A conversion was seen to take
+ * 14 to 21 KB of stack, and some 31 KB are the most that it can come to (docs/MEASURES.md); of a sheet, and of a reading, some 3 KB more.
+ * Nothing is allocated, and every call ends: the work limit is what bounds its time.
  *
  * Link target/staticlib/libexport.a, which `rt staticlib export` writes, for x86-64 Linux. */
 #ifndef NIBGRAVEL_H

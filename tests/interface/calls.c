@@ -89,6 +89,28 @@ static int room_holds(struct room r) {
     return good;
 }
 
+/* A drawing on a sheet, or lent as two lists; the others are empty. */
+struct drawing {
+    struct list sheet, xyz, ends;
+};
+
+static struct drawing taken_drawing(int on_sheet) {
+    struct drawing d = {0};
+    if (on_sheet) {
+        d.sheet = taken_list(1);
+    } else {
+        d.xyz = taken_list(8);
+        d.ends = taken_list(1);
+    }
+    return d;
+}
+
+static void drop_drawing(struct drawing d) {
+    drop_list(d.sheet);
+    drop_list(d.xyz);
+    drop_list(d.ends);
+}
+
 #define BYTES(l) (l).entries, (l).length
 #define NUMBERS(l) (int64_t *)(l).entries, (l).length
 #define WORDS(l) (uint64_t *)(l).entries, (l).length
@@ -98,8 +120,8 @@ static int room_holds(struct room r) {
 
 static unsigned long sent, accepted;
 
-static void send_solids(const struct list *sheet, const struct list *xyz, const struct list *ends, const struct room *faces,
-                        const struct room *solids, uint64_t candidates, uint64_t count) {
+static void send_solids(struct drawing d, int on_sheet, const struct room *faces, const struct room *solids, uint64_t candidates,
+                        uint64_t count) {
     const uint64_t *words = (const uint64_t *)solids->list.entries;
     for (uint64_t k = 0; k < count; k++) {
         uint8_t list[NIBGRAVEL_LIST_BYTES];
@@ -107,8 +129,8 @@ static void send_solids(const struct list *sheet, const struct list *xyz, const 
         uint64_t number = nibgravel_write_faces(faces->list.entries, 13 * candidates, words[3 * k], words[3 * k + 1], list, sizeof list,
                                                 said, NIBGRAVEL_SAID);
         if (number == 0)
-            number = sheet ? nibgravel_check_sheet(BYTES(*sheet), list, said[2], said, 0)
-                           : nibgravel_check(NUMBERS(*xyz), BYTES(*ends), list, said[2], said, 0);
+            number = on_sheet ? nibgravel_check_sheet(BYTES(d.sheet), list, said[2], said, 0)
+                              : nibgravel_check(NUMBERS(d.xyz), BYTES(d.ends), list, said[2], said, 0);
         sent += 1;
         accepted += number == 0;
     }
@@ -117,96 +139,78 @@ static void send_solids(const struct list *sheet, const struct list *xyz, const 
 /* ---- what was met */
 
 static unsigned long met[FUNCTIONS][31];
-static uint64_t lowest[31], highest[31];
 
-static void note(enum function f, uint64_t number, uint64_t place) {
+static void note(enum function f, uint64_t number) {
     if (number > 30) {
         printf("%s returned %llu\n", names[f], (unsigned long long)number);
         exit(1);
     }
-    if ((f == CHECK || f == CHECK_SHEET) && number >= 20) {
-        int first = met[CHECK][number] + met[CHECK_SHEET][number] == 0;
-        if (first || place < lowest[number])
-            lowest[number] = place;
-        if (first || place > highest[number])
-            highest[number] = place;
-    }
     met[f][number] += 1;
+}
+
+/* Of 21 to 27 but 26, whose place is 0: the lowest place of all, and the least distance of a place from the list's last face or the drawing's last edge. */
+static uint64_t lowest[31], from_last[31];
+
+static void note_place(uint64_t number, uint64_t place, uint64_t faces, uint64_t edges) {
+    uint64_t last = (number == NIBGRAVEL_EDGE_COUNT || number == NIBGRAVEL_DIRECTION ? edges : faces) - 1;
+    int first = met[CHECK][number] + met[CHECK_SHEET][number] == 1;
+    if (first || place < lowest[number])
+        lowest[number] = place;
+    if (first || last - place < from_last[number])
+        from_last[number] = last - place;
 }
 
 /* ---- the calls: 1 where what came back is not what must */
 
 static int converted(enum function f) {
-    int is_sheet = f == CONVERT_SHEET;
-    struct list sheet = {0}, xyz = {0}, ends = {0};
-    if (is_sheet) {
-        sheet = taken_list(1);
-    } else {
-        xyz = taken_list(8);
-        ends = taken_list(1);
-    }
+    int on_sheet = f == CONVERT_SHEET;
+    struct drawing d = taken_drawing(on_sheet);
     uint64_t limit = taken_number(8);
     struct room faces = taken_room(1), solids = taken_room(8), said = taken_room(8);
     uint64_t want = taken_number(8);
-    uint64_t number = is_sheet ? nibgravel_convert_sheet(BYTES(sheet), limit, BYTES(faces.list), WORDS(solids.list), WORDS(said.list))
-                               : nibgravel_convert(NUMBERS(xyz), BYTES(ends), limit, BYTES(faces.list), WORDS(solids.list),
+    uint64_t number = on_sheet ? nibgravel_convert_sheet(BYTES(d.sheet), limit, BYTES(faces.list), WORDS(solids.list), WORDS(said.list))
+                               : nibgravel_convert(NUMBERS(d.xyz), BYTES(d.ends), limit, BYTES(faces.list), WORDS(solids.list),
                                                    WORDS(said.list));
-    note(f, number, 0);
+    note(f, number);
     if (number == 0 && said.list.length >= 6) {
         const uint64_t *words = (const uint64_t *)said.list.entries;
-        send_solids(is_sheet ? &sheet : NULL, &xyz, &ends, &faces, &solids, words[3], words[5]);
+        send_solids(d, on_sheet, &faces, &solids, words[3], words[5]);
     }
-    drop_list(sheet);
-    drop_list(xyz);
-    drop_list(ends);
+    drop_drawing(d);
     return !(room_holds(faces) & room_holds(solids) & room_holds(said) & (number == want));
 }
 
 static int assessed(enum function f) {
-    uint64_t number, want;
-    struct room volume;
-    if (f == ASSESS_SHEET) {
-        struct list sheet = taken_list(1);
-        uint64_t limit = taken_number(8);
-        volume = taken_room(8);
-        number = nibgravel_assess_sheet(BYTES(sheet), limit, DOUBLES(volume.list));
-        drop_list(sheet);
-    } else {
-        struct list xyz = taken_list(8), ends = taken_list(1);
-        uint64_t limit = taken_number(8);
-        volume = taken_room(8);
-        number = nibgravel_assess(NUMBERS(xyz), BYTES(ends), limit, DOUBLES(volume.list));
-        drop_list(xyz);
-        drop_list(ends);
-    }
-    want = taken_number(8);
-    note(f, number, 0);
+    int on_sheet = f == ASSESS_SHEET;
+    struct drawing d = taken_drawing(on_sheet);
+    uint64_t limit = taken_number(8);
+    struct room volume = taken_room(8);
+    uint64_t want = taken_number(8);
+    uint64_t number = on_sheet ? nibgravel_assess_sheet(BYTES(d.sheet), limit, DOUBLES(volume.list))
+                               : nibgravel_assess(NUMBERS(d.xyz), BYTES(d.ends), limit, DOUBLES(volume.list));
+    note(f, number);
+    drop_drawing(d);
     return !(room_holds(volume) & (number == want));
 }
 
 static int checked(enum function f) {
-    struct list sheet = {0}, xyz = {0}, ends = {0};
-    if (f == CHECK_SHEET) {
-        sheet = taken_list(1);
-    } else {
-        xyz = taken_list(8);
-        ends = taken_list(1);
-    }
+    int on_sheet = f == CHECK_SHEET;
+    struct drawing d = taken_drawing(on_sheet);
     struct list list = taken_list(1);
     struct room said = taken_room(8);
     uint64_t want = taken_number(8), words[NIBGRAVEL_SAID];
-    uint64_t number = f == CHECK_SHEET ? nibgravel_check_sheet(BYTES(sheet), BYTES(list), WORDS(said.list))
-                                       : nibgravel_check(NUMBERS(xyz), BYTES(ends), BYTES(list), WORDS(said.list));
-    if (f == CHECK_SHEET)
-        nibgravel_check_sheet(BYTES(sheet), BYTES(list), words, NIBGRAVEL_SAID);
-    else
-        nibgravel_check(NUMBERS(xyz), BYTES(ends), BYTES(list), words, NIBGRAVEL_SAID);
-    note(f, number, words[1]);
-    drop_list(sheet);
-    drop_list(xyz);
-    drop_list(ends);
+    uint64_t number = on_sheet ? nibgravel_check_sheet(BYTES(d.sheet), BYTES(list), WORDS(said.list))
+                               : nibgravel_check(NUMBERS(d.xyz), BYTES(d.ends), BYTES(list), WORDS(said.list));
+    note(f, number);
+    /* once more, with room for the place */
+    uint64_t again = on_sheet ? nibgravel_check_sheet(BYTES(d.sheet), BYTES(list), words, NIBGRAVEL_SAID)
+                              : nibgravel_check(NUMBERS(d.xyz), BYTES(d.ends), BYTES(list), words, NIBGRAVEL_SAID);
+    if (number > NIBGRAVEL_SHELL_SHAPE)
+        note_place(number, words[1], (list.entries[0] & 15u) << 2 | list.entries[1] >> 6,
+                   on_sheet ? (d.sheet.entries[1] & 63u) << 1 | d.sheet.entries[2] >> 7 : d.ends.length / 2);
+    drop_drawing(d);
     drop_list(list);
-    return !(room_holds(said) & (number == want));
+    return !(room_holds(said) & (number == want) & (again == want));
 }
 
 static int read_or_written(enum function f) {
@@ -231,7 +235,7 @@ static int read_or_written(enum function f) {
     }
     want = taken_number(8);
     drop_list(first);
-    note(f, number, 0);
+    note(f, number);
     return !(good & (number == want));
 }
 
@@ -284,8 +288,10 @@ int main(void) {
                 printf(" %d:%lu", number, met[f][number]);
         printf("\n");
     }
-    for (int number = 20; number <= 27; number++)
-        printf("check %d places %llu to %llu\n", number, (unsigned long long)lowest[number], (unsigned long long)highest[number]);
+    for (int number = 21; number <= 27; number++)
+        if (number != NIBGRAVEL_INWARD)
+            printf("%d at places from %llu to %llu before the last\n", number, (unsigned long long)lowest[number],
+                   (unsigned long long)from_last[number]);
     printf("solids sent %lu accepted %lu\n", sent, accepted);
     printf("calls %lu differences %lu\n", calls, differences);
     return differences > 0 || accepted < sent;

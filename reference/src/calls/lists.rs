@@ -3,32 +3,58 @@
 use crate::convert::Answer;
 use crate::drawing::{Drawing, Loop, Source};
 use crate::face_list::{pack_faces, read_faces, send_solid};
-use crate::fast::convert;
+use crate::fast::{check, convert};
 use crate::gen::bodies::dented;
 use crate::gen::change::{affine, renumbered};
 use crate::gen::known::{nested_cubes, octahedron, two_tetrahedra};
 use crate::gen::lists::any_list;
+use crate::gen::maker::ordered;
 use crate::gen::rng::Rng;
 use crate::numbers::*;
 
-/// One in four times a drawing some of whose selections are in pieces, or inward, or have faces that clash.
+/// Often a drawing some of whose selections are in pieces, or inward, or have faces that clash.
 pub fn bodies_for(r: &mut Rng, turn: usize) -> Option<Drawing> {
     let d = match turn % 16 {
         0 => two_tetrahedra(),
         4 => dented([5, 4, -1]),
         8 => nested_cubes(),
         12 => octahedron(),
+        2 => return Some(hinge()),
         _ => return None,
     };
     let d = if r.chance(50) { affine(r, &d) } else { d };
     Some(renumbered(r, &d))
 }
 
+/// Two tetrahedra with one edge in common, the last: all their faces together have it four times.
+fn hinge() -> Drawing {
+    let ends = [(0, 1), (0, 4), (0, 5), (1, 4), (1, 5), (2, 3), (2, 4), (2, 5), (3, 4), (3, 5), (4, 5)];
+    ordered(vec![[5, 0, 3], [5, 4, 0], [-5, 0, 3], [-5, 4, 0], [0, 0, 0], [0, 0, 9]], ends)
+}
+
 pub fn list_for(r: &mut Rng, source: Source, turn: usize) -> Vec<u8> {
     match solid(r, source) {
         Some(faces) if turn % 3 != 0 => pack_faces(&spoiled(r, faces)),
-        _ => any_list(r, source),
+        _ => {
+            let list = any_list(r, source);
+            clashing_last(r, source, list)
+        }
     }
+}
+
+/// Where faces clash, the list in an order in which they come late.
+fn clashing_last(r: &mut Rng, source: Source, mut list: Vec<u8>) -> Vec<u8> {
+    let clash = |list: &[u8]| check(source, list).err().filter(|refusal| refusal.number == CLASH).map(|c| c.place);
+    let tries = if clash(&list).is_some() && r.chance(50) { 100 } else { 0 };
+    for _ in 0..tries {
+        let mut faces = read_faces(&list, *VERTICES.end()).expect("27 comes after 20");
+        r.shuffle(&mut faces);
+        let other = pack_faces(&faces);
+        if clash(&other) > clash(&list) {
+            list = other;
+        }
+    }
+    list
 }
 
 /// A reported solid's faces, in any order and from any corners.

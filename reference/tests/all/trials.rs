@@ -1,4 +1,5 @@
-//! The trials: every answer that they are made for is met, and the same seed gives the same trial.
+//! The trials: every answer that they are made for is met, and the same seed gives the same trial and the same calls.
+use nibgravel_reference::calls::calls;
 use nibgravel_reference::numbers::*;
 use nibgravel_reference::rows::{Order, SMALL};
 use nibgravel_reference::trial::{geometry, sheets, walks};
@@ -75,4 +76,5 @@ fn a_walk_is_told_in_a_line() {
 fn a_seed_gives_one_trial() {
     let (a, b) = (geometry(5, 10), geometry(5, 10));
     assert_eq!((a.input, a.output), (b.input, b.output));
+    assert_eq!(calls(5, 140), calls(5, 140));
 }
