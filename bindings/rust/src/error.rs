@@ -98,12 +98,14 @@ impl Error {
     }
 }
 
-/// The number, the name and, where it can be other than 0, the place: `13 EdgeMeets, edge 4`.
+/// The number, the name and, where it can be other than 0, the place: `13 EdgeMeets, edge 4`, or `5 BadCount, edges`.
 impl fmt::Display for Error {
     fn fmt(&self, f: &mut fmt::Formatter) -> fmt::Result {
-        match self.number.place_is() {
-            "" => write!(f, "{}", self.number),
-            counted => write!(f, "{}, {counted} {}", self.number, self.place),
+        match (self.number.place_is(), self.place) {
+            ("", _) => write!(f, "{}", self.number),
+            ("list", 0) => write!(f, "{}, vertices", self.number),
+            ("list", _) => write!(f, "{}, edges", self.number),
+            (counted, place) => write!(f, "{}, {counted} {place}", self.number),
         }
     }
 }

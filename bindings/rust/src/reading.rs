@@ -48,6 +48,7 @@ fn read(call: impl FnOnce(&mut [f64]) -> u64) -> Reading {
 /// }
 /// ```
 #[derive(Clone, Copy, Debug, PartialEq)]
+#[must_use]
 pub enum Reading {
     /// The volume of the only solid, in cubic metres: six volumes divided by 6,000,000, rounded once.
     Volume(f64),

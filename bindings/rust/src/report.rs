@@ -15,7 +15,7 @@ const WORDS: usize = 3;
 /// let ends = [0, 1, 0, 2, 0, 3, 1, 2, 1, 3, 2, 3];
 /// let report = convert(&xyz, &ends, MOST_WORK)?;
 /// assert_eq!(report.solids().map(|solid| solid.six_volumes()).collect::<Vec<u64>>(), [216]);
-/// assert_eq!(convert(&xyz[..9], &ends, MOST_WORK).unwrap_err().to_string(), "5 BadCount, list 0");
+/// assert_eq!(convert(&xyz[..9], &ends, MOST_WORK).unwrap_err().to_string(), "5 BadCount, vertices");
 /// # Ok::<(), nibgravel::Error>(())
 /// ```
 pub fn convert(xyz: &[i64], ends: &[u8], limit: u64) -> Result<Report, Error> {

@@ -47,6 +47,7 @@ fn judged(call: impl FnOnce(&mut [u64]) -> u64) -> Verdict {
 /// assert!(!check(&[], &[], &[]).is_accepted());
 /// ```
 #[derive(Clone, Copy, Debug, PartialEq, Eq, Hash)]
+#[must_use]
 pub enum Verdict {
     /// The list names one of the drawing's solids, with its directions.
     Accepted,

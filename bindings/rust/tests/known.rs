@@ -128,7 +128,7 @@ fn sheets_read_back() {
 #[test]
 fn limits_of_a_sheet() {
     assert!(chain(32).to_sheet().is_ok());
-    assert_eq!(chain(33).to_sheet().unwrap_err().to_string(), "5 BadCount, list 0");
+    assert_eq!(chain(33).to_sheet().unwrap_err().to_string(), "5 BadCount, vertices");
     let mut cube = cube();
     cube.xyz[5] = 1_000;
     assert!(cube.to_sheet().is_ok());
