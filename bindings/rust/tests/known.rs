@@ -31,6 +31,11 @@ fn cube_is_assessed() {
 }
 
 #[test]
+fn cube_with_a_diagonal_has_a_loop_that_is_no_candidate() {
+    assert_eq!(counted(&cube_with_diagonal(), MOST_WORK), Ok((8, 7, 0, vec![6_000])));
+}
+
+#[test]
 fn cube_without_an_edge_is_no_solid() {
     for edge in 0..12 {
         let error = cube_without(edge).convert(MOST_WORK).unwrap_err();
@@ -65,9 +70,8 @@ fn octahedron_is_told_as_on_the_desk() {
 #[test]
 fn nested_cubes_are_ambiguous() {
     let drawing = nested_cubes();
-    let (_, candidates, work, six) = counted(&drawing, MOST_WORK).unwrap();
     assert_eq!((drawing.xyz.len(), drawing.ends.len()), (3 * 16, 2 * 32));
-    assert_eq!((candidates, work, six), (24, 4, vec![224_000; 3]));
+    assert_eq!(counted(&drawing, MOST_WORK), Ok((24, 24, 4, vec![224_000; 3])));
     assert_eq!(drawing.assess(MOST_WORK), Reading::NotAssessed(30));
     assert_eq!(drawing.assess(MOST_WORK).number(), Some(Number::Ambiguous));
 }
@@ -123,6 +127,16 @@ fn sheets_read_back() {
         assert_eq!(nibgravel::assess_sheet(&sheet, 4), drawing.assess(4));
     }
     assert_eq!(octahedron().to_sheet().unwrap(), include_bytes!("../../../samples/octahedron.sheet"));
+}
+
+#[test]
+fn the_longest_sheet_and_list() {
+    let mut drawing = chain(32);
+    drawing.ends = (0..64).flat_map(|edge| [edge / 16, edge % 16 + 8]).collect();
+    let sheet = drawing.to_sheet().unwrap();
+    assert_eq!((sheet.len(), Drawing::read(&sheet)), (215, Ok(drawing)));
+    let faces = vec![(0..12).collect(); 42];
+    assert_eq!(face_list(&faces).unwrap().len(), 338);
 }
 
 #[test]

@@ -26,6 +26,11 @@ pub fn cube() -> Drawing {
     Drawing::new(&corners(0, 10), &pairs(8, |a, b| (a ^ b).count_ones() == 1))
 }
 
+/// The square at the bottom divided in two triangles.
+pub fn cube_with_diagonal() -> Drawing {
+    Drawing::new(&corners(0, 10), &pairs(8, |a, b| (a ^ b).count_ones() == 1 || (a, b) == (0, 3)))
+}
+
 pub fn cube_without(edge: usize) -> Drawing {
     let mut cube = cube();
     cube.ends.drain(2 * edge..2 * edge + 2);
