@@ -18,7 +18,8 @@ fn main() {
     println!("cargo::rerun-if-changed={}", archive.display());
     if !archive.is_file() {
         println!("cargo::error=there is no {}", archive.display());
-        println!("cargo::error=`rt staticlib export` in the repository's folder writes target/staticlib/{ARCHIVE}; {FOLDER} names another folder");
+        println!("cargo::error=`rt staticlib export` in the repository's folder writes target/staticlib/{ARCHIVE}");
+        println!("cargo::error={FOLDER} names another folder that has it");
         return;
     }
     println!("cargo::rustc-link-search=native={}", folder.display());
