@@ -3,7 +3,8 @@
 //! A drawing has vertices with whole coordinates, in centimetres, and edges that join them. What is called here is the archive of the
 //! proved code, by its interface for C (`include/nibgravel.h`): each function gives the answer of the customer's document for **every**
 //! input, so nothing is checked before a call and any bytes and numbers may be passed. Nothing is kept between calls, and any number of
-//! threads may call at once. A conversion takes about 32 KiB of stack, whatever the drawing.
+//! threads may call at once. The header says how much stack a conversion takes; the rooms that
+//! are lent here are some 1 KB more.
 //!
 //! - [`Drawing`] is read from a sheet and written to one.
 //! - [`convert`] and [`convert_sheet`] find every solid, as a [`Report`], or say why there is none, as an [`Error`].
