@@ -1,11 +1,11 @@
 //! The program `reference`: the desk text, the face-list check, and the making and measuring of cases.
 mod command;
 
-use command::args::Args;
+use command::args::{say, Args};
 use std::process::ExitCode;
 
 const HELP: &str = "\
-reference: document 01 in plain Rust, in a clear version and a fast one
+reference: document 01 in plain Rust, in a clear version and a fast one; `reference --version` says which release
 
   reference desk < SHEET
       reads a sheet from standard input and prints the desk text, by the clear version
@@ -78,10 +78,8 @@ fn run(args: Args) -> Result<(), String> {
         Some("limits") => command::texts::limits(&args),
         Some("trial") => command::trial::trial(&args),
         Some("calls") => command::texts::calls(&args),
-        Some("help") | None => {
-            print!("{HELP}");
-            Ok(())
-        }
+        Some("version") => say(concat!("reference ", env!("CARGO_PKG_VERSION"), "\n")),
+        Some("help") | None => say(HELP),
         Some(other) => Err(format!("no command `{other}`; see reference --help")),
     }
 }

@@ -1,4 +1,5 @@
-//! The words and options of a command line.
+//! The words and options of a command line, and what is said in return.
+use std::io::Write;
 use std::str::FromStr;
 
 pub struct Args {
@@ -14,7 +15,9 @@ impl Args {
         while let Some(arg) = args.next() {
             match arg.strip_prefix("--") {
                 Some("help") => words.insert(0, "help".to_string()),
+                Some("version") if words.is_empty() => words.push("version".to_string()),
                 Some(name) => options.push((name.to_string(), args.next().unwrap_or_default())),
+                None if arg == "-h" => words.insert(0, "help".to_string()),
                 None => words.push(arg),
             }
         }
@@ -30,8 +33,11 @@ impl Args {
         self.word(k).ok_or_else(|| "a file or folder is missing; see reference --help".to_string())
     }
 
-    /// Refuses options that the command doesn't have.
-    pub fn allow(&self, names: &[&str]) -> Result<(), String> {
+    /// Refuses words behind so many, and options that the command doesn't have.
+    pub fn allow(&self, words: usize, names: &[&str]) -> Result<(), String> {
+        if let Some(word) = self.word(words) {
+            return Err(format!("no word `{word}` here; see reference --help"));
+        }
         match self.options.iter().find(|(name, _)| !names.contains(&name.as_str())) {
             Some((name, _)) => Err(format!("no option --{name} here; see reference --help")),
             None => Ok(()),
@@ -56,4 +62,10 @@ impl Args {
             None => Ok(values[0]),
         }
     }
+}
+
+/// Writes to standard output; where that fails it is an error.
+pub fn say(text: &str) -> Result<(), String> {
+    let mut out = std::io::stdout().lock();
+    out.write_all(text.as_bytes()).and_then(|()| out.flush()).map_err(|e| format!("standard output: {e}"))
 }

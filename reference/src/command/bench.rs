@@ -1,5 +1,5 @@
 //! `bench`: times of both versions.
-use super::args::Args;
+use super::args::{say, Args};
 use nibgravel_reference::convert::{convert, Answer};
 use nibgravel_reference::desk::Converter;
 use nibgravel_reference::drawing::Source;
@@ -16,15 +16,15 @@ use std::time::Instant;
 const MOST_BENCH_WORK: u32 = 1_000;
 
 pub fn bench(args: &Args) -> Result<(), String> {
-    args.allow(&[])?;
-    println!("{:30} {:>12} {:>12} {:>9}  answer", "microseconds", "fast", "clear", "work");
+    args.allow(1, &[])?;
+    say(&format!("{:30} {:>12} {:>12} {:>9}  answer\n", "microseconds", "fast", "clear", "work"))?;
     for (name, d) in named() {
         let sheet = pack_sheet(&d);
         let ((fast_time, answer), (clear_time, same)) = (best(fast::convert, &sheet), best(convert, &sheet));
         if answer != same {
             return Err(format!("the versions differ on {name}: {answer:?}, {same:?}"));
         }
-        println!("{name:30} {fast_time:12.2} {clear_time:12.1} {:>9}  {}", work(&answer), short(&answer));
+        say(&format!("{name:30} {fast_time:12.2} {clear_time:12.1} {:>9}  {}\n", work(&answer), short(&answer)))?;
     }
     let sheets = generated(77);
     let all = |converter: Converter| {
@@ -35,8 +35,7 @@ pub fn bench(args: &Args) -> Result<(), String> {
         started.elapsed().as_secs_f64() * 1e6 / sheets.len() as f64
     };
     let least = (0..5).map(|_| all(fast::convert)).fold(f64::MAX, f64::min);
-    println!("{:30} {least:12.2} {:12.1}            each", "1000 generated drawings", all(convert));
-    Ok(())
+    say(&format!("{:30} {least:12.2} {:12.1}            each\n", "1000 generated drawings", all(convert)))
 }
 
 fn once(converter: Converter, sheet: &[u8]) -> Answer {

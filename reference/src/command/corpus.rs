@@ -18,7 +18,7 @@ struct Case {
 }
 
 pub fn gen(args: &Args) -> Result<(), String> {
-    args.allow(&["form", "count", "seed"])?;
+    args.allow(2, &["form", "count", "seed"])?;
     let dir = Path::new(args.path(1)?);
     let (count, seed) = (args.number("count", 100)?, args.number("seed", 1)?);
     let write = if args.choice("form", &["files", "book"])? == "book" { write_book } else { write_files };

@@ -1,5 +1,5 @@
 //! `stats`: both versions on generated sheets and face lists, and how often each answer comes.
-use super::args::Args;
+use super::args::{say, Args};
 use nibgravel_reference::check::check;
 use nibgravel_reference::convert::{convert, Answer};
 use nibgravel_reference::desk::Converter;
@@ -22,7 +22,7 @@ struct Counts {
 }
 
 pub fn stats(args: &Args) -> Result<(), String> {
-    args.allow(&["count", "seed", "limit"])?;
+    args.allow(1, &["count", "seed", "limit"])?;
     let (count, seed, limit) = (args.number("count", 10_000)?, args.number("seed", 1)?, args.number("limit", 20_000)?);
     let mut counts = Counts::default();
     for case in 0..count {
@@ -30,15 +30,15 @@ pub fn stats(args: &Args) -> Result<(), String> {
         let sheet = any_sheet(&mut r);
         let list = any_list(&mut r, Source::Sheet(&sheet));
         if !counts.both_agree(&sheet, &list, limit) {
-            println!("case {case} of seed {seed} differs");
+            say(&format!("case {case} of seed {seed} differs\n"))?;
         }
     }
-    println!("sheets {count}, seed {seed}, limit {limit}");
-    println!("conversions by number, 0 a report: {:?}", counts.answers);
-    println!("reports by solids: {:?}", counts.solids);
-    println!("walks by digits of their work: {:?}", counts.work_digits);
-    println!("checks by number, 0 accepted: {:?}", counts.checks);
-    println!("clear and fast differ: {}", counts.differ);
+    say(&format!("sheets {count}, seed {seed}, limit {limit}\n"))?;
+    say(&format!("conversions by number, 0 a report: {:?}\n", counts.answers))?;
+    say(&format!("reports by solids: {:?}\n", counts.solids))?;
+    say(&format!("walks by digits of their work: {:?}\n", counts.work_digits))?;
+    say(&format!("checks by number, 0 accepted: {:?}\n", counts.checks))?;
+    say(&format!("clear and fast differ: {}\n", counts.differ))?;
     if counts.differ == 0 {
         Ok(())
     } else {

@@ -1,5 +1,5 @@
 //! `desk`, `check`, `rows`, `limits` and `calls`: what the reference says.
-use super::args::Args;
+use super::args::{say, Args};
 use nibgravel_reference::calls;
 use nibgravel_reference::check::check as check_list;
 use nibgravel_reference::convert::convert;
@@ -11,19 +11,17 @@ use nibgravel_reference::rows::{self, row, Order, ANY, KINDS, SMALL};
 use std::io::{BufWriter, Read, Write};
 
 pub fn desk(args: &Args) -> Result<(), String> {
-    args.allow(&["version"])?;
+    args.allow(1, &["version"])?;
     let converter = if args.choice("version", &["clear", "fast"])? == "fast" { fast::convert } else { convert };
     let mut sheet = vec![];
     std::io::stdin().read_to_end(&mut sheet).map_err(|e| e.to_string())?;
-    print!("{}", desk_with(converter, &sheet));
-    Ok(())
+    say(&desk_with(converter, &sheet))
 }
 
 pub fn check(args: &Args) -> Result<(), String> {
-    args.allow(&[])?;
+    args.allow(3, &[])?;
     let read = |path: &str| std::fs::read(path).map_err(|e| format!("{path}: {e}"));
-    print!("{}", verdict(&read(args.path(1)?)?, &read(args.path(2)?)?));
-    Ok(())
+    say(&verdict(&read(args.path(1)?)?, &read(args.path(2)?)?))
 }
 
 /// The line of a check's answer.
@@ -35,7 +33,7 @@ pub fn verdict(sheet: &[u8], list: &[u8]) -> String {
 }
 
 pub fn rows(args: &Args) -> Result<(), String> {
-    args.allow(&["kind", "count", "seed", "cap", "size"])?;
+    args.allow(1, &["kind", "count", "seed", "cap", "size"])?;
     let size = if args.choice("size", &["small", "any"])? == "any" { ANY } else { SMALL };
     let order = Order { seed: args.number("seed", 1)?, cap: args.number("cap", MOST_SOLIDS)?, size };
     if !(1..=MOST_SOLIDS).contains(&order.cap) {
@@ -49,19 +47,19 @@ pub fn rows(args: &Args) -> Result<(), String> {
     };
     let mut out = BufWriter::new(std::io::stdout().lock());
     for k in 0..count {
-        writeln!(out, "{}", row(&order, number(k))).map_err(|e| e.to_string())?;
+        writeln!(out, "{}", row(&order, number(k))).map_err(|e| format!("standard output: {e}"))?;
     }
-    Ok(())
+    out.flush().map_err(|e| format!("standard output: {e}"))
 }
 
 pub fn limits(args: &Args) -> Result<(), String> {
-    args.allow(&[])?;
-    rows::limits().iter().for_each(|row| println!("{row}"));
-    Ok(())
+    args.allow(1, &[])?;
+    rows::limits().iter().try_for_each(|row| say(&format!("{row}\n")))
 }
 
 pub fn calls(args: &Args) -> Result<(), String> {
-    args.allow(&["count", "seed"])?;
+    args.allow(1, &["count", "seed"])?;
     let stream = calls::calls(args.number("seed", 7)?, args.number("count", 42_000)?);
-    std::io::stdout().write_all(&stream).map_err(|e| e.to_string())
+    let mut out = std::io::stdout().lock();
+    out.write_all(&stream).and_then(|()| out.flush()).map_err(|e| format!("standard output: {e}"))
 }

@@ -7,7 +7,7 @@ use std::fs;
 use std::path::Path;
 
 pub fn trial(args: &Args) -> Result<(), String> {
-    args.allow(&["count", "seed"])?;
+    args.allow(3, &["count", "seed"])?;
     let (count, seed) = (args.number("count", 200)?, args.number("seed", 11)?);
     let trial = match args.word(1) {
         Some("sheet") => sheets(&Order { seed, cap: MOST_SOLIDS, size: SMALL }, count),

@@ -9,5 +9,6 @@ mod known;
 mod places;
 mod refusals;
 mod rows;
+mod samples;
 mod subsets;
 mod trials;
