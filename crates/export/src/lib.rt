@@ -36,8 +36,8 @@ pub extern "C" fn nibgravel_read_sheet(
     ends: &mut [u8],
     said: &mut [u64],
 ) -> u64
-    ensures { λ r. ⌜ ReadsAs (readInto (now (sheet .entry)) (now (xyz .entry)) (now (ends .entry))) r (now (xyz .exit)) (now (ends .exit))
-        (now (said .entry)) (now (said .exit)) ⌝ }
+    ensures { λ r. ⌜ ReadsAs (readInto (now (sheet .entry)) (now (xyz .entry)) (now (ends .entry))) r
+        (now (xyz .exit)) (now (ends .exit)) (now (said .entry)) (now (said .exit)) ⌝ }
 {
     let read = read_sheet(sheet);
     let answer = read.answer;

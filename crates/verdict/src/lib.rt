@@ -1,5 +1,5 @@
-// The face-list check: whether a list of faces that someone else sent names a solid of a drawing, with its directions. Nothing is assumed of
-// any input.
+// The face-list check: whether a list of faces that someone else sent names a solid of a drawing, with its directions. Nothing is
+// assumed of any input.
 mod faces;
 
 ghost use mathlib.Core.Path.{_≡_};
