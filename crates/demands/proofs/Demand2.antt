@@ -1,8 +1,9 @@
 -- Demand 2 holds. Assumes nothing.
-use mathlib.Core.Path.{_≡_, sym, ap, subst}
+use mathlib.Core.Path.{_≡_, sym, ap, subst, _∙_}
 use mathlib.Core.Bool.{Bool}
 use mathlib.Core.List.{List, _++_}
 use Prim.Native.Nat.{ℕ}
+use native.Mathlib.Omega.{arith}
 use lib.Dec.{ltb}
 use borrow.Author.Tests.{le-ltb}
 use lib.ListN.{length}
@@ -12,11 +13,13 @@ use Rattle.paper.specs.Loops.{loops, candidates, loopChecks}
 use Rattle.paper.specs.Solids.{tablesOf}
 use Rattle.paper.specs.Conversion.{Converted, entryChecks}
 use Rattle.paper.specs.declared.Answer.the-variants.{Fine}
+use Rattle.paper.specs.declared.Conversion.{Conversion}
+use Rattle.paper.specs.declared.Conversion.the-variants.{Many, TooLong}
 use Rattle.means_walk.specs.Tree.{assumptions}
 use Rattle.means_walk.proofs.Grown.{one-walk}
 use Rattle.means_report.specs.Listed.{WalkTree}
 use Rattle.means_report.proofs.Report.{Unrefused, Sound, conversion-sound}
-use Rattle.means_report.proofs.Demand.{all-listed, says-none}
+use Rattle.means_report.proofs.Demand.{all-listed, says-none, says-many, says-long}
 use Rattle.means_report.proofs.Converted.{the-walk, no-ninth, tells-few, tells-many, tells-long, none-says}
 use Rattle.means_loops.specs.Loop.{IsCandidate}
 use Rattle.means_loops.proofs.Listing.{candidates-are, candidates-all, candidates-ascend}
@@ -33,6 +36,9 @@ entry-fine limit room solids a =
     none-step 1 (offends (ltb (length room) 832) 0) _ (ap (λ (b : Bool). offends b 0) (le-ltb (length room) 832 (a .0)))
     (none-step 1 (offends (ltb (length solids) 24) 1) _ (ap (λ (b : Bool). offends b 1) (le-ltb (length solids) 24 (a .1)))
     (none-step 2 (offends (ltb 1000000 limit) 0) _ (ap (λ (b : Bool). offends b 0) (le-ltb 1000000 limit (a .2))) no-checks))
+
+ap₃ : (f : ℕ → ℕ → ℕ → Conversion) {a b c a′ b′ c′ : ℕ} → a ≡ a′ → b ≡ b′ → c ≡ c′ → f a b c ≡ f a′ b′ c′
+ap₃ f p q r = cc
 
 module _ (x : Input) (p : Passes x) (t : WalkTree (drawing x) (candidatesOf x)) (limit : ℕ) (room solids : List ℕ)
     (a : Allowed limit room solids) where
@@ -55,9 +61,19 @@ module _ (x : Input) (p : Passes x) (t : WalkTree (drawing x) (candidatesOf x)) 
           λ e. says-none (drawing x) t limit room solids r s (e .3) .none,
           λ n. (length (loops (drawing x)), length (candidatesOf x), assumptions t, none-says (drawing x) t limit room solids r s n w),
         );
-    ninth = λ f w. tells-many (drawing x) t limit room solids r (s .tells) f w .answer;
+    many =
+        λ l c work. (
+          λ e. let m = says-many (drawing x) t limit room solids r s e in (m .nine, omega (arith, m .within, m .works), m .counts, m .works),
+          λ h. tells-many (drawing x) t limit room solids r (s .tells) (h .0) (h .1) .answer
+              ∙ ap₃ Many (sym (h .2 .0)) (sym (h .2 .1)) (sym (h .3)),
+        );
+    long =
+        λ l c work. (
+          λ e. let m = says-long (drawing x) t limit room solids r s e in (m .long, m .counts, m .works),
+          λ h. tells-long (drawing x) t limit room solids r (s .tells) (h .0) .answer
+              ∙ ap₃ TooLong (sym (h .1 .0)) (sym (h .1 .1)) (sym (h .2)),
+        );
     whole = no-ninth (drawing x) t;
-    long = λ w. tells-long (drawing x) t limit room solids r (s .tells) w .answer;
   }
 
   pub holds2 : Demand2 x t limit room solids (converted x limit room solids)

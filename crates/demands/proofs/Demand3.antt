@@ -9,9 +9,12 @@ use lib.ListN.{length, getD, drop}
 use Rattle.sets.specs.Word.{word}
 use Rattle.paper.specs.Format.{editionOne}
 use Rattle.paper.specs.FaceList.{encodeFaces, facesIn, solidFaces}
-use Rattle.paper.specs.Loops.{Loop, loops, candidates}
+use Rattle.paper.specs.Loops.{Loop, loopAt, loops, candidates}
 use Rattle.paper.specs.Conversion.{Converted, facesAfter}
-use Rattle.paper.specs.declared.Verdict.the-variants.{Accepted}
+use Rattle.paper.specs.Verdict.{verdict}
+use Rattle.paper.specs.declared.Refusal.{Refusal}
+use Rattle.paper.specs.declared.Verdict.{Verdict}
+use Rattle.paper.specs.declared.Verdict.the-variants.{Accepted, Refused}
 use Rattle.means_solid.specs.Solid.{IsSolid}
 use Rattle.means_solid.specs.Named.{Names}
 use Rattle.means_walk.specs.Tree.{assumptions}
@@ -23,15 +26,19 @@ use Rattle.means_report.proofs.Converted.{the-walk, conversion-unrefused}
 use Rattle.means_check.specs.Candidates.{Candidates}
 use Rattle.means_check.specs.Accepts.{NamesSolid}
 use Rattle.means_check.specs.Sent.{faceList}
-use Rattle.means_check.specs.Bodies.{SameBody}
-use Rattle.means_solid.proofs.Alike.{names-to}
-use Rattle.means_check.proofs.Bodies.{faceList-names, same-named}
-use Rattle.means_check.proofs.Demand.{drawing-places, drawing-fits, accepts-exactly, each-accepted, one-named}
+use Rattle.means_check.specs.Bodies.{AmongEither, SameBody}
+use Rattle.means_solid.proofs.Alike.{names-to, row-same}
+use Rattle.means_loops.proofs.Rings.{same-refl}
+use Rattle.means_check.proofs.Bodies.{faceList-names, same-named, names-again}
+use Rattle.means_check.proofs.Demand.{drawing-places, drawing-fits, accepts-exactly, each-accepted, one-named, not-turned, not-missing}
+use Rattle.means_check.proofs.Demand.{not-doubled}
+use Rattle.means_check.proofs.Parts.{some-face}
 use Rattle.means_sheets.proofs.FaceLists.{faces-read-one}
 use Rattle.demands.specs.Input.{Input, drawing, form, Passes, converted, checked, reported}
 use Rattle.demands.specs.Demand3.{NamesIt, Report, Demand3, Holds3}
+use Rattle.demands.specs.Spoiled.{Spoiled, face-turned, all-turned, face-missing, face-doubled}
 use Rattle.demands.proofs.Input.{converted-is, checked-is, form-fine, drawing-fine, loops-fine, small, counted}
-use Rattle.demands.proofs.Sendable.{names-sent}
+use Rattle.demands.proofs.Sendable.{singly, names-sent}
 use Rattle.demands.proofs.Rooms.{faces-reported, words-at}
 
 module _ (x : Input) (p : Passes x) where
@@ -77,6 +84,62 @@ module _ (x : Input) (p : Passes x) where
         (facesIn editionOne b) (r .2)
         (subst (λ (i : ℕ). NamesIt x (entryAt es i) (facesIn editionOne b)) z (s .2))
 
+    -- no two of them have lists that are the same body
+    differ : (i j : ℕ) → i < length es → j < length es → (fs gs : List Loop) → NamesIt x (entryAt es i) fs → NamesIt x (entryAt es j) gs
+        → SameBody fs gs → i ≡ j
+    differ i j hi hj fs gs n m b =
+        let si = all .each i hi in
+        let sj = all .each j hj in
+        let k = names-again (drawing x) (candidates (drawing x)) fits (entryAt es i .taken) (entryAt es i .turned) fs gs n b
+        (singly (drawing x) fits (drawing-places (drawing x) (drawing-fine x p)) (small x (form-fine x p) .1) (entryAt es j .taken)
+        (entryAt es j .turned) sj gs m) in
+        let one = one-named (form x) (drawing x) (drawing-fine x p) gs
+        (record { taken = entryAt es i .taken; turned = entryAt es i .turned; six = entryAt es i .six; solid = si; names = k })
+        (record { taken = entryAt es j .taken; turned = entryAt es j .turned; six = entryAt es j .six; solid = sj; names = m }) in
+        all .once i j hi hj (row-same (entryAt es i .taken) (entryAt es j .taken) (si .some ∙ sym (sj .some)) (one .0))
+
+  -- ---- what comes of an accepted list by turning, leaving out or doubling faces
+  module _ (a b : List ℕ) (ok : checked x a ≡ Accepted) (too : checked x b ≡ Accepted) where
+    abbrev fs : List Loop
+    fs = facesIn editionOne a
+
+    abbrev gs : List Loop
+    gs = facesIn editionOne b
+
+    ok-is : verdict (form x) (drawing x) a ≡ Accepted
+    ok-is = sym (checked-is x a) ∙ ok
+
+    too-is : verdict (form x) (drawing x) b ≡ Accepted
+    too-is = sym (checked-is x b) ∙ too
+
+    -- an accepted list has a face
+    a-face : 0 < length gs
+    a-face =
+        let w = named b too in
+        let f = some-face (drawing x) (candidates (drawing x)) (w .taken) (w .turned) (w .solid) in
+        let r = w .names .there (f .0) (f .1) in
+        omega (arith, r .1)
+
+    itself : AmongEither gs gs
+    itself i h = (i, h, inl (same-refl (loopAt gs i)))
+
+    spoiled : Spoiled fs gs → ⊥
+    spoiled (face-turned m i j hi hj s) = not-turned (form x) (drawing x) a ok-is b too-is m i j hi hj s
+    spoiled (all-turned f) =
+        not-turned (form x) (drawing x) a ok-is b too-is (λ i h. let r = f i h in (r .0, r .1, inr (r .2))) 0 (f 0 a-face .0) a-face
+        (f 0 a-face .1) (f 0 a-face .2)
+    spoiled (face-missing m j hj n) = not-missing (form x) (drawing x) a ok-is b too-is m j hj n
+    spoiled (face-doubled i j hi hj n (inl s)) = not-doubled (form x) (drawing x) b too-is i j hi hj n s
+    spoiled (face-doubled i j hi hj n (inr s)) = not-turned (form x) (drawing x) b too-is b too-is itself j i hj hi s
+
+  refused : (a b : List ℕ) → checked x a ≡ Accepted → Spoiled (facesIn editionOne a) (facesIn editionOne b)
+      → (r : Refusal) × (checked x b ≡ Refused r)
+  refused a b ok s = go (checked x b) refl
+    where
+      go : (v : Verdict) → checked x b ≡ v → (r : Refusal) × (checked x b ≡ Refused r)
+      go Accepted e = absurd (spoiled a b ok e s)
+      go (Refused r) e = (r, e)
+
   report : (limit : ℕ) (room solids : List ℕ) (r : Converted) → Sound (drawing x) (the-walk (drawing x)) limit room solids r
       → 0 < reported (r .answer) → Report x solids r
   unfolding solidsFor
@@ -121,6 +184,7 @@ module _ (x : Input) (p : Passes x) where
             λ i l. subst (NamesIt x (entryAt es i)) (sym (own t i l))
             (faceList-names (drawing x) (candidates (drawing x)) fits (entryAt es i .taken) (entryAt es i .turned) (all .each i l));
         other = among es all;
+        differ = differ es all;
         same = alone es all;
       }
       go (inr (inl t)) = absurd (omega (arith, ap reported (t .answer)))
@@ -135,6 +199,7 @@ module _ (x : Input) (p : Passes x) where
           (record { form-passes = form-fine x p; drawing-passes = drawing-fine x p; few = loops-fine x p; shape = w .0; named = w .1 }),
     );
     one-solid = one-named (form x) (drawing x) (drawing-fine x p);
+    refused = refused;
     reports = λ limit room solids h. report limit room solids (converted x limit room solids) (sound limit room solids h) h;
   }
     where

@@ -87,7 +87,7 @@ body-least fs gs b y =
 
 module _ (d : Wire) (c : Candidates d (candidates d)) (apart : samePlace d ≡ none) (few : length (d .edges) ≤ 64)
     (taken turned : List Bool) {six : ℕ} (s : IsSolid d (candidates d) taken turned six) where
-  singly : (fs : List Loop) → Names d (candidates d) taken turned fs → Singly fs
+  pub singly : (fs : List Loop) → Names d (candidates d) taken turned fs → Singly fs
   singly fs n i j hi hj p = let r = n .each i hi in n .once i j (r .0) hi hj (r .2) (same-trans (r .2) p)
 
   turn : (b : Bool) (l : Loop) → ClosedPath d l → ClosedPath d (cond b (flipped l) l)

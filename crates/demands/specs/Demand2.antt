@@ -18,6 +18,10 @@ use Rattle.demands.specs.Input.{Input, drawing, candidatesOf, Passes, co
 abbrev pub Allowed : ℕ → List ℕ → List ℕ → Type 0
 Allowed limit room solids = (832 ≤ length room) × (24 ≤ length solids) × (limit ≤ 1000000)
 
+-- "also returns the loop and candidate counts"
+abbrev pub Counts : Input → ℕ → ℕ → Type 0
+Counts x l c = (l ≡ length (loops (drawing x))) × (c ≡ length (candidatesOf x))
+
 module _ (x : Input) (t : WalkTree (drawing x) (candidatesOf x)) where
   -- "in walk order, with each face's direction and six times its volume": the solids that the walk t comes to
   abbrev pub solidsOf : List Entry
@@ -40,12 +44,14 @@ module _ (x : Input) (t : WalkTree (drawing x) (candidatesOf x)) where
       -- "and says 'no solid' exactly when there is none"
       pub none : assumptions t ≤ limit → ((l c work : ℕ) × (r .answer ≡ NoSolid l c work))
           ↔ ((taken turned : List Bool) (six : ℕ) → IsSolid (drawing x) (candidatesOf x) taken turned six → ⊥)
-      -- where it meets a ninth solid, and where it passes the limit before one: without a ninth that is the whole walk, so nothing else
-      -- is left
-      pub ninth : 8 < length solidsOf → workToNinth (drawing x) t ≤ limit
-          → r .answer ≡ Many (length (loops (drawing x))) (length (candidatesOf x)) (workToNinth (drawing x) t)
+      -- "meets a ninth solid": Many exactly where there are nine or more and the ninth is met within the limit
+      pub many : (l c work : ℕ)
+          → (r .answer ≡ Many l c work)
+          ↔ ((8 < length solidsOf) × (workToNinth (drawing x) t ≤ limit) × Counts x l c × (work ≡ workToNinth (drawing x) t))
+      -- "passes the work limit": TooLong exactly where the walk up to a ninth solid has more assumptions; without a ninth, that is all of it
+      pub long : (l c work : ℕ)
+          → (r .answer ≡ TooLong l c work) ↔ ((limit < workToNinth (drawing x) t) × Counts x l c × (work ≡ limit))
       pub whole : length solidsOf ≤ 8 → workToNinth (drawing x) t ≡ assumptions t
-      pub long : limit < workToNinth (drawing x) t → r .answer ≡ TooLong (length (loops (drawing x))) (length (candidatesOf x)) limit
 
 -- demand 2, of every drawing
 pub record Holds2 (x : Input) : Type 0 where

@@ -9,13 +9,15 @@ use Rattle.paper.specs.Format.{editionOne}
 use Rattle.paper.specs.FaceList.{encodeFaces, facesIn, wellShaped, solidFaces}
 use Rattle.paper.specs.Loops.{Loop}
 use Rattle.paper.specs.Conversion.{Converted}
-use Rattle.paper.specs.declared.Verdict.the-variants.{Accepted}
+use Rattle.paper.specs.declared.Refusal.{Refusal}
+use Rattle.paper.specs.declared.Verdict.the-variants.{Accepted, Refused}
 use Rattle.means_solid.specs.Named.{Names}
 use Rattle.means_report.specs.Fair.{Same}
 use Rattle.means_report.specs.Listed.{Entry, entryAt, wordsOf, Listed}
 use Rattle.means_check.specs.Accepts.{NamesSolid}
 use Rattle.means_check.specs.Bodies.{SameBody}
 use Rattle.demands.specs.Input.{Input, drawing, candidatesOf, Passes, converted, checked, reported}
+use Rattle.demands.specs.Spoiled.{Spoiled}
 
 module _ (x : Input) where
   -- the faces name this solid of a report, "with its directions, in any order of faces and from any starting corners"
@@ -35,6 +37,9 @@ module _ (x : Input) where
         → NamesIt (entryAt es i) (solidFaces (r .faces) (getD (r .solids) (3 * i) 0) (getD (r .solids) (3 * i + 1) 0))
     -- "no other body is": what is accepted names one of the n
     pub other : (list : List ℕ) → checked x list ≡ Accepted → (i : ℕ) × (i < length es) × NamesIt (entryAt es i) (facesIn editionOne list)
+    -- the n are n bodies: no two have lists that are the same body
+    pub differ : (i j : ℕ) → i < length es → j < length es → (fs gs : List Loop) → NamesIt (entryAt es i) fs → NamesIt (entryAt es j) gs
+        → SameBody fs gs → i ≡ j
     -- "with n = 1 any two accepted lists are the same body"
     pub same : length es ≡ 1 → (a b : List ℕ) → checked x a ≡ Accepted → checked x b ≡ Accepted
         → SameBody (facesIn editionOne a) (facesIn editionOne b)
@@ -49,6 +54,9 @@ module _ (x : Input) where
     -- "one solid": no list names two
     pub one-solid : (fs : List Loop) (a b : NamesSolid (drawing x) (candidatesOf x) fs)
         → Same (a .taken) (b .taken) × Same (a .turned) (b .turned)
+    -- an accepted list with a face turned, all turned, one missing or one doubled is refused
+    pub refused : (a b : List ℕ) → checked x a ≡ Accepted → Spoiled (facesIn editionOne a) (facesIn editionOne b)
+        → (r : Refusal) × (checked x b ≡ Refused r)
     pub reports : (limit : ℕ) (room solids : List ℕ) → 0 < reported (converted x limit room solids .answer)
         → Report solids (converted x limit room solids)
 
