@@ -1,37 +1,29 @@
 -- Demand 1 holds. Assumes nothing.
 use mathlib.Core.Path.{_≡_, refl, sym, ap, subst, _∙_}
-use mathlib.Core.Bool.{not, _||_}
+use mathlib.Core.Bool.{not}
 use mathlib.Core.Logic.{_⊎_, inl, inr}
-use mathlib.Core.List.{List, [], _∷_, _++_, map, flatMap}
-use Prim.Native.Nat.{ℕ, _/_, _<_}
+use mathlib.Core.List.{List, [], _∷_, _++_, append-assoc, flatMap}
+use Prim.Native.Nat.{ℕ, _<_}
 use native.Mathlib.Omega.{arith}
-use lib.Dec.{ltb}
-use lib.IntN.{ℤ}
 use lib.Ieee.{Float}
-use lib.ListN.{length, length-map}
-use Rattle.lists.specs.Lists.{all}
-use Rattle.paper.specs.Format.{editionOne, outside, total, bytesFor, verticesIn, edgesIn}
-use Rattle.paper.specs.Format.{coordinatesIn, endsIn}
+use lib.ListN.{length}
+use Rattle.paper.specs.Format.{editionOne}
 use Rattle.paper.specs.Numbers.{mostSolids}
-use Rattle.paper.specs.Refusals.{check, firstOf, offends}
-use Rattle.paper.specs.FaceList.{bitsOf, faceFits, facesIn, wellShaped, sendChecks, sentFor, sentRoomFor, sentOf, sentRoom}
-use Rattle.paper.specs.Sheet.{sheetChecks, lentChecks, writerChecks, writtenFor, roomFor, blank, held, drawnFor, sheetOf}
-use Rattle.paper.specs.Sheet.{writtenOf, roomOf}
-use Rattle.paper.specs.Drawing.{Wire}
+use Rattle.paper.specs.Refusals.{Check, check, firstOf, offends}
+use Rattle.paper.specs.FaceList.{facesIn, wellShaped}
 use Rattle.paper.specs.Drawing.{drawingChecks}
-use Rattle.paper.specs.Loops.{Loop, loops, candidates, loopChecks}
-use Rattle.paper.specs.Solids.{tablesOf, has}
+use Rattle.paper.specs.Loops.{loops, candidates, loopChecks}
+use Rattle.paper.specs.Solids.{tablesOf}
 use Rattle.paper.specs.Conversion.{Converted, entryChecks, conversion}
-use Rattle.paper.specs.Verdict.{numberIn, listed}
+use Rattle.paper.specs.Verdict.{listed}
 use Rattle.paper.specs.Verdict.{faceChecks, verdictFor, verdict}
 use Rattle.paper.specs.Reading.{conversionSays, volume, readingOf}
 use Rattle.paper.specs.declared.Refusal.{Refusal}
 use Rattle.paper.specs.declared.Answer.{Answer}
 use Rattle.paper.specs.declared.Answer.the-variants as Answer
-use Rattle.paper.specs.declared.Written.the-variants as Written
 use Rattle.paper.specs.declared.Conversion.{Conversion}
 use Rattle.paper.specs.declared.Conversion.the-variants as Conversion
-use Rattle.paper.specs.declared.Verdict.the-variants as Verdict
+use Rattle.paper.specs.declared.Verdict.{Verdict}
 use Rattle.paper.specs.declared.Reading.the-variants as Reading
 use Rattle.means_walk.specs.Tree.{assumptions}
 use Rattle.means_report.specs.Listed.{Entry, WalkTree, walked}
@@ -39,72 +31,80 @@ use Rattle.means_report.specs.Report.{answered, facesFor, solidsFor}
 use Rattle.means_report.proofs.Report.{Tells, Sound}
 use Rattle.means_report.proofs.Demand.{says-none, says-one, says-several, says-many, says-long}
 use Rattle.means_report.proofs.Converted.{the-walk, conversion-says}
-use Rattle.demands.specs.Input.{Input, lent, sheet, drawing, form, rules, reported}
-use Rattle.demands.specs.Table.{line, In, rooms, forms, shells}
-use Rattle.demands.specs.Demand1.{Answers, Demand1}
-use Rattle.demands.proofs.Input.{converted-is, checked-is, counted}
-use Rattle.demands.proofs.Table.{end, also, first-in, each-on}
-use Rattle.demands.proofs.Lines.{first-place, lent-in, sheet-in, drawn, rules-in, conversion-in, shell-in}
+use Rattle.means_check.proofs.Demand.{drawing-fits}
+use Rattle.demands.specs.Input.{Input, drawing, candidatesOf, form, rules, reported}
+use Rattle.demands.specs.Table.{end, one, rooms, forms, drawings, ofConversion, ofVerdict}
+use Rattle.demands.specs.Shells.{Shape, shells}
+use Rattle.demands.specs.Demand1.{Within, Demand1}
+use Rattle.demands.proofs.Input.{converted-is, checked-is, drawing-fine, counted}
+use Rattle.demands.proofs.Tests.{is-not}
+use Rattle.demands.proofs.Table.{Says, also-one, behind, ends}
+use Rattle.demands.proofs.Shape.{is-shape}
+use Rattle.demands.proofs.Lines.{entry-says, rules-say}
+use Rattle.demands.proofs.Shells.{shells-say}
+use Rattle.demands.proofs.Written.{read-says, read-blank, faces-say, write-says, write-keeps, send-says, send-keeps}
 
 -- ---- the check
 
-verdict-refused : (a : Answer) (r : Refusal) → verdictFor a ≡ Verdict.Refused r → a ≡ Answer.Refused r
-verdict-refused Answer.Fine r e = let z : _≡_ {A = ℕ} 0 1 = cc in absurd (omega arith)
-verdict-refused (Answer.Refused q) r e = let z : q ≡ r = cc in ap Answer.Refused z
-
-edges-many : (d : Wire) (cs : List Loop) → length (tablesOf d cs .masks) ≡ length (d .edges)
-unfolding tablesOf
-edges-many d cs = length-map (d .edges) (λ e. map (has e) cs)
-
-faces-many : (cs fs : List Loop) → length (listed cs fs .numbers) ≡ length fs
-unfolding listed
-faces-many cs fs = length-map fs (numberIn cs)
-
-check-in : (x : Input) (list : List ℕ) (r : Refusal) → verdict (form x) (drawing x) list ≡ Verdict.Refused r
-    → In r (forms x ++ drawn x ++ shells (length (drawing x .edges)) (length (facesIn editionOne list)))
+check-says : (x : Input) (list : List ℕ)
+    → forms x
+    (drawings (drawing x)
+    (one 20 (Shape (length (drawing x .vertices)) list → ⊥) (shells (drawing x) (candidatesOf x) (facesIn editionOne list) end)))
+    (ofVerdict (verdict (form x) (drawing x) list))
 unfolding verdict candidates
-check-in x list r e =
-    let t = tablesOf (drawing x) (candidates (drawing x)) in
-    let l = listed (candidates (drawing x)) (facesIn editionOne list) in
-    let ks = check 20 (offends (not (wellShaped editionOne (length (drawing x .vertices)) list)) 0) ∷ faceChecks t
-    (length (candidates (drawing x))) l in
-    let h = each-on (rules x) ks (forms x ++ drawn x) (shells (length (t .masks)) (length (l .numbers))) (rules-in x)
-    (shell-in t (length (candidates (drawing x))) l (not (wellShaped editionOne (length (drawing x .vertices)) list))) in
-    let i = first-in (forms x ++ drawn x ++ shells (length (t .masks)) (length (l .numbers))) (rules x ++ ks) h r
-    (verdict-refused (firstOf (rules x ++ ks)) r e) in
-    subst (λ (n : ℕ). In r (forms x ++ drawn x ++ shells n (length (facesIn editionOne list))))
-    (edges-many (drawing x) (candidates (drawing x)))
-    (subst (λ (n : ℕ). In r (forms x ++ drawn x ++ shells (length (t .masks)) n))
-    (faces-many (candidates (drawing x)) (facesIn editionOne list)) i)
+check-says x list =
+    let d = drawing x in
+    let fs = facesIn editionOne list in
+    let ks = check 20 (offends (not (wellShaped editionOne (length (d .vertices)) list)) 0)
+    ∷ faceChecks (tablesOf d (candidates d)) (length (candidates d)) (listed (candidates d) fs) in
+    let s = ends (λ below. forms x (drawings d (one 20 (Shape (length (d .vertices)) list → ⊥) (shells d (candidates d) fs below))))
+    (rules x ++ ks)
+    (behind (λ below. forms x (drawings d below)) (λ below. one 20 (Shape (length (d .vertices)) list → ⊥) (shells d (candidates d) fs below))
+    (rules x) ks (rules-say x) (λ p.
+    also-one 20 (Shape (length (d .vertices)) list → ⊥) (not (wellShaped editionOne (length (d .vertices)) list))
+    (is-not (wellShaped editionOne (length (d .vertices)) list) (is-shape (length (d .vertices)) list)) (shells d (candidates d) fs)
+    (faceChecks (tablesOf d (candidates d)) (length (candidates d)) (listed (candidates d) fs))
+    (λ e. shells-say d (candidates d) fs (drawing-fits d (drawing-fine x p))))) in
+    subst (forms x (drawings d (one 20 (Shape (length (d .vertices)) list → ⊥) (shells d (candidates d) fs end))))
+    (sym (of-verdict (firstOf (rules x ++ ks)))) s
+  where
+    of-verdict : (a : Answer) → ofVerdict (verdictFor a) ≡ a
+    of-verdict Answer.Fine = refl
+    of-verdict (Answer.Refused r) = refl
 
 -- ---- conversion
 
-never-refused : {A : Type 0} (l c w : ℕ) (es : List Entry) (r : Refusal) → answered l c w es ≡ Conversion.Refused r → A
-never-refused l c w [] r e = let z : _≡_ {A = ℕ} 0 1 = cc in absurd (omega arith)
-never-refused l c w (a ∷ []) r e = let z : _≡_ {A = ℕ} 0 1 = cc in absurd (omega arith)
-never-refused l c w (a ∷ (b ∷ es)) r e = let z : _≡_ {A = ℕ} 0 1 = cc in absurd (omega arith)
+-- a report, and 17 to 19, are no refusals
+fine-answered : (l c w : ℕ) (es : List Entry) → ofConversion (answered l c w es) ≡ Answer.Fine
+fine-answered l c w [] = refl
+fine-answered l c w (a ∷ []) = refl
+fine-answered l c w (a ∷ (b ∷ es)) = refl
 
 module _ (x : Input) (limit : ℕ) (room solids : List ℕ) (r : Converted) (s : Sound (drawing x) (the-walk (drawing x)) limit room solids r)
   where
     abbrev t : WalkTree (drawing x) (candidates (drawing x))
     t = the-walk (drawing x)
 
-    sound-answers : (a : Conversion) → r .answer ≡ a → Answers x limit a
-    sound-answers (Conversion.One l c w six) e = let o = says-one (drawing x) t limit room solids r s e in (o .within, o .is .iv .1)
-    sound-answers (Conversion.Several l c w n) e =
+    sound-within : (a : Conversion) → r .answer ≡ a → Within limit a
+    sound-within (Conversion.One l c w six) e = let o = says-one (drawing x) t limit room solids r s e in (o .within, o .is .iv .1)
+    sound-within (Conversion.Several l c w n) e =
         let o = says-several (drawing x) t limit room solids r s e in
         (o .within, o .two, o .eight)
-    sound-answers (Conversion.NoSolid l c w) e = says-none (drawing x) t limit room solids r s e .within
-    sound-answers (Conversion.Many l c w) e = says-many (drawing x) t limit room solids r s e .within
-    sound-answers (Conversion.TooLong l c w) e = says-long (drawing x) t limit room solids r s e .works
-    sound-answers (Conversion.Refused q) e = go (s .tells)
+    sound-within (Conversion.NoSolid l c w) e = says-none (drawing x) t limit room solids r s e .within
+    sound-within (Conversion.Many l c w) e = says-many (drawing x) t limit room solids r s e .within
+    sound-within (Conversion.TooLong l c w) e = says-long (drawing x) t limit room solids r s e .works
+    sound-within (Conversion.Refused q) e = tt
+
+    sound-fine : ofConversion (r .answer) ≡ Answer.Fine
+    sound-fine = go (s .tells)
       where
-        go : Tells (drawing x) t limit room solids r → Answers x limit (Conversion.Refused q)
+        go : Tells (drawing x) t limit room solids r → ofConversion (r .answer) ≡ Answer.Fine
         go (inl y) =
-            never-refused (length (loops (drawing x))) (length (candidates (drawing x))) (assumptions t)
-            (walked (drawing x) (candidates (drawing x)) t) q (sym (y .answer) ∙ e)
-        go (inr (inl y)) = let z : _≡_ {A = ℕ} 0 1 = cc (y .answer) in absurd (omega arith)
-        go (inr (inr y)) = let z : _≡_ {A = ℕ} 0 1 = cc (y .answer) in absurd (omega arith)
+            ap ofConversion (y .answer)
+            ∙ fine-answered (length (loops (drawing x))) (length (candidates (drawing x))) (assumptions t)
+            (walked (drawing x) (candidates (drawing x)) t)
+        go (inr (inl y)) = ap ofConversion (y .answer)
+        go (inr (inr y)) = ap ofConversion (y .answer)
 
     sound-kept : reported (r .answer) ≡ 0 → (r .faces ≡ room) × (r .solids ≡ solids)
     unfolding solidsFor flatMap
@@ -128,93 +128,46 @@ module _ (x : Input) (limit : ℕ) (room solids : List ℕ) where
   abbrev made : Converted
   made = conversion mostSolids (form x) (drawing x) limit room solids
 
-  answers : Answers x limit (made .answer)
-  answers = go (conversion-says (drawing x) (the-walk (drawing x)) (form x) limit room solids)
+  abbrev asked : List Check
+  asked = entryChecks limit room solids ++ form x ++ drawingChecks (drawing x) ++ loopChecks (loops (drawing x)) (candidates (drawing x))
+
+  -- conversion refuses, and leaves the rooms, or what it says is sound
+  abbrev Cases : Type 0
+  Cases =
+      ((q : Refusal) × (firstOf asked ≡ Answer.Refused q)
+      × (made ≡ record { answer = Conversion.Refused q; faces = room; solids = solids }))
+      ⊎ ((firstOf asked ≡ Answer.Fine) × Sound (drawing x) (the-walk (drawing x)) limit room solids made)
+
+  within : Within limit (made .answer)
+  within = go (conversion-says (drawing x) (the-walk (drawing x)) (form x) limit room solids)
     where
-      go : ((q : Refusal)
-          × (firstOf
-          (entryChecks limit room solids ++ form x ++ drawingChecks (drawing x) ++ loopChecks (loops (drawing x))
-          (candidates (drawing x))) ≡ Answer.Refused q)
-          × (made ≡ record { answer = Conversion.Refused q; faces = room; solids = solids }))
-          ⊎ ((firstOf
-          (entryChecks limit room solids ++ form x ++ drawingChecks (drawing x) ++ loopChecks (loops (drawing x))
-          (candidates (drawing x))) ≡ Answer.Fine) × Sound (drawing x) (the-walk (drawing x)) limit room solids made)
-          → Answers x limit (made .answer)
-      go (inl p) =
-          subst (Answers x limit) (sym (ap (λ (c : Converted). c .answer) (p .2)))
-          (first-in (rooms ++ forms x ++ drawn x) _ (conversion-in x limit room solids) (p .0) (p .1))
-      go (inr p) = sound-answers x limit room solids made (p .1) (made .answer) refl
+      go : Cases → Within limit (made .answer)
+      go (inl p) = subst (Within limit) (sym (ap (λ (c : Converted). c .answer) (p .2))) tt
+      go (inr p) = sound-within x limit room solids made (p .1) (made .answer) refl
+
+  says : rooms limit room solids (forms x (drawings (drawing x) end)) (ofConversion (made .answer))
+  says =
+      subst (rooms limit room solids (forms x (drawings (drawing x) end)))
+      (sym (go (conversion-says (drawing x) (the-walk (drawing x)) (form x) limit room solids)))
+      (ends (λ below. rooms limit room solids (forms x (drawings (drawing x) below))) asked
+      (subst (Says (λ below. rooms limit room solids (forms x (drawings (drawing x) below)))) (sym parts)
+      (behind (rooms limit room solids) (λ below. forms x (drawings (drawing x) below)) (entryChecks limit room solids) (rules x)
+      (entry-says limit room solids) (λ e. rules-say x))))
+    where
+      parts : entryChecks limit room solids ++ form x ++ drawingChecks (drawing x)
+          ++ loopChecks (loops (drawing x)) (candidates (drawing x)) ≡ entryChecks limit room solids ++ rules x
+      parts = simp append-assoc
+
+      go : Cases → ofConversion (made .answer) ≡ firstOf asked
+      go (inl p) = ap (λ (c : Converted). ofConversion (c .answer)) (p .2) ∙ sym (p .1)
+      go (inr p) = sound-fine x limit room solids made (p .1) ∙ sym (p .0)
 
   keeps : reported (made .answer) ≡ 0 → (made .faces ≡ room) × (made .solids ≡ solids)
   keeps e = go (conversion-says (drawing x) (the-walk (drawing x)) (form x) limit room solids)
     where
-      go : ((q : Refusal)
-          × (firstOf
-          (entryChecks limit room solids ++ form x ++ drawingChecks (drawing x) ++ loopChecks (loops (drawing x))
-          (candidates (drawing x))) ≡ Answer.Refused q)
-          × (made ≡ record { answer = Conversion.Refused q; faces = room; solids = solids }))
-          ⊎ ((firstOf
-          (entryChecks limit room solids ++ form x ++ drawingChecks (drawing x) ++ loopChecks (loops (drawing x))
-          (candidates (drawing x))) ≡ Answer.Fine) × Sound (drawing x) (the-walk (drawing x)) limit room solids made)
-          → (made .faces ≡ room) × (made .solids ≡ solids)
+      go : Cases → (made .faces ≡ room) × (made .solids ≡ solids)
       go (inl p) = (ap (λ (c : Converted). c .faces) (p .2), ap (λ (c : Converted). c .solids) (p .2))
       go (inr p) = sound-kept x limit room solids made (p .1) e
-
--- ---- sheets
-
-read-in : (s : List ℕ) (r : Refusal) → sheetOf editionOne s .answer ≡ Answer.Refused r
-    → In r (forms (sheet s)) × (sheetOf editionOne s .drawing ≡ blank)
-unfolding sheetOf
-read-in s r e = (
-  first-in (forms (sheet s)) (sheetChecks editionOne s) (sheet-in s) r e,
-  ap
-      (λ (a : Answer). drawnFor a
-      (held (verticesIn editionOne s) (edgesIn editionOne s) (coordinatesIn editionOne s) (endsIn editionOne s)))
-      e,
-)
-
-module _ (xyz : List ℤ) (ns room : List ℕ) (r : Refusal) where
-  written-refused : (a : Answer) → writtenFor editionOne xyz ns a ≡ Written.Refused r → a ≡ Answer.Refused r
-  written-refused Answer.Fine e = let z : _≡_ {A = ℕ} 0 1 = cc in absurd (omega arith)
-  written-refused (Answer.Refused q) e = let z : q ≡ r = cc in ap Answer.Refused z
-
-  refuses : writtenOf editionOne xyz ns room ≡ Written.Refused r
-      → firstOf (writerChecks editionOne xyz ns (length room)) ≡ Answer.Refused r
-  unfolding writtenOf
-  refuses e = written-refused (firstOf (writerChecks editionOne xyz ns (length room))) e
-
-  write-in : writtenOf editionOne xyz ns room ≡ Written.Refused r → In r (forms (lent xyz ns) ++ line 1 1 ∷ [])
-  unfolding writerChecks
-  write-in e =
-      first-in (forms (lent xyz ns) ++ line 1 1 ∷ []) (writerChecks editionOne xyz ns (length room))
-      (each-on (lentChecks editionOne xyz ns) _ (forms (lent xyz ns)) (line 1 1 ∷ []) (lent-in xyz ns)
-      (also (λ p q. inl (refl, first-place (ltb (length room) (bytesFor (total editionOne (length xyz / 3) (length ns / 2)))) p q)) end))
-      r (refuses e)
-
-  write-keeps : writtenOf editionOne xyz ns room ≡ Written.Refused r → roomOf editionOne xyz ns room ≡ room
-  unfolding roomOf
-  write-keeps e = ap (λ (a : Answer). roomFor editionOne xyz ns a room) (refuses e)
-
--- a face list written from a report
-module _ (fs : List Loop) (room : List ℕ) (r : Refusal) where
-  sent-refused : (a : Answer) → sentFor editionOne fs a ≡ Written.Refused r → a ≡ Answer.Refused r
-  sent-refused Answer.Fine e = let z : _≡_ {A = ℕ} 0 1 = cc in absurd (omega arith)
-  sent-refused (Answer.Refused q) e = let z : q ≡ r = cc in ap Answer.Refused z
-
-  sending : sentOf editionOne fs room ≡ Written.Refused r → firstOf (sendChecks editionOne fs (length room)) ≡ Answer.Refused r
-  unfolding sentOf
-  sending e = sent-refused (firstOf (sendChecks editionOne fs (length room))) e
-
-  send-in : sentOf editionOne fs room ≡ Written.Refused r → In r (line 20 1 ∷ line 1 1 ∷ [])
-  unfolding sendChecks
-  send-in e =
-      first-in (line 20 1 ∷ line 1 1 ∷ []) (sendChecks editionOne fs (length room))
-      (also (λ p q. inl (refl, first-place (outside 4 42 (length fs) || not (all (faceFits editionOne 32) fs)) p q))
-      (also (λ p q. inr (inl (refl, first-place (ltb (length room) (bytesFor (bitsOf editionOne fs))) p q))) end)) r (sending e)
-
-  send-keeps : sentOf editionOne fs room ≡ Written.Refused r → sentRoom editionOne fs room ≡ room
-  unfolding sentRoom
-  send-keeps e = ap (λ (a : Answer). sentRoomFor editionOne fs a room) (sending e)
 
 -- ---- the reading
 
@@ -248,15 +201,25 @@ number-none (Conversion.Refused r) h = refl
 pub demand1 : Demand1
 demand1 = record {
   converts =
-      λ x limit room solids. subst (λ (c : Converted). Answers x limit (c .answer)) (sym (converted-is x limit room solids))
-      (answers x limit room solids);
-  checks = λ x list r e. check-in x list r (sym (checked-is x list) ∙ e);
-  reads = read-in;
-  writes = write-in;
-  sends = send-in;
+      λ x limit room solids. subst
+      (λ (c : Converted). Within limit (c .answer)
+      × rooms limit room solids (forms x (drawings (drawing x) end)) (ofConversion (c .answer)))
+      (sym (converted-is x limit room solids)) (within x limit room solids, says x limit room solids);
+  checks =
+      λ x list. subst
+      (λ (v : Verdict). forms x
+      (drawings (drawing x)
+      (one 20 (Shape (length (drawing x .vertices)) list → ⊥) (shells (drawing x) (candidatesOf x) (facesIn editionOne list) end)))
+      (ofVerdict v))
+      (sym (checked-is x list)) (check-says x list);
+  reads = read-says;
+  reads-faces = faces-say;
+  writes = write-says;
+  sends = send-says;
   rooms-kept = λ x limit room solids e.
       subst (λ (c : Converted). reported (c .answer) ≡ 0 → (c .faces ≡ room) × (c .solids ≡ solids))
       (sym (converted-is x limit room solids)) (keeps x limit room solids) e;
+  blank-kept = read-blank;
   room-kept = write-keeps;
   send-room-kept = send-keeps;
   volume-of = volume-one;

@@ -1,206 +1,116 @@
--- The checks of each function are lines of the table, with its places. Assumes nothing.
-use mathlib.Core.Path.{refl}
-use mathlib.Core.Bool.{Bool, false, not, _&&_, _||_}
-use mathlib.Core.Logic.{inl, inr}
-use mathlib.Core.List.{List, [], _∷_, _++_}
-use Prim.Native.Nat.{ℕ, _/_}
-use native.Mathlib.Omega.{arith}
+-- The checks 1 to 16 are the lines of the table: each finds the lowest place that offends. Assumes nothing.
+use mathlib.Core.Path.{_≡_, sym, subst}
+use mathlib.Core.Bool.{not, _&&_, _||_}
+use mathlib.Core.List.{List, [], _++_, append-assoc}
+use Prim.Native.Nat.{ℕ, zero, suc, _+_, _*_, _/_, _%_}
 use lib.Dec.{ltb, leb, eqb}
-use lib.IntN.{ℤ}
-use lib.ListN.{length, getD, take}
-use Rattle.lists.specs.Lists.{any, upto, member}
-use Rattle.sets.specs.Word.{count, both}
+use lib.IntN.{ℤ, pos, negsuc}
+use lib.Signed.{ltZ}
+use lib.ListN.{length, getD}
+use native.Mathlib.Omega.{arith}
+use Rattle.lists.specs.Lists.{lowest}
 use Rattle.paper.specs.Format.{editionOne, leastVertices, leastEdges, outside, total, bytesFor, fillAfter, verticesIn, edgesIn}
 use Rattle.paper.specs.Format.{coordinatesIn, endsIn}
 use Rattle.pack.specs.Bits.{fieldAt}
-use Rattle.paper.specs.Refusals.{check, offends}
-use Rattle.paper.specs.Points.{samePoint, above}
-use Rattle.paper.specs.Sheet.{badCount, farAt, wrongAt, lowAt, edgeChecks, contentChecks, countChecks, openChecks, closeChecks}
-use Rattle.paper.specs.Sheet.{shapeChecks, sheetChecks, lentChecks}
-use Rattle.paper.specs.Drawing.{Wire, at, ends, edgeAt, samePlace, looseVertex, vertexOn, edgesMeet, edgeMeets, verticesReached, apart}
-use Rattle.paper.specs.Drawing.{drawingChecks}
-use Rattle.paper.specs.Loops.{Loop, loops, candidates, loopChecks}
-use Rattle.paper.specs.Solids.{Tables, inTwo, onceEachWay, facesFrom, sixFrom}
+use Rattle.paper.specs.Refusals.{Check, firstOf}
+use Rattle.paper.specs.Sheet.{badCount, far, farAt, wrong, wrongAt, edgeAbove, lowAt, edgeChecks, contentChecks, countChecks, openChecks}
+use Rattle.paper.specs.Sheet.{closeChecks, shapeChecks, sheetChecks, lentChecks}
+use Rattle.paper.specs.Drawing.{Wire, samePlace, looseVertex, edgeMeets, apart, drawingChecks}
+use Rattle.paper.specs.Loops.{loops, candidates, loopChecks}
 use Rattle.paper.specs.Conversion.{entryChecks}
-use Rattle.paper.specs.Verdict.{Listed, notCandidate, faceTwice, edgeCount, direction, pieces, inward, clashes}
-use Rattle.paper.specs.Verdict.{faceChecks}
+use Rattle.paper.specs.declared.Answer.the-variants.{Fine}
+use Rattle.means_drawing.specs.Drawings.{Doubled, Loose, Meets, Reachable, Rising}
+use Rattle.means_drawing.proofs.Searches.{finds}
+use Rattle.means_drawing.proofs.Drawings.{samePlace-finds, looseVertex-finds, edgeMeets-finds, long-edges, apart-finds}
+use Rattle.means_drawing.proofs.Drawings.Lists.{lent-rising}
+use Rattle.means_sheets.proofs.Sheets.Read.{accepted-lent}
 use Rattle.demands.specs.Input.{Input, lent, sheet, drawing, form, rules}
-use Rattle.demands.specs.Table.{Line, line, rooms, lists, forms, drawings, shells}
-use Rattle.demands.proofs.Table.{Below, lowest-below, offends-below, Each, end, also, each-both, each-right, each-on}
+use Rattle.demands.specs.Table.{Outside, BadCount, Far, Wrong, BadEdge, Above, EdgeOrder, rooms, lists, forms, drawings}
+use Rattle.demands.proofs.Tests.{Is, is-lt, is-le, is-eq, is-ltZ, is-not, is-or, is-and}
+use Rattle.demands.proofs.Table.{Says, done, also, also-one, also-two, behind}
 
--- ---- the checks are lines of the table
+-- ---- 1 and 2
 
--- one place, 0; two, 0 and 1
-pub first-place : (b : Bool) → Below (offends b 0) 1
-first-place b p e = offends-below b 0 1 (omega arith) p e
-
-zero-of-two : (b : Bool) → Below (offends b 0) 2
-zero-of-two b p e = offends-below b 0 2 (omega arith) p e
-
-one-of-two : (b : Bool) → Below (offends b 1) 2
-one-of-two b p e = offends-below b 1 2 (omega arith) p e
-
-entry-in : (limit : ℕ) (room solids : List ℕ) → Each rooms (entryChecks limit room solids)
+pub entry-says : (limit : ℕ) (room solids : List ℕ) → Says (rooms limit room solids) (entryChecks limit room solids)
 unfolding entryChecks
-entry-in limit room solids =
-    also (λ p e. inl (refl, zero-of-two (ltb (length room) 832) p e))
-    (also (λ p e. inl (refl, one-of-two (ltb (length solids) 24) p e))
-    (also (λ p e. inr (inl (refl, first-place (ltb 1000000 limit) p e))) end))
+entry-says limit room solids =
+    also-two 1 _ _ _ _ (is-lt (length room) 832) (is-lt (length solids) 24) _ _
+    (also-one 2 _ _ (is-lt 1000000 limit) (λ below. below) [] (λ e. done))
 
-content-in : (v : ℕ) (xyz : List ℤ) (ns : List ℕ) → Each (lists (length xyz) (length ns / 2)) (contentChecks v xyz ns)
+-- ---- 3 to 10
+
+is-outside : (lo hi n : ℕ) → Is (outside lo hi n) (Outside lo hi n)
+is-outside lo hi n = is-or (ltb n lo) (ltb hi n) (is-lt n lo) (is-lt hi n)
+
+is-bad : (k lo hi n : ℕ) → Is (badCount k lo hi n) (BadCount k lo hi n)
+is-bad k lo hi n =
+    is-or (not (eqb (n % k) 0)) (outside lo hi (n / k)) (is-not (eqb (n % k) 0) (is-eq (n % k) 0)) (is-outside lo hi (n / k))
+
+is-far : (xyz : List ℤ) (i : ℕ) → Is (farAt xyz i) (Far xyz i)
+unfolding farAt
+is-far xyz i =
+    let z = getD xyz i (pos 0) in
+    is-or (ltZ z (negsuc 999)) (ltZ (pos 1000) z) (is-ltZ z (negsuc 999)) (is-ltZ (pos 1000) z)
+
+is-wrong : (v a b : ℕ) → Is (wrong v a b) (Wrong v a b)
+is-wrong v a b = is-or (leb v a) (leb v b || leb b a) (is-le v a) (is-or (leb v b) (leb b a) (is-le v b) (is-le b a))
+
+is-bad-edge : (v : ℕ) (ns : List ℕ) (e : ℕ) → Is (wrongAt v ns e) (BadEdge v ns e)
+unfolding wrongAt
+is-bad-edge v ns e = is-wrong v (getD ns (2 * e) 0) (getD ns (2 * e + 1) 0)
+
+is-above : (a b c d : ℕ) → Is (edgeAbove a b c d) (Above a b c d)
+is-above a b c d = is-or (ltb a c) (eqb a c && ltb b d) (is-lt a c) (is-and (eqb a c) (ltb b d) (is-eq a c) (is-lt b d))
+
+is-low : (ns : List ℕ) (e : ℕ) → Is (lowAt ns e) (EdgeOrder ns e)
+unfolding lowAt
+is-low ns zero = (λ e. let z : _≡_ {A = ℕ} 0 1 = cc in omega arith, λ h. absurd h)
+is-low ns (suc e) =
+    is-not (edgeAbove (getD ns (2 * e) 0) (getD ns (2 * e + 1) 0) (getD ns (2 * e + 2) 0) (getD ns (2 * e + 3) 0))
+    (is-above (getD ns (2 * e) 0) (getD ns (2 * e + 1) 0) (getD ns (2 * e + 2) 0) (getD ns (2 * e + 3) 0))
+
+content-says : (v : ℕ) (xyz : List ℤ) (ns : List ℕ) → Says (lists v xyz ns) (contentChecks v xyz ns)
 unfolding contentChecks edgeChecks
-content-in v xyz ns =
-    also (λ p e. inr (inl (refl, lowest-below (farAt xyz) (length xyz) p e)))
-    (also (λ p e. inr (inr (inl (refl, lowest-below (wrongAt v ns) (length ns / 2) p e))))
-    (also (λ p e. inr (inr (inr (inl (refl, lowest-below (lowAt ns) (length ns / 2) p e))))) end))
+content-says v xyz ns =
+    also 8 (length xyz) (Far xyz) (lowest (farAt xyz) (length xyz)) _ _ (finds (farAt xyz) (Far xyz) (length xyz) (λ k h. is-far xyz k))
+    (λ e. also 9 (length ns / 2) (BadEdge v ns) (lowest (wrongAt v ns) (length ns / 2)) _ _
+    (finds (wrongAt v ns) (BadEdge v ns) (length ns / 2) (λ k h. is-bad-edge v ns k))
+    (λ e. also 10 (length ns / 2) (EdgeOrder ns) (lowest (lowAt ns) (length ns / 2)) (λ below. below) []
+    (finds (lowAt ns) (EdgeOrder ns) (length ns / 2) (λ k h. is-low ns k)) (λ e. done)))
 
-pub lent-in : (xyz : List ℤ) (ns : List ℕ) → Each (lists (length xyz) (length ns / 2)) (lentChecks editionOne xyz ns)
-unfolding lentChecks
-lent-in xyz ns =
-    also (λ p e. inl (refl, zero-of-two (badCount 3 leastVertices 32 (length xyz)) p e))
-    (also (λ p e. inl (refl, one-of-two (badCount 2 leastEdges 64 (length ns)) p e)) (content-in (length xyz / 3) xyz ns))
+pub form-says : (x : Input) → Says (forms x) (form x)
+unfolding lentChecks sheetChecks shapeChecks openChecks countChecks closeChecks
+form-says (lent xyz ns) =
+    also-two 5 _ _ _ _ (is-bad 3 4 32 (length xyz)) (is-bad 2 6 64 (length ns)) _ _ (content-says (length xyz / 3) xyz ns)
+form-says (sheet s) =
+    let v = verticesIn editionOne s in
+    let n = edgesIn editionOne s in
+    also-one 3 _ _ (is-lt (length s) 3) _ _ (λ e.
+    also-one 4 _ _ (is-not (eqb (fieldAt s 0 4) 1) (is-eq (fieldAt s 0 4) 1)) _ _ (λ e.
+    also-two 5 _ _ _ _ (is-outside 4 32 v) (is-outside 6 64 n) _ _
+    (also-one 6 _ _ (is-not (eqb (length s) (bytesFor (total editionOne v n))) (is-eq (length s) (bytesFor (total editionOne v n)))) _ _ (λ e.
+    also-one 7 _ _ (is-not (eqb (fillAfter (total editionOne v n) s) 0) (is-eq (fillAfter (total editionOne v n) s) 0)) _ _ (λ e.
+    content-says v (coordinatesIn editionOne s) (endsIn editionOne s))))))
 
-module _ (s : List ℕ) (v n : ℕ) where
-  opens-in : Each (forms (sheet s)) (openChecks editionOne s)
-  unfolding openChecks
-  opens-in =
-      also (λ p e. inl (refl, first-place (ltb (length s) 3) p e))
-      (also (λ p e. inr (inl (refl, first-place (not (eqb (fieldAt s 0 4) 1)) p e))) end)
+-- ---- 11 to 16: where 9 finds nothing the ends of edges rise
 
-  counts-in : Each (forms (sheet s)) (countChecks editionOne v n)
-  unfolding countChecks
-  counts-in =
-      also (λ p e. inr (inr (inr (inr (inl (refl, zero-of-two (outside leastVertices 32 v) p e))))))
-      (also (λ p e. inr (inr (inr (inr (inl (refl, one-of-two (outside leastEdges 64 n) p e)))))) end)
+rising : (x : Input) → firstOf (form x) ≡ Fine → Rising (drawing x)
+rising (lent xyz ns) e = lent-rising editionOne xyz ns (sym e)
+rising (sheet s) e = lent-rising editionOne (coordinatesIn editionOne s) (endsIn editionOne s) (accepted-lent editionOne s (sym e))
 
-  closes-in : Each (forms (sheet s)) (closeChecks editionOne s v n)
-  unfolding closeChecks
-  closes-in =
-      also (λ p e. inr (inr (inl (refl, first-place (not (eqb (length s) (bytesFor (total editionOne v n)))) p e))))
-      (also (λ p e. inr (inr (inr (inl (refl, first-place (not (eqb (fillAfter (total editionOne v n) s) 0)) p e))))) end)
+drawing-says : (d : Wire) → Rising d → Says (drawings d) (drawingChecks d ++ loopChecks (loops d) (candidates d))
+unfolding drawingChecks loopChecks
+drawing-says d r =
+    also 11 (length (d .vertices)) (Doubled d) (samePlace d) _ _ (samePlace-finds d)
+    (λ p. also 12 (length (d .vertices)) (Loose d) (looseVertex d) _ _ (looseVertex-finds d)
+    (λ e. also 13 (length (d .edges)) (Meets d) (edgeMeets d) _ _ (edgeMeets-finds d (long-edges d r p))
+    (λ e. also 14 (length (d .vertices)) (λ v. Reachable d v → ⊥) (apart d) _ _ (apart-finds d)
+    (λ e. also-one 15 _ _ (is-lt 128 (length (loops d))) _ _
+    (λ e. also-one 16 _ _ (is-lt 64 (length (candidates d))) (λ below. below) [] (λ e. done))))))
 
-pub sheet-in : (s : List ℕ) → Each (forms (sheet s)) (sheetChecks editionOne s)
-unfolding sheetChecks shapeChecks
-sheet-in s =
-    each-both (forms (sheet s))
-    (openChecks editionOne s ++ countChecks editionOne (verticesIn editionOne s) (edgesIn editionOne s) ++ closeChecks editionOne s
-    (verticesIn editionOne s) (edgesIn editionOne s))
-    (contentChecks (verticesIn editionOne s) (coordinatesIn editionOne s) (endsIn editionOne s))
-    (each-both (forms (sheet s)) (openChecks editionOne s ++ countChecks editionOne (verticesIn editionOne s) (edgesIn editionOne s))
-    (closeChecks editionOne s (verticesIn editionOne s) (edgesIn editionOne s))
-    (each-both (forms (sheet s)) (openChecks editionOne s) (countChecks editionOne (verticesIn editionOne s) (edgesIn editionOne s))
-    (opens-in s 0 0) (counts-in s (verticesIn editionOne s) (edgesIn editionOne s)))
-    (closes-in s (verticesIn editionOne s) (edgesIn editionOne s)))
-    (each-right (contentChecks (verticesIn editionOne s) (coordinatesIn editionOne s) (endsIn editionOne s))
-    (line 3 1 ∷ line 4 1 ∷ line 6 1 ∷ line 7 1 ∷ []) (lists (length (coordinatesIn editionOne s)) (length (endsIn editionOne s) / 2))
-    (content-in (verticesIn editionOne s) (coordinatesIn editionOne s) (endsIn editionOne s)))
-
-form-in : (x : Input) → Each (forms x) (form x)
-form-in (lent xyz ns) = lent-in xyz ns
-form-in (sheet s) = sheet-in s
-
--- 11 to 16
-module _ (d : Wire) where
-  same-below : Below (samePlace d) (length (d .vertices))
-  unfolding samePlace
-  same-below p e =
-      lowest-below (λ u. any (λ v. not (eqb u v) && samePoint (at d u) (at d v)) (upto (length (d .vertices)))) (length (d .vertices)) p e
-
-  loose-below : Below (looseVertex d) (length (d .vertices))
-  unfolding looseVertex
-  loose-below p e = lowest-below (λ v. not (any (ends v) (d .edges))) (length (d .vertices)) p e
-
-  meets-below : Below (edgeMeets d) (length (d .edges))
-  unfolding edgeMeets
-  meets-below p e =
-      lowest-below
-      (λ e. any (vertexOn d (edgeAt d e)) (upto (length (d .vertices))) || any
-      (λ f. not (eqb e f) && edgesMeet d (edgeAt d e) (edgeAt d f)) (upto (length (d .edges)))) (length (d .edges)) p e
-
-  apart-below : Below (apart d) (length (d .vertices))
-  unfolding apart
-  apart-below p e = lowest-below (λ v. not (getD (verticesReached d (length (d .vertices))) v false)) (length (d .vertices)) p e
-
-  drawing-in : Each (drawings (length (d .vertices)) (length (d .edges))) (drawingChecks d)
-  unfolding drawingChecks
-  drawing-in =
-      also (λ p e. inl (refl, same-below p e))
-      (also (λ p e. inr (inl (refl, loose-below p e)))
-      (also (λ p e. inr (inr (inl (refl, meets-below p e)))) (also (λ p e. inr (inr (inr (inl (refl, apart-below p e))))) end)))
-
-  loops-in : (ls cs : List Loop) → Each (drawings (length (d .vertices)) (length (d .edges))) (loopChecks ls cs)
-  unfolding loopChecks
-  loops-in ls cs =
-      also (λ p e. inr (inr (inr (inr (inl (refl, first-place (ltb 128 (length ls)) p e))))))
-      (also (λ p e. inr (inr (inr (inr (inr (inl (refl, first-place (ltb 64 (length cs)) p e))))))) end)
-
--- the tables of conversion and of the check
-abbrev pub drawn : Input → List Line
-drawn x = drawings (length (drawing x .vertices)) (length (drawing x .edges))
-
-module _ (x : Input) where
-  pub rules-in : Each (forms x ++ drawn x) (rules x)
-  rules-in =
-      each-both (forms x ++ drawn x) (form x ++ drawingChecks (drawing x)) (loopChecks (loops (drawing x)) (candidates (drawing x)))
-      (each-on (form x) (drawingChecks (drawing x)) (forms x) (drawn x) (form-in x) (drawing-in (drawing x)))
-      (each-right (loopChecks (loops (drawing x)) (candidates (drawing x))) (forms x) (drawn x)
-      (loops-in (drawing x) (loops (drawing x)) (candidates (drawing x))))
-
-  pub conversion-in : (limit : ℕ) (room solids : List ℕ)
-      → Each (rooms ++ forms x ++ drawn x)
-      (entryChecks limit room solids ++ form x ++ drawingChecks (drawing x) ++ loopChecks (loops (drawing x)) (candidates (drawing x)))
-  conversion-in limit room solids =
-      each-both (rooms ++ forms x ++ drawn x) (entryChecks limit room solids ++ form x ++ drawingChecks (drawing x))
-      (loopChecks (loops (drawing x)) (candidates (drawing x)))
-      (each-on (entryChecks limit room solids ++ form x) (drawingChecks (drawing x)) (rooms ++ forms x) (drawn x)
-      (each-on (entryChecks limit room solids) (form x) rooms (forms x) (entry-in limit room solids) (form-in x))
-      (drawing-in (drawing x)))
-      (each-right (loopChecks (loops (drawing x)) (candidates (drawing x))) (rooms ++ forms x) (drawn x)
-      (loops-in (drawing x) (loops (drawing x)) (candidates (drawing x))))
-
--- 20 to 27
-module _ (t : Tables) (n : ℕ) (l : Listed) where
-  abbrev faceCount : ℕ
-  faceCount = length (l .numbers)
-
-  not-below : Below (notCandidate n (l .numbers)) faceCount
-  unfolding notCandidate
-  not-below p e = lowest-below (λ i. leb n (getD (l .numbers) i 0)) faceCount p e
-
-  twice-below : Below (faceTwice (l .numbers)) faceCount
-  unfolding faceTwice
-  twice-below p e = lowest-below (λ i. member (getD (l .numbers) i 0) (take i (l .numbers))) faceCount p e
-
-  edge-below : Below (edgeCount t (l .taken)) (length (t .masks))
-  unfolding edgeCount
-  edge-below p e = lowest-below (λ e. not (inTwo (getD (t .masks) e []) (l .taken))) (length (t .masks)) p e
-
-  way-below : Below (direction t (l .taken) (l .turned)) (length (t .masks))
-  unfolding direction
-  way-below p e =
-      lowest-below (λ e. not (onceEachWay (getD (t .masks) e []) (getD (t .ups) e []) (l .taken) (l .turned))) (length (t .masks)) p e
-
-  piece-below : Below (pieces t (l .numbers) (l .taken)) faceCount
-  unfolding pieces
-  piece-below p e =
-      lowest-below (λ i. not (getD (facesFrom (getD (l .numbers) 0 0) t (l .taken) .reached) (getD (l .numbers) i 0) false)) faceCount p e
-
-  inward-below : Below (inward t (l .taken) (l .turned)) 1
-  unfolding inward
-  inward-below p e = first-place (not (above (sixFrom 0 (t .sixes) (l .taken) (l .turned)))) p e
-
-  clash-below : Below (clashes t (l .numbers) (l .taken)) faceCount
-  unfolding clashes
-  clash-below p e = lowest-below (λ i. not (eqb (count (both (getD (t .clashes) (getD (l .numbers) i 0) []) (l .taken))) 0)) faceCount p e
-
-  pub shell-in : (b : Bool) → Each (shells (length (t .masks)) faceCount) (check 20 (offends b 0) ∷ faceChecks t n l)
-  unfolding faceChecks
-  shell-in b =
-      also (λ p e. inl (refl, first-place b p e))
-      (also (λ p e. inr (inl (refl, not-below p e)))
-      (also (λ p e. inr (inr (inl (refl, twice-below p e))))
-      (also (λ p e. inr (inr (inr (inl (refl, edge-below p e)))))
-      (also (λ p e. inr (inr (inr (inr (inl (refl, way-below p e))))))
-      (also (λ p e. inr (inr (inr (inr (inr (inl (refl, piece-below p e)))))))
-      (also (λ p e. inr (inr (inr (inr (inr (inr (inl (refl, inward-below p e))))))))
-      (also (λ p e. inr (inr (inr (inr (inr (inr (inr (inl (refl, clash-below p e))))))))) end)))))))
+pub rules-say : (x : Input) → Says (λ below. forms x (drawings (drawing x) below)) (rules x)
+rules-say x =
+    let d = drawing x in
+    subst (Says (λ below. forms x (drawings d below))) (sym (append-assoc (form x) (drawingChecks d) (loopChecks (loops d) (candidates d))))
+    (behind (forms x) (drawings d) (form x) (drawingChecks d ++ loopChecks (loops d) (candidates d)) (form-says x)
+    (λ e. drawing-says d (rising x e)))

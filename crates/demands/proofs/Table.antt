@@ -1,81 +1,86 @@
--- The first of some checks, each of which is a line of the table with its places, is one of these lines. Assumes nothing.
-use mathlib.Core.Path.{_≡_, refl, subst}
-use mathlib.Core.Bool.{Bool, true, false, cond}
+-- What the first of some checks says of the lines of a table. Assumes nothing.
+use mathlib.Core.Path.{_≡_, refl, sym, subst}
+use mathlib.Core.Bool.{Bool, true, false}
 use mathlib.Core.Option.{Option, none, some}
 use mathlib.Core.Logic.{inl, inr}
 use mathlib.Core.List.{List, [], _∷_, _++_}
-use Prim.Native.Nat.{ℕ, zero, suc, _+_, _<_}
+use Prim.Native.Nat.{ℕ, zero, suc, _<_}
 use native.Mathlib.Omega.{arith}
-use Rattle.lists.specs.Lists.{find, from, upto, lowest}
 use Rattle.paper.specs.Refusals.{Check, check, firstOf, offends}
 use Rattle.paper.specs.declared.Refusal.{Refusal}
-use Rattle.paper.specs.declared.Answer.the-variants.{Refused}
-use Rattle.demands.specs.Table.{Line, line, In}
+use Rattle.paper.specs.declared.Answer.{Answer}
+use Rattle.paper.specs.declared.Answer.the-variants.{Fine, Refused}
+use Rattle.means_drawing.specs.Drawings.{Finds}
+use Rattle.means_check.proofs.Accepting.{fine-both}
+use Rattle.demands.specs.Table.{line, end, one, Two}
+use Rattle.demands.proofs.Tests.{Is, is-off}
 
--- the places of a check are below a bound
-abbrev pub Below : Option ℕ → ℕ → Type 0
-Below o n = (p : ℕ) → o ≡ some p → p < n
+-- an answer, and the answer of the checks behind it where it is none
+abbrev pub orElse : Answer → Answer → Answer
+orElse Fine a = a
+orElse (Refused r) a = Refused r
 
--- a search finds a number below its bound
-find-below : (p : ℕ → Bool) (m i k : ℕ) → find p (from i m) ≡ some k → k < i + m
-unfolding find from
-find-below p zero i k e = let z : _≡_ {A = ℕ} 0 1 = cc in absurd (omega arith)
-find-below p (suc m) i k e = go (p i) (λ q. find-below p m (suc i) k q) e
-  where
-    go : (b : Bool) → (find p (from (suc i) m) ≡ some k → k < suc i + m) → cond b (some i) (find p (from (suc i) m)) ≡ some k
-        → k < i + suc m
-    go true f q = let z : i ≡ k = cc in omega arith
-    go false f q = let z = f q in omega arith
+-- the checks are the lines: their answer, with that of all behind them, says what the lines say
+abbrev pub Says : ((Answer → Type 0) → Answer → Type 0) → List Check → Type 1
+Says lines cs = (below : Answer → Type 0) (a : Answer) → (firstOf cs ≡ Fine → below a) → lines below (orElse (firstOf cs) a)
 
-pub lowest-below : (p : ℕ → Bool) (n : ℕ) → Below (lowest p n) n
-unfolding lowest upto
-lowest-below p n k e = let z = find-below p n 0 k e in omega arith
+pass : (n k : ℕ) (P : ℕ → Type 0) (below : Answer → Type 0) → Finds P k none → (a : Answer) → below a → line n k P below a
+pass n k P below f Fine b = (f, b)
+pass n k P below f (Refused r) b = inr (f, b)
 
-pub offends-below : (b : Bool) (p n : ℕ) → p < n → Below (offends b p) n
-offends-below true p n h q e = let z : p ≡ q = cc in omega arith
-offends-below false p n h q e = let z : _≡_ {A = ℕ} 0 1 = cc in absurd (omega arith)
-
--- ---- each check is in the table
-
-abbrev Place : ℕ → Option ℕ → List Line → Type 0
-Place n o table = (p : ℕ) → o ≡ some p → In (record { number = n; place = p }) table
-
-pub data Each (table : List Line) : List Check → Type 0 where
-  end : Each table []
-  also : {n : ℕ} {o : Option ℕ} {cs : List Check} → Place n o table → Each table cs → Each table (check n o ∷ cs)
-
-pub first-in : (table : List Line) (cs : List Check) → Each table cs → (r : Refusal) → firstOf cs ≡ Refused r → In r table
+-- no checks; one more
+pub done : Says (λ below. below) []
 unfolding firstOf
-first-in table [] h r e = let z : _≡_ {A = ℕ} 0 1 = cc in absurd (omega arith)
-first-in table (check n none ∷ cs) (also a h) r e = first-in table cs h r e
-first-in table (check n (some p) ∷ cs) (also a h) r e =
-    let z : record { number = n; place = p } ≡ r = cc in
-    subst (λ (q : Refusal). In q table) z (a p refl)
+done below a g = g refl
 
-pub each-both : (table : List Line) (cs ds : List Check) → Each table cs → Each table ds → Each table (cs ++ ds)
-each-both table [] ds end b = b
-each-both table (c ∷ cs) ds (also a h) b = also a (each-both table cs ds h b)
+pub also : (n k : ℕ) (P : ℕ → Type 0) (o : Option ℕ) (lines : (Answer → Type 0) → Answer → Type 0) (cs : List Check) → Finds P k o
+    → (o ≡ none → Says lines cs) → Says (λ below. line n k P (lines below)) (check n o ∷ cs)
+unfolding firstOf
+also n k P none lines cs f g below a h = pass n k P (lines below) f (orElse (firstOf cs) a) (g refl below a h)
+also n k P (some p) lines cs f g below a h = inl (refl, f)
 
--- a longer table
-in-left : (r : Refusal) (table more : List Line) → In r table → In r (table ++ more)
-in-left r [] more h = absurd h
-in-left r (line n k ∷ table) more (inl h) = inl h
-in-left r (line n k ∷ table) more (inr h) = inr (in-left r table more h)
+-- a check of the place 0 alone; two checks of the places 0 and 1
+finds-one : (b : Bool) (A : Type 0) → Is b A → Finds (λ p. A) 1 (offends b 0)
+finds-one true A i = (omega arith, i .0 refl, λ k h q. omega arith)
+finds-one false A i = λ k h q. is-off i refl q
 
-in-right : (r : Refusal) (table more : List Line) → In r more → In r (table ++ more)
-in-right r [] more h = h
-in-right r (line n k ∷ table) more h = inr (in-right r table more h)
+pub also-one : (n : ℕ) (A : Type 0) (b : Bool) → Is b A → (lines : (Answer → Type 0) → Answer → Type 0) (cs : List Check)
+    → (offends b 0 ≡ none → Says lines cs) → Says (λ below. one n A (lines below)) (check n (offends b 0) ∷ cs)
+also-one n A b i lines cs g = also n 1 (λ p. A) (offends b 0) lines cs (finds-one b A i) g
 
-pub each-left : (cs : List Check) (table more : List Line) → Each table cs → Each (table ++ more) cs
-each-left [] table more end = end
-each-left (check n o ∷ cs) table more (also a h) =
-    also (λ p e. in-left (record { number = n; place = p }) table more (a p e)) (each-left cs table more h)
+pub also-two : (n : ℕ) (A B : Type 0) (a b : Bool) → Is a A → Is b B → (lines : (Answer → Type 0) → Answer → Type 0) (cs : List Check)
+    → Says lines cs → Says (λ below. line n 2 (Two A B) (lines below)) (check n (offends a 0) ∷ check n (offends b 1) ∷ cs)
+unfolding firstOf
+also-two n A B true b i j lines cs g below c h = inl (refl, (omega arith, i .0 refl, λ k l q. omega arith))
+also-two n A B false true i j lines cs g below c h = inl (refl, (omega arith, j .0 refl, first))
+  where
+    first : (k : ℕ) → k < 1 → Two A B k → ⊥
+    first zero l q = is-off i refl q
+    first (suc k) l q = omega arith
+also-two n A B false false i j lines cs g below c h =
+    pass n 2 (Two A B) (lines below) both (orElse (firstOf cs) c) (g below c h)
+  where
+    both : (k : ℕ) → k < 2 → Two A B k → ⊥
+    both zero l q = is-off i refl q
+    both (suc k) l q = is-off j refl q
 
-pub each-right : (cs : List Check) (table more : List Line) → Each more cs → Each (table ++ more) cs
-each-right [] table more end = end
-each-right (check n o ∷ cs) table more (also a h) =
-    also (λ p e. in-right (record { number = n; place = p }) table more (a p e)) (each-right cs table more h)
+-- checks behind others, which see that these pass
+or-on : (cs ds : List Check) (a : Answer) → orElse (firstOf (cs ++ ds)) a ≡ orElse (firstOf cs) (orElse (firstOf ds) a)
+unfolding firstOf
+or-on [] ds a = refl
+or-on (check n none ∷ cs) ds a = or-on cs ds a
+or-on (check n (some p) ∷ cs) ds a = refl
 
--- checks and tables one behind the other
-pub each-on : (cs ds : List Check) (table more : List Line) → Each table cs → Each more ds → Each (table ++ more) (cs ++ ds)
-each-on cs ds table more a b = each-both (table ++ more) cs ds (each-left cs table more a) (each-right ds table more b)
+pub behind : (lines more : (Answer → Type 0) → Answer → Type 0) (cs ds : List Check) → Says lines cs → (firstOf cs ≡ Fine → Says more ds)
+    → Says (λ below. lines (more below)) (cs ++ ds)
+behind lines more cs ds s u below a h =
+    subst (lines (more below)) (sym (or-on cs ds a))
+    (s (more below) (orElse (firstOf ds) a) (λ e. u e below a (λ f. h (fine-both cs ds e f))))
+
+-- all lines
+or-fine : (a : Answer) → orElse a Fine ≡ a
+or-fine Fine = refl
+or-fine (Refused r) = refl
+
+pub ends : (lines : (Answer → Type 0) → Answer → Type 0) (cs : List Check) → Says lines cs → lines end (firstOf cs)
+ends lines cs s = subst (lines end) (or-fine (firstOf cs)) (s end Fine (λ e. tt))

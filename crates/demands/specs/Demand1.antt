@@ -1,13 +1,13 @@
 -- The customer's demand 1, of every input. Assumes nothing.
 use mathlib.Core.Path.{_≡_}
-use mathlib.Core.List.{List, [], _∷_, _++_}
-use Prim.Native.Nat.{ℕ, _≤_, _<_}
+use mathlib.Core.List.{List}
+use Prim.Native.Nat.{ℕ, _/_, _≤_, _<_}
 use lib.IntN.{ℤ}
 use lib.Ieee.{Float}
 use lib.ListN.{length}
-use Rattle.paper.specs.Format.{editionOne}
+use Rattle.paper.specs.Format.{editionOne, total, bytesFor}
 use Rattle.paper.specs.Loops.{Loop}
-use Rattle.paper.specs.FaceList.{facesIn, sentOf, sentRoom}
+use Rattle.paper.specs.FaceList.{facesIn, facesOf, bitsOf, sentOf, sentRoom}
 use Rattle.paper.specs.Sheet.{blank, sheetOf, writtenOf, roomOf}
 use Rattle.paper.specs.Reading.{conversionSays, volume, readingOf}
 use Rattle.paper.specs.declared.Refusal.{Refusal}
@@ -15,37 +15,42 @@ use Rattle.paper.specs.declared.Answer.the-variants as Answer
 use Rattle.paper.specs.declared.Written.the-variants as Written
 use Rattle.paper.specs.declared.Conversion.{Conversion}
 use Rattle.paper.specs.declared.Conversion.the-variants as Conversion
-use Rattle.paper.specs.declared.Verdict.the-variants as Verdict
 use Rattle.paper.specs.declared.Reading.the-variants as Reading
-use Rattle.demands.specs.Input.{Input, lent, sheet, drawing, converted, checked, reported}
-use Rattle.demands.specs.Table.{line, In, rooms, forms, drawings, shells}
+use Rattle.demands.specs.Input.{Input, lent, sheet, drawing, candidatesOf, converted, checked, reported}
+use Rattle.demands.specs.Table.{end, one, rooms, forms, drawings, ofConversion, ofWritten, ofVerdict}
+use Rattle.demands.specs.Shells.{Shape, shells, NoList}
 
--- a conversion's answer is one of the table's: a report of 1 or of 2 to 8; 17, 18 and 19 with the work as place; or 1 to 16
-abbrev pub Answers : Input → ℕ → Conversion → Type 0
-Answers x limit (Conversion.One l c work six) = (work ≤ limit) × (0 < six)
-Answers x limit (Conversion.Several l c work n) = (work ≤ limit) × (2 ≤ n) × (n ≤ 8)
-Answers x limit (Conversion.NoSolid l c work) = work ≤ limit
-Answers x limit (Conversion.Many l c work) = work ≤ limit
-Answers x limit (Conversion.TooLong l c work) = work ≡ limit
-Answers x limit (Conversion.Refused r) = In r (rooms ++ forms x ++ drawings (length (drawing x .vertices)) (length (drawing x .edges)))
+-- a report is of one solid or of 2 to 8; its work, and that of 17 and 18, is within the limit, and that of 19 is the limit
+abbrev pub Within : ℕ → Conversion → Type 0
+Within limit (Conversion.One l c work six) = (work ≤ limit) × (0 < six)
+Within limit (Conversion.Several l c work n) = (work ≤ limit) × (2 ≤ n) × (n ≤ 8)
+Within limit (Conversion.NoSolid l c work) = work ≤ limit
+Within limit (Conversion.Many l c work) = work ≤ limit
+Within limit (Conversion.TooLong l c work) = work ≡ limit
+Within limit (Conversion.Refused r) = Unit {0}
 
 pub record Demand1 : Type 0 where
   -- "Every sheet, drawing, face list, work limit or room, however damaged, gets one of the answers in document 01", "its number and
-  -- place"
-  pub converts : (x : Input) (limit : ℕ) (room solids : List ℕ) → Answers x limit (converted x limit room solids .answer)
-  pub checks : (x : Input) (list : List ℕ) (r : Refusal) → checked x list ≡ Verdict.Refused r
-      → In r
-      (forms x ++ drawings (length (drawing x .vertices)) (length (drawing x .edges)) ++ shells (length (drawing x .edges))
-      (length (facesIn editionOne list)))
-  pub reads : (s : List ℕ) (r : Refusal) → sheetOf editionOne s .answer ≡ Answer.Refused r
-      → In r (forms (sheet s)) × (sheetOf editionOne s .drawing ≡ blank)
-  pub writes : (xyz : List ℤ) (ends room : List ℕ) (r : Refusal) → writtenOf editionOne xyz ends room ≡ Written.Refused r
-      → In r (forms (lent xyz ends) ++ line 1 1 ∷ [])
-  pub sends : (fs : List Loop) (room : List ℕ) (r : Refusal) → sentOf editionOne fs room ≡ Written.Refused r
-      → In r (line 20 1 ∷ line 1 1 ∷ [])
+  -- place": the first line of the table that offends, with the lowest place that does
+  pub converts : (x : Input) (limit : ℕ) (room solids : List ℕ)
+      → Within limit (converted x limit room solids .answer)
+      × rooms limit room solids (forms x (drawings (drawing x) end)) (ofConversion (converted x limit room solids .answer))
+  pub checks : (x : Input) (list : List ℕ)
+      → forms x
+      (drawings (drawing x)
+      (one 20 (Shape (length (drawing x .vertices)) list → ⊥) (shells (drawing x) (candidatesOf x) (facesIn editionOne list) end)))
+      (ofVerdict (checked x list))
+  pub reads : (s : List ℕ) → forms (sheet s) end (sheetOf editionOne s .answer)
+  pub reads-faces : (v : ℕ) (list : List ℕ) → one 20 (Shape v list → ⊥) end (facesOf editionOne v list .answer)
+  pub writes : (xyz : List ℤ) (ends room : List ℕ)
+      → forms (lent xyz ends) (one 1 (length room < bytesFor (total editionOne (length xyz / 3) (length ends / 2))) end)
+      (ofWritten (writtenOf editionOne xyz ends room))
+  pub sends : (fs : List Loop) (room : List ℕ)
+      → one 20 (NoList fs) (one 1 (length room < bytesFor (bitsOf editionOne fs)) end) (ofWritten (sentOf editionOne fs room))
   -- "leaves all lent buffers with the contents they came with": wherever there is no report, and no sheet or face list is written
   pub rooms-kept : (x : Input) (limit : ℕ) (room solids : List ℕ) → reported (converted x limit room solids .answer) ≡ 0
       → (converted x limit room solids .faces ≡ room) × (converted x limit room solids .solids ≡ solids)
+  pub blank-kept : (s : List ℕ) (r : Refusal) → sheetOf editionOne s .answer ≡ Answer.Refused r → sheetOf editionOne s .drawing ≡ blank
   pub room-kept : (xyz : List ℤ) (ends room : List ℕ) (r : Refusal) → writtenOf editionOne xyz ends room ≡ Written.Refused r
       → roomOf editionOne xyz ends room ≡ room
   pub send-room-kept : (fs : List Loop) (room : List ℕ) (r : Refusal) → sentOf editionOne fs room ≡ Written.Refused r

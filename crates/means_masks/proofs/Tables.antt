@@ -145,14 +145,14 @@ module _ (d : Wire) (cs : List Loop) where
     inside : (k : ℕ) → dig taken k ≡ true → k < length cs
     inside k e = omega (arith, dig-lt taken k e)
 
-    clash-dig : (j k : ℕ) → j < length cs → k < length cs
+    pub clash-dig : (j k : ℕ) → j < length cs → k < length cs
         → dig (getD (tablesOf d cs .clashes) j []) k ≡ clashing (map (polygon d) cs) j k
     unfolding tablesOf
     clash-dig j k hj hk =
         ap (λ (m : List Bool). dig m k) (made-at (λ i. map (clashing (map (polygon d) cs) i) (upto (length cs))) (length cs) j [] hj)
         ∙ made-at (clashing (map (polygon d) cs) j) (length cs) k false hk
 
-    clashing-is : (j k : ℕ) → j < length cs → k < length cs → (j ≡ k → ⊥)
+    pub clashing-is : (j k : ℕ) → j < length cs → k < length cs → (j ≡ k → ⊥)
         → clashing (map (polygon d) cs) j k ≡ clash (polygon d (loopAt cs j)) (polygon d (loopAt cs k))
     unfolding clashing
     clashing-is j k hj hk n = go (decLt j k)
@@ -162,7 +162,7 @@ module _ (d : Wire) (cs : List Loop) where
         go (no h) =
             rw (le-ltb j k (omega arith), lt-ltb k j (omega arith)) (ap₂ clash (polygon-at k hk) (polygon-at j hj) ∙ even k j hk hj)
 
-    clashing-self : (j : ℕ) → clashing (map (polygon d) cs) j j ≡ false
+    pub clashing-self : (j : ℕ) → clashing (map (polygon d) cs) j j ≡ false
     unfolding clashing
     clashing-self j = let z : j ≤ j = omega arith in rw (le-ltb j j z)
 

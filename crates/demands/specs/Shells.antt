@@ -1,0 +1,86 @@
+-- Document 01's table, 20 to 27: what offends of a face list, and at which places. Assumes nothing.
+use mathlib.Core.Path.{_≡_}
+use mathlib.Core.Bool.{Bool, true}
+use mathlib.Core.Logic.{_⊎_}
+use mathlib.Core.List.{List}
+use Prim.Native.Nat.{ℕ, _≤_, _<_}
+use lib.IntN.{pos}
+use lib.ListN.{length, getD}
+use Rattle.pack.specs.Bits.{fieldAt}
+use Rattle.paper.specs.Format.{editionOne, bytesFor, fillAfter}
+use Rattle.paper.specs.Drawing.{Wire, edgeAt}
+use Rattle.paper.specs.Loops.{Loop, loopAt, flipped, polygon}
+use Rattle.paper.specs.Clash.{clash}
+use Rattle.paper.specs.FaceList.{countIn, facesIn, bitsOf}
+use Rattle.paper.specs.Verdict.{listed}
+use Rattle.paper.specs.declared.Answer.{Answer}
+use Rattle.means_solid.specs.Solid.{Face, InTwo, EachWay, Way, sixOf}
+use Rattle.means_solid.specs.Named.{SameRing}
+use Rattle.demands.specs.Table.{Outside, line, one}
+
+-- a face of 3 to 12 corners, all below v; faces that a list can hold
+abbrev pub Corners : ℕ → Loop → Type 0
+Corners v l = (3 ≤ length l) × (length l ≤ 12) × ((j : ℕ) → j < length l → getD l j 0 < v)
+
+-- 20 ShellShape: "counts, length, fill, edition or corner number", of a list that is good for a drawing of v vertices
+pub record Shape (v : ℕ) (list : List ℕ) : Type 0 where
+  pub edition : fieldAt list 0 4 ≡ 1
+  pub count : (4 ≤ countIn editionOne list) × (countIn editionOne list ≤ 42)
+  pub corners : (i : ℕ) → i < length (facesIn editionOne list) → Corners v (loopAt (facesIn editionOne list) i)
+  pub size : length list ≡ bytesFor (bitsOf editionOne (facesIn editionOne list))
+  pub fill : fillAfter (bitsOf editionOne (facesIn editionOne list)) list ≡ 0
+
+-- f and g are one ring of corners, "in any direction or start"
+abbrev pub Either : Loop → Loop → Type 0
+Either f g = SameRing f g ⊎ SameRing (flipped f) g
+
+module _ (d : Wire) (cs fs : List Loop) where
+  -- the candidates that the faces are, those of them that are run against their normal form, and the candidate of face i. Where 21 and 22
+  -- pass, the faces name these two sets (`means_check/proofs/Numbered.antt`, `numbered-names`)
+  abbrev pub takenIn : List Bool
+  takenIn = listed cs fs .taken
+
+  abbrev pub turnedIn : List Bool
+  turnedIn = listed cs fs .turned
+
+  abbrev pub numberAt : ℕ → ℕ
+  numberAt i = getD (listed cs fs .numbers) i 0
+
+  -- 21, of a face: it is no candidate. 22, of a face: it is an earlier one
+  abbrev pub NotCandidate : ℕ → Type 0
+  NotCandidate i = (k : ℕ) → k < length cs → Either (loopAt cs k) (loopAt fs i) → ⊥
+
+  abbrev pub FaceTwice : ℕ → Type 0
+  FaceTwice i = (j : ℕ) × (j < i) × Either (loopAt fs j) (loopAt fs i)
+
+  -- 23, of an edge: "not two faces". 24, of an edge: not once each way
+  abbrev pub EdgeCount : ℕ → Type 0
+  EdgeCount e = InTwo d cs takenIn turnedIn (edgeAt d e) → ⊥
+
+  abbrev pub Direction : ℕ → Type 0
+  Direction e = EachWay d cs takenIn turnedIn (edgeAt d e) → ⊥
+
+  -- 25, of a face: "not joined to face 0". 26: "six volumes not above 0". 27, of a face: it clashes with another
+  abbrev pub Pieces : ℕ → Type 0
+  Pieces i = Way d cs takenIn turnedIn (numberAt 0) (numberAt i) → ⊥
+
+  abbrev pub Inward : Type 0
+  Inward = (six : ℕ) → sixOf d cs takenIn turnedIn 0 cs ≡ pos six → 0 < six → ⊥
+
+  abbrev pub Clashes : ℕ → Type 0
+  Clashes i =
+      (k : ℕ) × Face d cs takenIn turnedIn k × (numberAt i ≡ k → ⊥)
+      × (clash (polygon d (loopAt cs (numberAt i))) (polygon d (loopAt cs k)) ≡ true)
+
+  -- 20, 26: 0. 21, 22, 25, 27: "face". 23, 24: "edge"
+  abbrev pub shells : (Answer → Type 0) → Answer → Type 0
+  shells below =
+      line 21 (length fs) NotCandidate
+      (line 22 (length fs) FaceTwice
+      (line 23 (length (d .edges)) EdgeCount
+      (line 24 (length (d .edges)) Direction
+      (line 25 (length fs) Pieces (one 26 Inward (line 27 (length fs) Clashes below))))))
+
+-- what is sent as a face list: 20 where these are no faces of one, and then 1, "room shorter"
+abbrev pub NoList : List Loop → Type 0
+NoList fs = Outside 4 42 (length fs) ⊎ (((i : ℕ) → i < length fs → Corners 32 (loopAt fs i)) → ⊥)
