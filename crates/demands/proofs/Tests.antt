@@ -2,12 +2,19 @@
 use mathlib.Core.Path.{_≡_, refl, sym, ap, _∙_}
 use mathlib.Core.Bool.{Bool, true, false, not, _&&_, _||_}
 use mathlib.Core.Logic.{_↔_, _⊎_, inl, inr}
-use Prim.Native.Nat.{ℕ, _≤_, _<_}
+use mathlib.Core.List.{List, [], _∷_}
+use Prim.Native.Nat.{ℕ, zero, suc, _+_, _≤_, _<_}
 use native.Mathlib.Omega.{arith}
 use borrow.Author.Tests.{ltb-true, leb-true, eqb-true, lt-ltb, le-leb, eq-eqb}
 use lib.Dec.{ltb, leb, eqb}
-use lib.IntN.{ℤ}
+use lib.IntN.{ℤ, pos, negsuc}
+use lib.ListN.{length}
 use lib.Signed.{_<ℤ_, ltZ, ltZ-yes}
+use Rattle.lists.specs.Around.{around}
+use Rattle.lists.specs.Lists.{any, sides, anyTrue}
+use Rattle.lists.proofs.Passing.{any-yes, any-is}
+use Rattle.lists.proofs.Sides.{sides-length, sides-at}
+use Rattle.paper.specs.Points.{isZero}
 use Rattle.lists.proofs.Truth.{is-true, and-left, and-right, and-both, or-left, or-right, or-cases}
 
 abbrev pub Is : Bool → Type 0 → Type 0
@@ -46,3 +53,36 @@ is-and a b i j = (λ e. (i .0 (and-left a b e), j .0 (and-right a b e)), λ h. a
 -- a test that is false stands for what does not hold
 pub is-off : {b : Bool} {A : Type 0} → Is b A → b ≡ false → A → ⊥
 is-off i e h = let z = i .1 h in let y : _≡_ {A = ℕ} 0 1 = cc in omega arith
+
+-- another statement that holds just where this one does
+pub is-to : (b : Bool) {A B : Type 0} → Is b A → (A → B) → (B → A) → Is b B
+is-to b i f g = (λ e. f (i .0 e), λ h. i .1 (g h))
+
+pub is-zero : (z : ℤ) → Is (isZero z) (z ≡ pos 0)
+unfolding isZero
+is-zero (pos zero) = (λ e. refl, λ e. refl)
+is-zero (pos (suc n)) = (λ e. let z : _≡_ {A = ℕ} 0 1 = cc in absurd (omega arith), λ e. let z : suc n ≡ 0 = cc in absurd (omega arith))
+is-zero (negsuc n) = (
+  λ e. let z : _≡_ {A = ℕ} 0 1 = cc in absurd (omega arith),
+  λ e. let z : _≡_ {A = ℕ} 0 1 = cc in absurd (omega arith),
+)
+
+-- ---- a test at one of the sides of a ring
+
+any-true : (bs : List Bool) → anyTrue bs ≡ any (λ b. b) bs
+unfolding anyTrue any
+any-true [] = refl
+any-true (b ∷ bs) = ap (λ (r : Bool). b || r) (any-true bs)
+
+pub is-side : {A : Type 0} (z : A) (q : A → A → Bool) (l : List A) (Q : A → A → Type 0) → ((a b : A) → Is (q a b) (Q a b))
+    → Is (anyTrue (sides q l)) ((k : ℕ) × (k < length l) × Q (around l k z) (around l (k + 1) z))
+is-side z q l Q f = (
+  λ e.
+      let r = any-yes (λ b. b) false (sides q l) (sym (any-true (sides q l)) ∙ e) in
+      let h : r .0 < length l = omega (arith, r .1, sides-length q l) in
+      (r .0, h, f (around l (r .0) z) (around l (r .0 + 1) z) .0 (sym (sides-at q l (r .0) false z h) ∙ r .2)),
+  λ r.
+      any-true (sides q l)
+      ∙ any-is (λ b. b) false (sides q l) (r .0) (omega (arith, r .1, sides-length q l))
+      (sides-at q l (r .0) false z (r .1) ∙ f (around l (r .0) z) (around l (r .0 + 1) z) .1 (r .2)),
+)
