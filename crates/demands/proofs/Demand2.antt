@@ -9,7 +9,7 @@ use borrow.Author.Tests.{le-ltb}
 use lib.ListN.{length}
 use Rattle.paper.specs.Refusals.{firstOf, offends}
 use Rattle.paper.specs.Drawing.{drawingChecks}
-use Rattle.paper.specs.Loops.{loops, candidates, loopChecks}
+use Rattle.paper.specs.Loops.{loopAt, loops, candidates, loopChecks}
 use Rattle.paper.specs.Solids.{tablesOf}
 use Rattle.paper.specs.Conversion.{Converted, entryChecks}
 use Rattle.paper.specs.declared.Answer.the-variants.{Fine}
@@ -26,7 +26,12 @@ use Rattle.means_loops.proofs.Listing.{candidates-are, candidates-all, candidat
 use Rattle.means_check.proofs.Accepting.{fine-both, none-step, no-checks}
 use Rattle.demands.specs.Input.{Input, drawing, candidatesOf, form, Passes, converted}
 use Rattle.demands.specs.Faces.{Candidates}
-use Rattle.demands.specs.Demand2.{Allowed, Demand2, Holds2}
+use Rattle.demands.specs.Cover.{CandidateOf}
+use Rattle.demands.specs.Walk.{solidsOf, Allowed}
+use Rattle.demands.specs.Demand2.{Demand2, Holds2}
+use Rattle.means_check.proofs.Demand.{drawing-places}
+use Rattle.demands.proofs.Solid.{in-words, of-words, every-words, candidate-words, words-candidate}
+use Rattle.demands.proofs.Walk.{walk-words}
 use Rattle.demands.proofs.Input.{converted-is, form-fine, drawing-fine, loops-fine}
 
 -- room and a limit that are allowed pass 1 and 2
@@ -52,14 +57,19 @@ module _ (x : Input) (p : Passes x) (t : WalkTree (drawing x) (candidatesOf x)) 
 
   told : (r : Converted) → Sound (drawing x) t limit room solids r → Demand2 x t limit room solids r
   told r s = record {
-    every = all-listed (drawing x) t limit room solids r s;
+    every = every-words (drawing x) (solidsOf x t) (all-listed (drawing x) t limit room solids r s);
     answer = λ u. tells-few (drawing x) t limit room solids r (s .tells) (u .1) (u .0) .answer;
     rows = λ u. tells-few (drawing x) t limit room solids r (s .tells) (u .1) (u .0) .faces-left;
     words = λ u. tells-few (drawing x) t limit room solids r (s .tells) (u .1) (u .0) .solids-left;
     none =
         λ w. (
-          λ e. says-none (drawing x) t limit room solids r s (e .3) .none,
-          λ n. (length (loops (drawing x)), length (candidatesOf x), assumptions t, none-says (drawing x) t limit room solids r s n w),
+          λ e taken turned six y. says-none (drawing x) t limit room solids r s (e .3) .none taken turned six (of-words (drawing x) y),
+          λ n. (
+            length (loops (drawing x)),
+            length (candidatesOf x),
+            assumptions t,
+            none-says (drawing x) t limit room solids r s (λ taken turned six y. n taken turned six (in-words (drawing x) y)) w,
+          ),
         );
     many =
         λ l c work. (
@@ -84,6 +94,12 @@ module _ (x : Input) (p : Passes x) (t : WalkTree (drawing x) (candidatesOf x)) 
 
 pub faces : (x : Input) → Candidates x
 faces x = record {
+  in-words = λ p q.
+      let apart = drawing-places (drawing x) (drawing-fine x p) in (
+        λ c. candidates-all (drawing x) q (words-candidate (drawing x) apart q c),
+        λ r. subst (CandidateOf (drawing x)) (r .2)
+            (candidate-words (drawing x) apart (loopAt (candidates (drawing x)) (r .0)) (candidates-are (drawing x) (r .0) (r .1))),
+      );
   candidates = λ q. (
     candidates-all (drawing x) q,
     λ r. subst (IsCandidate (drawing x)) (r .2) (candidates-are (drawing x) (r .0) (r .1)),
@@ -95,5 +111,6 @@ pub demand2 : (x : Input) → Holds2 x
 demand2 x = record {
   walk = the-walk (drawing x);
   no-other = one-walk (tablesOf (drawing x) (candidates (drawing x)) .masks);
+  in-words = walk-words x;
   holds = λ p t limit room solids a. holds2 x p t limit room solids a;
 }

@@ -38,6 +38,8 @@ use Rattle.demands.specs.Input.{Input, drawing, form, Passes, converted,
 use Rattle.demands.specs.Demand3.{NamesIt, Report, Demand3, Holds3}
 use Rattle.demands.specs.Spoiled.{Spoiled, face-turned, all-turned, face-missing, face-doubled}
 use Rattle.demands.proofs.Input.{converted-is, checked-is, form-fine, drawing-fine, loops-fine, small, counted}
+use Rattle.demands.proofs.Shape.{is-shape}
+use Rattle.demands.proofs.Solid.{every-words, names-words, words-names}
 use Rattle.demands.proofs.Sendable.{singly, names-sent}
 use Rattle.demands.proofs.Rooms.{faces-reported, words-at}
 
@@ -177,7 +179,7 @@ module _ (x : Input) (p : Passes x) where
             sym
             (ap reported (t .answer)
             ∙ counted (length (loops (drawing x))) (length (candidates (drawing x))) (assumptions (the-walk (drawing x))) es);
-        all = all;
+        all = every-words (drawing x) es all;
         words = t .solids-left;
         each = λ i l fs n. packed (entryAt es i .taken) (entryAt es i .turned) (entryAt es i .six) (all .each i l) fs n;
         some =
@@ -193,12 +195,13 @@ module _ (x : Input) (p : Passes x) where
   holds : Demand3 x
   holds = record {
     exactly = λ list. (
-      λ a. let w = accepts-exactly (form x) (drawing x) list .0 (sym (checked-is x list) ∙ a) in (w .shape, w .named),
+      λ a. let w = accepts-exactly (form x) (drawing x) list .0 (sym (checked-is x list) ∙ a) in
+          (is-shape (length (drawing x .vertices)) list .0 (w .shape), names-words (drawing x) (w .named)),
       λ w. checked-is x list
           ∙ accepts-exactly (form x) (drawing x) list .1
-          (record { form-passes = form-fine x p; drawing-passes = drawing-fine x p; few = loops-fine x p; shape = w .0; named = w .1 }),
+          (record { form-passes = form-fine x p; drawing-passes = drawing-fine x p; few = loops-fine x p; shape = is-shape (length (drawing x .vertices)) list .1 (w .0); named = words-names (drawing x) (w .1) }),
     );
-    one-solid = one-named (form x) (drawing x) (drawing-fine x p);
+    one-solid = λ fs a b. one-named (form x) (drawing x) (drawing-fine x p) fs (words-names (drawing x) a) (words-names (drawing x) b);
     refused = refused;
     reports = λ limit room solids h. report limit room solids (converted x limit room solids) (sound limit room solids h) h;
   }

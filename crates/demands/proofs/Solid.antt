@@ -93,7 +93,7 @@ module _ (d : Wire) where
   pub names-words : {fs : List Loop} → NamesSolid d (candidates d) fs → NamesOne d (candidates d) fs
   names-words w = record { taken = w .taken; turned = w .turned; six = w .six; solid = in-words (w .solid); names = w .names }
 
-  pub words-names : {fs : List Loop} → NamesOne d (candidates d) fs → NamesSolid d (candidates d) fs
+  abbrev pub words-names : {fs : List Loop} → NamesOne d (candidates d) fs → NamesSolid d (candidates d) fs
   words-names w = record { taken = w .taken; turned = w .turned; six = w .six; solid = of-words (w .solid); names = w .names }
 
 -- ---- cover

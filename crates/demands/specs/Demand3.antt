@@ -1,22 +1,22 @@
 -- The customer's demand 3, of a drawing lent as two lists and of one on a sheet. Assumes nothing.
 use mathlib.Core.Path.{_≡_}
-use mathlib.Core.Bool.{true}
 use mathlib.Core.Logic.{_↔_}
 use mathlib.Core.List.{List, _++_, flatMap}
 use Prim.Native.Nat.{ℕ, _+_, _*_, _<_}
 use lib.ListN.{length, getD, drop}
 use Rattle.paper.specs.Format.{editionOne}
-use Rattle.paper.specs.FaceList.{encodeFaces, facesIn, wellShaped, solidFaces}
+use Rattle.paper.specs.FaceList.{encodeFaces, facesIn, solidFaces}
 use Rattle.paper.specs.Loops.{Loop}
 use Rattle.paper.specs.Conversion.{Converted}
 use Rattle.paper.specs.declared.Refusal.{Refusal}
 use Rattle.paper.specs.declared.Verdict.the-variants.{Accepted, Refused}
 use Rattle.means_solid.specs.Named.{Names}
 use Rattle.means_report.specs.Fair.{Same}
-use Rattle.means_report.specs.Listed.{Entry, entryAt, wordsOf, Listed}
-use Rattle.means_check.specs.Accepts.{NamesSolid}
+use Rattle.means_report.specs.Listed.{Entry, entryAt, wordsOf}
 use Rattle.means_check.specs.Bodies.{SameBody}
 use Rattle.demands.specs.Input.{Input, drawing, candidatesOf, Passes, converted, checked, reported}
+use Rattle.demands.specs.Solid.{Every, NamesOne}
+use Rattle.demands.specs.Shells.{Shape}
 use Rattle.demands.specs.Spoiled.{Spoiled}
 
 module _ (x : Input) where
@@ -29,7 +29,7 @@ module _ (x : Input) where
     -- these n, which are all that there are: their words stand in the room, in this order
     pub es : List Entry
     pub n : length es ≡ reported (r .answer)
-    pub all : Listed (drawing x) (candidatesOf x) es
+    pub all : Every (drawing x) (candidatesOf x) es
     pub words : r .solids ≡ flatMap wordsOf es ++ drop (3 * length es) solids
     -- "each of the n is accepted": any faces that name it, packed; and the faces that its words and the report's rows give do name it
     pub each : (i : ℕ) → i < length es → (fs : List Loop) → NamesIt (entryAt es i) fs → checked x (encodeFaces editionOne fs) ≡ Accepted
@@ -49,10 +49,9 @@ module _ (x : Input) where
     -- "the check accepts a list exactly when it names one solid of demand 2 with its directions": a list of good shape, 20
     pub exactly : (list : List ℕ)
         → (checked x list ≡ Accepted)
-        ↔ ((wellShaped editionOne (length (drawing x .vertices)) list ≡ true) × NamesSolid (drawing x) (candidatesOf x)
-        (facesIn editionOne list))
+        ↔ (Shape (length (drawing x .vertices)) list × NamesOne (drawing x) (candidatesOf x) (facesIn editionOne list))
     -- "one solid": no list names two
-    pub one-solid : (fs : List Loop) (a b : NamesSolid (drawing x) (candidatesOf x) fs)
+    pub one-solid : (fs : List Loop) (a b : NamesOne (drawing x) (candidatesOf x) fs)
         → Same (a .taken) (b .taken) × Same (a .turned) (b .turned)
     -- an accepted list with a face turned, all turned, one missing or one doubled is refused
     pub refused : (a b : List ℕ) → checked x a ≡ Accepted → Spoiled (facesIn editionOne a) (facesIn editionOne b)
