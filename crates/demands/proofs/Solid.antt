@@ -23,6 +23,7 @@ use Rattle.paper.specs.Verdict.{normalForm}
 use Rattle.paper.specs.declared.Where.{Where}
 use Rattle.paper.specs.declared.Where.the-variants.{Outside, Border, Inside}
 use Rattle.means_solid.specs.Solid.{IsSolid}
+use Rattle.means_solid.proofs.Alike.{names-to}
 use Rattle.means_loops.specs.Loop.{IsLoop, IsCandidate}
 use Rattle.means_loops.specs.Path.{ClosedPath}
 use Rattle.means_loops.specs.Shape.{Normal}
@@ -91,10 +92,10 @@ module _ (d : Wire) where
   }
 
   pub names-words : {fs : List Loop} → NamesSolid d (candidates d) fs → NamesOne d (candidates d) fs
-  names-words w = record { taken = w .taken; turned = w .turned; six = w .six; solid = in-words (w .solid); names = w .names }
+  names-words w = record { taken = w .taken; turned = w .turned; six = w .six; solid = in-words (w .solid); run = w .turned; names = w .names; directions = λ k. refl }
 
   abbrev pub words-names : {fs : List Loop} → NamesOne d (candidates d) fs → NamesSolid d (candidates d) fs
-  words-names w = record { taken = w .taken; turned = w .turned; six = w .six; solid = of-words (w .solid); names = w .names }
+  words-names w = record { taken = w .taken; turned = w .turned; six = w .six; solid = of-words (w .solid); names = names-to d (candidates d) (w .taken) (w .run) (w .turned) (w .directions) (w .names) }
 
 -- ---- cover
 

@@ -44,4 +44,6 @@ module _ (d : Wire) (cs : List Loop) where
     pub turned : List Bool
     pub six : ℕ
     pub solid : Solid taken turned six
-    pub names : Names d cs taken turned fs
+    pub run : List Bool
+    pub names : Names d cs taken run fs
+    pub directions : Same run turned

@@ -1,0 +1,74 @@
+-- The geometry's meaning, told in one place: what the tests of the definitions decide, in whole numbers and fractions of them. Rules A, B
+-- and C in words are in Clash, cover in Cover. Assumes nothing.
+use mathlib.Core.Path.{_≡_}
+use mathlib.Core.Bool.{Bool, true, false}
+use mathlib.Core.Logic.{_↔_}
+use mathlib.Core.Option.{none}
+use mathlib.Core.List.{List, [], _∷_, _++_, map}
+use Prim.Native.Nat.{ℕ, _+_, _<_}
+use lib.IntN.{ℤ, pos, natAbs, _+ℤ_}
+use lib.ListN.{length}
+use lib.Signed.{_<ℤ_}
+use Rattle.lists.specs.Lists.{sides}
+use Rattle.paper.specs.Points.{origin, plus, minus, times, dot, det}
+use Rattle.paper.specs.Polygon.{Polygon, over, normal, corner, planeSide, axis, seen, whereFlat, lies}
+use Rattle.paper.specs.Drawing.{Wire, onOpen, openMeets, samePlace, edgeMeets}
+use Rattle.paper.specs.Loops.{loops}
+use Rattle.paper.specs.Clash.{clash}
+use Rattle.paper.specs.Solids.{faceSix}
+use Rattle.paper.specs.declared.Point.{Point}
+use Rattle.paper.specs.declared.Flat.{Flat}
+use Rattle.paper.specs.declared.Where.the-variants.{Outside, Inside}
+use Rattle.paper_laws.specs.Planes.{InOwnPlane}
+use Rattle.means_drawing.specs.Segments.{Between, Common, along}
+use Rattle.means_area.specs.Flats.{Up}
+use Rattle.means_area.specs.Loops.{loopOf}
+use Rattle.means_area.specs.Theorems.{LoopsHold}
+use Rattle.means_inside.specs.Beams.{round, beam, facing}
+use Rattle.means_inside.specs.Touch.{Touch}
+use Rattle.means_inside.specs.Means.{big, Means}
+use Rattle.demands.specs.Clash.{Opposite}
+
+-- the point where an edge pierces a plane, times |a| + |b|, for ends p and q that are a and b from it
+abbrev pub pierced : Point → Point → ℤ → ℤ → Point
+pierced p q a b = plus (times (pos (natAbs b)) p) (times (pos (natAbs a)) q)
+
+-- the sum of the determinants (p, a, b) over the sides from a to b: a face's part of six volumes, by a fan round p
+unfoldable pub total : List ℤ → ℤ
+total [] = pos 0
+total (z ∷ zs) = z +ℤ total zs
+
+abbrev pub fanRound : Point → Polygon → ℤ
+fanRound p f = total (sides (det p) f)
+
+pub record Geometry : Type 0 where
+  -- 13, "shares a point": p is between a and b on their segment; the segment from a to b without its ends, and that from c to d with its
+  -- ends, have a common point
+  pub on-segment : (a b p : Point) → (a ≡ b → ⊥) → (onOpen a b p ≡ true) ↔ Between a b p
+  pub common : (a b c d : Point) → (a ≡ b → ⊥) → (openMeets a b c d ≡ true) ↔ Common a b c d
+  -- of every loop of a drawing that passes 11 and 13: its normal is not zero; its plane has all its corners; it is seen without loss along
+  -- an axis; its sides meet in its corners alone
+  pub loop-planes : LoopsHold
+  -- "inside A or on its border", of such a loop: the region of a triangulation of what is seen of it, and its sides
+  pub seen-as : (p : Point) (k : ℤ) (g : Polygon)
+      → lies (over p k) g ≡ whereFlat (seen (axis (normal g)) p) k (map (seen (axis (normal g))) g)
+  pub region : (d : Wire) → samePlace d ≡ none → edgeMeets d ≡ none → (i : ℕ) → i < length (loops d)
+      → (m : ℤ) × Means m (map (seen (axis (normal (loopOf d i)))) (loopOf d i))
+  -- whatever ray is asked, from p through any other point q; and whatever corner the ring starts at
+  pub any-ray : (d : ℤ) → Up d → (g : List Flat) (p q : Flat) → Up (facing p q q) → (Touch p (map (big d) g) → ⊥)
+      → (round (beam p q) (map (big d) g) ≡ true → whereFlat p d g ≡ Inside)
+      × (round (beam p q) (map (big d) g) ≡ false → whereFlat p d g ≡ Outside)
+  pub any-start : (d : ℤ) → Up d → (x : Flat) (l : List Flat) (y : Flat) (r : List Flat) (p : Flat)
+      → whereFlat p d (x ∷ (l ++ y ∷ r)) ≡ whereFlat p d (y ∷ (r ++ x ∷ l))
+  -- A: the piercing point is on the edge, |a| / (|a| + |b|) of the way from p to q and between its ends, and it is in g's plane
+  pub on-edge : (p q : Point) (a b : ℤ) → Opposite a b
+      → (pos 0 <ℤ pos (natAbs a)) × (pos (natAbs a) <ℤ pos (natAbs a + natAbs b))
+      × (pierced p q a b ≡ along (pos (natAbs a + natAbs b)) (pos (natAbs a)) p q)
+  pub in-plane : (g : Polygon) (p q : Point) → Opposite (planeSide g p) (planeSide g q)
+      → dot (normal g)
+      (minus (pierced p q (planeSide g p) (planeSide g q))
+      (times (pos (natAbs (planeSide g p) + natAbs (planeSide g q))) (corner g))) ≡ pos 0
+  -- "either way round": faces whose corners are in their planes
+  pub either-way : (f g : Polygon) → InOwnPlane f → InOwnPlane g → clash f g ≡ clash g f
+  -- six volumes of a face is the fan round any point of its plane, so it does not go by the corner that the fan starts from
+  pub any-fan : (f : Polygon) (p : Point) → planeSide f p ≡ pos 0 → faceSix f ≡ fanRound p f
