@@ -1,19 +1,27 @@
 -- Known drawings under the demands: so no statement is empty. Assumes nothing.
-use mathlib.Core.Path.{_≡_, refl, _∙_}
+use mathlib.Core.Path.{_≡_, refl, sym, subst, _∙_}
 use mathlib.Core.List.{List}
-use Prim.Native.Nat.{ℕ, _+_, _*_, _<_}
+use Prim.Native.Nat.{ℕ, zero, suc, _+_, _*_, _<_}
 use native.Mathlib.Omega.{arith}
-use lib.ListN.{length, getD}
+use lib.ListN.{length, getD, length-replicate}
 use Rattle.paper.specs.Numbers.{mostWork, faceRoom, solidRoom}
 use Rattle.paper.specs.Format.{editionOne, encode}
 use Rattle.paper.specs.FaceList.{encodeFaces, facesIn, solidFaces}
 use Rattle.paper.specs.Questions.{Drawn, reply, faceBefore, solidBefore}
-use Rattle.paper.specs.Known.Drawings.{cube, outward, nested, tetrahedron}
+use Rattle.paper.specs.Loops.{Loop, loopAt, flipped}
+use Rattle.paper.specs.Known.Drawings.{cube, outward, inward, nested, tetrahedron, octahedron}
 use Rattle.paper.specs.Conversion.{Converted}
-use Rattle.paper.specs.declared.Verdict.the-variants.{Accepted}
+use Rattle.paper.specs.declared.Refusal.{Refusal}
+use Rattle.paper.specs.declared.Conversion.the-variants.{TooLong}
+use Rattle.paper.specs.declared.Verdict.the-variants.{Accepted, Refused}
+use Rattle.means_solid.specs.Named.{SameRing}
+use Rattle.means_report.specs.Listed.{WalkTree}
 use Rattle.means_check.specs.Bodies.{SameBody}
-use Rattle.demands.specs.Input.{Input, lent, sheet, Passes, converted, checked, reported}
+use Rattle.demands.specs.Input.{Input, lent, sheet, drawing, candidatesOf, Passes, converted, checked, reported}
+use Rattle.demands.specs.Walk.{workToNine, Allowed}
+use Rattle.demands.specs.Spoiled.{Spoiled, all-turned}
 use Rattle.demands.specs.Demand3.{Report}
+use Rattle.demands.proofs.Demand2.{demand2}
 use Rattle.demands.proofs.Demand3.{demand3}
 
 abbrev of : Drawn → Input
@@ -81,3 +89,45 @@ sheet-one = refl
 pub tetrahedron-bodies : (a b : List ℕ) → checked (on tetrahedron) a ≡ Accepted → checked (on tetrahedron) b ≡ Accepted
     → SameBody (facesIn editionOne a) (facesIn editionOne b)
 tetrahedron-bodies = let r = told (on tetrahedron) sheet-passes (omega (arith, sheet-one)) in r .same (r .n ∙ sheet-one)
+
+-- "Its list with all faces turned" comes from an accepted list, so it is refused
+turned-at : (i : ℕ) → i < 6 → SameRing (flipped (loopAt outward i)) (loopAt inward i)
+unfolding flipped
+turned-at zero h = record { at = 1; turns = refl }
+turned-at (suc zero) h = record { at = 1; turns = refl }
+turned-at (suc (suc zero)) h = record { at = 1; turns = refl }
+turned-at (suc (suc (suc zero))) h = record { at = 1; turns = refl }
+turned-at (suc (suc (suc (suc zero)))) h = record { at = 1; turns = refl }
+turned-at (suc (suc (suc (suc (suc zero))))) h = record { at = 1; turns = refl }
+turned-at (suc (suc (suc (suc (suc (suc i)))))) h = absurd (omega arith)
+
+outward-read : facesIn editionOne (encodeFaces editionOne outward) ≡ outward
+unfolding reply
+outward-read = refl
+
+inward-read : facesIn editionOne (encodeFaces editionOne inward) ≡ inward
+unfolding reply
+inward-read = refl
+
+pub cube-turned : (r : Refusal) × (checked (of cube) (encodeFaces editionOne inward) ≡ Refused r)
+cube-turned =
+    demand3 (of cube) cube-passes .refused (encodeFaces editionOne outward) (encodeFaces editionOne inward) cube-list
+    (subst (λ (fs : List Loop). Spoiled fs (facesIn editionOne (encodeFaces editionOne inward))) (sym outward-read)
+    (subst (Spoiled outward) (sym inward-read) (all-turned (λ i h. (i, h, turned-at i h)))))
+
+-- "Octahedron .. With limit 3: TooLong": so its walk has more than three assumptions
+octahedron-passes : Passes (of octahedron)
+unfolding reply
+octahedron-passes = refl
+
+octahedron-cut : converted (of octahedron) 3 (faceBefore faceRoom) (solidBefore solidRoom) .answer ≡ TooLong 11 11 3
+unfolding reply
+octahedron-cut = refl
+
+pub octahedron-long : (t : WalkTree (drawing (of octahedron)) (candidatesOf (of octahedron))) → 3 < workToNine (of octahedron) t
+octahedron-long t =
+    demand2 (of octahedron) .holds octahedron-passes t 3 (faceBefore faceRoom) (solidBefore solidRoom) allowed .long 11 11 3 .0
+    octahedron-cut .0
+  where
+    allowed : Allowed 3 (faceBefore faceRoom) (solidBefore solidRoom)
+    allowed = (omega (arith, length-replicate {A = ℕ} 832 77), omega (arith, length-replicate {A = ℕ} 24 99), omega arith)

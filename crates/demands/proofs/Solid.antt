@@ -54,17 +54,6 @@ module _ (d : Wire) where
       (corners j (omega (arith, dig-lt taken j hj))) (corners k (omega (arith, dig-lt taken k hk)))
 
   module _ {taken turned : List Bool} {six : ℕ} where
-    pub in-words : IsSolid d (candidates d) taken turned six → Solid d (candidates d) taken turned six
-    in-words s = record {
-      set = s .some;
-      within = s .within;
-      i = s .i;
-      ii = s .ii;
-      iii = s .iii;
-      iv = s .iv;
-      v = λ j k hj hk n. is-off (is-at taken (s .some) j k hj hk) (s .v j k hj hk n);
-    }
-
     pub of-words : Solid d (candidates d) taken turned six → IsSolid d (candidates d) taken turned six
     of-words s = record {
       some = s .set;
@@ -75,6 +64,17 @@ module _ (d : Wire) where
       iv = s .iv;
       v = λ j k hj hk n. never-true (clash (polygon d (loopAt (candidates d) j)) (polygon d (loopAt (candidates d) k)))
           (λ e. s .v j k hj hk n (is-at taken (s .set) j k hj hk .0 e));
+    }
+
+    pub in-words : IsSolid d (candidates d) taken turned six → Solid d (candidates d) taken turned six
+    in-words s = record {
+      set = s .some;
+      within = s .within;
+      i = s .i;
+      ii = s .ii;
+      iii = s .iii;
+      iv = s .iv;
+      v = λ j k hj hk n. is-off (is-at taken (s .some) j k hj hk) (s .v j k hj hk n);
     }
 
   pub every-words : (es : List Entry) → Listed d (candidates d) es → Every d (candidates d) es
