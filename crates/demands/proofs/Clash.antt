@@ -7,12 +7,14 @@ use Prim.Native.Nat.{ℕ, _+_, _≤_, _<_}
 use native.Mathlib.Omega.{arith}
 use lib.IntN.{ℤ, pos}
 use lib.Signed.{_<ℤ_, ltZ}
-use lib.ListN.{length, getD}
+use lib.ListN.{length, getD, length-map}
 use Rattle.lists.specs.Around.{around}
 use Rattle.lists.specs.Lists.{any, all, sides, anyTrue}
 use Rattle.lists.proofs.Passing.{any-yes, any-is, all-yes, all-is}
 use Rattle.lists.proofs.Sides.{sides-length, sides-at, sides-around, around-low}
 use Rattle.paper.specs.Points.{origin, minus, det, samePoint, isZero, above, below}
+use Rattle.paper.specs.Drawing.{Wire, at}
+use Rattle.paper.specs.Loops.{Loop, polygon}
 use Rattle.paper.specs.Polygon.{Polygon, exactly, normal, planeSide, onePlane, lies, isInside}
 use Rattle.paper.specs.Clash.{opposite, pierced, pierces, enters, angleHolds, inAngle, Side, to, turnsAt, pointsIn, isCorner, bends, folds}
 use Rattle.paper.specs.Clash.{clash}
@@ -236,3 +238,8 @@ module _ (f g : Polygon) (two-f : 2 ≤ length f) (two-g : 2 ≤ length g) where
       back (Clash.b x) = inl (inr (inl x))
       back (Clash.b-back x) = inl (inr (inr x))
       back (Clash.c x) = inr x
+
+-- a loop's polygon has as many corners
+pub two-corners : (d : Wire) (l : Loop) → 3 ≤ length l → 2 ≤ length (polygon d l)
+unfolding polygon
+two-corners d l h = omega (arith, length-map l (at d))

@@ -38,8 +38,10 @@ use Rattle.means_check.specs.Candidates.{Candidates}
 use Rattle.means_check.proofs.Numbers.{is-candidate, row-length}
 use Rattle.means_check.proofs.Numbered.{numbersOf, takenOf, turnedOf, numbers-length, number-of, taken-yes, taken-is, either-number}
 use Rattle.means_check.proofs.Tests.{all-proper, inward-six, six-inward, edges-two}
+use Rattle.demands.specs.Clash.{Clash}
 use Rattle.demands.specs.Shells.{Either, NotCandidate, FaceTwice, EdgeCount, Direction, Pieces, Inward, Clashes, shells}
 use Rattle.demands.proofs.Tests.{Is, is-eq, is-not}
+use Rattle.demands.proofs.Clash.{two-corners, is-clash}
 use Rattle.demands.proofs.Table.{Says, done, also, also-one}
 
 -- ---- one ring, in any direction or start
@@ -228,10 +230,16 @@ module _ (d : Wire) (cs fs : List Loop) (c : Candidates d cs) where
 
     abbrev OtherClash : ℕ → Type 0
     OtherClash j =
-        (k : ℕ) × (dig (takenOf cs fs) k ≡ true) × (j ≡ k → ⊥) × (clash (polygon d (loopAt cs j)) (polygon d (loopAt cs k)) ≡ true)
+        (k : ℕ) × (dig (takenOf cs fs) k ≡ true) × (j ≡ k → ⊥) × Clash (polygon d (loopAt cs j)) (polygon d (loopAt cs k))
 
-    is-clash : (j : ℕ) → j < length cs → Is (not (eqb (count (both (clashesOf j) (takenOf cs fs))) 0)) (OtherClash j)
-    is-clash j hj = (
+    in-words : (j k : ℕ) → j < length cs → k < length cs
+        → Is (clash (polygon d (loopAt cs j)) (polygon d (loopAt cs k))) (Clash (polygon d (loopAt cs j)) (polygon d (loopAt cs k)))
+    in-words j k hj hk =
+        is-clash (polygon d (loopAt cs j)) (polygon d (loopAt cs k)) (two-corners d (loopAt cs j) (c .normal j hj .three))
+        (two-corners d (loopAt cs k) (c .normal k hk .three))
+
+    is-other : (j : ℕ) → j < length cs → Is (not (eqb (count (both (clashesOf j) (takenOf cs fs))) 0)) (OtherClash j)
+    is-other j hj = (
       λ e.
           let ne = is-not (eqb (count (both (clashesOf j) (takenOf cs fs))) 0) (is-eq (count (both (clashesOf j) (takenOf cs fs))) 0) .0 e in
           let k = first (both (clashesOf j) (takenOf cs fs)) in
@@ -246,7 +254,7 @@ module _ (d : Wire) (cs fs : List Loop) (c : Candidates d cs) where
           (λ z. count-none (both (clashesOf j) (takenOf cs fs)) z (r .0)
           (dig-both (clashesOf j) (takenOf cs fs) (r .0)
           ∙ and-both (clash-dig d cs (c .even) (takenOf cs fs) some j (r .0) hj hk
-          ∙ clashing-is d cs (c .even) (takenOf cs fs) some j (r .0) hj hk (r .2) ∙ r .3) (r .1))),
+          ∙ clashing-is d cs (c .even) (takenOf cs fs) some j (r .0) hj hk (r .2) ∙ in-words j (r .0) hj hk .1 (r .3)) (r .1))),
     )
       where
         found : (k : ℕ) → dig (takenOf cs fs) k ≡ true → k < length cs
@@ -254,14 +262,15 @@ module _ (d : Wire) (cs fs : List Loop) (c : Candidates d cs) where
         found k t hk e (yes z) =
             never (sym (subst (λ (x : ℕ). clashing (map (polygon d) cs) j x ≡ true) (sym z) e)
             ∙ clashing-self d cs (c .even) (takenOf cs fs) some j)
-        found k t hk e (no z) = (k, t, z, sym (clashing-is d cs (c .even) (takenOf cs fs) some j k hj hk z) ∙ e)
+        found k t hk e (no z) =
+            (k, t, z, in-words j k hj hk .0 (sym (clashing-is d cs (c .even) (takenOf cs fs) some j k hj hk z) ∙ e))
 
     finds-27 : Finds (λ i. OtherClash (getD (numbersOf cs fs) i 0)) (length fs) (clashes (tablesOf d cs) (numbersOf cs fs) (takenOf cs fs))
     unfolding clashes
     finds-27 =
         finds-all (λ i. not (eqb (count (both (clashesOf (getD (numbersOf cs fs) i 0)) (takenOf cs fs))) 0))
         (λ i. OtherClash (getD (numbersOf cs fs) i 0)) (numbers-length cs fs)
-        (λ i h. is-clash (getD (numbersOf cs fs) i 0) (low n i h))
+        (λ i h. is-other (getD (numbersOf cs fs) i 0) (low n i h))
 
   -- ---- in the table's order
 

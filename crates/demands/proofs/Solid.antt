@@ -4,10 +4,10 @@ use mathlib.Core.Bool.{Bool, true, false, not, _&&_}
 use mathlib.Core.Logic.{_↔_, _⊎_, inl, inr}
 use mathlib.Core.Option.{none}
 use mathlib.Core.List.{List}
-use Prim.Native.Nat.{ℕ, _+_, _≤_, _<_}
+use Prim.Native.Nat.{ℕ, _+_, _<_}
 use native.Mathlib.Omega.{arith}
 use lib.IntN.{pos}
-use lib.ListN.{length, getD, length-map}
+use lib.ListN.{length}
 use Rattle.lists.specs.Lists.{all, sides}
 use Rattle.lists.proofs.Passing.{all-yes, all-is}
 use Rattle.lists.proofs.Sides.{sides-length, sides-at}
@@ -16,7 +16,7 @@ use Rattle.sets.specs.Word.{dig}
 use Rattle.sets.proofs.Ones.{dig-lt}
 use Rattle.paper.specs.Points.{origin}
 use Rattle.paper.specs.Polygon.{Polygon, Ratio, over, midpoint, onePlane, lies, isOutside, covers}
-use Rattle.paper.specs.Drawing.{Wire, at, samePlace}
+use Rattle.paper.specs.Drawing.{Wire, samePlace}
 use Rattle.paper.specs.Loops.{Loop, loopAt, polygon, candidates}
 use Rattle.paper.specs.Clash.{clash}
 use Rattle.paper.specs.Verdict.{normalForm}
@@ -37,21 +37,18 @@ use Rattle.demands.specs.Clash.{Clash, cornerAt}
 use Rattle.demands.specs.Cover.{LoopOf, Covers, CandidateOf}
 use Rattle.demands.specs.Solid.{Solid, Every, NamesOne}
 use Rattle.demands.proofs.Tests.{Is, is-off, is-and, is-to}
-use Rattle.demands.proofs.Clash.{is-clash, is-plane}
+use Rattle.demands.proofs.Clash.{two-corners, is-clash, is-plane}
 
 -- ---- solids
 
 module _ (d : Wire) where
-  corners : (k : ℕ) → k < length (candidates d) → 2 ≤ length (polygon d (loopAt (candidates d) k))
-  unfolding polygon
-  corners k h = omega (arith, length-map (loopAt (candidates d) k) (at d), candidates-proper d k h .three)
-
   is-at : (taken : List Bool) → length taken ≡ length (candidates d) → (j k : ℕ) → dig taken j ≡ true → dig taken k ≡ true
       → Is (clash (polygon d (loopAt (candidates d) j)) (polygon d (loopAt (candidates d) k)))
       (Clash (polygon d (loopAt (candidates d) j)) (polygon d (loopAt (candidates d) k)))
   is-at taken s j k hj hk =
       is-clash (polygon d (loopAt (candidates d) j)) (polygon d (loopAt (candidates d) k))
-      (corners j (omega (arith, dig-lt taken j hj))) (corners k (omega (arith, dig-lt taken k hk)))
+      (two-corners d (loopAt (candidates d) j) (candidates-proper d j (omega (arith, dig-lt taken j hj)) .three))
+      (two-corners d (loopAt (candidates d) k) (candidates-proper d k (omega (arith, dig-lt taken k hk)) .three))
 
   module _ {taken turned : List Bool} {six : ℕ} where
     pub of-words : Solid d (candidates d) taken turned six → IsSolid d (candidates d) taken turned six

@@ -1,6 +1,6 @@
 -- Document 01's table, 20 to 27: what offends of a face list, and at which places. Assumes nothing.
 use mathlib.Core.Path.{_≡_}
-use mathlib.Core.Bool.{Bool, true}
+use mathlib.Core.Bool.{Bool}
 use mathlib.Core.Logic.{_⊎_}
 use mathlib.Core.List.{List}
 use Prim.Native.Nat.{ℕ, _≤_, _<_}
@@ -10,12 +10,12 @@ use Rattle.pack.specs.Bits.{fieldAt}
 use Rattle.paper.specs.Format.{editionOne, bytesFor, fillAfter}
 use Rattle.paper.specs.Drawing.{Wire, edgeAt}
 use Rattle.paper.specs.Loops.{Loop, loopAt, flipped, polygon}
-use Rattle.paper.specs.Clash.{clash}
 use Rattle.paper.specs.FaceList.{countIn, facesIn, bitsOf}
 use Rattle.paper.specs.Verdict.{listed}
 use Rattle.paper.specs.declared.Answer.{Answer}
 use Rattle.means_solid.specs.Solid.{Face, InTwo, EachWay, Way, sixOf}
 use Rattle.means_solid.specs.Named.{SameRing}
+use Rattle.demands.specs.Clash.{Clash}
 use Rattle.demands.specs.Table.{Outside, line, one}
 
 -- a face of 3 to 12 corners, all below v; faces that a list can hold
@@ -70,7 +70,7 @@ module _ (d : Wire) (cs fs : List Loop) where
   abbrev pub Clashes : ℕ → Type 0
   Clashes i =
       (k : ℕ) × Face d cs takenIn turnedIn k × (numberAt i ≡ k → ⊥)
-      × (clash (polygon d (loopAt cs (numberAt i))) (polygon d (loopAt cs k)) ≡ true)
+      × Clash (polygon d (loopAt cs (numberAt i))) (polygon d (loopAt cs k))
 
   -- 20, 26: 0. 21, 22, 25, 27: "face". 23, 24: "edge"
   abbrev pub shells : (Answer → Type 0) → Answer → Type 0

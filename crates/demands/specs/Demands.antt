@@ -1,0 +1,26 @@
+-- The customer's three demands, one after the other, with what is said beside them. Assumes nothing.
+use Rattle.demands.specs.Input.{Input}
+use Rattle.demands.specs.Faces.{Candidates}
+use Rattle.demands.specs.Geometry.{Geometry}
+use Rattle.demands.specs.Origin.{AnyOrigin}
+use Rattle.demands.specs.Demand1.{Demand1}
+use Rattle.demands.specs.Answers.{Numbered, Told, VolumeOfOne}
+use Rattle.demands.specs.Demand2.{Holds2}
+use Rattle.demands.specs.Sheets.{Sheets2}
+use Rattle.demands.specs.Demand3.{Holds3}
+
+pub record Demands : Type 0 where
+  -- 1, "Everything gets an answer": and no refusal can be taken for a volume
+  pub answer : Demand1
+  pub numbered : Numbered
+  pub told : Told
+  pub volume : VolumeOfOne
+  -- 2, "The report is complete": of drawings, and of sheets
+  pub report : (x : Input) → Holds2 x
+  pub sheets : Sheets2
+  -- 3, "The check is exact"
+  pub check : Holds3
+  -- what they speak of: candidates, and the geometry
+  pub candidates : (x : Input) → Candidates x
+  pub geometry : Geometry
+  pub any-origin : AnyOrigin
