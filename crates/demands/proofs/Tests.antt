@@ -1,8 +1,8 @@
 -- A test that is true just where a statement holds, and such tests put together. Assumes nothing.
-use mathlib.Core.Path.{_≡_, refl, sym, ap, _∙_}
+use mathlib.Core.Path.{_≡_, refl}
 use mathlib.Core.Bool.{Bool, true, false, not, _&&_, _||_}
 use mathlib.Core.Logic.{_↔_, _⊎_, inl, inr}
-use mathlib.Core.List.{List, [], _∷_}
+use mathlib.Core.List.{List}
 use Prim.Native.Nat.{ℕ, zero, suc, _+_, _≤_, _<_}
 use native.Mathlib.Omega.{arith}
 use borrow.Author.Tests.{ltb-true, leb-true, eqb-true, lt-ltb, le-leb, eq-eqb}
@@ -11,9 +11,8 @@ use lib.IntN.{ℤ, pos, negsuc}
 use lib.ListN.{length}
 use lib.Signed.{_<ℤ_, ltZ, ltZ-yes}
 use Rattle.lists.specs.Around.{around}
-use Rattle.lists.specs.Lists.{any, sides, anyTrue}
-use Rattle.lists.proofs.Passing.{any-yes, any-is}
-use Rattle.lists.proofs.Sides.{sides-length, sides-at}
+use Rattle.lists.specs.Lists.{sides, anyTrue}
+use Rattle.lists.proofs.Sides.{side-yes, side-is}
 use Rattle.paper.specs.Points.{isZero}
 use Rattle.lists.proofs.Truth.{is-true, and-left, and-right, and-both, or-left, or-right, or-cases}
 
@@ -69,20 +68,9 @@ is-zero (negsuc n) = (
 
 -- ---- a test at one of the sides of a ring
 
-any-true : (bs : List Bool) → anyTrue bs ≡ any (λ b. b) bs
-unfolding anyTrue any
-any-true [] = refl
-any-true (b ∷ bs) = ap (λ (r : Bool). b || r) (any-true bs)
-
 pub is-side : {A : Type 0} (z : A) (q : A → A → Bool) (l : List A) (Q : A → A → Type 0) → ((a b : A) → Is (q a b) (Q a b))
     → Is (anyTrue (sides q l)) ((k : ℕ) × (k < length l) × Q (around l k z) (around l (k + 1) z))
 is-side z q l Q f = (
-  λ e.
-      let r = any-yes (λ b. b) false (sides q l) (sym (any-true (sides q l)) ∙ e) in
-      let h : r .0 < length l = omega (arith, r .1, sides-length q l) in
-      (r .0, h, f (around l (r .0) z) (around l (r .0 + 1) z) .0 (sym (sides-at q l (r .0) false z h) ∙ r .2)),
-  λ r.
-      any-true (sides q l)
-      ∙ any-is (λ b. b) false (sides q l) (r .0) (omega (arith, r .1, sides-length q l))
-      (sides-at q l (r .0) false z (r .1) ∙ f (around l (r .0) z) (around l (r .0 + 1) z) .1 (r .2)),
+  λ e. let r = side-yes z q l e in (r .0, r .1, f (around l (r .0) z) (around l (r .0 + 1) z) .0 (r .2)),
+  λ r. side-is z q l (r .0) (r .1) (f (around l (r .0) z) (around l (r .0 + 1) z) .1 (r .2)),
 )

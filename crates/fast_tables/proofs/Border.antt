@@ -11,7 +11,7 @@ use lib.Signed.{leZ, _≤ℤ_, _<ℤ_, ≤ℤ-refl}
 use Rattle.lists.specs.Lists.{sides, anyTrue, oddTrue}
 use Rattle.lists.specs.Around.{around}
 use Rattle.lists.proofs.Truth.{and-both, or-left, or-right}
-use Rattle.lists.proofs.Sides.{around-low, sides-map}
+use Rattle.lists.proofs.Sides.{around-low, sides-map, side-is}
 use Rattle.exact.proofs.Laws.{one-*ℤ}
 use Rattle.exact.proofs.Ring.{var, con, _⊕_, _⊖_, _⊗_, ring}
 use Rattle.exact.proofs.Signs.{le-is, lt-or-ge, <ℤ-≤ℤ}
@@ -25,7 +25,6 @@ use Rattle.paper.specs.declared.Axis.{Axis}
 use Rattle.paper.specs.declared.Axis.the-variants.{AlongX, AlongY, AlongZ}
 use Rattle.paper.specs.declared.Where.the-variants.{Border}
 use Rattle.paper_laws.proofs.Points.{zero-is}
-use Rattle.fast_tables.proofs.Rounds.{side-is}
 
 -- ---- in the flat
 spans-is : (a b p : ℤ) → ((a ≤ℤ p) × (p ≤ℤ b)) ⊎ ((b ≤ℤ p) × (p ≤ℤ a)) → spans a b p ≡ true

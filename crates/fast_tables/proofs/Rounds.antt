@@ -12,7 +12,7 @@ use Rattle.lists.specs.Lists.{any, sides, anyTrue, member}
 use Rattle.lists.specs.Around.{wrap, around}
 use Rattle.lists.proofs.Truth.{and-left, and-right, and-both, or-left, or-right, or-cases, same-truth}
 use Rattle.lists.proofs.Passing.{any-yes, any-is}
-use Rattle.lists.proofs.Sides.{wrap-low, wrap-high, sides-length, sides-at}
+use Rattle.lists.proofs.Sides.{wrap-low, wrap-high, side-yes, side-is}
 use Rattle.paper.specs.Drawing.{Wire, Edge, edge, joins, joined}
 use Rattle.paper.specs.Loops.{Loop}
 use Rattle.paper.specs.Solids.{runs, has}
@@ -20,23 +20,6 @@ use Rattle.fast_tables.specs.Paths.{Path}
 
 pub equal-both : {a b : Bool} → (a ≡ true → b ≡ true) → (b ≡ true → a ≡ true) → a ≡ b
 equal-both {a} {b} f g = same-truth a b f g
-
--- ---- a test at each side of a ring
-any-true : (bs : List Bool) → anyTrue bs ≡ any (λ b. b) bs
-unfolding anyTrue any
-any-true [] = refl
-any-true (b ∷ bs) = ap (λ (r : Bool). b || r) (any-true bs)
-
-module _ {A : Type 0} (z : A) (q : A → A → Bool) (l : List A) where
-  pub side-yes : anyTrue (sides q l) ≡ true → (k : ℕ) × (k < length l) × (q (around l k z) (around l (k + 1) z) ≡ true)
-  side-yes e =
-      let r = any-yes (λ b. b) false (sides q l) (sym (any-true (sides q l)) ∙ e) in
-      let h : r .0 < length l = omega (arith, r .1, sides-length q l) in
-      (r .0, h, sym (sides-at q l (r .0) false z h) ∙ r .2)
-
-  pub side-is : (k : ℕ) → k < length l → q (around l k z) (around l (k + 1) z) ≡ true → anyTrue (sides q l) ≡ true
-  side-is k h e =
-      any-true (sides q l) ∙ any-is (λ b. b) false (sides q l) k (omega (arith, sides-length q l)) (sides-at q l k false z h ∙ e)
 
 -- ---- places that wrap
 pub wrap-cases : (n k : ℕ) → ((k < n) × (wrap n k ≡ k)) ⊎ ((n ≤ k) × (wrap n k ≡ k - n))

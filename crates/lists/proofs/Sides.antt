@@ -1,6 +1,6 @@
 -- The sides of a ring: side k is f at element k and the one after it, which wraps. For a `while` over the sides. Assumes nothing.
 use mathlib.Core.Path.{_≡_, refl, sym, _∙_, ap}
-use mathlib.Core.Bool.{Bool, true, false, cond, xor}
+use mathlib.Core.Bool.{Bool, true, false, cond, xor, _||_}
 use mathlib.Core.List.{List, [], _∷_, _++_, map}
 use mathlib.Core.Logic.{_⊎_, inl, inr}
 use Prim.Native.Nat.{ℕ, zero, suc, _+_, _-_, _≤_, _<_}
@@ -10,9 +10,10 @@ use native.Mathlib.Omega.{arith}
 use lib.ListN.{length, take, getD}
 use lib.Seq.{take-length}
 use borrow.Author.Tests.{lt-ltb, le-ltb}
-use Rattle.lists.specs.Lists.{sides, sidesFrom, oddTrue}
+use Rattle.lists.specs.Lists.{any, sides, sidesFrom, anyTrue, oddTrue}
 use Rattle.lists.specs.Around.{wrap, around}
 use Rattle.lists.proofs.Truth.{xor-assoc, xor-false, false-xor}
+use Rattle.lists.proofs.Passing.{any-yes, any-is}
 use Rattle.lists.proofs.Places.{take-more}
 use Rattle.lists.proofs.Search.{Search, Left, search-hit, search-miss, search-end}
 
@@ -151,3 +152,20 @@ module _ {A B R : Type 0} {p : B → Bool} {q : List B → R} {hit : B → R} {m
 
   pub side-end : length g ≤ k → Left q (sides f g) k → q (sides f g) ≡ miss
   side-end h l = search-end s (sides f g) k (omega (arith, sides-length f g)) l
+
+-- a test at some side
+any-true : (bs : List Bool) → anyTrue bs ≡ any (λ b. b) bs
+unfolding anyTrue any
+any-true [] = refl
+any-true (b ∷ bs) = ap (λ (r : Bool). b || r) (any-true bs)
+
+module _ {A : Type 0} (z : A) (q : A → A → Bool) (l : List A) where
+  pub side-yes : anyTrue (sides q l) ≡ true → (k : ℕ) × (k < length l) × (q (around l k z) (around l (k + 1) z) ≡ true)
+  side-yes e =
+      let r = any-yes (λ b. b) false (sides q l) (sym (any-true (sides q l)) ∙ e) in
+      let h : r .0 < length l = omega (arith, r .1, sides-length q l) in
+      (r .0, h, sym (sides-at q l (r .0) false z h) ∙ r .2)
+
+  pub side-is : (k : ℕ) → k < length l → q (around l k z) (around l (k + 1) z) ≡ true → anyTrue (sides q l) ≡ true
+  side-is k h e =
+      any-true (sides q l) ∙ any-is (λ b. b) false (sides q l) k (omega (arith, sides-length q l)) (sides-at q l k false z h ∙ e)
