@@ -22,6 +22,7 @@ use Rattle.paper.specs.declared.Point.{Point}
 use Rattle.paper.specs.declared.Where.{Where}
 use Rattle.paper.specs.declared.Where.the-variants.{Outside, Border, Inside}
 use Rattle.paper_laws.proofs.Points.{same-yes, same-is}
+use Rattle.means_clash.proofs.Either.{corner-yes, yes-corner}
 use Rattle.demands.specs.Clash.{cornerAt, Corner, Opposite, piercing, EdgePierces, RuleA, RuleB, Left, InAngle, PointsIn, RuleC, Clash}
 use Rattle.demands.specs.Clash as Clash
 use Rattle.demands.proofs.Tests.{Is, is-ltZ, is-not, is-or, is-and, is-to, is-zero, is-side}
@@ -155,11 +156,7 @@ module _ (g : Polygon) (two : 2 ≤ length g) (u v : Point) where
       )
 
 is-corner : (g : Polygon) (p : Point) → Is (isCorner g p) (Corner g p)
-unfolding isCorner
-is-corner g p = (
-  λ e. let r = any-yes (samePoint p) origin g e in (r .0, r .1, sym (same-yes p (getD g (r .0) origin) (r .2))),
-  λ r. any-is (samePoint p) origin g (r .0) (r .1) (same-is p (getD g (r .0) origin) (sym (r .2))),
-)
+is-corner g p = (corner-yes g p, λ r. yes-corner g (r .0) p (r .1) (r .2))
 
 pub is-plane : (f g : Polygon) → Is (onePlane f g) ((i : ℕ) → i < length g → planeSide f (getD g i origin) ≡ pos 0)
 unfolding onePlane

@@ -29,7 +29,7 @@ use Rattle.means_check.specs.Sent.{faceList}
 use Rattle.means_check.specs.Bodies.{AmongEither, SameBody}
 use Rattle.means_solid.proofs.Alike.{names-to, row-same}
 use Rattle.means_loops.proofs.Rings.{same-refl}
-use Rattle.means_check.proofs.Bodies.{faceList-names, same-named, names-again}
+use Rattle.means_check.proofs.Bodies.{faceList-names, same-named, names-again, named-singly}
 use Rattle.means_check.proofs.Demand.{drawing-places, drawing-fits, accepts-exactly, each-accepted, one-named, not-turned, not-missing}
 use Rattle.means_check.proofs.Demand.{not-doubled}
 use Rattle.means_check.proofs.Parts.{some-face}
@@ -40,7 +40,7 @@ use Rattle.demands.specs.Spoiled.{Spoiled, face-turned, all-turned, face
 use Rattle.demands.proofs.Input.{converted-is, checked-is, form-fine, drawing-fine, loops-fine, small, counted}
 use Rattle.demands.proofs.Shape.{is-shape}
 use Rattle.demands.proofs.Solid.{every-words, names-words, words-names}
-use Rattle.demands.proofs.Sendable.{singly, names-sent}
+use Rattle.demands.proofs.Sendable.{names-sent}
 use Rattle.demands.proofs.Rooms.{faces-reported, words-at}
 
 module _ (x : Input) (p : Passes x) where
@@ -93,8 +93,7 @@ module _ (x : Input) (p : Passes x) where
         let si = all .each i hi in
         let sj = all .each j hj in
         let k = names-again (drawing x) (candidates (drawing x)) fits (entryAt es i .taken) (entryAt es i .turned) fs gs n b
-        (singly (drawing x) fits (drawing-places (drawing x) (drawing-fine x p)) (small x (form-fine x p) .1) (entryAt es j .taken)
-        (entryAt es j .turned) sj gs m) in
+        (named-singly (drawing x) (candidates (drawing x)) fits (entryAt es j .taken) (entryAt es j .turned) gs m) in
         let one = one-named (form x) (drawing x) (drawing-fine x p) gs
         (record { taken = entryAt es i .taken; turned = entryAt es i .turned; six = entryAt es i .six; solid = si; names = k })
         (record { taken = entryAt es j .taken; turned = entryAt es j .turned; six = entryAt es j .six; solid = sj; names = m }) in

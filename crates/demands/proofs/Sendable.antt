@@ -23,7 +23,7 @@ use Rattle.means_loops.proofs.Rings.{same-sym, same-trans}
 use Rattle.means_loops.proofs.Paths.{path-same, path-flip, loop-path}
 use Rattle.means_loops.proofs.Listing.{candidates-are}
 use Rattle.means_check.proofs.Few.{solid-sent}
-use Rattle.means_check.proofs.Bodies.{faceList-names, same-named}
+use Rattle.means_check.proofs.Bodies.{faceList-names, same-named, named-singly}
 
 -- ---- m different ones among n: m is at most n
 
@@ -87,9 +87,6 @@ body-least fs gs b y =
 
 module _ (d : Wire) (c : Candidates d (candidates d)) (apart : samePlace d ≡ none) (few : length (d .edges) ≤ 64)
     (taken turned : List Bool) {six : ℕ} (s : IsSolid d (candidates d) taken turned six) where
-  pub singly : (fs : List Loop) → Names d (candidates d) taken turned fs → Singly fs
-  singly fs n i j hi hj p = let r = n .each i hi in n .once i j (r .0) hi hj (r .2) (same-trans (r .2) p)
-
   turn : (b : Bool) (l : Loop) → ClosedPath d l → ClosedPath d (cond b (flipped l) l)
   turn true l c = path-flip d l c
   turn false l c = c
@@ -114,8 +111,8 @@ module _ (d : Wire) (c : Candidates d (candidates d)) (apart : samePlace d ≡ n
       let m = faceList-names d (candidates d) c taken turned s in
       let b = same-named d (candidates d) c taken turned fs gs n m in
       let q = solid-sent d apart few taken turned s in
-      let u : length gs ≤ length fs = body-least fs gs b (singly gs m) in
-      let v : length fs ≤ length gs = body-least gs fs (b .1, b .0) (singly fs n) in
+      let u : length gs ≤ length fs = body-least fs gs b (named-singly d (candidates d) c taken turned gs m) in
+      let v : length fs ≤ length gs = body-least gs fs (b .1, b .0) (named-singly d (candidates d) c taken turned fs n) in
       record {
         least = omega (arith, q .least);
         most = omega (arith, q .most);

@@ -7,12 +7,11 @@ use mathlib.Core.List.{List, [], map}
 use Prim.Native.Nat.{ℕ, _≤_, _<_}
 use native.Mathlib.Omega.{arith}
 use native.Mathlib.Decide.{decLt, ℕ-discrete}
-use borrow.Author.Tests.{leb-true, leb-false, le-leb, not-false}
+use borrow.Author.Tests.{leb-true, le-leb}
 use lib.Dec.{leb, eqb}
 use lib.ListN.{length, getD, take}
 use lib.Seq.{getD-take, length-take-le}
 use Rattle.lists.specs.Lists.{lowest, member}
-use Rattle.lists.proofs.Lowest.{lowest-none}
 use Rattle.lists.proofs.Truth.{and-left, and-right, and-both}
 use Rattle.sets.specs.Word.{dig, count, both, first}
 use Rattle.sets.proofs.Digits.{never, dig-both, count-none, first-in}
@@ -36,7 +35,7 @@ use Rattle.means_masks.proofs.Tables.{EachTwo, masks-length, as-many, mask-at, 
 use Rattle.means_masks.proofs.Tables.{clash-dig, clashing-is, clashing-self}
 use Rattle.means_check.specs.Candidates.{Candidates}
 use Rattle.means_check.proofs.Numbers.{is-candidate, row-length}
-use Rattle.means_check.proofs.Numbered.{numbersOf, takenOf, turnedOf, numbers-length, number-of, taken-yes, taken-is, either-number}
+use Rattle.means_check.proofs.Numbered.{numbersOf, takenOf, turnedOf, numbers-length, number-of, taken-is, known-all, either-number}
 use Rattle.means_check.proofs.Tests.{all-proper, inward-six, six-inward, edges-two}
 use Rattle.demands.specs.Clash.{Clash}
 use Rattle.demands.specs.Shells.{Either, NotCandidate, FaceTwice, EdgeCount, Direction, Pieces, Inward, Clashes, shells}
@@ -85,13 +84,6 @@ module _ (d : Wire) (cs fs : List Loop) (c : Candidates d cs) where
 
   abbrev Known : Type 0
   Known = (i : ℕ) → i < length fs → numberIn cs (loopAt fs i) < length cs
-
-  known : notCandidate (length cs) (numbersOf cs fs) ≡ none → Known
-  unfolding notCandidate
-  known p i h =
-      let e = lowest-none (λ i. leb (length cs) (getD (numbersOf cs fs) i 0)) (length (numbersOf cs fs)) p i
-      (omega (arith, numbers-length cs fs)) in
-      omega (arith, leb-false (length cs) (getD (numbersOf cs fs) i 0) e, number-of cs fs i h)
 
   -- ---- 22, where 21 passes
 
@@ -278,11 +270,11 @@ module _ (d : Wire) (cs fs : List Loop) (c : Candidates d cs) where
   unfolding faceChecks listed inward
   shells-say =
       also 21 (length fs) (NotCandidate d cs fs) (notCandidate (length cs) (numbersOf cs fs)) _ _ finds-21
-      (λ p. also 22 (length fs) (FaceTwice d cs fs) (faceTwice (numbersOf cs fs)) _ _ (finds-22 (known p))
+      (λ p. also 22 (length fs) (FaceTwice d cs fs) (faceTwice (numbersOf cs fs)) _ _ (finds-22 (known-all cs fs p))
       (λ e. also 23 (length (d .edges)) (EdgeCount d cs fs) (edgeCount (tablesOf d cs) (takenOf cs fs)) _ _ finds-23
       (λ q. also 24 (length (d .edges)) (Direction d cs fs) (direction (tablesOf d cs) (takenOf cs fs) (turnedOf cs fs)) _ _ finds-24
       (λ e. also 25 (length fs) (Pieces d cs fs) (pieces (tablesOf d cs) (numbersOf cs fs) (takenOf cs fs)) _ _
-      (finds-25 (known p) (edges-two d cs (takenOf cs fs) (turnedOf cs fs) q))
+      (finds-25 (known-all cs fs p) (edges-two d cs (takenOf cs fs) (turnedOf cs fs) q))
       (λ e. also-one 26 (Inward d cs fs) (not (above (sixFrom 0 (tablesOf d cs .sixes) (takenOf cs fs) (turnedOf cs fs)))) is-inward _ _
       (λ e. also 27 (length fs) (Clashes d cs fs) (clashes (tablesOf d cs) (numbersOf cs fs) (takenOf cs fs)) (λ below. below) []
-      (finds-27 (known p)) (λ e. done)))))))
+      (finds-27 (known-all cs fs p)) (λ e. done)))))))

@@ -152,7 +152,7 @@ module _ (d : Wire) (cs : List Loop) (c : Candidates d cs) where
   same-named taken turned fs gs n m = (among-named taken turned fs gs n m, among-named taken turned gs fs m n)
 
   -- no face of an accepted list stands twice
-  named-singly : (taken turned : List Bool) (fs : List Loop) → Names d cs taken turned fs → Singly fs
+  pub named-singly : (taken turned : List Bool) (fs : List Loop) → Names d cs taken turned fs → Singly fs
   named-singly taken turned fs n i j hi hj p = let r = n .each i hi in n .once i j (r .0) hi hj (r .2) (same-trans (r .2) p)
 
   pub accepted-singly : (fs : List Loop) → Fair fs → Singly fs

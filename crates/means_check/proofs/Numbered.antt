@@ -88,14 +88,17 @@ module _ (cs : List Loop) (fs : List Loop) where
     pub known : (i : ℕ) → i < length fs → numberIn cs (loopAt fs i) < length cs
     pub apart : (i j : ℕ) → i < length fs → j < length fs → numberIn cs (loopAt fs i) ≡ numberIn cs (loopAt fs j) → i ≡ j
 
+  pub known-all : notCandidate (length cs) numbersOf ≡ none → (i : ℕ) → i < length fs → numberIn cs (loopAt fs i) < length cs
+  unfolding notCandidate
+  known-all p i h =
+      let e : leb (length cs) (getD numbersOf i 0) ≡ false = lowest-none (λ i. leb (length cs) (getD numbersOf i 0)) (length numbersOf) p i
+      (omega (arith, numbers-length)) in
+      omega (arith, leb-false (length cs) (getD numbersOf i 0) e, number-of i h)
+
   pub numbered : notCandidate (length cs) numbersOf ≡ none → faceTwice numbersOf ≡ none → Numbered
-  unfolding notCandidate faceTwice
+  unfolding faceTwice
   numbered p q = record {
-    known = λ i h.
-        let e : leb (length cs) (getD numbersOf i 0) ≡ false = lowest-none (λ i. leb (length cs) (getD numbersOf i 0)) (length numbersOf)
-        p
-        i (omega (arith, numbers-length)) in
-        omega (arith, leb-false (length cs) (getD numbersOf i 0) e, number-of i h);
+    known = known-all p;
     apart = λ i j hi hj e. go i j hi hj (number-of i hi ∙ e ∙ sym (number-of j hj));
   }
     where

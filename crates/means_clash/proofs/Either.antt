@@ -19,13 +19,13 @@ use Rattle.means_clash.proofs.Planes.{none-dot, plane-either}
 
 -- ---- two points at one place are one
 
-corner-yes : (g : Polygon) (p : Point) → isCorner g p ≡ true → (i : ℕ) × (i < length g) × (getD g i origin ≡ p)
+pub corner-yes : (g : Polygon) (p : Point) → isCorner g p ≡ true → (i : ℕ) × (i < length g) × (getD g i origin ≡ p)
 unfolding isCorner
 corner-yes g p e =
     let r = any-yes (samePoint p) origin g e in
     (r .0, r .1, sym (same-yes p (getD g (r .0) origin) (r .2)))
 
-yes-corner : (g : Polygon) (i : ℕ) (p : Point) → i < length g → getD g i origin ≡ p → isCorner g p ≡ true
+pub yes-corner : (g : Polygon) (i : ℕ) (p : Point) → i < length g → getD g i origin ≡ p → isCorner g p ≡ true
 unfolding isCorner
 yes-corner g i p h e = any-is (samePoint p) origin g i h (same-is p (getD g i origin) (sym e))
 
