@@ -2,16 +2,15 @@
 use mathlib.Core.Path.{_≡_, refl, sym, ap, subst, _∙_}
 use mathlib.Core.Bool.{Bool, true, false, not, _&&_, _||_}
 use mathlib.Core.Logic.{_⊎_, inl, inr}
-use mathlib.Core.List.{List, [], _∷_}
 use Prim.Native.Nat.{ℕ, _+_, _≤_, _<_}
 use native.Mathlib.Omega.{arith}
 use lib.IntN.{ℤ, pos}
-use lib.Signed.{_<ℤ_, ltZ}
+use lib.Signed.{_<ℤ_}
 use lib.ListN.{length, getD, length-map}
 use Rattle.lists.specs.Around.{around}
-use Rattle.lists.specs.Lists.{any, all, sides, anyTrue}
+use Rattle.lists.specs.Lists.{any, sides}
 use Rattle.lists.proofs.Passing.{any-yes, any-is, all-yes, all-is}
-use Rattle.lists.proofs.Sides.{sides-length, sides-at, sides-around, around-low}
+use Rattle.lists.proofs.Sides.{sides-length, sides-around}
 use Rattle.paper.specs.Points.{origin, minus, det, samePoint, isZero, above, below}
 use Rattle.paper.specs.Drawing.{Wire, at}
 use Rattle.paper.specs.Loops.{Loop, polygon}
@@ -23,7 +22,7 @@ use Rattle.paper.specs.declared.Where.{Where}
 use Rattle.paper.specs.declared.Where.the-variants.{Outside, Border, Inside}
 use Rattle.paper_laws.proofs.Points.{same-yes, same-is}
 use Rattle.means_clash.proofs.Either.{corner-yes, yes-corner}
-use Rattle.demands.specs.Clash.{cornerAt, Corner, Opposite, piercing, EdgePierces, RuleA, RuleB, Left, InAngle, PointsIn, RuleC, Clash}
+use Rattle.demands.specs.Clash.{cornerAt, Corner, Opposite, piercing, EdgePierces, RuleA, RuleB, InAngle, PointsIn, RuleC, Clash}
 use Rattle.demands.specs.Clash as Clash
 use Rattle.demands.proofs.Tests.{Is, is-ltZ, is-not, is-or, is-and, is-to, is-zero, is-side}
 
@@ -192,8 +191,8 @@ module _ (f g : Polygon) (two-f : 2 ≤ length f) (two-g : 2 ≤ length g) where
           u = u;
           v = v;
           differ = w .0 .0 .1;
-          u-of = ((r .0, r .1, refl), s .0);
-          v-of = ((q .0, q .1, refl), w .0 .0 .0);
+          u-of = ((r .0, r .1, refl {a = u}), s .0);
+          v-of = ((q .0, q .1, refl {a = v}), w .0 .0 .0);
           angles = (w .0 .1, w .1);
         },
     λ r.

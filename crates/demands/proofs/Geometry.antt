@@ -2,18 +2,18 @@
 use mathlib.Core.Path.{_≡_, refl, sym, ap, ap₂, _∙_}
 use mathlib.Core.Logic.{inl, inr}
 use mathlib.Core.List.{List, [], _∷_, map}
-use Prim.Native.Nat.{ℕ, zero, suc, _+_, _<_}
+use Prim.Native.Nat.{ℕ, _+_, _<_}
 use native.Mathlib.Omega.{arith}
 use borrow.Author.Tests.{ltb-true, lt-ltb}
 use lib.IntN.{ℤ, pos, negsuc, natAbs, negℤ, _+ℤ_}
 use lib.Signed.{_<ℤ_}
 use Rattle.lists.specs.Lists.{sides, sidesFrom}
-use Rattle.paper.specs.Points.{origin, plus, minus, times, dot, det, cross, sum}
+use Rattle.paper.specs.Points.{plus, minus, times, dot, det, cross, sum}
 use Rattle.paper.specs.Polygon.{Polygon, over, normal, corner, planeSide, axis, seen, whereFlat, lies}
 use Rattle.paper.specs.Solids.{faceSix}
 use Rattle.paper.specs.declared.Point.{Point}
 use Rattle.paper_laws.proofs.Six.{six-normal}
-use Rattle.paper_laws.proofs.Vectors.{num, vec, k, x, _+s_, _*s_, negs, _·_, dets, o, v, _+v_, _-v_, _*v_, _×v_, vring}
+use Rattle.paper_laws.proofs.Vectors.{num, vec, k, x, _+s_, negs, _·_, dets, o, v, _+v_, _-v_, _*v_, _×v_, vring}
 use Rattle.means_drawing.specs.Segments.{along}
 use Rattle.means_drawing.proofs.Segments.{onOpen-means, openMeets-means}
 use Rattle.means_area.proofs.Loops.{loops-hold}

@@ -9,11 +9,11 @@ use lib.Signed.{ltZ}
 use lib.ListN.{length, getD}
 use native.Mathlib.Omega.{arith}
 use Rattle.lists.specs.Lists.{lowest}
-use Rattle.paper.specs.Format.{editionOne, leastVertices, leastEdges, outside, total, bytesFor, fillAfter, verticesIn, edgesIn}
+use Rattle.paper.specs.Format.{editionOne, outside, total, bytesFor, fillAfter, verticesIn, edgesIn}
 use Rattle.paper.specs.Format.{coordinatesIn, endsIn}
 use Rattle.pack.specs.Bits.{fieldAt}
-use Rattle.paper.specs.Refusals.{Check, firstOf}
-use Rattle.paper.specs.Sheet.{badCount, far, farAt, wrong, wrongAt, edgeAbove, lowAt, edgeChecks, contentChecks, countChecks, openChecks}
+use Rattle.paper.specs.Refusals.{firstOf}
+use Rattle.paper.specs.Sheet.{badCount, farAt, wrong, wrongAt, edgeAbove, lowAt, edgeChecks, contentChecks, countChecks, openChecks}
 use Rattle.paper.specs.Sheet.{closeChecks, shapeChecks, sheetChecks, lentChecks}
 use Rattle.paper.specs.Drawing.{Wire, samePlace, looseVertex, edgeMeets, apart, drawingChecks}
 use Rattle.paper.specs.Loops.{loops, candidates, loopChecks}

@@ -1,7 +1,7 @@
 -- Six volumes of a solid is the same from every point, for its faces' normals add up to (0,0,0). Assumes nothing.
 use mathlib.Core.Path.{_≡_, refl, sym, ap, ap₂, _∙_}
 use mathlib.Core.Bool.{Bool, true, false, cond}
-use mathlib.Core.List.{List, [], _∷_, map}
+use mathlib.Core.List.{List, [], _∷_}
 use Prim.Native.Nat.{ℕ, suc, _+_, _<_}
 use native.Mathlib.Omega.{arith}
 use lib.IntN.{ℤ, pos, negℤ, _+ℤ_}
@@ -24,7 +24,7 @@ use Rattle.means_loops.proofs.Paths.{loop-path}
 use Rattle.means_check.proofs.Sums.{sumTo, sum-same}
 use Rattle.means_check.proofs.Closing.{facing, normals-close}
 use Rattle.means_check.proofs.Demand.{drawing-places}
-use Rattle.demands.specs.Input.{Input, drawing}
+use Rattle.demands.specs.Input.{drawing}
 use Rattle.demands.specs.Origin.{seenFrom, sixAbout, AnyOrigin}
 use Rattle.demands.proofs.Input.{drawing-fine}
 use Rattle.demands.proofs.Solid.{of-words}

@@ -1,6 +1,6 @@
 -- The shape of a face list: 20 is asked just where it is no good shape, and likewise of faces that are to be sent. Assumes nothing.
-use mathlib.Core.Path.{_≡_, ap}
-use mathlib.Core.Bool.{true, not, _&&_, _||_}
+use mathlib.Core.Path.{ap}
+use mathlib.Core.Bool.{not, _||_}
 use mathlib.Core.List.{List, []}
 use Prim.Native.Nat.{ℕ, _<_}
 use borrow.Author.Tests.{eq-eqb, lt-ltb}

@@ -1,7 +1,7 @@
 -- A solid, cover and candidates in words are those of the tests. Assumes nothing.
 use mathlib.Core.Path.{_≡_, refl, sym, subst}
 use mathlib.Core.Bool.{Bool, true, false, not, _&&_}
-use mathlib.Core.Logic.{_↔_, _⊎_, inl, inr}
+use mathlib.Core.Logic.{_⊎_, inl, inr}
 use mathlib.Core.Option.{none}
 use mathlib.Core.List.{List}
 use Prim.Native.Nat.{ℕ, _+_, _<_}
@@ -19,14 +19,11 @@ use Rattle.paper.specs.Polygon.{Polygon, Ratio, over, midpoint, onePlane, lies,
 use Rattle.paper.specs.Drawing.{Wire, samePlace}
 use Rattle.paper.specs.Loops.{Loop, loopAt, polygon, candidates}
 use Rattle.paper.specs.Clash.{clash}
-use Rattle.paper.specs.Verdict.{normalForm}
 use Rattle.paper.specs.declared.Where.{Where}
 use Rattle.paper.specs.declared.Where.the-variants.{Outside, Border, Inside}
 use Rattle.means_solid.specs.Solid.{IsSolid}
 use Rattle.means_solid.proofs.Alike.{names-to}
 use Rattle.means_loops.specs.Loop.{IsLoop, IsCandidate}
-use Rattle.means_loops.specs.Path.{ClosedPath}
-use Rattle.means_loops.specs.Shape.{Normal}
 use Rattle.means_loops.proofs.Listing.{candidates-proper, loop-normal}
 use Rattle.means_loops.proofs.Paths.{normal-loop, loop-path}
 use Rattle.means_loops.proofs.Lowest.{on-normal}

@@ -1,7 +1,7 @@
 -- The geometry's meaning, told in one place: what the tests of the definitions decide, in whole numbers and fractions of them. Rules A, B
 -- and C in words are in Clash, cover in Cover. Assumes nothing.
 use mathlib.Core.Path.{_≡_}
-use mathlib.Core.Bool.{Bool, true, false}
+use mathlib.Core.Bool.{true, false}
 use mathlib.Core.Logic.{_↔_}
 use mathlib.Core.Option.{none}
 use mathlib.Core.List.{List, [], _∷_, _++_, map}
@@ -10,7 +10,7 @@ use lib.IntN.{ℤ, pos, natAbs, _+ℤ_}
 use lib.ListN.{length}
 use lib.Signed.{_<ℤ_}
 use Rattle.lists.specs.Lists.{sides}
-use Rattle.paper.specs.Points.{origin, plus, minus, times, dot, det}
+use Rattle.paper.specs.Points.{plus, minus, times, dot, det}
 use Rattle.paper.specs.Polygon.{Polygon, over, normal, corner, planeSide, axis, seen, whereFlat, lies}
 use Rattle.paper.specs.Drawing.{Wire, onOpen, openMeets, samePlace, edgeMeets}
 use Rattle.paper.specs.Loops.{loops}
