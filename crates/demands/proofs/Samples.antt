@@ -1,8 +1,10 @@
 -- Known drawings under the demands: so no statement is empty. Assumes nothing.
 use mathlib.Core.Path.{_≡_, refl, sym, subst, _∙_}
-use mathlib.Core.List.{List}
+use mathlib.Core.Logic.{_⊎_, inl, inr}
+use mathlib.Core.List.{List, [], _∷_}
 use Prim.Native.Nat.{ℕ, zero, suc, _+_, _*_, _<_}
 use native.Mathlib.Omega.{arith}
+use lib.IntN.{pos}
 use lib.ListN.{length, getD, length-replicate}
 use Rattle.paper.specs.Numbers.{mostWork, faceRoom, solidRoom}
 use Rattle.paper.specs.Format.{editionOne, encode}
@@ -12,8 +14,12 @@ use Rattle.paper.specs.Loops.{Loop, loopAt, flipped}
 use Rattle.paper.specs.Known.Drawings.{cube, outward, inward, nested, tetrahedron, octahedron}
 use Rattle.paper.specs.Conversion.{Converted}
 use Rattle.paper.specs.declared.Refusal.{Refusal}
+use Rattle.paper.specs.declared.Conversion.{Conversion}
+use Rattle.paper.specs.declared.Conversion.the-variants as Conversion
 use Rattle.paper.specs.declared.Conversion.the-variants.{TooLong}
 use Rattle.paper.specs.declared.Verdict.the-variants.{Accepted, Refused}
+use Rattle.means_drawing.specs.Drawings.{Doubled}
+use Rattle.means_drawing.specs.Rules.{LowestVertex}
 use Rattle.means_solid.specs.Named.{SameRing}
 use Rattle.means_report.specs.Listed.{WalkTree}
 use Rattle.means_check.specs.Bodies.{SameBody}
@@ -21,6 +27,8 @@ use Rattle.demands.specs.Input.{Input, lent, sheet, drawing, candidatesO
 use Rattle.demands.specs.Walk.{workToNine, Allowed}
 use Rattle.demands.specs.Spoiled.{Spoiled, all-turned}
 use Rattle.demands.specs.Demand3.{Report}
+use Rattle.demands.specs.Table.{end, rooms, forms, drawings, ofConversion}
+use Rattle.demands.proofs.Demand1.{demand1}
 use Rattle.demands.proofs.Demand2.{demand2}
 use Rattle.demands.proofs.Demand3.{demand3}
 
@@ -131,3 +139,31 @@ octahedron-long t =
   where
     allowed : Allowed 3 (faceBefore faceRoom) (solidBefore solidRoom)
     allowed = (omega (arith, length-replicate {A = ℕ} 832 77), omega (arith, length-replicate {A = ℕ} 24 99), omega arith)
+
+-- the tetrahedron with its last vertex at the second's place: 11, and its place is the lowest vertex that offends
+skip : {A N B : Type 0} → (A → ⊥) → A ⊎ (N × B) → B
+skip h (inl q) = absurd (h q)
+skip h (inr q) = q .1
+
+hit : {A N B : Type 0} → (B → ⊥) → A ⊎ (N × B) → A
+hit h (inl q) = q
+hit h (inr q) = absurd (h (q .1))
+
+abbrev twice : Input
+twice =
+    lent (pos 0 ∷ pos 0 ∷ pos 0 ∷ pos 6 ∷ pos 0 ∷ pos 0 ∷ pos 0 ∷ pos 6 ∷ pos 0 ∷ pos 6 ∷ pos 0 ∷ pos 0 ∷ []) (tetrahedron .ends)
+
+twice-refused : result twice .answer ≡ Conversion.Refused (record { number = 11; place = 1 })
+unfolding reply
+twice-refused = refl
+
+pub twice-place : LowestVertex (drawing twice) (Doubled (drawing twice)) 1
+twice-place =
+    let s = subst
+    (λ (a : Conversion). rooms mostWork (faceBefore faceRoom) (solidBefore solidRoom) (forms twice (drawings (drawing twice) end))
+    (ofConversion a)) twice-refused (demand1 .converts twice mostWork (faceBefore faceRoom) (solidBefore solidRoom) .1) in
+    let t = skip (λ q. omega (arith, q .0)) (skip (λ q. omega (arith, q .0)) s) in
+    let u = skip (λ q. omega (arith, q .0)) (skip (λ q. omega (arith, q .0)) t) in
+    let w = skip (λ q. omega (arith, q .0)) (skip (λ q. omega (arith, q .0)) u) in
+    hit (λ s. skip (λ q. omega (arith, q .0)) (skip (λ q. omega (arith, q .0)) (skip (λ q. omega (arith, q .0))
+    (skip (λ q. omega (arith, q .0)) (skip (λ q. omega (arith, q .0)) s))))) w .1
