@@ -222,18 +222,18 @@ module _ (f g : Polygon) (two-f : 2 ≤ length f) (two-g : 2 ≤ length g) where
       is-folds) there back
     where
       there : ((RuleA f g ⊎ RuleA g f) ⊎ (RuleB f g ⊎ RuleB g f)) ⊎ RuleC f g → Clash f g
-      there (inl (inl (inl x))) = Clash.a x
-      there (inl (inl (inr x))) = Clash.a-back x
-      there (inl (inr (inl x))) = Clash.b x
-      there (inl (inr (inr x))) = Clash.b-back x
-      there (inr x) = Clash.c x
+      there (inl (inl (inl x))) = Clash.by-a x
+      there (inl (inl (inr x))) = Clash.by-a-back x
+      there (inl (inr (inl x))) = Clash.by-b x
+      there (inl (inr (inr x))) = Clash.by-b-back x
+      there (inr x) = Clash.by-c x
 
       back : Clash f g → ((RuleA f g ⊎ RuleA g f) ⊎ (RuleB f g ⊎ RuleB g f)) ⊎ RuleC f g
-      back (Clash.a x) = inl (inl (inl x))
-      back (Clash.a-back x) = inl (inl (inr x))
-      back (Clash.b x) = inl (inr (inl x))
-      back (Clash.b-back x) = inl (inr (inr x))
-      back (Clash.c x) = inr x
+      back (Clash.by-a x) = inl (inl (inl x))
+      back (Clash.by-a-back x) = inl (inl (inr x))
+      back (Clash.by-b x) = inl (inr (inl x))
+      back (Clash.by-b-back x) = inl (inr (inr x))
+      back (Clash.by-c x) = inr x
 
 -- a loop's polygon has as many corners
 pub two-corners : (d : Wire) (l : Loop) → 3 ≤ length l → 2 ≤ length (polygon d l)

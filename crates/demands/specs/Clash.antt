@@ -69,8 +69,8 @@ pub record RuleC (f g : Polygon) : Type 0 where
 
 -- "either way round"; C is the same either way
 pub data Clash (f g : Polygon) : Type 0 where
-  a : RuleA f g → Clash f g
-  a-back : RuleA g f → Clash f g
-  b : RuleB f g → Clash f g
-  b-back : RuleB g f → Clash f g
-  c : RuleC f g → Clash f g
+  by-a : RuleA f g → Clash f g
+  by-a-back : RuleA g f → Clash f g
+  by-b : RuleB f g → Clash f g
+  by-b-back : RuleB g f → Clash f g
+  by-c : RuleC f g → Clash f g
