@@ -1,0 +1,22 @@
+-- `demanded::write_faces`: its contract is what demand 1 is proved of. Assumes nothing.
+use denote.Ref.{now}
+use Rattle.paper.specs.FaceList.{solidFaces}
+use Rattle.demanded.proofs.Demanding.{sends}
+use borrow.Author.Needs.{needs}
+use Rattle.demanded.proofs.write_faces.Statement.{statement}
+use Rattle.demanded.proofs.write_faces.Tie as tie
+
+write-faces-requires : tie.Need-write-faces-requires
+write-faces-requires c κs = search needs
+
+same-length : tie.Need-same-length
+same-length c = search needs
+
+returns : tie.Need-returns
+returns c =
+    let k = c .before .before in
+    let a = k .before .before .before .before .args in
+    sends (solidFaces (now (a .rows)) (a .taken) (a .turned)) (now (a .room)) (k .write-faces .ensures .0) (k .write-faces .ensures .1 .1)
+
+pub write-faces-spec : {M : Type 1} → statement M
+write-faces-spec = tie.close (tie.spec write-faces-requires same-length returns)

@@ -1,0 +1,21 @@
+-- `demanded::write_sheet`: its contract is what demand 1 is proved of. Assumes nothing.
+use denote.Ref.{now}
+use Rattle.demanded.proofs.Demanding.{writes}
+use borrow.Author.Needs.{needs}
+use Rattle.demanded.proofs.write_sheet.Statement.{statement}
+use Rattle.demanded.proofs.write_sheet.Tie as tie
+
+write-sheet-requires : tie.Need-write-sheet-requires
+write-sheet-requires c κs = search needs
+
+same-length : tie.Need-same-length
+same-length c = search needs
+
+returns : tie.Need-returns
+returns c =
+    let k = c .before .before in
+    let a = k .before .before .before .before .args in
+    writes (now (a .xyz)) (now (a .ends)) (now (a .room)) (k .write-sheet .ensures .0) (k .write-sheet .ensures .1 .1)
+
+pub write-sheet-spec : {M : Type 1} → statement M
+write-sheet-spec = tie.close (tie.spec write-sheet-requires same-length returns)

@@ -1,0 +1,2 @@
+-- The customer's demands of one call. Assumes nothing.
+pub mod Demanded
