@@ -1,0 +1,3 @@
+-- Laws behind the contracts of this crate, and on the lengths of texts. Assumes nothing.
+pub mod Putting
+pub mod Decimal

@@ -1,0 +1,2 @@
+-- What contracts on parts of a line cite beside the paper. Assumes nothing.
+pub mod Put

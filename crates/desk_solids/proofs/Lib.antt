@@ -1,0 +1,2 @@
+-- Laws behind the contracts of this crate. Assumes nothing.
+pub mod Lines

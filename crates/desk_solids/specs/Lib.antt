@@ -1,0 +1,2 @@
+-- What contracts on the lines of solids cite beside the paper. Assumes nothing.
+pub mod Solids
