@@ -1,0 +1,187 @@
+-- `desk_text::answer::put_answer`: each arm puts the text that its answer has. Each need goes back to where the arm's head was made, and to
+-- the start. Assumes nothing.
+use mathlib.Core.List.{List}
+use mathlib.Core.Path.{_≡_}
+use Prim.Native.Nat.{ℕ}
+use native.Mathlib.Omega.{arith}
+use Rattle.paper.specs.Desk.{text, answerText}
+use Rattle.desk_lines.proofs.Putting.{fits-as, puts-as}
+use Rattle.desk_text.specs.Texts.{endedOf, reportOf, refusedOf}
+use Rattle.desk_text.proofs.Parts.{one-text, several-text, none-text, many-text, long-text, refused-text}
+use borrow.Author.Needs.{needs}
+use Rattle.desk_text.proofs.answer.put_answer.Statement.{statement}
+use Rattle.desk_text.proofs.answer.put_answer.Tie as tie
+
+-- ---- the text of the answer, and in each arm, from where its head was made: what it is
+
+abbrev answered : tie.Start → List ℕ
+answered s = answerText (s .args .s .vertices) (s .args .s .edges) (s .args .answer) (s .args .words .now)
+
+abbrev count : tie.After-headed2 → ℕ
+count c = c .before .before .answer2 .given .0 .1 .1 .1 .0
+
+one-is : (c : tie.After-headed) → let s = c .before .before .before .before .before .before in answered s ≡ reportOf (c .headed .result) 1 (s .args .words .now)
+one-is c = let a = c .before .before .before .before .before .before .args in one-text (a .s) (a .words .now) (c .before .before .answer .given .1) (c .headed .ensures)
+
+several-is : (c : tie.After-headed2) → let s = c .before .before .before .before .before .before in answered s ≡ reportOf (c .headed2 .result) (count c) (s .args .words .now)
+several-is c = let a = c .before .before .before .before .before .before .args in several-text (a .s) (a .words .now) (c .before .before .answer2 .given .1) (c .headed2 .ensures)
+
+none-is : (c : tie.After-headed3) → let s = c .before .before .before .before .before .before in answered s ≡ endedOf (c .headed3 .result) (text "no solid\n")
+none-is c = let a = c .before .before .before .before .before .before .args in none-text (a .s) (a .words .now) (c .before .before .answer3 .given .1) (c .headed3 .ensures)
+
+many-is : (c : tie.After-headed4) → let s = c .before .before .before .before .before .before in answered s ≡ endedOf (c .headed4 .result) (text "many\n")
+many-is c = let a = c .before .before .before .before .before .before .args in many-text (a .s) (a .words .now) (c .before .before .answer4 .given .1) (c .headed4 .ensures)
+
+long-is : (c : tie.After-headed5) → let s = c .before .before .before .before .before .before in answered s ≡ endedOf (c .headed5 .result) (text "too long\n")
+long-is c = let a = c .before .before .before .before .before .before .args in long-text (a .s) (a .words .now) (c .before .before .answer5 .given .1) (c .headed5 .ensures)
+
+refused-is : (c : tie.After-known-told6) → answered (c .before .before .before .before .before) ≡ refusedOf (c .before .answer6 .given .0 .0)
+refused-is c = let a = c .before .before .before .before .before .args in refused-text (a .s) (a .words .now) (c .before .answer6 .given .1)
+
+-- ---- the needs
+
+enum-known-answer : tie.Need-enum-known-answer
+enum-known-answer c = search needs
+
+headed-requires : tie.Need-headed-requires
+headed-requires c κs = search needs
+
+put-report-requires : tie.Need-put-report-requires
+put-report-requires c κs =
+    let h = c .before in
+    let p = h .before .before .before .before .before .before .pre in
+    record { words = omega (arith, p .words); fits = fits-as (one-is h) (p .fits) }
+
+enum-known-answer-2 : tie.Need-enum-known-answer-2
+enum-known-answer-2 c = search needs
+
+headed-requires-2 : tie.Need-headed-requires-2
+headed-requires-2 c κs = search needs
+
+put-report-requires-2 : tie.Need-put-report-requires-2
+put-report-requires-2 c κs =
+    let h = c .before in
+    let p = h .before .before .before .before .before .before .pre in
+    let n = p .few _ _ _ (count h) (h .before .before .answer2 .given .1) in
+    record { words = omega (arith, p .words, n); fits = fits-as (several-is h) (p .fits) }
+
+enum-known-answer-3 : tie.Need-enum-known-answer-3
+enum-known-answer-3 c = search needs
+
+headed-requires-3 : tie.Need-headed-requires-3
+headed-requires-3 c κs = search needs
+
+slice-aggregate-put-ended : tie.Need-slice-aggregate-put-ended
+slice-aggregate-put-ended c = search needs
+
+put-ended-requires : tie.Need-put-ended-requires
+unfolding text
+put-ended-requires c κs = let h = c .before .before in fits-as (none-is h) (h .before .before .before .before .before .before .pre .fits)
+
+enum-known-answer-4 : tie.Need-enum-known-answer-4
+enum-known-answer-4 c = search needs
+
+headed-requires-4 : tie.Need-headed-requires-4
+headed-requires-4 c κs = search needs
+
+slice-aggregate-put-ended-2 : tie.Need-slice-aggregate-put-ended-2
+slice-aggregate-put-ended-2 c = search needs
+
+put-ended-requires-2 : tie.Need-put-ended-requires-2
+unfolding text
+put-ended-requires-2 c κs = let h = c .before .before in fits-as (many-is h) (h .before .before .before .before .before .before .pre .fits)
+
+enum-known-answer-5 : tie.Need-enum-known-answer-5
+enum-known-answer-5 c = search needs
+
+headed-requires-5 : tie.Need-headed-requires-5
+headed-requires-5 c κs = search needs
+
+slice-aggregate-put-ended-3 : tie.Need-slice-aggregate-put-ended-3
+slice-aggregate-put-ended-3 c = search needs
+
+put-ended-requires-3 : tie.Need-put-ended-requires-3
+unfolding text
+put-ended-requires-3 c κs = let h = c .before .before in fits-as (long-is h) (h .before .before .before .before .before .before .pre .fits)
+
+enum-known-answer-6 : tie.Need-enum-known-answer-6
+enum-known-answer-6 c = search needs
+
+put-refused-requires : tie.Need-put-refused-requires
+put-refused-requires c κs = let t = c .before in fits-as (refused-is t) (t .before .before .before .before .before .pre .fits)
+
+same-length : tie.Need-same-length
+same-length c = search needs
+
+returns : tie.Need-returns
+returns c = let p = c .before .before in puts-as (one-is (p .before .before)) (p .put-report .ensures)
+
+same-length-2 : tie.Need-same-length-2
+same-length-2 c = search needs
+
+returns-2 : tie.Need-returns-2
+returns-2 c = let p = c .before .before in puts-as (several-is (p .before .before)) (p .put-report2 .ensures)
+
+same-length-3 : tie.Need-same-length-3
+same-length-3 c = search needs
+
+returns-3 : tie.Need-returns-3
+unfolding text
+returns-3 c = let p = c .before .before in puts-as (none-is (p .before .before .before)) (p .put-ended .ensures)
+
+same-length-4 : tie.Need-same-length-4
+same-length-4 c = search needs
+
+returns-4 : tie.Need-returns-4
+unfolding text
+returns-4 c = let p = c .before .before in puts-as (many-is (p .before .before .before)) (p .put-ended2 .ensures)
+
+same-length-5 : tie.Need-same-length-5
+same-length-5 c = search needs
+
+returns-5 : tie.Need-returns-5
+unfolding text
+returns-5 c = let p = c .before .before in puts-as (long-is (p .before .before .before)) (p .put-ended3 .ensures)
+
+same-length-6 : tie.Need-same-length-6
+same-length-6 c = search needs
+
+returns-6 : tie.Need-returns-6
+returns-6 c = let p = c .before .before in puts-as (refused-is (p .before .before)) (p .put-refused .ensures)
+
+pub put-answer-spec : {M : Type 1} → statement M
+put-answer-spec =
+    tie.close
+    (tie.spec
+    enum-known-answer
+    headed-requires
+    put-report-requires
+    enum-known-answer-2
+    headed-requires-2
+    put-report-requires-2
+    enum-known-answer-3
+    headed-requires-3
+    slice-aggregate-put-ended
+    put-ended-requires
+    enum-known-answer-4
+    headed-requires-4
+    slice-aggregate-put-ended-2
+    put-ended-requires-2
+    enum-known-answer-5
+    headed-requires-5
+    slice-aggregate-put-ended-3
+    put-ended-requires-3
+    enum-known-answer-6
+    put-refused-requires
+    same-length
+    returns
+    same-length-2
+    returns-2
+    same-length-3
+    returns-3
+    same-length-4
+    returns-4
+    same-length-5
+    returns-5
+    same-length-6
+    returns-6)

@@ -1,0 +1,75 @@
+// The desk program's text of a sheet, written to the start of a lent room. Nothing is assumed of sheet or room.
+mod answer;
+
+ghost use mathlib.Core.Path.{_≡_};
+ghost use Rattle.paper.specs.Desk.{deskText};
+ghost use Rattle.paper.specs.Reading.{writtenSays};
+ghost use Rattle.desk_lines.specs.Put.{Puts};
+ghost use Rattle.desk_text.specs.Written.{writtenText, textSaid, textRoom};
+ghost use Rattle.desk_text.specs.Texts.{Counted, LongEnough};
+use answer::SheetCounts;
+use answer::put_answer;
+use convert::convert_sheet;
+use paper::EDITION_BITS;
+use paper::FACE_ROOM;
+use paper::MOST_WORK;
+use paper::NO_ROOM;
+use paper::Refusal;
+use paper::SOLID_ROOM;
+use paper::Written;
+use paper_values::edition_one;
+use rooms::copy_bytes;
+
+// No text is longer: a number has at most 20 digits, a candidate's at most 2; 132 bytes before the solids' count, 28 with it, and 321
+// for each of at most eight solids.
+pub const TEXT_ROOM: usize = 2728;
+
+// The counts that stand in a sheet of three bytes or more; a shorter one is refused for that.
+fn counted(sheet: &[u8]) -> SheetCounts
+    ensures { λ r. ⌜ Counted (now (sheet .entry)) r ⌝ }
+{
+    if sheet.len() < 3 {
+        return SheetCounts {
+            vertices: 0,
+            edges: 0,
+        };
+    }
+    let f = edition_one();
+    let v = f.vertex_count_bits;
+    let e = f.edge_count_bits;
+    SheetCounts {
+        vertices: pack::field(sheet, EDITION_BITS, v),
+        edges: pack::field(sheet, EDITION_BITS + v, e),
+    }
+}
+
+// The text, put into room that is long enough for any.
+fn put_desk(sheet: &[u8], text: &mut [u8]) -> usize
+    requires { ⌜ LongEnough (now text) ⌝ }
+    ensures { λ r. ⌜ Puts (now (text .entry)) 0 (deskText (now (sheet .entry))) (now (text .exit)) r ⌝ }
+{
+    let mut faces = [0u8; FACE_ROOM];
+    let mut solids = [0u64; SOLID_ROOM];
+    let answer = convert_sheet(sheet, MOST_WORK, &mut faces, &mut solids);
+    let counts = counted(sheet);
+    put_answer(counts, answer, &solids, text)
+}
+
+// Converts a sheet with limit 1,000,000 and writes what the desk program says of it: refusal 1 where the room is shorter than the text.
+// Later room keeps its contents.
+pub fn desk_text(sheet: &[u8], room: &mut [u8]) -> Written
+    ensures answer { λ r. ⌜ r ≡ writtenText (deskText (now (sheet .entry))) (now (room .entry)) ⌝ }
+    ensures said { λ r. ⌜ writtenSays r ≡ textSaid (deskText (now (sheet .entry))) (now (room .entry)) ⌝ }
+    ensures kept { λ _. ⌜ now (room .exit) ≡ textRoom (deskText (now (sheet .entry))) (now (room .entry)) ⌝ }
+{
+    let mut text = [0u8; TEXT_ROOM];
+    let n = put_desk(sheet, &mut text);
+    if room.len() < n {
+        return Written::Refused(Refusal {
+            number: NO_ROOM,
+            place: 0,
+        });
+    }
+    copy_bytes(&text, n, room);
+    Written::Bytes(n)
+}
