@@ -1,0 +1,2 @@
+-- What contracts of the desk program cite. Assumes nothing.
+pub mod Input
