@@ -2,15 +2,16 @@
 use crate::clash::clash;
 use crate::convert::{convert, Answer};
 use crate::cover::{find_candidates, polygon_covers};
+use crate::desk::desk;
 use crate::drawing::{Drawing, Loop, Source};
 use crate::face_list::{pack_faces, read_faces};
 use crate::fast;
-use crate::gen::extremes::extreme_sheets;
-use crate::gen::limits::{all_but_three, flat_128, flat_129};
+use crate::gen::extremes::{extreme_drawings, extreme_sheets};
+use crate::gen::limits::{all_but_three, flat_128, flat_129, nine_solids};
 use crate::gen::named::named;
 use crate::gen::rng::Rng;
 use crate::gen::scenes::{four_polygons, ruled_drawing};
-use crate::gen::sheets::{changed, counted_drawing};
+use crate::gen::sheets::{any_sheet, changed, counted_drawing};
 use crate::loops::{find_loops, loop_edges};
 use crate::numbers::*;
 use crate::rows::{aimed, sheet_to_read, Order};
@@ -163,6 +164,20 @@ pub fn walks(seed: u64, count: u64) -> Trial {
         let below = r.below(work as usize + 1) as u64;
         let limits = [MOST_WORK, work, work.saturating_sub(1), k / 6 % 2, below, MOST_WORK];
         trial.walked(&sheet, limits[k as usize % limits.len()]);
+    }
+    trial
+}
+
+/// Sheets at the desk: the extreme ones, drawings with each of 11 to 14 at its first and last place, those at the limits of 15, 16
+/// and 18, the named ones, and generated ones of every sort.
+pub fn desks(seed: u64, count: u64) -> Trial {
+    let mut trial = Trial::default();
+    let limits = [flat_128(), flat_129(), all_but_three(false), all_but_three(true), nine_solids()];
+    let drawings = extreme_drawings().into_iter().chain(limits).chain(named().into_iter().map(|(_, d)| d));
+    let generated = (0..count).map(|k| any_sheet(&mut Rng::of_case(seed, k)));
+    for sheet in extreme_sheets().into_iter().chain(drawings.map(|d| pack_sheet(&d))).chain(generated) {
+        trial.put(&sheet);
+        trial.output += &desk(&sheet);
     }
     trial
 }

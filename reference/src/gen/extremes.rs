@@ -1,5 +1,6 @@
 //! Sheets at the ends of what a sheet can hold: the smallest and the largest drawing, and each of 3 to 10 at its first
-//! and its last place.
+//! and its last place. Drawings with each of 11 to 14 at its first place and at the last of 32 vertices
+//! or of their edges.
 use super::damage::put;
 use super::known::tetrahedron;
 use super::maker::pairs;
@@ -54,4 +55,40 @@ fn wrong_edges() -> [Vec<u8>; 7] {
         d.edges[e] = edge;
         pack_sheet(&d)
     })
+}
+
+/// 11 to 14, each at its first and at its last place. Of two vertices at one point, two edges that meet and two vertices
+/// apart from the others the lower offends, so the last place of 11, 13 and 14 is the last but one.
+pub fn extreme_drawings() -> [Drawing; 8] {
+    let same = |v: usize| {
+        let mut d = largest();
+        d.vertices[v + 1] = d.vertices[v];
+        d
+    };
+    let path = |last: usize, more: &[(usize, usize)]| {
+        let edges = (0..last).map(|v| (v, v + 1)).chain(more.iter().copied()).collect();
+        Drawing { edges, ..largest() }
+    };
+    let bodies = |edges: &[(usize, usize)], shift: i64| {
+        let (small, far) = (tetrahedron().vertices, |p: [i64; 3]| p.map(|c| c + shift));
+        Drawing { vertices: small.iter().flat_map(|p| [*p, far(*p)]).collect(), edges: edges.to_vec() }
+    };
+    let even = [(0, 2), (0, 4), (0, 6), (2, 4), (2, 6), (4, 6)];
+    let odd = [(1, 3), (1, 5), (1, 7), (3, 5), (3, 7), (5, 7)];
+    let mut both = [even, odd].concat();
+    both.sort_unstable();
+    let mut loose = tetrahedron();
+    loose.vertices.insert(0, [9, 9, 9]);
+    loose.edges.iter_mut().for_each(|(a, b)| (*a, *b) = (*a + 1, *b + 1));
+    let crossed = Drawing { vertices: vec![[0, 0, 0], [6, 6, 0], [6, 0, 0], [0, 6, 0]], edges: pairs(4, |_, _| true) };
+    [
+        same(0),
+        same(30),
+        loose,
+        path(30, &[]),
+        crossed,
+        path(29, &[(28, 30), (29, 31)]),
+        bodies(&both, 50),
+        path(29, &[(30, 31)]),
+    ]
 }
