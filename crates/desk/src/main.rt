@@ -1,5 +1,4 @@
 // The desk program: reads one sheet from standard input and prints what document 01 says of it. Nothing is assumed of the input.
-ghost use mathlib.Core.Path.{_≡_};
 ghost use Rattle.desk.specs.Input.{Within};
 use desk_print::print_all;
 use desk_print::print_text;

@@ -1,6 +1,6 @@
 -- The desk's text of a sheet is that of the conversion's answer, and no longer than the room for any. Assumes nothing.
 use mathlib.Core.List.{List}
-use mathlib.Core.Path.{_≡_, refl, sym, ap, _∙_, subst}
+use mathlib.Core.Path.{_≡_, refl, sym, ap, _∙_}
 use Prim.Native.Nat.{ℕ, _≤_, _<_}
 use native.Mathlib.Decide.{decLt}
 use native.Mathlib.Omega.{arith}
@@ -23,7 +23,6 @@ use Rattle.means_report.proofs.Demand.{kind, says-several}
 use Rattle.means_report.proofs.Converted.{the-walk, sheet-unrefused}
 use Rattle.convert.specs.Converts.{leaves}
 use Rattle.convert.proofs.Converting.{stops-at-form}
-use Rattle.desk_lines.specs.Put.{Fits}
 use Rattle.desk_text.specs.declared.answer.SheetCounts.{SheetCounts}
 use Rattle.desk_text.specs.Texts.{Counted, textRoomSize, LongEnough, Answering}
 use Rattle.desk_text.specs.Written.{writtenText}

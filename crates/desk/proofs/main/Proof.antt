@@ -8,8 +8,11 @@ use borrow.Author.Needs.{needs}
 use Rattle.desk.proofs.main.Statement.{statement}
 use Rattle.desk.proofs.main.Tie as tie
 
-in-room : (c : tie.After-input) → c .input .given .0 .0 ≤ length (c .before .before .before .read-input .last .0)
-in-room c = c .before .before .before .read-input .ensures _ (c .input .given .1)
+abbrev read : tie.After-input → tie.After-read-input
+read c = c .before .before .before
+
+in-room : (c : tie.After-input) → c .input .given .0 .0 ≤ length (read c .read-input .last .0)
+in-room c = read c .read-input .ensures _ (c .input .given .1)
 
 slice-aggregate-read-input : tie.Need-slice-aggregate-read-input
 slice-aggregate-read-input c = search needs

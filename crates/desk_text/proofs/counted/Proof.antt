@@ -1,10 +1,9 @@
 -- `desk_text::counted`: a sheet of three bytes has both fields. Each need goes back to the layout and to the start. Assumes nothing.
 use mathlib.Core.Path.{_≡_, ap, _∙_}
-use lib.ListN.{length}
-use Prim.Native.Nat.{ℕ, _+_}
+use Prim.Native.Nat.{_+_}
 use native.Mathlib.Omega.{arith}
 use Rattle.pack.specs.Bits.{fieldAt}
-use Rattle.paper.specs.Format.{editionBits, editionOne}
+use Rattle.paper.specs.Format.{editionBits}
 use Rattle.paper.specs.declared.Format.{Format}
 use borrow.Author.Needs.{needs}
 use Rattle.desk_text.proofs.counted.Statement.{statement}

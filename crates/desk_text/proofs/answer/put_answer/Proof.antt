@@ -12,31 +12,50 @@ use borrow.Author.Needs.{needs}
 use Rattle.desk_text.proofs.answer.put_answer.Statement.{statement}
 use Rattle.desk_text.proofs.answer.put_answer.Tie as tie
 
--- ---- the text of the answer, and in each arm, from where its head was made: what it is
+-- ---- the text of the answer, and what it is in each arm
 
 abbrev answered : tie.Start → List ℕ
 answered s = answerText (s .args .s .vertices) (s .args .s .edges) (s .args .answer) (s .args .words .now)
 
+-- from where an arm's head was made to the start; of a refusal from where it was told
+abbrev one-start : tie.After-headed → tie.Start
+one-start c = c .before .before .before .before .before .before
+
+abbrev several-start : tie.After-headed2 → tie.Start
+several-start c = c .before .before .before .before .before .before
+
+abbrev none-start : tie.After-headed3 → tie.Start
+none-start c = c .before .before .before .before .before .before
+
+abbrev many-start : tie.After-headed4 → tie.Start
+many-start c = c .before .before .before .before .before .before
+
+abbrev long-start : tie.After-headed5 → tie.Start
+long-start c = c .before .before .before .before .before .before
+
+abbrev refused-start : tie.After-known-told6 → tie.Start
+refused-start c = c .before .before .before .before .before
+
 abbrev count : tie.After-headed2 → ℕ
 count c = c .before .before .answer2 .given .0 .1 .1 .1 .0
 
-one-is : (c : tie.After-headed) → let s = c .before .before .before .before .before .before in answered s ≡ reportOf (c .headed .result) 1 (s .args .words .now)
-one-is c = let a = c .before .before .before .before .before .before .args in one-text (a .s) (a .words .now) (c .before .before .answer .given .1) (c .headed .ensures)
+one-is : (c : tie.After-headed) → let s = one-start c in answered s ≡ reportOf (c .headed .result) 1 (s .args .words .now)
+one-is c = let a = one-start c .args in one-text (a .s) (a .words .now) (c .before .before .answer .given .1) (c .headed .ensures)
 
-several-is : (c : tie.After-headed2) → let s = c .before .before .before .before .before .before in answered s ≡ reportOf (c .headed2 .result) (count c) (s .args .words .now)
-several-is c = let a = c .before .before .before .before .before .before .args in several-text (a .s) (a .words .now) (c .before .before .answer2 .given .1) (c .headed2 .ensures)
+several-is : (c : tie.After-headed2) → let s = several-start c in answered s ≡ reportOf (c .headed2 .result) (count c) (s .args .words .now)
+several-is c = let a = several-start c .args in several-text (a .s) (a .words .now) (c .before .before .answer2 .given .1) (c .headed2 .ensures)
 
-none-is : (c : tie.After-headed3) → let s = c .before .before .before .before .before .before in answered s ≡ endedOf (c .headed3 .result) (text "no solid\n")
-none-is c = let a = c .before .before .before .before .before .before .args in none-text (a .s) (a .words .now) (c .before .before .answer3 .given .1) (c .headed3 .ensures)
+none-is : (c : tie.After-headed3) → let s = none-start c in answered s ≡ endedOf (c .headed3 .result) (text "no solid\n")
+none-is c = let a = none-start c .args in none-text (a .s) (a .words .now) (c .before .before .answer3 .given .1) (c .headed3 .ensures)
 
-many-is : (c : tie.After-headed4) → let s = c .before .before .before .before .before .before in answered s ≡ endedOf (c .headed4 .result) (text "many\n")
-many-is c = let a = c .before .before .before .before .before .before .args in many-text (a .s) (a .words .now) (c .before .before .answer4 .given .1) (c .headed4 .ensures)
+many-is : (c : tie.After-headed4) → let s = many-start c in answered s ≡ endedOf (c .headed4 .result) (text "many\n")
+many-is c = let a = many-start c .args in many-text (a .s) (a .words .now) (c .before .before .answer4 .given .1) (c .headed4 .ensures)
 
-long-is : (c : tie.After-headed5) → let s = c .before .before .before .before .before .before in answered s ≡ endedOf (c .headed5 .result) (text "too long\n")
-long-is c = let a = c .before .before .before .before .before .before .args in long-text (a .s) (a .words .now) (c .before .before .answer5 .given .1) (c .headed5 .ensures)
+long-is : (c : tie.After-headed5) → let s = long-start c in answered s ≡ endedOf (c .headed5 .result) (text "too long\n")
+long-is c = let a = long-start c .args in long-text (a .s) (a .words .now) (c .before .before .answer5 .given .1) (c .headed5 .ensures)
 
-refused-is : (c : tie.After-known-told6) → answered (c .before .before .before .before .before) ≡ refusedOf (c .before .answer6 .given .0 .0)
-refused-is c = let a = c .before .before .before .before .before .args in refused-text (a .s) (a .words .now) (c .before .answer6 .given .1)
+refused-is : (c : tie.After-known-told6) → answered (refused-start c) ≡ refusedOf (c .before .answer6 .given .0 .0)
+refused-is c = let a = refused-start c .args in refused-text (a .s) (a .words .now) (c .before .answer6 .given .1)
 
 -- ---- the needs
 
@@ -49,7 +68,7 @@ headed-requires c κs = search needs
 put-report-requires : tie.Need-put-report-requires
 put-report-requires c κs =
     let h = c .before in
-    let p = h .before .before .before .before .before .before .pre in
+    let p = one-start h .pre in
     record { words = omega (arith, p .words); fits = fits-as (one-is h) (p .fits) }
 
 enum-known-answer-2 : tie.Need-enum-known-answer-2
@@ -61,7 +80,7 @@ headed-requires-2 c κs = search needs
 put-report-requires-2 : tie.Need-put-report-requires-2
 put-report-requires-2 c κs =
     let h = c .before in
-    let p = h .before .before .before .before .before .before .pre in
+    let p = several-start h .pre in
     let n = p .few _ _ _ (count h) (h .before .before .answer2 .given .1) in
     record { words = omega (arith, p .words, n); fits = fits-as (several-is h) (p .fits) }
 
@@ -76,7 +95,7 @@ slice-aggregate-put-ended c = search needs
 
 put-ended-requires : tie.Need-put-ended-requires
 unfolding text
-put-ended-requires c κs = let h = c .before .before in fits-as (none-is h) (h .before .before .before .before .before .before .pre .fits)
+put-ended-requires c κs = let h = c .before .before in fits-as (none-is h) (none-start h .pre .fits)
 
 enum-known-answer-4 : tie.Need-enum-known-answer-4
 enum-known-answer-4 c = search needs
@@ -89,7 +108,7 @@ slice-aggregate-put-ended-2 c = search needs
 
 put-ended-requires-2 : tie.Need-put-ended-requires-2
 unfolding text
-put-ended-requires-2 c κs = let h = c .before .before in fits-as (many-is h) (h .before .before .before .before .before .before .pre .fits)
+put-ended-requires-2 c κs = let h = c .before .before in fits-as (many-is h) (many-start h .pre .fits)
 
 enum-known-answer-5 : tie.Need-enum-known-answer-5
 enum-known-answer-5 c = search needs
@@ -102,13 +121,13 @@ slice-aggregate-put-ended-3 c = search needs
 
 put-ended-requires-3 : tie.Need-put-ended-requires-3
 unfolding text
-put-ended-requires-3 c κs = let h = c .before .before in fits-as (long-is h) (h .before .before .before .before .before .before .pre .fits)
+put-ended-requires-3 c κs = let h = c .before .before in fits-as (long-is h) (long-start h .pre .fits)
 
 enum-known-answer-6 : tie.Need-enum-known-answer-6
 enum-known-answer-6 c = search needs
 
 put-refused-requires : tie.Need-put-refused-requires
-put-refused-requires c κs = let t = c .before in fits-as (refused-is t) (t .before .before .before .before .before .pre .fits)
+put-refused-requires c κs = let t = c .before in fits-as (refused-is t) (refused-start t .pre .fits)
 
 same-length : tie.Need-same-length
 same-length c = search needs
