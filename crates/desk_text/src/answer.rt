@@ -85,7 +85,8 @@ fn headed(s: SheetCounts, loops: usize, candidates: usize, work: u64) -> Head
 
 pub fn put_answer(s: SheetCounts, answer: Conversion, words: &[u64], room: &mut [u8]) -> usize
     requires { ⌜ Answering s answer (now words) (now room) ⌝ }
-    ensures { λ r. ⌜ Puts (now (room .entry)) 0 (answerText (s .vertices) (s .edges) answer (now (words .entry))) (now (room .exit)) r ⌝ }
+    ensures { λ r. ⌜ Puts (now (room .entry)) 0 (answerText (s .vertices) (s .edges) answer (now (words .entry)))
+        (now (room .exit)) r ⌝ }
 {
     match answer {
         Conversion::One {
