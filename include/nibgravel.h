@@ -14,7 +14,8 @@
  * number above 0 leaves every lent list as it was.
  *
  * THREADS AND STACK. There are no globals: any number of threads may call at once, on lists of their own. A conversion was seen to take
- * 14 to 21 KB of stack, and some 31 KB are the most that it can come to (docs/MEASURES.md); of a sheet, and of a reading, some 3 KB more.
+ * 14 to 21 KB of stack from two lists, and by its deepest nesting some 31 KB are the most (docs/MEASURES.md, computed); what a sheet and a
+ * reading take beside that was not measured.
  * Nothing is allocated, and every call ends: the work limit is what bounds its time.
  *
  * Link target/staticlib/libexport.a, which `rt staticlib export` writes, for x86-64 Linux. */

@@ -116,21 +116,23 @@ static void drop_drawing(struct drawing d) {
 #define WORDS(l) (uint64_t *)(l).entries, (l).length
 #define DOUBLES(l) (double *)(l).entries, (l).length
 
-/* ---- each solid of a report, sent as a face list and checked */
+/* ---- each solid of a report, sent as a face list and checked: the drawing is converted once more, with room for all that is said */
 
 static unsigned long sent, accepted;
 
-static void send_solids(struct drawing d, int on_sheet, const struct room *faces, const struct room *solids, uint64_t candidates,
-                        uint64_t count) {
-    const uint64_t *words = (const uint64_t *)solids->list.entries;
-    for (uint64_t k = 0; k < count; k++) {
-        uint8_t list[NIBGRAVEL_LIST_BYTES];
-        uint64_t said[NIBGRAVEL_SAID];
-        uint64_t number = nibgravel_write_faces(faces->list.entries, 13 * candidates, words[3 * k], words[3 * k + 1], list, sizeof list,
-                                                said, NIBGRAVEL_SAID);
+static void send_solids(struct drawing d, int on_sheet, uint64_t limit) {
+    uint8_t faces[NIBGRAVEL_FACE_ROOM], list[NIBGRAVEL_LIST_BYTES];
+    uint64_t solids[NIBGRAVEL_SOLID_ROOM], said[NIBGRAVEL_SAID], words[NIBGRAVEL_SAID];
+    if (on_sheet)
+        nibgravel_convert_sheet(BYTES(d.sheet), limit, faces, sizeof faces, solids, NIBGRAVEL_SOLID_ROOM, said, NIBGRAVEL_SAID);
+    else
+        nibgravel_convert(NUMBERS(d.xyz), BYTES(d.ends), limit, faces, sizeof faces, solids, NIBGRAVEL_SOLID_ROOM, said, NIBGRAVEL_SAID);
+    for (uint64_t k = 0; k < said[5]; k++) {
+        uint64_t number = nibgravel_write_faces(faces, 13 * said[3], solids[3 * k], solids[3 * k + 1], list, sizeof list, words,
+                                                NIBGRAVEL_SAID);
         if (number == 0)
-            number = on_sheet ? nibgravel_check_sheet(BYTES(d.sheet), list, said[2], said, 0)
-                              : nibgravel_check(NUMBERS(d.xyz), BYTES(d.ends), list, said[2], said, 0);
+            number = on_sheet ? nibgravel_check_sheet(BYTES(d.sheet), list, words[2], words, 0)
+                              : nibgravel_check(NUMBERS(d.xyz), BYTES(d.ends), list, words[2], words, 0);
         sent += 1;
         accepted += number == 0;
     }
@@ -172,10 +174,8 @@ static int converted(enum function f) {
                                : nibgravel_convert(NUMBERS(d.xyz), BYTES(d.ends), limit, BYTES(faces.list), WORDS(solids.list),
                                                    WORDS(said.list));
     note(f, number);
-    if (number == 0 && said.list.length >= 6) {
-        const uint64_t *words = (const uint64_t *)said.list.entries;
-        send_solids(d, on_sheet, &faces, &solids, words[3], words[5]);
-    }
+    if (number == 0)
+        send_solids(d, on_sheet, limit);
     drop_drawing(d);
     return !(room_holds(faces) & room_holds(solids) & room_holds(said) & (number == want));
 }

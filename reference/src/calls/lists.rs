@@ -42,17 +42,21 @@ pub fn list_for(r: &mut Rng, source: Source, turn: usize) -> Vec<u8> {
     }
 }
 
-/// Where faces clash, the list in an order in which they come late.
+/// Where faces clash, half of the time the list with all of these at its end, so that the place is the last that it can be.
 fn clashing_last(r: &mut Rng, source: Source, mut list: Vec<u8>) -> Vec<u8> {
     let clash = |list: &[u8]| check(source, list).err().filter(|refusal| refusal.number == CLASH).map(|c| c.place);
-    let tries = if clash(&list).is_some() && r.chance(50) { 100 } else { 0 };
-    for _ in 0..tries {
+    if r.chance(50) {
+        return list;
+    }
+    while let Some(place) = clash(&list) {
         let mut faces = read_faces(&list, *VERTICES.end()).expect("27 comes after 20");
-        r.shuffle(&mut faces);
-        let other = pack_faces(&faces);
-        if clash(&other) > clash(&list) {
-            list = other;
+        let face = faces.remove(place as usize);
+        faces.push(face);
+        let later = pack_faces(&faces);
+        if clash(&later) <= Some(place) {
+            break;
         }
+        list = later;
     }
     list
 }
