@@ -1,5 +1,6 @@
 -- The customer's three demands hold of document 01's definitions. Assumes nothing.
 use Rattle.demands.specs.Demands.{Demands}
+use Rattle.demands.proofs.Listed.{listed-names}
 use Rattle.demands.proofs.Demand1.{demand1}
 use Rattle.demands.proofs.Answers.{numbered, told, volume-of-one}
 use Rattle.demands.proofs.Demand2.{faces, demand2}
@@ -18,6 +19,7 @@ demands = record {
   sheets = sheets2;
   check = demand3;
   candidates = faces;
+  listed = listed-names;
   geometry = geometry;
   any-origin = any-origin;
 }

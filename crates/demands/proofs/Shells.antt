@@ -45,14 +45,14 @@ use Rattle.demands.proofs.Table.{Says, done, also, also-one}
 
 -- ---- one ring, in any direction or start
 
-either-trans : {f g h : Loop} → Either f g → Either g h → Either f h
+pub either-trans : {f g h : Loop} → Either f g → Either g h → Either f h
 either-trans (inl p) (inl q) = inl (same-trans p q)
 either-trans (inl p) (inr q) = inr (same-trans (flip-same p) q)
 either-trans (inr p) (inl q) = inr (same-trans p q)
 either-trans {f} {g} {h} (inr p) (inr q) =
     inl (same-trans (subst (λ (l : Loop). SameRing l (flipped g)) (flip-flip f) (flip-same p)) q)
 
-either-sym : {f g : Loop} → Either f g → Either g f
+pub either-sym : {f g : Loop} → Either f g → Either g f
 either-sym (inl p) = inl (same-sym p)
 either-sym {f} {g} (inr p) = inr (same-sym (subst (λ (l : Loop). SameRing l (flipped g)) (flip-flip f) (flip-same p)))
 

@@ -1,8 +1,11 @@
 -- The customer's three demands, one after the other, with what is said beside them. Assumes nothing.
-use Rattle.demands.specs.Input.{Input}
+use mathlib.Core.List.{List}
+use Rattle.paper.specs.Loops.{Loop}
+use Rattle.demands.specs.Input.{Input, drawing, candidatesOf, Passes}
 use Rattle.demands.specs.Faces.{Candidates}
 use Rattle.demands.specs.Geometry.{Geometry}
 use Rattle.demands.specs.Origin.{AnyOrigin}
+use Rattle.demands.specs.Shells.{ListedOnce}
 use Rattle.demands.specs.Demand1.{Demand1}
 use Rattle.demands.specs.Answers.{Numbered, Told, VolumeOfOne}
 use Rattle.demands.specs.Demand2.{Holds2}
@@ -20,7 +23,8 @@ pub record Demands : Type 0 where
   pub sheets : Sheets2
   -- 3, "The check is exact"
   pub check : Holds3
-  -- what they speak of: candidates, and the geometry
+  -- what they speak of: candidates, the sets that a face list names, and the geometry
   pub candidates : (x : Input) → Candidates x
+  pub listed : (x : Input) → Passes x → (fs : List Loop) → ListedOnce (drawing x) (candidatesOf x) fs
   pub geometry : Geometry
   pub any-origin : AnyOrigin

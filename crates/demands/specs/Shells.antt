@@ -14,7 +14,7 @@ use Rattle.paper.specs.FaceList.{countIn, facesIn, bitsOf}
 use Rattle.paper.specs.Verdict.{listed}
 use Rattle.paper.specs.declared.Answer.{Answer}
 use Rattle.means_solid.specs.Solid.{Face, InTwo, EachWay, Way, sixOf}
-use Rattle.means_solid.specs.Named.{SameRing}
+use Rattle.means_solid.specs.Named.{SameRing, directed, Names}
 use Rattle.demands.specs.Clash.{Clash}
 use Rattle.demands.specs.Table.{Outside, line, one}
 
@@ -35,8 +35,8 @@ abbrev pub Either : Loop → Loop → Type 0
 Either f g = SameRing f g ⊎ SameRing (flipped f) g
 
 module _ (d : Wire) (cs fs : List Loop) where
-  -- the candidates that the faces are, those of them that are run against their normal form, and the candidate of face i. Where 21 and 22
-  -- pass, the faces name these two sets (`means_check/proofs/Numbered.antt`, `numbered-names`)
+  -- the candidates that the faces are, those of them that are run against their normal form, and the candidate of face i; `Listed` says
+  -- so in words
   abbrev pub takenIn : List Bool
   takenIn = listed cs fs .taken
 
@@ -52,6 +52,15 @@ module _ (d : Wire) (cs fs : List Loop) where
 
   abbrev pub FaceTwice : ℕ → Type 0
   FaceTwice i = (j : ℕ) × (j < i) × Either (loopAt fs j) (loopAt fs i)
+
+  -- what 23 to 27 speak of, once 21 and 22 have passed: the list names these two sets, and face i is its candidate in that direction
+  pub record Listed : Type 0 where
+    pub names : Names d cs takenIn turnedIn fs
+    pub face : (i : ℕ) → i < length fs → Face d cs takenIn turnedIn (numberAt i)
+    pub ring : (i : ℕ) → i < length fs → SameRing (directed d cs takenIn turnedIn (numberAt i)) (loopAt fs i)
+
+  abbrev pub ListedOnce : Type 0
+  ListedOnce = ((i : ℕ) → i < length fs → NotCandidate i → ⊥) → ((i : ℕ) → i < length fs → FaceTwice i → ⊥) → Listed
 
   -- 23, of an edge: "not two faces". 24, of an edge: not once each way
   abbrev pub EdgeCount : ℕ → Type 0
