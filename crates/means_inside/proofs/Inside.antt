@@ -32,6 +32,18 @@ code Outside = 0
 code Border = 1
 code Inside = 2
 
+bo : Border ≡ Outside → ⊥
+unfolding code
+bo e = let z : _≡_ {A = ℕ} 1 0 = ap code e in absurd (omega (arith, z))
+
+bi : Border ≡ Inside → ⊥
+unfolding code
+bi e = let z : _≡_ {A = ℕ} 1 2 = ap code e in absurd (omega (arith, z))
+
+pub io : Inside ≡ Outside → ⊥
+unfolding code
+io e = let z : _≡_ {A = ℕ} 2 0 = ap code e in absurd (omega (arith, z))
+
 module _ (m d : ℤ) (k : Up d) (g : List Flat) (p : Flat) where
   abbrev G : List Flat
   G = map (big d) g
@@ -55,6 +67,36 @@ module _ (m d : ℤ) (k : Up d) (g : List Flat) (p : Flat) where
       go true y e f = at-border (any-touch p d k g e) (by-tests true y e f)
       go false true e f = at-inside (any-clear p d k g e) f (by-tests false true e f)
       go false false e f = at-outside (any-clear p d k g e) f (by-tests false false e f)
+
+-- on a side, or not
+pub touch-border : (d : ℤ) → Up d → (g : List Flat) (p : Flat) → Touch p (map (big d) g) → whereFlat p d g ≡ Border
+touch-border d k g p t = go (ways (pos 0) d k g p)
+  where
+    go : Ways (pos 0) d k g p → whereFlat p d g ≡ Border
+    go (at-border u e) = e
+    go (at-inside c o e) = absurd (touch-not p d k g c t)
+    go (at-outside c o e) = absurd (touch-not p d k g c t)
+
+pub inside-off : (d : ℤ) → Up d → (g : List Flat) (p : Flat) → whereFlat p d g ≡ Inside → Touch p (map (big d) g) → ⊥
+inside-off d k g p e t = bi (sym (touch-border d k g p t) ∙ e)
+
+-- two rings with the same sides at p and the same parity give the same answer, also for two points
+pub agree : (d : ℤ) → Up d → (p q : Flat) (g h : List Flat) → (Touch p (map (big d) g) → Touch q (map (big d) h))
+    → (Touch q (map (big d) h) → Touch p (map (big d) g))
+    → (Clear p (map (big d) g) → Clear q (map (big d) h) → odd p (map (big d) g) ≡ odd q (map (big d) h))
+    → whereFlat p d g ≡ whereFlat q d h
+agree d k p q g h to from o = go (ways (pos 0) d k g p) (ways (pos 0) d k h q)
+  where
+    go : Ways (pos 0) d k g p → Ways (pos 0) d k h q → whereFlat p d g ≡ whereFlat q d h
+    go (at-border t e) (at-border u f) = e ∙ sym f
+    go (at-border t e) (at-inside c y f) = e ∙ sym (touch-border d k h q (to t))
+    go (at-border t e) (at-outside c y f) = e ∙ sym (touch-border d k h q (to t))
+    go (at-inside c x e) (at-border u f) = touch-border d k g p (from u) ∙ sym f
+    go (at-outside c x e) (at-border u f) = touch-border d k g p (from u) ∙ sym f
+    go (at-inside c x e) (at-inside c' y f) = e ∙ sym f
+    go (at-outside c x e) (at-outside c' y f) = e ∙ sym f
+    go (at-inside c x e) (at-outside c' y f) = absurd (true≢false (sym x ∙ o c c' ∙ y))
+    go (at-outside c x e) (at-inside c' y f) = absurd (true≢false (sym y ∙ sym (o c c') ∙ x))
 
 -- whatever ray is asked, not only the one in the first coordinate's direction
 pub every-ray-says : (d : ℤ) → Up d → (g : List Flat) (p q : Flat) → Up (facing p q q) → (Touch p (map (big d) g) → ⊥)
@@ -84,11 +126,10 @@ any-cover m d k g t p n = go (ways m d k g p)
 
 -- the meaning
 pub means : WhereMeans
-unfolding code
 means m g n s = record {
   cut = r .cut;
   border = (λ d k p e. border d k p e (ways m d k g p));
-  on-border = (λ d k p t. on-border d k p t (ways m d k g p));
+  on-border = (λ d k p t. touch-border d k g p t);
   inside = (λ d k p e. inside d k p e (ways m d k g p));
   is-inside = (λ d k p a t. is-inside d k p a t (ways m d k g p));
   outside = (λ d k p e a. outside d k p e a (ways m d k g p));
@@ -98,24 +139,10 @@ means m g n s = record {
     r : Whole m g
     r = whole m g n s
 
-    bo : Border ≡ Outside → ⊥
-    bo e = let z : _≡_ {A = ℕ} 1 0 = ap code e in absurd (omega (arith, z))
-
-    bi : Border ≡ Inside → ⊥
-    bi e = let z : _≡_ {A = ℕ} 1 2 = ap code e in absurd (omega (arith, z))
-
-    io : Inside ≡ Outside → ⊥
-    io e = let z : _≡_ {A = ℕ} 2 0 = ap code e in absurd (omega (arith, z))
-
     border : (d : ℤ) (k : Up d) (p : Flat) → whereFlat p d g ≡ Border → Ways m d k g p → Touch p (map (big d) g)
     border d k p e (at-border t f) = t
     border d k p e (at-inside c o f) = absurd (bi (sym e ∙ f))
     border d k p e (at-outside c o f) = absurd (bo (sym e ∙ f))
-
-    on-border : (d : ℤ) (k : Up d) (p : Flat) → Touch p (map (big d) g) → Ways m d k g p → whereFlat p d g ≡ Border
-    on-border d k p t (at-border u f) = f
-    on-border d k p t (at-inside c o f) = absurd (touch-not p d k g c t)
-    on-border d k p t (at-outside c o f) = absurd (touch-not p d k g c t)
 
     inside : (d : ℤ) (k : Up d) (p : Flat) → whereFlat p d g ≡ Inside → Ways m d k g p
         → At (big d) (r .cut) p × (Touch p (map (big d) g) → ⊥)
@@ -142,33 +169,14 @@ means m g n s = record {
 -- from every start: of any ring
 pub any-start : (d : ℤ) → Up d → (x : Flat) (l : List Flat) (y : Flat) (r : List Flat) (p : Flat)
     → whereFlat p d (x ∷ (l ++ y ∷ r)) ≡ whereFlat p d (y ∷ (r ++ x ∷ l))
-any-start d k x l y r p = go (ways (pos 0) d k g p) (ways (pos 0) d k g' p)
+any-start d k x l y r p =
+    agree d k p p (x ∷ (l ++ y ∷ r)) (y ∷ (r ++ x ∷ l)) (touch x l y r) (touch y r x l)
+    (λ c c'. sym (odd-turned (pos 0) (big d) p x l y r))
   where
-    g : List Flat
-    g = x ∷ (l ++ y ∷ r)
-
-    g' : List Flat
-    g' = y ∷ (r ++ x ∷ l)
-
     touch : (a : Flat) (u : List Flat) (b : Flat) (v : List Flat) → Touch p (map (big d) (a ∷ (u ++ b ∷ v)))
         → Touch p (map (big d) (b ∷ (v ++ a ∷ u)))
     touch a u b v t =
         record { a = t .a; b = t .b; side = link-turned (pos 0) (big d) b v a u (t .a) (t .b) (t .side); line = t .line; mid = t .mid }
-
-    odds : odd p (map (big d) (y ∷ (r ++ x ∷ l))) ≡ odd p (map (big d) (x ∷ (l ++ y ∷ r)))
-    odds = odd-turned (pos 0) (big d) p x l y r
-
-    go : Ways (pos 0) d k (x ∷ (l ++ y ∷ r)) p → Ways (pos 0) d k (y ∷ (r ++ x ∷ l)) p
-        → whereFlat p d (x ∷ (l ++ y ∷ r)) ≡ whereFlat p d (y ∷ (r ++ x ∷ l))
-    go (at-border t e) (at-border u f) = e ∙ sym f
-    go (at-border t e) (at-inside c o f) = absurd (touch-not p d k (y ∷ (r ++ x ∷ l)) c (touch x l y r t))
-    go (at-border t e) (at-outside c o f) = absurd (touch-not p d k (y ∷ (r ++ x ∷ l)) c (touch x l y r t))
-    go (at-inside c o e) (at-border u f) = absurd (touch-not p d k (x ∷ (l ++ y ∷ r)) c (touch y r x l u))
-    go (at-outside c o e) (at-border u f) = absurd (touch-not p d k (x ∷ (l ++ y ∷ r)) c (touch y r x l u))
-    go (at-inside c o e) (at-inside c' o' f) = e ∙ sym f
-    go (at-outside c o e) (at-outside c' o' f) = e ∙ sym f
-    go (at-inside c o e) (at-outside c' o' f) = absurd (true≢false (sym o ∙ sym odds ∙ o'))
-    go (at-outside c o e) (at-inside c' o' f) = absurd (true≢false (sym o' ∙ odds ∙ o))
 
 -- a point that has a line to one side of which all corners are is outside
 pub one-sided : (d : ℤ) → Up d → (g : List Flat) (p q : Flat) → ((z : Flat) → Of z (map (big d) g) → Up (turn p q z))

@@ -37,7 +37,7 @@ module _ (m d : ℤ) (k : Up d) where
       lt-cancel d k
       (subst (λ (z : ℤ). z <ℤ (d *ℤ height m b)) (big-height a) (subst (λ (z : ℤ). height m (big d a) <ℤ z) (big-height b) h))
 
-  small-eq : (a b : Flat) → height m (big d a) ≡ height m (big d b) → height m a ≡ height m b
+  pub small-eq : (a b : Flat) → height m (big d a) ≡ height m (big d b) → height m a ≡ height m b
   small-eq a b e = mul-cancelℤ d (height m a) (height m b) (pos-ne k) (sym (big-height a) ∙ e ∙ big-height b)
 
   big-distinct : (g : List Flat) → Distinct m g → Distinct m (map (big d) g)

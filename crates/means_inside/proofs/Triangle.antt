@@ -1,6 +1,6 @@
 -- A triangle and a point: an odd number of sides is met only from within; and a point within on neither side at v is In. Assumes nothing.
 use mathlib.Core.Path.{_≡_, refl, sym, _∙_, ap}
-use mathlib.Core.Bool.{true, false, true≢false}
+use mathlib.Core.Bool.{Bool, true, false, true≢false}
 use mathlib.Core.Logic.{_⊎_, inl, inr}
 use mathlib.Core.List.{List, [], _∷_}
 use lib.IntN.{ℤ, pos, negℤ, _+ℤ_, _-ℤ_, _*ℤ_}
@@ -18,7 +18,7 @@ use Rattle.means_area.proofs.Flats.Turns.{In, env, uE, vE, tE, spin, flip}
 use Rattle.means_area.proofs.Flats.Chains.{link-of, link-back}
 use Rattle.means_inside.specs.Beams.{round, right, beam, facing, Off, Clear, east, odd}
 use Rattle.means_inside.proofs.Parity.{silent}
-use Rattle.means_inside.proofs.Beams.{low-no, every-ray}
+use Rattle.means_inside.proofs.Beams.{low-is, low-no, every-ray}
 
 abbrev pub fE : ℕ → ℕ → ℕ → Expr
 fE p a b = (uE a ⊖ uE p) ⊗ (uE b ⊖ uE p) ⊕ (vE a ⊖ vE p) ⊗ (vE b ⊖ vE p)
@@ -65,14 +65,28 @@ east-up p =
 pub by-ray : (p q : Flat) (g : List Flat) → Clear p g → Up (facing p q q) → odd p g ≡ round (beam p q) g
 by-ray p q g c k = every-ray p (east p) q (east-up p) k g c
 
--- all corners to the left of a ray's line
-pub aside : (p q : Flat) (g : List Flat) → ((z : Flat) → Of z g → Up (turn p q z)) → round (beam p q) g ≡ false
-unfolding beam right meetsRay
-aside p q [] h = refl
-aside p q (x ∷ l) h =
+-- all corners to one side of a ray's line, or in it to the right
+beside : (s : Bool) (p q : Flat) (g : List Flat) → ((z : Flat) → Of z g → right p q z ≡ s) → round (beam p q) g ≡ false
+unfolding beam
+beside s p q [] h = refl
+beside s p q (x ∷ l) h =
     silent (beam p q) x l x
-    (λ a b c. λ i. meetsRay (low-no (turn p q a) (h a (link-of (x ∷ l) a b c)) i)
-    (low-no (turn p q b) (h b (link-of (x ∷ l) b a (link-back (x ∷ l) a b c))) i) (turn a b p))
+    (λ a b c. (λ i. meetsRay (h a (link-of (x ∷ l) a b c) i) (h b (link-of (x ∷ l) b a (link-back (x ∷ l) a b c)) i) (turn a b p))
+    ∙ both s (turn a b p))
+  where
+    both : (s : Bool) (t : ℤ) → meetsRay s s t ≡ false
+    both true t = unfold meetsRay in refl
+    both false t = unfold meetsRay in refl
+
+-- none to the left
+pub not-left : (p q : Flat) (g : List Flat) → ((z : Flat) → Of z g → Nn (negℤ (turn p q z))) → round (beam p q) g ≡ false
+unfolding right
+not-left p q g h = beside true p q g (λ z o. low-is (turn p q z) (h z o))
+
+-- all to the left
+aside : (p q : Flat) (g : List Flat) → ((z : Flat) → Of z g → Up (turn p q z)) → round (beam p q) g ≡ false
+unfolding right
+aside p q g h = beside false p q g (λ z o. low-no (turn p q z) (h z o))
 
 -- a side to the left of a ray's line does not touch p
 left-is : (p q a b : Flat) → turn a b p ≡ pos 0 → facing p b b *ℤ turn p q a ≡ facing p a b *ℤ turn p q b
@@ -92,31 +106,40 @@ left-off p q a b ha hb e f =
 pub out : (p q z : Flat) (g : List Flat) → Clear p g → Up (turn p q z) → ((z : Flat) → Of z g → Up (turn p q z)) → odd p g ≡ false
 out p q z g c k h = by-ray p q g c (moved p q z k) ∙ aside p q g h
 
+-- p and the direction from x to y
+pub shift : Flat → Flat → Flat → Flat
+shift p x y = record { u = p .u +ℤ (y .u -ℤ x .u); v = p .v +ℤ (y .v -ℤ x .v) }
+
+pub shift-is : (p x y z : Flat) → turn p (shift p x y) z ≡ turn x y z +ℤ negℤ (turn x y p)
+unfolding turn shift
+shift-is p x y z =
+    ring (env (pos 0) (p ∷ x ∷ y ∷ z ∷ []))
+    (((uE 0 ⊕ (uE 2 ⊖ uE 1)) ⊖ uE 0) ⊗ (vE 3 ⊖ vE 0) ⊖ ((vE 0 ⊕ (vE 2 ⊖ vE 1)) ⊖ vE 0) ⊗ (uE 3 ⊖ uE 0)) (tE 1 2 3 ⊕ neg (tE 1 2 0)) tt
+
+pub shift-up : (p x y : Flat) → (y ≡ x → ⊥) → Up (facing p (shift p x y) (shift p x y))
+unfolding facing shift
+shift-up p x y n =
+    up-is
+    (ring (env (pos 0) (p ∷ x ∷ y ∷ [])) (fE 1 2 2)
+    (((uE 0 ⊕ (uE 2 ⊖ uE 1)) ⊖ uE 0) ⊗ ((uE 0 ⊕ (uE 2 ⊖ uE 1)) ⊖ uE 0)
+    ⊕ ((vE 0 ⊕ (vE 2 ⊖ vE 1)) ⊖ vE 0) ⊗ ((vE 0 ⊕ (vE 2 ⊖ vE 1)) ⊖ vE 0)) tt)
+    (self-up x y n)
+
 -- ---- the triangle
 module _ (v a b p : Flat) (D : Up (turn v a b)) where
-  -- p and the direction from x to y
-  shift : Flat → Flat → Flat
-  shift x y = record { u = p .u +ℤ (y .u -ℤ x .u); v = p .v +ℤ (y .v -ℤ x .v) }
-
-  shift-is : (x y z : Flat) → turn p (shift x y) z ≡ turn x y z +ℤ negℤ (turn x y p)
-  unfolding turn shift
-  shift-is x y z =
-      ring (env (pos 0) (p ∷ x ∷ y ∷ z ∷ []))
-      (((uE 0 ⊕ (uE 2 ⊖ uE 1)) ⊖ uE 0) ⊗ (vE 3 ⊖ vE 0) ⊖ ((vE 0 ⊕ (vE 2 ⊖ vE 1)) ⊖ vE 0) ⊗ (uE 3 ⊖ uE 0)) (tE 1 2 3 ⊕ neg (tE 1 2 0)) tt
-
   -- beyond one of its sides
   beyond : (x y : Flat) → Clear p (v ∷ a ∷ b ∷ []) → Nn (turn x y v) → Nn (turn x y a) → Nn (turn x y b) → odd p (v ∷ a ∷ b ∷ []) ≡ true
       → Nn (turn x y p)
   beyond x y c hv ha hb o = go (which (negℤ (turn x y p)))
     where
-      left : Up (negℤ (turn x y p)) → (z : Flat) → Of z (v ∷ a ∷ b ∷ []) → Up (turn p (shift x y) z)
-      left k z (inl e) = up-is (sym (shift-is x y z)) (nn-up (nn-is (ap (turn x y) (sym e)) hv) k)
-      left k z (inr (inl e)) = up-is (sym (shift-is x y z)) (nn-up (nn-is (ap (turn x y) (sym e)) ha) k)
-      left k z (inr (inr (inl e))) = up-is (sym (shift-is x y z)) (nn-up (nn-is (ap (turn x y) (sym e)) hb) k)
+      left : Up (negℤ (turn x y p)) → (z : Flat) → Of z (v ∷ a ∷ b ∷ []) → Up (turn p (shift p x y) z)
+      left k z (inl e) = up-is (sym (shift-is p x y z)) (nn-up (nn-is (ap (turn x y) (sym e)) hv) k)
+      left k z (inr (inl e)) = up-is (sym (shift-is p x y z)) (nn-up (nn-is (ap (turn x y) (sym e)) ha) k)
+      left k z (inr (inr (inl e))) = up-is (sym (shift-is p x y z)) (nn-up (nn-is (ap (turn x y) (sym e)) hb) k)
       left k z (inr (inr (inr e))) = absurd e
 
       go : Up (negℤ (turn x y p)) ⊎ Nn (negℤ (negℤ (turn x y p))) → Nn (turn x y p)
-      go (inl k) = absurd (true≢false (sym o ∙ out p (shift x y) v (v ∷ a ∷ b ∷ []) c (left k v (inl refl)) (left k)))
+      go (inl k) = absurd (true≢false (sym o ∙ out p (shift p x y) v (v ∷ a ∷ b ∷ []) c (left k v (inl refl)) (left k)))
       go (inr k) = nn-is (ring (turn x y p ∷ []) (neg (neg (var 0))) (var 0) tt) k
 
   zero-first : (x y : Flat) → Nn (turn x y x)

@@ -1,14 +1,19 @@
 -- What is proved of where a point lies in a polygon. Assumes nothing.
 use mathlib.Core.Path.{_≡_}
 use mathlib.Core.Bool.{xor}
-use mathlib.Core.List.{List, _∷_}
+use mathlib.Core.Logic.{_↔_}
+use mathlib.Core.List.{List, _∷_, map, reverse}
 use Prim.Native.Nat.{_≤_}
 use lib.IntN.{ℤ}
 use lib.ListN.{length}
+use Rattle.paper.specs.Polygon.{whereFlat}
 use Rattle.paper.specs.declared.Flat.{Flat}
-use Rattle.means_area.specs.Flats.{Simple, Least, lst}
+use Rattle.paper.specs.declared.Where.the-variants.{Inside}
+use Rattle.means_area.specs.Flats.{Up, Simple, Least, lst}
 use Rattle.means_inside.specs.Beams.{round, beam, right, Seen}
-use Rattle.means_inside.specs.Means.{Means}
+use Rattle.means_inside.specs.Touch.{Touch}
+use Rattle.means_inside.specs.Means.{big, Means}
+use Rattle.means_inside.specs.Convex.{Hand, Convex, Within, NotBeyond}
 
 -- `whereFlat` says of every point of a simple polygon's plane where it lies
 abbrev pub WhereMeans : Type 0
@@ -18,3 +23,19 @@ WhereMeans = (m : ℤ) (g : List Flat) → 3 ≤ length g → Simple m g → Mea
 abbrev pub FanDecides : Type 0
 FanDecides = (m : ℤ) (p v x : Flat) (l : List Flat) → Least m v (x ∷ l) → Seen m v p (v ∷ x ∷ l)
     → round (beam p v) (v ∷ x ∷ l) ≡ xor (right p v x) (right p v (lst x l))
+
+-- run backwards, a list gives the same answer
+abbrev pub AnyWay : Type 0
+AnyWay = (d : ℤ) → Up d → (g : List Flat) (p : Flat) → whereFlat p d (reverse g) ≡ whereFlat p d g
+
+-- of any simple polygon: a point that is beyond none of its sides, and on none, is inside
+abbrev pub NotBeyondInside : Type 0
+NotBeyondInside =
+    (m : ℤ) (g : List Flat) → 3 ≤ length g → Simple m g → (h : Hand) (d : ℤ) → Up d → (p : Flat) → NotBeyond h d g p
+    → (Touch p (map (big d) g) → ⊥) → whereFlat p d g ≡ Inside
+
+-- inside a convex polygon is strictly to one side of every side
+abbrev pub ConvexMeans : Type 0
+ConvexMeans =
+    (m : ℤ) (g : List Flat) → 3 ≤ length g → Simple m g → (h : Hand) → Convex h g → (d : ℤ) → Up d → (p : Flat)
+    → (whereFlat p d g ≡ Inside) ↔ Within h d g p
