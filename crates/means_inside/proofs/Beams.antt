@@ -188,7 +188,7 @@ module _ (Aa Ab Ba Bb t κ : ℤ) (k : Up κ) (e : t *ℤ κ ≡ Aa *ℤ Bb -ℤ
 -- ---- of points
 module _ (p : Flat) where
   -- two ends that p does not part are to one side of every ray
-  same-side : (q a b : Flat) → turn a b p ≡ pos 0 → Up (facing p a b) → right p q a ≡ right p q b
+  pub same-side : (q a b : Flat) → turn a b p ≡ pos 0 → Up (facing p a b) → right p q a ≡ right p q b
   unfolding right facing turn
   same-side q a b z f = go (leZ (turn p q a) (pos 0)) (leZ (turn p q b) (pos 0)) refl refl
     where

@@ -12,14 +12,14 @@ use Rattle.paper.specs.Polygon.{whereFlat}
 use Rattle.paper.specs.declared.Flat.{Flat}
 use Rattle.paper.specs.declared.Where.the-variants.{Inside}
 use Rattle.means_area.specs.Rings.{Of, Link}
-use Rattle.means_area.specs.Flats.{Up, Nn, turn, height, Simple, lst}
+use Rattle.means_area.specs.Flats.{Up, Nn, turn, height, lst}
 use Rattle.means_area.proofs.Flats.Signs.{up-is, nn-is, up-nn, zero-off, which}
 use Rattle.means_area.proofs.Flats.Turns.{flip}
 use Rattle.means_area.proofs.Space.Maps.{map-of, map-link}
 use Rattle.means_inside.specs.Regions.{Cut, one, chord, ear, start, InTriangle, left, right, At}
 use Rattle.means_inside.specs.Touch.{Touch}
 use Rattle.means_inside.specs.Means.{big}
-use Rattle.means_inside.specs.Convex.{Step, Next, Hand, lefts, rights, turned, Convex, Within, NotBeyond}
+use Rattle.means_inside.specs.Convex.{Step, Next, Hand, lefts, rights, turned, Within}
 use Rattle.means_inside.specs.Theorems.{NotBeyondInside, ConvexMeans}
 use Rattle.means_inside.proofs.Triangle.{twice, shift, shift-is, shift-up, not-left}
 use Rattle.means_inside.proofs.Larger.{big-turn, small-eq}

@@ -14,7 +14,7 @@ use Rattle.means_area.proofs.Flats.Turns.{env, uE, vE, hE, spin, flip, flip-las
 use Rattle.means_area.proofs.Flats.Choice.{Hit}
 use Rattle.means_inside.specs.Beams.{round, beam, facing, Off, Clear, odd, east, Seen}
 use Rattle.means_inside.proofs.Parity.{xor-comm, xor-self}
-use Rattle.means_inside.proofs.Triangle.{fE, odd-far, odd-a, odd-b, inn, onto, out}
+use Rattle.means_inside.proofs.Triangle.{fE, facing-end, odd-far, odd-a, odd-b, inn, onto, out}
 use Rattle.means_inside.proofs.Cap.{fan-in, fan-in'}
 use Rattle.means_inside.proofs.Segment.{beam-back}
 use Rattle.means_inside.proofs.Look.{Between}
@@ -39,10 +39,7 @@ off-or p a b = go (ways (turn a b p)) (which (facing p a b))
 
 -- not one of its ends
 pub off-end : (p a b : Flat) → Off p a b → p ≡ a → ⊥
-unfolding facing
-off-end p a b o e =
-    zero-off (ap (λ (z : Flat). facing z a b) e ∙ ring (env (pos 0) (a ∷ b ∷ [])) (fE 0 0 1) (con (pos 0)) tt)
-    (o (ap (turn a b) e ∙ flat-first a b))
+off-end p a b o e = zero-off (ap (λ (z : Flat). facing z a b) e ∙ facing-end a b) (o (ap (turn a b) e ∙ flat-first a b))
 
 pub bool : (b : Bool) → (b ≡ true) ⊎ (b ≡ false)
 bool true = inl refl

@@ -40,7 +40,7 @@ module _ (p : Flat) (d : ℤ) (k : Up d) where
   times-np : (t : ℤ) → Up (negℤ t) → Up (negℤ (d *ℤ t))
   times-np t h = up-is (ring (d ∷ t ∷ []) (var 0 ⊗ neg (var 1)) (neg (var 0 ⊗ var 1)) tt) (mul-pos k h)
 
-  ray-scale : (x y : Bool) (t : ℤ) → meetsRay x y (d *ℤ t) ≡ meetsRay x y t
+  pub ray-scale : (x y : Bool) (t : ℤ) → meetsRay x y (d *ℤ t) ≡ meetsRay x y t
   unfolding meetsRay
   ray-scale true true t = refl
   ray-scale false false t = refl

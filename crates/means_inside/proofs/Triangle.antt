@@ -38,15 +38,22 @@ unfolding facing
 self-nn p q = add-nonneg (square-nonneg (q .u -ℤ p .u)) (square-nonneg (q .v -ℤ p .v))
 
 -- q is p, or not
-pub self-up : (p q : Flat) → (q ≡ p → ⊥) → Up (facing p q q)
+pub self-zero : (p q : Flat) → facing p q q ≡ pos 0 → q ≡ p
 unfolding facing
+self-zero p q e =
+    let z = two-zero (q .u -ℤ p .u) (q .v -ℤ p .v) e in
+    λ i. record { u = eq-of-sub (q .u) (p .u) (z .0) i; v = eq-of-sub (q .v) (p .v) (z .1) i }
+
+pub facing-end : (p b : Flat) → facing p p b ≡ pos 0
+unfolding facing
+facing-end p b = ring (env (pos 0) (p ∷ b ∷ [])) (fE 0 0 1) (con (pos 0)) tt
+
+pub self-up : (p q : Flat) → (q ≡ p → ⊥) → Up (facing p q q)
 self-up p q n = go (ways (facing p q q))
   where
     go : Up (facing p q q) ⊎ ((facing p q q ≡ pos 0) ⊎ Up (negℤ (facing p q q))) → Up (facing p q q)
     go (inl k) = k
-    go (inr (inl e)) =
-        let z = two-zero (q .u -ℤ p .u) (q .v -ℤ p .v) e in
-        absurd (n (λ i. record { u = eq-of-sub (q .u) (p .u) (z .0) i; v = eq-of-sub (q .v) (p .v) (z .1) i }))
+    go (inr (inl e)) = absurd (n (self-zero p q e))
     go (inr (inr k)) = absurd (off k (nn-is (ring (facing p q q ∷ []) (var 0) (neg (neg (var 0))) tt) (self-nn p q)))
 
 pub moved : (p q z : Flat) → Up (turn p q z) → Up (facing p q q)

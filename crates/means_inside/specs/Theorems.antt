@@ -4,12 +4,17 @@ use mathlib.Core.Bool.{xor}
 use mathlib.Core.Logic.{_↔_}
 use mathlib.Core.List.{List, _∷_, map, reverse}
 use Prim.Native.Nat.{_≤_}
-use lib.IntN.{ℤ}
+use lib.IntN.{ℤ, pos}
 use lib.ListN.{length}
-use Rattle.paper.specs.Polygon.{whereFlat}
+use Rattle.paper.specs.Points.{minus, times, dot}
+use Rattle.paper.specs.Polygon.{Polygon, over, normal, corner, seen, whereFlat, lies}
+use Rattle.paper.specs.declared.Point.{Point}
 use Rattle.paper.specs.declared.Flat.{Flat}
+use Rattle.paper.specs.declared.Axis.{Axis}
 use Rattle.paper.specs.declared.Where.the-variants.{Inside}
+use Rattle.paper_laws.specs.Planes.{InOwnPlane}
 use Rattle.means_area.specs.Flats.{Up, Simple, Least, lst}
+use Rattle.means_area.specs.Space.{through}
 use Rattle.means_inside.specs.Beams.{round, beam, right, Seen}
 use Rattle.means_inside.specs.Touch.{Touch}
 use Rattle.means_inside.specs.Means.{big, Means}
@@ -39,3 +44,9 @@ abbrev pub ConvexMeans : Type 0
 ConvexMeans =
     (m : ℤ) (g : List Flat) → 3 ≤ length g → Simple m g → (h : Hand) → Convex h g → (d : ℤ) → Up d → (p : Flat)
     → (whereFlat p d g ≡ Inside) ↔ Within h d g p
+
+-- of a polygon in its plane, a point p / d of the plane: seen along any axis that the plane is not along, the answer is the same
+abbrev pub AnyAxis : Type 0
+AnyAxis =
+    (g : Polygon) → InOwnPlane g → (a : Axis) → (through a (normal g) ≡ pos 0 → ⊥) → (d : ℤ) → Up d → (p : Point)
+    → dot (normal g) (minus p (times d (corner g))) ≡ pos 0 → lies (over p d) g ≡ whereFlat (seen a p) d (map (seen a) g)
