@@ -14,10 +14,14 @@ use Rattle.means_area.proofs.Flats.Lowest.{Found, lowest}
 use Rattle.means_area.proofs.Flats.Chains.{chain-split, chain-left, chain-right, of-append, of-swap}
 use Rattle.means_area.proofs.Flats.Chains.{turned}
 use Rattle.means_inside.specs.Beams.{beam, odd, east}
-use Rattle.means_inside.specs.Regions.{Cut, start, At}
 use Rattle.means_inside.proofs.Parity.{round-turned}
 use Rattle.means_inside.proofs.Beside.{Apart, change}
 use Rattle.means_inside.proofs.Together.{map-app, h}
+
+-- a ring, and the same from another start
+pub data Started : List Flat → List Flat → Type 0 where
+  here : (g : List Flat) → Started g g
+  there : (a : Flat) (l : List Flat) (b : Flat) (r : List Flat) → Started (a ∷ (l ++ b ∷ r)) (b ∷ (r ++ a ∷ l))
 
 module _ (m : ℤ) where
   -- ---- from the lowest corner
@@ -33,10 +37,7 @@ module _ (m : ℤ) where
     pub in-to : (z : Flat) → Of z (v ∷ x ∷ l) → Of z P
     pub in-from : (z : Flat) → Of z P → Of z (v ∷ x ∷ l)
     pub odds : (z : Flat) → odd z (v ∷ x ∷ l) ≡ odd z P
-    pub recut : Cut m (v ∷ x ∷ l) → Cut m P
-    pub at : (f : Flat → Flat) (t : Cut m (v ∷ x ∷ l)) (z : Flat) → At f (recut t) z → At f t z
-    pub odd-map : (f : Flat → Flat) (z : Flat) → odd z (map f (v ∷ x ∷ l)) ≡ odd z (map f P)
-    pub link-map : (f : Flat → Flat) (p q : Flat) → Link (map f (v ∷ x ∷ l)) p q → Link (map f P) p q
+    pub start : Started P (v ∷ x ∷ l)
 
   pub turn-link : (x : Flat) (l : List Flat) (y : Flat) (r : List Flat) (p q : Flat) → Link (x ∷ (l ++ y ∷ r)) p q
       → Link (y ∷ (r ++ x ∷ l)) p q
@@ -77,10 +78,7 @@ module _ (m : ℤ) where
         in-to = (λ z o. of-swap z (v ∷ []) (a ∷ X) o);
         in-from = (λ z o. of-swap z (a ∷ X) (v ∷ []) o);
         odds = (λ z. sym (round-turned (beam z (east z)) a X v []));
-        recut = (λ t. start a X v [] t);
-        at = (λ f t z k. k);
-        odd-map = (λ f z. odd-turned f z a X v []);
-        link-map = (λ f p q j. link-turned f a X v [] p q j);
+        start = there a X v [];
       }
       from1 X v (y ∷ Y) t lx ly = record {
         v = v;
@@ -94,10 +92,7 @@ module _ (m : ℤ) where
         in-to = (λ z o. of-swap z (v ∷ y ∷ Y) (a ∷ X) o);
         in-from = (λ z o. of-swap z (a ∷ X) (v ∷ y ∷ Y) o);
         odds = (λ z. sym (round-turned (beam z (east z)) a X v (y ∷ Y)));
-        recut = (λ t. start a X v (y ∷ Y) t);
-        at = (λ f t z k. k);
-        odd-map = (λ f z. odd-turned f z a X v (y ∷ Y));
-        link-map = (λ f p q j. link-turned f a X v (y ∷ Y) p q j);
+        start = there a X v (y ∷ Y);
       }
         where
           low1 : (z : Flat) → Of z (y ∷ (Y ++ a ∷ X)) → h m v <ℤ (h m) z
@@ -121,10 +116,7 @@ module _ (m : ℤ) where
             in-to = (λ z o. o);
             in-from = (λ z o. o);
             odds = (λ z. refl);
-            recut = (λ t. t);
-            at = (λ f t z k. k);
-            odd-map = (λ f z. refl);
-            link-map = (λ f p q j. j);
+            start = here (a ∷ b ∷ r);
           }
       go (inr f) =
           subst (λ (z : List Flat). Simple m (a ∷ z) → Form (a ∷ z)) (sym (f .is))

@@ -2,27 +2,29 @@
 -- no side. Assumes nothing.
 use mathlib.Core.Path.{_≡_, refl, sym, _∙_, ap}
 use mathlib.Core.Bool.{Bool, true, false, true≢false}
-use mathlib.Core.Logic.{inl, inr}
+use mathlib.Core.Logic.{_⊎_, inl, inr}
 use mathlib.Core.List.{List, [], _∷_, _++_, map}
 use Prim.Native.Nat.{ℕ}
 use native.Mathlib.Omega.{arith}
-use lib.IntN.{ℤ, pos}
+use lib.IntN.{ℤ, pos, negℤ}
 use Rattle.lists.specs.Lists.{sides, anyTrue, oddTrue}
 use Rattle.paper.specs.Polygon.{touches, crosses, placed, whereFlat}
 use Rattle.paper.specs.declared.Flat.{Flat}
 use Rattle.paper.specs.declared.Where.{Where}
 use Rattle.paper.specs.declared.Where.the-variants.{Outside, Border, Inside}
 use Rattle.means_area.specs.Rings.{Of}
-use Rattle.means_area.specs.Flats.{Up, turn}
+use Rattle.means_area.specs.Flats.{Up, Nn, turn}
 use Rattle.means_area.proofs.Flats.Chains.{link-of, link-back}
-use Rattle.means_inside.specs.Beams.{round, beam, facing, Clear, odd}
+use Rattle.means_inside.specs.Beams.{round, beam, facing, Off, Clear, odd}
 use Rattle.means_inside.specs.Regions.{Cut, At, hits}
 use Rattle.means_inside.specs.Touch.{Touch}
 use Rattle.means_inside.specs.Means.{big}
 use Rattle.means_inside.proofs.Parity.{odd-round}
 use Rattle.means_inside.proofs.Triangle.{by-ray, out, left-off}
+use Rattle.means_inside.proofs.Ears.{off-or}
 use Rattle.means_inside.proofs.Triangles.{hits-are}
-use Rattle.means_inside.proofs.One.{cover-at, Whole, whole}
+use Rattle.means_inside.proofs.Parts.{cover-at}
+use Rattle.means_inside.proofs.One.{Whole, whole}
 use Rattle.means_inside.proofs.Scale.{crosses-back, odd-is, any-clear, any-touch, touch-not}
 use Rattle.means_inside.specs.Theorems.{WhereMeans}
 use Rattle.means_inside.proofs.Form.{odd-turned, link-turned}
@@ -80,6 +82,13 @@ touch-border d k g p t = go (ways (pos 0) d k g p)
 pub inside-off : (d : ℤ) → Up d → (g : List Flat) (p : Flat) → whereFlat p d g ≡ Inside → Touch p (map (big d) g) → ⊥
 inside-off d k g p e t = bi (sym (touch-border d k g p t) ∙ e)
 
+clear-of : (p : Flat) (g : List Flat) → (Touch p g → ⊥) → Clear p g
+clear-of p g n a b l = go (off-or p a b)
+  where
+    go : Off p a b ⊎ ((turn a b p ≡ pos 0) × Nn (negℤ (facing p a b))) → Off p a b
+    go (inl o) = o
+    go (inr t) = absurd (n (record { a = a; b = b; side = l; line = t .0; mid = t .1 }))
+
 -- two rings with the same sides at p and the same parity give the same answer, also for two points
 pub agree : (d : ℤ) → Up d → (p q : Flat) (g h : List Flat) → (Touch p (map (big d) g) → Touch q (map (big d) h))
     → (Touch q (map (big d) h) → Touch p (map (big d) g))
@@ -134,6 +143,8 @@ means m g n s = record {
   is-inside = (λ d k p a t. is-inside d k p a t (ways m d k g p));
   outside = (λ d k p e a. outside d k p e a (ways m d k g p));
   is-outside = (λ d k p a. is-outside d k p a (ways m d k g p));
+  one-way = r .way;
+  no-overlap = (λ d k p n o. r .single d k p (clear-of p (map (big d) g) n) o);
 }
   where
     r : Whole m g

@@ -1,224 +1,91 @@
 -- One triangulation for all points p / d. Assumes nothing.
 use mathlib.Core.Path.{_≡_, refl, sym, _∙_, ap, subst}
-use mathlib.Core.Bool.{true, xor}
+use mathlib.Core.Bool.{true}
 use mathlib.Core.Logic.{_⊎_, inl, inr}
 use mathlib.Core.List.{List, [], _∷_, _++_, map}
-use Prim.Native.Nat.{ℕ, zero, suc, _+_, _≤_}
+use Prim.Native.Nat.{ℕ, zero, suc, _≤_}
 use native.Mathlib.Omega.{arith}
 use lib.ListN.{length, length-append}
-use lib.IntN.{ℤ, pos, negℤ, _*ℤ_}
+use lib.IntN.{ℤ}
 use lib.Signed.{_<ℤ_, <ℤ-irrefl}
-use Rattle.lists.proofs.Truth.{false-xor, xor-false, never-true}
-use Rattle.exact.proofs.Ring.{var, _⊗_, neg, ring}
-use Rattle.exact.proofs.Order.{mul-pos, mul-lt}
-use Rattle.exact.proofs.Signs.{mul-zero, pos-ne}
 use Rattle.paper.specs.declared.Flat.{Flat}
 use Rattle.means_area.specs.Rings.{Of, Link}
-use Rattle.means_area.specs.Flats.{Up, Nn, turn, Cross, height, On, Simple, Least, Same, both, none, lst}
-use Rattle.means_area.proofs.Flats.Signs.{up-is, nn-is, nn-out, same-ne, same-is, same-is2}
-use Rattle.means_area.proofs.Flats.Turns.{In, flat-second}
+use Rattle.means_area.specs.Flats.{Up, turn, height, Simple, Least, area, Same, lst}
+use Rattle.means_area.proofs.Flats.Signs.{same-ne, same-is, same-is2}
+use Rattle.means_area.proofs.Flats.Turns.{flat-second}
 use Rattle.means_area.proofs.Flats.Net.{Ok}
 use Rattle.means_area.proofs.Flats.Choice.{Hit}
+use Rattle.means_area.proofs.Flats.Rings.{area-turned}
 use Rattle.means_area.proofs.Flats.Lowest.{of-split}
 use Rattle.means_area.proofs.Flats.First.{first-link, last-link, ear-simple}
-use Rattle.means_area.proofs.Space.Maps.{map-of, map-link, length-map}
 use Rattle.means_area.proofs.Flats.Chains.{lst-append, lst-of}
-use Rattle.means_inside.specs.Beams.{beam, facing, Off, Clear, odd, east}
-use Rattle.means_inside.specs.Regions.{Cut, one, chord, ear, start, InTriangle, At}
+use Rattle.means_inside.specs.Beams.{Clear, odd}
+use Rattle.means_inside.specs.Regions.{Cut, one, chord, ear, start, InTriangle, At, OneWay, OffChords, AtMostOne}
 use Rattle.means_inside.specs.Means.{big}
-use Rattle.means_inside.proofs.Parity.{round-cut}
-use Rattle.means_inside.proofs.Segment.{beam-back}
 use Rattle.means_inside.proofs.Look.{Look, empty, far, look}
-use Rattle.means_inside.proofs.Apart.{parts, low1, low2, f1, f2, simple1, simple2}
-use Rattle.means_inside.proofs.Ears.{off-or, off-end, between-odd}
-use Rattle.means_inside.proofs.Disjoint.{disjoint}
-use Rattle.means_inside.proofs.Covers.{Here, chord-here, ear-here, start-here, tri-here, sums}
-use Rattle.means_inside.proofs.Region.{apart, three, ear-inside}
-use Rattle.means_inside.proofs.Chord.{same-between, chord-seen, chord-between}
-use Rattle.means_inside.proofs.Larger.{big-turn, big-height, small-up, small-lt, big-simple}
-use Rattle.means_inside.proofs.Form.{form}
-use Rattle.means_inside.proofs.Together.{map-app, lst-map, clear-with}
-
--- a chord from the lowest corner: in one of the parts is inside
-cut-inside : (m : ℤ) (u c : Flat) (X : List Flat) (w y : Flat) (Y : List Flat) → Same (turn u c w) (turn u c (lst y Y))
-    → Same (turn u w (lst y Y)) (turn u c (lst y Y)) → (A B : Flat → Type 0)
-    → ((p : Flat) → Clear p (u ∷ c ∷ (X ++ w ∷ [])) → A p → odd p (u ∷ c ∷ (X ++ w ∷ [])) ≡ true)
-    → ((p : Flat) → Clear p (u ∷ w ∷ y ∷ Y) → B p → odd p (u ∷ w ∷ y ∷ Y) ≡ true)
-    → Simple m (u ∷ c ∷ (X ++ w ∷ y ∷ Y)) → Least m u (c ∷ (X ++ w ∷ y ∷ Y))
-    → Ok m (Link (u ∷ c ∷ (X ++ w ∷ y ∷ Y))) (λ z. Of z (u ∷ c ∷ (X ++ w ∷ y ∷ Y))) u w
-    → (p : Flat) → Clear p (u ∷ c ∷ (X ++ w ∷ y ∷ Y)) → A p ⊎ B p → odd p (u ∷ c ∷ (X ++ w ∷ y ∷ Y)) ≡ true
-cut-inside m u c X w y Y s1 s2 A B i1 i2 s low ok p cl t = go (off-or p u w)
-  where
-    hw : height m u <ℤ height m w
-    hw = low2 m u c X w y Y s low ok s1 s2 w (inl refl)
-
-    sum : odd p (u ∷ c ∷ (X ++ w ∷ y ∷ Y)) ≡ xor (odd p (u ∷ c ∷ (X ++ w ∷ []))) (odd p (u ∷ w ∷ y ∷ Y))
-    sum = round-cut (beam p (east p)) u (c ∷ X) w (y ∷ Y) (beam-back p (east p) w u)
-
-    go : Off p u w ⊎ ((turn u w p ≡ pos 0) × Nn (negℤ (facing p u w))) → odd p (u ∷ c ∷ (X ++ w ∷ y ∷ Y)) ≡ true
-    go (inr q) =
-        let n = off-end p u c (cl u c (first-link m u c (X ++ w ∷ y ∷ Y))) in
-        let z = lst-append c X w (y ∷ Y) in
-        between-odd m u c (X ++ w ∷ y ∷ Y) low p cl (chord-seen m u w p hw (q .0) (q .1) n (u ∷ c ∷ (X ++ w ∷ y ∷ Y)) ok)
-        (chord-between m u w p hw (q .0) (q .1) n c (lst c (X ++ w ∷ y ∷ Y))
-        (same-between u c (lst c (X ++ w ∷ y ∷ Y)) w (same-is2 (ap (turn u c) (sym z)) s1)
-        (same-is2 (ap (turn u c) (sym z)) (same-is (ap (turn u w) (sym z)) s2))))
-    go (inl q) = pick t
-      where
-        c1 : Clear p (u ∷ c ∷ (X ++ w ∷ []))
-        c1 = clear-with p (u ∷ c ∷ (X ++ w ∷ y ∷ Y)) (u ∷ c ∷ (X ++ w ∷ [])) u w cl q (f1 m u c X w y Y s low ok s1 s2)
-
-        c2 : Clear p (u ∷ w ∷ y ∷ Y)
-        c2 = clear-with p (u ∷ c ∷ (X ++ w ∷ y ∷ Y)) (u ∷ w ∷ y ∷ Y) u w cl q (f2 m u c X w y Y s low ok s1 s2)
-
-        clash : odd p (u ∷ c ∷ (X ++ w ∷ [])) ≡ true → odd p (u ∷ w ∷ y ∷ Y) ≡ true → ⊥
-        clash o o' =
-            disjoint m (length (u ∷ c ∷ (X ++ w ∷ [])) + length (u ∷ w ∷ y ∷ Y)) (u ∷ c ∷ (X ++ w ∷ [])) (u ∷ w ∷ y ∷ Y) (omega arith)
-            (parts m u c X w y Y s low ok s1 s2) p c1 c2 o o'
-
-        pick : A p ⊎ B p → odd p (u ∷ c ∷ (X ++ w ∷ y ∷ Y)) ≡ true
-        pick (inl x) = let o = i1 p c1 x in sum ∙ (λ i. xor (o i) (never-true (odd p (u ∷ w ∷ y ∷ Y)) (clash o) i)) ∙ xor-false true
-        pick (inr x) =
-            let o = i2 p c2 x in
-            sum ∙ (λ i. xor (never-true (odd p (u ∷ c ∷ (X ++ w ∷ []))) (λ q. clash q o) i) (o i)) ∙ false-xor true
-
-module _ (m d : ℤ) (k : Up d) where
-  abbrev B : Flat → Flat
-  B = big d
-
-  -- ---- what is so of a ring is so of the larger one
-  low-big : (u : Flat) (l : List Flat) → Least m u l → Least m (B u) (map B l)
-  low-big u l low z o =
-      let r = map-of B z l o in
-      subst (λ (y : Flat). height m (B u) <ℤ height m y) (sym (r .2))
-      (subst (λ (t : ℤ). t <ℤ height m (B (r .0))) (sym (big-height m d k u))
-      (subst (λ (t : ℤ). (d *ℤ height m u) <ℤ t) (sym (big-height m d k (r .0))) (mul-lt d k (low (r .0) (r .1)))))
-
-  small-in : (v a b z : Flat) → In (B v) (B a) (B b) (B z) → In v a b z
-  small-in v a b z i =
-      record {
-        far = nn-out d k (nn-out d k (nn-is (big-turn m d k a b z) (i .far)));
-        by-a = small-up m d k b v z (i .by-a);
-        by-b = small-up m d k v a z (i .by-b);
-      }
-
-  small-hit : (v a b z : Flat) → Hit (B v) (B a) (B b) (B z) → Hit v a b z
-  small-hit v a b z (inl i) = inl (small-in v a b z i)
-  small-hit v a b z (inr i) = inr (small-in v b a z i)
-
-  free-big : (g : List Flat) (v a b : Flat) → ((z : Flat) → Of z g → Hit v a b z → ⊥) → (z : Flat) → Of z (map B g)
-      → Hit (B v) (B a) (B b) z → ⊥
-  free-big g v a b e z o i =
-      let r = map-of B z g o in
-      e (r .0) (r .1) (small-hit v a b (r .0) (subst (λ (y : Flat). Hit (B v) (B a) (B b) y) (r .2) i))
-
-  ok-big : (g : List Flat) (u w : Flat) → Ok m (Link g) (λ z. Of z g) u w → Ok m (Link (map B g)) (λ z. Of z (map B g)) (B u) (B w)
-  ok-big g u w ok = record {
-    uncut = (λ {p} {q} l c. uncut p q (map-link B g p q l) c);
-    bare = (λ {r} o c. bare r (map-of B r g o) c);
-    bare-back = (λ {r} o c. bare' r (map-of B r g o) c);
-  }
-    where
-      uncut : (p q : Flat) → (b : Flat) × (c : Flat) × Link g b c × (p ≡ B b) × (q ≡ B c) → Cross (B u) (B w) p q → ⊥
-      uncut p q x c = ok .uncut (x .2) (record {
-        left = small-up m d k u w (x .0) (up-is (λ i. turn (B u) (B w) (x .3 i)) (c .left));
-        right = small-up m d k w u (x .1) (up-is (λ i. turn (B w) (B u) (x .4 i)) (c .right));
-        ahead = small-up m d k (x .0) (x .1) w (up-is (λ i. turn (x .3 i) (x .4 i) (B w)) (c .ahead));
-        behind = small-up m d k (x .1) (x .0) u (up-is (λ i. turn (x .4 i) (x .3 i) (B u)) (c .behind));
-      })
-
-      on : (a b r : Flat) (z : Flat) → r ≡ B z → On m (B a) (B b) r → On m a b z
-      on a b r z q c = record {
-        line =
-            mul-zero d (turn a b z) (pos-ne k)
-            (mul-zero d (d *ℤ turn a b z) (pos-ne k) (sym (big-turn m d k a b z) ∙ sym (ap (turn (B a) (B b)) q) ∙ c .line));
-        after = small-lt m d k a z (subst (λ (y : Flat). height m (B a) <ℤ height m y) q (c .after));
-        before = small-lt m d k z b (subst (λ (y : Flat). height m y <ℤ height m (B b)) q (c .before));
-      }
-
-      bare : (r : Flat) → (b : Flat) × Of b g × (r ≡ B b) → On m (B u) (B w) r → ⊥
-      bare r x c = ok .bare (x .1) (on u w r (x .0) (x .2) c)
-
-      bare' : (r : Flat) → (b : Flat) × Of b g × (r ≡ B b) → On m (B w) (B u) r → ⊥
-      bare' r x c = ok .bare-back (x .1) (on w u r (x .0) (x .2) c)
-
-  up-big : (a b c : Flat) → Up (turn a b c) → Up (turn (B a) (B b) (B c))
-  up-big a b c h = up-is (sym (big-turn m d k a b c)) (mul-pos k (mul-pos k h))
-
-  down-big : (a b c : Flat) → Up (negℤ (turn a b c)) → Up (negℤ (turn (B a) (B b) (B c)))
-  down-big a b c h =
-      up-is (ap negℤ (sym (big-turn m d k a b c)))
-      (up-is (ring (d ∷ turn a b c ∷ []) (var 0 ⊗ (var 0 ⊗ neg (var 1))) (neg (var 0 ⊗ (var 0 ⊗ var 1))) tt) (mul-pos k (mul-pos k h)))
-
-  same-big : (a b c a' b' c' : Flat) → Same (turn a b c) (turn a' b' c') → Same (turn (B a) (B b) (B c)) (turn (B a') (B b') (B c'))
-  same-big a b c a' b' c' (both x y) = both (up-big a b c x) (up-big a' b' c' y)
-  same-big a b c a' b' c' (none x y) = none (down-big a b c x) (down-big a' b' c' y)
-
-  -- ---- inside, of the larger ring
-  ear-big : (u c : Flat) (l : List Flat) → 1 ≤ length l → Simple m (u ∷ c ∷ l) → Least m u (c ∷ l)
-      → ((z : Flat) → Of z (u ∷ c ∷ l) → Hit u c (lst c l) z → ⊥) → (A : Flat → Type 0)
-      → ((p : Flat) → Clear p (map B (c ∷ l)) → A p → odd p (map B (c ∷ l)) ≡ true)
-      → (p : Flat) → Clear p (map B (u ∷ c ∷ l)) → InTriangle (B u) (B c) (B (lst c l)) p ⊎ A p → odd p (map B (u ∷ c ∷ l)) ≡ true
-  ear-big u c l j s low e A f p cl t =
-      let q = length-map B l in
-      ear-inside m (B u) (B c) (map B l) (omega (arith, q, j)) (big-simple m d k (u ∷ c ∷ l) s) (low-big u (c ∷ l) low)
-      (subst (λ (a : Flat). (z : Flat) → Of z (map B (u ∷ c ∷ l)) → Hit (B u) (B c) a z → ⊥) (sym (lst-map B c l))
-      (free-big (u ∷ c ∷ l) u c (lst c l) e)) A f p cl
-      (subst (λ (a : Flat). InTriangle (B u) (B c) a p ⊎ A p) (sym (lst-map B c l)) t)
-
-  cut-big : (u c : Flat) (X : List Flat) (w y : Flat) (Y : List Flat) → Simple m (u ∷ c ∷ (X ++ w ∷ y ∷ Y))
-      → Least m u (c ∷ (X ++ w ∷ y ∷ Y)) → Ok m (Link (u ∷ c ∷ (X ++ w ∷ y ∷ Y))) (λ z. Of z (u ∷ c ∷ (X ++ w ∷ y ∷ Y))) u w
-      → Same (turn u c w) (turn u c (lst y Y)) → Same (turn u w (lst y Y)) (turn u c (lst y Y)) → (A C : Flat → Type 0)
-      → ((p : Flat) → Clear p (map B (u ∷ c ∷ (X ++ w ∷ []))) → A p → odd p (map B (u ∷ c ∷ (X ++ w ∷ []))) ≡ true)
-      → ((p : Flat) → Clear p (map B (u ∷ w ∷ y ∷ Y)) → C p → odd p (map B (u ∷ w ∷ y ∷ Y)) ≡ true)
-      → (p : Flat) → Clear p (map B (u ∷ c ∷ (X ++ w ∷ y ∷ Y))) → A p ⊎ C p → odd p (map B (u ∷ c ∷ (X ++ w ∷ y ∷ Y))) ≡ true
-  cut-big u c X w y Y s low ok s1 s2 A C i1 i2 =
-      subst (λ (r : List Flat). Simple m (B u ∷ B c ∷ r) → Least m (B u) (B c ∷ r)
-      → Ok m (Link (B u ∷ B c ∷ r)) (λ z. Of z (B u ∷ B c ∷ r)) (B u) (B w) → (p : Flat) → Clear p (B u ∷ B c ∷ r) → A p ⊎ C p
-      → odd p (B u ∷ B c ∷ r) ≡ true)
-      (sym (map-app B X (w ∷ y ∷ Y)))
-      (cut-inside m (B u) (B c) (map B X) (B w) (B y) (map B Y)
-      (same-is2 (ap (turn (B u) (B c)) (sym (lst-map B y Y))) (same-big u c w u c (lst y Y) s1))
-      (same-is2 (ap (turn (B u) (B c)) (sym (lst-map B y Y)))
-      (same-is (ap (turn (B u) (B w)) (sym (lst-map B y Y))) (same-big u w (lst y Y) u c (lst y Y) s2)))
-      A C (subst (λ (r : List Flat). (p : Flat) → Clear p (B u ∷ B c ∷ r) → A p → odd p (B u ∷ B c ∷ r) ≡ true) (map-app B X (w ∷ [])) i1)
-      i2)
-      (big-simple m d k (u ∷ c ∷ (X ++ w ∷ y ∷ Y)) s) (low-big u (c ∷ (X ++ w ∷ y ∷ Y)) low) (ok-big (u ∷ c ∷ (X ++ w ∷ y ∷ Y)) u w ok)
-
-  -- ---- every triangulation covers
-  module _ (p : Flat) where
-    chord-at : (u : Flat) (l : List Flat) (w : Flat) (r : List Flat) → Here m p (map B (u ∷ (l ++ w ∷ r)))
-        → Here m p (map B (u ∷ (l ++ w ∷ []))) ⊎ Here m p (map B (u ∷ w ∷ r))
-    chord-at u l w r t =
-        sums m p (λ q. subst (λ (x : List Flat). Here m p (B u ∷ x)) (sym (map-app B l (w ∷ []))) q) (λ q. q)
-        (chord-here m p (B u) (map B l) (B w) (map B r) (subst (λ (x : List Flat). Here m p (B u ∷ x)) (map-app B l (w ∷ r)) t))
-
-    ear-at : (u c : Flat) (l : List Flat) → Here m p (map B (u ∷ c ∷ l)) → Here m p (B u ∷ B c ∷ B (lst c l) ∷ [])
-        ⊎ Here m p (map B (c ∷ l))
-    ear-at u c l t =
-        subst (λ (a : Flat). Here m p (B u ∷ B c ∷ a ∷ []) ⊎ Here m p (map B (c ∷ l))) (lst-map B c l)
-        (ear-here m p (B u) (B c) (map B l) t)
-
-    start-at : (x : Flat) (l : List Flat) (y : Flat) (r : List Flat) → Here m p (map B (x ∷ (l ++ y ∷ r)))
-        → Here m p (map B (y ∷ (r ++ x ∷ l)))
-    start-at x l y r t =
-        subst (λ (z : List Flat). Here m p (B y ∷ z)) (sym (map-app B r (x ∷ l)))
-        (start-here m p (B x) (map B l) (B y) (map B r) (subst (λ (z : List Flat). Here m p (B x ∷ z)) (map-app B l (y ∷ r)) t))
-
-    pub cover-at : (g : List Flat) (t : Cut m g) → Here m p (map B g) → At B t p
-    cover-at _ (one a b c s) t = tri-here m p (B a) (B b) (B c) (big-simple m d k (a ∷ b ∷ c ∷ []) s) t
-    cover-at _ (chord u l w r s x y) t =
-        sums m p (λ q. cover-at (u ∷ (l ++ w ∷ [])) x q) (λ q. cover-at (u ∷ w ∷ r) y q) (chord-at u l w r t)
-    cover-at _ (ear u c l s z x) t =
-        sums m p (λ q. tri-here m p (B u) (B c) (B (lst c l)) (big-simple m d k (u ∷ c ∷ lst c l ∷ []) z) q) (λ q. cover-at (c ∷ l) x q)
-        (ear-at u c l t)
-    cover-at _ (start x l y r z) t = cover-at (y ∷ (r ++ x ∷ l)) z (start-at x l y r t)
+use Rattle.means_inside.proofs.Apart.{low1, low2, simple1, simple2}
+use Rattle.means_inside.proofs.Region.{Joined, apart, three}
+use Rattle.means_inside.proofs.Form.{Started, here, there, form, odd-turned, link-turned}
+use Rattle.means_inside.proofs.Parts.{ear-big, cut-big}
+use Rattle.means_inside.proofs.OneWay.{way-same, tip-way, rest-way, part-way1, part-way2}
 
 -- ---- the triangulation
 module _ (m : ℤ) where
   pub record Whole (g : List Flat) : Type 0 where
     pub cut : Cut m g
     pub inside : (d : ℤ) → Up d → (p : Flat) → Clear p (map (big d) g) → At (big d) cut p → odd p (map (big d) g) ≡ true
+    pub way : OneWay (area g) cut
+    pub single : (d : ℤ) → Up d → (p : Flat) → Clear p (map (big d) g) → OffChords (big d) cut p → AtMostOne (big d) cut p
+
+  -- from another start
+  restart : {P Q : List Flat} → Started P Q → Whole Q → Whole P
+  restart (here g) r = r
+  restart (there a l b s) r = record {
+    cut = start a l b s (r .cut);
+    inside = (λ d k p c t. sym (odd-turned m (big d) p a l b s) ∙ r .inside d k p (back d p c) t);
+    way = subst (λ (z : ℤ). OneWay z (r .cut)) (area-turned b s a l) (r .way);
+    single = (λ d k p c o. r .single d k p (back d p c) o);
+  }
+    where
+      back : (d : ℤ) (p : Flat) → Clear p (map (big d) (a ∷ (l ++ b ∷ s))) → Clear p (map (big d) (b ∷ (s ++ a ∷ l)))
+      back d p c x y t = c x y (link-turned m (big d) a l b s x y t)
+
+  -- two parts with a chord from the lowest corner
+  join : (u c : Flat) (X : List Flat) (w y : Flat) (Y : List Flat) → Simple m (u ∷ c ∷ (X ++ w ∷ y ∷ Y))
+      → Least m u (c ∷ (X ++ w ∷ y ∷ Y)) → Ok m (Link (u ∷ c ∷ (X ++ w ∷ y ∷ Y))) (λ z. Of z (u ∷ c ∷ (X ++ w ∷ y ∷ Y))) u w
+      → Same (turn u c w) (turn u c (lst y Y)) → Same (turn u w (lst y Y)) (turn u c (lst y Y)) → Whole (u ∷ c ∷ (X ++ w ∷ []))
+      → Whole (u ∷ w ∷ y ∷ Y) → Whole (u ∷ c ∷ (X ++ w ∷ y ∷ Y))
+  join u c X w y Y s low ok s1 s2 r1 r2 = record {
+    cut = chord u (c ∷ X) w (y ∷ Y) s (r1 .cut) (r2 .cut);
+    inside = (λ d k p cl t. at d k p cl .whole t);
+    way = (
+      way-same m (part-way1 m u c X w y Y s low ok s1 s2) (r1 .cut) (r1 .way),
+      way-same m (part-way2 m u c X w y Y s low ok s1 s2) (r2 .cut) (r2 .way),
+    );
+    single = (λ d k p cl o. let q = at d k p cl in
+        (q .not-both (o .0), r1 .single d k p (q .clear1 (o .0)) (o .1), r2 .single d k p (q .clear2 (o .0)) (o .2)));
+  }
+    where
+      at : (d : ℤ) → Up d → (p : Flat) → Clear p (map (big d) (u ∷ c ∷ (X ++ w ∷ y ∷ Y)))
+          → Joined (map (big d) (u ∷ c ∷ (X ++ w ∷ y ∷ Y))) (map (big d) (u ∷ c ∷ (X ++ w ∷ []))) (map (big d) (u ∷ w ∷ y ∷ Y)) (big d u)
+          (big d w) (At (big d) (r1 .cut)) (At (big d) (r2 .cut)) p
+      at d k =
+          cut-big m d k u c X w y Y s low ok s1 s2 (At (big d) (r1 .cut)) (At (big d) (r2 .cut)) (r1 .inside d k) (r2 .inside d k)
+
+  -- an empty ear at the lowest corner, and the rest
+  put-ear : (u c : Flat) (l : List Flat) (k : 1 ≤ length l) (s : Simple m (u ∷ c ∷ l)) (low : Least m u (c ∷ l))
+      → ((z : Flat) → Of z (u ∷ c ∷ l) → Hit u c (lst c l) z → ⊥) → 2 ≤ length l → Whole (c ∷ l) → Whole (u ∷ c ∷ l)
+  put-ear u c l k s low e j r = record {
+    cut = ear u c l s (three m u c l k s low e) (r .cut);
+    inside = (λ d i p cl w. at d i p cl .whole w);
+    way = (tip-way m u c l s low k, way-same m (rest-way m u c l s low j e) (r .cut) (r .way));
+    single = (λ d i p cl o. let t = at d i p cl in (t .not-both (o .0), r .single d i p (t .clear2 (o .0)) (o .1)));
+  }
+    where
+      at : (d : ℤ) → Up d → (p : Flat) → Clear p (map (big d) (u ∷ c ∷ l))
+          → Joined (map (big d) (u ∷ c ∷ l)) (big d u ∷ big d c ∷ big d (lst c l) ∷ []) (map (big d) (c ∷ l)) (big d c) (big d (lst c l))
+          (InTriangle (big d u) (big d c) (big d (lst c l))) (At (big d) (r .cut)) p
+      at d i = ear-big m d i u c l k s low e (At (big d) (r .cut)) (r .inside d i)
 
   abbrev Claim1 : ℕ → Type 0
   Claim1 n = (u c : Flat) (l : List Flat) → length l ≤ n → 1 ≤ length l → Simple m (u ∷ c ∷ l) → Least m u (c ∷ l) → Whole (u ∷ c ∷ l)
@@ -229,11 +96,7 @@ module _ (m : ℤ) where
         let f = form m g s k in
         let e = f .size in
         let r = ih (f .v) (f .x) (f .l) (omega (arith, e, b)) (omega (arith, e, k)) (f .simple) (f .low) in
-        record {
-          cut = f .recut (r .cut);
-          inside = (λ d j p c a. sym (f .odd-map (big d) p)
-              ∙ r .inside d j p (λ x y t. c x y (f .link-map (big d) x y t)) (f .at (big d) (r .cut) p a));
-        }
+        restart (f .start) r
 
     CutGoal : Flat → Flat → Flat → List Flat → Type 0
     CutGoal u c w l =
@@ -253,11 +116,7 @@ module _ (m : ℤ) where
         (low1 m u c X w y Y s low ok t1 t2) in
         let r2 = ih u w (y ∷ Y) (omega (arith, b, e1)) (omega arith) (simple2 m u c X w y Y s low ok t1 t2)
         (low2 m u c X w y Y s low ok t1 t2) in
-        record {
-          cut = chord u (c ∷ X) w (y ∷ Y) s (r1 .cut) (r2 .cut);
-          inside = (λ d j p cl t. cut-big m d j u c X w y Y s low ok t1 t2 (λ z. At (big d) (r1 .cut) z) (λ z. At (big d) (r2 .cut) z)
-              (r1 .inside d j) (r2 .inside d j) p cl t);
-        }
+        join u c X w y Y s low ok t1 t2 r1 r2
 
     step : Claim1 (suc n)
     unfolding CutGoal
@@ -270,17 +129,14 @@ module _ (m : ℤ) where
         ears (x ∷ []) q e =
             subst (λ (r : List Flat). Simple m (u ∷ c ∷ r)
             → ((d : ℤ) → Up d → (p : Flat) → Clear p (map (big d) (u ∷ c ∷ r)) → InTriangle (big d u) (big d c) (big d (lst c r)) p ⊎ ⊥
-            → odd p (map (big d) (u ∷ c ∷ r)) ≡ true) → Whole (u ∷ c ∷ r)) (sym q)
-            (λ s f. record { cut = one u c x s; inside = (λ d j p cl w. f d j p cl (inl w)) }) s
-            (λ d j p cl w. ear-big m d j u c l k s low e (λ z. ⊥) (λ p cl v. absurd v) p cl w)
+            → odd p (map (big d) (u ∷ c ∷ r)) ≡ true) → Same (turn u c (lst c r)) (area (u ∷ c ∷ r)) → Whole (u ∷ c ∷ r)) (sym q)
+            (λ s f t. record { cut = one u c x s; inside = (λ d j p cl w. f d j p cl (inl w)); way = t; single = (λ d j p cl o. tt) }) s
+            (λ d j p cl w. ear-big m d j u c l k s low e (λ z. ⊥) (λ p cl v. absurd v) p cl .whole w) (tip-way m u c l s low k)
         ears (x ∷ (y ∷ r)) q e =
             let j = subst (λ (r : List Flat). 2 ≤ length r) (sym q) (omega arith) in
             let r = smaller (c ∷ l) (omega (arith, b)) (omega (arith, j))
             (ear-simple m u c l k s (low c (inl refl)) (low (lst c l) (lst-of c l)) e) in
-            record {
-              cut = ear u c l s (three m u c l k s low e) (r .cut);
-              inside = (λ d i p cl w. ear-big m d i u c l k s low e (λ z. At (big d) (r .cut) z) (r .inside d i) p cl w);
-            }
+            put-ear u c l k s low e j r
 
         go : Look m (Link (u ∷ c ∷ l)) (u ∷ c ∷ l) (s .net) u c (lst c l) (first-link m u c l) (last-link m u c l) (low c (inl refl))
             (low (lst c l) (lst-of c l)) → Whole (u ∷ c ∷ l)

@@ -1,6 +1,6 @@
 -- The lowest corner u of a ring with an empty triangle: a point of the triangle, or of what is left, is inside. Assumes nothing.
 use mathlib.Core.Path.{_≡_, refl, sym, _∙_, ap, subst}
-use mathlib.Core.Bool.{Bool, true, false, xor}
+use mathlib.Core.Bool.{Bool, true, false, xor, true≢false}
 use mathlib.Core.Logic.{_⊎_, inl, inr}
 use mathlib.Core.List.{List, [], _∷_}
 use Prim.Native.Nat.{_≤_}
@@ -21,9 +21,16 @@ use Rattle.means_inside.specs.Regions.{InTriangle}
 use Rattle.means_inside.proofs.Parity.{round-ear}
 use Rattle.means_inside.proofs.Segment.{beam-back}
 use Rattle.means_inside.proofs.Cap.{ear-in}
-use Rattle.means_inside.proofs.Ears.{off-or, bool, chord-hit, odd-hit}
+use Rattle.means_inside.proofs.Ears.{off-or, bool, chord-hit, clear3, odd-hit}
 use Rattle.means_inside.proofs.Covers.{within-hit}
 use Rattle.means_inside.proofs.Together.{clear-with, rest-link}
+
+-- a chord from c to d cuts g into h and k; a point p of the one, A, or of the other, B, is inside g, and off the chord it is not in both
+pub record Joined (g h k : List Flat) (c d : Flat) (A B : Flat → Type 0) (p : Flat) : Type 0 where
+  pub whole : A p ⊎ B p → odd p g ≡ true
+  pub clear1 : Off p c d → Clear p h
+  pub clear2 : Off p c d → Clear p k
+  pub not-both : Off p c d → A p → B p → ⊥
 
 module _ (m : ℤ) where
   abbrev h : Flat → ℤ
@@ -91,11 +98,44 @@ module _ (m : ℤ) where
               round-ear (beam p (east p)) u c l (beam-back p (east p) a c) ∙ ap (λ (z : Bool). xor z (odd p (c ∷ l))) q
               ∙ false-xor (odd p (c ∷ l)) ∙ r
 
-      pub ear-inside : (A : Flat → Type 0) → ((p : Flat) → Clear p (c ∷ l) → A p → odd p (c ∷ l) ≡ true) → (p : Flat) → Clear p g
+      clear-tri : (p : Flat) → Clear p g → Off p c a → Clear p (u ∷ c ∷ a ∷ [])
+      clear-tri p cl o = clear3 u c a p (cl u c uc) (cl u a ua) crooked c a (cl u c uc) (cl u a ua) o
+
+      clear-rest : (p : Flat) → Clear p g → Off p c a → Clear p (c ∷ l)
+      clear-rest p cl o = clear-with p g (c ∷ l) c a cl o (rest-link u c l)
+
+      in-tri : (p : Flat) → Clear p g → InTriangle u c a p → Hit u c a p
+      in-tri p cl w = within-hit u c a p crooked (cl u c uc) (cl u a ua) w
+
+      tri-odd : (p : Flat) → Clear p g → Off p c a → Hit u c a p → odd p (u ∷ c ∷ a ∷ []) ≡ true
+      tri-odd p cl o i =
+          ear-in m u c (a ∷ []) (λ z q. low z (sub-of z (keep (sub-last c l k)) q)) p (clear-tri p cl o) three
+          (λ z q. e z (sub-of z sub3 q)) i
+
+      -- off the chord, a point of the triangle is not in the rest: it would be even in the ring
+      apart-rest : (A : Flat → Type 0) → ((p : Flat) → Clear p (c ∷ l) → A p → odd p (c ∷ l) ≡ true) → (p : Flat) → Clear p g
+          → Off p c a → InTriangle u c a p → A p → ⊥
+      unfolding xor
+      apart-rest A f p cl o w t =
+          let i = in-tri p cl w in
+          true≢false
+          (sym (hit p cl i) ∙ round-ear (beam p (east p)) u c l (beam-back p (east p) a c)
+          ∙ (λ s. xor (tri-odd p cl o i s) (f p (clear-rest p cl o) t s)))
+
+      ear-inside : (A : Flat → Type 0) → ((p : Flat) → Clear p (c ∷ l) → A p → odd p (c ∷ l) ≡ true) → (p : Flat) → Clear p g
           → InTriangle u c a p ⊎ A p → odd p g ≡ true
-      ear-inside A f p cl (inl w) = hit p cl (within-hit u c a p crooked (cl u c uc) (cl u a ua) w)
+      ear-inside A f p cl (inl w) = hit p cl (in-tri p cl w)
       ear-inside A f p cl (inr w) = pick (off-or p c a)
         where
           pick : Off p c a ⊎ ((turn c a p ≡ pos 0) × Nn (negℤ (facing p c a))) → odd p g ≡ true
           pick (inr q) = hit p cl (chord-hit u c a p (cl u c uc) (cl u a ua) crooked (q .0) (q .1))
-          pick (inl q) = at-rest p cl q (f p (clear-with p g (c ∷ l) c a cl q (rest-link u c l)) w)
+          pick (inl q) = at-rest p cl q (f p (clear-rest p cl q) w)
+
+      pub ear-joined : (A : Flat → Type 0) → ((p : Flat) → Clear p (c ∷ l) → A p → odd p (c ∷ l) ≡ true) → (p : Flat) → Clear p g
+          → Joined g (u ∷ c ∷ a ∷ []) (c ∷ l) c a (InTriangle u c a) A p
+      ear-joined A f p cl = record {
+        whole = ear-inside A f p cl;
+        clear1 = clear-tri p cl;
+        clear2 = clear-rest p cl;
+        not-both = apart-rest A f p cl;
+      }

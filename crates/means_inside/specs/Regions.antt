@@ -4,8 +4,8 @@ use mathlib.Core.Logic.{_⊎_}
 use mathlib.Core.List.{List, [], _∷_, _++_}
 use lib.IntN.{ℤ, negℤ}
 use Rattle.paper.specs.declared.Flat.{Flat}
-use Rattle.means_area.specs.Flats.{Nn, turn, Simple, lst}
-use Rattle.means_inside.specs.Beams.{round}
+use Rattle.means_area.specs.Flats.{Nn, turn, Simple, Same, lst}
+use Rattle.means_inside.specs.Beams.{round, Off}
 
 -- a simple ring cut into triangles by chords: it is a triangle; a chord from its first corner u to the corner w cuts it in two; its first
 -- corner is cut
@@ -36,3 +36,23 @@ At f (one a b c s) p = InTriangle (f a) (f b) (f c) p
 At f (chord u l w r s x y) p = At f x p ⊎ At f y p
 At f (ear u c l s t x) p = InTriangle (f u) (f c) (f (lst c l)) p ⊎ At f x p
 At f (start x l y r t) p = At f t p
+
+-- each of its triangles turns the way that z has its sign
+abbrev pub OneWay : {m : ℤ} {g : List Flat} → ℤ → Cut m g → Type 0
+OneWay z (one a b c s) = Same (turn a b c) z
+OneWay z (chord u l w r s x y) = OneWay z x × OneWay z y
+OneWay z (ear u c l s t x) = Same (turn u c (lst c l)) z × OneWay z x
+OneWay z (start x l y r t) = OneWay z t
+
+-- a point is on none of its chords; it is in at most one of its triangles
+abbrev pub OffChords : {m : ℤ} {g : List Flat} → (Flat → Flat) → Cut m g → Flat → Type 0
+OffChords f (one a b c s) p = Unit {0}
+OffChords f (chord u l w r s x y) p = Off p (f u) (f w) × OffChords f x p × OffChords f y p
+OffChords f (ear u c l s t x) p = Off p (f c) (f (lst c l)) × OffChords f x p
+OffChords f (start x l y r t) p = OffChords f t p
+
+abbrev pub AtMostOne : {m : ℤ} {g : List Flat} → (Flat → Flat) → Cut m g → Flat → Type 0
+AtMostOne f (one a b c s) p = Unit {0}
+AtMostOne f (chord u l w r s x y) p = (At f x p → At f y p → ⊥) × AtMostOne f x p × AtMostOne f y p
+AtMostOne f (ear u c l s t x) p = (InTriangle (f u) (f c) (f (lst c l)) p → At f x p → ⊥) × AtMostOne f x p
+AtMostOne f (start x l y r t) p = AtMostOne f t p
