@@ -18,7 +18,9 @@ use Rattle.means_drawing.specs.Segments.{along}
 use Rattle.means_drawing.proofs.Segments.{onOpen-means, openMeets-means}
 use Rattle.means_area.proofs.Loops.{loops-hold}
 use Rattle.means_inside.proofs.Inside.{every-ray-says, any-start}
-use Rattle.means_inside.proofs.Loops.{loop-means}
+use Rattle.means_inside.proofs.Backwards.{any-way}
+use Rattle.means_inside.proofs.Axis.{any-axis}
+use Rattle.means_inside.proofs.Loops.{loop-means, loop-not-beyond, loop-convex}
 use Rattle.means_clash.proofs.Either.{clash-either}
 use Rattle.means_loops.proofs.Planes.{dot-comm}
 use Rattle.means_loops.proofs.OwnPlane.{dot-less}
@@ -115,6 +117,10 @@ geometry = record {
   region = loop-means;
   any-ray = every-ray-says;
   any-start = any-start;
+  any-way = any-way;
+  any-axis = any-axis;
+  not-beyond = loop-not-beyond;
+  convex = loop-convex;
   on-edge = on-edge;
   in-plane = in-plane;
   either-way = clash-either;

@@ -4,7 +4,7 @@ use mathlib.Core.Path.{_≡_}
 use mathlib.Core.Bool.{true, false}
 use mathlib.Core.Logic.{_↔_}
 use mathlib.Core.Option.{none}
-use mathlib.Core.List.{List, [], _∷_, _++_, map}
+use mathlib.Core.List.{List, [], _∷_, _++_, map, reverse}
 use Prim.Native.Nat.{ℕ, _+_, _<_}
 use lib.IntN.{ℤ, pos, natAbs, _+ℤ_}
 use lib.ListN.{length}
@@ -18,16 +18,23 @@ use Rattle.paper.specs.Clash.{clash}
 use Rattle.paper.specs.Solids.{faceSix}
 use Rattle.paper.specs.declared.Point.{Point}
 use Rattle.paper.specs.declared.Flat.{Flat}
+use Rattle.paper.specs.declared.Axis.{Axis}
 use Rattle.paper.specs.declared.Where.the-variants.{Outside, Inside}
 use Rattle.paper_laws.specs.Planes.{InOwnPlane}
 use Rattle.means_drawing.specs.Segments.{Between, Common, along}
 use Rattle.means_area.specs.Flats.{Up}
+use Rattle.means_area.specs.Space.{through}
 use Rattle.means_area.specs.Loops.{loopOf}
 use Rattle.means_area.specs.Theorems.{LoopsHold}
 use Rattle.means_inside.specs.Beams.{round, beam, facing}
 use Rattle.means_inside.specs.Touch.{Touch}
 use Rattle.means_inside.specs.Means.{big, Means}
+use Rattle.means_inside.specs.Convex.{Hand, Convex, Within, NotBeyond}
 use Rattle.demands.specs.Clash.{Opposite}
+
+-- loop i as `lies` sees it
+abbrev pub seenLoop : Wire → ℕ → List Flat
+seenLoop d i = map (seen (axis (normal (loopOf d i)))) (loopOf d i)
 
 -- the point where an edge pierces a plane, times |a| + |b|, for ends p and q that are a and b from it
 abbrev pub pierced : Point → Point → ℤ → ℤ → Point
@@ -49,17 +56,28 @@ pub record Geometry : Type 0 where
   -- of every loop of a drawing that passes 11 and 13: its normal is not zero; its plane has all its corners; it is seen without loss along
   -- an axis; its sides meet in its corners alone
   pub loop-planes : LoopsHold
-  -- "inside A or on its border", of such a loop: the region of a triangulation of what is seen of it, and its sides
+  -- "inside A or on its border", of such a loop: the region of a triangulation of what is seen of it, and its sides. The triangles all
+  -- turn the way that the loop does, and overlap on chords only.
   pub seen-as : (p : Point) (k : ℤ) (g : Polygon)
       → lies (over p k) g ≡ whereFlat (seen (axis (normal g)) p) k (map (seen (axis (normal g))) g)
   pub region : (d : Wire) → samePlace d ≡ none → edgeMeets d ≡ none → (i : ℕ) → i < length (loops d)
-      → (m : ℤ) × Means m (map (seen (axis (normal (loopOf d i)))) (loopOf d i))
+      → (m : ℤ) × Means m (seenLoop d i)
   -- whatever ray is asked, from p through any other point q; and whatever corner the ring starts at
   pub any-ray : (d : ℤ) → Up d → (g : List Flat) (p q : Flat) → Up (facing p q q) → (Touch p (map (big d) g) → ⊥)
       → (round (beam p q) (map (big d) g) ≡ true → whereFlat p d g ≡ Inside)
       × (round (beam p q) (map (big d) g) ≡ false → whereFlat p d g ≡ Outside)
   pub any-start : (d : ℤ) → Up d → (x : Flat) (l : List Flat) (y : Flat) (r : List Flat) (p : Flat)
       → whereFlat p d (x ∷ (l ++ y ∷ r)) ≡ whereFlat p d (y ∷ (r ++ x ∷ l))
+  -- a list that is run backwards; a polygon in its plane, seen along any axis that the plane is not along
+  pub any-way : (d : ℤ) → Up d → (g : List Flat) (p : Flat) → whereFlat p d (reverse g) ≡ whereFlat p d g
+  pub any-axis : (g : Polygon) → InOwnPlane g → (a : Axis) → (through a (normal g) ≡ pos 0 → ⊥) → (d : ℤ) → Up d → (p : Point)
+      → dot (normal g) (minus p (times d (corner g))) ≡ pos 0 → lies (over p d) g ≡ whereFlat (seen a p) d (map (seen a) g)
+  -- what is on one hand of every side of a loop, or in the side's line and on no side, is inside; inside a loop that is convex is strictly
+  -- on one hand of every side
+  pub not-beyond : (d : Wire) → samePlace d ≡ none → edgeMeets d ≡ none → (i : ℕ) → i < length (loops d) → (h : Hand) (k : ℤ) → Up k
+      → (p : Flat) → NotBeyond h k (seenLoop d i) p → (Touch p (map (big k) (seenLoop d i)) → ⊥) → whereFlat p k (seenLoop d i) ≡ Inside
+  pub convex : (d : Wire) → samePlace d ≡ none → edgeMeets d ≡ none → (i : ℕ) → i < length (loops d) → (h : Hand)
+      → Convex h (seenLoop d i) → (k : ℤ) → Up k → (p : Flat) → (whereFlat p k (seenLoop d i) ≡ Inside) ↔ Within h k (seenLoop d i) p
   -- A: the piercing point is on the edge, |a| / (|a| + |b|) of the way from p to q and between its ends, and it is in g's plane
   pub on-edge : (p q : Point) (a b : ℤ) → Opposite a b
       → (pos 0 <ℤ pos (natAbs a)) × (pos (natAbs a) <ℤ pos (natAbs a + natAbs b))
