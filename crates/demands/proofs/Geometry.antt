@@ -18,6 +18,7 @@ use Rattle.means_drawing.specs.Segments.{along}
 use Rattle.means_drawing.proofs.Segments.{onOpen-means, openMeets-means}
 use Rattle.means_area.proofs.Loops.{loops-hold}
 use Rattle.means_inside.proofs.Inside.{every-ray-says, any-start}
+use Rattle.means_inside.proofs.AnyCut.{one-region}
 use Rattle.means_inside.proofs.Backwards.{any-way}
 use Rattle.means_inside.proofs.Axis.{any-axis}
 use Rattle.means_inside.proofs.Loops.{loop-means, loop-not-beyond, loop-convex}
@@ -115,6 +116,7 @@ geometry = record {
   loop-planes = loops-hold;
   seen-as = seen-is;
   region = loop-means;
+  one-region = one-region;
   any-ray = every-ray-says;
   any-start = any-start;
   any-way = any-way;

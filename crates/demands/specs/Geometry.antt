@@ -22,11 +22,12 @@ use Rattle.paper.specs.declared.Axis.{Axis}
 use Rattle.paper.specs.declared.Where.the-variants.{Outside, Inside}
 use Rattle.paper_laws.specs.Planes.{InOwnPlane}
 use Rattle.means_drawing.specs.Segments.{Between, Common, along}
-use Rattle.means_area.specs.Flats.{Up}
+use Rattle.means_area.specs.Flats.{Up, area}
 use Rattle.means_area.specs.Space.{through}
 use Rattle.means_area.specs.Loops.{loopOf}
 use Rattle.means_area.specs.Theorems.{LoopsHold}
 use Rattle.means_inside.specs.Beams.{round, beam, facing}
+use Rattle.means_inside.specs.Regions.{Cut, At, OneWay}
 use Rattle.means_inside.specs.Touch.{Touch}
 use Rattle.means_inside.specs.Means.{big, Means}
 use Rattle.means_inside.specs.Convex.{Hand, Convex, Within, NotBeyond}
@@ -62,6 +63,9 @@ pub record Geometry : Type 0 where
       → lies (over p k) g ≡ whereFlat (seen (axis (normal g)) p) k (map (seen (axis (normal g))) g)
   pub region : (d : Wire) → samePlace d ≡ none → edgeMeets d ≡ none → (i : ℕ) → i < length (loops d)
       → (m : ℤ) × Means m (seenLoop d i)
+  -- every triangulation whose triangles turn the way that the polygon does has that region
+  pub one-region : (m : ℤ) (g : List Flat) (t : Cut m g) → OneWay (area g) t → (d : ℤ) → Up d → (p : Flat)
+      → At (big d) t p ↔ (whereFlat p d g ≡ Outside → ⊥)
   -- whatever ray is asked, from p through any other point q; and whatever corner the ring starts at
   pub any-ray : (d : ℤ) → Up d → (g : List Flat) (p q : Flat) → Up (facing p q q) → (Touch p (map (big d) g) → ⊥)
       → (round (beam p q) (map (big d) g) ≡ true → whereFlat p d g ≡ Inside)

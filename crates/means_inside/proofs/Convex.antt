@@ -2,7 +2,7 @@
 -- First: a chord has the point on one hand or on the other, so one of the two parts keeps the property, down to a triangle. Second: from
 -- a point that is not strictly on the hand of a side on which all corners are, the ray along that side meets nothing.
 use mathlib.Core.Path.{_≡_, refl, sym, _∙_, ap, subst}
-use mathlib.Core.Logic.{_⊎_, inl, inr}
+use mathlib.Core.Logic.{_⊎_, inl, inr, ⊎-elim}
 use mathlib.Core.List.{List, [], _∷_, _++_, map}
 use native.Mathlib.Omega.{arith}
 use lib.IntN.{ℤ, pos, negℤ, _+ℤ_}
@@ -89,17 +89,14 @@ module _ (m : ℤ) (h : Hand) (f : Flat → Flat) (p : Flat) where
       go (inl t) = k a b (step-right x l y r x a b t)
       go (inr t) = k a b (step-left x l y r x a b t)
 
-  pick : {A B C : Type 0} → (A → C) → (B → C) → A ⊎ B → C
-  pick f g (inl a) = f a
-  pick f g (inr b) = g b
-
   -- of any triangulation
   pub in-one : (g : List Flat) (t : Cut m g) → All g → At f t p
   in-one _ (one a b c s) k = within3 a b c (k a b (inl (refl, refl))) (k b c (inr (inl (refl, refl)))) (k c a (inr (inr (refl, refl))))
   in-one _ (chord u l w r s x y) k =
-      pick (λ q. inr (in-one (u ∷ w ∷ r) y (part2 u l w r k q))) (λ q. inl (in-one (u ∷ (l ++ w ∷ [])) x (part1 u l w r k q))) (either u w)
+      ⊎-elim (λ q. inr (in-one (u ∷ w ∷ r) y (part2 u l w r k q))) (λ q. inl (in-one (u ∷ (l ++ w ∷ [])) x (part1 u l w r k q)))
+      (either u w)
   in-one _ (ear u c l s t x) k =
-      pick (λ q. inl (within3 u c (lst c l) (k u c (inl (refl, refl))) q (k (lst c l) u (inr (step-last c l u)))))
+      ⊎-elim (λ q. inl (within3 u c (lst c l) (k u c (inl (refl, refl))) q (k (lst c l) u (inr (step-last c l u)))))
       (λ q. inr (in-one (c ∷ l) x (rest u c l k q))) (either c (lst c l))
   in-one _ (start x l y r t) k = in-one (y ∷ (r ++ x ∷ l)) t (from x l y r k)
 

@@ -65,7 +65,7 @@ on-side v a b p n e f = go (ways (turn v a b))
         (nn-is (flip v b p) (base-b v b a p D' e' f'))
 
 -- the next corner first
-turn-within : (a b c p : Flat) → InTriangle b c a p → InTriangle a b c p
+pub turn-within : (a b c p : Flat) → InTriangle b c a p → InTriangle a b c p
 turn-within a b c p (left x y z) = left z x y
 turn-within a b c p (right x y z) = right z x y
 

@@ -143,7 +143,7 @@ module _ (m d : ℤ) (k : Up d) where
       bare' : (r : Flat) → (b : Flat) × Of b g × (r ≡ B b) → On m (B w) (B u) r → ⊥
       bare' r x c = ok .bare-back (x .1) (on w u r (x .0) (x .2) c)
 
-  up-big : (a b c : Flat) → Up (turn a b c) → Up (turn (B a) (B b) (B c))
+  pub up-big : (a b c : Flat) → Up (turn a b c) → Up (turn (B a) (B b) (B c))
   up-big a b c h = up-is (sym (big-turn m d k a b c)) (mul-pos k (mul-pos k h))
 
   down-big : (a b c : Flat) → Up (negℤ (turn a b c)) → Up (negℤ (turn (B a) (B b) (B c)))

@@ -114,7 +114,7 @@ pub out : (p q z : Flat) (g : List Flat) → Clear p g → Up (turn p q z) → (
 out p q z g c k h = by-ray p q g c (moved p q z k) ∙ aside p q g h
 
 -- p and the direction from x to y
-pub shift : Flat → Flat → Flat → Flat
+unfoldable pub shift : Flat → Flat → Flat → Flat
 shift p x y = record { u = p .u +ℤ (y .u -ℤ x .u); v = p .v +ℤ (y .v -ℤ x .v) }
 
 pub shift-is : (p x y z : Flat) → turn p (shift p x y) z ≡ turn x y z +ℤ negℤ (turn x y p)

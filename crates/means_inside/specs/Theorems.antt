@@ -11,11 +11,12 @@ use Rattle.paper.specs.Polygon.{Polygon, over, normal, corner, seen, whereFlat,
 use Rattle.paper.specs.declared.Point.{Point}
 use Rattle.paper.specs.declared.Flat.{Flat}
 use Rattle.paper.specs.declared.Axis.{Axis}
-use Rattle.paper.specs.declared.Where.the-variants.{Inside}
+use Rattle.paper.specs.declared.Where.the-variants.{Outside, Inside}
 use Rattle.paper_laws.specs.Planes.{InOwnPlane}
-use Rattle.means_area.specs.Flats.{Up, Simple, Least, lst}
+use Rattle.means_area.specs.Flats.{Up, Simple, Least, area, lst}
 use Rattle.means_area.specs.Space.{through}
 use Rattle.means_inside.specs.Beams.{round, beam, right, Seen}
+use Rattle.means_inside.specs.Regions.{Cut, At, OneWay}
 use Rattle.means_inside.specs.Touch.{Touch}
 use Rattle.means_inside.specs.Means.{big, Means}
 use Rattle.means_inside.specs.Convex.{Hand, Convex, Within, NotBeyond}
@@ -50,3 +51,9 @@ abbrev pub AnyAxis : Type 0
 AnyAxis =
     (g : Polygon) → InOwnPlane g → (a : Axis) → (through a (normal g) ≡ pos 0 → ⊥) → (d : ℤ) → Up d → (p : Point)
     → dot (normal g) (minus p (times d (corner g))) ≡ pos 0 → lies (over p d) g ≡ whereFlat (seen a p) d (map (seen a) g)
+
+-- every triangulation whose triangles turn the way that the polygon does has the inside and the border for its region
+abbrev pub OneRegion : Type 0
+OneRegion =
+    (m : ℤ) (g : List Flat) (t : Cut m g) → OneWay (area g) t → (d : ℤ) → Up d → (p : Flat)
+    → At (big d) t p ↔ (whereFlat p d g ≡ Outside → ⊥)
