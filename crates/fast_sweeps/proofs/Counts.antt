@@ -1,5 +1,5 @@
--- An edge by its two counts as the code takes them: M, the taken, and M + L, those taken or undecided, only where M is below 2; and what
--- settling does to the sets of those taken and those undecided. One law for each way through the code. Assumes nothing.
+-- An edge by its two counts as the code takes them: M, the taken, and, only where M is below 2, L, the undecided; and what settling does to
+-- the sets of those taken and those undecided. One law for each way through the code. Assumes nothing.
 use mathlib.Core.Bool.{Bool, true, false, _&&_, _||_, cond, not}
 use mathlib.Core.List.{List, [], _∷_}
 use mathlib.Core.Path.{_≡_, refl, sym, ap, ap₂, _∙_}
@@ -72,20 +72,6 @@ count-split [] [] = refl
 count-split [] (y ∷ mask) = refl
 count-split (x ∷ u) [] = omega arith
 count-split (x ∷ u) (y ∷ mask) = omega (arith, bit-split x y, count-split u mask)
-
--- those taken and those undecided are others, so that M + L is the count of both
-bit-known : (b : Bool) (s : Status) → bit ((b && isTaken s) || (b && isOpen s)) ≡ bit (b && isTaken s) + bit (b && isOpen s)
-bit-known false s = refl
-bit-known true Taken = refl
-bit-known true Rejected = refl
-bit-known true Undecided = refl
-
-pub count-known : (mask : List Bool) (st : List Status)
-    → count (either (both mask (takens st)) (both mask (opens st))) ≡ count (both mask (takens st)) + count (both mask (opens st))
-unfolding count both either
-count-known [] st = refl
-count-known (b ∷ mask) [] = refl
-count-known (b ∷ mask) (s ∷ st) = omega (arith, bit-known b s, count-known mask st)
 
 -- ---- the ways through
 module _ (mask : List Bool) (st : List Status) where

@@ -4,7 +4,7 @@ use mathlib.Core.List.{List}
 use mathlib.Core.Path.{_≡_}
 use Prim.Native.Nat.{ℕ, suc, _<_}
 use lib.ListN.{set}
-use Rattle.sets.specs.Sets.{Is, size}
+use Rattle.sets.specs.Sets.{Is, Minus, size}
 use Rattle.sets.specs.declared.Set.{Set}
 use Rattle.paper.specs.Conversion.{takens}
 use Rattle.paper.specs.Walk.{Status, settle, contradicts}
@@ -24,6 +24,12 @@ pub record Holds (s : State) (st : List Status) : Type 0 where
 pub record Decided (s : State) (k : ℕ) (v : Status) (r : State) : Type 0 where
   pub fewer : suc (size (r .undecided)) ≡ size (s .undecided)
   pub same : (st : List Status) → Holds s st → Holds r (set st k v)
+
+-- all of a set are no more undecided, and `taken` are taken
+pub record DecidedAll (s : State) (set taken : Set) (c : Change) : Type 0 where
+  pub left : Set
+  pub minus : Minus (s .undecided) set left
+  pub is : c ≡ record { state = record { taken = taken; undecided = left }; decided = set }
 
 -- ---- one edge
 

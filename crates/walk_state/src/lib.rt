@@ -3,7 +3,7 @@
 ghost use Prim.Native.Nat.{_<_};
 ghost use Rattle.sets.specs.Sets.{Has, size};
 ghost use Rattle.paper.specs.Walk.{Taken, Rejected};
-ghost use Rattle.walk_state.specs.State.{Decided, SettledOn};
+ghost use Rattle.walk_state.specs.State.{Decided, DecidedAll, SettledOn};
 ghost use Rattle.walk_state.specs.Sweeps.{Gathered, Turned, Marked, SweptOut};
 ghost use Rattle.walk_state.specs.Choice.{From, Opened};
 use paper::MOST_CANDIDATES;
@@ -48,46 +48,50 @@ impl State {
         }
     }
 
-    // On the edge M are taken and L undecided, the ones of `on` and of `free`; M + L are those of both. A rest has one fewer, so that
-    // each count is only told from 2, and a machine that has no instruction for counts need not count any further.
+    // All of a set are decided, and `taken` are those taken after it.
+    fn with_decided(self, set: Set, taken: Set) -> Change
+        ensures { λ r. ⌜ DecidedAll self set taken r ⌝ }
+    {
+        let state = State {
+            taken: taken,
+            undecided: self.undecided.minus(set),
+        };
+        Change {
+            state: state,
+            decided: set,
+        }
+    }
+
+    // On the edge M are taken, the ones of `on`, and L undecided, the ones of `free`. L is asked where M is 0 and where M is 1. A rest has
+    // one fewer, so that each count is only told from 1 or from 2: a machine that has no instruction for counts need not count further.
     fn settled_on(self, mask: Set) -> Passed
         ensures { λ r. ⌜ SettledOn self mask r ⌝ }
     {
         let taken = self.taken;
-        let undecided = self.undecided;
         let on = mask.and(taken);
-        let free = mask.and(undecided);
+        let free = mask.and(self.undecided);
         if 1 < on.count() {
             if 1 < on.rest().count() {
                 return Passed::Broken;
             }
-            let state = State {
-                taken: taken,
-                undecided: undecided.minus(free),
-            };
-            return Passed::Stays(Change {
-                state: state,
-                decided: free,
-            });
+            return Passed::Stays(self.with_decided(free, taken));
         }
-        let known = on.or(free);
-        if known.count() < 2 {
+        if on.count() < 1 {
+            if free.count() < 2 {
+                return Passed::Broken;
+            }
+            if free.rest().count() < 2 {
+                return Passed::Stays(self.with_decided(free, taken.or(free)));
+            }
+            return Passed::Stays(self.with_decided(Set::none(), taken));
+        }
+        if free.count() < 1 {
             return Passed::Broken;
         }
-        if known.rest().count() < 2 {
-            let state = State {
-                taken: taken.or(free),
-                undecided: undecided.minus(free),
-            };
-            return Passed::Stays(Change {
-                state: state,
-                decided: free,
-            });
+        if free.count() < 2 {
+            return Passed::Stays(self.with_decided(free, taken.or(free)));
         }
-        Passed::Stays(Change {
-            state: self,
-            decided: Set::none(),
-        })
+        Passed::Stays(self.with_decided(Set::none(), taken))
     }
 }
 

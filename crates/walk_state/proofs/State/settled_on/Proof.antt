@@ -1,27 +1,37 @@
--- `walk_state::State::settled_on`: a set that is not empty has one more than its rest, so that the tests tell M and M + L from 2; each
--- way through them is one of the laws. Assumes nothing.
+-- `walk_state::State::settled_on`: a set that is not empty has one more than its rest, so that the tests tell M from 2, and where M is 0
+-- or 1, L from as many as are missing to 2; each way through them is one of the laws. Assumes nothing.
 use borrow.Author.Needs.{needs}
+use mathlib.Core.Path.{_≡_}
 use Prim.Native.Nat.{_^_, _<_}
 use native.Mathlib.Omega.{arith}
-use Rattle.sets.specs.Sets.{room}
+use Rattle.sets.specs.Sets.{room, size}
 use Rattle.walk_state.proofs.Settling.{edge-many, edge-few, edge-two, edge-exactly, edge-more}
 use Rattle.walk_state.proofs.State.settled_on.Statement.{statement}
 use Rattle.walk_state.proofs.State.settled_on.Tie as tie
 
--- ---- the ways back to the count of those taken: where it is above 1, from that of the rest, and where it is not, from those of both;
--- and from it to the start
+-- ---- the ways back to the count of those taken: where it is above 1, from that of the rest, and where it is 0 or 1, from those of the
+-- undecided; and from it to the start
 
 abbrev above : tie.After-count2 → tie.After-count
 above c = c .before .before .before
 
-abbrev not-above : tie.After-count3 → tie.After-count
-not-above c = c .before .before .before
+abbrev below : tie.After-count3 → tie.After-count
+below c = c .before .before
 
-abbrev known : tie.After-count4 → tie.After-count3
-known c = c .before .before .before
+abbrev none : tie.After-count4 → tie.After-count
+none c = below (c .before .before)
+
+abbrev none-more : tie.After-count5 → tie.After-count4
+none-more c = c .before .before .before
+
+abbrev one : tie.After-count6 → tie.After-count
+one c = below (c .before .before)
+
+abbrev one-more : tie.After-count7 → tie.After-count6
+one-more c = c .before .before
 
 abbrev start : tie.After-count → tie.Start
-start c = c .before .before .before .before .before
+start c = c .before .before .before .before
 
 -- both are words
 mask-fits : (c : tie.Start) → c .args .mask .word < 2 ^ room
@@ -29,6 +39,13 @@ mask-fits c = omega arith
 
 undecided-fits : (c : tie.Start) → c .args .self .undecided .word < 2 ^ room
 undecided-fits c = omega arith
+
+-- M is 0, M is 1
+is-none : (c : tie.After-count4) → size (none c .before .before .and .result) ≡ 0
+is-none c = omega arith
+
+is-one : (c : tie.After-count6) → size (one c .before .before .and .result) ≡ 1
+is-one c = omega arith
 
 -- ---- the needs
 
@@ -53,60 +70,104 @@ returns c =
     let a = start m .args in
     edge-many (a .self) (a .mask) (m .before .before .and .ensures) (m .before .and2 .ensures) (omega arith)
 
-minus-requires : tie.Need-minus-requires
-minus-requires c κs = search needs
+with-decided-requires : tie.Need-with-decided-requires
+with-decided-requires c κs = search needs
 
 returns-2 : tie.Need-returns-2
 returns-2 c =
     let m = above (c .before .before) in
     let s = start m in
-    edge-two (s .args .self) (s .args .mask) (m .before .before .and .ensures) (m .before .and2 .ensures) (c .minus .ensures)
+    edge-two (s .args .self) (s .args .mask) (m .before .before .and .ensures) (m .before .and2 .ensures) (c .with-decided .ensures)
     (omega arith) (mask-fits s) (undecided-fits s)
-
-or-requires : tie.Need-or-requires
-or-requires c κs = search needs
 
 count-requires-3 : tie.Need-count-requires-3
 count-requires-3 c κs = search needs
 
+count-requires-4 : tie.Need-count-requires-4
+count-requires-4 c κs = search needs
+
 returns-3 : tie.Need-returns-3
 returns-3 c =
-    let m = not-above (c .before) in
+    let m = none (c .before) in
     let a = start m .args in
-    edge-few (a .self) (a .mask) (m .before .before .and .ensures) (m .before .and2 .ensures) (c .before .before .or .ensures)
-    (omega arith)
+    edge-few (a .self) (a .mask) (m .before .before .and .ensures) (m .before .and2 .ensures) (omega arith)
 
 rest-requires-2 : tie.Need-rest-requires-2
 rest-requires-2 c κs = search needs
 
-count-requires-4 : tie.Need-count-requires-4
-count-requires-4 c κs = search needs
+count-requires-5 : tie.Need-count-requires-5
+count-requires-5 c κs = search needs
 
-or-requires-2 : tie.Need-or-requires-2
-or-requires-2 c κs = search needs
+or-requires : tie.Need-or-requires
+or-requires c κs = search needs
 
-minus-requires-2 : tie.Need-minus-requires-2
-minus-requires-2 c κs = search needs
+with-decided-requires-2 : tie.Need-with-decided-requires-2
+with-decided-requires-2 c κs = search needs
 
 returns-4 : tie.Need-returns-4
 returns-4 c =
-    let q = c .before .before in
-    let k = known (q .before) in
-    let m = not-above k in
+    let q = c .before .before .before in
+    let l = none-more q in
+    let m = none l in
     let s = start m in
-    edge-exactly (s .args .self) (s .args .mask) (m .before .before .and .ensures) (m .before .and2 .ensures) (k .before .or .ensures)
-    (c .before .or2 .ensures) (c .minus2 .ensures) (omega arith) (omega (arith, q .if4 .taken)) (mask-fits s) (undecided-fits s)
+    edge-exactly (s .args .self) (s .args .mask) (m .before .before .and .ensures) (m .before .and2 .ensures) (c .before .or .ensures)
+    (c .with-decided2 .ensures) (omega (arith, is-none l)) (omega (arith, is-none l, q .before .rest2 .ensures)) (mask-fits s)
+    (undecided-fits s)
 
 none-requires : tie.Need-none-requires
 none-requires c κs = search needs
 
+with-decided-requires-3 : tie.Need-with-decided-requires-3
+with-decided-requires-3 c κs = search needs
+
 returns-5 : tie.Need-returns-5
 returns-5 c =
-    let k = known (c .before .before) in
-    let m = not-above k in
+    let q = c .before .before .before in
+    let l = none-more q in
+    let m = none l in
+    let s = start m in
+    edge-more (s .args .self) (s .args .mask) (m .before .before .and .ensures) (m .before .and2 .ensures) (c .before .none .ensures)
+    (c .with-decided3 .ensures) (omega (arith, is-none l)) (omega (arith, is-none l, q .before .rest2 .ensures)) (undecided-fits s)
+
+count-requires-6 : tie.Need-count-requires-6
+count-requires-6 c κs = search needs
+
+returns-6 : tie.Need-returns-6
+returns-6 c =
+    let m = one (c .before) in
     let a = start m .args in
-    edge-more (a .self) (a .mask) (m .before .before .and .ensures) (m .before .and2 .ensures) (k .before .or .ensures)
-    (c .none .ensures) (omega arith) (omega arith)
+    edge-few (a .self) (a .mask) (m .before .before .and .ensures) (m .before .and2 .ensures) (omega arith)
+
+count-requires-7 : tie.Need-count-requires-7
+count-requires-7 c κs = search needs
+
+or-requires-2 : tie.Need-or-requires-2
+or-requires-2 c κs = search needs
+
+with-decided-requires-4 : tie.Need-with-decided-requires-4
+with-decided-requires-4 c κs = search needs
+
+returns-7 : tie.Need-returns-7
+returns-7 c =
+    let l = one-more (c .before .before .before) in
+    let m = one l in
+    let s = start m in
+    edge-exactly (s .args .self) (s .args .mask) (m .before .before .and .ensures) (m .before .and2 .ensures) (c .before .or2 .ensures)
+    (c .with-decided4 .ensures) (omega (arith, is-one l)) (omega (arith, is-one l)) (mask-fits s) (undecided-fits s)
+
+none-requires-2 : tie.Need-none-requires-2
+none-requires-2 c κs = search needs
+
+with-decided-requires-5 : tie.Need-with-decided-requires-5
+with-decided-requires-5 c κs = search needs
+
+returns-8 : tie.Need-returns-8
+returns-8 c =
+    let l = one-more (c .before .before .before) in
+    let m = one l in
+    let s = start m in
+    edge-more (s .args .self) (s .args .mask) (m .before .before .and .ensures) (m .before .and2 .ensures) (c .before .none2 .ensures)
+    (c .with-decided5 .ensures) (omega (arith, is-one l)) (omega (arith, is-one l)) (undecided-fits s)
 
 pub settled-on-spec : {M : Type 1} → statement M
 settled-on-spec =
@@ -118,15 +179,25 @@ settled-on-spec =
     rest-requires
     count-requires-2
     returns
-    minus-requires
+    with-decided-requires
     returns-2
-    or-requires
     count-requires-3
+    count-requires-4
     returns-3
     rest-requires-2
-    count-requires-4
-    or-requires-2
-    minus-requires-2
+    count-requires-5
+    or-requires
+    with-decided-requires-2
     returns-4
     none-requires
-    returns-5)
+    with-decided-requires-3
+    returns-5
+    count-requires-6
+    returns-6
+    count-requires-7
+    or-requires-2
+    with-decided-requires-4
+    returns-7
+    none-requires-2
+    with-decided-requires-5
+    returns-8)
