@@ -4,6 +4,7 @@ use nibgravel_reference::convert::{convert, Answer};
 use nibgravel_reference::desk::Converter;
 use nibgravel_reference::drawing::Source;
 use nibgravel_reference::fast;
+use nibgravel_reference::gen::growing::growing;
 use nibgravel_reference::gen::named::named;
 use nibgravel_reference::gen::rng::Rng;
 use nibgravel_reference::gen::sheets::{changed, counted_drawing};
@@ -18,7 +19,7 @@ const MOST_BENCH_WORK: u32 = 1_000;
 pub fn bench(args: &Args) -> Result<(), String> {
     args.allow(1, &[])?;
     say(&format!("{:30} {:>12} {:>12} {:>9}  answer\n", "microseconds", "fast", "clear", "work"))?;
-    for (name, d) in named() {
+    for (name, d) in named().into_iter().map(|(name, d)| (name.to_string(), d)).chain(growing()) {
         let sheet = pack_sheet(&d);
         let ((fast_time, answer), (clear_time, same)) = (best(fast::convert, &sheet), best(convert, &sheet));
         if answer != same {

@@ -9,6 +9,7 @@ pub mod damage;
 pub mod extremes;
 pub mod families;
 pub mod flat;
+pub mod growing;
 pub mod known;
 pub mod limits;
 pub mod lists;

@@ -3,6 +3,7 @@ use nibgravel_reference::drawing::Source;
 use nibgravel_reference::fast;
 use nibgravel_reference::gen::damage::damaged_sheet;
 use nibgravel_reference::gen::flat::{convex, star};
+use nibgravel_reference::gen::growing::{growing, size};
 use nibgravel_reference::gen::rng::Rng;
 use nibgravel_reference::gen::sheets::{any_sheet, counted_drawing};
 use nibgravel_reference::numbers::*;
@@ -41,4 +42,22 @@ fn polygons_have_the_corners_asked_for() {
         assert!(sides(&steps).all(|(a, b)| a[0] * b[1] - a[1] * b[0] > 0), "{corners} corners, each below 180 degrees");
     }
     (3..=13).for_each(|corners| assert_eq!(star(&mut r, corners, 12).len(), corners));
+}
+
+#[test]
+fn families_grow_up_to_known_sizes() {
+    let sizes: Vec<(String, Vec<usize>)> = growing().iter().map(|(name, d)| (name.clone(), size(d))).collect();
+    for family in sizes.chunks(4) {
+        let grows = |pair: &[(String, Vec<usize>)]| (0..4).all(|k| pair[0].1[k] < pair[1].1[k]);
+        assert!(family.windows(2).all(grows), "{family:?}");
+    }
+    let largest: Vec<(&str, &[usize])> =
+        sizes.iter().skip(3).step_by(4).map(|(name, size)| (&name[..], &size[..])).collect();
+    let known: [(&str, &[usize]); 4] = [
+        ("prism_12", &[24, 36, 14, 14, 0]),
+        ("boxes_7", &[32, 60, 108, 36, 0]),
+        ("joined_8", &[8, 28, 56, 56, 45_242]),
+        ("octahedra_5", &[26, 60, 55, 55, 484]),
+    ];
+    assert_eq!(largest, known);
 }
