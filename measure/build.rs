@@ -4,4 +4,5 @@ fn main() {
         env!("CARGO_MANIFEST_DIR")
     );
     println!("cargo:rustc-link-lib=static=measured");
+    println!("cargo:rustc-link-lib=static=export");
 }

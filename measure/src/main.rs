@@ -1,12 +1,16 @@
 //! Runs each stage of a conversion once, and the conversion as a whole, by the proved archive and by the reference's fast version, on the
 //! named drawing or on 1,000 generated ones, and holds the two to each other. `tools/measure` counts what each stage executes. With the
-//! word `stack` it only converts, and prints how many bytes of stack that took at most, proved and fast.
+//! word `stack` it prints how many bytes of stack were taken at most: by a conversion by the fast version, and then, by the archive for C
+//! and Rust, by a conversion of two lists, and by a conversion, a reading and a check of a sheet. With the word `size` it prints how many
+//! vertices, edges, loops, candidates and assumptions there are; without a name, the names of the families that grow.
+mod entries;
 mod plain;
 mod proved;
 mod stack;
 
 use nibgravel_reference::drawing::{Drawing, Source};
 use nibgravel_reference::fast;
+use nibgravel_reference::gen::growing::{growing, size};
 use nibgravel_reference::gen::named::named;
 use nibgravel_reference::gen::rng::Rng;
 use nibgravel_reference::gen::sheets::{changed, counted_drawing};
@@ -55,14 +59,12 @@ fn conversion(d: &Drawing, lists: &Lists) {
     assert_eq!(proved, fast);
 }
 
-/// How many bytes of stack a conversion takes, proved and fast.
-fn stack_of(d: &Drawing) -> (usize, usize) {
-    let (lists, (xyz, ends)) = (lists(d), d.lists());
+/// How many bytes of stack a conversion takes by the fast version, and then what is called by the archive for C and Rust.
+fn stack_of(d: &Drawing) -> Vec<usize> {
+    let (xyz, ends) = d.lists();
     let mut rooms = NO_ROOMS;
-    (
-        stack::bytes(|| proved_conversion(black_box(&lists), &mut rooms)),
-        stack::bytes(|| fast_conversion(black_box(&xyz), black_box(&ends), &mut rooms)),
-    )
+    let fast = stack::bytes(|| fast_conversion(black_box(&xyz), black_box(&ends), &mut rooms));
+    [&[fast], &entries::stack_of(d, &lists(d))[..]].concat()
 }
 
 /// The tables and the walk.
@@ -137,31 +139,41 @@ fn drawings(name: &str) -> Vec<Drawing> {
         };
         return (0..1_000).map(|_| generated()).collect();
     }
-    let named = named();
-    named
-        .into_iter()
-        .filter(|(known, _)| *known == name)
+    let known = named().into_iter().map(|(known, d)| (known.to_string(), d));
+    known
+        .chain(growing())
+        .filter(|(known, _)| known == name)
         .map(|(_, d)| d)
         .collect()
 }
 
+/// The most of each number.
+fn say_most(drawings: &[Drawing], numbers: impl Fn(&Drawing) -> Vec<usize>) {
+    let read = |d: &&Drawing| fast::Drawing::read(Source::Sheet(&pack_sheet(d))).is_ok();
+    let mut most = vec![0; 5];
+    for numbers in drawings.iter().filter(read).map(numbers) {
+        for (high, number) in most.iter_mut().zip(numbers) {
+            *high = number.max(*high);
+        }
+    }
+    let most: Vec<String> = most.iter().map(usize::to_string).collect();
+    println!("{}", most.join(" "));
+}
+
 fn main() {
-    let name = std::env::args().nth(1).unwrap_or_default();
-    let drawings = drawings(&name);
+    let words: Vec<String> = std::env::args().skip(1).collect();
+    let Some(name) = words.first() else {
+        growing().iter().for_each(|(name, _)| println!("{name}"));
+        return;
+    };
+    let drawings = drawings(name);
     if drawings.is_empty() {
         eprintln!("no drawing `{name}`");
         std::process::exit(2);
     }
-    if std::env::args().nth(2).as_deref() == Some("stack") {
-        let read = |d: &&Drawing| fast::Drawing::read(Source::Sheet(&pack_sheet(d))).is_ok();
-        let most = |(p, f): (usize, usize), (q, g): (usize, usize)| (p.max(q), f.max(g));
-        let (proved, fast) = drawings
-            .iter()
-            .filter(read)
-            .map(stack_of)
-            .fold((0, 0), most);
-        println!("{proved} {fast}");
-        return;
+    match words.get(1).map(String::as_str) {
+        Some("stack") => say_most(&drawings, stack_of),
+        Some("size") => say_most(&drawings, size),
+        _ => drawings.iter().for_each(stages),
     }
-    drawings.iter().for_each(stages);
 }
