@@ -14,8 +14,8 @@
  * number above 0 leaves every lent list as it was.
  *
  * THREADS AND STACK. There are no globals: any number of threads may call at once, on lists of their own. A conversion was seen to take
- * 14 to 21 KB of stack from two lists, and by its deepest nesting some 31 KB are the most (docs/MEASURES.md, computed); what a sheet and a
- * reading take beside that was not measured.
+ * 12 to 15 KB of stack from two lists and 14 to 16 KB from a sheet, a reading and a check of a sheet 15 to 17 KB; by the deepest nesting
+ * some 27 KB are the most (docs/MEASURES.md, computed).
  * Nothing is allocated, and every call ends: the work limit is what bounds its time.
  *
  * Link target/staticlib/libexport.a, which `rt staticlib export` writes, for x86-64 Linux. */
