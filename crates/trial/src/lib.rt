@@ -4,8 +4,18 @@ ghost use mathlib.Core.Option.{some};
 ghost use Prim.Native.Nat.{ℕ, _+_, _≤_, _<_};
 ghost use lib.ListN.{length};
 ghost use Rattle.lists.specs.Found.{found};
+ghost use Rattle.trial.specs.Pair.{Stand};
 use libc::STDOUT_FILENO;
 use lists::Found;
+
+// Room for a book.
+pub const BOOK: usize = 262144;
+
+// Where two items end.
+pub enum Pair {
+    Nothing,
+    Ends(usize, usize),
+}
 
 pub fn say(text: &[u8]) {
     io::write_all(STDOUT_FILENO, text);
@@ -45,4 +55,17 @@ pub fn end_of(book: &[u8], at: usize) -> Found
         return Found::Nothing;
     }
     Found::Value(at + 2 + size)
+}
+
+// The same of two items, one behind the other.
+pub fn ends_of(book: &[u8], at: usize) -> Pair
+    ensures { λ r. ⌜ Stand (now (book .entry)) at r ⌝ }
+{
+    let Found::Value(middle) = end_of(book, at) else {
+        return Pair::Nothing;
+    };
+    let Found::Value(end) = end_of(book, middle) else {
+        return Pair::Nothing;
+    };
+    Pair::Ends(middle, end)
 }

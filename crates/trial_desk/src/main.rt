@@ -2,9 +2,8 @@
 use desk_print::print_text;
 use libc::STDIN_FILENO;
 use lists::Found;
+use trial::BOOK;
 use trial::end_of;
-
-const BOOK: usize = 262144;
 
 fn show_all(book: &[u8]) {
     let mut at: usize = 0;

@@ -8,12 +8,12 @@ use clash::clash;
 use cover::covers;
 use drawing_rules::drawing_rules;
 use libc::STDIN_FILENO;
-use lists::Found;
 use paper::Answer;
 use paper::Drawing;
 use paper::Point;
 use polygon::rings::normal;
-use trial::end_of;
+use trial::Pair;
+use trial::ends_of;
 use trial::say;
 use trial::say_number;
 use trial::say_refused;
@@ -101,11 +101,8 @@ fn show(s: &[u8], list: &[u8]) {
 fn show_all(book: &[u8]) {
     let mut at: usize = 0;
     while at < book.len() {
-        let Found::Value(middle) = end_of(book, at) else {
-            return
-        };
-        let Found::Value(end) = end_of(book, middle) else {
-            return
+        let Pair::Ends(middle, end) = ends_of(book, at) else {
+            return;
         };
         show(&book[at + 2..middle], &book[middle + 2..end]);
         at = end;

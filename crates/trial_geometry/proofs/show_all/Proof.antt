@@ -1,10 +1,7 @@
--- `trial_geometry::show_all`: the loop keeps that the place is in the book; each item ends in it, behind its start. Assumes
--- nothing.
-use mathlib.Core.Path.{sym, ap}
+-- `trial_geometry::show_all`: the loop keeps that the place is in the book; each pair ends in it, behind its start. Assumes nothing.
 use Prim.Native.Nat.{_-_, _≤_, _+_}
 use lib.ListN.{length}
 use native.Mathlib.Omega.{arith}
-use Rattle.lists.specs.Found.{found}
 use Rattle.trial_geometry.proofs.show_all.Statement.{statement}
 use Rattle.trial_geometry.proofs.show_all.Tie as tie
 
@@ -14,35 +11,21 @@ Inv-loop book at₀ at = at ≤ length book
 abbrev μ-loop : tie.MeasureT-loop
 μ-loop book at₀ at = length book - at
 
--- ---- where the two items end
+-- where the two items end
+ends-in : (c : tie.After-known-told Inv-loop μ-loop)
+    → let l = c .before .before .before .before .before in
+    let k = c .before .middle .given .0 in
+    (l .loop .at + 2 ≤ k .0) × (k .0 + 2 ≤ k .1 .0) × (k .1 .0 ≤ length (l .before .before .args .book .now))
+ends-in c = c .before .before .before .ends-of .ensures _ _ (c .before .middle .given .1)
 
--- of the first
-middle-in : (c : tie.After-middle Inv-loop μ-loop)
-    → let l = c .before .before .before .before in
-    let k = c .middle .given .0 .0 in
-    (l .loop .at + 2 ≤ k) × (k ≤ length (l .before .before .args .book .now))
-middle-in c = c .before .before .end-of .ensures _ (sym (ap found (c .middle .given .1)))
-
--- of the second
-abbrev between : tie.After-known-told2 Inv-loop μ-loop → tie.After-middle Inv-loop μ-loop
-between c = c .before .before .before .before .before
-
-end-in : (c : tie.After-known-told2 Inv-loop μ-loop)
-    → let m = between c in
-    let k = c .before .end .given .0 .0 in
-    (m .middle .given .0 .0 + 2 ≤ k) × (k ≤ length (m .before .before .before .before .before .before .args .book .now))
-end-in c = c .before .before .before .end-of2 .ensures _ (sym (ap found (c .before .end .given .1)))
-
-abbrev shown : tie.After-show Inv-loop μ-loop → tie.After-known-told2 Inv-loop μ-loop
+abbrev shown : tie.After-show Inv-loop μ-loop → tie.After-known-told Inv-loop μ-loop
 shown c = c .before .before .before
-
--- ---- the needs
 
 loop-holds : tie.Need-loop-holds Inv-loop μ-loop
 loop-holds c = omega arith
 
-end-of-requires : tie.Need-end-of-requires Inv-loop μ-loop
-end-of-requires c κs = omega arith
+ends-of-requires : tie.Need-ends-of-requires Inv-loop μ-loop
+ends-of-requires c κs = omega arith
 
 enum-known-middle : tie.Need-enum-known-middle Inv-loop μ-loop
 enum-known-middle c = omega arith
@@ -53,53 +36,41 @@ enum-told c = omega arith
 returns : tie.Need-returns Inv-loop μ-loop
 returns c = omega arith
 
-end-of-requires-2 : tie.Need-end-of-requires-2 Inv-loop μ-loop
-end-of-requires-2 c κs = omega arith
-
-enum-known-end : tie.Need-enum-known-end Inv-loop μ-loop
-enum-known-end c = omega arith
-
-enum-told-2 : tie.Need-enum-told-2 Inv-loop μ-loop
-enum-told-2 c = omega arith
-
-returns-2 : tie.Need-returns-2 Inv-loop μ-loop
-returns-2 c = omega arith
-
 add-show : tie.Need-add-show Inv-loop μ-loop
-add-show c = omega (arith, middle-in (between c), end-in c)
+add-show c = omega (arith, ends-in c)
 
 sub-show : tie.Need-sub-show Inv-loop μ-loop
-sub-show c = omega (arith, middle-in (between c), end-in c)
+sub-show c = omega (arith, ends-in c)
 
 part-show-start : tie.Need-part-show-start Inv-loop μ-loop
-part-show-start c = omega (arith, middle-in (between c), end-in c)
+part-show-start c = omega (arith, ends-in c)
 
 part-show-end : tie.Need-part-show-end Inv-loop μ-loop
-part-show-end c = omega (arith, middle-in (between c), end-in c)
+part-show-end c = omega (arith, ends-in c)
 
 add-show-2 : tie.Need-add-show-2 Inv-loop μ-loop
-add-show-2 c = omega (arith, middle-in (between (c .before)), end-in (c .before))
+add-show-2 c = omega (arith, ends-in (c .before))
 
 sub-show-2 : tie.Need-sub-show-2 Inv-loop μ-loop
-sub-show-2 c = omega (arith, middle-in (between (c .before)), end-in (c .before))
+sub-show-2 c = omega (arith, ends-in (c .before))
 
 part-show-start-2 : tie.Need-part-show-start-2 Inv-loop μ-loop
-part-show-start-2 c = omega (arith, middle-in (between (c .before)), end-in (c .before))
+part-show-start-2 c = omega (arith, ends-in (c .before))
 
 part-show-end-2 : tie.Need-part-show-end-2 Inv-loop μ-loop
-part-show-end-2 c = omega (arith, middle-in (between (c .before)), end-in (c .before))
+part-show-end-2 c = omega (arith, ends-in (c .before))
 
 show-requires : tie.Need-show-requires Inv-loop μ-loop
 show-requires c κs = omega arith
 
 loop-less : tie.Need-loop-less Inv-loop μ-loop
-loop-less c = omega (arith, middle-in (between (shown c)), end-in (shown c))
+loop-less c = omega (arith, ends-in (shown c))
 
 loop-again : tie.Need-loop-again Inv-loop μ-loop
-loop-again c = omega (arith, middle-in (between (shown c)), end-in (shown c))
+loop-again c = omega (arith, ends-in (shown c))
 
-returns-3 : tie.Need-returns-3 Inv-loop μ-loop
-returns-3 c = omega arith
+returns-2 : tie.Need-returns-2 Inv-loop μ-loop
+returns-2 c = omega arith
 
 pub show-all-spec : {M : Type 1} → statement M
 show-all-spec =
@@ -108,14 +79,10 @@ show-all-spec =
     Inv-loop
     μ-loop
     loop-holds
-    end-of-requires
+    ends-of-requires
     enum-known-middle
     enum-told
     returns
-    end-of-requires-2
-    enum-known-end
-    enum-told-2
-    returns-2
     add-show
     sub-show
     part-show-start
@@ -127,4 +94,4 @@ show-all-spec =
     show-requires
     loop-less
     loop-again
-    returns-3)
+    returns-2)
