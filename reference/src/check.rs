@@ -23,6 +23,14 @@ pub fn check(source: Source, list: &[u8]) -> Result<(), Refusal> {
     no_clash(&points)
 }
 
+/// The line of an answer.
+pub fn verdict(sheet: &[u8], list: &[u8]) -> String {
+    match check(Source::Sheet(sheet), list) {
+        Ok(()) => "accepted\n".to_string(),
+        Err(refusal) => format!("refused {} {}\n", refusal.number, refusal.place),
+    }
+}
+
 /// 21 and 22.
 fn each_a_candidate_once(passed: &Passed, faces: &[Loop]) -> Result<(), Refusal> {
     let normal: Vec<Loop> = faces.iter().map(|face| normal_form(face)).collect();

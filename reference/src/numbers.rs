@@ -17,6 +17,8 @@ pub const FACE_ROW: usize = 13;
 pub const FACE_FILL: u8 = 255;
 pub const FACE_ROOM: usize = 832;
 pub const SOLID_ROOM: usize = 24;
+/// Bytes of the longest face list.
+pub const LONGEST_LIST: usize = 338;
 
 /// Widths of the packed fields, in bits.
 pub mod width {

@@ -1,4 +1,6 @@
 //! What the trial programs read, and what they must print of it by the clear version.
+use crate::calls::sheets_with_lists;
+use crate::check::verdict;
 use crate::clash::clash;
 use crate::convert::{convert, Answer};
 use crate::cover::{find_candidates, polygon_covers};
@@ -6,8 +8,10 @@ use crate::desk::desk;
 use crate::drawing::{Drawing, Loop, Source};
 use crate::face_list::{pack_faces, read_faces};
 use crate::fast;
+use crate::gen::extreme_lists::extreme_lists;
 use crate::gen::extremes::{extreme_drawings, extreme_sheets};
-use crate::gen::limits::{all_but_three, flat_128, flat_129, nine_solids};
+use crate::gen::limits::{all_but_three, faces_with, flat_128, flat_129, nine_solids};
+use crate::gen::lists::{any_list, from_any_corners, sent_solids};
 use crate::gen::named::named;
 use crate::gen::rng::Rng;
 use crate::gen::scenes::{four_polygons, ruled_drawing};
@@ -168,18 +172,62 @@ pub fn walks(seed: u64, count: u64) -> Trial {
     trial
 }
 
-/// Sheets at the desk: the extreme ones, drawings with each of 11 to 14 at its first and last place, those at the limits of 15, 16
-/// and 18, the named ones, and generated ones of every sort.
+/// Sheets at the ends of what is refused: the extreme ones, drawings with each of 11 to 14 at its first and last place, and those at the
+/// limits of 15, 16 and 18.
+fn sheets_at_limits() -> Vec<Vec<u8>> {
+    let limits = [flat_128(), flat_129(), all_but_three(false), all_but_three(true), nine_solids()];
+    let drawings = extreme_drawings().into_iter().chain(limits);
+    extreme_sheets().into_iter().chain(drawings.map(|d| pack_sheet(&d))).collect()
+}
+
+/// Sheets at the desk: those at the limits, the named ones, and generated ones of every sort.
 pub fn desks(seed: u64, count: u64) -> Trial {
     let mut trial = Trial::default();
-    let limits = [flat_128(), flat_129(), all_but_three(false), all_but_three(true), nine_solids()];
-    let drawings = extreme_drawings().into_iter().chain(limits).chain(named().into_iter().map(|(_, d)| d));
+    let named = named().into_iter().map(|(_, d)| pack_sheet(&d));
     let generated = (0..count).map(|k| any_sheet(&mut Rng::of_case(seed, k)));
-    for sheet in extreme_sheets().into_iter().chain(drawings.map(|d| pack_sheet(&d))).chain(generated) {
+    for sheet in sheets_at_limits().into_iter().chain(named).chain(generated) {
         trial.put(&sheet);
         trial.output += &desk(&sheet);
     }
     trial
+}
+
+/// Sheets, each with a face list: those at the limits, extreme lists, solids, and generated ones of every sort.
+pub fn checks(seed: u64, count: u64) -> Trial {
+    let mut trial = Trial::default();
+    let at_limits = sheets_at_limits().into_iter().map(|sheet| (sheet, faces_with(|_| {})));
+    let extreme = extreme_lists().into_iter().map(|(d, list)| (pack_sheet(&d), list));
+    let generated = sheets_with_lists(seed, count);
+    for (sheet, list) in at_limits.chain(extreme).chain(solids(seed)).chain(generated) {
+        trial.put(&sheet);
+        trial.put(&list);
+        trial.output += &verdict(&sheet, &list);
+    }
+    trial
+}
+
+/// Each solid of reports, those of the named drawings and some of two solids, as it is sent and in any order from any corners; and some of
+/// nine, of which there is no report.
+fn solids(seed: u64) -> Vec<(Vec<u8>, Vec<u8>)> {
+    let mut r = Rng::new(seed);
+    let sent = |sheet: &[u8]| sent_solids(Source::Sheet(sheet), MOST_WORK);
+    let named = named().into_iter().map(|(_, d)| pack_sheet(&d));
+    let of_two: Vec<Vec<u8>> = (0..4).map(|_| aimed(&mut r, any_sheet, |sheet| sent(sheet).len() == 2)).collect();
+    let mut pairs = vec![];
+    for sheet in named.chain(of_two) {
+        for mut faces in sent(&sheet) {
+            pairs.push((sheet.clone(), pack_faces(&faces)));
+            from_any_corners(&mut r, &mut faces);
+            r.shuffle(&mut faces);
+            pairs.push((sheet.clone(), pack_faces(&faces)));
+        }
+    }
+    let many = pack_sheet(&nine_solids());
+    pairs.extend((0..4).map(|_| {
+        let source = Source::Sheet(&many);
+        (many.clone(), aimed(&mut r, |r| any_list(r, source), |list| fast::check(source, list).is_ok()))
+    }));
+    pairs
 }
 
 /// The assumptions of a whole walk; none where the drawing is refused.

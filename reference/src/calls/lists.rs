@@ -1,13 +1,12 @@
 //! Face lists for calls of the check: any list of the corpus, and solids in any order and from any corner, as they are or spoiled at
 //! their first or last face.
-use crate::convert::Answer;
 use crate::drawing::{Drawing, Loop, Source};
-use crate::face_list::{pack_faces, read_faces, send_solid};
-use crate::fast::{check, convert};
+use crate::face_list::{pack_faces, read_faces};
+use crate::fast::check;
 use crate::gen::bodies::dented;
 use crate::gen::change::{affine, renumbered};
 use crate::gen::known::{nested_cubes, octahedron, two_tetrahedra};
-use crate::gen::lists::any_list;
+use crate::gen::lists::{any_list, from_any_corners, sent_solids, LIMIT};
 use crate::gen::maker::ordered;
 use crate::gen::rng::Rng;
 use crate::numbers::*;
@@ -63,15 +62,12 @@ fn clashing_last(r: &mut Rng, source: Source, mut list: Vec<u8>) -> Vec<u8> {
 
 /// A reported solid's faces, in any order and from any corners.
 fn solid(r: &mut Rng, source: Source) -> Option<Vec<Loop>> {
-    let (mut rows, mut words, mut list) = ([0; FACE_ROOM], [0; SOLID_ROOM], [0; 400]);
-    let Answer::Report { solids, .. } = convert(source, 200, &mut rows, &mut words) else { return None };
-    let solid = 3 * r.below(solids as usize);
-    let length = send_solid(&rows, words[solid], words[solid + 1], &mut list).ok()?;
-    let mut faces = read_faces(&list[..length], *VERTICES.end())?;
-    for face in &mut faces {
-        let start = r.below(face.len());
-        face.rotate_left(start);
+    let mut solids = sent_solids(source, LIMIT);
+    if solids.is_empty() {
+        return None;
     }
+    let mut faces = solids.swap_remove(r.below(solids.len()));
+    from_any_corners(r, &mut faces);
     r.shuffle(&mut faces);
     Some(faces)
 }

@@ -30,9 +30,8 @@ const WRITE_FACES: u8 = 6;
 const CHECK: u8 = 7;
 const CHECK_SHEET: u8 = 8;
 
-/// Bytes of the longest sheet and of the longest face list.
+/// Bytes of the longest sheet.
 const LONGEST_SHEET: usize = 215;
-const LONGEST_LIST: usize = 338;
 
 /// Drawings of more work than this are walked under a lower limit.
 const MOST_CALLED_WORK: u64 = 2_000;
@@ -57,7 +56,7 @@ const TURNS: [u8; 14] = [
 
 /// So many calls.
 pub fn calls(seed: u64, count: u64) -> Vec<u8> {
-    let drawings: Vec<Drawing> = named().into_iter().map(|(_, d)| d).collect();
+    let drawings = named_drawings();
     let mut stream = Stream::default();
     for k in 0..count as usize {
         let mut r = Rng::of_case(seed, k as u64);
@@ -65,6 +64,22 @@ pub fn calls(seed: u64, count: u64) -> Vec<u8> {
         case.call(&mut r, &mut stream, TURNS[k % TURNS.len()]);
     }
     stream.bytes
+}
+
+/// So many sheets, each with a face list to check against it, as calls have them.
+pub fn sheets_with_lists(seed: u64, count: u64) -> impl Iterator<Item = (Vec<u8>, Vec<u8>)> {
+    let drawings = named_drawings();
+    (0..count as usize).map(move |k| {
+        let case = Case { turn: k, drawings: &drawings };
+        match case.to_check(&mut Rng::of_case(seed, k as u64), true) {
+            (Lent::Sheet(sheet), list) => (sheet, list),
+            _ => unreachable!(),
+        }
+    })
+}
+
+fn named_drawings() -> Vec<Drawing> {
+    named().into_iter().map(|(_, d)| d).collect()
 }
 
 struct Case<'a> {
@@ -228,7 +243,8 @@ impl Case<'_> {
         self.tell(r, stream, &said);
     }
 
-    fn check(&self, r: &mut Rng, stream: &mut Stream, sheet: bool) {
+    /// A drawing, and a face list to check against it.
+    fn to_check(&self, r: &mut Rng, sheet: bool) -> (Lent, Vec<u8>) {
         let lent = match bodies_for(r, self.turn) {
             Some(d) if sheet => Lent::Sheet(pack_sheet(&d)),
             Some(d) => {
@@ -238,6 +254,11 @@ impl Case<'_> {
             None => self.lent(r, sheet),
         };
         let list = list_for(r, lent.source(), self.turn);
+        (lent, list)
+    }
+
+    fn check(&self, r: &mut Rng, stream: &mut Stream, sheet: bool) {
+        let (lent, list) = self.to_check(r, sheet);
         let verdict = fast::check(lent.source(), &list);
         assert!(verdict == check(lent.source(), &list), "the versions differ");
         lent.put(stream);

@@ -1,6 +1,6 @@
 //! `gen`: a corpus with expected outputs.
 use super::args::Args;
-use super::texts::verdict;
+use nibgravel_reference::check::verdict;
 use nibgravel_reference::desk::desk;
 use nibgravel_reference::drawing::Source;
 use nibgravel_reference::gen::lists::any_list;

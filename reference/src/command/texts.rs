@@ -1,10 +1,9 @@
 //! `desk`, `check`, `rows`, `limits` and `calls`: what the reference says.
 use super::args::{say, Args};
 use nibgravel_reference::calls;
-use nibgravel_reference::check::check as check_list;
+use nibgravel_reference::check::verdict;
 use nibgravel_reference::convert::convert;
 use nibgravel_reference::desk::desk_with;
-use nibgravel_reference::drawing::Source;
 use nibgravel_reference::fast;
 use nibgravel_reference::numbers::MOST_SOLIDS;
 use nibgravel_reference::rows::{self, row, Order, ANY, KINDS, SMALL};
@@ -22,14 +21,6 @@ pub fn check(args: &Args) -> Result<(), String> {
     args.allow(3, &[])?;
     let read = |path: &str| std::fs::read(path).map_err(|e| format!("{path}: {e}"));
     say(&verdict(&read(args.path(1)?)?, &read(args.path(2)?)?))
-}
-
-/// The line of a check's answer.
-pub fn verdict(sheet: &[u8], list: &[u8]) -> String {
-    match check_list(Source::Sheet(sheet), list) {
-        Ok(()) => "accepted\n".to_string(),
-        Err(refusal) => format!("refused {} {}\n", refusal.number, refusal.place),
-    }
 }
 
 pub fn rows(args: &Args) -> Result<(), String> {

@@ -2,7 +2,7 @@
 use super::args::Args;
 use nibgravel_reference::numbers::MOST_SOLIDS;
 use nibgravel_reference::rows::{Order, SMALL};
-use nibgravel_reference::trial::{desks, geometry, loops, sheets, walks};
+use nibgravel_reference::trial::{checks, desks, geometry, loops, sheets, walks};
 use std::fs;
 use std::path::Path;
 
@@ -15,7 +15,8 @@ pub fn trial(args: &Args) -> Result<(), String> {
         Some("loops") => loops(seed, count),
         Some("walk") => walks(seed, count),
         Some("desk") => desks(seed, count),
-        _ => return Err("a trial is of kind sheet, geometry, loops, walk or desk".to_string()),
+        Some("check") => checks(seed, count),
+        _ => return Err("a trial is of kind sheet, geometry, loops, walk, desk or check".to_string()),
     };
     let dir = Path::new(args.path(2)?);
     fs::write(dir.join("stdin"), trial.input)

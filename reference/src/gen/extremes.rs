@@ -33,16 +33,18 @@ pub fn extreme_sheets() -> Vec<Vec<u8>> {
 
 /// 4 and 5.
 fn wrong_heads(sheet: &[u8]) -> Vec<Vec<u8>> {
-    let head = |at: usize, width: usize, values: &[u32]| -> Vec<Vec<u8>> {
-        values.iter().map(|value| put(sheet.to_vec(), at, width, *value)).collect()
-    };
-    let vertices = head(width::EDITION, width::VERTICES, &[0, 3, 33, 63]);
-    let edges = head(width::EDITION + width::VERTICES, width::EDGES, &[0, 5, 65, 127]);
-    [head(0, width::EDITION, &[0, 2, 15]), vertices, edges].concat()
+    let vertices = with_field(sheet, width::EDITION, width::VERTICES, &[0, 3, 33, 63]);
+    let edges = with_field(sheet, width::EDITION + width::VERTICES, width::EDGES, &[0, 5, 65, 127]);
+    [with_field(sheet, 0, width::EDITION, &[0, 2, 15]), vertices, edges].concat()
+}
+
+/// Bytes with a field overwritten by each of some values.
+pub fn with_field(bytes: &[u8], at: usize, width: usize, values: &[u32]) -> Vec<Vec<u8>> {
+    values.iter().map(|value| put(bytes.to_vec(), at, width, *value)).collect()
 }
 
 /// 6 and 7: a byte less, a byte more, the last bit set.
-fn wrong_ends(sheet: &[u8]) -> [Vec<u8>; 3] {
+pub fn wrong_ends(sheet: &[u8]) -> [Vec<u8>; 3] {
     let last = sheet.len() - 1;
     [sheet[..last].to_vec(), [sheet, &[0]].concat(), put(sheet.to_vec(), 8 * last + 7, 1, 1)]
 }

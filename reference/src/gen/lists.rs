@@ -3,12 +3,13 @@ use super::rng::Rng;
 use super::sheets::flipped;
 use crate::convert::Answer;
 use crate::drawing::{Loop, Source};
-use crate::face_list::pack_faces;
+use crate::face_list::{pack_faces, read_faces, send_solid};
 use crate::fast::{self, convert, drawing_rules, Members, Passed, Tables, Walk};
 use crate::numbers::*;
 use crate::vector::sides;
 
-const LIMIT: u64 = 200;
+/// Of the work of drawings whose solids are sent.
+pub const LIMIT: u64 = 200;
 
 /// A packed face list, good or bad, for this drawing.
 pub fn any_list(r: &mut Rng, source: Source) -> Vec<u8> {
@@ -18,10 +19,7 @@ pub fn any_list(r: &mut Rng, source: Source) -> Vec<u8> {
         return list[..r.count(0, list.len())].to_vec();
     };
     let mut faces = any_faces(r, source, &passed);
-    for face in &mut faces {
-        let start = r.below(face.len());
-        face.rotate_left(start);
-    }
+    from_any_corners(r, &mut faces);
     if r.chance(60) {
         r.shuffle(&mut faces);
     }
@@ -31,6 +29,26 @@ pub fn any_list(r: &mut Rng, source: Source) -> Vec<u8> {
         }
     }
     spoiled_bytes(r, pack_faces(&faces))
+}
+
+/// Each face from any of its corners.
+pub fn from_any_corners(r: &mut Rng, faces: &mut [Loop]) {
+    for face in faces {
+        let start = r.below(face.len());
+        face.rotate_left(start);
+    }
+}
+
+/// The faces of each solid of a report, as they are sent; none where there is no report.
+pub fn sent_solids(source: Source, limit: u64) -> Vec<Vec<Loop>> {
+    let (mut rows, mut words) = ([0; FACE_ROOM], [0; SOLID_ROOM]);
+    let Answer::Report { solids, .. } = convert(source, limit, &mut rows, &mut words) else { return vec![] };
+    let sent = |word: &[u64]| {
+        let mut list = [0; LONGEST_LIST];
+        let length = send_solid(&rows, word[0], word[1], &mut list).ok()?;
+        read_faces(&list[..length], *VERTICES.end())
+    };
+    words.chunks(3).take(solids as usize).filter_map(sent).collect()
 }
 
 /// Mostly as they are; or bits turned over, cut off, too long, of another edition, or with a bit set at the end.

@@ -6,6 +6,7 @@ pub mod cells;
 pub mod change;
 pub mod crowded;
 pub mod damage;
+pub mod extreme_lists;
 pub mod extremes;
 pub mod families;
 pub mod flat;

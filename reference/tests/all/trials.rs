@@ -1,8 +1,11 @@
 //! The trials: every answer that they are made for is met, and the same seed gives the same trial and the same calls.
+use crate::common::checked;
 use nibgravel_reference::calls::calls;
+use nibgravel_reference::drawing::Source;
 use nibgravel_reference::numbers::*;
 use nibgravel_reference::rows::{Order, SMALL};
-use nibgravel_reference::trial::{geometry, sheets, walks};
+use nibgravel_reference::trial::{checks, geometry, sheets, walks};
+use std::collections::BTreeSet;
 
 fn met(output: &str, line: &str) -> bool {
     output.lines().any(|l| l.starts_with(line))
@@ -72,9 +75,74 @@ fn a_walk_is_told_in_a_line() {
     assert_eq!(octahedron[2], "loops 11 candidates 11 work 3 too long");
 }
 
+/// The items of a book.
+fn items(book: &[u8]) -> Vec<&[u8]> {
+    let (mut items, mut rest) = (vec![], book);
+    while let [high, low, more @ ..] = rest {
+        let (item, behind) = more.split_at(256 * *high as usize + *low as usize);
+        items.push(item);
+        rest = behind;
+    }
+    items
+}
+
+#[test]
+fn checks_meet_each_number_at_its_first_and_last_place() {
+    let trial = checks(11, 0);
+    let places: [(u32, &[u32]); 22] = [
+        (3, &[0]),
+        (4, &[0]),
+        (5, &[0, 1]),
+        (6, &[0]),
+        (7, &[0]),
+        (8, &[0, 95]),
+        (9, &[0, 5]),
+        (10, &[1, 5]),
+        (11, &[0, 30]),
+        (12, &[0, 31]),
+        (13, &[0, 29]),
+        (14, &[1, 30]),
+        (15, &[0]),
+        (16, &[0]),
+        (20, &[0]),
+        (21, &[0, 41]),
+        (22, &[1, 41]),
+        (23, &[0, 63]),
+        (24, &[0, 60]),
+        (25, &[1, 38]),
+        (26, &[0]),
+        (27, &[0, 3]),
+    ];
+    let lines: BTreeSet<&str> = trial.output.lines().collect();
+    for (number, places) in places {
+        for place in places {
+            assert!(lines.contains(format!("refused {number} {place}").as_str()), "{number} {place}");
+        }
+    }
+    let accepted = trial.output.lines().rev().take_while(|line| *line == "accepted").count();
+    assert!(accepted >= 90, "{accepted}");
+}
+
+#[test]
+fn generated_checks_meet_each_number_by_both_versions() {
+    let (fixed, trial) = (checks(11, 0).output.lines().count(), checks(11, 600));
+    let mut met = BTreeSet::new();
+    for (pair, line) in items(&trial.input).chunks(2).zip(trial.output.lines()).skip(fixed) {
+        let (number, place) = checked(Source::Sheet(pair[0]), pair[1]);
+        let said = if number == 0 { "accepted".to_string() } else { format!("refused {number} {place}") };
+        assert_eq!(said, line);
+        met.insert(number);
+    }
+    assert_eq!(2 * trial.output.lines().count(), items(&trial.input).len());
+    let all: BTreeSet<u32> = [0].into_iter().chain(SHEET_SHORT..=MANY_CANDIDATES).chain(SHELL_SHAPE..=CLASH).collect();
+    assert_eq!(met, all);
+}
+
 #[test]
 fn a_seed_gives_one_trial() {
     let (a, b) = (geometry(5, 10), geometry(5, 10));
+    assert_eq!((a.input, a.output), (b.input, b.output));
+    let (a, b) = (checks(5, 60), checks(5, 60));
     assert_eq!((a.input, a.output), (b.input, b.output));
     assert_eq!(calls(5, 140), calls(5, 140));
 }
