@@ -8,6 +8,7 @@ pub mod cover;
 pub mod desk;
 pub mod drawing;
 pub mod face_list;
+pub mod ledger;
 pub mod loops;
 pub mod numbers;
 pub mod polygon;

@@ -14,6 +14,10 @@ reference: document 01 in plain Rust, in a clear version and a fast one; `refere
   reference check SHEET FACES
       checks the face list in file FACES against the sheet in file SHEET: `accepted`, or `refused`, number, place
 
+  reference ledger FOLDER
+      prints what the command for people has to write to `ledger.csv` for the sheets *.sheet of FOLDER
+      --version fast|clear   which version converts (fast)
+
   reference gen DIR
       writes a corpus with expected outputs: the named drawings, then generated and damaged sheets, each with a face
       list. Per case NAME.sheet, NAME.desk (the desk text), NAME.faces and NAME.check (the check's answer)
@@ -79,6 +83,7 @@ fn run(args: Args) -> Result<(), String> {
         Some("limits") => command::texts::limits(&args),
         Some("trial") => command::trial::trial(&args),
         Some("calls") => command::texts::calls(&args),
+        Some("ledger") => command::ledger::ledger(&args),
         Some("version") => say(concat!("reference ", env!("CARGO_PKG_VERSION"), "\n")),
         Some("help") | None => say(HELP),
         Some(other) => Err(format!("no command `{other}`; see reference --help")),

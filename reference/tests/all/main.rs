@@ -6,6 +6,7 @@ mod face_lists;
 mod facts;
 mod generators;
 mod known;
+mod ledger;
 mod places;
 mod refusals;
 mod rows;
