@@ -174,7 +174,7 @@ pub fn walks(seed: u64, count: u64) -> Trial {
 
 /// Sheets at the ends of what is refused: the extreme ones, drawings with each of 11 to 14 at its first and last place, and those at the
 /// limits of 15, 16 and 18.
-fn sheets_at_limits() -> Vec<Vec<u8>> {
+pub fn sheets_at_limits() -> Vec<Vec<u8>> {
     let limits = [flat_128(), flat_129(), all_but_three(false), all_but_three(true), nine_solids()];
     let drawings = extreme_drawings().into_iter().chain(limits);
     extreme_sheets().into_iter().chain(drawings.map(|d| pack_sheet(&d))).collect()

@@ -18,6 +18,14 @@ impl Lent {
         }
     }
 
+    /// Of a drawing that was lent as a sheet.
+    pub fn sheet(&self) -> &[u8] {
+        match self {
+            Lent::Sheet(sheet) => sheet,
+            Lent::Lists(..) => unreachable!(),
+        }
+    }
+
     pub fn put(&self, stream: &mut Stream) {
         match self {
             Lent::Sheet(sheet) => stream.list(sheet),

@@ -1,6 +1,8 @@
 //! Calls of the interface for other programs, with what each must return and leave behind, by both versions.
 mod lent;
 mod lists;
+mod pipe;
+mod said;
 mod stream;
 
 use crate::check::check;
@@ -17,6 +19,8 @@ use crate::reading::{reading, Reading};
 use crate::sheet::{pack_sheet, read_sheet, sheet_length, write_sheet};
 use lent::{any_small, bytes, enough, near, one_of, small, Lent};
 use lists::{bodies_for, list_for};
+pub use pipe::{requests, Pipe};
+use said::{refused, said, written};
 use stream::{Room, Stream};
 
 /// The functions' numbers in a stream.
@@ -71,10 +75,8 @@ pub fn sheets_with_lists(seed: u64, count: u64) -> impl Iterator<Item = (Vec<u8>
     let drawings = named_drawings();
     (0..count as usize).map(move |k| {
         let case = Case { turn: k, drawings: &drawings };
-        match case.to_check(&mut Rng::of_case(seed, k as u64), true) {
-            (Lent::Sheet(sheet), list) => (sheet, list),
-            _ => unreachable!(),
-        }
+        let (lent, list) = case.to_check(&mut Rng::of_case(seed, k as u64), true);
+        (lent.sheet().to_vec(), list)
     })
 }
 
@@ -128,8 +130,8 @@ impl Case<'_> {
     }
 
     fn read(&self, r: &mut Rng, stream: &mut Stream) {
-        let Lent::Sheet(sheet) = self.lent(r, true) else { unreachable!() };
-        let d = read_sheet(&sheet);
+        let lent = self.lent(r, true);
+        let d = read_sheet(lent.sheet());
         let (xyz, ends) = d.as_ref().map_or((vec![], vec![]), |d| d.lists());
         let (mut points, mut links) = (near(r, xyz.len(), 3 * VERTICES.end()), near(r, ends.len(), 2 * EDGES.end()));
         let said = match d {
@@ -142,7 +144,7 @@ impl Case<'_> {
                 vec![0, 0, d.vertices.len() as u64, d.edges.len() as u64]
             }
         };
-        stream.list(&sheet);
+        lent.put(stream);
         stream.room(&points);
         stream.room(&links);
         self.tell(r, stream, &said);
@@ -213,8 +215,8 @@ impl Case<'_> {
         stream.number(number);
     }
 
-    /// A solid of a report sent as a face list, or words and rows that are none.
-    fn send(&self, r: &mut Rng, stream: &mut Stream) {
+    /// The rows of a report and a solid's first two words, or rows and words that are none.
+    fn to_send(&self, r: &mut Rng) -> (Vec<u8>, u64, u64) {
         let (mut rows, mut words) = (vec![0; FACE_ROOM], [0; SOLID_ROOM]);
         let (xyz, ends) = any_small(r).lists();
         let answer = fast::convert(Source::Lists(&xyz, &ends), 200, &mut rows, &mut words);
@@ -233,6 +235,12 @@ impl Case<'_> {
             4 => rows[1 + self.turn % 60] = r.pick(&[31, 32, 255]),
             _ => {}
         }
+        (rows, taken, turned)
+    }
+
+    /// A solid sent as a face list.
+    fn send(&self, r: &mut Rng, stream: &mut Stream) {
+        let (rows, taken, turned) = self.to_send(r);
         let length = send_solid(&rows, taken, turned, &mut [0; 400]).unwrap_or(0);
         let mut room = near(r, length, LONGEST_LIST);
         let said = written(send_solid(&rows, taken, turned, &mut room.now));
@@ -272,25 +280,5 @@ impl Case<'_> {
         words.write(said);
         stream.room(&words);
         stream.number(said[0]);
-    }
-}
-
-fn refused(refusal: Refusal) -> Vec<u64> {
-    vec![refusal.number as u64, refusal.place as u64]
-}
-
-fn written(length: Result<usize, Refusal>) -> Vec<u64> {
-    length.map_or_else(refused, |length| vec![0, 0, length as u64])
-}
-
-fn said(answer: &Answer, solid_room: &[u64]) -> Vec<u64> {
-    match *answer {
-        Answer::Refused(refusal) => refused(refusal),
-        Answer::Ended { number, loops, candidates, work } => [number, work, loops, candidates].map(u64::from).to_vec(),
-        Answer::Report { loops, candidates, work, solids } => {
-            let mut said = [0, 0, loops, candidates, work, solids].map(u64::from).to_vec();
-            said.extend((solids == 1).then(|| solid_room[2]));
-            said
-        }
     }
 }

@@ -1,6 +1,6 @@
 //! The trials: every answer that they are made for is met, and the same seed gives the same trial and the same calls.
 use crate::common::checked;
-use nibgravel_reference::calls::calls;
+use nibgravel_reference::calls::{calls, requests};
 use nibgravel_reference::drawing::Source;
 use nibgravel_reference::numbers::*;
 use nibgravel_reference::rows::{Order, SMALL};
@@ -138,6 +138,33 @@ fn generated_checks_meet_each_number_by_both_versions() {
     assert_eq!(met, all);
 }
 
+/// Bytes of a reply by the request's kind.
+const REPLIES: [usize; 7] = [16, 952, 1_096, 56, 271, 394, 2_784];
+
+#[test]
+fn requests_meet_each_number_of_their_kind() {
+    let pipe = requests(11, 400);
+    let (mut input, mut output, mut met) = (&pipe.input[..], &pipe.output[..], BTreeSet::new());
+    while let Some(reply) = REPLIES.get(input[0] as usize) {
+        let length = |at: usize| 256 * input[at] as usize + input[at + 1] as usize;
+        met.insert((input[0], output[7]));
+        input = &input[13 + length(9) + length(11)..];
+        output = &output[*reply..];
+    }
+    assert_eq!((input.len(), output.len()), (26, 0));
+    let all = |kind: u8, numbers: Vec<u8>| numbers.into_iter().map(move |number| (kind, number));
+    let met: Vec<_> = met.into_iter().filter(|(kind, _)| *kind > 0).collect();
+    let expected = all(1, (3..=10).collect())
+        .chain(all(2, (2..=19).collect()))
+        .chain(all(3, (3..=16).chain(20..=27).collect()))
+        .chain(all(4, vec![5, 8, 9, 10]))
+        .chain(all(5, vec![20]))
+        .chain((1..=6).map(|kind| (kind, 0)));
+    let mut expected: Vec<_> = expected.collect();
+    expected.sort();
+    assert_eq!(met, expected);
+}
+
 #[test]
 fn a_seed_gives_one_trial() {
     let (a, b) = (geometry(5, 10), geometry(5, 10));
@@ -145,4 +172,6 @@ fn a_seed_gives_one_trial() {
     let (a, b) = (checks(5, 60), checks(5, 60));
     assert_eq!((a.input, a.output), (b.input, b.output));
     assert_eq!(calls(5, 140), calls(5, 140));
+    let (a, b) = (requests(5, 80), requests(5, 80));
+    assert_eq!((a.input, a.output), (b.input, b.output));
 }
