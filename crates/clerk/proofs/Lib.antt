@@ -1,0 +1,2 @@
+-- Laws behind a request that is read. Assumes nothing.
+pub mod Standing

@@ -1,0 +1,93 @@
+-- `clerk::served`: the request stands in its room, and the reply in the other. Each need goes back to the two calls and to the start.
+-- Assumes nothing.
+use mathlib.Core.Path.{sym}
+use native.Mathlib.Omega.{arith}
+use lib.ListN.{take}
+use lib.Seq.{length-take-le}
+use Rattle.clerk_reply.specs.Requests.{kindIn}
+use Rattle.clerk_reply.proofs.Lent.{reply-within}
+use Rattle.clerk.specs.Read.{Stands}
+use borrow.Author.Needs.{needs}
+use Rattle.clerk.proofs.served.Statement.{statement}
+use Rattle.clerk.proofs.served.Tie as tie
+
+-- ---- the ways back: from the reading to the start, from the answer to the reading
+
+abbrev asked : tie.Else1 → tie.After-read-request
+asked c = c .before .before .before
+
+abbrev start : tie.After-read-request → tie.Start
+start c = c .before .before .before .before
+
+-- ---- the request stands in its room
+
+stands : (c : tie.Else1) → Stands (asked c .read-request .last .0) (asked c .read-request .result)
+stands c = asked c .read-request .ensures (λ e. omega (arith, e))
+
+read-request-requires : tie.Need-read-request-requires
+read-request-requires c κs = search needs
+
+same-length : tie.Need-same-length
+same-length c = search needs
+
+returns : tie.Need-returns
+returns c = search needs
+
+slice-reshare-prefix-answer : tie.Need-slice-reshare-prefix-answer
+slice-reshare-prefix-answer c = stands c .within
+
+slice-aggregate-answer : tie.Need-slice-aggregate-answer
+slice-aggregate-answer c = sym (length-take-le _ _ (stands (c .before) .within))
+
+answer-requires : tie.Need-answer-requires
+answer-requires c κs = let e = c .before .before in (stands e .whole, start (asked e) .pre .1)
+
+same-length-2 : tie.Need-same-length-2
+same-length-2 c = search needs
+
+same-length-3 : tie.Need-same-length-3
+same-length-3 c = search needs
+
+returns-2 : tie.Need-returns-2
+returns-2 c = search needs
+
+slice-reshare-prefix-write-all : tie.Need-slice-reshare-prefix-write-all
+slice-reshare-prefix-write-all c =
+    let p = c .before .before .before in
+    let r = asked (p .before .before .before) in
+    reply-within (kindIn (take (r .read-request .result) (r .read-request .last .0))) (p .answer .ensures) (start r .pre .1)
+
+slice-aggregate-write-all : tie.Need-slice-aggregate-write-all
+slice-aggregate-write-all c = sym (length-take-le _ _ (slice-reshare-prefix-write-all (c .before)))
+
+write-all-requires : tie.Need-write-all-requires
+write-all-requires c κs = search needs
+
+same-length-4 : tie.Need-same-length-4
+same-length-4 c = search needs
+
+same-length-5 : tie.Need-same-length-5
+same-length-5 c = search needs
+
+returns-3 : tie.Need-returns-3
+returns-3 c = search needs
+
+pub served-spec : {M : Type 1} → statement M
+served-spec =
+    tie.close
+    (tie.spec
+    read-request-requires
+    same-length
+    returns
+    slice-reshare-prefix-answer
+    slice-aggregate-answer
+    answer-requires
+    same-length-2
+    same-length-3
+    returns-2
+    slice-reshare-prefix-write-all
+    slice-aggregate-write-all
+    write-all-requires
+    same-length-4
+    same-length-5
+    returns-3)

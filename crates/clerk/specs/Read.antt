@@ -1,0 +1,23 @@
+-- A request that was read stands at the start of its room. Assumes nothing.
+use mathlib.Core.List.{List}
+use mathlib.Core.Path.{_≡_}
+use Prim.Native.Nat.{ℕ, _≤_}
+use lib.ListN.{length, take}
+use Rattle.clerk_reply.specs.Requests.{secondLength, mostItem, Whole}
+
+-- room for a head and two items
+abbrev pub requestRoom : ℕ
+requestRoom = 2061
+
+pub record Roomy (room : List ℕ) : Type 0 where
+  pub roomy : requestRoom ≤ length room
+
+-- n bytes of the room are a whole request, with no item that is too long
+pub record Stands (room : List ℕ) (n : ℕ) : Type 0 where
+  pub within : n ≤ length room
+  pub whole : Whole (take n room)
+  pub second-short : secondLength (take n room) ≤ mostItem
+
+-- 0 where none was read
+abbrev pub ReadTo : List ℕ → ℕ → Type 0
+ReadTo room n = (n ≡ 0 → ⊥) → Stands room n

@@ -1,0 +1,69 @@
+-- `clerk_reply::kinds::put_written`: what is said of the writing is put, and its room. Each need goes back to the writing and to the start.
+-- Assumes nothing.
+use mathlib.Core.List.{List, _++_}
+use mathlib.Core.Path.{_≡_}
+use Prim.Native.Nat.{ℕ}
+use native.Mathlib.Omega.{arith}
+use lib.Dec.{lit≤}
+use lib.ListN.{length}
+use Rattle.clerk_words.specs.Words.{wordsBytes}
+use Rattle.clerk_reply.proofs.Replying.{said-long, fits-any, replied}
+use Rattle.clerk_reply.proofs.Lent.{written-is}
+use borrow.Author.Needs.{needs}
+use Rattle.clerk_reply.proofs.kinds.put_written.Statement.{statement}
+use Rattle.clerk_reply.proofs.kinds.put_written.Tie as tie
+
+-- the ways back: to the writing, to the start
+abbrev written : tie.After-put-said-arg → tie.After-nibgravel-write-sheet
+written c = c .before .before .before .before .before
+
+abbrev start : tie.After-nibgravel-write-sheet → tie.Start
+start c = c .before .before .before .before .before
+
+-- what is put: so many bytes
+abbrev put : tie.After-put-said-arg → List ℕ
+put c = let l = written c .nibgravel-write-sheet .last .1 .1 in wordsBytes (l .1 .0) ++ l .0
+
+long : (c : tie.After-put-said-arg) → length (put c) ≡ 271
+long c = let l = written c .nibgravel-write-sheet .last .1 .1 in omega (arith, said-long (l .1 .0) (l .0))
+
+slice-aggregate-nibgravel-write-sheet : tie.Need-slice-aggregate-nibgravel-write-sheet
+slice-aggregate-nibgravel-write-sheet c = search needs
+
+slice-aggregate-nibgravel-write-sheet-2 : tie.Need-slice-aggregate-nibgravel-write-sheet-2
+slice-aggregate-nibgravel-write-sheet-2 c = search needs
+
+nibgravel-write-sheet-requires : tie.Need-nibgravel-write-sheet-requires
+nibgravel-write-sheet-requires c κs = search needs
+
+slice-aggregate-put-said : tie.Need-slice-aggregate-put-said
+slice-aggregate-put-said c = search needs
+
+slice-aggregate-put-said-2 : tie.Need-slice-aggregate-put-said-2
+slice-aggregate-put-said-2 c = search needs
+
+put-said-requires : tie.Need-put-said-requires
+put-said-requires c κs = fits-any (long c) (lit≤ tt) (start (written c) .pre)
+
+same-length : tie.Need-same-length
+same-length c = search needs
+
+returns : tie.Need-returns
+returns c =
+    let p = c .before .before in
+    let d = written (p .before) in
+    let a = start d .args in
+    replied (written-is (a .xyz .now) (a .ends .now) (d .nibgravel-write-sheet .ensures)) (long (p .before)) (p .put-said .ensures)
+
+pub put-written-spec : {M : Type 1} → statement M
+put-written-spec =
+    tie.close
+    (tie.spec
+    slice-aggregate-nibgravel-write-sheet
+    slice-aggregate-nibgravel-write-sheet-2
+    nibgravel-write-sheet-requires
+    slice-aggregate-put-said
+    slice-aggregate-put-said-2
+    put-said-requires
+    same-length
+    returns)

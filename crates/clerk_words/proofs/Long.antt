@@ -1,0 +1,16 @@
+-- How many bytes words and numbers are. Assumes nothing.
+use mathlib.Core.List.{List}
+use mathlib.Core.Path.{_≡_, refl}
+use Prim.Native.Nat.{ℕ, _*_}
+use lib.IntN.{ℤ, pos}
+use lib.ListN.{length}
+use Rattle.lists.proofs.After.{each-long}
+use Rattle.clerk_words.specs.Words.{bytesOf, wordBytes, wordsBytes, numberBytes, numbersBytes}
+
+pub words-long : (ws : List ℕ) → length (wordsBytes ws) ≡ 8 * length ws
+unfolding bytesOf
+words-long ws = each-long wordBytes 8 0 ws (λ i h. refl)
+
+pub numbers-long : (zs : List ℤ) → length (numbersBytes zs) ≡ 8 * length zs
+unfolding bytesOf
+numbers-long zs = each-long numberBytes 8 (pos 0) zs (λ i h. refl)

@@ -1,0 +1,2 @@
+-- What contracts on words as bytes cite. Assumes nothing.
+pub mod Words
