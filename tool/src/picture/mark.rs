@@ -1,0 +1,47 @@
+//! What is said over a picture, and the place in it that a rule refuses.
+use crate::answers;
+use crate::model::{Conversion, Drawing, Refusal};
+
+/// The place that is marked.
+#[derive(Clone, Copy, Debug, PartialEq, Eq)]
+pub enum Mark {
+    Nothing,
+    Vertex(usize),
+    Edge(usize),
+}
+
+impl Mark {
+    /// The place of a refusal by 11 to 14; other refusals have none that could be seen.
+    pub fn of(drawing: &Drawing, conversion: &Conversion) -> Mark {
+        let Conversion::Refused(Refusal { number, place }) = *conversion else { return Mark::Nothing };
+        let place = usize::try_from(place).unwrap_or(usize::MAX);
+        match number {
+            11 | 12 | 14 if place < drawing.vertices.len() => Mark::Vertex(place),
+            13 if place < drawing.edges.len() => Mark::Edge(place),
+            _ => Mark::Nothing,
+        }
+    }
+}
+
+/// The heading: what the answer is. It never has a volume.
+pub fn heading(drawing: &Drawing, conversion: &Conversion) -> String {
+    match conversion {
+        Conversion::Report { solids, .. } if solids.len() == 1 => "one solid".to_string(),
+        Conversion::Report { solids, .. } => format!("ambiguous: {} solids", solids.len()),
+        Conversion::Ended { number, search } => answers::told(Refusal { number: *number, place: search.work }),
+        Conversion::Refused(refusal) => answers::told(*refusal) + &same_point(drawing, refusal),
+    }
+}
+
+/// The other vertices at the point of a vertex that is refused for it.
+fn same_point(drawing: &Drawing, refusal: &Refusal) -> String {
+    let place = usize::try_from(refusal.place).unwrap_or(usize::MAX);
+    let Some(point) = drawing.vertices.get(place).filter(|_| refusal.number == 11) else { return String::new() };
+    let others = drawing.vertices.iter().enumerate().filter(|(vertex, other)| *vertex != place && *other == point);
+    let others: Vec<String> = others.map(|(vertex, _)| vertex.to_string()).collect();
+    if others.is_empty() {
+        String::new()
+    } else {
+        format!(" (at the point of {})", others.join(", "))
+    }
+}
