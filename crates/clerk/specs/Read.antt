@@ -3,6 +3,7 @@ use mathlib.Core.List.{List}
 use mathlib.Core.Path.{_≡_}
 use Prim.Native.Nat.{ℕ, _≤_}
 use lib.ListN.{length, take}
+use Rattle.clerk_reply.specs.Replies.{LongEnough}
 use Rattle.clerk_reply.specs.Requests.{secondLength, mostItem, Whole}
 
 -- room for a head and two items
@@ -11,6 +12,11 @@ requestRoom = 2061
 
 pub record Roomy (room : List ℕ) : Type 0 where
   pub roomy : requestRoom ≤ length room
+
+-- the same, and room for any reply
+pub record Rooms (request room : List ℕ) : Type 0 where
+  pub roomy : Roomy request
+  pub long : LongEnough room
 
 -- n bytes of the room are a whole request, with no item that is too long
 pub record Stands (room : List ℕ) (n : ℕ) : Type 0 where

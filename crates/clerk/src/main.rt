@@ -1,7 +1,6 @@
 // The program that answers requests over a pipe: it reads them from standard input and writes the replies to standard output, as
 // docs/PIPE.md says. Nothing is assumed of the input.
-ghost use Rattle.clerk_reply.specs.Replies.{LongEnough};
-ghost use Rattle.clerk.specs.Read.{Roomy, ReadTo};
+ghost use Rattle.clerk.specs.Read.{Roomy, Rooms, ReadTo};
 use clerk_reply::FIRST_AT;
 use clerk_reply::HEAD;
 use clerk_reply::MOST_ITEM;
@@ -46,7 +45,7 @@ fn read_request(room: &mut [u8]) -> usize
 
 // Whether a request came and its reply was written.
 fn served(request: &mut [u8], room: &mut [u8]) -> bool
-    requires { ⌜ Roomy (now request) × LongEnough (now room) ⌝ }
+    requires { ⌜ Rooms (now request) (now room) ⌝ }
 {
     let end = read_request(request);
     if end == 0 {

@@ -6,6 +6,7 @@ use lib.Dec.{eqb}
 use lib.ListN.{length, getD, take, drop}
 use Rattle.clerk_words.specs.Words.{twoAt, wordAt, numbersIn}
 use Rattle.clerk_reply.specs.Replies.{helloReply, readReply, convertedReply, checkedReply, writtenReply, sentReply, textReply}
+use Rattle.clerk_reply.specs.Replies.{LongEnough}
 
 -- ---- the reply by the kind; where a request can't be understood there is none, which is one of no bytes
 
@@ -71,12 +72,18 @@ answerTo q = replyTo (kindIn q) (limitIn q) (firstItem q) (secondItem q)
 abbrev pub mostItem : ℕ
 mostItem = 1024
 
--- an item that is not too long
-pub record Short (item : List ℕ) : Type 0 where
-  pub short : length item ≤ mostItem
+-- a first item that is not too long, and room for any reply
+pub record Lends (first room : List ℕ) : Type 0 where
+  pub short : length first ≤ mostItem
+  pub long : LongEnough room
 
 -- a request that is all there
 pub record Whole (q : List ℕ) : Type 0 where
   pub head : headBytes ≤ length q
   pub items : headBytes + firstLength q + secondLength q ≤ length q
   pub first-short : firstLength q ≤ mostItem
+
+-- the same of a request
+pub record Asks (q room : List ℕ) : Type 0 where
+  pub whole : Whole q
+  pub long : LongEnough room

@@ -5,7 +5,7 @@ ghost use Rattle.desk_lines.specs.Put.{Fits, Puts};
 ghost use Rattle.clerk_words.specs.Words.{wordsBytes, numbersBytes};
 ghost use Rattle.clerk_reply.specs.Replies.{helloReply, readReply, convertedReply, checkedReply, writtenReply, textReply};
 ghost use Rattle.clerk_reply.specs.Replies.{LongEnough, Replies};
-ghost use Rattle.clerk_reply.specs.Requests.{sheetReply, facesReply, Short};
+ghost use Rattle.clerk_reply.specs.Requests.{sheetReply, facesReply, Lends};
 use super::parts::reading_words;
 use super::parts::said_words;
 use clerk_words::WORD_BYTES;
@@ -123,7 +123,7 @@ fn put_written(xyz: &[i64], ends: &[u8], room: &mut [u8]) -> usize
 
 // No reply where the coordinates are not whole words.
 pub fn put_sheet(first: &[u8], ends: &[u8], room: &mut [u8]) -> usize
-    requires { ⌜ Short (now first) × LongEnough (now room) ⌝ }
+    requires { ⌜ Lends (now first) (now room) ⌝ }
     ensures { λ r. ⌜ Replies (sheetReply (now (first .entry)) (now (ends .entry))) 271 (now (room .entry)) (now (room .exit)) r ⌝ }
 {
     if first.len() % WORD_BYTES != 0 {

@@ -3,8 +3,8 @@
 mod kinds;
 mod parts;
 
-ghost use Rattle.clerk_reply.specs.Replies.{LongEnough, Replies};
-ghost use Rattle.clerk_reply.specs.Requests.{replyTo, lengthOf, kindIn, answerTo, Short, Whole};
+ghost use Rattle.clerk_reply.specs.Replies.{Replies};
+ghost use Rattle.clerk_reply.specs.Requests.{replyTo, lengthOf, kindIn, answerTo, Lends, Asks};
 use clerk_words::two_at;
 use clerk_words::word_at;
 use kinds::put_checked;
@@ -31,7 +31,7 @@ pub const REPLY_ROOM: usize = 2784;
 
 // Answers how many bytes the reply has: 0 where there is none.
 pub fn reply(kind: u8, limit: u64, first: &[u8], second: &[u8], room: &mut [u8]) -> usize
-    requires { ⌜ Short (now first) × LongEnough (now room) ⌝ }
+    requires { ⌜ Lends (now first) (now room) ⌝ }
     ensures { λ r. ⌜ Replies (replyTo kind limit (now (first .entry)) (now (second .entry))) (lengthOf kind)
         (now (room .entry)) (now (room .exit)) r ⌝ }
 {
@@ -49,7 +49,7 @@ pub fn reply(kind: u8, limit: u64, first: &[u8], second: &[u8], room: &mut [u8])
 
 // The reply to a whole request: its head, and both items behind it.
 pub fn answer(request: &[u8], room: &mut [u8]) -> usize
-    requires { ⌜ Whole (now request) × LongEnough (now room) ⌝ }
+    requires { ⌜ Asks (now request) (now room) ⌝ }
     ensures { λ r. ⌜ Replies (answerTo (now (request .entry))) (lengthOf (kindIn (now (request .entry))))
         (now (room .entry)) (now (room .exit)) r ⌝ }
 {

@@ -27,7 +27,7 @@ slice-aggregate-served-2 c = sym (looped c .loop .inv .1)
 served-requires : tie.Need-served-requires Inv-loop μ-loop
 served-requires c κs =
     let i = looped c .loop .inv in
-    (record { roomy = omega (arith, i) }, record { long = omega (arith, i) })
+    record { roomy = record { roomy = omega (arith, i) }; long = record { long = omega (arith, i) } }
 
 returns : tie.Need-returns Inv-loop μ-loop
 returns c = tt

@@ -40,7 +40,7 @@ slice-aggregate-answer : tie.Need-slice-aggregate-answer
 slice-aggregate-answer c = sym (length-take-le _ _ (stands (c .before) .within))
 
 answer-requires : tie.Need-answer-requires
-answer-requires c κs = let e = c .before .before in (stands e .whole, start (asked e) .pre .1)
+answer-requires c κs = let e = c .before .before in record { whole = stands e .whole; long = start (asked e) .pre .long }
 
 same-length-2 : tie.Need-same-length-2
 same-length-2 c = search needs
@@ -55,7 +55,7 @@ slice-reshare-prefix-write-all : tie.Need-slice-reshare-prefix-write-all
 slice-reshare-prefix-write-all c =
     let p = c .before .before .before in
     let r = asked (p .before .before .before) in
-    reply-within (kindIn (take (r .read-request .result) (r .read-request .last .0))) (p .answer .ensures) (start r .pre .1)
+    reply-within (kindIn (take (r .read-request .result) (r .read-request .last .0))) (p .answer .ensures) (start r .pre .long)
 
 slice-aggregate-write-all : tie.Need-slice-aggregate-write-all
 slice-aggregate-write-all c = sym (length-take-le _ _ (slice-reshare-prefix-write-all (c .before)))
