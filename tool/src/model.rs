@@ -41,6 +41,11 @@ pub struct Solid {
     pub faces: Vec<Face>,
 }
 
+/// The candidates that all solids take, a bit for each.
+pub fn shared(solids: &[Solid]) -> u64 {
+    solids.iter().fold(u64::MAX, |all, solid| all & solid.taken)
+}
+
 /// The answer of a conversion.
 #[derive(Clone, Debug, PartialEq, Eq)]
 pub enum Conversion {

@@ -3,7 +3,7 @@ use super::put_object;
 use crate::answers::{answer, named, told, Answer, Place, DRAWING_RULES};
 use crate::args::Args;
 use crate::command::{file, Command, LIMIT};
-use crate::commands::explain::solids::{differing, explain_solids, shared, solid_object};
+use crate::commands::explain::solids::{differing, explain_solids, in_all, solid_object};
 use crate::input::shown;
 use crate::json::Json;
 use crate::model::{Assessment, Conversion, Drawing, Refusal};
@@ -144,7 +144,7 @@ fn fields(assessment: &Assessment) -> Vec<(&'static str, Json)> {
         let assessed = refusal(assessment).is_none();
         fields.push(("solids", Json::List(solids.iter().map(|solid| solid_object(solid, assessed)).collect())));
         if !assessed {
-            fields.extend([("shared", Json::list(shared(solids))), ("differing", differing(solids))]);
+            fields.extend([("shared", Json::list(in_all(solids))), ("differing", differing(solids))]);
         }
     }
     fields

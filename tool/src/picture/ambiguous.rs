@@ -7,14 +7,14 @@ use super::seen::Seen;
 use super::shade::{shade, Tone, HIDDEN, TEXT, WARNING};
 use super::svg::{Letters, Svg};
 use super::whole::counts;
-use crate::model::{Conversion, Drawing, Solid};
+use crate::model::{shared, Conversion, Drawing, Solid};
 
 const PANEL: [f64; 2] = [280.0, 280.0];
 const TOP: f64 = 84.0;
 const BOTTOM: f64 = 76.0;
 
 pub fn picture(drawing: &Drawing, conversion: &Conversion, solids: &[Solid]) -> String {
-    let (seen, heading) = (Seen::new(drawing, solids), heading(drawing, conversion));
+    let (seen, heading) = (Seen::new(drawing, solids), heading(conversion));
     let columns = columns(solids.len());
     let width = PANEL[0] * columns as f64;
     let height = TOP + PANEL[1] * solids.len().div_ceil(columns) as f64 + BOTTOM;
@@ -46,11 +46,6 @@ fn columns(solids: usize) -> usize {
         5 | 6 => 3,
         _ => 4,
     }
-}
-
-/// The candidates that all solids take, a bit for each.
-pub fn shared(solids: &[Solid]) -> u64 {
-    solids.iter().fold(u64::MAX, |all, solid| all & solid.taken)
 }
 
 fn is_in(set: u64, candidate: usize) -> bool {

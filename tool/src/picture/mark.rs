@@ -24,24 +24,11 @@ impl Mark {
 }
 
 /// The heading: what the answer is. It never has a volume.
-pub fn heading(drawing: &Drawing, conversion: &Conversion) -> String {
+pub fn heading(conversion: &Conversion) -> String {
     match conversion {
         Conversion::Report { solids, .. } if solids.len() == 1 => "one solid".to_string(),
         Conversion::Report { solids, .. } => format!("ambiguous: {} solids", solids.len()),
         Conversion::Ended { number, search } => answers::told(Refusal { number: *number, place: search.work }),
-        Conversion::Refused(refusal) => answers::told(*refusal) + &same_point(drawing, refusal),
-    }
-}
-
-/// The other vertices at the point of a vertex that is refused for it.
-fn same_point(drawing: &Drawing, refusal: &Refusal) -> String {
-    let place = usize::try_from(refusal.place).unwrap_or(usize::MAX);
-    let Some(point) = drawing.vertices.get(place).filter(|_| refusal.number == 11) else { return String::new() };
-    let others = drawing.vertices.iter().enumerate().filter(|(vertex, other)| *vertex != place && *other == point);
-    let others: Vec<String> = others.map(|(vertex, _)| vertex.to_string()).collect();
-    if others.is_empty() {
-        String::new()
-    } else {
-        format!(" (at the point of {})", others.join(", "))
+        Conversion::Refused(refusal) => answers::told(*refusal),
     }
 }

@@ -16,7 +16,7 @@ pub fn picture(drawing: &Drawing, conversion: &Conversion) -> String {
     let solid = only(conversion);
     let seen = Seen::new(drawing, solid.map_or(&[], std::slice::from_ref));
     let panel = Panel::new(&seen, ROOM, 0.6);
-    let mut svg = Svg::inline(WIDTH, HEIGHT, &heading(drawing, conversion));
+    let mut svg = Svg::inline(WIDTH, HEIGHT, &heading(conversion));
     match solid {
         Some(solid) => panel.solid(&mut svg, solid, |_| Tone::Only),
         None => panel.wire(&mut svg, Mark::of(drawing, conversion), 2.4),

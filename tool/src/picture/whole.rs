@@ -13,7 +13,7 @@ const HEIGHT: f64 = 436.0;
 const ROOM: Rectangle = Rectangle { left: 40.0, top: 64.0, width: 400.0, height: 290.0 };
 
 pub fn picture(drawing: &Drawing, conversion: &Conversion) -> String {
-    let (heading, counts) = (heading(drawing, conversion), counts(drawing));
+    let (heading, counts) = (heading(conversion), counts(drawing));
     let (solid, mark) = (only(conversion), Mark::of(drawing, conversion));
     let seen = Seen::new(drawing, solid.map_or(&[], std::slice::from_ref));
     let mut svg = Svg::file(WIDTH, HEIGHT, &heading, &format!("{counts}. {}", description(solid, mark)));

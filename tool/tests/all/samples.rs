@@ -140,7 +140,7 @@ fn draw() {
     for (name, status) in SHEETS.into_iter().filter(|(name, _)| *name != "damaged") {
         holds(&format!("draw/{name}.svg"), &["draw", &sheet(name)], status);
         assert_eq!(run(&["draw", &sheet(name), "-o", &picture]).said(status), "");
-        held(&format!("draw/{name}.svg"), &fs::read_to_string(&picture).expect("a picture"));
+        held(&format!("draw/{name}.svg"), fs::read(&picture).expect("a picture"));
         fs::remove_file(&picture).expect("it was there");
     }
     let refused = run(&["draw", "samples/damaged.sheet", "-o", &picture]);
@@ -165,6 +165,6 @@ fn book() {
     holds("book/stdout.txt", &["book", "samples", "-o", &room.path("")], 1);
     assert_eq!(room.names(), ["book.html", "ledger.csv"]);
     for file in ["ledger.csv", "book.html"] {
-        held(&format!("book/{file}"), &fs::read_to_string(room.path(file)).expect("a file of the book"));
+        held(&format!("book/{file}"), fs::read(room.path(file)).expect("a file of the book"));
     }
 }

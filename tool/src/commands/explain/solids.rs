@@ -1,6 +1,6 @@
 //! The solids of a report in words, and what several of them share.
 use crate::json::Json;
-use crate::model::{Face, Reading, Solid};
+use crate::model::{shared, Face, Reading, Solid};
 
 /// Every solid, and where there are several, which walls differ. A volume stands here only where it was assessed.
 pub fn explain_solids(candidates: &[Vec<usize>], solids: &[Solid], reading: Reading) -> String {
@@ -30,10 +30,10 @@ fn face_line(face: &Face) -> String {
 
 fn explain_ambiguous(candidates: &[Vec<usize>], solids: &[Solid]) -> String {
     let mut text = format!("\nambiguous: {} solids have exactly these edges\n", solids.len());
-    let shared: Vec<usize> = shared(solids).collect();
-    text += &match shared.len() {
+    let in_all: Vec<usize> = in_all(solids).collect();
+    text += &match in_all.len() {
         0 => "  no wall is in all of them\n".to_string(),
-        count => format!("  {count} walls are in all of them: {}\n", spaced(&shared)),
+        count => format!("  {count} walls are in all of them: {}\n", spaced(&in_all)),
     };
     for (candidate, owners) in owners(solids) {
         let corners = candidates.get(candidate).map_or(String::new(), |corners| spaced(corners));
@@ -43,20 +43,18 @@ fn explain_ambiguous(candidates: &[Vec<usize>], solids: &[Solid]) -> String {
 }
 
 /// The walls that all solids have.
-pub fn shared(solids: &[Solid]) -> impl Iterator<Item = usize> {
-    let all = solids.iter().fold(u64::MAX, |all, solid| all & solid.taken);
-    numbers(all)
+pub fn in_all(solids: &[Solid]) -> impl Iterator<Item = usize> {
+    numbers(shared(solids))
 }
 
 /// The walls that some have and some don't, each with the numbers of those that have it.
 fn owners(solids: &[Solid]) -> Vec<(usize, Vec<usize>)> {
-    let all = solids.iter().fold(u64::MAX, |all, solid| all & solid.taken);
     let any = solids.iter().fold(0, |any, solid| any | solid.taken);
     let of = |candidate: usize| {
         let has = |(k, solid): (usize, &Solid)| (solid.taken >> candidate & 1 == 1).then_some(k + 1);
         solids.iter().enumerate().filter_map(has).collect()
     };
-    numbers(any & !all).map(|candidate| (candidate, of(candidate))).collect()
+    numbers(any & !shared(solids)).map(|candidate| (candidate, of(candidate))).collect()
 }
 
 pub fn differing(solids: &[Solid]) -> Json {

@@ -85,7 +85,7 @@ fn one_solid_has_shaded_walls_and_dashed_edges() {
 fn what_is_refused_is_marked() {
     let [same, loose, meets, apart] = refused().map(|known| both(&known)[0].clone());
     for (svg, words) in [
-        (&same, "11 SamePlace, vertex 2 (at the point of 6)"),
+        (&same, "11 SamePlace, vertex 2"),
         (&loose, "12 LooseVertex, vertex 8"),
         (&meets, "13 EdgeMeets, edge 0"),
         (&apart, "14 Apart, vertex 8"),
