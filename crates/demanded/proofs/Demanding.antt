@@ -1,19 +1,19 @@
 -- What equals document 01's definition has what is proved of the definition. Assumes nothing.
-use mathlib.Core.Logic.{_↔_}
-use mathlib.Core.List.{List}
+use mathlib.Core.Bool.{Bool, true, false, cond}
+use mathlib.Core.List.{List, _++_}
 use mathlib.Core.Path.{_≡_, refl, sym, ap, _∙_, subst}
 use Prim.Native.Nat.{ℕ, _/_, _<_}
-use lib.Ieee.{Float}
+use native.Mathlib.Omega.{arith}
 use lib.IntN.{ℤ}
-use lib.ListN.{length}
-use Rattle.paper.specs.Format.{editionOne, total, bytesFor}
+use lib.ListN.{length, drop}
+use Rattle.paper.specs.Format.{editionOne, total, bytesFor, encode}
 use Rattle.paper.specs.Loops.{Loop}
-use Rattle.paper.specs.FaceList.{bitsOf, facesOf, sentOf, sentRoom}
+use Rattle.paper.specs.FaceList.{bitsOf, countIn, facesIn, wellShaped, noFaces, encodeFaces, facesOf, sentOf, sentRoom}
 use Rattle.paper.specs.Sheet.{sheetOf, writtenOf, roomOf}
 use Rattle.paper.specs.Conversion.{Converted}
 use Rattle.paper.specs.Reading.{readingOf}
+use Rattle.paper.specs.declared.Answer.the-variants as Answer
 use Rattle.paper.specs.declared.Conversion.{Conversion}
-use Rattle.paper.specs.declared.Conversion.the-variants as Conversion
 use Rattle.paper.specs.declared.Faces.{Faces}
 use Rattle.paper.specs.declared.Reading.{Reading}
 use Rattle.paper.specs.declared.Reading.the-variants as Reading
@@ -24,13 +24,20 @@ use Rattle.paper.specs.declared.Written.{Written}
 use Rattle.paper.specs.declared.Written.the-variants as Written
 use Rattle.convert.specs.Converts.{leaves}
 use Rattle.assess.specs.Assessed.{Assessed}
+use Rattle.faces_laws.proofs.FaceList.{length-in}
+use Rattle.means_sheets.specs.FaceLists.{returned}
+use Rattle.means_sheets.proofs.Sheets.{reads-back-one}
+use Rattle.means_sheets.proofs.Sheets.Room as Sheet
+use Rattle.means_sheets.proofs.FaceLists.Room as List
 use Rattle.demands.specs.Input.{Input, lent, converted, checked}
 use Rattle.demands.specs.Shells.{NoList}
+use Rattle.demands.specs.Sheets as Sheets
 use Rattle.demands.specs.Table.{one, end, forms, ofWritten}
 use Rattle.demands.proofs.Demand1.{demand1}
 use Rattle.demands.proofs.Demand2.{demand2}
 use Rattle.demands.proofs.Demand3.{demand3}
-use Rattle.demanded.specs.Demanded.{Converts, ReadAs, Assesses, Checks, Reads, Writes, ReadsFaces, Sends}
+use Rattle.demands.proofs.Sheets.{sheets2}
+use Rattle.demanded.specs.Demanded.{Converts, ReadAs, Assesses, Checks, Reads, Stands, Writes, ReadsFaces, Sends}
 
 pub converts : (x : Input) (limit : ℕ) (faces₀ solids₀ : List ℕ) {r : Conversion} {faces solids : List ℕ}
     → leaves r faces solids ≡ converted x limit faces₀ solids₀ → Converts x limit faces₀ solids₀ r faces solids
@@ -41,42 +48,114 @@ converts x limit faces₀ solids₀ e =
       first = demand1 .converts x limit faces₀ solids₀ .1;
       kept = demand1 .rooms-kept x limit faces₀ solids₀;
       every = λ ok t allowed. demand2 x .holds ok t limit faces₀ solids₀ allowed;
+      reports = λ ok. demand3 x ok .reports limit faces₀ solids₀;
     })
 
 pub read-as : (a : Conversion) {r : Reading} → r ≡ readingOf a → ReadAs a r
-read-as a is v = (
-  λ e. demand1 .volume-of a v (sym is ∙ e),
-  λ o. is ∙ ap readingOf (o .4) ∙ demand1 .one-solid (o .0) (o .1) (o .2) (o .3) ∙ ap Reading.Volume (sym (o .5)),
-)
+read-as a is = record {
+  one-solid = λ v. (
+    λ e. demand1 .volume-of a v (sym is ∙ e),
+    λ o. is ∙ ap readingOf (o .4) ∙ demand1 .one-solid (o .0) (o .1) (o .2) (o .3) ∙ ap Reading.Volume (sym (o .5)),
+  );
+  several = λ l c work n e. is ∙ ap readingOf e ∙ demand1 .several l c work n;
+  no-volume = λ h. is ∙ demand1 .no-volume a h;
+}
 
 pub assesses : (x : Input) (limit : ℕ) {r : Reading} → Assessed (converted x limit) r → Assesses x limit r
-assesses x limit h faces solids f s = read-as (converted x limit faces solids .answer) (h .reads faces solids f s .is)
+assesses x limit h faces solids f s = record {
+  conversion = converted x limit faces solids;
+  converts = converts x limit faces solids refl;
+  reads = read-as (converted x limit faces solids .answer) (h .reads faces solids f s .is);
+}
 
 pub checks : (x : Input) (list : List ℕ) {r : Verdict} → r ≡ checked x list → Checks x list r
 checks x list e =
-    subst (Checks x list) (sym e) (record { first = demand1 .checks x list; exactly = λ ok. demand3 x ok .exactly list })
+    subst (Checks x list) (sym e)
+    (record {
+      first = demand1 .checks x list;
+      exactly = λ ok. demand3 x ok .exactly list;
+      is = refl;
+      spoiled = λ ok accepted other. demand3 x ok .refused list other accepted;
+    })
 
 pub reads : (s : List ℕ) {r : Sheet} → r ≡ sheetOf editionOne s → Reads s r
-reads s e = subst (Reads s) (sym e) (record { first = demand1 .reads s; none = demand1 .blank-kept s })
+reads s e =
+    subst (Reads s) (sym e)
+    (record {
+      first = demand1 .reads s;
+      none = demand1 .blank-kept s;
+      again = λ u h. let b = sheets2 .again s u h in (b .0, b .1, ap (λ (r : Sheet). r .drawing) (b .2), b .3);
+    })
 
-pub writes : (xyz : List ℤ) (ends room₀ : List ℕ) {r : Written} {room : List ℕ} → r ≡ writtenOf editionOne xyz ends room₀
-    → room ≡ roomOf editionOne xyz ends room₀ → Writes xyz ends room₀ r room
-writes xyz ends room₀ {r} {room} e p = record {
-  first =
-      subst
-      (λ (w : Written). forms (lent xyz ends) (one 1 (length room₀ < bytesFor (total editionOne (length xyz / 3) (length ends / 2))) end) (ofWritten w))
-      (sym e) (demand1 .writes xyz ends room₀);
-  kept = λ f q. p ∙ demand1 .room-kept xyz ends room₀ f (sym e ∙ q);
-}
+-- the length that is reported is that of the bytes
+same-size : {w : Written} {n m : ℕ} → w ≡ Written.Bytes n → w ≡ Written.Bytes m → n ≡ m
+same-size p q = cc
+
+module _ (xyz : List ℤ) (ends room₀ : List ℕ) where
+  abbrev written : Written → Type 0
+  written w =
+      forms (lent xyz ends) (one 1 (length room₀ < bytesFor (total editionOne (length xyz / 3) (length ends / 2))) end) (ofWritten w)
+
+  -- the last line of the table, 1, doesn't offend
+  written-back : (n : ℕ) → writtenOf editionOne xyz ends room₀ ≡ Written.Bytes n
+      → (s : List ℕ) × Stands s room₀ n (roomOf editionOne xyz ends room₀) × Sheets.Reads s xyz ends
+  written-back n e =
+      let s = encode editionOne xyz ends in
+      let roomy = subst written e (demand1 .writes xyz ends room₀) .1 .1 .1 .1 .0 0 (omega arith) in
+      let h = Sheet.written-lent editionOne xyz ends room₀ n e in
+      let w = Sheet.writes editionOne xyz ends s room₀ h refl (omega (arith, roomy, Sheet.length-sheet editionOne xyz ends)) in
+      let size = same-size e (w .0) in
+      (s, record { size = size; there = w .1 ∙ ap (λ (m : ℕ). s ++ drop m room₀) (sym size) }, reads-back-one xyz ends .sheet h)
+
+  pub writes : {r : Written} {room : List ℕ} → r ≡ writtenOf editionOne xyz ends room₀ → room ≡ roomOf editionOne xyz ends room₀
+      → Writes xyz ends room₀ r room
+  writes {r} {room} e p = record {
+    first = subst written (sym e) (demand1 .writes xyz ends room₀);
+    kept = λ f q. p ∙ demand1 .room-kept xyz ends room₀ f (sym e ∙ q);
+    back = λ n q. let b = written-back n (sym e ∙ q) in
+        (b .0, subst (Stands (b .0) room₀ n) (sym p) (b .1), b .2);
+  }
 
 pub reads-faces : (v : ℕ) (list : List ℕ) {r : Faces} → r ≡ facesOf editionOne v list → ReadsFaces v list r
-reads-faces v list e = subst (ReadsFaces v list) (sym e) (demand1 .reads-faces v list)
+unfolding facesOf
+reads-faces v list e =
+    subst (ReadsFaces v list) (sym e)
+    (record {
+      first = demand1 .reads-faces v list;
+      none = λ f. blank (wellShaped editionOne v list) f;
+      faces = whole (wellShaped editionOne v list);
+    })
+  where
+    read : Faces
+    read = record { answer = Answer.Fine; count = countIn editionOne list; rows = returned (facesIn editionOne list) .rows }
 
-pub sends : (fs : List Loop) (room₀ : List ℕ) {r : Written} {room : List ℕ} → r ≡ sentOf editionOne fs room₀
-    → room ≡ sentRoom editionOne fs room₀ → Sends fs room₀ r room
-sends fs room₀ e p = record {
-  first =
-      subst (λ (w : Written). one 20 (NoList fs) (one 1 (length room₀ < bytesFor (bitsOf editionOne fs)) end) (ofWritten w)) (sym e)
-      (demand1 .sends fs room₀);
-  kept = λ f q. p ∙ demand1 .send-room-kept fs room₀ f (sym e ∙ q);
-}
+    blank : (b : Bool) (f : Refusal) → cond b read noFaces .answer ≡ Answer.Refused f → cond b read noFaces ≡ noFaces
+    blank true f q = let z : _≡_ {A = ℕ} 0 1 = cc in absurd (omega arith)
+    blank false f q = refl
+
+    whole : (b : Bool) → cond b read noFaces .answer ≡ Answer.Fine → cond b read noFaces ≡ returned (facesIn editionOne list)
+    whole true q =
+        ap (λ (n : ℕ). record { answer = Answer.Fine; count = n; rows = returned (facesIn editionOne list) .rows })
+        (sym (length-in editionOne list))
+    whole false q = let z : _≡_ {A = ℕ} 0 1 = cc in absurd (omega arith)
+
+module _ (fs : List Loop) (room₀ : List ℕ) where
+  abbrev sent : Written → Type 0
+  sent w = one 20 (NoList fs) (one 1 (length room₀ < bytesFor (bitsOf editionOne fs)) end) (ofWritten w)
+
+  sent-stands : (n : ℕ) → sentOf editionOne fs room₀ ≡ Written.Bytes n
+      → Stands (encodeFaces editionOne fs) room₀ n (sentRoom editionOne fs room₀)
+  sent-stands n e =
+      let s = encodeFaces editionOne fs in
+      let roomy = subst sent e (demand1 .sends fs room₀) .1 .0 0 (omega arith) in
+      let w = List.sends editionOne fs room₀ (List.sent-sendable editionOne fs room₀ n e) s refl
+      (omega (arith, roomy, List.length-encoded editionOne fs room₀)) in
+      let size = same-size e (w .0) in
+      record { size = size; there = w .1 ∙ ap (λ (m : ℕ). s ++ drop m room₀) (sym size) }
+
+  pub sends : {r : Written} {room : List ℕ} → r ≡ sentOf editionOne fs room₀ → room ≡ sentRoom editionOne fs room₀ → Sends fs room₀ r room
+  sends e p = record {
+    first = subst sent (sym e) (demand1 .sends fs room₀);
+    kept = λ f q. p ∙ demand1 .send-room-kept fs room₀ f (sym e ∙ q);
+    sent = λ n q. subst (Stands (encodeFaces editionOne fs) room₀ n) (sym p) (sent-stands n (sym e ∙ q));
+  }

@@ -2,7 +2,7 @@
 use mathlib.Core.Path.{_≡_, refl, subst}
 use mathlib.Core.Logic.{inl, inr}
 use mathlib.Core.List.{List}
-use Prim.Native.Nat.{ℕ, _/_, _<_}
+use Prim.Native.Nat.{ℕ, _/_, _≤_, _<_}
 use native.Mathlib.Omega.{arith}
 use lib.IntN.{ℤ}
 use lib.ListN.{length}
@@ -25,81 +25,83 @@ use Rattle.demands.specs.Shells.{Shape, shells, NoList}
 use Rattle.demands.specs.Answers.{Numbered, Told, VolumeOfOne}
 use Rattle.demands.proofs.Demand1.{demand1}
 
--- ---- the table's numbers are above 0
+-- ---- the numbers of a table's lines are 1 to `most`
 
--- so are the numbers of the lines of a table
-record Above (table : Answer → Type 0) : Type 0 where
-  number : (r : Refusal) → table (Answer.Refused r) → 0 < r .number
+module _ (most : ℕ) where
+  pub record Numbers (table : Answer → Type 0) : Type 0 where
+    pub number : (r : Refusal) → table (Answer.Refused r) → (0 < r .number) × (r .number ≤ most)
 
-above-end : Above end
-above-end = record { number = λ r h. absurd h }
+  pub none-left : Numbers end
+  none-left = record { number = λ r h. absurd h }
 
-more : (n k : ℕ) (P : ℕ → Type 0) (below : Answer → Type 0) → 0 < n → Above below → Above (line n k P below)
-more n k P below h f = record { number = go }
-  where
-    go : (r : Refusal) → line n k P below (Answer.Refused r) → 0 < r .number
-    go r (inl q) = omega (arith, q .0)
-    go r (inr q) = f .number r (q .1)
+  pub more : (n k : ℕ) (P : ℕ → Type 0) (below : Answer → Type 0) → (0 < n) × (n ≤ most) → Numbers below → Numbers (line n k P below)
+  more n k P below h f = record { number = go }
+    where
+      go : (r : Refusal) → line n k P below (Answer.Refused r) → (0 < r .number) × (r .number ≤ most)
+      go r (inl q) = omega (arith, q .0, h)
+      go r (inr q) = f .number r (q .1)
 
-above-lists : (v : ℕ) (xyz : List ℤ) (ns : List ℕ) (below : Answer → Type 0) → Above below → Above (lists v xyz ns below)
-above-lists v xyz ns below f =
-    more 8 _ _ _ (omega arith) (more 9 _ _ _ (omega arith) (more 10 _ _ below (omega arith) f))
+  module _ (below : Answer → Type 0) (f : Numbers below) where
+    of-lists : 16 ≤ most → (v : ℕ) (xyz : List ℤ) (ns : List ℕ) → Numbers (lists v xyz ns below)
+    of-lists h v xyz ns = more 8 _ _ _ (omega (arith, h)) (more 9 _ _ _ (omega (arith, h)) (more 10 _ _ below (omega (arith, h)) f))
 
-above-forms : (x : Input) (below : Answer → Type 0) → Above below → Above (forms x below)
-above-forms (lent xyz ns) below f = more 5 _ _ _ (omega arith) (above-lists (length xyz / 3) xyz ns below f)
-above-forms (sheet s) below f =
-    more 3 _ _ _ (omega arith)
-    (more 4 _ _ _ (omega arith)
-    (more 5 _ _ _ (omega arith)
-    (more 6 _ _ _ (omega arith)
-    (more 7 _ _ _ (omega arith)
-    (above-lists (verticesIn editionOne s) (coordinatesIn editionOne s) (endsIn editionOne s) below f)))))
+    pub of-forms : 16 ≤ most → (x : Input) → Numbers (forms x below)
+    of-forms h (lent xyz ns) = more 5 _ _ _ (omega (arith, h)) (of-lists h (length xyz / 3) xyz ns)
+    of-forms h (sheet s) =
+        more 3 _ _ _ (omega (arith, h))
+        (more 4 _ _ _ (omega (arith, h))
+        (more 5 _ _ _ (omega (arith, h))
+        (more 6 _ _ _ (omega (arith, h))
+        (more 7 _ _ _ (omega (arith, h))
+        (of-lists h (verticesIn editionOne s) (coordinatesIn editionOne s) (endsIn editionOne s))))))
 
-above-drawings : (d : Wire) (below : Answer → Type 0) → Above below → Above (drawings d below)
-above-drawings d below f =
-    more 11 _ _ _ (omega arith)
-    (more 12 _ _ _ (omega arith)
-    (more 13 _ _ _ (omega arith)
-    (more 14 _ _ _ (omega arith) (more 15 _ _ _ (omega arith) (more 16 _ _ below (omega arith) f)))))
+    of-drawings : 16 ≤ most → (d : Wire) → Numbers (drawings d below)
+    of-drawings h d =
+        more 11 _ _ _ (omega (arith, h))
+        (more 12 _ _ _ (omega (arith, h))
+        (more 13 _ _ _ (omega (arith, h))
+        (more 14 _ _ _ (omega (arith, h)) (more 15 _ _ _ (omega (arith, h)) (more 16 _ _ below (omega (arith, h)) f)))))
 
-above-shells : (d : Wire) (cs fs : List Loop) → Above (shells d cs fs end)
-above-shells d cs fs =
-    more 21 _ _ _ (omega arith)
-    (more 22 _ _ _ (omega arith)
-    (more 23 _ _ _ (omega arith)
-    (more 24 _ _ _ (omega arith)
-    (more 25 _ _ _ (omega arith) (more 26 _ _ _ (omega arith) (more 27 _ _ end (omega arith) above-end))))))
+    of-shells : 27 ≤ most → (d : Wire) (cs fs : List Loop) → Numbers (shells d cs fs below)
+    of-shells h d cs fs =
+        more 21 _ _ _ (omega (arith, h))
+        (more 22 _ _ _ (omega (arith, h))
+        (more 23 _ _ _ (omega (arith, h))
+        (more 24 _ _ _ (omega (arith, h))
+        (more 25 _ _ _ (omega (arith, h)) (more 26 _ _ _ (omega (arith, h)) (more 27 _ _ below (omega (arith, h)) f))))))
 
 -- ---- so are those of the refusals
 
 conversion-refused : (x : Input) (limit : ℕ) (room solids : List ℕ) (r : Refusal)
-    → converted x limit room solids .answer ≡ Conversion.Refused r → 0 < r .number
+    → converted x limit room solids .answer ≡ Conversion.Refused r → (0 < r .number) × (r .number ≤ 16)
 conversion-refused x limit room solids r e =
-    (more 1 _ _ _ (omega arith)
-    (more 2 _ _ _ (omega arith) (above-forms x (drawings (drawing x) end) (above-drawings (drawing x) end above-end)))) .number r
+    let ruled = of-forms 16 (drawings (drawing x) end) (of-drawings 16 end (none-left 16) (omega arith) (drawing x)) (omega arith) x in
+    more 16 1 _ _ _ (omega arith) (more 16 2 _ _ _ (omega arith) ruled) .number r
     (subst (λ (a : Conversion). rooms limit room solids (forms x (drawings (drawing x) end)) (ofConversion a)) e
     (demand1 .converts x limit room solids .1))
 
 pub numbered : Numbered
 numbered = record {
-  reads = λ s r e. above-forms (sheet s) end above-end .number r (subst (forms (sheet s) end) e (demand1 .reads s));
+  reads = λ s r e. of-forms 16 end (none-left 16) (omega arith) (sheet s) .number r (subst (forms (sheet s) end) e (demand1 .reads s)) .0;
   writes = λ xyz ns room r e.
       let below = one 1 (length room < bytesFor (total editionOne (length xyz / 3) (length ns / 2))) end in
-      above-forms (lent xyz ns) below (more 1 _ _ end (omega arith) above-end) .number r
-      (subst (λ (w : Written). forms (lent xyz ns) below (ofWritten w)) e (demand1 .writes xyz ns room));
+      of-forms 16 below (more 16 1 _ _ end (omega arith) (none-left 16)) (omega arith) (lent xyz ns) .number r
+      (subst (λ (w : Written). forms (lent xyz ns) below (ofWritten w)) e (demand1 .writes xyz ns room)) .0;
   reads-faces = λ v list r e.
-      more 20 _ _ end (omega arith) above-end .number r (subst (one 20 (Shape v list → ⊥) end) e (demand1 .reads-faces v list));
+      more 27 20 _ _ end (omega arith) (none-left 27) .number r (subst (one 20 (Shape v list → ⊥) end) e (demand1 .reads-faces v list)) .0;
   sends = λ fs room r e.
       let below = one 1 (length room < bytesFor (bitsOf editionOne fs)) end in
-      more 20 _ _ below (omega arith) (more 1 _ _ end (omega arith) above-end) .number r
-      (subst (λ (w : Written). one 20 (NoList fs) below (ofWritten w)) e (demand1 .sends fs room));
-  converts = conversion-refused;
+      more 27 20 _ _ below (omega arith) (more 27 1 _ _ end (omega arith) (none-left 27)) .number r
+      (subst (λ (w : Written). one 20 (NoList fs) below (ofWritten w)) e (demand1 .sends fs room)) .0;
+  converts = λ x limit room solids r e. conversion-refused x limit room solids r e .0;
   checks = λ x list r e.
       let d = drawing x in
       let below = one 20 (Shape (length (d .vertices)) list → ⊥) (shells d (candidatesOf x) (facesIn editionOne list) end) in
-      above-forms x (drawings d below)
-      (above-drawings d below (more 20 _ _ _ (omega arith) (above-shells d (candidatesOf x) (facesIn editionOne list)))) .number r
-      (subst (λ (v : Verdict). forms x (drawings d below) (ofVerdict v)) e (demand1 .checks x list));
+      let listed = more 27 20 _ _ _ (omega arith)
+      (of-shells 27 end (none-left 27) (omega arith) d (candidatesOf x) (facesIn editionOne list)) in
+      of-forms 27 (drawings d below) (of-drawings 27 below listed (omega arith) d) (omega arith) x .number r
+      (subst (λ (v : Verdict). forms x (drawings d below) (ofVerdict v)) e (demand1 .checks x list)) .0;
+  below = λ x limit room solids r e. conversion-refused x limit room solids r e .1;
 }
 
 -- ---- what is said tells the answer
@@ -127,4 +129,4 @@ volume-of-one x limit room solids e = go (converted x limit room solids .answer)
     go (Conversion.NoSolid l c w) q e = absurd (omega (arith, e))
     go (Conversion.Many l c w) q e = absurd (omega (arith, e))
     go (Conversion.TooLong l c w) q e = absurd (omega (arith, e))
-    go (Conversion.Refused r) q e = absurd (omega (arith, e, conversion-refused x limit room solids r q))
+    go (Conversion.Refused r) q e = absurd (omega (arith, e, conversion-refused x limit room solids r q .0))

@@ -1,7 +1,7 @@
 -- What is said of each answer: a number of the table, a place and values, and that these tell which answer it is. Assumes nothing.
 use mathlib.Core.Path.{_≡_}
 use mathlib.Core.List.{List}
-use Prim.Native.Nat.{ℕ, _<_}
+use Prim.Native.Nat.{ℕ, _≤_, _<_}
 use lib.IntN.{ℤ}
 use Rattle.paper.specs.Format.{editionOne}
 use Rattle.paper.specs.Loops.{Loop}
@@ -27,6 +27,9 @@ pub record Numbered : Type 0 where
   pub converts : (x : Input) (limit : ℕ) (room solids : List ℕ) (r : Refusal)
       → converted x limit room solids .answer ≡ Conversion.Refused r → 0 < r .number
   pub checks : (x : Input) (list : List ℕ) (r : Refusal) → checked x list ≡ Verdict.Refused r → 0 < r .number
+  -- and none of a conversion has 17 to 19, by which its other ends are said, or 30
+  pub below : (x : Input) (limit : ℕ) (room solids : List ℕ) (r : Refusal)
+      → converted x limit room solids .answer ≡ Conversion.Refused r → r .number ≤ 16
 
 -- "a definition gives this paper's number and values for each of its cases": two answers of which the same is said are the same
 pub record Told : Type 0 where

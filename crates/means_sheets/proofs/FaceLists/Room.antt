@@ -31,7 +31,7 @@ module _ (f : Format) (fs : List Loop) (room : List ℕ) where
   abbrev size : ℕ
   size = bytesFor (bitsOf f fs)
 
-  length-encoded : length (encodeFaces f fs) ≡ size
+  pub length-encoded : length (encodeFaces f fs) ≡ size
   unfolding encodeFaces
   length-encoded = length-filled (length (listBits f fs)) (listBits f fs) ∙ ap bytesFor (length-list f fs)
 

@@ -1,0 +1,5 @@
+-- From what is told in words to the customer's demand. Assumes nothing.
+pub mod Numbers
+pub mod Demanding
+pub mod Lists
+pub mod Printed
