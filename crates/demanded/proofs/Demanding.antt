@@ -6,6 +6,7 @@ use Prim.Native.Nat.{ℕ, _/_, _<_}
 use native.Mathlib.Omega.{arith}
 use lib.IntN.{ℤ}
 use lib.ListN.{length, drop}
+use Rattle.pack.specs.Bits.{Under}
 use Rattle.paper.specs.Format.{editionOne, total, bytesFor, encode}
 use Rattle.paper.specs.Loops.{Loop}
 use Rattle.paper.specs.FaceList.{bitsOf, countIn, facesIn, wellShaped, noFaces, encodeFaces, facesOf, sentOf, sentRoom}
@@ -48,7 +49,8 @@ converts x limit faces₀ solids₀ e =
       first = demand1 .converts x limit faces₀ solids₀ .1;
       kept = demand1 .rooms-kept x limit faces₀ solids₀;
       every = λ ok t allowed. demand2 x .holds ok t limit faces₀ solids₀ allowed;
-      reports = λ ok. demand3 x ok .reports limit faces₀ solids₀;
+      passed = demand2 x .reports limit faces₀ solids₀;
+      reports = λ h. demand3 x (demand2 x .reports limit faces₀ solids₀ h .0) .reports limit faces₀ solids₀ h;
     })
 
 pub read-as : (a : Conversion) {r : Reading} → r ≡ readingOf a → ReadAs a r
@@ -70,21 +72,15 @@ assesses x limit h faces solids f s = record {
 
 pub checks : (x : Input) (list : List ℕ) {r : Verdict} → r ≡ checked x list → Checks x list r
 checks x list e =
-    subst (Checks x list) (sym e)
-    (record {
-      first = demand1 .checks x list;
-      exactly = λ ok. demand3 x ok .exactly list;
-      is = refl;
-      spoiled = λ ok accepted other. demand3 x ok .refused list other accepted;
-    })
+    subst (Checks x list) (sym e) (record { first = demand1 .checks x list; exactly = λ ok. demand3 x ok .exactly list })
 
-pub reads : (s : List ℕ) {r : Sheet} → r ≡ sheetOf editionOne s → Reads s r
-reads s e =
+pub reads : (s : List ℕ) → Under 256 s → {r : Sheet} → r ≡ sheetOf editionOne s → Reads s r
+reads s bytes e =
     subst (Reads s) (sym e)
     (record {
       first = demand1 .reads s;
       none = demand1 .blank-kept s;
-      again = λ u h. let b = sheets2 .again s u h in (b .0, b .1, ap (λ (r : Sheet). r .drawing) (b .2), b .3);
+      again = λ h. let b = sheets2 .again s bytes h in (b .0, b .1, ap (λ (r : Sheet). r .drawing) (b .2), b .3);
     })
 
 -- the length that is reported is that of the bytes

@@ -6,7 +6,6 @@ use Prim.Native.Nat.{ℕ, _/_, _≤_, _<_}
 use lib.Ieee.{Float}
 use lib.IntN.{ℤ}
 use lib.ListN.{length, drop}
-use Rattle.pack.specs.Bits.{Under}
 use Rattle.paper.specs.Format.{editionOne, total, bytesFor}
 use Rattle.paper.specs.Loops.{Loop}
 use Rattle.paper.specs.FaceList.{facesIn, bitsOf, encodeFaces, noFaces}
@@ -27,7 +26,7 @@ use Rattle.paper.specs.declared.Written.{Written}
 use Rattle.paper.specs.declared.Written.the-variants as Written
 use Rattle.means_sheets.specs.FaceLists.{returned}
 use Rattle.means_report.specs.Listed.{WalkTree}
-use Rattle.demands.specs.Input.{Input, lent, sheet, drawing, candidatesOf, Passes, checked, reported}
+use Rattle.demands.specs.Input.{Input, lent, sheet, drawing, candidatesOf, Passes, reported}
 use Rattle.demands.specs.Table.{one, end, rooms, forms, drawings, ofConversion, ofWritten, ofVerdict}
 use Rattle.demands.specs.Shells.{Shape, shells, NoList}
 use Rattle.demands.specs.Solid.{NamesOne}
@@ -36,7 +35,6 @@ use Rattle.demands.specs.Demand1.{Within}
 use Rattle.demands.specs.Demand2.{Demand2}
 use Rattle.demands.specs.Demand3.{Report}
 use Rattle.demands.specs.Sheets as Sheets
-use Rattle.demands.specs.Spoiled.{Spoiled}
 
 pub record Converts (x : Input) (limit : ℕ) (faces₀ solids₀ : List ℕ) (r : Conversion) (faces solids : List ℕ) : Type 0 where
   -- demand 1: a report, 17, 18 or 19, or the first line of the table that offends, with the lowest place that does; and the rooms are as
@@ -44,11 +42,12 @@ pub record Converts (x : Input) (limit : ℕ) (faces₀ solids₀ : List ℕ) (r
   pub within : Within limit r
   pub first : rooms limit faces₀ solids₀ (forms x (drawings (drawing x) end)) (ofConversion r)
   pub kept : reported r ≡ 0 → (faces ≡ faces₀) × (solids ≡ solids₀)
-  -- demand 2
+  -- demand 2; and a report is of such a drawing
   pub every : Passes x → (t : WalkTree (drawing x) (candidatesOf x)) → Allowed limit faces₀ solids₀
       → Demand2 x t limit faces₀ solids₀ (record { answer = r; faces = faces; solids = solids })
+  pub passed : 0 < reported r → Passes x × Allowed limit faces₀ solids₀
   -- demand 3: each of the solids reported is accepted by the check, and no other body is
-  pub reports : Passes x → 0 < reported r → Report x solids₀ (record { answer = r; faces = faces; solids = solids })
+  pub reports : 0 < reported r → Report x solids₀ (record { answer = r; faces = faces; solids = solids })
 
 -- demand 1: of a conversion's answer a volume is shown exactly where there is one solid, and it is that solid's; otherwise there is 30, or
 -- the answer's own number
@@ -78,11 +77,6 @@ pub record Checks (x : Input) (list : List ℕ) (r : Verdict) : Type 0 where
   pub exactly : Passes x
       → (r ≡ Verdict.Accepted)
       ↔ (Shape (length (drawing x .vertices)) list × NamesOne (drawing x) (candidatesOf x) (facesIn editionOne list))
-  -- what is accepted and then has a face turned, all turned, one missing or one doubled is refused. Of two lists demand 3 speaks by
-  -- `checked`, here and in `Report` above; it is what is returned
-  pub is : r ≡ checked x list
-  pub spoiled : Passes x → r ≡ Verdict.Accepted → (other : List ℕ) → Spoiled (facesIn editionOne list) (facesIn editionOne other)
-      → (f : Refusal) × (checked x other ≡ Verdict.Refused f)
 
 -- of sheets that are read and written
 pub record Reads (s : List ℕ) (r : Sheet) : Type 0 where
@@ -90,7 +84,7 @@ pub record Reads (s : List ℕ) (r : Sheet) : Type 0 where
   pub first : forms (sheet s) end (r .answer)
   pub none : (f : Refusal) → r .answer ≡ Answer.Refused f → r .drawing ≡ blank
   -- demand 2: what is accepted is written back with the same bytes
-  pub again : Under 256 s → r .answer ≡ Answer.Fine → (xyz : List ℤ) × (ends : List ℕ)
+  pub again : r .answer ≡ Answer.Fine → (xyz : List ℤ) × (ends : List ℕ)
       × (r .drawing ≡ held (length xyz / 3) (length ends / 2) xyz ends) × Sheets.Writes xyz ends s
 
 -- these bytes stand at the start of the room, as many as were reported, and later room keeps its contents

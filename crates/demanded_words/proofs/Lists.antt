@@ -29,7 +29,7 @@ use Rattle.demands.proofs.Answers.{none-left, more, of-forms}
 use Rattle.demanded_words.specs.Words.{ReadsInto, countsSaid, ReadsInWords}
 use Rattle.demanded_words.proofs.Numbers.{of-number}
 
-module _ (s : List ℕ) (xyz₀ : List ℤ) (ends₀ : List ℕ) where
+module _ (s : List ℕ) (bytes : Under 256 s) (xyz₀ : List ℤ) (ends₀ : List ℕ) where
   abbrev points : List ℤ
   points = coordinatesIn editionOne s
 
@@ -61,9 +61,9 @@ module _ (s : List ℕ) (xyz₀ : List ℤ) (ends₀ : List ℕ) where
   zero (Answer.Refused f) e =
       (λ z. absurd (omega (arith, z, positive f e)), λ z. ap (λ (a : Answer). countsSaid s a .number) z)
 
-  again : Under 256 s → firstOf checks ≡ Answer.Fine → Sheets.Writes points links s
+  again : firstOf checks ≡ Answer.Fine → Sheets.Writes points links s
   unfolding sheetOf
-  again u e = writes-back-one s (u, sym (both-fine (sheetChecks editionOne s) (listChecks points links xyz₀ ends₀) e .0)) .room
+  again e = writes-back-one s (bytes, sym (both-fine (sheetChecks editionOne s) (listChecks points links xyz₀ ends₀) e .0)) .room
 
   -- what is read, by the answer
   abbrev read : Answer → Read
@@ -79,7 +79,7 @@ module _ (s : List ℕ) (xyz₀ : List ℤ) (ends₀ : List ℕ) where
       first = subst (lines end) e first;
       kept = λ f q. (h .xyz-are ∙ ap (λ (b : Answer). read b .xyz) q, h .ends-are ∙ ap (λ (b : Answer). read b .ends) q);
       lists = λ q. (h .xyz-are ∙ ap (λ (b : Answer). read b .xyz) q, h .ends-are ∙ ap (λ (b : Answer). read b .ends) q);
-      again = λ u q. again u (e ∙ q);
+      again = λ q. again (e ∙ q);
     }
 
     kept : (a : Answer) → ReadsAs (read a) r xyz ends words₀ words → (r ≡ 0 → ⊥) → (xyz ≡ xyz₀) × (ends ≡ ends₀)

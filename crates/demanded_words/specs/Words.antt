@@ -8,7 +8,6 @@ use Prim.Native.Nat.{ℕ, _≤_, _<_}
 use lib.Ieee.{Float}
 use lib.IntN.{ℤ}
 use lib.ListN.{length, drop}
-use Rattle.pack.specs.Bits.{Under}
 use Rattle.paper.specs.Format.{editionOne, verticesIn, edgesIn, coordinatesIn, endsIn}
 use Rattle.paper.specs.FaceList.{facesIn}
 use Rattle.paper.specs.Conversion.{Converted}
@@ -99,7 +98,7 @@ pub record ReadsInto (s : List ℕ) (xyz₀ : List ℤ) (ends₀ : List ℕ) (a 
       → (xyz ≡ coordinatesIn editionOne s ++ drop (length (coordinatesIn editionOne s)) xyz₀)
       × (ends ≡ endsIn editionOne s ++ drop (length (endsIn editionOne s)) ends₀)
   -- demand 2: written back, these lists are the same bytes
-  pub again : Under 256 s → a ≡ Answer.Fine → Sheets.Writes (coordinatesIn editionOne s) (endsIn editionOne s) s
+  pub again : a ≡ Answer.Fine → Sheets.Writes (coordinatesIn editionOne s) (endsIn editionOne s) s
 
 -- the values are the counts of vertices and edges
 abbrev pub countsSaid : List ℕ → Answer → Said

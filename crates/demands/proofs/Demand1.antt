@@ -31,8 +31,9 @@ use Rattle.means_report.specs.Report.{answered, facesFor, solidsFor}
 use Rattle.means_report.proofs.Report.{Tells, Sound}
 use Rattle.means_report.proofs.Demand.{says-none, says-one, says-several, says-many, says-long}
 use Rattle.means_report.proofs.Converted.{the-walk, conversion-says}
+use Rattle.means_check.proofs.Accepting.{both-fine}
 use Rattle.means_check.proofs.Demand.{drawing-fits}
-use Rattle.demands.specs.Input.{Input, drawing, candidatesOf, form, rules, reported}
+use Rattle.demands.specs.Input.{Input, drawing, candidatesOf, form, rules, Passes, reported}
 use Rattle.demands.specs.Table.{end, one, rooms, forms, drawings, ofConversion, ofVerdict}
 use Rattle.demands.specs.Shells.{Shape, shells}
 use Rattle.demands.specs.Demand1.{Within, Demand1}
@@ -145,6 +146,9 @@ module _ (x : Input) (limit : ℕ) (room solids : List ℕ) where
       go (inl p) = subst (Within limit) (sym (ap (λ (c : Converted). c .answer) (p .2))) tt
       go (inr p) = sound-within x limit room solids made (p .1) (made .answer) refl
 
+  parts : asked ≡ entryChecks limit room solids ++ rules x
+  parts = simp append-assoc
+
   says : rooms limit room solids (forms x (drawings (drawing x) end)) (ofConversion (made .answer))
   says =
       subst (rooms limit room solids (forms x (drawings (drawing x) end)))
@@ -154,10 +158,6 @@ module _ (x : Input) (limit : ℕ) (room solids : List ℕ) where
       (behind (rooms limit room solids) (λ below. forms x (drawings (drawing x) below)) (entryChecks limit room solids) (rules x)
       (entry-says limit room solids) (λ e. rules-say x))))
     where
-      parts : entryChecks limit room solids ++ form x ++ drawingChecks (drawing x)
-          ++ loopChecks (loops (drawing x)) (candidates (drawing x)) ≡ entryChecks limit room solids ++ rules x
-      parts = simp append-assoc
-
       go : Cases → ofConversion (made .answer) ≡ firstOf asked
       go (inl p) = ap (λ (c : Converted). ofConversion (c .answer)) (p .2) ∙ sym (p .1)
       go (inr p) = sound-fine x limit room solids made (p .1) ∙ sym (p .0)
@@ -168,6 +168,14 @@ module _ (x : Input) (limit : ℕ) (room solids : List ℕ) where
       go : Cases → (made .faces ≡ room) × (made .solids ≡ solids)
       go (inl p) = (ap (λ (c : Converted). c .faces) (p .2), ap (λ (c : Converted). c .solids) (p .2))
       go (inr p) = sound-kept x limit room solids made (p .1) e
+
+  -- a report is of a drawing that passes its rules
+  pub passes : 0 < reported (made .answer) → Passes x
+  passes h = go (conversion-says (drawing x) (the-walk (drawing x)) (form x) limit room solids)
+    where
+      go : Cases → Passes x
+      go (inl p) = absurd (omega (arith, h, ap (λ (c : Converted). reported (c .answer)) (p .2)))
+      go (inr p) = both-fine (entryChecks limit room solids) (rules x) (ap firstOf (sym parts) ∙ p .0) .1
 
 -- ---- the reading
 

@@ -1,8 +1,8 @@
 -- Demand 2 holds. Assumes nothing.
-use mathlib.Core.Path.{_≡_, sym, ap, subst, _∙_}
+use mathlib.Core.Path.{_≡_, refl, sym, ap, subst, _∙_}
 use mathlib.Core.Bool.{Bool}
 use mathlib.Core.List.{List, _++_}
-use Prim.Native.Nat.{ℕ}
+use Prim.Native.Nat.{ℕ, _<_}
 use native.Mathlib.Omega.{arith}
 use lib.Dec.{ltb}
 use borrow.Author.Tests.{le-ltb}
@@ -14,7 +14,8 @@ use Rattle.paper.specs.Solids.{tablesOf}
 use Rattle.paper.specs.Conversion.{Converted, entryChecks}
 use Rattle.paper.specs.declared.Answer.the-variants.{Fine}
 use Rattle.paper.specs.declared.Conversion.{Conversion}
-use Rattle.paper.specs.declared.Conversion.the-variants.{Many, TooLong}
+use Rattle.paper.specs.declared.Conversion.the-variants.{One, Several, NoSolid, Many, TooLong}
+use Rattle.paper.specs.declared.Conversion.the-variants as Conversion
 use Rattle.means_walk.specs.Tree.{assumptions}
 use Rattle.means_walk.proofs.Grown.{one-walk}
 use Rattle.means_report.specs.Listed.{WalkTree}
@@ -24,7 +25,8 @@ use Rattle.means_report.proofs.Converted.{the-walk, no-ninth, tells-few, tells-
 use Rattle.means_loops.specs.Loop.{IsCandidate}
 use Rattle.means_loops.proofs.Listing.{candidates-are, candidates-all, candidates-ascend}
 use Rattle.means_check.proofs.Accepting.{fine-both, none-step, no-checks}
-use Rattle.demands.specs.Input.{Input, drawing, candidatesOf, form, Passes, converted}
+use Rattle.demands.specs.Input.{Input, drawing, candidatesOf, form, Passes, converted, reported}
+use Rattle.demands.specs.Table.{end, rooms, forms, drawings, ofConversion}
 use Rattle.demands.specs.Faces.{Candidates}
 use Rattle.demands.specs.Cover.{CandidateOf}
 use Rattle.demands.specs.Walk.{solidsOf, Allowed}
@@ -32,6 +34,7 @@ use Rattle.demands.specs.Demand2.{Demand2, Holds2}
 use Rattle.means_check.proofs.Demand.{drawing-places}
 use Rattle.demands.proofs.Solid.{in-words, of-words, every-words, candidate-words, words-candidate}
 use Rattle.demands.proofs.Walk.{walk-words}
+use Rattle.demands.proofs.Demand1.{demand1, passes}
 use Rattle.demands.proofs.Input.{converted-is, form-fine, drawing-fine, loops-fine}
 
 -- room and a limit that are allowed pass 1 and 2
@@ -107,10 +110,33 @@ faces x = record {
   in-order = candidates-ascend (drawing x);
 }
 
+-- ---- what comes with a report
+
+fine-report : (a : Conversion) → 0 < reported a → ofConversion a ≡ Fine
+fine-report (One l c work six) h = refl
+fine-report (Several l c work n) h = refl
+fine-report (NoSolid l c work) h = refl
+fine-report (Many l c work) h = refl
+fine-report (TooLong l c work) h = refl
+fine-report (Conversion.Refused r) h = absurd (omega (arith, h))
+
+-- 1 and 2 don't offend
+report-allowed : (x : Input) (limit : ℕ) (room solids : List ℕ) → 0 < reported (converted x limit room solids .answer)
+    → Allowed limit room solids
+report-allowed x limit room solids h =
+    let lines = subst (rooms limit room solids (forms x (drawings (drawing x) end))) (fine-report (converted x limit room solids .answer) h)
+    (demand1 .converts x limit room solids .1) in
+    (omega (arith, lines .0 0 (omega arith)), omega (arith, lines .0 1 (omega arith)), omega (arith, lines .1 .0 0 (omega arith)))
+
+report-passes : (x : Input) (limit : ℕ) (room solids : List ℕ) → 0 < reported (converted x limit room solids .answer) → Passes x
+report-passes x limit room solids h =
+    passes x limit room solids (subst (λ (c : Converted). 0 < reported (c .answer)) (converted-is x limit room solids) h)
+
 pub demand2 : (x : Input) → Holds2 x
 demand2 x = record {
   walk = the-walk (drawing x);
   no-other = one-walk (tablesOf (drawing x) (candidates (drawing x)) .masks);
   in-words = walk-words x;
+  reports = λ limit room solids h. (report-passes x limit room solids h, report-allowed x limit room solids h);
   holds = λ p t limit room solids a. holds2 x p t limit room solids a;
 }

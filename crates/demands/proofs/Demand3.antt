@@ -23,6 +23,7 @@ use Rattle.means_report.specs.Report.{facesFor, solidsFor, Reported}
 use Rattle.means_report.proofs.Listed.{walked-lists}
 use Rattle.means_report.proofs.Report.{Tells, Sound}
 use Rattle.means_report.proofs.Converted.{the-walk, conversion-unrefused}
+use Rattle.means_sheets.specs.FaceLists.{Sendable}
 use Rattle.means_check.specs.Candidates.{Candidates}
 use Rattle.means_check.specs.Accepts.{NamesSolid}
 use Rattle.means_check.specs.Sent.{faceList}
@@ -40,20 +41,24 @@ use Rattle.demands.specs.Spoiled.{Spoiled, face-turned, all-turned, face
 use Rattle.demands.proofs.Input.{converted-is, checked-is, form-fine, drawing-fine, loops-fine, small, counted}
 use Rattle.demands.proofs.Shape.{is-shape}
 use Rattle.demands.proofs.Solid.{every-words, names-words, words-names}
-use Rattle.demands.proofs.Sendable.{names-sent}
+use Rattle.demands.proofs.Sendable.{names-sent, sent-taken}
 use Rattle.demands.proofs.Rooms.{faces-reported, words-at}
 
 module _ (x : Input) (p : Passes x) where
   fits : Candidates (drawing x) (candidates (drawing x))
   fits = drawing-fits (drawing x) (drawing-fine x p)
 
-  -- faces that name a solid are accepted, packed
+  -- faces that name a solid can be sent
+  sendable : (taken turned : List Bool) (six : ℕ) → IsSolid (drawing x) (candidates (drawing x)) taken turned six → (fs : List Loop)
+      → Names (drawing x) (candidates (drawing x)) taken turned fs → Sendable editionOne (length (drawing x .vertices)) fs
+  sendable taken turned six s fs n =
+      names-sent (drawing x) fits (drawing-places (drawing x) (drawing-fine x p)) (small x (form-fine x p) .1) taken turned s fs n
+
+  -- they are accepted, packed
   packed : (taken turned : List Bool) (six : ℕ) → IsSolid (drawing x) (candidates (drawing x)) taken turned six → (fs : List Loop)
       → Names (drawing x) (candidates (drawing x)) taken turned fs → checked x (encodeFaces editionOne fs) ≡ Accepted
   packed taken turned six s fs n =
-      let m = small x (form-fine x p) in
-      let b = faces-read-one (length (drawing x .vertices)) (m .0) fs
-      (names-sent (drawing x) fits (drawing-places (drawing x) (drawing-fine x p)) (m .1) taken turned s fs n) in
+      let b = faces-read-one (length (drawing x .vertices)) (small x (form-fine x p) .0) fs (sendable taken turned six s fs n) in
       checked-is x (encodeFaces editionOne fs)
       ∙ each-accepted (form x) (drawing x) (form-fine x p) (drawing-fine x p) (loops-fine x p) taken turned six s
       (encodeFaces editionOne fs) (b .shape)
@@ -184,6 +189,9 @@ module _ (x : Input) (p : Passes x) where
         some =
             λ i l. subst (NamesIt x (entryAt es i)) (sym (own t i l))
             (faceList-names (drawing x) (candidates (drawing x)) fits (entryAt es i .taken) (entryAt es i .turned) (all .each i l));
+        sent =
+            λ i l fs n. sent-taken (small x (form-fine x p) .0) fs
+            (sendable (entryAt es i .taken) (entryAt es i .turned) (entryAt es i .six) (all .each i l) fs n);
         other = among es all;
         differ = differ es all;
         same = alone es all;

@@ -1,15 +1,17 @@
--- Faces that name a solid, in any order and from any starts, can be sent as a face list. Assumes nothing.
+-- Faces that name a solid, in any order and from any starts, can be sent as a face list, in 338 bytes. Assumes nothing.
 use mathlib.Core.Path.{_≡_, sym, subst, _∙_}
 use mathlib.Core.Bool.{Bool, true, false, cond}
 use mathlib.Core.Option.{none}
-use mathlib.Core.List.{List}
-use Prim.Native.Nat.{ℕ, zero, suc, _≤_, _<_}
+use mathlib.Core.Logic.{inl, inr}
+use mathlib.Core.List.{List, [], _∷_}
+use Prim.Native.Nat.{ℕ, zero, suc, _*_, _≤_, _<_}
 use native.Mathlib.Omega.{arith}
 use native.Mathlib.Decide.{decLt, ℕ-discrete}
 use lib.ListN.{length, List·getD-eq-default}
 use Rattle.sets.specs.Word.{dig}
 use Rattle.sets.proofs.Digits.{never}
-use Rattle.paper.specs.Format.{editionOne}
+use Rattle.paper.specs.Format.{editionOne, bytesFor}
+use Rattle.paper.specs.FaceList.{span, bitsOf}
 use Rattle.paper.specs.Drawing.{Wire, samePlace}
 use Rattle.paper.specs.Loops.{Loop, loopAt, flipped, candidates}
 use Rattle.means_solid.specs.Solid.{IsSolid}
@@ -19,6 +21,7 @@ use Rattle.means_sheets.specs.FaceLists.{Sendable}
 use Rattle.means_check.specs.Sent.{faceList}
 use Rattle.means_check.specs.Candidates.{Candidates}
 use Rattle.means_check.specs.Bodies.{Singly, SameBody}
+use Rattle.demands.specs.Shells.{NoList}
 use Rattle.means_loops.proofs.Rings.{same-sym, same-trans}
 use Rattle.means_loops.proofs.Paths.{path-same, path-flip, loop-path}
 use Rattle.means_loops.proofs.Listing.{candidates-are}
@@ -120,3 +123,20 @@ module _ (d : Wire) (c : Candidates d (candidates d)) (apart : samePlace d ≡ n
         many = λ i h. path fs n i h .twelve;
         numbers = λ i j h l. path fs n i h .inside j l;
       }
+
+-- ---- what can be sent is taken by the writer: at most 42 faces of at most 12 corners each, in 2,698 bits
+
+most-bits : (fs : List Loop) → ((i : ℕ) → i < length fs → length (loopAt fs i) ≤ 12) → span editionOne fs ≤ 64 * length fs
+unfolding span
+most-bits [] h = omega arith
+most-bits (l ∷ fs) h = omega (arith, h 0 (omega arith), most-bits fs (λ i p. h (suc i) (omega (arith, p))))
+
+pub sent-taken : {v : ℕ} → v ≤ 32 → (fs : List Loop) → Sendable editionOne v fs
+    → (NoList fs → ⊥) × (bytesFor (bitsOf editionOne fs) ≤ 338)
+unfolding bitsOf
+sent-taken {v} low fs s = (taken, omega (arith, s .most, most-bits fs (s .many)))
+  where
+    taken : NoList fs → ⊥
+    taken (inl (inl h)) = omega (arith, h, s .least)
+    taken (inl (inr h)) = omega (arith, h, s .most)
+    taken (inr h) = h (λ i p. (s .few i p, s .many i p, λ j q. omega (arith, s .numbers i j p q, low)))

@@ -2,10 +2,10 @@
 use mathlib.Core.Path.{_≡_}
 use mathlib.Core.Logic.{_↔_}
 use mathlib.Core.List.{List, _++_, flatMap}
-use Prim.Native.Nat.{ℕ, _+_, _*_, _<_}
+use Prim.Native.Nat.{ℕ, _+_, _*_, _≤_, _<_}
 use lib.ListN.{length, getD, drop}
-use Rattle.paper.specs.Format.{editionOne}
-use Rattle.paper.specs.FaceList.{encodeFaces, facesIn, solidFaces}
+use Rattle.paper.specs.Format.{editionOne, bytesFor}
+use Rattle.paper.specs.FaceList.{encodeFaces, facesIn, bitsOf, solidFaces}
 use Rattle.paper.specs.Loops.{Loop}
 use Rattle.paper.specs.Conversion.{Converted}
 use Rattle.paper.specs.declared.Refusal.{Refusal}
@@ -16,7 +16,7 @@ use Rattle.means_report.specs.Listed.{Entry, entryAt, wordsOf}
 use Rattle.means_check.specs.Bodies.{SameBody}
 use Rattle.demands.specs.Input.{Input, drawing, candidatesOf, Passes, converted, checked, reported}
 use Rattle.demands.specs.Solid.{Every, NamesOne}
-use Rattle.demands.specs.Shells.{Shape}
+use Rattle.demands.specs.Shells.{Shape, NoList}
 use Rattle.demands.specs.Spoiled.{Spoiled}
 
 module _ (x : Input) where
@@ -35,6 +35,9 @@ module _ (x : Input) where
     pub each : (i : ℕ) → i < length es → (fs : List Loop) → NamesIt (entryAt es i) fs → checked x (encodeFaces editionOne fs) ≡ Accepted
     pub some : (i : ℕ) → i < length es
         → NamesIt (entryAt es i) (solidFaces (r .faces) (getD (r .solids) (3 * i) 0) (getD (r .solids) (3 * i + 1) 0))
+    -- such faces can be sent: the writer of face lists takes them, and 338 bytes are enough
+    pub sent : (i : ℕ) → i < length es → (fs : List Loop) → NamesIt (entryAt es i) fs
+        → (NoList fs → ⊥) × (bytesFor (bitsOf editionOne fs) ≤ 338)
     -- "no other body is": what is accepted names one of the n
     pub other : (list : List ℕ) → checked x list ≡ Accepted → (i : ℕ) × (i < length es) × NamesIt (entryAt es i) (facesIn editionOne list)
     -- the n are n bodies: no two have lists that are the same body

@@ -1,4 +1,5 @@
--- `demanded::read_sheet`: its contract is what demand 1 is proved of. Assumes nothing.
+-- `demanded::read_sheet`: its contract is what demands 1 and 2 are proved of. Assumes nothing.
+use native.Mathlib.Omega.{arith}
 use denote.Ref.{now}
 use Rattle.demanded.proofs.Demanding.{reads}
 use borrow.Author.Needs.{needs}
@@ -9,7 +10,9 @@ read-sheet-requires : tie.Need-read-sheet-requires
 read-sheet-requires c κs = search needs
 
 returns : tie.Need-returns
-returns c = reads (now (c .before .before .args .sheet)) (c .read-sheet .ensures .0)
+returns c =
+    let k = c .before in
+    reads (now (k .before .args .sheet)) (λ i. omega (arith, k .shared-slice-known .given i)) (c .read-sheet .ensures .0)
 
 pub read-sheet-spec : {M : Type 1} → statement M
 read-sheet-spec = tie.close (tie.spec read-sheet-requires returns)

@@ -1,5 +1,7 @@
 -- `demanded_words::read_sheet`: its contract is what demands 1 and 2 are proved of. Assumes nothing.
+use native.Mathlib.Omega.{arith}
 use denote.Ref.{now}
+use Rattle.pack.specs.Bits.{Under}
 use Rattle.demanded_words.proofs.Lists.{reads}
 use borrow.Author.Needs.{needs}
 use Rattle.demanded_words.proofs.read_sheet.Statement.{statement}
@@ -20,8 +22,10 @@ same-length-3 c = search needs
 returns : tie.Need-returns
 returns c =
     let k = c .before .before .before .before .before in
-    let a = k .before .before .before .before .before .before .before .args in
-    reads (now (a .sheet)) (now (a .xyz)) (now (a .ends)) (k .nibgravel-read-sheet .ensures)
+    let s = k .before .before .before .before .before .before in
+    let a = s .before .args in
+    let bytes : Under 256 (now (a .sheet)) = λ i. omega (arith, s .shared-slice-known .given i) in
+    reads (now (a .sheet)) bytes (now (a .xyz)) (now (a .ends)) (k .nibgravel-read-sheet .ensures)
 
 pub read-sheet-spec : {M : Type 1} → statement M
 read-sheet-spec = tie.close (tie.spec nibgravel-read-sheet-requires same-length same-length-2 same-length-3 returns)

@@ -1,0 +1,157 @@
+-- Demand 3, of a report and the lists that are checked; and each reported solid, sent as a list, is accepted. Assumes nothing.
+use mathlib.Core.Bool.{Bool, true}
+use mathlib.Core.Logic.{inl, inr}
+use mathlib.Core.List.{List, [], _∷_, flatMap}
+use mathlib.Core.Path.{_≡_, refl, sym, ap, _∙_}
+use Prim.Native.Nat.{ℕ, _+_, _*_, _≤_, _<_}
+use native.Mathlib.Omega.{arith}
+use lib.ListN.{length, getD, take, drop, length-append}
+use lib.Seq.{take-at}
+use Rattle.paper.specs.Format.{editionOne, bytesFor}
+use Rattle.paper.specs.Loops.{Loop}
+use Rattle.paper.specs.FaceList.{bitsOf, encodeFaces, solidFaces, sentOf, sentRoom}
+use Rattle.paper.specs.declared.Conversion.{Conversion}
+use Rattle.paper.specs.declared.Conversion.the-variants as Conversion
+use Rattle.paper.specs.declared.Refusal.{Refusal}
+use Rattle.paper.specs.declared.Verdict.{Verdict}
+use Rattle.paper.specs.declared.Verdict.the-variants as Verdict
+use Rattle.paper.specs.declared.Written.{Written}
+use Rattle.paper.specs.declared.Written.the-variants as Written
+use Rattle.convert.specs.Converts.{leaves}
+use Rattle.means_report.specs.Listed.{Entry, entryAt, wordsOf}
+use Rattle.demands.specs.Input.{Input, converted, checked, reported}
+use Rattle.demands.specs.Demand1.{Within}
+use Rattle.demands.specs.Demand3.{Report}
+use Rattle.demands.specs.Shells.{NoList}
+use Rattle.demands.specs.Table.{one, end, ofWritten}
+use Rattle.demands.proofs.Demand3.{demand3}
+use Rattle.means_sheets.proofs.FaceLists.Room.{length-encoded}
+use Rattle.demanded.specs.Demanded.{Converts, Stands, Sends}
+use Rattle.demanded.proofs.Demanding as Demanding
+use Rattle.demanded_together.specs.Together.{Lists, Agrees, AcceptedAsSent}
+
+-- three words for each solid
+words-long : (es : List Entry) → length (flatMap wordsOf es) ≡ 3 * length es
+unfolding flatMap
+words-long [] = refl
+words-long (e ∷ es) = omega (arith, words-long es)
+
+module _ (x : Input) (limit : ℕ) (faces₀ solids₀ : List ℕ) {c : Conversion} {faces solids : List ℕ}
+    (e : leaves c faces solids ≡ converted x limit faces₀ solids₀) where
+  made : Converts x limit faces₀ solids₀ c faces solids
+  made = Demanding.converts x limit faces₀ solids₀ e
+
+  -- ---- two lists
+
+  module _ (list other : List ℕ) {v w : Verdict} (is : v ≡ checked x list) (is-other : w ≡ checked x other) where
+    lists : 0 < reported c → Lists x limit faces₀ solids₀ list other faces solids (record { conversion = c; first = v; second = w })
+    lists h =
+        let r = made .reports h in
+        let y = Demanding.checks x list is in
+        let ok = made .passed h .0 in
+        record {
+          es = r .es;
+          n = r .n;
+          all = r .all;
+          words = r .words;
+          exactly = (
+            λ a. (y .exactly ok .0 a .0, r .other list (sym is ∙ a)),
+            λ p. y .exactly ok .1 (
+              p .0,
+              record {
+                taken = entryAt (r .es) (p .1 .0) .taken;
+                turned = entryAt (r .es) (p .1 .0) .turned;
+                six = entryAt (r .es) (p .1 .0) .six;
+                solid = r .all .each (p .1 .0) (p .1 .1);
+                run = entryAt (r .es) (p .1 .0) .turned;
+                names = p .1 .2;
+                directions = λ k. refl;
+              },
+            ),
+          );
+          same = λ n a b. r .same n list other (sym is ∙ a) (sym is-other ∙ b);
+        }
+
+    pub agrees : Agrees x limit faces₀ solids₀ list other faces solids (record { conversion = c; first = v; second = w })
+    agrees = record {
+      converts = made;
+      checks = Demanding.checks x list is;
+      checks-other = Demanding.checks x other is-other;
+      lists = lists;
+      spoiled = λ ok a s. let q = demand3 x ok .refused list other (sym is ∙ a) s in (q .0, is-other ∙ q .1);
+    }
+
+  -- ---- a solid of the report
+
+  few : (a : Conversion) → Within limit a → reported a ≤ 8
+  few (Conversion.One l n work six) w = omega arith
+  few (Conversion.Several l n work k) w = w .2
+  few (Conversion.NoSolid l n work) w = omega arith
+  few (Conversion.Many l n work) w = omega arith
+  few (Conversion.TooLong l n work) w = omega arith
+  few (Conversion.Refused f) w = omega arith
+
+  module _ (i : ℕ) (there : i < reported c) where
+    report : Report x solids₀ (leaves c faces solids)
+    report = made .reports (omega (arith, there))
+
+    -- its words are in the room
+    pub in-room : (i < 8) × (3 * i + 1 < length solids)
+    in-room = (
+      omega (arith, there, few c (made .within)),
+      omega (
+        arith,
+        there,
+        report .n,
+        words-long (report .es),
+        ap length (report .words),
+        length-append (flatMap wordsOf (report .es)) (drop (3 * length (report .es)) solids₀),
+      ),
+    )
+
+    abbrev fs : List Loop
+    fs = solidFaces faces (getD solids (3 * i) 0) (getD solids (3 * i + 1) 0)
+
+    inside : i < length (report .es)
+    inside = omega (arith, there, report .n)
+
+    taken : (NoList fs → ⊥) × (bytesFor (bitsOf editionOne fs) ≤ 338)
+    taken = report .sent i inside fs (report .some i inside)
+
+    pub accepted : {b : Bool} → AcceptedAsSent x fs b → b ≡ true
+    accepted h = h (taken .0) (taken .1) (report .each i inside fs (report .some i inside))
+
+-- ---- faces that are sent in 338 bytes
+
+pub sent-fits : (fs : List Loop) (room₀ : List ℕ) {n : ℕ} → Written.Bytes n ≡ sentOf editionOne fs room₀ → n ≤ length room₀
+sent-fits fs room₀ {n} e = go (Demanding.sends fs room₀ e refl)
+  where
+    go : Sends fs room₀ (Written.Bytes n) (sentRoom editionOne fs room₀) → n ≤ length room₀
+    go h = omega (arith, h .first .1 .0 0 (omega arith), h .sent n refl .size, length-encoded editionOne fs room₀)
+
+module _ (x : Input) (fs : List Loop) (room₀ : List ℕ) (long : length room₀ ≡ 338) where
+  abbrev table : Written → Type 0
+  table w = one 20 (NoList fs) (one 1 (length room₀ < bytesFor (bitsOf editionOne fs)) end) (ofWritten w)
+
+  -- what can be sent is not refused
+  pub unsent : {f : Refusal} {b : Bool} → Written.Refused f ≡ sentOf editionOne fs room₀ → AcceptedAsSent x fs b
+  unsent {f} {b} q can fits ok = absurd (go (Demanding.sends fs room₀ q refl .first))
+    where
+      go : table (Written.Refused f) → ⊥
+      go (inl p) = can (p .1 .1)
+      go (inr (p, inl q)) = omega (arith, q .1 .1, fits, long)
+      go (inr (p, inr q)) = q .1
+
+  module _ {n : ℕ} {room : List ℕ} (q : Written.Bytes n ≡ sentOf editionOne fs room₀) (p : room ≡ sentRoom editionOne fs room₀) where
+    stands : Stands (encodeFaces editionOne fs) room₀ n room
+    stands = Demanding.sends fs room₀ q p .sent n refl
+
+    list-is : take n room ≡ encodeFaces editionOne fs
+    list-is =
+        ap (take n) (stands .there) ∙ take-at (encodeFaces editionOne fs) (drop n room₀) n (sym (stands .size))
+
+    pub unaccepted : {f : Refusal} {b : Bool} → Verdict.Refused f ≡ checked x (take n room) → AcceptedAsSent x fs b
+    unaccepted {f} e can fits ok =
+        let c : Verdict.Refused f ≡ Verdict.Accepted = e ∙ ap (checked x) list-is ∙ ok in
+        let z : _≡_ {A = ℕ} 0 1 = cc in
+        absurd (omega (arith, z))

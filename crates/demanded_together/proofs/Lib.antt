@@ -1,0 +1,3 @@
+-- From the contracts of several calls to the customer's demand. Assumes nothing.
+pub mod Agreeing
+pub mod Back

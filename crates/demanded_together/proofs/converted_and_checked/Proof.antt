@@ -1,0 +1,34 @@
+-- `demanded_together::converted_and_checked`: three calls of one drawing, of which demand 3 holds. Assumes nothing.
+use denote.Ref.{now}
+use Rattle.demands.specs.Input.{lent}
+use Rattle.demanded_together.proofs.Agreeing.{agrees}
+use borrow.Author.Needs.{needs}
+use Rattle.demanded_together.proofs.converted_and_checked.Statement.{statement}
+use Rattle.demanded_together.proofs.converted_and_checked.Tie as tie
+
+convert-requires : tie.Need-convert-requires
+convert-requires c κs = search needs
+
+check-requires : tie.Need-check-requires
+check-requires c κs = search needs
+
+check-requires-2 : tie.Need-check-requires-2
+check-requires-2 c κs = search needs
+
+same-length : tie.Need-same-length
+same-length c = search needs
+
+same-length-2 : tie.Need-same-length-2
+same-length-2 c = search needs
+
+returns : tie.Need-returns
+returns c =
+    let k = c .before .before .before .before .before .before in
+    let a = k .before .before .before .before .before .before .before .before .args in
+    agrees (lent (now (a .xyz)) (now (a .ends))) (a .limit) (now (a .faces)) (now (a .solids)) (k .convert .ensures .0) (now (a .list))
+    (now (a .other)) (c .before .check .ensures .0) (c .check2 .ensures .0)
+
+pub converted-and-checked-spec : {M : Type 1} → statement M
+converted-and-checked-spec =
+    tie.close
+    (tie.spec convert-requires check-requires check-requires-2 same-length same-length-2 returns)

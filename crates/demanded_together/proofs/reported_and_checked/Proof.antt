@@ -1,0 +1,104 @@
+-- `demanded_together::reported_and_checked`: a reported solid has its words in the room, and is accepted as sent. Assumes nothing.
+use Prim.Native.Nat.{_+_, _*_, _<_}
+use native.Mathlib.Omega.{arith}
+use denote.Ref.{now}
+use lib.ListN.{length}
+use Rattle.demands.specs.Input.{lent, reported}
+use Rattle.demanded_together.proofs.Agreeing.{in-room, accepted}
+use borrow.Author.Needs.{needs}
+use Rattle.demanded_together.proofs.reported_and_checked.Statement.{statement}
+use Rattle.demanded_together.proofs.reported_and_checked.Tie as tie
+
+-- from the branch back to the conversion, and to the start
+abbrev made : tie.Else1 → tie.After-convert
+made e = e .before .before .before .before .before .before
+
+abbrev start : tie.After-convert → tie.Start
+start k = k .before .before .before .before .before .before
+
+-- solid i is reported, and its words are in the room
+there : (e : tie.Else1) → start (made e) .args .i < reported (made e .convert .result)
+there e = omega (arith, e .if1 .left, e .before .solids-in .ensures)
+
+abbrev Held : tie.Else1 → Type 0
+Held e = (start (made e) .args .i < 8) × (3 * start (made e) .args .i + 1 < length (made e .convert .last .1 .1 .1 .1 .0))
+
+held : (e : tie.Else1) → Held e
+held e =
+    let k = made e in
+    let a = start k .args in
+    in-room (lent (now (a .xyz)) (now (a .ends))) (a .limit) (now (a .faces)) (now (a .solids)) (k .convert .ensures .0) (a .i) (there e)
+
+convert-requires : tie.Need-convert-requires
+convert-requires c κs = search needs
+
+solids-in-requires : tie.Need-solids-in-requires
+solids-in-requires c κs = search needs
+
+same-length : tie.Need-same-length
+same-length c = search needs
+
+same-length-2 : tie.Need-same-length-2
+same-length-2 c = search needs
+
+returns : tie.Need-returns
+returns c = search needs
+
+mul-sent-and-checked : tie.Need-mul-sent-and-checked
+mul-sent-and-checked c = omega (arith, held (c .before))
+
+mul-sent-and-checked-2 : tie.Need-mul-sent-and-checked-2
+mul-sent-and-checked-2 c = omega (arith, held (c .before))
+
+slice-read-sent-and-checked : tie.Need-slice-read-sent-and-checked
+slice-read-sent-and-checked c = omega (arith, held (c .before .before))
+
+mul-sent-and-checked-3 : tie.Need-mul-sent-and-checked-3
+mul-sent-and-checked-3 c = omega (arith, held (c .before .before))
+
+add-sent-and-checked : tie.Need-add-sent-and-checked
+add-sent-and-checked c = omega (arith, held (c .before .before))
+
+mul-sent-and-checked-4 : tie.Need-mul-sent-and-checked-4
+mul-sent-and-checked-4 c = omega (arith, held (c .before .before))
+
+slice-read-sent-and-checked-2 : tie.Need-slice-read-sent-and-checked-2
+slice-read-sent-and-checked-2 c = omega (arith, held (c .before .before .before))
+
+sent-and-checked-requires : tie.Need-sent-and-checked-requires
+sent-and-checked-requires c κs = search needs
+
+same-length-3 : tie.Need-same-length-3
+same-length-3 c = search needs
+
+same-length-4 : tie.Need-same-length-4
+same-length-4 c = search needs
+
+returns-2 : tie.Need-returns-2
+returns-2 c =
+    let e = c .before .before .before .before in
+    let k = made e in
+    let a = start k .args in
+    accepted (lent (now (a .xyz)) (now (a .ends))) (a .limit) (now (a .faces)) (now (a .solids)) (k .convert .ensures .0) (a .i) (there e)
+    (c .sent-and-checked .ensures)
+
+pub reported-and-checked-spec : {M : Type 1} → statement M
+reported-and-checked-spec =
+    tie.close
+    (tie.spec
+    convert-requires
+    solids-in-requires
+    same-length
+    same-length-2
+    returns
+    mul-sent-and-checked
+    mul-sent-and-checked-2
+    slice-read-sent-and-checked
+    mul-sent-and-checked-3
+    add-sent-and-checked
+    mul-sent-and-checked-4
+    slice-read-sent-and-checked-2
+    sent-and-checked-requires
+    same-length-3
+    same-length-4
+    returns-2)

@@ -1,0 +1,102 @@
+-- `demanded_together::sent_and_checked`: what was written is checked, and was written where it can be. Assumes nothing.
+use mathlib.Core.List.{List}
+use mathlib.Core.Path.{sym, _∙_}
+use Prim.Native.Nat.{ℕ, _≤_}
+use native.Mathlib.Omega.{arith}
+use denote.Ref.{now}
+use lib.ListN.{replicate, length-replicate}
+use lib.Seq.{length-take-le}
+use Rattle.paper.specs.Loops.{Loop}
+use Rattle.paper.specs.FaceList.{solidFaces}
+use Rattle.demands.specs.Input.{Input, lent}
+use Rattle.demanded_together.proofs.Agreeing.{sent-fits, unsent, unaccepted}
+use borrow.Author.Needs.{needs}
+use Rattle.demanded_together.proofs.sent_and_checked.Statement.{statement}
+use Rattle.demanded_together.proofs.sent_and_checked.Tie as tie
+
+-- the ways back to the writer's call, and to the start
+abbrev wrote : tie.After-sent → tie.After-write-faces
+wrote c = c .before .before .before
+
+abbrev start : tie.After-write-faces → tie.Start
+start w = w .before .before .before .before
+
+-- the faces, and the room for their list
+abbrev faces : tie.After-write-faces → List Loop
+faces w = let a = start w .args in solidFaces (now (a .rows)) (a .taken) (a .turned)
+
+abbrev drawn : tie.After-write-faces → Input
+drawn w = let a = start w .args in lent (now (a .xyz)) (now (a .ends))
+
+abbrev room : List ℕ
+room = replicate 338 0
+
+-- the bytes that it reports are in its room
+in-room : (c : tie.After-sent) → c .sent .given .0 .0 ≤ 338
+in-room c =
+    let w = wrote c in
+    omega (
+      arith,
+      length-replicate {A = ℕ} 338 0,
+      sent-fits (faces w) room (sym (c .sent .given .1) ∙ w .write-faces .ensures .0),
+    )
+
+slice-aggregate-write-faces : tie.Need-slice-aggregate-write-faces
+slice-aggregate-write-faces c = search needs
+
+write-faces-requires : tie.Need-write-faces-requires
+write-faces-requires c κs = search needs
+
+enum-told : tie.Need-enum-told
+enum-told c = search needs
+
+enum-known-sent : tie.Need-enum-known-sent
+enum-known-sent c = search needs
+
+array-share-prefix-room : tie.Need-array-share-prefix-room
+array-share-prefix-room c = omega (arith, in-room (c .before))
+
+slice-aggregate-check : tie.Need-slice-aggregate-check
+slice-aggregate-check c = sym (length-take-le _ _ (omega (arith, in-room (c .before .before))))
+
+check-requires : tie.Need-check-requires
+check-requires c κs = search needs
+
+enum-told-2 : tie.Need-enum-told-2
+enum-told-2 c = search needs
+
+enum-told-3 : tie.Need-enum-told-3
+enum-told-3 c = search needs
+
+returns : tie.Need-returns
+returns c =
+    let w = c .before .before .before in
+    unsent (drawn w) (faces w) room (length-replicate {A = ℕ} 338 0) (sym (c .enum-told .given .1) ∙ w .write-faces .ensures .0)
+
+returns-2 : tie.Need-returns-2
+returns-2 c = search needs
+
+returns-3 : tie.Need-returns-3
+returns-3 c =
+    let k = c .before .before in
+    let n = k .before .before .before in
+    let w = wrote n in
+    unaccepted (drawn w) (faces w) room (length-replicate {A = ℕ} 338 0) (sym (n .sent .given .1) ∙ w .write-faces .ensures .0)
+    (w .write-faces .ensures .1 .1) (sym (c .enum-told3 .given .1) ∙ k .check .ensures .0)
+
+pub sent-and-checked-spec : {M : Type 1} → statement M
+sent-and-checked-spec =
+    tie.close
+    (tie.spec
+    slice-aggregate-write-faces
+    write-faces-requires
+    enum-told
+    enum-known-sent
+    array-share-prefix-room
+    slice-aggregate-check
+    check-requires
+    enum-told-2
+    enum-told-3
+    returns
+    returns-2
+    returns-3)

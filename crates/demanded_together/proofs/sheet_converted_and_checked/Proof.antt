@@ -1,0 +1,40 @@
+-- `demanded_together::sheet_converted_and_checked`: three calls of one sheet, of which demand 3 holds. Assumes nothing.
+use denote.Ref.{now}
+use Rattle.demands.specs.Input.{sheet}
+use Rattle.demanded_together.proofs.Agreeing.{agrees}
+use borrow.Author.Needs.{needs}
+use Rattle.demanded_together.proofs.sheet_converted_and_checked.Statement.{statement}
+use Rattle.demanded_together.proofs.sheet_converted_and_checked.Tie as tie
+
+convert-sheet-requires : tie.Need-convert-sheet-requires
+convert-sheet-requires c κs = search needs
+
+check-sheet-requires : tie.Need-check-sheet-requires
+check-sheet-requires c κs = search needs
+
+check-sheet-requires-2 : tie.Need-check-sheet-requires-2
+check-sheet-requires-2 c κs = search needs
+
+same-length : tie.Need-same-length
+same-length c = search needs
+
+same-length-2 : tie.Need-same-length-2
+same-length-2 c = search needs
+
+returns : tie.Need-returns
+returns c =
+    let k = c .before .before .before .before .before .before in
+    let a = k .before .before .before .before .before .before .before .before .args in
+    agrees (sheet (now (a .sheet))) (a .limit) (now (a .faces)) (now (a .solids)) (k .convert-sheet .ensures .0) (now (a .list)) (now (a .other))
+    (c .before .check-sheet .ensures .0) (c .check-sheet2 .ensures .0)
+
+pub sheet-converted-and-checked-spec : {M : Type 1} → statement M
+sheet-converted-and-checked-spec =
+    tie.close
+    (tie.spec
+    convert-sheet-requires
+    check-sheet-requires
+    check-sheet-requires-2
+    same-length
+    same-length-2
+    returns)

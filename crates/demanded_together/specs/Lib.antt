@@ -1,0 +1,2 @@
+-- The customer's demands of calls that follow each other. Assumes nothing.
+pub mod Together
