@@ -57,7 +57,8 @@ pub fn convert_sheet(
 }
 
 pub fn assess(xyz: &[i64], ends: &[u8], limit: u64, volume: &mut [f64]) -> u64
-    ensures { λ r. ⌜ AssessesInWords (lent (now (xyz .entry)) (now (ends .entry))) limit r (now (volume .entry)) (now (volume .exit)) ⌝ }
+    ensures { λ r. ⌜ AssessesInWords (lent (now (xyz .entry)) (now (ends .entry))) limit r
+        (now (volume .entry)) (now (volume .exit)) ⌝ }
 {
     export::nibgravel_assess(xyz, ends, limit, volume)
 }
