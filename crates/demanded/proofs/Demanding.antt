@@ -28,8 +28,8 @@ use Rattle.assess.specs.Assessed.{Assessed}
 use Rattle.faces_laws.proofs.FaceList.{length-in}
 use Rattle.means_sheets.specs.FaceLists.{returned}
 use Rattle.means_sheets.proofs.Sheets.{reads-back-one}
-use Rattle.means_sheets.proofs.Sheets.Room as Sheet
-use Rattle.means_sheets.proofs.FaceLists.Room as List
+use Rattle.means_sheets.proofs.Sheets.Room as SheetRoom
+use Rattle.means_sheets.proofs.FaceLists.Room as ListRoom
 use Rattle.demands.specs.Input.{Input, lent, converted, checked}
 use Rattle.demands.specs.Shells.{NoList}
 use Rattle.demands.specs.Sheets as Sheets
@@ -84,8 +84,11 @@ reads s bytes e =
     })
 
 -- the length that is reported is that of the bytes
-same-size : {w : Written} {n m : ℕ} → w ≡ Written.Bytes n → w ≡ Written.Bytes m → n ≡ m
-same-size p q = cc
+pub stands : {w : Written} {s room₀ room : List ℕ} {n : ℕ} → w ≡ Written.Bytes n → w ≡ Written.Bytes (length s)
+    → room ≡ s ++ drop (length s) room₀ → Stands s room₀ n room
+stands {s = s} {room₀ = room₀} {n = n} p q left =
+    let size : n ≡ length s = cc in
+    record { size = size; there = left ∙ ap (λ (m : ℕ). s ++ drop m room₀) (sym size) }
 
 module _ (xyz : List ℤ) (ends room₀ : List ℕ) where
   abbrev written : Written → Type 0
@@ -98,10 +101,9 @@ module _ (xyz : List ℤ) (ends room₀ : List ℕ) where
   written-back n e =
       let s = encode editionOne xyz ends in
       let roomy = subst written e (demand1 .writes xyz ends room₀) .1 .1 .1 .1 .0 0 (omega arith) in
-      let h = Sheet.written-lent editionOne xyz ends room₀ n e in
-      let w = Sheet.writes editionOne xyz ends s room₀ h refl (omega (arith, roomy, Sheet.length-sheet editionOne xyz ends)) in
-      let size = same-size e (w .0) in
-      (s, record { size = size; there = w .1 ∙ ap (λ (m : ℕ). s ++ drop m room₀) (sym size) }, reads-back-one xyz ends .sheet h)
+      let h = SheetRoom.written-lent editionOne xyz ends room₀ n e in
+      let w = SheetRoom.writes editionOne xyz ends s room₀ h refl (omega (arith, roomy, SheetRoom.length-sheet editionOne xyz ends)) in
+      (s, stands e (w .0) (w .1), reads-back-one xyz ends .sheet h)
 
   pub writes : {r : Written} {room : List ℕ} → r ≡ writtenOf editionOne xyz ends room₀ → room ≡ roomOf editionOne xyz ends room₀
       → Writes xyz ends room₀ r room
@@ -144,10 +146,9 @@ module _ (fs : List Loop) (room₀ : List ℕ) where
   sent-stands n e =
       let s = encodeFaces editionOne fs in
       let roomy = subst sent e (demand1 .sends fs room₀) .1 .0 0 (omega arith) in
-      let w = List.sends editionOne fs room₀ (List.sent-sendable editionOne fs room₀ n e) s refl
-      (omega (arith, roomy, List.length-encoded editionOne fs room₀)) in
-      let size = same-size e (w .0) in
-      record { size = size; there = w .1 ∙ ap (λ (m : ℕ). s ++ drop m room₀) (sym size) }
+      let w = ListRoom.sends editionOne fs room₀ (ListRoom.sent-sendable editionOne fs room₀ n e) s refl
+      (omega (arith, roomy, ListRoom.length-encoded editionOne fs room₀)) in
+      stands e (w .0) (w .1)
 
   pub sends : {r : Written} {room : List ℕ} → r ≡ sentOf editionOne fs room₀ → room ≡ sentRoom editionOne fs room₀ → Sends fs room₀ r room
   sends e p = record {

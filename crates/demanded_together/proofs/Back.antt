@@ -141,8 +141,7 @@ module _ (s room₀ : List ℕ) where
           record {
             first = subst by-reader (sym (ap ofWritten is ∙ last false (le-ltb (length room₀) (length s) h))) first;
             kept = λ f q. let z : _≡_ {A = ℕ} 0 1 = cc in absurd (omega (arith, z));
-            same = λ n q. let m : n ≡ length s = cc in
-                record { size = m; there = left ∙ w .1 ∙ ap (λ (k : ℕ). s ++ drop k room₀) (sym m) };
+            same = λ n q. Demanding.stands q is (left ∙ w .1);
           }
 
       pub again : WritesBack s room₀ r room

@@ -20,7 +20,7 @@ use Rattle.demands.specs.Table.{one, end, ofWritten}
 use Rattle.demands.proofs.Tests.{is-lt}
 use Rattle.demands.proofs.Table.{done, also-one, ends}
 use Rattle.demanded.specs.Demanded.{Stands}
-use Rattle.demanded.proofs.Demanding.{converts}
+use Rattle.demanded.proofs.Demanding.{converts, stands}
 use Rattle.demanded_words.specs.Text.{textOf, Prints}
 
 -- ---- any text in any room
@@ -46,14 +46,12 @@ module _ (t room₀ : List ℕ) where
       go Answer.Fine e = let z : _≡_ {A = ℕ} 0 1 = cc in absurd (omega arith)
       go (Answer.Refused g) e = refl
 
-  stands : (n : ℕ) → writtenText t room₀ ≡ Written.Bytes n → Stands t room₀ n (textRoom t room₀)
+  printed : (n : ℕ) → writtenText t room₀ ≡ Written.Bytes n → Stands t room₀ n (textRoom t room₀)
   unfolding writtenText textRoom
-  stands n = go (firstOf (textChecks t (length room₀)))
+  printed n = go (firstOf (textChecks t (length room₀)))
     where
       go : (a : Answer) → writtenFor t a ≡ Written.Bytes n → Stands t room₀ n (roomFor t a room₀)
-      go Answer.Fine e =
-          let size : length t ≡ n = cc in
-          subst (λ (m : ℕ). Stands t room₀ m (roomFor t Answer.Fine room₀)) size (record { size = refl; there = refl })
+      go Answer.Fine e = stands e refl refl
       go (Answer.Refused g) e = let z : _≡_ {A = ℕ} 0 1 = cc in absurd (omega arith)
 
 -- ---- the desk's
@@ -77,6 +75,6 @@ module _ (s : List ℕ) where
         converts = converts (sheet s) 1000000 (replicate 832 0) (replicate 24 0) refl;
         first = subst (λ (w : Written). one 1 (length room₀ < length t) end (ofWritten w)) (sym written) (first t room₀);
         kept = λ f q. left ∙ kept t room₀ f (sym written ∙ q);
-        printed = λ n q. subst (Stands t room₀ n) (sym left) (stands t room₀ n (sym written ∙ q));
+        printed = λ n q. subst (Stands t room₀ n) (sym left) (printed t room₀ n (sym written ∙ q));
         enough = subst (λ (t : List ℕ). length t ≤ 2728) text-is (desk-short s);
       }
