@@ -2,14 +2,14 @@
 use mathlib.Core.Bool.{Bool, true, false, cond}
 use mathlib.Core.List.{List, _++_}
 use mathlib.Core.Path.{_≡_, refl, sym, ap, _∙_, subst}
-use Prim.Native.Nat.{ℕ, _/_, _<_}
+use Prim.Native.Nat.{ℕ}
 use native.Mathlib.Omega.{arith}
 use lib.IntN.{ℤ}
 use lib.ListN.{length, drop}
 use Rattle.pack.specs.Bits.{Under}
-use Rattle.paper.specs.Format.{editionOne, total, bytesFor, encode}
+use Rattle.paper.specs.Format.{editionOne, encode}
 use Rattle.paper.specs.Loops.{Loop}
-use Rattle.paper.specs.FaceList.{bitsOf, countIn, facesIn, wellShaped, noFaces, encodeFaces, facesOf, sentOf, sentRoom}
+use Rattle.paper.specs.FaceList.{countIn, facesIn, wellShaped, noFaces, encodeFaces, facesOf, sentOf, sentRoom}
 use Rattle.paper.specs.Sheet.{sheetOf, writtenOf, roomOf}
 use Rattle.paper.specs.Conversion.{Converted}
 use Rattle.paper.specs.Reading.{readingOf}
@@ -30,15 +30,14 @@ use Rattle.means_sheets.specs.FaceLists.{returned}
 use Rattle.means_sheets.proofs.Sheets.{reads-back-one}
 use Rattle.means_sheets.proofs.Sheets.Room as SheetRoom
 use Rattle.means_sheets.proofs.FaceLists.Room as ListRoom
-use Rattle.demands.specs.Input.{Input, lent, converted, checked}
-use Rattle.demands.specs.Shells.{NoList}
+use Rattle.demands.specs.Input.{Input, converted, checked}
 use Rattle.demands.specs.Sheets as Sheets
-use Rattle.demands.specs.Table.{one, end, forms, ofWritten}
+use Rattle.demands.specs.Table.{ofWritten}
 use Rattle.demands.proofs.Demand1.{demand1}
 use Rattle.demands.proofs.Demand2.{demand2}
 use Rattle.demands.proofs.Demand3.{demand3}
 use Rattle.demands.proofs.Sheets.{sheets2}
-use Rattle.demanded.specs.Demanded.{Converts, ReadAs, Assesses, Checks, Reads, Stands, Writes, ReadsFaces, Sends}
+use Rattle.demanded.specs.Demanded.{Converts, ReadAs, Assesses, Checks, Reads, byWriter, bySender, Stands, Writes, ReadsFaces, Sends}
 
 pub converts : (x : Input) (limit : ℕ) (faces₀ solids₀ : List ℕ) {r : Conversion} {faces solids : List ℕ}
     → leaves r faces solids ≡ converted x limit faces₀ solids₀ → Converts x limit faces₀ solids₀ r faces solids
@@ -92,8 +91,7 @@ stands {s = s} {room₀ = room₀} {n = n} p q left =
 
 module _ (xyz : List ℤ) (ends room₀ : List ℕ) where
   abbrev written : Written → Type 0
-  written w =
-      forms (lent xyz ends) (one 1 (length room₀ < bytesFor (total editionOne (length xyz / 3) (length ends / 2))) end) (ofWritten w)
+  written w = byWriter xyz ends room₀ (ofWritten w)
 
   -- the last line of the table, 1, doesn't offend
   written-back : (n : ℕ) → writtenOf editionOne xyz ends room₀ ≡ Written.Bytes n
@@ -139,7 +137,7 @@ reads-faces v list e =
 
 module _ (fs : List Loop) (room₀ : List ℕ) where
   abbrev sent : Written → Type 0
-  sent w = one 20 (NoList fs) (one 1 (length room₀ < bytesFor (bitsOf editionOne fs)) end) (ofWritten w)
+  sent w = bySender fs room₀ (ofWritten w)
 
   sent-stands : (n : ℕ) → sentOf editionOne fs room₀ ≡ Written.Bytes n
       → Stands (encodeFaces editionOne fs) room₀ n (sentRoom editionOne fs room₀)

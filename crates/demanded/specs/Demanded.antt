@@ -12,6 +12,7 @@ use Rattle.paper.specs.FaceList.{facesIn, bitsOf, encodeFaces, noFaces}
 use Rattle.paper.specs.Sheet.{blank, held}
 use Rattle.paper.specs.Conversion.{Converted}
 use Rattle.paper.specs.Reading.{conversionSays, volume}
+use Rattle.paper.specs.declared.Answer.{Answer}
 use Rattle.paper.specs.declared.Answer.the-variants as Answer
 use Rattle.paper.specs.declared.Conversion.{Conversion}
 use Rattle.paper.specs.declared.Conversion.the-variants as Conversion
@@ -87,6 +88,14 @@ pub record Reads (s : List ℕ) (r : Sheet) : Type 0 where
   pub again : r .answer ≡ Answer.Fine → (xyz : List ℤ) × (ends : List ℕ)
       × (r .drawing ≡ held (length xyz / 3) (length ends / 2) xyz ends) × Sheets.Writes xyz ends s
 
+-- the lines of the table for what is written: "the sheet writer 5, 8, 9, 10, then 1"; of a face list 20, then 1
+abbrev pub byWriter : List ℤ → List ℕ → List ℕ → Answer → Type 0
+byWriter xyz ends room =
+    forms (lent xyz ends) (one 1 (length room < bytesFor (total editionOne (length xyz / 3) (length ends / 2))) end)
+
+abbrev pub bySender : List Loop → List ℕ → Answer → Type 0
+bySender fs room = one 20 (NoList fs) (one 1 (length room < bytesFor (bitsOf editionOne fs)) end)
+
 -- these bytes stand at the start of the room, as many as were reported, and later room keeps its contents
 pub record Stands (s room₀ : List ℕ) (n : ℕ) (room : List ℕ) : Type 0 where
   pub size : n ≡ length s
@@ -94,9 +103,7 @@ pub record Stands (s room₀ : List ℕ) (n : ℕ) (room : List ℕ) : Type 0 wh
 
 pub record Writes (xyz : List ℤ) (ends room₀ : List ℕ) (r : Written) (room : List ℕ) : Type 0 where
   -- demand 1
-  pub first : forms (lent xyz ends)
-      (one 1 (length room₀ < bytesFor (total editionOne (length xyz / 3) (length ends / 2))) end)
-      (ofWritten r)
+  pub first : byWriter xyz ends room₀ (ofWritten r)
   pub kept : (f : Refusal) → r ≡ Written.Refused f → room ≡ room₀
   -- demand 2: what was written reads back the same
   pub back : (n : ℕ) → r ≡ Written.Bytes n → (s : List ℕ) × Stands s room₀ n room × Sheets.Reads s xyz ends
@@ -108,6 +115,6 @@ pub record ReadsFaces (v : ℕ) (list : List ℕ) (r : Faces) : Type 0 where
   pub faces : r .answer ≡ Answer.Fine → r ≡ returned (facesIn editionOne list)
 
 pub record Sends (fs : List Loop) (room₀ : List ℕ) (r : Written) (room : List ℕ) : Type 0 where
-  pub first : one 20 (NoList fs) (one 1 (length room₀ < bytesFor (bitsOf editionOne fs)) end) (ofWritten r)
+  pub first : bySender fs room₀ (ofWritten r)
   pub kept : (f : Refusal) → r ≡ Written.Refused f → room ≡ room₀
   pub sent : (n : ℕ) → r ≡ Written.Bytes n → Stands (encodeFaces editionOne fs) room₀ n room

@@ -23,10 +23,10 @@ use Rattle.demands.specs.Input.{Input, converted, checked, reported}
 use Rattle.demands.specs.Demand1.{Within}
 use Rattle.demands.specs.Demand3.{Report}
 use Rattle.demands.specs.Shells.{NoList}
-use Rattle.demands.specs.Table.{one, end, ofWritten}
+use Rattle.demands.specs.Table.{ofWritten}
 use Rattle.demands.proofs.Demand3.{demand3}
 use Rattle.means_sheets.proofs.FaceLists.Room.{length-encoded}
-use Rattle.demanded.specs.Demanded.{Converts, Stands, Sends}
+use Rattle.demanded.specs.Demanded.{Converts, bySender, Stands, Sends}
 use Rattle.demanded.proofs.Demanding as Demanding
 use Rattle.demanded_together.specs.Together.{Lists, Agrees, AcceptedAsSent}
 
@@ -130,14 +130,11 @@ sent-fits fs room₀ {n} e = go (Demanding.sends fs room₀ e refl)
     go h = omega (arith, h .first .1 .0 0 (omega arith), h .sent n refl .size, length-encoded editionOne fs room₀)
 
 module _ (x : Input) (fs : List Loop) (room₀ : List ℕ) (long : length room₀ ≡ 338) where
-  abbrev table : Written → Type 0
-  table w = one 20 (NoList fs) (one 1 (length room₀ < bytesFor (bitsOf editionOne fs)) end) (ofWritten w)
-
   -- what can be sent is not refused
   pub unsent : {f : Refusal} {b : Bool} → Written.Refused f ≡ sentOf editionOne fs room₀ → AcceptedAsSent x fs b
   unsent {f} {b} q can fits ok = absurd (go (Demanding.sends fs room₀ q refl .first))
     where
-      go : table (Written.Refused f) → ⊥
+      go : bySender fs room₀ (ofWritten (Written.Refused f)) → ⊥
       go (inl p) = can (p .1 .1)
       go (inr (p, inl q)) = omega (arith, q .1 .1, fits, long)
       go (inr (p, inr q)) = q .1

@@ -28,12 +28,12 @@ use Rattle.tables.specs.Given.{pointsOf, linksOf}
 use Rattle.means_sheets.specs.Sheets.{SheetWritesBack}
 use Rattle.means_sheets.proofs.Sheets.{reads-back-one, writes-back-one}
 use Rattle.means_sheets.proofs.Sheets.Room.{length-sheet}
-use Rattle.demands.specs.Input.{lent, sheet}
+use Rattle.demands.specs.Input.{sheet}
 use Rattle.demands.specs.Table.{one, end, forms, ofWritten}
 use Rattle.demands.proofs.Tests.{is-lt}
 use Rattle.demands.proofs.Table.{done, also-one, behind, ends}
 use Rattle.demands.proofs.Lines.{form-says}
-use Rattle.demanded.specs.Demanded.{Stands}
+use Rattle.demanded.specs.Demanded.{byWriter, Stands}
 use Rattle.demanded.proofs.Demanding as Demanding
 use Rattle.demanded_together.specs.Together.{ReadsBack, WrittenFrom, WritesBack}
 
@@ -48,16 +48,13 @@ module _ (xyz : List ℤ) (ns room₀ : List ℕ) {room : List ℕ} (left : room
   pub written-fits : {n : ℕ} → Written.Bytes n ≡ writtenOf editionOne xyz ns room₀ → n ≤ length room
   written-fits {n} e = let b = Demanding.writes xyz ns room₀ e left .back n refl in stands-fit (b .1)
 
-  abbrev by-writer : Answer → Type 0
-  by-writer = forms (lent xyz ns) (one 1 (length room₀ < bytesFor (total editionOne (length xyz / 3) (length ns / 2))) end)
-
   pub read-back : {n : ℕ} {r : Sheet} → Written.Bytes n ≡ writtenOf editionOne xyz ns room₀ → r ≡ sheetOf editionOne (take n room)
       → ReadsBack xyz ns room₀ r room
   read-back {n} {r} e is =
       let whole = is ∙ ap (λ (l : List ℕ). sheetOf editionOne (take n l)) left ∙ reads-back-one xyz ns .room room₀ n (sym e) in
       let fine : r .answer ≡ Answer.Fine = ap (λ (q : Sheet). q .answer) whole in
       record {
-        first = subst by-writer (sym fine) (Demanding.writes xyz ns room₀ e left .first);
+        first = subst (byWriter xyz ns room₀) (sym fine) (Demanding.writes xyz ns room₀ e left .first);
         kept = λ f q. let z : _≡_ {A = ℕ} 0 1 = clash (sym fine ∙ q) in absurd (omega (arith, z));
         same = λ q. ap (λ (q : Sheet). q .drawing) whole;
       }

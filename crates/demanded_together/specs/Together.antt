@@ -6,7 +6,7 @@ use mathlib.Core.Path.{_≡_}
 use Prim.Native.Nat.{ℕ, _*_, _/_, _≤_, _<_}
 use lib.IntN.{ℤ}
 use lib.ListN.{length, drop}
-use Rattle.paper.specs.Format.{editionOne, total, bytesFor}
+use Rattle.paper.specs.Format.{editionOne, bytesFor}
 use Rattle.paper.specs.Loops.{Loop}
 use Rattle.paper.specs.FaceList.{facesIn, bitsOf, encodeFaces}
 use Rattle.paper.specs.Sheet.{held, writtenOf, roomOf}
@@ -21,20 +21,18 @@ use Rattle.paper.specs.declared.Written.the-variants as Written
 use Rattle.tables.specs.Given.{pointsOf, linksOf}
 use Rattle.means_report.specs.Listed.{Entry, entryAt, wordsOf}
 use Rattle.means_check.specs.Bodies.{SameBody}
-use Rattle.demands.specs.Input.{Input, lent, sheet, drawing, candidatesOf, Passes, checked, reported}
+use Rattle.demands.specs.Input.{Input, sheet, drawing, candidatesOf, Passes, checked, reported}
 use Rattle.demands.specs.Table.{one, end, forms, ofWritten}
 use Rattle.demands.specs.Shells.{Shape, NoList}
 use Rattle.demands.specs.Solid.{Every}
 use Rattle.demands.specs.Spoiled.{Spoiled}
 use Rattle.demands.specs.Demand3.{NamesIt}
-use Rattle.demanded.specs.Demanded.{Converts, Checks, Stands}
+use Rattle.demanded.specs.Demanded.{Converts, Checks, byWriter, Stands}
 use Rattle.demanded_together.specs.declared.Told.{Told}
 
 -- demand 2, "A drawing that a sheet can hold, written out, reads back the same": or it is refused as the writer refuses it
 pub record ReadsBack (xyz : List ℤ) (ends room₀ : List ℕ) (r : Sheet) (room : List ℕ) : Type 0 where
-  pub first : forms (lent xyz ends)
-      (one 1 (length room₀ < bytesFor (total editionOne (length xyz / 3) (length ends / 2))) end)
-      (r .answer)
+  pub first : byWriter xyz ends room₀ (r .answer)
   pub kept : (f : Refusal) → r .answer ≡ Answer.Refused f → room ≡ room₀
   pub same : r .answer ≡ Answer.Fine → r .drawing ≡ held (length xyz / 3) (length ends / 2) xyz ends
 

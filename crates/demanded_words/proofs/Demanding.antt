@@ -37,7 +37,7 @@ use Rattle.demands.proofs.Answers.{numbered, volume-of-one}
 use Rattle.demanded.specs.Demanded.{Converts, Writes, Sends}
 use Rattle.demanded.proofs.Demanding as Demanding
 use Rattle.demanded_words.specs.Words.{EndsInWords, ConvertsInWords, Shown, AssessesInWords, ChecksInWords, WritesInWords}
-use Rattle.demanded_words.proofs.Numbers.{of-number, known, zero, Some, none, many, long, several}
+use Rattle.demanded_words.proofs.Numbers.{of-number, known, zero, Some, exactly, several}
 
 -- ---- conversion
 
@@ -59,10 +59,13 @@ module _ (x : Input) (limit : ℕ) (faces₀ solids₀ : List ℕ) where
     ends : {r : ℕ} → r ≡ conversionSays (made .answer) .number → EndsInWords x t limit r
     ends e =
         let k = known x limit faces₀ solids₀ in
+        let none = exactly Conversion.NoSolid 17 (omega arith) (λ l c work. refl) (made .answer) k in
+        let many = exactly Conversion.Many 18 (omega arith) (λ l c work. refl) (made .answer) k in
+        let long = exactly Conversion.TooLong 19 (omega arith) (λ l c work. refl) (made .answer) k in
         record {
-          none = λ h. of-number e (Iff·trans (none (made .answer) k) (d .none h));
-          many = of-number e (Iff·trans (many (made .answer) k) ninth);
-          long = of-number e (Iff·trans (long (made .answer) k) passed);
+          none = λ h. of-number e (Iff·trans none (d .none h));
+          many = of-number e (Iff·trans many ninth);
+          long = of-number e (Iff·trans long passed);
         }
 
   pub converts : {r : ℕ} {faces solids words₀ words : List ℕ} → ConvertsAs made r faces solids words₀ words

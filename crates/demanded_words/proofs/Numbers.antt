@@ -1,17 +1,17 @@
 -- Which number is said of a conversion's answer, and of its reading. Assumes nothing.
-use mathlib.Core.Logic.{_↔_, _⊎_, inl, inr}
-use mathlib.Core.List.{List}
+use mathlib.Core.Logic.{_↔_}
+use mathlib.Core.List.{List, [], _∷_}
 use mathlib.Core.Path.{_≡_, refl, sym, ap, _∙_, subst}
 use Prim.Native.Nat.{ℕ, _≤_, _<_}
 use native.Mathlib.Omega.{arith}
-use Rattle.paper.specs.Reading.{conversionSays, readingOf, readingSays}
+use Rattle.paper.specs.Reading.{Said, conversionSays, readingOf, readingSays}
 use Rattle.paper.specs.declared.Conversion.{Conversion}
 use Rattle.paper.specs.declared.Conversion.the-variants as Conversion
 use Rattle.paper.specs.declared.Refusal.{Refusal}
 use Rattle.demands.specs.Input.{Input, converted, reported}
 use Rattle.demands.specs.Demand1.{Within}
 use Rattle.demands.proofs.Demand1.{demand1}
-use Rattle.demands.proofs.Answers.{numbered}
+use Rattle.demands.proofs.Answers.{numbered, told}
 
 -- what holds exactly where n is k, said of what equals n
 pub of-number : {r n k : ℕ} {A : Type 0} → r ≡ n → (n ≡ k) ↔ A → (r ≡ k) ↔ A
@@ -44,60 +44,30 @@ zero (Conversion.Refused f) k = (λ e. absurd (omega (arith, e, k .above f refl)
 abbrev pub Some : (ℕ → ℕ → ℕ → Conversion) → Conversion → Type 0
 Some kind a = (l c work : ℕ) × (a ≡ kind l c work)
 
--- the number of such an answer
-pub said : (kind : ℕ → ℕ → ℕ → Conversion) {n : ℕ} → ((l c work : ℕ) → conversionSays (kind l c work) .number ≡ n) → {a : Conversion}
-    → Some kind a → conversionSays a .number ≡ n
-said kind is p = ap (λ (a : Conversion). conversionSays a .number) (p .3) ∙ is (p .0) (p .1) (p .2)
+-- what is said of such an end: its number, the work for a place, and the counts
+abbrev ended : ℕ → ℕ → ℕ → ℕ → Said
+ended n l c work = record { number = n; place = work; values = l ∷ c ∷ [] }
 
-abbrev Ends : Conversion → Type 0
-Ends a =
-    (conversionSays a .number ≤ 16)
-    ⊎ (Some Conversion.NoSolid a ⊎ (Some Conversion.Many a ⊎ Some Conversion.TooLong a))
+-- a number above 16 is that of an end
+end-says : (a : Conversion) → Known a → 16 < conversionSays a .number
+    → (l c work : ℕ) × (conversionSays a ≡ ended (conversionSays a .number) l c work)
+end-says (Conversion.One l c work six) k h = absurd (omega (arith, h))
+end-says (Conversion.Several l c work n) k h = absurd (omega (arith, h))
+end-says (Conversion.NoSolid l c work) k h = (l, c, work, refl)
+end-says (Conversion.Many l c work) k h = (l, c, work, refl)
+end-says (Conversion.TooLong l c work) k h = (l, c, work, refl)
+end-says (Conversion.Refused f) k h = absurd (omega (arith, h, k .below f refl))
 
-ends : (a : Conversion) → Known a → Ends a
-ends (Conversion.One l c work six) k = inl (omega arith)
-ends (Conversion.Several l c work n) k = inl (omega arith)
-ends (Conversion.NoSolid l c work) k = inr (inl (l, c, work, refl))
-ends (Conversion.Many l c work) k = inr (inr (inl (l, c, work, refl)))
-ends (Conversion.TooLong l c work) k = inr (inr (inr (l, c, work, refl)))
-ends (Conversion.Refused f) k = inl (k .below f refl)
-
-module _ (a : Conversion) (k : Known a) where
-  is-17 : (p : Some Conversion.NoSolid a) → conversionSays a .number ≡ 17
-  is-17 = said Conversion.NoSolid (λ l c work. refl)
-
-  is-18 : (p : Some Conversion.Many a) → conversionSays a .number ≡ 18
-  is-18 = said Conversion.Many (λ l c work. refl)
-
-  is-19 : (p : Some Conversion.TooLong a) → conversionSays a .number ≡ 19
-  is-19 = said Conversion.TooLong (λ l c work. refl)
-
-  pub none : (conversionSays a .number ≡ 17) ↔ Some Conversion.NoSolid a
-  none = (go (ends a k), is-17)
-    where
-      go : Ends a → conversionSays a .number ≡ 17 → Some Conversion.NoSolid a
-      go (inl h) e = absurd (omega (arith, h, e))
-      go (inr (inl p)) e = p
-      go (inr (inr (inl p))) e = absurd (omega (arith, is-18 p, e))
-      go (inr (inr (inr p))) e = absurd (omega (arith, is-19 p, e))
-
-  pub many : (conversionSays a .number ≡ 18) ↔ Some Conversion.Many a
-  many = (go (ends a k), is-18)
-    where
-      go : Ends a → conversionSays a .number ≡ 18 → Some Conversion.Many a
-      go (inl h) e = absurd (omega (arith, h, e))
-      go (inr (inl p)) e = absurd (omega (arith, is-17 p, e))
-      go (inr (inr (inl p))) e = p
-      go (inr (inr (inr p))) e = absurd (omega (arith, is-19 p, e))
-
-  pub long : (conversionSays a .number ≡ 19) ↔ Some Conversion.TooLong a
-  long = (go (ends a k), is-19)
-    where
-      go : Ends a → conversionSays a .number ≡ 19 → Some Conversion.TooLong a
-      go (inl h) e = absurd (omega (arith, h, e))
-      go (inr (inl p)) e = absurd (omega (arith, is-17 p, e))
-      go (inr (inr (inl p))) e = absurd (omega (arith, is-18 p, e))
-      go (inr (inr (inr p))) e = p
+-- so it tells which: two answers of which the same is said are the same
+pub exactly : (kind : ℕ → ℕ → ℕ → Conversion) (n : ℕ) → 16 < n → ((l c work : ℕ) → conversionSays (kind l c work) ≡ ended n l c work)
+    → (a : Conversion) → Known a → (conversionSays a .number ≡ n) ↔ Some kind a
+exactly kind n high says a k = (there, λ p. ap (λ (s : Said). s .number) (ap conversionSays (p .3) ∙ says (p .0) (p .1) (p .2)))
+  where
+    there : conversionSays a .number ≡ n → Some kind a
+    there e =
+        let s = end-says a k (omega (arith, high, e)) in
+        let same = s .3 ∙ ap (λ (m : ℕ). ended m (s .0) (s .1) (s .2)) e ∙ sym (says (s .0) (s .1) (s .2)) in
+        (s .0, s .1, s .2, told .conversions a (kind (s .0) (s .1) (s .2)) same)
 
 -- ---- 30, of the reading
 

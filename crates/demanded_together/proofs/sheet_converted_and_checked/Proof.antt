@@ -25,8 +25,8 @@ returns : tie.Need-returns
 returns c =
     let k = c .before .before .before .before .before .before in
     let a = k .before .before .before .before .before .before .before .before .args in
-    agrees (sheet (now (a .sheet))) (a .limit) (now (a .faces)) (now (a .solids)) (k .convert-sheet .ensures .0) (now (a .list)) (now (a .other))
-    (c .before .check-sheet .ensures .0) (c .check-sheet2 .ensures .0)
+    agrees (sheet (now (a .sheet))) (a .limit) (now (a .faces)) (now (a .solids)) (k .convert-sheet .ensures .0) (now (a .list))
+    (now (a .other)) (c .before .check-sheet .ensures .0) (c .check-sheet2 .ensures .0)
 
 pub sheet-converted-and-checked-spec : {M : Type 1} → statement M
 sheet-converted-and-checked-spec =
