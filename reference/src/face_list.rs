@@ -43,12 +43,17 @@ pub fn pack_faces(faces: &[Loop]) -> Vec<u8> {
     fields.bytes()
 }
 
-/// Writes a solid as a face list, from the rows of a report and the solid's first two words: its faces in order, turned
-/// ones from the same corner the other way round. 20 where they make no list, 1 where the room is shorter than it.
-pub fn send_solid(rows: &[u8], taken: u64, turned: u64, room: &mut [u8]) -> Result<usize, Refusal> {
+/// A solid's faces, from the rows of a report and the solid's first two words: in order, turned ones from the same corner
+/// the other way round. Nothing where they make no list.
+pub fn solid_faces(rows: &[u8], taken: u64, turned: u64) -> Option<Vec<Loop>> {
     let chosen = (0..MOST_CANDIDATES).filter(|c| taken >> c & 1 == 1);
     let faces = chosen.map(|c| row_face(rows, c, turned >> c & 1 == 1)).collect::<Option<Vec<Loop>>>();
-    let Some(faces) = faces.filter(|faces| FACES.contains(&faces.len())) else { return refuse(SHELL_SHAPE, 0) };
+    faces.filter(|faces| FACES.contains(&faces.len()))
+}
+
+/// Writes a solid as a face list. 20 where its faces make none, 1 where the room is shorter than it.
+pub fn send_solid(rows: &[u8], taken: u64, turned: u64, room: &mut [u8]) -> Result<usize, Refusal> {
+    let Some(faces) = solid_faces(rows, taken, turned) else { return refuse(SHELL_SHAPE, 0) };
     let list = pack_faces(&faces);
     let Some(part) = room.get_mut(..list.len()) else { return refuse(NO_ROOM, 0) };
     part.copy_from_slice(&list);

@@ -1,5 +1,5 @@
 //! Document 01 in plain Rust: the modules up to `desk` are the clear version, `fast` is the quick one, and `gen`,
-//! `rows`, `trial` and `calls` make drawings and cases.
+//! `rows`, `trial`, `moves` and `calls` make drawings and cases.
 pub mod bits;
 pub mod check;
 pub mod clash;
@@ -23,5 +23,6 @@ pub mod walk;
 pub mod calls;
 pub mod fast;
 pub mod gen;
+pub mod moves;
 pub mod rows;
 pub mod trial;

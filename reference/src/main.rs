@@ -60,6 +60,14 @@ reference: document 01 in plain Rust, in a clear version and a fast one; `refere
       lists that are lent; src/calls/stream.rs has their form
       --count N              (42000)
       --seed S               (7)
+
+  reference moves KIND
+      writes calls in the same form, with moved drawings: what each must return and leave behind is told from what the
+      reference says of the drawing unmoved. KIND is shift, mirror (x negated), renumbering (vertices renumbered, edges
+      sorted again), limit (a higher limit of the work), exchange_xy or exchange_yz (of two axes), way (one of the 48 ways
+      in which the axes can lie on the axes), quarter_turn or scaling (by a whole factor)
+      --count N              drawings (20000)
+      --seed S               (13)
 ";
 
 fn main() -> ExitCode {
@@ -83,6 +91,7 @@ fn run(args: Args) -> Result<(), String> {
         Some("limits") => command::texts::limits(&args),
         Some("trial") => command::trial::trial(&args),
         Some("calls") => command::texts::calls(&args),
+        Some("moves") => command::texts::moves(&args),
         Some("ledger") => command::ledger::ledger(&args),
         Some("version") => say(concat!("reference ", env!("CARGO_PKG_VERSION"), "\n")),
         Some("help") | None => say(HELP),

@@ -3,6 +3,9 @@ use super::stream::{Entry, Room, Stream};
 use crate::drawing::{Drawing, Source};
 use crate::gen::rng::Rng;
 use crate::gen::sheets::{changed, counted_drawing};
+use crate::moves::{Converted, Move};
+use crate::numbers::{FACE_ROOM, SOLID_ROOM};
+use crate::sheet::{pack_sheet, read_sheet, write_sheet};
 
 /// A drawing as it is lent.
 pub enum Lent {
@@ -11,6 +14,15 @@ pub enum Lent {
 }
 
 impl Lent {
+    /// A drawing, on a sheet or as lists.
+    pub fn of(d: &Drawing, sheet: bool) -> Lent {
+        if sheet {
+            return Lent::Sheet(pack_sheet(d));
+        }
+        let (xyz, ends) = d.lists();
+        Lent::Lists(xyz, ends)
+    }
+
     pub fn source(&self) -> Source<'_> {
         match self {
             Lent::Sheet(sheet) => Source::Sheet(sheet),
@@ -23,6 +35,27 @@ impl Lent {
         match self {
             Lent::Sheet(sheet) => sheet,
             Lent::Lists(..) => unreachable!(),
+        }
+    }
+
+    /// Its coordinates; none of a sheet that is refused.
+    pub fn coordinates(&self) -> Option<Vec<i64>> {
+        match self {
+            Lent::Sheet(sheet) => read_sheet(sheet).ok().map(|d| d.lists().0),
+            Lent::Lists(xyz, _) => Some(xyz.clone()),
+        }
+    }
+
+    /// The same with its vertices moved.
+    pub fn moved(&self, by: &Move) -> Option<Lent> {
+        match self {
+            Lent::Lists(xyz, ends) => Some(Lent::Lists(by.coordinates(xyz), ends.clone())),
+            Lent::Sheet(sheet) => {
+                let (xyz, ends) = read_sheet(sheet).ok()?.lists();
+                let mut moved = vec![0; sheet.len()];
+                write_sheet(&by.coordinates(&xyz), &ends, &mut moved).ok()?;
+                Some(Lent::Sheet(moved))
+            }
         }
     }
 
@@ -63,9 +96,28 @@ pub fn near<T: Entry>(r: &mut Rng, needed: usize, most: usize) -> Room<T> {
 }
 
 /// Mostly long enough for a report.
-pub fn enough<T: Entry>(r: &mut Rng, needed: usize) -> Room<T> {
+fn enough<T: Entry>(r: &mut Rng, needed: usize) -> Room<T> {
     match r.below(20) {
         0 => one_of(r, &[needed - 1, 0]),
         _ => one_of(r, &[needed, needed + 5]),
+    }
+}
+
+/// The rooms of a conversion.
+pub struct Rooms {
+    pub faces: Room<u8>,
+    pub solids: Room<u64>,
+}
+
+impl Rooms {
+    pub fn any(r: &mut Rng) -> Rooms {
+        Rooms { faces: enough(r, FACE_ROOM), solids: enough(r, SOLID_ROOM) }
+    }
+
+    /// With what a conversion leaves in them.
+    pub fn put(mut self, stream: &mut Stream, now: Converted) {
+        (self.faces.now, self.solids.now) = (now.faces, now.solids);
+        stream.room(&self.faces);
+        stream.room(&self.solids);
     }
 }

@@ -1,6 +1,7 @@
 //! Calls of the interface for other programs, with what each must return and leave behind, by both versions.
 mod lent;
 mod lists;
+mod moved;
 mod pipe;
 mod said;
 mod stream;
@@ -14,11 +15,13 @@ use crate::gen::damage::{damaged_drawing, damaged_sheet};
 use crate::gen::named::named;
 use crate::gen::rng::Rng;
 use crate::gen::sheets::{any_lists, any_sheet, changed};
+use crate::moves::Converted;
 use crate::numbers::*;
 use crate::reading::{reading, Reading};
 use crate::sheet::{pack_sheet, read_sheet, sheet_length, write_sheet};
-use lent::{any_small, bytes, enough, near, one_of, small, Lent};
+use lent::{any_small, bytes, near, one_of, small, Lent, Rooms};
 use lists::{bodies_for, list_for};
+pub use moved::{moved, KINDS};
 pub use pipe::{requests, Pipe};
 use said::{refused, said, written};
 use stream::{Room, Stream};
@@ -161,12 +164,11 @@ impl Case<'_> {
     }
 
     /// A conversion's answer and rooms, by both versions.
-    fn converted(&self, lent: &Lent, limit: u64, faces: &mut [u8], solids: &mut [u64]) -> Answer {
-        let (mut same_faces, mut same_solids) = (faces.to_vec(), solids.to_vec());
-        let same = convert(lent.source(), limit, &mut same_faces, &mut same_solids);
-        let answer = fast::convert(lent.source(), limit, faces, solids);
-        assert!((same, &same_faces[..], &same_solids[..]) == (answer, &*faces, &*solids), "the versions differ");
-        answer
+    fn converted(&self, lent: &Lent, limit: u64, faces: &[u8], solids: &[u64]) -> Converted {
+        let by = |converter| Converted::of(converter, lent.source(), limit, faces, solids);
+        let (same, converted) = (by(convert), by(fast::convert));
+        assert!(same == converted, "the versions differ");
+        converted
     }
 
     /// A limit that is often about as high as the work, and sometimes too high.
@@ -187,22 +189,25 @@ impl Case<'_> {
     fn convert(&self, r: &mut Rng, stream: &mut Stream, sheet: bool) {
         let lent = self.lent(r, sheet);
         let limit = self.limit(r, &lent);
-        let (mut faces, mut solids) = (enough(r, FACE_ROOM), enough(r, SOLID_ROOM));
-        let answer = self.converted(&lent, limit, &mut faces.now, &mut solids.now);
+        let rooms = Rooms::any(r);
+        let now = self.converted(&lent, limit, &rooms.faces.now, &rooms.solids.now);
+        self.tell_converted(r, stream, &lent, limit, rooms, now);
+    }
+
+    fn tell_converted(&self, r: &mut Rng, stream: &mut Stream, lent: &Lent, limit: u64, rooms: Rooms, now: Converted) {
         lent.put(stream);
         stream.number(limit);
-        stream.room(&faces);
-        stream.room(&solids);
-        self.tell(r, stream, &said(&answer, &solids.now));
+        let said = said(&now.answer, &now.solids);
+        rooms.put(stream, now);
+        self.tell(r, stream, &said);
     }
 
     fn assess(&self, r: &mut Rng, stream: &mut Stream, sheet: bool) {
         let lent = self.lent(r, sheet);
         let limit = self.limit(r, &lent);
-        let (mut faces, mut solids) = ([0; FACE_ROOM], [0; SOLID_ROOM]);
-        let answer = self.converted(&lent, limit, &mut faces, &mut solids);
+        let converted = self.converted(&lent, limit, &[0; FACE_ROOM], &[0; SOLID_ROOM]);
         let mut volume: Room<u64> = one_of(r, &[0, 1, 1, 1, 2]);
-        let number = match reading(&answer, &solids) {
+        let number = match reading(&converted.answer, &converted.solids) {
             Reading::Volume(v) => {
                 volume.write(&[v.to_bits()]);
                 0
@@ -254,11 +259,7 @@ impl Case<'_> {
     /// A drawing, and a face list to check against it.
     fn to_check(&self, r: &mut Rng, sheet: bool) -> (Lent, Vec<u8>) {
         let lent = match bodies_for(r, self.turn) {
-            Some(d) if sheet => Lent::Sheet(pack_sheet(&d)),
-            Some(d) => {
-                let (xyz, ends) = d.lists();
-                Lent::Lists(xyz, ends)
-            }
+            Some(d) => Lent::of(&d, sheet),
             None => self.lent(r, sheet),
         };
         let list = list_for(r, lent.source(), self.turn);
@@ -269,8 +270,12 @@ impl Case<'_> {
         let (lent, list) = self.to_check(r, sheet);
         let verdict = fast::check(lent.source(), &list);
         assert!(verdict == check(lent.source(), &list), "the versions differ");
+        self.tell_verdict(r, stream, &lent, &list, verdict);
+    }
+
+    fn tell_verdict(&self, r: &mut Rng, stream: &mut Stream, lent: &Lent, list: &[u8], verdict: Result<(), Refusal>) {
         lent.put(stream);
-        stream.list(&list);
+        stream.list(list);
         self.tell(r, stream, &verdict.map_or_else(refused, |()| vec![0, 0]));
     }
 

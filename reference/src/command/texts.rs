@@ -1,4 +1,4 @@
-//! `desk`, `check`, `rows`, `limits` and `calls`: what the reference says.
+//! `desk`, `check`, `rows`, `limits`, `calls` and `moves`: what the reference says.
 use super::args::{say, Args};
 use nibgravel_reference::calls;
 use nibgravel_reference::check::verdict;
@@ -50,7 +50,17 @@ pub fn limits(args: &Args) -> Result<(), String> {
 
 pub fn calls(args: &Args) -> Result<(), String> {
     args.allow(1, &["count", "seed"])?;
-    let stream = calls::calls(args.number("seed", 7)?, args.number("count", 42_000)?);
+    put(&calls::calls(args.number("seed", 7)?, args.number("count", 42_000)?))
+}
+
+pub fn moves(args: &Args) -> Result<(), String> {
+    args.allow(2, &["count", "seed"])?;
+    let kind = args.word(1).filter(|kind| calls::KINDS.contains(kind));
+    let kind = kind.ok_or_else(|| format!("a move is of kind {}", calls::KINDS.join(", ")))?;
+    put(&calls::moved(kind, args.number("seed", 13)?, args.number("count", 20_000)?))
+}
+
+fn put(stream: &[u8]) -> Result<(), String> {
     let mut out = std::io::stdout().lock();
-    out.write_all(&stream).and_then(|()| out.flush()).map_err(|e| format!("standard output: {e}"))
+    out.write_all(stream).and_then(|()| out.flush()).map_err(|e| format!("standard output: {e}"))
 }

@@ -7,11 +7,23 @@ use crate::vector::{add, det, dot};
 
 /// The same drawing with its vertices numbered anew.
 pub fn renumbered(r: &mut Rng, d: &Drawing) -> Drawing {
-    let mut old: Vec<usize> = (0..d.vertices.len()).collect();
+    with_numbers(d, &new_numbers(r, d.vertices.len()))
+}
+
+/// A new number for each of so many vertices.
+pub fn new_numbers(r: &mut Rng, vertices: usize) -> Vec<usize> {
+    let mut old: Vec<usize> = (0..vertices).collect();
     r.shuffle(&mut old);
-    let mut new = vec![0; old.len()];
+    let mut new = vec![0; vertices];
     old.iter().enumerate().for_each(|(k, v)| new[*v] = k);
-    ordered(old.iter().map(|v| d.vertices[*v]).collect(), d.edges.iter().map(|(a, b)| (new[*a], new[*b])))
+    new
+}
+
+/// The same drawing with number `new[v]` for vertex v, and its edges sorted again.
+pub fn with_numbers(d: &Drawing, new: &[usize]) -> Drawing {
+    let mut vertices = d.vertices.clone();
+    new.iter().zip(&d.vertices).for_each(|(number, place)| vertices[*number] = *place);
+    ordered(vertices, d.edges.iter().map(|(a, b)| (new[*a], new[*b])))
 }
 
 /// Without the vertices that are on no edge.
@@ -53,7 +65,7 @@ fn matrix(r: &mut Rng) -> [Place; 3] {
 }
 
 /// A shift that brings all places into the range, if they are close enough together.
-fn into_range(r: &mut Rng, places: &[Place]) -> Option<Place> {
+pub fn into_range(r: &mut Rng, places: &[Place]) -> Option<Place> {
     let mut shift = [0; 3];
     for axis in 0..3 {
         let along = || places.iter().map(|p| p[axis]);

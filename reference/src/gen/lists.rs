@@ -3,7 +3,7 @@ use super::rng::Rng;
 use super::sheets::flipped;
 use crate::convert::Answer;
 use crate::drawing::{Loop, Source};
-use crate::face_list::{pack_faces, read_faces, send_solid};
+use crate::face_list::{pack_faces, solid_faces};
 use crate::fast::{self, convert, drawing_rules, Members, Passed, Tables, Walk};
 use crate::numbers::*;
 use crate::vector::sides;
@@ -43,12 +43,7 @@ pub fn from_any_corners(r: &mut Rng, faces: &mut [Loop]) {
 pub fn sent_solids(source: Source, limit: u64) -> Vec<Vec<Loop>> {
     let (mut rows, mut words) = ([0; FACE_ROOM], [0; SOLID_ROOM]);
     let Answer::Report { solids, .. } = convert(source, limit, &mut rows, &mut words) else { return vec![] };
-    let sent = |word: &[u64]| {
-        let mut list = [0; LONGEST_LIST];
-        let length = send_solid(&rows, word[0], word[1], &mut list).ok()?;
-        read_faces(&list[..length], *VERTICES.end())
-    };
-    words.chunks(3).take(solids as usize).filter_map(sent).collect()
+    words.chunks(3).take(solids as usize).filter_map(|word| solid_faces(&rows, word[0], word[1])).collect()
 }
 
 /// Mostly as they are; or bits turned over, cut off, too long, of another edition, or with a bit set at the end.

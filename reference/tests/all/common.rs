@@ -4,38 +4,29 @@ use nibgravel_reference::convert::{convert, drawing_rules, Answer, Passed};
 use nibgravel_reference::drawing::{Drawing, Loop, Source};
 use nibgravel_reference::face_list::pack_faces;
 use nibgravel_reference::fast;
+use nibgravel_reference::moves::Converted;
 use nibgravel_reference::numbers::*;
 use nibgravel_reference::sheet::pack_sheet;
 use nibgravel_reference::solids::Table;
 use nibgravel_reference::walk::walk;
 
-#[derive(Clone, Debug, PartialEq)]
-pub struct Outcome {
-    pub answer: Answer,
-    pub faces: Vec<u8>,
-    pub solids: Vec<u64>,
-}
-
 /// Converts by both versions into rooms of these lengths, compares them, and sees that nothing else is written.
-pub fn both(source: Source, limit: u64, rooms: (usize, usize)) -> Outcome {
-    let run = |converter: fn(Source, u64, &mut [u8], &mut [u64]) -> Answer| {
-        let (mut faces, mut solids) = (vec![0xa5; rooms.0], vec![0xdead_beef; rooms.1]);
-        let answer = converter(source, limit, &mut faces, &mut solids);
-        Outcome { answer, faces, solids }
-    };
+pub fn both(source: Source, limit: u64, rooms: (usize, usize)) -> Converted {
+    let (faces, solids) = (vec![0xa5; rooms.0], vec![0xdead_beef; rooms.1]);
+    let run = |converter| Converted::of(converter, source, limit, &faces, &solids);
     let clear = run(convert);
     assert_eq!(clear, run(fast::convert), "{source:?}");
-    let (rows, words) = match clear.answer {
-        Answer::Report { candidates, solids, .. } => (FACE_ROW * candidates as usize, 3 * solids as usize),
-        _ => (0, 0),
+    let rows = match clear.answer {
+        Answer::Report { candidates, .. } => FACE_ROW * candidates as usize,
+        _ => 0,
     };
     assert!(clear.faces[rows..].iter().all(|byte| *byte == 0xa5));
-    assert!(clear.solids[words..].iter().all(|word| *word == 0xdead_beef));
+    assert!(clear.solids[clear.words().len()..].iter().all(|word| *word == 0xdead_beef));
     clear
 }
 
 /// A drawing's conversion, the same from its sheet and from its lists.
-pub fn converted(d: &Drawing, limit: u64) -> Outcome {
+pub fn converted(d: &Drawing, limit: u64) -> Converted {
     let (xyz, ends) = d.lists();
     let outcome = both(Source::Lists(&xyz, &ends), limit, (840, 30));
     assert_eq!(outcome, both(Source::Sheet(&pack_sheet(d)), limit, (840, 30)));

@@ -7,6 +7,7 @@ use nibgravel_reference::gen::known::*;
 use nibgravel_reference::gen::lists::any_list;
 use nibgravel_reference::gen::rng::Rng;
 use nibgravel_reference::gen::sheets::{changed, counted_drawing};
+use nibgravel_reference::moves::from_lowest;
 use nibgravel_reference::numbers::*;
 use nibgravel_reference::sheet::pack_sheet;
 use std::collections::BTreeMap;
@@ -74,12 +75,8 @@ fn no_volume_is_inward_whichever_way_it_is_turned() {
 
 /// Is the list one of the drawing's solids, each face from any start in its direction?
 fn is_solid(d: &Drawing, list: &[u8]) -> bool {
-    let from_lowest = |face: &Loop| {
-        let lowest = (0..face.len()).min_by_key(|k| face[*k]).unwrap();
-        [&face[lowest..], &face[..lowest]].concat()
-    };
     let sorted = |faces: &[Loop]| {
-        let mut faces: Vec<Loop> = faces.iter().map(from_lowest).collect();
+        let mut faces: Vec<Loop> = faces.iter().map(|face| from_lowest(face)).collect();
         faces.sort();
         faces
     };

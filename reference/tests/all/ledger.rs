@@ -13,7 +13,11 @@ damaged.sheet,6,0,,,,
 frame.sheet,0,,1.12,1,6720000,0
 l_shape.sheet,0,,3.24,1,19440000,0
 nested_cubes.sheet,30,,,3,,4
+nested_cubes_renumbered.sheet,30,,,3,,4
 octahedron.sheet,0,,0.0013333333333333333,1,8000,4
+octahedron_mirrored.sheet,0,,0.0013333333333333333,1,8000,4
+octahedron_renumbered.sheet,0,,0.0013333333333333333,1,8000,4
+octahedron_shifted.sheet,0,,0.0013333333333333333,1,8000,4
 refused_apart.sheet,14,8,,,,
 refused_edge_meets.sheet,13,0,,,,
 refused_loose_vertex.sheet,12,8,,,,

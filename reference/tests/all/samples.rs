@@ -23,7 +23,7 @@ fn samples(kind: &str, text: &str) -> Vec<(Vec<u8>, String)> {
 #[test]
 fn each_sheet_has_its_desk_text() {
     let sheets = samples("sheet", "desk");
-    assert_eq!(sheets.len(), 10);
+    assert_eq!(sheets.len(), 14);
     sheets.iter().for_each(|(sheet, text)| assert_eq!(desk(sheet), *text));
 }
 

@@ -22,13 +22,17 @@ fn held(stored: &str, said: impl AsRef<[u8]>) {
 }
 
 /// The names of all sample sheets, without their ending, with the status of each.
-const SHEETS: [(&str, i32); 10] = [
+const SHEETS: [(&str, i32); 14] = [
     ("box", 0),
     ("damaged", 1),
     ("frame", 0),
     ("l_shape", 0),
     ("nested_cubes", 1),
+    ("nested_cubes_renumbered", 1),
     ("octahedron", 0),
+    ("octahedron_mirrored", 0),
+    ("octahedron_renumbered", 0),
+    ("octahedron_shifted", 0),
     ("refused_apart", 1),
     ("refused_edge_meets", 1),
     ("refused_loose_vertex", 1),
@@ -92,7 +96,7 @@ fn only_an_assessed_drawing_shows_cubic_metres() {
     for (name, status) in SHEETS {
         let said = run(&["explain", &sheet(name)]).said(status);
         assert_eq!(said.contains("cubic metres"), status == 0, "{name}");
-        assert_eq!(said.contains("(not an assessment)"), name == "nested_cubes", "{name}");
+        assert_eq!(said.contains("(not an assessment)"), name.starts_with("nested_cubes"), "{name}");
     }
 }
 
@@ -109,7 +113,8 @@ fn text() {
 #[test]
 fn every_solid_is_a_list_that_is_accepted() {
     let room = Room::new();
-    for (name, solids) in [("box", 1), ("frame", 1), ("l_shape", 1), ("octahedron", 1), ("nested_cubes", 3)] {
+    for (name, status) in SHEETS {
+        let solids = if name.starts_with("nested_cubes") { 3 } else { 1 - status };
         for solid in 1..=solids {
             let (list, number) = (room.path("list"), solid.to_string());
             assert_eq!(run(&["faces", &sheet(name), &number, "-o", &list]).said(0), "");
