@@ -1,6 +1,6 @@
-/* Puts the calls that `reference calls` wrote to the archive: standard input has the calls, in the form of reference/src/calls/stream.rs.
- * Compares what each returns and leaves in the lists that were lent, and has each reported solid sent and checked. Prints how often each
- * function gave each number, and the places that the check named. */
+/* Puts the calls that `reference calls` or `reference moves` wrote to the archive: standard input has the calls, in the form of
+ * reference/src/calls/stream.rs. Compares what each returns and leaves in the lists that were lent, and has each reported solid sent and
+ * checked. Prints how often each function gave each number, and the places that the check named. */
 #include <stdio.h>
 #include <stdlib.h>
 #include <string.h>
