@@ -4,7 +4,7 @@ use mathlib.Core.Path.{_≡_, refl, sym, ap, ap₂, subst, _∙_}
 use mathlib.Core.Bool.{Bool, true, false, _&&_, cond}
 use mathlib.Core.Logic.{_⊎_, inl, inr}
 use mathlib.Core.List.{List, [], _∷_}
-use Prim.Native.Nat.{ℕ, suc, _-_, _<_}
+use Prim.Native.Nat.{ℕ, zero, suc, _-_, _<_}
 use native.Mathlib.Numerals.{add-one}
 use native.Mathlib.Omega.{arith}
 use lib.Dec.{eqb, ltb}
@@ -16,7 +16,6 @@ use Rattle.lists.proofs.Truth.{and-left, and-right, and-both}
 use Rattle.lists.proofs.Sides.{wrap-low, sides-length, sides-at, sides-map}
 use Rattle.sets.specs.Word.{dig}
 use Rattle.sets.proofs.Digits.{never}
-use Rattle.sets.proofs.Ones.{dig-lt}
 use Rattle.paper.specs.Points.{origin, minus, cross, sum}
 use Rattle.paper.specs.Polygon.{normal}
 use Rattle.paper.specs.Drawing.{Wire, edge, edgeAt, at}
@@ -96,9 +95,15 @@ module _ (d : Wire) (cs : List Loop) (taken turned : List Bool) (paths : (k : �
       cond (dig taken k) (cond (dig turned k) (minus origin (normal (polygon d (loopAt cs k)))) (normal (polygon d (loopAt cs k))))
       origin
 
-  module _ {six : ℕ} (s : IsSolid d cs taken turned six) where
-    inside : (k : ℕ) → dig taken k ≡ true → k < length cs
-    inside k e = omega (arith, dig-lt taken k e, s .some)
+  -- (iii) alone: each edge is run once each way
+  module _ (ways : (e : ℕ) → e < length (d .edges) → EachWay d cs taken turned (edgeAt d e)) where
+    inside : (k i : ℕ) → i < length (loopAt cs k) → k < length cs
+    inside k i h = go cs k h
+      where
+        go : (cs : List Loop) (k : ℕ) → i < length (loopAt cs k) → k < length cs
+        go [] k h = absurd (omega arith)
+        go (c ∷ cs) zero h = omega arith
+        go (c ∷ cs) (suc k) h = omega (arith, go cs k h)
 
     -- a side is run by its face
     side-runs : (k i : ℕ) → there k i ≡ true → (dig taken k ≡ true) × (i < length (loopAt cs k))
@@ -120,12 +125,12 @@ module _ (d : Wire) (cs : List Loop) (taken turned : List Bool) (paths : (k : �
     back-once k a b f r = go (edge-of (dig turned k) r)
       where
         edge-of : (t : Bool) → cond t (Goes (loopAt cs k) b a) (Goes (loopAt cs k) a b) → EdgeOf d a b ⊎ EdgeOf d b a
-        edge-of true g = inr (paths k (inside k f) .along b a g)
-        edge-of false g = inl (paths k (inside k f) .along a b g)
+        edge-of true g = inr (paths k (inside k (g .at) (g .here)) .along b a g)
+        edge-of false g = inl (paths k (inside k (g .at) (g .here)) .along a b g)
 
         at-edge : (e : ℕ) → e < length (d .edges) → (edgeAt d e ≡ edge a b) ⊎ (edgeAt d e ≡ edge b a) → RunOnce d cs taken turned b a
-        at-edge e h (inl p) = subst (EachWay d cs taken turned) p (s .iii e h) .1
-        at-edge e h (inr p) = subst (EachWay d cs taken turned) p (s .iii e h) .0
+        at-edge e h (inl p) = subst (EachWay d cs taken turned) p (ways e h) .1
+        at-edge e h (inr p) = subst (EachWay d cs taken turned) p (ways e h) .0
 
         go : EdgeOf d a b ⊎ EdgeOf d b a → RunOnce d cs taken turned b a
         go (inl (e, h, w)) = at-edge e h w
@@ -176,7 +181,7 @@ module _ (d : Wire) (cs : List Loop) (taken turned : List Bool) (paths : (k : �
             let r = side-runs k i e in
             let one = back-once k (start k i) (end k i) (r .0) (r .2) in
             let w = run-side (one .by) (end k i) (start k i) (one .runs) in
-            let ht = inside (one .by) (one .face) in
+            let ht = inside (one .by) (w .0) (w .1) in
             let hs = w .1 in
             let long = paths (one .by) ht .twelve in
             let th : there (one .by) (w .0) ≡ true = and-both (one .face) (lt-ltb (w .0) (length (loopAt cs (one .by))) (w .1)) in
@@ -202,7 +207,7 @@ module _ (d : Wire) (cs : List Loop) (taken turned : List Bool) (paths : (k : �
                     let hs′ : s < length (loopAt cs p) = subst (λ (x : ℕ). s < length (loopAt cs x)) (sym z) hs in
                     absurd
                     (n z
-                    (one-side p q s (inside p (r .0)) (r .1) hs′ (m .from ∙ sym ps ∙ ap (λ (x : ℕ). start x s) (sym z))
+                    (one-side p q s (inside p q (r .1)) (r .1) hs′ (m .from ∙ sym ps ∙ ap (λ (x : ℕ). start x s) (sym z))
                     (m .to ∙ sym qs ∙ ap (λ (x : ℕ). end x s) (sym z))))
 
     -- the sides cancel
@@ -261,5 +266,8 @@ module _ (d : Wire) (cs : List Loop) (taken turned : List Bool) (paths : (k : �
             ∙ turn (dig turned k)
 
     -- the normals of the faces, in their directions, add up to (0,0,0)
-    pub normals-close : sumTo (length cs) facing ≡ origin
-    normals-close = sym (sum-same (length cs) (λ k. sumTo 12 (λ i. given k i)) facing face-sum) ∙ sides-cancel
+    pub ways-close : sumTo (length cs) facing ≡ origin
+    ways-close = sym (sum-same (length cs) (λ k. sumTo 12 (λ i. given k i)) facing face-sum) ∙ sides-cancel
+
+  pub normals-close : {six : ℕ} → IsSolid d cs taken turned six → sumTo (length cs) facing ≡ origin
+  normals-close s = ways-close (s .iii)
