@@ -53,7 +53,7 @@ module _ (mask up taken s t : List Bool) where
       same : (k : ℕ) → dig (both mask taken) k ≡ true → dig (unlike up s) k ≡ dig (unlike up t) k
       same k e = dig-unlike up s k ∙ ap (xor (dig up k)) (h k (mine-taken mask taken k e)) ∙ sym (dig-unlike up t k)
 
-  once-opposite : Opposite taken s t → onceEachWay mask up taken s ≡ onceEachWay mask up taken t
+  pub once-opposite : Opposite taken s t → onceEachWay mask up taken s ≡ onceEachWay mask up taken t
   unfolding onceEachWay
   once-opposite h =
       ap₂ (λ (m n : ℕ). eqb m 1 && eqb n 1)

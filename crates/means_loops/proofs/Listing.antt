@@ -85,7 +85,7 @@ module _ (d : Wire) (ls : List Loop) where
   unfolding uncovering
   uncovering-is = refl
 
-  bare-are : (k : ℕ) → k < length (uncovering d ls) → (i : ℕ) × (i < length ls) × (loopAt (uncovering d ls) k ≡ loopAt ls i)
+  pub bare-are : (k : ℕ) → k < length (uncovering d ls) → (i : ℕ) × (i < length ls) × (loopAt (uncovering d ls) k ≡ loopAt ls i)
       × (coversOther d ls i ≡ false)
   bare-are k h =
       let l : k < length kept = omega (arith, ap length uncovering-is, length-map kept (loopAt ls)) in

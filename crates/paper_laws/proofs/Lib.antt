@@ -1,5 +1,6 @@
 -- What follows from document 01's definitions, for any crate to cite. Assumes nothing.
 pub mod Checks
+pub mod Behind
 pub mod Limits
 pub mod Coordinate
 pub mod Rows

@@ -90,7 +90,7 @@ pub self-nonneg : (p : Point) → pos 0 ≤ℤ dot p p
 unfolding dot
 self-nonneg p = add-nonneg (add-nonneg (square-nonneg (p .x)) (square-nonneg (p .y))) (square-nonneg (p .z))
 
-self-zero : (p : Point) → dot p p ≡ pos 0 → p ≡ origin
+pub self-zero : (p : Point) → dot p p ≡ pos 0 → p ≡ origin
 unfolding dot
 self-zero p e =
     let h = sum-zero (p .x *ℤ p .x) (p .y *ℤ p .y) (p .z *ℤ p .z) (square-nonneg (p .x)) (square-nonneg (p .y)) (square-nonneg (p .z))
