@@ -47,7 +47,7 @@ is-inside Inside = (λ e. refl, λ e. refl)
 
 -- ---- A
 
-is-opposite : (a b : ℤ) → Is (opposite a b) (Opposite a b)
+pub is-opposite : (a b : ℤ) → Is (opposite a b) (Opposite a b)
 unfolding opposite
 is-opposite a b =
     is-or (below a && above b) (above a && below b) (is-and (below a) (above b) (is-below a) (is-above b))

@@ -8,6 +8,9 @@ use Rattle.demands.proofs.Sheets.{sheets2}
 use Rattle.demands.proofs.Demand3.{demand3}
 use Rattle.demands.proofs.Geometry.{geometry}
 use Rattle.demands.proofs.Origin.{any-origin}
+use Rattle.demands.proofs.Moved.{shifts, mirrors, turns, scaled, higher}
+use Rattle.demands.proofs.Renumbered.{renumbering}
+use Rattle.demands.proofs.Shown.{shown-alike}
 
 pub demands : Demands
 demands = record {
@@ -22,4 +25,11 @@ demands = record {
   listed = listed-names;
   geometry = geometry;
   any-origin = any-origin;
+  shifts = shifts;
+  mirrors = mirrors;
+  renumbers = renumbering;
+  higher = higher;
+  shown = shown-alike;
+  turns = turns;
+  scales = scaled;
 }

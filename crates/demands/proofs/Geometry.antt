@@ -1,5 +1,5 @@
 -- What the tests of the geometry decide. Assumes nothing.
-use mathlib.Core.Path.{_≡_, refl, sym, ap, ap₂, _∙_}
+use mathlib.Core.Path.{_≡_, refl, sym, ap, _∙_}
 use mathlib.Core.Logic.{inl, inr}
 use mathlib.Core.List.{List, [], _∷_, map}
 use Prim.Native.Nat.{ℕ, _+_, _<_}
@@ -13,7 +13,7 @@ use Rattle.paper.specs.Polygon.{Polygon, over, normal, corner, planeSide, axis,
 use Rattle.paper.specs.Solids.{faceSix}
 use Rattle.paper.specs.declared.Point.{Point}
 use Rattle.paper_laws.proofs.Six.{six-normal}
-use Rattle.paper_laws.proofs.Vectors.{num, vec, k, x, _+s_, negs, _·_, dets, o, v, _+v_, _-v_, _*v_, _×v_, vring}
+use Rattle.paper_laws.proofs.Vectors.{num, vec, k, x, _+s_, _·_, dets, o, v, _+v_, _-v_, _*v_, _×v_, vring}
 use Rattle.means_drawing.specs.Segments.{along}
 use Rattle.means_drawing.proofs.Segments.{onOpen-means, openMeets-means}
 use Rattle.means_area.proofs.Loops.{loops-hold}
@@ -25,9 +25,11 @@ use Rattle.means_inside.proofs.Loops.{loop-means, loop-not-beyond, loop-convex}
 use Rattle.means_clash.proofs.Either.{clash-either}
 use Rattle.means_loops.proofs.Planes.{dot-comm}
 use Rattle.means_loops.proofs.OwnPlane.{dot-less}
+use Rattle.means_moves.proofs.Faces.{pierced-on}
 use Rattle.demands.specs.Clash.{Opposite}
 use Rattle.demands.specs.Geometry.{pierced, total, fanRound, Geometry}
 use Rattle.demands.proofs.Tests.{is-ltZ}
+use Rattle.demands.proofs.Clash.{is-opposite}
 
 seen-is : (p : Point) (n : ℤ) (g : Polygon) → lies (over p n) g ≡ whereFlat (seen (axis (normal g)) p) n (map (seen (axis (normal g))) g)
 unfolding lies
@@ -83,31 +85,11 @@ on-edge p q a b h = (below 0 (natAbs a) (some h .0), more (natAbs a) (natAbs b) 
     some (inl e) = (size-down a (e .0) .1, size-up b (e .1) .1)
     some (inr e) = (size-up a (e .0) .1, size-down b (e .1) .1)
 
--- n across the plane through c, p and q at a and b from it: with their sizes
-flat : (n p q c : Point)
-    → Opposite (dot n (minus p c)) (dot n (minus q c))
-    → dot n
-    (minus (pierced p q (dot n (minus p c)) (dot n (minus q c)))
-    (times (pos (natAbs (dot n (minus p c)) + natAbs (dot n (minus q c)))) c)) ≡ pos 0
-flat n p q c (inl e) =
-    ap₂ (λ (s t : ℤ). dot n (minus (plus (times t p) (times s q)) (times (s +ℤ t) c))) (size-down (dot n (minus p c)) (e .0) .0)
-    (size-up (dot n (minus q c)) (e .1) .0)
-    ∙ vring (vec n ∷ vec p ∷ vec q ∷ vec c ∷ [])
-    (v 0 · ((((v 0 · (v 2 -v v 3)) *v v 1) +v (negs (v 0 · (v 1 -v v 3)) *v v 2))
-    -v ((negs (v 0 · (v 1 -v v 3)) +s (v 0 · (v 2 -v v 3))) *v v 3))) (k (pos 0)) tt
-flat n p q c (inr e) =
-    ap₂ (λ (s t : ℤ). dot n (minus (plus (times t p) (times s q)) (times (s +ℤ t) c))) (size-up (dot n (minus p c)) (e .0) .0)
-    (size-down (dot n (minus q c)) (e .1) .0)
-    ∙ vring (vec n ∷ vec p ∷ vec q ∷ vec c ∷ [])
-    (v 0 · (((negs (v 0 · (v 2 -v v 3)) *v v 1) +v ((v 0 · (v 1 -v v 3)) *v v 2))
-    -v (((v 0 · (v 1 -v v 3)) +s negs (v 0 · (v 2 -v v 3))) *v v 3))) (k (pos 0)) tt
-
 in-plane : (g : Polygon) (p q : Point) → Opposite (planeSide g p) (planeSide g q)
     → dot (normal g)
     (minus (pierced p q (planeSide g p) (planeSide g q)) (times (pos (natAbs (planeSide g p) + natAbs (planeSide g q))) (corner g)))
     ≡ pos 0
-unfolding planeSide
-in-plane g p q h = flat (normal g) p q (corner g) h
+in-plane g p q h = pierced-on g p q (is-opposite (planeSide g p) (planeSide g q) .1 h)
 
 pub geometry : Geometry
 geometry = record {

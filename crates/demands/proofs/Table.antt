@@ -9,15 +9,11 @@ use native.Mathlib.Omega.{arith}
 use Rattle.paper.specs.Refusals.{Check, check, firstOf, offends}
 use Rattle.paper.specs.declared.Answer.{Answer}
 use Rattle.paper.specs.declared.Answer.the-variants.{Fine, Refused}
+use Rattle.paper_laws.proofs.Behind.{orElse}
 use Rattle.means_drawing.specs.Drawings.{Finds}
 use Rattle.means_check.proofs.Accepting.{fine-both}
 use Rattle.demands.specs.Table.{line, end, one, Two}
 use Rattle.demands.proofs.Tests.{Is, is-off}
-
--- an answer, and the answer of the checks behind it where it is none
-abbrev pub orElse : Answer → Answer → Answer
-orElse Fine a = a
-orElse (Refused r) a = Refused r
 
 -- the checks are the lines: their answer, with that of all behind them, says what the lines say
 abbrev pub Says : ((Answer → Type 0) → Answer → Type 0) → List Check → Type 1

@@ -11,6 +11,10 @@ use Rattle.demands.specs.Answers.{Numbered, Told, VolumeOfOne}
 use Rattle.demands.specs.Demand2.{Holds2}
 use Rattle.demands.specs.Sheets.{Sheets2}
 use Rattle.demands.specs.Demand3.{Holds3}
+use Rattle.demands.specs.Moved.{Shifts, Mirrors, Turns, Scales}
+use Rattle.demands.specs.Renumbered.{Renumbers}
+use Rattle.demands.specs.Limits.{HigherLimit}
+use Rattle.demands.specs.Shown.{ShownAlike}
 
 pub record Demands : Type 0 where
   -- 1, "Everything gets an answer": and no refusal can be taken for a volume
@@ -28,3 +32,12 @@ pub record Demands : Type 0 where
   pub listed : (x : Input) → Passes x → (fs : List Loop) → ListedOnce (drawing x) (candidatesOf x) fs
   pub geometry : Geometry
   pub any-origin : AnyOrigin
+  -- T-13, "The body doesn't depend on where it was drawn": shifted, mirrored, with the vertices renumbered; and with a higher limit
+  pub shifts : Shifts
+  pub mirrors : Mirrors
+  pub renumbers : Renumbers
+  pub higher : HigherLimit
+  -- so readings and the desk's text follow; and beyond the request, laid along other axes, and enlarged
+  pub shown : ShownAlike
+  pub turns : Turns
+  pub scales : Scales

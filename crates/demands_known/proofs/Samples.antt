@@ -7,12 +7,11 @@ use native.Mathlib.Omega.{arith}
 use lib.IntN.{pos}
 use lib.ListN.{length, getD, length-replicate}
 use Rattle.paper.specs.Numbers.{mostWork, faceRoom, solidRoom}
-use Rattle.paper.specs.Format.{editionOne, encode}
+use Rattle.paper.specs.Format.{editionOne}
 use Rattle.paper.specs.FaceList.{encodeFaces, facesIn, solidFaces}
-use Rattle.paper.specs.Questions.{Drawn, reply, faceBefore, solidBefore}
+use Rattle.paper.specs.Questions.{reply, faceBefore, solidBefore}
 use Rattle.paper.specs.Loops.{Loop, loopAt, flipped}
 use Rattle.paper.specs.Known.Drawings.{cube, outward, inward, nested, tetrahedron, octahedron}
-use Rattle.paper.specs.Conversion.{Converted}
 use Rattle.paper.specs.declared.Refusal.{Refusal}
 use Rattle.paper.specs.declared.Conversion.{Conversion}
 use Rattle.paper.specs.declared.Conversion.the-variants as Conversion
@@ -23,38 +22,21 @@ use Rattle.means_drawing.specs.Rules.{LowestVertex}
 use Rattle.means_solid.specs.Named.{SameRing}
 use Rattle.means_report.specs.Listed.{WalkTree}
 use Rattle.means_check.specs.Bodies.{SameBody}
-use Rattle.demands.specs.Input.{Input, lent, sheet, drawing, candidatesOf, Passes, converted, checked, reported}
+use Rattle.demands.specs.Input.{Input, lent, drawing, candidatesOf, Passes, converted, checked, reported}
 use Rattle.demands.specs.Walk.{workToNine, Allowed}
 use Rattle.demands.specs.Spoiled.{Spoiled, all-turned}
 use Rattle.demands.specs.Demand3.{Report}
 use Rattle.demands.specs.Table.{end, rooms, forms, drawings, ofConversion}
 use Rattle.demands.proofs.Demand1.{demand1}
 use Rattle.demands.proofs.Demand2.{demand2}
 use Rattle.demands.proofs.Demand3.{demand3}
-
-abbrev of : Drawn → Input
-of d = lent (d .xyz) (d .ends)
-
-abbrev on : Drawn → Input
-on d = sheet (encode editionOne (d .xyz) (d .ends))
-
--- what conversion says of it in the rooms of a caller
-abbrev result : Input → Converted
-result x = converted x mostWork (faceBefore faceRoom) (solidBefore solidRoom)
+use Rattle.demands_known.proofs.Drawings.{of, on, result, cube-one, nested-three, cube-passes, octahedron-passes, nested-passes}
 
 told : (x : Input) → Passes x → 0 < reported (result x .answer) → Report x (solidBefore solidRoom) (result x)
 told x p h = demand3 x p .reports mostWork (faceBefore faceRoom) (solidBefore solidRoom) h
 
 -- "Cube of side 10": one solid, so every list that is accepted is the body of its known list
-cube-passes : Passes (of cube)
-unfolding reply
-cube-passes = refl
-
-cube-one : reported (result (of cube) .answer) ≡ 1
-unfolding reply
-cube-one = refl
-
-cube-list : checked (of cube) (encodeFaces editionOne outward) ≡ Accepted
+pub cube-list : checked (of cube) (encodeFaces editionOne outward) ≡ Accepted
 unfolding reply
 cube-list = refl
 
@@ -65,14 +47,6 @@ cube-body list a =
     r .same (r .n ∙ cube-one) (encodeFaces editionOne outward) list cube-list a
 
 -- "Cube of corners +-20 round a cube of corners +-10": three solids, and each, packed from the report's own rows and words, is accepted
-nested-passes : Passes (of nested)
-unfolding reply
-nested-passes = refl
-
-nested-three : reported (result (of nested) .answer) ≡ 3
-unfolding reply
-nested-three = refl
-
 pub nested-each : (i : ℕ) → i < 3
     → checked (of nested)
     (encodeFaces editionOne
@@ -99,7 +73,7 @@ pub tetrahedron-bodies : (a b : List ℕ) → checked (on tetrahedron) a ≡ Acc
 tetrahedron-bodies = let r = told (on tetrahedron) sheet-passes (omega (arith, sheet-one)) in r .same (r .n ∙ sheet-one)
 
 -- "Its list with all faces turned" comes from an accepted list, so it is refused
-turned-at : (i : ℕ) → i < 6 → SameRing (flipped (loopAt outward i)) (loopAt inward i)
+pub turned-at : (i : ℕ) → i < 6 → SameRing (flipped (loopAt outward i)) (loopAt inward i)
 unfolding flipped
 turned-at zero h = record { at = 1; turns = refl }
 turned-at (suc zero) h = record { at = 1; turns = refl }
@@ -109,11 +83,11 @@ turned-at (suc (suc (suc (suc zero)))) h = record { at = 1; turns = refl }
 turned-at (suc (suc (suc (suc (suc zero))))) h = record { at = 1; turns = refl }
 turned-at (suc (suc (suc (suc (suc (suc i)))))) h = absurd (omega arith)
 
-outward-read : facesIn editionOne (encodeFaces editionOne outward) ≡ outward
+pub outward-read : facesIn editionOne (encodeFaces editionOne outward) ≡ outward
 unfolding reply
 outward-read = refl
 
-inward-read : facesIn editionOne (encodeFaces editionOne inward) ≡ inward
+pub inward-read : facesIn editionOne (encodeFaces editionOne inward) ≡ inward
 unfolding reply
 inward-read = refl
 
@@ -124,11 +98,7 @@ cube-turned =
     (subst (Spoiled outward) (sym inward-read) (all-turned (λ i h. (i, h, turned-at i h)))))
 
 -- "Octahedron .. With limit 3: TooLong": so its walk has more than three assumptions
-octahedron-passes : Passes (of octahedron)
-unfolding reply
-octahedron-passes = refl
-
-octahedron-cut : converted (of octahedron) 3 (faceBefore faceRoom) (solidBefore solidRoom) .answer ≡ TooLong 11 11 3
+pub octahedron-cut : converted (of octahedron) 3 (faceBefore faceRoom) (solidBefore solidRoom) .answer ≡ TooLong 11 11 3
 unfolding reply
 octahedron-cut = refl
 

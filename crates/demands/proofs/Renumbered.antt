@@ -1,0 +1,172 @@
+-- Drawings with new numbers: the same rule, and the same solids. Assumes nothing.
+use mathlib.Core.Path.{_≡_, refl, sym, ap, _∙_, subst}
+use mathlib.Core.Option.{none}
+use mathlib.Core.List.{List, [], _∷_, _++_}
+use Prim.Native.Nat.{ℕ}
+use native.Mathlib.Omega.{arith}
+use borrow.Author.Tests.{le-ltb}
+use lib.ListN.{length}
+use Rattle.paper.specs.Numbers.{mostSolids}
+use Rattle.paper.specs.Refusals.{firstOf}
+use Rattle.paper.specs.Format.{editionOne}
+use Rattle.paper.specs.Drawing.{samePlace, drawingChecks}
+use Rattle.paper.specs.Loops.{loops, uncovering, candidates, loopChecks}
+use Rattle.paper.specs.Conversion.{Converted, entryChecks, conversion}
+use Rattle.paper.specs.declared.Answer.{Answer}
+use Rattle.paper.specs.declared.Answer.the-variants as Answer
+use Rattle.paper.specs.declared.Conversion.the-variants as Conversion
+use Rattle.paper.specs.declared.Refusal.{Refusal}
+use Rattle.paper_laws.proofs.Checks.{first-stops}
+use Rattle.means_report.specs.Listed.{Entry}
+use Rattle.means_report.specs.Report.{answered}
+use Rattle.means_check.proofs.Accepting.{both-fine, fine-both}
+use Rattle.means_check.proofs.Demand.{drawing-places}
+use Rattle.means_moves.specs.Renumbered.{NewNumbers}
+use Rattle.means_moves.specs.Reports.{Whole, Tells, SameReport}
+use Rattle.means_moves.proofs.Lent.{rising-below}
+use Rattle.means_moves.proofs.Refused.{Sorted, ruleOf, same-rule, same-refusal}
+use Rattle.means_moves.proofs.Sorted.{lent-sorted, sheet-sorted}
+use Rattle.means_moves.proofs.Undone.{renumbers}
+use Rattle.means_moves.proofs.Told as Told
+use Rattle.means_moves.proofs.Told.{same-report}
+use Rattle.demands.specs.Input.{Input, lent, sheet, drawing, form, candidatesOf, Passes, converted, reported}
+use Rattle.demands.specs.Solid.{Solid}
+use Rattle.demands.specs.Walk.{Allowed}
+use Rattle.demands.proofs.Input.{converted-is, form-fine, drawing-fine, loops-fine}
+use Rattle.demands.proofs.Solid.{of-words, in-words, every-words}
+use Rattle.demands.specs.Renumbered.{SameSolid, Given, SolidsKept, ListsAll, OneToOne, Renumbers}
+
+sorted : (x : Input) → firstOf (form x) ≡ Answer.Fine → Sorted (drawing x)
+sorted (lent xyz ends) e = lent-sorted editionOne xyz ends e
+sorted (sheet s) e = sheet-sorted editionOne s e
+
+told-count : (l c w : ℕ) (es : List Entry) → length es ≡ reported (answered l c w es)
+told-count l c w [] = refl
+told-count l c w (e ∷ []) = refl
+told-count l c w (e ∷ (f ∷ es)) = refl
+
+allowed : (a : ℕ) (f u : List ℕ) → Allowed a f u → firstOf (entryChecks a f u) ≡ Answer.Fine
+unfolding entryChecks firstOf
+allowed a f u h = rw (le-ltb (length f) 832 (h .0), le-ltb (length u) 24 (h .1), le-ltb 1000000 a (h .2))
+
+-- a refusal of 1 and 2 is no matter of the drawing
+module _ (x : Input) (limit : ℕ) (faces solids : List ℕ) where
+  entry-stops : (r : Refusal) → firstOf (entryChecks limit faces solids) ≡ Answer.Refused r → converted x limit faces solids .answer ≡
+      Conversion.Refused r
+  unfolding conversion
+  entry-stops r e =
+      let E = entryChecks limit faces solids in
+      let a = first-stops E (form x) (sym e) in
+      let b = first-stops (E ++ form x) (drawingChecks (drawing x)) a in
+      let c : Answer.Refused r ≡ firstOf (E ++ form x ++ drawingChecks (drawing x) ++ loopChecks (loops (drawing x))
+      (uncovering (drawing x) (loops (drawing x))))
+      = first-stops (E ++ form x ++ drawingChecks (drawing x)) _ b in
+      ap (λ (q : Converted). q .answer) (converted-is x limit faces solids) ∙ rw (← c)
+
+module _ (new : ℕ → ℕ) (x y : Input) (g : Given new x y) where
+  sx : Sorted (drawing x)
+  sx = sorted x (g .good)
+
+  sy : Sorted (drawing y)
+  sy = sorted y (g .good-too)
+
+  numbers : NewNumbers new (drawing x) (drawing y)
+  numbers = record {
+    numbers = g .numbers;
+    ends = rising-below (drawing x) (sx .rising);
+    ends-too = rising-below (drawing y) (sy .rising);
+  }
+
+  number : (limit : ℕ) (faces solids : List ℕ) (r : Refusal) → converted x limit faces solids .answer ≡ Conversion.Refused r
+      → (q : Refusal) × (converted y limit faces solids .answer ≡ Conversion.Refused q) × (q .number ≡ r .number)
+  number limit faces solids r e = go (firstOf (entryChecks limit faces solids)) refl
+    where
+      go : (a : Answer) → firstOf (entryChecks limit faces solids) ≡ a
+          → (q : Refusal) × (converted y limit faces solids .answer ≡ Conversion.Refused q) × (q .number ≡ r .number)
+      go Answer.Fine p =
+          let w = same-refusal numbers sx sy mostSolids (form x) (form y) (g .good) (g .good-too) limit limit faces faces solids solids p
+          p r
+          (ap (λ (c : Converted). c .answer) (sym (converted-is x limit faces solids)) ∙ e) in
+          (w .0, ap (λ (c : Converted). c .answer) (converted-is y limit faces solids) ∙ w .1, w .2)
+      go (Answer.Refused q) p =
+          let z = entry-stops x limit faces solids q p in
+          (q, entry-stops y limit faces solids q p, (let t : q ≡ r = cc in ap (λ (k : Refusal). k .number) t))
+
+  passes : Passes x → Passes y
+  passes p =
+      go (firstOf (drawingChecks (drawing y) ++ loopChecks (loops (drawing y)) (candidates (drawing y)))) refl
+      (same-rule numbers sx sy
+      ∙ ap ruleOf (fine-both (drawingChecks (drawing x)) (loopChecks (loops (drawing x)) (candidates (drawing x))) (drawing-fine x p)
+      (loops-fine x p)))
+    where
+      go : (a : Answer) → firstOf (drawingChecks (drawing y) ++ loopChecks (loops (drawing y)) (candidates (drawing y))) ≡ a → ruleOf a ≡
+          none → Passes y
+      go Answer.Fine q z =
+          let w = both-fine (drawingChecks (drawing y)) (loopChecks (loops (drawing y)) (candidates (drawing y))) q in
+          fine-both (form y ++ drawingChecks (drawing y)) (loopChecks (loops (drawing y)) (candidates (drawing y)))
+          (fine-both (form y) (drawingChecks (drawing y)) (g .good-too) (w .0)) (w .1)
+      go (Answer.Refused r) q z = let t : _≡_ {A = ℕ} 0 1 = cc in absurd (omega arith)
+
+  places : Passes x → samePlace (drawing x) ≡ none
+  places p = drawing-places (drawing x) (drawing-fine x p)
+
+  solids : Passes x → (s : Entry) → Solid (drawing x) (candidatesOf x) (s .taken) (s .turned) (s .six)
+      → (t : Entry) × Solid (drawing y) (candidatesOf y) (t .taken) (t .turned) (t .six) × SameSolid new x y s t
+  solids p s h =
+      let w = renumbers numbers (places p) .solids (s .taken) (s .turned) (s .six) (of-words (drawing x) h) in (
+        record { taken = w .taken-there; turned = w .turned-there; six = s .six },
+        in-words (drawing y) (w .solid),
+        record { body = w .body; six = refl },
+      )
+
+  -- 1 to 16 pass
+  unrefused : (z : Input) → Passes z → (a : ℕ) (f u : List ℕ) → Allowed a f u → Told.Passes (drawing z) (form z) a f u
+  unrefused z p a f u h =
+      let E = entryChecks a f u in
+      fine-both (E ++ form z ++ drawingChecks (drawing z)) (loopChecks (loops (drawing z)) (candidates (drawing z)))
+      (fine-both (E ++ form z) (drawingChecks (drawing z)) (fine-both E (form z) (allowed a f u h) (form-fine z p)) (drawing-fine z p))
+      (loops-fine z p)
+
+  report : (z : Input) (u : List ℕ) (r : Converted) → Tells (drawing z) u r → ListsAll z u r
+  report z u r t = record {
+    es = t .es;
+    count = told-count (length (loops (drawing z))) (length (candidates (drawing z))) (t .work) (t .es) ∙ sym (ap reported (t .answer));
+    words = t .words;
+    every = every-words (drawing z) (t .es) (t .listed);
+  }
+
+  reports : Passes x → (a b : ℕ) (f h u v : List ℕ) → Allowed a f u → Allowed b h v → Whole (converted x a f u .answer)
+      → Whole (converted y b h v .answer)
+      → (p : ListsAll x u (converted x a f u)) × (q : ListsAll y v (converted y b h v)) × OneToOne new x y (p .es) (q .es)
+  unfolding report
+  reports p a b f h u v ax ay wx wy =
+      let cx = converted-is x a f u in
+      let cy = converted-is y b h v in
+      let s : SameReport new (drawing x) (drawing y) u v (converted x a f u) (converted y b h v) = subst
+      (λ (c : Converted). SameReport new (drawing x) (drawing y) u v c (converted y b h v)) (sym cx)
+      (subst (SameReport new (drawing x) (drawing y) u v (conversion mostSolids (form x) (drawing x) a f u)) (sym cy)
+      (same-report numbers (form x) (form y) a b f h u v (unrefused x p a f u ax) (unrefused y (passes p) b h v ay)
+      (subst (λ (c : Converted). Whole (c .answer)) cx wx) (subst (λ (c : Converted). Whole (c .answer)) cy wy))) in (
+        report x u (converted x a f u) (s .here),
+        report y v (converted y b h v) (s .there),
+        record {
+          as-many = s .as-many;
+          to = s .to;
+          low = s .low;
+          apart = s .apart;
+          same = λ i l. record { body = s .body i l; six = s .six i l };
+        },
+      )
+
+  kept : SolidsKept new x y
+  kept = record {
+    number = number;
+    passes = passes;
+    loops-too = λ h. renumbers numbers h .loops-too;
+    candidates-too = λ h. renumbers numbers h .candidates-too;
+    solids = solids;
+    reports = reports;
+  }
+
+pub renumbering : Renumbers
+renumbering new x y g = kept new x y g

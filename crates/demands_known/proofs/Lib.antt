@@ -1,0 +1,6 @@
+-- Known drawings under the demands: so no statement is empty. Assumes nothing.
+pub mod Drawings
+pub mod Samples
+pub mod Moved
+pub mod Numbers
+pub mod Renumbered

@@ -1,0 +1,270 @@
+-- Known drawings shifted, mirrored, turned and enlarged, and with other limits: what the demands say of them, in numbers. Assumes nothing.
+use mathlib.Core.Path.{_≡_, refl, sym, ap, ap₂, subst, _∙_}
+use mathlib.Core.Bool.{Bool, true, not, _&&_}
+use mathlib.Core.List.{List, [], _∷_, map, flatMap}
+use Prim.Native.Nat.{ℕ, _*_}
+use native.Mathlib.Omega.{arith}
+use borrow.Author.Tests.{leb-true}
+use lib.Dec.{leb}
+use lib.IntN.{ℤ, pos, natAbs}
+use lib.ListN.{getD, take}
+use Rattle.lists.specs.Lists.{all}
+use Rattle.lists.proofs.Passing.{all-yes}
+use Rattle.sets.specs.Word.{dig, digit, digits, less, word}
+use Rattle.sets.proofs.Digits.{dig-less}
+use Rattle.sets.proofs.Numbers.{digit-word, by-digits}
+use Rattle.paper.specs.Numbers.{farthest, mostWork, faceRoom, solidRoom}
+use Rattle.paper.specs.Points.{pt, plus, times}
+use Rattle.paper.specs.Format.{editionOne}
+use Rattle.paper.specs.FaceList.{encodeFaces, facesIn}
+use Rattle.paper.specs.Questions.{Drawn, neg, reply, faceBefore, solidBefore}
+use Rattle.paper.specs.Known.Drawings.{cube, outward, inward, octahedron}
+use Rattle.paper.specs.Loops.{Loop}
+use Rattle.paper.specs.Conversion.{Converted}
+use Rattle.paper.specs.Desk.{text, deskText}
+use Rattle.paper.specs.declared.Conversion.{Conversion}
+use Rattle.paper.specs.declared.Conversion.the-variants as Conversion
+use Rattle.paper.specs.declared.Point.{Point}
+use Rattle.paper.specs.declared.Verdict.the-variants.{Accepted}
+use Rattle.means_report.specs.Listed.{Entry, wordsOf}
+use Rattle.means_report.specs.Report.{solidsFor}
+use Rattle.means_moves.specs.Moves.{shift, mirror, XY, mirroring, exchanging, laid}
+use Rattle.means_moves.specs.Lists.{eachVertex, Near}
+use Rattle.means_moves.specs.TurnedRound.{AllTurned}
+use Rattle.means_moves.specs.Turned.{grown, flip, Mirrored, enlarge, Scaled}
+use Rattle.demands.specs.Input.{converted, checked}
+use Rattle.demands.specs.Moved.{Made, Round}
+use Rattle.demands.specs.Shown.{otherSign}
+use Rattle.demands.proofs.Moved.{shifts, mirrors, turns, scaled, higher}
+use Rattle.demands.proofs.Shape.{is-shape}
+use Rattle.demands.proofs.Shown.{shown-alike}
+use Rattle.demands_known.proofs.Drawings.{of, bytes, on, result, Said, said, one, cube-said, octahedron-said}
+use Rattle.demands_known.proofs.Samples.{cube-list, turned-at, outward-read, inward-read}
+
+-- ---- what is evaluated of the drawings themselves
+
+octahedron-text : deskText (bytes octahedron)
+    ≡ text "wire 6 12\nloops 11 candidates 11\nwork 4\nsolids 1\nsolid 1 sixvolumes 8000 faces +1 -2 -3 +4 -6 +7 +8 -9\n"
+unfolding reply
+octahedron-text = refl
+
+-- a test of the range
+abbrev close : List ℤ → Bool
+close xyz = all (λ z. leb (natAbs z) farthest) xyz
+
+near : (xyz : List ℤ) → close xyz ≡ true → Near xyz
+near xyz e k h = record {
+  within = leb-true (natAbs (getD xyz k (pos 0))) farthest (all-yes (λ z. leb (natAbs z) farthest) (pos 0) xyz e k h);
+}
+
+-- ---- samples/octahedron_shifted.sheet: "moved by 990, -990 and 350 cm, to the edge of the range"
+
+abbrev way : Point
+way = pt (pos 990) (neg 990) (pos 350)
+
+abbrev pub shifted : Drawn
+shifted = record {
+  xyz =
+      pos 1000 ∷ neg 990 ∷ pos 350 ∷ pos 980 ∷ neg 990 ∷ pos 350 ∷ pos 990 ∷ neg 980 ∷ pos 350 ∷ pos 990 ∷ neg 1000 ∷ pos 350 ∷
+      pos 990 ∷ neg 990 ∷ pos 360 ∷ pos 990 ∷ neg 990 ∷ pos 340 ∷ [];
+  ends = octahedron .ends;
+}
+
+-- answer and both rooms
+pub octahedron-shifted : result (of shifted) ≡ result (of octahedron)
+unfolding all eachVertex plus
+octahedron-shifted =
+    shifts .lists way (octahedron .xyz) (octahedron .ends) (near (octahedron .xyz) refl) (near (shifted .xyz) refl) mostWork
+    (faceBefore faceRoom) (solidBefore solidRoom)
+
+pub shifted-said : said (result (of shifted)) ≡ (Conversion.One 11 11 4 8000, one 990 588 8000)
+shifted-said = ap said octahedron-shifted ∙ octahedron-said
+
+on-shifted : Made (shift way) (on octahedron) (on shifted)
+unfolding reply eachVertex
+on-shifted = record { points = refl; edges = refl; forms = refl }
+
+pub octahedron-sheet-shifted : result (on shifted) ≡ result (on octahedron)
+octahedron-sheet-shifted =
+    shifts .both way (on octahedron) (on shifted) on-shifted mostWork (faceBefore faceRoom) (solidBefore solidRoom)
+
+pub shifted-text : deskText (bytes shifted)
+    ≡ text "wire 6 12\nloops 11 candidates 11\nwork 4\nsolids 1\nsolid 1 sixvolumes 8000 faces +1 -2 -3 +4 -6 +7 +8 -9\n"
+shifted-text = shown-alike .shift-desk way (bytes octahedron) (bytes shifted) on-shifted ∙ octahedron-text
+
+-- ---- samples/octahedron_mirrored.sheet: "with each x negated"
+
+abbrev pub mirrored : Drawn
+mirrored = record {
+  xyz =
+      neg 10 ∷ pos 0 ∷ pos 0 ∷ pos 10 ∷ pos 0 ∷ pos 0 ∷ pos 0 ∷ pos 10 ∷ pos 0 ∷ pos 0 ∷ neg 10 ∷ pos 0 ∷ pos 0 ∷ pos 0 ∷
+      pos 10 ∷ pos 0 ∷ pos 0 ∷ neg 10 ∷ [];
+  ends = octahedron .ends;
+}
+
+-- the first solid's words, where each solid of r is moved by f, and where what they are isn't what the room had
+module _ (f : Entry → Entry) (r q : Converted) (a b six : ℕ) where
+  record First : Type 0 where
+    solid : Entry
+    taken-word : word (solid .taken) ≡ a
+    turned-word : word (solid .turned) ≡ b
+    six-volumes : solid .six ≡ six
+    moved : take 3 (q .solids) ≡ wordsOf (f solid)
+
+  first-words : (es : List Entry) → r .solids ≡ solidsFor (solidBefore solidRoom) es
+      → q .solids ≡ solidsFor (solidBefore solidRoom) (map f es) → r .solids ≡ one a b six → (a ≡ 99 → ⊥) → First
+  unfolding solidsFor flatMap
+  first-words [] p m s n = absurd (n (ap (λ (l : List ℕ). getD l 0 0) (sym s ∙ p)))
+  first-words (e ∷ es) p m s n = record {
+    solid = e;
+    taken-word = ap (λ (l : List ℕ). getD l 0 0) (sym p ∙ s);
+    turned-word = ap (λ (l : List ℕ). getD l 1 0) (sym p ∙ s);
+    six-volumes = ap (λ (l : List ℕ). getD l 2 0) (sym p ∙ s);
+    moved = ap (take 3) m;
+  }
+
+-- a set is told by its word
+less-words : (a b c d : List Bool) → word a ≡ word c → word b ≡ word d → word (less a b) ≡ word (less c d)
+less-words a b c d p q =
+    by-digits (word (less a b)) (less c d)
+    (λ k. digit-word (less a b) k ∙ dig-less a b k ∙ ap₂ (λ (x y : Bool). x && not y) (same a c p k) (same b d q k) ∙ sym (dig-less c d k))
+  where
+    same : (a b : List Bool) → word a ≡ word b → (k : ℕ) → dig a k ≡ dig b k
+    same a b p k = sym (digit-word a k) ∙ ap (λ (w : ℕ). digit w k) p ∙ digit-word b k
+
+pub octahedron-mirrored : Mirrored (solidBefore solidRoom) (result (of octahedron)) (result (of mirrored))
+unfolding eachVertex
+octahedron-mirrored = mirrors .lists (octahedron .xyz) (octahedron .ends) mostWork (faceBefore faceRoom) (solidBefore solidRoom)
+
+pub mirrored-answer : result (of mirrored) .answer ≡ Conversion.One 11 11 4 8000
+mirrored-answer = octahedron-mirrored .answers ∙ ap (λ (s : Said). s .0) octahedron-said
+
+-- of the taken ones, 990, those that were turned are 588, and in the mirror the others, 402
+pub mirrored-words : take 3 (result (of mirrored) .solids) ≡ 990 ∷ 402 ∷ 8000 ∷ []
+unfolding word digits less
+mirrored-words =
+    let m = octahedron-mirrored in
+    let w = first-words flip (result (of octahedron)) (result (of mirrored)) 990 588 8000 (m .es) (m .words) (m .flipped)
+    (ap (λ (s : Said). s .1) octahedron-said) (λ e. omega arith) in
+    let others : word (less (w .solid .taken) (w .solid .turned)) ≡ 402 = less-words (w .solid .taken) (w .solid .turned) (digits 10 990)
+    (digits 10 588) (w .taken-word) (w .turned-word) in
+    w .moved ∙ (λ i. w .taken-word i ∷ others i ∷ w .six-volumes i ∷ [])
+
+on-mirrored : Made mirror (on octahedron) (on mirrored)
+unfolding reply eachVertex
+on-mirrored = record { points = refl; edges = refl; forms = refl }
+
+pub octahedron-sheet-mirrored : Mirrored (solidBefore solidRoom) (result (on octahedron)) (result (on mirrored))
+octahedron-sheet-mirrored =
+    mirrors .both (on octahedron) (on mirrored) on-mirrored mostWork (faceBefore faceRoom) (solidBefore solidRoom)
+
+-- the text, "with every sign changed"
+pub mirrored-text : deskText (bytes mirrored)
+    ≡ text "wire 6 12\nloops 11 candidates 11\nwork 4\nsolids 1\nsolid 1 sixvolumes 8000 faces -1 +2 +3 -4 +6 -7 -8 +9\n"
+unfolding text otherSign
+mirrored-text = shown-alike .mirror-desk (bytes octahedron) (bytes mirrored) on-mirrored ∙ ap (map otherSign) octahedron-text
+
+-- ---- the cube
+
+-- a quarter turn round the z axis: x and y exchanged, then mirrored
+abbrev pub quarter : Drawn
+quarter = record {
+  xyz =
+      pos 0 ∷ pos 0 ∷ pos 0 ∷ pos 0 ∷ pos 10 ∷ pos 0 ∷ neg 10 ∷ pos 0 ∷ pos 0 ∷ neg 10 ∷ pos 10 ∷ pos 0 ∷ pos 0 ∷ pos 0 ∷
+      pos 10 ∷ pos 0 ∷ pos 10 ∷ pos 10 ∷ neg 10 ∷ pos 0 ∷ pos 10 ∷ neg 10 ∷ pos 10 ∷ pos 10 ∷ [];
+  ends = cube .ends;
+}
+
+pub cube-quarter : result (of quarter) ≡ result (of cube)
+unfolding all eachVertex
+cube-quarter =
+    turns .lists (exchanging XY ∷ mirroring ∷ []) (cube .xyz) (cube .ends) (near (cube .xyz) refl) (near (quarter .xyz) refl) mostWork
+    (faceBefore faceRoom) (solidBefore solidRoom)
+
+pub quarter-said : said (result (of quarter)) ≡ (Conversion.One 6 6 0 6000, one 63 21 6000)
+quarter-said = ap said cube-quarter ∙ cube-said
+
+-- x and y exchanged, and nothing else: mirrored
+abbrev pub exchanged : Drawn
+exchanged = record {
+  xyz =
+      pos 0 ∷ pos 0 ∷ pos 0 ∷ pos 0 ∷ pos 10 ∷ pos 0 ∷ pos 10 ∷ pos 0 ∷ pos 0 ∷ pos 10 ∷ pos 10 ∷ pos 0 ∷ pos 0 ∷ pos 0 ∷
+      pos 10 ∷ pos 0 ∷ pos 10 ∷ pos 10 ∷ pos 10 ∷ pos 0 ∷ pos 10 ∷ pos 10 ∷ pos 10 ∷ pos 10 ∷ [];
+  ends = cube .ends;
+}
+
+pub cube-exchanged : Mirrored (solidBefore solidRoom) (result (of cube)) (result (of exchanged))
+unfolding all eachVertex
+cube-exchanged =
+    turns .lists (exchanging XY ∷ []) (cube .xyz) (cube .ends) (near (cube .xyz) refl) (near (exchanged .xyz) refl) mostWork
+    (faceBefore faceRoom) (solidBefore solidRoom)
+
+-- twice as large
+abbrev pub double : Drawn
+double = record {
+  xyz =
+      pos 0 ∷ pos 0 ∷ pos 0 ∷ pos 20 ∷ pos 0 ∷ pos 0 ∷ pos 0 ∷ pos 20 ∷ pos 0 ∷ pos 20 ∷ pos 20 ∷ pos 0 ∷ pos 0 ∷ pos 0 ∷
+      pos 20 ∷ pos 20 ∷ pos 0 ∷ pos 20 ∷ pos 0 ∷ pos 20 ∷ pos 20 ∷ pos 20 ∷ pos 20 ∷ pos 20 ∷ [];
+  ends = cube .ends;
+}
+
+pub cube-doubled : Scaled 2 (solidBefore solidRoom) (result (of cube)) (result (of double))
+unfolding all eachVertex times
+cube-doubled =
+    scaled .lists 2 (omega arith) (cube .xyz) (cube .ends) (near (cube .xyz) refl) (near (double .xyz) refl) mostWork
+    (faceBefore faceRoom) (solidBefore solidRoom)
+
+pub doubled-answer : result (of double) .answer ≡ Conversion.One 6 6 0 48000
+doubled-answer = cube-doubled .answers ∙ ap (λ (s : Said). grown 8 (s .0)) cube-said
+
+pub doubled-words : take 3 (result (of double) .solids) ≡ 63 ∷ 21 ∷ 48000 ∷ []
+doubled-words =
+    let m = cube-doubled in
+    let w = first-words (enlarge 2) (result (of cube)) (result (of double)) 63 21 6000 (m .es) (m .words) (m .enlarged)
+    (ap (λ (s : Said). s .1) cube-said) (λ e. omega arith) in
+    w .moved ∙ (λ i. w .taken-word i ∷ w .turned-word i ∷ (8 * w .six-volumes i) ∷ [])
+
+-- the check: all faces of the list turned round, for the drawing with x and y exchanged; the list itself, for the quarter turn
+of-exchanged : Made (laid (exchanging XY ∷ [])) (of cube) (of exchanged)
+unfolding reply eachVertex
+of-exchanged = record { points = refl; edges = refl; forms = refl }
+
+of-quarter : Made (laid (exchanging XY ∷ mirroring ∷ [])) (of cube) (of quarter)
+unfolding reply eachVertex
+of-quarter = record { points = refl; edges = refl; forms = refl }
+
+round : Round (of cube) (encodeFaces editionOne outward) (encodeFaces editionOne inward)
+unfolding reply
+round = record {
+  shape = (
+    λ s. is-shape 8 (encodeFaces editionOne inward) .0 refl,
+    λ s. is-shape 8 (encodeFaces editionOne outward) .0 refl,
+  );
+  faces =
+      subst (λ (fs : List Loop). AllTurned fs (facesIn editionOne (encodeFaces editionOne inward))) (sym outward-read)
+      (subst (AllTurned outward) (sym inward-read) (record { as-many = refl; each = turned-at }));
+}
+
+pub exchanged-list : checked (of exchanged) (encodeFaces editionOne inward) ≡ Accepted
+exchanged-list =
+    turns .check-round (exchanging XY ∷ []) refl (of cube) (of exchanged) of-exchanged (encodeFaces editionOne outward)
+    (encodeFaces editionOne inward) round
+    ∙ cube-list
+
+pub quarter-list : checked (of quarter) (encodeFaces editionOne outward) ≡ Accepted
+quarter-list =
+    turns .check (exchanging XY ∷ mirroring ∷ []) refl (of cube) (of quarter) of-quarter (encodeFaces editionOne outward) ∙ cube-list
+
+-- ---- limits: the octahedron's work is 4
+
+abbrev within : ℕ → Converted
+within limit = converted (of octahedron) limit (faceBefore faceRoom) (solidBefore solidRoom)
+
+pub four-said : said (within 4) ≡ (Conversion.One 11 11 4 8000, one 990 588 8000)
+unfolding reply
+four-said = refl
+
+pub octahedron-higher : within 1000000 ≡ within 4
+octahedron-higher =
+    higher (of octahedron) 4 1000000 (omega arith) (omega arith) (faceBefore faceRoom) (solidBefore solidRoom)
+    (λ l c w e. let z : _≡_ {A = ℕ} 0 1 = cc (ap (λ (s : Said). s .0) four-said) in omega arith)

@@ -1,0 +1,1 @@
+// Known drawings, put to the demands. There is no code.

@@ -1,0 +1,39 @@
+-- The checks of a conversion, 1 to 16, one group behind the other. Assumes nothing.
+use mathlib.Core.Path.{_≡_, ap, _∙_}
+use mathlib.Core.List.{List, _++_}
+use Prim.Native.Nat.{ℕ}
+use Rattle.paper.specs.Refusals.{Check, firstOf}
+use Rattle.paper.specs.Drawing.{Wire, drawingChecks}
+use Rattle.paper.specs.Loops.{loops, uncovering, loopChecks}
+use Rattle.paper.specs.Conversion.{entryChecks}
+use Rattle.paper.specs.declared.Answer.{Answer}
+use Rattle.paper.specs.declared.Answer.the-variants as Answer
+use Rattle.means_check.proofs.Accepting.{both-fine}
+use Rattle.paper_laws.proofs.Behind.{orElse, first-append}
+
+module _ (limit : ℕ) (faces solids : List ℕ) where
+  -- 1 to 16
+  abbrev pub checksOf : List Check → Wire → List Check
+  checksOf form d = entryChecks limit faces solids ++ form ++ drawingChecks d ++ loopChecks (loops d) (uncovering d (loops d))
+
+  pub parts : (form : List Check) (d : Wire)
+      → firstOf (checksOf form d)
+      ≡ orElse (orElse (orElse (firstOf (entryChecks limit faces solids)) (firstOf form)) (firstOf (drawingChecks d)))
+      (firstOf (loopChecks (loops d) (uncovering d (loops d))))
+  parts form d =
+      first-append (entryChecks limit faces solids ++ form ++ drawingChecks d) (loopChecks (loops d) (uncovering d (loops d)))
+      ∙ ap (λ (a : Answer). orElse a (firstOf (loopChecks (loops d) (uncovering d (loops d)))))
+      (first-append (entryChecks limit faces solids ++ form) (drawingChecks d)
+      ∙ ap (λ (a : Answer). orElse a (firstOf (drawingChecks d))) (first-append (entryChecks limit faces solids) form))
+
+  -- what passes them all
+  pub fine-form : (form : List Check) (d : Wire) → firstOf (checksOf form d) ≡ Answer.Fine → firstOf form ≡ Answer.Fine
+  fine-form form d p =
+      both-fine (entryChecks limit faces solids) form
+      (both-fine (entryChecks limit faces solids ++ form) (drawingChecks d)
+      (both-fine (entryChecks limit faces solids ++ form ++ drawingChecks d) (loopChecks (loops d) (uncovering d (loops d))) p .0) .0) .1
+
+  pub fine-drawing : (form : List Check) (d : Wire) → firstOf (checksOf form d) ≡ Answer.Fine → firstOf (drawingChecks d) ≡ Answer.Fine
+  fine-drawing form d p =
+      both-fine (entryChecks limit faces solids ++ form) (drawingChecks d)
+      (both-fine (entryChecks limit faces solids ++ form ++ drawingChecks d) (loopChecks (loops d) (uncovering d (loops d))) p .0) .1

@@ -1,0 +1,10 @@
+-- What moves a drawing, and what stays. Assumes nothing.
+pub mod Moves
+pub mod Alike
+pub mod Turned
+pub mod TurnedRound
+pub mod Lists
+pub mod Rings
+pub mod Renumbered
+pub mod Kept
+pub mod Reports
