@@ -1,2 +1,3 @@
 -- The customer's demands of calls that follow each other. Assumes nothing.
 pub mod Together
+pub mod Twice

@@ -7,6 +7,7 @@ ghost use Rattle.paper_laws.specs.InRange.{Held};
 ghost use Rattle.demands.specs.Input.{lent, reported};
 ghost use Rattle.demands.specs.Input as Input;
 ghost use Rattle.demanded_together.specs.Together.{ReadsBack, WrittenFrom, WritesBack, Agrees, AcceptedAsSent};
+ghost use Rattle.demanded_together.specs.Twice.{ConvertsTwice};
 use convert::convert;
 use convert::convert_sheet;
 use faces_writer::write_faces;
@@ -28,6 +29,12 @@ pub struct Told {
     pub conversion: Conversion,
     pub first: Verdict,
     pub second: Verdict,
+}
+
+// What is said of two drawings by their conversions.
+pub struct Pair {
+    pub first: Conversion,
+    pub second: Conversion,
 }
 
 // A face list of 42 faces with 12 corners each; no reported solid needs more.
@@ -112,6 +119,57 @@ pub fn sheet_converted_and_checked(
         conversion: convert_sheet(sheet, limit, faces, solids),
         first: check_sheet(sheet, list),
         second: check_sheet(sheet, other),
+    }
+}
+
+// T-13, "The body doesn't depend on where it was drawn": two drawings are converted, each in rooms of its own.
+pub fn converted_twice(
+    xyz: &[i64],
+    ends: &[u8],
+    limit: u64,
+    faces: &mut [u8],
+    solids: &mut [u64],
+    other_xyz: &[i64],
+    other_ends: &[u8],
+    other_limit: u64,
+    other_faces: &mut [u8],
+    other_solids: &mut [u64],
+) -> Pair
+    ensures { λ r. ⌜ ConvertsTwice (lent (now (xyz .entry)) (now (ends .entry)))
+        (lent (now («other_xyz» .entry)) (now («other_ends» .entry))) limit «other_limit»
+        (now (faces .entry)) (now (solids .entry)) (now («other_faces» .entry)) (now («other_solids» .entry))
+        (now (faces .exit)) (now (solids .exit)) (now («other_faces» .exit)) (now («other_solids» .exit)) r ⌝ }
+{
+    Pair {
+        first: convert(xyz, ends, limit, faces, solids),
+        second: convert(
+            other_xyz,
+            other_ends,
+            other_limit,
+            other_faces,
+            other_solids,
+        ),
+    }
+}
+
+// The same of two sheets.
+pub fn sheets_converted_twice(
+    sheet: &[u8],
+    limit: u64,
+    faces: &mut [u8],
+    solids: &mut [u64],
+    other_sheet: &[u8],
+    other_limit: u64,
+    other_faces: &mut [u8],
+    other_solids: &mut [u64],
+) -> Pair
+    ensures { λ r. ⌜ ConvertsTwice (Input.sheet (now (sheet .entry))) (Input.sheet (now («other_sheet» .entry))) limit «other_limit»
+        (now (faces .entry)) (now (solids .entry)) (now («other_faces» .entry)) (now («other_solids» .entry))
+        (now (faces .exit)) (now (solids .exit)) (now («other_faces» .exit)) (now («other_solids» .exit)) r ⌝ }
+{
+    Pair {
+        first: convert_sheet(sheet, limit, faces, solids),
+        second: convert_sheet(other_sheet, other_limit, other_faces, other_solids),
     }
 }
 
