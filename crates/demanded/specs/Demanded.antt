@@ -27,7 +27,8 @@ use Rattle.paper.specs.declared.Written.{Written}
 use Rattle.paper.specs.declared.Written.the-variants as Written
 use Rattle.means_sheets.specs.FaceLists.{returned}
 use Rattle.means_report.specs.Listed.{WalkTree}
-use Rattle.demands.specs.Input.{Input, lent, sheet, drawing, candidatesOf, Passes, reported}
+use Rattle.means_report.specs.Report.{reported}
+use Rattle.demands.specs.Input.{Input, lent, sheet, drawing, candidatesOf, Passes}
 use Rattle.demands.specs.Table.{one, end, rooms, forms, drawings, ofConversion, ofWritten, ofVerdict}
 use Rattle.demands.specs.Shells.{Shape, shells, NoList}
 use Rattle.demands.specs.Solid.{NamesOne}

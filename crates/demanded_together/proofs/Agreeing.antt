@@ -19,7 +19,8 @@ use Rattle.paper.specs.declared.Written.{Written}
 use Rattle.paper.specs.declared.Written.the-variants as Written
 use Rattle.convert.specs.Converts.{leaves}
 use Rattle.means_report.specs.Listed.{Entry, entryAt, wordsOf}
-use Rattle.demands.specs.Input.{Input, converted, checked, reported}
+use Rattle.means_report.specs.Report.{reported}
+use Rattle.demands.specs.Input.{Input, converted, checked}
 use Rattle.demands.specs.Demand1.{Within}
 use Rattle.demands.specs.Demand3.{Report}
 use Rattle.demands.specs.Shells.{NoList}

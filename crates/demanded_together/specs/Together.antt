@@ -21,7 +21,8 @@ use Rattle.paper.specs.declared.Written.the-variants as Written
 use Rattle.tables.specs.Given.{pointsOf, linksOf}
 use Rattle.means_report.specs.Listed.{Entry, entryAt, wordsOf}
 use Rattle.means_check.specs.Bodies.{SameBody}
-use Rattle.demands.specs.Input.{Input, sheet, drawing, candidatesOf, Passes, checked, reported}
+use Rattle.means_report.specs.Report.{reported}
+use Rattle.demands.specs.Input.{Input, sheet, drawing, candidatesOf, Passes, checked}
 use Rattle.demands.specs.Table.{one, end, forms, ofWritten}
 use Rattle.demands.specs.Shells.{Shape, NoList}
 use Rattle.demands.specs.Solid.{Every}

@@ -28,7 +28,8 @@ use Rattle.faces_laws.proofs.Said.{sent-said}
 use Rattle.means_report.specs.Listed.{WalkTree}
 use Rattle.export_words.specs.Words.{Tells, ConvertsAs, WritesAs}
 use Rattle.export_words.specs.Volume.{Shows, AssessesAs}
-use Rattle.demands.specs.Input.{Input, drawing, candidatesOf, converted, checked, reported}
+use Rattle.means_report.specs.Report.{reported}
+use Rattle.demands.specs.Input.{Input, drawing, candidatesOf, converted, checked}
 use Rattle.demands.specs.Walk.{solidsOf, workToNine}
 use Rattle.demands.specs.Demand2.{Demand2}
 use Rattle.demands.proofs.Demand1.{demand1}

@@ -8,7 +8,8 @@ use Rattle.paper.specs.Reading.{Said, conversionSays, readingOf, readingSays}
 use Rattle.paper.specs.declared.Conversion.{Conversion}
 use Rattle.paper.specs.declared.Conversion.the-variants as Conversion
 use Rattle.paper.specs.declared.Refusal.{Refusal}
-use Rattle.demands.specs.Input.{Input, converted, reported}
+use Rattle.means_report.specs.Report.{reported}
+use Rattle.demands.specs.Input.{Input, converted}
 use Rattle.demands.specs.Demand1.{Within}
 use Rattle.demands.proofs.Demand1.{demand1}
 use Rattle.demands.proofs.Answers.{numbered, told}

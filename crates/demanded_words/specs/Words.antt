@@ -23,7 +23,8 @@ use Rattle.paper.specs.declared.Written.{Written}
 use Rattle.paper.specs.declared.Written.the-variants as Written
 use Rattle.means_report.specs.Listed.{WalkTree}
 use Rattle.export_words.specs.Words.{onto, Tells}
-use Rattle.demands.specs.Input.{Input, sheet, drawing, candidatesOf, Passes, reported}
+use Rattle.means_report.specs.Report.{reported}
+use Rattle.demands.specs.Input.{Input, sheet, drawing, candidatesOf, Passes}
 use Rattle.demands.specs.Table.{line, end, forms, Two}
 use Rattle.demands.specs.Shells.{Shape}
 use Rattle.demands.specs.Solid.{Solid, NamesOne}

@@ -27,13 +27,13 @@ use Rattle.paper.specs.declared.Verdict.{Verdict}
 use Rattle.paper.specs.declared.Reading.the-variants as Reading
 use Rattle.means_walk.specs.Tree.{assumptions}
 use Rattle.means_report.specs.Listed.{Entry, WalkTree, walked}
-use Rattle.means_report.specs.Report.{answered, facesFor, solidsFor}
+use Rattle.means_report.specs.Report.{answered, facesFor, solidsFor, reported}
 use Rattle.means_report.proofs.Report.{Tells, Sound}
 use Rattle.means_report.proofs.Demand.{says-none, says-one, says-several, says-many, says-long}
 use Rattle.means_report.proofs.Converted.{the-walk, conversion-says}
 use Rattle.means_check.proofs.Accepting.{both-fine}
 use Rattle.means_check.proofs.Demand.{drawing-fits}
-use Rattle.demands.specs.Input.{Input, drawing, candidatesOf, form, rules, Passes, reported}
+use Rattle.demands.specs.Input.{Input, drawing, candidatesOf, form, rules, Passes}
 use Rattle.demands.specs.Table.{end, one, rooms, forms, drawings, ofConversion, ofVerdict}
 use Rattle.demands.specs.Shells.{Shape, shells}
 use Rattle.demands.specs.Demand1.{Within, Demand1}

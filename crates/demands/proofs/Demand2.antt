@@ -25,7 +25,8 @@ use Rattle.means_report.proofs.Converted.{the-walk, no-ninth, tells-few, tells-
 use Rattle.means_loops.specs.Loop.{IsCandidate}
 use Rattle.means_loops.proofs.Listing.{candidates-are, candidates-all, candidates-ascend}
 use Rattle.means_check.proofs.Accepting.{fine-both, none-step, no-checks}
-use Rattle.demands.specs.Input.{Input, drawing, candidatesOf, form, Passes, converted, reported}
+use Rattle.means_report.specs.Report.{reported}
+use Rattle.demands.specs.Input.{Input, drawing, candidatesOf, form, Passes, converted}
 use Rattle.demands.specs.Table.{end, rooms, forms, drawings, ofConversion}
 use Rattle.demands.specs.Faces.{Candidates}
 use Rattle.demands.specs.Cover.{CandidateOf}

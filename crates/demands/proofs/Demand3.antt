@@ -19,7 +19,7 @@ use Rattle.means_solid.specs.Solid.{IsSolid}
 use Rattle.means_solid.specs.Named.{Names}
 use Rattle.means_walk.specs.Tree.{assumptions}
 use Rattle.means_report.specs.Listed.{Entry, entryAt, Listed, walked}
-use Rattle.means_report.specs.Report.{facesFor, solidsFor, Reported}
+use Rattle.means_report.specs.Report.{facesFor, solidsFor, Reported, reported}
 use Rattle.means_report.proofs.Listed.{walked-lists}
 use Rattle.means_report.proofs.Report.{Tells, Sound}
 use Rattle.means_report.proofs.Converted.{the-walk, conversion-unrefused}
@@ -35,7 +35,7 @@ use Rattle.means_check.proofs.Demand.{drawing-places, drawing-fits, accepts-exa
 use Rattle.means_check.proofs.Demand.{not-doubled}
 use Rattle.means_check.proofs.Parts.{some-face}
 use Rattle.means_sheets.proofs.FaceLists.{faces-read-one}
-use Rattle.demands.specs.Input.{Input, drawing, form, Passes, converted, checked, reported}
+use Rattle.demands.specs.Input.{Input, drawing, form, Passes, converted, checked}
 use Rattle.demands.specs.Demand3.{NamesIt, Report, Demand3, Holds3}
 use Rattle.demands.specs.Spoiled.{Spoiled, face-turned, all-turned, face-missing, face-doubled}
 use Rattle.demands.proofs.Input.{converted-is, checked-is, form-fine, drawing-fine, loops-fine, small, counted}

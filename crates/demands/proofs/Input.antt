@@ -11,10 +11,10 @@ use Rattle.paper.specs.Conversion.{conversion, convertLists, convertSheet}
 use Rattle.paper.specs.Verdict.{verdict, verdictLists, verdictSheet}
 use Rattle.paper.specs.declared.Answer.the-variants.{Fine}
 use Rattle.means_report.specs.Listed.{Entry}
-use Rattle.means_report.specs.Report.{answered}
+use Rattle.means_report.specs.Report.{answered, reported}
 use Rattle.means_check.proofs.Accepting.{both-fine}
 use Rattle.means_check.proofs.Drawn.{InCounts, lent-small, sheet-small}
-use Rattle.demands.specs.Input.{Input, lent, sheet, drawing, form, Passes, converted, checked, reported}
+use Rattle.demands.specs.Input.{Input, lent, sheet, drawing, form, Passes, converted, checked}
 
 pub converted-is : (x : Input) (limit : ℕ) (room solids : List ℕ)
     → converted x limit room solids ≡ conversion mostSolids (form x) (drawing x) limit room solids

@@ -29,7 +29,7 @@ use Rattle.means_moves.proofs.Shift as Shift
 use Rattle.means_moves.proofs.Mirror as Mirror
 use Rattle.means_moves.proofs.Scale.{scales}
 use Rattle.means_moves.proofs.Linear.{linear}
-use Rattle.means_moves.proofs.Named.{laying, laid-to, laid-turns}
+use Rattle.means_moves.proofs.Laid.{laying, laid-to, laid-turns}
 use Rattle.means_moves.proofs.Turned.{follows-same, follows-mirrored, follows-scaled}
 use Rattle.means_moves.proofs.Lent.{forms-near, forms-mirror, either-follows, either-kept, either-round}
 use Rattle.means_moves.proofs.Higher.{conversion-higher}

@@ -18,7 +18,7 @@ use Rattle.paper.specs.declared.Conversion.the-variants as Conversion
 use Rattle.paper.specs.declared.Refusal.{Refusal}
 use Rattle.paper_laws.proofs.Checks.{first-stops}
 use Rattle.means_report.specs.Listed.{Entry}
-use Rattle.means_report.specs.Report.{answered}
+use Rattle.means_report.specs.Report.{answered, reported}
 use Rattle.means_check.proofs.Accepting.{both-fine, fine-both}
 use Rattle.means_check.proofs.Demand.{drawing-places}
 use Rattle.means_moves.specs.Renumbered.{NewNumbers}
@@ -29,7 +29,7 @@ use Rattle.means_moves.proofs.Sorted.{lent-sorted, sheet-sorted}
 use Rattle.means_moves.proofs.Undone.{renumbers}
 use Rattle.means_moves.proofs.Told as Told
 use Rattle.means_moves.proofs.Told.{same-report}
-use Rattle.demands.specs.Input.{Input, lent, sheet, drawing, form, candidatesOf, Passes, converted, reported}
+use Rattle.demands.specs.Input.{Input, lent, sheet, drawing, form, candidatesOf, Passes, converted}
 use Rattle.demands.specs.Solid.{Solid}
 use Rattle.demands.specs.Walk.{Allowed}
 use Rattle.demands.proofs.Input.{converted-is, form-fine, drawing-fine, loops-fine}

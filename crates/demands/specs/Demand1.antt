@@ -16,7 +16,8 @@ use Rattle.paper.specs.declared.Written.the-variants as Written
 use Rattle.paper.specs.declared.Conversion.{Conversion}
 use Rattle.paper.specs.declared.Conversion.the-variants as Conversion
 use Rattle.paper.specs.declared.Reading.the-variants as Reading
-use Rattle.demands.specs.Input.{Input, lent, sheet, drawing, candidatesOf, converted, checked, reported}
+use Rattle.means_report.specs.Report.{reported}
+use Rattle.demands.specs.Input.{Input, lent, sheet, drawing, candidatesOf, converted, checked}
 use Rattle.demands.specs.Table.{end, one, rooms, forms, drawings, ofConversion, ofWritten, ofVerdict}
 use Rattle.demands.specs.Shells.{Shape, shells, NoList}
 

@@ -10,8 +10,8 @@ use Rattle.paper.specs.Conversion.{Converted}
 use Rattle.paper.specs.declared.Conversion.the-variants.{NoSolid, Many, TooLong}
 use Rattle.means_walk.specs.Tree.{steps}
 use Rattle.means_report.specs.Listed.{WalkTree}
-use Rattle.means_report.specs.Report.{answered, facesFor, solidsFor}
-use Rattle.demands.specs.Input.{Input, drawing, candidatesOf, Passes, converted, reported}
+use Rattle.means_report.specs.Report.{answered, facesFor, solidsFor, reported}
+use Rattle.demands.specs.Input.{Input, drawing, candidatesOf, Passes, converted}
 use Rattle.demands.specs.Solid.{Solid, Every}
 use Rattle.demands.specs.Walk.{solidsOf, workOf, workToNine, WalkWords, Uncut, Allowed, Counts}
 

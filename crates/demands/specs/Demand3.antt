@@ -14,7 +14,8 @@ use Rattle.means_solid.specs.Named.{Names}
 use Rattle.means_report.specs.Fair.{Same}
 use Rattle.means_report.specs.Listed.{Entry, entryAt, wordsOf}
 use Rattle.means_check.specs.Bodies.{SameBody}
-use Rattle.demands.specs.Input.{Input, drawing, candidatesOf, Passes, converted, checked, reported}
+use Rattle.means_report.specs.Report.{reported}
+use Rattle.demands.specs.Input.{Input, drawing, candidatesOf, Passes, converted, checked}
 use Rattle.demands.specs.Solid.{Every, NamesOne}
 use Rattle.demands.specs.Shells.{Shape, NoList}
 use Rattle.demands.specs.Spoiled.{Spoiled}

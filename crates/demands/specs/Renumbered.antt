@@ -12,12 +12,12 @@ use Rattle.paper.specs.declared.Answer.the-variants.{Fine}
 use Rattle.paper.specs.declared.Conversion.the-variants as Conversion
 use Rattle.paper.specs.declared.Refusal.{Refusal}
 use Rattle.means_report.specs.Listed.{Entry, entryAt}
-use Rattle.means_report.specs.Report.{solidsFor}
+use Rattle.means_report.specs.Report.{solidsFor, reported}
 use Rattle.means_check.specs.Bodies.{SameBody}
 use Rattle.means_check.specs.Sent.{faceList}
 use Rattle.means_moves.specs.Renumbered.{Renumbered}
 use Rattle.means_moves.specs.Reports.{Whole}
-use Rattle.demands.specs.Input.{Input, drawing, form, candidatesOf, Passes, converted, reported}
+use Rattle.demands.specs.Input.{Input, drawing, form, candidatesOf, Passes, converted}
 use Rattle.demands.specs.Solid.{Solid, Every}
 use Rattle.demands.specs.Walk.{Allowed}
 

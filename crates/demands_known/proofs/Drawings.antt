@@ -10,7 +10,8 @@ use Rattle.paper.specs.Known.Drawings.{cube, octahedron, nested}
 use Rattle.paper.specs.Conversion.{Converted}
 use Rattle.paper.specs.declared.Conversion.{Conversion}
 use Rattle.paper.specs.declared.Conversion.the-variants as Conversion
-use Rattle.demands.specs.Input.{Input, lent, sheet, Passes, converted, reported}
+use Rattle.means_report.specs.Report.{reported}
+use Rattle.demands.specs.Input.{Input, lent, sheet, Passes, converted}
 use Rattle.demands.specs.Walk.{Allowed}
 use Rattle.demands.proofs.Demand2.{demand2}
 

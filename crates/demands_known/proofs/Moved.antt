@@ -1,13 +1,13 @@
 -- Known drawings shifted, mirrored, turned and enlarged, and with other limits: what the demands say of them, in numbers. Assumes nothing.
 use mathlib.Core.Path.{_≡_, refl, sym, ap, ap₂, subst, _∙_}
 use mathlib.Core.Bool.{Bool, true, not, _&&_}
-use mathlib.Core.List.{List, [], _∷_, map, flatMap}
+use mathlib.Core.List.{List, [], _∷_, _++_, map, flatMap}
 use Prim.Native.Nat.{ℕ, _*_}
 use native.Mathlib.Omega.{arith}
 use borrow.Author.Tests.{leb-true}
 use lib.Dec.{leb}
 use lib.IntN.{ℤ, pos, natAbs}
-use lib.ListN.{getD, take}
+use lib.ListN.{length, getD}
 use Rattle.lists.specs.Lists.{all}
 use Rattle.lists.proofs.Passing.{all-yes}
 use Rattle.sets.specs.Word.{dig, digit, digits, less, word}
@@ -38,7 +38,7 @@ use Rattle.demands.specs.Shown.{otherSign}
 use Rattle.demands.proofs.Moved.{shifts, mirrors, turns, scaled, higher}
 use Rattle.demands.proofs.Shape.{is-shape}
 use Rattle.demands.proofs.Shown.{shown-alike}
-use Rattle.demands_known.proofs.Drawings.{of, bytes, on, result, Said, said, one, cube-said, octahedron-said}
+use Rattle.demands_known.proofs.Drawings.{of, bytes, on, result, Said, said, one, cube-said, octahedron-said, cube-one, octahedron-one}
 use Rattle.demands_known.proofs.Samples.{cube-list, turned-at, outward-read, inward-read}
 
 -- ---- what is evaluated of the drawings themselves
@@ -102,26 +102,27 @@ mirrored = record {
   ends = octahedron .ends;
 }
 
--- the first solid's words, where each solid of r is moved by f, and where what they are isn't what the room had
+-- a report of one solid with these words: where each solid is moved by f, that one, and the rest of the room as it was
 module _ (f : Entry → Entry) (r q : Converted) (a b six : ℕ) where
   record First : Type 0 where
     solid : Entry
     taken-word : word (solid .taken) ≡ a
     turned-word : word (solid .turned) ≡ b
     six-volumes : solid .six ≡ six
-    moved : take 3 (q .solids) ≡ wordsOf (f solid)
+    moved : q .solids ≡ wordsOf (f solid) ++ solidBefore 21
 
-  first-words : (es : List Entry) → r .solids ≡ solidsFor (solidBefore solidRoom) es
-      → q .solids ≡ solidsFor (solidBefore solidRoom) (map f es) → r .solids ≡ one a b six → (a ≡ 99 → ⊥) → First
+  first-words : (es : List Entry) → length es ≡ 1 → r .solids ≡ solidsFor (solidBefore solidRoom) es
+      → q .solids ≡ solidsFor (solidBefore solidRoom) (map f es) → r .solids ≡ one a b six → First
   unfolding solidsFor flatMap
-  first-words [] p m s n = absurd (n (ap (λ (l : List ℕ). getD l 0 0) (sym s ∙ p)))
-  first-words (e ∷ es) p m s n = record {
+  first-words [] n p m s = absurd (omega arith)
+  first-words (e ∷ []) n p m s = record {
     solid = e;
     taken-word = ap (λ (l : List ℕ). getD l 0 0) (sym p ∙ s);
     turned-word = ap (λ (l : List ℕ). getD l 1 0) (sym p ∙ s);
     six-volumes = ap (λ (l : List ℕ). getD l 2 0) (sym p ∙ s);
-    moved = ap (take 3) m;
+    moved = m;
   }
+  first-words (e ∷ (e′ ∷ es)) n p m s = absurd (omega arith)
 
 -- a set is told by its word
 less-words : (a b c d : List Bool) → word a ≡ word c → word b ≡ word d → word (less a b) ≡ word (less c d)
@@ -140,15 +141,15 @@ pub mirrored-answer : result (of mirrored) .answer ≡ Conversion.One 11 11 4 80
 mirrored-answer = octahedron-mirrored .answers ∙ ap (λ (s : Said). s .0) octahedron-said
 
 -- of the taken ones, 990, those that were turned are 588, and in the mirror the others, 402
-pub mirrored-words : take 3 (result (of mirrored) .solids) ≡ 990 ∷ 402 ∷ 8000 ∷ []
+pub mirrored-words : result (of mirrored) .solids ≡ one 990 402 8000
 unfolding word digits less
 mirrored-words =
     let m = octahedron-mirrored in
-    let w = first-words flip (result (of octahedron)) (result (of mirrored)) 990 588 8000 (m .es) (m .words) (m .flipped)
-    (ap (λ (s : Said). s .1) octahedron-said) (λ e. omega arith) in
+    let w = first-words flip (result (of octahedron)) (result (of mirrored)) 990 588 8000 (m .es)
+    (m .count ∙ octahedron-one) (m .words) (m .flipped) (ap (λ (s : Said). s .1) octahedron-said) in
     let others : word (less (w .solid .taken) (w .solid .turned)) ≡ 402 = less-words (w .solid .taken) (w .solid .turned) (digits 10 990)
     (digits 10 588) (w .taken-word) (w .turned-word) in
-    w .moved ∙ (λ i. w .taken-word i ∷ others i ∷ w .six-volumes i ∷ [])
+    w .moved ∙ (λ i. one (w .taken-word i) (others i) (w .six-volumes i))
 
 on-mirrored : Made mirror (on octahedron) (on mirrored)
 unfolding reply eachVertex
@@ -217,12 +218,12 @@ cube-doubled =
 pub doubled-answer : result (of double) .answer ≡ Conversion.One 6 6 0 48000
 doubled-answer = cube-doubled .answers ∙ ap (λ (s : Said). grown 8 (s .0)) cube-said
 
-pub doubled-words : take 3 (result (of double) .solids) ≡ 63 ∷ 21 ∷ 48000 ∷ []
+pub doubled-words : result (of double) .solids ≡ one 63 21 48000
 doubled-words =
     let m = cube-doubled in
-    let w = first-words (enlarge 2) (result (of cube)) (result (of double)) 63 21 6000 (m .es) (m .words) (m .enlarged)
-    (ap (λ (s : Said). s .1) cube-said) (λ e. omega arith) in
-    w .moved ∙ (λ i. w .taken-word i ∷ w .turned-word i ∷ (8 * w .six-volumes i) ∷ [])
+    let w = first-words (enlarge 2) (result (of cube)) (result (of double)) 63 21 6000 (m .es)
+    (m .count ∙ cube-one) (m .words) (m .enlarged) (ap (λ (s : Said). s .1) cube-said) in
+    w .moved ∙ (λ i. one (w .taken-word i) (w .turned-word i) (8 * w .six-volumes i))
 
 -- the check: all faces of the list turned round, for the drawing with x and y exchanged; the list itself, for the quarter turn
 of-exchanged : Made (laid (exchanging XY ∷ [])) (of cube) (of exchanged)

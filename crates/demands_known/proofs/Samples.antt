@@ -22,7 +22,8 @@ use Rattle.means_drawing.specs.Rules.{LowestVertex}
 use Rattle.means_solid.specs.Named.{SameRing}
 use Rattle.means_report.specs.Listed.{WalkTree}
 use Rattle.means_check.specs.Bodies.{SameBody}
-use Rattle.demands.specs.Input.{Input, lent, drawing, candidatesOf, Passes, converted, checked, reported}
+use Rattle.means_report.specs.Report.{reported}
+use Rattle.demands.specs.Input.{Input, lent, drawing, candidatesOf, Passes, converted, checked}
 use Rattle.demands.specs.Walk.{workToNine, Allowed}
 use Rattle.demands.specs.Spoiled.{Spoiled, all-turned}
 use Rattle.demands.specs.Demand3.{Report}

@@ -66,7 +66,7 @@ dot-less n p q e =
 
 -- ---- so a polygon in a plane is in its own
 
-own-plane : (f : Polygon) → InPlane f → 0 < length f → InOwnPlane f
+pub own-plane : (f : Polygon) → InPlane f → 0 < length f → InOwnPlane f
 unfolding onePlane planeSide
 own-plane f y h =
     all-is (λ p. isZero (planeSide f p)) origin f (λ i l.

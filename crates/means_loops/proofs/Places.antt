@@ -87,7 +87,7 @@ wrap-step n k i hk hi = go (wrap-is n (suc i)) (wrap-is n (k + i)) (wrap-is n (k
     go (inr (a, a′)) (inr (b, b′)) (inr (c, c′)) (inl (e, e′)) = omega arith
     go (inr (a, a′)) (inr (b, b′)) (inr (c, c′)) (inr (e, e′)) = omega arith
 
-wrap-below : (n j : ℕ) → j < n + n → wrap n j < n
+pub wrap-below : (n j : ℕ) → j < n + n → wrap n j < n
 wrap-below n j h = go (wrap-is n j)
   where
     go : ((j < n) × (wrap n j ≡ j)) ⊎ ((n ≤ j) × (wrap n j ≡ j - n)) → wrap n j < n

@@ -72,17 +72,8 @@ module _ (d : Wire) (cs : List Loop) (taken turned : List Bool) (k a b : ℕ) wh
 -- ---- the selection over there
 
 module _ {new old : ℕ → ℕ} {d e : Wire} (r : BothWays new old d e) (one : samePlace d ≡ none) (two : samePlace e ≡ none) where
-  abbrev cs : List Loop
-  cs = candidates d
-
-  abbrev ds : List Loop
-  ds = candidates e
-
   abbrev to : ℕ → ℕ
   to = fwd r one two
-
-  abbrev of : ℕ → ℕ
-  of = back r one two
 
   pub matched : Match (length (candidates d)) (length (candidates e)) (fwd r one two) (back r one two)
   matched = record {

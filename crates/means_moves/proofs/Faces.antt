@@ -10,7 +10,7 @@ use Rattle.exact.proofs.Size.{abs-mul}
 use Rattle.exact.proofs.Ring.{var, con, _⊕_, _⊗_, neg, ring}
 use Rattle.lists.specs.Lists.{any, all, sides, sidesFrom, anyTrue}
 use Rattle.lists.proofs.Sides.{sides-map}
-use Rattle.lists.proofs.Truth.{and-left, and-right}
+use Rattle.lists.proofs.Truth.{and-left, and-right, and-off}
 use Rattle.paper.specs.Points.{plus, minus, times, dot, isZero, above, below, samePoint}
 use Rattle.paper.specs.Polygon.{Polygon, Ratio, over, exactly, midpoint, normal, corner, planeSide, onePlane, lies, isInside, isOutside, covers}
 use Rattle.paper.specs.Clash.{opposite, pierced, pierces, enters, Side, to, turnsAt, pointsIn, isCorner, bends, folds, clash}
@@ -103,15 +103,10 @@ balance : (a b : ℤ) → opposite a b ≡ true → pos (natAbs b) *ℤ a +ℤ p
 unfolding opposite below above
 balance (pos m) (pos n) e = absurd (true≢false (sym e ∙ sides-no))
   where
-    no : (b : Bool) → (b && false) ≡ false
-    no true = refl
-    no false = refl
-
     sides-no : opposite (pos m) (pos n) ≡ false
     sides-no =
         unfold opposite below in
-        ap₂ (λ (a b : Bool). a && above (pos n) || above (pos m) && b) (le-ltb m 0 (omega arith)) (le-ltb n 0 (omega arith)) ∙ no
-        (above (pos m))
+        ap₂ (λ (a b : Bool). a && above (pos n) || above (pos m) && b) (le-ltb m 0 (omega arith)) (le-ltb n 0 (omega arith)) ∙ and-off (above (pos m))
 balance (pos m) (negsuc n) e = ring (pos m ∷ pos (suc n) ∷ []) (var 1 ⊗ var 0 ⊕ var 0 ⊗ neg (var 1)) (con (pos 0)) tt
 balance (negsuc m) (pos n) e = ring (pos (suc m) ∷ pos n ∷ []) (var 1 ⊗ neg (var 0) ⊕ var 0 ⊗ var 1) (con (pos 0)) tt
 balance (negsuc m) (negsuc n) e = absurd (true≢false (sym e))

@@ -46,7 +46,7 @@ use Rattle.paper_laws.proofs.Behind.{orElse, else-same, first-fine, second-fine
 use Rattle.means_moves.proofs.Alike.{checks-same, loops-same}
 use Rattle.means_moves.proofs.Moved.{moved-alike}
 use Rattle.means_moves.proofs.Passed.{bare-same, masks, judges}
-use Rattle.means_moves.proofs.Converted.{checksOf, parts, fine-form, fine-drawing}
+use Rattle.means_moves.proofs.Checks.{checksOf, parts, fine-form, fine-drawing}
 
 -- ---- words of the same digits
 
@@ -120,11 +120,12 @@ module _ (turns : Bool) (by : ℕ) where
         → Follows turns by solids (reported l cs t work found faces solids) (reported l cs u work found faces solids)
     unfolding reported
     reported-other l cs work [] faces solids g =
-        record { answers = refl; rows = refl; es = []; words = none-for solids; moved = none-for solids }
+        record { answers = refl; rows = refl; es = []; count = refl; words = none-for solids; moved = none-for solids }
     reported-other l cs work (st ∷ []) faces solids g = record {
       answers = ap (Conversion.One l (length cs) work) (judged-six (other (takens st)) (g .0));
       rows = refl;
       es = map (entry t) (st ∷ []);
+      count = refl;
       words = after (st ∷ []) solids;
       moved = after-other (st ∷ []) g solids;
     }
@@ -132,6 +133,7 @@ module _ (turns : Bool) (by : ℕ) where
       answers = refl;
       rows = refl;
       es = map (entry t) (st ∷ (st′ ∷ found));
+      count = length-map (st ∷ (st′ ∷ found)) (entry t);
       words = after (st ∷ (st′ ∷ found)) solids;
       moved = after-other (st ∷ (st′ ∷ found)) g solids;
     }
@@ -142,15 +144,15 @@ module _ (turns : Bool) (by : ℕ) where
     unfolding concluded
     concluded-other l cs log faces solids g (inl e) = rw e (reported-other l cs (log .work) (log .found) faces solids (g e))
     concluded-other l cs log faces solids g (inr (inl e)) =
-        rw e (record { answers = refl; rows = refl; es = []; words = none-for solids; moved = none-for solids })
+        rw e (record { answers = refl; rows = refl; es = []; count = refl; words = none-for solids; moved = none-for solids })
     concluded-other l cs log faces solids g (inr (inr e)) =
-        rw e (record { answers = refl; rows = refl; es = []; words = none-for solids; moved = none-for solids })
+        rw e (record { answers = refl; rows = refl; es = []; count = refl; words = none-for solids; moved = none-for solids })
 
   convert-other : (a : Answer) (faces solids : List ℕ) (x y : Converted) → (a ≡ Answer.Fine → Follows turns by solids x y)
       → Follows turns by solids (orConvert a faces solids x) (orConvert a faces solids y)
   convert-other Answer.Fine faces solids x y h = h refl
   convert-other (Answer.Refused r) faces solids x y h =
-      record { answers = refl; rows = refl; es = []; words = none-for solids; moved = none-for solids }
+      record { answers = refl; rows = refl; es = []; count = refl; words = none-for solids; moved = none-for solids }
 
 -- ---- a moved drawing
 

@@ -17,12 +17,12 @@ pub mod Six
 pub mod Judged
 pub mod Closed
 pub mod Passed
-pub mod Converted
+pub mod Checks
 pub mod Followed
 pub mod Turned
 pub mod TurnedRound
 pub mod Checked
-pub mod Named
+pub mod Laid
 pub mod Lent
 pub mod Higher
 pub mod Rings

@@ -1,10 +1,10 @@
 -- The mirror x to -x is a move: sides of planes change, and no test does. In the flat the ray is asked the other way. Assumes nothing.
 use mathlib.Core.Path.{_≡_, refl, sym, ap, ap₂, _∙_}
-use mathlib.Core.Bool.{Bool, _&&_, _||_, cond, xor}
+use mathlib.Core.Bool.{Bool, _&&_, _||_, cond, xor, or-comm}
 use mathlib.Core.List.{List, [], _∷_, map, map-id}
 use lib.IntN.{ℤ, pos, negsuc, negℤ, _+ℤ_, _-ℤ_, _*ℤ_}
 use lib.Signed.{leZ}
-use Rattle.exact.proofs.Laws.{one-*ℤ}
+use Rattle.exact.proofs.Laws.{one-*ℤ, mul-negℤ}
 use Rattle.exact.proofs.Ring.{var, con, _⊕_, _⊖_, _⊗_, neg, ring}
 use Rattle.lists.proofs.Truth.{and-swap}
 use Rattle.paper.specs.Points.{pt, plus, times, dot, cross, isZero}
@@ -21,7 +21,7 @@ use Rattle.means_inside.specs.Means.{big}
 use Rattle.means_inside.proofs.Mirror as Ray
 use Rattle.means_inside.proofs.Scale.{odd-is, any-clear}
 use Rattle.means_moves.specs.Moves.{mirror, Linear}
-use Rattle.means_moves.proofs.Numbers.{le-neg, zero-neg, or-swap}
+use Rattle.means_moves.proofs.Numbers.{le-neg, zero-neg}
 use Rattle.means_moves.proofs.Factors.{one-up, minus-one, minus-one-real}
 use Rattle.means_moves.proofs.Corners.{normal-moved, seen-moved, where-moved}
 
@@ -42,18 +42,15 @@ module _ (p : Flat) (d : ℤ) where
   unfolding spans
   spans-neg a b q =
       (λ i. le-neg a q i && le-neg q b i || le-neg b q i && le-neg q a i)
-      ∙ or-swap (leZ q a && leZ b q) (leZ q b && leZ a q)
+      ∙ or-comm (leZ q a && leZ b q) (leZ q b && leZ a q)
       ∙ ap₂ _||_ (and-swap (leZ q b) (leZ a q)) (and-swap (leZ q a) (leZ b q))
-
-  times-neg : (a : ℤ) → d *ℤ negℤ a ≡ negℤ (d *ℤ a)
-  times-neg a = ring (d ∷ a ∷ []) (var 0 ⊗ neg (var 1)) (neg (var 0 ⊗ var 1)) tt
 
   touches-other : (a b : Flat) → touches (other p) d (other a) (other b) ≡ touches p d a b
   unfolding touches between
   touches-other a b =
       ap₂ (λ (s t : Bool). s && (t && spans (d *ℤ a .v) (d *ℤ b .v) (p .v)))
       (ap isZero (turn-other a b) ∙ zero-neg (Polygon.turn a b p d))
-      ((λ i. spans (times-neg (a .u) i) (times-neg (b .u) i) (negℤ (p .u))) ∙ spans-neg (d *ℤ a .u) (d *ℤ b .u) (p .u))
+      ((λ i. spans (mul-negℤ d (a .u) i) (mul-negℤ d (b .u) i) (negℤ (p .u))) ∙ spans-neg (d *ℤ a .u) (d *ℤ b .u) (p .u))
 
   -- the ray to the one side in the mirror is the ray to the other
   right-other : (a : Flat) → right (other p) (east (other p)) (big d (other a)) ≡ right p (east p) (big d a)

@@ -1,12 +1,13 @@
 -- Whole numbers: tests after a sum, and of a number with the other sign. Assumes nothing.
 use mathlib.Core.Path.{_≡_, refl, sym, _∙_}
-use mathlib.Core.Bool.{Bool, true, false, _&&_, _||_}
+use mathlib.Core.Bool.{_&&_, _||_, or-comm}
 use mathlib.Core.List.{[], _∷_}
 use Prim.Native.Nat.{zero, suc}
 use native.Mathlib.Omega.{arith}
 use borrow.Author.Tests.{lt-ltb, le-ltb}
 use lib.IntN.{ℤ, pos, negsuc, negℤ, _+ℤ_}
 use lib.Signed.{leZ}
+use Rattle.means_inside.proofs.Segment.{below-neg}
 use Rattle.exact.proofs.Ring.{var, _⊕_, neg}
 use Rattle.exact.proofs.Linear.{le-by, le-to}
 use Rattle.exact.proofs.Signs.{le-is, le-yes}
@@ -40,19 +41,7 @@ above-neg (pos zero) = refl
 above-neg (pos (suc n)) = sym (le-ltb (suc n) 0 (omega arith))
 above-neg (negsuc n) = lt-ltb 0 (suc n) (omega arith)
 
-pub below-neg : (z : ℤ) → below (negℤ z) ≡ above z
-unfolding above below
-below-neg (pos zero) = refl
-below-neg (pos (suc n)) = sym (lt-ltb 0 (suc n) (omega arith))
-below-neg (negsuc n) = le-ltb (suc n) 0 (omega arith)
-
-pub or-swap : (a b : Bool) → (a || b) ≡ (b || a)
-or-swap true true = refl
-or-swap true false = refl
-or-swap false true = refl
-or-swap false false = refl
-
 pub opposite-neg : (a b : ℤ) → opposite (negℤ a) (negℤ b) ≡ opposite a b
 unfolding opposite
 opposite-neg a b =
-    (λ i. below-neg a i && above-neg b i || above-neg a i && below-neg b i) ∙ or-swap (above a && below b) (below a && above b)
+    (λ i. below-neg a i && above-neg b i || above-neg a i && below-neg b i) ∙ or-comm (above a && below b) (below a && above b)

@@ -1,6 +1,6 @@
 -- Polygons that are one ring: cover, clash and planes are the same. Assumes nothing.
 use mathlib.Core.Path.{_≡_, refl, sym, ap, ap₂, _∙_, subst}
-use mathlib.Core.Bool.{Bool, not, _&&_, _||_}
+use mathlib.Core.Bool.{Bool, not, _&&_, _||_, or-comm}
 use mathlib.Core.List.{List, [], _∷_, _++_, map, append-assoc, append-nil}
 use Prim.Native.Nat.{ℕ, _+_}
 use native.Mathlib.Omega.{arith}
@@ -19,7 +19,6 @@ use Rattle.paper_laws.specs.Planes.{InOwnPlane}
 use Rattle.paper_laws.proofs.Vectors.{vec, v as var, _+v_, vring}
 use Rattle.means_solid.specs.Named.{SameRing}
 use Rattle.means_moves.specs.Rings.{onward, backward, OneRing}
-use Rattle.means_moves.proofs.Numbers.{or-swap}
 use Rattle.means_moves.proofs.Factors.{one-up, two-up}
 use Rattle.means_moves.proofs.Faces.{and-same, opposite-up, all-sides}
 use Rattle.means_moves.proofs.Starts.{map-backward, onward-ring, backward-ring, six-onward, six-backward}
@@ -32,7 +31,7 @@ middle-swap p q = ap (λ (r : Point). over r (pos 2)) (vring (vec p ∷ vec q �
 
 opposite-swap : (a b : ℤ) → opposite a b ≡ opposite b a
 unfolding opposite
-opposite-swap a b = or-swap (below a && above b) (above a && below b) ∙ ap₂ _||_ (and-swap (above a) (below b))
+opposite-swap a b = or-comm (below a && above b) (above a && below b) ∙ ap₂ _||_ (and-swap (above a) (below b))
     (and-swap (below a) (above b))
 
 pierced-swap : (g : Polygon) (p q : Point) (a b : ℤ) → pierced g p q a b ≡ pierced g q p b a

@@ -25,7 +25,7 @@ use Rattle.means_moves.proofs.Renamed.{renumbered-back}
 use Rattle.means_moves.proofs.Undone.{renumbered, places-over}
 use Rattle.means_moves.proofs.Kept.{kept}
 use Rattle.paper_laws.proofs.Behind.{orElse, first-append}
-use Rattle.means_moves.proofs.Converted.{checksOf, parts}
+use Rattle.means_moves.proofs.Checks.{checksOf, parts}
 use Rattle.means_moves.proofs.Rules.{Once, loose-over, meets-over, apart-over}
 
 -- the number of the rule that refuses, if one does

@@ -1,28 +1,23 @@
 -- Rings of a drawing under new numbers: the same polygon, and a closed path where there was one. Assumes nothing.
 use mathlib.Core.Path.{_≡_, refl, sym, ap, _∙_, subst}
-use mathlib.Core.Logic.{_⊎_, inl, inr}
-use mathlib.Core.List.{List, [], _∷_, _++_, map}
+use mathlib.Core.Logic.{inl, inr}
+use mathlib.Core.List.{List, [], _∷_, map, map-append}
 use Prim.Native.Nat.{ℕ, suc, _<_}
 use native.Mathlib.Omega.{arith}
 use lib.ListN.{length, getD, length-map}
 use Rattle.lists.specs.Around.{wrap, around}
 use Rattle.lists.proofs.Places.{map-at}
-use Rattle.lists.proofs.Sides.{wrap-low}
-use Rattle.lists.proofs.Passing.{all-is}
-use Rattle.paper.specs.Points.{origin, minus, dot, isZero}
-use Rattle.paper.specs.Polygon.{Polygon, normal, corner, planeSide, onePlane}
 use Rattle.paper.specs.Drawing.{Wire, at}
 use Rattle.paper.specs.Loops.{Loop, flipped, polygon}
 use Rattle.paper_laws.specs.Planes.{InOwnPlane}
-use Rattle.paper_laws.proofs.Points.{zero-is}
 use Rattle.means_solid.specs.Solid.{Goes}
 use Rattle.means_solid.specs.Named.{SameRing}
-use Rattle.means_solid.proofs.Goes.{wrap-next, around-at}
+use Rattle.means_solid.proofs.Goes.{around-at}
 use Rattle.means_loops.specs.Path.{EdgeOf, ClosedPath}
 use Rattle.means_loops.specs.Plane.{InPlane}
 use Rattle.means_loops.proofs.Rings.{parts, same-parts}
-use Rattle.means_loops.proofs.OwnPlane.{normal-across, corner-at, less-dot}
-use Rattle.means_loops.proofs.Planes.{in-one-line}
+use Rattle.means_loops.proofs.Places.{wrap-below}
+use Rattle.means_loops.proofs.OwnPlane.{own-plane}
 use Rattle.means_moves.specs.Alike.{Below, Ends}
 use Rattle.means_moves.specs.Rings.{backward}
 use Rattle.means_moves.specs.Renumbered.{BothWays}
@@ -31,18 +26,14 @@ use Rattle.means_moves.proofs.Starts.{map-backward}
 -- ---- lists under any map
 
 module _ (new : ℕ → ℕ) where
-  map-append : (u w : List ℕ) → map new (u ++ w) ≡ map new u ++ map new w
-  map-append [] w = refl
-  map-append (x ∷ u) w = ap (λ (l : List ℕ). new x ∷ l) (map-append u w)
-
   pub same-map : {f g : List ℕ} → SameRing f g → SameRing (map new f) (map new g)
   same-map {f} {g} s =
       let p = parts s in
       same-parts (record {
         front = map new (p .front);
         back = map new (p .back);
-        before = ap (map new) (p .before) ∙ map-append (p .front) (p .back);
-        after = ap (map new) (p .after) ∙ map-append (p .back) (p .front);
+        before = ap (map new) (p .before) ∙ map-append new (p .front) (p .back);
+        after = ap (map new) (p .after) ∙ map-append new (p .back) (p .front);
       })
 
   pub flip-map : (f : List ℕ) → flipped (map new f) ≡ map new (flipped f)
@@ -55,23 +46,12 @@ module _ (new : ℕ → ℕ) where
       around-at (map new f) i ∙ ap (λ (n : ℕ). getD (map new f) (wrap n i) 0) (length-map f new)
       ∙ map-at new f (wrap (length f) i) 0 0 h ∙ ap new (sym (around-at f i))
 
-  low : (f : List ℕ) (i : ℕ) → i < length f → wrap (length f) i < length f
-  low f i h = subst (λ (k : ℕ). k < length f) (sym (wrap-low (length f) i h)) h
-
-  next : (f : List ℕ) (i : ℕ) → i < length f → wrap (length f) (suc i) < length f
-  next f i h = go (wrap-next (length f) i h)
-    where
-      go : ((suc i < length f) × (wrap (length f) (suc i) ≡ suc i)) ⊎ ((suc i ≡ length f) × (wrap (length f) (suc i) ≡ 0))
-          → wrap (length f) (suc i) < length f
-      go (inl p) = omega (arith, p .0, p .1)
-      go (inr p) = omega (arith, p .0, p .1)
-
   pub goes-over : (f : List ℕ) (a b : ℕ) → Goes f a b → Goes (map new f) (new a) (new b)
   goes-over f a b g = record {
     at = g .at;
     here = omega (arith, g .here, length-map f new);
-    from = ap new (g .from) ∙ sym (around-map f (g .at) (low f (g .at) (g .here)));
-    to = ap new (g .to) ∙ sym (around-map f (suc (g .at)) (next f (g .at) (g .here)));
+    from = ap new (g .from) ∙ sym (around-map f (g .at) (wrap-below (length f) (g .at) (omega (arith, g .here))));
+    to = ap new (g .to) ∙ sym (around-map f (suc (g .at)) (wrap-below (length f) (suc (g .at)) (omega (arith, g .here))));
   }
 
   pub goes-from : (f : List ℕ) (x y : ℕ) → Goes (map new f) x y → (a : ℕ) × (b : ℕ) × Goes f a b × (x ≡ new a) × (y ≡ new b)
@@ -80,26 +60,17 @@ module _ (new : ℕ → ℕ) where
         around f (g .at) 0,
         around f (suc (g .at)) 0,
         record { at = g .at; here = h; from = refl; to = refl },
-        g .from ∙ around-map f (g .at) (low f (g .at) h),
-        g .to ∙ around-map f (suc (g .at)) (next f (g .at) h),
+        g .from ∙ around-map f (g .at) (wrap-below (length f) (g .at) (omega arith)),
+        g .to ∙ around-map f (suc (g .at)) (wrap-below (length f) (suc (g .at)) (omega arith)),
       )
 
 pub inside-below : (n : ℕ) (f : List ℕ) → ((i : ℕ) → i < length f → getD f i 0 < n) → Below n f
 inside-below n [] h = tt
 inside-below n (x ∷ f) h = (h 0 (omega arith), inside-below n f (λ i l. h (suc i) (omega arith)))
 
--- a polygon in a plane is in its own
-pub in-own : (f : Polygon) → InPlane f → 0 < length f → InOwnPlane f
-unfolding onePlane planeSide
-in-own f y h =
-    all-is (λ p. isZero (planeSide f p)) origin f (λ i l.
-    zero-is (in-one-line (y .across) (normal f) (minus (getD f i origin) (corner f)) (y .real)
-    (normal-across (y .across) (y .height) f (y .every))
-    (less-dot (y .across) (getD f i origin) (corner f) (y .height) (y .every i l) (ap (dot (y .across)) (corner-at f) ∙ y .every 0 h))))
-
 pub path-own : (d : Wire) (f : Loop) → ClosedPath d f → InOwnPlane (polygon d f)
 unfolding polygon
-path-own d f c = in-own (polygon d f) (c .plane) (omega (arith, c .three, length-map f (at d)))
+path-own d f c = own-plane (polygon d f) (c .plane) (omega (arith, c .three, length-map f (at d)))
 
 -- ---- the other way
 

@@ -2,68 +2,19 @@
 use mathlib.Core.Path.{_≡_, refl, sym, ap, ap₂, _∙_, subst}
 use mathlib.Core.Logic.{_⊎_, inl, inr}
 use mathlib.Core.Option.{none}
-use mathlib.Core.List.{[], _∷_}
 use Prim.Native.Nat.{ℕ, _<_}
 use native.Mathlib.Omega.{arith}
-use lib.IntN.{ℤ, pos, _-ℤ_}
 use lib.ListN.{length}
-use Rattle.exact.proofs.Ring.{var, con, _⊖_}
-use Rattle.exact.proofs.Linear.{le-by, le-to, lt-by, lt-to}
-use Rattle.paper.specs.Points.{times}
+use Rattle.means_area.proofs.Loops.Edges.{between-back, common-back, common-turned}
 use Rattle.paper.specs.Drawing.{Wire, Edge, edge, edgeAt, at, samePlace, looseVertex, edgeMeets, apart}
 use Rattle.paper.specs.declared.Point.{Point}
-use Rattle.paper_laws.proofs.Vectors.{num, vec, x as var′, _-s_, v, _+v_, _-v_, _*v_, vring}
-use Rattle.means_drawing.specs.Segments.{Inner, Whole, along, Between, Common}
+use Rattle.means_drawing.specs.Segments.{Between, Common}
 use Rattle.means_drawing.specs.Drawings.{start, stop, Vertex, HasEdge, from, to, EndOf, Meets, vertex, other, Joined, Reachable, first, next, Rising}
 use Rattle.means_drawing.proofs.Drawings.{looseVertex-means, edgeMeets-means, long-edges, apart-means}
 use Rattle.means_loops.specs.Path.{EdgeOf}
 use Rattle.means_moves.specs.Renumbered.{BothWays}
 use Rattle.means_moves.proofs.Renamed.{edge-over, edge-under, edge-high}
 use Rattle.means_moves.proofs.Undone.{places-over}
-
--- ---- segments from their other ends
-
-along-back : (s p : ℤ) (a b : Point) → along s p a b ≡ along s (s -ℤ p) b a
-along-back s p a b =
-    vring (num s ∷ num p ∷ vec a ∷ vec b ∷ []) ((var′ 0 *v v 2) +v (var′ 1 *v (v 3 -v v 2)))
-    ((var′ 0 *v v 3) +v ((var′ 0 -s var′ 1) *v (v 2 -v v 3))) tt
-
-inner-back : Inner → Inner
-inner-back i = record {
-  scale = i .scale;
-  place = i .scale -ℤ i .place;
-  after = let ρ = i .scale ∷ i .place ∷ [] in lt-by ρ (con (pos 0)) (var 0 ⊖ var 1) (omega (arith, lt-to ρ (var 1) (var 0) (i .before)));
-  before = let ρ = i .scale ∷ i .place ∷ [] in lt-by ρ (var 0 ⊖ var 1) (var 0) (omega (arith, lt-to ρ (con (pos 0)) (var 1) (i .after)));
-}
-
-whole-back : Whole → Whole
-whole-back i = record {
-  scale = i .scale;
-  place = i .scale -ℤ i .place;
-  some = i .some;
-  least = let ρ = i .scale ∷ i .place ∷ [] in le-by ρ (con (pos 0)) (var 0 ⊖ var 1) (omega (arith, le-to ρ (var 1) (var 0) (i .most)));
-  most = let ρ = i .scale ∷ i .place ∷ [] in le-by ρ (var 0 ⊖ var 1) (var 0) (omega (arith, le-to ρ (con (pos 0)) (var 1) (i .least)));
-}
-
-between-back : (a b p : Point) → Between a b p → Between b a p
-unfolding inner-back
-between-back a b p h = record { here = inner-back (h .here); is = h .is ∙ along-back (h .here .scale) (h .here .place) a b }
-
-common-back : (a b c d : Point) → Common a b c d → Common b a c d
-unfolding inner-back
-common-back a b c d h = record {
-  here = inner-back (h .here);
-  there = h .there;
-  is = ap (times (h .there .scale)) (sym (along-back (h .here .scale) (h .here .place) a b)) ∙ h .is;
-}
-
-common-turn : (a b c d : Point) → Common a b c d → Common a b d c
-unfolding whole-back
-common-turn a b c d h = record {
-  here = h .here;
-  there = whole-back (h .there);
-  is = h .is ∙ ap (times (h .here .scale)) (along-back (h .there .scale) (h .there .place) c d);
-}
 
 -- ---- edges by their places and by their ends
 
@@ -263,7 +214,7 @@ module _ {new old : ℕ → ℕ} {d e : Wire} (r : BothWays new old d e) where
         second (inr p) q =
             subst (λ (z : Point). Common (at d (from d k)) (at d (to d k)) z (at d (to d m))) (sym (p .0))
             (subst (λ (z : Point). Common (at d (from d k)) (at d (to d k)) (at e (to e f)) z) (sym (p .1))
-            (common-turn (at d (from d k)) (at d (to d k)) (at e (from e f)) (at e (to e f)) q))
+            (common-turned (at d (from d k)) (at d (to d k)) (at e (from e f)) (at e (to e f)) q))
 
     pub meets-over : samePlace d ≡ none → edgeMeets d ≡ none → edgeMeets e ≡ none
     meets-over s h =

@@ -1,6 +1,6 @@
 -- A polygon from its next corner on is one ring with it, and so is a polygon run backwards. Assumes nothing.
 use mathlib.Core.Path.{_≡_, refl, sym, ap, ap₂, _∙_}
-use mathlib.Core.Bool.{Bool, true, false, _&&_, cond}
+use mathlib.Core.Bool.{Bool, true, false, _&&_, cond, or-comm}
 use mathlib.Core.List.{List, [], _∷_, _++_, map, reverse, reverse-cons}
 use lib.IntN.{ℤ, pos, negℤ, _+ℤ_, _-ℤ_}
 use Rattle.lists.specs.Lists.{all, sides, sidesFrom, anyTrue}
@@ -23,7 +23,7 @@ use Rattle.means_area.specs.Flats.{Up}
 use Rattle.means_inside.proofs.Inside.{any-start}
 use Rattle.means_inside.proofs.Backwards.{any-way}
 use Rattle.means_moves.specs.Rings.{onward, backward, OneRing}
-use Rattle.means_moves.proofs.Numbers.{zero-neg, opposite-neg, or-swap}
+use Rattle.means_moves.proofs.Numbers.{zero-neg, opposite-neg}
 use Rattle.means_moves.proofs.Rings.{
   sides-onward,
   sides-backward,
@@ -186,7 +186,7 @@ angle-backward n a p b w =
   where
     hold-swap : (x l r : Bool) → angleHolds x l r ≡ angleHolds x r l
     hold-swap true l r = unfold angleHolds in and-swap l r
-    hold-swap false l r = unfold angleHolds in or-swap l r
+    hold-swap false l r = unfold angleHolds in or-comm l r
 
 points-backward : (g : Polygon) (u v : Point) → pointsIn (backward g) u v ≡ pointsIn g u v
 unfolding pointsIn

@@ -3,7 +3,7 @@ use mathlib.Core.Path.{_≡_, refl, sym, ap, _∙_}
 use mathlib.Core.Bool.{true, false}
 use mathlib.Core.List.{List, map, map-id}
 use Prim.Native.Nat.{ℕ, _*_}
-use native.Mathlib.Omega.{arith}
+use native.Mathlib.Nat.{one-mul}
 use Rattle.paper.specs.Conversion.{Converted}
 use Rattle.paper.specs.declared.Conversion.{Conversion}
 use Rattle.paper.specs.declared.Conversion.the-variants as Conversion
@@ -11,11 +11,8 @@ use Rattle.means_report.specs.Listed.{Entry}
 use Rattle.means_report.specs.Report.{solidsFor}
 use Rattle.means_moves.specs.Turned.{grown, Follows, flip, Mirrored, Scaled}
 
-once : (n : ℕ) → 1 * n ≡ n
-once n = omega arith
-
 grown-once : (c : Conversion) → grown 1 c ≡ c
-grown-once (Conversion.One l c w six) = ap (Conversion.One l c w) (once six)
+grown-once (Conversion.One l c w six) = ap (Conversion.One l c w) (one-mul six)
 grown-once (Conversion.Several l c w n) = refl
 grown-once (Conversion.NoSolid l c w) = refl
 grown-once (Conversion.Many l c w) = refl
@@ -26,7 +23,7 @@ pub follows-same : {solids : List ℕ} {r q : Converted} → Follows false 1 sol
 follows-same {solids} {r} {q} f =
     let left : q .solids ≡ r .solids = f .moved
     ∙ ap (solidsFor solids)
-    ((λ i. map (λ (e : Entry). record { taken = e .taken; turned = e .turned; six = once (e .six) i }) (f .es)) ∙ map-id (f .es))
+    ((λ i. map (λ (e : Entry). record { taken = e .taken; turned = e .turned; six = one-mul (e .six) i }) (f .es)) ∙ map-id (f .es))
     ∙ sym (f .words) in
     λ i. record { answer = (f .answers ∙ grown-once (r .answer)) i; faces = f .rows i; solids = left i }
 
@@ -35,10 +32,11 @@ follows-mirrored {solids} {r} f = record {
   answers = f .answers ∙ grown-once (r .answer);
   rows = f .rows;
   es = f .es;
+  count = f .count;
   words = f .words;
   flipped = f .moved ∙ ap (solidsFor solids) (λ i. map (λ (e : Entry). record
-      { taken = e .taken; turned = flip e .turned; six = once (e .six) i }) (f .es));
+      { taken = e .taken; turned = flip e .turned; six = one-mul (e .six) i }) (f .es));
 }
 
 pub follows-scaled : {solids : List ℕ} {r q : Converted} (k : ℕ) → Follows false (k * k * k) solids r q → Scaled k solids r q
-follows-scaled k f = record { answers = f .answers; rows = f .rows; es = f .es; words = f .words; enlarged = f .moved }
+follows-scaled k f = record { answers = f .answers; rows = f .rows; es = f .es; count = f .count; words = f .words; enlarged = f .moved }

@@ -5,13 +5,14 @@ use mathlib.Core.Bool.{Bool, true, false, cond}
 use mathlib.Core.List.{List, map}
 use Prim.Native.Nat.{ℕ, _*_}
 use lib.IntN.{ℤ, pos, negsuc}
+use lib.ListN.{length}
 use Rattle.sets.specs.Word.{dig, less}
 use Rattle.paper.specs.Solids.{Judgement, Fails, Solid}
 use Rattle.paper.specs.Conversion.{Converted}
 use Rattle.paper.specs.declared.Conversion.{Conversion}
 use Rattle.paper.specs.declared.Conversion.the-variants as Conversion
 use Rattle.means_report.specs.Listed.{Entry}
-use Rattle.means_report.specs.Report.{solidsFor}
+use Rattle.means_report.specs.Report.{reported, solidsFor}
 
 -- a factor below 0 exchanges the sides of every plane
 abbrev pub turnsBy : ℤ → Bool
@@ -36,11 +37,12 @@ pub data Judged (turns : Bool) (by : ℕ) (taken : List Bool) : Judgement → Ju
   solid : (ts us : List Bool) (six : ℕ) → ((k : ℕ) → dig us k ≡ dig (cond turns (less taken ts) ts) k)
       → Judged turns by taken (Solid ts six) (Solid us (by * six))
 
--- two conversions: the solids of the one are `es`, and those of the other are these, moved
+-- two conversions: the solids of the one are `es`, as many as its answer says, and those of the other are these, moved
 pub record Follows (turns : Bool) (by : ℕ) (solids : List ℕ) (r q : Converted) : Type 0 where
   pub answers : q .answer ≡ grown by (r .answer)
   pub rows : q .faces ≡ r .faces
   pub es : List Entry
+  pub count : length es ≡ reported (r .answer)
   pub words : r .solids ≡ solidsFor solids es
   pub moved : q .solids ≡ solidsFor solids (map (carried turns by) es)
 
@@ -53,6 +55,7 @@ pub record Mirrored (solids : List ℕ) (r q : Converted) : Type 0 where
   pub answers : q .answer ≡ r .answer
   pub rows : q .faces ≡ r .faces
   pub es : List Entry
+  pub count : length es ≡ reported (r .answer)
   pub words : r .solids ≡ solidsFor solids es
   pub flipped : q .solids ≡ solidsFor solids (map flip es)
 
@@ -64,5 +67,6 @@ pub record Scaled (k : ℕ) (solids : List ℕ) (r q : Converted) : Type 0 where
   pub answers : q .answer ≡ grown (k * k * k) (r .answer)
   pub rows : q .faces ≡ r .faces
   pub es : List Entry
+  pub count : length es ≡ reported (r .answer)
   pub words : r .solids ≡ solidsFor solids es
   pub enlarged : q .solids ≡ solidsFor solids (map (enlarge k) es)

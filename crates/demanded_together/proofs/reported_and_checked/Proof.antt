@@ -3,7 +3,8 @@ use Prim.Native.Nat.{_+_, _*_, _<_}
 use native.Mathlib.Omega.{arith}
 use denote.Ref.{now}
 use lib.ListN.{length}
-use Rattle.demands.specs.Input.{lent, reported}
+use Rattle.means_report.specs.Report.{reported}
+use Rattle.demands.specs.Input.{lent}
 use Rattle.demanded_together.proofs.Agreeing.{in-room, accepted}
 use borrow.Author.Needs.{needs}
 use Rattle.demanded_together.proofs.reported_and_checked.Statement.{statement}

@@ -28,7 +28,7 @@ use Rattle.means_drawing.specs.Drawings.{start, stop, from, to, Vertex, HasEdge
 
 -- ---- segments from their other ends
 
-between-back : (a b p : Point) → Between a b p → Between b a p
+pub between-back : (a b p : Point) → Between a b p → Between b a p
 between-back a b p t =
     let S = t .here .scale in
     let T = t .here .place in
@@ -46,7 +46,7 @@ between-back a b p t =
           (x 0 *v v 3 +v (x 0 -s x 1) *v (v 2 -v v 3)) tt;
     }
 
-common-back : (a b c d : Point) → Common a b c d → Common b a c d
+pub common-back : (a b c d : Point) → Common a b c d → Common b a c d
 common-back a b c d t =
     let S = t .here .scale in
     let T = t .here .place in
@@ -66,7 +66,7 @@ common-back a b c d t =
           ∙ t .is;
     }
 
-common-turned : (a b c d : Point) → Common a b c d → Common a b d c
+pub common-turned : (a b c d : Point) → Common a b c d → Common a b d c
 common-turned a b c d t =
     let S = t .there .scale in
     let T = t .there .place in
