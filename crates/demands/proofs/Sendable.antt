@@ -4,10 +4,11 @@ use mathlib.Core.Bool.{Bool, true, false, cond}
 use mathlib.Core.Option.{none}
 use mathlib.Core.Logic.{inl, inr}
 use mathlib.Core.List.{List, [], _∷_}
-use Prim.Native.Nat.{ℕ, zero, suc, _*_, _≤_, _<_}
+use Prim.Native.Nat.{ℕ, suc, _*_, _≤_, _<_}
 use native.Mathlib.Omega.{arith}
-use native.Mathlib.Decide.{decLt, ℕ-discrete}
+use native.Mathlib.Decide.{decLt}
 use lib.ListN.{length, List·getD-eq-default}
+use Rattle.lists.proofs.OwnNumbers.{at-most}
 use Rattle.sets.specs.Word.{dig}
 use Rattle.sets.proofs.Digits.{never}
 use Rattle.paper.specs.Format.{editionOne, bytesFor}
@@ -28,44 +29,7 @@ use Rattle.means_loops.proofs.Listing.{candidates-are}
 use Rattle.means_check.proofs.Few.{solid-sent}
 use Rattle.means_check.proofs.Bodies.{faceList-names, same-named, named-singly}
 
--- ---- m different ones among n: m is at most n
-
-less : (a b : ℕ) → a < suc b → (a ≡ b → ⊥) → a < b
-less a b z q = pick (decLt a b)
-  where
-    pick : Dec (a < b) → a < b
-    pick (yes y) = y
-    pick (no y) = absurd (q (omega arith))
-
--- the number n is taken out: whoever had it gets what the last one had
-out : (f : ℕ → ℕ) (n last i : ℕ) → Dec (f i ≡ n) → ℕ
-out f n last i (yes e) = f last
-out f n last i (no e) = f i
-
-at-most : (m n : ℕ) (f : ℕ → ℕ) → ((i : ℕ) → i < m → f i < n) → ((i j : ℕ) → i < m → j < m → f i ≡ f j → i ≡ j) → m ≤ n
-unfolding out
-at-most zero n f h u = omega arith
-at-most (suc m) zero f h u = absurd (omega (arith, h 0 (omega arith)))
-at-most (suc m) (suc n) f h u =
-    let r = at-most m n (λ i. out f n m i (ℕ-discrete (f i) n)) (λ i l. low i l (ℕ-discrete (f i) n))
-    (λ i j li lj e. one i j li lj (ℕ-discrete (f i) n) (ℕ-discrete (f j) n) e) in
-    omega arith
-  where
-    low : (i : ℕ) → i < m → (d : Dec (f i ≡ n)) → out f n m i d < n
-    low i l (yes e) = go (ℕ-discrete (f m) n)
-      where
-        go : Dec (f m ≡ n) → f m < n
-        go (yes q) = absurd (omega (arith, u i m (omega arith) (omega arith) (e ∙ sym q)))
-        go (no q) = less (f m) n (h m (omega arith)) q
-    low i l (no e) = less (f i) n (h i (omega arith)) e
-
-    one : (i j : ℕ) → i < m → j < m → (d : Dec (f i ≡ n)) (c : Dec (f j ≡ n)) → out f n m i d ≡ out f n m j c → i ≡ j
-    one i j li lj (yes a) (yes b) e = u i j (omega arith) (omega arith) (a ∙ sym b)
-    one i j li lj (yes a) (no b) e = absurd (omega (arith, u m j (omega arith) (omega arith) e))
-    one i j li lj (no a) (yes b) e = absurd (omega (arith, u i m (omega arith) (omega arith) e))
-    one i j li lj (no a) (no b) e = u i j (omega arith) (omega arith) e
-
--- the same of partners
+-- m with a partner each among n, no two with the same: m is at most n
 partners : (m n : ℕ) (R : ℕ → ℕ → Type 0) → ((i : ℕ) → i < m → (j : ℕ) × (j < n) × R i j)
     → ((i j k : ℕ) → i < m → j < m → R i k → R j k → i ≡ j) → m ≤ n
 partners m n R f u = at-most m n (λ i. to i (decLt i m)) (λ i l. low i l (decLt i m))

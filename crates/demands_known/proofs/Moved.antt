@@ -10,9 +10,9 @@ use lib.IntN.{ℤ, pos, natAbs}
 use lib.ListN.{length, getD}
 use Rattle.lists.specs.Lists.{all}
 use Rattle.lists.proofs.Passing.{all-yes}
-use Rattle.sets.specs.Word.{dig, digit, digits, less, word}
+use Rattle.sets.specs.Word.{digits, less, word}
 use Rattle.sets.proofs.Digits.{dig-less}
-use Rattle.sets.proofs.Numbers.{digit-word, by-digits}
+use Rattle.sets.proofs.Numbers.{same-word}
 use Rattle.paper.specs.Numbers.{farthest, mostWork, faceRoom, solidRoom}
 use Rattle.paper.specs.Points.{pt, plus, times}
 use Rattle.paper.specs.Format.{editionOne}
@@ -28,6 +28,7 @@ use Rattle.paper.specs.declared.Point.{Point}
 use Rattle.paper.specs.declared.Verdict.the-variants.{Accepted}
 use Rattle.means_report.specs.Listed.{Entry, wordsOf}
 use Rattle.means_report.specs.Report.{solidsFor}
+use Rattle.means_report.proofs.Counted.{word-same}
 use Rattle.means_moves.specs.Moves.{shift, mirror, XY, mirroring, exchanging, laid}
 use Rattle.means_moves.specs.Lists.{eachVertex, Near}
 use Rattle.means_moves.specs.TurnedRound.{AllTurned}
@@ -127,11 +128,8 @@ module _ (f : Entry → Entry) (r q : Converted) (a b six : ℕ) where
 -- a set is told by its word
 less-words : (a b c d : List Bool) → word a ≡ word c → word b ≡ word d → word (less a b) ≡ word (less c d)
 less-words a b c d p q =
-    by-digits (word (less a b)) (less c d)
-    (λ k. digit-word (less a b) k ∙ dig-less a b k ∙ ap₂ (λ (x y : Bool). x && not y) (same a c p k) (same b d q k) ∙ sym (dig-less c d k))
-  where
-    same : (a b : List Bool) → word a ≡ word b → (k : ℕ) → dig a k ≡ dig b k
-    same a b p k = sym (digit-word a k) ∙ ap (λ (w : ℕ). digit w k) p ∙ digit-word b k
+    same-word (less a b) (less c d)
+    (λ k. dig-less a b k ∙ ap₂ (λ (x y : Bool). x && not y) (word-same a c p k) (word-same b d q k) ∙ sym (dig-less c d k))
 
 pub octahedron-mirrored : Mirrored (solidBefore solidRoom) (result (of octahedron)) (result (of mirrored))
 unfolding eachVertex

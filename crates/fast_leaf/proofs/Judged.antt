@@ -10,6 +10,7 @@ use borrow.Author.Tests.{eqb-true, eqb-false}
 use Rattle.lists.proofs.Truth.{and-both, same-truth, never-true}
 use Rattle.sets.specs.Word.{word, dig, Sub, count, less, first}
 use Rattle.sets.proofs.Digits.{never, dig-less, count-none, count-same, first-in}
+use Rattle.sets.proofs.Numbers.{same-word}
 use Rattle.paper.specs.Solids.{facesFrom, connected, oriented, sixFrom, clearFrom, weighed, Tables, Judgement, Fails, judged}
 use Rattle.paper.specs.Conversion.{isSolid, turnedOf, sixOf}
 use Rattle.means_leaf.specs.Meaning.{faces, InTwo, Alike}
@@ -17,7 +18,6 @@ use Rattle.means_leaf.proofs.Forced.{oriented-alike, oriented-opposite, all-rea
 use Rattle.means_leaf.proofs.Within.{turned-taken}
 use Rattle.means_leaf.proofs.Solids.{six-alike, turned-opposite}
 use Rattle.means_leaf.proofs.Directions.{faces-right}
-use Rattle.fast_sweeps.proofs.Words.{word-same}
 use Rattle.fast_leaf.specs.Faces.{fromLowest, clearOn, sixOn, judgedByFaces, Agrees, fails, solid}
 use Rattle.fast_leaf.proofs.Edge.{Fair}
 use Rattle.fast_leaf.proofs.Around.{face-fair, same-reached}
@@ -168,7 +168,7 @@ pub record Reports (i j : Judgement) : Type 0 where
 
 pub agrees-reports : {i j : Judgement} → Agrees i j → Reports i j
 agrees-reports fails = record { same-solid = refl; same-word = refl; same-six = refl }
-agrees-reports (solid {s} {t} v h) = record { same-solid = refl; same-word = word-same s t h; same-six = refl }
+agrees-reports (solid {s} {t} v h) = record { same-solid = refl; same-word = same-word s t h; same-six = refl }
 
 pub reports-by-faces : (t : Tables) (taken : List Bool) → length (t .masks) ≡ length (t .ups) → InTwo (t .masks) taken
     → Reports (judgedByFaces t taken) (judged t taken)

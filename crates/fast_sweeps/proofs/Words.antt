@@ -3,11 +3,12 @@
 use mathlib.Core.Bool.{Bool, true, false, _&&_, _||_, and-true, or-false}
 use mathlib.Core.List.{List, [], _∷_}
 use mathlib.Core.Path.{_≡_, refl, sym, ap, ap₂, _∙_}
-use Prim.Native.Nat.{ℕ, zero, suc, _+_, _*_, _<_}
+use Prim.Native.Nat.{ℕ, zero, suc, _<_}
 use native.Mathlib.Omega.{arith}
 use lib.ListN.{length, set}
-use Rattle.sets.specs.Word.{bit, word, dig, count, either, less, only}
+use Rattle.sets.specs.Word.{word, dig, count, either, less, only}
 use Rattle.sets.proofs.Digits.{never, less-nil}
+use Rattle.sets.proofs.Numbers.{same-word}
 use Rattle.sets.proofs.Ones.{nil-either}
 use Rattle.paper.specs.Conversion.{takens}
 use Rattle.paper.specs.Walk.{Status, Taken, Rejected, Undecided, isTaken, isOpen}
@@ -15,20 +16,12 @@ use Rattle.means_walk.proofs.Status.{opens}
 use Rattle.fast_sweeps.specs.Worklist.{after, nextAhead, nextLater}
 use Rattle.fast_sweeps.proofs.Work.{ahead-none, later-none}
 
--- a word is its digits
-pub word-same : (a b : List Bool) → ((k : ℕ) → dig a k ≡ dig b k) → word a ≡ word b
-unfolding word
-word-same [] [] h = refl
-word-same [] (y ∷ b) h = ap₂ (λ (w : ℕ) (x : Bool). w * 2 + bit x) (word-same [] b (λ k. h (suc k))) (h 0)
-word-same (x ∷ a) [] h = ap₂ (λ (w : ℕ) (y : Bool). w * 2 + bit y) (word-same a [] (λ k. h (suc k))) (h 0)
-word-same (x ∷ a) (y ∷ b) h = ap₂ (λ (w : ℕ) (z : Bool). w * 2 + bit z) (word-same a b (λ k. h (suc k))) (h 0)
-
 -- none was decided: the next marks are the same words as those without the lowest
 pub ahead-word : (masks : List (List Bool)) (d ahead : List Bool) → count d ≡ 0 → word (after ahead) ≡ word (nextAhead masks d ahead)
-ahead-word masks d ahead z = word-same (after ahead) (nextAhead masks d ahead) (λ k. sym (ahead-none masks d ahead z k))
+ahead-word masks d ahead z = same-word (after ahead) (nextAhead masks d ahead) (λ k. sym (ahead-none masks d ahead z k))
 
 pub later-word : (masks : List (List Bool)) (d ahead later : List Bool) → count d ≡ 0 → word later ≡ word (nextLater masks d ahead later)
-later-word masks d ahead later z = word-same later (nextLater masks d ahead later) (λ k. sym (later-none masks d ahead later z k))
+later-word masks d ahead later z = same-word later (nextLater masks d ahead later) (λ k. sym (later-none masks d ahead later z k))
 
 -- ---- a candidate given a status
 or-true : (b : Bool) → true ≡ b || true

@@ -1,15 +1,16 @@
 -- Candidates by a search that asks each edge at most once for each loop. Assumes nothing.
 use mathlib.Core.Path.{_≡_, refl, sym, ap, ap₂, _∙_}
 use mathlib.Core.Bool.{Bool, true, false, not, _&&_, _||_, true≢false}
-use mathlib.Core.List.{List, [], _∷_, map}
+use mathlib.Core.List.{List, [], map}
 use Prim.Native.Nat.{ℕ, _<_}
 use native.Mathlib.Omega.{arith}
 use borrow.Author.Tests.{eq-eqb, eqb-true}
 use lib.Dec.{eqb}
 use lib.ListN.{length, getD}
-use Rattle.lists.specs.Lists.{any, all, keep, filter, upto, member}
+use Rattle.lists.specs.Lists.{any, all, filter, upto, member}
 use Rattle.lists.proofs.Truth.{and-left}
 use Rattle.lists.proofs.Places.{map-at, made-at, any-below-same, upto-length, upto-at}
+use Rattle.lists.proofs.Agreeing.{filter-same}
 use Rattle.lists.proofs.Passing.{any-yes, any-is, all-yes, all-is, some-yes, some-is}
 use Rattle.sets.specs.Word.{dig, count, less}
 use Rattle.sets.proofs.Digits.{dig-less, count-none, count-empty}
@@ -151,14 +152,8 @@ module _ (d : Wire) where
             ap (λ (b : Bool). not (eqb i j) && b) p ∙ assoc (not (eqb i j)) (levelWith d l k) (not (leaves m out (masks j)))
 
     -- the loops that are kept
-    filter-same : (p q : ℕ → Bool) → ((i : ℕ) → p i ≡ q i) → (xs : List ℕ) → filter p xs ≡ filter q xs
-    unfolding filter
-    filter-same p q h [] = refl
-    filter-same p q h (x ∷ xs) = ap₂ (λ (b : Bool) (ys : List ℕ). keep b x ys) (h x) (filter-same p q h xs)
-
     pub uncovering-found : uncovering d ls ≡ map (loopAt ls) (filter (λ i. not (coversByAnswers d ls i)) (upto (length ls)))
     unfolding uncovering
     uncovering-found =
         ap (map (loopAt ls))
-        (filter-same (λ i. not (coversOther d ls i)) (λ i. not (coversByAnswers d ls i)) (λ i. ap not (covers-found i))
-        (upto (length ls)))
+        (filter-same (λ i. not (coversOther d ls i)) (λ i. not (coversByAnswers d ls i)) (length ls) (λ i h. ap not (covers-found i)))

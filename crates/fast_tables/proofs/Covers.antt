@@ -6,20 +6,19 @@ use mathlib.Core.List.{List, [], _∷_}
 use Prim.Native.Nat.{ℕ, _+_, _<_}
 use native.Mathlib.Omega.{arith}
 use lib.ListN.{length, getD}
-use lib.IntN.{pos}
 use Rattle.lists.specs.Lists.{any, all, sides, sidesFrom, anyTrue, upto, member}
 use Rattle.lists.specs.Around.{wrap, around}
 use Rattle.lists.proofs.Places.{any-same, upto-length, upto-at}
 use Rattle.lists.proofs.Passing.{all-yes, all-is}
 use Rattle.lists.proofs.Sides.{sides-map}
 use Rattle.paper.specs.Points.{origin, isZero}
-use Rattle.paper.specs.Polygon.{planeSide, onePlane, Ratio, over, midpoint, lies, isOutside, covers}
+use Rattle.paper.specs.Polygon.{planeSide, onePlane, Ratio, midpoint, lies, isOutside, covers}
 use Rattle.paper.specs.Drawing.{Wire, Edge, edge, at}
 use Rattle.paper.specs.Loops.{Loop, polygon}
 use Rattle.paper.specs.Solids.{runs, has}
 use Rattle.paper.specs.declared.Point.{Point}
 use Rattle.paper.specs.declared.Where.the-variants.{Border}
-use Rattle.paper_laws.proofs.Vectors.{vec, v, _+v_, vring}
+use Rattle.paper_laws.proofs.Turned.{middle-turned}
 use Rattle.fast_tables.specs.Paths.{Path}
 use Rattle.fast_tables.specs.Covers.{middleOutside, inPlaneOf, coversBy}
 use Rattle.fast_tables.proofs.Rounds.{equal-both, wrap-below, member-yes, member-is, runs-yes, has-cases, ofEdge, sides-edges}
@@ -40,10 +39,6 @@ all-sides {A} {B} t f (a ∷ r) = go a r
     go : (x : A) (ys : List A) → all (λ m. not (t m)) (sidesFrom f a x ys) ≡ not (anyTrue (sidesFrom (λ x y. t (f x y)) a x ys))
     go x [] = more (t (f x a)) false
     go x (y ∷ ys) = ap (λ (b : Bool). not (t (f x y)) && b) (go y ys) ∙ more (t (f x y)) (anyTrue (sidesFrom (λ x y. t (f x y)) a y ys))
-
-middle-turned : (p q : Point) → midpoint p q ≡ midpoint q p
-unfolding midpoint
-middle-turned p q = ap (λ (r : Point). over r (pos 2)) (vring (vec p ∷ vec q ∷ []) (v 0 +v v 1) (v 1 +v v 0) tt)
 
 module _ (d : Wire) where
   around-at : (l : Loop) (j : ℕ) → j < length l + length l → around (polygon d l) j origin ≡ at d (around l j 0)

@@ -14,10 +14,11 @@ use Rattle.paper.specs.Polygon.{planeSide}
 use Rattle.paper.specs.Drawing.{Wire, Edge, edge, at, joins, joined}
 use Rattle.paper.specs.Loops.{Loop, polygon}
 use Rattle.paper.specs.Solids.{has}
+use Rattle.paper_laws.proofs.Turned.{pierced-turned}
 use Rattle.fast_tables.specs.Paths.{Path}
 use Rattle.fast_tables.specs.Hits.{edgePierces, piercedBy, piercedDown}
 use Rattle.fast_tables.proofs.Rounds.{equal-both, joins-same, has-turn, has-ends, below-n}
-use Rattle.fast_tables.proofs.Pierce.{pierced-turned, pierced-sides}
+use Rattle.fast_tables.proofs.Pierce.{pierced-sides}
 
 pub edge-turned : (d : Wire) (l : Loop) (a b : ℕ) → edgePierces d l (edge a b) ≡ edgePierces d l (edge b a)
 unfolding edgePierces

@@ -8,6 +8,7 @@ use native.Mathlib.Nat.{eq-or-lt-of-le}
 use native.Mathlib.Omega.{arith}
 use Rattle.lists.specs.Lists.{any, keep, filter, from, upto}
 use Rattle.lists.proofs.Truth.{never-true}
+use Rattle.lists.proofs.Agreeing.{filter-from}
 use Rattle.sets.specs.Word.{dig, count, first, either, less, only}
 use Rattle.sets.proofs.Digits.{dig-either, dig-less, dig-only, dig-self, count-none, first-in}
 use Rattle.sets.proofs.Ones.{first-least}
@@ -17,14 +18,6 @@ use Rattle.fast_tables.proofs.Asked.{any-filter}
 
 -- ---- the first that passes goes out
 module _ (p q : ℕ → Bool) where
-  filter-from : (n j : ℕ) → ((k : ℕ) → j ≤ k → p k ≡ q k) → filter p (from j n) ≡ filter q (from j n)
-  unfolding filter from
-  filter-from zero j h = refl
-  filter-from (suc n) j h =
-      let a : p j ≡ q j = h j (omega arith) in
-      let b : filter p (from (suc j) n) ≡ filter q (from (suc j) n) = filter-from n (suc j) (λ k l. h k (omega (arith, l))) in
-      λ i. keep (a i) j (b i)
-
   module _ (f : ℕ) (pf : p f ≡ true) (qf : q f ≡ false) (pl : (k : ℕ) → k < f → p k ≡ false) (ql : (k : ℕ) → k < f → q k ≡ false)
       (up : (k : ℕ) → f < k → p k ≡ q k) where
     filter-first : (n j : ℕ) → j ≤ f → f < j + n → filter p (from j n) ≡ f ∷ filter q (from j n)
@@ -35,7 +28,7 @@ module _ (p q : ℕ → Bool) where
         go : (j ≡ f) ⊎ (j < f) → (suc j ≤ f → filter p (from (suc j) n) ≡ f ∷ filter q (from (suc j) n))
             → keep (p j) j (filter p (from (suc j) n)) ≡ f ∷ keep (q j) j (filter q (from (suc j) n))
         go (inl e) ih =
-            let r : filter p (from (suc j) n) ≡ filter q (from (suc j) n) = filter-from n (suc j) (λ k l. up k (omega (arith, l, e))) in
+            let r : filter p (from (suc j) n) ≡ filter q (from (suc j) n) = filter-from p q (suc j) n (λ k l m. up k (omega (arith, l, e))) in
             ap (λ (t : Bool). keep t j (filter p (from (suc j) n))) (ap p e ∙ pf) ∙ (λ i. e i ∷ r i)
             ∙ sym (ap (λ (t : Bool). f ∷ keep t j (filter q (from (suc j) n))) (ap q e ∙ qf))
         go (inr l) ih =

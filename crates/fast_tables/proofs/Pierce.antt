@@ -1,10 +1,8 @@
 -- Rule A by edges of the drawing. Assumes nothing.
 use mathlib.Core.Path.{_≡_, refl, ap, _∙_}
-use mathlib.Core.Bool.{Bool, true, false, _&&_, _||_, and-comm, or-comm}
+use mathlib.Core.Bool.{Bool, true, false, _&&_}
 use mathlib.Core.Logic.{_⊎_, inl, inr}
-use mathlib.Core.List.{[], _∷_}
 use Prim.Native.Nat.{ℕ, _+_}
-use native.Mathlib.Omega.{arith}
 use lib.IntN.{ℤ, pos, natAbs}
 use lib.ListN.{getD}
 use Rattle.lists.specs.Lists.{anyTrue}
@@ -18,24 +16,10 @@ use Rattle.paper.specs.Loops.{Loop, polygon}
 use Rattle.paper.specs.Clash.{opposite, pierced, pierces}
 use Rattle.paper.specs.Solids.{has}
 use Rattle.paper.specs.declared.Point.{Point}
-use Rattle.paper_laws.proofs.Vectors.{num, vec, x, v, _+v_, _*v_, vring}
+use Rattle.paper_laws.proofs.Turned.{pierced-turned}
 use Rattle.fast_tables.specs.Paths.{Path}
 use Rattle.fast_tables.specs.Hits.{edgePierces, piercedBy}
 use Rattle.fast_tables.proofs.Rounds.{ofEdge, sides-edges}
-
-opposite-turned : (a b : ℤ) → opposite a b ≡ opposite b a
-unfolding opposite
-opposite-turned a b =
-    or-comm (below a && above b) (above a && below b) ∙ (λ i. and-comm (above a) (below b) i || and-comm (below a) (above b) i)
-
-pub pierced-turned : (g : Polygon) (p q : Point) (a b : ℤ) → pierced g p q a b ≡ pierced g q p b a
-unfolding pierced
-pierced-turned g p q a b =
-    let m : natAbs a + natAbs b ≡ natAbs b + natAbs a = omega arith in
-    let w : plus (times (pos (natAbs b)) p) (times (pos (natAbs a)) q) ≡ plus (times (pos (natAbs a)) q) (times (pos (natAbs b)) p)
-    = vring (num (pos (natAbs b)) ∷ vec p ∷ num (pos (natAbs a)) ∷ vec q ∷ []) ((x 0 *v v 1) +v (x 2 *v v 3))
-    ((x 2 *v v 3) +v (x 0 *v v 1)) tt in
-    λ i. opposite-turned a b i && isInside (lies (over (w i) (pos (m i))) g)
 
 -- an edge whose ends are not on opposite sides does not pierce
 pub pierced-opposite : (g : Polygon) (p q : Point) (a b : ℤ) → opposite a b ≡ false → pierced g p q a b ≡ false

@@ -9,6 +9,7 @@ use native.Mathlib.Omega.{arith}
 use lib.Dec.{eqb}
 use lib.ListN.{length}
 use Rattle.lists.specs.Lists.{sides, sidesFrom, upto}
+use Rattle.lists.proofs.Agreeing.{map-same}
 use Rattle.sets.specs.Word.{count, less}
 use Rattle.exact.proofs.Signs.{pos-ne}
 use Rattle.paper.specs.Points.{origin, plus, minus, times, dot, cross, sum, isZero, isOrigin}
@@ -29,7 +30,6 @@ use Rattle.fast_tables.specs.Paths.{Apart}
 use Rattle.fast_tables.specs.Hits.{cornerMask}
 use Rattle.fast_tables.specs.Asked.{planeMask, levelWith}
 use Rattle.fast_tables.proofs.Rounds.{equal-both}
-use Rattle.fast_tables.proofs.Rows.{upto-same}
 use Rattle.fast_tables.proofs.Drawings.{loop-closed, drawing-apart}
 
 -- ---- the normal is across the plane
@@ -109,7 +109,7 @@ pub search-plane : (d : Wire) → samePlace d ≡ none → (i : ℕ) → i < len
 unfolding planeMask
 search-plane d r11 i h rg =
     let l = loopAt (loops d) i in
-    upto-same (λ w. isZero (planeSide (polygon d l) (at d w))) (level d l) (length (d .vertices))
+    map-same (λ w. isZero (planeSide (polygon d l) (at d w))) (level d l) (length (d .vertices))
     (λ w k. closed-plane d (drawing-apart d r11) l (loop-closed d i h) rg w)
 
 -- and so for every loop of a drawing that passes 11 and 13

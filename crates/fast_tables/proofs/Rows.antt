@@ -1,16 +1,17 @@
 -- The masks of those that clash, by edges and vertices. Assumes nothing.
 use mathlib.Core.Path.{_≡_, refl, sym, ap, _∙_}
 use mathlib.Core.Bool.{Bool, true, false, not, _&&_, _||_, cond, true≢false}
-use mathlib.Core.List.{List, [], _∷_, map}
-use Prim.Native.Nat.{ℕ, zero, suc, _+_, _≤_, _<_}
+use mathlib.Core.List.{List, [], map}
+use Prim.Native.Nat.{ℕ, _<_}
 use native.Mathlib.Omega.{arith}
 use borrow.Author.Tests.{not-true, ltb-true, ltb-false}
 use lib.Dec.{ltb}
 use lib.ListN.{length, getD}
 use lib.IntN.{pos}
-use Rattle.lists.specs.Lists.{any, from, upto, member}
+use Rattle.lists.specs.Lists.{any, upto, member}
 use Rattle.lists.proofs.Truth.{never-true, and-left, and-right}
 use Rattle.lists.proofs.Places.{map-at}
+use Rattle.lists.proofs.Agreeing.{map-same}
 use Rattle.lists.proofs.Passing.{any-yes, all-yes, some-yes}
 use Rattle.paper.specs.Points.{origin, isZero, above, below}
 use Rattle.paper.specs.Polygon.{planeSide, onePlane, exactly, lies, isInside}
@@ -61,20 +62,6 @@ module _ (d : Wire) (l : Loop) where
       let rest = isZero (planeSide (polygon d l) (at d v)) && isInside (lies (exactly (at d v)) (polygon d l)) in
       true≢false (sym (and-left (member v l) (not (member v l) && rest) (r .2))
       ∙ not-true (member v l) (and-left (not (member v l)) rest (and-right (member v l) (not (member v l) && rest) (r .2)))))
-
--- ---- two tables with the same entries
-module _ {A : Type 0} (f g : ℕ → A) where
-  from-same : (j n : ℕ) → ((k : ℕ) → j ≤ k → k < j + n → f k ≡ g k) → map f (from j n) ≡ map g (from j n)
-  unfolding from
-  from-same j zero h = refl
-  from-same j (suc n) h =
-      let a : f j ≡ g j = h j (omega arith) (omega arith) in
-      let b : map f (from (suc j) n) ≡ map g (from (suc j) n) = from-same (suc j) n (λ k p q. h k (omega arith) (omega arith)) in
-      λ i. a i ∷ b i
-
-  pub upto-same : (n : ℕ) → ((k : ℕ) → k < n → f k ≡ g k) → map f (upto n) ≡ map g (upto n)
-  unfolding upto
-  upto-same n h = from-same 0 n (λ k p q. h k (omega arith))
 
 -- ---- the rules in their two orders
 shuffle-up : (p e q f w : Bool) → ((p || e) || (q || f) || (true && w || false)) ≡ (q || p || (f || e) || w)
@@ -159,5 +146,5 @@ module _ (d : Wire) (apart : Apart d) (cs : List Loop) (path : (i : ℕ) → i <
   unfolding tablesOf
   table-clashes =
       let n = length cs in
-      upto-same (λ i. map (clashing (map (polygon d) cs) i) (upto n)) (λ i. map (hits d cs i) (upto n)) n
-      (λ i hi. upto-same (clashing (map (polygon d) cs) i) (hits d cs i) n (λ j hj. sym (hits-is i j hi hj)))
+      map-same (λ i. map (clashing (map (polygon d) cs) i) (upto n)) (λ i. map (hits d cs i) (upto n)) n
+      (λ i hi. map-same (clashing (map (polygon d) cs) i) (hits d cs i) n (λ j hj. sym (hits-is i j hi hj)))

@@ -9,3 +9,5 @@ pub mod Passing
 pub mod Kept
 pub mod Backwards
 pub mod After
+pub mod Agreeing
+pub mod OwnNumbers

@@ -9,6 +9,7 @@ use lib.Dec.{eqb, ltb}
 use lib.ListN.{length, getD}
 use Rattle.lists.specs.Lists.{any, filter, keep, upto, lowest}
 use Rattle.lists.proofs.Places.{map-at, any-below-same}
+use Rattle.lists.proofs.Agreeing.{lowest-same, filter-same, map-same}
 use Rattle.paper.specs.Refusals as No
 use Rattle.paper.specs.Refusals.{check}
 use Rattle.paper.specs.Points.{samePoint}
@@ -40,7 +41,7 @@ use Rattle.means_area.proofs.Loops.{loops-hold}
 use Rattle.means_loops.proofs.Listing.{bare-are}
 use Rattle.means_moves.specs.Moves.{HasPlane}
 use Rattle.means_moves.specs.Alike.{Ends, EndsBelow, AllBelow, AllPlane, Alike}
-use Rattle.means_moves.proofs.Below.{all-at, lowest-same, filter-same, map-same, ext-same, ext-below}
+use Rattle.means_moves.proofs.Below.{all-at, ext-same, ext-below}
 
 filter-below : (n : ℕ) (p : ℕ → Bool) (ls : List Loop) → AllBelow n ls → (ks : List ℕ) → AllBelow n (map (loopAt ls) (filter p ks))
 unfolding filter

@@ -1,13 +1,12 @@
 -- Vertices of a list that are below a number; and searches that ask two tests which agree there. Assumes nothing.
 use mathlib.Core.Path.{_≡_, refl, ap, ap₂, _∙_}
 use mathlib.Core.Bool.{Bool, true, false, not, _&&_, _||_, cond}
-use mathlib.Core.Option.{some}
-use mathlib.Core.List.{List, [], _∷_, _++_, map}
+use mathlib.Core.List.{List, [], _∷_, _++_}
 use Prim.Native.Nat.{ℕ, zero, suc, _+_, _-_, _≤_, _<_}
 use native.Mathlib.Omega.{arith}
 use lib.Dec.{eqb, ltb}
 use lib.ListN.{length, getD}
-use Rattle.lists.specs.Lists.{filter, find, keep, from, upto, lowest, member}
+use Rattle.lists.specs.Lists.{member}
 use Rattle.paper.specs.Loops.{Loop, loopAt, follows, closes, branch, scan, ext, final}
 use Rattle.means_moves.specs.Alike.{Below, AllBelow}
 
@@ -30,38 +29,6 @@ all-at n (l ∷ ls) (suc k) b = all-at n ls k (b .1)
 pub all-append : (n : ℕ) (a b : List Loop) → AllBelow n a → AllBelow n b → AllBelow n (a ++ b)
 all-append n [] b p q = q
 all-append n (l ∷ a) b p q = (p .0, all-append n a b (p .1) q)
-
--- ---- searches of the numbers below n
-
-module _ (p q : ℕ → Bool) where
-  find-from : (j n : ℕ) → ((k : ℕ) → j ≤ k → k < j + n → p k ≡ q k) → find p (from j n) ≡ find q (from j n)
-  unfolding find from
-  find-from j zero h = refl
-  find-from j (suc n) h =
-      λ i. cond (h j (omega arith) (omega arith) i) (some j) (find-from (suc j) n (λ k a b. h k (omega arith) (omega arith)) i)
-
-  pub lowest-same : (n : ℕ) → ((k : ℕ) → k < n → p k ≡ q k) → lowest p n ≡ lowest q n
-  unfolding lowest upto
-  lowest-same n h = find-from 0 n (λ k a b. h k (omega arith))
-
-  filter-from : (j n : ℕ) → ((k : ℕ) → j ≤ k → k < j + n → p k ≡ q k) → filter p (from j n) ≡ filter q (from j n)
-  unfolding filter from
-  filter-from j zero h = refl
-  filter-from j (suc n) h =
-      λ i. keep (h j (omega arith) (omega arith) i) j (filter-from (suc j) n (λ k a b. h k (omega arith) (omega arith)) i)
-
-  pub filter-same : (n : ℕ) → ((k : ℕ) → k < n → p k ≡ q k) → filter p (upto n) ≡ filter q (upto n)
-  unfolding upto
-  filter-same n h = filter-from 0 n (λ k a b. h k (omega arith))
-
-map-from : {A : Type 0} (f g : ℕ → A) (j n : ℕ) → ((k : ℕ) → j ≤ k → k < j + n → f k ≡ g k) → map f (from j n) ≡ map g (from j n)
-unfolding from
-map-from f g j zero h = refl
-map-from f g j (suc n) h = λ i. h j (omega arith) (omega arith) i ∷ map-from f g (suc j) n (λ k a b. h k (omega arith) (omega arith)) i
-
-pub map-same : {A : Type 0} (f g : ℕ → A) (n : ℕ) → ((k : ℕ) → k < n → f k ≡ g k) → map f (upto n) ≡ map g (upto n)
-unfolding upto
-map-same f g n h = map-from f g 0 n (λ k a b. h k (omega arith))
 
 -- ---- the search for loops, with two tests of a plane that agree on the first n vertices
 

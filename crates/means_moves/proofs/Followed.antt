@@ -7,8 +7,8 @@ use Prim.Native.Nat.{ℕ, _*_}
 use lib.IntN.{natAbs}
 use lib.ListN.{length, drop, replicate, length-map}
 use Rattle.lists.specs.Lists.{filter, keep}
-use Rattle.sets.specs.Word.{dig, word, less}
-use Rattle.sets.proofs.Numbers.{digit-word, by-digits}
+use Rattle.sets.specs.Word.{word, less}
+use Rattle.sets.proofs.Numbers.{same-word}
 use Rattle.paper.specs.Numbers.{solidWords}
 use Rattle.paper.specs.Refusals as No
 use Rattle.paper.specs.Refusals.{Check, firstOf}
@@ -48,11 +48,6 @@ use Rattle.means_moves.proofs.Moved.{moved-alike}
 use Rattle.means_moves.proofs.Passed.{bare-same, masks, judges}
 use Rattle.means_moves.proofs.Checks.{checksOf, parts, fine-form, fine-drawing}
 
--- ---- words of the same digits
-
-word-same : (a b : List Bool) → ((k : ℕ) → dig a k ≡ dig b k) → word a ≡ word b
-word-same a b h = by-digits (word a) b (λ k. digit-word a k ∙ h k)
-
 -- no solid at all: the rooms stay
 none-for : (solids : List ℕ) → solids ≡ solidsFor solids []
 unfolding solidsFor flatMap
@@ -72,7 +67,7 @@ module _ (turns : Bool) (by : ℕ) where
   judged-word : {taken : List Bool} {j k : Judgement} → Judged turns by taken j k → isSolid j ≡ true
       → word (turnedOf k) ≡ word (cond turns (less taken (turnedOf j)) (turnedOf j))
   judged-word fail e = absurd (true≢false (sym e))
-  judged-word {taken} (solid ts us six h) e = word-same us (cond turns (less taken ts) ts) h
+  judged-word {taken} (solid ts us six h) e = same-word us (cond turns (less taken ts) ts) h
 
   module _ (t u : Tables) (other : (taken : List Bool) → Judged turns by taken (judged t taken) (judged u taken)) where
     accepted-other : accepted u ≡ accepted t

@@ -11,6 +11,7 @@ use lib.Dec.{ltb}
 use lib.ListN.{length, getD}
 use Rattle.lists.specs.Lists.{lowest}
 use Rattle.lists.proofs.Truth.{same-truth}
+use Rattle.lists.proofs.Agreeing.{lowest-same}
 use Rattle.exact.specs.Size.{Within}
 use Rattle.paper.specs.Numbers.{farthest}
 use Rattle.paper.specs.Refusals as No
@@ -31,7 +32,6 @@ use Rattle.means_moves.specs.Alike.{Ends, EndsBelow}
 use Rattle.means_moves.specs.Lists.{eachVertex, Near}
 use Rattle.means_moves.specs.Turned.{turnsBy, Follows}
 use Rattle.means_moves.specs.TurnedRound.{AllTurned}
-use Rattle.means_moves.proofs.Below.{lowest-same}
 use Rattle.means_moves.proofs.Followed.{conversion-moved}
 use Rattle.means_moves.proofs.Checked.{verdict-kept, verdict-round}
 

@@ -35,7 +35,6 @@ pub mod Carried
 pub mod Renewed
 pub mod Kept
 pub mod Reports
-pub mod Onto
 pub mod Undone
 pub mod Rules
 pub mod Refused

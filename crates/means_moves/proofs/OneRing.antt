@@ -1,14 +1,12 @@
 -- Polygons that are one ring: cover, clash and planes are the same. Assumes nothing.
 use mathlib.Core.Path.{_≡_, refl, sym, ap, ap₂, _∙_, subst}
-use mathlib.Core.Bool.{Bool, not, _&&_, _||_, or-comm}
+use mathlib.Core.Bool.{Bool, not, _&&_, _||_}
 use mathlib.Core.List.{List, [], _∷_, _++_, map, append-assoc, append-nil}
 use Prim.Native.Nat.{ℕ, _+_}
-use native.Mathlib.Omega.{arith}
-use lib.IntN.{ℤ, pos, negℤ, natAbs}
+use lib.IntN.{pos, negℤ, natAbs}
 use lib.ListN.{take, drop, take-append-drop}
 use Rattle.lists.specs.Lists.{any, all, sides, anyTrue}
-use Rattle.lists.proofs.Truth.{and-swap}
-use Rattle.paper.specs.Points.{plus, times, isZero, above, below, samePoint}
+use Rattle.paper.specs.Points.{plus, times, isZero, samePoint}
 use Rattle.paper.specs.Polygon.{Polygon, over, exactly, midpoint, planeSide, onePlane, lies, isInside, isOutside, covers}
 use Rattle.paper.specs.Clash.{opposite, pierced, pierces, enters, isCorner, bends, folds, clash}
 use Rattle.paper.specs.Drawing.{Wire, at}
@@ -16,34 +14,12 @@ use Rattle.paper.specs.Loops.{Loop, flipped, polygon}
 use Rattle.paper.specs.Solids.{faceSix}
 use Rattle.paper.specs.declared.Point.{Point}
 use Rattle.paper_laws.specs.Planes.{InOwnPlane}
-use Rattle.paper_laws.proofs.Vectors.{vec, v as var, _+v_, vring}
+use Rattle.paper_laws.proofs.Turned.{middle-turned, pierced-turned}
 use Rattle.means_solid.specs.Named.{SameRing}
 use Rattle.means_moves.specs.Rings.{onward, backward, OneRing}
 use Rattle.means_moves.proofs.Factors.{one-up, two-up}
 use Rattle.means_moves.proofs.Faces.{and-same, opposite-up, all-sides}
 use Rattle.means_moves.proofs.Starts.{map-backward, onward-ring, backward-ring, six-onward, six-backward}
-
--- ---- an edge, from either end
-
-middle-swap : (p q : Point) → midpoint p q ≡ midpoint q p
-unfolding midpoint
-middle-swap p q = ap (λ (r : Point). over r (pos 2)) (vring (vec p ∷ vec q ∷ []) (var 0 +v var 1) (var 1 +v var 0) tt)
-
-opposite-swap : (a b : ℤ) → opposite a b ≡ opposite b a
-unfolding opposite
-opposite-swap a b = or-comm (below a && above b) (above a && below b) ∙ ap₂ _||_ (and-swap (above a) (below b))
-    (and-swap (below a) (above b))
-
-pierced-swap : (g : Polygon) (p q : Point) (a b : ℤ) → pierced g p q a b ≡ pierced g q p b a
-unfolding pierced
-pierced-swap g p q a b =
-    λ i. opposite-swap a b i && isInside (lies (over (points i) (pos (sizes i))) g)
-  where
-    points : plus (times (pos (natAbs b)) p) (times (pos (natAbs a)) q) ≡ plus (times (pos (natAbs a)) q) (times (pos (natAbs b)) p)
-    points = vring (vec (times (pos (natAbs b)) p) ∷ vec (times (pos (natAbs a)) q) ∷ []) (var 0 +v var 1) (var 1 +v var 0) tt
-
-    sizes : natAbs a + natAbs b ≡ natAbs b + natAbs a
-    sizes = omega arith
 
 -- ---- one of a pair
 
@@ -79,7 +55,7 @@ module _ {f f′ g g′ : Polygon} (a : OneRing f f′) (b : OneRing g g′) whe
   unfolding covers
   covers-ring =
       ap₂ _&&_ one-plane-ring
-      (b .all-sides midpoint (λ m. not (isOutside (lies m f′))) middle-swap
+      (b .all-sides midpoint (λ m. not (isOutside (lies m f′))) middle-turned
       ∙ all-sides (λ m. not (isOutside (lies m f′))) midpoint g
       ∙ (λ i. all (λ t. t) (sides (λ y z. not (isOutside (middle y z i))) g))
       ∙ sym (all-sides (λ m. not (isOutside (lies m f))) midpoint g))
@@ -91,7 +67,7 @@ module _ {f f′ g g′ : Polygon} (a : OneRing f f′) (b : OneRing g g′) whe
   unfolding pierces
   pierces-ring =
       a .some-side (λ p q. pierced g′ p q (planeSide g′ p) (planeSide g′ q))
-      (λ p q. pierced-swap g′ p q (planeSide g′ p) (planeSide g′ q))
+      (λ p q. pierced-turned g′ p q (planeSide g′ p) (planeSide g′ q))
       ∙ (λ i. anyTrue (sides (λ p q. pierced-ring b p q i) f))
 
   enters-ring : enters f′ g′ ≡ enters f g

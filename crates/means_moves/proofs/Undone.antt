@@ -5,11 +5,11 @@ use Prim.Native.Nat.{ℕ, _<_}
 use native.Mathlib.Omega.{arith}
 use native.Mathlib.Decide.{decLt}
 use lib.ListN.{length}
+use Rattle.lists.proofs.OwnNumbers.{onto}
 use Rattle.paper.specs.Drawing.{Wire, at, samePlace}
 use Rattle.means_drawing.proofs.Drawings.{samePlace-means}
 use Rattle.means_moves.specs.Renumbered.{BothWays, NewNumbers}
 use Rattle.means_moves.specs.Kept.{Kept}
-use Rattle.means_moves.proofs.Onto.{onto}
 use Rattle.means_moves.proofs.Kept.{kept}
 
 module _ {new : ℕ → ℕ} {d e : Wire} (r : NewNumbers new d e) where

@@ -7,5 +7,6 @@ pub mod Rows
 pub mod Vectors
 pub mod Six
 pub mod Points
+pub mod Turned
 pub mod Wires
 pub mod Answers

@@ -109,6 +109,10 @@ by-digits m (x ∷ xs) e =
     let rest : m / 2 ≡ word xs = by-digits (m / 2) xs (λ k. digit-half m k ∙ e (suc k)) in
     omega arith
 
+-- and a list of digits has one word
+pub same-word : (a b : List Bool) → ((k : ℕ) → dig a k ≡ dig b k) → word a ≡ word b
+same-word a b e = by-digits (word a) b (λ k. digit-word a k ∙ e k)
+
 pub none-digits : (m : ℕ) → ((k : ℕ) → digit m k ≡ false) → m ≡ 0
 none-digits m e = no-digits m m (omega arith) e
 

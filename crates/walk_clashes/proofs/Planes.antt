@@ -7,6 +7,7 @@ use native.Mathlib.Omega.{arith}
 use lib.IntN.{ℤ}
 use lib.ListN.{length}
 use Rattle.lists.specs.Lists.{upto}
+use Rattle.lists.proofs.Agreeing.{map-same}
 use Rattle.sets.specs.Sets.{Is}
 use Rattle.sets.specs.declared.Set.{Set}
 use Rattle.paper.specs.Points.{isZero, above, below}
@@ -18,7 +19,6 @@ use Rattle.polygon.specs.Rings.{ring, pointOf, cornerOf}
 use Rattle.polygon.proofs.Planes.{side-is}
 use Rattle.fast_tables.specs.Asked.{planeMask}
 use Rattle.fast_tables.specs.Words.{aboveMask, belowMask}
-use Rattle.fast_tables.proofs.Rows.{upto-same}
 use Rattle.loop_table.proofs.Loops.{vertices-are}
 use Rattle.walk_clashes.specs.Sorted.{sideAt, Upto}
 use Rattle.walk_clashes.specs.Lent.{Known, wireOf, loopOf}
@@ -40,7 +40,7 @@ module _ {xyz : List ℤ} {rows : List ℕ} {g : ℕ} {m : Point} (k : Known xyz
       let all = upto-all (λ v. test (sideAt xyz m o v)) n (omega (arith, vertices-are (k .faces .range), k .faces .range .most))
       (subst (λ (i : ℕ). Upto (λ v. test (sideAt xyz m o v)) i x) count-is u) in
       subst (Is x)
-      (upto-same (λ v. test (sideAt xyz m o v)) (λ v. test (planeSide (polygon (wireOf k) (loopOf k)) (at (wireOf k) v))) n
+      (map-same (λ v. test (sideAt xyz m o v)) (λ v. test (planeSide (polygon (wireOf k) (loopOf k)) (at (wireOf k) v))) n
       (λ v h. ap test (far-is v h)))
       all
 
