@@ -1,6 +1,6 @@
 -- Where no two vertices are at one place and no vertex is on an edge, no loop is in one line. Assumes nothing.
 use mathlib.Core.Bool.{Bool, true, false, not, _&&_, _||_, cond, true≢false}
-use mathlib.Core.List.{List, [], _∷_, _++_, map}
+use mathlib.Core.List.{List, [], _∷_, _++_, map, map-append}
 use mathlib.Core.Logic.{_⊎_, inl, inr}
 use mathlib.Core.Option.{none}
 use mathlib.Core.Path.{_≡_, refl, sym, ap, _∙_, subst}
@@ -25,7 +25,7 @@ use Rattle.paper.specs.Loops.{final, closes, branch, scan, ext, follows, across
 use Rattle.paper.specs.declared.Point.{Point}
 use Rattle.fast_search.specs.Search.{near, higher, turn, step, inItsPlane}
 use Rattle.fast_search.specs.Bare.{bareLine, bareSeconds, bareStarts, bareSearch}
-use Rattle.fast_search.proofs.Scan.{map-append, goes, each-scan}
+use Rattle.fast_search.proofs.Scan.{goes, each-scan}
 use Rattle.fast_search.proofs.Phases.{none-self, two-line, across-turn, level-line}
 use Rattle.fast_search.proofs.Line.{Between, between-open, between-turned, self-above, no-place, start-between, short-between}
 use Rattle.fast_search.proofs.Line.{long-between, at-end}

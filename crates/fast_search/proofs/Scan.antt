@@ -1,6 +1,6 @@
 -- The search over all vertices in turn is one over the set digits of those that may follow. Assumes nothing.
 use mathlib.Core.Bool.{Bool, true, false, _&&_, cond}
-use mathlib.Core.List.{List, [], _∷_, _++_, map}
+use mathlib.Core.List.{List, [], _∷_, _++_, map, map-append}
 use mathlib.Core.Path.{_≡_, refl, sym, ap, _∙_}
 use Prim.Native.Nat.{ℕ, zero, suc, _+_, _-_, _≤_, _<_}
 use native.Mathlib.Omega.{arith}
@@ -13,10 +13,6 @@ use Rattle.sets.proofs.Ones.{nils-low, nils-high}
 use Rattle.paper.specs.Loops.{Loop, follows, closes, branch, scan, ext}
 use Rattle.fast_search.specs.Rows.{eachOf}
 use Rattle.fast_search.proofs.Rows.{each-none}
-
-pub map-append : {A B : Type 0} (g : A → B) (xs ys : List A) → map g (xs ++ ys) ≡ map g xs ++ map g ys
-map-append g [] ys = refl
-map-append {B = B} g (x ∷ xs) ys = ap (λ (l : List B). g x ∷ l) (map-append g xs ys)
 
 module _ (n : ℕ) (linked : ℕ → ℕ → Bool) (level : List ℕ → ℕ → Bool) where
   -- the digits of those that may come after p

@@ -1,6 +1,6 @@
 -- The search on sets of vertices finds the loops of document 01, in their order, each with the vertices in its plane. Assumes nothing.
 use mathlib.Core.Bool.{Bool, true, false, not, _&&_, _||_, cond, true≢false, and-true}
-use mathlib.Core.List.{List, [], _∷_, _++_, map, map-map, append-nil}
+use mathlib.Core.List.{List, [], _∷_, _++_, map, map-append, map-map, append-nil}
 use mathlib.Core.Path.{_≡_, refl, sym, ap, _∙_, subst}
 use Prim.Native.Nat.{ℕ, zero, suc, _+_, _-_, _<_}
 use native.Mathlib.Omega.{arith}
@@ -20,7 +20,7 @@ use Rattle.fast_search.specs.Rows.{when, eachOf, someOf}
 use Rattle.fast_search.specs.Search.{InItsPlane, own, near, every, higher, onPlane, planeMask, turn, inPlane, step, onLine, seconds}
 use Rattle.fast_search.specs.Search.{starts, search, planeOf, inItsPlane}
 use Rattle.fast_search.proofs.Rows.{empty-none, some-not}
-use Rattle.fast_search.proofs.Scan.{map-append, goes, each-scan, ext-dead}
+use Rattle.fast_search.proofs.Scan.{goes, each-scan, ext-dead}
 use Rattle.fast_search.proofs.Phases.{one-line, two-line, across-found, across-turn, level-line, level-found, level-turn}
 use Rattle.fast_search.proofs.Phases.{level-back, turn-inside, planeOf-found, planeOf-turn, planeOf-line}
 use Rattle.fast_search.proofs.Sets.{member-more, final-more, joined-back, can, ends, size, follow, deep, begun, follow-can}

@@ -1,8 +1,8 @@
 -- The vertices of a plane: whether one of a set is among them, and all of them as a set. Assumes nothing.
 use mathlib.Core.Bool.{Bool, true, false, _||_}
-use mathlib.Core.List.{List, [], _∷_, _++_, map}
+use mathlib.Core.List.{List, [], _∷_, _++_, map, map-append}
 use mathlib.Core.Path.{_≡_, refl, sym, ap, _∙_, subst}
-use Prim.Native.Nat.{ℕ, zero, suc, _+_, _*_, _≤_, _<_}
+use Prim.Native.Nat.{ℕ, zero, suc, _+_, _<_}
 use native.Mathlib.Omega.{arith}
 use borrow.Author.Tests.{eq-eqb}
 use lib.IntN.{ℤ}
@@ -10,7 +10,7 @@ use lib.ListN.{length, length-map}
 use Rattle.lists.specs.Lists.{from, upto}
 use Rattle.lists.proofs.Places.{upto-length}
 use Rattle.sets.specs.Word.{count, first, either, less, only}
-use Rattle.sets.specs.Sets.{room, Is, size, Lowest, Dropped}
+use Rattle.sets.specs.Sets.{Is, size, Lowest, Dropped}
 use Rattle.sets.specs.declared.Set.{Set}
 use Rattle.sets.proofs.Sets.{size-is, is-more}
 use Rattle.paper.specs.Points.{minus, dot, isZero}
@@ -20,7 +20,6 @@ use Rattle.polygon.specs.Rings.{pointOf}
 use Rattle.polygon.proofs.Rows.{point-small}
 use Rattle.fast_search.specs.Rows.{someOf}
 use Rattle.fast_search.proofs.Rows.{some-next, some-end}
-use Rattle.fast_search.proofs.Scan.{map-append}
 use Rattle.loop_search.specs.Paths.{mostVertices}
 use Rattle.loop_search.specs.Lines.{levelIn, PlaneIn, PlaneAndSet}
 use Rattle.loop_search.proofs.Deeper.{below-dropped}

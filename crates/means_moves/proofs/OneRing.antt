@@ -1,8 +1,8 @@
 -- Polygons that are one ring: cover, clash and planes are the same. Assumes nothing.
 use mathlib.Core.Path.{_≡_, refl, sym, ap, ap₂, _∙_, subst}
 use mathlib.Core.Bool.{Bool, not, _&&_, _||_}
-use mathlib.Core.List.{List, [], _∷_, _++_, map, append-assoc, append-nil}
-use Prim.Native.Nat.{ℕ, _+_}
+use mathlib.Core.List.{List, [], _∷_, _++_, map, map-append, append-assoc, append-nil}
+use Prim.Native.Nat.{_+_}
 use lib.IntN.{pos, negℤ, natAbs}
 use lib.ListN.{take, drop, take-append-drop}
 use Rattle.lists.specs.Lists.{any, all, sides, anyTrue}
@@ -148,19 +148,15 @@ any-start (x ∷ u) w e =
 -- ---- loops of a drawing
 
 module _ (d : Wire) where
-  map-append : (u w : List ℕ) → map (at d) (u ++ w) ≡ map (at d) u ++ map (at d) w
-  map-append [] w = refl
-  map-append (x ∷ u) w = ap (λ (l : List Point). at d x ∷ l) (map-append u w)
-
   -- "Paths that differ only in start or direction are one loop"
   pub start-ring : {f g : Loop} → SameRing f g → InOwnPlane (polygon d f) → Start (polygon d f) (polygon d g)
   unfolding polygon
   start-ring {f} {g} r e =
       let k = r .at in
       let p : polygon d f ≡ map (at d) (take k f) ++ map (at d) (drop k f) = ap (map (at d)) (sym (take-append-drop k f))
-      ∙ map-append (take k f) (drop k f) in
-      let q : polygon d g ≡ map (at d) (drop k f) ++ map (at d) (take k f) = ap (map (at d)) (r .turns) ∙ map-append (drop k f) (take k f)
-      in
+      ∙ map-append (at d) (take k f) (drop k f) in
+      let q : polygon d g ≡ map (at d) (drop k f) ++ map (at d) (take k f) = ap (map (at d)) (r .turns)
+      ∙ map-append (at d) (drop k f) (take k f) in
       subst (λ (x : Polygon). Start x (polygon d g)) (sym p)
       (subst (Start (map (at d) (take k f) ++ map (at d) (drop k f))) (sym q)
       (any-start (map (at d) (take k f)) (map (at d) (drop k f)) (subst InOwnPlane p e)))

@@ -1,7 +1,7 @@
 -- A polygon from its next corner on is one ring with it, and so is a polygon run backwards. Assumes nothing.
 use mathlib.Core.Path.{_≡_, refl, sym, ap, ap₂, _∙_}
 use mathlib.Core.Bool.{Bool, true, false, _&&_, cond, or-comm}
-use mathlib.Core.List.{List, [], _∷_, _++_, map, reverse, reverse-cons}
+use mathlib.Core.List.{List, [], _∷_, _++_, map, map-append, reverse, reverse-cons}
 use lib.IntN.{ℤ, pos, negℤ, _+ℤ_, _-ℤ_}
 use Rattle.lists.specs.Lists.{all, sides, sidesFrom, anyTrue}
 use Rattle.lists.proofs.Sides.{sides-map}
@@ -42,11 +42,7 @@ use Rattle.means_moves.proofs.Rings.{
 map-onward : {A B : Type 0} (f : A → B) (l : List A) → map f (onward l) ≡ onward (map f l)
 unfolding onward
 map-onward f [] = refl
-map-onward {A} {B} f (x ∷ l) = go l
-  where
-    go : (l : List A) → map f (l ++ x ∷ []) ≡ map f l ++ f x ∷ []
-    go [] = refl
-    go (y ∷ l) = ap (λ (r : List B). f y ∷ r) (go l)
+map-onward f (x ∷ l) = map-append f l (x ∷ [])
 
 map-reverse : {A B : Type 0} (f : A → B) (l : List A) → map f (reverse l) ≡ reverse (map f l)
 unfolding onward
