@@ -28,6 +28,7 @@ use Rattle.paper.specs.declared.Reading.the-variants as Reading
 use Rattle.means_walk.specs.Tree.{assumptions}
 use Rattle.means_report.specs.Listed.{Entry, WalkTree, walked}
 use Rattle.means_report.specs.Report.{answered, facesFor, solidsFor, reported}
+use Rattle.means_report.proofs.Counted.{counted}
 use Rattle.means_report.proofs.Report.{Tells, Sound}
 use Rattle.means_report.proofs.Demand.{says-none, says-one, says-several, says-many, says-long}
 use Rattle.means_report.proofs.Converted.{the-walk, conversion-says}
@@ -37,7 +38,7 @@ use Rattle.demands.specs.Input.{Input, drawing, candidatesOf, form, rule
 use Rattle.demands.specs.Table.{end, one, rooms, forms, drawings, ofConversion, ofVerdict}
 use Rattle.demands.specs.Shells.{Shape, shells}
 use Rattle.demands.specs.Demand1.{Within, Demand1}
-use Rattle.demands.proofs.Input.{converted-is, checked-is, drawing-fine, counted}
+use Rattle.demands.proofs.Input.{converted-is, checked-is, drawing-fine}
 use Rattle.demands.proofs.Tests.{is-not}
 use Rattle.demands.proofs.Table.{Says, also-one, behind, ends}
 use Rattle.demands.proofs.Shape.{is-shape}

@@ -21,6 +21,7 @@ use Rattle.means_walk.specs.Tree.{assumptions}
 use Rattle.means_report.specs.Listed.{Entry, entryAt, Listed, walked}
 use Rattle.means_report.specs.Report.{facesFor, solidsFor, Reported, reported}
 use Rattle.means_report.proofs.Listed.{walked-lists}
+use Rattle.means_report.proofs.Counted.{counted}
 use Rattle.means_report.proofs.Report.{Tells, Sound}
 use Rattle.means_report.proofs.Converted.{the-walk, conversion-unrefused}
 use Rattle.means_sheets.specs.FaceLists.{Sendable}
@@ -38,7 +39,7 @@ use Rattle.means_sheets.proofs.FaceLists.{faces-read-one}
 use Rattle.demands.specs.Input.{Input, drawing, form, Passes, converted, checked}
 use Rattle.demands.specs.Demand3.{NamesIt, Report, Demand3, Holds3}
 use Rattle.demands.specs.Spoiled.{Spoiled, face-turned, all-turned, face-missing, face-doubled}
-use Rattle.demands.proofs.Input.{converted-is, checked-is, form-fine, drawing-fine, loops-fine, small, counted}
+use Rattle.demands.proofs.Input.{converted-is, checked-is, form-fine, drawing-fine, loops-fine, small}
 use Rattle.demands.proofs.Shape.{is-shape}
 use Rattle.demands.proofs.Solid.{every-words, names-words, words-names}
 use Rattle.demands.proofs.Sendable.{names-sent, sent-taken}

@@ -1,8 +1,7 @@
 -- Both ways in which a drawing comes are one conversion and one check. Assumes nothing.
 use mathlib.Core.Path.{_≡_, refl}
-use mathlib.Core.List.{List, [], _∷_, _++_}
+use mathlib.Core.List.{List, _++_}
 use Prim.Native.Nat.{ℕ}
-use lib.ListN.{length}
 use Rattle.paper.specs.Numbers.{mostSolids}
 use Rattle.paper.specs.Refusals.{firstOf}
 use Rattle.paper.specs.Drawing.{drawingChecks}
@@ -10,8 +9,6 @@ use Rattle.paper.specs.Loops.{loops, candidates, loopChecks}
 use Rattle.paper.specs.Conversion.{conversion, convertLists, convertSheet}
 use Rattle.paper.specs.Verdict.{verdict, verdictLists, verdictSheet}
 use Rattle.paper.specs.declared.Answer.the-variants.{Fine}
-use Rattle.means_report.specs.Listed.{Entry}
-use Rattle.means_report.specs.Report.{answered, reported}
 use Rattle.means_check.proofs.Accepting.{both-fine}
 use Rattle.means_check.proofs.Drawn.{InCounts, lent-small, sheet-small}
 use Rattle.demands.specs.Input.{Input, lent, sheet, drawing, form, Passes, converted, checked}
@@ -46,9 +43,3 @@ module _ (x : Input) (p : Passes x) where
 pub small : (x : Input) → firstOf (form x) ≡ Fine → InCounts (drawing x)
 small (lent xyz ends) e = lent-small xyz ends e
 small (sheet s) e = sheet-small s e
-
--- a report's number of solids
-pub counted : (l c w : ℕ) (es : List Entry) → reported (answered l c w es) ≡ length es
-counted l c w [] = refl
-counted l c w (e ∷ []) = refl
-counted l c w (e ∷ (f ∷ es)) = refl

@@ -1,7 +1,7 @@
 -- Drawings with new numbers: the same rule, and the same solids. Assumes nothing.
 use mathlib.Core.Path.{_≡_, refl, sym, ap, _∙_, subst}
 use mathlib.Core.Option.{none}
-use mathlib.Core.List.{List, [], _∷_, _++_}
+use mathlib.Core.List.{List, _++_}
 use Prim.Native.Nat.{ℕ}
 use native.Mathlib.Omega.{arith}
 use borrow.Author.Tests.{le-ltb}
@@ -18,7 +18,8 @@ use Rattle.paper.specs.declared.Conversion.the-variants as Conversion
 use Rattle.paper.specs.declared.Refusal.{Refusal}
 use Rattle.paper_laws.proofs.Checks.{first-stops}
 use Rattle.means_report.specs.Listed.{Entry}
-use Rattle.means_report.specs.Report.{answered, reported}
+use Rattle.means_report.specs.Report.{reported}
+use Rattle.means_report.proofs.Counted.{counted}
 use Rattle.means_check.proofs.Accepting.{both-fine, fine-both}
 use Rattle.means_check.proofs.Demand.{drawing-places}
 use Rattle.means_moves.specs.Renumbered.{NewNumbers}
@@ -39,11 +40,6 @@ use Rattle.demands.specs.Renumbered.{SameSolid, Given, SolidsKept, Lists
 sorted : (x : Input) → firstOf (form x) ≡ Answer.Fine → Sorted (drawing x)
 sorted (lent xyz ends) e = lent-sorted editionOne xyz ends e
 sorted (sheet s) e = sheet-sorted editionOne s e
-
-told-count : (l c w : ℕ) (es : List Entry) → length es ≡ reported (answered l c w es)
-told-count l c w [] = refl
-told-count l c w (e ∷ []) = refl
-told-count l c w (e ∷ (f ∷ es)) = refl
 
 allowed : (a : ℕ) (f u : List ℕ) → Allowed a f u → firstOf (entryChecks a f u) ≡ Answer.Fine
 unfolding entryChecks firstOf
@@ -130,7 +126,7 @@ module _ (new : ℕ → ℕ) (x y : Input) (g : Given new x y) where
   report : (z : Input) (u : List ℕ) (r : Converted) → Tells (drawing z) u r → ListsAll z u r
   report z u r t = record {
     es = t .es;
-    count = told-count (length (loops (drawing z))) (length (candidates (drawing z))) (t .work) (t .es) ∙ sym (ap reported (t .answer));
+    count = sym (ap reported (t .answer) ∙ counted (length (loops (drawing z))) (length (candidates (drawing z))) (t .work) (t .es));
     words = t .words;
     every = every-words (drawing z) (t .es) (t .listed);
   }

@@ -1,5 +1,5 @@
 -- Faces that name a solid, in any order and from any starts, can be sent as a face list, in 338 bytes. Assumes nothing.
-use mathlib.Core.Path.{_≡_, sym, subst, _∙_}
+use mathlib.Core.Path.{_≡_, sym, _∙_}
 use mathlib.Core.Bool.{Bool, true, false, cond}
 use mathlib.Core.Option.{none}
 use mathlib.Core.Logic.{inl, inr}
@@ -8,7 +8,7 @@ use Prim.Native.Nat.{ℕ, suc, _*_, _≤_, _<_}
 use native.Mathlib.Omega.{arith}
 use native.Mathlib.Decide.{decLt}
 use lib.ListN.{length, List·getD-eq-default}
-use Rattle.lists.proofs.OwnNumbers.{at-most}
+use Rattle.lists.proofs.OwnNumbers.{partners}
 use Rattle.sets.specs.Word.{dig}
 use Rattle.sets.proofs.Digits.{never}
 use Rattle.paper.specs.Format.{editionOne, bytesFor}
@@ -28,24 +28,6 @@ use Rattle.means_loops.proofs.Paths.{path-same, path-flip, loop-path}
 use Rattle.means_loops.proofs.Listing.{candidates-are}
 use Rattle.means_check.proofs.Few.{solid-sent}
 use Rattle.means_check.proofs.Bodies.{faceList-names, same-named, named-singly}
-
--- m with a partner each among n, no two with the same: m is at most n
-partners : (m n : ℕ) (R : ℕ → ℕ → Type 0) → ((i : ℕ) → i < m → (j : ℕ) × (j < n) × R i j)
-    → ((i j k : ℕ) → i < m → j < m → R i k → R j k → i ≡ j) → m ≤ n
-partners m n R f u = at-most m n (λ i. to i (decLt i m)) (λ i l. low i l (decLt i m))
-    (λ i j li lj e. u i j (to i (decLt i m)) li lj (has i li (decLt i m)) (subst (λ (k : ℕ). R j k) (sym e) (has j lj (decLt j m))))
-  where
-    to : (i : ℕ) → Dec (i < m) → ℕ
-    to i (yes h) = f i h .0
-    to i (no h) = 0
-
-    low : (i : ℕ) → i < m → (d : Dec (i < m)) → to i d < n
-    low i l (yes h) = f i h .1
-    low i l (no h) = absurd (h l)
-
-    has : (i : ℕ) → i < m → (d : Dec (i < m)) → R i (to i d)
-    has i l (yes h) = f i h .2
-    has i l (no h) = absurd (h l)
 
 pub body-least : (fs gs : List Loop) → SameBody fs gs → Singly gs → length gs ≤ length fs
 body-least fs gs b y =

@@ -46,6 +46,24 @@ at-most (suc m) (suc n) f h u =
     one i j li lj (no a) (yes b) e = absurd (omega (arith, u i m (omega arith) (omega arith) e))
     one i j li lj (no a) (no b) e = u i j (omega arith) (omega arith) e
 
+-- m with a partner each among n, no two with the same: m is at most n
+pub partners : (m n : ℕ) (R : ℕ → ℕ → Type 0) → ((i : ℕ) → i < m → (j : ℕ) × (j < n) × R i j)
+    → ((i j k : ℕ) → i < m → j < m → R i k → R j k → i ≡ j) → m ≤ n
+partners m n R f u = at-most m n (λ i. to i (decLt i m)) (λ i l. low i l (decLt i m))
+    (λ i j li lj e. u i j (to i (decLt i m)) li lj (has i li (decLt i m)) (subst (λ (k : ℕ). R j k) (sym e) (has j lj (decLt j m))))
+  where
+    to : (i : ℕ) → Dec (i < m) → ℕ
+    to i (yes h) = f i h .0
+    to i (no h) = 0
+
+    low : (i : ℕ) → i < m → (d : Dec (i < m)) → to i d < n
+    low i l (yes h) = f i h .1
+    low i l (no h) = absurd (h l)
+
+    has : (i : ℕ) → i < m → (d : Dec (i < m)) → R i (to i d)
+    has i l (yes h) = f i h .2
+    has i l (no h) = absurd (h l)
+
 -- who has the number u, or that nobody below n does
 found : (f : ℕ → ℕ) (u n : ℕ) → ((v : ℕ) × (v < n) × (f v ≡ u)) ⊎ ((v : ℕ) → v < n → f v ≡ u → ⊥)
 found f u zero = inr (λ v h e. absurd (omega arith))
