@@ -30,7 +30,7 @@ use Rattle.means_sheets.proofs.Sheets.{reads-back-one, writes-back-one}
 use Rattle.means_sheets.proofs.Sheets.Room.{length-sheet}
 use Rattle.demands.specs.Input.{sheet}
 use Rattle.demands.specs.Table.{one, end, forms, ofWritten}
-use Rattle.demands.proofs.Tests.{is-lt}
+use Rattle.paper_laws.proofs.Tests.{is-lt}
 use Rattle.demands.proofs.Table.{done, also-one, behind, ends}
 use Rattle.demands.proofs.Lines.{form-says}
 use Rattle.demanded.specs.Demanded.{byWriter, Stands}

@@ -22,7 +22,7 @@ use Rattle.means_check.proofs.Accepting.{both-fine}
 use Rattle.demands.specs.Input.{sheet}
 use Rattle.demands.specs.Sheets as Sheets
 use Rattle.demands.specs.Table.{line, end, forms, Two}
-use Rattle.demands.proofs.Tests.{is-lt}
+use Rattle.paper_laws.proofs.Tests.{is-lt}
 use Rattle.demands.proofs.Table.{done, also-two, behind, ends}
 use Rattle.demands.proofs.Lines.{form-says}
 use Rattle.demands.proofs.Answers.{none-left, more, of-forms}

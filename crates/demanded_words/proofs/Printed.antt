@@ -17,7 +17,7 @@ use Rattle.desk_text.specs.Written.{textChecks, writtenFor, roomFor, writtenTex
 use Rattle.desk_text.proofs.Desk.{desk-short}
 use Rattle.demands.specs.Input.{sheet, converted}
 use Rattle.demands.specs.Table.{one, end, ofWritten}
-use Rattle.demands.proofs.Tests.{is-lt}
+use Rattle.paper_laws.proofs.Tests.{is-lt}
 use Rattle.demands.proofs.Table.{done, also-one, ends}
 use Rattle.demanded.specs.Demanded.{Stands}
 use Rattle.demanded.proofs.Demanding.{converts, stands}

@@ -39,7 +39,7 @@ use Rattle.demands.specs.Table.{end, one, rooms, forms, drawings, ofConv
 use Rattle.demands.specs.Shells.{Shape, shells}
 use Rattle.demands.specs.Demand1.{Within, Demand1}
 use Rattle.demands.proofs.Input.{converted-is, checked-is, drawing-fine}
-use Rattle.demands.proofs.Tests.{is-not}
+use Rattle.paper_laws.proofs.Tests.{is-not}
 use Rattle.demands.proofs.Table.{Says, also-one, behind, ends}
 use Rattle.demands.proofs.Shape.{is-shape}
 use Rattle.demands.proofs.Lines.{entry-says, rules-say}

@@ -8,15 +8,18 @@ use borrow.Author.Tests.{ltb-true, lt-ltb}
 use lib.IntN.{ℤ, pos, negsuc, natAbs, negℤ, _+ℤ_}
 use lib.Signed.{_<ℤ_}
 use Rattle.lists.specs.Lists.{sides, sidesFrom}
-use Rattle.paper.specs.Points.{plus, minus, times, dot, det, cross, sum}
+use Rattle.exact.specs.Sum.{sumOf}
+use Rattle.paper.specs.Points.{plus, times, dot, det, cross, sum}
 use Rattle.paper.specs.Polygon.{Polygon, over, normal, corner, planeSide, axis, seen, whereFlat, lies}
 use Rattle.paper.specs.Solids.{faceSix}
 use Rattle.paper.specs.declared.Point.{Point}
+use Rattle.paper_laws.specs.Planes.{OnPlane}
 use Rattle.paper_laws.proofs.Six.{six-normal}
 use Rattle.paper_laws.proofs.Vectors.{num, vec, k, x, _+s_, _·_, dets, o, v, _+v_, _-v_, _*v_, _×v_, vring}
 use Rattle.means_drawing.specs.Segments.{along}
 use Rattle.means_drawing.proofs.Segments.{onOpen-means, openMeets-means}
 use Rattle.means_area.proofs.Loops.{loops-hold}
+use Rattle.means_inside.proofs.Place.{by-place}
 use Rattle.means_inside.proofs.Inside.{every-ray-says, any-start}
 use Rattle.means_inside.proofs.AnyCut.{one-region}
 use Rattle.means_inside.proofs.Backwards.{any-way}
@@ -26,10 +29,10 @@ use Rattle.means_clash.proofs.Either.{clash-either}
 use Rattle.means_loops.proofs.Planes.{dot-comm}
 use Rattle.means_loops.proofs.OwnPlane.{dot-less}
 use Rattle.means_moves.proofs.Faces.{pierced-on}
-use Rattle.demands.specs.Clash.{Opposite}
-use Rattle.demands.specs.Geometry.{pierced, total, fanRound, Geometry}
-use Rattle.demands.proofs.Tests.{is-ltZ}
-use Rattle.demands.proofs.Clash.{is-opposite}
+use Rattle.means_clash.specs.Clash.{Opposite}
+use Rattle.demands.specs.Geometry.{pierced, fanRound, Geometry}
+use Rattle.paper_laws.proofs.Tests.{is-ltZ}
+use Rattle.means_clash.proofs.Words.{is-opposite}
 
 seen-is : (p : Point) (n : ℤ) (g : Polygon) → lies (over p n) g ≡ whereFlat (seen (axis (normal g)) p) n (map (seen (axis (normal g))) g)
 unfolding lies
@@ -37,18 +40,18 @@ seen-is p n g = refl
 
 -- ---- the fan
 
-from-total : (p a b : Point) (r : List Point) → total (sidesFrom (det p) a b r) ≡ dot p (sum (sidesFrom cross a b r))
-unfolding total sidesFrom sum
-from-total p a b [] = vring (vec p ∷ vec a ∷ vec b ∷ []) (dets (v 0) (v 2) (v 1) +s k (pos 0)) (v 0 · ((v 2 ×v v 1) +v o)) tt
-from-total p a b (c ∷ r) =
-    ap (λ (z : ℤ). det p b c +ℤ z) (from-total p a c r)
+from-sides : (p a b : Point) (r : List Point) → sumOf (sidesFrom (det p) a b r) ≡ dot p (sum (sidesFrom cross a b r))
+unfolding sumOf sidesFrom sum
+from-sides p a b [] = vring (vec p ∷ vec a ∷ vec b ∷ []) (dets (v 0) (v 2) (v 1) +s k (pos 0)) (v 0 · ((v 2 ×v v 1) +v o)) tt
+from-sides p a b (c ∷ r) =
+    ap (λ (z : ℤ). det p b c +ℤ z) (from-sides p a c r)
     ∙ vring (vec p ∷ vec b ∷ vec c ∷ vec (sum (sidesFrom cross a c r)) ∷ []) (dets (v 0) (v 1) (v 2) +s v 0 · v 3)
     (v 0 · ((v 1 ×v v 2) +v v 3)) tt
 
 round-normal : (p : Point) (f : Polygon) → fanRound p f ≡ dot p (normal f)
-unfolding total sides normal sum
+unfolding sumOf sides normal sum
 round-normal p [] = vring (vec p ∷ []) (k (pos 0)) (v 0 · o) tt
-round-normal p (a ∷ r) = from-total p a a r
+round-normal p (a ∷ r) = from-sides p a a r
 
 fan-round : (f : Polygon) (p : Point) → planeSide f p ≡ pos 0 → faceSix f ≡ fanRound p f
 unfolding planeSide
@@ -86,9 +89,7 @@ on-edge p q a b h = (below 0 (natAbs a) (some h .0), more (natAbs a) (natAbs b) 
     some (inr e) = (size-up a (e .0) .1, size-down b (e .1) .1)
 
 in-plane : (g : Polygon) (p q : Point) → Opposite (planeSide g p) (planeSide g q)
-    → dot (normal g)
-    (minus (pierced p q (planeSide g p) (planeSide g q)) (times (pos (natAbs (planeSide g p) + natAbs (planeSide g q))) (corner g)))
-    ≡ pos 0
+    → OnPlane g (pierced p q (planeSide g p) (planeSide g q)) (pos (natAbs (planeSide g p) + natAbs (planeSide g q)))
 in-plane g p q h = pierced-on g p q (is-opposite (planeSide g p) (planeSide g q) .1 h)
 
 pub geometry : Geometry
@@ -108,5 +109,6 @@ geometry = record {
   on-edge = on-edge;
   in-plane = in-plane;
   either-way = clash-either;
+  by-place = by-place;
   any-fan = fan-round;
 }

@@ -26,7 +26,7 @@ use Rattle.means_drawing.proofs.Drawings.Lists.{lent-rising}
 use Rattle.means_sheets.proofs.Sheets.Read.{accepted-lent}
 use Rattle.demands.specs.Input.{Input, lent, sheet, drawing, form, rules}
 use Rattle.demands.specs.Table.{Outside, BadCount, Far, Wrong, BadEdge, Above, EdgeOrder, rooms, lists, forms, drawings}
-use Rattle.demands.proofs.Tests.{Is, is-lt, is-le, is-eq, is-ltZ, is-not, is-or, is-and}
+use Rattle.paper_laws.proofs.Tests.{Is, is-lt, is-le, is-eq, is-ltZ, is-not, is-or, is-and}
 use Rattle.demands.proofs.Table.{Says, done, also, also-one, also-two, behind}
 
 -- ---- 1 and 2

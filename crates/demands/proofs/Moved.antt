@@ -24,7 +24,7 @@ use Rattle.means_sheets.proofs.Sheets.Read.{accepted-lent}
 use Rattle.means_moves.specs.Moves.{shift, mirror, Step, laid, oddly, Move}
 use Rattle.means_moves.specs.Lists.{eachVertex, Near}
 use Rattle.means_moves.specs.Turned.{turnsBy, Follows}
-use Rattle.means_moves.proofs.Factors.{whole-up}
+use Rattle.exact.proofs.Order.{whole-pos}
 use Rattle.means_moves.proofs.Shift as Shift
 use Rattle.means_moves.proofs.Mirror as Mirror
 use Rattle.means_moves.proofs.Scale.{scales}
@@ -164,9 +164,9 @@ pub scaled : Scales
 unfolding linear scales
 scaled = record {
   lists = λ k h xyz ends a b limit faces solids.
-      follows-scaled k (follows (linear (scales (pos k) (whole-up k h))) _ _ (lent-made (times (pos k)) xyz ends a b) limit faces solids);
-  both = λ k h x y made limit faces solids. follows-scaled k (follows (linear (scales (pos k) (whole-up k h))) x y made limit faces solids);
-  check = λ k h x y made list. kept (linear (scales (pos k) (whole-up k h))) x y made refl list;
+      follows-scaled k (follows (linear (scales (pos k) (whole-pos k h))) _ _ (lent-made (times (pos k)) xyz ends a b) limit faces solids);
+  both = λ k h x y made limit faces solids. follows-scaled k (follows (linear (scales (pos k) (whole-pos k h))) x y made limit faces solids);
+  check = λ k h x y made list. kept (linear (scales (pos k) (whole-pos k h))) x y made refl list;
 }
 
 -- ---- limits

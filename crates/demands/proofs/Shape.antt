@@ -16,7 +16,7 @@ use Rattle.paper.specs.FaceList.{countIn, facesIn, bitsOf, faceFits, wellShaped
 use Rattle.paper_laws.proofs.Limits.{not-outside}
 use Rattle.faces_laws.proofs.Shape.{shape-yes, face-yes}
 use Rattle.demands.specs.Shells.{Corners, Shape, NoList}
-use Rattle.demands.proofs.Tests.{Is, is-lt, is-or, is-not}
+use Rattle.paper_laws.proofs.Tests.{Is, is-lt, is-or, is-not}
 
 is-corners : (v : ℕ) (l : Loop) → Is (faceFits editionOne v l) (Corners v l)
 unfolding faceFits

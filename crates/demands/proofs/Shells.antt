@@ -37,10 +37,10 @@ use Rattle.means_check.specs.Candidates.{Candidates}
 use Rattle.means_check.proofs.Numbers.{is-candidate, row-length}
 use Rattle.means_check.proofs.Numbered.{numbersOf, takenOf, turnedOf, numbers-length, number-of, taken-is, known-all, either-number}
 use Rattle.means_check.proofs.Tests.{all-proper, inward-six, six-inward, edges-two}
-use Rattle.demands.specs.Clash.{Clash}
+use Rattle.means_clash.specs.Clash.{Clash}
 use Rattle.demands.specs.Shells.{Either, NotCandidate, FaceTwice, EdgeCount, Direction, Pieces, Inward, Clashes, shells}
-use Rattle.demands.proofs.Tests.{Is, is-eq, is-not}
-use Rattle.demands.proofs.Clash.{two-corners, is-clash}
+use Rattle.paper_laws.proofs.Tests.{Is, is-eq, is-not}
+use Rattle.means_clash.proofs.Words.{two-corners, is-clash}
 use Rattle.demands.proofs.Table.{Says, done, also, also-one}
 
 -- ---- one ring, in any direction or start

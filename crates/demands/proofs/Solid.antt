@@ -30,11 +30,11 @@ use Rattle.means_loops.proofs.Lowest.{on-normal}
 use Rattle.means_loops.proofs.Rings.{same-refl}
 use Rattle.means_report.specs.Listed.{Entry, Listed}
 use Rattle.means_check.specs.Accepts.{NamesSolid}
-use Rattle.demands.specs.Clash.{Clash, cornerAt}
+use Rattle.means_clash.specs.Clash.{Clash, cornerAt}
 use Rattle.demands.specs.Cover.{LoopOf, Covers, CandidateOf}
 use Rattle.demands.specs.Solid.{Solid, Every, NamesOne}
-use Rattle.demands.proofs.Tests.{Is, is-off, is-and, is-to}
-use Rattle.demands.proofs.Clash.{two-corners, is-clash, is-plane}
+use Rattle.paper_laws.proofs.Tests.{Is, is-off, is-and, is-to}
+use Rattle.means_clash.proofs.Words.{two-corners, is-clash, is-plane}
 
 -- ---- solids
 

@@ -13,7 +13,7 @@ use Rattle.paper_laws.proofs.Behind.{orElse}
 use Rattle.means_drawing.specs.Drawings.{Finds}
 use Rattle.means_check.proofs.Accepting.{fine-both}
 use Rattle.demands.specs.Table.{line, end, one, Two}
-use Rattle.demands.proofs.Tests.{Is, is-off}
+use Rattle.paper_laws.proofs.Tests.{Is, is-off}
 
 -- the checks are the lines: their answer, with that of all behind them, says what the lines say
 abbrev pub Says : ((Answer → Type 0) → Answer → Type 0) → List Check → Type 1

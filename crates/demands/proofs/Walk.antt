@@ -20,7 +20,7 @@ use Rattle.means_check.proofs.Demand.{drawing-places}
 use Rattle.demands.specs.Input.{Input, drawing, candidatesOf, Passes}
 use Rattle.demands.specs.Walk.{OneEdge, WalkWords}
 use Rattle.demands.proofs.Input.{drawing-fine}
-use Rattle.demands.proofs.Tests.{is-lt, is-or}
+use Rattle.paper_laws.proofs.Tests.{is-lt, is-or}
 use Rattle.demands.proofs.Solid.{in-words, of-words}
 
 -- the undecided on the edge are decided, and nothing else

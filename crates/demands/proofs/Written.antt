@@ -26,7 +26,7 @@ use Rattle.means_sheets.specs.FaceLists.{returned}
 use Rattle.demands.specs.Input.{lent, sheet, drawing}
 use Rattle.demands.specs.Table.{end, one, forms, ofWritten}
 use Rattle.demands.specs.Shells.{Shape, NoList}
-use Rattle.demands.proofs.Tests.{Is, is-lt, is-off}
+use Rattle.paper_laws.proofs.Tests.{Is, is-lt, is-off}
 use Rattle.demands.proofs.Table.{done, also-one, behind, ends}
 use Rattle.demands.proofs.Shape.{is-shape, is-no-list}
 use Rattle.demands.proofs.Lines.{form-says}

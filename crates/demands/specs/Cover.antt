@@ -11,7 +11,7 @@ use Rattle.paper.specs.Loops.{Loop, polygon}
 use Rattle.paper.specs.declared.Where.the-variants.{Border, Inside}
 use Rattle.means_loops.specs.Path.{ClosedPath}
 use Rattle.means_loops.specs.Shape.{Normal}
-use Rattle.demands.specs.Clash.{cornerAt}
+use Rattle.means_clash.specs.Clash.{cornerAt}
 
 -- "A loop is a closed path of 3 to 12 different vertices along edges, all in one plane": in its normal form, "start at the lowest vertex,
 -- then go to the lower of its two neighbours"

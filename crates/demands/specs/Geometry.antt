@@ -1,16 +1,17 @@
 -- The geometry's meaning, told in one place: what the tests of the definitions decide, in whole numbers and fractions of them. Rules A, B
--- and C in words are in Clash, cover in Cover. Assumes nothing.
+-- and C in words are in `means_clash`, cover is in Cover. Assumes nothing.
 use mathlib.Core.Path.{_≡_}
 use mathlib.Core.Bool.{true, false}
 use mathlib.Core.Logic.{_↔_}
 use mathlib.Core.Option.{none}
-use mathlib.Core.List.{List, [], _∷_, _++_, map, reverse}
+use mathlib.Core.List.{List, _∷_, _++_, map, reverse}
 use Prim.Native.Nat.{ℕ, _+_, _<_}
-use lib.IntN.{ℤ, pos, natAbs, _+ℤ_}
+use lib.IntN.{ℤ, pos, natAbs}
 use lib.ListN.{length}
 use lib.Signed.{_<ℤ_}
 use Rattle.lists.specs.Lists.{sides}
-use Rattle.paper.specs.Points.{plus, minus, times, dot, det}
+use Rattle.exact.specs.Sum.{sumOf}
+use Rattle.paper.specs.Points.{plus, times, det}
 use Rattle.paper.specs.Polygon.{Polygon, over, normal, corner, planeSide, axis, seen, whereFlat, lies}
 use Rattle.paper.specs.Drawing.{Wire, onOpen, openMeets, samePlace, edgeMeets}
 use Rattle.paper.specs.Loops.{loops}
@@ -20,7 +21,7 @@ use Rattle.paper.specs.declared.Point.{Point}
 use Rattle.paper.specs.declared.Flat.{Flat}
 use Rattle.paper.specs.declared.Axis.{Axis}
 use Rattle.paper.specs.declared.Where.the-variants.{Outside, Inside}
-use Rattle.paper_laws.specs.Planes.{InOwnPlane}
+use Rattle.paper_laws.specs.Planes.{InOwnPlane, OnPlane}
 use Rattle.means_drawing.specs.Segments.{Between, Common, along}
 use Rattle.means_area.specs.Flats.{Up, area}
 use Rattle.means_area.specs.Space.{through}
@@ -30,8 +31,9 @@ use Rattle.means_inside.specs.Beams.{round, beam, facing}
 use Rattle.means_inside.specs.Regions.{Cut, At, OneWay}
 use Rattle.means_inside.specs.Touch.{Touch}
 use Rattle.means_inside.specs.Means.{big, Means}
+use Rattle.means_inside.specs.Theorems.{ByPlace}
 use Rattle.means_inside.specs.Convex.{Hand, Convex, Within, NotBeyond}
-use Rattle.demands.specs.Clash.{Opposite}
+use Rattle.means_clash.specs.Clash.{Opposite}
 
 -- loop i as `lies` sees it
 abbrev pub seenLoop : Wire → ℕ → List Flat
@@ -42,12 +44,8 @@ abbrev pub pierced : Point → Point → ℤ → ℤ → Point
 pierced p q a b = plus (times (pos (natAbs b)) p) (times (pos (natAbs a)) q)
 
 -- the sum of the determinants (p, a, b) over the sides from a to b: a face's part of six volumes, by a fan round p
-unfoldable pub total : List ℤ → ℤ
-total [] = pos 0
-total (z ∷ zs) = z +ℤ total zs
-
 abbrev pub fanRound : Point → Polygon → ℤ
-fanRound p f = total (sides (det p) f)
+fanRound p f = sumOf (sides (det p) f)
 
 pub record Geometry : Type 0 where
   -- 13, "shares a point": p is between a and b on their segment; the segment from a to b without its ends, and that from c to d with its
@@ -75,7 +73,9 @@ pub record Geometry : Type 0 where
   -- a list that is run backwards; a polygon in its plane, seen along any axis that the plane is not along
   pub any-way : (d : ℤ) → Up d → (g : List Flat) (p : Flat) → whereFlat p d (reverse g) ≡ whereFlat p d g
   pub any-axis : (g : Polygon) → InOwnPlane g → (a : Axis) → (through a (normal g) ≡ pos 0 → ⊥) → (d : ℤ) → Up d → (p : Point)
-      → dot (normal g) (minus p (times d (corner g))) ≡ pos 0 → lies (over p d) g ≡ whereFlat (seen a p) d (map (seen a) g)
+      → OnPlane g p d → lies (over p d) g ≡ whereFlat (seen a p) d (map (seen a) g)
+  -- where a point lies goes by its place alone: p / m and q / n that are one place get one answer
+  pub by-place : ByPlace
   -- what is on one hand of every side of a loop, or in the side's line and on no side, is inside; inside a loop that is convex is strictly
   -- on one hand of every side
   pub not-beyond : (d : Wire) → samePlace d ≡ none → edgeMeets d ≡ none → (i : ℕ) → i < length (loops d) → (h : Hand) (k : ℤ) → Up k
@@ -87,9 +87,7 @@ pub record Geometry : Type 0 where
       → (pos 0 <ℤ pos (natAbs a)) × (pos (natAbs a) <ℤ pos (natAbs a + natAbs b))
       × (pierced p q a b ≡ along (pos (natAbs a + natAbs b)) (pos (natAbs a)) p q)
   pub in-plane : (g : Polygon) (p q : Point) → Opposite (planeSide g p) (planeSide g q)
-      → dot (normal g)
-      (minus (pierced p q (planeSide g p) (planeSide g q))
-      (times (pos (natAbs (planeSide g p) + natAbs (planeSide g q))) (corner g))) ≡ pos 0
+      → OnPlane g (pierced p q (planeSide g p) (planeSide g q)) (pos (natAbs (planeSide g p) + natAbs (planeSide g q)))
   -- "either way round": faces whose corners are in their planes
   pub either-way : (f g : Polygon) → InOwnPlane f → InOwnPlane g → clash f g ≡ clash g f
   -- six volumes of a face is the fan round any point of its plane, so it does not go by the corner that the fan starts from

@@ -15,7 +15,7 @@ use Rattle.paper.specs.Verdict.{listed}
 use Rattle.paper.specs.declared.Answer.{Answer}
 use Rattle.means_solid.specs.Solid.{Face, InTwo, EachWay, Way, sixOf}
 use Rattle.means_solid.specs.Named.{SameRing, directed, Names}
-use Rattle.demands.specs.Clash.{Clash}
+use Rattle.means_clash.specs.Clash.{Clash}
 use Rattle.demands.specs.Table.{Outside, line, one}
 
 -- a face of 3 to 12 corners, all below v; faces that a list can hold

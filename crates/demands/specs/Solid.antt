@@ -13,7 +13,7 @@ use Rattle.means_solid.specs.Solid.{Face, InTwo, Way, EachWay, sixOf}
 use Rattle.means_solid.specs.Named.{Names}
 use Rattle.means_report.specs.Fair.{Same}
 use Rattle.means_report.specs.Listed.{Entry, entryAt}
-use Rattle.demands.specs.Clash.{Clash}
+use Rattle.means_clash.specs.Clash.{Clash}
 
 module _ (d : Wire) (cs : List Loop) where
   pub record Solid (taken turned : List Bool) (six : ℕ) : Type 0 where

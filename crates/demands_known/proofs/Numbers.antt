@@ -1,5 +1,5 @@
 -- A test of new numbers: where it says yes, two drawings differ in the vertices' numbers alone. Assumes nothing.
-use mathlib.Core.Path.{_≡_, refl, sym, ap, _∙_}
+use mathlib.Core.Path.{_≡_, refl, sym, _∙_}
 use mathlib.Core.Bool.{Bool, true, false, not, _&&_, _||_}
 use mathlib.Core.Logic.{_⊎_, inl, inr}
 use Prim.Native.Nat.{ℕ, _<_}
@@ -8,8 +8,7 @@ use borrow.Author.Tests.{ltb-true, eqb-true, eq-eqb}
 use lib.Dec.{eqb, ltb}
 use lib.ListN.{length}
 use Rattle.lists.specs.Lists.{all, upto}
-use Rattle.lists.proofs.Passing.{all-yes}
-use Rattle.lists.proofs.Places.{upto-length, upto-at}
+use Rattle.lists.proofs.Passing.{each-yes}
 use Rattle.lists.proofs.Truth.{and-left, and-right, or-cases}
 use Rattle.paper.specs.Points.{samePoint}
 use Rattle.paper.specs.Drawing.{Wire, at, joined}
@@ -27,9 +26,6 @@ unfolding same
 same-bits true b e = sym e
 same-bits false true e = e
 same-bits false false e = refl
-
-pub each : (t : ℕ → Bool) (n : ℕ) → all t (upto n) ≡ true → (k : ℕ) → k < n → t k ≡ true
-each t n e k h = ap t (sym (upto-at n k h)) ∙ all-yes t 0 (upto n) e k (omega (arith, upto-length n))
 
 module _ (new : ℕ → ℕ) (d e : Wire) where
   abbrev n : ℕ
@@ -55,12 +51,12 @@ module _ (new : ℕ → ℕ) (d e : Wire) where
   }
     where
       left : (v : ℕ) → v < n → (ltb (new v) n && samePoint (at e (new v)) (at d v)) ≡ true
-      left v h = and-left (ltb (new v) n && samePoint (at e (new v)) (at d v)) (all (λ u. pair u v) (upto n)) (each vertex n t v h)
+      left v h = and-left (ltb (new v) n && samePoint (at e (new v)) (at d v)) (all (λ u. pair u v) (upto n)) (each-yes vertex n t v h)
 
       both : (u v : ℕ) → u < n → v < n → pair u v ≡ true
       both u v hu hv =
-          each (λ w. pair w v) n
-          (and-right (ltb (new v) n && samePoint (at e (new v)) (at d v)) (all (λ u. pair u v) (upto n)) (each vertex n t v hv)) u hu
+          each-yes (λ w. pair w v) n
+          (and-right (ltb (new v) n && samePoint (at e (new v)) (at d v)) (all (λ u. pair u v) (upto n)) (each-yes vertex n t v hv)) u hu
 
       joins : (a b : ℕ) → a < n → b < n → joined d a b ≡ joined e (new a) (new b)
       joins a b ha hb =

@@ -10,7 +10,7 @@ use lib.Dec.{eqb}
 use lib.IntN.{pos}
 use lib.ListN.{length, getD, drop}
 use Rattle.lists.specs.Lists.{any, all, filter, upto, member}
-use Rattle.lists.proofs.Passing.{any-yes, all-yes, all-append}
+use Rattle.lists.proofs.Passing.{each-yes, any-yes, all-yes, all-append}
 use Rattle.lists.proofs.Truth.{and-left, and-right, and-swap, or-cases}
 use Rattle.sets.specs.Word.{dig, digit, word}
 use Rattle.sets.proofs.Digits.{never}
@@ -34,7 +34,7 @@ use Rattle.demands.proofs.Rooms.{words-at}
 use Rattle.demands.proofs.Renumbered.{renumbering}
 use Rattle.demands_known.proofs.Drawings.{of, result, Said, said, one, three, octahedron-said, octahedron-one, octahedron-passes}
 use Rattle.demands_known.proofs.Drawings.{nestedWords, nested-said, nested-three, nested-passes, allowed}
-use Rattle.demands_known.proofs.Numbers.{same, each, numbers}
+use Rattle.demands_known.proofs.Numbers.{same, numbers}
 
 -- ---- two reports
 
@@ -232,8 +232,8 @@ nested-order p q m i h =
     let cs = candidatesOf (of nested) in
     let ds = candidatesOf (of cornered) in
     go (or-cases (eqb (m .to i) (there i)) (differ cs ds i (m .to i))
-    (each (λ j. eqb j (there i) || differ cs ds i j) 3
-    (each (λ k. all (λ j. eqb j (there k) || differ cs ds k j) (upto 3)) 3 nested-differ i h) (m .to i) hj))
+    (each-yes (λ j. eqb j (there i) || differ cs ds i j) 3
+    (each-yes (λ k. all (λ j. eqb j (there k) || differ cs ds k j) (upto 3)) 3 nested-differ i h) (m .to i) hj))
     (faces-by (of nested) nestedWords i (entryAt (p .es) i)
     (words-of (of nested) p nestedWords (ap (λ (s : Said). s .1) nested-said) i hi))
     (faces-by (of cornered) corneredWords (m .to i) (entryAt (q .es) (m .to i))

@@ -2,6 +2,7 @@
 use mathlib.Core.Path.{_≡_, refl, sym, _∙_, ap, subst}
 use mathlib.Core.Logic.{_⊎_, inl, inr}
 use mathlib.Core.List.{List, [], _∷_}
+use Prim.Native.Nat.{ℕ, _<_}
 use native.Mathlib.Omega.{arith}
 use lib.Dec.{T}
 use lib.IntN.{ℤ, pos, negℤ, _+ℤ_, _-ℤ_, _*ℤ_, zero-*ℤ, *ℤ-zero}
@@ -33,6 +34,17 @@ pub lt-chain : {a b c : ℤ} → a <ℤ b → b <ℤ c → a <ℤ c
 lt-chain {a} {b} {c} h l =
     let ρ = a ∷ b ∷ c ∷ [] in
     lt-by ρ (var 0) (var 2) (omega (arith, lt-to ρ (var 0) (var 1) h, lt-to ρ (var 1) (var 2) l))
+
+-- ---- natural numbers, and the next whole number
+
+pub whole-nonneg : (n : ℕ) → pos 0 ≤ℤ pos n
+whole-nonneg n = le-by (pos n ∷ []) (con (pos 0)) (var 0) (omega arith)
+
+pub whole-pos : (n : ℕ) → 0 < n → pos 0 <ℤ pos n
+whole-pos n h = lt-by (pos n ∷ []) (con (pos 0)) (var 0) (omega arith)
+
+pub from-one : (z : ℤ) → pos 0 <ℤ z → pos 0 ≤ℤ (z -ℤ pos 1)
+from-one z h = let ρ = z ∷ [] in le-by ρ (con (pos 0)) (var 0 ⊖ con (pos 1)) (omega (arith, lt-to ρ (con (pos 0)) (var 0) h))
 
 -- ---- sums
 

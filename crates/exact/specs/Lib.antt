@@ -1,3 +1,4 @@
--- What other crates say of whole numbers: how large one is, and which sign it has. Assumes nothing.
+-- What other crates say of whole numbers: how large one is, which sign it has, what some are together. Assumes nothing.
 pub mod Size
 pub mod Signs
+pub mod Sum

@@ -7,7 +7,7 @@ use Prim.Native.Nat.{ℕ, zero, suc, _+_, _≤_, _<_}
 use native.Mathlib.Omega.{arith}
 use native.Mathlib.Decide.{ℕ-discrete}
 use lib.ListN.{length, getD, drop, set, replicate, length-replicate}
-use Rattle.lists.proofs.Truth.{or-none, or-cases, and-left, and-right}
+use Rattle.lists.proofs.Truth.{not-true, or-none, or-cases, and-left, and-right}
 use Rattle.lists.proofs.Truth as Truth
 use Rattle.sets.specs.Word.{dig, count, first, both, either, less, only}
 use Rattle.sets.proofs.Digits.{never, dig-both, dig-either, dig-less, dig-only, first-in}
@@ -146,10 +146,6 @@ module _ (masks : List (List Bool)) where
             left-off false b p q = refl
             left-off true true p q = never p
             left-off true false p q = q
-
-            not-true : (a : Bool) → not a ≡ true → a ≡ false
-            not-true true e = sym e
-            not-true false e = refl
 
             on : (j : ℕ) → (dig (after ahead) j ≡ true) ⊎ (dig (less t (passed ahead)) j ≡ true) → (here < j) × (j < length masks)
             on j (inl e) = let w = after-in ahead j e in (w .0, i .on j (w .1) .1)

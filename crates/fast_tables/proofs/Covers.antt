@@ -1,6 +1,6 @@
 -- Cover by the drawing's vertices and edges. Assumes nothing.
 use mathlib.Core.Path.{_≡_, refl, sym, ap, ap₂, _∙_}
-use mathlib.Core.Bool.{Bool, true, false, not, _&&_, _||_, true≢false}
+use mathlib.Core.Bool.{Bool, true, false, not, _&&_, _||_}
 use mathlib.Core.Logic.{_⊎_, inl, inr}
 use mathlib.Core.List.{List, [], _∷_}
 use Prim.Native.Nat.{ℕ, _+_, _<_}
@@ -8,9 +8,10 @@ use native.Mathlib.Omega.{arith}
 use lib.ListN.{length, getD}
 use Rattle.lists.specs.Lists.{any, all, sides, sidesFrom, anyTrue, upto, member}
 use Rattle.lists.specs.Around.{wrap, around}
-use Rattle.lists.proofs.Places.{any-same, upto-length, upto-at}
-use Rattle.lists.proofs.Passing.{all-yes, all-is}
+use Rattle.lists.proofs.Places.{any-same}
+use Rattle.lists.proofs.Passing.{each-yes, all-yes, all-is}
 use Rattle.lists.proofs.Sides.{sides-map}
+use Rattle.lists.proofs.Truth.{implied}
 use Rattle.paper.specs.Points.{origin, isZero}
 use Rattle.paper.specs.Polygon.{planeSide, onePlane, Ratio, midpoint, lies, isOutside, covers}
 use Rattle.paper.specs.Drawing.{Wire, Edge, edge, at}
@@ -23,7 +24,7 @@ use Rattle.fast_tables.specs.Paths.{Path}
 use Rattle.fast_tables.specs.Covers.{middleOutside, inPlaneOf, coversBy}
 use Rattle.fast_tables.proofs.Rounds.{equal-both, wrap-below, member-yes, member-is, runs-yes, has-cases, ofEdge, sides-edges}
 use Rattle.fast_tables.proofs.Border.{side-border}
-use Rattle.fast_tables.proofs.Enter.{polygon-length, corner-at}
+use Rattle.paper_laws.proofs.Wires.{polygon-length, corner-at}
 
 -- ---- every side passes where none fails
 all-sides : {A B : Type 0} (t : B → Bool) (f : A → A → B) (l : List A)
@@ -92,18 +93,14 @@ module _ (d : Wire) where
         back e =
             all-is (λ p. isZero (planeSide (polygon d l) p)) origin (polygon d k) (λ i h. each i (omega (arith, h, polygon-length d k)))
           where
-            given : (b c : Bool) → (not b || c) ≡ true → b ≡ true → c ≡ true
-            given true c t u = t
-            given false c t u = absurd (true≢false (sym u))
-
             each : (i : ℕ) → i < length k → isZero (planeSide (polygon d l) (getD (polygon d k) i origin)) ≡ true
             each i h =
                 let w = getD k i 0 in
                 let n = length (d .vertices) in
                 let b = path .below i h in
-                let t : test w ≡ true = ap test (sym (upto-at n w b)) ∙ all-yes test 0 (upto n) e w (omega (arith, b, upto-length n)) in
+                let t : test w ≡ true = each-yes test n e w b in
                 ap (λ (p : Point). isZero (planeSide (polygon d l) p)) (corner-at d k i h)
-                ∙ given (member w k) (isZero (planeSide (polygon d l) (at d w))) t (member-is w k i h refl)
+                ∙ implied (member w k) (isZero (planeSide (polygon d l) (at d w))) t (member-is w k i h refl)
 
     -- some edge of k has its midpoint outside l: its own sides need not be asked
     abbrev out : ℕ → ℕ → Bool

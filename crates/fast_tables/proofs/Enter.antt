@@ -3,10 +3,9 @@ use mathlib.Core.Path.{_≡_, refl, sym, ap, _∙_}
 use mathlib.Core.Bool.{Bool, true, false, not, _&&_, true≢false}
 use Prim.Native.Nat.{ℕ, _<_}
 use native.Mathlib.Omega.{arith}
-use lib.ListN.{length, getD, length-map}
+use lib.ListN.{length, getD}
 use Rattle.lists.specs.Lists.{any, upto, member}
 use Rattle.lists.proofs.Truth.{and-left, and-right, and-both}
-use Rattle.lists.proofs.Places.{map-at}
 use Rattle.lists.proofs.Passing.{any-yes, any-is, some-yes, some-is}
 use Rattle.paper.specs.Points.{origin, isZero}
 use Rattle.paper.specs.Polygon.{planeSide, exactly, lies, isInside}
@@ -15,25 +14,17 @@ use Rattle.paper.specs.Loops.{Loop, polygon}
 use Rattle.paper.specs.Clash.{enters}
 use Rattle.paper.specs.declared.Point.{Point}
 use Rattle.paper.specs.declared.Where.the-variants.{Border}
+use Rattle.paper_laws.proofs.Wires.{polygon-length, corner-at}
 use Rattle.fast_tables.specs.Paths.{Path}
 use Rattle.fast_tables.specs.Hits.{vertexInside, enteredBy}
 use Rattle.fast_tables.proofs.Rounds.{equal-both, member-yes, member-is}
 use Rattle.fast_tables.proofs.Border.{corner-border}
 
 module _ (d : Wire) where
-  -- corner k of a loop's polygon
-  pub polygon-length : (l : Loop) → length (polygon d l) ≡ length l
-  unfolding polygon
-  polygon-length l = length-map l (at d)
-
-  pub corner-at : (l : Loop) (k : ℕ) → k < length l → getD (polygon d l) k origin ≡ at d (getD l k 0)
-  unfolding polygon
-  corner-at l k h = map-at (at d) l k 0 origin h
-
   pub vertex-border : (l : Loop) (v : ℕ) → member v l ≡ true → lies (exactly (at d v)) (polygon d l) ≡ Border
   vertex-border l v e =
       let r = member-yes v l e in
-      corner-border (polygon d l) (r .0) (omega (arith, r .1, polygon-length l)) (at d v) (corner-at l (r .0) (r .1) ∙ ap (at d) (r .2))
+      corner-border (polygon d l) (r .0) (omega (arith, r .1, polygon-length d l)) (at d v) (corner-at d l (r .0) (r .1) ∙ ap (at d) (r .2))
 
   -- a corner is not strictly inside
   pub inside-new : (l : Loop) (v : ℕ) → isInside (lies (exactly (at d v)) (polygon d l)) ≡ true → not (member v l) ≡ true
@@ -55,9 +46,9 @@ module _ (d : Wire) where
           → any (λ v. member v f && (not (member v g) && test (at d v))) (upto (length (d .vertices))) ≡ true
       forth e =
           let r = any-yes test origin (polygon d f) e in
-          let h : r .0 < length f = omega (arith, r .1, polygon-length f) in
+          let h : r .0 < length f = omega (arith, r .1, polygon-length d f) in
           let v = getD f (r .0) 0 in
-          let t : test (at d v) ≡ true = ap test (sym (corner-at f (r .0) h)) ∙ r .2 in
+          let t : test (at d v) ≡ true = ap test (sym (corner-at d f (r .0) h)) ∙ r .2 in
           some-is (λ v. member v f && (not (member v g) && test (at d v))) (length (d .vertices)) v (path .below (r .0) h)
           (and-both (member-is v f (r .0) h refl)
           (and-both
@@ -72,5 +63,5 @@ module _ (d : Wire) where
           let s = member-yes v f (and-left (member v f) (not (member v g) && test (at d v)) (r .2)) in
           let t : test (at d v) ≡ true = and-right (not (member v g)) (test (at d v))
           (and-right (member v f) (not (member v g) && test (at d v)) (r .2)) in
-          any-is test origin (polygon d f) (s .0) (omega (arith, s .1, polygon-length f))
-          (ap test (corner-at f (s .0) (s .1) ∙ ap (at d) (s .2)) ∙ t)
+          any-is test origin (polygon d f) (s .0) (omega (arith, s .1, polygon-length d f))
+          (ap test (corner-at d f (s .0) (s .1) ∙ ap (at d) (s .2)) ∙ t)

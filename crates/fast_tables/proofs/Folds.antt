@@ -22,7 +22,7 @@ use Rattle.paper.specs.Solids.{has}
 use Rattle.paper.specs.declared.Point.{Point}
 use Rattle.fast_tables.specs.Paths.{Apart, Path}
 use Rattle.fast_tables.proofs.Rounds.{member-yes, member-is, runs-is, has-up, has-down}
-use Rattle.fast_tables.proofs.Enter.{polygon-length, corner-at}
+use Rattle.paper_laws.proofs.Wires.{polygon-length, corner-at}
 use Rattle.fast_tables.proofs.Angles.{same-is, points-no-side}
 
 -- two corners of both loops that are a side of neither

@@ -24,7 +24,8 @@ use Rattle.fast_tables.specs.Paths.{Apart, Path, Level}
 use Rattle.fast_tables.specs.Hits.{edgePierces, vertexInside, piercedBy, enteredBy, foldsWith, hits}
 use Rattle.fast_tables.proofs.Rounds.{member-yes, has-ends}
 use Rattle.fast_tables.proofs.Pierce.{pierced-opposite, pierces-edges}
-use Rattle.fast_tables.proofs.Enter.{polygon-length, corner-at, enters-vertices}
+use Rattle.paper_laws.proofs.Wires.{polygon-length, corner-at}
+use Rattle.fast_tables.proofs.Enter.{enters-vertices}
 use Rattle.fast_tables.proofs.MayFold.{folds-with}
 
 -- ---- a face in its plane does not go through itself

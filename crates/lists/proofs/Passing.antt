@@ -50,6 +50,10 @@ module _ (p : ℕ → Bool) (n : ℕ) where
   pub some-is : (k : ℕ) → k < n → p k ≡ true → any p (upto n) ≡ true
   some-is k h e = any-is p 0 (upto n) k (omega (arith, upto-length n)) (ap p (upto-at n k h) ∙ e)
 
+  -- each does
+  pub each-yes : all p (upto n) ≡ true → (k : ℕ) → k < n → p k ≡ true
+  each-yes e k h = ap p (sym (upto-at n k h)) ∙ all-yes p 0 (upto n) e k (omega (arith, upto-length n))
+
 -- ---- a list that grows, two lists, a list backwards
 
 module _ {A : Type 0} (p : A → Bool) where

@@ -23,13 +23,13 @@ xor-comm false true = refl
 xor-comm false false = refl
 
 -- four that add up in another order
-swap4 : (a b c d : Bool) → xor (xor a b) (xor c d) ≡ xor (xor a c) (xor b d)
+pub swap4 : (a b c d : Bool) → xor (xor a b) (xor c d) ≡ xor (xor a c) (xor b d)
 swap4 a b c d =
     xor-assoc a b (xor c d) ∙ ap (xor a) (sym (xor-assoc b c d) ∙ ap (λ (z : Bool). xor z d) (xor-comm b c) ∙ xor-assoc c b d)
     ∙ sym (xor-assoc a c (xor b d))
 
 -- the middle one twice
-mid : (a b c : Bool) → xor (xor a b) (xor b c) ≡ xor a c
+pub mid : (a b c : Bool) → xor (xor a b) (xor b c) ≡ xor a c
 mid a b c = xor-assoc a b (xor b c) ∙ ap (xor a) (sym (xor-assoc b b c) ∙ ap (λ (z : Bool). xor z c) (xor-self b) ∙ false-xor c)
 
 pub walk-split : (f : Flat → Flat → Bool) (x : Flat) (l : List Flat) (y : Flat) (r : List Flat) (e : Flat)

@@ -43,7 +43,7 @@ not-below t e = go (which (negℤ t))
     go (inl u) = absurd (true≢false (sym (below-is t u) ∙ e))
     go (inr n) = nn-is (sym (twice t)) n
 
-not-above : (t : ℤ) → above t ≡ false → Nn (negℤ t)
+pub not-above : (t : ℤ) → above t ≡ false → Nn (negℤ t)
 not-above t e = go (which t)
   where
     go : Up t ⊎ Nn (negℤ t) → Nn (negℤ t)

@@ -33,7 +33,7 @@ shown-real AlongY n h e = h (twice (n .y) ∙ ap negℤ e)
 shown-real AlongZ n h e = h e
 
 -- a turn in the view
-turn-shown : (i : Axis) (a b c : Point) → turn (seen i a) (seen i b) (seen i c) ≡ shown i (cross (minus b a) (minus c a))
+pub turn-shown : (i : Axis) (a b c : Point) → turn (seen i a) (seen i b) (seen i c) ≡ shown i (cross (minus b a) (minus c a))
 unfolding turn seen cross minus
 turn-shown AlongX a b c = refl
 turn-shown AlongY a b c =

@@ -6,13 +6,13 @@ use mathlib.Core.List.{List, _∷_, map, reverse}
 use Prim.Native.Nat.{_≤_}
 use lib.IntN.{ℤ, pos}
 use lib.ListN.{length}
-use Rattle.paper.specs.Points.{minus, times, dot}
-use Rattle.paper.specs.Polygon.{Polygon, over, normal, corner, seen, whereFlat, lies}
+use Rattle.paper.specs.Points.{times}
+use Rattle.paper.specs.Polygon.{Polygon, over, normal, seen, whereFlat, lies}
 use Rattle.paper.specs.declared.Point.{Point}
 use Rattle.paper.specs.declared.Flat.{Flat}
 use Rattle.paper.specs.declared.Axis.{Axis}
 use Rattle.paper.specs.declared.Where.the-variants.{Outside, Inside}
-use Rattle.paper_laws.specs.Planes.{InOwnPlane}
+use Rattle.paper_laws.specs.Planes.{InOwnPlane, OnPlane}
 use Rattle.means_area.specs.Flats.{Up, Simple, Least, area, lst}
 use Rattle.means_area.specs.Space.{through}
 use Rattle.means_inside.specs.Beams.{round, beam, right, Seen}
@@ -20,6 +20,10 @@ use Rattle.means_inside.specs.Regions.{Cut, At, OneWay}
 use Rattle.means_inside.specs.Touch.{Touch}
 use Rattle.means_inside.specs.Means.{big, Means}
 use Rattle.means_inside.specs.Convex.{Hand, Convex, Within, NotBeyond}
+
+-- where p / m and q / n are one place, one answer is given
+abbrev pub ByPlace : Type 0
+ByPlace = (g : Polygon) (p q : Point) (m n : ℤ) → Up m → Up n → times n p ≡ times m q → lies (over p m) g ≡ lies (over q n) g
 
 -- `whereFlat` says of every point of a simple polygon's plane where it lies
 abbrev pub WhereMeans : Type 0
@@ -50,7 +54,7 @@ ConvexMeans =
 abbrev pub AnyAxis : Type 0
 AnyAxis =
     (g : Polygon) → InOwnPlane g → (a : Axis) → (through a (normal g) ≡ pos 0 → ⊥) → (d : ℤ) → Up d → (p : Point)
-    → dot (normal g) (minus p (times d (corner g))) ≡ pos 0 → lies (over p d) g ≡ whereFlat (seen a p) d (map (seen a) g)
+    → OnPlane g p d → lies (over p d) g ≡ whereFlat (seen a p) d (map (seen a) g)
 
 -- every triangulation whose triangles turn the way that the polygon does has the inside and the border for its region
 abbrev pub OneRegion : Type 0

@@ -2,18 +2,19 @@
 use mathlib.Core.Path.{_≡_, refl, ap, ap₂, _∙_}
 use mathlib.Core.Option.{none}
 use mathlib.Core.List.{List, [], _∷_}
-use Prim.Native.Nat.{ℕ, suc, _+_, _<_}
+use Prim.Native.Nat.{ℕ, suc, _<_}
 use native.Mathlib.Omega.{arith}
 use lib.IntN.{ℤ, pos, _+ℤ_, _-ℤ_}
-use lib.ListN.{length, getD, length-map}
+use lib.ListN.{length, getD}
 use Rattle.lists.specs.Lists.{sides, sidesFrom}
 use Rattle.lists.proofs.Passing.{all-is}
 use Rattle.paper.specs.Points.{origin, plus, minus, times, dot, cross, sum, isZero}
 use Rattle.paper.specs.Polygon.{Polygon, normal, corner, planeSide, onePlane}
 use Rattle.paper.specs.Drawing.{Wire, at, samePlace}
-use Rattle.paper.specs.Loops.{Loop, loopAt, polygon, candidates}
+use Rattle.paper.specs.Loops.{loopAt, polygon, candidates}
 use Rattle.paper.specs.declared.Point.{Point}
 use Rattle.paper_laws.proofs.Vectors.{num, vec, k, x, _+s_, _-s_, _·_, o, v, _+v_, _-v_, _*v_, _×v_, vring}
+use Rattle.paper_laws.proofs.Wires.{polygon-length}
 use Rattle.paper_laws.proofs.Points.{zero-is}
 use Rattle.paper_laws.specs.Planes.{InOwnPlane}
 use Rattle.means_loops.specs.Plane.{InPlane}
@@ -75,10 +76,6 @@ own-plane f y h =
     (less-dot (y .across) (getD f i origin) (corner f) (y .height) (y .every i l) (ap (dot (y .across)) (corner-at f) ∙ y .every 0 h))))
 
 -- ---- candidates of a drawing with no two vertices at one point
-
-polygon-length : (d : Wire) (q : Loop) → length (polygon d q) ≡ length q
-unfolding polygon
-polygon-length d q = length-map q (at d)
 
 pub candidates-flat : (d : Wire) → samePlace d ≡ none → (i : ℕ) → i < length (candidates d)
     → InOwnPlane (polygon d (loopAt (candidates d) i))

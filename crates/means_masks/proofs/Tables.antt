@@ -24,7 +24,7 @@ use Rattle.means_leaf.specs.Meaning as Masks
 use Rattle.means_leaf.specs.Meaning.{In, On}
 use Rattle.means_leaf.proofs.Spread.{in-place, place-in}
 use Rattle.means_solid.specs.Proper.{AllProper}
-use Rattle.means_solid.specs.Solid.{Face, InTwo, Way, stay, cross, EachWay, share, sixOf}
+use Rattle.means_solid.specs.Solid.{Face, InTwo, Way, stay, cross, EachWay, faceSum, sixOf}
 use Rattle.means_masks.proofs.Edges.{on-has, has-on, two-in, in-two, once-ways, ways-once}
 
 -- two candidates clash whichever is named first
@@ -122,15 +122,10 @@ module _ (d : Wire) (cs : List Loop) where
 
     -- ---- (iv)
 
-    part-share : (b t : Bool) (z : ℤ) → part b t z ≡ share d cs taken turned b t z
-    part-share false t z = refl
-    part-share true false z = refl
-    part-share true true z = refl
-
     six-from : (k : ℕ) (ls : List Loop) → sixFrom k (map faceSix (map (polygon d) ls)) taken turned ≡ sixOf d cs taken turned k ls
-    unfolding sixFrom sixOf
+    unfolding sixFrom faceSum
     six-from k [] = refl
-    six-from k (l ∷ ls) = ap₂ _+ℤ_ (part-share (dig taken k) (dig turned k) (faceSix (polygon d l))) (six-from (suc k) ls)
+    six-from k (l ∷ ls) = ap (λ (z : ℤ). part (dig taken k) (dig turned k) (faceSix (polygon d l)) +ℤ z) (six-from (suc k) ls)
 
     pub six-is : sixFrom 0 (tablesOf d cs .sixes) taken turned ≡ sixOf d cs taken turned 0 cs
     unfolding tablesOf

@@ -31,7 +31,8 @@ use Rattle.means_moves.specs.Alike.{Alike, EndsBelow}
 use Rattle.means_moves.specs.Turned.{turnsBy}
 use Rattle.means_moves.specs.TurnedRound.{AllTurned}
 use Rattle.paper_laws.proofs.Behind.{orElse, first-append, else-same, first-fine, second-fine}
-use Rattle.means_moves.proofs.Factors.{whole-up, above-times}
+use Rattle.exact.proofs.Order.{whole-pos}
+use Rattle.paper_laws.proofs.Factors.{above-times}
 use Rattle.means_moves.proofs.Alike.{checks-same, loops-same}
 use Rattle.means_moves.proofs.Moved.{moved-alike}
 use Rattle.means_moves.proofs.Passed.{bare-same, masks, ups, clashes, six-kept}
@@ -138,7 +139,7 @@ module _ (m : Move) (d e : Wire) (points : e .vertices ≡ map (m .to) (d .verti
     where
       up : (z : ℤ) → turnsBy z ≡ false → (z ≡ pos 0 → ⊥) → Up z
       up (pos zero) t h = absurd (h refl)
-      up (pos (suc n)) t h = whole-up (suc n) (omega arith)
+      up (pos (suc n)) t h = whole-pos (suc n) (omega arith)
       up (negsuc n) t h = absurd (true≢false t)
 
   -- ---- a move that mirrors

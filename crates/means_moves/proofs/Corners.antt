@@ -1,12 +1,11 @@
 -- A polygon of which every corner is moved: its normal, what is seen of it, and where a point lies. Assumes nothing.
-use mathlib.Core.Path.{_≡_, refl, sym, ap, ap₂, _∙_}
-use mathlib.Core.Bool.{Bool, true, false}
+use mathlib.Core.Path.{_≡_, sym, ap, ap₂, _∙_}
+use mathlib.Core.Bool.{Bool}
 use mathlib.Core.List.{List, [], _∷_, map, map-map}
-use lib.IntN.{ℤ}
-use Rattle.lists.specs.Lists.{sides, sidesFrom, anyTrue, oddTrue}
+use Rattle.lists.specs.Lists.{sides, sidesFrom, oddTrue}
 use Rattle.lists.proofs.Sides.{sides-map}
 use Rattle.paper.specs.Points.{origin, plus, cross, sum}
-use Rattle.paper.specs.Polygon.{Polygon, normal, seen, touches, crosses, placed, whereFlat}
+use Rattle.paper.specs.Polygon.{Polygon, normal, seen}
 use Rattle.paper.specs.declared.Point.{Point}
 use Rattle.paper.specs.declared.Flat.{Flat}
 use Rattle.paper.specs.declared.Axis.{Axis}
@@ -39,17 +38,3 @@ module _ (e : Point → Point) where
 -- the sides that a test counts, of a ring of which every corner is changed by f
 pub round-sides : (t : Flat → Flat → Bool) (f : Flat → Flat) (g : List Flat) → round t (map f g) ≡ oddTrue (sides (λ a b. t (f a) (f b)) g)
 round-sides t f g = sym (odd-round t (map f g)) ∙ ap oddTrue (sides-map t f g)
-
--- p / d is on the sides on which q / e is; and where it is on none, the rays meet as many up to an even number
-pub where-moved : (p q : Flat) (d e : ℤ) (f : Flat → Flat) → ((a b : Flat) → touches q e (f a) (f b) ≡ touches p d a b) → (g : List Flat)
-    → (anyTrue (sides (touches p d) g) ≡ false → oddTrue (sides (crosses q e) (map f g)) ≡ oddTrue (sides (crosses p d) g))
-    → whereFlat q e (map f g) ≡ whereFlat p d g
-unfolding whereFlat
-where-moved p q d e f h g odds =
-    ap (λ (l : List Bool). placed (anyTrue l) (oddTrue (sides (crosses q e) (map f g)))) (sides-map (touches q e) f g)
-    ∙ (λ i. placed (anyTrue (sides (λ a b. h a b i) g)) (oddTrue (sides (crosses q e) (map f g))))
-    ∙ go (anyTrue (sides (touches p d) g)) (oddTrue (sides (crosses q e) (map f g))) (oddTrue (sides (crosses p d) g)) odds
-  where
-    go : (on r s : Bool) → (on ≡ false → r ≡ s) → placed on r ≡ placed on s
-    go true r s same = unfold placed in refl
-    go false r s same = ap (placed false) (same refl)

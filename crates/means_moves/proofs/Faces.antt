@@ -20,8 +20,10 @@ use Rattle.paper_laws.proofs.Points.{zero-yes}
 use Rattle.paper_laws.proofs.Vectors.{num, vec, k as lit, x as fac, _+s_, _*s_, _·_, o, v as at, _+v_, _-v_, _*v_, vring}
 use Rattle.means_area.specs.Flats.{Up}
 use Rattle.means_moves.specs.Moves.{HasPlane, OnPlane, Move}
-use Rattle.means_moves.proofs.Factors.{one-up, two-up, whole-up, zero-times, opposite-times}
-use Rattle.means_moves.proofs.Scale.{lies-over}
+use Rattle.exact.proofs.Order.{whole-pos}
+use Rattle.paper_laws.proofs.Factors.{zero-times}
+use Rattle.means_moves.proofs.Factors.{one-up, two-up, opposite-times}
+use Rattle.means_inside.proofs.Place.{lies-over}
 use Rattle.means_moves.proofs.Tests.{side-to, same-to, angle-to}
 
 -- ---- lists of what was moved
@@ -60,14 +62,14 @@ none b = refl
 -- ends on opposite sides are not both in the plane
 pub opposite-up : (a b : ℤ) → opposite a b ≡ true → Up (pos (natAbs a + natAbs b))
 opposite-up (pos zero) b e = absurd (true≢false (sym e ∙ none b))
-opposite-up (pos (suc n)) b e = whole-up (suc n + natAbs b) (omega arith)
-opposite-up (negsuc n) b e = whole-up (suc n + natAbs b) (omega arith)
+opposite-up (pos (suc n)) b e = whole-pos (suc n + natAbs b) (omega arith)
+opposite-up (negsuc n) b e = whole-pos (suc n + natAbs b) (omega arith)
 
 -- the size of what is not 0
 pub real-up : (z : ℤ) → (z ≡ pos 0 → ⊥) → Up (pos (natAbs z))
 real-up (pos zero) h = absurd (h refl)
-real-up (pos (suc n)) h = whole-up (suc n) (omega arith)
-real-up (negsuc n) h = whole-up (suc n) (omega arith)
+real-up (pos (suc n)) h = whole-pos (suc n) (omega arith)
+real-up (negsuc n) h = whole-pos (suc n) (omega arith)
 
 -- a test of all sides, as a list of answers
 pub all-sides : (t : Ratio → Bool) (f : Point → Point → Ratio) (h : Polygon) → all t (sides f h) ≡ all (λ b. b) (sides (λ y z. t (f y z)) h)

@@ -23,7 +23,8 @@ use Rattle.means_inside.proofs.Scale.{odd-is, any-clear}
 use Rattle.means_moves.specs.Moves.{mirror, Linear}
 use Rattle.means_moves.proofs.Numbers.{le-neg, zero-neg}
 use Rattle.means_moves.proofs.Factors.{one-up, minus-one, minus-one-real}
-use Rattle.means_moves.proofs.Corners.{normal-moved, seen-moved, where-moved}
+use Rattle.means_inside.proofs.Place.{where-moved}
+use Rattle.means_moves.proofs.Corners.{normal-moved, seen-moved}
 
 -- ---- in the flat
 

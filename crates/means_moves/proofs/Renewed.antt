@@ -7,13 +7,12 @@ use mathlib.Core.List.{List}
 use Prim.Native.Nat.{ℕ, _<_}
 use native.Mathlib.Omega.{arith}
 use native.Mathlib.Decide.{decLt}
-use lib.IntN.{ℤ, pos}
 use lib.ListN.{length}
 use Rattle.sets.specs.Word.{dig}
-use Rattle.paper.specs.Points.{pt}
+use Rattle.paper.specs.Points.{dot}
 use Rattle.paper.specs.Drawing.{Wire, Edge, edge, edgeAt, samePlace}
 use Rattle.paper.specs.Loops.{Loop, loopAt, polygon, candidates}
-use Rattle.paper.specs.declared.Point.{Point}
+use Rattle.paper.specs.Solids.{faceSix}
 use Rattle.means_solid.specs.Solid.{Runs, Has, InTwo, Way, stay, cross, RunOnce, EachWay, sixOf, IsSolid}
 use Rattle.means_loops.specs.Path.{EdgeOf}
 use Rattle.means_loops.proofs.Places.{edge-back}
@@ -24,7 +23,8 @@ use Rattle.means_moves.specs.Renumbered.{BothWays}
 use Rattle.means_moves.proofs.OneRing.{clash-ring}
 use Rattle.means_moves.proofs.Renamed.{edge-over, edge-under, edge-high, renumbered-back}
 use Rattle.means_moves.proofs.Matched.{fwd, fwd-at, back, back-fwd, one-over}
-use Rattle.means_moves.proofs.Sums.{sum-over, term, six-sum}
+use Rattle.means_moves.proofs.Sums.{sum-over, part-wide}
+use Rattle.means_check.proofs.FaceSums.{first, wide, inWay, faces-wide}
 use Rattle.means_moves.proofs.Carried.{
   has-runs,
   runs-has,
@@ -258,12 +258,14 @@ module _ {new old : ℕ → ℕ} {d e : Wire} (r : BothWays new old d e) (one : 
   -- (iv)
   six-same : sixOf e (candidates e) nt nu 0 (candidates e) ≡ sixOf d (candidates d) taken turned 0 (candidates d)
   six-same =
-      ap (λ (p : Point). p .x)
-      (six-sum e (candidates e) nt nu
-      ∙ sum-over (matched r one two) (λ k. pt (term d (candidates d) taken turned k) (pos 0) (pos 0))
-      (λ j. pt (term e (candidates e) nt nu j) (pos 0) (pos 0))
-      (λ k h. ap (λ (z : ℤ). pt z (pos 0) (pos 0)) (term-over r one two taken turned k h))
-      ∙ sym (six-sum d (candidates d) taken turned))
+      faces-wide (candidates e) nt nu (λ l. faceSix (polygon e l))
+      ∙ ap (dot first)
+      (sum-over (matched r one two) (λ k. inWay (dig taken k) (dig turned k) (wide (faceSix (polygon d (loopAt (candidates d) k)))))
+      (λ j. inWay (dig nt j) (dig nu j) (wide (faceSix (polygon e (loopAt (candidates e) j)))))
+      (λ k h. part-wide (dig nt (to k)) (dig nu (to k)) (faceSix (polygon e (loopAt (candidates e) (to k))))
+      ∙ ap wide (term-over r one two taken turned k h)
+      ∙ sym (part-wide (dig taken k) (dig turned k) (faceSix (polygon d (loopAt (candidates d) k))))))
+      ∙ sym (faces-wide (candidates d) taken turned (λ l. faceSix (polygon d l)))
 
   edge-here : (i : ℕ) → i < length (e .edges) → (x y : ℕ) → edgeAt e i ≡ edge x y → EdgeOf e x y
   edge-here i h x y p = (i, h, inl p)

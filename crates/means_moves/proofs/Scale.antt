@@ -1,82 +1,26 @@
--- All coordinates k times as large, and one point as two fractions: no test changes. Assumes nothing.
+-- All coordinates k times as large: no test changes. Assumes nothing.
 -- Every test is of numbers that take a factor above 0.
-use mathlib.Core.Path.{_≡_, refl, sym, ap, ap₂, _∙_}
-use mathlib.Core.Bool.{_&&_, _||_, cond}
-use mathlib.Core.List.{List, [], _∷_, map, map-id}
+use mathlib.Core.Path.{_≡_, ap, ap₂, _∙_}
+use mathlib.Core.Bool.{cond}
+use mathlib.Core.List.{List, [], _∷_, map}
 use lib.IntN.{ℤ, _*ℤ_}
-use lib.Signed.{leZ}
-use Rattle.exact.proofs.Laws.{*ℤ-assoc, mul-left-commℤ}
+use Rattle.exact.proofs.Laws.{mul-left-commℤ}
 use Rattle.exact.proofs.Order.{mul-pos}
 use Rattle.exact.proofs.Signs.{pos-ne}
 use Rattle.exact.proofs.Ring.{var, _⊖_, _⊗_, ring}
-use Rattle.lists.specs.Lists.{sides, oddTrue}
-use Rattle.lists.proofs.Sides.{sides-map}
-use Rattle.paper.specs.Points.{times, isZero}
-use Rattle.paper.specs.Polygon.{
-  Polygon,
-  over,
-  normal,
-  axis,
-  seen,
-  turn,
-  spans,
-  between,
-  touches,
-  under,
-  meetsRay,
-  crosses,
-  whereFlat,
-  lies,
-}
+use Rattle.paper.specs.Points.{times}
+use Rattle.paper.specs.Polygon.{Polygon, over, normal, axis, seen, turn, crosses, whereFlat, lies}
 use Rattle.paper.specs.declared.Point.{Point}
 use Rattle.paper.specs.declared.Flat.{Flat}
 use Rattle.paper.specs.declared.Axis.{Axis}
 use Rattle.paper.specs.declared.Axis.the-variants.{AlongX, AlongY, AlongZ}
+use Rattle.paper_laws.proofs.Factors.{up-zero}
 use Rattle.paper_laws.proofs.Vectors.{num, vec, x, _*s_, v, _+v_, _*v_, _×v_, _·_, o, vring}
 use Rattle.means_area.specs.Flats.{Up}
 use Rattle.means_inside.specs.Means.{big}
-use Rattle.means_inside.proofs.Scale.{ray-scale}
+use Rattle.means_inside.proofs.Place.{where-times, seen-times}
 use Rattle.means_moves.specs.Moves.{Linear}
-use Rattle.means_moves.proofs.Factors.{up-zero, le-times}
-use Rattle.means_moves.proofs.Corners.{normal-moved, seen-moved, where-moved}
-
--- ---- in the flat: corners, d times as large, and p are k times as large, and turns m times
-
-module _ (p : Flat) (d e k m : ℤ) (hk : Up k) (hm : Up m) (f : Flat → Flat) (corners : (a : Flat) → big e (f a) ≡ big k (big d a))
-    (turns : (a b : Flat) → turn (f a) (f b) (big k p) e ≡ m *ℤ turn a b p d) where
-  spans-times : (a b q : ℤ) → spans (k *ℤ a) (k *ℤ b) (k *ℤ q) ≡ spans a b q
-  unfolding spans
-  spans-times a b q = λ i. le-times k hk a q i && le-times k hk q b i || le-times k hk b q i && le-times k hk q a i
-
-  touches-times : (a b : Flat) → touches (big k p) e (f a) (f b) ≡ touches p d a b
-  unfolding touches between
-  touches-times a b =
-      (λ i. isZero (turns a b i)
-      && (spans (corners a i .u) (corners b i .u) (k *ℤ p .u) && spans (corners a i .v) (corners b i .v) (k *ℤ p .v)))
-      ∙ (λ i. up-zero m hm (turn a b p d) i
-      && (spans-times (d *ℤ a .u) (d *ℤ b .u) (p .u) i && spans-times (d *ℤ a .v) (d *ℤ b .v) (p .v) i))
-
-  under-times : (a : Flat) → under (big k p) e (f a) ≡ under p d a
-  unfolding under
-  under-times a = ap (λ (b : Flat). leZ (b .v) (k *ℤ p .v)) (corners a) ∙ le-times k hk (d *ℤ a .v) (p .v)
-
-  crosses-times : (a b : Flat) → crosses (big k p) e (f a) (f b) ≡ crosses p d a b
-  unfolding crosses
-  crosses-times a b =
-      (λ i. meetsRay (under-times a i) (under-times b i) (turns a b i)) ∙ ray-scale p m hm (under p d a) (under p d b) (turn a b p d)
-
-  where-times : (g : List Flat) → whereFlat (big k p) e (map f g) ≡ whereFlat p d g
-  where-times g =
-      where-moved p (big k p) d e f touches-times g
-      (λ off. ap oddTrue (sides-map (crosses (big k p) e) f g) ∙ (λ i. oddTrue (sides (λ a b. crosses-times a b i) g)))
-
--- ---- in space
-
-seen-times : (a : Axis) (k : ℤ) (p : Point) → seen a (times k p) ≡ big k (seen a p)
-unfolding seen times
-seen-times AlongX k p = refl
-seen-times AlongY k p = refl
-seen-times AlongZ k p = refl
+use Rattle.means_moves.proofs.Corners.{normal-moved, seen-moved}
 
 normal-times : (k : ℤ) (g : Polygon) → normal (map (times k) g) ≡ times (k *ℤ k) (normal g)
 normal-times k =
@@ -111,25 +55,6 @@ lies-times k h d p g =
     go a =
         ap₂ (λ (q : Flat) (l : List Flat). whereFlat q d l) (seen-times a k p) (seen-moved (times k) a a (big k) (seen-times a k) g)
         ∙ where-times (seen a p) d d k (k *ℤ k) h (mul-pos h h) (big k) corners (turns (seen a p)) (map (seen a) g)
-
--- p / d is c p / c d
-pub lies-over : (c : ℤ) → Up c → (d : ℤ) (p : Point) (g : Polygon) → lies (over (times c p) (c *ℤ d)) g ≡ lies (over p d) g
-unfolding lies
-lies-over c h d p g = go (axis (normal g))
-  where
-    corners : (a : Flat) → big (c *ℤ d) a ≡ big c (big d a)
-    corners a = λ i. record { u = *ℤ-assoc c d (a .u) i; v = *ℤ-assoc c d (a .v) i }
-
-    turns : (p a b : Flat) → turn a b (big c p) (c *ℤ d) ≡ c *ℤ turn a b p d
-    turns p a b = unfold turn in
-        ring (c ∷ d ∷ p .u ∷ p .v ∷ a .u ∷ a .v ∷ b .u ∷ b .v ∷ [])
-        ((var 6 ⊖ var 4) ⊗ (var 0 ⊗ var 3 ⊖ var 0 ⊗ var 1 ⊗ var 5) ⊖ (var 7 ⊖ var 5) ⊗ (var 0 ⊗ var 2 ⊖ var 0 ⊗ var 1 ⊗ var 4))
-        (var 0 ⊗ ((var 6 ⊖ var 4) ⊗ (var 3 ⊖ var 1 ⊗ var 5) ⊖ (var 7 ⊖ var 5) ⊗ (var 2 ⊖ var 1 ⊗ var 4))) tt
-
-    go : (a : Axis) → whereFlat (seen a (times c p)) (c *ℤ d) (map (seen a) g) ≡ whereFlat (seen a p) d (map (seen a) g)
-    go a =
-        ap₂ (λ (q : Flat) (l : List Flat). whereFlat q (c *ℤ d) l) (seen-times a c p) (sym (map-id (map (seen a) g)))
-        ∙ where-times (seen a p) d (c *ℤ d) c c h h (λ b. b) corners (turns (seen a p)) (map (seen a) g)
 
 -- the sides of a plane are k x k x k times as far
 unfoldable pub scales : (k : ℤ) → Up k → Linear

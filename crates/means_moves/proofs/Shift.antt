@@ -35,7 +35,7 @@ use Rattle.paper_laws.proofs.Vectors.{num, vec, k as con, x, _+s_, o, v, _+v_, 
 use Rattle.means_moves.specs.Moves.{Move, shift}
 use Rattle.means_moves.proofs.Numbers.{le-shift}
 use Rattle.means_moves.proofs.Factors.{one-up}
-use Rattle.means_moves.proofs.Corners.{where-moved}
+use Rattle.means_inside.proofs.Place.{where-moved}
 
 -- ---- a polygon's normal
 

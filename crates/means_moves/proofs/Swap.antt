@@ -21,7 +21,8 @@ use Rattle.means_inside.proofs.Mirror as Ray
 use Rattle.means_inside.proofs.Scale.{odd-is, any-clear}
 use Rattle.means_inside.proofs.Triangle.{by-ray}
 use Rattle.means_moves.proofs.Numbers.{zero-neg}
-use Rattle.means_moves.proofs.Corners.{round-sides, where-moved}
+use Rattle.means_inside.proofs.Place.{where-moved}
+use Rattle.means_moves.proofs.Corners.{round-sides}
 
 abbrev pub swap : Flat → Flat
 swap a = flat (a .v) (a .u)

@@ -14,7 +14,8 @@ use Rattle.paper_laws.proofs.Points.{origin-yes, origin-is, self-zero}
 use Rattle.means_area.specs.Flats.{Up}
 use Rattle.means_loops.proofs.Planes.{dot-comm as dot-swap}
 use Rattle.means_moves.specs.Moves.{Move}
-use Rattle.means_moves.proofs.Factors.{zero-times, above-times, below-times, overlap-times, cuts-times}
+use Rattle.paper_laws.proofs.Factors.{zero-times, above-times, below-times}
+use Rattle.means_moves.proofs.Factors.{overlap-times, cuts-times}
 
 -- what changes products by a factor takes (0,0,0) to itself, and nothing else there
 pub none-by : (f : Point → Point) (c : ℤ) → Up c → ((p q : Point) → dot (f p) (f q) ≡ c *ℤ dot p q) → (p : Point) → isOrigin (f p) ≡

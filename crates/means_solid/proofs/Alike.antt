@@ -1,6 +1,6 @@
 -- A solid and what names it depend on the digits of its masks alone. Assumes nothing.
 use mathlib.Core.Path.{_≡_, refl, sym, ap, ap₂, subst, _∙_}
-use mathlib.Core.Bool.{Bool, true, false, cond}
+use mathlib.Core.Bool.{Bool, false, cond}
 use mathlib.Core.List.{List, [], _∷_}
 use Prim.Native.Nat.{ℕ, suc}
 use lib.IntN.{ℤ, _+ℤ_}
@@ -9,8 +9,8 @@ use lib.Seq.{ext-getD}
 use Rattle.sets.specs.Word.{dig}
 use Rattle.paper.specs.Drawing.{Wire, Edge, edge, edgeAt}
 use Rattle.paper.specs.Loops.{Loop, loopAt, polygon, flipped}
-use Rattle.paper.specs.Solids.{faceSix}
-use Rattle.means_solid.specs.Solid.{Goes, Runs, InTwo, Way, stay, cross, RunOnce, EachWay, share, sixOf, IsSolid}
+use Rattle.paper.specs.Solids.{faceSix, part}
+use Rattle.means_solid.specs.Solid.{Goes, Runs, InTwo, Way, stay, cross, RunOnce, EachWay, faceSum, sixOf, IsSolid}
 use Rattle.means_solid.specs.Named.{SameRing, directed, Names}
 
 module _ (d : Wire) (cs : List Loop) (taken t u : List Bool) (same : (k : ℕ) → dig t k ≡ dig u k) where
@@ -34,18 +34,10 @@ module _ (d : Wire) (cs : List Loop) (taken t u : List Bool) (same : (k : ℕ) �
   way-to j k (stay f) = stay f
   way-to j k (cross {k = g} w e h p f q) = cross (way-to j g w) e h p f q
 
-  share-to : (b x y : Bool) (z : ℤ) → x ≡ y → share d cs taken t b x z ≡ share d cs taken u b y z
-  share-to b x y z e = ap (λ (w : Bool). share d cs taken t b w z) e ∙ go b y
-    where
-      go : (b y : Bool) → share d cs taken t b y z ≡ share d cs taken u b y z
-      go false y = refl
-      go true false = refl
-      go true true = refl
-
   six-to : (k : ℕ) (ls : List Loop) → sixOf d cs taken t k ls ≡ sixOf d cs taken u k ls
-  unfolding sixOf
+  unfolding faceSum
   six-to k [] = refl
-  six-to k (x ∷ ls) = ap₂ _+ℤ_ (share-to (dig taken k) (dig t k) (dig u k) (faceSix (polygon d x)) (same k)) (six-to (suc k) ls)
+  six-to k (x ∷ ls) = ap₂ (λ (w : Bool) (z : ℤ). part (dig taken k) w (faceSix (polygon d x)) +ℤ z) (same k) (six-to (suc k) ls)
 
   pub solid-to : {six : ℕ} → IsSolid d cs taken t six → IsSolid d cs taken u six
   solid-to s = record {

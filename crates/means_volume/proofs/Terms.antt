@@ -14,11 +14,11 @@ use Rattle.paper.specs.Points.{origin, det}
 use Rattle.paper.specs.Polygon.{Polygon}
 use Rattle.paper.specs.Drawing.{Wire, at}
 use Rattle.paper.specs.Loops.{Loop, polygon}
-use Rattle.paper.specs.Solids.{fan, faceSix}
+use Rattle.paper.specs.Solids.{fan, faceSix, part}
 use Rattle.paper.specs.declared.Point.{Point}
 use Rattle.polygon.specs.Sizes.{PointWithin}
 use Rattle.polygon.proofs.Sizes.{origin-small, det-small}
-use Rattle.means_solid.specs.Solid.{share, sixOf}
+use Rattle.means_solid.specs.Solid.{faceSum, sixOf}
 use Rattle.means_check.proofs.Corners.{over}
 use Rattle.means_volume.specs.Bound.{mostTerm}
 
@@ -59,19 +59,19 @@ abbrev pub terms : Loop → ℕ
 terms l = length l - 2
 
 module _ (d : Wire) (near : (v : ℕ) → PointWithin farthest (at d v)) (cs : List Loop) (taken turned : List Bool) where
-  share-most : (b t : Bool) (n : ℕ) (z : ℤ) → Within (n * mostTerm) z → Within (cond b n 0 * mostTerm) (share d cs taken turned b t z)
-  share-most false t n z h = record { within = omega arith }
-  share-most true false n z h = h
-  share-most true true n z h = within-neg h
+  part-within : (b t : Bool) (n : ℕ) (z : ℤ) → Within (n * mostTerm) z → Within (cond b n 0 * mostTerm) (part b t z)
+  part-within false t n z h = record { within = omega arith }
+  part-within true false n z h = h
+  part-within true true n z h = within-neg h
 
   -- the part of candidate k, whose digit is t
-  abbrev part : ℕ → Loop → ℤ
-  part k l = share d cs taken turned (dig taken k) (dig turned k) (faceSix (polygon d l))
+  abbrev given : ℕ → Loop → ℤ
+  given k l = part (dig taken k) (dig turned k) (faceSix (polygon d l))
 
-  part-most : (k : ℕ) (l : Loop) (t : Bool) → dig taken k ≡ t → Within (cond t (terms l) 0 * mostTerm) (part k l)
+  part-most : (k : ℕ) (l : Loop) (t : Bool) → dig taken k ≡ t → Within (cond t (terms l) 0 * mostTerm) (given k l)
   part-most k l t e =
-      subst (λ (b : Bool). Within (cond b (terms l) 0 * mostTerm) (part k l)) e
-      (share-most (dig taken k) (dig turned k) (terms l) (faceSix (polygon d l)) (loop-most d near l))
+      subst (λ (b : Bool). Within (cond b (terms l) 0 * mostTerm) (given k l)) e
+      (part-within (dig taken k) (dig turned k) (terms l) (faceSix (polygon d l)) (loop-most d near l))
 
   here : {t : Bool} (k : ℕ) → dig taken (k + 0) ≡ t → dig taken k ≡ t
   here k e = let z : k ≡ k + 0 = omega arith in ap (dig taken) z ∙ e
@@ -82,7 +82,7 @@ module _ (d : Wire) (near : (v : ℕ) → PointWithin farthest (at d v)) (cs : L
   -- the candidates from k on, and their part of the mask
   six-most : (ts : List Bool) (k : ℕ) (ls : List Loop) → ((i : ℕ) → dig taken (k + i) ≡ dig ts i)
       → Within (over ts terms ls * mostTerm) (sixOf d cs taken turned k ls)
-  unfolding over sixOf
+  unfolding over faceSum
   six-most [] k [] h = record { within = omega arith }
   six-most (t ∷ ts) k [] h = record { within = omega arith }
   six-most [] k (l ∷ ls) h =

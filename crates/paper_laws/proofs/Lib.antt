@@ -7,6 +7,8 @@ pub mod Rows
 pub mod Vectors
 pub mod Six
 pub mod Points
+pub mod Factors
 pub mod Turned
 pub mod Wires
 pub mod Answers
+pub mod Tests

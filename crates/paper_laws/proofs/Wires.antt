@@ -1,11 +1,15 @@
--- A drawing's points and edges, from the two lists that it is lent as: how many there are, and each of them. Assumes nothing.
+-- A drawing's points and edges, from the two lists that it is lent as, and the corners of a loop: how many there are, and each of them.
+-- Assumes nothing.
 use mathlib.Core.Path.{_≡_, refl}
 use mathlib.Core.List.{List, [], _∷_}
 use Prim.Native.Nat.{ℕ, zero, suc, _+_, _*_, _/_, _<_}
 use native.Mathlib.Omega.{arith}
 use lib.IntN.{ℤ}
-use lib.ListN.{length, getD}
-use Rattle.paper.specs.Drawing.{Edge, edge, pointsOf, edgesOf}
+use lib.ListN.{length, length-map, getD}
+use Rattle.lists.proofs.Places.{map-at}
+use Rattle.paper.specs.Points.{origin}
+use Rattle.paper.specs.Drawing.{Wire, Edge, edge, pointsOf, edgesOf, at}
+use Rattle.paper.specs.Loops.{Loop, polygon}
 
 pub length-points : (l : List ℤ) → length (pointsOf l) ≡ length l / 3
 unfolding pointsOf
@@ -30,3 +34,11 @@ edge-at (a ∷ (b ∷ l)) (suc e) z h =
     let p : 2 * suc e ≡ suc (suc (2 * e)) = omega arith in
     let q : 2 * suc e + 1 ≡ suc (suc (2 * e + 1)) = omega arith in
     rw (q, p) (edge-at l e z (omega arith))
+
+pub polygon-length : (d : Wire) (l : Loop) → length (polygon d l) ≡ length l
+unfolding polygon
+polygon-length d l = length-map l (at d)
+
+pub corner-at : (d : Wire) (l : Loop) (k : ℕ) → k < length l → getD (polygon d l) k origin ≡ at d (getD l k 0)
+unfolding polygon
+corner-at d l k h = map-at (at d) l k 0 origin h

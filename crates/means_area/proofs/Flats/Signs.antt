@@ -108,7 +108,7 @@ same-self {x} n = go (ways x)
     go (inr (inl e)) = absurd (n e)
     go (inr (inr h)) = none h h
 
-twice : (x : ℤ) → negℤ (negℤ x) ≡ x
+pub twice : (x : ℤ) → negℤ (negℤ x) ≡ x
 twice x = ring (x ∷ []) (neg (neg (var 0))) (var 0) tt
 
 pub same-neg : {x y : ℤ} → Same x y → Same (negℤ x) (negℤ y)

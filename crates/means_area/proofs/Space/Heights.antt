@@ -2,13 +2,11 @@
 use mathlib.Core.Path.{_≡_, sym, ap, subst}
 use mathlib.Core.Logic.{_⊎_, inl, inr}
 use mathlib.Core.List.{List, [], _∷_}
-use Prim.Native.Nat.{ℕ, suc}
-use native.Mathlib.Omega.{arith}
+use Prim.Native.Nat.{suc}
 use lib.IntN.{ℤ, pos, negsuc, negℤ, _+ℤ_, _-ℤ_, _*ℤ_}
 use lib.Signed.{≤ℤ-refl}
 use Rattle.exact.proofs.Ring.{var, con, _⊕_, _⊖_, _⊗_, neg, ring}
-use Rattle.exact.proofs.Linear.{le-by, lt-to}
-use Rattle.exact.proofs.Order.{mul-nonneg, add-nonneg}
+use Rattle.exact.proofs.Order.{whole-nonneg, from-one, mul-nonneg, add-nonneg}
 use Rattle.paper.specs.declared.Point.{Point}
 use Rattle.means_area.specs.Rings.{Of}
 use Rattle.means_area.specs.Flats.{Up, Nn}
@@ -18,16 +16,13 @@ size : ℤ → ℤ
 size (pos n) = pos n
 size (negsuc n) = pos (suc n)
 
-nat : (n : ℕ) → Nn (pos n)
-nat n = le-by (pos n ∷ []) (con (pos 0)) (var 0) (omega arith)
-
 size-up : (z : ℤ) → Nn (size z -ℤ z) × Nn (size z +ℤ z) × Nn (size z)
 unfolding size
-size-up (pos n) = (nn-is (ring (pos n ∷ []) (con (pos 0)) (var 0 ⊖ var 0) tt) (≤ℤ-refl (pos 0)), add-nonneg (nat n) (nat n), nat n)
+size-up (pos n) = (nn-is (ring (pos n ∷ []) (con (pos 0)) (var 0 ⊖ var 0) tt) (≤ℤ-refl (pos 0)), add-nonneg (whole-nonneg n) (whole-nonneg n), whole-nonneg n)
 size-up (negsuc n) = (
-  add-nonneg (nat (suc n)) (nat (suc n)),
+  add-nonneg (whole-nonneg (suc n)) (whole-nonneg (suc n)),
   nn-is (ring (pos (suc n) ∷ []) (con (pos 0)) (var 0 ⊖ var 0) tt) (≤ℤ-refl (pos 0)),
-  nat
+  whole-nonneg
       (suc n),
 )
 
@@ -63,9 +58,6 @@ bounded p (q ∷ l) (inr i) =
     )
 
 -- (2 B + 1) a + b is 0 only where a is, for b between -2 B and 2 B
-one-up : (a : ℤ) → Up a → Nn (a -ℤ pos 1)
-one-up a h = let ρ = a ∷ [] in le-by ρ (con (pos 0)) (var 0 ⊖ con (pos 1)) (omega (arith, lt-to ρ (con (pos 0)) (var 0) h))
-
 pub steep : (B a b : ℤ) → Nn B → Nn (B +ℤ B -ℤ b) → Nn (B +ℤ B +ℤ b) → (pos 1 +ℤ B +ℤ B) *ℤ a +ℤ b ≡ pos 0 → a ≡ pos 0
 steep B a b nb lo hi e = go (ways a)
   where
@@ -85,7 +77,7 @@ steep B a b nb lo hi e = go (ways a)
         (up-is
         (ring ρ ((con (pos 1) ⊕ var 0 ⊕ var 0) ⊗ (var 1 ⊖ con (pos 1)) ⊕ (con (pos 1) ⊕ (var 0 ⊕ var 0 ⊕ var 2)))
         ((con (pos 1) ⊕ var 0 ⊕ var 0) ⊗ var 1 ⊕ var 2) tt)
-        (nn-up (mul-nonneg m (one-up a h)) (up-add one hi))))
+        (nn-up (mul-nonneg m (from-one a h)) (up-add one hi))))
     go (inr (inl h)) = h
     go (inr (inr h)) =
         absurd
@@ -93,4 +85,4 @@ steep B a b nb lo hi e = go (ways a)
         (up-is
         (ring ρ ((con (pos 1) ⊕ var 0 ⊕ var 0) ⊗ (neg (var 1) ⊖ con (pos 1)) ⊕ (con (pos 1) ⊕ (var 0 ⊕ var 0 ⊖ var 2)))
         (neg ((con (pos 1) ⊕ var 0 ⊕ var 0) ⊗ var 1 ⊕ var 2)) tt)
-        (nn-up (mul-nonneg m (one-up (negℤ a) h)) (up-add one lo))))
+        (nn-up (mul-nonneg m (from-one (negℤ a) h)) (up-add one lo))))

@@ -1,6 +1,6 @@
 -- "Faces F and G clash if, either way round" A, B or C holds, in words: no test and no search. Assumes nothing.
 -- `planeSide g p` is above, below or at zero as p is on one side of g's plane, on the other, or in it; `lies` says where a point of that
--- plane is, and Geometry what its answers mean.
+-- plane is, and `means_inside` what its answers mean.
 use mathlib.Core.Path.{_≡_}
 use mathlib.Core.Logic.{_⊎_}
 use Prim.Native.Nat.{ℕ, _+_, _<_}
@@ -51,11 +51,15 @@ InAngle n a u b w =
     (Left n (minus b u) (minus a u) × (Left n (minus b u) w × Left n w (minus a u)))
     ⊎ ((Left n (minus b u) (minus a u) → ⊥) × (Left n (minus b u) w ⊎ Left n w (minus a u)))
 
-pub record PointsIn (g : Polygon) (u v : Point) : Type 0 where
+-- u is a corner of g, and to its angle the direction from u to v is so
+pub record AtCorner (So : (n a u b w : Point) → Type 0) (g : Polygon) (u v : Point) : Type 0 where
   pub before : ℕ
   pub here : before < length g
   pub corner : cornerAt g (before + 1) ≡ u
-  pub angle : InAngle (normal g) (cornerAt g before) u (cornerAt g (before + 2)) (minus v u)
+  pub angle : So (normal g) (cornerAt g before) u (cornerAt g (before + 2)) (minus v u)
+
+abbrev pub PointsIn : Polygon → Point → Point → Type 0
+PointsIn = AtCorner InAngle
 
 -- "their planes differ, u and v are two corners of both"
 pub record RuleC (f g : Polygon) : Type 0 where

@@ -6,13 +6,13 @@ use Prim.Native.Nat.{ℕ, _+_, _≤_, _<_}
 use native.Mathlib.Omega.{arith}
 use lib.IntN.{ℤ, pos}
 use lib.Signed.{_<ℤ_}
-use lib.ListN.{length, getD, length-map}
+use lib.ListN.{length, getD}
 use Rattle.lists.specs.Around.{around}
 use Rattle.lists.specs.Lists.{any, sides}
 use Rattle.lists.proofs.Passing.{any-yes, any-is, all-yes, all-is}
 use Rattle.lists.proofs.Sides.{sides-length, sides-around}
 use Rattle.paper.specs.Points.{origin, minus, det, samePoint, isZero, above, below}
-use Rattle.paper.specs.Drawing.{Wire, at}
+use Rattle.paper.specs.Drawing.{Wire}
 use Rattle.paper.specs.Loops.{Loop, polygon}
 use Rattle.paper.specs.Polygon.{Polygon, exactly, normal, planeSide, onePlane, lies, isInside}
 use Rattle.paper.specs.Clash.{opposite, pierced, pierces, enters, angleHolds, inAngle, Side, to, turnsAt, pointsIn, isCorner, bends, folds}
@@ -20,11 +20,12 @@ use Rattle.paper.specs.Clash.{clash}
 use Rattle.paper.specs.declared.Point.{Point}
 use Rattle.paper.specs.declared.Where.{Where}
 use Rattle.paper.specs.declared.Where.the-variants.{Outside, Border, Inside}
+use Rattle.paper_laws.proofs.Wires.{polygon-length}
 use Rattle.paper_laws.proofs.Points.{same-yes, same-is}
 use Rattle.means_clash.proofs.Either.{corner-yes, yes-corner}
-use Rattle.demands.specs.Clash.{cornerAt, Corner, Opposite, piercing, EdgePierces, RuleA, RuleB, InAngle, PointsIn, RuleC, Clash}
-use Rattle.demands.specs.Clash as Clash
-use Rattle.demands.proofs.Tests.{Is, is-ltZ, is-not, is-or, is-and, is-to, is-zero, is-side}
+use Rattle.means_clash.specs.Clash.{cornerAt, Corner, Opposite, piercing, EdgePierces, RuleA, RuleB, InAngle, PointsIn, RuleC, Clash}
+use Rattle.means_clash.specs.Clash as Clash
+use Rattle.paper_laws.proofs.Tests.{Is, is-ltZ, is-not, is-or, is-and, is-to, is-zero, is-side}
 
 -- ---- signs, points, places
 
@@ -237,5 +238,4 @@ module _ (f g : Polygon) (two-f : 2 ≤ length f) (two-g : 2 ≤ length g) where
 
 -- a loop's polygon has as many corners
 pub two-corners : (d : Wire) (l : Loop) → 3 ≤ length l → 2 ≤ length (polygon d l)
-unfolding polygon
-two-corners d l h = omega (arith, length-map l (at d))
+two-corners d l h = omega (arith, polygon-length d l)
