@@ -28,6 +28,11 @@ use Rattle.means_inside.proofs.Loops.{loop-means, loop-not-beyond, loop-convex}
 use Rattle.means_clash.proofs.Either.{clash-either}
 use Rattle.means_loops.proofs.Planes.{dot-comm}
 use Rattle.means_loops.proofs.OwnPlane.{dot-less}
+use Rattle.means_corner.proofs.Loops.{corner-angles}
+use Rattle.means_border.proofs.InSpace.{meets-border}
+use Rattle.means_contact.proofs.Border.{border-meets}
+use Rattle.means_contact.proofs.Common.{within-both}
+use Rattle.means_region.proofs.Winds.{faces-wind}
 use Rattle.means_moves.proofs.Faces.{pierced-on}
 use Rattle.means_clash.specs.Clash.{Opposite}
 use Rattle.demands.specs.Geometry.{pierced, fanRound, Geometry}
@@ -109,6 +114,11 @@ geometry = record {
   on-edge = on-edge;
   in-plane = in-plane;
   either-way = clash-either;
+  corner-angle = corner-angles;
   by-place = by-place;
+  first-border = meets-border;
+  border-meets = border-meets;
+  within-both = within-both;
+  winds = λ d places taken turned six s. faces-wind d places taken turned (record { set = s .set; iii = s .iii });
   any-fan = fan-round;
 }

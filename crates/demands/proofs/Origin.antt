@@ -65,8 +65,8 @@ module _ (p : Point) where
 
 -- ---- a body
 
-any-point : (d : Wire) (cs : List Loop) (taken turned : List Bool) (paths : (k : ℕ) → k < length cs → ClosedPath d (loopAt cs k)) (p : Point)
-    {six : ℕ} → IsSolid d cs taken turned six → sixAbout d cs taken turned p ≡ pos six
+any-point : (d : Wire) (cs : List Loop) (taken turned : List Bool) (paths : (k : ℕ) → k < length cs → ClosedPath d (loopAt cs k))
+    (p : Point) {six : ℕ} → IsSolid d cs taken turned six → sixAbout d cs taken turned p ≡ pos six
 any-point d cs taken turned paths p {six} s =
     let six-at : Loop → ℤ = λ l. faceSix (polygon d l) in
     let at-normal : Loop → ℤ = λ l. dot (minus origin p) (normal (polygon d l)) in

@@ -1,7 +1,7 @@
 -- The geometry's meaning, told in one place: what the tests of the definitions decide, in whole numbers and fractions of them. Rules A, B
 -- and C in words are in `means_clash`, cover is in Cover. Assumes nothing.
 use mathlib.Core.Path.{_≡_}
-use mathlib.Core.Bool.{true, false}
+use mathlib.Core.Bool.{Bool, true, false}
 use mathlib.Core.Logic.{_↔_}
 use mathlib.Core.Option.{none}
 use mathlib.Core.List.{List, _∷_, _++_, map, reverse}
@@ -14,7 +14,7 @@ use Rattle.exact.specs.Sum.{sumOf}
 use Rattle.paper.specs.Points.{plus, times, det}
 use Rattle.paper.specs.Polygon.{Polygon, over, normal, corner, planeSide, axis, seen, whereFlat, lies}
 use Rattle.paper.specs.Drawing.{Wire, onOpen, openMeets, samePlace, edgeMeets}
-use Rattle.paper.specs.Loops.{loops}
+use Rattle.paper.specs.Loops.{loops, candidates}
 use Rattle.paper.specs.Clash.{clash}
 use Rattle.paper.specs.Solids.{faceSix}
 use Rattle.paper.specs.declared.Point.{Point}
@@ -34,6 +34,11 @@ use Rattle.means_inside.specs.Means.{big, Means}
 use Rattle.means_inside.specs.Theorems.{ByPlace}
 use Rattle.means_inside.specs.Convex.{Hand, Convex, Within, NotBeyond}
 use Rattle.means_clash.specs.Clash.{Opposite}
+use Rattle.means_corner.specs.Corners.{CornerAngles}
+use Rattle.means_border.specs.Along.{MeetsBorder}
+use Rattle.means_contact.specs.Contact.{BorderMeets, WithinBoth}
+use Rattle.means_region.specs.Winding.{Winds}
+use Rattle.demands.specs.Solid.{Solid}
 
 -- loop i as `lies` sees it
 abbrev pub seenLoop : Wire → ℕ → List Flat
@@ -82,6 +87,8 @@ pub record Geometry : Type 0 where
       → (p : Flat) → NotBeyond h k (seenLoop d i) p → (Touch p (map (big k) (seenLoop d i)) → ⊥) → whereFlat p k (seenLoop d i) ≡ Inside
   pub convex : (d : Wire) → samePlace d ≡ none → edgeMeets d ≡ none → (i : ℕ) → i < length (loops d) → (h : Hand)
       → Convex h (seenLoop d i) → (k : ℤ) → Up k → (p : Flat) → (whereFlat p k (seenLoop d i) ≡ Inside) ↔ Within h k (seenLoop d i) p
+  -- from a point strictly inside, in a direction of the plane, there is a first border point, and all before it is strictly inside
+  pub first-border : MeetsBorder
   -- A: the piercing point is on the edge, |a| / (|a| + |b|) of the way from p to q and between its ends, and it is in g's plane
   pub on-edge : (p q : Point) (a b : ℤ) → Opposite a b
       → (pos 0 <ℤ pos (natAbs a)) × (pos (natAbs a) <ℤ pos (natAbs a + natAbs b))
@@ -90,5 +97,16 @@ pub record Geometry : Type 0 where
       → OnPlane g (pierced p q (planeSide g p) (planeSide g q)) (pos (natAbs (planeSide g p) + natAbs (planeSide g q)))
   -- "either way round": faces whose corners are in their planes
   pub either-way : (f g : Polygon) → InOwnPlane f → InOwnPlane g → clash f g ≡ clash g f
+  -- C, "points strictly inside the corner angle": of every loop of a drawing that passes 11 and 13, just such a direction from a corner
+  -- leads inside, and one strictly outside the angle leads out
+  pub corner-angle : CornerAngles
+  -- a point strictly inside f and on a side of g: by B or A they clash, or the side is in f's plane; a way between two common corners
+  -- that starts strictly inside both loops: by C they clash
+  pub border-meets : BorderMeets
+  pub within-both : WithinBoth
+  -- the faces of a solid, in their directions, go round each point that is in the plane of none of them a number of times: it is the same
+  -- from every apex, and 0 where all faces are on one side of a plane through the point
+  pub winds : (d : Wire) → samePlace d ≡ none → (taken turned : List Bool) (six : ℕ) → Solid d (candidates d) taken turned six
+      → Winds d (candidates d) taken turned
   -- six volumes of a face is the fan round any point of its plane, so it does not go by the corner that the fan starts from
   pub any-fan : (f : Polygon) (p : Point) → planeSide f p ≡ pos 0 → faceSix f ≡ fanRound p f

@@ -36,7 +36,6 @@ where-moved p q d e f h g odds =
     go false r s same = ap (placed false) (same refl)
 
 -- corners, d times as large, and p are k times as large, and turns m times
-
 module _ (p : Flat) (d e k m : ℤ) (hk : Up k) (hm : Up m) (f : Flat → Flat) (corners : (a : Flat) → big e (f a) ≡ big k (big d a))
     (turns : (a b : Flat) → turn (f a) (f b) (big k p) e ≡ m *ℤ turn a b p d) where
   spans-times : (a b q : ℤ) → spans (k *ℤ a) (k *ℤ b) (k *ℤ q) ≡ spans a b q
@@ -94,4 +93,6 @@ lies-over c h d p g = go (axis (normal g))
 
 pub by-place : ByPlace
 by-place g p q m n um un e =
-    sym (lies-over n un m p g) ∙ ap₂ (λ (r : Point) (z : ℤ). lies (over r z) g) e (ring (n ∷ m ∷ []) (var 0 ⊗ var 1) (var 1 ⊗ var 0) tt) ∙ lies-over m um n q g
+    sym (lies-over n un m p g)
+    ∙ ap₂ (λ (r : Point) (z : ℤ). lies (over r z) g) e (ring (n ∷ m ∷ []) (var 0 ⊗ var 1) (var 1 ⊗ var 0) tt)
+    ∙ lies-over m um n q g
