@@ -9,10 +9,7 @@ pub fn rule_a(f: &[Point], g: &[Point]) -> bool {
         if hp.signum() * hq.signum() != -1 {
             return false;
         }
-        // The piercing point is (hq p - hp q) / (hq - hp); it stays a fraction, with a denominator above zero.
-        let sign = (hq - hp).signum();
-        let numerator = scale(sign, sub(scale(hq, p), scale(hp, q)));
-        let denominator = sign * (hq - hp);
+        let (numerator, denominator) = piercing_point((p, hp), (q, hq));
         lies(g, numerator, denominator) == Lies::Inside
     })
 }

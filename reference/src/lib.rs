@@ -1,5 +1,5 @@
-//! Document 01 in plain Rust: the modules up to `desk` are the clear version, `fast` is the quick one, and `gen`,
-//! `rows`, `trial`, `moves` and `calls` make drawings and cases.
+//! Document 01 in plain Rust: the modules up to `desk` are the clear version, `fast` is the quick one, `gen`, `rows`,
+//! `trial`, `moves` and `calls` make drawings and cases, and `hunt` searches them.
 pub mod bits;
 pub mod check;
 pub mod clash;
@@ -23,6 +23,7 @@ pub mod walk;
 pub mod calls;
 pub mod fast;
 pub mod gen;
+pub mod hunt;
 pub mod moves;
 pub mod rows;
 pub mod trial;

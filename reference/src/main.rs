@@ -68,6 +68,17 @@ reference: document 01 in plain Rust, in a clear version and a fast one; `refere
       in which the axes can lie on the axes), quarter_turn or scaling (by a whole factor)
       --count N              drawings (20000)
       --seed S               (13)
+
+  reference hunt
+      searches generated drawings for solids that bound no region of space. Of each that passes the rules it takes the
+      selections that have (i), (ii) and (v), and asks whether these can be given directions and have a volume, whether
+      a face meets the inside of another, and whether the winding number round points is 0 or 1, the same along every
+      ray, and odd where a ray meets an odd number of faces. Prints of each kind of finding the one with the fewest
+      edges, then the counts; fails where something is found
+      --count N              drawings (10000)
+      --seed S               (1)
+      --without R            a rule left out, to see that something is found then: nothing, A, B, C, or cover, so that
+                             every loop is a candidate (nothing)
 ";
 
 fn main() -> ExitCode {
@@ -92,6 +103,7 @@ fn run(args: Args) -> Result<(), String> {
         Some("trial") => command::trial::trial(&args),
         Some("calls") => command::texts::calls(&args),
         Some("moves") => command::texts::moves(&args),
+        Some("hunt") => command::hunt::hunt(&args),
         Some("ledger") => command::ledger::ledger(&args),
         Some("version") => say(concat!("reference ", env!("CARGO_PKG_VERSION"), "\n")),
         Some("help") | None => say(HELP),

@@ -13,6 +13,13 @@ pub fn height(polygon: &[Point], point: Point) -> i128 {
     dot(normal(polygon), sub(point, polygon[0]))
 }
 
+/// Where the line through two points of different heights pierces the plane. It stays a fraction, with a denominator
+/// above zero.
+pub fn piercing_point((p, hp): (Point, i128), (q, hq): (Point, i128)) -> (Point, i128) {
+    let sign = (hq - hp).signum();
+    (scale(sign, sub(scale(hq, p), scale(hp, q))), sign * (hq - hp))
+}
+
 /// Do two polygons lie in one plane?
 pub fn one_plane(f: &[Point], g: &[Point]) -> bool {
     let n = normal(f);

@@ -2,7 +2,7 @@
 use crate::clash::clash;
 use crate::drawing::{Drawing, Loop};
 use crate::loops::{loop_edges, runs_up};
-use crate::polygon::six_volumes;
+use crate::polygon::{six_volumes, Point};
 use std::cell::RefCell;
 use std::collections::HashMap;
 
@@ -50,6 +50,15 @@ impl<'a> Table<'a> {
 
     /// (ii) to (v) on a set for which (i) holds.
     pub fn test(&self, taken: &[usize]) -> Result<Solid, Fails> {
+        let solid = self.directed(taken)?;
+        if self.any_clash(taken) {
+            return Err(Fails::Clash);
+        }
+        Ok(solid)
+    }
+
+    /// (ii) to (iv), whether faces clash or not.
+    pub fn directed(&self, taken: &[usize]) -> Result<Solid, Fails> {
         let mut turned = self.directions(taken).ok_or(Fails::Joined)?;
         if !self.one_each_way(taken, &turned) {
             return Err(Fails::Directions);
@@ -61,9 +70,6 @@ impl<'a> Table<'a> {
         if six_volumes < 0 {
             turned.iter_mut().for_each(|t| *t = !*t);
             six_volumes = self.six_volumes(taken, &turned);
-        }
-        if self.any_clash(taken) {
-            return Err(Fails::Clash);
         }
         Ok(Solid { taken: taken.to_vec(), turned, six_volumes })
     }
@@ -104,14 +110,18 @@ impl<'a> Table<'a> {
 
     /// Six times the signed volume for these directions.
     pub fn six_volumes(&self, taken: &[usize], turned: &[bool]) -> i128 {
-        let share = |(c, turned): (&usize, &bool)| {
+        self.faces(taken, turned).map(|face| six_volumes(&face)).sum()
+    }
+
+    /// The faces in these directions.
+    pub fn faces<'b>(&'b self, taken: &'b [usize], turned: &'b [bool]) -> impl Iterator<Item = Vec<Point>> + 'b {
+        taken.iter().zip(turned).map(|(c, turned)| {
             let mut face = self.drawing.points(&self.candidates[*c]);
             if *turned {
                 face.reverse();
             }
-            six_volumes(&face)
-        };
-        taken.iter().zip(turned).map(share).sum()
+            face
+        })
     }
 
     /// (v) fails.

@@ -31,14 +31,18 @@ pub fn clean(r: &mut Rng, places: Vec<Place>, edges: usize) -> Drawing {
         all.sort_by_key(|pair| dot(way(pair), way(pair)));
     }
     let mut kept: Vec<(usize, usize)> = vec![];
-    for (a, b) in all {
-        let meets = |other: &(usize, usize)| edges_meet(&places, (a, b), *other);
-        let clear = !kept.iter().any(meets) && !(0..places.len()).any(|v| meets(&(v, v)));
-        if kept.len() < edges && clear {
-            kept.push((a, b));
+    for edge in all {
+        if kept.len() < edges && meets_none(&places, &kept, edge) {
+            kept.push(edge);
         }
     }
     ordered(places, kept)
+}
+
+/// Has an edge no point in common with some others and the places, but for its ends?
+pub fn meets_none(places: &[Place], edges: &[(usize, usize)], edge: (usize, usize)) -> bool {
+    let meets = |other: (usize, usize)| edges_meet(places, edge, other);
+    !edges.iter().any(|other| meets(*other)) && !(0..places.len()).any(|v| meets((v, v)))
 }
 
 /// Spots of a plane, joined by up to so many edges that don't meet.

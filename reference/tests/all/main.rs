@@ -4,6 +4,7 @@ mod common;
 mod errors;
 mod face_lists;
 mod generators;
+mod hunt;
 mod known;
 mod ledger;
 mod moves;
