@@ -19,7 +19,7 @@ use Rattle.means_inside.specs.Means.{big}
 use Rattle.means_inside.proofs.Beams.{above-is, above-no, low-is, low-no, yes-low, no-low}
 use Rattle.means_inside.proofs.Segment.{below-neg}
 use Rattle.means_inside.proofs.Scale.{ray-scale}
-use Rattle.means_border.specs.Along.{further}
+use Rattle.means_corner.specs.Ways.{further}
 use Rattle.means_border.proofs.Side.{across, size, Never, Until, turn-at, hit-miss}
 use Rattle.means_border.proofs.Meets.{hit-there}
 

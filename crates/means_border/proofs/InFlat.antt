@@ -27,7 +27,8 @@ use Rattle.means_inside.proofs.Ears.{off-back}
 use Rattle.means_inside.proofs.Sides.{link-onto, link-next}
 use Rattle.means_inside.proofs.Inside.{Ways, at-border, at-inside, at-outside, ways, touch-border, inside-off, io}
 use Rattle.means_corner.proofs.Corner.{step-chain}
-use Rattle.means_border.specs.Along.{further, FirstFlat, MeetsFlat}
+use Rattle.means_corner.specs.Ways.{further}
+use Rattle.means_border.specs.Along.{FirstFlat, MeetsFlat}
 use Rattle.means_border.proofs.Side.{across, size, Miss, Hit, Never, Until, miss-back}
 use Rattle.means_border.proofs.Meets.{meets}
 use Rattle.means_border.proofs.Least.{Firsts, not-met, met, least}

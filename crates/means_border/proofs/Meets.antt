@@ -14,7 +14,7 @@ use Rattle.means_area.proofs.Flats.Net.{nn0}
 use Rattle.means_area.proofs.Flats.Signs.{up-is, nn-is, up-nn, up-add, nn-up, off, zero-off, ways, which, up-out, nn-out}
 use Rattle.means_inside.specs.Beams.{facing}
 use Rattle.means_inside.specs.Means.{big}
-use Rattle.means_border.specs.Along.{further}
+use Rattle.means_corner.specs.Ways.{further}
 use Rattle.means_border.proofs.Side.{across, ahead, size, Miss, Hit, Never, Side, never, first, left, turn-at, turn-by, face-by}
 use Rattle.means_border.proofs.Side.{side-back}
 

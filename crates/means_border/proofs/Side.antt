@@ -10,7 +10,7 @@ use Rattle.means_area.proofs.Flats.Turns.{uE, vE, tE, flip}
 use Rattle.means_inside.specs.Beams.{facing, Off}
 use Rattle.means_inside.specs.Means.{big}
 use Rattle.means_inside.proofs.Ears.{off-back}
-use Rattle.means_border.specs.Along.{further}
+use Rattle.means_corner.specs.Ways.{further}
 
 module _ (p w : Flat) where
   -- across and along the direction

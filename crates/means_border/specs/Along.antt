@@ -10,6 +10,7 @@ use Rattle.paper.specs.declared.Flat.{Flat}
 use Rattle.paper.specs.declared.Where.the-variants.{Border, Inside}
 use Rattle.means_drawing.specs.Segments.{along}
 use Rattle.means_area.specs.Flats.{Up, Nn}
+use Rattle.means_corner.specs.Ways.{further}
 
 -- From p / n towards q / n, and beyond: the place s / m of the way is along m s p q, divided by m n. The border is first met at s / m,
 -- which is above 0: there it is, and every point from p / n on before it is strictly inside.
@@ -28,9 +29,6 @@ MeetsBorder =
     → dot (normal g) (minus q p) ≡ pos 0 → FirstBorder g p q n
 
 -- the same in the flat, of any list of corners, in the direction w
-abbrev pub further : Flat → Flat → ℤ → ℤ → Flat
-further p w s m = record { u = m *ℤ p .u +ℤ s *ℤ w .u; v = m *ℤ p .v +ℤ s *ℤ w .v }
-
 pub record FirstFlat (g : List Flat) (p : Flat) (d : ℤ) (w : Flat) : Type 0 where
   pub s : ℤ
   pub m : ℤ

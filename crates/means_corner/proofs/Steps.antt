@@ -13,13 +13,14 @@ use Rattle.means_area.proofs.Flats.Turns.{uE, vE, tE, spin, flat-first, flat-se
 use Rattle.means_inside.specs.Regions.{InTriangle, left, right}
 use Rattle.means_inside.specs.Means.{big}
 use Rattle.means_inside.specs.Convex.{Hand, lefts, rights, turned}
+use Rattle.means_corner.specs.Ways.{further}
 use Rattle.means_corner.specs.Corners.{Small}
 use Rattle.means_corner.proofs.Small.{then, stays}
 use Rattle.means_corner.proofs.Cone.{t, Cone, narrow}
 
 -- v + (s / n) (c - v), times n
 abbrev pub step : Flat → Flat → ℕ → ℕ → Flat
-step v c s n = record { u = pos n *ℤ v .u +ℤ pos s *ℤ (c .u -ℤ v .u); v = pos n *ℤ v .v +ℤ pos s *ℤ (c .v -ℤ v .v) }
+step v c s n = further v (record { u = c .u -ℤ v .u; v = c .v -ℤ v .v }) (pos s) (pos n)
 
 -- the turns of such a point
 pub step-turn : (x y v c : Flat) (s n : ℕ)

@@ -1,0 +1,7 @@
+-- A place on a way, in the flat. Assumes nothing.
+use lib.IntN.{ℤ, _+ℤ_, _*ℤ_}
+use Rattle.paper.specs.declared.Flat.{Flat}
+
+-- s / m of the direction w further than p, times m
+abbrev pub further : Flat → Flat → ℤ → ℤ → Flat
+further p w s m = record { u = m *ℤ p .u +ℤ s *ℤ w .u; v = m *ℤ p .v +ℤ s *ℤ w .v }
