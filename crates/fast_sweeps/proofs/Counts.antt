@@ -12,7 +12,8 @@ use Rattle.sets.proofs.Ones.{nil-either}
 use Rattle.sets.proofs.Digits.{less-nil}
 use Rattle.paper.specs.Conversion.{takens}
 use Rattle.paper.specs.Walk.{Status, Taken, Rejected, Undecided, isTaken, isOpen, takenOn, openOn, decideOne, decide, settle, contradicts}
-use Rattle.means_walk.proofs.Status.{opens, count-opens, count-takens}
+use Rattle.means_walk.specs.Lowest.{opens}
+use Rattle.means_walk.proofs.Status.{count-opens, count-takens}
 use Rattle.fast_sweeps.specs.Worklist.{decidedOn}
 
 -- ---- the sets of those taken and of those undecided

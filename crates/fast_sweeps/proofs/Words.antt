@@ -12,7 +12,7 @@ use Rattle.sets.proofs.Numbers.{same-word}
 use Rattle.sets.proofs.Ones.{nil-either}
 use Rattle.paper.specs.Conversion.{takens}
 use Rattle.paper.specs.Walk.{Status, Taken, Rejected, Undecided, isTaken, isOpen}
-use Rattle.means_walk.proofs.Status.{opens}
+use Rattle.means_walk.specs.Lowest.{opens}
 use Rattle.fast_sweeps.specs.Worklist.{after, nextAhead, nextLater}
 use Rattle.fast_sweeps.proofs.Work.{ahead-none, later-none}
 

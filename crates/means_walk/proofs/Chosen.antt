@@ -1,6 +1,6 @@
 -- The walk chooses the lowest undecided candidate of the lowest edge that has one, where every candidate is on an edge. Assumes nothing.
 use mathlib.Core.Bool.{Bool, true, false, _&&_, cond, true≢false}
-use mathlib.Core.List.{List, [], _∷_, map}
+use mathlib.Core.List.{List, [], _∷_}
 use mathlib.Core.Path.{_≡_, refl, sym, ap, _∙_, subst}
 use Prim.Native.Nat.{ℕ, zero, suc, _+_, _<_}
 use native.Mathlib.Omega.{arith}
@@ -10,10 +10,10 @@ use borrow.Author.Tests.{eqb-true, eqb-false}
 use Rattle.lists.proofs.Truth.{and-left, and-right, and-both}
 use Rattle.sets.specs.Word.{dig, count, both, first}
 use Rattle.sets.proofs.Digits.{dig-both, count-none, first-in}
-use Rattle.paper.specs.Walk.{Status, Taken, Rejected, isOpen, takenOn, openOn, openCount, decide, settle, contradicts, Outcome, Broken}
+use Rattle.paper.specs.Walk.{Status, Taken, Rejected, takenOn, openOn, openCount, decide, settle, contradicts, Outcome, Broken}
 use Rattle.paper.specs.Walk.{Stands, sweep, stable, choose}
 use Rattle.means_walk.specs.Tree.{Sweeps, breaks, rests, again, Tree, broken, leaf, branch}
-use Rattle.means_walk.specs.Lowest.{Undecided, On, Lowest, Chooses}
+use Rattle.means_walk.specs.Lowest.{opens, Undecided, On, Lowest, Chooses}
 use Rattle.means_walk.proofs.Status.{count-open, count-opens, open-lt}
 use Rattle.means_walk.proofs.Grown.{sweeps-stable, sweeps}
 
@@ -30,7 +30,7 @@ Covered masks st = (k : ℕ) → Undecided st k → (e : ℕ) × (e < length mas
 
 none-open : (mask : List Bool) (st : List Status) → openOn mask st ≡ 0 → (j : ℕ) → dig mask j ≡ true → Undecided st j → ⊥
 none-open mask st z j h u =
-    count-none (both mask (map isOpen st)) (count-opens mask st ∙ z) j (dig-both mask (map isOpen st) j ∙ and-both h u)
+    count-none (both mask (opens st)) (count-opens mask st ∙ z) j (dig-both mask (opens st) j ∙ and-both h u)
 
 pub choose-lowest : (masks : List (List Bool)) (st : List Status) → Covered masks st → (k : ℕ) → Undecided st k
     → Lowest masks st (choose masks st)
@@ -39,7 +39,7 @@ choose-lowest [] st c k u = absurd (let r = c k u in omega (arith, r .1))
 choose-lowest (mask ∷ masks) st c k u = go (eqb (openOn mask st) 0) refl (choose-lowest masks st)
   where
     go : (b : Bool) → eqb (openOn mask st) 0 ≡ b → (Covered masks st → (k : ℕ) → Undecided st k → Lowest masks st (choose masks st))
-        → Lowest (mask ∷ masks) st (cond b (choose masks st) (first (both mask (map isOpen st))))
+        → Lowest (mask ∷ masks) st (cond b (choose masks st) (first (both mask (opens st))))
     go true e ih =
         let z : openOn mask st ≡ 0 = eqb-true (openOn mask st) 0 e in
         let r = ih (λ j w. rest z j w (c j w)) k u in
@@ -62,17 +62,17 @@ choose-lowest (mask ∷ masks) st c k u = go (eqb (openOn mask st) 0) refl (choo
         below z r zero j h o w = none-open mask st z j o w
         below z r (suc f) j h o w = r .lower-edge f j (omega arith) o w
     go false e ih =
-        let n : count (both mask (map isOpen st)) ≡ 0 → ⊥ = λ z. eqb-false (openOn mask st) 0 e (sym (count-opens mask st) ∙ z) in
-        let m : (dig mask (first (both mask (map isOpen st))) && dig (map isOpen st) (first (both mask (map isOpen st)))) ≡ true
-        = sym (dig-both mask (map isOpen st) (first (both mask (map isOpen st)))) ∙ first-in (both mask (map isOpen st)) n in
+        let n : count (both mask (opens st)) ≡ 0 → ⊥ = λ z. eqb-false (openOn mask st) 0 e (sym (count-opens mask st) ∙ z) in
+        let m : (dig mask (first (both mask (opens st))) && dig (opens st) (first (both mask (opens st)))) ≡ true
+        = sym (dig-both mask (opens st) (first (both mask (opens st)))) ∙ first-in (both mask (opens st)) n in
         record {
           edge = 0;
           here = omega arith;
-          on = and-left (dig mask (first (both mask (map isOpen st)))) (dig (map isOpen st) (first (both mask (map isOpen st)))) m;
+          on = and-left (dig mask (first (both mask (opens st)))) (dig (opens st) (first (both mask (opens st)))) m;
           undecided =
-              and-right (dig mask (first (both mask (map isOpen st)))) (dig (map isOpen st) (first (both mask (map isOpen st)))) m;
+              and-right (dig mask (first (both mask (opens st)))) (dig (opens st) (first (both mask (opens st)))) m;
           lower-edge = λ f j h o w. omega arith;
-          lower = λ j h o w. first-low (both mask (map isOpen st)) j h (dig-both mask (map isOpen st) j ∙ and-both o w);
+          lower = λ j h o w. first-low (both mask (opens st)) j h (dig-both mask (opens st) j ∙ and-both o w);
         }
 
 -- ---- the states of a tree are as long as the first
@@ -115,8 +115,8 @@ stable-long masks st s e =
     let w = sweeps masks (suc (openCount st)) st (omega arith) in
     subst (Long (length st)) (sym (sweeps-stable masks (w .1) (suc (openCount st)) (omega arith)) ∙ e) (sweeps-long (w .1))
 
-some-open : (st : List Status) → (openCount st ≡ 0 → ⊥) → Undecided st (first (map isOpen st))
-some-open st n = first-in (map isOpen st) (λ e. n (sym (count-open st) ∙ e))
+some-open : (st : List Status) → (openCount st ≡ 0 → ⊥) → Undecided st (first (opens st))
+some-open st n = first-in (opens st) (λ e. n (sym (count-open st) ∙ e))
 
 pub tree-chooses : {masks : List (List Bool)} {st : List Status} (n : ℕ) → length st ≡ n
     → ((k : ℕ) → k < n → (e : ℕ) × (e < length masks) × On masks e k) → (t : Tree masks st) → Chooses t
@@ -125,7 +125,7 @@ tree-chooses n l c (broken w) = tt
 tree-chooses n l c (leaf s w z) = tt
 tree-chooses {masks} n l c (branch s w z a b) =
     let m : length s ≡ n = sweeps-long w ∙ l in (
-      choose-lowest masks s (λ k u. c k (subst (λ (x : ℕ). k < x) m (open-lt s k u))) (first (map isOpen s)) (some-open s z),
+      choose-lowest masks s (λ k u. c k (subst (λ (x : ℕ). k < x) m (open-lt s k u))) (first (opens s)) (some-open s z),
       tree-chooses n (length-set s (choose masks s) Taken ∙ m) c a,
       tree-chooses n (length-set s (choose masks s) Rejected ∙ m) c b,
     )

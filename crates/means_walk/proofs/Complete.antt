@@ -12,7 +12,8 @@ use Rattle.sets.specs.Word.{bit, count, both, first}
 use Rattle.paper.specs.Walk.{Status, Taken, Rejected, Undecided, isOpen, takenOn, openOn, openCount}
 use Rattle.paper.specs.Walk.{contradicts, Outcome, Broken, Stands, onStands, stable, choose}
 use Rattle.means_walk.specs.Complete.{allows, agrees, exact, equal, same, times, solutions}
-use Rattle.means_walk.proofs.Status.{opens, count-open, count-opens, count-set}
+use Rattle.means_walk.specs.Lowest.{opens}
+use Rattle.means_walk.proofs.Status.{count-open, count-opens, count-set}
 use Rattle.means_walk.proofs.Settled.{and-both, both-and, stable-agrees, cond-is, Calm, stable-rest}
 
 -- ---- a state with nothing undecided

@@ -11,7 +11,8 @@ use borrow.Author.Tests.{eq-eqb, ne-eqb}
 use Rattle.paper.specs.Walk.{Status, Taken, Rejected, openCount, Outcome, Broken, Stands, onStands, sweep, stable, choose}
 use Rattle.means_walk.specs.Complete.{solutions}
 use Rattle.means_walk.specs.Tree.{Sweeps, breaks, rests, again, Tree, broken, leaf, branch, leaves, Step, assumes, comes, steps}
-use Rattle.means_walk.proofs.Status.{opens, count-set}
+use Rattle.means_walk.specs.Lowest.{opens}
+use Rattle.means_walk.proofs.Status.{count-set}
 use Rattle.means_walk.proofs.Complete.{choose-open}
 use Rattle.means_walk.proofs.Settled.{sweep-fewer, sweep-still, stable-rest}
 

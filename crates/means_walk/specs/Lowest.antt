@@ -8,9 +8,13 @@ use Rattle.sets.specs.Word.{dig}
 use Rattle.paper.specs.Walk.{Status, isOpen, choose}
 use Rattle.means_walk.specs.Tree.{Tree, broken, leaf, branch}
 
+-- the undecided candidates
+abbrev pub opens : List Status → List Bool
+opens = map isOpen
+
 -- candidate k is undecided, and it is on edge e
 abbrev pub Undecided : List Status → ℕ → Type 0
-Undecided st k = dig (map isOpen st) k ≡ true
+Undecided st k = dig (opens st) k ≡ true
 
 abbrev pub On : List (List Bool) → ℕ → ℕ → Type 0
 On masks e k = dig (getD masks e []) k ≡ true

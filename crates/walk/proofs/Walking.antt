@@ -14,7 +14,8 @@ use Rattle.paper.specs.Solids.{Tables}
 use Rattle.paper.specs.Walk.{Status, Taken, Rejected, isOpen, openCount, Outcome, Broken, Stands, stable, choose, Log, assume, leaf, walk, search}
 use Rattle.paper.specs.Conversion.{accepted}
 use Rattle.means_walk.specs.Complete.{exact}
-use Rattle.means_walk.proofs.Status.{opens, count-open}
+use Rattle.means_walk.specs.Lowest.{opens}
+use Rattle.means_walk.proofs.Status.{count-open}
 use Rattle.means_walk.proofs.Settled.{stable-rest}
 use Rattle.means_walk.proofs.Complete.{calm-exact}
 use Rattle.means_walk.proofs.Chosen.{stable-long}

@@ -12,7 +12,8 @@ use Rattle.sets.specs.Sets.{Is, Has, size, Joint, EdgeSet}
 use Rattle.sets.specs.declared.Set.{Set}
 use Rattle.sets.proofs.Digits.{dig-both}
 use Rattle.paper.specs.Walk.{Status, openOn}
-use Rattle.means_walk.proofs.Status.{opens, count-opens}
+use Rattle.means_walk.specs.Lowest.{opens}
+use Rattle.means_walk.proofs.Status.{count-opens}
 use Rattle.fast_sweeps.specs.Worklist.{openFrom}
 use Rattle.fast_sweeps.proofs.Choice.{open-here, open-skip, open-end, lowest-here, lowest-none}
 use Rattle.walk_words.specs.Words.{Masks}

@@ -12,7 +12,8 @@ use Rattle.sets.proofs.Ones.{dig-lt}
 use Rattle.sets.proofs.Sets.{is-digits}
 use Rattle.paper.specs.Conversion.{takens}
 use Rattle.paper.specs.Walk.{Taken, Rejected}
-use Rattle.means_walk.proofs.Status.{opens, open-lt}
+use Rattle.means_walk.specs.Lowest.{opens}
+use Rattle.means_walk.proofs.Status.{open-lt}
 use Rattle.fast_sweeps.proofs.Words.{takens-set-taken, takens-set-rejected, opens-set}
 use Rattle.walk_state.specs.State.{Decided}
 use Rattle.walk_state.specs.declared.State.{State}

@@ -11,7 +11,7 @@ use Rattle.sets.proofs.Digits.{less-nil}
 use Rattle.sets.proofs.Sets.{is-digits, size-is}
 use Rattle.paper.specs.Conversion.{takens}
 use Rattle.paper.specs.Walk.{Status}
-use Rattle.means_walk.proofs.Status.{opens}
+use Rattle.means_walk.specs.Lowest.{opens}
 use Rattle.fast_sweeps.proofs.Counts.{M, L, count-split, many, few, two, exactly, more}
 use Rattle.walk_state.specs.State.{Holds, DecidedAll, Fewer, SettledOn}
 use Rattle.walk_state.specs.declared.State.{State}

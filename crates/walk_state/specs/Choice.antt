@@ -9,7 +9,7 @@ use Rattle.sets.specs.Sets.{Is, Has, size}
 use Rattle.sets.specs.declared.Set.{Set}
 use Rattle.paper.specs.Format.{editionOne}
 use Rattle.paper.specs.Walk.{Status}
-use Rattle.means_walk.proofs.Status.{opens}
+use Rattle.means_walk.specs.Lowest.{opens}
 use Rattle.fast_sweeps.specs.Worklist.{openFrom, lowestOn}
 use Rattle.walk_words.specs.Words.{Masks}
 use Rattle.walk_state.specs.declared.Opening.{Opening}

@@ -8,7 +8,7 @@ use Rattle.sets.specs.Sets.{Is, Minus, size}
 use Rattle.sets.specs.declared.Set.{Set}
 use Rattle.paper.specs.Conversion.{takens}
 use Rattle.paper.specs.Walk.{Status, settle, contradicts}
-use Rattle.means_walk.proofs.Status.{opens}
+use Rattle.means_walk.specs.Lowest.{opens}
 use Rattle.fast_sweeps.specs.Worklist.{decidedOn}
 use Rattle.walk_state.specs.declared.State.{State}
 use Rattle.walk_state.specs.declared.Change.{Change}
