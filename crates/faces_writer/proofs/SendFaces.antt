@@ -5,7 +5,7 @@ use mathlib.Core.List.{List, [], _∷_, _++_, flatMap, append-nil}
 use Prim.Native.Nat.{ℕ, _+_, _≤_, _<_}
 use native.Mathlib.Omega.{arith}
 use lib.ListN.{length}
-use Rattle.pack.specs.Bits.{bits, run, overwrite}
+use Rattle.pack.specs.Bits.{bits, run, overwrite, Put}
 use Rattle.pack.proofs.Laws.{length-bits, length-run}
 use Rattle.pack.proofs.Overwrite.{overwrite-none, overwrite-next}
 use Rattle.lists.specs.Lists.{all, keep}
@@ -16,7 +16,7 @@ use Rattle.paper.specs.Loops.{Loop}
 use Rattle.paper.specs.FaceList.{faceBits, span, solidFaces}
 use Rattle.paper.specs.declared.Format.{Format}
 use Rattle.faces_laws.proofs.Packed.{length-bits-of}
-use Rattle.faces_writer.specs.Send.{way, marked, rowAlone, faceOf, faceAlone, Put, fits, facesBits, listHead}
+use Rattle.faces_writer.specs.Send.{way, marked, rowAlone, faceOf, faceAlone, fits, facesBits, listHead}
 use Rattle.faces_writer.specs.Asked.{Sends, SendsOne}
 use Rattle.faces_writer.proofs.Fits.{way-length, way-fits}
 use Rattle.faces_writer.proofs.Weight.{faceSpan, facesLeft, faces-start, faces-next, faces-end, solid-small}

@@ -5,7 +5,7 @@ use mathlib.Core.Option.{Option, none, some}
 use mathlib.Core.List.{List, [], _∷_, flatMap}
 use Prim.Native.Nat.{ℕ, _+_}
 use lib.ListN.{length, take, drop}
-use Rattle.pack.specs.Bits.{run, overwrite}
+use Rattle.pack.specs.Bits.{Put}
 use Rattle.sets.specs.Word.{digits, dig}
 use Rattle.lists.specs.Lists.{all, keep}
 use Rattle.paper.specs.Numbers.{mostCandidates}
@@ -43,10 +43,6 @@ faceAlone rows taken turned k = keep (marked taken k) (faceOf rows turned k) []
 -- what is said of a list of the faces of a reported solid, and of the room for it
 abbrev pub ofSolid : {A : Type 0} → (List Loop → List ℕ → A) → List ℕ → ℕ → ℕ → List ℕ → A
 ofSolid say rows taken turned room = say (solidFaces rows taken turned) room
-
--- room holds last when these bits are written from bit b on
-abbrev pub Put : List ℕ → List ℕ → ℕ → List ℕ → Type 0
-Put room last b bs = run 8 last ≡ overwrite (run 8 room) b bs
 
 module _ (f : Format) where
   -- a face that a list can have

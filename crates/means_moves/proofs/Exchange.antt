@@ -21,7 +21,8 @@ use Rattle.means_inside.proofs.Axis.{any-axis}
 use Rattle.means_moves.proofs.Factors.{one-up, minus-one, minus-one-real}
 use Rattle.means_moves.proofs.Tests.{none-by, still-by}
 use Rattle.means_moves.proofs.Corners.{normal-moved, seen-moved}
-use Rattle.means_moves.specs.Moves.{Pair, XY, YZ, exchange, HasPlane, OnPlane, Linear}
+use Rattle.paper_laws.specs.Planes.{OnPlane}
+use Rattle.means_moves.specs.Moves.{Pair, XY, YZ, exchange, HasPlane, Linear}
 use Rattle.means_moves.proofs.Swap.{swap, where-swap}
 
 -- what is across two directions
@@ -108,7 +109,7 @@ view YZ AlongX = record { from = AlongX; swapped = true; along = λ p. refl; see
 view YZ AlongY = record { from = AlongZ; swapped = false; along = λ p. refl; sees = λ p. refl }
 view YZ AlongZ = record { from = AlongY; swapped = false; along = λ p. refl; sees = λ p. refl }
 
-pub lies-exchange : (e : Pair) (d : ℤ) → Up d → (p : Point) (g : Polygon) → HasPlane g → OnPlane g d p
+pub lies-exchange : (e : Pair) (d : ℤ) → Up d → (p : Point) (g : Polygon) → HasPlane g → OnPlane g p d
     → lies (over (exchange e p) d) (map (exchange e) g) ≡ lies (over p d) g
 unfolding lies
 lies-exchange e d h p g has on = go (axis (normal (map (exchange e) g))) (axis-real (normal (map (exchange e) g)) turned)

@@ -19,7 +19,8 @@ use Rattle.paper.specs.declared.Where.{Where}
 use Rattle.paper_laws.proofs.Points.{zero-yes}
 use Rattle.paper_laws.proofs.Vectors.{num, vec, k as lit, x as fac, _+s_, _*s_, _·_, o, v as at, _+v_, _-v_, _*v_, vring}
 use Rattle.means_area.specs.Flats.{Up}
-use Rattle.means_moves.specs.Moves.{HasPlane, OnPlane, Move}
+use Rattle.paper_laws.specs.Planes.{OnPlane}
+use Rattle.means_moves.specs.Moves.{HasPlane, Move}
 use Rattle.exact.proofs.Order.{whole-pos}
 use Rattle.paper_laws.proofs.Factors.{zero-times}
 use Rattle.means_moves.proofs.Factors.{one-up, two-up, opposite-times}
@@ -88,12 +89,12 @@ sides-if {A} t f f′ k (a ∷ r) e = go a r (and-left (t a) (all t r) e) (and-r
 
 -- ---- points of a plane: a corner, a midpoint, a piercing point
 
-here-on : (g : Polygon) (p : Point) → planeSide g p ≡ pos 0 → OnPlane g (pos 1) p
+here-on : (g : Polygon) (p : Point) → planeSide g p ≡ pos 0 → OnPlane g p (pos 1)
 unfolding planeSide
 here-on g p e =
     vring (vec (normal g) ∷ vec p ∷ vec (corner g) ∷ []) (at 0 · (at 1 -v (lit (pos 1) *v at 2))) (at 0 · (at 1 -v at 2)) tt ∙ e
 
-half-on : (g : Polygon) (p q : Point) → planeSide g p ≡ pos 0 → planeSide g q ≡ pos 0 → OnPlane g (pos 2) (plus p q)
+half-on : (g : Polygon) (p q : Point) → planeSide g p ≡ pos 0 → planeSide g q ≡ pos 0 → OnPlane g (plus p q) (pos 2)
 unfolding planeSide
 half-on g p q e f =
     vring (vec (normal g) ∷ vec p ∷ vec q ∷ vec (corner g) ∷ []) (at 0 · ((at 1 +v at 2) -v (lit (pos 2) *v at 3)))
@@ -114,8 +115,8 @@ balance (negsuc m) (pos n) e = ring (pos (suc m) ∷ pos n ∷ []) (var 1 ⊗ ne
 balance (negsuc m) (negsuc n) e = absurd (true≢false (sym e))
 
 pub pierced-on : (g : Polygon) (p q : Point) → opposite (planeSide g p) (planeSide g q) ≡ true
-    → OnPlane g (pos (natAbs (planeSide g p) + natAbs (planeSide g q)))
-    (plus (times (pos (natAbs (planeSide g q))) p) (times (pos (natAbs (planeSide g p))) q))
+    → OnPlane g (plus (times (pos (natAbs (planeSide g q))) p) (times (pos (natAbs (planeSide g p))) q))
+    (pos (natAbs (planeSide g p) + natAbs (planeSide g q)))
 unfolding planeSide
 pierced-on g p q e =
     let a = dot (normal g) (minus p (corner g)) in
@@ -196,7 +197,7 @@ module _ (m : Move) where
         up : Up (pos (a + b))
         up = subst (λ (n : ℕ). Up (pos n)) (sym (ap₂ _+_ ea eb)) (opposite-up (planeSide g p) (planeSide g q) e)
 
-        on : OnPlane g (pos (a + b)) (plus (times (pos b) p) (times (pos a) q))
+        on : OnPlane g (plus (times (pos b) p) (times (pos a) q)) (pos (a + b))
         on = (λ i. dot (normal g) (minus (plus (times (pos (eb i)) p) (times (pos (ea i)) q)) (times (pos (ea i + eb i)) (corner g)))) ∙
             pierced-on g p q e
 

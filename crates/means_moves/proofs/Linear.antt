@@ -11,7 +11,8 @@ use Rattle.paper.specs.Polygon.{Polygon, over, normal, corner, lies}
 use Rattle.paper.specs.declared.Point.{Point}
 use Rattle.paper_laws.proofs.Points.{origin-yes, origin-is}
 use Rattle.paper_laws.proofs.Vectors.{vec, k as lit, v, _+v_, _-v_, _*v_, vring}
-use Rattle.means_moves.specs.Moves.{HasPlane, OnPlane, Move, Linear}
+use Rattle.paper_laws.specs.Planes.{OnPlane}
+use Rattle.means_moves.specs.Moves.{HasPlane, Move, Linear}
 use Rattle.means_moves.proofs.Corners.{normal-moved}
 use Rattle.means_moves.proofs.Tests.{still-by, across-none}
 use Rattle.means_moves.proofs.Faces.{moved, one-plane-to}
@@ -60,7 +61,7 @@ has-moved m g h = record {
   plane-holds = one-plane-to m g g ∙ h .plane-holds;
 }
 
-pub on-moved : (m : Move) (d : ℤ) (p : Point) (g : Polygon) → HasPlane g → OnPlane g d p → OnPlane (moved m g) d (m .big d p)
+pub on-moved : (m : Move) (d : ℤ) (p : Point) (g : Polygon) → HasPlane g → OnPlane g p d → OnPlane (moved m g) (m .big d p) d
 on-moved m d p [] h on = absurd (h .normal-real (unfold normal in refl))
 on-moved m d p (a ∷ r) h on =
     unfold corner in

@@ -7,7 +7,7 @@ use lib.IntN.{ℤ, pos, negℤ, _*ℤ_}
 use Rattle.paper.specs.Points.{pt, origin, plus, minus, times, dot, cross}
 use Rattle.paper.specs.Polygon.{Polygon, over, normal, corner, lies}
 use Rattle.paper.specs.declared.Point.{Point}
-use Rattle.paper_laws.specs.Planes.{InOwnPlane}
+use Rattle.paper_laws.specs.Planes.{InOwnPlane, OnPlane}
 use Rattle.means_area.specs.Flats.{Up}
 
 abbrev pub shift : Point → Point → Point
@@ -42,13 +42,10 @@ abbrev pub oddly : List Step → Bool
 oddly [] = false
 oddly (s ∷ ss) = not (oddly ss)
 
--- a polygon with a normal, and all its corners in the plane across it; p / d is in that plane
+-- a polygon with a normal, and all its corners in the plane across it
 pub record HasPlane (g : Polygon) : Type 0 where
   pub normal-real : normal g ≡ origin → ⊥
   pub plane-holds : InOwnPlane g
-
-abbrev pub OnPlane : Polygon → ℤ → Point → Type 0
-OnPlane g d p = dot (normal g) (minus p (times d (corner g))) ≡ pos 0
 
 -- What every test of the geometry goes by. A point p goes to `to p` and, of a point p / d, the numerator to `big d p`; a direction goes
 -- `along`, and what is across two directions `across`.
@@ -76,7 +73,7 @@ pub record Move : Type 0 where
   pub mixed : (a b : ℕ) (p q : Point)
       → plus (times (pos b) (to p)) (times (pos a) (to q)) ≡ big (pos (a + b)) (plus (times (pos b) p) (times (pos a) q))
   pub ways : (d : ℤ) (p q : Point) → minus (big d p) (times d (to q)) ≡ along (minus p (times d q))
-  pub places : (d : ℤ) → Up d → (p : Point) (g : Polygon) → HasPlane g → OnPlane g d p
+  pub places : (d : ℤ) → Up d → (p : Point) (g : Polygon) → HasPlane g → OnPlane g p d
       → lies (over (big d p) d) (map to g) ≡ lies (over p d) g
 
 -- what of it is to be known of a move that leaves (0,0,0) where it is and takes sums to sums
@@ -96,5 +93,5 @@ pub record Linear : Type 0 where
   pub across-sums : (p q : Point) → plus (across p) (across q) ≡ across (plus p q)
   pub cross-dots : (p q : Point) → dot (across p) (across q) ≡ crosses-by *ℤ dot p q
   pub sides : (n p : Point) → dot (across n) (to p) ≡ sides-by *ℤ dot n p
-  pub places : (d : ℤ) → Up d → (p : Point) (g : Polygon) → HasPlane g → OnPlane g d p
+  pub places : (d : ℤ) → Up d → (p : Point) (g : Polygon) → HasPlane g → OnPlane g p d
       → lies (over (to p) d) (map to g) ≡ lies (over p d) g

@@ -1,3 +1,3 @@
 -- What contracts of this crate cite beside the paper. Assumes nothing.
 pub mod Asked
-pub mod Put
+pub mod Room

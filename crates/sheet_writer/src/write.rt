@@ -2,12 +2,12 @@
 ghost use mathlib.Core.Path.{_≡_};
 ghost use mathlib.Core.Bool.{false};
 ghost use mathlib.Core.List.{map};
-ghost use Rattle.pack.specs.Bits.{run};
+ghost use Rattle.pack.specs.Bits.{run, Put};
 ghost use Rattle.paper.specs.Format.{coordinateBits, onSheet, headBits};
 ghost use Rattle.paper.specs.Sheet.{far, writtenOf, roomOf};
 ghost use Rattle.sheet_shape.specs.Narrow.{Narrow};
 ghost use Rattle.sheet_writer.specs.Asked.{Coordinates, Numbers, HeadRoom, Writable};
-ghost use Rattle.sheet_writer.specs.Put.{Put, sheetIn};
+ghost use Rattle.sheet_writer.specs.Room.{sheetIn};
 use drawing_lists::lend::lent;
 use paper::Answer;
 use paper::Format;

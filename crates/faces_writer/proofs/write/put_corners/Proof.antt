@@ -4,10 +4,10 @@ use mathlib.Core.List.{List}
 use Prim.Native.Nat.{ℕ, _≤_, _-_, _*_, _+_}
 use lib.ListN.{length, take}
 use lib.Seq.{take-all}
-use Rattle.pack.specs.Bits.{bits, run, overwrite}
+use Rattle.pack.specs.Bits.{bits, run, overwrite, Put}
 use Rattle.pack.proofs.Laws.{slot, length-run}
 use Rattle.pack.proofs.Overwrite.{overwrite-none, put-next, run-none}
-use Rattle.faces_writer.specs.Send.{cornersAt, way, Put}
+use Rattle.faces_writer.specs.Send.{cornersAt, way}
 use Rattle.faces_reader.proofs.Brief.{corners-small}
 use Rattle.faces_writer.proofs.Fits.{way-length}
 use Rattle.faces_writer.proofs.RowAt.{length-corners}

@@ -8,12 +8,11 @@ use lib.IntN.{ℤ, pos}
 use mir.Syntax.{w64}
 use mir.Val.{toZ, ofZ}
 use mir.ValLaws.{toZ-ofZ}
-use Rattle.pack.specs.Bits.{bits, run, overwrite}
+use Rattle.pack.specs.Bits.{bits, run, overwrite, Put}
 use Rattle.pack.proofs.Laws.{length-run}
 use Rattle.pack.proofs.Overwrite.{overwrite-none, put-next, run-none}
 use Rattle.paper.specs.Format.{coordinateBits, onSheet}
 use native.Mathlib.Omega.{arith}
-use Rattle.sheet_writer.specs.Put.{Put}
 use Rattle.sheet_writer.proofs.write.put_coordinates.Statement.{statement}
 use Rattle.sheet_writer.proofs.write.put_coordinates.Tie as tie
 

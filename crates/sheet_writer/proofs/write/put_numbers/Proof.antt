@@ -4,11 +4,10 @@ use mathlib.Core.List.{List}
 use Prim.Native.Nat.{ℕ, _≤_, _-_, _*_, _+_}
 use lib.ListN.{length, getD, take}
 use lib.Seq.{take-all}
-use Rattle.pack.specs.Bits.{bits, run, overwrite}
+use Rattle.pack.specs.Bits.{bits, run, overwrite, Put}
 use Rattle.pack.proofs.Laws.{slot, length-run}
 use Rattle.pack.proofs.Overwrite.{overwrite-none, put-next, run-none}
 use native.Mathlib.Omega.{arith}
-use Rattle.sheet_writer.specs.Put.{Put}
 use Rattle.sheet_writer.proofs.write.put_numbers.Statement.{statement}
 use Rattle.sheet_writer.proofs.write.put_numbers.Tie as tie
 
