@@ -8,7 +8,7 @@ mod plain;
 mod proved;
 mod stack;
 
-use nibgravel_reference::drawing::{Drawing, Source};
+use nibgravel_reference::drawing::Drawing;
 use nibgravel_reference::fast;
 use nibgravel_reference::gen::growing::{growing, size};
 use nibgravel_reference::gen::named::named;
@@ -16,6 +16,7 @@ use nibgravel_reference::gen::rng::Rng;
 use nibgravel_reference::gen::sheets::{changed, counted_drawing};
 use nibgravel_reference::numbers::*;
 use nibgravel_reference::sheet::pack_sheet;
+use nibgravel_reference::source::Source;
 use plain::*;
 use proved::*;
 use std::hint::black_box;

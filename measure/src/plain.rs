@@ -1,7 +1,7 @@
 //! The stages by the reference's fast version.
 use crate::proved::Rooms;
 use nibgravel_reference::convert::Answer;
-use nibgravel_reference::drawing::Source;
+use nibgravel_reference::source::Source;
 use nibgravel_reference::fast;
 use nibgravel_reference::numbers::MOST_WORK;
 

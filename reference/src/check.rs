@@ -1,11 +1,12 @@
 //! The face-list check: the drawing rules, then 20 to 27.
 use crate::clash::clash;
 use crate::convert::{drawing_rules, Passed};
-use crate::drawing::{Drawing, Loop, Source};
+use crate::drawing::{Drawing, Loop};
 use crate::face_list::read_faces;
 use crate::loops::{loop_edges, normal_form, runs_up};
 use crate::numbers::*;
 use crate::polygon::{six_volumes, Point};
+use crate::source::Source;
 use std::collections::HashSet;
 
 pub fn check(source: Source, list: &[u8]) -> Result<(), Refusal> {

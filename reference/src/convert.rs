@@ -1,10 +1,11 @@
 //! Conversion: refusals 1 to 19 and the report.
 use crate::cover::find_candidates;
-use crate::drawing::{Drawing, Loop, Source};
+use crate::drawing::{Drawing, Loop};
 use crate::loops::find_loops;
 use crate::numbers::*;
 use crate::rules::rules_11_to_14;
 use crate::solids::{Solid, Table};
+use crate::source::Source;
 use crate::walk::{walk, End};
 
 #[derive(Clone, Copy, Debug, PartialEq, Eq)]

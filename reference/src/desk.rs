@@ -1,8 +1,8 @@
 //! The desk program's text for one sheet.
 use crate::convert::{convert, Answer};
-use crate::drawing::Source;
 use crate::numbers::*;
 use crate::sheet::read_sheet;
+use crate::source::Source;
 
 pub type Converter = fn(Source, u64, &mut [u8], &mut [u64]) -> Answer;
 

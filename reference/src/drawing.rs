@@ -1,7 +1,5 @@
-//! The drawing, a loop of it, and the two ways in which a drawing is lent.
-use crate::numbers::Refusal;
+//! The drawing, and a loop of it.
 use crate::polygon::Point;
-use crate::sheet::{read_lists, read_sheet};
 
 /// Vertices with whole coordinates, edges as pairs of vertex numbers.
 #[derive(Clone, Debug, PartialEq, Eq)]
@@ -26,22 +24,5 @@ impl Drawing {
     pub fn lists(&self) -> (Vec<i64>, Vec<i64>) {
         let ends = self.edges.iter().flat_map(|(a, b)| [*a as i64, *b as i64]);
         (self.vertices.iter().flatten().copied().collect(), ends.collect())
-    }
-}
-
-#[derive(Clone, Copy, Debug)]
-pub enum Source<'a> {
-    Sheet(&'a [u8]),
-    /// Coordinates and ends.
-    Lists(&'a [i64], &'a [i64]),
-}
-
-impl Source<'_> {
-    /// Refusals 3 to 10, as far as they arise.
-    pub fn read(self) -> Result<Drawing, Refusal> {
-        match self {
-            Source::Sheet(sheet) => read_sheet(sheet),
-            Source::Lists(xyz, ends) => read_lists(xyz, ends),
-        }
     }
 }

@@ -1,9 +1,9 @@
 //! The ledger of a folder: a line of CSV for each of its sheets, as the command for people has to write it.
 use crate::convert::Answer;
 use crate::desk::Converter;
-use crate::drawing::Source;
 use crate::numbers::*;
 use crate::reading::{reading, Reading};
+use crate::source::Source;
 use std::fs;
 use std::io;
 use std::path::Path;

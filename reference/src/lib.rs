@@ -16,6 +16,7 @@ pub mod reading;
 pub mod rules;
 pub mod sheet;
 pub mod solids;
+pub mod source;
 pub mod subsets;
 pub mod vector;
 pub mod walk;

@@ -5,11 +5,11 @@ use crate::clash::clash;
 use crate::convert::{convert, Answer};
 use crate::cover::{find_candidates, polygon_covers};
 use crate::desk::desk;
-use crate::drawing::{Drawing, Loop, Source};
+use crate::drawing::{Drawing, Loop};
 use crate::face_list::{pack_faces, read_faces};
 use crate::fast;
 use crate::gen::extreme_lists::extreme_lists;
-use crate::gen::extremes::{extreme_drawings, extreme_sheets};
+use crate::gen::extremes::{extreme_sheets, sheets_at_limits};
 use crate::gen::limits::{all_but_three, faces_with, flat_128, flat_129, nine_solids};
 use crate::gen::lists::{any_list, from_any_corners, sent_solids};
 use crate::gen::named::named;
@@ -21,6 +21,7 @@ use crate::numbers::*;
 use crate::rows::{aimed, sheet_to_read, Order};
 use crate::rules::rules_11_to_14;
 use crate::sheet::{pack_sheet, read_sheet, sheet_length, write_sheet};
+use crate::source::Source;
 use crate::vector::{cross, dot, sub};
 
 /// Standard input and standard output.
@@ -170,14 +171,6 @@ pub fn walks(seed: u64, count: u64) -> Trial {
         trial.walked(&sheet, limits[k as usize % limits.len()]);
     }
     trial
-}
-
-/// Sheets at the ends of what is refused: the extreme ones, drawings with each of 11 to 14 at its first and last place, and those at the
-/// limits of 15, 16 and 18.
-pub fn sheets_at_limits() -> Vec<Vec<u8>> {
-    let limits = [flat_128(), flat_129(), all_but_three(false), all_but_three(true), nine_solids()];
-    let drawings = extreme_drawings().into_iter().chain(limits);
-    extreme_sheets().into_iter().chain(drawings.map(|d| pack_sheet(&d))).collect()
 }
 
 /// Sheets at the desk: those at the limits, the named ones, and generated ones of every sort.

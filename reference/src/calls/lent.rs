@@ -1,11 +1,12 @@
 //! What calls lend: drawings, and rooms of good and bad lengths.
 use super::stream::{Entry, Room, Stream};
-use crate::drawing::{Drawing, Source};
+use crate::drawing::Drawing;
 use crate::gen::rng::Rng;
 use crate::gen::sheets::{changed, counted_drawing};
 use crate::moves::{Converted, Move};
 use crate::numbers::{FACE_ROOM, SOLID_ROOM};
 use crate::sheet::{pack_sheet, read_sheet, write_sheet};
+use crate::source::Source;
 
 /// A drawing as it is lent.
 pub enum Lent {

@@ -1,6 +1,6 @@
 //! Face lists for calls of the check: any list of the corpus, and solids in any order and from any corner, as they are or spoiled at
 //! their first or last face.
-use crate::drawing::{Drawing, Loop, Source};
+use crate::drawing::{Drawing, Loop};
 use crate::face_list::{pack_faces, read_faces};
 use crate::fast::check;
 use crate::gen::bodies::dented;
@@ -10,6 +10,7 @@ use crate::gen::lists::{any_list, from_any_corners, sent_solids, LIMIT};
 use crate::gen::maker::ordered;
 use crate::gen::rng::Rng;
 use crate::numbers::*;
+use crate::source::Source;
 
 /// Often a drawing some of whose selections are in pieces, or inward, or have faces that clash.
 pub fn bodies_for(r: &mut Rng, turn: usize) -> Option<Drawing> {

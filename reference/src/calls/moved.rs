@@ -1,8 +1,8 @@
 //! Calls with moved drawings. What each must return and leave behind is told from what the fast version says of the drawing unmoved; what
 //! the clear version says of the moved one must be the same.
+use super::case::{named_drawings, Case, CHECK, CHECK_SHEET, CONVERT, CONVERT_SHEET, MOST_CALLED_WORK};
 use super::lent::{Lent, Rooms};
 use super::stream::Stream;
-use super::{named_drawings, Case, CHECK, CHECK_SHEET, CONVERT, CONVERT_SHEET, MOST_CALLED_WORK};
 use crate::check::check;
 use crate::convert::{convert, Answer};
 use crate::desk::Converter;

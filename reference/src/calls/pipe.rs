@@ -1,17 +1,17 @@
 //! Requests of the program that answers over a pipe, each with its reply; docs/PIPE.md has their form.
+use super::case::{named_drawings, Case, LONGEST_SHEET};
 use super::lent::{bytes, Lent};
 use super::said::{refused, said, written};
-use super::{named_drawings, Case, LONGEST_SHEET};
 use crate::check::check;
 use crate::convert::convert;
 use crate::desk::desk;
-use crate::drawing::Source;
 use crate::face_list::send_solid;
+use crate::gen::extremes::sheets_at_limits;
 use crate::gen::rng::Rng;
 use crate::numbers::*;
 use crate::reading::{reading, Reading};
 use crate::sheet::{read_sheet, write_sheet};
-use crate::trial::sheets_at_limits;
+use crate::source::Source;
 
 /// What the program is asked for.
 const WHO: u8 = 0;

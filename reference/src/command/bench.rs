@@ -2,7 +2,6 @@
 use super::args::{say, Args};
 use nibgravel_reference::convert::{convert, Answer};
 use nibgravel_reference::desk::Converter;
-use nibgravel_reference::drawing::Source;
 use nibgravel_reference::fast;
 use nibgravel_reference::gen::growing::growing;
 use nibgravel_reference::gen::named::named;
@@ -10,6 +9,7 @@ use nibgravel_reference::gen::rng::Rng;
 use nibgravel_reference::gen::sheets::{changed, counted_drawing};
 use nibgravel_reference::numbers::*;
 use nibgravel_reference::sheet::pack_sheet;
+use nibgravel_reference::source::Source;
 use std::hint::black_box;
 use std::time::Instant;
 

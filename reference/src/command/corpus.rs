@@ -2,12 +2,12 @@
 use super::args::Args;
 use nibgravel_reference::check::verdict;
 use nibgravel_reference::desk::desk;
-use nibgravel_reference::drawing::Source;
 use nibgravel_reference::gen::lists::any_list;
 use nibgravel_reference::gen::named::named;
 use nibgravel_reference::gen::rng::Rng;
 use nibgravel_reference::gen::sheets::any_sheet;
 use nibgravel_reference::sheet::pack_sheet;
+use nibgravel_reference::source::Source;
 use std::fs;
 use std::path::Path;
 

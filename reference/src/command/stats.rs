@@ -3,12 +3,12 @@ use super::args::{say, Args};
 use nibgravel_reference::check::check;
 use nibgravel_reference::convert::{convert, Answer};
 use nibgravel_reference::desk::Converter;
-use nibgravel_reference::drawing::Source;
 use nibgravel_reference::fast;
 use nibgravel_reference::gen::lists::any_list;
 use nibgravel_reference::gen::rng::Rng;
 use nibgravel_reference::gen::sheets::any_sheet;
 use nibgravel_reference::numbers::*;
+use nibgravel_reference::source::Source;
 use std::collections::BTreeMap;
 
 #[derive(Default)]

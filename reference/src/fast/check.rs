@@ -3,10 +3,10 @@ use super::clash::clashes;
 use super::drawing::{field, fill, Drawing};
 use super::flat::six_volumes;
 use super::loops::{EdgeNumbers, Loop, LONGEST, NO_EDGE};
+use super::passed::{drawing_rules, Passed};
 use super::sets::first;
-use super::{drawing_rules, Passed};
-use crate::drawing::Source;
 use crate::numbers::*;
+use crate::source::Source;
 
 /// A face of the list, in its own direction.
 struct Face {

@@ -1,6 +1,6 @@
 //! The drawing in fixed arrays: refusals 3 to 10.
-use crate::drawing::Source;
 use crate::numbers::*;
+use crate::source::Source;
 
 pub type Point = [i64; 3];
 

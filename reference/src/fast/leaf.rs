@@ -1,8 +1,8 @@
 //! The end of a branch: tests (ii) to (v) on the set taken, and the words of the solids found.
 use super::clash::clashes;
+use super::passed::Passed;
 use super::sets::{first, Members};
 use super::tables::Tables;
-use super::Passed;
 use crate::numbers::SOLID_ROOM;
 
 pub struct Leaf<'a> {

@@ -6,6 +6,7 @@ mod drawing;
 mod flat;
 mod leaf;
 mod loops;
+mod passed;
 mod rules;
 mod sets;
 mod tables;
@@ -17,32 +18,15 @@ pub use cover::candidates;
 pub use drawing::Drawing;
 pub use leaf::Leaf;
 pub use loops::{find_loops, Loop};
+pub use passed::{drawing_rules, Passed};
 pub use rules::edges_meet;
 pub use sets::Members;
 pub use tables::Tables;
 pub use walk::{End, Walk};
 
 use crate::convert::Answer;
-use crate::drawing::Source;
 use crate::numbers::*;
-
-/// What the drawing rules, 3 to 16, let through.
-pub struct Passed {
-    pub drawing: Drawing,
-    pub loops: Vec<Loop>,
-    pub candidates: Vec<Loop>,
-}
-
-pub fn drawing_rules(source: Source) -> Result<Passed, Refusal> {
-    let drawing = Drawing::read(source)?;
-    drawing.rules_11_to_14()?;
-    let Some(loops) = find_loops(&drawing) else { return refuse(MANY_LOOPS, 0) };
-    let candidates = candidates(&drawing, &loops);
-    if candidates.len() > MOST_CANDIDATES {
-        return refuse(MANY_CANDIDATES, 0);
-    }
-    Ok(Passed { drawing, loops, candidates })
-}
+use crate::source::Source;
 
 pub fn convert(source: Source, limit: u64, face_room: &mut [u8], solid_room: &mut [u64]) -> Answer {
     convert_most(MOST_SOLIDS, source, limit, face_room, solid_room)

@@ -4,10 +4,11 @@ use super::known::cube;
 use super::limits::{based_on, faces_with};
 use super::lists::{sent_solids, LIMIT};
 use super::maker::{complete, ordered, pairs, Place};
-use crate::drawing::{Drawing, Loop, Source};
+use crate::drawing::{Drawing, Loop};
 use crate::face_list::pack_faces;
 use crate::numbers::*;
 use crate::sheet::pack_sheet;
+use crate::source::Source;
 
 /// A point on the axis of the double pyramid. No two corners of its ring are in line with the axis.
 fn on_axis(z: i64) -> Place {

@@ -3,6 +3,7 @@
 //! or of their edges.
 use super::damage::put;
 use super::known::tetrahedron;
+use super::limits::{all_but_three, flat_128, flat_129, nine_solids};
 use super::maker::pairs;
 use crate::drawing::Drawing;
 use crate::numbers::*;
@@ -93,4 +94,12 @@ pub fn extreme_drawings() -> [Drawing; 8] {
         bodies(&both, 50),
         path(29, &[(30, 31)]),
     ]
+}
+
+/// Sheets at the ends of what is refused: the extreme ones, drawings with each of 11 to 14 at its first and last place, and those at the
+/// limits of 15, 16 and 18.
+pub fn sheets_at_limits() -> Vec<Vec<u8>> {
+    let limits = [flat_128(), flat_129(), all_but_three(false), all_but_three(true), nine_solids()];
+    let drawings = extreme_drawings().into_iter().chain(limits);
+    extreme_sheets().into_iter().chain(drawings.map(|d| pack_sheet(&d))).collect()
 }

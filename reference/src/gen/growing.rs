@@ -5,9 +5,10 @@ use super::bodies::{box_chain, octahedron_chain, prism};
 use super::flat::convex;
 use super::maker::complete;
 use crate::convert::Answer;
-use crate::drawing::{Drawing, Source};
+use crate::drawing::Drawing;
 use crate::fast;
 use crate::numbers::*;
+use crate::source::Source;
 
 /// The members of each family in turn, with names as `boxes_7`.
 pub fn growing() -> Vec<(String, Drawing)> {

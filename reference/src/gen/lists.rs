@@ -2,10 +2,11 @@
 use super::rng::Rng;
 use super::sheets::flipped;
 use crate::convert::Answer;
-use crate::drawing::{Loop, Source};
+use crate::drawing::Loop;
 use crate::face_list::{pack_faces, solid_faces};
 use crate::fast::{self, convert, drawing_rules, Members, Passed, Tables, Walk};
 use crate::numbers::*;
+use crate::source::Source;
 use crate::vector::sides;
 
 /// Of the work of drawings whose solids are sent.

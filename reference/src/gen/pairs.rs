@@ -3,8 +3,8 @@ use super::flat::{star, Spot};
 use super::maker::Place;
 use super::rng::Rng;
 use super::sheets::counted_drawing;
-use crate::drawing::Source;
 use crate::fast;
+use crate::source::Source;
 use crate::vector::{add, cross, scale, sub};
 
 type Polygon = Vec<Place>;

@@ -4,10 +4,11 @@ use super::maker::{Maker, Place};
 use super::pairs::any_pair;
 use super::rng::Rng;
 use super::sheets::{changed, counted_drawing};
-use crate::drawing::{Drawing, Loop, Source};
+use crate::drawing::{Drawing, Loop};
 use crate::fast;
 use crate::numbers::*;
 use crate::sheet::pack_sheet;
+use crate::source::Source;
 
 /// Can a sheet hold it?
 fn fits(d: &Drawing) -> bool {

@@ -68,7 +68,7 @@ impl Hunt {
             let findings = questions::ask(&table, taken, &mut r, &mut self.tally);
             self.tally.findings += !findings.is_empty() as u64;
             for finding in findings {
-                self.keep(finding, Example { case, drawing: drawing.clone(), faces: loops(&table, taken) });
+                self.keep(finding, Example { case, drawing: drawing.clone(), faces: questions::loops(&table, taken) });
             }
         }
     }
@@ -81,10 +81,6 @@ impl Hunt {
             found.smallest = example;
         }
     }
-}
-
-fn loops(table: &Table, taken: &[usize]) -> Vec<Loop> {
-    taken.iter().map(|c| table.candidates[*c].clone()).collect()
 }
 
 impl fmt::Display for Hunt {

@@ -1,9 +1,9 @@
 //! What is asked of a selection, and what can be found.
-use super::loops;
 use super::pinched::pinched;
 use super::tally::Tally;
 use super::touch::{touch, Touch};
 use super::winding::{faces_met, winding, Ray};
+use crate::drawing::Loop;
 use crate::gen::rng::Rng;
 use crate::polygon::Point;
 use crate::solids::{Fails, Table};
@@ -70,6 +70,10 @@ pub fn ask(table: &Table, taken: &[usize], r: &mut Rng, tally: &mut Tally) -> BT
     let mut findings = ask_points(&faces, r, tally);
     findings.extend(first_touch(&faces).map(Finding::Meets));
     findings
+}
+
+pub fn loops(table: &Table, taken: &[usize]) -> Vec<Loop> {
+    taken.iter().map(|c| table.candidates[*c].clone()).collect()
 }
 
 fn first_touch(faces: &[Vec<Point>]) -> Option<Touch> {

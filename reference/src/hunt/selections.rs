@@ -1,9 +1,10 @@
 //! The selections of a drawing that have (i) and (v), by document 01 or with one of its rules left out.
 use crate::clash::{rule_a, rule_b, rule_c};
-use crate::drawing::{Drawing, Loop, Source};
+use crate::drawing::{Drawing, Loop};
 use crate::fast::{self, End, Members, Passed, Tables, Walk};
 use crate::numbers::*;
 use crate::polygon::Point;
+use crate::source::Source;
 
 /// A drawing's walk ends after so many assumptions, or at one more selection with (i) and (v) than these.
 const MOST_WALKED: u64 = 3_000;

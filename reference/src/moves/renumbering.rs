@@ -1,5 +1,5 @@
 //! What stays of a conversion when vertices get new numbers and edges are sorted again.
-use super::Converted;
+use super::converted::Converted;
 use crate::convert::Answer;
 use crate::drawing::Loop;
 use crate::face_list::solid_faces;

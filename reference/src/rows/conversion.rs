@@ -1,9 +1,8 @@
 //! Rows of conversions: of lent lists (`drawing`), and of sheets at the desk (`desk`).
-use super::json::Object;
-use super::{aimed, refused, Order};
+use super::json::{refused, Object};
+use super::order::{aimed, Order};
 use crate::convert::{convert_most, Answer};
 use crate::desk::desk;
-use crate::drawing::Source;
 use crate::fast;
 use crate::gen::damage::{damaged_drawing, damaged_sheet};
 use crate::gen::rng::Rng;
@@ -11,6 +10,7 @@ use crate::gen::sheets::{any_lists, changed};
 use crate::numbers::*;
 use crate::reading::{reading, Reading};
 use crate::sheet::{pack_sheet, sheet_length};
+use crate::source::Source;
 
 /// Reports are most frequent; 3, 4, 6 and 7 don't arise with lists.
 const AIMS: [u32; 24] = [0, 0, 0, 0, 0, 0, 1, 2, 5, 8, 9, 10, 11, 12, 13, 14, 15, 16, 17, 17, 18, 18, 19, 19];

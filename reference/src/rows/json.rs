@@ -1,4 +1,5 @@
 //! As much JSON as the rows need.
+use crate::numbers::Refusal;
 
 pub trait Json {
     fn json(&self) -> String;
@@ -66,4 +67,8 @@ impl Json for Object {
     fn json(&self) -> String {
         format!("{{{}}}", self.fields.join(","))
     }
+}
+
+pub fn refused(refusal: Refusal) -> Object {
+    Object::that_is("refused").put("number", &refusal.number).put("place", &refusal.place)
 }

@@ -1,10 +1,9 @@
 //! Fixed cases: each number of the table by each function that gives it, each reading, each text, and the document's limits.
 use super::conversion::{converted, printed, Lent};
-use super::json::{Json, Object};
+use super::json::{refused, Json, Object};
 use super::lists::{checked_lists, checked_sheet};
-use super::refused;
 use super::sheets::{fetched, stored};
-use crate::drawing::{Drawing, Source};
+use crate::drawing::Drawing;
 use crate::face_list::{pack_faces, send_solid};
 use crate::fast;
 use crate::gen::ambiguous::centred_cubes;
@@ -12,6 +11,7 @@ use crate::gen::known::*;
 use crate::gen::limits::*;
 use crate::numbers::*;
 use crate::sheet::pack_sheet;
+use crate::source::Source;
 
 /// The cases as rows, without line ends.
 pub fn limits() -> Vec<String> {

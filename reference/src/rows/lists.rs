@@ -1,13 +1,13 @@
 //! Rows of the face-list check (`list`).
-use super::json::Object;
-use super::{aimed, refused, Order};
+use super::json::{refused, Object};
+use super::order::{aimed, Order};
 use crate::check::check;
-use crate::drawing::Source;
 use crate::fast;
 use crate::gen::damage::damaged_drawing;
 use crate::gen::lists::any_list;
 use crate::gen::rng::Rng;
 use crate::gen::sheets::changed;
+use crate::source::Source;
 
 const AIMS: [u32; 16] = [0, 0, 0, 0, 20, 20, 21, 22, 23, 24, 25, 25, 26, 26, 27, 27];
 

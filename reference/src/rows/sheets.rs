@@ -1,13 +1,13 @@
 //! Rows of the sheet reader (`sheet`) and the sheet writer (`write`).
-use super::json::Object;
-use super::{aimed, refused, Order};
-use crate::drawing::Source;
+use super::json::{refused, Object};
+use super::order::{aimed, Order};
 use crate::fast;
 use crate::gen::damage::{damaged_drawing, damaged_sheet};
 use crate::gen::rng::Rng;
 use crate::gen::sheets::{any_lists, changed, flipped};
 use crate::numbers::*;
 use crate::sheet::{pack_sheet, read_sheet, sheet_length, write_sheet};
+use crate::source::Source;
 
 fn number<T>(read: Result<T, Refusal>) -> u32 {
     read.map_or_else(|refusal| refusal.number, |_| 0)

@@ -1,7 +1,6 @@
 //! Clear against fast on generated and damaged sheets, lists and rooms: 24,000 sheets in all.
 use crate::common::*;
 use nibgravel_reference::convert::{convert_most, Answer};
-use nibgravel_reference::drawing::Source;
 use nibgravel_reference::fast;
 use nibgravel_reference::gen::families::FAMILIES;
 use nibgravel_reference::gen::lists::any_list;
@@ -9,6 +8,7 @@ use nibgravel_reference::gen::rng::Rng;
 use nibgravel_reference::gen::sheets::{any_lists, any_sheet, changed, counted_drawing};
 use nibgravel_reference::numbers::*;
 use nibgravel_reference::sheet::{pack_sheet, read_sheet, write_sheet};
+use nibgravel_reference::source::Source;
 use std::collections::BTreeSet;
 
 const SHEETS_PER_SEED: u64 = 6_000;

@@ -1,13 +1,14 @@
 //! What several tests use: conversion by both versions at once, and the face lists of solids.
 use nibgravel_reference::check::check;
 use nibgravel_reference::convert::{convert, drawing_rules, Answer, Passed};
-use nibgravel_reference::drawing::{Drawing, Loop, Source};
+use nibgravel_reference::drawing::{Drawing, Loop};
 use nibgravel_reference::face_list::pack_faces;
 use nibgravel_reference::fast;
 use nibgravel_reference::moves::Converted;
 use nibgravel_reference::numbers::*;
 use nibgravel_reference::sheet::pack_sheet;
 use nibgravel_reference::solids::Table;
+use nibgravel_reference::source::Source;
 use nibgravel_reference::walk::walk;
 
 /// Converts by both versions into rooms of these lengths, compares them, and sees that nothing else is written.

@@ -1,6 +1,6 @@
 //! The face-list check: each of 20 to 27, and that exactly the solids are accepted.
 use crate::common::*;
-use nibgravel_reference::drawing::{Drawing, Loop, Source};
+use nibgravel_reference::drawing::{Drawing, Loop};
 use nibgravel_reference::face_list::{pack_faces, read_faces, send_solid};
 use nibgravel_reference::gen::ambiguous::no_volume;
 use nibgravel_reference::gen::known::*;
@@ -10,6 +10,7 @@ use nibgravel_reference::gen::sheets::{changed, counted_drawing};
 use nibgravel_reference::moves::from_lowest;
 use nibgravel_reference::numbers::*;
 use nibgravel_reference::sheet::pack_sheet;
+use nibgravel_reference::source::Source;
 use std::collections::BTreeMap;
 
 fn cube_faces_with(change: impl FnOnce(&mut Vec<Loop>)) -> (u32, u32) {

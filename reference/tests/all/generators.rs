@@ -1,5 +1,4 @@
 //! The generators repeat themselves, and aim well.
-use nibgravel_reference::drawing::Source;
 use nibgravel_reference::fast;
 use nibgravel_reference::gen::damage::damaged_sheet;
 use nibgravel_reference::gen::flat::{convex, star};
@@ -7,6 +6,7 @@ use nibgravel_reference::gen::growing::{growing, size};
 use nibgravel_reference::gen::rng::Rng;
 use nibgravel_reference::gen::sheets::{any_sheet, counted_drawing};
 use nibgravel_reference::numbers::*;
+use nibgravel_reference::source::Source;
 use nibgravel_reference::vector::sides;
 
 #[test]

@@ -3,7 +3,7 @@ use crate::common::*;
 use nibgravel_reference::clash::clash;
 use nibgravel_reference::convert::{convert, Answer};
 use nibgravel_reference::desk::{desk, desk_with};
-use nibgravel_reference::drawing::{Drawing, Loop, Source};
+use nibgravel_reference::drawing::{Drawing, Loop};
 use nibgravel_reference::fast;
 use nibgravel_reference::gen::ambiguous::{centred_frusta, mirrored_octahedra, no_volume};
 use nibgravel_reference::gen::bodies::{prism, revolved};
@@ -14,6 +14,7 @@ use nibgravel_reference::polygon::{six_volumes, Point};
 use nibgravel_reference::reading::{reading, Reading};
 use nibgravel_reference::sheet::{pack_sheet, sheet_length};
 use nibgravel_reference::solids::{Fails, Table};
+use nibgravel_reference::source::Source;
 use nibgravel_reference::vector::sub;
 use nibgravel_reference::walk::walk;
 

@@ -2,13 +2,14 @@
 use crate::common::*;
 use nibgravel_reference::calls::{moved, KINDS};
 use nibgravel_reference::convert::Answer;
-use nibgravel_reference::drawing::{Drawing, Source};
+use nibgravel_reference::drawing::Drawing;
 use nibgravel_reference::face_list::pack_faces;
 use nibgravel_reference::gen::change::with_numbers;
 use nibgravel_reference::gen::known::{cube, nested_cubes, octahedron};
 use nibgravel_reference::moves::{corresponds, ways, Converted, Move, Step, QUARTER_TURNS};
 use nibgravel_reference::numbers::*;
 use nibgravel_reference::sheet::{pack_sheet, read_sheet};
+use nibgravel_reference::source::Source;
 use nibgravel_reference::vector::det;
 use std::fs;
 use std::path::Path;

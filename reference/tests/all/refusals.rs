@@ -1,6 +1,6 @@
 //! Each refusal of conversion and of the sheet writer, with its place, in the order of the table.
 use crate::common::*;
-use nibgravel_reference::drawing::{Drawing, Source};
+use nibgravel_reference::drawing::Drawing;
 use nibgravel_reference::gen::ambiguous::general;
 use nibgravel_reference::gen::bodies::plate;
 use nibgravel_reference::gen::known::*;
@@ -8,6 +8,7 @@ use nibgravel_reference::gen::maker::complete;
 use nibgravel_reference::numbers::*;
 use nibgravel_reference::reading::{reading, Reading};
 use nibgravel_reference::sheet::{pack_sheet, read_sheet, write_sheet};
+use nibgravel_reference::source::Source;
 
 fn sheet_refusal(sheet: &[u8], limit: u64, rooms: (usize, usize)) -> (u32, u32) {
     let outcome = both(Source::Sheet(sheet), limit, rooms);

@@ -1,9 +1,9 @@
 //! The rows: repeatable, small, and between them every refusal.
 use nibgravel_reference::convert::{convert_most, Answer};
-use nibgravel_reference::drawing::Source;
 use nibgravel_reference::gen::limits::nine_solids;
 use nibgravel_reference::numbers::{FACE_ROOM, MOST_WORK};
 use nibgravel_reference::rows::{limits, row, Order, KINDS, SMALL};
+use nibgravel_reference::source::Source;
 use std::collections::BTreeSet;
 
 fn rows(kind: &str, cap: usize, count: u64) -> Vec<String> {

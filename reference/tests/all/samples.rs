@@ -1,7 +1,7 @@
 //! The samples: each sheet has its desk text beside it, and each face list, which is for the box, what the check says.
 use crate::common::checked;
 use nibgravel_reference::desk::desk;
-use nibgravel_reference::drawing::Source;
+use nibgravel_reference::source::Source;
 use std::fs;
 use std::path::{Path, PathBuf};
 

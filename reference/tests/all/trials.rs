@@ -1,9 +1,9 @@
 //! The trials: every answer that they are made for is met, and the same seed gives the same trial and the same calls.
 use crate::common::checked;
 use nibgravel_reference::calls::{calls, requests};
-use nibgravel_reference::drawing::Source;
 use nibgravel_reference::numbers::*;
 use nibgravel_reference::rows::{Order, SMALL};
+use nibgravel_reference::source::Source;
 use nibgravel_reference::trial::{checks, geometry, sheets, walks};
 use std::collections::BTreeSet;
 
