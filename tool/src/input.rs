@@ -1,5 +1,5 @@
 //! Files as they are named and read: sheets and face lists by their first bytes, texts up to a length.
-use crate::trouble::reason;
+use crate::trouble::Problem;
 use std::ffi::OsStr;
 use std::fs::File;
 use std::io::{self, Read};
@@ -9,24 +9,24 @@ use std::path::Path;
 pub const ITEM: usize = 1_024;
 
 /// The first bytes of a sheet or a face list; `-` is standard input.
-pub fn item(file: &OsStr) -> Result<Vec<u8>, String> {
+pub fn item(file: &OsStr) -> Result<Vec<u8>, Problem> {
     first(file, ITEM)
 }
 
 /// The same of a file on the disk: a pipe that no one writes to would keep all that come after it waiting.
-pub fn stored(file: &Path) -> Result<Vec<u8>, String> {
+pub fn stored(file: &Path) -> Result<Vec<u8>, Problem> {
     match std::fs::metadata(file) {
         Ok(found) if found.is_file() || found.is_dir() => item(file.as_os_str()),
-        Ok(_) => Err("it is no file on the disk".to_string()),
-        Err(error) => Err(reason(&error)),
+        Ok(_) => Err("it is no file on the disk".into()),
+        Err(error) => Err(error.into()),
     }
 }
 
 /// So many bytes of a file at the most, so that one of any size, or one without an end, is no trouble.
-pub fn first(file: &OsStr, most: usize) -> Result<Vec<u8>, String> {
+pub fn first(file: &OsStr, most: usize) -> Result<Vec<u8>, Problem> {
     let read =
         if file == "-" { taken(io::stdin().lock(), most) } else { File::open(file).and_then(|f| taken(f, most)) };
-    read.map_err(|error| reason(&error))
+    read.map_err(Problem::from)
 }
 
 fn taken(from: impl Read, most: usize) -> io::Result<Vec<u8>> {
@@ -59,6 +59,6 @@ mod tests {
 
     #[test]
     fn a_file_without_an_end_is_read_at_its_start() {
-        assert_eq!(item(OsStr::new("/dev/zero")).map(|bytes| bytes.len()), Ok(ITEM));
+        assert_eq!(item(OsStr::new("/dev/zero")).map(|bytes| bytes.len()).ok(), Some(ITEM));
     }
 }

@@ -57,7 +57,7 @@ mod tests {
 
     #[test]
     fn a_name_is_no_formula_and_is_quoted() {
-        let unreadable = Err("gone".to_string());
+        let unreadable = Err("gone".into());
         assert_eq!(line("=1+1.sheet", &unreadable), "./=1+1.sheet,unreadable,,,,,\n");
         assert_eq!(line("-a,\"b\"\n.sheet", &unreadable), "\"./-a,\"\"b\"\"\n.sheet\",unreadable,,,,,\n");
         assert_eq!(line("a b.sheet", &unreadable), "a b.sheet,unreadable,,,,,\n");

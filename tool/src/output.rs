@@ -1,6 +1,6 @@
 //! What is written: standard output, and files that appear whole or not at all.
 use crate::input::shown;
-use crate::trouble::{reason, Trouble, FINE};
+use crate::trouble::{Trouble, FINE};
 use std::ffi::OsStr;
 use std::fs::{self, File, OpenOptions};
 use std::io::{self, BufWriter, IsTerminal, Write};
@@ -20,7 +20,7 @@ pub fn say(text: &str) -> Result<u8, Trouble> {
 /// Writes to a file, or to standard output where none or `-` is named; bytes that are no text not to a terminal.
 pub fn save(file: Option<&OsStr>, bytes: &[u8], is_text: bool) -> Result<(), Trouble> {
     match file {
-        Some(name) if name != "-" => saved(Path::new(name), bytes).map_err(|e| Trouble::file(shown(name), reason(&e))),
+        Some(name) if name != "-" => saved(Path::new(name), bytes).map_err(|error| Trouble::file(shown(name), error)),
         None if !is_text && io::stdout().is_terminal() => {
             Err(Trouble::Misuse("this is no text for a terminal; name a file with -o".to_string()))
         }

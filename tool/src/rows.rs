@@ -4,7 +4,7 @@ use crate::clerk::Clerk;
 use crate::input;
 use crate::json::Json;
 use crate::model::{Assessment, Conversion, Reading, Refusal};
-use crate::trouble::{Trouble, FINE, REFUSED};
+use crate::trouble::{Problem, Trouble, FINE, REFUSED};
 use std::collections::VecDeque;
 use std::ffi::OsStr;
 
@@ -12,17 +12,17 @@ use std::ffi::OsStr;
 const AHEAD: usize = 32;
 
 /// What is said of a sheet, or why its file can't be read.
-pub type Row = Result<Assessment, String>;
+pub type Row = Result<Assessment, Problem>;
 
 /// Tells of each file in turn, which is read as it comes. An unreadable one stops none of the others.
 pub fn each<F>(
     clerk: &mut Clerk,
     limit: u64,
-    files: impl Iterator<Item = (F, Result<Vec<u8>, String>)>,
+    files: impl Iterator<Item = (F, Result<Vec<u8>, Problem>)>,
     mut tell: impl FnMut(F, Row) -> Result<(), Trouble>,
 ) -> Result<(), Trouble> {
-    let mut asked: VecDeque<(F, Result<(), String>)> = VecDeque::new();
-    let mut next = |clerk: &mut Clerk, (file, read): (F, Result<(), String>)| match read {
+    let mut asked: VecDeque<(F, Result<(), Problem>)> = VecDeque::new();
+    let mut next = |clerk: &mut Clerk, (file, read): (F, Result<(), Problem>)| match read {
         Ok(()) => tell(file, Ok(clerk.assessment()?)),
         Err(problem) => tell(file, Err(problem)),
     };

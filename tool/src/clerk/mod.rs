@@ -37,7 +37,7 @@ impl Clerk {
     pub fn assessment(&mut self) -> Result<Assessment, Trouble> {
         let drawing = self.drawing()?;
         let (conversion, reading) = self.conversion()?;
-        fits(&drawing, &conversion).map_err(Trouble::Clerk)?;
+        fits(&drawing, &conversion).map_err(Trouble::clerk)?;
         Ok(Assessment { drawing: drawing.ok(), conversion, reading })
     }
 
@@ -62,7 +62,7 @@ impl Clerk {
             Ok(_) => verdict.map_or_else(|refusal| refusal.number > 10, |()| true),
             Err(refusal) => verdict == Err(refusal),
         };
-        one.then_some(verdict).ok_or_else(|| Trouble::Clerk(TWO_THINGS.to_string()))
+        one.then_some(verdict).ok_or_else(|| Trouble::clerk(TWO_THINGS))
     }
 
     pub fn sheet(&mut self) -> Result<Result<Vec<u8>, Refusal>, Trouble> {
@@ -76,11 +76,11 @@ impl Clerk {
     /// The desk's text has every refusal in it, so there is none beside it.
     pub fn desk(&mut self) -> Result<Vec<u8>, Trouble> {
         let text = self.hear(|bytes: &[u8; reply::DESK]| reply::written(bytes, |_| false))?;
-        text.map_err(|_| Trouble::Clerk("said no text of the desk".to_string()))
+        text.map_err(|_| Trouble::clerk("said no text of the desk"))
     }
 
     fn hear<const N: usize, T>(&mut self, parsed: impl Fn(&[u8; N]) -> Parsed<T>) -> Result<T, Trouble> {
-        parsed(&self.running.reply()?).map_err(Trouble::Clerk)
+        parsed(&self.running.reply()?).map_err(Trouble::clerk)
     }
 }
 

@@ -2,7 +2,7 @@
 use super::reply::HELLO;
 use super::request::Request;
 use crate::input::shown;
-use crate::trouble::{reason, Trouble};
+use crate::trouble::{reason, Problem, Trouble};
 use std::ffi::OsString;
 use std::io::{self, BufReader, Read, Write};
 use std::path::PathBuf;
@@ -18,6 +18,8 @@ const VARIABLE: &str = "NIBGRAVEL_CLERK";
 /// imitated.
 const PATIENCE: Duration = Duration::from_secs(20);
 
+const ENDED: &str = "ended before it had answered";
+
 pub struct Running {
     child: Child,
     /// To the thread that writes. It has no bound: whoever asks says how far ahead.
@@ -28,16 +30,15 @@ pub struct Running {
 impl Running {
     pub fn start() -> Result<Running, Trouble> {
         let path = path()?;
-        let failed =
-            |error: &io::Error| Trouble::Clerk(format!("{} can't be started: {}", shown(&path), reason(error)));
+        let failed = |error| because(error, &format!("{} can't be started", shown(&path)));
         let started = Command::new(&path).stdin(Stdio::piped()).stdout(Stdio::piped()).spawn();
-        let mut child = started.map_err(|error| failed(&error))?;
+        let mut child = started.map_err(failed)?;
         let (input, output) = (child.stdin.take(), child.stdout.take());
         let (Some(input), Some(output)) = (input, output) else {
-            return Err(failed(&io::ErrorKind::BrokenPipe.into()));
+            return Err(failed(io::ErrorKind::BrokenPipe.into()));
         };
         let (requests, sent) = channel();
-        begin(move || write_all(input, &sent)).map_err(|error| failed(&error))?;
+        begin(move || write_all(input, &sent)).map_err(failed)?;
         let mut running = Running { child, requests, replies: None };
         running.send(Request::Hello.bytes());
         running.replies = Some(hello(output, PATIENCE)?);
@@ -53,7 +54,8 @@ impl Running {
         let mut bytes = [0; N];
         match self.replies.as_mut().map(|replies| replies.read_exact(&mut bytes)) {
             Some(Ok(())) => Ok(bytes),
-            _ => Err(Trouble::Clerk("ended before it had answered".to_string())),
+            Some(Err(error)) => Err(Trouble::clerk(Problem::over(error, ENDED))),
+            None => Err(Trouble::clerk(ENDED)),
         }
     }
 }
@@ -73,7 +75,12 @@ fn path() -> Result<PathBuf, Trouble> {
         Some(path) => std::path::absolute(path),
         None => std::env::current_exe().and_then(|own| own.canonicalize()).map(|own| own.with_file_name("clerk")),
     };
-    found.map_err(|error| Trouble::Clerk(format!("can't be looked for: {}", reason(&error))))
+    found.map_err(|error| because(error, "can't be looked for"))
+}
+
+fn because(error: io::Error, what: &str) -> Trouble {
+    let what = format!("{what}: {}", reason(&error));
+    Trouble::clerk(Problem::over(error, what))
 }
 
 /// Writes what is sent until there is no more of it, or no one to read it; then the program's input ends.
@@ -91,7 +98,6 @@ fn write_all(mut input: ChildStdin, sent: &Receiver<Vec<u8>>) {
 
 fn hello(output: ChildStdout, patience: Duration) -> Result<BufReader<ChildStdout>, Trouble> {
     let (sender, heard) = channel();
-    let trouble = |what: &str| Err(Trouble::Clerk(what.to_string()));
     let listening = begin(move || {
         let (mut output, mut bytes) = (BufReader::with_capacity(1 << 16, output), [0; HELLO.len()]);
         let read = output.read_exact(&mut bytes);
@@ -99,10 +105,10 @@ fn hello(output: ChildStdout, patience: Duration) -> Result<BufReader<ChildStdou
     });
     match listening.map(|()| heard.recv_timeout(patience)) {
         Ok(Ok(Ok((output, bytes)))) if bytes == *HELLO => Ok(output),
-        Ok(Ok(Ok(_))) => trouble("is another one: it does not say \"nibgravel pipe 1\""),
-        Ok(Ok(Err(_))) => trouble("ended before it had answered"),
-        Ok(Err(_)) => trouble("does not answer"),
-        Err(error) => trouble(&format!("can't be listened to: {}", reason(&error))),
+        Ok(Ok(Ok(_))) => Err(Trouble::clerk("is another one: it does not say \"nibgravel pipe 1\"")),
+        Ok(Ok(Err(error))) => Err(Trouble::clerk(Problem::over(error, ENDED))),
+        Ok(Err(_)) => Err(Trouble::clerk("does not answer")),
+        Err(error) => Err(because(error, "can't be listened to")),
     }
 }
 
@@ -120,6 +126,6 @@ mod tests {
         let mut child = Command::new("sleep").arg("5").stdout(Stdio::piped()).spawn().expect("sleep");
         let heard = hello(child.stdout.take().expect("its output"), Duration::from_millis(50));
         child.kill().and_then(|()| child.wait()).expect("it was there");
-        assert!(matches!(heard, Err(Trouble::Clerk(what)) if what == "does not answer"));
+        assert!(matches!(heard, Err(Trouble::Clerk(problem)) if problem.to_string() == "does not answer"));
     }
 }

@@ -35,13 +35,16 @@ fn run(args: &Args) -> Result<u8, Trouble> {
 }
 
 fn tell(args: &Args, file: &OsStr, row: Row) -> Result<(), Trouble> {
-    if let Err(problem) = &row {
-        Trouble::file(shown(file), problem).tell();
-    }
     match row {
         Ok(assessment) if args.json() => put_object(file, reading_fields(&assessment)),
         Ok(assessment) => put(format!("{}: {}\n", shown(file), reading(&assessment)).as_bytes()),
-        Err(problem) if args.json() => put_object(file, vec![("unreadable", problem.into())]),
-        Err(_) => Ok(()),
+        Err(problem) => {
+            let unreadable = problem.to_string();
+            Trouble::file(shown(file), problem).tell();
+            if args.json() {
+                put_object(file, vec![("unreadable", unreadable.into())])?;
+            }
+            Ok(())
+        }
     }
 }

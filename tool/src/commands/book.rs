@@ -10,7 +10,7 @@ use crate::ledger;
 use crate::output::{put, Draft};
 use crate::page::{self, Page};
 use crate::rows::{each, refusal, status, Row};
-use crate::trouble::{reason, Trouble, FINE, TROUBLE};
+use crate::trouble::{Trouble, FINE, TROUBLE};
 use std::collections::BTreeMap;
 use std::ffi::{OsStr, OsString};
 use std::io::{self, IsTerminal, Write};
@@ -40,11 +40,11 @@ pub const COMMAND: Command = Command {
 
 fn run(args: &Args) -> Result<u8, Trouble> {
     let folder = Path::new(args.word(0));
-    let names = names(folder).map_err(|error| Trouble::file(shown(folder), reason(&error)))?;
+    let names = names(folder).map_err(|error| Trouble::file(shown(folder), error))?;
     let limit = args.limit()?;
     let mut clerk = Clerk::start()?;
     let dir = args.output().map_or(folder, Path::new);
-    let failed = |error: io::Error| Trouble::file(shown(dir), reason(&error));
+    let failed = |error: io::Error| Trouble::file(shown(dir), error);
     let mut book = Book::begin(dir, folder, names.len()).map_err(failed)?;
     let files = names.into_iter().map(|name| {
         let read = stored(&folder.join(&name));
@@ -138,8 +138,8 @@ impl Book {
     fn row(&mut self, name: &OsStr, row: &Row) -> io::Result<()> {
         let file = name.to_string_lossy();
         self.ledger.write_all(ledger::line(&file, row).as_bytes())?;
-        let problem = row.as_ref().err().map(String::as_str);
-        self.page.row(&page::Row { file: &file, assessment: row.as_ref().ok(), problem })?;
+        let problem = row.as_ref().err().map(ToString::to_string);
+        self.page.row(&page::Row { file: &file, assessment: row.as_ref().ok(), problem: problem.as_deref() })?;
         self.tally.count(row);
         self.progress();
         Ok(())
