@@ -1,6 +1,4 @@
 //! What a command is: the one description from which its line is read and its help, completions and manual are made.
-use crate::args::Args;
-use crate::trouble::Trouble;
 
 pub struct Command {
     pub name: &'static str,
@@ -13,7 +11,6 @@ pub struct Command {
     pub details: &'static [&'static str],
     /// Words behind the program's name, and what they print (or nothing where they write a file).
     pub example: (&'static str, &'static str),
-    pub run: fn(&Args) -> Result<u8, Trouble>,
 }
 
 pub struct Operand {

@@ -1,6 +1,5 @@
 //! Help texts, from the descriptions of the commands.
 use crate::command::{Choice, Command};
-use crate::commands::COMMANDS;
 
 /// What the program is, in one line.
 pub const ABOUT: &str =
@@ -22,9 +21,9 @@ pub fn version() -> String {
 }
 
 /// `nibgravel --help`
-pub fn overview() -> String {
+pub fn overview(commands: &[&Command]) -> String {
     let mut text = wrapped(&format!("nibgravel: {ABOUT}"), "") + "\n";
-    for command in COMMANDS {
+    for command in commands {
         text += &format!("  nibgravel {}\n", command.usage());
         text += &wrapped(command.about, "      ");
     }

@@ -20,7 +20,7 @@ pub mod text;
 pub mod trouble;
 
 use args::Args;
-use commands::COMMANDS;
+use commands::Run;
 use std::ffi::OsString;
 use trouble::{Trouble, TROUBLE};
 
@@ -35,13 +35,13 @@ pub fn run(words: impl Iterator<Item = OsString>) -> u8 {
 fn ran(words: Vec<OsString>) -> Result<u8, Trouble> {
     let Some(first) = words.first() else { return Err(missing("a command is missing")) };
     if first == "--help" || first == "-h" {
-        return output::say(&help::overview());
+        return output::say(&help::overview(&commands::all()));
     }
     if first == "--version" {
         return output::say(&help::version());
     }
-    let named = COMMANDS.iter().find(|command| first == command.name);
-    let command = named.ok_or_else(|| missing(&format!("no command {}", input::shown(first))))?;
+    let (command, run) =
+        commands::find(first).ok_or_else(|| missing(&format!("no command {}", input::shown(first))))?;
     let args = Args::parse(command, &words[1..])?;
     if args.has("help") {
         return output::say(&help::of(command));
@@ -50,7 +50,10 @@ fn ran(words: Vec<OsString>) -> Result<u8, Trouble> {
         return output::say(&help::version());
     }
     args.counted()?;
-    (command.run)(&args)
+    match run {
+        Run::Line(run) => run(&args),
+        Run::Listing(run) => run(&args, &commands::all()),
+    }
 }
 
 fn missing(what: &str) -> Trouble {

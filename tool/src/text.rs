@@ -1,5 +1,7 @@
 //! A drawing as plain text: `v x y z` and `e a b` lines, with `#` before what is for people.
 use crate::model::Drawing;
+use std::error::Error;
+use std::fmt;
 
 /// So that neither a line nor a text is held that is no drawing's.
 const LONGEST_LINE: usize = 1_000;
@@ -18,7 +20,19 @@ pub struct Lists {
 }
 
 /// A line that says nothing: its number, from 1, and what is wrong.
-pub type Wrong = (usize, String);
+#[derive(Debug, PartialEq, Eq)]
+pub struct Wrong {
+    pub line: usize,
+    pub what: String,
+}
+
+impl fmt::Display for Wrong {
+    fn fmt(&self, out: &mut fmt::Formatter) -> fmt::Result {
+        write!(out, "{}: {}", self.line, self.what)
+    }
+}
+
+impl Error for Wrong {}
 
 /// The text of a drawing, with its vertices and edges numbered.
 pub fn written(drawing: &Drawing) -> String {
@@ -38,10 +52,11 @@ pub fn read(bytes: &[u8]) -> Result<Lists, Wrong> {
     let whole = whole_lines(bytes);
     for (k, line) in whole.split(|byte| *byte == b'\n').enumerate() {
         lists.lines = k + 1;
-        read_line(line, &mut lists, &mut edges).map_err(|what| (k + 1, what))?;
+        read_line(line, &mut lists, &mut edges).map_err(|what| Wrong { line: k + 1, what })?;
     }
     if bytes.len() > LONGEST_TEXT {
-        return Err((lists.lines + 1, format!("the text is longer than {LONGEST_TEXT} bytes")));
+        let what = format!("the text is longer than {LONGEST_TEXT} bytes");
+        return Err(Wrong { line: lists.lines + 1, what });
     }
     // Equal edges stay in the order of their lines.
     edges.sort();
@@ -108,7 +123,7 @@ mod tests {
     use super::*;
 
     fn wrong(text: &[u8]) -> String {
-        read(text).map_or_else(|(line, what)| format!("{line}: {what}"), |lists| format!("{lists:?}"))
+        read(text).map_or_else(|wrong| wrong.to_string(), |lists| format!("{lists:?}"))
     }
 
     #[test]

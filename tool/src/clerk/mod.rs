@@ -3,13 +3,14 @@ mod reply;
 mod report;
 mod request;
 mod start;
+mod words;
 
 pub use request::Request;
 
 use crate::model::{Assessment, Conversion, Drawing, Reading, Refusal};
 use crate::trouble::Trouble;
-use reply::Parsed;
 use start::Running;
+use words::Parsed;
 
 const TWO_THINGS: &str = "said two things of one sheet that can't both be true";
 

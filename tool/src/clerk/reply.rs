@@ -1,11 +1,11 @@
 //! Replies of docs/PIPE.md, from bytes. What no right program says is an error, so that it is never shown as an answer.
 use super::report;
+use super::words::{within, word, Parsed, WORD};
 use crate::answers::{answer, AMBIGUOUS};
 use crate::model::{Conversion, Drawing, Reading, Refusal, Search};
 
 pub const HELLO: &[u8; 16] = b"nibgravel pipe 1";
 
-const WORD: usize = 8;
 const SAID: usize = 7 * WORD;
 const COORDINATES: usize = 96;
 const ENDS: usize = 128;
@@ -17,23 +17,6 @@ pub const CHECKED: usize = SAID;
 pub const SHEET: usize = SAID + 215;
 pub const LIST: usize = SAID + 338;
 pub const DESK: usize = SAID + 2_728;
-
-/// An answer, or what is wrong with the reply.
-pub type Parsed<T> = Result<T, String>;
-
-/// The word at a place counted in words.
-pub fn word(bytes: &[u8], k: usize) -> u64 {
-    bytes.iter().skip(k * WORD).take(WORD).fold(0, |word, byte| word << 8 | u64::from(*byte))
-}
-
-/// A value that may not be above some number.
-pub fn within(what: &str, value: u64, least: u64, most: u64) -> Parsed<u64> {
-    if (least..=most).contains(&value) {
-        Ok(value)
-    } else {
-        Err(format!("said {value} for {what}, which is never below {least} or above {most}"))
-    }
-}
 
 /// What is refused, if anything is: a number of the table that this request can get, and a place that it can have.
 fn refusal(bytes: &[u8], can_get: impl Fn(u8) -> bool) -> Parsed<Option<Refusal>> {

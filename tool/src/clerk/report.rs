@@ -1,5 +1,5 @@
 //! A report's rooms: 13 bytes for each candidate and three words for each solid.
-use super::reply::{within, word, Parsed};
+use super::words::{within, word, Parsed};
 use crate::model::{Conversion, Face, Search, Solid};
 
 pub const CANDIDATES: u64 = 64;

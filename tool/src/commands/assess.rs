@@ -1,5 +1,5 @@
 //! `assess`: the reading of each sheet.
-use super::put_object;
+use super::objects::put_object;
 use crate::args::Args;
 use crate::clerk::Clerk;
 use crate::command::{Command, Operand, Takes, LIMIT};
@@ -21,10 +21,9 @@ pub const COMMAND: Command = Command {
          advice; a file that can't be read has unreadable.",
     ],
     example: ("assess samples/box.sheet", "samples/box.sheet: 1.92 cubic metres"),
-    run,
 };
 
-fn run(args: &Args) -> Result<u8, Trouble> {
+pub fn run(args: &Args) -> Result<u8, Trouble> {
     let (limit, mut highest) = (args.limit()?, FINE);
     let files = args.words().iter().map(|file| (file, item(file)));
     each(&mut Clerk::start()?, limit, files, |file, row| {

@@ -1,5 +1,5 @@
 //! `book`: every sheet of a folder, in a ledger and on a page.
-use super::put_object;
+use super::objects::put_object;
 use crate::answers::named;
 use crate::args::Args;
 use crate::clerk::Clerk;
@@ -35,10 +35,9 @@ pub const COMMAND: Command = Command {
         "With --json that count is one object, with file (the folder), sheets and answers.",
     ],
     example: ("book samples -o book", include_str!("../../tests/expected/book/stdout.txt")),
-    run,
 };
 
-fn run(args: &Args) -> Result<u8, Trouble> {
+pub fn run(args: &Args) -> Result<u8, Trouble> {
     let folder = Path::new(args.word(0));
     let names = names(folder).map_err(|error| Trouble::file(shown(folder), error))?;
     let limit = args.limit()?;

@@ -1,5 +1,5 @@
 //! `check`: the verdict on a face list.
-use super::put_object;
+use super::objects::put_object;
 use crate::answers::advised;
 use crate::args::Args;
 use crate::clerk::Clerk;
@@ -20,10 +20,9 @@ pub const COMMAND: Command = Command {
          and advice.",
     ],
     example: ("check samples/box.sheet samples/box_walls.faces", "accepted"),
-    run,
 };
 
-fn run(args: &Args) -> Result<u8, Trouble> {
+pub fn run(args: &Args) -> Result<u8, Trouble> {
     let (sheet, list) = (read(args.word(0))?, read(args.word(1))?);
     let mut clerk = Clerk::start()?;
     clerk.ask_verdict(&sheet, &list);

@@ -1,7 +1,6 @@
 //! `completion`: what a shell offers behind `nibgravel`.
 use crate::args::Args;
 use crate::command::{Choice, Command, Operand, Takes};
-use crate::commands::COMMANDS;
 use crate::json::Json;
 use crate::output::say;
 use crate::trouble::Trouble;
@@ -19,15 +18,14 @@ pub const COMMAND: Command = Command {
         "With --json the object has shell and text.",
     ],
     example: ("completion bash > nibgravel.bash", ""),
-    run,
 };
 
-fn run(args: &Args) -> Result<u8, Trouble> {
+pub fn run(args: &Args, commands: &[&Command]) -> Result<u8, Trouble> {
     let shell = args.word(0).to_str().unwrap_or_default();
     let text = match shell {
-        "bash" => bash(),
-        "zsh" => zsh(),
-        "fish" => fish(),
+        "bash" => bash(commands),
+        "zsh" => zsh(commands),
+        "fish" => fish(commands),
         _ => return Err(args.misuse(&format!("SHELL is one of {}", SHELLS.join(", ")))),
     };
     if args.json() {
@@ -36,8 +34,8 @@ fn run(args: &Args) -> Result<u8, Trouble> {
     say(&text)
 }
 
-fn names() -> String {
-    COMMANDS.iter().map(|command| command.name).collect::<Vec<_>>().join(" ")
+fn names(commands: &[&Command]) -> String {
+    commands.iter().map(|command| command.name).collect::<Vec<_>>().join(" ")
 }
 
 /// As `-o --output --json ..`.
@@ -54,17 +52,17 @@ fn first(command: &Command) -> Option<Takes> {
     command.operands.first().map(|operand| operand.takes)
 }
 
-fn bash() -> String {
+fn bash(commands: &[&Command]) -> String {
     let mut text =
         "# bash completion of nibgravel\n_nibgravel() {\n    local word=${COMP_WORDS[COMP_CWORD]} flags= words=\n"
             .to_string();
     text += "    COMPREPLY=()\n    if [ \"$COMP_CWORD\" -eq 1 ]; then\n";
     text += &format!(
         "        COMPREPLY=($(compgen -W \"{} --help --version\" -- \"$word\"))\n        return\n    fi\n",
-        names()
+        names(commands)
     );
     text += "    case ${COMP_WORDS[1]} in\n";
-    for command in COMMANDS {
+    for command in commands {
         let words = match first(command) {
             Some(Takes::OneOf(words)) => words.join(" "),
             _ => String::new(),
@@ -86,15 +84,15 @@ fn action(takes: Takes) -> String {
     }
 }
 
-fn zsh() -> String {
+fn zsh(commands: &[&Command]) -> String {
     let mut text = "#compdef nibgravel\n_nibgravel() {\n    local -a commands\n    commands=(\n".to_string();
-    for command in COMMANDS {
+    for command in commands {
         let about = zsh_plain(command.about);
         text += &format!("        '{}:{about}'\n", command.name);
     }
     text += "    )\n    if (( CURRENT == 2 )); then\n        _describe command commands\n        return\n    fi\n";
     text += "    local command=$words[2]\n    shift words\n    (( CURRENT-- ))\n    case $command in\n";
-    for command in COMMANDS {
+    for command in commands {
         text += &format!("        {}) _arguments{} ;;\n", command.name, zsh_arguments(command));
     }
     text + "    esac\n}\n_nibgravel \"$@\"\n"
@@ -122,10 +120,10 @@ fn zsh_plain(words: &str) -> String {
     escaped.into_iter().fold(words.to_string(), |words, (letter, escape)| words.replace(letter, escape))
 }
 
-fn fish() -> String {
+fn fish(commands: &[&Command]) -> String {
     let plain = |words: &str| words.replace('\'', "\\'");
     let mut text = "# fish completion of nibgravel\n".to_string();
-    for command in COMMANDS {
+    for command in commands {
         let about = plain(command.about);
         text += &format!("complete -c nibgravel -n __fish_use_subcommand -f -a {} -d '{about}'\n", command.name);
         let within = format!("complete -c nibgravel -n '__fish_seen_subcommand_from {}'", command.name);

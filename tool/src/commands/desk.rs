@@ -1,5 +1,5 @@
 //! `desk`: the desk's text.
-use super::put_object;
+use super::objects::put_object;
 use crate::args::Args;
 use crate::clerk::{Clerk, Request};
 use crate::command::{file, Command};
@@ -21,10 +21,9 @@ pub const COMMAND: Command = Command {
         "desk samples/octahedron.sheet",
         "wire 6 12\nloops 11 candidates 11\nwork 4\nsolids 1\nsolid 1 sixvolumes 8000 faces +1 -2 -3 +4 -6 +7 +8 -9",
     ),
-    run,
 };
 
-fn run(args: &Args) -> Result<u8, Trouble> {
+pub fn run(args: &Args) -> Result<u8, Trouble> {
     let sheet = read(args.word(0))?;
     let mut clerk = Clerk::start()?;
     // The text says nothing of the reading, so that is asked for by itself.

@@ -1,5 +1,5 @@
 //! `draw`: a picture of a sheet's drawing and its solids.
-use super::{put_object, refused};
+use super::objects::{put_object, refused};
 use crate::args::Args;
 use crate::command::{file, output, Command, Takes};
 use crate::input::shown;
@@ -19,10 +19,9 @@ pub const COMMAND: Command = Command {
         "With --json the object has file and length; the picture itself goes to the file of -o.",
     ],
     example: ("draw samples/box.sheet -o box.svg", ""),
-    run,
 };
 
-fn run(args: &Args) -> Result<u8, Trouble> {
+pub fn run(args: &Args) -> Result<u8, Trouble> {
     let file = args.word(0);
     args.apart_from_json("picture")?;
     let assessment = one(file, args.limit()?)?;

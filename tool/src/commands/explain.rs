@@ -1,15 +1,15 @@
 //! `explain`: what was asked of a sheet, and what was found.
-use super::put_object;
+use super::objects::put_object;
 use crate::answers::{answer, named, told, Answer, Place, DRAWING_RULES};
 use crate::args::Args;
 use crate::command::{file, Command, LIMIT};
-use crate::commands::explain::solids::{differing, explain_solids, in_all, solid_object};
 use crate::input::shown;
 use crate::json::Json;
 use crate::model::{Assessment, Conversion, Drawing, Refusal};
 use crate::output::put;
 use crate::rows::{one, reading, reading_fields, refusal, status};
 use crate::trouble::Trouble;
+use solids::{differing, explain_solids, in_all, solid_object};
 
 mod solids;
 
@@ -27,12 +27,11 @@ pub const COMMAND: Command = Command {
          shared and differing, as far as there are such things.",
     ],
     example: ("explain samples/refused_apart.sheet", EXAMPLE),
-    run,
 };
 
 const EXAMPLE: &str = include_str!("../../tests/expected/explain/refused_apart.txt");
 
-fn run(args: &Args) -> Result<u8, Trouble> {
+pub fn run(args: &Args) -> Result<u8, Trouble> {
     let file = args.word(0);
     let assessment = one(file, args.limit()?)?;
     if args.json() {

@@ -1,5 +1,5 @@
 //! `faces`: a solid as a face list.
-use super::{put_object, refused};
+use super::objects::{put_object, refused};
 use crate::args::{number, Args};
 use crate::clerk::{rows, Clerk, Request};
 use crate::command::{file, output, Command, Operand, Takes};
@@ -20,10 +20,9 @@ pub const COMMAND: Command = Command {
         "With --json the object has file, solid, faces and length; the list itself goes to the file of -o.",
     ],
     example: ("faces samples/box.sheet 1 -o box.faces", ""),
-    run,
 };
 
-fn run(args: &Args) -> Result<u8, Trouble> {
+pub fn run(args: &Args) -> Result<u8, Trouble> {
     let file = args.word(0);
     let asked = number(args.word(1)).filter(|solid| *solid > 0);
     let asked = asked.ok_or_else(|| args.misuse("N is the number of a solid, from 1"))?;

@@ -1,7 +1,6 @@
 //! `manual`: a page for `man`, in roff.
 use crate::args::Args;
 use crate::command::Command;
-use crate::commands::COMMANDS;
 use crate::help::{names, ABOUT, NOTES};
 use crate::json::Json;
 use crate::output::say;
@@ -14,20 +13,19 @@ pub const COMMAND: Command = Command {
     options: &[],
     details: &["With --json the object has text."],
     example: ("manual > nibgravel.1", ""),
-    run,
 };
 
-fn run(args: &Args) -> Result<u8, Trouble> {
+pub fn run(args: &Args, commands: &[&Command]) -> Result<u8, Trouble> {
     if args.json() {
-        return say(&Json::Object(vec![("text", page().into())]).line());
+        return say(&Json::Object(vec![("text", page(commands).into())]).line());
     }
-    say(&page())
+    say(&page(commands))
 }
 
-fn page() -> String {
+fn page(commands: &[&Command]) -> String {
     let mut text = format!(".TH NIBGRAVEL 1 \"\" \"nibgravel {}\"\n", env!("CARGO_PKG_VERSION"));
     text += &format!(".SH NAME\nnibgravel \\- {}\n.SH SYNOPSIS\n", plain(ABOUT));
-    for command in COMMANDS {
+    for command in commands {
         text += &format!(".B nibgravel\n{}\n.br\n", plain(&command.usage()));
     }
     text += ".SH DESCRIPTION\n";
@@ -35,7 +33,7 @@ fn page() -> String {
         text += &format!(".PP\n{}\n", plain(note));
     }
     text += ".SH COMMANDS\n";
-    COMMANDS.iter().fold(text, |text, command| text + &section(command))
+    commands.iter().fold(text, |text, command| text + &section(command))
 }
 
 fn section(command: &Command) -> String {

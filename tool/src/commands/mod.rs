@@ -8,57 +8,43 @@ mod draw;
 mod explain;
 mod faces;
 mod manual;
+mod objects;
 mod sheet;
 mod text;
 
-use crate::answers::advised;
 use crate::args::Args;
 use crate::command::Command;
-use crate::input::shown;
-use crate::json::Json;
-use crate::model::Refusal;
-use crate::output::put;
-use crate::rows::refusal_fields;
-use crate::trouble::{complain, Trouble, REFUSED};
+use crate::trouble::Trouble;
 use std::ffi::OsStr;
 
-pub const COMMANDS: &[Command] = &[
-    assess::COMMAND,
-    explain::COMMAND,
-    check::COMMAND,
-    desk::COMMAND,
-    faces::COMMAND,
-    text::COMMAND,
-    sheet::COMMAND,
-    draw::COMMAND,
-    book::COMMAND,
-    completion::COMMAND,
-    manual::COMMAND,
+/// What carries a command out: the exit status.
+pub enum Run {
+    /// By its line.
+    Line(fn(&Args) -> Result<u8, Trouble>),
+    /// By its line and what all commands are.
+    Listing(fn(&Args, &[&Command]) -> Result<u8, Trouble>),
+}
+
+static COMMANDS: [(Command, Run); 11] = [
+    (assess::COMMAND, Run::Line(assess::run)),
+    (explain::COMMAND, Run::Line(explain::run)),
+    (check::COMMAND, Run::Line(check::run)),
+    (desk::COMMAND, Run::Line(desk::run)),
+    (faces::COMMAND, Run::Line(faces::run)),
+    (text::COMMAND, Run::Line(text::run)),
+    (sheet::COMMAND, Run::Line(sheet::run)),
+    (draw::COMMAND, Run::Line(draw::run)),
+    (book::COMMAND, Run::Line(book::run)),
+    (completion::COMMAND, Run::Listing(completion::run)),
+    (manual::COMMAND, Run::Listing(manual::run)),
 ];
 
-/// A JSON object for a file, as a line.
-fn object(file: &OsStr, fields: Vec<(&'static str, Json)>) -> String {
-    let mut all = vec![("file", file.to_string_lossy().as_ref().into())];
-    all.extend(fields);
-    Json::Object(all).line()
+/// What each command is, in the order in which they are told.
+pub fn all() -> Vec<&'static Command> {
+    COMMANDS.iter().map(|(command, _)| command).collect()
 }
 
-fn put_object(file: &OsStr, fields: Vec<(&'static str, Json)>) -> Result<(), Trouble> {
-    put(object(file, fields).as_bytes())
-}
-
-/// A refusal where something was to be written: nothing is, and standard output is kept for what was asked for.
-fn refused(args: &Args, file: &OsStr, refusal: Refusal) -> Result<u8, Trouble> {
-    refused_at(args, file, &shown(file), refusal, &advised(refusal))
-}
-
-/// The same of a place within a file, and in other words.
-fn refused_at(args: &Args, file: &OsStr, place: &str, refusal: Refusal, told: &str) -> Result<u8, Trouble> {
-    complain(&format!("{place}: {told}"));
-    if args.json() {
-        let mut fields = vec![("refused", true.into())];
-        fields.extend(refusal_fields(refusal));
-        put_object(file, fields)?;
-    }
-    Ok(REFUSED)
+/// The command of a name.
+pub fn find(name: &OsStr) -> Option<&'static (Command, Run)> {
+    COMMANDS.iter().find(|(command, _)| name == command.name)
 }

@@ -1,5 +1,5 @@
 //! `sheet`: a plain text as a sheet.
-use super::{put_object, refused_at};
+use super::objects::{put_object, refused_at};
 use crate::answers::{advised, named};
 use crate::args::Args;
 use crate::clerk::{Clerk, Request};
@@ -23,14 +23,13 @@ pub const COMMAND: Command = Command {
          sheet itself goes to the file of -o.",
     ],
     example: ("sheet box.txt -o box.sheet", ""),
-    run,
 };
 
-fn run(args: &Args) -> Result<u8, Trouble> {
+pub fn run(args: &Args) -> Result<u8, Trouble> {
     let file = args.word(0);
     args.apart_from_json("sheet")?;
     let bytes = first(file, LONGEST_TEXT + 1).map_err(|problem| Trouble::file(shown(file), problem))?;
-    let lists = text::read(&bytes).map_err(|(line, what)| Trouble::file(at(args, line), what))?;
+    let lists = text::read(&bytes).map_err(|wrong| Trouble::file(at(args, wrong.line), wrong.what))?;
     let mut clerk = Clerk::start()?;
     // Whole words and whole edges; what is cut off was too many already (docs/PIPE.md).
     let coordinates = &lists.coordinates[..lists.coordinates.len().min(ITEM / 8)];

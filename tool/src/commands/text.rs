@@ -1,5 +1,5 @@
 //! `text`: a sheet as plain text.
-use super::{object, refused};
+use super::objects::{object, refused};
 use crate::args::Args;
 use crate::clerk::{Clerk, Request};
 use crate::command::{file, output, Command, Takes};
@@ -21,10 +21,9 @@ pub const COMMAND: Command = Command {
         "With --json an object with file, vertices and edges is written instead.",
     ],
     example: ("text samples/box.sheet -o box.txt", ""),
-    run,
 };
 
-fn run(args: &Args) -> Result<u8, Trouble> {
+pub fn run(args: &Args) -> Result<u8, Trouble> {
     let file = args.word(0);
     let sheet = read(file)?;
     let mut clerk = Clerk::start()?;

@@ -1,10 +1,17 @@
 //! The cells of a row. One that has nothing to say is empty: above all the cubic metres of a sheet not assessed.
-use super::{Row, Sort};
+use super::sort::Sort;
 use crate::answers::{answer, named, told};
 use crate::model::{Assessment, Conversion, Reading, Refusal};
 use crate::picture::escape::escape;
 use crate::picture::small;
 use std::io::{self, Write};
+
+/// A sheet's row: what was said of it, or why its file couldn't be read.
+pub struct Row<'a> {
+    pub file: &'a str,
+    pub assessment: Option<&'a Assessment>,
+    pub problem: Option<&'a str>,
+}
 
 pub struct Cells<'a> {
     pub sort: Sort,

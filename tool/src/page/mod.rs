@@ -1,14 +1,15 @@
 //! A page in HTML with a row for each sheet, written as the rows come: only the counts of the answers are kept.
 mod cells;
+mod sort;
 
 #[cfg(test)]
 mod tests;
 
-use crate::answers::named;
-use crate::ledger::UNREADABLE;
-use crate::model::Assessment;
+pub use cells::Row;
+
 use crate::picture::escape::escape;
 use cells::Cells;
+use sort::Sort;
 use std::collections::BTreeMap;
 use std::io::{self, Write};
 
@@ -18,41 +19,6 @@ const SCRIPT: &str = include_str!("script.js");
 const POLICY: &str =
     "default-src 'none'; style-src 'unsafe-inline'; script-src 'unsafe-inline'; base-uri 'none'; form-action 'none'";
 const COLUMNS: [&str; 7] = ["picture", "file", "answer", "place", "cubic metres", "solids", "work"];
-
-/// A sheet's row: what was said of it, or why its file couldn't be read.
-pub struct Row<'a> {
-    pub file: &'a str,
-    pub assessment: Option<&'a Assessment>,
-    pub problem: Option<&'a str>,
-}
-
-/// What a row counts as.
-#[derive(Clone, Copy, Debug, PartialEq, Eq, PartialOrd, Ord)]
-enum Sort {
-    Assessed,
-    NotAssessed(u8),
-    Unreadable,
-}
-
-impl Sort {
-    /// As it stands in the row and in its filter.
-    fn words(self) -> String {
-        match self {
-            Sort::Assessed => "assessed".to_string(),
-            Sort::NotAssessed(number) => named(number),
-            Sort::Unreadable => UNREADABLE.to_string(),
-        }
-    }
-
-    /// As it stands in the page's address, after `#answer=`.
-    fn key(self) -> String {
-        match self {
-            Sort::Assessed => "0".to_string(),
-            Sort::NotAssessed(number) => number.to_string(),
-            Sort::Unreadable => UNREADABLE.to_string(),
-        }
-    }
-}
 
 /// A page that is being written.
 pub struct Page<W: Write> {

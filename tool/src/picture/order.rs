@@ -1,16 +1,9 @@
 //! The order in which walls are painted, so that what is nearer comes later.
 use super::flat::{area, common, middle, Point, TINY};
 use super::seen::Wall;
-use super::split::split;
+use super::split::{split, Piece};
 use super::triangles::triangles;
 use super::view::flat;
-
-/// A wall, or a part of one, ready to be painted.
-pub struct Piece {
-    /// The wall's number in the list.
-    pub wall: usize,
-    pub outline: Vec<Point>,
-}
 
 /// The walls back to front. Where walls hide each other in a circle these are cut.
 pub fn back_to_front(walls: &[Wall]) -> Vec<Piece> {

@@ -1,9 +1,15 @@
 //! Walls that hide each other in a circle: cut by each other's planes until there is an order.
-use super::flat::TINY;
-use super::order::Piece;
+use super::flat::{Point, TINY};
 use super::seen::Wall;
 use super::triangles::triangles;
 use super::view::flat;
+
+/// A wall, or a part of one, ready to be painted.
+pub struct Piece {
+    /// The wall's number in the list.
+    pub wall: usize,
+    pub outline: Vec<Point>,
+}
 
 /// A convex part of a wall in space.
 #[derive(Clone)]

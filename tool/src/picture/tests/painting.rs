@@ -1,9 +1,10 @@
 //! The order in which walls are painted.
 use super::known;
 use crate::picture::flat::{area, inside, Point};
-use crate::picture::order::{back_to_front, Piece};
+use crate::picture::order::back_to_front;
 use crate::picture::seen::{Seen, Wall};
 use crate::picture::shade::{shade, Tone};
+use crate::picture::split::Piece;
 use crate::picture::triangles::triangles;
 
 /// At every point of a grid the piece that is painted last is of the nearest wall.

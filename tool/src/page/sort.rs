@@ -1,0 +1,31 @@
+//! What a row counts as, in its filter and in the counts.
+use crate::answers::named;
+use crate::ledger::UNREADABLE;
+
+/// What a row counts as.
+#[derive(Clone, Copy, Debug, PartialEq, Eq, PartialOrd, Ord)]
+pub enum Sort {
+    Assessed,
+    NotAssessed(u8),
+    Unreadable,
+}
+
+impl Sort {
+    /// As it stands in the row and in its filter.
+    pub fn words(self) -> String {
+        match self {
+            Sort::Assessed => "assessed".to_string(),
+            Sort::NotAssessed(number) => named(number),
+            Sort::Unreadable => UNREADABLE.to_string(),
+        }
+    }
+
+    /// As it stands in the page's address, after `#answer=`.
+    pub fn key(self) -> String {
+        match self {
+            Sort::Assessed => "0".to_string(),
+            Sort::NotAssessed(number) => number.to_string(),
+            Sort::Unreadable => UNREADABLE.to_string(),
+        }
+    }
+}
