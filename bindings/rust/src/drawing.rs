@@ -1,6 +1,9 @@
 //! Drawings, and sheets read and written.
+use crate::error::Error;
+use crate::reading::{assess, Reading};
+use crate::report::{convert, Report};
 use crate::sys::{self, COORDINATES, ENDS, SAID, SHEET_BYTES};
-use crate::{assess, check, convert, Error, Reading, Report, Verdict};
+use crate::verdict::{check, Verdict};
 
 /// A drawing: three coordinates for each vertex, in centimetres, and two vertex numbers for each edge.
 ///

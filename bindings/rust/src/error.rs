@@ -1,6 +1,6 @@
 //! What comes back where there is no answer.
+use crate::number::Number;
 use crate::sys::SAID;
-use crate::Number;
 use std::fmt;
 
 /// What a search counted: the loops of the drawing, how many of them may be faces, and the assumptions that were made.

@@ -1,5 +1,6 @@
 //! What a premium may be set from.
-use crate::{sys, Number};
+use crate::number::Number;
+use crate::sys;
 use std::fmt;
 
 /// The reading of a drawing that is lent as two lists, with a work limit of 0 to [`MOST_WORK`](crate::MOST_WORK).

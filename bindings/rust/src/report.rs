@@ -1,9 +1,9 @@
 //! Conversion and its report.
-use crate::sys::{self, FACE_ROOM, SAID, SOLID_ROOM};
-use crate::{Error, Search, Solid};
+use crate::error::{Error, Search};
+use crate::solid::Solid;
+use crate::sys::{self, FACE_ROOM, ROW, SAID, SOLID_ROOM};
 
-/// Bytes for each candidate, and words for each solid.
-pub(crate) const ROW: usize = 13;
+/// Words for each solid.
 const WORDS: usize = 3;
 
 /// Converts a drawing that is lent as two lists, with a work limit of 0 to [`MOST_WORK`](crate::MOST_WORK): refusals 2, 5 and 8 to 19.

@@ -1,7 +1,6 @@
 //! The solids of a report and their faces.
-use crate::report::ROW;
-use crate::sys::{self, LIST_BYTES, SAID};
-use crate::Error;
+use crate::error::Error;
+use crate::sys::{self, LIST_BYTES, ROW, SAID};
 use std::fmt;
 
 /// One solid of a report.

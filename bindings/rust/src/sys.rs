@@ -8,6 +8,8 @@
 /// Bytes of the faces of a report, and words of its solids.
 pub const FACE_ROOM: usize = 832;
 pub const SOLID_ROOM: usize = 24;
+/// Bytes for each candidate.
+pub const ROW: usize = 13;
 /// Words of what is said at the most.
 pub const SAID: usize = 7;
 /// Entries of the largest drawing's lists.
