@@ -69,34 +69,18 @@ fn stack_of(d: &Drawing) -> Vec<usize> {
 }
 
 /// The tables and the walk.
-fn walks(
-    drawing: fast::Drawing,
-    loops: Vec<fast::Loop>,
-    candidates: Vec<fast::Loop>,
-    lists: &Lists,
-    faces: &Faces,
-) {
+fn walks(drawing: fast::Drawing, loops: Vec<fast::Loop>, candidates: Vec<fast::Loop>, lists: &Lists, faces: &Faces) {
     let mut lent = NO_TABLES;
     proved_clashes(black_box(lists), faces, &mut lent);
     let (tables, clashes) = fast_clashes(black_box(&drawing), black_box(&candidates));
     assert_eq!((lent.on, lent.up), (tables.on, tables.up));
-    assert_eq!(
-        (&lent.clashes[..clashes.len()], lent.sixes),
-        (&clashes[..], tables.six)
-    );
+    assert_eq!((&lent.clashes[..clashes.len()], lent.sixes), (&clashes[..], tables.six));
     let mut solids = [0; SOLID_ROOM];
     let work = proved_walk(black_box(&lent), drawing.edges, faces, &mut solids);
-    let passed = fast::Passed {
-        drawing,
-        loops,
-        candidates,
-    };
+    let passed = fast::Passed { drawing, loops, candidates };
     let mut leaf = fast::Leaf::new(&passed, &tables, MOST_SOLIDS);
     leaf.clashes = Some(clashes);
-    assert_eq!(
-        work,
-        fast_walk(black_box(&tables), &passed.candidates, &mut leaf)
-    );
+    assert_eq!(work, fast_walk(black_box(&tables), &passed.candidates, &mut leaf));
     assert_eq!(solids, leaf.words);
 }
 
@@ -110,12 +94,7 @@ fn lists(d: &Drawing) -> Lists {
         number[32 * a + b] = e as u8;
         number[32 * b + a] = e as u8;
     }
-    Lists {
-        xyz,
-        ends,
-        near,
-        number,
-    }
+    Lists { xyz, ends, near, number }
 }
 
 fn same_loops(loops: &Loops, found: &[fast::Loop]) {
@@ -141,17 +120,13 @@ fn drawings(name: &str) -> Vec<Drawing> {
         return (0..1_000).map(|_| generated()).collect();
     }
     let known = named().into_iter().map(|(known, d)| (known.to_string(), d));
-    known
-        .chain(growing())
-        .filter(|(known, _)| known == name)
-        .map(|(_, d)| d)
-        .collect()
+    known.chain(growing()).filter(|(known, _)| known == name).map(|(_, d)| d).collect()
 }
 
 /// The most of each number.
 fn say_most(drawings: &[Drawing], numbers: impl Fn(&Drawing) -> Vec<usize>) {
     let read = |d: &&Drawing| fast::Drawing::read(Source::Sheet(&pack_sheet(d))).is_ok();
-    let mut most = vec![0; 5];
+    let mut most = [0; 5];
     for numbers in drawings.iter().filter(read).map(numbers) {
         for (high, number) in most.iter_mut().zip(numbers) {
             *high = number.max(*high);

@@ -1,15 +1,14 @@
 //! The stages by the reference's fast version.
 use crate::proved::Rooms;
 use nibgravel_reference::convert::Answer;
-use nibgravel_reference::source::Source;
 use nibgravel_reference::fast;
 use nibgravel_reference::numbers::MOST_WORK;
+use nibgravel_reference::source::Source;
 
 #[no_mangle]
 #[inline(never)]
 pub fn fast_rules(d: &fast::Drawing) -> u64 {
-    d.rules_11_to_14()
-        .map_or_else(|refusal| refusal.number as u64, |()| 0)
+    d.rules_11_to_14().map_or_else(|refusal| refusal.number as u64, |()| 0)
 }
 
 #[no_mangle]
@@ -27,10 +26,7 @@ pub fn fast_candidates(d: &fast::Drawing, loops: &[fast::Loop]) -> Vec<fast::Loo
 #[no_mangle]
 #[inline(never)]
 pub fn fast_clashes(d: &fast::Drawing, candidates: &[fast::Loop]) -> (fast::Tables, Vec<u64>) {
-    (
-        fast::Tables::new(d, candidates),
-        fast::clashes(d, candidates),
-    )
+    (fast::Tables::new(d, candidates), fast::clashes(d, candidates))
 }
 
 /// The work of the whole walk; the words of the solids are in the leaf.

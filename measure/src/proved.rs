@@ -81,24 +81,13 @@ pub const NO_LOOPS: Loops = Loops {
     sides: [0; MOST_LOOPS],
 };
 
-pub const NO_FACES: Faces = Faces {
-    count: 0,
-    rows: [0; FACE_ROOM],
-    corners: [0; MOST_CANDIDATES],
-    sides: [0; MOST_CANDIDATES],
-};
+pub const NO_FACES: Faces =
+    Faces { count: 0, rows: [0; FACE_ROOM], corners: [0; MOST_CANDIDATES], sides: [0; MOST_CANDIDATES] };
 
-pub const NO_TABLES: Tables = Tables {
-    on: [0; MOST_EDGES],
-    up: [0; MOST_EDGES],
-    clashes: [0; MOST_CANDIDATES],
-    sixes: [0; MOST_CANDIDATES],
-};
+pub const NO_TABLES: Tables =
+    Tables { on: [0; MOST_EDGES], up: [0; MOST_EDGES], clashes: [0; MOST_CANDIDATES], sixes: [0; MOST_CANDIDATES] };
 
-pub const NO_ROOMS: Rooms = Rooms {
-    faces: [0; FACE_ROOM],
-    solids: [0; SOLID_ROOM],
-};
+pub const NO_ROOMS: Rooms = Rooms { faces: [0; FACE_ROOM], solids: [0; SOLID_ROOM] };
 
 #[no_mangle]
 #[inline(never)]
@@ -143,11 +132,7 @@ pub fn proved_clashes(d: &Lists, f: &Faces, t: &mut Tables) {
 #[no_mangle]
 #[inline(never)]
 pub fn proved_walk(t: &Tables, edges: usize, f: &Faces, out: &mut [u64; SOLID_ROOM]) -> u64 {
-    unsafe {
-        measured_walk(
-            &t.on, &t.up, edges, &f.sides, &t.clashes, &t.sixes, f.count, MOST_WORK, out,
-        )
-    }
+    unsafe { measured_walk(&t.on, &t.up, edges, &f.sides, &t.clashes, &t.sixes, f.count, MOST_WORK, out) }
 }
 
 /// The work of a conversion, or the number that refuses it.

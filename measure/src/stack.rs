@@ -18,7 +18,5 @@ pub fn bytes(call: impl FnOnce() -> u64) -> usize {
     }
     call();
     let other = |word: &*mut u64| unsafe { word.read_volatile() } != FILL;
-    words(top - ROOM, top)
-        .find(other)
-        .map_or(0, |word| top - word as usize)
+    words(top - ROOM, top).find(other).map_or(0, |word| top - word as usize)
 }
