@@ -51,10 +51,18 @@ pub fn shown(name: impl AsRef<OsStr>) -> String {
 #[cfg(test)]
 mod tests {
     use super::*;
+    use std::error::Error;
 
     #[test]
     fn a_name_is_one_line() {
         assert_eq!(shown("a\nb\u{1b}[1m.sheet"), "a\\nb\\u{1b}[1m.sheet");
+    }
+
+    #[test]
+    fn why_a_file_is_not_read_is_kept() {
+        let problem = item(OsStr::new("/no/such/file")).expect_err("there is none");
+        let error = problem.source().and_then(|error| error.downcast_ref::<io::Error>());
+        assert_eq!(error.map(io::Error::kind), Some(io::ErrorKind::NotFound));
     }
 
     #[test]
