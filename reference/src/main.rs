@@ -49,7 +49,7 @@ reference: document 01 in plain Rust, in a clear version and a fast one; `refere
 
   reference trial KIND DIR
       writes what a trial program reads, DIR/stdin, and what it must print, DIR/stdout. KIND is sheet (sheets read and
-      written back), geometry (drawing rules 11 to 14, and clash and cover of faces), loops (loops and candidates with
+      written back), geometry (drawing rules 11 to 14, cover of loops, clash of candidates), loops (loops and candidates with
       their words), walk (work and solids of drawings under a work limit), desk (the desk's text of sheets), check
       (face lists checked against sheets) or pipe (requests of the program that answers over a pipe)
       --count N              generated cases of each sort (200)

@@ -3,10 +3,10 @@ use crate::calls::sheets_with_lists;
 use crate::check::verdict;
 use crate::clash::clash;
 use crate::convert::{convert, Answer};
-use crate::cover::{find_candidates, polygon_covers};
+use crate::cover::{covers, find_candidates};
 use crate::desk::desk;
 use crate::drawing::{Drawing, Loop};
-use crate::face_list::{pack_faces, read_faces};
+use crate::face_list::pack_faces;
 use crate::fast;
 use crate::gen::extreme_lists::extreme_lists;
 use crate::gen::extremes::{extreme_sheets, sheets_at_limits};
@@ -14,7 +14,7 @@ use crate::gen::limits::{all_but_three, faces_with, flat_128, flat_129, nine_sol
 use crate::gen::lists::{any_list, from_any_corners, sent_solids};
 use crate::gen::named::named;
 use crate::gen::rng::Rng;
-use crate::gen::scenes::{four_polygons, ruled_drawing};
+use crate::gen::scenes::{ruled_drawing, two_pyramids};
 use crate::gen::sheets::{any_sheet, changed, counted_drawing};
 use crate::loops::{find_loops, loop_edges};
 use crate::numbers::*;
@@ -72,32 +72,35 @@ fn written_back(d: &Drawing) -> String {
     format!("drawing {} {}\n{digits}", d.vertices.len(), d.edges.len())
 }
 
-/// Sheets, each with a face list: drawings of four polygons, which are the faces, and drawings for rules 11 to 14,
-/// which have no list.
+/// Sheets: drawings of two polygons with a point over each, whose faces clash in many ways, and drawings for rules 11 to 14.
 pub fn geometry(seed: u64, count: u64) -> Trial {
     let mut trial = Trial::default();
     for k in 0..count {
         let mut r = Rng::of_case(seed, k);
-        let (scene, faces) = four_polygons(&mut r);
-        let ruled = ruled_drawing(&mut r, k as usize);
-        for (d, list) in [(scene, pack_faces(&faces)), (ruled, vec![])] {
+        for d in [two_pyramids(&mut r), ruled_drawing(&mut r, k as usize)] {
             trial.put(&pack_sheet(&d));
-            trial.put(&list);
-            trial.output += &rules_11_to_14(&d).map_or_else(refused, |()| "fine\n".to_string());
-            trial.output += &against_each_other(&d, &list);
+            trial.output += &rules_11_to_14(&d).map_or_else(refused, |()| covers_line(&d) + &clashes_line(&d));
         }
     }
     trial
 }
 
-/// A line for each face, and in it a digit for each: 1 where the two clash, and 2 more where the line's covers the other.
-fn against_each_other(d: &Drawing, list: &[u8]) -> String {
-    let Some(faces) = read_faces(list, d.vertices.len()) else {
-        return refused(Refusal { number: SHELL_SHAPE, place: 0 });
-    };
-    let faces: Vec<_> = faces.iter().map(|face| d.points(face)).collect();
-    let digit = |f, g| clash(f, g).is_some() as u8 + 2 * polygon_covers(f, g) as u8;
-    faces.iter().map(|f| faces.iter().map(|g| digit(f, g).to_string()).collect::<String>() + "\n").collect()
+/// A digit for each loop: 1 where it covers another.
+fn covers_line(d: &Drawing) -> String {
+    find_loops(d).map_or_else(refused, |loops| {
+        let digit = |a: &Loop| (loops.iter().any(|b| covers(d, a, b)) as u8).to_string();
+        format!("covers {}\n", loops.iter().map(digit).collect::<String>())
+    })
+}
+
+/// A word for each candidate: those that it clashes with.
+fn clashes_line(d: &Drawing) -> String {
+    find_loops(d).and_then(|loops| find_candidates(d, &loops)).map_or_else(refused, |candidates| {
+        let faces: Vec<_> = candidates.iter().map(|l| d.points(l)).collect();
+        let others = |k: usize| (0..faces.len()).filter(move |j| *j != k);
+        let those = |k: usize| word(others(k).filter(|j| clash(&faces[k], &faces[*j]).is_some()));
+        format!("clashes{}\n", (0..faces.len()).map(|k| format!(" {}", those(k))).collect::<String>())
+    })
 }
 
 /// Sheets of the named drawings, of those with 128 and 129 loops and with 64 and 65 candidates, and of generated ones.

@@ -4,6 +4,5 @@ pub mod Zeros
 pub mod Rows
 pub mod Areas
 pub mod Planes
-pub mod Fans
 pub mod Drawn
 pub mod Pairs

@@ -1,4 +1,4 @@
-// The rows of a loop table as polygons: corners, normal, plane and six volumes. Assumes a row whose vertices the coordinates have.
+// The rows of a loop table as polygons: corners, normal and plane. Assumes a row whose vertices the coordinates have.
 ghost use mathlib.Core.Path.{_≡_};
 ghost use Prim.Native.Nat.{_+_, _*_, _<_, _≤_};
 ghost use lib.ListN.{length};
@@ -6,11 +6,9 @@ ghost use Rattle.lists.specs.Around.{wrap};
 ghost use Rattle.paper.specs.Numbers.{rowBytes};
 ghost use Rattle.paper.specs.Points.{dot, minus};
 ghost use Rattle.paper.specs.Polygon.{normal, onePlane};
-ghost use Rattle.paper.specs.Solids.{faceSix};
 ghost use Rattle.polygon.specs.Sizes.{PlaneWithin};
 ghost use Rattle.polygon.specs.Rings.{pointOf, countIn, ring, ofRows, cornerOf, Row, CornerIn, FaceAndRow};
 use super::points::cross;
-use super::points::det;
 use super::points::dot;
 use super::points::is_zero;
 use super::points::minus;
@@ -97,23 +95,4 @@ pub fn in_plane(xyz: &[i64], table: &[u8], g: usize, m: Point, h: usize) -> bool
         j += 1;
     }
     true
-}
-
-// Row r's part of six volumes: the sum of the determinants of its fan.
-pub fn six_volumes(xyz: &[i64], table: &[u8], r: usize) -> i64
-    requires { ⌜ Row (now xyz) (now table) r ⌝ }
-    ensures { λ v. ⌜ v ≡ faceSix (ring (now (xyz .entry)) (now (table .entry)) r) ⌝ }
-{
-    let n = count(table, r);
-    let a = corner(xyz, table, r, 0);
-    let mut b = corner(xyz, table, r, 1);
-    let mut sum: i64 = 0;
-    let mut i = 1;
-    while i + 1 < n {
-        let c = corner(xyz, table, r, i + 1);
-        sum = sum + det(a, b, c);
-        b = c;
-        i += 1;
-    }
-    sum
 }

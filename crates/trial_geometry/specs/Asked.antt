@@ -1,13 +1,12 @@
--- What the functions of this program ask of rows. Assumes nothing.
+-- Lists that have passed 3 to 10.
 use mathlib.Core.List.{List}
-use Prim.Native.Nat.{ℕ, _<_}
+use mathlib.Core.Path.{_≡_}
+use Prim.Native.Nat.{ℕ}
 use lib.IntN.{ℤ}
-use Rattle.polygon.specs.Rings.{Row}
+use Rattle.paper.specs.Refusals.{firstOf}
+use Rattle.paper.specs.Format.{editionOne}
+use Rattle.paper.specs.Sheet.{lentChecks}
+use Rattle.paper.specs.declared.Answer.the-variants.{Fine}
 
--- each of the first count rows is a loop; and i is one of them
-abbrev pub Rows : List ℤ → List ℕ → ℕ → Type 0
-Rows l t count = (r : ℕ) → r < count → Row l t r
-
-pub record RowOf (l : List ℤ) (t : List ℕ) (count i : ℕ) : Type 0 where
-  pub rows : Rows l t count
-  pub i-in : i < count
+abbrev pub Ruled : List ℤ → List ℕ → Type 0
+Ruled xyz ends = Fine ≡ firstOf (lentChecks editionOne xyz ends)

@@ -1,110 +1,173 @@
-// Runs stored drawings through rules 11 to 14, and stored faces through clash and cover. Standard input has sheets, each with a face list
-// behind it, all behind their lengths in two bytes, high byte first. Of each drawing it prints what the rules say, and of each face a line
-// with a digit for each: 1 where the two clash, and 2 more where the line's covers the other.
-ghost use Rattle.polygon.specs.Rings.{FaceAndRow};
-ghost use Rattle.paper_laws.specs.InRange.{Points, InRange, Held};
-ghost use Rattle.trial_geometry.specs.Asked.{Rows, RowOf};
-use clash::clash;
-use cover::covers;
+// Puts stored drawings to rules 11 to 14, to cover and to clash. Standard input has sheets, each behind its length in two bytes, high byte
+// first. Of each drawing it prints what refuses it; or a line with a digit for each loop, 1 where it covers another, and a line with a word
+// for each candidate, of those that it clashes with.
+ghost use Prim.Native.Nat.{_≤_};
+ghost use Rattle.paper.specs.Numbers.{mostCandidates};
+ghost use Rattle.paper_laws.specs.InRange.{Held};
+ghost use Rattle.loop_table.specs.Passed.{Passed};
+ghost use Rattle.loop_cover.specs.Known.{Known};
+ghost use Rattle.trial_geometry.specs.Asked.{Ruled};
+use drawing_links::neighbours;
+use drawing_lists::lend::lent;
 use drawing_rules::drawing_rules;
 use libc::STDIN_FILENO;
+use lists::Found;
+use loop_cover::covers_other;
+use loop_known::known_loops;
+use loop_words::number_edges;
 use paper::Answer;
 use paper::Drawing;
-use paper::Point;
-use polygon::rings::normal;
-use trial::Pair;
-use trial::ends_of;
+use paper::FACE_ROOM;
+use paper::FILL;
+use paper::LOOP_ROOM;
+use paper::MANY_LOOPS;
+use paper::MOST_CANDIDATES;
+use paper::MOST_EDGES;
+use paper::MOST_LOOPS;
+use paper_values::edition_one;
+use tables::Tabled;
+use tables::tables;
+use trial::end_of;
 use trial::say;
 use trial::say_number;
 use trial::say_refused;
 
-fn digit(xyz: &[i64], rows: &[u8], i: usize, m: Point, j: usize) -> u64
-    requires { ⌜ FaceAndRow (now xyz) (now rows) i m j ⌝ }
+// A digit for each of the n loops.
+fn say_covers(
+    xyz: &[i64],
+    ends: &[u8],
+    table: &[u8],
+    n: usize,
+    corners: &[u64; MOST_LOOPS],
+    sides: &[u64; MOST_LOOPS],
+    planes: &[u64; MOST_LOOPS],
+)
+    requires { ⌜ Known (now xyz) (now ends) (now table) n (now corners) (now sides) (now planes) ⌝ }
 {
-    let k = normal(xyz, rows, j);
-    let hit = clash(xyz, rows, i, m, j, k);
-    if covers(xyz, rows, i, m, j) {
-        if hit { 3 } else { 2 }
-    } else {
-        if hit { 1 } else { 0 }
-    }
-}
-
-// Face i against each.
-fn show_face(xyz: &[i64], rows: &[u8], count: usize, i: usize)
-    requires { ⌜ RowOf (now xyz) (now rows) count i ⌝ }
-{
-    let m = normal(xyz, rows, i);
-    let mut j = 0;
-    while j < count {
-        say_number(digit(xyz, rows, i, m, j));
-        j += 1;
+    say(b"covers ");
+    let mut k = 0;
+    while k < n {
+        if covers_other(xyz, ends, table, n, corners, sides, planes, k) {
+            say(b"1");
+        } else {
+            say(b"0");
+        }
+        k += 1;
     }
     say(b"\n");
 }
 
-fn show_faces(xyz: &[i64], rows: &[u8], count: usize)
-    requires { ⌜ Rows (now xyz) (now rows) count ⌝ }
+fn show_covers(xyz: &[i64], ends: &[u8])
+    requires { ⌜ Passed (now xyz) (now ends) ⌝ }
 {
-    let mut i = 0;
-    while i < count {
-        show_face(xyz, rows, count, i);
-        i += 1;
+    let near = neighbours(ends, xyz.len() / 3);
+    let number = number_edges(ends);
+    let mut table = [0u8; LOOP_ROOM];
+    let mut planes = [0u64; MOST_LOOPS];
+    let mut corners = [0u64; MOST_LOOPS];
+    let mut sides = [0u64; MOST_LOOPS];
+    let n = known_loops(
+        xyz,
+        &near,
+        &number,
+        &mut table,
+        &mut planes,
+        &mut corners,
+        &mut sides,
+    );
+    if MOST_LOOPS < n {
+        say_refused(MANY_LOOPS, 0);
+        return;
     }
+    say_covers(xyz, ends, &table, n, &corners, &sides, &planes);
 }
 
-// The faces of a packed list, for a drawing with v vertices.
-fn show_list(xyz: &[i64], v: usize, list: &[u8])
-    requires { ⌜ Points (now xyz) v ⌝ }
+// The words of the n candidates.
+fn say_clashes(clashes: &[u64; MOST_CANDIDATES], n: usize)
+    requires { ⌜ n ≤ mostCandidates ⌝ }
 {
-    let faces = faces_reader::read_faces(list, v);
-    let answer = faces.answer;
-    match answer {
-        Answer::Refused(r) => say_refused(r.number, r.place),
-        Answer::Fine => {
-            let rows = faces.rows;
-            show_faces(xyz, &rows, faces.count)
-        }
+    say(b"clashes");
+    let mut k = 0;
+    while k < n {
+        say(b" ");
+        say_number(clashes[k]);
+        k += 1;
+    }
+    say(b"\n");
+}
+
+fn show_clashes(xyz: &[i64], ends: &[u8])
+    requires { ⌜ Ruled (now xyz) (now ends) ⌝ }
+{
+    let mut rows = [FILL; FACE_ROOM];
+    let mut on = [0u64; MOST_EDGES];
+    let mut up = [0u64; MOST_EDGES];
+    let mut sides = [0u64; MOST_CANDIDATES];
+    let mut clashes = [0u64; MOST_CANDIDATES];
+    let mut sixes = [0i64; MOST_CANDIDATES];
+    let tabled = tables(
+        xyz,
+        ends,
+        &mut rows,
+        &mut on,
+        &mut up,
+        &mut sides,
+        &mut clashes,
+        &mut sixes,
+    );
+    match tabled {
+        Tabled::Refused(r) => say_refused(r.number, r.place),
+        Tabled::Ready(c) => say_clashes(&clashes, c.candidates),
     }
 }
 
 fn show_rules(xyz: &[i64], ends: &[u8])
-    requires { ⌜ InRange (now xyz) (now ends) ⌝ }
+    requires { ⌜ Ruled (now xyz) (now ends) ⌝ }
 {
     let answer = drawing_rules(xyz, ends);
     match answer {
         Answer::Refused(r) => say_refused(r.number, r.place),
-        Answer::Fine => say(b"fine\n"),
+        Answer::Fine => {
+            show_covers(xyz, ends);
+            show_clashes(xyz, ends)
+        }
     }
 }
 
-fn show_drawing(d: Drawing, list: &[u8])
+fn show_lists(xyz: &[i64], ends: &[u8]) {
+    let answer = lent(edition_one(), xyz, ends);
+    match answer {
+        Answer::Refused(r) => say_refused(r.number, r.place),
+        Answer::Fine => show_rules(xyz, ends),
+    }
+}
+
+fn show_drawing(d: Drawing)
     requires { ⌜ Held d ⌝ }
 {
     let xyz = d.xyz;
     let ends = d.ends;
     let m = 3 * d.vertices;
     let n = 2 * d.edges;
-    show_rules(&xyz[..m], &ends[..n]);
-    show_list(&xyz[..m], d.vertices, list)
+    show_lists(&xyz[..m], &ends[..n])
 }
 
-fn show(s: &[u8], list: &[u8]) {
+fn show(s: &[u8]) {
     let read = sheet_reader::read_sheet(s);
     let answer = read.answer;
     match answer {
         Answer::Refused(r) => say_refused(r.number, r.place),
-        Answer::Fine => show_drawing(read.drawing, list),
+        Answer::Fine => show_drawing(read.drawing),
     }
 }
 
 fn show_all(book: &[u8]) {
     let mut at: usize = 0;
     while at < book.len() {
-        let Pair::Ends(middle, end) = ends_of(book, at) else {
-            return;
+        let Found::Value(end) = end_of(book, at) else {
+            return
         };
-        show(&book[at + 2..middle], &book[middle + 2..end]);
+        show(&book[at + 2..end]);
         at = end;
     }
 }

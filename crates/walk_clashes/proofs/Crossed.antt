@@ -18,7 +18,7 @@ use Rattle.paper.specs.Drawing.{Edge, edge, wire, at, joins, joined}
 use Rattle.paper.specs.Loops.{polygon}
 use Rattle.paper.specs.Solids.{has, tablesOf}
 use Rattle.paper.specs.declared.Point.{Point}
-use Rattle.clash.specs.Strike.{pierceAt}
+use Rattle.clash_pierce.specs.Pierce.{pierceAt}
 use Rattle.polygon.specs.Rings.{ring, pointOf, Face}
 use Rattle.polygon.proofs.Drawn.{point-of}
 use Rattle.fast_tables.specs.Hits.{edgePierces}

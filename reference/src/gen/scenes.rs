@@ -1,10 +1,10 @@
-//! Drawings to try the geometry on: four polygons drawn together, and drawings at which rules 11 to 14 are aimed.
+//! Drawings to try the geometry on: two polygons drawn together, and drawings at which rules 11 to 14 are aimed.
 use super::damage::damaged_drawing;
 use super::maker::{Maker, Place};
 use super::pairs::any_pair;
 use super::rng::Rng;
 use super::sheets::{changed, counted_drawing};
-use crate::drawing::{Drawing, Loop};
+use crate::drawing::Drawing;
 use crate::fast;
 use crate::numbers::*;
 use crate::sheet::pack_sheet;
@@ -16,20 +16,30 @@ fn fits(d: &Drawing) -> bool {
         && d.vertices.iter().flatten().all(|c| COORDINATE.contains(c))
 }
 
-/// Two pairs of polygons in one drawing, and the four as faces.
-pub fn four_polygons(r: &mut Rng) -> (Drawing, Vec<Loop>) {
+/// Two polygons, each with a point over it that is joined to its corners and to the other's: a drawing that passes 3 to 16.
+pub fn two_pyramids(r: &mut Rng) -> Drawing {
     loop {
-        let ((a, b), (c, d)) = (any_pair(r), any_pair(r));
-        let polygons = [a, b, c, d];
+        let (f, g) = any_pair(r);
+        let (over_f, over_g) = (place(r), place(r));
         let mut maker = Maker::default();
-        polygons.iter().for_each(|polygon| maker.ring(polygon));
-        let drawing = maker.done();
-        if fits(&drawing) {
-            let number = |p: &Place| drawing.vertices.iter().position(|v| v == p).expect("drawn");
-            let faces = polygons.iter().map(|polygon| polygon.iter().map(number).collect()).collect();
-            return (drawing, faces);
+        maker.ring(&f);
+        maker.ring(&g);
+        maker.fan(over_f, &f);
+        maker.fan(over_g, &g);
+        maker.line(over_f, over_g);
+        let d = maker.done();
+        if passes(&d) {
+            return d;
         }
     }
+}
+
+fn place(r: &mut Rng) -> Place {
+    std::array::from_fn(|_| r.range(-9, 9))
+}
+
+fn passes(d: &Drawing) -> bool {
+    fits(d) && fast::drawing_rules(Source::Sheet(&pack_sheet(d))).is_ok()
 }
 
 /// A drawing that passes 3 to 10, aimed in turn at none and each of 11 to 14.

@@ -1,7 +1,9 @@
--- `trial_geometry::show_all`: the loop keeps that the place is in the book; each pair ends in it, behind its start. Assumes nothing.
+-- `trial_geometry::show_all`: the loop keeps that the place is in the book; each item ends in it, behind its start.
+use mathlib.Core.Path.{sym, ap}
 use Prim.Native.Nat.{_-_, _≤_, _+_}
 use lib.ListN.{length}
 use native.Mathlib.Omega.{arith}
+use Rattle.lists.specs.Found.{found}
 use Rattle.trial_geometry.proofs.show_all.Statement.{statement}
 use Rattle.trial_geometry.proofs.show_all.Tie as tie
 
@@ -11,24 +13,24 @@ Inv-loop book at₀ at = at ≤ length book
 abbrev μ-loop : tie.MeasureT-loop
 μ-loop book at₀ at = length book - at
 
--- where the two items end
-ends-in : (c : tie.After-known-told Inv-loop μ-loop)
+-- where the item ends
+end-in : (c : tie.After-known-told Inv-loop μ-loop)
     → let l = c .before .before .before .before .before in
-    let k = c .before .middle .given .0 in
-    (l .loop .at + 2 ≤ k .0) × (k .0 + 2 ≤ k .1 .0) × (k .1 .0 ≤ length (l .before .before .args .book .now))
-ends-in c = c .before .before .before .ends-of .ensures _ _ (c .before .middle .given .1)
+    let k = c .before .end .given .0 .0 in
+    (l .loop .at + 2 ≤ k) × (k ≤ length (l .before .before .args .book .now))
+end-in c = c .before .before .before .end-of .ensures _ (sym (ap found (c .before .end .given .1)))
 
 abbrev shown : tie.After-show Inv-loop μ-loop → tie.After-known-told Inv-loop μ-loop
-shown c = c .before .before .before
+shown c = c .before .before
 
 loop-holds : tie.Need-loop-holds Inv-loop μ-loop
 loop-holds c = omega arith
 
-ends-of-requires : tie.Need-ends-of-requires Inv-loop μ-loop
-ends-of-requires c κs = omega arith
+end-of-requires : tie.Need-end-of-requires Inv-loop μ-loop
+end-of-requires c κs = omega arith
 
-enum-known-middle : tie.Need-enum-known-middle Inv-loop μ-loop
-enum-known-middle c = omega arith
+enum-known-end : tie.Need-enum-known-end Inv-loop μ-loop
+enum-known-end c = omega arith
 
 enum-told : tie.Need-enum-told Inv-loop μ-loop
 enum-told c = omega arith
@@ -37,37 +39,25 @@ returns : tie.Need-returns Inv-loop μ-loop
 returns c = omega arith
 
 add-show : tie.Need-add-show Inv-loop μ-loop
-add-show c = omega (arith, ends-in c)
+add-show c = omega (arith, end-in c)
 
 sub-show : tie.Need-sub-show Inv-loop μ-loop
-sub-show c = omega (arith, ends-in c)
+sub-show c = omega (arith, end-in c)
 
 part-show-start : tie.Need-part-show-start Inv-loop μ-loop
-part-show-start c = omega (arith, ends-in c)
+part-show-start c = omega (arith, end-in c)
 
 part-show-end : tie.Need-part-show-end Inv-loop μ-loop
-part-show-end c = omega (arith, ends-in c)
-
-add-show-2 : tie.Need-add-show-2 Inv-loop μ-loop
-add-show-2 c = omega (arith, ends-in (c .before))
-
-sub-show-2 : tie.Need-sub-show-2 Inv-loop μ-loop
-sub-show-2 c = omega (arith, ends-in (c .before))
-
-part-show-start-2 : tie.Need-part-show-start-2 Inv-loop μ-loop
-part-show-start-2 c = omega (arith, ends-in (c .before))
-
-part-show-end-2 : tie.Need-part-show-end-2 Inv-loop μ-loop
-part-show-end-2 c = omega (arith, ends-in (c .before))
+part-show-end c = omega (arith, end-in c)
 
 show-requires : tie.Need-show-requires Inv-loop μ-loop
 show-requires c κs = omega arith
 
 loop-less : tie.Need-loop-less Inv-loop μ-loop
-loop-less c = omega (arith, ends-in (shown c))
+loop-less c = omega (arith, end-in (shown c))
 
 loop-again : tie.Need-loop-again Inv-loop μ-loop
-loop-again c = omega (arith, ends-in (shown c))
+loop-again c = omega (arith, end-in (shown c))
 
 returns-2 : tie.Need-returns-2 Inv-loop μ-loop
 returns-2 c = omega arith
@@ -79,18 +69,14 @@ show-all-spec =
     Inv-loop
     μ-loop
     loop-holds
-    ends-of-requires
-    enum-known-middle
+    end-of-requires
+    enum-known-end
     enum-told
     returns
     add-show
     sub-show
     part-show-start
     part-show-end
-    add-show-2
-    sub-show-2
-    part-show-start-2
-    part-show-end-2
     show-requires
     loop-less
     loop-again

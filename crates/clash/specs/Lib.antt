@@ -1,3 +1,0 @@
--- What contracts of this crate cite beside the paper. Assumes nothing.
-pub mod Asked
-pub mod Strike
