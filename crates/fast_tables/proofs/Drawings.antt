@@ -1,105 +1,53 @@
--- The candidates of a drawing that passes 11 and 13. Assumes nothing.
-use mathlib.Core.Path.{_≡_, refl, sym, ap, _∙_, subst}
-use mathlib.Core.Bool.{Bool, true, false, not, _&&_, _||_, and-comm, or-comm}
+-- The candidates of a drawing that passes 11 and 13.
+use mathlib.Core.Path.{_≡_, sym, ap, ap₂, _∙_, subst}
+use mathlib.Core.Bool.{Bool, true, false, not}
 use mathlib.Core.Logic.{_⊎_, inl, inr}
 use mathlib.Core.Option.{none}
-use mathlib.Core.List.{List, [], _∷_, map}
-use Prim.Native.Nat.{ℕ, zero, suc, _+_, _<_}
-use native.Mathlib.Nat.{eq-or-lt-of-le}
+use mathlib.Core.List.{[], map}
+use Prim.Native.Nat.{ℕ, zero, suc, _+_, _-_, _<_}
+use native.Mathlib.Numerals.{add-one}
 use native.Mathlib.Omega.{arith}
-use lib.Dec.{eqb}
 use lib.ListN.{length, getD, length-map}
 use Rattle.lists.specs.Lists.{keep, filter, from, upto}
 use Rattle.lists.specs.Around.{wrap, around}
-use Rattle.lists.proofs.Places.{map-at, any-same}
-use Rattle.lists.proofs.Sides.{wrap-low, wrap-high}
-use Rattle.paper.specs.Numbers.{mostCorners}
-use Rattle.paper.specs.Drawing.{Wire, Edge, edge, joins, joined, samePlace, edgeMeets}
-use Rattle.paper.specs.Loops.{Loop, level, loops, loopAt, coversOther, uncovering, candidates}
+use Rattle.lists.proofs.Places.{map-at}
+use Rattle.lists.proofs.Sides.{around-low}
+use Rattle.paper.specs.Drawing.{Wire, joined, samePlace, edgeMeets}
+use Rattle.paper.specs.Loops.{Loop, loops, loopAt, coversOther, uncovering, candidates}
 use Rattle.paper.specs.Solids.{tablesOf}
 use Rattle.means_drawing.proofs.Drawings.{samePlace-means}
-use Rattle.means_area.specs.Rings.{Chain, Link}
-use Rattle.means_area.proofs.Loops.Paths.{empty, Closed, Differ, ext-closed, below, all-differ, closed-long, closed-tied}
-use Rattle.means_area.proofs.Loops.{plane-holds, of-at}
+use Rattle.means_solid.proofs.Goes.{wrap-next, around-at}
+use Rattle.means_loops.specs.Loop.{IsLoop}
+use Rattle.means_loops.proofs.Listing.{loops-are}
+use Rattle.means_area.proofs.Loops.{plane-holds}
 use Rattle.fast_tables.specs.Paths.{Apart, Path, Level}
 use Rattle.fast_tables.specs.Hits.{hits}
 use Rattle.fast_tables.specs.Asked.{coversByAnswers}
 use Rattle.fast_tables.proofs.Rows.{table-clashes}
 use Rattle.fast_tables.proofs.Candidates.{uncovering-found}
 
--- ---- what `means_area` says of a closed path, by places
-
-chain-at : (x : ℕ) (r : List ℕ) (e i : ℕ) → i < length r → Chain x r e (getD (x ∷ r) i 0) (getD r i 0)
-chain-at x [] e i h = absurd (omega arith)
-chain-at x (y ∷ r) e zero h = inl (inl (refl, refl))
-chain-at x (y ∷ r) e (suc i) h = inr (chain-at y r e i (omega arith))
-
-chain-last : (x : ℕ) (r : List ℕ) (e : ℕ) → Chain x r e (getD (x ∷ r) (length r) 0) e
-chain-last x [] e = inl (refl, refl)
-chain-last x (y ∷ r) e = inr (chain-last y r e)
-
-link-at : (l : Loop) (i : ℕ) → i < length l → Link l (around l i 0) (around l (i + 1) 0)
-unfolding around
-link-at [] i h = absurd (omega arith)
-link-at (x ∷ r) i h = go (eq-or-lt-of-le h)
-  where
-    n : ℕ
-    n = length (x ∷ r)
-
-    now : wrap n i ≡ i
-    now = wrap-low n i h
-
-    go : (suc i ≡ n) ⊎ (suc i < n) → Link (x ∷ r) (getD (x ∷ r) (wrap n i) 0) (getD (x ∷ r) (wrap n (i + 1)) 0)
-    go (inl e) =
-        let p : length r ≡ wrap n i = omega (arith, e, now) in
-        let q : 0 ≡ wrap n (i + 1) = omega (arith, e, wrap-high n (i + 1) (omega (arith, e))) in
-        subst (λ (j : ℕ). Link (x ∷ r) (getD (x ∷ r) j 0) (getD (x ∷ r) (wrap n (i + 1)) 0)) p
-        (subst (λ (j : ℕ). Link (x ∷ r) (getD (x ∷ r) (length r) 0) (getD (x ∷ r) j 0)) q (chain-last x r x))
-    go (inr e) =
-        let q : suc i ≡ wrap n (i + 1) = omega (arith, e, wrap-low n (i + 1) (omega (arith, e))) in
-        subst (λ (j : ℕ). Link (x ∷ r) (getD (x ∷ r) j 0) (getD (x ∷ r) (wrap n (i + 1)) 0)) (sym now)
-        (subst (λ (j : ℕ). Link (x ∷ r) (getD (x ∷ r) i 0) (getD (x ∷ r) j 0)) q (chain-at x r x i (omega (arith, e))))
-
-joined-turned : (d : Wire) (u w : ℕ) → joined d u w ≡ joined d w u
-unfolding joined joins
-joined-turned d u w = any-same (joins u w) (joins w u) (d .edges) (edge 0 0) (λ i h. each (getD (d .edges) i (edge 0 0)))
-  where
-    each : (e : Edge) → joins u w e ≡ joins w u e
-    each (edge a b) =
-        or-comm (eqb u a && eqb w b) (eqb u b && eqb w a) ∙ (λ i. and-comm (eqb u b) (eqb w a) i || and-comm (eqb u a) (eqb w b) i)
-
-module _ (d : Wire) (l : Loop) (c : Closed (length (d .vertices)) (joined d) (level d) l) where
-  differ-at : (m : List ℕ) → Differ (length (d .vertices)) (joined d) (level d) m → (i j : ℕ) → i < length m → j < length m
-      → getD m i 0 ≡ getD m j 0 → i ≡ j
-  differ-at [] f i j hi hj e = absurd (omega arith)
-  differ-at (a ∷ m) f zero zero hi hj e = refl
-  differ-at (a ∷ m) f zero (suc j) hi hj e = absurd (f .0 (getD m j 0) (of-at m j 0 (omega arith)) (sym e))
-  differ-at (a ∷ m) f (suc i) zero hi hj e = absurd (f .0 (getD m i 0) (of-at m i 0 (omega arith)) e)
-  differ-at (a ∷ m) f (suc i) (suc j) hi hj e = ap suc (differ-at m (f .1) i j (omega arith) (omega arith) e)
-
-  closed-path : Path d l
-  closed-path = record {
-    long = closed-long (length (d .vertices)) (joined d) (level d) l c;
-    below = (λ i h. below (length (d .vertices)) (joined d) (level d) l (c .way) (getD l i 0) (of-at l i 0 h));
-    along =
-        (λ i h. tied (around l i 0) (around l (i + 1) 0)
-        (closed-tied (length (d .vertices)) (joined d) (level d) l c (around l i 0) (around l (i + 1) 0) (link-at l i h)));
-    differ = differ-at l (all-differ (length (d .vertices)) (joined d) (level d) l (c .way));
-  }
-    where
-      tied : (u w : ℕ) → (joined d u w ≡ true) ⊎ (joined d w u ≡ true) → joined d u w ≡ true
-      tied u w (inl e) = e
-      tied u w (inr e) = joined-turned d u w ∙ e
-
 -- ---- the loops
-pub loop-closed : (d : Wire) (i : ℕ) → i < length (loops d) → Closed (length (d .vertices)) (joined d) (level d) (loopAt (loops d) i)
-unfolding loops
-loop-closed d i h =
-    ext-closed (length (d .vertices)) (joined d) (level d) mostCorners [] 0 (omega arith) empty (loopAt (loops d) i)
-    (of-at (loops d) i [] h)
-
 pub loop-path : (d : Wire) (i : ℕ) → i < length (loops d) → Path d (loopAt (loops d) i)
-loop-path d i h = closed-path d (loopAt (loops d) i) (loop-closed d i h)
+loop-path d i h = path (loopAt (loops d) i) (loops-are d i h)
+  where
+    path : (l : Loop) → IsLoop d l → Path d l
+    path l c = record {
+      long = c .three;
+      below = c .inside;
+      along = (λ i h. ap (λ (k : ℕ). joined d (around l i 0) (around l k 0)) (add-one i) ∙ go i h (wrap-next (length l) i h));
+      differ = c .different;
+    }
+      where
+        to : (i j : ℕ) → i < length l → wrap (length l) (suc i) ≡ j
+            → joined d (around l i 0) (around l (suc i) 0) ≡ joined d (getD l i 0) (getD l j 0)
+        to i j h e = ap₂ (joined d) (around-low l i 0 h) (around-at l (suc i) ∙ ap (λ (k : ℕ). getD l k 0) e)
+
+        go : (i : ℕ) → i < length l → ((suc i < length l) × (wrap (length l) (suc i) ≡ suc i))
+            ⊎ ((suc i ≡ length l) × (wrap (length l) (suc i) ≡ 0)) → joined d (around l i 0) (around l (suc i) 0) ≡ true
+        go i h (inl (u, e)) = to i (suc i) h e ∙ c .edges i u
+        go i h (inr (u, e)) =
+            let k : i ≡ length l - 1 = omega arith in
+            to i 0 h e ∙ ap (λ (j : ℕ). joined d (getD l j 0) (getD l 0 0)) k ∙ c .closed
 
 pub drawing-apart : (d : Wire) → samePlace d ≡ none → Apart d
 drawing-apart d r11 u w hu hw e = samePlace-means d .0 r11 u w hu hw e

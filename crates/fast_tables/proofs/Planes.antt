@@ -1,106 +1,123 @@
--- The plane that the loop search goes by is the plane of the loop's normal. Assumes nothing.
-use mathlib.Core.Path.{_≡_, refl, sym, ap, _∙_}
-use mathlib.Core.Bool.{Bool, true, false}
-use mathlib.Core.Logic.{inl, inr}
+-- The plane that the loop search goes by is the plane of the loop's normal.
+use mathlib.Core.Path.{_≡_, refl, sym, ap, ap₂, _∙_}
+use mathlib.Core.Bool.{Bool, true}
+use mathlib.Core.Logic.{_⊎_, inl, inr}
 use mathlib.Core.Option.{none}
-use mathlib.Core.List.{List, [], _∷_, map}
-use Prim.Native.Nat.{ℕ, _<_}
+use mathlib.Core.List.{List, [], _∷_, _++_, map}
+use Prim.Native.Nat.{ℕ, zero, suc, _<_}
+use native.Mathlib.Nat.{eq-or-lt-of-le}
 use native.Mathlib.Omega.{arith}
 use lib.Dec.{eqb}
-use lib.ListN.{length}
-use Rattle.lists.specs.Lists.{sides, sidesFrom, upto}
+use lib.ListN.{length, getD, take, length-map, length-append, List·getD-append}
+use lib.Seq.{take-length, take-append-le, getD-append-seam}
+use Rattle.lists.specs.Lists.{upto}
 use Rattle.lists.proofs.Agreeing.{map-same}
+use Rattle.lists.proofs.Passing.{all-yes}
 use Rattle.sets.specs.Word.{count, less}
-use Rattle.exact.proofs.Signs.{pos-ne}
-use Rattle.paper.specs.Points.{origin, plus, minus, times, dot, cross, sum, isZero, isOrigin}
-use Rattle.paper.specs.Polygon.{Polygon, normal, corner, planeSide}
-use Rattle.paper.specs.Drawing.{Wire, at, joined, samePlace, edgeMeets}
-use Rattle.paper.specs.Loops.{Loop, across, level, loops, polygon, loopAt}
-use Rattle.paper.specs.declared.Point.{Point}
-use Rattle.paper_laws.proofs.Points.{zero-yes, zero-is, origin-yes, origin-no, differ, in-line, scale-zero, self-pos}
-use Rattle.paper_laws.proofs.Vectors.{num, vec, x, _-s_, o, v, _+v_, _-v_, _*v_, _×v_, vring}
-use Rattle.means_area.specs.Rings.{Of}
-use Rattle.means_area.specs.Space.{Level}
-use Rattle.means_area.proofs.Space.Maps.{map-of}
-use Rattle.means_area.proofs.Loops.Paths.{Closed, all-differ, below, closed-long}
-use Rattle.means_area.proofs.Loops.Planes.{Plane, plane}
+use Rattle.paper.specs.Points.{origin, minus, dot, isZero}
+use Rattle.paper.specs.Polygon.{Polygon, normal, corner, planeSide, onePlane}
+use Rattle.paper.specs.Drawing.{Wire, at, samePlace, edgeMeets}
+use Rattle.paper.specs.Loops.{Loop, level, loops, polygon, loopAt}
+use Rattle.paper_laws.proofs.Points.{zero-yes, zero-is}
+use Rattle.means_loops.specs.Loop.{IsLoop}
+use Rattle.means_loops.specs.Plane.{InPlane}
+use Rattle.means_loops.proofs.Listing.{loops-are}
+use Rattle.means_loops.proofs.Planes.{in-one-line, level-plane, plane-level, places-differ, loop-plane}
+use Rattle.means_loops.proofs.OwnPlane.{normal-across, corner-at, less-dot, dot-less, own-plane}
 use Rattle.means_area.proofs.Loops.{normal-real}
-use Rattle.means_area.proofs.Space.Planes.{normal-across, across-too}
-use Rattle.fast_tables.specs.Paths.{Apart}
 use Rattle.fast_tables.specs.Hits.{cornerMask}
 use Rattle.fast_tables.specs.Asked.{planeMask, levelWith}
 use Rattle.fast_tables.proofs.Rounds.{equal-both}
-use Rattle.fast_tables.proofs.Drawings.{loop-closed, drawing-apart}
 
--- ---- the normal is across the plane
+module _ (d : Wire) (r11 : samePlace d ≡ none) (w : ℕ) where
+  abbrev more : Loop → Loop
+  more l = l ++ w ∷ []
 
--- two directions across one plane
-pub plane-same : (g : Polygon) (n : Point) → (n ≡ origin → ⊥) → (normal g ≡ origin → ⊥) → Level n (corner g) g → (p : Point)
-    → isZero (planeSide g p) ≡ isZero (dot n (minus p (corner g)))
-unfolding planeSide
-plane-same g n rn rg f p =
-    let e : cross n (normal g) ≡ origin = normal-across g n (corner g) f in
-    let b : cross (normal g) n ≡ origin = vring (vec (normal g) ∷ vec n ∷ []) (v 0 ×v v 1) (o -v (v 1 ×v v 0)) tt ∙ ap (minus origin) e
-    ∙ vring [] (o -v o) o tt in
-    let w = minus p (corner g) in
-    equal-both (λ t. zero-is (across-too (normal g) n w rg b (zero-yes (dot (normal g) w) t)))
-    (λ t. zero-is (across-too n (normal g) w rn e (zero-yes (dot n w) t)))
+  -- ---- a vertex is level with a loop just where the loop and the vertex are in one plane
 
--- ---- corners in one line: the normal is none
-line-cross : (e u w : Point) → (e ≡ origin → ⊥) → cross e u ≡ origin → cross e w ≡ origin → cross u w ≡ origin
-line-cross e u w ne hu hw =
-    scale-zero (dot e e) (cross u w) (pos-ne (self-pos e ne))
-    (vring (num (dot e e) ∷ vec u ∷ vec w ∷ []) (x 0 *v (v 1 ×v v 2)) ((x 0 *v v 1) ×v v 2) tt
-    ∙ ap (λ (p : Point). cross p w) (in-line e u hu)
-    ∙ vring (num (dot e u) ∷ vec e ∷ vec w ∷ []) ((x 0 *v v 1) ×v v 2) (x 0 *v (v 1 ×v v 2)) tt ∙ ap (times (dot e u)) hw
-    ∙ vring (num (dot e u) ∷ []) (x 0 *v o) o tt)
+  module _ (a b : ℕ) (r : List ℕ) (c : IsLoop d (a ∷ b ∷ r)) where
+    two : at d a ≡ at d b → ⊥
+    two =
+        places-differ d r11 a b (c .inside 0 (omega arith)) (c .inside 1 (omega arith))
+        (λ e. absurd (omega (arith, c .different 0 1 (omega arith) (omega arith) e)))
 
-line-normal : (e a : Point) (r : List Point) → (e ≡ origin → ⊥) → ((p : Point) → Of p (a ∷ r) → cross e (minus p a) ≡ origin)
-    → normal (a ∷ r) ≡ origin
-unfolding normal sum sides
-line-normal e a r ne h = go a r (inl refl) (λ q i. inr i) ∙ vring (vec a ∷ []) (v 0 ×v v 0) o tt
-  where
-    go : (p : Point) (l : List Point) → Of p (a ∷ r) → ((q : Point) → Of q l → Of q (a ∷ r)) → sum (sidesFrom cross a p l) ≡ cross p a
-    go p [] i f = vring (vec p ∷ vec a ∷ []) ((v 0 ×v v 1) +v o) (v 0 ×v v 1) tt
-    go p (q ∷ l) i f =
-        let j : Of q (a ∷ r) = f q (inl refl) in
-        ap (plus (cross p q)) (go q l j (λ z k. f z (inr k)))
-        ∙ vring (vec p ∷ vec q ∷ vec a ∷ []) ((v 0 ×v v 1) +v (v 1 ×v v 2)) ((v 0 ×v v 2) +v ((v 0 -v v 2) ×v (v 1 -v v 2))) tt
-        ∙ ap (plus (cross p a)) (line-cross e (minus p a) (minus q a) ne (h p i) (h q j))
-        ∙ vring (vec p ∷ vec a ∷ []) ((v 0 ×v v 1) +v o) (v 0 ×v v 1) tt
+    last-is : level d (a ∷ b ∷ take (length r) (more r)) (getD (more r) (length r) 0) ≡ level d (a ∷ b ∷ r) w
+    last-is =
+        ap₂ (λ (t : List ℕ) (v : ℕ). level d (a ∷ b ∷ t) v) (take-append-le (length r) r (w ∷ []) (omega arith) ∙ take-length r)
+        (getD-append-seam r w [] 0)
 
--- ---- of a loop
-module _ (d : Wire) (apart : Apart d) where
-  closed-plane : (l : Loop) → Closed (length (d .vertices)) (joined d) (level d) l → (normal (polygon d l) ≡ origin → ⊥) → (w : ℕ)
-      → isZero (planeSide (polygon d l) (at d w)) ≡ level d l w
-  unfolding polygon level corner
-  closed-plane [] c rg w = let q = closed-long (length (d .vertices)) (joined d) (level d) [] c in absurd (omega (arith, q))
-  closed-plane (a ∷ []) c rg w = let q = closed-long (length (d .vertices)) (joined d) (level d) (a ∷ []) c in absurd (omega (arith, q))
-  closed-plane (a ∷ (b ∷ r)) c rg w = go (isOrigin n) refl
-    where
-      l : Loop
-      l = a ∷ b ∷ r
+    level-in : level d (a ∷ b ∷ r) w ≡ true → InPlane (polygon d (a ∷ b ∷ more r))
+    level-in e = level-plane d a b (more r) two (λ j h. go j (eq-or-lt-of-le (omega (arith, h, length-append r (w ∷ [])))))
+      where
+        go : (j : ℕ) → (j ≡ length r) ⊎ (j < length r) → level d (a ∷ b ∷ take j (more r)) (getD (more r) j 0) ≡ true
+        go j (inl q) = ap (λ (i : ℕ). level d (a ∷ b ∷ take i (more r)) (getD (more r) i 0)) q ∙ last-is ∙ e
+        go j (inr q) =
+            ap₂ (λ (t : List ℕ) (v : ℕ). level d (a ∷ b ∷ t) v) (take-append-le j r (w ∷ []) (omega arith))
+            (List·getD-append r (w ∷ []) 0 j q)
+            ∙ c .plane (suc (suc j)) (omega arith) (omega arith)
 
-      n : Point
-      n = across d l
+    in-level : InPlane (polygon d (a ∷ b ∷ more r)) → level d (a ∷ b ∷ r) w ≡ true
+    in-level y = sym last-is ∙ plane-level d a b (more r) two y (length r) (omega (arith, length-append r (w ∷ [])))
 
-      flat : Plane d (a ∷ b ∷ r)
-      flat = plane d l (c .way)
+  -- ---- and just where it is in the plane of the normal
 
-      two : at d a ≡ at d b → ⊥
-      two e = all-differ (length (d .vertices)) (joined d) (level d) l (c .way) .0 b (inl refl)
-          (sym
-          (apart a b (below (length (d .vertices)) (joined d) (level d) l (c .way) a (inl refl))
-          (below (length (d .vertices)) (joined d) (level d) l (c .way) b (inr (inl refl))) e))
+  low-is : (l : Loop) (i : ℕ) → i < length l → getD (polygon d (more l)) i origin ≡ getD (polygon d l) i origin
+  unfolding polygon
+  low-is [] i h = absurd (omega arith)
+  low-is (a ∷ l) zero h = refl
+  low-is (a ∷ l) (suc i) h = low-is l i (omega arith)
 
-      go : (t : Bool) → isOrigin n ≡ t → isZero (planeSide (map (at d) l) (at d w)) ≡ isZero (dot n (minus (at d w) (at d a)))
-      go false e = plane-same (map (at d) l) n (origin-no e) rg
-          (record
-          { every = (λ p i. let t = map-of (at d) p l i in ap (λ (q : Point). dot n (minus q (at d a))) (t .2) ∙ flat .0 (t .0) (t .1)) })
-          (at d w)
-      go true e = absurd (rg (line-normal (minus (at d b) (at d a)) (at d a) (map (at d) (b ∷ r)) (differ two)
-          (λ p i. let t = map-of (at d) p l i in ap (λ (q : Point). cross (minus (at d b) (at d a)) (minus q (at d a))) (t .2)
-          ∙ flat .1 (origin-yes n e) (t .0) (t .1))))
+  new-is : (l : Loop) → getD (polygon d (more l)) (length l) origin ≡ at d w
+  unfolding polygon
+  new-is [] = refl
+  new-is (a ∷ l) = new-is l
+
+  long : (l : Loop) → length (polygon d l) ≡ length l
+  unfolding polygon
+  long l = length-map l (at d)
+
+  module _ (l : Loop) (c : IsLoop d l) where
+    abbrev g : Polygon
+    g = polygon d l
+
+    in-side : InPlane (polygon d (more l)) → isZero (planeSide g (at d w)) ≡ true
+    unfolding planeSide
+    in-side y =
+        let n = long (more l) in
+        let m = length-append l (w ∷ []) in
+        let low : (i : ℕ) → i < length g → dot (y .across) (getD g i origin) ≡ y .height
+        = λ i h. ap (dot (y .across)) (sym (low-is l i (omega (arith, h, long l)))) ∙ y .every i (omega (arith, h, n, m, long l)) in
+        zero-is
+        (in-one-line (y .across) (normal g) (minus (at d w) (corner g)) (y .real) (normal-across (y .across) (y .height) g low)
+        (less-dot (y .across) (at d w) (corner g) (y .height) (ap (dot (y .across)) (sym (new-is l)) ∙ y .every (length l) (omega (arith, n, m)))
+        (ap (dot (y .across)) (corner-at g) ∙ low 0 (omega (arith, c .three, long l)))))
+
+    side-in : (normal g ≡ origin → ⊥) → isZero (planeSide g (at d w)) ≡ true → InPlane (polygon d (more l))
+    unfolding onePlane planeSide
+    side-in rg e = record {
+      across = normal g;
+      height = dot (normal g) (corner g);
+      real = rg;
+      every = λ i h. go i (eq-or-lt-of-le (omega (arith, h, long (more l), length-append l (w ∷ []))));
+    }
+      where
+        own : onePlane g g ≡ true
+        own = own-plane g (loop-plane d r11 l c) (omega (arith, c .three, long l))
+
+        go : (i : ℕ) → (i ≡ length l) ⊎ (i < length l) → dot (normal g) (getD (polygon d (more l)) i origin) ≡ dot (normal g) (corner g)
+        go i (inl q) =
+            ap (λ (j : ℕ). dot (normal g) (getD (polygon d (more l)) j origin)) q ∙ ap (dot (normal g)) (new-is l)
+            ∙ dot-less (normal g) (at d w) (corner g) (zero-yes (planeSide g (at d w)) e)
+        go i (inr q) =
+            ap (dot (normal g)) (low-is l i q)
+            ∙ dot-less (normal g) (getD g i origin) (corner g) (zero-yes (planeSide g (getD g i origin))
+            (all-yes (λ p. isZero (planeSide g p)) origin g own i (omega (arith, q, long l))))
+
+  closed-plane : (l : Loop) → IsLoop d l → (normal (polygon d l) ≡ origin → ⊥) → isZero (planeSide (polygon d l) (at d w)) ≡ level d l w
+  closed-plane [] c rg = absurd (let h = c .three in omega arith)
+  closed-plane (a ∷ []) c rg = absurd (let h = c .three in omega arith)
+  closed-plane (a ∷ (b ∷ r)) c rg =
+      equal-both (λ e. in-level a b r c (side-in (a ∷ b ∷ r) c rg e)) (λ e. in-side (a ∷ b ∷ r) c (level-in a b r c e))
 
 -- the word of the search's plane is that of the normal's, for a loop with a normal
 pub search-plane : (d : Wire) → samePlace d ≡ none → (i : ℕ) → i < length (loops d)
@@ -110,7 +127,7 @@ unfolding planeMask
 search-plane d r11 i h rg =
     let l = loopAt (loops d) i in
     map-same (λ w. isZero (planeSide (polygon d l) (at d w))) (level d l) (length (d .vertices))
-    (λ w k. closed-plane d (drawing-apart d r11) l (loop-closed d i h) rg w)
+    (λ w k. closed-plane d r11 w l (loops-are d i h) rg)
 
 -- and so for every loop of a drawing that passes 11 and 13
 pub drawing-plane : (d : Wire) → samePlace d ≡ none → edgeMeets d ≡ none → (i : ℕ) → i < length (loops d)

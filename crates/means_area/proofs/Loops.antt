@@ -1,81 +1,69 @@
 -- The loops of a drawing that passes 11, no two vertices at one point, and 13, no edge shares a point with a vertex or edge other than at
--- its own end vertices: their
--- normals are not the origin, so that they have planes, and are seen without loss. Assumes nothing.
-pub mod Paths
+-- its own end vertices: their normals are not the origin, so that they have planes, and are seen without loss.
+pub mod Places
 pub mod Edges
-pub mod Planes
 pub mod Rings
-use mathlib.Core.Path.{_≡_, refl, sym, _∙_}
-use mathlib.Core.Logic.{inl, inr}
+use mathlib.Core.Path.{_≡_, sym, _∙_, ap, subst}
+use mathlib.Core.Bool.{true}
 use mathlib.Core.Option.{none}
-use mathlib.Core.List.{List, [], _∷_, map}
-use Prim.Native.Nat.{ℕ, zero, suc, _<_, _≤_}
+use mathlib.Core.List.{[], _∷_, map}
+use Prim.Native.Nat.{ℕ, _<_, _≤_}
 use native.Mathlib.Omega.{arith}
 use lib.ListN.{length, getD}
 use lib.IntN.{ℤ, pos, _-ℤ_}
-use Rattle.paper.specs.Points.{origin}
-use Rattle.paper.specs.Polygon.{Polygon, normal, corner, planeSide, axis, seen}
-use Rattle.paper.specs.Numbers.{mostCorners}
-use Rattle.paper.specs.Drawing.{Wire, at, joined, samePlace, edgeMeets}
-use Rattle.paper.specs.Loops.{Loop, level, loops, polygon, loopAt}
+use Rattle.lists.proofs.Passing.{all-yes}
+use Rattle.paper.specs.Points.{origin, dot, isZero}
+use Rattle.paper.specs.Polygon.{Polygon, normal, corner, planeSide, onePlane, axis, seen}
+use Rattle.paper.specs.Drawing.{Wire, at, samePlace, edgeMeets}
+use Rattle.paper.specs.Loops.{Loop, loops, polygon, loopAt}
 use Rattle.paper.specs.declared.Point.{Point}
+use Rattle.paper_laws.proofs.Points.{zero-yes}
 use Rattle.paper_laws.proofs.Vectors.{vec, _-s_, _·_, v, _-v_, vring}
 use Rattle.paper_laws.specs.Planes.{InOwnPlane}
+use Rattle.means_loops.specs.Path.{ClosedPath}
+use Rattle.means_loops.proofs.OwnPlane.{less-dot, own-plane}
+use Rattle.means_loops.proofs.Paths.{listed-path}
 use Rattle.means_area.specs.Theorems.{LoopsHold}
-use Rattle.means_area.specs.Rings.{Of}
 use Rattle.means_area.specs.Flats.{Simple}
 use Rattle.means_area.specs.Space.{Clear, Level, through}
 use Rattle.means_area.specs.Loops.{loopOf}
 use Rattle.means_area.proofs.Space.Maps.{length-map}
-use Rattle.means_area.proofs.Space.Planes.{own-plane}
 use Rattle.means_area.proofs.Space.Views.{axis-real, view-one}
-use Rattle.means_area.proofs.Space.{view-simple, normal-not-zero, ring-level}
-use Rattle.means_area.proofs.Loops.Paths.{empty, Closed, ext-closed, all-differ}
-use Rattle.means_area.proofs.Loops.Planes.{plane, in-plane}
-use Rattle.means_area.proofs.Loops.Rings.{one-place, clear, long-loop}
+use Rattle.means_area.proofs.Space.{view-simple, normal-not-zero}
+use Rattle.means_area.proofs.Loops.Places.{of-place}
+use Rattle.means_area.proofs.Loops.Rings.{clear}
 
--- what the search meets is at a place
-pub of-at : {A : Type 0} (l : List A) (i : ℕ) (z : A) → i < length l → Of (getD l i z) l
-of-at [] i z h = absurd (omega arith)
-of-at (a ∷ l) zero z h = inl refl
-of-at (a ∷ l) (suc i) z h = inr (of-at l i z (omega arith))
-
--- a simple ring with a plane of its own
+-- a simple ring of three corners or more with a plane of its own
 record Good (g : Polygon) : Type 0 where
+  long : 3 ≤ length g
   real : normal g ≡ origin → ⊥
-  flat : Level (normal g) (corner g) g
+  flat : InOwnPlane g
   simple : Clear g
 
-good : (d : Wire) → samePlace d ≡ none → edgeMeets d ≡ none → (l : Loop) → Closed (length (d .vertices)) (joined d) (level d) l
-    → Good (polygon d l)
+good : (d : Wire) → samePlace d ≡ none → edgeMeets d ≡ none → (l : Loop) → ClosedPath d l → Good (polygon d l)
 unfolding polygon
-good d r11 r13 [] c = let q = long-loop d r11 r13 [] c in absurd (omega (arith, q))
-good d r11 r13 (a ∷ []) c = let q = long-loop d r11 r13 (a ∷ []) c in absurd (omega (arith, q))
-good d r11 r13 (a ∷ (b ∷ r)) c =
-    let l = a ∷ b ∷ r in
+good d r11 r13 l c =
     let g = map (at d) l in
-    let n = length (d .vertices) in
-    let q = long-loop d r11 r13 l c in
-    let f = length-map (at d) l in
-    let ne : at d a ≡ at d b
-    → ⊥ = λ s. all-differ n (joined d) (level d) l (c .way) .0 b (inl refl)
-    (sym (one-place d r11 r13 l c a b (inl refl) (inr (inl refl)) s)) in
-    let p = in-plane d a b r (plane d l (c .way)) ne in
+    let y = c .plane in
+    let long : 3 ≤ length g = omega (arith, c .three, length-map (at d) l) in
     let t = clear d r11 r13 l c in
+    let level : Level (y .across) (getD g 0 origin) g = record {
+      every = λ p o.
+          let r = of-place origin p g o in
+          less-dot (y .across) p (getD g 0 origin) (y .height) (ap (dot (y .across)) (sym (r .2)) ∙ y .every (r .0) (r .1))
+          (y .every 0 (omega arith));
+    } in
     record {
-      real = normal-not-zero g (p .0) (at d a) (p .1 .real) (p .1 .flat) t (omega (arith, q, f));
-      flat = ring-level g (p .0) (at d a) (p .1 .real) (p .1 .flat);
+      long = long;
+      real = normal-not-zero g (y .across) (getD g 0 origin) (y .real) level t long;
+      flat = own-plane g y (omega arith);
       simple = t;
     }
 
 -- loop i of a drawing that passes 11 and 13
 module _ (d : Wire) (r11 : samePlace d ≡ none) (r13 : edgeMeets d ≡ none) (i : ℕ) (h : i < length (loops d)) where
   is-good : Good (loopOf d i)
-  unfolding loops
-  is-good =
-      let n = length (d .vertices) in
-      good d r11 r13 (loopAt (loops d) i)
-      (ext-closed n (joined d) (level d) mostCorners [] 0 (omega arith) empty (loopAt (loops d) i) (of-at (loops d) i [] h))
+  is-good = good d r11 r13 (loopAt (loops d) i) (listed-path d r11 i h)
 
   -- its normal is not the origin
   pub normal-real : normal (loopOf d i) ≡ origin → ⊥
@@ -83,7 +71,7 @@ module _ (d : Wire) (r11 : samePlace d ≡ none) (r13 : edgeMeets d ≡ none) (i
 
   -- its plane has all its corners
   pub plane-holds : InOwnPlane (loopOf d i)
-  plane-holds = own-plane (loopOf d i) (is-good .flat)
+  plane-holds = is-good .flat
 
   -- its normal is not 0 along the axis that it is seen along
   pub axis-holds : through (axis (normal (loopOf d i))) (normal (loopOf d i)) ≡ pos 0 → ⊥
@@ -104,17 +92,21 @@ module _ (d : Wire) (r11 : samePlace d ≡ none) (r13 : edgeMeets d ≡ none) (i
   ring-clear = is-good .simple
 
   pub ring-seen : (m : ℤ) × Simple m (map (seen (axis (normal (loopOf d i)))) (loopOf d i))
-  ring-seen = let g = loopOf d i in (_, view-simple g (normal g) (corner g) (axis (normal g)) axis-holds (is-good .flat) ring-clear)
+  unfolding onePlane planeSide
+  ring-seen =
+      let g = loopOf d i in
+      let level : Level (normal g) (corner g) g = record {
+        every = λ p o.
+            let r = of-place origin p g o in
+            zero-yes (planeSide g p)
+            (subst (λ (q : Point). isZero (planeSide g q) ≡ true) (r .2)
+            (all-yes (λ q. isZero (planeSide g q)) origin g plane-holds (r .0) (r .1)));
+      } in
+      (_, view-simple g (normal g) (corner g) (axis (normal g)) axis-holds level ring-clear)
 
   -- it has at least three corners
   pub loop-long : 3 ≤ length (loopOf d i)
-  unfolding loops polygon
-  loop-long =
-      let n = length (d .vertices) in
-      let l = loopAt (loops d) i in
-      let q = long-loop d r11 r13 l (ext-closed n (joined d) (level d) mostCorners [] 0 (omega arith) empty l (of-at (loops d) i [] h)) in
-      let f = length-map (at d) l in
-      omega (arith, q, f)
+  loop-long = is-good .long
 
 -- all of it
 pub loops-hold : LoopsHold

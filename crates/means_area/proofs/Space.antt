@@ -5,7 +5,6 @@ pub mod Maps
 pub mod Heights
 pub mod View
 pub mod Axes
-pub mod Planes
 pub mod Views
 use mathlib.Core.Path.{_≡_, refl, sym, _∙_, ap, subst}
 use mathlib.Core.List.{List, map}
@@ -14,7 +13,7 @@ use native.Mathlib.Omega.{arith}
 use lib.ListN.{length}
 use lib.IntN.{pos}
 use Rattle.paper.specs.Points.{origin}
-use Rattle.paper.specs.Polygon.{normal, corner, axis, seen}
+use Rattle.paper.specs.Polygon.{normal, axis, seen}
 use Rattle.paper.specs.declared.Point.{Point}
 use Rattle.paper.specs.declared.Axis.{Axis}
 use Rattle.paper.specs.declared.Axis.the-variants.{AlongX, AlongY, AlongZ}
@@ -23,7 +22,6 @@ use Rattle.means_area.specs.Space.{Clear, Level, through}
 use Rattle.means_area.proofs.Space.Maps.{length-map}
 use Rattle.means_area.proofs.Space.View.{steepness, down-simple, third-not-zero}
 use Rattle.means_area.proofs.Space.Axes.{upright, last-is, seen-down, clear-upright, level-upright, normal-upright}
-use Rattle.means_area.proofs.Space.Planes.{own-level}
 use Rattle.means_area.proofs.Space.Views.{axis-real}
 
 module _ (g : List Point) (n s : Point) (a : Axis) (h : through a n ≡ pos 0 → ⊥) (level : Level n s g) (clear : Clear g) where
@@ -54,7 +52,3 @@ normal-not-zero g n s ne l c j e = normal-through g n s (axis n) (axis-real n ne
     none-through AlongX = refl
     none-through AlongY = refl
     none-through AlongZ = refl
-
--- it has a plane of its own, in which all its corners are
-pub ring-level : (g : List Point) (n s : Point) → (n ≡ origin → ⊥) → Level n s g → Level (normal g) (corner g) g
-ring-level = own-level

@@ -7,19 +7,19 @@ use mathlib.Core.Option.{none}
 use mathlib.Core.List.{[], _∷_}
 use Prim.Native.Nat.{ℕ}
 use native.Mathlib.Omega.{arith}
-use borrow.Author.Tests.{ne-eqb, eqb-true}
+use borrow.Author.Tests.{ne-eqb}
 use lib.Dec.{eqb}
 use lib.ListN.{length}
 use lib.IntN.{pos, _-ℤ_}
 use Rattle.lists.specs.Lists.{any, upto}
-use Rattle.lists.proofs.Truth.{and-left, and-right, and-both, or-left, or-right, or-cases}
-use Rattle.lists.proofs.Passing.{any-yes, some-is}
+use Rattle.lists.proofs.Truth.{and-both, or-left, or-right}
+use Rattle.lists.proofs.Passing.{some-is}
 use Rattle.lists.proofs.Lowest.{lowest-none}
 use Rattle.exact.proofs.Ring.{var, con, _⊖_}
 use Rattle.exact.proofs.Linear.{le-by, lt-by, le-to, lt-to}
 use Rattle.exact.proofs.Order.{sub-pos, sub-nonneg}
 use Rattle.paper.specs.Points.{times}
-use Rattle.paper.specs.Drawing.{Wire, Edge, edge, at, edgeAt, joins, joined, onOpen, openMeets, vertexOn, edgesMeet, edgeMeets}
+use Rattle.paper.specs.Drawing.{Wire, Edge, edge, at, edgeAt, onOpen, openMeets, vertexOn, edgesMeet, edgeMeets}
 use Rattle.paper.specs.declared.Point.{Point}
 use Rattle.paper_laws.proofs.Vectors.{num, vec, x, _-s_, v, _+v_, _-v_, _*v_, vring}
 use Rattle.means_drawing.specs.Segments.{Between, Common}
@@ -90,29 +90,7 @@ common-turned a b c d t =
 
 -- ---- edges
 
-joins-yes : (u w : ℕ) (e : Edge) → joins u w e ≡ true → ((u ≡ start e) × (w ≡ stop e)) ⊎ ((u ≡ stop e) × (w ≡ start e))
-unfolding joins
-joins-yes u w (edge a b) h = go (or-cases (eqb u a && eqb w b) (eqb u b && eqb w a) h)
-  where
-    go : ((eqb u a && eqb w b) ≡ true) ⊎ ((eqb u b && eqb w a) ≡ true) → ((u ≡ a) × (w ≡ b)) ⊎ ((u ≡ b) × (w ≡ a))
-    go (inl q) = inl (eqb-true u a (and-left (eqb u a) (eqb w b) q), eqb-true w b (and-right (eqb u a) (eqb w b) q))
-    go (inr q) = inr (eqb-true u b (and-left (eqb u b) (eqb w a) q), eqb-true w a (and-right (eqb u b) (eqb w a) q))
-
 module _ (d : Wire) where
-  joined-yes : (u w : ℕ) → joined d u w ≡ true → Joined d u w
-  unfolding joined edgeAt
-  joined-yes u w h = let r = any-yes (joins u w) (edge 0 0) (d .edges) h in (r .0, r .1, joins-yes u w (edgeAt d (r .0)) (r .2))
-
-  -- a tie is an edge, one way or the other
-  pub tie-edge : (u w : ℕ) → (joined d u w ≡ true) ⊎ (joined d w u ≡ true) → Joined d u w
-  tie-edge u w (inl h) = joined-yes u w h
-  tie-edge u w (inr h) = let j = joined-yes w u h in (j .0, j .1, turn (j .0) (j .2))
-    where
-      turn : (e : ℕ) → ((w ≡ from d e) × (u ≡ to d e)) ⊎ ((w ≡ to d e) × (u ≡ from d e))
-          → ((u ≡ from d e) × (w ≡ to d e)) ⊎ ((u ≡ to d e) × (w ≡ from d e))
-      turn e (inl t) = inr (t .1, t .0)
-      turn e (inr t) = inl (t .1, t .0)
-
   -- ---- 13 finds nothing: an edge whose ends are at two points meets nothing
 
   module _ (r13 : edgeMeets d ≡ none) (e : ℕ) (h : HasEdge d e) (long : at d (from d e) ≡ at d (to d e) → ⊥) where
