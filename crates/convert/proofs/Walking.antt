@@ -16,6 +16,7 @@ use Rattle.paper.specs.Conversion.{accepted}
 use Rattle.paper.specs.declared.Answer.the-variants.{Fine}
 use Rattle.loop_table.proofs.Loops.{candidates-of}
 use Rattle.loop_table.proofs.Rows.{rows-kept}
+use Rattle.walk_words.specs.Words.{WalkTables}
 use Rattle.walk.specs.Tally.{Stored}
 use Rattle.walk.specs.Walk.{Searching, Searched}
 use Rattle.walk.specs.declared.tally.Tally.{Tally}
@@ -24,13 +25,12 @@ use Rattle.tables.specs.declared.rows.Counts.{Counts}
 use Rattle.tables.proofs.Given.{few-edges}
 use Rattle.convert.specs.Walked.{tablesIn, Done}
 
-module _ {xyz : List ℤ} {ends rows₀ rows on up sides clashes : List ℕ} {sixes : List ℤ} {c : Counts}
-    (r : Ready xyz ends rows₀ rows on up sides clashes sixes c) where
+module _ {xyz : List ℤ} {ends rows₀ rows : List ℕ} {tables : WalkTables} {c : Counts} (r : Ready xyz ends rows₀ rows tables c) where
   pub searching : Fine ≡ firstOf (lentChecks editionOne xyz ends) → {out : List ℕ} → length out ≡ 24
-      → Searching (length ends / 2) sixes (c .candidates) out
+      → Searching (length ends / 2) (tables .sixes) (c .candidates) out
   searching ok long = record { judging = record { few = few-edges xyz ends ok; small = r .small }; few = r .few; whole = long }
 
-  pub done : {limit : ℕ} {out₀ out : List ℕ} {t : Tally} → Searched on up (length ends / 2) sides clashes sixes (c .candidates) limit out₀ t out
+  pub done : {limit : ℕ} {out₀ out : List ℕ} {t : Tally} → Searched tables (length ends / 2) (c .candidates) limit out₀ t out
       → Done (wire xyz ends) limit rows₀ rows out₀ out c t
   done {limit} {out₀} {out} {t} s = record {
     fine = r .fine;

@@ -46,9 +46,9 @@ pub fn walk_drawing(
     match tabled {
         Tabled::Refused(r) => Walked::Refused(r),
         Tabled::Ready(c) => {
-            let e = ends.len() / 2;
+            let m = ends.len() / 2;
             let n = c.candidates;
-            let t = search(&on, &up, e, &sides, &clashes, &sixes, n, limit, out);
+            let t = search(&on, &up, m, &sides, &clashes, &sixes, n, limit, out);
             Walked::Done(c, t)
         }
     }

@@ -2,6 +2,7 @@
 // points: each asks what its stage asks.
 ghost use Rattle.paper_laws.specs.InRange.{InRange};
 ghost use Rattle.candidates.specs.Keeps.{Keeps};
+ghost use Rattle.walk_words.specs.Words.{walkTables};
 ghost use Rattle.tables.specs.Words.{WordsAt};
 ghost use Rattle.walk.specs.Walk.{Searching};
 ghost use Rattle.measured.specs.Asked.{Loops};
@@ -91,8 +92,8 @@ pub extern "C" fn measured_clashes(
     clashes: &mut [u64; MOST_CANDIDATES],
     sixes: &mut [i64; MOST_CANDIDATES],
 )
-    requires { ⌜ WordsAt (now xyz) (now rows) n (now near) (now number) (now corners) (now sides)
-        (now on) (now up) (now clashes) (now sixes) ⌝ }
+    requires { ⌜ WordsAt (now xyz) (now rows) n (now near) (now number) (now corners)
+        (walkTables (now on) (now up) (now sides) (now clashes) (now sixes)) ⌝ }
 {
     tables::words::put_words(
         xyz,
@@ -114,7 +115,7 @@ pub extern "C" fn measured_clashes(
 pub extern "C" fn measured_walk(
     on: &[u64; MOST_EDGES],
     up: &[u64; MOST_EDGES],
-    e: usize,
+    m: usize,
     sides: &[u64; MOST_CANDIDATES],
     clashes: &[u64; MOST_CANDIDATES],
     sixes: &[i64; MOST_CANDIDATES],
@@ -122,9 +123,9 @@ pub extern "C" fn measured_walk(
     limit: u64,
     out: &mut [u64; SOLID_ROOM],
 ) -> u64
-    requires { ⌜ Searching e (now sixes) n (now out) ⌝ }
+    requires { ⌜ Searching m (now sixes) n (now out) ⌝ }
 {
-    let t = walk::search(on, up, e, sides, clashes, sixes, n, limit, out);
+    let t = walk::search(on, up, m, sides, clashes, sixes, n, limit, out);
     t.work
 }
 

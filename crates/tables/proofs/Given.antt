@@ -18,7 +18,7 @@ use Rattle.sheet_laws.proofs.Accepted.{coordinates-are, ends-are}
 use Rattle.sheet_reader.proofs.Range.{read-range}
 use Rattle.means_sheets.proofs.Sheets.Read.{accepted-lent}
 use Rattle.drawing_lists.proofs.Range.{lent-range}
-use Rattle.walk_words.specs.Words.{mostSix, SmallSixes}
+use Rattle.walk_words.specs.Words.{mostSix, SmallSixes, WalkTables, walkTables}
 use Rattle.tables.specs.Given.{pointsOf, linksOf, Passed, Given}
 use Rattle.tables.specs.Tables.{TablesAt}
 use Rattle.tables.proofs.Listing.{all-same}
@@ -30,19 +30,25 @@ no-sixes : SmallSixes (replicate 64 (pos 0))
 no-sixes = record { small = λ k h. subst (Within mostSix) (sym (all-same (pos 0) 64 k)) (within-lit tt) }
 
 pub clear-rooms : {xyz : List ℤ} {ends rows : List ℕ} → Passed xyz ends → length rows ≡ faceRoom
-    → TablesAt xyz ends rows (replicate 64 0) (replicate 64 0) (replicate 64 0) (replicate 64 0) (replicate 64 (pos 0))
+    → TablesAt xyz ends rows (walkTables (replicate 64 0) (replicate 64 0) (replicate 64 0) (replicate 64 0) (replicate 64 (pos 0)))
 clear-rooms ok long = record {
   passed = ok;
   row-room = long;
-  on-clear = record { room-is = refl; none = all-same 0 64 };
-  up-clear = record { room-is = refl; none = all-same 0 64 };
+  rooms = record {
+    on-clear = record { room-is = refl; none = all-same 0 64 };
+    up-clear = record { room-is = refl; none = all-same 0 64 };
+    clash-room = refl;
+    no-clash = all-same 0 64;
+    six-room = refl;
+  };
   side-room = refl;
   no-side = all-same 0 64;
-  clash-room = refl;
-  no-clash = all-same 0 64;
-  six-room = refl;
   small = no-sixes;
 }
+
+-- ---- the tables as `tables` left them, of the last values of its last five parameters
+abbrev pub tablesLeft : (List ℕ × (List ℕ × (List ℕ × (List ℕ × (List ℤ × Unit {0}))))) → WalkTables
+tablesLeft l = walkTables (l .0) (l .1 .0) (l .1 .1 .0) (l .1 .1 .1 .0) (l .1 .1 .1 .1 .0)
 
 -- ---- at most 64 edges, which 5 sees to
 pub few-edges : (xyz : List ℤ) (ends : List ℕ) → Passed xyz ends → length ends / 2 ≤ editionOne .«most_edges»

@@ -28,7 +28,7 @@ use Rattle.loop_table.proofs.Rows.{rows-held}
 use Rattle.loop_table.proofs.Words.{words-held, words-later}
 use Rattle.loop_known.specs.Known.{DrawnBy}
 use Rattle.candidates.specs.Keeps.{Kept}
-use Rattle.walk_words.specs.Words.{mostSix, SmallSixes, Lent}
+use Rattle.walk_words.specs.Words.{mostSix, SmallSixes, WalkTables, Lent}
 use Rattle.walk_edges.proofs.Columns.{sides-held}
 use Rattle.tables.specs.Words.{Listed, WordsMade}
 use Rattle.tables.specs.Tables.{checksOf}
@@ -105,34 +105,41 @@ module _ {xyz : List ℤ} {ends near number : List ℕ} (drawn : DrawnBy xyz end
     sides-are = words-held (sideMask d) cs sides sides₀ sides-kept;
   }
 
-  -- ---- and the words that were made of them are what the walk is lent
-  module _ {on up clashes : List ℕ} {sixes₀ sixes : List ℤ} (made : WordsMade listed on up clashes sixes₀ sixes)
-      (none : (k : ℕ) → getD sides₀ k 0 ≡ 0) where
-    pub lent : Lent on up (length ends / 2) sides clashes sixes c (tablesOf d cs)
-    unfolding tablesOf
-    lent =
-        let count : c ≡ length cs = within (kept .count) few in
-        let range = drawn .passed .range in
-        let edges : length (d .edges) ≡ length ends / 2 = omega (arith, edges-are range, range .links .whole) in
-        record {
-          held = record {
-            on-are = made .on-are;
-            up-are = made .up-are;
-            sides-are = sides-held d cs sides (omega (arith, edges-are range, range .links .most)) (listed .sides-are)
-                (λ k h. words-later (sideMask d) cs sides sides₀ sides-kept k h ∙ none k);
-            clashes-are = made .clashes-are;
-            sixes-are = made .sixes-are;
-          };
-          masks-are = length-map (d .edges) (λ e. map (has e) cs) ∙ edges;
-          ups-are = length-map (d .edges) (λ e. map (runsUp e) cs) ∙ edges;
-          clashes-are = length-map (upto (length cs)) _ ∙ upto-length (length cs) ∙ sym count;
-          sixes-are = length-map (map (polygon d) cs) faceSix ∙ length-map cs (polygon d) ∙ sym count;
-        }
+-- ---- and the words that were made of them are what the walk is lent
 
-    pub small-sixes : SmallSixes sixes₀ → SmallSixes sixes
-    unfolding tablesOf
-    small-sixes before = record { small = λ k h. go k h (ltb k c) refl }
-      where
-        go : (k : ℕ) → k < room → (b : Bool) → ltb k c ≡ b → Within mostSix (getD sixes k (pos 0))
-        go k h true e = subst (Within mostSix) (sym (made .sixes-are .at k (omega (arith, lent .sixes-are, ltb-true k c e)))) (made .sixes-are .small k)
-        go k h false e = subst (Within mostSix) (sym (made .later k (ltb-false k c e))) (before .small k h)
+module _ {xyz : List ℤ} {ends near number : List ℕ} (drawn : DrawnBy xyz ends near number) {c : ℕ}
+    {rows₀ rows corners₀ corners sides₀ : List ℕ} {tables : WalkTables}
+    (kept : Kept (wire xyz ends) c rows₀ rows corners₀ corners sides₀ (tables .sides)) (few : c ≤ mostCandidates) {sixes₀ : List ℤ}
+    (made : WordsMade (listed drawn kept few) sixes₀ tables) (none : (k : ℕ) → getD sides₀ k 0 ≡ 0) where
+  pub lent : Lent tables (length ends / 2) c (tablesOf (wire xyz ends) (candidates (wire xyz ends)))
+  unfolding tablesOf
+  lent =
+      let d = wire xyz ends in
+      let cs = candidates d in
+      let count : c ≡ length cs = within (kept .count) few in
+      let range = drawn .passed .range in
+      let edges : length (d .edges) ≡ length ends / 2 = omega (arith, edges-are range, range .links .whole) in
+      record {
+        held = record {
+          on-are = made .on-are;
+          up-are = made .up-are;
+          sides-are =
+              sides-held d cs (tables .sides) (omega (arith, edges-are range, range .links .most)) (listed drawn kept few .sides-are)
+              (λ k h. words-later (sideMask d) cs (tables .sides) sides₀ (sides-kept drawn kept few) k h ∙ none k);
+          clashes-are = made .clashes-are;
+          sixes-are = made .sixes-are;
+        };
+        masks-are = length-map (d .edges) (λ e. map (has e) cs) ∙ edges;
+        ups-are = length-map (d .edges) (λ e. map (runsUp e) cs) ∙ edges;
+        clashes-are = length-map (upto (length cs)) _ ∙ upto-length (length cs) ∙ sym count;
+        sixes-are = length-map (map (polygon d) cs) faceSix ∙ length-map cs (polygon d) ∙ sym count;
+      }
+
+  pub small-sixes : SmallSixes sixes₀ → SmallSixes (tables .sixes)
+  unfolding tablesOf
+  small-sixes before = record { small = λ k h. go k h (ltb k c) refl }
+    where
+      go : (k : ℕ) → k < room → (b : Bool) → ltb k c ≡ b → Within mostSix (getD (tables .sixes) k (pos 0))
+      go k h true e =
+          subst (Within mostSix) (sym (made .sixes-are .at k (omega (arith, lent .sixes-are, ltb-true k c e)))) (made .sixes-are .small k)
+      go k h false e = subst (Within mostSix) (sym (made .later k (ltb-false k c e))) (before .small k h)

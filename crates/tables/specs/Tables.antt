@@ -14,8 +14,8 @@ use Rattle.paper.specs.Loops.{loops, candidates, loopChecks}
 use Rattle.paper.specs.Solids.{tablesOf}
 use Rattle.paper.specs.declared.Answer.the-variants as Answer
 use Rattle.loop_table.specs.Tables.{rowsAfter}
-use Rattle.walk_words.specs.Words.{SmallSixes, Lent}
-use Rattle.walk_edges.specs.Marks.{Clear}
+use Rattle.walk_words.specs.Words.{SmallSixes, WalkTables, Lent}
+use Rattle.tables.specs.Words.{EmptyRooms}
 use Rattle.tables.specs.declared.rows.Counts.{Counts}
 use Rattle.tables.specs.declared.Tabled.{Tabled}
 use Rattle.tables.specs.declared.Tabled.the-variants as T
@@ -25,29 +25,24 @@ abbrev pub checksOf : Wire → List Check
 checksOf d = drawingChecks d ++ loopChecks (loops d) (candidates d)
 
 -- lists that passed 3 to 10, and rooms of their sizes with nothing in them
-pub record TablesAt (xyz : List ℤ) (ends rows on up sides clashes : List ℕ) (sixes : List ℤ) : Type 0 where
+pub record TablesAt (xyz : List ℤ) (ends rows : List ℕ) (tables : WalkTables) : Type 0 where
   pub passed : Answer.Fine ≡ firstOf (lentChecks editionOne xyz ends)
   pub row-room : length rows ≡ faceRoom
-  pub on-clear : Clear on
-  pub up-clear : Clear up
-  pub side-room : length sides ≡ mostCandidates
-  pub no-side : (k : ℕ) → getD sides k 0 ≡ 0
-  pub clash-room : length clashes ≡ room
-  pub no-clash : (k : ℕ) → getD clashes k 0 ≡ 0
-  pub six-room : length sixes ≡ mostCandidates
-  pub small : SmallSixes sixes
+  pub rooms : EmptyRooms tables
+  pub side-room : length (tables .sides) ≡ mostCandidates
+  pub no-side : (k : ℕ) → getD (tables .sides) k 0 ≡ 0
+  pub small : SmallSixes (tables .sixes)
 
 -- none of 11 to 16 applies; so many loops and candidates, their rows, and the tables
-pub record Ready (xyz : List ℤ) (ends rows₀ rows on up sides clashes : List ℕ) (sixes : List ℤ) (c : Counts) : Type 0 where
+pub record Ready (xyz : List ℤ) (ends rows₀ rows : List ℕ) (tables : WalkTables) (c : Counts) : Type 0 where
   pub fine : Answer.Fine ≡ firstOf (checksOf (wire xyz ends))
   pub loops-are : c .loops ≡ length (loops (wire xyz ends))
   pub candidates-are : c .candidates ≡ length (candidates (wire xyz ends))
   pub few : c .candidates ≤ room
   pub rows-are : rows ≡ rowsAfter (candidates (wire xyz ends)) rows₀
-  pub small : SmallSixes sixes
-  pub lent : Lent on up (length ends / 2) sides clashes sixes (c .candidates)
-      (tablesOf (wire xyz ends) (candidates (wire xyz ends)))
+  pub small : SmallSixes (tables .sixes)
+  pub lent : Lent tables (length ends / 2) (c .candidates) (tablesOf (wire xyz ends) (candidates (wire xyz ends)))
 
-abbrev pub TabledIs : List ℤ → List ℕ → List ℕ → List ℕ → List ℕ → List ℕ → List ℕ → List ℕ → List ℤ → Tabled → Type 0
-TabledIs xyz ends rows₀ rows on up sides clashes sixes (T.Refused r) = Answer.Refused r ≡ firstOf (checksOf (wire xyz ends))
-TabledIs xyz ends rows₀ rows on up sides clashes sixes (T.Ready c) = Ready xyz ends rows₀ rows on up sides clashes sixes c
+abbrev pub TabledIs : List ℤ → List ℕ → List ℕ → List ℕ → WalkTables → Tabled → Type 0
+TabledIs xyz ends rows₀ rows tables (T.Refused r) = Answer.Refused r ≡ firstOf (checksOf (wire xyz ends))
+TabledIs xyz ends rows₀ rows tables (T.Ready c) = Ready xyz ends rows₀ rows tables c

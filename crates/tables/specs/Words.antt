@@ -13,7 +13,7 @@ use Rattle.paper.specs.Solids.{tablesOf}
 use Rattle.fast_tables.specs.Hits.{cornerMask, sideMask}
 use Rattle.loop_table.specs.Tables.{HoldsRows, HoldsWords}
 use Rattle.loop_known.specs.Known.{DrawnBy}
-use Rattle.walk_words.specs.Words.{Masks, Sixes}
+use Rattle.walk_words.specs.Words.{Masks, Sixes, WalkTables}
 use Rattle.walk_edges.specs.Marks.{Clear}
 
 -- the candidates are listed, in rows and words
@@ -29,24 +29,28 @@ pub record Listed (xyz : List ℤ) (rows : List ℕ) (n : ℕ) (near number corn
 -- the drawing
 abbrev pub drawingOf : {xyz : List ℤ} {rows : List ℕ} {n : ℕ} {near number corners sides : List ℕ}
     → Listed xyz rows n near number corners sides → Wire
-drawingOf {xyz} w = wire xyz (w .ends)
+drawingOf {xyz} l = wire xyz (l .ends)
 
--- and rooms of their sizes, with nothing in them
-pub record WordsAt (xyz : List ℤ) (rows : List ℕ) (n : ℕ) (near number corners sides on up clashes : List ℕ) (sixes : List ℤ)
-    : Type 0 where
-  pub all : Listed xyz rows n near number corners sides
+-- ---- rooms of their sizes, with nothing in them
+
+pub record EmptyRooms (tables : WalkTables) : Type 0 where
+  pub on-clear : Clear (tables .on)
+  pub up-clear : Clear (tables .up)
+  pub clash-room : length (tables .clashes) ≡ room
+  pub no-clash : (k : ℕ) → getD (tables .clashes) k 0 ≡ 0
+  pub six-room : length (tables .sixes) ≡ mostCandidates
+
+-- with the candidates, and the words of their sides where the walk is lent them
+pub record WordsAt (xyz : List ℤ) (rows : List ℕ) (n : ℕ) (near number corners : List ℕ) (tables : WalkTables) : Type 0 where
+  pub all : Listed xyz rows n near number corners (tables .sides)
   pub row-room : length rows ≡ faceRoom
-  pub on-clear : Clear on
-  pub up-clear : Clear up
-  pub clash-room : length clashes ≡ room
-  pub no-clash : (k : ℕ) → getD clashes k 0 ≡ 0
-  pub six-room : length sixes ≡ mostCandidates
+  pub rooms : EmptyRooms tables
 
 -- the words are those of the document's tables; later numbers are as they were
 pub record WordsMade {xyz : List ℤ} {rows : List ℕ} {n : ℕ} {near number corners sides : List ℕ}
-    (w : Listed xyz rows n near number corners sides) (on up clashes : List ℕ) (sixes₀ sixes : List ℤ) : Type 0 where
-  pub on-are : Masks on (tablesOf (drawingOf w) (candidates (drawingOf w)) .masks)
-  pub up-are : Masks up (tablesOf (drawingOf w) (candidates (drawingOf w)) .ups)
-  pub clashes-are : Masks clashes (tablesOf (drawingOf w) (candidates (drawingOf w)) .clashes)
-  pub sixes-are : Sixes sixes (tablesOf (drawingOf w) (candidates (drawingOf w)) .sixes)
-  pub later : (i : ℕ) → n ≤ i → getD sixes i (pos 0) ≡ getD sixes₀ i (pos 0)
+    (l : Listed xyz rows n near number corners sides) (sixes₀ : List ℤ) (tables : WalkTables) : Type 0 where
+  pub on-are : Masks (tables .on) (tablesOf (drawingOf l) (candidates (drawingOf l)) .masks)
+  pub up-are : Masks (tables .up) (tablesOf (drawingOf l) (candidates (drawingOf l)) .ups)
+  pub clashes-are : Masks (tables .clashes) (tablesOf (drawingOf l) (candidates (drawingOf l)) .clashes)
+  pub sixes-are : Sixes (tables .sixes) (tablesOf (drawingOf l) (candidates (drawingOf l)) .sixes)
+  pub later : (i : ℕ) → n ≤ i → getD (tables .sixes) i (pos 0) ≡ getD sixes₀ i (pos 0)

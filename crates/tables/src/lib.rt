@@ -3,6 +3,7 @@
 pub mod rows;
 pub mod words;
 
+ghost use Rattle.walk_words.specs.Words.{walkTables};
 ghost use Rattle.tables.specs.Tables.{TablesAt, TabledIs};
 use drawing_links::neighbours;
 use drawing_rules::drawing_rules;
@@ -35,9 +36,9 @@ pub fn tables(
     clashes: &mut [u64; MOST_CANDIDATES],
     sixes: &mut [i64; MOST_CANDIDATES],
 ) -> Tabled
-    requires { ⌜ TablesAt (now xyz) (now ends) (now rows) (now on) (now up) (now sides) (now clashes) (now sixes) ⌝ }
-    ensures { λ r. ⌜ TabledIs (now (xyz .entry)) (now (ends .entry)) (now (rows .entry)) (now (rows .exit)) (now (on .exit))
-        (now (up .exit)) (now (sides .exit)) (now (clashes .exit)) (now (sixes .exit)) r ⌝ }
+    requires { ⌜ TablesAt (now xyz) (now ends) (now rows) (walkTables (now on) (now up) (now sides) (now clashes) (now sixes)) ⌝ }
+    ensures { λ r. ⌜ TabledIs (now (xyz .entry)) (now (ends .entry)) (now (rows .entry)) (now (rows .exit))
+        (walkTables (now (on .exit)) (now (up .exit)) (now (sides .exit)) (now (clashes .exit)) (now (sixes .exit))) r ⌝ }
 {
     let rules = drawing_rules(xyz, ends);
     match rules {

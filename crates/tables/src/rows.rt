@@ -33,7 +33,7 @@ pub fn candidate_rows(
     let mut planes = [0u64; MOST_LOOPS];
     let mut all_corners = [0u64; MOST_LOOPS];
     let mut all_sides = [0u64; MOST_LOOPS];
-    let n = known_loops(
+    let loops = known_loops(
         xyz,
         near,
         number,
@@ -42,17 +42,17 @@ pub fn candidate_rows(
         &mut all_corners,
         &mut all_sides,
     );
-    if MOST_LOOPS < n {
+    if MOST_LOOPS < loops {
         return Counts {
-            loops: n,
+            loops: loops,
             candidates: 0,
         };
     }
-    let c = candidates(
+    let n = candidates(
         xyz,
         ends,
         &table,
-        n,
+        loops,
         &all_corners,
         &all_sides,
         &planes,
@@ -61,7 +61,7 @@ pub fn candidate_rows(
         sides,
     );
     Counts {
-        loops: n,
-        candidates: c,
+        loops: loops,
+        candidates: n,
     }
 }

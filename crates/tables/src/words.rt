@@ -1,4 +1,5 @@
 // The words and numbers of a drawing's candidates that the walk is lent, each made once. Assumes the candidates' rows and words.
+ghost use Rattle.walk_words.specs.Words.{walkTables};
 ghost use Rattle.tables.specs.Words.{Listed, WordsAt, WordsMade};
 use loop_words::PAIRS;
 use paper::FACE_ROOM;
@@ -24,11 +25,12 @@ pub fn put_words(
     clashes: &mut [u64; MOST_CANDIDATES],
     sixes: &mut [i64; MOST_CANDIDATES],
 )
-    requires { ⌜ WordsAt (now xyz) (now rows) n (now near) (now number) (now corners) (now sides)
-        (now on) (now up) (now clashes) (now sixes) ⌝ }
-    ensures { λ _. ⌜ ((w : Listed (now (xyz .entry)) (now (rows .entry)) n (now (near .entry)) (now (number .entry))
+    requires { ⌜ WordsAt (now xyz) (now rows) n (now near) (now number) (now corners)
+        (walkTables (now on) (now up) (now sides) (now clashes) (now sixes)) ⌝ }
+    ensures { λ _. ⌜ ((l : Listed (now (xyz .entry)) (now (rows .entry)) n (now (near .entry)) (now (number .entry))
         (now (corners .entry)) (now (sides .entry)))
-        → WordsMade w (now (on .exit)) (now (up .exit)) (now (clashes .exit)) (now (sixes .entry)) (now (sixes .exit))) ⌝ }
+        → WordsMade l (now (sixes .entry))
+        (walkTables (now (on .exit)) (now (up .exit)) (now (sides .entry)) (now (clashes .exit)) (now (sixes .exit)))) ⌝ }
 {
     let mut at = [0u64; MOST_VERTICES];
     let mut normals = [0i64; NORMALS];

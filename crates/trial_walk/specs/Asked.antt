@@ -11,8 +11,8 @@ use Rattle.paper.specs.declared.Answer.the-variants.{Fine}
 use Rattle.walk_leaf.specs.Tests.{Judging}
 use Rattle.tables.specs.declared.rows.Counts.{Counts}
 
-pub record Walking (e : ℕ) (sixes : List ℤ) (c : Counts) : Type 0 where
-  pub judging : Judging e sixes
+pub record Walking (m : ℕ) (sixes : List ℤ) (c : Counts) : Type 0 where
+  pub judging : Judging m sixes
   pub few : c .candidates ≤ room
 
 abbrev pub Ruled : List ℤ → List ℕ → Type 0

@@ -76,18 +76,18 @@ fn say_end(t: Tally, out: &[u64; SOLID_ROOM])
 fn show_walk(
     on: &[u64; MOST_EDGES],
     up: &[u64; MOST_EDGES],
-    e: usize,
+    m: usize,
     sides: &[u64; MOST_CANDIDATES],
     clashes: &[u64; MOST_CANDIDATES],
     sixes: &[i64; MOST_CANDIDATES],
     c: Counts,
     limit: u64,
 )
-    requires { ⌜ Walking e (now sixes) c ⌝ }
+    requires { ⌜ Walking m (now sixes) c ⌝ }
 {
     let mut out = [0u64; SOLID_ROOM];
     let n = c.candidates;
-    let t = search(on, up, e, sides, clashes, sixes, n, limit, &mut out);
+    let t = search(on, up, m, sides, clashes, sixes, n, limit, &mut out);
     say_count(b"loops ", c.loops as u64);
     say_count(b" candidates ", n as u64);
     say_count(b" work ", t.work);

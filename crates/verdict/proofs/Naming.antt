@@ -4,7 +4,6 @@ use mathlib.Core.List.{List, _++_}
 use mathlib.Core.Path.{_≡_, refl, sym, ap, subst, _∙_}
 use Prim.Native.Nat.{ℕ, _≤_, _<_}
 use native.Mathlib.Omega.{arith}
-use lib.IntN.{ℤ}
 use lib.ListN.{length, getD, take}
 use lib.Seq.{getD-take}
 use Rattle.sets.specs.Word.{dig}
@@ -21,7 +20,7 @@ use Rattle.paper.specs.declared.Refusal.{Refusal}
 use Rattle.paper_laws.proofs.Checks.{first-stops, first-passes}
 use Rattle.means_loops.proofs.Kept.{member-is}
 use Rattle.means_check.proofs.Numbers.{row-is}
-use Rattle.walk_words.specs.Words.{SmallSixes, Lent}
+use Rattle.walk_words.specs.Words.{WalkTables, Lent}
 use Rattle.verdict_faces.specs.Named.{Holds, namedChecks, Selected}
 use Rattle.verdict_faces.specs.declared.selection.Selection.{Selection}
 use Rattle.verdict_faces.proofs.Listed.{taken-mask, taken-long, listed-long, named-below}
@@ -56,8 +55,8 @@ module _ (cs : List Loop) (fs : List (List ℕ)) where
           (row-is (length cs) ks (getD ks i 0) (below i (omega (arith, listed-long cs fs))) (member-is (getD ks i 0) ks i m refl));
     }
 
-    pub tests-decide : {on up : List ℕ} {e : ℕ} {sides clashes : List ℕ} {sixes : List ℤ} {n : ℕ} {a : Answer} (t : Tables)
-        → length cs ≡ n → Lent on up e sides clashes sixes n t → Tested on up e sides clashes sixes numbers count (s .taken) (s .turned) a
+    pub tests-decide : {tables : WalkTables} {m n : ℕ} {a : Answer} (t : Tables)
+        → length cs ≡ n → Lent tables m n t → Tested tables m numbers count (s .taken) (s .turned) a
         → a ≡ firstOf (faceChecks t (length cs) (listed cs fs))
     tests-decide {n = n} t count-is lent tested =
         tested n t (listed cs fs) lent (listed-in count-is)

@@ -12,6 +12,7 @@ use Rattle.drawing_lists.proofs.Range.{lent-range}
 use Rattle.loop_table.proofs.Loops as Loops
 use Rattle.loop_table.proofs.Loops.{candidates-of}
 use Rattle.loop_table.proofs.Rows.{rows-held, rows-kept}
+use Rattle.walk_words.specs.Words.{WalkTables}
 use Rattle.tables.specs.Given.{Passed}
 use Rattle.tables.specs.Tables.{Ready}
 use Rattle.tables.specs.declared.rows.Counts.{Counts}
@@ -25,8 +26,7 @@ vertices-are xyz ends ok =
     let r = lent-range xyz ends ok in
     omega (arith, r .points .whole, Loops.vertices-are r)
 
-module _ {xyz : List ℤ} {ends rows₀ rows on up sides clashes : List ℕ} {sixes : List ℤ} {c : Counts}
-    (r : Ready xyz ends rows₀ rows on up sides clashes sixes c) where
+module _ {xyz : List ℤ} {ends rows₀ rows : List ℕ} {tables : WalkTables} {c : Counts} (r : Ready xyz ends rows₀ rows tables c) where
   -- the rows are those of the candidates
   pub rows-hold : Holds rows (c .candidates) (candidates (wire xyz ends))
   rows-hold =
@@ -37,7 +37,7 @@ module _ {xyz : List ℤ} {ends rows₀ rows on up sides clashes : List ℕ} {si
         short = candidates-of d .short;
       }
 
-  pub list-at : Passed xyz ends → length rows₀ ≡ faceRoom → ListAt rows (c .candidates) (length ends / 2) sixes
+  pub list-at : Passed xyz ends → length rows₀ ≡ faceRoom → ListAt rows (c .candidates) (length ends / 2) (tables .sixes)
   list-at ok whole =
       let d = wire xyz ends in
       record {

@@ -15,7 +15,7 @@ use Rattle.paper.specs.Solids.{Tables, tablesOf}
 use Rattle.paper.specs.FaceList.{facesIn, wellShaped}
 use Rattle.paper.specs.Verdict.{listed, faceChecks, verdictFor}
 use Rattle.paper.specs.declared.Verdict.{Verdict}
-use Rattle.walk_words.specs.Words.{SmallSixes, Lent}
+use Rattle.walk_words.specs.Words.{SmallSixes, WalkTables, Lent}
 use Rattle.tables.specs.Tables.{checksOf}
 use Rattle.verdict_faces.specs.Named.{Holds}
 
@@ -26,17 +26,17 @@ abbrev pub listChecks : ℕ → List Loop → Tables → List ℕ → List Check
 listChecks v cs t list =
     check No.ShellShape (offends (not (wellShaped editionOne v list)) 0) ∷ faceChecks t (length cs) (listed cs (facesIn editionOne list))
 
-pub record ListAt (rows : List ℕ) (n e : ℕ) (sixes : List ℤ) : Type 0 where
+pub record ListAt (rows : List ℕ) (n m : ℕ) (sixes : List ℤ) : Type 0 where
   pub loops : List Loop
   pub held : Holds rows n loops
   pub few : n ≤ mostCandidates
   pub rows-long : length rows ≡ faceRoom
-  pub edges : e ≤ editionOne .«most_edges»
+  pub edges : m ≤ editionOne .«most_edges»
   pub small : SmallSixes sixes
 
-abbrev pub ListChecked : List ℕ → ℕ → List ℕ → ℕ → List ℕ → List ℕ → ℕ → List ℕ → List ℕ → List ℤ → Verdict → Type 0
-ListChecked list v rows n on up e sides clashes sixes r =
-    (cs : List Loop) (t : Tables) → Holds rows n cs → Lent on up e sides clashes sixes n t → r ≡ verdictFor (firstOf (listChecks v cs t list))
+abbrev pub ListChecked : List ℕ → ℕ → List ℕ → ℕ → WalkTables → ℕ → Verdict → Type 0
+ListChecked list v rows n tables m r =
+    (cs : List Loop) (t : Tables) → Holds rows n cs → Lent tables m n t → r ≡ verdictFor (firstOf (listChecks v cs t list))
 
 -- ---- a drawing that passed 3 to 10
 

@@ -1,6 +1,7 @@
 // A face list held against the candidates of a drawing that passed 3 to 16: refusals 20 to 27. Assumes their rows and tables.
 ghost use mathlib.Core.Path.{_≡_};
 ghost use Rattle.paper.specs.Verdict.{verdictFor};
+ghost use Rattle.walk_words.specs.Words.{walkTables};
 ghost use Rattle.verdict.specs.Checked.{ListAt, ListChecked};
 use faces_reader::read_faces;
 use paper::Answer;
@@ -30,14 +31,14 @@ pub fn faces_checked(
     n: usize,
     on: &[u64; MOST_EDGES],
     up: &[u64; MOST_EDGES],
-    e: usize,
+    m: usize,
     sides: &[u64; MOST_CANDIDATES],
     clashes: &[u64; MOST_CANDIDATES],
     sixes: &[i64; MOST_CANDIDATES],
 ) -> Verdict
-    requires { ⌜ ListAt (now rows) n e (now sixes) ⌝ }
-    ensures { λ r. ⌜ ListChecked (now (list .entry)) v (now (rows .entry)) n (now (on .entry)) (now (up .entry)) e
-        (now (sides .entry)) (now (clashes .entry)) (now (sixes .entry)) r ⌝ }
+    requires { ⌜ ListAt (now rows) n m (now sixes) ⌝ }
+    ensures { λ r. ⌜ ListChecked (now (list .entry)) v (now (rows .entry)) n
+        (walkTables (now (on .entry)) (now (up .entry)) (now (sides .entry)) (now (clashes .entry)) (now (sixes .entry))) m r ⌝ }
 {
     let faces = read_faces(list, v);
     let shape = faces.answer;
@@ -57,7 +58,7 @@ pub fn faces_checked(
             let answer = tested(
                 on,
                 up,
-                e,
+                m,
                 sides,
                 clashes,
                 sixes,

@@ -43,7 +43,7 @@ fn checked(xyz: &[i64], ends: &[u8], list: &[u8]) -> Verdict
         &mut sixes,
     );
     let v = xyz.len() / 3;
-    let e = ends.len() / 2;
+    let m = ends.len() / 2;
     match tabled {
         Tabled::Refused(r) => Verdict::Refused(r),
         Tabled::Ready(c) => faces_checked(
@@ -53,7 +53,7 @@ fn checked(xyz: &[i64], ends: &[u8], list: &[u8]) -> Verdict
             c.candidates,
             &on,
             &up,
-            e,
+            m,
             &sides,
             &clashes,
             &sixes,

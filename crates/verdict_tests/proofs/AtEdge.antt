@@ -27,32 +27,32 @@ notTwo t l e = not (inTwo (getD (t .masks) e []) (l .taken))
 abbrev pub notOnce : Tables → Listed → ℕ → Bool
 notOnce t l e = not (onceEachWay (getD (t .masks) e []) (getD (t .ups) e []) (l .taken) (l .turned))
 
-module _ (on : List ℕ) (n : ℕ) (taken : Set) where
-  pub finds-23 : Finds (Counting on n taken) notTwo n edgeCount
+module _ (on : List ℕ) (m : ℕ) (taken : Set) where
+  pub finds-23 : Finds (Counting on m taken) notTwo m edgeCount
   unfolding Paper.edgeCount
   finds-23 t l w = ap (lowest (notTwo t l)) (w .as-many)
 
-  module _ (e : ℕ) (h : e < n) {mask mine : Set} (o : EdgeSet on e mask) (j : Joint mask taken mine both) {k : ℕ} (c : Counted mine k)
+  module _ (e : ℕ) (h : e < m) {mask mine : Set} (o : EdgeSet on e mask) (j : Joint mask taken mine both) {k : ℕ} (c : Counted mine k)
     where
-      counts : (t : Tables) (l : Listed) → Counting on n taken t l → k ≡ count (both (getD (t .masks) e []) (l .taken))
+      counts : (t : Tables) (l : Listed) → Counting on m taken t l → k ≡ count (both (getD (t .masks) e []) (l .taken))
       counts t l w =
-          let m : e < length (t .masks) = omega (arith, w .as-many) in
-          c .size-is ∙ size-is (j (getD (t .masks) e []) (l .taken) (mask-at (w .on-are) o refl m) (w .taken-is))
+          let low : e < length (t .masks) = omega (arith, w .as-many) in
+          c .size-is ∙ size-is (j (getD (t .masks) e []) (l .taken) (mask-at (w .on-are) o refl low) (w .taken-is))
 
-      pub two-at : (b : Bool) → eqb k 2 ≡ b → Offends (Counting on n taken) notTwo e (not b)
+      pub two-at : (b : Bool) → eqb k 2 ≡ b → Offends (Counting on m taken) notTwo e (not b)
       unfolding inTwo
-      two-at b q t l w = ap not (ap (λ (m : ℕ). eqb m 2) (sym (counts t l w)) ∙ q)
+      two-at b q t l w = ap not (ap (λ (x : ℕ). eqb x 2) (sym (counts t l w)) ∙ q)
 
-module _ (on up : List ℕ) (n : ℕ) (taken turned : Set) where
-  pub finds-24 : Finds (Running on up n taken turned) notOnce n direction
+module _ (on up : List ℕ) (m : ℕ) (taken turned : Set) where
+  pub finds-24 : Finds (Running on up m taken turned) notOnce m direction
   unfolding Paper.direction
   finds-24 t l w = ap (lowest (notOnce t l)) (w .as-many)
 
-  module _ (e : ℕ) (h : e < n) {mask other : Set} (o : EdgeSet on e mask) (u : EdgeSet up e other) {b : Bool}
+  module _ (e : ℕ) (h : e < m) {mask other : Set} (o : EdgeSet on e mask) (u : EdgeSet up e other) {b : Bool}
       (s : WayIs mask other taken turned b) where
-    pub way-at : {r : Bool} → not b ≡ r → Offends (Running on up n taken turned) notOnce e r
+    pub way-at : {r : Bool} → not b ≡ r → Offends (Running on up m taken turned) notOnce e r
     way-at q t l w =
-        let m : e < length (t .masks) = omega (arith, w .as-many) in
-        let k : e < length (t .ups) = omega (arith, w .edges-are .as-many) in
-        ap not (sym (s (getD (t .masks) e []) (getD (t .ups) e []) (l .taken) (l .turned) (mask-at (w .edges-are .on-are) o refl m)
-        (mask-at (w .edges-are .up-are) u refl k) (w .taken-is) (w .turned-is))) ∙ q
+        let low : e < length (t .masks) = omega (arith, w .as-many) in
+        let low-up : e < length (t .ups) = omega (arith, w .edges-are .as-many) in
+        ap not (sym (s (getD (t .masks) e []) (getD (t .ups) e []) (l .taken) (l .turned) (mask-at (w .edges-are .on-are) o refl low)
+        (mask-at (w .edges-are .up-are) u refl low-up) (w .taken-is) (w .turned-is))) ∙ q

@@ -3,7 +3,6 @@ use mathlib.Core.List.{List, [], _∷_}
 use mathlib.Core.Path.{_≡_, refl, sym, _∙_}
 use Prim.Native.Nat.{ℕ}
 use native.Mathlib.Omega.{arith}
-use lib.IntN.{ℤ}
 use Rattle.sets.specs.declared.Set.{Set}
 use Rattle.paper.specs.Refusals.{check, firstOf, NotCandidate, FaceTwice, EdgeCount, Direction, Pieces, Inward, Clash}
 use Rattle.paper.specs.Solids.{Tables}
@@ -12,7 +11,7 @@ use Rattle.paper.specs.declared.Answer.{Answer}
 use Rattle.paper.specs.declared.Answer.the-variants.{Fine, Refused}
 use Rattle.paper.specs.declared.Refusal.{Refusal}
 use Rattle.paper_laws.proofs.Checks.{first-passes, first-stops, found-none}
-use Rattle.walk_words.specs.Words.{Lent}
+use Rattle.walk_words.specs.Words.{WalkTables, Lent}
 use Rattle.walk_leaf.specs.Faces.{Edges}
 use Rattle.verdict_tests.specs.Tests.{FirstOf, Told, Counting, Running, Numbered, Joining, Weighing, Clashing, ListedIn, ListIs, Tested}
 use Rattle.verdict_tests.specs.Tests.{edgeCount, direction, pieces, inward, clash, testChecks}
@@ -36,26 +35,27 @@ module _ {a b : Answer} where
 
 -- ---- all five
 
-module _ (on up : List ℕ) (n : ℕ) (sides clashes : List ℕ) (sixes : List ℤ) (numbers : List ℕ) (count : ℕ) (taken turned : Set) where
-  module _ {m : ℕ} (t : Tables) (l : Listed) (h : Lent on up n sides clashes sixes m t) (d : ListedIn m l)
+module _ (tables : WalkTables) (m : ℕ) (numbers : List ℕ) (count : ℕ) (taken turned : Set) where
+  module _ {n : ℕ} (t : Tables) (l : Listed) (h : Lent tables m n t) (d : ListedIn n l)
       (i : ListIs numbers count taken turned l) where
-    edges : Edges on up (t .masks) (t .ups)
+    edges : Edges (tables .on) (tables .up) (t .masks) (t .ups)
     edges = record { on-are = h .held .on-are; up-are = h .held .up-are; as-many = h .ups-are ∙ sym (h .masks-are) }
 
     faces : Numbered numbers count taken l
     faces = record { numbers-are = i .numbers-are; each = d .each; taken-is = i .taken-is }
 
-    counting : Counting on n taken t l
+    counting : Counting (tables .on) m taken t l
     counting = record { on-are = h .held .on-are; as-many = h .masks-are; taken-is = i .taken-is }
 
-    running : Running on up n taken turned t l
+    running : Running (tables .on) (tables .up) m taken turned t l
     running = record { edges-are = edges; as-many = h .masks-are; taken-is = i .taken-is; turned-is = i .turned-is }
 
     -- 23 is passed
-    joining : Fine ≡ firstOf (check EdgeCount (edgeCount t l) ∷ []) → Joining on up sides numbers count taken t l
+    joining : Fine ≡ firstOf (check EdgeCount (edgeCount t l) ∷ [])
+        → Joining (tables .on) (tables .up) (tables .sides) numbers count taken t l
     joining e = record { edges-are = edges; sides-are = h .held .sides-are; faces-are = faces; two = found-none EdgeCount [] e .0 }
 
-    weighing : Weighing sixes taken turned t l
+    weighing : Weighing (tables .sixes) taken turned t l
     weighing = record {
       sixes-are = h .held .sixes-are;
       in-sixes = omega (arith, d .as-many, h .sixes-are);
@@ -63,21 +63,21 @@ module _ (on up : List ℕ) (n : ℕ) (sides clashes : List ℕ) (sixes : List �
       turned-is = i .turned-is;
     }
 
-    clashing : Clashing clashes numbers count taken t l
+    clashing : Clashing (tables .clashes) numbers count taken t l
     clashing = record {
       clashes-are = h .held .clashes-are;
       in-clashes = omega (arith, d .as-many, h .clashes-are);
       faces-are = faces;
     }
 
-  module _ {r₂₃ r₂₄ r₂₅ r₂₆ r₂₇ : Answer} (t₂₃ : Told (Counting on n taken) EdgeCount edgeCount r₂₃)
-      (t₂₄ : Told (Running on up n taken turned) Direction direction r₂₄)
-      (t₂₅ : Told (Joining on up sides numbers count taken) Pieces pieces r₂₅)
-      (t₂₆ : Told (Weighing sixes taken turned) Inward inward r₂₆)
-      (t₂₇ : Told (Clashing clashes numbers count taken) Clash clash r₂₇) where
+  module _ {r₂₃ r₂₄ r₂₅ r₂₆ r₂₇ : Answer} (t₂₃ : Told (Counting (tables .on) m taken) EdgeCount edgeCount r₂₃)
+      (t₂₄ : Told (Running (tables .on) (tables .up) m taken turned) Direction direction r₂₄)
+      (t₂₅ : Told (Joining (tables .on) (tables .up) (tables .sides) numbers count taken) Pieces pieces r₂₅)
+      (t₂₆ : Told (Weighing (tables .sixes) taken turned) Inward inward r₂₆)
+      (t₂₇ : Told (Clashing (tables .clashes) numbers count taken) Clash clash r₂₇) where
     pub tests : {a b c d : Answer} → FirstOf r₂₆ r₂₇ d → FirstOf r₂₅ d c → FirstOf r₂₄ c b → FirstOf r₂₃ b a
-        → Tested on up n sides clashes sixes numbers count taken turned a
-    tests f₂₆ f₂₅ f₂₄ f₂₃ m t l h d i =
+        → Tested tables m numbers count taken turned a
+    tests f₂₆ f₂₅ f₂₄ f₂₃ n t l h d i =
         let c₂₃ = check EdgeCount (edgeCount t l) in
         let c₂₄ = check Direction (direction t l) in
         let c₂₅ = check Pieces (pieces t l) in

@@ -17,7 +17,7 @@ use Rattle.paper.specs.Verdict as Paper
 use Rattle.paper.specs.Verdict.{Listed}
 use Rattle.paper.specs.declared.Answer.{Answer}
 use Rattle.paper.specs.declared.Answer.the-variants as Answer
-use Rattle.walk_words.specs.Words.{Masks, Sides, Sixes, SmallSixes, Lent}
+use Rattle.walk_words.specs.Words.{Masks, Sides, Sixes, SmallSixes, WalkTables, Lent}
 use Rattle.walk_leaf.specs.Faces.{Edges}
 
 -- ---- what is asked for: so many faces, each with a number below 64; and of all of it
@@ -27,8 +27,8 @@ pub record Faces (numbers : List ℕ) (count : ℕ) : Type 0 where
   pub held : count ≤ length numbers
   pub narrow : (i : ℕ) → i < count → getD numbers i 0 < room
 
-pub record Testing (n : ℕ) (sixes : List ℤ) (numbers : List ℕ) (count : ℕ) : Type 0 where
-  pub edges : n ≤ editionOne .«most_edges»
+pub record Testing (m : ℕ) (sixes : List ℤ) (numbers : List ℕ) (count : ℕ) : Type 0 where
+  pub edges : m ≤ editionOne .«most_edges»
   pub small : SmallSixes sixes
   pub faces : Faces numbers count
 
@@ -67,14 +67,14 @@ FirstOf a b r = (cs ds : List Check) → a ≡ firstOf cs → (Answer.Fine ≡ f
 
 -- ---- what the words stand for that each check asks. 23 and 24, edge by edge
 
-pub record Counting (on : List ℕ) (n : ℕ) (taken : Set) (t : Tables) (l : Listed) : Type 0 where
+pub record Counting (on : List ℕ) (m : ℕ) (taken : Set) (t : Tables) (l : Listed) : Type 0 where
   pub on-are : Masks on (t .masks)
-  pub as-many : length (t .masks) ≡ n
+  pub as-many : length (t .masks) ≡ m
   pub taken-is : Is taken (l .taken)
 
-pub record Running (on up : List ℕ) (n : ℕ) (taken turned : Set) (t : Tables) (l : Listed) : Type 0 where
+pub record Running (on up : List ℕ) (m : ℕ) (taken turned : Set) (t : Tables) (l : Listed) : Type 0 where
   pub edges-are : Edges on up (t .masks) (t .ups)
-  pub as-many : length (t .masks) ≡ n
+  pub as-many : length (t .masks) ≡ m
   pub taken-is : Is taken (l .taken)
   pub turned-is : Is turned (l .turned)
 
@@ -104,10 +104,10 @@ pub record Clashing (clashes numbers : List ℕ) (count : ℕ) (taken : Set) (t 
   pub in-clashes : length (l .taken) ≤ length (t .clashes)
   pub faces-are : Numbered numbers count taken l
 
--- ---- all of it: a list in a drawing of m candidates, each face of which is taken; and the code's form of it
+-- ---- all of it: a list in a drawing of n candidates, each face of which is taken; and the code's form of it
 
-pub record ListedIn (m : ℕ) (l : Listed) : Type 0 where
-  pub as-many : length (l .taken) ≡ m
+pub record ListedIn (n : ℕ) (l : Listed) : Type 0 where
+  pub as-many : length (l .taken) ≡ n
   pub each : (i : ℕ) → i < length (l .numbers) → dig (l .taken) (getD (l .numbers) i 0) ≡ true
 
 pub record ListIs (numbers : List ℕ) (count : ℕ) (taken turned : Set) (l : Listed) : Type 0 where
@@ -115,7 +115,7 @@ pub record ListIs (numbers : List ℕ) (count : ℕ) (taken turned : Set) (l : L
   pub taken-is : Is taken (l .taken)
   pub turned-is : Is turned (l .turned)
 
-abbrev pub Tested : List ℕ → List ℕ → ℕ → List ℕ → List ℕ → List ℤ → List ℕ → ℕ → Set → Set → Answer → Type 0
-Tested on up n sides clashes sixes numbers count taken turned r =
-    (m : ℕ) (t : Tables) (l : Listed) → Lent on up n sides clashes sixes m t → ListedIn m l → ListIs numbers count taken turned l
+abbrev pub Tested : WalkTables → ℕ → List ℕ → ℕ → Set → Set → Answer → Type 0
+Tested tables m numbers count taken turned r =
+    (n : ℕ) (t : Tables) (l : Listed) → Lent tables m n t → ListedIn n l → ListIs numbers count taken turned l
     → r ≡ firstOf (testChecks t l)

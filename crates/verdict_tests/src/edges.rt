@@ -11,12 +11,12 @@ use paper_values::refused;
 use sets::Set;
 use walk_leaf::once_each_way;
 
-pub fn edge_count(on: &[u64; MOST_EDGES], n: usize, taken: Set) -> Answer
-    requires { ⌜ n ≤ editionOne .«most_edges» ⌝ }
-    ensures { λ r. ⌜ Told (Counting (now (on .entry)) n taken) No.EdgeCount edgeCount r ⌝ }
+pub fn edge_count(on: &[u64; MOST_EDGES], m: usize, taken: Set) -> Answer
+    requires { ⌜ m ≤ editionOne .«most_edges» ⌝ }
+    ensures { λ r. ⌜ Told (Counting (now (on .entry)) m taken) No.EdgeCount edgeCount r ⌝ }
 {
     let mut e = 0;
-    while e < n {
+    while e < m {
         let mine = Set::of_edge(on, e).and(taken);
         if mine.count() != 2 {
             return refused(EDGE_COUNT, e);
@@ -29,15 +29,15 @@ pub fn edge_count(on: &[u64; MOST_EDGES], n: usize, taken: Set) -> Answer
 pub fn direction(
     on: &[u64; MOST_EDGES],
     up: &[u64; MOST_EDGES],
-    n: usize,
+    m: usize,
     taken: Set,
     turned: Set,
 ) -> Answer
-    requires { ⌜ n ≤ editionOne .«most_edges» ⌝ }
-    ensures { λ r. ⌜ Told (Running (now (on .entry)) (now (up .entry)) n taken turned) No.Direction direction r ⌝ }
+    requires { ⌜ m ≤ editionOne .«most_edges» ⌝ }
+    ensures { λ r. ⌜ Told (Running (now (on .entry)) (now (up .entry)) m taken turned) No.Direction direction r ⌝ }
 {
     let mut e = 0;
-    while e < n {
+    while e < m {
         let mask = Set::of_edge(on, e);
         if !once_each_way(mask, Set::of_edge(up, e), taken, turned) {
             return refused(DIRECTION, e);

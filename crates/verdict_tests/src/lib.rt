@@ -4,7 +4,7 @@ mod edges;
 mod faces;
 
 ghost use Rattle.paper.specs.Refusals as No;
-ghost use Rattle.walk_words.specs.Words.{SmallSixes};
+ghost use Rattle.walk_words.specs.Words.{SmallSixes, walkTables};
 ghost use Rattle.verdict_tests.specs.Tests.{FirstOf, Told, Weighing, inward, Testing, Tested};
 use edges::direction;
 use edges::edge_count;
@@ -45,7 +45,7 @@ fn inward(sixes: &[i64; MOST_CANDIDATES], taken: Set, turned: Set) -> Answer
 pub fn tested(
     on: &[u64; MOST_EDGES],
     up: &[u64; MOST_EDGES],
-    e: usize,
+    m: usize,
     sides: &[u64; MOST_CANDIDATES],
     clashes: &[u64; MOST_CANDIDATES],
     sixes: &[i64; MOST_CANDIDATES],
@@ -54,12 +54,13 @@ pub fn tested(
     taken: Set,
     turned: Set,
 ) -> Answer
-    requires { ⌜ Testing e (now sixes) (now numbers) count ⌝ }
-    ensures { λ r. ⌜ Tested (now (on .entry)) (now (up .entry)) e (now (sides .entry)) (now (clashes .entry)) (now (sixes .entry))
-        (now (numbers .entry)) count taken turned r ⌝ }
+    requires { ⌜ Testing m (now sixes) (now numbers) count ⌝ }
+    ensures { λ r. ⌜ Tested
+        (walkTables (now (on .entry)) (now (up .entry)) (now (sides .entry)) (now (clashes .entry)) (now (sixes .entry)))
+        m (now (numbers .entry)) count taken turned r ⌝ }
 {
-    let counted = edge_count(on, e, taken);
-    let ways = direction(on, up, e, taken, turned);
+    let counted = edge_count(on, m, taken);
+    let ways = direction(on, up, m, taken, turned);
     let joined = pieces(on, up, sides, numbers, count, taken);
     let outward = inward(sixes, taken, turned);
     let apart = clash(clashes, numbers, count, taken);

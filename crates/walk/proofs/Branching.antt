@@ -14,13 +14,13 @@ use Rattle.walk_state.specs.declared.State.{State}
 use Rattle.walk_state.specs.declared.Opening.{Opening}
 use Rattle.walk.specs.Branch.{Assumes}
 
-module _ {on : List ℕ} {n : ℕ} (s : State) {from : ℕ} {o : Opening} (found : Opened on n (s .undecided) from o) {k : ℕ}
+module _ {on : List ℕ} {m : ℕ} (s : State) {from : ℕ} {o : Opening} (found : Opened on m (s .undecided) from o) {k : ℕ}
     (low : Lowest (o .free) k) where
   pub lowest-open : Has (s .undecided) k
   lowest-open = found .there k (low .there)
 
   pub assumes : {sides : List ℕ} {changed : Set} {s′ : State} {v : Status} → EdgeSet sides k changed → Decided s k v s′
-      → Assumes on n sides s from v (record { state = s′; changed = changed; edge = o .edge })
+      → Assumes on m sides s from v (record { state = s′; changed = changed; edge = o .edge })
   assumes {sides} {changed} {s′} {v} edge d = record {
     within = found .within;
     fewer = d .fewer;
@@ -28,11 +28,11 @@ module _ {on : List ℕ} {n : ℕ} (s : State) {from : ℕ} {o : Opening} (found
         let c = found .same masks st i l (h .leaves) in
         let q : k ≡ lowestOn masks st (openFrom masks st from)
         = low .same (c .digits) (c .free-is) ∙ c .lowest-is ∙ ap (lowestOn masks st) (c .edge-is) in
-        let m : Is changed (edgesWith masks k)
+        let marks : Is changed (edgesWith masks k)
         = subst (λ (x : Set). Is x (edgesWith masks k)) (sym (edge .is)) (w .at k (low .narrow)) in
         record {
           holds = subst (λ (j : ℕ). Holds s′ (set st j v)) q (d .same st h);
-          marked-is = subst (λ (j : ℕ). Is changed (edgesWith masks j)) q m;
+          marked-is = subst (λ (j : ℕ). Is changed (edgesWith masks j)) q marks;
           edge-is = c .edge-is;
         };
   }

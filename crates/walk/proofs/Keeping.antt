@@ -4,7 +4,6 @@ use mathlib.Core.List.{List, [], _∷_, _++_}
 use mathlib.Core.Path.{_≡_, refl, sym, ap, ap₂, _∙_, subst}
 use Prim.Native.Nat.{ℕ, _+_, _*_, _≤_, _<_}
 use native.Mathlib.Omega.{arith}
-use lib.IntN.{ℤ}
 use lib.ListN.{length, set, length-append, length-map}
 use borrow.Author.Tests.{lt-ltb, le-ltb}
 use Rattle.sets.specs.Word.{word}
@@ -20,7 +19,7 @@ use Rattle.means_walk.specs.Complete.{exact}
 use Rattle.fast_leaf.specs.Faces.{judgedByFaces}
 use Rattle.fast_leaf.proofs.Judged.{Reports, reports-by-faces}
 use Rattle.fast_leaf.proofs.Leaf.{exact-two}
-use Rattle.walk_words.specs.Words.{Lent}
+use Rattle.walk_words.specs.Words.{WalkTables, Lent}
 use Rattle.walk_leaf.specs.Tests.{LeafIs, Judges}
 use Rattle.walk_leaf.specs.declared.Leaf.{Leaf}
 use Rattle.walk_leaf.specs.declared.Leaf.the-variants as L
@@ -44,15 +43,15 @@ solid-is : {turned : Set} {six : ℕ} (j : Judgement) → LeafIs (L.Solid turned
 solid-is Fails h = absurd h
 solid-is (Solid s v) h = record { solid = refl; turned-is = word-is (h .turned-is); six-is = h .six-is }
 
-module _ {on up : List ℕ} {n : ℕ} {sides clashes : List ℕ} {sixes : List ℤ} {taken : Set} where
-  module _ {m : ℕ} {t : Tables} (st : List Status) (lent : Lent on up n sides clashes sixes m t) (long : length st ≡ m)
+module _ {tables : WalkTables} {m : ℕ} {taken : Set} where
+  module _ {n : ℕ} {t : Tables} (st : List Status) (lent : Lent tables m n t) (long : length st ≡ n)
       (i : Is taken (takens st)) (two : exact (t .masks) st ≡ true) where
     reports : Reports (judgedByFaces t (takens st)) (judged t (takens st))
     reports = reports-by-faces t (takens st) (lent .masks-are ∙ sym (lent .ups-are)) (exact-two (t .masks) st two)
 
-    judges : (v : Leaf) → Judges on up n sides clashes sixes taken v → LeafIs v (judgedByFaces t (takens st))
+    judges : (v : Leaf) → Judges tables m taken v → LeafIs v (judgedByFaces t (takens st))
     judges v j =
-        let many : length (takens st) ≡ m = length-map st isTaken ∙ long in
+        let many : length (takens st) ≡ n = length-map st isTaken ∙ long in
         j t (takens st) (lent .held)
         (record {
           masks-are = lent .masks-are;
@@ -62,11 +61,11 @@ module _ {on up : List ℕ} {n : ℕ} {sides clashes : List ℕ} {sixes : List �
         })
         i
 
-    not-accepted : Judges on up n sides clashes sixes taken L.Fails → accepted t st ≡ false
+    not-accepted : Judges tables m taken L.Fails → accepted t st ≡ false
     unfolding accepted
     not-accepted j = sym (reports .same-solid) ∙ fails-not (judgedByFaces t (takens st)) (judges L.Fails j)
 
-    module _ (turned : Set) (six : ℕ) (j : Judges on up n sides clashes sixes taken (L.Solid turned six)) where
+    module _ (turned : Set) (six : ℕ) (j : Judges tables m taken (L.Solid turned six)) where
       its : IsSolid turned six (judgedByFaces t (takens st))
       its = solid-is (judgedByFaces t (takens st)) (judges (L.Solid turned six) j)
 
@@ -82,20 +81,20 @@ module _ {on up : List ℕ} {n : ℕ} {sides clashes : List ℕ} {sixes : List �
   -- ---- the ways out
 
   module _ {x : Tally} {out : List ℕ} (roomy : Roomy x out) where
-    pub kept-not : Judges on up n sides clashes sixes taken L.Fails → Keeps on up n sides clashes sixes taken x out x out
+    pub kept-not : Judges tables m taken L.Fails → Keeps tables m taken x out x out
     unfolding leaf
     kept-not j = record {
       roomy = roomy;
-      same = λ m t st lent long i two log room h. rw (not-accepted st lent long i two j) h;
+      same = λ n t st lent long i two log room h. rw (not-accepted st lent long i two j) h;
     }
 
-    module _ (turned : Set) (six : ℕ) (j : Judges on up n sides clashes sixes taken (L.Solid turned six)) where
+    module _ (turned : Set) (six : ℕ) (j : Judges tables m taken (L.Solid turned six)) where
       pub kept-full : mostSolids ≤ x .found
-          → Keeps on up n sides clashes sixes taken x out (record { work = x .work; found = x .found; ended = No.Many }) out
+          → Keeps tables m taken x out (record { work = x .work; found = x .found; ended = No.Many }) out
       unfolding leaf
       kept-full f = record {
         roomy = record { few = roomy .few; whole = roomy .whole };
-        same = λ m t st lent long i two log room h.
+        same = λ n t st lent long i two log room h.
             let c = h .counts in
             rw (is-accepted st lent long i two turned six j, le-ltb (length (log .found)) mostSolids (subst (λ (k : ℕ). mostSolids ≤ k) (c .found-is) f))
             (record {
@@ -105,7 +104,7 @@ module _ {on up : List ℕ} {n : ℕ} {sides clashes : List ℕ} {sixes : List �
       }
 
       pub kept-more : x .found < mostSolids
-          → Keeps on up n sides clashes sixes taken x out (record { work = x .work; found = x .found + 1; ended = x .ended })
+          → Keeps tables m taken x out (record { work = x .work; found = x .found + 1; ended = x .ended })
           (set (set (set out (solidWords * x .found) (taken .word)) (solidWords * x .found + 1) (turned .word)) (solidWords * x .found + 2)
           six)
       unfolding leaf
@@ -116,7 +115,7 @@ module _ {on up : List ℕ} {n : ℕ} {sides clashes : List ℕ} {sixes : List �
               three-long out (solidWords * x .found) (solidWords * x .found + 1) (solidWords * x .found + 2) (taken .word) (turned .word) six
               ∙ roomy .whole;
         };
-        same = λ m t st lent long i two log room h.
+        same = λ n t st lent long i two log room h.
             let c = h .counts in
             let k = length (log .found) in
             let whole : length (solidsAfter t (log .found) room) ≡ solidRoom = sym (ap length (h .words-are)) ∙ roomy .whole in
@@ -124,7 +123,7 @@ module _ {on up : List ℕ} {n : ℕ} {sides clashes : List ℕ} {sixes : List �
             (record {
               counts = record {
                 work-is = c .work-is;
-                found-is = ap (λ (n : ℕ). n + 1) (c .found-is) ∙ sym (length-append (log .found) (st ∷ []));
+                found-is = ap (λ (k : ℕ). k + 1) (c .found-is) ∙ sym (length-append (log .found) (st ∷ []));
                 ended-is = c .ended-is;
               };
               words-are =

@@ -4,7 +4,6 @@ use mathlib.Core.List.{List, [], _∷_, map}
 use mathlib.Core.Path.{_≡_, refl, sym, ap, _∙_, subst}
 use Prim.Native.Nat.{ℕ, zero, suc, _≤_, _<_}
 use native.Mathlib.Omega.{arith}
-use lib.IntN.{ℤ}
 use lib.ListN.{length, replicate, length-replicate}
 use Rattle.lists.proofs.After.{after-none}
 use Rattle.sets.specs.Sets.{room, Is}
@@ -14,6 +13,7 @@ use Rattle.paper.specs.Numbers.{solidWords}
 use Rattle.paper.specs.Walk.{Status, Undecided, isTaken, isOpen, openCount, nothing, search}
 use Rattle.paper.specs.Conversion.{words, solidsAfter}
 use Rattle.fast_sweeps.proofs.Walk.{call-first}
+use Rattle.walk_words.specs.Words.{WalkTables}
 use Rattle.walk_state.specs.State.{Holds}
 use Rattle.walk.specs.Walk.{Walked, Searched}
 use Rattle.walk.specs.declared.tally.Tally.{Tally}
@@ -35,11 +35,11 @@ holds-all {n} {taken} {undecided} few none all = record {
   leaves = subst (Is undecided) (sym (each-is isOpen Undecided n)) all;
 }
 
-pub searched : {on up : List ℕ} {e : ℕ} {sides clashes : List ℕ} {sixes : List ℤ} {n limit : ℕ} {none all edges : Set} {out₀ : List ℕ}
-    {r : Tally} {out : List ℕ} → n ≤ room → Is none [] → Is all (replicate n true) → Is edges (replicate e true)
-    → Walked on up e sides clashes sixes (record { state = record { taken = none; undecided = all }; changed = edges; edge = 0 }) limit
+pub searched : {tables : WalkTables} {m n limit : ℕ} {none all edges : Set} {out₀ : List ℕ}
+    {r : Tally} {out : List ℕ} → n ≤ room → Is none [] → Is all (replicate n true) → Is edges (replicate m true)
+    → Walked tables m (record { state = record { taken = none; undecided = all }; changed = edges; edge = 0 }) limit
     (record { work = 0; found = 0; ended = 0 }) out₀ r out
-    → Searched on up e sides clashes sixes n limit out₀ r out
+    → Searched tables m n limit out₀ r out
 unfolding search solidsAfter
 searched {n = n} {edges = edges} {out₀ = out₀} few i j k w = record {
   roomy = w .roomy;
@@ -48,7 +48,7 @@ searched {n = n} {edges = edges} {out₀ = out₀} few i j k w = record {
       w .same n t (replicate n Undecided) (replicate (length masks) true) 0 (suc n) lent (length-replicate n Undecided)
       (record {
         holds = holds-all few i j;
-        marked-is = subst (λ (m : ℕ). Is edges (replicate m true)) (sym (lent .masks-are)) k;
+        marked-is = subst (λ (k : ℕ). Is edges (replicate k true)) (sym (lent .masks-are)) k;
         edge-is = refl;
       })
       (call-first masks (replicate n Undecided)) (omega (arith, all-open n)) nothing out₀

@@ -4,7 +4,6 @@ use mathlib.Core.List.{List, []}
 use mathlib.Core.Path.{_≡_, refl, sym, ap, _∙_, subst}
 use Prim.Native.Nat.{ℕ, zero, suc, _≤_, _<_}
 use native.Mathlib.Omega.{arith}
-use lib.IntN.{ℤ}
 use lib.ListN.{length, set, length-set, replicate}
 use Rattle.sets.specs.Sets.{Is, size}
 use Rattle.sets.specs.declared.Set.{Set}
@@ -21,7 +20,7 @@ use Rattle.means_walk.proofs.Complete.{calm-exact}
 use Rattle.means_walk.proofs.Chosen.{stable-long}
 use Rattle.fast_sweeps.specs.Worklist.{edgesWith, openFrom, lowestOn, Call}
 use Rattle.fast_sweeps.proofs.Walk.{call-next, call-choice}
-use Rattle.walk_words.specs.Words.{Lent}
+use Rattle.walk_words.specs.Words.{WalkTables, Lent}
 use Rattle.walk_state.specs.State.{Holds}
 use Rattle.walk_state.specs.Sweeps.{Left, SweptOut}
 use Rattle.walk_state.specs.declared.State.{State}
@@ -59,56 +58,59 @@ still-roomy a h = record { few = omega (arith, a .no-more, h .few); whole = h .w
 told : {t : Tables} {lent : List ℕ} {x : Tally} {out : List ℕ} {log log′ : Log} → log ≡ log′ → Stored t lent x out log′ → Stored t lent x out log
 told {t} {lent} {x} {out} q h = subst (Stored t lent x out) (sym q) h
 
-module _ {on up : List ℕ} {n : ℕ} {sides clashes : List ℕ} {sixes : List ℤ} {b : Branch} where
+module _ {tables : WalkTables} {m : ℕ} {b : Branch} where
   -- what sweeping from the branch's state leaves
-  swept : {w : Swept} → SweptOut on sides (b .state) (b .changed) w → {m : ℕ} {t : Tables} {st : List Status} {marked : List Bool} {e : ℕ}
-      → Lent on up n sides clashes sixes m t → BranchIs b st marked e → Call (t .masks) st marked e
+  swept : {w : Swept} → SweptOut (tables .on) (tables .sides) (b .state) (b .changed) w
+      → {n : ℕ} {t : Tables} {st : List Status} {marked : List Bool} {e : ℕ} → Lent tables m n t
+      → BranchIs b st marked e → Call (t .masks) st marked e
       → Left (stable (suc (openCount st)) (t .masks) st) w
-  swept o {m} {t} {st} {marked} lent is call =
+  swept o {n} {t} {st} {marked} lent is call =
       o .same (t .masks) _ st marked (lent .held .on-are) (lent .held .sides-are) (is .holds) (is .marked-is) (call .loop)
 
   module _ (limit : ℕ) {x : Tally} {out₀ : List ℕ} where
-    pub walked-ended : Roomy x out₀ → (x .ended ≡ 0 → ⊥) → Walked on up n sides clashes sixes b limit x out₀ x out₀
+    pub walked-ended : Roomy x out₀ → (x .ended ≡ 0 → ⊥) → Walked tables m b limit x out₀ x out₀
     walked-ended roomy z = record {
       roomy = roomy;
-      same = λ m t st marked e depth lent long is call few log room h.
+      same = λ n t st marked e depth lent long is call few log room h.
           told (turn-ended mostSolids (accepted t) limit (t .masks) st depth log (λ q. z (h .counts .ended-is ∙ q))) h;
     }
 
     module _ (z : x .ended ≡ 0) where
-      pub walked-broken : Roomy x out₀ → SweptOut on sides (b .state) (b .changed) S.Broken
-          → Walked on up n sides clashes sixes b limit x out₀ x out₀
+      pub walked-broken : Roomy x out₀ → SweptOut (tables .on) (tables .sides) (b .state) (b .changed) S.Broken
+          → Walked tables m b limit x out₀ x out₀
       walked-broken roomy o = record {
         roomy = roomy;
-        same = λ m t st marked e depth lent long is call few log room h.
+        same = λ n t st marked e depth lent long is call few log room h.
             told
             (turn-broken mostSolids (accepted t) limit (t .masks) st depth log (sym (h .counts .ended-is) ∙ z)
             (left-broken (stable (suc (openCount st)) (t .masks) st) (swept o lent is call)))
             h;
       }
 
-      module _ {s : State} (o : SweptOut on sides (b .state) (b .changed) (S.Stands s)) {r : Tally} {out : List ℕ} where
-        pub walked-leaf : size (s .undecided) ≡ 0 → Keeps on up n sides clashes sixes (s .taken) x out₀ r out
-            → Walked on up n sides clashes sixes b limit x out₀ r out
+      module _ {s : State} (o : SweptOut (tables .on) (tables .sides) (b .state) (b .changed) (S.Stands s)) {r : Tally}
+          {out : List ℕ} where
+        pub walked-leaf : size (s .undecided) ≡ 0 → Keeps tables m (s .taken) x out₀ r out
+            → Walked tables m b limit x out₀ r out
         walked-leaf none k = record {
           roomy = k .roomy;
-          same = λ m t st marked e depth lent long is call few log room h.
+          same = λ n t st marked e depth lent long is call few log room h.
               let masks = t .masks in
               let l = left-stands s (stable (suc (openCount st)) masks st) (swept o lent is call) in
               let shut : openCount (l .0) ≡ 0 = sym (open-size (l .2)) ∙ none in
               let calm = stable-rest (suc (openCount st)) masks st (l .0) (omega arith) (l .1) .1 in
               told
               (turn-leaf mostSolids (accepted t) limit masks st (l .0) (l .1) depth few log (sym (h .counts .ended-is) ∙ z) shut)
-              (k .same m t (l .0) lent (stable-long masks st (l .0) (l .1) ∙ long) (l .2 .takes) (calm-exact masks (l .0) shut calm)
+              (k .same n t (l .0) lent (stable-long masks st (l .0) (l .1) ∙ long) (l .2 .takes) (calm-exact masks (l .0) shut calm)
               log room h);
         }
 
   -- one branch from where the sweeps left the walk
-  module _ {limit : ℕ} {s : State} {m : ℕ} {t : Tables} (st st′ : List Status) {marked : List Bool} {e : ℕ}
-      (lent : Lent on up n sides clashes sixes m t) (long : length st ≡ m) (is : BranchIs b st marked e)
+  module _ {limit : ℕ} {s : State} {n : ℕ} {t : Tables} (st st′ : List Status) {marked : List Bool} {e : ℕ}
+      (lent : Lent tables m n t) (long : length st ≡ n) (is : BranchIs b st marked e)
       (call : Call (t .masks) st marked e) (q : stable (suc (openCount st)) (t .masks) st ≡ Stands st′) (holds : Holds s st′) where
-    branched : (v : Status) → isOpen v ≡ false → {c : Branch} {y r : Tally} {out₁ out : List ℕ} → Assumes on n sides s (b .edge) v c
-        → Walked on up n sides clashes sixes c limit y out₁ r out → (depth : ℕ) → openCount st′ ≤ depth
+    branched : (v : Status) → isOpen v ≡ false → {c : Branch} {y r : Tally} {out₁ out : List ℕ}
+        → Assumes (tables .on) m (tables .sides) s (b .edge) v c → Walked tables m c limit y out₁ r out
+        → (depth : ℕ) → openCount st′ ≤ depth
         → Follows t (walk depth mostSolids (accepted t) limit (t .masks) (set st′ (choose (t .masks) st′) v)) y out₁ r out
     branched v shut {c} {y} {r} {out₁} {out} a w depth few =
         let masks = t .masks in
@@ -118,19 +120,19 @@ module _ {on up : List ℕ} {n : ℕ} {sides clashes : List ℕ} {sixes : List �
         let here : Call masks st marked (b .edge) = subst (Call masks st marked) (sym (is .edge-is)) call in
         subst (λ (k : ℕ). Follows t (walk depth mostSolids (accepted t) limit masks (set st′ k v)) y out₁ r out)
         (call-choice masks st st′ marked (b .edge) here q)
-        (w .same m t (set st′ k v) (edgesWith masks k) g depth lent (length-set st′ k v ∙ stable-long masks st st′ q ∙ long) i
+        (w .same n t (set st′ k v) (edgesWith masks k) g depth lent (length-set st′ k v ∙ stable-long masks st st′ q ∙ long) i
         (call-next masks st st′ marked (b .edge) here q k v shut)
         (omega (arith, a .fewer, open-size (i .holds), open-size holds, few)))
 
   module _ {limit : ℕ} {x : Tally} {out₀ : List ℕ} (z : x .ended ≡ 0) {s : State}
-      (o : SweptOut on sides (b .state) (b .changed) (S.Stands s)) {r : Tally} {out : List ℕ} where
-    pub walked-both : {next : Both} {a d c : Tally} {out₁ : List ℕ} → 0 < size (s .undecided) → Branches on n sides s (b .edge) next
-        → Assumed limit x a → Walked on up n sides clashes sixes (next .take) limit a out₀ d out₁
-        → Assumed limit d c → Walked on up n sides clashes sixes (next .reject) limit c out₁ r out
-        → Walked on up n sides clashes sixes b limit x out₀ r out
+      (o : SweptOut (tables .on) (tables .sides) (b .state) (b .changed) (S.Stands s)) {r : Tally} {out : List ℕ} where
+    pub walked-both : {next : Both} {a d c : Tally} {out₁ : List ℕ} → 0 < size (s .undecided)
+        → Branches (tables .on) m (tables .sides) s (b .edge) next → Assumed limit x a → Walked tables m (next .take) limit a out₀ d out₁
+        → Assumed limit d c → Walked tables m (next .reject) limit c out₁ r out
+        → Walked tables m b limit x out₀ r out
     walked-both {next} {a} {d} {c} {out₁} some two a₁ w₁ a₂ w₂ = record {
       roomy = w₂ .roomy;
-      same = λ m t st marked e depth lent long is call few log room h.
+      same = λ n t st marked e depth lent long is call few log room h.
           let masks = t .masks in
           let l = left-stands s (stable (suc (openCount st)) masks st) (swept o lent is call) in
           let fewer = stable-rest (suc (openCount st)) masks st (l .0) (omega arith) (l .1) .0 in

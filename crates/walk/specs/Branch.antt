@@ -15,8 +15,8 @@ use Rattle.walk.specs.declared.branch.Branch.{Branch}
 use Rattle.walk.specs.declared.branch.Both.{Both}
 
 -- a state with some undecided, and an edge to look for them from
-pub record Branching (n : ℕ) (s : State) (from : ℕ) : Type 0 where
-  pub from-in : From n from
+pub record Branching (m : ℕ) (s : State) (from : ℕ) : Type 0 where
+  pub from-in : From m from
   pub some : 0 < size (s .undecided)
 
 -- it starts at the state st, with these edges marked and from the edge e
@@ -26,14 +26,14 @@ pub record BranchIs (b : Branch) (st : List Status) (marked : List Bool) (e : �
   pub edge-is : b .edge ≡ e
 
 -- the lowest undecided candidate on the lowest edge that has one gets the status v, and its edges are marked
-pub record Assumes (on : List ℕ) (n : ℕ) (sides : List ℕ) (s : State) (from : ℕ) (v : Status) (b : Branch) : Type 0 where
-  pub within : b .edge ≤ n
+pub record Assumes (on : List ℕ) (m : ℕ) (sides : List ℕ) (s : State) (from : ℕ) (v : Status) (b : Branch) : Type 0 where
+  pub within : b .edge ≤ m
   pub fewer : suc (size (b .state .undecided)) ≡ size (s .undecided)
-  pub same : (masks : List (List Bool)) (st : List Status) → Masks on masks → Sides sides masks → length masks ≡ n → Holds s st
+  pub same : (masks : List (List Bool)) (st : List Status) → Masks on masks → Sides sides masks → length masks ≡ m → Holds s st
       → let g = openFrom masks st from in
       let k = lowestOn masks st g in
       BranchIs b (set st k v) (edgesWith masks k) g
 
-pub record Branches (on : List ℕ) (n : ℕ) (sides : List ℕ) (s : State) (from : ℕ) (r : Both) : Type 0 where
-  pub takes : Assumes on n sides s from Taken (r .take)
-  pub rejects : Assumes on n sides s from Rejected (r .reject)
+pub record Branches (on : List ℕ) (m : ℕ) (sides : List ℕ) (s : State) (from : ℕ) (r : Both) : Type 0 where
+  pub takes : Assumes on m sides s from Taken (r .take)
+  pub rejects : Assumes on m sides s from Rejected (r .reject)

@@ -11,34 +11,32 @@ use Rattle.paper.specs.Solids.{Tables}
 use Rattle.paper.specs.Walk.{Status, openCount, walk, search}
 use Rattle.paper.specs.Conversion.{accepted}
 use Rattle.fast_sweeps.specs.Worklist.{Call}
-use Rattle.walk_words.specs.Words.{Lent}
+use Rattle.walk_words.specs.Words.{WalkTables, Lent}
 use Rattle.walk_leaf.specs.Tests.{Judging}
 use Rattle.walk.specs.Tally.{Roomy, Stored, Follows}
 use Rattle.walk.specs.Branch.{BranchIs}
 use Rattle.walk.specs.declared.tally.Tally.{Tally}
 use Rattle.walk.specs.declared.branch.Branch.{Branch}
 
-pub record Walking (n : ℕ) (sixes : List ℤ) (b : Branch) (x : Tally) (out : List ℕ) : Type 0 where
-  pub judging : Judging n sixes
-  pub within : b .edge ≤ n
+pub record Walking (m : ℕ) (sixes : List ℤ) (b : Branch) (x : Tally) (out : List ℕ) : Type 0 where
+  pub judging : Judging m sixes
+  pub within : b .edge ≤ m
   pub roomy : Roomy x out
 
 -- the tally and the words follow the document's walk from the branch's state on, whatever bounds its depth
-pub record Walked (on up : List ℕ) (n : ℕ) (sides clashes : List ℕ) (sixes : List ℤ) (b : Branch) (limit : ℕ) (x : Tally)
-    (out₀ : List ℕ) (r : Tally) (out : List ℕ) : Type 0 where
+pub record Walked (tables : WalkTables) (m : ℕ) (b : Branch) (limit : ℕ) (x : Tally) (out₀ : List ℕ) (r : Tally)
+    (out : List ℕ) : Type 0 where
   pub roomy : Roomy r out
-  pub same : (m : ℕ) (t : Tables) (st : List Status) (marked : List Bool) (e depth : ℕ) → Lent on up n sides clashes sixes m t
-      → length st ≡ m → BranchIs b st marked e → Call (t .masks) st marked e → openCount st < depth
+  pub same : (n : ℕ) (t : Tables) (st : List Status) (marked : List Bool) (e depth : ℕ) → Lent tables m n t
+      → length st ≡ n → BranchIs b st marked e → Call (t .masks) st marked e → openCount st < depth
       → Follows t (walk depth mostSolids (accepted t) limit (t .masks) st) x out₀ r out
 
-pub record Searching (e : ℕ) (sixes : List ℤ) (n : ℕ) (out : List ℕ) : Type 0 where
-  pub judging : Judging e sixes
+pub record Searching (m : ℕ) (sixes : List ℤ) (n : ℕ) (out : List ℕ) : Type 0 where
+  pub judging : Judging m sixes
   pub few : n ≤ room
   pub whole : length out ≡ solidRoom
 
 -- all that the document's walk finds, in the room that was lent
-pub record Searched (on up : List ℕ) (e : ℕ) (sides clashes : List ℕ) (sixes : List ℤ) (n limit : ℕ)
-    (out₀ : List ℕ) (r : Tally) (out : List ℕ) : Type 0 where
+pub record Searched (tables : WalkTables) (m n limit : ℕ) (out₀ : List ℕ) (r : Tally) (out : List ℕ) : Type 0 where
   pub roomy : Roomy r out
-  pub same : (t : Tables) → Lent on up e sides clashes sixes n t
-      → Stored t out₀ r out (search mostSolids (accepted t) limit n (t .masks))
+  pub same : (t : Tables) → Lent tables m n t → Stored t out₀ r out (search mostSolids (accepted t) limit n (t .masks))

@@ -22,15 +22,15 @@ pub struct Both {
 // "find the lowest edge with an undecided candidate and, on it, the lowest such candidate"
 pub fn branches(
     on: &[u64; MOST_EDGES],
-    n: usize,
+    m: usize,
     sides: &[u64; MOST_CANDIDATES],
     s: State,
     from: usize,
 ) -> Both
-    requires { ⌜ Branching n s from ⌝ }
-    ensures { λ r. ⌜ Branches (now (on .entry)) n (now (sides .entry)) s from r ⌝ }
+    requires { ⌜ Branching m s from ⌝ }
+    ensures { λ r. ⌜ Branches (now (on .entry)) m (now (sides .entry)) s from r ⌝ }
 {
-    let open = first_open(on, n, s.undecided, from);
+    let open = first_open(on, m, s.undecided, from);
     let edge = open.edge;
     let k = open.free.lowest();
     let changed = Set::of_edge(sides, k);

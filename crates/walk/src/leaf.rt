@@ -1,4 +1,5 @@
 // A state with nothing undecided: tested, and stored where it is a solid and there is room. Assumes two taken on each edge.
+ghost use Rattle.walk_words.specs.Words.{walkTables};
 ghost use Rattle.walk.specs.Leaf.{Keeping, Keeps};
 use super::tally::Tally;
 use paper::MANY;
@@ -14,7 +15,7 @@ use walk_leaf::judge;
 pub fn kept(
     on: &[u64; MOST_EDGES],
     up: &[u64; MOST_EDGES],
-    n: usize,
+    m: usize,
     sides: &[u64; MOST_CANDIDATES],
     clashes: &[u64; MOST_CANDIDATES],
     sixes: &[i64; MOST_CANDIDATES],
@@ -22,11 +23,12 @@ pub fn kept(
     t: Tally,
     out: &mut [u64; SOLID_ROOM],
 ) -> Tally
-    requires { ⌜ Keeping n (now sixes) t (now out) ⌝ }
-    ensures { λ r. ⌜ Keeps (now (on .entry)) (now (up .entry)) n (now (sides .entry)) (now (clashes .entry)) (now (sixes .entry))
-        taken t (now (out .entry)) r (now (out .exit)) ⌝ }
+    requires { ⌜ Keeping m (now sixes) t (now out) ⌝ }
+    ensures { λ r. ⌜ Keeps
+        (walkTables (now (on .entry)) (now (up .entry)) (now (sides .entry)) (now (clashes .entry)) (now (sixes .entry)))
+        m taken t (now (out .entry)) r (now (out .exit)) ⌝ }
 {
-    let verdict = judge(on, up, n, sides, clashes, sixes, taken);
+    let verdict = judge(on, up, m, sides, clashes, sixes, taken);
     let Leaf::Solid(turned, six) = verdict else {
         return t;
     };

@@ -4,6 +4,7 @@ mod branch;
 mod leaf;
 pub mod tally;
 
+ghost use Rattle.walk_words.specs.Words.{walkTables};
 ghost use Rattle.walk.specs.Walk.{Walking, Walked, Searching, Searched};
 use branch::Branch;
 use branch::branches;
@@ -20,7 +21,7 @@ use walk_state::settled;
 fn walk(
     on: &[u64; MOST_EDGES],
     up: &[u64; MOST_EDGES],
-    n: usize,
+    m: usize,
     sides: &[u64; MOST_CANDIDATES],
     clashes: &[u64; MOST_CANDIDATES],
     sixes: &[i64; MOST_CANDIDATES],
@@ -29,9 +30,10 @@ fn walk(
     t: Tally,
     out: &mut [u64; SOLID_ROOM],
 ) -> Tally
-    requires { ⌜ Walking n (now sixes) b t (now out) ⌝ }
-    ensures { λ r. ⌜ Walked (now (on .entry)) (now (up .entry)) n (now (sides .entry)) (now (clashes .entry)) (now (sixes .entry))
-        b limit t (now (out .entry)) r (now (out .exit)) ⌝ }
+    requires { ⌜ Walking m (now sixes) b t (now out) ⌝ }
+    ensures { λ r. ⌜ Walked
+        (walkTables (now (on .entry)) (now (up .entry)) (now (sides .entry)) (now (clashes .entry)) (now (sixes .entry)))
+        m b limit t (now (out .entry)) r (now (out .exit)) ⌝ }
 {
     if t.ended != 0 {
         return t;
@@ -42,22 +44,22 @@ fn walk(
     };
     let taken = s.taken;
     if s.undecided.is_empty() {
-        return kept(on, up, n, sides, clashes, sixes, taken, t, out);
+        return kept(on, up, m, sides, clashes, sixes, taken, t, out);
     }
-    let next = branches(on, n, sides, s, b.edge);
+    let next = branches(on, m, sides, s, b.edge);
     let take = next.take;
     let reject = next.reject;
     let a = t.assumed(limit);
-    let d = walk(on, up, n, sides, clashes, sixes, take, limit, a, out);
+    let d = walk(on, up, m, sides, clashes, sixes, take, limit, a, out);
     let c = d.assumed(limit);
-    walk(on, up, n, sides, clashes, sixes, reject, limit, c, out)
+    walk(on, up, m, sides, clashes, sixes, reject, limit, c, out)
 }
 
-// The whole walk of n candidates on e edges: what it comes to, with three words in `out` for each solid.
+// The whole walk of n candidates on m edges: what it comes to, with three words in `out` for each solid.
 pub fn search(
     on: &[u64; MOST_EDGES],
     up: &[u64; MOST_EDGES],
-    e: usize,
+    m: usize,
     sides: &[u64; MOST_CANDIDATES],
     clashes: &[u64; MOST_CANDIDATES],
     sixes: &[i64; MOST_CANDIDATES],
@@ -65,9 +67,10 @@ pub fn search(
     limit: u64,
     out: &mut [u64; SOLID_ROOM],
 ) -> Tally
-    requires { ⌜ Searching e (now sixes) n (now out) ⌝ }
-    ensures { λ r. ⌜ Searched (now (on .entry)) (now (up .entry)) e (now (sides .entry)) (now (clashes .entry)) (now (sixes .entry))
-        n limit (now (out .entry)) r (now (out .exit)) ⌝ }
+    requires { ⌜ Searching m (now sixes) n (now out) ⌝ }
+    ensures { λ r. ⌜ Searched
+        (walkTables (now (on .entry)) (now (up .entry)) (now (sides .entry)) (now (clashes .entry)) (now (sixes .entry)))
+        m n limit (now (out .entry)) r (now (out .exit)) ⌝ }
 {
     let state = State {
         taken: Set::none(),
@@ -75,7 +78,7 @@ pub fn search(
     };
     let all = Branch {
         state: state,
-        changed: Set::lowest_of(e),
+        changed: Set::lowest_of(m),
         edge: 0,
     };
     let none = Tally {
@@ -83,5 +86,5 @@ pub fn search(
         found: 0,
         ended: 0,
     };
-    walk(on, up, e, sides, clashes, sixes, all, limit, none, out)
+    walk(on, up, m, sides, clashes, sixes, all, limit, none, out)
 }

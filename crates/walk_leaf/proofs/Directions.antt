@@ -51,35 +51,35 @@ module _ (mask up taken turned : Set) {mine runs ours : Set} (jm : Joint mask ta
 -- ---- all edges: what is left is the whole answer
 
 abbrev pub Asking : List ℕ → List ℕ → ℕ → Set → Set → ℕ → Type 0
-Asking on up n taken turned e =
-    (masks ups : List (List Bool)) (t s : List Bool) → Edges on up masks ups → length masks ≡ n → Is taken t → Is turned s
+Asking on up m taken turned e =
+    (masks ups : List (List Bool)) (t s : List Bool) → Edges on up masks ups → length masks ≡ m → Is taken t → Is turned s
     → oriented masks ups t s ≡ oriented (drop e masks) (drop e ups) t s
 
-module _ (on up : List ℕ) (n : ℕ) (taken turned : Set) (e : ℕ) (a : Asking on up n taken turned e) where
-  module _ (h : e < n) {mask other : Set} (eo : EdgeSet on e mask) (eu : EdgeSet up e other) {b : Bool}
+module _ (on up : List ℕ) (m : ℕ) (taken turned : Set) (e : ℕ) (a : Asking on up m taken turned e) where
+  module _ (h : e < m) {mask other : Set} (eo : EdgeSet on e mask) (eu : EdgeSet up e other) {b : Bool}
       (c : WayIs mask other taken turned b) where
-    here : (masks ups : List (List Bool)) (t s : List Bool) → Edges on up masks ups → length masks ≡ n → Is taken t → Is turned s
+    here : (masks ups : List (List Bool)) (t s : List Bool) → Edges on up masks ups → length masks ≡ m → Is taken t → Is turned s
         → oriented masks ups t s ≡ cond b (oriented (drop (e + 1) masks) (drop (e + 1) ups) t s) false
     unfolding oriented
     here masks ups t s q l i j =
-        let m : e < length masks = omega arith in
-        let k : e < length ups = omega (arith, q .as-many) in
+        let low : e < length masks = omega arith in
+        let low-up : e < length ups = omega (arith, q .as-many) in
         let o : onceEachWay (getD masks e []) (getD ups e []) t s ≡ b
-        = sym (c (getD masks e []) (getD ups e []) t s (mask-at (q .on-are) eo refl m) (mask-at (q .up-are) eu refl k) i j) in
+        = sym (c (getD masks e []) (getD ups e []) t s (mask-at (q .on-are) eo refl low) (mask-at (q .up-are) eu refl low-up) i j) in
         a masks ups t s q l i j
-        ∙ ap₂ (λ (x y : List (List Bool)). oriented x y t s) (drop-more masks e [] m) (drop-more ups e [] k)
+        ∙ ap₂ (λ (x y : List (List Bool)). oriented x y t s) (drop-more masks e [] low) (drop-more ups e [] low-up)
         ∙ ap (λ (x : Bool). cond x (oriented (drop (e + 1) masks) (drop (e + 1) ups) t s) false) o
 
-    pub asking-next : b ≡ true → Asking on up n taken turned (e + 1)
+    pub asking-next : b ≡ true → Asking on up m taken turned (e + 1)
     asking-next f masks ups t s q l i j =
         here masks ups t s q l i j ∙ ap (λ (x : Bool). cond x (oriented (drop (e + 1) masks) (drop (e + 1) ups) t s) false) f
 
-    pub asking-not : b ≡ false → OrientedIs on up n taken turned false
+    pub asking-not : b ≡ false → OrientedIs on up m taken turned false
     asking-not f masks ups t s q l i j =
         sym (here masks ups t s q l i j ∙ ap (λ (x : Bool). cond x (oriented (drop (e + 1) masks) (drop (e + 1) ups) t s) false) f)
 
-  pub asking-end : e ≡ n → OrientedIs on up n taken turned true
+  pub asking-end : e ≡ m → OrientedIs on up m taken turned true
   unfolding oriented
   asking-end h masks ups t s q l i j =
-      let m : length masks ≤ e = omega arith in
-      sym (a masks ups t s q l i j ∙ ap (λ (x : List (List Bool)). oriented x (drop e ups) t s) (drop-of-length-le masks m))
+      let past : length masks ≤ e = omega arith in
+      sym (a masks ups t s q l i j ∙ ap (λ (x : List (List Bool)). oriented x (drop e ups) t s) (drop-of-length-le masks past))

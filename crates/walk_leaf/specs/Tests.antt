@@ -13,7 +13,7 @@ use Rattle.paper.specs.Format.{editionOne}
 use Rattle.paper.specs.Solids as Paper
 use Rattle.paper.specs.Solids.{Tables, onceEachWay, Judgement, Fails, Solid}
 use Rattle.fast_leaf.specs.Faces.{clearOn, sixOn, judgedByFaces}
-use Rattle.walk_words.specs.Words.{Masks, mostSix, Sixes, SmallSixes, Held}
+use Rattle.walk_words.specs.Words.{Masks, mostSix, Sixes, SmallSixes, WalkTables, Held}
 use Rattle.walk_leaf.specs.Faces.{Edges}
 use Rattle.walk_leaf.specs.declared.Leaf.{Leaf}
 use Rattle.walk_leaf.specs.declared.Leaf.the-variants as L
@@ -25,8 +25,8 @@ WayIs mask up taken turned r =
     (m u t s : List Bool) → Is mask m → Is up u → Is taken t → Is turned s → r ≡ onceEachWay m u t s
 
 abbrev pub OrientedIs : List ℕ → List ℕ → ℕ → Set → Set → Bool → Type 0
-OrientedIs on up n taken turned r =
-    (masks ups : List (List Bool)) (t s : List Bool) → Edges on up masks ups → length masks ≡ n → Is taken t → Is turned s
+OrientedIs on up m taken turned r =
+    (masks ups : List (List Bool)) (t s : List Bool) → Edges on up masks ups → length masks ≡ m → Is taken t → Is turned s
     → r ≡ Paper.oriented masks ups t s
 
 -- ---- (v)
@@ -66,17 +66,17 @@ WeighedIs sixes taken turned r =
     (zs : List ℤ) (t s : List Bool) → Sixes sixes zs → length t ≤ length zs → Is taken t → Is turned s
     → LeafIs r (Paper.weighed t s (sixOn (count t) zs t s))
 
--- ---- all of it: of n edges and of so many candidates that the selection is one of them
-pub record Selects (t : Tables) (n : ℕ) (a : List Bool) : Type 0 where
-  pub masks-are : length (t .masks) ≡ n
-  pub ups-are : length (t .ups) ≡ n
+-- ---- all of it: of m edges and of so many candidates that the selection is one of them
+pub record Selects (t : Tables) (m : ℕ) (a : List Bool) : Type 0 where
+  pub masks-are : length (t .masks) ≡ m
+  pub ups-are : length (t .ups) ≡ m
   pub in-clashes : length a ≤ length (t .clashes)
   pub in-sixes : length a ≤ length (t .sixes)
 
-pub record Judging (n : ℕ) (sixes : List ℤ) : Type 0 where
-  pub few : n ≤ editionOne .«most_edges»
+pub record Judging (m : ℕ) (sixes : List ℤ) : Type 0 where
+  pub few : m ≤ editionOne .«most_edges»
   pub small : SmallSixes sixes
 
-abbrev pub Judges : List ℕ → List ℕ → ℕ → List ℕ → List ℕ → List ℤ → Set → Leaf → Type 0
-Judges on up n sides clashes sixes taken r =
-    (t : Tables) (a : List Bool) → Held on up sides clashes sixes t → Selects t n a → Is taken a → LeafIs r (judgedByFaces t a)
+abbrev pub Judges : WalkTables → ℕ → Set → Leaf → Type 0
+Judges tables m taken r =
+    (t : Tables) (a : List Bool) → Held tables t → Selects t m a → Is taken a → LeafIs r (judgedByFaces t a)

@@ -7,7 +7,7 @@ ghost use Prim.Native.Nat.{_≤_};
 ghost use lib.Dec.{eqb};
 ghost use Rattle.sets.specs.Sets.{size};
 ghost use Rattle.paper.specs.Format.{editionOne};
-ghost use Rattle.walk_words.specs.Words.{SmallSixes};
+ghost use Rattle.walk_words.specs.Words.{SmallSixes, walkTables};
 ghost use Rattle.walk_leaf.specs.Tests.{WayIs, OrientedIs, ClearIs, PartAt, PartIs, Weighs, WeighedIs};
 ghost use Rattle.walk_leaf.specs.Tests.{Judging, Judges};
 use faces::from_face;
@@ -46,15 +46,15 @@ pub fn once_each_way(mask: Set, up: Set, taken: Set, turned: Set) -> bool
 fn oriented(
     on: &[u64; MOST_EDGES],
     up: &[u64; MOST_EDGES],
-    n: usize,
+    m: usize,
     taken: Set,
     turned: Set,
 ) -> bool
-    requires { ⌜ n ≤ editionOne .«most_edges» ⌝ }
-    ensures { λ r. ⌜ OrientedIs (now (on .entry)) (now (up .entry)) n taken turned r ⌝ }
+    requires { ⌜ m ≤ editionOne .«most_edges» ⌝ }
+    ensures { λ r. ⌜ OrientedIs (now (on .entry)) (now (up .entry)) m taken turned r ⌝ }
 {
     let mut e = 0;
-    while e < n {
+    while e < m {
         let mask = Set::of_edge(on, e);
         if !once_each_way(mask, Set::of_edge(up, e), taken, turned) {
             return false;
@@ -125,15 +125,16 @@ fn weighed(sixes: &[i64; MOST_CANDIDATES], taken: Set, turned: Set) -> Leaf
 pub fn judge(
     on: &[u64; MOST_EDGES],
     up: &[u64; MOST_EDGES],
-    n: usize,
+    m: usize,
     sides: &[u64; MOST_CANDIDATES],
     clashes: &[u64; MOST_CANDIDATES],
     sixes: &[i64; MOST_CANDIDATES],
     taken: Set,
 ) -> Leaf
-    requires { ⌜ Judging n (now sixes) ⌝ }
-    ensures { λ r. ⌜ Judges (now (on .entry)) (now (up .entry)) n (now (sides .entry)) (now (clashes .entry)) (now (sixes .entry))
-        taken r ⌝ }
+    requires { ⌜ Judging m (now sixes) ⌝ }
+    ensures { λ r. ⌜ Judges
+        (walkTables (now (on .entry)) (now (up .entry)) (now (sides .entry)) (now (clashes .entry)) (now (sixes .entry)))
+        m taken r ⌝ }
 {
     if taken.is_empty() {
         return Leaf::Fails;
@@ -143,7 +144,7 @@ pub fn judge(
     if !taken.minus(g.reached).is_empty() {
         return Leaf::Fails;
     }
-    if !oriented(on, up, n, taken, turned) {
+    if !oriented(on, up, m, taken, turned) {
         return Leaf::Fails;
     }
     if !clear(clashes, taken) {

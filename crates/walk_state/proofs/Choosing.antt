@@ -21,56 +21,56 @@ use Rattle.walk_state.specs.Choice.{Opened}
 use Rattle.walk_state.proofs.Lowest.{some-in, none-in}
 
 abbrev pub Looking : List ℕ → ℕ → Set → ℕ → ℕ → Type 0
-Looking on n u from e =
-    (masks : List (List Bool)) (st : List Status) → Masks on masks → length masks ≡ n → Is u (opens st)
+Looking on m u from e =
+    (masks : List (List Bool)) (st : List Status) → Masks on masks → length masks ≡ m → Is u (opens st)
     → openFrom masks st from ≡ openFrom masks st e
 
-module _ (on : List ℕ) (n : ℕ) (u : Set) (from e : ℕ) (g : Looking on n u from e) where
-  module _ (h : e < n) {mask free : Set} (edge : EdgeSet on e mask) (j : Joint mask u free both) where
-    free-is : (masks : List (List Bool)) (st : List Status) → Masks on masks → length masks ≡ n → Is u (opens st)
+module _ (on : List ℕ) (m : ℕ) (u : Set) (from e : ℕ) (g : Looking on m u from e) where
+  module _ (h : e < m) {mask free : Set} (edge : EdgeSet on e mask) (j : Joint mask u free both) where
+    free-is : (masks : List (List Bool)) (st : List Status) → Masks on masks → length masks ≡ m → Is u (opens st)
         → Is free (both (getD masks e []) (opens st))
     free-is masks st i l w =
-        let m : Is mask (getD masks e []) = subst (λ (x : Set). Is x (getD masks e [])) (sym (edge .is)) (i .at e (omega arith)) in
-        j (getD masks e []) (opens st) m w
+        let here : Is mask (getD masks e []) = subst (λ (x : Set). Is x (getD masks e [])) (sym (edge .is)) (i .at e (omega arith)) in
+        j (getD masks e []) (opens st) here w
 
     in-both : (k : ℕ) → Has free k → Has u k
     in-both k f a i =
         let b = edge .some .0 in
         and-right (dig b k) (dig a k) (sym (dig-both b a k) ∙ f (both b a) (j b a (edge .some .1) i))
 
-    pub open-found : 0 < size free → Opened on n u from (record { edge = e; free = free })
+    pub open-found : 0 < size free → Opened on m u from (record { edge = e; free = free })
     open-found p = record {
       within = omega arith;
       some = λ q. p;
       there = in-both;
       same = λ masks st i l w.
-          let m : e < length masks = omega arith in
+          let low : e < length masks = omega arith in
           let v = free-is masks st i l w in
           let z : openOn (getD masks e []) st ≡ 0 → ⊥ = λ q. some-in v p (count-opens (getD masks e []) st ∙ q) in
           record {
-            edge-is = sym (g masks st i l w ∙ open-here masks st e m z);
+            edge-is = sym (g masks st i l w ∙ open-here masks st e low z);
             digits = both (getD masks e []) (opens st);
             free-is = v;
-            lowest-is = lowest-here masks st e m;
+            lowest-is = lowest-here masks st e low;
           };
     }
 
-    pub open-next : size free ≡ 0 → Looking on n u from (e + 1)
+    pub open-next : size free ≡ 0 → Looking on m u from (e + 1)
     open-next z masks st i l w =
         g masks st i l w
         ∙ open-skip masks st e (omega arith) (sym (count-opens (getD masks e []) st) ∙ none-in (free-is masks st i l w) z)
 
-  pub open-last : e ≡ n → Opened on n u from (record { edge = e; free = u })
+  pub open-last : e ≡ m → Opened on m u from (record { edge = e; free = u })
   open-last h = record {
     within = omega arith;
     some = λ q. q;
     there = λ k f. f;
     same = λ masks st i l w.
-        let m : length masks ≤ e = omega arith in
+        let past : length masks ≤ e = omega arith in
         record {
-          edge-is = sym (g masks st i l w ∙ open-end masks st e m);
+          edge-is = sym (g masks st i l w ∙ open-end masks st e past);
           digits = opens st;
           free-is = w;
-          lowest-is = lowest-none masks st e m;
+          lowest-is = lowest-none masks st e past;
         };
   }

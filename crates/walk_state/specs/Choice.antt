@@ -14,9 +14,9 @@ use Rattle.fast_sweeps.specs.Worklist.{openFrom, lowestOn}
 use Rattle.walk_words.specs.Words.{Masks}
 use Rattle.walk_state.specs.declared.Opening.{Opening}
 
-pub record From (n from : ℕ) : Type 0 where
-  pub few : n ≤ editionOne .«most_edges»
-  pub within : from ≤ n
+pub record From (m from : ℕ) : Type 0 where
+  pub few : m ≤ editionOne .«most_edges»
+  pub within : from ≤ m
 
 -- the edge is the lowest that has an undecided candidate, and the lowest of the set the lowest such candidate on it
 pub record Chosen (masks : List (List Bool)) (st : List Status) (from : ℕ) (r : Opening) : Type 0 where
@@ -26,9 +26,9 @@ pub record Chosen (masks : List (List Bool)) (st : List Status) (from : ℕ) (r 
   pub lowest-is : first digits ≡ lowestOn masks st (r .edge)
 
 -- also, where any is undecided there is one to choose, and only undecided ones are
-pub record Opened (on : List ℕ) (n : ℕ) (undecided : Set) (from : ℕ) (r : Opening) : Type 0 where
-  pub within : r .edge ≤ n
+pub record Opened (on : List ℕ) (m : ℕ) (undecided : Set) (from : ℕ) (r : Opening) : Type 0 where
+  pub within : r .edge ≤ m
   pub some : 0 < size undecided → 0 < size (r .free)
   pub there : (k : ℕ) → Has (r .free) k → Has undecided k
-  pub same : (masks : List (List Bool)) (st : List Status) → Masks on masks → length masks ≡ n → Is undecided (opens st)
+  pub same : (masks : List (List Bool)) (st : List Status) → Masks on masks → length masks ≡ m → Is undecided (opens st)
       → Chosen masks st from r

@@ -188,13 +188,13 @@ pub struct Opening {
     pub free: Set,
 }
 
-// The lowest edge from `from` on that has one undecided, and those undecided on it; n and all where there is none.
-pub fn first_open(on: &[u64; MOST_EDGES], n: usize, undecided: Set, from: usize) -> Opening
-    requires { ⌜ From n from ⌝ }
-    ensures { λ r. ⌜ Opened (now (on .entry)) n undecided from r ⌝ }
+// The lowest edge from `from` on that has one undecided, and those undecided on it; m and all where there is none.
+pub fn first_open(on: &[u64; MOST_EDGES], m: usize, undecided: Set, from: usize) -> Opening
+    requires { ⌜ From m from ⌝ }
+    ensures { λ r. ⌜ Opened (now (on .entry)) m undecided from r ⌝ }
 {
     let mut e = from;
-    while e < n {
+    while e < m {
         let free = Set::of_edge(on, e).and(undecided);
         if !free.is_empty() {
             return Opening {

@@ -35,18 +35,32 @@ pub record Sixes (numbers zs : List ℤ) : Type 0 where
 pub record SmallSixes (sixes : List ℤ) : Type 0 where
   pub small : (k : ℕ) → k < room → Within mostSix (getD sixes k (pos 0))
 
--- all of it
-pub record Held (on up sides clashes : List ℕ) (sixes : List ℤ) (t : Tables) : Type 0 where
-  pub on-are : Masks on (t .masks)
-  pub up-are : Masks up (t .ups)
-  pub sides-are : Sides sides (t .masks)
-  pub clashes-are : Masks clashes (t .clashes)
-  pub sixes-are : Sixes sixes (t .sixes)
+-- ---- the walk's tables as the code holds them
 
--- and the tables are of m candidates on n edges
-pub record Lent (on up : List ℕ) (n : ℕ) (sides clashes : List ℕ) (sixes : List ℤ) (m : ℕ) (t : Tables) : Type 0 where
-  pub held : Held on up sides clashes sixes t
-  pub masks-are : length (t .masks) ≡ n
-  pub ups-are : length (t .ups) ≡ n
-  pub clashes-are : length (t .clashes) ≡ m
-  pub sixes-are : length (t .sixes) ≡ m
+-- of each edge the candidates on it and those that run it upwards; of each candidate its edges, those that it clashes with, and its part
+-- of six volumes
+pub record WalkTables : Type 0 where
+  pub on : List ℕ
+  pub up : List ℕ
+  pub sides : List ℕ
+  pub clashes : List ℕ
+  pub sixes : List ℤ
+
+abbrev pub walkTables : List ℕ → List ℕ → List ℕ → List ℕ → List ℤ → WalkTables
+walkTables on up sides clashes sixes = record { on = on; up = up; sides = sides; clashes = clashes; sixes = sixes }
+
+-- they are the document's
+pub record Held (tables : WalkTables) (t : Tables) : Type 0 where
+  pub on-are : Masks (tables .on) (t .masks)
+  pub up-are : Masks (tables .up) (t .ups)
+  pub sides-are : Sides (tables .sides) (t .masks)
+  pub clashes-are : Masks (tables .clashes) (t .clashes)
+  pub sixes-are : Sixes (tables .sixes) (t .sixes)
+
+-- and of n candidates on m edges: these letters count them in all of the walk
+pub record Lent (tables : WalkTables) (m n : ℕ) (t : Tables) : Type 0 where
+  pub held : Held tables t
+  pub masks-are : length (t .masks) ≡ m
+  pub ups-are : length (t .ups) ≡ m
+  pub clashes-are : length (t .clashes) ≡ n
+  pub sixes-are : length (t .sixes) ≡ n

@@ -1,5 +1,7 @@
 -- `convert::converted`: what refuses the drawing, or what is said of its walk. Assumes nothing.
+use mathlib.Core.List.{List}
 use mathlib.Core.Path.{_≡_, refl, subst}
+use Prim.Native.Nat.{ℕ}
 use lib.ListN.{replicate}
 use borrow.Author.Needs.{needs}
 use denote.Ref.{now}
@@ -24,22 +26,28 @@ walk c = c .before .before
 abbrev start : tie.After-walk-drawing → tie.Start
 start c = c .before .before .before .before .before .before
 
+-- the rows and the words as they were left
+abbrev rows-left : tie.After-walk-drawing → List ℕ
+rows-left c = c .walk-drawing .last .1 .1 .1 .0
+
+abbrev words-left : tie.After-walk-drawing → List ℕ
+words-left c = c .walk-drawing .last .1 .1 .1 .1 .0
+
 -- what was promised of the walk, once it is known which it is
 said : (c : tie.After-walk-drawing) (v : Walked) → c .walk-drawing .result ≡ v
     → let a = start c .args in
-    let l = c .walk-drawing .last .1 .1 .1 in
-    WalkedIs (now (a .xyz)) (now (a .ends)) (a .limit) (replicate faceRoom fillByte) (l .0) (replicate solidRoom 0) (l .1 .0) v
+    WalkedIs (now (a .xyz)) (now (a .ends)) (a .limit) (replicate faceRoom fillByte) (rows-left c) (replicate solidRoom 0) (words-left c) v
 said c v e =
     let a = start c .args in
-    let l = c .walk-drawing .last .1 .1 .1 in
-    subst (WalkedIs (now (a .xyz)) (now (a .ends)) (a .limit) (replicate faceRoom fillByte) (l .0) (replicate solidRoom 0) (l .1 .0)) e
-    (c .walk-drawing .ensures)
+    subst
+    (WalkedIs (now (a .xyz)) (now (a .ends)) (a .limit) (replicate faceRoom fillByte) (rows-left c) (replicate solidRoom 0) (words-left c))
+    e (c .walk-drawing .ensures)
 
 done : (c : tie.After-walked2)
-    → let a = start (walk c) .args in
-    let l = walk c .walk-drawing .last .1 .1 .1 in
-    Done (wire (now (a .xyz)) (now (a .ends))) (a .limit) (replicate faceRoom fillByte) (l .0) (replicate solidRoom 0) (l .1 .0)
-    (c .walked2 .given .0 .0) (c .walked2 .given .0 .1 .0)
+    → let w = walk c in
+    let a = start w .args in
+    Done (wire (now (a .xyz)) (now (a .ends))) (a .limit) (replicate faceRoom fillByte) (rows-left w) (replicate solidRoom 0)
+    (words-left w) (c .walked2 .given .0 .0) (c .walked2 .given .0 .1 .0)
 done c = said (walk c) (W.Done (c .walked2 .given .0 .0) (c .walked2 .given .0 .1 .0)) (c .walked2 .given .1)
 
 -- ---- the needs

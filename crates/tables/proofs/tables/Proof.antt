@@ -11,6 +11,7 @@ use Rattle.loop_table.specs.Passed.{Passed}
 use Rattle.loop_known.specs.Known.{DrawnBy}
 use Rattle.loop_known.proofs.Passed.{has-passed, few-ends, rising-ends}
 use Rattle.candidates.proofs.Roomy.{rows-long}
+use Rattle.walk_words.specs.Words.{WalkTables, walkTables}
 use Rattle.tables.proofs.Tabling.{many-loops, loops-are, many-candidates, candidates-are, none-applies, rows-kept, listed, lent}
 use Rattle.tables.proofs.Tabling.{small-sixes}
 use Rattle.tables.proofs.tables.Statement.{statement}
@@ -32,6 +33,13 @@ start c = c .before .before .before .before
 
 abbrev few : tie.After-put-words-arg6 → tie.Else2
 few c = c .before .before .before .before .before .before .before .before .before
+
+-- the tables as they were left: the words of sides with the rows, the others by the makers of words
+abbrev left : tie.After-put-words → WalkTables
+left c =
+    let sides = counted (few (c .before)) .candidate-rows .last .1 .1 .1 .1 .1 .1 .0 in
+    let l = c .put-words .last .1 .1 .1 .1 .1 .1 .1 in
+    walkTables (l .0) (l .1 .0) sides (l .1 .1 .0) (l .1 .1 .1 .0)
 
 -- ---- what the rules let through has passed 3 to 14
 
@@ -89,14 +97,17 @@ put-words-requires c κs =
     let r = counted e in
     let k = r .candidate-rows .ensures .kept (e .before .if1 .left) in
     let p = start (told (numbered r)) .pre in
+    let empty = p .rooms in
     record {
       all = listed (drawn (numbered r)) k (e .if2 .left);
       row-room = rows-long k (p .row-room);
-      on-clear = p .on-clear;
-      up-clear = p .up-clear;
-      clash-room = p .clash-room;
-      no-clash = p .no-clash;
-      six-room = p .six-room;
+      rooms = record {
+        on-clear = empty .on-clear;
+        up-clear = empty .up-clear;
+        clash-room = empty .clash-room;
+        no-clash = empty .no-clash;
+        six-room = empty .six-room;
+      };
     }
 
 returns-4 : tie.Need-returns-4
@@ -115,8 +126,8 @@ returns-4 c =
       candidates-are = candidates-are _ (ruled (told n)) (f .loops-are) i (k .count) (e .if2 .left);
       few = e .if2 .left;
       rows-are = rows-kept (drawn n) k (e .if2 .left);
-      small = small-sixes (drawn n) k (e .if2 .left) w (p .no-side) (p .small);
-      lent = lent (drawn n) k (e .if2 .left) w (p .no-side);
+      small = small-sixes (drawn n) {tables = left c} k (e .if2 .left) w (p .no-side) (p .small);
+      lent = lent (drawn n) {tables = left c} k (e .if2 .left) w (p .no-side);
     }
 
 pub tables-spec : {M : Type 1} → statement M

@@ -7,6 +7,7 @@ use borrow.Fn.Kinds.{In}
 use borrow.Fn.PlainCycle.{Measures, is, falls, and}
 use denote.Ref.{now}
 use Rattle.sets.specs.Sets.{size}
+use Rattle.walk_words.specs.Words.{WalkTables, walkTables}
 use Rattle.walk_state.specs.Sweeps.{SweptOut}
 use Rattle.walk_state.specs.declared.State.{State}
 use Rattle.walk_state.specs.declared.Swept.{Swept}
@@ -26,9 +27,9 @@ use Rattle.walk_state.proofs.settled.Reads as settled-reads
 use Rattle.walk.proofs.+walk.{statement}
 use Rattle.walk.proofs.+walk.Tie.{close}
 
--- how many are undecided
+-- how many are undecided in the branch, which is the seventh parameter
 abbrev undecided : Measures 6 kinds.ps ℕ
-undecided κs a = size (a .1 .1 .1 .1 .1 .1 .0 .state .undecided)
+undecided κs a = let b = a .1 .1 .1 .1 .1 .1 .0 in size (b .state .undecided)
 
 abbrev at : ℕ → In 6 kinds.ps
 at t = and 6 kinds.ps (is 6 kinds.ps undecided t) walk.Pre
@@ -75,6 +76,10 @@ module _ (t : ℕ) where
 
   abbrev start : lts.After-settled (claims t) (at t) walk.Post → lts.Start (claims t) (at t) walk.Post
   start c = c .before .before .before
+
+  -- the tables that were lent
+  abbrev lent : lts.Start (claims t) (at t) walk.Post → WalkTables
+  lent s = let a = s .args in walkTables (now (a .on)) (now (a .up)) (now (a .sides)) (now (a .clashes)) (now (a .sixes))
 
   -- ---- what the sweeps left, once it is known that a state stands
 
@@ -129,7 +134,7 @@ module _ (t : ℕ) where
       let e = c .before .before .before in
       let w = stands e in
       let s = settled w in
-      walked-leaf (start s .args .limit) (s .before .if1 .left) (left w)
+      walked-leaf {tables = lent (start s)} (start s .args .limit) (s .before .if1 .left) (left w)
       (is-none (state w .undecided) (e .is-empty .ensures) (c .before .before .if2 .taken)) (c .kept .ensures)
 
   branches-requires : lts.Need-branches-requires (claims t) (at t) walk.Post
@@ -177,7 +182,7 @@ module _ (t : ℕ) where
       let b = branched (called w) in
       let e = asked b in
       let s = settled (stands e) in
-      walked-both (s .before .if1 .left) (left (stands e))
+      walked-both {tables = lent (start s)} (s .before .if1 .left) (left (stands e))
       (is-some (state (stands e) .undecided) (e .is-empty .ensures) (b .before .if2 .left)) (b .branches .ensures)
       (called w .before .assumed .ensures) (w .walk .ensures) (d .assumed2 .ensures) (c .walk2 .ensures)
 

@@ -1,5 +1,7 @@
 -- `walk::search`: the walk with nothing decided and all edges to be passed. Assumes nothing.
 use borrow.Author.Needs.{needs}
+use denote.Ref.{now}
+use Rattle.walk_words.specs.Words.{WalkTables, walkTables}
 use Rattle.walk.proofs.Starting.{searched}
 use Rattle.walk.proofs.search.Statement.{statement}
 use Rattle.walk.proofs.search.Tie as tie
@@ -16,12 +18,18 @@ lowest-of-requires-2 c κs = search needs
 walk-requires : tie.Need-walk-requires
 walk-requires c κs = search needs
 
+-- the tables that were lent
+abbrev lent : tie.Start → WalkTables
+lent s = let a = s .args in walkTables (now (a .on)) (now (a .up)) (now (a .sides)) (now (a .clashes)) (now (a .sixes))
+
 returns : tie.Need-returns
 returns c =
     let edges = c .before .before in
     let all = edges .before in
     let none = all .before in
-    searched (none .before .pre .few) (none .none .ensures) (all .lowest-of .ensures) (edges .lowest-of2 .ensures) (c .walk .ensures)
+    let s = none .before in
+    searched {tables = lent s} (s .pre .few) (none .none .ensures) (all .lowest-of .ensures) (edges .lowest-of2 .ensures)
+    (c .walk .ensures)
 
 pub search-spec : {M : Type 1} → statement M
 search-spec = tie.close (tie.spec none-requires lowest-of-requires lowest-of-requires-2 walk-requires returns)

@@ -93,10 +93,12 @@ loop-again c w =
     let l = turn c .loop in
     let o = l .inv w in
     let m = c .mark-sides .ensures (row-of w (l .k) (omega arith)) in
+    let on = c .mark-sides .last .1 .1 .1 .0 in
+    let up = c .mark-sides .last .1 .1 .1 .1 .0 in
     record {
       not-past = omega arith;
-      on-in = columns-more (sideMask (w .drawing)) (w .loops) (l .on) (c .mark-sides .last .1 .1 .1 .0) (l .k) (m .on-marked) (o .on-in);
-      up-in = columns-more (upMask (w .drawing)) (w .loops) (l .up) (c .mark-sides .last .1 .1 .1 .1 .0) (l .k) (m .up-marked) (o .up-in);
+      on-in = columns-more (sideMask (w .drawing)) (w .loops) (l .on) on (l .k) (m .on-marked) (o .on-in);
+      up-in = columns-more (upMask (w .drawing)) (w .loops) (l .up) up (l .k) (m .up-marked) (o .up-in);
       on-long = m .on-room ∙ o .on-long;
       up-long = m .up-room ∙ o .up-long;
     }

@@ -4,6 +4,7 @@ use borrow.Author.Tests.{not-true, not-false}
 use mathlib.Core.Path.{_≡_}
 use Prim.Native.Nat.{_<_}
 use Rattle.sets.specs.Sets.{size}
+use Rattle.walk_words.specs.Words.{WalkTables, walkTables}
 use Rattle.walk_state.proofs.Lowest.{is-none, is-some}
 use Rattle.walk_leaf.proofs.Judging.{judge-none, judge-apart, judge-ways, judge-clash, judge-weighed}
 use Rattle.walk_leaf.proofs.judge.Statement.{statement}
@@ -23,6 +24,10 @@ round c = c .before .before .before
 abbrev start : tie.After-from-face → tie.Start
 start c = c .before .before .before .before
 
+-- the tables that were lent
+abbrev lent : tie.Start → WalkTables
+lent s = let a = s .args in walkTables (a .on .now) (a .up .now) (a .sides .now) (a .clashes .now) (a .sixes .now)
+
 -- some are taken
 some-taken : (c : tie.Else1) → 0 < size (c .before .before .args .taken)
 some-taken c = is-some (c .before .before .args .taken) (c .before .is-empty .ensures) (c .if1 .left)
@@ -40,9 +45,9 @@ is-empty-requires c κs = search needs
 
 returns : tie.Need-returns
 returns c =
-    let a = c .before .before .args in
-    judge-none (a .on .now) (a .up .now) (a .n) (a .sides .now) (a .clashes .now) (a .sixes .now) (a .taken)
-    (is-none (a .taken) (c .before .is-empty .ensures) (c .if1 .taken))
+    let s = c .before .before in
+    let a = s .args in
+    judge-none (lent s) (a .m) (a .taken) (is-none (a .taken) (c .before .is-empty .ensures) (c .if1 .taken))
 
 lowest-requires : tie.Need-lowest-requires
 lowest-requires c κs = some-taken c
@@ -60,9 +65,10 @@ returns-2 : tie.Need-returns-2
 returns-2 c =
     let q = c .before in
     let r = round q in
-    let a = start r .args in
+    let s = start r in
+    let a = s .args in
     let m = q .before .minus in
-    judge-apart (a .on .now) (a .up .now) (a .n) (a .sides .now) (a .clashes .now) (a .sixes .now) (a .taken)
+    judge-apart (lent s) (a .m) (a .taken)
     (some-taken (r .before .before)) (r .before .lowest .ensures) (r .from-face .ensures) (m .ensures)
     (is-some (m .result) (q .is-empty2 .ensures) (not-true (q .is-empty2 .result) (c .if2 .taken)))
 
@@ -74,8 +80,9 @@ returns-3 c =
     let o = c .before in
     let q = asked o in
     let r = round q in
-    let a = start r .args in
-    judge-ways (a .on .now) (a .up .now) (a .n) (a .sides .now) (a .clashes .now) (a .sixes .now) (a .taken)
+    let s = start r in
+    let a = s .args in
+    judge-ways (lent s) (a .m) (a .taken)
     (some-taken (r .before .before)) (r .before .lowest .ensures) (r .from-face .ensures) (q .before .minus .ensures) (none-far (o .before)) (o .oriented .ensures)
     (not-true (o .oriented .result) (c .if3 .taken))
 
@@ -88,8 +95,9 @@ returns-4 c =
     let o = ways k in
     let q = asked o in
     let r = round q in
-    let a = start r .args in
-    judge-clash (a .on .now) (a .up .now) (a .n) (a .sides .now) (a .clashes .now) (a .sixes .now) (a .taken)
+    let s = start r in
+    let a = s .args in
+    judge-clash (lent s) (a .m) (a .taken)
     (some-taken (r .before .before)) (r .before .lowest .ensures) (r .from-face .ensures) (q .before .minus .ensures) (none-far (o .before)) (o .oriented .ensures)
     (not-false (o .oriented .result) (k .before .if3 .left)) (k .clear .ensures) (not-true (k .clear .result) (c .if4 .taken))
 
@@ -102,8 +110,9 @@ returns-5 c =
     let o = ways k in
     let q = asked o in
     let r = round q in
-    let a = start r .args in
-    judge-weighed (a .on .now) (a .up .now) (a .n) (a .sides .now) (a .clashes .now) (a .sixes .now) (a .taken)
+    let s = start r in
+    let a = s .args in
+    judge-weighed (lent s) (a .m) (a .taken)
     (some-taken (r .before .before)) (r .before .lowest .ensures) (r .from-face .ensures) (q .before .minus .ensures) (none-far (o .before)) (o .oriented .ensures)
     (not-false (o .oriented .result) (k .before .if3 .left)) (k .clear .ensures) (not-false (k .clear .result) (c .before .if4 .left))
     (c .weighed .result) (c .weighed .ensures)

@@ -9,10 +9,10 @@ use Rattle.walk_leaf.proofs.oriented.Statement.{statement}
 use Rattle.walk_leaf.proofs.oriented.Tie as tie
 
 abbrev Inv-loop : tie.InvT-loop
-Inv-loop on up n taken turned e₀ e = (e ≤ n) × Asking on up n taken turned e
+Inv-loop on up m taken turned e₀ e = (e ≤ m) × Asking on up m taken turned e
 
 abbrev μ-loop : tie.MeasureT-loop
-μ-loop on up n taken turned e₀ e = n - e
+μ-loop on up m taken turned e₀ e = m - e
 
 -- ---- the ways back: from the edge's answer to the loop
 
@@ -38,7 +38,7 @@ returns c =
     let o = c .before in
     let t = turn o in
     let a = t .before .args in
-    asking-not (a .on .now) (a .up .now) (a .n) (a .taken) (a .turned) (t .loop .e) (t .loop .inv .1) (omega arith)
+    asking-not (a .on .now) (a .up .now) (a .m) (a .taken) (a .turned) (t .loop .e) (t .loop .inv .1) (omega arith)
     (o .before .before .before .of-edge .ensures) (o .before .of-edge2 .ensures) (o .once-each-way .ensures)
     (not-true (o .once-each-way .result) (c .if1 .taken))
 
@@ -54,7 +54,7 @@ loop-again c =
     let t = turn o in
     let a = t .before .args in (
       omega arith,
-      asking-next (a .on .now) (a .up .now) (a .n) (a .taken) (a .turned) (t .loop .e) (t .loop .inv .1) (omega arith)
+      asking-next (a .on .now) (a .up .now) (a .m) (a .taken) (a .turned) (t .loop .e) (t .loop .inv .1) (omega arith)
           (o .before .before .before .of-edge .ensures) (o .before .of-edge2 .ensures) (o .once-each-way .ensures)
           (not-false (o .once-each-way .result) (c .if1 .left)),
     )
@@ -63,7 +63,7 @@ returns-2 : tie.Need-returns-2 Inv-loop μ-loop
 returns-2 c =
     let t = c .before in
     let a = t .before .args in
-    asking-end (a .on .now) (a .up .now) (a .n) (a .taken) (a .turned) (t .loop .e) (t .loop .inv .1) (omega (arith, t .loop .inv .0))
+    asking-end (a .on .now) (a .up .now) (a .m) (a .taken) (a .turned) (t .loop .e) (t .loop .inv .1) (omega (arith, t .loop .inv .0))
 
 pub oriented-spec : {M : Type 1} → statement M
 oriented-spec =

@@ -10,10 +10,10 @@ use Rattle.walk_state.proofs.first_open.Statement.{statement}
 use Rattle.walk_state.proofs.first_open.Tie as tie
 
 abbrev Inv-loop : tie.InvT-loop
-Inv-loop on n undecided from e₀ e = (e ≤ n) × Looking on n undecided from e
+Inv-loop on m undecided from e₀ e = (e ≤ m) × Looking on m undecided from e
 
 abbrev μ-loop : tie.MeasureT-loop
-μ-loop on n undecided from e₀ e = n - e
+μ-loop on m undecided from e₀ e = m - e
 
 -- ---- the ways back: from the edge's undecided to the loop
 
@@ -40,7 +40,7 @@ returns c =
     let t = turn f in
     let a = t .before .args in
     let e = c .before .is-empty in
-    open-found (a .on .now) (a .n) (a .undecided) (a .from) (t .loop .e) (t .loop .inv .1) (omega arith) (f .before .of-edge .ensures)
+    open-found (a .on .now) (a .m) (a .undecided) (a .from) (t .loop .e) (t .loop .inv .1) (omega arith) (f .before .of-edge .ensures)
     (f .and .ensures) (is-some (f .and .result) (e .ensures) (not-true (e .result) (c .if1 .taken)))
 
 add-e : tie.Need-add-e Inv-loop μ-loop
@@ -57,7 +57,7 @@ loop-again c =
     let e = c .before .is-empty in
     let z = is-none (f .and .result) (e .ensures) (not-false (e .result) (c .if1 .left)) in (
       omega arith,
-      open-next (a .on .now) (a .n) (a .undecided) (a .from) (t .loop .e) (t .loop .inv .1) (omega arith)
+      open-next (a .on .now) (a .m) (a .undecided) (a .from) (t .loop .e) (t .loop .inv .1) (omega arith)
           (f .before .of-edge .ensures) (f .and .ensures) z,
     )
 
@@ -65,7 +65,7 @@ returns-2 : tie.Need-returns-2 Inv-loop μ-loop
 returns-2 c =
     let t = c .before in
     let a = t .before .args in
-    open-last (a .on .now) (a .n) (a .undecided) (a .from) (t .loop .e) (t .loop .inv .1) (omega (arith, t .loop .inv .0))
+    open-last (a .on .now) (a .m) (a .undecided) (a .from) (t .loop .e) (t .loop .inv .1) (omega (arith, t .loop .inv .0))
 
 pub first-open-spec : {M : Type 1} → statement M
 first-open-spec =

@@ -1,11 +1,14 @@
 -- `convert::walked::walk_drawing`: rooms with nothing in them are lent to the tables, and the tables to the walk. Assumes nothing.
+use mathlib.Core.List.{List}
 use mathlib.Core.Path.{_≡_, subst}
+use Prim.Native.Nat.{ℕ}
 use borrow.Author.Needs.{needs}
 use denote.Ref.{now}
+use Rattle.walk_words.specs.Words.{WalkTables}
 use Rattle.tables.specs.Tables.{TabledIs, Ready}
 use Rattle.tables.specs.declared.Tabled.{Tabled}
 use Rattle.tables.specs.declared.Tabled.the-variants as T
-use Rattle.tables.proofs.Given.{clear-rooms}
+use Rattle.tables.proofs.Given.{clear-rooms, tablesLeft}
 use Rattle.convert.proofs.Walking.{searching, done}
 use Rattle.convert.proofs.walked.walk_drawing.Statement.{statement}
 use Rattle.convert.proofs.walked.walk_drawing.Tie as tie
@@ -21,25 +24,24 @@ made c = c .before .before
 abbrev start : tie.After-tables → tie.Start
 start c = c .before .before .before .before .before .before .before .before
 
+-- the rows and the tables as they were left
+abbrev rows-left : tie.After-tables → List ℕ
+rows-left c = c .tables .last .1 .1 .0
+
+abbrev left : tie.After-tables → WalkTables
+left c = tablesLeft (c .tables .last .1 .1 .1)
+
 -- what was promised of the tables, once it is known which it is
 said : (c : tie.After-tables) (v : Tabled) → c .tables .result ≡ v
-    → let a = start c .args in
-    let l = c .tables .last .1 .1 in
-    TabledIs (now (a .xyz)) (now (a .ends)) (now (a .rows)) (l .0) (l .1 .0) (l .1 .1 .0) (l .1 .1 .1 .0) (l .1 .1 .1 .1 .0)
-    (l .1 .1 .1 .1 .1 .0) v
+    → let a = start c .args in TabledIs (now (a .xyz)) (now (a .ends)) (now (a .rows)) (rows-left c) (left c) v
 said c v e =
     let a = start c .args in
-    let l = c .tables .last .1 .1 in
-    subst
-    (TabledIs (now (a .xyz)) (now (a .ends)) (now (a .rows)) (l .0) (l .1 .0) (l .1 .1 .0) (l .1 .1 .1 .0) (l .1 .1 .1 .1 .0)
-    (l .1 .1 .1 .1 .1 .0))
-    e (c .tables .ensures)
+    subst (TabledIs (now (a .xyz)) (now (a .ends)) (now (a .rows)) (rows-left c) (left c)) e (c .tables .ensures)
 
 tabled : (c : tie.After-tabled2)
-    → let a = start (made c) .args in
-    let l = made c .tables .last .1 .1 in
-    Ready (now (a .xyz)) (now (a .ends)) (now (a .rows)) (l .0) (l .1 .0) (l .1 .1 .0) (l .1 .1 .1 .0) (l .1 .1 .1 .1 .0)
-    (l .1 .1 .1 .1 .1 .0) (c .tabled2 .given .0 .0)
+    → let m = made c in
+    let a = start m .args in
+    Ready (now (a .xyz)) (now (a .ends)) (now (a .rows)) (rows-left m) (left m) (c .tabled2 .given .0 .0)
 tabled c = said (made c) (T.Ready (c .tabled2 .given .0 .0)) (c .tabled2 .given .1)
 
 -- ---- the needs

@@ -19,7 +19,11 @@ start c = c .before .before .before .before .before .before
 known : (c : tie.After-known-loops)
     → let a = start c .args in
     let l = c .known-loops .last .1 .1 .1 in
-    LoopsKnown (now (a .xyz)) (now (a .ends)) (c .known-loops .result) (l .0) (l .1 .0) (l .1 .1 .0) (l .1 .1 .1 .0)
+    let table = l .0 in
+    let planes = l .1 .0 in
+    let corners = l .1 .1 .0 in
+    let sides = l .1 .1 .1 .0 in
+    LoopsKnown (now (a .xyz)) (now (a .ends)) (c .known-loops .result) table planes corners sides
 known c = c .known-loops .ensures (now (start c .args .ends)) (start c .pre .drawn)
 
 -- ---- the needs

@@ -23,7 +23,7 @@ start c = c .before .before .before .before
 edge-words-requires : tie.Need-edge-words-requires
 edge-words-requires c κs =
     let p = c .before .before .before .pre in
-    record { candidates = as-edges (p .all); on-clear = p .on-clear; up-clear = p .up-clear }
+    record { candidates = as-edges (p .all); on-clear = p .rooms .on-clear; up-clear = p .rooms .up-clear }
 
 vertex-words-requires : tie.Need-vertex-words-requires
 vertex-words-requires c κs = record { of = as-corners (start (c .before) .pre .all); whole = refl; none = all-same 0 32 }
@@ -31,7 +31,7 @@ vertex-words-requires c κs = record { of = as-corners (start (c .before) .pre .
 put-parts-requires : tie.Need-put-parts-requires
 put-parts-requires c κs =
     let p = start (edges (c .before .before .before)) .pre in
-    record { faces = as-faces (p .all); normal-room = refl; six-room = p .six-room }
+    record { faces = as-faces (p .all); normal-room = refl; six-room = p .rooms .six-room }
 
 clash-words-requires : tie.Need-clash-words-requires
 clash-words-requires c κs =
@@ -40,8 +40,8 @@ clash-words-requires c κs =
     let p = start (edges v) .pre in
     record {
       lent = as-clashes (p .all) (edges v .edge-words .ensures) (v .vertex-words .ensures) (m .put-parts .ensures);
-      whole = p .clash-room;
-      none = p .no-clash;
+      whole = p .rooms .clash-room;
+      none = p .rooms .no-clash;
     }
 
 returns : tie.Need-returns

@@ -1,6 +1,7 @@
 -- `verdict::faces::faces_checked`: the list is read, its faces are named, and they are tested; each step that refuses is the first check that applies. Assumes nothing.
 use mathlib.Core.Path.{_≡_, refl, sym, ap, subst, _∙_}
 use mathlib.Core.List.{List}
+use Prim.Native.Nat.{ℕ}
 use lib.ListN.{length}
 use denote.Ref.{now}
 use native.Mathlib.Omega.{arith}
@@ -36,6 +37,10 @@ list-read c = shaped c .before .before
 abbrev found : tie.After-numbers2 → tie.After-found2
 found c = c .before .before .before .before
 
+-- the faces' numbers as they were left
+abbrev numbers-left : tie.After-named → List ℕ
+numbers-left c = c .named .last .1 .1 .1 .1 .0
+
 -- ---- what was promised of the list, and of its faces once it is known which they are
 
 read-is : (c : tie.After-read-faces) → c .read-faces .result ≡ facesOf editionOne (start c .args .v) (now (start c .args .list))
@@ -47,19 +52,19 @@ shape-fine c = sym (shaped c .enum-told .given .1)
 said : (c : tie.After-named) (v : Named) → c .named .result ≡ v → (cs : List Loop)
     → let a = start (list-read c) .args in
     Holds (now (a .rows)) (a .n) cs
-    → NamedAs cs (facesIn editionOne (now (a .list))) (list-read c .read-faces .result .count) (c .named .last .1 .1 .1 .1 .0) v
+    → NamedAs cs (facesIn editionOne (now (a .list))) (list-read c .read-faces .result .count) (numbers-left c) v
 said c v e cs held =
     let l = list-read c in
     let a = start l .args in
     let fs = facesIn editionOne (now (a .list)) in
-    subst (NamedAs cs fs (l .read-faces .result .count) (c .named .last .1 .1 .1 .1 .0)) e
+    subst (NamedAs cs fs (l .read-faces .result .count) (numbers-left c)) e
     (c .named .ensures .same fs cs (faces-held (a .v) (now (a .list)) (read-is l) (shape-fine c)) held)
 
 selected : (c : tie.After-found2) (cs : List Loop)
     → let n = c .before .before in
     let a = start (list-read n) .args in
     Holds (now (a .rows)) (a .n) cs
-    → Selected cs (facesIn editionOne (now (a .list))) (list-read n .read-faces .result .count) (n .named .last .1 .1 .1 .1 .0)
+    → Selected cs (facesIn editionOne (now (a .list))) (list-read n .read-faces .result .count) (numbers-left n)
     (c .found2 .given .0 .0)
 selected c cs held = said (c .before .before) (N.Are (c .found2 .given .0 .0)) (c .found2 .given .1) cs held
 

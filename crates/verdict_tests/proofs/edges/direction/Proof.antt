@@ -15,10 +15,10 @@ use Rattle.verdict_tests.proofs.edges.direction.Statement.{statement}
 use Rattle.verdict_tests.proofs.edges.direction.Tie as tie
 
 abbrev Inv-loop : tie.InvT-loop
-Inv-loop on up n taken turned e₀ e = (e ≤ n) × Asking (Running on up n taken turned) notOnce n e
+Inv-loop on up m taken turned e₀ e = (e ≤ m) × Asking (Running on up m taken turned) notOnce m e
 
 abbrev μ-loop : tie.MeasureT-loop
-μ-loop on up n taken turned e₀ e = n - e
+μ-loop on up m taken turned e₀ e = m - e
 
 -- ---- the way back: from the edge's answer to the loop; and what the words stand for
 
@@ -26,10 +26,10 @@ abbrev turn : tie.After-once-each-way Inv-loop μ-loop → tie.At-loop Inv-loop 
 turn c = c .before .before .before .before .before .before
 
 abbrev Meant : tie.Start Inv-loop μ-loop → Tables → Listed → Type 0
-Meant c = Running (c .args .on .now) (c .args .up .now) (c .args .n) (c .args .taken) (c .args .turned)
+Meant c = Running (c .args .on .now) (c .args .up .now) (c .args .m) (c .args .taken) (c .args .turned)
 
-finds : (c : tie.Start Inv-loop μ-loop) → Finds (Meant c) notOnce (c .args .n) direction
-finds c = finds-24 (c .args .on .now) (c .args .up .now) (c .args .n) (c .args .taken) (c .args .turned)
+finds : (c : tie.Start Inv-loop μ-loop) → Finds (Meant c) notOnce (c .args .m) direction
+finds c = finds-24 (c .args .on .now) (c .args .up .now) (c .args .m) (c .args .taken) (c .args .turned)
 
 -- the code's test of edge e
 here : (o : tie.After-once-each-way Inv-loop μ-loop) {b : Bool} → not (o .once-each-way .result) ≡ b
@@ -37,13 +37,13 @@ here : (o : tie.After-once-each-way Inv-loop μ-loop) {b : Bool} → not (o .onc
 here o q =
     let t = turn o in
     let a = t .before .args in
-    way-at (a .on .now) (a .up .now) (a .n) (a .taken) (a .turned) (t .loop .e) (omega arith)
+    way-at (a .on .now) (a .up .now) (a .m) (a .taken) (a .turned) (t .loop .e) (omega arith)
     (o .before .before .before .of-edge .ensures) (o .before .of-edge2 .ensures) (o .once-each-way .ensures) q
 
 -- ---- the needs
 
 loop-holds : tie.Need-loop-holds Inv-loop μ-loop
-loop-holds c = (omega arith, asking-start (Meant c) notOnce (c .args .n))
+loop-holds c = (omega arith, asking-start (Meant c) notOnce (c .args .m))
 
 of-edge-requires : tie.Need-of-edge-requires Inv-loop μ-loop
 of-edge-requires c κs = omega arith
@@ -63,7 +63,7 @@ returns c =
     let t = turn o in
     let s = t .before in
     λ d l w.
-    c .refused .ensures ∙ asking-hit (Meant s) notOnce (s .args .n) Direction direction (finds s) (t .loop .e) (omega arith)
+    c .refused .ensures ∙ asking-hit (Meant s) notOnce (s .args .m) Direction direction (finds s) (t .loop .e) (omega arith)
     (t .loop .inv .1) (here o (c .before .if1 .taken)) d l w
 
 add-e : tie.Need-add-e Inv-loop μ-loop
@@ -77,13 +77,13 @@ loop-again c =
     let o = c .before in
     let t = turn o in
     let s = t .before in
-    (omega arith, asking-next (Meant s) notOnce (s .args .n) (t .loop .e) (omega arith) (t .loop .inv .1) (here o (c .if1 .left)))
+    (omega arith, asking-next (Meant s) notOnce (s .args .m) (t .loop .e) (omega arith) (t .loop .inv .1) (here o (c .if1 .left)))
 
 returns-2 : tie.Need-returns-2 Inv-loop μ-loop
 returns-2 c =
     let t = c .before in
     let s = t .before in
-    asking-end (Meant s) notOnce (s .args .n) Direction direction (finds s) (t .loop .e) (omega arith) (t .loop .inv .1)
+    asking-end (Meant s) notOnce (s .args .m) Direction direction (finds s) (t .loop .e) (omega arith) (t .loop .inv .1)
 
 pub direction-spec : {M : Type 1} → statement M
 direction-spec =

@@ -17,10 +17,10 @@ use Rattle.verdict_tests.proofs.edges.edge_count.Statement.{statement}
 use Rattle.verdict_tests.proofs.edges.edge_count.Tie as tie
 
 abbrev Inv-loop : tie.InvT-loop
-Inv-loop on n taken e₀ e = (e ≤ n) × Asking (Counting on n taken) notTwo n e
+Inv-loop on m taken e₀ e = (e ≤ m) × Asking (Counting on m taken) notTwo m e
 
 abbrev μ-loop : tie.MeasureT-loop
-μ-loop on n taken e₀ e = n - e
+μ-loop on m taken e₀ e = m - e
 
 -- ---- the way back: from the count to the loop; and what the words stand for
 
@@ -28,10 +28,10 @@ abbrev turn : tie.After-count Inv-loop μ-loop → tie.At-loop Inv-loop μ-loop
 turn c = c .before .before .before .before .before
 
 abbrev Meant : tie.Start Inv-loop μ-loop → Tables → Listed → Type 0
-Meant c = Counting (c .args .on .now) (c .args .n) (c .args .taken)
+Meant c = Counting (c .args .on .now) (c .args .m) (c .args .taken)
 
-finds : (c : tie.Start Inv-loop μ-loop) → Finds (Meant c) notTwo (c .args .n) edgeCount
-finds c = finds-23 (c .args .on .now) (c .args .n) (c .args .taken)
+finds : (c : tie.Start Inv-loop μ-loop) → Finds (Meant c) notTwo (c .args .m) edgeCount
+finds c = finds-23 (c .args .on .now) (c .args .m) (c .args .taken)
 
 -- the code's test of edge e
 here : (k : tie.After-count Inv-loop μ-loop) (b : Bool) → eqb (k .count .result) 2 ≡ b
@@ -39,13 +39,13 @@ here : (k : tie.After-count Inv-loop μ-loop) (b : Bool) → eqb (k .count .resu
 here k b q =
     let t = turn k in
     let a = t .before .args in
-    two-at (a .on .now) (a .n) (a .taken) (t .loop .e) (omega arith) (k .before .before .of-edge .ensures) (k .before .and .ensures)
+    two-at (a .on .now) (a .m) (a .taken) (t .loop .e) (omega arith) (k .before .before .of-edge .ensures) (k .before .and .ensures)
     (k .count .ensures) b q
 
 -- ---- the needs
 
 loop-holds : tie.Need-loop-holds Inv-loop μ-loop
-loop-holds c = (omega arith, asking-start (Meant c) notTwo (c .args .n))
+loop-holds c = (omega arith, asking-start (Meant c) notTwo (c .args .m))
 
 of-edge-requires : tie.Need-of-edge-requires Inv-loop μ-loop
 of-edge-requires c κs = omega arith
@@ -65,7 +65,7 @@ returns c =
     let t = turn k in
     let s = t .before in
     λ d l w.
-    c .refused .ensures ∙ asking-hit (Meant s) notTwo (s .args .n) EdgeCount edgeCount (finds s) (t .loop .e) (omega arith)
+    c .refused .ensures ∙ asking-hit (Meant s) notTwo (s .args .m) EdgeCount edgeCount (finds s) (t .loop .e) (omega arith)
     (t .loop .inv .1) (here k false (ne-eqb (k .count .result) 2 (λ z. omega (arith, z)))) d l w
 
 add-e : tie.Need-add-e Inv-loop μ-loop
@@ -80,7 +80,7 @@ loop-again c =
     let t = turn k in
     let s = t .before in (
       omega arith,
-      asking-next (Meant s) notTwo (s .args .n) (t .loop .e) (omega arith) (t .loop .inv .1)
+      asking-next (Meant s) notTwo (s .args .m) (t .loop .e) (omega arith) (t .loop .inv .1)
           (here k true (eq-eqb (k .count .result) 2 (omega arith))),
     )
 
@@ -88,7 +88,7 @@ returns-2 : tie.Need-returns-2 Inv-loop μ-loop
 returns-2 c =
     let t = c .before in
     let s = t .before in
-    asking-end (Meant s) notTwo (s .args .n) EdgeCount edgeCount (finds s) (t .loop .e) (omega arith) (t .loop .inv .1)
+    asking-end (Meant s) notTwo (s .args .m) EdgeCount edgeCount (finds s) (t .loop .e) (omega arith) (t .loop .inv .1)
 
 pub edge-count-spec : {M : Type 1} → statement M
 edge-count-spec =

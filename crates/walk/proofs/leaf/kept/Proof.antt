@@ -2,6 +2,7 @@
 use borrow.Author.Needs.{needs}
 use mathlib.Core.Path.{_≡_, subst}
 use denote.Ref.{now}
+use Rattle.walk_words.specs.Words.{WalkTables, walkTables}
 use Rattle.walk_leaf.specs.Tests.{Judges}
 use Rattle.walk_leaf.specs.declared.Leaf.{Leaf}
 use Rattle.walk_leaf.specs.declared.Leaf.the-variants as L
@@ -14,12 +15,14 @@ use Rattle.walk.proofs.leaf.kept.Tie as tie
 abbrev judged : tie.After-known-told → tie.After-judge
 judged c = c .before .before .before
 
+-- the tables that were lent
+abbrev lent : tie.Start → WalkTables
+lent s = let a = s .args in walkTables (now (a .on)) (now (a .up)) (now (a .sides)) (now (a .clashes)) (now (a .sixes))
+
 -- what was promised of the verdict, once it is known which it is
 said : (j : tie.After-judge) (v : Leaf) → j .judge .result ≡ v
-    → let a = j .before .args in Judges (now (a .on)) (now (a .up)) (a .n) (now (a .sides)) (now (a .clashes)) (now (a .sixes)) (a .taken) v
-said j v e =
-    let a = j .before .args in
-    subst (Judges (now (a .on)) (now (a .up)) (a .n) (now (a .sides)) (now (a .clashes)) (now (a .sixes)) (a .taken)) e (j .judge .ensures)
+    → let s = j .before in Judges (lent s) (s .args .m) (s .args .taken) v
+said j v e = let s = j .before in subst (Judges (lent s) (s .args .m) (s .args .taken)) e (j .judge .ensures)
 
 -- ---- the needs
 
