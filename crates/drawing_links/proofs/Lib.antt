@@ -1,4 +1,5 @@
--- The laws that this crate's proofs share. `Edges` and `Words` are cited by callers too. Assumes nothing.
+-- The laws that this crate's proofs share. `Edges`, `Words` and `Range` are cited by callers too.
 pub mod Edges
 pub mod Words
 pub mod Reach
+pub mod Range

@@ -2,16 +2,22 @@
 use mathlib.Core.Path.{_≡_}
 use mathlib.Core.List.{List}
 use mathlib.Core.Option.{none}
-use Prim.Native.Nat.{ℕ, _+_, _*_, _≤_, _<_}
+use Prim.Native.Nat.{ℕ, _+_, _*_, _/_, _≤_, _<_}
 use lib.IntN.{ℤ}
 use lib.ListN.{length}
 use Rattle.sets.specs.Sets.{room}
-use Rattle.paper.specs.Drawing.{wire, samePlace, looseVertex}
+use Rattle.paper.specs.Drawing.{wire, edgesOf, samePlace, looseVertex}
 use Rattle.paper.specs.Format.{editionOne}
-use Rattle.paper_laws.specs.InRange.{Points, Ends}
+use Rattle.paper_laws.specs.InRange.{Points, Ends, InRange}
+use Rattle.drawing_links.specs.Neighbours.{neighbourWords}
 use Rattle.drawing_segments.specs.Ways.{spanOf}
 use Rattle.drawing_rules.specs.Meets.{endIn}
 use Rattle.drawing_rules.specs.Boxes.{boxIn}
+
+-- the two lists of a drawing in range, and its neighbour words
+pub record Linked (xyz : List ℤ) (ends near : List ℕ) : Type 0 where
+  pub range : InRange xyz ends
+  pub near-are : near ≡ neighbourWords (edgesOf ends) (length xyz / 3)
 
 -- the points alone, and a vertex
 pub record VertexAt (xyz : List ℤ) (v u : ℕ) : Type 0 where

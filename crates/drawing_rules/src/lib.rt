@@ -1,4 +1,5 @@
-// The drawing rules that need no loops: refusals 11 to 14, the first that applies being the answer. Assumes a drawing in range.
+// The drawing rules that need no loops: refusals 11 to 14, the first that applies being the answer. Assumes a drawing in range and its
+// neighbour words, which the loops need too.
 mod boxes;
 mod ends;
 mod meets;
@@ -7,11 +8,12 @@ mod places;
 ghost use mathlib.Core.Path.{_≡_};
 ghost use Rattle.paper.specs.Refusals.{firstOf};
 ghost use Rattle.paper.specs.Drawing.{wire, drawingChecks};
-ghost use Rattle.paper_laws.specs.InRange.{InRange};
+ghost use Rattle.drawing_rules.specs.Asked.{Linked};
 use paper::Answer;
+use paper::MOST_VERTICES;
 
-pub fn drawing_rules(xyz: &[i64], ends: &[u8]) -> Answer
-    requires { ⌜ InRange (now xyz) (now ends) ⌝ }
+pub fn drawing_rules(xyz: &[i64], ends: &[u8], near: &[u64; MOST_VERTICES]) -> Answer
+    requires { ⌜ Linked (now xyz) (now ends) (now near) ⌝ }
     ensures { λ r. ⌜ r ≡ firstOf (drawingChecks (wire (now (xyz .entry)) (now (ends .entry)))) ⌝ }
 {
     let v = xyz.len() / 3;
@@ -20,8 +22,7 @@ pub fn drawing_rules(xyz: &[i64], ends: &[u8]) -> Answer
         Answer::Refused(_) => return same,
         Answer::Fine => {}
     }
-    let near = drawing_links::neighbours(ends, v);
-    let loose = drawing_links::loose_vertex(&near, v);
+    let loose = drawing_links::loose_vertex(near, v);
     match loose {
         Answer::Refused(_) => return loose,
         Answer::Fine => {}
@@ -31,5 +32,5 @@ pub fn drawing_rules(xyz: &[i64], ends: &[u8]) -> Answer
         Answer::Refused(_) => return meets,
         Answer::Fine => {}
     }
-    drawing_links::apart(&near, v)
+    drawing_links::apart(near, v)
 }

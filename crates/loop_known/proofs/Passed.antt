@@ -1,9 +1,8 @@
 -- Lists that pass 5 and 8 to 10, and then 11 to 14, are a drawing that has passed. Assumes nothing.
 use mathlib.Core.List.{List, [], _∷_}
 use mathlib.Core.Option.{none}
-use mathlib.Core.Path.{_≡_, subst}
+use mathlib.Core.Path.{_≡_}
 use Prim.Native.Nat.{ℕ, _/_}
-use native.Mathlib.Omega.{arith}
 use lib.IntN.{ℤ}
 use lib.ListN.{length}
 use Rattle.lists.specs.Lists.{lowest}
@@ -13,11 +12,9 @@ use Rattle.paper.specs.Format.{editionOne}
 use Rattle.paper.specs.Sheet.{farAt, wrongAt, lowAt, edgeChecks, contentChecks, lentChecks}
 use Rattle.paper.specs.Drawing.{wire, samePlace, looseVertex, edgeMeets, apart, drawingChecks}
 use Rattle.paper.specs.declared.Answer.the-variants.{Fine}
-use Rattle.paper_laws.specs.InRange.{Ends}
 use Rattle.paper_laws.proofs.Checks.{found-none}
 use Rattle.sheet_laws.proofs.Lent.{lent}
 use Rattle.drawing_lists.proofs.Range.{lent-range}
-use Rattle.drawing_links.specs.Neighbours.{FewEnds}
 use Rattle.loop_table.specs.Passed.{Passed}
 use Rattle.loop_words.specs.Numbered.{Rising}
 
@@ -52,12 +49,6 @@ module _ (xyz : List ℤ) (ends : List ℕ) where
         whole = found-none No.Apart [] (c .1) .0;
       }
 
--- ---- what has passed is what neighbour words and numbers of edges ask for
-module _ {xyz : List ℤ} {ends : List ℕ} (p : Passed xyz ends) where
-  pub few-ends : FewEnds ends (length xyz / 3)
-  few-ends =
-      let e : p .range .vertices ≡ length xyz / 3 = omega (arith, p .range .points .whole) in
-      record { most = omega (arith, p .range .most); links = subst (Ends ends) e (p .range .links) }
-
-  pub rising-ends : Rising ends
-  rising-ends = record { vertices = p .range .vertices; few = p .range .most; links = p .range .links; order = p .rising }
+-- ---- what has passed is what numbers of edges ask for
+pub rising-ends : {xyz : List ℤ} {ends : List ℕ} → Passed xyz ends → Rising ends
+rising-ends p = record { vertices = p .range .vertices; few = p .range .most; links = p .range .links; order = p .rising }

@@ -17,12 +17,13 @@ use paper::MOST_LOOPS;
 use paper::MOST_VERTICES;
 use paper::SOLID_ROOM;
 
-// Rules 11 to 14: the number of the one that refuses the drawing, or 0.
+// Rules 11 to 14, with the neighbour words: the number of the one that refuses the drawing, or 0.
 #[no_mangle]
 pub extern "C" fn measured_rules(xyz: &[i64], ends: &[u8]) -> u64
     requires { ⌜ InRange (now xyz) (now ends) ⌝ }
 {
-    let answer = drawing_rules::drawing_rules(xyz, ends);
+    let near = drawing_links::neighbours(ends, xyz.len() / 3);
+    let answer = drawing_rules::drawing_rules(xyz, ends, &near);
     match answer {
         Answer::Refused(r) => r.number as u64,
         Answer::Fine => 0,

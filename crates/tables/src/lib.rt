@@ -40,12 +40,12 @@ pub fn tables(
     ensures { λ r. ⌜ TabledIs (now (xyz .entry)) (now (ends .entry)) (now (rows .entry)) (now (rows .exit))
         (walkTables (now (on .exit)) (now (up .exit)) (now (sides .exit)) (now (clashes .exit)) (now (sixes .exit))) r ⌝ }
 {
-    let rules = drawing_rules(xyz, ends);
+    let near = neighbours(ends, xyz.len() / 3);
+    let rules = drawing_rules(xyz, ends, &near);
     match rules {
         Answer::Refused(r) => return Tabled::Refused(r),
         Answer::Fine => {}
     }
-    let near = neighbours(ends, xyz.len() / 3);
     let number = number_edges(ends);
     let mut corners = [0u64; MOST_CANDIDATES];
     let c = candidate_rows(xyz, ends, &near, &number, rows, &mut corners, sides);

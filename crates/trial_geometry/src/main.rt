@@ -4,8 +4,8 @@
 ghost use Prim.Native.Nat.{_≤_};
 ghost use Rattle.paper.specs.Numbers.{mostCandidates};
 ghost use Rattle.paper_laws.specs.InRange.{Held};
-ghost use Rattle.loop_table.specs.Passed.{Passed};
 ghost use Rattle.loop_cover.specs.Known.{Known};
+ghost use Rattle.loop_known.specs.Known.{DrawnBy};
 ghost use Rattle.trial_geometry.specs.Asked.{Ruled};
 use drawing_links::neighbours;
 use drawing_lists::lend::lent;
@@ -14,6 +14,7 @@ use libc::STDIN_FILENO;
 use lists::Found;
 use loop_cover::covers_other;
 use loop_known::known_loops;
+use loop_words::PAIRS;
 use loop_words::number_edges;
 use paper::Answer;
 use paper::Drawing;
@@ -24,6 +25,7 @@ use paper::MANY_LOOPS;
 use paper::MOST_CANDIDATES;
 use paper::MOST_EDGES;
 use paper::MOST_LOOPS;
+use paper::MOST_VERTICES;
 use paper_values::edition_one;
 use tables::Tabled;
 use tables::tables;
@@ -57,19 +59,17 @@ fn say_covers(
     say(b"\n");
 }
 
-fn show_covers(xyz: &[i64], ends: &[u8])
-    requires { ⌜ Passed (now xyz) (now ends) ⌝ }
+fn show_covers(xyz: &[i64], ends: &[u8], near: &[u64; MOST_VERTICES], number: &[u8; PAIRS])
+    requires { ⌜ DrawnBy (now xyz) (now ends) (now near) (now number) ⌝ }
 {
-    let near = neighbours(ends, xyz.len() / 3);
-    let number = number_edges(ends);
     let mut table = [0u8; LOOP_ROOM];
     let mut planes = [0u64; MOST_LOOPS];
     let mut corners = [0u64; MOST_LOOPS];
     let mut sides = [0u64; MOST_LOOPS];
     let n = known_loops(
         xyz,
-        &near,
-        &number,
+        near,
+        number,
         &mut table,
         &mut planes,
         &mut corners,
@@ -124,11 +124,13 @@ fn show_clashes(xyz: &[i64], ends: &[u8])
 fn show_rules(xyz: &[i64], ends: &[u8])
     requires { ⌜ Ruled (now xyz) (now ends) ⌝ }
 {
-    let answer = drawing_rules(xyz, ends);
+    let near = neighbours(ends, xyz.len() / 3);
+    let answer = drawing_rules(xyz, ends, &near);
     match answer {
         Answer::Refused(r) => say_refused(r.number, r.place),
         Answer::Fine => {
-            show_covers(xyz, ends);
+            let number = number_edges(ends);
+            show_covers(xyz, ends, &near, &number);
             show_clashes(xyz, ends)
         }
     }

@@ -3,7 +3,7 @@
 // refuses it.
 ghost use Prim.Native.Nat.{_<_};
 ghost use Rattle.paper_laws.specs.InRange.{Held};
-ghost use Rattle.loop_table.specs.Passed.{Passed};
+ghost use Rattle.loop_known.specs.Known.{DrawnBy};
 ghost use Rattle.loop_cover.specs.Known.{Known};
 ghost use Rattle.trial_loops.specs.Sums.{prime, RowOf, RowsOf, LoopsOf, Ruled};
 use candidates::candidates;
@@ -13,6 +13,7 @@ use drawing_rules::drawing_rules;
 use libc::STDIN_FILENO;
 use lists::Found;
 use loop_known::known_loops;
+use loop_words::PAIRS;
 use loop_words::number_edges;
 use paper::Answer;
 use paper::Drawing;
@@ -23,6 +24,7 @@ use paper::MANY_CANDIDATES;
 use paper::MANY_LOOPS;
 use paper::MOST_CANDIDATES;
 use paper::MOST_LOOPS;
+use paper::MOST_VERTICES;
 use paper::ROW;
 use paper_values::edition_one;
 use trial::end_of;
@@ -129,19 +131,17 @@ fn show_candidates(
     say(b"\n");
 }
 
-fn show_loops(xyz: &[i64], ends: &[u8])
-    requires { ⌜ Passed (now xyz) (now ends) ⌝ }
+fn show_loops(xyz: &[i64], ends: &[u8], near: &[u64; MOST_VERTICES], number: &[u8; PAIRS])
+    requires { ⌜ DrawnBy (now xyz) (now ends) (now near) (now number) ⌝ }
 {
-    let near = neighbours(ends, xyz.len() / 3);
-    let number = number_edges(ends);
     let mut table = [0u8; LOOP_ROOM];
     let mut planes = [0u64; MOST_LOOPS];
     let mut corners = [0u64; MOST_LOOPS];
     let mut sides = [0u64; MOST_LOOPS];
     let n = known_loops(
         xyz,
-        &near,
-        &number,
+        near,
+        number,
         &mut table,
         &mut planes,
         &mut corners,
@@ -163,10 +163,14 @@ fn show_loops(xyz: &[i64], ends: &[u8])
 fn show_rules(xyz: &[i64], ends: &[u8])
     requires { ⌜ Ruled (now xyz) (now ends) ⌝ }
 {
-    let answer = drawing_rules(xyz, ends);
+    let near = neighbours(ends, xyz.len() / 3);
+    let answer = drawing_rules(xyz, ends, &near);
     match answer {
         Answer::Refused(r) => say_refused(r.number, r.place),
-        Answer::Fine => show_loops(xyz, ends),
+        Answer::Fine => {
+            let number = number_edges(ends);
+            show_loops(xyz, ends, &near, &number)
+        }
     }
 }
 

@@ -25,17 +25,17 @@ D c = wire (now (c .args .xyz)) (now (c .args .ends))
 abbrev N : tie.Start → ℕ
 N c = length (now (c .args .xyz)) / 3
 
-counted : (c : tie.Start) → c .pre .vertices ≡ N c
-counted c = omega (arith, c .pre .points .whole)
+counted : (c : tie.Start) → c .pre .range .vertices ≡ N c
+counted c = omega (arith, c .pre .range .points .whole)
 
 points-in : (c : tie.Start) → Points (now (c .args .xyz)) (N c)
-points-in c = subst (Points (now (c .args .xyz))) (counted c) (c .pre .points)
+points-in c = subst (Points (now (c .args .xyz))) (counted c) (c .pre .range .points)
 
 ends-in : (c : tie.Start) → Ends (now (c .args .ends)) (N c)
-ends-in c = subst (Ends (now (c .args .ends))) (counted c) (c .pre .links)
+ends-in c = subst (Ends (now (c .args .ends))) (counted c) (c .pre .range .links)
 
 few : (c : tie.Start) → N c ≤ editionOne .«most_vertices»
-few c = let h = c .pre .most in omega (arith, counted c)
+few c = let h = c .pre .range .most in omega (arith, counted c)
 
 -- ---- the ways back
 
@@ -43,11 +43,8 @@ abbrev start : tie.After-enum-told2 → tie.Start
 start c = c .before .before .before .before
 
 -- 11 passes
-abbrev apart-places : tie.After-neighbours → tie.After-enum-told2
+abbrev apart-places : tie.After-loose-vertex → tie.After-enum-told2
 apart-places c = c .before
-
-abbrev linked : tie.After-loose-vertex → tie.After-neighbours
-linked c = c .before .before
 
 -- 12 passes
 abbrev tied : tie.After-edge-meets → tie.After-enum-told4
@@ -58,22 +55,21 @@ loose-asked c = c .before .before
 
 -- 13 passes
 abbrev unmet : tie.After-apart → tie.After-enum-told6
-unmet c = c .before .before
+unmet c = c .before
 
 abbrev meets-asked : tie.After-enum-told6 → tie.After-edge-meets
 meets-asked c = c .before .before
 
 abbrev begun : tie.After-loose-vertex → tie.Start
-begun c = start (apart-places (linked c))
+begun c = start (apart-places c)
 
 -- ---- the words that the code holds are those of the drawing
 
-links : (c : tie.After-neighbours) → let s = start (apart-places c) in Links (c .neighbours .result) (N s) (D s)
+links : (s : tie.Start) → Links (now (s .args .near)) (N s) (D s)
 unfolding wire
-links c =
-    let s = start (apart-places c) in
+links s =
     let known = links-are (ends-in s) (few s) (vertex-count (points-in s)) refl in
-    subst (λ (l : List ℕ). Links l (N s) (D s)) (sym (c .neighbours .ensures)) known
+    subst (λ (l : List ℕ). Links l (N s) (D s)) (sym (s .pre .near-are)) known
 
 -- ---- the checks, in number order, and the answer behind those that pass
 
@@ -96,7 +92,7 @@ fine-11 c = sym (c .enum-told2 .given .1) ∙ c .before .before .same-place .ens
 fine-12 : (c : tie.After-enum-told4) → Fine ≡ firstOf (c12 (begun (loose-asked c)) ∷ [])
 fine-12 c =
     let l = loose-asked c in
-    sym (c .enum-told4 .given .1) ∙ l .loose-vertex .ensures (D (begun l)) (links (linked l))
+    sym (c .enum-told4 .given .1) ∙ l .loose-vertex .ensures (D (begun l)) (links (begun l))
 
 passed-11 : (c : tie.After-enum-told2)
     → let s = start c in firstOf (c12 s ∷ c13 s ∷ c14 s ∷ []) ≡ firstOf (drawingChecks (D s))
@@ -110,7 +106,7 @@ passed-12 : (c : tie.After-enum-told4)
 passed-12 c =
     let l = loose-asked c in
     let s = begun l in
-    first-passes (c12 s ∷ []) (c13 s ∷ c14 s ∷ []) (fine-12 c) ∙ passed-11 (apart-places (linked l))
+    first-passes (c12 s ∷ []) (c13 s ∷ c14 s ∷ []) (fine-12 c) ∙ passed-11 (apart-places l)
 
 passed-13 : (c : tie.After-enum-told6)
     → let s = begun (loose-asked (tied (meets-asked c))) in firstOf (c14 s ∷ []) ≡ firstOf (drawingChecks (D s))
@@ -139,9 +135,6 @@ returns c =
 enum-told-2 : tie.Need-enum-told-2
 enum-told-2 c = search needs
 
-neighbours-requires : tie.Need-neighbours-requires
-neighbours-requires c κs = record { most = few (start c); links = ends-in (start c) }
-
 loose-vertex-requires : tie.Need-loose-vertex-requires
 loose-vertex-requires c κs = search needs
 
@@ -153,8 +146,8 @@ returns-2 c =
     let l = c .before .before in
     let s = begun l in
     let told = c .enum-told3 .given .1 in
-    let loose = sym told ∙ l .loose-vertex .ensures (D s) (links (linked l)) in
-    told ∙ first-stops (c12 s ∷ []) (c13 s ∷ c14 s ∷ []) loose ∙ passed-11 (apart-places (linked l))
+    let loose = sym told ∙ l .loose-vertex .ensures (D s) (links s) in
+    told ∙ first-stops (c12 s ∷ []) (c13 s ∷ c14 s ∷ []) loose ∙ passed-11 (apart-places l)
 
 enum-told-4 : tie.Need-enum-told-4
 enum-told-4 c = search needs
@@ -165,7 +158,7 @@ edge-meets-requires c κs =
     let s = begun l in
     record {
       lists = record { points = points-in s; links = ends-in s };
-      places = found-none SamePlace [] (fine-11 (apart-places (linked l))) .0;
+      places = found-none SamePlace [] (fine-11 (apart-places l)) .0;
       tied = found-none LooseVertex [] (fine-12 c) .0;
     }
 
@@ -189,7 +182,7 @@ returns-4 : tie.Need-returns-4
 returns-4 c =
     let u = unmet c in
     let l = loose-asked (tied (meets-asked u)) in
-    c .apart .ensures (D (begun l)) (links (linked l)) ∙ passed-13 u
+    c .apart .ensures (D (begun l)) (links (begun l)) ∙ passed-13 u
 
 pub drawing-rules-spec : {M : Type 1} → statement M
 drawing-rules-spec =
@@ -199,7 +192,6 @@ drawing-rules-spec =
     enum-told
     returns
     enum-told-2
-    neighbours-requires
     loose-vertex-requires
     enum-told-3
     returns-2

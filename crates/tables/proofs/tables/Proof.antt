@@ -7,9 +7,10 @@ use Rattle.paper.specs.Drawing.{wire, drawingChecks}
 use Rattle.paper.specs.declared.Answer.the-variants.{Fine}
 use Rattle.paper_laws.proofs.Checks.{first-stops}
 use Rattle.drawing_lists.proofs.Range.{lent-range}
+use Rattle.drawing_links.proofs.Range.{few-ends}
 use Rattle.loop_table.specs.Passed.{Passed}
 use Rattle.loop_known.specs.Known.{DrawnBy}
-use Rattle.loop_known.proofs.Passed.{has-passed, few-ends, rising-ends}
+use Rattle.loop_known.proofs.Passed.{has-passed, rising-ends}
 use Rattle.candidates.proofs.Roomy.{rows-long}
 use Rattle.walk_words.specs.Words.{WalkTables, walkTables}
 use Rattle.tables.proofs.Tabling.{many-loops, loops-are, many-candidates, candidates-are, none-applies, rows-kept, listed, lent}
@@ -26,10 +27,16 @@ abbrev numbered : tie.After-candidate-rows → tie.After-number-edges
 numbered c = c .before .before .before .before .before .before
 
 abbrev told : tie.After-number-edges → tie.After-enum-told
-told c = c .before .before
+told c = c .before
+
+abbrev ruling : tie.After-enum-told → tie.After-drawing-rules
+ruling c = c .before .before
+
+abbrev linked : tie.After-drawing-rules → tie.After-neighbours
+linked c = c .before .before
 
 abbrev start : tie.After-enum-told → tie.Start
-start c = c .before .before .before .before
+start c = linked (ruling c) .before .before
 
 abbrev few : tie.After-put-words-arg6 → tie.Else2
 few c = c .before .before .before .before .before .before .before .before .before
@@ -44,19 +51,29 @@ left c =
 -- ---- what the rules let through has passed 3 to 14
 
 ruled : (c : tie.After-enum-told) → Fine ≡ firstOf (drawingChecks (wire (now (start c .args .xyz)) (now (start c .args .ends))))
-ruled c = sym (c .enum-told .given .1) ∙ c .before .before .drawing-rules .ensures
+ruled c = sym (c .enum-told .given .1) ∙ ruling c .drawing-rules .ensures
 
 passed : (c : tie.After-enum-told) → Passed (now (start c .args .xyz)) (now (start c .args .ends))
 passed c = has-passed _ _ (start c .pre .passed) (ruled c)
 
 drawn : (c : tie.After-number-edges)
-    → let a = start (told c) .args in DrawnBy (now (a .xyz)) (now (a .ends)) (c .before .neighbours .result) (c .number-edges .result)
-drawn c = record { passed = passed (told c); near-are = c .before .neighbours .ensures; numbered = c .number-edges .ensures }
+    → let a = start (told c) .args in DrawnBy (now (a .xyz)) (now (a .ends)) (linked (ruling (told c)) .neighbours .result)
+    (c .number-edges .result)
+drawn c = record {
+  passed = passed (told c);
+  near-are = linked (ruling (told c)) .neighbours .ensures;
+  numbered = c .number-edges .ensures;
+}
 
 -- ---- the needs
 
+neighbours-requires : tie.Need-neighbours-requires
+neighbours-requires c κs = few-ends (lent-range _ _ (c .before .pre .passed))
+
 drawing-rules-requires : tie.Need-drawing-rules-requires
-drawing-rules-requires c κs = lent-range _ _ (c .before .pre .passed)
+drawing-rules-requires c κs =
+    let n = c .before in
+    record { range = lent-range _ _ (n .before .before .pre .passed); near-are = n .neighbours .ensures }
 
 enum-known-rules : tie.Need-enum-known-rules
 enum-known-rules c = search needs
@@ -67,11 +84,8 @@ returns c = first-stops _ _ (sym (c .before .rules .given .1) ∙ c .before .bef
 enum-told : tie.Need-enum-told
 enum-told c = search needs
 
-neighbours-requires : tie.Need-neighbours-requires
-neighbours-requires c κs = few-ends (passed c)
-
 number-edges-requires : tie.Need-number-edges-requires
-number-edges-requires c κs = rising-ends (passed (c .before))
+number-edges-requires c κs = rising-ends (passed c)
 
 candidate-rows-requires : tie.Need-candidate-rows-requires
 candidate-rows-requires c κs =
@@ -134,11 +148,11 @@ pub tables-spec : {M : Type 1} → statement M
 tables-spec =
     tie.close
     (tie.spec
+    neighbours-requires
     drawing-rules-requires
     enum-known-rules
     returns
     enum-told
-    neighbours-requires
     number-edges-requires
     candidate-rows-requires
     returns-2

@@ -1,18 +1,15 @@
 -- `trial_geometry::show_clashes`: the rooms are empty, and there are at most 64 candidates.
 use mathlib.Core.List.{List}
-use mathlib.Core.Path.{_≡_, refl, sym, subst}
+use mathlib.Core.Path.{_≡_, refl, subst}
 use Prim.Native.Nat.{ℕ, _≤_}
-use native.Mathlib.Omega.{arith}
-use lib.IntN.{ℤ, pos}
+use lib.IntN.{ℤ}
 use borrow.Author.Needs.{needs}
-use Rattle.exact.specs.Size.{Within}
 use Rattle.paper.specs.Numbers.{mostCandidates}
-use Rattle.walk_words.specs.Words.{mostSix}
 use Rattle.tables.specs.declared.Tabled.{Tabled}
 use Rattle.tables.specs.declared.Tabled.the-variants as Tabled
 use Rattle.tables.specs.declared.rows.Counts.{Counts}
 use Rattle.tables.specs.Tables.{TabledIs}
-use Rattle.tables.proofs.Listing.{all-same}
+use Rattle.tables.proofs.Given.{clear-rooms}
 use Rattle.trial_geometry.proofs.show_clashes.Statement.{statement}
 use Rattle.trial_geometry.proofs.show_clashes.Tie as tie
 
@@ -25,19 +22,7 @@ abbrev start : tie.After-sixes → tie.Start
 start c = c .before .before .before .before .before .before .before
 
 tables-requires : tie.Need-tables-requires
-tables-requires c κs =
-    record {
-      passed = start c .pre;
-      row-room = refl;
-      on-clear = record { room-is = refl; none = all-same 0 64 };
-      up-clear = record { room-is = refl; none = all-same 0 64 };
-      side-room = refl;
-      no-side = all-same 0 64;
-      clash-room = refl;
-      no-clash = all-same 0 64;
-      six-room = refl;
-      small = record { small = λ k h. subst (Within mostSix) (sym (all-same (pos 0) 64 k)) (record { within = omega arith }) };
-    }
+tables-requires c κs = clear-rooms (start c .pre) refl
 
 enum-known-tabled : tie.Need-enum-known-tabled
 enum-known-tabled c = search needs
