@@ -11,7 +11,6 @@ use Rattle.paper.specs.Numbers.{faceRoom}
 use Rattle.paper.specs.Refusals.{firstOf}
 use Rattle.paper.specs.Format.{editionOne, coordinatesIn, endsIn}
 use Rattle.paper.specs.Sheet.{sheetChecks, lentChecks, sheetOf}
-use Rattle.paper.specs.Drawing.{wire}
 use Rattle.paper.specs.declared.Answer.the-variants.{Fine}
 use Rattle.paper.specs.declared.Sheet.{Sheet}
 use Rattle.sheet_laws.proofs.Accepted.{coordinates-are, ends-are}

@@ -1,14 +1,14 @@
 -- What the makers of words ask for, each from what is known of the candidates. Assumes nothing.
 use mathlib.Core.List.{List}
-use mathlib.Core.Path.{_≡_, refl, sym, subst, _∙_}
+use mathlib.Core.Path.{_≡_, refl, sym, subst}
 use Prim.Native.Nat.{ℕ, zero, suc, _≤_, _<_, _/_}
 use native.Mathlib.Omega.{arith}
 use lib.IntN.{ℤ}
 use lib.ListN.{length, getD, replicate}
-use Rattle.sets.specs.Sets.{room, Is, maskAt}
-use Rattle.paper.specs.Drawing.{Wire, wire, edgesOf}
+use Rattle.sets.specs.Sets.{Is, maskAt}
+use Rattle.paper.specs.Drawing.{Wire, wire}
 use Rattle.paper.specs.Format.{editionOne}
-use Rattle.paper.specs.Loops.{Loop, loopAt, candidates}
+use Rattle.paper.specs.Loops.{loopAt, candidates}
 use Rattle.paper_laws.specs.InRange.{InRange}
 use Rattle.fast_search.specs.Search.{near}
 use Rattle.fast_tables.specs.Hits.{cornerMask, sideMask}
@@ -17,7 +17,6 @@ use Rattle.loop_table.proofs.Loops.{candidates-of, vertices-are, edges-are, cor
 use Rattle.loop_table.proofs.Words.{mask-is}
 use Rattle.loop_search.proofs.Whole.{near-is}
 use Rattle.loop_words.specs.Numbered.{Numbered}
-use Rattle.loop_words.specs.Drawn.{Small}
 use Rattle.walk_edges.specs.Marks as Edges
 use Rattle.walk_edges.proofs.Upward.{upward-of}
 use Rattle.walk_clashes.specs.Faces.{Faces, PartsOf}

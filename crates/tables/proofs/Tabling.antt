@@ -2,7 +2,7 @@
 use mathlib.Core.Bool.{Bool, true, false}
 use mathlib.Core.List.{List, [], _∷_, map}
 use mathlib.Core.Path.{_≡_, refl, sym, ap, subst, _∙_}
-use Prim.Native.Nat.{ℕ, suc, _*_, _≤_, _<_, _/_, min}
+use Prim.Native.Nat.{ℕ, suc, _≤_, _<_, _/_, min}
 use native.Mathlib.Omega.{arith}
 use borrow.Author.Tests.{lt-ltb, le-ltb, ltb-true, ltb-false}
 use lib.Dec.{ltb}
@@ -19,7 +19,7 @@ use Rattle.paper.specs.Refusals.{check, firstOf, offends, refuse}
 use Rattle.paper.specs.Drawing.{Wire, wire, drawingChecks}
 use Rattle.paper.specs.Loops.{Loop, loops, candidates, polygon, loopChecks}
 use Rattle.paper.specs.Solids.{has, runsUp, faceSix, tablesOf}
-use Rattle.paper.specs.declared.Answer.the-variants.{Fine, Refused}
+use Rattle.paper.specs.declared.Answer.the-variants.{Fine}
 use Rattle.paper_laws.proofs.Checks.{clear, holds, fails, first-passes}
 use Rattle.fast_tables.specs.Hits.{cornerMask, sideMask}
 use Rattle.loop_table.specs.Tables.{rowsAfter, wordsAfter}

@@ -1,31 +1,29 @@
 -- A list whose faces stand in rows: what naming them and testing them says is what 21 to 27 say. Assumes nothing.
 use mathlib.Core.Bool.{Bool, true}
-use mathlib.Core.List.{List, _++_}
+use mathlib.Core.List.{List}
 use mathlib.Core.Path.{_≡_, refl, sym, ap, subst, _∙_}
 use Prim.Native.Nat.{ℕ, _≤_, _<_}
 use native.Mathlib.Omega.{arith}
-use lib.ListN.{length, getD, take}
+use lib.ListN.{length, getD}
 use lib.Seq.{getD-take}
 use Rattle.sets.specs.Word.{dig}
 use Rattle.sets.specs.Sets.{room}
-use Rattle.paper.specs.Numbers.{mostCandidates}
-use Rattle.paper.specs.Format.{editionOne}
-use Rattle.paper.specs.Refusals.{Check, firstOf}
+use Rattle.paper.specs.Refusals.{firstOf}
 use Rattle.paper.specs.Loops.{Loop}
 use Rattle.paper.specs.Solids.{Tables}
-use Rattle.paper.specs.Verdict.{maskOf, listed, faceChecks}
+use Rattle.paper.specs.Verdict.{listed, faceChecks}
 use Rattle.paper.specs.declared.Answer.{Answer}
-use Rattle.paper.specs.declared.Answer.the-variants.{Fine, Refused}
+use Rattle.paper.specs.declared.Answer.the-variants.{Refused}
 use Rattle.paper.specs.declared.Refusal.{Refusal}
 use Rattle.paper_laws.proofs.Checks.{first-stops, first-passes}
 use Rattle.means_loops.proofs.Kept.{member-is}
 use Rattle.means_check.proofs.Numbers.{row-is}
 use Rattle.walk_words.specs.Words.{WalkTables, Lent}
-use Rattle.verdict_faces.specs.Named.{Holds, namedChecks, Selected}
+use Rattle.verdict_faces.specs.Named.{namedChecks, Selected}
 use Rattle.verdict_faces.specs.declared.selection.Selection.{Selection}
 use Rattle.verdict_faces.proofs.Listed.{taken-mask, taken-long, listed-long, named-below}
 use Rattle.verdict_tests.proofs.Testing.{last-five}
-use Rattle.verdict_tests.specs.Tests.{Testing, testChecks, ListedIn, ListIs, Tested}
+use Rattle.verdict_tests.specs.Tests.{testChecks, ListedIn, Tested}
 
 module _ (cs : List Loop) (fs : List (List ℕ)) where
   pub naming-stops : (t : Tables) {r : Refusal} → Refused r ≡ firstOf (namedChecks cs fs)

@@ -1,6 +1,6 @@
 -- The ways out at a leaf: no solid, a solid for which there is no room, a solid that is stored. Assumes nothing.
-use mathlib.Core.Bool.{Bool, true, false}
-use mathlib.Core.List.{List, [], _∷_, _++_}
+use mathlib.Core.Bool.{true, false}
+use mathlib.Core.List.{List, [], _∷_}
 use mathlib.Core.Path.{_≡_, refl, sym, ap, ap₂, _∙_, subst}
 use Prim.Native.Nat.{ℕ, _+_, _*_, _≤_, _<_}
 use native.Mathlib.Omega.{arith}
@@ -13,7 +13,7 @@ use Rattle.sets.proofs.Sets.{word-is}
 use Rattle.paper.specs.Numbers.{mostSolids, solidRoom, solidWords}
 use Rattle.paper.specs.Refusals as No
 use Rattle.paper.specs.Solids.{Tables, Judgement, Fails, Solid, judged}
-use Rattle.paper.specs.Walk.{Status, Log, leaf, isTaken}
+use Rattle.paper.specs.Walk.{Status, leaf, isTaken}
 use Rattle.paper.specs.Conversion.{takens, isSolid, turnedOf, sixOf, accepted, words, solidsAfter}
 use Rattle.means_walk.specs.Complete.{exact}
 use Rattle.fast_leaf.specs.Faces.{judgedByFaces}
@@ -23,7 +23,7 @@ use Rattle.walk_words.specs.Words.{WalkTables, Lent}
 use Rattle.walk_leaf.specs.Tests.{LeafIs, Judges}
 use Rattle.walk_leaf.specs.declared.Leaf.{Leaf}
 use Rattle.walk_leaf.specs.declared.Leaf.the-variants as L
-use Rattle.walk.specs.Tally.{Roomy, Stored, Follows}
+use Rattle.walk.specs.Tally.{Roomy}
 use Rattle.walk.specs.Leaf.{Keeps}
 use Rattle.walk.specs.declared.tally.Tally.{Tally}
 use Rattle.walk.proofs.Tallies.{three-long, stored-more}

@@ -1,8 +1,8 @@
 -- The start of the walk: all undecided, all edges to be passed, nothing found. Assumes nothing.
-use mathlib.Core.Bool.{Bool, true, false}
+use mathlib.Core.Bool.{true}
 use mathlib.Core.List.{List, [], _∷_, map}
-use mathlib.Core.Path.{_≡_, refl, sym, ap, _∙_, subst}
-use Prim.Native.Nat.{ℕ, zero, suc, _≤_, _<_}
+use mathlib.Core.Path.{_≡_, refl, sym, ap, subst}
+use Prim.Native.Nat.{ℕ, zero, suc, _≤_}
 use native.Mathlib.Omega.{arith}
 use lib.ListN.{length, replicate, length-replicate}
 use Rattle.lists.proofs.After.{after-none}
@@ -10,7 +10,7 @@ use Rattle.sets.specs.Sets.{room, Is}
 use Rattle.sets.specs.declared.Set.{Set}
 use Rattle.sets.proofs.Sets.{none-all}
 use Rattle.paper.specs.Numbers.{solidWords}
-use Rattle.paper.specs.Walk.{Status, Undecided, isTaken, isOpen, openCount, nothing, search}
+use Rattle.paper.specs.Walk.{Undecided, isTaken, isOpen, openCount, nothing, search}
 use Rattle.paper.specs.Conversion.{words, solidsAfter}
 use Rattle.fast_sweeps.proofs.Walk.{call-first}
 use Rattle.walk_words.specs.Words.{WalkTables}

@@ -1,19 +1,16 @@
 -- The ways out of the walk: it had ended, a contradiction, a leaf, both branches; and the start of it. Assumes nothing.
 use mathlib.Core.Bool.{Bool, false}
-use mathlib.Core.List.{List, []}
-use mathlib.Core.Path.{_≡_, refl, sym, ap, _∙_, subst}
-use Prim.Native.Nat.{ℕ, zero, suc, _≤_, _<_}
+use mathlib.Core.List.{List}
+use mathlib.Core.Path.{_≡_, refl, sym, _∙_, subst}
+use Prim.Native.Nat.{ℕ, suc, _≤_, _<_}
 use native.Mathlib.Omega.{arith}
-use lib.ListN.{length, set, length-set, replicate}
-use Rattle.sets.specs.Sets.{Is, size}
-use Rattle.sets.specs.declared.Set.{Set}
+use lib.ListN.{length, set, length-set}
+use Rattle.sets.specs.Sets.{size}
 use Rattle.sets.proofs.Sets.{size-is}
 use Rattle.paper.specs.Numbers.{mostSolids}
 use Rattle.paper.specs.Solids.{Tables}
-use Rattle.paper.specs.Walk.{Status, Taken, Rejected, isOpen, openCount, Outcome, Broken, Stands, stable, choose, Log, assume, leaf, walk, search}
+use Rattle.paper.specs.Walk.{Status, Taken, Rejected, isOpen, openCount, Outcome, Broken, Stands, stable, choose, Log, assume, walk}
 use Rattle.paper.specs.Conversion.{accepted}
-use Rattle.means_walk.specs.Complete.{exact}
-use Rattle.means_walk.specs.Lowest.{opens}
 use Rattle.means_walk.proofs.Status.{count-open}
 use Rattle.means_walk.proofs.Settled.{stable-rest}
 use Rattle.means_walk.proofs.Complete.{calm-exact}

@@ -1,7 +1,7 @@
 -- `walk::walk`: at each call fewer are undecided; each way out is one of the laws. Assumes nothing.
-use mathlib.Core.Path.{_≡_, sym, subst, _∙_}
+use mathlib.Core.Path.{_≡_, subst}
 use native.Mathlib.Omega.{arith}
-use Prim.Native.Nat.{ℕ, suc, _≤_, _<_}
+use Prim.Native.Nat.{ℕ, suc, _<_}
 use borrow.Author.Needs.{needs}
 use borrow.Fn.Kinds.{In}
 use borrow.Fn.PlainCycle.{Measures, is, falls, and}
@@ -13,8 +13,6 @@ use Rattle.walk_state.specs.declared.State.{State}
 use Rattle.walk_state.specs.declared.Swept.{Swept}
 use Rattle.walk_state.specs.declared.Swept.the-variants as S
 use Rattle.walk_state.proofs.Lowest.{is-none, is-some}
-use Rattle.walk.specs.Tally.{Roomy}
-use Rattle.walk.specs.Walk.{Walking}
 use Rattle.walk.proofs.Walking.{still-roomy, walked-ended, walked-broken, walked-leaf, walked-both}
 use Rattle.walk.proofs.walk.Reads as walk
 use Rattle.walk.proofs.walk.Kinds as kinds

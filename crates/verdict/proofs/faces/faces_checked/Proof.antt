@@ -6,13 +6,10 @@ use lib.ListN.{length}
 use denote.Ref.{now}
 use native.Mathlib.Omega.{arith}
 use Rattle.paper.specs.Format.{editionOne}
-use Rattle.paper.specs.Refusals.{Check, firstOf}
 use Rattle.paper.specs.Loops.{Loop}
 use Rattle.paper.specs.FaceList.{facesIn, facesOf}
 use Rattle.paper.specs.Verdict.{verdictFor, listed, faceChecks}
-use Rattle.paper.specs.declared.Answer.{Answer}
 use Rattle.paper.specs.declared.Answer.the-variants.{Fine, Refused}
-use Rattle.paper.specs.declared.Faces.{Faces}
 use Rattle.verdict_faces.specs.Named.{Holds, NamedAs, Selected}
 use Rattle.verdict_faces.specs.declared.selection.Named.{Named}
 use Rattle.verdict_faces.specs.declared.selection.Named.the-variants as N
