@@ -23,7 +23,7 @@ turn c = c .before .before .before .before
 -- ---- the needs
 
 loop-holds : tie.Need-loop-holds Inv-loop μ-loop
-loop-holds c = (c .pre .within, λ masks st i l w. refl)
+loop-holds c = (omega arith, λ masks st i l w. refl)
 
 of-edge-requires : tie.Need-of-edge-requires Inv-loop μ-loop
 of-edge-requires c κs = let p = c .before .before .before .pre in omega (arith, p)
