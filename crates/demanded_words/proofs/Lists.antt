@@ -18,10 +18,10 @@ use Rattle.paper.specs.declared.Refusal.{Refusal}
 use Rattle.export_words.specs.Words.{Tells}
 use Rattle.export_words.specs.Lists.{Read, listChecks, readFor, readInto, ReadsAs}
 use Rattle.means_sheets.proofs.Sheets.{writes-back-one}
-use Rattle.means_check.proofs.Accepting.{both-fine}
 use Rattle.demands.specs.Input.{sheet}
 use Rattle.demands.specs.Sheets as Sheets
 use Rattle.demands.specs.Table.{line, end, forms, Two}
+use Rattle.paper_laws.proofs.Checks.{first-both}
 use Rattle.paper_laws.proofs.Tests.{is-lt}
 use Rattle.demands.proofs.Table.{done, also-two, behind, ends}
 use Rattle.demands.proofs.Lines.{form-says}
@@ -52,18 +52,18 @@ module _ (s : List ℕ) (bytes : Under 256 s) (xyz₀ : List ℤ) (ends₀ : Lis
       (ltb (length ends₀) (length links)) (is-lt (length xyz₀) (length points)) (is-lt (length ends₀) (length links)) (λ below. below) []
       done))
 
-  positive : (f : Refusal) → firstOf checks ≡ Answer.Refused f → 0 < f .number
+  positive : (f : Refusal) → Answer.Refused f ≡ firstOf checks → 0 < f .number
   positive f e =
-      of-forms 16 _ (more 16 1 _ _ end (omega arith) (none-left 16)) (omega arith) (sheet s) .number f (subst (lines end) e first) .0
+      of-forms 16 _ (more 16 1 _ _ end (omega arith) (none-left 16)) (omega arith) (sheet s) .number f (subst (lines end) (sym e) first) .0
 
-  zero : (a : Answer) → firstOf checks ≡ a → (countsSaid s a .number ≡ 0) ↔ (a ≡ Answer.Fine)
+  zero : (a : Answer) → a ≡ firstOf checks → (countsSaid s a .number ≡ 0) ↔ (a ≡ Answer.Fine)
   zero Answer.Fine e = (λ z. refl, λ z. refl)
   zero (Answer.Refused f) e =
       (λ z. absurd (omega (arith, z, positive f e)), λ z. ap (λ (a : Answer). countsSaid s a .number) z)
 
-  again : firstOf checks ≡ Answer.Fine → Sheets.Writes points links s
+  again : Answer.Fine ≡ firstOf checks → Sheets.Writes points links s
   unfolding sheetOf
-  again e = writes-back-one s (bytes, sym (both-fine (sheetChecks editionOne s) (listChecks points links xyz₀ ends₀) e .0)) .room
+  again e = writes-back-one s (bytes, first-both (sheetChecks editionOne s) (listChecks points links xyz₀ ends₀) e .0) .room
 
   -- what is read, by the answer
   abbrev read : Answer → Read
@@ -74,12 +74,12 @@ module _ (s : List ℕ) (bytes : Under 256 s) (xyz₀ : List ℤ) (ends₀ : Lis
   said (Answer.Refused f) = refl
 
   module _ {r : ℕ} {xyz : List ℤ} {ends words₀ words : List ℕ} where
-    into : (a : Answer) → firstOf checks ≡ a → ReadsAs (read a) r xyz ends words₀ words → ReadsInto s xyz₀ ends₀ a xyz ends
+    into : (a : Answer) → a ≡ firstOf checks → ReadsAs (read a) r xyz ends words₀ words → ReadsInto s xyz₀ ends₀ a xyz ends
     into a e h = record {
-      first = subst (lines end) e first;
+      first = subst (lines end) (sym e) first;
       kept = λ f q. (h .xyz-are ∙ ap (λ (b : Answer). read b .xyz) q, h .ends-are ∙ ap (λ (b : Answer). read b .ends) q);
       lists = λ q. (h .xyz-are ∙ ap (λ (b : Answer). read b .xyz) q, h .ends-are ∙ ap (λ (b : Answer). read b .ends) q);
-      again = λ q. again (e ∙ q);
+      again = λ q. again (sym q ∙ e);
     }
 
     kept : (a : Answer) → ReadsAs (read a) r xyz ends words₀ words → (r ≡ 0 → ⊥) → (xyz ≡ xyz₀) × (ends ≡ ends₀)

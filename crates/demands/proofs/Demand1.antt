@@ -1,7 +1,7 @@
 -- Demand 1 holds. Assumes nothing.
 use mathlib.Core.Path.{_≡_, refl, sym, ap, subst, _∙_}
 use mathlib.Core.Bool.{not}
-use mathlib.Core.Logic.{_⊎_, inl, inr}
+use mathlib.Core.Logic.{inl, inr}
 use mathlib.Core.List.{List, [], _∷_, _++_, append-assoc, flatMap}
 use Prim.Native.Nat.{ℕ, _<_}
 use native.Mathlib.Omega.{arith}
@@ -18,7 +18,6 @@ use Rattle.paper.specs.Conversion.{Converted, entryChecks, conversion}
 use Rattle.paper.specs.Verdict.{listed}
 use Rattle.paper.specs.Verdict.{faceChecks, verdictFor, verdict}
 use Rattle.paper.specs.Reading.{conversionSays, volume, readingOf}
-use Rattle.paper.specs.declared.Refusal.{Refusal}
 use Rattle.paper.specs.declared.Answer.{Answer}
 use Rattle.paper.specs.declared.Answer.the-variants as Answer
 use Rattle.paper.specs.declared.Conversion.{Conversion}
@@ -31,8 +30,8 @@ use Rattle.means_report.specs.Report.{answered, facesFor, solidsFor, reported}
 use Rattle.means_report.proofs.Counted.{counted}
 use Rattle.means_report.proofs.Report.{Tells, Sound}
 use Rattle.means_report.proofs.Demand.{says-none, says-one, says-several, says-many, says-long}
-use Rattle.means_report.proofs.Converted.{the-walk, conversion-says}
-use Rattle.means_check.proofs.Accepting.{both-fine}
+use Rattle.means_report.proofs.Converted.{Cases, the-walk, conversion-says}
+use Rattle.paper_laws.proofs.Checks.{first-both}
 use Rattle.means_check.proofs.Demand.{drawing-fits}
 use Rattle.demands.specs.Input.{Input, drawing, candidatesOf, form, rules, Passes}
 use Rattle.demands.specs.Table.{end, one, rooms, forms, drawings, ofConversion, ofVerdict}
@@ -133,17 +132,13 @@ module _ (x : Input) (limit : ℕ) (room solids : List ℕ) where
   abbrev asked : List Check
   asked = entryChecks limit room solids ++ form x ++ drawingChecks (drawing x) ++ loopChecks (loops (drawing x)) (candidates (drawing x))
 
-  -- conversion refuses, and leaves the rooms, or what it says is sound
-  abbrev Cases : Type 0
-  Cases =
-      ((q : Refusal) × (firstOf asked ≡ Answer.Refused q)
-      × (made ≡ record { answer = Conversion.Refused q; faces = room; solids = solids }))
-      ⊎ ((firstOf asked ≡ Answer.Fine) × Sound (drawing x) (the-walk (drawing x)) limit room solids made)
+  abbrev Answers : Type 0
+  Answers = Cases (drawing x) (the-walk (drawing x)) (form x) limit room solids
 
   within : Within limit (made .answer)
   within = go (conversion-says (drawing x) (the-walk (drawing x)) (form x) limit room solids)
     where
-      go : Cases → Within limit (made .answer)
+      go : Answers → Within limit (made .answer)
       go (inl p) = subst (Within limit) (sym (ap (λ (c : Converted). c .answer) (p .2))) tt
       go (inr p) = sound-within x limit room solids made (p .1) (made .answer) refl
 
@@ -159,14 +154,14 @@ module _ (x : Input) (limit : ℕ) (room solids : List ℕ) where
       (behind (rooms limit room solids) (λ below. forms x (drawings (drawing x) below)) (entryChecks limit room solids) (rules x)
       (entry-says limit room solids) (λ e. rules-say x))))
     where
-      go : Cases → ofConversion (made .answer) ≡ firstOf asked
-      go (inl p) = ap (λ (c : Converted). ofConversion (c .answer)) (p .2) ∙ sym (p .1)
-      go (inr p) = sound-fine x limit room solids made (p .1) ∙ sym (p .0)
+      go : Answers → ofConversion (made .answer) ≡ firstOf asked
+      go (inl p) = ap (λ (c : Converted). ofConversion (c .answer)) (p .2) ∙ p .1
+      go (inr p) = sound-fine x limit room solids made (p .1) ∙ p .0
 
   keeps : reported (made .answer) ≡ 0 → (made .faces ≡ room) × (made .solids ≡ solids)
   keeps e = go (conversion-says (drawing x) (the-walk (drawing x)) (form x) limit room solids)
     where
-      go : Cases → (made .faces ≡ room) × (made .solids ≡ solids)
+      go : Answers → (made .faces ≡ room) × (made .solids ≡ solids)
       go (inl p) = (ap (λ (c : Converted). c .faces) (p .2), ap (λ (c : Converted). c .solids) (p .2))
       go (inr p) = sound-kept x limit room solids made (p .1) e
 
@@ -174,9 +169,9 @@ module _ (x : Input) (limit : ℕ) (room solids : List ℕ) where
   pub passes : 0 < reported (made .answer) → Passes x
   passes h = go (conversion-says (drawing x) (the-walk (drawing x)) (form x) limit room solids)
     where
-      go : Cases → Passes x
+      go : Answers → Passes x
       go (inl p) = absurd (omega (arith, h, ap (λ (c : Converted). reported (c .answer)) (p .2)))
-      go (inr p) = both-fine (entryChecks limit room solids) (rules x) (ap firstOf (sym parts) ∙ p .0) .1
+      go (inr p) = first-both (entryChecks limit room solids) (rules x) (p .0 ∙ ap firstOf parts) .1
 
 -- ---- the reading
 

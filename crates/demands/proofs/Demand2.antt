@@ -1,17 +1,12 @@
 -- Demand 2 holds. Assumes nothing.
-use mathlib.Core.Path.{_≡_, refl, sym, ap, subst, _∙_}
-use mathlib.Core.Bool.{Bool}
-use mathlib.Core.List.{List, _++_}
+use mathlib.Core.Path.{_≡_, refl, sym, subst, _∙_}
+use mathlib.Core.List.{List}
 use Prim.Native.Nat.{ℕ, _<_}
 use native.Mathlib.Omega.{arith}
-use lib.Dec.{ltb}
-use borrow.Author.Tests.{le-ltb}
 use lib.ListN.{length}
-use Rattle.paper.specs.Refusals.{firstOf, offends}
-use Rattle.paper.specs.Drawing.{drawingChecks}
-use Rattle.paper.specs.Loops.{loopAt, loops, candidates, loopChecks}
+use Rattle.paper.specs.Loops.{loopAt, loops, candidates}
 use Rattle.paper.specs.Solids.{tablesOf}
-use Rattle.paper.specs.Conversion.{Converted, entryChecks}
+use Rattle.paper.specs.Conversion.{Converted}
 use Rattle.paper.specs.declared.Answer.the-variants.{Fine}
 use Rattle.paper.specs.declared.Conversion.{Conversion}
 use Rattle.paper.specs.declared.Conversion.the-variants.{One, Several, NoSolid, Many, TooLong}
@@ -19,12 +14,11 @@ use Rattle.paper.specs.declared.Conversion.the-variants as Conversion
 use Rattle.means_walk.specs.Tree.{assumptions}
 use Rattle.means_walk.proofs.Grown.{one-walk}
 use Rattle.means_report.specs.Listed.{WalkTree}
-use Rattle.means_report.proofs.Report.{Unrefused, Sound, conversion-sound}
+use Rattle.means_report.proofs.Report.{Sound, conversion-sound}
 use Rattle.means_report.proofs.Demand.{all-listed, says-none, says-many, says-long}
 use Rattle.means_report.proofs.Converted.{the-walk, no-ninth, tells-few, tells-many, tells-long, none-says}
 use Rattle.means_loops.specs.Loop.{IsCandidate}
 use Rattle.means_loops.proofs.Listing.{candidates-are, candidates-all, candidates-ascend}
-use Rattle.means_check.proofs.Accepting.{fine-both, none-step, no-checks}
 use Rattle.means_report.specs.Report.{reported}
 use Rattle.demands.specs.Input.{Input, drawing, candidatesOf, form, Passes, converted}
 use Rattle.demands.specs.Table.{end, rooms, forms, drawings, ofConversion}
@@ -36,29 +30,13 @@ use Rattle.means_check.proofs.Demand.{drawing-places}
 use Rattle.demands.proofs.Solid.{in-words, of-words, every-words, candidate-words, words-candidate}
 use Rattle.demands.proofs.Walk.{walk-words}
 use Rattle.demands.proofs.Demand1.{demand1, passes}
-use Rattle.demands.proofs.Input.{converted-is, form-fine, drawing-fine, loops-fine}
-
--- room and a limit that are allowed pass 1 and 2
-entry-fine : (limit : ℕ) (room solids : List ℕ) → Allowed limit room solids → firstOf (entryChecks limit room solids) ≡ Fine
-unfolding entryChecks
-entry-fine limit room solids a =
-    none-step 1 (offends (ltb (length room) 832) 0) _ (ap (λ (b : Bool). offends b 0) (le-ltb (length room) 832 (a .0)))
-    (none-step 1 (offends (ltb (length solids) 24) 1) _ (ap (λ (b : Bool). offends b 1) (le-ltb (length solids) 24 (a .1)))
-    (none-step 2 (offends (ltb 1000000 limit) 0) _ (ap (λ (b : Bool). offends b 0) (le-ltb 1000000 limit (a .2))) no-checks))
+use Rattle.demands.proofs.Input.{converted-is, drawing-fine, unrefused}
 
 ap₃ : (f : ℕ → ℕ → ℕ → Conversion) {a b c a′ b′ c′ : ℕ} → a ≡ a′ → b ≡ b′ → c ≡ c′ → f a b c ≡ f a′ b′ c′
 ap₃ f p q r = cc
 
 module _ (x : Input) (p : Passes x) (t : WalkTree (drawing x) (candidatesOf x)) (limit : ℕ) (room solids : List ℕ)
     (a : Allowed limit room solids) where
-  unrefused : Unrefused (drawing x) t limit room solids (form x)
-  unrefused =
-      fine-both (entryChecks limit room solids ++ form x ++ drawingChecks (drawing x))
-      (loopChecks (loops (drawing x)) (candidates (drawing x)))
-      (fine-both (entryChecks limit room solids ++ form x) (drawingChecks (drawing x))
-      (fine-both (entryChecks limit room solids) (form x) (entry-fine limit room solids a) (form-fine x p)) (drawing-fine x p))
-      (loops-fine x p)
-
   told : (r : Converted) → Sound (drawing x) t limit room solids r → Demand2 x t limit room solids r
   told r s = record {
     every = every-words (drawing x) (solidsOf x t) (all-listed (drawing x) t limit room solids r s);
@@ -94,7 +72,7 @@ module _ (x : Input) (p : Passes x) (t : WalkTree (drawing x) (candidatesOf x)) 
   holds2 =
       told (converted x limit room solids)
       (subst (Sound (drawing x) t limit room solids) (sym (converted-is x limit room solids))
-      (conversion-sound (drawing x) t limit room solids (form x) unrefused))
+      (conversion-sound (drawing x) t limit room solids (form x) (unrefused x p limit room solids a)))
 
 pub faces : (x : Input) → Candidates x
 faces x = record {

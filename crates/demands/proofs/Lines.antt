@@ -12,21 +12,18 @@ use Rattle.lists.specs.Lists.{lowest}
 use Rattle.paper.specs.Format.{editionOne, outside, total, bytesFor, fillAfter, verticesIn, edgesIn}
 use Rattle.paper.specs.Format.{coordinatesIn, endsIn}
 use Rattle.pack.specs.Bits.{fieldAt}
-use Rattle.paper.specs.Refusals.{firstOf}
 use Rattle.paper.specs.Sheet.{badCount, farAt, wrong, wrongAt, edgeAbove, lowAt, edgeChecks, contentChecks, countChecks, openChecks}
 use Rattle.paper.specs.Sheet.{closeChecks, shapeChecks, sheetChecks, lentChecks}
 use Rattle.paper.specs.Drawing.{Wire, samePlace, looseVertex, edgeMeets, apart, drawingChecks}
 use Rattle.paper.specs.Loops.{loops, candidates, loopChecks}
 use Rattle.paper.specs.Conversion.{entryChecks}
-use Rattle.paper.specs.declared.Answer.the-variants.{Fine}
 use Rattle.means_drawing.specs.Drawings.{Doubled, Loose, Meets, Reachable, Rising}
 use Rattle.means_drawing.proofs.Searches.{finds}
 use Rattle.means_drawing.proofs.Drawings.{samePlace-finds, looseVertex-finds, edgeMeets-finds, long-edges, apart-finds}
-use Rattle.means_drawing.proofs.Drawings.Lists.{lent-rising}
-use Rattle.means_sheets.proofs.Sheets.Read.{accepted-lent}
 use Rattle.demands.specs.Input.{Input, lent, sheet, drawing, form, rules}
 use Rattle.demands.specs.Table.{Outside, BadCount, Far, Wrong, BadEdge, Above, EdgeOrder, rooms, lists, forms, drawings}
 use Rattle.paper_laws.proofs.Tests.{Is, is-lt, is-le, is-eq, is-ltZ, is-not, is-or, is-and}
+use Rattle.demands.proofs.Input.{rising}
 use Rattle.demands.proofs.Table.{Says, done, also, also-one, also-two, behind}
 
 -- ---- 1 and 2
@@ -93,10 +90,6 @@ form-says (sheet s) =
     content-says v (coordinatesIn editionOne s) (endsIn editionOne s))))))
 
 -- ---- 11 to 16: where 9 finds nothing the ends of edges rise
-
-rising : (x : Input) → firstOf (form x) ≡ Fine → Rising (drawing x)
-rising (lent xyz ns) e = lent-rising editionOne xyz ns (sym e)
-rising (sheet s) e = lent-rising editionOne (coordinatesIn editionOne s) (endsIn editionOne s) (accepted-lent editionOne s (sym e))
 
 drawing-says : (d : Wire) → Rising d → Says (drawings d) (drawingChecks d ++ loopChecks (loops d) (candidates d))
 unfolding drawingChecks loopChecks

@@ -11,7 +11,7 @@ use Rattle.lists.proofs.Truth.{same-truth}
 use Rattle.paper.specs.Numbers.{mostSolids}
 use Rattle.paper.specs.Points.{times}
 use Rattle.paper.specs.Refusals.{firstOf}
-use Rattle.paper.specs.Format.{editionOne, coordinatesIn, endsIn}
+use Rattle.paper.specs.Format.{editionOne}
 use Rattle.paper.specs.FaceList.{wellShaped}
 use Rattle.paper.specs.Drawing.{Wire, wire}
 use Rattle.paper.specs.Conversion.{Converted, conversion}
@@ -19,8 +19,6 @@ use Rattle.paper.specs.Verdict.{verdict}
 use Rattle.paper.specs.declared.Answer.the-variants.{Fine}
 use Rattle.paper.specs.declared.Point.{Point}
 use Rattle.means_drawing.specs.Drawings.{Rising}
-use Rattle.means_drawing.proofs.Drawings.Lists.{lent-rising}
-use Rattle.means_sheets.proofs.Sheets.Read.{accepted-lent}
 use Rattle.means_moves.specs.Moves.{shift, mirror, Step, laid, oddly, Move}
 use Rattle.means_moves.specs.Lists.{eachVertex, Near}
 use Rattle.means_moves.specs.Turned.{turnsBy, Follows}
@@ -37,7 +35,7 @@ use Rattle.demands.specs.Input.{Input, lent, sheet, drawing, form, conve
 use Rattle.demands.specs.Shells.{Shape}
 use Rattle.demands.specs.Moved.{coordinates, links, Made, Round, Shifts, Mirrors, Laid, Turns, Scales}
 use Rattle.demands.specs.Limits.{HigherLimit}
-use Rattle.demands.proofs.Input.{converted-is, checked-is}
+use Rattle.demands.proofs.Input.{converted-is, checked-is, rising}
 use Rattle.demands.proofs.Shape.{is-shape}
 
 -- ---- one form for both kinds of drawing
@@ -46,9 +44,8 @@ drawing-is : (x : Input) → drawing x ≡ wire (coordinates x) (links x)
 drawing-is (lent xyz ends) = refl
 drawing-is (sheet s) = refl
 
-rising : (x : Input) → firstOf (form x) ≡ Fine → Rising (wire (coordinates x) (links x))
-rising (lent xyz ends) e = lent-rising editionOne xyz ends (sym e)
-rising (sheet s) e = lent-rising editionOne (coordinatesIn editionOne s) (endsIn editionOne s) (accepted-lent editionOne s (sym e))
+rises : (x : Input) → Fine ≡ firstOf (form x) → Rising (wire (coordinates x) (links x))
+rises x e = subst Rising (drawing-is x) (rising x e)
 
 converted-as : (x : Input) (limit : ℕ) (faces solids : List ℕ)
     → converted x limit faces solids ≡ conversion mostSolids (form x) (wire (coordinates x) (links x)) limit faces solids
@@ -74,20 +71,20 @@ module _ (m : Move) (x y : Input) (made : Made (m .to) x y) where
       (sym (converted-as x limit faces solids))
       (subst (Follows (turnsBy (m .sides-by)) (natAbs (m .sides-by)) solids
       (conversion mostSolids (form x) (wire (coordinates x) (links x)) limit faces solids)) (sym (converted-as y limit faces solids))
-      (either-follows m (form x) (form y) (made .forms) (coordinates x) (coordinates y) (links x) (links y) (rising x) (made .edges)
+      (either-follows m (form x) (form y) (made .forms) (coordinates x) (coordinates y) (links x) (links y) (rises x) (made .edges)
       (made .points) mostSolids limit faces solids))
 
   kept : turnsBy (m .sides-by) ≡ false → (list : List ℕ) → checked y list ≡ checked x list
   kept t list =
       checked-as y list
-      ∙ either-kept m (form x) (form y) (made .forms) (coordinates x) (coordinates y) (links x) (links y) (rising x) (made .edges)
+      ∙ either-kept m (form x) (form y) (made .forms) (coordinates x) (coordinates y) (links x) (links y) (rises x) (made .edges)
       (made .points) t list
       ∙ sym (checked-as x list)
 
   turned : turnsBy (m .sides-by) ≡ true → (list other : List ℕ) → Round x list other → checked y other ≡ checked x list
   turned t list other round =
       checked-as y other
-      ∙ either-round m (form x) (form y) (made .forms) (coordinates x) (coordinates y) (links x) (links y) (rising x) (made .edges)
+      ∙ either-round m (form x) (form y) (made .forms) (coordinates x) (coordinates y) (links x) (links y) (rises x) (made .edges)
       (made .points) t list other
       (subst (λ (d : Wire). wellShaped editionOne (length (d .vertices)) other ≡ wellShaped editionOne (length (d .vertices)) list)
       (drawing-is x) (shapes-same (length (drawing x .vertices)) list other (round .shape))) (round .faces)

@@ -4,7 +4,6 @@ use mathlib.Core.Option.{none}
 use mathlib.Core.List.{List, _++_}
 use Prim.Native.Nat.{ℕ}
 use native.Mathlib.Omega.{arith}
-use borrow.Author.Tests.{le-ltb}
 use lib.ListN.{length}
 use Rattle.paper.specs.Numbers.{mostSolids}
 use Rattle.paper.specs.Refusals.{firstOf}
@@ -16,11 +15,10 @@ use Rattle.paper.specs.declared.Answer.{Answer}
 use Rattle.paper.specs.declared.Answer.the-variants as Answer
 use Rattle.paper.specs.declared.Conversion.the-variants as Conversion
 use Rattle.paper.specs.declared.Refusal.{Refusal}
-use Rattle.paper_laws.proofs.Checks.{first-stops}
 use Rattle.means_report.specs.Listed.{Entry}
 use Rattle.means_report.specs.Report.{reported}
 use Rattle.means_report.proofs.Counted.{counted}
-use Rattle.means_check.proofs.Accepting.{both-fine, fine-both}
+use Rattle.paper_laws.proofs.Checks.{first-stops, first-both, both-first}
 use Rattle.means_check.proofs.Demand.{drawing-places}
 use Rattle.means_moves.specs.Renumbered.{NewNumbers}
 use Rattle.means_moves.specs.Reports.{Whole, Tells, SameReport}
@@ -28,31 +26,26 @@ use Rattle.means_moves.proofs.Lent.{rising-below}
 use Rattle.means_moves.proofs.Refused.{Sorted, ruleOf, same-rule, same-refusal}
 use Rattle.means_moves.proofs.Sorted.{lent-sorted, sheet-sorted}
 use Rattle.means_moves.proofs.Undone.{renumbers}
-use Rattle.means_moves.proofs.Told as Told
 use Rattle.means_moves.proofs.Told.{same-report}
 use Rattle.demands.specs.Input.{Input, lent, sheet, drawing, form, candidatesOf, Passes, converted}
 use Rattle.demands.specs.Solid.{Solid}
 use Rattle.demands.specs.Walk.{Allowed}
-use Rattle.demands.proofs.Input.{converted-is, form-fine, drawing-fine, loops-fine}
+use Rattle.demands.proofs.Input.{converted-is, drawing-fine, loops-fine, unrefused}
 use Rattle.demands.proofs.Solid.{of-words, in-words, every-words}
 use Rattle.demands.specs.Renumbered.{SameSolid, Given, SolidsKept, ListsAll, OneToOne, Renumbers}
 
-sorted : (x : Input) → firstOf (form x) ≡ Answer.Fine → Sorted (drawing x)
+sorted : (x : Input) → Answer.Fine ≡ firstOf (form x) → Sorted (drawing x)
 sorted (lent xyz ends) e = lent-sorted editionOne xyz ends e
 sorted (sheet s) e = sheet-sorted editionOne s e
 
-allowed : (a : ℕ) (f u : List ℕ) → Allowed a f u → firstOf (entryChecks a f u) ≡ Answer.Fine
-unfolding entryChecks firstOf
-allowed a f u h = rw (le-ltb (length f) 832 (h .0), le-ltb (length u) 24 (h .1), le-ltb 1000000 a (h .2))
-
 -- a refusal of 1 and 2 is no matter of the drawing
 module _ (x : Input) (limit : ℕ) (faces solids : List ℕ) where
-  entry-stops : (r : Refusal) → firstOf (entryChecks limit faces solids) ≡ Answer.Refused r → converted x limit faces solids .answer ≡
+  entry-stops : (r : Refusal) → Answer.Refused r ≡ firstOf (entryChecks limit faces solids) → converted x limit faces solids .answer ≡
       Conversion.Refused r
   unfolding conversion
   entry-stops r e =
       let E = entryChecks limit faces solids in
-      let a = first-stops E (form x) (sym e) in
+      let a = first-stops E (form x) e in
       let b = first-stops (E ++ form x) (drawingChecks (drawing x)) a in
       let c : Answer.Refused r ≡ firstOf (E ++ form x ++ drawingChecks (drawing x) ++ loopChecks (loops (drawing x))
       (uncovering (drawing x) (loops (drawing x))))
@@ -77,7 +70,7 @@ module _ (new : ℕ → ℕ) (x y : Input) (g : Given new x y) where
       → (q : Refusal) × (converted y limit faces solids .answer ≡ Conversion.Refused q) × (q .number ≡ r .number)
   number limit faces solids r e = go (firstOf (entryChecks limit faces solids)) refl
     where
-      go : (a : Answer) → firstOf (entryChecks limit faces solids) ≡ a
+      go : (a : Answer) → a ≡ firstOf (entryChecks limit faces solids)
           → (q : Refusal) × (converted y limit faces solids .answer ≡ Conversion.Refused q) × (q .number ≡ r .number)
       go Answer.Fine p =
           let w = same-refusal numbers sx sy mostSolids (form x) (form y) (g .good) (g .good-too) limit limit faces faces solids solids p
@@ -92,15 +85,15 @@ module _ (new : ℕ → ℕ) (x y : Input) (g : Given new x y) where
   passes p =
       go (firstOf (drawingChecks (drawing y) ++ loopChecks (loops (drawing y)) (candidates (drawing y)))) refl
       (same-rule numbers sx sy
-      ∙ ap ruleOf (fine-both (drawingChecks (drawing x)) (loopChecks (loops (drawing x)) (candidates (drawing x))) (drawing-fine x p)
-      (loops-fine x p)))
+      ∙ ap ruleOf (sym (both-first (drawingChecks (drawing x)) (loopChecks (loops (drawing x)) (candidates (drawing x)))
+      (drawing-fine x p) (loops-fine x p))))
     where
-      go : (a : Answer) → firstOf (drawingChecks (drawing y) ++ loopChecks (loops (drawing y)) (candidates (drawing y))) ≡ a → ruleOf a ≡
-          none → Passes y
+      go : (a : Answer) → a ≡ firstOf (drawingChecks (drawing y) ++ loopChecks (loops (drawing y)) (candidates (drawing y)))
+          → ruleOf a ≡ none → Passes y
       go Answer.Fine q z =
-          let w = both-fine (drawingChecks (drawing y)) (loopChecks (loops (drawing y)) (candidates (drawing y))) q in
-          fine-both (form y ++ drawingChecks (drawing y)) (loopChecks (loops (drawing y)) (candidates (drawing y)))
-          (fine-both (form y) (drawingChecks (drawing y)) (g .good-too) (w .0)) (w .1)
+          let w = first-both (drawingChecks (drawing y)) (loopChecks (loops (drawing y)) (candidates (drawing y))) q in
+          both-first (form y ++ drawingChecks (drawing y)) (loopChecks (loops (drawing y)) (candidates (drawing y)))
+          (both-first (form y) (drawingChecks (drawing y)) (g .good-too) (w .0)) (w .1)
       go (Answer.Refused r) q z = let t : _≡_ {A = ℕ} 0 1 = cc in absurd (omega arith)
 
   places : Passes x → samePlace (drawing x) ≡ none
@@ -114,14 +107,6 @@ module _ (new : ℕ → ℕ) (x y : Input) (g : Given new x y) where
         in-words (drawing y) (w .solid),
         record { body = w .body; six = refl },
       )
-
-  -- 1 to 16 pass
-  unrefused : (z : Input) → Passes z → (a : ℕ) (f u : List ℕ) → Allowed a f u → Told.Passes (drawing z) (form z) a f u
-  unrefused z p a f u h =
-      let E = entryChecks a f u in
-      fine-both (E ++ form z ++ drawingChecks (drawing z)) (loopChecks (loops (drawing z)) (candidates (drawing z)))
-      (fine-both (E ++ form z) (drawingChecks (drawing z)) (fine-both E (form z) (allowed a f u h) (form-fine z p)) (drawing-fine z p))
-      (loops-fine z p)
 
   report : (z : Input) (u : List ℕ) (r : Converted) → Tells (drawing z) u r → ListsAll z u r
   report z u r t = record {

@@ -1,7 +1,6 @@
 -- The faces of a solid, as they are read from the rows and words of a report. Assumes nothing.
 use mathlib.Core.Path.{_≡_, refl, ap, _∙_}
-use mathlib.Core.Bool.{Bool, true, false}
-use mathlib.Core.Option.{none}
+use mathlib.Core.Bool.{Bool}
 use mathlib.Core.List.{List, [], _∷_, _++_, flatMap}
 use Prim.Native.Nat.{ℕ, zero, suc, _+_, _*_, _≤_, _<_}
 use native.Mathlib.Omega.{arith}
@@ -9,32 +8,25 @@ use borrow.Author.Tests.{ltb-false}
 use lib.Dec.{ltb}
 use lib.ListN.{length, getD, drop}
 use Rattle.sets.specs.Word.{word}
-use Rattle.paper.specs.Refusals.{firstOf, offends}
+use Rattle.paper.specs.Refusals.{firstOf}
 use Rattle.paper.specs.Drawing.{Wire}
 use Rattle.paper.specs.Loops.{Loop, loops, candidates, loopChecks}
 use Rattle.paper.specs.FaceList.{solidFaces}
 use Rattle.paper.specs.Conversion.{facesAfter}
 use Rattle.paper.specs.declared.Answer.the-variants.{Fine}
+use Rattle.paper_laws.proofs.Checks.{found-none, passed}
 use Rattle.faces_laws.proofs.Reported.{solid-faces}
 use Rattle.means_report.specs.Listed.{Entry, entryAt, wordsOf}
 use Rattle.means_check.specs.Sent.{faceList}
 use Rattle.means_loops.proofs.Listing.{candidates-are}
-use Rattle.means_check.proofs.Accepting.{step-none}
 
 -- ---- a solid's faces, from the rows and its two words
 
-few-candidates : (ls cs : List Loop) → firstOf (loopChecks ls cs) ≡ Fine → length cs ≤ 64
+few-candidates : (ls cs : List Loop) → Fine ≡ firstOf (loopChecks ls cs) → length cs ≤ 64
 unfolding loopChecks
-few-candidates ls cs e =
-    ltb-false 64 (length cs)
-    (no-offence (ltb 64 (length cs))
-    (step-none 16 (offends (ltb 64 (length cs)) 0) _ (step-none 15 (offends (ltb 128 (length ls)) 0) _ e .1) .0))
-  where
-    no-offence : (b : Bool) → offends b 0 ≡ none → b ≡ false
-    no-offence true e = let z : _≡_ {A = ℕ} 0 1 = cc in absurd (omega arith)
-    no-offence false e = refl
+few-candidates ls cs e = ltb-false 64 (length cs) (passed 16 0 {b = ltb 64 (length cs)} [] (found-none _ _ e .1) .0)
 
-module _ (d : Wire) (fine : firstOf (loopChecks (loops d) (candidates d)) ≡ Fine) (room : List ℕ) (taken turned : List Bool)
+module _ (d : Wire) (fine : Fine ≡ firstOf (loopChecks (loops d) (candidates d))) (room : List ℕ) (taken turned : List Bool)
     (some : length taken ≡ length (candidates d)) where
   pub faces-reported : solidFaces (facesAfter (candidates d) room) (word taken) (word turned) ≡ faceList d (candidates d) taken turned
   unfolding facesAfter faceList

@@ -29,8 +29,8 @@ sheets2 = record {
   back =
       λ xyz ends h. (
         encode editionOne xyz ends,
-        λ room l. writes editionOne xyz ends (encode editionOne xyz ends) room (sym h) refl l,
-        reads-back-one xyz ends .sheet (sym h),
+        λ room l. writes editionOne xyz ends (encode editionOne xyz ends) room h refl l,
+        reads-back-one xyz ends .sheet h,
       );
   again = λ s u h. (coordinatesIn editionOne s, endsIn editionOne s, whole s u h, λ room l. writes-back-one s (u, sym h) .room room l);
 }

@@ -11,13 +11,13 @@ use Rattle.paper.specs.declared.Answer.{Answer}
 use Rattle.paper.specs.declared.Answer.the-variants.{Fine, Refused}
 use Rattle.paper_laws.proofs.Behind.{orElse}
 use Rattle.means_drawing.specs.Drawings.{Finds}
-use Rattle.means_check.proofs.Accepting.{fine-both}
+use Rattle.paper_laws.proofs.Checks.{both-first}
 use Rattle.demands.specs.Table.{line, end, one, Two}
 use Rattle.paper_laws.proofs.Tests.{Is, is-off}
 
 -- the checks are the lines: their answer, with that of all behind them, says what the lines say
 abbrev pub Says : ((Answer → Type 0) → Answer → Type 0) → List Check → Type 1
-Says lines cs = (below : Answer → Type 0) (a : Answer) → (firstOf cs ≡ Fine → below a) → lines below (orElse (firstOf cs) a)
+Says lines cs = (below : Answer → Type 0) (a : Answer) → (Fine ≡ firstOf cs → below a) → lines below (orElse (firstOf cs) a)
 
 pass : (n k : ℕ) (P : ℕ → Type 0) (below : Answer → Type 0) → Finds P k none → (a : Answer) → below a → line n k P below a
 pass n k P below f Fine b = (f, b)
@@ -66,11 +66,11 @@ or-on [] ds a = refl
 or-on (check n none ∷ cs) ds a = or-on cs ds a
 or-on (check n (some p) ∷ cs) ds a = refl
 
-pub behind : (lines more : (Answer → Type 0) → Answer → Type 0) (cs ds : List Check) → Says lines cs → (firstOf cs ≡ Fine → Says more ds)
+pub behind : (lines more : (Answer → Type 0) → Answer → Type 0) (cs ds : List Check) → Says lines cs → (Fine ≡ firstOf cs → Says more ds)
     → Says (λ below. lines (more below)) (cs ++ ds)
 behind lines more cs ds s u below a h =
     subst (lines (more below)) (sym (or-on cs ds a))
-    (s (more below) (orElse (firstOf ds) a) (λ e. u e below a (λ f. h (fine-both cs ds e f))))
+    (s (more below) (orElse (firstOf ds) a) (λ e. u e below a (λ f. h (both-first cs ds e f))))
 
 -- all lines
 or-fine : (a : Answer) → orElse a Fine ≡ a

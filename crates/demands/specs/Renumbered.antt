@@ -49,8 +49,8 @@ module _ (new : ℕ → ℕ) (x y : Input) where
   -- both pass 3 to 10, so both have their edges in order
   pub record Given : Type 0 where
     pub numbers : Renumbered new (drawing x) (drawing y)
-    pub good : firstOf (form x) ≡ Fine
-    pub good-too : firstOf (form y) ≡ Fine
+    pub good : Fine ≡ firstOf (form x)
+    pub good-too : Fine ≡ firstOf (form y)
 
   pub record SolidsKept : Type 0 where
     -- the same rule refuses both, at a place of its own

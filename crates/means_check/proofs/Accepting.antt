@@ -1,10 +1,11 @@
 -- Demand 3: the check accepts a list exactly when it names one solid with its directions. Assumes nothing.
 use mathlib.Core.Path.{_≡_, refl, sym, ap, subst, _∙_}
-use mathlib.Core.Bool.{Bool, true, false, not}
+use mathlib.Core.Bool.{Bool, not}
 use mathlib.Core.Option.{Option, none, some}
-use mathlib.Core.List.{List, [], _∷_, _++_}
+use mathlib.Core.List.{List, _∷_, _++_}
 use Prim.Native.Nat.{ℕ, _<_}
 use native.Mathlib.Omega.{arith}
+use borrow.Author.Tests.{not-false}
 use lib.ListN.{length, getD}
 use Rattle.paper.specs.Format.{editionOne}
 use Rattle.paper.specs.Refusals.{Check, check, firstOf, offends}
@@ -17,6 +18,7 @@ use Rattle.paper.specs.Verdict.{verdict}
 use Rattle.paper.specs.declared.Answer.{Answer}
 use Rattle.paper.specs.declared.Answer.the-variants.{Fine, Refused}
 use Rattle.paper.specs.declared.Verdict.the-variants.{Accepted}
+use Rattle.paper_laws.proofs.Checks.{clear, found-none, none-found, fails, passed, first-both, both-first}
 use Rattle.means_solid.specs.Solid.{IsSolid}
 use Rattle.means_check.specs.Candidates.{Candidates}
 use Rattle.means_solid.specs.Named.{Names}
@@ -28,33 +30,6 @@ use Rattle.means_check.proofs.Tests.{Lists, edges-two, two-edges, piece
 use Rattle.means_check.proofs.Tests.{six-inward, clashes-apart, apart-clashes, all-proper}
 use Rattle.means_solid.proofs.Alike.{solid-to, row-same}
 use Rattle.means_check.proofs.Numbers.{row-length}
-
--- ---- a list of checks is passed
-
-pub no-checks : firstOf [] ≡ Fine
-unfolding firstOf
-no-checks = refl
-
-pub step-none : (n : ℕ) (o : Option ℕ) (cs : List Check) → firstOf (check n o ∷ cs) ≡ Fine → (o ≡ none) × (firstOf cs ≡ Fine)
-unfolding firstOf
-step-none n none cs e = (refl, e)
-step-none n (some p) cs e = let z : _≡_ {A = ℕ} 0 1 = cc in absurd (omega arith)
-
-pub none-step : (n : ℕ) (o : Option ℕ) (cs : List Check) → o ≡ none → firstOf cs ≡ Fine → firstOf (check n o ∷ cs) ≡ Fine
-unfolding firstOf
-none-step n o cs e f = rw e f
-
-pub both-fine : (cs ds : List Check) → firstOf (cs ++ ds) ≡ Fine → (firstOf cs ≡ Fine) × (firstOf ds ≡ Fine)
-unfolding firstOf
-both-fine [] ds e = (refl, e)
-both-fine (check n none ∷ cs) ds e = both-fine cs ds e
-both-fine (check n (some p) ∷ cs) ds e = let z : _≡_ {A = ℕ} 0 1 = cc in absurd (omega arith)
-
-pub fine-both : (cs ds : List Check) → firstOf cs ≡ Fine → firstOf ds ≡ Fine → firstOf (cs ++ ds) ≡ Fine
-unfolding firstOf
-fine-both [] ds e f = f
-fine-both (check n none ∷ cs) ds e f = fine-both cs ds e f
-fine-both (check n (some p) ∷ cs) ds e f = let z : _≡_ {A = ℕ} 0 1 = cc in absurd (omega arith)
 
 -- ---- 21 to 27
 
@@ -69,28 +44,28 @@ module _ (d : Wire) (cs : List Loop) (fs : List (List ℕ)) where
     pub p26 : inward (tablesOf d cs) (takenOf cs fs) (turnedOf cs fs) ≡ none
     pub p27 : clashes (tablesOf d cs) (numbersOf cs fs) (takenOf cs fs) ≡ none
 
-  pub checks-pass : firstOf (faceChecks (tablesOf d cs) (length cs) (listed cs fs)) ≡ Fine → AllPass
+  pub checks-pass : Fine ≡ firstOf (faceChecks (tablesOf d cs) (length cs) (listed cs fs)) → AllPass
   unfolding faceChecks listed
   checks-pass e =
-      let a = step-none 21 (notCandidate (length cs) (numbersOf cs fs)) _ e in
-      let b = step-none 22 (faceTwice (numbersOf cs fs)) _ (a .1) in
-      let c = step-none 23 (edgeCount (tablesOf d cs) (takenOf cs fs)) _ (b .1) in
-      let f = step-none 24 (direction (tablesOf d cs) (takenOf cs fs) (turnedOf cs fs)) _ (c .1) in
-      let g = step-none 25 (pieces (tablesOf d cs) (numbersOf cs fs) (takenOf cs fs)) _ (f .1) in
-      let h = step-none 26 (inward (tablesOf d cs) (takenOf cs fs) (turnedOf cs fs)) _ (g .1) in
-      let i = step-none 27 (clashes (tablesOf d cs) (numbersOf cs fs) (takenOf cs fs)) _ (h .1) in
+      let a = found-none _ _ e in
+      let b = found-none _ _ (a .1) in
+      let c = found-none _ _ (b .1) in
+      let f = found-none _ _ (c .1) in
+      let g = found-none _ _ (f .1) in
+      let h = found-none _ _ (g .1) in
+      let i = found-none _ _ (h .1) in
       record { p21 = a .0; p22 = b .0; p23 = c .0; p24 = f .0; p25 = g .0; p26 = h .0; p27 = i .0 }
 
-  pub pass-checks : AllPass → firstOf (faceChecks (tablesOf d cs) (length cs) (listed cs fs)) ≡ Fine
+  pub pass-checks : AllPass → Fine ≡ firstOf (faceChecks (tablesOf d cs) (length cs) (listed cs fs))
   unfolding faceChecks listed
   pass-checks p =
-      none-step 21 (notCandidate (length cs) (numbersOf cs fs)) _ (p .p21)
-      (none-step 22 (faceTwice (numbersOf cs fs)) _ (p .p22)
-      (none-step 23 (edgeCount (tablesOf d cs) (takenOf cs fs)) _ (p .p23)
-      (none-step 24 (direction (tablesOf d cs) (takenOf cs fs) (turnedOf cs fs)) _ (p .p24)
-      (none-step 25 (pieces (tablesOf d cs) (numbersOf cs fs) (takenOf cs fs)) _ (p .p25)
-      (none-step 26 (inward (tablesOf d cs) (takenOf cs fs) (turnedOf cs fs)) _ (p .p26)
-      (none-step 27 (clashes (tablesOf d cs) (numbersOf cs fs) (takenOf cs fs)) [] (p .p27) no-checks))))))
+      none-found _ _ (p .p21)
+      (none-found _ _ (p .p22)
+      (none-found _ _ (p .p23)
+      (none-found _ _ (p .p24)
+      (none-found _ _ (p .p25)
+      (none-found _ _ (p .p26)
+      (none-found _ _ (p .p27) clear))))))
 
   -- the numbers are the selection's
   lists : Numbered cs fs → Lists d cs (takenOf cs fs) (turnedOf cs fs) (numbersOf cs fs)
@@ -154,21 +129,17 @@ module _ (d : Wire) (cs : List Loop) (fs : List (List ℕ)) where
         (rows-solid (w .taken) (w .turned) (w .solid) (w .names))
 
     -- a list passes 21 to 27 exactly when it names one solid with its directions
-    pub accepted-names : firstOf (faceChecks (tablesOf d cs) (length cs) (listed cs fs)) ≡ Fine → NamesSolid d cs fs
+    pub accepted-names : Fine ≡ firstOf (faceChecks (tablesOf d cs) (length cs) (listed cs fs)) → NamesSolid d cs fs
     accepted-names e = pass-solid (checks-pass e)
 
-    pub names-accepted : NamesSolid d cs fs → firstOf (faceChecks (tablesOf d cs) (length cs) (listed cs fs)) ≡ Fine
+    pub names-accepted : NamesSolid d cs fs → Fine ≡ firstOf (faceChecks (tablesOf d cs) (length cs) (listed cs fs))
     names-accepted w = pass-checks (solid-pass w)
 
 -- ---- the whole check
 
-fine-verdict : (a : Answer) → verdictFor a ≡ Accepted → a ≡ Fine
+fine-verdict : (a : Answer) → verdictFor a ≡ Accepted → Fine ≡ a
 fine-verdict Fine e = refl
 fine-verdict (Refused r) e = let z : _≡_ {A = ℕ} 0 1 = cc in absurd (omega arith)
-
-shape-fine : (b : Bool) → offends (not b) 0 ≡ none → b ≡ true
-shape-fine true e = refl
-shape-fine false e = let z : _≡_ {A = ℕ} 0 1 = cc in absurd (omega arith)
 
 module _ (form : List Check) (d : Wire) (list : List ℕ) where
   abbrev faceLast : List Check
@@ -177,47 +148,46 @@ module _ (form : List Check) (d : Wire) (list : List ℕ) where
   abbrev shapeOf : Option ℕ
   shapeOf = offends (not (wellShaped editionOne (length (d .vertices)) list)) 0
 
-  verdict-is : verdict form d list ≡ verdictFor
-      (firstOf (form ++ drawingChecks d ++ loopChecks (loops d) (candidates d) ++ (check 20 shapeOf ∷ faceLast)))
+  verdict-is : verdictFor (firstOf (form ++ drawingChecks d ++ loopChecks (loops d) (candidates d) ++ (check 20 shapeOf ∷ faceLast)))
+      ≡ verdict form d list
   unfolding verdict candidates
   verdict-is = refl
 
   verdict-fine : verdict form d list ≡ Accepted
-      → firstOf (form ++ drawingChecks d ++ loopChecks (loops d) (candidates d) ++ (check 20 shapeOf ∷ faceLast)) ≡ Fine
+      → Fine ≡ firstOf (form ++ drawingChecks d ++ loopChecks (loops d) (candidates d) ++ (check 20 shapeOf ∷ faceLast))
   verdict-fine e =
       fine-verdict (firstOf (form ++ drawingChecks d ++ loopChecks (loops d) (candidates d) ++ (check 20 shapeOf ∷ faceLast)))
-      (sym verdict-is ∙ e)
+      (verdict-is ∙ e)
 
   -- the drawing of an accepted list passes its rules
-  pub fine-passes : verdict form d list ≡ Accepted → firstOf (drawingChecks d) ≡ Fine
+  pub fine-passes : verdict form d list ≡ Accepted → Fine ≡ firstOf (drawingChecks d)
   fine-passes e =
-      let p = both-fine (form ++ drawingChecks d ++ loopChecks (loops d) (candidates d)) (check 20 shapeOf ∷ faceLast) (verdict-fine e) in
-      let q = both-fine (form ++ drawingChecks d) (loopChecks (loops d) (candidates d)) (p .0) in
-      both-fine form (drawingChecks d) (q .0) .1
+      let p = first-both (form ++ drawingChecks d ++ loopChecks (loops d) (candidates d)) (check 20 shapeOf ∷ faceLast) (verdict-fine e) in
+      let q = first-both (form ++ drawingChecks d) (loopChecks (loops d) (candidates d)) (p .0) in
+      first-both form (drawingChecks d) (q .0) .1
 
 module _ (form : List Check) (d : Wire) (c : Candidates d (candidates d)) (list : List ℕ) where
   -- a list is accepted exactly when the drawing passes its rules, the list its own, and its faces name one solid of the drawing
   pub verdict-accepts : verdict form d list ≡ Accepted → Accepts form d list
   verdict-accepts e =
-      let p = both-fine (form ++ drawingChecks d ++ loopChecks (loops d) (candidates d))
+      let p = first-both (form ++ drawingChecks d ++ loopChecks (loops d) (candidates d))
       (check 20 (shapeOf form d list) ∷ faceLast form d list) (verdict-fine form d list e) in
-      let q = both-fine (form ++ drawingChecks d) (loopChecks (loops d) (candidates d)) (p .0) in
-      let r = both-fine form (drawingChecks d) (q .0) in
-      let s = step-none 20 (shapeOf form d list) (faceLast form d list) (p .1) in
+      let q = first-both (form ++ drawingChecks d) (loopChecks (loops d) (candidates d)) (p .0) in
+      let r = first-both form (drawingChecks d) (q .0) in
+      let s = passed 20 0 (faceLast form d list) (p .1) in
       record {
         form-passes = r .0;
         drawing-passes = r .1;
         few = q .1;
-        shape = shape-fine (wellShaped editionOne (length (d .vertices)) list) (s .0);
+        shape = not-false (wellShaped editionOne (length (d .vertices)) list) (s .0);
         named = accepted-names d (candidates d) (facesIn editionOne list) c (s .1);
       }
 
   pub accepts-verdict : Accepts form d list → verdict form d list ≡ Accepted
   accepts-verdict a =
-      verdict-is form d list
-      ∙ ap verdictFor
-      (fine-both (form ++ drawingChecks d ++ loopChecks (loops d) (candidates d)) (check 20 (shapeOf form d list) ∷ faceLast form d list)
-      (fine-both (form ++ drawingChecks d) (loopChecks (loops d) (candidates d))
-      (fine-both form (drawingChecks d) (a .form-passes) (a .drawing-passes)) (a .few))
-      (none-step 20 (shapeOf form d list) (faceLast form d list) (ap (λ (b : Bool). offends (not b) 0) (a .shape))
-      (names-accepted d (candidates d) (facesIn editionOne list) c (a .named))))
+      sym (ap verdictFor
+      (both-first (form ++ drawingChecks d ++ loopChecks (loops d) (candidates d)) (check 20 (shapeOf form d list) ∷ faceLast form d list)
+      (both-first (form ++ drawingChecks d) (loopChecks (loops d) (candidates d))
+      (both-first form (drawingChecks d) (a .form-passes) (a .drawing-passes)) (a .few))
+      (names-accepted d (candidates d) (facesIn editionOne list) c (a .named) ∙ fails 20 0 (faceLast form d list) (ap not (a .shape))))
+      ∙ verdict-is form d list)

@@ -35,7 +35,7 @@ use Rattle.means_check.proofs.Picked.{inside, kept-once}
 module _ (d : Wire) (cs : List Loop) (c : Candidates d cs) where
   -- the list passes 21 to 27
   abbrev pub Fair : List Loop → Type 0
-  Fair fs = firstOf (faceChecks (tablesOf d cs) (length cs) (listed cs fs)) ≡ Fine
+  Fair fs = Fine ≡ firstOf (faceChecks (tablesOf d cs) (length cs) (listed cs fs))
 
   -- ---- each solid is accepted
 

@@ -2,20 +2,21 @@
 use mathlib.Core.Path.{_≡_, sym, subst, _∙_}
 use mathlib.Core.Bool.{Bool, true}
 use mathlib.Core.Option.{none, some}
-use mathlib.Core.List.{List, [], _∷_}
+use mathlib.Core.List.{List}
 use Prim.Native.Nat.{ℕ, _≤_, _<_}
 use native.Mathlib.Decide.{ℕ-discrete}
 use lib.ListN.{length}
 use Rattle.sets.specs.Word.{dig}
 use Rattle.paper.specs.Format.{editionOne}
-use Rattle.paper.specs.Refusals.{Check, check, firstOf}
-use Rattle.paper.specs.Drawing.{Wire, samePlace, looseVertex, edgeMeets, apart, drawingChecks}
+use Rattle.paper.specs.Refusals.{Check, firstOf}
+use Rattle.paper.specs.Drawing.{Wire, samePlace, drawingChecks}
 use Rattle.paper.specs.Loops.{Loop, loopAt, flipped, loops, candidates, loopChecks}
 use Rattle.paper.specs.Solids.{tablesOf}
 use Rattle.paper.specs.FaceList.{encodeFaces, facesIn, wellShaped}
 use Rattle.paper.specs.Verdict.{listed, faceChecks, verdict}
 use Rattle.paper.specs.declared.Answer.the-variants.{Fine}
 use Rattle.paper.specs.declared.Verdict.the-variants.{Accepted}
+use Rattle.paper_laws.proofs.Checks.{found-none}
 use Rattle.means_solid.specs.Solid.{IsSolid}
 use Rattle.means_check.specs.Candidates.{Candidates}
 use Rattle.means_solid.specs.Named.{SameRing, Names}
@@ -28,17 +29,17 @@ use Rattle.means_check.proofs.Few.{solid-sent}
 use Rattle.means_masks.proofs.Tables.{flat-even}
 use Rattle.means_loops.proofs.Listing.{loop-normal, candidates-are, candidates-once}
 use Rattle.means_loops.proofs.OwnPlane.{candidates-flat}
-use Rattle.means_check.proofs.Accepting.{step-none, fine-passes, verdict-accepts, accepts-verdict, names-accepted}
+use Rattle.means_check.proofs.Accepting.{fine-passes, verdict-accepts, accepts-verdict, names-accepted}
 use Rattle.means_check.proofs.Bodies.{one-body, part-body, turned-refused, missing-refused, doubled-refused, names-again}
 use Rattle.means_check.proofs.Bodies.{same-named}
 use Rattle.means_check.proofs.Bodies.{faceList-names}
 
 -- a drawing that passes 11 has no two vertices at one point, and candidates that fit
-pub drawing-places : (d : Wire) → firstOf (drawingChecks d) ≡ Fine → samePlace d ≡ none
+pub drawing-places : (d : Wire) → Fine ≡ firstOf (drawingChecks d) → samePlace d ≡ none
 unfolding drawingChecks
-drawing-places d e = step-none 11 (samePlace d) (check 12 (looseVertex d) ∷ check 13 (edgeMeets d) ∷ check 14 (apart d) ∷ []) e .0
+drawing-places d e = found-none _ _ e .0
 
-pub drawing-fits : (d : Wire) → firstOf (drawingChecks d) ≡ Fine → Candidates d (candidates d)
+pub drawing-fits : (d : Wire) → Fine ≡ firstOf (drawingChecks d) → Candidates d (candidates d)
 drawing-fits d e = record {
   normal = λ k h. loop-normal d (loopAt (candidates d) k) (candidates-are d k h .loop);
   differ = candidates-once d;
@@ -62,8 +63,7 @@ module _ (form : List Check) (d : Wire) where
     told : Accepts form d list
     told = accepts-exactly list .0 a
 
-    fair : firstOf (faceChecks (tablesOf d (candidates d)) (length (candidates d)) (listed (candidates d) (facesIn editionOne list)))
-        ≡ Fine
+    fair : Fine ≡ firstOf (faceChecks (tablesOf d (candidates d)) (length (candidates d)) (listed (candidates d) (facesIn editionOne list)))
     fair = names-accepted d (candidates d) (facesIn editionOne list) fits (told .named)
 
     -- an accepted list, in another order of faces and from other starts, and of a good shape, is accepted
@@ -94,8 +94,8 @@ module _ (form : List Check) (d : Wire) where
     not-doubled i j hi hj n s = doubled-refused d (candidates d) fits (facesIn editionOne list) i j hi hj n s fair
 
     module _ (other : List ℕ) (b : verdict form d other ≡ Accepted) where
-      fair-other : firstOf
-          (faceChecks (tablesOf d (candidates d)) (length (candidates d)) (listed (candidates d) (facesIn editionOne other))) ≡ Fine
+      fair-other : Fine ≡ firstOf
+          (faceChecks (tablesOf d (candidates d)) (length (candidates d)) (listed (candidates d) (facesIn editionOne other)))
       fair-other = names-accepted d (candidates d) (facesIn editionOne other) fits (accepts-exactly other .0 b .named)
 
       -- "with n = 1 any two accepted lists are the same body"
@@ -121,7 +121,7 @@ module _ (form : List Check) (d : Wire) where
           missing-refused d (candidates d) fits (facesIn editionOne list) (facesIn editionOne other) fair m j hj n fair-other
 
   -- "where the report lists n solids, each of the n is accepted": any list of a good shape that names it
-  pub each-accepted : firstOf form ≡ Fine → firstOf (drawingChecks d) ≡ Fine → firstOf (loopChecks (loops d) (candidates d)) ≡ Fine
+  pub each-accepted : Fine ≡ firstOf form → Fine ≡ firstOf (drawingChecks d) → Fine ≡ firstOf (loopChecks (loops d) (candidates d))
       → (taken turned : List Bool) (six : ℕ) → IsSolid d (candidates d) taken turned six
       → (list : List ℕ) → wellShaped editionOne (length (d .vertices)) list ≡ true
       → Names d (candidates d) taken turned (facesIn editionOne list) → verdict form d list ≡ Accepted
@@ -134,7 +134,7 @@ module _ (form : List Check) (d : Wire) where
   })
 
   -- each has such a list: its own faces in candidate order, packed
-  pub each-sent : firstOf form ≡ Fine → firstOf (drawingChecks d) ≡ Fine → firstOf (loopChecks (loops d) (candidates d)) ≡ Fine
+  pub each-sent : Fine ≡ firstOf form → Fine ≡ firstOf (drawingChecks d) → Fine ≡ firstOf (loopChecks (loops d) (candidates d))
       → length (d .vertices) ≤ editionOne .«most_vertices» → length (d .edges) ≤ editionOne .«most_edges»
       → (taken turned : List Bool) (six : ℕ) → IsSolid d (candidates d) taken turned six
       → verdict form d (encodeFaces editionOne (faceList d (candidates d) taken turned)) ≡ Accepted
@@ -145,7 +145,7 @@ module _ (form : List Check) (d : Wire) where
       (subst (Names d (candidates d) taken turned) (sym (b .faces)) (faceList-names d (candidates d) (drawing-fits d r) taken turned s))
 
   -- "names one solid": a list names no two
-  pub one-named : firstOf (drawingChecks d) ≡ Fine → (fs : List Loop) (w v : NamesSolid d (candidates d) fs)
+  pub one-named : Fine ≡ firstOf (drawingChecks d) → (fs : List Loop) (w v : NamesSolid d (candidates d) fs)
       → ((k : ℕ) → dig (w .taken) k ≡ dig (v .taken) k) × ((k : ℕ) → dig (w .turned) k ≡ dig (v .turned) k)
   one-named r fs w v =
       let c = drawing-fits d r in (
@@ -184,7 +184,7 @@ module _ (form : List Check) (d : Wire) where
       pick i j f s (yes e) = e
       pick i j f s (no n) = absurd (f n s)
 
-  pub body-accepted : firstOf form ≡ Fine → firstOf (drawingChecks d) ≡ Fine → firstOf (loopChecks (loops d) (candidates d)) ≡ Fine
+  pub body-accepted : Fine ≡ firstOf form → Fine ≡ firstOf (drawingChecks d) → Fine ≡ firstOf (loopChecks (loops d) (candidates d))
       → (list : List ℕ) → wellShaped editionOne (length (d .vertices)) list ≡ true → BodyOfSolid list → verdict form d list ≡ Accepted
   body-accepted f r l list h b =
       let c = drawing-fits d r in

@@ -1,7 +1,6 @@
 -- Demand 3 of a drawing that is lent as two lists, and of one on a sheet. Assumes nothing.
-use mathlib.Core.Path.{_≡_, refl, _∙_}
-use mathlib.Core.Bool.{Bool, true, false, not}
-use mathlib.Core.Option.{none}
+use mathlib.Core.Path.{_≡_, _∙_}
+use mathlib.Core.Bool.{Bool, not}
 use mathlib.Core.List.{List, _++_}
 use Prim.Native.Nat.{ℕ, _+_, _*_, _/_, _%_, _≤_}
 use native.Mathlib.Omega.{arith}
@@ -14,20 +13,20 @@ use Rattle.pack.proofs.Laws.{length-fields}
 use Rattle.paper.specs.Format.{editionOne, leastVertices, leastEdges, outside, verticesIn, edgesIn, coordinatesIn, endsIn, coordinate}
 use Rattle.paper.specs.Format.{head}
 use Rattle.paper.specs.Format.{coordinateBits}
-use Rattle.paper.specs.Refusals.{firstOf, offends}
-use Rattle.paper.specs.Sheet.{badCount, contentChecks, countChecks, openChecks, closeChecks, shapeChecks, sheetChecks, lentChecks}
+use Rattle.paper.specs.Refusals.{firstOf}
+use Rattle.paper.specs.Sheet.{contentChecks, countChecks, openChecks, closeChecks, shapeChecks, sheetChecks, lentChecks}
 use Rattle.paper.specs.Drawing.{Wire, wire, drawingChecks}
 use Rattle.paper.specs.Loops.{loops, candidates, loopChecks}
 use Rattle.paper.specs.FaceList.{encodeFaces}
 use Rattle.paper.specs.Verdict.{verdictLists, verdictSheet}
 use Rattle.paper.specs.declared.Answer.the-variants.{Fine}
 use Rattle.paper.specs.declared.Verdict.the-variants.{Accepted}
+use Rattle.paper_laws.proofs.Checks.{passed, first-both}
 use Rattle.paper_laws.proofs.Limits.{outside-false}
 use Rattle.paper_laws.proofs.Wires.{length-points, length-edges}
 use Rattle.means_solid.specs.Solid.{IsSolid}
 use Rattle.means_check.specs.Accepts.{Accepts}
 use Rattle.means_check.specs.Sent.{faceList}
-use Rattle.means_check.proofs.Accepting.{step-none, both-fine}
 use Rattle.means_check.proofs.Demand.{accepts-exactly, each-sent}
 
 -- ---- the counts of a drawing whose form passes
@@ -35,42 +34,35 @@ use Rattle.means_check.proofs.Demand.{accepts-exactly, each-sent}
 abbrev pub InCounts : Wire → Type 0
 InCounts d = (length (d .vertices) ≤ 32) × (length (d .edges) ≤ 64)
 
-no-offence : (b : Bool) (p : ℕ) → offends b p ≡ none → b ≡ false
-no-offence true p e = let z : _≡_ {A = ℕ} 0 1 = cc in absurd (omega arith)
-no-offence false p e = refl
-
-pub lent-small : (xyz : List ℤ) (ends : List ℕ) → firstOf (lentChecks editionOne xyz ends) ≡ Fine → InCounts (wire xyz ends)
+pub lent-small : (xyz : List ℤ) (ends : List ℕ) → Fine ≡ firstOf (lentChecks editionOne xyz ends) → InCounts (wire xyz ends)
 unfolding lentChecks wire
 lent-small xyz ends e =
-    let a = step-none 5 (offends (badCount 3 leastVertices 32 (length xyz)) 0) _ e in
-    let b = step-none 5 (offends (badCount 2 leastEdges 64 (length ends)) 1) _ (a .1) in
-    let p = or-none (not (eqb (length xyz % 3) 0)) (outside leastVertices 32 (length xyz / 3))
-    (no-offence (badCount 3 leastVertices 32 (length xyz)) 0 (a .0)) in
-    let q = or-none (not (eqb (length ends % 2) 0)) (outside leastEdges 64 (length ends / 2))
-    (no-offence (badCount 2 leastEdges 64 (length ends)) 1 (b .0)) in (
+    let a = passed _ _ _ e in
+    let b = passed _ _ _ (a .1) in
+    let p = or-none (not (eqb (length xyz % 3) 0)) (outside leastVertices 32 (length xyz / 3)) (a .0) in
+    let q = or-none (not (eqb (length ends % 2) 0)) (outside leastEdges 64 (length ends / 2)) (b .0) in (
       omega (arith, length-points xyz, outside-false leastVertices 32 (length xyz / 3) (p .1) .1),
       omega
           (arith, length-edges ends, outside-false leastEdges 64 (length ends / 2) (q .1) .1),
     )
 
-pub sheet-small : (s : List ℕ) → firstOf (sheetChecks editionOne s) ≡ Fine
+pub sheet-small : (s : List ℕ) → Fine ≡ firstOf (sheetChecks editionOne s)
     → InCounts (wire (coordinatesIn editionOne s) (endsIn editionOne s))
 unfolding sheetChecks shapeChecks countChecks wire
 sheet-small s e =
     let v = verticesIn editionOne s in
     let n = edgesIn editionOne s in
-    let p = both-fine
+    let p = first-both
     (openChecks editionOne s ++ countChecks editionOne (verticesIn editionOne s) (edgesIn editionOne s) ++ closeChecks editionOne s
     (verticesIn editionOne s) (edgesIn editionOne s))
     (contentChecks (verticesIn editionOne s) (coordinatesIn editionOne s) (endsIn editionOne s)) e in
-    let q = both-fine (openChecks editionOne s ++ countChecks editionOne (verticesIn editionOne s) (edgesIn editionOne s))
+    let q = first-both (openChecks editionOne s ++ countChecks editionOne (verticesIn editionOne s) (edgesIn editionOne s))
     (closeChecks editionOne s (verticesIn editionOne s) (edgesIn editionOne s)) (p .0) in
-    let r = both-fine (openChecks editionOne s) (countChecks editionOne (verticesIn editionOne s) (edgesIn editionOne s)) (q .0) in
-    let a = step-none 5 (offends (outside leastVertices 32 (verticesIn editionOne s)) 0) _ (r .1) in
-    let b = step-none 5 (offends (outside leastEdges 64 (edgesIn editionOne s)) 1) _ (a .1) in
-    let va = outside-false leastVertices 32 (verticesIn editionOne s)
-    (no-offence (outside leastVertices 32 (verticesIn editionOne s)) 0 (a .0)) .1 in
-    let eb = outside-false leastEdges 64 (edgesIn editionOne s) (no-offence (outside leastEdges 64 (edgesIn editionOne s)) 1 (b .0)) .1 in
+    let r = first-both (openChecks editionOne s) (countChecks editionOne (verticesIn editionOne s) (edgesIn editionOne s)) (q .0) in
+    let a = passed _ _ _ (r .1) in
+    let b = passed _ _ _ (a .1) in
+    let va = outside-false leastVertices 32 (verticesIn editionOne s) (a .0) .1 in
+    let eb = outside-false leastEdges 64 (edgesIn editionOne s) (b .0) .1 in
     (omega (arith, length-points (coordinatesIn editionOne s), lengths), omega (arith, length-edges (endsIn editionOne s), ends-long))
   where
     lengths : length (coordinatesIn editionOne s) ≡ 3 * verticesIn editionOne s
@@ -90,8 +82,8 @@ module _ (xyz : List ℤ) (ends : List ℕ) where
   unfolding verdictLists
   lists-exactly list = accepts-exactly (lentChecks editionOne xyz ends) (wire xyz ends) list
 
-  pub lists-each : firstOf (lentChecks editionOne xyz ends) ≡ Fine → firstOf (drawingChecks (wire xyz ends)) ≡ Fine
-      → firstOf (loopChecks (loops (wire xyz ends)) (candidates (wire xyz ends))) ≡ Fine
+  pub lists-each : Fine ≡ firstOf (lentChecks editionOne xyz ends) → Fine ≡ firstOf (drawingChecks (wire xyz ends))
+      → Fine ≡ firstOf (loopChecks (loops (wire xyz ends)) (candidates (wire xyz ends)))
       → (taken turned : List Bool) (six : ℕ) → IsSolid (wire xyz ends) (candidates (wire xyz ends)) taken turned six
       → verdictLists xyz ends (encodeFaces editionOne (faceList (wire xyz ends) (candidates (wire xyz ends)) taken turned)) ≡ Accepted
   unfolding verdictLists
@@ -108,11 +100,11 @@ module _ (s : List ℕ) where
   unfolding verdictSheet
   sheet-exactly list = accepts-exactly (sheetChecks editionOne s) (wire (coordinatesIn editionOne s) (endsIn editionOne s)) list
 
-  pub sheet-each : firstOf (sheetChecks editionOne s) ≡ Fine
-      → firstOf (drawingChecks (wire (coordinatesIn editionOne s) (endsIn editionOne s))) ≡ Fine
-      → firstOf
+  pub sheet-each : Fine ≡ firstOf (sheetChecks editionOne s)
+      → Fine ≡ firstOf (drawingChecks (wire (coordinatesIn editionOne s) (endsIn editionOne s)))
+      → Fine ≡ firstOf
       (loopChecks (loops (wire (coordinatesIn editionOne s) (endsIn editionOne s)))
-      (candidates (wire (coordinatesIn editionOne s) (endsIn editionOne s)))) ≡ Fine
+      (candidates (wire (coordinatesIn editionOne s) (endsIn editionOne s))))
       → (taken turned : List Bool) (six : ℕ)
       → IsSolid (wire (coordinatesIn editionOne s) (endsIn editionOne s))
       (candidates (wire (coordinatesIn editionOne s) (endsIn editionOne s))) taken turned six

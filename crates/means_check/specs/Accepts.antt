@@ -23,8 +23,8 @@ pub record NamesSolid (d : Wire) (cs : List Loop) (fs : List (List ℕ)) : Type 
 
 -- the drawing passes its rules, 3 to 16, and the list its own, 20, and its faces name a solid
 pub record Accepts (form : List Check) (d : Wire) (list : List ℕ) : Type 0 where
-  pub form-passes : firstOf form ≡ Fine
-  pub drawing-passes : firstOf (drawingChecks d) ≡ Fine
-  pub few : firstOf (loopChecks (loops d) (candidates d)) ≡ Fine
+  pub form-passes : Fine ≡ firstOf form
+  pub drawing-passes : Fine ≡ firstOf (drawingChecks d)
+  pub few : Fine ≡ firstOf (loopChecks (loops d) (candidates d))
   pub shape : wellShaped editionOne (length (d .vertices)) list ≡ true
   pub named : NamesSolid d (candidates d) (facesIn editionOne list)

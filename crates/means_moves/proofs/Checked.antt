@@ -39,7 +39,7 @@ use Rattle.means_moves.proofs.Passed.{bare-same, masks, ups, clashes, s
 use Rattle.means_moves.proofs.TurnedRound.{numbers-round, turned-round, faces-round, faces-kept, above-back}
 
 module _ (m : Move) (d e : Wire) (points : e .vertices ≡ map (m .to) (d .vertices)) (edges : e .edges ≡ d .edges) (form form′ : List Check)
-    (forms : firstOf form′ ≡ firstOf form) (ok : firstOf form ≡ Answer.Fine → EndsBelow d) (list list′ : List ℕ) where
+    (forms : firstOf form′ ≡ firstOf form) (ok : Answer.Fine ≡ firstOf form → EndsBelow d) (list list′ : List ℕ) where
   abbrev alike : Alike d e
   alike = moved-alike m d e points edges
 
@@ -61,7 +61,7 @@ module _ (m : Move) (d e : Wire) (points : e .vertices ≡ map (m .to) (d .verti
       (first-append f (drawingChecks x)))
 
   -- it is enough that 20 to 27 say the same where 3 to 14 pass
-  by-last : (EndsBelow d → firstOf (drawingChecks d) ≡ Answer.Fine
+  by-last : (EndsBelow d → Answer.Fine ≡ firstOf (drawingChecks d)
       → firstOf (last e (length (d .vertices)) cs list′) ≡ firstOf (last d (length (d .vertices)) cs list))
       → verdict form′ e list′ ≡ verdict form d list
   unfolding verdict
@@ -100,7 +100,7 @@ module _ (m : Move) (d e : Wire) (points : e .vertices ≡ map (m .to) (d .verti
       T′ : Answer
       T′ = firstOf (last e (length (e .vertices)) (uncovering e (loops e)) list′)
 
-      bare : orElse F D ≡ Answer.Fine → uncovering e (loops e) ≡ cs
+      bare : Answer.Fine ≡ orElse F D → uncovering e (loops e) ≡ cs
       bare q = bare-same m d e points edges (ok (first-fine F D q)) (second-fine F D q)
 
   -- behind 20
@@ -115,7 +115,7 @@ module _ (m : Move) (d e : Wire) (points : e .vertices ≡ map (m .to) (d .verti
       ∙ sym (first-append (check No.ShellShape (offends (not (wellShaped editionOne (length (d .vertices)) list)) 0) ∷ [])
       (faceChecks (tablesOf d cs) (length cs) (listed cs (facesIn editionOne list))))
 
-  module _ (ends : EndsBelow d) (pass : firstOf (drawingChecks d) ≡ Answer.Fine) where
+  module _ (ends : EndsBelow d) (pass : Answer.Fine ≡ firstOf (drawingChecks d)) where
     -- where 24 passes, each edge is run once each way
     six-by : (taken turned : List Bool) → direction (tablesOf d cs) taken turned ≡ none
         → sixFrom 0 (tablesOf e cs .sixes) taken turned ≡ m .sides-by *ℤ sixFrom 0 (tablesOf d cs .sixes) taken turned
@@ -159,7 +159,7 @@ module _ (m : Move) (d e : Wire) (points : e .vertices ≡ map (m .to) (d .verti
       back (pos n) z y t p = absurd (true≢false (sym t))
       back (negsuc n) z y t p = ap (λ (x : ℤ). above (negℤ x)) p ∙ above-back n z
 
-      faces : EndsBelow d → firstOf (drawingChecks d) ≡ Answer.Fine
+      faces : EndsBelow d → Answer.Fine ≡ firstOf (drawingChecks d)
           → firstOf (faceChecks (tablesOf e cs) (length cs) (listed cs gs)) ≡ firstOf
           (faceChecks (tablesOf d cs) (length cs) (listed cs fs))
       faces ends pass =

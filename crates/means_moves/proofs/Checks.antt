@@ -8,8 +8,8 @@ use Rattle.paper.specs.Loops.{loops, uncovering, loopChecks}
 use Rattle.paper.specs.Conversion.{entryChecks}
 use Rattle.paper.specs.declared.Answer.{Answer}
 use Rattle.paper.specs.declared.Answer.the-variants as Answer
-use Rattle.means_check.proofs.Accepting.{both-fine}
 use Rattle.paper_laws.proofs.Behind.{orElse, first-append}
+use Rattle.paper_laws.proofs.Checks.{first-both}
 
 module _ (limit : ℕ) (faces solids : List ℕ) where
   -- 1 to 16
@@ -27,13 +27,13 @@ module _ (limit : ℕ) (faces solids : List ℕ) where
       ∙ ap (λ (a : Answer). orElse a (firstOf (drawingChecks d))) (first-append (entryChecks limit faces solids) form))
 
   -- what passes them all
-  pub fine-form : (form : List Check) (d : Wire) → firstOf (checksOf form d) ≡ Answer.Fine → firstOf form ≡ Answer.Fine
+  pub fine-form : (form : List Check) (d : Wire) → Answer.Fine ≡ firstOf (checksOf form d) → Answer.Fine ≡ firstOf form
   fine-form form d p =
-      both-fine (entryChecks limit faces solids) form
-      (both-fine (entryChecks limit faces solids ++ form) (drawingChecks d)
-      (both-fine (entryChecks limit faces solids ++ form ++ drawingChecks d) (loopChecks (loops d) (uncovering d (loops d))) p .0) .0) .1
+      first-both (entryChecks limit faces solids) form
+      (first-both (entryChecks limit faces solids ++ form) (drawingChecks d)
+      (first-both (entryChecks limit faces solids ++ form ++ drawingChecks d) (loopChecks (loops d) (uncovering d (loops d))) p .0) .0) .1
 
-  pub fine-drawing : (form : List Check) (d : Wire) → firstOf (checksOf form d) ≡ Answer.Fine → firstOf (drawingChecks d) ≡ Answer.Fine
+  pub fine-drawing : (form : List Check) (d : Wire) → Answer.Fine ≡ firstOf (checksOf form d) → Answer.Fine ≡ firstOf (drawingChecks d)
   fine-drawing form d p =
-      both-fine (entryChecks limit faces solids ++ form) (drawingChecks d)
-      (both-fine (entryChecks limit faces solids ++ form ++ drawingChecks d) (loopChecks (loops d) (uncovering d (loops d))) p .0) .1
+      first-both (entryChecks limit faces solids ++ form) (drawingChecks d)
+      (first-both (entryChecks limit faces solids ++ form ++ drawingChecks d) (loopChecks (loops d) (uncovering d (loops d))) p .0) .1

@@ -143,7 +143,7 @@ module _ (turns : Bool) (by : ℕ) where
     concluded-other l cs log faces solids g (inr (inr e)) =
         rw e (record { answers = refl; rows = refl; es = []; count = refl; words = none-for solids; moved = none-for solids })
 
-  convert-other : (a : Answer) (faces solids : List ℕ) (x y : Converted) → (a ≡ Answer.Fine → Follows turns by solids x y)
+  convert-other : (a : Answer) (faces solids : List ℕ) (x y : Converted) → (Answer.Fine ≡ a → Follows turns by solids x y)
       → Follows turns by solids (orConvert a faces solids x) (orConvert a faces solids y)
   convert-other Answer.Fine faces solids x y h = h refl
   convert-other (Answer.Refused r) faces solids x y h =
@@ -153,7 +153,7 @@ module _ (turns : Bool) (by : ℕ) where
 
 module _ (m : Move) (d e : Wire) (points : e .vertices ≡ map (m .to) (d .vertices)) (edges : e .edges ≡ d .edges) (cap limit : ℕ)
     (faces solids : List ℕ) (form form′ : List Check) (forms : firstOf form′ ≡ firstOf form)
-    (ok : firstOf form ≡ Answer.Fine → EndsBelow d) where
+    (ok : Answer.Fine ≡ firstOf form → EndsBelow d) where
   abbrev alike : Alike d e
   alike = moved-alike m d e points edges
 
@@ -192,7 +192,7 @@ module _ (m : Move) (d e : Wire) (points : e .vertices ≡ map (m .to) (d .verti
       concluded (length (loops x)) ks (tablesOf x ks) (search cap (accepted (tablesOf x ks)) limit (length ks) (tablesOf x ks .masks))
       faces solids
 
-  module _ (ends-ok : EndsBelow d) (pass : firstOf (drawingChecks d) ≡ Answer.Fine) where
+  module _ (ends-ok : EndsBelow d) (pass : Answer.Fine ≡ firstOf (drawingChecks d)) where
     abbrev log : Log
     log = search cap (accepted (tablesOf d cs)) limit (length cs) (tablesOf d cs .masks)
 

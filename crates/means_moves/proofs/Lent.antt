@@ -117,7 +117,7 @@ rising-below d r k h = go (edgeAt d k) (r k h)
 -- ---- drawings of which 3 to 10 say the same, each in its own form
 
 module _ (m : Move) (form form′ : List Check) (forms : firstOf form′ ≡ firstOf form) (xyz xyz′ : List ℤ) (ends ends′ : List ℕ)
-    (rising : firstOf form ≡ Fine → Rising (wire xyz ends)) (edges : ends′ ≡ ends) (points : xyz′ ≡ eachVertex (m .to) xyz) where
+    (rising : Fine ≡ firstOf form → Rising (wire xyz ends)) (edges : ends′ ≡ ends) (points : xyz′ ≡ eachVertex (m .to) xyz) where
   abbrev d : Wire
   d = wire xyz ends
 
@@ -132,7 +132,7 @@ module _ (m : Move) (form form′ : List Check) (forms : firstOf form′ ≡ fir
   unfolding wire
   links = ap edgesOf edges
 
-  below : firstOf form ≡ Fine → EndsBelow d
+  below : Fine ≡ firstOf form → EndsBelow d
   below p = rising-below d (rising p)
 
   pub either-follows : (cap limit : ℕ) (faces solids : List ℕ)

@@ -1,24 +1,24 @@
 -- A drawing that passes 11 to 14, moved: the same candidates, the same tables but for the parts of six volumes, and so the same solids,
 -- with six volumes as many times as large as the sides of planes become. Assumes nothing.
-use mathlib.Core.Path.{_≡_, ap, _∙_, subst}
+use mathlib.Core.Path.{_≡_, sym, ap, _∙_, subst}
 use mathlib.Core.Bool.{Bool, true}
 use mathlib.Core.Option.{none}
-use mathlib.Core.List.{List, [], _∷_, map}
+use mathlib.Core.List.{List, [], map}
 use Prim.Native.Nat.{ℕ, _<_}
 use native.Mathlib.Omega.{arith}
 use lib.IntN.{natAbs, _*ℤ_}
 use lib.ListN.{length, getD}
-use Rattle.paper.specs.Refusals.{check, firstOf}
-use Rattle.paper.specs.Drawing.{Wire, samePlace, looseVertex, edgeMeets, apart, drawingChecks}
+use Rattle.paper.specs.Refusals.{firstOf}
+use Rattle.paper.specs.Drawing.{Wire, edgeMeets, drawingChecks}
 use Rattle.paper.specs.Loops.{Loop, loopAt, loops, uncovering, candidates}
 use Rattle.paper.specs.Solids.{onceEachWay, sixFrom, tablesOf, judged}
 use Rattle.paper.specs.declared.Answer.the-variants.{Fine}
+use Rattle.paper_laws.proofs.Checks.{found-none}
 use Rattle.means_loops.specs.Path.{ClosedPath}
 use Rattle.means_loops.proofs.Listing.{candidates-are, candidates-proper}
 use Rattle.means_loops.proofs.Paths.{loop-path}
 use Rattle.means_leaf.proofs.Each.{oriented-each}
 use Rattle.means_masks.proofs.Tables.{masks-length, as-many, ways-at}
-use Rattle.means_check.proofs.Accepting.{step-none}
 use Rattle.means_check.proofs.Demand.{drawing-places}
 use Rattle.means_moves.specs.Moves.{Move}
 use Rattle.means_moves.specs.Alike.{Alike, AllBelow, EndsBelow}
@@ -39,15 +39,15 @@ use Rattle.means_moves.proofs.Moved.{moved-alike}
 use Rattle.means_moves.proofs.Judged.{turnedBy, judged-times}
 use Rattle.means_moves.proofs.Closed.{six-closed}
 
-drawing-meets : (d : Wire) → firstOf (drawingChecks d) ≡ Fine → edgeMeets d ≡ none
+drawing-meets : (d : Wire) → Fine ≡ firstOf (drawingChecks d) → edgeMeets d ≡ none
 unfolding drawingChecks
 drawing-meets d e =
-    let a = step-none 11 (samePlace d) (check 12 (looseVertex d) ∷ check 13 (edgeMeets d) ∷ check 14 (apart d) ∷ []) e in
-    let b = step-none 12 (looseVertex d) (check 13 (edgeMeets d) ∷ check 14 (apart d) ∷ []) (a .1) in
-    step-none 13 (edgeMeets d) (check 14 (apart d) ∷ []) (b .1) .0
+    let a = found-none _ _ e in
+    let b = found-none _ _ (a .1) in
+    found-none _ _ (b .1) .0
 
 module _ (m : Move) (d e : Wire) (points : e .vertices ≡ map (m .to) (d .vertices)) (edges : e .edges ≡ d .edges) (ok : EndsBelow d)
-    (pass : firstOf (drawingChecks d) ≡ Fine) where
+    (pass : Fine ≡ firstOf (drawingChecks d)) where
   abbrev alike : Alike d e
   alike = moved-alike m d e points edges
 
@@ -75,8 +75,8 @@ module _ (m : Move) (d e : Wire) (points : e .vertices ≡ map (m .to) (d .verti
 
   -- ---- six volumes
 
-  passes-too : firstOf (drawingChecks e) ≡ Fine
-  passes-too = ap firstOf (checks-same d e alike ok) ∙ pass
+  passes-too : Fine ≡ firstOf (drawingChecks e)
+  passes-too = pass ∙ ap firstOf (sym (checks-same d e alike ok))
 
   paths-too : (k : ℕ) → k < length (candidates e) → ClosedPath e (loopAt (candidates e) k)
   paths-too k h = loop-path e (drawing-places e passes-too) (loopAt (candidates e) k) (candidates-are e k h .loop)

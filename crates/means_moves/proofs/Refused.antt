@@ -106,19 +106,19 @@ unrefused l cs t log faces solids r = go (eqb (log .ended) No.Many) (eqb (log .e
     go false false (x ∷ []) e = let z : _≡_ {A = ℕ} 0 1 = cc in omega arith
     go false false (x ∷ (y ∷ found)) e = let z : _≡_ {A = ℕ} 0 1 = cc in omega arith
 
-module _ (limit : ℕ) (faces solids : List ℕ) (form : List Check) (d : Wire) (entry : firstOf (entryChecks limit faces solids) ≡ Answer.Fine)
-    (good : firstOf form ≡ Answer.Fine) where
+module _ (limit : ℕ) (faces solids : List ℕ) (form : List Check) (d : Wire) (entry : Answer.Fine ≡ firstOf (entryChecks limit faces solids))
+    (good : Answer.Fine ≡ firstOf form) where
   -- where 1 to 10 pass, 11 to 16 answer
   only : firstOf (checksOf limit faces solids form d) ≡ firstOf (drawingChecks d ++ loopChecks (loops d) (candidates d))
   unfolding candidates
   only =
       parts limit faces solids form d
       ∙ ap₂ (λ (a b : Answer). orElse (orElse (orElse a b) (firstOf (drawingChecks d))) (firstOf (loopChecks (loops d) (candidates d))))
-      entry good
+      (sym entry) (sym good)
       ∙ sym (first-append (drawingChecks d) (loopChecks (loops d) (candidates d)))
 
   refusal-from : (cap : ℕ) (r : Refusal) → conversion cap form d limit faces solids .answer ≡ Conversion.Refused r
-      → firstOf (drawingChecks d ++ loopChecks (loops d) (candidates d)) ≡ Answer.Refused r
+      → Answer.Refused r ≡ firstOf (drawingChecks d ++ loopChecks (loops d) (candidates d))
   unfolding conversion
   refusal-from cap r e = go (firstOf (checksOf limit faces solids form d)) only e
     where
@@ -126,26 +126,26 @@ module _ (limit : ℕ) (faces solids : List ℕ) (form : List Check) (d : Wire) 
           → orConvert a faces solids (concluded (length (loops d)) (uncovering d (loops d)) (tablesOf d (uncovering d (loops d)))
           (search cap (accepted (tablesOf d (uncovering d (loops d)))) limit (length (uncovering d (loops d)))
           (tablesOf d (uncovering d (loops d)) .masks)) faces solids) .answer ≡ Conversion.Refused r
-          → firstOf (drawingChecks d ++ loopChecks (loops d) (candidates d)) ≡ Answer.Refused r
+          → Answer.Refused r ≡ firstOf (drawingChecks d ++ loopChecks (loops d) (candidates d))
       go Answer.Fine p e = absurd (unrefused _ _ _ _ faces solids r e)
-      go (Answer.Refused x) p e = sym p ∙ cc
+      go (Answer.Refused x) p e = let same : r ≡ x = cc in ap Answer.Refused same ∙ p
 
-  refusal-to : (cap : ℕ) (r : Refusal) → firstOf (drawingChecks d ++ loopChecks (loops d) (candidates d)) ≡ Answer.Refused r
+  refusal-to : (cap : ℕ) (r : Refusal) → Answer.Refused r ≡ firstOf (drawingChecks d ++ loopChecks (loops d) (candidates d))
       → conversion cap form d limit faces solids .answer ≡ Conversion.Refused r
   unfolding conversion
-  refusal-to cap r e = rw (only ∙ e)
+  refusal-to cap r e = rw (only ∙ sym e)
 
 -- "the same rule refuses both, at a place of its own"
 pub same-refusal : {new : ℕ → ℕ} {d e : Wire} → NewNumbers new d e → Sorted d → Sorted e
-    → (cap : ℕ) (form form′ : List Check) → firstOf form ≡ Answer.Fine → firstOf form′ ≡ Answer.Fine
-    → (a b : ℕ) (f g u v : List ℕ) → firstOf (entryChecks a f u) ≡ Answer.Fine → firstOf (entryChecks b g v) ≡ Answer.Fine
+    → (cap : ℕ) (form form′ : List Check) → Answer.Fine ≡ firstOf form → Answer.Fine ≡ firstOf form′
+    → (a b : ℕ) (f g u v : List ℕ) → Answer.Fine ≡ firstOf (entryChecks a f u) → Answer.Fine ≡ firstOf (entryChecks b g v)
     → (r : Refusal) → conversion cap form d a f u .answer ≡ Conversion.Refused r
     → (q : Refusal) × (conversion cap form′ e b g v .answer ≡ Conversion.Refused q) × (q .number ≡ r .number)
 same-refusal {d = d} {e = e} n s t cap form form′ good good′ a b f g u v entry entry′ r h =
     go (firstOf (drawingChecks e ++ loopChecks (loops e) (candidates e))) refl
-    (same-rule n s t ∙ ap ruleOf (refusal-from a f u form d entry good cap r h))
+    (same-rule n s t ∙ ap ruleOf (sym (refusal-from a f u form d entry good cap r h)))
   where
-    go : (x : Answer) → firstOf (drawingChecks e ++ loopChecks (loops e) (candidates e)) ≡ x → ruleOf x ≡ some (r .number)
+    go : (x : Answer) → x ≡ firstOf (drawingChecks e ++ loopChecks (loops e) (candidates e)) → ruleOf x ≡ some (r .number)
         → (q : Refusal) × (conversion cap form′ e b g v .answer ≡ Conversion.Refused q) × (q .number ≡ r .number)
     go Answer.Fine p z = none-some (sym z)
     go (Answer.Refused q) p z = (q, refusal-to b g v form′ e entry′ good′ cap q p, (cc))

@@ -95,21 +95,21 @@ module _ (ends : List ℕ) (order : lowest (lowAt ends) (length ends / 2) ≡ no
       go (no p) (no q) = omega arith
 
 -- two lists that pass 3 to 10; a sheet that does
-pub lent-sorted : (f : Format) (xyz : List ℤ) (ends : List ℕ) → firstOf (lentChecks f xyz ends) ≡ Fine → Sorted (wire xyz ends)
+pub lent-sorted : (f : Format) (xyz : List ℤ) (ends : List ℕ) → Fine ≡ firstOf (lentChecks f xyz ends) → Sorted (wire xyz ends)
 unfolding wire edgeAt contentChecks edgeChecks
 lent-sorted f xyz ends h =
     let v = length xyz / 3 in
     let n = length ends / 2 in
     let last = check No.EdgeOrder (lowest (lowAt ends) n) ∷ [] in
     let nine = check No.BadEdge (lowest (wrongAt v ends) n) ∷ last in
-    let content : Fine ≡ firstOf (check No.BadCoordinate (lowest (farAt xyz) (length xyz)) ∷ nine) = lent f xyz ends (sym h) .fine in
+    let content : Fine ≡ firstOf (check No.BadCoordinate (lowest (farAt xyz) (length xyz)) ∷ nine) = lent f xyz ends h .fine in
     let order = found-none No.EdgeOrder [] (found-none No.BadEdge last (found-none No.BadCoordinate nine content .1) .1) .0 in
     record {
-      rising = lent-rising f xyz ends (sym h);
+      rising = lent-rising f xyz ends h;
       once = λ i j hi hj e.
           once ends order i j (omega (arith, length-edges ends)) (omega (arith, length-edges ends))
           (sym (edge-at ends i (edge 0 0) hi) ∙ e ∙ edge-at ends j (edge 0 0) hj);
     }
 
-pub sheet-sorted : (f : Format) (s : List ℕ) → firstOf (sheetChecks f s) ≡ Fine → Sorted (wire (coordinatesIn f s) (endsIn f s))
-sheet-sorted f s h = lent-sorted f (coordinatesIn f s) (endsIn f s) (sym (accepted-lent f s (sym h)))
+pub sheet-sorted : (f : Format) (s : List ℕ) → Fine ≡ firstOf (sheetChecks f s) → Sorted (wire (coordinatesIn f s) (endsIn f s))
+sheet-sorted f s h = lent-sorted f (coordinatesIn f s) (endsIn f s) (accepted-lent f s h)

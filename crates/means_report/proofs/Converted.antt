@@ -120,21 +120,21 @@ module _ (d : Wire) (t : WalkTree d (candidates d)) (form : List Check) (limit :
   abbrev checks : List Check
   checks = entryChecks limit faces solids ++ form ++ drawingChecks d ++ loopChecks (loops d) (candidates d)
 
-  pub conversion-refuses : (x : Refusal) → firstOf checks ≡ Answer.Refused x
+  pub conversion-refuses : (x : Refusal) → Answer.Refused x ≡ firstOf checks
       → conversion mostSolids form d limit faces solids ≡ record { answer = Conversion.Refused x; faces = faces; solids = solids }
   unfolding conversion candidates
-  conversion-refuses x e = rw e
+  conversion-refuses x e = rw (← e)
 
-  pub
-      conversion-says : ((x : Refusal) × (firstOf checks ≡ Answer.Refused x)
+  abbrev pub Cases : Type 0
+  Cases =
+      ((x : Refusal) × (Answer.Refused x ≡ firstOf checks)
       × (conversion mostSolids form d limit faces solids ≡ record { answer = Conversion.Refused x; faces = faces; solids = solids }))
-      ⊎ ((firstOf checks ≡ Answer.Fine) × Sound d t limit faces solids (conversion mostSolids form d limit faces solids))
+      ⊎ ((Answer.Fine ≡ firstOf checks) × Sound d t limit faces solids (conversion mostSolids form d limit faces solids))
+
+  pub conversion-says : Cases
   conversion-says = go (firstOf checks) refl
     where
-      go : (a : Answer) → firstOf checks ≡ a
-          → ((x : Refusal) × (firstOf checks ≡ Answer.Refused x)
-          × (conversion mostSolids form d limit faces solids ≡ record { answer = Conversion.Refused x; faces = faces; solids = solids }))
-          ⊎ ((firstOf checks ≡ Answer.Fine) × Sound d t limit faces solids (conversion mostSolids form d limit faces solids))
+      go : (a : Answer) → a ≡ firstOf checks → Cases
       go Answer.Fine e = inr (e, conversion-sound d t limit faces solids form e)
       go (Answer.Refused x) e = inl (x, e, conversion-refuses x e)
 
@@ -162,7 +162,7 @@ pub higher-converts : (d : Wire) (t : WalkTree d (candidates d)) (form : List Ch
     → conversion mostSolids form d b faces solids ≡ conversion mostSolids form d a faces solids
 unfolding conversion candidates
 higher-converts d t form a b faces solids h ua ub w =
-    rw (ua, ub) (ap (λ (log : Log). concluded (length (loops d)) (candidates d) (tablesOf d (candidates d)) log faces solids)
+    rw (← ua, ← ub) (ap (λ (log : Log). concluded (length (loops d)) (candidates d) (tablesOf d (candidates d)) log faces solids)
     (higher-limit mostSolids (accepted (tablesOf d (candidates d))) a b h (length (candidates d)) (tablesOf d (candidates d) .masks)
     (λ e. not-long e)))
   where
@@ -181,11 +181,7 @@ module _ (d : Wire) (t : WalkTree d (candidates d)) (form : List Check) (limit :
       → Sound d t limit faces solids (conversion mostSolids form d limit faces solids)
   conversion-unrefused f = go (conversion-says d t form limit faces solids)
     where
-      go : ((x : Refusal) × (firstOf (checks d t form limit faces solids) ≡ Answer.Refused x)
-          × (conversion mostSolids form d limit faces solids ≡ record { answer = Conversion.Refused x; faces = faces; solids = solids }))
-          ⊎ ((firstOf (checks d t form limit faces solids) ≡ Answer.Fine)
-          × Sound d t limit faces solids (conversion mostSolids form d limit faces solids))
-          → Sound d t limit faces solids (conversion mostSolids form d limit faces solids)
+      go : Cases d t form limit faces solids → Sound d t limit faces solids (conversion mostSolids form d limit faces solids)
       go (inl p) = absurd (f (p .0) (ap (λ (c : Converted). c .answer) (p .2)))
       go (inr p) = p .1
 

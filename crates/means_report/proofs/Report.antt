@@ -1,6 +1,6 @@
 -- Demand 2: conversion says what the report is to say. Assumes nothing.
 use mathlib.Core.List.{List, [], _∷_, _++_, map, flatMap}
-use mathlib.Core.Option.{Option, none, some}
+use mathlib.Core.Option.{none}
 use mathlib.Core.Logic.{_⊎_, inl, inr}
 use mathlib.Core.Path.{_≡_, refl, sym, ap, ap₂, _∙_}
 use Prim.Native.Nat.{ℕ, _*_}
@@ -9,7 +9,7 @@ use lib.ListN.{length, drop, length-map}
 use Rattle.lists.specs.Lists.{filter}
 use Rattle.paper.specs.Numbers.{mostSolids, solidWords}
 use Rattle.paper.specs.Refusals as No
-use Rattle.paper.specs.Refusals.{Check, check, firstOf}
+use Rattle.paper.specs.Refusals.{Check, firstOf}
 use Rattle.paper.specs.Drawing.{Wire, samePlace, drawingChecks}
 use Rattle.paper.specs.Loops.{Loop, loops, candidates, loopChecks}
 use Rattle.paper.specs.Solids.{Tables, tablesOf}
@@ -17,9 +17,9 @@ use Rattle.paper.specs.Walk.{Status, Log, search}
 use Rattle.paper.specs.Conversion.{Converted, accepted, words, solidsAfter, reported, concluded, entryChecks, conversion}
 use Rattle.paper.specs.declared.Answer.{Answer}
 use Rattle.paper.specs.declared.Answer.the-variants as Answer
-use Rattle.paper.specs.declared.Refusal.{Refusal}
 use Rattle.paper.specs.declared.Conversion.{Conversion}
 use Rattle.paper.specs.declared.Conversion.the-variants as Conversion
+use Rattle.paper_laws.proofs.Checks.{found-none, first-both}
 use Rattle.means_walk.specs.Tree.{leaves}
 use Rattle.means_walk.proofs.Ends.{ends, ended-whole, ended-many, ended-long}
 use Rattle.means_report.specs.Fair.{Fair}
@@ -84,31 +84,7 @@ module _ (l : ℕ) (cs : List Loop) (t : Tables) (log : Log) (faces solids : Lis
   unfolding concluded
   concluded-long e = rw e
 
--- ---- checks that say nothing
-refused-not : {A : Type 0} {x : Refusal} → Answer.Refused x ≡ Answer.Fine → A
-refused-not e = absurd (omega (arith, ap code e))
-  where
-    code : Answer → ℕ
-    code Answer.Fine = 0
-    code (Answer.Refused x) = 1
-
-first-none : (n : ℕ) (o : Option ℕ) (cs : List Check) → firstOf (check n o ∷ cs) ≡ Answer.Fine → o ≡ none
-unfolding firstOf
-first-none n none cs e = refl
-first-none n (some p) cs e = refused-not e
-
-first-part : (ks bs : List Check) → firstOf (ks ++ bs) ≡ Answer.Fine → firstOf ks ≡ Answer.Fine
-unfolding firstOf
-first-part [] bs e = refl
-first-part (check n none ∷ ks) bs e = first-part ks bs e
-first-part (check n (some p) ∷ ks) bs e = refused-not e
-
-first-rest : (ks bs : List Check) → firstOf (ks ++ bs) ≡ Answer.Fine → firstOf bs ≡ Answer.Fine
-unfolding firstOf
-first-rest [] bs e = e
-first-rest (check n none ∷ ks) bs e = first-rest ks bs e
-first-rest (check n (some p) ∷ ks) bs e = refused-not e
-
+-- ---- a drawing that no check refuses
 module _ (d : Wire) (t : WalkTree d (candidates d)) (limit : ℕ) (faces solids : List ℕ) where
   abbrev tb : Tables
   tb = tablesOf d (candidates d)
@@ -180,11 +156,11 @@ module _ (d : Wire) (t : WalkTree d (candidates d)) (limit : ℕ) (faces solids 
   -- a drawing with no refusal 1 to 16
   abbrev pub Unrefused : List Check → Type 0
   Unrefused form =
-      firstOf (entryChecks limit faces solids ++ form ++ drawingChecks d ++ loopChecks (loops d) (candidates d)) ≡ Answer.Fine
+      Answer.Fine ≡ firstOf (entryChecks limit faces solids ++ form ++ drawingChecks d ++ loopChecks (loops d) (candidates d))
 
   pub conversion-tells : (form : List Check) → Unrefused form → Tells (conversion mostSolids form d limit faces solids)
   unfolding conversion candidates
-  conversion-tells form h = rw h done-tells
+  conversion-tells form h = rw (← h) done-tells
 
   -- a drawing that isn't refused: its candidates are fair, and what is told of it
   pub record Sound (r : Converted) : Type 0 where
@@ -194,9 +170,9 @@ module _ (d : Wire) (t : WalkTree d (candidates d)) (limit : ℕ) (faces solids 
   pub unrefused-apart : (form : List Check) → Unrefused form → samePlace d ≡ none
   unfolding drawingChecks
   unrefused-apart form h =
-      first-none No.SamePlace (samePlace d) _
-      (first-rest (entryChecks limit faces solids ++ form) (drawingChecks d)
-      (first-part (entryChecks limit faces solids ++ form ++ drawingChecks d) (loopChecks (loops d) (candidates d)) h))
+      let before = entryChecks limit faces solids ++ form in
+      let drawn = first-both (before ++ drawingChecks d) (loopChecks (loops d) (candidates d)) h .0 in
+      found-none _ _ (first-both before (drawingChecks d) drawn .1) .0
 
   pub conversion-sound : (form : List Check) → Unrefused form → Sound (conversion mostSolids form d limit faces solids)
   conversion-sound form h = record {

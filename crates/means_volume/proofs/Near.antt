@@ -1,5 +1,5 @@
 -- The points of a drawing whose form passes are in range. Assumes nothing.
-use mathlib.Core.Path.{_≡_, sym}
+use mathlib.Core.Path.{_≡_}
 use mathlib.Core.List.{List, [], _∷_}
 use Prim.Native.Nat.{ℕ, zero, suc}
 use lib.IntN.{ℤ}
@@ -30,14 +30,14 @@ points-near (x ∷ (y ∷ (z ∷ l))) n zero = record {
 }
 points-near (x ∷ (y ∷ (z ∷ l))) n (suc v) = points-near l (λ k. n (suc (suc (suc k)))) v
 
-pub lent-near : (xyz : List ℤ) (ends : List ℕ) → firstOf (lentChecks editionOne xyz ends) ≡ Fine
+pub lent-near : (xyz : List ℤ) (ends : List ℕ) → Fine ≡ firstOf (lentChecks editionOne xyz ends)
     → (v : ℕ) → PointWithin farthest (at (wire xyz ends) v)
 unfolding wire at
-lent-near xyz ends e v = points-near xyz (contents _ xyz ends (lent editionOne xyz ends (sym e) .fine) .near) v
+lent-near xyz ends e v = points-near xyz (contents _ xyz ends (lent editionOne xyz ends e .fine) .near) v
 
-pub sheet-near : (s : List ℕ) → firstOf (sheetChecks editionOne s) ≡ Fine
+pub sheet-near : (s : List ℕ) → Fine ≡ firstOf (sheetChecks editionOne s)
     → (v : ℕ) → PointWithin farthest (at (wire (coordinatesIn editionOne s) (endsIn editionOne s)) v)
 unfolding wire at
 sheet-near s e v =
     points-near (coordinatesIn editionOne s)
-    (contents (verticesIn editionOne s) (coordinatesIn editionOne s) (endsIn editionOne s) (accepted-contents editionOne s (sym e)) .near) v
+    (contents (verticesIn editionOne s) (coordinatesIn editionOne s) (endsIn editionOne s) (accepted-contents editionOne s e) .near) v

@@ -1,7 +1,7 @@
 -- Every report's six volumes is at most 7.2 x 10^11, which a double holds exactly, and so its reading is exact. Assumes nothing.
 use mathlib.Core.Path.{_≡_, sym, ap, _∙_}
 use mathlib.Core.Bool.{Bool}
-use mathlib.Core.Logic.{_⊎_, inl, inr}
+use mathlib.Core.Logic.{inl, inr}
 use mathlib.Core.List.{List, _++_}
 use mathlib.Core.Option.{none}
 use Prim.Native.Nat.{ℕ, _≤_, _<_}
@@ -18,18 +18,17 @@ use Rattle.paper.specs.Drawing.{Wire, wire, at, samePlace, drawingChecks}
 use Rattle.paper.specs.Loops.{loopAt, loops, candidates, loopChecks}
 use Rattle.paper.specs.Conversion.{Converted, conversion, convertLists, convertSheet, entryChecks}
 use Rattle.paper.specs.declared.Answer.the-variants as Answer
-use Rattle.paper.specs.declared.Refusal.{Refusal}
 use Rattle.paper.specs.declared.Conversion.the-variants as Conversion
+use Rattle.paper_laws.proofs.Checks.{first-both}
 use Rattle.polygon.specs.Sizes.{PointWithin}
 use Rattle.reading.proofs.Exact.{exact-volume}
 use Rattle.means_solid.specs.Solid.{IsSolid}
 use Rattle.means_loops.specs.Path.{ClosedPath}
 use Rattle.means_loops.proofs.Paths.{loop-path}
 use Rattle.means_loops.proofs.Listing.{candidates-are}
-use Rattle.means_report.proofs.Report.{Sound, unrefused-apart}
+use Rattle.means_report.proofs.Report.{unrefused-apart}
 use Rattle.means_report.proofs.Demand.{kind, says-one}
-use Rattle.means_report.proofs.Converted.{the-walk, conversion-says}
-use Rattle.means_check.proofs.Accepting.{both-fine}
+use Rattle.means_report.proofs.Converted.{Cases, the-walk, conversion-says}
 use Rattle.means_check.proofs.Drawn.{InCounts, lent-small, sheet-small}
 use Rattle.means_check.proofs.Corners.{over}
 use Rattle.means_check.proofs.Four.{four-faces}
@@ -56,10 +55,7 @@ solid-small d w apart taken turned {six} s =
 
 -- ---- of a conversion
 
-module _ (d : Wire) (form : List Check) (drawn : firstOf form ≡ Answer.Fine → Drawn d) (limit : ℕ) (faces solids : List ℕ) where
-  abbrev checks : List Check
-  checks = entryChecks limit faces solids ++ form ++ drawingChecks d ++ loopChecks (loops d) (candidates d)
-
+module _ (d : Wire) (form : List Check) (drawn : Answer.Fine ≡ firstOf form → Drawn d) (limit : ℕ) (faces solids : List ℕ) where
   abbrev result : Converted
   result = conversion mostSolids form d limit faces solids
 
@@ -67,16 +63,14 @@ module _ (d : Wire) (form : List Check) (drawn : firstOf form ≡ Answer.Fine �
   one-small : (l k w six : ℕ) → result .answer ≡ Conversion.One l k w six → six ≤ mostSix
   one-small l k w six one = go (conversion-says d (the-walk d) form limit faces solids)
     where
-      go : ((x : Refusal) × (firstOf checks ≡ Answer.Refused x)
-          × (result ≡ record { answer = Conversion.Refused x; faces = faces; solids = solids }))
-          ⊎ ((firstOf checks ≡ Answer.Fine) × Sound d (the-walk d) limit faces solids result) → six ≤ mostSix
+      go : Cases d (the-walk d) form limit faces solids → six ≤ mostSix
       go (inl p) = absurd (omega (arith, ap kind (sym one ∙ ap (λ (c : Converted). c .answer) (p .2))))
       go (inr p) =
           let drawn-too = entryChecks limit faces solids ++ form ++ drawingChecks d in
-          let rules = both-fine drawn-too (loopChecks (loops d) (candidates d)) (p .0) .0 in
-          let opened = both-fine (entryChecks limit faces solids ++ form) (drawingChecks d) rules .0 in
+          let rules = first-both drawn-too (loopChecks (loops d) (candidates d)) (p .0) .0 in
+          let opened = first-both (entryChecks limit faces solids ++ form) (drawingChecks d) rules .0 in
           let says = says-one d (the-walk d) limit faces solids result (p .1) one in
-          solid-small d (drawn (both-fine (entryChecks limit faces solids) form opened .1))
+          solid-small d (drawn (first-both (entryChecks limit faces solids) form opened .1))
           (unrefused-apart d (the-walk d) limit faces solids form (p .0)) (says .taken) (says .turned) (says .is)
 
   -- 7.2 x 10^11 is below 2^53
@@ -85,10 +79,10 @@ module _ (d : Wire) (form : List Check) (drawn : firstOf form ≡ Answer.Fine �
 
 -- ---- of the two ways in which a drawing comes
 
-lent-drawn : (xyz : List ℤ) (ends : List ℕ) → firstOf (lentChecks editionOne xyz ends) ≡ Answer.Fine → Drawn (wire xyz ends)
+lent-drawn : (xyz : List ℤ) (ends : List ℕ) → Answer.Fine ≡ firstOf (lentChecks editionOne xyz ends) → Drawn (wire xyz ends)
 lent-drawn xyz ends e = record { near = lent-near xyz ends e; counts = lent-small xyz ends e }
 
-sheet-drawn : (s : List ℕ) → firstOf (sheetChecks editionOne s) ≡ Answer.Fine
+sheet-drawn : (s : List ℕ) → Answer.Fine ≡ firstOf (sheetChecks editionOne s)
     → Drawn (wire (coordinatesIn editionOne s) (endsIn editionOne s))
 sheet-drawn s e = record { near = sheet-near s e; counts = sheet-small s e }
 

@@ -33,7 +33,7 @@ mostSix = mostTerms * mostTerm
 
 -- every solid of a drawing that passes 3 to 11
 abbrev pub SolidsSmall : List Check → Wire → Type 0
-SolidsSmall form d = firstOf form ≡ Fine → samePlace d ≡ none → (taken turned : List Bool) (six : ℕ)
+SolidsSmall form d = Fine ≡ firstOf form → samePlace d ≡ none → (taken turned : List Bool) (six : ℕ)
     → IsSolid d (candidates d) taken turned six → six ≤ mostSix
 
 -- "both held exactly, rounded once": the reading of a report of one solid

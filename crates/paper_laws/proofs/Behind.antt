@@ -19,15 +19,15 @@ first-append (check n none ∷ cs) ds = first-append cs ds
 first-append (check n (some p) ∷ cs) ds = refl
 
 -- what comes behind a refusal doesn't count
-pub else-same : (a : Answer) (b c : Answer) → (a ≡ Answer.Fine → b ≡ c) → orElse a b ≡ orElse a c
+pub else-same : (a : Answer) (b c : Answer) → (Answer.Fine ≡ a → b ≡ c) → orElse a b ≡ orElse a c
 else-same Answer.Fine b c h = h refl
 else-same (Answer.Refused r) b c h = refl
 
 -- where both pass, each does
-pub first-fine : (a b : Answer) → orElse a b ≡ Answer.Fine → a ≡ Answer.Fine
+pub first-fine : (a b : Answer) → Answer.Fine ≡ orElse a b → Answer.Fine ≡ a
 first-fine Answer.Fine b p = refl
 first-fine (Answer.Refused r) b p = let z : _≡_ {A = ℕ} 0 1 = cc in absurd (omega arith)
 
-pub second-fine : (a b : Answer) → orElse a b ≡ Answer.Fine → b ≡ Answer.Fine
+pub second-fine : (a b : Answer) → Answer.Fine ≡ orElse a b → Answer.Fine ≡ b
 second-fine Answer.Fine b p = p
 second-fine (Answer.Refused r) b p = let z : _≡_ {A = ℕ} 0 1 = cc in absurd (omega arith)

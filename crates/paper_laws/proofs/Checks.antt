@@ -1,5 +1,5 @@
 -- The first check that applies: one step of the list, and two lists one behind the other. Assumes nothing.
-use mathlib.Core.Path.{_≡_, refl}
+use mathlib.Core.Path.{_≡_, refl, sym, _∙_}
 use mathlib.Core.Bool.{Bool, true, false}
 use mathlib.Core.Option.{Option, none, some}
 use mathlib.Core.List.{List, [], _∷_, _++_}
@@ -31,6 +31,9 @@ module _ (n : ℕ) {o : Option ℕ} (cs : List Check) where
       go : (o : Option ℕ) → Fine ≡ firstOf (check n o ∷ cs) → (o ≡ none) × (Fine ≡ firstOf cs)
       go none e = (refl, e)
       go (some p) e = let z : _≡_ {A = ℕ} 0 1 = cc in absurd (omega arith)
+
+  pub none-found : o ≡ none → Fine ≡ firstOf cs → Fine ≡ firstOf (check n o ∷ cs)
+  none-found e f = f ∙ passes (sym e)
 
 -- the same of a check of one place
 module _ (n p : ℕ) {b : Bool} (cs : List Check) where
@@ -64,9 +67,12 @@ first-passes [] ds e = refl
 first-passes (check n none ∷ cs) ds e = first-passes cs ds e
 first-passes (check n (some p) ∷ cs) ds e = let z : _≡_ {A = ℕ} 0 1 = cc in absurd (omega arith)
 
--- both are passed where the whole is
+-- both are passed where the whole is, and the whole where both are
 pub first-both : (cs ds : List Check) → Fine ≡ firstOf (cs ++ ds) → (Fine ≡ firstOf cs) × (Fine ≡ firstOf ds)
 unfolding firstOf
 first-both [] ds e = (refl, e)
 first-both (check n none ∷ cs) ds e = first-both cs ds e
 first-both (check n (some p) ∷ cs) ds e = let z : _≡_ {A = ℕ} 0 1 = cc in absurd (omega arith)
+
+pub both-first : (cs ds : List Check) → Fine ≡ firstOf cs → Fine ≡ firstOf ds → Fine ≡ firstOf (cs ++ ds)
+both-first cs ds e f = f ∙ first-passes cs ds e
