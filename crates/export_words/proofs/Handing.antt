@@ -8,7 +8,6 @@ use borrow.Author.Tests.{lt-ltb, le-ltb}
 use lib.Dec.{ltb}
 use lib.IntN.{ℤ}
 use lib.ListN.{length, take, drop}
-use lib.Seq.{length-take-le}
 use Rattle.paper.specs.Refusals as No
 use Rattle.paper.specs.Refusals.{Check, check, offends, firstOf}
 use Rattle.paper.specs.Format.{editionOne, verticesIn, edgesIn, coordinatesIn, endsIn}
@@ -39,10 +38,10 @@ module _ (d : Drawing) (held : Held d) (xyz₀ : List ℤ) (ends₀ : List ℕ) 
   links = take (2 * d .edges) (d .ends)
 
   points-long : length points ≡ 3 * d .vertices
-  points-long = length-take-le (3 * d .vertices) (d .xyz) (held .xyz-room)
+  points-long = held .points .whole
 
   links-long : length links ≡ 2 * d .edges
-  links-long = length-take-le (2 * d .edges) (d .ends) (held .ends-room)
+  links-long = held .ends-whole
 
   -- what the two tests say
   by-tests : (a b : Bool) → ltb (length xyz₀) (length points) ≡ a → ltb (length ends₀) (length links) ≡ b

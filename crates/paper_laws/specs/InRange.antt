@@ -37,5 +37,6 @@ pub record Held (d : Drawing) : Type 0 where
   pub few : d .edges ≤ editionOne .«most_edges»
   pub xyz-room : 3 * d .vertices ≤ length (d .xyz)
   pub ends-room : 2 * d .edges ≤ length (d .ends)
+  pub ends-whole : length (take (2 * d .edges) (d .ends)) ≡ 2 * d .edges
   pub points : Points (take (3 * d .vertices) (d .xyz)) (d .vertices)
   pub links : Ends (take (2 * d .edges) (d .ends)) (d .vertices)

@@ -1,5 +1,5 @@
 -- The drawing that an accepted sheet holds is in range. Assumes nothing.
-use mathlib.Core.Path.{_≡_, sym, subst}
+use mathlib.Core.Path.{_≡_, sym, ap, _∙_, subst}
 use mathlib.Core.List.{List}
 use Prim.Native.Nat.{ℕ, _*_, _≤_}
 use native.Mathlib.Omega.{arith}
@@ -34,6 +34,7 @@ read-range s h =
       few = k .e-most;
       xyz-room = omega (arith, k .v-most, length-padded xyz _ (pos 0) xyz-fit);
       ends-room = omega (arith, k .e-most, length-padded ends _ 0 ends-fit);
+      ends-whole = ap length (take-padded ends _ (2 * e) 0 two) ∙ two;
       points = rw (take-padded xyz _ (3 * v) (pos 0) three) (points-are xyz ends v e three two fine);
       links = rw (take-padded ends _ (2 * e) 0 two) (ends-are xyz ends v e three two fine (k .e-least) (k .e-most));
     } in

@@ -28,9 +28,11 @@ fn geometry_meets_11_to_14_clash_and_cover() {
     for number in SAME_PLACE..=APART {
         assert!(met(&trial.output, &format!("refused {number} ")), "{number}");
     }
-    assert!(met(&trial.output, "fine"));
-    let digits: String = trial.output.lines().filter(|line| line.parse::<u32>().is_ok()).collect();
-    assert!("0123".chars().all(|digit| digits.contains(digit)));
+    let covers: String = trial.output.lines().filter_map(|line| line.strip_prefix("covers ")).collect();
+    assert!("01".chars().all(|digit| covers.contains(digit)));
+    let clashes: Vec<u64> =
+        trial.output.lines().filter_map(|line| line.strip_prefix("clashes")).flat_map(numbers).collect();
+    assert!(clashes.contains(&0) && clashes.iter().any(|word| *word > 0));
 }
 
 /// The numbers of a line: loops, candidates, work, and three for each solid.
