@@ -4,7 +4,7 @@ use mathlib.Core.List.{List, [], _∷_, _++_}
 use Prim.Native.Nat.{ℕ, zero, suc, _+_, _-_, _≤_, _<_}
 use native.Mathlib.Nat.{zero-add, suc-add}
 use native.Mathlib.Omega.{arith}
-use lib.ListN.{length, getD, set, replicate, length-append, length-replicate, take, drop, List·getD-append}
+use lib.ListN.{length, set, replicate, length-append, length-replicate, take, drop}
 use lib.Seq.{set-at, append-snoc, take-at, take-all, drop-append-add, paste}
 use Rattle.pack.specs.Fill.{padded}
 
@@ -33,10 +33,6 @@ module _ {A : Type 0} where
   pub take-padded : (xs : List A) (n i : ℕ) (z : A) → length xs ≡ i → take i (padded xs n z) ≡ xs
   unfolding padded
   take-padded xs n i z l = take-at xs (replicate (n - length xs) z) i l
-
-  pub getD-padded : (xs : List A) (n i : ℕ) (z : A) → i < length xs → getD (padded xs n z) i z ≡ getD xs i z
-  unfolding padded
-  getD-padded xs n i z h = List·getD-append xs (replicate (n - length xs) z) z i h
 
   drop-replicate : (m k : ℕ) (z : A) → drop m (replicate (m + k) z) ≡ replicate k z
   drop-replicate zero k z = rw zero-add refl

@@ -5,17 +5,18 @@ use Prim.Native.Nat.{ℕ, _≤_}
 use lib.IntN.{ℤ}
 use borrow.Author.Needs.{needs}
 use Rattle.paper.specs.Numbers.{mostCandidates}
+use Rattle.walk_words.specs.Words.{WalkTables}
 use Rattle.tables.specs.declared.Tabled.{Tabled}
 use Rattle.tables.specs.declared.Tabled.the-variants as Tabled
 use Rattle.tables.specs.declared.rows.Counts.{Counts}
 use Rattle.tables.specs.Tables.{TabledIs}
-use Rattle.tables.proofs.Given.{clear-rooms}
+use Rattle.tables.proofs.Given.{clear-rooms, tablesLeft}
 use Rattle.trial_geometry.proofs.show_clashes.Statement.{statement}
 use Rattle.trial_geometry.proofs.show_clashes.Tie as tie
 
-few : (xyz : List ℤ) (ends rows₀ rows on up sides clashes : List ℕ) (sixes : List ℤ) {r : Tabled} {c : Counts} → r ≡ Tabled.Ready c
-    → TabledIs xyz ends rows₀ rows on up sides clashes sixes r → c .candidates ≤ mostCandidates
-few xyz ends rows₀ rows on up sides clashes sixes e t = subst (TabledIs xyz ends rows₀ rows on up sides clashes sixes) e t .few
+few : (xyz : List ℤ) (ends rows₀ rows : List ℕ) (tables : WalkTables) {r : Tabled} {c : Counts} → r ≡ Tabled.Ready c
+    → TabledIs xyz ends rows₀ rows tables r → c .candidates ≤ mostCandidates
+few xyz ends rows₀ rows tables e t = subst (TabledIs xyz ends rows₀ rows tables) e t .few
 
 -- back to the start
 abbrev start : tie.After-sixes → tie.Start
@@ -36,7 +37,8 @@ enum-known-tabled-2 c = search needs
 say-clashes-requires : tie.Need-say-clashes-requires
 say-clashes-requires c κs =
     let m = c .before .before in
-    few _ _ _ _ _ _ _ _ _ (m .tabled2 .given .1) (m .before .before .tables .ensures)
+    let t = m .before .before in
+    few _ _ _ _ (tablesLeft (t .tables .last .1 .1 .1)) (m .tabled2 .given .1) (t .tables .ensures)
 
 returns : tie.Need-returns
 returns c = search needs
