@@ -16,6 +16,7 @@ use Rattle.paper.specs.declared.Point.{Point}
 use Rattle.paper_laws.specs.Planes.{OnPlane}
 use Rattle.paper_laws.proofs.Six.{six-normal}
 use Rattle.paper_laws.proofs.Vectors.{num, vec, k, x, _+s_, _·_, dets, o, v, _+v_, _-v_, _*v_, _×v_, vring}
+use Rattle.paper_laws.proofs.Points.{dot-comm, dot-less}
 use Rattle.means_drawing.specs.Segments.{along}
 use Rattle.means_drawing.proofs.Segments.{onOpen-means, openMeets-means}
 use Rattle.means_area.proofs.Loops.{loops-hold}
@@ -26,8 +27,6 @@ use Rattle.means_inside.proofs.Backwards.{any-way}
 use Rattle.means_inside.proofs.Axis.{any-axis}
 use Rattle.means_inside.proofs.Loops.{loop-means, loop-not-beyond, loop-convex}
 use Rattle.means_clash.proofs.Either.{clash-either}
-use Rattle.means_loops.proofs.Planes.{dot-comm}
-use Rattle.means_loops.proofs.OwnPlane.{dot-less}
 use Rattle.means_corner.proofs.Loops.{corner-angles}
 use Rattle.means_border.proofs.InSpace.{meets-border}
 use Rattle.means_contact.proofs.Border.{border-meets}

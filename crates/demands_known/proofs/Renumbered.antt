@@ -1,6 +1,6 @@
 -- Known drawings with their vertices renumbered: what the demands say of them, in numbers. Assumes nothing.
 use mathlib.Core.Path.{_≡_, refl, sym, ap, _∙_, subst}
-use mathlib.Core.Bool.{Bool, true, false, not, _&&_, _||_, cond}
+use mathlib.Core.Bool.{Bool, true, false, not, _&&_, _||_, cond, and-comm}
 use mathlib.Core.Logic.{_⊎_, inl, inr}
 use mathlib.Core.List.{List, [], _∷_, map}
 use Prim.Native.Nat.{ℕ, _+_, _*_, _<_}
@@ -11,7 +11,7 @@ use lib.IntN.{pos}
 use lib.ListN.{length, getD, drop}
 use Rattle.lists.specs.Lists.{any, all, filter, upto, member}
 use Rattle.lists.proofs.Passing.{each-yes, any-yes, all-yes, all-append}
-use Rattle.lists.proofs.Truth.{and-left, and-right, and-swap, or-cases}
+use Rattle.lists.proofs.Truth.{and-left, and-right, or-cases}
 use Rattle.sets.specs.Word.{dig, digit, word}
 use Rattle.sets.proofs.Digits.{never}
 use Rattle.sets.proofs.Numbers.{digit-word}
@@ -154,7 +154,7 @@ unlike-rings f g u s =
 
     alike : Parts f g → all t f ≡ all t g
     alike p =
-        ap (all t) (p .before) ∙ all-append t (p .front) (p .back) ∙ and-swap (all t (p .front)) (all t (p .back))
+        ap (all t) (p .before) ∙ all-append t (p .front) (p .back) ∙ and-comm (all t (p .front)) (all t (p .back))
         ∙ sym (all-append t (p .back) (p .front)) ∙ ap (all t) (sym (p .after))
 
 -- some face of gs is like none of fs

@@ -43,6 +43,9 @@ whole-nonneg n = le-by (pos n ∷ []) (con (pos 0)) (var 0) (omega arith)
 pub whole-pos : (n : ℕ) → 0 < n → pos 0 <ℤ pos n
 whole-pos n h = lt-by (pos n ∷ []) (con (pos 0)) (var 0) (omega arith)
 
+pub one-pos : pos 0 <ℤ pos 1
+one-pos = record { lt = tt }
+
 pub from-one : (z : ℤ) → pos 0 <ℤ z → pos 0 ≤ℤ (z -ℤ pos 1)
 from-one z h = let ρ = z ∷ [] in le-by ρ (con (pos 0)) (var 0 ⊖ con (pos 1)) (omega (arith, lt-to ρ (con (pos 0)) (var 0) h))
 

@@ -12,11 +12,11 @@ use Rattle.lists.proofs.Truth.{and-left, and-both, same-truth}
 use Rattle.sets.specs.Word.{dig, Sub, count, both, first}
 use Rattle.sets.proofs.Digits.{never, dig-both, dig-only, dig-self, count-only, first-in, count-alone}
 use Rattle.sets.proofs.Ones.{dig-none}
-use Rattle.paper.specs.Solids.{onceEachWay, oriented}
 use Rattle.means_leaf.specs.Meaning.{In, InTwo, Way, stay, across}
 use Rattle.means_leaf.proofs.Spread.{place-in, allFrom}
 use Rattle.means_leaf.proofs.Reaches.{reached-ways, ways-reached}
-use Rattle.means_leaf.proofs.Directions.{once-suits, oriented-here}
+use Rattle.means_leaf.proofs.Directions.{once-suits}
+use Rattle.means_leaf.proofs.Each.{oriented-each}
 use Rattle.fast_sweeps.specs.Worklist.{after, edgesWith}
 use Rattle.fast_sweeps.proofs.Marks.{after-in, after-out, count-after, dig-sides}
 use Rattle.fast_leaf.specs.Faces.{Going, atEdge, aroundFace, atFace, goOn, toGo, alone, fromFace}
@@ -33,16 +33,6 @@ at-lt : (masks : List (List Bool)) (e f : ℕ) → dig (getD masks e []) f ≡ t
 at-lt [] e f h = never (sym h)
 at-lt (mask ∷ masks) zero f h = omega arith
 at-lt (mask ∷ masks) (suc e) f h = omega (arith, at-lt masks e f h)
-
-oriented-at : (masks ups : List (List Bool)) (taken ts : List Bool) → oriented masks ups taken ts ≡ true → length masks ≡ length ups
-    → (e : ℕ) → e < length masks
-    → onceEachWay (getD masks e []) (getD ups e []) taken ts ≡ true
-oriented-at [] ups taken ts o l e h = absurd (omega arith)
-oriented-at (mask ∷ masks) [] taken ts o l e h = absurd (omega arith)
-oriented-at (mask ∷ masks) (up ∷ ups) taken ts o l zero h = let q = oriented-here mask up masks ups taken ts o in q .0
-oriented-at (mask ∷ masks) (up ∷ ups) taken ts o l (suc e) h =
-    let q = oriented-here mask up masks ups taken ts o in
-    oriented-at masks ups taken ts (q .1) (omega arith) e (omega arith)
 
 -- ---- step by step, as a loop does it
 module _ (masks ups : List (List Bool)) (taken : List Bool) where
@@ -151,7 +141,7 @@ module _ (masks ups : List (List Bool)) (taken : List Bool) (start : ℕ) (same 
       fair-at : Fair masks ups taken start (atEdge (getD masks e []) (getD ups e []) taken f g)
       fair-at =
           edge-fair (getD masks e []) (getD ups e []) taken f g on-edge two-edge masks ups (place-in masks e (at-lt masks e f has))
-          (λ ts o. once-suits (getD masks e []) (getD ups e []) taken ts (oriented-at masks ups taken ts o same e (at-lt masks e f has))) rf
+          (λ ts o. once-suits (getD masks e []) (getD ups e []) taken ts (oriented-each taken ts masks ups same o e (at-lt masks e f has))) rf
           h
 
       covers-at : Sub (both (getD masks e []) taken) (atEdge (getD masks e []) (getD ups e []) taken f g .reached)

@@ -1,5 +1,5 @@
 -- One edge of a face: what is reached, waits and is turned after it. Assumes nothing.
-use mathlib.Core.Bool.{Bool, true, false, not, _&&_, _||_, cond, xor}
+use mathlib.Core.Bool.{Bool, true, false, not, _&&_, _||_, cond, xor, or-false}
 use mathlib.Core.List.{List, [], _∷_}
 use mathlib.Core.Logic.{_⊎_, inl, inr}
 use mathlib.Core.Path.{_≡_, refl, sym, ap, ap₂, _∙_, subst}
@@ -10,12 +10,11 @@ use lib.Dec.{eqb}
 use borrow.Author.Tests.{eq-eqb, ne-eqb}
 use Rattle.lists.proofs.Truth.{and-left, and-right, and-both, or-left, or-right, or-cases, never-true}
 use Rattle.sets.specs.Word.{bit, dig, Sub, count, both, either, less, only, first}
-use Rattle.sets.proofs.Digits.{never, dig-both, dig-either, dig-less, dig-self, count-le, count-none, count-one, count-only, count-with}
+use Rattle.sets.proofs.Digits.{never, dig-both, dig-either, dig-less, dig-self, count-le, count-none, count-one, count-only, count-with, left-in, left-out}
 use Rattle.sets.proofs.Digits.{first-in, count-split, count-alone}
 use Rattle.paper.specs.Solids.{unlike, oriented}
 use Rattle.means_leaf.specs.Meaning.{In, Way, across}
 use Rattle.means_leaf.proofs.Unlike.{dig-unlike}
-use Rattle.means_leaf.proofs.Counts.{left-in, left-out}
 use Rattle.means_leaf.proofs.Directions.{Suits}
 use Rattle.fast_leaf.specs.Faces.{Going, others, unlikeWays, atEdge, toGo}
 
@@ -53,13 +52,9 @@ module _ (b : Bool) (t o : List Bool) (k : ℕ) where
   turned-keep : dig o k ≡ false → dig (cond b t (either t o)) k ≡ dig t k
   turned-keep z = go b
     where
-      or-no : (x : Bool) → (x || false) ≡ x
-      or-no true = refl
-      or-no false = refl
-
       go : (b : Bool) → dig (cond b t (either t o)) k ≡ dig t k
       go true = refl
-      go false = dig-either t o k ∙ ap (λ (x : Bool). dig t k || x) z ∙ or-no (dig t k)
+      go false = dig-either t o k ∙ ap (λ (x : Bool). dig t k || x) z ∙ or-false (dig t k)
 
   turned-new : dig o k ≡ true → dig t k ≡ false → dig (cond b t (either t o)) k ≡ not b
   turned-new h z = go b

@@ -1,5 +1,5 @@
 -- A selection that has (i) is judged face by face as it is by passes over all edges. Assumes nothing.
-use mathlib.Core.Bool.{Bool, true, false, not, _&&_, cond}
+use mathlib.Core.Bool.{Bool, true, false, not, _&&_, cond, and-false}
 use mathlib.Core.List.{List}
 use mathlib.Core.Path.{_≡_, refl, sym, ap, _∙_, subst}
 use Prim.Native.Nat.{ℕ, zero, suc}
@@ -73,10 +73,6 @@ module _ (masks ups : List (List Bool)) (taken : List Bool) (same : length masks
         → oriented masks ups taken (fromLowest masks ups taken .turned) ≡ true
     found-oriented ts o = go (dig ts (first taken)) refl
       where
-        and-off : (x : Bool) → (x && false) ≡ false
-        and-off true = refl
-        and-off false = refl
-
         go : (b : Bool) → dig ts (first taken) ≡ b → oriented masks ups taken (fromLowest masks ups taken .turned) ≡ true
         go false e = oriented-alike taken (fromLowest masks ups taken .turned) ts (found-alike ts o e) masks ups ∙ o
         go true e =
@@ -84,7 +80,7 @@ module _ (masks ups : List (List Bool)) (taken : List Bool) (same : length masks
             (turned-opposite taken ts) masks ups ∙ o in
             let z : dig (less taken ts) (first taken) ≡ false
             = dig-less taken ts (first taken) ∙ ap (λ (x : Bool). dig taken (first taken) && not x) e
-            ∙ and-off (dig taken (first taken)) in
+            ∙ and-false (dig taken (first taken)) in
             oriented-alike taken (fromLowest masks ups taken .turned) (less taken ts) (found-alike (less taken ts) p z) masks ups ∙ p
 
     pub same-oriented : oriented masks ups taken (fromLowest masks ups taken .turned) ≡ oriented masks ups taken

@@ -9,7 +9,7 @@ use lib.Dec.{eqb}
 use lib.IntN.{ℤ, pos, _+ℤ_, +ℤ-idl}
 use lib.ListN.{getD}
 use borrow.Author.Tests.{eq-eqb, eqb-true}
-use Rattle.lists.proofs.Truth.{same-truth, never-true}
+use Rattle.lists.proofs.Truth.{same-truth, never-true, cond-passes}
 use Rattle.sets.specs.Word.{dig, count, both, first}
 use Rattle.sets.proofs.Digits.{never, first-in}
 use Rattle.sets.proofs.Ones.{dig-none, first-low}
@@ -17,10 +17,6 @@ use Rattle.paper.specs.Solids.{part, sixFrom, peaceful, clearFrom}
 use Rattle.fast_sweeps.specs.Worklist.{after}
 use Rattle.fast_sweeps.proofs.Marks.{after-in, after-out, count-after}
 use Rattle.fast_leaf.specs.Faces.{clearOn, sixOn}
-
-passes : (b c : Bool) → cond b c false ≡ true → (b ≡ true) × (c ≡ true)
-passes true c e = (refl, e)
-passes false c e = never (sym e)
 
 -- ---- (v)
 abbrev Peace : List (List Bool) → List Bool → ℕ → Type 0
@@ -39,11 +35,11 @@ module _ (taken : List Bool) where
   unfolding clearFrom both count
   from-all [] k e m h = refl
   from-all (c ∷ cs) k e zero h =
-      let q = passes (peaceful (dig taken k) (count (both c taken))) (clearFrom (suc k) cs taken) e in
+      let q = cond-passes (peaceful (dig taken k) (count (both c taken))) (clearFrom (suc k) cs taken) e in
       let z : k + 0 ≡ k = omega arith in
       peace-is (dig taken k) (count (both c taken)) (q .0) (subst (λ (x : ℕ). dig taken x ≡ true) z h)
   from-all (c ∷ cs) k e (suc m) h =
-      let q = passes (peaceful (dig taken k) (count (both c taken))) (clearFrom (suc k) cs taken) e in
+      let q = cond-passes (peaceful (dig taken k) (count (both c taken))) (clearFrom (suc k) cs taken) e in
       let z : k + suc m ≡ suc k + m = omega arith in
       from-all cs (suc k) (q .1) m (subst (λ (x : ℕ). dig taken x ≡ true) z h)
 
@@ -64,7 +60,7 @@ module _ (taken : List Bool) where
   on-all (suc n) cs left z e k h =
       let some : count left ≡ 0 → ⊥ = λ y. absurd (omega arith) in
       let m : count (after left) ≡ n = omega (arith, count-after left some) in
-      let q = passes (eqb (count (both (getD cs (first left) []) taken)) 0) (clearOn n cs (after left) taken) e in
+      let q = cond-passes (eqb (count (both (getD cs (first left) []) taken)) 0) (clearOn n cs (after left) taken) e in
       go (ℕ-discrete k (first left)) (eqb-true (count (both (getD cs (first left) []) taken)) 0 (q .0))
       (on-all n cs (after left) m (q .1) k)
     where

@@ -3,32 +3,16 @@ use mathlib.Core.Path.{_≡_, refl, sym, _∙_, ap}
 use mathlib.Core.Bool.{Bool, true, false, _&&_, cond, and-false}
 use mathlib.Core.Logic.{inl, inr}
 use mathlib.Core.List.{[], _∷_}
-use lib.IntN.{ℤ, pos, negℤ}
+use lib.IntN.{ℤ, pos}
 use lib.Signed.{ltZ, leZ, _<ℤ_}
 use Rattle.exact.proofs.Signs.{lt-yes, pos-ne, <ℤ-ne}
 use Rattle.lists.proofs.Truth.{same-truth, never-true, and-left, and-right}
-use Rattle.paper.specs.Points.{origin, minus, times, dot, cross, isZero, isOrigin}
+use Rattle.paper.specs.Points.{origin, minus, dot, cross, isZero, isOrigin}
 use Rattle.paper.specs.Drawing.{cutsOpen, openMeets}
 use Rattle.paper.specs.declared.Point.{Point}
-use Rattle.paper_laws.proofs.Points.{origin-yes, origin-is, differ, scale-zero, in-line, self-pos}
-use Rattle.paper_laws.proofs.Vectors.{num, vec, k, x, negs, _·_, o, v, _-v_, _*v_, _×v_, vring}
+use Rattle.paper_laws.proofs.Points.{origin-yes, origin-is, differ, cross-line, cross-turned}
+use Rattle.paper_laws.proofs.Vectors.{vec, k, _·_, o, v, _-v_, _×v_, vring}
 use Rattle.fast_meets.specs.Theorems.{Longs, EndShared, laps, second, OneGivesBoth, JoinedMeetNoMore}
-
--- ---- directions in one line
-
-module _ (p q : Point) where
-  turned : cross p q ≡ origin → cross q p ≡ origin
-  turned e = vring (vec p ∷ vec q ∷ []) (v 1 ×v v 0) (o -v v 0 ×v v 1) tt ∙ ap (minus origin) e ∙ vring [] (o -v o) o tt
-
-  -- what is in line with p is in line with q, which is
-  swing : (r : Point) → (p ≡ origin → ⊥) → cross p q ≡ origin → cross p r ≡ origin → cross q r ≡ origin
-  swing r long e h =
-      scale-zero (dot p p) (cross q r) (pos-ne (self-pos p long))
-      (vring (num (dot p p) ∷ vec q ∷ vec r ∷ []) (x 0 *v (v 1 ×v v 2)) (v 1 ×v (x 0 *v v 2)) tt
-      ∙ ap (cross q) (in-line p r h)
-      ∙ vring (num (dot p r) ∷ vec p ∷ vec q ∷ []) (v 2 ×v (x 0 *v v 1)) (negs (x 0) *v (v 1 ×v v 2)) tt
-      ∙ ap (times (negℤ (dot p r))) e
-      ∙ vring (num (dot p r) ∷ []) (negs (x 0) *v o) o tt)
 
 -- both zero or neither
 same-zero : {u w : Point} → (u ≡ origin → w ≡ origin) → (w ≡ origin → u ≡ origin) → isOrigin u ≡ isOrigin w
@@ -61,8 +45,8 @@ module _ (a b c d : Point) where
   one-line : Longs a b c d → N ≡ origin → isOrigin (cross Q B) ≡ isOrigin (cross P R)
   one-line long e =
       same-zero
-      (λ h. back (swing Q P B (differ (long .cd)) (turned P Q e) h))
-      (λ h. swing P Q B (differ (long .ab)) e (opposite ∙ ap (minus origin) h ∙ vring [] (o -v o) o tt))
+      (λ h. back (cross-line Q P B (differ (long .cd)) (cross-turned P Q e) h))
+      (λ h. cross-line P Q B (differ (long .ab)) e (opposite ∙ ap (minus origin) h ∙ vring [] (o -v o) o tt))
     where
       back : cross P B ≡ origin → cross P R ≡ origin
       back h =
@@ -71,7 +55,7 @@ module _ (a b c d : Point) where
   pub one-gives-both : OneGivesBoth a b c d
   unfolding openMeets second laps
   one-gives-both long =
-      ap (λ (t : Bool). cond t (isOrigin (cross Q B) && laps c d a b) (across (cross Q P) B P Q)) (same-zero (turned Q P) (turned P Q))
+      ap (λ (t : Bool). cond t (isOrigin (cross Q B) && laps c d a b) (across (cross Q P) B P Q)) (same-zero (cross-turned Q P) (cross-turned P Q))
       ∙ go (isOrigin N) refl
     where
       across : Point → Point → Point → Point → Bool
@@ -165,5 +149,5 @@ other-way (inr (inr (inr h))) = inr (inr (inr (sym h)))
 pub joined-meet-no-more : (a b c d : Point) → JoinedMeetNoMore a b c d
 joined-meet-no-more a b c d e shared = record {
   first = joined-first a b c d e shared;
-  second = joined-first c d a b (same-zero (turned (minus d c) (minus b a)) (turned (minus b a) (minus d c)) ∙ e) (other-way shared);
+  second = joined-first c d a b (same-zero (cross-turned (minus d c) (minus b a)) (cross-turned (minus b a) (minus d c)) ∙ e) (other-way shared);
 }

@@ -1,37 +1,35 @@
 -- Where 9, 11 and 12 have passed, an edge that meets a vertex meets an edge that ends there. Assumes nothing.
-use mathlib.Core.Path.{_≡_, refl, sym, _∙_, ap, subst}
+use mathlib.Core.Path.{_≡_, sym, _∙_, ap, subst}
 use mathlib.Core.Bool.{Bool, true, not, _&&_, true≢false}
 use mathlib.Core.Logic.{inl, inr, _↔_}
 use mathlib.Core.List.{[], _∷_}
-use Prim.Native.Nat.{ℕ, _<_}
+use Prim.Native.Nat.{ℕ}
 use borrow.Author.Tests.{eq-eqb, ne-eqb, not-true}
 use lib.Dec.{eqb}
 use lib.IntN.{ℤ, pos, negsuc, _-ℤ_}
 use lib.ListN.{length}
-use lib.Signed.{_<ℤ_, ≤ℤ-refl}
+use lib.Signed.{≤ℤ-refl}
 use Rattle.exact.proofs.Signs.{<ℤ-≤ℤ, pos-ne}
-use Rattle.exact.proofs.Order.{sub-pos}
+use Rattle.exact.proofs.Order.{sub-pos, one-pos}
 use Rattle.lists.specs.Lists.{lowest}
 use Rattle.lists.proofs.Truth.{and-left, and-right, and-both}
 use Rattle.lists.proofs.Passing.{some-yes, some-is}
 use Rattle.paper.specs.Points.{minus, times}
-use Rattle.paper.specs.Drawing.{Wire, Edge, edge, at, edgeAt, edgesMeet, openMeets, edgeMeets}
+use Rattle.paper.specs.Drawing.{Wire, at, edgeAt, openMeets, edgeMeets}
 use Rattle.paper.specs.declared.Point.{Point}
 use Rattle.paper_laws.proofs.Points.{differ, from-eq, scale-zero}
 use Rattle.paper_laws.proofs.Vectors.{num, vec, k, x, _-s_, o, v, _+v_, _-v_, _*v_, vring}
 use Rattle.means_drawing.specs.Segments.{Between, Common, along}
-use Rattle.means_drawing.specs.Drawings.{start, stop, from, to, HasEdge, EndOf, Long, Meets, vertex, other}
+use Rattle.means_drawing.specs.Drawings.{from, to, HasEdge, EndOf, Long, Meets, vertex, other}
 use Rattle.means_drawing.proofs.Segments.{openMeets-means}
 use Rattle.means_drawing.proofs.Drawings.{looseVertex-means, edgeMeets-finds, long-edges}
 use Rattle.means_drawing.proofs.Searches.{finds}
+use Rattle.means_drawing.proofs.Drawings.Edges.{edgesMeet-is}
 use Rattle.fast_meets.specs.Pairs.{meetAt}
 use Rattle.fast_meets.specs.Theorems.{Tied, metAt, EdgesTell}
 use Rattle.fast_meets.proofs.Searches.{finds-one}
 
 -- ---- a point between two others
-
-one-pos : pos 0 <ℤ pos 1
-one-pos = record { lt = tt }
 
 module _ {a b p : Point} (t : Between a b p) where
   abbrev D : ℤ
@@ -87,13 +85,9 @@ module _ (d : Wire) where
   abbrev B : ℕ → Point
   B e = at d (to d e)
 
-  of-edges : (e f : Edge) → edgesMeet d e f ≡ openMeets (at d (start e)) (at d (stop e)) (at d (start f)) (at d (stop f))
-  unfolding edgesMeet
-  of-edges (edge a b) (edge u w) = refl
-
   meet-is : (e f : ℕ) → meetAt d e f ≡ openMeets (A e) (B e) (A f) (B f)
   unfolding meetAt
-  meet-is e f = of-edges (edgeAt d e) (edgeAt d f)
+  meet-is e f = edgesMeet-is d (edgeAt d e) (edgeAt d f)
 
   -- edge e shares a point with another edge, not at its own ends
   abbrev pub Other : ℕ → Type 0

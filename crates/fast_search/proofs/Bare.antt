@@ -23,6 +23,7 @@ use Rattle.paper.specs.Points.{origin, minus, dot, cross, isOrigin, samePoint}
 use Rattle.paper.specs.Drawing.{Wire, Edge, edge, at, edgeAt, joins, joined, samePlace, onOpen, vertexOn, edgesMeet, edgeMeets}
 use Rattle.paper.specs.Loops.{final, closes, branch, scan, ext, follows, across, level, loops}
 use Rattle.paper.specs.declared.Point.{Point}
+use Rattle.paper_laws.proofs.Wires.{joined-turned}
 use Rattle.fast_search.specs.Search.{near, higher, turn, step, inItsPlane}
 use Rattle.fast_search.specs.Bare.{bareLine, bareSeconds, bareStarts, bareSearch}
 use Rattle.fast_search.proofs.Scan.{goes, each-scan}
@@ -31,7 +32,7 @@ use Rattle.fast_search.proofs.Line.{Between, between-open, between-turn
 use Rattle.fast_search.proofs.Line.{long-between, at-end}
 use Rattle.fast_search.proofs.Search.{deeper-is, step-is, higher-free, start-level, start-closing}
 use Rattle.fast_search.proofs.Search.{follow-uses, final-in}
-use Rattle.fast_search.proofs.Sets.{joined-back, final-more, can, ends, size, follow, deep, begun, Free, Closing, row-is}
+use Rattle.fast_search.proofs.Sets.{final-more, can, ends, size, follow, deep, begun, Free, Closing, row-is}
 use Rattle.fast_search.proofs.Sets.{free-more, follow-can, closes-ends}
 
 module _ (d : Wire) (places : samePlace d ≡ none) (meets : edgeMeets d ≡ none) where
@@ -116,7 +117,7 @@ module _ (d : Wire) (places : samePlace d ≡ none) (meets : edgeMeets d ≡ non
         go : (dot e u <ℤ dot e e) ⊎ (dot e e ≤ℤ dot e u) → (dot e e <ℤ dot e u) ⊎ (dot e u ≤ℤ dot e e) → ⊥
         go (inl b) c = no-between x y l hl side (short-between (at d x) (at d y) (at d l) apart-start (a .line) (a .front) b)
         go (inr b) (inl c) =
-            no-between x l y hy (joined-back d x l ∙ j) (long-between (at d x) (at d y) (at d l) apart-start (a .line) (a .front) c)
+            no-between x l y hy (joined-turned d x l ∙ j) (long-between (at d x) (at d y) (at d l) apart-start (a .line) (a .front) c)
         go (inr b) (inr c) =
             true≢false (sym (at-end (at d x) (at d y) (at d l) apart-start (a .line) (a .front) (≤ℤ-antisym c b)) ∙ apart l y hl hy n)
 

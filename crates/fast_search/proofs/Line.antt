@@ -6,23 +6,17 @@ use lib.IntN.{ℤ, pos, negsuc, _-ℤ_, _*ℤ_, *ℤ-zero}
 use lib.Signed.{_<ℤ_}
 use Rattle.lists.proofs.Truth.{and-both}
 use Rattle.exact.proofs.Ring.{var, con, _⊗_, _⊖_, neg, ring}
-use Rattle.exact.proofs.Order.{square-nonneg, add-nonneg, sub-pos, neg-lt, mul-lt, lt-cancel}
-use Rattle.exact.proofs.Signs.{mul-zero, lt-is, lt-of-le-ne, lt-subst}
-use Rattle.paper.specs.Points.{pt, origin, minus, dot, cross, isZero, isOrigin, below}
+use Rattle.exact.proofs.Order.{sub-pos, neg-lt, mul-lt, lt-cancel}
+use Rattle.exact.proofs.Signs.{mul-zero, lt-is, lt-subst}
+use Rattle.paper.specs.Points.{pt, origin, minus, dot, cross, isOrigin, below}
 use Rattle.paper.specs.Drawing.{onOpen}
 use Rattle.paper.specs.declared.Point.{Point}
+use Rattle.paper_laws.proofs.Points.{origin-is, dot-comm, cross-turned, cross-line, origin-no, self-pos}
 use Rattle.means_clash.proofs.Combine.{combine, Given, E3, vars, minusE, dotE, crossE}
 use Rattle.means_clash.proofs.Planes.{self-zero}
 
-same-origin : (p : Point) → p ≡ origin → isOrigin p ≡ true
-unfolding isOrigin isZero
-same-origin p e = ap isOrigin e
-
 pub self-above : (e : Point) → isOrigin e ≡ false → pos 0 <ℤ dot e e
-unfolding dot
-self-above e n =
-    lt-of-le-ne (add-nonneg (add-nonneg (square-nonneg (e .x)) (square-nonneg (e .y))) (square-nonneg (e .z)))
-    (λ z. true≢false (sym (self-zero e (sym z)) ∙ n))
+self-above e n = self-pos e (origin-no n)
 
 abbrev A : E3
 A = vars 0 1 2
@@ -54,45 +48,6 @@ no-place e v n h z =
     (mul-zero (dot e e) (dot v v) (λ s. true≢false (sym (self-zero e s) ∙ n)) (lagrange e v v h ∙ ap (λ (k : ℤ). dot e v *ℤ k) z
     ∙ *ℤ-zero (dot e v)))
 
--- two in line with e are in line with each other, coordinate by coordinate
-module _ (e u v : Point) (n : isOrigin e ≡ false) (h : cross e u ≡ origin) (k : cross e v ≡ origin) where
-  abbrev ρ : List ℤ
-  ρ = e .x ∷ e .y ∷ e .z ∷ u .x ∷ u .y ∷ u .z ∷ v .x ∷ v .y ∷ v .z ∷ []
-
-  real : dot e e ≡ pos 0 → ⊥
-  real s = true≢false (sym (self-zero e s) ∙ n)
-
-  at-x : dot e e *ℤ cross u v .x ≡ pos 0
-  unfolding dot cross
-  at-x =
-      combine ρ (dotE A A ⊗ crossE B C .ex) (con (pos 0))
-      (record { times = dotE A B; one = crossE A C .ex; other = con (pos 0) }
-      ∷ zeros (record { ex = A .ex ⊗ C .ex ⊖ dotE A C; ey = A .ex ⊗ C .ey; ez = A .ex ⊗ C .ez }) (crossE A B)) tt
-      (ap (λ (r : Point). r .x) k, (ap (λ (r : Point). r .x) h, (ap (λ (r : Point). r .y) h, (ap (λ (r : Point). r .z) h, tt))))
-
-  at-y : dot e e *ℤ cross u v .y ≡ pos 0
-  unfolding dot cross
-  at-y =
-      combine ρ (dotE A A ⊗ crossE B C .ey) (con (pos 0))
-      (record { times = dotE A B; one = crossE A C .ey; other = con (pos 0) }
-      ∷ zeros (record { ex = A .ey ⊗ C .ex; ey = A .ey ⊗ C .ey ⊖ dotE A C; ez = A .ey ⊗ C .ez }) (crossE A B)) tt
-      (ap (λ (r : Point). r .y) k, (ap (λ (r : Point). r .x) h, (ap (λ (r : Point). r .y) h, (ap (λ (r : Point). r .z) h, tt))))
-
-  at-z : dot e e *ℤ cross u v .z ≡ pos 0
-  unfolding dot cross
-  at-z =
-      combine ρ (dotE A A ⊗ crossE B C .ez) (con (pos 0))
-      (record { times = dotE A B; one = crossE A C .ez; other = con (pos 0) }
-      ∷ zeros (record { ex = A .ez ⊗ C .ex; ey = A .ez ⊗ C .ey; ez = A .ez ⊗ C .ez ⊖ dotE A C }) (crossE A B)) tt
-      (ap (λ (r : Point). r .z) k, (ap (λ (r : Point). r .x) h, (ap (λ (r : Point). r .y) h, (ap (λ (r : Point). r .z) h, tt))))
-
-  line-line : cross u v ≡ origin
-  line-line =
-      let X = mul-zero (dot e e) (cross u v .x) real at-x in
-      let Y = mul-zero (dot e e) (cross u v .y) real at-y in
-      let Z = mul-zero (dot e e) (cross u v .z) real at-z in
-      λ i. pt (X i) (Y i) (Z i)
-
 -- ---- p is between a and b
 pub record Between (a b p : Point) : Type 0 where
   pub line : cross (minus b a) (minus p a) ≡ origin
@@ -100,7 +55,7 @@ pub record Between (a b p : Point) : Type 0 where
 
 pub between-open : {a b p : Point} → Between a b p → onOpen a b p ≡ true
 unfolding onOpen below
-between-open {a} {b} {p} t = and-both (same-origin (cross (minus b a) (minus p a)) (t .line)) (lt-is (t .back))
+between-open {a} {b} {p} t = and-both (origin-is (t .line)) (lt-is (t .back))
 
 turned : (a b p : Point) → cross (minus b a) (minus p a) ≡ origin → cross (minus a b) (minus p b) ≡ origin
 unfolding cross minus
@@ -116,27 +71,9 @@ turned a b p h =
     (ap (λ (q : Point). q .z) h, tt) in
     λ i. pt (X i) (Y i) (Z i)
 
-dot-turned : (u v : Point) → dot u v ≡ dot v u
-unfolding dot
-dot-turned u v = ring (u .x ∷ u .y ∷ u .z ∷ v .x ∷ v .y ∷ v .z ∷ []) (dotE A B) (dotE B A) tt
-
 pub between-turned : {a b p : Point} → Between a b p → Between b a p
 between-turned {a} {b} {p} t =
-    record { line = turned a b p (t .line); back = lt-subst (dot-turned (minus p a) (minus p b)) refl (t .back) }
-
-swapped : (e u : Point) → cross e u ≡ origin → cross u e ≡ origin
-unfolding cross
-swapped e u h =
-    let r = e .x ∷ e .y ∷ e .z ∷ u .x ∷ u .y ∷ u .z ∷ [] in
-    let one = crossE A B in
-    let two = crossE B A in
-    let X = combine r (two .ex) (con (pos 0)) (record { times = con (negsuc 0); one = one .ex; other = con (pos 0) } ∷ []) tt
-    (ap (λ (q : Point). q .x) h, tt) in
-    let Y = combine r (two .ey) (con (pos 0)) (record { times = con (negsuc 0); one = one .ey; other = con (pos 0) } ∷ []) tt
-    (ap (λ (q : Point). q .y) h, tt) in
-    let Z = combine r (two .ez) (con (pos 0)) (record { times = con (negsuc 0); one = one .ez; other = con (pos 0) } ∷ []) tt
-    (ap (λ (q : Point). q .z) h, tt) in
-    λ i. pt (X i) (Y i) (Z i)
+    record { line = turned a b p (t .line); back = lt-subst (dot-comm (minus p a) (minus p b)) refl (t .back) }
 
 sub-below : {a b : ℤ} → a <ℤ b → (a -ℤ b) <ℤ pos 0
 sub-below {a} {b} h = lt-subst (ring (a ∷ b ∷ []) (neg (var 1 ⊖ var 0)) (var 0 ⊖ var 1) tt) refl (neg-lt (sub-pos h))
@@ -170,7 +107,7 @@ module _ (x y l : Point) (n : isOrigin (minus y x) ≡ false) (h : cross (minus 
 
   pub start-between : (w : Point) → cross (minus y x) (minus w x) ≡ origin → dot (minus y x) (minus w x) <ℤ pos 0 → Between l w x
   start-between w k b = record {
-    line = sym (moved w) ∙ line-line (minus y x) (minus l x) (minus w x) n h k;
+    line = sym (moved w) ∙ cross-line (minus y x) (minus l x) (minus w x) (origin-no n) h k;
     back = lt-subst (moved-dot w) refl
         (lt-cancel (dot e e) (self-above e n)
         (lt-subst (sym (lagrange e u (minus w x) h)) (*ℤ-zero (dot e u) ∙ sym (*ℤ-zero (dot e e))) (mul-lt (dot e u) ahead b)));
@@ -202,7 +139,7 @@ module _ (x y l : Point) (n : isOrigin (minus y x) ≡ false) (h : cross (minus 
       (dotE (minusE B A) (minusE B A) ⊖ dotE (minusE B A) (minusE C A)) (dotE (minusE B A) (minusE B C)) tt
 
   pub long-between : dot e e <ℤ dot e u → Between x l y
-  long-between b = record { line = swapped e u h; back = lt-subst long-dot refl (sub-below b) }
+  long-between b = record { line = cross-turned e u h; back = lt-subst long-dot refl (sub-below b) }
 
   -- neither: l is at y
   end-dot : dot e u ≡ dot e e → dot e e *ℤ dot (minus l y) (minus l y) ≡ pos 0

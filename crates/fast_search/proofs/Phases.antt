@@ -1,14 +1,14 @@
 -- A path in one line has no plane yet, and every vertex is level with it; the first vertex off the line fixes the plane, and it stays.
 -- Assumes nothing.
 use mathlib.Core.Bool.{Bool, true, false}
-use mathlib.Core.List.{List, [], _∷_, _++_, map}
+use mathlib.Core.List.{List, [], _∷_, _++_}
 use mathlib.Core.Path.{_≡_, refl, sym, ap, _∙_}
 use Prim.Native.Nat.{ℕ, _<_}
 use lib.IntN.{pos}
 use native.Mathlib.Omega.{arith}
 use lib.ListN.{length, getD, length-replicate, getD-replicate}
 use lib.Seq.{ext-getD}
-use Rattle.paper_laws.proofs.Points.{origin-yes}
+use Rattle.paper_laws.proofs.Points.{origin-yes, dot-origin, zero-is}
 use Rattle.lists.proofs.Places.{made-length, made-at}
 use Rattle.exact.proofs.Ring.{con, ring}
 use Rattle.sets.specs.Word.{dig}
@@ -16,19 +16,10 @@ use Rattle.paper.specs.Points.{pt, origin, minus, dot, cross, isZero, isOrigin}
 use Rattle.paper.specs.Drawing.{Wire, at}
 use Rattle.paper.specs.Loops.{tilt, tilted, across, level}
 use Rattle.paper.specs.declared.Point.{Point}
+use Rattle.paper_laws.proofs.Tilted.{tilt-found, tilt-none, across-more}
 use Rattle.means_clash.proofs.Combine.{vars, minusE, crossE}
-use Rattle.means_clash.proofs.Planes.{yes-zero, none-dot}
-use Rattle.means_clash.proofs.Level.{tilt-none, own-zero, tilt-found}
+use Rattle.means_clash.proofs.Level.{own-zero}
 use Rattle.fast_search.specs.Search.{onPlane, planeMask, planeOf, turn, every}
-
-map-more : (f : ℕ → Point) (p : List ℕ) (v : ℕ) → map f (p ++ v ∷ []) ≡ map f p ++ f v ∷ []
-map-more f [] v = refl
-map-more f (x ∷ p) v = ap (λ (l : List Point). f x ∷ l) (map-more f p v)
-
-tilted-more : (s b n : Point) (ps : List Point) (p : Point) → tilted s b n (ps ++ p ∷ []) ≡ tilt s b (tilted s b n ps) p
-unfolding tilted
-tilted-more s b n [] p = refl
-tilted-more s b n (q ∷ ps) p = tilted-more s b (tilt s b n q) ps p
 
 -- ---- no plane yet: one vertex, or two
 none-start : (e s : Point) → cross e (minus s s) ≡ origin
@@ -70,30 +61,23 @@ module _ (d : Wire) where
       ∙ tilt-none (at d x) (at d y) origin (at d y) origin-is ∙ none-self (minus (at d y) (at d x))) ∙ origin-is
 
   -- ---- one vertex more
-  across-more : (x y : ℕ) (r : List ℕ) (v : ℕ) → across d (x ∷ (y ∷ (r ++ v ∷ []))) ≡ tilt (at d x) (at d y) (across d (x ∷ (y ∷ r)))
-      (at d v)
-  unfolding across
-  across-more x y r v =
-      ap (tilted (at d x) (at d y) origin) (map-more (at d) (x ∷ (y ∷ r)) v)
-      ∙ tilted-more (at d x) (at d y) origin (map (at d) (x ∷ (y ∷ r))) (at d v)
-
   -- the plane stays
   pub across-found : (x y : ℕ) (r : List ℕ) (v : ℕ) → isOrigin (across d (x ∷ (y ∷ r))) ≡ false
       → across d (x ∷ (y ∷ (r ++ v ∷ []))) ≡ across d (x ∷ (y ∷ r))
-  across-found x y r v e = across-more x y r v ∙ tilt-found (at d x) (at d y) (across d (x ∷ (y ∷ r))) (at d v) e
+  across-found x y r v e = across-more d x y r v ∙ tilt-found (at d x) (at d y) (across d (x ∷ (y ∷ r))) (at d v) e
 
   -- while there is none, the next vertex fixes it, unless it is in line too
   pub across-turn : (x y : ℕ) (r : List ℕ) (v : ℕ) → isOrigin (across d (x ∷ (y ∷ r))) ≡ true
       → across d (x ∷ (y ∷ (r ++ v ∷ []))) ≡ turn d (x ∷ (y ∷ r)) v
   unfolding turn
-  across-turn x y r v e = across-more x y r v ∙ tilt-none (at d x) (at d y) (across d (x ∷ (y ∷ r))) (at d v) e
+  across-turn x y r v e = across-more d x y r v ∙ tilt-none (at d x) (at d y) (across d (x ∷ (y ∷ r))) (at d v) e
 
   -- ---- who is level
   pub level-line : (p : List ℕ) → isOrigin (across d p) ≡ true → (w : ℕ) → level d p w ≡ true
   unfolding level
   level-line p e w =
       let q = minus (at d w) (at d (getD p 0 0)) in
-      yes-zero (dot (across d p) q) (ap (λ (n : Point). dot n q) (origin-yes (across d p) e) ∙ none-dot q)
+      zero-is (ap (λ (n : Point). dot n q) (origin-yes (across d p) e) ∙ dot-origin q)
 
   pub level-is : (p : List ℕ) (w : ℕ) → level d p w ≡ onPlane d (at d (getD p 0 0)) (across d p) w
   unfolding level onPlane
@@ -123,7 +107,7 @@ module _ (d : Wire) where
   turn-inside x y r v =
       let e = minus (at d y) (at d x) in
       let q = minus (at d v) (at d x) in
-      yes-zero (dot (cross e q) q) (own-zero e q)
+      zero-is (own-zero e q)
 
   -- ---- the digits of those in the plane
   pub plane-at : (s m : Point) (w : ℕ) → w < length (d .vertices) → dig (planeMask d s m) w ≡ onPlane d s m w

@@ -5,14 +5,13 @@ use mathlib.Core.Path.{_≡_, ap, _∙_}
 use Prim.Native.Nat.{ℕ, _≤_, _<_}
 use native.Mathlib.Omega.{arith}
 use lib.ListN.{length, getD, List·getD-eq-default}
-use Rattle.paper_laws.proofs.Points.{zero-yes}
+use Rattle.paper_laws.proofs.Points.{zero-yes, dot-less, zero-is, dot-even}
 use Rattle.lists.proofs.Places.{map-at}
 use Rattle.sets.specs.Word.{dig}
 use Rattle.paper.specs.Points.{minus, dot, isZero}
 use Rattle.paper.specs.Drawing.{Wire, at}
 use Rattle.paper.specs.Loops.{Loop, loopAt, across, loops}
 use Rattle.paper.specs.declared.Point.{Point}
-use Rattle.means_clash.proofs.Planes.{yes-zero, same-offset, offset-same}
 use Rattle.fast_search.specs.Search.{InItsPlane, onPlane, planeOf, inItsPlane, search}
 use Rattle.fast_search.proofs.Phases.{plane-at, plane-length}
 use Rattle.fast_search.proofs.Search.{search-is}
@@ -35,8 +34,8 @@ module _ (d : Wire) where
   -- in the plane: at the offset of s
   pub inside-offset : (s m : Point) (w : ℕ) → onPlane d s m w ≡ true → dot m (at d w) ≡ dot m s
   unfolding onPlane
-  inside-offset s m w e = same-offset m (at d w) s (zero-yes (dot m (minus (at d w) s)) e)
+  inside-offset s m w e = dot-less m (at d w) s (zero-yes (dot m (minus (at d w) s)) e)
 
   pub offset-inside : (s m : Point) (w : ℕ) → dot m (at d w) ≡ dot m s → onPlane d s m w ≡ true
   unfolding onPlane
-  offset-inside s m w e = yes-zero (dot m (minus (at d w) s)) (offset-same m (at d w) s e)
+  offset-inside s m w e = zero-is (dot-even m (at d w) s e)

@@ -16,6 +16,7 @@ use Rattle.sets.proofs.Ones.{full-is}
 use Rattle.paper.specs.Points.{isOrigin}
 use Rattle.paper.specs.Drawing.{Wire, at, joined}
 use Rattle.paper.specs.Loops.{Loop, final, follows, closes, branch, scan, ext, across, level, loops}
+use Rattle.paper_laws.proofs.Wires.{joined-turned}
 use Rattle.fast_search.specs.Rows.{when, eachOf, someOf}
 use Rattle.fast_search.specs.Search.{InItsPlane, own, near, every, higher, onPlane, planeMask, turn, inPlane, step, onLine, seconds}
 use Rattle.fast_search.specs.Search.{starts, search, planeOf, inItsPlane}
@@ -23,7 +24,7 @@ use Rattle.fast_search.proofs.Rows.{empty-none, some-not}
 use Rattle.fast_search.proofs.Scan.{goes, each-scan, ext-dead}
 use Rattle.fast_search.proofs.Phases.{one-line, two-line, across-found, across-turn, level-line, level-found, level-turn}
 use Rattle.fast_search.proofs.Phases.{level-back, turn-inside, planeOf-found, planeOf-turn, planeOf-line}
-use Rattle.fast_search.proofs.Sets.{member-more, final-more, joined-back, can, ends, size, follow, deep, begun, follow-can}
+use Rattle.fast_search.proofs.Sets.{member-more, final-more, can, ends, size, follow, deep, begun, follow-can}
 use Rattle.fast_search.proofs.Sets.{closes-ends, Free, Closing, row-is, free-more, free-turn}
 
 module _ (d : Wire) where
@@ -246,7 +247,7 @@ module _ (d : Wire) where
           j ≡ true = (λ i. lt-ltb x j (omega arith) i && not (ne i || false) && level-line d (x ∷ []) (one-line d x) j i) in
           ap (λ (b : Bool). ltb w j && b)
           (ap (λ (b : Bool). b && follow d (x ∷ []) j) (lt-ltb j (size d) h) ∙ follow-can d x [] j ∙ (λ i. joined d x j && u i)
-          ∙ and-true (joined d x j) ∙ joined-back d x j)
+          ∙ and-true (joined d x j) ∙ joined-turned d x j)
 
   seconds-is : (x : ℕ) → seconds d x ≡ map (inItsPlane d) (deep d 11 (x ∷ []))
   unfolding seconds ext

@@ -1,8 +1,8 @@
 -- What the search's sets hold: the vertices that a path may go on to, and those that may close it. Assumes nothing.
-use mathlib.Core.Bool.{Bool, true, false, not, _&&_, _||_, and-comm, or-comm, or-false, or-assoc, and-true, and-false}
+use mathlib.Core.Bool.{Bool, true, false, not, _&&_, _||_, or-false, or-assoc, and-true, and-false, and-assoc}
 use mathlib.Core.List.{List, [], _∷_, _++_, map}
 use mathlib.Core.Path.{_≡_, refl, sym, ap, _∙_}
-use Prim.Native.Nat.{ℕ, _+_, _-_, _≤_, _<_}
+use Prim.Native.Nat.{ℕ, _-_, _≤_, _<_}
 use native.Mathlib.Omega.{arith}
 use native.Mathlib.Decide.{decLt}
 use lib.Dec.{eqb, ltb, leb, eqb·suc-zero}
@@ -15,7 +15,7 @@ use Rattle.sets.specs.Word.{dig, both, less, only}
 use Rattle.sets.proofs.Digits.{dig-both, dig-less}
 use Rattle.sets.proofs.Ones.{only-is}
 use Rattle.paper.specs.Points.{isOrigin}
-use Rattle.paper.specs.Drawing.{Wire, Edge, edge, at, joins, joined}
+use Rattle.paper.specs.Drawing.{Wire, at, joined}
 use Rattle.paper.specs.Loops.{Loop, final, follows, closes, branch, ext, across, level}
 use Rattle.fast_search.specs.Search.{near, planeMask, turn}
 use Rattle.fast_search.proofs.Scan.{goes}
@@ -32,21 +32,6 @@ pub final-more : (p : List ℕ) (v : ℕ) → final (p ++ v ∷ []) ≡ v
 final-more p v = getD-at p v [] 0 (length (p ++ v ∷ []) - 1) (omega (arith, length-append p (v ∷ [])))
 
 -- an edge joins both ways
-joins-back : (u v : ℕ) (e : Edge) → joins u v e ≡ joins v u e
-unfolding joins
-joins-back u v (edge a b) = swap (eqb u a) (eqb v b) (eqb u b) (eqb v a)
-  where
-    swap : (p q r s : Bool) → (p && q || r && s) ≡ (s && r || q && p)
-    swap p q r s = or-comm (p && q) (r && s) ∙ (λ i. and-comm r s i || and-comm p q i)
-
-pub joined-back : (d : Wire) (u v : ℕ) → joined d u v ≡ joined d v u
-unfolding joined any
-joined-back d u v = go (d .edges)
-  where
-    go : (es : List Edge) → any (joins u v) es ≡ any (joins v u) es
-    go [] = refl
-    go (e ∷ es) = λ i. joins-back u v e i || go es i
-
 module _ (d : Wire) where
   -- v may be used after p, apart from being joined to its last vertex; a loop that begins as p does may end at v
   abbrev pub can : List ℕ → ℕ → Bool
@@ -75,11 +60,7 @@ module _ (d : Wire) where
       ∙ order (ltb x w) (joined d (final (x ∷ r)) w) (not (member w (x ∷ r))) (level d (x ∷ r) w)
     where
       order : (a b c e : Bool) → (a && b && c && e) ≡ (b && (a && c && e))
-      order true b c e = two b c e
-        where
-          two : (b c e : Bool) → (b && c && e) ≡ (b && (c && e))
-          two true c e = refl
-          two false c e = refl
+      order true b c e = and-assoc b c e
       order false true c e = refl
       order false false c e = refl
 

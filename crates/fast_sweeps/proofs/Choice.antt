@@ -14,8 +14,8 @@ use Rattle.paper.specs.Walk.{Status, Taken, Rejected, Undecided, isOpen, takenO
 use Rattle.paper.specs.Walk.{contradicts, Outcome, Broken, Stands, sweep, stable, choose}
 use Rattle.means_walk.specs.Tree.{Sweeps, breaks, rests, again}
 use Rattle.means_walk.proofs.Grown.{sweeps, sweeps-stable}
+use Rattle.means_walk.proofs.Settled.{not-broken}
 use Rattle.fast_sweeps.specs.Worklist.{openEdge, openFrom, lowestOn, Shut}
-use Rattle.fast_sweeps.proofs.Edge.{no-break}
 
 -- ---- the choice by its edge
 both-self : (a : List Bool) → both a a ≡ a
@@ -148,12 +148,12 @@ sweep-open r (mask ∷ masks) st s e = go (sweep-open r masks (settle mask st) s
   where
     go : (sweep masks (settle mask st) ≡ Stands s → openOn r s ≤ openOn r (settle mask st)) → (b : Bool)
         → cond b Broken (sweep masks (settle mask st)) ≡ Stands s → openOn r s ≤ openOn r st
-    go ih true q = no-break q
+    go ih true q = not-broken q
     go ih false q = omega (arith, ih q, settle-open r mask st)
 
 sweeps-open : (r : List Bool) {masks : List (List Bool)} {st s : List Status} (o : Outcome) → Sweeps masks st o → o ≡ Stands s
     → openOn r s ≤ openOn r st
-sweeps-open r {masks} {st} {s} o (breaks e) q = no-break q
+sweeps-open r {masks} {st} {s} o (breaks e) q = not-broken q
 sweeps-open r {masks} {st} {s} o (rests {st = x} e) q = let p : x ≡ s = cc in omega (arith, ap (openOn r) p)
 sweeps-open r {masks} {st} {s} o (again {st = x} {st′ = y} e n w) q = omega (arith, sweeps-open r o w q, sweep-open r masks x y e)
 

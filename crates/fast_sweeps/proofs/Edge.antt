@@ -1,7 +1,7 @@
 -- One edge: what settling it decides, what that leaves of the other edges, and its two counts. Assumes nothing.
 use mathlib.Core.Bool.{Bool, true, false, _&&_, _||_, cond, true≢false}
 use mathlib.Core.List.{List, [], _∷_, map}
-use mathlib.Core.Path.{_≡_, refl, sym, ap, ap₂, _∙_, subst}
+use mathlib.Core.Path.{_≡_, refl, sym, ap, ap₂, _∙_}
 use Prim.Native.Nat.{ℕ, zero, suc, _+_, _≤_}
 use native.Mathlib.Omega.{arith}
 use lib.ListN.{set}
@@ -10,13 +10,10 @@ use borrow.Author.Tests.{eqb-true}
 use Rattle.lists.proofs.Truth.{or-none}
 use Rattle.sets.specs.Word.{bit, dig, count, both}
 use Rattle.paper.specs.Walk.{Status, Taken, Rejected, Undecided, isTaken, isOpen, takenOn, openOn, openCount, decideOne, decide, settle}
-use Rattle.paper.specs.Walk.{contradicts, Broken, Stands, sweep}
+use Rattle.paper.specs.Walk.{contradicts, Stands, sweep}
 use Rattle.means_walk.proofs.Status.{count-opens}
 use Rattle.means_walk.proofs.Settled.{sweep-still}
 use Rattle.fast_sweeps.specs.Worklist.{meets, decidedOn, Settled}
-
-pub no-break : {A : Type 0} {st : List Status} → Broken ≡ Stands st → A
-no-break e = let z : _≡_ {A = ℕ} 0 1 = cc in absurd (omega arith)
 
 -- ---- the undecided of an edge decided
 one-shut : (v : Status) → isOpen v ≡ false → (b : Bool) (s : Status) → bit (b && isOpen (decideOne v b s)) ≡ 0

@@ -13,9 +13,9 @@ use Rattle.paper.specs.Walk.{Status, openCount, settle, contradicts, Outcome, B
 use Rattle.means_walk.specs.Tree.{Sweeps, breaks, rests, again}
 use Rattle.means_walk.proofs.Grown.{sweeps, sweeps-stable}
 use Rattle.means_walk.proofs.Ends.{stable-fuel}
-use Rattle.means_walk.proofs.Settled.{sweep-fewer, sweep-still}
+use Rattle.means_walk.proofs.Settled.{sweep-fewer, sweep-still, not-broken}
 use Rattle.fast_sweeps.specs.Worklist.{Settled, afterwards}
-use Rattle.fast_sweeps.proofs.Edge.{no-break, settle-still}
+use Rattle.fast_sweeps.proofs.Edge.{settle-still}
 
 module _ (masks : List (List Bool)) where
   -- all sweeps from a state
@@ -113,7 +113,7 @@ module _ (masks : List (List Bool)) where
       go : (b : Bool) → contradicts mask st ≡ b → cond b Broken (sweep l (settle mask st)) ≡ Stands st
           → (sweep l st ≡ Stands st → (j : ℕ) → j < length l → Settled (getD l j []) st)
           → (j : ℕ) → j < length (mask ∷ l) → Settled (getD (mask ∷ l) j []) st
-      go true c q ih j h = no-break q
+      go true c q ih j h = not-broken q
       go false c q ih zero h = record { calm = c; still = settle-still mask st c (sweep-fewer l (settle mask st) st q) }
       go false c q ih (suc j) h =
           ih (subst (λ (x : List Status). sweep l x ≡ Stands st) (settle-still mask st c (sweep-fewer l (settle mask st) st q)) q) j
@@ -121,7 +121,7 @@ module _ (masks : List (List Bool)) where
 
   -- what all sweeps leave is left as it is by one more
   sweeps-still : {st s : List Status} (o : Outcome) → Sweeps masks st o → o ≡ Stands s → sweep masks s ≡ Stands s
-  sweeps-still {st} {s} o (breaks e) q = no-break q
+  sweeps-still {st} {s} o (breaks e) q = not-broken q
   sweeps-still {st} {s} o (rests {st = x} e) q = let p : x ≡ s = cc in subst (λ (y : List Status). sweep masks y ≡ Stands y) p e
   sweeps-still {st} {s} o (again e n w) q = sweeps-still o w q
 

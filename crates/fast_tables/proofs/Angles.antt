@@ -10,7 +10,7 @@ use lib.IntN.{pos}
 use Rattle.lists.specs.Lists.{sides, anyTrue}
 use Rattle.lists.specs.Around.{wrap, around}
 use Rattle.lists.proofs.Truth.{never-true, and-left, and-right}
-use Rattle.lists.proofs.Sides.{sides-length, sides-map, sides-around, side-yes}
+use Rattle.lists.proofs.Sides.{sides-length, sides-map, sides-around, side-yes, wrap-below}
 use Rattle.paper.specs.Points.{origin, minus, det, above, samePoint}
 use Rattle.paper.specs.Polygon.{normal}
 use Rattle.paper.specs.Drawing.{Wire, edge, at}
@@ -19,13 +19,9 @@ use Rattle.paper.specs.Clash.{angleHolds, inAngle, Side, to, turnsAt, pointsIn}
 use Rattle.paper.specs.Solids.{runs, has}
 use Rattle.paper.specs.declared.Point.{Point}
 use Rattle.paper_laws.proofs.Vectors.{vec, k, dets, v, vring}
-use Rattle.paper_laws.proofs.Points.{origin-is, point-diff, same-yes}
+use Rattle.paper_laws.proofs.Points.{same-yes}
 use Rattle.fast_tables.specs.Paths.{Apart, Path}
-use Rattle.fast_tables.proofs.Rounds.{wrap-below, wrap-after, wrap-before, runs-yes, has-cases}
-
-pub same-is : {p q : Point} → p ≡ q → samePoint p q ≡ true
-unfolding samePoint
-same-is e = origin-is (point-diff e)
+use Rattle.fast_tables.proofs.Rounds.{wrap-after, wrap-before, runs-yes, has-cases}
 
 flat-above : (n p : Point) → above (det n p p) ≡ false
 unfolding above

@@ -1,6 +1,6 @@
 -- Candidates by a search that asks each edge at most once for each loop. Assumes nothing.
 use mathlib.Core.Path.{_≡_, refl, sym, ap, ap₂, _∙_}
-use mathlib.Core.Bool.{Bool, true, false, not, _&&_, _||_, true≢false}
+use mathlib.Core.Bool.{Bool, true, false, not, _&&_, _||_, true≢false, and-assoc}
 use mathlib.Core.List.{List, [], map}
 use Prim.Native.Nat.{ℕ, _<_}
 use native.Mathlib.Omega.{arith}
@@ -8,7 +8,7 @@ use borrow.Author.Tests.{eq-eqb, eqb-true}
 use lib.Dec.{eqb}
 use lib.ListN.{length, getD}
 use Rattle.lists.specs.Lists.{any, all, filter, upto, member}
-use Rattle.lists.proofs.Truth.{and-left}
+use Rattle.lists.proofs.Truth.{and-left, same-truth}
 use Rattle.lists.proofs.Places.{map-at, made-at, any-below-same, upto-length, upto-at}
 use Rattle.lists.proofs.Agreeing.{filter-same}
 use Rattle.lists.proofs.Passing.{any-yes, any-is, all-yes, all-is, some-yes, some-is}
@@ -23,7 +23,6 @@ use Rattle.fast_tables.specs.Paths.{Path}
 use Rattle.fast_tables.specs.Hits.{cornerMask, sideMask}
 use Rattle.fast_tables.specs.Covers.{middleOutside, inPlaneOf}
 use Rattle.fast_tables.specs.Asked.{Answers, planeMask, levelWith, coversByAnswers}
-use Rattle.fast_tables.proofs.Rounds.{equal-both}
 use Rattle.fast_tables.proofs.Counts.{map-yes}
 use Rattle.fast_tables.proofs.Covers.{own-middle, covers-edges}
 use Rattle.fast_tables.proofs.Asked.{Right, leaves, searched-is}
@@ -32,7 +31,7 @@ module _ (d : Wire) where
   -- ---- the plane as a mask
   pub level-with : (l k : Loop) → inPlaneOf d l k ≡ levelWith d l k
   unfolding inPlaneOf levelWith cornerMask planeMask
-  level-with l k = equal-both forth back
+  level-with l k = same-truth _ _ forth back
     where
       n : ℕ
       n = length (d .vertices)
@@ -82,7 +81,7 @@ module _ (d : Wire) where
   edges-row : (l k : Loop) → any (λ e. has e k && middleOutside d l e) (d .edges) ≡ leaves (length (d .edges))
       (λ e. middleOutside d l (edgeAt d e)) (sideMask d k)
   unfolding sideMask edgeAt
-  edges-row l k = equal-both forth back
+  edges-row l k = same-truth _ _ forth back
     where
       m : ℕ
       m = length (d .edges)
@@ -139,17 +138,13 @@ module _ (d : Wire) where
           outside-so = (λ e t. absurd (true≢false (sym t)));
         }
 
-        assoc : (a b c : Bool) → (a && (b && c)) ≡ ((a && b) && c)
-        assoc true b c = refl
-        assoc false b c = refl
-
         each : (j : ℕ) → j < length ls
             → (not (eqb i j) && covers (polygon d l) (polygon d (loopAt ls j))) ≡ (fits j && not (leaves m out (masks j)))
         each j h =
             let k = loopAt ls j in
             let p : covers (polygon d l) (polygon d k) ≡ (levelWith d l k && not (leaves m out (masks j)))
             = covers-edges d l k (path j h) ∙ ap₂ (λ (a b : Bool). a && not b) (level-with l k) (edges-row l k) in
-            ap (λ (b : Bool). not (eqb i j) && b) p ∙ assoc (not (eqb i j)) (levelWith d l k) (not (leaves m out (masks j)))
+            ap (λ (b : Bool). not (eqb i j) && b) p ∙ sym (and-assoc (not (eqb i j)) (levelWith d l k) (not (leaves m out (masks j))))
 
     -- the loops that are kept
     pub uncovering-found : uncovering d ls ≡ map (loopAt ls) (filter (λ i. not (coversByAnswers d ls i)) (upto (length ls)))

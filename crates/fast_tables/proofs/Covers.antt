@@ -10,8 +10,8 @@ use Rattle.lists.specs.Lists.{any, all, sides, sidesFrom, anyTrue, upto, member
 use Rattle.lists.specs.Around.{wrap, around}
 use Rattle.lists.proofs.Places.{any-same}
 use Rattle.lists.proofs.Passing.{each-yes, all-yes, all-is}
-use Rattle.lists.proofs.Sides.{sides-map}
-use Rattle.lists.proofs.Truth.{implied}
+use Rattle.lists.proofs.Sides.{sides-map, wrap-below}
+use Rattle.lists.proofs.Truth.{implied, same-truth}
 use Rattle.paper.specs.Points.{origin, isZero}
 use Rattle.paper.specs.Polygon.{planeSide, onePlane, Ratio, midpoint, lies, isOutside, covers}
 use Rattle.paper.specs.Drawing.{Wire, Edge, edge, at}
@@ -22,7 +22,7 @@ use Rattle.paper.specs.declared.Where.the-variants.{Border}
 use Rattle.paper_laws.proofs.Turned.{middle-turned}
 use Rattle.fast_tables.specs.Paths.{Path}
 use Rattle.fast_tables.specs.Covers.{middleOutside, inPlaneOf, coversBy}
-use Rattle.fast_tables.proofs.Rounds.{equal-both, wrap-below, member-yes, member-is, runs-yes, has-cases, ofEdge, sides-edges}
+use Rattle.fast_tables.proofs.Rounds.{member-yes, member-is, runs-yes, has-cases, ofEdge, sides-edges}
 use Rattle.fast_tables.proofs.Border.{side-border}
 use Rattle.paper_laws.proofs.Wires.{polygon-length, corner-at}
 
@@ -69,7 +69,7 @@ module _ (d : Wire) where
   module _ (l k : Loop) (path : Path d k) where
     pub plane-by : onePlane (polygon d l) (polygon d k) ≡ inPlaneOf d l k
     unfolding onePlane inPlaneOf
-    plane-by = equal-both forth back
+    plane-by = same-truth _ _ forth back
       where
         test : ℕ → Bool
         test w = not (member w k) || isZero (planeSide (polygon d l) (at d w))

@@ -7,7 +7,7 @@ use borrow.Author.Tests.{eq-eqb}
 use lib.Dec.{eqb}
 use lib.ListN.{length, getD}
 use Rattle.lists.specs.Lists.{any, upto}
-use Rattle.lists.proofs.Truth.{and-left, and-right, and-both, or-left, or-right}
+use Rattle.lists.proofs.Truth.{and-left, and-right, and-both, or-left, or-right, same-truth}
 use Rattle.lists.proofs.Passing.{any-yes, any-is, some-yes, some-is}
 use Rattle.paper.specs.Points.{above, below}
 use Rattle.paper.specs.Polygon.{planeSide}
@@ -17,7 +17,7 @@ use Rattle.paper.specs.Solids.{has}
 use Rattle.paper_laws.proofs.Turned.{pierced-turned}
 use Rattle.fast_tables.specs.Paths.{Path}
 use Rattle.fast_tables.specs.Hits.{edgePierces, piercedBy, piercedDown}
-use Rattle.fast_tables.proofs.Rounds.{equal-both, joins-same, has-turn, has-ends, below-n}
+use Rattle.fast_tables.proofs.Rounds.{joins-same, has-turn, has-ends, below-n}
 use Rattle.fast_tables.proofs.Pierce.{pierced-sides}
 
 pub edge-turned : (d : Wire) (l : Loop) (a b : ℕ) → edgePierces d l (edge a b) ≡ edgePierces d l (edge b a)
@@ -99,4 +99,4 @@ module _ (d : Wire) (l k : Loop) (path : Path d k) where
           ∙ and-comm (has (edge a b) k) (edgePierces d l (edge a b)) ∙ s
 
   pub pierced-down : piercedBy d l k ≡ piercedDown d l k
-  pierced-down = equal-both forth back
+  pierced-down = same-truth _ _ forth back

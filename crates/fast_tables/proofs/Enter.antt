@@ -5,7 +5,7 @@ use Prim.Native.Nat.{ℕ, _<_}
 use native.Mathlib.Omega.{arith}
 use lib.ListN.{length, getD}
 use Rattle.lists.specs.Lists.{any, upto, member}
-use Rattle.lists.proofs.Truth.{and-left, and-right, and-both}
+use Rattle.lists.proofs.Truth.{and-left, and-right, and-both, same-truth}
 use Rattle.lists.proofs.Passing.{any-yes, any-is, some-yes, some-is}
 use Rattle.paper.specs.Points.{origin, isZero}
 use Rattle.paper.specs.Polygon.{planeSide, exactly, lies, isInside}
@@ -17,7 +17,7 @@ use Rattle.paper.specs.declared.Where.the-variants.{Border}
 use Rattle.paper_laws.proofs.Wires.{polygon-length, corner-at}
 use Rattle.fast_tables.specs.Paths.{Path}
 use Rattle.fast_tables.specs.Hits.{vertexInside, enteredBy}
-use Rattle.fast_tables.proofs.Rounds.{equal-both, member-yes, member-is}
+use Rattle.fast_tables.proofs.Rounds.{member-yes, member-is}
 use Rattle.fast_tables.proofs.Border.{corner-border}
 
 module _ (d : Wire) where
@@ -37,7 +37,7 @@ module _ (d : Wire) where
 
   pub enters-vertices : (f : Loop) → Path d f → (g : Loop) → enters (polygon d f) (polygon d g) ≡ enteredBy d g f
   unfolding enters enteredBy vertexInside
-  enters-vertices f path g = equal-both forth back
+  enters-vertices f path g = same-truth _ _ forth back
     where
       test : Point → Bool
       test p = isZero (planeSide (polygon d g) p) && isInside (lies (exactly p) (polygon d g))

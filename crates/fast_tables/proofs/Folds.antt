@@ -7,7 +7,7 @@ use native.Mathlib.Nat.{eq-or-lt-of-le}
 use native.Mathlib.Omega.{arith}
 use borrow.Author.Tests.{not-true}
 use lib.ListN.{length, getD}
-use Rattle.paper_laws.proofs.Points.{same-yes}
+use Rattle.paper_laws.proofs.Points.{same-yes, same-is}
 use Rattle.lists.specs.Lists.{any, member}
 use Rattle.lists.specs.Around.{wrap, around}
 use Rattle.lists.proofs.Truth.{and-left, and-right}
@@ -23,7 +23,7 @@ use Rattle.paper.specs.declared.Point.{Point}
 use Rattle.fast_tables.specs.Paths.{Apart, Path}
 use Rattle.fast_tables.proofs.Rounds.{member-yes, member-is, runs-is, has-up, has-down}
 use Rattle.paper_laws.proofs.Wires.{polygon-length, corner-at}
-use Rattle.fast_tables.proofs.Angles.{same-is, points-no-side}
+use Rattle.fast_tables.proofs.Angles.{points-no-side}
 
 -- two corners of both loops that are a side of neither
 pub record Bent (d : Wire) (f g : Loop) : Type 0 where
@@ -71,7 +71,7 @@ module _ (d : Wire) (apart : Apart d) (f g : Loop) (pf : Path d f) (pg : Path d 
         x = x;
         y = y;
         other =
-            λ q. true≢false (sym (same-is (ap (at d) q)) ∙ not-true (samePoint u v) (and-right (isCorner G v) (not (samePoint u v)) a));
+            λ q. true≢false (sym (same-is u v (ap (at d) q)) ∙ not-true (samePoint u v) (and-right (isCorner G v) (not (samePoint u v)) a));
         x-below = pf .below (r .0) i;
         y-below = pf .below (s .0) j;
         x-in-f = member-is x f (r .0) i refl;

@@ -9,17 +9,18 @@ use lib.Dec.{eqb, ltb}
 use lib.ListN.{length, getD}
 use Rattle.lists.specs.Lists.{member}
 use Rattle.lists.specs.Around.{wrap}
-use Rattle.lists.proofs.Truth.{never-true, and-left, and-right, and-both}
+use Rattle.lists.proofs.Truth.{never-true, and-left, and-right, and-both, same-truth}
 use Rattle.lists.proofs.Places.{made-at}
 use Rattle.sets.specs.Word.{dig, count, both}
 use Rattle.sets.proofs.Digits.{dig-both, count-empty}
+use Rattle.lists.proofs.Sides.{wrap-cases}
 use Rattle.paper.specs.Drawing.{Wire, Edge, edge}
 use Rattle.paper.specs.Loops.{Loop, polygon}
 use Rattle.paper.specs.Clash.{folds}
 use Rattle.paper.specs.Solids.{runs, has}
 use Rattle.fast_tables.specs.Paths.{Apart, Path}
 use Rattle.fast_tables.specs.Hits.{cornerMask, sideMask, shareEnough, mayFold, foldsWith}
-use Rattle.fast_tables.proofs.Rounds.{equal-both, wrap-cases, runs-yes, has-cases, has-turn, has-ends, below-n}
+use Rattle.fast_tables.proofs.Rounds.{runs-yes, has-cases, has-turn, has-ends, below-n}
 use Rattle.fast_tables.proofs.Angles.{around-differ}
 use Rattle.fast_tables.proofs.Folds.{Bent, folds-bent, bent-long}
 use Rattle.fast_tables.proofs.Counts.{count-two, one-of-two, map-yes}
@@ -118,4 +119,4 @@ module _ (d : Wire) (apart : Apart d) where
 
     pub folds-with : folds (polygon d f) (polygon d g) ≡ foldsWith d f g
     unfolding foldsWith
-    folds-with = equal-both (λ e. and-both (folds-may e) e) (λ e. and-right (mayFold d f g) (folds (polygon d f) (polygon d g)) e)
+    folds-with = same-truth _ _ (λ e. and-both (folds-may e) e) (λ e. and-right (mayFold d f g) (folds (polygon d f) (polygon d g)) e)

@@ -1,6 +1,6 @@
 -- A loop over the ones of a word. Assumes nothing.
 use mathlib.Core.Path.{_≡_, refl, sym, ap, _∙_}
-use mathlib.Core.Bool.{Bool, true, false, not, _&&_, _||_, cond, and-false, or-false, or-assoc}
+use mathlib.Core.Bool.{Bool, true, false, not, _&&_, _||_, cond, and-false, or-false, or-assoc, and-true}
 use mathlib.Core.Logic.{_⊎_, inl, inr}
 use mathlib.Core.List.{List, [], _∷_}
 use Prim.Native.Nat.{ℕ, zero, suc, _+_, _≤_, _<_}
@@ -74,11 +74,7 @@ module _ (m : ℕ) (a : List Bool) where
           sym
           (dig-less a (only f) k
           ∙ ap (λ (t : Bool). dig a k && not t) (never-true (dig (only f) k) (λ t. let s = dig-only f k t in omega (arith, s, l)))
-          ∙ and-yes (dig a k))
-        where
-          and-yes : (t : Bool) → (t && true) ≡ t
-          and-yes true = refl
-          and-yes false = refl
+          ∙ and-true (dig a k))
 
 -- ---- what is gathered
 cond-dig : (t : Bool) (r : List Bool) (j : ℕ) → dig (cond t r []) j ≡ (t && dig r j)

@@ -13,21 +13,21 @@ use lib.Seq.{take-length, take-append-le, getD-append-seam}
 use Rattle.lists.specs.Lists.{upto}
 use Rattle.lists.proofs.Agreeing.{map-same}
 use Rattle.lists.proofs.Passing.{all-yes}
+use Rattle.lists.proofs.Truth.{same-truth}
 use Rattle.sets.specs.Word.{count, less}
 use Rattle.paper.specs.Points.{origin, minus, dot, isZero}
 use Rattle.paper.specs.Polygon.{Polygon, normal, corner, planeSide, onePlane}
 use Rattle.paper.specs.Drawing.{Wire, at, samePlace, edgeMeets}
 use Rattle.paper.specs.Loops.{Loop, level, loops, polygon, loopAt}
-use Rattle.paper_laws.proofs.Points.{zero-yes, zero-is}
+use Rattle.paper_laws.proofs.Points.{zero-yes, zero-is, across-too, dot-less}
 use Rattle.means_loops.specs.Loop.{IsLoop}
 use Rattle.means_loops.specs.Plane.{InPlane}
 use Rattle.means_loops.proofs.Listing.{loops-are}
-use Rattle.means_loops.proofs.Planes.{in-one-line, level-plane, plane-level, places-differ, loop-plane}
-use Rattle.means_loops.proofs.OwnPlane.{normal-across, corner-at, less-dot, dot-less, own-plane}
+use Rattle.means_loops.proofs.Planes.{level-plane, plane-level, places-differ, loop-plane}
+use Rattle.means_loops.proofs.OwnPlane.{normal-across, corner-at, less-dot, own-plane}
 use Rattle.means_area.proofs.Loops.{normal-real}
 use Rattle.fast_tables.specs.Hits.{cornerMask}
 use Rattle.fast_tables.specs.Asked.{planeMask, levelWith}
-use Rattle.fast_tables.proofs.Rounds.{equal-both}
 
 module _ (d : Wire) (r11 : samePlace d ≡ none) (w : ℕ) where
   abbrev more : Loop → Loop
@@ -88,7 +88,7 @@ module _ (d : Wire) (r11 : samePlace d ≡ none) (w : ℕ) where
         let low : (i : ℕ) → i < length g → dot (y .across) (getD g i origin) ≡ y .height
         = λ i h. ap (dot (y .across)) (sym (low-is l i (omega (arith, h, long l)))) ∙ y .every i (omega (arith, h, n, m, long l)) in
         zero-is
-        (in-one-line (y .across) (normal g) (minus (at d w) (corner g)) (y .real) (normal-across (y .across) (y .height) g low)
+        (across-too (y .across) (normal g) (minus (at d w) (corner g)) (y .real) (normal-across (y .across) (y .height) g low)
         (less-dot (y .across) (at d w) (corner g) (y .height) (ap (dot (y .across)) (sym (new-is l)) ∙ y .every (length l) (omega (arith, n, m)))
         (ap (dot (y .across)) (corner-at g) ∙ low 0 (omega (arith, c .three, long l)))))
 
@@ -117,7 +117,7 @@ module _ (d : Wire) (r11 : samePlace d ≡ none) (w : ℕ) where
   closed-plane [] c rg = absurd (let h = c .three in omega arith)
   closed-plane (a ∷ []) c rg = absurd (let h = c .three in omega arith)
   closed-plane (a ∷ (b ∷ r)) c rg =
-      equal-both (λ e. in-level a b r c (side-in (a ∷ b ∷ r) c rg e)) (λ e. in-side (a ∷ b ∷ r) c (level-in a b r c e))
+      same-truth _ _ (λ e. in-level a b r c (side-in (a ∷ b ∷ r) c rg e)) (λ e. in-side (a ∷ b ∷ r) c (level-in a b r c e))
 
 -- the word of the search's plane is that of the normal's, for a loop with a normal
 pub search-plane : (d : Wire) → samePlace d ≡ none → (i : ℕ) → i < length (loops d)

@@ -1,41 +1,23 @@
 -- Sides, corners and edges of loops by their places. Assumes nothing.
 use mathlib.Core.Path.{_≡_, refl, sym, ap, ap₂, _∙_, subst}
-use mathlib.Core.Bool.{Bool, true, false, _&&_, _||_, or-comm}
+use mathlib.Core.Bool.{Bool, true, _&&_, or-comm}
 use mathlib.Core.Logic.{_⊎_, inl, inr}
-use mathlib.Core.List.{List, [], _∷_}
 use Prim.Native.Nat.{ℕ, _+_, _-_, _≤_, _<_}
 use native.Mathlib.Omega.{arith}
-use borrow.Author.Tests.{eq-eqb, eqb-true, ltb-true, ltb-false}
-use lib.Dec.{eqb, ltb}
+use borrow.Author.Tests.{eq-eqb, eqb-true}
+use lib.Dec.{eqb}
 use lib.ListN.{length, getD}
 use Rattle.lists.specs.Lists.{any, sides, anyTrue, member}
 use Rattle.lists.specs.Around.{wrap, around}
 use Rattle.lists.proofs.Truth.{and-left, and-right, and-both, or-left, or-right, or-cases, same-truth}
 use Rattle.lists.proofs.Passing.{any-yes, any-is}
-use Rattle.lists.proofs.Sides.{wrap-low, wrap-high, side-yes, side-is}
+use Rattle.lists.proofs.Sides.{side-yes, side-is, wrap-cases, wrap-below}
 use Rattle.paper.specs.Drawing.{Wire, Edge, edge, joins, joined}
 use Rattle.paper.specs.Loops.{Loop}
 use Rattle.paper.specs.Solids.{runs, has}
 use Rattle.fast_tables.specs.Paths.{Path}
 
-pub equal-both : {a b : Bool} → (a ≡ true → b ≡ true) → (b ≡ true → a ≡ true) → a ≡ b
-equal-both {a} {b} f g = same-truth a b f g
-
 -- ---- places that wrap
-pub wrap-cases : (n k : ℕ) → ((k < n) × (wrap n k ≡ k)) ⊎ ((n ≤ k) × (wrap n k ≡ k - n))
-wrap-cases n k = go (ltb k n) refl
-  where
-    go : (b : Bool) → ltb k n ≡ b → ((k < n) × (wrap n k ≡ k)) ⊎ ((n ≤ k) × (wrap n k ≡ k - n))
-    go true e = inl (ltb-true k n e, wrap-low n k (ltb-true k n e))
-    go false e = inr (ltb-false k n e, wrap-high n k (ltb-false k n e))
-
-pub wrap-below : (n k : ℕ) → k < n + n → wrap n k < n
-wrap-below n k h = go (wrap-cases n k)
-  where
-    go : ((k < n) × (wrap n k ≡ k)) ⊎ ((n ≤ k) × (wrap n k ≡ k - n)) → wrap n k < n
-    go (inl p) = omega (arith, p .0, p .1)
-    go (inr p) = omega (arith, p .0, p .1)
-
 -- the one before and the one after a place are one
 pub wrap-after : (n j k : ℕ) → 2 ≤ n → j < n → k ≤ n → wrap n j ≡ wrap n k → wrap n (j + 1) ≡ wrap n (k + 1)
 wrap-after n j k two hj hk e = go (wrap-cases n j) (wrap-cases n k) (wrap-cases n (j + 1)) (wrap-cases n (k + 1))
@@ -154,7 +136,7 @@ has-turn a b l = or-comm (runs a b l) (runs b a l)
 module _ (d : Wire) (l : Loop) (path : Path d l) (q : ℕ → ℕ → Bool) (turn : (a b : ℕ) → q a b ≡ q b a) where
   pub sides-edges : anyTrue (sides q l) ≡ any (λ e. has e l && ofEdge q e) (d .edges)
   unfolding joined
-  sides-edges = equal-both forth back
+  sides-edges = same-truth _ _ forth back
     where
       forth : anyTrue (sides q l) ≡ true → any (λ e. has e l && ofEdge q e) (d .edges) ≡ true
       forth e =

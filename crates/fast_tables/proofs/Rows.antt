@@ -10,7 +10,6 @@ use lib.ListN.{length, getD}
 use lib.IntN.{pos}
 use Rattle.lists.specs.Lists.{any, upto, member}
 use Rattle.lists.proofs.Truth.{never-true, and-left, and-right}
-use Rattle.lists.proofs.Places.{map-at}
 use Rattle.lists.proofs.Agreeing.{map-same}
 use Rattle.lists.proofs.Passing.{any-yes, all-yes, some-yes}
 use Rattle.paper.specs.Points.{origin, isZero, above, below}
@@ -24,11 +23,11 @@ use Rattle.fast_tables.specs.Paths.{Apart, Path, Level}
 use Rattle.fast_tables.specs.Hits.{edgePierces, vertexInside, piercedBy, enteredBy, foldsWith, hits}
 use Rattle.fast_tables.proofs.Rounds.{member-yes, has-ends}
 use Rattle.fast_tables.proofs.Pierce.{pierced-opposite, pierces-edges}
-use Rattle.paper_laws.proofs.Wires.{polygon-length, corner-at}
+use Rattle.paper_laws.proofs.Wires.{polygon-length, corner-at, polygon-at}
 use Rattle.fast_tables.proofs.Enter.{enters-vertices}
 use Rattle.fast_tables.proofs.MayFold.{folds-with}
 
--- ---- a face in its plane does not go through itself
+-- ---- a polygon-at d cs in its plane does not go through itself
 module _ (d : Wire) (l : Loop) where
   own-side : Level d l → (v : ℕ) → member v l ≡ true → planeSide (polygon d l) (at d v) ≡ pos 0
   unfolding onePlane
@@ -89,9 +88,6 @@ shuffle-down false false false false false = refl
 
 module _ (d : Wire) (apart : Apart d) (cs : List Loop) (path : (i : ℕ) → i < length cs → Path d (loopAt cs i))
     (level : (i : ℕ) → i < length cs → Level d (loopAt cs i)) where
-  face : (i : ℕ) → i < length cs → getD (map (polygon d) cs) i [] ≡ polygon d (loopAt cs i)
-  face i h = map-at (polygon d) cs i [] [] h
-
   -- a clash is asked of edges, vertices, and the faces that may fold
   pub clash-by : (i j : ℕ) → i < length cs → j < length cs
       → clash (polygon d (loopAt cs i)) (polygon d (loopAt cs j))
@@ -136,11 +132,11 @@ module _ (d : Wire) (apart : Apart d) (cs : List Loop) (path : (i : ℕ) → i <
       go true p true q = let a = ltb-true i j p in let b = ltb-true j i q in absurd (omega (arith, a, b))
       go true p false q =
           shuffle-up (piercedBy d f g) (enteredBy d f g) (piercedBy d g f) (enteredBy d g f) (foldsWith d f g) ∙ sym (clash-by i j hi hj)
-          ∙ (λ k. clash (sym (face i hi) k) (sym (face j hj) k))
+          ∙ (λ k. clash (sym (polygon-at d cs i hi) k) (sym (polygon-at d cs j hj) k))
       go false p true q =
           shuffle-down (piercedBy d f g) (enteredBy d f g) (piercedBy d g f) (enteredBy d g f) (foldsWith d g f)
           ∙ sym (clash-by j i hj hi)
-          ∙ (λ k. clash (sym (face j hj) k) (sym (face i hi) k))
+          ∙ (λ k. clash (sym (polygon-at d cs j hj) k) (sym (polygon-at d cs i hi) k))
       go false p false q = let a = ltb-false i j p in let b = ltb-false j i q in no (omega (arith, a, b))
 
   pub table-clashes : tablesOf d cs .clashes ≡ map (λ i. map (hits d cs i) (upto (length cs))) (upto (length cs))

@@ -30,6 +30,10 @@ module _ {A B : Type 0} (f : A → B) where
   map-each P h (x ∷ l) zero p = h x
   map-each P h (x ∷ l) (suc k) p = map-each P h l k p
 
+-- a place counted from the next one on
+pub one-later : (k i : ℕ) → suc k + i ≡ k + suc i
+one-later k i = omega arith
+
 from-length : (j n : ℕ) → length (from j n) ≡ n
 unfolding from
 from-length j zero = refl

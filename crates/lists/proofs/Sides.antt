@@ -9,7 +9,8 @@ use native.Mathlib.Numerals.{add-one}
 use native.Mathlib.Omega.{arith}
 use lib.ListN.{length, take, getD}
 use lib.Seq.{take-length}
-use borrow.Author.Tests.{lt-ltb, le-ltb}
+use borrow.Author.Tests.{lt-ltb, le-ltb, ltb-true, ltb-false}
+use lib.Dec.{ltb}
 use Rattle.lists.specs.Lists.{any, sides, sidesFrom, anyTrue, oddTrue}
 use Rattle.lists.specs.Around.{wrap, around}
 use Rattle.lists.proofs.Truth.{xor-assoc, xor-false, false-xor}
@@ -26,6 +27,20 @@ wrap-low n j h = ap (λ (b : Bool). cond b j (j - n)) (lt-ltb j n h)
 pub wrap-high : (n j : ℕ) → n ≤ j → wrap n j ≡ j - n
 unfolding wrap
 wrap-high n j h = ap (λ (b : Bool). cond b j (j - n)) (le-ltb j n h)
+
+pub wrap-cases : (n k : ℕ) → ((k < n) × (wrap n k ≡ k)) ⊎ ((n ≤ k) × (wrap n k ≡ k - n))
+wrap-cases n k = go (ltb k n) refl
+  where
+    go : (b : Bool) → ltb k n ≡ b → ((k < n) × (wrap n k ≡ k)) ⊎ ((n ≤ k) × (wrap n k ≡ k - n))
+    go true e = inl (ltb-true k n e, wrap-low n k (ltb-true k n e))
+    go false e = inr (ltb-false k n e, wrap-high n k (ltb-false k n e))
+
+pub wrap-below : (n k : ℕ) → k < n + n → wrap n k < n
+wrap-below n k h = go (wrap-cases n k)
+  where
+    go : ((k < n) × (wrap n k ≡ k)) ⊎ ((n ≤ k) × (wrap n k ≡ k - n)) → wrap n k < n
+    go (inl p) = omega (arith, p .0, p .1)
+    go (inr p) = omega (arith, p .0, p .1)
 
 pub around-low : {A : Type 0} (g : List A) (j : ℕ) (d : A) → j < length g → around g j d ≡ getD g j d
 unfolding around

@@ -1,6 +1,6 @@
 -- Laws of truth values. Assumes nothing.
 use mathlib.Core.Path.{_≡_, refl, sym}
-use mathlib.Core.Bool.{Bool, true, false, not, _||_, _&&_, xor, true≢false}
+use mathlib.Core.Bool.{Bool, true, false, not, cond, _||_, _&&_, xor, true≢false}
 use mathlib.Core.Logic.{_⊎_, inl, inr}
 use lib.Dec.{T}
 
@@ -56,6 +56,9 @@ pub and-right : (a b : Bool) → (a && b) ≡ true → b ≡ true
 and-right true b e = e
 and-right false b e = absurd (true≢false (sym e))
 
+pub and-split : (a b : Bool) → (a && b) ≡ true → (a ≡ true) × (b ≡ true)
+and-split a b e = (and-left a b e, and-right a b e)
+
 pub and-both : {a b : Bool} → a ≡ true → b ≡ true → (a && b) ≡ true
 and-both p q = λ i. p i && q i
 
@@ -75,6 +78,15 @@ pub not-true : (a : Bool) → not a ≡ true → a ≡ false
 not-true true e = sym e
 not-true false e = refl
 
+-- a test that is asked only where another passes
+pub and-same : (t : Bool) {x y : Bool} → (t ≡ true → x ≡ y) → (t && x) ≡ (t && y)
+and-same true f = f refl
+and-same false f = refl
+
+pub cond-passes : (a b : Bool) → cond a b false ≡ true → (a ≡ true) × (b ≡ true)
+cond-passes true b e = (refl, e)
+cond-passes false b e = absurd (true≢false (sym e))
+
 pub implied : (a b : Bool) → (not a || b) ≡ true → a ≡ true → b ≡ true
 implied true b e h = e
 implied false b e h = absurd (true≢false (sym h))
@@ -90,16 +102,6 @@ pub same-truth : (a b : Bool) → (a ≡ true → b ≡ true) → (b ≡ true �
 same-truth true b f g = sym (f refl)
 same-truth false true f g = g refl
 same-truth false false f g = refl
-
-pub and-swap : (a b : Bool) → (a && b) ≡ (b && a)
-and-swap true true = refl
-and-swap true false = refl
-and-swap false true = refl
-and-swap false false = refl
-
-pub and-off : (a : Bool) → (a && false) ≡ false
-and-off true = refl
-and-off false = refl
 
 -- ---- one of two and not both
 

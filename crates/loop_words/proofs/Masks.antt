@@ -15,12 +15,13 @@ use Rattle.lists.proofs.Places.{map-at, made-at, upto-length, upto-at}
 use Rattle.lists.proofs.Passing.{any-yes, some-yes, some-is}
 use Rattle.lists.proofs.Sides.{wrap-high, around-low}
 use Rattle.sets.specs.Word.{dig}
+use Rattle.lists.proofs.Truth.{same-truth}
 use Rattle.paper.specs.Drawing.{Wire, Edge, edge, joins, joined}
 use Rattle.paper.specs.Loops.{Loop}
 use Rattle.paper.specs.Solids.{runs, has}
 use Rattle.fast_tables.specs.Paths.{Path}
 use Rattle.fast_tables.specs.Hits.{cornerMask, sideMask}
-use Rattle.fast_tables.proofs.Rounds.{equal-both, member-yes, member-is, runs-yes, runs-is, has-cases, has-up, has-down, joins-cases}
+use Rattle.fast_tables.proofs.Rounds.{member-yes, member-is, runs-yes, runs-is, has-cases, has-up, has-down, joins-cases}
 use Rattle.fast_tables.proofs.Counts.{map-yes}
 use Rattle.loop_words.specs.Numbered.{pairAt, Numbered}
 
@@ -42,7 +43,7 @@ module _ (d : Wire) (l : Loop) (path : Path d l) where
 
   pub corners-are : (v : ℕ) → dig (cornerMask d l) v ≡ any (λ j. eqb v (getD l j 0)) (upto n)
   unfolding cornerMask
-  corners-are v = equal-both forth back
+  corners-are v = same-truth _ _ forth back
     where
       forth : dig (map (λ v. member v l) (upto count)) v ≡ true → any (λ j. eqb v (getD l j 0)) (upto n) ≡ true
       forth t =
@@ -108,7 +109,7 @@ module _ (d : Wire) (l : Loop) (path : Path d l) where
 
     pub sides-are : (e : ℕ) → dig (sideMask d l) e ≡ any (λ j. eqb e (sideNumber number l j)) (upto n)
     unfolding sideMask
-    sides-are e = equal-both forth back
+    sides-are e = same-truth _ _ forth back
       where
         -- a side from a to b, where edge e joins them
         found : (a b : ℕ) → e < length (d .edges) → getD number (pairAt a b) 0 ≡ e → runs a b l ≡ true

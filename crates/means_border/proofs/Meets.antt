@@ -194,18 +194,15 @@ module _ (p w : Flat) (uw : Up (size p w)) where
       diff' : (x y : ℤ) → Up (negℤ x) → Nn y → Up (y -ℤ x)
       diff' x y nx uy = up-is (ring (x ∷ y ∷ []) (neg (var 0) ⊕ var 1) (var 1 ⊖ var 0) tt) (up-add nx uy)
 
-      low : (x : ℤ) → x ≡ pos 0 → Nn (negℤ x)
-      low x e = nn0 (ap negℤ e)
-
       go : Up (α a) ⊎ ((α a ≡ pos 0) ⊎ Up (negℤ (α a))) → Up (α b) ⊎ ((α b ≡ pos 0) ⊎ Up (negℤ (α b))) → Side p w a b
       go (inl x) (inl y) = never (one-side a b (mul-pos x y))
       go (inr (inr x)) (inr (inr y)) =
           never (one-side a b (up-is (ring (α a ∷ α b ∷ []) (neg (var 0) ⊗ neg (var 1)) (var 0 ⊗ var 1) tt) (mul-pos x y)))
       go (inr (inl x)) (inr (inl y)) = within a b x y o
-      go (inr (inl x)) (inl y) = passes a b (low (α a) x) (up-nn y) (diff (α a) (α b) (low (α a) x) y) o
+      go (inr (inl x)) (inl y) = passes a b (nn0 (ap negℤ x)) (up-nn y) (diff (α a) (α b) (nn0 (ap negℤ x)) y) o
       go (inr (inr x)) (inl y) = passes a b (up-nn x) (up-nn y) (diff (α a) (α b) (up-nn x) y) o
       go (inr (inr x)) (inr (inl y)) = passes a b (up-nn x) (nn0 y) (diff' (α a) (α b) x (nn0 y)) o
       go (inr (inl x)) (inr (inr y)) =
           side-back p w b a (passes b a (up-nn y) (nn0 x) (diff' (α b) (α a) y (nn0 x)) o')
-      go (inl x) (inr (inl y)) = side-back p w b a (passes b a (low (α b) y) (up-nn x) (diff (α b) (α a) (low (α b) y) x) o')
+      go (inl x) (inr (inl y)) = side-back p w b a (passes b a (nn0 (ap negℤ y)) (up-nn x) (diff (α b) (α a) (nn0 (ap negℤ y)) x) o')
       go (inl x) (inr (inr y)) = side-back p w b a (passes b a (up-nn y) (up-nn x) (diff (α b) (α a) (up-nn y) x) o')

@@ -11,6 +11,7 @@ use lib.ListN.{length, getD, length-map, List·getD-eq-default}
 use Rattle.lists.specs.Lists.{filter, upto}
 use Rattle.lists.proofs.Places.{map-at, upto-length, upto-at}
 use Rattle.sets.specs.Word.{dig}
+use Rattle.lists.proofs.Truth.{same-truth}
 use Rattle.paper.specs.Refusals.{firstOf}
 use Rattle.paper.specs.Drawing.{Wire}
 use Rattle.paper.specs.Loops.{Loop, loopAt, flipped}
@@ -231,16 +232,11 @@ module _ (d : Wire) (cs : List Loop) (c : Candidates d cs) where
           (inside cs taken (s .some) (y .0) (y .1)) (inside cs taken′ (r .some) k f) (y .2) (q .2) (x .2) in
           subst (λ (z : ℕ). dig taken z ≡ true) e (y .1) in
           let back = no-part d cs taken turned taken′ turned′ s r sub in
-          let same : (k : ℕ) → dig taken k ≡ dig taken′ k = λ k. equal (dig taken k) (dig taken′ k) (back k) (sub k) in
+          let same : (k : ℕ) → dig taken k ≡ dig taken′ k = λ k. same-truth (dig taken k) (dig taken′ k) (back k) (sub k) in
           let e : taken′ ≡ taken = row-same taken′ taken (r .some ∙ sym (s .some)) (λ k. sym (same k)) in
           let t : IsSolid d cs taken turned′ six′ = subst (λ (x : List Bool). IsSolid d cs x turned′ six′) e r in
           same-named taken turned fs gs n
           (rows-named taken turned taken′ turned′ s r same (one-solid d cs (all-proper c) (c .even) taken (s .some) s t .0) gs o)
-        where
-          equal : (x y : Bool) → (x ≡ true → y ≡ true) → (y ≡ true → x ≡ true) → x ≡ y
-          equal true y f g = sym (f refl)
-          equal false true f g = g refl
-          equal false false f g = refl
 
   -- a list with some face turned is refused
   pub turned-refused : (fs gs : List Loop) → Fair fs → AmongEither fs gs → (i j : ℕ) → i < length gs → j < length fs

@@ -10,14 +10,13 @@ use Rattle.lists.specs.Around.{around}
 use Rattle.lists.proofs.Sides.{around-low}
 use Rattle.lists.proofs.Places.{map-at}
 use Rattle.sets.specs.Word.{dig, bit, count, both, less, only}
-use Rattle.sets.proofs.Digits.{count-only}
+use Rattle.sets.proofs.Digits.{count-only, left-in}
 use Rattle.paper.specs.Drawing.{Wire, Edge, edge, edgeAt}
 use Rattle.paper.specs.Loops.{Loop, loopAt}
 use Rattle.paper.specs.Solids.{has}
 use Rattle.means_solid.specs.Solid.{Goes, IsSolid}
 use Rattle.means_solid.proofs.Goes.{cases-has, one-way}
 use Rattle.means_loops.specs.Path.{ClosedPath}
-use Rattle.means_leaf.proofs.Counts.{left-in}
 use Rattle.means_masks.proofs.Edges.{in-two}
 
 -- ---- sums over the faces that are taken

@@ -5,9 +5,10 @@ use mathlib.Core.Option.{none}
 use mathlib.Core.List.{List, [], _∷_, map}
 use Prim.Native.Nat.{ℕ, suc, _+_, _*_, _≤_, _<_}
 use native.Mathlib.Omega.{arith}
+use native.Mathlib.Nat.{zero-add, add-zero}
 use lib.ListN.{length, getD, length-map}
 use Rattle.lists.specs.Lists.{keep, filter, from, upto}
-use Rattle.lists.proofs.Places.{map-at, upto-length, upto-at}
+use Rattle.lists.proofs.Places.{map-at, upto-length, upto-at, one-later}
 use Rattle.sets.specs.Word.{bit, dig, count}
 use Rattle.sets.proofs.Digits.{never}
 use Rattle.paper.specs.Format.{editionOne}
@@ -38,14 +39,8 @@ kept-count : (p : ℕ → Bool) (bs : List Bool) (j : ℕ) → ((i : ℕ) → i 
 unfolding filter keep from count
 kept-count p [] j f = refl
 kept-count p (b ∷ bs) j f =
-    go (p j) b (ap p (plus-zero j) ∙ f 0 (omega arith)) (kept-count p bs (suc j) (λ i h. ap p (plus-suc j i) ∙ f (suc i) (omega arith)))
+    go (p j) b (ap p (sym (add-zero j)) ∙ f 0 (omega arith)) (kept-count p bs (suc j) (λ i h. ap p (one-later j i) ∙ f (suc i) (omega arith)))
   where
-    plus-zero : (j : ℕ) → j ≡ j + 0
-    plus-zero j = omega arith
-
-    plus-suc : (j i : ℕ) → suc j + i ≡ j + suc i
-    plus-suc j i = omega arith
-
     go : (x y : Bool) → x ≡ y → length (filter p (from (suc j) (length bs))) ≡ count bs
         → length (keep x j (filter p (from (suc j) (length bs)))) ≡ bit y + count bs
     go true true e r = omega arith
@@ -76,10 +71,7 @@ module _ (d : Wire) (cs : List Loop) (taken turned : List Bool) (paths : (k : �
       long =
           length-map (filter (dig taken) (from 0 (length cs))) (directed d cs taken turned)
           ∙ ap (λ (n : ℕ). length (filter (dig taken) (from 0 n))) (sym (s .some))
-          ∙ kept-count (dig taken) taken 0 (λ i h. ap (dig taken) (zero-plus i))
-        where
-          zero-plus : (i : ℕ) → 0 + i ≡ i
-          zero-plus i = omega arith
+          ∙ kept-count (dig taken) taken 0 (λ i h. ap (dig taken) (zero-add i))
 
       turn : (b : Bool) (l : Loop) → ClosedPath d l → ClosedPath d (cond b (flipped l) l)
       turn true l c = path-flip d l c

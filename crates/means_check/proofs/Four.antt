@@ -3,20 +3,19 @@ use mathlib.Core.Path.{_≡_, refl, sym, ap, subst, _∙_}
 use mathlib.Core.Bool.{Bool, true, false}
 use mathlib.Core.Logic.{_⊎_, inl, inr}
 use mathlib.Core.List.{List}
-use Prim.Native.Nat.{ℕ, suc, _-_, _≤_, _<_}
+use Prim.Native.Nat.{ℕ, suc, _≤_, _<_}
 use native.Mathlib.Omega.{arith}
 use native.Mathlib.Decide.{decLt, ℕ-discrete}
 use lib.ListN.{length, getD}
 use Rattle.lists.specs.Around.{wrap, around}
 use Rattle.lists.proofs.Sides.{wrap-low}
 use Rattle.sets.specs.Word.{dig, count, first, less, only}
-use Rattle.sets.proofs.Digits.{never, count-only, count-none, first-in}
+use Rattle.sets.proofs.Digits.{never, count-only, count-none, first-in, left-in, left-out}
 use Rattle.paper.specs.Drawing.{Wire, edge, edgeAt}
 use Rattle.paper.specs.Loops.{Loop, loopAt}
 use Rattle.paper.specs.Solids.{has}
 use Rattle.means_solid.specs.Solid.{Has, Way, stay, cross, IsSolid}
 use Rattle.means_loops.specs.Path.{ClosedPath}
-use Rattle.means_leaf.proofs.Counts.{left-in, left-out}
 use Rattle.means_solid.proofs.Goes.{has-cases, cases-has, around-at, wrap-next}
 use Rattle.means_check.proofs.Parts.{some-face}
 use Rattle.means_check.proofs.Volume.{no-volume}

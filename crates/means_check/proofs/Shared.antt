@@ -6,12 +6,14 @@ use mathlib.Core.List.{List}
 use Prim.Native.Nat.{ℕ, zero, suc, _+_, _-_, _≤_, _<_}
 use native.Mathlib.Omega.{arith}
 use native.Mathlib.Decide.{decLt, ℕ-discrete}
+use native.Mathlib.Nat.{add-zero}
 use lib.ListN.{length, getD}
 use Rattle.lists.specs.Around.{wrap, around}
 use Rattle.lists.proofs.Sides.{wrap-low, wrap-high}
 use Rattle.sets.specs.Word.{dig, only}
 use Rattle.sets.proofs.Digits.{never}
 use Rattle.sets.proofs.Ones.{dig-lt}
+use Rattle.lists.proofs.Places.{one-later}
 use Rattle.paper.specs.Drawing.{Wire, Edge, edge}
 use Rattle.paper.specs.Loops.{Loop, loopAt}
 use Rattle.means_solid.specs.Solid.{Goes, Has, InTwo, IsSolid}
@@ -22,20 +24,14 @@ use Rattle.means_solid.proofs.Goes.{around-at, wrap-next}
 
 module _ (p : ℕ → Bool) where
   scan : (m i : ℕ) → p i ≡ true → p (i + m) ≡ false → (j : ℕ) × (i ≤ j) × (j < i + m) × (p j ≡ true) × (p (suc j) ≡ false)
-  scan zero i e f = never (sym e ∙ ap p (plus-zero i) ∙ f)
-    where
-      plus-zero : (i : ℕ) → i ≡ i + 0
-      plus-zero i = omega arith
+  scan zero i e f = never (sym e ∙ ap p (sym (add-zero i)) ∙ f)
   scan (suc m) i e f = go (p (suc i)) refl (scan m (suc i))
     where
-      plus-suc : (i m : ℕ) → suc i + m ≡ i + suc m
-      plus-suc i m = omega arith
-
       go : (b : Bool) → p (suc i) ≡ b
           → (p (suc i) ≡ true → p (suc i + m) ≡ false → (j : ℕ) × (suc i ≤ j) × (j < suc i + m) × (p j ≡ true) × (p (suc j) ≡ false))
           → (j : ℕ) × (i ≤ j) × (j < i + suc m) × (p j ≡ true) × (p (suc j) ≡ false)
       go false q r = (i, omega arith, omega arith, e, q)
-      go true q r = let w = r q (ap p (plus-suc i m) ∙ f) in (w .0, omega (arith, w .1), omega (arith, w .2), w .3, w .4)
+      go true q r = let w = r q (ap p (one-later i m) ∙ f) in (w .0, omega (arith, w .1), omega (arith, w .2), w .3, w .4)
 
   pub turn : (n i j : ℕ) → i < n → j < n → p i ≡ true → p j ≡ false → (k : ℕ) × (k < n) × (p k ≡ true) × (p (wrap n (suc k)) ≡ false)
   turn n i j hi hj e f = go (decLt i j)

@@ -17,11 +17,11 @@ use Rattle.paper.specs.Solids.{faceSix}
 use Rattle.paper.specs.declared.Point.{Point}
 use Rattle.paper_laws.proofs.Vectors.{vec, k as con, _·_, o, v, vring}
 use Rattle.paper_laws.proofs.Six.{six-normal}
+use Rattle.paper_laws.proofs.Points.{across-too, dot-comm, dot-less}
 use Rattle.means_solid.specs.Solid.{sixOf, IsSolid}
 use Rattle.means_loops.specs.Plane.{InPlane}
 use Rattle.means_loops.specs.Path.{ClosedPath}
-use Rattle.means_loops.proofs.Planes.{dot-comm, in-one-line}
-use Rattle.means_loops.proofs.OwnPlane.{normal-across, corner-at, less-dot, dot-less}
+use Rattle.means_loops.proofs.OwnPlane.{normal-across, corner-at, less-dot}
 use Rattle.means_check.proofs.FaceSums.{faces-same, faces-dot}
 use Rattle.means_check.proofs.Closing.{normals-close}
 
@@ -31,7 +31,7 @@ six-corner f i y h =
     let m = normal-across (y .across) (y .height) f (y .every) in
     let z : dot (y .across) (minus (corner f) (getD f i origin)) ≡ pos 0 = less-dot (y .across) (corner f) (getD f i origin) (y .height)
     (ap (dot (y .across)) (corner-at f) ∙ y .every 0 (omega arith)) (y .every i h) in
-    let w = in-one-line (y .across) (normal f) (minus (corner f) (getD f i origin)) (y .real) m z in
+    let w = across-too (y .across) (normal f) (minus (corner f) (getD f i origin)) (y .real) m z in
     six-normal f ∙ dot-comm (corner f) (normal f) ∙ dot-less (normal f) (corner f) (getD f i origin) w
     ∙ dot-comm (normal f) (getD f i origin)
 

@@ -6,7 +6,7 @@ use mathlib.Core.Path.{_≡_, refl, sym, ap, ap₂, _∙_}
 use Prim.Native.Nat.{ℕ, _<_}
 use lib.IntN.{ℤ, pos}
 use lib.ListN.{length, getD}
-use Rattle.paper_laws.proofs.Points.{same-yes, same-is, origin-yes}
+use Rattle.paper_laws.proofs.Points.{same-yes, same-is, origin-yes, dot-origin}
 use Rattle.lists.specs.Lists.{any, sides, sidesFrom, anyTrue}
 use Rattle.lists.proofs.Truth.{and-left, and-right, and-both, same-truth}
 use Rattle.lists.proofs.Passing.{any-yes, any-is}
@@ -15,7 +15,7 @@ use Rattle.paper.specs.Polygon.{Polygon, normal, onePlane}
 use Rattle.paper.specs.Clash.{pierces, enters, angleHolds, inAngle, Side, to, turnsAt, pointsIn, isCorner, bends, folds, clash}
 use Rattle.paper.specs.declared.Point.{Point}
 use Rattle.paper_laws.specs.Planes.{InOwnPlane}
-use Rattle.means_clash.proofs.Planes.{none-dot, plane-either}
+use Rattle.means_clash.proofs.Planes.{plane-either}
 
 -- ---- two points at one place are one
 
@@ -95,7 +95,7 @@ bend-turned b = record {
 -- ---- no direction points into an angle of a face without an area
 none-det : (p q : Point) → det origin p q ≡ pos 0
 unfolding det
-none-det p q = none-dot (cross p q)
+none-det p q = dot-origin (cross p q)
 
 none-above : (z : ℤ) → z ≡ pos 0 → above z ≡ false
 unfolding above
@@ -110,13 +110,13 @@ none-angle a u b w =
       none-above (det origin w (minus a u)) (none-det w (minus a u)),
     )
 
+and-no : (x : Bool) {y : Bool} → y ≡ false → (x && y) ≡ false
+and-no true e = e
+and-no false e = refl
+
 none-turns : (u w : Point) (s t : Side) → turnsAt origin u w s t ≡ false
 unfolding turnsAt
 none-turns u w (to a p) (to q b) = and-no (samePoint p u) (none-angle a p b w)
-  where
-    and-no : (x : Bool) {y : Bool} → y ≡ false → (x && y) ≡ false
-    and-no true e = e
-    and-no false e = refl
 
 none-sides : (f : Side → Side → Bool) → ((s t : Side) → f s t ≡ false) → (l : List Side) → anyTrue (sides f l) ≡ false
 unfolding anyTrue sides sidesFrom
@@ -148,10 +148,6 @@ pub folds-either : (f g : Polygon) → InOwnPlane f → InOwnPlane g → folds f
 unfolding folds
 folds-either f g hf hg = go (isOrigin (normal f)) refl (isOrigin (normal g)) refl
   where
-    and-no : (x : Bool) {y : Bool} → y ≡ false → (x && y) ≡ false
-    and-no true e = e
-    and-no false e = refl
-
     go : (x : Bool) → isOrigin (normal f) ≡ x → (y : Bool) → isOrigin (normal g) ≡ y
         → (not (onePlane f g) && meets f g) ≡ (not (onePlane g f) && meets g f)
     go true p y q = and-no (not (onePlane f g)) (no-bend f g (inl p)) ∙ sym (and-no (not (onePlane g f)) (no-bend g f (inr p)))

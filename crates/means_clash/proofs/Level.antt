@@ -1,11 +1,9 @@
 -- The plane that the loop search finds while it goes: it stays, once it is there. Assumes nothing.
-use mathlib.Core.Bool.{true, false}
 use mathlib.Core.List.{[], _∷_}
 use mathlib.Core.Path.{_≡_}
 use lib.IntN.{pos}
 use Rattle.exact.proofs.Ring.{con, ring}
-use Rattle.paper.specs.Points.{minus, dot, cross, isOrigin}
-use Rattle.paper.specs.Loops.{tilt}
+use Rattle.paper.specs.Points.{dot, cross}
 use Rattle.paper.specs.declared.Point.{Point}
 use Rattle.means_clash.proofs.Combine.{vars, dotE, crossE}
 
@@ -13,11 +11,3 @@ use Rattle.means_clash.proofs.Combine.{vars, dotE, crossE}
 pub own-zero : (e p : Point) → dot (cross e p) p ≡ pos 0
 unfolding dot cross
 own-zero e p = ring (e .x ∷ e .y ∷ e .z ∷ p .x ∷ p .y ∷ p .z ∷ []) (dotE (crossE (vars 0 1 2) (vars 3 4 5)) (vars 3 4 5)) (con (pos 0)) tt
-
-pub tilt-found : (s b n p : Point) → isOrigin n ≡ false → tilt s b n p ≡ n
-unfolding tilt
-tilt-found s b n p e = rw e
-
-pub tilt-none : (s b n p : Point) → isOrigin n ≡ true → tilt s b n p ≡ cross (minus b s) (minus p s)
-unfolding tilt
-tilt-none s b n p e = rw e

@@ -6,7 +6,7 @@ use Prim.Native.Nat.{ℕ, zero, suc, _<_}
 use native.Mathlib.Omega.{arith}
 use lib.IntN.{ℤ, pos, _*ℤ_}
 use lib.ListN.{length, getD}
-use Rattle.paper_laws.proofs.Points.{zero-yes}
+use Rattle.paper_laws.proofs.Points.{zero-yes, dot-less, zero-is, empty-side, dot-even}
 use Rattle.lists.specs.Lists.{sides, sidesFrom}
 use Rattle.lists.proofs.Truth.{and-both}
 use Rattle.lists.proofs.Passing.{all-yes, all-is}
@@ -18,10 +18,6 @@ use Rattle.paper.specs.Polygon.{Polygon, normal, corner, planeSide, onePlane}
 use Rattle.paper.specs.declared.Point.{Point}
 use Rattle.paper_laws.specs.Planes.{InOwnPlane}
 use Rattle.means_clash.proofs.Combine.{combine, E3, vars, zeroE, plusE, minusE, dotE, crossE}
-
-pub yes-zero : (z : ℤ) → z ≡ pos 0 → isZero z ≡ true
-unfolding isZero
-yes-zero z e = rw e
 
 -- ---- the area's direction, against another across the plane
 abbrev N : E3
@@ -94,22 +90,10 @@ unfolding dot isOrigin
 self-zero n e =
     let q = sum-zero (n .x *ℤ n .x) (n .y *ℤ n .y) (n .z *ℤ n .z) (square-nonneg (n .x)) (square-nonneg (n .y)) (square-nonneg (n .z))
     e in
-    and-both (and-both (yes-zero (n .x) (square-zero (n .x) (q .0))) (yes-zero (n .y) (square-zero (n .y) (q .1))))
-    (yes-zero (n .z) (square-zero (n .z) (q .2)))
+    and-both (and-both (zero-is (square-zero (n .x) (q .0))) (zero-is (square-zero (n .y) (q .1))))
+    (zero-is (square-zero (n .z) (q .2)))
 
 -- ---- offsets
-pub same-offset : (n p q : Point) → dot n (minus p q) ≡ pos 0 → dot n p ≡ dot n q
-unfolding dot minus
-same-offset n p q e =
-    combine (n .x ∷ n .y ∷ n .z ∷ p .x ∷ p .y ∷ p .z ∷ q .x ∷ q .y ∷ q .z ∷ [])
-    (dotE N X) (dotE N Y) (record { times = con (pos 1); one = dotE N (minusE X Y); other = con (pos 0) } ∷ []) tt (e, tt)
-
-pub offset-same : (n p q : Point) → dot n p ≡ dot n q → dot n (minus p q) ≡ pos 0
-unfolding dot minus
-offset-same n p q e =
-    combine (n .x ∷ n .y ∷ n .z ∷ p .x ∷ p .y ∷ p .z ∷ q .x ∷ q .y ∷ q .z ∷ [])
-    (dotE N (minusE X Y)) (con (pos 0)) (record { times = con (pos 1); one = dotE N X; other = dotE N Y } ∷ []) tt (e, tt)
-
 plane-at : (f : Polygon) (ps : List Point) → onePlane f ps ≡ true → At (normal f) (dot (normal f) (corner f)) ps
 unfolding onePlane
 plane-at f ps e = go ps (all-yes (λ p. isZero (planeSide f p)) origin ps e)
@@ -120,7 +104,7 @@ plane-at f ps e = go ps (all-yes (λ p. isZero (planeSide f p)) origin ps e)
     go (p ∷ ps) h = (off p (h 0 (omega arith)), go ps (λ i l. h (suc i) (omega arith)))
       where
         off : (p : Point) → isZero (planeSide f p) ≡ true → dot (normal f) p ≡ dot (normal f) (corner f)
-        off p z = same-offset (normal f) p (corner f) (zero-yes (planeSide f p) z)
+        off p z = dot-less (normal f) p (corner f) (zero-yes (planeSide f p) z)
 
 -- ---- if g lies in f's plane, f lies in g's
 at-place : (n : Point) (c : ℤ) (ps : List Point) → At n c ps → (i : ℕ) → i < length ps → dot n (getD ps i origin) ≡ c
@@ -128,26 +112,18 @@ at-place n c [] h i l = absurd (omega arith)
 at-place n c (p ∷ ps) h zero l = h .0
 at-place n c (p ∷ ps) h (suc i) l = at-place n c ps (h .1) i (omega arith)
 
-pub none-dot : (q : Point) → dot origin q ≡ pos 0
-unfolding dot
-none-dot q = ring (q .x ∷ q .y ∷ q .z ∷ []) (dotE zeroE N) (con (pos 0)) tt
-
-none-side-zero : (p : Point) → planeSide [] p ≡ pos 0
-unfolding planeSide normal sides sum corner
-none-side-zero p = none-dot (minus p origin)
-
 -- the points ps all are at one offset across n, which isn't the origin; so are those of g, and the area's direction of g is at right
 -- angles to what is across from them
 area-right : (n : Point) → isOrigin n ≡ false → (c : ℤ) (a : Point) (r : List Point) → At n c (a ∷ r) → (p : Point) → dot n p ≡ c
     → dot (normal (a ∷ r)) (minus p a) ≡ pos 0
 area-right n real c a r h p hp =
     mul-zero (dot n n) (dot (normal (a ∷ r)) (minus p a)) (λ z. true≢false (sym (self-zero n z) ∙ real))
-    (area-across n (minus p a) c (offset-same n p a (hp ∙ sym (h .0))) (a ∷ r) h)
+    (area-across n (minus p a) c (dot-even n p a (hp ∙ sym (h .0))) (a ∷ r) h)
 
 zero-side : (f : Polygon) → InOwnPlane f → isOrigin (normal f) ≡ false → (g : Polygon) → onePlane f g ≡ true → (i : ℕ) → i < length f
     → planeSide g (getD f i origin) ≡ pos 0
 unfolding planeSide corner
-zero-side f flat real [] e i h = none-side-zero (getD f i origin)
+zero-side f flat real [] e i h = empty-side (getD f i origin)
 zero-side f flat real (a ∷ r) e i h =
     area-right (normal f) real (dot (normal f) (corner f)) a r (plane-at f (a ∷ r) e) (getD f i origin)
     (at-place (normal f) (dot (normal f) (corner f)) f (plane-at f f flat) i h)
@@ -155,7 +131,7 @@ zero-side f flat real (a ∷ r) e i h =
 plane-back : (f g : Polygon) → InOwnPlane f → isOrigin (normal f) ≡ false → onePlane f g ≡ true → onePlane g f ≡ true
 unfolding onePlane
 plane-back f g flat real e =
-    all-is (λ p. isZero (planeSide g p)) origin f (λ i h. yes-zero (planeSide g (getD f i origin)) (zero-side f flat real g e i h))
+    all-is (λ p. isZero (planeSide g p)) origin f (λ i h. zero-is (zero-side f flat real g e i h))
 
 pub plane-either : (f g : Polygon) → InOwnPlane f → isOrigin (normal f) ≡ false → InOwnPlane g → isOrigin (normal g) ≡ false
     → onePlane f g ≡ onePlane g f

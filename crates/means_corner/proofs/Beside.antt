@@ -18,7 +18,7 @@ use Rattle.means_inside.specs.Convex.{Step, Hand, lefts, rights, turned}
 use Rattle.means_inside.proofs.Triangle.{fE, facing-end, self-nn, self-up}
 use Rattle.means_corner.specs.Corners.{Small}
 use Rattle.means_corner.proofs.Small.{then, both-small, stays}
-use Rattle.means_corner.proofs.Cone.{t}
+use Rattle.means_corner.proofs.Cone.{t, hand-back}
 use Rattle.means_corner.proofs.Steps.{step, step-turn}
 use Rattle.means_corner.proofs.Lead.{step-from, step-to}
 
@@ -119,10 +119,6 @@ module _ (v c : Flat) where
       ring (facing v c c ∷ turn v b a ∷ []) (var 0 ⊗ neg (var 1)) (neg (var 0 ⊗ var 1)) tt ∙ ap negℤ (ratio v c b a e)
       ∙ ring (facing v b c ∷ turn v c a ∷ []) (neg (var 0 ⊗ var 1)) (var 0 ⊗ neg (var 1)) tt
 
-  pub hand-back : (h : Hand) (x y : Flat) → t h v x y ≡ negℤ (t h v y x)
-  hand-back lefts x y = flip-last v x y
-  hand-back rights x y = ap negℤ (flip-last v x y)
-
   not-here : (h : Hand) (x : Flat) → Up (t h v c x) → Up (facing v c c)
   not-here h x u = self-up v c (λ e. hand-zero h (turn v c x) (ap (λ (z : Flat). turn v z x) e ∙ spin v v x ∙ flat-first v x) u)
 
@@ -138,10 +134,10 @@ module _ (v c : Flat) where
   side-before h b a (wide i (inr k)) e = absurd (hand-zero h (turn v c a) (flip-last v c a ∙ ap negℤ e) k)
   side-before h b a (wide i (inl j)) e = (
     behind (facing v c c) (facing v a c) (t h v b a) (t h v b c)
-        (ap (λ (z : ℤ). facing v c c *ℤ z) (hand-back h b a)
+        (ap (λ (z : ℤ). facing v c c *ℤ z) (hand-back v h b a)
         ∙ ring (facing v c c ∷ t h v a b ∷ []) (var 0 ⊗ neg (var 1)) (neg (var 0 ⊗ var 1)) tt ∙ ap negℤ (hand-ratio h a b e)
         ∙ ring (facing v a c ∷ t h v c b ∷ []) (neg (var 0 ⊗ var 1)) (var 0 ⊗ neg (var 1)) tt
-        ∙ ap (λ (z : ℤ). facing v a c *ℤ z) (sym (hand-back h b c))) (self-nn v c) i j,
+        ∙ ap (λ (z : ℤ). facing v a c *ℤ z) (sym (hand-back v h b c))) (self-nn v c) i j,
     self-up v c (λ q. hand-zero h (turn v b c) (ap (turn v b) q ∙ flat-first v b) j),
   )
 

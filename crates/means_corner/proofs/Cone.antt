@@ -38,9 +38,9 @@ module _ (h : Hand) (v : Flat) where
   Cone b a c = cone (sign (t b a)) (sign (t b c)) (sign (t c a)) ≡ true
 
 module _ (v : Flat) where
-  back : (h : Hand) (x c : Flat) → t h v c x ≡ negℤ (t h v x c)
-  back lefts x c = flip-last v c x
-  back rights x c = ap negℤ (flip-last v c x)
+  pub hand-back : (h : Hand) (x y : Flat) → t h v x y ≡ negℤ (t h v y x)
+  hand-back lefts x y = flip-last v x y
+  hand-back rights x y = ap negℤ (flip-last v x y)
 
   four : (h : Hand) (b a x c : Flat) → t h v b a *ℤ t h v x c -ℤ t h v b c *ℤ t h v x a +ℤ t h v b x *ℤ t h v c a ≡ pos 0
   unfolding turn
@@ -66,7 +66,7 @@ module _ (v : Flat) where
       go : (cone (sign (t h v b x)) (sign (t h v b c)) (turned (sign (t h v x c))) ≡ true)
           ⊎ (cone (sign (t h v x a)) (sign (t h v x c)) (sign (t h v c a)) ≡ true) → Cone h v b x c ⊎ Cone h v x a c
       go (inl q) =
-          inl ((λ i. cone (sign (t h v b x)) (sign (t h v b c)) ((ap sign (back h x c) ∙ sign-neg (t h v x c)) i)) ∙ q)
+          inl ((λ i. cone (sign (t h v b x)) (sign (t h v b c)) ((ap sign (hand-back h c x) ∙ sign-neg (t h v x c)) i)) ∙ q)
       go (inr q) = inr q
 
 -- below 180 degrees

@@ -15,8 +15,8 @@ use Rattle.means_inside.specs.Beams.{facing}
 use Rattle.means_inside.specs.Convex.{Hand, lefts, rights, turned}
 use Rattle.means_inside.proofs.Ears.{facing-back}
 use Rattle.means_inside.proofs.Triangle.{fE, twice}
-use Rattle.means_corner.proofs.Cone.{t}
-use Rattle.means_corner.proofs.Beside.{Behind, Strict, acute, wide, hand-ratio, hand-back}
+use Rattle.means_corner.proofs.Cone.{t, hand-back}
+use Rattle.means_corner.proofs.Beside.{Behind, Strict, acute, wide, hand-ratio}
 use Rattle.means_corner.proofs.Outside.{OuterBy}
 use Rattle.means_corner.proofs.Around.{outer-hand}
 
@@ -44,10 +44,10 @@ no-down x y z w e ux uy nz nw =
 module _ (h : Hand) (v b a c : Flat) (behind-b : Behind v b c) (behind-a : Behind v a c)
     (straight : turn v b a ≡ pos 0 → Up (negℤ (facing v a b))) (not-out : OuterBy h v b a c → ⊥) where
   cb : Up (negℤ (t h v b c)) → Up (t h v c b)
-  cb u = up-is (sym (hand-back v c h c b)) u
+  cb u = up-is (sym (hand-back v h c b)) u
 
   ac : Up (negℤ (t h v c a)) → Up (t h v a c)
-  ac u = up-is (sym (hand-back v c h a c)) u
+  ac u = up-is (sym (hand-back v h a c)) u
 
   along-b : t h v b c ≡ pos 0 → turn v b c ≡ pos 0
   along-b e = hand-none h (turn v b c) e
@@ -60,10 +60,10 @@ module _ (h : Hand) (v b a c : Flat) (behind-b : Behind v b c) (behind-a : Behin
 
   by-a : t h v c a ≡ pos 0 → facing v c c *ℤ t h v b a ≡ facing v a c *ℤ t h v b c
   by-a e =
-      ap (λ (z : ℤ). facing v c c *ℤ z) (hand-back v c h b a)
+      ap (λ (z : ℤ). facing v c c *ℤ z) (hand-back v h b a)
       ∙ ring (facing v c c ∷ t h v a b ∷ []) (var 0 ⊗ neg (var 1)) (neg (var 0 ⊗ var 1)) tt ∙ ap negℤ (hand-ratio v c h a b (along-a e))
       ∙ ring (facing v a c ∷ t h v c b ∷ []) (neg (var 0 ⊗ var 1)) (var 0 ⊗ neg (var 1)) tt
-      ∙ ap (λ (z : ℤ). facing v a c *ℤ z) (sym (hand-back v c h b c))
+      ∙ ap (λ (z : ℤ). facing v a c *ℤ z) (sym (hand-back v h b c))
 
   -- a and b are on both sides of v in one line, and c is in it on neither
   no-straight : t h v b a ≡ pos 0 → Up (facing v c c) → facing v c c *ℤ facing v a b ≡ facing v a c *ℤ facing v b c
@@ -79,11 +79,8 @@ module _ (h : Hand) (v b a c : Flat) (behind-b : Behind v b c) (behind-a : Behin
   dots-a : t h v c a ≡ pos 0 → facing v c c *ℤ facing v a b ≡ facing v a c *ℤ facing v b c
   dots-a e = dots v a b c (along-a e)
 
-  zero-low : {z : ℤ} → z ≡ pos 0 → Nn (negℤ z)
-  zero-low e = nn-is (ap negℤ (sym e)) (record { le = tt })
-
   low : {z : ℤ} → (z ≡ pos 0) ⊎ Up (negℤ z) → Nn (negℤ z)
-  low (inl e) = zero-low e
+  low (inl e) = nn0 (ap negℤ e)
   low (inr k) = up-nn k
 
   -- below 180 degrees

@@ -18,7 +18,7 @@ use Rattle.means_area.proofs.Flats.Signs.{up-is, up-nn, ways}
 use Rattle.means_area.proofs.Flats.Turns.{uE, vE, tE, env, flat-first, flat-second}
 use Rattle.means_inside.specs.Beams.{walk, round, right, beam, Off}
 use Rattle.means_inside.specs.Means.{big}
-use Rattle.means_inside.proofs.Beams.{above-is, above-no, below-is, below-no, no-low, sect, two-rays, same-side}
+use Rattle.means_inside.proofs.Beams.{above-is, above-no, below-is, below-no, no-low, sect, two-rays, same-side, cross4}
 use Rattle.lists.proofs.Truth.{xor-assoc, false-xor}
 use Rattle.means_inside.proofs.Parity.{swap4, mid, xor-self, xor-comm}
 use Rattle.means_inside.proofs.Segment.{beam-back}
@@ -174,12 +174,8 @@ module _ (v c d : Flat) (k : Up (turn v c d)) where
   sides-part x y o =
       let q = opposite v c in
       let r = opposite v d in
-      two-rays (turn v q x) (turn v q y) (turn v r x) (turn v r y) (turn x y v) (turn v q r) turn-on (cross4 q r x y)
+      two-rays (turn v q x) (turn v q y) (turn v r x) (turn v r y) (turn x y v) (turn v q r) turn-on (cross4 v q r x y)
       (λ z. same-side v q x y z (o z)) (λ z. same-side v r x y z (o z))
-    where
-      cross4 : (q r a b : Flat) → turn a b v *ℤ turn v q r ≡ turn v q a *ℤ turn v r b -ℤ turn v q b *ℤ turn v r a
-      cross4 q r a b = unfold turn in ring (env (pos 0) (v ∷ q ∷ r ∷ a ∷ b ∷ [])) (tE 3 4 0 ⊗ tE 0 1 2)
-          (tE 0 1 3 ⊗ tE 0 2 4 ⊖ tE 0 1 4 ⊗ tE 0 2 3) tt
 
   pub compare : (b : Flat) (r : List Flat) (s n s' n' : ℕ) → 0 < s → 0 < n → 0 < s' → 0 < n'
       → ((x y : Flat) → Of x (b ∷ r) → Of y (b ∷ r) → Chain b r v x y

@@ -17,7 +17,7 @@ use Rattle.means_area.proofs.Flats.Turns.{spin, flat-second}
 use Rattle.means_area.proofs.Flats.Net.{Ok}
 use Rattle.means_area.proofs.Flats.Choice.{Hit, ear-ok}
 use Rattle.means_area.proofs.Flats.Lowest.{of-split}
-use Rattle.means_area.proofs.Flats.First.{first-link, last-link, ends-apart, only-first, not-flat, ear-simple}
+use Rattle.means_area.proofs.Flats.First.{first-link, last-link, ends-apart, only-first, not-flat, ear-simple, rest-link}
 use Rattle.means_area.proofs.Flats.Chains.{lst-append, lst-of, link-back, link-of, chain-end, of-append, of-left}
 use Rattle.means_area.proofs.Flats.Chains.{of-right}
 use Rattle.means_inside.specs.Beams.{beam, facing, Off, Clear, odd, east, Seen}
@@ -27,7 +27,7 @@ use Rattle.means_inside.proofs.Look.{Between, View, Look, empty, far, l
 use Rattle.means_inside.proofs.Ears.{off-or, bool, chord-hit, odd-hit, odd-two, between-odd, low-even}
 use Rattle.means_inside.proofs.Beside.{Apart, clear-out, member}
 use Rattle.means_inside.proofs.Chorded.{by-cut}
-use Rattle.means_inside.proofs.Together.{eqd, clear-with, rest-link, h, sub-apart, together, fewer, Disjoint}
+use Rattle.means_inside.proofs.Together.{eqd, clear-with, h, sub-apart, together, fewer, Disjoint}
 
 module _ (m : ℤ) where
   module _ (n : ℕ) (ih : Disjoint m n) (R : List Flat) where

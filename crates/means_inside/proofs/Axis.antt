@@ -9,7 +9,7 @@ use Rattle.lists.specs.Lists.{all}
 use Rattle.lists.proofs.Truth.{and-left, and-right}
 use Rattle.exact.proofs.Ring.{var, con, _⊕_, _⊖_, _⊗_, neg, ring}
 use Rattle.exact.proofs.Signs.{mul-zero}
-use Rattle.paper.specs.Points.{pt, origin, plus, minus, times, dot, isZero}
+use Rattle.paper.specs.Points.{pt, plus, minus, times, dot, isZero}
 use Rattle.paper.specs.Polygon.{normal, corner, planeSide, onePlane, axis, seen, meetsRay, whereFlat, lies}
 use Rattle.paper.specs.declared.Point.{Point}
 use Rattle.paper.specs.declared.Flat.{Flat}
@@ -22,6 +22,7 @@ use Rattle.means_area.specs.Flats.{Up, Nn, turn}
 use Rattle.means_area.specs.Space.{through}
 use Rattle.means_area.proofs.Space.Maps.{map-link, end-of}
 use Rattle.means_area.proofs.Space.Views.{axis-real, view-one}
+use Rattle.means_area.proofs.Space.{none-through}
 use Rattle.means_inside.specs.Beams.{walk, round, right, beam, facing, Clear, odd}
 use Rattle.means_inside.specs.Touch.{Touch}
 use Rattle.means_inside.specs.Means.{big}
@@ -182,13 +183,8 @@ unfolding onePlane planeSide lies
 any-axis g e a h d k p on =
     same-seen (normal g) (corner g) d k g
     (λ b o. zero-yes (dot (normal g) (minus b (corner g))) (all-at (λ z. isZero (dot (normal g) (minus z (corner g)))) g e b o)) p on
-    (axis (normal g)) a (axis-real (normal g) (λ q. h (ap (through a) q ∙ none a))) h
+    (axis (normal g)) a (axis-real (normal g) (λ q. h (ap (through a) q ∙ none-through a))) h
   where
-    none : (a : Axis) → through a origin ≡ pos 0
-    none AlongX = refl
-    none AlongY = refl
-    none AlongZ = refl
-
     all-at : (f : Point → Bool) (l : List Point) → all f l ≡ true → (b : Point) → Of b l → f b ≡ true
     all-at f [] t b o = absurd o
     all-at f (c ∷ l) t b (inl q) = ap f q ∙ and-left (f c) (all f l) (unfold all in t)

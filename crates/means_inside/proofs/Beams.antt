@@ -229,7 +229,7 @@ module _ (p : Flat) where
           (clash (facing p a a) (turn p q a) (turn p q b) (sq (a .u -ℤ p .u) (a .v -ℤ p .v)) at-b (yes-low (turn p q b) h)
           (no-low (turn p q a) e))
 
-  cross4 : (q r a b : Flat) → turn a b p *ℤ turn p q r ≡ turn p q a *ℤ turn p r b -ℤ turn p q b *ℤ turn p r a
+  pub cross4 : (q r a b : Flat) → turn a b p *ℤ turn p q r ≡ turn p q a *ℤ turn p r b -ℤ turn p q b *ℤ turn p r a
   unfolding turn
   cross4 q r a b = ring (env (pos 0) (p ∷ q ∷ r ∷ a ∷ b ∷ [])) (tE 3 4 0 ⊗ tE 0 1 2) (tE 0 1 3 ⊗ tE 0 2 4 ⊖ tE 0 1 4 ⊗ tE 0 2 3) tt
 

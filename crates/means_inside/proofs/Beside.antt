@@ -72,9 +72,6 @@ module _ (m : ℤ) where
       no n f y (inl q) e = n (sym (ap h q) ∙ e)
       no n f y (inr o) e = f y o e
 
-      lt-ne : (a b : ℤ) → a <ℤ b → a ≡ b → ⊥
-      lt-ne a b k e = <ℤ-ne k e
-
       rest : (h x ≡ h z → ⊥) → ((y : Flat) × Of y l × (h y ≡ h z)) ⊎ ((y : Flat) → Of y l → h y ≡ h z → ⊥)
           → ((y : Flat) × Of y (x ∷ l) × (h y ≡ h z)) ⊎ ((y : Flat) → Of y (x ∷ l) → h y ≡ h z → ⊥)
       rest n (inl t) = inl (t .0, inr (t .1), t .2)
@@ -82,9 +79,9 @@ module _ (m : ℤ) where
 
       go : (h x <ℤ h z) ⊎ ((h x ≡ h z) ⊎ (h z <ℤ h x)) → ((y : Flat) × Of y l × (h y ≡ h z)) ⊎ ((y : Flat) → Of y l → h y ≡ h z → ⊥)
           → ((y : Flat) × Of y (x ∷ l) × (h y ≡ h z)) ⊎ ((y : Flat) → Of y (x ∷ l) → h y ≡ h z → ⊥)
-      go (inl k) r = rest (λ e. lt-ne (h x) (h z) k e) r
+      go (inl k) r = rest (<ℤ-ne k) r
       go (inr (inl e)) r = inl (x, inl refl, e)
-      go (inr (inr k)) r = rest (λ e. lt-ne (h z) (h x) k (sym e)) r
+      go (inr (inr k)) r = rest (λ e. <ℤ-ne k (sym e)) r
 
   pub member : (P R : List Flat) → Apart P R → (z : Flat) → Of z R → Of z P ⊎ (Of z P → ⊥)
   member P R t z o = go (has z P)

@@ -9,6 +9,7 @@ use Rattle.exact.proofs.Linear.{lt-by, lt-to, le-to}
 use Rattle.exact.proofs.Ring.{var, con, _⊕_, _⊖_, _⊗_, neg, ring}
 use Rattle.exact.proofs.Order.{ring-with, mul-pos, mul-nonneg, add-nonneg, sub-pos}
 use Rattle.exact.proofs.Signs.{mul-zero, pos-ne, <ℤ-ne}
+use Rattle.exact.proofs.Laws.{mul-negℤ}
 use Rattle.paper.specs.declared.Flat.{Flat}
 use Rattle.means_area.specs.Rings.{Of, Link}
 use Rattle.means_area.specs.Flats.{Up, Nn, turn, height, Same, both, none}
@@ -83,22 +84,19 @@ module _ (m : ℤ) (u w p : Flat) (hw : height m u <ℤ height m w) (e : turn u 
     left-p : (a : Flat) → Up (turn u w a) → Up (turn u p a)
     left-p a k = up-out (facing u w w) ww (up-is (left-is a) (mul-pos ss k))
 
-    neg-mul : (x y : ℤ) → x *ℤ negℤ y ≡ negℤ (x *ℤ y)
-    neg-mul x y = ring (x ∷ y ∷ []) (var 0 ⊗ neg (var 1)) (neg (var 0 ⊗ var 1)) tt
-
     right-w : (a : Flat) → Up (turn p u a) → Up (turn w u a)
     right-w a k =
         up-is (sym (flip w u a))
         (up-out s ss
-        (up-is (sym (neg-mul s (turn u w a)))
-        (up-is (ap negℤ (sym (left-is a))) (up-is (neg-mul (facing u w w) (turn u p a)) (mul-pos ww (up-is (flip p u a) k))))))
+        (up-is (sym (mul-negℤ s (turn u w a)))
+        (up-is (ap negℤ (sym (left-is a))) (up-is (mul-negℤ (facing u w w) (turn u p a)) (mul-pos ww (up-is (flip p u a) k))))))
 
     right-p : (a : Flat) → Up (turn u a w) → Up (turn u a p)
     right-p a k =
         up-is (sym (flip-last u a p))
         (up-out (facing u w w) ww
-        (up-is (sym (neg-mul (facing u w w) (turn u p a)))
-        (up-is (ap negℤ (left-is a)) (up-is (neg-mul s (turn u w a)) (mul-pos ss (up-is (flip-last u a w) k))))))
+        (up-is (sym (mul-negℤ (facing u w w) (turn u p a)))
+        (up-is (ap negℤ (left-is a)) (up-is (mul-negℤ s (turn u w a)) (mul-pos ss (up-is (flip-last u a w) k))))))
 
     pub chord-seen : (g : List Flat) → Ok m (Link g) (λ z. Of z g) u w → Seen m u p g
     chord-seen g ok = record {

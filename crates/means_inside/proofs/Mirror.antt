@@ -4,7 +4,7 @@ use mathlib.Core.Path.{_≡_, refl, sym, _∙_, ap}
 use mathlib.Core.Bool.{Bool, true, false, xor, true≢false}
 use mathlib.Core.Logic.{_⊎_, inl, inr}
 use mathlib.Core.List.{List, [], _∷_}
-use lib.IntN.{ℤ, pos, negℤ, _+ℤ_, _*ℤ_}
+use lib.IntN.{ℤ, pos, negℤ, _+ℤ_, _*ℤ_, *ℤ-comm}
 use lib.Signed.{leZ}
 use Rattle.exact.proofs.Ring.{var, con, _⊕_, _⊗_, neg, ring}
 use Rattle.exact.proofs.Order.{ring-with, mul-pos}
@@ -23,15 +23,12 @@ use Rattle.means_inside.proofs.Scale.{ray-scale}
 
 -- ---- two numbers that are one up to factors above 0
 module _ (k l : ℤ) (K : Up k) (L : Up l) where
-  comm : (s t : ℤ) → s *ℤ t ≡ t *ℤ s
-  comm s t = ring (s ∷ t ∷ []) (var 0 ⊗ var 1) (var 1 ⊗ var 0) tt
-
   pub ray-over : (p : Flat) (a b : Bool) (s t : ℤ) → s *ℤ k ≡ t *ℤ l → meetsRay a b s ≡ meetsRay a b t
   ray-over p a b s t e =
-      sym (ray-scale p k K a b s) ∙ ap (meetsRay a b) (comm k s ∙ e ∙ comm t l) ∙ ray-scale p l L a b t
+      sym (ray-scale p k K a b s) ∙ ap (meetsRay a b) (*ℤ-comm k s ∙ e ∙ *ℤ-comm t l) ∙ ray-scale p l L a b t
 
   up-over : (s t : ℤ) → s *ℤ k ≡ t *ℤ l → Up s → Up t
-  up-over s t e u = up-out l L (up-is (e ∙ comm t l) (mul-pos u K))
+  up-over s t e u = up-out l L (up-is (e ∙ *ℤ-comm t l) (mul-pos u K))
 
 pub low-over : (k l : ℤ) → Up k → Up l → (s t : ℤ) → s *ℤ k ≡ t *ℤ l → leZ s (pos 0) ≡ leZ t (pos 0)
 low-over k l K L s t e = go (which s) (which t)

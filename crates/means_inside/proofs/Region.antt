@@ -14,7 +14,7 @@ use Rattle.means_area.specs.Rings.{Of, Pair, Link}
 use Rattle.means_area.specs.Flats.{Nn, turn, height, Simple, Least, lst}
 use Rattle.means_area.proofs.Flats.Net.{Ok}
 use Rattle.means_area.proofs.Flats.Choice.{Hit, ear-ok}
-use Rattle.means_area.proofs.Flats.First.{first-link, last-link, ends-apart, only-first, not-flat}
+use Rattle.means_area.proofs.Flats.First.{first-link, last-link, ends-apart, only-first, not-flat, rest-link}
 use Rattle.means_area.proofs.Flats.Chains.{lst-of, Sub, keep, skip, done, sub-of, sub-distinct, narrow}
 use Rattle.means_inside.specs.Beams.{beam, facing, Off, Clear, odd, east}
 use Rattle.means_inside.specs.Regions.{InTriangle}
@@ -23,7 +23,7 @@ use Rattle.means_inside.proofs.Segment.{beam-back}
 use Rattle.means_inside.proofs.Cap.{ear-in}
 use Rattle.means_inside.proofs.Ears.{off-or, bool, chord-hit, clear3, odd-hit}
 use Rattle.means_inside.proofs.Covers.{within-hit}
-use Rattle.means_inside.proofs.Together.{clear-with, rest-link}
+use Rattle.means_inside.proofs.Together.{clear-with}
 
 -- a chord from c to d cuts g into h and k; a point p of the one, A, or of the other, B, is inside g, and off the chord it is not in both
 pub record Joined (g h k : List Flat) (c d : Flat) (A B : Flat → Type 0) (p : Flat) : Type 0 where

@@ -7,7 +7,7 @@ use native.Mathlib.Omega.{arith}
 use lib.IntN.{ℤ, pos, negℤ, _+ℤ_, _-ℤ_, _*ℤ_}
 use lib.Signed.{leZ, _≤ℤ_, _<ℤ_, clashℤ}
 use Rattle.lists.specs.Lists.{sides, sidesFrom, anyTrue, oddTrue}
-use Rattle.lists.proofs.Truth.{never-true, or-none, and-left, and-right, and-both}
+use Rattle.lists.proofs.Truth.{never-true, or-none, and-left, and-right, and-both, or-right}
 use Rattle.exact.proofs.Ring.{var, con, _⊕_, _⊖_, _⊗_, neg, ring}
 use Rattle.exact.proofs.Linear.{le-by, le-to}
 use Rattle.exact.proofs.Order.{mul-pos, mul-nonneg, add-nonneg, sub-nonneg, sub-pos, square-nonneg, ring-with}
@@ -119,24 +119,17 @@ module _ (p : Flat) (d : ℤ) (k : Up d) where
   unfolding spans
   span-is a b q h = go (lt-or-ge q a) (lt-or-ge q b) (lt-or-ge a q) (lt-or-ge b q)
     where
-      low : {x y : ℤ} → x <ℤ y → x ≤ℤ y
-      low t = <ℤ-≤ℤ t
-
       first : a ≤ℤ q → q ≤ℤ b → (leZ a q && leZ q b) || (leZ b q && leZ q a) ≡ true
       first s t = λ i. and-both (le-is s) (le-is t) i || (leZ b q && leZ q a)
 
       second : b ≤ℤ q → q ≤ℤ a → (leZ a q && leZ q b) || (leZ b q && leZ q a) ≡ true
       second s t = or-right (leZ a q && leZ q b) (leZ b q && leZ q a) (and-both (le-is s) (le-is t))
-        where
-          or-right : (x y : Bool) → y ≡ true → (x || y) ≡ true
-          or-right true y f = refl
-          or-right false y f = f
 
       go : (q <ℤ a) ⊎ (a ≤ℤ q) → (q <ℤ b) ⊎ (b ≤ℤ q) → (a <ℤ q) ⊎ (q ≤ℤ a) → (b <ℤ q) ⊎ (q ≤ℤ b)
           → (leZ a q && leZ q b) || (leZ b q && leZ q a) ≡ true
       go (inl s) (inl t) x y = absurd (off (mul-pos (sub-pos s) (sub-pos t)) h)
-      go (inl s) (inr t) x y = second t (low s)
-      go (inr s) (inl t) x y = first s (low t)
+      go (inl s) (inr t) x y = second t (<ℤ-≤ℤ s)
+      go (inr s) (inl t) x y = first s (<ℤ-≤ℤ t)
       go (inr s) (inr t) (inl x) (inl y) =
           absurd
           (off

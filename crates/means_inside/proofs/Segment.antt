@@ -138,9 +138,6 @@ module _ (m : ℤ) where
     between : (a b : Flat) → Link g a b → Nn (turn z' z a) → Up (turn z z' b) → Up (turn a b z) → Nn (turn b a z') → ⊥
     between a b l α β t t' = go (ways (turn b a z')) (ways (turn z' z a))
       where
-        neg-mul : (x y : ℤ) → x *ℤ negℤ y ≡ negℤ (x *ℤ y)
-        neg-mul x y = ring (x ∷ y ∷ []) (var 0 ⊗ neg (var 1)) (neg (var 0 ⊗ var 1)) tt
-
         go : Up (turn b a z') ⊎ ((turn b a z' ≡ pos 0) ⊎ Up (negℤ (turn b a z')))
             → Up (turn z' z a) ⊎ ((turn z' z a ≡ pos 0) ⊎ Up (negℤ (turn z' z a))) → ⊥
         go (inr (inr k)) x = off k (nn-is (twice (turn b a z')) t')

@@ -9,11 +9,10 @@ use lib.IntN.{ℤ}
 use lib.Signed.{_<ℤ_}
 use Rattle.exact.proofs.Signs.{<ℤ-ne}
 use Rattle.paper.specs.declared.Flat.{Flat}
-use Rattle.means_area.specs.Rings.{Of, Pair, Chain, Link}
+use Rattle.means_area.specs.Rings.{Of, Pair, Link}
 use Rattle.means_area.specs.Flats.{Cross, height, On, Net, Simple, lst}
 use Rattle.means_area.proofs.Flats.Choice.{compare}
-use Rattle.means_area.proofs.Flats.Lowest.{pair-swap}
-use Rattle.means_area.proofs.Flats.Chains.{link-back, link-of, chain-end, of-append, of-left}
+use Rattle.means_area.proofs.Flats.Chains.{link-back, link-of, of-append, of-left}
 use Rattle.means_area.proofs.Flats.Chains.{of-right, cross-turned, cross-back}
 use Rattle.means_inside.specs.Beams.{Off, Clear, odd}
 use Rattle.means_inside.proofs.Ears.{off-back}
@@ -44,14 +43,6 @@ clear-with p P K c d k o f a b l = go (f a b l)
     go (inl t) = k a b t
     go (inr (inl e)) = subst (λ (z : Flat). Off p z b) (sym (e .0)) (subst (λ (z : Flat). Off p c z) (sym (e .1)) o)
     go (inr (inr e)) = subst (λ (z : Flat). Off p z b) (sym (e .0)) (subst (λ (z : Flat). Off p d z) (sym (e .1)) (off-back p c d o))
-
--- the links of the ring without its first corner
-pub rest-link : (v x : Flat) (l : List Flat) (p q : Flat) → Link (x ∷ l) p q → Link (v ∷ x ∷ l) p q ⊎ Pair x (lst x l) p q
-rest-link v x l p q t = go (chain-end x l x v p q t)
-  where
-    go : Chain x l v p q ⊎ Pair (lst x l) x p q → Link (v ∷ x ∷ l) p q ⊎ Pair x (lst x l) p q
-    go (inl d) = inl (inr d)
-    go (inr d) = inr (pair-swap (lst x l) x p q d)
 
 module _ (m : ℤ) where
   abbrev pub h : Flat → ℤ

@@ -13,6 +13,7 @@ use Rattle.paper.specs.declared.Point.{Point}
 use Rattle.paper.specs.declared.Axis.{Axis}
 use Rattle.paper.specs.declared.Axis.the-variants.{AlongX, AlongY, AlongZ}
 use Rattle.paper_laws.proofs.Vectors.{vec, k, _-s_, _·_, o, v, _-v_, _*v_, _×v_, vring}
+use Rattle.paper_laws.proofs.Points.{in-line}
 use Rattle.means_area.specs.Flats.{Up, Nn, turn}
 use Rattle.means_area.specs.Space.{through}
 use Rattle.means_area.proofs.Flats.Signs.{up-is, nn-is, up-nn, up-add, off, ways, nn-out}
@@ -42,9 +43,9 @@ turn-shown AlongY a b c =
 turn-shown AlongZ a b c = refl
 
 -- of directions in line
-in-line : (i j : Axis) (u n : Point) → cross u n ≡ origin → shown i u *ℤ shown j n ≡ shown j u *ℤ shown i n
+shown-line : (i j : Axis) (u n : Point) → cross u n ≡ origin → shown i u *ℤ shown j n ≡ shown j u *ℤ shown i n
 unfolding cross
-in-line i j u n e = go i j
+shown-line i j u n e = go i j
   where
     ex : u .y *ℤ n .z -ℤ u .z *ℤ n .y ≡ pos 0
     ex = ap (λ (p : Point). p .x) e
@@ -103,7 +104,7 @@ module _ (n c : Point) where
   turns i j p q r ep eq er =
       let u = cross (minus q p) (minus r p) in
       ap (λ (z : ℤ). z *ℤ shown j n) (turn-shown i p q r)
-      ∙ in-line i j u n (across n (minus q p) (minus r p) (level p q ep eq) (level p r ep er))
+      ∙ shown-line i j u n (across n (minus q p) (minus r p) (level p q ep eq) (level p r ep er))
       ∙ ap (λ (z : ℤ). z *ℤ shown i n) (sym (turn-shown j p q r))
 
 -- ---- between two points
@@ -134,14 +135,9 @@ in-ratio i p a b e =
     let w' = minus b p in
     ap (λ (z : ℤ). dot w w *ℤ z) (facing-shown i p a b)
     ∙ ring-with (dot w w ∷ dot w w' ∷ through i w ∷ through i w' ∷ []) (var 0 ⊗ (var 1 ⊖ var 2 ⊗ var 3)) (var 1 ⊗ (var 0 ⊖ var 2 ⊗ var 2))
-    (neg (var 2)) (var 0 ⊗ var 3) (var 1 ⊗ var 2) tt (part i (dot w w) (dot w w') w w' (ratio w w' e))
+    (neg (var 2)) (var 0 ⊗ var 3) (var 1 ⊗ var 2) tt (part i (dot w w) (dot w w') w w' (in-line w w' e))
     ∙ ap (λ (z : ℤ). dot w w' *ℤ z) (sym (facing-shown i p a a))
   where
-    ratio : (w w' : Point) → cross w w' ≡ origin → times (dot w w) w' ≡ times (dot w w') w
-    ratio w w' q =
-        vring (vec w ∷ vec w' ∷ []) ((v 0 · v 0) *v v 1) ((v 0 · v 1) *v v 0 -v v 0 ×v (v 0 ×v v 1)) tt
-        ∙ (λ t. minus (times (dot w w') w) (cross w (q t))) ∙ vring (vec w ∷ vec (times (dot w w') w) ∷ []) (v 1 -v v 0 ×v o) (v 1) tt
-
     part : (i : Axis) (r s : ℤ) (w w' : Point) → times r w' ≡ times s w → r *ℤ through i w' ≡ s *ℤ through i w
     part AlongX r s w w' q = unfold times in ap (λ (p : Point). p .x) q
     part AlongY r s w w' q = unfold times in ap (λ (p : Point). p .y) q
@@ -155,7 +151,7 @@ module _ (n c : Point) (i j : Axis) (hi : through i n ≡ pos 0 → ⊥) where
       zero : (l : Axis) → shown l u ≡ pos 0
       zero l =
           mul-zero (shown i n) (shown l u) (shown-real i n hi)
-          (ring (shown i n ∷ shown l u ∷ []) (var 0 ⊗ var 1) (var 1 ⊗ var 0) tt ∙ in-line l i u n e
+          (ring (shown i n ∷ shown l u ∷ []) (var 0 ⊗ var 1) (var 1 ⊗ var 0) tt ∙ shown-line l i u n e
           ∙ ap (λ (y : ℤ). y *ℤ shown l n) z ∙ ring (shown l n ∷ []) (con (pos 0) ⊗ var 0) (con (pos 0)) tt)
 
   line-up : (a b p : Point) → On n c a → On n c b → On n c p → turn (seen i a) (seen i b) (seen i p) ≡ pos 0

@@ -1,5 +1,5 @@
 -- The turned are reached, and each face that is reached has the direction that the edges ask. Assumes nothing.
-use mathlib.Core.Bool.{Bool, true, false, not, _&&_, _||_, cond, xor}
+use mathlib.Core.Bool.{Bool, true, false, not, _&&_, _||_, cond, xor, and-false}
 use mathlib.Core.List.{List, [], _∷_}
 use mathlib.Core.Path.{_≡_, refl, sym, ap, ap₂, _∙_, subst}
 use Prim.Native.Nat.{ℕ, zero, suc}
@@ -92,6 +92,13 @@ picked-dig : (d : Bool) (fr up : List Bool) (k : ℕ) → dig (cond d (less fr u
 picked-dig true fr up k = dig-less fr up k
 picked-dig false fr up k = dig-both fr up k
 
+-- what is turned was reached, or is new
+pub reached-within : (x y z p : Bool) → (x ≡ true → z ≡ true) → (x || (y && p)) ≡ true → (z || y) ≡ true
+reached-within x y true p a e = refl
+reached-within x true false p a e = refl
+reached-within true false false p a e = never (sym (a refl))
+reached-within false false false p a e = e
+
 module _ (mask up taken : List Bool) (r : Reach) where
   pub over-not : (count (known mask taken r) ≡ 1 → ⊥) → acrossEdge mask up taken r ≡ r
   unfolding acrossEdge
@@ -157,17 +164,7 @@ module _ (mask up taken : List Bool) (r : Reach) where
       turned-right false false false t a b c d e = never (sym d)
 
       fresh-out : (k : ℕ) → dig (r .reached) k ≡ true → dig (fresh mask taken r) k ≡ false
-      fresh-out k e = fresh-dig mask taken r k ∙ ap (λ (x : Bool). dig (both mask taken) k && not x) e ∙ and-no (dig (both mask taken) k)
-        where
-          and-no : (x : Bool) → (x && false) ≡ false
-          and-no true = refl
-          and-no false = refl
-
-      reached-within : (x y z p : Bool) → (x ≡ true → z ≡ true) → (x || (y && p)) ≡ true → (z || y) ≡ true
-      reached-within x y true p a e = refl
-      reached-within x true false p a e = refl
-      reached-within true false false p a e = never (sym (a refl))
-      reached-within false false false p a e = e
+      fresh-out k e = fresh-dig mask taken r k ∙ ap (λ (x : Bool). dig (both mask taken) k && not x) e ∙ and-false (dig (both mask taken) k)
 
       over-one : Right ts (acrossEdge mask up taken r)
       over-one = record {

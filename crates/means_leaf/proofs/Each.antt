@@ -9,7 +9,8 @@ use lib.ListN.{length, getD}
 use borrow.Author.Tests.{eqb-true, eq-eqb, not-false}
 use Rattle.lists.proofs.Lowest.{lowest-none}
 use Rattle.sets.specs.Word.{dig, count, both}
-use Rattle.sets.proofs.Digits.{never}
+use Rattle.lists.proofs.Truth.{cond-passes}
+use Rattle.lists.proofs.Places.{one-later}
 use Rattle.paper.specs.Solids.{Tables, inTwo, onceEachWay, oriented, peaceful, clearFrom}
 use Rattle.paper.specs.Verdict.{edgeCount}
 use Rattle.means_leaf.specs.Meaning.{InTwo}
@@ -49,13 +50,6 @@ module _ (taken : List Bool) where
 
   -- ---- (v): one mask for each place from k on
 
-  passed : (b x : Bool) → cond b x false ≡ true → (b ≡ true) × (x ≡ true)
-  passed true x e = (refl, e)
-  passed false x e = never (sym e)
-
-  after : (k i : ℕ) → suc k + i ≡ k + suc i
-  after k i = omega arith
-
   pub clear-each : (k : ℕ) (masks : List (List Bool)) → clearFrom k masks taken ≡ true → (i : ℕ) → i < length masks
       → dig taken (k + i) ≡ true → count (both (getD masks i []) taken) ≡ 0
   unfolding clearFrom
@@ -64,10 +58,10 @@ module _ (taken : List Bool) where
       let z : k ≡ k + 0 = omega arith in
       eqb-true (count (both mask taken)) 0
       (subst (λ (b : Bool). peaceful b (count (both mask taken)) ≡ true) (ap (dig taken) z ∙ t)
-      (passed (peaceful (dig taken k) (count (both mask taken))) (clearFrom (suc k) masks taken) e .0))
+      (cond-passes (peaceful (dig taken k) (count (both mask taken))) (clearFrom (suc k) masks taken) e .0))
   clear-each k (mask ∷ masks) e (suc i) h t =
-      clear-each (suc k) masks (passed (peaceful (dig taken k) (count (both mask taken))) (clearFrom (suc k) masks taken) e .1) i
-      (omega arith) (ap (dig taken) (after k i) ∙ t)
+      clear-each (suc k) masks (cond-passes (peaceful (dig taken k) (count (both mask taken))) (clearFrom (suc k) masks taken) e .1) i
+      (omega arith) (ap (dig taken) (one-later k i) ∙ t)
 
   pub each-clear : (k : ℕ) (masks : List (List Bool))
       → ((i : ℕ) → i < length masks → dig taken (k + i) ≡ true → count (both (getD masks i []) taken) ≡ 0)
@@ -75,7 +69,7 @@ module _ (taken : List Bool) where
   unfolding clearFrom
   each-clear k [] f = refl
   each-clear k (mask ∷ masks) f =
-      go (dig taken k) refl (each-clear (suc k) masks (λ i h t. f (suc i) (omega arith) (ap (dig taken) (sym (after k i)) ∙ t)))
+      go (dig taken k) refl (each-clear (suc k) masks (λ i h t. f (suc i) (omega arith) (ap (dig taken) (sym (one-later k i)) ∙ t)))
     where
       go : (b : Bool) → dig taken k ≡ b → clearFrom (suc k) masks taken ≡ true
           → cond (peaceful b (count (both mask taken))) (clearFrom (suc k) masks taken) false ≡ true

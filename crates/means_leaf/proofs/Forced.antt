@@ -2,14 +2,14 @@
 -- are
 -- the spread's, wherever it reaches.
 -- Assumes nothing.
-use mathlib.Core.Bool.{Bool, true, false, not, _&&_, cond, xor}
+use mathlib.Core.Bool.{Bool, true, false, not, _&&_, cond, xor, and-comm, and-false}
 use mathlib.Core.List.{List, [], _∷_}
 use mathlib.Core.Logic.{_⊎_, inl, inr}
 use mathlib.Core.Path.{_≡_, refl, sym, ap, ap₂, _∙_}
 use Prim.Native.Nat.{ℕ}
 use lib.Dec.{eqb}
 use borrow.Author.Tests.{eqb-true}
-use Rattle.lists.proofs.Truth.{and-right, and-both, and-swap}
+use Rattle.lists.proofs.Truth.{and-right, and-both, and-same}
 use Rattle.sets.specs.Word.{dig, Sub, count, both, less, first}
 use Rattle.paper.specs.Solids.{Reach, unlike, connected, onceEachWay, oriented}
 use Rattle.means_leaf.specs.Meaning.{faces, Alike, Opposite}
@@ -18,10 +18,6 @@ use Rattle.means_leaf.proofs.Unlike.{dig-unlike}
 use Rattle.means_leaf.proofs.Directions.{faces-right}
 
 -- ---- directions of the taken are all that counts, and all of them turned are as good
-guarded : (m x y : Bool) → (m ≡ true → x ≡ y) → (m && x) ≡ (m && y)
-guarded true x y h = h refl
-guarded false x y h = refl
-
 mine-taken : (mask taken : List Bool) (k : ℕ) → dig (both mask taken) k ≡ true → dig taken k ≡ true
 mine-taken mask taken k e = and-right (dig mask k) (dig taken k) (sym (dig-both mask taken k) ∙ e)
 
@@ -43,11 +39,11 @@ module _ (mask up taken s t : List Bool) where
       ap₂ (λ (m n : ℕ). eqb m 1 && eqb n 1)
       (count-same (both (both mask taken) (unlike up s)) (both (both mask taken) (unlike up t))
       (λ k. dig-both (both mask taken) (unlike up s) k
-      ∙ guarded (dig (both mask taken) k) (dig (unlike up s) k) (dig (unlike up t) k) (same k)
+      ∙ and-same (dig (both mask taken) k) (same k)
       ∙ sym (dig-both (both mask taken) (unlike up t) k)))
       (count-same (less (both mask taken) (unlike up s)) (less (both mask taken) (unlike up t))
       (λ k. dig-less (both mask taken) (unlike up s) k
-      ∙ guarded (dig (both mask taken) k) (not (dig (unlike up s) k)) (not (dig (unlike up t) k)) (λ e. ap not (same k e))
+      ∙ and-same (dig (both mask taken) k) (λ e. ap not (same k e))
       ∙ sym (dig-less (both mask taken) (unlike up t) k)))
     where
       same : (k : ℕ) → dig (both mask taken) k ≡ true → dig (unlike up s) k ≡ dig (unlike up t) k
@@ -59,14 +55,12 @@ module _ (mask up taken s t : List Bool) where
       ap₂ (λ (m n : ℕ). eqb m 1 && eqb n 1)
       (count-same (both (both mask taken) (unlike up s)) (less (both mask taken) (unlike up t))
       (λ k. dig-both (both mask taken) (unlike up s) k
-      ∙ guarded (dig (both mask taken) k) (dig (unlike up s) k) (not (dig (unlike up t) k))
-      (flip k) ∙ sym (dig-less (both mask taken) (unlike up t) k)))
+      ∙ and-same (dig (both mask taken) k) (flip k) ∙ sym (dig-less (both mask taken) (unlike up t) k)))
       (count-same (less (both mask taken) (unlike up s)) (both (both mask taken) (unlike up t))
       (λ k. dig-less (both mask taken) (unlike up s) k
-      ∙ guarded (dig (both mask taken) k) (not (dig (unlike up s) k)) (dig (unlike up t) k)
-      (λ e. ap not (flip k e) ∙ not-not (dig (unlike up t) k))
+      ∙ and-same (dig (both mask taken) k) (λ e. ap not (flip k e) ∙ not-not (dig (unlike up t) k))
       ∙ sym (dig-both (both mask taken) (unlike up t) k)))
-      ∙ and-swap (eqb (count (less (both mask taken) (unlike up t))) 1) (eqb (count (both (both mask taken) (unlike up t))) 1)
+      ∙ and-comm (eqb (count (less (both mask taken) (unlike up t))) 1) (eqb (count (both (both mask taken) (unlike up t))) 1)
     where
       flip : (k : ℕ) → dig (both mask taken) k ≡ true → dig (unlike up s) k ≡ not (dig (unlike up t) k)
       flip k e =
@@ -122,12 +116,8 @@ directions masks ups taken c ts o = go (dig ts (first taken)) refl
     go true e =
         let p : oriented masks ups taken (less taken ts) ≡ true = oriented-opposite taken (less taken ts) ts other masks ups ∙ o in
         let z : dig (less taken ts) (first taken) ≡ false = dig-less taken ts (first taken)
-        ∙ ap (λ (x : Bool). dig taken (first taken) && not x) e ∙ and-off (dig taken (first taken)) in
+        ∙ ap (λ (x : Bool). dig taken (first taken) && not x) e ∙ and-false (dig taken (first taken)) in
         let a : Alike taken (less taken ts) (faces masks ups taken .turned) = agree (less taken ts) p z in (
           sym (oriented-alike taken (less taken ts) (faces masks ups taken .turned) a masks ups) ∙ p,
           inr (λ k h. sym (not-not (dig ts k)) ∙ ap not (sym (other k h) ∙ a k h)),
         )
-      where
-        and-off : (x : Bool) → (x && false) ≡ false
-        and-off true = refl
-        and-off false = refl

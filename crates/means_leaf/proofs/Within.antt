@@ -1,7 +1,7 @@
 -- The spread turns none but reached faces, and reaches none but taken ones. Assumes nothing.
-use mathlib.Core.Bool.{Bool, true, false, not, _&&_, _||_, cond}
+use mathlib.Core.Bool.{Bool, true, false, not, cond}
 use mathlib.Core.List.{List, [], _∷_}
-use mathlib.Core.Path.{_≡_, refl, sym, _∙_, subst}
+use mathlib.Core.Path.{_≡_, sym, _∙_, subst}
 use Prim.Native.Nat.{ℕ, zero, suc}
 use native.Mathlib.Decide.{ℕ-discrete}
 use lib.Dec.{eqb}
@@ -10,7 +10,7 @@ use Rattle.sets.proofs.Digits.{never, dig-only, first-in}
 use Rattle.paper.specs.Solids.{Reach, fresh, known, runsDown, acrossEdge, pass, spread}
 use Rattle.means_leaf.specs.Meaning.{start, faces}
 use Rattle.means_leaf.proofs.Reaches.{pass-taken}
-use Rattle.means_leaf.proofs.Directions.{over-not, reached-dig, turned-dig}
+use Rattle.means_leaf.proofs.Directions.{over-not, reached-dig, turned-dig, reached-within}
 
 abbrev Fit : Reach → Type 0
 Fit r = Sub (r .turned) (r .reached)
@@ -18,15 +18,9 @@ Fit r = Sub (r .turned) (r .reached)
 over-fit : (mask up taken : List Bool) (r : Reach) → Fit r → Fit (acrossEdge mask up taken r)
 over-fit mask up taken r f = go (ℕ-discrete (count (known mask taken r)) 1)
   where
-    more : (x y z p : Bool) → (x ≡ true → z ≡ true) → (x || (y && p)) ≡ true → (z || y) ≡ true
-    more x y true p a e = refl
-    more x true false p a e = refl
-    more true false false p a e = never (sym (a refl))
-    more false false false p a e = e
-
     go : Dec (count (known mask taken r) ≡ 1) → Fit (acrossEdge mask up taken r)
     go (yes e) = λ k h. reached-dig mask up taken r e k
-        ∙ more (dig (r .turned) k) (dig (fresh mask taken r) k) (dig (r .reached) k)
+        ∙ reached-within (dig (r .turned) k) (dig (fresh mask taken r) k) (dig (r .reached) k)
         (cond (runsDown mask up taken r) (not (dig up k)) (dig up k)) (f k) (sym (turned-dig mask up taken r e k) ∙ h)
     go (no n) = subst Fit (sym (over-not mask up taken r n)) f
 

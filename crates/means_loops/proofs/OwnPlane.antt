@@ -1,24 +1,24 @@
 -- Corners in a plane are in the plane of the polygon's own normal; so are those of a candidate. Assumes nothing.
-use mathlib.Core.Path.{_≡_, refl, ap, ap₂, _∙_}
+use mathlib.Core.Path.{_≡_, refl, ap, ap₂, _∙_, sym}
 use mathlib.Core.Option.{none}
 use mathlib.Core.List.{List, [], _∷_}
 use Prim.Native.Nat.{ℕ, suc, _<_}
 use native.Mathlib.Omega.{arith}
-use lib.IntN.{ℤ, pos, _+ℤ_, _-ℤ_}
+use lib.IntN.{ℤ, pos}
 use lib.ListN.{length, getD}
 use Rattle.lists.specs.Lists.{sides, sidesFrom}
 use Rattle.lists.proofs.Passing.{all-is}
 use Rattle.paper.specs.Points.{origin, plus, minus, times, dot, cross, sum, isZero}
 use Rattle.paper.specs.Polygon.{Polygon, normal, corner, planeSide, onePlane}
-use Rattle.paper.specs.Drawing.{Wire, at, samePlace}
+use Rattle.paper.specs.Drawing.{Wire, samePlace}
 use Rattle.paper.specs.Loops.{loopAt, polygon, candidates}
 use Rattle.paper.specs.declared.Point.{Point}
-use Rattle.paper_laws.proofs.Vectors.{num, vec, k, x, _+s_, _-s_, _·_, o, v, _+v_, _-v_, _*v_, _×v_, vring}
+use Rattle.paper_laws.proofs.Vectors.{num, vec, x, _·_, o, v, _+v_, _-v_, _*v_, _×v_, vring}
 use Rattle.paper_laws.proofs.Wires.{polygon-length}
-use Rattle.paper_laws.proofs.Points.{zero-is}
+use Rattle.paper_laws.proofs.Points.{zero-is, across-too, dot-even}
 use Rattle.paper_laws.specs.Planes.{InOwnPlane}
 use Rattle.means_loops.specs.Plane.{InPlane}
-use Rattle.means_loops.proofs.Planes.{in-one-line, loop-plane}
+use Rattle.means_loops.proofs.Planes.{loop-plane}
 use Rattle.means_loops.proofs.Listing.{candidates-are}
 
 -- ---- the normal of corners in a plane is across it
@@ -56,14 +56,7 @@ corner-at [] = refl
 corner-at (p ∷ ps) = refl
 
 pub less-dot : (n p q : Point) (h : ℤ) → dot n p ≡ h → dot n q ≡ h → dot n (minus p q) ≡ pos 0
-less-dot n p q h a b =
-    vring (vec n ∷ vec p ∷ vec q ∷ []) (v 0 · (v 1 -v v 2)) ((v 0 · v 1) -s (v 0 · v 2)) tt ∙ ap₂ _-ℤ_ a b
-    ∙ vring (num h ∷ []) (x 0 -s x 0) (k (pos 0)) tt
-
-pub dot-less : (n p q : Point) → dot n (minus p q) ≡ pos 0 → dot n p ≡ dot n q
-dot-less n p q e =
-    vring (vec n ∷ vec p ∷ vec q ∷ []) (v 0 · v 1) ((v 0 · (v 1 -v v 2)) +s (v 0 · v 2)) tt ∙ ap (λ (z : ℤ). z +ℤ dot n q) e
-    ∙ vring (num (dot n q) ∷ []) (k (pos 0) +s x 0) (x 0) tt
+less-dot n p q h a b = dot-even n p q (a ∙ sym b)
 
 -- ---- so a polygon in a plane is in its own
 
@@ -71,7 +64,7 @@ pub own-plane : (f : Polygon) → InPlane f → 0 < length f → InOwnPlane f
 unfolding onePlane planeSide
 own-plane f y h =
     all-is (λ p. isZero (planeSide f p)) origin f (λ i l.
-    zero-is (in-one-line (y .across) (normal f) (minus (getD f i origin) (corner f)) (y .real)
+    zero-is (across-too (y .across) (normal f) (minus (getD f i origin) (corner f)) (y .real)
     (normal-across (y .across) (y .height) f (y .every))
     (less-dot (y .across) (getD f i origin) (corner f) (y .height) (y .every i l) (ap (dot (y .across)) (corner-at f) ∙ y .every 0 h))))
 

@@ -5,7 +5,6 @@ use mathlib.Core.Logic.{_⊎_, inl, inr}
 use mathlib.Core.List.{List, _++_}
 use Prim.Native.Nat.{ℕ, zero, suc, _+_, _-_, _≤_, _<_}
 use native.Mathlib.Omega.{arith}
-use native.Mathlib.Decide.{decLt}
 use lib.Dec.{eqb}
 use lib.ListN.{length, getD, length-append, List·getD-append}
 use lib.Seq.{getD-append-add}
@@ -13,7 +12,7 @@ use borrow.Author.Tests.{eq-eqb}
 use Rattle.lists.specs.Around.{wrap, around}
 use Rattle.lists.proofs.Truth.{and-both, or-left, or-right}
 use Rattle.lists.proofs.Passing.{any-is}
-use Rattle.lists.proofs.Sides.{wrap-low, wrap-high}
+use Rattle.lists.proofs.Sides.{wrap-low, wrap-high, wrap-cases, wrap-below}
 use Rattle.paper.specs.Drawing.{Wire, Edge, edge, edgeAt, at, joins, joined}
 use Rattle.paper.specs.Loops.{flipped}
 use Rattle.means_solid.specs.Solid.{Goes}
@@ -38,16 +37,9 @@ edge-back d a b (e, h, inr p) = (e, h, inl p)
 
 -- ---- places of a ring from another start, and the other way round
 
-wrap-is : (n j : ℕ) → ((j < n) × (wrap n j ≡ j)) ⊎ ((n ≤ j) × (wrap n j ≡ j - n))
-wrap-is n j = go (decLt j n)
-  where
-    go : Dec (j < n) → ((j < n) × (wrap n j ≡ j)) ⊎ ((n ≤ j) × (wrap n j ≡ j - n))
-    go (yes h) = inl (h, wrap-low n j h)
-    go (no h) = inr (omega arith, wrap-high n j (omega arith))
-
 split-at : (u w : List ℕ) (i : ℕ) → i < length w + length u
     → getD (w ++ u) i 0 ≡ getD (u ++ w) (wrap (length w + length u) (length u + i)) 0
-split-at u w i h = go (wrap-is (length w + length u) (length u + i))
+split-at u w i h = go (wrap-cases (length w + length u) (length u + i))
   where
     go : ((length u + i < length w + length u) × (wrap (length w + length u) (length u + i) ≡ length u + i))
         ⊎ ((length w + length u ≤ length u + i) × (wrap (length w + length u) (length u + i) ≡ length u + i - (length w + length u)))
@@ -60,7 +52,7 @@ split-at u w i h = go (wrap-is (length w + length u) (length u + i))
         ∙ sym (ap (λ (m : ℕ). getD (u ++ w) m 0) (e ∙ z) ∙ List·getD-append u w 0 (i - length w) (omega arith))
 
 wrap-step : (n k i : ℕ) → k ≤ n → i < n → wrap n (k + wrap n (suc i)) ≡ wrap n (suc (wrap n (k + i)))
-wrap-step n k i hk hi = go (wrap-is n (suc i)) (wrap-is n (k + i)) (wrap-is n (k + wrap n (suc i))) (wrap-is n (suc (wrap n (k + i))))
+wrap-step n k i hk hi = go (wrap-cases n (suc i)) (wrap-cases n (k + i)) (wrap-cases n (k + wrap n (suc i))) (wrap-cases n (suc (wrap n (k + i))))
   where
     go : ((suc i < n) × (wrap n (suc i) ≡ suc i)) ⊎ ((n ≤ suc i) × (wrap n (suc i) ≡ suc i - n))
         → ((k + i < n) × (wrap n (k + i) ≡ k + i))
@@ -86,13 +78,6 @@ wrap-step n k i hk hi = go (wrap-is n (suc i)) (wrap-is n (k + i)) (wrap-is n (k
     go (inr (a, a′)) (inr (b, b′)) (inl (c, c′)) (inr (e, e′)) = omega arith
     go (inr (a, a′)) (inr (b, b′)) (inr (c, c′)) (inl (e, e′)) = omega arith
     go (inr (a, a′)) (inr (b, b′)) (inr (c, c′)) (inr (e, e′)) = omega arith
-
-pub wrap-below : (n j : ℕ) → j < n + n → wrap n j < n
-wrap-below n j h = go (wrap-is n j)
-  where
-    go : ((j < n) × (wrap n j ≡ j)) ⊎ ((n ≤ j) × (wrap n j ≡ j - n)) → wrap n j < n
-    go (inl (a, b)) = omega arith
-    go (inr (a, b)) = omega arith
 
 -- place i of g is a place of f, and the one after it the one after that
 pub record Turned (f g : List ℕ) : Type 0 where

@@ -1,14 +1,13 @@
 -- The plane test of the loop search in plain words: it lets the vertices of a path pass just if they all lie in one plane. Assumes
 -- nothing.
 use mathlib.Core.Path.{_≡_, refl, sym, ap, ap₂, subst, _∙_}
-use mathlib.Core.Bool.{Bool, true, false, not, _&&_, cond, true≢false}
+use mathlib.Core.Bool.{Bool, true, false, not, _&&_, true≢false}
 use mathlib.Core.Option.{none}
 use mathlib.Core.List.{List, [], _∷_, map}
-use Prim.Native.Nat.{ℕ, zero, suc, _+_, _-_, _<_}
+use Prim.Native.Nat.{ℕ, zero, suc, _<_}
 use native.Mathlib.Omega.{arith}
 use lib.Dec.{eqb}
-use lib.IntN.{ℤ, pos, negℤ, _+ℤ_, _-ℤ_, _*ℤ_, *ℤ-zero}
-use lib.Signed.{_<ℤ_, <ℤ-irrefl}
+use lib.IntN.{pos, negℤ}
 use lib.ListN.{length, getD, take, length-map}
 use borrow.Author.Tests.{ne-eqb}
 use Rattle.lists.specs.Lists.{any, upto}
@@ -16,30 +15,17 @@ use Rattle.lists.proofs.Truth.{and-both}
 use Rattle.lists.proofs.Passing.{some-is}
 use Rattle.lists.proofs.Places.{map-at}
 use Rattle.lists.proofs.Lowest.{lowest-none}
-use Rattle.exact.proofs.Signs.{mul-zero}
 use Rattle.paper.specs.Points.{pt, origin, minus, times, dot, cross, isZero, isOrigin, samePoint}
 use Rattle.paper.specs.Drawing.{Wire, at, samePlace}
 use Rattle.paper.specs.Loops.{Loop, tilt, tilted, across, level, polygon}
 use Rattle.paper.specs.declared.Point.{Point}
-use Rattle.paper_laws.proofs.Vectors.{num, vec, k, x, _+s_, _-s_, _*s_, negs, _·_, o, v, _-v_, _*v_, _×v_, vring}
-use Rattle.paper_laws.proofs.Points.{zero-yes, zero-is, origin-yes, origin-is, origin-no, differ, in-line, self-pos}
+use Rattle.paper_laws.proofs.Vectors.{num, vec, k, x, _+s_, _*s_, negs, _·_, o, v, _-v_, _*v_, _×v_, vring}
+use Rattle.paper_laws.proofs.Points.{zero-yes, zero-is, origin-yes, origin-is, origin-no, differ, dot-comm, zero-no, across-too, dot-less, dot-even}
+use Rattle.paper_laws.proofs.Tilted.{tilt-found}
 use Rattle.means_loops.specs.Loop.{IsLoop}
 use Rattle.means_loops.specs.Plane.{InPlane}
 
-pub dot-comm : (p q : Point) → dot p q ≡ dot q p
-dot-comm p q = vring (vec p ∷ vec q ∷ []) (v 0 · v 1) (v 1 · v 0) tt
-
-pub self-ne : (n : Point) → (n ≡ origin → ⊥) → dot n n ≡ pos 0 → ⊥
-self-ne n h e = <ℤ-irrefl (subst (λ (z : ℤ). pos 0 <ℤ z) e (self-pos n h))
-
 -- directions n and m in one line: what is at right angles to the one is so to the other
-pub in-one-line : (n m y : Point) → (n ≡ origin → ⊥) → cross n m ≡ origin → dot n y ≡ pos 0 → dot m y ≡ pos 0
-in-one-line n m y h e z =
-    mul-zero (dot n n) (dot m y) (self-ne n h)
-    (vring (num (dot n n) ∷ vec m ∷ vec y ∷ []) (x 0 *s (v 1 · v 2)) (v 2 · (x 0 *v v 1)) tt ∙ ap (dot y) (in-line n m e)
-    ∙ vring (num (dot n m) ∷ vec n ∷ vec y ∷ []) (v 2 · (x 0 *v v 1)) (x 0 *s (v 1 · v 2)) tt ∙ ap (λ (a : ℤ). dot n m *ℤ a) z
-    ∙ *ℤ-zero (dot n m))
-
 record Upright (p : Point) : Type 0 where
   to : Point
   real : to ≡ origin → ⊥
@@ -47,9 +33,6 @@ record Upright (p : Point) : Type 0 where
 
 one-not : pos 1 ≡ pos 0 → ⊥
 one-not e = let z : _≡_ {A = ℕ} 1 0 = cc in omega arith
-
-zero-not : {z : ℤ} → isZero z ≡ false → z ≡ pos 0 → ⊥
-zero-not {z} e q = true≢false (sym (zero-is q) ∙ e)
 
 -- every direction has one at right angles to it
 upright : (p : Point) → Upright p
@@ -66,7 +49,7 @@ upright p = go (isZero (p .x)) refl
     }
     go false e = record {
       to = pt (negℤ (p .y)) (p .x) (pos 0);
-      real = λ h. zero-not e (ap (λ (q : Point). q .y) h);
+      real = λ h. zero-no e (ap (λ (q : Point). q .y) h);
       right = vring (num (p .x) ∷ num (p .y) ∷ num (p .z) ∷ []) (negs (x 1) *s x 0 +s x 0 *s x 1 +s k (pos 0) *s x 2) (k (pos 0)) tt;
     }
 
@@ -81,21 +64,17 @@ module _ (s b : Point) where
   AllLevel n [] = Unit {0}
   AllLevel n (w ∷ ws) = (dot n (minus w s) ≡ pos 0) × AllLevel n ws
 
-  keeps : (n w : Point) → isOrigin n ≡ false → tilt s b n w ≡ n
-  unfolding tilt
-  keeps n w i = ap (λ (t : Bool). cond t (cross (minus b s) (minus w s)) n) i
-
   begins : (w : Point) → tilt s b origin w ≡ cross (minus b s) (minus w s)
   unfolding tilt isOrigin isZero
   begins w = refl
 
   fixed : (n : Point) → isOrigin n ≡ false → (ws : List Point) → StepsLevel n ws → AllLevel n ws
   fixed n i [] l = tt
-  fixed n i (w ∷ ws) l = (l .0, fixed n i ws (subst (λ (m : Point). StepsLevel m ws) (keeps n w i) (l .1)))
+  fixed n i (w ∷ ws) l = (l .0, fixed n i ws (subst (λ (m : Point). StepsLevel m ws) (tilt-found s b n w i) (l .1)))
 
   fixed-back : (n : Point) → isOrigin n ≡ false → (ws : List Point) → AllLevel n ws → StepsLevel n ws
   fixed-back n i [] l = tt
-  fixed-back n i (w ∷ ws) l = (l .0, subst (λ (m : Point). StepsLevel m ws) (sym (keeps n w i)) (fixed-back n i ws (l .1)))
+  fixed-back n i (w ∷ ws) l = (l .0, subst (λ (m : Point). StepsLevel m ws) (sym (tilt-found s b n w i)) (fixed-back n i ws (l .1)))
 
   record Across (ws : List Point) : Type 0 where
     n : Point
@@ -118,7 +97,7 @@ module _ (s b : Point) where
             real = r .real;
             right = r .right;
             flat = (
-              dot-comm (r .n) (minus w s) ∙ in-one-line (minus b s) (minus w s) (r .n) ne z (dot-comm (minus b s) (r .n) ∙ r .right),
+              dot-comm (r .n) (minus w s) ∙ across-too (minus b s) (minus w s) (r .n) ne z (dot-comm (minus b s) (r .n) ∙ r .right),
               r .flat,
             );
           }
@@ -135,7 +114,7 @@ module _ (s b : Point) where
 
   flat-by : (n m : Point) → (n ≡ origin → ⊥) → cross n m ≡ origin → (ws : List Point) → AllLevel n ws → AllLevel m ws
   flat-by n m h e [] f = tt
-  flat-by n m h e (w ∷ ws) f = (in-one-line n m (minus w s) h e (f .0), flat-by n m h e ws (f .1))
+  flat-by n m h e (w ∷ ws) f = (across-too n m (minus w s) h e (f .0), flat-by n m h e ws (f .1))
 
   passes : (n : Point) → (n ≡ origin → ⊥) → dot n (minus b s) ≡ pos 0 → (ws : List Point) → AllLevel n ws → StepsLevel origin ws
   passes n h z [] f = tt
@@ -185,17 +164,6 @@ module _ (s b : Point) where
       (ap (λ (n : Point). tilt s b n b) (begins s ∙ vring (vec s ∷ vec b ∷ []) ((v 1 -v v 0) ×v (v 0 -v v 0)) o tt)
       ∙ begins b ∙ vring (vec s ∷ vec b ∷ []) ((v 1 -v v 0) ×v (v 1 -v v 0)) o tt)
 
-  -- from directions to heights
-  level-of : (n p : Point) → dot n (minus p s) ≡ pos 0 → dot n p ≡ dot n s
-  level-of n p e =
-      vring (vec n ∷ vec p ∷ vec s ∷ []) (v 0 · v 1) ((v 0 · (v 1 -v v 2)) +s (v 0 · v 2)) tt ∙ ap (λ (z : ℤ). z +ℤ dot n s) e
-      ∙ vring (num (dot n s) ∷ []) (k (pos 0) +s x 0) (x 0) tt
-
-  of-level : (n p : Point) → dot n p ≡ dot n s → dot n (minus p s) ≡ pos 0
-  of-level n p e =
-      vring (vec n ∷ vec p ∷ vec s ∷ []) (v 0 · (v 1 -v v 2)) ((v 0 · v 1) -s (v 0 · v 2)) tt ∙ ap (λ (z : ℤ). z -ℤ dot n s) e
-      ∙ vring (num (dot n s) ∷ []) (x 0 -s x 0) (k (pos 0)) tt
-
 -- ---- a path of a drawing
 
 module _ (d : Wire) (a b : ℕ) (t : List ℕ) (ne : at d a ≡ at d b → ⊥) where
@@ -226,9 +194,9 @@ module _ (d : Wire) (a b : ℕ) (t : List ℕ) (ne : at d a ≡ at d b → ⊥) 
       go : (w : Across (at d a) (at d b) (map (at d) t)) (i : ℕ) → i < length (map (at d) (a ∷ b ∷ t))
           → dot (w .n) (getD (map (at d) (a ∷ b ∷ t)) i origin) ≡ dot (w .n) (at d a)
       go w zero h = refl
-      go w (suc zero) h = level-of (at d a) (at d b) (w .n) (at d b) (w .right)
+      go w (suc zero) h = dot-less (w .n) (at d b) (at d a) (w .right)
       go w (suc (suc i)) h =
-          level-of (at d a) (at d b) (w .n) (getD (map (at d) t) i origin)
+          dot-less (w .n) (getD (map (at d) t) i origin) (at d a)
           (flat-at (at d a) (at d b) (w .n) (map (at d) t) (w .flat) i (omega arith))
 
   pub plane-level : InPlane (polygon d (a ∷ b ∷ t)) → (j : ℕ) → j < length t
@@ -236,9 +204,9 @@ module _ (d : Wire) (a b : ℕ) (t : List ℕ) (ne : at d a ≡ at d b → ⊥) 
   unfolding polygon
   plane-level y j h =
       let s : dot (y .across) (at d a) ≡ y .height = y .every 0 (omega arith) in
-      let z = of-level (at d a) (at d b) (y .across) (at d b) (y .every 1 (omega arith) ∙ sym s) in
+      let z = dot-even (y .across) (at d b) (at d a) (y .every 1 (omega arith) ∙ sym s) in
       let f = flat-from (at d a) (at d b) (y .across) (map (at d) t)
-      (λ i k. of-level (at d a) (at d b) (y .across) (getD (map (at d) t) i origin) (y .every (suc (suc i)) (omega arith) ∙ sym s)) in
+      (λ i k. dot-even (y .across) (getD (map (at d) t) i origin) (at d a) (y .every (suc (suc i)) (omega arith) ∙ sym s)) in
       let l = passes (at d a) (at d b) (y .across) (y .real) z (map (at d) t) f in
       across-at j h ∙ zero-is (level-at (at d a) (at d b) origin (map (at d) t) l j (omega (arith, length-map t (at d))))
 

@@ -19,6 +19,7 @@ use Rattle.paper.specs.Loops.{Loop, loopAt, polygon}
 use Rattle.paper.specs.Clash.{clash}
 use Rattle.paper.specs.Solids.{runsUp, has, faceSix, clashing, tablesOf, onceEachWay, part, sixFrom}
 use Rattle.paper_laws.specs.Planes.{InOwnPlane}
+use Rattle.paper_laws.proofs.Wires.{polygon-at}
 use Rattle.means_clash.proofs.Either.{clash-either}
 use Rattle.means_leaf.specs.Meaning as Masks
 use Rattle.means_leaf.specs.Meaning.{In, On}
@@ -134,9 +135,6 @@ module _ (d : Wire) (cs : List Loop) where
   -- ---- (v)
 
   module _ (even : Even d cs) (taken : List Bool) (some : length taken ≡ length cs) where
-    polygon-at : (k : ℕ) → k < length cs → getD (map (polygon d) cs) k [] ≡ polygon d (loopAt cs k)
-    polygon-at k h = map-at (polygon d) cs k [] [] h
-
     inside : (k : ℕ) → dig taken k ≡ true → k < length cs
     inside k e = omega (arith, dig-lt taken k e)
 
@@ -153,9 +151,9 @@ module _ (d : Wire) (cs : List Loop) where
     clashing-is j k hj hk n = go (decLt j k)
       where
         go : Dec (j < k) → clashing (map (polygon d) cs) j k ≡ clash (polygon d (loopAt cs j)) (polygon d (loopAt cs k))
-        go (yes h) = rw (lt-ltb j k h) (ap₂ clash (polygon-at j hj) (polygon-at k hk))
+        go (yes h) = rw (lt-ltb j k h) (ap₂ clash (polygon-at d cs j hj) (polygon-at d cs k hk))
         go (no h) =
-            rw (le-ltb j k (omega arith), lt-ltb k j (omega arith)) (ap₂ clash (polygon-at k hk) (polygon-at j hj) ∙ even k j hk hj)
+            rw (le-ltb j k (omega arith), lt-ltb k j (omega arith)) (ap₂ clash (polygon-at d cs k hk) (polygon-at d cs j hj) ∙ even k j hk hj)
 
     pub clashing-self : (j : ℕ) → clashing (map (polygon d) cs) j j ≡ false
     unfolding clashing

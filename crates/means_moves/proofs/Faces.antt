@@ -1,6 +1,6 @@
 -- Planes, cover and clash of polygons that were moved. Assumes nothing.
 use mathlib.Core.Path.{_≡_, refl, sym, ap, ap₂, _∙_, subst}
-use mathlib.Core.Bool.{Bool, true, false, not, _&&_, _||_, true≢false}
+use mathlib.Core.Bool.{Bool, true, false, not, _&&_, _||_, true≢false, and-false}
 use mathlib.Core.List.{List, [], _∷_, map}
 use Prim.Native.Nat.{ℕ, zero, suc, _+_, _*_}
 use native.Mathlib.Omega.{arith}
@@ -10,14 +10,14 @@ use Rattle.exact.proofs.Size.{abs-mul}
 use Rattle.exact.proofs.Ring.{var, con, _⊕_, _⊗_, neg, ring}
 use Rattle.lists.specs.Lists.{any, all, sides, sidesFrom, anyTrue}
 use Rattle.lists.proofs.Sides.{sides-map}
-use Rattle.lists.proofs.Truth.{and-left, and-right, and-off}
+use Rattle.lists.proofs.Truth.{and-left, and-right, and-same}
 use Rattle.paper.specs.Points.{plus, minus, times, dot, isZero, above, below, samePoint}
 use Rattle.paper.specs.Polygon.{Polygon, Ratio, over, exactly, midpoint, normal, corner, planeSide, onePlane, lies, isInside, isOutside, covers}
 use Rattle.paper.specs.Clash.{opposite, pierced, pierces, enters, Side, to, turnsAt, pointsIn, isCorner, bends, folds, clash}
 use Rattle.paper.specs.declared.Point.{Point}
 use Rattle.paper.specs.declared.Where.{Where}
-use Rattle.paper_laws.proofs.Points.{zero-yes}
-use Rattle.paper_laws.proofs.Vectors.{num, vec, k as lit, x as fac, _+s_, _*s_, _·_, o, v as at, _+v_, _-v_, _*v_, vring}
+use Rattle.paper_laws.proofs.Points.{zero-yes, empty-side}
+use Rattle.paper_laws.proofs.Vectors.{num, vec, k as lit, x as fac, _+s_, _*s_, _·_, v as at, _+v_, _-v_, _*v_, vring}
 use Rattle.means_area.specs.Flats.{Up}
 use Rattle.paper_laws.specs.Planes.{OnPlane}
 use Rattle.means_moves.specs.Moves.{HasPlane, Move}
@@ -47,14 +47,6 @@ map-sides {A} {B} {C} h f (a ∷ r) = go a r
     go : (x : A) (r : List A) → map h (sidesFrom f a x r) ≡ sidesFrom (λ y z. h (f y z)) a x r
     go x [] = refl
     go x (y ∷ r) = ap (λ (l : List C). h (f x y) ∷ l) (go y r)
-
-empty-side : (p : Point) → planeSide [] p ≡ pos 0
-unfolding planeSide normal sides
-empty-side p = vring (vec p ∷ []) (o · (at 0 -v o)) (lit (pos 0)) tt
-
-pub and-same : (t : Bool) {x y : Bool} → (t ≡ true → x ≡ y) → (t && x) ≡ (t && y)
-and-same true f = f refl
-and-same false f = refl
 
 none : (b : ℤ) → opposite (pos 0) b ≡ false
 unfolding opposite below above
@@ -109,7 +101,7 @@ balance (pos m) (pos n) e = absurd (true≢false (sym e ∙ sides-no))
     sides-no : opposite (pos m) (pos n) ≡ false
     sides-no =
         unfold opposite below in
-        ap₂ (λ (a b : Bool). a && above (pos n) || above (pos m) && b) (le-ltb m 0 (omega arith)) (le-ltb n 0 (omega arith)) ∙ and-off (above (pos m))
+        ap₂ (λ (a b : Bool). a && above (pos n) || above (pos m) && b) (le-ltb m 0 (omega arith)) (le-ltb n 0 (omega arith)) ∙ and-false (above (pos m))
 balance (pos m) (negsuc n) e = ring (pos m ∷ pos (suc n) ∷ []) (var 1 ⊗ var 0 ⊕ var 0 ⊗ neg (var 1)) (con (pos 0)) tt
 balance (negsuc m) (pos n) e = ring (pos (suc m) ∷ pos n ∷ []) (var 1 ⊗ neg (var 0) ⊕ var 0 ⊗ var 1) (con (pos 0)) tt
 balance (negsuc m) (negsuc n) e = absurd (true≢false (sym e))

@@ -39,6 +39,7 @@ use Rattle.means_walk.proofs.Grown.{tree}
 use Rattle.means_walk.proofs.Ends.{ends, ended-whole}
 use Rattle.means_report.specs.Listed.{wordsOf, entry}
 use Rattle.means_report.specs.Report.{solidsFor}
+use Rattle.means_report.proofs.Report.{solids-told}
 use Rattle.means_moves.specs.Moves.{Move}
 use Rattle.means_moves.specs.Alike.{Alike, EndsBelow}
 use Rattle.means_moves.specs.Turned.{turnsBy, carried, Judged, fail, solid, Follows}
@@ -88,21 +89,12 @@ module _ (turns : Bool) (by : ℕ) where
         go true e r = unfold keep accepted in (e, r)
         go false e r = unfold keep in r
 
-    rows : (l : List (List Status)) → flatMap (words t) l ≡ flatMap wordsOf (map (entry t) l)
-    unfolding flatMap words
-    rows [] = refl
-    rows (st ∷ l) = ap (λ (r : List ℕ). wordsOf (entry t st) ++ r) (rows l)
-
     rows-other : (l : List (List Status)) → Good l → flatMap (words u) l ≡ flatMap wordsOf (map (carried turns by) (map (entry t) l))
     unfolding flatMap words
     rows-other [] g = refl
     rows-other (st ∷ l) g =
         λ i. (word (takens st) ∷ judged-word (other (takens st)) (g .0) i ∷ judged-six (other (takens st)) (g .0) i ∷ []) ++ rows-other l
         (g .1) i
-
-    after : (l : List (List Status)) (room : List ℕ) → solidsAfter t l room ≡ solidsFor room (map (entry t) l)
-    unfolding solidsAfter solidsFor
-    after l room = ap₂ (λ (a : List ℕ) (n : ℕ). a ++ drop (solidWords * n) room) (rows l) (sym (length-map l (entry t)))
 
     after-other : (l : List (List Status)) → Good l → (room : List ℕ)
         → solidsAfter u l room ≡ solidsFor room (map (carried turns by) (map (entry t) l))
@@ -121,7 +113,7 @@ module _ (turns : Bool) (by : ℕ) where
       rows = refl;
       es = map (entry t) (st ∷ []);
       count = refl;
-      words = after (st ∷ []) solids;
+      words = solids-told t (st ∷ []) solids;
       moved = after-other (st ∷ []) g solids;
     }
     reported-other l cs work (st ∷ (st′ ∷ found)) faces solids g = record {
@@ -129,7 +121,7 @@ module _ (turns : Bool) (by : ℕ) where
       rows = refl;
       es = map (entry t) (st ∷ (st′ ∷ found));
       count = length-map (st ∷ (st′ ∷ found)) (entry t);
-      words = after (st ∷ (st′ ∷ found)) solids;
+      words = solids-told t (st ∷ (st′ ∷ found)) solids;
       moved = after-other (st ∷ (st′ ∷ found)) g solids;
     }
 

@@ -1,12 +1,11 @@
 -- The mirror x to -x is a move: sides of planes change, and no test does. In the flat the ray is asked the other way. Assumes nothing.
 use mathlib.Core.Path.{_≡_, refl, sym, ap, ap₂, _∙_}
-use mathlib.Core.Bool.{Bool, _&&_, _||_, cond, xor, or-comm}
+use mathlib.Core.Bool.{Bool, _&&_, _||_, cond, xor, or-comm, and-comm}
 use mathlib.Core.List.{List, [], _∷_, map, map-id}
 use lib.IntN.{ℤ, pos, negsuc, negℤ, _+ℤ_, _-ℤ_, _*ℤ_}
 use lib.Signed.{leZ}
 use Rattle.exact.proofs.Laws.{one-*ℤ, mul-negℤ}
 use Rattle.exact.proofs.Ring.{var, con, _⊕_, _⊖_, _⊗_, neg, ring}
-use Rattle.lists.proofs.Truth.{and-swap}
 use Rattle.paper.specs.Points.{pt, plus, times, dot, cross, isZero}
 use Rattle.paper.specs.Polygon as Polygon
 use Rattle.paper.specs.Polygon.{Polygon, over, normal, axis, seen, flat, spans, between, touches, meetsRay, whereFlat, lies}
@@ -44,7 +43,7 @@ module _ (p : Flat) (d : ℤ) where
   spans-neg a b q =
       (λ i. le-neg a q i && le-neg q b i || le-neg b q i && le-neg q a i)
       ∙ or-comm (leZ q a && leZ b q) (leZ q b && leZ a q)
-      ∙ ap₂ _||_ (and-swap (leZ q b) (leZ a q)) (and-swap (leZ q a) (leZ b q))
+      ∙ ap₂ _||_ (and-comm (leZ q b) (leZ a q)) (and-comm (leZ q a) (leZ b q))
 
   touches-other : (a b : Flat) → touches (other p) d (other a) (other b) ≡ touches p d a b
   unfolding touches between

@@ -6,6 +6,7 @@ use Prim.Native.Nat.{_+_}
 use lib.IntN.{pos, negℤ, natAbs}
 use lib.ListN.{take, drop, take-append-drop}
 use Rattle.lists.specs.Lists.{any, all, sides, anyTrue}
+use Rattle.lists.proofs.Truth.{and-same}
 use Rattle.paper.specs.Points.{plus, times, isZero, samePoint}
 use Rattle.paper.specs.Polygon.{Polygon, over, exactly, midpoint, planeSide, onePlane, lies, isInside, isOutside, covers}
 use Rattle.paper.specs.Clash.{opposite, pierced, pierces, enters, isCorner, bends, folds, clash}
@@ -18,7 +19,7 @@ use Rattle.paper_laws.proofs.Turned.{middle-turned, pierced-turned}
 use Rattle.means_solid.specs.Named.{SameRing}
 use Rattle.means_moves.specs.Rings.{onward, backward, OneRing}
 use Rattle.means_moves.proofs.Factors.{one-up, two-up}
-use Rattle.means_moves.proofs.Faces.{and-same, opposite-up, all-sides}
+use Rattle.means_moves.proofs.Faces.{opposite-up, all-sides}
 use Rattle.means_moves.proofs.Starts.{map-backward, onward-ring, backward-ring, six-onward, six-backward}
 
 -- ---- one of a pair

@@ -7,6 +7,7 @@ use native.Mathlib.Omega.{arith}
 use lib.ListN.{length, getD, length-map}
 use Rattle.lists.specs.Around.{wrap, around}
 use Rattle.lists.proofs.Places.{map-at}
+use Rattle.lists.proofs.Sides.{wrap-below}
 use Rattle.paper.specs.Drawing.{Wire, at}
 use Rattle.paper.specs.Loops.{Loop, flipped, polygon}
 use Rattle.paper_laws.specs.Planes.{InOwnPlane}
@@ -16,7 +17,6 @@ use Rattle.means_solid.proofs.Goes.{around-at}
 use Rattle.means_loops.specs.Path.{EdgeOf, ClosedPath}
 use Rattle.means_loops.specs.Plane.{InPlane}
 use Rattle.means_loops.proofs.Rings.{parts, same-parts}
-use Rattle.means_loops.proofs.Places.{wrap-below}
 use Rattle.means_loops.proofs.OwnPlane.{own-plane}
 use Rattle.means_moves.specs.Alike.{Below, Ends}
 use Rattle.means_moves.specs.Rings.{backward}

@@ -1,7 +1,7 @@
 -- A solid is one under new numbers too: the same directed rings, the same six volumes. Assumes nothing.
 use mathlib.Core.Path.{_≡_, refl, sym, ap, _∙_, subst}
 use mathlib.Core.Bool.{Bool, true}
-use mathlib.Core.Logic.{_⊎_, inl, inr}
+use mathlib.Core.Logic.{_⊎_, inl, inr, ⊎-swap}
 use mathlib.Core.Option.{none}
 use mathlib.Core.List.{List}
 use Prim.Native.Nat.{ℕ, _<_}
@@ -163,10 +163,6 @@ module _ {new old : ℕ → ℕ} {d e : Wire} (r : BothWays new old d e) (one : 
               pick (inl q) = inl (from j (t .one) f q)
               pick (inr q) = inr (from j (t .two) f q)
 
-          swap : {A B : Type 0} → A ⊎ B → B ⊎ A
-          swap (inl q) = inr q
-          swap (inr q) = inl q
-
           apart : to (t .one) ≡ to (t .two) → t .one ≡ t .two
           apart q =
               sym (back-fwd r one two (t .one) (low (t .one) (t .faces .0))) ∙ ap of q ∙ back-fwd r one two (t .two)
@@ -187,7 +183,7 @@ module _ {new old : ℕ → ℕ} {d e : Wire} (r : BothWays new old d e) (one : 
             differ = less (to (t .one)) (to (t .two)) l (λ q. different (apart q));
             faces = (face-to (t .two) (t .faces .1), face-to (t .one) (t .faces .0));
             have = (has (t .two) (t .faces .1) (t .have .1), has (t .one) (t .faces .0) (t .have .0));
-            only = λ j f g. swap (only j f g);
+            only = λ j f g. ⊎-swap (only j f g);
           }
             where
               different : t .one ≡ t .two → ⊥

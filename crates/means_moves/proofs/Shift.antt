@@ -4,7 +4,7 @@ use mathlib.Core.Bool.{_&&_, _||_}
 use mathlib.Core.List.{List, [], _∷_, map}
 use lib.IntN.{ℤ, pos, _+ℤ_, _*ℤ_}
 use lib.Signed.{leZ}
-use Rattle.exact.proofs.Laws.{one-*ℤ}
+use Rattle.exact.proofs.Laws.{one-*ℤ, mul-addℤ}
 use Rattle.exact.proofs.Signs.{pos-ne}
 use Rattle.exact.proofs.Ring.{var, _⊕_, _⊖_, _⊗_, ring}
 use Rattle.lists.specs.Lists.{sides, sidesFrom, oddTrue}
@@ -75,14 +75,11 @@ module _ (t p : Flat) (d : ℤ) where
       ⊖ ((var 8 ⊕ var 1) ⊖ (var 6 ⊕ var 1)) ⊗ ((var 2 ⊕ var 4 ⊗ var 0) ⊖ var 4 ⊗ (var 5 ⊕ var 0)))
       ((var 7 ⊖ var 5) ⊗ (var 3 ⊖ var 4 ⊗ var 6) ⊖ (var 8 ⊖ var 6) ⊗ (var 2 ⊖ var 4 ⊗ var 5)) tt
 
-  times-shift : (a s : ℤ) → d *ℤ (a +ℤ s) ≡ d *ℤ a +ℤ d *ℤ s
-  times-shift a s = ring (d ∷ a ∷ s ∷ []) (var 0 ⊗ (var 1 ⊕ var 2)) (var 0 ⊗ var 1 ⊕ var 0 ⊗ var 2) tt
-
   le-times : (a b s : ℤ) → leZ (d *ℤ (a +ℤ s)) (b +ℤ d *ℤ s) ≡ leZ (d *ℤ a) b
-  le-times a b s = ap (λ (z : ℤ). leZ z (b +ℤ d *ℤ s)) (times-shift a s) ∙ le-shift (d *ℤ a) b (d *ℤ s)
+  le-times a b s = ap (λ (z : ℤ). leZ z (b +ℤ d *ℤ s)) (mul-addℤ d a s) ∙ le-shift (d *ℤ a) b (d *ℤ s)
 
   ge-times : (a b s : ℤ) → leZ (b +ℤ d *ℤ s) (d *ℤ (a +ℤ s)) ≡ leZ b (d *ℤ a)
-  ge-times a b s = ap (leZ (b +ℤ d *ℤ s)) (times-shift a s) ∙ le-shift b (d *ℤ a) (d *ℤ s)
+  ge-times a b s = ap (leZ (b +ℤ d *ℤ s)) (mul-addℤ d a s) ∙ le-shift b (d *ℤ a) (d *ℤ s)
 
   spans-shift : (a b q s : ℤ) → spans (d *ℤ (a +ℤ s)) (d *ℤ (b +ℤ s)) (q +ℤ d *ℤ s) ≡ spans (d *ℤ a) (d *ℤ b) q
   unfolding spans

@@ -1,11 +1,11 @@
 -- A polygon from its next corner on is one ring with it, and so is a polygon run backwards. Assumes nothing.
 use mathlib.Core.Path.{_≡_, refl, sym, ap, ap₂, _∙_}
-use mathlib.Core.Bool.{Bool, true, false, _&&_, cond, or-comm}
+use mathlib.Core.Bool.{Bool, true, false, _&&_, cond, or-comm, and-comm}
 use mathlib.Core.List.{List, [], _∷_, _++_, map, map-append, reverse, reverse-cons}
 use lib.IntN.{ℤ, pos, negℤ, _+ℤ_, _-ℤ_}
 use Rattle.lists.specs.Lists.{all, sides, sidesFrom, anyTrue}
 use Rattle.lists.proofs.Sides.{sides-map}
-use Rattle.lists.proofs.Truth.{and-left, and-right, and-swap}
+use Rattle.lists.proofs.Truth.{and-left, and-right}
 use Rattle.exact.proofs.Size.{abs-neg}
 use Rattle.paper.specs.Points.{origin, plus, minus, dot, cross, det, sum, isZero, above, samePoint}
 use Rattle.paper.specs.Polygon.{Polygon, over, normal, corner, planeSide, onePlane, axis, seen, whereFlat, lies}
@@ -181,7 +181,7 @@ angle-backward n a p b w =
     ∙ hold-swap (above (det n (minus b p) (minus a p))) (above (det n w (minus a p))) (above (det n (minus b p) w))
   where
     hold-swap : (x l r : Bool) → angleHolds x l r ≡ angleHolds x r l
-    hold-swap true l r = unfold angleHolds in and-swap l r
+    hold-swap true l r = unfold angleHolds in and-comm l r
     hold-swap false l r = unfold angleHolds in or-comm l r
 
 points-backward : (g : Polygon) (u v : Point) → pointsIn (backward g) u v ≡ pointsIn g u v

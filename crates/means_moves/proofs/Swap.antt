@@ -1,13 +1,12 @@
 -- In the flat, the two coordinates exchanged: a point lies where it did. Assumes nothing.
 -- The ray to the east becomes the one to the north, which is the one to the south in a mirror; and every ray tells the same.
 use mathlib.Core.Path.{_≡_, sym, ap, _∙_}
-use mathlib.Core.Bool.{_&&_}
+use mathlib.Core.Bool.{_&&_, and-comm}
 use mathlib.Core.List.{List, [], _∷_, map, map-map}
 use lib.IntN.{ℤ, pos, negℤ, _-ℤ_, _*ℤ_}
 use lib.Signed.{leZ}
 use Rattle.exact.proofs.Ring.{var, con, _⊕_, _⊖_, _⊗_, neg, ring}
 use Rattle.lists.specs.Lists.{sides, oddTrue}
-use Rattle.lists.proofs.Truth.{and-swap}
 use Rattle.paper.specs.Points.{isZero}
 use Rattle.paper.specs.Polygon as Polygon
 use Rattle.paper.specs.Polygon.{flat, spans, between, touches, meetsRay, whereFlat}
@@ -50,7 +49,7 @@ module _ (p : Flat) (d : ℤ) where
   unfolding touches between
   touches-swap a b =
       λ i. (ap isZero (turn-swap a b) ∙ zero-neg (Polygon.turn a b p d)) i
-      && and-swap (spans (d *ℤ a .v) (d *ℤ b .v) (p .v)) (spans (d *ℤ a .u) (d *ℤ b .u) (p .u)) i
+      && and-comm (spans (d *ℤ a .v) (d *ℤ b .v) (p .v)) (spans (d *ℤ a .u) (d *ℤ b .u) (p .u)) i
 
   -- what is to the right of the ray to the east is then to the right of the one to the south
   right-swap : (a : Flat) → right (swap p) (east (swap p)) (swap a) ≡ right p (south p) a

@@ -10,9 +10,8 @@ use Rattle.paper.specs.Drawing.{onOpen, overlap, cutsOpen, openMeets}
 use Rattle.paper.specs.Loops.{tilt, tilted}
 use Rattle.paper.specs.Clash.{inAngle, angleHolds}
 use Rattle.paper.specs.declared.Point.{Point}
-use Rattle.paper_laws.proofs.Points.{origin-yes, origin-is, self-zero}
+use Rattle.paper_laws.proofs.Points.{origin-yes, origin-is, self-zero, dot-comm}
 use Rattle.means_area.specs.Flats.{Up}
-use Rattle.means_loops.proofs.Planes.{dot-comm as dot-swap}
 use Rattle.means_moves.specs.Moves.{Move}
 use Rattle.paper_laws.proofs.Factors.{zero-times, above-times, below-times}
 use Rattle.means_moves.proofs.Factors.{overlap-times, cuts-times}
@@ -84,9 +83,9 @@ module _ (m : Move) where
           ≡ isZero (dot (minus c a) n)
       level =
           ap isZero
-          (dot-swap (minus (m .to c) (m .to a)) (cross (minus (m .to b) (m .to a)) (minus (m .to d) (m .to c)))
+          (dot-comm (minus (m .to c) (m .to a)) (cross (minus (m .to b) (m .to a)) (minus (m .to d) (m .to c)))
           ∙ ap (λ (q : Point). dot q (minus (m .to c) (m .to a))) (cross-to b a d c) ∙ side-to n c a)
-          ∙ zero-times (m .sides-by) (m .sides-real) (dot n (minus c a)) ∙ ap isZero (dot-swap n (minus c a))
+          ∙ zero-times (m .sides-by) (m .sides-real) (dot n (minus c a)) ∙ ap isZero (dot-comm n (minus c a))
 
       overlaps : overlap (dot (minus (m .to b) (m .to a)) (minus (m .to c) (m .to a)))
           (dot (minus (m .to b) (m .to a)) (minus (m .to d) (m .to a))) (dot (minus (m .to b) (m .to a)) (minus (m .to b) (m .to a)))

@@ -37,7 +37,7 @@ flat-words t (x ∷ l) = ap (λ (r : List ℕ). word-row x ++ r) (flat-words t l
     word-row : List Status → List ℕ
     word-row x = wordsOf (entry t x)
 
-solids-told : (t : Tables) (l : List (List Status)) (solids : List ℕ) → solidsAfter t l solids ≡ solidsFor solids (map (entry t) l)
+pub solids-told : (t : Tables) (l : List (List Status)) (solids : List ℕ) → solidsAfter t l solids ≡ solidsFor solids (map (entry t) l)
 unfolding solidsAfter solidsFor
 solids-told t l solids = ap₂ (λ (a : List ℕ) (n : ℕ). a ++ drop (solidWords * n) solids) (flat-words t l) (sym (length-map l (entry t)))
 

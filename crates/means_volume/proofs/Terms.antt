@@ -4,6 +4,7 @@ use mathlib.Core.Bool.{Bool, true, false, cond}
 use mathlib.Core.List.{List, [], _∷_}
 use Prim.Native.Nat.{ℕ, zero, suc, _+_, _-_, _*_, _≤_}
 use native.Mathlib.Omega.{arith}
+use native.Mathlib.Nat.{zero-add}
 use lib.IntN.{ℤ, pos, natAbs}
 use lib.ListN.{length, getD, length-map}
 use Rattle.exact.specs.Size.{Within}
@@ -92,7 +93,4 @@ module _ (d : Wire) (near : (v : ℕ) → PointWithin farthest (at d v)) (cs : L
 
   pub by-terms : (six : ℕ) → sixOf d cs taken turned 0 cs ≡ pos six → six ≤ over taken terms cs * mostTerm
   by-terms six e =
-      subst (λ (z : ℤ). natAbs z ≤ over taken terms cs * mostTerm) e (six-most taken 0 cs (λ i. ap (dig taken) (zero-plus i)) .within)
-    where
-      zero-plus : (i : ℕ) → 0 + i ≡ i
-      zero-plus i = omega arith
+      subst (λ (z : ℤ). natAbs z ≤ over taken terms cs * mostTerm) e (six-most taken 0 cs (λ i. ap (dig taken) (zero-add i)) .within)

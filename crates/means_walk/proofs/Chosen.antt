@@ -1,5 +1,5 @@
 -- The walk chooses the lowest undecided candidate of the lowest edge that has one, where every candidate is on an edge. Assumes nothing.
-use mathlib.Core.Bool.{Bool, true, false, _&&_, cond, true≢false}
+use mathlib.Core.Bool.{Bool, true, false, _&&_, cond}
 use mathlib.Core.List.{List, [], _∷_}
 use mathlib.Core.Path.{_≡_, refl, sym, ap, _∙_, subst}
 use Prim.Native.Nat.{ℕ, zero, suc, _+_, _<_}
@@ -7,6 +7,7 @@ use native.Mathlib.Omega.{arith}
 use lib.Dec.{eqb}
 use lib.ListN.{length, length-set}
 use borrow.Author.Tests.{eqb-true, eqb-false}
+use Rattle.sets.proofs.Ones.{first-least}
 use Rattle.lists.proofs.Truth.{and-left, and-right, and-both}
 use Rattle.sets.specs.Word.{dig, count, both, first}
 use Rattle.sets.proofs.Digits.{dig-both, count-none, first-in}
@@ -16,13 +17,6 @@ use Rattle.means_walk.specs.Tree.{Sweeps, breaks, rests, again, Tree, br
 use Rattle.means_walk.specs.Lowest.{opens, Undecided, On, Lowest, Chooses}
 use Rattle.means_walk.proofs.Status.{count-open, count-opens, open-lt}
 use Rattle.means_walk.proofs.Grown.{sweeps-stable, sweeps}
-
-first-low : (a : List Bool) (j : ℕ) → j < first a → dig a j ≡ true → ⊥
-unfolding first
-first-low [] j h e = omega arith
-first-low (true ∷ a) j h e = omega arith
-first-low (false ∷ a) zero h e = true≢false (sym e)
-first-low (false ∷ a) (suc j) h e = first-low a j (omega arith) e
 
 -- every undecided candidate is on an edge
 abbrev pub Covered : List (List Bool) → List Status → Type 0
@@ -72,7 +66,7 @@ choose-lowest (mask ∷ masks) st c k u = go (eqb (openOn mask st) 0) refl (choo
           undecided =
               and-right (dig mask (first (both mask (opens st)))) (dig (opens st) (first (both mask (opens st)))) m;
           lower-edge = λ f j h o w. omega arith;
-          lower = λ j h o w. first-low (both mask (opens st)) j h (dig-both mask (opens st) j ∙ and-both o w);
+          lower = λ j h o w. omega (arith, first-least (both mask (opens st)) j (dig-both mask (opens st) j ∙ and-both o w));
         }
 
 -- ---- the states of a tree are as long as the first

@@ -1,5 +1,5 @@
 -- The walk's selections are those with exactly two taken on each edge, each once. Assumes nothing.
-use mathlib.Core.Bool.{Bool, true, false, _&&_, _||_, cond, true≢false}
+use mathlib.Core.Bool.{Bool, true, false, _&&_, cond, true≢false}
 use mathlib.Core.List.{List, [], _∷_, _++_}
 use mathlib.Core.Path.{_≡_, refl, sym, ap, ap₂, _∙_}
 use Prim.Native.Nat.{ℕ, zero, suc, _+_, _≤_, _<_}
@@ -9,12 +9,13 @@ use lib.Dec.{eqb, ltb}
 use borrow.Author.Tests.{eq-eqb, eqb-true, eqb-false, ltb-false}
 use Rattle.lists.specs.Lists.{filter, keep}
 use Rattle.sets.specs.Word.{bit, count, both, first}
+use Rattle.lists.proofs.Truth.{and-split, and-both, or-none}
 use Rattle.paper.specs.Walk.{Status, Taken, Rejected, Undecided, isOpen, takenOn, openOn, openCount}
 use Rattle.paper.specs.Walk.{contradicts, Outcome, Broken, Stands, onStands, stable, choose}
 use Rattle.means_walk.specs.Complete.{allows, agrees, exact, equal, same, times, solutions}
 use Rattle.means_walk.specs.Lowest.{opens}
 use Rattle.means_walk.proofs.Status.{count-open, count-opens, count-set}
-use Rattle.means_walk.proofs.Settled.{and-both, both-and, stable-agrees, cond-is, Calm, stable-rest}
+use Rattle.means_walk.proofs.Settled.{stable-agrees, cond-is, Calm, stable-rest}
 
 -- ---- a state with nothing undecided
 open-under : (mask : List Bool) (st : List Status) → openOn mask st ≤ openCount st
@@ -24,16 +25,12 @@ open-under (b ∷ mask) [] = omega arith
 open-under (true ∷ mask) (s ∷ st) = omega (arith, open-under mask st)
 open-under (false ∷ mask) (s ∷ st) = omega (arith, open-under mask st)
 
-or-neither : (a b : Bool) → (a || b) ≡ false → (a ≡ false) × (b ≡ false)
-or-neither true b e = absurd (true≢false e)
-or-neither false b e = (refl, e)
-
 pub calm-exact : (masks : List (List Bool)) (st : List Status) → openCount st ≡ 0 → Calm masks st → exact masks st ≡ true
 unfolding exact contradicts
 calm-exact [] st z c = refl
 calm-exact (mask ∷ masks) st z c =
-    let p = or-neither (ltb 2 (takenOn mask st)) (ltb (takenOn mask st + openOn mask st) 2) (c .0) in
-    both-and
+    let p = or-none (ltb 2 (takenOn mask st)) (ltb (takenOn mask st + openOn mask st) 2) (c .0) in
+    and-both
     (eq-eqb (takenOn mask st) 2
     (omega (arith, ltb-false 2 (takenOn mask st) (p .0), ltb-false (takenOn mask st + openOn mask st) 2 (p .1), open-under mask st)))
     (calm-exact masks st z (c .1))
@@ -71,7 +68,7 @@ same-path [] [] e = refl
 same-path [] (v ∷ x) e = absurd (true≢false (sym e))
 same-path (s ∷ st) [] e = absurd (true≢false (sym e))
 same-path (s ∷ st) (v ∷ x) e =
-    let p = and-both (equal s v) (same st x) e in
+    let p = and-split (equal s v) (same st x) e in
     ap₂ (λ (a : Status) (b : List Status). a ∷ b) (equal-path s v (p .0)) (same-path st x (p .1))
 
 -- ---- the two branches share out what a state allows
@@ -104,7 +101,7 @@ both-second : (a b : List Bool) (k : ℕ) → getD (both a b) k false ≡ true �
 unfolding both
 both-second [] b k e = absurd (true≢false (sym e))
 both-second (x ∷ xs) [] k e = absurd (true≢false (sym e))
-both-second (x ∷ xs) (y ∷ ys) zero e = and-both x y e .1
+both-second (x ∷ xs) (y ∷ ys) zero e = and-split x y e .1
 both-second (x ∷ xs) (y ∷ ys) (suc k) e = both-second xs ys k e
 
 pub choose-open : (masks : List (List Bool)) (st : List Status) → (openCount st ≡ 0 → ⊥) → getD (opens st) (choose masks st) false ≡ true

@@ -6,6 +6,7 @@ use mathlib.Core.Path.{_≡_, refl, sym, ap, _∙_, subst}
 use Prim.Native.Nat.{ℕ, zero, suc, _+_, _≤_, _<_}
 use native.Mathlib.Omega.{arith}
 use native.Mathlib.Decide.{decLt}
+use native.Mathlib.Nat.{zero-add}
 use lib.ListN.{length, length-append}
 use Rattle.lists.specs.Lists.{filter, keep}
 use Rattle.paper.specs.Refusals as No
@@ -163,20 +164,17 @@ module _ (cap : ℕ) (accept : List Status → Bool) (limit : ℕ) where
       ⊎ (OneMore accept cap limit ss (follow cap accept limit ss none) ⊎ Passed accept cap limit ss (follow cap accept limit ss none))
   follow-ends ss = go (decLt limit (made (upTo accept cap ss))) (decLt cap (length (filter accept (sought ss))))
     where
-      plus : (n : ℕ) → 0 + n ≡ n
-      plus n = omega arith
-
       go : Dec (limit < made (upTo accept cap ss)) → Dec (cap < length (filter accept (sought ss)))
           → Exhausted accept cap limit ss (follow cap accept limit ss none)
           ⊎ (OneMore accept cap limit ss (follow cap accept limit ss none) ⊎ Passed accept cap limit ss (follow cap accept limit ss none))
       go (yes l) d =
-          let r = follow-late ss none cap refl (omega arith) (plus cap) (omega arith) in
+          let r = follow-late ss none cap refl (omega arith) (zero-add cap) (omega arith) in
           inr (inr (record { ended = r .0; long = l; work = r .1 }))
       go (no l) (yes m) =
-          let r = follow-over ss none cap refl (plus cap) m (omega (arith, l)) in
-          inr (inl (record { ended = r .0; many = m; short = omega (arith, l); work = r .1 ∙ plus (made (upTo accept cap ss)) }))
+          let r = follow-over ss none cap refl (zero-add cap) m (omega (arith, l)) in
+          inr (inl (record { ended = r .0; many = m; short = omega (arith, l); work = r .1 ∙ zero-add (made (upTo accept cap ss)) }))
       go (no l) (no m) =
           let s : length (filter accept (sought ss)) ≤ cap = omega (arith, m) in
           let w : made ss ≤ limit = omega (arith, l, up-all ss cap s) in
           let r = follow-full cap accept limit ss none refl (omega arith) (omega arith) in
-          inl (record { ended = r .0; few = s; short = w; work = r .1 ∙ plus (made ss); found = r .2 })
+          inl (record { ended = r .0; few = s; short = w; work = r .1 ∙ zero-add (made ss); found = r .2 })

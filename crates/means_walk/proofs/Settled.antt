@@ -7,20 +7,13 @@ use Prim.Native.Nat.{ℕ, zero, suc, _+_, _≤_, _<_}
 use native.Mathlib.Omega.{arith}
 use lib.Dec.{eqb, ltb}
 use borrow.Author.Tests.{eqb-true, eqb-false, ltb-true}
-use Rattle.lists.proofs.Truth.{same-truth, or-cases}
+use Rattle.lists.proofs.Truth.{same-truth, or-cases, and-split, and-both}
 use Rattle.sets.specs.Word.{bit}
 use Rattle.paper.specs.Walk.{Status, Taken, Rejected, Undecided, isTaken, isOpen, takenOn, openOn, openCount, decideOne, decide, settle}
 use Rattle.paper.specs.Walk.{contradicts, Outcome, Broken, Stands, onStands, sweep, stable}
 use Rattle.means_walk.specs.Complete.{allows, agrees, exact}
 
 -- ---- Bools
-pub and-both : (a b : Bool) → (a && b) ≡ true → (a ≡ true) × (b ≡ true)
-and-both true b e = (refl, e)
-and-both false b e = absurd (true≢false (sym e))
-
-pub both-and : {a b : Bool} → a ≡ true → b ≡ true → (a && b) ≡ true
-both-and p q = rw (p, q)
-
 -- ---- a final list that a state allows: how many it has taken on an edge
 one-low : (b : Bool) (s v : Status) → allows s v ≡ true → bit (b && isTaken s) ≤ bit (b && isTaken v)
 one-low false s v e = omega arith
@@ -48,7 +41,7 @@ low [] st x e = omega arith
 low (b ∷ mask) [] x e = omega arith
 low (b ∷ mask) (s ∷ st) [] e = absurd (true≢false (sym e))
 low (b ∷ mask) (s ∷ st) (v ∷ x) e =
-    let p = and-both (allows s v) (agrees st x) e in
+    let p = and-split (allows s v) (agrees st x) e in
     omega (arith, one-low b s v (p .0), low mask st x (p .1))
 
 high : (mask : List Bool) (st x : List Status) → agrees st x ≡ true → takenOn mask x ≤ takenOn mask st + openOn mask st
@@ -58,7 +51,7 @@ high (b ∷ mask) [] [] e = omega arith
 high (b ∷ mask) [] (v ∷ x) e = absurd (true≢false (sym e))
 high (b ∷ mask) (s ∷ st) [] e = omega arith
 high (b ∷ mask) (s ∷ st) (v ∷ x) e =
-    let p = and-both (allows s v) (agrees st x) e in
+    let p = and-split (allows s v) (agrees st x) e in
     omega (arith, one-high b s v (p .0), high mask st x (p .1))
 
 -- ---- an edge settled
@@ -78,8 +71,8 @@ rejected-agrees [] st x e q = e
 rejected-agrees (b ∷ mask) [] x e q = e
 rejected-agrees (b ∷ mask) (s ∷ st) [] e q = e
 rejected-agrees (b ∷ mask) (s ∷ st) (v ∷ x) e q =
-    let p = and-both (allows s v) (agrees st x) e in
-    both-and (one-rejected b s v (p .0) (omega (arith, one-low b s v (p .0), low mask st x (p .1))))
+    let p = and-split (allows s v) (agrees st x) e in
+    and-both (one-rejected b s v (p .0) (omega (arith, one-low b s v (p .0), low mask st x (p .1))))
     (rejected-agrees mask st x (p .1) (omega (arith, one-low b s v (p .0), low mask st x (p .1))))
 
 one-taken : (b : Bool) (s v : Status) → allows s v ≡ true → bit (b && isTaken v) ≡ bit (b && isTaken s) + bit (b && isOpen s)
@@ -98,8 +91,8 @@ taken-agrees [] st x e q = e
 taken-agrees (b ∷ mask) [] x e q = e
 taken-agrees (b ∷ mask) (s ∷ st) [] e q = e
 taken-agrees (b ∷ mask) (s ∷ st) (v ∷ x) e q =
-    let p = and-both (allows s v) (agrees st x) e in
-    both-and (one-taken b s v (p .0) (omega (arith, one-high b s v (p .0), high mask st x (p .1))))
+    let p = and-split (allows s v) (agrees st x) e in
+    and-both (one-taken b s v (p .0) (omega (arith, one-high b s v (p .0), high mask st x (p .1))))
     (taken-agrees mask st x (p .1) (omega (arith, one-high b s v (p .0), high mask st x (p .1))))
 
 one-back : (d : Status) → isOpen d ≡ false → (b : Bool) (s v : Status) → allows (decideOne d b s) v ≡ true → allows s v ≡ true
@@ -119,8 +112,8 @@ decided-back d o [] st x e = e
 decided-back d o (b ∷ mask) [] x e = e
 decided-back d o (b ∷ mask) (s ∷ st) [] e = e
 decided-back d o (b ∷ mask) (s ∷ st) (v ∷ x) e =
-    let p = and-both (allows (decideOne d b s) v) (agrees (decide d mask st) x) e in
-    both-and (one-back d o b s v (p .0)) (decided-back d o mask st x (p .1))
+    let p = and-split (allows (decideOne d b s) v) (agrees (decide d mask st) x) e in
+    and-both (one-back d o b s v (p .0)) (decided-back d o mask st x (p .1))
 
 -- settling an edge on which x has two taken allows x as before
 pub settle-agrees : (mask : List Bool) (st x : List Status) → takenOn mask x ≡ 2 → agrees (settle mask st) x ≡ agrees st x
@@ -153,10 +146,10 @@ sweep-agrees : (masks : List (List Bool)) (x : List Status) → exact masks x �
 unfolding sweep exact
 sweep-agrees [] x e st = refl
 sweep-agrees (mask ∷ masks) x e st =
-    go (sweep-agrees masks x (and-both (eqb (takenOn mask x) 2) (exact masks x) e .1)) (contradicts mask st) refl
+    go (sweep-agrees masks x (and-split (eqb (takenOn mask x) 2) (exact masks x) e .1)) (contradicts mask st) refl
   where
     two : takenOn mask x ≡ 2
-    two = eqb-true (takenOn mask x) 2 (and-both (eqb (takenOn mask x) 2) (exact masks x) e .0)
+    two = eqb-true (takenOn mask x) 2 (and-split (eqb (takenOn mask x) 2) (exact masks x) e .0)
 
     go : ((s : List Status) → onStands (sweep masks s) false (λ st′. agrees st′ x) ≡ agrees s x) → (b : Bool) → contradicts mask st ≡ b
         → onStands (cond b Broken (sweep masks (settle mask st))) false (λ st′. agrees st′ x) ≡ agrees st x
@@ -234,7 +227,7 @@ abbrev pub Calm : List (List Bool) → List Status → Type 0
 Calm [] st = Unit {0}
 Calm (mask ∷ masks) st = (contradicts mask st ≡ false) × Calm masks st
 
-not-broken : {A : Type 0} {st : List Status} → Broken ≡ Stands st → A
+pub not-broken : {A : Type 0} {st : List Status} → Broken ≡ Stands st → A
 not-broken e = let z : _≡_ {A = ℕ} 0 1 = cc in absurd (omega arith)
 
 pub sweep-fewer : (masks : List (List Bool)) (st st′ : List Status) → sweep masks st ≡ Stands st′ → openCount st′ ≤ openCount st

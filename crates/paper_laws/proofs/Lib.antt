@@ -10,5 +10,6 @@ pub mod Points
 pub mod Factors
 pub mod Turned
 pub mod Wires
+pub mod Tilted
 pub mod Answers
 pub mod Tests

@@ -3,15 +3,17 @@ use mathlib.Core.Path.{_≡_, refl, sym, _∙_, ap}
 use mathlib.Core.Bool.{true, false, _&&_, true≢false}
 use mathlib.Core.List.{[], _∷_}
 use Prim.Native.Nat.{zero, suc}
-use lib.IntN.{ℤ, pos, negsuc, _-ℤ_, _*ℤ_}
+use lib.IntN.{ℤ, pos, negsuc, _-ℤ_, _*ℤ_, _+ℤ_, *ℤ-zero}
 use lib.Signed.{_≤ℤ_, _<ℤ_}
 use Rattle.lists.proofs.Truth.{and-left, and-right}
+use Rattle.lists.specs.Lists.{sides}
 use Rattle.exact.proofs.Laws.{eq-of-sub}
-use Rattle.exact.proofs.Signs.{mul-zero, square-zero, lt-of-le-ne}
+use Rattle.exact.proofs.Signs.{mul-zero, square-zero, lt-of-le-ne, pos-ne}
 use Rattle.exact.proofs.Order.{add-nonneg, sum-zero, square-nonneg}
-use Rattle.paper.specs.Points.{pt, origin, isZero, isOrigin, plus, minus, times, dot, cross, samePoint}
+use Rattle.paper.specs.Points.{pt, origin, isZero, isOrigin, plus, minus, times, dot, cross, samePoint, sum}
 use Rattle.paper.specs.declared.Point.{Point}
-use Rattle.paper_laws.proofs.Vectors.{num, vec, k, x, _·_, o, v, _+v_, _-v_, _*v_, _×v_, vring}
+use Rattle.paper.specs.Polygon.{planeSide, normal, corner}
+use Rattle.paper_laws.proofs.Vectors.{num, vec, k, x, _·_, o, v, _+v_, _-v_, _*v_, _×v_, vring, _+s_, _*s_, _-s_}
 
 -- ---- zero, and the point (0,0,0)
 
@@ -24,6 +26,9 @@ zero-yes (negsuc n) e = absurd (true≢false (sym e))
 pub zero-is : {z : ℤ} → z ≡ pos 0 → isZero z ≡ true
 unfolding isZero
 zero-is e = ap isZero e
+
+pub zero-no : {z : ℤ} → isZero z ≡ false → z ≡ pos 0 → ⊥
+zero-no e q = true≢false (sym (zero-is q) ∙ e)
 
 pub origin-yes : (p : Point) → isOrigin p ≡ true → p ≡ origin
 unfolding isOrigin
@@ -108,3 +113,48 @@ same-yes p q e = point-eq p q (origin-yes (minus p q) e)
 pub same-is : (p q : Point) → p ≡ q → samePoint p q ≡ true
 unfolding samePoint
 same-is p q e = origin-is (ap (λ (r : Point). minus r q) e ∙ vring (vec q ∷ []) (v 0 -v v 0) o tt)
+
+-- ---- products
+
+pub dot-comm : (p q : Point) → dot p q ≡ dot q p
+dot-comm p q = vring (vec p ∷ vec q ∷ []) (v 0 · v 1) (v 1 · v 0) tt
+
+pub dot-origin : (p : Point) → dot origin p ≡ pos 0
+dot-origin p = vring (vec p ∷ []) (o · v 0) (k (pos 0)) tt
+
+-- of no corners
+pub empty-side : (p : Point) → planeSide [] p ≡ pos 0
+unfolding planeSide normal sides sum corner
+empty-side p = dot-origin (minus p origin)
+
+pub dot-less : (n p q : Point) → dot n (minus p q) ≡ pos 0 → dot n p ≡ dot n q
+dot-less n p q e =
+    vring (vec n ∷ vec p ∷ vec q ∷ []) (v 0 · v 1) ((v 0 · (v 1 -v v 2)) +s (v 0 · v 2)) tt ∙ ap (λ (z : ℤ). z +ℤ dot n q) e
+    ∙ vring (num (dot n q) ∷ []) (k (pos 0) +s x 0) (x 0) tt
+
+pub dot-even : (n p q : Point) → dot n p ≡ dot n q → dot n (minus p q) ≡ pos 0
+dot-even n p q e =
+    vring (vec n ∷ vec p ∷ vec q ∷ []) (v 0 · (v 1 -v v 2)) ((v 0 · v 1) -s (v 0 · v 2)) tt ∙ ap (λ (z : ℤ). z -ℤ dot n q) e
+    ∙ vring (num (dot n q) ∷ []) (x 0 -s x 0) (k (pos 0)) tt
+
+-- ---- directions in one line
+
+pub cross-turned : (p q : Point) → cross p q ≡ origin → cross q p ≡ origin
+cross-turned p q e = vring (vec p ∷ vec q ∷ []) (v 1 ×v v 0) (o -v v 0 ×v v 1) tt ∙ ap (minus origin) e ∙ vring [] (o -v o) o tt
+
+-- what is in line with p is in line with q, which is
+pub cross-line : (p q r : Point) → (p ≡ origin → ⊥) → cross p q ≡ origin → cross p r ≡ origin → cross q r ≡ origin
+cross-line p q r long e h =
+    scale-zero (dot p p) (cross q r) (pos-ne (self-pos p long))
+    (vring (num (dot p p) ∷ vec q ∷ vec r ∷ []) (x 0 *v (v 1 ×v v 2)) ((x 0 *v v 1) ×v v 2) tt
+    ∙ ap (λ (w : Point). cross w r) (in-line p q e)
+    ∙ vring (num (dot p q) ∷ vec p ∷ vec r ∷ []) ((x 0 *v v 1) ×v v 2) (x 0 *v (v 1 ×v v 2)) tt ∙ ap (times (dot p q)) h
+    ∙ vring (num (dot p q) ∷ []) (x 0 *v o) o tt)
+
+-- what is across n is across what is in line with n
+pub across-too : (n m w : Point) → (n ≡ origin → ⊥) → cross n m ≡ origin → dot n w ≡ pos 0 → dot m w ≡ pos 0
+across-too n m w ne e h =
+    mul-zero (dot n n) (dot m w) (pos-ne (self-pos n ne))
+    (vring (num (dot n n) ∷ vec m ∷ vec w ∷ []) (x 0 *s (v 1 · v 2)) ((x 0 *v v 1) · v 2) tt ∙ ap (λ (p : Point). dot p w) (in-line n m e)
+    ∙ vring (num (dot n m) ∷ vec n ∷ vec w ∷ []) ((x 0 *v v 1) · v 2) (x 0 *s (v 1 · v 2)) tt ∙ ap (λ (z : ℤ). dot n m *ℤ z) h
+    ∙ *ℤ-zero (dot n m))

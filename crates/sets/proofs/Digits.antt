@@ -176,6 +176,26 @@ first-in [] n = absurd (n refl)
 first-in (true ∷ a) n = refl
 first-in (false ∷ a) n = first-in a (λ e. n (omega arith))
 
+-- ---- what is left without one
+
+not-only : (j k : ℕ) → (k ≡ j → ⊥) → dig (only j) k ≡ false
+not-only j k n = go (dig (only j) k) refl
+  where
+    go : (b : Bool) → dig (only j) k ≡ b → b ≡ false
+    go true e = absurd (n (dig-only j k e))
+    go false e = refl
+
+pub left-in : (a : List Bool) (j k : ℕ) → dig a k ≡ true → (k ≡ j → ⊥) → dig (less a (only j)) k ≡ true
+left-in a j k h n = dig-less a (only j) k ∙ (λ i. h i && not (not-only j k n i))
+
+pub left-out : (a : List Bool) (j k : ℕ) → dig (less a (only j)) k ≡ true → (dig a k ≡ true) × (k ≡ j → ⊥)
+left-out a j k h = go (dig a k) (dig (only j) k) refl (sym (dig-less a (only j) k) ∙ h)
+  where
+    go : (x y : Bool) → dig (only j) k ≡ y → (x && not y) ≡ true → (x ≡ true) × (k ≡ j → ⊥)
+    go true false p e = (refl, λ q. never (sym (ap (dig (only j)) q ∙ dig-self j) ∙ p))
+    go true true p e = never (sym e)
+    go false y p e = never (sym e)
+
 -- what is in both and what is in the first alone
 pub count-split : (a b : List Bool) → count (both a b) + count (less a b) ≡ count a
 unfolding count both less

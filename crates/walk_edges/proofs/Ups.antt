@@ -12,14 +12,14 @@ use Rattle.lists.specs.Lists.{any, upto}
 use Rattle.lists.specs.Around.{around}
 use Rattle.lists.proofs.Places.{map-at}
 use Rattle.lists.proofs.Passing.{some-yes, some-is}
-use Rattle.lists.proofs.Truth.{and-both, and-left, and-right}
+use Rattle.lists.proofs.Truth.{and-both, and-left, and-right, same-truth}
 use Rattle.lists.proofs.Sides.{around-low}
 use Rattle.sets.specs.Word.{dig}
 use Rattle.paper.specs.Drawing.{Wire, Edge, edge}
 use Rattle.paper.specs.Loops.{Loop}
 use Rattle.paper.specs.Solids.{runs, runsUp}
 use Rattle.fast_tables.specs.Paths.{Path}
-use Rattle.fast_tables.proofs.Rounds.{equal-both, runs-yes, runs-is, joins-cases}
+use Rattle.fast_tables.proofs.Rounds.{runs-yes, runs-is, joins-cases}
 use Rattle.fast_tables.proofs.Counts.{map-yes}
 use Rattle.loop_words.specs.Numbered.{pairAt, Numbered}
 use Rattle.loop_words.proofs.Masks.{prior, prior-low, sideNumber, after-prior, after-is, side-edge, side-number}
@@ -39,7 +39,7 @@ module _ (d : Wire) (upward : Upward d) (l : Loop) (path : Path d l) (number : L
 
   pub ups-are : (e : ℕ) → dig (upMask d l) e ≡ any (climbs e) (upto n)
   unfolding upMask runsUp
-  ups-are e = equal-both forth back
+  ups-are e = same-truth _ _ forth back
     where
       each : (g : Edge) → e < length (d .edges) → getD (d .edges) e (edge 0 0) ≡ g → runsUp g l ≡ true → any (climbs e) (upto n) ≡ true
       each (edge a b) h q t =

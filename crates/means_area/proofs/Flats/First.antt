@@ -19,6 +19,14 @@ use Rattle.means_area.proofs.Flats.Chains.{lst-of, link-back, chain-las
 abbrev pub Free : Flat → Flat → Flat → List Flat → Type 0
 Free u c a g = (z : Flat) → Of z g → Hit u c a z → ⊥
 
+-- the links of a ring without its first corner
+pub rest-link : (v x : Flat) (l : List Flat) (p q : Flat) → Link (x ∷ l) p q → Link (v ∷ x ∷ l) p q ⊎ Pair x (lst x l) p q
+rest-link v x l p q t = go (chain-end x l x v p q t)
+  where
+    go : Chain x l v p q ⊎ Pair (lst x l) x p q → Link (v ∷ x ∷ l) p q ⊎ Pair x (lst x l) p q
+    go (inl d) = inl (inr d)
+    go (inr d) = inr (pair-swap (lst x l) x p q d)
+
 module _ (m : ℤ) where
   abbrev h : Flat → ℤ
   h = height m
@@ -59,16 +67,9 @@ module _ (m : ℤ) where
 
     -- without the first corner
     pub ear-simple : Free u c (lst c l) (u ∷ c ∷ l) → Simple m (c ∷ l)
-    ear-simple e = narrow m (u ∷ c ∷ l) (c ∷ l) c (lst c l) s f (λ z o. inr o) (s .apart .1)
+    ear-simple e = narrow m (u ∷ c ∷ l) (c ∷ l) c (lst c l) s (rest-link u c l) (λ z o. inr o) (s .apart .1)
         (ear-ok m (Link (u ∷ c ∷ l)) (u ∷ c ∷ l) (s .net) u c (lst c l) (first-link u c l) (last-link u c l) hc ha
         (ends-apart u c l k (s .apart)) (only-first u c l (s .apart .0)) e)
-      where
-        f : (p q : Flat) → Link (c ∷ l) p q → Link (u ∷ c ∷ l) p q ⊎ Pair c (lst c l) p q
-        f p q t = go (chain-end c l c u p q t)
-          where
-            go : Chain c l u p q ⊎ Pair (lst c l) c p q → Link (u ∷ c ∷ l) p q ⊎ Pair c (lst c l) p q
-            go (inl d) = inl (inr d)
-            go (inr d) = inr (pair-swap (lst c l) c p q d)
 
   -- ---- the claims, of rings u c l of at most n + 2 corners whose lowest is u
 

@@ -1,6 +1,6 @@
 -- The axis along which a plane is seen, and what is seen along it. Assumes nothing.
-use mathlib.Core.Path.{_≡_, refl, sym, _∙_, ap}
-use mathlib.Core.Bool.{Bool, true, false, cond, true≢false}
+use mathlib.Core.Path.{_≡_, refl, _∙_, ap}
+use mathlib.Core.Bool.{Bool, true, false, cond}
 use mathlib.Core.List.{[], _∷_}
 use lib.IntN.{ℤ, pos, _+ℤ_, _-ℤ_, _*ℤ_}
 use Rattle.exact.proofs.Laws.{eq-of-sub, sub-of-eq}
@@ -12,7 +12,7 @@ use Rattle.paper.specs.declared.Point.{Point}
 use Rattle.paper.specs.declared.Flat.{Flat}
 use Rattle.paper.specs.declared.Axis.{Axis}
 use Rattle.paper.specs.declared.Axis.the-variants.{AlongX, AlongY, AlongZ}
-use Rattle.paper_laws.proofs.Points.{zero-yes, zero-is}
+use Rattle.paper_laws.proofs.Points.{zero-yes, zero-no}
 use Rattle.means_area.specs.Theorems.{AxisReal}
 use Rattle.means_area.specs.Space.{through}
 
@@ -29,12 +29,9 @@ pub axis-real : AxisReal
 unfolding axis
 axis-real n ne = go (isZero (n .x)) refl (isZero (n .y)) refl
   where
-    off : (z : ℤ) → isZero z ≡ false → z ≡ pos 0 → ⊥
-    off z e q = true≢false (sym (zero-is q) ∙ e)
-
     go : (s : Bool) → isZero (n .x) ≡ s → (t : Bool) → isZero (n .y) ≡ t → through (cond s (cond t AlongZ AlongY) AlongX) n ≡ pos 0 → ⊥
-    go false e t f q = off (n .x) e q
-    go true e false f q = off (n .y) f q
+    go false e t f q = zero-no e q
+    go true e false f q = zero-no f q
     go true e true f q = ne (λ i. pt (zero-yes (n .x) e i) (zero-yes (n .y) f i) (q i))
 
 -- seen along an axis along which n is not 0, two points that differ across n are seen as two

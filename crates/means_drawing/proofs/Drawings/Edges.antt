@@ -18,11 +18,11 @@ use Rattle.means_drawing.proofs.Drawings.Vertices.{samePlace-none}
 use Rattle.means_drawing.proofs.Segments.{onOpen-means, openMeets-means}
 
 module _ (d : Wire) where
-  vertexOn-is : (e : Edge) (w : ℕ) → vertexOn d e w ≡ onOpen (at d (start e)) (at d (stop e)) (at d w)
+  pub vertexOn-is : (e : Edge) (w : ℕ) → vertexOn d e w ≡ onOpen (at d (start e)) (at d (stop e)) (at d w)
   unfolding vertexOn
   vertexOn-is (edge a b) w = refl
 
-  edgesMeet-is : (e f : Edge) → edgesMeet d e f ≡ openMeets (at d (start e)) (at d (stop e)) (at d (start f)) (at d (stop f))
+  pub edgesMeet-is : (e f : Edge) → edgesMeet d e f ≡ openMeets (at d (start e)) (at d (stop e)) (at d (start f)) (at d (stop f))
   unfolding edgesMeet
   edgesMeet-is (edge a b) (edge u w) = refl
 

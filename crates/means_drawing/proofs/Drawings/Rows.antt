@@ -15,7 +15,7 @@ use Rattle.lists.specs.Lists.{any, upto}
 use Rattle.lists.proofs.Lowest.{lowest-none}
 use Rattle.sets.specs.Word.{dig, Sub, count}
 use Rattle.sets.proofs.Digits.{count-back, count-length}
-use Rattle.lists.proofs.Truth.{and-left, and-right, and-both, or-left, or-right, or-cases, never-true}
+use Rattle.lists.proofs.Truth.{and-left, and-right, and-both, or-left, or-right, or-cases, never-true, same-truth}
 use Rattle.lists.proofs.Places.{made-at, made-length}
 use Rattle.lists.proofs.Passing.{any-yes, any-is, some-yes, some-is}
 use Rattle.paper.specs.Drawing.{Wire, Edge, edge, edgeAt, joins, joined, further, verticesReached, apart}
@@ -32,12 +32,7 @@ count-some (false ∷ a) e = absurd (true≢false (sym e))
 
 -- rows of one length that have the same marks
 same-row : (a b : List Bool) → length a ≡ length b → Sub a b → Sub b a → a ≡ b
-same-row a b l f g = ext-getD false a b l (λ i h. go (dig a i) (dig b i) (f i) (g i))
-  where
-    go : (x y : Bool) → (x ≡ true → y ≡ true) → (y ≡ true → x ≡ true) → x ≡ y
-    go true y p q = sym (p refl)
-    go false true p q = q refl
-    go false false p q = refl
+same-row a b l f g = ext-getD false a b l (λ i h. same-truth (dig a i) (dig b i) (f i) (g i))
 
 -- ---- an edge joins u and v
 
@@ -55,7 +50,7 @@ joins-is u v (edge a b) (inl q) = or-left (eqb u a && eqb v b) (eqb u b && eqb v
 joins-is u v (edge a b) (inr q) = or-right (eqb u a && eqb v b) (eqb u b && eqb v a) (and-both (eq-eqb u b (q .0)) (eq-eqb v a (q .1)))
 
 module _ (d : Wire) where
-  joined-yes : (u v : ℕ) → joined d u v ≡ true → Joined d u v
+  pub joined-yes : (u v : ℕ) → joined d u v ≡ true → Joined d u v
   unfolding joined edgeAt
   joined-yes u v h = let r = any-yes (joins u v) (edge 0 0) (d .edges) h in (r .0, r .1, joins-yes u v (edgeAt d (r .0)) (r .2))
 

@@ -8,7 +8,7 @@ use lib.IntN.{ℤ, pos, negℤ, _+ℤ_, _-ℤ_, _*ℤ_}
 use lib.Signed.{leZ, _≤ℤ_, _<ℤ_, ≤ℤ-refl, clashℤ}
 use Rattle.exact.proofs.Ring.{var, con, _⊕_, _⊖_, neg}
 use Rattle.exact.proofs.Signs.{lt-or-ge, <ℤ-≤ℤ, le-yes, le-is, pos-ne, lt-subst, le-subst}
-use Rattle.exact.proofs.Order.{mul-pos, mul-le, mul-lt, add-le, sub-nonneg, lt-chain}
+use Rattle.exact.proofs.Order.{mul-pos, mul-le, mul-lt, add-le, sub-nonneg, lt-chain, one-pos}
 use Rattle.exact.proofs.Linear.{le-by, le-to, lt-to, lt-by}
 use Rattle.lists.proofs.Truth.{and-left, and-right, and-both, not-both}
 use Rattle.paper.specs.Points.{origin, plus, minus, times, dot, cross}
@@ -25,9 +25,6 @@ pub record Places (m u g : ℤ) : Type 0 where
   pub here : Inner
   pub there : Whole
   pub is : (there .scale *ℤ here .place) *ℤ m ≡ (here .scale *ℤ there .scale) *ℤ u +ℤ (here .scale *ℤ there .place) *ℤ g
-
-one-pos : pos 0 <ℤ pos 1
-one-pos = record { lt = tt }
 
 module _ (m u g : ℤ) (mp : pos 0 <ℤ m) where
   -- c itself, d itself, or the middle between a and b

@@ -106,13 +106,10 @@ module _ (p q r : Point) where
     meet-cuts z =
         and-both (and-both
         (lt-is (lt-cancel D dp (lt-subst (sym (*ℤ-zero D)) along-p (mul-pos (h .after) np))))
-        (lt-is (lt-cancel D dp (lt-subst (comm nn P ∙ along-p) (comm nn D) (mul-lt nn np (h .before))))))
+        (lt-is (lt-cancel D dp (lt-subst (*ℤ-comm nn P ∙ along-p) (*ℤ-comm nn D) (mul-lt nn np (h .before))))))
         (and-both
         (le-is (le-cancel E (t .some) (le-subst (sym (*ℤ-zero E)) along-q (mul-nonneg (t .least) (<ℤ-≤ℤ np)))))
-        (le-is (le-cancel E (t .some) (le-subst (comm nn S ∙ along-q) (comm nn E) (mul-le nn (<ℤ-≤ℤ np) (t .most))))))
+        (le-is (le-cancel E (t .some) (le-subst (*ℤ-comm nn S ∙ along-q) (*ℤ-comm nn E) (mul-le nn (<ℤ-≤ℤ np) (t .most))))))
       where
         np : pos 0 <ℤ nn
         np = self-pos n z
-
-        comm : (a b : ℤ) → a *ℤ b ≡ b *ℤ a
-        comm a b = *ℤ-comm a b
