@@ -22,8 +22,8 @@ use Rattle.paper_laws.proofs.Checks.{clear, holds, fails, passed, first-stops, 
 use Rattle.loop_table.proofs.Loops.{candidates-of}
 use Rattle.loop_table.proofs.Rows.{rows-held}
 use Rattle.report.specs.Concluded.{Concluded}
-use Rattle.tables.specs.Tables.{checksOf}
-use Rattle.tables.specs.declared.rows.Counts.{Counts}
+use Rattle.walk_input.specs.Tables.{checksOf}
+use Rattle.walk_input.specs.declared.rows.Counts.{Counts}
 use Rattle.walk.specs.declared.tally.Tally.{Tally}
 use Rattle.convert.specs.Walked.{tablesIn, logOf, Done}
 use Rattle.convert.specs.Converts.{leaves, Entered, behind}

@@ -12,8 +12,8 @@ use Rattle.paper.specs.Drawing.{wire}
 use Rattle.paper.specs.declared.Answer.the-variants.{Fine}
 use Rattle.paper.specs.declared.Conversion.{Conversion}
 use Rattle.paper.specs.declared.Sheet.{Sheet}
-use Rattle.tables.specs.Given.{pointsOf, linksOf}
-use Rattle.tables.proofs.Given.{sheet-given, sheet-lists}
+use Rattle.walk_input.specs.Given.{pointsOf, linksOf}
+use Rattle.walk_input.proofs.Given.{sheet-given, sheet-lists}
 use Rattle.convert.specs.Converts.{leaves, behind, Converts, DrawingAt}
 
 module _ (s : List ℕ) {r : Sheet} (e : r ≡ sheetOf editionOne s) (ok : Fine ≡ firstOf (sheetChecks editionOne s)) where

@@ -16,13 +16,13 @@ use Rattle.paper.specs.Conversion.{accepted}
 use Rattle.paper.specs.declared.Answer.the-variants.{Fine}
 use Rattle.loop_table.proofs.Loops.{candidates-of}
 use Rattle.loop_table.proofs.Rows.{rows-kept}
-use Rattle.walk_words.specs.Words.{WalkTables}
+use Rattle.walk_tables.specs.Words.{WalkTables}
 use Rattle.walk.specs.Tally.{Stored}
 use Rattle.walk.specs.Walk.{Searching, Searched}
 use Rattle.walk.specs.declared.tally.Tally.{Tally}
-use Rattle.tables.specs.Tables.{Ready}
-use Rattle.tables.specs.declared.rows.Counts.{Counts}
-use Rattle.tables.proofs.Given.{few-edges}
+use Rattle.walk_input.specs.Tables.{Ready}
+use Rattle.walk_input.specs.declared.rows.Counts.{Counts}
+use Rattle.walk_input.proofs.Given.{few-edges}
 use Rattle.convert.specs.Walked.{tablesIn, Done}
 
 module _ {xyz : List ℤ} {ends rows₀ rows : List ℕ} {tables : WalkTables} {c : Counts} (r : Ready xyz ends rows₀ rows tables c) where

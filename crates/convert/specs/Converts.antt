@@ -16,8 +16,8 @@ use Rattle.paper.specs.declared.Answer.the-variants.{Fine}
 use Rattle.paper.specs.declared.Conversion.{Conversion}
 use Rattle.paper.specs.declared.Drawing.{Drawing}
 use Rattle.paper_laws.specs.InRange.{Held}
-use Rattle.tables.specs.Tables.{checksOf}
-use Rattle.tables.specs.Given.{pointsOf, linksOf}
+use Rattle.walk_input.specs.Tables.{checksOf}
+use Rattle.walk_input.specs.Given.{pointsOf, linksOf}
 use Rattle.convert.specs.Walked.{tablesIn, logOf}
 
 -- an answer, and the rooms at exit

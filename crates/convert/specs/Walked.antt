@@ -15,8 +15,8 @@ use Rattle.paper.specs.Walk.{Log, search}
 use Rattle.paper.specs.Conversion.{accepted}
 use Rattle.paper.specs.declared.Answer.the-variants as Answer
 use Rattle.loop_table.specs.Tables.{rowsAfter}
-use Rattle.tables.specs.Tables.{checksOf}
-use Rattle.tables.specs.declared.rows.Counts.{Counts}
+use Rattle.walk_input.specs.Tables.{checksOf}
+use Rattle.walk_input.specs.declared.rows.Counts.{Counts}
 use Rattle.walk.specs.Tally.{Roomy, Stored}
 use Rattle.walk.specs.declared.tally.Tally.{Tally}
 use Rattle.convert.specs.declared.walked.Walked.{Walked}

@@ -4,7 +4,7 @@ mod walked;
 ghost use mathlib.Core.Path.{_≡_};
 ghost use Rattle.paper.specs.Conversion.{convertLists, convertSheet};
 ghost use Rattle.paper.specs.Reading.{conversionSays};
-ghost use Rattle.tables.specs.Given.{pointsOf, linksOf};
+ghost use Rattle.walk_input.specs.Given.{pointsOf, linksOf};
 ghost use Rattle.convert.specs.Converts.{leaves, Entered, Converting, Converts, DrawingAt};
 use drawing_lists::lend::lent;
 use paper::Answer;

@@ -6,11 +6,11 @@ use paper::MOST_CANDIDATES;
 use paper::MOST_EDGES;
 use paper::Refusal;
 use paper::SOLID_ROOM;
-use tables::Tabled;
-use tables::rows::Counts;
-use tables::tables;
 use walk::search;
 use walk::tally::Tally;
+use walk_input::Tabled;
+use walk_input::rows::Counts;
+use walk_input::tables;
 
 pub enum Walked {
     Refused(Refusal),

@@ -24,7 +24,7 @@ use Rattle.paper.specs.declared.Written.the-variants as Written
 use Rattle.paper_laws.proofs.Checks.{first-stops, first-passes}
 use Rattle.sheet_laws.proofs.Accepted.{coordinates-are, ends-are}
 use Rattle.sheet_laws.proofs.Written.{result-short}
-use Rattle.tables.specs.Given.{pointsOf, linksOf}
+use Rattle.walk_input.specs.Given.{pointsOf, linksOf}
 use Rattle.means_sheets.specs.Sheets.{SheetWritesBack}
 use Rattle.means_sheets.proofs.Sheets.{reads-back-one, writes-back-one}
 use Rattle.means_sheets.proofs.Sheets.Room.{length-sheet}

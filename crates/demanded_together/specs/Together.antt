@@ -18,7 +18,7 @@ use Rattle.paper.specs.declared.Verdict.{Verdict}
 use Rattle.paper.specs.declared.Verdict.the-variants as Verdict
 use Rattle.paper.specs.declared.Written.{Written}
 use Rattle.paper.specs.declared.Written.the-variants as Written
-use Rattle.tables.specs.Given.{pointsOf, linksOf}
+use Rattle.walk_input.specs.Given.{pointsOf, linksOf}
 use Rattle.means_report.specs.Listed.{Entry, entryAt, wordsOf}
 use Rattle.means_check.specs.Bodies.{SameBody}
 use Rattle.means_report.specs.Report.{reported}

@@ -2,8 +2,8 @@
 // points: each asks what its stage asks.
 ghost use Rattle.paper_laws.specs.InRange.{InRange};
 ghost use Rattle.candidates.specs.Keeps.{Keeps};
-ghost use Rattle.walk_words.specs.Words.{walkTables};
-ghost use Rattle.tables.specs.Words.{WordsAt};
+ghost use Rattle.walk_tables.specs.Words.{walkTables};
+ghost use Rattle.walk_input.specs.Words.{WordsAt};
 ghost use Rattle.walk.specs.Walk.{Searching};
 ghost use Rattle.measured.specs.Asked.{Loops};
 use loop_words::PAIRS;
@@ -96,7 +96,7 @@ pub extern "C" fn measured_clashes(
     requires { ⌜ WordsAt (now xyz) (now rows) n (now near) (now number) (now corners)
         (walkTables (now on) (now up) (now sides) (now clashes) (now sixes)) ⌝ }
 {
-    tables::words::put_words(
+    walk_input::words::put_words(
         xyz,
         rows,
         n,

@@ -27,12 +27,12 @@ use paper::MOST_EDGES;
 use paper::MOST_LOOPS;
 use paper::MOST_VERTICES;
 use paper_values::edition_one;
-use tables::Tabled;
-use tables::tables;
 use trial::end_of;
 use trial::say;
 use trial::say_number;
 use trial::say_refused;
+use walk_input::Tabled;
+use walk_input::tables;
 
 // A digit for each of the n loops.
 fn say_covers(

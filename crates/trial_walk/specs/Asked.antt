@@ -9,7 +9,7 @@ use Rattle.paper.specs.Format.{editionOne}
 use Rattle.paper.specs.Sheet.{lentChecks}
 use Rattle.paper.specs.declared.Answer.the-variants.{Fine}
 use Rattle.walk_leaf.specs.Tests.{Judging}
-use Rattle.tables.specs.declared.rows.Counts.{Counts}
+use Rattle.walk_input.specs.declared.rows.Counts.{Counts}
 
 pub record Walking (m : ℕ) (sixes : List ℤ) (c : Counts) : Type 0 where
   pub judging : Judging m sixes

@@ -20,9 +20,6 @@ use paper::SOLID_ROOM;
 use paper::TOO_LONG;
 use paper::WORDS;
 use paper_values::edition_one;
-use tables::Tabled;
-use tables::rows::Counts;
-use tables::tables;
 use trial::end_of;
 use trial::say;
 use trial::say_number;
@@ -30,6 +27,9 @@ use trial::say_refused;
 use trial::wide;
 use walk::search;
 use walk::tally::Tally;
+use walk_input::Tabled;
+use walk_input::rows::Counts;
+use walk_input::tables;
 
 const BOOK: usize = 131072;
 

@@ -14,7 +14,7 @@ use Rattle.paper.specs.declared.Refusal.{Refusal}
 use Rattle.paper.specs.declared.Verdict.{Verdict}
 use Rattle.paper.specs.declared.Verdict.the-variants as Verdict
 use Rattle.paper_laws.proofs.Checks.{first-stops, first-passes}
-use Rattle.tables.specs.Tables.{checksOf}
+use Rattle.walk_input.specs.Tables.{checksOf}
 use Rattle.verdict.specs.Checked.{listChecks, restChecks}
 
 -- what is refused is refused

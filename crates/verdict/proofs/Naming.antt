@@ -18,7 +18,7 @@ use Rattle.paper.specs.declared.Refusal.{Refusal}
 use Rattle.paper_laws.proofs.Checks.{first-stops, first-passes}
 use Rattle.means_loops.proofs.Kept.{member-is}
 use Rattle.means_check.proofs.Numbers.{row-is}
-use Rattle.walk_words.specs.Words.{WalkTables, Lent}
+use Rattle.walk_tables.specs.Words.{WalkTables, Lent}
 use Rattle.verdict_faces.specs.Named.{namedChecks, Selected}
 use Rattle.verdict_faces.specs.declared.selection.Selection.{Selection}
 use Rattle.verdict_faces.proofs.Listed.{taken-mask, taken-long, listed-long, named-below}

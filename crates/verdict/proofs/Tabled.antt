@@ -12,11 +12,11 @@ use Rattle.drawing_lists.proofs.Range.{lent-range}
 use Rattle.loop_table.proofs.Loops as Loops
 use Rattle.loop_table.proofs.Loops.{candidates-of}
 use Rattle.loop_table.proofs.Rows.{rows-held, rows-kept}
-use Rattle.walk_words.specs.Words.{WalkTables}
-use Rattle.tables.specs.Given.{Passed}
-use Rattle.tables.specs.Tables.{Ready}
-use Rattle.tables.specs.declared.rows.Counts.{Counts}
-use Rattle.tables.proofs.Given.{few-edges}
+use Rattle.walk_tables.specs.Words.{WalkTables}
+use Rattle.walk_input.specs.Given.{Passed}
+use Rattle.walk_input.specs.Tables.{Ready}
+use Rattle.walk_input.specs.declared.rows.Counts.{Counts}
+use Rattle.walk_input.proofs.Given.{few-edges}
 use Rattle.verdict_faces.specs.Named.{Holds}
 use Rattle.verdict.specs.Checked.{ListAt}
 

@@ -15,8 +15,8 @@ use Rattle.paper.specs.Solids.{Tables, tablesOf}
 use Rattle.paper.specs.FaceList.{facesIn, wellShaped}
 use Rattle.paper.specs.Verdict.{listed, faceChecks, verdictFor}
 use Rattle.paper.specs.declared.Verdict.{Verdict}
-use Rattle.walk_words.specs.Words.{SmallSixes, WalkTables, Lent}
-use Rattle.tables.specs.Tables.{checksOf}
+use Rattle.walk_tables.specs.Words.{SmallSixes, WalkTables, Lent}
+use Rattle.walk_input.specs.Tables.{checksOf}
 use Rattle.verdict_faces.specs.Named.{Holds}
 
 -- ---- a list, of n candidates whose rows and tables are lent

@@ -1,7 +1,7 @@
 // A face list held against the candidates of a drawing that passed 3 to 16: refusals 20 to 27. Assumes their rows and tables.
 ghost use mathlib.Core.Path.{_≡_};
 ghost use Rattle.paper.specs.Verdict.{verdictFor};
-ghost use Rattle.walk_words.specs.Words.{walkTables};
+ghost use Rattle.walk_tables.specs.Words.{walkTables};
 ghost use Rattle.verdict.specs.Checked.{ListAt, ListChecked};
 use faces_reader::read_faces;
 use paper::Answer;

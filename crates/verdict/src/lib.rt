@@ -5,7 +5,7 @@ mod faces;
 ghost use mathlib.Core.Path.{_≡_};
 ghost use Rattle.paper.specs.Reading.{verdictSays};
 ghost use Rattle.paper.specs.Verdict.{verdictLists, verdictSheet};
-ghost use Rattle.tables.specs.Given.{pointsOf, linksOf, Passed, Given};
+ghost use Rattle.walk_input.specs.Given.{pointsOf, linksOf, Passed, Given};
 ghost use Rattle.verdict.specs.Checked.{Checks};
 use drawing_lists::lend::lent;
 use faces::faces_checked;
@@ -18,8 +18,8 @@ use paper::MOST_EDGES;
 use paper::Verdict;
 use paper_values::edition_one;
 use sheet_reader::read_sheet;
-use tables::Tabled;
-use tables::tables;
+use walk_input::Tabled;
+use walk_input::tables;
 
 // Refusals 11 to 16, then 20 to 27, of lists that passed 3 to 10.
 fn checked(xyz: &[i64], ends: &[u8], list: &[u8]) -> Verdict

@@ -11,7 +11,7 @@ use Rattle.paper.specs.declared.Answer.{Answer}
 use Rattle.paper.specs.declared.Answer.the-variants.{Fine, Refused}
 use Rattle.paper.specs.declared.Refusal.{Refusal}
 use Rattle.paper_laws.proofs.Checks.{first-passes, first-stops, found-none}
-use Rattle.walk_words.specs.Words.{WalkTables, Lent}
+use Rattle.walk_tables.specs.Words.{WalkTables, Lent}
 use Rattle.walk_leaf.specs.Faces.{Edges}
 use Rattle.verdict_tests.specs.Tests.{FirstOf, Told, Counting, Running, Numbered, Joining, Weighing, Clashing, ListedIn, ListIs, Tested}
 use Rattle.verdict_tests.specs.Tests.{edgeCount, direction, pieces, inward, clash, testChecks}

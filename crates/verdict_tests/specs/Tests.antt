@@ -17,7 +17,7 @@ use Rattle.paper.specs.Verdict as Paper
 use Rattle.paper.specs.Verdict.{Listed}
 use Rattle.paper.specs.declared.Answer.{Answer}
 use Rattle.paper.specs.declared.Answer.the-variants as Answer
-use Rattle.walk_words.specs.Words.{Masks, Sides, Sixes, SmallSixes, WalkTables, Lent}
+use Rattle.walk_tables.specs.Words.{Masks, Sides, Sixes, SmallSixes, WalkTables, Lent}
 use Rattle.walk_leaf.specs.Faces.{Edges}
 
 -- ---- what is asked for: so many faces, each with a number below 64; and of all of it

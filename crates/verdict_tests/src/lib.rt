@@ -4,7 +4,7 @@ mod edges;
 mod faces;
 
 ghost use Rattle.paper.specs.Refusals as No;
-ghost use Rattle.walk_words.specs.Words.{SmallSixes, walkTables};
+ghost use Rattle.walk_tables.specs.Words.{SmallSixes, walkTables};
 ghost use Rattle.verdict_tests.specs.Tests.{FirstOf, Told, Weighing, inward, Testing, Tested};
 use edges::direction;
 use edges::edge_count;

@@ -19,7 +19,7 @@ use Rattle.means_walk.specs.Complete.{exact}
 use Rattle.fast_leaf.specs.Faces.{judgedByFaces}
 use Rattle.fast_leaf.proofs.Judged.{Reports, reports-by-faces}
 use Rattle.fast_leaf.proofs.Leaf.{exact-two}
-use Rattle.walk_words.specs.Words.{WalkTables, Lent}
+use Rattle.walk_tables.specs.Words.{WalkTables, Lent}
 use Rattle.walk_leaf.specs.Tests.{LeafIs, Judges}
 use Rattle.walk_leaf.specs.declared.Leaf.{Leaf}
 use Rattle.walk_leaf.specs.declared.Leaf.the-variants as L

@@ -13,7 +13,7 @@ use Rattle.paper.specs.Numbers.{solidWords}
 use Rattle.paper.specs.Walk.{Undecided, isTaken, isOpen, openCount, nothing, search}
 use Rattle.paper.specs.Conversion.{words, solidsAfter}
 use Rattle.fast_sweeps.proofs.Walk.{call-first}
-use Rattle.walk_words.specs.Words.{WalkTables}
+use Rattle.walk_tables.specs.Words.{WalkTables}
 use Rattle.walk_state.specs.State.{Holds}
 use Rattle.walk.specs.Walk.{Walked, Searched}
 use Rattle.walk.specs.declared.tally.Tally.{Tally}

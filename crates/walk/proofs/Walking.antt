@@ -17,7 +17,7 @@ use Rattle.means_walk.proofs.Complete.{calm-exact}
 use Rattle.means_walk.proofs.Chosen.{stable-long}
 use Rattle.fast_sweeps.specs.Worklist.{edgesWith, openFrom, lowestOn, Call}
 use Rattle.fast_sweeps.proofs.Walk.{call-next, call-choice}
-use Rattle.walk_words.specs.Words.{WalkTables, Lent}
+use Rattle.walk_tables.specs.Words.{WalkTables, Lent}
 use Rattle.walk_state.specs.State.{Holds}
 use Rattle.walk_state.specs.Sweeps.{Left, SweptOut}
 use Rattle.walk_state.specs.declared.State.{State}

@@ -7,7 +7,7 @@ use lib.ListN.{length, set}
 use Rattle.sets.specs.Sets.{Is, size}
 use Rattle.paper.specs.Walk.{Status, Taken, Rejected}
 use Rattle.fast_sweeps.specs.Worklist.{edgesWith, openFrom, lowestOn}
-use Rattle.walk_words.specs.Words.{Masks, Sides}
+use Rattle.walk_tables.specs.Words.{Masks, Sides}
 use Rattle.walk_state.specs.State.{Holds}
 use Rattle.walk_state.specs.Choice.{From}
 use Rattle.walk_state.specs.declared.State.{State}

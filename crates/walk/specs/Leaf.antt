@@ -12,7 +12,7 @@ use Rattle.paper.specs.Solids.{Tables}
 use Rattle.paper.specs.Walk.{Status, leaf}
 use Rattle.paper.specs.Conversion.{takens, accepted}
 use Rattle.means_walk.specs.Complete.{exact}
-use Rattle.walk_words.specs.Words.{WalkTables, Lent}
+use Rattle.walk_tables.specs.Words.{WalkTables, Lent}
 use Rattle.walk_leaf.specs.Tests.{Judging}
 use Rattle.walk.specs.Tally.{Roomy, Follows}
 use Rattle.walk.specs.declared.tally.Tally.{Tally}

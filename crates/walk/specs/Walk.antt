@@ -11,7 +11,7 @@ use Rattle.paper.specs.Solids.{Tables}
 use Rattle.paper.specs.Walk.{Status, openCount, walk, search}
 use Rattle.paper.specs.Conversion.{accepted}
 use Rattle.fast_sweeps.specs.Worklist.{Call}
-use Rattle.walk_words.specs.Words.{WalkTables, Lent}
+use Rattle.walk_tables.specs.Words.{WalkTables, Lent}
 use Rattle.walk_leaf.specs.Tests.{Judging}
 use Rattle.walk.specs.Tally.{Roomy, Stored, Follows}
 use Rattle.walk.specs.Branch.{BranchIs}

@@ -1,5 +1,5 @@
 // A state with nothing undecided: tested, and stored where it is a solid and there is room. Assumes two taken on each edge.
-ghost use Rattle.walk_words.specs.Words.{walkTables};
+ghost use Rattle.walk_tables.specs.Words.{walkTables};
 ghost use Rattle.walk.specs.Leaf.{Keeping, Keeps};
 use super::tally::Tally;
 use paper::MANY;

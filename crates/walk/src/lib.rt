@@ -4,7 +4,7 @@ mod branch;
 mod leaf;
 pub mod tally;
 
-ghost use Rattle.walk_words.specs.Words.{walkTables};
+ghost use Rattle.walk_tables.specs.Words.{walkTables};
 ghost use Rattle.walk.specs.Walk.{Walking, Walked, Searching, Searched};
 use branch::Branch;
 use branch::branches;

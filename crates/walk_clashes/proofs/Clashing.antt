@@ -20,7 +20,7 @@ use Rattle.fast_tables.specs.Hits.{foldsWith, hits}
 use Rattle.fast_tables.specs.Words.{throughMask, insideMask, hitMask}
 use Rattle.fast_tables.proofs.Drawings.{candidates-clashes}
 use Rattle.fast_tables.proofs.Words.{hits-rows}
-use Rattle.walk_words.specs.Words.{Masks}
+use Rattle.walk_tables.specs.Words.{Masks}
 use Rattle.walk_clashes.specs.Folds.{foldsAfter, foldMask, FoldLent}
 use Rattle.walk_clashes.specs.Lent.{HitLent}
 use Rattle.walk_clashes.specs.Clashes.{ClashLent, wireOf, allOf, Clashes}

@@ -27,7 +27,7 @@ use Rattle.polygon.proofs.Rows.{corner-small, ring-least}
 use Rattle.polygon.proofs.Planes.{face-normal, first-is}
 use Rattle.polygon.proofs.Sizes.{dot-small}
 use Rattle.paper_laws.proofs.Six.{six-normal}
-use Rattle.walk_words.specs.Words.{mostSix}
+use Rattle.walk_tables.specs.Words.{mostSix}
 use Rattle.walk_clashes.specs.Faces.{Faces, drawingOf, PointPut, PartsOf}
 use Rattle.walk_clashes.proofs.Rows.{face-at, polygon-at}
 

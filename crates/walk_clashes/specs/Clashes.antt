@@ -15,7 +15,7 @@ use Rattle.paper.specs.Solids.{tablesOf}
 use Rattle.fast_tables.specs.Hits.{sideMask}
 use Rattle.fast_tables.specs.Words.{hitMask}
 use Rattle.loop_table.specs.Passed.{Passed}
-use Rattle.walk_words.specs.Words.{Masks}
+use Rattle.walk_tables.specs.Words.{Masks}
 use Rattle.walk_clashes.specs.Faces.{drawingOf}
 use Rattle.walk_clashes.specs.Lent.{AllLent}
 use Rattle.walk_clashes.specs.Folds.{foldMask}

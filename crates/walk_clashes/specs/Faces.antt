@@ -17,7 +17,7 @@ use Rattle.polygon.specs.Rings.{pointOf, ring}
 use Rattle.polygon.specs.Sizes.{PointWithin, mostNormal}
 use Rattle.loop_table.specs.Tables.{HoldsRows}
 use Rattle.loop_table.specs.Loops.{LoopsOf}
-use Rattle.walk_words.specs.Words.{Sixes}
+use Rattle.walk_tables.specs.Words.{Sixes}
 
 pub record Faces (xyz : List ℤ) (rows : List ℕ) (n : ℕ) : Type 0 where
   pub ends : List ℕ

@@ -20,7 +20,7 @@ use Rattle.fast_tables.specs.Hits.{edgePierces, cornerMask}
 use Rattle.fast_tables.specs.Asked.{planeMask}
 use Rattle.fast_tables.specs.Words.{nearMask, aboveMask, belowMask, downFrom, throughMask, insideMask, hitMask}
 use Rattle.loop_words.specs.Numbered.{Numbered}
-use Rattle.walk_words.specs.Words.{Masks}
+use Rattle.walk_tables.specs.Words.{Masks}
 use Rattle.walk_clashes.specs.declared.hits.Sides.{Sides}
 use Rattle.walk_clashes.specs.Faces.{Faces, drawingOf, NormalsOf}
 

@@ -20,7 +20,7 @@ use Rattle.fast_sweeps.specs.Worklist.{edgesWith}
 use Rattle.fast_tables.specs.Hits.{sideMask}
 use Rattle.loop_table.specs.Tables.{HoldsWords}
 use Rattle.loop_table.proofs.Words.{word-is}
-use Rattle.walk_words.specs.Words.{Masks, Sides}
+use Rattle.walk_tables.specs.Words.{Masks, Sides}
 use Rattle.walk_edges.specs.Marks.{Marked}
 use Rattle.walk_edges.proofs.Firsts.{before-next, at-next, spread}
 

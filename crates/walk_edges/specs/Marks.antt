@@ -16,7 +16,7 @@ use Rattle.fast_tables.specs.Hits.{sideMask}
 use Rattle.loop_table.specs.Tables.{HoldsRows}
 use Rattle.loop_table.specs.Loops.{LoopsOf}
 use Rattle.loop_words.specs.Drawn.{Small, RowDrawn}
-use Rattle.walk_words.specs.Words.{Masks}
+use Rattle.walk_tables.specs.Words.{Masks}
 
 -- each edge goes from its lower to its higher vertex, as rule 9 asks
 abbrev pub Upward : Wire → Type 0

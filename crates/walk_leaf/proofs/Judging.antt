@@ -10,7 +10,7 @@ use Rattle.sets.specs.Sets.{Is, size, Lowest, Minus}
 use Rattle.sets.specs.declared.Set.{Set}
 use Rattle.paper.specs.Solids.{Tables, oriented}
 use Rattle.fast_leaf.specs.Faces.{fromFace, fromLowest, clearOn, judgedByFaces}
-use Rattle.walk_words.specs.Words.{WalkTables, Held}
+use Rattle.walk_tables.specs.Words.{WalkTables, Held}
 use Rattle.walk_state.proofs.Lowest.{some-in, none-in}
 use Rattle.walk_leaf.specs.Faces.{GoingIs, Edges, FromFace}
 use Rattle.walk_leaf.specs.Tests.{OrientedIs, ClearIs, WeighedIs, Selects, Judges}

@@ -15,7 +15,7 @@ use Rattle.fast_sweeps.proofs.Marks.{length-after, length-sides}
 use Rattle.fast_leaf.specs.Faces.{atEdge, aroundFace, atFace, goOn, toGo, alone, fromFace}
 use Rattle.fast_leaf.specs.Faces as Lists
 use Rattle.fast_leaf.proofs.Around.{around-none, around-more, on-none, rest-more, rest-start}
-use Rattle.walk_words.specs.Words.{Masks, Sides}
+use Rattle.walk_tables.specs.Words.{Masks, Sides}
 use Rattle.walk_state.proofs.Lowest.{drops, some-in, none-in}
 use Rattle.walk_leaf.specs.Faces.{GoingIs, Edges, Grows, AtEdge, AroundFace, FromFace}
 use Rattle.walk_leaf.specs.declared.faces.Going.{Going}

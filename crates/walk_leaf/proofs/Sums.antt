@@ -20,7 +20,7 @@ use Rattle.fast_sweeps.specs.Worklist.{after}
 use Rattle.fast_sweeps.proofs.Marks.{length-after}
 use Rattle.fast_leaf.specs.Faces.{clearOn, sixOn}
 use Rattle.fast_leaf.proofs.Sums.{clear-none, clear-more, six-none, six-more}
-use Rattle.walk_words.specs.Words.{Masks, mostSix, Sixes}
+use Rattle.walk_tables.specs.Words.{Masks, mostSix, Sixes}
 use Rattle.walk_state.proofs.Lowest.{drops, some-in, none-in}
 use Rattle.walk_leaf.specs.Tests.{ClearIs, PartIs, Weighs}
 use Rattle.walk_leaf.proofs.Rounds.{mask-at, lowest-in}

@@ -10,7 +10,7 @@ use Rattle.sets.specs.declared.Set.{Set}
 use Rattle.paper.specs.Solids.{unlike}
 use Rattle.fast_leaf.specs.Faces.{unlikeWays, atEdge, aroundFace, fromFace}
 use Rattle.fast_leaf.specs.Faces as Lists
-use Rattle.walk_words.specs.Words.{Masks, Sides}
+use Rattle.walk_tables.specs.Words.{Masks, Sides}
 use Rattle.walk_leaf.specs.declared.faces.Going.{Going}
 
 -- ---- what the sets stand for

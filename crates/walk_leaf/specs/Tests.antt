@@ -13,7 +13,7 @@ use Rattle.paper.specs.Format.{editionOne}
 use Rattle.paper.specs.Solids as Paper
 use Rattle.paper.specs.Solids.{Tables, onceEachWay, Judgement, Fails, Solid}
 use Rattle.fast_leaf.specs.Faces.{clearOn, sixOn, judgedByFaces}
-use Rattle.walk_words.specs.Words.{Masks, mostSix, Sixes, SmallSixes, WalkTables, Held}
+use Rattle.walk_tables.specs.Words.{Masks, mostSix, Sixes, SmallSixes, WalkTables, Held}
 use Rattle.walk_leaf.specs.Faces.{Edges}
 use Rattle.walk_leaf.specs.declared.Leaf.{Leaf}
 use Rattle.walk_leaf.specs.declared.Leaf.the-variants as L

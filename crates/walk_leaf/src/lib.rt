@@ -7,7 +7,7 @@ ghost use Prim.Native.Nat.{_≤_};
 ghost use lib.Dec.{eqb};
 ghost use Rattle.sets.specs.Sets.{size};
 ghost use Rattle.paper.specs.Format.{editionOne};
-ghost use Rattle.walk_words.specs.Words.{SmallSixes, walkTables};
+ghost use Rattle.walk_tables.specs.Words.{SmallSixes, walkTables};
 ghost use Rattle.walk_leaf.specs.Tests.{WayIs, OrientedIs, ClearIs, PartAt, PartIs, Weighs, WeighedIs};
 ghost use Rattle.walk_leaf.specs.Tests.{Judging, Judges};
 use faces::from_face;

@@ -16,7 +16,7 @@ use Rattle.means_walk.specs.Lowest.{opens}
 use Rattle.means_walk.proofs.Status.{count-opens}
 use Rattle.fast_sweeps.specs.Worklist.{openFrom}
 use Rattle.fast_sweeps.proofs.Choice.{open-here, open-skip, open-end, lowest-here, lowest-none}
-use Rattle.walk_words.specs.Words.{Masks}
+use Rattle.walk_tables.specs.Words.{Masks}
 use Rattle.walk_state.specs.Choice.{Opened}
 use Rattle.walk_state.proofs.Lowest.{some-in, none-in}
 

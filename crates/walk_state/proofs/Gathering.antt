@@ -10,7 +10,7 @@ use Rattle.sets.specs.declared.Set.{Set}
 use Rattle.sets.proofs.Sets.{none-all}
 use Rattle.fast_sweeps.specs.Worklist.{after, edgesWith}
 use Rattle.fast_sweeps.proofs.Marks.{Gathers, gather-start, gather-more, gather-end}
-use Rattle.walk_words.specs.Words.{Sides}
+use Rattle.walk_tables.specs.Words.{Sides}
 use Rattle.walk_state.specs.Sweeps.{Gathered}
 use Rattle.walk_state.proofs.Lowest.{drops, some-in, none-in}
 

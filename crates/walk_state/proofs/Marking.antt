@@ -15,7 +15,7 @@ use Rattle.sets.proofs.Sets.{size-is, counted}
 use Rattle.fast_sweeps.specs.Worklist.{after, passed, touched, nextAhead, nextLater, turnAhead, turnLater}
 use Rattle.fast_sweeps.proofs.Marks.{length-after, length-touched}
 use Rattle.fast_sweeps.proofs.Words.{ahead-word, later-word}
-use Rattle.walk_words.specs.Words.{Sides}
+use Rattle.walk_tables.specs.Words.{Sides}
 use Rattle.walk_state.specs.Sweeps.{Gathered, Turned, Marked}
 use Rattle.walk_state.specs.declared.Marks.{Marks}
 use Rattle.walk_state.proofs.Lowest.{drops, some-in, none-in}

@@ -15,7 +15,7 @@ use Rattle.fast_sweeps.specs.Worklist.{decidedOn, nextAhead, nextLater, turnAhe
 use Rattle.fast_sweeps.proofs.Marks.{length-ahead, length-later}
 use Rattle.fast_sweeps.proofs.Remain.{finish, breaks-off, pass-decided, here-lt}
 use Rattle.fast_sweeps.proofs.Work.{turn-loop}
-use Rattle.walk_words.specs.Words.{Masks, Sides}
+use Rattle.walk_tables.specs.Words.{Masks, Sides}
 use Rattle.walk_state.specs.State.{Holds, SettledOn}
 use Rattle.walk_state.specs.Sweeps.{markCount, MarksAre, Marked, Left, SweptOut}
 use Rattle.walk_state.specs.declared.State.{State}

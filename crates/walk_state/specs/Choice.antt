@@ -11,7 +11,7 @@ use Rattle.paper.specs.Format.{editionOne}
 use Rattle.paper.specs.Walk.{Status}
 use Rattle.means_walk.specs.Lowest.{opens}
 use Rattle.fast_sweeps.specs.Worklist.{openFrom, lowestOn}
-use Rattle.walk_words.specs.Words.{Masks}
+use Rattle.walk_tables.specs.Words.{Masks}
 use Rattle.walk_state.specs.declared.Opening.{Opening}
 
 pub record From (m from : ℕ) : Type 0 where

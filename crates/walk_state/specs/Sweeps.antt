@@ -7,7 +7,7 @@ use Rattle.sets.specs.Sets.{room, Is, size}
 use Rattle.sets.specs.declared.Set.{Set}
 use Rattle.paper.specs.Walk.{Status, Outcome, Broken, Stands}
 use Rattle.fast_sweeps.specs.Worklist.{touched, nextAhead, nextLater, turnAhead, turnLater, Loop}
-use Rattle.walk_words.specs.Words.{Masks, Sides}
+use Rattle.walk_tables.specs.Words.{Masks, Sides}
 use Rattle.walk_state.specs.State.{Holds}
 use Rattle.walk_state.specs.declared.State.{State}
 use Rattle.walk_state.specs.declared.Marks.{Marks}

@@ -5,12 +5,12 @@ use Prim.Native.Nat.{ℕ, _≤_}
 use lib.IntN.{ℤ}
 use borrow.Author.Needs.{needs}
 use Rattle.paper.specs.Numbers.{mostCandidates}
-use Rattle.walk_words.specs.Words.{WalkTables}
-use Rattle.tables.specs.declared.Tabled.{Tabled}
-use Rattle.tables.specs.declared.Tabled.the-variants as Tabled
-use Rattle.tables.specs.declared.rows.Counts.{Counts}
-use Rattle.tables.specs.Tables.{TabledIs}
-use Rattle.tables.proofs.Given.{clear-rooms, tablesLeft}
+use Rattle.walk_tables.specs.Words.{WalkTables}
+use Rattle.walk_input.specs.declared.Tabled.{Tabled}
+use Rattle.walk_input.specs.declared.Tabled.the-variants as Tabled
+use Rattle.walk_input.specs.declared.rows.Counts.{Counts}
+use Rattle.walk_input.specs.Tables.{TabledIs}
+use Rattle.walk_input.proofs.Given.{clear-rooms, tablesLeft}
 use Rattle.trial_geometry.proofs.show_clashes.Statement.{statement}
 use Rattle.trial_geometry.proofs.show_clashes.Tie as tie
 

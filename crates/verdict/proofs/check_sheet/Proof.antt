@@ -11,7 +11,7 @@ use Rattle.paper.specs.Drawing.{wire}
 use Rattle.paper.specs.Verdict.{verdictSheet}
 use Rattle.paper.specs.Reading.{verdictSays}
 use Rattle.paper.specs.declared.Sheet.{Sheet}
-use Rattle.tables.proofs.Given.{sheet-given, sheet-lists}
+use Rattle.walk_input.proofs.Given.{sheet-given, sheet-lists}
 use Rattle.verdict.specs.Checked.{Checks}
 use Rattle.verdict.proofs.Deciding.{form-stops, rest-decides}
 use borrow.Author.Needs.{needs}

@@ -11,11 +11,11 @@ use Rattle.verdict.specs.Checked.{listChecks}
 use Rattle.paper.specs.Drawing.{wire}
 use Rattle.paper.specs.Loops.{candidates}
 use Rattle.paper.specs.Solids.{tablesOf}
-use Rattle.walk_words.specs.Words.{WalkTables}
-use Rattle.tables.specs.Tables.{TabledIs, Ready}
-use Rattle.tables.specs.declared.Tabled.{Tabled}
-use Rattle.tables.specs.declared.Tabled.the-variants as T
-use Rattle.tables.proofs.Given.{clear-rooms, tablesLeft}
+use Rattle.walk_tables.specs.Words.{WalkTables}
+use Rattle.walk_input.specs.Tables.{TabledIs, Ready}
+use Rattle.walk_input.specs.declared.Tabled.{Tabled}
+use Rattle.walk_input.specs.declared.Tabled.the-variants as T
+use Rattle.walk_input.proofs.Given.{clear-rooms, tablesLeft}
 use Rattle.verdict.proofs.Deciding.{drawing-stops, list-decides}
 use Rattle.verdict.proofs.Tabled.{list-at, vertices-are, rows-hold}
 use borrow.Author.Needs.{needs}

@@ -9,7 +9,7 @@ use mir.Val.{ofZ}
 use Rattle.exact.proofs.Machine.{Env, _▸_, done, lit, lt-left, lt-taken, value}
 use Rattle.exact.proofs.Ring.{var}
 use Rattle.sets.specs.Sets.{room}
-use Rattle.walk_words.specs.Words.{mostSix}
+use Rattle.walk_tables.specs.Words.{mostSix}
 use Rattle.verdict_tests.proofs.Volumes.{six-above, six-not}
 use Rattle.verdict_tests.proofs.inward.Statement.{statement}
 use Rattle.verdict_tests.proofs.inward.Tie as tie

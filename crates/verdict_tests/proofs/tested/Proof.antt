@@ -1,6 +1,6 @@
 -- `verdict_tests::tested`: the answers of the five checks, and the first of them that refuses (`Testing`). Assumes nothing.
 use borrow.Author.Needs.{needs}
-use Rattle.walk_words.specs.Words.{WalkTables, walkTables}
+use Rattle.walk_tables.specs.Words.{WalkTables, walkTables}
 use Rattle.verdict_tests.proofs.Testing.{tests}
 use Rattle.verdict_tests.proofs.tested.Statement.{statement}
 use Rattle.verdict_tests.proofs.tested.Tie as tie

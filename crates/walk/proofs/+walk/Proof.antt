@@ -7,7 +7,7 @@ use borrow.Fn.Kinds.{In}
 use borrow.Fn.PlainCycle.{Measures, is, falls, and}
 use denote.Ref.{now}
 use Rattle.sets.specs.Sets.{size}
-use Rattle.walk_words.specs.Words.{WalkTables, walkTables}
+use Rattle.walk_tables.specs.Words.{WalkTables, walkTables}
 use Rattle.walk_state.specs.Sweeps.{SweptOut}
 use Rattle.walk_state.specs.declared.State.{State}
 use Rattle.walk_state.specs.declared.Swept.{Swept}

@@ -1,7 +1,7 @@
 -- `walk::search`: the walk with nothing decided and all edges to be passed. Assumes nothing.
 use borrow.Author.Needs.{needs}
 use denote.Ref.{now}
-use Rattle.walk_words.specs.Words.{WalkTables, walkTables}
+use Rattle.walk_tables.specs.Words.{WalkTables, walkTables}
 use Rattle.walk.proofs.Starting.{searched}
 use Rattle.walk.proofs.search.Statement.{statement}
 use Rattle.walk.proofs.search.Tie as tie

@@ -6,7 +6,7 @@ use denote.Ref.{now}
 use Rattle.exact.specs.Size.{Within}
 use Rattle.polygon.specs.Rings.{Face}
 use Rattle.polygon.proofs.Planes.{face-normal}
-use Rattle.walk_words.specs.Words.{mostSix}
+use Rattle.walk_tables.specs.Words.{mostSix}
 use Rattle.walk_clashes.specs.Faces.{Faces}
 use Rattle.walk_clashes.proofs.Rows.{row-at, face-at}
 use Rattle.walk_clashes.proofs.Parts.{Parts, parts-none, parts-more, parts-all, part-small, kept}

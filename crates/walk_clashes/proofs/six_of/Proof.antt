@@ -2,7 +2,7 @@
 use native.Mathlib.Omega.{arith}
 use mathlib.Core.Path.{subst, sym, _∙_}
 use Rattle.exact.specs.Size.{Within}
-use Rattle.walk_words.specs.Words.{mostSix}
+use Rattle.walk_tables.specs.Words.{mostSix}
 use Rattle.polygon.proofs.Rows.{corner-in, corner-near}
 use Rattle.polygon.proofs.Planes.{face-normal}
 use Rattle.polygon.proofs.Sizes.{small-up}

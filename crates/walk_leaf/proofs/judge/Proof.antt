@@ -4,7 +4,7 @@ use borrow.Author.Tests.{not-true, not-false}
 use mathlib.Core.Path.{_≡_}
 use Prim.Native.Nat.{_<_}
 use Rattle.sets.specs.Sets.{size}
-use Rattle.walk_words.specs.Words.{WalkTables, walkTables}
+use Rattle.walk_tables.specs.Words.{WalkTables, walkTables}
 use Rattle.walk_state.proofs.Lowest.{is-none, is-some}
 use Rattle.walk_leaf.proofs.Judging.{judge-none, judge-apart, judge-ways, judge-clash, judge-weighed}
 use Rattle.walk_leaf.proofs.judge.Statement.{statement}

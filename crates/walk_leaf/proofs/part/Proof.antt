@@ -8,7 +8,7 @@ use mir.Syntax.{w64}
 use mir.Val.{ofZ}
 use Rattle.exact.proofs.Machine.{Env, _▸_, asked, done, reads}
 use Rattle.exact.proofs.Ring.{neg, var}
-use Rattle.walk_words.specs.Words.{mostSix}
+use Rattle.walk_tables.specs.Words.{mostSix}
 use Rattle.walk_leaf.proofs.Sums.{part-turned, part-plain}
 use Rattle.walk_leaf.proofs.part.Statement.{statement}
 use Rattle.walk_leaf.proofs.part.Tie as tie

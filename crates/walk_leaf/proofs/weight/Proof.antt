@@ -12,7 +12,7 @@ use Rattle.exact.proofs.Machine.{Env, _▸_, asked, done, held, raw, reads}
 use Rattle.exact.proofs.Ring.{_⊕_, var}
 use Rattle.sets.specs.Sets.{room, size}
 use Rattle.sets.proofs.Sets.{counted}
-use Rattle.walk_words.specs.Words.{mostSix}
+use Rattle.walk_tables.specs.Words.{mostSix}
 use Rattle.walk_state.proofs.Lowest.{is-none, is-some}
 use Rattle.walk_leaf.proofs.Sums.{Weighing, weighing-start, weighing-next, weighing-end, all-small}
 use Rattle.walk_leaf.proofs.weight.Statement.{statement}

@@ -4,11 +4,11 @@ use mathlib.Core.Path.{_≡_, subst}
 use Prim.Native.Nat.{ℕ}
 use borrow.Author.Needs.{needs}
 use denote.Ref.{now}
-use Rattle.walk_words.specs.Words.{WalkTables}
-use Rattle.tables.specs.Tables.{TabledIs, Ready}
-use Rattle.tables.specs.declared.Tabled.{Tabled}
-use Rattle.tables.specs.declared.Tabled.the-variants as T
-use Rattle.tables.proofs.Given.{clear-rooms, tablesLeft}
+use Rattle.walk_tables.specs.Words.{WalkTables}
+use Rattle.walk_input.specs.Tables.{TabledIs, Ready}
+use Rattle.walk_input.specs.declared.Tabled.{Tabled}
+use Rattle.walk_input.specs.declared.Tabled.the-variants as T
+use Rattle.walk_input.proofs.Given.{clear-rooms, tablesLeft}
 use Rattle.convert.proofs.Walking.{searching, done}
 use Rattle.convert.proofs.walked.walk_drawing.Statement.{statement}
 use Rattle.convert.proofs.walked.walk_drawing.Tie as tie

@@ -2,7 +2,7 @@
 use borrow.Author.Needs.{needs}
 use mathlib.Core.Path.{_≡_, subst}
 use denote.Ref.{now}
-use Rattle.walk_words.specs.Words.{WalkTables, walkTables}
+use Rattle.walk_tables.specs.Words.{WalkTables, walkTables}
 use Rattle.walk_leaf.specs.Tests.{Judges}
 use Rattle.walk_leaf.specs.declared.Leaf.{Leaf}
 use Rattle.walk_leaf.specs.declared.Leaf.the-variants as L

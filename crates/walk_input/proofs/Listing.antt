@@ -22,7 +22,7 @@ use Rattle.walk_edges.proofs.Upward.{upward-of}
 use Rattle.walk_clashes.specs.Faces.{Faces, PartsOf}
 use Rattle.walk_clashes.specs.Marking.{CornersOf, VertexWords}
 use Rattle.walk_clashes.specs.Clashes.{ClashLent}
-use Rattle.tables.specs.Words.{Listed, drawingOf}
+use Rattle.walk_input.specs.Words.{Listed, drawingOf}
 
 -- ---- a room with nothing in it, wherever it is read
 pub all-same : {A : Type 0} (a : A) (n i : ℕ) → getD (replicate n a) i a ≡ a

@@ -1,8 +1,8 @@
--- `tables::words::put_words`: each maker asks for what is known of the candidates and what the makers before it made. Assumes nothing.
+-- `walk_input::words::put_words`: each maker asks for what is known of the candidates and what the makers before it made. Assumes nothing.
 use mathlib.Core.Path.{refl}
-use Rattle.tables.proofs.Listing.{all-same, as-edges, as-corners, as-faces, as-clashes}
-use Rattle.tables.proofs.words.put_words.Statement.{statement}
-use Rattle.tables.proofs.words.put_words.Tie as tie
+use Rattle.walk_input.proofs.Listing.{all-same, as-edges, as-corners, as-faces, as-clashes}
+use Rattle.walk_input.proofs.words.put_words.Statement.{statement}
+use Rattle.walk_input.proofs.words.put_words.Tie as tie
 
 -- ---- the ways back: from the last maker to the ones before it, and to the start
 

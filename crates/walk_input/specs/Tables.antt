@@ -14,11 +14,11 @@ use Rattle.paper.specs.Loops.{loops, candidates, loopChecks}
 use Rattle.paper.specs.Solids.{tablesOf}
 use Rattle.paper.specs.declared.Answer.the-variants as Answer
 use Rattle.loop_table.specs.Tables.{rowsAfter}
-use Rattle.walk_words.specs.Words.{SmallSixes, WalkTables, Lent}
-use Rattle.tables.specs.Words.{EmptyRooms}
-use Rattle.tables.specs.declared.rows.Counts.{Counts}
-use Rattle.tables.specs.declared.Tabled.{Tabled}
-use Rattle.tables.specs.declared.Tabled.the-variants as T
+use Rattle.walk_tables.specs.Words.{SmallSixes, WalkTables, Lent}
+use Rattle.walk_input.specs.Words.{EmptyRooms}
+use Rattle.walk_input.specs.declared.rows.Counts.{Counts}
+use Rattle.walk_input.specs.declared.Tabled.{Tabled}
+use Rattle.walk_input.specs.declared.Tabled.the-variants as T
 
 -- 11 to 16
 abbrev pub checksOf : Wire → List Check

@@ -1,11 +1,11 @@
--- `tables::rows::candidate_rows`: what is known of all loops is what the candidates ask for. Assumes nothing.
+-- `walk_input::rows::candidate_rows`: what is known of all loops is what the candidates ask for. Assumes nothing.
 use mathlib.Core.Path.{sym}
 use native.Mathlib.Omega.{arith}
 use borrow.Author.Needs.{needs}
 use denote.Ref.{now}
 use Rattle.loop_known.specs.Known.{LoopsKnown}
-use Rattle.tables.proofs.rows.candidate_rows.Statement.{statement}
-use Rattle.tables.proofs.rows.candidate_rows.Tie as tie
+use Rattle.walk_input.proofs.rows.candidate_rows.Statement.{statement}
+use Rattle.walk_input.proofs.rows.candidate_rows.Tie as tie
 
 -- ---- the ways back: from the last call to the question whether all loops are held, and from the loops to the start
 

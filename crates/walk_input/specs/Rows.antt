@@ -9,7 +9,7 @@ use Rattle.paper.specs.Drawing.{wire}
 use Rattle.paper.specs.Loops.{loops}
 use Rattle.loop_known.specs.Known.{DrawnBy}
 use Rattle.candidates.specs.Keeps.{Kept}
-use Rattle.tables.specs.declared.rows.Counts.{Counts}
+use Rattle.walk_input.specs.declared.rows.Counts.{Counts}
 
 -- it, and room for 64 candidates
 pub record RowsAt (xyz : List ℤ) (ends near number rows corners sides : List ℕ) : Type 0 where

@@ -13,7 +13,7 @@ use Rattle.paper.specs.Solids.{tablesOf}
 use Rattle.fast_tables.specs.Hits.{cornerMask, sideMask}
 use Rattle.loop_table.specs.Tables.{HoldsRows, HoldsWords}
 use Rattle.loop_known.specs.Known.{DrawnBy}
-use Rattle.walk_words.specs.Words.{Masks, Sixes, WalkTables}
+use Rattle.walk_tables.specs.Words.{Masks, Sixes, WalkTables}
 use Rattle.walk_edges.specs.Marks.{Clear}
 
 -- the candidates are listed, in rows and words

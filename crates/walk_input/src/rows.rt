@@ -1,6 +1,6 @@
 // The candidates of a drawing that passed 3 to 14, in rows with the words of their corners and sides, by way of its loops.
 // Assumes its neighbour words and its edges' numbers.
-ghost use Rattle.tables.specs.Rows.{RowsAt, RowsFound};
+ghost use Rattle.walk_input.specs.Rows.{RowsAt, RowsFound};
 use candidates::candidates;
 use loop_known::known_loops;
 use loop_words::PAIRS;

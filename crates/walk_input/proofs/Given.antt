@@ -17,10 +17,10 @@ use Rattle.sheet_laws.proofs.Accepted.{coordinates-are, ends-are}
 use Rattle.sheet_reader.proofs.Range.{read-range}
 use Rattle.means_sheets.proofs.Sheets.Read.{accepted-lent}
 use Rattle.drawing_lists.proofs.Range.{lent-range}
-use Rattle.walk_words.specs.Words.{mostSix, SmallSixes, WalkTables, walkTables}
-use Rattle.tables.specs.Given.{pointsOf, linksOf, Passed, Given}
-use Rattle.tables.specs.Tables.{TablesAt}
-use Rattle.tables.proofs.Listing.{all-same}
+use Rattle.walk_tables.specs.Words.{mostSix, SmallSixes, WalkTables, walkTables}
+use Rattle.walk_input.specs.Given.{pointsOf, linksOf, Passed, Given}
+use Rattle.walk_input.specs.Tables.{TablesAt}
+use Rattle.walk_input.proofs.Listing.{all-same}
 
 -- ---- rooms with nothing in them
 

@@ -1,4 +1,4 @@
--- `tables::tables`: each stage asks for what those before it found; the counts of loops and candidates decide 15 and 16. Assumes nothing.
+-- `walk_input::tables`: each stage asks for what those before it found; the counts of loops and candidates decide 15 and 16. Assumes nothing.
 use mathlib.Core.Path.{_≡_, refl, sym, _∙_}
 use borrow.Author.Needs.{needs}
 use denote.Ref.{now}
@@ -12,11 +12,11 @@ use Rattle.loop_table.specs.Passed.{Passed}
 use Rattle.loop_known.specs.Known.{DrawnBy}
 use Rattle.loop_known.proofs.Passed.{has-passed, rising-ends}
 use Rattle.candidates.proofs.Roomy.{rows-long}
-use Rattle.walk_words.specs.Words.{WalkTables, walkTables}
-use Rattle.tables.proofs.Tabling.{many-loops, loops-are, many-candidates, candidates-are, none-applies, rows-kept, listed, lent}
-use Rattle.tables.proofs.Tabling.{small-sixes}
-use Rattle.tables.proofs.tables.Statement.{statement}
-use Rattle.tables.proofs.tables.Tie as tie
+use Rattle.walk_tables.specs.Words.{WalkTables, walkTables}
+use Rattle.walk_input.proofs.Tabling.{many-loops, loops-are, many-candidates, candidates-are, none-applies, rows-kept, listed, lent}
+use Rattle.walk_input.proofs.Tabling.{small-sixes}
+use Rattle.walk_input.proofs.tables.Statement.{statement}
+use Rattle.walk_input.proofs.tables.Tie as tie
 
 -- ---- the ways back: from the words to the counts, to the edges' numbers, to the rules, and to the start
 

@@ -1,6 +1,6 @@
 // The words and numbers of a drawing's candidates that the walk is lent, each made once. Assumes the candidates' rows and words.
-ghost use Rattle.walk_words.specs.Words.{walkTables};
-ghost use Rattle.tables.specs.Words.{Listed, WordsAt, WordsMade};
+ghost use Rattle.walk_tables.specs.Words.{walkTables};
+ghost use Rattle.walk_input.specs.Words.{Listed, WordsAt, WordsMade};
 use loop_words::PAIRS;
 use paper::FACE_ROOM;
 use paper::MOST_CANDIDATES;

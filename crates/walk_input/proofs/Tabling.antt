@@ -28,10 +28,10 @@ use Rattle.loop_table.proofs.Rows.{rows-held}
 use Rattle.loop_table.proofs.Words.{words-held, words-later}
 use Rattle.loop_known.specs.Known.{DrawnBy}
 use Rattle.candidates.specs.Keeps.{Kept}
-use Rattle.walk_words.specs.Words.{mostSix, SmallSixes, WalkTables, Lent}
+use Rattle.walk_tables.specs.Words.{mostSix, SmallSixes, WalkTables, Lent}
 use Rattle.walk_edges.proofs.Columns.{sides-held}
-use Rattle.tables.specs.Words.{Listed, WordsMade}
-use Rattle.tables.specs.Tables.{checksOf}
+use Rattle.walk_input.specs.Words.{Listed, WordsMade}
+use Rattle.walk_input.specs.Tables.{checksOf}
 
 -- ---- a count that stops one above the most
 

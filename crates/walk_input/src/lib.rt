@@ -3,8 +3,8 @@
 pub mod rows;
 pub mod words;
 
-ghost use Rattle.walk_words.specs.Words.{walkTables};
-ghost use Rattle.tables.specs.Tables.{TablesAt, TabledIs};
+ghost use Rattle.walk_tables.specs.Words.{walkTables};
+ghost use Rattle.walk_input.specs.Tables.{TablesAt, TabledIs};
 use drawing_links::neighbours;
 use drawing_rules::drawing_rules;
 use loop_words::number_edges;
