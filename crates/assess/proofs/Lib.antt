@@ -1,2 +1,2 @@
--- Laws behind the contracts of this crate. Assumes nothing.
+-- Laws behind the contracts of this crate.
 pub mod Rooms

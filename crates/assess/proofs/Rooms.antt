@@ -1,4 +1,4 @@
--- What a conversion answers does not go by what its rooms hold, once they are large enough. Assumes nothing.
+-- What a conversion answers does not go by what its rooms hold, once they are large enough.
 use mathlib.Core.Bool.{Bool, true, false, cond}
 use mathlib.Core.List.{List, [], _∷_, _++_}
 use mathlib.Core.Path.{_≡_, refl, sym, ap, _∙_, subst}

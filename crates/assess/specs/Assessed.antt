@@ -1,4 +1,4 @@
--- The reading of a conversion whose rooms are large enough, whatever they hold. Assumes nothing.
+-- The reading of a conversion whose rooms are large enough, whatever they hold.
 use mathlib.Core.List.{List}
 use mathlib.Core.Path.{_≡_}
 use Prim.Native.Nat.{ℕ, _≤_}

@@ -1,4 +1,4 @@
--- Loops that are kept one by one: those kept so far, and those that are still to come. Assumes nothing.
+-- Loops that are kept one by one: those kept so far, and those that are still to come.
 use mathlib.Core.Bool.{Bool, true, false, not}
 use mathlib.Core.List.{List, [], _∷_, _++_, append-nil}
 use mathlib.Core.Path.{_≡_, refl, sym, ap, _∙_}

@@ -1,3 +1,3 @@
--- Laws that the proofs of this crate's functions apply. Assumes nothing.
+-- Laws that the proofs of this crate's functions apply.
 pub mod Keeping
 pub mod Roomy

@@ -1,4 +1,4 @@
--- The rooms of the candidates keep their sizes. Assumes nothing.
+-- The rooms of the candidates keep their sizes.
 use mathlib.Core.List.{List}
 use mathlib.Core.Path.{_≡_, _∙_}
 use Prim.Native.Nat.{ℕ, _≤_}

@@ -1,4 +1,4 @@
--- The candidates in a table of their own, with the words of their corners and sides. Assumes nothing.
+-- The candidates in a table of their own, with the words of their corners and sides.
 use mathlib.Core.List.{List}
 use mathlib.Core.Path.{_≡_}
 use Prim.Native.Nat.{ℕ, suc, _+_, _*_, _≤_, _<_, min}

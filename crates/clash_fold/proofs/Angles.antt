@@ -1,4 +1,4 @@
--- Corner angles: a pass over a ring's corners, each with the one before and the one after. Assumes nothing.
+-- Corner angles: a pass over a ring's corners, each with the one before and the one after.
 use mathlib.Core.Path.{_≡_, refl, _∙_, ap}
 use mathlib.Core.Bool.{Bool, true, false, not, _||_, _&&_, or-false}
 use Prim.Native.Nat.{ℕ, _+_, _≤_, _<_}

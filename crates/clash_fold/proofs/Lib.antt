@@ -1,2 +1,2 @@
--- The laws that this crate's proofs share. Assumes nothing.
+-- The laws that this crate's proofs share.
 pub mod Angles

@@ -1,4 +1,4 @@
--- What the functions of this crate ask of rows and points. Assumes nothing.
+-- What the functions of this crate ask of rows and points.
 use mathlib.Core.List.{List}
 use Prim.Native.Nat.{ℕ}
 use lib.IntN.{ℤ}

@@ -1,4 +1,4 @@
--- Clash C at one corner. Assumes nothing.
+-- Clash C at one corner.
 use mathlib.Core.Bool.{Bool, _&&_}
 use Rattle.lists.specs.Lists.{any}
 use Rattle.paper.specs.Polygon.{Polygon}

@@ -1,4 +1,4 @@
--- What the functions of this crate ask of rows, points and their distances from a plane. Assumes nothing.
+-- What the functions of this crate ask of rows, points and their distances from a plane.
 use mathlib.Core.List.{List}
 use Prim.Native.Nat.{ℕ}
 use lib.IntN.{ℤ}

@@ -1,2 +1,2 @@
--- Laws behind a request that is read. Assumes nothing.
+-- Laws behind a request that is read.
 pub mod Standing

@@ -1,4 +1,4 @@
--- A request whose head stands in a room, once its items were read behind it: the head is as it was. Assumes nothing.
+-- A request whose head stands in a room, once its items were read behind it: the head is as it was.
 use mathlib.Core.List.{List, _++_}
 use mathlib.Core.Path.{_≡_, _∙_}
 use Prim.Native.Nat.{ℕ, _+_, _-_, _≤_, _<_}

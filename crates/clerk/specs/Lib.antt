@@ -1,2 +1,2 @@
--- What contracts of the program that answers over a pipe cite. Assumes nothing.
+-- What contracts of the program that answers over a pipe cite.
 pub mod Read

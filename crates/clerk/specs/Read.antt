@@ -1,4 +1,4 @@
--- A request that was read stands at the start of its room. Assumes nothing.
+-- A request that was read stands at the start of its room.
 use mathlib.Core.List.{List}
 use mathlib.Core.Path.{_≡_}
 use Prim.Native.Nat.{ℕ, _≤_}

@@ -1,4 +1,4 @@
--- What the functions leave in rooms of zeros are the parts of each reply. Assumes nothing.
+-- What the functions leave in rooms of zeros are the parts of each reply.
 use mathlib.Core.Bool.{Bool, cond}
 use mathlib.Core.List.{List, [], _++_}
 use mathlib.Core.Logic.{⊎-elim}

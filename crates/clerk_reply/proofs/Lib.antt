@@ -1,4 +1,4 @@
--- Laws behind replies. Assumes nothing.
+-- Laws behind replies.
 pub mod Replying
 pub mod Reading
 pub mod Lent

@@ -1,4 +1,4 @@
--- A volume is a number, since what is divided by is one and not 0: so it has bits. Assumes nothing.
+-- A volume is a number, since what is divided by is one and not 0: so it has bits.
 use mathlib.Core.Bool.{Bool, true, false, not, cond}
 use mathlib.Core.Path.{_≡_, refl, sym, ap, _∙_, subst}
 use Prim.Native.Nat.{ℕ, zero, suc, _+_, _-_, _*_, _/_, _%_, _^_, compare}

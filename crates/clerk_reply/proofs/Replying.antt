@@ -1,4 +1,4 @@
--- Bytes that are put as a reply: there is room, they are as many as the kind says, or there are none. Assumes nothing.
+-- Bytes that are put as a reply: there is room, they are as many as the kind says, or there are none.
 use mathlib.Core.List.{List, [], _++_}
 use mathlib.Core.Logic.{inl, inr}
 use mathlib.Core.Path.{_≡_, refl}

@@ -1,4 +1,4 @@
--- What is said, as the code holds it. Assumes nothing.
+-- What is said, as the code holds it.
 use mathlib.Core.List.{List}
 use mathlib.Core.Path.{_≡_}
 use Prim.Native.Nat.{ℕ}

@@ -1,4 +1,4 @@
--- docs/PIPE.md, "A reply": the bytes of each kind. "Rooms are as a function leaves them that was lent zeros." Assumes nothing.
+-- docs/PIPE.md, "A reply": the bytes of each kind. "Rooms are as a function leaves them that was lent zeros."
 use mathlib.Core.List.{List, [], _∷_, _++_}
 use mathlib.Core.Logic.{_⊎_}
 use mathlib.Core.Option.{Option, none, some}

@@ -1,4 +1,4 @@
--- docs/PIPE.md, "A request": its parts, and the reply by its kind. Assumes nothing.
+-- docs/PIPE.md, "A request": its parts, and the reply by its kind.
 use mathlib.Core.Bool.{cond}
 use mathlib.Core.List.{List, [], _∷_}
 use Prim.Native.Nat.{ℕ, _+_, _/_, _%_, _≤_}

@@ -1,4 +1,4 @@
--- What is read back is what was put: a word from its bytes, and a number from its word. Assumes nothing.
+-- What is read back is what was put: a word from its bytes, and a number from its word.
 use mathlib.Core.Bool.{Bool, cond}
 use mathlib.Core.Path.{_≡_, ap, _∙_}
 use Prim.Native.Nat.{ℕ, suc, _+_, _-_, _*_, _/_, _%_, _^_, _<_}

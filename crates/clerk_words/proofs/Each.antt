@@ -1,4 +1,4 @@
--- The entries of a list as bytes, one by one: what is left of them. Assumes nothing.
+-- The entries of a list as bytes, one by one: what is left of them.
 use mathlib.Core.List.{List, [], _++_, flatMap}
 use mathlib.Core.Path.{_≡_, ap}
 use Prim.Native.Nat.{ℕ, _+_, _≤_, _<_}

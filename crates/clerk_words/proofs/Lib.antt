@@ -1,4 +1,4 @@
--- Laws behind words as bytes. Assumes nothing.
+-- Laws behind words as bytes.
 pub mod Back
 pub mod Each
 pub mod Long

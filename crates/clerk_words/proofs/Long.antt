@@ -1,4 +1,4 @@
--- How many bytes words and numbers are. Assumes nothing.
+-- How many bytes words and numbers are.
 use mathlib.Core.List.{List}
 use mathlib.Core.Path.{_≡_, refl}
 use Prim.Native.Nat.{ℕ, _*_}

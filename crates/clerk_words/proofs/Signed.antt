@@ -1,4 +1,4 @@
--- A signed number and its two's complement: −1 less the one leads to the other. Assumes nothing.
+-- A signed number and its two's complement: −1 less the one leads to the other.
 use mathlib.Core.Bool.{Bool, true, false, cond, true≢false}
 use mathlib.Core.Path.{_≡_, refl, sym, ap, _∙_, subst}
 use Prim.Native.Nat.{ℕ, zero, suc, _-_, _^_, _≤_, _<_}

@@ -1,2 +1,2 @@
--- What contracts on words as bytes cite. Assumes nothing.
+-- What contracts on words as bytes cite.
 pub mod Words

@@ -1,5 +1,4 @@
 -- docs/PIPE.md: "Words are eight bytes and lengths two, high byte first. A word that stands for a coordinate is its two's complement."
--- Assumes nothing.
 use mathlib.Core.Bool.{cond}
 use mathlib.Core.List.{List, [], _∷_, map, flatMap}
 use Prim.Native.Nat.{ℕ, zero, suc, _+_, _-_, _*_, _/_, _%_, _^_, _≤_}

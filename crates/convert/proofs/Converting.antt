@@ -1,4 +1,4 @@
--- A conversion goes by its checks: the first that applies, or what the walk came to. Assumes nothing.
+-- A conversion goes by its checks: the first that applies, or what the walk came to.
 use mathlib.Core.List.{List, _++_, append-assoc}
 use mathlib.Core.Path.{_≡_, sym, ap, _∙_}
 use Prim.Native.Nat.{ℕ, _≤_, _<_}

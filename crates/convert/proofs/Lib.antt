@@ -1,4 +1,4 @@
--- Laws behind the contracts of this crate. Assumes nothing.
+-- Laws behind the contracts of this crate.
 pub mod Walking
 pub mod Converting
 pub mod Sheets

@@ -1,4 +1,4 @@
--- The lists that an accepted sheet holds are converted as those of the drawing that is read. Assumes nothing.
+-- The lists that an accepted sheet holds are converted as those of the drawing that is read.
 use mathlib.Core.List.{List}
 use mathlib.Core.Path.{_≡_}
 use Prim.Native.Nat.{ℕ, _≤_}

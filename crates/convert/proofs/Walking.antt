@@ -1,4 +1,4 @@
--- From the tables of a drawing to the walk of them. Assumes nothing.
+-- From the tables of a drawing to the walk of them.
 use mathlib.Core.List.{List}
 use mathlib.Core.Path.{_≡_, subst, _∙_}
 use Prim.Native.Nat.{ℕ, _/_}

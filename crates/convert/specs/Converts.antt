@@ -1,4 +1,4 @@
--- What a conversion says and leaves in the two rooms. Assumes nothing.
+-- What a conversion says and leaves in the two rooms.
 use mathlib.Core.List.{List}
 use mathlib.Core.Path.{_≡_}
 use Prim.Native.Nat.{ℕ, _≤_}

@@ -1,4 +1,4 @@
--- What the walk of a drawing that passed 3 to 10 comes to, or what refuses it. Assumes nothing.
+-- What the walk of a drawing that passed 3 to 10 comes to, or what refuses it.
 use mathlib.Core.List.{List}
 use mathlib.Core.Path.{_≡_}
 use Prim.Native.Nat.{ℕ, _≤_}

@@ -1,4 +1,4 @@
--- What equals document 01's definition has what is proved of the definition. Assumes nothing.
+-- What equals document 01's definition has what is proved of the definition.
 use mathlib.Core.Bool.{Bool, true, false, cond}
 use mathlib.Core.List.{List, _++_}
 use mathlib.Core.Path.{_≡_, refl, sym, ap, _∙_, subst}

@@ -1,2 +1,2 @@
--- From a function's contract to the customer's demand. Assumes nothing.
+-- From a function's contract to the customer's demand.
 pub mod Demanding

@@ -1,4 +1,4 @@
--- The customer's demands of what one call returns and leaves in the lists that were lent. Assumes nothing.
+-- The customer's demands of what one call returns and leaves in the lists that were lent.
 use mathlib.Core.Logic.{_↔_}
 use mathlib.Core.List.{List, _++_}
 use mathlib.Core.Path.{_≡_}

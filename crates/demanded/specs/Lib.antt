@@ -1,2 +1,2 @@
--- The customer's demands of one call. Assumes nothing.
+-- The customer's demands of one call.
 pub mod Demanded

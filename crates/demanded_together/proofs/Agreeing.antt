@@ -1,4 +1,4 @@
--- Demand 3, of a report and the lists that are checked; and each reported solid, sent as a list, is accepted. Assumes nothing.
+-- Demand 3, of a report and the lists that are checked; and each reported solid, sent as a list, is accepted.
 use mathlib.Core.Bool.{Bool, true}
 use mathlib.Core.Logic.{inl, inr}
 use mathlib.Core.List.{List, [], _∷_, flatMap}

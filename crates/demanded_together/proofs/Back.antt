@@ -1,4 +1,4 @@
--- Demand 2, of sheets: what was written reads back, and what was read is written back. Assumes nothing.
+-- Demand 2, of sheets: what was written reads back, and what was read is written back.
 use mathlib.Core.Bool.{Bool, true, false}
 use mathlib.Core.List.{List, [], _∷_, _++_}
 use mathlib.Core.Path.{_≡_, refl, sym, ap, _∙_, subst}

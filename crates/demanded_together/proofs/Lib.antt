@@ -1,4 +1,4 @@
--- From the contracts of several calls to the customer's demand. Assumes nothing.
+-- From the contracts of several calls to the customer's demand.
 pub mod Agreeing
 pub mod Back
 pub mod Twice

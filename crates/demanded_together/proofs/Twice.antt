@@ -1,4 +1,4 @@
--- Two drawings converted: the demands' sentences are of what the two calls leave. Assumes nothing.
+-- Two drawings converted: the demands' sentences are of what the two calls leave.
 use mathlib.Core.Path.{_≡_, sym, subst}
 use mathlib.Core.List.{List}
 use Prim.Native.Nat.{ℕ}

@@ -1,3 +1,3 @@
--- The customer's demands of calls that follow each other. Assumes nothing.
+-- The customer's demands of calls that follow each other.
 pub mod Together
 pub mod Twice

@@ -1,4 +1,4 @@
--- The sentences of the demands that speak of more than one call: what one leaves is handed to the next. Assumes nothing.
+-- The sentences of the demands that speak of more than one call: what one leaves is handed to the next.
 use mathlib.Core.Bool.{Bool, true}
 use mathlib.Core.Logic.{_↔_}
 use mathlib.Core.List.{List, _++_, flatMap}

@@ -1,4 +1,4 @@
--- T-13, of two calls: two drawings converted, each in rooms of its own. Assumes nothing.
+-- T-13, of two calls: two drawings converted, each in rooms of its own.
 use mathlib.Core.List.{List}
 use Prim.Native.Nat.{ℕ}
 use Rattle.demands.specs.Input.{Input}

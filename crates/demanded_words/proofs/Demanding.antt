@@ -1,4 +1,4 @@
--- From what is told in words to the customer's demand: what equals document 01's definition has what is proved of it. Assumes nothing.
+-- From what is told in words to the customer's demand: what equals document 01's definition has what is proved of it.
 use mathlib.Core.Logic.{_↔_, Iff·trans}
 use mathlib.Core.List.{List, _++_}
 use mathlib.Core.Path.{_≡_, refl, sym, ap, _∙_, subst}

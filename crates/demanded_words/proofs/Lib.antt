@@ -1,4 +1,4 @@
--- From what is told in words to the customer's demand. Assumes nothing.
+-- From what is told in words to the customer's demand.
 pub mod Numbers
 pub mod Demanding
 pub mod Lists

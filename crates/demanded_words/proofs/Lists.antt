@@ -1,4 +1,4 @@
--- A sheet read into two lent lists: 3 to 10, then 1, are the lines of the table. Assumes nothing.
+-- A sheet read into two lent lists: 3 to 10, then 1, are the lines of the table.
 use mathlib.Core.Logic.{_↔_}
 use mathlib.Core.List.{List, [], _++_}
 use mathlib.Core.Path.{_≡_, refl, sym, ap, _∙_, subst}

@@ -1,4 +1,4 @@
--- Which number is said of a conversion's answer, and of its reading. Assumes nothing.
+-- Which number is said of a conversion's answer, and of its reading.
 use mathlib.Core.Logic.{_↔_}
 use mathlib.Core.List.{List, [], _∷_}
 use mathlib.Core.Path.{_≡_, refl, sym, ap, _∙_, subst}

@@ -1,4 +1,4 @@
--- The desk's text tells a conversion of which the demands hold, or there is 1 and the room as it came. Assumes nothing.
+-- The desk's text tells a conversion of which the demands hold, or there is 1 and the room as it came.
 use mathlib.Core.List.{List, []}
 use mathlib.Core.Path.{_≡_, refl, sym, ap, _∙_, subst}
 use Prim.Native.Nat.{ℕ, _≤_, _<_}

@@ -1,4 +1,4 @@
--- The customer's demands of the desk's text. Assumes nothing.
+-- The customer's demands of the desk's text.
 use mathlib.Core.List.{List}
 use mathlib.Core.Path.{_≡_}
 use Prim.Native.Nat.{ℕ, _≤_, _<_}

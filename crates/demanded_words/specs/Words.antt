@@ -1,5 +1,5 @@
 -- The customer's demands of one call by a program in C or Rust: of the number that is returned, and of every word, double and list that was
--- lent. Assumes nothing.
+-- lent.
 use mathlib.Core.Logic.{_↔_}
 use mathlib.Core.Bool.{Bool}
 use mathlib.Core.List.{List, [], _∷_, _++_}

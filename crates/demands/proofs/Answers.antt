@@ -1,4 +1,4 @@
--- Every refusal has a number of the table, which is above 0; so what is said of an answer tells which it is. Assumes nothing.
+-- Every refusal has a number of the table, which is above 0; so what is said of an answer tells which it is.
 use mathlib.Core.Path.{_≡_, refl, subst}
 use mathlib.Core.Logic.{inl, inr}
 use mathlib.Core.List.{List}

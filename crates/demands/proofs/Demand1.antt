@@ -1,4 +1,4 @@
--- Demand 1 holds. Assumes nothing.
+-- Demand 1 holds.
 use mathlib.Core.Path.{_≡_, refl, sym, ap, subst, _∙_}
 use mathlib.Core.Bool.{not}
 use mathlib.Core.Logic.{inl, inr}

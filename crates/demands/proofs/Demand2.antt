@@ -1,4 +1,4 @@
--- Demand 2 holds. Assumes nothing.
+-- Demand 2 holds.
 use mathlib.Core.Path.{_≡_, refl, sym, subst, _∙_}
 use mathlib.Core.List.{List}
 use Prim.Native.Nat.{ℕ, _<_}

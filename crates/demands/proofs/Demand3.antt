@@ -1,4 +1,4 @@
--- Demand 3 holds: the report's solids are what the check accepts. Assumes nothing.
+-- Demand 3 holds: the report's solids are what the check accepts.
 use mathlib.Core.Path.{_≡_, refl, sym, ap, ap₂, subst, _∙_}
 use mathlib.Core.Bool.{Bool}
 use mathlib.Core.Logic.{inl, inr}

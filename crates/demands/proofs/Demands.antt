@@ -1,4 +1,4 @@
--- The customer's three demands hold of document 01's definitions. Assumes nothing.
+-- The customer's three demands hold of document 01's definitions.
 use Rattle.demands.specs.Demands.{Demands}
 use Rattle.demands.proofs.Listed.{listed-names}
 use Rattle.demands.proofs.Demand1.{demand1}

@@ -1,4 +1,4 @@
--- What the tests of the geometry decide. Assumes nothing.
+-- What the tests of the geometry decide.
 use mathlib.Core.Path.{_≡_, refl, sym, ap, _∙_}
 use mathlib.Core.Logic.{inl, inr}
 use mathlib.Core.List.{List, [], _∷_, map}

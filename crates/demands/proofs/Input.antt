@@ -1,4 +1,4 @@
--- Both ways in which a drawing comes are one conversion and one check. Assumes nothing.
+-- Both ways in which a drawing comes are one conversion and one check.
 use mathlib.Core.Path.{_≡_, refl, _∙_}
 use mathlib.Core.List.{List, _++_}
 use Prim.Native.Nat.{ℕ}

@@ -1,4 +1,4 @@
--- The checks 1 to 16 are the lines of the table: each finds the lowest place that offends. Assumes nothing.
+-- The checks 1 to 16 are the lines of the table: each finds the lowest place that offends.
 use mathlib.Core.Path.{_≡_, sym, subst}
 use mathlib.Core.Bool.{not, _&&_, _||_}
 use mathlib.Core.List.{List, [], _++_, append-assoc}

@@ -1,4 +1,4 @@
--- What 23 to 27 speak of: a list that passes 21 and 22 names the candidates that its faces are, in its directions. Assumes nothing.
+-- What 23 to 27 speak of: a list that passes 21 and 22 names the candidates that its faces are, in its directions.
 use mathlib.Core.Path.{_≡_, sym, subst, _∙_}
 use mathlib.Core.List.{List}
 use Prim.Native.Nat.{ℕ, _<_}

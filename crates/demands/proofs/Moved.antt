@@ -1,5 +1,4 @@
--- A moved drawing, lent or on a sheet, and higher limits: each of the demands' sentences is a case of one theorem over all moves. Assumes
--- nothing.
+-- A moved drawing, lent or on a sheet, and higher limits: each of the demands' sentences is a case of one theorem over all moves.
 use mathlib.Core.Path.{_≡_, refl, sym, ap, _∙_, subst}
 use mathlib.Core.Bool.{Bool, true, false, cond}
 use mathlib.Core.Logic.{_↔_}

@@ -1,4 +1,4 @@
--- Six volumes of a solid is the same from every point, for its faces' normals add up to (0,0,0). Assumes nothing.
+-- Six volumes of a solid is the same from every point, for its faces' normals add up to (0,0,0).
 use mathlib.Core.Path.{_≡_, refl, sym, ap, ap₂, _∙_}
 use mathlib.Core.Bool.{Bool}
 use mathlib.Core.List.{List, [], _∷_}

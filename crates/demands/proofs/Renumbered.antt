@@ -1,4 +1,4 @@
--- Drawings with new numbers: the same rule, and the same solids. Assumes nothing.
+-- Drawings with new numbers: the same rule, and the same solids.
 use mathlib.Core.Path.{_≡_, refl, sym, ap, _∙_, subst}
 use mathlib.Core.Option.{none}
 use mathlib.Core.List.{List, _++_}

@@ -1,4 +1,4 @@
--- The faces of a solid, as they are read from the rows and words of a report. Assumes nothing.
+-- The faces of a solid, as they are read from the rows and words of a report.
 use mathlib.Core.Path.{_≡_, refl, ap, _∙_}
 use mathlib.Core.Bool.{Bool}
 use mathlib.Core.List.{List, [], _∷_, _++_, flatMap}

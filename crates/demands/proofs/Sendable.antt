@@ -1,4 +1,4 @@
--- Faces that name a solid, in any order and from any starts, can be sent as a face list, in 338 bytes. Assumes nothing.
+-- Faces that name a solid, in any order and from any starts, can be sent as a face list, in 338 bytes.
 use mathlib.Core.Path.{_≡_, sym, _∙_}
 use mathlib.Core.Bool.{Bool, true, false, cond}
 use mathlib.Core.Option.{none}

@@ -1,4 +1,4 @@
--- The shape of a face list: 20 is asked just where it is no good shape, and likewise of faces that are to be sent. Assumes nothing.
+-- The shape of a face list: 20 is asked just where it is no good shape, and likewise of faces that are to be sent.
 use mathlib.Core.Path.{ap}
 use mathlib.Core.Bool.{not, _||_}
 use mathlib.Core.List.{List, []}

@@ -1,4 +1,4 @@
--- Demand 2 holds of sheets. Assumes nothing.
+-- Demand 2 holds of sheets.
 use mathlib.Core.Path.{_≡_, refl, sym, ap₂, _∙_}
 use mathlib.Core.List.{List}
 use Prim.Native.Nat.{ℕ, _/_}

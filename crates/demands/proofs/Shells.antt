@@ -1,4 +1,4 @@
--- The checks 21 to 27 are the lines of the table: each finds the lowest place that offends. Assumes nothing.
+-- The checks 21 to 27 are the lines of the table: each finds the lowest place that offends.
 use mathlib.Core.Path.{_≡_, refl, sym, ap, subst, _∙_}
 use mathlib.Core.Bool.{Bool, true, false, not}
 use mathlib.Core.Logic.{inl, inr}

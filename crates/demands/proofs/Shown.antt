@@ -1,5 +1,5 @@
 -- Readings and the desk's text follow the conversion. In a mirrored drawing's text only the faces' signs differ: each candidate that is
--- printed is a taken one, and no other byte is a plus or a minus. Assumes nothing.
+-- printed is a taken one, and no other byte is a plus or a minus.
 use mathlib.Core.Path.{_≡_, refl, sym, ap, _∙_, subst}
 use mathlib.Core.Bool.{Bool, true, false, not, _&&_, cond}
 use mathlib.Core.List.{List, [], _∷_, _++_, map, map-append, flatMap}

@@ -1,4 +1,4 @@
--- A solid, cover and candidates in words are those of the tests. Assumes nothing.
+-- A solid, cover and candidates in words are those of the tests.
 use mathlib.Core.Path.{_≡_, refl, sym, subst}
 use mathlib.Core.Bool.{Bool, true, false, not, _&&_}
 use mathlib.Core.Logic.{_⊎_, inl, inr}

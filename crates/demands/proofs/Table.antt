@@ -1,4 +1,4 @@
--- What the first of some checks says of the lines of a table. Assumes nothing.
+-- What the first of some checks says of the lines of a table.
 use mathlib.Core.Path.{_≡_, refl, sym, subst}
 use mathlib.Core.Bool.{Bool, true, false}
 use mathlib.Core.Option.{Option, none, some}

@@ -1,4 +1,4 @@
--- Two conversions side by side: each sentence is the demand's own, with equal limits and rooms put in. Assumes nothing.
+-- Two conversions side by side: each sentence is the demand's own, with equal limits and rooms put in.
 use mathlib.Core.Path.{_≡_, sym, ap, _∙_, subst}
 use mathlib.Core.List.{List}
 use Prim.Native.Nat.{ℕ}

@@ -1,4 +1,4 @@
--- The walk in words: an edge of a sweep, the choice, and the selections that pass. Assumes nothing.
+-- The walk in words: an edge of a sweep, the choice, and the selections that pass.
 use mathlib.Core.Path.{_≡_, refl}
 use mathlib.Core.Bool.{Bool}
 use mathlib.Core.List.{List, [], _∷_}

@@ -1,4 +1,4 @@
--- Sheets and face lists, read and written: 3 to 10, 20 and 1 are the lines of the table, and a refusal leaves the room. Assumes nothing.
+-- Sheets and face lists, read and written: 3 to 10, 20 and 1 are the lines of the table, and a refusal leaves the room.
 use mathlib.Core.Path.{_≡_, refl, sym, ap, subst}
 use mathlib.Core.Bool.{Bool, true, false, cond, not, _||_}
 use mathlib.Core.Logic.{inl}

@@ -1,4 +1,4 @@
--- What is said of each answer: a number of the table, a place and values, and that these tell which answer it is. Assumes nothing.
+-- What is said of each answer: a number of the table, a place and values, and that these tell which answer it is.
 use mathlib.Core.Path.{_≡_}
 use mathlib.Core.List.{List}
 use Prim.Native.Nat.{ℕ, _≤_, _<_}

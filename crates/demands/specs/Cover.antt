@@ -1,4 +1,4 @@
--- Loops, cover and candidates in words: no test and no search. Assumes nothing.
+-- Loops, cover and candidates in words: no test and no search.
 use mathlib.Core.Path.{_≡_}
 use mathlib.Core.Logic.{_⊎_}
 use Prim.Native.Nat.{ℕ, _+_, _<_}

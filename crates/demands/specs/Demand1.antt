@@ -1,4 +1,4 @@
--- The customer's demand 1, of every input. Assumes nothing.
+-- The customer's demand 1, of every input.
 use mathlib.Core.Path.{_≡_}
 use mathlib.Core.List.{List}
 use Prim.Native.Nat.{ℕ, _/_, _≤_, _<_}

@@ -1,4 +1,4 @@
--- The customer's demand 2, of a drawing lent as two lists and of one on a sheet; sheets are in Sheets. Assumes nothing.
+-- The customer's demand 2, of a drawing lent as two lists and of one on a sheet; sheets are in Sheets.
 use mathlib.Core.Path.{_≡_}
 use mathlib.Core.Bool.{Bool}
 use mathlib.Core.Logic.{_↔_}

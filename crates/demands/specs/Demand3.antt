@@ -1,4 +1,4 @@
--- The customer's demand 3, of a drawing lent as two lists and of one on a sheet. Assumes nothing.
+-- The customer's demand 3, of a drawing lent as two lists and of one on a sheet.
 use mathlib.Core.Path.{_≡_}
 use mathlib.Core.Logic.{_↔_}
 use mathlib.Core.List.{List, _++_, flatMap}

@@ -1,4 +1,4 @@
--- The customer's three demands, one after the other, with what is said beside them. Assumes nothing.
+-- The customer's three demands, one after the other, with what is said beside them.
 use mathlib.Core.List.{List}
 use Rattle.paper.specs.Loops.{Loop}
 use Rattle.demands.specs.Input.{Input, drawing, candidatesOf, Passes}

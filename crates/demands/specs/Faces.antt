@@ -1,5 +1,5 @@
 -- What the faces of a solid are taken from, in demands 2 and 3: "Candidates are the loops that cover no other loop, numbered from 0 in
--- loop order." Assumes nothing.
+-- loop order."
 use mathlib.Core.Path.{_≡_}
 use mathlib.Core.Logic.{_↔_}
 use Prim.Native.Nat.{ℕ, _<_}

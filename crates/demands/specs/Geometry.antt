@@ -1,5 +1,5 @@
 -- The geometry's meaning, told in one place: what the tests of the definitions decide, in whole numbers and fractions of them. Rules A, B
--- and C in words are in `means_clash`, cover is in Cover. Assumes nothing.
+-- and C in words are in `means_clash`, cover is in Cover.
 use mathlib.Core.Path.{_≡_}
 use mathlib.Core.Bool.{Bool, true, false}
 use mathlib.Core.Logic.{_↔_}

@@ -1,4 +1,4 @@
--- "a higher allowed work limit changes no answer but TooLong". Assumes nothing.
+-- "a higher allowed work limit changes no answer but TooLong".
 use mathlib.Core.Path.{_≡_}
 use mathlib.Core.List.{List}
 use Prim.Native.Nat.{ℕ, _≤_}

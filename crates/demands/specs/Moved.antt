@@ -1,5 +1,5 @@
 -- "The body doesn't depend on where it was drawn": a drawing shifted within the range, mirrored in x, laid along the axes in another way,
--- and enlarged. Assumes nothing.
+-- and enlarged.
 use mathlib.Core.Path.{_≡_}
 use mathlib.Core.Bool.{Bool, true, false}
 use mathlib.Core.Logic.{_↔_}

@@ -1,4 +1,4 @@
--- Six volumes of a solid does not go by the origin: it is the same with all positions taken from any point. Assumes nothing.
+-- Six volumes of a solid does not go by the origin: it is the same with all positions taken from any point.
 use mathlib.Core.Path.{_≡_}
 use mathlib.Core.Bool.{Bool}
 use mathlib.Core.List.{List, map}

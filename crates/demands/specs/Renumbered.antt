@@ -1,4 +1,4 @@
--- "With vertices renumbered and edges sorted again, the solids are the same sets of faces under the new numbers". Assumes nothing.
+-- "With vertices renumbered and edges sorted again, the solids are the same sets of faces under the new numbers".
 use mathlib.Core.Path.{_≡_}
 use mathlib.Core.Option.{none}
 use mathlib.Core.List.{List, map}

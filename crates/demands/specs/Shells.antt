@@ -1,4 +1,4 @@
--- Document 01's table, 20 to 27: what offends of a face list, and at which places. Assumes nothing.
+-- Document 01's table, 20 to 27: what offends of a face list, and at which places.
 use mathlib.Core.Path.{_≡_}
 use mathlib.Core.Bool.{Bool}
 use mathlib.Core.Logic.{_⊎_}

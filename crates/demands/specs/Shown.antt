@@ -1,4 +1,4 @@
--- What is read and what the desk prints of a drawing that was shifted or mirrored, or with a higher limit. Assumes nothing.
+-- What is read and what the desk prints of a drawing that was shifted or mirrored, or with a higher limit.
 use mathlib.Core.Path.{_≡_}
 use mathlib.Core.Bool.{cond}
 use mathlib.Core.List.{List, map}

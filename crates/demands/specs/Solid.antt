@@ -1,5 +1,5 @@
 -- "A solid is a set of candidates such that" (i) to (v), in words; a list that has every solid once. A set of candidates is a yes or no
--- for each; so are the directions, with a yes for a face that is run against its normal form. Assumes nothing.
+-- for each; so are the directions, with a yes for a face that is run against its normal form.
 use mathlib.Core.Path.{_≡_}
 use mathlib.Core.Bool.{Bool, true}
 use mathlib.Core.List.{List}

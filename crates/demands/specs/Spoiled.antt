@@ -1,4 +1,4 @@
--- A list of faces gs that comes from a list fs by turning, leaving out or doubling faces, in any order, from any starts. Assumes nothing.
+-- A list of faces gs that comes from a list fs by turning, leaving out or doubling faces, in any order, from any starts.
 use mathlib.Core.Path.{_≡_}
 use mathlib.Core.Logic.{_⊎_}
 use mathlib.Core.List.{List}

@@ -1,4 +1,4 @@
--- Document 01's table, "What comes back", 1 to 16: what offends by each line, and at which places. Assumes nothing.
+-- Document 01's table, "What comes back", 1 to 16: what offends by each line, and at which places.
 use mathlib.Core.Path.{_≡_}
 use mathlib.Core.Logic.{_⊎_}
 use mathlib.Core.Option.{none, some}

@@ -1,4 +1,4 @@
--- Two conversions side by side: what T-13's sentences say of the two answers and all four rooms. Assumes nothing.
+-- Two conversions side by side: what T-13's sentences say of the two answers and all four rooms.
 use mathlib.Core.Path.{_≡_}
 use mathlib.Core.List.{List}
 use Prim.Native.Nat.{ℕ, _≤_, _<_}

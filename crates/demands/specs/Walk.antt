@@ -1,4 +1,4 @@
--- "The walk" in words: an edge of a sweep, the choice, the selections that pass, the work. Assumes nothing.
+-- "The walk" in words: an edge of a sweep, the choice, the selections that pass, the work.
 -- The walk is a tree of assumptions, `Tree` in means_walk/specs/Tree.antt, with no limit and no cap.
 use mathlib.Core.Path.{_≡_}
 use mathlib.Core.Bool.{Bool, true, false}

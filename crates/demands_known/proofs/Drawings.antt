@@ -1,4 +1,4 @@
--- Known drawings as they are put to the demands, and what conversion says of them: each is evaluated once. Assumes nothing.
+-- Known drawings as they are put to the demands, and what conversion says of them: each is evaluated once.
 use mathlib.Core.Path.{_≡_, refl, ap}
 use mathlib.Core.List.{List, _∷_}
 use Prim.Native.Nat.{ℕ, _<_}

@@ -1,4 +1,4 @@
--- Known drawings under the demands: so no statement is empty. Assumes nothing.
+-- Known drawings under the demands: so no statement is empty.
 pub mod Drawings
 pub mod Samples
 pub mod Moved

@@ -1,4 +1,4 @@
--- Known drawings shifted, mirrored, turned and enlarged, and with other limits: what the demands say of them, in numbers. Assumes nothing.
+-- Known drawings shifted, mirrored, turned and enlarged, and with other limits: what the demands say of them, in numbers.
 use mathlib.Core.Path.{_≡_, refl, sym, ap, ap₂, subst, _∙_}
 use mathlib.Core.Bool.{Bool, true, not, _&&_}
 use mathlib.Core.List.{List, [], _∷_, _++_, map, flatMap}

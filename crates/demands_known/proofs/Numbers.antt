@@ -1,4 +1,4 @@
--- A test of new numbers: where it says yes, two drawings differ in the vertices' numbers alone. Assumes nothing.
+-- A test of new numbers: where it says yes, two drawings differ in the vertices' numbers alone.
 use mathlib.Core.Path.{_≡_, refl, sym, _∙_}
 use mathlib.Core.Bool.{Bool, true, false, not, _&&_, _||_}
 use mathlib.Core.Logic.{_⊎_, inl, inr}

@@ -1,4 +1,4 @@
--- Known drawings with their vertices renumbered: what the demands say of them, in numbers. Assumes nothing.
+-- Known drawings with their vertices renumbered: what the demands say of them, in numbers.
 use mathlib.Core.Path.{_≡_, refl, sym, ap, _∙_, subst}
 use mathlib.Core.Bool.{Bool, true, false, not, _&&_, _||_, cond, and-comm}
 use mathlib.Core.Logic.{_⊎_, inl, inr}

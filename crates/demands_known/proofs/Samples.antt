@@ -1,4 +1,4 @@
--- Known drawings under the demands: so no statement is empty. Assumes nothing.
+-- Known drawings under the demands: so no statement is empty.
 use mathlib.Core.Path.{_≡_, refl, sym, subst, _∙_}
 use mathlib.Core.Logic.{_⊎_, inl, inr}
 use mathlib.Core.List.{List, [], _∷_}

@@ -1,4 +1,4 @@
--- What was read stands at the start of the room. Assumes nothing.
+-- What was read stands at the start of the room.
 use mathlib.Core.List.{List}
 use mathlib.Core.Path.{_≡_}
 use Prim.Native.Nat.{ℕ, _≤_}

@@ -1,2 +1,2 @@
--- What contracts of the desk program cite. Assumes nothing.
+-- What contracts of the desk program cite.
 pub mod Input

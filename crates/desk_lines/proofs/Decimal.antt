@@ -1,4 +1,4 @@
--- A number's decimal digits: one behind those of a tenth of it. Assumes nothing.
+-- A number's decimal digits: one behind those of a tenth of it.
 use mathlib.Core.List.{List, _++_}
 use mathlib.Core.Path.{_≡_, sym, ap, _∙_}
 use Prim.Native.Nat.{ℕ, zero, suc, _+_, _*_, _/_, _%_, _^_, _≤_, _<_}

@@ -1,4 +1,4 @@
--- Bytes put behind one another are put at once. Assumes nothing.
+-- Bytes put behind one another are put at once.
 use mathlib.Core.List.{List, [], _∷_, _++_, append-nil, append-assoc}
 use mathlib.Core.Path.{_≡_, refl, sym, ap, _∙_, subst, subst⁻¹}
 use Prim.Native.Nat.{ℕ, suc, _+_, _-_}

@@ -1,2 +1,2 @@
--- What contracts on parts of a line cite beside the paper. Assumes nothing.
+-- What contracts on parts of a line cite beside the paper.
 pub mod Put

@@ -1,4 +1,4 @@
--- Bytes put into a room from a place on: what is asked, and what is left. Assumes nothing.
+-- Bytes put into a room from a place on: what is asked, and what is left.
 use mathlib.Core.List.{List, [], _∷_, _++_}
 use mathlib.Core.Path.{_≡_}
 use Prim.Native.Nat.{ℕ, _+_, _≤_}

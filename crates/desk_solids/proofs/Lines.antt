@@ -1,4 +1,4 @@
--- The faces one by one, and the solids one by one: what is left of their text. Assumes nothing.
+-- The faces one by one, and the solids one by one: what is left of their text.
 use mathlib.Core.Bool.{Bool, true, false}
 use mathlib.Core.List.{List, [], _∷_, _++_, append-assoc}
 use mathlib.Core.Path.{_≡_, refl, sym, ap, _∙_}

@@ -1,2 +1,2 @@
--- What contracts on the lines of solids cite beside the paper. Assumes nothing.
+-- What contracts on the lines of solids cite beside the paper.
 pub mod Solids

@@ -1,4 +1,4 @@
--- The lines of solids in the parts in which they are put, and what is asked. Assumes nothing.
+-- The lines of solids in the parts in which they are put, and what is asked.
 use mathlib.Core.Bool.{Bool, true, false}
 use mathlib.Core.List.{List, [], _++_}
 use Prim.Native.Nat.{ℕ, _*_, _≤_, _<_}

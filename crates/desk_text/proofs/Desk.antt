@@ -1,4 +1,4 @@
--- The desk's text of a sheet is that of the conversion's answer, and no longer than the room for any. Assumes nothing.
+-- The desk's text of a sheet is that of the conversion's answer, and no longer than the room for any.
 use mathlib.Core.List.{List}
 use mathlib.Core.Path.{_≡_, refl, sym, ap, _∙_}
 use Prim.Native.Nat.{ℕ, _≤_, _<_}

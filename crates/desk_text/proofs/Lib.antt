@@ -1,4 +1,4 @@
--- Laws behind the contracts of this crate, and how long a text is. Assumes nothing.
+-- Laws behind the contracts of this crate, and how long a text is.
 pub mod Parts
 pub mod Short
 pub mod Desk

@@ -1,4 +1,4 @@
--- The text of an answer is made of the parts in which it is put. Assumes nothing.
+-- The text of an answer is made of the parts in which it is put.
 use mathlib.Core.List.{List, _++_, append-assoc}
 use mathlib.Core.Path.{_≡_, refl, sym, ap, _∙_}
 use Prim.Native.Nat.{ℕ}

@@ -1,4 +1,4 @@
--- How long the desk's text is at most: a number has at most 20 digits, a candidate's number at most 2. Assumes nothing.
+-- How long the desk's text is at most: a number has at most 20 digits, a candidate's number at most 2.
 use mathlib.Core.Bool.{Bool, true, false, cond}
 use mathlib.Core.List.{List, [], _∷_, _++_}
 use mathlib.Core.Path.{_≡_, refl, ap}

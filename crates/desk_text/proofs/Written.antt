@@ -1,4 +1,4 @@
--- A text written to a lent room, or refusal 1: what is answered, said and left. Assumes nothing.
+-- A text written to a lent room, or refusal 1: what is answered, said and left.
 use mathlib.Core.List.{List, _++_}
 use mathlib.Core.Path.{_≡_, sym, ap, _∙_, subst}
 use Prim.Native.Nat.{ℕ, _+_, _≤_, _<_}

@@ -1,3 +1,3 @@
--- What contracts on the desk's text cite beside the paper. Assumes nothing.
+-- What contracts on the desk's text cite beside the paper.
 pub mod Written
 pub mod Texts

@@ -1,4 +1,4 @@
--- The desk's text in the parts in which it is put, and what is asked. Assumes nothing.
+-- The desk's text in the parts in which it is put, and what is asked.
 use mathlib.Core.List.{List, _++_}
 use mathlib.Core.Path.{_≡_}
 use Prim.Native.Nat.{ℕ, _*_, _≤_}

@@ -1,4 +1,4 @@
--- A text written to the start of a lent room: the answer, by its number and value too, and the room at exit. Assumes nothing.
+-- A text written to the start of a lent room: the answer, by its number and value too, and the room at exit.
 use mathlib.Core.List.{List, [], _∷_, _++_}
 use Prim.Native.Nat.{ℕ}
 use lib.Dec.{ltb}

@@ -1,4 +1,4 @@
--- The edges of the lent list, by their places. Assumes nothing.
+-- The edges of the lent list, by their places.
 use mathlib.Core.Path.{_≡_, refl, _∙_}
 use mathlib.Core.Bool.{false, _||_, _&&_, and-false}
 use mathlib.Core.List.{List, [], _∷_}

@@ -1,5 +1,5 @@
 -- What is reached from vertex 0: a set of vertices by its digits, against a row of them; and that nothing is added once a step adds
--- nothing. Assumes nothing.
+-- nothing.
 use Rattle.drawing_links.specs.Reach.{Stands, Grown}
 use mathlib.Core.Path.{_≡_, sym, ap, _∙_}
 use mathlib.Core.Bool.{Bool, false, _||_, _&&_}

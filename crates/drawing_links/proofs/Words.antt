@@ -1,4 +1,4 @@
--- The neighbour words: what they say of the edges, how they grow with each edge, and when one is zero. Assumes nothing.
+-- The neighbour words: what they say of the edges, how they grow with each edge, and when one is zero.
 use mathlib.Core.Path.{_≡_, refl, sym, ap, _∙_}
 use mathlib.Core.Bool.{Bool, true, false, not, _||_, _&&_, true≢false, or-assoc, and-true}
 use mathlib.Core.List.{List, [], _∷_, map}

@@ -1,4 +1,4 @@
--- Neighbours as one word for each vertex: digit w of word u says whether an edge joins u and w. Assumes nothing.
+-- Neighbours as one word for each vertex: digit w of word u says whether an edge joins u and w.
 use Rattle.paper_laws.specs.InRange.{Ends}
 use mathlib.Core.Path.{_≡_}
 use mathlib.Core.List.{List, map}

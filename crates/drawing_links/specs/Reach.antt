@@ -1,4 +1,4 @@
--- Sets of a drawing's vertices, as the digits of a word. Assumes nothing.
+-- Sets of a drawing's vertices, as the digits of a word.
 use mathlib.Core.Path.{_≡_}
 use mathlib.Core.Bool.{Bool, false, _||_, _&&_}
 use mathlib.Core.List.{List}

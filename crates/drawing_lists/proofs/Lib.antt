@@ -1,2 +1,2 @@
--- The laws that this crate's proofs share, and that its callers cite. Assumes nothing.
+-- The laws that this crate's proofs share, and that its callers cite.
 pub mod Range

@@ -1,4 +1,4 @@
--- Lists that pass 5 and 8 to 10 are a drawing in range. Assumes nothing.
+-- Lists that pass 5 and 8 to 10 are a drawing in range.
 use mathlib.Core.Path.{_≡_}
 use mathlib.Core.List.{List}
 use Prim.Native.Nat.{ℕ, _*_, _/_, _≤_}

@@ -1,4 +1,4 @@
--- A list of points in which one is put, and the lists of boxes as they are filled. Assumes nothing.
+-- A list of points in which one is put, and the lists of boxes as they are filled.
 use mathlib.Core.Path.{_≡_, _∙_}
 use mathlib.Core.List.{List}
 use Prim.Native.Nat.{ℕ, _+_, _*_, _<_}

@@ -1,4 +1,4 @@
--- The laws that this crate's proofs share. Assumes nothing.
+-- The laws that this crate's proofs share.
 pub mod Vertices
 pub mod Corners
 pub mod Meeting

@@ -1,4 +1,4 @@
--- Pairs of edges on the lent lists are those of the drawing. Assumes nothing.
+-- Pairs of edges on the lent lists are those of the drawing.
 use mathlib.Core.Path.{_≡_, refl, sym, ap, _∙_, subst}
 use mathlib.Core.Bool.{Bool, true, false, _||_}
 use mathlib.Core.Logic.{_⊎_, inl, inr}

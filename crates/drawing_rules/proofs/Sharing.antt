@@ -1,4 +1,4 @@
--- The test of rule 11 on the lent list is that on the drawing. Assumes nothing.
+-- The test of rule 11 on the lent list is that on the drawing.
 use mathlib.Core.Path.{_≡_, sym, ap, _∙_}
 use mathlib.Core.Bool.{Bool}
 use mathlib.Core.List.{List}

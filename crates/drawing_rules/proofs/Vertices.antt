@@ -1,4 +1,4 @@
--- The vertices of the lent list, by their places. Assumes nothing.
+-- The vertices of the lent list, by their places.
 use mathlib.Core.Path.{_≡_, ap, _∙_}
 use mathlib.Core.List.{List}
 use Prim.Native.Nat.{ℕ, _+_, _*_, _<_}

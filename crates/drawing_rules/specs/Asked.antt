@@ -1,4 +1,4 @@
--- What the functions of this crate ask of the lent lists. Assumes nothing.
+-- What the functions of this crate ask of the lent lists.
 use mathlib.Core.Path.{_≡_}
 use mathlib.Core.List.{List}
 use mathlib.Core.Option.{none}

@@ -1,4 +1,4 @@
--- A list of points by its coordinates, three a point, and the boxes of edges in two such lists. Assumes nothing.
+-- A list of points by its coordinates, three a point, and the boxes of edges in two such lists.
 use mathlib.Core.List.{List}
 use Prim.Native.Nat.{ℕ, _+_, _*_}
 use lib.IntN.{ℤ}

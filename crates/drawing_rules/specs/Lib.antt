@@ -1,4 +1,4 @@
--- What contracts of this crate cite beside the paper. Assumes nothing.
+-- What contracts of this crate cite beside the paper.
 pub mod Meets
 pub mod Boxes
 pub mod Asked

@@ -1,4 +1,4 @@
--- The tests of rules 11 and 13 on the lent lists and on the drawing. Assumes nothing.
+-- The tests of rules 11 and 13 on the lent lists and on the drawing.
 use mathlib.Core.Path.{_≡_}
 use mathlib.Core.Bool.{Bool, _||_}
 use mathlib.Core.List.{List, [], _∷_}

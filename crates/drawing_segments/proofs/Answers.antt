@@ -1,4 +1,4 @@
--- Both answers of a pair of segments, by whether they are of one direction. Assumes nothing.
+-- Both answers of a pair of segments, by whether they are of one direction.
 use mathlib.Core.Bool.{Bool, false, cond}
 use mathlib.Core.Path.{_∙_, _≡_, ap, sym}
 use Rattle.paper.specs.Drawing.{openMeets}

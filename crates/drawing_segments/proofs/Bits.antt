@@ -1,4 +1,4 @@
--- Numbers that the machine compares by their bits. Assumes nothing.
+-- Numbers that the machine compares by their bits.
 use mathlib.Core.Bool.{Bool, cond}
 use mathlib.Core.Path.{_∙_, _≡_, ap, sym}
 use Prim.Native.Nat.{_^_, _<_}

@@ -1,3 +1,3 @@
--- The laws that this crate's proofs share. Assumes nothing.
+-- The laws that this crate's proofs share.
 pub mod Bits
 pub mod Answers

@@ -1,4 +1,4 @@
--- What the functions of this crate ask of points and directions. Assumes nothing.
+-- What the functions of this crate ask of points and directions.
 use mathlib.Core.Path.{_≡_}
 use mathlib.Core.Bool.{Bool, true}
 use Rattle.paper.specs.Numbers.{farthest}

@@ -1,4 +1,4 @@
--- Boxes, and both answers of a pair of segments, as the code holds them. Assumes nothing.
+-- Boxes, and both answers of a pair of segments, as the code holds them.
 use mathlib.Core.Bool.{Bool, _&&_}
 use Rattle.paper.specs.Points.{dot, cross, minus, isZero, isOrigin}
 use Rattle.paper.specs.Drawing.{cutsOpen, openMeets}

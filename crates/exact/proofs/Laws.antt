@@ -1,4 +1,4 @@
--- The laws of ℤ as a commutative ring that `lib.IntN` does not have: of products with products, sums and negations. Assumes nothing.
+-- The laws of ℤ as a commutative ring that `lib.IntN` does not have: of products with products, sums and negations.
 use mathlib.Core.Path.{_≡_, sym, _∙_, ap}
 use Prim.Native.Nat.{zero, suc}
 use lib.IntN.{ℤ, pos, negsuc, sucℤ, predℤ, negℤ, negℤ-negℤ, _+ℤ_, _-ℤ_, _*ℤ_, +ℤ-idl, +ℤ-idr, +ℤ-assoc, +ℤ-comm, +ℤ-invr, +ℤ-invl}

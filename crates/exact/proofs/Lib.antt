@@ -1,4 +1,4 @@
--- The laws of whole numbers, and what answers the needs of signed code. Assumes nothing.
+-- The laws of whole numbers, and what answers the needs of signed code.
 pub mod Laws
 pub mod Ring
 pub mod Size

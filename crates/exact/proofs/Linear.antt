@@ -1,4 +1,4 @@
--- Orders of linear expressions over ℤ as orders of ℕ, where `omega` works. Assumes nothing.
+-- Orders of linear expressions over ℤ as orders of ℕ, where `omega` works.
 -- A number z is `up z` less `dn z`, two natural numbers of which one is 0, and an expression e over ρ is `Pos ρ e` less `Neg ρ e`, which
 -- compute to sums of those. So an
 -- order of two expressions is one of ℕ, which `omega` proves from the hypotheses, handed over in the same form:

@@ -1,4 +1,4 @@
--- What an expression of i64s asks and gives on the machine, from the expression alone. Assumes nothing.
+-- What an expression of i64s asks and gives on the machine, from the expression alone.
 -- The variables of an expression are numbers that the code holds in locals: parameters, results of calls, elements of a slice, a loop's
 -- variables. `bits κ e` is what the
 -- machine computes for e where the variables' locals hold the bits κ, `bound ns e` a bound on e's size where the variables have the

@@ -1,4 +1,4 @@
--- Orders with sums and products, and equations that follow from others by a polynomial identity. Assumes nothing.
+-- Orders with sums and products, and equations that follow from others by a polynomial identity.
 use mathlib.Core.Path.{_≡_, refl, sym, _∙_, ap, subst}
 use mathlib.Core.Logic.{_⊎_, inl, inr}
 use mathlib.Core.List.{List, [], _∷_}

@@ -1,4 +1,4 @@
--- A polynomial identity over ℤ by one call, of `ring`. Assumes nothing.
+-- A polynomial identity over ℤ by one call, of `ring`.
 -- `Expr` is a polynomial expression over variables that are numbered from 0, `eval ρ e` its value where the list ρ has the variables'
 -- values, and `norm` its normal
 -- form, a sorted list of terms, each a sorted list of variables with a coefficient. antt computes `norm`, and `ring` says that two

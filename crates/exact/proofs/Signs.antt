@@ -1,4 +1,4 @@
--- Signs of whole numbers, zero products, orders as tests, and the orders `<` and `≤`: from each to the others. Assumes nothing.
+-- Signs of whole numbers, zero products, orders as tests, and the orders `<` and `≤`: from each to the others.
 use mathlib.Core.Path.{_≡_, refl, sym, _∙_, ap, subst}
 use mathlib.Core.Bool.{Bool, true, false, not}
 use mathlib.Core.Logic.{_⊎_, inl, inr}

@@ -1,5 +1,4 @@
 -- How `Within`, the bound on a number's size, passes through sums, differences and products, and that such a number fits the machine.
--- Assumes nothing.
 use mathlib.Core.Path.{_≡_, refl, sym, subst}
 use mathlib.Core.Bool.{Bool, true, false, not, cond}
 use Prim.Native.Nat.{ℕ, zero, suc, _+_, _*_, _-_, _^_, _≤_, _<_}

@@ -1,4 +1,4 @@
--- The sign of a whole number. Assumes nothing.
+-- The sign of a whole number.
 use Prim.Native.Nat.{zero, suc}
 use lib.IntN.{ℤ, pos, negsuc}
 

@@ -1,4 +1,4 @@
--- The size of a whole number: `Within n z` says |z| ≤ n. Assumes nothing.
+-- The size of a whole number: `Within n z` says |z| ≤ n.
 use Prim.Native.Nat.{ℕ, _≤_}
 use lib.IntN.{ℤ, natAbs}
 

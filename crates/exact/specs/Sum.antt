@@ -1,4 +1,4 @@
--- Whole numbers added up. Assumes nothing.
+-- Whole numbers added up.
 use mathlib.Core.List.{List, [], _∷_}
 use lib.IntN.{ℤ, pos, _+ℤ_}
 

@@ -1,4 +1,4 @@
--- A drawing handed over in two lent lists: what is said by the lengths of the lists, and of a sheet that was read. Assumes nothing.
+-- A drawing handed over in two lent lists: what is said by the lengths of the lists, and of a sheet that was read.
 use mathlib.Core.Bool.{Bool, true, false}
 use mathlib.Core.List.{List, [], _∷_, _++_}
 use mathlib.Core.Path.{_≡_, refl, sym, ap, _∙_, subst}

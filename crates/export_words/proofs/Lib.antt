@@ -1,4 +1,4 @@
--- How answers are told. Assumes nothing.
+-- How answers are told.
 pub mod Telling
 pub mod Handing
 pub mod Showing

@@ -1,4 +1,4 @@
--- A reading shown in a lent double, as far as one was lent. Assumes nothing.
+-- A reading shown in a lent double, as far as one was lent.
 use mathlib.Core.List.{List, [], _∷_, _++_}
 use mathlib.Core.Path.{_≡_, refl, sym, ap, subst}
 use Prim.Native.Nat.{ℕ, _≤_, _<_}

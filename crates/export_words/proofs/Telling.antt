@@ -1,4 +1,4 @@
--- Entries written to the start of a room as far as it reaches, and answers told so. Assumes nothing.
+-- Entries written to the start of a room as far as it reaches, and answers told so.
 use mathlib.Core.List.{List, _∷_, _++_}
 use mathlib.Core.Path.{_≡_, sym, ap, _∙_, subst}
 use Prim.Native.Nat.{ℕ, suc, _≤_, _<_}

@@ -1,4 +1,4 @@
--- A sheet read into two lent lists: "Reading a sheet applies refusals 3 to 10", and then 1 where a list is too short. Assumes nothing.
+-- A sheet read into two lent lists: "Reading a sheet applies refusals 3 to 10", and then 1 where a list is too short.
 use mathlib.Core.List.{List, [], _∷_, _++_}
 use mathlib.Core.Path.{_≡_}
 use Prim.Native.Nat.{ℕ, _*_}

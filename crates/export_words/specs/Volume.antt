@@ -1,4 +1,4 @@
--- A reading as a number and a lent double. Assumes nothing.
+-- A reading as a number and a lent double.
 use mathlib.Core.List.{List, [], _∷_}
 use mathlib.Core.Option.{Option, none, some}
 use mathlib.Core.Path.{_≡_}

@@ -1,4 +1,4 @@
--- What an answer says, in words, and where they are written. Assumes nothing.
+-- What an answer says, in words, and where they are written.
 use mathlib.Core.List.{List, _∷_, _++_}
 use mathlib.Core.Path.{_≡_}
 use Prim.Native.Nat.{ℕ, _≤_}

@@ -1,4 +1,4 @@
--- The faces of a packed list, by the bit at which each starts. Assumes nothing.
+-- The faces of a packed list, by the bit at which each starts.
 use mathlib.Core.Path.{_≡_, refl, sym, ap, _∙_}
 use mathlib.Core.List.{List, [], _∷_}
 use Prim.Native.Nat.{ℕ, zero, suc, _+_, _*_, _≤_, _<_}

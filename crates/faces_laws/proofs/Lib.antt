@@ -1,4 +1,4 @@
--- What follows from the definitions of face lists. Assumes nothing.
+-- What follows from the definitions of face lists.
 -- a face list and a face that pass 20
 pub mod Shape
 -- faces by the bit at which each starts; how many bits there are

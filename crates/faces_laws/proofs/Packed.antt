@@ -1,4 +1,4 @@
--- The bits of faces and of a face list: how many there are, and that they are bits. Assumes nothing.
+-- The bits of faces and of a face list: how many there are, and that they are bits.
 use mathlib.Core.Path.{_≡_, refl, ap, ap₂, _∙_}
 use mathlib.Core.List.{List, [], _∷_, _++_, flatMap}
 use Prim.Native.Nat.{ℕ, _+_, _*_}

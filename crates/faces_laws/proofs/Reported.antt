@@ -1,4 +1,4 @@
--- The faces of a solid, as they are read from rows of 13 bytes and the solid's two words. Assumes nothing.
+-- The faces of a solid, as they are read from rows of 13 bytes and the solid's two words.
 use mathlib.Core.Path.{_≡_, refl, sym, ap, ap₂, _∙_}
 use mathlib.Core.Bool.{Bool, true, false, _&&_, cond}
 use mathlib.Core.List.{List, [], _∷_, _++_, map, flatMap}

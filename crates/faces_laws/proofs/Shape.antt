@@ -1,4 +1,4 @@
--- What a face list and a face are that pass 20, part by part. Assumes nothing.
+-- What a face list and a face are that pass 20, part by part.
 use mathlib.Core.Path.{_≡_}
 use mathlib.Core.Bool.{true, not, _&&_}
 use mathlib.Core.List.{List}

@@ -1,4 +1,4 @@
--- How large the numbers of a face list get. Assumes nothing.
+-- How large the numbers of a face list get.
 use Prim.Native.Nat.{ℕ, _≤_, _*_}
 use native.Mathlib.Nat.{mul-le-mul}
 use native.Mathlib.Omega.{arith}

@@ -1,4 +1,4 @@
--- The face at a bit of a packed list, test by test. Assumes nothing.
+-- The face at a bit of a packed list, test by test.
 use mathlib.Core.Path.{_≡_, refl}
 use mathlib.Core.Bool.{Bool, true, false, _&&_, not, cond}
 use mathlib.Core.Option.{none, some}

@@ -1,4 +1,4 @@
--- The laws that this crate's proofs share. Assumes nothing.
+-- The laws that this crate's proofs share.
 -- how large numbers get, and tests in a row
 pub mod Brief
 pub mod Tests

@@ -1,4 +1,4 @@
--- The loop that reads a face list: what it has read so far, one face more, and how it ends. Assumes nothing.
+-- The loop that reads a face list: what it has read so far, one face more, and how it ends.
 use mathlib.Core.Path.{_≡_, refl, sym, ap, ap₂, subst, _∙_}
 use mathlib.Core.Bool.{Bool, true, false, _&&_, not}
 use mathlib.Core.Option.{none, some}

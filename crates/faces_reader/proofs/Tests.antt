@@ -1,4 +1,4 @@
--- Tests in a row: what one that fails decides, and what a count that is answered, or not, says of them. Assumes nothing.
+-- Tests in a row: what one that fails decides, and what a count that is answered, or not, says of them.
 use mathlib.Core.Path.{_≡_, refl, sym}
 use mathlib.Core.Bool.{Bool, true, false, _&&_, cond, true≢false}
 use mathlib.Core.Option.{none, some}

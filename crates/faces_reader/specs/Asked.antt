@@ -1,4 +1,4 @@
--- What the functions that read a list ask of their arguments. A bit is `near` so that sums in the code are small. Assumes nothing.
+-- What the functions that read a list ask of their arguments. A bit is `near` so that sums in the code are small.
 use mathlib.Core.List.{List}
 use Prim.Native.Nat.{ℕ, _+_, _*_, _≤_, _<_}
 use lib.ListN.{length}

@@ -1,4 +1,4 @@
--- One face of a packed list, by the bit at which it starts, and what comes before and behind the faces. Assumes nothing.
+-- One face of a packed list, by the bit at which it starts, and what comes before and behind the faces.
 use mathlib.Core.Bool.{Bool, _&&_, not, cond}
 use mathlib.Core.Option.{Option, none, some}
 use mathlib.Core.List.{List}

@@ -1,4 +1,4 @@
--- What contracts of this crate and its callers cite beside the paper. Assumes nothing.
+-- What contracts of this crate and its callers cite beside the paper.
 -- one face of a packed list, and what comes before and behind the faces
 pub mod Face
 -- the room of rows

@@ -1,4 +1,4 @@
--- A loop run the other way: it fits as well. Assumes nothing.
+-- A loop run the other way: it fits as well.
 use mathlib.Core.Path.{_≡_, refl, sym, ap, ap₂, _∙_}
 use mathlib.Core.Bool.{Bool, true, false, _&&_, not}
 use mathlib.Core.List.{[], _∷_}

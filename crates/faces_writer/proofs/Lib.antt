@@ -1,4 +1,4 @@
--- The laws that this crate's proofs share. Assumes nothing.
+-- The laws that this crate's proofs share.
 -- a loop run the other way, and a candidate's row as a face
 pub mod Fits
 pub mod RowAt

@@ -1,4 +1,4 @@
--- A candidate's row in a report as a face, test by test. Assumes nothing.
+-- A candidate's row in a report as a face, test by test.
 use mathlib.Core.Path.{_≡_, refl, sym, ap, _∙_}
 use mathlib.Core.Bool.{Bool, true, false, _&&_, not, cond}
 use mathlib.Core.Option.{none, some}

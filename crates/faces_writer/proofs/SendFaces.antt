@@ -1,4 +1,4 @@
--- The loop that writes a solid's faces: what is written and what is left, one candidate more, and how it ends. Assumes nothing.
+-- The loop that writes a solid's faces: what is written and what is left, one candidate more, and how it ends.
 use mathlib.Core.Path.{_≡_, refl, sym, ap, ap₂, _∙_}
 use mathlib.Core.Bool.{Bool, true, false}
 use mathlib.Core.List.{List, [], _∷_, _++_, flatMap, append-nil}

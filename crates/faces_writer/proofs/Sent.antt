@@ -1,4 +1,4 @@
--- A face list's bytes, the writer's answer and its room, for each way out. Assumes nothing.
+-- A face list's bytes, the writer's answer and its room, for each way out.
 use mathlib.Core.Path.{_≡_, refl, sym, ap, _∙_}
 use mathlib.Core.Bool.{Bool, true, false, not, _||_}
 use mathlib.Core.List.{List, _++_}

@@ -1,4 +1,4 @@
--- What faces weigh: their count and their bits where all fit, candidate by candidate. Assumes nothing.
+-- What faces weigh: their count and their bits where all fit, candidate by candidate.
 use mathlib.Core.Path.{_≡_, refl, sym, ap, ap₂, _∙_}
 use mathlib.Core.Bool.{Bool, true, false, _&&_, cond}
 use mathlib.Core.Option.{Option, none, some}

@@ -1,4 +1,4 @@
--- What the functions that write a list ask of their arguments. A bit is `near` so that sums in the code are small. Assumes nothing.
+-- What the functions that write a list ask of their arguments. A bit is `near` so that sums in the code are small.
 use mathlib.Core.Path.{_≡_}
 use mathlib.Core.Bool.{true}
 use mathlib.Core.List.{List}

@@ -1,4 +1,4 @@
--- What contracts of this crate cite beside the paper. Assumes nothing.
+-- What contracts of this crate cite beside the paper.
 -- a solid's faces, candidate by candidate, and what they weigh
 pub mod Send
 -- what the functions that write ask of their arguments

@@ -1,4 +1,4 @@
--- A reported solid on its way into a list: candidate by candidate, and what faces weigh. Assumes nothing.
+-- A reported solid on its way into a list: candidate by candidate, and what faces weigh.
 use mathlib.Core.Path.{_≡_}
 use mathlib.Core.Bool.{Bool, true, cond}
 use mathlib.Core.Option.{Option, none, some}

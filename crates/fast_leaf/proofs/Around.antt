@@ -1,4 +1,4 @@
--- All edges of a face, and face by face until none waits: what is reached then is all to which one can go. Assumes nothing.
+-- All edges of a face, and face by face until none waits: what is reached then is all to which one can go.
 use mathlib.Core.Bool.{Bool, true, false}
 use mathlib.Core.List.{List, [], _∷_}
 use mathlib.Core.Logic.{inl, inr}

@@ -1,4 +1,4 @@
--- One edge of a face: what is reached, waits and is turned after it. Assumes nothing.
+-- One edge of a face: what is reached, waits and is turned after it.
 use mathlib.Core.Bool.{Bool, true, false, not, _&&_, _||_, cond, xor, or-false}
 use mathlib.Core.List.{List, [], _∷_}
 use mathlib.Core.Logic.{_⊎_, inl, inr}

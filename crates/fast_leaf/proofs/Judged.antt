@@ -1,4 +1,4 @@
--- A selection that has (i) is judged face by face as it is by passes over all edges. Assumes nothing.
+-- A selection that has (i) is judged face by face as it is by passes over all edges.
 use mathlib.Core.Bool.{Bool, true, false, not, _&&_, cond, and-false}
 use mathlib.Core.List.{List}
 use mathlib.Core.Path.{_≡_, refl, sym, ap, _∙_, subst}

@@ -1,4 +1,4 @@
--- The test (i) at a leaf of the walk: each edge is in just two of the faces taken. Assumes nothing.
+-- The test (i) at a leaf of the walk: each edge is in just two of the faces taken.
 use mathlib.Core.Bool.{Bool, true}
 use mathlib.Core.List.{List, [], _∷_}
 use mathlib.Core.Logic.{inl, inr}

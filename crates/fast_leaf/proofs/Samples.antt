@@ -1,4 +1,4 @@
--- A tetrahedron judged face by face, computed: so the statement of `Judged` is not empty. Assumes nothing.
+-- A tetrahedron judged face by face, computed: so the statement of `Judged` is not empty.
 use mathlib.Core.Bool.{Bool, true, false, xor}
 use mathlib.Core.List.{List, [], _∷_}
 use mathlib.Core.Logic.{inl, inr}

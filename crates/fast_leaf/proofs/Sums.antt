@@ -1,4 +1,4 @@
--- (v) and (iv) over the taken faces, the lowest first, are those over all candidates. Assumes nothing.
+-- (v) and (iv) over the taken faces, the lowest first, are those over all candidates.
 use mathlib.Core.Bool.{Bool, true, false, cond}
 use mathlib.Core.List.{List, [], _∷_}
 use mathlib.Core.Path.{_≡_, refl, sym, ap, ap₂, _∙_, subst}

@@ -1,4 +1,4 @@
--- The word of the digits in which two sets differ: "a ^ b". Assumes nothing.
+-- The word of the digits in which two sets differ: "a ^ b".
 use mathlib.Core.Bool.{Bool, true, false}
 use mathlib.Core.List.{List, [], _∷_}
 use mathlib.Core.Path.{_≡_, refl, ap, ap₂, _∙_}

@@ -1,5 +1,5 @@
 -- The tests (ii) to (v) of a selection that has (i), with each face gone round once: from one taken face over its edges, then from each
--- face that is reached so. Sets of edges and of faces are lists of digits, the lowest first. Assumes nothing.
+-- face that is reached so. Sets of edges and of faces are lists of digits, the lowest first.
 use mathlib.Core.Bool.{Bool, true, false, cond, xor}
 use mathlib.Core.List.{List, []}
 use mathlib.Core.Path.{_≡_}

@@ -1,4 +1,4 @@
--- The two answers of a pair of segments from one set of steps, and segments with a common end. Assumes nothing.
+-- The two answers of a pair of segments from one set of steps, and segments with a common end.
 use mathlib.Core.Path.{_≡_, refl, sym, _∙_, ap}
 use mathlib.Core.Bool.{Bool, true, false, _&&_, cond, and-false}
 use mathlib.Core.Logic.{inl, inr}

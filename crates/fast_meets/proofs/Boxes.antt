@@ -1,4 +1,4 @@
--- Segments whose boxes are apart have no common point. Assumes nothing.
+-- Segments whose boxes are apart have no common point.
 use mathlib.Core.Path.{_≡_, refl, sym, _∙_, ap}
 use mathlib.Core.Bool.{Bool, true, false, cond, _||_, or-comm, true≢false}
 use mathlib.Core.Logic.{_⊎_, inl, inr, ⊎-elim}

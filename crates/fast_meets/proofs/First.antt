@@ -1,4 +1,4 @@
--- The first digit that is set, as the lowest number that is marked. Assumes nothing.
+-- The first digit that is set, as the lowest number that is marked.
 use mathlib.Core.Path.{_≡_}
 use mathlib.Core.Bool.{Bool, true}
 use mathlib.Core.List.{List}

@@ -1,4 +1,4 @@
--- Of two vertices at one point the lower has a later one there. Assumes nothing.
+-- Of two vertices at one point the lower has a later one there.
 use mathlib.Core.Path.{_≡_, refl, sym, _∙_, ap}
 use mathlib.Core.Bool.{Bool, true, false, _||_, true≢false}
 use Prim.Native.Nat.{ℕ, zero, suc, _+_, _-_, _≤_, _<_}

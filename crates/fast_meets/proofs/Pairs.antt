@@ -1,4 +1,4 @@
--- What is gathered over the pairs is what some other edge makes offend. Assumes nothing.
+-- What is gathered over the pairs is what some other edge makes offend.
 use mathlib.Core.Path.{_≡_, refl, sym, _∙_, subst}
 use mathlib.Core.Bool.{Bool, true, false, true≢false}
 use mathlib.Core.Logic.{_⊎_, ⊎-elim, _↔_}

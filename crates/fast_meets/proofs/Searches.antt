@@ -1,4 +1,4 @@
--- Searches that find the same: a test may leave out numbers for which it takes a lower one. Assumes nothing.
+-- Searches that find the same: a test may leave out numbers for which it takes a lower one.
 use mathlib.Core.Path.{_≡_, refl, ap}
 use mathlib.Core.Bool.{Bool, true}
 use mathlib.Core.Option.{Option, none, some}

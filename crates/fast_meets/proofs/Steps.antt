@@ -1,4 +1,4 @@
--- The pairs as a loop passes them, one turn at a time. Assumes nothing.
+-- The pairs as a loop passes them, one turn at a time.
 use mathlib.Core.Path.{_≡_, refl}
 use mathlib.Core.Bool.{Bool}
 use mathlib.Core.List.{List, []}

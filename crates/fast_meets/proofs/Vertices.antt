@@ -1,4 +1,4 @@
--- Where 9, 11 and 12 have passed, an edge that meets a vertex meets an edge that ends there. Assumes nothing.
+-- Where 9, 11 and 12 have passed, an edge that meets a vertex meets an edge that ends there.
 use mathlib.Core.Path.{_≡_, sym, _∙_, ap, subst}
 use mathlib.Core.Bool.{Bool, true, not, _&&_, true≢false}
 use mathlib.Core.Logic.{inl, inr, _↔_}

@@ -1,4 +1,4 @@
--- The box of a segment, by its lowest and its highest corner, and boxes that are apart along an axis. Assumes nothing.
+-- The box of a segment, by its lowest and its highest corner, and boxes that are apart along an axis.
 use mathlib.Core.Bool.{Bool, _||_, cond}
 use lib.IntN.{ℤ}
 use lib.Signed.{ltZ, leZ}

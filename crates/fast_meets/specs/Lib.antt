@@ -1,4 +1,4 @@
--- Rule 13 by pairs of edges, each asked once. Assumes nothing.
+-- Rule 13 by pairs of edges, each asked once.
 pub mod Boxes
 pub mod Pairs
 pub mod Theorems

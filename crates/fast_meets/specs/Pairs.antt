@@ -1,4 +1,4 @@
--- The offenders of rule 13, gathered over the pairs of edges, the lower one first. Assumes nothing.
+-- The offenders of rule 13, gathered over the pairs of edges, the lower one first.
 use mathlib.Core.Bool.{Bool, true, false}
 use mathlib.Core.List.{List, []}
 use Prim.Native.Nat.{ℕ, zero, suc, _-_}

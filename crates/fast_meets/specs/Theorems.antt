@@ -1,4 +1,4 @@
--- What lets rule 13 ask each pair of edges once, by boxes first, and no vertex. Assumes nothing.
+-- What lets rule 13 ask each pair of edges once, by boxes first, and no vertex.
 use mathlib.Core.Path.{_≡_}
 use mathlib.Core.Bool.{Bool, true, false, not, _&&_, cond}
 use mathlib.Core.Logic.{_⊎_}

@@ -1,4 +1,4 @@
--- Where no two vertices are at one place and no vertex is on an edge, no loop is in one line. Assumes nothing.
+-- Where no two vertices are at one place and no vertex is on an edge, no loop is in one line.
 use mathlib.Core.Bool.{Bool, true, false, not, _&&_, _||_, cond, true≢false}
 use mathlib.Core.List.{List, [], _∷_, _++_, map, map-append}
 use mathlib.Core.Logic.{_⊎_, inl, inr}

@@ -1,4 +1,4 @@
--- Recording one by one into a table of at most m rows. Assumes nothing.
+-- Recording one by one into a table of at most m rows.
 use mathlib.Core.Bool.{Bool, true, false}
 use mathlib.Core.List.{List, [], _∷_, _++_, append-nil, append-assoc}
 use mathlib.Core.Path.{_≡_, refl, sym, ap, _∙_}

@@ -1,4 +1,4 @@
--- Points in one line: between which others a point is, from its place along the line. Assumes nothing.
+-- Points in one line: between which others a point is, from its place along the line.
 use mathlib.Core.Bool.{true, false, true≢false}
 use mathlib.Core.List.{List, [], _∷_}
 use mathlib.Core.Path.{_≡_, refl, sym, ap, _∙_}

@@ -1,5 +1,4 @@
 -- A path in one line has no plane yet, and every vertex is level with it; the first vertex off the line fixes the plane, and it stays.
--- Assumes nothing.
 use mathlib.Core.Bool.{Bool, true, false}
 use mathlib.Core.List.{List, [], _∷_, _++_}
 use mathlib.Core.Path.{_≡_, refl, sym, ap, _∙_}

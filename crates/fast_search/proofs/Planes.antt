@@ -1,4 +1,4 @@
--- The vertices that the search keeps with a loop are those in its plane. Assumes nothing.
+-- The vertices that the search keeps with a loop are those in its plane.
 use mathlib.Core.Bool.{true, false}
 use mathlib.Core.List.{List, []}
 use mathlib.Core.Path.{_≡_, ap, _∙_}

@@ -1,4 +1,4 @@
--- Loops over the set digits of a word. Assumes nothing.
+-- Loops over the set digits of a word.
 use mathlib.Core.Bool.{Bool, true, false, _&&_, _||_, true≢false}
 use mathlib.Core.List.{List, [], _∷_, _++_}
 use mathlib.Core.Path.{_≡_, refl, sym, ap, _∙_}

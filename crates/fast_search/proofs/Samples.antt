@@ -1,4 +1,4 @@
--- The rules on places and edges can't be dropped where a path in one line is never recorded. Assumes nothing.
+-- The rules on places and edges can't be dropped where a path in one line is never recorded.
 use mathlib.Core.List.{[], _∷_}
 use mathlib.Core.Path.{_≡_, refl}
 use lib.IntN.{pos}

@@ -1,4 +1,4 @@
--- The search over all vertices in turn is one over the set digits of those that may follow. Assumes nothing.
+-- The search over all vertices in turn is one over the set digits of those that may follow.
 use mathlib.Core.Bool.{Bool, true, false, _&&_, cond}
 use mathlib.Core.List.{List, [], _∷_, _++_, map, map-append}
 use mathlib.Core.Path.{_≡_, refl, sym, ap, _∙_}

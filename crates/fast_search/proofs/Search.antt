@@ -1,4 +1,4 @@
--- The search on sets of vertices finds the loops of document 01, in their order, each with the vertices in its plane. Assumes nothing.
+-- The search on sets of vertices finds the loops of document 01, in their order, each with the vertices in its plane.
 use mathlib.Core.Bool.{Bool, true, false, not, _&&_, _||_, cond, true≢false, and-true}
 use mathlib.Core.List.{List, [], _∷_, _++_, map, map-append, map-map, append-nil}
 use mathlib.Core.Path.{_≡_, refl, sym, ap, _∙_, subst}

@@ -1,4 +1,4 @@
--- What the search's sets hold: the vertices that a path may go on to, and those that may close it. Assumes nothing.
+-- What the search's sets hold: the vertices that a path may go on to, and those that may close it.
 use mathlib.Core.Bool.{Bool, true, false, not, _&&_, _||_, or-false, or-assoc, and-true, and-false, and-assoc}
 use mathlib.Core.List.{List, [], _∷_, _++_, map}
 use mathlib.Core.Path.{_≡_, refl, sym, ap, _∙_}

@@ -1,4 +1,4 @@
--- What each return and each turn of the search's code is of the search's definition. Assumes nothing.
+-- What each return and each turn of the search's code is of the search's definition.
 use mathlib.Core.Bool.{Bool, true, false, not, cond}
 use mathlib.Core.List.{List, [], _∷_, _++_, append-nil, append-assoc}
 use mathlib.Core.Path.{_≡_, refl, sym, ap, _∙_}

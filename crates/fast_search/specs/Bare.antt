@@ -1,4 +1,4 @@
--- The loop search that never records a path in one line: enough where no edge meets a vertex. Assumes nothing.
+-- The loop search that never records a path in one line: enough where no edge meets a vertex.
 use mathlib.Core.Bool.{Bool, not}
 use mathlib.Core.List.{List, [], _∷_, _++_}
 use Prim.Native.Nat.{ℕ, zero, suc}

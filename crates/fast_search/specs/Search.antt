@@ -1,5 +1,5 @@
 -- The loop search on sets of vertices, as code goes through it: only through the set digits of words, and only as far as some vertex
--- that is free can close the path. With each loop it keeps the vertices in its plane. Assumes nothing.
+-- that is free can close the path. With each loop it keeps the vertices in its plane.
 use mathlib.Core.Bool.{Bool, true, not, cond}
 use mathlib.Core.List.{List, [], _∷_, _++_, map}
 use Prim.Native.Nat.{ℕ, zero, suc}

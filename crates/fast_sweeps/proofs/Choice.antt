@@ -1,5 +1,4 @@
 -- The lowest edge with an undecided candidate, looked for from an edge below which there is none; and that there is none stays so.
--- Assumes nothing.
 use mathlib.Core.Bool.{Bool, true, false, _&&_, cond}
 use mathlib.Core.List.{List, [], _∷_, map}
 use mathlib.Core.Path.{_≡_, refl, sym, ap, _∙_}

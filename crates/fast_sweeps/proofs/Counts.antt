@@ -1,5 +1,5 @@
 -- An edge by its two counts as the code takes them: M, the taken, and, only where M is below 2, L, the undecided; and what settling does to
--- the sets of those taken and those undecided. One law for each way through the code. Assumes nothing.
+-- the sets of those taken and those undecided. One law for each way through the code.
 use mathlib.Core.Bool.{Bool, true, false, _&&_, _||_, cond, not}
 use mathlib.Core.List.{List, [], _∷_}
 use mathlib.Core.Path.{_≡_, refl, sym, ap, ap₂, _∙_}

@@ -1,4 +1,4 @@
--- One edge: what settling it decides, what that leaves of the other edges, and its two counts. Assumes nothing.
+-- One edge: what settling it decides, what that leaves of the other edges, and its two counts.
 use mathlib.Core.Bool.{Bool, true, false, _&&_, _||_, cond, true≢false}
 use mathlib.Core.List.{List, [], _∷_, map}
 use mathlib.Core.Path.{_≡_, refl, sym, ap, ap₂, _∙_}

@@ -1,4 +1,4 @@
--- Sets of edges: without the lowest, up to the lowest, and the edges of candidates. Assumes nothing.
+-- Sets of edges: without the lowest, up to the lowest, and the edges of candidates.
 use mathlib.Core.Bool.{Bool, true, false, _||_, or-false, or-assoc}
 use mathlib.Core.List.{List, [], _∷_}
 use mathlib.Core.Path.{_≡_, refl, sym, ap, ap₂, _∙_}

@@ -1,4 +1,4 @@
--- What a loop over marked edges keeps: where it starts, one edge passed, the next sweep, and the end. Assumes nothing.
+-- What a loop over marked edges keeps: where it starts, one edge passed, the next sweep, and the end.
 use mathlib.Core.Bool.{Bool, true, false, _&&_, not, cond}
 use mathlib.Core.List.{List, []}
 use mathlib.Core.Logic.{_⊎_, inl, inr}

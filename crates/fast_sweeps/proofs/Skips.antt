@@ -1,4 +1,4 @@
--- What is left of the whole sweeps, edge by edge: passing over a settled edge changes nothing. Assumes nothing.
+-- What is left of the whole sweeps, edge by edge: passing over a settled edge changes nothing.
 use mathlib.Core.Bool.{Bool, true, false, cond}
 use mathlib.Core.List.{List, [], _∷_}
 use mathlib.Core.Path.{_≡_, refl, sym, ap, ap₂, _∙_, subst}

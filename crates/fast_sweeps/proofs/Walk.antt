@@ -1,5 +1,5 @@
 -- What each call of the walk keeps holds at the first call and at the next ones; and its choice, looked for from the edge of the last, is
--- that of document 01. Assumes nothing.
+-- that of document 01.
 use mathlib.Core.Bool.{Bool, true, false}
 use mathlib.Core.List.{List}
 use mathlib.Core.Path.{_≡_, sym, subst}

@@ -1,5 +1,4 @@
 -- The words of the marks where none was decided, and the sets of those taken and undecided after a candidate is given a status.
--- Assumes nothing.
 use mathlib.Core.Bool.{Bool, true, false, _&&_, _||_, and-true, or-false}
 use mathlib.Core.List.{List, [], _∷_}
 use mathlib.Core.Path.{_≡_, refl, sym, ap, ap₂, _∙_}

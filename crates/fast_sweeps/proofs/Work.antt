@@ -1,4 +1,4 @@
--- The loop over marked edges: the marks where none is decided, the turn to the next sweep, and the two ways to start. Assumes nothing.
+-- The loop over marked edges: the marks where none is decided, the turn to the next sweep, and the two ways to start.
 use mathlib.Core.Bool.{Bool, true, false, _&&_, _||_, not, cond}
 use mathlib.Core.List.{List, []}
 use mathlib.Core.Path.{_≡_, refl, ap, _∙_}

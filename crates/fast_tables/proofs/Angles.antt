@@ -1,4 +1,4 @@
--- No direction along a side points strictly inside the angle at its end. Assumes nothing.
+-- No direction along a side points strictly inside the angle at its end.
 use mathlib.Core.Path.{_≡_, refl, sym, ap, _∙_}
 use mathlib.Core.Bool.{Bool, true, false, _&&_, true≢false}
 use mathlib.Core.Logic.{_⊎_, inl, inr}

@@ -1,4 +1,4 @@
--- A search that keeps what it was told of edges finds what one finds that asks each time. Assumes nothing.
+-- A search that keeps what it was told of edges finds what one finds that asks each time.
 use mathlib.Core.Path.{_≡_, refl, sym, ap, _∙_}
 use mathlib.Core.Bool.{Bool, true, false, not, _&&_, _||_, cond, true≢false}
 use mathlib.Core.Logic.{_⊎_, inl, inr}

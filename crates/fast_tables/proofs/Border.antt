@@ -1,4 +1,4 @@
--- A corner and the midpoint of a side lie on the border. Assumes nothing.
+-- A corner and the midpoint of a side lie on the border.
 use mathlib.Core.Path.{_≡_, refl, ap, _∙_}
 use mathlib.Core.Bool.{Bool, true, _&&_}
 use mathlib.Core.Logic.{_⊎_, inl, inr}

@@ -1,4 +1,4 @@
--- Candidates by a search that asks each edge at most once for each loop. Assumes nothing.
+-- Candidates by a search that asks each edge at most once for each loop.
 use mathlib.Core.Path.{_≡_, refl, sym, ap, ap₂, _∙_}
 use mathlib.Core.Bool.{Bool, true, false, not, _&&_, _||_, true≢false, and-assoc}
 use mathlib.Core.List.{List, [], map}

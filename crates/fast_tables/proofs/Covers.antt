@@ -1,4 +1,4 @@
--- Cover by the drawing's vertices and edges. Assumes nothing.
+-- Cover by the drawing's vertices and edges.
 use mathlib.Core.Path.{_≡_, refl, sym, ap, ap₂, _∙_}
 use mathlib.Core.Bool.{Bool, true, false, not, _&&_, _||_}
 use mathlib.Core.Logic.{_⊎_, inl, inr}

@@ -1,4 +1,4 @@
--- Rule A by the edges that go down through a face's plane. Assumes nothing.
+-- Rule A by the edges that go down through a face's plane.
 use mathlib.Core.Path.{_≡_, refl, ap, ap₂, _∙_}
 use mathlib.Core.Bool.{Bool, true, _&&_, and-comm}
 use mathlib.Core.Logic.{_⊎_, inl, inr}

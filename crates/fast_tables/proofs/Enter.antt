@@ -1,4 +1,4 @@
--- Rule B by vertices of the drawing. Assumes nothing.
+-- Rule B by vertices of the drawing.
 use mathlib.Core.Path.{_≡_, refl, sym, ap, _∙_}
 use mathlib.Core.Bool.{Bool, true, false, not, _&&_, true≢false}
 use Prim.Native.Nat.{ℕ, _<_}

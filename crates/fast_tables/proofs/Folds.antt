@@ -1,4 +1,4 @@
--- Rule C asks for two corners of both faces that are a side of neither. Assumes nothing.
+-- Rule C asks for two corners of both faces that are a side of neither.
 use mathlib.Core.Path.{_≡_, refl, sym, ap, _∙_}
 use mathlib.Core.Bool.{Bool, true, false, not, _&&_, true≢false}
 use mathlib.Core.Logic.{_⊎_, inl, inr}

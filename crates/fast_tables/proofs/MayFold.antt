@@ -1,4 +1,4 @@
--- Rule C need not be asked of faces that share less. Assumes nothing.
+-- Rule C need not be asked of faces that share less.
 use mathlib.Core.Path.{_≡_, refl, sym, _∙_}
 use mathlib.Core.Bool.{Bool, true, false, _&&_, _||_, true≢false}
 use mathlib.Core.Logic.{_⊎_, inl, inr}

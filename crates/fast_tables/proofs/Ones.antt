@@ -1,4 +1,4 @@
--- A loop over the ones of a word. Assumes nothing.
+-- A loop over the ones of a word.
 use mathlib.Core.Path.{_≡_, refl, sym, ap, _∙_}
 use mathlib.Core.Bool.{Bool, true, false, not, _&&_, _||_, cond, and-false, or-false, or-assoc, and-true}
 use mathlib.Core.Logic.{_⊎_, inl, inr}

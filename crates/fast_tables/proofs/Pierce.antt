@@ -1,4 +1,4 @@
--- Rule A by edges of the drawing. Assumes nothing.
+-- Rule A by edges of the drawing.
 use mathlib.Core.Path.{_≡_, refl, ap, _∙_}
 use mathlib.Core.Bool.{Bool, true, false, _&&_}
 use mathlib.Core.Logic.{_⊎_, inl, inr}

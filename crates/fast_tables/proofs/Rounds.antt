@@ -1,4 +1,4 @@
--- Sides, corners and edges of loops by their places. Assumes nothing.
+-- Sides, corners and edges of loops by their places.
 use mathlib.Core.Path.{_≡_, refl, sym, ap, ap₂, _∙_, subst}
 use mathlib.Core.Bool.{Bool, true, _&&_, or-comm}
 use mathlib.Core.Logic.{_⊎_, inl, inr}

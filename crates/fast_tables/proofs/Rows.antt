@@ -1,4 +1,4 @@
--- The masks of those that clash, by edges and vertices. Assumes nothing.
+-- The masks of those that clash, by edges and vertices.
 use mathlib.Core.Path.{_≡_, refl, sym, ap, _∙_}
 use mathlib.Core.Bool.{Bool, true, false, not, _&&_, _||_, cond, true≢false}
 use mathlib.Core.List.{List, [], map}

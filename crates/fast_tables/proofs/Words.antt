@@ -1,4 +1,4 @@
--- The masks that are gathered have the digits of the definitions. Assumes nothing.
+-- The masks that are gathered have the digits of the definitions.
 use mathlib.Core.Path.{_≡_, sym, ap, ap₂, _∙_}
 use mathlib.Core.Bool.{Bool, true, false, not, _&&_, _||_, and-comm, and-false, and-assoc, or-false, or-assoc}
 use mathlib.Core.List.{List, [], _∷_, map}

@@ -1,4 +1,4 @@
--- Cover with each edge asked at most once: two sets of edges are kept. Assumes nothing.
+-- Cover with each edge asked at most once: two sets of edges are kept.
 use mathlib.Core.Bool.{Bool, true, false, not, _&&_, cond}
 use mathlib.Core.List.{List, [], _∷_, map}
 use Prim.Native.Nat.{ℕ}

@@ -1,5 +1,5 @@
 -- The mask of those that go through a candidate, gathered from the masks of edges and of vertices in the order of a loop over the ones of
--- words. Assumes nothing.
+-- words.
 use mathlib.Core.Bool.{Bool, cond}
 use mathlib.Core.List.{List, [], _∷_, map}
 use Prim.Native.Nat.{ℕ}

@@ -1,2 +1,2 @@
--- The laws that this crate's proofs share. `Views` is cited by callers too. Assumes nothing.
+-- The laws that this crate's proofs share. `Views` is cited by callers too.
 pub mod Views

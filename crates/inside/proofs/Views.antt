@@ -1,4 +1,4 @@
--- The axis along which a plane is seen, the pass over the sides that are seen, and its answer. Assumes nothing.
+-- The axis along which a plane is seen, the pass over the sides that are seen, and its answer.
 use mathlib.Core.Path.{_≡_, refl, sym, _∙_, subst}
 use mathlib.Core.Bool.{Bool, true, false, not, _||_, _&&_, cond, or-false}
 use mathlib.Core.List.{[], _∷_, map}

@@ -1,4 +1,4 @@
--- What the functions of this crate ask of a polygon's side and of a point p / d. Assumes nothing.
+-- What the functions of this crate ask of a polygon's side and of a point p / d.
 use mathlib.Core.List.{List}
 use Prim.Native.Nat.{ℕ}
 use lib.IntN.{ℤ}

@@ -1,4 +1,4 @@
--- Entries that are written one behind the other, so many for each element of a list. Assumes nothing.
+-- Entries that are written one behind the other, so many for each element of a list.
 use mathlib.Core.Path.{_≡_, refl, sym, ap, _∙_}
 use mathlib.Core.List.{List, [], _∷_, _++_, flatMap, append-assoc, append-nil}
 use Prim.Native.Nat.{ℕ, zero, suc, _+_, _*_, _≤_, _<_}

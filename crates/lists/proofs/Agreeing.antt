@@ -1,4 +1,4 @@
--- Two tests, or two functions, that agree on the numbers below n: searches, choices and tables are the same. Assumes nothing.
+-- Two tests, or two functions, that agree on the numbers below n: searches, choices and tables are the same.
 use mathlib.Core.Path.{_≡_, refl}
 use mathlib.Core.Bool.{Bool, cond}
 use mathlib.Core.Option.{some}

@@ -1,4 +1,4 @@
--- The elements of a list backwards. Assumes nothing.
+-- The elements of a list backwards.
 use mathlib.Core.Path.{_≡_, refl, sym, ap, _∙_}
 use mathlib.Core.Bool.{Bool, true, false}
 use mathlib.Core.List.{List, [], _∷_, _++_, reverse, reverse-cons}

@@ -1,4 +1,4 @@
--- Whether all numbers of a list are below v, as a loop looks at them in turn: number k is x. Assumes nothing.
+-- Whether all numbers of a list are below v, as a loop looks at them in turn: number k is x.
 use mathlib.Core.Path.{_≡_, sym, ap, _∙_}
 use mathlib.Core.Bool.{false, not}
 use mathlib.Core.List.{List}

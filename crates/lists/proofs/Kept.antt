@@ -1,4 +1,4 @@
--- What is made of the numbers below n that pass, as a loop that looks at 0, 1, .. in turn. Assumes nothing.
+-- What is made of the numbers below n that pass, as a loop that looks at 0, 1, .. in turn.
 use mathlib.Core.Path.{_≡_, refl}
 use mathlib.Core.Bool.{Bool, true, false}
 use mathlib.Core.List.{List, [], map}

@@ -1,4 +1,4 @@
--- The laws of lists and searches. Assumes nothing.
+-- The laws of lists and searches.
 pub mod Truth
 pub mod Places
 pub mod Search

@@ -1,4 +1,4 @@
--- A search for the lowest number that passes and finds none. Assumes nothing.
+-- A search for the lowest number that passes and finds none.
 use mathlib.Core.Path.{_≡_, refl}
 use mathlib.Core.Bool.{Bool, true, false}
 use mathlib.Core.Option.{none}

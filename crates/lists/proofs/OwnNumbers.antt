@@ -1,5 +1,4 @@
 -- Numbers below m that each have a number of their own below n: m is at most n; and where m is n, each number is had.
--- Assumes nothing.
 use mathlib.Core.Path.{_≡_, sym, _∙_, subst}
 use mathlib.Core.Logic.{_⊎_, inl, inr}
 use Prim.Native.Nat.{ℕ, zero, suc, _≤_, _<_}

@@ -1,4 +1,4 @@
--- Whether some element of a list passes a test, whether all do, and at which places. Assumes nothing.
+-- Whether some element of a list passes a test, whether all do, and at which places.
 use mathlib.Core.Path.{_≡_, refl, sym, ap, _∙_}
 use mathlib.Core.Bool.{Bool, true, false, _&&_, _||_, true≢false}
 use mathlib.Core.List.{List, [], _∷_, _++_, reverse, reverse-cons}

@@ -1,4 +1,4 @@
--- The elements of lists by their places. Assumes nothing.
+-- The elements of lists by their places.
 use mathlib.Core.Path.{_≡_, refl, sym, ap, _∙_}
 use mathlib.Core.Bool.{Bool, _||_, or-assoc, or-false}
 use mathlib.Core.List.{List, [], _∷_, _++_, map}

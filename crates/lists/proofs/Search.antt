@@ -1,6 +1,6 @@
 -- A `while` that looks at a list's elements in turn and stops at the first that a test picks. It keeps `Left`: the answer for what is
 -- left is the whole answer. The four laws are for any question that such an element settles: `any`, `all`, `find` and `anyTrue` are,
--- over any list, over the numbers below n, and over the sides of a ring (in Sides). Assumes nothing.
+-- over any list, over the numbers below n, and over the sides of a ring (in Sides).
 use mathlib.Core.Path.{_≡_, refl, ap, _∙_}
 use mathlib.Core.Bool.{Bool, true, false, not, _||_, _&&_, cond}
 use mathlib.Core.Option.{none, some}

@@ -1,4 +1,4 @@
--- The sides of a ring: side k is f at element k and the one after it, which wraps. For a `while` over the sides. Assumes nothing.
+-- The sides of a ring: side k is f at element k and the one after it, which wraps. For a `while` over the sides.
 use mathlib.Core.Path.{_≡_, refl, sym, _∙_, ap}
 use mathlib.Core.Bool.{Bool, true, false, cond, xor, _||_}
 use mathlib.Core.List.{List, [], _∷_, _++_, map}

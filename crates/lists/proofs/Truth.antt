@@ -1,4 +1,4 @@
--- Laws of truth values. Assumes nothing.
+-- Laws of truth values.
 use mathlib.Core.Path.{_≡_, refl, sym}
 use mathlib.Core.Bool.{Bool, true, false, not, cond, _||_, _&&_, xor, true≢false}
 use mathlib.Core.Logic.{_⊎_, inl, inr}

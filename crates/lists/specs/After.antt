@@ -1,4 +1,4 @@
--- A room to which entries are written one behind the other, so many for each element of a list. Assumes nothing.
+-- A room to which entries are written one behind the other, so many for each element of a list.
 use mathlib.Core.List.{List, _++_, flatMap}
 use Prim.Native.Nat.{ℕ, _*_}
 use lib.ListN.{length, drop}

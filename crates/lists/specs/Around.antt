@@ -1,4 +1,4 @@
--- Places of a ring, counted on past the last. Assumes nothing.
+-- Places of a ring, counted on past the last.
 use Prim.Native.Nat.{ℕ, _-_}
 use mathlib.Core.Bool.{cond}
 use mathlib.Core.List.{List}

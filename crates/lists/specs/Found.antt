@@ -1,4 +1,4 @@
--- What the code's searches answer, as the definitions' searches do. Assumes nothing.
+-- What the code's searches answer, as the definitions' searches do.
 use Prim.Native.Nat.{ℕ}
 use mathlib.Core.Option.{Option, none, some}
 use Rattle.lists.specs.declared.Found.{Found}

@@ -1,4 +1,4 @@
--- What definitions say of lists, and what the code of a search answers. Assumes nothing.
+-- What definitions say of lists, and what the code of a search answers.
 pub mod Lists
 pub mod Around
 pub mod Found

@@ -1,4 +1,4 @@
--- The words on lists and searches that document 01's definitions are written in. Assumes nothing.
+-- The words on lists and searches that document 01's definitions are written in.
 -- A recursive call that a test may make needless is bound by a `let`, which antt computes only where it is read.
 use Prim.Native.Nat.{ℕ, zero, suc}
 use mathlib.Core.Bool.{Bool, true, false, _||_, _&&_, cond, xor}

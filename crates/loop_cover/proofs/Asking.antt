@@ -1,4 +1,4 @@
--- Edges of a set that are asked in turn: what is left of the set has the whole answer. Assumes nothing.
+-- Edges of a set that are asked in turn: what is left of the set has the whole answer.
 use mathlib.Core.Bool.{Bool, true, false, cond}
 use mathlib.Core.List.{List, _∷_}
 use mathlib.Core.Path.{_≡_, sym, ap, _∙_}

@@ -1,4 +1,4 @@
--- The search for a loop that is covered, as the code goes through it: what is left of the loops has the whole answer. Assumes nothing.
+-- The search for a loop that is covered, as the code goes through it: what is left of the loops has the whole answer.
 use mathlib.Core.Bool.{Bool, true, false, not, _&&_, cond}
 use mathlib.Core.List.{List, [], _∷_, map}
 use mathlib.Core.Path.{_≡_, refl, sym, ap, _∙_}

@@ -1,4 +1,4 @@
--- Laws that the proofs of this crate's functions apply. Assumes nothing.
+-- Laws that the proofs of this crate's functions apply.
 pub mod Middles
 pub mod Asking
 pub mod Covering

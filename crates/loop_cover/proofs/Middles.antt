@@ -1,4 +1,4 @@
--- The midpoint of an edge, as the code finds it from the two lists and a row. Assumes nothing.
+-- The midpoint of an edge, as the code finds it from the two lists and a row.
 use mathlib.Core.Path.{_≡_, refl, sym, ap, _∙_}
 use mathlib.Core.List.{List}
 use Prim.Native.Nat.{ℕ, _+_, _*_, _<_}

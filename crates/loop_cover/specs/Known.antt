@@ -1,4 +1,4 @@
--- What is known of the loops of a drawing that passed 3 to 14. Assumes nothing.
+-- What is known of the loops of a drawing that passed 3 to 14.
 use mathlib.Core.Bool.{Bool, not, _&&_}
 use mathlib.Core.List.{List}
 use mathlib.Core.Path.{_≡_}

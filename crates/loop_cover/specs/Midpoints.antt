@@ -1,4 +1,4 @@
--- Midpoints of a drawing's edges, asked of one row of a table of loops. Assumes nothing.
+-- Midpoints of a drawing's edges, asked of one row of a table of loops.
 use mathlib.Core.Bool.{Bool, true, _&&_, cond}
 use mathlib.Core.List.{List}
 use mathlib.Core.Path.{_≡_}

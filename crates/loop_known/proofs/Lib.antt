@@ -1,3 +1,3 @@
--- Laws of what is known of a drawing's loops. Assumes nothing.
+-- Laws of what is known of a drawing's loops.
 pub mod Loops
 pub mod Passed

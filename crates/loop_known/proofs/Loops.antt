@@ -1,4 +1,4 @@
--- From what the search and the words of loops ensure to what is known of the loops. Assumes nothing.
+-- From what the search and the words of loops ensure to what is known of the loops.
 use mathlib.Core.Bool.{Bool}
 use mathlib.Core.List.{List}
 use mathlib.Core.Path.{_≡_, refl, sym, ap, _∙_}

@@ -1,4 +1,4 @@
--- Lists that pass 5 and 8 to 10, and then 11 to 14, are a drawing that has passed. Assumes nothing.
+-- Lists that pass 5 and 8 to 10, and then 11 to 14, are a drawing that has passed.
 use mathlib.Core.List.{List, [], _∷_}
 use mathlib.Core.Option.{none}
 use mathlib.Core.Path.{_≡_}

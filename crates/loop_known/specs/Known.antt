@@ -1,4 +1,4 @@
--- The loops of a drawing that passed 3 to 14, with what is known of them. Assumes nothing.
+-- The loops of a drawing that passed 3 to 14, with what is known of them.
 use mathlib.Core.List.{List}
 use mathlib.Core.Path.{_≡_}
 use Prim.Native.Nat.{ℕ, suc, _*_, _/_, _≤_, min}

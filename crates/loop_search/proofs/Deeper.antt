@@ -1,4 +1,4 @@
--- The search from a path whose plane is fixed: where it stops, one law for each return, and what its loop keeps. Assumes nothing.
+-- The search from a path whose plane is fixed: where it stops, one law for each return, and what its loop keeps.
 use mathlib.Core.Bool.{Bool, false}
 use mathlib.Core.List.{List, [], _∷_, _++_}
 use mathlib.Core.Path.{_≡_, refl, sym, ap, _∙_, subst}

@@ -1,4 +1,4 @@
--- The lists as the drawing that they are of: the code's points and planes are the search's. Assumes nothing.
+-- The lists as the drawing that they are of: the code's points and planes are the search's.
 use mathlib.Core.Bool.{Bool, true, false}
 use mathlib.Core.List.{List, [], _∷_, _++_, map}
 use mathlib.Core.Path.{_≡_, refl, sym, ap, _∙_}

@@ -1,4 +1,4 @@
--- The rooms of the search as loops are met: one more, none, some and then others, or more than are held. Assumes nothing.
+-- The rooms of the search as loops are met: one more, none, some and then others, or more than are held.
 use mathlib.Core.List.{List, [], _∷_, _++_, append-nil, append-assoc}
 use mathlib.Core.Path.{_≡_, refl, sym, ap, _∙_, subst}
 use Prim.Native.Nat.{ℕ, suc, _+_, _*_, _≤_, _<_, min}

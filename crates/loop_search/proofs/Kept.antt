@@ -1,4 +1,4 @@
--- A `while` over the vertices of a set, the lowest first, that adds to the rooms what f finds from each: what it keeps. Assumes nothing.
+-- A `while` over the vertices of a set, the lowest first, that adds to the rooms what f finds from each: what it keeps.
 use mathlib.Core.Bool.{Bool}
 use mathlib.Core.List.{List, [], _++_}
 use mathlib.Core.Path.{_≡_, refl, sym, ap, subst}

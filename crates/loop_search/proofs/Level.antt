@@ -1,4 +1,4 @@
--- The vertices of a plane: whether one of a set is among them, and all of them as a set. Assumes nothing.
+-- The vertices of a plane: whether one of a set is among them, and all of them as a set.
 use mathlib.Core.Bool.{Bool, true, false, _||_}
 use mathlib.Core.List.{List, [], _∷_, _++_, map, map-append}
 use mathlib.Core.Path.{_≡_, refl, sym, ap, _∙_, subst}

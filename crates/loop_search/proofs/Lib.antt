@@ -1,4 +1,4 @@
--- Laws of the search's rooms and of its turns. Assumes nothing.
+-- Laws of the search's rooms and of its turns.
 pub mod Filling
 pub mod Kept
 pub mod Way

@@ -1,4 +1,4 @@
--- The loops that start at one vertex: what the loop over its higher neighbours keeps. Assumes nothing.
+-- The loops that start at one vertex: what the loop over its higher neighbours keeps.
 use mathlib.Core.Bool.{Bool, true}
 use mathlib.Core.List.{List, [], _∷_}
 use mathlib.Core.Path.{_≡_, refl, sym, ap, _∙_, subst}

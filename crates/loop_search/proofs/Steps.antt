@@ -1,4 +1,4 @@
--- One step from a path in one line: the path stays in line, nothing can close it, or a plane is fixed. Assumes nothing.
+-- One step from a path in one line: the path stays in line, nothing can close it, or a plane is fixed.
 use mathlib.Core.Bool.{Bool, true, false}
 use mathlib.Core.List.{List, [], _∷_, _++_, map}
 use mathlib.Core.Path.{_≡_, refl, sym, ap, _∙_, subst}

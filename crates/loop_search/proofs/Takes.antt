@@ -1,4 +1,4 @@
--- A path that is taken in: with room for it, without, and only where it is closed. Assumes nothing.
+-- A path that is taken in: with room for it, without, and only where it is closed.
 use mathlib.Core.Bool.{Bool, true, false}
 use mathlib.Core.List.{List, [], _∷_, _++_}
 use mathlib.Core.Path.{_≡_, sym, ap, _∙_, subst}

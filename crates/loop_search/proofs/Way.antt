@@ -1,4 +1,4 @@
--- The search's path: its row, and the path with one vertex more. Assumes nothing.
+-- The search's path: its row, and the path with one vertex more.
 use mathlib.Core.List.{List, [], _∷_, _++_, append-assoc}
 use mathlib.Core.Path.{_≡_, refl, sym, ap, _∙_, subst}
 use Prim.Native.Nat.{ℕ, suc, _+_, _-_, _≤_, _<_}

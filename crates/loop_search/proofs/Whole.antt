@@ -1,4 +1,4 @@
--- The whole search: what the loop over the starts keeps, and that the rooms hold the drawing's loops in the end. Assumes nothing.
+-- The whole search: what the loop over the starts keeps, and that the rooms hold the drawing's loops in the end.
 use mathlib.Core.Bool.{Bool}
 use mathlib.Core.List.{List, [], _∷_, _++_, map, flatMap}
 use mathlib.Core.Path.{_≡_, refl, sym, ap, _∙_, subst}

@@ -1,4 +1,4 @@
--- A path in one line: what its next vertex makes of it, and what is found from it. Assumes nothing.
+-- A path in one line: what its next vertex makes of it, and what is found from it.
 use mathlib.Core.Bool.{Bool, true, false}
 use mathlib.Core.List.{List, map}
 use mathlib.Core.Path.{_≡_}

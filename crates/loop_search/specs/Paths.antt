@@ -1,4 +1,4 @@
--- A path of the search, the vertices that it may still use, and what is found from it. Assumes nothing.
+-- A path of the search, the vertices that it may still use, and what is found from it.
 use mathlib.Core.Bool.{Bool}
 use mathlib.Core.List.{List, [], _∷_}
 use mathlib.Core.Path.{_≡_}

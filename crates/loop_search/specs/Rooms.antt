@@ -1,4 +1,4 @@
--- What the search writes: a row and a plane for each loop, and how many it met. Assumes nothing.
+-- What the search writes: a row and a plane for each loop, and how many it met.
 use mathlib.Core.List.{List, [], _∷_, _++_}
 use mathlib.Core.Path.{_≡_}
 use Prim.Native.Nat.{ℕ, suc, _*_, _≤_, _<_, min}

@@ -1,4 +1,4 @@
--- The starts of the search, and the whole of it. Assumes nothing.
+-- The starts of the search, and the whole of it.
 use mathlib.Core.List.{List}
 use mathlib.Core.Option.{none}
 use mathlib.Core.Path.{_≡_}

@@ -1,4 +1,4 @@
--- Laws of loops as the code holds them. Assumes nothing.
+-- Laws of loops as the code holds them.
 pub mod Rows
 pub mod Words
 pub mod Loops

@@ -1,4 +1,4 @@
--- The loops of a drawing in range: what is read of them, and their rows as polygons. Assumes nothing.
+-- The loops of a drawing in range: what is read of them, and their rows as polygons.
 use mathlib.Core.Path.{_≡_, refl, sym, ap, _∙_, subst}
 use mathlib.Core.List.{List}
 use Prim.Native.Nat.{ℕ, _≤_, _<_}

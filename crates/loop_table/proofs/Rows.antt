@@ -1,4 +1,4 @@
--- The rows of a table that holds loops, read as the code reads them, and one row more. Assumes nothing.
+-- The rows of a table that holds loops, read as the code reads them, and one row more.
 use mathlib.Core.Path.{_≡_, sym, ap, _∙_}
 use mathlib.Core.List.{List, [], _∷_, _++_, flatMap}
 use Prim.Native.Nat.{ℕ, zero, suc, _+_, _*_, _≤_, _<_}

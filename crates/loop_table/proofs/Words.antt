@@ -1,4 +1,4 @@
--- Words of masks, one for each loop: read as the code reads them, and one word more. Assumes nothing.
+-- Words of masks, one for each loop: read as the code reads them, and one word more.
 use mathlib.Core.Bool.{Bool}
 use mathlib.Core.Path.{_≡_, refl, sym, ap, _∙_}
 use mathlib.Core.List.{List, [], _∷_, _++_, flatMap}

@@ -1,4 +1,4 @@
--- What contracts on loops cite beside the paper. Assumes nothing.
+-- What contracts on loops cite beside the paper.
 pub mod Passed
 pub mod Tables
 pub mod Loops

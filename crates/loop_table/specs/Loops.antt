@@ -1,4 +1,4 @@
--- Loops of a drawing, as a table holds them. Assumes nothing.
+-- Loops of a drawing, as a table holds them.
 use mathlib.Core.List.{List}
 use Prim.Native.Nat.{ℕ, _≤_, _<_}
 use lib.ListN.{length}

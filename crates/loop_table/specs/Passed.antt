@@ -1,4 +1,4 @@
--- A drawing that has passed 3 to 14, as its two lists. Assumes nothing.
+-- A drawing that has passed 3 to 14, as its two lists.
 use mathlib.Core.Path.{_≡_}
 use mathlib.Core.List.{List}
 use mathlib.Core.Option.{none}

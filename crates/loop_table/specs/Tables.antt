@@ -1,4 +1,4 @@
--- Loops in a flat table, a row of 13 bytes for each, and masks of loops in a list of words. Assumes nothing.
+-- Loops in a flat table, a row of 13 bytes for each, and masks of loops in a list of words.
 use mathlib.Core.Bool.{Bool}
 use mathlib.Core.List.{List, [], _∷_}
 use mathlib.Core.Path.{_≡_}

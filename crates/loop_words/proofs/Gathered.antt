@@ -1,4 +1,4 @@
--- A word that gathers numbers one by one: bit v is set where v is one of them. Assumes nothing.
+-- A word that gathers numbers one by one: bit v is set where v is one of them.
 use mathlib.Core.Path.{_≡_, sym, ap, _∙_}
 use mathlib.Core.Bool.{Bool, _||_}
 use mathlib.Core.List.{List}

@@ -1,4 +1,4 @@
--- The masks of a loop's corners and sides have the numbers that the code gathers from its row. Assumes nothing.
+-- The masks of a loop's corners and sides have the numbers that the code gathers from its row.
 use mathlib.Core.Path.{_≡_, refl, sym, ap, _∙_}
 use mathlib.Core.Bool.{true, false}
 use mathlib.Core.Logic.{_⊎_, inl, inr}

@@ -1,5 +1,4 @@
--- The entries of edges in a table with one for each pair of vertices: those of two edges are different, since edges rise. Assumes
--- nothing.
+-- The entries of edges in a table with one for each pair of vertices: those of two edges are different, since edges rise.
 use mathlib.Core.Path.{_≡_, sym, ap, _∙_}
 use mathlib.Core.Bool.{true, _&&_}
 use mathlib.Core.Logic.{_⊎_, inl, inr}

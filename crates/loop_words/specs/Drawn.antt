@@ -1,5 +1,4 @@
 -- The words of rows that are loops of a drawing. A drawing is not lent: contracts speak of every one of which the rows are loops.
--- Assumes nothing.
 use mathlib.Core.Path.{_≡_}
 use mathlib.Core.List.{List}
 use Prim.Native.Nat.{ℕ, _+_, _*_, _≤_, _<_}

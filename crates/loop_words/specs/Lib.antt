@@ -1,3 +1,3 @@
--- What contracts of this crate cite beside the paper. Assumes nothing.
+-- What contracts of this crate cite beside the paper.
 pub mod Numbered
 pub mod Drawn

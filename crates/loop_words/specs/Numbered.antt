@@ -1,4 +1,4 @@
--- The numbers of edges by their ends, in a table with an entry for each pair of vertices. Assumes nothing.
+-- The numbers of edges by their ends, in a table with an entry for each pair of vertices.
 use mathlib.Core.Path.{_≡_}
 use mathlib.Core.List.{List}
 use mathlib.Core.Option.{none}

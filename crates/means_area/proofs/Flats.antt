@@ -1,4 +1,4 @@
--- A simple polygon in the flat has an area. Assumes nothing.
+-- A simple polygon in the flat has an area.
 -- By induction on the number of corners, of two claims at once: twice the area has the sign of the turn at the lowest corner u; and so
 -- has what is left
 -- without u, where the triangle of u and its neighbours has no corner inside. At u either that triangle is empty, or a chord from u to a

@@ -1,4 +1,4 @@
--- A simple ring in a plane of space has a normal, and is seen as a simple ring in the flat. Assumes nothing.
+-- A simple ring in a plane of space has a normal, and is seen as a simple ring in the flat.
 -- Along an axis along which the plane's direction is not 0 the ring is seen as a simple ring in the flat, whose area is the normal's
 -- coordinate up to the sign.
 pub mod Maps

@@ -1,4 +1,4 @@
--- Simple rings in the flat, and twice the area. Assumes nothing.
+-- Simple rings in the flat, and twice the area.
 use mathlib.Core.Path.{_≡_}
 use mathlib.Core.List.{List, [], _∷_}
 use lib.IntN.{ℤ, pos, _+ℤ_, _-ℤ_, _*ℤ_}

@@ -1,4 +1,4 @@
--- Simple rings in a plane of space. Assumes nothing.
+-- Simple rings in a plane of space.
 use mathlib.Core.Path.{_≡_}
 use mathlib.Core.List.{List, [], _∷_}
 use lib.IntN.{ℤ, pos}

@@ -1,4 +1,4 @@
--- What is proved of polygons and loops: that they have an area, a plane of their own, and are seen without loss. Assumes nothing.
+-- What is proved of polygons and loops: that they have an area, a plane of their own, and are seen without loss.
 use mathlib.Core.Path.{_≡_}
 use mathlib.Core.Option.{none}
 use mathlib.Core.List.{List, map}

@@ -1,5 +1,5 @@
 -- A ray in the direction of the line, from a point before the first border point, meets the sides that the ray from the start meets; and
--- some side is met. Assumes nothing.
+-- some side is met.
 use mathlib.Core.Path.{_≡_, refl, sym, _∙_, ap}
 use mathlib.Core.Bool.{Bool, true, false, xor}
 use mathlib.Core.Logic.{_⊎_, inl, inr}

@@ -1,4 +1,4 @@
--- In the flat: from a point strictly inside a ring, in any direction, the first border point; what is before it is inside. Assumes nothing.
+-- In the flat: from a point strictly inside a ring, in any direction, the first border point; what is before it is inside.
 use mathlib.Core.Path.{_≡_, refl, sym, _∙_, ap, ap₂, subst}
 use mathlib.Core.Bool.{Bool, true, false, xor, true≢false}
 use mathlib.Core.Logic.{_⊎_, inl, inr}

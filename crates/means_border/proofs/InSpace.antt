@@ -1,5 +1,4 @@
 -- In space: from a point strictly inside a polygon, in a direction of its plane, the first border point; what is before it is inside.
--- Assumes nothing.
 use mathlib.Core.Path.{_≡_, refl, sym, _∙_, ap}
 use mathlib.Core.List.{[], _∷_, map}
 use lib.IntN.{ℤ, pos, _+ℤ_, _-ℤ_, _*ℤ_}

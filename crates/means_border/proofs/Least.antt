@@ -1,4 +1,4 @@
--- The least of the fractions at which the sides of a ring are first met. Assumes nothing.
+-- The least of the fractions at which the sides of a ring are first met.
 use mathlib.Core.Path.{_≡_, refl, sym, subst}
 use mathlib.Core.Logic.{_⊎_, inl, inr}
 use mathlib.Core.List.{List, [], _∷_}

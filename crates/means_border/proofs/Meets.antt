@@ -1,5 +1,4 @@
--- Every side that the start is not on is never met, or first met at a fraction: by the sides of the line on which its ends are. Assumes
--- nothing.
+-- Every side that the start is not on is never met, or first met at a fraction: by the sides of the line on which its ends are.
 use mathlib.Core.Path.{_≡_, sym, _∙_, ap, ap₂}
 use mathlib.Core.Logic.{_⊎_, inl, inr}
 use mathlib.Core.List.{[], _∷_}

@@ -1,4 +1,4 @@
--- One side along a line from a point that is not on it: it is never met, or first met at a fraction. Assumes nothing.
+-- One side along a line from a point that is not on it: it is never met, or first met at a fraction.
 use mathlib.Core.Path.{_≡_, _∙_, ap}
 use mathlib.Core.List.{List, [], _∷_}
 use lib.IntN.{ℤ, pos, negℤ, _+ℤ_, _-ℤ_, _*ℤ_}

@@ -1,4 +1,4 @@
--- From a point strictly inside a loop, in a direction of its plane: the first border point, and all before it is inside. Assumes nothing.
+-- From a point strictly inside a loop, in a direction of its plane: the first border point, and all before it is inside.
 use mathlib.Core.Path.{_≡_}
 use mathlib.Core.List.{List}
 use lib.IntN.{ℤ, pos, _+ℤ_, _*ℤ_}

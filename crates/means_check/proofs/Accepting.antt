@@ -1,4 +1,4 @@
--- Demand 3: the check accepts a list exactly when it names one solid with its directions. Assumes nothing.
+-- Demand 3: the check accepts a list exactly when it names one solid with its directions.
 use mathlib.Core.Path.{_≡_, refl, sym, ap, subst, _∙_}
 use mathlib.Core.Bool.{Bool, not}
 use mathlib.Core.Option.{Option, none, some}

@@ -1,5 +1,5 @@
 -- What follows of demand 3: each solid is accepted, in any order and from any starts; no body but a solid is; and a list made from an
--- accepted one by turning, leaving out or doubling faces is refused. Assumes nothing.
+-- accepted one by turning, leaving out or doubling faces is refused.
 use mathlib.Core.Path.{_≡_, refl, sym, ap, subst, _∙_}
 use mathlib.Core.Bool.{Bool, true, false, cond}
 use mathlib.Core.Logic.{_⊎_, inl, inr}

@@ -1,5 +1,5 @@
 -- What changes its sign with a side's direction adds up to (0,0,0) round all faces of a solid, each in its direction: each side meets one
--- of another face. Assumes nothing.
+-- of another face.
 use mathlib.Core.Path.{_≡_, refl, sym, ap, ap₂, subst, _∙_}
 use mathlib.Core.Bool.{Bool, true, false, _&&_, cond}
 use mathlib.Core.Logic.{_⊎_, inl, inr}

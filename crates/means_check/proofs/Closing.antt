@@ -1,4 +1,4 @@
--- The faces of a solid close: their normals, each in its face's direction, add up to (0,0,0). Assumes nothing.
+-- The faces of a solid close: their normals, each in its face's direction, add up to (0,0,0).
 use mathlib.Core.Path.{_≡_, ap, _∙_}
 use mathlib.Core.Bool.{Bool}
 use mathlib.Core.List.{List, [], _∷_}

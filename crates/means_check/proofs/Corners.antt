@@ -1,4 +1,4 @@
--- The corners of a solid's faces are at most two for each edge: each side is an edge, and each edge is a side of two. Assumes nothing.
+-- The corners of a solid's faces are at most two for each edge: each side is an edge, and each edge is a side of two.
 use mathlib.Core.Path.{_≡_, refl, sym, ap₂, _∙_, subst}
 use mathlib.Core.Bool.{Bool, true, false, _&&_, cond}
 use mathlib.Core.Logic.{_⊎_, inl, inr}

@@ -1,4 +1,4 @@
--- The cube of document 01 is a solid of its drawing, in plain mathematics: its list is accepted, by evaluation. Assumes nothing.
+-- The cube of document 01 is a solid of its drawing, in plain mathematics: its list is accepted, by evaluation.
 use mathlib.Core.Path.{_≡_, refl}
 use Rattle.paper.specs.Format.{editionOne}
 use Rattle.paper.specs.Sheet.{lentChecks}

@@ -1,4 +1,4 @@
--- Demand 3, of the whole check, with nothing assumed of the drawing. Assumes nothing.
+-- Demand 3, of the whole check, with nothing assumed of the drawing.
 use mathlib.Core.Path.{_≡_, sym, subst, _∙_}
 use mathlib.Core.Bool.{Bool, true}
 use mathlib.Core.Option.{none, some}

@@ -1,4 +1,4 @@
--- Demand 3 of a drawing that is lent as two lists, and of one on a sheet. Assumes nothing.
+-- Demand 3 of a drawing that is lent as two lists, and of one on a sheet.
 use mathlib.Core.Path.{_≡_, _∙_}
 use mathlib.Core.Bool.{Bool, not}
 use mathlib.Core.List.{List, _++_}

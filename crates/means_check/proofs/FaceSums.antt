@@ -1,5 +1,4 @@
 -- Sums over the faces of a solid, each in its direction: they go face by face, and of what is along one direction they are along it.
--- Assumes nothing.
 use mathlib.Core.Path.{_≡_, refl, sym, ap, ap₂, _∙_}
 use mathlib.Core.Bool.{Bool, true, false, cond}
 use mathlib.Core.List.{List, [], _∷_}

@@ -1,4 +1,4 @@
--- A solid of a drawing with at most 64 edges has at most 42 faces, and so its faces can be sent as a list. Assumes nothing.
+-- A solid of a drawing with at most 64 edges has at most 42 faces, and so its faces can be sent as a list.
 use mathlib.Core.Path.{_≡_, refl, sym, ap, subst, _∙_}
 use mathlib.Core.Bool.{Bool, true, false, cond}
 use mathlib.Core.Option.{none}

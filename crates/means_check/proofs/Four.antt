@@ -1,4 +1,4 @@
--- A solid has at least four faces: with fewer, some vertex is on all of them, and there is no volume. Assumes nothing.
+-- A solid has at least four faces: with fewer, some vertex is on all of them, and there is no volume.
 use mathlib.Core.Path.{_≡_, refl, sym, ap, subst, _∙_}
 use mathlib.Core.Bool.{Bool, true, false}
 use mathlib.Core.Logic.{_⊎_, inl, inr}

@@ -1,5 +1,4 @@
 -- A list of faces by the numbers of their candidates: what passes 21 and 22 names a selection with directions, and what names one passes.
--- Assumes nothing.
 use mathlib.Core.Path.{_≡_, refl, sym, ap, subst, _∙_}
 use mathlib.Core.Bool.{Bool, true, false, not, cond, true≢false}
 use mathlib.Core.Logic.{_⊎_, inl, inr}

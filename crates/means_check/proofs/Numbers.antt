@@ -1,4 +1,4 @@
--- Searches, the number of a face, and a mask from the numbers. Assumes nothing.
+-- Searches, the number of a face, and a mask from the numbers.
 use mathlib.Core.Path.{_≡_, refl, sym, subst, _∙_}
 use mathlib.Core.Bool.{Bool, true, false}
 use mathlib.Core.Logic.{_⊎_, inl, inr}

@@ -1,4 +1,4 @@
--- A solid has a face, and no solid is a part of another. Assumes nothing.
+-- A solid has a face, and no solid is a part of another.
 use mathlib.Core.Path.{_≡_, sym, subst, _∙_}
 use mathlib.Core.Bool.{Bool, true}
 use mathlib.Core.Logic.{_⊎_, inl, inr}

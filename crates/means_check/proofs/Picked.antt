@@ -1,4 +1,4 @@
--- The numbers that pass, each once, and digits that are set. Assumes nothing.
+-- The numbers that pass, each once, and digits that are set.
 use mathlib.Core.Path.{_≡_, refl, ap}
 use mathlib.Core.Bool.{Bool, true, false}
 use mathlib.Core.List.{List}

@@ -1,4 +1,4 @@
--- Two faces of a solid that share an edge, and the next edge round a corner that they do not share. Assumes nothing.
+-- Two faces of a solid that share an edge, and the next edge round a corner that they do not share.
 use mathlib.Core.Path.{_≡_, refl, sym, ap, subst, _∙_}
 use mathlib.Core.Bool.{Bool, true, false}
 use mathlib.Core.Logic.{_⊎_, inl, inr}

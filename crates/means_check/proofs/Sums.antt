@@ -1,4 +1,4 @@
--- Sums of points over numbers: the order does not matter, and what cancels in pairs is (0,0,0). Assumes nothing.
+-- Sums of points over numbers: the order does not matter, and what cancels in pairs is (0,0,0).
 use mathlib.Core.Path.{_≡_, refl, sym, ap, ap₂, _∙_}
 use mathlib.Core.List.{List, [], _∷_}
 use Prim.Native.Nat.{ℕ, zero, suc, _+_, _≤_, _<_}

@@ -1,4 +1,4 @@
--- Each of the checks 23 to 27 finds none just where one of (i) to (v) holds of the selection. Assumes nothing.
+-- Each of the checks 23 to 27 finds none just where one of (i) to (v) holds of the selection.
 use mathlib.Core.Path.{_≡_, refl, sym, ap, subst, _∙_}
 use mathlib.Core.Bool.{Bool, true, false, not}
 use mathlib.Core.Option.{none}

@@ -1,4 +1,4 @@
--- A solid whose faces all pass through one vertex has no volume. Assumes nothing.
+-- A solid whose faces all pass through one vertex has no volume.
 use mathlib.Core.Path.{_≡_, sym, ap, _∙_}
 use mathlib.Core.Bool.{Bool, true}
 use mathlib.Core.List.{List, [], _∷_}

@@ -1,4 +1,4 @@
--- What the face-list check is to accept: demand 3. Assumes nothing.
+-- What the face-list check is to accept: demand 3.
 use mathlib.Core.Path.{_≡_}
 use mathlib.Core.Bool.{Bool, true}
 use mathlib.Core.List.{List}

@@ -1,4 +1,4 @@
--- Bodies: lists of faces, told apart by their directed rings alone. Assumes nothing.
+-- Bodies: lists of faces, told apart by their directed rings alone.
 use mathlib.Core.Path.{_≡_}
 use mathlib.Core.Bool.{Bool}
 use mathlib.Core.Logic.{_⊎_}

@@ -1,4 +1,4 @@
--- What the check needs of candidates. Assumes nothing.
+-- What the check needs of candidates.
 use mathlib.Core.Path.{_≡_}
 use mathlib.Core.List.{List}
 use Prim.Native.Nat.{ℕ, _<_}

@@ -1,4 +1,4 @@
--- A solid's faces, as they are sent in a face list. Assumes nothing.
+-- A solid's faces, as they are sent in a face list.
 use mathlib.Core.Bool.{Bool}
 use mathlib.Core.List.{List, map}
 use lib.ListN.{length}

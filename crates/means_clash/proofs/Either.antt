@@ -1,4 +1,4 @@
--- Faces in their planes clash either way round. Assumes nothing.
+-- Faces in their planes clash either way round.
 use mathlib.Core.Bool.{Bool, true, false, not, _&&_, _||_, true≢false}
 use mathlib.Core.List.{List, [], _∷_}
 use mathlib.Core.Logic.{_⊎_, inl, inr}

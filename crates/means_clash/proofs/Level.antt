@@ -1,4 +1,4 @@
--- The plane that the loop search finds while it goes: it stays, once it is there. Assumes nothing.
+-- The plane that the loop search finds while it goes: it stays, once it is there.
 use mathlib.Core.List.{[], _∷_}
 use mathlib.Core.Path.{_≡_}
 use lib.IntN.{pos}

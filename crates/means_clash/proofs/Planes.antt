@@ -1,4 +1,4 @@
--- "both lie in one plane" goes either way round, for faces in their planes with an area. Assumes nothing.
+-- "both lie in one plane" goes either way round, for faces in their planes with an area.
 use mathlib.Core.Bool.{Bool, true, false, true≢false}
 use mathlib.Core.List.{List, [], _∷_}
 use mathlib.Core.Path.{_≡_, refl, sym, _∙_}

@@ -1,4 +1,4 @@
--- The test of a clash is true just where A, B or C holds. Assumes nothing.
+-- The test of a clash is true just where A, B or C holds.
 use mathlib.Core.Path.{_≡_, refl, sym, ap, subst, _∙_}
 use mathlib.Core.Bool.{Bool, true, false, not, _&&_, _||_}
 use mathlib.Core.Logic.{_⊎_, inl, inr}

@@ -1,4 +1,4 @@
--- "Faces F and G clash if, either way round" A, B or C holds, in words: no test and no search. Assumes nothing.
+-- "Faces F and G clash if, either way round" A, B or C holds, in words: no test and no search.
 -- `planeSide g p` is above, below or at zero as p is on one side of g's plane, on the other, or in it; `lies` says where a point of that
 -- plane is, and `means_inside` what its answers mean.
 use mathlib.Core.Path.{_≡_}

@@ -1,4 +1,4 @@
--- A point strictly inside one face and on a side of another: rule A, rule B, or the side is in the plane. Assumes nothing.
+-- A point strictly inside one face and on a side of another: rule A, rule B, or the side is in the plane.
 use mathlib.Core.Path.{_≡_, refl, sym, _∙_, ap}
 use mathlib.Core.Logic.{_⊎_, inl, inr}
 use mathlib.Core.List.{[], _∷_}

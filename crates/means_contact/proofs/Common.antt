@@ -1,4 +1,4 @@
--- Two faces with two common corners, and the first part of the way from one to the other strictly inside both: rule C. Assumes nothing.
+-- Two faces with two common corners, and the first part of the way from one to the other strictly inside both: rule C.
 use mathlib.Core.Path.{_≡_, sym, _∙_, ap}
 use mathlib.Core.Option.{none}
 use Prim.Native.Nat.{ℕ, _<_}

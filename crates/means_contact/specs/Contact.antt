@@ -1,5 +1,5 @@
 -- A point strictly inside one face and on a side of another is told by rule A or B, unless the side lies in the plane of the first; a way
--- between two common corners that starts strictly inside both faces is told by rule C. Assumes nothing.
+-- between two common corners that starts strictly inside both faces is told by rule C.
 use mathlib.Core.Path.{_≡_}
 use mathlib.Core.Logic.{_⊎_}
 use mathlib.Core.Option.{none}

@@ -1,4 +1,4 @@
--- A direction strictly outside the angle leads out, whatever corner the ring starts at. Assumes nothing.
+-- A direction strictly outside the angle leads out, whatever corner the ring starts at.
 use mathlib.Core.Path.{_≡_, refl, sym, _∙_, ap, subst}
 use mathlib.Core.Logic.{_⊎_, inl, inr, ⊎-elim}
 use mathlib.Core.List.{List, [], _∷_, _++_}

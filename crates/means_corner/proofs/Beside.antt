@@ -1,4 +1,4 @@
--- The first part of the way from a corner in a direction strictly inside the angle is on no side of the ring. Assumes nothing.
+-- The first part of the way from a corner in a direction strictly inside the angle is on no side of the ring.
 use mathlib.Core.Path.{_≡_, refl, sym, _∙_, ap, subst}
 use mathlib.Core.Logic.{_⊎_, inl, inr}
 use mathlib.Core.List.{List, [], _∷_}

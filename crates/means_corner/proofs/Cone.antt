@@ -1,5 +1,4 @@
 -- The closed angle at a point, counterclockwise from one direction to another, by signs of turns. A third direction parts it in two.
--- Assumes nothing.
 use mathlib.Core.Path.{_≡_, refl, sym, _∙_, ap}
 use mathlib.Core.Bool.{Bool, true, not, _&&_, _||_, cond}
 use mathlib.Core.Logic.{_⊎_, inl, inr}

@@ -1,4 +1,4 @@
--- A direction strictly inside the angle at a corner of a simple ring leads into it. Assumes nothing.
+-- A direction strictly inside the angle at a corner of a simple ring leads into it.
 use mathlib.Core.Path.{_≡_, sym, _∙_, ap, subst}
 use mathlib.Core.Bool.{not, _&&_, _||_, cond}
 use mathlib.Core.Logic.{_⊎_, inl, inr, ⊎-elim}

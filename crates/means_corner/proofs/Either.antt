@@ -1,4 +1,4 @@
--- A direction that is not strictly outside an angle, and does not go along one of its sides, is strictly inside it. Assumes nothing.
+-- A direction that is not strictly outside an angle, and does not go along one of its sides, is strictly inside it.
 use mathlib.Core.Path.{_≡_, sym, _∙_, ap}
 use mathlib.Core.Logic.{_⊎_, inl, inr}
 use mathlib.Core.List.{[], _∷_}

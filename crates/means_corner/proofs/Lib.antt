@@ -1,4 +1,4 @@
--- What a corner angle means. Assumes nothing.
+-- What a corner angle means.
 pub mod Signs
 pub mod Small
 pub mod Cone

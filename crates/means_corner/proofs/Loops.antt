@@ -1,5 +1,5 @@
 -- Of the loops of a drawing that passes 11 and 13: a direction strictly inside a corner angle, as rule C decides it, leads into the loop,
--- and no other does; one strictly outside it leads out. Assumes nothing.
+-- and no other does; one strictly outside it leads out.
 use mathlib.Core.Path.{_≡_, refl, sym, _∙_, ap, subst}
 use mathlib.Core.Option.{none}
 use mathlib.Core.Logic.{_⊎_, inl, inr, ⊎-elim}

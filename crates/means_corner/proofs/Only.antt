@@ -1,4 +1,4 @@
--- Only a direction strictly inside the angle at a corner of a simple ring leads into it. Assumes nothing.
+-- Only a direction strictly inside the angle at a corner of a simple ring leads into it.
 use mathlib.Core.Path.{_≡_, refl, sym, _∙_, ap, subst}
 use mathlib.Core.Logic.{_⊎_, inl, inr, ⊎-elim}
 use mathlib.Core.List.{List, [], _∷_}

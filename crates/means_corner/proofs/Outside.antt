@@ -1,4 +1,4 @@
--- A direction strictly outside the angle at a corner of a simple ring leads out of it. Assumes nothing.
+-- A direction strictly outside the angle at a corner of a simple ring leads out of it.
 use mathlib.Core.Path.{_≡_, refl, sym, _∙_, ap}
 use mathlib.Core.Bool.{Bool, true, false, xor, true≢false}
 use mathlib.Core.Logic.{_⊎_, inl, inr, ⊎-elim}

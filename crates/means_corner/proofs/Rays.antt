@@ -1,5 +1,5 @@
 -- From a point near a corner v, the ray through v: of the sides away from v it meets those that the ray from v meets, and of the two at v
--- those whose other end is to the left. So two points near v differ in parity as the two sides lie between them. Assumes nothing.
+-- those whose other end is to the left. So two points near v differ in parity as the two sides lie between them.
 use mathlib.Core.Path.{_≡_, refl, sym, _∙_, ap}
 use mathlib.Core.Bool.{Bool, true, false, not, _&&_, xor, true≢false}
 use mathlib.Core.Logic.{_⊎_, inl, inr}

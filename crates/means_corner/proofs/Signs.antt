@@ -1,4 +1,4 @@
--- What an equation leaves of the signs of its terms; signs that a test tells. Assumes nothing.
+-- What an equation leaves of the signs of its terms; signs that a test tells.
 use mathlib.Core.Path.{_≡_, refl, sym, _∙_, ap}
 use mathlib.Core.Bool.{Bool, true, false, not, _&&_, _||_, cond, true≢false}
 use mathlib.Core.List.{List, [], _∷_}

@@ -1,4 +1,4 @@
--- What holds of all small fractions. Assumes nothing.
+-- What holds of all small fractions.
 use mathlib.Core.List.{[], _∷_}
 use Prim.Native.Nat.{ℕ, suc, _+_, _*_, _≤_, _<_}
 use native.Mathlib.Omega.{arith}

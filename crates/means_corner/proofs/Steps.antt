@@ -1,5 +1,5 @@
 -- The first part of the way from a corner in a direction: its turns, and that it is in a triangle at whose corner the direction is in the
--- angle. Assumes nothing.
+-- angle.
 use mathlib.Core.Path.{_≡_, sym, _∙_, ap, subst}
 use mathlib.Core.List.{[], _∷_}
 use Prim.Native.Nat.{ℕ}

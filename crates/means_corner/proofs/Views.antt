@@ -1,5 +1,4 @@
--- What a view along an axis shows of a plane: its turns have the sign of the determinants with the normal, or all the other. Assumes
--- nothing.
+-- What a view along an axis shows of a plane: its turns have the sign of the determinants with the normal, or all the other.
 use mathlib.Core.Path.{_≡_, refl, sym, _∙_, ap, ap₂}
 use mathlib.Core.Logic.{_⊎_, inl, inr}
 use mathlib.Core.List.{List, [], _∷_, map}

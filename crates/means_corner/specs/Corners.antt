@@ -1,4 +1,4 @@
--- A direction strictly inside a corner angle leads into the loop and no other does, and one strictly outside it leads out. Assumes nothing.
+-- A direction strictly inside a corner angle leads into the loop and no other does, and one strictly outside it leads out.
 use mathlib.Core.Path.{_≡_}
 use mathlib.Core.Logic.{_↔_, _⊎_}
 use mathlib.Core.Option.{none}

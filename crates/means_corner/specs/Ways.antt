@@ -1,4 +1,4 @@
--- A place on a way, in the flat. Assumes nothing.
+-- A place on a way, in the flat.
 use lib.IntN.{ℤ, _+ℤ_, _*ℤ_}
 use Rattle.paper.specs.declared.Flat.{Flat}
 

@@ -1,4 +1,4 @@
--- The table's 11 to 14: each finds the lowest that offends, and finds none exactly when none does. Assumes nothing.
+-- The table's 11 to 14: each finds the lowest that offends, and finds none exactly when none does.
 -- 11: two vertices are at one point. 12: a vertex is on no edge. 13: an edge shares a point with a vertex or edge other than at its own
 -- end vertices. 14: a vertex is not reachable from vertex 0.
 pub mod Vertices

@@ -1,5 +1,5 @@
 -- The table's 11 to 14, proved of their definitions. Each file states a group of theorems; the longer proofs are in the folder of its
--- name. Assumes nothing.
+-- name.
 -- common points of segments
 pub mod Segments
 -- what the drawing rules find

@@ -1,4 +1,4 @@
--- The lowest number that passes a test, as the lowest that has what the test stands for. Assumes nothing.
+-- The lowest number that passes a test, as the lowest that has what the test stands for.
 use mathlib.Core.Path.{_≡_, refl, sym, _∙_}
 use mathlib.Core.Bool.{Bool, true, false, cond, true≢false}
 use mathlib.Core.Logic.{_↔_}

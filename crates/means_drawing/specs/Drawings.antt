@@ -1,4 +1,4 @@
--- The table's 11 to 14 in plain mathematics: what is wrong with a vertex or an edge. Assumes nothing.
+-- The table's 11 to 14 in plain mathematics: what is wrong with a vertex or an edge.
 use mathlib.Core.Path.{_≡_}
 use mathlib.Core.Logic.{_⊎_}
 use mathlib.Core.Option.{Option, none, some}

@@ -1,4 +1,4 @@
--- What the table's 11 to 14 answer, in plain mathematics. Assumes nothing.
+-- What the table's 11 to 14 answer, in plain mathematics.
 use mathlib.Core.Path.{_≡_}
 use mathlib.Core.Bool.{true, false}
 use mathlib.Core.Logic.{_↔_, _⊎_}

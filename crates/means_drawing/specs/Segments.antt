@@ -1,4 +1,4 @@
--- Common points of segments, in whole numbers. Assumes nothing.
+-- Common points of segments, in whole numbers.
 -- A point of a segment is at a place, which is place / scale of the way from the segment's first end to its second.
 use mathlib.Core.Path.{_≡_}
 use lib.IntN.{ℤ, pos}

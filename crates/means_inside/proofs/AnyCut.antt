@@ -1,4 +1,4 @@
--- Every triangulation whose triangles turn the way that the ring does has the inside and the border for its region. Assumes nothing.
+-- Every triangulation whose triangles turn the way that the ring does has the inside and the border for its region.
 -- With one sign for all triangles no count takes another back: a point in one of them is gone round by the ring, for some ray, and so in
 -- every other such triangulation it is in a triangle too; one of them is that of `means`.
 use mathlib.Core.Path.{_≡_, sym, _∙_}

@@ -1,5 +1,5 @@
 -- Two rings that do not cross, with the corners of each outside of the other or common; and the two parts of a ring cut at its lowest
--- corner. Assumes nothing.
+-- corner.
 use mathlib.Core.Path.{_≡_, refl, sym, _∙_, ap, subst}
 use mathlib.Core.Bool.{Bool, false, xor}
 use mathlib.Core.Logic.{_⊎_, inl, inr}

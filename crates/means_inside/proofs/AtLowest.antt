@@ -1,4 +1,4 @@
--- At the lowest corner of both rings: no point is odd in both, if none is with fewer corners. Assumes nothing.
+-- At the lowest corner of both rings: no point is odd in both, if none is with fewer corners.
 use mathlib.Core.Path.{_≡_, refl, sym, _∙_, ap, subst}
 use mathlib.Core.Bool.{Bool, true, false, xor, true≢false}
 use mathlib.Core.Logic.{_⊎_, inl, inr}

@@ -1,4 +1,4 @@
--- A ring in a plane of space, seen along any axis that the plane is not along, gives the same answer. Assumes nothing.
+-- A ring in a plane of space, seen along any axis that the plane is not along, gives the same answer.
 -- All turns change by one factor, and a ray is asked by turns alone. Where the factor is below 0 the ray is asked the other way.
 use mathlib.Core.Path.{_≡_, refl, sym, _∙_, ap, subst}
 use mathlib.Core.Bool.{Bool, true, xor}

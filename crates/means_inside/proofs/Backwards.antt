@@ -1,4 +1,4 @@
--- A ring run backwards: the same sides, each the other way, and so the same answer. Assumes nothing.
+-- A ring run backwards: the same sides, each the other way, and so the same answer.
 -- The way from x along l to e, run backwards, is the way from e along the reversed l to x; and a side counts the same from either end.
 use mathlib.Core.Path.{_≡_, refl, sym, _∙_, ap, subst}
 use mathlib.Core.Bool.{Bool, xor}

@@ -1,4 +1,4 @@
--- Every ray from a point on no side meets the same parity of sides. Assumes nothing.
+-- Every ray from a point on no side meets the same parity of sides.
 use mathlib.Core.Path.{_≡_, refl, sym, _∙_, ap}
 use mathlib.Core.Bool.{Bool, true, false, not, _&&_, xor, true≢false}
 use mathlib.Core.Logic.{_⊎_, inl, inr}

@@ -1,4 +1,4 @@
--- Two rings that do not cross, with the corners of each outside of the other or common. Assumes nothing.
+-- Two rings that do not cross, with the corners of each outside of the other or common.
 use mathlib.Core.Path.{_≡_, refl, sym, _∙_, ap, subst}
 use mathlib.Core.Bool.{false}
 use mathlib.Core.Logic.{_⊎_, inl, inr}

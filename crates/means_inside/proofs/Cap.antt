@@ -1,4 +1,4 @@
--- At the lowest corner v: the points of the triangle of v and its neighbours that no corner is beyond are inside. Assumes nothing.
+-- At the lowest corner v: the points of the triangle of v and its neighbours that no corner is beyond are inside.
 use mathlib.Core.Path.{_≡_, refl, sym, _∙_, ap, subst}
 use mathlib.Core.Bool.{true, false, xor}
 use mathlib.Core.Logic.{inl, inr}

@@ -1,4 +1,4 @@
--- A chord from the lowest corner u to w that may be added: its points are seen from u. Assumes nothing.
+-- A chord from the lowest corner u to w that may be added: its points are seen from u.
 use mathlib.Core.Path.{_≡_, sym, _∙_, ap}
 use mathlib.Core.Logic.{inl, inr}
 use mathlib.Core.List.{List, [], _∷_}

@@ -1,4 +1,4 @@
--- A ring that is cut at its lowest corner by a chord: its two parts, each apart from the other ring. Assumes nothing.
+-- A ring that is cut at its lowest corner by a chord: its two parts, each apart from the other ring.
 use mathlib.Core.Path.{_≡_, refl, sym, _∙_, ap, subst}
 use mathlib.Core.Bool.{Bool, true, false, xor, true≢false}
 use mathlib.Core.Logic.{_⊎_, inl, inr}

@@ -1,4 +1,4 @@
--- A point to one side of every side is inside; and inside a convex ring is to one side of every side. Assumes nothing.
+-- A point to one side of every side is inside; and inside a convex ring is to one side of every side.
 -- First: a chord has the point on one hand or on the other, so one of the two parts keeps the property, down to a triangle. Second: from
 -- a point that is not strictly on the hand of a side on which all corners are, the ray along that side meets nothing.
 use mathlib.Core.Path.{_≡_, refl, sym, _∙_, ap, subst}

@@ -1,4 +1,4 @@
--- A point that is odd in a triangle, or on a side of it, is within; one that is so in a ring is so in one of its parts. Assumes nothing.
+-- A point that is odd in a triangle, or on a side of it, is within; one that is so in a ring is so in one of its parts.
 use mathlib.Core.Path.{_≡_, refl, sym, _∙_, ap}
 use mathlib.Core.Bool.{Bool, true, false, xor}
 use mathlib.Core.Logic.{_⊎_, inl, inr}

@@ -1,5 +1,4 @@
--- No point is odd in both of two rings that are apart. By induction on the number of corners, at the lowest corner of both. Assumes
--- nothing.
+-- No point is odd in both of two rings that are apart. By induction on the number of corners, at the lowest corner of both.
 use mathlib.Core.Path.{_≡_, refl, sym, _∙_, ap, subst}
 use mathlib.Core.Bool.{Bool, true, false, xor, true≢false}
 use mathlib.Core.Logic.{_⊎_, inl, inr}

@@ -1,4 +1,4 @@
--- A corner with its neighbours and a point: on the chord, or odd in the triangle, is in it. Assumes nothing.
+-- A corner with its neighbours and a point: on the chord, or odd in the triangle, is in it.
 use mathlib.Core.Path.{_≡_, refl, sym, _∙_, ap, subst}
 use mathlib.Core.Bool.{Bool, true, false, xor}
 use mathlib.Core.Logic.{_⊎_, inl, inr}

@@ -1,5 +1,5 @@
 -- The ray from p through a corner v that is lower than all others: where nothing crosses the segment from v to p, it meets a side only at
--- v. Assumes nothing.
+-- v.
 use mathlib.Core.Path.{_≡_, refl, sym, _∙_, ap}
 use mathlib.Core.Bool.{Bool, true, false, not, xor}
 use mathlib.Core.Logic.{_⊎_, inl, inr}

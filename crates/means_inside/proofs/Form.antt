@@ -1,4 +1,4 @@
--- A ring from its lowest corner on: the same links, and a point is odd in it from either start. Assumes nothing.
+-- A ring from its lowest corner on: the same links, and a point is odd in it from either start.
 use mathlib.Core.Path.{_≡_, refl, sym, _∙_, ap, subst}
 use mathlib.Core.Logic.{_⊎_, inl, inr}
 use mathlib.Core.List.{List, [], _∷_, _++_, map}

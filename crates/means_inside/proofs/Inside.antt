@@ -1,5 +1,5 @@
 -- The theorems: where a point lies in a simple polygon, by its triangles; for every ray; from every start; along a segment that touches
--- no side. Assumes nothing.
+-- no side.
 use mathlib.Core.Path.{_≡_, refl, sym, _∙_, ap}
 use mathlib.Core.Bool.{Bool, true, false, true≢false}
 use mathlib.Core.Logic.{_⊎_, inl, inr}

@@ -1,4 +1,4 @@
--- A ring that is made d times as large: a simple one stays simple. Assumes nothing.
+-- A ring that is made d times as large: a simple one stays simple.
 use mathlib.Core.Path.{_≡_, sym, _∙_, ap, subst}
 use mathlib.Core.List.{List, [], _∷_, map}
 use lib.IntN.{ℤ, _*ℤ_}

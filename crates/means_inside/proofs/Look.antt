@@ -1,5 +1,5 @@
 -- What is seen from a corner v that is lower than its neighbours x and y, of any links: an empty triangle, or a farthest corner w; and
--- points of the chord v w. Two angles at v. Assumes nothing.
+-- points of the chord v w. Two angles at v.
 use mathlib.Core.Path.{_≡_, sym, _∙_, ap}
 use mathlib.Core.Logic.{_⊎_, inl, inr}
 use mathlib.Core.List.{List, [], _∷_}

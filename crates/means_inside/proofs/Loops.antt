@@ -1,4 +1,4 @@
--- The loops of a drawing that passes 11 and 13: where a point of a loop's plane lies. Assumes nothing.
+-- The loops of a drawing that passes 11 and 13: where a point of a loop's plane lies.
 use mathlib.Core.Path.{_≡_, refl}
 use mathlib.Core.Logic.{_↔_}
 use mathlib.Core.Option.{none}

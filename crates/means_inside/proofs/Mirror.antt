@@ -1,4 +1,4 @@
--- A ray asked in a mirror: the sides beyond p on its line are as many as those before p, up to an even number. Assumes nothing.
+-- A ray asked in a mirror: the sides beyond p on its line are as many as those before p, up to an even number.
 -- Numbers that are one up to factors above 0 answer the ray's tests alike; a line meets an even number of sides.
 use mathlib.Core.Path.{_≡_, refl, sym, _∙_, ap}
 use mathlib.Core.Bool.{Bool, true, false, xor, true≢false}

@@ -1,4 +1,4 @@
--- One triangulation for all points p / d. Assumes nothing.
+-- One triangulation for all points p / d.
 use mathlib.Core.Path.{_≡_, refl, sym, _∙_, ap, subst}
 use mathlib.Core.Bool.{true}
 use mathlib.Core.Logic.{_⊎_, inl, inr}

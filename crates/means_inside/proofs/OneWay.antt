@@ -1,4 +1,4 @@
--- The parts of a ring that is cut at its lowest corner turn the way that it does. Assumes nothing.
+-- The parts of a ring that is cut at its lowest corner turn the way that it does.
 -- The area of each part has the sign of the turn at its lowest corner, and these turns have one sign.
 use mathlib.Core.Path.{ap}
 use mathlib.Core.List.{List, [], _∷_, _++_}

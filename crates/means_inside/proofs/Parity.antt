@@ -1,4 +1,4 @@
--- Parities around a ring: of a ring that is cut, and of two that differ by a potential. Assumes nothing.
+-- Parities around a ring: of a ring that is cut, and of two that differ by a potential.
 use mathlib.Core.Path.{_≡_, refl, sym, _∙_, ap}
 use mathlib.Core.Bool.{Bool, true, false, xor}
 use mathlib.Core.Logic.{inl, inr}

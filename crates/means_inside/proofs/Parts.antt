@@ -1,5 +1,5 @@
 -- A ring that is cut at its lowest corner, d times as large: in one of the parts is inside, in both is on the chord; and every
--- triangulation covers the inside and the border. Assumes nothing.
+-- triangulation covers the inside and the border.
 use mathlib.Core.Path.{_≡_, refl, sym, _∙_, ap, subst}
 use mathlib.Core.Bool.{true, xor}
 use mathlib.Core.Logic.{_⊎_, inl, inr}

@@ -1,4 +1,4 @@
--- Where a point lies goes by its place alone: p / d is c p / c d. Every test is of numbers that take a factor above 0. Assumes nothing.
+-- Where a point lies goes by its place alone: p / d is c p / c d. Every test is of numbers that take a factor above 0.
 use mathlib.Core.Path.{_≡_, refl, sym, ap, ap₂, _∙_}
 use mathlib.Core.Bool.{Bool, true, false, _&&_, _||_}
 use mathlib.Core.List.{List, [], _∷_, map, map-id}

@@ -1,4 +1,4 @@
--- The lowest corner u of a ring with an empty triangle: a point of the triangle, or of what is left, is inside. Assumes nothing.
+-- The lowest corner u of a ring with an empty triangle: a point of the triangle, or of what is left, is inside.
 use mathlib.Core.Path.{_≡_, refl, sym, _∙_, ap, subst}
 use mathlib.Core.Bool.{Bool, true, false, xor, true≢false}
 use mathlib.Core.Logic.{_⊎_, inl, inr}

@@ -1,4 +1,4 @@
--- A triangle that turns to the left goes round a point once or not at all, and only round points within it. Assumes nothing.
+-- A triangle that turns to the left goes round a point once or not at all, and only round points within it.
 -- Of three corners one is alone on its side of the ray's line; p is on that line, so its places there are of one sign. A point within is
 -- counted by the ray across a side that it is not in line with.
 use mathlib.Core.Path.{_≡_, refl, sym, _∙_, ap, subst}

@@ -1,4 +1,4 @@
--- A point p / d against a ring is p against the ring d times as large. Assumes nothing.
+-- A point p / d against a ring is p against the ring d times as large.
 use mathlib.Core.Path.{_≡_, refl, sym, _∙_, ap, subst}
 use mathlib.Core.Bool.{Bool, true, false, _&&_, _||_, xor, true≢false}
 use mathlib.Core.Logic.{_⊎_, inl, inr}

@@ -1,4 +1,4 @@
--- Along a segment that touches no side the parity stays. Assumes nothing.
+-- Along a segment that touches no side the parity stays.
 use mathlib.Core.Path.{_≡_, refl, sym, _∙_, ap}
 use mathlib.Core.Bool.{Bool, true, false, xor}
 use mathlib.Core.Logic.{_⊎_, inl, inr}

@@ -1,4 +1,4 @@
--- The sides of a ring that is made from another, corner by corner; a side from its first end to its second. Assumes nothing.
+-- The sides of a ring that is made from another, corner by corner; a side from its first end to its second.
 use mathlib.Core.Path.{_≡_, refl, sym, _∙_, ap}
 use mathlib.Core.Logic.{_⊎_, inl, inr}
 use mathlib.Core.List.{List, [], _∷_, _++_, map}

@@ -1,4 +1,4 @@
--- Two rings that are apart: a part of one, both together, and fewer links of both. Assumes nothing.
+-- Two rings that are apart: a part of one, both together, and fewer links of both.
 use mathlib.Core.Path.{_≡_, refl, sym, ap, subst}
 use mathlib.Core.Bool.{true, false}
 use mathlib.Core.Logic.{_⊎_, inl, inr}

@@ -1,4 +1,4 @@
--- A triangle and a point: an odd number of sides is met only from within; and a point within on neither side at v is In. Assumes nothing.
+-- A triangle and a point: an odd number of sides is met only from within; and a point within on neither side at v is In.
 use mathlib.Core.Path.{_≡_, refl, sym, _∙_, ap}
 use mathlib.Core.Bool.{Bool, true, false, true≢false}
 use mathlib.Core.Logic.{_⊎_, inl, inr}

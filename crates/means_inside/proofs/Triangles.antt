@@ -1,4 +1,4 @@
--- Of any triangulation: the ring's parity is the sum of its triangles', and a point that is odd is in one of them. Assumes nothing.
+-- Of any triangulation: the ring's parity is the sum of its triangles', and a point that is odd is in one of them.
 use mathlib.Core.Path.{_≡_, refl, _∙_, ap}
 use mathlib.Core.Bool.{Bool, xor}
 use mathlib.Core.List.{List, [], _∷_, _++_}

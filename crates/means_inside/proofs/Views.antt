@@ -1,4 +1,4 @@
--- A plane of space seen along two axes: all turns change by one factor, and what is between two points stays so. Assumes nothing.
+-- A plane of space seen along two axes: all turns change by one factor, and what is between two points stays so.
 -- For a, b, c in a plane across n, (b - a) x (c - a) is in line with n, and each view shows one coordinate of it.
 use mathlib.Core.Path.{_≡_, refl, sym, _∙_, ap}
 use mathlib.Core.Logic.{_⊎_, inl, inr}

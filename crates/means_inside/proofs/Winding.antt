@@ -1,4 +1,4 @@
--- How often a ring goes round a point: the sides that a ray meets, counted with their direction. Assumes nothing.
+-- How often a ring goes round a point: the sides that a ray meets, counted with their direction.
 -- What counts against itself from the other end adds up over every chord and every ear.
 use mathlib.Core.Path.{_≡_, refl, sym, _∙_, ap}
 use mathlib.Core.Bool.{Bool, true, false, cond}

@@ -1,4 +1,4 @@
--- Rays in any direction, and how many sides of a ring they meet. Assumes nothing.
+-- Rays in any direction, and how many sides of a ring they meet.
 use mathlib.Core.Path.{_≡_}
 use mathlib.Core.Bool.{Bool, false, xor}
 use mathlib.Core.List.{List, [], _∷_}

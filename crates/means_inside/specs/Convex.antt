@@ -1,4 +1,4 @@
--- Convex rings, and points to one side of every side. Assumes nothing.
+-- Convex rings, and points to one side of every side.
 use mathlib.Core.Path.{_≡_}
 use mathlib.Core.Logic.{_⊎_}
 use mathlib.Core.List.{List, [], _∷_}

@@ -1,4 +1,4 @@
--- What `whereFlat` means. Assumes nothing.
+-- What `whereFlat` means.
 use mathlib.Core.Path.{_≡_}
 use mathlib.Core.List.{List, map}
 use lib.IntN.{ℤ, _*ℤ_}

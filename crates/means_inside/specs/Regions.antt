@@ -1,4 +1,4 @@
--- Polygons cut into triangles. Assumes nothing.
+-- Polygons cut into triangles.
 use mathlib.Core.Bool.{Bool, xor}
 use mathlib.Core.Logic.{_⊎_}
 use mathlib.Core.List.{List, [], _∷_, _++_}

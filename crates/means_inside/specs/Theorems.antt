@@ -1,4 +1,4 @@
--- What is proved of where a point lies in a polygon. Assumes nothing.
+-- What is proved of where a point lies in a polygon.
 use mathlib.Core.Path.{_≡_}
 use mathlib.Core.Bool.{xor}
 use mathlib.Core.Logic.{_↔_}

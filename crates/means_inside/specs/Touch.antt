@@ -1,4 +1,4 @@
--- A point on a side. Assumes nothing.
+-- A point on a side.
 use mathlib.Core.Path.{_≡_}
 use mathlib.Core.List.{List}
 use lib.IntN.{pos, negℤ}

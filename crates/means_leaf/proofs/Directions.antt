@@ -1,4 +1,4 @@
--- The turned are reached, and each face that is reached has the direction that the edges ask. Assumes nothing.
+-- The turned are reached, and each face that is reached has the direction that the edges ask.
 use mathlib.Core.Bool.{Bool, true, false, not, _&&_, _||_, cond, xor, and-false}
 use mathlib.Core.List.{List, [], _∷_}
 use mathlib.Core.Path.{_≡_, refl, sym, ap, ap₂, _∙_, subst}

@@ -1,4 +1,4 @@
--- (i), (iii) and (v) go through the masks in order, and so ask the same of each place. Assumes nothing.
+-- (i), (iii) and (v) go through the masks in order, and so ask the same of each place.
 use mathlib.Core.Bool.{Bool, true, false, not, cond}
 use mathlib.Core.List.{List, [], _∷_}
 use mathlib.Core.Option.{none}

@@ -1,7 +1,6 @@
 -- The directions that the spread gives are forced: directions by which each edge is run once each way, with the first face not turned,
 -- are
 -- the spread's, wherever it reaches.
--- Assumes nothing.
 use mathlib.Core.Bool.{Bool, true, false, not, _&&_, cond, xor, and-comm, and-false}
 use mathlib.Core.List.{List, [], _∷_}
 use mathlib.Core.Logic.{_⊎_, inl, inr}

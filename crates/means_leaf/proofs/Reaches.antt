@@ -1,4 +1,4 @@
--- The spread reaches just those faces to which one can go from its start across shared edges. Assumes nothing.
+-- The spread reaches just those faces to which one can go from its start across shared edges.
 use mathlib.Core.Bool.{Bool, true, false, not}
 use mathlib.Core.List.{List, [], _∷_}
 use mathlib.Core.Logic.{_⊎_, inl, inr}

@@ -1,6 +1,5 @@
 -- The verdict is document 01's: a selection in which every edge is in exactly two is judged a solid just where it passes (ii) to (v), and
 -- with the directions for which six volumes is above zero.
--- Assumes nothing.
 use mathlib.Core.Bool.{Bool, true, false, not, _&&_, cond}
 use mathlib.Core.List.{List, [], _∷_}
 use mathlib.Core.Logic.{_⊎_, inl, inr}

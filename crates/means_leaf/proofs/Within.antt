@@ -1,4 +1,4 @@
--- The spread turns none but reached faces, and reaches none but taken ones. Assumes nothing.
+-- The spread turns none but reached faces, and reaches none but taken ones.
 use mathlib.Core.Bool.{Bool, true, false, not, cond}
 use mathlib.Core.List.{List, [], _∷_}
 use mathlib.Core.Path.{_≡_, sym, _∙_, subst}

@@ -1,5 +1,5 @@
 -- The normal form of a face: it is the face itself, from another start or the other way round, and two faces have one just where they
--- are one ring, one way or the other. Assumes nothing.
+-- are one ring, one way or the other.
 use mathlib.Core.Path.{_≡_, refl, sym, ap, ap₂, subst, _∙_}
 use mathlib.Core.Bool.{Bool, true, false, not, cond}
 use mathlib.Core.Logic.{_⊎_, inl, inr, ⊎-elim}

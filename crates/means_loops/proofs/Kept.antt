@@ -1,4 +1,4 @@
--- Members of a list, and those of a list that pass. Assumes nothing.
+-- Members of a list, and those of a list that pass.
 use mathlib.Core.Path.{_≡_, refl, sym, _∙_}
 use mathlib.Core.Bool.{Bool, true, false}
 use mathlib.Core.List.{List, [], _∷_}

@@ -1,4 +1,4 @@
--- The definitions' loops and candidates are those of plain mathematics. Assumes nothing.
+-- The definitions' loops and candidates are those of plain mathematics.
 pub mod Kept
 pub mod Rings
 pub mod Lowest

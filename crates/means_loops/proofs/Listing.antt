@@ -1,4 +1,4 @@
--- The loops of a drawing and its candidates, as the definitions list them. Assumes nothing.
+-- The loops of a drawing and its candidates, as the definitions list them.
 use mathlib.Core.Path.{_≡_, refl, sym, ap, subst, _∙_}
 use mathlib.Core.Bool.{Bool, true, false, not, _&&_, true≢false}
 use mathlib.Core.Logic.{_⊎_, inl, inr, ⊎-elim}

@@ -1,4 +1,4 @@
--- A face from its lowest corner on, and its normal form. Assumes nothing.
+-- A face from its lowest corner on, and its normal form.
 use mathlib.Core.Path.{_≡_, refl, sym, ap, subst, _∙_}
 use mathlib.Core.Bool.{Bool, true, false, cond}
 use mathlib.Core.Logic.{_⊎_, ⊎-elim}

@@ -1,4 +1,4 @@
--- The list of loops ascends strictly, in the document's order. Assumes nothing.
+-- The list of loops ascends strictly, in the document's order.
 use mathlib.Core.Path.{_≡_, refl, sym, subst, _∙_}
 use mathlib.Core.Bool.{Bool, true, false, cond}
 use mathlib.Core.Logic.{_⊎_, inl, inr, ⊎-elim}

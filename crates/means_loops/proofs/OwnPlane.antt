@@ -1,4 +1,4 @@
--- Corners in a plane are in the plane of the polygon's own normal; so are those of a candidate. Assumes nothing.
+-- Corners in a plane are in the plane of the polygon's own normal; so are those of a candidate.
 use mathlib.Core.Path.{_≡_, refl, ap, ap₂, _∙_, sym}
 use mathlib.Core.Option.{none}
 use mathlib.Core.List.{List, [], _∷_}

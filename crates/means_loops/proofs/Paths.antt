@@ -1,6 +1,6 @@
 -- The loops that are listed are the closed paths of document 01, each once: whatever start and direction a closed path has, its normal
 -- form
--- is listed, and two closed paths have one normal form just where they differ only in start or direction. Assumes nothing.
+-- is listed, and two closed paths have one normal form just where they differ only in start or direction.
 use mathlib.Core.Path.{_≡_, refl, sym, ap, ap₂, subst, _∙_}
 use mathlib.Core.Bool.{Bool, true, false, cond}
 use mathlib.Core.Logic.{_⊎_, inl, inr}

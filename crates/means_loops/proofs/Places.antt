@@ -1,4 +1,4 @@
--- Joined vertices, and the places of a ring from another start and the other way round. Assumes nothing.
+-- Joined vertices, and the places of a ring from another start and the other way round.
 use mathlib.Core.Path.{_≡_, refl, sym, ap, subst, _∙_}
 use mathlib.Core.Bool.{true, _&&_}
 use mathlib.Core.Logic.{_⊎_, inl, inr}

@@ -1,5 +1,4 @@
--- The plane test of the loop search in plain words: it lets the vertices of a path pass just if they all lie in one plane. Assumes
--- nothing.
+-- The plane test of the loop search in plain words: it lets the vertices of a path pass just if they all lie in one plane.
 use mathlib.Core.Path.{_≡_, refl, sym, ap, ap₂, subst, _∙_}
 use mathlib.Core.Bool.{Bool, true, false, not, _&&_, true≢false}
 use mathlib.Core.Option.{none}

@@ -1,4 +1,4 @@
--- One ring of corners from two starts, and a ring the other way round. Assumes nothing.
+-- One ring of corners from two starts, and a ring the other way round.
 use mathlib.Core.Path.{_≡_, refl, sym, ap, ap₂, subst, _∙_}
 use mathlib.Core.List.{List, [], _∷_, _++_, reverse, reverse-cons, reverse-append, reverse-reverse, append-assoc, append-nil}
 use Prim.Native.Nat.{ℕ, zero, suc, _+_, _-_, _≤_, _<_}

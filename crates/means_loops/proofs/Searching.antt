@@ -1,4 +1,4 @@
--- The search finds exactly the loops. Assumes nothing.
+-- The search finds exactly the loops.
 use mathlib.Core.Path.{_≡_, refl, sym, ap, subst, _∙_}
 use mathlib.Core.Bool.{Bool, true, false, not, _&&_, _||_, cond, true≢false}
 use mathlib.Core.Logic.{_⊎_, inl, inr, ⊎-elim}

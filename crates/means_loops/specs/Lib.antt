@@ -1,4 +1,4 @@
--- What loops and candidates are, in plain mathematics. Assumes nothing.
+-- What loops and candidates are, in plain mathematics.
 pub mod Shape
 pub mod Loop
 pub mod Plane

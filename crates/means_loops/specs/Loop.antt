@@ -1,4 +1,4 @@
--- What a loop and a candidate are, and the order of loops: no search, no fuel. Assumes nothing.
+-- What a loop and a candidate are, and the order of loops: no search, no fuel.
 use mathlib.Core.Path.{_≡_}
 use mathlib.Core.Bool.{Bool, true, false}
 use mathlib.Core.Logic.{_⊎_}

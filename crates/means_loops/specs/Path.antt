@@ -1,5 +1,4 @@
--- "A loop is a closed path of 3 to 12 different vertices along edges, all in one plane": from any start and in any direction. Assumes
--- nothing.
+-- "A loop is a closed path of 3 to 12 different vertices along edges, all in one plane": from any start and in any direction.
 use mathlib.Core.Path.{_≡_}
 use mathlib.Core.Logic.{_⊎_}
 use Prim.Native.Nat.{ℕ, _≤_, _<_}

@@ -1,4 +1,4 @@
--- A loop's normal form, in plain mathematics. Assumes nothing.
+-- A loop's normal form, in plain mathematics.
 use Prim.Native.Nat.{ℕ, _-_, _≤_, _<_}
 use lib.ListN.{length, getD}
 use Rattle.paper.specs.Loops.{Loop}

@@ -1,4 +1,4 @@
--- The masks of one edge, of those that have it and of those that run it up, say (i) and (iii) of that edge. Assumes nothing.
+-- The masks of one edge, of those that have it and of those that run it up, say (i) and (iii) of that edge.
 use mathlib.Core.Bool.{Bool, true, false, not, _&&_, _||_, cond, xor}
 use mathlib.Core.List.{List, [], map}
 use mathlib.Core.Path.{_≡_, sym, ap, ap₂, _∙_}

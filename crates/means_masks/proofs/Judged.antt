@@ -1,4 +1,4 @@
--- What is judged a solid is one, with these directions and this volume, and every solid is judged so; so it has no others. Assumes nothing.
+-- What is judged a solid is one, with these directions and this volume, and every solid is judged so; so it has no others.
 use mathlib.Core.Bool.{Bool, true, false}
 use mathlib.Core.List.{List, map}
 use mathlib.Core.Logic.{_↔_}

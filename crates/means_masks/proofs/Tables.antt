@@ -1,4 +1,4 @@
--- The tables of a drawing, edge by edge and face by face: what their masks and numbers say is (i) to (v). Assumes nothing.
+-- The tables of a drawing, edge by edge and face by face: what their masks and numbers say is (i) to (v).
 use mathlib.Core.Bool.{Bool, true, false, _&&_}
 use mathlib.Core.List.{List, [], _∷_, map}
 use mathlib.Core.Path.{_≡_, refl, sym, ap, ap₂, subst, _∙_}

@@ -1,4 +1,4 @@
--- Drawings that no test tells apart: the same checks, loops, candidates and tables, but for the parts of six volumes. Assumes nothing.
+-- Drawings that no test tells apart: the same checks, loops, candidates and tables, but for the parts of six volumes.
 use mathlib.Core.Path.{_≡_, sym, ap, ap₂, _∙_, subst}
 use mathlib.Core.Option.{none}
 use mathlib.Core.Bool.{Bool, true, false, not, _&&_, _||_, cond}

@@ -1,4 +1,4 @@
--- Vertices of a list that are below a number; and searches that ask two tests which agree there. Assumes nothing.
+-- Vertices of a list that are below a number; and searches that ask two tests which agree there.
 use mathlib.Core.Path.{_≡_, refl, ap, ap₂, _∙_}
 use mathlib.Core.Bool.{Bool, true, false, not, _&&_, _||_, cond}
 use mathlib.Core.List.{List, [], _∷_, _++_}

@@ -1,4 +1,4 @@
--- A selection with its directions, carried over to a drawing with new numbers: its directed rings are the same. Assumes nothing.
+-- A selection with its directions, carried over to a drawing with new numbers: its directed rings are the same.
 use mathlib.Core.Path.{_≡_, refl, sym, ap, _∙_, subst}
 use mathlib.Core.Bool.{Bool, true, false, not, _&&_, cond, xor}
 use mathlib.Core.Logic.{_⊎_, inl, inr}

@@ -1,5 +1,5 @@
 -- The check of a face list, of a drawing that was moved: the same verdict, and where the move mirrors, the same on a list with every face
--- turned round. Assumes nothing.
+-- turned round.
 use mathlib.Core.Path.{_≡_, refl, sym, ap, ap₂, _∙_}
 use mathlib.Core.Bool.{Bool, true, false, not, true≢false}
 use mathlib.Core.Option.{none}

@@ -1,4 +1,4 @@
--- The checks of a conversion, 1 to 16, one group behind the other. Assumes nothing.
+-- The checks of a conversion, 1 to 16, one group behind the other.
 use mathlib.Core.Path.{_≡_, ap, _∙_}
 use mathlib.Core.List.{List, _++_}
 use Prim.Native.Nat.{ℕ}

@@ -1,4 +1,4 @@
--- Six volumes of faces that close, moved: the normals add up to (0,0,0), so where (0,0,0) went does not count. Assumes nothing.
+-- Six volumes of faces that close, moved: the normals add up to (0,0,0), so where (0,0,0) went does not count.
 use mathlib.Core.Path.{_≡_, sym, ap, ap₂, _∙_}
 use mathlib.Core.Bool.{Bool}
 use mathlib.Core.List.{List, [], _∷_, map}

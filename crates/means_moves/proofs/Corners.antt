@@ -1,4 +1,4 @@
--- A polygon of which every corner is moved: its normal, what is seen of it, and where a point lies. Assumes nothing.
+-- A polygon of which every corner is moved: its normal, what is seen of it, and where a point lies.
 use mathlib.Core.Path.{_≡_, sym, ap, ap₂, _∙_}
 use mathlib.Core.Bool.{Bool}
 use mathlib.Core.List.{List, [], _∷_, map, map-map}

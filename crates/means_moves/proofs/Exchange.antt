@@ -1,4 +1,4 @@
--- Two coordinates of space exchanged: sides of planes change, and no test does. Assumes nothing.
+-- Two coordinates of space exchanged: sides of planes change, and no test does.
 -- A polygon is then seen along another axis, or with its two coordinates exchanged; and along every axis the answer is the same.
 use mathlib.Core.Path.{_≡_, refl, sym, ap, ap₂, _∙_}
 use mathlib.Core.Bool.{Bool, true, false}

@@ -1,4 +1,4 @@
--- Planes, cover and clash of polygons that were moved. Assumes nothing.
+-- Planes, cover and clash of polygons that were moved.
 use mathlib.Core.Path.{_≡_, refl, sym, ap, ap₂, _∙_, subst}
 use mathlib.Core.Bool.{Bool, true, false, not, _&&_, _||_, true≢false, and-false}
 use mathlib.Core.List.{List, [], _∷_, map}

@@ -1,4 +1,4 @@
--- Whole numbers: the tests of a drawing after a product with a number above 0, and of two sides with one that is not 0. Assumes nothing.
+-- Whole numbers: the tests of a drawing after a product with a number above 0, and of two sides with one that is not 0.
 use mathlib.Core.Path.{_≡_, refl, ap, ap₂, _∙_}
 use mathlib.Core.Bool.{true, not, _&&_, _||_, xor}
 use mathlib.Core.Logic.{_⊎_, inl, inr}

@@ -1,4 +1,4 @@
--- Conversion of a drawing that was moved: the same answer and faces, and the solids moved. Assumes nothing.
+-- Conversion of a drawing that was moved: the same answer and faces, and the solids moved.
 use mathlib.Core.Path.{_≡_, refl, sym, ap, ap₂, _∙_, subst}
 use mathlib.Core.Bool.{Bool, true, false, cond, true≢false}
 use mathlib.Core.Logic.{_⊎_, inl, inr}

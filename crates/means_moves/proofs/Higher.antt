@@ -1,4 +1,4 @@
--- "a higher allowed work limit changes no answer but TooLong": refusals and rooms too. Assumes nothing.
+-- "a higher allowed work limit changes no answer but TooLong": refusals and rooms too.
 use mathlib.Core.Path.{_≡_, refl, sym, ap, _∙_}
 use mathlib.Core.Bool.{Bool}
 use mathlib.Core.List.{List, [], _∷_, _++_}

@@ -1,4 +1,4 @@
--- What a selection is judged to be, by tables that differ in the parts of six volumes alone. Assumes nothing.
+-- What a selection is judged to be, by tables that differ in the parts of six volumes alone.
 use mathlib.Core.Path.{_≡_, refl, sym, ap, ap₂, _∙_, subst}
 use mathlib.Core.Bool.{Bool, true, false, not, _&&_, cond, xor}
 use mathlib.Core.List.{List}

@@ -1,4 +1,4 @@
--- Under new numbers there are as many loops and candidates, and every solid has its twin. Assumes nothing.
+-- Under new numbers there are as many loops and candidates, and every solid has its twin.
 use mathlib.Core.Path.{_≡_, sym, ap, _∙_, subst}
 use mathlib.Core.Bool.{Bool, true}
 use mathlib.Core.Option.{none}

@@ -1,4 +1,4 @@
--- Steps that lay a drawing along the axes, one after the other: a move, and whether it mirrors. Assumes nothing.
+-- Steps that lay a drawing along the axes, one after the other: a move, and whether it mirrors.
 use mathlib.Core.Path.{_≡_, refl, sym, ap, _∙_}
 use mathlib.Core.Bool.{Bool, true, false, not, cond}
 use mathlib.Core.List.{List, [], _∷_, map-id}

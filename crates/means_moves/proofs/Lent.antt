@@ -1,4 +1,4 @@
--- Conversion and check of two lists of numbers, or of a sheet, moved vertex by vertex. Assumes nothing.
+-- Conversion and check of two lists of numbers, or of a sheet, moved vertex by vertex.
 use mathlib.Core.Path.{_≡_, refl, sym, ap, _∙_}
 use mathlib.Core.Bool.{Bool, true, false, _||_, or-false}
 use mathlib.Core.Option.{Option}

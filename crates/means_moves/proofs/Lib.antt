@@ -1,4 +1,4 @@
--- A drawing that is moved. Assumes nothing.
+-- A drawing that is moved.
 pub mod Numbers
 pub mod Factors
 pub mod Corners

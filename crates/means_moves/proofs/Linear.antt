@@ -1,4 +1,4 @@
--- What takes sums to sums is a move; and so are two moves, one after the other. Assumes nothing.
+-- What takes sums to sums is a move; and so are two moves, one after the other.
 use mathlib.Core.Path.{_≡_, refl, sym, ap, ap₂, _∙_}
 use mathlib.Core.List.{[], _∷_, map-map}
 use Prim.Native.Nat.{_+_}

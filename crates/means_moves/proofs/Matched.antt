@@ -1,4 +1,4 @@
--- Loops and candidates of a drawing with new numbers: each has its own over there, and no two have the same. Assumes nothing.
+-- Loops and candidates of a drawing with new numbers: each has its own over there, and no two have the same.
 use mathlib.Core.Path.{_≡_, refl, sym, ap, _∙_, subst}
 use mathlib.Core.Bool.{Bool, true, false, cond}
 use mathlib.Core.Option.{none}

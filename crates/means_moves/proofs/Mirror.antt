@@ -1,4 +1,4 @@
--- The mirror x to -x is a move: sides of planes change, and no test does. In the flat the ray is asked the other way. Assumes nothing.
+-- The mirror x to -x is a move: sides of planes change, and no test does. In the flat the ray is asked the other way.
 use mathlib.Core.Path.{_≡_, refl, sym, ap, ap₂, _∙_}
 use mathlib.Core.Bool.{Bool, _&&_, _||_, cond, xor, or-comm, and-comm}
 use mathlib.Core.List.{List, [], _∷_, map, map-id}

@@ -1,4 +1,4 @@
--- A drawing whose vertices were moved is alike. Assumes nothing.
+-- A drawing whose vertices were moved is alike.
 use mathlib.Core.Path.{_≡_, refl, ap, ap₂, _∙_}
 use mathlib.Core.List.{List, [], _∷_, map}
 use Prim.Native.Nat.{ℕ, _<_}

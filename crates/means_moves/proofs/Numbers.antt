@@ -1,4 +1,4 @@
--- Whole numbers: tests after a sum, and of a number with the other sign. Assumes nothing.
+-- Whole numbers: tests after a sum, and of a number with the other sign.
 use mathlib.Core.Path.{_≡_, refl, sym, _∙_}
 use mathlib.Core.Bool.{_&&_, _||_, or-comm}
 use mathlib.Core.List.{[], _∷_}

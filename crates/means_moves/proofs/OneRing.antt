@@ -1,4 +1,4 @@
--- Polygons that are one ring: cover, clash and planes are the same. Assumes nothing.
+-- Polygons that are one ring: cover, clash and planes are the same.
 use mathlib.Core.Path.{_≡_, refl, sym, ap, ap₂, _∙_, subst}
 use mathlib.Core.Bool.{Bool, not, _&&_, _||_}
 use mathlib.Core.List.{List, [], _∷_, _++_, map, map-append, append-assoc, append-nil}

@@ -1,5 +1,5 @@
 -- A drawing that passes 11 to 14, moved: the same candidates, the same tables but for the parts of six volumes, and so the same solids,
--- with six volumes as many times as large as the sides of planes become. Assumes nothing.
+-- with six volumes as many times as large as the sides of planes become.
 use mathlib.Core.Path.{_≡_, sym, ap, _∙_, subst}
 use mathlib.Core.Bool.{Bool, true}
 use mathlib.Core.Option.{none}

@@ -1,4 +1,4 @@
--- The same rule of 11 to 16 refuses a drawing and the same under new numbers, or none does. Assumes nothing.
+-- The same rule of 11 to 16 refuses a drawing and the same under new numbers, or none does.
 use mathlib.Core.Path.{_≡_, refl, sym, ap, ap₂, _∙_}
 use mathlib.Core.Bool.{Bool, true, false, cond}
 use mathlib.Core.Option.{Option, none, some}

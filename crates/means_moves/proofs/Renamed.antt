@@ -1,4 +1,4 @@
--- Rings of a drawing under new numbers: the same polygon, and a closed path where there was one. Assumes nothing.
+-- Rings of a drawing under new numbers: the same polygon, and a closed path where there was one.
 use mathlib.Core.Path.{_≡_, refl, sym, ap, _∙_, subst}
 use mathlib.Core.Logic.{inl, inr}
 use mathlib.Core.List.{List, [], _∷_, map, map-append}

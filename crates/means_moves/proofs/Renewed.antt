@@ -1,4 +1,4 @@
--- A solid is one under new numbers too: the same directed rings, the same six volumes. Assumes nothing.
+-- A solid is one under new numbers too: the same directed rings, the same six volumes.
 use mathlib.Core.Path.{_≡_, refl, sym, ap, _∙_, subst}
 use mathlib.Core.Bool.{Bool, true}
 use mathlib.Core.Logic.{_⊎_, inl, inr, ⊎-swap}

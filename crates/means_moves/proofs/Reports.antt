@@ -1,4 +1,4 @@
--- Two lists that have every solid once, of a drawing and of the same under new numbers: as many, and one to one. Assumes nothing.
+-- Two lists that have every solid once, of a drawing and of the same under new numbers: as many, and one to one.
 use mathlib.Core.Path.{_≡_, sym, ap, _∙_, subst}
 use mathlib.Core.Bool.{Bool, false, cond}
 use mathlib.Core.Option.{none}

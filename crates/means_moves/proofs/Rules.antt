@@ -1,4 +1,4 @@
--- 12, 13 and 14 under new numbers: what passes one drawing passes the other. Assumes nothing.
+-- 12, 13 and 14 under new numbers: what passes one drawing passes the other.
 use mathlib.Core.Path.{_≡_, refl, sym, ap, ap₂, _∙_, subst}
 use mathlib.Core.Logic.{_⊎_, inl, inr}
 use mathlib.Core.Option.{none}

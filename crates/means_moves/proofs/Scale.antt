@@ -1,4 +1,4 @@
--- All coordinates k times as large: no test changes. Assumes nothing.
+-- All coordinates k times as large: no test changes.
 -- Every test is of numbers that take a factor above 0.
 use mathlib.Core.Path.{_≡_, ap, ap₂, _∙_}
 use mathlib.Core.Bool.{cond}

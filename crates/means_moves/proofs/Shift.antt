@@ -1,4 +1,4 @@
--- A shift by w is a move: all tests are of differences. Assumes nothing.
+-- A shift by w is a move: all tests are of differences.
 use mathlib.Core.Path.{_≡_, refl, sym, ap, _∙_}
 use mathlib.Core.Bool.{_&&_, _||_}
 use mathlib.Core.List.{List, [], _∷_, map}

@@ -1,5 +1,5 @@
 -- A face's part of six volumes, moved: as many times as large as the sides of planes become, and for where (0,0,0) went the product with
--- the normal. Assumes nothing.
+-- the normal.
 use mathlib.Core.Path.{_≡_, sym, ap, _∙_}
 use mathlib.Core.List.{[], _∷_, map}
 use lib.IntN.{ℤ, pos, _+ℤ_, _*ℤ_}

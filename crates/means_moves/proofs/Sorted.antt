@@ -1,4 +1,4 @@
--- Edges that pass 10 stand in order, so none stands twice. Assumes nothing.
+-- Edges that pass 10 stand in order, so none stands twice.
 use mathlib.Core.Path.{_≡_, refl, sym, ap, _∙_, subst}
 use mathlib.Core.Bool.{true, _&&_}
 use mathlib.Core.Logic.{_⊎_, inl, inr}

@@ -1,4 +1,4 @@
--- A polygon from its next corner on is one ring with it, and so is a polygon run backwards. Assumes nothing.
+-- A polygon from its next corner on is one ring with it, and so is a polygon run backwards.
 use mathlib.Core.Path.{_≡_, refl, sym, ap, ap₂, _∙_}
 use mathlib.Core.Bool.{Bool, true, false, _&&_, cond, or-comm, and-comm}
 use mathlib.Core.List.{List, [], _∷_, _++_, map, map-append, reverse, reverse-cons}

@@ -1,4 +1,4 @@
--- In the flat, the two coordinates exchanged: a point lies where it did. Assumes nothing.
+-- In the flat, the two coordinates exchanged: a point lies where it did.
 -- The ray to the east becomes the one to the north, which is the one to the south in a mirror; and every ray tells the same.
 use mathlib.Core.Path.{_≡_, sym, ap, _∙_}
 use mathlib.Core.Bool.{_&&_, and-comm}

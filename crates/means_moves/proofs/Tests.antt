@@ -1,4 +1,4 @@
--- Every test of points and segments says the same of what was moved. Assumes nothing.
+-- Every test of points and segments says the same of what was moved.
 use mathlib.Core.Path.{_≡_, refl, sym, ap, ap₂, _∙_}
 use mathlib.Core.Bool.{Bool, true, false, _&&_, cond}
 use mathlib.Core.List.{List, [], _∷_, map}

@@ -1,4 +1,4 @@
--- What follows of a moved report: the same where the move neither mirrors nor enlarges; mirrored; scaled. Assumes nothing.
+-- What follows of a moved report: the same where the move neither mirrors nor enlarges; mirrored; scaled.
 use mathlib.Core.Path.{_≡_, refl, sym, ap, _∙_}
 use mathlib.Core.Bool.{true, false}
 use mathlib.Core.List.{List, map, map-id}

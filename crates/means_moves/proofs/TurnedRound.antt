@@ -1,5 +1,5 @@
 -- A list with every face turned round has the numbers of the list, and just the directions that it has not; so the check's 21 to 27 say
--- the same of it, by tables whose six volumes have the other sign. Assumes nothing.
+-- the same of it, by tables whose six volumes have the other sign.
 use mathlib.Core.Path.{_≡_, refl, sym, ap, _∙_, subst}
 use mathlib.Core.Bool.{Bool, true, false, not, _&&_}
 use mathlib.Core.Logic.{_⊎_, inl, inr}

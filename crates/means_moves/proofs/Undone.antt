@@ -1,4 +1,4 @@
--- New numbers that are one to one can be undone; and 11 passes both drawings or none. Assumes nothing.
+-- New numbers that are one to one can be undone; and 11 passes both drawings or none.
 use mathlib.Core.Path.{_≡_, sym, ap, _∙_}
 use mathlib.Core.Option.{none}
 use Prim.Native.Nat.{ℕ, _<_}

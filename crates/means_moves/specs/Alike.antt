@@ -1,4 +1,4 @@
--- Two drawings that no test tells apart: what a shift, a mirror or any other move leaves. Assumes nothing.
+-- Two drawings that no test tells apart: what a shift, a mirror or any other move leaves.
 use mathlib.Core.Path.{_≡_}
 use mathlib.Core.List.{List, [], _∷_}
 use Prim.Native.Nat.{ℕ, _<_}

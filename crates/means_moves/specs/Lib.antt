@@ -1,4 +1,4 @@
--- What moves a drawing, and what stays. Assumes nothing.
+-- What moves a drawing, and what stays.
 pub mod Moves
 pub mod Alike
 pub mod Turned

@@ -1,4 +1,4 @@
--- A drawing's list of coordinates, moved vertex by vertex. Assumes nothing.
+-- A drawing's list of coordinates, moved vertex by vertex.
 use mathlib.Core.List.{List, [], _∷_}
 use Prim.Native.Nat.{ℕ, _<_}
 use lib.IntN.{ℤ, pos}

@@ -1,4 +1,4 @@
--- The moves of space: a shift by w, the mirror x to -x, two axes exchanged, each coordinate k times. Assumes nothing.
+-- The moves of space: a shift by w, the mirror x to -x, two axes exchanged, each coordinate k times.
 use mathlib.Core.Path.{_≡_}
 use mathlib.Core.Bool.{Bool, false, not}
 use mathlib.Core.List.{List, [], _∷_, map}

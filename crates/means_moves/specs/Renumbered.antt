@@ -1,4 +1,4 @@
--- "With vertices renumbered and edges sorted again": two drawings that differ in the vertices' numbers. Assumes nothing.
+-- "With vertices renumbered and edges sorted again": two drawings that differ in the vertices' numbers.
 use mathlib.Core.Path.{_≡_}
 use mathlib.Core.Logic.{_↔_}
 use Prim.Native.Nat.{ℕ, _<_}

@@ -1,5 +1,5 @@
 -- What a report says after a move: the same faces, each taken one the other way round where the move mirrors, and six volumes as many
--- times as large as the move makes them. Assumes nothing.
+-- times as large as the move makes them.
 use mathlib.Core.Path.{_≡_}
 use mathlib.Core.Bool.{Bool, true, false, cond}
 use mathlib.Core.List.{List, map}

@@ -1,4 +1,4 @@
--- A list of faces with every face turned round. Assumes nothing.
+-- A list of faces with every face turned round.
 use mathlib.Core.Path.{_≡_}
 use mathlib.Core.List.{List}
 use Prim.Native.Nat.{ℕ, _<_}

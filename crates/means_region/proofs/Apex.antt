@@ -1,4 +1,4 @@
--- The winding of a solid's faces round a point is the same from every apex that sees them. Assumes nothing.
+-- The winding of a solid's faces round a point is the same from every apex that sees them.
 use mathlib.Core.Path.{_≡_, refl, sym, _∙_, ap, ap₂}
 use mathlib.Core.Bool.{Bool, true, false, true≢false}
 use mathlib.Core.List.{List, [], _∷_}

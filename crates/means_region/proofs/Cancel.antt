@@ -1,4 +1,4 @@
--- Round all faces of a solid, each in its direction, a number that changes its sign with a side's direction adds up to 0. Assumes nothing.
+-- Round all faces of a solid, each in its direction, a number that changes its sign with a side's direction adds up to 0.
 use mathlib.Core.Path.{_≡_, refl, ap, _∙_}
 use mathlib.Core.Bool.{Bool}
 use mathlib.Core.List.{List, [], _∷_}

@@ -1,4 +1,4 @@
--- Counts over the faces of a solid, from two apexes: where they agree at each face, and how far they differ. Assumes nothing.
+-- Counts over the faces of a solid, from two apexes: where they agree at each face, and how far they differ.
 use mathlib.Core.Path.{_≡_, sym, _∙_, ap, ap₂}
 use mathlib.Core.Bool.{Bool}
 use mathlib.Core.List.{List, [], _∷_, map}

@@ -1,4 +1,4 @@
--- A face seen from two apexes: what its fan holds from the one and not from the other is told by its sides. Assumes nothing.
+-- A face seen from two apexes: what its fan holds from the one and not from the other is told by its sides.
 use mathlib.Core.Path.{_≡_, refl, _∙_, ap₂}
 use mathlib.Core.List.{[], _∷_}
 use Prim.Native.Nat.{ℕ, zero, suc, _<_}

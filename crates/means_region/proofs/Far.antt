@@ -1,5 +1,4 @@
 -- Where all corners are on one side of a plane through the point, the winding is 0: from an apex on that side no tetrahedron holds it.
--- Assumes nothing.
 use mathlib.Core.Path.{_≡_, refl, sym, _∙_, ap, ap₂}
 use mathlib.Core.Bool.{Bool, true, false}
 use mathlib.Core.Logic.{_⊎_, inl, inr}

@@ -1,5 +1,4 @@
 -- The tetrahedron of document 01, by evaluation: its faces go once round a point inside, whatever the apex, and not round one outside.
--- Assumes nothing.
 use mathlib.Core.Path.{_≡_, refl, sym, _∙_}
 use mathlib.Core.Bool.{Bool, true, false, not, true≢false}
 use mathlib.Core.Option.{none}

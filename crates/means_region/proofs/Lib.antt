@@ -1,4 +1,4 @@
--- How often the faces of a solid go round a point. Assumes nothing.
+-- How often the faces of a solid go round a point.
 pub mod Table
 pub mod Move
 pub mod Fan

@@ -1,4 +1,4 @@
--- An apex near to another in direction, K p + w for a large K, sees every tetrahedron as that one does. Assumes nothing.
+-- An apex near to another in direction, K p + w for a large K, sees every tetrahedron as that one does.
 use mathlib.Core.Path.{_≡_, refl, sym, _∙_, ap, ap₂}
 use mathlib.Core.Logic.{_⊎_, inl, inr}
 use mathlib.Core.List.{[], _∷_}

@@ -1,4 +1,4 @@
--- Some apex sees all faces, for every point that is in the plane of none. Assumes nothing.
+-- Some apex sees all faces, for every point that is in the plane of none.
 use mathlib.Core.Path.{_≡_, refl, sym, _∙_, ap, ap₂}
 use mathlib.Core.Bool.{Bool, true, false, true≢false}
 use mathlib.Core.Logic.{_⊎_, inl, inr}

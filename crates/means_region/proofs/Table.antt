@@ -1,4 +1,4 @@
--- From one apex to another, by the signs of ten determinants: all that the identities allow are tried. Assumes nothing.
+-- From one apex to another, by the signs of ten determinants: all that the identities allow are tried.
 use mathlib.Core.Path.{_≡_, refl}
 use mathlib.Core.Bool.{Bool, true, false, not, _&&_, _||_}
 use mathlib.Core.List.{List, [], _∷_}

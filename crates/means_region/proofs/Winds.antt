@@ -1,4 +1,4 @@
--- The faces of a solid go round a point: some apex sees them, all that do tell one number, and it is 0 far away. Assumes nothing.
+-- The faces of a solid go round a point: some apex sees them, all that do tell one number, and it is 0 far away.
 use Prim.Native.Nat.{ℕ, _<_}
 use lib.ListN.{length}
 use Rattle.paper.specs.Loops.{loopAt, candidates}

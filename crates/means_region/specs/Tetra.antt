@@ -1,4 +1,4 @@
--- Tetrahedra round a point, with the sign of their direction. Positions are taken from the point. Assumes nothing.
+-- Tetrahedra round a point, with the sign of their direction. Positions are taken from the point.
 use mathlib.Core.Bool.{Bool, true, false}
 use lib.IntN.{ℤ, pos, negsuc}
 use Rattle.paper.specs.Points.{det, above}

@@ -1,5 +1,5 @@
 -- The winding of a solid's faces round a point p / n, n above 0: the tetrahedra from an apex over the fans of the faces that hold it,
--- with their signs. It is the same from every apex that sees the faces. Of a solid only (iii) is asked. Assumes nothing.
+-- with their signs. It is the same from every apex that sees the faces. Of a solid only (iii) is asked.
 use mathlib.Core.Path.{_≡_}
 use mathlib.Core.Bool.{Bool}
 use mathlib.Core.Option.{none}

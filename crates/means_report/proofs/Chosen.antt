@@ -1,4 +1,4 @@
--- Every candidate is on an edge of the drawing, so the walk chooses as document 01 says. Assumes nothing.
+-- Every candidate is on an edge of the drawing, so the walk chooses as document 01 says.
 use mathlib.Core.Bool.{Bool, true, false}
 use mathlib.Core.List.{List}
 use mathlib.Core.Logic.{_⊎_, inl, inr}

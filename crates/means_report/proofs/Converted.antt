@@ -1,4 +1,4 @@
--- Conversion, of lists and of sheets: a refusal, or what is told of the solids; no second answer; higher limits. Assumes nothing.
+-- Conversion, of lists and of sheets: a refusal, or what is told of the solids; no second answer; higher limits.
 use mathlib.Core.Bool.{Bool}
 use mathlib.Core.List.{List, [], _++_}
 use mathlib.Core.Logic.{_⊎_, inl, inr}

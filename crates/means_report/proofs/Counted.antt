@@ -1,4 +1,4 @@
--- Any two lists of all solids are as long, as long as is reported, and no two solids of one have the same word of faces. Assumes nothing.
+-- Any two lists of all solids are as long, as long as is reported, and no two solids of one have the same word of faces.
 use mathlib.Core.Bool.{Bool}
 use mathlib.Core.List.{List, [], _∷_}
 use mathlib.Core.Path.{_≡_, refl, sym, ap, ap₂, _∙_}

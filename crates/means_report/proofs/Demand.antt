@@ -1,4 +1,4 @@
--- Demand 2, answer by answer. Assumes nothing.
+-- Demand 2, answer by answer.
 use mathlib.Core.Bool.{Bool}
 use mathlib.Core.List.{List, [], _∷_, _++_, flatMap}
 use mathlib.Core.Logic.{inl, inr}

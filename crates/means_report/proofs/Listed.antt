@@ -1,4 +1,4 @@
--- The walk lists every solid once. Assumes nothing.
+-- The walk lists every solid once.
 use mathlib.Core.Bool.{Bool, true, false, _&&_, cond, true≢false}
 use mathlib.Core.List.{List, [], _∷_}
 use mathlib.Core.Logic.{inl, inr, _↔_}

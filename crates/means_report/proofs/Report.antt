@@ -1,4 +1,4 @@
--- Demand 2: conversion says what the report is to say. Assumes nothing.
+-- Demand 2: conversion says what the report is to say.
 use mathlib.Core.List.{List, [], _∷_, _++_, map, flatMap}
 use mathlib.Core.Option.{none}
 use mathlib.Core.Logic.{_⊎_, inl, inr}

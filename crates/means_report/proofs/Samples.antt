@@ -1,4 +1,4 @@
--- Known drawings, told: so no statement above is empty. Assumes nothing.
+-- Known drawings, told: so no statement above is empty.
 use mathlib.Core.Path.{_≡_, refl, sym, ap, _∙_}
 use Prim.Native.Nat.{ℕ}
 use native.Mathlib.Omega.{arith}

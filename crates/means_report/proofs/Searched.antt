@@ -1,4 +1,4 @@
--- A search that was not cut found every solid once, in walk order; one that ended at a ninth has nine. Assumes nothing.
+-- A search that was not cut found every solid once, in walk order; one that ended at a ninth has nine.
 use mathlib.Core.List.{List, [], _∷_, map}
 use mathlib.Core.Bool.{Bool}
 use mathlib.Core.Logic.{_↔_}

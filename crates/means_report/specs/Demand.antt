@@ -1,4 +1,4 @@
--- What each answer of conversion says of the drawing and leaves in the rooms. Assumes nothing.
+-- What each answer of conversion says of the drawing and leaves in the rooms.
 use mathlib.Core.Path.{_≡_}
 use mathlib.Core.Bool.{Bool}
 use mathlib.Core.List.{List, _∷_, _++_, flatMap}

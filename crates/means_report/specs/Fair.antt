@@ -1,4 +1,4 @@
--- Candidates as the rules leave them, and masks that say the same. Assumes nothing.
+-- Candidates as the rules leave them, and masks that say the same.
 use mathlib.Core.List.{List}
 use mathlib.Core.Bool.{Bool}
 use mathlib.Core.Path.{_≡_}

@@ -1,4 +1,4 @@
--- A list that has every solid once, with its directions and six volumes; and the list that the walk comes to. Assumes nothing.
+-- A list that has every solid once, with its directions and six volumes; and the list that the walk comes to.
 use mathlib.Core.Path.{_≡_}
 use mathlib.Core.Bool.{Bool}
 use mathlib.Core.List.{List, [], _∷_, map}

@@ -1,5 +1,5 @@
 -- The customer's demand 2: "the report lists every solid once, in walk order, with each face's direction and six times its volume, and
--- says 'no solid' exactly when there is none. The work reported is the number of assumptions in that walk." Assumes nothing.
+-- says 'no solid' exactly when there is none. The work reported is the number of assumptions in that walk."
 use mathlib.Core.Path.{_≡_}
 use mathlib.Core.List.{List, [], _∷_, _++_, flatMap}
 use Prim.Native.Nat.{ℕ, _*_, _≤_, _<_}

@@ -1,4 +1,4 @@
--- Bits and their zero fill as bytes: what the bytes hold; and bytes with a zero fill are those of their bits. Assumes nothing.
+-- Bits and their zero fill as bytes: what the bytes hold; and bytes with a zero fill are those of their bits.
 use mathlib.Core.Path.{_≡_, refl, sym, ap, ap₂, _∙_}
 use mathlib.Core.List.{List, [], _++_, append-nil}
 use Prim.Native.Nat.{ℕ, _≤_, _+_, _*_, _-_, _^_}

@@ -1,5 +1,5 @@
 -- Demand 2: sheets, and face lists, read back and are written back the same. Each file states a group of theorems; the longer proofs are
--- in the folder of its name. Assumes nothing.
+-- in the folder of its name.
 pub mod Sheets
 pub mod FaceLists
 -- what the proofs share

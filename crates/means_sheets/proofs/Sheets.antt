@@ -1,4 +1,4 @@
--- Demand 2: sheets read back and are written back the same. Over the layout, and of edition 1. Assumes nothing.
+-- Demand 2: sheets read back and are written back the same. Over the layout, and of edition 1.
 pub mod Written
 pub mod Read
 pub mod Room

@@ -1,4 +1,4 @@
--- A writer that reports a length found nothing to refuse, and the length is the one that it gives then. Assumes nothing.
+-- A writer that reports a length found nothing to refuse, and the length is the one that it gives then.
 use mathlib.Core.Path.{_≡_, refl, sym, _∙_}
 use Prim.Native.Nat.{ℕ}
 use native.Mathlib.Omega.{arith}

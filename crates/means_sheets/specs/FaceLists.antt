@@ -1,4 +1,4 @@
--- Face lists read back and are written back the same, over an edition's layout. Assumes nothing.
+-- Face lists read back and are written back the same, over an edition's layout.
 -- "face count (6 bits, 4 to 42), then per face the corner count (4 bits, 3 to 12) and corners (5 bits each)"
 use mathlib.Core.Path.{_≡_}
 use mathlib.Core.Bool.{true}

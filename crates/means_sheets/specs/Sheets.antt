@@ -1,4 +1,4 @@
--- Sheets read back and are written back the same, over an edition's layout. Assumes nothing.
+-- Sheets read back and are written back the same, over an edition's layout.
 use mathlib.Core.Path.{_≡_}
 use mathlib.Core.List.{List, _++_}
 use Prim.Native.Nat.{ℕ, _/_, _^_, _≤_}

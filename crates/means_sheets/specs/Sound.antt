@@ -1,4 +1,4 @@
--- A layout in which every number that a drawing or a face list has fits its field. Assumes nothing.
+-- A layout in which every number that a drawing or a face list has fits its field.
 use Prim.Native.Nat.{_^_, _≤_, _<_}
 use Rattle.paper.specs.Format.{editionBits}
 use Rattle.paper.specs.declared.Format.{Format}

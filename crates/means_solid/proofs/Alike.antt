@@ -1,4 +1,4 @@
--- A solid and what names it depend on the digits of its masks alone. Assumes nothing.
+-- A solid and what names it depend on the digits of its masks alone.
 use mathlib.Core.Path.{_≡_, refl, sym, ap, ap₂, subst, _∙_}
 use mathlib.Core.Bool.{Bool, false, cond}
 use mathlib.Core.List.{List, [], _∷_}

@@ -1,5 +1,5 @@
 -- A loop that `runs` from a to b goes so by one of its sides, and a proper one not both ways; and what an edge's mask of candidates is,
--- digit by digit. Assumes nothing.
+-- digit by digit.
 use mathlib.Core.Bool.{Bool, true, false, not, _&&_, _||_, cond, xor, true≢false}
 use mathlib.Core.List.{List, [], _∷_, map}
 use mathlib.Core.Logic.{_⊎_, inl, inr}

@@ -1,3 +1,3 @@
--- What follows from the words. Assumes nothing.
+-- What follows from the words.
 pub mod Goes
 pub mod Alike

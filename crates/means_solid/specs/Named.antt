@@ -1,4 +1,4 @@
--- A list of faces names a solid with its directions, in any order of faces and from any starting corners. Assumes nothing.
+-- A list of faces names a solid with its directions, in any order of faces and from any starting corners.
 use mathlib.Core.Path.{_≡_}
 use mathlib.Core.Bool.{Bool, cond}
 use mathlib.Core.List.{List, _++_}

@@ -1,4 +1,4 @@
--- A closed path of at least three corners, all different. Assumes nothing.
+-- A closed path of at least three corners, all different.
 use mathlib.Core.List.{List}
 use mathlib.Core.Path.{_≡_}
 use Prim.Native.Nat.{ℕ, _≤_, _<_}

@@ -1,4 +1,4 @@
--- Determinants of a solid's faces: with two for each face they are at most two for each edge. Assumes nothing.
+-- Determinants of a solid's faces: with two for each face they are at most two for each edge.
 use mathlib.Core.Path.{_≡_}
 use mathlib.Core.Bool.{Bool, true, false}
 use mathlib.Core.List.{List, [], _∷_}

@@ -1,4 +1,4 @@
--- How large six volumes of a solid can be. Assumes nothing.
+-- How large six volumes of a solid can be.
 pub mod Terms
 pub mod Counted
 pub mod Near

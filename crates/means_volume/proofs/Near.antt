@@ -1,4 +1,4 @@
--- The points of a drawing whose form passes are in range. Assumes nothing.
+-- The points of a drawing whose form passes are in range.
 use mathlib.Core.Path.{_≡_}
 use mathlib.Core.List.{List, [], _∷_}
 use Prim.Native.Nat.{ℕ, zero, suc}

@@ -1,4 +1,4 @@
--- Every report's six volumes is at most 7.2 x 10^11, which a double holds exactly, and so its reading is exact. Assumes nothing.
+-- Every report's six volumes is at most 7.2 x 10^11, which a double holds exactly, and so its reading is exact.
 use mathlib.Core.Path.{_≡_, sym, ap, _∙_}
 use mathlib.Core.Bool.{Bool}
 use mathlib.Core.Logic.{inl, inr}

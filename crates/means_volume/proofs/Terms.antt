@@ -1,4 +1,4 @@
--- Six volumes by its terms: a face of n corners has n - 2 determinants of three positions. Assumes nothing.
+-- Six volumes by its terms: a face of n corners has n - 2 determinants of three positions.
 use mathlib.Core.Path.{_≡_, ap, _∙_, subst}
 use mathlib.Core.Bool.{Bool, true, false, cond}
 use mathlib.Core.List.{List, [], _∷_}

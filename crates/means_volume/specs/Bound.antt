@@ -1,5 +1,4 @@
 -- "By its terms it is at most 7.2 x 10^11 in size": how large six volumes of a reported solid can be, and that its reading is exact.
--- Assumes nothing.
 use mathlib.Core.Path.{_≡_}
 use mathlib.Core.Bool.{Bool}
 use mathlib.Core.List.{List}

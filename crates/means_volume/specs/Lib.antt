@@ -1,2 +1,2 @@
--- What is said of the size of six volumes. Assumes nothing.
+-- What is said of the size of six volumes.
 pub mod Bound

@@ -1,4 +1,4 @@
--- The walk chooses the lowest undecided candidate of the lowest edge that has one, where every candidate is on an edge. Assumes nothing.
+-- The walk chooses the lowest undecided candidate of the lowest edge that has one, where every candidate is on an edge.
 use mathlib.Core.Bool.{Bool, true, false, _&&_, cond}
 use mathlib.Core.List.{List, [], _∷_}
 use mathlib.Core.Path.{_≡_, refl, sym, ap, _∙_, subst}

@@ -1,4 +1,4 @@
--- The walk's selections are those with exactly two taken on each edge, each once. Assumes nothing.
+-- The walk's selections are those with exactly two taken on each edge, each once.
 use mathlib.Core.Bool.{Bool, true, false, _&&_, cond, true≢false}
 use mathlib.Core.List.{List, [], _∷_, _++_}
 use mathlib.Core.Path.{_≡_, refl, sym, ap, ap₂, _∙_}

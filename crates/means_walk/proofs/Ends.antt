@@ -1,4 +1,4 @@
--- The search is the tree's: how it ends, by the tree alone. Assumes nothing.
+-- The search is the tree's: how it ends, by the tree alone.
 use mathlib.Core.Bool.{Bool, _&&_, cond}
 use mathlib.Core.List.{List, []}
 use mathlib.Core.Logic.{_⊎_, inl, inr}

@@ -1,4 +1,4 @@
--- The walk goes along the steps of the tree, and how it ends. Assumes nothing.
+-- The walk goes along the steps of the tree, and how it ends.
 use mathlib.Core.Bool.{Bool, true, false, cond}
 use mathlib.Core.List.{List, [], _∷_, _++_}
 use mathlib.Core.Logic.{_⊎_, inl, inr}

@@ -1,4 +1,4 @@
--- Every state has its tree, and the fuel of `stable` is enough. Assumes nothing.
+-- Every state has its tree, and the fuel of `stable` is enough.
 use mathlib.Core.Bool.{Bool, true, false, cond}
 use mathlib.Core.List.{List, [], _∷_, _++_}
 use mathlib.Core.Path.{_≡_, refl, sym, ap, ap₂, _∙_}

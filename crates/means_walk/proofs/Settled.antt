@@ -1,4 +1,4 @@
--- An edge settled, and sweeps: they allow what a state allowed, and leave no contradiction. Assumes nothing.
+-- An edge settled, and sweeps: they allow what a state allowed, and leave no contradiction.
 use mathlib.Core.Bool.{Bool, true, false, _&&_, cond, true≢false}
 use mathlib.Core.List.{List, [], _∷_}
 use mathlib.Core.Path.{_≡_, refl, sym, ap, ap₂, _∙_, subst}

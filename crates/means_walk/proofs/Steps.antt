@@ -1,4 +1,4 @@
--- The walk goes along the steps of the tree, one by one, as long as neither cap nor limit ends it. Assumes nothing.
+-- The walk goes along the steps of the tree, one by one, as long as neither cap nor limit ends it.
 use mathlib.Core.Bool.{Bool, true, false, cond}
 use mathlib.Core.List.{List, [], _∷_, _++_, append-assoc, append-nil}
 use mathlib.Core.Path.{_≡_, refl, sym, ap, ap₂, _∙_, subst}

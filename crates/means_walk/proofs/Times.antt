@@ -1,4 +1,4 @@
--- How often a selection is in a list, by places; selections and masks of yes and no. Assumes nothing.
+-- How often a selection is in a list, by places; selections and masks of yes and no.
 use mathlib.Core.Bool.{Bool, true, false, _&&_, true≢false}
 use mathlib.Core.List.{List, [], _∷_, map}
 use mathlib.Core.Path.{_≡_, refl, sym, ap, ap₂, _∙_}

@@ -1,4 +1,4 @@
--- "find the lowest edge with an undecided candidate and, on it, the lowest such candidate". Assumes nothing.
+-- "find the lowest edge with an undecided candidate and, on it, the lowest such candidate".
 use mathlib.Core.Bool.{Bool, true}
 use mathlib.Core.List.{List, [], map}
 use mathlib.Core.Path.{_≡_}

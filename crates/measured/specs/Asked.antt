@@ -1,4 +1,4 @@
--- A drawing that passed 3 to 14, its neighbour words, and the rooms of its loops. Assumes nothing.
+-- A drawing that passed 3 to 14, its neighbour words, and the rooms of its loops.
 use mathlib.Core.List.{List}
 use mathlib.Core.Path.{_≡_}
 use Prim.Native.Nat.{ℕ, _/_}

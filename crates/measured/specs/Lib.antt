@@ -1,2 +1,2 @@
--- What the stages ask. Assumes nothing.
+-- What the stages ask.
 pub mod Asked

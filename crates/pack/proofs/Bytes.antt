@@ -1,4 +1,4 @@
--- A field lies within three bytes: what it is of their number, and what the bytes of a patched number do to it. Assumes nothing.
+-- A field lies within three bytes: what it is of their number, and what the bytes of a patched number do to it.
 use mathlib.Core.Path.{_≡_, refl, sym, ap, _∙_}
 use mathlib.Core.List.{List, [], _∷_, _++_, append-assoc, append-nil}
 use Prim.Native.Nat.{ℕ, zero, suc, _+_, _-_, _*_, _/_, _%_, _^_, _≤_, _<_}

@@ -1,4 +1,4 @@
--- How an array is filled: what a store just behind the front makes of it, and the front again. Assumes nothing.
+-- How an array is filled: what a store just behind the front makes of it, and the front again.
 use mathlib.Core.Path.{_≡_, refl, sym, ap, ap₂, _∙_}
 use mathlib.Core.List.{List, [], _∷_, _++_}
 use Prim.Native.Nat.{ℕ, zero, suc, _+_, _-_, _≤_, _<_}

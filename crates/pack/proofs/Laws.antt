@@ -1,4 +1,4 @@
--- The laws of packed fields, each over the width. Assumes nothing.
+-- The laws of packed fields, each over the width.
 use mathlib.Core.Path.{_≡_, refl, sym, ap, ap₂, _∙_}
 use mathlib.Core.List.{List, [], _∷_, _++_, append-assoc}
 use Prim.Native.Nat.{ℕ, zero, suc, _+_, _*_, _/_, _%_, _^_, _≤_, _<_}

@@ -1,4 +1,4 @@
--- The laws of packed fields, over the width, and of arrays that are filled. Assumes nothing.
+-- The laws of packed fields, over the width, and of arrays that are filled.
 pub mod Laws
 pub mod Overwrite
 pub mod Trip

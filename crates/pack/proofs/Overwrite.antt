@@ -1,4 +1,4 @@
--- Writing packed fields over what stands there, one behind the other, and the parts of a run. Assumes nothing.
+-- Writing packed fields over what stands there, one behind the other, and the parts of a run.
 use mathlib.Core.Path.{_≡_, refl, sym, ap, ap₂, _∙_}
 use mathlib.Core.List.{List, [], _∷_, _++_, append-assoc, append-nil}
 use Prim.Native.Nat.{ℕ, zero, suc, _+_, _*_, _^_, _≤_, _<_}

@@ -1,5 +1,4 @@
--- A field that was packed is read again, and a field that was read packs to the bits that it was read from; over the width. Assumes
--- nothing.
+-- A field that was packed is read again, and a field that was read packs to the bits that it was read from; over the width.
 use mathlib.Core.Path.{_≡_, _∙_}
 use mathlib.Core.List.{List, [], _++_, append-nil}
 use Prim.Native.Nat.{ℕ, _+_, _*_, _%_, _^_, _≤_, _<_}

@@ -1,4 +1,4 @@
--- What the functions of this crate ask of bytes, places and widths. Assumes nothing.
+-- What the functions of this crate ask of bytes, places and widths.
 use mathlib.Core.List.{List}
 use Prim.Native.Nat.{ℕ, _+_, _*_, _/_, _^_, _≤_, _<_}
 use lib.ListN.{length}

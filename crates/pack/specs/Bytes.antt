@@ -1,4 +1,4 @@
--- The three bytes that a field lies within. Assumes nothing.
+-- The three bytes that a field lies within.
 use mathlib.Core.List.{List, [], _∷_}
 use Prim.Native.Nat.{ℕ, _+_, _*_, _/_, _%_, _^_}
 use lib.ListN.{getD}

@@ -1,4 +1,4 @@
--- An array that is filled from the front over a default. Assumes nothing.
+-- An array that is filled from the front over a default.
 use mathlib.Core.List.{List, _++_}
 use Prim.Native.Nat.{ℕ, _-_}
 use lib.ListN.{length, replicate}

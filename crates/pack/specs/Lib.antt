@@ -1,4 +1,4 @@
--- What contracts say of packed fields and of arrays that are filled. Assumes nothing.
+-- What contracts say of packed fields and of arrays that are filled.
 pub mod Asked
 pub mod Bits
 pub mod Bytes

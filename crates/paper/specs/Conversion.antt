@@ -1,4 +1,4 @@
--- Document 01, "What comes back": the answers of conversion, 1 to 19, with both rooms at exit. Assumes nothing.
+-- Document 01, "What comes back": the answers of conversion, 1 to 19, with both rooms at exit.
 use mathlib.Core.Bool.{Bool, true, false, cond}
 use mathlib.Core.List.{List, [], _∷_, _++_, map, flatMap}
 use Prim.Native.Nat.{ℕ, _*_}

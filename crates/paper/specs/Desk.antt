@@ -1,5 +1,4 @@
 -- Document 01, the desk program: "reads one sheet from standard input and converts it with limit 1,000,000". What it prints, as bytes.
--- Assumes nothing.
 use mathlib.Core.Bool.{Bool, true, false, cond}
 use mathlib.Core.List.{List, [], _∷_, _++_}
 use Prim.Native.Nat.{ℕ, zero, suc, _+_, _/_, _%_}

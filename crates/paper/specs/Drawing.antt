@@ -1,5 +1,5 @@
 -- Document 01, "a drawing, being vertices with whole-number coordinates in centimetres and straight edges", and the rules on it that
--- need no loops: 11 SamePlace, 12 LooseVertex, 13 EdgeMeets, 14 Apart. Assumes nothing.
+-- need no loops: 11 SamePlace, 12 LooseVertex, 13 EdgeMeets, 14 Apart.
 use Prim.Native.Nat.{ℕ, zero, suc}
 use mathlib.Core.Bool.{Bool, false, not, _&&_, _||_, cond}
 use mathlib.Core.Option.{Option}

@@ -1,4 +1,4 @@
--- Document 01, "The face list is packed likewise", and the table's 20. A face is the list of its corners as it is sent. Assumes nothing.
+-- Document 01, "The face list is packed likewise", and the table's 20. A face is the list of its corners as it is sent.
 use mathlib.Core.Bool.{Bool, false, _&&_, _||_, not, cond}
 use mathlib.Core.List.{List, [], _∷_, _++_, map, flatMap}
 use Prim.Native.Nat.{ℕ, zero, suc, _+_, _*_}

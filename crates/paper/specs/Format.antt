@@ -1,4 +1,4 @@
--- Document 01, "The drawing sheet": the layout of sheets and face lists, over an edition's widths and counts. Assumes nothing.
+-- Document 01, "The drawing sheet": the layout of sheets and face lists, over an edition's widths and counts.
 use mathlib.Core.Bool.{Bool, _||_}
 use mathlib.Core.List.{List, _++_, map}
 use Prim.Native.Nat.{ℕ, _+_, _*_, _-_, _/_}

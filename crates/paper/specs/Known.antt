@@ -1,6 +1,6 @@
 -- Document 01, "Known drawings (starred ones are proved)", in one table under one statement, proved by evaluation; with the rows that
 -- tell its "Errors that look right" from the definitions. Polygons come first: what is wrong with them is refused before a search is
--- evaluated. Assumes nothing.
+-- evaluated.
 pub mod Drawings
 pub mod Polygons
 use mathlib.Core.Path.{refl}

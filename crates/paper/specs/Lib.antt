@@ -1,4 +1,4 @@
--- Document 01 as definitions, section by section. Assumes nothing.
+-- Document 01 as definitions, section by section.
 pub mod Numbers
 pub mod Refusals
 pub mod Format

@@ -1,5 +1,4 @@
 -- Document 01, "What the service converts": its numbers. Those of an edition, as the counts of vertices and edges, are in Format.
--- Assumes nothing.
 use Prim.Native.Nat.{ℕ}
 
 -- "coordinates -1,000 to 1,000"

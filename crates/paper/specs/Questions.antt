@@ -1,5 +1,5 @@
 -- Questions to the definitions and what they reply, for the tables that are proved by evaluation: one definition that computes with
--- all others. Assumes nothing.
+-- all others.
 use Prim.Native.Nat.{ℕ}
 use mathlib.Core.Path.{_≡_}
 use mathlib.Core.Bool.{Bool, true, _||_}

@@ -1,4 +1,4 @@
--- Document 01, the numbers and values of each answer, and "The reading of a conversion's answer". Assumes nothing.
+-- Document 01, the numbers and values of each answer, and "The reading of a conversion's answer".
 use mathlib.Core.Bool.{not}
 use mathlib.Core.List.{List, [], _∷_}
 use mathlib.Core.Option.{Option, none, some}

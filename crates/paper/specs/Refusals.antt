@@ -1,5 +1,5 @@
 -- Document 01, "What comes back": the numbers of the table by its names, and the rule that the first check that applies is the
--- answer. Assumes nothing.
+-- answer.
 use Prim.Native.Nat.{ℕ}
 use mathlib.Core.Bool.{Bool, cond}
 use mathlib.Core.Option.{Option, none, some}

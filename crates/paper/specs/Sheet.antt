@@ -1,4 +1,4 @@
--- Document 01, "The drawing sheet" and the table's 3 to 10: reading and writing a sheet. Assumes nothing.
+-- Document 01, "The drawing sheet" and the table's 3 to 10: reading and writing a sheet.
 use mathlib.Core.Bool.{Bool, false, _&&_, _||_, not}
 use mathlib.Core.List.{List, [], _∷_, _++_}
 use Prim.Native.Nat.{ℕ, zero, suc, _+_, _*_, _-_, _/_, _%_}

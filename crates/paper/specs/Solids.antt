@@ -1,4 +1,4 @@
--- Document 01, "Solids": the tests (i) to (v). A selection is a mask: for each candidate, whether it is taken. Assumes nothing.
+-- Document 01, "Solids": the tests (i) to (v). A selection is a mask: for each candidate, whether it is taken.
 use mathlib.Core.Bool.{Bool, true, false, not, _&&_, _||_, cond}
 use mathlib.Core.List.{List, [], _∷_, map}
 use Prim.Native.Nat.{ℕ, zero, suc}

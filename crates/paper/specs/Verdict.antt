@@ -1,4 +1,4 @@
--- Document 01, the face-list check: "3 to 16, then 20 to 27". Assumes nothing.
+-- Document 01, the face-list check: "3 to 16, then 20 to 27".
 use mathlib.Core.Bool.{Bool, false, not, cond}
 use mathlib.Core.Option.{Option}
 use mathlib.Core.List.{List, [], _∷_, _++_, map}

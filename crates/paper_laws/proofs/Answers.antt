@@ -1,4 +1,4 @@
--- What the numbers and values of an answer tell: the first check that applies, and which case of the enum it is. Assumes nothing.
+-- What the numbers and values of an answer tell: the first check that applies, and which case of the enum it is.
 use mathlib.Core.Path.{_≡_, refl, sym, ap, _∙_}
 use mathlib.Core.Bool.{cond}
 use mathlib.Core.List.{List, [], _∷_}

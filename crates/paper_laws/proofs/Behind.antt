@@ -1,4 +1,4 @@
--- An answer, and that of the checks behind it where it is none. Assumes nothing.
+-- An answer, and that of the checks behind it where it is none.
 use mathlib.Core.Path.{_≡_, refl}
 use mathlib.Core.Option.{none, some}
 use mathlib.Core.List.{List, [], _∷_, _++_}

@@ -1,4 +1,4 @@
--- The first check that applies: one step of the list, and two lists one behind the other. Assumes nothing.
+-- The first check that applies: one step of the list, and two lists one behind the other.
 use mathlib.Core.Path.{_≡_, refl, sym, _∙_}
 use mathlib.Core.Bool.{Bool, true, false}
 use mathlib.Core.Option.{Option, none, some}

@@ -1,4 +1,4 @@
--- A coordinate and its number on the sheet. Assumes nothing.
+-- A coordinate and its number on the sheet.
 use mathlib.Core.Path.{_≡_, refl, ap, _∙_}
 use mathlib.Core.Bool.{Bool, true, false, or-false}
 use mathlib.Core.Logic.{_⊎_, ⊎-elim}

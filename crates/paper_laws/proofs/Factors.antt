@@ -1,4 +1,4 @@
--- Tests of whole numbers after a product with a number above 0, or with one that is not 0. Assumes nothing.
+-- Tests of whole numbers after a product with a number above 0, or with one that is not 0.
 use mathlib.Core.Path.{_≡_, sym, ap, _∙_}
 use lib.IntN.{ℤ, pos, _*ℤ_, *ℤ-zero}
 use lib.Signed.{leZ, ltZ, _<ℤ_}

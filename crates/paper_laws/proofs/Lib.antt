@@ -1,4 +1,4 @@
--- What follows from document 01's definitions, for any crate to cite. Assumes nothing.
+-- What follows from document 01's definitions, for any crate to cite.
 pub mod Checks
 pub mod Behind
 pub mod Limits

@@ -1,4 +1,4 @@
--- A number between its limits. Assumes nothing.
+-- A number between its limits.
 use mathlib.Core.Path.{_≡_, refl}
 use mathlib.Core.Bool.{Bool, true, false, true≢false}
 use Prim.Native.Nat.{ℕ, _≤_}

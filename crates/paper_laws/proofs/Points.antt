@@ -1,4 +1,4 @@
--- Points: the tests for zero and (0,0,0), equations that follow from others, and squares. Assumes nothing.
+-- Points: the tests for zero and (0,0,0), equations that follow from others, and squares.
 use mathlib.Core.Path.{_≡_, refl, sym, _∙_, ap}
 use mathlib.Core.Bool.{true, false, _&&_, true≢false}
 use mathlib.Core.List.{[], _∷_}

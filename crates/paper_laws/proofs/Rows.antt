@@ -1,4 +1,4 @@
--- A loop's row of 13 bytes, cell by cell, and rows one behind the other. Assumes nothing.
+-- A loop's row of 13 bytes, cell by cell, and rows one behind the other.
 use mathlib.Core.Path.{_≡_, refl, sym, ap, _∙_}
 use mathlib.Core.List.{List, [], _++_, flatMap}
 use Prim.Native.Nat.{ℕ, suc, _+_, _*_, _-_, _≤_, _<_}

@@ -1,4 +1,4 @@
--- A face's part of six volumes is the product of its first corner and its normal. Assumes nothing.
+-- A face's part of six volumes is the product of its first corner and its normal.
 use mathlib.Core.Path.{_≡_, sym, ap, _∙_}
 use mathlib.Core.List.{List, [], _∷_}
 use lib.IntN.{ℤ, pos, _+ℤ_}

@@ -1,4 +1,4 @@
--- A test that is true just where a statement holds, and such tests put together. Assumes nothing.
+-- A test that is true just where a statement holds, and such tests put together.
 use mathlib.Core.Path.{_≡_, refl}
 use mathlib.Core.Bool.{Bool, true, false, not, _&&_, _||_}
 use mathlib.Core.Logic.{_↔_, _⊎_, inl, inr}

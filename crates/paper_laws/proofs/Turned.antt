@@ -1,4 +1,4 @@
--- An edge from its other end: the same midpoint, and it pierces as before. Assumes nothing.
+-- An edge from its other end: the same midpoint, and it pierces as before.
 use mathlib.Core.Path.{_≡_, ap, _∙_}
 use mathlib.Core.Bool.{_&&_, _||_, and-comm, or-comm}
 use mathlib.Core.List.{[], _∷_}

@@ -1,4 +1,4 @@
--- A polynomial identity of points and numbers by one call, of `vring`. Assumes nothing.
+-- A polynomial identity of points and numbers by one call, of `vring`.
 -- `vring ρ a b tt` says that the terms a and b have one value where the list ρ has the values of their variables; tt says that antt
 -- finds one normal form for the coordinates of both:
 --     vring (vec p ∷ vec q ∷ []) (v 0 · (v 0 ×v v 1)) (k (pos 0)) tt : dot p (cross p q) ≡ pos 0

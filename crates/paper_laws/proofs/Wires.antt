@@ -1,5 +1,4 @@
 -- A drawing's points and edges, from the two lists that it is lent as, and the corners of a loop: how many there are, and each of them.
--- Assumes nothing.
 use mathlib.Core.Path.{_≡_, refl, _∙_}
 use mathlib.Core.List.{List, [], _∷_, map}
 use mathlib.Core.Bool.{_&&_, _||_, and-comm, or-comm}

@@ -1,4 +1,4 @@
--- A drawing in range, as refusals 3 to 10 leave it: what the functions on lent lists ask of them. Assumes nothing.
+-- A drawing in range, as refusals 3 to 10 leave it: what the functions on lent lists ask of them.
 use mathlib.Core.Path.{_≡_}
 use mathlib.Core.List.{List}
 use Prim.Native.Nat.{ℕ, _+_, _*_, _≤_, _<_}

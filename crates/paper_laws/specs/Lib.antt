@@ -1,3 +1,3 @@
--- What contracts of several crates cite beside the paper. Assumes nothing.
+-- What contracts of several crates cite beside the paper.
 pub mod InRange
 pub mod Planes

@@ -1,4 +1,4 @@
--- A polygon whose corners all lie in its plane; a point in the plane of a polygon. Assumes nothing.
+-- A polygon whose corners all lie in its plane; a point in the plane of a polygon.
 use mathlib.Core.Path.{_≡_}
 use mathlib.Core.Bool.{true}
 use lib.IntN.{ℤ, pos}

@@ -1,4 +1,4 @@
--- A fixed sample of cases (desk), as the reference answers them. Assumes nothing.
+-- A fixed sample of cases (desk), as the reference answers them.
 use mathlib.Core.Path.{refl}
 use mathlib.Core.Bool.{true, false}
 use mathlib.Core.List.{List, [], _∷_, _++_}

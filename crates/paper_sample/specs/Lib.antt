@@ -1,4 +1,4 @@
--- A fixed sample of cases that the reference answers, proved of the definitions; written by tools/try-definitions. Assumes nothing.
+-- A fixed sample of cases that the reference answers, proved of the definitions; written by tools/try-definitions.
 pub mod Drawing
 pub mod Sheet
 pub mod Write

@@ -1,4 +1,4 @@
--- Each number and each limit (list, ruled), as the reference answers them. Assumes nothing.
+-- Each number and each limit (list, ruled), as the reference answers them.
 use mathlib.Core.Path.{refl}
 use mathlib.Core.Bool.{true, false}
 use mathlib.Core.List.{List, [], _∷_, _++_}

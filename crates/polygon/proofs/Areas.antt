@@ -1,4 +1,4 @@
--- The sum of the cross products of a ring's sides: one more of them, and how large it can be. Assumes nothing.
+-- The sum of the cross products of a ring's sides: one more of them, and how large it can be.
 use mathlib.Core.Path.{_≡_, refl, sym, _∙_, ap}
 use mathlib.Core.List.{List, [], _∷_, _++_}
 use Prim.Native.Nat.{ℕ, zero, suc, _+_, _*_, _≤_, _<_}

@@ -1,4 +1,4 @@
--- The ring of a row is the polygon of its loop in the drawing whose vertices the list holds. Assumes nothing.
+-- The ring of a row is the polygon of its loop in the drawing whose vertices the list holds.
 use mathlib.Core.Path.{_≡_, refl, sym, _∙_, ap}
 use mathlib.Core.List.{List, [], _∷_, map}
 use Prim.Native.Nat.{ℕ, zero, suc, _+_, _*_, _<_}

@@ -1,4 +1,4 @@
--- The six numbers of two points as variables of a formula: a's are 0 to 2, b's 3 to 5. Assumes nothing.
+-- The six numbers of two points as variables of a formula: a's are 0 to 2, b's 3 to 5.
 use mathlib.Core.List.{[], _∷_}
 use Prim.Native.Nat.{ℕ}
 use Rattle.exact.proofs.Machine.{Every, _▸_, done}

@@ -1,4 +1,4 @@
--- A row's plane: the side of a point, and how large it can be. Assumes nothing.
+-- A row's plane: the side of a point, and how large it can be.
 use mathlib.Core.Path.{_≡_, refl, _∙_, subst}
 use mathlib.Core.List.{List, [], _∷_}
 use Prim.Native.Nat.{ℕ, _≤_}

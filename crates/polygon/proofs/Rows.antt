@@ -1,4 +1,4 @@
--- A row of the table as a ring of points. Assumes nothing.
+-- A row of the table as a ring of points.
 use mathlib.Core.Path.{_≡_, ap, _∙_}
 use mathlib.Core.List.{List}
 use Prim.Native.Nat.{ℕ, _+_, _*_, _≤_, _<_}

@@ -1,4 +1,4 @@
--- How large points are: sums, differences and products. Assumes nothing.
+-- How large points are: sums, differences and products.
 use mathlib.Core.Path.{_≡_, sym, subst}
 use Prim.Native.Nat.{ℕ, _+_, _*_, _≤_}
 use native.Mathlib.Omega.{arith}

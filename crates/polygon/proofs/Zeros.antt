@@ -1,4 +1,4 @@
--- A number as its bits hold it: it reads back as itself, `z == 0` tests it, and its size. Assumes nothing.
+-- A number as its bits hold it: it reads back as itself, `z == 0` tests it, and its size.
 use mathlib.Core.Path.{_≡_, refl, sym, ap, subst}
 use mathlib.Core.Bool.{Bool, true, false}
 use Prim.Native.Nat.{ℕ, zero, suc, _^_, _<_}

@@ -1,5 +1,4 @@
 -- What the code holds as what the definitions speak of: a vertex in the list of coordinates, a row of the loop table as a polygon.
--- Assumes nothing.
 use Prim.Native.Nat.{ℕ, _+_, _*_, _≤_, _<_}
 use mathlib.Core.Path.{_≡_}
 use mathlib.Core.List.{List, map}

@@ -1,5 +1,5 @@
 -- How large the numbers are that the code holds. Each bound is what the operations before it make of coordinates within `farthest`;
--- the last are those of the piercing test, whose `turn` needs 2 ^ 61. Assumes nothing.
+-- the last are those of the piercing test, whose `turn` needs 2 ^ 61.
 use Prim.Native.Nat.{ℕ, _*_}
 use Rattle.exact.specs.Size.{Within}
 use Rattle.paper.specs.Numbers.{farthest, mostCorners}

@@ -1,4 +1,4 @@
--- Up to 2^53 the double of a whole number is that number, and the quotient of two such doubles is rounded once. Assumes nothing.
+-- Up to 2^53 the double of a whole number is that number, and the quotient of two such doubles is rounded once.
 use mathlib.Core.Path.{_≡_, sym, ap, _∙_, subst}
 use mathlib.Core.Bool.{true, false, not, cond, true≢false}
 use Prim.Native.Nat.{ℕ, zero, suc, _*_, _<_, _≤_}

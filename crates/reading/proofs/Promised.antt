@@ -1,4 +1,4 @@
--- A value that equals the paper's reading keeps all that the contract promises. Assumes nothing.
+-- A value that equals the paper's reading keeps all that the contract promises.
 use mathlib.Core.Path.{_≡_, refl, sym, ap, _∙_, subst}
 use Rattle.paper.specs.Reading.{conversionSays, readingOf, readingSays}
 use Rattle.paper.specs.declared.Conversion.{Conversion}

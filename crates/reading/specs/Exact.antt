@@ -1,4 +1,4 @@
--- "divided by 6,000,000, both held exactly, rounded once", as doubles have it. Assumes nothing.
+-- "divided by 6,000,000, both held exactly, rounded once", as doubles have it.
 use mathlib.Core.Path.{_≡_}
 use mathlib.Core.Bool.{false}
 use Prim.Native.Nat.{ℕ, _^_, _≤_}

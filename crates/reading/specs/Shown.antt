@@ -1,4 +1,4 @@
--- A reading from what is said of a conversion: the number of the table, 30 for two to eight solids, or the volume. Assumes nothing.
+-- A reading from what is said of a conversion: the number of the table, 30 for two to eight solids, or the volume.
 use mathlib.Core.List.{List, [], _∷_}
 use mathlib.Core.Option.{none, some}
 use Prim.Native.Nat.{ℕ}

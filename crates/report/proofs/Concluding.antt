@@ -1,4 +1,4 @@
--- Each way out of `concluded` is the document's, by how the walk ended. Assumes nothing.
+-- Each way out of `concluded` is the document's, by how the walk ended.
 use mathlib.Core.List.{List}
 use mathlib.Core.Path.{_≡_, sym, _∙_}
 use Prim.Native.Nat.{ℕ}

@@ -1,3 +1,3 @@
--- Laws of the report. Assumes nothing.
+-- Laws of the report.
 pub mod Reporting
 pub mod Concluding

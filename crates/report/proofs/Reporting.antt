@@ -1,4 +1,4 @@
--- Each way out of `reported` is the document's: no solid, one, or more. Assumes nothing.
+-- Each way out of `reported` is the document's: no solid, one, or more.
 use mathlib.Core.List.{List, [], _∷_, _++_, flatMap}
 use mathlib.Core.Path.{_≡_, refl, sym, ap, _∙_}
 use Prim.Native.Nat.{ℕ, _*_, _<_}

@@ -1,4 +1,4 @@
--- What a conversion says of a finished walk, with both rooms at exit. Assumes nothing.
+-- What a conversion says of a finished walk, with both rooms at exit.
 use mathlib.Core.List.{List}
 use mathlib.Core.Path.{_≡_}
 use Prim.Native.Nat.{ℕ, _≤_}

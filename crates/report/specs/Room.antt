@@ -1,4 +1,4 @@
--- A report written to the start of the two lent rooms. Assumes nothing.
+-- A report written to the start of the two lent rooms.
 use mathlib.Core.List.{List}
 use mathlib.Core.Path.{_≡_}
 use Prim.Native.Nat.{ℕ, _*_}

@@ -1,4 +1,4 @@
--- Entries copied one by one to the start of a room: what the loops keep, for entries of any type. Assumes nothing.
+-- Entries copied one by one to the start of a room: what the loops keep, for entries of any type.
 use mathlib.Core.List.{List, _++_}
 use mathlib.Core.Path.{_≡_, sym, ap, _∙_}
 use Prim.Native.Nat.{ℕ, _+_, _≤_, _<_}

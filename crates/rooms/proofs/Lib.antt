@@ -1,2 +1,2 @@
--- What the copying loops keep. Assumes nothing.
+-- What the copying loops keep.
 pub mod Copying

@@ -1,2 +1,2 @@
--- What contracts on copied entries cite. Assumes nothing.
+-- What contracts on copied entries cite.
 pub mod Rooms

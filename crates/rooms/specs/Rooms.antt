@@ -1,4 +1,4 @@
--- Entries of any type copied to the start of a lent room. Assumes nothing.
+-- Entries of any type copied to the start of a lent room.
 use mathlib.Core.List.{List, _++_}
 use Prim.Native.Nat.{ℕ, _≤_}
 use lib.ListN.{length, take, drop}

@@ -1,4 +1,4 @@
--- Lists of digits by their digits: what the operations do to each, and what counts say of them. Assumes nothing.
+-- Lists of digits by their digits: what the operations do to each, and what counts say of them.
 use mathlib.Core.Bool.{Bool, true, false, not, _&&_, _||_, true≢false, and-false, and-true, or-false}
 use mathlib.Core.List.{List, [], _∷_}
 use mathlib.Core.Path.{_≡_, refl, sym, ap, _∙_}

@@ -1,4 +1,4 @@
--- The laws of digits, of the words that they make, of numbers by their digits, and of sets. Assumes nothing.
+-- The laws of digits, of the words that they make, of numbers by their digits, and of sets.
 pub mod Digits
 pub mod Word
 pub mod Numbers

@@ -1,4 +1,4 @@
--- A number by its digits: each by its place, and the number by all of them. No width is named here. Assumes nothing.
+-- A number by its digits: each by its place, and the number by all of them. No width is named here.
 use mathlib.Core.Path.{_≡_, refl, sym, ap, _∙_}
 use mathlib.Core.Bool.{Bool, true, false, _||_, _&&_, or-false}
 use mathlib.Core.List.{List, [], _∷_}

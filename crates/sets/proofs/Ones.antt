@@ -1,4 +1,4 @@
--- Digits that are set: the first of them, one alone, all, none. Assumes nothing.
+-- Digits that are set: the first of them, one alone, all, none.
 use mathlib.Core.Path.{_≡_, refl, sym, ap, _∙_}
 use mathlib.Core.Bool.{Bool, true, false, true≢false}
 use mathlib.Core.List.{List, [], _∷_, _++_}

@@ -1,4 +1,4 @@
--- Sets of one word: each operation on the word is one on the digits that the set stands for. Assumes nothing.
+-- Sets of one word: each operation on the word is one on the digits that the set stands for.
 use mathlib.Core.Bool.{Bool, true, false}
 use mathlib.Core.List.{List, [], _∷_, _++_}
 use mathlib.Core.Path.{_≡_, refl, sym, ap, ap₂, _∙_, subst}

@@ -1,4 +1,4 @@
--- Words and their digits: each operation on words is one on lists of digits, of every length. Assumes nothing.
+-- Words and their digits: each operation on words is one on lists of digits, of every length.
 -- A width is named only where `!x`, `1 << k` or a count of zeros has one.
 use mathlib.Core.Bool.{Bool, true, false, not, _&&_, _||_}
 use mathlib.Core.List.{List, [], _∷_, _++_}

@@ -1,3 +1,3 @@
--- What contracts say of words as lists of digits, and of sets. Assumes nothing.
+-- What contracts say of words as lists of digits, and of sets.
 pub mod Word
 pub mod Sets

@@ -1,4 +1,4 @@
--- A set as the code holds it: one word. Contracts say what holds of every list of digits that a set stands for. Assumes nothing.
+-- A set as the code holds it: one word. Contracts say what holds of every list of digits that a set stands for.
 use mathlib.Core.Bool.{Bool, true}
 use mathlib.Core.List.{List}
 use mathlib.Core.Path.{_≡_}

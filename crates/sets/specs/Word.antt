@@ -1,4 +1,4 @@
--- Words as lists of digits: the list has the lowest digit first, and any length. No width is named here. Assumes nothing.
+-- Words as lists of digits: the list has the lowest digit first, and any length. No width is named here.
 use mathlib.Core.Bool.{Bool, true, false, not, _&&_, _||_}
 use mathlib.Core.List.{List, [], _∷_}
 use mathlib.Core.Path.{_≡_}

@@ -1,4 +1,4 @@
--- What a sheet that passes refusals 3 to 10 is, and the drawing that reading it returns. Assumes nothing.
+-- What a sheet that passes refusals 3 to 10 is, and the drawing that reading it returns.
 use mathlib.Core.Path.{_≡_, sym, ap, _∙_}
 use mathlib.Core.List.{List}
 use Prim.Native.Nat.{ℕ, _+_, _*_}

@@ -1,4 +1,4 @@
--- Stretches of bits that are written one behind the other: the head of a sheet, a sheet, and the bytes that hold them. Assumes nothing.
+-- Stretches of bits that are written one behind the other: the head of a sheet, a sheet, and the bytes that hold them.
 use mathlib.Core.Path.{_≡_, sym, ap, ap₂, _∙_}
 use mathlib.Core.List.{List, _++_, map}
 use Prim.Native.Nat.{ℕ, _≤_, _+_, _*_, _-_, _/_, _^_, zero-le}

@@ -1,4 +1,4 @@
--- What a drawing that is lent as two lists is, where it passes 5, 8, 9 and 10. Assumes nothing.
+-- What a drawing that is lent as two lists is, where it passes 5, 8, 9 and 10.
 use mathlib.Core.Path.{_≡_, refl, ap}
 use mathlib.Core.Bool.{Bool, true, false, not}
 use mathlib.Core.List.{List}

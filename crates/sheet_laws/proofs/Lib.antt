@@ -1,4 +1,4 @@
--- What follows from the definitions of sheets and of lent drawings. Assumes nothing.
+-- What follows from the definitions of sheets and of lent drawings.
 -- a lent drawing that passes 5, 8, 9 and 10
 pub mod Lent
 -- a sheet that passes 3 to 7, and one that passes 3 to 10

@@ -1,4 +1,4 @@
--- What is said of a sheet that is read and of one that is written: the number and place of the first check. Assumes nothing.
+-- What is said of a sheet that is read and of one that is written: the number and place of the first check.
 use mathlib.Core.Path.{_≡_, refl}
 use mathlib.Core.List.{List}
 use Prim.Native.Nat.{ℕ, _/_}

@@ -1,4 +1,4 @@
--- What a sheet that passes refusals 3 to 7 is. Assumes nothing.
+-- What a sheet that passes refusals 3 to 7 is.
 use mathlib.Core.Path.{_≡_, _∙_, ap₂}
 use mathlib.Core.List.{List, _++_}
 use Prim.Native.Nat.{ℕ, _≤_}

@@ -1,4 +1,4 @@
--- The writer's answer and its room, for each way out. Assumes nothing.
+-- The writer's answer and its room, for each way out.
 use mathlib.Core.Path.{_≡_, ap, _∙_}
 use mathlib.Core.List.{List, _++_}
 use Prim.Native.Nat.{ℕ, _≤_, _<_, _/_}

@@ -1,2 +1,2 @@
--- What contracts of several crates on drawings cite beside the paper. Assumes nothing.
+-- What contracts of several crates on drawings cite beside the paper.
 pub mod Near

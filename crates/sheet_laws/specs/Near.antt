@@ -1,4 +1,4 @@
--- Coordinates that pass 8. Assumes nothing.
+-- Coordinates that pass 8.
 use mathlib.Core.Bool.{false}
 use mathlib.Core.List.{List}
 use mathlib.Core.Path.{_≡_}

@@ -1,4 +1,4 @@
--- The drawing that is read off a sheet is the definition's. Assumes nothing.
+-- The drawing that is read off a sheet is the definition's.
 use mathlib.Core.Path.{_≡_, _∙_, ap, ap₂}
 use mathlib.Core.List.{List, map}
 use Prim.Native.Nat.{ℕ, _+_, _*_}

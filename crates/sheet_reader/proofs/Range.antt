@@ -1,4 +1,4 @@
--- The drawing that an accepted sheet holds is in range. Assumes nothing.
+-- The drawing that an accepted sheet holds is in range.
 use mathlib.Core.Path.{_≡_, sym, ap, _∙_, subst}
 use mathlib.Core.List.{List}
 use Prim.Native.Nat.{ℕ, _*_, _≤_}

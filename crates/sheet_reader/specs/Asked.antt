@@ -1,4 +1,4 @@
--- What the functions of this crate ask of their inputs. Assumes nothing.
+-- What the functions of this crate ask of their inputs.
 use mathlib.Core.Path.{_≡_}
 use mathlib.Core.List.{List}
 use Prim.Native.Nat.{ℕ, _*_, _≤_}

@@ -1,4 +1,4 @@
--- A drawing by value and what refusals 8 to 10 say of its lists. Assumes nothing.
+-- A drawing by value and what refusals 8 to 10 say of its lists.
 use mathlib.Core.List.{List}
 use Prim.Native.Nat.{ℕ, _*_}
 use lib.IntN.{ℤ, pos}

@@ -1,4 +1,4 @@
--- What the code that reads a drawing off a sheet that passes 3 to 7 needs to know. Assumes nothing.
+-- What the code that reads a drawing off a sheet that passes 3 to 7 needs to know.
 use mathlib.Core.Path.{_≡_, sym, _∙_, ap, ap₂}
 use mathlib.Core.List.{List}
 use Prim.Native.Nat.{ℕ, _≤_, _+_, _*_, _/_}

@@ -1,3 +1,3 @@
--- The laws that this crate's proofs and its callers share. Assumes nothing.
+-- The laws that this crate's proofs and its callers share.
 pub mod Sizes
 pub mod Bounds

@@ -1,4 +1,4 @@
--- How large the numbers of a narrow layout get. Assumes nothing.
+-- How large the numbers of a narrow layout get.
 use Prim.Native.Nat.{ℕ, _≤_, _*_}
 use native.Mathlib.Nat.{mul-le-mul, le-trans}
 use native.Mathlib.Omega.{arith}

@@ -1,4 +1,4 @@
--- Fields one behind the other in bytes. Assumes nothing.
+-- Fields one behind the other in bytes.
 use mathlib.Core.List.{List}
 use Prim.Native.Nat.{ℕ, _+_, _*_, _≤_, _<_, _^_}
 use lib.ListN.{length}

@@ -1,3 +1,3 @@
--- What contracts of this crate and its callers cite beside the paper. Assumes nothing.
+-- What contracts of this crate and its callers cite beside the paper.
 pub mod Narrow
 pub mod Fields

@@ -1,4 +1,4 @@
--- Layouts that are small enough for the code. Assumes nothing.
+-- Layouts that are small enough for the code.
 use Prim.Native.Nat.{ℕ, _≤_}
 use Rattle.paper.specs.Format.{editionOne}
 use Rattle.paper.specs.declared.Format.{Format}

@@ -1,4 +1,4 @@
--- What the writer needs to know of a drawing that is lent as two lists and passes 5, 8, 9 and 10. Assumes nothing.
+-- What the writer needs to know of a drawing that is lent as two lists and passes 5, 8, 9 and 10.
 use mathlib.Core.Path.{_≡_, sym, ap, _∙_}
 use mathlib.Core.List.{List}
 use Prim.Native.Nat.{ℕ, _≤_, _+_, _*_, _/_}

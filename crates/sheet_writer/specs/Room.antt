@@ -1,4 +1,4 @@
--- What the functions of this crate leave in the room. Assumes nothing.
+-- What the functions of this crate leave in the room.
 use mathlib.Core.List.{List, _++_}
 use Prim.Native.Nat.{ℕ}
 use lib.IntN.{ℤ}

@@ -1,2 +1,2 @@
--- What contracts of this crate cite. Assumes nothing.
+-- What contracts of this crate cite.
 pub mod Pair

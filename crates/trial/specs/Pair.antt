@@ -1,4 +1,4 @@
--- Two items that are found stand in the book, the second behind the first. Assumes nothing.
+-- Two items that are found stand in the book, the second behind the first.
 use mathlib.Core.List.{List}
 use mathlib.Core.Path.{_≡_}
 use Prim.Native.Nat.{ℕ, _+_, _≤_}

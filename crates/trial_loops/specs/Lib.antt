@@ -1,2 +1,2 @@
--- What the functions of this program ask. Assumes nothing.
+-- What the functions of this program ask.
 pub mod Sums

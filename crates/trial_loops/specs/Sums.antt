@@ -1,4 +1,4 @@
--- Tables and words of which a checksum is made, and lists that have passed 3 to 10. Assumes nothing.
+-- Tables and words of which a checksum is made, and lists that have passed 3 to 10.
 use mathlib.Core.List.{List}
 use mathlib.Core.Path.{_≡_}
 use Prim.Native.Nat.{ℕ, _+_, _*_, _≤_, _<_}

@@ -1,4 +1,4 @@
--- Tables for a walk, and lists that have passed 5 and 8 to 10. Assumes nothing.
+-- Tables for a walk, and lists that have passed 5 and 8 to 10.
 use mathlib.Core.List.{List}
 use mathlib.Core.Path.{_≡_}
 use Prim.Native.Nat.{ℕ, _≤_}

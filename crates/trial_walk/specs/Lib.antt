@@ -1,2 +1,2 @@
--- What the functions ask. Assumes nothing.
+-- What the functions ask.
 pub mod Asked

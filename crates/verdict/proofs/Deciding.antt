@@ -1,4 +1,4 @@
--- The first check that applies to a drawing with its list. Assumes nothing.
+-- The first check that applies to a drawing with its list.
 use mathlib.Core.List.{List, _++_, append-assoc}
 use mathlib.Core.Path.{_≡_, sym, ap, _∙_}
 use Prim.Native.Nat.{ℕ}

@@ -1,4 +1,4 @@
--- The laws of the check. Assumes nothing.
+-- The laws of the check.
 -- a list that is read: refused by 20, or its faces in rows
 pub mod Read
 -- a list whose faces are named: 21 to 27

@@ -1,4 +1,4 @@
--- A list whose faces stand in rows: what naming them and testing them says is what 21 to 27 say. Assumes nothing.
+-- A list whose faces stand in rows: what naming them and testing them says is what 21 to 27 say.
 use mathlib.Core.Bool.{Bool, true}
 use mathlib.Core.List.{List}
 use mathlib.Core.Path.{_≡_, refl, sym, ap, subst, _∙_}

@@ -1,4 +1,4 @@
--- A face list that is read: 20 refuses it, or its faces stand in rows. Assumes nothing.
+-- A face list that is read: 20 refuses it, or its faces stand in rows.
 use mathlib.Core.Bool.{Bool, true, false, not, cond}
 use mathlib.Core.List.{List, [], _∷_}
 use mathlib.Core.Path.{_≡_, refl, sym, ap, transport, _∙_}

@@ -1,4 +1,4 @@
--- From the tables of a drawing that passed 3 to 16 to what the list's check asks for. Assumes nothing.
+-- From the tables of a drawing that passed 3 to 16 to what the list's check asks for.
 use mathlib.Core.List.{List}
 use mathlib.Core.Path.{_≡_, sym, _∙_}
 use Prim.Native.Nat.{ℕ, _/_}

@@ -1,4 +1,4 @@
--- What the check says of a drawing behind 3 to 10, and of a face list behind 3 to 16. Assumes nothing.
+-- What the check says of a drawing behind 3 to 10, and of a face list behind 3 to 16.
 use mathlib.Core.Bool.{not}
 use mathlib.Core.List.{List, _∷_, _++_}
 use mathlib.Core.Path.{_≡_}

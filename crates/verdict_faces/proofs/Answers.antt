@@ -1,4 +1,4 @@
--- What the two passes answer, said of all faces and candidates that the rows hold: 21, then 22, or the selection. Assumes nothing.
+-- What the two passes answer, said of all faces and candidates that the rows hold: 21, then 22, or the selection.
 use mathlib.Core.Path.{_≡_, sym, ap, subst, _∙_}
 use mathlib.Core.List.{List, []}
 use mathlib.Core.Option.{none}

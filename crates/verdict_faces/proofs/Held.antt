@@ -1,4 +1,4 @@
--- Rows that hold faces or candidates, read as the code reads them; the rows of faces by value are such. Assumes nothing.
+-- Rows that hold faces or candidates, read as the code reads them; the rows of faces by value are such.
 use mathlib.Core.Path.{_≡_, refl, sym, ap, _∙_}
 use mathlib.Core.List.{List, [], _++_, flatMap}
 use Prim.Native.Nat.{ℕ, _-_, _*_, _≤_, _<_}

@@ -1,4 +1,4 @@
--- The laws of this crate. Assumes nothing.
+-- The laws of this crate.
 pub mod Rows
 pub mod Turns
 pub mod Same

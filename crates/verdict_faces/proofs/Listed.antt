@@ -1,5 +1,5 @@
 -- A list of faces that passes 21 and 22: each is a candidate, no two are one, and the masks are as long as the candidates. For the
--- caller, which goes on to 23. Assumes nothing.
+-- caller, which goes on to 23.
 use mathlib.Core.Path.{_≡_, refl, sym, ap, _∙_}
 use mathlib.Core.List.{List, []}
 use Prim.Native.Nat.{ℕ, _<_}

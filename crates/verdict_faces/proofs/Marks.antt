@@ -1,4 +1,4 @@
--- A mask from numbers that come one by one: one number more, and one face more of those that pass. Assumes nothing.
+-- A mask from numbers that come one by one: one number more, and one face more of those that pass.
 use mathlib.Core.Path.{_≡_, refl, sym, ap, subst, _∙_}
 use mathlib.Core.Bool.{Bool, true, false, _||_}
 use mathlib.Core.List.{List, [], _∷_, _++_, map, map-append, append-nil}

@@ -1,4 +1,4 @@
--- The two passes over a list of faces: what holds once i of them are passed, at the place that offends, and at the end. Assumes nothing.
+-- The two passes over a list of faces: what holds once i of them are passed, at the place that offends, and at the end.
 use mathlib.Core.Path.{_≡_, refl, sym, ap, subst, _∙_}
 use mathlib.Core.Bool.{Bool, true, false, not}
 use mathlib.Core.List.{List, [], _∷_, _++_, map}

@@ -1,4 +1,4 @@
--- A row of a table as the loop that it holds, read as the code reads it. Assumes nothing.
+-- A row of a table as the loop that it holds, read as the code reads it.
 use mathlib.Core.Path.{_≡_, sym, ap, _∙_}
 use mathlib.Core.List.{List, []}
 use Prim.Native.Nat.{ℕ, _+_, _*_, _≤_, _<_}

@@ -1,5 +1,5 @@
 -- The code's search for a face among candidates: two loops corner by corner, and the first of the rows that is the face. What is left
--- to look at gives the whole answer. Assumes nothing.
+-- to look at gives the whole answer.
 use mathlib.Core.Path.{_≡_, sym, ap, _∙_}
 use mathlib.Core.Bool.{Bool, true, false, _&&_}
 use mathlib.Core.List.{List, [], _∷_, map}

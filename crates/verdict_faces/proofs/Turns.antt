@@ -1,4 +1,4 @@
--- The lowest corner of a face, the face from a place on, and its normal form, corner by corner. Assumes nothing.
+-- The lowest corner of a face, the face from a place on, and its normal form, corner by corner.
 use mathlib.Core.Path.{_≡_, refl, sym, ap, _∙_}
 use mathlib.Core.Bool.{Bool, true, false, cond}
 use mathlib.Core.List.{List, _++_}

@@ -1,4 +1,4 @@
--- A face in a row of a table: where its normal form starts and which way it goes, and what is asked of the rows. Assumes nothing.
+-- A face in a row of a table: where its normal form starts and which way it goes, and what is asked of the rows.
 use mathlib.Core.Path.{_≡_}
 use mathlib.Core.List.{List, map}
 use Prim.Native.Nat.{ℕ, _+_, _*_, _≤_, _<_}

@@ -1,4 +1,4 @@
--- What contracts of this crate and its callers cite beside the paper. Assumes nothing.
+-- What contracts of this crate and its callers cite beside the paper.
 -- one face of a table and its normal form
 pub mod Form
 -- the whole list: 21, 22 and the candidates of its faces

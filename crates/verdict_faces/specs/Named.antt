@@ -1,4 +1,4 @@
--- A list of faces and the candidates of a drawing, each in rows: 21 and 22, or which candidates the faces are. Assumes nothing.
+-- A list of faces and the candidates of a drawing, each in rows: 21 and 22, or which candidates the faces are.
 use mathlib.Core.List.{List, [], _∷_}
 use mathlib.Core.Path.{_≡_}
 use Prim.Native.Nat.{ℕ, _≤_, _<_}

@@ -1,4 +1,4 @@
--- What each pass over a list of faces answers: the place that 21 or 22 finds, or the candidates that it marked. Assumes nothing.
+-- What each pass over a list of faces answers: the place that 21 or 22 finds, or the candidates that it marked.
 use mathlib.Core.Bool.{Bool, not}
 use mathlib.Core.List.{List, map}
 use mathlib.Core.Option.{none, some}

@@ -1,4 +1,4 @@
--- 23 and 24 of one edge: the code's test of its words is the definition's of its masks. Assumes nothing.
+-- 23 and 24 of one edge: the code's test of its words is the definition's of its masks.
 use mathlib.Core.Bool.{Bool, not}
 use mathlib.Core.List.{List, []}
 use mathlib.Core.Path.{_≡_, refl, sym, ap, _∙_}

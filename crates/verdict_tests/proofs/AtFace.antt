@@ -1,4 +1,4 @@
--- 25 and 27 of one face of the list: the code's test of its number is the definition's. Assumes nothing.
+-- 25 and 27 of one face of the list: the code's test of its number is the definition's.
 use mathlib.Core.Bool.{Bool, true, not}
 use mathlib.Core.List.{List, []}
 use mathlib.Core.Path.{_≡_, sym, ap, _∙_, subst}

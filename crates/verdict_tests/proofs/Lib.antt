@@ -1,4 +1,4 @@
--- Laws of the checks, one for each place in the code. Assumes nothing.
+-- Laws of the checks, one for each place in the code.
 pub mod Searching
 pub mod AtEdge
 pub mod AtFace

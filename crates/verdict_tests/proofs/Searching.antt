@@ -1,5 +1,4 @@
 -- A search for the lowest place that offends, of all tables and lists that the words stand for: what is left is the whole answer.
--- Assumes nothing.
 use mathlib.Core.Bool.{Bool, true, false}
 use mathlib.Core.List.{[]}
 use mathlib.Core.Option.{Option}

@@ -1,4 +1,4 @@
--- The five checks in the table's order, each said where those before it pass. Assumes nothing.
+-- The five checks in the table's order, each said where those before it pass.
 use mathlib.Core.List.{List, [], _∷_}
 use mathlib.Core.Path.{_≡_, refl, sym, _∙_}
 use Prim.Native.Nat.{ℕ}

@@ -1,4 +1,4 @@
--- 26: six volumes above zero, or not; the sum over the taken faces is that over all candidates. Assumes nothing.
+-- 26: six volumes above zero, or not; the sum over the taken faces is that over all candidates.
 use mathlib.Core.Bool.{not}
 use mathlib.Core.List.{List, []}
 use mathlib.Core.Path.{_≡_, refl, sym, ap, _∙_}

@@ -1,4 +1,4 @@
--- Refusals 23 to 27 on words, of every list of faces that the words stand for. Assumes nothing.
+-- Refusals 23 to 27 on words, of every list of faces that the words stand for.
 use mathlib.Core.Bool.{true}
 use mathlib.Core.List.{List, [], _∷_, _++_}
 use mathlib.Core.Option.{Option, none}

@@ -1,4 +1,4 @@
--- One branch of an assumption: the lowest of the undecided on the edge found gets its status. Assumes nothing.
+-- One branch of an assumption: the lowest of the undecided on the edge found gets its status.
 use mathlib.Core.List.{List}
 use mathlib.Core.Path.{_≡_, sym, ap, _∙_, subst}
 use Prim.Native.Nat.{ℕ}

@@ -1,4 +1,4 @@
--- The ways out at a leaf: no solid, a solid for which there is no room, a solid that is stored. Assumes nothing.
+-- The ways out at a leaf: no solid, a solid for which there is no room, a solid that is stored.
 use mathlib.Core.Bool.{true, false}
 use mathlib.Core.List.{List, [], _∷_}
 use mathlib.Core.Path.{_≡_, refl, sym, ap, ap₂, _∙_, subst}

@@ -1,4 +1,4 @@
--- Laws of the walk, one for each way out of the code. Assumes nothing.
+-- Laws of the walk, one for each way out of the code.
 pub mod Tallies
 pub mod Keeping
 pub mod Branching

@@ -1,4 +1,4 @@
--- The start of the walk: all undecided, all edges to be passed, nothing found. Assumes nothing.
+-- The start of the walk: all undecided, all edges to be passed, nothing found.
 use mathlib.Core.Bool.{true}
 use mathlib.Core.List.{List, [], _∷_, map}
 use mathlib.Core.Path.{_≡_, refl, sym, ap, subst}

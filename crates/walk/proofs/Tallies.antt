@@ -1,4 +1,4 @@
--- One more assumption, and three more words stored. Assumes nothing.
+-- One more assumption, and three more words stored.
 use mathlib.Core.Bool.{Bool, true, false, cond}
 use mathlib.Core.List.{List, [], _∷_, _++_}
 use mathlib.Core.Path.{_≡_, refl, sym, ap, _∙_, subst}

@@ -1,4 +1,4 @@
--- The turns of the document's walk, one equation for each way that it goes on. Assumes nothing.
+-- The turns of the document's walk, one equation for each way that it goes on.
 use mathlib.Core.Bool.{Bool}
 use mathlib.Core.List.{List}
 use mathlib.Core.Path.{_≡_, refl}

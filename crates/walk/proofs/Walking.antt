@@ -1,4 +1,4 @@
--- The ways out of the walk: it had ended, a contradiction, a leaf, both branches; and the start of it. Assumes nothing.
+-- The ways out of the walk: it had ended, a contradiction, a leaf, both branches; and the start of it.
 use mathlib.Core.Bool.{Bool, false}
 use mathlib.Core.List.{List}
 use mathlib.Core.Path.{_≡_, refl, sym, _∙_, subst}

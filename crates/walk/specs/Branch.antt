@@ -1,4 +1,4 @@
--- A branch of an assumption as the code holds it. Assumes nothing.
+-- A branch of an assumption as the code holds it.
 use mathlib.Core.Bool.{Bool}
 use mathlib.Core.List.{List}
 use mathlib.Core.Path.{_≡_}

@@ -1,4 +1,4 @@
--- A state with nothing undecided. Assumes nothing.
+-- A state with nothing undecided.
 use mathlib.Core.Bool.{true}
 use mathlib.Core.List.{List}
 use mathlib.Core.Path.{_≡_}

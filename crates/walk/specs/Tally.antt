@@ -1,4 +1,4 @@
--- The tally and the words stored stand for the document's log of the walk. Assumes nothing.
+-- The tally and the words stored stand for the document's log of the walk.
 use mathlib.Core.List.{List}
 use mathlib.Core.Path.{_≡_}
 use Prim.Native.Nat.{ℕ, _≤_}

@@ -1,4 +1,4 @@
--- The walk from a branch on, and the whole of it. Assumes nothing.
+-- The walk from a branch on, and the whole of it.
 use mathlib.Core.Bool.{Bool}
 use mathlib.Core.List.{List}
 use mathlib.Core.Path.{_≡_}

@@ -1,4 +1,4 @@
--- Candidates that are marked with all that go through them or fold with them, both ways, have the masks of those that clash. Assumes nothing.
+-- Candidates that are marked with all that go through them or fold with them, both ways, have the masks of those that clash.
 use mathlib.Core.Path.{_≡_, refl, sym, ap, subst, _∙_}
 use mathlib.Core.Bool.{Bool, true, false, not, _&&_, _||_}
 use mathlib.Core.List.{List, [], map}

@@ -1,4 +1,4 @@
--- Edges of a drawing that pierce a candidate, as the code asks of them. Assumes nothing.
+-- Edges of a drawing that pierce a candidate, as the code asks of them.
 use mathlib.Core.Bool.{Bool, true, false, cond}
 use mathlib.Core.Logic.{_⊎_, inl, inr}
 use mathlib.Core.Path.{_≡_, refl, sym, ap, subst, _∙_}

@@ -1,4 +1,4 @@
--- A set that grows by steps, one for each number of another set: what is left of the other has the whole answer. Assumes nothing.
+-- A set that grows by steps, one for each number of another set: what is left of the other has the whole answer.
 use mathlib.Core.Bool.{Bool, true, false}
 use mathlib.Core.Path.{_≡_, refl, sym, ap, subst, _∙_}
 use mathlib.Core.List.{List, [], _∷_}

@@ -1,4 +1,4 @@
--- The masks of rules A and B as folds over the vertices above a plane and over those to ask in it. Assumes nothing.
+-- The masks of rules A and B as folds over the vertices above a plane and over those to ask in it.
 use mathlib.Core.Bool.{Bool, true, false, cond}
 use mathlib.Core.Path.{_≡_, refl, sym, _∙_}
 use mathlib.Core.List.{List, [], _∷_, map}

@@ -1,4 +1,4 @@
--- Laws of candidates' tables. Assumes nothing.
+-- Laws of candidates' tables.
 pub mod Rows
 pub mod Normals
 pub mod Parts

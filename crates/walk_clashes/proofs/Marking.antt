@@ -1,4 +1,4 @@
--- The words of some numbers of a set are marked already, and the others are left. Assumes nothing.
+-- The words of some numbers of a set are marked already, and the others are left.
 use mathlib.Core.Bool.{Bool, true, false, not, _&&_, _||_, or-false}
 use mathlib.Core.Path.{_≡_, refl, sym, ap, _∙_}
 use mathlib.Core.List.{List}

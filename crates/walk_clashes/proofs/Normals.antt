@@ -1,4 +1,4 @@
--- A list of points, three numbers each, of which one point is written. Assumes nothing.
+-- A list of points, three numbers each, of which one point is written.
 use mathlib.Core.Path.{_≡_, _∙_}
 use mathlib.Core.List.{List}
 use Prim.Native.Nat.{ℕ, _+_, _*_, _<_}

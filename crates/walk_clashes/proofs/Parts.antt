@@ -1,4 +1,4 @@
--- A candidate's normal and its part of six volumes, the product of a corner and the normal; the two columns of them. Assumes nothing.
+-- A candidate's normal and its part of six volumes, the product of a corner and the normal; the two columns of them.
 use mathlib.Core.Path.{_≡_, refl, sym, ap, subst, _∙_}
 use mathlib.Core.Bool.{Bool, true, false}
 use mathlib.Core.List.{List, [], map}

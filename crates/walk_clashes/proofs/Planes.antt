@@ -1,4 +1,4 @@
--- The sets of sorted vertices are the masks of a candidate's plane. Assumes nothing.
+-- The sets of sorted vertices are the masks of a candidate's plane.
 use mathlib.Core.Bool.{Bool}
 use mathlib.Core.Path.{_≡_, ap, subst, _∙_}
 use mathlib.Core.List.{List, map}

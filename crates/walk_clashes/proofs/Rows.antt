@@ -1,4 +1,4 @@
--- A candidate's row: a loop in range, and the polygon of that candidate. Assumes nothing.
+-- A candidate's row: a loop in range, and the polygon of that candidate.
 use mathlib.Core.Path.{_≡_}
 use mathlib.Core.List.{List}
 use Prim.Native.Nat.{ℕ, _<_}

@@ -1,4 +1,4 @@
--- Rule C of two candidates, by the corners and sides that they share. Assumes nothing.
+-- Rule C of two candidates, by the corners and sides that they share.
 use mathlib.Core.Bool.{Bool, true, false, not, _&&_, _||_, and-false, and-assoc}
 use mathlib.Core.Path.{_≡_, refl, sym, ap, _∙_}
 use mathlib.Core.List.{List, [], map}

@@ -1,4 +1,4 @@
--- Sets of those numbers below n that pass a test, one number after the other. Assumes nothing.
+-- Sets of those numbers below n that pass a test, one number after the other.
 use mathlib.Core.Bool.{Bool, true, false, _&&_, _||_}
 use mathlib.Core.Path.{_≡_, refl, sym, ap, _∙_}
 use mathlib.Core.List.{List, [], map}

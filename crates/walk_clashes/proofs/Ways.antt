@@ -1,4 +1,4 @@
--- Candidates are marked both ways, one after the other. Assumes nothing.
+-- Candidates are marked both ways, one after the other.
 use mathlib.Core.Path.{_≡_, refl, sym, ap, _∙_}
 use mathlib.Core.Bool.{Bool, true, false, not, _&&_, _||_, and-true, and-false, or-comm}
 use mathlib.Core.List.{List}

@@ -1,5 +1,5 @@
 -- The clash table by words: what is known of the candidates of a drawing that passed 3 to 14. Contracts speak of every drawing of which
--- that is known. Assumes nothing.
+-- that is known.
 use mathlib.Core.Bool.{Bool}
 use mathlib.Core.Path.{_≡_}
 use mathlib.Core.List.{List}

@@ -1,5 +1,5 @@
 -- Candidates of a drawing in range, by the points of its vertices and the rows of the candidates. Its edges are not lent: contracts speak
--- of every drawing with these points of which the rows are candidates. Assumes nothing.
+-- of every drawing with these points of which the rows are candidates.
 use mathlib.Core.Path.{_≡_}
 use mathlib.Core.List.{List}
 use Prim.Native.Nat.{ℕ, _*_, _≤_, _<_}

@@ -1,5 +1,5 @@
 -- Rule C by words: what is known of n candidates, and those after a candidate that fold with it. Contracts speak of every drawing of which
--- that is known. Assumes nothing.
+-- that is known.
 use mathlib.Core.Bool.{Bool, not, _&&_}
 use mathlib.Core.Path.{_≡_}
 use mathlib.Core.List.{List, map}

@@ -1,5 +1,5 @@
 -- A candidate with its normal, and what is known of its drawing: the numbers of edges and the words of the candidates on them. Contracts
--- speak of every drawing of which that is known. Assumes nothing.
+-- speak of every drawing of which that is known.
 use mathlib.Core.Bool.{Bool, true, cond}
 use mathlib.Core.Path.{_≡_}
 use mathlib.Core.List.{List, [], map}

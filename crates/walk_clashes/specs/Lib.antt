@@ -1,4 +1,4 @@
--- What contracts of this crate cite beside the paper. Assumes nothing.
+-- What contracts of this crate cite beside the paper.
 pub mod Faces
 pub mod Sorted
 pub mod Lent

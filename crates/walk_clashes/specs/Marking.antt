@@ -1,4 +1,4 @@
--- One bit that is set in the words of all numbers of a set. Assumes nothing.
+-- One bit that is set in the words of all numbers of a set.
 use mathlib.Core.Bool.{Bool, true, _&&_, _||_}
 use mathlib.Core.Path.{_≡_}
 use mathlib.Core.List.{List, map}

@@ -1,4 +1,4 @@
--- Vertices by the side of a plane that they are on, as sets. Assumes nothing.
+-- Vertices by the side of a plane that they are on, as sets.
 use mathlib.Core.Bool.{Bool, _&&_}
 use mathlib.Core.Path.{_≡_}
 use mathlib.Core.List.{List}

@@ -1,4 +1,4 @@
--- The words of edges, of the first candidates and of all; and the words of candidates, which are the columns. Assumes nothing.
+-- The words of edges, of the first candidates and of all; and the words of candidates, which are the columns.
 use mathlib.Core.Path.{_≡_, refl, sym, ap, _∙_}
 use mathlib.Core.Bool.{Bool, true, false, _&&_, _||_}
 use mathlib.Core.List.{List, [], _∷_, map}

@@ -1,4 +1,4 @@
--- The first k numbers and the next one, in truth values. Assumes nothing.
+-- The first k numbers and the next one, in truth values.
 use mathlib.Core.Path.{_≡_, refl, sym, ap, _∙_}
 use mathlib.Core.Bool.{Bool, true, false, _&&_, _||_, or-false}
 use Prim.Native.Nat.{ℕ, _+_}

@@ -1,4 +1,4 @@
--- Laws of the words of edges. Assumes nothing.
+-- Laws of the words of edges.
 pub mod Stored
 pub mod Ups
 pub mod Turns

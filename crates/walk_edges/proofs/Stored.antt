@@ -1,4 +1,4 @@
--- One bit that is set in several words of a list, one after the other. Assumes nothing.
+-- One bit that is set in several words of a list, one after the other.
 use mathlib.Core.Path.{_≡_, refl, sym, ap, _∙_}
 use mathlib.Core.Bool.{Bool, true, false, _&&_, _||_, or-false}
 use mathlib.Core.List.{List}

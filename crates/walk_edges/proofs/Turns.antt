@@ -1,4 +1,4 @@
--- One side more, of a loop that is marked on its edges. Assumes nothing.
+-- One side more, of a loop that is marked on its edges.
 use mathlib.Core.Bool.{true}
 use mathlib.Core.List.{List}
 use mathlib.Core.Path.{_≡_, refl, ap, sym, _∙_}

@@ -1,4 +1,4 @@
--- The edges that a loop runs upwards are those of the sides that go to a higher vertex. Assumes nothing.
+-- The edges that a loop runs upwards are those of the sides that go to a higher vertex.
 use mathlib.Core.Path.{_≡_, refl, sym, ap, _∙_}
 use mathlib.Core.Bool.{Bool, true, false, _&&_}
 use mathlib.Core.Logic.{_⊎_, inl, inr}

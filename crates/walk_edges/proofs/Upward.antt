@@ -1,4 +1,4 @@
--- The edges of a drawing in range go upwards. Assumes nothing.
+-- The edges of a drawing in range go upwards.
 use mathlib.Core.Path.{_≡_, sym, _∙_}
 use mathlib.Core.List.{List}
 use Prim.Native.Nat.{ℕ, _+_, _*_}

@@ -1,2 +1,2 @@
--- What contracts of this crate cite beside the paper. Assumes nothing.
+-- What contracts of this crate cite beside the paper.
 pub mod Marks

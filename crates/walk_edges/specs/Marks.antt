@@ -1,5 +1,5 @@
 -- Candidates of a drawing in rows, and the words of its edges in which they are marked. A drawing is not lent: contracts speak of every
--- one of which the rows are candidates. Assumes nothing.
+-- one of which the rows are candidates.
 use mathlib.Core.Bool.{Bool, _&&_, _||_}
 use mathlib.Core.Path.{_≡_}
 use mathlib.Core.List.{List, map}

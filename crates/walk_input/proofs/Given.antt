@@ -1,4 +1,4 @@
--- From a drawing that passed 3 to 10, lent or read off a sheet, to what the tables ask for. Assumes nothing.
+-- From a drawing that passed 3 to 10, lent or read off a sheet, to what the tables ask for.
 use mathlib.Core.List.{List}
 use mathlib.Core.Path.{_≡_, refl, sym, subst, transport, _∙_}
 use Prim.Native.Nat.{ℕ, _≤_, _/_}

@@ -1,4 +1,4 @@
--- Laws behind the contracts of this crate. Assumes nothing.
+-- Laws behind the contracts of this crate.
 pub mod Listing
 pub mod Tabling
 pub mod Given

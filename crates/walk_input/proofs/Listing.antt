@@ -1,4 +1,4 @@
--- What the makers of words ask for, each from what is known of the candidates. Assumes nothing.
+-- What the makers of words ask for, each from what is known of the candidates.
 use mathlib.Core.List.{List}
 use mathlib.Core.Path.{_≡_, refl, sym, subst}
 use Prim.Native.Nat.{ℕ, zero, suc, _≤_, _<_, _/_}

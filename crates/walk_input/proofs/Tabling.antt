@@ -1,4 +1,4 @@
--- What the counts of loops and candidates decide: 15, 16, or that none of 11 to 16 applies. Assumes nothing.
+-- What the counts of loops and candidates decide: 15, 16, or that none of 11 to 16 applies.
 use mathlib.Core.Bool.{Bool, true, false}
 use mathlib.Core.List.{List, [], _∷_, map}
 use mathlib.Core.Path.{_≡_, refl, sym, ap, subst, _∙_}

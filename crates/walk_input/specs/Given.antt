@@ -1,4 +1,4 @@
--- The two lists of a drawing by value that passed 3 to 10: they stand in front of its arrays. Assumes nothing.
+-- The two lists of a drawing by value that passed 3 to 10: they stand in front of its arrays.
 use mathlib.Core.List.{List}
 use mathlib.Core.Path.{_≡_}
 use Prim.Native.Nat.{ℕ, _*_}

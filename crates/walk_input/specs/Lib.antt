@@ -1,4 +1,4 @@
--- What contracts of this crate and its callers cite beside the paper. Assumes nothing.
+-- What contracts of this crate and its callers cite beside the paper.
 pub mod Rows
 pub mod Words
 pub mod Tables

@@ -1,4 +1,4 @@
--- The candidates of a drawing that passed 3 to 14. Assumes nothing.
+-- The candidates of a drawing that passed 3 to 14.
 use mathlib.Core.List.{List}
 use mathlib.Core.Path.{_≡_}
 use Prim.Native.Nat.{ℕ, suc, _≤_, min}

@@ -1,4 +1,4 @@
--- What a drawing that passed 3 to 10 comes to before the walk: a refusal, 11 to 16, or its candidates with their tables. Assumes nothing.
+-- What a drawing that passed 3 to 10 comes to before the walk: a refusal, 11 to 16, or its candidates with their tables.
 use mathlib.Core.List.{List, _++_}
 use mathlib.Core.Path.{_≡_}
 use Prim.Native.Nat.{ℕ, _≤_, _/_}

@@ -1,5 +1,5 @@
 -- The words and numbers that the walk is lent, of the candidates of a drawing that passed 3 to 14. Contracts speak of every drawing whose
--- candidates the rows are. Assumes nothing.
+-- candidates the rows are.
 use mathlib.Core.List.{List}
 use mathlib.Core.Path.{_≡_}
 use Prim.Native.Nat.{ℕ, _≤_}

@@ -1,4 +1,4 @@
--- (iii): one alone, an edge run once each way, and all edges in order. Assumes nothing.
+-- (iii): one alone, an edge run once each way, and all edges in order.
 use mathlib.Core.Bool.{Bool, true, false, _&&_, cond}
 use mathlib.Core.List.{List, []}
 use mathlib.Core.Path.{_≡_, refl, sym, ap, ap₂, _∙_}

@@ -1,4 +1,4 @@
--- The tests in order: the first that fails is the answer. Assumes nothing.
+-- The tests in order: the first that fails is the answer.
 use mathlib.Core.Bool.{Bool, true, false}
 use mathlib.Core.List.{List}
 use mathlib.Core.Path.{_≡_, sym, _∙_, subst}

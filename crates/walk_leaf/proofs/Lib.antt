@@ -1,4 +1,4 @@
--- Laws of the tests, one for each place in the code. Assumes nothing.
+-- Laws of the tests, one for each place in the code.
 pub mod Steps
 pub mod Rounds
 pub mod Directions

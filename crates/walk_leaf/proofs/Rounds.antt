@@ -1,5 +1,5 @@
 -- All edges of a face, and face by face until none waits: what is left to do gives the whole answer. Each face is gone round once, since
--- no more wait than are reached anew. Assumes nothing.
+-- no more wait than are reached anew.
 use mathlib.Core.Bool.{Bool, true}
 use mathlib.Core.List.{List, []}
 use mathlib.Core.Path.{_≡_, refl, sym, ap, _∙_, subst}

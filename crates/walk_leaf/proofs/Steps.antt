@@ -1,4 +1,4 @@
--- One edge of a face: who is reached, waits and is turned after it. Assumes nothing.
+-- One edge of a face: who is reached, waits and is turned after it.
 use mathlib.Core.Bool.{Bool, true, false, cond, xor}
 use mathlib.Core.List.{List, [], _∷_}
 use mathlib.Core.Path.{_≡_, sym, ap, ap₂, _∙_, subst}

@@ -1,4 +1,4 @@
--- (v) and (iv) over the faces taken, from the lowest on: what is left gives the whole answer. Assumes nothing.
+-- (v) and (iv) over the faces taken, from the lowest on: what is left gives the whole answer.
 use mathlib.Core.Bool.{Bool, true, false, cond}
 use mathlib.Core.List.{List, []}
 use mathlib.Core.Path.{_≡_, refl, sym, ap, ap₂, _∙_, subst}

@@ -1,4 +1,4 @@
--- (iv): six volumes above zero, below it, or zero. Assumes nothing.
+-- (iv): six volumes above zero, below it, or zero.
 use mathlib.Core.Bool.{Bool, true}
 use mathlib.Core.List.{List}
 use mathlib.Core.Path.{_≡_, refl, sym, _∙_, subst}

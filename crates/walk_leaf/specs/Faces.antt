@@ -1,4 +1,4 @@
--- The faces of a selection gone round one by one, as the code holds them. Assumes nothing.
+-- The faces of a selection gone round one by one, as the code holds them.
 use mathlib.Core.Bool.{Bool, true, cond}
 use mathlib.Core.List.{List}
 use mathlib.Core.Path.{_≡_}

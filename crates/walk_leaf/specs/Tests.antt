@@ -1,4 +1,4 @@
--- The tests of a selection on words. Assumes nothing.
+-- The tests of a selection on words.
 use mathlib.Core.Bool.{Bool, true}
 use mathlib.Core.List.{List}
 use mathlib.Core.Path.{_≡_}

@@ -1,5 +1,4 @@
 -- The lowest edge with an undecided candidate. While none is found, the answer is that of the search from the next edge on.
--- Assumes nothing.
 use mathlib.Core.Bool.{Bool}
 use mathlib.Core.List.{List, []}
 use mathlib.Core.Path.{_≡_, sym, subst, _∙_}

@@ -1,4 +1,4 @@
--- One candidate decided: with it taken or rejected, the sets are those of the new state, and one fewer is undecided. Assumes nothing.
+-- One candidate decided: with it taken or rejected, the sets are those of the new state, and one fewer is undecided.
 use mathlib.Core.Bool.{Bool}
 use mathlib.Core.List.{List}
 use mathlib.Core.Path.{_≡_, refl, sym, subst}

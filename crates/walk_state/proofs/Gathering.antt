@@ -1,4 +1,4 @@
--- The edges of all candidates of a set, gathered from the lowest on. Assumes nothing.
+-- The edges of all candidates of a set, gathered from the lowest on.
 use mathlib.Core.Bool.{Bool, false}
 use mathlib.Core.List.{List, []}
 use mathlib.Core.Path.{_≡_, sym, subst}

@@ -1,4 +1,4 @@
--- Laws of the walk's state and of the sweeps, one for each place in the code. Assumes nothing.
+-- Laws of the walk's state and of the sweeps, one for each place in the code.
 pub mod Lowest
 pub mod Deciding
 pub mod Settling

@@ -1,4 +1,4 @@
--- Whether a set is empty, as the code asks it, and a set without its lowest. Assumes nothing.
+-- Whether a set is empty, as the code asks it, and a set without its lowest.
 use mathlib.Core.Bool.{Bool, true, false}
 use mathlib.Core.List.{List, [], _∷_}
 use mathlib.Core.Path.{_≡_, refl, sym, ap, _∙_, subst}

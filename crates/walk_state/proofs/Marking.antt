@@ -1,4 +1,4 @@
--- The marks after an edge is passed: edges above it are still ahead in this sweep, those below wait for the next. Assumes nothing.
+-- The marks after an edge is passed: edges above it are still ahead in this sweep, those below wait for the next.
 use mathlib.Core.Bool.{Bool, true, false, _&&_, and-true}
 use mathlib.Core.List.{List, [], _∷_}
 use mathlib.Core.Path.{_≡_, refl, ap, ap₂, _∙_, subst}

@@ -1,4 +1,4 @@
--- One edge settled by how many are taken on it, M, and how many are undecided, L: one law for each way through the code. Assumes nothing.
+-- One edge settled by how many are taken on it, M, and how many are undecided, L: one law for each way through the code.
 use mathlib.Core.Bool.{Bool}
 use mathlib.Core.List.{List, []}
 use mathlib.Core.Path.{_≡_, refl, sym, ap, _∙_, subst}

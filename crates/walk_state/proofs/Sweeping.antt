@@ -1,5 +1,5 @@
 -- The sweeps over marked edges. After each edge the sets stand for a state and for marks from which what is left of the whole sweeps ends
--- as it did from the first; and each edge passed leaves fewer undecided, or as many and fewer marks. Assumes nothing.
+-- as it did from the first; and each edge passed leaves fewer undecided, or as many and fewer marks.
 use mathlib.Core.Bool.{Bool}
 use mathlib.Core.List.{List, []}
 use mathlib.Core.Path.{_≡_, sym, ap, subst, _∙_}

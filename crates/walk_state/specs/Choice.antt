@@ -1,4 +1,4 @@
--- The edge of the next assumption, and the undecided candidates on it. Assumes nothing.
+-- The edge of the next assumption, and the undecided candidates on it.
 use mathlib.Core.Bool.{Bool}
 use mathlib.Core.List.{List}
 use mathlib.Core.Path.{_≡_}

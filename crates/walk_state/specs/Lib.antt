@@ -1,4 +1,4 @@
--- What contracts of this crate cite beside the paper. Assumes nothing.
+-- What contracts of this crate cite beside the paper.
 pub mod State
 pub mod Sweeps
 pub mod Choice

@@ -1,4 +1,4 @@
--- A state as the code holds it, one candidate decided, and one edge settled. Assumes nothing.
+-- A state as the code holds it, one candidate decided, and one edge settled.
 use mathlib.Core.Bool.{Bool, true, false}
 use mathlib.Core.List.{List}
 use mathlib.Core.Path.{_≡_}

@@ -1,4 +1,4 @@
--- Sweeps over marked edges: the marks, and what is left in the end. Assumes nothing.
+-- Sweeps over marked edges: the marks, and what is left in the end.
 use mathlib.Core.Bool.{Bool}
 use mathlib.Core.List.{List, []}
 use mathlib.Core.Path.{_≡_}

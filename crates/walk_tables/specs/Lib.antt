@@ -1,2 +1,2 @@
--- What contracts on the walk cite beside the paper. Assumes nothing.
+-- What contracts on the walk cite beside the paper.
 pub mod Words

@@ -1,5 +1,5 @@
 -- Masks in lists of words and six volumes in a list of numbers, for up to 64 candidates and edges; and those that the walk is lent, in one
--- record. Assumes nothing.
+-- record.
 use mathlib.Core.Bool.{Bool}
 use mathlib.Core.List.{List, []}
 use mathlib.Core.Path.{_≡_}

@@ -1,4 +1,4 @@
--- `assess::assess_sheet`: the rooms are large enough, and the answer does not go by what they hold. Assumes nothing.
+-- `assess::assess_sheet`: the rooms are large enough, and the answer does not go by what they hold.
 use mathlib.Core.List.{List}
 use mathlib.Core.Path.{_≡_, ap}
 use Prim.Native.Nat.{ℕ}

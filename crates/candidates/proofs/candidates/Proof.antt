@@ -1,4 +1,4 @@
--- `candidates::candidates`: the loop keeps that the candidates among the loops before k are written. Assumes nothing.
+-- `candidates::candidates`: the loop keeps that the candidates among the loops before k are written.
 use mathlib.Core.Logic.{⊎-elim}
 use mathlib.Core.Path.{sym, _∙_}
 use Prim.Native.Nat.{_-_, _<_, _≤_}

@@ -1,4 +1,4 @@
--- `candidates::copy_row`: the loop keeps that the first i bytes of the row are pasted. Assumes nothing.
+-- `candidates::copy_row`: the loop keeps that the first i bytes of the row are pasted.
 use mathlib.Core.List.{List}
 use mathlib.Core.Path.{_≡_, ap, subst, sym, _∙_}
 use Prim.Native.Nat.{_*_, _+_, _-_, _<_, _≤_, ℕ}

@@ -1,4 +1,4 @@
--- `clash_fold::angle_holds`: the code asks a convex and a reflex corner at once. Assumes nothing.
+-- `clash_fold::angle_holds`: the code asks a convex and a reflex corner at once.
 use Rattle.clash_fold.proofs.Angles.{angle-is}
 use Rattle.clash_fold.proofs.angle_holds.Statement.{statement}
 use Rattle.clash_fold.proofs.angle_holds.Tie as tie

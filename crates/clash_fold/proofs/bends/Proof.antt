@@ -1,4 +1,4 @@
--- `clash_fold::bends`: the code asks the four parts of the definition one by one. Assumes nothing.
+-- `clash_fold::bends`: the code asks the four parts of the definition one by one.
 use mathlib.Core.Bool.{_&&_, not, true, false}
 use mathlib.Core.Path.{_∙_, sym, _≡_}
 use denote.Ref.{now}

@@ -1,4 +1,4 @@
--- `clash_fold::folds`: the loop keeps that what is left of row f decides, since the rows fold at no corner before. Assumes nothing.
+-- `clash_fold::folds`: the loop keeps that what is left of row f decides, since the rows fold at no corner before.
 use Rattle.clash_fold.specs.Fold.{foldsAt}
 use mathlib.Core.Bool.{Bool, _&&_, not}
 use mathlib.Core.Path.{_∙_, _≡_, ap, refl, sym}

@@ -1,4 +1,4 @@
--- `clash_fold::folds_at`: the loop keeps that what is left of row f decides, since no corner before bends with u. Assumes nothing.
+-- `clash_fold::folds_at`: the loop keeps that what is left of row f decides, since no corner before bends with u.
 use Rattle.clash_fold.specs.Fold.{foldsAt}
 use mathlib.Core.Bool.{Bool, _&&_}
 use mathlib.Core.Path.{_∙_, _≡_, ap, refl, sym}

@@ -1,5 +1,5 @@
 -- `clash_fold::in_angle`: the two sides of the angle are small enough for the determinants, whose signs are those of the
--- definition. Assumes nothing.
+-- definition.
 use Rattle.polygon.specs.Sizes.{PointWithin, mostStep}
 use mathlib.Core.Path.{_∙_}
 use lib.IntN.{pos}

@@ -1,5 +1,4 @@
--- `clash_fold::is_corner`: the loop keeps that what is left of the row decides, since no corner before is the point. Assumes
--- nothing.
+-- `clash_fold::is_corner`: the loop keeps that what is left of the row decides, since no corner before is the point.
 use mathlib.Core.Bool.{Bool}
 use mathlib.Core.Path.{_∙_, _≡_, ap, refl, sym}
 use Prim.Native.Nat.{_-_, _≤_}

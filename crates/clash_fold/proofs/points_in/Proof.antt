@@ -1,5 +1,4 @@
 -- `clash_fold::points_in`: the loop keeps that what is left of the corners decides, and that a and p are corners j and j + 1.
--- Assumes nothing.
 use Rattle.paper.specs.declared.Point.{Point}
 use mathlib.Core.Bool.{Bool, _&&_}
 use mathlib.Core.Path.{_∙_, _≡_, ap, refl, sym}

@@ -1,4 +1,4 @@
--- `clash_fold::turns_at`: the angle is asked only at the point, as `&&` does. Assumes nothing.
+-- `clash_fold::turns_at`: the angle is asked only at the point, as `&&` does.
 use mathlib.Core.Bool.{Bool, _&&_}
 use mathlib.Core.Path.{_∙_, ap, sym}
 use borrow.Author.Needs.{needs}

@@ -1,4 +1,4 @@
--- `clash_pierce::mix`: each product and each sum of two fits an `i64`, and the sums are read back as they are. Assumes nothing.
+-- `clash_pierce::mix`: each product and each sum of two fits an `i64`, and the sums are read back as they are.
 use mathlib.Core.List.{[], _∷_}
 use lib.IntN.{ℤ}
 use Rattle.exact.proofs.Machine.{Plain, _▸_, asked, done, reads}

@@ -1,4 +1,4 @@
--- `clash_pierce::opposite`: numbers that fit an `i64` are compared as they are. Assumes nothing.
+-- `clash_pierce::opposite`: numbers that fit an `i64` are compared as they are.
 use mathlib.Core.Bool.{_&&_, _||_}
 use lib.IntN.{pos}
 use lib.Signed.{ltZ}

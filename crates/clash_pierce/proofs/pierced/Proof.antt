@@ -1,5 +1,4 @@
 -- `clash_pierce::pierced`: the sizes of a and b are the weights of the piercing point, which stays small enough for the place test.
--- Assumes nothing.
 use Rattle.paper.specs.declared.Point.{Point}
 use mathlib.Core.Bool.{Bool, _&&_}
 use mathlib.Core.List.{[], _∷_}

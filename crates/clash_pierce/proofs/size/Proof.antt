@@ -1,4 +1,4 @@
--- `clash_pierce::size`: a number below 0 turns its sign, and any other is its own size. Assumes nothing.
+-- `clash_pierce::size`: a number below 0 turns its sign, and any other is its own size.
 use mathlib.Core.Path.{_∙_}
 use lib.IntN.{pos}
 use Rattle.exact.proofs.Machine.{_▸_, asked, done, lit, lt-left, lt-taken, plain, reads}

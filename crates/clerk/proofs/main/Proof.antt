@@ -1,5 +1,4 @@
--- `clerk::main`: the loop keeps the lengths of both rooms, and has one turn less left after each. Each need goes back to the loop. Assumes
--- nothing.
+-- `clerk::main`: the loop keeps the lengths of both rooms, and has one turn less left after each. Each need goes back to the loop.
 use mathlib.Core.Path.{_≡_, refl, sym}
 use native.Mathlib.Omega.{arith}
 use lib.ListN.{length}

@@ -1,5 +1,4 @@
--- `clerk::read_request`: the items are as long as the head says, and the head stays. Goes back to both readings and to the start. Assumes
--- nothing.
+-- `clerk::read_request`: the items are as long as the head says, and the head stays. Goes back to both readings and to the start.
 use mathlib.Core.List.{List, _++_}
 use mathlib.Core.Path.{sym}
 use Prim.Native.Nat.{ℕ}

@@ -1,5 +1,4 @@
 -- `clerk::served`: the request stands in its room, and the reply in the other. Each need goes back to the two calls and to the start.
--- Assumes nothing.
 use mathlib.Core.Path.{sym}
 use native.Mathlib.Omega.{arith}
 use lib.ListN.{take}

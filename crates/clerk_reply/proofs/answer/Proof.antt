@@ -1,5 +1,4 @@
--- `clerk_reply::answer`: the parts of the request are those that its definition names. Goes back to the lengths and to the start. Assumes
--- nothing.
+-- `clerk_reply::answer`: the parts of the request are those that its definition names. Goes back to the lengths and to the start.
 use Rattle.clerk_reply.proofs.Replying.{replied-as}
 use Rattle.clerk_reply.proofs.Lent.{answer-is}
 use borrow.Author.Needs.{needs}

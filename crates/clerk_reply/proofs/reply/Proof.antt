@@ -1,5 +1,4 @@
--- `clerk_reply::reply`: each arm puts the reply of its kind, and the last none. Each need goes back to its arm and to the start. Assumes
--- nothing.
+-- `clerk_reply::reply`: each arm puts the reply of its kind, and the last none. Each need goes back to its arm and to the start.
 use Rattle.clerk_reply.specs.Requests.{replies}
 use Rattle.clerk_reply.proofs.Replying.{none-replied}
 use Rattle.clerk_reply.proofs.Lent.{of-kind, past, no-kind}

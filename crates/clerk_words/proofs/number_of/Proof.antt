@@ -1,4 +1,4 @@
--- `clerk_words::number_of`: −1 less the complement of a word from 2^63 on is the number. Assumes nothing.
+-- `clerk_words::number_of`: −1 less the complement of a word from 2^63 on is the number.
 use native.Mathlib.Omega.{arith}
 use borrow.Author.Needs.{needs}
 use Rattle.clerk_words.proofs.Signed.{made-fits, number-is}

@@ -1,5 +1,5 @@
 -- `clerk_words::put_numbers`: the loop keeps that the first i are put, and those from i on are left. Each need goes back to the loop and to
--- the start. Assumes nothing.
+-- the start.
 use mathlib.Core.Path.{_≡_, refl, sym, ap, _∙_}
 use Prim.Native.Nat.{_+_, _-_}
 use native.Mathlib.Omega.{arith}

@@ -1,4 +1,4 @@
--- `clerk_words::put_word`: the bytes of the word are put as a text. Each need goes back to them and to the start. Assumes nothing.
+-- `clerk_words::put_word`: the bytes of the word are put as a text. Each need goes back to them and to the start.
 use mathlib.Core.Path.{sym}
 use Rattle.desk_lines.proofs.Putting.{fits-as, puts-as}
 use borrow.Author.Needs.{needs}

@@ -1,5 +1,5 @@
 -- `clerk_words::take_numbers`: the loop keeps that the first i numbers are copied to the room. Each need goes back to the loop and to the
--- start. Assumes nothing.
+-- start.
 use mathlib.Core.Path.{_≡_, sym, ap, _∙_, subst⁻¹}
 use Prim.Native.Nat.{_-_, _+_, _<_}
 use native.Mathlib.Omega.{arith}

@@ -1,4 +1,4 @@
--- `clerk_words::word_at`: the sum of two halves, as the definition has it. Assumes nothing.
+-- `clerk_words::word_at`: the sum of two halves, as the definition has it.
 use Rattle.clerk_words.specs.Words.{wordAt}
 use borrow.Author.Needs.{needs}
 use Rattle.clerk_words.proofs.word_at.Statement.{statement}

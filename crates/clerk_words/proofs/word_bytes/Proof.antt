@@ -1,4 +1,4 @@
--- `clerk_words::word_bytes`: each byte is the one that the definition has at its place. Goes back through the calls. Assumes nothing.
+-- `clerk_words::word_bytes`: each byte is the one that the definition has at its place. Goes back through the calls.
 use mathlib.Core.List.{[], _∷_}
 use mathlib.Core.Path.{_≡_, sym, ap, _∙_}
 use Prim.Native.Nat.{ℕ, _/_, _%_}

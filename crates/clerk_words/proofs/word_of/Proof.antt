@@ -1,4 +1,4 @@
--- `clerk_words::word_of`: −1 less a number below 0 is no less than 0, and its complement is the word. Assumes nothing.
+-- `clerk_words::word_of`: −1 less a number below 0 is no less than 0, and its complement is the word.
 use Rattle.clerk_words.proofs.Signed.{again, Below, below, not-below}
 use Rattle.clerk_words.proofs.word_of.Statement.{statement}
 use Rattle.clerk_words.proofs.word_of.Tie as tie

@@ -1,4 +1,4 @@
--- `convert::convert`: 1 and 2, then the checks of the lent lists, then what is behind them. Assumes nothing.
+-- `convert::convert`: 1 and 2, then the checks of the lent lists, then what is behind them.
 use mathlib.Core.Path.{_≡_, refl, sym, ap, _∙_}
 use borrow.Author.Needs.{needs}
 use denote.Ref.{now}

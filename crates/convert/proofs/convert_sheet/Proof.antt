@@ -1,4 +1,4 @@
--- `convert::convert_sheet`: 1 and 2, then the checks of the sheet, then what is behind them, of the lists that it holds. Assumes nothing.
+-- `convert::convert_sheet`: 1 and 2, then the checks of the sheet, then what is behind them, of the lists that it holds.
 use mathlib.Core.Path.{_≡_, refl, sym, ap, _∙_}
 use borrow.Author.Needs.{needs}
 use denote.Ref.{now}

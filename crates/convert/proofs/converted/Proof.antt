@@ -1,4 +1,4 @@
--- `convert::converted`: what refuses the drawing, or what is said of its walk. Assumes nothing.
+-- `convert::converted`: what refuses the drawing, or what is said of its walk.
 use mathlib.Core.List.{List}
 use mathlib.Core.Path.{_≡_, refl, subst}
 use Prim.Native.Nat.{ℕ}

@@ -1,4 +1,4 @@
--- `convert::entered`: each way out is one of the laws. Assumes nothing.
+-- `convert::entered`: each way out is one of the laws.
 use borrow.Author.Needs.{needs}
 use Rattle.convert.proofs.Converting.{no-faces, no-solids, no-limit, enters}
 use Rattle.convert.proofs.entered.Statement.{statement}

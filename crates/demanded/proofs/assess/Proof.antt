@@ -1,4 +1,4 @@
--- `demanded::assess`: its contract is what demand 1 is proved of. Assumes nothing.
+-- `demanded::assess`: its contract is what demand 1 is proved of.
 use denote.Ref.{now}
 use Rattle.demands.specs.Input.{lent}
 use Rattle.demanded.proofs.Demanding.{assesses}

@@ -1,4 +1,4 @@
--- `demanded::assess_sheet`: its contract is what demand 1 is proved of. Assumes nothing.
+-- `demanded::assess_sheet`: its contract is what demand 1 is proved of.
 use denote.Ref.{now}
 use Rattle.demands.specs.Input.{sheet}
 use Rattle.demanded.proofs.Demanding.{assesses}

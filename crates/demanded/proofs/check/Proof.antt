@@ -1,4 +1,4 @@
--- `demanded::check`: its contract is what demands 1 and 3 are proved of. Assumes nothing.
+-- `demanded::check`: its contract is what demands 1 and 3 are proved of.
 use denote.Ref.{now}
 use Rattle.demands.specs.Input.{lent}
 use Rattle.demanded.proofs.Demanding.{checks}

@@ -1,4 +1,4 @@
--- `demanded::read_faces`: its contract is what demand 1 is proved of. Assumes nothing.
+-- `demanded::read_faces`: its contract is what demand 1 is proved of.
 use denote.Ref.{now}
 use Rattle.demanded.proofs.Demanding.{reads-faces}
 use borrow.Author.Needs.{needs}

@@ -1,4 +1,4 @@
--- `demanded::reading`: its contract is what demand 1 is proved of. Assumes nothing.
+-- `demanded::reading`: its contract is what demand 1 is proved of.
 use Rattle.demanded.proofs.Demanding.{read-as}
 use borrow.Author.Needs.{needs}
 use Rattle.demanded.proofs.reading.Statement.{statement}

@@ -1,4 +1,4 @@
--- `demanded::write_faces`: its contract is what demand 1 is proved of. Assumes nothing.
+-- `demanded::write_faces`: its contract is what demand 1 is proved of.
 use denote.Ref.{now}
 use Rattle.paper.specs.FaceList.{solidFaces}
 use Rattle.demanded.proofs.Demanding.{sends}

@@ -1,4 +1,4 @@
--- `demanded::write_sheet`: its contract is what demands 1 and 2 are proved of. Assumes nothing.
+-- `demanded::write_sheet`: its contract is what demands 1 and 2 are proved of.
 use denote.Ref.{now}
 use Rattle.demanded.proofs.Demanding.{writes}
 use borrow.Author.Needs.{needs}

@@ -1,4 +1,4 @@
--- `demanded_together::converted_and_checked`: three calls of one drawing, of which demand 3 holds. Assumes nothing.
+-- `demanded_together::converted_and_checked`: three calls of one drawing, of which demand 3 holds.
 use denote.Ref.{now}
 use Rattle.demands.specs.Input.{lent}
 use Rattle.demanded_together.proofs.Agreeing.{agrees}

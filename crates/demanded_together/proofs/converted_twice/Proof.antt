@@ -1,4 +1,4 @@
--- `demanded_together::converted_twice`: two calls, of which T-13's sentences hold. Assumes nothing.
+-- `demanded_together::converted_twice`: two calls, of which T-13's sentences hold.
 use denote.Ref.{now}
 use Rattle.demands.specs.Input.{lent}
 use Rattle.demanded_together.proofs.Twice.{converts-twice}

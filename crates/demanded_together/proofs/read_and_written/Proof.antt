@@ -1,4 +1,4 @@
--- `demanded_together::read_and_written`: the drawing that was read has the sheet's lists. Assumes nothing.
+-- `demanded_together::read_and_written`: the drawing that was read has the sheet's lists.
 use mathlib.Core.Path.{_≡_, sym, ap, _∙_, subst}
 use native.Mathlib.Omega.{arith}
 use denote.Ref.{now}

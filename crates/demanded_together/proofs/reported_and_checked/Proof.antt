@@ -1,4 +1,4 @@
--- `demanded_together::reported_and_checked`: a reported solid has its words in the room, and is accepted as sent. Assumes nothing.
+-- `demanded_together::reported_and_checked`: a reported solid has its words in the room, and is accepted as sent.
 use Prim.Native.Nat.{_+_, _*_, _<_}
 use native.Mathlib.Omega.{arith}
 use denote.Ref.{now}

@@ -1,4 +1,4 @@
--- `demanded_together::sent_and_checked`: what was written is checked, and was written where it can be. Assumes nothing.
+-- `demanded_together::sent_and_checked`: what was written is checked, and was written where it can be.
 use mathlib.Core.List.{List}
 use mathlib.Core.Path.{sym, _∙_}
 use Prim.Native.Nat.{ℕ, _≤_}

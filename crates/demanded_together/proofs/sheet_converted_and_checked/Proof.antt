@@ -1,4 +1,4 @@
--- `demanded_together::sheet_converted_and_checked`: three calls of one sheet, of which demand 3 holds. Assumes nothing.
+-- `demanded_together::sheet_converted_and_checked`: three calls of one sheet, of which demand 3 holds.
 use denote.Ref.{now}
 use Rattle.demands.specs.Input.{sheet}
 use Rattle.demanded_together.proofs.Agreeing.{agrees}

@@ -1,4 +1,4 @@
--- `demanded_together::written_and_read`: the reader gets what the writer left in its room. Assumes nothing.
+-- `demanded_together::written_and_read`: the reader gets what the writer left in its room.
 use mathlib.Core.Path.{sym, _∙_}
 use Prim.Native.Nat.{_≤_}
 use denote.Ref.{now}

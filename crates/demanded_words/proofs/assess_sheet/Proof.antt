@@ -1,4 +1,4 @@
--- `demanded_words::assess_sheet`: its contract is what demand 1 is proved of. Assumes nothing.
+-- `demanded_words::assess_sheet`: its contract is what demand 1 is proved of.
 use denote.Ref.{now}
 use Rattle.demands.specs.Input.{sheet}
 use Rattle.demanded_words.proofs.Demanding.{assesses}

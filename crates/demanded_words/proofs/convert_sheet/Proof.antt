@@ -1,4 +1,4 @@
--- `demanded_words::convert_sheet`: its contract is what demands 1 and 2 are proved of. Assumes nothing.
+-- `demanded_words::convert_sheet`: its contract is what demands 1 and 2 are proved of.
 use denote.Ref.{now}
 use Rattle.demands.specs.Input.{sheet}
 use Rattle.demanded_words.proofs.Demanding.{converts}

@@ -1,4 +1,4 @@
--- `demanded_words::desk_text`: its contract is what demands 1 and 2 are proved of. Assumes nothing.
+-- `demanded_words::desk_text`: its contract is what demands 1 and 2 are proved of.
 use denote.Ref.{now}
 use Rattle.demanded_words.proofs.Printed.{prints}
 use borrow.Author.Needs.{needs}

@@ -1,4 +1,4 @@
--- `demanded_words::read_sheet`: its contract is what demands 1 and 2 are proved of. Assumes nothing.
+-- `demanded_words::read_sheet`: its contract is what demands 1 and 2 are proved of.
 use native.Mathlib.Omega.{arith}
 use denote.Ref.{now}
 use Rattle.pack.specs.Bits.{Under}

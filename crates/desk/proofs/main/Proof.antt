@@ -1,4 +1,4 @@
--- `desk::main`: what was read lies in the room. Each need goes back to the reading. Assumes nothing.
+-- `desk::main`: what was read lies in the room. Each need goes back to the reading.
 use mathlib.Core.Path.{sym}
 use Prim.Native.Nat.{_≤_}
 use native.Mathlib.Omega.{arith}

@@ -1,5 +1,4 @@
--- `desk::read_input`: the loop keeps that the place is in the room, which stays as long as it was. Each need goes back to the loop. Assumes
--- nothing.
+-- `desk::read_input`: the loop keeps that the place is in the room, which stays as long as it was. Each need goes back to the loop.
 use mathlib.Core.Path.{_≡_}
 use Prim.Native.Nat.{ℕ, _-_, _≤_}
 use native.Mathlib.Omega.{arith}

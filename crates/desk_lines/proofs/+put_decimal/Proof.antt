@@ -1,5 +1,5 @@
 -- `desk_lines::put_decimal`: one digit, or the last behind those of a tenth of the number, which is less. Each need goes back to the
--- start and to the calls between. Assumes nothing.
+-- start and to the calls between.
 use Prim.Native.Nat.{ℕ, _%_, _<_}
 use native.Mathlib.Omega.{arith}
 use borrow.Author.Needs.{needs}

@@ -1,5 +1,4 @@
 -- `desk_lines::put_field`: the number is put behind its name. Each need goes back from its call to the one before and to the start.
--- Assumes nothing.
 use borrow.Author.Needs.{needs}
 use Rattle.paper.specs.Desk.{decimal}
 use Rattle.desk_lines.proofs.Putting.{fits-first, fits-next, puts-both}

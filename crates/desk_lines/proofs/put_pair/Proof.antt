@@ -1,5 +1,5 @@
 -- `desk_lines::put_pair`: the second field is put behind the first. Each need goes back from its call to the one before and to the
--- start. Assumes nothing.
+-- start.
 use borrow.Author.Needs.{needs}
 use Rattle.desk_lines.specs.Put.{fieldText}
 use Rattle.desk_lines.proofs.Putting.{fits-first, fits-next, puts-both}

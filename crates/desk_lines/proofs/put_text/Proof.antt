@@ -1,4 +1,4 @@
--- `desk_lines::put_text`: the text is copied to the room behind the place. Goes back to the start. Assumes nothing.
+-- `desk_lines::put_text`: the text is copied to the room behind the place. Goes back to the start.
 use Rattle.desk_lines.proofs.Putting.{text-put}
 use borrow.Author.Needs.{needs}
 use Rattle.desk_lines.proofs.put_text.Statement.{statement}

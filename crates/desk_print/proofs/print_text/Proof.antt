@@ -1,4 +1,4 @@
--- `desk_print::print_text`: what was written lies in the room. Each need goes back to the call that wrote it. Assumes nothing.
+-- `desk_print::print_text`: what was written lies in the room. Each need goes back to the call that wrote it.
 use mathlib.Core.List.{List}
 use mathlib.Core.Path.{sym, _∙_}
 use Prim.Native.Nat.{ℕ, _≤_}

@@ -1,4 +1,4 @@
--- `desk_solids::put_face`: the tests tell which text it is. Each need goes back to both tests and to the start. Assumes nothing.
+-- `desk_solids::put_face`: the tests tell which text it is. Each need goes back to both tests and to the start.
 use mathlib.Core.Path.{_≡_, refl, sym, _∙_}
 use mathlib.Core.Bool.{true, false}
 use native.Mathlib.Nat.{add-zero}

@@ -1,5 +1,5 @@
 -- `desk_solids::put_faces`: the loop keeps that the faces before candidate k are put, and those from it on are left. Each need goes back
--- to the loop and to the start. Assumes nothing.
+-- to the loop and to the start.
 use Prim.Native.Nat.{_+_, _-_, _<_}
 use native.Mathlib.Omega.{arith}
 use Rattle.paper.specs.Numbers.{mostCandidates}

@@ -1,5 +1,4 @@
 -- `desk_solids::put_solid`: four parts are put behind one another. Each need goes back from its call to the ones before and to the start.
--- Assumes nothing.
 use mathlib.Core.List.{List}
 use Prim.Native.Nat.{ℕ}
 use lib.ListN.{getD}

@@ -1,5 +1,5 @@
 -- `desk_solids::put_solids`: the loop keeps that the lines of the first i solids are put, and those of the others are left. Each need goes
--- back to the loop and to the start. Assumes nothing.
+-- back to the loop and to the start.
 use Prim.Native.Nat.{_+_, _-_, _<_}
 use native.Mathlib.Omega.{arith}
 use Rattle.paper.specs.Desk.{solidsText}

@@ -1,4 +1,4 @@
--- `desk_text::counted`: a sheet of three bytes has both fields. Each need goes back to the layout and to the start. Assumes nothing.
+-- `desk_text::counted`: a sheet of three bytes has both fields. Each need goes back to the layout and to the start.
 use mathlib.Core.Path.{_≡_, ap, _∙_}
 use Prim.Native.Nat.{_+_}
 use native.Mathlib.Omega.{arith}

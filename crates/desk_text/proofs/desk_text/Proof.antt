@@ -1,5 +1,4 @@
--- `desk_text::desk_text`: the text is copied where there is room for it. Each need goes back to where it was put, and to the start. Assumes
--- nothing.
+-- `desk_text::desk_text`: the text is copied where there is room for it. Each need goes back to where it was put, and to the start.
 use Rattle.paper.specs.Desk.{deskText}
 use native.Mathlib.Omega.{arith}
 use Rattle.desk_lines.proofs.Putting.{puts-long}

@@ -1,5 +1,4 @@
--- `desk_text::put_desk`: the answer's text is the sheet's. Each need goes back to the conversion, to the counts and to the start. Assumes
--- nothing.
+-- `desk_text::put_desk`: the answer's text is the sheet's. Each need goes back to the conversion, to the counts and to the start.
 use mathlib.Core.Path.{sym}
 use native.Mathlib.Omega.{arith}
 use Rattle.desk_lines.proofs.Putting.{puts-as}

@@ -1,4 +1,4 @@
--- `drawing_links::apart`: the loop keeps that what is left to search holds the whole answer. Assumes nothing.
+-- `drawing_links::apart`: the loop keeps that what is left to search holds the whole answer.
 use mathlib.Core.List.{[]}
 use mathlib.Core.Bool.{Bool, false, not}
 use mathlib.Core.Path.{_∙_, _≡_, ap, sym}

@@ -1,4 +1,4 @@
--- `drawing_links::further`: the loop keeps that `more` has the set and what the first u vertices of it lead to. Assumes nothing.
+-- `drawing_links::further`: the loop keeps that `more` has the set and what the first u vertices of it lead to.
 use mathlib.Core.Bool.{Bool, _&&_, _||_, false, or-assoc, or-false}
 use mathlib.Core.List.{List}
 use mathlib.Core.Logic.{⊎-elim}

@@ -1,4 +1,4 @@
--- `drawing_links::loose_vertex`: the loop keeps that what is left to search holds the whole answer. Assumes nothing.
+-- `drawing_links::loose_vertex`: the loop keeps that what is left to search holds the whole answer.
 use mathlib.Core.List.{[]}
 use mathlib.Core.Bool.{Bool, not}
 use mathlib.Core.Path.{_∙_, ap, sym}

@@ -1,4 +1,4 @@
--- `drawing_links::neighbours`: the loop keeps that the words say which vertices the first e edges join. Assumes nothing.
+-- `drawing_links::neighbours`: the loop keeps that the words say which vertices the first e edges join.
 use mathlib.Core.List.{List}
 use mathlib.Core.Bool.{_||_}
 use mathlib.Core.Path.{_∙_, _≡_, ap, refl, sym}

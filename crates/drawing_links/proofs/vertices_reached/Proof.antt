@@ -1,5 +1,4 @@
 -- `drawing_links::vertices_reached`: the loop keeps that the set is what k steps reach, and a step that adds nothing ends them all.
--- Assumes nothing.
 use Rattle.drawing_links.specs.Reach.{Stands, Grown}
 use mathlib.Core.Bool.{false}
 use mathlib.Core.Path.{_∙_, _≡_, ap, sym}

@@ -1,4 +1,4 @@
--- `drawing_lists::content`: the lowest coordinate out of range is 8, and the rest is that of 9 and 10. Assumes nothing.
+-- `drawing_lists::content`: the lowest coordinate out of range is 8, and the rest is that of 9 and 10.
 use mathlib.Core.Path.{_∙_, sym, ap}
 use Rattle.lists.specs.Found.{found}
 use Rattle.paper_laws.proofs.Checks.{stops, passes}

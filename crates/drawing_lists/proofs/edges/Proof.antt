@@ -1,4 +1,4 @@
--- `drawing_lists::edges`: the two searches in order are the checks of 9 and 10. Assumes nothing.
+-- `drawing_lists::edges`: the two searches in order are the checks of 9 and 10.
 use Rattle.lists.specs.Lists.{lowest}
 use lib.ListN.{length}
 use Prim.Native.Nat.{_/_}

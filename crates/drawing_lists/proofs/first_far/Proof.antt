@@ -1,4 +1,4 @@
--- `drawing_lists::first_far`: the loop keeps that what is left to search holds the whole answer. Assumes nothing.
+-- `drawing_lists::first_far`: the loop keeps that what is left to search holds the whole answer.
 use mathlib.Core.Path.{_≡_, _∙_, sym}
 use lib.IntN.{ℤ, pos}
 use mir.Val.{toZ, ofZ}

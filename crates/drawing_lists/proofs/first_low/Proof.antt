@@ -1,4 +1,4 @@
--- `drawing_lists::first_low`: the loop keeps that what is left to search holds the whole answer. Assumes nothing.
+-- `drawing_lists::first_low`: the loop keeps that what is left to search holds the whole answer.
 use mathlib.Core.Path.{_≡_, _∙_, sym}
 use Prim.Native.Nat.{_≤_, _-_, _/_}
 use lib.ListN.{length}

@@ -1,4 +1,4 @@
--- `drawing_lists::is_edge_above`: the code asks the parts of the order of pairs one by one. Assumes nothing.
+-- `drawing_lists::is_edge_above`: the code asks the parts of the order of pairs one by one.
 use mathlib.Core.Path.{refl}
 use borrow.Author.Tests.{lt-ltb, le-ltb, eq-eqb, ne-eqb}
 use Rattle.drawing_lists.proofs.is_edge_above.Statement.{statement}

@@ -1,5 +1,4 @@
 -- `drawing_lists::is_far`: a number that fits an `i64` is the one that its bits say, so the code's two tests are those of 8.
--- Assumes nothing.
 use mathlib.Core.Path.{refl}
 use mir.Syntax.{w64}
 use mir.ValLaws.{toZ-ofZ}

@@ -1,4 +1,4 @@
--- `drawing_lists::is_low`: the edge before edge e is e - 1, and edge 0 has none. Assumes nothing.
+-- `drawing_lists::is_low`: the edge before edge e is e - 1, and edge 0 has none.
 use mathlib.Core.Path.{_≡_, refl, _∙_, ap}
 use mathlib.Core.Bool.{not, Bool}
 use mathlib.Core.List.{List}

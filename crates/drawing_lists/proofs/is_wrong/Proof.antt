@@ -1,4 +1,4 @@
--- `drawing_lists::is_wrong`: the code asks the three parts of 9 one by one. Assumes nothing.
+-- `drawing_lists::is_wrong`: the code asks the three parts of 9 one by one.
 use mathlib.Core.Path.{refl}
 use borrow.Author.Tests.{le-leb, lt-leb}
 use Rattle.drawing_lists.proofs.is_wrong.Statement.{statement}

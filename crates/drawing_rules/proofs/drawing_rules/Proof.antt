@@ -1,4 +1,4 @@
--- `drawing_rules::drawing_rules`: the four checks in number order, each asked where those before it pass. Assumes nothing.
+-- `drawing_rules::drawing_rules`: the four checks in number order, each asked where those before it pass.
 use mathlib.Core.List.{List, [], _∷_}
 use mathlib.Core.Path.{_∙_, _≡_, refl, subst, sym}
 use Prim.Native.Nat.{_/_, _≤_, ℕ}

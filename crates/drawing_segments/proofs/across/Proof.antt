@@ -1,4 +1,4 @@
--- `drawing_segments::across`: the cut is asked only of segments in one plane, as `&&` does. Assumes nothing.
+-- `drawing_segments::across`: the cut is asked only of segments in one plane, as `&&` does.
 use mathlib.Core.Bool.{Bool, _&&_, false, true}
 use mathlib.Core.Path.{_∙_, _≡_, ap, sym}
 use borrow.Author.Needs.{needs}

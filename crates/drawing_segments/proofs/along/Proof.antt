@@ -1,4 +1,4 @@
--- `drawing_segments::along`: the overlap is asked only of segments on one line, as `&&` does, both ways round. Assumes nothing.
+-- `drawing_segments::along`: the overlap is asked only of segments on one line, as `&&` does, both ways round.
 use mathlib.Core.Bool.{Bool, _&&_, false, true}
 use mathlib.Core.Path.{_∙_, _≡_, ap, sym}
 use borrow.Author.Needs.{needs}

@@ -1,5 +1,4 @@
 -- `drawing_segments::are_apart`: each coordinate is handed on as it is; an axis is asked where those before it don't part the boxes.
--- Assumes nothing.
 use mathlib.Core.Bool.{Bool, true, false, _||_}
 use mathlib.Core.Path.{_≡_, sym, ap, _∙_}
 use borrow.Author.Needs.{needs}

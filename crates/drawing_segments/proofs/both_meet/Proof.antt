@@ -1,5 +1,5 @@
 -- `drawing_segments::both_meet`: segments of one direction are asked along their line; others with a common end are not asked, and the
--- rest across. Assumes nothing.
+-- rest across.
 use mathlib.Core.Bool.{Bool}
 use mathlib.Core.Path.{_∙_, _≡_, ap, sym}
 use borrow.Author.Needs.{needs}

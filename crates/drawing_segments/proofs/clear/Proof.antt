@@ -1,4 +1,4 @@
--- `drawing_segments::clear`: numbers that fit an `i64` are compared as they are. Assumes nothing.
+-- `drawing_segments::clear`: numbers that fit an `i64` are compared as they are.
 use mathlib.Core.Bool.{_||_}
 use lib.Signed.{ltZ}
 use Rattle.exact.proofs.Machine.{plain}

@@ -1,4 +1,4 @@
--- `drawing_segments::cut`: both answers from one t, s and m, none of them too large. Assumes nothing.
+-- `drawing_segments::cut`: both answers from one t, s and m, none of them too large.
 use mathlib.Core.Path.{_∙_, ap}
 use borrow.Author.Needs.{needs}
 use Rattle.paper.specs.Drawing.{cutsOpen}

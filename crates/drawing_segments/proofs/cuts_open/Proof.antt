@@ -1,4 +1,4 @@
--- `drawing_segments::cuts_open`: numbers that fit an `i64` are compared as they are. Assumes nothing.
+-- `drawing_segments::cuts_open`: numbers that fit an `i64` are compared as they are.
 use mathlib.Core.Bool.{_&&_}
 use lib.IntN.{pos}
 use lib.Signed.{leZ, ltZ}

@@ -1,4 +1,4 @@
--- `drawing_segments::higher`: the number that the test picks is read back as it is. Assumes nothing.
+-- `drawing_segments::higher`: the number that the test picks is read back as it is.
 use mathlib.Core.Path.{_∙_}
 use Rattle.exact.proofs.Machine.{plain}
 use Rattle.fast_meets.specs.Boxes.{greater}

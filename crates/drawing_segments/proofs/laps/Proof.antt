@@ -1,4 +1,4 @@
--- `drawing_segments::laps`: the places along the first segment are dot products with its step, none too large. Assumes nothing.
+-- `drawing_segments::laps`: the places along the first segment are dot products with its step, none too large.
 use mathlib.Core.Path.{_∙_}
 use borrow.Author.Needs.{needs}
 use Rattle.paper.specs.Drawing.{overlap}

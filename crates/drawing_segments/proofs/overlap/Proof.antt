@@ -1,4 +1,4 @@
--- `drawing_segments::overlap`: numbers that fit an `i64` are compared as they are. Assumes nothing.
+-- `drawing_segments::overlap`: numbers that fit an `i64` are compared as they are.
 use mathlib.Core.Bool.{_&&_, not}
 use lib.IntN.{pos}
 use lib.Signed.{leZ}

@@ -1,4 +1,4 @@
--- `drawing_segments::span_of`: each coordinate is read as it is, and its lesser or greater taken. Assumes nothing.
+-- `drawing_segments::span_of`: each coordinate is read as it is, and its lesser or greater taken.
 use borrow.Author.Needs.{needs}
 use Rattle.fast_meets.specs.Boxes.{lesser, greater, lowCorner, highCorner}
 use Rattle.drawing_segments.proofs.Bits.{of-two}

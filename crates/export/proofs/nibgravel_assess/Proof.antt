@@ -1,4 +1,4 @@
--- `export::nibgravel_assess`: the reading is shown as it is. Assumes nothing.
+-- `export::nibgravel_assess`: the reading is shown as it is.
 use Rattle.export_words.proofs.Showing.{assesses}
 use borrow.Author.Needs.{needs}
 use Rattle.export.proofs.nibgravel_assess.Statement.{statement}

@@ -1,4 +1,4 @@
--- `export::nibgravel_check`: the verdict is told as it is. Assumes nothing.
+-- `export::nibgravel_check`: the verdict is told as it is.
 use Rattle.export_words.proofs.Telling.{told-as}
 use borrow.Author.Needs.{needs}
 use Rattle.export.proofs.nibgravel_check.Statement.{statement}

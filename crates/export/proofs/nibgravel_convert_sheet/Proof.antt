@@ -1,4 +1,4 @@
--- `export::nibgravel_convert_sheet`: the answer is told as it is, and the rooms are the conversion's. Assumes nothing.
+-- `export::nibgravel_convert_sheet`: the answer is told as it is, and the rooms are the conversion's.
 use Rattle.export_words.proofs.Telling.{converts-as}
 use borrow.Author.Needs.{needs}
 use Rattle.export.proofs.nibgravel_convert_sheet.Statement.{statement}

@@ -1,4 +1,4 @@
--- `export::nibgravel_read_sheet`: a sheet that is refused is told so, another is handed over. Assumes nothing.
+-- `export::nibgravel_read_sheet`: a sheet that is refused is told so, another is handed over.
 use mathlib.Core.Path.{_≡_, sym, ap, _∙_, subst}
 use denote.Ref.{now}
 use Rattle.paper.specs.Refusals.{firstOf}

@@ -1,4 +1,4 @@
--- `export::nibgravel_write_faces`: the answer is told as it is, and the room is the writer's. Assumes nothing.
+-- `export::nibgravel_write_faces`: the answer is told as it is, and the room is the writer's.
 use Rattle.export_words.proofs.Telling.{told-as}
 use borrow.Author.Needs.{needs}
 use Rattle.export.proofs.nibgravel_write_faces.Statement.{statement}

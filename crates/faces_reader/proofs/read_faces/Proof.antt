@@ -1,4 +1,4 @@
--- `faces_reader::read_faces`: it is `read` with the layout that `edition_one` answers, edition 1. Assumes nothing.
+-- `faces_reader::read_faces`: it is `read` with the layout that `edition_one` answers, edition 1.
 use mathlib.Core.Path.{_∙_, ap}
 use Rattle.paper.specs.Format.{editionOne}
 use Rattle.paper.specs.FaceList.{facesOf}

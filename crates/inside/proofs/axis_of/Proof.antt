@@ -1,5 +1,4 @@
--- `inside::axis_of`: the code asks for 0 in the order of the definition, of numbers that are read back as they are. Assumes
--- nothing.
+-- `inside::axis_of`: the code asks for 0 in the order of the definition, of numbers that are read back as they are.
 use Rattle.paper.specs.declared.Point.{Point}
 use mathlib.Core.Bool.{Bool}
 use mathlib.Core.Path.{_∙_, _≡_, ap, sym}

@@ -1,4 +1,4 @@
--- `inside::between`: d times each coordinate fits an `i64`, and is read back as it is. Assumes nothing.
+-- `inside::between`: d times each coordinate fits an `i64`, and is read back as it is.
 use mathlib.Core.Bool.{_&&_}
 use mathlib.Core.List.{[], _∷_}
 use mathlib.Core.Path.{_∙_}

@@ -1,5 +1,5 @@
 -- `inside::lies`: the loop keeps that the point is on no side before corner j, whether an odd number of them is over it, and that a
--- is corner j as it is seen. Assumes nothing.
+-- is corner j as it is seen.
 use mathlib.Core.Bool.{Bool, _&&_, false, xor}
 use mathlib.Core.Path.{_∙_, _≡_, ap, refl, subst, sym}
 use Prim.Native.Nat.{ℕ, _+_, _-_, _<_, _≤_}

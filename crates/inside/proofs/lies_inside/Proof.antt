@@ -1,4 +1,4 @@
--- `inside::lies_inside`: each of the three answers, asked whether it is inside. Assumes nothing.
+-- `inside::lies_inside`: each of the three answers, asked whether it is inside.
 use mathlib.Core.Path.{_∙_, _≡_, ap, sym}
 use lib.IntN.{ℤ}
 use denote.Ref.{now}

@@ -1,4 +1,4 @@
--- `inside::meets_ray`: the code's three tests on either side are those of the definition. Assumes nothing.
+-- `inside::meets_ray`: the code's three tests on either side are those of the definition.
 use mathlib.Core.Bool.{_&&_, _||_, not}
 use mathlib.Core.Path.{_∙_}
 use lib.IntN.{pos}

@@ -1,4 +1,4 @@
--- `inside::placed`: off the border, an odd number of sides over the point is inside. Assumes nothing.
+-- `inside::placed`: off the border, an odd number of sides over the point is inside.
 use mathlib.Core.Bool.{false}
 use mathlib.Core.Path.{ap, sym}
 use Rattle.paper.specs.Polygon.{placed}

@@ -1,4 +1,4 @@
--- `inside::seen`: the two numbers that are kept are read back as they are. Assumes nothing.
+-- `inside::seen`: the two numbers that are kept are read back as they are.
 use Rattle.paper.specs.declared.Flat.{Flat}
 use mir.Val.{ofZ, toZ, hbits}
 use mir.Syntax.{w64}

@@ -1,4 +1,4 @@
--- `inside::spans`: numbers that fit an `i64` are compared as they are. Assumes nothing.
+-- `inside::spans`: numbers that fit an `i64` are compared as they are.
 use mathlib.Core.Bool.{_&&_, _||_}
 use lib.Signed.{leZ}
 use Rattle.exact.proofs.Machine.{plain}

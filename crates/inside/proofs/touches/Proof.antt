@@ -1,4 +1,4 @@
--- `inside::touches`: the box is asked only where the turn is 0, as `&&` does. Assumes nothing.
+-- `inside::touches`: the box is asked only where the turn is 0, as `&&` does.
 use mathlib.Core.Bool.{Bool, _&&_}
 use mathlib.Core.Path.{_∙_, _≡_, ap, sym}
 use Prim.Native.Nat.{zero}

@@ -1,5 +1,4 @@
--- `inside::turn`: of a piercing point each product and each difference fits an `i64`, and the last is read back as it is. Assumes
--- nothing.
+-- `inside::turn`: of a piercing point each product and each difference fits an `i64`, and the last is read back as it is.
 use mathlib.Core.List.{[], _∷_}
 use lib.IntN.{ℤ}
 use Rattle.exact.proofs.Machine.{Plain, _▸_, asked, done, reads}

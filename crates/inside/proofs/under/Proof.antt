@@ -1,4 +1,4 @@
--- `inside::under`: d times a coordinate fits an `i64`, and is read back as it is. Assumes nothing.
+-- `inside::under`: d times a coordinate fits an `i64`, and is read back as it is.
 use lib.Signed.{leZ}
 use Rattle.exact.proofs.Machine.{_▸_, asked, done, reads}
 use Rattle.exact.proofs.Ring.{_⊗_, var}

@@ -1,4 +1,4 @@
--- `loop_cover::ask`: the loop keeps that what is left of the open edges has the whole answer. Assumes nothing.
+-- `loop_cover::ask`: the loop keeps that what is left of the open edges has the whole answer.
 use mathlib.Core.Bool.{Bool, false, not}
 use mathlib.Core.List.{List}
 use mathlib.Core.Path.{_≡_, ap, refl, subst, sym, _∙_}

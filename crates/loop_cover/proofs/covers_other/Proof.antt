@@ -1,4 +1,4 @@
--- `loop_cover::covers_other`: the loop keeps that what the loops from j on say is the answer. Assumes nothing.
+-- `loop_cover::covers_other`: the loop keeps that what the loops from j on say is the answer.
 use mathlib.Core.Logic.{⊎-elim}
 use mathlib.Core.Path.{subst, sym, _∙_}
 use Prim.Native.Nat.{_+_, _-_, _<_, _≤_}

@@ -1,4 +1,4 @@
--- `loop_cover::fits`: no corner is outside the plane just where the set of those that are is empty. Assumes nothing.
+-- `loop_cover::fits`: no corner is outside the plane just where the set of those that are is empty.
 use mathlib.Core.Bool.{Bool, not, _&&_}
 use mathlib.Core.Path.{_≡_, ap, sym, _∙_}
 use Prim.Native.Nat.{ℕ}

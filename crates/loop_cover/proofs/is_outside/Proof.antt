@@ -1,4 +1,4 @@
--- `loop_cover::is_outside`: the ends of the edge are read, and `lies` answers of their sum over 2. Assumes nothing.
+-- `loop_cover::is_outside`: the ends of the edge are read, and `lies` answers of their sum over 2.
 use mathlib.Core.Path.{_≡_, ap, sym, _∙_}
 use Prim.Native.Nat.{_+_, _*_}
 use native.Mathlib.Omega.{arith}

@@ -1,4 +1,4 @@
--- `loop_cover::try_edges`: an edge that is known to be outside settles it, and else those that are left are asked. Assumes nothing.
+-- `loop_cover::try_edges`: an edge that is known to be outside settles it, and else those that are left are asked.
 use mathlib.Core.Bool.{Bool, true, false, _&&_, cond}
 use mathlib.Core.List.{List}
 use mathlib.Core.Path.{_≡_, ap, subst, sym, _∙_}

@@ -1,4 +1,4 @@
--- `loop_known::known_loops`: what the search and the words ensure, for the drawing that the lists are of. Assumes nothing.
+-- `loop_known::known_loops`: what the search and the words ensure, for the drawing that the lists are of.
 use Prim.Native.Nat.{_≤_}
 use native.Mathlib.Omega.{arith}
 use denote.Ref.{now}

@@ -1,4 +1,4 @@
--- `loop_search::search`: the loop keeps that the rooms hold the loops of the starts gone through. Assumes nothing.
+-- `loop_search::search`: the loop keeps that the rooms hold the loops of the starts gone through.
 use Prim.Native.Nat.{_-_}
 use native.Mathlib.Omega.{arith}
 use borrow.Author.Needs.{needs}

@@ -1,4 +1,4 @@
--- `loop_search::starting_at`: the loop keeps that the rooms hold the loops whose second vertex was gone through. Assumes nothing.
+-- `loop_search::starting_at`: the loop keeps that the rooms hold the loops whose second vertex was gone through.
 use mathlib.Core.Bool.{true, false, not}
 use mathlib.Core.Path.{_≡_, sym, _∙_}
 use Prim.Native.Nat.{_<_}

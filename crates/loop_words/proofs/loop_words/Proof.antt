@@ -1,4 +1,4 @@
--- `loop_words::loop_words`: the loop keeps that the words of the first k rows are written. Assumes nothing.
+-- `loop_words::loop_words`: the loop keeps that the words of the first k rows are written.
 use mathlib.Core.Bool.{Bool}
 use mathlib.Core.List.{List, []}
 use mathlib.Core.Path.{_≡_, ap, sym, _∙_}

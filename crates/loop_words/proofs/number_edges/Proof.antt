@@ -1,4 +1,4 @@
--- `loop_words::number_edges`: the loop keeps that the entries of the first e edges are their numbers. Assumes nothing.
+-- `loop_words::number_edges`: the loop keeps that the entries of the first e edges are their numbers.
 use mathlib.Core.List.{List}
 use mathlib.Core.Path.{_≡_, refl, subst, sym}
 use Prim.Native.Nat.{_+_, _-_, _<_, _≤_, ℕ}

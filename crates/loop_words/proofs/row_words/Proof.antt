@@ -1,5 +1,5 @@
 -- `loop_words::row_words`: the loop keeps that the words have gathered the first i corners and the numbers of the sides to them, and
--- that a is the corner before. Assumes nothing.
+-- that a is the corner before.
 use mathlib.Core.List.{List}
 use mathlib.Core.Path.{_≡_, ap, sym, _∙_}
 use Prim.Native.Nat.{_*_, _+_, _-_, _<_, _≤_, ℕ}

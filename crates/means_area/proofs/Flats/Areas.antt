@@ -1,4 +1,4 @@
--- The step of the first claim: at u the ear is off, or a chord from u cuts the ring in two. Assumes nothing.
+-- The step of the first claim: at u the ear is off, or a chord from u cuts the ring in two.
 use mathlib.Core.Path.{_≡_, refl, sym, _∙_, ap, subst}
 use mathlib.Core.Logic.{_⊎_, inl, inr}
 use mathlib.Core.List.{List, [], _∷_, _++_}

@@ -1,6 +1,6 @@
 -- The ring u c X v y Y, where the triangle at its lowest corner u is empty and v, the lowest but u, is no neighbour of u: the turns at v
 -- and at u have one
--- sign if the triangle at v is empty too, or the ring is smaller. Assumes nothing.
+-- sign if the triangle at v is empty too, or the ring is smaller.
 use mathlib.Core.Path.{_≡_, refl, sym, _∙_, ap, subst}
 use mathlib.Core.Logic.{_⊎_, inl, inr}
 use mathlib.Core.List.{List, [], _∷_, _++_}

@@ -1,4 +1,4 @@
--- Rings: their links, their corners, another start, what a chord cuts off. Assumes nothing.
+-- Rings: their links, their corners, another start, what a chord cuts off.
 use mathlib.Core.Path.{_≡_, refl, sym, _∙_, ap, subst}
 use mathlib.Core.Logic.{_⊎_, inl, inr}
 use mathlib.Core.List.{List, [], _∷_, _++_}

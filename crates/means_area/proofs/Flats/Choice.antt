@@ -1,6 +1,6 @@
 -- At a corner v that is lower than its neighbours x and y: the three are in no line, and either the triangle has no other corner and the
 -- chord
--- x y may be added, or a chord from v to a corner w inside the angle. Assumes nothing.
+-- x y may be added, or a chord from v to a corner w inside the angle.
 use mathlib.Core.Path.{_≡_, refl, sym, _∙_, ap, subst}
 use mathlib.Core.Logic.{_⊎_, inl, inr}
 use mathlib.Core.List.{List, [], _∷_}

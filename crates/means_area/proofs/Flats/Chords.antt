@@ -1,4 +1,4 @@
--- The same where a chord from v to a corner w leaves a smaller ring. Assumes nothing.
+-- The same where a chord from v to a corner w leaves a smaller ring.
 use mathlib.Core.Path.{_≡_, sym, _∙_, ap, subst}
 use mathlib.Core.Logic.{_⊎_, inl, inr}
 use mathlib.Core.List.{List, [], _∷_, _++_}

@@ -1,5 +1,5 @@
 -- In a net, a corner v with its neighbours a and b, which are higher, and no corner inside their triangle: the chord a b may be added,
--- and no further neighbour of a and b is on v's side of it. Assumes nothing.
+-- and no further neighbour of a and b is on v's side of it.
 use mathlib.Core.Path.{_≡_, sym, _∙_, ap, subst}
 use mathlib.Core.Logic.{_⊎_, inl, inr}
 use mathlib.Core.List.{[], _∷_}

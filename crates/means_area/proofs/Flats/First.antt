@@ -1,5 +1,4 @@
--- The first corner u of a ring u c l, lower than its neighbours c and the last of l; and the two claims that are proved together. Assumes
--- nothing.
+-- The first corner u of a ring u c l, lower than its neighbours c and the last of l; and the two claims that are proved together.
 use mathlib.Core.Path.{_≡_, refl, sym, ap}
 use mathlib.Core.Logic.{_⊎_, inl, inr}
 use mathlib.Core.List.{List, [], _∷_}

@@ -1,4 +1,4 @@
--- A list split at one of its points, and at its lowest. Assumes nothing.
+-- A list split at one of its points, and at its lowest.
 use mathlib.Core.Path.{_≡_, refl, sym, ap, subst}
 use mathlib.Core.Logic.{_⊎_, inl, inr}
 use mathlib.Core.List.{List, [], _∷_, _++_}

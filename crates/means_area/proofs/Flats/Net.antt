@@ -1,5 +1,5 @@
 -- In a net, a corner v with its neighbours a and b, which are higher: no corner is on a side by v; where the triangle has corners inside,
--- the chord from v to the one farthest from a b may be added. `Ear` has what holds where it has none. Assumes nothing.
+-- the chord from v to the one farthest from a b may be added. `Ear` has what holds where it has none.
 use mathlib.Core.Path.{_≡_, sym, _∙_, ap}
 use mathlib.Core.Logic.{_⊎_, inl, inr}
 use mathlib.Core.List.{[], _∷_}

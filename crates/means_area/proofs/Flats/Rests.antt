@@ -1,4 +1,4 @@
--- The step of the second claim: what is left of a ring without its lowest corner u, by the place of the lowest but u. Assumes nothing.
+-- The step of the second claim: what is left of a ring without its lowest corner u, by the place of the lowest but u.
 use mathlib.Core.Path.{_≡_, refl, sym, _∙_, ap, subst}
 use mathlib.Core.Logic.{_⊎_, inl, inr}
 use mathlib.Core.List.{List, [], _∷_, _++_}

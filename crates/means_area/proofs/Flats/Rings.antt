@@ -1,4 +1,4 @@
--- Rings: their links, their corners, another start, what a chord cuts off; and the area of the parts. Assumes nothing.
+-- Rings: their links, their corners, another start, what a chord cuts off; and the area of the parts.
 use mathlib.Core.Path.{_≡_, refl, sym, _∙_, ap}
 use mathlib.Core.List.{List, [], _∷_, _++_}
 use lib.IntN.{ℤ, pos, _+ℤ_, _-ℤ_}

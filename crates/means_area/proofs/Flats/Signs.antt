@@ -1,4 +1,4 @@
--- Numbers above 0 and not below 0, with sums and products; numbers of one sign. Assumes nothing.
+-- Numbers above 0 and not below 0, with sums and products; numbers of one sign.
 use mathlib.Core.Path.{_≡_, sym, ap, subst}
 use mathlib.Core.Logic.{_⊎_, inl, inr}
 use mathlib.Core.List.{[], _∷_}

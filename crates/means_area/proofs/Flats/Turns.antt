@@ -1,6 +1,6 @@
 -- A triangle v a b and its points: the places of a point x in it are the turns a b x, b v x and v a x, whose sum is the turn v a b. The
 -- identities
--- between turns and heights that the proofs use, each by one call of `ring`. Assumes nothing.
+-- between turns and heights that the proofs use, each by one call of `ring`.
 use mathlib.Core.Path.{_≡_}
 use mathlib.Core.List.{List, [], _∷_}
 use Prim.Native.Nat.{ℕ, zero, suc}

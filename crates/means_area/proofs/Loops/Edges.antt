@@ -1,5 +1,4 @@
 -- In a drawing that passes 13: no vertex is inside a joined pair, and no two joined pairs without a common vertex have a common point.
--- Assumes nothing.
 use mathlib.Core.Path.{_≡_, refl, sym, _∙_, ap, subst}
 use mathlib.Core.Bool.{Bool, true, not, _&&_, _||_, true≢false}
 use mathlib.Core.Logic.{_⊎_, inl, inr}

@@ -1,4 +1,4 @@
--- The axes in another order: a ring seen along any axis is one seen along the third. Assumes nothing.
+-- The axes in another order: a ring seen along any axis is one seen along the third.
 use mathlib.Core.Path.{_≡_, refl, sym, _∙_, ap, subst}
 use mathlib.Core.List.{List, [], _∷_, map}
 use lib.IntN.{ℤ, pos, negℤ, _+ℤ_, _-ℤ_, _*ℤ_}

@@ -1,4 +1,4 @@
--- A factor with which the heights of different corners differ: above all differences of second coordinates. Assumes nothing.
+-- A factor with which the heights of different corners differ: above all differences of second coordinates.
 use mathlib.Core.Path.{_≡_, sym, ap, subst}
 use mathlib.Core.Logic.{_⊎_, inl, inr}
 use mathlib.Core.List.{List, [], _∷_}

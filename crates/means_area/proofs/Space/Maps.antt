@@ -1,4 +1,4 @@
--- The corners and links of a ring that is made from another, corner by corner. Assumes nothing.
+-- The corners and links of a ring that is made from another, corner by corner.
 use mathlib.Core.Path.{_≡_, refl, ap}
 use mathlib.Core.Logic.{inl, inr}
 use mathlib.Core.List.{List, [], _∷_, map}

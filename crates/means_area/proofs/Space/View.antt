@@ -1,6 +1,5 @@
 -- A simple ring in a plane of space that is seen along the third axis without loss: the view is simple, and its area is the third
 -- coordinate of the normal.
--- Assumes nothing.
 use mathlib.Core.Path.{_≡_, refl, sym, _∙_, ap, subst}
 use mathlib.Core.Logic.{inl, inr}
 use mathlib.Core.List.{List, [], _∷_, map}

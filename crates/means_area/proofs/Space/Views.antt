@@ -1,4 +1,4 @@
--- The axis along which a plane is seen, and what is seen along it. Assumes nothing.
+-- The axis along which a plane is seen, and what is seen along it.
 use mathlib.Core.Path.{_≡_, refl, _∙_, ap}
 use mathlib.Core.Bool.{Bool, true, false, cond}
 use mathlib.Core.List.{[], _∷_}

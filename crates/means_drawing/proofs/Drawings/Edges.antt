@@ -1,4 +1,4 @@
--- The test of 13, edge by edge. Assumes nothing.
+-- The test of 13, edge by edge.
 use mathlib.Core.Path.{_≡_, refl, sym, _∙_, ap}
 use mathlib.Core.Bool.{Bool, true, not, _&&_, _||_, true≢false}
 use mathlib.Core.Logic.{_⊎_, inl, inr, _↔_}

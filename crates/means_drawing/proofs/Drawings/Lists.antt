@@ -1,4 +1,4 @@
--- A drawing that passes 5, 8, 9 and 10: the ends of its edges rise and are vertices. Assumes nothing.
+-- A drawing that passes 5, 8, 9 and 10: the ends of its edges rise and are vertices.
 use mathlib.Core.Path.{_≡_}
 use mathlib.Core.List.{List}
 use Prim.Native.Nat.{ℕ, _+_, _*_, _/_}

@@ -1,4 +1,4 @@
--- 14's rounds: a row of what is reached grows until it is closed, in at most as many rounds as vertices. Assumes nothing.
+-- 14's rounds: a row of what is reached grows until it is closed, in at most as many rounds as vertices.
 use mathlib.Core.Path.{_≡_, refl, sym, _∙_, ap, subst}
 use mathlib.Core.Bool.{Bool, true, false, not, _&&_, _||_, true≢false}
 use mathlib.Core.Logic.{_⊎_, inl, inr, _↔_}

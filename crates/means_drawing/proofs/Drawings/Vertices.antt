@@ -1,4 +1,4 @@
--- The tests of 11 and 12, vertex by vertex. Assumes nothing.
+-- The tests of 11 and 12, vertex by vertex.
 use mathlib.Core.Path.{_≡_, refl, sym, _∙_, ap}
 use mathlib.Core.Bool.{Bool, true, false, not, _&&_, true≢false}
 use mathlib.Core.Logic.{_⊎_, inl, inr, _↔_}

@@ -1,4 +1,4 @@
--- Two segments in one line: where they have a common point. Assumes nothing.
+-- Two segments in one line: where they have a common point.
 use mathlib.Core.Path.{_≡_, refl, sym, _∙_, ap}
 use mathlib.Core.Bool.{true, not, _&&_, true≢false}
 use mathlib.Core.Logic.{_⊎_, inl, inr}

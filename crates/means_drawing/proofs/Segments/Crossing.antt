@@ -1,4 +1,4 @@
--- A common point by the directions of two segments; and where it is if they are not parallel. Assumes nothing.
+-- A common point by the directions of two segments; and where it is if they are not parallel.
 use mathlib.Core.Path.{_≡_, sym, _∙_, ap}
 use mathlib.Core.Bool.{true}
 use mathlib.Core.List.{[], _∷_}

@@ -1,4 +1,4 @@
--- The test `openMeets`, for segments that are parallel and for others. Assumes nothing.
+-- The test `openMeets`, for segments that are parallel and for others.
 use mathlib.Core.Path.{_≡_, refl, sym, _∙_, ap}
 use mathlib.Core.Bool.{Bool, true, false, _&&_, cond}
 use mathlib.Core.Logic.{_↔_}

@@ -1,4 +1,4 @@
--- A point between two others: the test `onOpen`, from its two parts. Assumes nothing.
+-- A point between two others: the test `onOpen`, from its two parts.
 use mathlib.Core.Path.{_≡_, refl, sym, _∙_, ap}
 use mathlib.Core.Bool.{true}
 use mathlib.Core.Logic.{_↔_}

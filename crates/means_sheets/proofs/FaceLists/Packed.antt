@@ -1,4 +1,4 @@
--- Faces in bits, over the layout: what was packed is read again, and what was read packs to the same bits. Assumes nothing.
+-- Faces in bits, over the layout: what was packed is read again, and what was read packs to the same bits.
 use mathlib.Core.Path.{_≡_, refl, sym, ap, ap₂, _∙_}
 use mathlib.Core.List.{List, [], _∷_, _++_, append-assoc, flatMap}
 use Prim.Native.Nat.{ℕ, zero, suc, _≤_, _<_, _+_, _*_, _^_}

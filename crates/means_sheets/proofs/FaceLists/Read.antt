@@ -1,4 +1,4 @@
--- A face list that passes 20 is the one that its faces are written to. Assumes nothing.
+-- A face list that passes 20 is the one that its faces are written to.
 use mathlib.Core.Path.{_≡_, sym, ap, ap₂, _∙_}
 use mathlib.Core.List.{List, _++_, flatMap}
 use Prim.Native.Nat.{ℕ, _≤_, _+_, _*_, _^_}

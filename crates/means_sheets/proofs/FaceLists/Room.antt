@@ -1,4 +1,4 @@
--- What the writer of face lists leaves in its room, where it writes. Assumes nothing.
+-- What the writer of face lists leaves in its room, where it writes.
 use mathlib.Core.Path.{_≡_, refl, sym, ap, ap₂, _∙_}
 use mathlib.Core.Bool.{false, not, _||_}
 use mathlib.Core.List.{List, _++_}

@@ -1,4 +1,4 @@
--- Faces that a list can hold are those that pass 20. Assumes nothing.
+-- Faces that a list can hold are those that pass 20.
 use mathlib.Core.Path.{_≡_, refl, ap}
 use mathlib.Core.Bool.{Bool, true, false, not}
 use mathlib.Core.List.{List, [], _∷_}

@@ -1,4 +1,4 @@
--- Faces that a face list can hold, written out, are read again. Assumes nothing.
+-- Faces that a face list can hold, written out, are read again.
 use mathlib.Core.Path.{_≡_, refl, sym, ap, ap₂, _∙_}
 use mathlib.Core.Bool.{true}
 use mathlib.Core.List.{List, [], _++_, append-assoc, flatMap}

@@ -1,4 +1,4 @@
--- An accepted sheet is the one that its drawing is written to, and the writer takes that drawing. Assumes nothing.
+-- An accepted sheet is the one that its drawing is written to, and the writer takes that drawing.
 use mathlib.Core.Path.{_≡_, refl, sym, ap, ap₂, _∙_}
 use mathlib.Core.Bool.{false}
 use mathlib.Core.List.{List, [], _∷_, _++_, map}

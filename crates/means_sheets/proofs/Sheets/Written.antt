@@ -1,4 +1,4 @@
--- A drawing that a sheet can hold, written out, is read again. Assumes nothing.
+-- A drawing that a sheet can hold, written out, is read again.
 use mathlib.Core.Path.{_≡_, refl, sym, ap, ap₂, _∙_}
 use mathlib.Core.Bool.{Bool, true, false, not}
 use mathlib.Core.List.{List, [], _∷_, _++_, map, append-assoc}

@@ -1,4 +1,4 @@
--- `measured::measured_loops`: the edges are numbered as 10 leaves them, and the drawing is the lent one. Assumes nothing.
+-- `measured::measured_loops`: the edges are numbered as 10 leaves them, and the drawing is the lent one.
 use borrow.Author.Needs.{needs}
 use denote.Ref.{now}
 use Rattle.measured.proofs.measured_loops.Statement.{statement}

@@ -1,4 +1,4 @@
--- `pack::byte`: past the end the list gives 0 too, and a byte is below 256. Assumes nothing.
+-- `pack::byte`: past the end the list gives 0 too, and a byte is below 256.
 use mathlib.Core.Path.{refl, sym}
 use native.Mathlib.Omega.{arith}
 use borrow.Author.Needs.{needs}

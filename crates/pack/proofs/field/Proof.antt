@@ -1,5 +1,4 @@
--- `pack::field`: a field of up to 16 bits lies within three bytes, so it is the window, shifted, without what stands above. Assumes
--- nothing.
+-- `pack::field`: a field of up to 16 bits lies within three bytes, so it is the window, shifted, without what stands above.
 use Prim.Native.Nat.{_-_, _%_}
 use native.Mathlib.Omega.{arith}
 use borrow.Author.Needs.{needs}

@@ -1,5 +1,4 @@
--- `pack::patch`: what stands above, the new bits and what stands below are one number again, below 2 ^ 24, so no sum wraps. Assumes
--- nothing.
+-- `pack::patch`: what stands above, the new bits and what stands below are one number again, below 2 ^ 24, so no sum wraps.
 use Prim.Native.Nat.{ℕ, _+_, _*_, _/_, _%_, _^_, _≤_, _<_}
 use native.Mathlib.Nat.{le-mul-of-pos-right}
 use native.Mathlib.Omega.{arith}

@@ -1,4 +1,4 @@
--- `pack::power`: a shift by less than 64 loses nothing. Assumes nothing.
+-- `pack::power`: a shift by less than 64 loses nothing.
 use mathlib.Core.Path.{_≡_, _∙_}
 use Prim.Native.Nat.{_%_, _*_, _^_}
 use native.Mathlib.Nat.{one-mul}

@@ -1,4 +1,4 @@
--- `pack::put`: the three bytes of the patched window are set one by one, and only the field's bits change. Assumes nothing.
+-- `pack::put`: the three bytes of the patched window are set one by one, and only the field's bits change.
 use Prim.Native.Nat.{_-_, _%_}
 use native.Mathlib.Omega.{arith}
 use borrow.Author.Needs.{needs}

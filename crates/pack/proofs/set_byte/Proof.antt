@@ -1,4 +1,4 @@
--- `pack::set_byte`: past the end nothing is set, as the definition has it. Assumes nothing.
+-- `pack::set_byte`: past the end nothing is set, as the definition has it.
 use mathlib.Core.Path.{sym}
 use borrow.Author.Needs.{needs}
 use lib.Seq.{set-out}

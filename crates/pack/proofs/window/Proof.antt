@@ -1,4 +1,4 @@
--- `pack::window`: three bytes make a number below 2 ^ 24, so no sum wraps. Assumes nothing.
+-- `pack::window`: three bytes make a number below 2 ^ 24, so no sum wraps.
 use Prim.Native.Nat.{_/_}
 use native.Mathlib.Omega.{arith}
 use borrow.Author.Needs.{needs}

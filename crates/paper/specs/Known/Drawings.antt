@@ -1,4 +1,4 @@
--- The drawings of document 01, "Known drawings", as two lists. Assumes nothing.
+-- The drawings of document 01, "Known drawings", as two lists.
 use Prim.Native.Nat.{ℕ}
 use mathlib.Core.List.{List, [], _∷_}
 use lib.IntN.{pos}

@@ -1,4 +1,4 @@
--- `reading::cubic_metres`: on both ways the double of six volumes is divided once, as the paper's volume is. Assumes nothing.
+-- `reading::cubic_metres`: on both ways the double of six volumes is divided once, as the paper's volume is.
 use mathlib.Core.Path.{refl, ap}
 use lib.Dec.{le→leb}
 use lib.IntN.{pos}

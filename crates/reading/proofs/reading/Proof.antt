@@ -1,4 +1,4 @@
--- `reading::reading`: each arm knows which answer it has, and at that answer the paper's reading computes. Assumes nothing.
+-- `reading::reading`: each arm knows which answer it has, and at that answer the paper's reading computes.
 use mathlib.Core.Path.{sym, ap, _∙_}
 use Rattle.paper.specs.Reading.{readingOf}
 use Rattle.paper.specs.declared.Reading.the-variants as Reading

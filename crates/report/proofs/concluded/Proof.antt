@@ -1,4 +1,4 @@
--- `report::concluded`: each way out is one of the laws. Assumes nothing.
+-- `report::concluded`: each way out is one of the laws.
 use borrow.Author.Needs.{needs}
 use Rattle.report.proofs.Concluding.{says-many, says-too-long, says-reported}
 use Rattle.report.proofs.concluded.Statement.{statement}

@@ -1,4 +1,4 @@
--- `report::reported`: each way out is one of the laws, once the report is written. Assumes nothing.
+-- `report::reported`: each way out is one of the laws, once the report is written.
 use borrow.Author.Needs.{needs}
 use native.Mathlib.Omega.{arith}
 use Rattle.report.proofs.Reporting.{says-no-solid, says-one, says-several}

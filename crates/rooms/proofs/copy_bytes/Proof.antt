@@ -1,4 +1,4 @@
--- `rooms::copy_bytes`: the loop keeps that the first i bytes are copied. Assumes nothing.
+-- `rooms::copy_bytes`: the loop keeps that the first i bytes are copied.
 use Prim.Native.Nat.{_-_}
 use native.Mathlib.Omega.{arith}
 use Rattle.rooms.proofs.Copying.{Copying, copying-start, copying-long, copying-more, copying-end}

@@ -1,4 +1,4 @@
--- `rooms::copy_numbers`: the loop keeps that the first i numbers are copied. Assumes nothing.
+-- `rooms::copy_numbers`: the loop keeps that the first i numbers are copied.
 use Prim.Native.Nat.{_-_}
 use native.Mathlib.Omega.{arith}
 use mir.Syntax.{w64}

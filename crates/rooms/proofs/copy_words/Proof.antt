@@ -1,4 +1,4 @@
--- `rooms::copy_words`: the loop keeps that the first i words are copied. Assumes nothing.
+-- `rooms::copy_words`: the loop keeps that the first i words are copied.
 use Prim.Native.Nat.{_-_}
 use native.Mathlib.Omega.{arith}
 use Rattle.rooms.proofs.Copying.{Copying, copying-start, copying-long, copying-more, copying-end}

@@ -1,4 +1,4 @@
--- `sets::is_set`: a word is a set of its own digits. Assumes nothing.
+-- `sets::is_set`: a word is a set of its own digits.
 use Rattle.sets.specs.Sets.{digitsOf}
 use Rattle.sets.specs.declared.Set.{Set}
 use Rattle.sets.proofs.Sets.{is-digits}

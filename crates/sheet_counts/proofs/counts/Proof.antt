@@ -1,4 +1,4 @@
--- `sheet_counts::counts`: the two tests in order are the two checks of 5. Assumes nothing.
+-- `sheet_counts::counts`: the two tests in order are the two checks of 5.
 use Rattle.paper.specs.Format.{leastVertices, outside}
 use mathlib.Core.Bool.{false}
 use mathlib.Core.Path.{_∙_, sym, _≡_}

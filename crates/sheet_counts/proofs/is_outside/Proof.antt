@@ -1,4 +1,4 @@
--- `sheet_counts::is_outside`: the code asks the two halves of `outside` in order. Assumes nothing.
+-- `sheet_counts::is_outside`: the code asks the two halves of `outside` in order.
 use mathlib.Core.Path.{refl}
 use borrow.Author.Tests.{lt-ltb, le-ltb}
 use Rattle.sheet_counts.proofs.is_outside.Statement.{statement}

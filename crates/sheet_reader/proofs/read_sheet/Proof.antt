@@ -1,4 +1,4 @@
--- `sheet_reader::read_sheet`: the reader, at edition 1, which fits. Assumes nothing.
+-- `sheet_reader::read_sheet`: the reader, at edition 1, which fits.
 use mathlib.Core.Path.{_∙_, ap}
 use Rattle.paper.specs.Format.{editionOne}
 use Rattle.paper.specs.Reading.{answerSays}

@@ -1,4 +1,4 @@
--- `sheet_shape::closing`: the bits that the code counts are the layout's, so its two tests are those of 6 and 7. Assumes nothing.
+-- `sheet_shape::closing`: the bits that the code counts are the layout's, so its two tests are those of 6 and 7.
 use mathlib.Core.Path.{_≡_, _∙_, ap, sym}
 use mathlib.Core.Bool.{false, not}
 use mathlib.Core.List.{List}

@@ -1,5 +1,4 @@
--- `sheet_shape::opening`: the code's two tests are those of 3 and 4, and a sheet that passes 3 has the bits that 4 reads. Assumes
--- nothing.
+-- `sheet_shape::opening`: the code's two tests are those of 3 and 4, and a sheet that passes 3 has the bits that 4 reads.
 use mathlib.Core.Path.{_≡_, _∙_, ap, sym}
 use mathlib.Core.Bool.{false, not}
 use borrow.Author.Tests.{lt-ltb, le-ltb, eq-eqb, ne-eqb}

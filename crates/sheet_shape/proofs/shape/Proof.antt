@@ -1,5 +1,5 @@
 -- `sheet_shape::shape`: the three groups of checks one behind the other. A sheet that passes 3 and 4 has the bits of its counts, and
--- counts that pass 5 are few enough for the length. Assumes nothing.
+-- counts that pass 5 are few enough for the length.
 use mathlib.Core.Path.{_≡_, _∙_, sym}
 use native.Mathlib.Omega.{arith}
 use borrow.Author.Needs.{needs}

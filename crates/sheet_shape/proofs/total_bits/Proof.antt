@@ -1,4 +1,4 @@
--- `sheet_shape::total_bits`: no sum wraps, since the vertex numbers of a narrow layout have few bits. Assumes nothing.
+-- `sheet_shape::total_bits`: no sum wraps, since the vertex numbers of a narrow layout have few bits.
 use Rattle.sheet_shape.proofs.Sizes.{numbers-small}
 use native.Mathlib.Omega.{arith}
 use borrow.Author.Needs.{needs}

@@ -1,4 +1,4 @@
--- `sheet_writer::write_sheet`: the writer, at edition 1, which is narrow. Assumes nothing.
+-- `sheet_writer::write_sheet`: the writer, at edition 1, which is narrow.
 use mathlib.Core.Path.{_∙_, ap}
 use Rattle.paper.specs.Format.{editionOne}
 use Rattle.paper.specs.Reading.{writtenSays}

@@ -1,4 +1,4 @@
--- `trial::end_of`: an item that is found ends within the bytes, behind its length. Assumes nothing.
+-- `trial::end_of`: an item that is found ends within the bytes, behind its length.
 use mathlib.Core.Path.{_≡_}
 use mathlib.Core.Option.{some}
 use Prim.Native.Nat.{ℕ}

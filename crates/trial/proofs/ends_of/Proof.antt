@@ -1,4 +1,4 @@
--- `trial::ends_of`: where the first item ends the second starts, and both end as `end_of` says. Assumes nothing.
+-- `trial::ends_of`: where the first item ends the second starts, and both end as `end_of` says.
 use mathlib.Core.Path.{_≡_, sym, ap}
 use Prim.Native.Nat.{ℕ, _+_, _≤_}
 use lib.ListN.{length}

@@ -1,4 +1,4 @@
--- `trial_check::show_all`: the loop keeps that the place is in the book; each pair ends in it, behind its start. Assumes nothing.
+-- `trial_check::show_all`: the loop keeps that the place is in the book; each pair ends in it, behind its start.
 use Prim.Native.Nat.{_-_, _≤_, _+_}
 use lib.ListN.{length}
 use native.Mathlib.Omega.{arith}

@@ -1,4 +1,4 @@
--- `trial_loops::candidates_sum`: the loop keeps that the checksum is below the prime. Assumes nothing.
+-- `trial_loops::candidates_sum`: the loop keeps that the checksum is below the prime.
 use Prim.Native.Nat.{_-_, _≤_, _<_}
 use native.Mathlib.Omega.{arith}
 use borrow.Author.Needs.{needs}

@@ -1,4 +1,4 @@
--- `trial_loops::show_all`: the loop keeps that the place is in the book; each item ends in it, behind its start. Assumes nothing.
+-- `trial_loops::show_all`: the loop keeps that the place is in the book; each item ends in it, behind its start.
 use mathlib.Core.Path.{sym, ap}
 use Prim.Native.Nat.{_-_, _≤_, _+_}
 use lib.ListN.{length}

@@ -1,4 +1,4 @@
--- `trial_loops::show_candidates`: the rooms keep their sizes, and there are at most 64 candidates. Assumes nothing.
+-- `trial_loops::show_candidates`: the rooms keep their sizes, and there are at most 64 candidates.
 use mathlib.Core.Path.{refl, sym}
 use native.Mathlib.Omega.{arith}
 use borrow.Author.Needs.{needs}

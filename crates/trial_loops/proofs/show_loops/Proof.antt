@@ -1,4 +1,4 @@
--- `trial_loops::show_loops`: the rooms are empty, and the loops are held, at most 128. Assumes nothing.
+-- `trial_loops::show_loops`: the rooms are empty, and the loops are held, at most 128.
 use mathlib.Core.Path.{refl, sym}
 use native.Mathlib.Omega.{arith}
 use borrow.Author.Needs.{needs}

@@ -1,4 +1,4 @@
--- `trial_loops::show_rules`: lists that pass 3 to 10 and then 11 to 14 have passed. Assumes nothing.
+-- `trial_loops::show_rules`: lists that pass 3 to 10 and then 11 to 14 have passed.
 use mathlib.Core.Path.{sym, _∙_}
 use borrow.Author.Needs.{needs}
 use Rattle.drawing_lists.proofs.Range.{lent-range}

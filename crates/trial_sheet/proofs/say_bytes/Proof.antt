@@ -1,4 +1,4 @@
--- `trial_sheet::say_bytes`: each turn leaves fewer bytes. Assumes nothing.
+-- `trial_sheet::say_bytes`: each turn leaves fewer bytes.
 use Prim.Native.Nat.{_-_}
 use lib.ListN.{length}
 use native.Mathlib.Omega.{arith}

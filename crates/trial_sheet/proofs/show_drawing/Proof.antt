@@ -1,4 +1,4 @@
--- `trial_sheet::show_drawing`: few enough vertices and edges for the fronts of the two arrays. Assumes nothing.
+-- `trial_sheet::show_drawing`: few enough vertices and edges for the fronts of the two arrays.
 use mathlib.Core.Path.{sym}
 use lib.Seq.{length-take-le}
 use native.Mathlib.Omega.{arith}

@@ -1,4 +1,4 @@
--- `trial_walk::say_solids`: there are words for all solids found, three for each. Assumes nothing.
+-- `trial_walk::say_solids`: there are words for all solids found, three for each.
 use Prim.Native.Nat.{_-_, _≤_}
 use native.Mathlib.Omega.{arith}
 use borrow.Author.Needs.{needs}

@@ -1,4 +1,4 @@
--- `trial_walk::show`: a sheet that the reader accepts holds a drawing in range. Assumes nothing.
+-- `trial_walk::show`: a sheet that the reader accepts holds a drawing in range.
 use mathlib.Core.Path.{sym, ap, subst, _∙_}
 use Rattle.paper_laws.specs.InRange.{Held}
 use Rattle.paper.specs.declared.Sheet.{Sheet}

@@ -1,4 +1,4 @@
--- `trial_walk::show_lists`: what 5 and 8 to 10 let through. Assumes nothing.
+-- `trial_walk::show_lists`: what 5 and 8 to 10 let through.
 use mathlib.Core.Path.{sym, ap, _∙_}
 use borrow.Author.Needs.{needs}
 use denote.Ref.{now}

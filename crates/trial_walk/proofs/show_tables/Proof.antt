@@ -1,4 +1,4 @@
--- `trial_walk::show_tables`: the rooms are empty, and what is ready fits the walk. Assumes nothing.
+-- `trial_walk::show_tables`: the rooms are empty, and what is ready fits the walk.
 use mathlib.Core.List.{List}
 use mathlib.Core.Path.{_≡_, refl, subst}
 use Prim.Native.Nat.{ℕ, _/_}

@@ -1,4 +1,4 @@
--- `verdict::check`: the checks of the lent lists, then what is behind them. Assumes nothing.
+-- `verdict::check`: the checks of the lent lists, then what is behind them.
 use mathlib.Core.Path.{_≡_, sym, ap, _∙_}
 use denote.Ref.{now}
 use Rattle.paper.specs.Refusals.{firstOf}

@@ -1,4 +1,4 @@
--- `verdict::check_sheet`: the checks of the sheet, then what is behind them. Assumes nothing.
+-- `verdict::check_sheet`: the checks of the sheet, then what is behind them.
 use mathlib.Core.List.{List}
 use mathlib.Core.Path.{_≡_, sym, ap, _∙_}
 use denote.Ref.{now}

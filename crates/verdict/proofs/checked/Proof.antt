@@ -1,4 +1,4 @@
--- `verdict::checked`: rooms with nothing in them are lent to the tables, and the tables to the list's check. Assumes nothing.
+-- `verdict::checked`: rooms with nothing in them are lent to the tables, and the tables to the list's check.
 use mathlib.Core.List.{List}
 use mathlib.Core.Path.{_≡_, refl, subst}
 use Prim.Native.Nat.{ℕ}

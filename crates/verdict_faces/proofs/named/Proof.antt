@@ -1,5 +1,5 @@
 -- `verdict_faces::named`: 21 is what the first pass finds, 22 what the second does; the numbers of the first are what the second asks
--- for. Assumes nothing.
+-- for.
 use borrow.Author.Needs.{needs}
 use Rattle.verdict_faces.proofs.Answers.{answer-21, all-taken, answer-22, answer-are}
 use Rattle.verdict_faces.proofs.named.Statement.{statement}

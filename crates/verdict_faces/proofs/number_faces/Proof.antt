@@ -1,5 +1,4 @@
--- `verdict_faces::number_faces`: the loop keeps the numbers and the marks of the faces passed, each of which is a candidate. Assumes
--- nothing.
+-- `verdict_faces::number_faces`: the loop keeps the numbers and the marks of the faces passed, each of which is a candidate.
 use mathlib.Core.Logic.{⊎-elim}
 use mathlib.Core.Path.{sym, subst}
 use Prim.Native.Nat.{_+_, _-_, _≤_, _<_}

@@ -1,4 +1,4 @@
--- `verdict_faces::take_each`: the loop keeps that the set has the numbers passed, and that none of them was there twice. Assumes nothing.
+-- `verdict_faces::take_each`: the loop keeps that the set has the numbers passed, and that none of them was there twice.
 use Prim.Native.Nat.{_-_, _≤_}
 use native.Mathlib.Omega.{arith}
 use borrow.Author.Needs.{needs}

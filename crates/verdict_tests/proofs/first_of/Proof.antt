@@ -1,4 +1,4 @@
--- `verdict_tests::first_of`: a refusal stands, and where all is fine the second is asked (`Testing`). Assumes nothing.
+-- `verdict_tests::first_of`: a refusal stands, and where all is fine the second is asked (`Testing`).
 use borrow.Author.Needs.{needs}
 use Rattle.verdict_tests.proofs.Testing.{first-refuses, first-fine}
 use Rattle.verdict_tests.proofs.first_of.Statement.{statement}

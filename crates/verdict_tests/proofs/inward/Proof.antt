@@ -1,4 +1,4 @@
--- `verdict_tests::inward`: six volumes is above zero, or it is not (`Volumes`). Assumes nothing.
+-- `verdict_tests::inward`: six volumes is above zero, or it is not (`Volumes`).
 use borrow.Author.Needs.{needs}
 use mathlib.Core.List.{[], _∷_}
 use mathlib.Core.Path.{_∙_}

@@ -1,4 +1,4 @@
--- `verdict_tests::tested`: the answers of the five checks, and the first of them that refuses (`Testing`). Assumes nothing.
+-- `verdict_tests::tested`: the answers of the five checks, and the first of them that refuses (`Testing`).
 use borrow.Author.Needs.{needs}
 use Rattle.walk_tables.specs.Words.{WalkTables, walkTables}
 use Rattle.verdict_tests.proofs.Testing.{tests}

@@ -1,4 +1,4 @@
--- `walk::walk`: at each call fewer are undecided; each way out is one of the laws. Assumes nothing.
+-- `walk::walk`: at each call fewer are undecided; each way out is one of the laws.
 use mathlib.Core.Path.{_≡_, subst}
 use native.Mathlib.Omega.{arith}
 use Prim.Native.Nat.{ℕ, suc, _<_}

@@ -1,4 +1,4 @@
--- `walk::search`: the walk with nothing decided and all edges to be passed. Assumes nothing.
+-- `walk::search`: the walk with nothing decided and all edges to be passed.
 use borrow.Author.Needs.{needs}
 use denote.Ref.{now}
 use Rattle.walk_tables.specs.Words.{WalkTables, walkTables}

@@ -1,4 +1,4 @@
--- `walk_clashes::clash_set`: rules A and B, and rule C of those that are left. Assumes nothing.
+-- `walk_clashes::clash_set`: rules A and B, and rule C of those that are left.
 use borrow.Author.Needs.{needs}
 use Rattle.walk_clashes.proofs.Clashing.{hit-lent, fold-lent}
 use Rattle.walk_clashes.proofs.clash_set.Statement.{statement}

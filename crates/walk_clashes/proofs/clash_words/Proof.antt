@@ -1,4 +1,4 @@
--- `walk_clashes::clash_words`: the loop keeps that the first g candidates are marked both ways. Assumes nothing.
+-- `walk_clashes::clash_words`: the loop keeps that the first g candidates are marked both ways.
 use mathlib.Core.Bool.{Bool, not, _&&_, _||_}
 use mathlib.Core.List.{List}
 use mathlib.Core.Path.{_≡_, refl, sym, ap, subst, _∙_}

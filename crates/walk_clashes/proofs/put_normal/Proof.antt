@@ -1,4 +1,4 @@
--- `walk_clashes::put_normal`: three stores, of numbers that the machine keeps. Assumes nothing.
+-- `walk_clashes::put_normal`: three stores, of numbers that the machine keeps.
 use native.Mathlib.Omega.{arith}
 use denote.Ref.{now}
 use borrow.Author.Needs.{needs}

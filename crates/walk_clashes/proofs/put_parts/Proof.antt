@@ -1,4 +1,4 @@
--- `walk_clashes::put_parts`: the loop keeps that the normals and the parts of the first k candidates are written. Assumes nothing.
+-- `walk_clashes::put_parts`: the loop keeps that the normals and the parts of the first k candidates are written.
 use mathlib.Core.Path.{_≡_, subst, sym, _∙_}
 use Prim.Native.Nat.{_-_, _<_}
 use native.Mathlib.Omega.{arith}

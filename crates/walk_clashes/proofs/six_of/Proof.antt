@@ -1,4 +1,4 @@
--- `walk_clashes::six_of`: the corner and the normal are within the sizes of `dot`. Assumes nothing.
+-- `walk_clashes::six_of`: the corner and the normal are within the sizes of `dot`.
 use native.Mathlib.Omega.{arith}
 use mathlib.Core.Path.{subst, sym, _∙_}
 use Rattle.exact.specs.Size.{Within}

@@ -1,4 +1,4 @@
--- `walk_edges::edge_words`: the loop keeps that the words have the first k candidates. Assumes nothing.
+-- `walk_edges::edge_words`: the loop keeps that the words have the first k candidates.
 use mathlib.Core.List.{List}
 use mathlib.Core.Path.{_≡_, refl, _∙_}
 use Prim.Native.Nat.{_-_, _<_, _≤_, ℕ}

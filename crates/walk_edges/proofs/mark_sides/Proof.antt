@@ -1,5 +1,5 @@
 -- `walk_edges::mark_sides`: the loop keeps that k is marked on the sides to the first i corners, among the words that go up on those that
--- go up, and that a is the corner before. Assumes nothing.
+-- go up, and that a is the corner before.
 use mathlib.Core.Bool.{true}
 use mathlib.Core.List.{List}
 use mathlib.Core.Logic.{⊎-elim}

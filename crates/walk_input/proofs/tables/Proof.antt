@@ -1,4 +1,4 @@
--- `walk_input::tables`: each stage asks for what those before it found; the counts of loops and candidates decide 15 and 16. Assumes nothing.
+-- `walk_input::tables`: each stage asks for what those before it found; the counts of loops and candidates decide 15 and 16.
 use mathlib.Core.Path.{_≡_, refl, sym, _∙_}
 use borrow.Author.Needs.{needs}
 use denote.Ref.{now}

@@ -1,4 +1,4 @@
--- `walk_leaf::clear`: the loop keeps that the faces left give the whole answer. Assumes nothing.
+-- `walk_leaf::clear`: the loop keeps that the faces left give the whole answer.
 use borrow.Author.Needs.{needs}
 use borrow.Author.Tests.{not-true, not-false}
 use native.Mathlib.Omega.{arith}

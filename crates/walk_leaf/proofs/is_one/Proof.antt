@@ -1,4 +1,4 @@
--- `walk_leaf::is_one`: without its lowest it is empty. Assumes nothing.
+-- `walk_leaf::is_one`: without its lowest it is empty.
 use borrow.Author.Needs.{needs}
 use native.Mathlib.Omega.{arith}
 use Rattle.walk_state.proofs.Lowest.{is-none, is-some}

@@ -1,4 +1,4 @@
--- `walk_leaf::judge`: the tests in order; each way out is one of the laws. Assumes nothing.
+-- `walk_leaf::judge`: the tests in order; each way out is one of the laws.
 use borrow.Author.Needs.{needs}
 use borrow.Author.Tests.{not-true, not-false}
 use mathlib.Core.Path.{_≡_}

@@ -1,4 +1,4 @@
--- `walk_leaf::once_each_way`: one face taken runs the edge upwards and one downwards. Assumes nothing.
+-- `walk_leaf::once_each_way`: one face taken runs the edge upwards and one downwards.
 use borrow.Author.Needs.{needs}
 use Rattle.walk_leaf.proofs.Directions.{way-not, way-once}
 use Rattle.walk_leaf.proofs.once_each_way.Statement.{statement}

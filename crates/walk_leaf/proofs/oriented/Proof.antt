@@ -1,4 +1,4 @@
--- `walk_leaf::oriented`: the loop keeps that the edges from e on give the whole answer. Assumes nothing.
+-- `walk_leaf::oriented`: the loop keeps that the edges from e on give the whole answer.
 use borrow.Author.Needs.{needs}
 use borrow.Author.Tests.{not-true, not-false}
 use mathlib.Core.Path.{refl}

@@ -1,4 +1,4 @@
--- `walk_leaf::part`: the number, or its negative; both are small. Assumes nothing.
+-- `walk_leaf::part`: the number, or its negative; both are small.
 use borrow.Author.Needs.{needs}
 use mathlib.Core.List.{[], _∷_}
 use lib.IntN.{pos, ℤ}

@@ -1,4 +1,4 @@
--- `walk_leaf::weighed`: six volumes is above zero, below it, or zero; its size fits. Assumes nothing.
+-- `walk_leaf::weighed`: six volumes is above zero, below it, or zero; its size fits.
 use borrow.Author.Needs.{needs}
 use mathlib.Core.List.{[], _∷_}
 use mathlib.Core.Path.{ap}

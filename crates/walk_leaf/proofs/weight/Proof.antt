@@ -1,5 +1,4 @@
 -- `walk_leaf::weight`: the loop keeps that the sum so far and the parts left make the whole sum, and that it is small: at most 64 parts.
--- Assumes nothing.
 use borrow.Author.Needs.{needs}
 use borrow.Author.Tests.{not-true, not-false}
 use mathlib.Core.List.{[], _∷_}

@@ -1,4 +1,4 @@
--- `walk_state::first_open`: the loop keeps that the answer is that of the search from e on. Assumes nothing.
+-- `walk_state::first_open`: the loop keeps that the answer is that of the search from e on.
 use borrow.Author.Needs.{needs}
 use borrow.Author.Tests.{not-true, not-false}
 use mathlib.Core.Path.{refl}

@@ -1,5 +1,5 @@
 -- `walk_state::gathered`: the loop keeps that `all` has the edges of the candidates gone through, and that those of `left` are
--- what is missing. Assumes nothing.
+-- what is missing.
 use borrow.Author.Needs.{needs}
 use borrow.Author.Tests.{not-true, not-false}
 use native.Mathlib.Omega.{arith}

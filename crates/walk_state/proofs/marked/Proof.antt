@@ -1,4 +1,4 @@
--- `walk_state::marked`: the edge passed is the lowest ahead, so that all below it are the e lowest. Assumes nothing.
+-- `walk_state::marked`: the edge passed is the lowest ahead, so that all below it are the e lowest.
 use borrow.Author.Needs.{needs}
 use native.Mathlib.Omega.{arith}
 use Prim.Native.Nat.{_^_, _<_}

@@ -1,5 +1,5 @@
 -- `walk_state::settled`: the loop keeps that what is left of the whole sweeps ends as they do from the first state (`Sweeping`).
--- Each edge passed leaves fewer undecided, or as many and fewer marks. Assumes nothing.
+-- Each edge passed leaves fewer undecided, or as many and fewer marks.
 use borrow.Author.Needs.{needs}
 use borrow.Author.Tests.{not-true, not-false}
 use mathlib.Core.Path.{subst}

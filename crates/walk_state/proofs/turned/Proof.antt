@@ -1,4 +1,4 @@
--- `walk_state::turned`: where none is ahead, the next sweep begins. Assumes nothing.
+-- `walk_state::turned`: where none is ahead, the next sweep begins.
 use borrow.Author.Needs.{needs}
 use Rattle.walk_state.proofs.Lowest.{is-none, is-some}
 use Rattle.walk_state.proofs.Marking.{turned-over, turned-on}

@@ -1,4 +1,4 @@
--- `clerk_reply::kinds::put_checked`: what is said of the check is put. Each need goes back to the check and to the start. Assumes nothing.
+-- `clerk_reply::kinds::put_checked`: what is said of the check is put. Each need goes back to the check and to the start.
 use mathlib.Core.Path.{_≡_}
 use native.Mathlib.Omega.{arith}
 use lib.Dec.{lit≤}

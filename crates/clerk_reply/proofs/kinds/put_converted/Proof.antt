@@ -1,5 +1,5 @@
 -- `clerk_reply::kinds::put_converted`: the answer is said and read, and the rooms are put behind. Each need goes back to the calls and to
--- the start. Assumes nothing.
+-- the start.
 use mathlib.Core.List.{List, _++_}
 use mathlib.Core.Path.{_≡_}
 use Prim.Native.Nat.{ℕ}

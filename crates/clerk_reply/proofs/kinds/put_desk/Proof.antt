@@ -1,5 +1,4 @@
--- `clerk_reply::kinds::put_desk`: what is said of the text is put, and its room. Each need goes back to the calls and to the start. Assumes
--- nothing.
+-- `clerk_reply::kinds::put_desk`: what is said of the text is put, and its room. Each need goes back to the calls and to the start.
 use mathlib.Core.List.{List, _++_}
 use mathlib.Core.Path.{_≡_}
 use Prim.Native.Nat.{ℕ}

@@ -1,5 +1,5 @@
 -- `clerk_reply::kinds::put_faces`: what is said of the writing is put, and its room, where the solid has two words. Each need goes back to
--- the calls and to the start. Assumes nothing.
+-- the calls and to the start.
 use mathlib.Core.List.{List, _++_}
 use mathlib.Core.Path.{_≡_, sym, _∙_}
 use Prim.Native.Nat.{ℕ}

@@ -1,4 +1,4 @@
--- `clerk_reply::kinds::put_hello`: the text is put. Assumes nothing.
+-- `clerk_reply::kinds::put_hello`: the text is put.
 use mathlib.Core.Path.{refl}
 use Rattle.paper.specs.Desk.{text}
 use Rattle.clerk_reply.specs.Replies.{helloReply}

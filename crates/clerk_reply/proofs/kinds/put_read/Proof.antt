@@ -1,5 +1,4 @@
 -- `clerk_reply::kinds::put_read`: what reading leaves in rooms of zeros is put. Each need goes back to the reading and to the start.
--- Assumes nothing.
 use mathlib.Core.List.{List, _++_}
 use mathlib.Core.Path.{_≡_}
 use Prim.Native.Nat.{ℕ}

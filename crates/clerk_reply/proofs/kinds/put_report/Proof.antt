@@ -1,5 +1,4 @@
--- `clerk_reply::kinds::put_report`: four parts are put behind one another. Each need goes back to the calls and to the start. Assumes
--- nothing.
+-- `clerk_reply::kinds::put_report`: four parts are put behind one another. Each need goes back to the calls and to the start.
 use Rattle.desk_lines.proofs.Putting.{fits-first, fits-next, puts-both}
 use Rattle.clerk_words.specs.Words.{wordsBytes}
 use borrow.Author.Needs.{needs}

@@ -1,5 +1,4 @@
--- `clerk_reply::kinds::put_said`: the bytes are put behind what is said. Each need goes back to the calls and to the start. Assumes
--- nothing.
+-- `clerk_reply::kinds::put_said`: the bytes are put behind what is said. Each need goes back to the calls and to the start.
 use Rattle.desk_lines.proofs.Putting.{fits-first, fits-next, puts-both}
 use borrow.Author.Needs.{needs}
 use Rattle.clerk_reply.proofs.kinds.put_said.Statement.{statement}

@@ -1,5 +1,5 @@
 -- `clerk_reply::kinds::put_sheet`: the numbers are taken to an array, whose front is written, where they are whole words. Each need goes
--- back to the calls and to the start. Assumes nothing.
+-- back to the calls and to the start.
 use mathlib.Core.List.{List}
 use mathlib.Core.Path.{sym, ap, _∙_}
 use Prim.Native.Nat.{_/_}

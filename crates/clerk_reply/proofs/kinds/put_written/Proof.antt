@@ -1,5 +1,4 @@
 -- `clerk_reply::kinds::put_written`: what is said of the writing is put, and its room. Each need goes back to the writing and to the start.
--- Assumes nothing.
 use mathlib.Core.List.{List, _++_}
 use mathlib.Core.Path.{_≡_}
 use Prim.Native.Nat.{ℕ}

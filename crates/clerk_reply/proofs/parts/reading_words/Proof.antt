@@ -1,5 +1,4 @@
--- `clerk_reply::parts::reading_words`: the words of the reading, whose volume is a number. Each need goes back to the reading. Assumes
--- nothing.
+-- `clerk_reply::parts::reading_words`: the words of the reading, whose volume is a number. Each need goes back to the reading.
 use mathlib.Core.Path.{sym, _∙_}
 use Rattle.clerk_reply.proofs.Reading.{volume-has-bits, words-are}
 use borrow.Author.Needs.{needs}

@@ -1,4 +1,4 @@
--- `clerk_reply::parts::said_words`: what is said is told to seven zeros. Assumes nothing.
+-- `clerk_reply::parts::said_words`: what is said is told to seven zeros.
 use borrow.Author.Needs.{needs}
 use Rattle.clerk_reply.proofs.parts.said_words.Statement.{statement}
 use Rattle.clerk_reply.proofs.parts.said_words.Tie as tie

@@ -1,4 +1,4 @@
--- `convert::walked::walk_drawing`: rooms with nothing in them are lent to the tables, and the tables to the walk. Assumes nothing.
+-- `convert::walked::walk_drawing`: rooms with nothing in them are lent to the tables, and the tables to the walk.
 use mathlib.Core.List.{List}
 use mathlib.Core.Path.{_≡_, subst}
 use Prim.Native.Nat.{ℕ}

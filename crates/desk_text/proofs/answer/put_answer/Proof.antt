@@ -1,5 +1,5 @@
 -- `desk_text::answer::put_answer`: each arm puts the text that its answer has. Each need goes back to where the arm's head was made, and to
--- the start. Assumes nothing.
+-- the start.
 use mathlib.Core.List.{List}
 use mathlib.Core.Path.{_≡_}
 use Prim.Native.Nat.{ℕ}

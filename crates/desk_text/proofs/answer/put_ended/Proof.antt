@@ -1,5 +1,5 @@
 -- `desk_text::answer::put_ended`: the last line is put behind the head. Each need goes back from its call to the one before and to the
--- start. Assumes nothing.
+-- start.
 use Rattle.desk_lines.proofs.Putting.{fits-first, fits-next, puts-both}
 use borrow.Author.Needs.{needs}
 use Rattle.desk_text.proofs.answer.put_ended.Statement.{statement}

@@ -1,5 +1,5 @@
 -- `desk_text::answer::put_refused`: the line's end is put behind its fields. Each need goes back from its call to the one before and to the
--- start. Assumes nothing.
+-- start.
 use Rattle.paper.specs.Desk.{text}
 use Rattle.desk_lines.proofs.Putting.{fits-first, fits-next, puts-both}
 use borrow.Author.Needs.{needs}

@@ -1,5 +1,5 @@
 -- `desk_text::answer::put_report`: four parts are put behind one another. Each need goes back from its call to the ones before and to the
--- start. Assumes nothing.
+-- start.
 use Rattle.paper.specs.Desk.{text, solidsText}
 use Rattle.desk_lines.specs.Put.{fieldText}
 use Rattle.desk_lines.proofs.Putting.{fits-first, fits-next, puts-both}

@@ -1,4 +1,4 @@
--- `drawing_lists::lend::is_bad_count`: the code asks for a remainder and then for the count. Assumes nothing.
+-- `drawing_lists::lend::is_bad_count`: the code asks for a remainder and then for the count.
 use mathlib.Core.Path.{refl}
 use borrow.Author.Tests.{eq-eqb, ne-eqb}
 use borrow.Author.Needs.{needs}

@@ -1,4 +1,4 @@
--- `drawing_lists::lend::lent`: the two counts of 5 in order, and then the contents. Assumes nothing.
+-- `drawing_lists::lend::lent`: the two counts of 5 in order, and then the contents.
 use Rattle.paper.specs.Format.{leastVertices}
 use lib.ListN.{length}
 use mathlib.Core.Bool.{false}

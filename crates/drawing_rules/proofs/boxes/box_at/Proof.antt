@@ -1,4 +1,4 @@
--- `drawing_rules::boxes::box_at`: the two corners that are read are the box. Assumes nothing.
+-- `drawing_rules::boxes::box_at`: the two corners that are read are the box.
 use borrow.Author.Needs.{needs}
 use Rattle.drawing_rules.proofs.boxes.box_at.Statement.{statement}
 use Rattle.drawing_rules.proofs.boxes.box_at.Tie as tie

@@ -1,4 +1,4 @@
--- `drawing_rules::boxes::put_boxes`: the loop keeps that the first e boxes are those of the edges. Assumes nothing.
+-- `drawing_rules::boxes::put_boxes`: the loop keeps that the first e boxes are those of the edges.
 use mathlib.Core.List.{List}
 use mathlib.Core.Path.{_∙_, _≡_, refl, ap}
 use Prim.Native.Nat.{_*_, _+_, _-_, _/_, _<_, _≤_, ℕ}

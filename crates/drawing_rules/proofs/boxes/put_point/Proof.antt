@@ -1,4 +1,4 @@
--- `drawing_rules::boxes::put_point`: each coordinate is stored as it is. Assumes nothing.
+-- `drawing_rules::boxes::put_point`: each coordinate is stored as it is.
 use Prim.Native.Nat.{_*_, _+_}
 use native.Mathlib.Omega.{arith}
 use borrow.Author.Needs.{needs}

@@ -1,4 +1,4 @@
--- `drawing_rules::ends::end_at`: an end of the list is one of the vertices, so its point can be read. Assumes nothing.
+-- `drawing_rules::ends::end_at`: an end of the list is one of the vertices, so its point can be read.
 use mathlib.Core.Path.{_∙_, ap}
 use native.Mathlib.Omega.{arith}
 use denote.Ref.{now}

@@ -1,4 +1,4 @@
--- `drawing_rules::meets::edge_meets`: the lowest edge that a pair makes offend is the lowest that the rule finds. Assumes nothing.
+-- `drawing_rules::meets::edge_meets`: the lowest edge that a pair makes offend is the lowest that the rule finds.
 use mathlib.Core.List.{[], _∷_}
 use mathlib.Core.Option.{Option}
 use mathlib.Core.Path.{_∙_, ap, sym}

@@ -1,4 +1,4 @@
--- `drawing_rules::meets::lowest`: a set that has none is passed, and the first of any other is the lowest. Assumes nothing.
+-- `drawing_rules::meets::lowest`: a set that has none is passed, and the first of any other is the lowest.
 use mathlib.Core.List.{[]}
 use mathlib.Core.Option.{some}
 use mathlib.Core.Path.{_∙_, ap, sym}

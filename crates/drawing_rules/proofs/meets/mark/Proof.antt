@@ -1,4 +1,4 @@
--- `drawing_rules::meets::mark`: the number is put into the set just where it offends. Assumes nothing.
+-- `drawing_rules::meets::mark`: the number is put into the set just where it offends.
 use mathlib.Core.Bool.{Bool}
 use mathlib.Core.Path.{subst, sym}
 use borrow.Author.Needs.{needs}

@@ -1,4 +1,4 @@
--- `drawing_rules::meets::mark_both`: where neither offends nothing is marked. Assumes nothing.
+-- `drawing_rules::meets::mark_both`: where neither offends nothing is marked.
 use mathlib.Core.Bool.{Bool, true, _||_}
 use mathlib.Core.Path.{_≡_, subst, sym, _∙_}
 use borrow.Author.Needs.{needs}

@@ -1,4 +1,4 @@
--- `drawing_rules::meets::offenders`: the loop keeps that what is left to mark makes the whole of what is marked. Assumes nothing.
+-- `drawing_rules::meets::offenders`: the loop keeps that what is left to mark makes the whole of what is marked.
 use mathlib.Core.List.{List, []}
 use mathlib.Core.Bool.{Bool}
 use mathlib.Core.Path.{_∙_, _≡_, subst, sym}

@@ -1,5 +1,4 @@
--- `drawing_rules::meets::pair`: edges whose boxes are apart have nothing in common, and others are asked by their ends. Assumes
--- nothing.
+-- `drawing_rules::meets::pair`: edges whose boxes are apart have nothing in common, and others are asked by their ends.
 use mathlib.Core.Path.{_∙_, sym}
 use native.Mathlib.Omega.{arith}
 use borrow.Author.Needs.{needs}

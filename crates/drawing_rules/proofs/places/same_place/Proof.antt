@@ -1,4 +1,4 @@
--- `drawing_rules::places::same_place`: the loop keeps that what is left to search holds the whole answer. Assumes nothing.
+-- `drawing_rules::places::same_place`: the loop keeps that what is left to search holds the whole answer.
 use mathlib.Core.List.{[]}
 use mathlib.Core.Bool.{Bool}
 use mathlib.Core.Path.{_∙_, _≡_, ap, sym}

@@ -1,5 +1,4 @@
 -- `drawing_rules::places::shares`: the loop keeps that what is left to search decides, since no vertex between u and w is where u is.
--- Assumes nothing.
 use mathlib.Core.Bool.{Bool}
 use mathlib.Core.Path.{_∙_, _≡_, sym}
 use Prim.Native.Nat.{_-_, _≤_, ℕ}

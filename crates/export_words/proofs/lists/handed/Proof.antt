@@ -1,4 +1,4 @@
--- `export_words::lists::handed`: each way out knows the lengths of the lists that were tested. Its three ways out are three laws. Assumes nothing.
+-- `export_words::lists::handed`: each way out knows the lengths of the lists that were tested. Its three ways out are three laws.
 use native.Mathlib.Omega.{arith}
 use denote.Ref.{now}
 use Rattle.export_words.proofs.Handing.{points-short, links-short, both-handed}

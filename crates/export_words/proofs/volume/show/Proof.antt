@@ -1,4 +1,4 @@
--- `export_words::volume::show`: each way out knows which reading it has, and whether a double was lent. Assumes nothing.
+-- `export_words::volume::show`: each way out knows which reading it has, and whether a double was lent.
 use denote.Ref.{now}
 use Rattle.export_words.proofs.Showing.{volume-shown, none-lent, none-shown}
 use borrow.Author.Needs.{needs}

@@ -1,4 +1,4 @@
--- `export_words::words::tell`: as many words are copied as there are, or as there is room for. Assumes nothing.
+-- `export_words::words::tell`: as many words are copied as there are, or as there is room for.
 use borrow.Author.Needs.{needs}
 use denote.Ref.{now}
 use Rattle.export_words.proofs.Telling.{tells-short, tells-whole}

@@ -1,4 +1,4 @@
--- `export_words::words::verdict_said`: each arm knows which verdict it has. Assumes nothing.
+-- `export_words::words::verdict_said`: each arm knows which verdict it has.
 use mathlib.Core.Path.{refl}
 use native.Mathlib.Omega.{arith}
 use borrow.Author.Needs.{needs}

@@ -1,4 +1,4 @@
--- `export_words::words::written_said`: each arm knows which answer it has. Assumes nothing.
+-- `export_words::words::written_said`: each arm knows which answer it has.
 use borrow.Author.Needs.{needs}
 use Rattle.paper.specs.Reading.{writtenSays}
 use mathlib.Core.Path.{refl}

@@ -1,4 +1,4 @@
--- `faces_reader::read::are_below`: the loop keeps that the numbers left decide for all, since those before are low. Assumes nothing.
+-- `faces_reader::read::are_below`: the loop keeps that the numbers left decide for all, since those before are low.
 use mathlib.Core.Path.{_≡_, refl, sym}
 use mathlib.Core.List.{List}
 use Prim.Native.Nat.{ℕ, _≤_, _<_, _-_, _+_, _*_}

@@ -1,4 +1,4 @@
--- `faces_reader::read::cell`: cell 0 of a row is the corner count, the next are the corners, the rest is fill. Assumes nothing.
+-- `faces_reader::read::cell`: cell 0 of a row is the corner count, the next are the corners, the rest is fill.
 use mathlib.Core.Path.{_≡_, _∙_, sym, ap}
 use mathlib.Core.List.{List}
 use Prim.Native.Nat.{ℕ, suc, _≤_, _<_, _-_, _+_, _*_}

@@ -1,4 +1,4 @@
--- `faces_reader::read::closes`: the length is tested first, then the bits behind the first n. Assumes nothing.
+-- `faces_reader::read::closes`: the length is tested first, then the bits behind the first n.
 use mathlib.Core.Path.{refl}
 use borrow.Author.Tests.{eq-eqb, ne-eqb}
 use Rattle.paper.specs.Format.{fillAfter}

@@ -1,4 +1,4 @@
--- `faces_reader::read::count_in`: each return is one test of a list's beginning that decides, those before it passed. Assumes nothing.
+-- `faces_reader::read::count_in`: each return is one test of a list's beginning that decides, those before it passed.
 use mathlib.Core.Path.{_≡_, _∙_, sym, refl}
 use mathlib.Core.Bool.{true}
 use borrow.Author.Needs.{needs}

@@ -1,5 +1,5 @@
 -- `faces_reader::read::face_at`: each return is one test of the face that decides, those before it passed. The bits are tested before
--- they are read. Assumes nothing.
+-- they are read.
 use mathlib.Core.Path.{_≡_, _∙_, sym, ap, subst}
 use mathlib.Core.Option.{some}
 use Prim.Native.Nat.{ℕ, _*_, _≤_, _<_}

@@ -1,4 +1,4 @@
--- `faces_reader::read::no_faces`: refusal 20, no faces and rows of zeros. Assumes nothing.
+-- `faces_reader::read::no_faces`: refusal 20, no faces and rows of zeros.
 use mathlib.Core.Path.{ap}
 use mathlib.Core.List.{[]}
 use Rattle.pack.specs.Fill.{padded}

@@ -1,4 +1,4 @@
--- `faces_reader::read::put_row`: the loop keeps that the first j cells of the row are pasted at byte `at`. Assumes nothing.
+-- `faces_reader::read::put_row`: the loop keeps that the first j cells of the row are pasted at byte `at`.
 use mathlib.Core.Path.{_≡_, refl, sym, ap, subst, _∙_}
 use mathlib.Core.List.{List}
 use Prim.Native.Nat.{ℕ, _≤_, _-_, _+_}

@@ -1,5 +1,5 @@
 -- `faces_reader::read::read`: the loop keeps that the first k faces of the list fit, and that rows holds them and nothing else. A face
--- that does not fit refuses the list, and so does a wrong end. Assumes nothing.
+-- that does not fit refuses the list, and so does a wrong end.
 use mathlib.Core.Path.{sym, ap, _∙_}
 use Prim.Native.Nat.{ℕ, _*_, _-_, _≤_, _<_}
 use borrow.Author.Needs.{needs}

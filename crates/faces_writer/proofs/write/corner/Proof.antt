@@ -1,5 +1,4 @@
 -- `faces_writer::write::corner`: in order corner j stands at place j; against it the first stays first, and j stands j from the end.
--- Assumes nothing.
 use Prim.Native.Nat.{_+_, _-_}
 use borrow.Author.Needs.{needs}
 use Rattle.faces_writer.proofs.RowAt.{corner-same, corner-first, corner-back}

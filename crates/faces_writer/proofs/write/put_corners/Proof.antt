@@ -1,4 +1,4 @@
--- `faces_writer::write::put_corners`: the loop keeps that the first j corners stand in their fields. Assumes nothing.
+-- `faces_writer::write::put_corners`: the loop keeps that the first j corners stand in their fields.
 use mathlib.Core.Path.{_≡_, _∙_, sym, ap, ap₂, refl}
 use mathlib.Core.List.{List}
 use Prim.Native.Nat.{ℕ, _≤_, _-_, _*_, _+_}

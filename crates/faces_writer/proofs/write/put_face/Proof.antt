@@ -1,4 +1,4 @@
--- `faces_writer::write::put_face`: the corner count is put, and the corners behind it; a row that fits has them. Assumes nothing.
+-- `faces_writer::write::put_face`: the corner count is put, and the corners behind it; a row that fits has them.
 use mathlib.Core.Path.{_≡_, sym, ap, _∙_}
 use Prim.Native.Nat.{ℕ, _+_, _*_, _≤_}
 use lib.ListN.{length}

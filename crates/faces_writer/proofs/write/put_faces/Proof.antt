@@ -1,4 +1,4 @@
--- `faces_writer::write::put_faces`: the loop keeps that the room, with the faces left at bit b, will hold all. Assumes nothing.
+-- `faces_writer::write::put_faces`: the loop keeps that the room, with the faces left at bit b, will hold all.
 use Prim.Native.Nat.{_-_}
 use Rattle.paper.specs.Numbers.{mostCandidates}
 use Rattle.faces_writer.proofs.SendFaces.{Sending, send-start, send-one, send-next, send-end}

@@ -1,5 +1,5 @@
 -- `faces_writer::write::put_list`: four calls write one behind the other: the edition, the count, the faces, the fill. What each leaves
--- is the room of the next. Assumes nothing.
+-- is the room of the next.
 use mathlib.Core.Path.{_≡_, _∙_}
 use mathlib.Core.List.{List}
 use Prim.Native.Nat.{_+_, _≤_}

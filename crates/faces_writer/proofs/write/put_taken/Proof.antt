@@ -1,4 +1,4 @@
--- `faces_writer::write::put_taken`: a taken candidate is the one face that is put, one left out is no face. Assumes nothing.
+-- `faces_writer::write::put_taken`: a taken candidate is the one face that is put, one left out is no face.
 use mathlib.Core.Path.{_≡_, sym, ap, _∙_, subst}
 use mathlib.Core.List.{List, []}
 use Prim.Native.Nat.{_+_}

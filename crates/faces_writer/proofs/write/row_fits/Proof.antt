@@ -1,4 +1,4 @@
--- `faces_writer::write::row_fits`: each return is one test of the row that decides, those before it passed. Assumes nothing.
+-- `faces_writer::write::row_fits`: each return is one test of the row that decides, those before it passed.
 use mathlib.Core.Path.{_≡_, sym, _∙_}
 use mathlib.Core.Bool.{false}
 use Prim.Native.Nat.{ℕ, _*_, _+_, _≤_}

@@ -1,4 +1,4 @@
--- `faces_writer::write::weigh`: a candidate that is not taken weighs nothing, a taken one what its corner count says. Assumes nothing.
+-- `faces_writer::write::weigh`: a candidate that is not taken weighs nothing, a taken one what its corner count says.
 use mathlib.Core.Path.{_≡_, sym, ap, _∙_}
 use mathlib.Core.Bool.{true}
 use mathlib.Core.Option.{some}

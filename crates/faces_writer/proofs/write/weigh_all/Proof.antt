@@ -1,5 +1,4 @@
 -- `faces_writer::write::weigh_all`: the loop keeps that what the candidates before k weigh and what the rest weighs is the whole.
--- Assumes nothing.
 use mathlib.Core.Path.{sym, _∙_}
 use Prim.Native.Nat.{ℕ, _≤_, _-_}
 use borrow.Author.Needs.{needs}

@@ -1,5 +1,5 @@
 -- `faces_writer::write::write`: each return is one way out of the table: faces that do not fit, their count, the room, the list. What
--- the faces weigh is known from `weigh_all`. Assumes nothing.
+-- the faces weigh is known from `weigh_all`.
 use mathlib.Core.Path.{_≡_, sym, ap, _∙_}
 use mathlib.Core.List.{List}
 use Prim.Native.Nat.{ℕ, _+_, _≤_}

@@ -1,5 +1,5 @@
 -- `loop_search::lines::{on_line, step}`: the loop of `on_line` keeps that the rooms hold what was found by way of the neighbours gone
--- through. Assumes nothing.
+-- through.
 mod Claims
 mod StepNeeds
 use mathlib.Core.Bool.{true, false, not}

@@ -1,4 +1,4 @@
--- `loop_search::paths::in_plane`: the loop keeps that the rooms hold what was found by way of the neighbours gone through. Assumes nothing.
+-- `loop_search::paths::in_plane`: the loop keeps that the rooms hold what was found by way of the neighbours gone through.
 use native.Mathlib.Omega.{arith}
 use mathlib.Core.Bool.{true, false, not}
 use mathlib.Core.List.{List}

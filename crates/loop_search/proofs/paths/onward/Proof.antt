@@ -1,4 +1,4 @@
--- `loop_search::paths::onward`: the last vertex's word of neighbours, and those of them that are free. Assumes nothing.
+-- `loop_search::paths::onward`: the last vertex's word of neighbours, and those of them that are free.
 use Prim.Native.Nat.{_-_}
 use native.Mathlib.Omega.{arith}
 use borrow.Author.Needs.{needs}

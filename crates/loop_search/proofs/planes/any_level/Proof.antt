@@ -1,4 +1,4 @@
--- `loop_search::planes::any_level`: the loop keeps that no vertex gone through is in the plane. Assumes nothing.
+-- `loop_search::planes::any_level`: the loop keeps that no vertex gone through is in the plane.
 use mathlib.Core.Bool.{true, false, not}
 use mathlib.Core.Path.{_≡_, sym, ap, _∙_}
 use Prim.Native.Nat.{_<_}

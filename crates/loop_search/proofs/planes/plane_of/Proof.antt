@@ -1,4 +1,4 @@
--- `loop_search::planes::plane_of`: the loop keeps that the set has those of the first w vertices that are in the plane. Assumes nothing.
+-- `loop_search::planes::plane_of`: the loop keeps that the set has those of the first w vertices that are in the plane.
 use mathlib.Core.Bool.{Bool}
 use mathlib.Core.List.{List, map}
 use mathlib.Core.Logic.{⊎-elim}

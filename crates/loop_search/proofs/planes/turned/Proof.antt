@@ -1,4 +1,4 @@
--- `loop_search::planes::turned`: the cross product of the path's first step and of that to w says which way it is. Assumes nothing.
+-- `loop_search::planes::turned`: the cross product of the path's first step and of that to w says which way it is.
 use mathlib.Core.Bool.{Bool, true, false}
 use mathlib.Core.List.{List, map}
 use mathlib.Core.Path.{_≡_, sym, ap, subst, _∙_}

@@ -1,4 +1,4 @@
--- `loop_search::rooms::put_row`: behind the corner count, the loop keeps that the first i cells of the path are pasted. Assumes nothing.
+-- `loop_search::rooms::put_row`: behind the corner count, the loop keeps that the first i cells of the path are pasted.
 use mathlib.Core.List.{List, _∷_}
 use mathlib.Core.Path.{_≡_, refl, sym, ap, subst, _∙_}
 use Prim.Native.Nat.{ℕ, _≤_, _-_, _+_, _*_}

@@ -1,4 +1,4 @@
--- `loop_search::rooms::take_if_closed`: the last vertex is among those where a loop may end, or it isn't. Assumes nothing.
+-- `loop_search::rooms::take_if_closed`: the last vertex is among those where a loop may end, or it isn't.
 use Prim.Native.Nat.{_-_}
 use native.Mathlib.Omega.{arith}
 use borrow.Author.Needs.{needs}

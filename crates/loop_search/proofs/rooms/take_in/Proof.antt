@@ -1,4 +1,4 @@
--- `loop_search::rooms::take_in`: the row and the plane go behind those that are there, or the loop is one too many. Assumes nothing.
+-- `loop_search::rooms::take_in`: the row and the plane go behind those that are there, or the loop is one too many.
 use native.Mathlib.Omega.{arith}
 use borrow.Author.Needs.{needs}
 use Rattle.loop_search.proofs.Takes.{taken-over, taken-more}

@@ -1,5 +1,4 @@
 -- `polygon::points::cross`: each product and each difference of two fits an `i64`, and the differences are read back as they are.
--- Assumes nothing.
 use Rattle.exact.proofs.Machine.{asked, reads}
 use Rattle.exact.proofs.Ring.{_⊖_, _⊗_, var}
 use Rattle.paper.specs.Points.{cross}

@@ -1,4 +1,4 @@
--- `polygon::points::det`: the cross product is small enough for the scalar product. Assumes nothing.
+-- `polygon::points::det`: the cross product is small enough for the scalar product.
 use mathlib.Core.Path.{_∙_, ap}
 use borrow.Author.Needs.{needs}
 use Rattle.paper.specs.Points.{cross, det, dot}

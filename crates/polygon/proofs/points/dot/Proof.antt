@@ -1,4 +1,4 @@
--- `polygon::points::dot`: each product and each sum of them fits an `i64`, and the last is read back as it is. Assumes nothing.
+-- `polygon::points::dot`: each product and each sum of them fits an `i64`, and the last is read back as it is.
 use Rattle.exact.proofs.Machine.{asked, reads}
 use Rattle.exact.proofs.Ring.{_⊕_, _⊗_, var}
 use Rattle.paper.specs.Points.{dot}

@@ -1,4 +1,4 @@
--- `polygon::points::is_origin`: three tests for 0, each of a number that is read back as it is. Assumes nothing.
+-- `polygon::points::is_origin`: three tests for 0, each of a number that is read back as it is.
 use mathlib.Core.Bool.{_&&_}
 use mathlib.Core.Path.{_∙_, ap}
 use borrow.Author.Needs.{needs}

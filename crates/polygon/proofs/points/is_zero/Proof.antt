@@ -1,4 +1,4 @@
--- `polygon::points::is_zero`: the bits of a number are 0 just where it is. Assumes nothing.
+-- `polygon::points::is_zero`: the bits of a number are 0 just where it is.
 use Rattle.polygon.proofs.Zeros.{zero-is}
 use Rattle.polygon.proofs.points.is_zero.Statement.{statement}
 use Rattle.polygon.proofs.points.is_zero.Tie as tie

@@ -1,4 +1,4 @@
--- `polygon::points::minus`: each difference of two coordinates fits an `i64`, and is read back as it is. Assumes nothing.
+-- `polygon::points::minus`: each difference of two coordinates fits an `i64`, and is read back as it is.
 use Rattle.exact.proofs.Machine.{asked, reads}
 use Rattle.exact.proofs.Ring.{_⊖_, var}
 use Rattle.paper.specs.Points.{minus}

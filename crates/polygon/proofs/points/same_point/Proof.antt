@@ -1,4 +1,4 @@
--- `polygon::points::same_point`: two points are the same where their difference is the origin. Assumes nothing.
+-- `polygon::points::same_point`: two points are the same where their difference is the origin.
 use mathlib.Core.Path.{_∙_, ap}
 use borrow.Author.Needs.{needs}
 use Rattle.paper.specs.Points.{isOrigin, minus, samePoint}

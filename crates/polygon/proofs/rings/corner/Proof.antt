@@ -1,4 +1,4 @@
--- `polygon::rings::corner`: the place that is read is one of the row's corners, and the ring has its point there. Assumes nothing.
+-- `polygon::rings::corner`: the place that is read is one of the row's corners, and the ring has its point there.
 use mathlib.Core.Path.{_∙_, ap, subst, sym}
 use Prim.Native.Nat.{_<_, ℕ}
 use native.Mathlib.Omega.{arith}

@@ -1,5 +1,4 @@
--- `polygon::rings::in_plane`: the loop keeps that what is left of row h decides, since the corners before are in the plane. Assumes
--- nothing.
+-- `polygon::rings::in_plane`: the loop keeps that what is left of row h decides, since the corners before are in the plane.
 use mathlib.Core.Bool.{Bool, not}
 use mathlib.Core.Path.{_∙_, _≡_, ap, refl, sym}
 use Prim.Native.Nat.{_-_, _≤_}

@@ -1,4 +1,4 @@
--- `polygon::rings::normal`: the loop keeps that the sum is that of the first j sides, and that a is corner j. Assumes nothing.
+-- `polygon::rings::normal`: the loop keeps that the sum is that of the first j sides, and that a is corner j.
 use mathlib.Core.Path.{_∙_, _≡_, sym}
 use Prim.Native.Nat.{_-_, _≤_}
 use native.Mathlib.Omega.{arith}

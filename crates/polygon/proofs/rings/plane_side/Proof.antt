@@ -1,4 +1,4 @@
--- `polygon::rings::plane_side`: the step from the plane to the point is small enough for the scalar product. Assumes nothing.
+-- `polygon::rings::plane_side`: the step from the plane to the point is small enough for the scalar product.
 use mathlib.Core.Path.{_∙_, ap}
 use borrow.Author.Needs.{needs}
 use Rattle.paper.specs.Points.{dot, minus}

@@ -1,4 +1,4 @@
--- `polygon::rings::point_at`: the three places are in the list. Assumes nothing.
+-- `polygon::rings::point_at`: the three places are in the list.
 use native.Mathlib.Omega.{arith}
 use borrow.Author.Needs.{needs}
 use Rattle.polygon.specs.Rings.{pointOf}

@@ -1,4 +1,4 @@
--- `polygon::rings::round`: below n a place is itself, and below 2n it is n less. Assumes nothing.
+-- `polygon::rings::round`: below n a place is itself, and below 2n it is n less.
 use mathlib.Core.Path.{sym}
 use native.Mathlib.Omega.{arith}
 use Rattle.lists.proofs.Sides.{wrap-high, wrap-low}

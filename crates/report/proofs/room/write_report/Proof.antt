@@ -1,4 +1,4 @@
--- `report::room::write_report`: the two copies are the report. Assumes nothing.
+-- `report::room::write_report`: the two copies are the report.
 use borrow.Author.Needs.{needs}
 use Rattle.report.proofs.room.write_report.Statement.{statement}
 use Rattle.report.proofs.room.write_report.Tie as tie

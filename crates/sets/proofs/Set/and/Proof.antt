@@ -1,4 +1,4 @@
--- `sets::Set::and`: a bit of both words is a number of both sets. Assumes nothing.
+-- `sets::Set::and`: a bit of both words is a number of both sets.
 use Rattle.sets.proofs.Sets.{and-is}
 use Rattle.sets.proofs.Set.and.Statement.{statement}
 use Rattle.sets.proofs.Set.and.Tie as tie

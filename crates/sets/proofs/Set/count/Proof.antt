@@ -1,4 +1,4 @@
--- `sets::Set::count`: the ones of a word are the numbers of its set, at most 64. Assumes nothing.
+-- `sets::Set::count`: the ones of a word are the numbers of its set, at most 64.
 use native.Mathlib.Omega.{arith}
 use lib.Count.{ones}
 use Rattle.sets.specs.Sets.{Counted}

@@ -1,4 +1,4 @@
--- `sets::Set::has`: shifted by k, the bit of k is the lowest. Assumes nothing.
+-- `sets::Set::has`: shifted by k, the bit of k is the lowest.
 use borrow.Author.Needs.{needs}
 use Rattle.sets.proofs.Sets.{has-is}
 use Rattle.sets.proofs.Set.has.Statement.{statement}

@@ -1,4 +1,4 @@
--- `sets::Set::is_empty`: a word has no ones just where it is 0. Assumes nothing.
+-- `sets::Set::is_empty`: a word has no ones just where it is 0.
 use native.Mathlib.Omega.{arith}
 use Rattle.sets.proofs.Sets.{empty-is}
 use Rattle.sets.proofs.Set.is_empty.Statement.{statement}

@@ -1,4 +1,4 @@
--- `sets::Set::just`: 1, shifted by k, has the one bit of k. Assumes nothing.
+-- `sets::Set::just`: 1, shifted by k, has the one bit of k.
 use borrow.Author.Needs.{needs}
 use Rattle.sets.specs.Sets.{room}
 use Rattle.sets.proofs.Word.{one-shl}

@@ -1,5 +1,4 @@
 -- `sets::Set::lowest`: the zeros below the lowest one of a word are that number, which is below 64 since the set is not empty.
--- Assumes nothing.
 use native.Mathlib.Omega.{arith}
 use lib.Count.{trailingZeros}
 use Rattle.sets.specs.Sets.{room, Lowest}

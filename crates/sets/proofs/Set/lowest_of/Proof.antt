@@ -1,4 +1,4 @@
--- `sets::Set::lowest_of`: one less than 2 ^ n has the n lowest bits, and all 64 of them where n is 64. Assumes nothing.
+-- `sets::Set::lowest_of`: one less than 2 ^ n has the n lowest bits, and all 64 of them where n is 64.
 use mathlib.Core.Path.{_≡_, ap}
 use Prim.Native.Nat.{ℕ, _-_, _^_}
 use native.Mathlib.Omega.{arith}

@@ -1,4 +1,4 @@
--- `sets::Set::minus`: a bit of one word and not of the other is a number of the one set and not of the other. Assumes nothing.
+-- `sets::Set::minus`: a bit of one word and not of the other is a number of the one set and not of the other.
 use native.Mathlib.Omega.{arith}
 use Rattle.sets.proofs.Sets.{minus-is}
 use Rattle.sets.proofs.Set.minus.Statement.{statement}

@@ -1,4 +1,4 @@
--- `sets::Set::none`: the word 0 has no bit. Assumes nothing.
+-- `sets::Set::none`: the word 0 has no bit.
 use Rattle.sets.proofs.Sets.{none-is}
 use Rattle.sets.proofs.Set.none.Statement.{statement}
 use Rattle.sets.proofs.Set.none.Tie as tie

@@ -1,4 +1,4 @@
--- `sets::Set::of_edge`: a word of the list is a set of its own digits. Assumes nothing.
+-- `sets::Set::of_edge`: a word of the list is a set of its own digits.
 use native.Mathlib.Omega.{arith}
 use borrow.Author.Needs.{needs}
 use Rattle.sets.proofs.Sets.{edge-set}

@@ -1,4 +1,4 @@
--- `sets::Set::or`: a bit of either word is a number of either set. Assumes nothing.
+-- `sets::Set::or`: a bit of either word is a number of either set.
 use Rattle.sets.proofs.Sets.{or-is}
 use Rattle.sets.proofs.Set.or.Statement.{statement}
 use Rattle.sets.proofs.Set.or.Tie as tie

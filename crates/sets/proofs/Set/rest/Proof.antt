@@ -1,5 +1,4 @@
 -- `sets::Set::rest`: one less has the digits above the lowest one and not that one, and what it has below it the word has not.
--- Assumes nothing.
 use native.Mathlib.Omega.{arith}
 use Rattle.sets.proofs.Sets.{word-some, rest-is}
 use Rattle.sets.proofs.Set.rest.Statement.{statement}

@@ -1,4 +1,4 @@
--- `sets::Set::with`: 1, shifted by k, has the one bit of k, which the word then has too. Assumes nothing.
+-- `sets::Set::with`: 1, shifted by k, has the one bit of k, which the word then has too.
 use borrow.Author.Needs.{needs}
 use Rattle.sets.specs.Sets.{room}
 use Rattle.sets.proofs.Word.{one-shl}

@@ -1,4 +1,4 @@
--- `sets::Set::without`: 1, shifted by k, has the one bit of k, which the word then has not. Assumes nothing.
+-- `sets::Set::without`: 1, shifted by k, has the one bit of k, which the word then has not.
 use native.Mathlib.Omega.{arith}
 use borrow.Author.Needs.{needs}
 use Rattle.sets.specs.Sets.{room}

@@ -1,5 +1,4 @@
--- `sheet_reader::read::coordinates`: the loop keeps that the first k coordinates stand in the list, and zeros behind them. Assumes
--- nothing.
+-- `sheet_reader::read::coordinates`: the loop keeps that the first k coordinates stand in the list, and zeros behind them.
 use mathlib.Core.Path.{_≡_, _∙_, sym, ap}
 use mathlib.Core.List.{List, [], _∷_, _++_, map, map-append}
 use Prim.Native.Nat.{ℕ, _≤_, _<_, _-_, _*_, _+_}

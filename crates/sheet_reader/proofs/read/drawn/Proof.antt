@@ -1,5 +1,4 @@
--- `sheet_reader::read::drawn`: what 3 to 7 leave bounds every field that is read, and the values read are the definition's. Assumes
--- nothing.
+-- `sheet_reader::read::drawn`: what 3 to 7 leave bounds every field that is read, and the values read are the definition's.
 use mathlib.Core.Path.{_∙_}
 use native.Mathlib.Omega.{arith}
 use borrow.Author.Needs.{needs}

@@ -1,4 +1,4 @@
--- `sheet_reader::read::kept`: what is returned follows the answer of the lists' checks. Assumes nothing.
+-- `sheet_reader::read::kept`: what is returned follows the answer of the lists' checks.
 use mathlib.Core.Path.{_≡_, _∙_, sym, ap}
 use lib.Seq.{length-take-le}
 use Rattle.sheet_reader.specs.Kept.{keptFor, keptOf}

@@ -1,4 +1,4 @@
--- `sheet_reader::read::no_drawing`: arrays of zeros are empty lists, filled up. Assumes nothing.
+-- `sheet_reader::read::no_drawing`: arrays of zeros are empty lists, filled up.
 use mathlib.Core.Path.{refl}
 use Rattle.pack.specs.Fill.{padded}
 use Rattle.sheet_reader.proofs.read.no_drawing.Statement.{statement}

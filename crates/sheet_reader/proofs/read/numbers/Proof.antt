@@ -1,4 +1,4 @@
--- `sheet_reader::read::numbers`: the loop keeps that the first k numbers stand in the list, and zeros behind them. Assumes nothing.
+-- `sheet_reader::read::numbers`: the loop keeps that the first k numbers stand in the list, and zeros behind them.
 use mathlib.Core.Path.{_≡_, _∙_, sym, ap}
 use mathlib.Core.List.{List, [], _∷_, _++_}
 use Prim.Native.Nat.{ℕ, _≤_, _<_, _-_, _%_, _*_, _+_}

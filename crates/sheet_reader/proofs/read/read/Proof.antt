@@ -1,4 +1,4 @@
--- `sheet_reader::read::read`: a sheet that 3 to 7 refuse has no drawing, and any other is read. Assumes nothing.
+-- `sheet_reader::read::read`: a sheet that 3 to 7 refuse has no drawing, and any other is read.
 use mathlib.Core.Path.{_∙_, sym, ap}
 use Rattle.paper.specs.declared.Answer.the-variants as Answer
 use Rattle.paper.specs.declared.Drawing.{Drawing}

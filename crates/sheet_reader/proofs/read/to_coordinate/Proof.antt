@@ -1,4 +1,4 @@
--- `sheet_reader::read::to_coordinate`: a number of 11 bits is small, so the difference fits an `i64`. Assumes nothing.
+-- `sheet_reader::read::to_coordinate`: a number of 11 bits is small, so the difference fits an `i64`.
 use Prim.Native.Nat.{ℕ, _<_, _^_}
 use native.Mathlib.Nat.{lt-of-lt-of-le}
 use mir.Syntax.{w64}

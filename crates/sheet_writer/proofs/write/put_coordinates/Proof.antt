@@ -1,4 +1,4 @@
--- `sheet_writer::write::put_coordinates`: the loop keeps that the first k coordinates stand in their fields. Assumes nothing.
+-- `sheet_writer::write::put_coordinates`: the loop keeps that the first k coordinates stand in their fields.
 use mathlib.Core.Path.{_≡_, _∙_, sym, ap, ap₂, refl}
 use mathlib.Core.List.{List, map}
 use Prim.Native.Nat.{ℕ, _≤_, _<_, _-_, _*_, _+_}

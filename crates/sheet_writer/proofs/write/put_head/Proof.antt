@@ -1,4 +1,4 @@
--- `sheet_writer::write::put_head`: three fields one behind the other, each written to what the one before it left. Assumes nothing.
+-- `sheet_writer::write::put_head`: three fields one behind the other, each written to what the one before it left.
 use Rattle.pack.specs.Bits.{run}
 use Rattle.sheet_laws.proofs.Encoded.{head-put}
 use borrow.Author.Needs.{needs}

@@ -1,4 +1,4 @@
--- `sheet_writer::write::put_numbers`: the loop keeps that the first k numbers stand in their fields. Assumes nothing.
+-- `sheet_writer::write::put_numbers`: the loop keeps that the first k numbers stand in their fields.
 use mathlib.Core.Path.{_≡_, _∙_, sym, ap, refl}
 use mathlib.Core.List.{List}
 use Prim.Native.Nat.{ℕ, _≤_, _-_, _*_, _+_}

@@ -1,5 +1,5 @@
 -- `sheet_writer::write::put_sheet`: four calls write one behind the other, the head, the coordinates, the numbers and the fill. What
--- each leaves is the room of the next. Assumes nothing.
+-- each leaves is the room of the next.
 use mathlib.Core.Path.{_∙_}
 use native.Mathlib.Omega.{arith}
 use borrow.Author.Needs.{needs}

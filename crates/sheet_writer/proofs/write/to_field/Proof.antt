@@ -1,4 +1,4 @@
--- `sheet_writer::write::to_field`: a coordinate that passes 8 has a small sum with 1,000, which is not below 0. Assumes nothing.
+-- `sheet_writer::write::to_field`: a coordinate that passes 8 has a small sum with 1,000, which is not below 0.
 use mathlib.Core.Path.{_≡_, _∙_, ap}
 use mathlib.Core.Bool.{false}
 use lib.IntN.{ℤ, pos, natAbs, _+ℤ_}

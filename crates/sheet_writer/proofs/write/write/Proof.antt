@@ -1,5 +1,4 @@
 -- `sheet_writer::write::write`: refusals of the lists leave the room alone, then room that is short does; the rest is `put_sheet`.
--- Assumes nothing.
 use mathlib.Core.Path.{_≡_, _∙_, sym, ap, refl}
 use Prim.Native.Nat.{ℕ, _/_, _≤_}
 use native.Mathlib.Omega.{arith}

@@ -1,4 +1,4 @@
--- `verdict::faces::faces_checked`: the list is read, its faces are named, and they are tested; each step that refuses is the first check that applies. Assumes nothing.
+-- `verdict::faces::faces_checked`: the list is read, its faces are named, and they are tested; each step that refuses is the first check that applies.
 use mathlib.Core.Path.{_≡_, refl, sym, ap, subst, _∙_}
 use mathlib.Core.List.{List}
 use Prim.Native.Nat.{ℕ}

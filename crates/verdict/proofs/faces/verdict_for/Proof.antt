@@ -1,4 +1,4 @@
--- `verdict::faces::verdict_for`: each arm knows which answer it has. Assumes nothing.
+-- `verdict::faces::verdict_for`: each arm knows which answer it has.
 use mathlib.Core.Path.{sym, ap}
 use Rattle.paper.specs.Verdict.{verdictFor}
 use borrow.Author.Needs.{needs}

@@ -1,4 +1,4 @@
--- `verdict_faces::form::corner`: from the lowest corner on, or back from it, as the face's direction says. Assumes nothing.
+-- `verdict_faces::form::corner`: from the lowest corner on, or back from it, as the face's direction says.
 use mathlib.Core.Path.{_∙_, sym}
 use native.Mathlib.Omega.{arith}
 use borrow.Author.Needs.{needs}

@@ -1,4 +1,4 @@
--- `verdict_faces::form::from_place`: a place before the last corner is read as it is, one past it from the front. Assumes nothing.
+-- `verdict_faces::form::from_place`: a place before the last corner is read as it is, one past it from the front.
 use borrow.Author.Needs.{needs}
 use Rattle.verdict_faces.proofs.Turns.{read-before, read-past}
 use Rattle.verdict_faces.proofs.form.from_place.Statement.{statement}

@@ -1,4 +1,4 @@
--- `verdict_faces::form::lowest_at`: the loop keeps that m is the place of the lowest of the first k corners. Assumes nothing.
+-- `verdict_faces::form::lowest_at`: the loop keeps that m is the place of the lowest of the first k corners.
 use mathlib.Core.Logic.{⊎-elim}
 use mathlib.Core.Path.{_≡_, _∙_, ap}
 use Prim.Native.Nat.{_-_, _≤_, _<_}

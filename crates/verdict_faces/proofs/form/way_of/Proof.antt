@@ -1,4 +1,4 @@
--- `verdict_faces::form::way_of`: the corners beside the lowest decide the direction. Assumes nothing.
+-- `verdict_faces::form::way_of`: the corners beside the lowest decide the direction.
 use mathlib.Core.Path.{_∙_, sym}
 use native.Mathlib.Omega.{arith}
 use borrow.Author.Needs.{needs}

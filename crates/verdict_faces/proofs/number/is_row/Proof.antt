@@ -1,5 +1,5 @@
 -- `verdict_faces::number::is_row`: rows of another count are other loops; of one count the loop keeps that what is left of the corners
--- decides. Assumes nothing.
+-- decides.
 use mathlib.Core.Path.{_≡_, refl}
 use Prim.Native.Nat.{_-_, _≤_}
 use native.Mathlib.Omega.{arith}

@@ -1,4 +1,4 @@
--- `verdict_faces::number::number_in`: the loop keeps that the number is k and what is left of the rows. Assumes nothing.
+-- `verdict_faces::number::number_in`: the loop keeps that the number is k and what is left of the rows.
 use Prim.Native.Nat.{_-_, _≤_}
 use native.Mathlib.Omega.{arith}
 use Rattle.verdict_faces.proofs.Same.{FirstLeft, first-start, first-hit, first-miss, first-end}

@@ -1,5 +1,5 @@
 -- `verdict_tests::edges::direction`: the loop keeps that what is left to search holds the whole answer; an edge is asked as the walk's
--- leaf asks it (`AtEdge`). Assumes nothing.
+-- leaf asks it (`AtEdge`).
 use Prim.Native.Nat.{_-_, _≤_}
 use native.Mathlib.Omega.{arith}
 use borrow.Author.Needs.{needs}

@@ -1,5 +1,5 @@
 -- `verdict_tests::edges::edge_count`: the loop keeps that what is left to search holds the whole answer; of each edge the ones are
--- counted (`AtEdge`). Assumes nothing.
+-- counted (`AtEdge`).
 use Prim.Native.Nat.{_-_, _≤_}
 use native.Mathlib.Omega.{arith}
 use borrow.Author.Needs.{needs}

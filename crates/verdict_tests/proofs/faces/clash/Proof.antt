@@ -1,5 +1,5 @@
 -- `verdict_tests::faces::clash`: the loop keeps that what is left to search holds the whole answer; of each face the word of its
--- clashes is asked (`AtFace`). Assumes nothing.
+-- clashes is asked (`AtFace`).
 use Prim.Native.Nat.{_-_, _≤_}
 use native.Mathlib.Omega.{arith}
 use borrow.Author.Needs.{needs}

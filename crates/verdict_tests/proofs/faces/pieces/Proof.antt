@@ -1,5 +1,5 @@
 -- `verdict_tests::faces::pieces`: the loop keeps that what is left to search holds the whole answer, for every list of which the set
--- has the faces joined to face 0; those of `from_first` are (`AtFace`). Assumes nothing.
+-- has the faces joined to face 0; those of `from_first` are (`AtFace`).
 use Prim.Native.Nat.{_-_, _≤_}
 use native.Mathlib.Omega.{arith}
 use borrow.Author.Needs.{needs}

@@ -1,4 +1,4 @@
--- `walk::branch::branches`: the candidate found is undecided, so that either status can be given. Assumes nothing.
+-- `walk::branch::branches`: the candidate found is undecided, so that either status can be given.
 use borrow.Author.Needs.{needs}
 use Rattle.walk.proofs.Branching.{lowest-open, assumes}
 use Rattle.walk.proofs.branch.branches.Statement.{statement}

@@ -1,4 +1,4 @@
--- `walk::leaf::kept`: each way out is one of the laws. Assumes nothing.
+-- `walk::leaf::kept`: each way out is one of the laws.
 use borrow.Author.Needs.{needs}
 use mathlib.Core.Path.{_≡_, subst}
 use denote.Ref.{now}

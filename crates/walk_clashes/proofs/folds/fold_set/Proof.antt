@@ -1,4 +1,4 @@
--- `walk_clashes::folds::fold_set`: the loop keeps that the set has those before j that pass. Assumes nothing.
+-- `walk_clashes::folds::fold_set`: the loop keeps that the set has those before j that pass.
 use mathlib.Core.Bool.{Bool}
 use mathlib.Core.List.{List}
 use mathlib.Core.Path.{_≡_, subst}

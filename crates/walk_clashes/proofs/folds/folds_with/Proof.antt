@@ -1,4 +1,4 @@
--- `walk_clashes::folds::folds_with`: each of the three tests, and rule C where all pass. Assumes nothing.
+-- `walk_clashes::folds::folds_with`: each of the three tests, and rule C where all pass.
 use native.Mathlib.Omega.{arith}
 use borrow.Author.Tests.{not-true, not-false}
 use borrow.Author.Needs.{needs}

@@ -1,4 +1,4 @@
--- `walk_clashes::folds::join_fold`: j passes or fails. Assumes nothing.
+-- `walk_clashes::folds::join_fold`: j passes or fails.
 use mathlib.Core.Bool.{Bool, not, _&&_, and-false}
 use mathlib.Core.Path.{sym, ap, _∙_}
 use native.Mathlib.Omega.{arith}

@@ -1,4 +1,4 @@
--- `walk_clashes::folds::may_fold`: a set without its lowest has one fewer, twice. Assumes nothing.
+-- `walk_clashes::folds::may_fold`: a set without its lowest has one fewer, twice.
 use mathlib.Core.Path.{_≡_}
 use Prim.Native.Nat.{suc}
 use native.Mathlib.Omega.{arith}

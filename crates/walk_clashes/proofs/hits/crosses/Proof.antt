@@ -1,4 +1,4 @@
--- `walk_clashes::hits::crosses`: `pierced` is asked with the distances of both vertices from the plane. Assumes nothing.
+-- `walk_clashes::hits::crosses`: `pierced` is asked with the distances of both vertices from the plane.
 use mathlib.Core.List.{[], _∷_}
 use mathlib.Core.Path.{_≡_, subst, sym, ap, _∙_}
 use native.Mathlib.Omega.{arith}

@@ -1,4 +1,4 @@
--- `walk_clashes::hits::hit_set`: the sorted vertices are the masks of row g's plane, and rules A and B are asked of them. Assumes nothing.
+-- `walk_clashes::hits::hit_set`: the sorted vertices are the masks of row g's plane, and rules A and B are asked of them.
 use mathlib.Core.Path.{_∙_}
 use native.Mathlib.Omega.{arith}
 use denote.Ref.{now}

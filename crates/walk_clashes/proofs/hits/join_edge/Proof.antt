@@ -1,4 +1,4 @@
--- `walk_clashes::hits::join_edge`: the word of the edge's number is that of the candidates on it. Assumes nothing.
+-- `walk_clashes::hits::join_edge`: the word of the edge's number is that of the candidates on it.
 use mathlib.Core.Bool.{Bool, cond}
 use mathlib.Core.List.{[], map}
 use mathlib.Core.Path.{_≡_, subst, sym, ap, _∙_}

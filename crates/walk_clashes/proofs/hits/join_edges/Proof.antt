@@ -1,4 +1,4 @@
--- `walk_clashes::hits::join_edges`: the loop keeps that what is left of the vertices has the whole answer. Assumes nothing.
+-- `walk_clashes::hits::join_edges`: the loop keeps that what is left of the vertices has the whole answer.
 use mathlib.Core.Bool.{Bool, false}
 use mathlib.Core.List.{List}
 use mathlib.Core.Path.{_≡_, subst, sym, _∙_}

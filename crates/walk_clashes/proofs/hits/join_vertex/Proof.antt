@@ -1,4 +1,4 @@
--- `walk_clashes::hits::join_vertex`: the vertex is asked as a point over 1. Assumes nothing.
+-- `walk_clashes::hits::join_vertex`: the vertex is asked as a point over 1.
 use mathlib.Core.Bool.{Bool, cond}
 use mathlib.Core.List.{[], map}
 use mathlib.Core.Path.{_≡_, subst, sym, ap, _∙_}

@@ -1,4 +1,4 @@
--- `walk_clashes::hits::sort_vertex`: one of the three tests is true of the vertex, and its set takes it. Assumes nothing.
+-- `walk_clashes::hits::sort_vertex`: one of the three tests is true of the vertex, and its set takes it.
 use mathlib.Core.Bool.{Bool}
 use mathlib.Core.Path.{_≡_, sym, ap, _∙_}
 use native.Mathlib.Omega.{arith}

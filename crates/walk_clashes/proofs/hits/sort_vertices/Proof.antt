@@ -1,4 +1,4 @@
--- `walk_clashes::hits::sort_vertices`: the loop keeps that the first v vertices are sorted. Assumes nothing.
+-- `walk_clashes::hits::sort_vertices`: the loop keeps that the first v vertices are sorted.
 use mathlib.Core.Path.{_≡_, subst}
 use Prim.Native.Nat.{_-_, _/_, _≤_}
 use native.Mathlib.Omega.{arith}

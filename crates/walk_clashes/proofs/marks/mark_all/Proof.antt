@@ -1,4 +1,4 @@
--- `walk_clashes::marks::mark_all`: the loop keeps that the words of those that went out are marked. Assumes nothing.
+-- `walk_clashes::marks::mark_all`: the loop keeps that the words of those that went out are marked.
 use mathlib.Core.Bool.{Bool, false}
 use mathlib.Core.List.{List}
 use mathlib.Core.Path.{_≡_, refl, sym, _∙_}

@@ -1,4 +1,4 @@
--- `walk_clashes::marks::mark_both`: the word of k takes the set, and then each of the set takes k. Assumes nothing.
+-- `walk_clashes::marks::mark_both`: the word of k takes the set, and then each of the set takes k.
 use mathlib.Core.Bool.{Bool, _&&_, _||_}
 use mathlib.Core.Path.{ap, _∙_}
 use native.Mathlib.Omega.{arith}

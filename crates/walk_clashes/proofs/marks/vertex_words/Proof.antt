@@ -1,4 +1,4 @@
--- `walk_clashes::marks::vertex_words`: the loop keeps that the words have the first k candidates. Assumes nothing.
+-- `walk_clashes::marks::vertex_words`: the loop keeps that the words have the first k candidates.
 use mathlib.Core.Bool.{true}
 use mathlib.Core.List.{List, [], map}
 use mathlib.Core.Path.{_≡_, refl, subst, _∙_}

@@ -1,4 +1,4 @@
--- `walk_input::rows::candidate_rows`: what is known of all loops is what the candidates ask for. Assumes nothing.
+-- `walk_input::rows::candidate_rows`: what is known of all loops is what the candidates ask for.
 use mathlib.Core.Path.{sym}
 use native.Mathlib.Omega.{arith}
 use borrow.Author.Needs.{needs}

@@ -1,4 +1,4 @@
--- `walk_input::words::put_words`: each maker asks for what is known of the candidates and what the makers before it made. Assumes nothing.
+-- `walk_input::words::put_words`: each maker asks for what is known of the candidates and what the makers before it made.
 use mathlib.Core.Path.{refl}
 use Rattle.walk_input.proofs.Listing.{all-same, as-edges, as-corners, as-faces, as-clashes}
 use Rattle.walk_input.proofs.words.put_words.Statement.{statement}

@@ -1,5 +1,5 @@
 -- `walk_leaf::faces::around_face`: the loop keeps that going over the edges left gives the whole round, and that no more wait than are
--- reached anew. Assumes nothing.
+-- reached anew.
 use borrow.Author.Needs.{needs}
 use borrow.Author.Tests.{not-true, not-false}
 use native.Mathlib.Omega.{arith}

@@ -1,4 +1,4 @@
--- `walk_leaf::faces::at_edge`: if one of the others is reached already nothing changes, else all of them are reached. Assumes nothing.
+-- `walk_leaf::faces::at_edge`: if one of the others is reached already nothing changes, else all of them are reached.
 use borrow.Author.Needs.{needs}
 use borrow.Author.Tests.{not-true, not-false}
 use native.Mathlib.Omega.{arith}

@@ -1,5 +1,5 @@
 -- `walk_leaf::faces::from_face`: the loop keeps that going on from the faces that wait gives the whole answer (`Rounds`). Each turn
--- leaves fewer of those not reached and those waiting. Assumes nothing.
+-- leaves fewer of those not reached and those waiting.
 use borrow.Author.Needs.{needs}
 use borrow.Author.Tests.{not-true, not-false}
 use native.Mathlib.Omega.{arith}

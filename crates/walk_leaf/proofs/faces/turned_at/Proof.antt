@@ -1,5 +1,4 @@
 -- `walk_leaf::faces::turned_at`: face f and the others run the edge in unlike ways just where one of the two sets is empty.
--- Assumes nothing.
 use borrow.Author.Needs.{needs}
 use mathlib.Core.Bool.{xor}
 use Rattle.walk_leaf.proofs.Steps.{turned-stays, turned-more}

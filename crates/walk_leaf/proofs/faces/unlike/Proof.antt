@@ -1,4 +1,4 @@
--- `walk_leaf::faces::unlike`: the words' exclusive or. Assumes nothing.
+-- `walk_leaf::faces::unlike`: the words' exclusive or.
 use Rattle.walk_leaf.proofs.Steps.{unlike-is}
 use Rattle.walk_leaf.proofs.faces.unlike.Statement.{statement}
 use Rattle.walk_leaf.proofs.faces.unlike.Tie as tie

@@ -1,5 +1,5 @@
 -- `walk_state::State::settled_on`: a set that is not empty has one more than its rest, so that the tests tell M from 2, and where M is 0
--- or 1, L from as many as are missing to 2; each way through them is one of the laws. Assumes nothing.
+-- or 1, L from as many as are missing to 2; each way through them is one of the laws.
 use borrow.Author.Needs.{needs}
 use mathlib.Core.Path.{_≡_}
 use Prim.Native.Nat.{_^_, _<_}

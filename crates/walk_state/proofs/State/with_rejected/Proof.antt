@@ -1,4 +1,4 @@
--- `walk_state::State::with_rejected`: the candidate leaves the undecided, and those taken stay. Assumes nothing.
+-- `walk_state::State::with_rejected`: the candidate leaves the undecided, and those taken stay.
 use native.Mathlib.Omega.{arith}
 use Rattle.walk_state.proofs.Deciding.{narrow, rejected-is}
 use Rattle.walk_state.proofs.State.with_rejected.Statement.{statement}

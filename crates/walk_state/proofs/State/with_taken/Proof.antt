@@ -1,5 +1,4 @@
 -- `walk_state::State::with_taken`: the candidate goes from one set to the other. It is below 64, since it is in a set.
--- Assumes nothing.
 use native.Mathlib.Omega.{arith}
 use Rattle.walk_state.proofs.Deciding.{narrow, taken-is}
 use Rattle.walk_state.proofs.State.with_taken.Statement.{statement}

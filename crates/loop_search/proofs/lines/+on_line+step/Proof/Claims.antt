@@ -1,5 +1,5 @@
 -- How `loop_search::lines::{on_line, step}` call each other: their measures, and what is claimed of each callee. `step` is at less than
--- the `on_line` that calls it, and the next `on_line`, with one vertex more, at less than `step`. Assumes nothing.
+-- the `on_line` that calls it, and the next `on_line`, with one vertex more, at less than `step`.
 use Prim.Native.Nat.{ℕ, _+_, _*_, _-_, _<_}
 use borrow.Fn.Kinds.{In}
 use borrow.Fn.PlainCycle.{Measures, is, falls, and}

@@ -1,4 +1,4 @@
--- The needs of `loop_search::lines::step`: it has a law for each turn of the path. Assumes nothing.
+-- The needs of `loop_search::lines::step`: it has a law for each turn of the path.
 use mathlib.Core.Bool.{Bool}
 use mathlib.Core.List.{List}
 use mathlib.Core.Path.{_≡_, subst}

@@ -1,4 +1,4 @@
--- `walk::tally::Tally::assumed`: each way out is one of the laws. Assumes nothing.
+-- `walk::tally::Tally::assumed`: each way out is one of the laws.
 use borrow.Author.Needs.{needs}
 use Rattle.walk.proofs.Tallies.{assumed-ended, assumed-more, assumed-none}
 use Rattle.walk.proofs.tally.Tally.assumed.Statement.{statement}
