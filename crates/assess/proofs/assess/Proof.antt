@@ -16,18 +16,6 @@ use Rattle.assess.proofs.Rooms.{answer-same, assessed}
 use Rattle.assess.proofs.assess.Statement.{statement}
 use Rattle.assess.proofs.assess.Tie as tie
 
-slice-aggregate-convert : tie.Need-slice-aggregate-convert
-slice-aggregate-convert c = search needs
-
-slice-aggregate-convert-2 : tie.Need-slice-aggregate-convert-2
-slice-aggregate-convert-2 c = search needs
-
-convert-requires : tie.Need-convert-requires
-convert-requires c κs = search needs
-
-reading-requires : tie.Need-reading-requires
-reading-requires c κs = search needs
-
 returns : tie.Need-returns
 unfolding convertLists
 returns c =
@@ -41,11 +29,4 @@ returns c =
     (ap (λ (x : Converted). x .answer) (k .convert .ensures .0)) (c .reading .ensures .0) (c .reading .ensures .1 .0)
 
 pub assess-spec : {M : Type 1} → statement M
-assess-spec =
-    tie.close
-    (tie.spec
-    slice-aggregate-convert
-    slice-aggregate-convert-2
-    convert-requires
-    reading-requires
-    returns)
+assess-spec = tie.close (tie.spec (λ c. search needs) (λ c. search needs) (λ c κs. search needs) (λ c κs. search needs) returns)

@@ -16,18 +16,6 @@ use Rattle.assess.proofs.Rooms.{answer-same, assessed}
 use Rattle.assess.proofs.assess_sheet.Statement.{statement}
 use Rattle.assess.proofs.assess_sheet.Tie as tie
 
-slice-aggregate-convert-sheet : tie.Need-slice-aggregate-convert-sheet
-slice-aggregate-convert-sheet c = search needs
-
-slice-aggregate-convert-sheet-2 : tie.Need-slice-aggregate-convert-sheet-2
-slice-aggregate-convert-sheet-2 c = search needs
-
-convert-sheet-requires : tie.Need-convert-sheet-requires
-convert-sheet-requires c κs = search needs
-
-reading-requires : tie.Need-reading-requires
-reading-requires c κs = search needs
-
 returns : tie.Need-returns
 unfolding convertSheet
 returns c =
@@ -41,11 +29,4 @@ returns c =
     (ap (λ (x : Converted). x .answer) (k .convert-sheet .ensures .0)) (c .reading .ensures .0) (c .reading .ensures .1 .0)
 
 pub assess-sheet-spec : {M : Type 1} → statement M
-assess-sheet-spec =
-    tie.close
-    (tie.spec
-    slice-aggregate-convert-sheet
-    slice-aggregate-convert-sheet-2
-    convert-sheet-requires
-    reading-requires
-    returns)
+assess-sheet-spec = tie.close (tie.spec (λ c. search needs) (λ c. search needs) (λ c κs. search needs) (λ c κs. search needs) returns)

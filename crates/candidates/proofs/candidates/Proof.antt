@@ -42,9 +42,6 @@ loop-holds c = (omega arith, λ q. keeping-start q _ _ _)
 covers-other-requires : tie.Need-covers-other-requires Inv-loop μ-loop
 covers-other-requires c κs = record { loops-known = start (c .before) .pre .known; there = omega arith }
 
-add-result : tie.Need-add-result Inv-loop μ-loop
-add-result c = omega arith
-
 returns : tie.Need-returns Inv-loop μ-loop
 returns c =
     let o = c .before .before in
@@ -90,12 +87,6 @@ element-write-kept-sides c = omega (arith, in-room (c .before .before .before))
 add-c : tie.Need-add-c Inv-loop μ-loop
 add-c c = omega (arith, in-room (c .before .before .before))
 
-add-k : tie.Need-add-k Inv-loop μ-loop
-add-k c = omega arith
-
-loop-less : tie.Need-loop-less Inv-loop μ-loop
-loop-less c = omega arith
-
 loop-again : tie.Need-loop-again Inv-loop μ-loop
 loop-again c =
     let o = c .before in
@@ -125,24 +116,6 @@ returns-2 c =
 pub candidates-spec : {M : Type 1} → statement M
 candidates-spec =
     tie.close
-    (tie.spec
-    Inv-loop
-    μ-loop
-    loop-holds
-    covers-other-requires
-    add-result
-    returns
-    copy-row-requires
-    mul-kept-corners
-    element-copy-out-kept-corners
-    mul-kept-corners-2
-    element-write-kept-corners
-    mul-kept-sides
-    element-copy-out-kept-sides
-    mul-kept-sides-2
-    element-write-kept-sides
-    add-c
-    add-k
-    loop-less
-    loop-again
-    returns-2)
+    (tie.spec Inv-loop μ-loop loop-holds covers-other-requires (λ c. omega arith) returns copy-row-requires mul-kept-corners
+    element-copy-out-kept-corners mul-kept-corners-2 element-write-kept-corners mul-kept-sides element-copy-out-kept-sides mul-kept-sides-2
+    element-write-kept-sides add-c (λ c. omega arith) (λ c. omega arith) loop-again returns-2)

@@ -54,12 +54,6 @@ add-rows-2 c = omega (arith, start (c .before .before) .pre .few)
 element-write-rows : tie.Need-element-write-rows Inv-loop μ-loop
 element-write-rows c = omega (arith, start (c .before .before) .pre .few)
 
-add-i : tie.Need-add-i Inv-loop μ-loop
-add-i c = omega arith
-
-loop-less : tie.Need-loop-less Inv-loop μ-loop
-loop-less c = omega arith
-
 loop-again : tie.Need-loop-again Inv-loop μ-loop
 loop-again c =
     let t = c .before .before in
@@ -85,17 +79,5 @@ returns c =
 pub copy-row-spec : {M : Type 1} → statement M
 copy-row-spec =
     tie.close
-    (tie.spec
-    Inv-loop
-    μ-loop
-    loop-holds
-    mul-rows
-    add-rows
-    shared-slice-read-rows
-    mul-rows-2
-    add-rows-2
-    element-write-rows
-    add-i
-    loop-less
-    loop-again
-    returns)
+    (tie.spec Inv-loop μ-loop loop-holds mul-rows add-rows shared-slice-read-rows mul-rows-2 add-rows-2 element-write-rows
+    (λ c. omega arith) (λ c. omega arith) loop-again returns)

@@ -45,9 +45,6 @@ in-yes c = sym (c .before .points-in .ensures) ∙ not-false (c .before .points-
 
 -- ---- the needs
 
-is-corner-requires : tie.Need-is-corner-requires
-is-corner-requires c κs = search needs
-
 returns : tie.Need-returns
 unfolding bends
 returns c =
@@ -57,9 +54,6 @@ returns c =
     let v = s .args .v in
     let no = sym (k .is-corner .ensures) ∙ not-true (k .is-corner .result) (c .if1 .taken) in
     λ i. ((sym no i && not (samePoint u v)) && pointsIn (F s) u v) && pointsIn (G s) u v
-
-same-point-requires : tie.Need-same-point-requires
-same-point-requires c κs = search needs
 
 returns-2 : tie.Need-returns-2
 unfolding bends
@@ -71,9 +65,6 @@ returns-2 c =
     let same = sym (c .before .same-point .ensures) ∙ c .if2 .taken in
     λ i. ((sym (corner-yes e) i && not (sym same i)) && pointsIn (F s) u v) && pointsIn (G s) u v
 
-points-in-requires : tie.Need-points-in-requires
-points-in-requires c κs = search needs
-
 returns-3 : tie.Need-returns-3
 unfolding bends
 returns-3 c =
@@ -82,9 +73,6 @@ returns-3 c =
     let s = start (e .before) in
     let no = sym (c .before .points-in .ensures) ∙ not-true (c .before .points-in .result) (c .if3 .taken) in
     λ i. ((sym (corner-yes e) i && not (sym (same-no d) i)) && sym no i) && pointsIn (G s) (s .args .u) (s .args .v)
-
-points-in-requires-2 : tie.Need-points-in-requires-2
-points-in-requires-2 c κs = search needs
 
 returns-4 : tie.Need-returns-4
 unfolding bends
@@ -99,12 +87,5 @@ returns-4 c =
 pub bends-spec : {M : Type 1} → statement M
 bends-spec =
     tie.close
-    (tie.spec
-    is-corner-requires
-    returns
-    same-point-requires
-    returns-2
-    points-in-requires
-    returns-3
-    points-in-requires-2
+    (tie.spec (λ c κs. search needs) returns (λ c κs. search needs) returns-2 (λ c κs. search needs) returns-3 (λ c κs. search needs)
     returns-4)

@@ -96,12 +96,6 @@ returns-2 c =
     let folded = here (c .before) (c .if2 .taken) in
     sym (ring-hit (any-search (Fold s)) (F s) (l .loop .j) origin (omega arith) (l .loop .inv .2) folded) ∙ answer (tilted l)
 
-add-j : tie.Need-add-j Inv-loop μ-loop
-add-j c = omega arith
-
-loop-less : tie.Need-loop-less Inv-loop μ-loop
-loop-less c = omega arith
-
 loop-again : tie.Need-loop-again Inv-loop μ-loop
 loop-again c =
     let l = tested (c .before) in
@@ -119,17 +113,5 @@ returns-3 c =
 pub folds-spec : {M : Type 1} → statement M
 folds-spec =
     tie.close
-    (tie.spec
-    Inv-loop
-    μ-loop
-    in-plane-requires
-    returns
-    count-requires
-    loop-holds
-    corner-requires
-    folds-at-requires
-    returns-2
-    add-j
-    loop-less
-    loop-again
-    returns-3)
+    (tie.spec Inv-loop μ-loop in-plane-requires returns count-requires loop-holds corner-requires folds-at-requires returns-2
+    (λ c. omega arith) (λ c. omega arith) loop-again returns-3)

@@ -34,12 +34,6 @@ y-small c = let s = start c .pre in small-eq (c .minus2 .ensures) (minus-small (
 
 -- ---- the needs
 
-minus-requires : tie.Need-minus-requires
-minus-requires c κs = search needs
-
-minus-requires-2 : tie.Need-minus-requires-2
-minus-requires-2 c κs = search needs
-
 det-requires : tie.Need-det-requires
 det-requires c κs = record { p-in = start c .pre .m-in; q-in = x-small c; r-in = y-small c }
 
@@ -52,9 +46,6 @@ det-requires-3 : tie.Need-det-requires-3
 det-requires-3 c κs =
     let s = start (sided c) .pre in
     record { p-in = s .m-in; q-in = s .w-in; r-in = y-small (sided c) }
-
-angle-holds-requires : tie.Need-angle-holds-requires
-angle-holds-requires c κs = search needs
 
 returns : tie.Need-returns
 unfolding inAngle above
@@ -73,11 +64,4 @@ returns c =
 pub in-angle-spec : {M : Type 1} → statement M
 in-angle-spec =
     tie.close
-    (tie.spec
-    minus-requires
-    minus-requires-2
-    det-requires
-    det-requires-2
-    det-requires-3
-    angle-holds-requires
-    returns)
+    (tie.spec (λ c κs. search needs) (λ c κs. search needs) det-requires det-requires-2 det-requires-3 (λ c κs. search needs) returns)

@@ -44,9 +44,6 @@ here c e = ap (samePoint (start (tested c) .args .p)) (sym (c .before .corner .e
 
 -- ---- the needs
 
-count-requires : tie.Need-count-requires Inv-loop μ-loop
-count-requires c κs = omega arith
-
 loop-holds : tie.Need-loop-holds Inv-loop μ-loop
 loop-holds c = (omega arith, c .count .ensures ∙ sym (ring-length (c .before .before .pre .row)), refl)
 
@@ -66,12 +63,6 @@ returns c =
     let same = here (c .before) (c .if1 .taken) in
     sym (ring-hit (any-search (samePoint (s .args .p))) (R s) (l .loop .j) origin (omega arith) (l .loop .inv .2) same)
 
-add-j : tie.Need-add-j Inv-loop μ-loop
-add-j c = omega arith
-
-loop-less : tie.Need-loop-less Inv-loop μ-loop
-loop-less c = omega arith
-
 loop-again : tie.Need-loop-again Inv-loop μ-loop
 loop-again c =
     let l = tested (c .before) in
@@ -90,15 +81,5 @@ returns-2 c =
 pub is-corner-spec : {M : Type 1} → statement M
 is-corner-spec =
     tie.close
-    (tie.spec
-    Inv-loop
-    μ-loop
-    count-requires
-    loop-holds
-    corner-requires
-    same-point-requires
-    returns
-    add-j
-    loop-less
-    loop-again
-    returns-2)
+    (tie.spec Inv-loop μ-loop (λ c κs. omega arith) loop-holds corner-requires same-point-requires returns (λ c. omega arith)
+    (λ c. omega arith) loop-again returns-2)

@@ -79,12 +79,6 @@ answer c =
 
 -- ---- the needs
 
-count-requires : tie.Need-count-requires Inv-loop μ-loop
-count-requires c κs = omega arith
-
-minus-requires : tie.Need-minus-requires Inv-loop μ-loop
-minus-requires c κs = search needs
-
 corner-requires : tie.Need-corner-requires Inv-loop μ-loop
 corner-requires c κs = corner-in (start c .pre .face .row) _ (omega arith)
 
@@ -101,9 +95,6 @@ loop-holds c =
       a-is = c .before .corner .ensures;
       p-is = c .corner2 .ensures;
     }
-
-add-corner : tie.Need-add-corner Inv-loop μ-loop
-add-corner c = omega arith
 
 corner-requires-3 : tie.Need-corner-requires-3 Inv-loop μ-loop
 corner-requires-3 c κs = corner-in (start (aimed (c .before)) .pre .face .row) _ (omega arith)
@@ -136,12 +127,6 @@ returns c =
     sym (turns-hit (s .args .m) (s .args .u) (w .minus .result) (R s) (k .j) (two s) (omega arith) (k .inv .left) inside)
     ∙ answer w
 
-add-j : tie.Need-add-j Inv-loop μ-loop
-add-j c = omega arith
-
-loop-less : tie.Need-loop-less Inv-loop μ-loop
-loop-less c = omega arith
-
 loop-again : tie.Need-loop-again Inv-loop μ-loop
 loop-again c =
     let l = tested (c .before) in
@@ -170,19 +155,5 @@ returns-2 c =
 pub points-in-spec : {M : Type 1} → statement M
 points-in-spec =
     tie.close
-    (tie.spec
-    Inv-loop
-    μ-loop
-    count-requires
-    minus-requires
-    corner-requires
-    corner-requires-2
-    loop-holds
-    add-corner
-    corner-requires-3
-    turns-at-requires
-    returns
-    add-j
-    loop-less
-    loop-again
-    returns-2)
+    (tie.spec Inv-loop μ-loop (λ c κs. omega arith) (λ c κs. search needs) corner-requires corner-requires-2 loop-holds (λ c. omega arith)
+    corner-requires-3 turns-at-requires returns (λ c. omega arith) (λ c. omega arith) loop-again returns-2)

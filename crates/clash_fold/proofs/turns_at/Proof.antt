@@ -10,12 +10,6 @@ use Rattle.clash_fold.proofs.turns_at.Tie as tie
 abbrev answer : tie.Start → Bool → Bool
 answer c b = let a = c .args in b && inAngle (a .m) (a .a) (a .p) (a .b) (a .w)
 
-same-point-requires : tie.Need-same-point-requires
-same-point-requires c κs = search needs
-
-in-angle-requires : tie.Need-in-angle-requires
-in-angle-requires c κs = search needs
-
 returns : tie.Need-returns
 returns c =
     let t = c .before in
@@ -28,4 +22,4 @@ returns-2 c =
     ap (answer (p .before)) (sym (c .if1 .left) ∙ p .same-point .ensures)
 
 pub turns-at-spec : {M : Type 1} → statement M
-turns-at-spec = tie.close (tie.spec same-point-requires in-angle-requires returns returns-2)
+turns-at-spec = tie.close (tie.spec (λ c κs. search needs) (λ c κs. search needs) returns returns-2)

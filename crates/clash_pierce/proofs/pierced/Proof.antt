@@ -90,19 +90,10 @@ answer c e = λ i. sym e i && inside c
 
 -- ---- the needs
 
-opposite-requires : tie.Need-opposite-requires
-opposite-requires c κs = search needs
-
 returns : tie.Need-returns
 returns c =
     let o = c .before in
     answer (start o) (sides-are o (not-true (o .opposite .result) (c .if1 .taken)))
-
-size-requires : tie.Need-size-requires
-size-requires c κs = search needs
-
-size-requires-2 : tie.Need-size-requires-2
-size-requires-2 c κs = search needs
 
 mix-requires : tie.Need-mix-requires
 mix-requires c κs =
@@ -142,12 +133,5 @@ returns-2 c =
 pub pierced-spec : {M : Type 1} → statement M
 pierced-spec =
     tie.close
-    (tie.spec
-    opposite-requires
-    returns
-    size-requires
-    size-requires-2
-    mix-requires
-    add-lies-inside
-    lies-inside-requires
+    (tie.spec (λ c κs. search needs) returns (λ c κs. search needs) (λ c κs. search needs) mix-requires add-lies-inside lies-inside-requires
     returns-2)

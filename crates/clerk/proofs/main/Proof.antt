@@ -31,30 +31,11 @@ served-requires c κs =
 returns : tie.Need-returns Inv-loop μ-loop
 returns c = tt
 
-sub-left : tie.Need-sub-left Inv-loop μ-loop
-sub-left c = omega arith
-
-loop-less : tie.Need-loop-less Inv-loop μ-loop
-loop-less c = omega arith
-
-loop-again : tie.Need-loop-again Inv-loop μ-loop
-loop-again c = omega arith
-
 returns-2 : tie.Need-returns-2 Inv-loop μ-loop
 returns-2 c = tt
 
 pub main-spec : {M : Type 1} → statement M
 main-spec =
     tie.close
-    (tie.spec
-    Inv-loop
-    μ-loop
-    loop-holds
-    slice-aggregate-served
-    slice-aggregate-served-2
-    served-requires
-    returns
-    sub-left
-    loop-less
-    loop-again
-    returns-2)
+    (tie.spec Inv-loop μ-loop loop-holds slice-aggregate-served slice-aggregate-served-2 served-requires returns (λ c. omega arith)
+    (λ c. omega arith) (λ c. omega arith) returns-2)

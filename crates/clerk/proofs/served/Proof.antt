@@ -23,15 +23,6 @@ start c = c .before .before .before .before
 stands : (c : tie.Else1) → Stands (asked c .read-request .last .0) (asked c .read-request .result)
 stands c = asked c .read-request .ensures (λ e. omega (arith, e))
 
-read-request-requires : tie.Need-read-request-requires
-read-request-requires c κs = search needs
-
-same-length : tie.Need-same-length
-same-length c = search needs
-
-returns : tie.Need-returns
-returns c = search needs
-
 slice-reshare-prefix-answer : tie.Need-slice-reshare-prefix-answer
 slice-reshare-prefix-answer c = stands c .within
 
@@ -40,15 +31,6 @@ slice-aggregate-answer c = sym (length-take-le _ _ (stands (c .before) .within))
 
 answer-requires : tie.Need-answer-requires
 answer-requires c κs = let e = c .before .before in record { whole = stands e .whole; long = start (asked e) .pre .long }
-
-same-length-2 : tie.Need-same-length-2
-same-length-2 c = search needs
-
-same-length-3 : tie.Need-same-length-3
-same-length-3 c = search needs
-
-returns-2 : tie.Need-returns-2
-returns-2 c = search needs
 
 slice-reshare-prefix-write-all : tie.Need-slice-reshare-prefix-write-all
 slice-reshare-prefix-write-all c =
@@ -59,34 +41,9 @@ slice-reshare-prefix-write-all c =
 slice-aggregate-write-all : tie.Need-slice-aggregate-write-all
 slice-aggregate-write-all c = sym (length-take-le _ _ (slice-reshare-prefix-write-all (c .before)))
 
-write-all-requires : tie.Need-write-all-requires
-write-all-requires c κs = search needs
-
-same-length-4 : tie.Need-same-length-4
-same-length-4 c = search needs
-
-same-length-5 : tie.Need-same-length-5
-same-length-5 c = search needs
-
-returns-3 : tie.Need-returns-3
-returns-3 c = search needs
-
 pub served-spec : {M : Type 1} → statement M
 served-spec =
     tie.close
-    (tie.spec
-    read-request-requires
-    same-length
-    returns
-    slice-reshare-prefix-answer
-    slice-aggregate-answer
-    answer-requires
-    same-length-2
-    same-length-3
-    returns-2
-    slice-reshare-prefix-write-all
-    slice-aggregate-write-all
-    write-all-requires
-    same-length-4
-    same-length-5
-    returns-3)
+    (tie.spec (λ c κs. search needs) (λ c. search needs) (λ c. search needs) slice-reshare-prefix-answer slice-aggregate-answer
+    answer-requires (λ c. search needs) (λ c. search needs) (λ c. search needs) slice-reshare-prefix-write-all slice-aggregate-write-all
+    (λ c κs. search needs) (λ c. search needs) (λ c. search needs) (λ c. search needs))

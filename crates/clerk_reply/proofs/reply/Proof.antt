@@ -13,30 +13,6 @@ start c = c .before .before .before
 
 -- ---- the needs
 
-put-hello-requires : tie.Need-put-hello-requires
-put-hello-requires c κs = search needs
-
-put-read-requires : tie.Need-put-read-requires
-put-read-requires c κs = search needs
-
-put-converted-requires : tie.Need-put-converted-requires
-put-converted-requires c κs = search needs
-
-put-checked-requires : tie.Need-put-checked-requires
-put-checked-requires c κs = search needs
-
-put-sheet-requires : tie.Need-put-sheet-requires
-put-sheet-requires c κs = search needs
-
-put-faces-requires : tie.Need-put-faces-requires
-put-faces-requires c κs = search needs
-
-put-desk-requires : tie.Need-put-desk-requires
-put-desk-requires c κs = search needs
-
-same-length : tie.Need-same-length
-same-length c = search needs
-
 returns : tie.Need-returns
 unfolding replies
 returns c =
@@ -44,9 +20,6 @@ returns c =
     let m = p .before .before in
     let a = start (m .before) .args in
     of-kind (a .limit) (a .first .now) (a .second .now) 0 (m .match .keys1) (p .put-hello .ensures)
-
-same-length-2 : tie.Need-same-length-2
-same-length-2 c = search needs
 
 returns-2 : tie.Need-returns-2
 unfolding replies
@@ -56,9 +29,6 @@ returns-2 c =
     let a = start (m .before) .args in
     of-kind (a .limit) (a .first .now) (a .second .now) 1 (m .match .keys2) (p .put-read .ensures)
 
-same-length-3 : tie.Need-same-length-3
-same-length-3 c = search needs
-
 returns-3 : tie.Need-returns-3
 unfolding replies
 returns-3 c =
@@ -66,9 +36,6 @@ returns-3 c =
     let m = p .before .before in
     let a = start (m .before) .args in
     of-kind (a .limit) (a .first .now) (a .second .now) 2 (m .match .keys3) (p .put-converted .ensures)
-
-same-length-4 : tie.Need-same-length-4
-same-length-4 c = search needs
 
 returns-4 : tie.Need-returns-4
 unfolding replies
@@ -78,9 +45,6 @@ returns-4 c =
     let a = start (m .before) .args in
     of-kind (a .limit) (a .first .now) (a .second .now) 3 (m .match .keys4) (p .put-checked .ensures)
 
-same-length-5 : tie.Need-same-length-5
-same-length-5 c = search needs
-
 returns-5 : tie.Need-returns-5
 unfolding replies
 returns-5 c =
@@ -89,9 +53,6 @@ returns-5 c =
     let a = start (m .before) .args in
     of-kind (a .limit) (a .first .now) (a .second .now) 4 (m .match .keys5) (p .put-sheet .ensures)
 
-same-length-6 : tie.Need-same-length-6
-same-length-6 c = search needs
-
 returns-6 : tie.Need-returns-6
 unfolding replies
 returns-6 c =
@@ -99,9 +60,6 @@ returns-6 c =
     let m = p .before .before in
     let a = start (m .before) .args in
     of-kind (a .limit) (a .first .now) (a .second .now) 5 (m .match .keys6) (p .put-faces .ensures)
-
-same-length-7 : tie.Need-same-length-7
-same-length-7 c = search needs
 
 returns-7 : tie.Need-returns-7
 unfolding replies
@@ -119,26 +77,6 @@ returns-8 c =
 pub reply-spec : {M : Type 1} → statement M
 reply-spec =
     tie.close
-    (tie.spec
-    put-hello-requires
-    put-read-requires
-    put-converted-requires
-    put-checked-requires
-    put-sheet-requires
-    put-faces-requires
-    put-desk-requires
-    same-length
-    returns
-    same-length-2
-    returns-2
-    same-length-3
-    returns-3
-    same-length-4
-    returns-4
-    same-length-5
-    returns-5
-    same-length-6
-    returns-6
-    same-length-7
-    returns-7
-    returns-8)
+    (tie.spec (λ c κs. search needs) (λ c κs. search needs) (λ c κs. search needs) (λ c κs. search needs) (λ c κs. search needs)
+    (λ c κs. search needs) (λ c κs. search needs) (λ c. search needs) returns (λ c. search needs) returns-2 (λ c. search needs) returns-3
+    (λ c. search needs) returns-4 (λ c. search needs) returns-5 (λ c. search needs) returns-6 (λ c. search needs) returns-7 returns-8)

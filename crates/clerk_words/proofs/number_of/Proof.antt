@@ -5,20 +5,11 @@ use Rattle.clerk_words.proofs.Signed.{made-fits, number-is}
 use Rattle.clerk_words.proofs.number_of.Statement.{statement}
 use Rattle.clerk_words.proofs.number_of.Tie as tie
 
-cast-result : tie.Need-cast-result
-cast-result c = search needs
-
-cast-result-2 : tie.Need-cast-result-2
-cast-result-2 c = search needs
-
 sub-result : tie.Need-sub-result
 sub-result c = made-fits (c .before .args .word) (omega arith) (omega arith)
-
-returns : tie.Need-returns
-returns c = search needs
 
 returns-2 : tie.Need-returns-2
 returns-2 c = number-is (c .before .args .word) (omega arith) (omega arith)
 
 pub number-of-spec : {M : Type 1} → statement M
-number-of-spec = tie.close (tie.spec cast-result cast-result-2 sub-result returns returns-2)
+number-of-spec = tie.close (tie.spec (λ c. search needs) (λ c. search needs) sub-result (λ c. search needs) returns-2)

@@ -41,9 +41,6 @@ loop-holds c = onward-start refl
 mul-word-of : tie.Need-mul-word-of Inv-loop μ-loop
 mul-word-of c = omega (arith, start (c .before) .good .0 .1)
 
-shared-slice-copy-out-word-of : tie.Need-shared-slice-copy-out-word-of Inv-loop μ-loop
-shared-slice-copy-out-word-of c = omega arith
-
 word-of-requires : tie.Need-word-of-requires Inv-loop μ-loop
 word-of-requires c κs = tt
 
@@ -56,12 +53,6 @@ put-word-requires c κs =
     let i = l .loop .i in
     fits-as (sym (bytes-are w))
     (onward-fits (l .loop .inv) (eachFrom numberBytes zs (i + 1)) (each-next numberBytes zs i (pos 0) (omega arith)) (s .pre))
-
-add-i : tie.Need-add-i Inv-loop μ-loop
-add-i c = omega arith
-
-loop-less : tie.Need-loop-less Inv-loop μ-loop
-loop-less c = omega arith
 
 loop-again : tie.Need-loop-again Inv-loop μ-loop
 loop-again c =
@@ -82,16 +73,5 @@ returns c =
 pub put-numbers-spec : {M : Type 1} → statement M
 put-numbers-spec =
     tie.close
-    (tie.spec
-    Inv-loop
-    μ-loop
-    loop-holds
-    mul-word-of
-    shared-slice-copy-out-word-of
-    word-of-requires
-    put-word-requires
-    add-i
-    loop-less
-    loop-again
-    same-length
-    returns)
+    (tie.spec Inv-loop μ-loop loop-holds mul-word-of (λ c. omega arith) word-of-requires put-word-requires (λ c. omega arith)
+    (λ c. omega arith) loop-again same-length returns)

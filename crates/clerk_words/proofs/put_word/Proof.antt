@@ -5,17 +5,8 @@ use borrow.Author.Needs.{needs}
 use Rattle.clerk_words.proofs.put_word.Statement.{statement}
 use Rattle.clerk_words.proofs.put_word.Tie as tie
 
-word-bytes-requires : tie.Need-word-bytes-requires
-word-bytes-requires c κs = search needs
-
-slice-aggregate-put-text : tie.Need-slice-aggregate-put-text
-slice-aggregate-put-text c = search needs
-
 put-text-requires : tie.Need-put-text-requires
 put-text-requires c κs = let b = c .before .before in fits-as (sym (b .word-bytes .ensures)) (b .before .before .pre)
-
-same-length : tie.Need-same-length
-same-length c = search needs
 
 returns : tie.Need-returns
 returns c =
@@ -23,6 +14,4 @@ returns c =
     puts-as (sym (p .before .before .before .word-bytes .ensures)) (p .put-text .ensures)
 
 pub put-word-spec : {M : Type 1} → statement M
-put-word-spec =
-    tie.close
-    (tie.spec word-bytes-requires slice-aggregate-put-text put-text-requires same-length returns)
+put-word-spec = tie.close (tie.spec (λ c κs. search needs) (λ c. search needs) put-text-requires (λ c. search needs) returns)

@@ -26,21 +26,12 @@ loop-holds c = onward-start refl
 mul-put-word : tie.Need-mul-put-word Inv-loop μ-loop
 mul-put-word c = omega (arith, start (c .before) .good .0 .1)
 
-shared-slice-read-put-word : tie.Need-shared-slice-read-put-word Inv-loop μ-loop
-shared-slice-read-put-word c = omega arith
-
 put-word-requires : tie.Need-put-word-requires Inv-loop μ-loop
 put-word-requires c κs =
     let l = c .before .before .before in
     let s = start l in
     let ws = s .args .words .now in
     onward-fits (l .loop .inv) (eachFrom wordBytes ws (l .loop .i + 1)) (each-next wordBytes ws (l .loop .i) 0 (omega arith)) (s .pre)
-
-add-i : tie.Need-add-i Inv-loop μ-loop
-add-i c = omega arith
-
-loop-less : tie.Need-loop-less Inv-loop μ-loop
-loop-less c = omega arith
 
 loop-again : tie.Need-loop-again Inv-loop μ-loop
 loop-again c =
@@ -59,15 +50,5 @@ returns c =
 pub put-words-spec : {M : Type 1} → statement M
 put-words-spec =
     tie.close
-    (tie.spec
-    Inv-loop
-    μ-loop
-    loop-holds
-    mul-put-word
-    shared-slice-read-put-word
-    put-word-requires
-    add-i
-    loop-less
-    loop-again
-    same-length
-    returns)
+    (tie.spec Inv-loop μ-loop loop-holds mul-put-word (λ c. omega arith) put-word-requires (λ c. omega arith) (λ c. omega arith) loop-again
+    same-length returns)

@@ -71,12 +71,6 @@ slice-set-from-room c =
     let s = start l in
     omega (arith, copying-long (l .loop .inv) (copies s), s .pre .fits)
 
-add-i : tie.Need-add-i Inv-loop μ-loop
-add-i c = omega arith
-
-loop-less : tie.Need-loop-less Inv-loop μ-loop
-loop-less c = omega arith
-
 loop-again : tie.Need-loop-again Inv-loop μ-loop
 loop-again c =
     let l = looped c in
@@ -95,17 +89,5 @@ returns c = copying-end (c .before .loop .inv) (omega arith)
 pub take-numbers-spec : {M : Type 1} → statement M
 take-numbers-spec =
     tie.close
-    (tie.spec
-    Inv-loop
-    μ-loop
-    loop-holds
-    mul-word-at
-    word-at-requires
-    number-of-requires
-    mul-t9
-    slice-set-from-room
-    add-i
-    loop-less
-    loop-again
-    same-length
-    returns)
+    (tie.spec Inv-loop μ-loop loop-holds mul-word-at word-at-requires number-of-requires mul-t9 slice-set-from-room (λ c. omega arith)
+    (λ c. omega arith) loop-again same-length returns)

@@ -4,21 +4,6 @@ use borrow.Author.Needs.{needs}
 use Rattle.clerk_words.proofs.word_at.Statement.{statement}
 use Rattle.clerk_words.proofs.word_at.Tie as tie
 
-four-at-requires : tie.Need-four-at-requires
-four-at-requires c κs = search needs
-
-mul-result : tie.Need-mul-result
-mul-result c = search needs
-
-add-four-at : tie.Need-add-four-at
-add-four-at c = search needs
-
-four-at-requires-2 : tie.Need-four-at-requires-2
-four-at-requires-2 c κs = search needs
-
-add-result : tie.Need-add-result
-add-result c = search needs
-
 returns : tie.Need-returns
 unfolding wordAt
 returns c = search needs
@@ -26,4 +11,4 @@ returns c = search needs
 pub word-at-spec : {M : Type 1} → statement M
 word-at-spec =
     tie.close
-    (tie.spec four-at-requires mul-result add-four-at four-at-requires-2 add-result returns)
+    (tie.spec (λ c κs. search needs) (λ c. search needs) (λ c. search needs) (λ c κs. search needs) (λ c. search needs) returns)

@@ -8,30 +8,6 @@ use borrow.Author.Needs.{needs}
 use Rattle.clerk_words.proofs.word_bytes.Statement.{statement}
 use Rattle.clerk_words.proofs.word_bytes.Tie as tie
 
-low-byte-requires : tie.Need-low-byte-requires
-low-byte-requires c κs = search needs
-
-low-byte-requires-2 : tie.Need-low-byte-requires-2
-low-byte-requires-2 c κs = search needs
-
-low-byte-requires-3 : tie.Need-low-byte-requires-3
-low-byte-requires-3 c κs = search needs
-
-low-byte-requires-4 : tie.Need-low-byte-requires-4
-low-byte-requires-4 c κs = search needs
-
-low-byte-requires-5 : tie.Need-low-byte-requires-5
-low-byte-requires-5 c κs = search needs
-
-low-byte-requires-6 : tie.Need-low-byte-requires-6
-low-byte-requires-6 c κs = search needs
-
-low-byte-requires-7 : tie.Need-low-byte-requires-7
-low-byte-requires-7 c κs = search needs
-
-low-byte-requires-8 : tie.Need-low-byte-requires-8
-low-byte-requires-8 c κs = search needs
-
 -- the way back from the last byte to the fourth
 abbrev fourth : tie.After-low-byte8 → tie.After-low-byte4
 fourth c = c .before .before .before .before
@@ -49,13 +25,5 @@ returns c =
 pub word-bytes-spec : {M : Type 1} → statement M
 word-bytes-spec =
     tie.close
-    (tie.spec
-    low-byte-requires
-    low-byte-requires-2
-    low-byte-requires-3
-    low-byte-requires-4
-    low-byte-requires-5
-    low-byte-requires-6
-    low-byte-requires-7
-    low-byte-requires-8
-    returns)
+    (tie.spec (λ c κs. search needs) (λ c κs. search needs) (λ c κs. search needs) (λ c κs. search needs) (λ c κs. search needs)
+    (λ c κs. search needs) (λ c κs. search needs) (λ c κs. search needs) returns)

@@ -41,12 +41,6 @@ form-is c =
 
 -- ---- the needs
 
-entered-requires : tie.Need-entered-requires
-entered-requires c κs = search needs
-
-enum-known-entry : tie.Need-enum-known-entry
-enum-known-entry c = search needs
-
 returns : tie.Need-returns
 unfolding convertLists
 returns c =
@@ -54,18 +48,6 @@ returns c =
     let a = n .before .before .before .before .args in
     stopped (lentChecks editionOne (now (a .xyz)) (now (a .ends))) (wire (now (a .xyz)) (now (a .ends))) (a .limit) (now (a .faces)) (now (a .solids))
     (sym (c .before .entry .given .1) ∙ entry-is n)
-
-enum-told : tie.Need-enum-told
-enum-told c = search needs
-
-edition-one-requires : tie.Need-edition-one-requires
-edition-one-requires c κs = search needs
-
-lent-requires : tie.Need-lent-requires
-lent-requires c κs = search needs
-
-enum-known-form : tie.Need-enum-known-form
-enum-known-form c = search needs
 
 returns-2 : tie.Need-returns-2
 unfolding convertLists
@@ -76,9 +58,6 @@ returns-2 c =
     stopped-at-form (lentChecks editionOne (now (a .xyz)) (now (a .ends))) (wire (now (a .xyz)) (now (a .ends))) (a .limit) (now (a .faces)) (now (a .solids))
     (sym (n .enum-told .given .1) ∙ entry-is (n .before .before)) (sym (c .before .form .given .1) ∙ form-is l)
 
-enum-told-2 : tie.Need-enum-told-2
-enum-told-2 c = search needs
-
 converted-requires : tie.Need-converted-requires
 converted-requires c κs =
     let f = formed c in
@@ -86,12 +65,6 @@ converted-requires c κs =
     let a = start n .args in
     let room = roomy-enough (a .limit) (now (a .faces)) (now (a .solids)) (sym (n .enum-told .given .1) ∙ entry-is (n .before .before)) in
     record { passed = sym (f .enum-told2 .given .1) ∙ form-is (lists f); face-room = room .0; solid-room = room .1 }
-
-same-length : tie.Need-same-length
-same-length c = search needs
-
-same-length-2 : tie.Need-same-length-2
-same-length-2 c = search needs
 
 returns-3 : tie.Need-returns-3
 unfolding convertLists
@@ -107,17 +80,5 @@ returns-3 c =
 pub convert-spec : {M : Type 1} → statement M
 convert-spec =
     tie.close
-    (tie.spec
-    entered-requires
-    enum-known-entry
-    returns
-    enum-told
-    edition-one-requires
-    lent-requires
-    enum-known-form
-    returns-2
-    enum-told-2
-    converted-requires
-    same-length
-    same-length-2
-    returns-3)
+    (tie.spec (λ c κs. search needs) (λ c. search needs) returns (λ c. search needs) (λ c κs. search needs) (λ c κs. search needs)
+    (λ c. search needs) returns-2 (λ c. search needs) converted-requires (λ c. search needs) (λ c. search needs) returns-3)

@@ -38,12 +38,6 @@ form-is c = ap (λ (r : Sheet). r .answer) (c .read-sheet .ensures .0)
 
 -- ---- the needs
 
-entered-requires : tie.Need-entered-requires
-entered-requires c κs = search needs
-
-enum-known-entry : tie.Need-enum-known-entry
-enum-known-entry c = search needs
-
 returns : tie.Need-returns
 unfolding convertSheet
 returns c =
@@ -52,15 +46,6 @@ returns c =
     let s = now (a .sheet) in
     stopped (sheetChecks editionOne s) (wire (coordinatesIn editionOne s) (endsIn editionOne s)) (a .limit) (now (a .faces)) (now (a .solids))
     (sym (c .before .entry .given .1) ∙ entry-is n)
-
-enum-told : tie.Need-enum-told
-enum-told c = search needs
-
-read-sheet-requires : tie.Need-read-sheet-requires
-read-sheet-requires c κs = search needs
-
-enum-known-form : tie.Need-enum-known-form
-enum-known-form c = search needs
 
 returns-2 : tie.Need-returns-2
 unfolding convertSheet
@@ -72,9 +57,6 @@ returns-2 c =
     stopped-at-form (sheetChecks editionOne s) (wire (coordinatesIn editionOne s) (endsIn editionOne s)) (a .limit) (now (a .faces))
     (now (a .solids)) (sym (n .enum-told .given .1) ∙ entry-is (n .before .before)) (sym (c .before .form .given .1) ∙ form-is l)
 
-enum-told-2 : tie.Need-enum-told-2
-enum-told-2 c = search needs
-
 drawing-converted-requires : tie.Need-drawing-converted-requires
 drawing-converted-requires c κs =
     let f = formed c in
@@ -83,12 +65,6 @@ drawing-converted-requires c κs =
     let a = start n .args in
     let room = roomy-enough (a .limit) (now (a .faces)) (now (a .solids)) (sym (n .enum-told .given .1) ∙ entry-is (n .before .before)) in
     sheet-at (now (a .sheet)) (l .read-sheet .ensures .0) (sym (f .enum-told2 .given .1) ∙ form-is l) (room .0) (room .1)
-
-same-length : tie.Need-same-length
-same-length c = search needs
-
-same-length-2 : tie.Need-same-length-2
-same-length-2 c = search needs
 
 returns-3 : tie.Need-returns-3
 unfolding convertSheet
@@ -107,16 +83,5 @@ returns-3 c =
 pub convert-sheet-spec : {M : Type 1} → statement M
 convert-sheet-spec =
     tie.close
-    (tie.spec
-    entered-requires
-    enum-known-entry
-    returns
-    enum-told
-    read-sheet-requires
-    enum-known-form
-    returns-2
-    enum-told-2
-    drawing-converted-requires
-    same-length
-    same-length-2
-    returns-3)
+    (tie.spec (λ c κs. search needs) (λ c. search needs) returns (λ c. search needs) (λ c κs. search needs) (λ c. search needs) returns-2
+    (λ c. search needs) drawing-converted-requires (λ c. search needs) (λ c. search needs) returns-3)

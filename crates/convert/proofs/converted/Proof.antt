@@ -52,15 +52,6 @@ done c = said (walk c) (W.Done (c .walked2 .given .0 .0) (c .walked2 .given .0 .
 
 -- ---- the needs
 
-walk-drawing-requires : tie.Need-walk-drawing-requires
-walk-drawing-requires c κs = search needs
-
-enum-known-walked : tie.Need-enum-known-walked
-enum-known-walked c = search needs
-
-enum-known-walked-2 : tie.Need-enum-known-walked-2
-enum-known-walked-2 c = search needs
-
 concluded-requires : tie.Need-concluded-requires
 concluded-requires c κs =
     let w = came c in
@@ -80,12 +71,6 @@ returns c =
     let r = c .before .walked .given in
     refuses _ (r .0 .0) _ _ _ (said w (W.Refused (r .0 .0)) (r .1))
 
-same-length : tie.Need-same-length
-same-length c = search needs
-
-same-length-2 : tie.Need-same-length-2
-same-length-2 c = search needs
-
 returns-2 : tie.Need-returns-2
 returns-2 c =
     let k = c .before .before .before .before in
@@ -96,12 +81,5 @@ returns-2 c =
 pub converted-spec : {M : Type 1} → statement M
 converted-spec =
     tie.close
-    (tie.spec
-    walk-drawing-requires
-    enum-known-walked
-    enum-known-walked-2
-    concluded-requires
-    returns
-    same-length
-    same-length-2
-    returns-2)
+    (tie.spec (λ c κs. search needs) (λ c. search needs) (λ c. search needs) concluded-requires returns (λ c. search needs)
+    (λ c. search needs) returns-2)

@@ -4,25 +4,16 @@ use Rattle.convert.proofs.Converting.{no-faces, no-solids, no-limit, en
 use Rattle.convert.proofs.entered.Statement.{statement}
 use Rattle.convert.proofs.entered.Tie as tie
 
-refused-requires : tie.Need-refused-requires
-refused-requires c κs = search needs
-
 returns : tie.Need-returns
 returns c =
     let a = c .before .before .args in
     no-faces (a .limit) (a .faces) (a .solids) (c .before .if1 .taken) (c .refused .ensures)
-
-refused-requires-2 : tie.Need-refused-requires-2
-refused-requires-2 c κs = search needs
 
 returns-2 : tie.Need-returns-2
 returns-2 c =
     let f = c .before .before in
     let a = f .before .args in
     no-solids (a .limit) (a .faces) (a .solids) (f .if1 .left) (c .before .if2 .taken) (c .refused2 .ensures)
-
-refused-requires-3 : tie.Need-refused-requires-3
-refused-requires-3 c κs = search needs
 
 returns-3 : tie.Need-returns-3
 returns-3 c =
@@ -40,11 +31,4 @@ returns-4 c =
 pub entered-spec : {M : Type 1} → statement M
 entered-spec =
     tie.close
-    (tie.spec
-    refused-requires
-    returns
-    refused-requires-2
-    returns-2
-    refused-requires-3
-    returns-3
-    returns-4)
+    (tie.spec (λ c κs. search needs) returns (λ c κs. search needs) returns-2 (λ c κs. search needs) returns-3 returns-4)

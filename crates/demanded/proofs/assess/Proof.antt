@@ -6,13 +6,10 @@ use borrow.Author.Needs.{needs}
 use Rattle.demanded.proofs.assess.Statement.{statement}
 use Rattle.demanded.proofs.assess.Tie as tie
 
-assess-requires : tie.Need-assess-requires
-assess-requires c κs = search needs
-
 returns : tie.Need-returns
 returns c =
     let a = c .before .before .args in
     assesses (lent (now (a .xyz)) (now (a .ends))) (a .limit) (c .assess .ensures)
 
 pub assess-spec : {M : Type 1} → statement M
-assess-spec = tie.close (tie.spec assess-requires returns)
+assess-spec = tie.close (tie.spec (λ c κs. search needs) returns)

@@ -6,13 +6,10 @@ use borrow.Author.Needs.{needs}
 use Rattle.demanded.proofs.assess_sheet.Statement.{statement}
 use Rattle.demanded.proofs.assess_sheet.Tie as tie
 
-assess-sheet-requires : tie.Need-assess-sheet-requires
-assess-sheet-requires c κs = search needs
-
 returns : tie.Need-returns
 returns c =
     let a = c .before .before .args in
     assesses (sheet (now (a .sheet))) (a .limit) (c .assess-sheet .ensures)
 
 pub assess-sheet-spec : {M : Type 1} → statement M
-assess-sheet-spec = tie.close (tie.spec assess-sheet-requires returns)
+assess-sheet-spec = tie.close (tie.spec (λ c κs. search needs) returns)

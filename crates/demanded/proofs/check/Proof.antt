@@ -6,13 +6,10 @@ use borrow.Author.Needs.{needs}
 use Rattle.demanded.proofs.check.Statement.{statement}
 use Rattle.demanded.proofs.check.Tie as tie
 
-check-requires : tie.Need-check-requires
-check-requires c κs = search needs
-
 returns : tie.Need-returns
 returns c =
     let a = c .before .before .before .args in
     checks (lent (now (a .xyz)) (now (a .ends))) (now (a .list)) (c .check .ensures .0)
 
 pub check-spec : {M : Type 1} → statement M
-check-spec = tie.close (tie.spec check-requires returns)
+check-spec = tie.close (tie.spec (λ c κs. search needs) returns)

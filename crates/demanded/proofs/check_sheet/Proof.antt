@@ -6,13 +6,10 @@ use borrow.Author.Needs.{needs}
 use Rattle.demanded.proofs.check_sheet.Statement.{statement}
 use Rattle.demanded.proofs.check_sheet.Tie as tie
 
-check-sheet-requires : tie.Need-check-sheet-requires
-check-sheet-requires c κs = search needs
-
 returns : tie.Need-returns
 returns c =
     let a = c .before .before .before .args in
     checks (sheet (now (a .sheet))) (now (a .list)) (c .check-sheet .ensures .0)
 
 pub check-sheet-spec : {M : Type 1} → statement M
-check-sheet-spec = tie.close (tie.spec check-sheet-requires returns)
+check-sheet-spec = tie.close (tie.spec (λ c κs. search needs) returns)

@@ -6,15 +6,6 @@ use borrow.Author.Needs.{needs}
 use Rattle.demanded.proofs.convert.Statement.{statement}
 use Rattle.demanded.proofs.convert.Tie as tie
 
-convert-requires : tie.Need-convert-requires
-convert-requires c κs = search needs
-
-same-length : tie.Need-same-length
-same-length c = search needs
-
-same-length-2 : tie.Need-same-length-2
-same-length-2 c = search needs
-
 returns : tie.Need-returns
 returns c =
     let k = c .before .before .before .before in
@@ -22,4 +13,4 @@ returns c =
     converts (lent (now (a .xyz)) (now (a .ends))) (a .limit) (now (a .faces)) (now (a .solids)) (k .convert .ensures .0)
 
 pub convert-spec : {M : Type 1} → statement M
-convert-spec = tie.close (tie.spec convert-requires same-length same-length-2 returns)
+convert-spec = tie.close (tie.spec (λ c κs. search needs) (λ c. search needs) (λ c. search needs) returns)

@@ -6,15 +6,6 @@ use borrow.Author.Needs.{needs}
 use Rattle.demanded.proofs.convert_sheet.Statement.{statement}
 use Rattle.demanded.proofs.convert_sheet.Tie as tie
 
-convert-sheet-requires : tie.Need-convert-sheet-requires
-convert-sheet-requires c κs = search needs
-
-same-length : tie.Need-same-length
-same-length c = search needs
-
-same-length-2 : tie.Need-same-length-2
-same-length-2 c = search needs
-
 returns : tie.Need-returns
 returns c =
     let k = c .before .before .before .before in
@@ -22,4 +13,4 @@ returns c =
     converts (sheet (now (a .sheet))) (a .limit) (now (a .faces)) (now (a .solids)) (k .convert-sheet .ensures .0)
 
 pub convert-sheet-spec : {M : Type 1} → statement M
-convert-sheet-spec = tie.close (tie.spec convert-sheet-requires same-length same-length-2 returns)
+convert-sheet-spec = tie.close (tie.spec (λ c κs. search needs) (λ c. search needs) (λ c. search needs) returns)

@@ -6,13 +6,10 @@ use borrow.Author.Needs.{needs}
 use Rattle.demanded.proofs.read_sheet.Statement.{statement}
 use Rattle.demanded.proofs.read_sheet.Tie as tie
 
-read-sheet-requires : tie.Need-read-sheet-requires
-read-sheet-requires c κs = search needs
-
 returns : tie.Need-returns
 returns c =
     let k = c .before in
     reads (now (k .before .args .sheet)) (λ i. omega (arith, k .shared-slice-known .given i)) (c .read-sheet .ensures .0)
 
 pub read-sheet-spec : {M : Type 1} → statement M
-read-sheet-spec = tie.close (tie.spec read-sheet-requires returns)
+read-sheet-spec = tie.close (tie.spec (λ c κs. search needs) returns)

@@ -4,11 +4,8 @@ use borrow.Author.Needs.{needs}
 use Rattle.demanded.proofs.reading.Statement.{statement}
 use Rattle.demanded.proofs.reading.Tie as tie
 
-reading-requires : tie.Need-reading-requires
-reading-requires c κs = search needs
-
 returns : tie.Need-returns
 returns c = read-as (c .before .args .c) (c .reading .ensures .0)
 
 pub reading-spec : {M : Type 1} → statement M
-reading-spec = tie.close (tie.spec reading-requires returns)
+reading-spec = tie.close (tie.spec (λ c κs. search needs) returns)

@@ -6,12 +6,6 @@ use borrow.Author.Needs.{needs}
 use Rattle.demanded.proofs.write_faces.Statement.{statement}
 use Rattle.demanded.proofs.write_faces.Tie as tie
 
-write-faces-requires : tie.Need-write-faces-requires
-write-faces-requires c κs = search needs
-
-same-length : tie.Need-same-length
-same-length c = search needs
-
 returns : tie.Need-returns
 returns c =
     let k = c .before .before in
@@ -19,4 +13,4 @@ returns c =
     sends (solidFaces (now (a .rows)) (a .taken) (a .turned)) (now (a .room)) (k .write-faces .ensures .0) (k .write-faces .ensures .1 .1)
 
 pub write-faces-spec : {M : Type 1} → statement M
-write-faces-spec = tie.close (tie.spec write-faces-requires same-length returns)
+write-faces-spec = tie.close (tie.spec (λ c κs. search needs) (λ c. search needs) returns)

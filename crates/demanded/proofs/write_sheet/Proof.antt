@@ -5,12 +5,6 @@ use borrow.Author.Needs.{needs}
 use Rattle.demanded.proofs.write_sheet.Statement.{statement}
 use Rattle.demanded.proofs.write_sheet.Tie as tie
 
-write-sheet-requires : tie.Need-write-sheet-requires
-write-sheet-requires c κs = search needs
-
-same-length : tie.Need-same-length
-same-length c = search needs
-
 returns : tie.Need-returns
 returns c =
     let k = c .before .before in
@@ -18,4 +12,4 @@ returns c =
     writes (now (a .xyz)) (now (a .ends)) (now (a .room)) (k .write-sheet .ensures .0) (k .write-sheet .ensures .1 .1)
 
 pub write-sheet-spec : {M : Type 1} → statement M
-write-sheet-spec = tie.close (tie.spec write-sheet-requires same-length returns)
+write-sheet-spec = tie.close (tie.spec (λ c κs. search needs) (λ c. search needs) returns)

@@ -6,21 +6,6 @@ use borrow.Author.Needs.{needs}
 use Rattle.demanded_together.proofs.converted_and_checked.Statement.{statement}
 use Rattle.demanded_together.proofs.converted_and_checked.Tie as tie
 
-convert-requires : tie.Need-convert-requires
-convert-requires c κs = search needs
-
-check-requires : tie.Need-check-requires
-check-requires c κs = search needs
-
-check-requires-2 : tie.Need-check-requires-2
-check-requires-2 c κs = search needs
-
-same-length : tie.Need-same-length
-same-length c = search needs
-
-same-length-2 : tie.Need-same-length-2
-same-length-2 c = search needs
-
 returns : tie.Need-returns
 returns c =
     let k = c .before .before .before .before .before .before in
@@ -31,4 +16,4 @@ returns c =
 pub converted-and-checked-spec : {M : Type 1} → statement M
 converted-and-checked-spec =
     tie.close
-    (tie.spec convert-requires check-requires check-requires-2 same-length same-length-2 returns)
+    (tie.spec (λ c κs. search needs) (λ c κs. search needs) (λ c κs. search needs) (λ c. search needs) (λ c. search needs) returns)

@@ -13,24 +13,6 @@ first c = c .before .before .before .before .before .before .before
 abbrev start : tie.After-convert → tie.Start
 start c = c .before .before .before .before .before .before .before .before .before
 
-convert-requires : tie.Need-convert-requires
-convert-requires c κs = search needs
-
-convert-requires-2 : tie.Need-convert-requires-2
-convert-requires-2 c κs = search needs
-
-same-length : tie.Need-same-length
-same-length c = search needs
-
-same-length-2 : tie.Need-same-length-2
-same-length-2 c = search needs
-
-same-length-3 : tie.Need-same-length-3
-same-length-3 c = search needs
-
-same-length-4 : tie.Need-same-length-4
-same-length-4 c = search needs
-
 returns : tie.Need-returns
 returns c =
     let k = c .before .before .before .before in
@@ -42,4 +24,5 @@ returns c =
 pub converted-twice-spec : {M : Type 1} → statement M
 converted-twice-spec =
     tie.close
-    (tie.spec convert-requires convert-requires-2 same-length same-length-2 same-length-3 same-length-4 returns)
+    (tie.spec (λ c κs. search needs) (λ c κs. search needs) (λ c. search needs) (λ c. search needs) (λ c. search needs) (λ c. search needs)
+    returns)

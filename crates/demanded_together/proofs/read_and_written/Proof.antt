@@ -22,15 +22,6 @@ form-is : (c : tie.After-read-sheet) → c .read-sheet .result .answer ≡ first
 unfolding sheetOf
 form-is c = ap (λ (r : Sheet). r .answer) (c .read-sheet .ensures .0)
 
-read-sheet-requires : tie.Need-read-sheet-requires
-read-sheet-requires c κs = search needs
-
-enum-known-answer : tie.Need-enum-known-answer
-enum-known-answer c = search needs
-
-enum-told : tie.Need-enum-told
-enum-told c = search needs
-
 drawing-written-requires : tie.Need-drawing-written-requires
 unfolding sheetOf
 drawing-written-requires c κs =
@@ -45,9 +36,6 @@ returns c =
     let a = start l .args in
     not-read (now (a .sheet)) (now (a .room)) (sym (c .before .answer .given .1) ∙ form-is l)
 
-same-length : tie.Need-same-length
-same-length c = search needs
-
 returns-2 : tie.Need-returns-2
 returns-2 c =
     let k = c .before .before in
@@ -61,11 +49,4 @@ returns-2 c =
 pub read-and-written-spec : {M : Type 1} → statement M
 read-and-written-spec =
     tie.close
-    (tie.spec
-    read-sheet-requires
-    enum-known-answer
-    enum-told
-    drawing-written-requires
-    returns
-    same-length
-    returns-2)
+    (tie.spec (λ c κs. search needs) (λ c. search needs) (λ c. search needs) drawing-written-requires returns (λ c. search needs) returns-2)

@@ -30,21 +30,6 @@ held e =
     let a = start k .args in
     in-room (lent (now (a .xyz)) (now (a .ends))) (a .limit) (now (a .faces)) (now (a .solids)) (k .convert .ensures .0) (a .i) (there e)
 
-convert-requires : tie.Need-convert-requires
-convert-requires c κs = search needs
-
-solids-in-requires : tie.Need-solids-in-requires
-solids-in-requires c κs = search needs
-
-same-length : tie.Need-same-length
-same-length c = search needs
-
-same-length-2 : tie.Need-same-length-2
-same-length-2 c = search needs
-
-returns : tie.Need-returns
-returns c = search needs
-
 mul-sent-and-checked : tie.Need-mul-sent-and-checked
 mul-sent-and-checked c = omega (arith, held (c .before))
 
@@ -66,15 +51,6 @@ mul-sent-and-checked-4 c = omega (arith, held (c .before .before))
 slice-read-sent-and-checked-2 : tie.Need-slice-read-sent-and-checked-2
 slice-read-sent-and-checked-2 c = omega (arith, held (c .before .before .before))
 
-sent-and-checked-requires : tie.Need-sent-and-checked-requires
-sent-and-checked-requires c κs = search needs
-
-same-length-3 : tie.Need-same-length-3
-same-length-3 c = search needs
-
-same-length-4 : tie.Need-same-length-4
-same-length-4 c = search needs
-
 returns-2 : tie.Need-returns-2
 returns-2 c =
     let e = c .before .before .before .before in
@@ -86,20 +62,6 @@ returns-2 c =
 pub reported-and-checked-spec : {M : Type 1} → statement M
 reported-and-checked-spec =
     tie.close
-    (tie.spec
-    convert-requires
-    solids-in-requires
-    same-length
-    same-length-2
-    returns
-    mul-sent-and-checked
-    mul-sent-and-checked-2
-    slice-read-sent-and-checked
-    mul-sent-and-checked-3
-    add-sent-and-checked
-    mul-sent-and-checked-4
-    slice-read-sent-and-checked-2
-    sent-and-checked-requires
-    same-length-3
-    same-length-4
-    returns-2)
+    (tie.spec (λ c κs. search needs) (λ c κs. search needs) (λ c. search needs) (λ c. search needs) (λ c. search needs) mul-sent-and-checked
+    mul-sent-and-checked-2 slice-read-sent-and-checked mul-sent-and-checked-3 add-sent-and-checked mul-sent-and-checked-4
+    slice-read-sent-and-checked-2 (λ c κs. search needs) (λ c. search needs) (λ c. search needs) returns-2)

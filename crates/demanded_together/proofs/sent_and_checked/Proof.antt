@@ -41,40 +41,16 @@ in-room c =
       sent-fits (faces w) room (sym (c .sent .given .1) ∙ w .write-faces .ensures .0),
     )
 
-slice-aggregate-write-faces : tie.Need-slice-aggregate-write-faces
-slice-aggregate-write-faces c = search needs
-
-write-faces-requires : tie.Need-write-faces-requires
-write-faces-requires c κs = search needs
-
-enum-told : tie.Need-enum-told
-enum-told c = search needs
-
-enum-known-sent : tie.Need-enum-known-sent
-enum-known-sent c = search needs
-
 array-share-prefix-room : tie.Need-array-share-prefix-room
 array-share-prefix-room c = omega (arith, in-room (c .before))
 
 slice-aggregate-check : tie.Need-slice-aggregate-check
 slice-aggregate-check c = sym (length-take-le _ _ (omega (arith, in-room (c .before .before))))
 
-check-requires : tie.Need-check-requires
-check-requires c κs = search needs
-
-enum-told-2 : tie.Need-enum-told-2
-enum-told-2 c = search needs
-
-enum-told-3 : tie.Need-enum-told-3
-enum-told-3 c = search needs
-
 returns : tie.Need-returns
 returns c =
     let w = c .before .before .before in
     unsent (drawn w) (faces w) room (length-replicate {A = ℕ} 338 0) (sym (c .enum-told .given .1) ∙ w .write-faces .ensures .0)
-
-returns-2 : tie.Need-returns-2
-returns-2 c = search needs
 
 returns-3 : tie.Need-returns-3
 returns-3 c =
@@ -87,16 +63,5 @@ returns-3 c =
 pub sent-and-checked-spec : {M : Type 1} → statement M
 sent-and-checked-spec =
     tie.close
-    (tie.spec
-    slice-aggregate-write-faces
-    write-faces-requires
-    enum-told
-    enum-known-sent
-    array-share-prefix-room
-    slice-aggregate-check
-    check-requires
-    enum-told-2
-    enum-told-3
-    returns
-    returns-2
-    returns-3)
+    (tie.spec (λ c. search needs) (λ c κs. search needs) (λ c. search needs) (λ c. search needs) array-share-prefix-room
+    slice-aggregate-check (λ c κs. search needs) (λ c. search needs) (λ c. search needs) returns (λ c. search needs) returns-3)

@@ -6,21 +6,6 @@ use borrow.Author.Needs.{needs}
 use Rattle.demanded_together.proofs.sheet_converted_and_checked.Statement.{statement}
 use Rattle.demanded_together.proofs.sheet_converted_and_checked.Tie as tie
 
-convert-sheet-requires : tie.Need-convert-sheet-requires
-convert-sheet-requires c κs = search needs
-
-check-sheet-requires : tie.Need-check-sheet-requires
-check-sheet-requires c κs = search needs
-
-check-sheet-requires-2 : tie.Need-check-sheet-requires-2
-check-sheet-requires-2 c κs = search needs
-
-same-length : tie.Need-same-length
-same-length c = search needs
-
-same-length-2 : tie.Need-same-length-2
-same-length-2 c = search needs
-
 returns : tie.Need-returns
 returns c =
     let k = c .before .before .before .before .before .before in
@@ -31,10 +16,4 @@ returns c =
 pub sheet-converted-and-checked-spec : {M : Type 1} → statement M
 sheet-converted-and-checked-spec =
     tie.close
-    (tie.spec
-    convert-sheet-requires
-    check-sheet-requires
-    check-sheet-requires-2
-    same-length
-    same-length-2
-    returns)
+    (tie.spec (λ c κs. search needs) (λ c κs. search needs) (λ c κs. search needs) (λ c. search needs) (λ c. search needs) returns)

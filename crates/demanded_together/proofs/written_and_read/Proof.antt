@@ -24,26 +24,11 @@ in-room c =
     written-fits (now (a .xyz)) (now (a .ends)) (now (a .room)) (w .write-sheet .ensures .1 .1)
     (sym (c .written .given .1) ∙ w .write-sheet .ensures .0)
 
-write-sheet-requires : tie.Need-write-sheet-requires
-write-sheet-requires c κs = search needs
-
-enum-known-written : tie.Need-enum-known-written
-enum-known-written c = search needs
-
 slice-reshare-prefix-read-sheet : tie.Need-slice-reshare-prefix-read-sheet
 slice-reshare-prefix-read-sheet c = in-room (c .before)
 
 slice-aggregate-read-sheet : tie.Need-slice-aggregate-read-sheet
 slice-aggregate-read-sheet c = sym (length-take-le _ _ (in-room (c .before .before)))
-
-read-sheet-requires : tie.Need-read-sheet-requires
-read-sheet-requires c κs = search needs
-
-enum-known-written-2 : tie.Need-enum-known-written-2
-enum-known-written-2 c = search needs
-
-same-length : tie.Need-same-length
-same-length c = search needs
 
 returns : tie.Need-returns
 returns c =
@@ -52,9 +37,6 @@ returns c =
     let a = start w .args in
     read-back (now (a .xyz)) (now (a .ends)) (now (a .room)) (w .write-sheet .ensures .1 .1)
     (sym (n .written .given .1) ∙ w .write-sheet .ensures .0) (c .read-sheet .ensures .0)
-
-same-length-2 : tie.Need-same-length-2
-same-length-2 c = search needs
 
 returns-2 : tie.Need-returns-2
 returns-2 c =
@@ -67,14 +49,5 @@ returns-2 c =
 pub written-and-read-spec : {M : Type 1} → statement M
 written-and-read-spec =
     tie.close
-    (tie.spec
-    write-sheet-requires
-    enum-known-written
-    slice-reshare-prefix-read-sheet
-    slice-aggregate-read-sheet
-    read-sheet-requires
-    enum-known-written-2
-    same-length
-    returns
-    same-length-2
-    returns-2)
+    (tie.spec (λ c κs. search needs) (λ c. search needs) slice-reshare-prefix-read-sheet slice-aggregate-read-sheet (λ c κs. search needs)
+    (λ c. search needs) (λ c. search needs) returns (λ c. search needs) returns-2)

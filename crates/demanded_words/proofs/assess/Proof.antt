@@ -6,12 +6,6 @@ use borrow.Author.Needs.{needs}
 use Rattle.demanded_words.proofs.assess.Statement.{statement}
 use Rattle.demanded_words.proofs.assess.Tie as tie
 
-nibgravel-assess-requires : tie.Need-nibgravel-assess-requires
-nibgravel-assess-requires c κs = search needs
-
-same-length : tie.Need-same-length
-same-length c = search needs
-
 returns : tie.Need-returns
 returns c =
     let k = c .before .before in
@@ -19,4 +13,4 @@ returns c =
     assesses (lent (now (a .xyz)) (now (a .ends))) (a .limit) (k .nibgravel-assess .ensures)
 
 pub assess-spec : {M : Type 1} → statement M
-assess-spec = tie.close (tie.spec nibgravel-assess-requires same-length returns)
+assess-spec = tie.close (tie.spec (λ c κs. search needs) (λ c. search needs) returns)

@@ -6,12 +6,6 @@ use borrow.Author.Needs.{needs}
 use Rattle.demanded_words.proofs.assess_sheet.Statement.{statement}
 use Rattle.demanded_words.proofs.assess_sheet.Tie as tie
 
-nibgravel-assess-sheet-requires : tie.Need-nibgravel-assess-sheet-requires
-nibgravel-assess-sheet-requires c κs = search needs
-
-same-length : tie.Need-same-length
-same-length c = search needs
-
 returns : tie.Need-returns
 returns c =
     let k = c .before .before in
@@ -19,4 +13,4 @@ returns c =
     assesses (sheet (now (a .sheet))) (a .limit) (k .nibgravel-assess-sheet .ensures)
 
 pub assess-sheet-spec : {M : Type 1} → statement M
-assess-sheet-spec = tie.close (tie.spec nibgravel-assess-sheet-requires same-length returns)
+assess-sheet-spec = tie.close (tie.spec (λ c κs. search needs) (λ c. search needs) returns)

@@ -6,12 +6,6 @@ use borrow.Author.Needs.{needs}
 use Rattle.demanded_words.proofs.check.Statement.{statement}
 use Rattle.demanded_words.proofs.check.Tie as tie
 
-nibgravel-check-requires : tie.Need-nibgravel-check-requires
-nibgravel-check-requires c κs = search needs
-
-same-length : tie.Need-same-length
-same-length c = search needs
-
 returns : tie.Need-returns
 returns c =
     let k = c .before .before in
@@ -19,4 +13,4 @@ returns c =
     checks (lent (now (a .xyz)) (now (a .ends))) (now (a .list)) (k .nibgravel-check .ensures)
 
 pub check-spec : {M : Type 1} → statement M
-check-spec = tie.close (tie.spec nibgravel-check-requires same-length returns)
+check-spec = tie.close (tie.spec (λ c κs. search needs) (λ c. search needs) returns)

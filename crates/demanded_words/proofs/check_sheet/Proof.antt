@@ -6,12 +6,6 @@ use borrow.Author.Needs.{needs}
 use Rattle.demanded_words.proofs.check_sheet.Statement.{statement}
 use Rattle.demanded_words.proofs.check_sheet.Tie as tie
 
-nibgravel-check-sheet-requires : tie.Need-nibgravel-check-sheet-requires
-nibgravel-check-sheet-requires c κs = search needs
-
-same-length : tie.Need-same-length
-same-length c = search needs
-
 returns : tie.Need-returns
 returns c =
     let k = c .before .before in
@@ -19,4 +13,4 @@ returns c =
     checks (sheet (now (a .sheet))) (now (a .list)) (k .nibgravel-check-sheet .ensures)
 
 pub check-sheet-spec : {M : Type 1} → statement M
-check-sheet-spec = tie.close (tie.spec nibgravel-check-sheet-requires same-length returns)
+check-sheet-spec = tie.close (tie.spec (λ c κs. search needs) (λ c. search needs) returns)

@@ -6,18 +6,6 @@ use borrow.Author.Needs.{needs}
 use Rattle.demanded_words.proofs.convert.Statement.{statement}
 use Rattle.demanded_words.proofs.convert.Tie as tie
 
-nibgravel-convert-requires : tie.Need-nibgravel-convert-requires
-nibgravel-convert-requires c κs = search needs
-
-same-length : tie.Need-same-length
-same-length c = search needs
-
-same-length-2 : tie.Need-same-length-2
-same-length-2 c = search needs
-
-same-length-3 : tie.Need-same-length-3
-same-length-3 c = search needs
-
 returns : tie.Need-returns
 returns c =
     let k = c .before .before .before .before .before .before in
@@ -25,4 +13,4 @@ returns c =
     converts (lent (now (a .xyz)) (now (a .ends))) (a .limit) (now (a .faces)) (now (a .solids)) (k .nibgravel-convert .ensures)
 
 pub convert-spec : {M : Type 1} → statement M
-convert-spec = tie.close (tie.spec nibgravel-convert-requires same-length same-length-2 same-length-3 returns)
+convert-spec = tie.close (tie.spec (λ c κs. search needs) (λ c. search needs) (λ c. search needs) (λ c. search needs) returns)

@@ -5,12 +5,6 @@ use borrow.Author.Needs.{needs}
 use Rattle.demanded_words.proofs.desk_text.Statement.{statement}
 use Rattle.demanded_words.proofs.desk_text.Tie as tie
 
-desk-text-requires : tie.Need-desk-text-requires
-desk-text-requires c κs = search needs
-
-same-length : tie.Need-same-length
-same-length c = search needs
-
 returns : tie.Need-returns
 returns c =
     let k = c .before .before in
@@ -18,4 +12,4 @@ returns c =
     prints (now (a .sheet)) (k .desk-text .ensures .0) (k .desk-text .ensures .1 .1)
 
 pub desk-text-spec : {M : Type 1} → statement M
-desk-text-spec = tie.close (tie.spec desk-text-requires same-length returns)
+desk-text-spec = tie.close (tie.spec (λ c κs. search needs) (λ c. search needs) returns)

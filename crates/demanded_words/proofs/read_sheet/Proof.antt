@@ -7,18 +7,6 @@ use borrow.Author.Needs.{needs}
 use Rattle.demanded_words.proofs.read_sheet.Statement.{statement}
 use Rattle.demanded_words.proofs.read_sheet.Tie as tie
 
-nibgravel-read-sheet-requires : tie.Need-nibgravel-read-sheet-requires
-nibgravel-read-sheet-requires c κs = search needs
-
-same-length : tie.Need-same-length
-same-length c = search needs
-
-same-length-2 : tie.Need-same-length-2
-same-length-2 c = search needs
-
-same-length-3 : tie.Need-same-length-3
-same-length-3 c = search needs
-
 returns : tie.Need-returns
 returns c =
     let k = c .before .before .before .before .before in
@@ -28,4 +16,4 @@ returns c =
     reads (now (a .sheet)) bytes (now (a .xyz)) (now (a .ends)) (k .nibgravel-read-sheet .ensures)
 
 pub read-sheet-spec : {M : Type 1} → statement M
-read-sheet-spec = tie.close (tie.spec nibgravel-read-sheet-requires same-length same-length-2 same-length-3 returns)
+read-sheet-spec = tie.close (tie.spec (λ c κs. search needs) (λ c. search needs) (λ c. search needs) (λ c. search needs) returns)

@@ -14,13 +14,10 @@ put-text-requires c κs = let s = c .before .before .before in fits-first (decim
 put-decimal-requires : tie.Need-put-decimal-requires
 put-decimal-requires c κs = let p = c .before .before .before in fits-next (p .put-text .ensures) (start p .pre)
 
-same-length : tie.Need-same-length
-same-length c = search needs
-
 returns : tie.Need-returns
 returns c =
     let q = c .before .before in
     puts-both (q .before .before .before .before .put-text .ensures) (q .put-decimal .ensures)
 
 pub put-field-spec : {M : Type 1} → statement M
-put-field-spec = tie.close (tie.spec put-text-requires put-decimal-requires same-length returns)
+put-field-spec = tie.close (tie.spec put-text-requires put-decimal-requires (λ c. search needs) returns)

@@ -16,13 +16,10 @@ put-field-requires c κs =
 put-field-requires-2 : tie.Need-put-field-requires-2
 put-field-requires-2 c κs = let p = c .before .before .before in fits-next (p .put-field .ensures) (start p .pre)
 
-same-length : tie.Need-same-length
-same-length c = search needs
-
 returns : tie.Need-returns
 returns c =
     let q = c .before .before in
     puts-both (q .before .before .before .before .put-field .ensures) (q .put-field2 .ensures)
 
 pub put-pair-spec : {M : Type 1} → statement M
-put-pair-spec = tie.close (tie.spec put-field-requires put-field-requires-2 same-length returns)
+put-pair-spec = tie.close (tie.spec put-field-requires put-field-requires-2 (λ c. search needs) returns)

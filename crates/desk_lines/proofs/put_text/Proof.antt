@@ -4,24 +4,6 @@ use borrow.Author.Needs.{needs}
 use Rattle.desk_lines.proofs.put_text.Statement.{statement}
 use Rattle.desk_lines.proofs.put_text.Tie as tie
 
-sub-copy-bytes : tie.Need-sub-copy-bytes
-sub-copy-bytes c = search needs
-
-part-copy-bytes-start : tie.Need-part-copy-bytes-start
-part-copy-bytes-start c = search needs
-
-part-copy-bytes-end : tie.Need-part-copy-bytes-end
-part-copy-bytes-end c = search needs
-
-copy-bytes-requires : tie.Need-copy-bytes-requires
-copy-bytes-requires c κs = search needs
-
-add-result : tie.Need-add-result
-add-result c = search needs
-
-same-length : tie.Need-same-length
-same-length c = search needs
-
 returns : tie.Need-returns
 returns c =
     let s = c .before .before .before .before .before .before in
@@ -30,11 +12,5 @@ returns c =
 pub put-text-spec : {M : Type 1} → statement M
 put-text-spec =
     tie.close
-    (tie.spec
-    sub-copy-bytes
-    part-copy-bytes-start
-    part-copy-bytes-end
-    copy-bytes-requires
-    add-result
-    same-length
+    (tie.spec (λ c. search needs) (λ c. search needs) (λ c. search needs) (λ c κs. search needs) (λ c. search needs) (λ c. search needs)
     returns)

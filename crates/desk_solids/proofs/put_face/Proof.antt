@@ -31,35 +31,17 @@ plus-is c =
 
 -- ---- the needs
 
-is-set-requires : tie.Need-is-set-requires
-is-set-requires c κs = search needs
-
-is-set-requires-2 : tie.Need-is-set-requires-2
-is-set-requires-2 c κs = search needs
-
-slice-aggregate-put-field : tie.Need-slice-aggregate-put-field
-slice-aggregate-put-field c = search needs
-
 put-field-requires : tie.Need-put-field-requires
 unfolding signed text
 put-field-requires c κs = let t = c .before .before in fits-as (minus-is t) (start (t .before) .pre .fits)
-
-same-length : tie.Need-same-length
-same-length c = search needs
 
 returns : tie.Need-returns
 unfolding signed text
 returns c = let p = c .before .before in puts-as (minus-is (p .before .before .before)) (p .put-field .ensures)
 
-slice-aggregate-put-field-2 : tie.Need-slice-aggregate-put-field-2
-slice-aggregate-put-field-2 c = search needs
-
 put-field-requires-2 : tie.Need-put-field-requires-2
 unfolding signed text
 put-field-requires-2 c κs = let t = c .before .before in fits-as (plus-is t) (start (t .before) .pre .fits)
-
-same-length-2 : tie.Need-same-length-2
-same-length-2 c = search needs
 
 returns-2 : tie.Need-returns-2
 unfolding signed text
@@ -74,15 +56,5 @@ returns-3 c =
 pub put-face-spec : {M : Type 1} → statement M
 put-face-spec =
     tie.close
-    (tie.spec
-    is-set-requires
-    is-set-requires-2
-    slice-aggregate-put-field
-    put-field-requires
-    same-length
-    returns
-    slice-aggregate-put-field-2
-    put-field-requires-2
-    same-length-2
-    returns-2
-    returns-3)
+    (tie.spec (λ c κs. search needs) (λ c κs. search needs) (λ c. search needs) put-field-requires (λ c. search needs) returns
+    (λ c. search needs) put-field-requires-2 (λ c. search needs) returns-2 returns-3)

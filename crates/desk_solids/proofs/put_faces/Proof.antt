@@ -33,12 +33,6 @@ put-face-requires c κs =
           (faces-more (s .args .taken) (s .args .turned) k h) (s .pre);
     }
 
-add-k : tie.Need-add-k Inv-loop μ-loop
-add-k c = omega arith
-
-loop-less : tie.Need-loop-less Inv-loop μ-loop
-loop-less c = omega arith
-
 loop-again : tie.Need-loop-again Inv-loop μ-loop
 loop-again c =
     let p = c .before .before in
@@ -58,4 +52,4 @@ returns c =
 pub put-faces-spec : {M : Type 1} → statement M
 put-faces-spec =
     tie.close
-    (tie.spec Inv-loop μ-loop loop-holds put-face-requires add-k loop-less loop-again same-length returns)
+    (tie.spec Inv-loop μ-loop loop-holds put-face-requires (λ c. omega arith) (λ c. omega arith) loop-again same-length returns)

@@ -29,29 +29,11 @@ facesAt s = let ws = s .args .words .now in facesOf (getD ws 0 0) (getD ws 1 0)
 
 -- ---- the needs
 
-shared-slice-read-taken : tie.Need-shared-slice-read-taken
-shared-slice-read-taken c = search needs
-
-shared-slice-read-turned : tie.Need-shared-slice-read-turned
-shared-slice-read-turned c = search needs
-
-shared-slice-read-six : tie.Need-shared-slice-read-six
-shared-slice-read-six c = search needs
-
-slice-aggregate-put-pair : tie.Need-slice-aggregate-put-pair
-slice-aggregate-put-pair c = search needs
-
-slice-aggregate-put-pair-2 : tie.Need-slice-aggregate-put-pair-2
-slice-aggregate-put-pair-2 c = search needs
-
 put-pair-requires : tie.Need-put-pair-requires
 unfolding text
 put-pair-requires c κs =
     let s = c .before .before .before .before .before .before .before .before in
     fits-first (text " faces") (fits-first (facesAt s) (fits-first (text "\n") (s .pre .fits)))
-
-slice-aggregate-put-text : tie.Need-slice-aggregate-put-text
-slice-aggregate-put-text c = search needs
 
 put-text-requires : tie.Need-put-text-requires
 unfolding text
@@ -67,9 +49,6 @@ put-faces-requires c κs =
     let p = numbered q in
     fits-next (puts-both (p .put-pair .ensures) (q .put-text .ensures)) (fits-first (text "\n") (start p .pre .fits))
 
-slice-aggregate-put-text-2 : tie.Need-slice-aggregate-put-text-2
-slice-aggregate-put-text-2 c = search needs
-
 put-text-requires-2 : tie.Need-put-text-requires-2
 unfolding text
 put-text-requires-2 c κs =
@@ -77,9 +56,6 @@ put-text-requires-2 c κs =
     let q = named f in
     let p = numbered q in
     fits-next (puts-both (puts-both (p .put-pair .ensures) (q .put-text .ensures)) (f .put-faces .ensures)) (start p .pre .fits)
-
-same-length : tie.Need-same-length
-same-length c = search needs
 
 returns : tie.Need-returns
 unfolding text
@@ -92,17 +68,5 @@ returns c =
 pub put-solid-spec : {M : Type 1} → statement M
 put-solid-spec =
     tie.close
-    (tie.spec
-    shared-slice-read-taken
-    shared-slice-read-turned
-    shared-slice-read-six
-    slice-aggregate-put-pair
-    slice-aggregate-put-pair-2
-    put-pair-requires
-    slice-aggregate-put-text
-    put-text-requires
-    put-faces-requires
-    slice-aggregate-put-text-2
-    put-text-requires-2
-    same-length
-    returns)
+    (tie.spec (λ c. search needs) (λ c. search needs) (λ c. search needs) (λ c. search needs) (λ c. search needs) put-pair-requires
+    (λ c. search needs) put-text-requires put-faces-requires (λ c. search needs) put-text-requires-2 (λ c. search needs) returns)

@@ -20,24 +20,6 @@ start c = c .before .before .before
 loop-holds : tie.Need-loop-holds Inv-loop μ-loop
 loop-holds c = let a = c .before .before .args in onward-start (solids-start (a .n) (a .words .now))
 
-add-put-solid : tie.Need-add-put-solid Inv-loop μ-loop
-add-put-solid c = omega arith
-
-mul-put-solid : tie.Need-mul-put-solid Inv-loop μ-loop
-mul-put-solid c = omega arith
-
-mul-put-solid-2 : tie.Need-mul-put-solid-2 Inv-loop μ-loop
-mul-put-solid-2 c = omega arith
-
-sub-put-solid : tie.Need-sub-put-solid Inv-loop μ-loop
-sub-put-solid c = omega arith
-
-part-put-solid-start : tie.Need-part-put-solid-start Inv-loop μ-loop
-part-put-solid-start c = omega arith
-
-part-put-solid-end : tie.Need-part-put-solid-end Inv-loop μ-loop
-part-put-solid-end c = omega arith
-
 put-solid-requires : tie.Need-put-solid-requires Inv-loop μ-loop
 put-solid-requires c κs =
     let l = c .before .before .before in
@@ -49,12 +31,6 @@ put-solid-requires c κs =
       fits = onward-fits (l .loop .inv) (solidsFrom (s .args .n) (s .args .words .now) (i + 1))
           (solids-more (s .args .n) (s .args .words .now) i h) (s .pre .fits);
     }
-
-add-i : tie.Need-add-i Inv-loop μ-loop
-add-i c = omega arith
-
-loop-less : tie.Need-loop-less Inv-loop μ-loop
-loop-less c = omega arith
 
 loop-again : tie.Need-loop-again Inv-loop μ-loop
 loop-again c =
@@ -75,19 +51,5 @@ returns c =
 pub put-solids-spec : {M : Type 1} → statement M
 put-solids-spec =
     tie.close
-    (tie.spec
-    Inv-loop
-    μ-loop
-    loop-holds
-    add-put-solid
-    mul-put-solid
-    mul-put-solid-2
-    sub-put-solid
-    part-put-solid-start
-    part-put-solid-end
-    put-solid-requires
-    add-i
-    loop-less
-    loop-again
-    same-length
-    returns)
+    (tie.spec Inv-loop μ-loop loop-holds (λ c. omega arith) (λ c. omega arith) (λ c. omega arith) (λ c. omega arith) (λ c. omega arith)
+    (λ c. omega arith) put-solid-requires (λ c. omega arith) (λ c. omega arith) loop-again same-length returns)

@@ -19,9 +19,6 @@ edge-bits c = ap (λ (f : Format). f .«edge_count_bits») (c .edition-one .ensu
 returns : tie.Need-returns
 returns c = λ h. absurd (omega arith)
 
-edition-one-requires : tie.Need-edition-one-requires
-edition-one-requires c κs = search needs
-
 field-requires : tie.Need-field-requires
 field-requires c κs = record { narrow = omega (arith, vertex-bits c); inside = omega (arith, vertex-bits c) }
 
@@ -41,6 +38,4 @@ returns-2 c =
     )
 
 pub counted-spec : {M : Type 1} → statement M
-counted-spec =
-    tie.close
-    (tie.spec returns edition-one-requires field-requires add-field field-requires-2 returns-2)
+counted-spec = tie.close (tie.spec returns (λ c κs. search needs) field-requires add-field field-requires-2 returns-2)

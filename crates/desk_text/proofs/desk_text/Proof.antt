@@ -11,21 +11,12 @@ use Rattle.desk_text.proofs.desk_text.Tie as tie
 abbrev start : tie.After-put-desk → tie.Start
 start c = c .before .before .before .before
 
-slice-aggregate-put-desk : tie.Need-slice-aggregate-put-desk
-slice-aggregate-put-desk c = search needs
-
-put-desk-requires : tie.Need-put-desk-requires
-put-desk-requires c κs = search needs
-
 returns : tie.Need-returns
 returns c =
     let p = c .before .before in
     let a = start p .args in
     let t = deskText (a .sheet .now) in
     no-room t (a .room .now) (omega (arith, length-is t (a .room .now) (p .put-desk .ensures)))
-
-slice-aggregate-copy-bytes : tie.Need-slice-aggregate-copy-bytes
-slice-aggregate-copy-bytes c = search needs
 
 copy-bytes-requires : tie.Need-copy-bytes-requires
 copy-bytes-requires c κs =
@@ -36,9 +27,6 @@ copy-bytes-requires c κs =
       there = omega (arith, desk-short (a .sheet .now), length-is t (a .room .now) (p .put-desk .ensures), puts-long (p .put-desk .ensures));
       fits = omega arith;
     }
-
-same-length : tie.Need-same-length
-same-length c = search needs
 
 returns-2 : tie.Need-returns-2
 returns-2 c =
@@ -51,11 +39,4 @@ returns-2 c =
 pub desk-text-spec : {M : Type 1} → statement M
 desk-text-spec =
     tie.close
-    (tie.spec
-    slice-aggregate-put-desk
-    put-desk-requires
-    returns
-    slice-aggregate-copy-bytes
-    copy-bytes-requires
-    same-length
-    returns-2)
+    (tie.spec (λ c. search needs) (λ c κs. search needs) returns (λ c. search needs) copy-bytes-requires (λ c. search needs) returns-2)

@@ -17,30 +17,12 @@ start c = c .before .before .before .before .before
 
 -- ---- the needs
 
-slice-aggregate-convert-sheet : tie.Need-slice-aggregate-convert-sheet
-slice-aggregate-convert-sheet c = search needs
-
-slice-aggregate-convert-sheet-2 : tie.Need-slice-aggregate-convert-sheet-2
-slice-aggregate-convert-sheet-2 c = search needs
-
-convert-sheet-requires : tie.Need-convert-sheet-requires
-convert-sheet-requires c κs = search needs
-
-counted-requires : tie.Need-counted-requires
-counted-requires c κs = search needs
-
-slice-aggregate-put-answer : tie.Need-slice-aggregate-put-answer
-slice-aggregate-put-answer c = search needs
-
 put-answer-requires : tie.Need-put-answer-requires
 put-answer-requires c κs =
     let k = c .before .before in
     let m = made k in
     let s = start m in
     answering (s .args .sheet .now) (k .counted .result) (k .counted .ensures) (m .convert-sheet .ensures .0) (omega arith) (s .pre)
-
-same-length : tie.Need-same-length
-same-length c = search needs
 
 returns : tie.Need-returns
 returns c =
@@ -53,12 +35,5 @@ returns c =
 pub put-desk-spec : {M : Type 1} → statement M
 put-desk-spec =
     tie.close
-    (tie.spec
-    slice-aggregate-convert-sheet
-    slice-aggregate-convert-sheet-2
-    convert-sheet-requires
-    counted-requires
-    slice-aggregate-put-answer
-    put-answer-requires
-    same-length
-    returns)
+    (tie.spec (λ c. search needs) (λ c. search needs) (λ c κs. search needs) (λ c κs. search needs) (λ c. search needs) put-answer-requires
+    (λ c. search needs) returns)

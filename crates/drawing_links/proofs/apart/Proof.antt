@@ -50,17 +50,8 @@ answer d e = ap (λ (n : ℕ). lowest (Missing d n) n) (sym e)
 
 -- ---- the needs
 
-vertices-reached-requires : tie.Need-vertices-reached-requires Inv-loop μ-loop
-vertices-reached-requires c κs = omega arith
-
 loop-holds : tie.Need-loop-holds Inv-loop μ-loop
 loop-holds c = (omega arith, λ d k. lowest-start (Missing d _) _)
-
-is-set-requires : tie.Need-is-set-requires Inv-loop μ-loop
-is-set-requires c κs = omega arith
-
-refused-requires : tie.Need-refused-requires Inv-loop μ-loop
-refused-requires c κs = search needs
 
 returns : tie.Need-returns Inv-loop μ-loop
 returns c =
@@ -71,12 +62,6 @@ returns c =
     let missing = here f (c .before .if1 .taken) d k in
     let hit = lowest-hit (Missing d v) v (l .loop .w) (omega arith) (l .loop .inv .1 d k) missing in
     c .refused .ensures ∙ stops Apart [] (sym (sym (answer d (k .count)) ∙ hit))
-
-add-w : tie.Need-add-w Inv-loop μ-loop
-add-w c = omega arith
-
-loop-less : tie.Need-loop-less Inv-loop μ-loop
-loop-less c = omega arith
 
 loop-again : tie.Need-loop-again Inv-loop μ-loop
 loop-again c =
@@ -96,15 +81,5 @@ returns-2 c =
 pub apart-spec : {M : Type 1} → statement M
 apart-spec =
     tie.close
-    (tie.spec
-    Inv-loop
-    μ-loop
-    vertices-reached-requires
-    loop-holds
-    is-set-requires
-    refused-requires
-    returns
-    add-w
-    loop-less
-    loop-again
-    returns-2)
+    (tie.spec Inv-loop μ-loop (λ c κs. omega arith) loop-holds (λ c κs. omega arith) (λ c κs. search needs) returns (λ c. omega arith)
+    (λ c. omega arith) loop-again returns-2)

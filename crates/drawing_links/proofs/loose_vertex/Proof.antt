@@ -31,15 +31,6 @@ turn c = c .before .before
 loop-holds : tie.Need-loop-holds Inv-loop μ-loop
 loop-holds c = (omega arith, λ d k. lowest-start (Loose d) _)
 
-mul-if1 : tie.Need-mul-if1 Inv-loop μ-loop
-mul-if1 c = omega arith
-
-element-copy-out-if1 : tie.Need-element-copy-out-if1 Inv-loop μ-loop
-element-copy-out-if1 c = omega arith
-
-refused-requires : tie.Need-refused-requires Inv-loop μ-loop
-refused-requires c κs = search needs
-
 returns : tie.Need-returns Inv-loop μ-loop
 unfolding looseVertex
 returns c =
@@ -50,12 +41,6 @@ returns c =
     let loose = sym (loose-is k (l .u) (omega arith)) ∙ eq-eqb _ 0 (t .if1 .taken) in
     let hit = lowest-hit (Loose d) v (l .u) (omega arith) (l .inv .1 d k) loose in
     c .refused .ensures ∙ stops LooseVertex [] (sym (ap (lowest (Loose d)) (k .count) ∙ hit))
-
-add-u : tie.Need-add-u Inv-loop μ-loop
-add-u c = omega arith
-
-loop-less : tie.Need-loop-less Inv-loop μ-loop
-loop-less c = omega arith
 
 loop-again : tie.Need-loop-again Inv-loop μ-loop
 loop-again c =
@@ -79,15 +64,5 @@ returns-2 c =
 pub loose-vertex-spec : {M : Type 1} → statement M
 loose-vertex-spec =
     tie.close
-    (tie.spec
-    Inv-loop
-    μ-loop
-    loop-holds
-    mul-if1
-    element-copy-out-if1
-    refused-requires
-    returns
-    add-u
-    loop-less
-    loop-again
-    returns-2)
+    (tie.spec Inv-loop μ-loop loop-holds (λ c. omega arith) (λ c. omega arith) (λ c κs. search needs) returns (λ c. omega arith)
+    (λ c. omega arith) loop-again returns-2)

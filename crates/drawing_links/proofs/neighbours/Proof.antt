@@ -75,30 +75,15 @@ loop-holds c =
       marks = λ u w. no-marks (editionOne .«most_vertices») u w;
     }
 
-mul-wide : tie.Need-mul-wide Inv-loop μ-loop
-mul-wide c = omega arith
-
 shared-slice-read-wide : tie.Need-shared-slice-read-wide Inv-loop μ-loop
 shared-slice-read-wide c =
     let p = start (c .before .before) .pre .links in
     omega (arith, edge-count p, p .whole)
 
-wide-requires : tie.Need-wide-requires Inv-loop μ-loop
-wide-requires c κs = search needs
-
-mul-wide-2 : tie.Need-mul-wide-2 Inv-loop μ-loop
-mul-wide-2 c = omega arith
-
-add-wide : tie.Need-add-wide Inv-loop μ-loop
-add-wide c = omega arith
-
 shared-slice-read-wide-2 : tie.Need-shared-slice-read-wide-2 Inv-loop μ-loop
 shared-slice-read-wide-2 c =
     let p = start (turn (c .before)) .pre .links in
     omega (arith, edge-count p, p .whole)
-
-wide-requires-2 : tie.Need-wide-requires-2 Inv-loop μ-loop
-wide-requires-2 c κs = search needs
 
 mul-near : tie.Need-mul-near Inv-loop μ-loop
 mul-near c = omega (arith, both-low c)
@@ -129,12 +114,6 @@ mul-near-4 c = omega (arith, both-low c)
 
 array-write-near-2 : tie.Need-array-write-near-2 Inv-loop μ-loop
 array-write-near-2 c = omega (arith, both-low c)
-
-add-e : tie.Need-add-e Inv-loop μ-loop
-add-e c = omega arith
-
-loop-less : tie.Need-loop-less Inv-loop μ-loop
-loop-less c = omega arith
 
 loop-again : tie.Need-loop-again Inv-loop μ-loop
 loop-again c =
@@ -171,28 +150,6 @@ returns c =
 pub neighbours-spec : {M : Type 1} → statement M
 neighbours-spec =
     tie.close
-    (tie.spec
-    Inv-loop
-    μ-loop
-    loop-holds
-    mul-wide
-    shared-slice-read-wide
-    wide-requires
-    mul-wide-2
-    add-wide
-    shared-slice-read-wide-2
-    wide-requires-2
-    mul-near
-    array-read-near
-    shl-near
-    mul-near-2
-    array-write-near
-    mul-near-3
-    array-read-near-2
-    shl-near-2
-    mul-near-4
-    array-write-near-2
-    add-e
-    loop-less
-    loop-again
-    returns)
+    (tie.spec Inv-loop μ-loop loop-holds (λ c. omega arith) shared-slice-read-wide (λ c κs. search needs) (λ c. omega arith)
+    (λ c. omega arith) shared-slice-read-wide-2 (λ c κs. search needs) mul-near array-read-near shl-near mul-near-2 array-write-near
+    mul-near-3 array-read-near-2 shl-near-2 mul-near-4 array-write-near-2 (λ c. omega arith) (λ c. omega arith) loop-again returns)

@@ -25,9 +25,6 @@ turn c = c .before .before
 loop-holds : tie.Need-loop-holds Inv-loop μ-loop
 loop-holds c = (omega arith, λ d l. reach-start d _ (l .count))
 
-further-requires : tie.Need-further-requires Inv-loop μ-loop
-further-requires c κs = omega arith
-
 returns : tie.Need-returns Inv-loop μ-loop
 returns c =
     let f = c .before in
@@ -37,12 +34,6 @@ returns c =
     let still : Grown (p .set) v d (p .set) =
     λ w. ap (λ (m : ℕ). digit m w) (sym (c .if1 .taken)) ∙ f .further .ensures d l w in
     reach-rest d v (l .count) (p .set) (p .k) (omega arith) (p .inv .1 d l) still
-
-add-k : tie.Need-add-k Inv-loop μ-loop
-add-k c = omega arith
-
-loop-less : tie.Need-loop-less Inv-loop μ-loop
-loop-less c = omega arith
 
 loop-again : tie.Need-loop-again Inv-loop μ-loop
 unfolding verticesReached
@@ -65,13 +56,4 @@ returns-2 c =
 pub vertices-reached-spec : {M : Type 1} → statement M
 vertices-reached-spec =
     tie.close
-    (tie.spec
-    Inv-loop
-    μ-loop
-    loop-holds
-    further-requires
-    returns
-    add-k
-    loop-less
-    loop-again
-    returns-2)
+    (tie.spec Inv-loop μ-loop loop-holds (λ c κs. omega arith) returns (λ c. omega arith) (λ c. omega arith) loop-again returns-2)

@@ -7,21 +7,6 @@ use borrow.Author.Needs.{needs}
 use Rattle.drawing_lists.proofs.content.Statement.{statement}
 use Rattle.drawing_lists.proofs.content.Tie as tie
 
-first-far-requires : tie.Need-first-far-requires
-first-far-requires c κs = search needs
-
-enum-known-i : tie.Need-enum-known-i
-enum-known-i c = search needs
-
-refused-requires : tie.Need-refused-requires
-refused-requires c κs = search needs
-
-enum-told : tie.Need-enum-told
-enum-told c = search needs
-
-edges-requires : tie.Need-edges-requires
-edges-requires c κs = search needs
-
 returns : tie.Need-returns
 unfolding contentChecks
 returns c =
@@ -37,11 +22,5 @@ returns-2 c =
 pub content-spec : {M : Type 1} → statement M
 content-spec =
     tie.close
-    (tie.spec
-    first-far-requires
-    enum-known-i
-    refused-requires
-    enum-told
-    edges-requires
-    returns
+    (tie.spec (λ c κs. search needs) (λ c. search needs) (λ c κs. search needs) (λ c. search needs) (λ c κs. search needs) returns
     returns-2)

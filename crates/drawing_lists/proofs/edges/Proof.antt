@@ -16,30 +16,6 @@ nine-passes : (c : tie.After-enum-told)
     → let a = c .before .before .before .before .args in none ≡ lowest (wrongAt (a .v) (a .ends .now)) (length (a .ends .now) / 2)
 nine-passes c = sym (ap found (c .enum-told .given .1)) ∙ c .before .before .first-wrong .ensures
 
-first-wrong-requires : tie.Need-first-wrong-requires
-first-wrong-requires c κs = search needs
-
-enum-known-e : tie.Need-enum-known-e
-enum-known-e c = search needs
-
-refused-requires : tie.Need-refused-requires
-refused-requires c κs = search needs
-
-enum-told : tie.Need-enum-told
-enum-told c = search needs
-
-first-low-requires : tie.Need-first-low-requires
-first-low-requires c κs = search needs
-
-enum-known-e-2 : tie.Need-enum-known-e-2
-enum-known-e-2 c = search needs
-
-refused-requires-2 : tie.Need-refused-requires-2
-refused-requires-2 c κs = search needs
-
-enum-told-2 : tie.Need-enum-told-2
-enum-told-2 c = search needs
-
 returns : tie.Need-returns
 unfolding edgeChecks
 returns c =
@@ -66,15 +42,5 @@ returns-3 c =
 pub edges-spec : {M : Type 1} → statement M
 edges-spec =
     tie.close
-    (tie.spec
-    first-wrong-requires
-    enum-known-e
-    refused-requires
-    enum-told
-    first-low-requires
-    enum-known-e-2
-    refused-requires-2
-    enum-told-2
-    returns
-    returns-2
-    returns-3)
+    (tie.spec (λ c κs. search needs) (λ c. search needs) (λ c κs. search needs) (λ c. search needs) (λ c κs. search needs)
+    (λ c. search needs) (λ c κs. search needs) (λ c. search needs) returns returns-2 returns-3)

@@ -36,23 +36,8 @@ tested c = sym (rw (same c) at (c .is-far .ensures))
 loop-holds : tie.Need-loop-holds Inv-loop μ-loop
 loop-holds c = (omega arith, lowest-start _ _)
 
-mul-is-far : tie.Need-mul-is-far Inv-loop μ-loop
-mul-is-far c = omega arith
-
-shared-slice-copy-out-is-far : tie.Need-shared-slice-copy-out-is-far Inv-loop μ-loop
-shared-slice-copy-out-is-far c = omega arith
-
-is-far-requires : tie.Need-is-far-requires Inv-loop μ-loop
-is-far-requires c κs = omega arith
-
 returns : tie.Need-returns Inv-loop μ-loop
 returns c = sym (lowest-hit _ _ _ (omega arith) (turn (c .before) .loop .inv .1) (tested (c .before) ∙ c .if1 .taken))
-
-add-i : tie.Need-add-i Inv-loop μ-loop
-add-i c = omega arith
-
-loop-less : tie.Need-loop-less Inv-loop μ-loop
-loop-less c = omega arith
 
 loop-again : tie.Need-loop-again Inv-loop μ-loop
 loop-again c = (omega arith, lowest-miss _ _ _ (omega arith) (turn (c .before) .loop .inv .1) (tested (c .before) ∙ c .if1 .left))
@@ -66,15 +51,5 @@ returns-2 c =
 pub first-far-spec : {M : Type 1} → statement M
 first-far-spec =
     tie.close
-    (tie.spec
-    Inv-loop
-    μ-loop
-    loop-holds
-    mul-is-far
-    shared-slice-copy-out-is-far
-    is-far-requires
-    returns
-    add-i
-    loop-less
-    loop-again
-    returns-2)
+    (tie.spec Inv-loop μ-loop loop-holds (λ c. omega arith) (λ c. omega arith) (λ c κs. omega arith) returns (λ c. omega arith)
+    (λ c. omega arith) loop-again returns-2)

@@ -20,19 +20,10 @@ turn c = c .before .before
 loop-holds : tie.Need-loop-holds Inv-loop μ-loop
 loop-holds c = (omega arith, omega arith, lowest-start _ _)
 
-is-low-requires : tie.Need-is-low-requires Inv-loop μ-loop
-is-low-requires c κs = omega arith
-
 returns : tie.Need-returns Inv-loop μ-loop
 returns c =
     let t = c .before in
     sym (lowest-hit _ _ _ (omega arith) (turn t .loop .inv .2) (sym (t .is-low .ensures) ∙ c .if1 .taken))
-
-add-e : tie.Need-add-e Inv-loop μ-loop
-add-e c = omega arith
-
-loop-less : tie.Need-loop-less Inv-loop μ-loop
-loop-less c = omega arith
 
 loop-again : tie.Need-loop-again Inv-loop μ-loop
 loop-again c =
@@ -48,13 +39,4 @@ returns-2 c =
 pub first-low-spec : {M : Type 1} → statement M
 first-low-spec =
     tie.close
-    (tie.spec
-    Inv-loop
-    μ-loop
-    loop-holds
-    is-low-requires
-    returns
-    add-e
-    loop-less
-    loop-again
-    returns-2)
+    (tie.spec Inv-loop μ-loop loop-holds (λ c κs. omega arith) returns (λ c. omega arith) (λ c. omega arith) loop-again returns-2)

@@ -20,35 +20,11 @@ turn c = c .before .before .before .before
 loop-holds : tie.Need-loop-holds Inv-loop μ-loop
 loop-holds c = (omega arith, omega arith, lowest-start _ _)
 
-mul-is-wrong : tie.Need-mul-is-wrong Inv-loop μ-loop
-mul-is-wrong c = omega arith
-
-shared-slice-read-is-wrong : tie.Need-shared-slice-read-is-wrong Inv-loop μ-loop
-shared-slice-read-is-wrong c = omega arith
-
-mul-is-wrong-2 : tie.Need-mul-is-wrong-2 Inv-loop μ-loop
-mul-is-wrong-2 c = omega arith
-
-add-is-wrong : tie.Need-add-is-wrong Inv-loop μ-loop
-add-is-wrong c = omega arith
-
-shared-slice-read-is-wrong-2 : tie.Need-shared-slice-read-is-wrong-2 Inv-loop μ-loop
-shared-slice-read-is-wrong-2 c = omega arith
-
-is-wrong-requires : tie.Need-is-wrong-requires Inv-loop μ-loop
-is-wrong-requires c κs = omega arith
-
 returns : tie.Need-returns Inv-loop μ-loop
 unfolding wrongAt
 returns c =
     let t = c .before in
     sym (lowest-hit _ _ _ (omega arith) (turn t .loop .inv .2) (sym (t .is-wrong .ensures) ∙ c .if1 .taken))
-
-add-e : tie.Need-add-e Inv-loop μ-loop
-add-e c = omega arith
-
-loop-less : tie.Need-loop-less Inv-loop μ-loop
-loop-less c = omega arith
 
 loop-again : tie.Need-loop-again Inv-loop μ-loop
 unfolding wrongAt
@@ -65,18 +41,5 @@ returns-2 c =
 pub first-wrong-spec : {M : Type 1} → statement M
 first-wrong-spec =
     tie.close
-    (tie.spec
-    Inv-loop
-    μ-loop
-    loop-holds
-    mul-is-wrong
-    shared-slice-read-is-wrong
-    mul-is-wrong-2
-    add-is-wrong
-    shared-slice-read-is-wrong-2
-    is-wrong-requires
-    returns
-    add-e
-    loop-less
-    loop-again
-    returns-2)
+    (tie.spec Inv-loop μ-loop loop-holds (λ c. omega arith) (λ c. omega arith) (λ c. omega arith) (λ c. omega arith) (λ c. omega arith)
+    (λ c κs. omega arith) returns (λ c. omega arith) (λ c. omega arith) loop-again returns-2)

@@ -6,9 +6,6 @@ use borrow.Author.Needs.{needs}
 use Rattle.drawing_lists.proofs.is_far.Statement.{statement}
 use Rattle.drawing_lists.proofs.is_far.Tie as tie
 
-sub-if1 : tie.Need-sub-if1
-sub-if1 c = search needs
-
 returns : tie.Need-returns
 returns c = let e = toZ-ofZ w64 (c .before .args .z) (c .before .fits .z) in rw (e, rw e at (c .if1 .taken)) refl
 
@@ -16,4 +13,4 @@ returns-2 : tie.Need-returns-2
 returns-2 c = let e = toZ-ofZ w64 (c .before .args .z) (c .before .fits .z) in rw (e, rw e at (c .if1 .left)) refl
 
 pub is-far-spec : {M : Type 1} → statement M
-is-far-spec = tie.close (tie.spec sub-if1 returns returns-2)
+is-far-spec = tie.close (tie.spec (λ c. search needs) returns returns-2)

@@ -27,45 +27,6 @@ returns : tie.Need-returns
 unfolding lowAt
 returns c = rw (c .if1 .taken) refl
 
-sub-b : tie.Need-sub-b
-sub-b c = search needs
-
-mul-is-edge-above : tie.Need-mul-is-edge-above
-mul-is-edge-above c = search needs
-
-shared-slice-read-is-edge-above : tie.Need-shared-slice-read-is-edge-above
-shared-slice-read-is-edge-above c = search needs
-
-mul-is-edge-above-2 : tie.Need-mul-is-edge-above-2
-mul-is-edge-above-2 c = search needs
-
-add-is-edge-above : tie.Need-add-is-edge-above
-add-is-edge-above c = search needs
-
-shared-slice-read-is-edge-above-2 : tie.Need-shared-slice-read-is-edge-above-2
-shared-slice-read-is-edge-above-2 c = search needs
-
-mul-is-edge-above-3 : tie.Need-mul-is-edge-above-3
-mul-is-edge-above-3 c = search needs
-
-add-is-edge-above-2 : tie.Need-add-is-edge-above-2
-add-is-edge-above-2 c = search needs
-
-shared-slice-read-is-edge-above-3 : tie.Need-shared-slice-read-is-edge-above-3
-shared-slice-read-is-edge-above-3 c = search needs
-
-mul-is-edge-above-4 : tie.Need-mul-is-edge-above-4
-mul-is-edge-above-4 c = search needs
-
-add-is-edge-above-3 : tie.Need-add-is-edge-above-3
-add-is-edge-above-3 c = search needs
-
-shared-slice-read-is-edge-above-4 : tie.Need-shared-slice-read-is-edge-above-4
-shared-slice-read-is-edge-above-4 c = search needs
-
-is-edge-above-requires : tie.Need-is-edge-above-requires
-is-edge-above-requires c κs = search needs
-
 returns-2 : tie.Need-returns-2
 returns-2 c =
     let t = past-first c in
@@ -75,19 +36,6 @@ returns-2 c =
 pub is-low-spec : {M : Type 1} → statement M
 is-low-spec =
     tie.close
-    (tie.spec
-    returns
-    sub-b
-    mul-is-edge-above
-    shared-slice-read-is-edge-above
-    mul-is-edge-above-2
-    add-is-edge-above
-    shared-slice-read-is-edge-above-2
-    mul-is-edge-above-3
-    add-is-edge-above-2
-    shared-slice-read-is-edge-above-3
-    mul-is-edge-above-4
-    add-is-edge-above-3
-    shared-slice-read-is-edge-above-4
-    is-edge-above-requires
-    returns-2)
+    (tie.spec returns (λ c. search needs) (λ c. search needs) (λ c. search needs) (λ c. search needs) (λ c. search needs)
+    (λ c. search needs) (λ c. search needs) (λ c. search needs) (λ c. search needs) (λ c. search needs) (λ c. search needs)
+    (λ c. search needs) (λ c κs. search needs) returns-2)

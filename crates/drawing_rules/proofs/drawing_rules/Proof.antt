@@ -118,12 +118,6 @@ passed-13 c =
 
 -- ---- the needs
 
-same-place-requires : tie.Need-same-place-requires
-same-place-requires c κs = search needs
-
-enum-told : tie.Need-enum-told
-enum-told c = search needs
-
 returns : tie.Need-returns
 unfolding wire drawingChecks
 returns c =
@@ -132,15 +126,6 @@ returns c =
     let told = c .enum-told .given .1 in
     told ∙ first-stops (c11 s ∷ []) (c12 s ∷ c13 s ∷ c14 s ∷ []) (sym told ∙ a .same-place .ensures (D s) refl)
 
-enum-told-2 : tie.Need-enum-told-2
-enum-told-2 c = search needs
-
-loose-vertex-requires : tie.Need-loose-vertex-requires
-loose-vertex-requires c κs = search needs
-
-enum-told-3 : tie.Need-enum-told-3
-enum-told-3 c = search needs
-
 returns-2 : tie.Need-returns-2
 returns-2 c =
     let l = c .before .before in
@@ -148,9 +133,6 @@ returns-2 c =
     let told = c .enum-told3 .given .1 in
     let loose = sym told ∙ l .loose-vertex .ensures (D s) (links s) in
     told ∙ first-stops (c12 s ∷ []) (c13 s ∷ c14 s ∷ []) loose ∙ passed-11 (apart-places l)
-
-enum-told-4 : tie.Need-enum-told-4
-enum-told-4 c = search needs
 
 edge-meets-requires : tie.Need-edge-meets-requires
 edge-meets-requires c κs =
@@ -162,21 +144,12 @@ edge-meets-requires c κs =
       tied = found-none LooseVertex [] (fine-12 c) .0;
     }
 
-enum-told-5 : tie.Need-enum-told-5
-enum-told-5 c = search needs
-
 returns-3 : tie.Need-returns-3
 returns-3 c =
     let m = c .before .before in
     let s = begun (loose-asked (tied m)) in
     let told = c .enum-told5 .given .1 in
     told ∙ first-stops (c13 s ∷ []) (c14 s ∷ []) (sym told ∙ m .edge-meets .ensures) ∙ passed-12 (tied m)
-
-enum-told-6 : tie.Need-enum-told-6
-enum-told-6 c = search needs
-
-apart-requires : tie.Need-apart-requires
-apart-requires c κs = search needs
 
 returns-4 : tie.Need-returns-4
 returns-4 c =
@@ -187,18 +160,5 @@ returns-4 c =
 pub drawing-rules-spec : {M : Type 1} → statement M
 drawing-rules-spec =
     tie.close
-    (tie.spec
-    same-place-requires
-    enum-told
-    returns
-    enum-told-2
-    loose-vertex-requires
-    enum-told-3
-    returns-2
-    enum-told-4
-    edge-meets-requires
-    enum-told-5
-    returns-3
-    enum-told-6
-    apart-requires
-    returns-4)
+    (tie.spec (λ c κs. search needs) (λ c. search needs) returns (λ c. search needs) (λ c κs. search needs) (λ c. search needs) returns-2
+    (λ c. search needs) edge-meets-requires (λ c. search needs) returns-3 (λ c. search needs) (λ c κs. search needs) returns-4)

@@ -30,17 +30,8 @@ answer : (c : tie.After-is-zero) (b : Bool) → c .is-zero .result ≡ b
     answers (b && cut .first) (b && cut .second) ≡ answers (level && cut .first) (level && cut .second)
 answer c b e = let cut = cuts (start c) in ap (λ (t : Bool). answers (t && cut .first) (t && cut .second)) (sym (plane c e))
 
-dot-requires : tie.Need-dot-requires
-dot-requires c κs = search needs
-
-is-zero-requires : tie.Need-is-zero-requires
-is-zero-requires c κs = search needs
-
 returns : tie.Need-returns
 returns c = let z = c .before in answer z false (not-true (z .is-zero .result) (c .if1 .taken))
-
-cut-requires : tie.Need-cut-requires
-cut-requires c κs = search needs
 
 returns-2 : tie.Need-returns-2
 returns-2 c =
@@ -48,4 +39,4 @@ returns-2 c =
     c .cut .ensures ∙ answer z true (not-false (z .is-zero .result) (c .before .if1 .left))
 
 pub across-spec : {M : Type 1} → statement M
-across-spec = tie.close (tie.spec dot-requires is-zero-requires returns cut-requires returns-2)
+across-spec = tie.close (tie.spec (λ c κs. search needs) (λ c κs. search needs) returns (λ c κs. search needs) returns-2)

@@ -32,12 +32,6 @@ answer c t e =
 
 -- ---- the needs
 
-minus-requires : tie.Need-minus-requires
-minus-requires c κs = search needs
-
-minus-requires-2 : tie.Need-minus-requires-2
-minus-requires-2 c κs = search needs
-
 cross-requires : tie.Need-cross-requires
 cross-requires c κs =
     let s = c .before .before .pre in
@@ -46,17 +40,8 @@ cross-requires c κs =
       b-in = small-eq (c .minus2 .ensures) (minus-small (s .c-in) (s .a-in));
     }
 
-is-origin-requires : tie.Need-is-origin-requires
-is-origin-requires c κs = search needs
-
 returns : tie.Need-returns
 returns c = let o = c .before in answer o false (not-true (o .is-origin .result) (c .if1 .taken))
-
-laps-requires : tie.Need-laps-requires
-laps-requires c κs = search needs
-
-laps-requires-2 : tie.Need-laps-requires-2
-laps-requires-2 c κs = search needs
 
 returns-2 : tie.Need-returns-2
 returns-2 c =
@@ -69,12 +54,5 @@ returns-2 c =
 pub along-spec : {M : Type 1} → statement M
 along-spec =
     tie.close
-    (tie.spec
-    minus-requires
-    minus-requires-2
-    cross-requires
-    is-origin-requires
-    returns
-    laps-requires
-    laps-requires-2
-    returns-2)
+    (tie.spec (λ c κs. search needs) (λ c κs. search needs) cross-requires (λ c κs. search needs) returns (λ c κs. search needs)
+    (λ c κs. search needs) returns-2)

@@ -64,9 +64,6 @@ along-z c =
 
 -- ---- the needs
 
-clear-requires : tie.Need-clear-requires
-clear-requires c κs = search needs
-
 returns : tie.Need-returns
 unfolding boxesApart
 returns c =
@@ -75,9 +72,6 @@ returns c =
     let y = clear (a .s .low .y) (a .s .high .y) (a .t .low .y) (a .t .high .y) in
     let z = clear (a .s .low .z) (a .s .high .z) (a .t .low .z) (a .t .high .z) in
     ap (λ (b : Bool). b || y || z) (sym (c .if1 .taken) ∙ along-x x)
-
-clear-requires-2 : tie.Need-clear-requires-2
-clear-requires-2 c κs = search needs
 
 returns-2 : tie.Need-returns-2
 unfolding boxesApart
@@ -88,9 +82,6 @@ returns-2 c =
     let z = clear (a .s .low .z) (a .s .high .z) (a .t .low .z) (a .t .high .z) in
     λ i. (sym (x .if1 .left) ∙ along-x (x .before)) i || (sym (c .if2 .taken) ∙ along-y y) i || z
 
-clear-requires-3 : tie.Need-clear-requires-3
-clear-requires-3 c κs = search needs
-
 returns-3 : tie.Need-returns-3
 unfolding boxesApart
 returns-3 c =
@@ -99,4 +90,4 @@ returns-3 c =
     λ i. (sym (x .if1 .left) ∙ along-x (x .before)) i || (sym (y .if2 .left) ∙ along-y (y .before)) i || along-z c i
 
 pub are-apart-spec : {M : Type 1} → statement M
-are-apart-spec = tie.close (tie.spec clear-requires returns clear-requires-2 returns-2 clear-requires-3 returns-3)
+are-apart-spec = tie.close (tie.spec (λ c κs. search needs) returns (λ c κs. search needs) returns-2 (λ c κs. search needs) returns-3)

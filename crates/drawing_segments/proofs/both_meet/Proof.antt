@@ -41,20 +41,8 @@ direction c e = ap isOrigin (sym (normal (c .before))) ∙ sym (c .is-origin .en
 
 -- ---- the needs
 
-minus-requires : tie.Need-minus-requires
-minus-requires c κs = search needs
-
-minus-requires-2 : tie.Need-minus-requires-2
-minus-requires-2 c κs = search needs
-
 cross-requires : tie.Need-cross-requires
 cross-requires c κs = record { a-in = p-small c; b-in = q-small c }
-
-is-origin-requires : tie.Need-is-origin-requires
-is-origin-requires c κs = search needs
-
-along-requires : tie.Need-along-requires
-along-requires c κs = search needs
 
 returns : tie.Need-returns
 returns c =
@@ -69,9 +57,6 @@ returns-2 c =
     let s = start (stepped (e .before)) in
     let a = s .args in
     by-joined (a .a) (a .b) (a .c) (a .d) (direction (e .before) (e .if1 .left)) (s .pre .shared (c .if2 .taken))
-
-minus-requires-3 : tie.Need-minus-requires-3
-minus-requires-3 c κs = search needs
 
 across-requires : tie.Need-across-requires
 across-requires c κs =
@@ -101,14 +86,5 @@ returns-3 c =
 pub both-meet-spec : {M : Type 1} → statement M
 both-meet-spec =
     tie.close
-    (tie.spec
-    minus-requires
-    minus-requires-2
-    cross-requires
-    is-origin-requires
-    along-requires
-    returns
-    returns-2
-    minus-requires-3
-    across-requires
-    returns-3)
+    (tie.spec (λ c κs. search needs) (λ c κs. search needs) cross-requires (λ c κs. search needs) (λ c κs. search needs) returns returns-2
+    (λ c κs. search needs) across-requires returns-3)

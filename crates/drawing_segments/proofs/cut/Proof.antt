@@ -23,30 +23,15 @@ made c = c .before .before
 
 -- ---- the needs
 
-cross-requires : tie.Need-cross-requires
-cross-requires c κs = search needs
-
 dot-requires : tie.Need-dot-requires
 dot-requires c κs =
     let s = c .before .pre in
     record { a-in = small-eq (c .cross .ensures) (small-up tt (cross-small (s .r-in) (s .q-in))); b-in = s .n-in }
 
-cross-requires-2 : tie.Need-cross-requires-2
-cross-requires-2 c κs = search needs
-
 dot-requires-2 : tie.Need-dot-requires-2
 dot-requires-2 c κs =
     let s = first c .before .pre in
     record { a-in = small-eq (c .cross2 .ensures) (small-up tt (cross-small (s .r-in) (s .p-in))); b-in = s .n-in }
-
-dot-requires-3 : tie.Need-dot-requires-3
-dot-requires-3 c κs = search needs
-
-cuts-open-requires : tie.Need-cuts-open-requires
-cuts-open-requires c κs = search needs
-
-cuts-open-requires-2 : tie.Need-cuts-open-requires-2
-cuts-open-requires-2 c κs = search needs
 
 returns : tie.Need-returns
 returns c =
@@ -67,12 +52,5 @@ returns c =
 pub cut-spec : {M : Type 1} → statement M
 cut-spec =
     tie.close
-    (tie.spec
-    cross-requires
-    dot-requires
-    cross-requires-2
-    dot-requires-2
-    dot-requires-3
-    cuts-open-requires
-    cuts-open-requires-2
-    returns)
+    (tie.spec (λ c κs. search needs) dot-requires (λ c κs. search needs) dot-requires-2 (λ c κs. search needs) (λ c κs. search needs)
+    (λ c κs. search needs) returns)

@@ -26,20 +26,11 @@ p-small c = let s = c .before .pre in small-eq (c .minus .ensures) (small-up tt 
 
 -- ---- the needs
 
-minus-requires : tie.Need-minus-requires
-minus-requires c κs = search needs
-
-minus-requires-2 : tie.Need-minus-requires-2
-minus-requires-2 c κs = search needs
-
 dot-requires : tie.Need-dot-requires
 dot-requires c κs =
     let m = stepped c in
     let s = m .before .pre in
     record { a-in = p-small m; b-in = small-eq (c .minus2 .ensures) (small-up tt (minus-small (s .c-in) (s .a-in))) }
-
-minus-requires-3 : tie.Need-minus-requires-3
-minus-requires-3 c κs = search needs
 
 dot-requires-2 : tie.Need-dot-requires-2
 dot-requires-2 c κs =
@@ -49,9 +40,6 @@ dot-requires-2 c κs =
 
 dot-requires-3 : tie.Need-dot-requires-3
 dot-requires-3 c κs = let m = stepped (first (second c)) in record { a-in = p-small m; b-in = p-small m }
-
-overlap-requires : tie.Need-overlap-requires
-overlap-requires c κs = search needs
 
 returns : tie.Need-returns
 unfolding laps
@@ -72,12 +60,5 @@ returns c =
 pub laps-spec : {M : Type 1} → statement M
 laps-spec =
     tie.close
-    (tie.spec
-    minus-requires
-    minus-requires-2
-    dot-requires
-    minus-requires-3
-    dot-requires-2
-    dot-requires-3
-    overlap-requires
-    returns)
+    (tie.spec (λ c κs. search needs) (λ c κs. search needs) dot-requires (λ c κs. search needs) dot-requires-2 dot-requires-3
+    (λ c κs. search needs) returns)

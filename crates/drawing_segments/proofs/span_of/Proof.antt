@@ -24,24 +24,6 @@ low1 c = c .before .before .before
 
 -- ---- the needs
 
-lower-requires : tie.Need-lower-requires
-lower-requires c κs = search needs
-
-lower-requires-2 : tie.Need-lower-requires-2
-lower-requires-2 c κs = search needs
-
-lower-requires-3 : tie.Need-lower-requires-3
-lower-requires-3 c κs = search needs
-
-higher-requires : tie.Need-higher-requires
-higher-requires c κs = search needs
-
-higher-requires-2 : tie.Need-higher-requires-2
-higher-requires-2 c κs = search needs
-
-higher-requires-3 : tie.Need-higher-requires-3
-higher-requires-3 c κs = search needs
-
 returns : tie.Need-returns
 unfolding lowCorner highCorner
 returns c =
@@ -78,11 +60,5 @@ returns c =
 pub span-of-spec : {M : Type 1} → statement M
 span-of-spec =
     tie.close
-    (tie.spec
-    lower-requires
-    lower-requires-2
-    lower-requires-3
-    higher-requires
-    higher-requires-2
-    higher-requires-3
-    returns)
+    (tie.spec (λ c κs. search needs) (λ c κs. search needs) (λ c κs. search needs) (λ c κs. search needs) (λ c κs. search needs)
+    (λ c κs. search needs) returns)

@@ -4,18 +4,6 @@ use borrow.Author.Needs.{needs}
 use Rattle.export.proofs.nibgravel_check.Statement.{statement}
 use Rattle.export.proofs.nibgravel_check.Tie as tie
 
-check-requires : tie.Need-check-requires
-check-requires c κs = search needs
-
-verdict-said-requires : tie.Need-verdict-said-requires
-verdict-said-requires c κs = search needs
-
-tell-requires : tie.Need-tell-requires
-tell-requires c κs = search needs
-
-same-length : tie.Need-same-length
-same-length c = search needs
-
 returns : tie.Need-returns
 returns c =
     let t = c .before .before in
@@ -23,5 +11,4 @@ returns c =
     told-as (t .tell .ensures) (s .verdict-said .ensures) (s .before .check .ensures .1)
 
 pub nibgravel-check-spec : {M : Type 1} → statement M
-nibgravel-check-spec =
-    tie.close (tie.spec check-requires verdict-said-requires tell-requires same-length returns)
+nibgravel-check-spec = tie.close (tie.spec (λ c κs. search needs) (λ c κs. search needs) (λ c κs. search needs) (λ c. search needs) returns)

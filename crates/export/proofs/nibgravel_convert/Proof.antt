@@ -8,24 +8,6 @@ use Rattle.export.proofs.nibgravel_convert.Tie as tie
 abbrev converted : tie.After-conversion-said → tie.After-convert
 converted c = c .before .before .before .before .before
 
-convert-requires : tie.Need-convert-requires
-convert-requires c κs = search needs
-
-conversion-said-requires : tie.Need-conversion-said-requires
-conversion-said-requires c κs = search needs
-
-tell-requires : tie.Need-tell-requires
-tell-requires c κs = search needs
-
-same-length : tie.Need-same-length
-same-length c = search needs
-
-same-length-2 : tie.Need-same-length-2
-same-length-2 c = search needs
-
-same-length-3 : tie.Need-same-length-3
-same-length-3 c = search needs
-
 returns : tie.Need-returns
 returns c =
     let t = c .before .before in
@@ -35,11 +17,5 @@ returns c =
 pub nibgravel-convert-spec : {M : Type 1} → statement M
 nibgravel-convert-spec =
     tie.close
-    (tie.spec
-    convert-requires
-    conversion-said-requires
-    tell-requires
-    same-length
-    same-length-2
-    same-length-3
-    returns)
+    (tie.spec (λ c κs. search needs) (λ c κs. search needs) (λ c κs. search needs) (λ c. search needs) (λ c. search needs)
+    (λ c. search needs) returns)

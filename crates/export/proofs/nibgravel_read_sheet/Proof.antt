@@ -20,21 +20,6 @@ form-is : (c : tie.After-read-sheet) → c .read-sheet .result .answer ≡ first
 unfolding sheetOf
 form-is c = ap (λ (r : Sheet). r .answer) (c .read-sheet .ensures .0)
 
-read-sheet-requires : tie.Need-read-sheet-requires
-read-sheet-requires c κs = search needs
-
-enum-known-answer : tie.Need-enum-known-answer
-enum-known-answer c = search needs
-
-refusal-said-requires : tie.Need-refusal-said-requires
-refusal-said-requires c κs = search needs
-
-tell-requires : tie.Need-tell-requires
-tell-requires c κs = search needs
-
-enum-told : tie.Need-enum-told
-enum-told c = search needs
-
 handed-requires : tie.Need-handed-requires
 unfolding sheetOf
 handed-requires c κs =
@@ -42,9 +27,6 @@ handed-requires c κs =
     let l = f .before .before in
     subst (λ (r : Sheet). Held (r .drawing)) (sym (l .read-sheet .ensures .0))
     (read-range (now (start l .args .sheet)) (sym (f .enum-told .given .1) ∙ form-is l))
-
-same-length : tie.Need-same-length
-same-length c = search needs
 
 returns : tie.Need-returns
 returns c =
@@ -54,15 +36,6 @@ returns c =
     let a = start l .args in
     sheet-refused (now (a .sheet)) (now (a .xyz)) (now (a .ends)) (t .tell .ensures) (s .refusal-said .ensures)
     (sym (s .before .before .answer .given .1) ∙ form-is l)
-
-same-length-2 : tie.Need-same-length-2
-same-length-2 c = search needs
-
-same-length-3 : tie.Need-same-length-3
-same-length-3 c = search needs
-
-same-length-4 : tie.Need-same-length-4
-same-length-4 c = search needs
 
 returns-2 : tie.Need-returns-2
 returns-2 c =
@@ -76,16 +49,5 @@ returns-2 c =
 pub nibgravel-read-sheet-spec : {M : Type 1} → statement M
 nibgravel-read-sheet-spec =
     tie.close
-    (tie.spec
-    read-sheet-requires
-    enum-known-answer
-    refusal-said-requires
-    tell-requires
-    enum-told
-    handed-requires
-    same-length
-    returns
-    same-length-2
-    same-length-3
-    same-length-4
-    returns-2)
+    (tie.spec (λ c κs. search needs) (λ c. search needs) (λ c κs. search needs) (λ c κs. search needs) (λ c. search needs) handed-requires
+    (λ c. search needs) returns (λ c. search needs) (λ c. search needs) (λ c. search needs) returns-2)

@@ -4,21 +4,6 @@ use borrow.Author.Needs.{needs}
 use Rattle.export.proofs.nibgravel_write_faces.Statement.{statement}
 use Rattle.export.proofs.nibgravel_write_faces.Tie as tie
 
-write-faces-requires : tie.Need-write-faces-requires
-write-faces-requires c κs = search needs
-
-written-said-requires : tie.Need-written-said-requires
-written-said-requires c κs = search needs
-
-tell-requires : tie.Need-tell-requires
-tell-requires c κs = search needs
-
-same-length : tie.Need-same-length
-same-length c = search needs
-
-same-length-2 : tie.Need-same-length-2
-same-length-2 c = search needs
-
 returns : tie.Need-returns
 returns c =
     let t = c .before .before in
@@ -32,10 +17,4 @@ returns c =
 pub nibgravel-write-faces-spec : {M : Type 1} → statement M
 nibgravel-write-faces-spec =
     tie.close
-    (tie.spec
-    write-faces-requires
-    written-said-requires
-    tell-requires
-    same-length
-    same-length-2
-    returns)
+    (tie.spec (λ c κs. search needs) (λ c κs. search needs) (λ c κs. search needs) (λ c. search needs) (λ c. search needs) returns)

@@ -11,9 +11,6 @@ use borrow.Author.Needs.{needs}
 use Rattle.faces_reader.proofs.read_faces.Statement.{statement}
 use Rattle.faces_reader.proofs.read_faces.Tie as tie
 
-edition-one-requires : tie.Need-edition-one-requires
-edition-one-requires c κs = search needs
-
 read-requires : tie.Need-read-requires
 read-requires c κs = rw (c .edition-one .ensures) one-brief
 
@@ -24,4 +21,4 @@ returns c =
     (is, ap (λ (r : Faces). answerSays (r .answer)) is ∙ faces-said editionOne (a .vertices) (a .list .now))
 
 pub read-faces-spec : {M : Type 1} → statement M
-read-faces-spec = tie.close (tie.spec edition-one-requires read-requires returns)
+read-faces-spec = tie.close (tie.spec (λ c κs. search needs) read-requires returns)

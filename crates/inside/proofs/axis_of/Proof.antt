@@ -34,12 +34,6 @@ zero-y c e =
 
 -- ---- the needs
 
-is-zero-requires : tie.Need-is-zero-requires
-is-zero-requires c κs = search needs
-
-is-zero-requires-2 : tie.Need-is-zero-requires-2
-is-zero-requires-2 c κs = search needs
-
 returns : tie.Need-returns
 returns c =
     let t = first (c .before) in
@@ -54,4 +48,4 @@ returns-3 : tie.Need-returns-3
 returns-3 c = axis-x (normal (c .before)) (zero-x (c .before) (c .if1 .left))
 
 pub axis-of-spec : {M : Type 1} → statement M
-axis-of-spec = tie.close (tie.spec is-zero-requires is-zero-requires-2 returns returns-2 returns-3)
+axis-of-spec = tie.close (tie.spec (λ c κs. search needs) (λ c κs. search needs) returns returns-2 returns-3)

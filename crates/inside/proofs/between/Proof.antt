@@ -48,17 +48,11 @@ mul-spans c = asked (five (first c .pre)) (var 4 ⊗ var 0) tt
 mul-spans-2 : tie.Need-mul-spans-2
 mul-spans-2 c = asked (five (second c .pre)) (var 4 ⊗ var 2) tt
 
-spans-requires : tie.Need-spans-requires
-spans-requires c κs = search needs
-
 mul-spans-3 : tie.Need-mul-spans-3
 mul-spans-3 c = asked (five (third c .pre)) (var 4 ⊗ var 1) tt
 
 mul-spans-4 : tie.Need-mul-spans-4
 mul-spans-4 c = asked (five (fourth c .pre)) (var 4 ⊗ var 3) tt
-
-spans-requires-2 : tie.Need-spans-requires-2
-spans-requires-2 c κs = search needs
 
 returns : tie.Need-returns
 unfolding between
@@ -77,13 +71,4 @@ returns c =
     λ i. u i && v i
 
 pub between-spec : {M : Type 1} → statement M
-between-spec =
-    tie.close
-    (tie.spec
-    mul-spans
-    mul-spans-2
-    spans-requires
-    mul-spans-3
-    mul-spans-4
-    spans-requires-2
-    returns)
+between-spec = tie.close (tie.spec mul-spans mul-spans-2 (λ c κs. search needs) mul-spans-3 mul-spans-4 (λ c κs. search needs) returns)

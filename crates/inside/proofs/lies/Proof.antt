@@ -147,17 +147,8 @@ found c on odd =
 count-requires : tie.Need-count-requires Inv-loop μ-loop
 count-requires c κs = c .before .pre .face .row .room
 
-axis-of-requires : tie.Need-axis-of-requires Inv-loop μ-loop
-axis-of-requires c κs = search needs
-
-seen-requires : tie.Need-seen-requires Inv-loop μ-loop
-seen-requires c κs = search needs
-
 corner-requires : tie.Need-corner-requires Inv-loop μ-loop
 corner-requires c κs = corner-in (c .before .before .before .before .pre .face .row) _ (omega arith)
-
-seen-requires-2 : tie.Need-seen-requires-2 Inv-loop μ-loop
-seen-requires-2 c κs = search needs
 
 loop-holds : tie.Need-loop-holds Inv-loop μ-loop
 unfolding oddTrue
@@ -172,14 +163,8 @@ loop-holds c =
       a-is = c .seen2 .ensures ∙ ap (seen (v .axis-of .result)) (c .before .corner .ensures);
     }
 
-add-corner : tie.Need-add-corner Inv-loop μ-loop
-add-corner c = omega arith
-
 corner-requires-2 : tie.Need-corner-requires-2 Inv-loop μ-loop
 corner-requires-2 c κs = corner-in (start (c .before) .pre .face .row) _ (omega arith)
-
-seen-requires-3 : tie.Need-seen-requires-3 Inv-loop μ-loop
-seen-requires-3 c κs = search needs
 
 turn-requires : tie.Need-turn-requires Inv-loop μ-loop
 turn-requires c κs =
@@ -212,15 +197,6 @@ under-requires-2 c κs =
     let b = turned (tested (c .before)) .before in
     record { a-in = b-small b; d-in = d-within (start (sided b)) }
 
-meets-ray-requires : tie.Need-meets-ray-requires Inv-loop μ-loop
-meets-ray-requires c κs = search needs
-
-add-j : tie.Need-add-j Inv-loop μ-loop
-add-j c = omega arith
-
-loop-less : tie.Need-loop-less Inv-loop μ-loop
-loop-less c = omega arith
-
 loop-again : tie.Need-loop-again Inv-loop μ-loop
 unfolding xor
 loop-again c =
@@ -240,9 +216,6 @@ loop-again c =
       a-is = b-is b;
     }
 
-placed-requires : tie.Need-placed-requires Inv-loop μ-loop
-placed-requires c κs = search needs
-
 returns-2 : tie.Need-returns-2 Inv-loop μ-loop
 returns-2 c =
     let l = c .before .before in
@@ -256,26 +229,6 @@ returns-2 c =
 pub lies-spec : {M : Type 1} → statement M
 lies-spec =
     tie.close
-    (tie.spec
-    Inv-loop
-    μ-loop
-    count-requires
-    axis-of-requires
-    seen-requires
-    corner-requires
-    seen-requires-2
-    loop-holds
-    add-corner
-    corner-requires-2
-    seen-requires-3
-    turn-requires
-    touches-requires
-    returns
-    under-requires
-    under-requires-2
-    meets-ray-requires
-    add-j
-    loop-less
-    loop-again
-    placed-requires
-    returns-2)
+    (tie.spec Inv-loop μ-loop count-requires (λ c κs. search needs) (λ c κs. search needs) corner-requires (λ c κs. search needs) loop-holds
+    (λ c. omega arith) corner-requires-2 (λ c κs. search needs) turn-requires touches-requires returns under-requires under-requires-2
+    (λ c κs. search needs) (λ c. omega arith) (λ c. omega arith) loop-again (λ c κs. search needs) returns-2)

@@ -18,18 +18,6 @@ inside c =
     let s = c .before .before in
     ap isInside (c .lies .ensures ∙ ap (λ (z : ℤ). lies (over (s .args .p) z) (R s)) (plain (s .fits .d) .reading))
 
-lies-requires : tie.Need-lies-requires
-lies-requires c κs = search needs
-
-enum-told : tie.Need-enum-told
-enum-told c = search needs
-
-enum-told-2 : tie.Need-enum-told-2
-enum-told-2 c = search needs
-
-enum-told-3 : tie.Need-enum-told-3
-enum-told-3 c = search needs
-
 returns : tie.Need-returns
 unfolding isInside
 returns c = sym (ap isInside (c .enum-told .given .1)) ∙ inside (c .before .before)
@@ -45,4 +33,4 @@ returns-3 c = sym (ap isInside (c .enum-told3 .given .1)) ∙ inside (c .before 
 pub lies-inside-spec : {M : Type 1} → statement M
 lies-inside-spec =
     tie.close
-    (tie.spec lies-requires enum-told enum-told-2 enum-told-3 returns returns-2 returns-3)
+    (tie.spec (λ c κs. search needs) (λ c. search needs) (λ c. search needs) (λ c. search needs) returns returns-2 returns-3)

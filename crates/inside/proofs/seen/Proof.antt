@@ -18,15 +18,6 @@ back : (u v : ℤ) → mag u < 2 ^ hbits w64 → mag v < 2 ^ hbits w64
     → _≡_ {A = Flat} (record { u = toZ w64 (ofZ w64 u); v = toZ w64 (ofZ w64 v) }) (record { u = u; v = v })
 back u v f g = λ i. record { u = reads-back u f i; v = reads-back v g i }
 
-enum-told : tie.Need-enum-told
-enum-told c = search needs
-
-enum-told-2 : tie.Need-enum-told-2
-enum-told-2 c = search needs
-
-enum-told-3 : tie.Need-enum-told-3
-enum-told-3 c = search needs
-
 returns : tie.Need-returns
 unfolding seen
 returns c =
@@ -49,4 +40,4 @@ returns-3 c =
     back (p .x) (p .y) (fits .0 .1) (fits .1 .0 .1) ∙ ap (λ (a : Axis). seen a p) (sym (c .before .enum-told3 .given .1))
 
 pub seen-spec : {M : Type 1} → statement M
-seen-spec = tie.close (tie.spec enum-told enum-told-2 enum-told-3 returns returns-2 returns-3)
+seen-spec = tie.close (tie.spec (λ c. search needs) (λ c. search needs) (λ c. search needs) returns returns-2 returns-3)

@@ -16,12 +16,6 @@ start c = c .before
 zero-is : (c : tie.After-is-zero) {b : Bool} → c .is-zero .result ≡ b → isZero (start c .args .t) ≡ b
 zero-is c e = ap isZero (sym (plain (start c .fits .t) .reading)) ∙ sym (c .is-zero .ensures) ∙ e
 
-is-zero-requires : tie.Need-is-zero-requires
-is-zero-requires c κs = search needs
-
-between-requires : tie.Need-between-requires
-between-requires c κs = search needs
-
 returns : tie.Need-returns
 returns c =
     let t = c .before in
@@ -36,4 +30,4 @@ returns-2 c =
     ap (λ (b : Bool). b && between (a .a) (a .b) (a .p) (a .d)) (sym (zero-is (c .before) (c .if1 .left)))
 
 pub touches-spec : {M : Type 1} → statement M
-touches-spec = tie.close (tie.spec is-zero-requires between-requires returns returns-2)
+touches-spec = tie.close (tie.spec (λ c κs. search needs) (λ c κs. search needs) returns returns-2)

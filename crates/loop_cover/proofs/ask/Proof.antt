@@ -88,9 +88,6 @@ some c = sym (c .before .is-empty .ensures) ∙ not-true (c .before .is-empty .r
 
 -- ---- the needs
 
-minus-requires : tie.Need-minus-requires Inv-loop μ-loop
-minus-requires c κs = search needs
-
 loop-holds : tie.Need-loop-holds Inv-loop μ-loop
 loop-holds c whole g w h = record {
   held-now = g .held;
@@ -100,9 +97,6 @@ loop-holds c whole g w h = record {
   known = w .known;
   same = refl;
 }
-
-is-empty-requires : tie.Need-is-empty-requires Inv-loop μ-loop
-is-empty-requires c κs = search needs
 
 lowest-requires : tie.Need-lowest-requires Inv-loop μ-loop
 lowest-requires c κs = let n = eqb-false (size (turn c .loop .«open»)) 0 (some c) in omega (arith, n)
@@ -158,18 +152,5 @@ returns-2 c mask g w s =
 pub ask-spec : {M : Type 1} → statement M
 ask-spec =
     tie.close
-    (tie.spec
-    Inv-loop
-    μ-loop
-    minus-requires
-    loop-holds
-    is-empty-requires
-    lowest-requires
-    is-outside-requires
-    with-requires
-    returns
-    with-requires-2
-    without-requires
-    loop-less
-    loop-again
-    returns-2)
+    (tie.spec Inv-loop μ-loop (λ c κs. search needs) loop-holds (λ c κs. search needs) lowest-requires is-outside-requires with-requires
+    returns with-requires-2 without-requires loop-less loop-again returns-2)

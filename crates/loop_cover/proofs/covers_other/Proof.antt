@@ -46,9 +46,6 @@ mul-t16-2 c = let p = begun (c .before) .pre in omega (arith, p .there, p .loops
 element-copy-out-t19-2 : tie.Need-element-copy-out-t19-2 Inv-loop μ-loop
 element-copy-out-t19-2 c = let p = begun (c .before) .pre in omega (arith, p .there, p .loops-known .most)
 
-none-requires : tie.Need-none-requires Inv-loop μ-loop
-none-requires c κs = search needs
-
 loop-holds : tie.Need-loop-holds Inv-loop μ-loop
 loop-holds c = (omega arith, λ q. searching-start q (side-set q _ (q .there) .is) (c .none .ensures))
 
@@ -78,12 +75,6 @@ returns c =
     let fit = sym (fits-is p j h (i .before .fits2 .ensures)) ∙ i .if1 .taken in
     searching-hit p j h (l .loop .inv .1 p) fit (t .try-edges .ensures) (c .if2 .taken)
 
-add-j : tie.Need-add-j Inv-loop μ-loop
-add-j c = omega arith
-
-loop-less : tie.Need-loop-less Inv-loop μ-loop
-loop-less c = omega arith
-
 loop-again : tie.Need-loop-again Inv-loop μ-loop
 loop-again c =
     let l = turn (c .before) in
@@ -110,22 +101,6 @@ returns-2 c =
 pub covers-other-spec : {M : Type 1} → statement M
 covers-other-spec =
     tie.close
-    (tie.spec
-    Inv-loop
-    μ-loop
-    normal-requires
-    mul-t16
-    element-copy-out-t19
-    mul-t16-2
-    element-copy-out-t19-2
-    none-requires
-    loop-holds
-    fits-requires
-    mul-t25
-    element-copy-out-t28
-    try-edges-requires
-    returns
-    add-j
-    loop-less
-    loop-again
+    (tie.spec Inv-loop μ-loop normal-requires mul-t16 element-copy-out-t19 mul-t16-2 element-copy-out-t19-2 (λ c κs. search needs)
+    loop-holds fits-requires mul-t25 element-copy-out-t28 try-edges-requires returns (λ c. omega arith) (λ c. omega arith) loop-again
     returns-2)

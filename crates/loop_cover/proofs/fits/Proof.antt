@@ -17,18 +17,6 @@ returns c =
     let e : a .k ≡ a .j = omega (arith, c .if1 .taken) in
     λ x y p q. ap (λ (t : Bool). not t && eqb (count (less x y)) 0) (sym (eq-eqb (a .k) (a .j) e))
 
-mul-t7 : tie.Need-mul-t7
-mul-t7 c = search needs
-
-element-copy-out-t10 : tie.Need-element-copy-out-t10
-element-copy-out-t10 c = search needs
-
-minus-requires : tie.Need-minus-requires
-minus-requires c κs = search needs
-
-is-empty-requires : tie.Need-is-empty-requires
-is-empty-requires c κs = search needs
-
 returns-2 : tie.Need-returns-2
 returns-2 c =
     let m = c .before in
@@ -41,4 +29,4 @@ returns-2 c =
     ∙ ap (λ (t : Bool). not t && eqb (count (less x y)) 0) (sym (ne-eqb (a .k) (a .j) e))
 
 pub fits-spec : {M : Type 1} → statement M
-fits-spec = tie.close (tie.spec returns mul-t7 element-copy-out-t10 minus-requires is-empty-requires returns-2)
+fits-spec = tie.close (tie.spec returns (λ c. search needs) (λ c. search needs) (λ c κs. search needs) (λ c κs. search needs) returns-2)

@@ -67,9 +67,6 @@ mul-wide c = omega (arith, ends-in (c .before .before .pre))
 shared-slice-read-wide : tie.Need-shared-slice-read-wide
 shared-slice-read-wide c = omega (arith, ends-in (c .before .before .before .pre))
 
-wide-requires : tie.Need-wide-requires
-wide-requires c κs = search needs
-
 point-at-requires : tie.Need-point-at-requires
 point-at-requires c κs = omega (arith, c .wide .ensures, first-known (read c .pre))
 
@@ -81,9 +78,6 @@ add-wide c = omega (arith, ends-in (begun c .pre))
 
 shared-slice-read-wide-2 : tie.Need-shared-slice-read-wide-2
 shared-slice-read-wide-2 c = ends-in (begun (c .before) .pre)
-
-wide-requires-2 : tie.Need-wide-requires-2
-wide-requires-2 c κs = search needs
 
 point-at-requires-2 : tie.Need-point-at-requires-2
 point-at-requires-2 c κs = omega (arith, c .wide2 .ensures, second-known (start c .pre))
@@ -100,15 +94,6 @@ lies-requires c κs =
       d-in = within-lit tt;
     }
 
-enum-told : tie.Need-enum-told
-enum-told c = search needs
-
-enum-told-2 : tie.Need-enum-told-2
-enum-told-2 c = search needs
-
-enum-told-3 : tie.Need-enum-told-3
-enum-told-3 c = search needs
-
 returns : tie.Need-returns
 unfolding isOutside
 returns c = sym (ap isOutside (c .enum-told .given .1)) ∙ answer (c .before .before)
@@ -124,21 +109,6 @@ returns-3 c = sym (ap isOutside (c .enum-told3 .given .1)) ∙ answer (c .before
 pub is-outside-spec : {M : Type 1} → statement M
 is-outside-spec =
     tie.close
-    (tie.spec
-    mul-wide
-    shared-slice-read-wide
-    wide-requires
-    point-at-requires
-    mul-wide-2
-    add-wide
-    shared-slice-read-wide-2
-    wide-requires-2
-    point-at-requires-2
-    plus-requires
-    lies-requires
-    enum-told
-    enum-told-2
-    enum-told-3
-    returns
-    returns-2
-    returns-3)
+    (tie.spec mul-wide shared-slice-read-wide (λ c κs. search needs) point-at-requires mul-wide-2 add-wide shared-slice-read-wide-2
+    (λ c κs. search needs) point-at-requires-2 plus-requires lies-requires (λ c. search needs) (λ c. search needs) (λ c. search needs)
+    returns returns-2 returns-3)

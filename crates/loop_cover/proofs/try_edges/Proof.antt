@@ -20,12 +20,6 @@ first-free : (c : tie.After-is-empty) (mask : List Bool) (g : Answers)
     EdgesOf (now (a .xyz)) (now (a .ends)) (a .edges) mask → Stands (a .f) g → c .is-empty .result ≡ free mask g
 first-free c mask g w s = free-is mask g (c .is-empty .ensures) (c .before .and .ensures mask (g .outside) (w .is) (s .outside-is))
 
-and-requires : tie.Need-and-requires
-and-requires c κs = search needs
-
-is-empty-requires : tie.Need-is-empty-requires
-is-empty-requires c κs = search needs
-
 returns : tie.Need-returns
 returns c mask g w s =
     let e = c .before in
@@ -36,15 +30,6 @@ returns c mask g w s =
       asked-is = subst (λ (b : Bool). Stands (a .f) (cond b after g)) (sym no) s;
       covers-is = sym (ap (λ (b : Bool). b && free mask after) no);
     }
-
-ask-requires : tie.Need-ask-requires
-ask-requires c κs = search needs
-
-and-requires-2 : tie.Need-and-requires-2
-and-requires-2 c κs = search needs
-
-is-empty-requires-2 : tie.Need-is-empty-requires-2
-is-empty-requires-2 c κs = search needs
 
 returns-2 : tie.Need-returns-2
 returns-2 c mask g w s =
@@ -64,4 +49,5 @@ returns-2 c mask g w s =
 pub try-edges-spec : {M : Type 1} → statement M
 try-edges-spec =
     tie.close
-    (tie.spec and-requires is-empty-requires returns ask-requires and-requires-2 is-empty-requires-2 returns-2)
+    (tie.spec (λ c κs. search needs) (λ c κs. search needs) returns (λ c κs. search needs) (λ c κs. search needs) (λ c κs. search needs)
+    returns-2)

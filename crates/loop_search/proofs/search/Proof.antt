@@ -29,12 +29,6 @@ starting-at-requires c κs =
     let g = start l .pre in
     record { sized = l .loop .inv .sized; points = g .points; few = g .few; empty = l .loop .inv .empty; s-in = omega arith }
 
-add-s : tie.Need-add-s Inv-loop μ-loop
-add-s c = omega arith
-
-loop-less : tie.Need-loop-less Inv-loop μ-loop
-loop-less c = omega arith
-
 loop-again : tie.Need-loop-again Inv-loop μ-loop
 loop-again c =
     let l = c .before .before .before .before .before in
@@ -46,6 +40,4 @@ returns c =
     searching-end (start l .pre) (start l .args .near .now) (l .loop .inv) (omega arith)
 
 pub search-spec : {M : Type 1} → statement M
-search-spec =
-    tie.close
-    (tie.spec Inv-loop μ-loop loop-holds starting-at-requires add-s loop-less loop-again returns)
+search-spec = tie.close (tie.spec Inv-loop μ-loop loop-holds starting-at-requires (λ c. omega arith) (λ c. omega arith) loop-again returns)

@@ -54,20 +54,11 @@ add-lowest-of c = let g = c .before .pre in omega (arith, g .s-in, g .few)
 lowest-of-requires-2 : tie.Need-lowest-of-requires-2 Inv-loop μ-loop
 lowest-of-requires-2 c κs = let g = c .before .pre in omega (arith, g .s-in, g .few)
 
-minus-requires : tie.Need-minus-requires Inv-loop μ-loop
-minus-requires c κs = search needs
-
 of-edge-requires : tie.Need-of-edge-requires Inv-loop μ-loop
 of-edge-requires c κs = let g = start (c .before) .pre in omega (arith, g .s-in, g .few)
 
-and-requires : tie.Need-and-requires Inv-loop μ-loop
-and-requires c κs = search needs
-
 cast-path : tie.Need-cast-path Inv-loop μ-loop
 cast-path c = let g = start (c .before .before .before) .pre in omega (arith, g .s-in, g .few)
-
-element-write-path : tie.Need-element-write-path Inv-loop μ-loop
-element-write-path c = search needs
 
 loop-holds : tie.Need-loop-holds Inv-loop μ-loop
 loop-holds c =
@@ -75,9 +66,6 @@ loop-holds c =
     let s = start m in
     starting-start (s .args .near .now) (s .pre) (m .before .before .lowest-of .ensures) (m .before .lowest-of2 .ensures) (m .minus .ensures)
     (c .before .of-edge .ensures) (c .and .ensures)
-
-is-empty-requires : tie.Need-is-empty-requires Inv-loop μ-loop
-is-empty-requires c κs = search needs
 
 lowest-requires : tie.Need-lowest-requires Inv-loop μ-loop
 lowest-requires c κs = some-left (c .before) (c .if1 .taken)
@@ -87,9 +75,6 @@ without-requires c κs = c .lowest .ensures .narrow
 
 cast-path-2 : tie.Need-cast-path-2 Inv-loop μ-loop
 cast-path-2 c = omega (arith, c .before .lowest .ensures .narrow)
-
-element-write-path-2 : tie.Need-element-write-path-2 Inv-loop μ-loop
-element-write-path-2 c = search needs
 
 without-requires-2 : tie.Need-without-requires-2 Inv-loop μ-loop
 without-requires-2 c κs = c .before .before .lowest .ensures .narrow
@@ -104,9 +89,6 @@ on-line-requires c κs =
     second-at (s .args .near .now) (s .pre) (m .before .before .lowest-of .ensures) (m .before .lowest-of2 .ensures) (m .minus .ensures)
     (l .loop .inv) (going w) (w .before .lowest .ensures) (w .without .ensures) (n .without2 .ensures)
 
-element-write-path-3 : tie.Need-element-write-path-3 Inv-loop μ-loop
-element-write-path-3 c = search needs
-
 loop-less : tie.Need-loop-less Inv-loop μ-loop
 loop-less c = let w = dropped (c .before .before .before) in w .without .ensures .fewer (w .before .lowest .ensures .there)
 
@@ -119,9 +101,6 @@ loop-again c =
     let s = start m in
     starting-next (s .args .near .now) (s .pre) (m .before .before .lowest-of .ensures) (m .before .lowest-of2 .ensures) (m .minus .ensures)
     (l .loop .inv) (going w) (w .before .lowest .ensures) (w .without .ensures) (n .without2 .ensures) (c .on-line .ensures)
-
-element-write-path-4 : tie.Need-element-write-path-4 Inv-loop μ-loop
-element-write-path-4 c = search needs
 
 returns : tie.Need-returns Inv-loop μ-loop
 returns c =
@@ -136,27 +115,6 @@ returns c =
 pub starting-at-spec : {M : Type 1} → statement M
 starting-at-spec =
     tie.close
-    (tie.spec
-    Inv-loop
-    μ-loop
-    lowest-of-requires
-    add-lowest-of
-    lowest-of-requires-2
-    minus-requires
-    of-edge-requires
-    and-requires
-    cast-path
-    element-write-path
-    loop-holds
-    is-empty-requires
-    lowest-requires
-    without-requires
-    cast-path-2
-    element-write-path-2
-    without-requires-2
-    on-line-requires
-    element-write-path-3
-    loop-less
-    loop-again
-    element-write-path-4
-    returns)
+    (tie.spec Inv-loop μ-loop lowest-of-requires add-lowest-of lowest-of-requires-2 (λ c κs. search needs) of-edge-requires
+    (λ c κs. search needs) cast-path (λ c. search needs) loop-holds (λ c κs. search needs) lowest-requires without-requires cast-path-2
+    (λ c. search needs) without-requires-2 on-line-requires (λ c. search needs) loop-less loop-again (λ c. search needs) returns)

@@ -90,12 +90,6 @@ mul-sides c = let w = entry (turn c) .pre in omega (arith, w .drawn .most)
 element-write-sides : tie.Need-element-write-sides Inv-loop μ-loop
 element-write-sides c = let w = entry (turn c) .pre in omega (arith, w .drawn .most)
 
-add-k : tie.Need-add-k Inv-loop μ-loop
-add-k c = omega arith
-
-loop-less : tie.Need-loop-less Inv-loop μ-loop
-loop-less c = omega arith
-
 loop-again : tie.Need-loop-again Inv-loop μ-loop
 unfolding row-drawn
 loop-again c w =
@@ -130,16 +124,5 @@ returns c w =
 pub loop-words-spec : {M : Type 1} → statement M
 loop-words-spec =
     tie.close
-    (tie.spec
-    Inv-loop
-    μ-loop
-    loop-holds
-    row-words-requires
-    mul-corners
-    element-write-corners
-    mul-sides
-    element-write-sides
-    add-k
-    loop-less
-    loop-again
-    returns)
+    (tie.spec Inv-loop μ-loop loop-holds row-words-requires mul-corners element-write-corners mul-sides element-write-sides
+    (λ c. omega arith) (λ c. omega arith) loop-again returns)

@@ -60,26 +60,11 @@ e-low c = let t = turn (first c) in omega (arith, here t, start (t .before) .pre
 loop-holds : tie.Need-loop-holds Inv-loop μ-loop
 loop-holds c r = record { not-past = omega arith; whole = half r; room = refl; numbers = numbering-none r _ }
 
-mul-wide : tie.Need-mul-wide Inv-loop μ-loop
-mul-wide c = omega arith
-
 shared-slice-read-wide : tie.Need-shared-slice-read-wide Inv-loop μ-loop
 shared-slice-read-wide c = let t = c .before in omega (arith, here t, start (t .before) .pre .links .whole)
 
-wide-requires : tie.Need-wide-requires Inv-loop μ-loop
-wide-requires c κs = search needs
-
-mul-wide-2 : tie.Need-mul-wide-2 Inv-loop μ-loop
-mul-wide-2 c = omega arith
-
-add-wide : tie.Need-add-wide Inv-loop μ-loop
-add-wide c = omega arith
-
 shared-slice-read-wide-2 : tie.Need-shared-slice-read-wide-2 Inv-loop μ-loop
 shared-slice-read-wide-2 c = let t = turn (c .before) in omega (arith, here t, start (t .before) .pre .links .whole)
-
-wide-requires-2 : tie.Need-wide-requires-2 Inv-loop μ-loop
-wide-requires-2 c κs = search needs
 
 cast-number : tie.Need-cast-number Inv-loop μ-loop
 cast-number c = omega (arith, e-low c)
@@ -104,12 +89,6 @@ add-number-2 c = omega (arith, both-low c)
 
 array-write-number-2 : tie.Need-array-write-number-2 Inv-loop μ-loop
 array-write-number-2 c = omega (arith, both-low c)
-
-add-e : tie.Need-add-e Inv-loop μ-loop
-add-e c = omega arith
-
-loop-less : tie.Need-loop-less Inv-loop μ-loop
-loop-less c = omega arith
 
 loop-again : tie.Need-loop-again Inv-loop μ-loop
 loop-again c r =
@@ -137,26 +116,6 @@ returns c =
 pub number-edges-spec : {M : Type 1} → statement M
 number-edges-spec =
     tie.close
-    (tie.spec
-    Inv-loop
-    μ-loop
-    loop-holds
-    mul-wide
-    shared-slice-read-wide
-    wide-requires
-    mul-wide-2
-    add-wide
-    shared-slice-read-wide-2
-    wide-requires-2
-    cast-number
-    mul-number
-    add-number
-    array-write-number
-    cast-number-2
-    mul-number-2
-    add-number-2
-    array-write-number-2
-    add-e
-    loop-less
-    loop-again
-    returns)
+    (tie.spec Inv-loop μ-loop loop-holds (λ c. omega arith) shared-slice-read-wide (λ c κs. search needs) (λ c. omega arith)
+    (λ c. omega arith) shared-slice-read-wide-2 (λ c κs. search needs) cast-number mul-number add-number array-write-number cast-number-2
+    mul-number-2 add-number-2 array-write-number-2 (λ c. omega arith) (λ c. omega arith) loop-again returns)

@@ -95,17 +95,11 @@ mul-first c = omega (arith, c .before .pre .room)
 shared-slice-read-wide : tie.Need-shared-slice-read-wide Inv-loop μ-loop
 shared-slice-read-wide c = omega (arith, c .before .before .pre .room)
 
-wide-requires : tie.Need-wide-requires Inv-loop μ-loop
-wide-requires c κs = search needs
-
 add-wide : tie.Need-add-wide Inv-loop μ-loop
 add-wide c = let w = start c .pre in omega (arith, count-is c w, w .short, w .room)
 
 shared-slice-read-wide-2 : tie.Need-shared-slice-read-wide-2 Inv-loop μ-loop
 shared-slice-read-wide-2 c = let w = start (c .before) .pre in omega (arith, count-is (c .before) w, w .short, w .room)
-
-wide-requires-2 : tie.Need-wide-requires-2 Inv-loop μ-loop
-wide-requires-2 c κs = search needs
 
 loop-holds : tie.Need-loop-holds Inv-loop μ-loop
 loop-holds c w =
@@ -131,9 +125,6 @@ add-wide-3 c = let w = entry (c .before) .pre in omega (arith, here c w, w .shor
 shared-slice-read-wide-3 : tie.Need-shared-slice-read-wide-3 Inv-loop μ-loop
 shared-slice-read-wide-3 c = let w = entry (c .before .before) .pre in omega (arith, here (c .before) w, w .short, w .room)
 
-wide-requires-3 : tie.Need-wide-requires-3 Inv-loop μ-loop
-wide-requires-3 c κs = search needs
-
 mul-wide : tie.Need-mul-wide Inv-loop μ-loop
 mul-wide c = omega (arith, pair-low c)
 
@@ -143,20 +134,11 @@ add-wide-4 c = omega (arith, pair-low c)
 element-copy-out-wide : tie.Need-element-copy-out-wide Inv-loop μ-loop
 element-copy-out-wide c = omega (arith, pair-low c)
 
-wide-requires-4 : tie.Need-wide-requires-4 Inv-loop μ-loop
-wide-requires-4 c κs = search needs
-
 shl-corners : tie.Need-shl-corners Inv-loop μ-loop
 shl-corners c = omega (arith, pair-low (corner c))
 
 shl-sides : tie.Need-shl-sides Inv-loop μ-loop
 shl-sides c = edge-low c (entry (turn (corner c) .before) .pre)
-
-add-i : tie.Need-add-i Inv-loop μ-loop
-add-i c = omega arith
-
-loop-less : tie.Need-loop-less Inv-loop μ-loop
-loop-less c = omega arith
 
 loop-again : tie.Need-loop-again Inv-loop μ-loop
 loop-again c w =
@@ -193,27 +175,6 @@ returns c w =
 pub row-words-spec : {M : Type 1} → statement M
 row-words-spec =
     tie.close
-    (tie.spec
-    Inv-loop
-    μ-loop
-    mul-first
-    shared-slice-read-wide
-    wide-requires
-    add-wide
-    shared-slice-read-wide-2
-    wide-requires-2
-    loop-holds
-    add-wide-2
-    add-wide-3
-    shared-slice-read-wide-3
-    wide-requires-3
-    mul-wide
-    add-wide-4
-    element-copy-out-wide
-    wide-requires-4
-    shl-corners
-    shl-sides
-    add-i
-    loop-less
-    loop-again
-    returns)
+    (tie.spec Inv-loop μ-loop mul-first shared-slice-read-wide (λ c κs. search needs) add-wide shared-slice-read-wide-2
+    (λ c κs. search needs) loop-holds add-wide-2 add-wide-3 shared-slice-read-wide-3 (λ c κs. search needs) mul-wide add-wide-4
+    element-copy-out-wide (λ c κs. search needs) shl-corners shl-sides (λ c. omega arith) (λ c. omega arith) loop-again returns)

@@ -8,9 +8,6 @@ use Rattle.measured.proofs.measured_loops.Tie as tie
 abbrev numbered : tie.After-known-loops-arg4 → tie.After-number-edges
 numbered c = c .before .before .before .before .before
 
-number-edges-requires : tie.Need-number-edges-requires
-number-edges-requires c κs = search needs
-
 known-loops-requires : tie.Need-known-loops-requires
 known-loops-requires c κs =
     let e = numbered c in
@@ -21,8 +18,5 @@ known-loops-requires c κs =
       roomy = s .pre .roomy;
     }
 
-returns : tie.Need-returns
-returns c = search needs
-
 pub measured-loops-spec : {M : Type 1} → statement M
-measured-loops-spec = tie.close (tie.spec number-edges-requires known-loops-requires returns)
+measured-loops-spec = tie.close (tie.spec (λ c κs. search needs) known-loops-requires (λ c. search needs))

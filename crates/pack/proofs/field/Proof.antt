@@ -6,24 +6,6 @@ use Rattle.pack.proofs.Bytes.{field-window}
 use Rattle.pack.proofs.field.Statement.{statement}
 use Rattle.pack.proofs.field.Tie as tie
 
-window-requires : tie.Need-window-requires
-window-requires c κs = search needs
-
-sub-result : tie.Need-sub-result
-sub-result c = search needs
-
-sub-result-2 : tie.Need-sub-result-2
-sub-result-2 c = search needs
-
-shr-result : tie.Need-shr-result
-shr-result c = search needs
-
-power-requires : tie.Need-power-requires
-power-requires c κs = search needs
-
-rem-result : tie.Need-rem-result
-rem-result c = search needs
-
 returns : tie.Need-returns
 returns c =
     let a = c .before .before .before .args in
@@ -31,4 +13,7 @@ returns c =
     (c .power .ensures .0)
 
 pub field-spec : {M : Type 1} → statement M
-field-spec = tie.close (tie.spec window-requires sub-result sub-result-2 shr-result power-requires rem-result returns)
+field-spec =
+    tie.close
+    (tie.spec (λ c κs. search needs) (λ c. search needs) (λ c. search needs) (λ c. search needs) (λ c κs. search needs) (λ c. search needs)
+    returns)

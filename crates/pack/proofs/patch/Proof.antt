@@ -21,32 +21,14 @@ whole c =
 part : (c : tie.After-power2) → Above c ≤ Above c * c .before .power .result
 part c = le-mul-of-pos-right (Above c) (omega arith)
 
-power-requires : tie.Need-power-requires
-power-requires c κs = search needs
-
-power-requires-2 : tie.Need-power-requires-2
-power-requires-2 c κs = search needs
-
-shr-result : tie.Need-shr-result
-shr-result c = search needs
-
-div-result : tie.Need-div-result
-div-result c = search needs
-
 mul-result : tie.Need-mul-result
 mul-result c = omega (arith, whole c, part c)
-
-rem-result : tie.Need-rem-result
-rem-result c = search needs
 
 add-result : tie.Need-add-result
 add-result c = omega (arith, whole c, part c)
 
 mul-result-2 : tie.Need-mul-result-2
 mul-result-2 c = omega (arith, whole c)
-
-rem-result-2 : tie.Need-rem-result-2
-rem-result-2 c = search needs
 
 add-result-2 : tie.Need-add-result-2
 add-result-2 c = omega (arith, whole c)
@@ -58,5 +40,6 @@ returns c =
 
 pub patch-spec : {M : Type 1} → statement M
 patch-spec =
-    tie.close (tie.spec power-requires power-requires-2 shr-result div-result mul-result rem-result add-result mul-result-2 rem-result-2
-    add-result-2 returns)
+    tie.close
+    (tie.spec (λ c κs. search needs) (λ c κs. search needs) (λ c. search needs) (λ c. search needs) mul-result (λ c. search needs)
+    add-result mul-result-2 (λ c. search needs) add-result-2 returns)

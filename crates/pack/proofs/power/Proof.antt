@@ -8,9 +8,6 @@ use lib.Pow.{shl-exact, pow-pos}
 use Rattle.pack.proofs.power.Statement.{statement}
 use Rattle.pack.proofs.power.Tie as tie
 
-shl-result : tie.Need-shl-result
-shl-result c = search needs
-
 returns : tie.Need-returns
 returns c =
     let e : (1 * 2 ^ c .args .k) % 2 ^ 64 ≡ 2 ^ c .args .k = shl-exact 1 (c .args .k) 64 (omega arith) (omega arith)
@@ -18,4 +15,4 @@ returns c =
     (e, rw e (pow-pos (c .args .k)))
 
 pub power-spec : {M : Type 1} → statement M
-power-spec = tie.close (tie.spec shl-result returns)
+power-spec = tie.close (tie.spec (λ c. search needs) returns)

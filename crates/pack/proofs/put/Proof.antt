@@ -6,36 +6,6 @@ use Rattle.pack.proofs.Bytes.{put-window}
 use Rattle.pack.proofs.put.Statement.{statement}
 use Rattle.pack.proofs.put.Tie as tie
 
-window-requires : tie.Need-window-requires
-window-requires c κs = search needs
-
-sub-patch : tie.Need-sub-patch
-sub-patch c = search needs
-
-sub-patch-2 : tie.Need-sub-patch-2
-sub-patch-2 c = search needs
-
-patch-requires : tie.Need-patch-requires
-patch-requires c κs = search needs
-
-set-byte-requires : tie.Need-set-byte-requires
-set-byte-requires c κs = search needs
-
-add-set-byte : tie.Need-add-set-byte
-add-set-byte c = search needs
-
-set-byte-requires-2 : tie.Need-set-byte-requires-2
-set-byte-requires-2 c κs = search needs
-
-add-set-byte-2 : tie.Need-add-set-byte-2
-add-set-byte-2 c = search needs
-
-set-byte-requires-3 : tie.Need-set-byte-requires-3
-set-byte-requires-3 c κs = search needs
-
-same-length : tie.Need-same-length
-same-length c = search needs
-
 returns : tie.Need-returns
 returns c =
     let d = c .before .before .before .before .before .before .before .before .before .before .before .before in
@@ -48,5 +18,5 @@ returns c =
 pub put-spec : {M : Type 1} → statement M
 put-spec =
     tie.close
-    (tie.spec window-requires sub-patch sub-patch-2 patch-requires set-byte-requires add-set-byte set-byte-requires-2 add-set-byte-2
-    set-byte-requires-3 same-length returns)
+    (tie.spec (λ c κs. search needs) (λ c. search needs) (λ c. search needs) (λ c κs. search needs) (λ c κs. search needs)
+    (λ c. search needs) (λ c κs. search needs) (λ c. search needs) (λ c κs. search needs) (λ c. search needs) returns)

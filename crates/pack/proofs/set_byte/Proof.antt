@@ -8,17 +8,5 @@ use Rattle.pack.proofs.set_byte.Tie as tie
 returns : tie.Need-returns
 returns c = sym (set-out (c .before .args .s .now) (c .before .args .k) (c .before .args .b) (c .if1 .taken))
 
-cast-s : tie.Need-cast-s
-cast-s c = search needs
-
-slice-write-s : tie.Need-slice-write-s
-slice-write-s c = search needs
-
-same-length : tie.Need-same-length
-same-length c = search needs
-
-returns-2 : tie.Need-returns-2
-returns-2 c = search needs
-
 pub set-byte-spec : {M : Type 1} → statement M
-set-byte-spec = tie.close (tie.spec returns cast-s slice-write-s same-length returns-2)
+set-byte-spec = tie.close (tie.spec returns (λ c. search needs) (λ c. search needs) (λ c. search needs) (λ c. search needs))

@@ -13,9 +13,6 @@ int-to-float-metre : tie.Need-int-to-float-metre
 unfolding inFloat
 int-to-float-metre c = tt
 
-nearest-u64-to-f64-requires : tie.Need-nearest-u64-to-f64-requires
-nearest-u64-to-f64-requires c κs = search needs
-
 returns : tie.Need-returns
 unfolding volume
 returns c = ap (λ (x : Float). div binary64 x (ofInt binary64 (pos sixPerCubicMetre))) (c .nearest-u64-to-f64 .ensures)
@@ -29,4 +26,4 @@ unfolding volume
 returns-2 c = refl
 
 pub cubic-metres-spec : {M : Type 1} → statement M
-cubic-metres-spec = tie.close (tie.spec int-to-float-metre nearest-u64-to-f64-requires returns int-to-float-result returns-2)
+cubic-metres-spec = tie.close (tie.spec int-to-float-metre (λ c κs. search needs) returns int-to-float-result returns-2)

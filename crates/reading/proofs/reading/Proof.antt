@@ -7,27 +7,6 @@ use borrow.Author.Needs.{needs}
 use Rattle.reading.proofs.reading.Statement.{statement}
 use Rattle.reading.proofs.reading.Tie as tie
 
-enum-known-c : tie.Need-enum-known-c
-enum-known-c c = search needs
-
-cubic-metres-requires : tie.Need-cubic-metres-requires
-cubic-metres-requires c κs = search needs
-
-enum-told : tie.Need-enum-told
-enum-told c = search needs
-
-enum-told-2 : tie.Need-enum-told-2
-enum-told-2 c = search needs
-
-enum-told-3 : tie.Need-enum-told-3
-enum-told-3 c = search needs
-
-enum-told-4 : tie.Need-enum-told-4
-enum-told-4 c = search needs
-
-enum-known-c-2 : tie.Need-enum-known-c-2
-enum-known-c-2 c = search needs
-
 returns : tie.Need-returns
 unfolding readingOf
 returns c =
@@ -58,5 +37,7 @@ returns-6 c =
     promised (start .args .c) _ (sym (ap readingOf (c .before .c2 .given .1)))
 
 pub reading-spec : {M : Type 1} → statement M
-reading-spec = tie.close (tie.spec enum-known-c cubic-metres-requires enum-told enum-told-2 enum-told-3 enum-told-4 enum-known-c-2
-    returns returns-2 returns-3 returns-4 returns-5 returns-6)
+reading-spec =
+    tie.close
+    (tie.spec (λ c. search needs) (λ c κs. search needs) (λ c. search needs) (λ c. search needs) (λ c. search needs) (λ c. search needs)
+    (λ c. search needs) returns returns-2 returns-3 returns-4 returns-5 returns-6)

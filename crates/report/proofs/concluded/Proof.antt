@@ -14,15 +14,6 @@ returns c = says-many (c .if1 .taken)
 returns-2 : tie.Need-returns-2
 returns-2 c = says-too-long (c .before .if1 .left) (c .if2 .taken)
 
-reported-requires : tie.Need-reported-requires
-reported-requires c κs = search needs
-
-same-length : tie.Need-same-length
-same-length c = search needs
-
-same-length-2 : tie.Need-same-length-2
-same-length-2 c = search needs
-
 returns-3 : tie.Need-returns-3
 returns-3 c =
     let r = c .before .before .before .before in
@@ -30,4 +21,4 @@ returns-3 c =
     says-reported (e .before .if1 .left) (e .if2 .left) (r .reported .ensures)
 
 pub concluded-spec : {M : Type 1} → statement M
-concluded-spec = tie.close (tie.spec returns returns-2 reported-requires same-length same-length-2 returns-3)
+concluded-spec = tie.close (tie.spec returns returns-2 (λ c κs. search needs) (λ c. search needs) (λ c. search needs) returns-3)

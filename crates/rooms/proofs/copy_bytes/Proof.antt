@@ -20,12 +20,6 @@ shared-slice-read-room c = let at = c .before .before in omega (arith, at .befor
 slice-write-room : tie.Need-slice-write-room Inv-loop μ-loop
 slice-write-room c = let at = c .before .before in omega (arith, copying-long (at .loop .inv) (at .before .pre), at .before .pre .fits)
 
-add-i : tie.Need-add-i Inv-loop μ-loop
-add-i c = omega arith
-
-loop-less : tie.Need-loop-less Inv-loop μ-loop
-loop-less c = omega arith
-
 loop-again : tie.Need-loop-again Inv-loop μ-loop
 loop-again c = let at = c .before .before in copying-more (at .loop .inv) 0 (at .before .pre) (omega arith)
 
@@ -37,4 +31,6 @@ returns c = copying-end (c .before .loop .inv) (omega arith)
 
 pub copy-bytes-spec : {M : Type 1} → statement M
 copy-bytes-spec =
-    tie.close (tie.spec Inv-loop μ-loop loop-holds shared-slice-read-room slice-write-room add-i loop-less loop-again same-length returns)
+    tie.close
+    (tie.spec Inv-loop μ-loop loop-holds shared-slice-read-room slice-write-room (λ c. omega arith) (λ c. omega arith) loop-again
+    same-length returns)

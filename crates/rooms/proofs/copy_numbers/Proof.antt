@@ -31,12 +31,6 @@ mul-t9 c = let at = c .before .before in omega (arith, at .before .pre .there, a
 slice-set-from-room : tie.Need-slice-set-from-room Inv-loop μ-loop
 slice-set-from-room c = let at = c .before .before in omega (arith, copying-long (at .loop .inv) (at .before .pre), at .before .pre .fits)
 
-add-i : tie.Need-add-i Inv-loop μ-loop
-add-i c = omega arith
-
-loop-less : tie.Need-loop-less Inv-loop μ-loop
-loop-less c = omega arith
-
 -- a number arrives as its bits, and reads back as itself
 loop-again : tie.Need-loop-again Inv-loop μ-loop
 loop-again c =
@@ -53,4 +47,5 @@ returns c = copying-end (c .before .loop .inv) (omega arith)
 pub copy-numbers-spec : {M : Type 1} → statement M
 copy-numbers-spec =
     tie.close
-    (tie.spec Inv-loop μ-loop loop-holds mul-room shared-slice-copy-out-room mul-t9 slice-set-from-room add-i loop-less loop-again same-length returns)
+    (tie.spec Inv-loop μ-loop loop-holds mul-room shared-slice-copy-out-room mul-t9 slice-set-from-room (λ c. omega arith)
+    (λ c. omega arith) loop-again same-length returns)

@@ -27,12 +27,6 @@ mul-room-2 c = let at = c .before .before in omega (arith, at .before .pre .ther
 slice-write-room : tie.Need-slice-write-room Inv-loop μ-loop
 slice-write-room c = let at = c .before .before in omega (arith, copying-long (at .loop .inv) (at .before .pre), at .before .pre .fits)
 
-add-i : tie.Need-add-i Inv-loop μ-loop
-add-i c = omega arith
-
-loop-less : tie.Need-loop-less Inv-loop μ-loop
-loop-less c = omega arith
-
 loop-again : tie.Need-loop-again Inv-loop μ-loop
 loop-again c = let at = c .before .before in copying-more (at .loop .inv) 0 (at .before .pre) (omega arith)
 
@@ -45,4 +39,5 @@ returns c = copying-end (c .before .loop .inv) (omega arith)
 pub copy-words-spec : {M : Type 1} → statement M
 copy-words-spec =
     tie.close
-    (tie.spec Inv-loop μ-loop loop-holds mul-room shared-slice-read-room mul-room-2 slice-write-room add-i loop-less loop-again same-length returns)
+    (tie.spec Inv-loop μ-loop loop-holds mul-room shared-slice-read-room mul-room-2 slice-write-room (λ c. omega arith) (λ c. omega arith)
+    loop-again same-length returns)

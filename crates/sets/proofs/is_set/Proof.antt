@@ -7,12 +7,9 @@ use borrow.Author.Needs.{needs}
 use Rattle.sets.proofs.is_set.Statement.{statement}
 use Rattle.sets.proofs.is_set.Tie as tie
 
-has-requires : tie.Need-has-requires
-has-requires c κs = search needs
-
 returns : tie.Need-returns
 unfolding digitsOf
 returns c = let x : Set = record { word = (c .before .args .word) } in (c .has .ensures) (digitsOf x) (is-digits x (omega arith))
 
 pub is-set-spec : {M : Type 1} → statement M
-is-set-spec = tie.close (tie.spec has-requires returns)
+is-set-spec = tie.close (tie.spec (λ c κs. search needs) returns)

@@ -13,21 +13,9 @@ vertices-pass : (c : tie.Else1)
     → outside leastVertices (c .before .before .args .f .«most_vertices») (c .before .before .args .v) ≡ false
 vertices-pass c = sym (c .before .is-outside .ensures) ∙ c .if1 .left
 
-is-outside-requires : tie.Need-is-outside-requires
-is-outside-requires c κs = search needs
-
-refused-requires : tie.Need-refused-requires
-refused-requires c κs = search needs
-
 returns : tie.Need-returns
 unfolding countChecks
 returns c = c .refused .ensures ∙ holds _ _ _ (sym (c .before .before .is-outside .ensures) ∙ c .before .if1 .taken)
-
-is-outside-requires-2 : tie.Need-is-outside-requires-2
-is-outside-requires-2 c κs = search needs
-
-refused-requires-2 : tie.Need-refused-requires-2
-refused-requires-2 c κs = search needs
 
 returns-2 : tie.Need-returns-2
 unfolding countChecks
@@ -46,11 +34,4 @@ returns-3 c =
 pub counts-spec : {M : Type 1} → statement M
 counts-spec =
     tie.close
-    (tie.spec
-    is-outside-requires
-    refused-requires
-    returns
-    is-outside-requires-2
-    refused-requires-2
-    returns-2
-    returns-3)
+    (tie.spec (λ c κs. search needs) (λ c κs. search needs) returns (λ c κs. search needs) (λ c κs. search needs) returns-2 returns-3)

@@ -11,9 +11,6 @@ use borrow.Author.Needs.{needs}
 use Rattle.sheet_reader.proofs.read_sheet.Statement.{statement}
 use Rattle.sheet_reader.proofs.read_sheet.Tie as tie
 
-edition-one-requires : tie.Need-edition-one-requires
-edition-one-requires c κs = search needs
-
 read-requires : tie.Need-read-requires
 read-requires c κs = rw (c .edition-one .ensures) one-fits
 
@@ -25,4 +22,4 @@ returns c =
     (is, ap (λ (r : Sheet). answerSays (r .answer)) is ∙ sheet-said editionOne s)
 
 pub read-sheet-spec : {M : Type 1} → statement M
-read-sheet-spec = tie.close (tie.spec edition-one-requires read-requires returns)
+read-sheet-spec = tie.close (tie.spec (λ c κs. search needs) read-requires returns)

@@ -46,14 +46,8 @@ fill c = c .field .ensures ∙ ap (λ (n : ℕ). fillAfter n (sheet (counted c))
 
 -- ---- the needs
 
-total-bits-requires : tie.Need-total-bits-requires
-total-bits-requires c κs = search needs
-
 add-if1 : tie.Need-add-if1
 add-if1 c = omega (arith, few c)
-
-refused-requires : tie.Need-refused-requires
-refused-requires c κs = search needs
 
 returns : tie.Need-returns
 unfolding closeChecks
@@ -65,14 +59,8 @@ returns c =
 mul-field : tie.Need-mul-field
 mul-field c = omega (arith, few (c .before))
 
-sub-field : tie.Need-sub-field
-sub-field c = search needs
-
 field-requires : tie.Need-field-requires
 field-requires c κs = omega (arith, few (c .before))
-
-refused-requires-2 : tie.Need-refused-requires-2
-refused-requires-2 c κs = search needs
 
 returns-2 : tie.Need-returns-2
 unfolding closeChecks
@@ -93,14 +81,5 @@ returns-3 c =
 pub closing-spec : {M : Type 1} → statement M
 closing-spec =
     tie.close
-    (tie.spec
-    total-bits-requires
-    add-if1
-    refused-requires
-    returns
-    mul-field
-    sub-field
-    field-requires
-    refused-requires-2
-    returns-2
-    returns-3)
+    (tie.spec (λ c κs. search needs) add-if1 (λ c κs. search needs) returns mul-field (λ c. search needs) field-requires
+    (λ c κs. search needs) returns-2 returns-3)

@@ -17,18 +17,9 @@ read c = c .before
 three-passes : (c : tie.After-field) → ltb (length (c .before .before .before .args .s .now)) 3 ≡ false
 three-passes c = le-ltb _ _ (c .before .if1 .left)
 
-refused-requires : tie.Need-refused-requires
-refused-requires c κs = search needs
-
 returns : tie.Need-returns
 unfolding openChecks
 returns c = c .refused .ensures ∙ holds _ _ _ (lt-ltb _ _ (c .before .if1 .taken))
-
-field-requires : tie.Need-field-requires
-field-requires c κs = search needs
-
-refused-requires-2 : tie.Need-refused-requires-2
-refused-requires-2 c κs = search needs
 
 returns-2 : tie.Need-returns-2
 unfolding openChecks
@@ -45,6 +36,4 @@ returns-3 c =
     clear ∙ fails _ _ _ same ∙ fails _ _ _ (three-passes f)
 
 pub opening-spec : {M : Type 1} → statement M
-opening-spec =
-    tie.close
-    (tie.spec refused-requires returns field-requires refused-requires-2 returns-2 returns-3)
+opening-spec = tie.close (tie.spec (λ c κs. search needs) returns (λ c κs. search needs) (λ c κs. search needs) returns-2 returns-3)

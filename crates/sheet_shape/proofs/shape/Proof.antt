@@ -38,34 +38,13 @@ count-passes c = sym (c .enum-told2 .given .1) ∙ counting c .counts .ensures
 
 -- ---- the needs
 
-opening-requires : tie.Need-opening-requires
-opening-requires c κs = search needs
-
-enum-known-r : tie.Need-enum-known-r
-enum-known-r c = search needs
-
-enum-told : tie.Need-enum-told
-enum-told c = search needs
-
 field-requires : tie.Need-field-requires
 field-requires c κs = omega (arith, start (c .before .before) .pre, open-is c)
-
-add-field : tie.Need-add-field
-add-field c = search needs
 
 field-requires-2 : tie.Need-field-requires-2
 field-requires-2 c κs =
     let p = c .before .before in
     omega (arith, start (p .before .before) .pre, open-is p)
-
-counts-requires : tie.Need-counts-requires
-counts-requires c κs = search needs
-
-enum-known-r-2 : tie.Need-enum-known-r-2
-enum-known-r-2 c = search needs
-
-enum-told-2 : tie.Need-enum-told-2
-enum-told-2 c = search needs
 
 closing-requires : tie.Need-closing-requires
 closing-requires c κs =
@@ -92,17 +71,5 @@ returns-3 c =
 pub shape-spec : {M : Type 1} → statement M
 shape-spec =
     tie.close
-    (tie.spec
-    opening-requires
-    enum-known-r
-    enum-told
-    field-requires
-    add-field
-    field-requires-2
-    counts-requires
-    enum-known-r-2
-    enum-told-2
-    closing-requires
-    returns
-    returns-2
-    returns-3)
+    (tie.spec (λ c κs. search needs) (λ c. search needs) (λ c. search needs) field-requires (λ c. search needs) field-requires-2
+    (λ c κs. search needs) (λ c. search needs) (λ c. search needs) closing-requires returns returns-2 returns-3)

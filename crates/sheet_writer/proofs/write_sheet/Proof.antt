@@ -10,14 +10,8 @@ use borrow.Author.Needs.{needs}
 use Rattle.sheet_writer.proofs.write_sheet.Statement.{statement}
 use Rattle.sheet_writer.proofs.write_sheet.Tie as tie
 
-edition-one-requires : tie.Need-edition-one-requires
-edition-one-requires c κs = search needs
-
 write-requires : tie.Need-write-requires
 write-requires c κs = rw (c .before .edition-one .ensures) (one-fits .narrow)
-
-same-length : tie.Need-same-length
-same-length c = search needs
 
 returns : tie.Need-returns
 returns c =
@@ -34,4 +28,4 @@ returns c =
     )
 
 pub write-sheet-spec : {M : Type 1} → statement M
-write-sheet-spec = tie.close (tie.spec edition-one-requires write-requires same-length returns)
+write-sheet-spec = tie.close (tie.spec (λ c κs. search needs) write-requires (λ c. search needs) returns)

@@ -37,26 +37,8 @@ end-in c = c .before .before .before .end-of2 .ensures _ (sym (ap found (c .befo
 
 -- ---- the needs
 
-end-of-requires : tie.Need-end-of-requires
-end-of-requires c κs = search needs
-
-enum-known-middle : tie.Need-enum-known-middle
-enum-known-middle c = search needs
-
-enum-told : tie.Need-enum-told
-enum-told c = search needs
-
 returns : tie.Need-returns
 returns c = λ m n e. let z : _≡_ {A = ℕ} 0 1 = cc in absurd (omega arith)
-
-end-of-requires-2 : tie.Need-end-of-requires-2
-end-of-requires-2 c κs = search needs
-
-enum-known-end : tie.Need-enum-known-end
-enum-known-end c = search needs
-
-enum-told-2 : tie.Need-enum-told-2
-enum-told-2 c = search needs
 
 returns-2 : tie.Need-returns-2
 returns-2 c = λ m n e. let z : _≡_ {A = ℕ} 0 1 = cc in absurd (omega arith)
@@ -67,13 +49,5 @@ returns-3 c = λ m n e. omega (arith, first e, second e, middle-in (between c), 
 pub ends-of-spec : {M : Type 1} → statement M
 ends-of-spec =
     tie.close
-    (tie.spec
-    end-of-requires
-    enum-known-middle
-    enum-told
-    returns
-    end-of-requires-2
-    enum-known-end
-    enum-told-2
-    returns-2
-    returns-3)
+    (tie.spec (λ c κs. search needs) (λ c. search needs) (λ c. search needs) returns (λ c κs. search needs) (λ c. search needs)
+    (λ c. search needs) returns-2 returns-3)

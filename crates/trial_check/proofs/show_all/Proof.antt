@@ -21,21 +21,6 @@ ends-in c = c .before .before .before .ends-of .ensures _ _ (c .before .middle .
 abbrev shown : tie.After-show Inv-loop μ-loop → tie.After-known-told Inv-loop μ-loop
 shown c = c .before .before .before
 
-loop-holds : tie.Need-loop-holds Inv-loop μ-loop
-loop-holds c = omega arith
-
-ends-of-requires : tie.Need-ends-of-requires Inv-loop μ-loop
-ends-of-requires c κs = omega arith
-
-enum-known-middle : tie.Need-enum-known-middle Inv-loop μ-loop
-enum-known-middle c = omega arith
-
-enum-told : tie.Need-enum-told Inv-loop μ-loop
-enum-told c = omega arith
-
-returns : tie.Need-returns Inv-loop μ-loop
-returns c = omega arith
-
 add-show : tie.Need-add-show Inv-loop μ-loop
 add-show c = omega (arith, ends-in c)
 
@@ -60,38 +45,15 @@ part-show-start-2 c = omega (arith, ends-in (c .before))
 part-show-end-2 : tie.Need-part-show-end-2 Inv-loop μ-loop
 part-show-end-2 c = omega (arith, ends-in (c .before))
 
-show-requires : tie.Need-show-requires Inv-loop μ-loop
-show-requires c κs = omega arith
-
 loop-less : tie.Need-loop-less Inv-loop μ-loop
 loop-less c = omega (arith, ends-in (shown c))
 
 loop-again : tie.Need-loop-again Inv-loop μ-loop
 loop-again c = omega (arith, ends-in (shown c))
 
-returns-2 : tie.Need-returns-2 Inv-loop μ-loop
-returns-2 c = omega arith
-
 pub show-all-spec : {M : Type 1} → statement M
 show-all-spec =
     tie.close
-    (tie.spec
-    Inv-loop
-    μ-loop
-    loop-holds
-    ends-of-requires
-    enum-known-middle
-    enum-told
-    returns
-    add-show
-    sub-show
-    part-show-start
-    part-show-end
-    add-show-2
-    sub-show-2
-    part-show-start-2
-    part-show-end-2
-    show-requires
-    loop-less
-    loop-again
-    returns-2)
+    (tie.spec Inv-loop μ-loop (λ c. omega arith) (λ c κs. omega arith) (λ c. omega arith) (λ c. omega arith) (λ c. omega arith) add-show
+    sub-show part-show-start part-show-end add-show-2 sub-show-2 part-show-start-2 part-show-end-2 (λ c κs. omega arith) loop-less
+    loop-again (λ c. omega arith))

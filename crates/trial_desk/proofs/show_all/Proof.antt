@@ -23,21 +23,6 @@ end-in c = c .before .before .before .end-of .ensures _ (sym (ap found (c .befor
 abbrev shown : tie.After-print-text Inv-loop μ-loop → tie.After-known-told Inv-loop μ-loop
 shown c = c .before .before
 
-loop-holds : tie.Need-loop-holds Inv-loop μ-loop
-loop-holds c = omega arith
-
-end-of-requires : tie.Need-end-of-requires Inv-loop μ-loop
-end-of-requires c κs = omega arith
-
-enum-known-end : tie.Need-enum-known-end Inv-loop μ-loop
-enum-known-end c = omega arith
-
-enum-told : tie.Need-enum-told Inv-loop μ-loop
-enum-told c = omega arith
-
-returns : tie.Need-returns Inv-loop μ-loop
-returns c = omega arith
-
 add-print-text : tie.Need-add-print-text Inv-loop μ-loop
 add-print-text c = omega (arith, end-in c)
 
@@ -50,34 +35,14 @@ part-print-text-start c = omega (arith, end-in c)
 part-print-text-end : tie.Need-part-print-text-end Inv-loop μ-loop
 part-print-text-end c = omega (arith, end-in c)
 
-print-text-requires : tie.Need-print-text-requires Inv-loop μ-loop
-print-text-requires c κs = omega arith
-
 loop-less : tie.Need-loop-less Inv-loop μ-loop
 loop-less c = omega (arith, end-in (shown c))
 
 loop-again : tie.Need-loop-again Inv-loop μ-loop
 loop-again c = omega (arith, end-in (shown c))
 
-returns-2 : tie.Need-returns-2 Inv-loop μ-loop
-returns-2 c = omega arith
-
 pub show-all-spec : {M : Type 1} → statement M
 show-all-spec =
     tie.close
-    (tie.spec
-    Inv-loop
-    μ-loop
-    loop-holds
-    end-of-requires
-    enum-known-end
-    enum-told
-    returns
-    add-print-text
-    sub-print-text
-    part-print-text-start
-    part-print-text-end
-    print-text-requires
-    loop-less
-    loop-again
-    returns-2)
+    (tie.spec Inv-loop μ-loop (λ c. omega arith) (λ c κs. omega arith) (λ c. omega arith) (λ c. omega arith) (λ c. omega arith)
+    add-print-text sub-print-text part-print-text-start part-print-text-end (λ c κs. omega arith) loop-less loop-again (λ c. omega arith))

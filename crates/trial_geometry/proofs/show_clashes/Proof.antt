@@ -25,35 +25,14 @@ start c = c .before .before .before .before .before .before .before
 tables-requires : tie.Need-tables-requires
 tables-requires c κs = clear-rooms (start c .pre) refl
 
-enum-known-tabled : tie.Need-enum-known-tabled
-enum-known-tabled c = search needs
-
-say-refused-requires : tie.Need-say-refused-requires
-say-refused-requires c κs = search needs
-
-enum-known-tabled-2 : tie.Need-enum-known-tabled-2
-enum-known-tabled-2 c = search needs
-
 say-clashes-requires : tie.Need-say-clashes-requires
 say-clashes-requires c κs =
     let m = c .before .before in
     let t = m .before .before in
     few _ _ _ _ (tablesLeft (t .tables .last .1 .1 .1)) (m .tabled2 .given .1) (t .tables .ensures)
 
-returns : tie.Need-returns
-returns c = search needs
-
-returns-2 : tie.Need-returns-2
-returns-2 c = search needs
-
 pub show-clashes-spec : {M : Type 1} → statement M
 show-clashes-spec =
     tie.close
-    (tie.spec
-    tables-requires
-    enum-known-tabled
-    say-refused-requires
-    enum-known-tabled-2
-    say-clashes-requires
-    returns
-    returns-2)
+    (tie.spec tables-requires (λ c. search needs) (λ c κs. search needs) (λ c. search needs) say-clashes-requires (λ c. search needs)
+    (λ c. search needs))

@@ -28,28 +28,14 @@ known-loops-requires c κs =
       roomy = record { table-long = refl; planes-long = refl; corners-long = refl; sides-long = refl };
     }
 
-say-refused-requires : tie.Need-say-refused-requires
-say-refused-requires c κs = search needs
-
-returns : tie.Need-returns
-returns c = search needs
-
 slice-aggregate-say-covers : tie.Need-slice-aggregate-say-covers
 slice-aggregate-say-covers c = sym (known (c .before .before) .roomy .table-long)
 
 say-covers-requires : tie.Need-say-covers-requires
 say-covers-requires c κs = known (c .before .before .before .before .before) .known (omega arith)
 
-returns-2 : tie.Need-returns-2
-returns-2 c = search needs
-
 pub show-covers-spec : {M : Type 1} → statement M
 show-covers-spec =
     tie.close
-    (tie.spec
-    known-loops-requires
-    say-refused-requires
-    returns
-    slice-aggregate-say-covers
-    say-covers-requires
-    returns-2)
+    (tie.spec known-loops-requires (λ c κs. search needs) (λ c. search needs) slice-aggregate-say-covers say-covers-requires
+    (λ c. search needs))

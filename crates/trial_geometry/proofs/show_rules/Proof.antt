@@ -25,15 +25,6 @@ drawing-rules-requires c κs =
     let n = c .before in
     record { range = lent-range _ _ (start n .pre); near-are = n .neighbours .ensures }
 
-enum-known-answer : tie.Need-enum-known-answer
-enum-known-answer c = search needs
-
-say-refused-requires : tie.Need-say-refused-requires
-say-refused-requires c κs = search needs
-
-enum-told : tie.Need-enum-told
-enum-told c = search needs
-
 number-edges-requires : tie.Need-number-edges-requires
 number-edges-requires c κs =
     let r = c .before .before in
@@ -52,23 +43,8 @@ show-covers-requires c κs =
 show-clashes-requires : tie.Need-show-clashes-requires
 show-clashes-requires c κs = start (linked (ruling (c .before .before .before))) .pre
 
-returns : tie.Need-returns
-returns c = search needs
-
-returns-2 : tie.Need-returns-2
-returns-2 c = search needs
-
 pub show-rules-spec : {M : Type 1} → statement M
 show-rules-spec =
     tie.close
-    (tie.spec
-    neighbours-requires
-    drawing-rules-requires
-    enum-known-answer
-    say-refused-requires
-    enum-told
-    number-edges-requires
-    show-covers-requires
-    show-clashes-requires
-    returns
-    returns-2)
+    (tie.spec neighbours-requires drawing-rules-requires (λ c. search needs) (λ c κs. search needs) (λ c. search needs)
+    number-edges-requires show-covers-requires show-clashes-requires (λ c. search needs) (λ c. search needs))

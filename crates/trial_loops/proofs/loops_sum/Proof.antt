@@ -50,36 +50,12 @@ shared-slice-read-more-3 c = omega (arith, start (c .before .before .before .bef
 more-requires-3 : tie.Need-more-requires-3 Inv-loop μ-loop
 more-requires-3 c κs = c .before .more2 .ensures
 
-add-k : tie.Need-add-k Inv-loop μ-loop
-add-k c = omega arith
-
-loop-less : tie.Need-loop-less Inv-loop μ-loop
-loop-less c = omega arith
-
 loop-again : tie.Need-loop-again Inv-loop μ-loop
 loop-again c = (omega arith, c .more3 .ensures)
-
-returns : tie.Need-returns Inv-loop μ-loop
-returns c = search needs
 
 pub loops-sum-spec : {M : Type 1} → statement M
 loops-sum-spec =
     tie.close
-    (tie.spec
-    Inv-loop
-    μ-loop
-    loop-holds
-    more-row-requires
-    mul-more
-    shared-slice-read-more
-    more-requires
-    mul-more-2
-    shared-slice-read-more-2
-    more-requires-2
-    mul-more-3
-    shared-slice-read-more-3
-    more-requires-3
-    add-k
-    loop-less
-    loop-again
-    returns)
+    (tie.spec Inv-loop μ-loop loop-holds more-row-requires mul-more shared-slice-read-more more-requires mul-more-2 shared-slice-read-more-2
+    more-requires-2 mul-more-3 shared-slice-read-more-3 more-requires-3 (λ c. omega arith) (λ c. omega arith) loop-again
+    (λ c. search needs))

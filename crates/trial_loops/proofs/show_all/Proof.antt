@@ -23,21 +23,6 @@ end-in c = c .before .before .before .end-of .ensures _ (sym (ap found (c .befor
 abbrev shown : tie.After-show Inv-loop μ-loop → tie.After-known-told Inv-loop μ-loop
 shown c = c .before .before
 
-loop-holds : tie.Need-loop-holds Inv-loop μ-loop
-loop-holds c = omega arith
-
-end-of-requires : tie.Need-end-of-requires Inv-loop μ-loop
-end-of-requires c κs = omega arith
-
-enum-known-end : tie.Need-enum-known-end Inv-loop μ-loop
-enum-known-end c = omega arith
-
-enum-told : tie.Need-enum-told Inv-loop μ-loop
-enum-told c = omega arith
-
-returns : tie.Need-returns Inv-loop μ-loop
-returns c = omega arith
-
 add-show : tie.Need-add-show Inv-loop μ-loop
 add-show c = omega (arith, end-in c)
 
@@ -50,34 +35,14 @@ part-show-start c = omega (arith, end-in c)
 part-show-end : tie.Need-part-show-end Inv-loop μ-loop
 part-show-end c = omega (arith, end-in c)
 
-show-requires : tie.Need-show-requires Inv-loop μ-loop
-show-requires c κs = omega arith
-
 loop-less : tie.Need-loop-less Inv-loop μ-loop
 loop-less c = omega (arith, end-in (shown c))
 
 loop-again : tie.Need-loop-again Inv-loop μ-loop
 loop-again c = omega (arith, end-in (shown c))
 
-returns-2 : tie.Need-returns-2 Inv-loop μ-loop
-returns-2 c = omega arith
-
 pub show-all-spec : {M : Type 1} → statement M
 show-all-spec =
     tie.close
-    (tie.spec
-    Inv-loop
-    μ-loop
-    loop-holds
-    end-of-requires
-    enum-known-end
-    enum-told
-    returns
-    add-show
-    sub-show
-    part-show-start
-    part-show-end
-    show-requires
-    loop-less
-    loop-again
-    returns-2)
+    (tie.spec Inv-loop μ-loop (λ c. omega arith) (λ c κs. omega arith) (λ c. omega arith) (λ c. omega arith) (λ c. omega arith) add-show
+    sub-show part-show-start part-show-end (λ c κs. omega arith) loop-less loop-again (λ c. omega arith))

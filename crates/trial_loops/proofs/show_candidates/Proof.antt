@@ -10,18 +10,6 @@ use Rattle.trial_loops.proofs.show_candidates.Tie as tie
 abbrev kept : tie.After-kept-sides2 → tie.After-candidates
 kept c = c .before .before .before .before .before
 
-candidates-requires : tie.Need-candidates-requires
-candidates-requires c κs = search needs
-
-say-refused-requires : tie.Need-say-refused-requires
-say-refused-requires c κs = search needs
-
-returns : tie.Need-returns
-returns c = search needs
-
-slice-aggregate-say-count : tie.Need-slice-aggregate-say-count
-slice-aggregate-say-count c = search needs
-
 slice-aggregate-candidates-sum : tie.Need-slice-aggregate-candidates-sum
 slice-aggregate-candidates-sum c = sym (rows-long (c .before .before .before .candidates .ensures) refl)
 
@@ -41,31 +29,9 @@ candidates-sum-requires c κs =
       sides-there = omega (arith, sides-long k refl);
     }
 
-say-count-requires : tie.Need-say-count-requires
-say-count-requires c κs = search needs
-
-slice-aggregate-say : tie.Need-slice-aggregate-say
-slice-aggregate-say c = search needs
-
-say-requires : tie.Need-say-requires
-say-requires c κs = search needs
-
-returns-2 : tie.Need-returns-2
-returns-2 c = search needs
-
 pub show-candidates-spec : {M : Type 1} → statement M
 show-candidates-spec =
     tie.close
-    (tie.spec
-    candidates-requires
-    say-refused-requires
-    returns
-    slice-aggregate-say-count
-    slice-aggregate-candidates-sum
-    slice-aggregate-candidates-sum-2
-    slice-aggregate-candidates-sum-3
-    candidates-sum-requires
-    say-count-requires
-    slice-aggregate-say
-    say-requires
-    returns-2)
+    (tie.spec (λ c κs. search needs) (λ c κs. search needs) (λ c. search needs) (λ c. search needs) slice-aggregate-candidates-sum
+    slice-aggregate-candidates-sum-2 slice-aggregate-candidates-sum-3 candidates-sum-requires (λ c κs. search needs) (λ c. search needs)
+    (λ c κs. search needs) (λ c. search needs))

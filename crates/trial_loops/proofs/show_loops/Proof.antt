@@ -31,15 +31,6 @@ known-loops-requires c κs =
       roomy = record { table-long = refl; planes-long = refl; corners-long = refl; sides-long = refl };
     }
 
-say-refused-requires : tie.Need-say-refused-requires
-say-refused-requires c κs = search needs
-
-returns : tie.Need-returns
-returns c = search needs
-
-slice-aggregate-say-count : tie.Need-slice-aggregate-say-count
-slice-aggregate-say-count c = search needs
-
 slice-aggregate-loops-sum : tie.Need-slice-aggregate-loops-sum
 slice-aggregate-loops-sum c = sym (known (c .before .before .before) .roomy .table-long)
 
@@ -65,15 +56,6 @@ loops-sum-requires c κs =
       planes-there = omega (arith, r .planes-long);
     }
 
-say-count-requires : tie.Need-say-count-requires
-say-count-requires c κs = search needs
-
-slice-aggregate-say : tie.Need-slice-aggregate-say
-slice-aggregate-say c = search needs
-
-say-requires : tie.Need-say-requires
-say-requires c κs = search needs
-
 slice-aggregate-show-candidates : tie.Need-slice-aggregate-show-candidates
 slice-aggregate-show-candidates c = sym (known (c .before .before .before .before .before .before .before .before .before .before .before) .roomy .table-long)
 
@@ -81,25 +63,9 @@ show-candidates-requires : tie.Need-show-candidates-requires
 show-candidates-requires c κs =
     known (c .before .before .before .before .before .before .before .before .before .before .before .before .before .before) .known (omega arith)
 
-returns-2 : tie.Need-returns-2
-returns-2 c = search needs
-
 pub show-loops-spec : {M : Type 1} → statement M
 show-loops-spec =
     tie.close
-    (tie.spec
-    known-loops-requires
-    say-refused-requires
-    returns
-    slice-aggregate-say-count
-    slice-aggregate-loops-sum
-    slice-aggregate-loops-sum-2
-    slice-aggregate-loops-sum-3
-    slice-aggregate-loops-sum-4
-    loops-sum-requires
-    say-count-requires
-    slice-aggregate-say
-    say-requires
-    slice-aggregate-show-candidates
-    show-candidates-requires
-    returns-2)
+    (tie.spec known-loops-requires (λ c κs. search needs) (λ c. search needs) (λ c. search needs) slice-aggregate-loops-sum
+    slice-aggregate-loops-sum-2 slice-aggregate-loops-sum-3 slice-aggregate-loops-sum-4 loops-sum-requires (λ c κs. search needs)
+    (λ c. search needs) (λ c κs. search needs) slice-aggregate-show-candidates show-candidates-requires (λ c. search needs))

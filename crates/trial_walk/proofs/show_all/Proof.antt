@@ -25,30 +25,6 @@ end-in c =
 abbrev shown : tie.After-show Inv-loop μ-loop → tie.After-known-told Inv-loop μ-loop
 shown c = c .before .before .before
 
-loop-holds : tie.Need-loop-holds Inv-loop μ-loop
-loop-holds c = omega arith
-
-sub-if1 : tie.Need-sub-if1 Inv-loop μ-loop
-sub-if1 c = omega arith
-
-returns : tie.Need-returns Inv-loop μ-loop
-returns c = omega arith
-
-add-end-of : tie.Need-add-end-of Inv-loop μ-loop
-add-end-of c = omega arith
-
-end-of-requires : tie.Need-end-of-requires Inv-loop μ-loop
-end-of-requires c κs = omega arith
-
-enum-known-end : tie.Need-enum-known-end Inv-loop μ-loop
-enum-known-end c = omega arith
-
-enum-told : tie.Need-enum-told Inv-loop μ-loop
-enum-told c = omega arith
-
-returns-2 : tie.Need-returns-2 Inv-loop μ-loop
-returns-2 c = omega arith
-
 add-show : tie.Need-add-show Inv-loop μ-loop
 add-show c = omega (arith, end-in c)
 
@@ -64,38 +40,15 @@ part-show-end c = omega (arith, end-in c)
 limit-at-requires : tie.Need-limit-at-requires Inv-loop μ-loop
 limit-at-requires c κs = omega (arith, end-in (c .before))
 
-show-requires : tie.Need-show-requires Inv-loop μ-loop
-show-requires c κs = omega arith
-
 loop-less : tie.Need-loop-less Inv-loop μ-loop
 loop-less c = omega (arith, end-in (shown c))
 
 loop-again : tie.Need-loop-again Inv-loop μ-loop
 loop-again c = omega (arith, end-in (shown c))
 
-returns-3 : tie.Need-returns-3 Inv-loop μ-loop
-returns-3 c = omega arith
-
 pub show-all-spec : {M : Type 1} → statement M
 show-all-spec =
     tie.close
-    (tie.spec
-    Inv-loop
-    μ-loop
-    loop-holds
-    sub-if1
-    returns
-    add-end-of
-    end-of-requires
-    enum-known-end
-    enum-told
-    returns-2
-    add-show
-    sub-show
-    part-show-start
-    part-show-end
-    limit-at-requires
-    show-requires
-    loop-less
-    loop-again
-    returns-3)
+    (tie.spec Inv-loop μ-loop (λ c. omega arith) (λ c. omega arith) (λ c. omega arith) (λ c. omega arith) (λ c κs. omega arith)
+    (λ c. omega arith) (λ c. omega arith) (λ c. omega arith) add-show sub-show part-show-start part-show-end limit-at-requires
+    (λ c κs. omega arith) loop-less loop-again (λ c. omega arith))

@@ -22,15 +22,6 @@ form-is c =
     let a = start c .args in
     c .lent .ensures ∙ ap (λ (f : Format). firstOf (lentChecks f (now (a .xyz)) (now (a .ends)))) (c .before .edition-one .ensures)
 
-edition-one-requires : tie.Need-edition-one-requires
-edition-one-requires c κs = search needs
-
-lent-requires : tie.Need-lent-requires
-lent-requires c κs = search needs
-
-enum-known-form : tie.Need-enum-known-form
-enum-known-form c = search needs
-
 returns : tie.Need-returns
 unfolding verdictLists
 returns c =
@@ -39,9 +30,6 @@ returns c =
     let e = form-stops (wire (now (a .xyz)) (now (a .ends))) (now (a .list)) (lentChecks editionOne (now (a .xyz)) (now (a .ends)))
     (sym (c .before .form .given .1) ∙ form-is l) in
     (e, ap verdictSays e)
-
-enum-told : tie.Need-enum-told
-enum-told c = search needs
 
 checked-requires : tie.Need-checked-requires
 checked-requires c κs = sym (c .enum-told .given .1) ∙ form-is (c .before .before)
@@ -59,11 +47,4 @@ returns-2 c =
 pub check-spec : {M : Type 1} → statement M
 check-spec =
     tie.close
-    (tie.spec
-    edition-one-requires
-    lent-requires
-    enum-known-form
-    returns
-    enum-told
-    checked-requires
-    returns-2)
+    (tie.spec (λ c κs. search needs) (λ c κs. search needs) (λ c. search needs) returns (λ c. search needs) checked-requires returns-2)

@@ -26,12 +26,6 @@ form-is : (c : tie.After-read-sheet) → c .read-sheet .result .answer ≡ first
 unfolding sheetOf
 form-is c = ap (λ (r : Sheet). r .answer) (c .read-sheet .ensures .0)
 
-read-sheet-requires : tie.Need-read-sheet-requires
-read-sheet-requires c κs = search needs
-
-enum-known-form : tie.Need-enum-known-form
-enum-known-form c = search needs
-
 returns : tie.Need-returns
 unfolding verdictSheet
 returns c =
@@ -41,9 +35,6 @@ returns c =
     let e = form-stops (wire (coordinatesIn editionOne s) (endsIn editionOne s)) (now (a .list)) (sheetChecks editionOne s)
     (sym (c .before .form .given .1) ∙ form-is l) in
     (e, ap verdictSays e)
-
-enum-told : tie.Need-enum-told
-enum-told c = search needs
 
 drawing-checked-requires : tie.Need-drawing-checked-requires
 drawing-checked-requires c κs =
@@ -66,10 +57,4 @@ returns-2 c =
 pub check-sheet-spec : {M : Type 1} → statement M
 check-sheet-spec =
     tie.close
-    (tie.spec
-    read-sheet-requires
-    enum-known-form
-    returns
-    enum-told
-    drawing-checked-requires
-    returns-2)
+    (tie.spec (λ c κs. search needs) (λ c. search needs) returns (λ c. search needs) drawing-checked-requires returns-2)

@@ -58,12 +58,6 @@ tabled c = said (made c) (T.Ready (c .tabled2 .given .0 .0)) (c .tabled2 .given 
 tables-requires : tie.Need-tables-requires
 tables-requires c κs = clear-rooms (c .before .before .before .before .before .before .before .before .pre) refl
 
-enum-known-tabled : tie.Need-enum-known-tabled
-enum-known-tabled c = search needs
-
-enum-known-tabled-2 : tie.Need-enum-known-tabled-2
-enum-known-tabled-2 c = search needs
-
 faces-checked-requires : tie.Need-faces-checked-requires
 faces-checked-requires c κs =
     let t = ready c in
@@ -89,12 +83,4 @@ returns-2 c =
     (vertices-are (now (a .xyz)) (now (a .ends)) (o .pre)) (c .faces-checked .ensures (candidates d) (tablesOf d (candidates d)) (rows-hold r) (r .lent)))
 
 pub checked-spec : {M : Type 1} → statement M
-checked-spec =
-    tie.close
-    (tie.spec
-    tables-requires
-    enum-known-tabled
-    enum-known-tabled-2
-    faces-checked-requires
-    returns
-    returns-2)
+checked-spec = tie.close (tie.spec tables-requires (λ c. search needs) (λ c. search needs) faces-checked-requires returns returns-2)

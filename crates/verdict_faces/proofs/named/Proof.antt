@@ -24,25 +24,13 @@ once c = c .before .before .before
 
 -- ---- the needs
 
-number-faces-requires : tie.Need-number-faces-requires
-number-faces-requires c κs = search needs
-
-enum-known-numbered : tie.Need-enum-known-numbered
-enum-known-numbered c = search needs
-
 returns : tie.Need-returns
 returns c = answer-21 (c .before .before .before .number-faces .ensures) (c .before .numbered .given .1)
-
-enum-known-numbered-2 : tie.Need-enum-known-numbered-2
-enum-known-numbered-2 c = search needs
 
 take-each-requires : tie.Need-take-each-requires
 take-each-requires c κs =
     let n = counted c in
     all-taken (n .number-faces .ensures) (start n .pre) (known c .numbered2 .given .1)
-
-enum-known-each : tie.Need-enum-known-each
-enum-known-each c = search needs
 
 returns-2 : tie.Need-returns-2
 returns-2 c =
@@ -50,9 +38,6 @@ returns-2 c =
     let n = counted (t .before) in
     answer-22 (n .number-faces .ensures) (start n .pre) (known (t .before) .numbered2 .given .1) (t .take-each .ensures)
     (c .before .each .given .1)
-
-enum-known-each-2 : tie.Need-enum-known-each-2
-enum-known-each-2 c = search needs
 
 returns-3 : tie.Need-returns-3
 returns-3 c =
@@ -64,13 +49,5 @@ returns-3 c =
 pub named-spec : {M : Type 1} → statement M
 named-spec =
     tie.close
-    (tie.spec
-    number-faces-requires
-    enum-known-numbered
-    returns
-    enum-known-numbered-2
-    take-each-requires
-    enum-known-each
-    returns-2
-    enum-known-each-2
-    returns-3)
+    (tie.spec (λ c κs. search needs) (λ c. search needs) returns (λ c. search needs) take-each-requires (λ c. search needs) returns-2
+    (λ c. search needs) returns-3)

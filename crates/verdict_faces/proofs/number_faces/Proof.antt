@@ -31,9 +31,6 @@ turn c = c .before .before .before
 
 -- ---- the needs
 
-none-requires : tie.Need-none-requires Inv-loop μ-loop
-none-requires c κs = search needs
-
 loop-holds : tie.Need-loop-holds Inv-loop μ-loop
 loop-holds c = (omega arith, numbered-start _ _ _ _ _ (c .before .pre .few-candidates) (c .none .ensures))
 
@@ -73,12 +70,6 @@ with-requires c κs =
     let p = start (turn (wayed (e .before))) .pre in
     omega (arith, p .few-candidates, e .if1 .left)
 
-add-i : tie.Need-add-i Inv-loop μ-loop
-add-i c = omega arith
-
-loop-less : tie.Need-loop-less Inv-loop μ-loop
-loop-less c = omega arith
-
 loop-again : tie.Need-loop-again Inv-loop μ-loop
 loop-again c =
     let e = c .before .before in
@@ -110,18 +101,5 @@ returns-2 c =
 pub number-faces-spec : {M : Type 1} → statement M
 number-faces-spec =
     tie.close
-    (tie.spec
-    Inv-loop
-    μ-loop
-    none-requires
-    loop-holds
-    way-of-requires
-    number-in-requires
-    returns
-    cast-numbers
-    element-write-numbers
-    with-requires
-    add-i
-    loop-less
-    loop-again
-    returns-2)
+    (tie.spec Inv-loop μ-loop (λ c κs. search needs) loop-holds way-of-requires number-in-requires returns cast-numbers
+    element-write-numbers with-requires (λ c. omega arith) (λ c. omega arith) loop-again returns-2)

@@ -23,17 +23,11 @@ turn c = c .before .before .before
 
 -- ---- the needs
 
-none-requires : tie.Need-none-requires Inv-loop μ-loop
-none-requires c κs = search needs
-
 loop-holds : tie.Need-loop-holds Inv-loop μ-loop
 loop-holds c = (omega arith, λ q. passed-start q (c .none .ensures))
 
 element-copy-out-wide : tie.Need-element-copy-out-wide Inv-loop μ-loop
 element-copy-out-wide c = omega (arith, start (c .before) .pre .few)
-
-wide-requires : tie.Need-wide-requires Inv-loop μ-loop
-wide-requires c κs = search needs
 
 has-requires : tie.Need-has-requires Inv-loop μ-loop
 has-requires c κs =
@@ -53,12 +47,6 @@ with-requires c κs =
     let t = turn w in
     omega (arith, w .wide .ensures, start t .pre .below (t .loop .i) (omega arith))
 
-add-i : tie.Need-add-i Inv-loop μ-loop
-add-i c = omega arith
-
-loop-less : tie.Need-loop-less Inv-loop μ-loop
-loop-less c = omega arith
-
 loop-again : tie.Need-loop-again Inv-loop μ-loop
 loop-again c =
     let h = c .before .before in
@@ -75,17 +63,5 @@ returns-2 c = let q = start (c .before) .pre in passed-end q (c .before .loop .i
 pub take-each-spec : {M : Type 1} → statement M
 take-each-spec =
     tie.close
-    (tie.spec
-    Inv-loop
-    μ-loop
-    none-requires
-    loop-holds
-    element-copy-out-wide
-    wide-requires
-    has-requires
-    returns
-    with-requires
-    add-i
-    loop-less
-    loop-again
-    returns-2)
+    (tie.spec Inv-loop μ-loop (λ c κs. search needs) loop-holds element-copy-out-wide (λ c κs. search needs) has-requires returns
+    with-requires (λ c. omega arith) (λ c. omega arith) loop-again returns-2)

@@ -4,12 +4,6 @@ use Rattle.verdict_tests.proofs.Testing.{first-refuses, first-fine}
 use Rattle.verdict_tests.proofs.first_of.Statement.{statement}
 use Rattle.verdict_tests.proofs.first_of.Tie as tie
 
-enum-told : tie.Need-enum-told
-enum-told c = search needs
-
-enum-told-2 : tie.Need-enum-told-2
-enum-told-2 c = search needs
-
 returns : tie.Need-returns
 returns c = first-refuses (c .enum-told .given .1)
 
@@ -17,4 +11,4 @@ returns-2 : tie.Need-returns-2
 returns-2 c = first-fine (c .enum-told2 .given .1)
 
 pub first-of-spec : {M : Type 1} → statement M
-first-of-spec = tie.close (tie.spec enum-told enum-told-2 returns returns-2)
+first-of-spec = tie.close (tie.spec (λ c. search needs) (λ c. search needs) returns returns-2)

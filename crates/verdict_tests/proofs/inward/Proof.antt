@@ -17,16 +17,10 @@ use Rattle.verdict_tests.proofs.inward.Tie as tie
 env : (c : tie.After-weight) → Env (room * mostSix ∷ []) (ofZ w64 (c .weight .result) ∷ []) (c .weight .result ∷ [])
 env c = c .weight .ensures .small ▸ done
 
-weight-requires : tie.Need-weight-requires
-weight-requires c κs = search needs
-
 returns : tie.Need-returns
 returns c =
     let w = c .before in
     six-above (w .weight .ensures) (lt-taken (lit (pos 0) tt) (value (env w) (var 0) tt) (c .if1 .taken))
-
-refused-requires : tie.Need-refused-requires
-refused-requires c κs = search needs
 
 returns-2 : tie.Need-returns-2
 returns-2 c =
@@ -36,4 +30,4 @@ returns-2 c =
     ∙ six-not (w .weight .ensures) (lt-left (lit (pos 0) tt) (value (env w) (var 0) tt) (c .before .if1 .left)) t l s
 
 pub inward-spec : {M : Type 1} → statement M
-inward-spec = tie.close (tie.spec weight-requires returns refused-requires returns-2)
+inward-spec = tie.close (tie.spec (λ c κs. search needs) returns (λ c κs. search needs) returns-2)

@@ -22,33 +22,6 @@ lent s = let a = s .args in walkTables (a .on .now) (a .up .now) (a .sides .now)
 
 -- ---- the needs
 
-edge-count-requires : tie.Need-edge-count-requires
-edge-count-requires c κs = search needs
-
-direction-requires : tie.Need-direction-requires
-direction-requires c κs = search needs
-
-pieces-requires : tie.Need-pieces-requires
-pieces-requires c κs = search needs
-
-inward-requires : tie.Need-inward-requires
-inward-requires c κs = search needs
-
-clash-requires : tie.Need-clash-requires
-clash-requires c κs = search needs
-
-first-of-requires : tie.Need-first-of-requires
-first-of-requires c κs = search needs
-
-first-of-requires-2 : tie.Need-first-of-requires-2
-first-of-requires-2 c κs = search needs
-
-first-of-requires-3 : tie.Need-first-of-requires-3
-first-of-requires-3 c κs = search needs
-
-first-of-requires-4 : tie.Need-first-of-requires-4
-first-of-requires-4 c κs = search needs
-
 returns : tie.Need-returns
 returns c =
     let k = asked c in
@@ -63,14 +36,5 @@ returns c =
 pub tested-spec : {M : Type 1} → statement M
 tested-spec =
     tie.close
-    (tie.spec
-    edge-count-requires
-    direction-requires
-    pieces-requires
-    inward-requires
-    clash-requires
-    first-of-requires
-    first-of-requires-2
-    first-of-requires-3
-    first-of-requires-4
-    returns)
+    (tie.spec (λ c κs. search needs) (λ c κs. search needs) (λ c κs. search needs) (λ c κs. search needs) (λ c κs. search needs)
+    (λ c κs. search needs) (λ c κs. search needs) (λ c κs. search needs) (λ c κs. search needs) returns)

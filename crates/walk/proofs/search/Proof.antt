@@ -6,18 +6,6 @@ use Rattle.walk.proofs.Starting.{searched}
 use Rattle.walk.proofs.search.Statement.{statement}
 use Rattle.walk.proofs.search.Tie as tie
 
-none-requires : tie.Need-none-requires
-none-requires c κs = search needs
-
-lowest-of-requires : tie.Need-lowest-of-requires
-lowest-of-requires c κs = search needs
-
-lowest-of-requires-2 : tie.Need-lowest-of-requires-2
-lowest-of-requires-2 c κs = search needs
-
-walk-requires : tie.Need-walk-requires
-walk-requires c κs = search needs
-
 -- the tables that were lent
 abbrev lent : tie.Start → WalkTables
 lent s = let a = s .args in walkTables (now (a .on)) (now (a .up)) (now (a .sides)) (now (a .clashes)) (now (a .sixes))
@@ -32,4 +20,4 @@ returns c =
     (c .walk .ensures)
 
 pub search-spec : {M : Type 1} → statement M
-search-spec = tie.close (tie.spec none-requires lowest-of-requires lowest-of-requires-2 walk-requires returns)
+search-spec = tie.close (tie.spec (λ c κs. search needs) (λ c κs. search needs) (λ c κs. search needs) (λ c κs. search needs) returns)

@@ -7,14 +7,8 @@ use Rattle.walk_clashes.proofs.clash_set.Tie as tie
 hit-set-requires : tie.Need-hit-set-requires
 hit-set-requires c κs = let p = c .before .pre in hit-lent (p .lent) _ (p .there)
 
-or-requires : tie.Need-or-requires
-or-requires c κs = search needs
-
 fold-set-requires : tie.Need-fold-set-requires
 fold-set-requires c κs = let p = c .before .before .before .pre in record { lent = fold-lent (p .lent); there = p .there }
-
-or-requires-2 : tie.Need-or-requires-2
-or-requires-2 c κs = search needs
 
 returns : tie.Need-returns
 returns c w s i =
@@ -25,5 +19,4 @@ returns c w s i =
     c .or2 .ensures _ _ through (f .fold-set .ensures (fold-lent w) _ (o .or .ensures _ _ i through))
 
 pub clash-set-spec : {M : Type 1} → statement M
-clash-set-spec =
-    tie.close (tie.spec hit-set-requires or-requires fold-set-requires or-requires-2 returns)
+clash-set-spec = tie.close (tie.spec hit-set-requires (λ c κs. search needs) fold-set-requires (λ c κs. search needs) returns)

@@ -100,12 +100,6 @@ mark-both-requires c κs =
       few = low t;
     }
 
-add-g : tie.Need-add-g Inv-loop μ-loop
-add-g c = omega arith
-
-loop-less : tie.Need-loop-less Inv-loop μ-loop
-loop-less c = omega arith
-
 loop-again : tie.Need-loop-again Inv-loop μ-loop
 loop-again c w =
     let h = c .before .before in
@@ -133,14 +127,5 @@ returns c w =
 pub clash-words-spec : {M : Type 1} → statement M
 clash-words-spec =
     tie.close
-    (tie.spec
-    Inv-loop
-    μ-loop
-    loop-holds
-    of-edge-requires
-    clash-set-requires
-    mark-both-requires
-    add-g
-    loop-less
-    loop-again
-    returns)
+    (tie.spec Inv-loop μ-loop loop-holds of-edge-requires clash-set-requires mark-both-requires (λ c. omega arith) (λ c. omega arith)
+    loop-again returns)

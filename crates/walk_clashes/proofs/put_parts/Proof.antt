@@ -63,12 +63,6 @@ mul-t12 c = omega (arith, low (turn c .before))
 element-set-from-sixes : tie.Need-element-set-from-sixes Inv-loop μ-loop
 element-set-from-sixes c = low (turn c .before)
 
-add-k : tie.Need-add-k Inv-loop μ-loop
-add-k c = omega arith
-
-loop-less : tie.Need-loop-less Inv-loop μ-loop
-loop-less c = omega arith
-
 loop-again : tie.Need-loop-again Inv-loop μ-loop
 loop-again c w =
     let t = turn c .before in
@@ -89,16 +83,5 @@ returns c w =
 pub put-parts-spec : {M : Type 1} → statement M
 put-parts-spec =
     tie.close
-    (tie.spec
-    Inv-loop
-    μ-loop
-    loop-holds
-    normal-requires
-    put-normal-requires
-    six-of-requires
-    mul-t12
-    element-set-from-sixes
-    add-k
-    loop-less
-    loop-again
-    returns)
+    (tie.spec Inv-loop μ-loop loop-holds normal-requires put-normal-requires six-of-requires mul-t12 element-set-from-sixes
+    (λ c. omega arith) (λ c. omega arith) loop-again returns)

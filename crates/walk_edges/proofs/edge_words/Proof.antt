@@ -81,12 +81,6 @@ mark-sides-requires c κs =
       up-room = o .up-long ∙ s .pre .up-clear .room-is;
     }
 
-add-k : tie.Need-add-k Inv-loop μ-loop
-add-k c = omega arith
-
-loop-less : tie.Need-loop-less Inv-loop μ-loop
-loop-less c = omega arith
-
 loop-again : tie.Need-loop-again Inv-loop μ-loop
 unfolding row-of
 loop-again c w =
@@ -119,4 +113,4 @@ returns c w =
 pub edge-words-spec : {M : Type 1} → statement M
 edge-words-spec =
     tie.close
-    (tie.spec Inv-loop μ-loop loop-holds mark-sides-requires add-k loop-less loop-again returns)
+    (tie.spec Inv-loop μ-loop loop-holds mark-sides-requires (λ c. omega arith) (λ c. omega arith) loop-again returns)

@@ -102,9 +102,6 @@ mul-first c = omega (arith, c .before .pre .row .drawn .room)
 shared-slice-read-wide : tie.Need-shared-slice-read-wide Inv-loop μ-loop
 shared-slice-read-wide c = omega (arith, c .before .before .pre .row .drawn .room)
 
-wide-requires : tie.Need-wide-requires Inv-loop μ-loop
-wide-requires c κs = search needs
-
 add-wide : tie.Need-add-wide Inv-loop μ-loop
 add-wide c = let w = start c .pre .row in omega (arith, count-is c w, w .drawn .short, w .drawn .room)
 
@@ -112,9 +109,6 @@ shared-slice-read-wide-2 : tie.Need-shared-slice-read-wide-2 Inv-loop μ-loop
 shared-slice-read-wide-2 c =
     let w = start (c .before) .pre .row in
     omega (arith, count-is (c .before) w, w .drawn .short, w .drawn .room)
-
-wide-requires-2 : tie.Need-wide-requires-2 Inv-loop μ-loop
-wide-requires-2 c κs = search needs
 
 loop-holds : tie.Need-loop-holds Inv-loop μ-loop
 loop-holds c w =
@@ -145,9 +139,6 @@ shared-slice-read-wide-3 c =
     let w = entry (c .before .before) .pre .row in
     omega (arith, here (c .before) w, w .drawn .short, w .drawn .room)
 
-wide-requires-3 : tie.Need-wide-requires-3 Inv-loop μ-loop
-wide-requires-3 c κs = search needs
-
 mul-wide : tie.Need-mul-wide Inv-loop μ-loop
 mul-wide c = omega (arith, pair-low c)
 
@@ -156,9 +147,6 @@ add-wide-4 c = omega (arith, pair-low c)
 
 element-copy-out-wide : tie.Need-element-copy-out-wide Inv-loop μ-loop
 element-copy-out-wide c = omega (arith, pair-low c)
-
-wide-requires-4 : tie.Need-wide-requires-4 Inv-loop μ-loop
-wide-requires-4 c κs = search needs
 
 mul-on : tie.Need-mul-on Inv-loop μ-loop
 mul-on c = omega (arith, low c)
@@ -189,12 +177,6 @@ mul-up-2 c = omega (arith, low (c .before .before .before))
 
 element-write-up : tie.Need-element-write-up Inv-loop μ-loop
 element-write-up c = low (c .before .before .before)
-
-add-i : tie.Need-add-i Inv-loop μ-loop
-add-i c = omega arith
-
-loop-less : tie.Need-loop-less Inv-loop μ-loop
-loop-less c = omega arith
 
 loop-again : tie.Need-loop-again Inv-loop μ-loop
 loop-again c w =
@@ -241,35 +223,7 @@ returns c w =
 pub mark-sides-spec : {M : Type 1} → statement M
 mark-sides-spec =
     tie.close
-    (tie.spec
-    Inv-loop
-    μ-loop
-    mul-first
-    shared-slice-read-wide
-    wide-requires
-    add-wide
-    shared-slice-read-wide-2
-    wide-requires-2
-    loop-holds
-    add-wide-2
-    add-wide-3
-    shared-slice-read-wide-3
-    wide-requires-3
-    mul-wide
-    add-wide-4
-    element-copy-out-wide
-    wide-requires-4
-    mul-on
-    element-copy-out-on
-    shl-on
-    mul-on-2
-    element-write-on
-    mul-up
-    element-copy-out-up
-    shl-up
-    mul-up-2
-    element-write-up
-    add-i
-    loop-less
-    loop-again
-    returns)
+    (tie.spec Inv-loop μ-loop mul-first shared-slice-read-wide (λ c κs. search needs) add-wide shared-slice-read-wide-2
+    (λ c κs. search needs) loop-holds add-wide-2 add-wide-3 shared-slice-read-wide-3 (λ c κs. search needs) mul-wide add-wide-4
+    element-copy-out-wide (λ c κs. search needs) mul-on element-copy-out-on shl-on mul-on-2 element-write-on mul-up element-copy-out-up
+    shl-up mul-up-2 element-write-up (λ c. omega arith) (λ c. omega arith) loop-again returns)

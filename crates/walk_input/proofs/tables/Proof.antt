@@ -75,14 +75,8 @@ drawing-rules-requires c κs =
     let n = c .before in
     record { range = lent-range _ _ (n .before .before .pre .passed); near-are = n .neighbours .ensures }
 
-enum-known-rules : tie.Need-enum-known-rules
-enum-known-rules c = search needs
-
 returns : tie.Need-returns
 returns c = first-stops _ _ (sym (c .before .rules .given .1) ∙ c .before .before .before .drawing-rules .ensures)
-
-enum-told : tie.Need-enum-told
-enum-told c = search needs
 
 number-edges-requires : tie.Need-number-edges-requires
 number-edges-requires c κs = rising-ends (passed c)
@@ -147,15 +141,5 @@ returns-4 c =
 pub tables-spec : {M : Type 1} → statement M
 tables-spec =
     tie.close
-    (tie.spec
-    neighbours-requires
-    drawing-rules-requires
-    enum-known-rules
-    returns
-    enum-told
-    number-edges-requires
-    candidate-rows-requires
-    returns-2
-    returns-3
-    put-words-requires
-    returns-4)
+    (tie.spec neighbours-requires drawing-rules-requires (λ c. search needs) returns (λ c. search needs) number-edges-requires
+    candidate-rows-requires returns-2 returns-3 put-words-requires returns-4)

@@ -34,20 +34,11 @@ some-left c =
 loop-holds : tie.Need-loop-holds Inv-loop μ-loop
 loop-holds c = clear-start (c .args .clashes .now) (c .args .taken)
 
-is-empty-requires : tie.Need-is-empty-requires Inv-loop μ-loop
-is-empty-requires c κs = search needs
-
 lowest-requires : tie.Need-lowest-requires Inv-loop μ-loop
 lowest-requires c κs = some-left c
 
 of-edge-requires : tie.Need-of-edge-requires Inv-loop μ-loop
 of-edge-requires c κs = let low = c .before .lowest .ensures in omega (arith, low)
-
-and-requires : tie.Need-and-requires Inv-loop μ-loop
-and-requires c κs = search needs
-
-is-empty-requires-2 : tie.Need-is-empty-requires-2 Inv-loop μ-loop
-is-empty-requires-2 c κs = search needs
 
 returns : tie.Need-returns Inv-loop μ-loop
 returns c =
@@ -86,17 +77,5 @@ returns-2 c =
 pub clear-spec : {M : Type 1} → statement M
 clear-spec =
     tie.close
-    (tie.spec
-    Inv-loop
-    μ-loop
-    loop-holds
-    is-empty-requires
-    lowest-requires
-    of-edge-requires
-    and-requires
-    is-empty-requires-2
-    returns
-    without-requires
-    loop-less
-    loop-again
-    returns-2)
+    (tie.spec Inv-loop μ-loop loop-holds (λ c κs. search needs) lowest-requires of-edge-requires (λ c κs. search needs)
+    (λ c κs. search needs) returns without-requires loop-less loop-again returns-2)

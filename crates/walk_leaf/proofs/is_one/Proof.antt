@@ -6,24 +6,14 @@ use Rattle.walk_leaf.proofs.Directions.{one-none, one-some}
 use Rattle.walk_leaf.proofs.is_one.Statement.{statement}
 use Rattle.walk_leaf.proofs.is_one.Tie as tie
 
-is-empty-requires : tie.Need-is-empty-requires
-is-empty-requires c κs = search needs
-
 returns : tie.Need-returns
 returns c = let x = c .before .before .args .x in one-none x (is-none x (c .before .is-empty .ensures) (c .if1 .taken))
 
 lowest-requires : tie.Need-lowest-requires
 lowest-requires c κs = is-some (c .before .before .args .x) (c .before .is-empty .ensures) (c .if1 .left)
 
-without-requires : tie.Need-without-requires
-without-requires c κs = search needs
-
-is-empty-requires-2 : tie.Need-is-empty-requires-2
-is-empty-requires-2 c κs = search needs
-
 returns-2 : tie.Need-returns-2
 returns-2 c = one-some (omega arith) (c .before .before .lowest .ensures) (c .before .without .ensures) (c .is-empty2 .ensures)
 
 pub is-one-spec : {M : Type 1} → statement M
-is-one-spec =
-    tie.close (tie.spec is-empty-requires returns lowest-requires without-requires is-empty-requires-2 returns-2)
+is-one-spec = tie.close (tie.spec (λ c κs. search needs) returns lowest-requires (λ c κs. search needs) (λ c κs. search needs) returns-2)

@@ -40,9 +40,6 @@ none-far c =
 
 -- ---- the needs
 
-is-empty-requires : tie.Need-is-empty-requires
-is-empty-requires c κs = search needs
-
 returns : tie.Need-returns
 returns c =
     let s = c .before .before in
@@ -55,12 +52,6 @@ lowest-requires c κs = some-taken c
 from-face-requires : tie.Need-from-face-requires
 from-face-requires c κs = c .lowest .ensures .narrow
 
-minus-requires : tie.Need-minus-requires
-minus-requires c κs = search needs
-
-is-empty-requires-2 : tie.Need-is-empty-requires-2
-is-empty-requires-2 c κs = search needs
-
 returns-2 : tie.Need-returns-2
 returns-2 c =
     let q = c .before in
@@ -71,9 +62,6 @@ returns-2 c =
     judge-apart (lent s) (a .m) (a .taken)
     (some-taken (r .before .before)) (r .before .lowest .ensures) (r .from-face .ensures) (m .ensures)
     (is-some (m .result) (q .is-empty2 .ensures) (not-true (q .is-empty2 .result) (c .if2 .taken)))
-
-oriented-requires : tie.Need-oriented-requires
-oriented-requires c κs = search needs
 
 returns-3 : tie.Need-returns-3
 returns-3 c =
@@ -86,9 +74,6 @@ returns-3 c =
     (some-taken (r .before .before)) (r .before .lowest .ensures) (r .from-face .ensures) (q .before .minus .ensures) (none-far (o .before)) (o .oriented .ensures)
     (not-true (o .oriented .result) (c .if3 .taken))
 
-clear-requires : tie.Need-clear-requires
-clear-requires c κs = search needs
-
 returns-4 : tie.Need-returns-4
 returns-4 c =
     let k = c .before in
@@ -100,9 +85,6 @@ returns-4 c =
     judge-clash (lent s) (a .m) (a .taken)
     (some-taken (r .before .before)) (r .before .lowest .ensures) (r .from-face .ensures) (q .before .minus .ensures) (none-far (o .before)) (o .oriented .ensures)
     (not-false (o .oriented .result) (k .before .if3 .left)) (k .clear .ensures) (not-true (k .clear .result) (c .if4 .taken))
-
-weighed-requires : tie.Need-weighed-requires
-weighed-requires c κs = search needs
 
 returns-5 : tie.Need-returns-5
 returns-5 c =
@@ -120,17 +102,5 @@ returns-5 c =
 pub judge-spec : {M : Type 1} → statement M
 judge-spec =
     tie.close
-    (tie.spec
-    is-empty-requires
-    returns
-    lowest-requires
-    from-face-requires
-    minus-requires
-    is-empty-requires-2
-    returns-2
-    oriented-requires
-    returns-3
-    clear-requires
-    returns-4
-    weighed-requires
-    returns-5)
+    (tie.spec (λ c κs. search needs) returns lowest-requires from-face-requires (λ c κs. search needs) (λ c κs. search needs) returns-2
+    (λ c κs. search needs) returns-3 (λ c κs. search needs) returns-4 (λ c κs. search needs) returns-5)

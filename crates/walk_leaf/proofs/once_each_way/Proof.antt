@@ -7,24 +7,6 @@ use Rattle.walk_leaf.proofs.once_each_way.Tie as tie
 abbrev start : tie.After-is-one → tie.Start
 start c = c .before .before .before .before
 
-and-requires : tie.Need-and-requires
-and-requires c κs = search needs
-
-unlike-requires : tie.Need-unlike-requires
-unlike-requires c κs = search needs
-
-and-requires-2 : tie.Need-and-requires-2
-and-requires-2 c κs = search needs
-
-is-one-requires : tie.Need-is-one-requires
-is-one-requires c κs = search needs
-
-minus-requires : tie.Need-minus-requires
-minus-requires c κs = search needs
-
-is-one-requires-2 : tie.Need-is-one-requires-2
-is-one-requires-2 c κs = search needs
-
 returns : tie.Need-returns
 returns c =
     let o = c .before .before .before in
@@ -42,12 +24,5 @@ returns-2 c =
 pub once-each-way-spec : {M : Type 1} → statement M
 once-each-way-spec =
     tie.close
-    (tie.spec
-    and-requires
-    unlike-requires
-    and-requires-2
-    is-one-requires
-    minus-requires
-    is-one-requires-2
-    returns
-    returns-2)
+    (tie.spec (λ c κs. search needs) (λ c κs. search needs) (λ c κs. search needs) (λ c κs. search needs) (λ c κs. search needs)
+    (λ c κs. search needs) returns returns-2)

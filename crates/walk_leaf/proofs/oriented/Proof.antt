@@ -30,9 +30,6 @@ of-edge-requires c κs = let p = c .before .before .before .pre in omega (arith,
 of-edge-requires-2 : tie.Need-of-edge-requires-2 Inv-loop μ-loop
 of-edge-requires-2 c κs = let p = c .before .before .before .before .before .pre in omega (arith, p)
 
-once-each-way-requires : tie.Need-once-each-way-requires Inv-loop μ-loop
-once-each-way-requires c κs = search needs
-
 returns : tie.Need-returns Inv-loop μ-loop
 returns c =
     let o = c .before in
@@ -44,9 +41,6 @@ returns c =
 
 add-e : tie.Need-add-e Inv-loop μ-loop
 add-e c = let p = turn (c .before) .before .pre in omega (arith, p)
-
-loop-less : tie.Need-loop-less Inv-loop μ-loop
-loop-less c = omega arith
 
 loop-again : tie.Need-loop-again Inv-loop μ-loop
 loop-again c =
@@ -68,15 +62,5 @@ returns-2 c =
 pub oriented-spec : {M : Type 1} → statement M
 oriented-spec =
     tie.close
-    (tie.spec
-    Inv-loop
-    μ-loop
-    loop-holds
-    of-edge-requires
-    of-edge-requires-2
-    once-each-way-requires
-    returns
-    add-e
-    loop-less
-    loop-again
-    returns-2)
+    (tie.spec Inv-loop μ-loop loop-holds of-edge-requires of-edge-requires-2 (λ c κs. search needs) returns add-e (λ c. omega arith)
+    loop-again returns-2)

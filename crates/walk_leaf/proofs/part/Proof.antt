@@ -19,12 +19,6 @@ number c = getD (now (c .args .sixes)) (c .args .k) (pos 0)
 env : (c : tie.Start) → Env (mostSix ∷ []) (ofZ w64 (number c) ∷ []) (number c ∷ [])
 env c = c .pre .all .small (c .args .k) (c .pre .narrow) ▸ done
 
-mul-z : tie.Need-mul-z
-mul-z c = search needs
-
-element-copy-out-z : tie.Need-element-copy-out-z
-element-copy-out-z c = search needs
-
 sub-result : tie.Need-sub-result
 sub-result c = asked (env (c .before .before)) (neg (var 0)) tt
 
@@ -39,4 +33,4 @@ returns-2 c =
     part-plain (s .pre .all .small (s .args .k) (s .pre .narrow)) (c .if1 .left) (reads (env s) (var 0) tt)
 
 pub part-spec : {M : Type 1} → statement M
-part-spec = tie.close (tie.spec mul-z element-copy-out-z sub-result returns returns-2)
+part-spec = tie.close (tie.spec (λ c. search needs) (λ c. search needs) sub-result returns returns-2)

@@ -39,9 +39,6 @@ cast-t6 c = let w = c .before in to-u64 (value (env w) (var 0) tt) tt (w .weight
 returns : tie.Need-returns
 returns c = let w = c .before in volume-above (w .weight .ensures) (above c) (ap natAbs (reads (env w) (var 0) tt))
 
-minus-requires : tie.Need-minus-requires
-minus-requires c κs = search needs
-
 sub-t8 : tie.Need-sub-t8
 sub-t8 c = asked (env (c .before .before .before)) (neg (var 0)) tt
 
@@ -63,5 +60,4 @@ returns-3 c =
     (lt-left (value (env w) (var 0) tt) (lit (pos 0) tt) (c .if2 .left)))
 
 pub weighed-spec : {M : Type 1} → statement M
-weighed-spec =
-    tie.close (tie.spec weight-requires cast-t6 returns minus-requires sub-t8 cast-t9 returns-2 returns-3)
+weighed-spec = tie.close (tie.spec weight-requires cast-t6 returns (λ c κs. search needs) sub-t8 cast-t9 returns-2 returns-3)

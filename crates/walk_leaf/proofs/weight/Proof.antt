@@ -52,9 +52,6 @@ loop-holds c =
     let a = c .args in
     weighing-start (a .sixes .now) (a .taken) (a .turned) (counted (a .taken) (omega arith) .under) refl
 
-is-empty-requires : tie.Need-is-empty-requires Inv-loop μ-loop
-is-empty-requires c κs = search needs
-
 lowest-requires : tie.Need-lowest-requires Inv-loop μ-loop
 lowest-requires c κs = some-left c
 
@@ -94,16 +91,5 @@ returns c =
 pub weight-spec : {M : Type 1} → statement M
 weight-spec =
     tie.close
-    (tie.spec
-    Inv-loop
-    μ-loop
-    loop-holds
-    is-empty-requires
-    lowest-requires
-    has-requires
-    part-requires
-    add-sum
-    without-requires
-    loop-less
-    loop-again
-    returns)
+    (tie.spec Inv-loop μ-loop loop-holds (λ c κs. search needs) lowest-requires has-requires part-requires add-sum without-requires
+    loop-less loop-again returns)

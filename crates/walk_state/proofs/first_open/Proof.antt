@@ -28,12 +28,6 @@ loop-holds c = (omega arith, λ masks st i l w. refl)
 of-edge-requires : tie.Need-of-edge-requires Inv-loop μ-loop
 of-edge-requires c κs = let p = c .before .before .before .pre in omega (arith, p)
 
-and-requires : tie.Need-and-requires Inv-loop μ-loop
-and-requires c κs = search needs
-
-is-empty-requires : tie.Need-is-empty-requires Inv-loop μ-loop
-is-empty-requires c κs = search needs
-
 returns : tie.Need-returns Inv-loop μ-loop
 returns c =
     let f = c .before .before in
@@ -45,9 +39,6 @@ returns c =
 
 add-e : tie.Need-add-e Inv-loop μ-loop
 add-e c = let p = turn (c .before .before) .before .pre in omega (arith, p)
-
-loop-less : tie.Need-loop-less Inv-loop μ-loop
-loop-less c = omega arith
 
 loop-again : tie.Need-loop-again Inv-loop μ-loop
 loop-again c =
@@ -70,15 +61,5 @@ returns-2 c =
 pub first-open-spec : {M : Type 1} → statement M
 first-open-spec =
     tie.close
-    (tie.spec
-    Inv-loop
-    μ-loop
-    loop-holds
-    of-edge-requires
-    and-requires
-    is-empty-requires
-    returns
-    add-e
-    loop-less
-    loop-again
-    returns-2)
+    (tie.spec Inv-loop μ-loop loop-holds of-edge-requires (λ c κs. search needs) (λ c κs. search needs) returns add-e (λ c. omega arith)
+    loop-again returns-2)

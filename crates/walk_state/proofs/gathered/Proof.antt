@@ -36,23 +36,14 @@ some-left c =
 
 -- ---- the needs
 
-none-requires : tie.Need-none-requires Inv-loop μ-loop
-none-requires c κs = search needs
-
 loop-holds : tie.Need-loop-holds Inv-loop μ-loop
 loop-holds c = let a = c .before .args in gathering-start (a .sides .now) (a .set) (c .none .ensures)
-
-is-empty-requires : tie.Need-is-empty-requires Inv-loop μ-loop
-is-empty-requires c κs = search needs
 
 lowest-requires : tie.Need-lowest-requires Inv-loop μ-loop
 lowest-requires c κs = some-left c
 
 of-edge-requires : tie.Need-of-edge-requires Inv-loop μ-loop
 of-edge-requires c κs = let low = c .before .lowest .ensures in omega (arith, low)
-
-or-requires : tie.Need-or-requires Inv-loop μ-loop
-or-requires c κs = search needs
 
 rest-requires : tie.Need-rest-requires Inv-loop μ-loop
 rest-requires c κs = some-left (c .before .before .before .before)
@@ -78,16 +69,5 @@ returns c =
 pub gathered-spec : {M : Type 1} → statement M
 gathered-spec =
     tie.close
-    (tie.spec
-    Inv-loop
-    μ-loop
-    none-requires
-    loop-holds
-    is-empty-requires
-    lowest-requires
-    of-edge-requires
-    or-requires
-    rest-requires
-    loop-less
-    loop-again
-    returns)
+    (tie.spec Inv-loop μ-loop (λ c κs. search needs) loop-holds (λ c κs. search needs) lowest-requires of-edge-requires
+    (λ c κs. search needs) rest-requires loop-less loop-again returns)

@@ -35,18 +35,6 @@ next-later-fits c = omega arith
 
 -- ---- the needs
 
-lowest-requires : tie.Need-lowest-requires
-lowest-requires c κs = search needs
-
-rest-requires : tie.Need-rest-requires
-rest-requires c κs = search needs
-
-is-empty-requires : tie.Need-is-empty-requires
-is-empty-requires c κs = search needs
-
-turned-requires : tie.Need-turned-requires
-turned-requires c κs = search needs
-
 returns : tie.Need-returns
 returns c =
     let q = c .before .before in
@@ -55,30 +43,6 @@ returns c =
     let e = low q .lowest .ensures in
     marked-none (a .sides .now) (a .m) (s .pre) e (rest-drops e (q .before .rest .ensures)) (ahead-fits s) (later-fits s) (a .decided)
     (is-none (a .decided) (q .is-empty .ensures) (c .before .if1 .taken)) (c .turned .ensures)
-
-gathered-requires : tie.Need-gathered-requires
-gathered-requires c κs = search needs
-
-lowest-of-requires : tie.Need-lowest-of-requires
-lowest-of-requires c κs = search needs
-
-minus-requires : tie.Need-minus-requires
-minus-requires c κs = search needs
-
-without-requires : tie.Need-without-requires
-without-requires c κs = search needs
-
-or-requires : tie.Need-or-requires
-or-requires c κs = search needs
-
-and-requires : tie.Need-and-requires
-and-requires c κs = search needs
-
-or-requires-2 : tie.Need-or-requires-2
-or-requires-2 c κs = search needs
-
-turned-requires-2 : tie.Need-turned-requires-2
-turned-requires-2 c κs = search needs
 
 returns-2 : tie.Need-returns-2
 returns-2 c =
@@ -98,18 +62,6 @@ returns-2 c =
 pub marked-spec : {M : Type 1} → statement M
 marked-spec =
     tie.close
-    (tie.spec
-    lowest-requires
-    rest-requires
-    is-empty-requires
-    turned-requires
-    returns
-    gathered-requires
-    lowest-of-requires
-    minus-requires
-    without-requires
-    or-requires
-    and-requires
-    or-requires-2
-    turned-requires-2
-    returns-2)
+    (tie.spec (λ c κs. search needs) (λ c κs. search needs) (λ c κs. search needs) (λ c κs. search needs) returns (λ c κs. search needs)
+    (λ c κs. search needs) (λ c κs. search needs) (λ c κs. search needs) (λ c κs. search needs) (λ c κs. search needs)
+    (λ c κs. search needs) (λ c κs. search needs) returns-2)

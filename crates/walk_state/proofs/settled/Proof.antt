@@ -40,29 +40,14 @@ some-ahead c =
 
 -- ---- the needs
 
-none-requires : tie.Need-none-requires Inv-loop μ-loop
-none-requires c κs = search needs
-
 loop-holds : tie.Need-loop-holds Inv-loop μ-loop
 loop-holds c = let a = c .before .args in sweeping-start (a .on .now) (a .sides .now) (a .s) (a .changed) (c .none .ensures)
-
-is-empty-requires : tie.Need-is-empty-requires Inv-loop μ-loop
-is-empty-requires c κs = search needs
 
 lowest-requires : tie.Need-lowest-requires Inv-loop μ-loop
 lowest-requires c κs = some-ahead c
 
 of-edge-requires : tie.Need-of-edge-requires Inv-loop μ-loop
 of-edge-requires c κs = let low = c .before .lowest .ensures in omega (arith, low)
-
-settled-on-requires : tie.Need-settled-on-requires Inv-loop μ-loop
-settled-on-requires c κs = search needs
-
-enum-known-passed : tie.Need-enum-known-passed Inv-loop μ-loop
-enum-known-passed c = search needs
-
-enum-told : tie.Need-enum-told Inv-loop μ-loop
-enum-told c = search needs
 
 returns : tie.Need-returns Inv-loop μ-loop
 returns c =
@@ -108,19 +93,5 @@ returns-2 c =
 pub settled-spec : {M : Type 1} → statement M
 settled-spec =
     tie.close
-    (tie.spec
-    Inv-loop
-    μ-loop
-    none-requires
-    loop-holds
-    is-empty-requires
-    lowest-requires
-    of-edge-requires
-    settled-on-requires
-    enum-known-passed
-    enum-told
-    returns
-    marked-requires
-    loop-less
-    loop-again
-    returns-2)
+    (tie.spec Inv-loop μ-loop (λ c κs. search needs) loop-holds (λ c κs. search needs) lowest-requires of-edge-requires
+    (λ c κs. search needs) (λ c. search needs) (λ c. search needs) returns marked-requires loop-less loop-again returns-2)

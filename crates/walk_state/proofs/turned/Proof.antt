@@ -5,12 +5,6 @@ use Rattle.walk_state.proofs.Marking.{turned-over, turned-on}
 use Rattle.walk_state.proofs.turned.Statement.{statement}
 use Rattle.walk_state.proofs.turned.Tie as tie
 
-is-empty-requires : tie.Need-is-empty-requires
-is-empty-requires c κs = search needs
-
-none-requires : tie.Need-none-requires
-none-requires c κs = search needs
-
 returns : tie.Need-returns
 returns c =
     let e = c .before .before in
@@ -24,4 +18,4 @@ returns-2 c =
     turned-on (a .ahead) (a .later) (is-some (a .ahead) (e .is-empty .ensures) (c .if1 .left))
 
 pub turned-spec : {M : Type 1} → statement M
-turned-spec = tie.close (tie.spec is-empty-requires none-requires returns returns-2)
+turned-spec = tie.close (tie.spec (λ c κs. search needs) (λ c κs. search needs) returns returns-2)

@@ -22,20 +22,8 @@ start c = c .before .before .before .before .before
 long : (c : tie.After-put-words-arg) → length (wordsBytes (checked c .nibgravel-check-sheet .last .1 .1 .0)) ≡ 56
 long c = omega (arith, words-long (checked c .nibgravel-check-sheet .last .1 .1 .0))
 
-slice-aggregate-nibgravel-check-sheet : tie.Need-slice-aggregate-nibgravel-check-sheet
-slice-aggregate-nibgravel-check-sheet c = search needs
-
-nibgravel-check-sheet-requires : tie.Need-nibgravel-check-sheet-requires
-nibgravel-check-sheet-requires c κs = search needs
-
-slice-aggregate-put-words : tie.Need-slice-aggregate-put-words
-slice-aggregate-put-words c = search needs
-
 put-words-requires : tie.Need-put-words-requires
 put-words-requires c κs = fits-any (long c) (lit≤ tt) (start (checked c) .pre)
-
-same-length : tie.Need-same-length
-same-length c = search needs
 
 returns : tie.Need-returns
 returns c =
@@ -47,10 +35,4 @@ returns c =
 pub put-checked-spec : {M : Type 1} → statement M
 put-checked-spec =
     tie.close
-    (tie.spec
-    slice-aggregate-nibgravel-check-sheet
-    nibgravel-check-sheet-requires
-    slice-aggregate-put-words
-    put-words-requires
-    same-length
-    returns)
+    (tie.spec (λ c. search needs) (λ c κs. search needs) (λ c. search needs) put-words-requires (λ c. search needs) returns)

@@ -41,41 +41,8 @@ long c =
 
 -- ---- the needs
 
-slice-aggregate-convert-sheet : tie.Need-slice-aggregate-convert-sheet
-slice-aggregate-convert-sheet c = search needs
-
-slice-aggregate-convert-sheet-2 : tie.Need-slice-aggregate-convert-sheet-2
-slice-aggregate-convert-sheet-2 c = search needs
-
-convert-sheet-requires : tie.Need-convert-sheet-requires
-convert-sheet-requires c κs = search needs
-
-conversion-said-requires : tie.Need-conversion-said-requires
-conversion-said-requires c κs = search needs
-
-said-words-requires : tie.Need-said-words-requires
-said-words-requires c κs = search needs
-
-reading-words-requires : tie.Need-reading-words-requires
-reading-words-requires c κs = search needs
-
-slice-aggregate-put-report : tie.Need-slice-aggregate-put-report
-slice-aggregate-put-report c = search needs
-
-slice-aggregate-put-report-2 : tie.Need-slice-aggregate-put-report-2
-slice-aggregate-put-report-2 c = search needs
-
-slice-aggregate-put-report-3 : tie.Need-slice-aggregate-put-report-3
-slice-aggregate-put-report-3 c = search needs
-
-slice-aggregate-put-report-4 : tie.Need-slice-aggregate-put-report-4
-slice-aggregate-put-report-4 c = search needs
-
 put-report-requires : tie.Need-put-report-requires
 put-report-requires c κs = fits-any (long c) (lit≤ tt) (start c .pre)
-
-same-length : tie.Need-same-length
-same-length c = search needs
 
 returns : tie.Need-returns
 returns c =
@@ -90,17 +57,6 @@ returns c =
 pub put-converted-spec : {M : Type 1} → statement M
 put-converted-spec =
     tie.close
-    (tie.spec
-    slice-aggregate-convert-sheet
-    slice-aggregate-convert-sheet-2
-    convert-sheet-requires
-    conversion-said-requires
-    said-words-requires
-    reading-words-requires
-    slice-aggregate-put-report
-    slice-aggregate-put-report-2
-    slice-aggregate-put-report-3
-    slice-aggregate-put-report-4
-    put-report-requires
-    same-length
-    returns)
+    (tie.spec (λ c. search needs) (λ c. search needs) (λ c κs. search needs) (λ c κs. search needs) (λ c κs. search needs)
+    (λ c κs. search needs) (λ c. search needs) (λ c. search needs) (λ c. search needs) (λ c. search needs) put-report-requires
+    (λ c. search needs) returns)

@@ -29,29 +29,8 @@ put c = wordsBytes (told c .said-words .result) ++ texted (told c) .desk-text .l
 long : (c : tie.After-put-said-arg) → length (put c) ≡ 2784
 long c = let t = told c in omega (arith, said-long (t .said-words .result) (texted t .desk-text .last .1 .0))
 
-slice-aggregate-desk-text : tie.Need-slice-aggregate-desk-text
-slice-aggregate-desk-text c = search needs
-
-desk-text-requires : tie.Need-desk-text-requires
-desk-text-requires c κs = search needs
-
-written-said-requires : tie.Need-written-said-requires
-written-said-requires c κs = search needs
-
-said-words-requires : tie.Need-said-words-requires
-said-words-requires c κs = search needs
-
-slice-aggregate-put-said : tie.Need-slice-aggregate-put-said
-slice-aggregate-put-said c = search needs
-
-slice-aggregate-put-said-2 : tie.Need-slice-aggregate-put-said-2
-slice-aggregate-put-said-2 c = search needs
-
 put-said-requires : tie.Need-put-said-requires
 put-said-requires c κs = fits-any (long c) (lit≤ tt) (start (texted (told c)) .pre)
-
-same-length : tie.Need-same-length
-same-length c = search needs
 
 returns : tie.Need-returns
 returns c =
@@ -66,13 +45,5 @@ returns c =
 pub put-desk-spec : {M : Type 1} → statement M
 put-desk-spec =
     tie.close
-    (tie.spec
-    slice-aggregate-desk-text
-    desk-text-requires
-    written-said-requires
-    said-words-requires
-    slice-aggregate-put-said
-    slice-aggregate-put-said-2
-    put-said-requires
-    same-length
-    returns)
+    (tie.spec (λ c. search needs) (λ c κs. search needs) (λ c κs. search needs) (λ c κs. search needs) (λ c. search needs)
+    (λ c. search needs) put-said-requires (λ c. search needs) returns)

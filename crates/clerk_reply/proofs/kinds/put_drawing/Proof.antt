@@ -28,9 +28,6 @@ put-text-requires c κs =
     let p = told q in
     fits-next (puts-both (p .put-words .ensures) (q .put-numbers .ensures)) (start p .pre)
 
-same-length : tie.Need-same-length
-same-length c = search needs
-
 returns : tie.Need-returns
 returns c =
     let t = c .before .before in
@@ -38,6 +35,4 @@ returns c =
     puts-both (puts-both (told q .put-words .ensures) (q .put-numbers .ensures)) (t .put-text .ensures)
 
 pub put-drawing-spec : {M : Type 1} → statement M
-put-drawing-spec =
-    tie.close
-    (tie.spec put-words-requires put-numbers-requires put-text-requires same-length returns)
+put-drawing-spec = tie.close (tie.spec put-words-requires put-numbers-requires put-text-requires (λ c. search needs) returns)

@@ -40,32 +40,8 @@ returns c =
     let a = c .before .before .before .before .args in
     none-replied (faces-none (a .rows .now) (a .solid .now) (λ e. omega (arith, e)))
 
-word-at-requires : tie.Need-word-at-requires
-word-at-requires c κs = search needs
-
-word-at-requires-2 : tie.Need-word-at-requires-2
-word-at-requires-2 c κs = search needs
-
-slice-aggregate-nibgravel-write-faces : tie.Need-slice-aggregate-nibgravel-write-faces
-slice-aggregate-nibgravel-write-faces c = search needs
-
-slice-aggregate-nibgravel-write-faces-2 : tie.Need-slice-aggregate-nibgravel-write-faces-2
-slice-aggregate-nibgravel-write-faces-2 c = search needs
-
-nibgravel-write-faces-requires : tie.Need-nibgravel-write-faces-requires
-nibgravel-write-faces-requires c κs = search needs
-
-slice-aggregate-put-said : tie.Need-slice-aggregate-put-said
-slice-aggregate-put-said c = search needs
-
-slice-aggregate-put-said-2 : tie.Need-slice-aggregate-put-said-2
-slice-aggregate-put-said-2 c = search needs
-
 put-said-requires : tie.Need-put-said-requires
 put-said-requires c κs = fits-any (long c) (lit≤ tt) (start (turned (sent c)) .pre)
-
-same-length : tie.Need-same-length
-same-length c = search needs
 
 returns-2 : tie.Need-returns-2
 returns-2 c =
@@ -82,15 +58,5 @@ returns-2 c =
 pub put-faces-spec : {M : Type 1} → statement M
 put-faces-spec =
     tie.close
-    (tie.spec
-    returns
-    word-at-requires
-    word-at-requires-2
-    slice-aggregate-nibgravel-write-faces
-    slice-aggregate-nibgravel-write-faces-2
-    nibgravel-write-faces-requires
-    slice-aggregate-put-said
-    slice-aggregate-put-said-2
-    put-said-requires
-    same-length
-    returns-2)
+    (tie.spec returns (λ c κs. search needs) (λ c κs. search needs) (λ c. search needs) (λ c. search needs) (λ c κs. search needs)
+    (λ c. search needs) (λ c. search needs) put-said-requires (λ c. search needs) returns-2)

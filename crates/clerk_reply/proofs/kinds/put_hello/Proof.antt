@@ -7,19 +7,9 @@ use borrow.Author.Needs.{needs}
 use Rattle.clerk_reply.proofs.kinds.put_hello.Statement.{statement}
 use Rattle.clerk_reply.proofs.kinds.put_hello.Tie as tie
 
-slice-aggregate-put-text : tie.Need-slice-aggregate-put-text
-slice-aggregate-put-text c = search needs
-
-put-text-requires : tie.Need-put-text-requires
-put-text-requires c κs = search needs
-
-same-length : tie.Need-same-length
-same-length c = search needs
-
 returns : tie.Need-returns
 unfolding helloReply text
 returns c = replied {reply = helloReply} refl refl (c .before .before .put-text .ensures)
 
 pub put-hello-spec : {M : Type 1} → statement M
-put-hello-spec =
-    tie.close (tie.spec slice-aggregate-put-text put-text-requires same-length returns)
+put-hello-spec = tie.close (tie.spec (λ c. search needs) (λ c κs. search needs) (λ c. search needs) returns)

@@ -30,32 +30,8 @@ long c = let l = read c .nibgravel-read-sheet .last .1 in omega (arith, drawing-
 
 -- ---- the needs
 
-slice-aggregate-nibgravel-read-sheet : tie.Need-slice-aggregate-nibgravel-read-sheet
-slice-aggregate-nibgravel-read-sheet c = search needs
-
-slice-aggregate-nibgravel-read-sheet-2 : tie.Need-slice-aggregate-nibgravel-read-sheet-2
-slice-aggregate-nibgravel-read-sheet-2 c = search needs
-
-slice-aggregate-nibgravel-read-sheet-3 : tie.Need-slice-aggregate-nibgravel-read-sheet-3
-slice-aggregate-nibgravel-read-sheet-3 c = search needs
-
-nibgravel-read-sheet-requires : tie.Need-nibgravel-read-sheet-requires
-nibgravel-read-sheet-requires c κs = search needs
-
-slice-aggregate-put-drawing : tie.Need-slice-aggregate-put-drawing
-slice-aggregate-put-drawing c = search needs
-
-slice-aggregate-put-drawing-2 : tie.Need-slice-aggregate-put-drawing-2
-slice-aggregate-put-drawing-2 c = search needs
-
-slice-aggregate-put-drawing-3 : tie.Need-slice-aggregate-put-drawing-3
-slice-aggregate-put-drawing-3 c = search needs
-
 put-drawing-requires : tie.Need-put-drawing-requires
 put-drawing-requires c κs = fits-any (long c) (lit≤ tt) (start (read c) .pre)
-
-same-length : tie.Need-same-length
-same-length c = search needs
 
 returns : tie.Need-returns
 returns c =
@@ -66,14 +42,5 @@ returns c =
 pub put-read-spec : {M : Type 1} → statement M
 put-read-spec =
     tie.close
-    (tie.spec
-    slice-aggregate-nibgravel-read-sheet
-    slice-aggregate-nibgravel-read-sheet-2
-    slice-aggregate-nibgravel-read-sheet-3
-    nibgravel-read-sheet-requires
-    slice-aggregate-put-drawing
-    slice-aggregate-put-drawing-2
-    slice-aggregate-put-drawing-3
-    put-drawing-requires
-    same-length
-    returns)
+    (tie.spec (λ c. search needs) (λ c. search needs) (λ c. search needs) (λ c κs. search needs) (λ c. search needs) (λ c. search needs)
+    (λ c. search needs) put-drawing-requires (λ c. search needs) returns)

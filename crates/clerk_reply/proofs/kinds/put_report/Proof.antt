@@ -40,9 +40,6 @@ put-words-requires-3 c κs =
     let p = told q in
     fits-next (puts-both (puts-both (p .put-words .ensures) (q .put-words2 .ensures)) (t .put-text .ensures)) (start p .pre)
 
-same-length : tie.Need-same-length
-same-length c = search needs
-
 returns : tie.Need-returns
 returns c =
     let u = c .before .before in
@@ -53,10 +50,4 @@ returns c =
 pub put-report-spec : {M : Type 1} → statement M
 put-report-spec =
     tie.close
-    (tie.spec
-    put-words-requires
-    put-words-requires-2
-    put-text-requires
-    put-words-requires-3
-    same-length
-    returns)
+    (tie.spec put-words-requires put-words-requires-2 put-text-requires put-words-requires-3 (λ c. search needs) returns)

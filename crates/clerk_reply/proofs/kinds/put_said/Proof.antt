@@ -13,13 +13,10 @@ put-words-requires c κs = let s = c .before .before .before .before in fits-fir
 put-text-requires : tie.Need-put-text-requires
 put-text-requires c κs = let p = c .before .before .before in fits-next (p .put-words .ensures) (start p .pre)
 
-same-length : tie.Need-same-length
-same-length c = search needs
-
 returns : tie.Need-returns
 returns c =
     let q = c .before .before in
     puts-both (q .before .before .before .before .put-words .ensures) (q .put-text .ensures)
 
 pub put-said-spec : {M : Type 1} → statement M
-put-said-spec = tie.close (tie.spec put-words-requires put-text-requires same-length returns)
+put-said-spec = tie.close (tie.spec put-words-requires put-text-requires (λ c. search needs) returns)

@@ -26,23 +26,8 @@ returns c =
     let a = c .before .before .before .before .args in
     none-replied (sheet-none (a .first .now) (a .ends .now) (λ e. omega (arith, e)))
 
-slice-aggregate-take-numbers : tie.Need-slice-aggregate-take-numbers
-slice-aggregate-take-numbers c = search needs
-
-take-numbers-requires : tie.Need-take-numbers-requires
-take-numbers-requires c κs = search needs
-
-array-share-prefix-xyz : tie.Need-array-share-prefix-xyz
-array-share-prefix-xyz c = search needs
-
 slice-aggregate-put-written : tie.Need-slice-aggregate-put-written
 slice-aggregate-put-written c = sym (length-take-le _ (taken c .take-numbers .last .1 .1 .0) (omega arith))
-
-put-written-requires : tie.Need-put-written-requires
-put-written-requires c κs = search needs
-
-same-length : tie.Need-same-length
-same-length c = search needs
 
 returns-2 : tie.Need-returns-2
 returns-2 c =
@@ -58,12 +43,5 @@ returns-2 c =
 pub put-sheet-spec : {M : Type 1} → statement M
 put-sheet-spec =
     tie.close
-    (tie.spec
-    returns
-    slice-aggregate-take-numbers
-    take-numbers-requires
-    array-share-prefix-xyz
-    slice-aggregate-put-written
-    put-written-requires
-    same-length
-    returns-2)
+    (tie.spec returns (λ c. search needs) (λ c κs. search needs) (λ c. search needs) slice-aggregate-put-written (λ c κs. search needs)
+    (λ c. search needs) returns-2)

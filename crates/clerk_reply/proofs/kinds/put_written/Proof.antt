@@ -26,26 +26,8 @@ put c = let l = written c .nibgravel-write-sheet .last .1 .1 in wordsBytes (l .1
 long : (c : tie.After-put-said-arg) → length (put c) ≡ 271
 long c = let l = written c .nibgravel-write-sheet .last .1 .1 in omega (arith, said-long (l .1 .0) (l .0))
 
-slice-aggregate-nibgravel-write-sheet : tie.Need-slice-aggregate-nibgravel-write-sheet
-slice-aggregate-nibgravel-write-sheet c = search needs
-
-slice-aggregate-nibgravel-write-sheet-2 : tie.Need-slice-aggregate-nibgravel-write-sheet-2
-slice-aggregate-nibgravel-write-sheet-2 c = search needs
-
-nibgravel-write-sheet-requires : tie.Need-nibgravel-write-sheet-requires
-nibgravel-write-sheet-requires c κs = search needs
-
-slice-aggregate-put-said : tie.Need-slice-aggregate-put-said
-slice-aggregate-put-said c = search needs
-
-slice-aggregate-put-said-2 : tie.Need-slice-aggregate-put-said-2
-slice-aggregate-put-said-2 c = search needs
-
 put-said-requires : tie.Need-put-said-requires
 put-said-requires c κs = fits-any (long c) (lit≤ tt) (start (written c) .pre)
-
-same-length : tie.Need-same-length
-same-length c = search needs
 
 returns : tie.Need-returns
 returns c =
@@ -57,12 +39,5 @@ returns c =
 pub put-written-spec : {M : Type 1} → statement M
 put-written-spec =
     tie.close
-    (tie.spec
-    slice-aggregate-nibgravel-write-sheet
-    slice-aggregate-nibgravel-write-sheet-2
-    nibgravel-write-sheet-requires
-    slice-aggregate-put-said
-    slice-aggregate-put-said-2
-    put-said-requires
-    same-length
-    returns)
+    (tie.spec (λ c. search needs) (λ c. search needs) (λ c κs. search needs) (λ c. search needs) (λ c. search needs) put-said-requires
+    (λ c. search needs) returns)

@@ -11,20 +11,8 @@ read c = c .before .before .before
 abbrev read2 : tie.After-known-told2 → tie.After-reading
 read2 c = c .before .before .before
 
-reading-requires : tie.Need-reading-requires
-reading-requires c κs = search needs
-
-enum-known-shown : tie.Need-enum-known-shown
-enum-known-shown c = search needs
-
 float-to-bits-t6 : tie.Need-float-to-bits-t6
 float-to-bits-t6 c = let r = read c in volume-has-bits (r .before .args .c) _ (sym (r .reading .ensures .0) ∙ c .before .shown .given .1)
-
-enum-known-shown-2 : tie.Need-enum-known-shown-2
-enum-known-shown-2 c = search needs
-
-cast-t7 : tie.Need-cast-t7
-cast-t7 c = search needs
 
 returns : tie.Need-returns
 returns c = let r = read c in words-are (r .before .args .c) (sym (r .reading .ensures .0) ∙ c .before .shown .given .1)
@@ -35,11 +23,4 @@ returns-2 c = let r = read2 c in words-are (r .before .args .c) (sym (r .reading
 pub reading-words-spec : {M : Type 1} → statement M
 reading-words-spec =
     tie.close
-    (tie.spec
-    reading-requires
-    enum-known-shown
-    float-to-bits-t6
-    enum-known-shown-2
-    cast-t7
-    returns
-    returns-2)
+    (tie.spec (λ c κs. search needs) (λ c. search needs) float-to-bits-t6 (λ c. search needs) (λ c. search needs) returns returns-2)

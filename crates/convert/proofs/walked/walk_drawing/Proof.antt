@@ -49,12 +49,6 @@ tabled c = said (made c) (T.Ready (c .tabled2 .given .0 .0)) (c .tabled2 .given 
 tables-requires : tie.Need-tables-requires
 tables-requires c κs = let p = c .before .before .before .before .before .before .before .pre in clear-rooms (p .passed) (p .row-room)
 
-enum-known-tabled : tie.Need-enum-known-tabled
-enum-known-tabled c = search needs
-
-enum-known-tabled-2 : tie.Need-enum-known-tabled-2
-enum-known-tabled-2 c = search needs
-
 search-requires : tie.Need-search-requires
 search-requires c κs =
     let r = ready c in
@@ -68,12 +62,4 @@ returns-2 : tie.Need-returns-2
 returns-2 c = done (tabled (ready (c .before))) (c .search .ensures)
 
 pub walk-drawing-spec : {M : Type 1} → statement M
-walk-drawing-spec =
-    tie.close
-    (tie.spec
-    tables-requires
-    enum-known-tabled
-    enum-known-tabled-2
-    search-requires
-    returns
-    returns-2)
+walk-drawing-spec = tie.close (tie.spec tables-requires (λ c. search needs) (λ c. search needs) search-requires returns returns-2)

@@ -59,23 +59,11 @@ refused-is c = let a = refused-start c .args in refused-text (a .s) (a .words .n
 
 -- ---- the needs
 
-enum-known-answer : tie.Need-enum-known-answer
-enum-known-answer c = search needs
-
-headed-requires : tie.Need-headed-requires
-headed-requires c κs = search needs
-
 put-report-requires : tie.Need-put-report-requires
 put-report-requires c κs =
     let h = c .before in
     let p = one-start h .pre in
     record { words = omega (arith, p .words); fits = fits-as (one-is h) (p .fits) }
-
-enum-known-answer-2 : tie.Need-enum-known-answer-2
-enum-known-answer-2 c = search needs
-
-headed-requires-2 : tie.Need-headed-requires-2
-headed-requires-2 c κs = search needs
 
 put-report-requires-2 : tie.Need-put-report-requires-2
 put-report-requires-2 c κs =
@@ -84,86 +72,38 @@ put-report-requires-2 c κs =
     let n = p .few _ _ _ (count h) (h .before .before .answer2 .given .1) in
     record { words = omega (arith, p .words, n); fits = fits-as (several-is h) (p .fits) }
 
-enum-known-answer-3 : tie.Need-enum-known-answer-3
-enum-known-answer-3 c = search needs
-
-headed-requires-3 : tie.Need-headed-requires-3
-headed-requires-3 c κs = search needs
-
-slice-aggregate-put-ended : tie.Need-slice-aggregate-put-ended
-slice-aggregate-put-ended c = search needs
-
 put-ended-requires : tie.Need-put-ended-requires
 unfolding text
 put-ended-requires c κs = let h = c .before .before in fits-as (none-is h) (none-start h .pre .fits)
-
-enum-known-answer-4 : tie.Need-enum-known-answer-4
-enum-known-answer-4 c = search needs
-
-headed-requires-4 : tie.Need-headed-requires-4
-headed-requires-4 c κs = search needs
-
-slice-aggregate-put-ended-2 : tie.Need-slice-aggregate-put-ended-2
-slice-aggregate-put-ended-2 c = search needs
 
 put-ended-requires-2 : tie.Need-put-ended-requires-2
 unfolding text
 put-ended-requires-2 c κs = let h = c .before .before in fits-as (many-is h) (many-start h .pre .fits)
 
-enum-known-answer-5 : tie.Need-enum-known-answer-5
-enum-known-answer-5 c = search needs
-
-headed-requires-5 : tie.Need-headed-requires-5
-headed-requires-5 c κs = search needs
-
-slice-aggregate-put-ended-3 : tie.Need-slice-aggregate-put-ended-3
-slice-aggregate-put-ended-3 c = search needs
-
 put-ended-requires-3 : tie.Need-put-ended-requires-3
 unfolding text
 put-ended-requires-3 c κs = let h = c .before .before in fits-as (long-is h) (long-start h .pre .fits)
 
-enum-known-answer-6 : tie.Need-enum-known-answer-6
-enum-known-answer-6 c = search needs
-
 put-refused-requires : tie.Need-put-refused-requires
 put-refused-requires c κs = let t = c .before in fits-as (refused-is t) (refused-start t .pre .fits)
-
-same-length : tie.Need-same-length
-same-length c = search needs
 
 returns : tie.Need-returns
 returns c = let p = c .before .before in puts-as (one-is (p .before .before)) (p .put-report .ensures)
 
-same-length-2 : tie.Need-same-length-2
-same-length-2 c = search needs
-
 returns-2 : tie.Need-returns-2
 returns-2 c = let p = c .before .before in puts-as (several-is (p .before .before)) (p .put-report2 .ensures)
-
-same-length-3 : tie.Need-same-length-3
-same-length-3 c = search needs
 
 returns-3 : tie.Need-returns-3
 unfolding text
 returns-3 c = let p = c .before .before in puts-as (none-is (p .before .before .before)) (p .put-ended .ensures)
 
-same-length-4 : tie.Need-same-length-4
-same-length-4 c = search needs
-
 returns-4 : tie.Need-returns-4
 unfolding text
 returns-4 c = let p = c .before .before in puts-as (many-is (p .before .before .before)) (p .put-ended2 .ensures)
 
-same-length-5 : tie.Need-same-length-5
-same-length-5 c = search needs
-
 returns-5 : tie.Need-returns-5
 unfolding text
 returns-5 c = let p = c .before .before in puts-as (long-is (p .before .before .before)) (p .put-ended3 .ensures)
-
-same-length-6 : tie.Need-same-length-6
-same-length-6 c = search needs
 
 returns-6 : tie.Need-returns-6
 returns-6 c = let p = c .before .before in puts-as (refused-is (p .before .before)) (p .put-refused .ensures)
@@ -171,36 +111,8 @@ returns-6 c = let p = c .before .before in puts-as (refused-is (p .before .befor
 pub put-answer-spec : {M : Type 1} → statement M
 put-answer-spec =
     tie.close
-    (tie.spec
-    enum-known-answer
-    headed-requires
-    put-report-requires
-    enum-known-answer-2
-    headed-requires-2
-    put-report-requires-2
-    enum-known-answer-3
-    headed-requires-3
-    slice-aggregate-put-ended
-    put-ended-requires
-    enum-known-answer-4
-    headed-requires-4
-    slice-aggregate-put-ended-2
-    put-ended-requires-2
-    enum-known-answer-5
-    headed-requires-5
-    slice-aggregate-put-ended-3
-    put-ended-requires-3
-    enum-known-answer-6
-    put-refused-requires
-    same-length
-    returns
-    same-length-2
-    returns-2
-    same-length-3
-    returns-3
-    same-length-4
-    returns-4
-    same-length-5
-    returns-5
-    same-length-6
-    returns-6)
+    (tie.spec (λ c. search needs) (λ c κs. search needs) put-report-requires (λ c. search needs) (λ c κs. search needs)
+    put-report-requires-2 (λ c. search needs) (λ c κs. search needs) (λ c. search needs) put-ended-requires (λ c. search needs)
+    (λ c κs. search needs) (λ c. search needs) put-ended-requires-2 (λ c. search needs) (λ c κs. search needs) (λ c. search needs)
+    put-ended-requires-3 (λ c. search needs) put-refused-requires (λ c. search needs) returns (λ c. search needs) returns-2
+    (λ c. search needs) returns-3 (λ c. search needs) returns-4 (λ c. search needs) returns-5 (λ c. search needs) returns-6)

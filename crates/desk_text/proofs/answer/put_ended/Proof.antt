@@ -14,11 +14,8 @@ put-head-requires c κs = let s = c .before .before .before in fits-first (s .ar
 put-text-requires : tie.Need-put-text-requires
 put-text-requires c κs = let p = c .before .before .before in fits-next (p .put-head .ensures) (start p .pre)
 
-same-length : tie.Need-same-length
-same-length c = search needs
-
 returns : tie.Need-returns
 returns c = let q = c .before .before in puts-both (q .before .before .before .before .put-head .ensures) (q .put-text .ensures)
 
 pub put-ended-spec : {M : Type 1} → statement M
-put-ended-spec = tie.close (tie.spec put-head-requires put-text-requires same-length returns)
+put-ended-spec = tie.close (tie.spec put-head-requires put-text-requires (λ c. search needs) returns)

@@ -23,12 +23,6 @@ worked c = c .before .before .before .before .before
 
 -- ---- the needs
 
-slice-aggregate-put-pair : tie.Need-slice-aggregate-put-pair
-slice-aggregate-put-pair c = search needs
-
-slice-aggregate-put-pair-2 : tie.Need-slice-aggregate-put-pair-2
-slice-aggregate-put-pair-2 c = search needs
-
 put-pair-requires : tie.Need-put-pair-requires
 unfolding text
 put-pair-requires c κs =
@@ -37,21 +31,12 @@ put-pair-requires c κs =
     fits-first (pairText (text "\nloops ") (h .loops) (text " candidates ") (h .candidates))
     (fits-first (fieldText (text "\nwork ") (h .work)) (fits-first (text "\n") (s .pre)))
 
-slice-aggregate-put-pair-3 : tie.Need-slice-aggregate-put-pair-3
-slice-aggregate-put-pair-3 c = search needs
-
-slice-aggregate-put-pair-4 : tie.Need-slice-aggregate-put-pair-4
-slice-aggregate-put-pair-4 c = search needs
-
 put-pair-requires-2 : tie.Need-put-pair-requires-2
 unfolding text
 put-pair-requires-2 c κs =
     let p = c .before .before .before .before .before in
     let s = start p in
     fits-next (p .put-pair .ensures) (fits-first (fieldText (text "\nwork ") (s .args .h .work)) (fits-first (text "\n") (s .pre)))
-
-slice-aggregate-put-field : tie.Need-slice-aggregate-put-field
-slice-aggregate-put-field c = search needs
 
 put-field-requires : tie.Need-put-field-requires
 unfolding text
@@ -60,9 +45,6 @@ put-field-requires c κs =
     let p = wired q in
     fits-next (puts-both (p .put-pair .ensures) (q .put-pair2 .ensures)) (fits-first (text "\n") (start p .pre))
 
-slice-aggregate-put-text : tie.Need-slice-aggregate-put-text
-slice-aggregate-put-text c = search needs
-
 put-text-requires : tie.Need-put-text-requires
 unfolding text
 put-text-requires c κs =
@@ -70,9 +52,6 @@ put-text-requires c κs =
     let q = counted f in
     let p = wired q in
     fits-next (puts-both (puts-both (p .put-pair .ensures) (q .put-pair2 .ensures)) (f .put-field .ensures)) (start p .pre)
-
-same-length : tie.Need-same-length
-same-length c = search needs
 
 returns : tie.Need-returns
 unfolding text
@@ -85,16 +64,5 @@ returns c =
 pub put-head-spec : {M : Type 1} → statement M
 put-head-spec =
     tie.close
-    (tie.spec
-    slice-aggregate-put-pair
-    slice-aggregate-put-pair-2
-    put-pair-requires
-    slice-aggregate-put-pair-3
-    slice-aggregate-put-pair-4
-    put-pair-requires-2
-    slice-aggregate-put-field
-    put-field-requires
-    slice-aggregate-put-text
-    put-text-requires
-    same-length
-    returns)
+    (tie.spec (λ c. search needs) (λ c. search needs) put-pair-requires (λ c. search needs) (λ c. search needs) put-pair-requires-2
+    (λ c. search needs) put-field-requires (λ c. search needs) put-text-requires (λ c. search needs) returns)

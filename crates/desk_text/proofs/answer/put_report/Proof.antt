@@ -30,18 +30,12 @@ put-head-requires c κs =
     fits-first (fieldText (text "solids ") n)
     (fits-first (text "\n") (fits-first (solidsText 1 n (s .args .words .now)) (s .pre .fits)))
 
-slice-aggregate-put-field : tie.Need-slice-aggregate-put-field
-slice-aggregate-put-field c = search needs
-
 put-field-requires : tie.Need-put-field-requires
 unfolding text
 put-field-requires c κs =
     let p = c .before .before .before .before in
     let s = start p in
     fits-next (p .put-head .ensures) (fits-first (text "\n") (fits-first (solidsText 1 (s .args .n) (s .args .words .now)) (s .pre .fits)))
-
-slice-aggregate-put-text : tie.Need-slice-aggregate-put-text
-slice-aggregate-put-text c = search needs
 
 put-text-requires : tie.Need-put-text-requires
 unfolding text
@@ -64,9 +58,6 @@ put-solids-requires c κs =
       fits = fits-next (puts-both (puts-both (p .put-head .ensures) (f .put-field .ensures)) (t .put-text .ensures)) (s .pre .fits);
     }
 
-same-length : tie.Need-same-length
-same-length c = search needs
-
 returns : tie.Need-returns
 unfolding text
 returns c =
@@ -78,12 +69,5 @@ returns c =
 pub put-report-spec : {M : Type 1} → statement M
 put-report-spec =
     tie.close
-    (tie.spec
-    put-head-requires
-    slice-aggregate-put-field
-    put-field-requires
-    slice-aggregate-put-text
-    put-text-requires
-    put-solids-requires
-    same-length
-    returns)
+    (tie.spec put-head-requires (λ c. search needs) put-field-requires (λ c. search needs) put-text-requires put-solids-requires
+    (λ c. search needs) returns)

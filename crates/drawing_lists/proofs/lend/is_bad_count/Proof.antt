@@ -5,21 +5,11 @@ use borrow.Author.Needs.{needs}
 use Rattle.drawing_lists.proofs.lend.is_bad_count.Statement.{statement}
 use Rattle.drawing_lists.proofs.lend.is_bad_count.Tie as tie
 
-rem-if1 : tie.Need-rem-if1
-rem-if1 c = search needs
-
 returns : tie.Need-returns
 returns c = rw (ne-eqb _ _ (c .if1 .taken)) refl
-
-div-is-outside : tie.Need-div-is-outside
-div-is-outside c = search needs
-
-is-outside-requires : tie.Need-is-outside-requires
-is-outside-requires c κs = search needs
 
 returns-2 : tie.Need-returns-2
 returns-2 c = rw (eq-eqb _ _ (c .before .if1 .left)) (c .is-outside .ensures)
 
 pub is-bad-count-spec : {M : Type 1} → statement M
-is-bad-count-spec =
-    tie.close (tie.spec rem-if1 returns div-is-outside is-outside-requires returns-2)
+is-bad-count-spec = tie.close (tie.spec (λ c. search needs) returns (λ c. search needs) (λ c κs. search needs) returns-2)

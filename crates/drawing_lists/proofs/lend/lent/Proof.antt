@@ -14,23 +14,11 @@ vertices-pass : (c : tie.Else1)
     → let a = c .before .before .before .args in badCount 3 leastVertices (a .f .«most_vertices») (length (a .xyz .now)) ≡ false
 vertices-pass c = sym (c .before .is-bad-count .ensures) ∙ c .if1 .left
 
-is-bad-count-requires : tie.Need-is-bad-count-requires
-is-bad-count-requires c κs = search needs
-
-refused-requires : tie.Need-refused-requires
-refused-requires c κs = search needs
-
 returns : tie.Need-returns
 unfolding lentChecks
 returns c =
     let t = c .before in
     c .refused .ensures ∙ holds _ _ _ (sym (t .before .is-bad-count .ensures) ∙ t .if1 .taken)
-
-is-bad-count-requires-2 : tie.Need-is-bad-count-requires-2
-is-bad-count-requires-2 c κs = search needs
-
-refused-requires-2 : tie.Need-refused-requires-2
-refused-requires-2 c κs = search needs
 
 returns-2 : tie.Need-returns-2
 unfolding lentChecks
@@ -39,9 +27,6 @@ returns-2 c =
     c .refused2 .ensures
     ∙ holds _ _ _ (sym (t .before .is-bad-count2 .ensures) ∙ t .if2 .taken)
     ∙ fails _ _ _ (vertices-pass (t .before .before))
-
-content-requires : tie.Need-content-requires
-content-requires c κs = search needs
 
 returns-3 : tie.Need-returns-3
 unfolding lentChecks
@@ -54,12 +39,5 @@ returns-3 c =
 pub lent-spec : {M : Type 1} → statement M
 lent-spec =
     tie.close
-    (tie.spec
-    is-bad-count-requires
-    refused-requires
-    returns
-    is-bad-count-requires-2
-    refused-requires-2
-    returns-2
-    content-requires
-    returns-3)
+    (tie.spec (λ c κs. search needs) (λ c κs. search needs) returns (λ c κs. search needs) (λ c κs. search needs) returns-2
+    (λ c κs. search needs) returns-3)

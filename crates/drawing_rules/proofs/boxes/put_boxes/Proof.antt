@@ -65,23 +65,11 @@ room c =
 loop-holds : tie.Need-loop-holds Inv-loop μ-loop
 loop-holds c = record { not-past = omega arith; whole = refl; low-kept = refl; high-kept = refl; boxes = λ k h. absurd (omega arith) }
 
-mul-end-at : tie.Need-mul-end-at Inv-loop μ-loop
-mul-end-at c = omega arith
-
 end-at-requires : tie.Need-end-at-requires Inv-loop μ-loop
 end-at-requires c κs = record { lists = start (c .before) .pre .lists; k-in = omega arith }
 
-mul-end-at-2 : tie.Need-mul-end-at-2 Inv-loop μ-loop
-mul-end-at-2 c = omega arith
-
-add-end-at : tie.Need-add-end-at Inv-loop μ-loop
-add-end-at c = omega arith
-
 end-at-requires-2 : tie.Need-end-at-requires-2 Inv-loop μ-loop
 end-at-requires-2 c κs = record { lists = start (c .before .before) .pre .lists; k-in = omega arith }
-
-span-of-requires : tie.Need-span-of-requires Inv-loop μ-loop
-span-of-requires c κs = search needs
 
 put-point-requires : tie.Need-put-point-requires Inv-loop μ-loop
 put-point-requires c κs = room (entered (c .before)) .0
@@ -91,9 +79,6 @@ put-point-requires-2 c κs = room (entered (spanned (c .before .before))) .1
 
 add-e : tie.Need-add-e Inv-loop μ-loop
 add-e c = omega (arith, few (entered (spanned (lowPut (c .before)))))
-
-loop-less : tie.Need-loop-less Inv-loop μ-loop
-loop-less c = omega arith
 
 loop-again : tie.Need-loop-again Inv-loop μ-loop
 loop-again c =
@@ -127,21 +112,5 @@ returns c = record { each = λ e h. c .before .loop .inv .boxes e (omega arith) 
 pub put-boxes-spec : {M : Type 1} → statement M
 put-boxes-spec =
     tie.close
-    (tie.spec
-    Inv-loop
-    μ-loop
-    loop-holds
-    mul-end-at
-    end-at-requires
-    mul-end-at-2
-    add-end-at
-    end-at-requires-2
-    span-of-requires
-    put-point-requires
-    put-point-requires-2
-    add-e
-    loop-less
-    loop-again
-    same-length
-    same-length-2
-    returns)
+    (tie.spec Inv-loop μ-loop loop-holds (λ c. omega arith) end-at-requires (λ c. omega arith) (λ c. omega arith) end-at-requires-2
+    (λ c κs. search needs) put-point-requires put-point-requires-2 add-e (λ c. omega arith) loop-again same-length same-length-2 returns)

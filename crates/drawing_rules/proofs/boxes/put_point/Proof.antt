@@ -9,35 +9,8 @@ use Rattle.drawing_rules.specs.Boxes.{pointPut}
 use Rattle.drawing_rules.proofs.boxes.put_point.Statement.{statement}
 use Rattle.drawing_rules.proofs.boxes.put_point.Tie as tie
 
-mul-i : tie.Need-mul-i
-mul-i c = search needs
-
-mul-x : tie.Need-mul-x
-mul-x c = search needs
-
-slice-set-from-x : tie.Need-slice-set-from-x
-slice-set-from-x c = search needs
-
-add-y : tie.Need-add-y
-add-y c = search needs
-
-mul-y : tie.Need-mul-y
-mul-y c = search needs
-
 slice-set-from-y : tie.Need-slice-set-from-y
 slice-set-from-y c = simp length-set (omega arith)
-
-add-z : tie.Need-add-z
-add-z c = search needs
-
-mul-z : tie.Need-mul-z
-mul-z c = search needs
-
-slice-set-from-z : tie.Need-slice-set-from-z
-slice-set-from-z c = search needs
-
-same-length : tie.Need-same-length
-same-length c = search needs
 
 returns : tie.Need-returns
 unfolding pointPut
@@ -54,15 +27,5 @@ returns c =
 pub put-point-spec : {M : Type 1} → statement M
 put-point-spec =
     tie.close
-    (tie.spec
-    mul-i
-    mul-x
-    slice-set-from-x
-    add-y
-    mul-y
-    slice-set-from-y
-    add-z
-    mul-z
-    slice-set-from-z
-    same-length
-    returns)
+    (tie.spec (λ c. search needs) (λ c. search needs) (λ c. search needs) (λ c. search needs) (λ c. search needs) slice-set-from-y
+    (λ c. search needs) (λ c. search needs) (λ c. search needs) (λ c. search needs) returns)

@@ -8,12 +8,6 @@ use Rattle.drawing_rules.proofs.Vertices.{vertex-read}
 use Rattle.drawing_rules.proofs.ends.end_at.Statement.{statement}
 use Rattle.drawing_rules.proofs.ends.end_at.Tie as tie
 
-shared-slice-read-wide : tie.Need-shared-slice-read-wide
-shared-slice-read-wide c = search needs
-
-wide-requires : tie.Need-wide-requires
-wide-requires c κs = search needs
-
 point-at-requires : tie.Need-point-at-requires
 point-at-requires c κs =
     let s = c .before .before .before in
@@ -27,4 +21,4 @@ returns c =
     c .point-at .ensures ∙ ap (pointOf (now (e .before .before .before .args .xyz))) (e .wide .ensures)
 
 pub end-at-spec : {M : Type 1} → statement M
-end-at-spec = tie.close (tie.spec shared-slice-read-wide wide-requires point-at-requires returns)
+end-at-spec = tie.close (tie.spec (λ c. search needs) (λ c κs. search needs) point-at-requires returns)

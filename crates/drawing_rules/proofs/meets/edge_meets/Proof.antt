@@ -19,21 +19,6 @@ filled c = c .before .before .before .before .before
 abbrev start : tie.After-put-boxes → tie.Start
 start c = c .before .before .before .before
 
-slice-aggregate-put-boxes : tie.Need-slice-aggregate-put-boxes
-slice-aggregate-put-boxes c = search needs
-
-slice-aggregate-put-boxes-2 : tie.Need-slice-aggregate-put-boxes-2
-slice-aggregate-put-boxes-2 c = search needs
-
-put-boxes-requires : tie.Need-put-boxes-requires
-put-boxes-requires c κs = search needs
-
-offenders-requires : tie.Need-offenders-requires
-offenders-requires c κs = search needs
-
-lowest-requires : tie.Need-lowest-requires
-lowest-requires c κs = search needs
-
 returns : tie.Need-returns
 returns c =
     let o = c .before in
@@ -45,10 +30,4 @@ returns c =
 pub edge-meets-spec : {M : Type 1} → statement M
 edge-meets-spec =
     tie.close
-    (tie.spec
-    slice-aggregate-put-boxes
-    slice-aggregate-put-boxes-2
-    put-boxes-requires
-    offenders-requires
-    lowest-requires
-    returns)
+    (tie.spec (λ c. search needs) (λ c. search needs) (λ c κs. search needs) (λ c κs. search needs) (λ c κs. search needs) returns)

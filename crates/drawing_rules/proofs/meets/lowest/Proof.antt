@@ -15,19 +15,10 @@ use Rattle.fast_meets.proofs.Pairs.{offenders-below}
 use Rattle.drawing_rules.proofs.meets.lowest.Statement.{statement}
 use Rattle.drawing_rules.proofs.meets.lowest.Tie as tie
 
-count-requires : tie.Need-count-requires
-count-requires c κs = search needs
-
 returns : tie.Need-returns
 returns c = λ d i.
     let n = c .before .count .ensures .size-is in
     clear ∙ passes EdgeMeets [] (sym (lowest-none (offenders d) (length (d .edges)) (omega (arith, n, size-is i, c .if1 .taken))))
-
-lowest-requires : tie.Need-lowest-requires
-lowest-requires c κs = search needs
-
-refused-requires : tie.Need-refused-requires
-refused-requires c κs = search needs
 
 returns-2 : tie.Need-returns-2
 returns-2 c = λ d i.
@@ -38,5 +29,4 @@ returns-2 c = λ d i.
     c .refused .ensures ∙ stops EdgeMeets [] (ap some (l .lowest .ensures .same (offenders d) i) ∙ sym here)
 
 pub lowest-spec : {M : Type 1} → statement M
-lowest-spec =
-    tie.close (tie.spec count-requires returns lowest-requires refused-requires returns-2)
+lowest-spec = tie.close (tie.spec (λ c κs. search needs) returns (λ c κs. search needs) (λ c κs. search needs) returns-2)

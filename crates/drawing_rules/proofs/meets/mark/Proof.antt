@@ -7,9 +7,6 @@ use Rattle.fast_meets.specs.Pairs.{mark}
 use Rattle.drawing_rules.proofs.meets.mark.Statement.{statement}
 use Rattle.drawing_rules.proofs.meets.mark.Tie as tie
 
-with-requires : tie.Need-with-requires
-with-requires c κs = search needs
-
 returns : tie.Need-returns
 unfolding mark
 returns c = λ w i.
@@ -23,4 +20,4 @@ returns-2 c = λ w i.
     subst (λ (b : Bool). Is (s .args .hit) (mark b (s .args .k) w)) (sym (c .if1 .left)) i
 
 pub mark-spec : {M : Type 1} → statement M
-mark-spec = tie.close (tie.spec with-requires returns returns-2)
+mark-spec = tie.close (tie.spec (λ c κs. search needs) returns returns-2)

@@ -17,16 +17,10 @@ returns c = λ w i.
     subst (λ (t : Bool). Is (a .hit) (mark t (a .f) (mark (a .both .first) (a .e) w))) (sym (b .1))
     (subst (λ (t : Bool). Is (a .hit) (mark t (a .e) w)) (sym (b .0)) i)
 
-mark-requires : tie.Need-mark-requires
-mark-requires c κs = search needs
-
-mark-requires-2 : tie.Need-mark-requires-2
-mark-requires-2 c κs = search needs
-
 returns-2 : tie.Need-returns-2
 returns-2 c = λ w i.
     let a = c .before .before .before .before .args in
     c .mark2 .ensures (mark (a .both .first) (a .e) w) (c .before .mark .ensures w i)
 
 pub mark-both-spec : {M : Type 1} → statement M
-mark-both-spec = tie.close (tie.spec returns mark-requires mark-requires-2 returns-2)
+mark-both-spec = tie.close (tie.spec returns (λ c κs. search needs) (λ c κs. search needs) returns-2)

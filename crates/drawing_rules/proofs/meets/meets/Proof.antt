@@ -38,9 +38,6 @@ turn c = c .before .before
 
 -- ---- the needs
 
-add-f : tie.Need-add-f Inv-loop μ-loop
-add-f c = omega arith
-
 loop-holds : tie.Need-loop-holds Inv-loop μ-loop
 unfolding wire
 loop-holds c =
@@ -65,12 +62,6 @@ mark-both-requires c κs =
       e-low = omega (arith, p .e-in, p .edges .lists .links .whole, p .edges .lists .links .most);
       f-low = omega (arith, p .edges .lists .links .whole, p .edges .lists .links .most);
     }
-
-add-f-2 : tie.Need-add-f-2 Inv-loop μ-loop
-add-f-2 c = omega arith
-
-loop-less : tie.Need-loop-less Inv-loop μ-loop
-loop-less c = omega arith
 
 loop-again : tie.Need-loop-again Inv-loop μ-loop
 unfolding pairMarked
@@ -103,14 +94,5 @@ returns c = λ w i.
 pub meets-spec : {M : Type 1} → statement M
 meets-spec =
     tie.close
-    (tie.spec
-    Inv-loop
-    μ-loop
-    add-f
-    loop-holds
-    pair-requires
-    mark-both-requires
-    add-f-2
-    loop-less
-    loop-again
-    returns)
+    (tie.spec Inv-loop μ-loop (λ c. omega arith) loop-holds pair-requires mark-both-requires (λ c. omega arith) (λ c. omega arith)
+    loop-again returns)

@@ -38,9 +38,6 @@ turn c = c .before .before
 
 -- ---- the needs
 
-none-requires : tie.Need-none-requires Inv-loop μ-loop
-none-requires c κs = search needs
-
 loop-holds : tie.Need-loop-holds Inv-loop μ-loop
 unfolding wire
 loop-holds c =
@@ -51,12 +48,6 @@ loop-holds c =
 
 meets-requires : tie.Need-meets-requires Inv-loop μ-loop
 meets-requires c κs = record { edges = start (c .before) .pre; e-in = omega arith }
-
-add-e : tie.Need-add-e Inv-loop μ-loop
-add-e c = omega arith
-
-loop-less : tie.Need-loop-less Inv-loop μ-loop
-loop-less c = omega arith
 
 loop-again : tie.Need-loop-again Inv-loop μ-loop
 loop-again c =
@@ -82,13 +73,4 @@ returns c =
 pub offenders-spec : {M : Type 1} → statement M
 offenders-spec =
     tie.close
-    (tie.spec
-    Inv-loop
-    μ-loop
-    none-requires
-    loop-holds
-    meets-requires
-    add-e
-    loop-less
-    loop-again
-    returns)
+    (tie.spec Inv-loop μ-loop (λ c κs. search needs) loop-holds meets-requires (λ c. omega arith) (λ c. omega arith) loop-again returns)

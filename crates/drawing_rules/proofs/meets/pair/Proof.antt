@@ -21,15 +21,6 @@ first c = c .before .before
 
 -- ---- the needs
 
-box-at-requires : tie.Need-box-at-requires
-box-at-requires c κs = search needs
-
-box-at-requires-2 : tie.Need-box-at-requires-2
-box-at-requires-2 c κs = search needs
-
-are-apart-requires : tie.Need-are-apart-requires
-are-apart-requires c κs = search needs
-
 returns : tie.Need-returns
 returns c =
     let b = c .before in
@@ -41,26 +32,8 @@ returns c =
     let apart = (λ i. spansApart (sym first i) (sym second i)) ∙ sym (b .are-apart .ensures) ∙ c .if1 .taken in
     apart-none (p .edges .lists) (s .args .e) (s .args .f) (p .pair) (p .edges .places) apart
 
-mul-end-at : tie.Need-mul-end-at
-mul-end-at c = search needs
-
-end-at-requires : tie.Need-end-at-requires
-end-at-requires c κs = search needs
-
-mul-end-at-2 : tie.Need-mul-end-at-2
-mul-end-at-2 c = search needs
-
-add-end-at : tie.Need-add-end-at
-add-end-at c = search needs
-
-end-at-requires-2 : tie.Need-end-at-requires-2
-end-at-requires-2 c κs = search needs
-
 mul-end-at-3 : tie.Need-mul-end-at-3
 mul-end-at-3 c = let p = start (near c) .pre in omega (arith, p .pair .f-in)
-
-end-at-requires-3 : tie.Need-end-at-requires-3
-end-at-requires-3 c κs = search needs
 
 mul-end-at-4 : tie.Need-mul-end-at-4
 mul-end-at-4 c = let p = start (near (c .before)) .pre in omega (arith, p .pair .f-in)
@@ -99,21 +72,6 @@ returns-2 c =
 pub pair-spec : {M : Type 1} → statement M
 pair-spec =
     tie.close
-    (tie.spec
-    box-at-requires
-    box-at-requires-2
-    are-apart-requires
-    returns
-    mul-end-at
-    end-at-requires
-    mul-end-at-2
-    add-end-at
-    end-at-requires-2
-    mul-end-at-3
-    end-at-requires-3
-    mul-end-at-4
-    add-end-at-2
-    end-at-requires-4
-    are-joined-requires
-    both-meet-requires
-    returns-2)
+    (tie.spec (λ c κs. search needs) (λ c κs. search needs) (λ c κs. search needs) returns (λ c. search needs) (λ c κs. search needs)
+    (λ c. search needs) (λ c. search needs) (λ c κs. search needs) mul-end-at-3 (λ c κs. search needs) mul-end-at-4 add-end-at-2
+    end-at-requires-4 are-joined-requires both-meet-requires returns-2)

@@ -43,9 +43,6 @@ loop-holds c = (omega arith, λ d k. lowest-start (laterAt d) _)
 shares-requires : tie.Need-shares-requires Inv-loop μ-loop
 shares-requires c κs = record { points = c .before .before .pre; u-in = omega arith }
 
-refused-requires : tie.Need-refused-requires Inv-loop μ-loop
-refused-requires c κs = search needs
-
 returns : tie.Need-returns Inv-loop μ-loop
 returns c =
     let f = c .before .before in
@@ -55,12 +52,6 @@ returns c =
     let same = here f (c .before .if1 .taken) d k in
     let hit = lowest-hit (laterAt d) (s .args .v) (l .u) (omega arith) (l .inv .1 d k) same in
     c .refused .ensures ∙ stops SamePlace [] (sym (later-tell d ∙ ap (lowest (laterAt d)) (drawn-count (s .pre) d k) ∙ hit))
-
-add-u : tie.Need-add-u Inv-loop μ-loop
-add-u c = omega arith
-
-loop-less : tie.Need-loop-less Inv-loop μ-loop
-loop-less c = omega arith
 
 loop-again : tie.Need-loop-again Inv-loop μ-loop
 loop-again c =
@@ -80,14 +71,5 @@ returns-2 c =
 pub same-place-spec : {M : Type 1} → statement M
 same-place-spec =
     tie.close
-    (tie.spec
-    Inv-loop
-    μ-loop
-    loop-holds
-    shares-requires
-    refused-requires
-    returns
-    add-u
-    loop-less
-    loop-again
+    (tie.spec Inv-loop μ-loop loop-holds shares-requires (λ c κs. search needs) returns (λ c. omega arith) (λ c. omega arith) loop-again
     returns-2)

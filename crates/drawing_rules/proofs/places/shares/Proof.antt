@@ -69,12 +69,6 @@ returns c =
     let w = l .loop .w in
     sym (l .loop .inv .1 ∙ left-hit (Here l) (start l .args .v) w (omega arith) (tested (c .before) (c .if1 .taken)))
 
-add-w-2 : tie.Need-add-w-2 Inv-loop μ-loop
-add-w-2 c = omega arith
-
-loop-less : tie.Need-loop-less Inv-loop μ-loop
-loop-less c = omega arith
-
 loop-again : tie.Need-loop-again Inv-loop μ-loop
 loop-again c =
     let l = turn (c .before .before) in
@@ -89,16 +83,5 @@ returns-2 c =
 pub shares-spec : {M : Type 1} → statement M
 shares-spec =
     tie.close
-    (tie.spec
-    Inv-loop
-    μ-loop
-    point-at-requires
-    add-w
-    loop-holds
-    point-at-requires-2
-    same-point-requires
-    returns
-    add-w-2
-    loop-less
-    loop-again
-    returns-2)
+    (tie.spec Inv-loop μ-loop point-at-requires add-w loop-holds point-at-requires-2 same-point-requires returns (λ c. omega arith)
+    (λ c. omega arith) loop-again returns-2)

@@ -23,15 +23,6 @@ mul-m c = omega (arith, c .before .before .before .pre .most)
 mul-n : tie.Need-mul-n
 mul-n c = omega (arith, c .before .before .before .before .pre .few)
 
-refusal-said-requires : tie.Need-refusal-said-requires
-refusal-said-requires c κs = search needs
-
-tell-requires : tie.Need-tell-requires
-tell-requires c κs = search needs
-
-same-length : tie.Need-same-length
-same-length c = search needs
-
 returns : tie.Need-returns
 returns c =
     let t = c .before .before in
@@ -39,15 +30,6 @@ returns c =
     let b = s .before in
     let a = start (b .before) .args in
     points-short (a .d) (start (b .before) .pre) (now (a .xyz)) (now (a .ends)) (t .tell .ensures) (b .if1 .taken) (s .refusal-said .ensures)
-
-refusal-said-requires-2 : tie.Need-refusal-said-requires-2
-refusal-said-requires-2 c κs = search needs
-
-tell-requires-2 : tie.Need-tell-requires-2
-tell-requires-2 c κs = search needs
-
-same-length-2 : tie.Need-same-length-2
-same-length-2 c = search needs
 
 returns-2 : tie.Need-returns-2
 returns-2 c =
@@ -57,33 +39,6 @@ returns-2 c =
     let o = start (b .before .before) in
     let a = o .args in
     links-short (a .d) (o .pre) (now (a .xyz)) (now (a .ends)) (t .tell2 .ensures) (b .before .if1 .left) (b .if2 .taken) (s .refusal-said2 .ensures)
-
-slice-aggregate-copy-numbers : tie.Need-slice-aggregate-copy-numbers
-slice-aggregate-copy-numbers c = search needs
-
-copy-numbers-requires : tie.Need-copy-numbers-requires
-copy-numbers-requires c κs = search needs
-
-slice-aggregate-copy-bytes : tie.Need-slice-aggregate-copy-bytes
-slice-aggregate-copy-bytes c = search needs
-
-copy-bytes-requires : tie.Need-copy-bytes-requires
-copy-bytes-requires c κs = search needs
-
-counts-said-requires : tie.Need-counts-said-requires
-counts-said-requires c κs = search needs
-
-tell-requires-3 : tie.Need-tell-requires-3
-tell-requires-3 c κs = search needs
-
-same-length-3 : tie.Need-same-length-3
-same-length-3 c = search needs
-
-same-length-4 : tie.Need-same-length-4
-same-length-4 c = search needs
-
-same-length-5 : tie.Need-same-length-5
-same-length-5 c = search needs
 
 returns-3 : tie.Need-returns-3
 returns-3 c =
@@ -99,24 +54,7 @@ returns-3 c =
 pub handed-spec : {M : Type 1} → statement M
 handed-spec =
     tie.close
-    (tie.spec
-    mul-m
-    mul-n
-    refusal-said-requires
-    tell-requires
-    same-length
-    returns
-    refusal-said-requires-2
-    tell-requires-2
-    same-length-2
-    returns-2
-    slice-aggregate-copy-numbers
-    copy-numbers-requires
-    slice-aggregate-copy-bytes
-    copy-bytes-requires
-    counts-said-requires
-    tell-requires-3
-    same-length-3
-    same-length-4
-    same-length-5
+    (tie.spec mul-m mul-n (λ c κs. search needs) (λ c κs. search needs) (λ c. search needs) returns (λ c κs. search needs)
+    (λ c κs. search needs) (λ c. search needs) returns-2 (λ c. search needs) (λ c κs. search needs) (λ c. search needs)
+    (λ c κs. search needs) (λ c κs. search needs) (λ c κs. search needs) (λ c. search needs) (λ c. search needs) (λ c. search needs)
     returns-3)

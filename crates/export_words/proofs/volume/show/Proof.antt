@@ -5,21 +5,6 @@ use borrow.Author.Needs.{needs}
 use Rattle.export_words.proofs.volume.show.Statement.{statement}
 use Rattle.export_words.proofs.volume.show.Tie as tie
 
-enum-known-r : tie.Need-enum-known-r
-enum-known-r c = search needs
-
-slice-write-volume : tie.Need-slice-write-volume
-slice-write-volume c = search needs
-
-enum-known-r-2 : tie.Need-enum-known-r-2
-enum-known-r-2 c = search needs
-
-cast-result : tie.Need-cast-result
-cast-result c = search needs
-
-same-length : tie.Need-same-length
-same-length c = search needs
-
 returns : tie.Need-returns
 returns c =
     let k = c .before .before in
@@ -38,12 +23,5 @@ returns-3 c =
 pub show-spec : {M : Type 1} → statement M
 show-spec =
     tie.close
-    (tie.spec
-    enum-known-r
-    slice-write-volume
-    enum-known-r-2
-    cast-result
-    same-length
-    returns
-    returns-2
+    (tie.spec (λ c. search needs) (λ c. search needs) (λ c. search needs) (λ c. search needs) (λ c. search needs) returns returns-2
     returns-3)

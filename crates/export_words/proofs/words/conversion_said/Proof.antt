@@ -7,36 +7,6 @@ use Rattle.export_words.proofs.Telling.{said-as}
 use Rattle.export_words.proofs.words.conversion_said.Statement.{statement}
 use Rattle.export_words.proofs.words.conversion_said.Tie as tie
 
-enum-known-c : tie.Need-enum-known-c
-enum-known-c c = search needs
-
-enum-known-c-2 : tie.Need-enum-known-c-2
-enum-known-c-2 c = search needs
-
-enum-known-c-3 : tie.Need-enum-known-c-3
-enum-known-c-3 c = search needs
-
-ended-said-requires : tie.Need-ended-said-requires
-ended-said-requires c κs = search needs
-
-enum-known-c-4 : tie.Need-enum-known-c-4
-enum-known-c-4 c = search needs
-
-ended-said-requires-2 : tie.Need-ended-said-requires-2
-ended-said-requires-2 c κs = search needs
-
-enum-known-c-5 : tie.Need-enum-known-c-5
-enum-known-c-5 c = search needs
-
-ended-said-requires-3 : tie.Need-ended-said-requires-3
-ended-said-requires-3 c κs = search needs
-
-enum-known-c-6 : tie.Need-enum-known-c-6
-enum-known-c-6 c = search needs
-
-refusal-said-requires : tie.Need-refusal-said-requires
-refusal-said-requires c κs = search needs
-
 returns : tie.Need-returns
 returns c = said-as conversionSays (c .before .c .given .1) (record { telling = record { few = omega arith; long = refl }; are = refl })
 
@@ -58,20 +28,6 @@ returns-6 c = said-as conversionSays (c .before .before .c6 .given .1) (c .refus
 pub conversion-said-spec : {M : Type 1} → statement M
 conversion-said-spec =
     tie.close
-    (tie.spec
-    enum-known-c
-    enum-known-c-2
-    enum-known-c-3
-    ended-said-requires
-    enum-known-c-4
-    ended-said-requires-2
-    enum-known-c-5
-    ended-said-requires-3
-    enum-known-c-6
-    refusal-said-requires
-    returns
-    returns-2
-    returns-3
-    returns-4
-    returns-5
+    (tie.spec (λ c. search needs) (λ c. search needs) (λ c. search needs) (λ c κs. search needs) (λ c. search needs) (λ c κs. search needs)
+    (λ c. search needs) (λ c κs. search needs) (λ c. search needs) (λ c κs. search needs) returns returns-2 returns-3 returns-4 returns-5
     returns-6)

@@ -7,15 +7,6 @@ use Rattle.export_words.proofs.Telling.{said-as}
 use Rattle.export_words.proofs.words.written_said.Statement.{statement}
 use Rattle.export_words.proofs.words.written_said.Tie as tie
 
-enum-known-w : tie.Need-enum-known-w
-enum-known-w c = search needs
-
-enum-known-w-2 : tie.Need-enum-known-w-2
-enum-known-w-2 c = search needs
-
-refusal-said-requires : tie.Need-refusal-said-requires
-refusal-said-requires c κs = search needs
-
 returns : tie.Need-returns
 returns c = said-as writtenSays (c .before .w .given .1) (record { telling = record { few = omega arith; long = refl }; are = refl })
 
@@ -23,5 +14,4 @@ returns-2 : tie.Need-returns-2
 returns-2 c = said-as writtenSays (c .before .before .w2 .given .1) (c .refusal-said .ensures)
 
 pub written-said-spec : {M : Type 1} → statement M
-written-said-spec =
-    tie.close (tie.spec enum-known-w enum-known-w-2 refusal-said-requires returns returns-2)
+written-said-spec = tie.close (tie.spec (λ c. search needs) (λ c. search needs) (λ c κs. search needs) returns returns-2)

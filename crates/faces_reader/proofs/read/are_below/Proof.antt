@@ -72,12 +72,6 @@ returns c =
     let high = rw (c .before .field .ensures) at (c .if1 .taken) in
     high-hit (start r .args .v) (numbers (start r)) (k r) (inside r) (r .before .loop .inv .1) (here r) high
 
-add-k : tie.Need-add-k Inv-loop μ-loop
-add-k c = omega arith
-
-loop-less : tie.Need-loop-less Inv-loop μ-loop
-loop-less c = omega arith
-
 loop-again : tie.Need-loop-again Inv-loop μ-loop
 loop-again c =
     let r = c .before .before in
@@ -94,15 +88,5 @@ returns-2 c =
 pub are-below-spec : {M : Type 1} → statement M
 are-below-spec =
     tie.close
-    (tie.spec
-    Inv-loop
-    μ-loop
-    loop-holds
-    mul-field
-    add-field
-    field-requires
-    returns
-    add-k
-    loop-less
-    loop-again
+    (tie.spec Inv-loop μ-loop loop-holds mul-field add-field field-requires returns (λ c. omega arith) (λ c. omega arith) loop-again
     returns-2)

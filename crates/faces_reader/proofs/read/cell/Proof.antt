@@ -39,16 +39,10 @@ field-inside c =
 
 -- ---- the needs
 
-cast-result : tie.Need-cast-result
-cast-result c = search needs
-
 returns : tie.Need-returns
 returns c =
     let s = c .before .before in
     sym (ap (λ (n : ℕ). getD (row (corners s)) n 0) (c .if1 .taken) ∙ row-first (corners s) ∙ length-is s)
-
-sub-field : tie.Need-sub-field
-sub-field c = search needs
 
 mul-field : tie.Need-mul-field
 mul-field c = omega (arith, field-inside c)
@@ -58,9 +52,6 @@ add-field c = omega (arith, field-inside c)
 
 field-requires : tie.Need-field-requires
 field-requires c κs = omega (arith, field-inside c)
-
-cast-result-2 : tie.Need-cast-result-2
-cast-result-2 c = search needs
 
 returns-2 : tie.Need-returns-2
 returns-2 c =
@@ -86,13 +77,4 @@ returns-3 c =
 pub cell-spec : {M : Type 1} → statement M
 cell-spec =
     tie.close
-    (tie.spec
-    cast-result
-    returns
-    sub-field
-    mul-field
-    add-field
-    field-requires
-    cast-result-2
-    returns-2
-    returns-3)
+    (tie.spec (λ c. search needs) returns (λ c. search needs) mul-field add-field field-requires (λ c. search needs) returns-2 returns-3)

@@ -7,25 +7,13 @@ use borrow.Author.Needs.{needs}
 use Rattle.faces_reader.proofs.read.closes.Statement.{statement}
 use Rattle.faces_reader.proofs.read.closes.Tie as tie
 
-add-if1 : tie.Need-add-if1
-add-if1 c = search needs
-
 returns : tie.Need-returns
 unfolding closesAt
 returns c = rw (ne-eqb _ _ (c .if1 .taken)) refl
-
-mul-field : tie.Need-mul-field
-mul-field c = search needs
-
-sub-field : tie.Need-sub-field
-sub-field c = search needs
-
-field-requires : tie.Need-field-requires
-field-requires c κs = search needs
 
 returns-2 : tie.Need-returns-2
 unfolding closesAt fillAfter
 returns-2 c = rw (eq-eqb _ _ (c .before .if1 .left), c .field .ensures) refl
 
 pub closes-spec : {M : Type 1} → statement M
-closes-spec = tie.close (tie.spec add-if1 returns mul-field sub-field field-requires returns-2)
+closes-spec = tie.close (tie.spec (λ c. search needs) returns (λ c. search needs) (λ c. search needs) (λ c κs. search needs) returns-2)

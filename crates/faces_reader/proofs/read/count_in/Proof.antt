@@ -42,21 +42,12 @@ returns : tie.Need-returns
 unfolding countOf
 returns c = rw (lt-leb 2 _ (c .if1 .taken)) refl
 
-field-requires : tie.Need-field-requires
-field-requires c κs = search needs
-
 returns-2 : tie.Need-returns-2
 unfolding countOf
 returns-2 c =
     let e = c .before in
     let wrong = ne-eqb _ _ (λ q. c .if2 .taken (e .before .field .ensures ∙ q)) in
     rw (two-bytes (sized e), wrong) refl
-
-field-requires-2 : tie.Need-field-requires-2
-field-requires-2 c κs = search needs
-
-is-outside-requires : tie.Need-is-outside-requires
-is-outside-requires c κs = search needs
 
 returns-3 : tie.Need-returns-3
 unfolding countOf
@@ -75,11 +66,4 @@ returns-4 c =
 pub count-in-spec : {M : Type 1} → statement M
 count-in-spec =
     tie.close
-    (tie.spec
-    returns
-    field-requires
-    returns-2
-    field-requires-2
-    is-outside-requires
-    returns-3
-    returns-4)
+    (tie.spec returns (λ c κs. search needs) returns-2 (λ c κs. search needs) (λ c κs. search needs) returns-3 returns-4)

@@ -52,29 +52,17 @@ inside c =
 
 -- ---- the needs
 
-add-if1 : tie.Need-add-if1
-add-if1 c = search needs
-
-add-if1-2 : tie.Need-add-if1-2
-add-if1-2 c = search needs
-
 returns : tie.Need-returns
 returns c = let a = c .before .before .args in no-bits (a .f) (a .v) (a .s .now) (a .at) (omega (arith, c .if1 .taken))
 
 field-requires : tie.Need-field-requires
 field-requires c κs = omega (arith, c .if1 .left, c .before .before .pre .near)
 
-is-outside-requires : tie.Need-is-outside-requires
-is-outside-requires c κs = search needs
-
 returns-2 : tie.Need-returns-2
 returns-2 c =
     let o = c .before in
     let a = start (o .before) .args in
     no-count (a .f) (a .v) (a .s .now) (a .at) (miscounted o ∙ c .if2 .taken)
-
-add-if3 : tie.Need-add-if3
-add-if3 c = search needs
 
 mul-if3 : tie.Need-mul-if3
 mul-if3 c = omega (arith, few-bits (c .before))
@@ -92,9 +80,6 @@ returns-3 c =
     let behind : length (a .s .now) * 8 < faceEnd (a .f) (a .at) (count r) =
     subst (λ (m : ℕ). length (a .s .now) * 8 < faceEnd (a .f) (a .at) m) (r .field .ensures) (omega (arith, c .if3 .taken)) in
     no-bits (a .f) (a .v) (a .s .now) (a .at) behind
-
-add-are-below : tie.Need-add-are-below
-add-are-below c = search needs
 
 are-below-requires : tie.Need-are-below-requires
 are-below-requires c κs =
@@ -130,19 +115,5 @@ returns-5 c =
 pub face-at-spec : {M : Type 1} → statement M
 face-at-spec =
     tie.close
-    (tie.spec
-    add-if1
-    add-if1-2
-    returns
-    field-requires
-    is-outside-requires
-    returns-2
-    add-if3
-    mul-if3
-    add-if3-2
-    add-if3-3
-    returns-3
-    add-are-below
-    are-below-requires
-    returns-4
-    returns-5)
+    (tie.spec (λ c. search needs) (λ c. search needs) returns field-requires (λ c κs. search needs) returns-2 (λ c. search needs) mul-if3
+    add-if3-2 add-if3-3 returns-3 (λ c. search needs) are-below-requires returns-4 returns-5)

@@ -8,12 +8,9 @@ use borrow.Author.Needs.{needs}
 use Rattle.faces_reader.proofs.read.no_faces.Statement.{statement}
 use Rattle.faces_reader.proofs.read.no_faces.Tie as tie
 
-refused-requires : tie.Need-refused-requires
-refused-requires c κs = search needs
-
 returns : tie.Need-returns
 unfolding padded
 returns c = ap (λ (a : Answer). record { answer = a; count = 0; rows = padded [] allRows 0 }) (c .refused .ensures)
 
 pub no-faces-spec : {M : Type 1} → statement M
-no-faces-spec = tie.close (tie.spec refused-requires returns)
+no-faces-spec = tie.close (tie.spec (λ c κs. search needs) returns)

@@ -98,15 +98,6 @@ few-bits c = corners-small (entry (turn c) .pre .slender .vertex-number-narrow) 
 count-in-requires : tie.Need-count-in-requires Inv-loop μ-loop
 count-in-requires c κs = c .before .pre
 
-enum-known-counted : tie.Need-enum-known-counted Inv-loop μ-loop
-enum-known-counted c = search needs
-
-enum-told : tie.Need-enum-told Inv-loop μ-loop
-enum-told c = search needs
-
-no-faces-requires : tie.Need-no-faces-requires Inv-loop μ-loop
-no-faces-requires c κs = search needs
-
 returns : tie.Need-returns Inv-loop μ-loop
 returns c =
     let t = c .before in
@@ -123,15 +114,6 @@ loop-holds c = let s = start (c .before .before) in read-start (s .args .f) (s .
 
 face-at-requires : tie.Need-face-at-requires Inv-loop μ-loop
 face-at-requires c κs = record { brief = entry (c .before) .pre; near = omega (arith, near (c .before)) }
-
-enum-known-face : tie.Need-enum-known-face Inv-loop μ-loop
-enum-known-face c = search needs
-
-enum-told-2 : tie.Need-enum-told-2 Inv-loop μ-loop
-enum-told-2 c = search needs
-
-no-faces-requires-2 : tie.Need-no-faces-requires-2 Inv-loop μ-loop
-no-faces-requires-2 c κs = search needs
 
 returns-2 : tie.Need-returns-2 Inv-loop μ-loop
 returns-2 c =
@@ -175,12 +157,6 @@ mul-at c = omega (arith, few-bits (seen (placed c)))
 add-at-3 : tie.Need-add-at-3 Inv-loop μ-loop
 add-at-3 c = let w = seen (placed c) in omega (arith, near (turn w), few-bits w)
 
-add-k : tie.Need-add-k Inv-loop μ-loop
-add-k c = omega arith
-
-loop-less : tie.Need-loop-less Inv-loop μ-loop
-loop-less c = omega arith
-
 loop-again : tie.Need-loop-again Inv-loop μ-loop
 loop-again c =
     let p = placed c in
@@ -204,9 +180,6 @@ returns-3 c =
     read-ends (a .f) (a .v) (a .s .now) (n (told t)) (l .k) (l .at) (l .rows) (known (told t)) (l .inv) (e .before .loop-test .left)
     (sym (e .closes .ensures) ∙ c .if1 .taken)
 
-no-faces-requires-3 : tie.Need-no-faces-requires-3 Inv-loop μ-loop
-no-faces-requires-3 c κs = search needs
-
 returns-4 : tie.Need-returns-4 Inv-loop μ-loop
 returns-4 c =
     let e = c .before .before in
@@ -220,32 +193,7 @@ returns-4 c =
 pub read-spec : {M : Type 1} → statement M
 read-spec =
     tie.close
-    (tie.spec
-    Inv-loop
-    μ-loop
-    count-in-requires
-    enum-known-counted
-    enum-told
-    no-faces-requires
-    returns
-    add-at
-    loop-holds
-    face-at-requires
-    enum-known-face
-    enum-told-2
-    no-faces-requires-2
-    returns-2
-    add-put-row
-    slice-aggregate-put-row
-    mul-put-row
-    put-row-requires
-    add-at-2
-    mul-at
-    add-at-3
-    add-k
-    loop-less
-    loop-again
-    closes-requires
-    returns-3
-    no-faces-requires-3
-    returns-4)
+    (tie.spec Inv-loop μ-loop count-in-requires (λ c. search needs) (λ c. search needs) (λ c κs. search needs) returns add-at loop-holds
+    face-at-requires (λ c. search needs) (λ c. search needs) (λ c κs. search needs) returns-2 add-put-row slice-aggregate-put-row
+    mul-put-row put-row-requires add-at-2 mul-at add-at-3 (λ c. omega arith) (λ c. omega arith) loop-again closes-requires returns-3
+    (λ c κs. search needs) returns-4)

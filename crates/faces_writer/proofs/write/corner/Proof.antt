@@ -19,15 +19,6 @@ ahead c = c .before .before
 
 -- ---- the needs
 
-sub-result : tie.Need-sub-result
-sub-result c = search needs
-
-add-result : tie.Need-add-result
-add-result c = search needs
-
-shared-slice-read-result : tie.Need-shared-slice-read-result
-shared-slice-read-result c = search needs
-
 cast-result : tie.Need-cast-result
 cast-result c = let a = behind c .args in omega (arith, c .shared-slice-known .given (a .i + (a .c - a .j)))
 
@@ -37,9 +28,6 @@ returns c =
     let a = s .args in
     rw (c .before .before .if1 .taken) (corner-back (a .rows .now) (a .i) (a .c) (s .pre .inside) (a .j) (omega arith) (s .pre .known))
 
-shared-slice-read-result-2 : tie.Need-shared-slice-read-result-2
-shared-slice-read-result-2 c = search needs
-
 cast-result-2 : tie.Need-cast-result-2
 cast-result-2 c = omega (arith, c .shared-slice-known2 .given (first c .args .i))
 
@@ -48,12 +36,6 @@ returns-2 c =
     let s = first c in
     let a = s .args in
     rw (c .before .before .if1 .taken) (corner-first (a .rows .now) (a .i) (a .c) (s .pre .inside) (a .j) (omega arith) (s .pre .known))
-
-add-result-2 : tie.Need-add-result-2
-add-result-2 c = search needs
-
-shared-slice-read-result-3 : tie.Need-shared-slice-read-result-3
-shared-slice-read-result-3 c = search needs
 
 cast-result-3 : tie.Need-cast-result-3
 cast-result-3 c = let a = ahead c .args in omega (arith, c .shared-slice-known3 .given (a .i + a .j))
@@ -67,16 +49,5 @@ returns-3 c =
 pub corner-spec : {M : Type 1} → statement M
 corner-spec =
     tie.close
-    (tie.spec
-    sub-result
-    add-result
-    shared-slice-read-result
-    cast-result
-    returns
-    shared-slice-read-result-2
-    cast-result-2
-    returns-2
-    add-result-2
-    shared-slice-read-result-3
-    cast-result-3
-    returns-3)
+    (tie.spec (λ c. search needs) (λ c. search needs) (λ c. search needs) cast-result returns (λ c. search needs) cast-result-2 returns-2
+    (λ c. search needs) (λ c. search needs) cast-result-3 returns-3)

@@ -82,12 +82,6 @@ corner-requires c κs = record { inside = start (c .before) .pre .inside; known 
 put-requires : tie.Need-put-requires Inv-loop μ-loop
 put-requires c κs = let r = c .before .before in omega (arith, field-inside r, fields-small (start r))
 
-add-j : tie.Need-add-j Inv-loop μ-loop
-add-j c = omega arith
-
-loop-less : tie.Need-loop-less Inv-loop μ-loop
-loop-less c = omega arith
-
 loop-again : tie.Need-loop-again Inv-loop μ-loop
 loop-again c =
     let p = c .before .before in
@@ -119,16 +113,5 @@ returns c =
 pub put-corners-spec : {M : Type 1} → statement M
 put-corners-spec =
     tie.close
-    (tie.spec
-    Inv-loop
-    μ-loop
-    loop-holds
-    mul-put
-    add-put
-    corner-requires
-    put-requires
-    add-j
-    loop-less
-    loop-again
-    same-length
-    returns)
+    (tie.spec Inv-loop μ-loop loop-holds mul-put add-put corner-requires put-requires (λ c. omega arith) (λ c. omega arith) loop-again
+    same-length returns)

@@ -51,9 +51,6 @@ few-bits s = corners-small (s .pre .faces .brief .slender .vertex-number-narrow)
 
 -- ---- the needs
 
-mul-first : tie.Need-mul-first
-mul-first c = search needs
-
 shared-slice-read-c : tie.Need-shared-slice-read-c
 shared-slice-read-c c = omega (arith, whole (entry c))
 
@@ -62,9 +59,6 @@ cast-c c = omega (arith, c .shared-slice-known2 .given (rowBytes * entry c .args
 
 put-requires : tie.Need-put-requires
 put-requires c κs = let s = entry (c .before) in omega (arith, span-is s, s .pre .faces .roomy)
-
-add-put-corners : tie.Need-add-put-corners
-add-put-corners c = search needs
 
 add-put-corners-2 : tie.Need-add-put-corners-2
 add-put-corners-2 c = omega (arith, start (c .before .before .before) .pre .faces .near)
@@ -91,9 +85,6 @@ add-result c = omega (arith, few-bits (start (counted (cornered c))))
 add-result-2 : tie.Need-add-result-2
 add-result-2 c = let s = start (counted (cornered c)) in omega (arith, few-bits s, s .pre .faces .near)
 
-same-length : tie.Need-same-length
-same-length c = search needs
-
 returns : tie.Need-returns
 returns c =
     let q = cornered c in
@@ -112,16 +103,5 @@ returns c =
 pub put-face-spec : {M : Type 1} → statement M
 put-face-spec =
     tie.close
-    (tie.spec
-    mul-first
-    shared-slice-read-c
-    cast-c
-    put-requires
-    add-put-corners
-    add-put-corners-2
-    put-corners-requires
-    mul-result
-    add-result
-    add-result-2
-    same-length
-    returns)
+    (tie.spec (λ c. search needs) shared-slice-read-c cast-c put-requires (λ c. search needs) add-put-corners-2 put-corners-requires
+    mul-result add-result add-result-2 (λ c. search needs) returns)

@@ -38,12 +38,6 @@ put-taken-requires c κs =
     let a = s .args in
     send-one (a .f) (a .rows .now) (a .taken) (a .turned) (a .room .now) (s .pre) (l .k) (l .b) (l .room) (omega arith) (l .inv)
 
-add-k : tie.Need-add-k Inv-loop μ-loop
-add-k c = omega arith
-
-loop-less : tie.Need-loop-less Inv-loop μ-loop
-loop-less c = omega arith
-
 loop-again : tie.Need-loop-again Inv-loop μ-loop
 loop-again c =
     let p = c .before .before .put-taken in
@@ -66,14 +60,4 @@ returns c =
 pub put-faces-spec : {M : Type 1} → statement M
 put-faces-spec =
     tie.close
-    (tie.spec
-    Inv-loop
-    μ-loop
-    add-b
-    loop-holds
-    put-taken-requires
-    add-k
-    loop-less
-    loop-again
-    same-length
-    returns)
+    (tie.spec Inv-loop μ-loop add-b loop-holds put-taken-requires (λ c. omega arith) (λ c. omega arith) loop-again same-length returns)

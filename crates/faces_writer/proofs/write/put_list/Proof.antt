@@ -65,9 +65,6 @@ put-faces-requires c κs =
       near = omega (arith, s .pre .brief .slender .face-count-narrow);
     }
 
-add-put-fill : tie.Need-add-put-fill
-add-put-fill c = search needs
-
 add-put-fill-2 : tie.Need-add-put-fill-2
 add-put-fill-2 c =
     let s = start (numbered (counted (placed c))) in
@@ -90,9 +87,6 @@ put-fill-requires c κs =
       r .put-faces .kept .1 .1 .1 .1 .0,
     )
 
-same-length : tie.Need-same-length
-same-length c = search needs
-
 returns : tie.Need-returns
 returns c =
     let l = c .before .before in
@@ -109,12 +103,5 @@ returns c =
 pub put-list-spec : {M : Type 1} → statement M
 put-list-spec =
     tie.close
-    (tie.spec
-    put-requires
-    put-requires-2
-    put-faces-requires
-    add-put-fill
-    add-put-fill-2
-    put-fill-requires
-    same-length
+    (tie.spec put-requires put-requires-2 put-faces-requires (λ c. search needs) add-put-fill-2 put-fill-requires (λ c. search needs)
     returns)

@@ -44,20 +44,11 @@ is-none c =
 
 -- ---- the needs
 
-is-set-requires : tie.Need-is-set-requires
-is-set-requires c κs = search needs
-
-is-set-requires-2 : tie.Need-is-set-requires-2
-is-set-requires-2 c κs = search needs
-
 put-face-requires : tie.Need-put-face-requires
 put-face-requires c κs =
     let s = start (looked (c .before)) in
     let a = s .args in
     subst (λ (fs : List Loop). SendsOne (a .f) (a .k) fs (a .room .now) (a .b)) (is-put (c .before)) (s .pre)
-
-same-length : tie.Need-same-length
-same-length c = search needs
 
 returns : tie.Need-returns
 returns c =
@@ -74,4 +65,4 @@ returns-2 c =
     (none-span (a .f) (a .b) (is-none c), none-put (a .f) (run 8 (a .room .now)) (a .b) (is-none c))
 
 pub put-taken-spec : {M : Type 1} → statement M
-put-taken-spec = tie.close (tie.spec is-set-requires is-set-requires-2 put-face-requires same-length returns returns-2)
+put-taken-spec = tie.close (tie.spec (λ c κs. search needs) (λ c κs. search needs) put-face-requires (λ c. search needs) returns returns-2)

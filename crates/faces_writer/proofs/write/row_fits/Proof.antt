@@ -31,23 +31,11 @@ counted c = sym (c .before .is-outside .ensures) ∙ c .if2 .left
 
 -- ---- the needs
 
-mul-first : tie.Need-mul-first
-mul-first c = search needs
-
-add-if1 : tie.Need-add-if1
-add-if1 c = search needs
-
 returns : tie.Need-returns
 returns c = let a = c .before .before .args in row-short (a .f) (a .rows .now) (a .k) (omega (arith, c .if1 .taken))
 
-shared-slice-read-c : tie.Need-shared-slice-read-c
-shared-slice-read-c c = search needs
-
 cast-c : tie.Need-cast-c
 cast-c c = omega (arith, c .shared-slice-known2 .given (rowBytes * start (c .before) .args .k))
-
-is-outside-requires : tie.Need-is-outside-requires
-is-outside-requires c κs = search needs
 
 returns-2 : tie.Need-returns-2
 returns-2 c =
@@ -55,9 +43,6 @@ returns-2 c =
     let l = sized o in
     let a = start l .args in
     row-count (a .f) (a .rows .now) (a .k) (whole l) (sym (o .is-outside .ensures) ∙ c .if2 .taken)
-
-add-are-under : tie.Need-add-are-under
-add-are-under c = search needs
 
 are-under-requires : tie.Need-are-under-requires
 are-under-requires c κs =
@@ -81,15 +66,5 @@ returns-4 c =
 pub row-fits-spec : {M : Type 1} → statement M
 row-fits-spec =
     tie.close
-    (tie.spec
-    mul-first
-    add-if1
-    returns
-    shared-slice-read-c
-    cast-c
-    is-outside-requires
-    returns-2
-    add-are-under
-    are-under-requires
-    returns-3
-    returns-4)
+    (tie.spec (λ c. search needs) (λ c. search needs) returns (λ c. search needs) cast-c (λ c κs. search needs) returns-2
+    (λ c. search needs) are-under-requires returns-3 returns-4)

@@ -44,18 +44,6 @@ few-bits c =
 
 -- ---- the needs
 
-is-set-requires : tie.Need-is-set-requires
-is-set-requires c κs = search needs
-
-row-fits-requires : tie.Need-row-fits-requires
-row-fits-requires c κs = search needs
-
-enum-known-fit : tie.Need-enum-known-fit
-enum-known-fit c = search needs
-
-enum-told : tie.Need-enum-told
-enum-told c = search needs
-
 returns : tie.Need-returns
 returns c =
     let r = c .before .before in
@@ -84,13 +72,5 @@ returns-3 c =
 pub weigh-spec : {M : Type 1} → statement M
 weigh-spec =
     tie.close
-    (tie.spec
-    is-set-requires
-    row-fits-requires
-    enum-known-fit
-    enum-told
-    returns
-    mul-t8
-    add-t9
-    returns-2
+    (tie.spec (λ c κs. search needs) (λ c κs. search needs) (λ c. search needs) (λ c. search needs) returns mul-t8 add-t9 returns-2
     returns-3)

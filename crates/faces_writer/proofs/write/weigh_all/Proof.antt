@@ -52,12 +52,6 @@ loop-holds c = let a = c .before .args in weigh-start (a .f) (a .rows .now) (a .
 weigh-requires : tie.Need-weigh-requires Inv-loop μ-loop
 weigh-requires c κs = record { brief = entry (c .before) .pre; known = omega arith }
 
-enum-known-one : tie.Need-enum-known-one Inv-loop μ-loop
-enum-known-one c = search needs
-
-enum-told : tie.Need-enum-told Inv-loop μ-loop
-enum-told c = search needs
-
 returns : tie.Need-returns Inv-loop μ-loop
 returns c =
     let w = c .before .before in
@@ -72,12 +66,6 @@ add-faces c = omega (arith, small (c .before))
 
 add-bits : tie.Need-add-bits Inv-loop μ-loop
 add-bits c = omega (arith, small (c .before))
-
-add-k : tie.Need-add-k Inv-loop μ-loop
-add-k c = omega arith
-
-loop-less : tie.Need-loop-less Inv-loop μ-loop
-loop-less c = omega arith
 
 loop-again : tie.Need-loop-again Inv-loop μ-loop
 loop-again c =
@@ -96,17 +84,5 @@ returns-2 c =
 pub weigh-all-spec : {M : Type 1} → statement M
 weigh-all-spec =
     tie.close
-    (tie.spec
-    Inv-loop
-    μ-loop
-    loop-holds
-    weigh-requires
-    enum-known-one
-    enum-told
-    returns
-    add-faces
-    add-bits
-    add-k
-    loop-less
-    loop-again
-    returns-2)
+    (tie.spec Inv-loop μ-loop loop-holds weigh-requires (λ c. search needs) (λ c. search needs) returns add-faces add-bits
+    (λ c. omega arith) (λ c. omega arith) loop-again returns-2)

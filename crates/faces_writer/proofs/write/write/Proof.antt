@@ -66,18 +66,6 @@ miscounted c = let a = entry (told c) .args in
 
 -- ---- the needs
 
-weigh-all-requires : tie.Need-weigh-all-requires
-weigh-all-requires c κs = search needs
-
-enum-known-weighed : tie.Need-enum-known-weighed
-enum-known-weighed c = search needs
-
-enum-told : tie.Need-enum-told
-enum-told c = search needs
-
-refused-requires : tie.Need-refused-requires
-refused-requires c κs = search needs
-
 returns : tie.Need-returns
 returns c =
     let w = c .before .before .before in
@@ -87,12 +75,6 @@ returns c =
     let r = result-misfit (a .f) (faces s) (a .room .now) wrong in
     (c .refused .ensures ∙ r .0, r .1)
 
-is-outside-requires : tie.Need-is-outside-requires
-is-outside-requires c κs = search needs
-
-refused-requires-2 : tie.Need-refused-requires-2
-refused-requires-2 c κs = search needs
-
 returns-2 : tie.Need-returns-2
 returns-2 c =
     let o = c .before .before in
@@ -100,17 +82,11 @@ returns-2 c =
     let r = result-count (s .args .f) (faces s) (s .args .room .now) (miscounted o ∙ c .before .if1 .taken) in
     (c .refused2 .ensures ∙ r .0, r .1)
 
-add-size : tie.Need-add-size
-add-size c = search needs
-
 add-size-2 : tie.Need-add-size-2
 add-size-2 c = omega (arith, small (told (sized c)))
 
 add-size-3 : tie.Need-add-size-3
 add-size-3 c = omega (arith, small (told (sized c)))
-
-refused-requires-3 : tie.Need-refused-requires-3
-refused-requires-3 c κs = search needs
 
 returns-3 : tie.Need-returns-3
 returns-3 c =
@@ -129,9 +105,6 @@ put-list-requires c κs =
     let w = told (sized (t .before)) in
     record { brief = entry w .pre; weighed = known w; roomy = rw (ends w) at (t .if2 .left) }
 
-same-length : tie.Need-same-length
-same-length c = search needs
-
 returns-4 : tie.Need-returns-4
 returns-4 c =
     let p = c .before .before in
@@ -147,20 +120,6 @@ returns-4 c =
 pub write-spec : {M : Type 1} → statement M
 write-spec =
     tie.close
-    (tie.spec
-    weigh-all-requires
-    enum-known-weighed
-    enum-told
-    refused-requires
-    returns
-    is-outside-requires
-    refused-requires-2
-    returns-2
-    add-size
-    add-size-2
-    add-size-3
-    refused-requires-3
-    returns-3
-    put-list-requires
-    same-length
-    returns-4)
+    (tie.spec (λ c κs. search needs) (λ c. search needs) (λ c. search needs) (λ c κs. search needs) returns (λ c κs. search needs)
+    (λ c κs. search needs) returns-2 (λ c. search needs) add-size-2 add-size-3 (λ c κs. search needs) returns-3 put-list-requires
+    (λ c. search needs) returns-4)

@@ -56,9 +56,6 @@ w-level c =
 loop-holds : tie.Need-loop-holds Inv-loop μ-loop
 loop-holds c = asking-start (now (c .args .xyz)) (c .args .s) (c .args .m) (c .pre)
 
-is-empty-requires : tie.Need-is-empty-requires Inv-loop μ-loop
-is-empty-requires c κs = search needs
-
 lowest-requires : tie.Need-lowest-requires Inv-loop μ-loop
 lowest-requires c κs = some-left (c .before) (c .if1 .taken)
 
@@ -75,9 +72,6 @@ plane-side-requires : tie.Need-plane-side-requires Inv-loop μ-loop
 plane-side-requires c κs =
     let w = c .before in
     plane-small (turn w .loop .inv .asked .plane) (w .before .lowest .result) (c .point-at .result) (c .point-at .ensures)
-
-is-zero-requires : tie.Need-is-zero-requires Inv-loop μ-loop
-is-zero-requires c κs = omega arith
 
 returns : tie.Need-returns Inv-loop μ-loop
 returns c =
@@ -108,17 +102,5 @@ returns-2 c =
 pub any-level-spec : {M : Type 1} → statement M
 any-level-spec =
     tie.close
-    (tie.spec
-    Inv-loop
-    μ-loop
-    loop-holds
-    is-empty-requires
-    lowest-requires
-    without-requires
-    point-at-requires
-    plane-side-requires
-    is-zero-requires
-    returns
-    loop-less
-    loop-again
-    returns-2)
+    (tie.spec Inv-loop μ-loop loop-holds (λ c κs. search needs) lowest-requires without-requires point-at-requires plane-side-requires
+    (λ c κs. omega arith) returns loop-less loop-again returns-2)

@@ -66,9 +66,6 @@ gathers c =
 
 -- ---- the needs
 
-none-requires : tie.Need-none-requires Inv-loop μ-loop
-none-requires c κs = search needs
-
 loop-holds : tie.Need-loop-holds Inv-loop μ-loop
 unfolding upto from
 loop-holds c = record { reached = omega arith; is = c .none .ensures }
@@ -81,17 +78,8 @@ plane-side-requires c κs =
     let l = c .before .before in
     plane-small (start l .pre) (l .loop .w) (c .point-at .result) (c .point-at .ensures)
 
-is-zero-requires : tie.Need-is-zero-requires Inv-loop μ-loop
-is-zero-requires c κs = omega arith
-
 with-requires : tie.Need-with-requires Inv-loop μ-loop
 with-requires c κs = let l = turn (c .before) in omega (arith, start l .pre .few)
-
-add-w : tie.Need-add-w Inv-loop μ-loop
-add-w c = omega arith
-
-loop-less : tie.Need-loop-less Inv-loop μ-loop
-loop-less c = omega arith
 
 loop-again : tie.Need-loop-again Inv-loop μ-loop
 loop-again c = record { reached = omega arith; is = gathers c }
@@ -106,16 +94,5 @@ returns c =
 pub plane-of-spec : {M : Type 1} → statement M
 plane-of-spec =
     tie.close
-    (tie.spec
-    Inv-loop
-    μ-loop
-    none-requires
-    loop-holds
-    point-at-requires
-    plane-side-requires
-    is-zero-requires
-    with-requires
-    add-w
-    loop-less
-    loop-again
-    returns)
+    (tie.spec Inv-loop μ-loop (λ c κs. search needs) loop-holds point-at-requires plane-side-requires (λ c κs. omega arith) with-requires
+    (λ c. omega arith) (λ c. omega arith) loop-again returns)

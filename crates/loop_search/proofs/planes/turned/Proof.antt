@@ -104,38 +104,14 @@ same-plane A test c =
 
 -- ---- the needs
 
-element-copy-out-wide : tie.Need-element-copy-out-wide
-element-copy-out-wide c = search needs
-
-wide-requires : tie.Need-wide-requires
-wide-requires c κs = search needs
-
-point-at-requires : tie.Need-point-at-requires
-point-at-requires c κs = search needs
-
-element-copy-out-wide-2 : tie.Need-element-copy-out-wide-2
-element-copy-out-wide-2 c = search needs
-
-wide-requires-2 : tie.Need-wide-requires-2
-wide-requires-2 c κs = search needs
-
-point-at-requires-2 : tie.Need-point-at-requires-2
-point-at-requires-2 c κs = search needs
-
 minus-requires : tie.Need-minus-requires
 minus-requires c κs = record { a-in = second-small c; b-in = s-small (first c) }
-
-point-at-requires-3 : tie.Need-point-at-requires-3
-point-at-requires-3 c κs = search needs
 
 minus-requires-2 : tie.Need-minus-requires-2
 minus-requires-2 c κs = record { a-in = next-small c; b-in = s-small (first (c .before .before)) }
 
 cross-requires : tie.Need-cross-requires
 cross-requires c κs = record { a-in = way-small c; b-in = to-next-small c }
-
-is-origin-requires : tie.Need-is-origin-requires
-is-origin-requires c κs = search needs
 
 returns : tie.Need-returns
 returns c a i = ap isOrigin (sym (m-is (c .before .before))) ∙ sym (c .before .is-origin .ensures) ∙ c .if1 .taken
@@ -169,20 +145,6 @@ returns-3 c a i =
 pub turned-spec : {M : Type 1} → statement M
 turned-spec =
     tie.close
-    (tie.spec
-    element-copy-out-wide
-    wide-requires
-    point-at-requires
-    element-copy-out-wide-2
-    wide-requires-2
-    point-at-requires-2
-    minus-requires
-    point-at-requires-3
-    minus-requires-2
-    cross-requires
-    is-origin-requires
-    returns
-    any-level-requires
-    plane-of-requires
-    returns-2
-    returns-3)
+    (tie.spec (λ c. search needs) (λ c κs. search needs) (λ c κs. search needs) (λ c. search needs) (λ c κs. search needs)
+    (λ c κs. search needs) minus-requires (λ c κs. search needs) minus-requires-2 cross-requires (λ c κs. search needs) returns
+    any-level-requires plane-of-requires returns-2 returns-3)

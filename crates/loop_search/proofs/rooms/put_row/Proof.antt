@@ -40,9 +40,6 @@ loop-holds c =
     let a = c .args in
     record { reached = omega arith; pasted = paste-zero (set (a .table .now) (a .at) (a .len)) (a .at + 1) (a .path .now) }
 
-element-copy-out-table : tie.Need-element-copy-out-table Inv-loop μ-loop
-element-copy-out-table c = omega arith
-
 add-table : tie.Need-add-table Inv-loop μ-loop
 add-table c = omega (arith, entry (c .before .before) .pre .roomy)
 
@@ -51,12 +48,6 @@ add-table-2 c = omega (arith, entry (c .before .before) .pre .roomy)
 
 element-write-table-2 : tie.Need-element-write-table-2 Inv-loop μ-loop
 element-write-table-2 c = omega (arith, entry (c .before .before) .pre .roomy)
-
-add-i : tie.Need-add-i Inv-loop μ-loop
-add-i c = omega arith
-
-loop-less : tie.Need-loop-less Inv-loop μ-loop
-loop-less c = omega arith
 
 loop-again : tie.Need-loop-again Inv-loop μ-loop
 loop-again c =
@@ -86,17 +77,5 @@ returns c =
 pub put-row-spec : {M : Type 1} → statement M
 put-row-spec =
     tie.close
-    (tie.spec
-    Inv-loop
-    μ-loop
-    cast-table
-    element-write-table
-    loop-holds
-    element-copy-out-table
-    add-table
-    add-table-2
-    element-write-table-2
-    add-i
-    loop-less
-    loop-again
-    returns)
+    (tie.spec Inv-loop μ-loop cast-table element-write-table loop-holds (λ c. omega arith) add-table add-table-2 element-write-table-2
+    (λ c. omega arith) (λ c. omega arith) loop-again returns)

@@ -16,23 +16,11 @@ start c = c .before .before
 
 -- ---- the needs
 
-sub-wide : tie.Need-sub-wide
-sub-wide c = search needs
-
-element-copy-out-wide : tie.Need-element-copy-out-wide
-element-copy-out-wide c = search needs
-
-wide-requires : tie.Need-wide-requires
-wide-requires c κs = search needs
-
 has-requires : tie.Need-has-requires
 has-requires c κs =
     let p = start c .pre .path-at in
     let low = p .low (start c .args .len - 1) (omega (arith, p .some)) in
     omega (arith, low, c .wide .ensures)
-
-take-in-requires : tie.Need-take-in-requires
-take-in-requires c κs = search needs
 
 returns : tie.Need-returns
 returns c =
@@ -53,11 +41,4 @@ returns-2 c =
 pub take-if-closed-spec : {M : Type 1} → statement M
 take-if-closed-spec =
     tie.close
-    (tie.spec
-    sub-wide
-    element-copy-out-wide
-    wide-requires
-    has-requires
-    take-in-requires
-    returns
-    returns-2)
+    (tie.spec (λ c. search needs) (λ c. search needs) (λ c κs. search needs) has-requires (λ c κs. search needs) returns returns-2)

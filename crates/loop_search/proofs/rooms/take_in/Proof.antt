@@ -5,28 +5,13 @@ use Rattle.loop_search.proofs.Takes.{taken-over, taken-more}
 use Rattle.loop_search.proofs.rooms.take_in.Statement.{statement}
 use Rattle.loop_search.proofs.rooms.take_in.Tie as tie
 
-add-result : tie.Need-add-result
-add-result c = search needs
-
 returns : tie.Need-returns
 returns c = let s = c .before in taken-over (s .pre) (s .args .plane) (omega arith)
-
-mul-put-row : tie.Need-mul-put-row
-mul-put-row c = search needs
 
 put-row-requires : tie.Need-put-row-requires
 put-row-requires c κs =
     let s = c .before .before in
     record { table-long = s .pre .sized .table-long; roomy = omega arith; path-at = s .pre .path-at }
-
-mul-planes : tie.Need-mul-planes
-mul-planes c = search needs
-
-element-write-planes : tie.Need-element-write-planes
-element-write-planes c = search needs
-
-add-result-2 : tie.Need-add-result-2
-add-result-2 c = search needs
 
 returns-2 : tie.Need-returns-2
 returns-2 c =
@@ -36,12 +21,5 @@ returns-2 c =
 pub take-in-spec : {M : Type 1} → statement M
 take-in-spec =
     tie.close
-    (tie.spec
-    add-result
-    returns
-    mul-put-row
-    put-row-requires
-    mul-planes
-    element-write-planes
-    add-result-2
+    (tie.spec (λ c. search needs) returns (λ c. search needs) put-row-requires (λ c. search needs) (λ c. search needs) (λ c. search needs)
     returns-2)

@@ -7,9 +7,6 @@ use Rattle.polygon.proofs.Zeros.{reads-back}
 use Rattle.polygon.proofs.points.det.Statement.{statement}
 use Rattle.polygon.proofs.points.det.Tie as tie
 
-cross-requires : tie.Need-cross-requires
-cross-requires c κs = search needs
-
 dot-requires : tie.Need-dot-requires
 dot-requires c κs =
     let s = c .before .pre in
@@ -22,4 +19,4 @@ returns c =
     reads-back (c .dot .result) (c .dot .ok) ∙ c .dot .ensures ∙ ap (dot (x .before .args .p)) (x .cross .ensures)
 
 pub det-spec : {M : Type 1} → statement M
-det-spec = tie.close (tie.spec cross-requires dot-requires returns)
+det-spec = tie.close (tie.spec (λ c κs. search needs) dot-requires returns)

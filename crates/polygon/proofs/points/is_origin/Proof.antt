@@ -10,15 +10,6 @@ use Rattle.polygon.proofs.points.is_origin.Tie as tie
 abbrev first : tie.After-is-zero3 → tie.After-is-zero
 first c = c .before .before .before .before
 
-is-zero-requires : tie.Need-is-zero-requires
-is-zero-requires c κs = search needs
-
-is-zero-requires-2 : tie.Need-is-zero-requires-2
-is-zero-requires-2 c κs = search needs
-
-is-zero-requires-3 : tie.Need-is-zero-requires-3
-is-zero-requires-3 c κs = search needs
-
 returns : tie.Need-returns
 unfolding isOrigin
 returns c =
@@ -31,5 +22,4 @@ returns c =
     λ i. (x i && y i) && z i
 
 pub is-origin-spec : {M : Type 1} → statement M
-is-origin-spec =
-    tie.close (tie.spec is-zero-requires is-zero-requires-2 is-zero-requires-3 returns)
+is-origin-spec = tie.close (tie.spec (λ c κs. search needs) (λ c κs. search needs) (λ c κs. search needs) returns)

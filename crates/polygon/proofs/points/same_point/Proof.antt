@@ -5,15 +5,9 @@ use Rattle.paper.specs.Points.{isOrigin, minus, samePoint}
 use Rattle.polygon.proofs.points.same_point.Statement.{statement}
 use Rattle.polygon.proofs.points.same_point.Tie as tie
 
-minus-requires : tie.Need-minus-requires
-minus-requires c κs = search needs
-
-is-origin-requires : tie.Need-is-origin-requires
-is-origin-requires c κs = search needs
-
 returns : tie.Need-returns
 unfolding samePoint
 returns c = c .is-origin .ensures ∙ ap isOrigin (c .before .minus .ensures)
 
 pub same-point-spec : {M : Type 1} → statement M
-same-point-spec = tie.close (tie.spec minus-requires is-origin-requires returns)
+same-point-spec = tie.close (tie.spec (λ c κs. search needs) (λ c κs. search needs) returns)

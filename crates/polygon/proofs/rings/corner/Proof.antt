@@ -26,26 +26,8 @@ place c = subst (λ (n : ℕ). c .round .result < n) (c .before .count .ensures)
 
 -- ---- the needs
 
-count-requires : tie.Need-count-requires
-count-requires c κs = search needs
-
 round-requires : tie.Need-round-requires
 round-requires c κs = omega (arith, ring-length (start c .pre .row))
-
-mul-wide : tie.Need-mul-wide
-mul-wide c = search needs
-
-add-wide : tie.Need-add-wide
-add-wide c = search needs
-
-add-wide-2 : tie.Need-add-wide-2
-add-wide-2 c = search needs
-
-shared-slice-read-wide : tie.Need-shared-slice-read-wide
-shared-slice-read-wide c = search needs
-
-wide-requires : tie.Need-wide-requires
-wide-requires c κs = search needs
 
 point-at-requires : tie.Need-point-at-requires
 point-at-requires c κs =
@@ -70,13 +52,5 @@ returns c =
 pub corner-spec : {M : Type 1} → statement M
 corner-spec =
     tie.close
-    (tie.spec
-    count-requires
-    round-requires
-    mul-wide
-    add-wide
-    add-wide-2
-    shared-slice-read-wide
-    wide-requires
-    point-at-requires
-    returns)
+    (tie.spec (λ c κs. search needs) round-requires (λ c. search needs) (λ c. search needs) (λ c. search needs) (λ c. search needs)
+    (λ c κs. search needs) point-at-requires returns)

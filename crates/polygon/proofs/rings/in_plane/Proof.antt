@@ -63,9 +63,6 @@ here c e =
 
 -- ---- the needs
 
-count-requires : tie.Need-count-requires Inv-loop μ-loop
-count-requires c κs = omega arith
-
 corner-requires : tie.Need-corner-requires Inv-loop μ-loop
 corner-requires c κs = corner-in (c .before .before .pre .face .row) _ (omega arith)
 
@@ -85,21 +82,12 @@ plane-side-requires c κs =
       p-in = corner-near (s .row) _ (c .corner2 .ensures);
     }
 
-is-zero-requires : tie.Need-is-zero-requires Inv-loop μ-loop
-is-zero-requires c κs = omega arith
-
 returns : tie.Need-returns Inv-loop μ-loop
 unfolding onePlane
 returns c =
     let l = tested (c .before) in
     let off = here (c .before) (c .if1 .taken) in
     sym (ring-hit (all-search (Level (G l))) (H l) (l .loop .j) origin (omega arith) (l .loop .inv .2) off)
-
-add-j : tie.Need-add-j Inv-loop μ-loop
-add-j c = omega arith
-
-loop-less : tie.Need-loop-less Inv-loop μ-loop
-loop-less c = omega arith
 
 loop-again : tie.Need-loop-again Inv-loop μ-loop
 loop-again c =
@@ -117,17 +105,5 @@ returns-2 c =
 pub in-plane-spec : {M : Type 1} → statement M
 in-plane-spec =
     tie.close
-    (tie.spec
-    Inv-loop
-    μ-loop
-    count-requires
-    corner-requires
-    loop-holds
-    corner-requires-2
-    plane-side-requires
-    is-zero-requires
-    returns
-    add-j
-    loop-less
-    loop-again
-    returns-2)
+    (tie.spec Inv-loop μ-loop (λ c κs. omega arith) corner-requires loop-holds corner-requires-2 plane-side-requires (λ c κs. omega arith)
+    returns (λ c. omega arith) (λ c. omega arith) loop-again returns-2)

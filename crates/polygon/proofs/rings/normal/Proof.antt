@@ -33,9 +33,6 @@ R c = ring (now (c .args .xyz)) (now (c .args .table)) (c .args .r)
 
 -- ---- the needs
 
-count-requires : tie.Need-count-requires Inv-loop μ-loop
-count-requires c κs = omega arith
-
 corner-requires : tie.Need-corner-requires Inv-loop μ-loop
 corner-requires c κs = corner-in (c .before .before .pre) _ (omega arith)
 
@@ -43,9 +40,6 @@ loop-holds : tie.Need-loop-holds Inv-loop μ-loop
 loop-holds c =
     let s = c .before .before .before in
     (omega arith, c .before .count .ensures ∙ sym (ring-length (s .pre)), sym (normal-none (R s)), c .corner .ensures)
-
-add-corner : tie.Need-add-corner Inv-loop μ-loop
-add-corner c = omega arith
 
 corner-requires-2 : tie.Need-corner-requires-2 Inv-loop μ-loop
 corner-requires-2 c κs = corner-in (start (c .before) .pre) _ (omega arith)
@@ -69,12 +63,6 @@ plus-requires c κs =
       b-in = small-eq (c .cross .ensures) (small-up tt one);
     }
 
-add-j : tie.Need-add-j Inv-loop μ-loop
-add-j c = omega arith
-
-loop-less : tie.Need-loop-less Inv-loop μ-loop
-loop-less c = omega arith
-
 loop-again : tie.Need-loop-again Inv-loop μ-loop
 loop-again c =
     let x = c .before in
@@ -91,17 +79,5 @@ returns c = let l = c .before in l .loop .inv .2 ∙ normal-all (R (start l)) (l
 pub normal-spec : {M : Type 1} → statement M
 normal-spec =
     tie.close
-    (tie.spec
-    Inv-loop
-    μ-loop
-    count-requires
-    corner-requires
-    loop-holds
-    add-corner
-    corner-requires-2
-    cross-requires
-    plus-requires
-    add-j
-    loop-less
-    loop-again
-    returns)
+    (tie.spec Inv-loop μ-loop (λ c κs. omega arith) corner-requires loop-holds (λ c. omega arith) corner-requires-2 cross-requires
+    plus-requires (λ c. omega arith) (λ c. omega arith) loop-again returns)

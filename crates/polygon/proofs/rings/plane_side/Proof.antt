@@ -7,9 +7,6 @@ use Rattle.polygon.proofs.Zeros.{reads-back}
 use Rattle.polygon.proofs.rings.plane_side.Statement.{statement}
 use Rattle.polygon.proofs.rings.plane_side.Tie as tie
 
-minus-requires : tie.Need-minus-requires
-minus-requires c κs = search needs
-
 dot-requires : tie.Need-dot-requires
 dot-requires c κs =
     let s = c .before .pre in
@@ -21,4 +18,4 @@ returns c =
     reads-back (c .dot .result) (c .dot .ok) ∙ c .dot .ensures ∙ ap (dot (d .before .args .m)) (d .minus .ensures)
 
 pub plane-side-spec : {M : Type 1} → statement M
-plane-side-spec = tie.close (tie.spec minus-requires dot-requires returns)
+plane-side-spec = tie.close (tie.spec (λ c κs. search needs) dot-requires returns)

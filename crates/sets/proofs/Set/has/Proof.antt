@@ -4,11 +4,8 @@ use Rattle.sets.proofs.Sets.{has-is}
 use Rattle.sets.proofs.Set.has.Statement.{statement}
 use Rattle.sets.proofs.Set.has.Tie as tie
 
-shr-result : tie.Need-shr-result
-shr-result c = search needs
-
 returns : tie.Need-returns
 returns c = has-is (c .before .args .k)
 
 pub has-spec : {M : Type 1} → statement M
-has-spec = tie.close (tie.spec shr-result returns)
+has-spec = tie.close (tie.spec (λ c. search needs) returns)

@@ -6,11 +6,8 @@ use Rattle.sets.proofs.Sets.{just-is}
 use Rattle.sets.proofs.Set.just.Statement.{statement}
 use Rattle.sets.proofs.Set.just.Tie as tie
 
-shl-t3 : tie.Need-shl-t3
-shl-t3 c = search needs
-
 returns : tie.Need-returns
 returns c = just-is (c .args .k) (c .pre) _ (one-shl room (c .args .k) (c .pre))
 
 pub just-spec : {M : Type 1} → statement M
-just-spec = tie.close (tie.spec shl-t3 returns)
+just-spec = tie.close (tie.spec (λ c. search needs) returns)

@@ -10,9 +10,6 @@ use Rattle.sets.proofs.Sets.{full-is}
 use Rattle.sets.proofs.Set.lowest_of.Statement.{statement}
 use Rattle.sets.proofs.Set.lowest_of.Tie as tie
 
-shl-t4 : tie.Need-shl-t4
-shl-t4 c = search needs
-
 sub-t5 : tie.Need-sub-t5
 sub-t5 c = omega (arith, one-shl room (c .before .args .n) (c .if1 .taken), pow-pos (c .before .args .n))
 
@@ -25,4 +22,4 @@ returns-2 c =
     full-is (c .before .args .n) (c .before .pre) _ (ap (λ (x : ℕ). 2 ^ x - 1) e)
 
 pub lowest-of-spec : {M : Type 1} → statement M
-lowest-of-spec = tie.close (tie.spec shl-t4 sub-t5 returns returns-2)
+lowest-of-spec = tie.close (tie.spec (λ c. search needs) sub-t5 returns returns-2)

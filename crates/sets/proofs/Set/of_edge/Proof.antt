@@ -5,14 +5,8 @@ use Rattle.sets.proofs.Sets.{edge-set}
 use Rattle.sets.proofs.Set.of_edge.Statement.{statement}
 use Rattle.sets.proofs.Set.of_edge.Tie as tie
 
-mul-t3 : tie.Need-mul-t3
-mul-t3 c = search needs
-
-shared-slice-read-t5 : tie.Need-shared-slice-read-t5
-shared-slice-read-t5 c = search needs
-
 returns : tie.Need-returns
 returns c = edge-set _ (c .before .args .e) (omega (arith, c .shared-slice-known .given (c .before .args .e)))
 
 pub of-edge-spec : {M : Type 1} → statement M
-of-edge-spec = tie.close (tie.spec mul-t3 shared-slice-read-t5 returns)
+of-edge-spec = tie.close (tie.spec (λ c. search needs) (λ c. search needs) returns)

@@ -6,11 +6,8 @@ use Rattle.sets.proofs.Sets.{with-is}
 use Rattle.sets.proofs.Set.with.Statement.{statement}
 use Rattle.sets.proofs.Set.with.Tie as tie
 
-shl-t4 : tie.Need-shl-t4
-shl-t4 c = search needs
-
 returns : tie.Need-returns
 returns c = with-is (c .before .args .k) (c .before .pre) _ (one-shl room (c .before .args .k) (c .before .pre))
 
 pub with-spec : {M : Type 1} → statement M
-with-spec = tie.close (tie.spec shl-t4 returns)
+with-spec = tie.close (tie.spec (λ c. search needs) returns)

@@ -7,11 +7,8 @@ use Rattle.sets.proofs.Sets.{without-is}
 use Rattle.sets.proofs.Set.without.Statement.{statement}
 use Rattle.sets.proofs.Set.without.Tie as tie
 
-shl-t4 : tie.Need-shl-t4
-shl-t4 c = search needs
-
 returns : tie.Need-returns
 returns c = without-is (c .before .args .k) (c .before .pre) _ (one-shl room (c .before .args .k) (c .before .pre)) (omega arith)
 
 pub without-spec : {M : Type 1} → statement M
-without-spec = tie.close (tie.spec shl-t4 returns)
+without-spec = tie.close (tie.spec (λ c. search needs) returns)

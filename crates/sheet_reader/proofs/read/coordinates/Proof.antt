@@ -55,31 +55,10 @@ more s i k h z e =
 loop-holds : tie.Need-loop-holds Inv-loop μ-loop
 loop-holds c = (omega arith, padded-none _ (pos 0) ∙ none (c .before .args .s .now) (c .before .args .i))
 
-mul-field : tie.Need-mul-field Inv-loop μ-loop
-mul-field c = omega arith
-
-add-field : tie.Need-add-field Inv-loop μ-loop
-add-field c = omega arith
-
-field-requires : tie.Need-field-requires Inv-loop μ-loop
-field-requires c κs = omega arith
-
 to-coordinate-requires : tie.Need-to-coordinate-requires Inv-loop μ-loop
 to-coordinate-requires c κs =
     let a = start (turn c) .args in
     rw (c .field .ensures) (field-lt (a .s .now) (a .i + coordinateBits * turn c .loop .k) coordinateBits)
-
-mul-xyz : tie.Need-mul-xyz Inv-loop μ-loop
-mul-xyz c = omega arith
-
-array-set-from-xyz : tie.Need-array-set-from-xyz Inv-loop μ-loop
-array-set-from-xyz c = omega arith
-
-add-k : tie.Need-add-k Inv-loop μ-loop
-add-k c = omega arith
-
-loop-less : tie.Need-loop-less Inv-loop μ-loop
-loop-less c = omega arith
 
 loop-again : tie.Need-loop-again Inv-loop μ-loop
 loop-again c =
@@ -100,17 +79,5 @@ returns c =
 pub coordinates-spec : {M : Type 1} → statement M
 coordinates-spec =
     tie.close
-    (tie.spec
-    Inv-loop
-    μ-loop
-    loop-holds
-    mul-field
-    add-field
-    field-requires
-    to-coordinate-requires
-    mul-xyz
-    array-set-from-xyz
-    add-k
-    loop-less
-    loop-again
-    returns)
+    (tie.spec Inv-loop μ-loop loop-holds (λ c. omega arith) (λ c. omega arith) (λ c κs. omega arith) to-coordinate-requires
+    (λ c. omega arith) (λ c. omega arith) (λ c. omega arith) (λ c. omega arith) loop-again returns)

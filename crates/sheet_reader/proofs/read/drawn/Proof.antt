@@ -34,17 +34,8 @@ known c =
 
 -- ---- the needs
 
-add-first : tie.Need-add-first
-add-first c = search needs
-
-add-first-2 : tie.Need-add-first-2
-add-first-2 c = search needs
-
 field-requires : tie.Need-field-requires
 field-requires c κs = omega (arith, shape-is (start c), start c .pre .fits)
-
-add-field : tie.Need-add-field
-add-field c = search needs
 
 field-requires-2 : tie.Need-field-requires-2
 field-requires-2 c κs =
@@ -83,17 +74,5 @@ returns c =
 pub drawn-spec : {M : Type 1} → statement M
 drawn-spec =
     tie.close
-    (tie.spec
-    add-first
-    add-first-2
-    field-requires
-    add-field
-    field-requires-2
-    mul-coordinates
-    coordinates-requires
-    mul-numbers
-    add-numbers
-    mul-numbers-2
-    numbers-requires
-    kept-requires
-    returns)
+    (tie.spec (λ c. search needs) (λ c. search needs) field-requires (λ c. search needs) field-requires-2 mul-coordinates
+    coordinates-requires mul-numbers add-numbers mul-numbers-2 numbers-requires kept-requires returns)

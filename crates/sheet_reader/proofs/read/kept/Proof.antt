@@ -21,35 +21,11 @@ answered c e =
     let s = start c .args in
     ap (λ (a : Answer). keptFor a (s .v) (s .e) (s .t3) (s .t4)) (e ∙ c .content .ensures)
 
-mul-m : tie.Need-mul-m
-mul-m c = search needs
-
-mul-n : tie.Need-mul-n
-mul-n c = search needs
-
-array-share-prefix-xyz : tie.Need-array-share-prefix-xyz
-array-share-prefix-xyz c = search needs
-
 slice-aggregate-content : tie.Need-slice-aggregate-content
 slice-aggregate-content c = sym (length-take-le _ _ (omega arith))
 
-array-share-prefix-ends : tie.Need-array-share-prefix-ends
-array-share-prefix-ends c = search needs
-
 slice-aggregate-content-2 : tie.Need-slice-aggregate-content-2
 slice-aggregate-content-2 c = sym (length-take-le _ _ (omega arith))
-
-content-requires : tie.Need-content-requires
-content-requires c κs = search needs
-
-enum-known-r : tie.Need-enum-known-r
-enum-known-r c = search needs
-
-no-drawing-requires : tie.Need-no-drawing-requires
-no-drawing-requires c κs = search needs
-
-enum-told : tie.Need-enum-told
-enum-told c = search needs
 
 returns : tie.Need-returns
 returns c =
@@ -63,16 +39,5 @@ returns-2 c = answered (c .before .before) (sym (c .enum-told .given .1))
 pub kept-spec : {M : Type 1} → statement M
 kept-spec =
     tie.close
-    (tie.spec
-    mul-m
-    mul-n
-    array-share-prefix-xyz
-    slice-aggregate-content
-    array-share-prefix-ends
-    slice-aggregate-content-2
-    content-requires
-    enum-known-r
-    no-drawing-requires
-    enum-told
-    returns
-    returns-2)
+    (tie.spec (λ c. search needs) (λ c. search needs) (λ c. search needs) slice-aggregate-content (λ c. search needs)
+    slice-aggregate-content-2 (λ c κs. search needs) (λ c. search needs) (λ c κs. search needs) (λ c. search needs) returns returns-2)

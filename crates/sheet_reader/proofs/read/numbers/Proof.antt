@@ -59,18 +59,6 @@ add-field c = omega (arith, slot-within c)
 field-requires : tie.Need-field-requires Inv-loop μ-loop
 field-requires c κs = omega (arith, slot-within c)
 
-cast-ends : tie.Need-cast-ends Inv-loop μ-loop
-cast-ends c = omega arith
-
-array-write-ends : tie.Need-array-write-ends Inv-loop μ-loop
-array-write-ends c = omega arith
-
-add-k : tie.Need-add-k Inv-loop μ-loop
-add-k c = omega arith
-
-loop-less : tie.Need-loop-less Inv-loop μ-loop
-loop-less c = omega arith
-
 loop-again : tie.Need-loop-again Inv-loop μ-loop
 loop-again c =
     let l = turn c .loop in
@@ -89,16 +77,5 @@ returns c =
 pub numbers-spec : {M : Type 1} → statement M
 numbers-spec =
     tie.close
-    (tie.spec
-    Inv-loop
-    μ-loop
-    loop-holds
-    mul-field
-    add-field
-    field-requires
-    cast-ends
-    array-write-ends
-    add-k
-    loop-less
-    loop-again
-    returns)
+    (tie.spec Inv-loop μ-loop loop-holds mul-field add-field field-requires (λ c. omega arith) (λ c. omega arith) (λ c. omega arith)
+    (λ c. omega arith) loop-again returns)

@@ -7,18 +7,6 @@ use borrow.Author.Needs.{needs}
 use Rattle.sheet_reader.proofs.read.read.Statement.{statement}
 use Rattle.sheet_reader.proofs.read.read.Tie as tie
 
-shape-requires : tie.Need-shape-requires
-shape-requires c κs = search needs
-
-enum-known-r : tie.Need-enum-known-r
-enum-known-r c = search needs
-
-no-drawing-requires : tie.Need-no-drawing-requires
-no-drawing-requires c κs = search needs
-
-enum-told : tie.Need-enum-told
-enum-told c = search needs
-
 drawn-requires : tie.Need-drawn-requires
 drawn-requires c κs =
     let s = c .before .before in
@@ -30,17 +18,8 @@ returns c =
     ap (λ (d : Drawing). record { answer = Answer.Refused (r .r .given .0 .0); drawing = d }) (c .no-drawing .ensures)
     ∙ sheet-misshapen _ _ (sym (r .r .given .1) ∙ r .before .before .shape .ensures)
 
-returns-2 : tie.Need-returns-2
-returns-2 c = search needs
-
 pub read-spec : {M : Type 1} → statement M
 read-spec =
     tie.close
-    (tie.spec
-    shape-requires
-    enum-known-r
-    no-drawing-requires
-    enum-told
-    drawn-requires
-    returns
-    returns-2)
+    (tie.spec (λ c κs. search needs) (λ c. search needs) (λ c κs. search needs) (λ c. search needs) drawn-requires returns
+    (λ c. search needs))

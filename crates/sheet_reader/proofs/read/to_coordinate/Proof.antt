@@ -14,9 +14,6 @@ use Rattle.sheet_reader.proofs.read.to_coordinate.Tie as tie
 fits : (n : ℕ) → n < 2 ^ coordinateBits → SFits w64 (coordinate n)
 fits n h = record { sfits = lt-of-lt-of-le (coordinate-mag n (2 ^ coordinateBits) h (omega arith)) (omega arith) }
 
-cast-result : tie.Need-cast-result
-cast-result c = search needs
-
 sub-result : tie.Need-sub-result
 sub-result c = rw (toZ-pos w64 (c .args .f) (omega arith)) (fits (c .args .f) (omega arith))
 
@@ -26,4 +23,4 @@ returns c =
     rw (toZ-pos w64 n (omega arith)) (toZ-ofZ w64 (coordinate n) (fits n (omega arith)))
 
 pub to-coordinate-spec : {M : Type 1} → statement M
-to-coordinate-spec = tie.close (tie.spec cast-result sub-result returns)
+to-coordinate-spec = tie.close (tie.spec (λ c. search needs) sub-result returns)

@@ -54,29 +54,8 @@ loop-holds c =
     let r = run 8 (a .room .now) in
     (omega arith, overwrite-none r (a .i) ∙ ap (overwrite r (a .i)) (sym (run-none coordinateBits)), refl)
 
-mul-put : tie.Need-mul-put Inv-loop μ-loop
-mul-put c = omega arith
-
-add-put : tie.Need-add-put Inv-loop μ-loop
-add-put c = omega arith
-
-mul-to-field : tie.Need-mul-to-field Inv-loop μ-loop
-mul-to-field c = omega arith
-
-shared-slice-copy-out-to-field : tie.Need-shared-slice-copy-out-to-field Inv-loop μ-loop
-shared-slice-copy-out-to-field c = omega arith
-
 to-field-requires : tie.Need-to-field-requires Inv-loop μ-loop
 to-field-requires c κs = rw (same c) (start (turn c) .pre .near (turn c .loop .k))
-
-put-requires : tie.Need-put-requires Inv-loop μ-loop
-put-requires c κs = omega arith
-
-add-k : tie.Need-add-k Inv-loop μ-loop
-add-k c = omega arith
-
-loop-less : tie.Need-loop-less Inv-loop μ-loop
-loop-less c = omega arith
 
 loop-again : tie.Need-loop-again Inv-loop μ-loop
 loop-again c =
@@ -112,18 +91,5 @@ returns c =
 pub put-coordinates-spec : {M : Type 1} → statement M
 put-coordinates-spec =
     tie.close
-    (tie.spec
-    Inv-loop
-    μ-loop
-    loop-holds
-    mul-put
-    add-put
-    mul-to-field
-    shared-slice-copy-out-to-field
-    to-field-requires
-    put-requires
-    add-k
-    loop-less
-    loop-again
-    same-length
-    returns)
+    (tie.spec Inv-loop μ-loop loop-holds (λ c. omega arith) (λ c. omega arith) (λ c. omega arith) (λ c. omega arith) to-field-requires
+    (λ c κs. omega arith) (λ c. omega arith) (λ c. omega arith) loop-again same-length returns)

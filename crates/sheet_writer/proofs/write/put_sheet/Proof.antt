@@ -34,12 +34,6 @@ known c = ready (c .pre)
 
 -- ---- the needs
 
-add-first : tie.Need-add-first
-add-first c = search needs
-
-add-first-2 : tie.Need-add-first-2
-add-first-2 c = search needs
-
 total-bits-requires : tie.Need-total-bits-requires
 total-bits-requires c κs = known (start c) .counts
 
@@ -53,12 +47,6 @@ put-coordinates-requires c κs =
     let h = c .before .before .before in
     let g = known (start (counted h .before)) in
     record { near = g .in-range; fields = omega (arith, g, h .put-head .kept .1 .0) }
-
-mul-put-numbers : tie.Need-mul-put-numbers
-mul-put-numbers c = search needs
-
-add-put-numbers : tie.Need-add-put-numbers
-add-put-numbers c = search needs
 
 put-numbers-requires : tie.Need-put-numbers-requires
 put-numbers-requires c κs =
@@ -76,9 +64,6 @@ put-fill-requires c κs =
     let s = start (b .before) in
     let lengths = n .put-numbers .kept .1 .0 ∙ p .put-coordinates .kept .1 .0 ∙ h .put-head .kept .1 .0 in
     omega (arith, known s, s .pre .long, b .total-bits .ensures, lengths)
-
-same-length : tie.Need-same-length
-same-length c = search needs
 
 returns : tie.Need-returns
 returns c =
@@ -102,15 +87,5 @@ returns c =
 pub put-sheet-spec : {M : Type 1} → statement M
 put-sheet-spec =
     tie.close
-    (tie.spec
-    add-first
-    add-first-2
-    total-bits-requires
-    put-head-requires
-    put-coordinates-requires
-    mul-put-numbers
-    add-put-numbers
-    put-numbers-requires
-    put-fill-requires
-    same-length
-    returns)
+    (tie.spec (λ c. search needs) (λ c. search needs) total-bits-requires put-head-requires put-coordinates-requires (λ c. search needs)
+    (λ c. search needs) put-numbers-requires put-fill-requires (λ c. search needs) returns)

@@ -46,15 +46,6 @@ long c = rw (c .before .total-bits .ensures) at (c .if1 .left)
 
 -- ---- the needs
 
-lent-requires : tie.Need-lent-requires
-lent-requires c κs = search needs
-
-enum-known-r : tie.Need-enum-known-r
-enum-known-r c = search needs
-
-enum-told : tie.Need-enum-told
-enum-told c = search needs
-
 total-bits-requires : tie.Need-total-bits-requires
 total-bits-requires c κs = counts c
 
@@ -85,9 +76,6 @@ returns-2 c =
     let a = l .before .before .before .args in
     result-refused (a .f) (a .xyz .now) (a .ends .now) (a .room .now) (sym (c .before .r .given .1) ∙ l .lent .ensures)
 
-same-length : tie.Need-same-length
-same-length c = search needs
-
 returns-3 : tie.Need-returns-3
 returns-3 c =
     let t = tested c in
@@ -99,14 +87,5 @@ returns-3 c =
 pub write-spec : {M : Type 1} → statement M
 write-spec =
     tie.close
-    (tie.spec
-    lent-requires
-    enum-known-r
-    enum-told
-    total-bits-requires
-    add-size
-    returns
-    put-sheet-requires
-    returns-2
-    same-length
-    returns-3)
+    (tie.spec (λ c κs. search needs) (λ c. search needs) (λ c. search needs) total-bits-requires add-size returns put-sheet-requires
+    returns-2 (λ c. search needs) returns-3)

@@ -67,21 +67,12 @@ selected c cs held = said (c .before .before) (N.Are (c .found2 .given .0 .0)) (
 
 -- ---- the needs
 
-read-faces-requires : tie.Need-read-faces-requires
-read-faces-requires c κs = search needs
-
-enum-known-shape : tie.Need-enum-known-shape
-enum-known-shape c = search needs
-
 returns : tie.Need-returns
 returns c =
     let l = c .before .before .before in
     let a = start l .args in
     λ cs t held lent. refused-so (shape-stops (a .v) (now (a .list)) (read-is l) (faceChecks t (length cs) (listed cs (facesIn editionOne (now (a .list)))))
     (sym (c .before .shape .given .1)))
-
-enum-told : tie.Need-enum-told
-enum-told c = search needs
 
 named-requires : tie.Need-named-requires
 named-requires c κs =
@@ -97,12 +88,6 @@ named-requires c κs =
       rows-long = p .rows-long;
       numbers-long = refl;
     }
-
-enum-known-found : tie.Need-enum-known-found
-enum-known-found c = search needs
-
-enum-known-found-2 : tie.Need-enum-known-found-2
-enum-known-found-2 c = search needs
 
 tested-requires : tie.Need-tested-requires
 tested-requires c κs =
@@ -125,9 +110,6 @@ tested-requires c κs =
         narrow = numbers-narrow (p .loops) (facesIn editionOne (now (a .list))) h (fs .count) (omega (arith, p .held .count, p .few));
       };
     }
-
-verdict-for-requires : tie.Need-verdict-for-requires
-verdict-for-requires c κs = search needs
 
 returns-2 : tie.Need-returns-2
 returns-2 c =
@@ -158,15 +140,5 @@ returns-3 c =
 pub faces-checked-spec : {M : Type 1} → statement M
 faces-checked-spec =
     tie.close
-    (tie.spec
-    read-faces-requires
-    enum-known-shape
-    returns
-    enum-told
-    named-requires
-    enum-known-found
-    enum-known-found-2
-    tested-requires
-    verdict-for-requires
-    returns-2
-    returns-3)
+    (tie.spec (λ c κs. search needs) (λ c. search needs) returns (λ c. search needs) named-requires (λ c. search needs) (λ c. search needs)
+    tested-requires (λ c κs. search needs) returns-2 returns-3)

@@ -38,12 +38,6 @@ returns-2 c =
     let p = start (t .before .before) .pre in
     c .from-place2 .ensures ∙ corner-first _ (p .way .lowest-is) _ (sym (p .way .onward-is) ∙ t .before .if1 .left) (t .if2 .taken)
 
-count-requires : tie.Need-count-requires
-count-requires c κs = search needs
-
-sub-from-place : tie.Need-sub-from-place
-sub-from-place c = search needs
-
 from-place-requires-3 : tie.Need-from-place-requires-3
 from-place-requires-3 c κs =
     let p = start (back c .before) .pre in
@@ -65,12 +59,5 @@ returns-3 c =
 pub corner-spec : {M : Type 1} → statement M
 corner-spec =
     tie.close
-    (tie.spec
-    from-place-requires
-    returns
-    from-place-requires-2
-    returns-2
-    count-requires
-    sub-from-place
-    from-place-requires-3
+    (tie.spec from-place-requires returns from-place-requires-2 returns-2 (λ c κs. search needs) (λ c. search needs) from-place-requires-3
     returns-3)

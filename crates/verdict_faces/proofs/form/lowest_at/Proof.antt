@@ -54,12 +54,6 @@ add-if1-2 c = let n = counted c in omega (arith, start n .pre .room, start n .pr
 shared-slice-read-if1-2 : tie.Need-shared-slice-read-if1-2 Inv-loop μ-loop
 shared-slice-read-if1-2 c = let n = counted (c .before) in omega (arith, start n .pre .room, start n .pre .most, n .count .ensures)
 
-add-k : tie.Need-add-k Inv-loop μ-loop
-add-k c = omega arith
-
-loop-less : tie.Need-loop-less Inv-loop μ-loop
-loop-less c = omega arith
-
 loop-again : tie.Need-loop-again Inv-loop μ-loop
 loop-again c =
     let t = turn (c .before) in
@@ -83,18 +77,5 @@ returns c =
 pub lowest-at-spec : {M : Type 1} → statement M
 lowest-at-spec =
     tie.close
-    (tie.spec
-    Inv-loop
-    μ-loop
-    count-requires
-    mul-first
-    add-first
-    loop-holds
-    add-if1
-    shared-slice-read-if1
-    add-if1-2
-    shared-slice-read-if1-2
-    add-k
-    loop-less
-    loop-again
-    returns)
+    (tie.spec Inv-loop μ-loop count-requires mul-first add-first loop-holds add-if1 shared-slice-read-if1 add-if1-2 shared-slice-read-if1-2
+    (λ c. omega arith) (λ c. omega arith) loop-again returns)

@@ -9,19 +9,10 @@ use Rattle.verdict_faces.proofs.form.way_of.Tie as tie
 abbrev start : tie.After-lowest-at → tie.Start
 start c = c .before .before .before
 
-count-requires : tie.Need-count-requires
-count-requires c κs = search needs
-
-lowest-at-requires : tie.Need-lowest-at-requires
-lowest-at-requires c κs = search needs
-
 from-place-requires : tie.Need-from-place-requires
 from-place-requires c κs =
     let f = start c .pre in
     record { face = f; start = lowest-in f (c .lowest-at .ensures); below = omega (arith, f .least) }
-
-sub-from-place : tie.Need-sub-from-place
-sub-from-place c = search needs
 
 from-place-requires-2 : tie.Need-from-place-requires-2
 from-place-requires-2 c κs =
@@ -43,10 +34,4 @@ returns c =
 pub way-of-spec : {M : Type 1} → statement M
 way-of-spec =
     tie.close
-    (tie.spec
-    count-requires
-    lowest-at-requires
-    from-place-requires
-    sub-from-place
-    from-place-requires-2
-    returns)
+    (tie.spec (λ c κs. search needs) (λ c κs. search needs) from-place-requires (λ c. search needs) from-place-requires-2 returns)

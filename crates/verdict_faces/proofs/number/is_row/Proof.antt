@@ -83,12 +83,6 @@ returns-2 c =
     row-differs (start n .pre) (n .count .ensures) (one-count t) (t .loop .i) (omega arith)
     (t .loop .inv .1) (c .before .before .corner .ensures) (c .if2 .taken)
 
-add-i : tie.Need-add-i Inv-loop μ-loop
-add-i c = omega arith
-
-loop-less : tie.Need-loop-less Inv-loop μ-loop
-loop-less c = omega arith
-
 loop-again : tie.Need-loop-again Inv-loop μ-loop
 loop-again c =
     let t = turn (c .before) in
@@ -108,20 +102,5 @@ returns-3 c =
 pub is-row-spec : {M : Type 1} → statement M
 is-row-spec =
     tie.close
-    (tie.spec
-    Inv-loop
-    μ-loop
-    count-requires
-    count-requires-2
-    returns
-    mul-first
-    add-first
-    loop-holds
-    corner-requires
-    add-if2
-    shared-slice-read-if2
-    returns-2
-    add-i
-    loop-less
-    loop-again
-    returns-3)
+    (tie.spec Inv-loop μ-loop count-requires count-requires-2 returns mul-first add-first loop-holds corner-requires add-if2
+    shared-slice-read-if2 returns-2 (λ c. omega arith) (λ c. omega arith) loop-again returns-3)

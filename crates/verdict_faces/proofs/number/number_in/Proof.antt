@@ -34,12 +34,6 @@ returns c =
     let t = turn (c .before) .loop in
     first-hit _ _ _ _ (t .k) (t .inv .1) (omega arith) (c .before .is-row .ensures) (c .if1 .taken)
 
-add-k : tie.Need-add-k Inv-loop μ-loop
-add-k c = omega arith
-
-loop-less : tie.Need-loop-less Inv-loop μ-loop
-loop-less c = omega arith
-
 loop-again : tie.Need-loop-again Inv-loop μ-loop
 loop-again c =
     let t = turn (c .before) .loop in
@@ -49,4 +43,6 @@ returns-2 : tie.Need-returns-2 Inv-loop μ-loop
 returns-2 c = let t = c .before .loop in first-end _ _ _ _ (t .k) (t .inv .1) (omega arith)
 
 pub number-in-spec : {M : Type 1} → statement M
-number-in-spec = tie.close (tie.spec Inv-loop μ-loop loop-holds is-row-requires returns add-k loop-less loop-again returns-2)
+number-in-spec =
+    tie.close
+    (tie.spec Inv-loop μ-loop loop-holds is-row-requires returns (λ c. omega arith) (λ c. omega arith) loop-again returns-2)

@@ -45,18 +45,6 @@ here o q =
 loop-holds : tie.Need-loop-holds Inv-loop μ-loop
 loop-holds c = (omega arith, asking-start (Meant c) notOnce (c .args .m))
 
-of-edge-requires : tie.Need-of-edge-requires Inv-loop μ-loop
-of-edge-requires c κs = omega arith
-
-of-edge-requires-2 : tie.Need-of-edge-requires-2 Inv-loop μ-loop
-of-edge-requires-2 c κs = omega arith
-
-once-each-way-requires : tie.Need-once-each-way-requires Inv-loop μ-loop
-once-each-way-requires c κs = search needs
-
-refused-requires : tie.Need-refused-requires Inv-loop μ-loop
-refused-requires c κs = search needs
-
 returns : tie.Need-returns Inv-loop μ-loop
 returns c =
     let o = c .before .before in
@@ -65,12 +53,6 @@ returns c =
     λ d l w.
     c .refused .ensures ∙ asking-hit (Meant s) notOnce (s .args .m) Direction direction (finds s) (t .loop .e) (omega arith)
     (t .loop .inv .1) (here o (c .before .if1 .taken)) d l w
-
-add-e : tie.Need-add-e Inv-loop μ-loop
-add-e c = omega arith
-
-loop-less : tie.Need-loop-less Inv-loop μ-loop
-loop-less c = omega arith
 
 loop-again : tie.Need-loop-again Inv-loop μ-loop
 loop-again c =
@@ -88,16 +70,5 @@ returns-2 c =
 pub direction-spec : {M : Type 1} → statement M
 direction-spec =
     tie.close
-    (tie.spec
-    Inv-loop
-    μ-loop
-    loop-holds
-    of-edge-requires
-    of-edge-requires-2
-    once-each-way-requires
-    refused-requires
-    returns
-    add-e
-    loop-less
-    loop-again
-    returns-2)
+    (tie.spec Inv-loop μ-loop loop-holds (λ c κs. omega arith) (λ c κs. omega arith) (λ c κs. search needs) (λ c κs. search needs) returns
+    (λ c. omega arith) (λ c. omega arith) loop-again returns-2)

@@ -47,18 +47,6 @@ here k b q =
 loop-holds : tie.Need-loop-holds Inv-loop μ-loop
 loop-holds c = (omega arith, asking-start (Meant c) notTwo (c .args .m))
 
-of-edge-requires : tie.Need-of-edge-requires Inv-loop μ-loop
-of-edge-requires c κs = omega arith
-
-and-requires : tie.Need-and-requires Inv-loop μ-loop
-and-requires c κs = search needs
-
-count-requires : tie.Need-count-requires Inv-loop μ-loop
-count-requires c κs = search needs
-
-refused-requires : tie.Need-refused-requires Inv-loop μ-loop
-refused-requires c κs = search needs
-
 returns : tie.Need-returns Inv-loop μ-loop
 returns c =
     let k = c .before .before in
@@ -67,12 +55,6 @@ returns c =
     λ d l w.
     c .refused .ensures ∙ asking-hit (Meant s) notTwo (s .args .m) EdgeCount edgeCount (finds s) (t .loop .e) (omega arith)
     (t .loop .inv .1) (here k false (ne-eqb (k .count .result) 2 (λ z. omega (arith, z)))) d l w
-
-add-e : tie.Need-add-e Inv-loop μ-loop
-add-e c = omega arith
-
-loop-less : tie.Need-loop-less Inv-loop μ-loop
-loop-less c = omega arith
 
 loop-again : tie.Need-loop-again Inv-loop μ-loop
 loop-again c =
@@ -93,16 +75,5 @@ returns-2 c =
 pub edge-count-spec : {M : Type 1} → statement M
 edge-count-spec =
     tie.close
-    (tie.spec
-    Inv-loop
-    μ-loop
-    loop-holds
-    of-edge-requires
-    and-requires
-    count-requires
-    refused-requires
-    returns
-    add-e
-    loop-less
-    loop-again
-    returns-2)
+    (tie.spec Inv-loop μ-loop loop-holds (λ c κs. omega arith) (λ c κs. search needs) (λ c κs. search needs) (λ c κs. search needs) returns
+    (λ c. omega arith) (λ c. omega arith) loop-again returns-2)

@@ -62,20 +62,11 @@ from-first-requires c κs = c .pre .narrow 0 (c .pre .some)
 loop-holds : tie.Need-loop-holds Inv-loop μ-loop
 loop-holds c = (omega arith, asking-start (Meant (c .before)) unjoined (c .before .before .args .count))
 
-element-copy-out-wide : tie.Need-element-copy-out-wide Inv-loop μ-loop
-element-copy-out-wide c = omega arith
-
-wide-requires : tie.Need-wide-requires Inv-loop μ-loop
-wide-requires c κs = search needs
-
 has-requires : tie.Need-has-requires Inv-loop μ-loop
 has-requires c κs =
     let t = c .before .before .before in
     let h = round t .before .pre .narrow (t .loop .i) (omega arith) in
     omega (arith, h, c .wide .ensures)
-
-refused-requires : tie.Need-refused-requires Inv-loop μ-loop
-refused-requires c κs = search needs
 
 returns : tie.Need-returns Inv-loop μ-loop
 returns c =
@@ -85,12 +76,6 @@ returns c =
     λ d l w.
     c .refused .ensures ∙ asking-hit (Meant r) unjoined (r .before .args .count) Pieces pieces (finds r) (t .loop .i) (omega arith)
     (t .loop .inv .1) (here o (c .before .if1 .taken)) d l (meant r d l w)
-
-add-i : tie.Need-add-i Inv-loop μ-loop
-add-i c = omega arith
-
-loop-less : tie.Need-loop-less Inv-loop μ-loop
-loop-less c = omega arith
 
 loop-again : tie.Need-loop-again Inv-loop μ-loop
 loop-again c =
@@ -112,17 +97,5 @@ returns-2 c =
 pub pieces-spec : {M : Type 1} → statement M
 pieces-spec =
     tie.close
-    (tie.spec
-    Inv-loop
-    μ-loop
-    from-first-requires
-    loop-holds
-    element-copy-out-wide
-    wide-requires
-    has-requires
-    refused-requires
-    returns
-    add-i
-    loop-less
-    loop-again
-    returns-2)
+    (tie.spec Inv-loop μ-loop from-first-requires loop-holds (λ c. omega arith) (λ c κs. search needs) has-requires (λ c κs. search needs)
+    returns (λ c. omega arith) (λ c. omega arith) loop-again returns-2)

@@ -14,14 +14,8 @@ opening c = c .before
 
 -- ---- the needs
 
-first-open-requires : tie.Need-first-open-requires
-first-open-requires c κs = search needs
-
 lowest-requires : tie.Need-lowest-requires
 lowest-requires c κs = c .first-open .ensures .some (c .before .pre .some)
-
-of-edge-requires : tie.Need-of-edge-requires
-of-edge-requires c κs = search needs
 
 with-taken-requires : tie.Need-with-taken-requires
 with-taken-requires c κs =
@@ -46,10 +40,4 @@ returns c =
 pub branches-spec : {M : Type 1} → statement M
 branches-spec =
     tie.close
-    (tie.spec
-    first-open-requires
-    lowest-requires
-    of-edge-requires
-    with-taken-requires
-    with-rejected-requires
-    returns)
+    (tie.spec (λ c κs. search needs) lowest-requires (λ c κs. search needs) with-taken-requires with-rejected-requires returns)

@@ -26,15 +26,6 @@ said j v e = let s = j .before in subst (Judges (lent s) (s .args .m) (s .args .
 
 -- ---- the needs
 
-judge-requires : tie.Need-judge-requires
-judge-requires c κs = search needs
-
-enum-known-verdict : tie.Need-enum-known-verdict
-enum-known-verdict c = search needs
-
-enum-told : tie.Need-enum-told
-enum-told c = search needs
-
 returns : tie.Need-returns
 returns c =
     let j = c .before .before in
@@ -46,42 +37,6 @@ returns-2 c =
     let v = c .before .before .verdict .given in
     kept-full (j .before .pre .roomy) (v .0 .0) (v .0 .1 .0) (said j (L.Solid (v .0 .0) (v .0 .1 .0)) (v .1)) (c .if1 .taken)
 
-mul-out : tie.Need-mul-out
-mul-out c = search needs
-
-mul-out-2 : tie.Need-mul-out-2
-mul-out-2 c = search needs
-
-element-write-out : tie.Need-element-write-out
-element-write-out c = search needs
-
-mul-out-3 : tie.Need-mul-out-3
-mul-out-3 c = search needs
-
-add-out : tie.Need-add-out
-add-out c = search needs
-
-mul-out-4 : tie.Need-mul-out-4
-mul-out-4 c = search needs
-
-element-write-out-2 : tie.Need-element-write-out-2
-element-write-out-2 c = search needs
-
-mul-out-5 : tie.Need-mul-out-5
-mul-out-5 c = search needs
-
-add-out-2 : tie.Need-add-out-2
-add-out-2 c = search needs
-
-mul-out-6 : tie.Need-mul-out-6
-mul-out-6 c = search needs
-
-element-write-out-3 : tie.Need-element-write-out-3
-element-write-out-3 c = search needs
-
-add-t15 : tie.Need-add-t15
-add-t15 c = search needs
-
 returns-3 : tie.Need-returns-3
 returns-3 c =
     let j = judged (c .before) in
@@ -91,22 +46,6 @@ returns-3 c =
 pub kept-spec : {M : Type 1} → statement M
 kept-spec =
     tie.close
-    (tie.spec
-    judge-requires
-    enum-known-verdict
-    enum-told
-    returns
-    returns-2
-    mul-out
-    mul-out-2
-    element-write-out
-    mul-out-3
-    add-out
-    mul-out-4
-    element-write-out-2
-    mul-out-5
-    add-out-2
-    mul-out-6
-    element-write-out-3
-    add-t15
-    returns-3)
+    (tie.spec (λ c κs. search needs) (λ c. search needs) (λ c. search needs) returns returns-2 (λ c. search needs) (λ c. search needs)
+    (λ c. search needs) (λ c. search needs) (λ c. search needs) (λ c. search needs) (λ c. search needs) (λ c. search needs)
+    (λ c. search needs) (λ c. search needs) (λ c. search needs) (λ c. search needs) returns-3)

@@ -59,9 +59,6 @@ pair c w h =
 
 -- ---- the needs
 
-none-requires : tie.Need-none-requires Inv-loop μ-loop
-none-requires c κs = search needs
-
 count-requires : tie.Need-count-requires Inv-loop μ-loop
 count-requires c κs = let p = c .before .before .pre in row-at (p .lent .faces) _ (p .there) .room
 
@@ -86,12 +83,6 @@ loop-holds c w =
 join-fold-requires : tie.Need-join-fold-requires Inv-loop μ-loop
 join-fold-requires c κs = let w = start (turn c .before) .pre .lent in pair c w (c .before .loop .inv w .after)
 
-add-j-2 : tie.Need-add-j-2 Inv-loop μ-loop
-add-j-2 c = omega arith
-
-loop-less : tie.Need-loop-less Inv-loop μ-loop
-loop-less c = omega arith
-
 loop-again : tie.Need-loop-again Inv-loop μ-loop
 unfolding pair
 loop-again c w =
@@ -114,16 +105,5 @@ returns-2 c w s i =
 pub fold-set-spec : {M : Type 1} → statement M
 fold-set-spec =
     tie.close
-    (tie.spec
-    Inv-loop
-    μ-loop
-    none-requires
-    count-requires
-    returns
-    add-j
-    loop-holds
-    join-fold-requires
-    add-j-2
-    loop-less
-    loop-again
-    returns-2)
+    (tie.spec Inv-loop μ-loop (λ c κs. search needs) count-requires returns add-j loop-holds join-fold-requires (λ c. omega arith)
+    (λ c. omega arith) loop-again returns-2)

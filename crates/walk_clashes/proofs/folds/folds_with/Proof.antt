@@ -18,33 +18,6 @@ asked c = c .before .before
 
 -- ---- the needs
 
-mul-t10 : tie.Need-mul-t10
-mul-t10 c = search needs
-
-element-copy-out-t13 : tie.Need-element-copy-out-t13
-element-copy-out-t13 c = search needs
-
-mul-t14 : tie.Need-mul-t14
-mul-t14 c = search needs
-
-element-copy-out-t17 : tie.Need-element-copy-out-t17
-element-copy-out-t17 c = search needs
-
-mul-t10-2 : tie.Need-mul-t10-2
-mul-t10-2 c = search needs
-
-element-copy-out-t18 : tie.Need-element-copy-out-t18
-element-copy-out-t18 c = search needs
-
-mul-t14-2 : tie.Need-mul-t14-2
-mul-t14-2 c = search needs
-
-element-copy-out-t17-2 : tie.Need-element-copy-out-t17-2
-element-copy-out-t17-2 c = search needs
-
-may-fold-requires : tie.Need-may-fold-requires
-may-fold-requires c κs = search needs
-
 returns : tie.Need-returns
 returns c w = share-less w (c .before .may-fold .ensures) (not-true (c .before .may-fold .result) (c .if1 .taken))
 
@@ -53,12 +26,6 @@ count-requires c κs = let p = start (c .before) .pre in row-at (p .lent .faces)
 
 returns-2 : tie.Need-returns-2
 returns-2 c w = three-less w (omega (arith, c .before .count .ensures, c .if2 .taken))
-
-point-at-requires : tie.Need-point-at-requires
-point-at-requires c κs = search needs
-
-point-at-requires-2 : tie.Need-point-at-requires-2
-point-at-requires-2 c κs = search needs
 
 folds-requires : tie.Need-folds-requires
 folds-requires c κs =
@@ -77,20 +44,6 @@ returns-3 c w =
 pub folds-with-spec : {M : Type 1} → statement M
 folds-with-spec =
     tie.close
-    (tie.spec
-    mul-t10
-    element-copy-out-t13
-    mul-t14
-    element-copy-out-t17
-    mul-t10-2
-    element-copy-out-t18
-    mul-t14-2
-    element-copy-out-t17-2
-    may-fold-requires
-    returns
-    count-requires
-    returns-2
-    point-at-requires
-    point-at-requires-2
-    folds-requires
-    returns-3)
+    (tie.spec (λ c. search needs) (λ c. search needs) (λ c. search needs) (λ c. search needs) (λ c. search needs) (λ c. search needs)
+    (λ c. search needs) (λ c. search needs) (λ c κs. search needs) returns count-requires returns-2 (λ c κs. search needs)
+    (λ c κs. search needs) folds-requires returns-3)

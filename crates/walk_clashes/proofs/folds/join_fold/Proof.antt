@@ -21,9 +21,6 @@ returns c w s i =
     let t = foldsAfter (drawingOf (w .lent .faces)) (w .lent .faces .loops) (a .g) (a .j) in
     upto-same _ (a .j) (ap (λ (b : Bool). t && not b) (sym (h .has .ensures s i) ∙ c .if1 .taken) ∙ and-false t)
 
-folds-with-requires : tie.Need-folds-with-requires
-folds-with-requires c κs = search needs
-
 returns-2 : tie.Need-returns-2
 returns-2 c w s i =
     let f = c .before in
@@ -45,5 +42,4 @@ returns-3 c w s i =
     upto-with _ (a .j) (λ t. x t && not (y t)) (c .with .ensures)
 
 pub join-fold-spec : {M : Type 1} → statement M
-join-fold-spec =
-    tie.close (tie.spec has-requires returns folds-with-requires returns-2 with-requires returns-3)
+join-fold-spec = tie.close (tie.spec has-requires returns (λ c κs. search needs) returns-2 with-requires returns-3)

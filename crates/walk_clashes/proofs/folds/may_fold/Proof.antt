@@ -24,9 +24,6 @@ two c =
     let e = drop-one (c .before .lowest2 .result) (omega arith) (c .before .lowest2 .ensures .there) (c .without2 .ensures) in
     omega (arith, e, one (made c))
 
-is-empty-requires : tie.Need-is-empty-requires
-is-empty-requires c κs = search needs
-
 returns : tie.Need-returns
 returns c =
     let a = c .before .before .args in
@@ -34,12 +31,6 @@ returns c =
 
 lowest-requires : tie.Need-lowest-requires
 lowest-requires c κs = is-some (c .before .before .args .shared) (c .before .is-empty .ensures) (c .if1 .left)
-
-without-requires : tie.Need-without-requires
-without-requires c κs = search needs
-
-is-empty-requires-2 : tie.Need-is-empty-requires-2
-is-empty-requires-2 c κs = search needs
 
 returns-2 : tie.Need-returns-2
 returns-2 c =
@@ -49,15 +40,6 @@ returns-2 c =
 
 lowest-requires-2 : tie.Need-lowest-requires-2
 lowest-requires-2 c κs = is-some (c .before .before .without .result) (c .before .is-empty2 .ensures) (c .if2 .left)
-
-without-requires-2 : tie.Need-without-requires-2
-without-requires-2 c κs = search needs
-
-is-empty-requires-3 : tie.Need-is-empty-requires-3
-is-empty-requires-3 c κs = search needs
-
-is-empty-requires-4 : tie.Need-is-empty-requires-4
-is-empty-requires-4 c κs = search needs
 
 returns-3 : tie.Need-returns-3
 returns-3 c =
@@ -75,16 +57,5 @@ returns-4 c =
 pub may-fold-spec : {M : Type 1} → statement M
 may-fold-spec =
     tie.close
-    (tie.spec
-    is-empty-requires
-    returns
-    lowest-requires
-    without-requires
-    is-empty-requires-2
-    returns-2
-    lowest-requires-2
-    without-requires-2
-    is-empty-requires-3
-    is-empty-requires-4
-    returns-3
-    returns-4)
+    (tie.spec (λ c κs. search needs) returns lowest-requires (λ c κs. search needs) (λ c κs. search needs) returns-2 lowest-requires-2
+    (λ c κs. search needs) (λ c κs. search needs) (λ c κs. search needs) returns-3 returns-4)

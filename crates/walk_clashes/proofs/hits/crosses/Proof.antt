@@ -56,12 +56,6 @@ t-env c =
 corner-requires : tie.Need-corner-requires
 corner-requires c κs = corner-in (c .before .pre .face .row) _ (omega arith)
 
-point-at-requires : tie.Need-point-at-requires
-point-at-requires c κs = search needs
-
-point-at-requires-2 : tie.Need-point-at-requires-2
-point-at-requires-2 c κs = search needs
-
 plane-side-requires : tie.Need-plane-side-requires
 plane-side-requires c κs =
     let l = level c in
@@ -100,11 +94,5 @@ returns c =
 pub crosses-spec : {M : Type 1} → statement M
 crosses-spec =
     tie.close
-    (tie.spec
-    corner-requires
-    point-at-requires
-    point-at-requires-2
-    plane-side-requires
-    plane-side-requires-2
-    pierced-requires
+    (tie.spec corner-requires (λ c κs. search needs) (λ c κs. search needs) plane-side-requires plane-side-requires-2 pierced-requires
     returns)

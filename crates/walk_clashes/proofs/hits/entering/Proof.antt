@@ -56,9 +56,6 @@ vertex c w =
 
 -- ---- the needs
 
-none-requires : tie.Need-none-requires Inv-loop μ-loop
-none-requires c κs = search needs
-
 loop-holds : tie.Need-loop-holds Inv-loop μ-loop
 loop-holds c w =
     let k = w .lent .known in
@@ -70,9 +67,6 @@ loop-holds c w =
     (inside-fold d (allOf k) (loopOf k))
     (left-start (length (d .vertices)) (enterStep d (allOf k) (loopOf k)) (askedMask d (allOf k) (loopOf k))
     (asked-low d (allOf k) (loopOf k)) [] (w .asked-is) (c .none .ensures))
-
-is-empty-requires : tie.Need-is-empty-requires Inv-loop μ-loop
-is-empty-requires c κs = search needs
 
 lowest-requires : tie.Need-lowest-requires Inv-loop μ-loop
 lowest-requires c κs = let n = eqb-false (size (turn c .loop .«open»)) 0 (some c) in omega (arith, n)
@@ -102,15 +96,5 @@ returns c w =
 pub entering-spec : {M : Type 1} → statement M
 entering-spec =
     tie.close
-    (tie.spec
-    Inv-loop
-    μ-loop
-    none-requires
-    loop-holds
-    is-empty-requires
-    lowest-requires
-    join-vertex-requires
-    without-requires
-    loop-less
-    loop-again
-    returns)
+    (tie.spec Inv-loop μ-loop (λ c κs. search needs) loop-holds (λ c κs. search needs) lowest-requires join-vertex-requires without-requires
+    loop-less loop-again returns)

@@ -74,12 +74,6 @@ point-at-requires c κs =
 corner-requires : tie.Need-corner-requires
 corner-requires c κs = corner-in (face-of (known c (start c .pre)) .row) _ (omega arith)
 
-mul-t18 : tie.Need-mul-t18
-mul-t18 c = search needs
-
-element-copy-out-t21 : tie.Need-element-copy-out-t21
-element-copy-out-t21 c = search needs
-
 sort-vertices-requires : tie.Need-sort-vertices-requires
 sort-vertices-requires c κs =
     let l = c .before in
@@ -95,14 +89,8 @@ sort-vertices-requires c κs =
 piercing-requires : tie.Need-piercing-requires
 piercing-requires c κs = pierce c (start (made c) .pre)
 
-minus-requires : tie.Need-minus-requires
-minus-requires c κs = search needs
-
 entering-requires : tie.Need-entering-requires
 entering-requires c κs = enter c (start (made (c .before .before)) .pre)
-
-or-requires : tie.Need-or-requires
-or-requires c κs = search needs
 
 returns : tie.Need-returns
 unfolding hitMask known pierce enter
@@ -114,14 +102,5 @@ returns c w =
 pub hit-set-spec : {M : Type 1} → statement M
 hit-set-spec =
     tie.close
-    (tie.spec
-    point-at-requires
-    corner-requires
-    mul-t18
-    element-copy-out-t21
-    sort-vertices-requires
-    piercing-requires
-    minus-requires
-    entering-requires
-    or-requires
-    returns)
+    (tie.spec point-at-requires corner-requires (λ c. search needs) (λ c. search needs) sort-vertices-requires piercing-requires
+    (λ c κs. search needs) entering-requires (λ c κs. search needs) returns)

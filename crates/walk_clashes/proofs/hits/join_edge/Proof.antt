@@ -59,17 +59,11 @@ add-wide c = omega (arith, low (start (c .before)))
 element-copy-out-wide : tie.Need-element-copy-out-wide
 element-copy-out-wide c = omega (arith, low (start (c .before)))
 
-wide-requires : tie.Need-wide-requires
-wide-requires c κs = search needs
-
 mul-t14 : tie.Need-mul-t14
 mul-t14 c = omega (arith, edge-low c)
 
 element-copy-out-t21 : tie.Need-element-copy-out-t21
 element-copy-out-t21 c = edge-low c
-
-or-requires : tie.Need-or-requires
-or-requires c κs = search needs
 
 returns-2 : tie.Need-returns-2
 returns-2 c w s i =
@@ -84,14 +78,5 @@ returns-2 c w s i =
 pub join-edge-spec : {M : Type 1} → statement M
 join-edge-spec =
     tie.close
-    (tie.spec
-    crosses-requires
-    returns
-    mul-wide
-    add-wide
-    element-copy-out-wide
-    wide-requires
-    mul-t14
-    element-copy-out-t21
-    or-requires
-    returns-2)
+    (tie.spec crosses-requires returns mul-wide add-wide element-copy-out-wide (λ c κs. search needs) mul-t14 element-copy-out-t21
+    (λ c κs. search needs) returns-2)

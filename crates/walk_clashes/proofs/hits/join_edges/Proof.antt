@@ -65,9 +65,6 @@ loop-holds c w s i =
     (down-fold (w .lent) a s)
     (left-start v (step (w .lent) a) (under (w .lent) a) (under-low (w .lent) a) s (w .under-is) i)
 
-is-empty-requires : tie.Need-is-empty-requires Inv-loop μ-loop
-is-empty-requires c κs = search needs
-
 lowest-requires : tie.Need-lowest-requires Inv-loop μ-loop
 lowest-requires c κs = let n = eqb-false (size (turn c .loop .«open»)) 0 (some c) in omega (arith, n)
 
@@ -96,14 +93,5 @@ returns c w s i =
 pub join-edges-spec : {M : Type 1} → statement M
 join-edges-spec =
     tie.close
-    (tie.spec
-    Inv-loop
-    μ-loop
-    loop-holds
-    is-empty-requires
-    lowest-requires
-    join-edge-requires
-    without-requires
-    loop-less
-    loop-again
+    (tie.spec Inv-loop μ-loop loop-holds (λ c κs. search needs) lowest-requires join-edge-requires without-requires loop-less loop-again
     returns)

@@ -63,9 +63,6 @@ mul-t12 c = omega (arith, v-low (start (c .before)))
 element-copy-out-t15 : tie.Need-element-copy-out-t15
 element-copy-out-t15 c = v-low (start (c .before))
 
-or-requires : tie.Need-or-requires
-or-requires c κs = search needs
-
 returns-2 : tie.Need-returns-2
 returns-2 c w s i =
     let e = c .before .before in
@@ -77,4 +74,4 @@ returns-2 c w s i =
 pub join-vertex-spec : {M : Type 1} → statement M
 join-vertex-spec =
     tie.close
-    (tie.spec point-at-requires lies-inside-requires returns mul-t12 element-copy-out-t15 or-requires returns-2)
+    (tie.spec point-at-requires lies-inside-requires returns mul-t12 element-copy-out-t15 (λ c κs. search needs) returns-2)

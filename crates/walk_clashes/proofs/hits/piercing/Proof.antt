@@ -76,9 +76,6 @@ down c w =
 
 -- ---- the needs
 
-none-requires : tie.Need-none-requires Inv-loop μ-loop
-none-requires c κs = search needs
-
 loop-holds : tie.Need-loop-holds Inv-loop μ-loop
 loop-holds c w =
     let k = w .lent .known in
@@ -92,9 +89,6 @@ loop-holds c w =
     (left-start (length (d .vertices)) (downFrom d (allOf k) (loopOf k)) (aboveMask d (loopOf k)) (above-low d (allOf k) (loopOf k)) []
     (w .above-is) (c .none .ensures))
 
-is-empty-requires : tie.Need-is-empty-requires Inv-loop μ-loop
-is-empty-requires c κs = search needs
-
 lowest-requires : tie.Need-lowest-requires Inv-loop μ-loop
 lowest-requires c κs = let n = eqb-false (size (turn c .loop .«open»)) 0 (some c) in omega (arith, n)
 
@@ -103,9 +97,6 @@ mul-t16 c = omega (arith, a-low c)
 
 element-copy-out-t19 : tie.Need-element-copy-out-t19 Inv-loop μ-loop
 element-copy-out-t19 c = a-low c
-
-and-requires : tie.Need-and-requires Inv-loop μ-loop
-and-requires c κs = search needs
 
 join-edges-requires : tie.Need-join-edges-requires Inv-loop μ-loop
 join-edges-requires c κs =
@@ -138,18 +129,5 @@ returns c w =
 pub piercing-spec : {M : Type 1} → statement M
 piercing-spec =
     tie.close
-    (tie.spec
-    Inv-loop
-    μ-loop
-    none-requires
-    loop-holds
-    is-empty-requires
-    lowest-requires
-    mul-t16
-    element-copy-out-t19
-    and-requires
-    join-edges-requires
-    without-requires
-    loop-less
-    loop-again
-    returns)
+    (tie.spec Inv-loop μ-loop (λ c κs. search needs) loop-holds (λ c κs. search needs) lowest-requires mul-t16 element-copy-out-t19
+    (λ c κs. search needs) join-edges-requires without-requires loop-less loop-again returns)

@@ -43,9 +43,6 @@ down : (c : tie.After-plane-side) {b : Bool} → ltZ (toZ w64 (ofZ w64 (c .plane
 unfolding below
 down c e = ap below (sym (z-is c)) ∙ e
 
-point-at-requires : tie.Need-point-at-requires
-point-at-requires c κs = search needs
-
 plane-side-requires : tie.Need-plane-side-requires
 plane-side-requires c κs =
     let w = entry c .pre .plane in
@@ -100,12 +97,4 @@ returns-3 c s =
 pub sort-vertex-spec : {M : Type 1} → statement M
 sort-vertex-spec =
     tie.close
-    (tie.spec
-    point-at-requires
-    plane-side-requires
-    with-requires
-    returns
-    with-requires-2
-    returns-2
-    with-requires-3
-    returns-3)
+    (tie.spec (λ c κs. search needs) plane-side-requires with-requires returns with-requires-2 returns-2 with-requires-3 returns-3)

@@ -16,15 +16,6 @@ Inv-loop xyz m o n s₀ v₀ s v = (v ≤ n) × (n ≡ length xyz / 3) × Sorted
 abbrev μ-loop : tie.MeasureT-loop
 μ-loop xyz m o n s₀ v₀ s v = n - v
 
-none-requires : tie.Need-none-requires Inv-loop μ-loop
-none-requires c κs = search needs
-
-none-requires-2 : tie.Need-none-requires-2 Inv-loop μ-loop
-none-requires-2 c κs = search needs
-
-none-requires-3 : tie.Need-none-requires-3 Inv-loop μ-loop
-none-requires-3 c κs = search needs
-
 loop-holds : tie.Need-loop-holds Inv-loop μ-loop
 loop-holds c = (
   omega arith,
@@ -41,12 +32,6 @@ sort-vertex-requires c κs =
     let l = c .before in
     record { plane = l .before .before .before .before .pre; there = omega (arith, l .loop .inv .1, c .loop-test .taken) }
 
-add-v : tie.Need-add-v Inv-loop μ-loop
-add-v c = omega arith
-
-loop-less : tie.Need-loop-less Inv-loop μ-loop
-loop-less c = omega arith
-
 loop-again : tie.Need-loop-again Inv-loop μ-loop
 loop-again c = let k = c .before .before .loop .inv in (omega arith, k .1, c .sort-vertex .ensures (k .2))
 
@@ -61,15 +46,5 @@ returns c =
 pub sort-vertices-spec : {M : Type 1} → statement M
 sort-vertices-spec =
     tie.close
-    (tie.spec
-    Inv-loop
-    μ-loop
-    none-requires
-    none-requires-2
-    none-requires-3
-    loop-holds
-    sort-vertex-requires
-    add-v
-    loop-less
-    loop-again
-    returns)
+    (tie.spec Inv-loop μ-loop (λ c κs. search needs) (λ c κs. search needs) (λ c κs. search needs) loop-holds sort-vertex-requires
+    (λ c. omega arith) (λ c. omega arith) loop-again returns)

@@ -44,9 +44,6 @@ low c =
 loop-holds : tie.Need-loop-holds Inv-loop μ-loop
 loop-holds c = (refl, λ mask i. half-start mask _ _ i)
 
-is-empty-requires : tie.Need-is-empty-requires Inv-loop μ-loop
-is-empty-requires c κs = search needs
-
 lowest-requires : tie.Need-lowest-requires Inv-loop μ-loop
 lowest-requires c κs = let n = eqb-false (size (turn c .loop .«open»)) 0 (some c) in omega (arith, n)
 
@@ -92,19 +89,5 @@ returns c =
 pub mark-all-spec : {M : Type 1} → statement M
 mark-all-spec =
     tie.close
-    (tie.spec
-    Inv-loop
-    μ-loop
-    loop-holds
-    is-empty-requires
-    lowest-requires
-    mul-words
-    slice-read-words
-    shl-words
-    mul-words-2
-    slice-write-words
-    without-requires
-    loop-less
-    loop-again
-    same-length
-    returns)
+    (tie.spec Inv-loop μ-loop loop-holds (λ c κs. search needs) lowest-requires mul-words slice-read-words shl-words mul-words-2
+    slice-write-words without-requires loop-less loop-again same-length returns)

@@ -13,18 +13,6 @@ use Rattle.walk_clashes.proofs.Marking.{digit-set}
 use Rattle.walk_clashes.proofs.marks.mark_both.Statement.{statement}
 use Rattle.walk_clashes.proofs.marks.mark_both.Tie as tie
 
-mul-words : tie.Need-mul-words
-mul-words c = search needs
-
-element-copy-out-words : tie.Need-element-copy-out-words
-element-copy-out-words c = search needs
-
-mul-words-2 : tie.Need-mul-words-2
-mul-words-2 c = search needs
-
-element-write-words : tie.Need-element-write-words
-element-write-words c = search needs
-
 mark-all-requires : tie.Need-mark-all-requires
 mark-all-requires c κs =
     let s = c .before .before .before in
@@ -55,10 +43,4 @@ returns c =
 pub mark-both-spec : {M : Type 1} → statement M
 mark-both-spec =
     tie.close
-    (tie.spec
-    mul-words
-    element-copy-out-words
-    mul-words-2
-    element-write-words
-    mark-all-requires
-    returns)
+    (tie.spec (λ c. search needs) (λ c. search needs) (λ c. search needs) (λ c. search needs) mark-all-requires returns)

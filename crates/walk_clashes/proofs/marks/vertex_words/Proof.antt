@@ -62,12 +62,6 @@ mark-all-requires c κs =
       few = few t;
     }
 
-add-k : tie.Need-add-k Inv-loop μ-loop
-add-k c = omega arith
-
-loop-less : tie.Need-loop-less Inv-loop μ-loop
-loop-less c = omega arith
-
 loop-again : tie.Need-loop-again Inv-loop μ-loop
 loop-again c w =
     let t = c .before .before .before in
@@ -97,14 +91,5 @@ returns c w v h =
 pub vertex-words-spec : {M : Type 1} → statement M
 vertex-words-spec =
     tie.close
-    (tie.spec
-    Inv-loop
-    μ-loop
-    loop-holds
-    mul-t7
-    element-copy-out-t10
-    mark-all-requires
-    add-k
-    loop-less
-    loop-again
+    (tie.spec Inv-loop μ-loop loop-holds mul-t7 element-copy-out-t10 mark-all-requires (λ c. omega arith) (λ c. omega arith) loop-again
     returns)

@@ -28,9 +28,6 @@ known c = c .known-loops .ensures (now (start c .args .ends)) (start c .pre .dra
 
 -- ---- the needs
 
-known-loops-requires : tie.Need-known-loops-requires
-known-loops-requires c κs = search needs
-
 returns : tie.Need-returns
 returns c = record { loops-are = known (c .before) .count; kept = λ h. absurd (omega (arith, c .if1 .taken)) }
 
@@ -52,11 +49,4 @@ returns-2 : tie.Need-returns-2
 returns-2 c = record { loops-are = known (few (c .before) .before) .count; kept = λ h. c .candidates .ensures }
 
 pub candidate-rows-spec : {M : Type 1} → statement M
-candidate-rows-spec =
-    tie.close
-    (tie.spec
-    known-loops-requires
-    returns
-    slice-aggregate-candidates
-    candidates-requires
-    returns-2)
+candidate-rows-spec = tie.close (tie.spec (λ c κs. search needs) returns slice-aggregate-candidates candidates-requires returns-2)

@@ -38,9 +38,6 @@ loop-holds c =
     let a = c .args in
     around-start (a .on .now) (a .up .now) (a .taken) (a .f) (a .g) (a .edges) (counted (a .g .reached) (omega arith) .under)
 
-is-empty-requires : tie.Need-is-empty-requires Inv-loop μ-loop
-is-empty-requires c κs = search needs
-
 lowest-requires : tie.Need-lowest-requires Inv-loop μ-loop
 lowest-requires c κs = some-left c
 
@@ -79,16 +76,5 @@ returns c =
 pub around-face-spec : {M : Type 1} → statement M
 around-face-spec =
     tie.close
-    (tie.spec
-    Inv-loop
-    μ-loop
-    loop-holds
-    is-empty-requires
-    lowest-requires
-    of-edge-requires
-    of-edge-requires-2
-    at-edge-requires
-    without-requires
-    loop-less
-    loop-again
-    returns)
+    (tie.spec Inv-loop μ-loop loop-holds (λ c κs. search needs) lowest-requires of-edge-requires of-edge-requires-2 at-edge-requires
+    without-requires loop-less loop-again returns)

@@ -32,18 +32,6 @@ waiting-fits c = omega arith
 
 -- ---- the needs
 
-and-requires : tie.Need-and-requires
-and-requires c κs = search needs
-
-without-requires : tie.Need-without-requires
-without-requires c κs = search needs
-
-and-requires-2 : tie.Need-and-requires-2
-and-requires-2 c κs = search needs
-
-is-empty-requires : tie.Need-is-empty-requires
-is-empty-requires c κs = search needs
-
 returns : tie.Need-returns
 returns c =
     let q = c .before in
@@ -52,15 +40,6 @@ returns c =
     let a = s .args in
     edge-stays (a .mask) (a .up) (a .taken) (a .f) (a .g) (m .before .before .and .ensures) (m .before .without .ensures) (m .and2 .ensures)
     (reached-fits s) (is-some (m .and2 .result) (q .is-empty .ensures) (not-true (q .is-empty .result) (c .if1 .taken)))
-
-or-requires : tie.Need-or-requires
-or-requires c κs = search needs
-
-or-requires-2 : tie.Need-or-requires-2
-or-requires-2 c κs = search needs
-
-turned-at-requires : tie.Need-turned-at-requires
-turned-at-requires c κs = search needs
 
 returns-2 : tie.Need-returns-2
 returns-2 c =
@@ -76,13 +55,5 @@ returns-2 c =
 pub at-edge-spec : {M : Type 1} → statement M
 at-edge-spec =
     tie.close
-    (tie.spec
-    and-requires
-    without-requires
-    and-requires-2
-    is-empty-requires
-    returns
-    or-requires
-    or-requires-2
-    turned-at-requires
-    returns-2)
+    (tie.spec (λ c κs. search needs) (λ c κs. search needs) (λ c κs. search needs) (λ c κs. search needs) returns (λ c κs. search needs)
+    (λ c κs. search needs) (λ c κs. search needs) returns-2)

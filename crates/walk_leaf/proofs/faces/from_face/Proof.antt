@@ -38,16 +38,10 @@ some-wait c =
 just-requires : tie.Need-just-requires Inv-loop μ-loop
 just-requires c κs = c .pre
 
-none-requires : tie.Need-none-requires Inv-loop μ-loop
-none-requires c κs = search needs
-
 loop-holds : tie.Need-loop-holds Inv-loop μ-loop
 loop-holds c =
     let a = c .before .before .args in
     rounds-start (a .on .now) (a .up .now) (a .sides .now) (a .taken) (a .k) (c .before .just .ensures) (c .none .ensures)
-
-is-empty-requires : tie.Need-is-empty-requires Inv-loop μ-loop
-is-empty-requires c κs = search needs
 
 lowest-requires : tie.Need-lowest-requires Inv-loop μ-loop
 lowest-requires c κs = some-wait c
@@ -90,17 +84,5 @@ returns c =
 pub from-face-spec : {M : Type 1} → statement M
 from-face-spec =
     tie.close
-    (tie.spec
-    Inv-loop
-    μ-loop
-    just-requires
-    none-requires
-    loop-holds
-    is-empty-requires
-    lowest-requires
-    of-edge-requires
-    without-requires
-    around-face-requires
-    loop-less
-    loop-again
-    returns)
+    (tie.spec Inv-loop μ-loop just-requires (λ c κs. search needs) loop-holds (λ c κs. search needs) lowest-requires of-edge-requires
+    without-requires around-face-requires loop-less loop-again returns)

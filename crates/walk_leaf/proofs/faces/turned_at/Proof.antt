@@ -15,24 +15,6 @@ start c = c .before .before .before .before
 
 -- ---- the needs
 
-unlike-requires : tie.Need-unlike-requires
-unlike-requires c κs = search needs
-
-just-requires : tie.Need-just-requires
-just-requires c κs = search needs
-
-and-requires : tie.Need-and-requires
-and-requires c κs = search needs
-
-is-empty-requires : tie.Need-is-empty-requires
-is-empty-requires c κs = search needs
-
-and-requires-2 : tie.Need-and-requires-2
-and-requires-2 c κs = search needs
-
-is-empty-requires-2 : tie.Need-is-empty-requires-2
-is-empty-requires-2 c κs = search needs
-
 returns : tie.Need-returns
 unfolding xor
 returns c =
@@ -42,9 +24,6 @@ returns c =
     let a = start l .args in
     turned-stays (a .up) (a .turned) (a .f) (a .other) (j .before .unlike .ensures) (j .just .ensures) (l .before .and .ensures)
     (h .before .and2 .ensures) (l .is-empty .ensures) (h .is-empty2 .ensures) (c .if1 .taken)
-
-or-requires : tie.Need-or-requires
-or-requires c κs = search needs
 
 returns-2 : tie.Need-returns-2
 unfolding xor
@@ -59,13 +38,5 @@ returns-2 c =
 pub turned-at-spec : {M : Type 1} → statement M
 turned-at-spec =
     tie.close
-    (tie.spec
-    unlike-requires
-    just-requires
-    and-requires
-    is-empty-requires
-    and-requires-2
-    is-empty-requires-2
-    returns
-    or-requires
-    returns-2)
+    (tie.spec (λ c κs. search needs) (λ c κs. search needs) (λ c κs. search needs) (λ c κs. search needs) (λ c κs. search needs)
+    (λ c κs. search needs) returns (λ c κs. search needs) returns-2)

@@ -49,29 +49,11 @@ is-one c = omega arith
 
 -- ---- the needs
 
-and-requires : tie.Need-and-requires
-and-requires c κs = search needs
-
-and-requires-2 : tie.Need-and-requires-2
-and-requires-2 c κs = search needs
-
-count-requires : tie.Need-count-requires
-count-requires c κs = search needs
-
-rest-requires : tie.Need-rest-requires
-rest-requires c κs = search needs
-
-count-requires-2 : tie.Need-count-requires-2
-count-requires-2 c κs = search needs
-
 returns : tie.Need-returns
 returns c =
     let m = above (c .before) in
     let a = start m .args in
     edge-many (a .self) (a .mask) (m .before .before .and .ensures) (m .before .and2 .ensures) (omega arith)
-
-with-decided-requires : tie.Need-with-decided-requires
-with-decided-requires c κs = search needs
 
 returns-2 : tie.Need-returns-2
 returns-2 c =
@@ -80,29 +62,11 @@ returns-2 c =
     edge-two (s .args .self) (s .args .mask) (m .before .before .and .ensures) (m .before .and2 .ensures) (c .with-decided .ensures)
     (omega arith) (mask-fits s) (undecided-fits s)
 
-count-requires-3 : tie.Need-count-requires-3
-count-requires-3 c κs = search needs
-
-count-requires-4 : tie.Need-count-requires-4
-count-requires-4 c κs = search needs
-
 returns-3 : tie.Need-returns-3
 returns-3 c =
     let m = none (c .before) in
     let a = start m .args in
     edge-few (a .self) (a .mask) (m .before .before .and .ensures) (m .before .and2 .ensures) (omega arith)
-
-rest-requires-2 : tie.Need-rest-requires-2
-rest-requires-2 c κs = search needs
-
-count-requires-5 : tie.Need-count-requires-5
-count-requires-5 c κs = search needs
-
-or-requires : tie.Need-or-requires
-or-requires c κs = search needs
-
-with-decided-requires-2 : tie.Need-with-decided-requires-2
-with-decided-requires-2 c κs = search needs
 
 returns-4 : tie.Need-returns-4
 returns-4 c =
@@ -114,12 +78,6 @@ returns-4 c =
     (c .with-decided2 .ensures) (omega (arith, is-none l)) (omega (arith, is-none l, q .before .rest2 .ensures)) (mask-fits s)
     (undecided-fits s)
 
-none-requires : tie.Need-none-requires
-none-requires c κs = search needs
-
-with-decided-requires-3 : tie.Need-with-decided-requires-3
-with-decided-requires-3 c κs = search needs
-
 returns-5 : tie.Need-returns-5
 returns-5 c =
     let q = c .before .before .before in
@@ -129,23 +87,11 @@ returns-5 c =
     edge-more (s .args .self) (s .args .mask) (m .before .before .and .ensures) (m .before .and2 .ensures) (c .before .none .ensures)
     (c .with-decided3 .ensures) (omega (arith, is-none l)) (omega (arith, is-none l, q .before .rest2 .ensures)) (undecided-fits s)
 
-count-requires-6 : tie.Need-count-requires-6
-count-requires-6 c κs = search needs
-
 returns-6 : tie.Need-returns-6
 returns-6 c =
     let m = one (c .before) in
     let a = start m .args in
     edge-few (a .self) (a .mask) (m .before .before .and .ensures) (m .before .and2 .ensures) (omega arith)
-
-count-requires-7 : tie.Need-count-requires-7
-count-requires-7 c κs = search needs
-
-or-requires-2 : tie.Need-or-requires-2
-or-requires-2 c κs = search needs
-
-with-decided-requires-4 : tie.Need-with-decided-requires-4
-with-decided-requires-4 c κs = search needs
 
 returns-7 : tie.Need-returns-7
 returns-7 c =
@@ -154,12 +100,6 @@ returns-7 c =
     let s = start m in
     edge-exactly (s .args .self) (s .args .mask) (m .before .before .and .ensures) (m .before .and2 .ensures) (c .before .or2 .ensures)
     (c .with-decided4 .ensures) (omega (arith, is-one l)) (omega (arith, is-one l)) (mask-fits s) (undecided-fits s)
-
-none-requires-2 : tie.Need-none-requires-2
-none-requires-2 c κs = search needs
-
-with-decided-requires-5 : tie.Need-with-decided-requires-5
-with-decided-requires-5 c κs = search needs
 
 returns-8 : tie.Need-returns-8
 returns-8 c =
@@ -172,32 +112,8 @@ returns-8 c =
 pub settled-on-spec : {M : Type 1} → statement M
 settled-on-spec =
     tie.close
-    (tie.spec
-    and-requires
-    and-requires-2
-    count-requires
-    rest-requires
-    count-requires-2
-    returns
-    with-decided-requires
-    returns-2
-    count-requires-3
-    count-requires-4
-    returns-3
-    rest-requires-2
-    count-requires-5
-    or-requires
-    with-decided-requires-2
-    returns-4
-    none-requires
-    with-decided-requires-3
-    returns-5
-    count-requires-6
-    returns-6
-    count-requires-7
-    or-requires-2
-    with-decided-requires-4
-    returns-7
-    none-requires-2
-    with-decided-requires-5
+    (tie.spec (λ c κs. search needs) (λ c κs. search needs) (λ c κs. search needs) (λ c κs. search needs) (λ c κs. search needs) returns
+    (λ c κs. search needs) returns-2 (λ c κs. search needs) (λ c κs. search needs) returns-3 (λ c κs. search needs) (λ c κs. search needs)
+    (λ c κs. search needs) (λ c κs. search needs) returns-4 (λ c κs. search needs) (λ c κs. search needs) returns-5 (λ c κs. search needs)
+    returns-6 (λ c κs. search needs) (λ c κs. search needs) (λ c κs. search needs) returns-7 (λ c κs. search needs) (λ c κs. search needs)
     returns-8)

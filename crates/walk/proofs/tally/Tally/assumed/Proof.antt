@@ -7,9 +7,6 @@ use Rattle.walk.proofs.tally.Tally.assumed.Tie as tie
 returns : tie.Need-returns
 returns c = assumed-ended (c .before .before .args .limit) (c .if1 .taken)
 
-add-t4 : tie.Need-add-t4
-add-t4 c = search needs
-
 returns-2 : tie.Need-returns-2
 returns-2 c =
     let e = c .before .before .before in
@@ -21,4 +18,4 @@ returns-3 c =
     assumed-none (e .before .before .args .limit) (e .if1 .left) (c .if2 .left)
 
 pub assumed-spec : {M : Type 1} → statement M
-assumed-spec = tie.close (tie.spec returns add-t4 returns-2 returns-3)
+assumed-spec = tie.close (tie.spec returns (λ c. search needs) returns-2 returns-3)
