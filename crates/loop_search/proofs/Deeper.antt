@@ -8,7 +8,7 @@ use borrow.Author.Tests.{eq-eqb, ne-eqb}
 use lib.ListN.{getD, take, set}
 use lib.Seq.{set-set, set-getD}
 use Rattle.sets.specs.Word.{count, empty, both, less, only}
-use Rattle.sets.specs.Sets.{Is, size, Joint, Lowest, Dropped, EdgeSet}
+use Rattle.sets.specs.Sets.{Is, size, Joint, Lowest, Dropped, SetAt}
 use Rattle.sets.specs.declared.Set.{Set}
 use Rattle.sets.proofs.Digits.{length-both-last, length-less, first-lt}
 use Rattle.sets.proofs.Sets.{size-is}
@@ -45,7 +45,7 @@ below-both {x} {y} {r} {n} a i b j = record {
 
 -- ---- v is the last vertex
 module _ (words path : List ℕ) (len : ℕ) {free all r : Set} {v : ℕ} (p : PathAt path len mostVertices) (at-v : v ≡ getD path (len - 1) 0) where
-  pub onward-is : EdgeSet words v all → Joint all free r both → Onward words path len free r
+  pub onward-is : SetAt words v all → Joint all free r both → Onward words path len free r
   onward-is e j = record {
     below = λ n b. below-both (e .some .0) (e .some .1) b j;
     same = λ d n fr i.

@@ -8,7 +8,7 @@ use lib.IntN.{ℤ}
 use lib.ListN.{length, getD, take, set, replicate, length-set, length-replicate, getD-replicate}
 use lib.Seq.{set-set, set-getD, getD-set-same, getD-set-other}
 use Rattle.sets.specs.Word.{both, less, only}
-use Rattle.sets.specs.Sets.{Is, size, Joint, Minus, Lowest, Dropped, EdgeSet}
+use Rattle.sets.specs.Sets.{Is, size, Joint, Minus, Lowest, Dropped, SetAt}
 use Rattle.sets.specs.declared.Set.{Set}
 use Rattle.sets.proofs.Digits.{length-less}
 use Rattle.paper.specs.Numbers.{mostCorners, fillByte}
@@ -82,7 +82,7 @@ module _ {xyz : List ℤ} (words : List ℕ) {v s : ℕ} {path : List ℕ} {r : 
     }
 
     -- ---- the loop
-    pub starting-start : {row later : Set} → EdgeSet words s row → Joint row up later both → Starting xyz words v s begun r begun r later
+    pub starting-start : {row later : Set} → SetAt words s row → Joint row up later both → Starting xyz words v s begun r begun r later
     starting-start {row} {later} e j = record {
       sized = g .sized;
       path-is = refl;

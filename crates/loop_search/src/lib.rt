@@ -34,7 +34,7 @@ fn starting_at(
         (rooms (now (table .exit)) (now (planes .exit)) r) (now (path .entry)) (now (path .exit)) ⌝ }
 {
     let higher = Set::lowest_of(v).minus(Set::lowest_of(s + 1));
-    let mut later = Set::of_edge(near, s).and(higher);
+    let mut later = Set::at(near, s).and(higher);
     let mut c = count;
     path[0] = s as u8;
     while !later.is_empty() {

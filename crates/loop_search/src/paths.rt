@@ -16,7 +16,7 @@ pub fn onward(near: &[u64; MOST_VERTICES], path: &[u8; MOST_CORNERS], len: usize
     requires { ⌜ PathAt (now path) len mostVertices ⌝ }
     ensures { λ r. ⌜ Onward (now (near .entry)) (now (path .entry)) len free r ⌝ }
 {
-    let all = Set::of_edge(near, wide(path[len - 1]));
+    let all = Set::at(near, wide(path[len - 1]));
     all.and(free)
 }
 

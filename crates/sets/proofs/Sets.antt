@@ -11,7 +11,7 @@ use lib.Bits.{bitAnd, bitOr, and-mask}
 use lib.Dec.{eqb}
 use lib.Count.{ones, onesIn, ones-le, trailingZeros}
 use Rattle.sets.specs.Word.{word, digits, digit, dig, count, first, both, either, less, only}
-use Rattle.sets.specs.Sets.{room, packedSet, Is, digitsOf, size, Joint, Minus, Counted, Lowest, Dropped, Rest, EdgeSet, maskAt}
+use Rattle.sets.specs.Sets.{room, packedSet, Is, digitsOf, size, Joint, Minus, Counted, Lowest, Dropped, Rest, SetAt, maskAt}
 use Rattle.sets.specs.declared.Set.{Set}
 use Rattle.sets.proofs.Digits.{length-both, length-either, length-less, length-only, count-less, count-only, first-lt, first-in}
 use Rattle.sets.proofs.Numbers.{digit-word}
@@ -189,5 +189,5 @@ is-more {x} a h i = record {
   words = i .words ∙ ap (λ (w : ℕ). record { word = w }) (sym (word-more a));
 }
 
-pub edge-set : (masks : List ℕ) (e : ℕ) → getD masks e 0 < 2 ^ room → EdgeSet masks e (maskAt masks e)
-edge-set masks e l = record { is = refl; some = (digitsOf (maskAt masks e), is-digits (maskAt masks e) l) }
+pub set-at : (masks : List ℕ) (e : ℕ) → getD masks e 0 < 2 ^ room → SetAt masks e (maskAt masks e)
+set-at masks e l = record { is = refl; some = (digitsOf (maskAt masks e), is-digits (maskAt masks e) l) }

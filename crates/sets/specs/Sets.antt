@@ -58,15 +58,11 @@ pub record Rest (x r : Set) : Type 0 where
   pub one-fewer : suc (size r) ≡ size x
   pub same : (a : List Bool) → Is x a → Is r (less a (only (first a)))
 
--- how many edges a list of words is of
-abbrev pub edgeCount : List ℕ → ℕ
-edgeCount masks = length masks
-
--- the set of edge e
+-- the set at place k of a list of words
 abbrev pub maskAt : List ℕ → ℕ → Set
-maskAt masks e = record { word = getD masks e 0 }
+maskAt words k = record { word = getD words k 0 }
 
--- the set r is that of edge e, and some list's
-pub record EdgeSet (masks : List ℕ) (e : ℕ) (r : Set) : Type 0 where
-  pub is : r ≡ maskAt masks e
+-- r is the set at place k of the words, and some list's
+pub record SetAt (words : List ℕ) (k : ℕ) (r : Set) : Type 0 where
+  pub is : r ≡ maskAt words k
   pub some : (a : List Bool) × Is r a

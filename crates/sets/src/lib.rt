@@ -4,9 +4,9 @@ ghost use mathlib.Core.Bool.{Bool, true};
 ghost use mathlib.Core.List.{List, []};
 ghost use Prim.Native.Nat.{_≤_, _<_};
 ghost use lib.Dec.{eqb};
-ghost use lib.ListN.{replicate};
+ghost use lib.ListN.{length, replicate};
 ghost use Rattle.sets.specs.Word.{digits, dig, both, either, only};
-ghost use Rattle.sets.specs.Sets.{room, Is, size, edgeCount, Joint, Minus, Counted, Lowest, Dropped, Rest, EdgeSet};
+ghost use Rattle.sets.specs.Sets.{room, Is, size, Joint, Minus, Counted, Lowest, Dropped, Rest, SetAt};
 
 pub struct Set {
     pub word: u64,
@@ -121,12 +121,12 @@ impl Set {
         (self.word >> k) & 1 == 1
     }
 
-    // What edge e has: its word of the list.
-    pub fn of_edge(edges: &[u64], e: usize) -> Set
-        requires { ⌜ e < edgeCount (now edges) ⌝ }
-        ensures { λ r. ⌜ EdgeSet (now (edges .entry)) e r ⌝ }
+    // The set at place k of a list of words.
+    pub fn at(words: &[u64], k: usize) -> Set
+        requires { ⌜ k < length (now words) ⌝ }
+        ensures { λ r. ⌜ SetAt (now (words .entry)) k r ⌝ }
     {
-        Set { word: edges[e] }
+        Set { word: words[k] }
     }
 }
 

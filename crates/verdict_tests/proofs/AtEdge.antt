@@ -8,7 +8,7 @@ use lib.ListN.{length, getD}
 use lib.Dec.{eqb}
 use Rattle.lists.specs.Lists.{lowest}
 use Rattle.sets.specs.Word.{count, both}
-use Rattle.sets.specs.Sets.{Joint, Counted, EdgeSet}
+use Rattle.sets.specs.Sets.{Joint, Counted, SetAt}
 use Rattle.sets.specs.declared.Set.{Set}
 use Rattle.sets.proofs.Sets.{size-is}
 use Rattle.paper.specs.Solids.{Tables, inTwo, onceEachWay}
@@ -32,7 +32,7 @@ module _ (on : List ℕ) (m : ℕ) (taken : Set) where
   unfolding Paper.edgeCount
   finds-23 t l w = ap (lowest (notTwo t l)) (w .as-many)
 
-  module _ (e : ℕ) (h : e < m) {mask mine : Set} (o : EdgeSet on e mask) (j : Joint mask taken mine both) {k : ℕ} (c : Counted mine k)
+  module _ (e : ℕ) (h : e < m) {mask mine : Set} (o : SetAt on e mask) (j : Joint mask taken mine both) {k : ℕ} (c : Counted mine k)
     where
       counts : (t : Tables) (l : Listed) → Counting on m taken t l → k ≡ count (both (getD (t .masks) e []) (l .taken))
       counts t l w =
@@ -48,7 +48,7 @@ module _ (on up : List ℕ) (m : ℕ) (taken turned : Set) where
   unfolding Paper.direction
   finds-24 t l w = ap (lowest (notOnce t l)) (w .as-many)
 
-  module _ (e : ℕ) (h : e < m) {mask other : Set} (o : EdgeSet on e mask) (u : EdgeSet up e other) {b : Bool}
+  module _ (e : ℕ) (h : e < m) {mask other : Set} (o : SetAt on e mask) (u : SetAt up e other) {b : Bool}
       (s : WayIs mask other taken turned b) where
     pub way-at : {r : Bool} → not b ≡ r → Offends (Running on up m taken turned) notOnce e r
     way-at q t l w =

@@ -9,7 +9,7 @@ use lib.ListN.{length, getD, take}
 use lib.Seq.{getD-take, length-take-le}
 use Rattle.lists.specs.Lists.{lowest}
 use Rattle.sets.specs.Word.{dig, count, both}
-use Rattle.sets.specs.Sets.{Is, size, Joint, EdgeSet}
+use Rattle.sets.specs.Sets.{Is, size, Joint, SetAt}
 use Rattle.sets.specs.declared.Set.{Set}
 use Rattle.sets.proofs.Sets.{size-is}
 use Rattle.sets.proofs.Ones.{dig-lt}
@@ -86,7 +86,7 @@ module _ (clashes numbers : List ℕ) (n : ℕ) (taken : Set) (fits : n ≤ leng
   unfolding Paper.clashes
   finds-27 t l w = ap (lowest (clashing t l)) (faces-count numbers n fits (w .faces-are .numbers-are))
 
-  module _ (i : ℕ) (h : i < n) {k : ℕ} (e : k ≡ getD numbers i 0) {mask mine : Set} (o : EdgeSet clashes k mask)
+  module _ (i : ℕ) (h : i < n) {k : ℕ} (e : k ≡ getD numbers i 0) {mask mine : Set} (o : SetAt clashes k mask)
       (j : Joint mask taken mine both) {b : Bool} (s : b ≡ eqb (size mine) 0) where
     pub clash-at : {r : Bool} → not b ≡ r → Offends (Clashing clashes numbers n taken) clashing i r
     clash-at q t l w =

@@ -17,7 +17,7 @@ pub fn edge_count(on: &[u64; MOST_EDGES], m: usize, taken: Set) -> Answer
 {
     let mut e = 0;
     while e < m {
-        let mine = Set::of_edge(on, e).and(taken);
+        let mine = Set::at(on, e).and(taken);
         if mine.count() != 2 {
             return refused(EDGE_COUNT, e);
         }
@@ -38,8 +38,8 @@ pub fn direction(
 {
     let mut e = 0;
     while e < m {
-        let mask = Set::of_edge(on, e);
-        if !once_each_way(mask, Set::of_edge(up, e), taken, turned) {
+        let mask = Set::at(on, e);
+        if !once_each_way(mask, Set::at(up, e), taken, turned) {
             return refused(DIRECTION, e);
         }
         e += 1;

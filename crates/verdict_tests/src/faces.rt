@@ -67,7 +67,7 @@ pub fn clash(
 {
     let mut f = 0;
     while f < count {
-        let clashing = Set::of_edge(clashes, wide(numbers[f])).and(taken);
+        let clashing = Set::at(clashes, wide(numbers[f])).and(taken);
         if !clashing.is_empty() {
             return refused(CLASH, f);
         }

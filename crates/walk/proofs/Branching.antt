@@ -3,7 +3,7 @@ use mathlib.Core.List.{List}
 use mathlib.Core.Path.{_≡_, sym, ap, _∙_, subst}
 use Prim.Native.Nat.{ℕ}
 use lib.ListN.{set}
-use Rattle.sets.specs.Sets.{Is, Has, Lowest, EdgeSet}
+use Rattle.sets.specs.Sets.{Is, Has, Lowest, SetAt}
 use Rattle.sets.specs.declared.Set.{Set}
 use Rattle.paper.specs.Walk.{Status}
 use Rattle.fast_sweeps.specs.Worklist.{edgesWith, openFrom, lowestOn}
@@ -18,7 +18,7 @@ module _ {on : List ℕ} {m : ℕ} (s : State) {from : ℕ} {o : Opening} (found
   pub lowest-open : Has (s .undecided) k
   lowest-open = found .there k (low .there)
 
-  pub assumes : {sides : List ℕ} {changed : Set} {s′ : State} {v : Status} → EdgeSet sides k changed → Decided s k v s′
+  pub assumes : {sides : List ℕ} {changed : Set} {s′ : State} {v : Status} → SetAt sides k changed → Decided s k v s′
       → Assumes on m sides s from v (record { state = s′; changed = changed; edge = o .edge })
   assumes {sides} {changed} {s′} {v} edge d = record {
     within = found .within;

@@ -33,7 +33,7 @@ pub fn branches(
     let open = first_open(on, m, s.undecided, from);
     let edge = open.edge;
     let k = open.free.lowest();
-    let changed = Set::of_edge(sides, k);
+    let changed = Set::at(sides, k);
     let taking = s.with_taken(k);
     let rejecting = s.with_rejected(k);
     Both {

@@ -114,7 +114,7 @@ pub fn clash_words(
 {
     let mut g = 0;
     while g < n {
-        let known = Set::of_edge(words, g);
+        let known = Set::at(words, g);
         let set = clash_set(
             xyz,
             rows,

@@ -9,7 +9,7 @@ use lib.ListN.{length, getD, drop, drop-of-length-le}
 use borrow.Author.Tests.{eq-eqb, ne-eqb}
 use Rattle.lists.proofs.Places.{drop-more}
 use Rattle.sets.specs.Word.{count, both, less}
-use Rattle.sets.specs.Sets.{room, Is, size, Joint, Minus, Lowest, Dropped, EdgeSet}
+use Rattle.sets.specs.Sets.{room, Is, size, Joint, Minus, Lowest, Dropped, SetAt}
 use Rattle.sets.specs.declared.Set.{Set}
 use Rattle.sets.proofs.Sets.{size-is}
 use Rattle.paper.specs.Solids.{unlike, onceEachWay, oriented}
@@ -56,7 +56,7 @@ Asking on up m taken turned e =
     → oriented masks ups t s ≡ oriented (drop e masks) (drop e ups) t s
 
 module _ (on up : List ℕ) (m : ℕ) (taken turned : Set) (e : ℕ) (a : Asking on up m taken turned e) where
-  module _ (h : e < m) {mask other : Set} (eo : EdgeSet on e mask) (eu : EdgeSet up e other) {b : Bool}
+  module _ (h : e < m) {mask other : Set} (eo : SetAt on e mask) (eu : SetAt up e other) {b : Bool}
       (c : WayIs mask other taken turned b) where
     here : (masks ups : List (List Bool)) (t s : List Bool) → Edges on up masks ups → length masks ≡ m → Is taken t → Is turned s
         → oriented masks ups t s ≡ cond b (oriented (drop (e + 1) masks) (drop (e + 1) ups) t s) false

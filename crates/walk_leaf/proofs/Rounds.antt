@@ -7,7 +7,7 @@ use Prim.Native.Nat.{ℕ, _+_, _-_, _≤_, _<_}
 use native.Mathlib.Omega.{arith}
 use lib.ListN.{length, getD}
 use Rattle.sets.specs.Word.{dig, count, first, only}
-use Rattle.sets.specs.Sets.{room, Is, size, maskAt, Lowest, Dropped, EdgeSet}
+use Rattle.sets.specs.Sets.{room, Is, size, maskAt, Lowest, Dropped, SetAt}
 use Rattle.sets.specs.declared.Set.{Set}
 use Rattle.sets.proofs.Digits.{first-lt}
 use Rattle.fast_sweeps.specs.Worklist.{after, edgesWith}
@@ -23,7 +23,7 @@ use Rattle.walk_leaf.proofs.Steps.{size-room}
 
 -- ---- a mask by its place
 
-pub mask-at : {words : List ℕ} {masks : List (List Bool)} → Masks words masks → {e : ℕ} {x : Set} → EdgeSet words e x → {k : ℕ} → e ≡ k
+pub mask-at : {words : List ℕ} {masks : List (List Bool)} → Masks words masks → {e : ℕ} {x : Set} → SetAt words e x → {k : ℕ} → e ≡ k
     → k < length masks → Is x (getD masks k [])
 mask-at {words} {masks} i {e} {x} edge {k} p h =
     subst (λ (y : Set). Is y (getD masks k [])) (sym (edge .is ∙ ap (λ (j : ℕ). maskAt words j) p)) (i .at k h)
@@ -59,7 +59,7 @@ module _ (on up : List ℕ) (taken : Set) (f : ℕ) (g₀ : Going) (edges : Set)
   }
 
   module _ {g : Going} {left : Set} (a : Around on up taken f g₀ edges g left) where
-    pub around-next : 0 < size left → {e : ℕ} → Lowest left e → {mask other : Set} → EdgeSet on e mask → EdgeSet up e other → {r : Going}
+    pub around-next : 0 < size left → {e : ℕ} → Lowest left e → {mask other : Set} → SetAt on e mask → SetAt up e other → {r : Going}
         → AtEdge mask other taken f g r → {left′ : Set} → Dropped left e left′ → Around on up taken f g₀ edges r left′
     around-next p {e} low {mask} {other} eo eu {r} st {left′} d = record {
       grows = grows-on (a .grows) (st .grows);
@@ -120,7 +120,7 @@ module _ (on up sides : List ℕ) (taken : Set) (start : ℕ) where
   }
 
   module _ {g : Going} (a : Rounds on up sides taken start g) where
-    module _ (p : 0 < size (g .waiting)) {f : ℕ} (low : Lowest (g .waiting) f) {edges : Set} (e : EdgeSet sides f edges) {waiting : Set}
+    module _ (p : 0 < size (g .waiting)) {f : ℕ} (low : Lowest (g .waiting) f) {edges : Set} (e : SetAt sides f edges) {waiting : Set}
         (d : Dropped (g .waiting) f waiting) {r : Going}
         (b : AroundFace on up edges taken f (record { reached = g .reached; waiting = waiting; turned = g .turned }) r) where
       pub rounds-less : togo r < togo g

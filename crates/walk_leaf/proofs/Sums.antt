@@ -13,7 +13,7 @@ use mir.Val.{ofZ}
 use Rattle.exact.specs.Size.{Within}
 use Rattle.exact.proofs.Size.{within-add, within-le, within-lit, within-neg}
 use Rattle.sets.specs.Word.{dig, count, first, both}
-use Rattle.sets.specs.Sets.{room, Is, size, Joint, Lowest, Dropped, EdgeSet}
+use Rattle.sets.specs.Sets.{room, Is, size, Joint, Lowest, Dropped, SetAt}
 use Rattle.sets.specs.declared.Set.{Set}
 use Rattle.paper.specs.Solids.{part}
 use Rattle.fast_sweeps.specs.Worklist.{after}
@@ -42,7 +42,7 @@ module _ (clashes : List ℕ) (taken : Set) where
   clear-start cs t m h i = record { rest = t; short = h; left-is = i; whole = refl }
 
   module _ {left : Set} (a : Clear clashes taken left) where
-    module _ (p : 0 < size left) {k : ℕ} (low : Lowest left k) {mask clashing : Set} (e : EdgeSet clashes k mask)
+    module _ (p : 0 < size left) {k : ℕ} (low : Lowest left k) {mask clashing : Set} (e : SetAt clashes k mask)
         (j : Joint mask taken clashing both) where
       met : {cs : List (List Bool)} {t : List Bool} → Masks clashes cs → Is taken t → (w : Clearing cs t left)
           → Is clashing (both (getD cs (first (w .rest)) []) t)

@@ -72,8 +72,8 @@ fn around_face(
     let mut left = edges;
     while !left.is_empty() {
         let e = left.lowest();
-        let mask = Set::of_edge(on, e);
-        going = at_edge(mask, Set::of_edge(up, e), taken, f, going);
+        let mask = Set::at(on, e);
+        going = at_edge(mask, Set::at(up, e), taken, f, going);
         left = left.without(e);
     }
     going
@@ -98,7 +98,7 @@ pub fn from_face(
     };
     while !going.waiting.is_empty() {
         let f = going.waiting.lowest();
-        let edges = Set::of_edge(sides, f);
+        let edges = Set::at(sides, f);
         let reached = going.reached;
         let turned = going.turned;
         let next = Going {

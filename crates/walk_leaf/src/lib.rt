@@ -55,8 +55,8 @@ fn oriented(
 {
     let mut e = 0;
     while e < m {
-        let mask = Set::of_edge(on, e);
-        if !once_each_way(mask, Set::of_edge(up, e), taken, turned) {
+        let mask = Set::at(on, e);
+        if !once_each_way(mask, Set::at(up, e), taken, turned) {
             return false;
         }
         e += 1;
@@ -70,7 +70,7 @@ fn clear(clashes: &[u64; MOST_CANDIDATES], taken: Set) -> bool
     let mut left = taken;
     while !left.is_empty() {
         let k = left.lowest();
-        let clashing = Set::of_edge(clashes, k).and(taken);
+        let clashing = Set::at(clashes, k).and(taken);
         if !clashing.is_empty() {
             return false;
         }

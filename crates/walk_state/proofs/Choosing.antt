@@ -7,7 +7,7 @@ use native.Mathlib.Omega.{arith}
 use lib.ListN.{length, getD}
 use Rattle.lists.proofs.Truth.{and-right}
 use Rattle.sets.specs.Word.{dig, both}
-use Rattle.sets.specs.Sets.{Is, Has, size, Joint, EdgeSet}
+use Rattle.sets.specs.Sets.{Is, Has, size, Joint, SetAt}
 use Rattle.sets.specs.declared.Set.{Set}
 use Rattle.sets.proofs.Digits.{dig-both}
 use Rattle.paper.specs.Walk.{Status, openOn}
@@ -25,7 +25,7 @@ Looking on m u from e =
     → openFrom masks st from ≡ openFrom masks st e
 
 module _ (on : List ℕ) (m : ℕ) (u : Set) (from e : ℕ) (g : Looking on m u from e) where
-  module _ (h : e < m) {mask free : Set} (edge : EdgeSet on e mask) (j : Joint mask u free both) where
+  module _ (h : e < m) {mask free : Set} (edge : SetAt on e mask) (j : Joint mask u free both) where
     free-is : (masks : List (List Bool)) (st : List Status) → Masks on masks → length masks ≡ m → Is u (opens st)
         → Is free (both (getD masks e []) (opens st))
     free-is masks st i l w =

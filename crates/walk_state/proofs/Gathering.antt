@@ -5,7 +5,7 @@ use mathlib.Core.Path.{_≡_, sym, subst}
 use Prim.Native.Nat.{ℕ, _<_}
 use lib.ListN.{length, replicate}
 use Rattle.sets.specs.Word.{first, either}
-use Rattle.sets.specs.Sets.{Is, size, maskAt, Joint, Lowest, Dropped, EdgeSet}
+use Rattle.sets.specs.Sets.{Is, size, maskAt, Joint, Lowest, Dropped, SetAt}
 use Rattle.sets.specs.declared.Set.{Set}
 use Rattle.sets.proofs.Sets.{none-all}
 use Rattle.fast_sweeps.specs.Worklist.{after, edgesWith}
@@ -37,7 +37,7 @@ module _ (sides : List ℕ) (set : Set) where
   }
 
   module _ {all left : Set} (g : Gathering sides set all left) where
-    pub gathering-more : 0 < size left → {k : ℕ} → Lowest left k → {e : Set} → EdgeSet sides k e → {all′ left′ : Set}
+    pub gathering-more : 0 < size left → {k : ℕ} → Lowest left k → {e : Set} → SetAt sides k e → {all′ left′ : Set}
         → Joint all e all′ either → Dropped left k left′ → Gathering sides set all′ left′
     gathering-more p {k} low {e} edge {all′} {left′} j drop masks d s i =
         let b = g masks d s i in

@@ -8,7 +8,7 @@ use native.Mathlib.Decide.{ℕ-discrete}
 use native.Mathlib.Omega.{arith}
 use lib.ListN.{getD}
 use Rattle.sets.specs.Word.{first}
-use Rattle.sets.specs.Sets.{room, Is, size, maskAt, Lowest, EdgeSet}
+use Rattle.sets.specs.Sets.{room, Is, size, maskAt, Lowest, SetAt}
 use Rattle.sets.specs.declared.Set.{Set}
 use Rattle.paper.specs.Walk.{Status, settle, Outcome, Broken, Stands}
 use Rattle.fast_sweeps.specs.Worklist.{decidedOn, nextAhead, nextLater, turnAhead, turnLater, Loop}
@@ -62,7 +62,7 @@ module _ (on sides : List ℕ) (s : State) (changed : Set) where
           subst (λ (y : Outcome). Left y (S.Stands v)) (sym e) (r .holds);
     }
 
-    module _ (n : 0 < size (m .ahead)) {e : ℕ} (low : Lowest (m .ahead) e) {mask : Set} (edge : EdgeSet on e mask) where
+    module _ (n : 0 < size (m .ahead)) {e : ℕ} (low : Lowest (m .ahead) e) {mask : Set} (edge : SetAt on e mask) where
       mask-is : {masks : List (List Bool)} {o : Outcome} → Masks on masks → (r : Midst masks o v m)
           → Is mask (getD masks (first (r .ahead)) [])
       mask-is {masks} i r =

@@ -114,7 +114,7 @@ fn gathered(sides: &[u64; MOST_CANDIDATES], set: Set) -> Set
     let mut left = set;
     while !left.is_empty() {
         let k = left.lowest();
-        all = all.or(Set::of_edge(sides, k));
+        all = all.or(Set::at(sides, k));
         left = left.rest();
     }
     all
@@ -173,7 +173,7 @@ pub fn settled(
     };
     while !marks.ahead.is_empty() {
         let e = marks.ahead.lowest();
-        let passed = state.settled_on(Set::of_edge(on, e));
+        let passed = state.settled_on(Set::at(on, e));
         let Passed::Stays(change) = passed else {
             return Swept::Broken;
         };
@@ -195,7 +195,7 @@ pub fn first_open(on: &[u64; MOST_EDGES], m: usize, undecided: Set, from: usize)
 {
     let mut e = from;
     while e < m {
-        let free = Set::of_edge(on, e).and(undecided);
+        let free = Set::at(on, e).and(undecided);
         if !free.is_empty() {
             return Opening {
                 edge: e,

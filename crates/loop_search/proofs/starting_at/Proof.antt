@@ -54,8 +54,8 @@ add-lowest-of c = let g = c .before .pre in omega (arith, g .s-in, g .few)
 lowest-of-requires-2 : tie.Need-lowest-of-requires-2 Inv-loop μ-loop
 lowest-of-requires-2 c κs = let g = c .before .pre in omega (arith, g .s-in, g .few)
 
-of-edge-requires : tie.Need-of-edge-requires Inv-loop μ-loop
-of-edge-requires c κs = let g = start (c .before) .pre in omega (arith, g .s-in, g .few)
+at-requires : tie.Need-at-requires Inv-loop μ-loop
+at-requires c κs = let g = start (c .before) .pre in omega (arith, g .s-in, g .few)
 
 cast-path : tie.Need-cast-path Inv-loop μ-loop
 cast-path c = let g = start (c .before .before .before) .pre in omega (arith, g .s-in, g .few)
@@ -65,7 +65,7 @@ loop-holds c =
     let m = c .before .before .before in
     let s = start m in
     starting-start (s .args .near .now) (s .pre) (m .before .before .lowest-of .ensures) (m .before .lowest-of2 .ensures) (m .minus .ensures)
-    (c .before .of-edge .ensures) (c .and .ensures)
+    (c .before .at .ensures) (c .and .ensures)
 
 lowest-requires : tie.Need-lowest-requires Inv-loop μ-loop
 lowest-requires c κs = some-left (c .before) (c .if1 .taken)
@@ -115,6 +115,6 @@ returns c =
 pub starting-at-spec : {M : Type 1} → statement M
 starting-at-spec =
     tie.close
-    (tie.spec Inv-loop μ-loop lowest-of-requires add-lowest-of lowest-of-requires-2 (λ c κs. search needs) of-edge-requires
+    (tie.spec Inv-loop μ-loop lowest-of-requires add-lowest-of lowest-of-requires-2 (λ c κs. search needs) at-requires
     (λ c κs. search needs) cast-path (λ c. search needs) loop-holds (λ c κs. search needs) lowest-requires without-requires cast-path-2
     (λ c. search needs) without-requires-2 on-line-requires (λ c. search needs) loop-less loop-again (λ c. search needs) returns)

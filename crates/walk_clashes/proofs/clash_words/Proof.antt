@@ -44,26 +44,26 @@ LentAt s =
     ClashLent (now (a .xyz)) (now (a .rows)) (now (a .near)) (now (a .number)) (now (a .on)) (now (a .at)) (now (a .corners)) (now (a .sides))
     (now (a .normals)) (a .n)
 
-abbrev turn : tie.After-of-edge Inv-loop μ-loop → tie.In-loop Inv-loop μ-loop
+abbrev turn : tie.After-at Inv-loop μ-loop → tie.In-loop Inv-loop μ-loop
 turn c = c .before .before .before
 
 -- those that are known of candidate g, and those that are marked
-abbrev known : tie.After-of-edge Inv-loop μ-loop → List Bool
-known c = c .of-edge .ensures .some .0
+abbrev known : tie.After-at Inv-loop μ-loop → List Bool
+known c = c .at .ensures .some .0
 
-abbrev known-is : (c : tie.After-of-edge Inv-loop μ-loop) → Is (c .of-edge .result) (known c)
-known-is c = c .of-edge .ensures .some .1
+abbrev known-is : (c : tie.After-at Inv-loop μ-loop) → Is (c .at .result) (known c)
+known-is c = c .at .ensures .some .1
 
-abbrev marks : (c : tie.After-of-edge Inv-loop μ-loop) → LentAt (start (turn c)) → List Bool
+abbrev marks : (c : tie.After-at Inv-loop μ-loop) → LentAt (start (turn c)) → List Bool
 marks c w =
     let g = turn c .before .loop .g in
     let hit = hitMask (wireOf w) (allOf w) g in
     either hit (less (foldMask (wireOf w) (allOf w) g) (either (known c) hit))
 
 -- a digit of those that are known is one of the word
-known-at : (c : tie.After-of-edge Inv-loop μ-loop) (j : ℕ)
+known-at : (c : tie.After-at Inv-loop μ-loop) (j : ℕ)
     → let l = turn c .before .loop in dig (known c) j ≡ digit (getD (l .words) (l .g) 0) j
-known-at c j = sym (digit-set (known c) (known-is c) j) ∙ ap (λ (x : Set). digit (x .word) j) (c .of-edge .ensures .is)
+known-at c j = sym (digit-set (known c) (known-is c) j) ∙ ap (λ (x : Set). digit (x .word) j) (c .at .ensures .is)
 
 low : (c : tie.In-loop Inv-loop μ-loop) → c .before .loop .g < 64
 low c = omega (arith, start c .pre .lent .all .faces .most, c .loop-test .taken)
@@ -78,8 +78,8 @@ loop-holds c w =
       long = refl;
     }
 
-of-edge-requires : tie.Need-of-edge-requires Inv-loop μ-loop
-of-edge-requires c κs =
+at-requires : tie.Need-at-requires Inv-loop μ-loop
+at-requires c κs =
     let t = c .before .before in
     let w = start t .pre .lent in
     omega (arith, low t, t .before .loop .inv w .long, start t .pre .whole)
@@ -127,5 +127,5 @@ returns c w =
 pub clash-words-spec : {M : Type 1} → statement M
 clash-words-spec =
     tie.close
-    (tie.spec Inv-loop μ-loop loop-holds of-edge-requires clash-set-requires mark-both-requires (λ c. omega arith) (λ c. omega arith)
+    (tie.spec Inv-loop μ-loop loop-holds at-requires clash-set-requires mark-both-requires (λ c. omega arith) (λ c. omega arith)
     loop-again returns)

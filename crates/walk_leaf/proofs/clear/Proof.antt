@@ -37,8 +37,8 @@ loop-holds c = clear-start (c .args .clashes .now) (c .args .taken)
 lowest-requires : tie.Need-lowest-requires Inv-loop μ-loop
 lowest-requires c κs = some-left c
 
-of-edge-requires : tie.Need-of-edge-requires Inv-loop μ-loop
-of-edge-requires c κs = let low = c .before .lowest .ensures in omega (arith, low)
+at-requires : tie.Need-at-requires Inv-loop μ-loop
+at-requires c κs = let low = c .before .lowest .ensures in omega (arith, low)
 
 returns : tie.Need-returns Inv-loop μ-loop
 returns c =
@@ -47,7 +47,7 @@ returns c =
     let l = chosen q in
     let t = turn (l .before) in
     let a = t .before .args in
-    clear-not (a .clashes .now) (a .taken) (t .loop .inv) (some-left (l .before)) (l .lowest .ensures) (m .before .of-edge .ensures)
+    clear-not (a .clashes .now) (a .taken) (t .loop .inv) (some-left (l .before)) (l .lowest .ensures) (m .before .at .ensures)
     (m .and .ensures) (is-some (m .and .result) (q .is-empty2 .ensures) (not-true (q .is-empty2 .result) (c .if2 .taken)))
 
 without-requires : tie.Need-without-requires Inv-loop μ-loop
@@ -63,7 +63,7 @@ loop-again c =
     let l = chosen q in
     let t = turn (l .before) in
     let a = t .before .args in
-    clear-next (a .clashes .now) (a .taken) (t .loop .inv) (some-left (l .before)) (l .lowest .ensures) (m .before .of-edge .ensures)
+    clear-next (a .clashes .now) (a .taken) (t .loop .inv) (some-left (l .before)) (l .lowest .ensures) (m .before .at .ensures)
     (m .and .ensures) (is-none (m .and .result) (q .is-empty2 .ensures) (not-false (q .is-empty2 .result) (c .before .if2 .left)))
     (c .without .ensures)
 
@@ -77,5 +77,5 @@ returns-2 c =
 pub clear-spec : {M : Type 1} → statement M
 clear-spec =
     tie.close
-    (tie.spec Inv-loop μ-loop loop-holds (λ c κs. search needs) lowest-requires of-edge-requires (λ c κs. search needs)
+    (tie.spec Inv-loop μ-loop loop-holds (λ c κs. search needs) lowest-requires at-requires (λ c κs. search needs)
     (λ c κs. search needs) returns without-requires loop-less loop-again returns-2)

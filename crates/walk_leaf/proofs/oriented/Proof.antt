@@ -24,11 +24,11 @@ turn c = c .before .before .before .before .before .before
 loop-holds : tie.Need-loop-holds Inv-loop μ-loop
 loop-holds c = (omega arith, λ masks ups t s q l i j. refl)
 
-of-edge-requires : tie.Need-of-edge-requires Inv-loop μ-loop
-of-edge-requires c κs = let p = c .before .before .before .pre in omega (arith, p)
+at-requires : tie.Need-at-requires Inv-loop μ-loop
+at-requires c κs = let p = c .before .before .before .pre in omega (arith, p)
 
-of-edge-requires-2 : tie.Need-of-edge-requires-2 Inv-loop μ-loop
-of-edge-requires-2 c κs = let p = c .before .before .before .before .before .pre in omega (arith, p)
+at-requires-2 : tie.Need-at-requires-2 Inv-loop μ-loop
+at-requires-2 c κs = let p = c .before .before .before .before .before .pre in omega (arith, p)
 
 returns : tie.Need-returns Inv-loop μ-loop
 returns c =
@@ -36,7 +36,7 @@ returns c =
     let t = turn o in
     let a = t .before .args in
     asking-not (a .on .now) (a .up .now) (a .m) (a .taken) (a .turned) (t .loop .e) (t .loop .inv .1) (omega arith)
-    (o .before .before .before .of-edge .ensures) (o .before .of-edge2 .ensures) (o .once-each-way .ensures)
+    (o .before .before .before .at .ensures) (o .before .at2 .ensures) (o .once-each-way .ensures)
     (not-true (o .once-each-way .result) (c .if1 .taken))
 
 add-e : tie.Need-add-e Inv-loop μ-loop
@@ -49,7 +49,7 @@ loop-again c =
     let a = t .before .args in (
       omega arith,
       asking-next (a .on .now) (a .up .now) (a .m) (a .taken) (a .turned) (t .loop .e) (t .loop .inv .1) (omega arith)
-          (o .before .before .before .of-edge .ensures) (o .before .of-edge2 .ensures) (o .once-each-way .ensures)
+          (o .before .before .before .at .ensures) (o .before .at2 .ensures) (o .once-each-way .ensures)
           (not-false (o .once-each-way .result) (c .if1 .left)),
     )
 
@@ -62,5 +62,5 @@ returns-2 c =
 pub oriented-spec : {M : Type 1} → statement M
 oriented-spec =
     tie.close
-    (tie.spec Inv-loop μ-loop loop-holds of-edge-requires of-edge-requires-2 (λ c κs. search needs) returns add-e (λ c. omega arith)
+    (tie.spec Inv-loop μ-loop loop-holds at-requires at-requires-2 (λ c κs. search needs) returns add-e (λ c. omega arith)
     loop-again returns-2)

@@ -25,8 +25,8 @@ turn c = c .before .before .before .before
 loop-holds : tie.Need-loop-holds Inv-loop μ-loop
 loop-holds c = (omega arith, λ masks st i l w. refl)
 
-of-edge-requires : tie.Need-of-edge-requires Inv-loop μ-loop
-of-edge-requires c κs = let p = c .before .before .before .pre in omega (arith, p)
+at-requires : tie.Need-at-requires Inv-loop μ-loop
+at-requires c κs = let p = c .before .before .before .pre in omega (arith, p)
 
 returns : tie.Need-returns Inv-loop μ-loop
 returns c =
@@ -34,7 +34,7 @@ returns c =
     let t = turn f in
     let a = t .before .args in
     let e = c .before .is-empty in
-    open-found (a .on .now) (a .m) (a .undecided) (a .from) (t .loop .e) (t .loop .inv .1) (omega arith) (f .before .of-edge .ensures)
+    open-found (a .on .now) (a .m) (a .undecided) (a .from) (t .loop .e) (t .loop .inv .1) (omega arith) (f .before .at .ensures)
     (f .and .ensures) (is-some (f .and .result) (e .ensures) (not-true (e .result) (c .if1 .taken)))
 
 add-e : tie.Need-add-e Inv-loop μ-loop
@@ -49,7 +49,7 @@ loop-again c =
     let z = is-none (f .and .result) (e .ensures) (not-false (e .result) (c .if1 .left)) in (
       omega arith,
       open-next (a .on .now) (a .m) (a .undecided) (a .from) (t .loop .e) (t .loop .inv .1) (omega arith)
-          (f .before .of-edge .ensures) (f .and .ensures) z,
+          (f .before .at .ensures) (f .and .ensures) z,
     )
 
 returns-2 : tie.Need-returns-2 Inv-loop μ-loop
@@ -61,5 +61,5 @@ returns-2 c =
 pub first-open-spec : {M : Type 1} → statement M
 first-open-spec =
     tie.close
-    (tie.spec Inv-loop μ-loop loop-holds of-edge-requires (λ c κs. search needs) (λ c κs. search needs) returns add-e (λ c. omega arith)
+    (tie.spec Inv-loop μ-loop loop-holds at-requires (λ c κs. search needs) (λ c κs. search needs) returns add-e (λ c. omega arith)
     loop-again returns-2)

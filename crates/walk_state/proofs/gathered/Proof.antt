@@ -42,8 +42,8 @@ loop-holds c = let a = c .before .args in gathering-start (a .sides .now) (a .se
 lowest-requires : tie.Need-lowest-requires Inv-loop μ-loop
 lowest-requires c κs = some-left c
 
-of-edge-requires : tie.Need-of-edge-requires Inv-loop μ-loop
-of-edge-requires c κs = let low = c .before .lowest .ensures in omega (arith, low)
+at-requires : tie.Need-at-requires Inv-loop μ-loop
+at-requires c κs = let low = c .before .lowest .ensures in omega (arith, low)
 
 rest-requires : tie.Need-rest-requires Inv-loop μ-loop
 rest-requires c κs = some-left (c .before .before .before .before)
@@ -57,7 +57,7 @@ loop-again c =
     let t = turn (l .before) in
     let a = start t .args in
     gathering-more (a .sides .now) (a .set) (t .loop .inv) (some-left (l .before)) (l .lowest .ensures)
-    (c .before .before .of-edge .ensures) (c .before .or .ensures) (rest-drops (l .lowest .ensures) (c .rest .ensures))
+    (c .before .before .at .ensures) (c .before .or .ensures) (rest-drops (l .lowest .ensures) (c .rest .ensures))
 
 returns : tie.Need-returns Inv-loop μ-loop
 returns c =
@@ -69,5 +69,5 @@ returns c =
 pub gathered-spec : {M : Type 1} → statement M
 gathered-spec =
     tie.close
-    (tie.spec Inv-loop μ-loop (λ c κs. search needs) loop-holds (λ c κs. search needs) lowest-requires of-edge-requires
+    (tie.spec Inv-loop μ-loop (λ c κs. search needs) loop-holds (λ c κs. search needs) lowest-requires at-requires
     (λ c κs. search needs) rest-requires loop-less loop-again returns)

@@ -46,15 +46,15 @@ loop-holds c = let a = c .before .args in sweeping-start (a .on .now) (a .sides 
 lowest-requires : tie.Need-lowest-requires Inv-loop μ-loop
 lowest-requires c κs = some-ahead c
 
-of-edge-requires : tie.Need-of-edge-requires Inv-loop μ-loop
-of-edge-requires c κs = let low = c .before .lowest .ensures in omega (arith, low)
+at-requires : tie.Need-at-requires Inv-loop μ-loop
+at-requires c κs = let low = c .before .lowest .ensures in omega (arith, low)
 
 returns : tie.Need-returns Inv-loop μ-loop
 returns c =
     let p = c .before .before in
     let t = turn (test p) in
     let a = start t .args in
-    let e = p .before .of-edge in
+    let e = p .before .at in
     let d = subst (SettledOn (t .loop .state) (e .result)) (c .enum-told .given .1) (p .settled-on .ensures) in
     sweeping-broken (a .on .now) (a .sides .now) (a .s) (a .changed) (t .loop .inv) (some-ahead (test p))
     (p .before .before .before .lowest .ensures) (e .ensures) d
@@ -67,7 +67,7 @@ loop-less c =
     let p = passed c in
     let t = turn (test p) in
     let a = start t .args in
-    let e = p .before .of-edge in
+    let e = p .before .at in
     let d = subst (SettledOn (t .loop .state) (e .result)) (c .before .before .before .passed .given .1) (p .settled-on .ensures) in
     sweeping-less (a .on .now) (a .sides .now) (a .s) (a .changed) (t .loop .inv) (some-ahead (test p))
     (p .before .before .before .lowest .ensures) (e .ensures) d (c .marked .ensures)
@@ -77,7 +77,7 @@ loop-again c =
     let p = passed c in
     let t = turn (test p) in
     let a = start t .args in
-    let e = p .before .of-edge in
+    let e = p .before .at in
     let d = subst (SettledOn (t .loop .state) (e .result)) (c .before .before .before .passed .given .1) (p .settled-on .ensures) in
     sweeping-more (a .on .now) (a .sides .now) (a .s) (a .changed) (t .loop .inv) (some-ahead (test p))
     (p .before .before .before .lowest .ensures) (e .ensures) d (c .marked .ensures)
@@ -93,5 +93,5 @@ returns-2 c =
 pub settled-spec : {M : Type 1} → statement M
 settled-spec =
     tie.close
-    (tie.spec Inv-loop μ-loop (λ c κs. search needs) loop-holds (λ c κs. search needs) lowest-requires of-edge-requires
+    (tie.spec Inv-loop μ-loop (λ c κs. search needs) loop-holds (λ c κs. search needs) lowest-requires at-requires
     (λ c κs. search needs) (λ c. search needs) (λ c. search needs) returns marked-requires loop-less loop-again returns-2)

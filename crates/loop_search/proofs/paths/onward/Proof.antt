@@ -10,8 +10,8 @@ use Rattle.loop_search.proofs.paths.onward.Tie as tie
 abbrev start : tie.After-wide → tie.Start
 start c = c .before .before .before
 
-of-edge-requires : tie.Need-of-edge-requires
-of-edge-requires c κs =
+at-requires : tie.Need-at-requires
+at-requires c κs =
     let p = start c .pre in
     let low = p .low (start c .args .len - 1) (omega (arith, p .some)) in
     omega (arith, low, c .wide .ensures)
@@ -21,9 +21,9 @@ returns c =
     let e = c .before in
     let w = e .before in
     let s = start w in
-    onward-is (s .args .near .now) (s .args .path .now) (s .args .len) (s .pre) (w .wide .ensures) (e .of-edge .ensures) (c .and .ensures)
+    onward-is (s .args .near .now) (s .args .path .now) (s .args .len) (s .pre) (w .wide .ensures) (e .at .ensures) (c .and .ensures)
 
 pub onward-spec : {M : Type 1} → statement M
 onward-spec =
     tie.close
-    (tie.spec (λ c. search needs) (λ c. search needs) (λ c κs. search needs) of-edge-requires (λ c κs. search needs) returns)
+    (tie.spec (λ c. search needs) (λ c. search needs) (λ c κs. search needs) at-requires (λ c κs. search needs) returns)

@@ -38,7 +38,7 @@ here o q =
     let t = turn o in
     let a = t .before .args in
     way-at (a .on .now) (a .up .now) (a .m) (a .taken) (a .turned) (t .loop .e) (omega arith)
-    (o .before .before .before .of-edge .ensures) (o .before .of-edge2 .ensures) (o .once-each-way .ensures) q
+    (o .before .before .before .at .ensures) (o .before .at2 .ensures) (o .once-each-way .ensures) q
 
 -- ---- the needs
 

@@ -39,7 +39,7 @@ here : (k : tie.After-count Inv-loop μ-loop) (b : Bool) → eqb (k .count .resu
 here k b q =
     let t = turn k in
     let a = t .before .args in
-    two-at (a .on .now) (a .m) (a .taken) (t .loop .e) (omega arith) (k .before .before .of-edge .ensures) (k .before .and .ensures)
+    two-at (a .on .now) (a .m) (a .taken) (t .loop .e) (omega arith) (k .before .before .at .ensures) (k .before .and .ensures)
     (k .count .ensures) b q
 
 -- ---- the needs

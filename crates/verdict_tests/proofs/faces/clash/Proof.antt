@@ -44,15 +44,15 @@ here o q =
     let t = turn k in
     let a = t .before .args in
     clash-at (a .clashes .now) (a .numbers .now) (a .count) (a .taken) (t .before .pre .held) (t .loop .f) (omega arith)
-    (k .wide .ensures) (o .before .before .of-edge .ensures) (o .before .and .ensures) (o .is-empty .ensures) q
+    (k .wide .ensures) (o .before .before .at .ensures) (o .before .and .ensures) (o .is-empty .ensures) q
 
 -- ---- the needs
 
 loop-holds : tie.Need-loop-holds Inv-loop μ-loop
 loop-holds c = (omega arith, asking-start (Meant c) clashing (c .args .count))
 
-of-edge-requires : tie.Need-of-edge-requires Inv-loop μ-loop
-of-edge-requires c κs =
+at-requires : tie.Need-at-requires Inv-loop μ-loop
+at-requires c κs =
     let t = turn c in
     let h = t .before .pre .narrow (t .loop .f) (omega arith) in
     omega (arith, h, c .wide .ensures)
@@ -84,5 +84,5 @@ returns-2 c =
 pub clash-spec : {M : Type 1} → statement M
 clash-spec =
     tie.close
-    (tie.spec Inv-loop μ-loop loop-holds (λ c. omega arith) (λ c κs. search needs) of-edge-requires (λ c κs. search needs)
+    (tie.spec Inv-loop μ-loop loop-holds (λ c. omega arith) (λ c κs. search needs) at-requires (λ c κs. search needs)
     (λ c κs. search needs) (λ c κs. search needs) returns (λ c. omega arith) (λ c. omega arith) loop-again returns-2)

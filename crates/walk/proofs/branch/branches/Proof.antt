@@ -31,7 +31,7 @@ returns : tie.Need-returns
 returns c =
     let k = candidate (c .before) in
     let o = opening k in
-    let edge = c .before .before .of-edge .ensures in
+    let edge = c .before .before .at .ensures in
     record {
       takes = assumes (o .before .args .s) (o .first-open .ensures) (k .lowest .ensures) edge (c .before .with-taken .ensures);
       rejects = assumes (o .before .args .s) (o .first-open .ensures) (k .lowest .ensures) edge (c .with-rejected .ensures);

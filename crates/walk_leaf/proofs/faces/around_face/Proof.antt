@@ -41,11 +41,11 @@ loop-holds c =
 lowest-requires : tie.Need-lowest-requires Inv-loop μ-loop
 lowest-requires c κs = some-left c
 
-of-edge-requires : tie.Need-of-edge-requires Inv-loop μ-loop
-of-edge-requires c κs = let low = c .before .lowest .ensures in omega (arith, low)
+at-requires : tie.Need-at-requires Inv-loop μ-loop
+at-requires c κs = let low = c .before .lowest .ensures in omega (arith, low)
 
-of-edge-requires-2 : tie.Need-of-edge-requires-2 Inv-loop μ-loop
-of-edge-requires-2 c κs = let low = c .before .before .before .lowest .ensures in omega (arith, low)
+at-requires-2 : tie.Need-at-requires-2 Inv-loop μ-loop
+at-requires-2 c κs = let low = c .before .before .before .lowest .ensures in omega (arith, low)
 
 at-edge-requires : tie.Need-at-edge-requires Inv-loop μ-loop
 at-edge-requires c κs = turn (c .before .before .before .before .before) .before .pre
@@ -63,7 +63,7 @@ loop-again c =
     let a = t .before .args in
     let u = c .before .before in
     around-next (a .on .now) (a .up .now) (a .taken) (a .f) (a .g) (a .edges) (t .loop .inv) (some-left (l .before)) (l .lowest .ensures)
-    (u .before .before .of-edge .ensures) (u .of-edge2 .ensures) (c .before .at-edge .ensures) (c .without .ensures)
+    (u .before .before .at .ensures) (u .at2 .ensures) (c .before .at-edge .ensures) (c .without .ensures)
 
 returns : tie.Need-returns Inv-loop μ-loop
 returns c =
@@ -76,5 +76,5 @@ returns c =
 pub around-face-spec : {M : Type 1} → statement M
 around-face-spec =
     tie.close
-    (tie.spec Inv-loop μ-loop loop-holds (λ c κs. search needs) lowest-requires of-edge-requires of-edge-requires-2 at-edge-requires
+    (tie.spec Inv-loop μ-loop loop-holds (λ c κs. search needs) lowest-requires at-requires at-requires-2 at-edge-requires
     without-requires loop-less loop-again returns)

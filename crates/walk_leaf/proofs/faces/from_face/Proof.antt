@@ -46,8 +46,8 @@ loop-holds c =
 lowest-requires : tie.Need-lowest-requires Inv-loop μ-loop
 lowest-requires c κs = some-wait c
 
-of-edge-requires : tie.Need-of-edge-requires Inv-loop μ-loop
-of-edge-requires c κs = let low = c .before .lowest .ensures in omega (arith, low)
+at-requires : tie.Need-at-requires Inv-loop μ-loop
+at-requires c κs = let low = c .before .lowest .ensures in omega (arith, low)
 
 without-requires : tie.Need-without-requires Inv-loop μ-loop
 without-requires c κs = c .before .before .before .before .lowest .ensures .narrow
@@ -62,7 +62,7 @@ loop-less c =
     let t = turn (l .before) in
     let a = start t .args in
     rounds-less (a .on .now) (a .up .now) (a .sides .now) (a .taken) (a .k) (t .loop .inv) (some-wait (l .before)) (l .lowest .ensures)
-    (w .before .before .before .of-edge .ensures) (w .without .ensures) (c .around-face .ensures)
+    (w .before .before .before .at .ensures) (w .without .ensures) (c .around-face .ensures)
 
 loop-again : tie.Need-loop-again Inv-loop μ-loop
 loop-again c =
@@ -71,7 +71,7 @@ loop-again c =
     let t = turn (l .before) in
     let a = start t .args in
     rounds-next (a .on .now) (a .up .now) (a .sides .now) (a .taken) (a .k) (t .loop .inv) (some-wait (l .before)) (l .lowest .ensures)
-    (w .before .before .before .of-edge .ensures) (w .without .ensures) (c .around-face .ensures)
+    (w .before .before .before .at .ensures) (w .without .ensures) (c .around-face .ensures)
 
 returns : tie.Need-returns Inv-loop μ-loop
 returns c =
@@ -84,5 +84,5 @@ returns c =
 pub from-face-spec : {M : Type 1} → statement M
 from-face-spec =
     tie.close
-    (tie.spec Inv-loop μ-loop just-requires (λ c κs. search needs) loop-holds (λ c κs. search needs) lowest-requires of-edge-requires
+    (tie.spec Inv-loop μ-loop just-requires (λ c κs. search needs) loop-holds (λ c κs. search needs) lowest-requires at-requires
     without-requires around-face-requires loop-less loop-again returns)
