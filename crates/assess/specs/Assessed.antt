@@ -13,10 +13,10 @@ use Rattle.reading.specs.Exact.{Exactly}
 use Rattle.reading.specs.Shown.{shownOf}
 
 -- the reading of an answer, by its number and value too; a volume is six volumes divided once, both held exactly
-pub record Reads (c : Conversion) (r : Reading) : Type 0 where
+pub record ReadsConversion (c : Conversion) (r : Reading) : Type 0 where
   pub is : r ≡ readingOf c
   pub said : readingSays r ≡ shownOf (conversionSays c)
   pub exact : (l k w six : ℕ) → c ≡ Conversion.One l k w six → Exactly six r
 
 pub record Assessed (conversion : List ℕ → List ℕ → Converted) (r : Reading) : Type 0 where
-  pub reads : (faces solids : List ℕ) → faceRoom ≤ length faces → solidRoom ≤ length solids → Reads (conversion faces solids .answer) r
+  pub reads : (faces solids : List ℕ) → faceRoom ≤ length faces → solidRoom ≤ length solids → ReadsConversion (conversion faces solids .answer) r

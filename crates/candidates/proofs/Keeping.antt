@@ -20,7 +20,7 @@ use Rattle.loop_table.proofs.Rows.{rows-room, rows-kept, row-more, bytes-are, s
 use Rattle.loop_table.proofs.Words.{word-more, word-is}
 use Rattle.loop_table.proofs.Loops.{loops-of}
 use Rattle.loop_cover.specs.Known.{Known}
-use Rattle.candidates.specs.Keeps.{bytesOf, Kept}
+use Rattle.candidates.specs.Keeps.{rowIn, Kept}
 
 -- ---- what is written where there is room for m
 module _ {A : Type 0} (m : ℕ) (all done rest : List A) (e : all ≡ done ++ rest) where
@@ -136,7 +136,7 @@ module _ {xyz : List ℤ} {ends table : List ℕ} {n : ℕ} {corners sides plane
 
         -- it is the next, and there is room
         pub keeping-more : c < mostCandidates → length corners₀ ≡ mostCandidates → length sides₀ ≡ mostCandidates
-            → Keeping rows₀ (paste rows (rowBytes * c) (bytesOf table k) rowBytes) corners₀ (set corners' c (getD corners k 0)) sides₀
+            → Keeping rows₀ (paste rows (rowBytes * c) (rowIn table k) rowBytes) corners₀ (set corners' c (getD corners k 0)) sides₀
             (set sides' c (getD sides k 0)) (c + 1) (k + 1)
         keeping-more room x y =
             let l = loopAt ls k in

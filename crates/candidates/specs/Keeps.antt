@@ -14,11 +14,11 @@ use Rattle.loop_cover.specs.Known.{Known}
 -- ---- one row
 
 -- the bytes of row k of a table
-abbrev pub bytesOf : List ℕ → ℕ → List ℕ
-bytesOf table k = take rowBytes (drop (rowBytes * k) table)
+abbrev pub rowIn : List ℕ → ℕ → List ℕ
+rowIn table k = take rowBytes (drop (rowBytes * k) table)
 
 -- row k is in the table, and there is room for row c
-pub record Copies (table : List ℕ) (k : ℕ) (rows : List ℕ) (c : ℕ) : Type 0 where
+pub record CopiesRow (table : List ℕ) (k : ℕ) (rows : List ℕ) (c : ℕ) : Type 0 where
   pub there : rowBytes * k + rowBytes ≤ length table
   pub few : c < mostCandidates
   pub room : length rows ≡ faceRoom

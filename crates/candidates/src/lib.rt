@@ -5,7 +5,7 @@ ghost use Prim.Native.Nat.{_*_};
 ghost use lib.Seq.{paste};
 ghost use Rattle.paper.specs.Numbers.{rowBytes};
 ghost use Rattle.paper.specs.Drawing.{wire};
-ghost use Rattle.candidates.specs.Keeps.{bytesOf, Copies, Keeps, Kept};
+ghost use Rattle.candidates.specs.Keeps.{rowIn, CopiesRow, Keeps, Kept};
 use loop_cover::covers_other;
 use paper::FACE_ROOM;
 use paper::MOST_CANDIDATES;
@@ -14,8 +14,8 @@ use paper::ROW;
 
 // Copies row k of the table to row c.
 fn copy_row(table: &[u8], k: usize, rows: &mut [u8; FACE_ROOM], c: usize)
-    requires { ⌜ Copies (now table) k (now rows) c ⌝ }
-    ensures { λ _. ⌜ now (rows .exit) ≡ paste (now (rows .entry)) (rowBytes * c) (bytesOf (now (table .entry)) k) rowBytes ⌝ }
+    requires { ⌜ CopiesRow (now table) k (now rows) c ⌝ }
+    ensures { λ _. ⌜ now (rows .exit) ≡ paste (now (rows .entry)) (rowBytes * c) (rowIn (now (table .entry)) k) rowBytes ⌝ }
 {
     let mut i = 0;
     while i < ROW {

@@ -5,7 +5,7 @@ use lib.IntN.{ℤ}
 use Rattle.paper.specs.Numbers.{farthest}
 use Rattle.paper.specs.declared.Point.{Point}
 use Rattle.polygon.specs.Sizes.{PointWithin, mostStep, mostNormal}
-use Rattle.polygon.specs.Rings.{Row, Face, TwoFaces}
+use Rattle.polygon.specs.Rings.{Row, FaceRow, TwoFaces}
 
 -- the corner p between a and b of a polygon with normal m, and a direction w
 pub record AngleWithin (m a p b w : Point) : Type 0 where
@@ -16,7 +16,7 @@ pub record AngleWithin (m a p b w : Point) : Type 0 where
   pub w-in : PointWithin mostStep w
 
 -- such a corner, and a point that it may be at
-pub record TurnWithin (m u w a p b : Point) : Type 0 where
+pub record FoldWithin (m u w a p b : Point) : Type 0 where
   pub angle : AngleWithin m a p b w
   pub u-in : PointWithin farthest u
 
@@ -26,7 +26,7 @@ pub record RowAndPoint (l : List ℤ) (t : List ℕ) (r : ℕ) (p : Point) : Typ
 
 -- a row with its normal, and two points
 pub record FaceAndPoints (l : List ℤ) (t : List ℕ) (r : ℕ) (m u v : Point) : Type 0 where
-  pub face : Face l t r m
+  pub face : FaceRow l t r m
   pub u-in : PointWithin farthest u
   pub v-in : PointWithin farthest v
 

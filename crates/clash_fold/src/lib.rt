@@ -5,7 +5,7 @@ ghost use mathlib.Core.Bool.{_&&_};
 ghost use Rattle.paper.specs.Points.{samePoint};
 ghost use Rattle.paper.specs.Clash.{angleHolds, inAngle, pointsIn, isCorner, bends, folds};
 ghost use Rattle.polygon.specs.Rings.{ring, ofRows, TwoFaces};
-ghost use Rattle.clash_fold.specs.Asked.{AngleWithin, TurnWithin, RowAndPoint, FaceAndPoints, FacesAndPoint, FacesAndPoints};
+ghost use Rattle.clash_fold.specs.Asked.{AngleWithin, FoldWithin, RowAndPoint, FaceAndPoints, FacesAndPoint, FacesAndPoints};
 ghost use Rattle.clash_fold.specs.Fold.{foldsAt};
 use paper::Point;
 use polygon::points::det;
@@ -32,7 +32,7 @@ fn in_angle(m: Point, a: Point, p: Point, b: Point, w: Point) -> bool
 }
 
 fn turns_at(m: Point, u: Point, w: Point, a: Point, p: Point, b: Point) -> bool
-    requires { ⌜ TurnWithin m u w a p b ⌝ }
+    requires { ⌜ FoldWithin m u w a p b ⌝ }
     ensures { λ r. ⌜ r ≡ (samePoint p u && inAngle m a p b w) ⌝ }
 {
     if same_point(p, u) {

@@ -6,7 +6,7 @@ use Rattle.exact.specs.Size.{Within}
 use Rattle.paper.specs.Numbers.{farthest}
 use Rattle.paper.specs.declared.Point.{Point}
 use Rattle.polygon.specs.Sizes.{PointWithin, mostPlaneSide}
-use Rattle.polygon.specs.Rings.{Face}
+use Rattle.polygon.specs.Rings.{FaceRow}
 
 -- two points, each with a weight
 pub record MixWithin (s : ℤ) (p : Point) (t : ℤ) (q : Point) : Type 0 where
@@ -17,7 +17,7 @@ pub record MixWithin (s : ℤ) (p : Point) (t : ℤ) (q : Point) : Type 0 where
 
 -- a row with its normal, and an edge from p to q, whose ends are at a and b from the row's plane
 pub record FaceAndEdge (l : List ℤ) (t : List ℕ) (g : ℕ) (m p q : Point) (a b : ℤ) : Type 0 where
-  pub face : Face l t g m
+  pub face : FaceRow l t g m
   pub p-in : PointWithin farthest p
   pub q-in : PointWithin farthest q
   pub a-in : Within mostPlaneSide a

@@ -8,7 +8,7 @@ use lib.ListN.{length, getD, take, List·getD-append}
 use lib.Seq.{length-take-le, getD-take}
 use Rattle.clerk_words.specs.Words.{twoAt}
 use Rattle.clerk_reply.specs.Requests.{headBytes, mostItem}
-use Rattle.clerk.specs.Read.{Stands}
+use Rattle.clerk.specs.Read.{RequestStands}
 
 module _ (room items : List ℕ) (m n : ℕ) (head : headBytes ≤ length room) where
   abbrev end : ℕ
@@ -24,7 +24,7 @@ module _ (room items : List ℕ) (m n : ℕ) (head : headBytes ≤ length room) 
       (omega (arith, length-take-le headBytes room head))
       ∙ getD-take headBytes room i 0 h
 
-  pub stands : end ≤ length after → m ≡ twoAt room 9 → n ≡ twoAt room 11 → m ≤ mostItem → n ≤ mostItem → Stands after end
+  pub stands : end ≤ length after → m ≡ twoAt room 9 → n ≡ twoAt room 11 → m ≤ mostItem → n ≤ mostItem → RequestStands after end
   stands w e f s t =
       let long = length-take-le end after w in
       let a = byte-is 9 (omega arith) in

@@ -4,26 +4,26 @@ use mathlib.Core.Path.{_≡_}
 use Prim.Native.Nat.{ℕ, _≤_}
 use lib.ListN.{length, take}
 use Rattle.clerk_reply.specs.Replies.{LongEnough}
-use Rattle.clerk_reply.specs.Requests.{secondLength, mostItem, Whole}
+use Rattle.clerk_reply.specs.Requests.{secondLength, mostItem, WholeRequest}
 
 -- room for a head and two items
 abbrev pub requestRoom : ℕ
 requestRoom = 2061
 
-pub record Roomy (room : List ℕ) : Type 0 where
+pub record RoomyRequest (room : List ℕ) : Type 0 where
   pub roomy : requestRoom ≤ length room
 
 -- the same, and room for any reply
-pub record Rooms (request room : List ℕ) : Type 0 where
-  pub roomy : Roomy request
+pub record RequestRooms (request room : List ℕ) : Type 0 where
+  pub roomy : RoomyRequest request
   pub long : LongEnough room
 
 -- n bytes of the room are a whole request, with no item that is too long
-pub record Stands (room : List ℕ) (n : ℕ) : Type 0 where
+pub record RequestStands (room : List ℕ) (n : ℕ) : Type 0 where
   pub within : n ≤ length room
-  pub whole : Whole (take n room)
+  pub whole : WholeRequest (take n room)
   pub second-short : secondLength (take n room) ≤ mostItem
 
 -- 0 where none was read
 abbrev pub ReadTo : List ℕ → ℕ → Type 0
-ReadTo room n = (n ≡ 0 → ⊥) → Stands room n
+ReadTo room n = (n ≡ 0 → ⊥) → RequestStands room n

@@ -1,6 +1,6 @@
 // The program that answers requests over a pipe: it reads them from standard input and writes the replies to standard output, as
 // docs/PIPE.md says. Nothing is assumed of the input.
-ghost use Rattle.clerk.specs.Read.{Roomy, Rooms, ReadTo};
+ghost use Rattle.clerk.specs.Read.{RoomyRequest, RequestRooms, ReadTo};
 use clerk_reply::FIRST_AT;
 use clerk_reply::HEAD;
 use clerk_reply::MOST_ITEM;
@@ -20,7 +20,7 @@ const MOST_REQUESTS: u64 = 4611686018427387904;
 // Answers the request's length, or 0 where the input ends or an item is too long. The items are read only once their lengths are known, so
 // that nothing is taken of the next request.
 fn read_request(room: &mut [u8]) -> usize
-    requires { ⌜ Roomy (now room) ⌝ }
+    requires { ⌜ RoomyRequest (now room) ⌝ }
     ensures { λ r. ⌜ ReadTo (now (room .exit)) r ⌝ }
 {
     let head = io::read_full(STDIN_FILENO, &mut room[..HEAD]);
@@ -45,7 +45,7 @@ fn read_request(room: &mut [u8]) -> usize
 
 // Whether a request came and its reply was written.
 fn served(request: &mut [u8], room: &mut [u8]) -> bool
-    requires { ⌜ Rooms (now request) (now room) ⌝ }
+    requires { ⌜ RequestRooms (now request) (now room) ⌝ }
 {
     let end = read_request(request);
     if end == 0 {

@@ -23,7 +23,7 @@ use Rattle.paper.specs.Reading as Paper
 use Rattle.paper.specs.Desk.{deskText}
 use Rattle.paper.specs.declared.Conversion.{Conversion}
 use Rattle.paper.specs.declared.Written.{Written}
-use Rattle.convert.specs.Converts.{leaves}
+use Rattle.convert.specs.Converts.{atExit}
 use Rattle.faces_writer.specs.Send.{ofSolid}
 use Rattle.desk_lines.proofs.Putting.{puts-long}
 use Rattle.desk_text.specs.Written.{textSaid, textRoom}
@@ -31,7 +31,7 @@ use Rattle.desk_text.specs.Texts.{textRoomSize}
 use Rattle.export_words.specs.Words.{mostSaid, Tells, WritesAs, SaidIs}
 use Rattle.export_words.specs.Lists.{readInto, ReadsAs}
 use Rattle.export_words.specs.declared.words.Said.{Said}
-use Rattle.clerk_words.specs.Words.{wordsBytes, numbersBytes, wordAt, numberAt, numbersIn}
+use Rattle.clerk_words.specs.Words.{wordsBytes, numbersBytes, wordAt, numberFrom, numbersIn}
 use Rattle.clerk_reply.specs.Replies.{zeros, saidWords, saidBytes, readingWords, conversionBytes, LongEnough, Replies}
 use Rattle.clerk_reply.specs.Replies.{readReply, convertedReply, checkedReply, writtenReply, sentReply, textReply}
 use Rattle.clerk_reply.specs.Requests.{sheetReply, facesReply, replies, lengths, replyTo, lengthOf}
@@ -45,7 +45,7 @@ unfolding readReply
 read-is sheet h = λ i. wordsBytes (sym (h .tells .words-are) i) ++ numbersBytes (sym (h .xyz-are) i) ++ sym (h .ends-are) i
 
 pub converted-is : (sheet : List ℕ) (limit : ℕ) {a : Conversion} {x : Said} {faces solids said shown : List ℕ}
-    → leaves a faces solids ≡ convertSheet sheet limit (zeros faceRoom) (zeros solidRoom) → SaidAs x said → SaidIs x (conversionSays a)
+    → atExit a faces solids ≡ convertSheet sheet limit (zeros faceRoom) (zeros solidRoom) → SaidAs x said → SaidIs x (conversionSays a)
     → shown ≡ readingWords a
     → convertedReply sheet limit ≡ wordsBytes said ++ wordsBytes shown ++ faces ++ wordsBytes solids
 unfolding convertedReply
@@ -107,7 +107,7 @@ pub numbers-are : (n : ℕ) (bytes : List ℕ) (room₀ : List ℤ) {room : List
     → take n room ≡ numbersIn n bytes
 unfolding numbersIn
 numbers-are n bytes room₀ e =
-    let long = made-length (numberAt bytes) n in
+    let long = made-length (numberFrom bytes) n in
     let all : take n (numbersIn n bytes) ≡ numbersIn n bytes = take-all n (numbersIn n bytes) (omega (arith, long)) in
     ap (take n) (e ∙ ap (λ (l : List ℤ). l ++ drop n room₀) all) ∙ take-at (numbersIn n bytes) (drop n room₀) n long
 

@@ -19,7 +19,7 @@ use Rattle.paper.specs.declared.Conversion.{Conversion}
 use Rattle.desk_lines.specs.Put.{Puts}
 use Rattle.desk_text.specs.Written.{textSaid, textRoom}
 use Rattle.desk_text.specs.Texts.{textRoomSize}
-use Rattle.export_words.specs.Words.{wordsOf, onto, mostSaid}
+use Rattle.export_words.specs.Words.{wordsSaid, onto, mostSaid}
 use Rattle.export_words.specs.Lists.{readInto}
 use Rattle.clerk_words.specs.Words.{wordsBytes, numbersBytes}
 
@@ -30,18 +30,18 @@ zeros n = replicate n 0
 
 -- "What is said is seven words: document 01's number, its place, and the values that come with it; 0 in the rest"
 abbrev pub saidWords : Said → List ℕ
-saidWords s = onto (wordsOf s) (zeros mostSaid)
+saidWords s = onto (wordsSaid s) (zeros mostSaid)
 
 abbrev pub saidBytes : Said → List ℕ
 saidBytes s = wordsBytes (saidWords s)
 
 -- "The reading is the number that says why there is none and 0, or 0 and the bits of the volume as a double."
-abbrev pub bitsOf : Option Float → ℕ
-bitsOf none = 0
-bitsOf (some v) = toBits binary64 v
+abbrev pub volumeBits : Option Float → ℕ
+volumeBits none = 0
+volumeBits (some v) = toBits binary64 v
 
 abbrev pub shownWords : Shown → List ℕ
-shownWords s = s .number ∷ bitsOf (s .shown) ∷ []
+shownWords s = s .number ∷ volumeBits (s .shown) ∷ []
 
 abbrev pub readingWords : Conversion → List ℕ
 readingWords c = shownWords (readingSays (readingOf c))

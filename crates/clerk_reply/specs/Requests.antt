@@ -78,12 +78,12 @@ pub record Lends (first room : List ℕ) : Type 0 where
   pub long : LongEnough room
 
 -- a request that is all there
-pub record Whole (q : List ℕ) : Type 0 where
+pub record WholeRequest (q : List ℕ) : Type 0 where
   pub head : headBytes ≤ length q
   pub items : headBytes + firstLength q + secondLength q ≤ length q
   pub first-short : firstLength q ≤ mostItem
 
 -- the same of a request
 pub record Asks (q room : List ℕ) : Type 0 where
-  pub whole : Whole q
+  pub whole : WholeRequest q
   pub long : LongEnough room

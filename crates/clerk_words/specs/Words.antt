@@ -48,11 +48,11 @@ abbrev pub numberOf : ℕ → ℤ
 numberOf n = cond (ltb n (2 ^ 63)) (pos n) (negsuc (2 ^ 64 - suc n))
 
 -- number i of bytes, and the first n
-abbrev pub numberAt : List ℕ → ℕ → ℤ
-numberAt bytes i = numberOf (wordAt bytes (8 * i))
+abbrev pub numberFrom : List ℕ → ℕ → ℤ
+numberFrom bytes i = numberOf (wordAt bytes (8 * i))
 
 unfoldable pub numbersIn : ℕ → List ℕ → List ℤ
-numbersIn n bytes = map (numberAt bytes) (upto n)
+numbersIn n bytes = map (numberFrom bytes) (upto n)
 
 -- ---- what is asked
 
@@ -61,6 +61,6 @@ pub record Stand (k at : ℕ) (bytes : List ℕ) : Type 0 where
   pub stand : at + k ≤ length bytes
 
 -- n numbers are there and there is room for them
-pub record Numbers (n : ℕ) (bytes : List ℕ) (room : List ℤ) : Type 0 where
+pub record NumbersThere (n : ℕ) (bytes : List ℕ) (room : List ℤ) : Type 0 where
   pub there : 8 * n ≤ length bytes
   pub fits : n ≤ length room

@@ -5,7 +5,7 @@ ghost use Prim.Native.Nat.{_<_, _%_};
 ghost use Rattle.rooms.specs.Rooms.{copied};
 ghost use Rattle.desk_lines.specs.Put.{Fits, Puts};
 ghost use Rattle.clerk_words.specs.Words.{wordBytes, wordsBytes, numbersBytes, wordOf, twoAt, fourAt, wordAt, numberOf, numbersIn};
-ghost use Rattle.clerk_words.specs.Words.{Stand, Numbers};
+ghost use Rattle.clerk_words.specs.Words.{Stand, NumbersThere};
 use desk_lines::put_text;
 
 pub const WORD_BYTES: usize = 8;
@@ -117,7 +117,7 @@ fn number_of(word: u64) -> i64
 
 // The first n numbers of bytes, written to the start of a room whose later places keep their contents.
 pub fn take_numbers(bytes: &[u8], n: usize, room: &mut [i64])
-    requires { ⌜ Numbers n (now bytes) (now room) ⌝ }
+    requires { ⌜ NumbersThere n (now bytes) (now room) ⌝ }
     ensures { λ _. ⌜ now (room .exit) ≡ copied n (numbersIn n (now (bytes .entry))) (now (room .entry)) ⌝ }
 {
     let mut i = 0;

@@ -26,7 +26,7 @@ use Rattle.walk_input.specs.Tables.{checksOf}
 use Rattle.walk_input.specs.declared.rows.Counts.{Counts}
 use Rattle.walk.specs.declared.tally.Tally.{Tally}
 use Rattle.convert.specs.Walked.{tablesIn, logOf, Done}
-use Rattle.convert.specs.Converts.{leaves, Entered, behind}
+use Rattle.convert.specs.Converts.{atExit, Entered, behind}
 
 -- ---- 1 and 2
 
@@ -61,13 +61,13 @@ module _ (limit f s : ℕ) where
 
 -- a refusal leaves the rooms as they came
 pub refuses : (a : Answer) (r : Refusal) (faces solids : List ℕ) (c : Converted) → Answer.Refused r ≡ a
-    → leaves (Conversion.Refused r) faces solids ≡ orConvert a faces solids c
+    → atExit (Conversion.Refused r) faces solids ≡ orConvert a faces solids c
 refuses a r faces solids c e = ap (λ (x : Answer). orConvert x faces solids c) e
 
 module _ (d : Wire) (limit : ℕ) (faces₀ solids₀ : List ℕ) where
   pub concludes : {rows₀ rows out₀ out : List ℕ} {c : Counts} {t : Tally} {r : Conversion} {faces solids : List ℕ}
       → Done d limit rows₀ rows out₀ out c t → Concluded (c .loops) (c .candidates) rows t out faces₀ faces solids₀ solids r
-      → leaves r faces solids ≡ behind d limit faces₀ solids₀
+      → atExit r faces solids ≡ behind d limit faces₀ solids₀
   concludes {rows₀} {rows} {out₀} {out} {c} {t} w k =
       let cs = candidates d in
       sym (k .same cs (tablesIn d) (logOf d limit) out₀ (sym (w .candidates-are))
@@ -96,12 +96,12 @@ module _ (form : List Check) (d : Wire) (limit : ℕ) (faces solids : List ℕ) 
       (e ∙ ap firstOf in-order)
 
   pub stops-at-entry : {r : Refusal} → Answer.Refused r ≡ firstOf entry
-      → leaves (Conversion.Refused r) faces solids ≡ conversion mostSolids form d limit faces solids
+      → atExit (Conversion.Refused r) faces solids ≡ conversion mostSolids form d limit faces solids
   stops-at-entry e = decides (first-stops entry _ e)
 
   module _ (ok : Answer.Fine ≡ firstOf entry) where
     pub stops-at-form : {r : Refusal} → Answer.Refused r ≡ firstOf form
-        → leaves (Conversion.Refused r) faces solids ≡ conversion mostSolids form d limit faces solids
+        → atExit (Conversion.Refused r) faces solids ≡ conversion mostSolids form d limit faces solids
     stops-at-form e = decides (first-stops form _ e ∙ first-passes entry _ ok)
 
     pub goes-behind : Answer.Fine ≡ firstOf form → behind d limit faces solids ≡ conversion mostSolids form d limit faces solids
@@ -122,10 +122,10 @@ roomy-enough limit faces solids ok =
 module _ (form : List Check) (d : Wire) (limit : ℕ) (faces₀ solids₀ : List ℕ) where
   abbrev pub Left : Conversion → List ℕ → List ℕ → Type 0
   Left r faces solids =
-      (leaves r faces solids ≡ conversion mostSolids form d limit faces₀ solids₀)
+      (atExit r faces solids ≡ conversion mostSolids form d limit faces₀ solids₀)
       × (conversionSays r ≡ conversionSays (conversion mostSolids form d limit faces₀ solids₀ .answer))
 
-  says : {r : Conversion} {faces solids : List ℕ} → leaves r faces solids ≡ conversion mostSolids form d limit faces₀ solids₀
+  says : {r : Conversion} {faces solids : List ℕ} → atExit r faces solids ≡ conversion mostSolids form d limit faces₀ solids₀
       → Left r faces solids
   says e = (e, ap (λ (x : Converted). conversionSays (x .answer)) e)
 
@@ -137,5 +137,5 @@ module _ (form : List Check) (d : Wire) (limit : ℕ) (faces₀ solids₀ : List
     stopped-at-form e = says (stops-at-form form d limit faces₀ solids₀ ok e)
 
     pub gone-behind : {r : Conversion} {faces solids : List ℕ} → Answer.Fine ≡ firstOf form
-        → leaves r faces solids ≡ behind d limit faces₀ solids₀ → Left r faces solids
+        → atExit r faces solids ≡ behind d limit faces₀ solids₀ → Left r faces solids
     gone-behind e w = says (w ∙ goes-behind form d limit faces₀ solids₀ ok e)

@@ -12,9 +12,9 @@ use Rattle.paper.specs.Drawing.{wire}
 use Rattle.paper.specs.declared.Answer.the-variants.{Fine}
 use Rattle.paper.specs.declared.Conversion.{Conversion}
 use Rattle.paper.specs.declared.Sheet.{Sheet}
-use Rattle.walk_input.specs.Given.{pointsOf, linksOf}
+use Rattle.walk_input.specs.Given.{coordinatesOf, linksOf}
 use Rattle.walk_input.proofs.Given.{sheet-given, sheet-lists}
-use Rattle.convert.specs.Converts.{leaves, behind, Converts, DrawingAt}
+use Rattle.convert.specs.Converts.{atExit, behind, ConvertsLists, DrawingAt}
 
 module _ (s : List ℕ) {r : Sheet} (e : r ≡ sheetOf editionOne s) (ok : Fine ≡ firstOf (sheetChecks editionOne s)) where
   pub sheet-at : {faces solids : List ℕ} → faceRoom ≤ length faces → solidRoom ≤ length solids → DrawingAt (r .drawing) faces solids
@@ -23,7 +23,7 @@ module _ (s : List ℕ) {r : Sheet} (e : r ≡ sheetOf editionOne s) (ok : Fine 
       record { held = given .held; lists = record { passed = given .passed; face-room = f; solid-room = g } }
 
   pub sheet-converts : (limit : ℕ) (faces₀ solids₀ : List ℕ) {faces solids : List ℕ} {a : Conversion}
-      → Converts (pointsOf (r .drawing)) (linksOf (r .drawing)) limit faces₀ faces solids₀ solids a
-      → leaves a faces solids ≡ behind (wire (coordinatesIn editionOne s) (endsIn editionOne s)) limit faces₀ solids₀
+      → ConvertsLists (coordinatesOf (r .drawing)) (linksOf (r .drawing)) limit faces₀ faces solids₀ solids a
+      → atExit a faces solids ≡ behind (wire (coordinatesIn editionOne s) (endsIn editionOne s)) limit faces₀ solids₀
   sheet-converts limit faces₀ solids₀ {faces} {solids} {a} w =
-      sheet-lists s e ok (λ (xyz : List ℤ) (ends : List ℕ). Converts xyz ends limit faces₀ faces solids₀ solids a) w
+      sheet-lists s e ok (λ (xyz : List ℤ) (ends : List ℕ). ConvertsLists xyz ends limit faces₀ faces solids₀ solids a) w

@@ -17,12 +17,12 @@ use Rattle.paper.specs.declared.Conversion.{Conversion}
 use Rattle.paper.specs.declared.Drawing.{Drawing}
 use Rattle.paper_laws.specs.InRange.{Held}
 use Rattle.walk_input.specs.Tables.{checksOf}
-use Rattle.walk_input.specs.Given.{pointsOf, linksOf}
+use Rattle.walk_input.specs.Given.{coordinatesOf, linksOf}
 use Rattle.convert.specs.Walked.{tablesIn, logOf}
 
 -- an answer, and the rooms at exit
-abbrev pub leaves : Conversion → List ℕ → List ℕ → Converted
-leaves r faces solids = record { answer = r; faces = faces; solids = solids }
+abbrev pub atExit : Conversion → List ℕ → List ℕ → Converted
+atExit r faces solids = record { answer = r; faces = faces; solids = solids }
 
 -- 1 and 2, of any rooms of these sizes
 abbrev pub Entered : ℕ → ℕ → ℕ → Answer → Type 0
@@ -41,11 +41,11 @@ pub record Converting (xyz : List ℤ) (ends faces solids : List ℕ) : Type 0 w
   pub face-room : faceRoom ≤ length faces
   pub solid-room : solidRoom ≤ length solids
 
-abbrev pub Converts : List ℤ → List ℕ → ℕ → List ℕ → List ℕ → List ℕ → List ℕ → Conversion → Type 0
-Converts xyz ends limit faces₀ faces solids₀ solids r = leaves r faces solids ≡ behind (wire xyz ends) limit faces₀ solids₀
+abbrev pub ConvertsLists : List ℤ → List ℕ → ℕ → List ℕ → List ℕ → List ℕ → List ℕ → Conversion → Type 0
+ConvertsLists xyz ends limit faces₀ faces solids₀ solids r = atExit r faces solids ≡ behind (wire xyz ends) limit faces₀ solids₀
 
 -- ---- the same of a drawing by value
 
 pub record DrawingAt (d : Drawing) (faces solids : List ℕ) : Type 0 where
   pub held : Held d
-  pub lists : Converting (pointsOf d) (linksOf d) faces solids
+  pub lists : Converting (coordinatesOf d) (linksOf d) faces solids

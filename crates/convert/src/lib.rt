@@ -4,8 +4,8 @@ mod walked;
 ghost use mathlib.Core.Path.{_≡_};
 ghost use Rattle.paper.specs.Conversion.{convertLists, convertSheet};
 ghost use Rattle.paper.specs.Reading.{conversionSays};
-ghost use Rattle.walk_input.specs.Given.{pointsOf, linksOf};
-ghost use Rattle.convert.specs.Converts.{leaves, Entered, Converting, Converts, DrawingAt};
+ghost use Rattle.walk_input.specs.Given.{coordinatesOf, linksOf};
+ghost use Rattle.convert.specs.Converts.{atExit, Entered, Converting, ConvertsLists, DrawingAt};
 use drawing_lists::lend::lent;
 use paper::Answer;
 use paper::BAD_LIMIT;
@@ -48,7 +48,7 @@ fn converted(
     solids: &mut [u64],
 ) -> Conversion
     requires { ⌜ Converting (now xyz) (now ends) (now faces) (now solids) ⌝ }
-    ensures { λ r. ⌜ Converts (now (xyz .entry)) (now (ends .entry)) limit (now (faces .entry)) (now (faces .exit))
+    ensures { λ r. ⌜ ConvertsLists (now (xyz .entry)) (now (ends .entry)) limit (now (faces .entry)) (now (faces .exit))
         (now (solids .entry)) (now (solids .exit)) r ⌝ }
 {
     let mut rows = [FILL; FACE_ROOM];
@@ -68,7 +68,7 @@ pub fn convert(
     faces: &mut [u8],
     solids: &mut [u64],
 ) -> Conversion
-    ensures result { λ r. ⌜ leaves r (now (faces .exit)) (now (solids .exit))
+    ensures result { λ r. ⌜ atExit r (now (faces .exit)) (now (solids .exit))
         ≡ convertLists (now (xyz .entry)) (now (ends .entry)) limit (now (faces .entry)) (now (solids .entry)) ⌝ }
     ensures said { λ r. ⌜ conversionSays r ≡ conversionSays
         (convertLists (now (xyz .entry)) (now (ends .entry)) limit (now (faces .entry)) (now (solids .entry)) .answer) ⌝ }
@@ -89,7 +89,7 @@ pub fn convert(
 // The same of a drawing by value, whose arrays have its lists in front.
 fn drawing_converted(d: Drawing, limit: u64, faces: &mut [u8], solids: &mut [u64]) -> Conversion
     requires { ⌜ DrawingAt d (now faces) (now solids) ⌝ }
-    ensures { λ r. ⌜ Converts (pointsOf d) (linksOf d) limit (now (faces .entry)) (now (faces .exit)) (now (solids .entry))
+    ensures { λ r. ⌜ ConvertsLists (coordinatesOf d) (linksOf d) limit (now (faces .entry)) (now (faces .exit)) (now (solids .entry))
         (now (solids .exit)) r ⌝ }
 {
     let xyz = d.xyz;
@@ -101,7 +101,7 @@ fn drawing_converted(d: Drawing, limit: u64, faces: &mut [u8], solids: &mut [u64
 
 // Converts a sheet: refusals 1 to 19, or a report in the two rooms.
 pub fn convert_sheet(sheet: &[u8], limit: u64, faces: &mut [u8], solids: &mut [u64]) -> Conversion
-    ensures result { λ r. ⌜ leaves r (now (faces .exit)) (now (solids .exit))
+    ensures result { λ r. ⌜ atExit r (now (faces .exit)) (now (solids .exit))
         ≡ convertSheet (now (sheet .entry)) limit (now (faces .entry)) (now (solids .entry)) ⌝ }
     ensures said { λ r. ⌜ conversionSays r ≡ conversionSays
         (convertSheet (now (sheet .entry)) limit (now (faces .entry)) (now (solids .entry)) .answer) ⌝ }

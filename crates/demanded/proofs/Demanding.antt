@@ -23,7 +23,7 @@ use Rattle.paper.specs.declared.Sheet.{Sheet}
 use Rattle.paper.specs.declared.Verdict.{Verdict}
 use Rattle.paper.specs.declared.Written.{Written}
 use Rattle.paper.specs.declared.Written.the-variants as Written
-use Rattle.convert.specs.Converts.{leaves}
+use Rattle.convert.specs.Converts.{atExit}
 use Rattle.assess.specs.Assessed.{Assessed}
 use Rattle.faces_laws.proofs.FaceList.{length-in}
 use Rattle.means_sheets.specs.FaceLists.{returned}
@@ -37,10 +37,10 @@ use Rattle.demands.proofs.Demand1.{demand1}
 use Rattle.demands.proofs.Demand2.{demand2}
 use Rattle.demands.proofs.Demand3.{demand3}
 use Rattle.demands.proofs.Sheets.{sheets2}
-use Rattle.demanded.specs.Demanded.{Converts, ReadAs, Assesses, Checks, Reads, byWriter, bySender, Stands, Writes, ReadsFaces, Sends}
+use Rattle.demanded.specs.Demanded.{Converts, ReadAs, Assesses, Checks, ReadsSheet, byWriter, bySender, Stands, WritesSheet, ReadsFaces, Sends}
 
 pub converts : (x : Input) (limit : ℕ) (faces₀ solids₀ : List ℕ) {r : Conversion} {faces solids : List ℕ}
-    → leaves r faces solids ≡ converted x limit faces₀ solids₀ → Converts x limit faces₀ solids₀ r faces solids
+    → atExit r faces solids ≡ converted x limit faces₀ solids₀ → Converts x limit faces₀ solids₀ r faces solids
 converts x limit faces₀ solids₀ e =
     subst (λ (c : Converted). Converts x limit faces₀ solids₀ (c .answer) (c .faces) (c .solids)) (sym e)
     (record {
@@ -73,9 +73,9 @@ pub checks : (x : Input) (list : List ℕ) {r : Verdict} → r ≡ checked x lis
 checks x list e =
     subst (Checks x list) (sym e) (record { first = demand1 .checks x list; exactly = λ ok. demand3 x ok .exactly list })
 
-pub reads : (s : List ℕ) → Under 256 s → {r : Sheet} → r ≡ sheetOf editionOne s → Reads s r
+pub reads : (s : List ℕ) → Under 256 s → {r : Sheet} → r ≡ sheetOf editionOne s → ReadsSheet s r
 reads s bytes e =
-    subst (Reads s) (sym e)
+    subst (ReadsSheet s) (sym e)
     (record {
       first = demand1 .reads s;
       none = demand1 .blank-kept s;
@@ -104,7 +104,7 @@ module _ (xyz : List ℤ) (ends room₀ : List ℕ) where
       (s, stands e (w .0) (w .1), reads-back-one xyz ends .sheet h)
 
   pub writes : {r : Written} {room : List ℕ} → r ≡ writtenOf editionOne xyz ends room₀ → room ≡ roomOf editionOne xyz ends room₀
-      → Writes xyz ends room₀ r room
+      → WritesSheet xyz ends room₀ r room
   writes {r} {room} e p = record {
     first = subst written (sym e) (demand1 .writes xyz ends room₀);
     kept = λ f q. p ∙ demand1 .room-kept xyz ends room₀ f (sym e ∙ q);

@@ -27,13 +27,13 @@ use Rattle.paper.specs.declared.Written.{Written}
 use Rattle.paper.specs.declared.Written.the-variants as Written
 use Rattle.means_sheets.specs.FaceLists.{returned}
 use Rattle.means_report.specs.Listed.{WalkTree}
-use Rattle.means_report.specs.Report.{reported}
+use Rattle.means_report.specs.Report.{solidCount}
 use Rattle.demands.specs.Input.{Input, lent, sheet, drawing, candidatesOf, Passes}
-use Rattle.demands.specs.Table.{one, end, rooms, forms, drawings, ofConversion, ofWritten, ofVerdict}
+use Rattle.demands.specs.Table.{one, end, roomsAndLimit, forms, drawings, ofConversion, ofWritten, ofVerdict}
 use Rattle.demands.specs.Shells.{Shape, shells, NoList}
 use Rattle.demands.specs.Solid.{NamesOne}
 use Rattle.demands.specs.Walk.{Allowed}
-use Rattle.demands.specs.Demand1.{Within}
+use Rattle.demands.specs.Demand1.{WithinLimit}
 use Rattle.demands.specs.Demand2.{Demand2}
 use Rattle.demands.specs.Demand3.{Report}
 use Rattle.demands.specs.Sheets as Sheets
@@ -41,15 +41,15 @@ use Rattle.demands.specs.Sheets as Sheets
 pub record Converts (x : Input) (limit : ℕ) (faces₀ solids₀ : List ℕ) (r : Conversion) (faces solids : List ℕ) : Type 0 where
   -- demand 1: a report, 17, 18 or 19, or the first line of the table that offends, with the lowest place that does; and the rooms are as
   -- they came unless there is a report
-  pub within : Within limit r
-  pub first : rooms limit faces₀ solids₀ (forms x (drawings (drawing x) end)) (ofConversion r)
-  pub kept : reported r ≡ 0 → (faces ≡ faces₀) × (solids ≡ solids₀)
+  pub within : WithinLimit limit r
+  pub first : roomsAndLimit limit faces₀ solids₀ (forms x (drawings (drawing x) end)) (ofConversion r)
+  pub kept : solidCount r ≡ 0 → (faces ≡ faces₀) × (solids ≡ solids₀)
   -- demand 2; and a report is of such a drawing
   pub every : Passes x → (t : WalkTree (drawing x) (candidatesOf x)) → Allowed limit faces₀ solids₀
       → Demand2 x t limit faces₀ solids₀ (record { answer = r; faces = faces; solids = solids })
-  pub passed : 0 < reported r → Passes x × Allowed limit faces₀ solids₀
+  pub passed : 0 < solidCount r → Passes x × Allowed limit faces₀ solids₀
   -- demand 3: each of the solids reported is accepted by the check, and no other body is
-  pub reports : 0 < reported r → Report x solids₀ (record { answer = r; faces = faces; solids = solids })
+  pub reports : 0 < solidCount r → Report x solids₀ (record { answer = r; faces = faces; solids = solids })
 
 -- demand 1: of a conversion's answer a volume is shown exactly where there is one solid, and it is that solid's; otherwise there is 30, or
 -- the answer's own number
@@ -81,7 +81,7 @@ pub record Checks (x : Input) (list : List ℕ) (r : Verdict) : Type 0 where
       ↔ (Shape (length (drawing x .vertices)) list × NamesOne (drawing x) (candidatesOf x) (facesIn editionOne list))
 
 -- of sheets that are read and written
-pub record Reads (s : List ℕ) (r : Sheet) : Type 0 where
+pub record ReadsSheet (s : List ℕ) (r : Sheet) : Type 0 where
   -- demand 1
   pub first : forms (sheet s) end (r .answer)
   pub none : (f : Refusal) → r .answer ≡ Answer.Refused f → r .drawing ≡ blank
@@ -102,7 +102,7 @@ pub record Stands (s room₀ : List ℕ) (n : ℕ) (room : List ℕ) : Type 0 wh
   pub size : n ≡ length s
   pub there : room ≡ s ++ drop n room₀
 
-pub record Writes (xyz : List ℤ) (ends room₀ : List ℕ) (r : Written) (room : List ℕ) : Type 0 where
+pub record WritesSheet (xyz : List ℤ) (ends room₀ : List ℕ) (r : Written) (room : List ℕ) : Type 0 where
   -- demand 1
   pub first : byWriter xyz ends room₀ (ofWritten r)
   pub kept : (f : Refusal) → r ≡ Written.Refused f → room ≡ room₀

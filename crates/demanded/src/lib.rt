@@ -3,7 +3,7 @@
 ghost use Rattle.paper.specs.FaceList.{solidFaces};
 ghost use Rattle.demands.specs.Input.{lent};
 ghost use Rattle.demands.specs.Input as Input;
-ghost use Rattle.demanded.specs.Demanded.{Converts, Assesses, ReadAs, Checks, Reads, Writes, ReadsFaces, Sends};
+ghost use Rattle.demanded.specs.Demanded.{Converts, Assesses, ReadAs, Checks, ReadsSheet, WritesSheet, ReadsFaces, Sends};
 use paper::Conversion;
 use paper::Faces;
 use paper::Reading;
@@ -62,13 +62,13 @@ pub fn check_sheet(sheet: &[u8], list: &[u8]) -> Verdict
 }
 
 pub fn read_sheet(sheet: &[u8]) -> Sheet
-    ensures { λ r. ⌜ Reads (now (sheet .entry)) r ⌝ }
+    ensures { λ r. ⌜ ReadsSheet (now (sheet .entry)) r ⌝ }
 {
     sheet_reader::read_sheet(sheet)
 }
 
 pub fn write_sheet(xyz: &[i64], ends: &[u8], room: &mut [u8]) -> Written
-    ensures { λ r. ⌜ Writes (now (xyz .entry)) (now (ends .entry)) (now (room .entry)) r (now (room .exit)) ⌝ }
+    ensures { λ r. ⌜ WritesSheet (now (xyz .entry)) (now (ends .entry)) (now (room .entry)) r (now (room .exit)) ⌝ }
 {
     sheet_writer::write_sheet(xyz, ends, room)
 }

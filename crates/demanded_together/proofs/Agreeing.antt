@@ -17,11 +17,11 @@ use Rattle.paper.specs.declared.Verdict.{Verdict}
 use Rattle.paper.specs.declared.Verdict.the-variants as Verdict
 use Rattle.paper.specs.declared.Written.{Written}
 use Rattle.paper.specs.declared.Written.the-variants as Written
-use Rattle.convert.specs.Converts.{leaves}
+use Rattle.convert.specs.Converts.{atExit}
 use Rattle.means_report.specs.Listed.{Entry, entryAt, wordsOf}
-use Rattle.means_report.specs.Report.{reported}
+use Rattle.means_report.specs.Report.{solidCount}
 use Rattle.demands.specs.Input.{Input, converted, checked}
-use Rattle.demands.specs.Demand1.{Within}
+use Rattle.demands.specs.Demand1.{WithinLimit}
 use Rattle.demands.specs.Demand3.{Report}
 use Rattle.demands.specs.Shells.{NoList}
 use Rattle.demands.specs.Table.{ofWritten}
@@ -38,14 +38,14 @@ words-long [] = refl
 words-long (e ∷ es) = omega (arith, words-long es)
 
 module _ (x : Input) (limit : ℕ) (faces₀ solids₀ : List ℕ) {c : Conversion} {faces solids : List ℕ}
-    (e : leaves c faces solids ≡ converted x limit faces₀ solids₀) where
+    (e : atExit c faces solids ≡ converted x limit faces₀ solids₀) where
   made : Converts x limit faces₀ solids₀ c faces solids
   made = Demanding.converts x limit faces₀ solids₀ e
 
   -- ---- two lists
 
   module _ (list other : List ℕ) {v w : Verdict} (is : v ≡ checked x list) (is-other : w ≡ checked x other) where
-    lists : 0 < reported c → Lists x limit faces₀ solids₀ list other faces solids (record { conversion = c; first = v; second = w })
+    lists : 0 < solidCount c → Lists x limit faces₀ solids₀ list other faces solids (record { conversion = c; first = v; second = w })
     lists h =
         let r = made .reports h in
         let y = Demanding.checks x list is in
@@ -84,7 +84,7 @@ module _ (x : Input) (limit : ℕ) (faces₀ solids₀ : List ℕ) {c : Conversi
 
   -- ---- a solid of the report
 
-  few : (a : Conversion) → Within limit a → reported a ≤ 8
+  few : (a : Conversion) → WithinLimit limit a → solidCount a ≤ 8
   few (Conversion.One l n work six) w = omega arith
   few (Conversion.Several l n work k) w = w .2
   few (Conversion.NoSolid l n work) w = omega arith
@@ -92,8 +92,8 @@ module _ (x : Input) (limit : ℕ) (faces₀ solids₀ : List ℕ) {c : Conversi
   few (Conversion.TooLong l n work) w = omega arith
   few (Conversion.Refused f) w = omega arith
 
-  module _ (i : ℕ) (there : i < reported c) where
-    report : Report x solids₀ (leaves c faces solids)
+  module _ (i : ℕ) (there : i < solidCount c) where
+    report : Report x solids₀ (atExit c faces solids)
     report = made .reports (omega (arith, there))
 
     -- its words are in the room

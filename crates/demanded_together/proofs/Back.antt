@@ -24,7 +24,7 @@ use Rattle.paper.specs.declared.Written.the-variants as Written
 use Rattle.paper_laws.proofs.Checks.{first-stops, first-passes}
 use Rattle.sheet_laws.proofs.Accepted.{coordinates-are, ends-are}
 use Rattle.sheet_laws.proofs.Written.{result-short}
-use Rattle.walk_input.specs.Given.{pointsOf, linksOf}
+use Rattle.walk_input.specs.Given.{coordinatesOf, linksOf}
 use Rattle.means_sheets.specs.Sheets.{SheetWritesBack}
 use Rattle.means_sheets.proofs.Sheets.{reads-back-one, writes-back-one}
 use Rattle.means_sheets.proofs.Sheets.Room.{length-sheet}
@@ -152,7 +152,7 @@ module _ (s room₀ : List ℕ) where
   pub written-back : Under 256 s → Answer.Fine ≡ firstOf (sheetChecks editionOne s) → {q : Sheet} {r : Written} {room : List ℕ}
       → q ≡ sheetOf editionOne s → WrittenFrom (q .drawing) room₀ r room → WritesBack s room₀ r room
   written-back bytes ok {q} e w =
-      let points-are = ap (λ (q : Sheet). pointsOf (q .drawing)) e ∙ sym (coordinates-are editionOne s ok) in
+      let points-are = ap (λ (q : Sheet). coordinatesOf (q .drawing)) e ∙ sym (coordinates-are editionOne s ok) in
       let links-are = ap (λ (q : Sheet). linksOf (q .drawing)) e ∙ sym (ends-are editionOne s ok) in
       again bytes ok (w .0 ∙ (λ i. writtenOf editionOne (points-are i) (links-are i) room₀))
       (w .1 ∙ (λ i. roomOf editionOne (points-are i) (links-are i) room₀))

@@ -18,10 +18,10 @@ use Rattle.paper.specs.declared.Verdict.{Verdict}
 use Rattle.paper.specs.declared.Verdict.the-variants as Verdict
 use Rattle.paper.specs.declared.Written.{Written}
 use Rattle.paper.specs.declared.Written.the-variants as Written
-use Rattle.walk_input.specs.Given.{pointsOf, linksOf}
+use Rattle.walk_input.specs.Given.{coordinatesOf, linksOf}
 use Rattle.means_report.specs.Listed.{Entry, entryAt, wordsOf}
 use Rattle.means_check.specs.Bodies.{SameBody}
-use Rattle.means_report.specs.Report.{reported}
+use Rattle.means_report.specs.Report.{solidCount}
 use Rattle.demands.specs.Input.{Input, sheet, drawing, candidatesOf, Passes, checked}
 use Rattle.demands.specs.Table.{one, end, forms, ofWritten}
 use Rattle.demands.specs.Shells.{Shape, NoList}
@@ -40,7 +40,7 @@ pub record ReadsBack (xyz : List ℤ) (ends room₀ : List ℕ) (r : Sheet) (roo
 -- a drawing by value, written out
 abbrev pub WrittenFrom : Drawing → List ℕ → Written → List ℕ → Type 0
 WrittenFrom d room₀ r room =
-    (r ≡ writtenOf editionOne (pointsOf d) (linksOf d) room₀) × (room ≡ roomOf editionOne (pointsOf d) (linksOf d) room₀)
+    (r ≡ writtenOf editionOne (coordinatesOf d) (linksOf d) room₀) × (room ≡ roomOf editionOne (coordinatesOf d) (linksOf d) room₀)
 
 -- demand 2, "a sheet that is accepted is written back with the same bytes": or it is refused as the reader refuses it, or by 1
 pub record WritesBack (s room₀ : List ℕ) (r : Written) (room : List ℕ) : Type 0 where
@@ -58,7 +58,7 @@ module _ (x : Input) (limit : ℕ) (faces₀ solids₀ list other : List ℕ) wh
   -- the solids that a report lists; "the check accepts a list exactly when it names one" of them with its directions
   pub record Lists (faces solids : List ℕ) (r : Told) : Type 0 where
     pub es : List Entry
-    pub n : length es ≡ reported (r .conversion)
+    pub n : length es ≡ solidCount (r .conversion)
     pub all : Every (drawing x) (candidatesOf x) es
     pub words : solids ≡ flatMap wordsOf es ++ drop (3 * length es) solids₀
     pub exactly : (r .first ≡ Verdict.Accepted)
@@ -71,7 +71,7 @@ module _ (x : Input) (limit : ℕ) (faces₀ solids₀ list other : List ℕ) wh
     pub converts : Converts x limit faces₀ solids₀ (r .conversion) faces solids
     pub checks : Checks x list (r .first)
     pub checks-other : Checks x other (r .second)
-    pub lists : 0 < reported (r .conversion) → Lists faces solids r
+    pub lists : 0 < solidCount (r .conversion) → Lists faces solids r
     -- a list that was accepted, and then had a face turned, all turned, one left out or one doubled, is refused
     pub spoiled : Passes x → r .first ≡ Verdict.Accepted → Spoiled (facesIn editionOne list) (facesIn editionOne other)
         → (f : Refusal) × (r .second ≡ Verdict.Refused f)

@@ -4,7 +4,7 @@ ghost use mathlib.Core.Path.{_≡_};
 ghost use mathlib.Core.Bool.{true};
 ghost use Rattle.paper.specs.FaceList.{solidFaces};
 ghost use Rattle.paper_laws.specs.InRange.{Held};
-ghost use Rattle.means_report.specs.Report.{reported};
+ghost use Rattle.means_report.specs.Report.{solidCount};
 ghost use Rattle.demands.specs.Input.{lent};
 ghost use Rattle.demands.specs.Input as Input;
 ghost use Rattle.demanded_together.specs.Together.{ReadsBack, WrittenFrom, WritesBack, Agrees, AcceptedAsSent};
@@ -194,7 +194,7 @@ fn sent_and_checked(xyz: &[i64], ends: &[u8], rows: &[u8], taken: u64, turned: u
 
 // How many solids a conversion reports.
 fn solids_in(c: Conversion) -> usize
-    ensures { λ r. ⌜ r ≡ reported c ⌝ }
+    ensures { λ r. ⌜ r ≡ solidCount c ⌝ }
 {
     match c {
         Conversion::One { .. } => 1,

@@ -28,16 +28,16 @@ use Rattle.faces_laws.proofs.Said.{sent-said}
 use Rattle.means_report.specs.Listed.{WalkTree}
 use Rattle.export_words.specs.Words.{Tells, ConvertsAs, WritesAs}
 use Rattle.export_words.specs.Volume.{Shows, AssessesAs}
-use Rattle.means_report.specs.Report.{reported}
+use Rattle.means_report.specs.Report.{solidCount}
 use Rattle.demands.specs.Input.{Input, drawing, candidatesOf, converted, checked}
 use Rattle.demands.specs.Walk.{solidsOf, workToNine}
 use Rattle.demands.specs.Demand2.{Demand2}
 use Rattle.demands.proofs.Demand1.{demand1}
 use Rattle.demands.proofs.Demand2.{demand2}
 use Rattle.demands.proofs.Answers.{numbered, volume-of-one}
-use Rattle.demanded.specs.Demanded.{Converts, Writes, Sends}
+use Rattle.demanded.specs.Demanded.{Converts, WritesSheet, Sends}
 use Rattle.demanded.proofs.Demanding as Demanding
-use Rattle.demanded_words.specs.Words.{EndsInWords, ConvertsInWords, Shown, AssessesInWords, ChecksInWords, WritesInWords}
+use Rattle.demanded_words.specs.Words.{EndsInWords, ConvertsInWords, ShownAs, AssessesInWords, ChecksInWords, WritesInWords}
 use Rattle.demanded_words.proofs.Numbers.{of-number, known, zero, Some, exactly, several}
 
 -- ---- conversion
@@ -77,7 +77,7 @@ module _ (x : Input) (limit : ℕ) (faces₀ solids₀ : List ℕ) where
       Demanding.converts x limit faces₀ solids₀ (λ i. record { answer = made .answer; faces = h .faces-are i; solids = h .solids-are i }) in
       record {
         answers = record { answer = made .answer; demanded = c; tells = h .tells; zero = z };
-        kept = λ n. c .kept (unreported (reported (made .answer)) (λ p. n (z .1 p)));
+        kept = λ n. c .kept (unreported (solidCount (made .answer)) (λ p. n (z .1 p)));
         ends = λ ok t allowed. ends t (demand2 x .holds ok t limit faces₀ solids₀ allowed) (h .tells .number-is);
       }
     where
@@ -87,7 +87,7 @@ module _ (x : Input) (limit : ℕ) (faces₀ solids₀ : List ℕ) where
   -- ---- the reading
 
   shown : {n : ℕ} {volume₀ volume : List Float} → Shows (readingSays (readingOf (made .answer))) n volume₀ volume
-      → Shown (made .answer) n volume₀ volume
+      → ShownAs (made .answer) n volume₀ volume
   unfolding readingOf
   shown {n} {volume₀} {volume} h = record {
     one-solid = (
@@ -161,7 +161,7 @@ module _ (w : Written) (positive : (f : Refusal) → w ≡ Written.Refused f →
 
 pub writes : (xyz : List ℤ) (ends room₀ : List ℕ) {r : ℕ} {room words₀ words : List ℕ}
     → WritesAs (writtenSaid editionOne xyz ends room₀) (roomOf editionOne xyz ends room₀) r room words₀ words
-    → WritesInWords (λ w. Writes xyz ends room₀ w room) room₀ r room words₀ words
+    → WritesInWords (λ w. WritesSheet xyz ends room₀ w room) room₀ r room words₀ words
 writes xyz ends room₀ h =
     let d = Demanding.writes xyz ends room₀ refl (h .room-is) in
     let said = sheet-written-said editionOne xyz ends room₀ in

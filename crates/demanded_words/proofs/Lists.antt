@@ -16,7 +16,7 @@ use Rattle.paper.specs.declared.Answer.{Answer}
 use Rattle.paper.specs.declared.Answer.the-variants as Answer
 use Rattle.paper.specs.declared.Refusal.{Refusal}
 use Rattle.export_words.specs.Words.{Tells}
-use Rattle.export_words.specs.Lists.{Read, listChecks, readFor, readInto, ReadsAs}
+use Rattle.export_words.specs.Lists.{Read, roomChecks, readFor, readInto, ReadsAs}
 use Rattle.means_sheets.proofs.Sheets.{writes-back-one}
 use Rattle.demands.specs.Input.{sheet}
 use Rattle.demands.specs.Sheets as Sheets
@@ -37,17 +37,17 @@ module _ (s : List ℕ) (bytes : Under 256 s) (xyz₀ : List ℤ) (ends₀ : Lis
   links = endsIn editionOne s
 
   abbrev checks : List Check
-  checks = sheetChecks editionOne s ++ listChecks points links xyz₀ ends₀
+  checks = sheetChecks editionOne s ++ roomChecks points links xyz₀ ends₀
 
   abbrev lines : (Answer → Type 0) → Answer → Type 0
   lines below = forms (sheet s) (line 1 2 (Two (length xyz₀ < length points) (length ends₀ < length links)) below)
 
   first : lines end (firstOf checks)
-  unfolding listChecks
+  unfolding roomChecks
   first =
       ends lines checks
       (behind (forms (sheet s)) (line 1 2 (Two (length xyz₀ < length points) (length ends₀ < length links))) (sheetChecks editionOne s)
-      (listChecks points links xyz₀ ends₀) (form-says (sheet s)) (λ e.
+      (roomChecks points links xyz₀ ends₀) (form-says (sheet s)) (λ e.
       also-two 1 (length xyz₀ < length points) (length ends₀ < length links) (ltb (length xyz₀) (length points))
       (ltb (length ends₀) (length links)) (is-lt (length xyz₀) (length points)) (is-lt (length ends₀) (length links)) (λ below. below) []
       done))
@@ -63,7 +63,7 @@ module _ (s : List ℕ) (bytes : Under 256 s) (xyz₀ : List ℤ) (ends₀ : Lis
 
   again : Answer.Fine ≡ firstOf checks → Sheets.Writes points links s
   unfolding sheetOf
-  again e = writes-back-one s (bytes, first-both (sheetChecks editionOne s) (listChecks points links xyz₀ ends₀) e .0) .room
+  again e = writes-back-one s (bytes, first-both (sheetChecks editionOne s) (roomChecks points links xyz₀ ends₀) e .0) .room
 
   -- what is read, by the answer
   abbrev read : Answer → Read

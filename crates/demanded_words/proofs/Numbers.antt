@@ -8,9 +8,9 @@ use Rattle.paper.specs.Reading.{Said, conversionSays, readingOf, readingSays}
 use Rattle.paper.specs.declared.Conversion.{Conversion}
 use Rattle.paper.specs.declared.Conversion.the-variants as Conversion
 use Rattle.paper.specs.declared.Refusal.{Refusal}
-use Rattle.means_report.specs.Report.{reported}
+use Rattle.means_report.specs.Report.{solidCount}
 use Rattle.demands.specs.Input.{Input, converted}
-use Rattle.demands.specs.Demand1.{Within}
+use Rattle.demands.specs.Demand1.{WithinLimit}
 use Rattle.demands.proofs.Demand1.{demand1}
 use Rattle.demands.proofs.Answers.{numbered, told}
 
@@ -28,10 +28,10 @@ pub known : (x : Input) (limit : ℕ) (faces solids : List ℕ) → Known (conve
 known x limit faces solids = record {
   above = numbered .converts x limit faces solids;
   below = numbered .below x limit faces solids;
-  some = λ l c work n e. omega (arith, subst (Within limit) e (demand1 .converts x limit faces solids .0) .1);
+  some = λ l c work n e. omega (arith, subst (WithinLimit limit) e (demand1 .converts x limit faces solids .0) .1);
 }
 
-pub zero : (a : Conversion) → Known a → (conversionSays a .number ≡ 0) ↔ (0 < reported a)
+pub zero : (a : Conversion) → Known a → (conversionSays a .number ≡ 0) ↔ (0 < solidCount a)
 zero (Conversion.One l c work six) k = (λ e. omega arith, λ h. refl)
 zero (Conversion.Several l c work n) k = (λ e. k .some l c work n refl, λ h. refl)
 zero (Conversion.NoSolid l c work) k = (λ e. absurd (omega (arith, e)), λ h. absurd (omega (arith, h)))

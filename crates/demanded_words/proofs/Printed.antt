@@ -13,7 +13,7 @@ use Rattle.paper.specs.declared.Answer.the-variants as Answer
 use Rattle.paper.specs.declared.Refusal.{Refusal}
 use Rattle.paper.specs.declared.Written.{Written}
 use Rattle.paper.specs.declared.Written.the-variants as Written
-use Rattle.desk_text.specs.Written.{textChecks, writtenFor, roomFor, writtenText, textRoom}
+use Rattle.desk_text.specs.Written.{textChecks, textWritten, textRoomFor, writtenText, textRoom}
 use Rattle.desk_text.proofs.Desk.{desk-short}
 use Rattle.demands.specs.Input.{sheet, converted}
 use Rattle.demands.specs.Table.{one, end, ofWritten}
@@ -34,7 +34,7 @@ module _ (t room₀ : List ℕ) where
       (ends (one 1 (length room₀ < length t)) (textChecks t (length room₀))
       (also-one 1 (length room₀ < length t) short (is-lt (length room₀) (length t)) (λ below. below) [] (λ e. done)))
     where
-      of-text : (a : Answer) → ofWritten (writtenFor t a) ≡ a
+      of-text : (a : Answer) → ofWritten (textWritten t a) ≡ a
       of-text Answer.Fine = refl
       of-text (Answer.Refused f) = refl
 
@@ -42,7 +42,7 @@ module _ (t room₀ : List ℕ) where
   unfolding writtenText textRoom
   kept f = go (firstOf (textChecks t (length room₀)))
     where
-      go : (a : Answer) → writtenFor t a ≡ Written.Refused f → roomFor t a room₀ ≡ room₀
+      go : (a : Answer) → textWritten t a ≡ Written.Refused f → textRoomFor t a room₀ ≡ room₀
       go Answer.Fine e = let z : _≡_ {A = ℕ} 0 1 = cc in absurd (omega arith)
       go (Answer.Refused g) e = refl
 
@@ -50,7 +50,7 @@ module _ (t room₀ : List ℕ) where
   unfolding writtenText textRoom
   printed n = go (firstOf (textChecks t (length room₀)))
     where
-      go : (a : Answer) → writtenFor t a ≡ Written.Bytes n → Stands t room₀ n (roomFor t a room₀)
+      go : (a : Answer) → textWritten t a ≡ Written.Bytes n → Stands t room₀ n (textRoomFor t a room₀)
       go Answer.Fine e = stands e refl refl
       go (Answer.Refused g) e = let z : _≡_ {A = ℕ} 0 1 = cc in absurd (omega arith)
 

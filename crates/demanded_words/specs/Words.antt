@@ -23,7 +23,7 @@ use Rattle.paper.specs.declared.Written.{Written}
 use Rattle.paper.specs.declared.Written.the-variants as Written
 use Rattle.means_report.specs.Listed.{WalkTree}
 use Rattle.export_words.specs.Words.{onto, Tells}
-use Rattle.means_report.specs.Report.{reported}
+use Rattle.means_report.specs.Report.{solidCount}
 use Rattle.demands.specs.Input.{Input, sheet, drawing, candidatesOf, Passes}
 use Rattle.demands.specs.Table.{line, end, forms, Two}
 use Rattle.demands.specs.Shells.{Shape}
@@ -49,7 +49,7 @@ pub record EndsInWords (x : Input) (t : WalkTree (drawing x) (candidatesOf x)) (
   pub long : (r ≡ 19) ↔ (limit < workToNine x t)
 
 pub record ConvertsInWords (x : Input) (limit : ℕ) (faces₀ solids₀ : List ℕ) (r : ℕ) (faces solids words₀ words : List ℕ) : Type 0 where
-  pub answers : Answers conversionSays (λ a. 0 < reported a) (λ a. Converts x limit faces₀ solids₀ a faces solids) r words₀ words
+  pub answers : Answers conversionSays (λ a. 0 < solidCount a) (λ a. Converts x limit faces₀ solids₀ a faces solids) r words₀ words
   pub kept : (r ≡ 0 → ⊥) → (faces ≡ faces₀) × (solids ≡ solids₀)
   -- demand 2, of the number: 17 exactly where there is no solid, 18 where a ninth is met, 19 where the limit is passed
   pub ends : Passes x → (t : WalkTree (drawing x) (candidatesOf x)) → Allowed limit faces₀ solids₀ → EndsInWords x t limit r
@@ -58,7 +58,7 @@ pub record ConvertsInWords (x : Input) (limit : ℕ) (faces₀ solids₀ : List 
 
 -- a volume is shown exactly where there is one solid, and it is that solid's; 30 says exactly that there are several; a refusal says its
 -- own number; and without a volume the double is as it came
-pub record Shown (a : Conversion) (n : ℕ) (volume₀ volume : List Float) : Type 0 where
+pub record ShownAs (a : Conversion) (n : ℕ) (volume₀ volume : List Float) : Type 0 where
   pub one-solid : (n ≡ 0) ↔ ((l c work six : ℕ) × (a ≡ Conversion.One l c work six))
   pub shown : (l c work six : ℕ) → a ≡ Conversion.One l c work six → volume ≡ onto (Paper.volume six ∷ []) volume₀
   pub several : (n ≡ 30) ↔ ((l c work k : ℕ) × (a ≡ Conversion.Several l c work k))
@@ -68,7 +68,7 @@ pub record Shown (a : Conversion) (n : ℕ) (volume₀ volume : List Float) : Ty
 pub record ShownIn (x : Input) (limit : ℕ) (faces₀ solids₀ : List ℕ) (n : ℕ) (volume₀ volume : List Float) : Type 0 where
   pub conversion : Converted
   pub converts : Converts x limit faces₀ solids₀ (conversion .answer) (conversion .faces) (conversion .solids)
-  pub shows : Shown (conversion .answer) n volume₀ volume
+  pub shows : ShownAs (conversion .answer) n volume₀ volume
 
 -- whatever the rooms of a conversion are, if only they are large enough
 abbrev pub AssessesInWords : Input → ℕ → ℕ → List Float → List Float → Type 0

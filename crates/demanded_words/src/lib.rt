@@ -3,7 +3,7 @@
 ghost use Rattle.paper.specs.FaceList.{solidFaces};
 ghost use Rattle.demands.specs.Input.{lent};
 ghost use Rattle.demands.specs.Input as Input;
-ghost use Rattle.demanded.specs.Demanded.{Writes, Sends};
+ghost use Rattle.demanded.specs.Demanded.{WritesSheet, Sends};
 ghost use Rattle.demanded_words.specs.Words.{ConvertsInWords, AssessesInWords, ChecksInWords, WritesInWords, ReadsInWords};
 ghost use Rattle.demanded_words.specs.Text.{Prints};
 use paper::Written;
@@ -16,7 +16,7 @@ pub fn read_sheet(sheet: &[u8], xyz: &mut [i64], ends: &mut [u8], said: &mut [u6
 }
 
 pub fn write_sheet(xyz: &[i64], ends: &[u8], room: &mut [u8], said: &mut [u64]) -> u64
-    ensures { λ r. ⌜ WritesInWords (λ w. Writes (now (xyz .entry)) (now (ends .entry)) (now (room .entry)) w (now (room .exit)))
+    ensures { λ r. ⌜ WritesInWords (λ w. WritesSheet (now (xyz .entry)) (now (ends .entry)) (now (room .entry)) w (now (room .exit)))
         (now (room .entry)) r (now (room .exit)) (now (said .entry)) (now (said .exit)) ⌝ }
 {
     export::nibgravel_write_sheet(xyz, ends, room, said)

@@ -20,9 +20,9 @@ use Rattle.paper.specs.declared.Conversion.{Conversion}
 use Rattle.paper.specs.declared.Conversion.the-variants as Conversion
 use Rattle.paper.specs.declared.Verdict.{Verdict}
 use Rattle.demands.specs.Input.{Input, lent, sheet, drawing, candidatesOf, converted}
-use Rattle.demands.specs.Table.{line, end, one, rooms, lists, forms, drawings, ofConversion, ofWritten, ofVerdict}
+use Rattle.demands.specs.Table.{line, end, one, roomsAndLimit, lists, forms, drawings, ofConversion, ofWritten, ofVerdict}
 use Rattle.demands.specs.Shells.{Shape, shells, NoList}
-use Rattle.demands.specs.Answers.{Numbered, Told, VolumeOfOne}
+use Rattle.demands.specs.Answers.{NumbersNotZero, Told, VolumeOfOne}
 use Rattle.demands.proofs.Demand1.{demand1}
 
 -- ---- the numbers of a table's lines are 1 to `most`
@@ -77,10 +77,10 @@ conversion-refused : (x : Input) (limit : ℕ) (room solids : List ℕ) (r : Ref
 conversion-refused x limit room solids r e =
     let ruled = of-forms 16 (drawings (drawing x) end) (of-drawings 16 end (none-left 16) (omega arith) (drawing x)) (omega arith) x in
     more 16 1 _ _ _ (omega arith) (more 16 2 _ _ _ (omega arith) ruled) .number r
-    (subst (λ (a : Conversion). rooms limit room solids (forms x (drawings (drawing x) end)) (ofConversion a)) e
+    (subst (λ (a : Conversion). roomsAndLimit limit room solids (forms x (drawings (drawing x) end)) (ofConversion a)) e
     (demand1 .converts x limit room solids .1))
 
-pub numbered : Numbered
+pub numbered : NumbersNotZero
 numbered = record {
   reads = λ s r e. of-forms 16 end (none-left 16) (omega arith) (sheet s) .number r (subst (forms (sheet s) end) e (demand1 .reads s)) .0;
   writes = λ xyz ns room r e.

@@ -26,7 +26,7 @@ use Rattle.paper.specs.declared.Verdict.{Verdict}
 use Rattle.paper.specs.declared.Reading.the-variants as Reading
 use Rattle.means_walk.specs.Tree.{assumptions}
 use Rattle.means_report.specs.Listed.{Entry, WalkTree, walked}
-use Rattle.means_report.specs.Report.{answered, facesFor, solidsFor, reported}
+use Rattle.means_report.specs.Report.{answered, facesFor, solidsFor, solidCount}
 use Rattle.means_report.proofs.Counted.{counted}
 use Rattle.means_report.proofs.Report.{Tells, Sound}
 use Rattle.means_report.proofs.Demand.{says-none, says-one, says-several, says-many, says-long}
@@ -34,9 +34,9 @@ use Rattle.means_report.proofs.Converted.{Cases, the-walk, conversion-says}
 use Rattle.paper_laws.proofs.Checks.{first-both}
 use Rattle.means_check.proofs.Demand.{drawing-fits}
 use Rattle.demands.specs.Input.{Input, drawing, candidatesOf, form, rules, Passes}
-use Rattle.demands.specs.Table.{end, one, rooms, forms, drawings, ofConversion, ofVerdict}
+use Rattle.demands.specs.Table.{end, one, roomsAndLimit, forms, drawings, ofConversion, ofVerdict}
 use Rattle.demands.specs.Shells.{Shape, shells}
-use Rattle.demands.specs.Demand1.{Within, Demand1}
+use Rattle.demands.specs.Demand1.{WithinLimit, Demand1}
 use Rattle.demands.proofs.Input.{converted-is, checked-is, drawing-fine}
 use Rattle.paper_laws.proofs.Tests.{is-not}
 use Rattle.demands.proofs.Table.{Says, also-one, behind, ends}
@@ -86,7 +86,7 @@ module _ (x : Input) (limit : ℕ) (room solids : List ℕ) (r : Converted) (s :
     abbrev t : WalkTree (drawing x) (candidates (drawing x))
     t = the-walk (drawing x)
 
-    sound-within : (a : Conversion) → r .answer ≡ a → Within limit a
+    sound-within : (a : Conversion) → r .answer ≡ a → WithinLimit limit a
     sound-within (Conversion.One l c w six) e = let o = says-one (drawing x) t limit room solids r s e in (o .within, o .is .iv .1)
     sound-within (Conversion.Several l c w n) e =
         let o = says-several (drawing x) t limit room solids r s e in
@@ -107,7 +107,7 @@ module _ (x : Input) (limit : ℕ) (room solids : List ℕ) (r : Converted) (s :
         go (inr (inl y)) = ap ofConversion (y .answer)
         go (inr (inr y)) = ap ofConversion (y .answer)
 
-    sound-kept : reported (r .answer) ≡ 0 → (r .faces ≡ room) × (r .solids ≡ solids)
+    sound-kept : solidCount (r .answer) ≡ 0 → (r .faces ≡ room) × (r .solids ≡ solids)
     unfolding solidsFor flatMap
     sound-kept e = go (s .tells)
       where
@@ -120,7 +120,7 @@ module _ (x : Input) (limit : ℕ) (room solids : List ℕ) (r : Converted) (s :
             let n = counted (length (loops (drawing x))) (length (candidates (drawing x))) (assumptions t)
             (walked (drawing x) (candidates (drawing x)) t) in
             let z : walked (drawing x) (candidates (drawing x)) t ≡ [] = empty (walked (drawing x) (candidates (drawing x)) t)
-            (sym n ∙ sym (ap reported (y .answer)) ∙ e) in
+            (sym n ∙ sym (ap solidCount (y .answer)) ∙ e) in
             (y .faces-left ∙ ap (facesFor (candidates (drawing x)) room) z, y .solids-left ∙ ap (solidsFor solids) z)
         go (inr (inl y)) = (y .faces-left, y .solids-left)
         go (inr (inr y)) = (y .faces-left, y .solids-left)
@@ -135,30 +135,30 @@ module _ (x : Input) (limit : ℕ) (room solids : List ℕ) where
   abbrev Answers : Type 0
   Answers = Cases (drawing x) (the-walk (drawing x)) (form x) limit room solids
 
-  within : Within limit (made .answer)
+  within : WithinLimit limit (made .answer)
   within = go (conversion-says (drawing x) (the-walk (drawing x)) (form x) limit room solids)
     where
-      go : Answers → Within limit (made .answer)
-      go (inl p) = subst (Within limit) (sym (ap (λ (c : Converted). c .answer) (p .2))) tt
+      go : Answers → WithinLimit limit (made .answer)
+      go (inl p) = subst (WithinLimit limit) (sym (ap (λ (c : Converted). c .answer) (p .2))) tt
       go (inr p) = sound-within x limit room solids made (p .1) (made .answer) refl
 
   parts : asked ≡ entryChecks limit room solids ++ rules x
   parts = simp append-assoc
 
-  says : rooms limit room solids (forms x (drawings (drawing x) end)) (ofConversion (made .answer))
+  says : roomsAndLimit limit room solids (forms x (drawings (drawing x) end)) (ofConversion (made .answer))
   says =
-      subst (rooms limit room solids (forms x (drawings (drawing x) end)))
+      subst (roomsAndLimit limit room solids (forms x (drawings (drawing x) end)))
       (sym (go (conversion-says (drawing x) (the-walk (drawing x)) (form x) limit room solids)))
-      (ends (λ below. rooms limit room solids (forms x (drawings (drawing x) below))) asked
-      (subst (Says (λ below. rooms limit room solids (forms x (drawings (drawing x) below)))) (sym parts)
-      (behind (rooms limit room solids) (λ below. forms x (drawings (drawing x) below)) (entryChecks limit room solids) (rules x)
+      (ends (λ below. roomsAndLimit limit room solids (forms x (drawings (drawing x) below))) asked
+      (subst (Says (λ below. roomsAndLimit limit room solids (forms x (drawings (drawing x) below)))) (sym parts)
+      (behind (roomsAndLimit limit room solids) (λ below. forms x (drawings (drawing x) below)) (entryChecks limit room solids) (rules x)
       (entry-says limit room solids) (λ e. rules-say x))))
     where
       go : Answers → ofConversion (made .answer) ≡ firstOf asked
       go (inl p) = ap (λ (c : Converted). ofConversion (c .answer)) (p .2) ∙ p .1
       go (inr p) = sound-fine x limit room solids made (p .1) ∙ p .0
 
-  keeps : reported (made .answer) ≡ 0 → (made .faces ≡ room) × (made .solids ≡ solids)
+  keeps : solidCount (made .answer) ≡ 0 → (made .faces ≡ room) × (made .solids ≡ solids)
   keeps e = go (conversion-says (drawing x) (the-walk (drawing x)) (form x) limit room solids)
     where
       go : Answers → (made .faces ≡ room) × (made .solids ≡ solids)
@@ -166,11 +166,11 @@ module _ (x : Input) (limit : ℕ) (room solids : List ℕ) where
       go (inr p) = sound-kept x limit room solids made (p .1) e
 
   -- a report is of a drawing that passes its rules
-  pub passes : 0 < reported (made .answer) → Passes x
+  pub passes : 0 < solidCount (made .answer) → Passes x
   passes h = go (conversion-says (drawing x) (the-walk (drawing x)) (form x) limit room solids)
     where
       go : Answers → Passes x
-      go (inl p) = absurd (omega (arith, h, ap (λ (c : Converted). reported (c .answer)) (p .2)))
+      go (inl p) = absurd (omega (arith, h, ap (λ (c : Converted). solidCount (c .answer)) (p .2)))
       go (inr p) = first-both (entryChecks limit room solids) (rules x) (p .0 ∙ ap firstOf parts) .1
 
 -- ---- the reading
@@ -206,8 +206,8 @@ pub demand1 : Demand1
 demand1 = record {
   converts =
       λ x limit room solids. subst
-      (λ (c : Converted). Within limit (c .answer)
-      × rooms limit room solids (forms x (drawings (drawing x) end)) (ofConversion (c .answer)))
+      (λ (c : Converted). WithinLimit limit (c .answer)
+      × roomsAndLimit limit room solids (forms x (drawings (drawing x) end)) (ofConversion (c .answer)))
       (sym (converted-is x limit room solids)) (within x limit room solids, says x limit room solids);
   checks =
       λ x list. subst
@@ -221,7 +221,7 @@ demand1 = record {
   writes = write-says;
   sends = send-says;
   rooms-kept = λ x limit room solids e.
-      subst (λ (c : Converted). reported (c .answer) ≡ 0 → (c .faces ≡ room) × (c .solids ≡ solids))
+      subst (λ (c : Converted). solidCount (c .answer) ≡ 0 → (c .faces ≡ room) × (c .solids ≡ solids))
       (sym (converted-is x limit room solids)) (keeps x limit room solids) e;
   blank-kept = read-blank;
   room-kept = write-keeps;

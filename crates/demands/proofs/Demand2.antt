@@ -19,9 +19,9 @@ use Rattle.means_report.proofs.Demand.{all-listed, says-none, says-many, says-l
 use Rattle.means_report.proofs.Converted.{the-walk, no-ninth, tells-few, tells-many, tells-long, none-says}
 use Rattle.means_loops.specs.Loop.{IsCandidate}
 use Rattle.means_loops.proofs.Listing.{candidates-are, candidates-all, candidates-ascend}
-use Rattle.means_report.specs.Report.{reported}
+use Rattle.means_report.specs.Report.{solidCount}
 use Rattle.demands.specs.Input.{Input, drawing, candidatesOf, form, Passes, converted}
-use Rattle.demands.specs.Table.{end, rooms, forms, drawings, ofConversion}
+use Rattle.demands.specs.Table.{end, roomsAndLimit, forms, drawings, ofConversion}
 use Rattle.demands.specs.Faces.{Candidates}
 use Rattle.demands.specs.Cover.{CandidateOf}
 use Rattle.demands.specs.Walk.{solidsOf, Allowed}
@@ -91,7 +91,7 @@ faces x = record {
 
 -- ---- what comes with a report
 
-fine-report : (a : Conversion) → 0 < reported a → ofConversion a ≡ Fine
+fine-report : (a : Conversion) → 0 < solidCount a → ofConversion a ≡ Fine
 fine-report (One l c work six) h = refl
 fine-report (Several l c work n) h = refl
 fine-report (NoSolid l c work) h = refl
@@ -100,16 +100,16 @@ fine-report (TooLong l c work) h = refl
 fine-report (Conversion.Refused r) h = absurd (omega (arith, h))
 
 -- 1 and 2 don't offend
-report-allowed : (x : Input) (limit : ℕ) (room solids : List ℕ) → 0 < reported (converted x limit room solids .answer)
+report-allowed : (x : Input) (limit : ℕ) (room solids : List ℕ) → 0 < solidCount (converted x limit room solids .answer)
     → Allowed limit room solids
 report-allowed x limit room solids h =
-    let lines = subst (rooms limit room solids (forms x (drawings (drawing x) end))) (fine-report (converted x limit room solids .answer) h)
+    let lines = subst (roomsAndLimit limit room solids (forms x (drawings (drawing x) end))) (fine-report (converted x limit room solids .answer) h)
     (demand1 .converts x limit room solids .1) in
     (omega (arith, lines .0 0 (omega arith)), omega (arith, lines .0 1 (omega arith)), omega (arith, lines .1 .0 0 (omega arith)))
 
-report-passes : (x : Input) (limit : ℕ) (room solids : List ℕ) → 0 < reported (converted x limit room solids .answer) → Passes x
+report-passes : (x : Input) (limit : ℕ) (room solids : List ℕ) → 0 < solidCount (converted x limit room solids .answer) → Passes x
 report-passes x limit room solids h =
-    passes x limit room solids (subst (λ (c : Converted). 0 < reported (c .answer)) (converted-is x limit room solids) h)
+    passes x limit room solids (subst (λ (c : Converted). 0 < solidCount (c .answer)) (converted-is x limit room solids) h)
 
 pub demand2 : (x : Input) → Holds2 x
 demand2 x = record {

@@ -18,14 +18,14 @@ use Rattle.paper.specs.declared.Verdict.the-variants.{Accepted, Refused}
 use Rattle.means_solid.specs.Solid.{IsSolid}
 use Rattle.means_solid.specs.Named.{Names}
 use Rattle.means_walk.specs.Tree.{assumptions}
-use Rattle.means_report.specs.Listed.{Entry, entryAt, Listed, walked}
-use Rattle.means_report.specs.Report.{facesFor, solidsFor, Reported, reported}
+use Rattle.means_report.specs.Listed.{Entry, entryAt, EverySolidOnce, walked}
+use Rattle.means_report.specs.Report.{facesFor, solidsFor, Reported, solidCount}
 use Rattle.means_report.proofs.Listed.{walked-lists}
 use Rattle.means_report.proofs.Counted.{counted}
 use Rattle.means_report.proofs.Report.{Tells, Sound}
 use Rattle.means_report.proofs.Converted.{the-walk, conversion-unrefused}
 use Rattle.means_sheets.specs.FaceLists.{Sendable}
-use Rattle.means_check.specs.Candidates.{Candidates}
+use Rattle.means_check.specs.Candidates.{ProperCandidates}
 use Rattle.means_check.specs.Accepts.{NamesSolid}
 use Rattle.means_check.specs.Sent.{faceList}
 use Rattle.means_check.specs.Bodies.{AmongEither, SameBody}
@@ -46,7 +46,7 @@ use Rattle.demands.proofs.Sendable.{names-sent, sent-taken}
 use Rattle.demands.proofs.Rooms.{faces-reported, words-at}
 
 module _ (x : Input) (p : Passes x) where
-  fits : Candidates (drawing x) (candidates (drawing x))
+  fits : ProperCandidates (drawing x) (candidates (drawing x))
   fits = drawing-fits (drawing x) (drawing-fine x p)
 
   -- faces that name a solid can be sent
@@ -69,7 +69,7 @@ module _ (x : Input) (p : Passes x) where
   named list a = accepts-exactly (form x) (drawing x) list .0 (sym (checked-is x list) ∙ a) .named
 
   -- what is accepted is one of all solids
-  module _ (es : List Entry) (all : Listed (drawing x) (candidates (drawing x)) es) where
+  module _ (es : List Entry) (all : EverySolidOnce (drawing x) (candidates (drawing x)) es) where
     among : (list : List ℕ) → checked x list ≡ Accepted → (i : ℕ) × (i < length es) × NamesIt x (entryAt es i) (facesIn editionOne list)
     among list a =
         let w = named list a in
@@ -148,14 +148,14 @@ module _ (x : Input) (p : Passes x) where
       go (Refused r) e = (r, e)
 
   report : (limit : ℕ) (room solids : List ℕ) (r : Converted) → Sound (drawing x) (the-walk (drawing x)) limit room solids r
-      → 0 < reported (r .answer) → Report x solids r
+      → 0 < solidCount (r .answer) → Report x solids r
   unfolding solidsFor
   report limit room solids r sound h = go (sound .tells)
     where
       es : List Entry
       es = walked (drawing x) (candidates (drawing x)) (the-walk (drawing x))
 
-      all : Listed (drawing x) (candidates (drawing x)) es
+      all : EverySolidOnce (drawing x) (candidates (drawing x)) es
       all = walked-lists (drawing x) (candidates (drawing x)) (sound .fair) (the-walk (drawing x))
 
       -- the faces that the report's rows and words give
@@ -182,7 +182,7 @@ module _ (x : Input) (p : Passes x) where
         es = es;
         n =
             sym
-            (ap reported (t .answer)
+            (ap solidCount (t .answer)
             ∙ counted (length (loops (drawing x))) (length (candidates (drawing x))) (assumptions (the-walk (drawing x))) es);
         all = every-words (drawing x) es all;
         words = t .solids-left;
@@ -197,8 +197,8 @@ module _ (x : Input) (p : Passes x) where
         differ = differ es all;
         same = alone es all;
       }
-      go (inr (inl t)) = absurd (omega (arith, ap reported (t .answer)))
-      go (inr (inr t)) = absurd (omega (arith, ap reported (t .answer)))
+      go (inr (inl t)) = absurd (omega (arith, ap solidCount (t .answer)))
+      go (inr (inr t)) = absurd (omega (arith, ap solidCount (t .answer)))
 
   holds : Demand3 x
   holds = record {
@@ -214,12 +214,12 @@ module _ (x : Input) (p : Passes x) where
     reports = λ limit room solids h. report limit room solids (converted x limit room solids) (sound limit room solids h) h;
   }
     where
-      sound : (limit : ℕ) (room solids : List ℕ) → 0 < reported (converted x limit room solids .answer)
+      sound : (limit : ℕ) (room solids : List ℕ) → 0 < solidCount (converted x limit room solids .answer)
           → Sound (drawing x) (the-walk (drawing x)) limit room solids (converted x limit room solids)
       sound limit room solids h =
           subst (Sound (drawing x) (the-walk (drawing x)) limit room solids) (sym (converted-is x limit room solids))
           (conversion-unrefused (drawing x) (the-walk (drawing x)) (form x) limit room solids
-          (λ r e. omega (arith, h, ap (λ (c : Converted). reported (c .answer)) (converted-is x limit room solids), ap reported e)))
+          (λ r e. omega (arith, h, ap (λ (c : Converted). solidCount (c .answer)) (converted-is x limit room solids), ap solidCount e)))
 
 pub demand3 : Holds3
 demand3 x p = holds x p

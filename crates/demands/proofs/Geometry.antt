@@ -34,7 +34,7 @@ use Rattle.means_contact.proofs.Common.{within-both}
 use Rattle.means_region.proofs.Winds.{faces-wind}
 use Rattle.means_moves.proofs.Faces.{pierced-on}
 use Rattle.means_clash.specs.Clash.{Opposite}
-use Rattle.demands.specs.Geometry.{pierced, fanRound, Geometry}
+use Rattle.demands.specs.Geometry.{piercingPoint, fanRound, Geometry}
 use Rattle.paper_laws.proofs.Tests.{is-ltZ}
 use Rattle.means_clash.proofs.Words.{is-opposite}
 
@@ -79,7 +79,7 @@ size-up (negsuc n) h = let z : _≡_ {A = ℕ} 0 1 = cc (is-ltZ (pos 0) (negsuc 
 
 on-edge : (p q : Point) (a b : ℤ) → Opposite a b
     → (pos 0 <ℤ pos (natAbs a)) × (pos (natAbs a) <ℤ pos (natAbs a + natAbs b))
-    × (pierced p q a b ≡ along (pos (natAbs a + natAbs b)) (pos (natAbs a)) p q)
+    × (piercingPoint p q a b ≡ along (pos (natAbs a + natAbs b)) (pos (natAbs a)) p q)
 on-edge p q a b h = (below 0 (natAbs a) (some h .0), more (natAbs a) (natAbs b) (some h .1), on-way p q (natAbs a) (natAbs b))
   where
     below : (m n : ℕ) → m < n → pos m <ℤ pos n
@@ -93,7 +93,7 @@ on-edge p q a b h = (below 0 (natAbs a) (some h .0), more (natAbs a) (natAbs b) 
     some (inr e) = (size-up a (e .0) .1, size-down b (e .1) .1)
 
 in-plane : (g : Polygon) (p q : Point) → Opposite (planeSide g p) (planeSide g q)
-    → OnPlane g (pierced p q (planeSide g p) (planeSide g q)) (pos (natAbs (planeSide g p) + natAbs (planeSide g q)))
+    → OnPlane g (piercingPoint p q (planeSide g p) (planeSide g q)) (pos (natAbs (planeSide g p) + natAbs (planeSide g q)))
 in-plane g p q h = pierced-on g p q (is-opposite (planeSide g p) (planeSide g q) .1 h)
 
 pub geometry : Geometry

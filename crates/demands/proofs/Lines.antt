@@ -21,14 +21,14 @@ use Rattle.means_drawing.specs.Drawings.{Doubled, Loose, Meets, Reachable, Risi
 use Rattle.means_drawing.proofs.Searches.{finds}
 use Rattle.means_drawing.proofs.Drawings.{samePlace-finds, looseVertex-finds, edgeMeets-finds, long-edges, apart-finds}
 use Rattle.demands.specs.Input.{Input, lent, sheet, drawing, form, rules}
-use Rattle.demands.specs.Table.{Outside, BadCount, Far, Wrong, BadEdge, Above, EdgeOrder, rooms, lists, forms, drawings}
+use Rattle.demands.specs.Table.{Outside, CountOffends, Far, Wrong, EdgeOffends, Above, OrderOffends, roomsAndLimit, lists, forms, drawings}
 use Rattle.paper_laws.proofs.Tests.{Is, is-lt, is-le, is-eq, is-ltZ, is-not, is-or, is-and}
 use Rattle.demands.proofs.Input.{rising}
 use Rattle.demands.proofs.Table.{Says, done, also, also-one, also-two, behind}
 
 -- ---- 1 and 2
 
-pub entry-says : (limit : ℕ) (room solids : List ℕ) → Says (rooms limit room solids) (entryChecks limit room solids)
+pub entry-says : (limit : ℕ) (room solids : List ℕ) → Says (roomsAndLimit limit room solids) (entryChecks limit room solids)
 unfolding entryChecks
 entry-says limit room solids =
     also-two 1 _ _ _ _ (is-lt (length room) 832) (is-lt (length solids) 24) _ _
@@ -39,7 +39,7 @@ entry-says limit room solids =
 is-outside : (lo hi n : ℕ) → Is (outside lo hi n) (Outside lo hi n)
 is-outside lo hi n = is-or (ltb n lo) (ltb hi n) (is-lt n lo) (is-lt hi n)
 
-is-bad : (k lo hi n : ℕ) → Is (badCount k lo hi n) (BadCount k lo hi n)
+is-bad : (k lo hi n : ℕ) → Is (badCount k lo hi n) (CountOffends k lo hi n)
 is-bad k lo hi n =
     is-or (not (eqb (n % k) 0)) (outside lo hi (n / k)) (is-not (eqb (n % k) 0) (is-eq (n % k) 0)) (is-outside lo hi (n / k))
 
@@ -52,14 +52,14 @@ is-far xyz i =
 is-wrong : (v a b : ℕ) → Is (wrong v a b) (Wrong v a b)
 is-wrong v a b = is-or (leb v a) (leb v b || leb b a) (is-le v a) (is-or (leb v b) (leb b a) (is-le v b) (is-le b a))
 
-is-bad-edge : (v : ℕ) (ns : List ℕ) (e : ℕ) → Is (wrongAt v ns e) (BadEdge v ns e)
+is-bad-edge : (v : ℕ) (ns : List ℕ) (e : ℕ) → Is (wrongAt v ns e) (EdgeOffends v ns e)
 unfolding wrongAt
 is-bad-edge v ns e = is-wrong v (getD ns (2 * e) 0) (getD ns (2 * e + 1) 0)
 
 is-above : (a b c d : ℕ) → Is (edgeAbove a b c d) (Above a b c d)
 is-above a b c d = is-or (ltb a c) (eqb a c && ltb b d) (is-lt a c) (is-and (eqb a c) (ltb b d) (is-eq a c) (is-lt b d))
 
-is-low : (ns : List ℕ) (e : ℕ) → Is (lowAt ns e) (EdgeOrder ns e)
+is-low : (ns : List ℕ) (e : ℕ) → Is (lowAt ns e) (OrderOffends ns e)
 unfolding lowAt
 is-low ns zero = (λ e. let z : _≡_ {A = ℕ} 0 1 = cc in omega arith, λ h. absurd h)
 is-low ns (suc e) =
@@ -70,10 +70,10 @@ content-says : (v : ℕ) (xyz : List ℤ) (ns : List ℕ) → Says (lists v xyz 
 unfolding contentChecks edgeChecks
 content-says v xyz ns =
     also 8 (length xyz) (Far xyz) (lowest (farAt xyz) (length xyz)) _ _ (finds (farAt xyz) (Far xyz) (length xyz) (λ k h. is-far xyz k))
-    (λ e. also 9 (length ns / 2) (BadEdge v ns) (lowest (wrongAt v ns) (length ns / 2)) _ _
-    (finds (wrongAt v ns) (BadEdge v ns) (length ns / 2) (λ k h. is-bad-edge v ns k))
-    (λ e. also 10 (length ns / 2) (EdgeOrder ns) (lowest (lowAt ns) (length ns / 2)) (λ below. below) []
-    (finds (lowAt ns) (EdgeOrder ns) (length ns / 2) (λ k h. is-low ns k)) (λ e. done)))
+    (λ e. also 9 (length ns / 2) (EdgeOffends v ns) (lowest (wrongAt v ns) (length ns / 2)) _ _
+    (finds (wrongAt v ns) (EdgeOffends v ns) (length ns / 2) (λ k h. is-bad-edge v ns k))
+    (λ e. also 10 (length ns / 2) (OrderOffends ns) (lowest (lowAt ns) (length ns / 2)) (λ below. below) []
+    (finds (lowAt ns) (OrderOffends ns) (length ns / 2) (λ k h. is-low ns k)) (λ e. done)))
 
 pub form-says : (x : Input) → Says (forms x) (form x)
 unfolding lentChecks sheetChecks shapeChecks openChecks countChecks closeChecks

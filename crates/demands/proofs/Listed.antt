@@ -10,17 +10,17 @@ use Rattle.paper.specs.Loops.{Loop, loopAt}
 use Rattle.paper.specs.Verdict.{numberIn, listed}
 use Rattle.means_solid.specs.Solid.{Face}
 use Rattle.means_solid.specs.Named.{SameRing, directed, Names}
-use Rattle.means_check.specs.Candidates.{Candidates}
+use Rattle.means_check.specs.Candidates.{ProperCandidates}
 use Rattle.means_check.proofs.Numbers.{is-candidate}
 use Rattle.means_check.proofs.Numbered.{Numbered, takenOf, turnedOf, number-of, taken-yes, either-number, ring-number, numbered-names}
 use Rattle.means_check.proofs.Demand.{drawing-fits}
 use Rattle.demands.specs.Input.{Input, drawing, candidatesOf, Passes}
-use Rattle.demands.specs.Shells.{Either, numberAt, NotCandidate, FaceTwice, ListedOnce}
+use Rattle.demands.specs.Shells.{Either, candidateAt, NoCandidate, AnEarlierFace, ListedOnce}
 use Rattle.demands.proofs.Input.{drawing-fine}
 use Rattle.demands.proofs.Shells.{either-trans, either-sym}
 
-module _ (d : Wire) (cs fs : List Loop) (c : Candidates d cs) where
-  known : ((i : ℕ) → i < length fs → NotCandidate d cs fs i → ⊥) → (i : ℕ) → i < length fs → numberIn cs (loopAt fs i) < length cs
+module _ (d : Wire) (cs fs : List Loop) (c : ProperCandidates d cs) where
+  known : ((i : ℕ) → i < length fs → NoCandidate d cs fs i → ⊥) → (i : ℕ) → i < length fs → numberIn cs (loopAt fs i) < length cs
   known p i h = go (decLt (numberIn cs (loopAt fs i)) (length cs))
     where
       go : Dec (numberIn cs (loopAt fs i) < length cs) → numberIn cs (loopAt fs i) < length cs
@@ -37,7 +37,7 @@ module _ (d : Wire) (cs fs : List Loop) (c : Candidates d cs) where
       sym (either-number d cs c (r .0) (loopAt fs i) (r .1) (r .2)) ∙ e ∙ either-number d cs c (s .0) (loopAt fs j) (s .1) (s .2) in
       either-trans (either-sym (r .2)) (subst (λ (k : ℕ). Either (loopAt cs k) (loopAt fs j)) (sym k) (s .2))
 
-  numbered : ((i : ℕ) → i < length fs → NotCandidate d cs fs i → ⊥) → ((i : ℕ) → i < length fs → FaceTwice d cs fs i → ⊥) → Numbered cs fs
+  numbered : ((i : ℕ) → i < length fs → NoCandidate d cs fs i → ⊥) → ((i : ℕ) → i < length fs → AnEarlierFace d cs fs i → ⊥) → Numbered cs fs
   numbered p q = record { known = known p; apart = λ i j hi hj e. go i j hi hj e (decLt i j) (decLt j i) }
     where
       go : (i j : ℕ) → i < length fs → j < length fs → numberIn cs (loopAt fs i) ≡ numberIn cs (loopAt fs j) → Dec (i < j) → Dec (j < i)
@@ -55,11 +55,11 @@ module _ (d : Wire) (cs fs : List Loop) (c : Candidates d cs) where
     where
       -- the face that the list names at i is the candidate of its number
       at : (i : ℕ) → i < length fs → Names d cs (takenOf cs fs) (turnedOf cs fs) fs
-          → Face d cs (takenOf cs fs) (turnedOf cs fs) (numberAt d cs fs i)
-          × SameRing (directed d cs (takenOf cs fs) (turnedOf cs fs) (numberAt d cs fs i)) (loopAt fs i)
+          → Face d cs (takenOf cs fs) (turnedOf cs fs) (candidateAt d cs fs i)
+          × SameRing (directed d cs (takenOf cs fs) (turnedOf cs fs) (candidateAt d cs fs i)) (loopAt fs i)
       at i h n =
           let r = n .each i h in
-          let e : r .0 ≡ numberAt d cs fs i = sym (number-of cs fs i h ∙ ring-number d cs c (takenOf cs fs) (turnedOf cs fs) (r .0) (loopAt fs i)
+          let e : r .0 ≡ candidateAt d cs fs i = sym (number-of cs fs i h ∙ ring-number d cs c (takenOf cs fs) (turnedOf cs fs) (r .0) (loopAt fs i)
           (taken-yes cs fs (r .0) (r .1) .0) (r .2) .0) in
           subst (λ (k : ℕ). Face d cs (takenOf cs fs) (turnedOf cs fs) k
           × SameRing (directed d cs (takenOf cs fs) (turnedOf cs fs) k) (loopAt fs i)) e (r .1, r .2)

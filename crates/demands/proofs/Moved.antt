@@ -19,8 +19,8 @@ use Rattle.paper.specs.declared.Answer.the-variants.{Fine}
 use Rattle.paper.specs.declared.Point.{Point}
 use Rattle.means_drawing.specs.Drawings.{Rising}
 use Rattle.means_moves.specs.Moves.{shift, mirror, Step, laid, oddly, Move}
-use Rattle.means_moves.specs.Lists.{eachVertex, Near}
-use Rattle.means_moves.specs.Turned.{turnsBy, Follows}
+use Rattle.means_moves.specs.Lists.{eachVertex, WithinRange}
+use Rattle.means_moves.specs.Turned.{turnsBy, FollowsMoved}
 use Rattle.exact.proofs.Order.{whole-pos}
 use Rattle.means_moves.proofs.Shift as Shift
 use Rattle.means_moves.proofs.Mirror as Mirror
@@ -64,11 +64,11 @@ shapes-same v list other s =
 
 module _ (m : Move) (x y : Input) (made : Made (m .to) x y) where
   follows : (limit : ℕ) (faces solids : List ℕ)
-      → Follows (turnsBy (m .sides-by)) (natAbs (m .sides-by)) solids (converted x limit faces solids) (converted y limit faces solids)
+      → FollowsMoved (turnsBy (m .sides-by)) (natAbs (m .sides-by)) solids (converted x limit faces solids) (converted y limit faces solids)
   follows limit faces solids =
-      subst (λ (r : Converted). Follows (turnsBy (m .sides-by)) (natAbs (m .sides-by)) solids r (converted y limit faces solids))
+      subst (λ (r : Converted). FollowsMoved (turnsBy (m .sides-by)) (natAbs (m .sides-by)) solids r (converted y limit faces solids))
       (sym (converted-as x limit faces solids))
-      (subst (Follows (turnsBy (m .sides-by)) (natAbs (m .sides-by)) solids
+      (subst (FollowsMoved (turnsBy (m .sides-by)) (natAbs (m .sides-by)) solids
       (conversion mostSolids (form x) (wire (coordinates x) (links x)) limit faces solids)) (sym (converted-as y limit faces solids))
       (either-follows m (form x) (form y) (made .forms) (coordinates x) (coordinates y) (links x) (links y) (rises x) (made .edges)
       (made .points) mostSolids limit faces solids))
@@ -90,7 +90,7 @@ module _ (m : Move) (x y : Input) (made : Made (m .to) x y) where
       ∙ sym (checked-as x list)
 
 -- lent lists, with any fault that 8 does not tell
-lent-made : (f : Point → Point) (xyz : List ℤ) (ends : List ℕ) → Near xyz → Near (eachVertex f xyz)
+lent-made : (f : Point → Point) (xyz : List ℤ) (ends : List ℕ) → WithinRange xyz → WithinRange (eachVertex f xyz)
     → Made f (lent xyz ends) (lent (eachVertex f xyz) ends)
 lent-made f xyz ends a b = record { points = refl; edges = refl; forms = forms-near f xyz ends a b }
 
@@ -128,12 +128,12 @@ module _ (ss : List Step) where
   }
 
   -- an even number of steps has the factor 1, an odd number -1
-  laid-follows : (solids : List ℕ) (r q : Converted) → Follows (turnsBy (laying ss .sides-by)) (natAbs (laying ss .sides-by)) solids r q
+  laid-follows : (solids : List ℕ) (r q : Converted) → FollowsMoved (turnsBy (laying ss .sides-by)) (natAbs (laying ss .sides-by)) solids r q
       → Laid (oddly ss) solids r q
   laid-follows solids r q f =
-      go (oddly ss) (subst (λ (z : ℤ). Follows (turnsBy z) (natAbs z) solids r q) (laid-turns ss) f)
+      go (oddly ss) (subst (λ (z : ℤ). FollowsMoved (turnsBy z) (natAbs z) solids r q) (laid-turns ss) f)
     where
-      go : (b : Bool) → Follows (turnsBy (cond b (negsuc 0) (pos 1))) (natAbs (cond b (negsuc 0) (pos 1))) solids r q → Laid b solids r q
+      go : (b : Bool) → FollowsMoved (turnsBy (cond b (negsuc 0) (pos 1))) (natAbs (cond b (negsuc 0) (pos 1))) solids r q → Laid b solids r q
       go true f = follows-mirrored f
       go false f = follows-same f
 

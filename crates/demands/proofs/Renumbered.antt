@@ -16,12 +16,12 @@ use Rattle.paper.specs.declared.Answer.the-variants as Answer
 use Rattle.paper.specs.declared.Conversion.the-variants as Conversion
 use Rattle.paper.specs.declared.Refusal.{Refusal}
 use Rattle.means_report.specs.Listed.{Entry}
-use Rattle.means_report.specs.Report.{reported}
+use Rattle.means_report.specs.Report.{solidCount}
 use Rattle.means_report.proofs.Counted.{counted}
 use Rattle.paper_laws.proofs.Checks.{first-stops, first-both, both-first}
 use Rattle.means_check.proofs.Demand.{drawing-places}
 use Rattle.means_moves.specs.Renumbered.{NewNumbers}
-use Rattle.means_moves.specs.Reports.{Whole, Tells, SameReport}
+use Rattle.means_moves.specs.Reports.{NotCut, TellsAll, SameReport}
 use Rattle.means_moves.proofs.Lent.{rising-below}
 use Rattle.means_moves.proofs.Refused.{Sorted, ruleOf, same-rule, same-refusal}
 use Rattle.means_moves.proofs.Sorted.{lent-sorted, sheet-sorted}
@@ -108,16 +108,16 @@ module _ (new : ℕ → ℕ) (x y : Input) (g : Given new x y) where
         record { body = w .body; six = refl },
       )
 
-  report : (z : Input) (u : List ℕ) (r : Converted) → Tells (drawing z) u r → ListsAll z u r
+  report : (z : Input) (u : List ℕ) (r : Converted) → TellsAll (drawing z) u r → ListsAll z u r
   report z u r t = record {
     es = t .es;
-    count = sym (ap reported (t .answer) ∙ counted (length (loops (drawing z))) (length (candidates (drawing z))) (t .work) (t .es));
+    count = sym (ap solidCount (t .answer) ∙ counted (length (loops (drawing z))) (length (candidates (drawing z))) (t .work) (t .es));
     words = t .words;
     every = every-words (drawing z) (t .es) (t .listed);
   }
 
-  reports : Passes x → (a b : ℕ) (f h u v : List ℕ) → Allowed a f u → Allowed b h v → Whole (converted x a f u .answer)
-      → Whole (converted y b h v .answer)
+  reports : Passes x → (a b : ℕ) (f h u v : List ℕ) → Allowed a f u → Allowed b h v → NotCut (converted x a f u .answer)
+      → NotCut (converted y b h v .answer)
       → (p : ListsAll x u (converted x a f u)) × (q : ListsAll y v (converted y b h v)) × OneToOne new x y (p .es) (q .es)
   unfolding report
   reports p a b f h u v ax ay wx wy =
@@ -127,7 +127,7 @@ module _ (new : ℕ → ℕ) (x y : Input) (g : Given new x y) where
       (λ (c : Converted). SameReport new (drawing x) (drawing y) u v c (converted y b h v)) (sym cx)
       (subst (SameReport new (drawing x) (drawing y) u v (conversion mostSolids (form x) (drawing x) a f u)) (sym cy)
       (same-report numbers (form x) (form y) a b f h u v (unrefused x p a f u ax) (unrefused y (passes p) b h v ay)
-      (subst (λ (c : Converted). Whole (c .answer)) cx wx) (subst (λ (c : Converted). Whole (c .answer)) cy wy))) in (
+      (subst (λ (c : Converted). NotCut (c .answer)) cx wx) (subst (λ (c : Converted). NotCut (c .answer)) cy wy))) in (
         report x u (converted x a f u) (s .here),
         report y v (converted y b h v) (s .there),
         record {

@@ -20,7 +20,7 @@ use Rattle.means_solid.specs.Named.{SameRing, Names}
 use Rattle.means_loops.specs.Path.{ClosedPath}
 use Rattle.means_sheets.specs.FaceLists.{Sendable}
 use Rattle.means_check.specs.Sent.{faceList}
-use Rattle.means_check.specs.Candidates.{Candidates}
+use Rattle.means_check.specs.Candidates.{ProperCandidates}
 use Rattle.means_check.specs.Bodies.{Singly, SameBody}
 use Rattle.demands.specs.Shells.{NoList}
 use Rattle.means_loops.proofs.Rings.{same-sym, same-trans}
@@ -34,7 +34,7 @@ body-least fs gs b y =
     partners (length gs) (length fs) (λ i j. SameRing (loopAt fs j) (loopAt gs i)) (b .0)
     (λ i j k hi hj p q. y i j hi hj (same-trans (same-sym p) q))
 
-module _ (d : Wire) (c : Candidates d (candidates d)) (apart : samePlace d ≡ none) (few : length (d .edges) ≤ 64)
+module _ (d : Wire) (c : ProperCandidates d (candidates d)) (apart : samePlace d ≡ none) (few : length (d .edges) ≤ 64)
     (taken turned : List Bool) {six : ℕ} (s : IsSolid d (candidates d) taken turned six) where
   turn : (b : Bool) (l : Loop) → ClosedPath d l → ClosedPath d (cond b (flipped l) l)
   turn true l c = path-flip d l c

@@ -33,12 +33,12 @@ use Rattle.means_leaf.proofs.Reaches.{reached-ways, ways-reached}
 use Rattle.means_masks.proofs.Edges.{in-two, two-in}
 use Rattle.means_masks.proofs.Tables.{EachTwo, masks-length, as-many, mask-at, two-masks, way-through, through-way, ways-at, at-ways}
 use Rattle.means_masks.proofs.Tables.{clash-dig, clashing-is, clashing-self}
-use Rattle.means_check.specs.Candidates.{Candidates}
+use Rattle.means_check.specs.Candidates.{ProperCandidates}
 use Rattle.means_check.proofs.Numbers.{is-candidate, row-length}
 use Rattle.means_check.proofs.Numbered.{numbersOf, takenOf, turnedOf, numbers-length, number-of, taken-is, known-all, either-number}
 use Rattle.means_check.proofs.Tests.{all-proper, inward-six, six-inward, edges-two}
-use Rattle.means_clash.specs.Clash.{Clash}
-use Rattle.demands.specs.Shells.{Either, NotCandidate, FaceTwice, EdgeCount, Direction, Pieces, Inward, Clashes, shells}
+use Rattle.means_clash.specs.Clash.{ClashOf}
+use Rattle.demands.specs.Shells.{Either, NoCandidate, AnEarlierFace, NotTwoFaces, NotOnceEachWay, NotJoined, NoVolume, ClashesWithAnother, shells}
 use Rattle.paper_laws.proofs.Tests.{Is, is-eq, is-not}
 use Rattle.means_clash.proofs.Words.{two-corners, is-clash}
 use Rattle.demands.proofs.Table.{Says, done, also, also-one}
@@ -60,10 +60,10 @@ either-sym {f} {g} (inr p) = inr (same-sym (subst (λ (l : Loop). SameRing l (fl
 finds-all : (p : ℕ → Bool) (P : ℕ → Type 0) {m n : ℕ} → m ≡ n → ((k : ℕ) → k < n → Is (p k) (P k)) → Finds P n (lowest p m)
 finds-all p P {m} {n} e f = subst (λ (n : ℕ). Finds P n (lowest p m)) e (finds p P m (λ k h. f k (omega arith)))
 
-module _ (d : Wire) (cs fs : List Loop) (c : Candidates d cs) where
+module _ (d : Wire) (cs fs : List Loop) (c : ProperCandidates d cs) where
   -- ---- 21
 
-  is-none : (i : ℕ) → i < length fs → Is (leb (length cs) (getD (numbersOf cs fs) i 0)) (NotCandidate d cs fs i)
+  is-none : (i : ℕ) → i < length fs → Is (leb (length cs) (getD (numbersOf cs fs) i 0)) (NoCandidate d cs fs i)
   is-none i h = (
     λ e k l r. omega (
       arith,
@@ -74,13 +74,13 @@ module _ (d : Wire) (cs fs : List Loop) (c : Candidates d cs) where
     λ f. le-leb (length cs) (getD (numbersOf cs fs) i 0) (go f (decLt (numberIn cs (loopAt fs i)) (length cs))),
   )
     where
-      go : NotCandidate d cs fs i → Dec (numberIn cs (loopAt fs i) < length cs) → length cs ≤ getD (numbersOf cs fs) i 0
+      go : NoCandidate d cs fs i → Dec (numberIn cs (loopAt fs i) < length cs) → length cs ≤ getD (numbersOf cs fs) i 0
       go f (yes l) = let r = is-candidate cs (loopAt fs i) l in absurd (f (r .0) (r .1) (r .2))
       go f (no l) = omega (arith, number-of cs fs i h)
 
-  finds-21 : Finds (NotCandidate d cs fs) (length fs) (notCandidate (length cs) (numbersOf cs fs))
+  finds-21 : Finds (NoCandidate d cs fs) (length fs) (notCandidate (length cs) (numbersOf cs fs))
   unfolding notCandidate
-  finds-21 = finds-all (λ i. leb (length cs) (getD (numbersOf cs fs) i 0)) (NotCandidate d cs fs) (numbers-length cs fs) is-none
+  finds-21 = finds-all (λ i. leb (length cs) (getD (numbersOf cs fs) i 0)) (NoCandidate d cs fs) (numbers-length cs fs) is-none
 
   abbrev Known : Type 0
   Known = (i : ℕ) → i < length fs → numberIn cs (loopAt fs i) < length cs
@@ -97,7 +97,7 @@ module _ (d : Wire) (cs fs : List Loop) (c : Candidates d cs) where
     low : (i : ℕ) → i < length fs → getD (numbersOf cs fs) i 0 < length cs
     low i h = omega (arith, number-of cs fs i h, n i h)
 
-    is-twice : (i : ℕ) → i < length fs → Is (member (getD (numbersOf cs fs) i 0) (take i (numbersOf cs fs))) (FaceTwice d cs fs i)
+    is-twice : (i : ℕ) → i < length fs → Is (member (getD (numbersOf cs fs) i 0) (take i (numbersOf cs fs))) (AnEarlierFace d cs fs i)
     is-twice i h = (
       λ e.
           let r = member-yes (getD (numbersOf cs fs) i 0) (take i (numbersOf cs fs)) e in
@@ -121,10 +121,10 @@ module _ (d : Wire) (cs fs : List Loop) (c : Candidates d cs) where
         long : length (take i (numbersOf cs fs)) ≡ i
         long = length-take-le i (numbersOf cs fs) (omega (arith, numbers-length cs fs))
 
-    finds-22 : Finds (FaceTwice d cs fs) (length fs) (faceTwice (numbersOf cs fs))
+    finds-22 : Finds (AnEarlierFace d cs fs) (length fs) (faceTwice (numbersOf cs fs))
     unfolding faceTwice
     finds-22 =
-        finds-all (λ i. member (getD (numbersOf cs fs) i 0) (take i (numbersOf cs fs))) (FaceTwice d cs fs) (numbers-length cs fs) is-twice
+        finds-all (λ i. member (getD (numbersOf cs fs) i 0) (take i (numbersOf cs fs))) (AnEarlierFace d cs fs) (numbers-length cs fs) is-twice
 
     -- each face is taken
     face-at : (i : ℕ) → i < length fs → dig (takenOf cs fs) (getD (numbersOf cs fs) i 0) ≡ true
@@ -193,7 +193,7 @@ module _ (d : Wire) (cs fs : List Loop) (c : Candidates d cs) where
 
   -- ---- 26
 
-  is-inward : Is (not (above (sixFrom 0 (tablesOf d cs .sixes) (takenOf cs fs) (turnedOf cs fs)))) (Inward d cs fs)
+  is-inward : Is (not (above (sixFrom 0 (tablesOf d cs .sixes) (takenOf cs fs) (turnedOf cs fs)))) (NoVolume d cs fs)
   unfolding listed inward
   is-inward = (
     λ e six p h.
@@ -205,7 +205,7 @@ module _ (d : Wire) (cs fs : List Loop) (c : Candidates d cs) where
     λ f. go f (above (sixFrom 0 (tablesOf d cs .sixes) (takenOf cs fs) (turnedOf cs fs))) refl,
   )
     where
-      go : Inward d cs fs → (b : Bool) → above (sixFrom 0 (tablesOf d cs .sixes) (takenOf cs fs) (turnedOf cs fs)) ≡ b → not b ≡ true
+      go : NoVolume d cs fs → (b : Bool) → above (sixFrom 0 (tablesOf d cs .sixes) (takenOf cs fs) (turnedOf cs fs)) ≡ b → not b ≡ true
       go f false e = refl
       go f true e =
           let r = inward-six d cs (takenOf cs fs) (turnedOf cs fs) (ap (λ (b : Bool). offends (not b) 0) e) in
@@ -222,10 +222,10 @@ module _ (d : Wire) (cs fs : List Loop) (c : Candidates d cs) where
 
     abbrev OtherClash : ℕ → Type 0
     OtherClash j =
-        (k : ℕ) × (dig (takenOf cs fs) k ≡ true) × (j ≡ k → ⊥) × Clash (polygon d (loopAt cs j)) (polygon d (loopAt cs k))
+        (k : ℕ) × (dig (takenOf cs fs) k ≡ true) × (j ≡ k → ⊥) × ClashOf (polygon d (loopAt cs j)) (polygon d (loopAt cs k))
 
     in-words : (j k : ℕ) → j < length cs → k < length cs
-        → Is (clash (polygon d (loopAt cs j)) (polygon d (loopAt cs k))) (Clash (polygon d (loopAt cs j)) (polygon d (loopAt cs k)))
+        → Is (clash (polygon d (loopAt cs j)) (polygon d (loopAt cs k))) (ClashOf (polygon d (loopAt cs j)) (polygon d (loopAt cs k)))
     in-words j k hj hk =
         is-clash (polygon d (loopAt cs j)) (polygon d (loopAt cs k)) (two-corners d (loopAt cs j) (c .normal j hj .three))
         (two-corners d (loopAt cs k) (c .normal k hk .three))
@@ -269,12 +269,12 @@ module _ (d : Wire) (cs fs : List Loop) (c : Candidates d cs) where
   pub shells-say : Says (shells d cs fs) (faceChecks (tablesOf d cs) (length cs) (listed cs fs))
   unfolding faceChecks listed inward
   shells-say =
-      also 21 (length fs) (NotCandidate d cs fs) (notCandidate (length cs) (numbersOf cs fs)) _ _ finds-21
-      (λ p. also 22 (length fs) (FaceTwice d cs fs) (faceTwice (numbersOf cs fs)) _ _ (finds-22 (known-all cs fs p))
-      (λ e. also 23 (length (d .edges)) (EdgeCount d cs fs) (edgeCount (tablesOf d cs) (takenOf cs fs)) _ _ finds-23
-      (λ q. also 24 (length (d .edges)) (Direction d cs fs) (direction (tablesOf d cs) (takenOf cs fs) (turnedOf cs fs)) _ _ finds-24
-      (λ e. also 25 (length fs) (Pieces d cs fs) (pieces (tablesOf d cs) (numbersOf cs fs) (takenOf cs fs)) _ _
+      also 21 (length fs) (NoCandidate d cs fs) (notCandidate (length cs) (numbersOf cs fs)) _ _ finds-21
+      (λ p. also 22 (length fs) (AnEarlierFace d cs fs) (faceTwice (numbersOf cs fs)) _ _ (finds-22 (known-all cs fs p))
+      (λ e. also 23 (length (d .edges)) (NotTwoFaces d cs fs) (edgeCount (tablesOf d cs) (takenOf cs fs)) _ _ finds-23
+      (λ q. also 24 (length (d .edges)) (NotOnceEachWay d cs fs) (direction (tablesOf d cs) (takenOf cs fs) (turnedOf cs fs)) _ _ finds-24
+      (λ e. also 25 (length fs) (NotJoined d cs fs) (pieces (tablesOf d cs) (numbersOf cs fs) (takenOf cs fs)) _ _
       (finds-25 (known-all cs fs p) (edges-two d cs (takenOf cs fs) (turnedOf cs fs) q))
-      (λ e. also-one 26 (Inward d cs fs) (not (above (sixFrom 0 (tablesOf d cs .sixes) (takenOf cs fs) (turnedOf cs fs)))) is-inward _ _
-      (λ e. also 27 (length fs) (Clashes d cs fs) (clashes (tablesOf d cs) (numbersOf cs fs) (takenOf cs fs)) (λ below. below) []
+      (λ e. also-one 26 (NoVolume d cs fs) (not (above (sixFrom 0 (tablesOf d cs .sixes) (takenOf cs fs) (turnedOf cs fs)))) is-inward _ _
+      (λ e. also 27 (length fs) (ClashesWithAnother d cs fs) (clashes (tablesOf d cs) (numbersOf cs fs) (takenOf cs fs)) (λ below. below) []
       (finds-27 (known-all cs fs p)) (λ e. done)))))))

@@ -28,9 +28,9 @@ use Rattle.means_loops.proofs.Listing.{candidates-proper, loop-normal}
 use Rattle.means_loops.proofs.Paths.{normal-loop, loop-path}
 use Rattle.means_loops.proofs.Lowest.{on-normal}
 use Rattle.means_loops.proofs.Rings.{same-refl}
-use Rattle.means_report.specs.Listed.{Entry, Listed}
+use Rattle.means_report.specs.Listed.{Entry, EverySolidOnce}
 use Rattle.means_check.specs.Accepts.{NamesSolid}
-use Rattle.means_clash.specs.Clash.{Clash, cornerAt}
+use Rattle.means_clash.specs.Clash.{ClashOf, cornerAt}
 use Rattle.demands.specs.Cover.{LoopOf, Covers, CandidateOf}
 use Rattle.demands.specs.Solid.{Solid, Every, NamesOne}
 use Rattle.paper_laws.proofs.Tests.{Is, is-off, is-and, is-to}
@@ -41,7 +41,7 @@ use Rattle.means_clash.proofs.Words.{two-corners, is-clash, is-plane}
 module _ (d : Wire) where
   is-at : (taken : List Bool) → length taken ≡ length (candidates d) → (j k : ℕ) → dig taken j ≡ true → dig taken k ≡ true
       → Is (clash (polygon d (loopAt (candidates d) j)) (polygon d (loopAt (candidates d) k)))
-      (Clash (polygon d (loopAt (candidates d) j)) (polygon d (loopAt (candidates d) k)))
+      (ClashOf (polygon d (loopAt (candidates d) j)) (polygon d (loopAt (candidates d) k)))
   is-at taken s j k hj hk =
       is-clash (polygon d (loopAt (candidates d) j)) (polygon d (loopAt (candidates d) k))
       (two-corners d (loopAt (candidates d) j) (candidates-proper d j (omega (arith, dig-lt taken j hj)) .three))
@@ -71,14 +71,14 @@ module _ (d : Wire) where
       v = λ j k hj hk n. is-off (is-at taken (s .some) j k hj hk) (s .v j k hj hk n);
     }
 
-  pub every-words : (es : List Entry) → Listed d (candidates d) es → Every d (candidates d) es
+  pub every-words : (es : List Entry) → EverySolidOnce d (candidates d) es → Every d (candidates d) es
   every-words es l = record {
     each = λ i h. in-words (l .each i h);
     there = λ taken turned six s. l .there (of-words s);
     once = l .once;
   }
 
-  pub words-every : (es : List Entry) → Every d (candidates d) es → Listed d (candidates d) es
+  pub words-every : (es : List Entry) → Every d (candidates d) es → EverySolidOnce d (candidates d) es
   words-every es l = record {
     each = λ i h. of-words (l .each i h);
     there = λ {taken} {turned} {six} s. l .there taken turned six (in-words s);

@@ -19,7 +19,7 @@ use Rattle.paper.specs.declared.Reading.{Reading}
 use Rattle.demands.specs.Input.{Input, converted, checked}
 
 -- no refusal has the number 0, which says that nothing is refused
-pub record Numbered : Type 0 where
+pub record NumbersNotZero : Type 0 where
   pub reads : (s : List ℕ) (r : Refusal) → sheetOf editionOne s .answer ≡ Answer.Refused r → 0 < r .number
   pub writes : (xyz : List ℤ) (ends room : List ℕ) (r : Refusal) → writtenOf editionOne xyz ends room ≡ Written.Refused r → 0 < r .number
   pub reads-faces : (v : ℕ) (list : List ℕ) (r : Refusal) → facesOf editionOne v list .answer ≡ Answer.Refused r → 0 < r .number

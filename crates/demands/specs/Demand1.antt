@@ -16,26 +16,26 @@ use Rattle.paper.specs.declared.Written.the-variants as Written
 use Rattle.paper.specs.declared.Conversion.{Conversion}
 use Rattle.paper.specs.declared.Conversion.the-variants as Conversion
 use Rattle.paper.specs.declared.Reading.the-variants as Reading
-use Rattle.means_report.specs.Report.{reported}
+use Rattle.means_report.specs.Report.{solidCount}
 use Rattle.demands.specs.Input.{Input, lent, sheet, drawing, candidatesOf, converted, checked}
-use Rattle.demands.specs.Table.{end, one, rooms, forms, drawings, ofConversion, ofWritten, ofVerdict}
+use Rattle.demands.specs.Table.{end, one, roomsAndLimit, forms, drawings, ofConversion, ofWritten, ofVerdict}
 use Rattle.demands.specs.Shells.{Shape, shells, NoList}
 
 -- a report is of one solid or of 2 to 8; its work, and that of 17 and 18, is within the limit, and that of 19 is the limit
-abbrev pub Within : ℕ → Conversion → Type 0
-Within limit (Conversion.One l c work six) = (work ≤ limit) × (0 < six)
-Within limit (Conversion.Several l c work n) = (work ≤ limit) × (2 ≤ n) × (n ≤ 8)
-Within limit (Conversion.NoSolid l c work) = work ≤ limit
-Within limit (Conversion.Many l c work) = work ≤ limit
-Within limit (Conversion.TooLong l c work) = work ≡ limit
-Within limit (Conversion.Refused r) = Unit {0}
+abbrev pub WithinLimit : ℕ → Conversion → Type 0
+WithinLimit limit (Conversion.One l c work six) = (work ≤ limit) × (0 < six)
+WithinLimit limit (Conversion.Several l c work n) = (work ≤ limit) × (2 ≤ n) × (n ≤ 8)
+WithinLimit limit (Conversion.NoSolid l c work) = work ≤ limit
+WithinLimit limit (Conversion.Many l c work) = work ≤ limit
+WithinLimit limit (Conversion.TooLong l c work) = work ≡ limit
+WithinLimit limit (Conversion.Refused r) = Unit {0}
 
 pub record Demand1 : Type 0 where
   -- "Every sheet, drawing, face list, work limit or room, however damaged, gets one of the answers in document 01", "its number and
   -- place": the first line of the table that offends, with the lowest place that does
   pub converts : (x : Input) (limit : ℕ) (room solids : List ℕ)
-      → Within limit (converted x limit room solids .answer)
-      × rooms limit room solids (forms x (drawings (drawing x) end)) (ofConversion (converted x limit room solids .answer))
+      → WithinLimit limit (converted x limit room solids .answer)
+      × roomsAndLimit limit room solids (forms x (drawings (drawing x) end)) (ofConversion (converted x limit room solids .answer))
   pub checks : (x : Input) (list : List ℕ)
       → forms x
       (drawings (drawing x)
@@ -49,7 +49,7 @@ pub record Demand1 : Type 0 where
   pub sends : (fs : List Loop) (room : List ℕ)
       → one 20 (NoList fs) (one 1 (length room < bytesFor (bitsOf editionOne fs)) end) (ofWritten (sentOf editionOne fs room))
   -- "leaves all lent buffers with the contents they came with": wherever there is no report, and no sheet or face list is written
-  pub rooms-kept : (x : Input) (limit : ℕ) (room solids : List ℕ) → reported (converted x limit room solids .answer) ≡ 0
+  pub rooms-kept : (x : Input) (limit : ℕ) (room solids : List ℕ) → solidCount (converted x limit room solids .answer) ≡ 0
       → (converted x limit room solids .faces ≡ room) × (converted x limit room solids .solids ≡ solids)
   pub blank-kept : (s : List ℕ) (r : Refusal) → sheetOf editionOne s .answer ≡ Answer.Refused r → sheetOf editionOne s .drawing ≡ blank
   pub room-kept : (xyz : List ℤ) (ends room : List ℕ) (r : Refusal) → writtenOf editionOne xyz ends room ≡ Written.Refused r

@@ -10,7 +10,7 @@ use Rattle.paper.specs.Conversion.{Converted}
 use Rattle.paper.specs.declared.Conversion.the-variants.{NoSolid, Many, TooLong}
 use Rattle.means_walk.specs.Tree.{steps}
 use Rattle.means_report.specs.Listed.{WalkTree}
-use Rattle.means_report.specs.Report.{answered, facesFor, solidsFor, reported}
+use Rattle.means_report.specs.Report.{answered, facesFor, solidsFor, solidCount}
 use Rattle.demands.specs.Input.{Input, drawing, candidatesOf, Passes, converted}
 use Rattle.demands.specs.Solid.{Solid, Every}
 use Rattle.demands.specs.Walk.{solidsOf, workOf, workToNine, WalkWords, Uncut, Allowed, Counts}
@@ -43,7 +43,7 @@ pub record Holds2 (x : Input) : Type 0 where
   -- "For a drawing that passes the drawing rules": what its walk is in words, and the demand
   pub in-words : Passes x → (t : WalkTree (drawing x) (candidatesOf x)) → WalkWords x t
   -- a report comes of nothing else: of such a drawing, with room and a limit that are allowed
-  pub reports : (limit : ℕ) (room solids : List ℕ) → 0 < reported (converted x limit room solids .answer)
+  pub reports : (limit : ℕ) (room solids : List ℕ) → 0 < solidCount (converted x limit room solids .answer)
       → Passes x × Allowed limit room solids
   pub holds : Passes x → (t : WalkTree (drawing x) (candidatesOf x)) (limit : ℕ) (room solids : List ℕ) → Allowed limit room solids
       → Demand2 x t limit room solids (converted x limit room solids)

@@ -14,7 +14,7 @@ use Rattle.means_solid.specs.Named.{Names}
 use Rattle.means_report.specs.Fair.{Same}
 use Rattle.means_report.specs.Listed.{Entry, entryAt, wordsOf}
 use Rattle.means_check.specs.Bodies.{SameBody}
-use Rattle.means_report.specs.Report.{reported}
+use Rattle.means_report.specs.Report.{solidCount}
 use Rattle.demands.specs.Input.{Input, drawing, candidatesOf, Passes, converted, checked}
 use Rattle.demands.specs.Solid.{Every, NamesOne}
 use Rattle.demands.specs.Shells.{Shape, NoList}
@@ -29,7 +29,7 @@ module _ (x : Input) where
   pub record Report (solids : List ℕ) (r : Converted) : Type 0 where
     -- these n, which are all that there are: their words stand in the room, in this order
     pub es : List Entry
-    pub n : length es ≡ reported (r .answer)
+    pub n : length es ≡ solidCount (r .answer)
     pub all : Every (drawing x) (candidatesOf x) es
     pub words : r .solids ≡ flatMap wordsOf es ++ drop (3 * length es) solids
     -- "each of the n is accepted": any faces that name it, packed; and the faces that its words and the report's rows give do name it
@@ -60,7 +60,7 @@ module _ (x : Input) where
     -- an accepted list with a face turned, all turned, one missing or one doubled is refused
     pub refused : (a b : List ℕ) → checked x a ≡ Accepted → Spoiled (facesIn editionOne a) (facesIn editionOne b)
         → (r : Refusal) × (checked x b ≡ Refused r)
-    pub reports : (limit : ℕ) (room solids : List ℕ) → 0 < reported (converted x limit room solids .answer)
+    pub reports : (limit : ℕ) (room solids : List ℕ) → 0 < solidCount (converted x limit room solids .answer)
         → Report solids (converted x limit room solids)
 
 -- demand 3

@@ -7,7 +7,7 @@ use Rattle.demands.specs.Geometry.{Geometry}
 use Rattle.demands.specs.Origin.{AnyOrigin}
 use Rattle.demands.specs.Shells.{ListedOnce}
 use Rattle.demands.specs.Demand1.{Demand1}
-use Rattle.demands.specs.Answers.{Numbered, Told, VolumeOfOne}
+use Rattle.demands.specs.Answers.{NumbersNotZero, Told, VolumeOfOne}
 use Rattle.demands.specs.Demand2.{Holds2}
 use Rattle.demands.specs.Sheets.{Sheets2}
 use Rattle.demands.specs.Demand3.{Holds3}
@@ -19,7 +19,7 @@ use Rattle.demands.specs.Shown.{ShownAlike}
 pub record Demands : Type 0 where
   -- 1, "Everything gets an answer": and no refusal can be taken for a volume
   pub answer : Demand1
-  pub numbered : Numbered
+  pub numbered : NumbersNotZero
   pub told : Told
   pub volume : VolumeOfOne
   -- 2, "The report is complete": of drawings, and of sheets

@@ -32,7 +32,7 @@ use Rattle.means_inside.specs.Regions.{Cut, At, OneWay}
 use Rattle.means_inside.specs.Touch.{Touch}
 use Rattle.means_inside.specs.Means.{big, Means}
 use Rattle.means_inside.specs.Theorems.{ByPlace}
-use Rattle.means_inside.specs.Convex.{Hand, Convex, Within, NotBeyond}
+use Rattle.means_inside.specs.Convex.{Hand, Convex, OnHand, NotBeyond}
 use Rattle.means_clash.specs.Clash.{Opposite}
 use Rattle.means_corner.specs.Corners.{CornerAngles}
 use Rattle.means_border.specs.Along.{MeetsBorder}
@@ -45,8 +45,8 @@ abbrev pub seenLoop : Wire → ℕ → List Flat
 seenLoop d i = map (seen (axis (normal (loopOf d i)))) (loopOf d i)
 
 -- the point where an edge pierces a plane, times |a| + |b|, for ends p and q that are a and b from it
-abbrev pub pierced : Point → Point → ℤ → ℤ → Point
-pierced p q a b = plus (times (pos (natAbs b)) p) (times (pos (natAbs a)) q)
+abbrev pub piercingPoint : Point → Point → ℤ → ℤ → Point
+piercingPoint p q a b = plus (times (pos (natAbs b)) p) (times (pos (natAbs a)) q)
 
 -- the sum of the determinants (p, a, b) over the sides from a to b: a face's part of six volumes, by a fan round p
 abbrev pub fanRound : Point → Polygon → ℤ
@@ -86,15 +86,15 @@ pub record Geometry : Type 0 where
   pub not-beyond : (d : Wire) → samePlace d ≡ none → edgeMeets d ≡ none → (i : ℕ) → i < length (loops d) → (h : Hand) (k : ℤ) → Up k
       → (p : Flat) → NotBeyond h k (seenLoop d i) p → (Touch p (map (big k) (seenLoop d i)) → ⊥) → whereFlat p k (seenLoop d i) ≡ Inside
   pub convex : (d : Wire) → samePlace d ≡ none → edgeMeets d ≡ none → (i : ℕ) → i < length (loops d) → (h : Hand)
-      → Convex h (seenLoop d i) → (k : ℤ) → Up k → (p : Flat) → (whereFlat p k (seenLoop d i) ≡ Inside) ↔ Within h k (seenLoop d i) p
+      → Convex h (seenLoop d i) → (k : ℤ) → Up k → (p : Flat) → (whereFlat p k (seenLoop d i) ≡ Inside) ↔ OnHand h k (seenLoop d i) p
   -- from a point strictly inside, in a direction of the plane, there is a first border point, and all before it is strictly inside
   pub first-border : MeetsBorder
   -- A: the piercing point is on the edge, |a| / (|a| + |b|) of the way from p to q and between its ends, and it is in g's plane
   pub on-edge : (p q : Point) (a b : ℤ) → Opposite a b
       → (pos 0 <ℤ pos (natAbs a)) × (pos (natAbs a) <ℤ pos (natAbs a + natAbs b))
-      × (pierced p q a b ≡ along (pos (natAbs a + natAbs b)) (pos (natAbs a)) p q)
+      × (piercingPoint p q a b ≡ along (pos (natAbs a + natAbs b)) (pos (natAbs a)) p q)
   pub in-plane : (g : Polygon) (p q : Point) → Opposite (planeSide g p) (planeSide g q)
-      → OnPlane g (pierced p q (planeSide g p) (planeSide g q)) (pos (natAbs (planeSide g p) + natAbs (planeSide g q)))
+      → OnPlane g (piercingPoint p q (planeSide g p) (planeSide g q)) (pos (natAbs (planeSide g p) + natAbs (planeSide g q)))
   -- "either way round": faces whose corners are in their planes
   pub either-way : (f g : Polygon) → InOwnPlane f → InOwnPlane g → clash f g ≡ clash g f
   -- C, "points strictly inside the corner angle": of every loop of a drawing that passes 11 and 13, just such a direction from a corner

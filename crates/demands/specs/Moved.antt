@@ -14,7 +14,7 @@ use Rattle.paper.specs.Refusals.{firstOf}
 use Rattle.paper.specs.Conversion.{Converted}
 use Rattle.paper.specs.declared.Point.{Point}
 use Rattle.means_moves.specs.Moves.{shift, mirror, Step, laid, oddly}
-use Rattle.means_moves.specs.Lists.{eachVertex, Near}
+use Rattle.means_moves.specs.Lists.{eachVertex, WithinRange}
 use Rattle.means_moves.specs.Turned.{Mirrored, Scaled}
 use Rattle.means_moves.specs.TurnedRound.{AllTurned}
 use Rattle.demands.specs.Input.{Input, lent, sheet, drawing, form, converted, checked}
@@ -44,7 +44,7 @@ pub record Round (x : Input) (list other : List ℕ) : Type 0 where
 pub record Shifts : Type 0 where
   -- "a drawing shifted by whole centimetres within the range gives the same answer, work, bit sets and volumes": the answer and both rooms.
   -- Lent lists may have any other fault than 8.
-  pub lists : (w : Point) (xyz : List ℤ) (ends : List ℕ) → Near xyz → Near (eachVertex (shift w) xyz) → (limit : ℕ) (faces solids : List ℕ)
+  pub lists : (w : Point) (xyz : List ℤ) (ends : List ℕ) → WithinRange xyz → WithinRange (eachVertex (shift w) xyz) → (limit : ℕ) (faces solids : List ℕ)
       → converted (lent (eachVertex (shift w) xyz) ends) limit faces solids ≡ converted (lent xyz ends) limit faces solids
   pub both : (w : Point) (x y : Input) → Made (shift w) x y → (limit : ℕ) (faces solids : List ℕ)
       → converted y limit faces solids ≡ converted x limit faces solids
@@ -67,7 +67,7 @@ Laid true solids r q = Mirrored solids r q
 
 -- with x mirrored, and x and y or y and z exchanged, in any number of steps: so are all quarter turns made
 pub record Turns : Type 0 where
-  pub lists : (ss : List Step) (xyz : List ℤ) (ends : List ℕ) → Near xyz → Near (eachVertex (laid ss) xyz)
+  pub lists : (ss : List Step) (xyz : List ℤ) (ends : List ℕ) → WithinRange xyz → WithinRange (eachVertex (laid ss) xyz)
       → (limit : ℕ) (faces solids : List ℕ)
       → Laid (oddly ss) solids (converted (lent xyz ends) limit faces solids)
       (converted (lent (eachVertex (laid ss) xyz) ends) limit faces solids)
@@ -79,7 +79,7 @@ pub record Turns : Type 0 where
 
 -- with all coordinates k times as large: six volumes k x k x k times as large, and all else the same
 pub record Scales : Type 0 where
-  pub lists : (k : ℕ) → 0 < k → (xyz : List ℤ) (ends : List ℕ) → Near xyz → Near (eachVertex (times (pos k)) xyz)
+  pub lists : (k : ℕ) → 0 < k → (xyz : List ℤ) (ends : List ℕ) → WithinRange xyz → WithinRange (eachVertex (times (pos k)) xyz)
       → (limit : ℕ) (faces solids : List ℕ)
       → Scaled k solids (converted (lent xyz ends) limit faces solids)
       (converted (lent (eachVertex (times (pos k)) xyz) ends) limit faces solids)

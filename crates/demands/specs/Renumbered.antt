@@ -12,28 +12,28 @@ use Rattle.paper.specs.declared.Answer.the-variants.{Fine}
 use Rattle.paper.specs.declared.Conversion.the-variants as Conversion
 use Rattle.paper.specs.declared.Refusal.{Refusal}
 use Rattle.means_report.specs.Listed.{Entry, entryAt}
-use Rattle.means_report.specs.Report.{solidsFor, reported}
+use Rattle.means_report.specs.Report.{solidsFor, solidCount}
 use Rattle.means_check.specs.Bodies.{SameBody}
 use Rattle.means_check.specs.Sent.{faceList}
 use Rattle.means_moves.specs.Renumbered.{Renumbered}
-use Rattle.means_moves.specs.Reports.{Whole}
+use Rattle.means_moves.specs.Reports.{NotCut}
 use Rattle.demands.specs.Input.{Input, drawing, form, candidatesOf, Passes, converted}
 use Rattle.demands.specs.Solid.{Solid, Every}
 use Rattle.demands.specs.Walk.{Allowed}
 
 -- a solid's faces in their directions, as lists of vertices
-abbrev pub facesOf : Input → Entry → List Loop
-facesOf x s = faceList (drawing x) (candidatesOf x) (s .taken) (s .turned)
+abbrev pub entryFaces : Input → Entry → List Loop
+entryFaces x s = faceList (drawing x) (candidatesOf x) (s .taken) (s .turned)
 
 -- "the same sets of faces under the new numbers": as directed rings, with the same six volumes
 pub record SameSolid (new : ℕ → ℕ) (x y : Input) (s t : Entry) : Type 0 where
-  pub body : SameBody (map (map new) (facesOf x s)) (facesOf y t)
+  pub body : SameBody (map (map new) (entryFaces x s)) (entryFaces y t)
   pub six : t .six ≡ s .six
 
 -- a report, or 17, lists all solids, each once
 pub record ListsAll (x : Input) (solids : List ℕ) (r : Converted) : Type 0 where
   pub es : List Entry
-  pub count : length es ≡ reported (r .answer)
+  pub count : length es ≡ solidCount (r .answer)
   pub words : r .solids ≡ solidsFor solids es
   pub every : Every (drawing x) (candidatesOf x) es
 
@@ -65,7 +65,7 @@ module _ (new : ℕ → ℕ) (x y : Input) where
         → (t : Entry) × Solid (drawing y) (candidatesOf y) (t .taken) (t .turned) (t .six) × SameSolid new x y s t
     -- of two conversions, with any limits and rooms that are allowed, "provided neither conversion ends in Many or TooLong"
     pub reports : Passes x → (a b : ℕ) (f g u v : List ℕ) → Allowed a f u → Allowed b g v
-        → Whole (converted x a f u .answer) → Whole (converted y b g v .answer)
+        → NotCut (converted x a f u .answer) → NotCut (converted y b g v .answer)
         → (p : ListsAll x u (converted x a f u)) × (q : ListsAll y v (converted y b g v)) × OneToOne new x y (p .es) (q .es)
 
 abbrev pub Renumbers : Type 0

@@ -13,9 +13,9 @@ use Rattle.paper.specs.Loops.{Loop, loopAt, flipped, polygon}
 use Rattle.paper.specs.FaceList.{countIn, facesIn, bitsOf}
 use Rattle.paper.specs.Verdict.{listed}
 use Rattle.paper.specs.declared.Answer.{Answer}
-use Rattle.means_solid.specs.Solid.{Face, InTwo, EachWay, Way, sixOf}
+use Rattle.means_solid.specs.Solid.{Face, InTwo, EachWay, Way, sixOfFaces}
 use Rattle.means_solid.specs.Named.{SameRing, directed, Names}
-use Rattle.means_clash.specs.Clash.{Clash}
+use Rattle.means_clash.specs.Clash.{ClashOf}
 use Rattle.demands.specs.Table.{Outside, line, one}
 
 -- a face of 3 to 12 corners, all below v; faces that a list can hold
@@ -35,7 +35,7 @@ abbrev pub Either : Loop → Loop → Type 0
 Either f g = SameRing f g ⊎ SameRing (flipped f) g
 
 module _ (d : Wire) (cs fs : List Loop) where
-  -- the candidates that the faces are, those of them that are run against their normal form, and the candidate of face i; `Listed` says
+  -- the candidates that the faces are, those of them that are run against their normal form, and the candidate of face i; `NamedByList` says
   -- so in words
   abbrev pub takenIn : List Bool
   takenIn = listed cs fs .taken
@@ -43,52 +43,52 @@ module _ (d : Wire) (cs fs : List Loop) where
   abbrev pub turnedIn : List Bool
   turnedIn = listed cs fs .turned
 
-  abbrev pub numberAt : ℕ → ℕ
-  numberAt i = getD (listed cs fs .numbers) i 0
+  abbrev pub candidateAt : ℕ → ℕ
+  candidateAt i = getD (listed cs fs .numbers) i 0
 
   -- 21, of a face: it is no candidate. 22, of a face: it is an earlier one
-  abbrev pub NotCandidate : ℕ → Type 0
-  NotCandidate i = (k : ℕ) → k < length cs → Either (loopAt cs k) (loopAt fs i) → ⊥
+  abbrev pub NoCandidate : ℕ → Type 0
+  NoCandidate i = (k : ℕ) → k < length cs → Either (loopAt cs k) (loopAt fs i) → ⊥
 
-  abbrev pub FaceTwice : ℕ → Type 0
-  FaceTwice i = (j : ℕ) × (j < i) × Either (loopAt fs j) (loopAt fs i)
+  abbrev pub AnEarlierFace : ℕ → Type 0
+  AnEarlierFace i = (j : ℕ) × (j < i) × Either (loopAt fs j) (loopAt fs i)
 
   -- what 23 to 27 speak of, once 21 and 22 have passed: the list names these two sets, and face i is its candidate in that direction
-  pub record Listed : Type 0 where
+  pub record NamedByList : Type 0 where
     pub names : Names d cs takenIn turnedIn fs
-    pub face : (i : ℕ) → i < length fs → Face d cs takenIn turnedIn (numberAt i)
-    pub ring : (i : ℕ) → i < length fs → SameRing (directed d cs takenIn turnedIn (numberAt i)) (loopAt fs i)
+    pub face : (i : ℕ) → i < length fs → Face d cs takenIn turnedIn (candidateAt i)
+    pub ring : (i : ℕ) → i < length fs → SameRing (directed d cs takenIn turnedIn (candidateAt i)) (loopAt fs i)
 
   abbrev pub ListedOnce : Type 0
-  ListedOnce = ((i : ℕ) → i < length fs → NotCandidate i → ⊥) → ((i : ℕ) → i < length fs → FaceTwice i → ⊥) → Listed
+  ListedOnce = ((i : ℕ) → i < length fs → NoCandidate i → ⊥) → ((i : ℕ) → i < length fs → AnEarlierFace i → ⊥) → NamedByList
 
   -- 23, of an edge: "not two faces". 24, of an edge: not once each way
-  abbrev pub EdgeCount : ℕ → Type 0
-  EdgeCount e = InTwo d cs takenIn turnedIn (edgeAt d e) → ⊥
+  abbrev pub NotTwoFaces : ℕ → Type 0
+  NotTwoFaces e = InTwo d cs takenIn turnedIn (edgeAt d e) → ⊥
 
-  abbrev pub Direction : ℕ → Type 0
-  Direction e = EachWay d cs takenIn turnedIn (edgeAt d e) → ⊥
+  abbrev pub NotOnceEachWay : ℕ → Type 0
+  NotOnceEachWay e = EachWay d cs takenIn turnedIn (edgeAt d e) → ⊥
 
   -- 25, of a face: "not joined to face 0". 26: "six volumes not above 0". 27, of a face: it clashes with another
-  abbrev pub Pieces : ℕ → Type 0
-  Pieces i = Way d cs takenIn turnedIn (numberAt 0) (numberAt i) → ⊥
+  abbrev pub NotJoined : ℕ → Type 0
+  NotJoined i = Way d cs takenIn turnedIn (candidateAt 0) (candidateAt i) → ⊥
 
-  abbrev pub Inward : Type 0
-  Inward = (six : ℕ) → sixOf d cs takenIn turnedIn 0 cs ≡ pos six → 0 < six → ⊥
+  abbrev pub NoVolume : Type 0
+  NoVolume = (six : ℕ) → sixOfFaces d cs takenIn turnedIn 0 cs ≡ pos six → 0 < six → ⊥
 
-  abbrev pub Clashes : ℕ → Type 0
-  Clashes i =
-      (k : ℕ) × Face d cs takenIn turnedIn k × (numberAt i ≡ k → ⊥)
-      × Clash (polygon d (loopAt cs (numberAt i))) (polygon d (loopAt cs k))
+  abbrev pub ClashesWithAnother : ℕ → Type 0
+  ClashesWithAnother i =
+      (k : ℕ) × Face d cs takenIn turnedIn k × (candidateAt i ≡ k → ⊥)
+      × ClashOf (polygon d (loopAt cs (candidateAt i))) (polygon d (loopAt cs k))
 
   -- 20, 26: 0. 21, 22, 25, 27: "face". 23, 24: "edge"
   abbrev pub shells : (Answer → Type 0) → Answer → Type 0
   shells below =
-      line 21 (length fs) NotCandidate
-      (line 22 (length fs) FaceTwice
-      (line 23 (length (d .edges)) EdgeCount
-      (line 24 (length (d .edges)) Direction
-      (line 25 (length fs) Pieces (one 26 Inward (line 27 (length fs) Clashes below))))))
+      line 21 (length fs) NoCandidate
+      (line 22 (length fs) AnEarlierFace
+      (line 23 (length (d .edges)) NotTwoFaces
+      (line 24 (length (d .edges)) NotOnceEachWay
+      (line 25 (length fs) NotJoined (one 26 NoVolume (line 27 (length fs) ClashesWithAnother below))))))
 
 -- what is sent as a face list: 20 where these are no faces of one, and then 1, "room shorter"
 abbrev pub NoList : List Loop → Type 0

@@ -12,7 +12,7 @@ use Rattle.paper.specs.declared.Conversion.the-variants as Conversion
 use Rattle.paper.specs.declared.Point.{Point}
 use Rattle.paper.specs.declared.Reading.{Reading}
 use Rattle.means_moves.specs.Moves.{shift, mirror}
-use Rattle.means_moves.specs.Lists.{eachVertex, Near}
+use Rattle.means_moves.specs.Lists.{eachVertex, WithinRange}
 use Rattle.demands.specs.Input.{Input, lent, sheet, converted}
 use Rattle.demands.specs.Moved.{Made}
 
@@ -27,7 +27,7 @@ otherSign b = cond (eqb b 43) 45 (cond (eqb b 45) 43 b)
 pub record ShownAlike : Type 0 where
   -- "a drawing shifted by whole centimetres within the range gives the same answer, work, bit sets and volumes": so the same reading,
   -- also of lent lists with any other fault, and of a sheet the same text to the byte
-  pub shift-lists : (w : Point) (xyz : List ℤ) (ends : List ℕ) → Near xyz → Near (eachVertex (shift w) xyz)
+  pub shift-lists : (w : Point) (xyz : List ℤ) (ends : List ℕ) → WithinRange xyz → WithinRange (eachVertex (shift w) xyz)
       → (limit : ℕ) (faces solids : List ℕ)
       → readingFor (lent (eachVertex (shift w) xyz) ends) limit faces solids ≡ readingFor (lent xyz ends) limit faces solids
   pub shift-both : (w : Point) (x y : Input) → Made (shift w) x y → (limit : ℕ) (faces solids : List ℕ)

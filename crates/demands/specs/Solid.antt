@@ -9,11 +9,11 @@ use lib.ListN.{length}
 use Rattle.sets.specs.Word.{dig}
 use Rattle.paper.specs.Drawing.{Wire, edgeAt}
 use Rattle.paper.specs.Loops.{Loop, loopAt, polygon}
-use Rattle.means_solid.specs.Solid.{Face, InTwo, Way, EachWay, sixOf}
+use Rattle.means_solid.specs.Solid.{Face, InTwo, Way, EachWay, sixOfFaces}
 use Rattle.means_solid.specs.Named.{Names}
 use Rattle.means_report.specs.Fair.{Same}
 use Rattle.means_report.specs.Listed.{Entry, entryAt}
-use Rattle.means_clash.specs.Clash.{Clash}
+use Rattle.means_clash.specs.Clash.{ClashOf}
 
 module _ (d : Wire) (cs : List Loop) where
   pub record Solid (taken turned : List Bool) (six : ℕ) : Type 0 where
@@ -26,10 +26,10 @@ module _ (d : Wire) (cs : List Loop) where
     -- "faces can be given directions so that each edge is run once each way"
     pub iii : (e : ℕ) → e < length (d .edges) → EachWay d cs taken turned (edgeAt d e)
     -- "six times the signed volume is above zero"
-    pub iv : (sixOf d cs taken turned 0 cs ≡ pos six) × (0 < six)
+    pub iv : (sixOfFaces d cs taken turned 0 cs ≡ pos six) × (0 < six)
     -- "no two faces clash"
     pub v : (j k : ℕ) → Face d cs taken turned j → Face d cs taken turned k → (j ≡ k → ⊥)
-        → Clash (polygon d (loopAt cs j)) (polygon d (loopAt cs k)) → ⊥
+        → ClashOf (polygon d (loopAt cs j)) (polygon d (loopAt cs k)) → ⊥
 
   -- "every solid once": each entry is a solid, each solid is an entry, and no two entries are the same set of faces
   pub record Every (es : List Entry) : Type 0 where

@@ -43,15 +43,15 @@ Two A B zero = A
 Two A B (suc p) = B
 
 -- 1 NoRoom, "under 832 bytes for faces; under 24 words for solids", "0; 1". 2 BadLimit, "above 1,000,000"
-abbrev pub rooms : ℕ → List ℕ → List ℕ → (Answer → Type 0) → Answer → Type 0
-rooms limit room solids below = line 1 2 (Two (length room < 832) (length solids < 24)) (one 2 (1000000 < limit) below)
+abbrev pub roomsAndLimit : ℕ → List ℕ → List ℕ → (Answer → Type 0) → Answer → Type 0
+roomsAndLimit limit room solids below = line 1 2 (Two (length room < 832) (length solids < 24)) (one 2 (1000000 < limit) below)
 
 -- 5 BadCount: outside lo to hi; of a lent list of n numbers, k to a vertex or an edge, also "a lent list that isn't whole"
 abbrev pub Outside : ℕ → ℕ → ℕ → Type 0
 Outside lo hi n = (n < lo) ⊎ (hi < n)
 
-abbrev pub BadCount : ℕ → ℕ → ℕ → ℕ → Type 0
-BadCount k lo hi n = (n % k ≡ 0 → ⊥) ⊎ Outside lo hi (n / k)
+abbrev pub CountOffends : ℕ → ℕ → ℕ → ℕ → Type 0
+CountOffends k lo hi n = (n % k ≡ 0 → ⊥) ⊎ Outside lo hi (n / k)
 
 -- 8 BadCoordinate: number i of the coordinate list is outside -1,000 to 1,000
 abbrev pub Far : List ℤ → ℕ → Type 0
@@ -61,28 +61,28 @@ Far xyz i = (getD xyz i (pos 0) <ℤ negsuc 999) ⊎ (pos 1000 <ℤ getD xyz i (
 abbrev pub Wrong : ℕ → ℕ → ℕ → Type 0
 Wrong v a b = (v ≤ a) ⊎ ((v ≤ b) ⊎ (b ≤ a))
 
-abbrev pub BadEdge : ℕ → List ℕ → ℕ → Type 0
-BadEdge v ends e = Wrong v (getD ends (2 * e) 0) (getD ends (2 * e + 1) 0)
+abbrev pub EdgeOffends : ℕ → List ℕ → ℕ → Type 0
+EdgeOffends v ends e = Wrong v (getD ends (2 * e) 0) (getD ends (2 * e + 1) 0)
 
 -- 10 EdgeOrder: "not above the edge before", as pairs
 abbrev pub Above : ℕ → ℕ → ℕ → ℕ → Type 0
 Above a₀ b₀ a b = (a₀ < a) ⊎ ((a₀ ≡ a) × (b₀ < b))
 
-abbrev pub EdgeOrder : List ℕ → ℕ → Type 0
-EdgeOrder ends zero = ⊥
-EdgeOrder ends (suc e) =
+abbrev pub OrderOffends : List ℕ → ℕ → Type 0
+OrderOffends ends zero = ⊥
+OrderOffends ends (suc e) =
     Above (getD ends (2 * e) 0) (getD ends (2 * e + 1) 0) (getD ends (2 * e + 2) 0) (getD ends (2 * e + 3) 0) → ⊥
 
 -- 8, "place in the coordinate list"; 9 and 10, "edge"
 abbrev pub lists : ℕ → List ℤ → List ℕ → (Answer → Type 0) → Answer → Type 0
 lists v xyz ends below =
-    line 8 (length xyz) (Far xyz) (line 9 (length ends / 2) (BadEdge v ends) (line 10 (length ends / 2) (EdgeOrder ends) below))
+    line 8 (length xyz) (Far xyz) (line 9 (length ends / 2) (EdgeOffends v ends) (line 10 (length ends / 2) (OrderOffends ends) below))
 
 -- 3 to 10. 3 SheetShort, "under 3 bytes"; 4 SheetEdition, "not 1"; 5, "0 vertices, 1 edges"; 6 SheetLength, "too short or long"; 7
 -- SheetPad, "nonzero fill": of a sheet. Of lent lists "3, 4, 6 and 7 don't arise"
 abbrev pub forms : Input → (Answer → Type 0) → Answer → Type 0
 forms (lent xyz ends) below =
-    line 5 2 (Two (BadCount 3 4 32 (length xyz)) (BadCount 2 6 64 (length ends))) (lists (length xyz / 3) xyz ends below)
+    line 5 2 (Two (CountOffends 3 4 32 (length xyz)) (CountOffends 2 6 64 (length ends))) (lists (length xyz / 3) xyz ends below)
 forms (sheet s) below =
     let v = verticesIn editionOne s in
     let e = edgesIn editionOne s in

@@ -11,7 +11,7 @@ use Rattle.paper.specs.declared.Point.{Point}
 use Rattle.paper.specs.declared.Refusal.{Refusal}
 use Rattle.means_moves.specs.Moves.{shift, mirror, Step, laid, oddly}
 use Rattle.means_moves.specs.Turned.{Mirrored, Scaled}
-use Rattle.means_moves.specs.Reports.{Whole}
+use Rattle.means_moves.specs.Reports.{NotCut}
 use Rattle.demands.specs.Input.{Input, Passes}
 use Rattle.demands.specs.Walk.{Allowed}
 use Rattle.demands.specs.Moved.{Made, Laid}
@@ -34,7 +34,7 @@ module _ (x y : Input) (a b : ℕ) (f u g v : List ℕ) where
     -- new numbers, provided neither conversion ends in Many or TooLong", with any limits and rooms that are allowed
     pub refused : SameTerms → (new : ℕ → ℕ) → Given new x y → (n : Refusal) → r .answer ≡ Conversion.Refused n
         → (k : Refusal) × (q .answer ≡ Conversion.Refused k) × (k .number ≡ n .number)
-    pub renumbered : (new : ℕ → ℕ) → Given new x y → Passes x → Allowed a f u → Allowed b g v → Whole (r .answer) → Whole (q .answer)
+    pub renumbered : (new : ℕ → ℕ) → Given new x y → Passes x → Allowed a f u → Allowed b g v → NotCut (r .answer) → NotCut (q .answer)
         → (s : ListsAll x u r) × (t : ListsAll y v q) × OneToOne new x y (s .es) (t .es)
     -- "a higher allowed work limit changes no answer but TooLong"
     pub higher : y ≡ x → g ≡ f → v ≡ u → a ≤ b → b ≤ mostWork → ((l c w : ℕ) → r .answer ≡ Conversion.TooLong l c w → ⊥) → q ≡ r

@@ -10,7 +10,7 @@ use Rattle.paper.specs.Known.Drawings.{cube, octahedron, nested}
 use Rattle.paper.specs.Conversion.{Converted}
 use Rattle.paper.specs.declared.Conversion.{Conversion}
 use Rattle.paper.specs.declared.Conversion.the-variants as Conversion
-use Rattle.means_report.specs.Report.{reported}
+use Rattle.means_report.specs.Report.{solidCount}
 use Rattle.demands.specs.Input.{Input, lent, sheet, Passes, converted}
 use Rattle.demands.specs.Walk.{Allowed}
 use Rattle.demands.proofs.Demand2.{demand2}
@@ -59,19 +59,19 @@ unfolding reply
 nested-said = refl
 
 -- a report comes of a drawing that passes 3 to 16, and of rooms and a limit that are allowed
-reports : (x : Input) → 0 < reported (result x .answer) → Passes x × Allowed mostWork (faceBefore faceRoom) (solidBefore solidRoom)
+reports : (x : Input) → 0 < solidCount (result x .answer) → Passes x × Allowed mostWork (faceBefore faceRoom) (solidBefore solidRoom)
 reports x h = demand2 x .reports mostWork (faceBefore faceRoom) (solidBefore solidRoom) h
 
 abbrev count : Said → ℕ
-count s = reported (s .0)
+count s = solidCount (s .0)
 
-pub cube-one : reported (result (of cube) .answer) ≡ 1
+pub cube-one : solidCount (result (of cube) .answer) ≡ 1
 cube-one = ap count cube-said
 
-pub octahedron-one : reported (result (of octahedron) .answer) ≡ 1
+pub octahedron-one : solidCount (result (of octahedron) .answer) ≡ 1
 octahedron-one = ap count octahedron-said
 
-pub nested-three : reported (result (of nested) .answer) ≡ 3
+pub nested-three : solidCount (result (of nested) .answer) ≡ 3
 nested-three = ap count nested-said
 
 pub cube-passes : Passes (of cube)

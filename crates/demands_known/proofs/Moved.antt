@@ -18,7 +18,7 @@ use Rattle.paper.specs.Points.{pt, plus, times}
 use Rattle.paper.specs.Format.{editionOne}
 use Rattle.paper.specs.FaceList.{encodeFaces, facesIn}
 use Rattle.paper.specs.Questions.{Drawn, neg, reply, faceBefore, solidBefore}
-use Rattle.paper.specs.Known.Drawings.{cube, outward, inward, octahedron}
+use Rattle.paper.specs.Known.Drawings.{cube, outward, inwardFaces, octahedron}
 use Rattle.paper.specs.Loops.{Loop}
 use Rattle.paper.specs.Conversion.{Converted}
 use Rattle.paper.specs.Desk.{text, deskText}
@@ -30,7 +30,7 @@ use Rattle.means_report.specs.Listed.{Entry, wordsOf}
 use Rattle.means_report.specs.Report.{solidsFor}
 use Rattle.means_report.proofs.Counted.{word-same}
 use Rattle.means_moves.specs.Moves.{shift, mirror, XY, mirroring, exchanging, laid}
-use Rattle.means_moves.specs.Lists.{eachVertex, Near}
+use Rattle.means_moves.specs.Lists.{eachVertex, WithinRange}
 use Rattle.means_moves.specs.TurnedRound.{AllTurned}
 use Rattle.means_moves.specs.Turned.{grown, flip, Mirrored, enlarge, Scaled}
 use Rattle.demands.specs.Input.{converted, checked}
@@ -53,7 +53,7 @@ octahedron-text = refl
 abbrev close : List ℤ → Bool
 close xyz = all (λ z. leb (natAbs z) farthest) xyz
 
-near : (xyz : List ℤ) → close xyz ≡ true → Near xyz
+near : (xyz : List ℤ) → close xyz ≡ true → WithinRange xyz
 near xyz e k h = record {
   within = leb-true (natAbs (getD xyz k (pos 0))) farthest (all-yes (λ z. leb (natAbs z) farthest) (pos 0) xyz e k h);
 }
@@ -232,22 +232,22 @@ of-quarter : Made (laid (exchanging XY ∷ mirroring ∷ [])) (of cube) (of quar
 unfolding reply eachVertex
 of-quarter = record { points = refl; edges = refl; forms = refl }
 
-round : Round (of cube) (encodeFaces editionOne outward) (encodeFaces editionOne inward)
+round : Round (of cube) (encodeFaces editionOne outward) (encodeFaces editionOne inwardFaces)
 unfolding reply
 round = record {
   shape = (
-    λ s. is-shape 8 (encodeFaces editionOne inward) .0 refl,
+    λ s. is-shape 8 (encodeFaces editionOne inwardFaces) .0 refl,
     λ s. is-shape 8 (encodeFaces editionOne outward) .0 refl,
   );
   faces =
-      subst (λ (fs : List Loop). AllTurned fs (facesIn editionOne (encodeFaces editionOne inward))) (sym outward-read)
+      subst (λ (fs : List Loop). AllTurned fs (facesIn editionOne (encodeFaces editionOne inwardFaces))) (sym outward-read)
       (subst (AllTurned outward) (sym inward-read) (record { as-many = refl; each = turned-at }));
 }
 
-pub exchanged-list : checked (of exchanged) (encodeFaces editionOne inward) ≡ Accepted
+pub exchanged-list : checked (of exchanged) (encodeFaces editionOne inwardFaces) ≡ Accepted
 exchanged-list =
     turns .check-round (exchanging XY ∷ []) refl (of cube) (of exchanged) of-exchanged (encodeFaces editionOne outward)
-    (encodeFaces editionOne inward) round
+    (encodeFaces editionOne inwardFaces) round
     ∙ cube-list
 
 pub quarter-list : checked (of quarter) (encodeFaces editionOne outward) ≡ Accepted

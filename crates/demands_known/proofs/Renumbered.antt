@@ -27,9 +27,9 @@ use Rattle.means_report.specs.Listed.{Entry, entryAt}
 use Rattle.means_report.specs.Report.{solidsFor}
 use Rattle.means_check.specs.Bodies.{SameBody}
 use Rattle.means_check.specs.Sent.{faceList}
-use Rattle.means_moves.specs.Reports.{Whole}
+use Rattle.means_moves.specs.Reports.{NotCut}
 use Rattle.demands.specs.Input.{Input, drawing, candidatesOf, Passes}
-use Rattle.demands.specs.Renumbered.{facesOf, ListsAll, OneToOne, Given, SolidsKept}
+use Rattle.demands.specs.Renumbered.{entryFaces, ListsAll, OneToOne, Given, SolidsKept}
 use Rattle.demands.proofs.Rooms.{words-at}
 use Rattle.demands.proofs.Renumbered.{renumbering}
 use Rattle.demands_known.proofs.Drawings.{of, result, Said, said, one, three, octahedron-said, octahedron-one, octahedron-passes}
@@ -47,7 +47,7 @@ cut (Conversion.Many l c w) = true
 cut (Conversion.TooLong l c w) = true
 cut (Conversion.Refused r) = false
 
-whole : (c : Conversion) → cut c ≡ false → Whole c
+whole : (c : Conversion) → cut c ≡ false → NotCut c
 whole c e = (λ l n w p. never (sym (ap cut p) ∙ e), λ l n w p. never (sym (ap cut p) ∙ e))
 
 abbrev pub ReportOf : Input → Type 0
@@ -132,7 +132,7 @@ rings cs ws i =
     map (λ k. cond (digit (getD ws (3 * i + 1) 0) k) (flipped (loopAt cs k)) (loopAt cs k))
     (filter (digit (getD ws (3 * i) 0)) (upto (length cs)))
 
-faces-by : (x : Input) (ws : List ℕ) (i : ℕ) (e : Entry) → Words ws i e → facesOf x e ≡ rings (candidatesOf x) ws i
+faces-by : (x : Input) (ws : List ℕ) (i : ℕ) (e : Entry) → Words ws i e → entryFaces x e ≡ rings (candidatesOf x) ws i
 unfolding faceList
 faces-by x ws i e w =
     λ j. map (λ k. cond (by (e .turned) _ (w .turned-word) k j) (flipped (loopAt (candidatesOf x) k)) (loopAt (candidatesOf x) k))
@@ -241,14 +241,14 @@ nested-order p q m i h =
     (m .same i hi .body)
   where
     go : (eqb (m .to i) (there i) ≡ true) ⊎ (differ (candidatesOf (of nested)) (candidatesOf (of cornered)) i (m .to i) ≡ true)
-        → facesOf (of nested) (entryAt (p .es) i) ≡ rings (candidatesOf (of nested)) nestedWords i
-        → facesOf (of cornered) (entryAt (q .es) (m .to i)) ≡ rings (candidatesOf (of cornered)) corneredWords (m .to i)
-        → SameBody (map (map noughtForFour) (facesOf (of nested) (entryAt (p .es) i))) (facesOf (of cornered) (entryAt (q .es) (m .to i)))
+        → entryFaces (of nested) (entryAt (p .es) i) ≡ rings (candidatesOf (of nested)) nestedWords i
+        → entryFaces (of cornered) (entryAt (q .es) (m .to i)) ≡ rings (candidatesOf (of cornered)) corneredWords (m .to i)
+        → SameBody (map (map noughtForFour) (entryFaces (of nested) (entryAt (p .es) i))) (entryFaces (of cornered) (entryAt (q .es) (m .to i)))
         → m .to i ≡ there i
     go (inl e) f g b = eqb-true (m .to i) (there i) e
     go (inr d) f g b =
         absurd (other-body _ _ d (subst (SameBody (map (map noughtForFour) (rings (candidatesOf (of nested)) nestedWords i))) g
-        (subst (λ (fs : List Loop). SameBody (map (map noughtForFour) fs) (facesOf (of cornered) (entryAt (q .es) (m .to i)))) f b)))
+        (subst (λ (fs : List Loop). SameBody (map (map noughtForFour) fs) (entryFaces (of cornered) (entryAt (q .es) (m .to i)))) f b)))
 
 pub nested-there : (nested-reports .2 .to 0 ≡ 1) × (nested-reports .2 .to 1 ≡ 2) × (nested-reports .2 .to 2 ≡ 0)
 nested-there =

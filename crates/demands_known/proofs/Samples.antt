@@ -11,7 +11,7 @@ use Rattle.paper.specs.Format.{editionOne}
 use Rattle.paper.specs.FaceList.{encodeFaces, facesIn, solidFaces}
 use Rattle.paper.specs.Questions.{reply, faceBefore, solidBefore}
 use Rattle.paper.specs.Loops.{Loop, loopAt, flipped}
-use Rattle.paper.specs.Known.Drawings.{cube, outward, inward, nested, tetrahedron, octahedron}
+use Rattle.paper.specs.Known.Drawings.{cube, outward, inwardFaces, nested, tetrahedron, octahedron}
 use Rattle.paper.specs.declared.Refusal.{Refusal}
 use Rattle.paper.specs.declared.Conversion.{Conversion}
 use Rattle.paper.specs.declared.Conversion.the-variants as Conversion
@@ -22,18 +22,18 @@ use Rattle.means_drawing.specs.Rules.{LowestVertex}
 use Rattle.means_solid.specs.Named.{SameRing}
 use Rattle.means_report.specs.Listed.{WalkTree}
 use Rattle.means_check.specs.Bodies.{SameBody}
-use Rattle.means_report.specs.Report.{reported}
+use Rattle.means_report.specs.Report.{solidCount}
 use Rattle.demands.specs.Input.{Input, lent, drawing, candidatesOf, Passes, converted, checked}
 use Rattle.demands.specs.Walk.{workToNine, Allowed}
 use Rattle.demands.specs.Spoiled.{Spoiled, all-turned}
 use Rattle.demands.specs.Demand3.{Report}
-use Rattle.demands.specs.Table.{end, rooms, forms, drawings, ofConversion}
+use Rattle.demands.specs.Table.{end, roomsAndLimit, forms, drawings, ofConversion}
 use Rattle.demands.proofs.Demand1.{demand1}
 use Rattle.demands.proofs.Demand2.{demand2}
 use Rattle.demands.proofs.Demand3.{demand3}
 use Rattle.demands_known.proofs.Drawings.{of, on, result, cube-one, nested-three, cube-passes, octahedron-passes, nested-passes}
 
-told : (x : Input) → Passes x → 0 < reported (result x .answer) → Report x (solidBefore solidRoom) (result x)
+told : (x : Input) → Passes x → 0 < solidCount (result x .answer) → Report x (solidBefore solidRoom) (result x)
 told x p h = demand3 x p .reports mostWork (faceBefore faceRoom) (solidBefore solidRoom) h
 
 -- "Cube of side 10": one solid, so every list that is accepted is the body of its known list
@@ -65,7 +65,7 @@ sheet-passes : Passes (on tetrahedron)
 unfolding reply
 sheet-passes = refl
 
-sheet-one : reported (result (on tetrahedron) .answer) ≡ 1
+sheet-one : solidCount (result (on tetrahedron) .answer) ≡ 1
 unfolding reply
 sheet-one = refl
 
@@ -74,7 +74,7 @@ pub tetrahedron-bodies : (a b : List ℕ) → checked (on tetrahedron) a ≡ Acc
 tetrahedron-bodies = let r = told (on tetrahedron) sheet-passes (omega (arith, sheet-one)) in r .same (r .n ∙ sheet-one)
 
 -- "Its list with all faces turned" comes from an accepted list, so it is refused
-pub turned-at : (i : ℕ) → i < 6 → SameRing (flipped (loopAt outward i)) (loopAt inward i)
+pub turned-at : (i : ℕ) → i < 6 → SameRing (flipped (loopAt outward i)) (loopAt inwardFaces i)
 unfolding flipped
 turned-at zero h = record { at = 1; turns = refl }
 turned-at (suc zero) h = record { at = 1; turns = refl }
@@ -88,14 +88,14 @@ pub outward-read : facesIn editionOne (encodeFaces editionOne outward) ≡ outwa
 unfolding reply
 outward-read = refl
 
-pub inward-read : facesIn editionOne (encodeFaces editionOne inward) ≡ inward
+pub inward-read : facesIn editionOne (encodeFaces editionOne inwardFaces) ≡ inwardFaces
 unfolding reply
 inward-read = refl
 
-pub cube-turned : (r : Refusal) × (checked (of cube) (encodeFaces editionOne inward) ≡ Refused r)
+pub cube-turned : (r : Refusal) × (checked (of cube) (encodeFaces editionOne inwardFaces) ≡ Refused r)
 cube-turned =
-    demand3 (of cube) cube-passes .refused (encodeFaces editionOne outward) (encodeFaces editionOne inward) cube-list
-    (subst (λ (fs : List Loop). Spoiled fs (facesIn editionOne (encodeFaces editionOne inward))) (sym outward-read)
+    demand3 (of cube) cube-passes .refused (encodeFaces editionOne outward) (encodeFaces editionOne inwardFaces) cube-list
+    (subst (λ (fs : List Loop). Spoiled fs (facesIn editionOne (encodeFaces editionOne inwardFaces))) (sym outward-read)
     (subst (Spoiled outward) (sym inward-read) (all-turned (λ i h. (i, h, turned-at i h)))))
 
 -- "Octahedron .. With limit 3: TooLong": so its walk has more than three assumptions
@@ -131,7 +131,7 @@ twice-refused = refl
 pub twice-place : LowestVertex (drawing twice) (Doubled (drawing twice)) 1
 twice-place =
     let s = subst
-    (λ (a : Conversion). rooms mostWork (faceBefore faceRoom) (solidBefore solidRoom) (forms twice (drawings (drawing twice) end))
+    (λ (a : Conversion). roomsAndLimit mostWork (faceBefore faceRoom) (solidBefore solidRoom) (forms twice (drawings (drawing twice) end))
     (ofConversion a)) twice-refused (demand1 .converts twice mostWork (faceBefore faceRoom) (solidBefore solidRoom) .1) in
     let t = skip (λ q. omega (arith, q .0)) (skip (λ q. omega (arith, q .0)) s) in
     let u = skip (λ q. omega (arith, q .0)) (skip (λ q. omega (arith, q .0)) t) in

@@ -6,5 +6,5 @@ use lib.ListN.{length}
 use Rattle.desk.specs.declared.Input.{Input}
 use Rattle.desk.specs.declared.Input.the-variants as Input
 
-abbrev pub Within : List ℕ → Input → Type 0
-Within room r = (n : ℕ) → r ≡ Input.Bytes n → n ≤ length room
+abbrev pub WithinRoom : List ℕ → Input → Type 0
+WithinRoom room r = (n : ℕ) → r ≡ Input.Bytes n → n ≤ length room

@@ -1,5 +1,5 @@
 // The desk program: reads one sheet from standard input and prints what document 01 says of it. Nothing is assumed of the input.
-ghost use Rattle.desk.specs.Input.{Within};
+ghost use Rattle.desk.specs.Input.{WithinRoom};
 use desk_print::print_all;
 use desk_print::print_text;
 use libc::STDIN_FILENO;
@@ -14,7 +14,7 @@ enum Input {
 
 // Reads until the room is full or the input ends.
 fn read_input(room: &mut [u8]) -> Input
-    ensures { λ r. ⌜ Within (now (room .exit)) r ⌝ }
+    ensures { λ r. ⌜ WithinRoom (now (room .exit)) r ⌝ }
 {
     let mut at: usize = 0;
     while at < room.len() {

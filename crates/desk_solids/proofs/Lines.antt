@@ -11,7 +11,7 @@ use Rattle.sets.specs.Word.{digits, dig}
 use Rattle.sets.proofs.Word.{length-digits}
 use Rattle.paper.specs.Numbers.{mostCandidates, solidWords}
 use Rattle.paper.specs.Desk.{text, decimal, facesText, solidText, solidsText}
-use Rattle.desk_solids.specs.Solids.{faceIf, faceText, facesOf, lineText}
+use Rattle.desk_solids.specs.Solids.{faceIf, faceText, wordsText, lineText}
 
 -- ---- a face, once it is known whether it is taken and turned
 
@@ -25,7 +25,7 @@ module _ (taken turned : ℕ) where
   pub facesFrom : ℕ → List ℕ
   facesFrom k = facesText k (drop k (digits mostCandidates taken)) (digits mostCandidates turned)
 
-  pub faces-start : facesOf taken turned ≡ facesFrom 0
+  pub faces-start : wordsText taken turned ≡ facesFrom 0
   unfolding facesFrom
   faces-start = refl
 
@@ -56,7 +56,7 @@ module _ (taken turned : ℕ) where
 line-is : (i : ℕ) (ws : List ℕ) → solidText i ws ≡ lineText i ws
 unfolding solidText
 line-is i ws =
-    ap (λ (l : List ℕ). l ++ text " faces" ++ facesOf (getD ws 0 0) (getD ws 1 0) ++ text "\n")
+    ap (λ (l : List ℕ). l ++ text " faces" ++ wordsText (getD ws 0 0) (getD ws 1 0) ++ text "\n")
     (append-assoc (text "solid " ++ decimal i) (text " sixvolumes ") (decimal (getD ws 2 0)))
 
 module _ (n : ℕ) (ws : List ℕ) where

@@ -16,20 +16,20 @@ faceIf false turned k = []
 abbrev pub faceText : ℕ → ℕ → ℕ → List ℕ
 faceText k taken turned = faceIf (dig (digits mostCandidates taken) k) (dig (digits mostCandidates turned) k) k
 
-abbrev pub facesOf : ℕ → ℕ → List ℕ
-facesOf taken turned = facesText 0 (digits mostCandidates taken) (digits mostCandidates turned)
+abbrev pub wordsText : ℕ → ℕ → List ℕ
+wordsText taken turned = facesText 0 (digits mostCandidates taken) (digits mostCandidates turned)
 
 pub record FaceAt (k taken turned at : ℕ) (room : List ℕ) : Type 0 where
   pub below : k < mostCandidates
   pub fits : Fits at (faceText k taken turned) room
 
 abbrev pub FacesAt : ℕ → ℕ → ℕ → List ℕ → Type 0
-FacesAt taken turned at room = Fits at (facesOf taken turned) room
+FacesAt taken turned at room = Fits at (wordsText taken turned) room
 
 -- a solid's line, as two fields, a word, the faces and the line's end
 abbrev pub lineText : ℕ → List ℕ → List ℕ
 lineText i ws =
-    pairText (text "solid ") i (text " sixvolumes ") (getD ws 2 0) ++ text " faces" ++ facesOf (getD ws 0 0) (getD ws 1 0) ++ text "\n"
+    pairText (text "solid ") i (text " sixvolumes ") (getD ws 2 0) ++ text " faces" ++ wordsText (getD ws 0 0) (getD ws 1 0) ++ text "\n"
 
 pub record SolidAt (i : ℕ) (ws : List ℕ) (at : ℕ) (room : List ℕ) : Type 0 where
   pub words : solidWords ≤ length ws

@@ -1,7 +1,7 @@
 // The lines of a report's solids, put into a room behind one another. Assumes that there is room, and the words of the solids.
 ghost use Rattle.paper.specs.Desk.{solidsText};
 ghost use Rattle.desk_lines.specs.Put.{Puts};
-ghost use Rattle.desk_solids.specs.Solids.{faceText, facesOf, FaceAt, FacesAt, lineText, SolidAt, SolidsAt};
+ghost use Rattle.desk_solids.specs.Solids.{faceText, wordsText, FaceAt, FacesAt, lineText, SolidAt, SolidsAt};
 use desk_lines::put_field;
 use desk_lines::put_pair;
 use desk_lines::put_text;
@@ -25,7 +25,7 @@ fn put_face(k: usize, taken: u64, turned: u64, at: usize, room: &mut [u8]) -> us
 
 fn put_faces(taken: u64, turned: u64, at: usize, room: &mut [u8]) -> usize
     requires { ⌜ FacesAt taken turned at (now room) ⌝ }
-    ensures { λ r. ⌜ Puts (now (room .entry)) at (facesOf taken turned) (now (room .exit)) r ⌝ }
+    ensures { λ r. ⌜ Puts (now (room .entry)) at (wordsText taken turned) (now (room .exit)) r ⌝ }
 {
     let mut next = at;
     let mut k: usize = 0;

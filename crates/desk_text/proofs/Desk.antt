@@ -21,10 +21,10 @@ use Rattle.paper.specs.declared.Refusal.{Refusal}
 use Rattle.paper.specs.declared.Written.the-variants as Written
 use Rattle.means_report.proofs.Demand.{kind, says-several}
 use Rattle.means_report.proofs.Converted.{the-walk, sheet-unrefused}
-use Rattle.convert.specs.Converts.{leaves}
+use Rattle.convert.specs.Converts.{atExit}
 use Rattle.convert.proofs.Converting.{stops-at-form}
 use Rattle.desk_text.specs.declared.answer.SheetCounts.{SheetCounts}
-use Rattle.desk_text.specs.Texts.{Counted, textRoomSize, LongEnough, Answering}
+use Rattle.desk_text.specs.Texts.{SheetCounted, textRoomSize, RoomForText, Answering}
 use Rattle.desk_text.specs.Written.{writtenText}
 use Rattle.desk_text.proofs.Written.{roomy}
 use Rattle.desk_text.proofs.Short.{answer-short}
@@ -66,7 +66,7 @@ module _ (s : List ℕ) where
   short-refused h =
       sym (ap (λ (c : Converted). c .answer) (stops-at-form (sheetChecks editionOne s) drawing mostWork faces solids entry-fine (short-first h)))
 
-  module _ (k : SheetCounts) (n : Counted s k) where
+  module _ (k : SheetCounts) (n : SheetCounted s k) where
     made-text : answerText (k .vertices) (k .edges) (made .answer) (made .solids) ≡ deskText s
     unfolding deskText
     made-text = go (decLt (length s) 3)
@@ -84,11 +84,11 @@ module _ (s : List ℕ) where
             let m = n (omega (arith, h)) in
             λ i. answerText (m .0 i) (m .1 i) (made .answer) (made .solids)
 
-    module _ {r : Conversion} {f ws : List ℕ} (e : leaves r f ws ≡ made) where
+    module _ {r : Conversion} {f ws : List ℕ} (e : atExit r f ws ≡ made) where
       pub text-is : answerText (k .vertices) (k .edges) r ws ≡ deskText s
       text-is = ap (λ (c : Converted). answerText (k .vertices) (k .edges) (c .answer) (c .solids)) e ∙ made-text
 
-      pub answering : {room : List ℕ} → solidRoom ≤ length ws → LongEnough room → Answering k r ws room
+      pub answering : {room : List ℕ} → solidRoom ≤ length ws → RoomForText room → Answering k r ws room
       answering h g =
           let a : r ≡ made .answer = ap (λ (c : Converted). c .answer) e in
           let few : (l c w n : ℕ) → r ≡ Conversion.Several l c w n → n ≤ mostSolids = λ l c w n p. several-few l c w n (sym a ∙ p) in
@@ -104,5 +104,5 @@ module _ (s : List ℕ) where
   desk-short = answer-short (verticesIn editionOne s) (edgesIn editionOne s) (made .answer) (made .solids) several-few
 
   -- so in that room it is always written
-  pub enough : (room : List ℕ) → LongEnough room → Written.Bytes (length (deskText s)) ≡ writtenText (deskText s) room
+  pub enough : (room : List ℕ) → RoomForText room → Written.Bytes (length (deskText s)) ≡ writtenText (deskText s) room
   enough room h = roomy (deskText s) room (omega (arith, desk-short)) .0

@@ -34,8 +34,8 @@ refusedOf r = pairText (text "refused ") (r .number) (text " ") (r .place) ++ te
 -- ---- what is asked
 
 -- the counts of a sheet that has them
-abbrev pub Counted : List ℕ → SheetCounts → Type 0
-Counted s r = 3 ≤ length s → (r .vertices ≡ verticesIn editionOne s) × (r .edges ≡ edgesIn editionOne s)
+abbrev pub SheetCounted : List ℕ → SheetCounts → Type 0
+SheetCounted s r = 3 ≤ length s → (r .vertices ≡ verticesIn editionOne s) × (r .edges ≡ edgesIn editionOne s)
 
 abbrev pub headFor : SheetCounts → ℕ → ℕ → ℕ → Head
 headFor s l c w = record { vertices = s .vertices; edges = s .edges; loops = l; candidates = c; work = w }
@@ -56,5 +56,5 @@ pub record Answering (s : SheetCounts) (a : Conversion) (ws room : List ℕ) : T
 abbrev pub textRoomSize : ℕ
 textRoomSize = 2728
 
-abbrev pub LongEnough : List ℕ → Type 0
-LongEnough room = textRoomSize ≤ length room
+abbrev pub RoomForText : List ℕ → Type 0
+RoomForText room = textRoomSize ≤ length room

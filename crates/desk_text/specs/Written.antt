@@ -15,20 +15,20 @@ use Rattle.paper.specs.declared.Written.the-variants as Written
 unfoldable pub textChecks : List ℕ → ℕ → List Check
 textChecks t room = check No.NoRoom (offends (ltb room (length t)) 0) ∷ []
 
-abbrev pub writtenFor : List ℕ → Answer → Written
-writtenFor t Answer.Fine = Written.Bytes (length t)
-writtenFor t (Answer.Refused r) = Written.Refused r
+abbrev pub textWritten : List ℕ → Answer → Written
+textWritten t Answer.Fine = Written.Bytes (length t)
+textWritten t (Answer.Refused r) = Written.Refused r
 
 -- "Later room keeps its contents"; a refusal "leaves all buffers unchanged"
-abbrev pub roomFor : List ℕ → Answer → List ℕ → List ℕ
-roomFor t Answer.Fine room = t ++ drop (length t) room
-roomFor t (Answer.Refused r) room = room
+abbrev pub textRoomFor : List ℕ → Answer → List ℕ → List ℕ
+textRoomFor t Answer.Fine room = t ++ drop (length t) room
+textRoomFor t (Answer.Refused r) room = room
 
 unfoldable pub writtenText : List ℕ → List ℕ → Written
-writtenText t room = writtenFor t (firstOf (textChecks t (length room)))
+writtenText t room = textWritten t (firstOf (textChecks t (length room)))
 
 unfoldable pub textSaid : List ℕ → List ℕ → Said
 textSaid t room = firstSaid (textChecks t (length room)) (length t ∷ [])
 
 unfoldable pub textRoom : List ℕ → List ℕ → List ℕ
-textRoom t room = roomFor t (firstOf (textChecks t (length room))) room
+textRoom t room = textRoomFor t (firstOf (textChecks t (length room))) room

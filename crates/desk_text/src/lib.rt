@@ -6,7 +6,7 @@ ghost use Rattle.paper.specs.Desk.{deskText};
 ghost use Rattle.paper.specs.Reading.{writtenSays};
 ghost use Rattle.desk_lines.specs.Put.{Puts};
 ghost use Rattle.desk_text.specs.Written.{writtenText, textSaid, textRoom};
-ghost use Rattle.desk_text.specs.Texts.{Counted, LongEnough};
+ghost use Rattle.desk_text.specs.Texts.{SheetCounted, RoomForText};
 use answer::SheetCounts;
 use answer::put_answer;
 use convert::convert_sheet;
@@ -26,7 +26,7 @@ pub const TEXT_ROOM: usize = 2728;
 
 // The counts that stand in a sheet of three bytes or more; a shorter one is refused for that.
 fn counted(sheet: &[u8]) -> SheetCounts
-    ensures { λ r. ⌜ Counted (now (sheet .entry)) r ⌝ }
+    ensures { λ r. ⌜ SheetCounted (now (sheet .entry)) r ⌝ }
 {
     if sheet.len() < 3 {
         return SheetCounts {
@@ -45,7 +45,7 @@ fn counted(sheet: &[u8]) -> SheetCounts
 
 // The text, put into room that is long enough for any.
 fn put_desk(sheet: &[u8], text: &mut [u8]) -> usize
-    requires { ⌜ LongEnough (now text) ⌝ }
+    requires { ⌜ RoomForText (now text) ⌝ }
     ensures { λ r. ⌜ Puts (now (text .entry)) 0 (deskText (now (sheet .entry))) (now (text .exit)) r ⌝ }
 {
     let mut faces = [0u8; FACE_ROOM];

@@ -1,6 +1,6 @@
 -- What is reached from vertex 0: a set of vertices by its digits, against a row of them; and that nothing is added once a step adds
 -- nothing.
-use Rattle.drawing_links.specs.Reach.{Stands, Grown}
+use Rattle.drawing_links.specs.Reach.{DigitsAre, Grown}
 use mathlib.Core.Path.{_≡_, sym, ap, _∙_}
 use mathlib.Core.Bool.{Bool, false, _||_, _&&_}
 use mathlib.Core.List.{List}
@@ -29,7 +29,7 @@ module _ (d : Wire) (v : ℕ) (n : length (d .vertices) ≡ v) where
   upto-count = upto-length (length (d .vertices)) ∙ n
 
   -- vertex 0 alone
-  pub reach-start : Stands 1 v (verticesReached d 0)
+  pub reach-start : DigitsAre 1 v (verticesReached d 0)
   unfolding verticesReached
   reach-start w h =
       let m = length (d .vertices) in
@@ -46,7 +46,7 @@ module _ (d : Wire) (v : ℕ) (n : length (d .vertices) ≡ v) where
       ∙ ap f (upto-at (length (d .vertices)) w (omega arith))
       ∙ ap (λ (k : ℕ). getD row w false || any (λ u. getD row u false && joined d u w) (upto k)) n
 
-  pub reach-more : (m k : ℕ) (row : List Bool) → Stands m v row → Grown m v d k → Stands k v (further d row)
+  pub reach-more : (m k : ℕ) (row : List Bool) → DigitsAre m v row → Grown m v d k → DigitsAre k v (further d row)
   reach-more m k row s g w h =
       let all =
       any-below-same (λ u. digit m u && joined d u w) v (λ u. getD row u false && joined d u w)
@@ -70,7 +70,7 @@ module _ (d : Wire) (v : ℕ) (n : length (d .vertices) ≡ v) where
       let z : k + suc j ≡ suc (k + j) = omega arith in
       ap (verticesReached d) z ∙ ap (further d) (rests k j e) ∙ e
 
-  pub reach-rest : (m k : ℕ) → k ≤ v → Stands m v (verticesReached d k) → Grown m v d m → Stands m v (verticesReached d v)
+  pub reach-rest : (m k : ℕ) → k ≤ v → DigitsAre m v (verticesReached d k) → Grown m v d m → DigitsAre m v (verticesReached d v)
   unfolding verticesReached
   reach-rest m k l s g w h =
       let row = verticesReached d k in

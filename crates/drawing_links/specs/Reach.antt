@@ -9,8 +9,8 @@ use Rattle.sets.specs.Word.{digit}
 use Rattle.paper.specs.Drawing.{Wire, joined}
 
 -- the digits of m, for the v vertices, are the row
-abbrev pub Stands : ℕ → ℕ → List Bool → Type 0
-Stands m v row = (w : ℕ) → w < v → digit m w ≡ getD row w false
+abbrev pub DigitsAre : ℕ → ℕ → List Bool → Type 0
+DigitsAre m v row = (w : ℕ) → w < v → digit m w ≡ getD row w false
 
 -- n is the set m with the vertices that one edge more leads to
 abbrev pub Grown : ℕ → ℕ → Wire → ℕ → Type 0

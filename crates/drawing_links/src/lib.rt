@@ -8,7 +8,7 @@ ghost use Rattle.paper.specs.Refusals as No;
 ghost use Rattle.paper.specs.Refusals.{check, firstOf};
 ghost use Rattle.paper.specs.Drawing.{Wire, edgesOf, looseVertex, verticesReached, apart};
 ghost use Rattle.drawing_links.specs.Neighbours.{neighbourWords, FewEnds, Links};
-ghost use Rattle.drawing_links.specs.Reach.{Stands, Grown};
+ghost use Rattle.drawing_links.specs.Reach.{DigitsAre, Grown};
 use lists::wide;
 use paper::APART;
 use paper::Answer;
@@ -68,7 +68,7 @@ fn further(near: &[u64; MOST_VERTICES], v: usize, set: u64) -> u64
 // The vertices that edges lead to from vertex 0: once a step finds no more, no later one does.
 fn vertices_reached(near: &[u64; MOST_VERTICES], v: usize) -> u64
     requires { ⌜ v ≤ editionOne .«most_vertices» ⌝ }
-    ensures { λ r. ⌜ ((d : Wire) → Links (now (near .entry)) v d → Stands r v (verticesReached d v)) ⌝ }
+    ensures { λ r. ⌜ ((d : Wire) → Links (now (near .entry)) v d → DigitsAre r v (verticesReached d v)) ⌝ }
 {
     let mut set = 1u64;
     let mut k = 0;

@@ -21,14 +21,14 @@ use Rattle.fast_meets.specs.Boxes.{areApart}
 use Rattle.fast_meets.specs.Pairs.{meetAt}
 use Rattle.fast_meets.specs.Theorems.{EndShared, Longs}
 use Rattle.fast_meets.proofs.Boxes.{boxes-tell}
-use Rattle.drawing_segments.specs.Asked.{Pair}
+use Rattle.drawing_segments.specs.Asked.{SegmentPair}
 use Rattle.drawing_segments.specs.Ways.{answers, bothMeet}
 use Rattle.drawing_links.proofs.Edges.{edge-count, edge-is}
-use Rattle.drawing_rules.specs.Asked.{Lists, TwoEdges}
+use Rattle.drawing_rules.specs.Asked.{ListsInRange, TwoEdges}
 use Rattle.drawing_rules.specs.Meets.{endIn, joinedIn, bothAt}
 use Rattle.drawing_rules.proofs.Vertices.{vertex-count, vertex-is, vertex-small}
 
-module _ {xyz : List ℤ} {ends : List ℕ} {v : ℕ} (lists : Lists xyz v ends) where
+module _ {xyz : List ℤ} {ends : List ℕ} {v : ℕ} (lists : ListsInRange xyz v ends) where
   abbrev drawing : Wire
   drawing = wire xyz ends
 
@@ -112,7 +112,7 @@ module _ {xyz : List ℤ} {ends : List ℕ} {v : ℕ} (lists : Lists xyz v ends)
         go (inr s) = inr (inr (inr (same b d s)))
 
     -- what `both_meet` asks
-    asked : samePlace drawing ≡ none → Pair A B C D (joinedIn ends e f)
+    asked : samePlace drawing ≡ none → SegmentPair A B C D (joinedIn ends e f)
     asked s =
         let near = vertex-small (lists .points) in
         record {
@@ -122,9 +122,9 @@ module _ {xyz : List ℤ} {ends : List ℕ} {v : ℕ} (lists : Lists xyz v ends)
         }
 
     pub pair-asked : samePlace drawing ≡ none → {a b c d : Point} {j : Bool} → a ≡ A → b ≡ B → c ≡ C → d ≡ D → j ≡ joinedIn ends e f
-        → Pair a b c d j
+        → SegmentPair a b c d j
     pair-asked s pa pb pc pd pj =
-        subst (λ (T : Type 0). T) (λ i. Pair (sym pa i) (sym pb i) (sym pc i) (sym pd i) (sym pj i)) (asked s)
+        subst (λ (T : Type 0). T) (λ i. SegmentPair (sym pa i) (sym pb i) (sym pc i) (sym pd i) (sym pj i)) (asked s)
 
     pub both-are : bothMeet A B C D ≡ bothAt drawing e f
     unfolding meetAt edgesMeet

@@ -25,19 +25,19 @@ pub record VertexAt (xyz : List ℤ) (v u : ℕ) : Type 0 where
   pub u-in : u < v
 
 -- the two lists of a drawing with v vertices
-pub record Lists (xyz : List ℤ) (v : ℕ) (ends : List ℕ) : Type 0 where
+pub record ListsInRange (xyz : List ℤ) (v : ℕ) (ends : List ℕ) : Type 0 where
   pub points : Points xyz v
   pub links : Ends ends v
 
 -- and room for a corner of each edge's box, twice
 pub record ListsAndRooms (xyz : List ℤ) (v : ℕ) (ends : List ℕ) (low high : List ℤ) : Type 0 where
-  pub lists : Lists xyz v ends
+  pub lists : ListsInRange xyz v ends
   pub low-room : 3 * (editionOne .«most_edges») ≤ length low
   pub high-room : 3 * (editionOne .«most_edges») ≤ length high
 
 -- the lists, and a place in the list of ends
 pub record EndAt (xyz : List ℤ) (v : ℕ) (ends : List ℕ) (k : ℕ) : Type 0 where
-  pub lists : Lists xyz v ends
+  pub lists : ListsInRange xyz v ends
   pub k-in : k < length ends
 
 -- the ends alone, and two edges
@@ -46,8 +46,8 @@ pub record TwoEdges (ends : List ℕ) (e f : ℕ) : Type 0 where
   pub f-in : 2 * f + 1 < length ends
 
 -- the two lists, where 11 and 12 have passed
-pub record Passed (xyz : List ℤ) (v : ℕ) (ends : List ℕ) : Type 0 where
-  pub lists : Lists xyz v ends
+pub record PassedSoFar (xyz : List ℤ) (v : ℕ) (ends : List ℕ) : Type 0 where
+  pub lists : ListsInRange xyz v ends
   pub places : samePlace (wire xyz ends) ≡ none
   pub tied : looseVertex (wire xyz ends) ≡ none
 
@@ -57,7 +57,7 @@ pub record Boxed (xyz : List ℤ) (ends : List ℕ) (low high : List ℤ) : Type
 
 -- the lists with the boxes, where 11 has passed; with an edge; with two
 pub record EdgesBoxed (xyz : List ℤ) (v : ℕ) (ends : List ℕ) (low high : List ℤ) : Type 0 where
-  pub lists : Lists xyz v ends
+  pub lists : ListsInRange xyz v ends
   pub places : samePlace (wire xyz ends) ≡ none
   pub boxed : Boxed xyz ends low high
 

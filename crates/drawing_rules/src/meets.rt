@@ -9,7 +9,7 @@ ghost use Rattle.paper.specs.Refusals.{check, firstOf};
 ghost use Rattle.paper.specs.Drawing.{Wire, wire, edgeMeets};
 ghost use Rattle.sets.specs.Sets.{room, Is};
 ghost use Rattle.fast_meets.specs.Pairs.{mark, laterMarked, offenders};
-ghost use Rattle.drawing_rules.specs.Asked.{Passed, EdgesBoxed, EdgeBoxed, PairBoxed, TwoMarks};
+ghost use Rattle.drawing_rules.specs.Asked.{PassedSoFar, EdgesBoxed, EdgeBoxed, PairBoxed, TwoMarks};
 ghost use Rattle.drawing_rules.specs.Meets.{bothAt, Lowest13};
 use super::boxes::CORNERS;
 use super::boxes::box_at;
@@ -118,7 +118,7 @@ fn lowest(hit: Set) -> Answer
 }
 
 pub fn edge_meets(xyz: &[i64], v: usize, ends: &[u8]) -> Answer
-    requires { ⌜ Passed (now xyz) v (now ends) ⌝ }
+    requires { ⌜ PassedSoFar (now xyz) v (now ends) ⌝ }
     ensures { λ r. ⌜ r ≡ firstOf (check No.EdgeMeets (edgeMeets (wire (now (xyz .entry)) (now (ends .entry)))) ∷ []) ⌝ }
 {
     let mut low = [0i64; CORNERS];

@@ -14,7 +14,7 @@ pub record TwoSegments (a b c d : Point) : Type 0 where
   pub d-in : PointWithin farthest d
 
 -- neither is a point, and they have a common end where `joined` says so
-pub record Pair (a b c d : Point) (joined : Bool) : Type 0 where
+pub record SegmentPair (a b c d : Point) (joined : Bool) : Type 0 where
   pub segments : TwoSegments a b c d
   pub long : Longs a b c d
   pub shared : joined ≡ true → EndShared a b c d

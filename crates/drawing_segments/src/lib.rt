@@ -4,7 +4,7 @@ ghost use mathlib.Core.Path.{_≡_};
 ghost use Rattle.paper.specs.Drawing.{overlap, cutsOpen};
 ghost use Rattle.fast_meets.specs.Boxes.{lesser, greater, clear};
 ghost use Rattle.fast_meets.specs.Theorems.{laps};
-ghost use Rattle.drawing_segments.specs.Asked.{TwoSegments, AcrossWithin, Pair};
+ghost use Rattle.drawing_segments.specs.Asked.{TwoSegments, AcrossWithin, SegmentPair};
 ghost use Rattle.drawing_segments.specs.Ways.{spanOf, spansApart, bothMeet, bothAlong, bothAcross, bothCut};
 use paper::Point;
 use polygon::points::cross;
@@ -142,7 +142,7 @@ fn across(p: Point, q: Point, r: Point, n: Point) -> Both
 
 // Of the segments from a to b and from c to d; `joined` may be set where they have a common end, which spares a cut.
 pub fn both_meet(a: Point, b: Point, c: Point, d: Point, joined: bool) -> Both
-    requires { ⌜ Pair a b c d joined ⌝ }
+    requires { ⌜ SegmentPair a b c d joined ⌝ }
     ensures { λ r. ⌜ r ≡ bothMeet a b c d ⌝ }
 {
     let p = minus(b, a);

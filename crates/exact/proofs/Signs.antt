@@ -9,12 +9,12 @@ use lib.Dec.{T, leb→le, le→leb, ltb→lt, lt→ltb, nleb→lt}
 use lib.IntN.{ℤ, pos, negsuc, negℤ, _+ℤ_, _-ℤ_, _*ℤ_, zero-*ℤ, *ℤ-zero, +ℤ-invr}
 use lib.Signed.{leZ, ltZ, _≤ℤ_, _<ℤ_, <ℤ-irrefl, ltZ-no, ltZ-yes, leZ-yes}
 use Rattle.lists.proofs.Truth.{is-true}
-use Rattle.exact.specs.Signs.{below, level, above, sign, turned, product}
+use Rattle.exact.specs.Signs.{below, level, above, sign, negatedSign, product}
 use Rattle.exact.proofs.Laws.{mul-addℤ, mul-negℤ, eq-of-sub}
 
 -- ---- the sign
 
-pub sign-neg : (a : ℤ) → sign (negℤ a) ≡ turned (sign a)
+pub sign-neg : (a : ℤ) → sign (negℤ a) ≡ negatedSign (sign a)
 sign-neg (pos zero) = refl
 sign-neg (pos (suc n)) = refl
 sign-neg (negsuc n) = refl
@@ -31,9 +31,9 @@ pub sign-mul : (a b : ℤ) → sign (a *ℤ b) ≡ product (sign a) (sign b)
 sign-mul (pos zero) b = ap sign (zero-*ℤ b)
 sign-mul (pos (suc a)) (pos zero) = ap sign (*ℤ-zero (pos (suc a)))
 sign-mul (pos (suc a)) (pos (suc b)) = above-suc a b
-sign-mul (pos (suc a)) (negsuc b) = sign-neg (pos (suc a * suc b)) ∙ ap turned (above-suc a b)
+sign-mul (pos (suc a)) (negsuc b) = sign-neg (pos (suc a * suc b)) ∙ ap negatedSign (above-suc a b)
 sign-mul (negsuc a) (pos zero) = ap sign (*ℤ-zero (negsuc a))
-sign-mul (negsuc a) (pos (suc b)) = sign-neg (pos (suc a * suc b)) ∙ ap turned (above-suc a b)
+sign-mul (negsuc a) (pos (suc b)) = sign-neg (pos (suc a * suc b)) ∙ ap negatedSign (above-suc a b)
 sign-mul (negsuc a) (negsuc b) = above-suc a b
 
 -- ---- the sign and the tests

@@ -11,13 +11,13 @@ sign (pos (suc n)) = above
 sign (negsuc n) = below
 
 -- the sign of -z, from that of z
-abbrev pub turned : Sign3 → Sign3
-turned below = above
-turned level = level
-turned above = below
+abbrev pub negatedSign : Sign3 → Sign3
+negatedSign below = above
+negatedSign level = level
+negatedSign above = below
 
 -- the sign of a product, from those of its factors
 abbrev pub product : Sign3 → Sign3 → Sign3
-product below s = turned s
+product below s = negatedSign s
 product level s = level
 product above s = s

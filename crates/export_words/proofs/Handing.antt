@@ -23,7 +23,7 @@ use Rattle.paper_laws.proofs.Checks.{first-stops, first-passes}
 use Rattle.rooms.specs.Rooms.{copied}
 use Rattle.sheet_laws.proofs.Accepted.{returns, coordinates-are, ends-are}
 use Rattle.export_words.specs.Words.{SaidIs, ToldBy}
-use Rattle.export_words.specs.Lists.{Read, listChecks, readFor, readInto, ReadsAs, Handed}
+use Rattle.export_words.specs.Lists.{Read, roomChecks, readFor, readInto, ReadsAs, Handed}
 use Rattle.export_words.specs.declared.words.Said.{Said}
 
 -- refusal 1, with its place
@@ -45,13 +45,13 @@ module _ (d : Drawing) (held : Held d) (xyz₀ : List ℤ) (ends₀ : List ℕ) 
 
   -- what the two tests say
   by-tests : (a b : Bool) → ltb (length xyz₀) (length points) ≡ a → ltb (length ends₀) (length links) ≡ b
-      → firstOf (listChecks points links xyz₀ ends₀)
+      → firstOf (roomChecks points links xyz₀ ends₀)
       ≡ firstOf (check No.NoRoom (offends a 0) ∷ check No.NoRoom (offends b 1) ∷ [])
-  unfolding listChecks
+  unfolding roomChecks
   by-tests a b s t = λ i. firstOf (check No.NoRoom (offends (s i) 0) ∷ check No.NoRoom (offends (t i) 1) ∷ [])
 
   module _ {x : Said} {r : ℕ} {words₀ words : List ℕ} (told : ToldBy x r words₀ words) where
-    by-answer : {a : Answer} {xyz : List ℤ} {ends : List ℕ} → firstOf (listChecks points links xyz₀ ends₀) ≡ a
+    by-answer : {a : Answer} {xyz : List ℤ} {ends : List ℕ} → firstOf (roomChecks points links xyz₀ ends₀) ≡ a
         → ReadsAs (readFor a (d .vertices) (d .edges) points links xyz₀ ends₀) r xyz ends words₀ words
         → Handed d xyz₀ ends₀ r xyz ends words₀ words
     by-answer {a} {xyz} {ends} e h =
@@ -95,7 +95,7 @@ module _ (s : List ℕ) (xyz₀ : List ℤ) (ends₀ : List ℕ) {r : ℕ} {word
       let points = coordinatesIn editionOne s in
       let links = endsIn editionOne s in
       subst (λ (a : Answer). ReadsAs (readFor a (verticesIn editionOne s) (edgesIn editionOne s) points links xyz₀ ends₀) r xyz₀ ends₀ words₀ words)
-      (first-stops (sheetChecks editionOne s) (listChecks points links xyz₀ ends₀) e)
+      (first-stops (sheetChecks editionOne s) (roomChecks points links xyz₀ ends₀) e)
       (record { xyz-are = refl; ends-are = refl; tells = told (refused f) h })
 
   -- its lists stand in front of the arrays of the drawing that was read
@@ -113,9 +113,9 @@ module _ (s : List ℕ) (xyz₀ : List ℤ) (ends₀ : List ℕ) {r : ℕ} {word
       let n : d .edges ≡ edgesIn editionOne s = ap (λ (x : Drawing). x .edges) counts in
       let p = sym (coordinates-are editionOne s ok) in
       let l = sym (ends-are editionOne s ok) in
-      let checks = listChecks points links xyz₀ ends₀ in
+      let checks = roomChecks points links xyz₀ ends₀ in
       subst (λ (x : Read). ReadsAs x r xyz ends words₀ words)
-      ((λ i. readFor (firstOf (listChecks (p i) (l i) xyz₀ ends₀)) (v i) (n i) (p i) (l i) xyz₀ ends₀)
+      ((λ i. readFor (firstOf (roomChecks (p i) (l i) xyz₀ ends₀)) (v i) (n i) (p i) (l i) xyz₀ ends₀)
       ∙ ap (λ (a : Answer). readFor a (verticesIn editionOne s) (edgesIn editionOne s) points links xyz₀ ends₀)
       (first-passes (sheetChecks editionOne s) checks ok))
       same

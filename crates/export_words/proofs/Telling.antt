@@ -10,7 +10,7 @@ use Rattle.paper.specs.Reading.{conversionSays}
 use Rattle.paper.specs.Reading as Paper
 use Rattle.paper.specs.declared.Conversion.{Conversion}
 use Rattle.rooms.specs.Rooms.{copied}
-use Rattle.convert.specs.Converts.{leaves}
+use Rattle.convert.specs.Converts.{atExit}
 use Rattle.export_words.specs.Words.{onto, Tells, ConvertsAs, SaidIs, ToldBy}
 use Rattle.export_words.specs.declared.words.Said.{Said}
 
@@ -66,7 +66,7 @@ pub told-as : {x : Said} {r : ℕ} {words₀ words : List ℕ} {s t : Paper.Said
 told-as {x} {r} {words₀} {words} {s} told h e = subst (λ (t : Paper.Said). Tells t r words₀ words) e (told s h)
 
 pub converts-as : {x : Said} {r : ℕ} {faces solids words₀ words : List ℕ} {a : Conversion} {c : Converted} → ToldBy x r words₀ words
-    → SaidIs x (conversionSays a) → leaves a faces solids ≡ c → ConvertsAs c r faces solids words₀ words
+    → SaidIs x (conversionSays a) → atExit a faces solids ≡ c → ConvertsAs c r faces solids words₀ words
 converts-as told h e = record {
   faces-are = ap (λ (c : Converted). c .faces) e;
   solids-are = ap (λ (c : Converted). c .solids) e;

@@ -22,8 +22,8 @@ pub record Read : Type 0 where
   pub ends : List ℕ
 
 -- 1: room for the coordinates; room for the ends
-unfoldable pub listChecks : List ℤ → List ℕ → List ℤ → List ℕ → List Check
-listChecks points links xyz ends =
+unfoldable pub roomChecks : List ℤ → List ℕ → List ℤ → List ℕ → List Check
+roomChecks points links xyz ends =
     check No.NoRoom (offends (ltb (length xyz) (length points)) 0)
     ∷ check No.NoRoom (offends (ltb (length ends) (length links)) 1)
     ∷ []
@@ -41,7 +41,7 @@ unfoldable pub readInto : List ℕ → List ℤ → List ℕ → Read
 readInto s xyz ends =
     let points = coordinatesIn editionOne s in
     let links = endsIn editionOne s in
-    readFor (firstOf (sheetChecks editionOne s ++ listChecks points links xyz ends)) (verticesIn editionOne s) (edgesIn editionOne s) points links
+    readFor (firstOf (sheetChecks editionOne s ++ roomChecks points links xyz ends)) (verticesIn editionOne s) (edgesIn editionOne s) points links
     xyz ends
 
 pub record ReadsAs (x : Read) (r : ℕ) (xyz : List ℤ) (ends words₀ words : List ℕ) : Type 0 where
@@ -55,4 +55,4 @@ abbrev pub Handed : Drawing → List ℤ → List ℕ → ℕ → List ℤ → L
 Handed d xyz₀ ends₀ r xyz ends words₀ words =
     let points = take (3 * d .vertices) (d .xyz) in
     let links = take (2 * d .edges) (d .ends) in
-    ReadsAs (readFor (firstOf (listChecks points links xyz₀ ends₀)) (d .vertices) (d .edges) points links xyz₀ ends₀) r xyz ends words₀ words
+    ReadsAs (readFor (firstOf (roomChecks points links xyz₀ ends₀)) (d .vertices) (d .edges) points links xyz₀ ends₀) r xyz ends words₀ words

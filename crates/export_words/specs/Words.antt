@@ -9,8 +9,8 @@ use Rattle.paper.specs.Reading as Paper
 use Rattle.export_words.specs.declared.words.Said.{Said}
 
 -- its number, its place, its values
-abbrev pub wordsOf : Paper.Said → List ℕ
-wordsOf s = s .number ∷ s .place ∷ s .values
+abbrev pub wordsSaid : Paper.Said → List ℕ
+wordsSaid s = s .number ∷ s .place ∷ s .values
 
 -- entries written to the start of a lent room, as far as it reaches; later room keeps its contents
 abbrev pub onto : {A : Type 0} → List A → List A → List A
@@ -19,7 +19,7 @@ onto entries room = take (length room) entries ++ drop (length entries) room
 -- the number is returned, and the words are written
 pub record Tells (s : Paper.Said) (r : ℕ) (words₀ words : List ℕ) : Type 0 where
   pub number-is : r ≡ s .number
-  pub words-are : words ≡ onto (wordsOf s) words₀
+  pub words-are : words ≡ onto (wordsSaid s) words₀
 
 -- ---- with what else was lent
 
@@ -43,7 +43,7 @@ pub record Telling (x : Said) : Type 0 where
 
 pub record SaidIs (x : Said) (s : Paper.Said) : Type 0 where
   pub telling : Telling x
-  pub are : take (x .count) (x .words) ≡ wordsOf s
+  pub are : take (x .count) (x .words) ≡ wordsSaid s
 
 -- so told, whatever it is that the words say
 abbrev pub ToldBy : Said → ℕ → List ℕ → List ℕ → Type 0

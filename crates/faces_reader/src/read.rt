@@ -11,7 +11,7 @@ ghost use Rattle.paper.specs.Numbers.{rowBytes};
 ghost use Rattle.paper.specs.Loops.{row};
 ghost use Rattle.paper.specs.FaceList.{noFaces, facesOf};
 ghost use Rattle.faces_reader.specs.Face.{Brief, countOf, faceAt, closesAt};
-ghost use Rattle.faces_reader.specs.Asked.{Fields, Cell, PutRow, FacePlace};
+ghost use Rattle.faces_reader.specs.Asked.{FaceFields, Cell, PutRow, FacePlace};
 use lists::Found;
 use paper::Answer;
 use paper::Faces;
@@ -47,7 +47,7 @@ fn count_in(f: Format, s: &[u8]) -> Found
 
 // Whether the c numbers of w bits from bit i on are vertices below v.
 fn are_below(v: usize, s: &[u8], i: usize, w: usize, c: usize) -> bool
-    requires { ⌜ Fields (now s) i w c ⌝ }
+    requires { ⌜ FaceFields (now s) i w c ⌝ }
     ensures { λ r. ⌜ r ≡ all (λ x. ltb x v) (fieldsAt (now (s .entry)) i w c) ⌝ }
 {
     let mut k: usize = 0;

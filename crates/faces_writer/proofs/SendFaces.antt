@@ -17,7 +17,7 @@ use Rattle.paper.specs.FaceList.{faceBits, span, solidFaces}
 use Rattle.paper.specs.declared.Format.{Format}
 use Rattle.faces_laws.proofs.Packed.{length-bits-of}
 use Rattle.faces_writer.specs.Send.{way, marked, rowAlone, faceOf, faceAlone, fits, facesBits, listHead}
-use Rattle.faces_writer.specs.Asked.{Sends, SendsOne}
+use Rattle.faces_writer.specs.Asked.{SendsFrom, SendsOne}
 use Rattle.faces_writer.proofs.Fits.{way-length, way-fits}
 use Rattle.faces_writer.proofs.Weight.{faceSpan, facesLeft, faces-start, faces-next, faces-end, solid-small}
 
@@ -100,7 +100,7 @@ module _ (f : Format) where
       pub place : b + span f (left k) ≡ listHead f + span f faces
       pub whole : overwrite (run 8 last) b (facesBits f (left k)) ≡ overwrite (run 8 room) (listHead f) (facesBits f faces)
 
-    module _ (room : List ℕ) (g : Sends f faces room (listHead f)) where
+    module _ (room : List ℕ) (g : SendsFrom f faces room (listHead f)) where
       pub send-start : Sending room 0 (listHead f) room
       send-start =
           let e : left 0 ≡ faces = sym (faces-start f rows taken turned) in

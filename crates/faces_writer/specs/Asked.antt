@@ -14,7 +14,7 @@ use Rattle.faces_reader.specs.Face.{Brief}
 use Rattle.faces_writer.specs.Send.{fits, Weighed}
 
 -- corner j of the c corners that stand in rows from place i on
-pub record Corner (rows : List ℕ) (i c j : ℕ) : Type 0 where
+pub record CornerInRow (rows : List ℕ) (i c j : ℕ) : Type 0 where
   pub inside : i + c ≤ length rows
   pub known : j < c
 
@@ -32,7 +32,7 @@ pub record Candidate (f : Format) (k : ℕ) : Type 0 where
   pub known : k < mostCandidates
 
 -- faces that fit, and room for their bits from bit b on
-pub record Sends (f : Format) (fs : List Loop) (room : List ℕ) (b : ℕ) : Type 0 where
+pub record SendsFrom (f : Format) (fs : List Loop) (room : List ℕ) (b : ℕ) : Type 0 where
   pub brief : Brief f
   pub fit : all (fits f) fs ≡ true
   pub roomy : b + span f fs ≤ length room * 8
@@ -41,7 +41,7 @@ pub record Sends (f : Format) (fs : List Loop) (room : List ℕ) (b : ℕ) : Typ
 -- the same of what candidate k gives
 pub record SendsOne (f : Format) (k : ℕ) (fs : List Loop) (room : List ℕ) (b : ℕ) : Type 0 where
   pub known : k < mostCandidates
-  pub faces : Sends f fs room b
+  pub faces : SendsFrom f fs room b
 
 -- n faces of b bits that fit, and room for the list of them
 pub record SendsList (f : Format) (fs : List Loop) (room : List ℕ) (n b : ℕ) : Type 0 where

@@ -10,7 +10,7 @@ ghost use Rattle.paper.specs.Numbers.{mostCandidates};
 ghost use Rattle.paper.specs.FaceList.{span, rowAt, solidFaces, sentOf, sentRoom};
 ghost use Rattle.faces_reader.specs.Face.{Brief};
 ghost use Rattle.faces_writer.specs.Send.{cornersAt, way, rowAlone, faceAlone, PutFaces, cornersOf, listHead, weight, listIn};
-ghost use Rattle.faces_writer.specs.Asked.{Corner, CornerFields, Candidate, Sends, SendsOne, SendsList};
+ghost use Rattle.faces_writer.specs.Asked.{CornerInRow, CornerFields, Candidate, SendsFrom, SendsOne, SendsList};
 use lists::Found;
 use paper::Format;
 use paper::Refusal;
@@ -95,7 +95,7 @@ fn weigh_all(f: Format, rows: &[u8], taken: u64) -> Extent
 
 // Corner j of the c corners from place i on: against their order the first stays first.
 fn corner(rows: &[u8], i: usize, c: usize, back: bool, j: usize) -> u64
-    requires { ⌜ Corner (now rows) i c j ⌝ }
+    requires { ⌜ CornerInRow (now rows) i c j ⌝ }
     ensures { λ r. ⌜ r ≡ getD (way back (cornersAt (now (rows .entry)) i c)) j 0 ⌝ }
 {
     if back {
@@ -162,7 +162,7 @@ fn put_taken(
 
 // Writes the solid's faces behind the head.
 fn put_faces(f: Format, rows: &[u8], taken: u64, turned: u64, room: &mut [u8])
-    requires { ⌜ Sends f (solidFaces (now rows) taken turned) (now room) (listHead f) ⌝ }
+    requires { ⌜ SendsFrom f (solidFaces (now rows) taken turned) (now room) (listHead f) ⌝ }
     ensures { λ _. ⌜ PutFaces f (solidFaces (now (rows .entry)) taken turned) (now (room .entry)) (now (room .exit)) (listHead f) ⌝ }
 {
     let mut b = paper::EDITION_BITS + f.face_count_bits;

@@ -12,12 +12,12 @@ use Rattle.lists.proofs.Truth.{and-left, and-both, same-truth}
 use Rattle.sets.specs.Word.{dig, Sub, count, both, first}
 use Rattle.sets.proofs.Digits.{never, dig-both, dig-only, dig-self, count-only, first-in, count-alone}
 use Rattle.sets.proofs.Ones.{dig-none}
-use Rattle.means_leaf.specs.Meaning.{In, InTwo, Way, stay, across}
+use Rattle.means_leaf.specs.Meaning.{In, MaskInTwo, MaskWay, stay, across}
 use Rattle.means_leaf.proofs.Spread.{place-in, allFrom}
 use Rattle.means_leaf.proofs.Reaches.{reached-ways, ways-reached}
 use Rattle.means_leaf.proofs.Directions.{once-suits}
 use Rattle.means_leaf.proofs.Each.{oriented-each}
-use Rattle.fast_sweeps.specs.Worklist.{after, edgesWith}
+use Rattle.fast_sweeps.specs.Worklist.{withoutLowest, edgesWith}
 use Rattle.fast_sweeps.proofs.Marks.{after-in, after-out, count-after, dig-sides}
 use Rattle.fast_leaf.specs.Faces.{Going, atEdge, aroundFace, atFace, goOn, toGo, alone, fromFace}
 use Rattle.fast_leaf.proofs.Edge.{Fair, edge-keeps, edge-old, edge-covers, edge-fair, edge-togo}
@@ -41,7 +41,7 @@ module _ (masks ups : List (List Bool)) (taken : List Bool) where
   around-none f left g z = rw z
 
   pub around-more : (f : ℕ) (left : List Bool) (g : Going) → (count left ≡ 0 → ⊥)
-      → aroundFace (count left) masks ups taken f left g ≡ aroundFace (count (after left)) masks ups taken f (after left)
+      → aroundFace (count left) masks ups taken f left g ≡ aroundFace (count (withoutLowest left)) masks ups taken f (withoutLowest left)
       (atEdge (getD masks (first left) []) (getD ups (first left) []) taken f g)
   unfolding aroundFace
   around-more f left g n = rw (← count-after left n)
@@ -63,7 +63,7 @@ module _ (masks ups : List (List Bool)) (taken : List Bool) where
   around-togo (suc n) f left g =
       omega (
         arith,
-        around-togo n f (after left) (atEdge (getD masks (first left) []) (getD ups (first left) []) taken f g),
+        around-togo n f (withoutLowest left) (atEdge (getD masks (first left) []) (getD ups (first left) []) taken f g),
         edge-togo (getD masks (first left) []) (getD ups (first left) []) taken f g,
       )
 
@@ -74,7 +74,7 @@ module _ (masks ups : List (List Bool)) (taken : List Bool) where
         arith,
         count-after (g .waiting) n,
         around-togo (count (edgesWith masks (first (g .waiting)))) (first (g .waiting)) (edgesWith masks (first (g .waiting)))
-            (record { reached = g .reached; waiting = after (g .waiting); turned = g .turned }),
+            (record { reached = g .reached; waiting = withoutLowest (g .waiting); turned = g .turned }),
       )
 
   -- ---- so many times are enough, and more change nothing
@@ -126,7 +126,7 @@ Closed masks taken g =
     (k e : ℕ) → dig (g .reached) k ≡ true → dig (g .waiting) k ≡ false → dig (getD masks e []) k ≡ true
     → Sub (both (getD masks e []) taken) (g .reached)
 
-module _ (masks ups : List (List Bool)) (taken : List Bool) (start : ℕ) (same : length masks ≡ length ups) (two : InTwo masks taken) where
+module _ (masks ups : List (List Bool)) (taken : List Bool) (start : ℕ) (same : length masks ≡ length ups) (two : MaskInTwo masks taken) where
   abbrev Good : Going → Type 0
   Good g = Fair masks ups taken start g × Closed masks taken g
 
@@ -149,7 +149,7 @@ module _ (masks ups : List (List Bool)) (taken : List Bool) (start : ℕ) (same 
 
   done-at : (f : ℕ) (left : List Bool) (g : Going) → dig (getD masks (first left) []) f ≡ true → dig (g .reached) f ≡ true
       → Fair masks ups taken start g → Done masks taken f left g
-      → Done masks taken f (after left) (atEdge (getD masks (first left) []) (getD ups (first left) []) taken f g)
+      → Done masks taken f (withoutLowest left) (atEdge (getD masks (first left) []) (getD ups (first left) []) taken f g)
   done-at f left g has rf h d k e rk wk ek c = go (ℕ-discrete e (first left)) (ℕ-discrete k f)
     where
       next : Going
@@ -175,8 +175,8 @@ module _ (masks ups : List (List Bool)) (taken : List Bool) (start : ℕ) (same 
   around-good (suc n) f left g z s rf h d =
       let some : count left ≡ 0 → ⊥ = λ y. absurd (omega arith) in
       let has : dig (getD masks (first left) []) f ≡ true = s (first left) (first-in left some) in
-      let m : count (after left) ≡ n = omega (arith, count-after left some) in
-      around-good n f (after left) (atEdge (getD masks (first left) []) (getD ups (first left) []) taken f g) m
+      let m : count (withoutLowest left) ≡ n = omega (arith, count-after left some) in
+      around-good n f (withoutLowest left) (atEdge (getD masks (first left) []) (getD ups (first left) []) taken f g) m
       (λ e p. let q = after-in left e p in s e (q .1))
       (edge-keeps (getD masks (first left) []) (getD ups (first left) []) taken f g f rf)
       (fair-at (first left) f g has rf h)
@@ -204,7 +204,7 @@ module _ (masks ups : List (List Bool)) (taken : List Bool) (start : ℕ) (same 
       f = first (g .waiting)
 
       g1 : Going
-      g1 = record { reached = g .reached; waiting = after (g .waiting); turned = g .turned }
+      g1 = record { reached = g .reached; waiting = withoutLowest (g .waiting); turned = g .turned }
 
   abbrev Ended : Going → Type 0
   Ended g = Good g × (count (g .waiting) ≡ 0)
@@ -234,7 +234,7 @@ module _ (masks ups : List (List Bool)) (taken : List Bool) (start : ℕ) (same 
         turned-in = λ k p. never (sym p);
         low = dig-self start;
         low-turned = refl;
-        way = λ k p. subst (λ (x : ℕ). Way masks taken start x) (sym (dig-only start k p)) stay;
+        way = λ k p. subst (λ (x : ℕ). MaskWay masks taken start x) (sym (dig-only start k p)) stay;
         right = λ ts o e k p. sym (ap (dig ts) (dig-only start k p) ∙ e);
       },
       λ k e p q. never (sym p ∙ q),
@@ -248,7 +248,7 @@ module _ (masks ups : List (List Bool)) (taken : List Bool) (start : ℕ) (same 
     face-fair = start-ends .0 .0
 
     -- all to which one can go are reached
-    way-ends : (g : Going) → Ended g → (f k : ℕ) → dig (g .reached) f ≡ true → Way masks taken f k → dig (g .reached) k ≡ true
+    way-ends : (g : Going) → Ended g → (f k : ℕ) → dig (g .reached) f ≡ true → MaskWay masks taken f k → dig (g .reached) k ≡ true
     way-ends g w f k rf stay = rf
     way-ends g w f k rf (across mask j v i p q) =
         let a = at-in masks mask i in
@@ -257,7 +257,7 @@ module _ (masks ups : List (List Bool)) (taken : List Bool) (start : ℕ) (same 
         w .0 .1 j (a .0) (way-ends g w f j rf v) (dig-none (g .waiting) (w .1) j)
         (and-left (dig (getD masks (a .0) []) j) (dig taken j) (sym (dig-both (getD masks (a .0) []) taken j) ∙ oj)) k ok
 
-    pub face-reaches : (k : ℕ) → Way masks taken start k → dig (fromFace masks ups taken start .reached) k ≡ true
+    pub face-reaches : (k : ℕ) → MaskWay masks taken start k → dig (fromFace masks ups taken start .reached) k ≡ true
     face-reaches k v = way-ends (fromFace masks ups taken start) start-ends start k (face-fair .low) v
 
     -- the passes over all edges reach the same

@@ -13,7 +13,7 @@ use Rattle.sets.specs.Word.{bit, dig, Sub, count, both, either, less, only, fir
 use Rattle.sets.proofs.Digits.{never, dig-both, dig-either, dig-less, dig-self, count-le, count-none, count-one, count-only, count-with, left-in, left-out}
 use Rattle.sets.proofs.Digits.{first-in, count-split, count-alone}
 use Rattle.paper.specs.Solids.{unlike, oriented}
-use Rattle.means_leaf.specs.Meaning.{In, Way, across}
+use Rattle.means_leaf.specs.Meaning.{In, MaskWay, across}
 use Rattle.means_leaf.proofs.Unlike.{dig-unlike}
 use Rattle.means_leaf.proofs.Directions.{Suits}
 use Rattle.fast_leaf.specs.Faces.{Going, others, unlikeWays, atEdge, toGo}
@@ -25,7 +25,7 @@ pub record Fair (masks ups : List (List Bool)) (taken : List Bool) (start : ℕ)
   pub turned-in : Sub (g .turned) (g .reached)
   pub low : dig (g .reached) start ≡ true
   pub low-turned : dig (g .turned) start ≡ false
-  pub way : (k : ℕ) → dig (g .reached) k ≡ true → Way masks taken start k
+  pub way : (k : ℕ) → dig (g .reached) k ≡ true → MaskWay masks taken start k
   pub right : (ts : List Bool) → oriented masks ups taken ts ≡ true → dig ts start ≡ false → (k : ℕ) → dig (g .reached) k ≡ true
       → dig (g .turned) k ≡ dig ts k
 
@@ -211,7 +211,7 @@ module _ (mask up taken : List Bool) (f : ℕ) (g : Going) where
             turns k (inl p) = or-left (dig (g .reached) k) (dig (others mask taken f) k) (h .turned-in k p)
             turns k (inr o) = or-right (dig (g .reached) k) (dig (others mask taken f) k) o
 
-            way-by : (k : ℕ) → (dig (g .reached) k ≡ true) ⊎ (dig (others mask taken f) k ≡ true) → Way masks taken start k
+            way-by : (k : ℕ) → (dig (g .reached) k ≡ true) ⊎ (dig (others mask taken f) k ≡ true) → MaskWay masks taken start k
             way-by k (inl p) = h .way k p
             way-by k (inr o) = let q = left-out (both mask taken) f k o in across mask f (h .way f rf) i on (q .0)
 

@@ -11,9 +11,9 @@ use Rattle.paper.specs.Walk.{Status, takenOn}
 use Rattle.paper.specs.Conversion.{takens}
 use Rattle.means_walk.specs.Complete.{exact}
 use Rattle.means_walk.proofs.Status.{count-takens}
-use Rattle.means_leaf.specs.Meaning.{InTwo}
+use Rattle.means_leaf.specs.Meaning.{MaskInTwo}
 
-pub exact-two : (masks : List (List Bool)) (st : List Status) → exact masks st ≡ true → InTwo masks (takens st)
+pub exact-two : (masks : List (List Bool)) (st : List Status) → exact masks st ≡ true → MaskInTwo masks (takens st)
 unfolding exact
 exact-two [] st e mask i = absurd i
 exact-two (r ∷ masks) st e mask (inl q) =

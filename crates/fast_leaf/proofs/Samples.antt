@@ -6,9 +6,9 @@ use mathlib.Core.Path.{_≡_, refl, ap}
 use lib.IntN.{pos}
 use Rattle.sets.specs.Word.{count, first, both, either, less, only}
 use Rattle.paper.specs.Solids.{Tables, unlike, onceEachWay, oriented, Solid, judged}
-use Rattle.means_leaf.specs.Meaning.{InTwo}
-use Rattle.fast_sweeps.specs.Worklist.{after, edgesWith}
-use Rattle.fast_leaf.specs.Faces.{atEdge, aroundFace, atFace, goOn, fromFace, clearOn, sixOn, judgedByFaces, Agrees}
+use Rattle.means_leaf.specs.Meaning.{MaskInTwo}
+use Rattle.fast_sweeps.specs.Worklist.{withoutLowest, edgesWith}
+use Rattle.fast_leaf.specs.Faces.{atEdge, aroundFace, atFace, goOn, fromFace, clearOn, sixOn, judgedByFaces, SameJudgement}
 use Rattle.fast_leaf.proofs.Judged.{judged-by-faces}
 
 -- "Tetrahedron (0,0,0) (6,0,0) (0,6,0) (0,0,6)": its faces 0 1 2, 0 1 3, 0 2 3 and 1 2 3
@@ -31,7 +31,7 @@ tetrahedron = record {
 abbrev pub four : List Bool
 four = true ∷ true ∷ true ∷ true ∷ []
 
-pub tetrahedron-two : InTwo (tetrahedron .masks) four
+pub tetrahedron-two : MaskInTwo (tetrahedron .masks) four
 unfolding count both
 tetrahedron-two mask (inl e) = ap (λ (x : List Bool). count (both x four)) e
 tetrahedron-two mask (inr (inl e)) = ap (λ (x : List Bool). count (both x four)) e
@@ -43,8 +43,8 @@ tetrahedron-two mask (inr (inr (inr (inr (inr (inr i)))))) = absurd i
 
 -- "six volumes 216"
 pub tetrahedron-faces : judgedByFaces tetrahedron four ≡ Solid (true ∷ false ∷ true ∷ false ∷ []) 216
-unfolding count first both either less only unlike onceEachWay oriented after edgesWith atEdge aroundFace atFace goOn fromFace clearOn sixOn judgedByFaces xor
+unfolding count first both either less only unlike onceEachWay oriented withoutLowest edgesWith atEdge aroundFace atFace goOn fromFace clearOn sixOn judgedByFaces xor
 tetrahedron-faces = refl
 
-pub tetrahedron-agrees : Agrees (judgedByFaces tetrahedron four) (judged tetrahedron four)
+pub tetrahedron-agrees : SameJudgement (judgedByFaces tetrahedron four) (judged tetrahedron four)
 tetrahedron-agrees = judged-by-faces tetrahedron four refl tetrahedron-two

@@ -14,7 +14,7 @@ use Rattle.sets.specs.Word.{dig, count, both, first}
 use Rattle.sets.proofs.Digits.{never, first-in}
 use Rattle.sets.proofs.Ones.{dig-none, first-low}
 use Rattle.paper.specs.Solids.{part, sixFrom, peaceful, clearFrom}
-use Rattle.fast_sweeps.specs.Worklist.{after}
+use Rattle.fast_sweeps.specs.Worklist.{withoutLowest}
 use Rattle.fast_sweeps.proofs.Marks.{after-in, after-out, count-after}
 use Rattle.fast_leaf.specs.Faces.{clearOn, sixOn}
 
@@ -59,14 +59,14 @@ module _ (taken : List Bool) where
   on-all zero cs left z e k h = never (sym h ∙ dig-none left z k)
   on-all (suc n) cs left z e k h =
       let some : count left ≡ 0 → ⊥ = λ y. absurd (omega arith) in
-      let m : count (after left) ≡ n = omega (arith, count-after left some) in
-      let q = cond-passes (eqb (count (both (getD cs (first left) []) taken)) 0) (clearOn n cs (after left) taken) e in
+      let m : count (withoutLowest left) ≡ n = omega (arith, count-after left some) in
+      let q = cond-passes (eqb (count (both (getD cs (first left) []) taken)) 0) (clearOn n cs (withoutLowest left) taken) e in
       go (ℕ-discrete k (first left)) (eqb-true (count (both (getD cs (first left) []) taken)) 0 (q .0))
-      (on-all n cs (after left) m (q .1) k)
+      (on-all n cs (withoutLowest left) m (q .1) k)
     where
-      go : Dec (k ≡ first left) → Peace cs taken (first left) → (dig (after left) k ≡ true → Peace cs taken k) → Peace cs taken k
+      go : Dec (k ≡ first left) → Peace cs taken (first left) → (dig (withoutLowest left) k ≡ true → Peace cs taken k) → Peace cs taken k
       go (yes p) here ih = subst (Peace cs taken) (sym p) here
-      go (no p) here ih = ih (stays (dig (after left) k) (λ w. never (sym h ∙ after-out left k w p)))
+      go (no p) here ih = ih (stays (dig (withoutLowest left) k) (λ w. never (sym h ∙ after-out left k w p)))
         where
           stays : (b : Bool) → (b ≡ false → ⊥) → b ≡ true
           stays true f = refl
@@ -78,10 +78,10 @@ module _ (taken : List Bool) where
   all-on zero cs left z h = refl
   all-on (suc n) cs left z h =
       let some : count left ≡ 0 → ⊥ = λ y. absurd (omega arith) in
-      let m : count (after left) ≡ n = omega (arith, count-after left some) in
+      let m : count (withoutLowest left) ≡ n = omega (arith, count-after left some) in
       let p : eqb (count (both (getD cs (first left) []) taken)) 0 ≡ true
       = eq-eqb (count (both (getD cs (first left) []) taken)) 0 (h (first left) (first-in left some)) in
-      rw p (all-on n cs (after left) m (λ k e. let q = after-in left k e in h k (q .1)))
+      rw p (all-on n cs (withoutLowest left) m (λ k e. let q = after-in left k e in h k (q .1)))
 
   pub clear-on : (cs : List (List Bool)) → clearOn (count taken) cs taken taken ≡ clearFrom 0 cs taken
   clear-on cs =
@@ -92,8 +92,8 @@ module _ (taken : List Bool) where
       from-all cs 0 e k (subst (λ (x : ℕ). dig taken x ≡ true) z h)))
 
 -- ---- (iv)
-after-same : (a : List Bool) (j : ℕ) → first a < j → dig a j ≡ dig (after a) j
-unfolding first after
+after-same : (a : List Bool) (j : ℕ) → first a < j → dig a j ≡ dig (withoutLowest a) j
+unfolding first withoutLowest
 after-same [] j h = refl
 after-same (true ∷ a) zero h = absurd (omega arith)
 after-same (true ∷ a) (suc j) h = refl
@@ -120,35 +120,35 @@ module _ (turned : List Bool) where
 
   -- the lowest, and the others
   six-lowest : (zs : List ℤ) (k m : ℕ) (a : List Bool) → (count a ≡ 0 → ⊥) → k + m ≡ first a
-      → sixFrom k zs a turned ≡ part true (dig turned (first a)) (getD zs m (pos 0)) +ℤ sixFrom k zs (after a) turned
+      → sixFrom k zs a turned ≡ part true (dig turned (first a)) (getD zs m (pos 0)) +ℤ sixFrom k zs (withoutLowest a) turned
   unfolding sixFrom
   six-lowest [] k m a n e = nought (dig turned (first a))
   six-lowest (z ∷ zs) k zero a n e =
       let f : k ≡ first a = omega arith in
       let here : dig a k ≡ true = subst (λ (x : ℕ). dig a x ≡ true) (sym f) (first-in a n) in
-      let gone : dig (after a) k ≡ false = never-true (dig (after a) k) (λ p. let q = after-in a k p in absurd (omega (arith, q .0))) in
-      let rest : sixFrom (suc k) zs a turned ≡ sixFrom (suc k) zs (after a) turned = six-above zs (suc k) a (after a)
+      let gone : dig (withoutLowest a) k ≡ false = never-true (dig (withoutLowest a) k) (λ p. let q = after-in a k p in absurd (omega (arith, q .0))) in
+      let rest : sixFrom (suc k) zs a turned ≡ sixFrom (suc k) zs (withoutLowest a) turned = six-above zs (suc k) a (withoutLowest a)
       (λ j l. after-same a j (omega arith)) in
       ap₂ (λ (x : Bool) (y : ℤ). part x (dig turned k) z +ℤ y) here rest
       ∙ ap₂ (λ (x : ℕ) (y : ℤ). part true (dig turned x) z +ℤ y) f
-      (sym (ap (λ (x : Bool). part x (dig turned k) z +ℤ sixFrom (suc k) zs (after a) turned) gone
-      ∙ +ℤ-idl (sixFrom (suc k) zs (after a) turned)))
+      (sym (ap (λ (x : Bool). part x (dig turned k) z +ℤ sixFrom (suc k) zs (withoutLowest a) turned) gone
+      ∙ +ℤ-idl (sixFrom (suc k) zs (withoutLowest a) turned)))
   six-lowest (z ∷ zs) k (suc m) a n e =
       let low : dig a k ≡ false = first-low a k (omega arith) in
-      let gone : dig (after a) k ≡ false = never-true (dig (after a) k) (λ p. let q = after-in a k p in absurd (omega (arith, q .0))) in
+      let gone : dig (withoutLowest a) k ≡ false = never-true (dig (withoutLowest a) k) (λ p. let q = after-in a k p in absurd (omega (arith, q .0))) in
       ap (λ (x : Bool). part x (dig turned k) z +ℤ sixFrom (suc k) zs a turned) low ∙ +ℤ-idl (sixFrom (suc k) zs a turned)
       ∙ six-lowest zs (suc k) m a n (omega arith)
       ∙ ap (λ (y : ℤ). part true (dig turned (first a)) (getD zs m (pos 0)) +ℤ y)
-      (sym (ap (λ (x : Bool). part x (dig turned k) z +ℤ sixFrom (suc k) zs (after a) turned) gone
-      ∙ +ℤ-idl (sixFrom (suc k) zs (after a) turned)))
+      (sym (ap (λ (x : Bool). part x (dig turned k) z +ℤ sixFrom (suc k) zs (withoutLowest a) turned) gone
+      ∙ +ℤ-idl (sixFrom (suc k) zs (withoutLowest a) turned)))
 
   pub six-on : (n : ℕ) (zs : List ℤ) (left : List Bool) → count left ≡ n → sixOn n zs left turned ≡ sixFrom 0 zs left turned
   unfolding sixOn
   six-on zero zs left z = sym (six-nothing zs 0 left z)
   six-on (suc n) zs left z =
       let some : count left ≡ 0 → ⊥ = λ y. absurd (omega arith) in
-      let m : count (after left) ≡ n = omega (arith, count-after left some) in
-      ap (λ (y : ℤ). part true (dig turned (first left)) (getD zs (first left) (pos 0)) +ℤ y) (six-on n zs (after left) m)
+      let m : count (withoutLowest left) ≡ n = omega (arith, count-after left some) in
+      ap (λ (y : ℤ). part true (dig turned (first left)) (getD zs (first left) (pos 0)) +ℤ y) (six-on n zs (withoutLowest left) m)
       ∙ sym (six-lowest zs 0 (first left) left some (omega arith))
 
 -- ---- step by step, as a loop does it
@@ -159,7 +159,7 @@ module _ (taken : List Bool) (cs : List (List Bool)) (left : List Bool) where
 
   pub clear-more : (count left ≡ 0 → ⊥)
       → clearOn (count left) cs left taken ≡ cond (eqb (count (both (getD cs (first left) []) taken)) 0)
-      (clearOn (count (after left)) cs (after left) taken) false
+      (clearOn (count (withoutLowest left)) cs (withoutLowest left) taken) false
   unfolding clearOn
   clear-more n = rw (← count-after left n)
 
@@ -170,6 +170,6 @@ module _ (turned : List Bool) (zs : List ℤ) (left : List Bool) where
 
   pub six-more : (count left ≡ 0 → ⊥)
       → sixOn (count left) zs left turned ≡ part true (dig turned (first left)) (getD zs (first left) (pos 0)) +ℤ sixOn
-      (count (after left)) zs (after left) turned
+      (count (withoutLowest left)) zs (withoutLowest left) turned
   unfolding sixOn
   six-more n = rw (← count-after left n)

@@ -9,7 +9,7 @@ use lib.ListN.{getD}
 use lib.IntN.{ℤ, pos, _+ℤ_}
 use Rattle.sets.specs.Word.{dig, count, first, both, either, less, only}
 use Rattle.paper.specs.Solids.{Tables, unlike, oriented, part, weighed, Judgement, Fails, Solid}
-use Rattle.fast_sweeps.specs.Worklist.{after, edgesWith}
+use Rattle.fast_sweeps.specs.Worklist.{withoutLowest, edgesWith}
 
 -- the faces that are reached, those of them whose edges are still to be gone over, and those that are turned against their normal form
 pub record Going : Type 0 where
@@ -42,13 +42,13 @@ atEdge mask up taken f g =
 unfoldable pub aroundFace : ℕ → List (List Bool) → List (List Bool) → List Bool → ℕ → List Bool → Going → Going
 aroundFace zero masks ups taken f left g = g
 aroundFace (suc n) masks ups taken f left g =
-    aroundFace n masks ups taken f (after left) (atEdge (getD masks (first left) []) (getD ups (first left) []) taken f g)
+    aroundFace n masks ups taken f (withoutLowest left) (atEdge (getD masks (first left) []) (getD ups (first left) []) taken f g)
 
 -- ---- the lowest waiting face, over all of its edges
 unfoldable pub atFace : List (List Bool) → List (List Bool) → List Bool → Going → Going
 atFace masks ups taken g =
     aroundFace (count (edgesWith masks (first (g .waiting)))) masks ups taken (first (g .waiting)) (edgesWith masks (first (g .waiting)))
-    (record { reached = g .reached; waiting = after (g .waiting); turned = g .turned })
+    (record { reached = g .reached; waiting = withoutLowest (g .waiting); turned = g .turned })
 
 -- until none waits, at most n times
 unfoldable pub goOn : ℕ → List (List Bool) → List (List Bool) → List Bool → Going → Going
@@ -69,22 +69,22 @@ unfoldable pub fromFace : List (List Bool) → List (List Bool) → List Bool �
 fromFace masks ups taken k = goOn (count taken) masks ups taken (alone k)
 
 -- from the lowest taken face
-abbrev pub fromLowest : List (List Bool) → List (List Bool) → List Bool → Going
-fromLowest masks ups taken = fromFace masks ups taken (first taken)
+abbrev pub fromLowestFace : List (List Bool) → List (List Bool) → List Bool → Going
+fromLowestFace masks ups taken = fromFace masks ups taken (first taken)
 
 -- ---- (v) and (iv) over the n lowest of the taken faces `left`
 unfoldable pub clearOn : ℕ → List (List Bool) → List Bool → List Bool → Bool
 clearOn zero cs left taken = true
-clearOn (suc n) cs left taken = cond (eqb (count (both (getD cs (first left) []) taken)) 0) (clearOn n cs (after left) taken) false
+clearOn (suc n) cs left taken = cond (eqb (count (both (getD cs (first left) []) taken)) 0) (clearOn n cs (withoutLowest left) taken) false
 
 unfoldable pub sixOn : ℕ → List ℤ → List Bool → List Bool → ℤ
 sixOn zero zs left turned = pos 0
-sixOn (suc n) zs left turned = part true (dig turned (first left)) (getD zs (first left) (pos 0)) +ℤ sixOn n zs (after left) turned
+sixOn (suc n) zs left turned = part true (dig turned (first left)) (getD zs (first left) (pos 0)) +ℤ sixOn n zs (withoutLowest left) turned
 
 -- ---- all of it
 unfoldable pub judgedByFaces : Tables → List Bool → Judgement
 judgedByFaces t taken =
-    let g = fromLowest (t .masks) (t .ups) taken in
+    let g = fromLowestFace (t .masks) (t .ups) taken in
     cond (eqb (count taken) 0) Fails
     (cond (eqb (count (less taken (g .reached))) 0)
     (cond (oriented (t .masks) (t .ups) taken (g .turned))
@@ -94,6 +94,6 @@ judgedByFaces t taken =
     Fails)
 
 -- the same judgement, and where it is a solid the same digits of the turned faces: their lists may differ in zeros at the end
-pub data Agrees : Judgement → Judgement → Type 0 where
-  fails : Agrees Fails Fails
-  solid : {s t : List Bool} (v : ℕ) → ((k : ℕ) → dig s k ≡ dig t k) → Agrees (Solid s v) (Solid t v)
+pub data SameJudgement : Judgement → Judgement → Type 0 where
+  fails : SameJudgement Fails Fails
+  solid : {s t : List Bool} (v : ℕ) → ((k : ℕ) → dig s k ≡ dig t k) → SameJudgement (Solid s v) (Solid t v)

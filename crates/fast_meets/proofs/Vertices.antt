@@ -20,7 +20,7 @@ use Rattle.paper.specs.declared.Point.{Point}
 use Rattle.paper_laws.proofs.Points.{differ, from-eq, scale-zero}
 use Rattle.paper_laws.proofs.Vectors.{num, vec, k, x, _-s_, o, v, _+v_, _-v_, _*v_, vring}
 use Rattle.means_drawing.specs.Segments.{Between, Common, along}
-use Rattle.means_drawing.specs.Drawings.{from, to, HasEdge, EndOf, Long, Meets, vertex, other}
+use Rattle.means_drawing.specs.Drawings.{lowEnd, highEnd, HasEdge, EndOf, Long, Meets, vertex, other}
 use Rattle.means_drawing.proofs.Segments.{openMeets-means}
 use Rattle.means_drawing.proofs.Drawings.{looseVertex-means, edgeMeets-finds, long-edges}
 use Rattle.means_drawing.proofs.Searches.{finds}
@@ -80,10 +80,10 @@ module _ {a b : Point} (long : a ≡ b → ⊥) where
 
 module _ (d : Wire) where
   abbrev A : ℕ → Point
-  A e = at d (from d e)
+  A e = at d (lowEnd d e)
 
   abbrev B : ℕ → Point
-  B e = at d (to d e)
+  B e = at d (highEnd d e)
 
   meet-is : (e f : ℕ) → meetAt d e f ≡ openMeets (A e) (B e) (A f) (B f)
   unfolding meetAt
@@ -98,14 +98,14 @@ module _ (d : Wire) where
   at-end e f w long h t (inl q) = (
     f,
     h,
-    (λ s. not-start long (subst (λ (u : ℕ). Between (A e) (B e) (at d u)) (q ∙ ap (from d) (sym s)) t)),
+    (λ s. not-start long (subst (λ (u : ℕ). Between (A e) (B e) (at d u)) (q ∙ ap (lowEnd d) (sym s)) t)),
     meet-is e f ∙ openMeets-means (A e) (B e) (A f) (B f) long .1
         (subst (λ (u : ℕ). Common (A e) (B e) (at d u) (B f)) q (starts t (B f))),
   )
   at-end e f w long h t (inr q) = (
     f,
     h,
-    (λ s. not-stop long (subst (λ (u : ℕ). Between (A e) (B e) (at d u)) (q ∙ ap (to d) (sym s)) t)),
+    (λ s. not-stop long (subst (λ (u : ℕ). Between (A e) (B e) (at d u)) (q ∙ ap (highEnd d) (sym s)) t)),
     meet-is e f ∙ openMeets-means (A e) (B e) (A f) (B f) long .1
         (subst (λ (u : ℕ). Common (A e) (B e) (A f) (at d u)) q (stops t (A f))),
   )

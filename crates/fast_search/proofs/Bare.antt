@@ -24,7 +24,7 @@ use Rattle.paper.specs.Drawing.{Wire, Edge, edge, at, edgeAt, joins, joined, sa
 use Rattle.paper.specs.Loops.{final, closes, branch, scan, ext, follows, across, level, loops}
 use Rattle.paper.specs.declared.Point.{Point}
 use Rattle.paper_laws.proofs.Wires.{joined-turned}
-use Rattle.fast_search.specs.Search.{near, higher, turn, step, inItsPlane}
+use Rattle.fast_search.specs.Search.{near, higher, acrossLine, lineStep, inItsPlane}
 use Rattle.fast_search.specs.Bare.{bareLine, bareSeconds, bareStarts, bareSearch}
 use Rattle.fast_search.proofs.Scan.{goes, each-scan}
 use Rattle.fast_search.proofs.Phases.{none-self, two-line, across-turn, level-line}
@@ -135,12 +135,12 @@ module _ (d : Wire) (places : samePlace d ≡ none) (meets : edgeMeets d ≡ non
     unfolding branch
     begun-deep k p c = ap (λ (b : Bool). cond b (p ∷ deep d k p) (deep d k p)) c
 
-    turn-line : (r : List ℕ) (w : ℕ) → isOrigin (turn d (x ∷ (y ∷ r)) w) ≡ true
+    turn-line : (r : List ℕ) (w : ℕ) → isOrigin (acrossLine d (x ∷ (y ∷ r)) w) ≡ true
         → cross (minus (at d y) (at d x)) (minus (at d w) (at d x)) ≡ origin
-    unfolding turn
+    unfolding acrossLine
     turn-line r w q = origin-yes (cross (minus (at d y) (at d x)) (minus (at d w) (at d x))) q
 
-    ahead-next : (r : List ℕ) (w : ℕ) → w < size d → follow d (x ∷ (y ∷ r)) w ≡ true → isOrigin (turn d (x ∷ (y ∷ r)) w) ≡ true
+    ahead-next : (r : List ℕ) (w : ℕ) → w < size d → follow d (x ∷ (y ∷ r)) w ≡ true → isOrigin (acrossLine d (x ∷ (y ∷ r)) w) ≡ true
         → Ahead x y (final (x ∷ (y ∷ r))) → Ahead x y (final (x ∷ (y ∷ (r ++ w ∷ []))))
     ahead-next r w h t q a =
         let s : (joined d (final (x ∷ (y ∷ r))) w && can d (x ∷ (y ∷ r)) w) ≡ true = sym (follow-can d x (y ∷ r) w) ∙ t in
@@ -157,7 +157,7 @@ module _ (d : Wire) (places : samePlace d ≡ none) (meets : edgeMeets d ≡ non
     unfolding bareLine ext Closing
     bare-line-is zero r free closing o f c l a = ap (map (inItsPlane d)) (sym (begun-deep 0 (x ∷ (y ∷ r)) (open-path r l a)))
     bare-line-is (suc k) r free closing o f c l a =
-        deeper-is d k x y r free closing (λ w rest. step d (λ q g. bareLine d k q g closing) k (x ∷ (y ∷ r)) free closing w) f c
+        deeper-is d k x y r free closing (λ w rest. lineStep d (λ q g. bareLine d k q g closing) k (x ∷ (y ∷ r)) free closing w) f c
         (λ w rest h t. step-is d k x y r free closing (λ q g. bareLine d k q g closing) w o f c h t
         (λ q. let o' : isOrigin (across d (x ∷ (y ∷ (r ++ w ∷ [])))) ≡ true = ap isOrigin (across-turn d x y r w o) ∙ q in
         bare-line-is k (r ++ w ∷ []) (less free (only w)) closing o'

@@ -10,13 +10,13 @@ use lib.Seq.{take-all, take-append-le, append-snoc}
 use borrow.Author.Tests.{ltb-true, ltb-false}
 use Rattle.sets.specs.Word.{count, first, less, only, empty}
 use Rattle.fast_search.specs.Rows.{eachOf}
-use Rattle.fast_search.specs.Cut.{Table, table, recorded, takeIn, takeAll}
+use Rattle.fast_search.specs.Cut.{Table, cutTable, recorded, takeIn, takeAll}
 use Rattle.fast_search.proofs.Rows.{each-next, each-end}
 
 module _ {A : Type 0} (m : ℕ) where
   -- one more, with room for it: it comes behind the others
   pub table-less : (l : List A) (x : A) → length l < m
-      → table m (l ++ x ∷ []) ≡ record { rows = take m l ++ x ∷ []; count = suc (min (suc m) (length l)) }
+      → cutTable m (l ++ x ∷ []) ≡ record { rows = take m l ++ x ∷ []; count = suc (min (suc m) (length l)) }
   table-less l x h =
       let c : min (suc m) (length (l ++ x ∷ [])) ≡ suc (min (suc m) (length l)) = omega (arith, length-append l (x ∷ [])) in
       let r : take m (l ++ x ∷ []) ≡ take m l ++ x ∷ [] = take-all m (l ++ x ∷ []) (omega (arith, length-append l (x ∷ [])))
@@ -24,22 +24,22 @@ module _ {A : Type 0} (m : ℕ) where
       λ i. record { rows = r i; count = c i }
 
   -- the table is full: nothing comes in, and the count is one above
-  pub table-over : (l : List A) (x : A) → m ≤ length l → table m (l ++ x ∷ []) ≡ record { rows = take m l; count = suc m }
+  pub table-over : (l : List A) (x : A) → m ≤ length l → cutTable m (l ++ x ∷ []) ≡ record { rows = take m l; count = suc m }
   table-over l x h =
       let c : min (suc m) (length (l ++ x ∷ [])) ≡ suc m = omega (arith, length-append l (x ∷ [])) in
       λ i. record { rows = take-append-le m l (x ∷ []) h i; count = c i }
 
   -- the count says it: whatever comes, the table stays as it is
-  pub table-full : (l more : List A) → m < min (suc m) (length l) → table m (l ++ more) ≡ table m l
+  pub table-full : (l more : List A) → m < min (suc m) (length l) → cutTable m (l ++ more) ≡ cutTable m l
   table-full l more h =
       let c : min (suc m) (length (l ++ more)) ≡ min (suc m) (length l) = omega (arith, length-append l more) in
       λ i. record { rows = take-append-le m l more (omega arith) i; count = c i }
 
-  pub take-in-is : (l : List A) (x : A) → takeIn m (table m l) x ≡ table m (l ++ x ∷ [])
+  pub take-in-is : (l : List A) (x : A) → takeIn m (cutTable m l) x ≡ cutTable m (l ++ x ∷ [])
   unfolding takeIn recorded
   take-in-is l x = go (ltb (min (suc m) (length l)) m) refl
     where
-      go : (b : Bool) → ltb (min (suc m) (length l)) m ≡ b → recorded m b (table m l) x ≡ table m (l ++ x ∷ [])
+      go : (b : Bool) → ltb (min (suc m) (length l)) m ≡ b → recorded m b (cutTable m l) x ≡ cutTable m (l ++ x ∷ [])
       go true e =
           let h : min (suc m) (length l) < m = ltb-true (min (suc m) (length l)) m e in
           sym (table-less l x (omega arith))
@@ -47,11 +47,11 @@ module _ {A : Type 0} (m : ℕ) where
           let h : m ≤ min (suc m) (length l) = ltb-false (min (suc m) (length l)) m e in
           sym (table-over l x (omega arith))
 
-  pub take-all-is : (l xs : List A) → takeAll m (table m l) xs ≡ table m (l ++ xs)
+  pub take-all-is : (l xs : List A) → takeAll m (cutTable m l) xs ≡ cutTable m (l ++ xs)
   unfolding takeAll
-  take-all-is l [] = ap (table m) (sym (append-nil l))
+  take-all-is l [] = ap (cutTable m) (sym (append-nil l))
   take-all-is l (x ∷ xs) =
-      ap (λ (t : Table A). takeAll m t xs) (take-in-is l x) ∙ take-all-is (l ++ x ∷ []) xs ∙ ap (table m) (append-snoc l x xs)
+      ap (λ (t : Table A). takeAll m t xs) (take-in-is l x) ∙ take-all-is (l ++ x ∷ []) xs ∙ ap (cutTable m) (append-snoc l x xs)
 
   -- all of l, from an empty table: the first m of them, and their number up to one above m
   pub cut-is : (l : List A) → takeAll m (record { rows = []; count = 0 }) l ≡ record { rows = take m l; count = min (suc m) (length l) }
@@ -80,5 +80,5 @@ module _ {A : Type 0} (f : ℕ → List Bool → List A) where
 
   -- the table is full: it is that of the whole
   pub whole-full : (m : ℕ) (now : List A) (left : List Bool) (all : List A) → m < min (suc m) (length now) → Whole now left all
-      → table m now ≡ table m all
-  whole-full m now left all h w = sym (table-full m now (eachOf f 0 left) h) ∙ ap (table m) w
+      → cutTable m now ≡ cutTable m all
+  whole-full m now left all h w = sym (table-full m now (eachOf f 0 left) h) ∙ ap (cutTable m) w

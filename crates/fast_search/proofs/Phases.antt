@@ -18,7 +18,7 @@ use Rattle.paper.specs.declared.Point.{Point}
 use Rattle.paper_laws.proofs.Tilted.{tilt-found, tilt-none, across-more}
 use Rattle.means_clash.proofs.Combine.{vars, minusE, crossE}
 use Rattle.means_clash.proofs.Level.{own-zero}
-use Rattle.fast_search.specs.Search.{onPlane, planeMask, planeOf, turn, every}
+use Rattle.fast_search.specs.Search.{onPlane, planeMask, planeOf, acrossLine, every}
 
 -- ---- no plane yet: one vertex, or two
 none-start : (e s : Point) → cross e (minus s s) ≡ origin
@@ -67,8 +67,8 @@ module _ (d : Wire) where
 
   -- while there is none, the next vertex fixes it, unless it is in line too
   pub across-turn : (x y : ℕ) (r : List ℕ) (v : ℕ) → isOrigin (across d (x ∷ (y ∷ r))) ≡ true
-      → across d (x ∷ (y ∷ (r ++ v ∷ []))) ≡ turn d (x ∷ (y ∷ r)) v
-  unfolding turn
+      → across d (x ∷ (y ∷ (r ++ v ∷ []))) ≡ acrossLine d (x ∷ (y ∷ r)) v
+  unfolding acrossLine
   across-turn x y r v e = across-more d x y r v ∙ tilt-none (at d x) (at d y) (across d (x ∷ (y ∷ r))) (at d v) e
 
   -- ---- who is level
@@ -89,7 +89,7 @@ module _ (d : Wire) where
       ∙ sym (level-is (x ∷ (y ∷ r)) w)
 
   pub level-turn : (x y : ℕ) (r : List ℕ) (v : ℕ) → isOrigin (across d (x ∷ (y ∷ r))) ≡ true → (w : ℕ)
-      → level d (x ∷ (y ∷ (r ++ v ∷ []))) w ≡ onPlane d (at d x) (turn d (x ∷ (y ∷ r)) v) w
+      → level d (x ∷ (y ∷ (r ++ v ∷ []))) w ≡ onPlane d (at d x) (acrossLine d (x ∷ (y ∷ r)) v) w
   level-turn x y r v e w = level-is (x ∷ (y ∷ (r ++ v ∷ []))) w ∙ ap (λ (n : Point). onPlane d (at d x) n w) (across-turn x y r v e)
 
   -- a vertex added never makes another level
@@ -101,8 +101,8 @@ module _ (d : Wire) where
       go false e = sym (level-found x y r v e w) ∙ h
 
   -- the vertex that fixes the plane is in it
-  pub turn-inside : (x y : ℕ) (r : List ℕ) (v : ℕ) → onPlane d (at d x) (turn d (x ∷ (y ∷ r)) v) v ≡ true
-  unfolding onPlane turn
+  pub turn-inside : (x y : ℕ) (r : List ℕ) (v : ℕ) → onPlane d (at d x) (acrossLine d (x ∷ (y ∷ r)) v) v ≡ true
+  unfolding onPlane acrossLine
   turn-inside x y r v =
       let e = minus (at d y) (at d x) in
       let q = minus (at d v) (at d x) in
@@ -127,7 +127,7 @@ module _ (d : Wire) where
   planeOf-found x y r v e = ap (planeMask d (at d x)) (across-found x y r v e)
 
   pub planeOf-turn : (x y : ℕ) (r : List ℕ) (v : ℕ) → isOrigin (across d (x ∷ (y ∷ r))) ≡ true
-      → planeOf d (x ∷ (y ∷ (r ++ v ∷ []))) ≡ planeMask d (at d x) (turn d (x ∷ (y ∷ r)) v)
+      → planeOf d (x ∷ (y ∷ (r ++ v ∷ []))) ≡ planeMask d (at d x) (acrossLine d (x ∷ (y ∷ r)) v)
   unfolding planeOf
   planeOf-turn x y r v e = ap (planeMask d (at d x)) (across-turn x y r v e)
 

@@ -12,7 +12,7 @@ use Rattle.paper.specs.Points.{minus, dot, isZero}
 use Rattle.paper.specs.Drawing.{Wire, at}
 use Rattle.paper.specs.Loops.{Loop, loopAt, across, loops}
 use Rattle.paper.specs.declared.Point.{Point}
-use Rattle.fast_search.specs.Search.{InItsPlane, onPlane, planeOf, inItsPlane, search}
+use Rattle.fast_search.specs.Search.{InItsPlane, onPlane, planeOf, inItsPlane, fastSearch}
 use Rattle.fast_search.proofs.Phases.{plane-at, plane-length}
 use Rattle.fast_search.proofs.Search.{search-is}
 
@@ -27,7 +27,7 @@ module _ (d : Wire) where
   plane-past l w h = List·getD-eq-default (planeOf d l) false (omega (arith, plane-length d (at d (getD l 0 0)) (across d l)))
 
   -- the loop of number i, and the vertices in its plane
-  pub search-at : (i : ℕ) → i < length (loops d) → getD (search d) i (inItsPlane d []) ≡ inItsPlane d (loopAt (loops d) i)
+  pub search-at : (i : ℕ) → i < length (loops d) → getD (fastSearch d) i (inItsPlane d []) ≡ inItsPlane d (loopAt (loops d) i)
   search-at i h =
       ap (λ (l : List InItsPlane). getD l i (inItsPlane d [])) (search-is d) ∙ map-at (inItsPlane d) (loops d) i [] (inItsPlane d []) h
 

@@ -8,7 +8,7 @@ use Rattle.paper.specs.Points.{pt, minus, dot, cross, isZero, isOrigin}
 use Rattle.paper.specs.Drawing.{Wire, edge, at, joins, joined}
 use Rattle.paper.specs.Loops.{follows, closes, branch, scan, ext, tilt, tilted, across, level, loops}
 use Rattle.fast_search.specs.Rows.{when, eachOf, someOf}
-use Rattle.fast_search.specs.Search.{own, near, higher, onPlane, planeMask, turn, inPlane, step}
+use Rattle.fast_search.specs.Search.{own, near, higher, onPlane, planeMask, acrossLine, inPlane, lineStep}
 use Rattle.fast_search.specs.Bare.{bareLine, bareSeconds, bareStarts, bareSearch}
 
 -- three vertices in one line, each two joined: an edge passes a vertex
@@ -23,5 +23,5 @@ unfolding loops ext scan branch closes follows level across tilted tilt joined j
 three-loops = refl
 
 three-bare : bareSearch three ≡ []
-unfolding bareSearch bareStarts bareSeconds bareLine step inPlane turn planeMask onPlane own near higher when eachOf someOf joined joins any from upto at minus dot cross isZero isOrigin count both less only
+unfolding bareSearch bareStarts bareSeconds bareLine lineStep inPlane acrossLine planeMask onPlane own near higher when eachOf someOf joined joins any from upto at minus dot cross isZero isOrigin count both less only
 three-bare = refl

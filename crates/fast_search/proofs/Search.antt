@@ -18,8 +18,8 @@ use Rattle.paper.specs.Drawing.{Wire, at, joined}
 use Rattle.paper.specs.Loops.{Loop, final, follows, closes, branch, scan, ext, across, level, loops}
 use Rattle.paper_laws.proofs.Wires.{joined-turned}
 use Rattle.fast_search.specs.Rows.{when, eachOf, someOf}
-use Rattle.fast_search.specs.Search.{InItsPlane, own, near, every, higher, onPlane, planeMask, turn, inPlane, step, onLine, seconds}
-use Rattle.fast_search.specs.Search.{starts, search, planeOf, inItsPlane}
+use Rattle.fast_search.specs.Search.{InItsPlane, own, near, every, higher, onPlane, planeMask, acrossLine, inPlane, lineStep, onLine, seconds}
+use Rattle.fast_search.specs.Search.{starts, fastSearch, planeOf, inItsPlane}
 use Rattle.fast_search.proofs.Rows.{empty-none, some-not}
 use Rattle.fast_search.proofs.Scan.{goes, each-scan, ext-dead}
 use Rattle.fast_search.proofs.Phases.{one-line, two-line, across-found, across-turn, level-line, level-found, level-turn}
@@ -144,31 +144,31 @@ module _ (d : Wire) where
   pub step-is : (k x y : ℕ) (r : List ℕ) (free closing : List Bool) (line : List ℕ → List Bool → List InItsPlane) (v : ℕ)
       → isOrigin (across d (x ∷ (y ∷ r))) ≡ true
       → Free d (x ∷ (y ∷ r)) free → Closing d (x ∷ (y ∷ r)) closing → v < size d → follow d (x ∷ (y ∷ r)) v ≡ true
-      → (isOrigin (turn d (x ∷ (y ∷ r)) v) ≡ true
+      → (isOrigin (acrossLine d (x ∷ (y ∷ r)) v) ≡ true
       → line (x ∷ (y ∷ (r ++ v ∷ []))) (less free (only v)) ≡ map (inItsPlane d) (begun d k (x ∷ (y ∷ (r ++ v ∷ [])))))
-      → step d line k (x ∷ (y ∷ r)) free closing v ≡ map (inItsPlane d) (begun d k (x ∷ (y ∷ (r ++ v ∷ []))))
-  unfolding step when Free Closing
-  step-is k x y r free closing line v o f c hv t ih = go (isOrigin (turn d (x ∷ (y ∷ r)) v)) refl
+      → lineStep d line k (x ∷ (y ∷ r)) free closing v ≡ map (inItsPlane d) (begun d k (x ∷ (y ∷ (r ++ v ∷ []))))
+  unfolding lineStep when Free Closing
+  step-is k x y r free closing line v o f c hv t ih = go (isOrigin (acrossLine d (x ∷ (y ∷ r)) v)) refl
     where
       -- where no vertex that is free and in the plane can close
-      stuck : someOf (onPlane d (at d x) (turn d (x ∷ (y ∷ r)) v)) 0 (both closing free) ≡ false → (w : ℕ) → w < size d
+      stuck : someOf (onPlane d (at d x) (acrossLine d (x ∷ (y ∷ r)) v)) 0 (both closing free) ≡ false → (w : ℕ) → w < size d
           → can d (x ∷ (y ∷ r)) w ≡ true
-          → onPlane d (at d x) (turn d (x ∷ (y ∷ r)) v) w ≡ true → ends d (x ∷ (y ∷ r)) w ≡ false
+          → onPlane d (at d x) (acrossLine d (x ∷ (y ∷ r)) v) w ≡ true → ends d (x ∷ (y ∷ r)) w ≡ false
       stuck e w h u i =
           sym (c w h)
           ∙ never-true (dig closing w)
-          (λ z. absurd (true≢false (sym i ∙ some-not (onPlane d (at d x) (turn d (x ∷ (y ∷ r)) v)) (both closing free) e w
+          (λ z. absurd (true≢false (sym i ∙ some-not (onPlane d (at d x) (acrossLine d (x ∷ (y ∷ r)) v)) (both closing free) e w
           (dig-both closing free w ∙ and-both z (f w h ∙ u)))))
 
-      fix : isOrigin (turn d (x ∷ (y ∷ r)) v) ≡ false → (b : Bool)
-          → someOf (onPlane d (at d x) (turn d (x ∷ (y ∷ r)) v)) 0 (both closing free) ≡ b
+      fix : isOrigin (acrossLine d (x ∷ (y ∷ r)) v) ≡ false → (b : Bool)
+          → someOf (onPlane d (at d x) (acrossLine d (x ∷ (y ∷ r)) v)) 0 (both closing free) ≡ b
           → when b
-          (inPlane d k (x ∷ (y ∷ (r ++ v ∷ []))) (both (less free (only v)) (planeMask d (at d x) (turn d (x ∷ (y ∷ r)) v))) closing
-          (planeMask d (at d x) (turn d (x ∷ (y ∷ r)) v)))
+          (inPlane d k (x ∷ (y ∷ (r ++ v ∷ []))) (both (less free (only v)) (planeMask d (at d x) (acrossLine d (x ∷ (y ∷ r)) v))) closing
+          (planeMask d (at d x) (acrossLine d (x ∷ (y ∷ r)) v)))
           ≡ map (inItsPlane d) (begun d k (x ∷ (y ∷ (r ++ v ∷ []))))
       fix q true e =
-          plane-is k x y (r ++ v ∷ []) (both (less free (only v)) (planeMask d (at d x) (turn d (x ∷ (y ∷ r)) v))) closing
-          (planeMask d (at d x) (turn d (x ∷ (y ∷ r)) v))
+          plane-is k x y (r ++ v ∷ []) (both (less free (only v)) (planeMask d (at d x) (acrossLine d (x ∷ (y ∷ r)) v))) closing
+          (planeMask d (at d x) (acrossLine d (x ∷ (y ∷ r)) v))
           (ap isOrigin (across-turn d x y r v o) ∙ q) (sym (planeOf-turn d x y r v o)) (free-turn d x y r v free o f) c
           (final-in x y r v hv)
       fix q false e =
@@ -179,14 +179,14 @@ module _ (d : Wire) where
           (sym (level-turn d x y r v o w)
           ∙ and-right (ltb x w && not (member w (x ∷ (y ∷ (r ++ v ∷ []))))) (level d (x ∷ (y ∷ (r ++ v ∷ []))) w) u)))))
 
-      go : (b : Bool) → isOrigin (turn d (x ∷ (y ∷ r)) v) ≡ b
+      go : (b : Bool) → isOrigin (acrossLine d (x ∷ (y ∷ r)) v) ≡ b
           → cond b (line (x ∷ (y ∷ (r ++ v ∷ []))) (less free (only v)))
-          (when (someOf (onPlane d (at d x) (turn d (x ∷ (y ∷ r)) v)) 0 (both closing free))
-          (inPlane d k (x ∷ (y ∷ (r ++ v ∷ []))) (both (less free (only v)) (planeMask d (at d x) (turn d (x ∷ (y ∷ r)) v))) closing
-          (planeMask d (at d x) (turn d (x ∷ (y ∷ r)) v))))
+          (when (someOf (onPlane d (at d x) (acrossLine d (x ∷ (y ∷ r)) v)) 0 (both closing free))
+          (inPlane d k (x ∷ (y ∷ (r ++ v ∷ []))) (both (less free (only v)) (planeMask d (at d x) (acrossLine d (x ∷ (y ∷ r)) v))) closing
+          (planeMask d (at d x) (acrossLine d (x ∷ (y ∷ r)) v))))
           ≡ map (inItsPlane d) (begun d k (x ∷ (y ∷ (r ++ v ∷ []))))
       go true q = ih q
-      go false q = fix q (someOf (onPlane d (at d x) (turn d (x ∷ (y ∷ r)) v)) 0 (both closing free)) refl
+      go false q = fix q (someOf (onPlane d (at d x) (acrossLine d (x ∷ (y ∷ r)) v)) 0 (both closing free)) refl
 
   pub line-is : (k x y : ℕ) (r : List ℕ) (free closing : List Bool) → isOrigin (across d (x ∷ (y ∷ r))) ≡ true → Free d (x ∷ (y ∷ r)) free
       → Closing d (x ∷ (y ∷ r)) closing → final (x ∷ (y ∷ r)) < size d
@@ -198,10 +198,10 @@ module _ (d : Wire) where
   line-is (suc k) x y r free closing o f c l =
       own-is (suc k) closing (x ∷ (y ∷ r)) (every d)
       (when (not (empty (both closing free)))
-      (eachOf (λ w rest. step d (λ q g. onLine d k q g closing) k (x ∷ (y ∷ r)) free closing w) 0
+      (eachOf (λ w rest. lineStep d (λ q g. onLine d k q g closing) k (x ∷ (y ∷ r)) free closing w) 0
       (both (near d (final (x ∷ (y ∷ r)))) free)))
       (last-is x y r closing c l) (sym (planeOf-line d (x ∷ (y ∷ r)) o))
-      (deeper-is k x y r free closing (λ w rest. step d (λ q g. onLine d k q g closing) k (x ∷ (y ∷ r)) free closing w) f c
+      (deeper-is k x y r free closing (λ w rest. lineStep d (λ q g. onLine d k q g closing) k (x ∷ (y ∷ r)) free closing w) f c
       (λ w rest h t. step-is k x y r free closing (λ q g. onLine d k q g closing) w o f c h t
       (λ q. let o' : isOrigin (across d (x ∷ (y ∷ (r ++ w ∷ [])))) ≡ true = ap isOrigin (across-turn d x y r w o) ∙ q in
       line-is k x y (r ++ w ∷ []) (less free (only w)) closing o'
@@ -276,13 +276,13 @@ module _ (d : Wire) where
       ∙ sym (map-append (inItsPlane d) (deep d 11 (i ∷ [])) (scan (size d) (joined d) (level d) (deep d 11) [] (suc i) k))
 
   -- the search finds the loops, in their order, each with the vertices in its plane
-  pub search-is : search d ≡ map (inItsPlane d) (loops d)
-  unfolding search loops ext
+  pub search-is : fastSearch d ≡ map (inItsPlane d) (loops d)
+  unfolding fastSearch loops ext
   search-is =
       let z : size d ≡ size d - 0 = omega arith in
       starts-is 0 (size d) ∙ ap (λ (k : ℕ). map (inItsPlane d) (scan (size d) (joined d) (level d) (deep d 11) [] 0 k)) z
 
-  pub search-loops : map (λ f. f .loop) (search d) ≡ loops d
+  pub search-loops : map (λ f. f .loop) (fastSearch d) ≡ loops d
   search-loops = ap (map (λ f. f .loop)) search-is ∙ map-map (λ f. f .loop) (inItsPlane d) (loops d) ∙ same (loops d)
     where
       same : (l : List Loop) → map (λ q. q) l ≡ l

@@ -17,7 +17,7 @@ use Rattle.sets.proofs.Ones.{only-is}
 use Rattle.paper.specs.Points.{isOrigin}
 use Rattle.paper.specs.Drawing.{Wire, at, joined}
 use Rattle.paper.specs.Loops.{Loop, final, follows, closes, branch, ext, across, level}
-use Rattle.fast_search.specs.Search.{near, planeMask, turn}
+use Rattle.fast_search.specs.Search.{near, planeMask, acrossLine}
 use Rattle.fast_search.proofs.Scan.{goes}
 use Rattle.fast_search.proofs.Phases.{level-line, level-turn}
 use Rattle.fast_search.proofs.Phases.{plane-at}
@@ -125,12 +125,12 @@ module _ (d : Wire) where
 
   -- and where it fixes the plane, only those in the plane are
   pub free-turn : (x y : ℕ) (r : List ℕ) (v : ℕ) (free : List Bool) → isOrigin (across d (x ∷ (y ∷ r))) ≡ true → Free (x ∷ (y ∷ r)) free
-      → Free (x ∷ (y ∷ (r ++ v ∷ []))) (both (less free (only v)) (planeMask d (at d x) (turn d (x ∷ (y ∷ r)) v)))
+      → Free (x ∷ (y ∷ (r ++ v ∷ []))) (both (less free (only v)) (planeMask d (at d x) (acrossLine d (x ∷ (y ∷ r)) v)))
   unfolding Free
   free-turn x y r v free o f w h =
       let a = ltb x w && not (member w (x ∷ (y ∷ (r ++ v ∷ [])))) in
       let one : dig (less free (only v)) w ≡ a = dropped-at x (y ∷ r) v free f w h
       ∙ ap (λ (b : Bool). a && b) (level-line d (x ∷ (y ∷ r)) o w) ∙ and-true a in
-      let two : dig (planeMask d (at d x) (turn d (x ∷ (y ∷ r)) v)) w ≡ level d (x ∷ (y ∷ (r ++ v ∷ []))) w = plane-at d (at d x)
-      (turn d (x ∷ (y ∷ r)) v) w h ∙ sym (level-turn d x y r v o w) in
-      dig-both (less free (only v)) (planeMask d (at d x) (turn d (x ∷ (y ∷ r)) v)) w ∙ (λ i. one i && two i)
+      let two : dig (planeMask d (at d x) (acrossLine d (x ∷ (y ∷ r)) v)) w ≡ level d (x ∷ (y ∷ (r ++ v ∷ []))) w = plane-at d (at d x)
+      (acrossLine d (x ∷ (y ∷ r)) v) w h ∙ sym (level-turn d x y r v o w) in
+      dig-both (less free (only v)) (planeMask d (at d x) (acrossLine d (x ∷ (y ∷ r)) v)) w ∙ (λ i. one i && two i)

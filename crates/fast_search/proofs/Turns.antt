@@ -11,7 +11,7 @@ use Rattle.paper.specs.Points.{isOrigin}
 use Rattle.paper.specs.Drawing.{Wire, at}
 use Rattle.paper.specs.Loops.{final}
 use Rattle.fast_search.specs.Rows.{when, eachOf, someOf}
-use Rattle.fast_search.specs.Search.{InItsPlane, own, near, higher, onPlane, planeMask, turn, inPlane, step, onLine}
+use Rattle.fast_search.specs.Search.{InItsPlane, own, near, higher, onPlane, planeMask, acrossLine, inPlane, lineStep, onLine}
 use Rattle.fast_search.specs.Search.{starts}
 use Rattle.fast_search.specs.Bare.{bareLine, bareSeconds, bareStarts}
 use Rattle.fast_search.proofs.Cut.{Whole}
@@ -75,7 +75,7 @@ module _ (d : Wire) where
     bare-last = refl
 
     abbrev pub bareTurns : ℕ → ℕ → List Bool → List InItsPlane
-    bareTurns k w rest = step d (λ q f. bareLine d k q f closing) k p free closing w
+    bareTurns k w rest = lineStep d (λ q f. bareLine d k q f closing) k p free closing w
 
     pub bare-stop : (k : ℕ) → empty (both closing free) ≡ true → bareLine d k p free closing ≡ []
     unfolding bareLine when
@@ -89,36 +89,36 @@ module _ (d : Wire) where
 
     -- ---- one turn of either: w is in line; or it fixes a plane in which none can close; or one that the search goes into
     module _ (line : List ℕ → List Bool → List InItsPlane) (k w : ℕ) where
-      pub turn-line : isOrigin (turn d p w) ≡ true → step d line k p free closing w ≡ line (p ++ w ∷ []) (less free (only w))
-      unfolding step
+      pub turn-line : isOrigin (acrossLine d p w) ≡ true → lineStep d line k p free closing w ≡ line (p ++ w ∷ []) (less free (only w))
+      unfolding lineStep
       turn-line e =
           ap (λ (b : Bool). cond b (line (p ++ w ∷ []) (less free (only w)))
-          (when (someOf (onPlane d (at d (getD p 0 0)) (turn d p w)) 0 (both closing free))
-          (inPlane d k (p ++ w ∷ []) (both (less free (only w)) (planeMask d (at d (getD p 0 0)) (turn d p w))) closing
-          (planeMask d (at d (getD p 0 0)) (turn d p w))))) e
+          (when (someOf (onPlane d (at d (getD p 0 0)) (acrossLine d p w)) 0 (both closing free))
+          (inPlane d k (p ++ w ∷ []) (both (less free (only w)) (planeMask d (at d (getD p 0 0)) (acrossLine d p w))) closing
+          (planeMask d (at d (getD p 0 0)) (acrossLine d p w))))) e
 
-      turn-off : (b : Bool) → isOrigin (turn d p w) ≡ false
-          → someOf (onPlane d (at d (getD p 0 0)) (turn d p w)) 0 (both closing free) ≡ b
-          → step d line k p free closing w
+      turn-off : (b : Bool) → isOrigin (acrossLine d p w) ≡ false
+          → someOf (onPlane d (at d (getD p 0 0)) (acrossLine d p w)) 0 (both closing free) ≡ b
+          → lineStep d line k p free closing w
           ≡ when b
-          (inPlane d k (p ++ w ∷ []) (both (less free (only w)) (planeMask d (at d (getD p 0 0)) (turn d p w))) closing
-          (planeMask d (at d (getD p 0 0)) (turn d p w)))
-      unfolding step
+          (inPlane d k (p ++ w ∷ []) (both (less free (only w)) (planeMask d (at d (getD p 0 0)) (acrossLine d p w))) closing
+          (planeMask d (at d (getD p 0 0)) (acrossLine d p w)))
+      unfolding lineStep
       turn-off b e s =
           λ i. cond (e i) (line (p ++ w ∷ []) (less free (only w)))
           (when (s i)
-          (inPlane d k (p ++ w ∷ []) (both (less free (only w)) (planeMask d (at d (getD p 0 0)) (turn d p w))) closing
-          (planeMask d (at d (getD p 0 0)) (turn d p w))))
+          (inPlane d k (p ++ w ∷ []) (both (less free (only w)) (planeMask d (at d (getD p 0 0)) (acrossLine d p w))) closing
+          (planeMask d (at d (getD p 0 0)) (acrossLine d p w))))
 
-      pub turn-none : isOrigin (turn d p w) ≡ false → someOf (onPlane d (at d (getD p 0 0)) (turn d p w)) 0 (both closing free) ≡ false
-          → step d line k p free closing w ≡ []
+      pub turn-none : isOrigin (acrossLine d p w) ≡ false → someOf (onPlane d (at d (getD p 0 0)) (acrossLine d p w)) 0 (both closing free) ≡ false
+          → lineStep d line k p free closing w ≡ []
       unfolding when
       turn-none e s = turn-off false e s
 
-      pub turn-plane : isOrigin (turn d p w) ≡ false → someOf (onPlane d (at d (getD p 0 0)) (turn d p w)) 0 (both closing free) ≡ true
-          → step d line k p free closing w
-          ≡ inPlane d k (p ++ w ∷ []) (both (less free (only w)) (planeMask d (at d (getD p 0 0)) (turn d p w))) closing
-          (planeMask d (at d (getD p 0 0)) (turn d p w))
+      pub turn-plane : isOrigin (acrossLine d p w) ≡ false → someOf (onPlane d (at d (getD p 0 0)) (acrossLine d p w)) 0 (both closing free) ≡ true
+          → lineStep d line k p free closing w
+          ≡ inPlane d k (p ++ w ∷ []) (both (less free (only w)) (planeMask d (at d (getD p 0 0)) (acrossLine d p w))) closing
+          (planeMask d (at d (getD p 0 0)) (acrossLine d p w))
       unfolding when
       turn-plane e s = turn-off true e s
 

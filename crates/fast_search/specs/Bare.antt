@@ -7,16 +7,16 @@ use Rattle.sets.specs.Word.{both, less, only, empty}
 use Rattle.paper.specs.Drawing.{Wire}
 use Rattle.paper.specs.Loops.{final}
 use Rattle.fast_search.specs.Rows.{when, eachOf}
-use Rattle.fast_search.specs.Search.{InItsPlane, near, higher, step}
+use Rattle.fast_search.specs.Search.{InItsPlane, near, higher, lineStep}
 
 module _ (d : Wire) where
   -- the loops that begin with p, which is in one line, and leave the line
   unfoldable pub bareLine : ℕ → List ℕ → List Bool → List Bool → List InItsPlane
-  unfolding when eachOf near step
+  unfolding when eachOf near lineStep
   bareLine zero p free closing = []
   bareLine (suc k) p free closing =
       when (not (empty (both closing free)))
-      (eachOf (λ w rest. step d (λ q f. bareLine k q f closing) k p free closing w) 0 (both (near d (final p)) free))
+      (eachOf (λ w rest. lineStep d (λ q f. bareLine k q f closing) k p free closing w) 0 (both (near d (final p)) free))
 
   unfoldable pub bareSeconds : ℕ → List InItsPlane
   unfolding eachOf bareLine higher near

@@ -45,9 +45,9 @@ module _ (d : Wire) where
   planeMask s m = map (onPlane s m) (upto (length (d .vertices)))
 
   -- the direction across the plane of a path in one line and of a vertex
-  unfoldable pub turn : List ℕ → ℕ → Point
+  unfoldable pub acrossLine : List ℕ → ℕ → Point
   unfolding cross minus at
-  turn p w = cross (minus (at d (getD p 1 0)) (at d (getD p 0 0))) (minus (at d w) (at d (getD p 0 0)))
+  acrossLine p w = cross (minus (at d (getD p 1 0)) (at d (getD p 0 0))) (minus (at d w) (at d (getD p 0 0)))
 
   -- The loops that begin with p, which is no longer in one line, and have at most k vertices more. `free` are the vertices of the
   -- plane that may still be used, `closing` those that a loop may end at.
@@ -60,23 +60,23 @@ module _ (d : Wire) where
       (eachOf (λ w rest. inPlane k (p ++ w ∷ []) (less free (only w)) closing plane) 0 (both (near (final p)) free))
 
   -- p and then w, where p is in one line: with w it still is, or w fixes the plane; then some vertex of it must be able to close
-  unfoldable pub step : (List ℕ → List Bool → List InItsPlane) → ℕ → List ℕ → List Bool → List Bool → ℕ → List InItsPlane
-  unfolding turn planeMask someOf onPlane inPlane
-  step line k p free closing w =
+  unfoldable pub lineStep : (List ℕ → List Bool → List InItsPlane) → ℕ → List ℕ → List Bool → List Bool → ℕ → List InItsPlane
+  unfolding acrossLine planeMask someOf onPlane inPlane
+  lineStep line k p free closing w =
       let s = at d (getD p 0 0) in
-      let m = turn p w in
+      let m = acrossLine p w in
       let rest = less free (only w) in
       cond (isOrigin m) (line (p ++ w ∷ []) rest)
       (when (someOf (onPlane s m) 0 (both closing free)) (inPlane k (p ++ w ∷ []) (both rest (planeMask s m)) closing (planeMask s m)))
 
   -- the loops that begin with p, which is in one line
   unfoldable pub onLine : ℕ → List ℕ → List Bool → List Bool → List InItsPlane
-  unfolding own when eachOf near step
+  unfolding own when eachOf near lineStep
   onLine zero p free closing = own closing p every
   onLine (suc k) p free closing =
       own closing p every
       ++ when (not (empty (both closing free)))
-      (eachOf (λ w rest. step (λ q f. onLine k q f closing) k p free closing w) 0 (both (near (final p)) free))
+      (eachOf (λ w rest. lineStep (λ q f. onLine k q f closing) k p free closing w) 0 (both (near (final p)) free))
 
   -- The loops that start at s: "then go to the lower of its two neighbours", so that a loop may end at those of its neighbours that
   -- are left. Those that start at i, i + 1, ..: k vertices in turn.
@@ -89,9 +89,9 @@ module _ (d : Wire) where
   starts i zero = []
   starts i (suc k) = seconds i ++ starts (suc i) k
 
-  unfoldable pub search : List InItsPlane
+  unfoldable pub fastSearch : List InItsPlane
   unfolding starts
-  search = starts 0 (length (d .vertices))
+  fastSearch = starts 0 (length (d .vertices))
 
   -- ---- what it finds: a loop with the vertices in its plane, through its first vertex and across its direction
   unfoldable pub planeOf : Loop → List Bool

@@ -7,33 +7,33 @@ use native.Mathlib.Omega.{arith}
 use lib.ListN.{length, getD, replicate, length-replicate}
 use Rattle.sets.specs.Word.{dig, count, first, both, either, less, only}
 use Rattle.sets.proofs.Digits.{never, length-either, length-both, length-less}
-use Rattle.fast_sweeps.specs.Worklist.{after, passed, edgesWith, meets, touched, nextAhead, nextLater}
+use Rattle.fast_sweeps.specs.Worklist.{withoutLowest, passed, edgesWith, meets, touched, nextAhead, nextLater}
 
 -- ---- without the lowest
-pub after-in : (a : List Bool) (j : ℕ) → dig (after a) j ≡ true → (first a < j) × (dig a j ≡ true)
-unfolding after first
+pub after-in : (a : List Bool) (j : ℕ) → dig (withoutLowest a) j ≡ true → (first a < j) × (dig a j ≡ true)
+unfolding withoutLowest first
 after-in [] j e = never (sym e)
 after-in (true ∷ a) zero e = never (sym e)
 after-in (true ∷ a) (suc j) e = (omega arith, e)
 after-in (false ∷ a) zero e = never (sym e)
 after-in (false ∷ a) (suc j) e = let w = after-in a j e in (omega (arith, w .0), w .1)
 
-pub after-out : (a : List Bool) (j : ℕ) → dig (after a) j ≡ false → (j ≡ first a → ⊥) → dig a j ≡ false
-unfolding after first
+pub after-out : (a : List Bool) (j : ℕ) → dig (withoutLowest a) j ≡ false → (j ≡ first a → ⊥) → dig a j ≡ false
+unfolding withoutLowest first
 after-out [] j e n = refl
 after-out (true ∷ a) zero e n = absurd (n refl)
 after-out (true ∷ a) (suc j) e n = e
 after-out (false ∷ a) zero e n = refl
 after-out (false ∷ a) (suc j) e n = after-out a j e (λ p. n (ap suc p))
 
-pub count-after : (a : List Bool) → (count a ≡ 0 → ⊥) → suc (count (after a)) ≡ count a
-unfolding count after
+pub count-after : (a : List Bool) → (count a ≡ 0 → ⊥) → suc (count (withoutLowest a)) ≡ count a
+unfolding count withoutLowest
 count-after [] n = absurd (n refl)
 count-after (true ∷ a) n = omega arith
 count-after (false ∷ a) n = omega (arith, count-after a (λ e. n (omega arith)))
 
-pub length-after : (a : List Bool) → length (after a) ≡ length a
-unfolding after
+pub length-after : (a : List Bool) → length (withoutLowest a) ≡ length a
+unfolding withoutLowest
 length-after [] = refl
 length-after (true ∷ a) = refl
 length-after (false ∷ a) = ap suc (length-after a)
@@ -93,8 +93,8 @@ touched-none [] d z = refl
 touched-none (mask ∷ masks) d z = ap₂ (λ (x : Bool) (y : List Bool). x ∷ y) (meets-none mask d z) (touched-none masks d z)
 
 -- the lowest candidate's, and the others'
-meets-first : (mask d : List Bool) → (count d ≡ 0 → ⊥) → meets mask d ≡ dig mask (first d) || meets mask (after d)
-unfolding meets first after count
+meets-first : (mask d : List Bool) → (count d ≡ 0 → ⊥) → meets mask d ≡ dig mask (first d) || meets mask (withoutLowest d)
+unfolding meets first withoutLowest count
 meets-first [] d n = refl
 meets-first (b ∷ mask) [] n = absurd (n refl)
 meets-first (true ∷ mask) (true ∷ d) n = refl
@@ -103,7 +103,7 @@ meets-first (true ∷ mask) (false ∷ d) n = meets-first mask d (λ z. n (omega
 meets-first (false ∷ mask) (false ∷ d) n = meets-first mask d (λ z. n (omega arith))
 
 pub touched-first : (masks : List (List Bool)) (d : List Bool) → (count d ≡ 0 → ⊥)
-    → touched masks d ≡ either (edgesWith masks (first d)) (touched masks (after d))
+    → touched masks d ≡ either (edgesWith masks (first d)) (touched masks (withoutLowest d))
 unfolding touched edgesWith either
 touched-first [] d n = refl
 touched-first (mask ∷ masks) d n = ap₂ (λ (x : Bool) (y : List Bool). x ∷ y) (meets-first mask d n) (touched-first masks d n)
@@ -145,11 +145,11 @@ gather-start masks d =
     record { long = length-replicate (length masks) false; whole = none-either (length masks) (touched masks d) (length-touched masks d) }
 
 pub gather-more : (masks : List (List Bool)) (d all left : List Bool) → (count left ≡ 0 → ⊥) → Gathers masks d all left
-    → Gathers masks d (either all (edgesWith masks (first left))) (after left)
+    → Gathers masks d (either all (edgesWith masks (first left))) (withoutLowest left)
 gather-more masks d all left n g = record {
   long = length-same (length masks) all (edgesWith masks (first left)) (g .long) (length-sides masks (first left));
   whole =
-      either-assoc all (edgesWith masks (first left)) (touched masks (after left)) ∙ ap (either all) (sym (touched-first masks left n))
+      either-assoc all (edgesWith masks (first left)) (touched masks (withoutLowest left)) ∙ ap (either all) (sym (touched-first masks left n))
       ∙ g .whole;
 }
 
@@ -162,7 +162,7 @@ pub length-ahead : (masks : List (List Bool)) (d ahead : List Bool) → length a
     → length (nextAhead masks d ahead) ≤ length masks
 unfolding nextAhead
 length-ahead masks d ahead h =
-    length-either (length masks) (after ahead) (less (touched masks d) (passed ahead))
+    length-either (length masks) (withoutLowest ahead) (less (touched masks d) (passed ahead))
     (omega (arith, length-after ahead)) (omega (arith, length-less (touched masks d) (passed ahead), length-touched masks d))
 
 pub length-later : (masks : List (List Bool)) (d ahead later : List Bool) → length later ≤ length masks

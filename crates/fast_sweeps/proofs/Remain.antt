@@ -13,7 +13,7 @@ use Rattle.sets.specs.Word.{dig, count, first, both, either, less, only}
 use Rattle.sets.proofs.Digits.{never, dig-both, dig-either, dig-less, dig-only, first-in}
 use Rattle.sets.proofs.Ones.{dig-lt, dig-none, first-low}
 use Rattle.paper.specs.Walk.{Status, settle, contradicts, Outcome, Broken, Stands}
-use Rattle.fast_sweeps.specs.Worklist.{after, passed, edgesWith, touched, decidedOn, nextAhead, nextLater, Settled}
+use Rattle.fast_sweeps.specs.Worklist.{withoutLowest, passed, edgesWith, touched, decidedOn, nextAhead, nextLater, Settled}
 use Rattle.fast_sweeps.specs.Worklist.{afterwards, Remains}
 use Rattle.fast_sweeps.proofs.Edge.{settle-same, settled-same, settle-settled, set-same}
 use Rattle.fast_sweeps.proofs.Marks.{after-in, after-out, passed-in, passed-out, dig-sides}
@@ -122,16 +122,16 @@ module _ (masks : List (List Bool)) where
             (nextLater masks (decidedOn mask st) ahead later)
         unfolding nextAhead nextLater
         pass-decided =
-            pass (either (after ahead) (less t (passed ahead))) (either later (less (both t (passed ahead)) (only here)))
+            pass (either (withoutLowest ahead) (less t (passed ahead))) (either later (less (both t (passed ahead)) (only here)))
             (λ j e. on j
-            (or-cases (dig (after ahead) j) (dig (less t (passed ahead)) j) (sym (dig-either (after ahead) (less t (passed ahead)) j)
+            (or-cases (dig (withoutLowest ahead) j) (dig (less t (passed ahead)) j) (sym (dig-either (withoutLowest ahead) (less t (passed ahead)) j)
             ∙ e)))
             (λ j e. off j
             (or-cases (dig later j) (dig (less (both t (passed ahead)) (only here)) j)
             (sym (dig-either later (less (both t (passed ahead)) (only here)) j) ∙ e)))
             (λ j h e f.
-            let p = or-none (dig (after ahead) j) (dig (less t (passed ahead)) j)
-            (sym (dig-either (after ahead) (less t (passed ahead)) j) ∙ e) in
+            let p = or-none (dig (withoutLowest ahead) j) (dig (less t (passed ahead)) j)
+            (sym (dig-either (withoutLowest ahead) (less t (passed ahead)) j) ∙ e) in
             let q = or-none (dig later j) (dig (less (both t (passed ahead)) (only here)) j)
             (sym (dig-either later (less (both t (passed ahead)) (only here)) j) ∙ f) in
             go j h (p .0) (q .0) (sym (dig-less t (passed ahead) j) ∙ p .1) (sym (dig-less (both t (passed ahead)) (only here) j) ∙ q .1)
@@ -147,7 +147,7 @@ module _ (masks : List (List Bool)) where
             left-off true true p q = never p
             left-off true false p q = q
 
-            on : (j : ℕ) → (dig (after ahead) j ≡ true) ⊎ (dig (less t (passed ahead)) j ≡ true) → (here < j) × (j < length masks)
+            on : (j : ℕ) → (dig (withoutLowest ahead) j ≡ true) ⊎ (dig (less t (passed ahead)) j ≡ true) → (here < j) × (j < length masks)
             on j (inl e) = let w = after-in ahead j e in (w .0, i .on j (w .1) .1)
             on j (inr e) =
                 let e′ : (dig t j && not (dig (passed ahead) j)) ≡ true = sym (dig-less t (passed ahead) j) ∙ e in
@@ -164,7 +164,7 @@ module _ (masks : List (List Bool)) where
                 (sym (dig-less (both t (passed ahead)) (only here) j) ∙ e) in
                 passed-in ahead j (and-right (dig t j) (dig (passed ahead) j) (sym (dig-both t (passed ahead) j) ∙ b))
 
-            go : (j : ℕ) → j < length masks → dig (after ahead) j ≡ false → dig later j ≡ false
+            go : (j : ℕ) → j < length masks → dig (withoutLowest ahead) j ≡ false → dig later j ≡ false
                 → (dig t j && not (dig (passed ahead) j)) ≡ false → (dig (both t (passed ahead)) j && not (dig (only here) j)) ≡ false
                 → Dec (j ≡ here) → Settled (getD masks j []) (settle mask st)
             go j h e f a b (yes p) =

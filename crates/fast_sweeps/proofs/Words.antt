@@ -12,12 +12,12 @@ use Rattle.sets.proofs.Ones.{nil-either}
 use Rattle.paper.specs.Conversion.{takens}
 use Rattle.paper.specs.Walk.{Status, Taken, Rejected, Undecided, isTaken, isOpen}
 use Rattle.means_walk.specs.Lowest.{opens}
-use Rattle.fast_sweeps.specs.Worklist.{after, nextAhead, nextLater}
+use Rattle.fast_sweeps.specs.Worklist.{withoutLowest, nextAhead, nextLater}
 use Rattle.fast_sweeps.proofs.Work.{ahead-none, later-none}
 
 -- none was decided: the next marks are the same words as those without the lowest
-pub ahead-word : (masks : List (List Bool)) (d ahead : List Bool) → count d ≡ 0 → word (after ahead) ≡ word (nextAhead masks d ahead)
-ahead-word masks d ahead z = same-word (after ahead) (nextAhead masks d ahead) (λ k. sym (ahead-none masks d ahead z k))
+pub ahead-word : (masks : List (List Bool)) (d ahead : List Bool) → count d ≡ 0 → word (withoutLowest ahead) ≡ word (nextAhead masks d ahead)
+ahead-word masks d ahead z = same-word (withoutLowest ahead) (nextAhead masks d ahead) (λ k. sym (ahead-none masks d ahead z k))
 
 pub later-word : (masks : List (List Bool)) (d ahead later : List Bool) → count d ≡ 0 → word later ≡ word (nextLater masks d ahead later)
 later-word masks d ahead later z = same-word later (nextLater masks d ahead later) (λ k. sym (later-none masks d ahead later z k))

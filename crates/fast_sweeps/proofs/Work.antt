@@ -10,8 +10,8 @@ use borrow.Author.Tests.{eqb-true, eqb-false}
 use Rattle.sets.specs.Word.{dig, count, both, less, only, first}
 use Rattle.sets.proofs.Digits.{never, dig-both, dig-either, dig-less}
 use Rattle.paper.specs.Walk.{Status, openCount, Outcome, Stands, stable}
-use Rattle.fast_sweeps.specs.Worklist.{after, passed, edgesWith, touched, nextAhead, nextLater, turnAhead, turnLater}
-use Rattle.fast_sweeps.specs.Worklist.{Remains, Loop}
+use Rattle.fast_sweeps.specs.Worklist.{withoutLowest, passed, edgesWith, touched, nextAhead, nextLater, turnAhead, turnLater}
+use Rattle.fast_sweeps.specs.Worklist.{Remains, SweepKept}
 use Rattle.fast_sweeps.proofs.Marks.{length-sides, touched-none}
 use Rattle.fast_sweeps.proofs.Remain.{start-all, start-chosen, turn}
 
@@ -34,11 +34,11 @@ and-off false b e = refl
 
 -- only the lowest goes, digit by digit
 pub ahead-none : (masks : List (List Bool)) (d ahead : List Bool) → count d ≡ 0 → (j : ℕ)
-    → dig (nextAhead masks d ahead) j ≡ dig (after ahead) j
+    → dig (nextAhead masks d ahead) j ≡ dig (withoutLowest ahead) j
 unfolding nextAhead
 ahead-none masks d ahead z j =
-    dig-either (after ahead) (less (touched masks d) (passed ahead)) j
-    ∙ or-first (dig (after ahead) j) (dig (less (touched masks d) (passed ahead)) j) (dig-less (touched masks d) (passed ahead) j
+    dig-either (withoutLowest ahead) (less (touched masks d) (passed ahead)) j
+    ∙ or-first (dig (withoutLowest ahead) j) (dig (less (touched masks d) (passed ahead)) j) (dig-less (touched masks d) (passed ahead) j
     ∙ and-off (dig (touched masks d) j) (not (dig (passed ahead) j)) (touched-off masks d z j))
 
 pub later-none : (masks : List (List Bool)) (d ahead later : List Bool) → count d ≡ 0 → (j : ℕ)
@@ -55,11 +55,11 @@ later-none masks d ahead later z j =
 module _ (masks : List (List Bool)) where
   -- "if ahead == 0 { ahead = later; later = 0; }"
   pub turn-loop : {o : Outcome} {st : List Status} (a l : List Bool) → Remains masks o st a l → length a ≤ length masks
-      → length l ≤ length masks → Loop masks o st (turnAhead a l) (turnLater a l)
+      → length l ≤ length masks → SweepKept masks o st (turnAhead a l) (turnLater a l)
   unfolding turnAhead turnLater count
   turn-loop {o} {st} a l i p q = go (eqb (count a) 0) refl
     where
-      go : (b : Bool) → eqb (count a) 0 ≡ b → Loop masks o st (cond b l a) (cond b [] l)
+      go : (b : Bool) → eqb (count a) 0 ≡ b → SweepKept masks o st (cond b l a) (cond b [] l)
       go true e =
           record {
             remains = turn masks i [] (eqb-true (count a) 0 e) refl;
@@ -72,17 +72,17 @@ module _ (masks : List (List Bool)) where
   -- ---- the two ways to start
 
   start-loop : {o : Outcome} {st : List Status} {marked : List Bool} → Remains masks o st marked [] → length marked ≤ length masks
-      → Loop masks o st marked []
+      → SweepKept masks o st marked []
   unfolding count
   start-loop i h = record { remains = i; turned = λ z. refl; short-ahead = h; short-later = omega arith }
 
   -- with all edges marked
-  pub loop-all : (st : List Status) → Loop masks (stable (suc (openCount st)) masks st) st (replicate (length masks) true) []
+  pub loop-all : (st : List Status) → SweepKept masks (stable (suc (openCount st)) masks st) st (replicate (length masks) true) []
   unfolding count
   loop-all st = start-loop (start-all masks st [] refl) (omega (arith, length-replicate (length masks) true))
 
   -- after candidate k got a status in a state that the sweeps left, with its edges marked
   pub loop-chosen : (st s : List Status) → stable (suc (openCount st)) masks st ≡ Stands s → (k : ℕ) (v : Status)
-      → Loop masks (stable (suc (openCount (set s k v))) masks (set s k v)) (set s k v) (edgesWith masks k) []
+      → SweepKept masks (stable (suc (openCount (set s k v))) masks (set s k v)) (set s k v) (edgesWith masks k) []
   unfolding count
   loop-chosen st s w k v = start-loop (start-chosen masks st s w k v [] refl) (omega (arith, length-sides masks k))

@@ -20,7 +20,7 @@ use Rattle.paper.specs.Solids.{runs, has}
 use Rattle.paper.specs.declared.Point.{Point}
 use Rattle.paper_laws.proofs.Vectors.{vec, k, dets, v, vring}
 use Rattle.paper_laws.proofs.Points.{same-yes}
-use Rattle.fast_tables.specs.Paths.{Apart, Path}
+use Rattle.fast_tables.specs.Paths.{PointsApart, Path}
 use Rattle.fast_tables.proofs.Rounds.{wrap-after, wrap-before, runs-yes, has-cases}
 
 flat-above : (n p : Point) → above (det n p p) ≡ false
@@ -48,7 +48,7 @@ angle-before n a u b =
     none true = refl
     none false = refl
 
-module _ (d : Wire) (apart : Apart d) (l : Loop) (path : Path d l) where
+module _ (d : Wire) (apart : PointsApart d) (l : Loop) (path : Path d l) where
   two : 2 ≤ length l
   two = let h = path .long in omega (arith, h)
 

@@ -11,7 +11,7 @@ use Rattle.lists.proofs.Truth.{never-true, and-left, and-right, and-both, or-le
 use Rattle.lists.proofs.Passing.{some-yes, some-is}
 use Rattle.sets.specs.Word.{dig, count, first, both, either, less, only}
 use Rattle.sets.proofs.Digits.{dig-both, dig-either, dig-less, dig-only, dig-self, count-none, count-empty, first-in}
-use Rattle.fast_tables.specs.Asked.{Answers, holding, missing, asked, unheld, free, searched}
+use Rattle.fast_tables.specs.Asked.{KnownEdges, holding, missing, askedInTurn, unheld, free, searched}
 
 -- one of those that p keeps passes
 pub any-filter : {A : Type 0} (p q : A → Bool) (xs : List A) → any q (filter p xs) ≡ any (λ x. p x && q x) xs
@@ -25,7 +25,7 @@ any-filter {A} p q (x ∷ xs) = go (p x) (any-filter p q xs)
     go false e = e
 
 -- what is known is so
-pub record Right (out : ℕ → Bool) (f : Answers) : Type 0 where
+pub record Right (out : ℕ → Bool) (f : KnownEdges) : Type 0 where
   pub held-so : (e : ℕ) → dig (f .held) e ≡ true → out e ≡ false
   pub outside-so : (e : ℕ) → dig (f .outside) e ≡ true → out e ≡ true
 
@@ -38,25 +38,25 @@ module _ (out : ℕ → Bool) where
       go (inl p) = f k p
       go (inr p) = ap out (dig-only e k p) ∙ q
 
-  asked-right : (es : List ℕ) (f : Answers) → Right out f → Right out (asked out es f)
-  unfolding asked
+  asked-right : (es : List ℕ) (f : KnownEdges) → Right out f → Right out (askedInTurn out es f)
+  unfolding askedInTurn
   asked-right [] f r = r
   asked-right (e ∷ es) f r = go (out e) refl (asked-right es (holding f e))
     where
-      go : (b : Bool) → out e ≡ b → (Right out (holding f e) → Right out (asked out es (holding f e)))
-          → Right out (cond b (missing f e) (asked out es (holding f e)))
+      go : (b : Bool) → out e ≡ b → (Right out (holding f e) → Right out (askedInTurn out es (holding f e)))
+          → Right out (cond b (missing f e) (askedInTurn out es (holding f e)))
       go true q ih = record { held-so = r .held-so; outside-so = more-digit (f .outside) e true q (r .outside-so) }
       go false q ih = ih (record { held-so = more-digit (f .held) e false q (r .held-so); outside-so = r .outside-so })
 
-  asked-finds : (es : List ℕ) (f : Answers) → any out es ≡ true
-      → (e : ℕ) × (any (eqb e) es ≡ true) × (dig (asked out es f .outside) e ≡ true)
-  unfolding asked any
+  asked-finds : (es : List ℕ) (f : KnownEdges) → any out es ≡ true
+      → (e : ℕ) × (any (eqb e) es ≡ true) × (dig (askedInTurn out es f .outside) e ≡ true)
+  unfolding askedInTurn any
   asked-finds [] f t = absurd (true≢false (sym t))
   asked-finds (e ∷ es) f t = go (out e) refl t (asked-finds es (holding f e))
     where
       go : (b : Bool) → out e ≡ b → (b || any out es) ≡ true
-          → (any out es ≡ true → (k : ℕ) × (any (eqb k) es ≡ true) × (dig (asked out es (holding f e) .outside) k ≡ true))
-          → (k : ℕ) × ((eqb k e || any (eqb k) es) ≡ true) × (dig (cond b (missing f e) (asked out es (holding f e)) .outside) k ≡ true)
+          → (any out es ≡ true → (k : ℕ) × (any (eqb k) es ≡ true) × (dig (askedInTurn out es (holding f e) .outside) k ≡ true))
+          → (k : ℕ) × ((eqb k e || any (eqb k) es) ≡ true) × (dig (cond b (missing f e) (askedInTurn out es (holding f e)) .outside) k ≡ true)
       go true q t ih = (
         e,
         or-left (eqb e e) (any (eqb e) es) (eq-eqb e e refl),
@@ -72,28 +72,28 @@ module _ (m : ℕ) (out : ℕ → Bool) where
 
   module _ (mask : List Bool) (short : (e : ℕ) → dig mask e ≡ true → e < m) where
     -- one that is known to be
-    not-free : (f : Answers) → Right out f → (k : ℕ) → dig (both mask (f .outside)) k ≡ true → leaves mask ≡ true
+    not-free : (f : KnownEdges) → Right out f → (k : ℕ) → dig (both mask (f .outside)) k ≡ true → leaves mask ≡ true
     not-free f r k t =
         let s = sym (dig-both mask (f .outside) k) ∙ t in
         let p = and-left (dig mask k) (dig (f .outside) k) s in
         some-is (λ e. dig mask e && out e) m k (short k p) (and-both p (r .outside-so k (and-right (dig mask k) (dig (f .outside) k) s)))
 
-    free-no : (f : Answers) → Right out f → free mask f ≡ false → leaves mask ≡ true
+    free-no : (f : KnownEdges) → Right out f → free mask f ≡ false → leaves mask ≡ true
     free-no f r t =
         not-free f r (first (both mask (f .outside)))
         (first-in (both mask (f .outside)) (λ z. true≢false (sym (eq-eqb (count (both mask (f .outside))) 0 z) ∙ t)))
 
-    free-yes : (f : Answers) → Right out f → leaves mask ≡ false → free mask f ≡ true
+    free-yes : (f : KnownEdges) → Right out f → leaves mask ≡ false → free mask f ≡ true
     free-yes f r t =
         eq-eqb (count (both mask (f .outside))) 0 (count-empty (both mask (f .outside)) (λ k q. true≢false (sym (not-free f r k q) ∙ t)))
 
     -- once those are asked that are not known to be held, no other is left
-    after-asked : (f : Answers) → Right out f → free mask (asked out (unheld m mask f) f) ≡ not (leaves mask)
+    after-asked : (f : KnownEdges) → Right out f → free mask (askedInTurn out (unheld m mask f) f) ≡ not (leaves mask)
     unfolding unheld
     after-asked f r = go (leaves mask) refl
       where
-        g : Answers
-        g = asked out (unheld m mask f) f
+        g : KnownEdges
+        g = askedInTurn out (unheld m mask f) f
 
         open-edge : leaves mask ≡ true → any out (unheld m mask f) ≡ true
         open-edge t =
@@ -122,16 +122,16 @@ module _ (m : ℕ) (out : ℕ → Bool) where
             (λ z. count-none (both mask (g .outside)) z e (dig-both mask (g .outside) e ∙ and-both u (w .2)))
 
   module _ (fits : ℕ → Bool) (masks : ℕ → List Bool) (short : (j e : ℕ) → dig (masks j) e ≡ true → e < m) where
-    pub searched-is : (js : List ℕ) (f : Answers) → Right out f
+    pub searched-is : (js : List ℕ) (f : KnownEdges) → Right out f
         → searched m out fits masks js f ≡ any (λ j. fits j && not (leaves (masks j))) js
     unfolding searched any
     searched-is [] f r = refl
     searched-is (j ∷ js) f r =
         go (fits j) (free (masks j) f) refl (leaves (masks j)) refl (after-asked (masks j) (short j) f r)
-        (searched-is js (asked out (unheld m (masks j) f) f) (asked-right out (unheld m (masks j) f) f r)) (searched-is js f r)
+        (searched-is js (askedInTurn out (unheld m (masks j) f) f) (asked-right out (unheld m (masks j) f) f r)) (searched-is js f r)
       where
-        g : Answers
-        g = asked out (unheld m (masks j) f) f
+        g : KnownEdges
+        g = askedInTurn out (unheld m (masks j) f) f
 
         rest : Bool
         rest = any (λ j. fits j && not (leaves (masks j))) js

@@ -22,7 +22,7 @@ use Rattle.paper.specs.Solids.{has}
 use Rattle.fast_tables.specs.Paths.{Path}
 use Rattle.fast_tables.specs.Hits.{cornerMask, sideMask}
 use Rattle.fast_tables.specs.Covers.{middleOutside, inPlaneOf}
-use Rattle.fast_tables.specs.Asked.{Answers, planeMask, levelWith, coversByAnswers}
+use Rattle.fast_tables.specs.Asked.{KnownEdges, loopPlane, levelWith, coversByAnswers}
 use Rattle.fast_tables.proofs.Counts.{map-yes}
 use Rattle.fast_tables.proofs.Covers.{own-middle, covers-edges}
 use Rattle.fast_tables.proofs.Asked.{Right, leaves, searched-is}
@@ -30,7 +30,7 @@ use Rattle.fast_tables.proofs.Asked.{Right, leaves, searched-is}
 module _ (d : Wire) where
   -- ---- the plane as a mask
   pub level-with : (l k : Loop) → inPlaneOf d l k ≡ levelWith d l k
-  unfolding inPlaneOf levelWith cornerMask planeMask
+  unfolding inPlaneOf levelWith cornerMask loopPlane
   level-with l k = same-truth _ _ forth back
     where
       n : ℕ
@@ -129,7 +129,7 @@ module _ (d : Wire) where
         masks : ℕ → List Bool
         masks j = sideMask d (loopAt ls j)
 
-        start : Answers
+        start : KnownEdges
         start = record { held = sideMask d l; outside = [] }
 
         right : Right out start

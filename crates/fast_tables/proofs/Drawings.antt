@@ -20,7 +20,7 @@ use Rattle.means_solid.proofs.Goes.{wrap-next, around-at}
 use Rattle.means_loops.specs.Loop.{IsLoop}
 use Rattle.means_loops.proofs.Listing.{loops-are}
 use Rattle.means_area.proofs.Loops.{plane-holds}
-use Rattle.fast_tables.specs.Paths.{Apart, Path, Level}
+use Rattle.fast_tables.specs.Paths.{PointsApart, Path, LevelLoop}
 use Rattle.fast_tables.specs.Hits.{hits}
 use Rattle.fast_tables.specs.Asked.{coversByAnswers}
 use Rattle.fast_tables.proofs.Rows.{table-clashes}
@@ -49,7 +49,7 @@ loop-path d i h = path (loopAt (loops d) i) (loops-are d i h)
             let k : i ≡ length l - 1 = omega arith in
             to i 0 h e ∙ ap (λ (j : ℕ). joined d (getD l j 0) (getD l 0 0)) k ∙ c .closed
 
-pub drawing-apart : (d : Wire) → samePlace d ≡ none → Apart d
+pub drawing-apart : (d : Wire) → samePlace d ≡ none → PointsApart d
 drawing-apart d r11 u w hu hw e = samePlace-means d .0 r11 u w hu hw e
 
 -- ---- the candidates are loops
@@ -86,8 +86,8 @@ pub candidate-path : (d : Wire) (k : ℕ) → k < length (candidates d) → Path
 candidate-path d k h = let r = candidate-of d k h in subst (Path d) (r .2) (loop-path d (r .0) (r .1))
 
 module _ (d : Wire) (r11 : samePlace d ≡ none) (r13 : edgeMeets d ≡ none) where
-  pub candidate-level : (k : ℕ) → k < length (candidates d) → Level d (loopAt (candidates d) k)
-  candidate-level k h = let r = candidate-of d k h in subst (Level d) (r .2) (plane-holds d r11 r13 (r .0) (r .1))
+  pub candidate-level : (k : ℕ) → k < length (candidates d) → LevelLoop d (loopAt (candidates d) k)
+  candidate-level k h = let r = candidate-of d k h in subst (LevelLoop d) (r .2) (plane-holds d r11 r13 (r .0) (r .1))
 
   -- the clash masks of the drawing's tables
   pub candidates-clashes : tablesOf d (candidates d) .clashes ≡ map (λ i. map (hits d (candidates d) i) (upto (length (candidates d))))

@@ -20,7 +20,7 @@ use Rattle.paper.specs.Loops.{Loop, polygon}
 use Rattle.paper.specs.Clash.{pointsIn, isCorner, bends, folds}
 use Rattle.paper.specs.Solids.{has}
 use Rattle.paper.specs.declared.Point.{Point}
-use Rattle.fast_tables.specs.Paths.{Apart, Path}
+use Rattle.fast_tables.specs.Paths.{PointsApart, Path}
 use Rattle.fast_tables.proofs.Rounds.{member-yes, member-is, runs-is, has-up, has-down}
 use Rattle.paper_laws.proofs.Wires.{polygon-length, corner-at}
 use Rattle.fast_tables.proofs.Angles.{points-no-side}
@@ -39,7 +39,7 @@ pub record Bent (d : Wire) (f g : Loop) : Type 0 where
   pub no-side-f : has (edge x y) f ≡ false
   pub no-side-g : has (edge x y) g ≡ false
 
-module _ (d : Wire) (apart : Apart d) (f g : Loop) (pf : Path d f) (pg : Path d g) where
+module _ (d : Wire) (apart : PointsApart d) (f g : Loop) (pf : Path d f) (pg : Path d g) where
   corner-shared : (x : ℕ) → x < length (d .vertices) → isCorner (polygon d g) (at d x) ≡ true → member x g ≡ true
   unfolding isCorner
   corner-shared x h e =

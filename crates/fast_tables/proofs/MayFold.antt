@@ -18,7 +18,7 @@ use Rattle.paper.specs.Drawing.{Wire, Edge, edge}
 use Rattle.paper.specs.Loops.{Loop, polygon}
 use Rattle.paper.specs.Clash.{folds}
 use Rattle.paper.specs.Solids.{runs, has}
-use Rattle.fast_tables.specs.Paths.{Apart, Path}
+use Rattle.fast_tables.specs.Paths.{PointsApart, Path}
 use Rattle.fast_tables.specs.Hits.{cornerMask, sideMask, shareEnough, mayFold, foldsWith}
 use Rattle.fast_tables.proofs.Rounds.{runs-yes, has-cases, has-turn, has-ends, below-n}
 use Rattle.fast_tables.proofs.Angles.{around-differ}
@@ -36,7 +36,7 @@ enough c m h f = go (ltb 2 c) refl
         let q : c ≡ 2 = omega (arith, l) in
         and-both (eq-eqb c 2 q) (eq-eqb m 0 (f q))
 
-module _ (d : Wire) (apart : Apart d) where
+module _ (d : Wire) (apart : PointsApart d) where
   -- the ends of a loop's side are two
   runs-apart : (l : Loop) → Path d l → (a b : ℕ) → runs a b l ≡ true → a ≡ b → ⊥
   runs-apart l path a b e q =

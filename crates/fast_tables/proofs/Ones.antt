@@ -12,7 +12,7 @@ use Rattle.lists.proofs.Agreeing.{filter-from}
 use Rattle.sets.specs.Word.{dig, count, first, either, less, only}
 use Rattle.sets.proofs.Digits.{dig-either, dig-less, dig-only, dig-self, count-none, first-in}
 use Rattle.sets.proofs.Ones.{first-least}
-use Rattle.fast_tables.specs.Asked.{Answers, unheld}
+use Rattle.fast_tables.specs.Asked.{KnownEdges, unheld}
 use Rattle.fast_tables.specs.Words.{ones, gathered}
 use Rattle.fast_tables.proofs.Asked.{any-filter}
 
@@ -97,6 +97,6 @@ unfolding ones
 any-ones q m a = any-filter (dig a) q (upto m)
 
 -- the edges that a mask has open
-pub unheld-ones : (m : ℕ) (mask : List Bool) (f : Answers) → unheld m mask f ≡ ones m (less mask (f .held))
+pub unheld-ones : (m : ℕ) (mask : List Bool) (f : KnownEdges) → unheld m mask f ≡ ones m (less mask (f .held))
 unfolding unheld ones
 unheld-ones m mask f = refl

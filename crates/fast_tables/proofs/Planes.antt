@@ -27,7 +27,7 @@ use Rattle.means_loops.proofs.Planes.{level-plane, plane-level, places-differ, 
 use Rattle.means_loops.proofs.OwnPlane.{normal-across, corner-at, less-dot, own-plane}
 use Rattle.means_area.proofs.Loops.{normal-real}
 use Rattle.fast_tables.specs.Hits.{cornerMask}
-use Rattle.fast_tables.specs.Asked.{planeMask, levelWith}
+use Rattle.fast_tables.specs.Asked.{loopPlane, levelWith}
 
 module _ (d : Wire) (r11 : samePlace d ≡ none) (w : ℕ) where
   abbrev more : Loop → Loop
@@ -122,8 +122,8 @@ module _ (d : Wire) (r11 : samePlace d ≡ none) (w : ℕ) where
 -- the word of the search's plane is that of the normal's, for a loop with a normal
 pub search-plane : (d : Wire) → samePlace d ≡ none → (i : ℕ) → i < length (loops d)
     → (normal (polygon d (loopAt (loops d) i)) ≡ origin → ⊥)
-    → planeMask d (loopAt (loops d) i) ≡ map (level d (loopAt (loops d) i)) (upto (length (d .vertices)))
-unfolding planeMask
+    → loopPlane d (loopAt (loops d) i) ≡ map (level d (loopAt (loops d) i)) (upto (length (d .vertices)))
+unfolding loopPlane
 search-plane d r11 i h rg =
     let l = loopAt (loops d) i in
     map-same (λ w. isZero (planeSide (polygon d l) (at d w))) (level d l) (length (d .vertices))
@@ -131,7 +131,7 @@ search-plane d r11 i h rg =
 
 -- and so for every loop of a drawing that passes 11 and 13
 pub drawing-plane : (d : Wire) → samePlace d ≡ none → edgeMeets d ≡ none → (i : ℕ) → i < length (loops d)
-    → planeMask d (loopAt (loops d) i) ≡ map (level d (loopAt (loops d) i)) (upto (length (d .vertices)))
+    → loopPlane d (loopAt (loops d) i) ≡ map (level d (loopAt (loops d) i)) (upto (length (d .vertices)))
 drawing-plane d r11 r13 i h = search-plane d r11 i h (normal-real d r11 r13 i h)
 
 -- so corners are compared with the search's word

@@ -19,7 +19,7 @@ use Rattle.paper.specs.Loops.{Loop, polygon, loopAt}
 use Rattle.paper.specs.Clash.{opposite, clash}
 use Rattle.paper.specs.Solids.{has, clashing, tablesOf}
 use Rattle.paper_laws.proofs.Points.{zero-yes}
-use Rattle.fast_tables.specs.Paths.{Apart, Path, Level}
+use Rattle.fast_tables.specs.Paths.{PointsApart, Path, LevelLoop}
 use Rattle.fast_tables.specs.Hits.{edgePierces, vertexInside, piercedBy, enteredBy, foldsWith, hits}
 use Rattle.fast_tables.proofs.Rounds.{member-yes, has-ends}
 use Rattle.fast_tables.proofs.Pierce.{pierced-opposite, pierces-edges}
@@ -29,7 +29,7 @@ use Rattle.fast_tables.proofs.MayFold.{folds-with}
 
 -- ---- a polygon-at d cs in its plane does not go through itself
 module _ (d : Wire) (l : Loop) where
-  own-side : Level d l → (v : ℕ) → member v l ≡ true → planeSide (polygon d l) (at d v) ≡ pos 0
+  own-side : LevelLoop d l → (v : ℕ) → member v l ≡ true → planeSide (polygon d l) (at d v) ≡ pos 0
   unfolding onePlane
   own-side level v e =
       let r = member-yes v l e in
@@ -38,7 +38,7 @@ module _ (d : Wire) (l : Loop) where
       ap (λ p. planeSide (polygon d l) p) (sym (corner-at d l (r .0) (r .1) ∙ ap (at d) (r .2)))
       ∙ zero-yes (planeSide (polygon d l) (getD (polygon d l) (r .0) origin)) t
 
-  own-edge : Level d l → (e : Edge) → (has e l && edgePierces d l e) ≡ true → ⊥
+  own-edge : LevelLoop d l → (e : Edge) → (has e l && edgePierces d l e) ≡ true → ⊥
   unfolding edgePierces opposite above below
   own-edge level (edge a b) t =
       let g = polygon d l in
@@ -48,7 +48,7 @@ module _ (d : Wire) (l : Loop) where
       true≢false (sym (and-right (has (edge a b) l) (edgePierces d l (edge a b)) t)
       ∙ pierced-opposite g (at d a) (at d b) (planeSide g (at d a)) (planeSide g (at d b)) o)
 
-  pub pierced-self : Level d l → piercedBy d l l ≡ false
+  pub pierced-self : LevelLoop d l → piercedBy d l l ≡ false
   unfolding piercedBy
   pierced-self level = never-true (any (λ e. has e l && edgePierces d l e) (d .edges)) (λ t.
       let r = any-yes (λ e. has e l && edgePierces d l e) (edge 0 0) (d .edges) t in
@@ -86,8 +86,8 @@ shuffle-down false false false true w = refl
 shuffle-down false false false false true = refl
 shuffle-down false false false false false = refl
 
-module _ (d : Wire) (apart : Apart d) (cs : List Loop) (path : (i : ℕ) → i < length cs → Path d (loopAt cs i))
-    (level : (i : ℕ) → i < length cs → Level d (loopAt cs i)) where
+module _ (d : Wire) (apart : PointsApart d) (cs : List Loop) (path : (i : ℕ) → i < length cs → Path d (loopAt cs i))
+    (level : (i : ℕ) → i < length cs → LevelLoop d (loopAt cs i)) where
   -- a clash is asked of edges, vertices, and the faces that may fold
   pub clash-by : (i j : ℕ) → i < length cs → j < length cs
       → clash (polygon d (loopAt cs i)) (polygon d (loopAt cs j))

@@ -16,7 +16,7 @@ use Rattle.paper.specs.Loops.{Loop, polygon, loopAt}
 use Rattle.paper.specs.Solids.{has}
 use Rattle.fast_tables.specs.Paths.{Path}
 use Rattle.fast_tables.specs.Hits.{edgePierces, vertexInside, piercedBy, enteredBy, piercedDown, cornerMask, foldsWith, hits}
-use Rattle.fast_tables.specs.Asked.{planeMask}
+use Rattle.fast_tables.specs.Asked.{loopPlane}
 use Rattle.fast_tables.specs.Words.{ones, nearMask, aboveMask, belowMask, downFrom, goingDown, throughMask, insideMask, hitMask}
 use Rattle.fast_tables.proofs.Directed.{pierced-down}
 use Rattle.fast_tables.proofs.Ones.{dig-gathered, any-ones}
@@ -75,11 +75,11 @@ module _ (d : Wire) (cs : List Loop) (l : Loop) (j : ℕ) (h : j < length cs) wh
       (λ a ha. ap (λ (t : Bool). t && falls a) (made-at up n a false ha))
 
   inside-is : dig (insideMask d cs l) j ≡ enteredBy d l k
-  unfolding insideMask enteredBy vertexInside planeMask cornerMask
+  unfolding insideMask enteredBy vertexInside loopPlane cornerMask
   inside-is =
-      dig-gathered inner (λ v. map (member v) cs) (ones n (less (planeMask d l) (cornerMask d l))) [] j
-      ∙ any-ones (λ v. inner v && dig (map (member v) cs) j) n (less (planeMask d l) (cornerMask d l))
-      ∙ any-below-same (λ v. dig (less (planeMask d l) (cornerMask d l)) v && (inner v && dig (map (member v) cs) j)) n
+      dig-gathered inner (λ v. map (member v) cs) (ones n (less (loopPlane d l) (cornerMask d l))) [] j
+      ∙ any-ones (λ v. inner v && dig (map (member v) cs) j) n (less (loopPlane d l) (cornerMask d l))
+      ∙ any-below-same (λ v. dig (less (loopPlane d l) (cornerMask d l)) v && (inner v && dig (map (member v) cs) j)) n
       (λ v. member v k && (not (member v l) && (flat v && inner v))) each
     where
       inner : ℕ → Bool
@@ -94,11 +94,11 @@ module _ (d : Wire) (cs : List Loop) (l : Loop) (j : ℕ) (h : j < length cs) wh
       swap false o i m = sym (ap (λ (t : Bool). m && t) (and-false o) ∙ and-false m)
 
       each : (v : ℕ) → v < n
-          → (dig (less (planeMask d l) (cornerMask d l)) v && (inner v && dig (map (member v) cs) j))
+          → (dig (less (loopPlane d l) (cornerMask d l)) v && (inner v && dig (map (member v) cs) j))
           ≡ (member v k && (not (member v l) && (flat v && inner v)))
       each v hv =
-          let s : dig (less (planeMask d l) (cornerMask d l)) v ≡ (flat v && not (member v l))
-          = dig-less (planeMask d l) (cornerMask d l) v
+          let s : dig (less (loopPlane d l) (cornerMask d l)) v ≡ (flat v && not (member v l))
+          = dig-less (loopPlane d l) (cornerMask d l) v
           ∙ ap₂ (λ (x y : Bool). x && not y) (made-at flat n v false hv) (made-at (λ v. member v l) n v false hv) in
           let t : dig (map (member v) cs) j ≡ member v k = map-at (member v) cs j [] false h in
           (λ i. s i && (inner v && t i)) ∙ swap (flat v) (not (member v l)) (inner v) (member v k)

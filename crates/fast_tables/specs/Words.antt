@@ -12,7 +12,7 @@ use Rattle.paper.specs.Drawing.{Wire, edge, at, joined}
 use Rattle.paper.specs.Loops.{Loop, polygon, loopAt}
 use Rattle.paper.specs.Solids.{has}
 use Rattle.fast_tables.specs.Hits.{edgePierces, cornerMask}
-use Rattle.fast_tables.specs.Asked.{planeMask}
+use Rattle.fast_tables.specs.Asked.{loopPlane}
 
 -- the places below m of the digits that are set
 unfoldable pub ones : ℕ → List Bool → List ℕ
@@ -50,7 +50,7 @@ throughMask d cs l = goingDown d cs l (ones (length (d .vertices)) (aboveMask d 
 unfoldable pub insideMask : Wire → List Loop → Loop → List Bool
 insideMask d cs l =
     gathered (λ v. isInside (lies (exactly (at d v)) (polygon d l))) (λ v. map (member v) cs)
-    (ones (length (d .vertices)) (less (planeMask d l) (cornerMask d l))) []
+    (ones (length (d .vertices)) (less (loopPlane d l) (cornerMask d l))) []
 
 -- of candidate i
 unfoldable pub hitMask : Wire → List Loop → ℕ → List Bool

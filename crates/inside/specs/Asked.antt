@@ -7,7 +7,7 @@ use Rattle.paper.specs.Numbers.{farthest}
 use Rattle.paper.specs.declared.Point.{Point}
 use Rattle.paper.specs.declared.Flat.{Flat}
 use Rattle.polygon.specs.Sizes.{PointWithin, FlatWithin, mostScale, mostScaled}
-use Rattle.polygon.specs.Rings.{Face}
+use Rattle.polygon.specs.Rings.{FaceRow}
 
 -- an end of a side, and d
 pub record EndWithin (a : Flat) (d : ℤ) : Type 0 where
@@ -27,6 +27,6 @@ pub record TurnWithin (a b p : Flat) (d : ℤ) : Type 0 where
 
 -- a row with its normal, and p / d
 pub record FaceAndPoint (l : List ℤ) (t : List ℕ) (r : ℕ) (m p : Point) (d : ℤ) : Type 0 where
-  pub face : Face l t r m
+  pub face : FaceRow l t r m
   pub p-in : PointWithin mostScaled p
   pub d-in : Within mostScale d

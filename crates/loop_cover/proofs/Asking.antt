@@ -11,30 +11,30 @@ use Rattle.sets.specs.Sets.{Is, size, Lowest, Dropped}
 use Rattle.sets.specs.declared.Set.{Set}
 use Rattle.sets.proofs.Digits.{dig-less}
 use Rattle.sets.proofs.Sets.{size-is}
-use Rattle.fast_tables.specs.Asked.{Answers, holding, missing, asked, free}
+use Rattle.fast_tables.specs.Asked.{KnownEdges, holding, missing, askedInTurn, free}
 use Rattle.fast_tables.specs.Words.{ones}
 use Rattle.fast_tables.proofs.Ones.{ones-none, ones-first}
 
 -- what is known, with other edges held
-abbrev pub heldWith : Answers → List Bool → Answers
+abbrev pub heldWith : KnownEdges → List Bool → KnownEdges
 heldWith g h = record { held = h; outside = g .outside }
 
 -- of m edges, those of the mask `whole` are asked; held and open are the sets of those known to be held and of those left
-pub record Left (m : ℕ) (out : ℕ → Bool) (whole : List Bool) (g : Answers) (held rest : Set) : Type 0 where
+pub record Left (m : ℕ) (out : ℕ → Bool) (whole : List Bool) (g : KnownEdges) (held rest : Set) : Type 0 where
   pub held-now : List Bool
   pub held-is : Is held held-now
   pub rest-now : List Bool
   pub rest-is : Is rest rest-now
   pub known : (e : ℕ) → dig rest-now e ≡ true → e < m
-  pub same : asked out (ones m rest-now) (heldWith g held-now) ≡ asked out (ones m whole) g
+  pub same : askedInTurn out (ones m rest-now) (heldWith g held-now) ≡ askedInTurn out (ones m whole) g
 
-module _ {m : ℕ} {out : ℕ → Bool} {whole : List Bool} {g : Answers} {held rest : Set} (l : Left m out whole g held rest) where
+module _ {m : ℕ} {out : ℕ → Bool} {whole : List Bool} {g : KnownEdges} {held rest : Set} (l : Left m out whole g held rest) where
   -- ---- none is left
-  pub left-end : eqb (size rest) 0 ≡ true → heldWith g (l .held-now) ≡ asked out (ones m whole) g
-  unfolding asked
+  pub left-end : eqb (size rest) 0 ≡ true → heldWith g (l .held-now) ≡ askedInTurn out (ones m whole) g
+  unfolding askedInTurn
   left-end t =
       let z : count (l .rest-now) ≡ 0 = sym (size-is (l .rest-is)) ∙ eqb-true (size rest) 0 t in
-      sym (ap (λ (es : List ℕ). asked out es (heldWith g (l .held-now))) (ones-none m (l .rest-now) z)) ∙ l .same
+      sym (ap (λ (es : List ℕ). askedInTurn out es (heldWith g (l .held-now))) (ones-none m (l .rest-now) z)) ∙ l .same
 
   -- ---- the lowest that is left
   module _ (t : eqb (size rest) 0 ≡ false) (e : ℕ) (low : Lowest rest e) where
@@ -48,24 +48,24 @@ module _ {m : ℕ} {out : ℕ → Bool} {whole : List Bool} {g : Answers} {held 
     e-known = l .known e (low .there (l .rest-now) (l .rest-is))
 
     -- it is asked next
-    next : asked out (e ∷ ones m (less (l .rest-now) (only e))) (heldWith g (l .held-now)) ≡ asked out (ones m whole) g
+    next : askedInTurn out (e ∷ ones m (less (l .rest-now) (only e))) (heldWith g (l .held-now)) ≡ askedInTurn out (ones m whole) g
     next =
-        (λ i. asked out (e-first i ∷ ones m (less (l .rest-now) (only (e-first i)))) (heldWith g (l .held-now)))
-        ∙ sym (ap (λ (es : List ℕ). asked out es (heldWith g (l .held-now))) (ones-first m (l .rest-now) some (l .known)))
+        (λ i. askedInTurn out (e-first i ∷ ones m (less (l .rest-now) (only (e-first i)))) (heldWith g (l .held-now)))
+        ∙ sym (ap (λ (es : List ℕ). askedInTurn out es (heldWith g (l .held-now))) (ones-first m (l .rest-now) some (l .known)))
         ∙ l .same
 
     -- it is outside
-    pub left-hit : out e ≡ true → missing (heldWith g (l .held-now)) e ≡ asked out (ones m whole) g
-    unfolding asked
+    pub left-hit : out e ≡ true → missing (heldWith g (l .held-now)) e ≡ askedInTurn out (ones m whole) g
+    unfolding askedInTurn
     left-hit o =
         let f = heldWith g (l .held-now) in
         let es = ones m (less (l .rest-now) (only e)) in
-        sym (ap (λ (b : Bool). cond b (missing f e) (asked out es (holding f e))) o) ∙ next
+        sym (ap (λ (b : Bool). cond b (missing f e) (askedInTurn out es (holding f e))) o) ∙ next
 
     -- it is held
     pub left-miss : out e ≡ false → {held' rest' : Set} → ((a : List Bool) → Is held a → Is held' (either a (only e))) → Dropped rest e rest'
         → Left m out whole g held' rest'
-    unfolding asked
+    unfolding askedInTurn
     left-miss o with' without' =
         let f = heldWith g (l .held-now) in
         let less-now = less (l .rest-now) (only e) in
@@ -75,10 +75,10 @@ module _ {m : ℕ} {out : ℕ → Bool} {whole : List Bool} {g : Answers} {held 
           rest-now = less-now;
           rest-is = without' .same (l .rest-now) (l .rest-is);
           known = λ i d. l .known i (and-left (dig (l .rest-now) i) _ (sym (dig-less (l .rest-now) (only e) i) ∙ d));
-          same = sym (ap (λ (b : Bool). cond b (missing f e) (asked out (ones m less-now) (holding f e))) o) ∙ next;
+          same = sym (ap (λ (b : Bool). cond b (missing f e) (askedInTurn out (ones m less-now) (holding f e))) o) ∙ next;
         }
 
 -- ---- no edge of a mask is known to be outside, where the set of those that are is empty
-pub free-is : (mask : List Bool) (g : Answers) {edges : Set} {r : Bool} → r ≡ eqb (size edges) 0 → Is edges (both mask (g .outside))
+pub free-is : (mask : List Bool) (g : KnownEdges) {edges : Set} {r : Bool} → r ≡ eqb (size edges) 0 → Is edges (both mask (g .outside))
     → r ≡ free mask g
 free-is mask g e i = e ∙ ap (λ (n : ℕ). eqb n 0) (size-is i)

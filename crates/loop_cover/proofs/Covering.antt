@@ -20,7 +20,7 @@ use Rattle.polygon.specs.Rings.{loopIn, ring, Row}
 use Rattle.fast_search.specs.Search.{onPlane, planeMask, planeOf}
 use Rattle.fast_tables.specs.Hits.{cornerMask, sideMask}
 use Rattle.fast_tables.specs.Covers.{middleOutside}
-use Rattle.fast_tables.specs.Asked.{Answers, free, asked, unheld, searched, levelWith, coversByAnswers}
+use Rattle.fast_tables.specs.Asked.{KnownEdges, free, askedInTurn, unheld, searched, levelWith, coversByAnswers}
 use Rattle.fast_tables.proofs.Counts.{map-yes}
 use Rattle.fast_tables.proofs.Drawings.{loop-path}
 use Rattle.fast_tables.proofs.Candidates.{covers-found}
@@ -30,19 +30,19 @@ use Rattle.loop_table.proofs.Words.{mask-is}
 use Rattle.loop_table.proofs.Loops.{loops-of, vertices-are, corners-short, sides-short, row-of}
 use Rattle.loop_cover.specs.declared.Asked.{Asked}
 use Rattle.loop_cover.specs.declared.Tried.{Tried}
-use Rattle.loop_cover.specs.Midpoints.{outsideOf, Stands, EdgesOf, Asks, askedNow, Trial, TriedOf}
-use Rattle.loop_cover.specs.Known.{Known, KnownLoop, Fits}
+use Rattle.loop_cover.specs.Midpoints.{outsideOf, AskedIs, EdgesOf, AsksEdges, askedNow, Trial, TriedOf}
+use Rattle.loop_cover.specs.Known.{Known, KnownLoop, FitsPlane}
 
 -- ---- one turn of the search
 module _ (m : ℕ) (out : ℕ → Bool) (fit : ℕ → Bool) (masks : ℕ → List Bool) (n : ℕ) where
   -- what the loops from j on say
-  abbrev from-on : ℕ → Answers → Bool
+  abbrev from-on : ℕ → KnownEdges → Bool
   from-on j g = searched m out fit masks (drop j (upto n)) g
 
-  abbrev next : ℕ → Answers → Answers
-  next j g = asked out (unheld m (masks j) g) g
+  abbrev next : ℕ → KnownEdges → KnownEdges
+  next j g = askedInTurn out (unheld m (masks j) g) g
 
-  module _ (j : ℕ) (h : j < n) (g : Answers) where
+  module _ (j : ℕ) (h : j < n) (g : KnownEdges) where
     turn : from-on j g ≡ searched m out fit masks (j ∷ drop (j + 1) (upto n)) g
     turn =
         let e : drop j (upto n) ≡ j ∷ drop (j + 1) (upto n)
@@ -70,7 +70,7 @@ module _ (m : ℕ) (out : ℕ → Bool) (fit : ℕ → Bool) (masks : ℕ → Li
         go true = refl
         go false = refl
 
-  none-left : (j : ℕ) → n ≤ j → (g : Answers) → from-on j g ≡ false
+  none-left : (j : ℕ) → n ≤ j → (g : KnownEdges) → from-on j g ≡ false
   unfolding searched
   none-left j h g =
       ap (λ (js : List ℕ). searched m out fit masks js g) (drop-of-length-le (upto n) {i = j} (omega (arith, upto-length n)))
@@ -125,7 +125,7 @@ module _ {xyz : List ℤ} {ends table : List ℕ} {n : ℕ} {corners sides plane
   masks j = sideMask d (loopAt ls j)
 
   -- its test of loop j is the code's
-  pub fits-is : (j : ℕ) → j < n → {r : Bool} → Fits corners (maskAt planes k) k j r → r ≡ fit j
+  pub fits-is : (j : ℕ) → j < n → {r : Bool} → FitsPlane corners (maskAt planes k) k j r → r ≡ fit j
   fits-is j h f =
       let l = loopAt ls k in
       let i = loopAt ls j in
@@ -138,15 +138,15 @@ module _ {xyz : List ℤ} {ends table : List ℕ} {n : ℕ} {corners sides plane
 
   -- loops from j on are left: what they say is the answer
   pub record Searching (f : Asked) (j : ℕ) : Type 0 where
-    pub answers : Answers
-    pub stands : Stands f answers
+    pub answers : KnownEdges
+    pub stands : AskedIs f answers
     pub rest : coversOther d ls k ≡ searched (length (d .edges)) out fit masks (drop j (upto (length ls))) answers
 
   pub searching-start : {f : Asked} → Is (f .held) (sideMask d (loopAt ls k)) → Is (f .outside) [] → Searching f 0
   unfolding coversByAnswers
   searching-start a b =
       let l : loopAt ls k ≡ loopIn table k = sym (loop-is table ls (known .rows) (loops-of d .short) k (there-in k (q .there))) in
-      let g : Answers = record { held = sideMask d (loopAt ls k); outside = [] } in
+      let g : KnownEdges = record { held = sideMask d (loopAt ls k); outside = [] } in
       record {
         answers = g;
         stands = record { held-is = a; outside-is = b };
@@ -188,7 +188,7 @@ module _ {xyz : List ℤ} {ends table : List ℕ} {n : ℕ} {corners sides plane
       }
 
     -- what asking them takes
-    pub asks : (m : Point) → m ≡ normal (ring xyz table k) → Asks xyz ends table k m (maskAt sides j) f
+    pub asks : (m : Point) → m ≡ normal (ring xyz table k) → AsksEdges xyz ends table k m (maskAt sides j) f
     asks m a = record {
       range = known .passed .range;
       face = record { row = row; across = a };

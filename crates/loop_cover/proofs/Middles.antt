@@ -15,9 +15,9 @@ use Rattle.paper_laws.proofs.Wires.{length-edges, edge-at}
 use Rattle.polygon.specs.Rings.{pointOf, loopIn, ring}
 use Rattle.polygon.proofs.Drawn.{point-of, polygon-is}
 use Rattle.fast_tables.specs.Covers.{middleOutside}
-use Rattle.loop_cover.specs.Midpoints.{outsideOf, EdgeOf}
+use Rattle.loop_cover.specs.Midpoints.{outsideOf, RowAndEdge}
 
-module _ {xyz : List ℤ} {ends table : List ℕ} {k : ℕ} {m : Point} {e : ℕ} (q : EdgeOf xyz ends table k m e) where
+module _ {xyz : List ℤ} {ends table : List ℕ} {k : ℕ} {m : Point} {e : ℕ} (q : RowAndEdge xyz ends table k m e) where
   abbrev first : ℕ
   first = getD ends (2 * e) 0
 

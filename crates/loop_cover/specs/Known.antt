@@ -33,6 +33,6 @@ pub record KnownLoop (xyz : List ℤ) (ends table : List ℕ) (n : ℕ) (corners
   pub there : k < n
 
 -- loop j is another than k, and its corners are in the plane
-abbrev pub Fits : List ℕ → Set → ℕ → ℕ → Bool → Type 0
-Fits corners plane k j r =
+abbrev pub FitsPlane : List ℕ → Set → ℕ → ℕ → Bool → Type 0
+FitsPlane corners plane k j r =
     (a b : List Bool) → Is (maskAt corners j) a → Is plane b → r ≡ (not (eqb k j) && eqb (count (less a b)) 0)

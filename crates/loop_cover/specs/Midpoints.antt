@@ -11,9 +11,9 @@ use Rattle.sets.specs.declared.Set.{Set}
 use Rattle.paper.specs.Drawing.{wire, edgeAt}
 use Rattle.paper.specs.declared.Point.{Point}
 use Rattle.paper_laws.specs.InRange.{InRange}
-use Rattle.polygon.specs.Rings.{loopIn, Face}
+use Rattle.polygon.specs.Rings.{loopIn, FaceRow}
 use Rattle.fast_tables.specs.Covers.{middleOutside}
-use Rattle.fast_tables.specs.Asked.{Answers, asked, unheld, free}
+use Rattle.fast_tables.specs.Asked.{KnownEdges, askedInTurn, unheld, free}
 use Rattle.loop_cover.specs.declared.Asked.{Asked}
 use Rattle.loop_cover.specs.declared.Tried.{Tried}
 
@@ -22,15 +22,15 @@ abbrev pub outsideOf : List ℤ → List ℕ → List ℕ → ℕ → ℕ → Bo
 outsideOf xyz ends table k e = middleOutside (wire xyz ends) (loopIn table k) (edgeAt (wire xyz ends) e)
 
 -- row k of a drawing in range with its normal, and one of its edges
-pub record EdgeOf (xyz : List ℤ) (ends table : List ℕ) (k : ℕ) (m : Point) (e : ℕ) : Type 0 where
+pub record RowAndEdge (xyz : List ℤ) (ends table : List ℕ) (k : ℕ) (m : Point) (e : ℕ) : Type 0 where
   pub range : InRange xyz ends
-  pub face : Face xyz table k m
+  pub face : FaceRow xyz table k m
   pub known : e < length (wire xyz ends .edges)
 
 -- ---- what was asked
 
 -- the two sets stand for what is known
-pub record Stands (f : Asked) (g : Answers) : Type 0 where
+pub record AskedIs (f : Asked) (g : KnownEdges) : Type 0 where
   pub held-is : Is (f .held) (g .held)
   pub outside-is : Is (f .outside) (g .outside)
 
@@ -40,27 +40,27 @@ pub record EdgesOf (xyz : List ℤ) (ends : List ℕ) (edges : Set) (mask : List
   pub known : (e : ℕ) → dig mask e ≡ true → e < length (wire xyz ends .edges)
 
 -- row k with its normal, a set of edges, and what was asked before
-pub record Asks (xyz : List ℤ) (ends table : List ℕ) (k : ℕ) (m : Point) (edges : Set) (f : Asked) : Type 0 where
+pub record AsksEdges (xyz : List ℤ) (ends table : List ℕ) (k : ℕ) (m : Point) (edges : Set) (f : Asked) : Type 0 where
   pub range : InRange xyz ends
-  pub face : Face xyz table k m
+  pub face : FaceRow xyz table k m
   pub mask : List Bool
   pub mask-is : EdgesOf xyz ends edges mask
-  pub answers : Answers
-  pub stands : Stands f answers
+  pub answers : KnownEdges
+  pub stands : AskedIs f answers
 
 -- what is known once those edges are asked that are not known to be held
-abbrev pub askedNow : List ℤ → List ℕ → List ℕ → ℕ → List Bool → Answers → Answers
-askedNow xyz ends table k mask g = asked (outsideOf xyz ends table k) (unheld (length (wire xyz ends .edges)) mask g) g
+abbrev pub askedNow : List ℤ → List ℕ → List ℕ → ℕ → List Bool → KnownEdges → KnownEdges
+askedNow xyz ends table k mask g = askedInTurn (outsideOf xyz ends table k) (unheld (length (wire xyz ends .edges)) mask g) g
 
 abbrev pub AskedOf : List ℤ → List ℕ → List ℕ → ℕ → Set → Asked → Asked → Type 0
 AskedOf xyz ends table k edges f r =
-    (mask : List Bool) (g : Answers) → EdgesOf xyz ends edges mask → Stands f g → Stands r (askedNow xyz ends table k mask g)
+    (mask : List Bool) (g : KnownEdges) → EdgesOf xyz ends edges mask → AskedIs f g → AskedIs r (askedNow xyz ends table k mask g)
 
 -- and whether none of them is outside: they are not asked where one is known to be
-pub record Trial (r : Tried) (mask : List Bool) (g after : Answers) : Type 0 where
-  pub asked-is : Stands (r .asked) (cond (free mask g) after g)
+pub record Trial (r : Tried) (mask : List Bool) (g after : KnownEdges) : Type 0 where
+  pub asked-is : AskedIs (r .asked) (cond (free mask g) after g)
   pub covers-is : r .covers ≡ (free mask g && free mask after)
 
 abbrev pub TriedOf : List ℤ → List ℕ → List ℕ → ℕ → Set → Asked → Tried → Type 0
 TriedOf xyz ends table k edges f r =
-    (mask : List Bool) (g : Answers) → EdgesOf xyz ends edges mask → Stands f g → Trial r mask g (askedNow xyz ends table k mask g)
+    (mask : List Bool) (g : KnownEdges) → EdgesOf xyz ends edges mask → AskedIs f g → Trial r mask g (askedNow xyz ends table k mask g)

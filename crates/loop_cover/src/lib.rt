@@ -3,8 +3,8 @@
 ghost use mathlib.Core.Path.{_≡_};
 ghost use Rattle.paper.specs.Drawing.{wire};
 ghost use Rattle.paper.specs.Loops.{loops, coversOther};
-ghost use Rattle.loop_cover.specs.Midpoints.{outsideOf, EdgeOf, Asks, AskedOf, TriedOf};
-ghost use Rattle.loop_cover.specs.Known.{Fits, KnownLoop};
+ghost use Rattle.loop_cover.specs.Midpoints.{outsideOf, RowAndEdge, AsksEdges, AskedOf, TriedOf};
+ghost use Rattle.loop_cover.specs.Known.{FitsPlane, KnownLoop};
 ghost use Prim.Native.Nat.{_<_};
 ghost use Rattle.paper.specs.Numbers.{mostLoops};
 use inside::lies;
@@ -31,7 +31,7 @@ pub struct Tried {
 
 // The midpoint of edge e is outside row k, whose normal is m. A midpoint is the sum of two corners, over 2.
 fn is_outside(xyz: &[i64], ends: &[u8], table: &[u8], k: usize, m: Point, e: usize) -> bool
-    requires { ⌜ EdgeOf (now xyz) (now ends) (now table) k m e ⌝ }
+    requires { ⌜ RowAndEdge (now xyz) (now ends) (now table) k m e ⌝ }
     ensures { λ r. ⌜ r ≡ outsideOf (now (xyz .entry)) (now (ends .entry)) (now (table .entry)) k e ⌝ }
 {
     let a = point_at(xyz, wide(ends[2 * e]));
@@ -46,7 +46,7 @@ fn is_outside(xyz: &[i64], ends: &[u8], table: &[u8], k: usize, m: Point, e: usi
 
 // Asks those of the edges that are not known to be held, in order, up to the first that is outside.
 fn ask(xyz: &[i64], ends: &[u8], table: &[u8], k: usize, m: Point, edges: Set, f: Asked) -> Asked
-    requires { ⌜ Asks (now xyz) (now ends) (now table) k m edges f ⌝ }
+    requires { ⌜ AsksEdges (now xyz) (now ends) (now table) k m edges f ⌝ }
     ensures { λ r. ⌜ AskedOf (now (xyz .entry)) (now (ends .entry)) (now (table .entry)) k edges f r ⌝ }
 {
     let mut held = f.held;
@@ -79,7 +79,7 @@ fn try_edges(
     edges: Set,
     f: Asked,
 ) -> Tried
-    requires { ⌜ Asks (now xyz) (now ends) (now table) k m edges f ⌝ }
+    requires { ⌜ AsksEdges (now xyz) (now ends) (now table) k m edges f ⌝ }
     ensures { λ r. ⌜ TriedOf (now (xyz .entry)) (now (ends .entry)) (now (table .entry)) k edges f r ⌝ }
 {
     let known = f.outside;
@@ -100,7 +100,7 @@ fn try_edges(
 // Loop j is another than k, and its corners are in the plane.
 fn fits(corners: &[u64; MOST_LOOPS], plane: Set, k: usize, j: usize) -> bool
     requires { ⌜ j < mostLoops ⌝ }
-    ensures { λ r. ⌜ Fits (now (corners .entry)) plane k j r ⌝ }
+    ensures { λ r. ⌜ FitsPlane (now (corners .entry)) plane k j r ⌝ }
 {
     if k == j {
         return false;

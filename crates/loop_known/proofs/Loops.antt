@@ -19,9 +19,9 @@ use Rattle.loop_table.proofs.Rows.{rows-held, rows-kept, short-take}
 use Rattle.loop_table.proofs.Words.{words-held, words-kept}
 use Rattle.loop_table.proofs.Loops.{loops-of, vertices-are, edges-are}
 use Rattle.loop_search.specs.Rooms.{Found}
-use Rattle.loop_search.specs.Starts.{Clear}
-use Rattle.loop_words.specs.Drawn.{Drawn, LoopWords}
-use Rattle.loop_known.specs.Known.{DrawnBy, Roomy, LoopsKnown}
+use Rattle.loop_search.specs.Starts.{ClearDrawing}
+use Rattle.loop_words.specs.Drawn.{DrawnTable, LoopWords}
+use Rattle.loop_known.specs.Known.{DrawnBy, RoomyTables, LoopsKnown}
 
 module _ {xyz : List ℤ} {ends near number : List ℕ} (a : DrawnBy xyz ends near number) where
   abbrev d : Wire
@@ -40,11 +40,11 @@ module _ {xyz : List ℤ} {ends near number : List ℕ} (a : DrawnBy xyz ends ne
   few-vertices = omega (arith, a .passed .range .most, vertices)
 
   -- the drawing as the search and the words ask for it
-  pub clear : Clear d xyz v near
+  pub clear : ClearDrawing d xyz v near
   unfolding wire
   clear = record { vertices-are = refl; words-are = a .near-are; places = a .passed .places; meets = a .passed .clear }
 
-  module _ {table₀ planes₀ corners₀ sides₀ table planes : List ℕ} (room : Roomy table₀ planes₀ corners₀ sides₀) {r : ℕ}
+  module _ {table₀ planes₀ corners₀ sides₀ table planes : List ℕ} (room : RoomyTables table₀ planes₀ corners₀ sides₀) {r : ℕ}
       (f : Found d table₀ planes₀ table planes r) where
     -- what the search leaves of the rooms
     abbrev held : List Loop
@@ -80,7 +80,7 @@ module _ {xyz : List ℤ} {ends near number : List ℕ} (a : DrawnBy xyz ends ne
       rows : HoldsRows table (loops d)
       rows = rows-held (loops d) (loops-of d .short) table table₀ (f .table-is ∙ ap (λ (ls : List Loop). rowsAfter ls table₀) all-held)
 
-      pub drawn : Drawn table r number
+      pub drawn : DrawnTable table r number
       unfolding wire
       drawn = record {
         drawing = d;

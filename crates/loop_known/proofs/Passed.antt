@@ -16,7 +16,7 @@ use Rattle.paper_laws.proofs.Checks.{found-none}
 use Rattle.sheet_laws.proofs.Lent.{lent}
 use Rattle.drawing_lists.proofs.Range.{lent-range}
 use Rattle.loop_table.specs.Passed.{Passed}
-use Rattle.loop_words.specs.Numbered.{Rising}
+use Rattle.loop_words.specs.Numbered.{RisingEnds}
 
 module _ (xyz : List ℤ) (ends : List ℕ) where
   -- 10, the last of the checks of lent lists
@@ -50,5 +50,5 @@ module _ (xyz : List ℤ) (ends : List ℕ) where
       }
 
 -- ---- what has passed is what numbers of edges ask for
-pub rising-ends : {xyz : List ℤ} {ends : List ℕ} → Passed xyz ends → Rising ends
+pub rising-ends : {xyz : List ℤ} {ends : List ℕ} → Passed xyz ends → RisingEnds ends
 rising-ends p = record { vertices = p .range .vertices; few = p .range .most; links = p .range .links; order = p .rising }

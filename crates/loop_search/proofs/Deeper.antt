@@ -19,24 +19,24 @@ use Rattle.fast_search.specs.Rows.{eachOf}
 use Rattle.fast_search.specs.Search.{InItsPlane, own, near, inPlane}
 use Rattle.fast_search.proofs.Turns.{path-last, path-more, plane-last, plane-stop, plane-start}
 use Rattle.loop_search.specs.Rooms.{Rooms, Sized, Adds}
-use Rattle.loop_search.specs.Paths.{PathAt, Below, mostVertices, Near, Onward, Ended, InPlane}
+use Rattle.loop_search.specs.Paths.{PathAt, VerticesBelow, mostVertices, NearWords, Onward, Ended, PlaneSearched}
 use Rattle.loop_search.proofs.Filling.{adds-then}
 use Rattle.loop_search.proofs.Kept.{Kept, kept-start, kept-next, kept-end, kept-full}
 
 -- ---- sets of vertices
-pub below-dropped : {x x' : Set} {n v : ℕ} → Below x n → Dropped x v x' → Below x' n
+pub below-dropped : {x x' : Set} {n v : ℕ} → VerticesBelow x n → Dropped x v x' → VerticesBelow x' n
 below-dropped {x} {x'} {n} {v} b d = record {
   digits = less (b .digits) (only v);
   is = d .same (b .digits) (b .is);
   few = omega (arith, length-less (b .digits) (only v), b .few);
 }
 
-pub lowest-below : {x : Set} {n v : ℕ} → Below x n → 0 < size x → Lowest x v → v < n
+pub lowest-below : {x : Set} {n v : ℕ} → VerticesBelow x n → 0 < size x → Lowest x v → v < n
 lowest-below {x} {n} {v} b some low =
     let f = first-lt (b .digits) (λ z. absurd (omega (arith, z, size-is (b .is)))) in
     omega (arith, f, low .same (b .digits) (b .is), b .few)
 
-pub below-both : {x y r : Set} {n : ℕ} (a : List Bool) → Is x a → Below y n → Joint x y r both → Below r n
+pub below-both : {x y r : Set} {n : ℕ} (a : List Bool) → Is x a → VerticesBelow y n → Joint x y r both → VerticesBelow r n
 below-both {x} {y} {r} {n} a i b j = record {
   digits = both a (b .digits);
   is = j a (b .digits) i (b .is);
@@ -56,7 +56,7 @@ module _ (words path : List ℕ) (len : ℕ) {free all r : Set} {v : ℕ} (p : P
 
 -- ---- the path is not gone on with: it is as long as a loop can be; no free vertex closes it
 module _ {words path : List ℕ} {len : ℕ} {free closing plane : Set} {r r' : Rooms} (e : Ended r r' path len closing plane) where
-  pub at-most : mostCorners ≤ len → InPlane words path len free closing plane r r' path
+  pub at-most : mostCorners ≤ len → PlaneSearched words path len free closing plane r r' path
   at-most h = record {
     sized = e .sized;
     path-is = refl;
@@ -66,7 +66,7 @@ module _ {words path : List ℕ} {len : ℕ} {free closing plane : Set} {r r' : 
         (e .adds cl pl j k);
   }
 
-  pub none-closes : {ends : Set} → Joint closing free ends both → size ends ≡ 0 → InPlane words path len free closing plane r r' path
+  pub none-closes : {ends : Set} → Joint closing free ends both → size ends ≡ 0 → PlaneSearched words path len free closing plane r r' path
   none-closes j z = record {
     sized = e .sized;
     path-is = refl;
@@ -85,11 +85,11 @@ module _ (words path : List ℕ) (len : ℕ) (free closing plane : Set) (r₁ : 
   pub record Turning (path' : List ℕ) (r' : Rooms) (left : Set) : Type 0 where
     pub sized : Sized r'
     pub path-is : path' ≡ path
-    pub below : Below left mostVertices
-    pub kept : (d : Wire) → Near d words → (fr cl pl : List Bool) → Is free fr → Is closing cl → Is plane pl
+    pub below : VerticesBelow left mostVertices
+    pub kept : (d : Wire) → NearWords d words → (fr cl pl : List Bool) → Is free fr → Is closing cl → Is plane pl
         → Kept (deeper d fr cl pl) (both (near d (final (take len path))) fr) r₁ r' left
 
-  pub turning-start : {left : Set} → Sized r₁ → Below free mostVertices → Onward words path len free left → Turning path r₁ left
+  pub turning-start : {left : Set} → Sized r₁ → VerticesBelow free mostVertices → Onward words path len free left → Turning path r₁ left
   turning-start {left} s b o = record {
     sized = s;
     path-is = refl;
@@ -101,7 +101,7 @@ module _ (words path : List ℕ) (len : ℕ) (free closing plane : Set) (r₁ : 
   module _ (p : PathAt path len mostVertices) (h : len < mostCorners) where
     pub turning-next : {path' path'' : List ℕ} {r' r'' : Rooms} {left left' rest : Set} {v : ℕ} → Turning path' r' left → 0 < size left
         → Lowest left v → Dropped left v left' → Dropped free v rest
-        → InPlane words (set path' len v) (len + 1) rest closing plane r' r'' path'' → Turning (set path'' len fillByte) r'' left'
+        → PlaneSearched words (set path' len v) (len + 1) rest closing plane r' r'' path'' → Turning (set path'' len fillByte) r'' left'
     turning-next {path'} {path''} {r'} {r''} {left} {left'} {rest} {v} t some low drop drop' s = record {
       sized = s .sized;
       path-is = ap (λ (l : List ℕ). set l len fillByte) (s .path-is ∙ ap (λ (l : List ℕ). set l len v) (t .path-is))
@@ -138,7 +138,7 @@ module _ (words path : List ℕ) (len : ℕ) (free closing plane : Set) (r₁ : 
 
       module _ {path' : List ℕ} {r' : Rooms} {left : Set} (t : Turning path' r' left) where
         turned : ((f : ℕ → List Bool → List InItsPlane) (every : List Bool) → Kept f every r₁ r' left → Adds r₁ r' (eachOf f 0 every))
-            → InPlane words path len free closing plane r r' path'
+            → PlaneSearched words path len free closing plane r r' path'
         turned ends-so = record {
           sized = t .sized;
           path-is = t .path-is;
@@ -149,8 +149,8 @@ module _ (words path : List ℕ) (len : ℕ) (free closing plane : Set) (r₁ : 
               (ends-so (deeper d fr cl pl) every (t .kept d n fr cl pl a b k)));
         }
 
-        pub turning-end : size left ≡ 0 → InPlane words path len free closing plane r r' path'
+        pub turning-end : size left ≡ 0 → PlaneSearched words path len free closing plane r r' path'
         turning-end z = turned (λ f every k. kept-end f every r₁ k z)
 
-        pub turning-full : mostLoops < r' .count → InPlane words path len free closing plane r r' path'
+        pub turning-full : mostLoops < r' .count → PlaneSearched words path len free closing plane r r' path'
         turning-full full = turned (λ f every k. kept-full f every r₁ k full)

@@ -15,7 +15,7 @@ use Rattle.paper_laws.specs.InRange.{Points}
 use Rattle.paper_laws.proofs.Wires.{length-points}
 use Rattle.polygon.specs.Rings.{pointOf}
 use Rattle.polygon.proofs.Drawn.{point-of}
-use Rattle.fast_search.specs.Search.{onPlane, planeMask, turn}
+use Rattle.fast_search.specs.Search.{onPlane, planeMask, acrossLine}
 use Rattle.fast_search.proofs.Turns.{path-at}
 use Rattle.loop_search.specs.Lines.{turnIn, inFixed}
 
@@ -41,19 +41,19 @@ module _ {xyz : List ℤ} {v : ℕ} (p : Points xyz v) (d : Wire) (e : d .vertic
 
   -- the path has two vertices or more
   module _ (path : List ℕ) (len : ℕ) (two : 2 ≤ len) (w : ℕ) where
-    pub turn-is : turnIn xyz path w ≡ turn d (take len path) w
-    unfolding turn
+    pub turn-is : turnIn xyz path w ≡ acrossLine d (take len path) w
+    unfolding acrossLine
     turn-is =
         let first : getD path 0 0 ≡ getD (take len path) 0 0 = sym (path-at path len 0 (omega arith)) in
         let second : getD path 1 0 ≡ getD (take len path) 1 0 = sym (path-at path len 1 (omega arith)) in
         (λ i. cross (minus (point-at-is (second i) i) (point-at-is (first i) i)) (minus (point-at-is w i) (point-at-is (first i) i)))
 
-    pub in-fixed : inFixed xyz path w ≡ onPlane d (at d (getD (take len path) 0 0)) (turn d (take len path) w)
+    pub in-fixed : inFixed xyz path w ≡ onPlane d (at d (getD (take len path) 0 0)) (acrossLine d (take len path) w)
     unfolding onPlane
     in-fixed =
         let first : getD path 0 0 ≡ getD (take len path) 0 0 = sym (path-at path len 0 (omega arith)) in
         λ i u. isZero (dot (turn-is i) (minus (point-at-is u i) (point-at-is (first i) i)))
 
-    pub fixed-mask : map (inFixed xyz path w) (upto v) ≡ planeMask d (at d (getD (take len path) 0 0)) (turn d (take len path) w)
+    pub fixed-mask : map (inFixed xyz path w) (upto v) ≡ planeMask d (at d (getD (take len path) 0 0)) (acrossLine d (take len path) w)
     unfolding planeMask
     fixed-mask = λ i. map (in-fixed i) (upto (sym vertices-length i))

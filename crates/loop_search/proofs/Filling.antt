@@ -13,15 +13,15 @@ use Rattle.paper.specs.Numbers.{mostCorners, mostLoops, rowBytes}
 use Rattle.paper.specs.Loops.{row}
 use Rattle.paper_laws.proofs.Rows.{row-length}
 use Rattle.fast_search.specs.Search.{InItsPlane}
-use Rattle.loop_search.specs.Rooms.{Rooms, Sized, loopRow, planeWord, nowhere, Short, Holds, Adds}
+use Rattle.loop_search.specs.Rooms.{Rooms, Sized, loopRow, planeWord, nowhere, Short, HoldsLoops, Adds}
 
 -- ---- composing
 
 pub adds-none : {r : Rooms} → Adds r r []
-adds-none {r} r₀ z ls h = subst (Holds r₀ r) (sym (append-nil ls)) h
+adds-none {r} r₀ z ls h = subst (HoldsLoops r₀ r) (sym (append-nil ls)) h
 
 pub adds-then : {r r' r'' : Rooms} (a b : List InItsPlane) → Adds r r' a → Adds r' r'' b → Adds r r'' (a ++ b)
-adds-then {r} {r'} {r''} a b f g r₀ z ls h = subst (Holds r₀ r'') (append-assoc ls a b) (g r₀ z (ls ++ a) (f r₀ z ls h))
+adds-then {r} {r'} {r''} a b f g r₀ z ls h = subst (HoldsLoops r₀ r'') (append-assoc ls a b) (g r₀ z (ls ++ a) (f r₀ z ls h))
 
 -- ---- more are short, too
 short-more : (ls : List InItsPlane) (x : InItsPlane) → Short ls → length (x .loop) ≤ mostCorners → Short (ls ++ x ∷ [])

@@ -18,9 +18,9 @@ use Rattle.fast_search.specs.Search.{InItsPlane, near, higher}
 use Rattle.fast_search.specs.Bare.{bareLine, bareSeconds}
 use Rattle.fast_search.proofs.Turns.{bare-seconds-start}
 use Rattle.loop_search.specs.Rooms.{Rooms, Sized, Adds}
-use Rattle.loop_search.specs.Paths.{PathAt, Below}
-use Rattle.loop_search.specs.Lines.{Drawn, OnLineAt, OnLine}
-use Rattle.loop_search.specs.Starts.{blank, StartAt, Started}
+use Rattle.loop_search.specs.Paths.{PathAt, VerticesBelow}
+use Rattle.loop_search.specs.Lines.{DrawnWith, OnLineAt, OnLine}
+use Rattle.loop_search.specs.Starts.{noPath, StartAt, Started}
 use Rattle.loop_search.proofs.Kept.{Kept, kept-start, kept-next, kept-end}
 use Rattle.loop_search.proofs.Deeper.{below-both, below-dropped, lowest-below}
 use Rattle.loop_search.proofs.Drawn.{vertices-length}
@@ -38,8 +38,8 @@ pub record Starting (xyz : List ℤ) (words : List ℕ) (v s : ℕ) (begun : Lis
     : Type 0 where
   pub sized : Sized r'
   pub path-is : path ≡ begun
-  pub below : Below later v
-  pub kept : (d : Wire) → Drawn d xyz words → Kept (seconds s d) (every s d) r r' later
+  pub below : VerticesBelow later v
+  pub kept : (d : Wire) → DrawnWith d xyz words → Kept (seconds s d) (every s d) r r' later
 
 module _ {xyz : List ℤ} (words : List ℕ) {v s : ℕ} {path : List ℕ} {r : Rooms} (g : StartAt r xyz v path s) where
   -- ---- the path with its first vertex
@@ -66,7 +66,7 @@ module _ {xyz : List ℤ} (words : List ℕ) {v s : ℕ} {path : List ℕ} {r : 
 
   -- ---- the higher vertices
   module _ {all low up : Set} (all-is : Is all (replicate v true)) (low-is : Is low (replicate (s + 1) true)) (m : Minus all low up) where
-    up-is : (d : Wire) → Drawn d xyz words → Is up (higher d s)
+    up-is : (d : Wire) → DrawnWith d xyz words → Is up (higher d s)
     unfolding higher
     up-is d n =
         let e : v ≡ length (d .vertices) = sym (vertices-length (g .points) d (n .vertices-are)) in
@@ -74,7 +74,7 @@ module _ {xyz : List ℤ} (words : List ℕ) {v s : ℕ} {path : List ℕ} {r : 
         subst (Is up) (λ i. less (replicate (e i) true) (replicate (z i) true))
         (m .same (replicate v true) (replicate (s + 1) true) all-is low-is)
 
-    up-below : Below up v
+    up-below : VerticesBelow up v
     up-below = record {
       digits = less (replicate v true) (replicate (s + 1) true);
       is = m .same (replicate v true) (replicate (s + 1) true) all-is low-is;

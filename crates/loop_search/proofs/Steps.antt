@@ -16,14 +16,14 @@ use Rattle.paper.specs.Numbers.{mostCorners}
 use Rattle.paper.specs.Points.{isOrigin}
 use Rattle.paper.specs.Drawing.{Wire, at}
 use Rattle.fast_search.specs.Rows.{someOf}
-use Rattle.fast_search.specs.Search.{InItsPlane, turn, onPlane, planeMask, inPlane, step}
+use Rattle.fast_search.specs.Search.{InItsPlane, acrossLine, onPlane, planeMask, inPlane, lineStep}
 use Rattle.fast_search.specs.Bare.{bareLine}
 use Rattle.fast_search.proofs.Turns.{turn-line, turn-none, turn-plane}
 use Rattle.loop_search.specs.declared.planes.Turn.{Turn}
 use Rattle.loop_search.specs.declared.planes.Turn.the-variants as Turn
 use Rattle.loop_search.specs.Rooms.{Rooms, Sized, Adds}
-use Rattle.loop_search.specs.Paths.{Below, mostVertices, InPlane}
-use Rattle.loop_search.specs.Lines.{turnIn, inFixed, Turns, TurnAt, StepAt, Drawn, OnLine, Stepped}
+use Rattle.loop_search.specs.Paths.{VerticesBelow, mostVertices, PlaneSearched}
+use Rattle.loop_search.specs.Lines.{turnIn, inFixed, TurnIs, TurnAt, StepAt, DrawnWith, OnLine, Stepped}
 use Rattle.loop_search.proofs.Filling.{adds-none}
 use Rattle.loop_search.proofs.Deeper.{below-dropped, below-both}
 use Rattle.loop_search.proofs.Drawn.{turn-is, in-fixed, fixed-mask}
@@ -54,8 +54,8 @@ module _ {xyz : List ℤ} {v : ℕ} (words : List ℕ) {path : List ℕ} {len : 
   }
 
   -- what `in_plane` asks for, of the free vertices
-  pub plane-below : {plane less-w free' : Set} (ends : List Bool) → Turns xyz v path w ends (Turn.Plane plane) → Dropped free w less-w
-      → Joint less-w plane free' both → Below free' mostVertices
+  pub plane-below : {plane less-w free' : Set} (ends : List Bool) → TurnIs xyz v path w ends (Turn.Plane plane) → Dropped free w less-w
+      → Joint less-w plane free' both → VerticesBelow free' mostVertices
   plane-below {plane} ends t d j =
       let mask = map (inFixed xyz path w) (upto v) in
       let rest-below = below-dropped (g .free-below) d in
@@ -63,26 +63,26 @@ module _ {xyz : List ℤ} {v : ℕ} (words : List ℕ) {path : List ℕ} {len : 
       below-both (rest-below .digits) (rest-below .is) (record { digits = mask; is = t .2; few = few }) j
 
   -- what the turn says of the drawing
-  module _ (d : Wire) (n : Drawn d xyz words) where
+  module _ (d : Wire) (n : DrawnWith d xyz words) where
     abbrev line : List Bool → List ℕ → List Bool → List InItsPlane
     line cl q f = bareLine d rest q f cl
 
     -- the step is by way of w
-    by-way : (r' : Rooms) (fr cl : List Bool) → Adds r r' (step d (line cl) rest p fr cl w)
-        → Adds r r' (step d (line cl) rest p fr cl (getD path len 0))
-    by-way r' fr cl f = subst (λ (u : ℕ). Adds r r' (step d (line cl) rest p fr cl u)) at-w f
+    by-way : (r' : Rooms) (fr cl : List Bool) → Adds r r' (lineStep d (line cl) rest p fr cl w)
+        → Adds r r' (lineStep d (line cl) rest p fr cl (getD path len 0))
+    by-way r' fr cl f = subst (λ (u : ℕ). Adds r r' (lineStep d (line cl) rest p fr cl u)) at-w f
 
-    origin-is : {b : Bool} → isOrigin (turnIn xyz path w) ≡ b → isOrigin (turn d p w) ≡ b
+    origin-is : {b : Bool} → isOrigin (turnIn xyz path w) ≡ b → isOrigin (acrossLine d p w) ≡ b
     origin-is e = ap isOrigin (sym (turn-is (g .points) d (n .vertices-are) path len (g .two) w)) ∙ e
 
-    some-is : {b : Bool} (a : List Bool) → someOf (inFixed xyz path w) 0 a ≡ b → someOf (onPlane d (at d (getD p 0 0)) (turn d p w)) 0 a ≡ b
+    some-is : {b : Bool} (a : List Bool) → someOf (inFixed xyz path w) 0 a ≡ b → someOf (onPlane d (at d (getD p 0 0)) (acrossLine d p w)) 0 a ≡ b
     some-is a e = ap (λ (t : ℕ → Bool). someOf t 0 a) (sym (in-fixed (g .points) d (n .vertices-are) path len (g .two) w)) ∙ e
 
-    mask-is : {plane : Set} → Is plane (map (inFixed xyz path w) (upto v)) → Is plane (planeMask d (at d (getD p 0 0)) (turn d p w))
+    mask-is : {plane : Set} → Is plane (map (inFixed xyz path w) (upto v)) → Is plane (planeMask d (at d (getD p 0 0)) (acrossLine d p w))
     mask-is {plane} i = subst (Is plane) (fixed-mask (g .points) d (n .vertices-are) path len (g .two) w) i
 
   module _ {ends : Set} (ends-are : Joint closing free ends both) where
-    pub stepped-dead : ((a : List Bool) → Is ends a → Turns xyz v path w a Turn.Dead) → Stepped xyz words path len free closing r r path
+    pub stepped-dead : ((a : List Bool) → Is ends a → TurnIs xyz v path w a Turn.Dead) → Stepped xyz words path len free closing r r path
     stepped-dead t = record {
       sized = g .sized;
       path-is = refl;
@@ -93,7 +93,7 @@ module _ {xyz : List ℤ} {v : ℕ} (words : List ℕ) {path : List ℕ} {len : 
     }
 
     module _ {less-w : Set} (dropped : Dropped free w less-w) {r' : Rooms} {path' : List ℕ} where
-      pub stepped-line : ((a : List Bool) → Is ends a → Turns xyz v path w a Turn.Line)
+      pub stepped-line : ((a : List Bool) → Is ends a → TurnIs xyz v path w a Turn.Line)
           → OnLine xyz words path (len + 1) less-w closing r r' path' → Stepped xyz words path len free closing r r' path'
       stepped-line t s = record {
         sized = s .sized;
@@ -105,15 +105,15 @@ module _ {xyz : List ℤ} {v : ℕ} (words : List ℕ) {path : List ℕ} {len : 
             (s .adds d n (less fr (only w)) cl (dropped .same fr i) j));
       }
 
-      pub stepped-plane : {plane free' : Set} → ((a : List Bool) → Is ends a → Turns xyz v path w a (Turn.Plane plane))
-          → Joint less-w plane free' both → InPlane words path (len + 1) free' closing plane r r' path'
+      pub stepped-plane : {plane free' : Set} → ((a : List Bool) → Is ends a → TurnIs xyz v path w a (Turn.Plane plane))
+          → Joint less-w plane free' both → PlaneSearched words path (len + 1) free' closing plane r r' path'
           → Stepped xyz words path len free closing r r' path'
       stepped-plane {plane} {free'} t k s = record {
         sized = s .sized;
         path-is = s .path-is;
         adds = λ d n fr cl i j.
             let u = t (both cl fr) (ends-are cl fr j i) in
-            let m = planeMask d (at d (getD p 0 0)) (turn d p w) in
+            let m = planeMask d (at d (getD p 0 0)) (acrossLine d p w) in
             let a : Is plane m = mask-is d n (u .2) in
             by-way d n r' fr cl (subst (Adds r r')
             (ap (λ (q : List ℕ). inPlane d rest q (both (less fr (only w)) m) cl m) (sym longer)

@@ -16,12 +16,12 @@ use Rattle.paper.specs.Numbers.{mostCorners, mostLoops, fillByte}
 use Rattle.paper.specs.Drawing.{Wire}
 use Rattle.paper.specs.Loops.{final}
 use Rattle.fast_search.specs.Rows.{eachOf}
-use Rattle.fast_search.specs.Search.{InItsPlane, near, step}
+use Rattle.fast_search.specs.Search.{InItsPlane, near, lineStep}
 use Rattle.fast_search.specs.Bare.{bareLine}
 use Rattle.fast_search.proofs.Turns.{bare-last, bareTurns, bare-stop, bare-start}
 use Rattle.loop_search.specs.Rooms.{Rooms, Sized, Adds}
-use Rattle.loop_search.specs.Paths.{PathAt, Below, Onward}
-use Rattle.loop_search.specs.Lines.{Drawn, OnLine, Stepped}
+use Rattle.loop_search.specs.Paths.{PathAt, VerticesBelow, Onward}
+use Rattle.loop_search.specs.Lines.{DrawnWith, OnLine, Stepped}
 use Rattle.loop_search.proofs.Filling.{adds-none}
 use Rattle.loop_search.proofs.Kept.{Kept, kept-start, kept-next, kept-end, kept-full}
 use Rattle.loop_search.proofs.Deeper.{below-dropped}
@@ -55,11 +55,11 @@ module _ (xyz : List ℤ) (words path : List ℕ) (len : ℕ) (free closing : Se
   pub record Passing (path' : List ℕ) (r' : Rooms) (left : Set) : Type 0 where
     pub sized : Sized r'
     pub path-is : path' ≡ path
-    pub below : Below left v
-    pub kept : (d : Wire) → Drawn d xyz words → (fr cl : List Bool) → Is free fr → Is closing cl
+    pub below : VerticesBelow left v
+    pub kept : (d : Wire) → DrawnWith d xyz words → (fr cl : List Bool) → Is free fr → Is closing cl
         → Kept (onwards d fr cl) (both (near d (final (take len path))) fr) r r' left
 
-  pub passing-start : {left : Set} → Sized r → Below free v → Onward words path len free left → Passing path r left
+  pub passing-start : {left : Set} → Sized r → VerticesBelow free v → Onward words path len free left → Passing path r left
   passing-start {left} s b o = record {
     sized = s;
     path-is = refl;
@@ -70,14 +70,14 @@ module _ (xyz : List ℤ) (words path : List ℕ) (len : ℕ) (free closing : Se
 
   module _ (p : PathAt path len v) (h : len < mostCorners) where
     step-is : (d : Wire) (fr cl : List Bool) (path' : List ℕ) (w : ℕ) → path' ≡ path
-        → step d (λ q f. bareLine d (mostCorners - (len + 1)) q f cl) (mostCorners - (len + 1)) (take len (set path' len w)) fr cl
+        → lineStep d (λ q f. bareLine d (mostCorners - (len + 1)) q f cl) (mostCorners - (len + 1)) (take len (set path' len w)) fr cl
         (getD (set path' len w) len 0)
         ≡ onwards d fr cl w []
     step-is d fr cl path' w e =
         let z : mostCorners - (len + 1) ≡ mostCorners - suc len = omega arith in
         let q : take len (set path' len w) ≡ take len path = take-set-le len path' len w (omega arith) ∙ ap (take len) e in
         let u : getD (set path' len w) len 0 ≡ w = getD-set-same path' len w 0 (omega (arith, ap length e, p .long)) in
-        λ i. step d (λ q f. bareLine d (z i) q f cl) (z i) (q i) fr cl (u i)
+        λ i. lineStep d (λ q f. bareLine d (z i) q f cl) (z i) (q i) fr cl (u i)
 
     pub passing-next : {path' path'' : List ℕ} {r' r'' : Rooms} {left left' : Set} {w : ℕ} → Passing path' r' left → 0 < size left
         → Lowest left w → Dropped left w left' → Stepped xyz words (set path' len w) len free closing r' r'' path''

@@ -22,22 +22,22 @@ use Rattle.fast_search.specs.Bare.{bareSeconds, bareStarts, bareSearch}
 use Rattle.fast_search.proofs.Bare.{bare-is}
 use Rattle.fast_search.proofs.Turns.{bare-starts-next, bare-starts-end}
 use Rattle.loop_table.specs.Tables.{maskWord, rowsAfter, wordsAfter}
-use Rattle.loop_search.specs.Rooms.{Rooms, rooms, Sized, loopRow, planeWord, Holds, Adds, Found}
-use Rattle.loop_search.specs.Paths.{mostVertices, Near}
-use Rattle.loop_search.specs.Lines.{Drawn}
-use Rattle.loop_search.specs.Starts.{blank, Started, SearchAt, Clear}
+use Rattle.loop_search.specs.Rooms.{Rooms, rooms, Sized, loopRow, planeWord, HoldsLoops, Adds, Found}
+use Rattle.loop_search.specs.Paths.{mostVertices, NearWords}
+use Rattle.loop_search.specs.Lines.{DrawnWith}
+use Rattle.loop_search.specs.Starts.{noPath, Started, SearchAt, ClearDrawing}
 use Rattle.loop_search.proofs.Filling.{adds-none, adds-then}
 use Rattle.loop_search.proofs.Drawn.{vertices-length}
 
 -- ---- what the loop keeps: the rest of the starts makes what was met the whole
 pub record Searching (xyz : List ℤ) (words : List ℕ) (v : ℕ) (r₀ : Rooms) (path : List ℕ) (r : Rooms) (s : ℕ) : Type 0 where
   pub sized : Sized r
-  pub empty : path ≡ blank
+  pub empty : path ≡ noPath
   pub reached : s ≤ v
-  pub met : (d : Wire) → Drawn d xyz words
+  pub met : (d : Wire) → DrawnWith d xyz words
       → (ls : List InItsPlane) × Adds r₀ r ls × (ls ++ bareStarts d s (length (d .vertices) - s) ≡ bareSearch d)
 
-pub searching-start : (xyz : List ℤ) (words : List ℕ) (v : ℕ) (r₀ : Rooms) → Sized r₀ → Searching xyz words v r₀ blank r₀ 0
+pub searching-start : (xyz : List ℤ) (words : List ℕ) (v : ℕ) (r₀ : Rooms) → Sized r₀ → Searching xyz words v r₀ noPath r₀ 0
 unfolding bareSearch
 searching-start xyz words v r₀ z = record {
   sized = z;
@@ -65,7 +65,7 @@ module _ {xyz : List ℤ} {words : List ℕ} {v : ℕ} (points : Points xyz v) {
   }
 
 -- ---- the words of neighbours
-pub near-is : (d : Wire) (v : ℕ) → length (d .vertices) ≡ v → v ≤ mostVertices → Near d (neighbourWords (d .edges) v)
+pub near-is : (d : Wire) (v : ℕ) → length (d .vertices) ≡ v → v ≤ mostVertices → NearWords d (neighbourWords (d .edges) v)
 unfolding neighbourWords neighbourWord near joined packedSet
 near-is d v n few u h =
     record {
@@ -96,7 +96,7 @@ module _ {A B : Type 0} (g : A → B) where
 
 -- ---- all starts are gone through
 
-holds-none : (table planes : List ℕ) → Holds (rooms table planes 0) (rooms table planes 0) []
+holds-none : (table planes : List ℕ) → HoldsLoops (rooms table planes 0) (rooms table planes 0) []
 unfolding flatMap
 holds-none table planes = record {
   short = λ i h m. absurd (omega arith);
@@ -107,18 +107,18 @@ holds-none table planes = record {
 
 pub searching-end : {xyz : List ℤ} {v : ℕ} {table planes : List ℕ} (g : SearchAt xyz v table planes) (words : List ℕ) {r : Rooms}
     {path : List ℕ} {s : ℕ} → Searching xyz words v (rooms table planes 0) path r s → v ≤ s
-    → (d : Wire) → Clear d xyz v words → Found d table planes (r .table) (r .planes) (r .count)
+    → (d : Wire) → ClearDrawing d xyz v words → Found d table planes (r .table) (r .planes) (r .count)
 searching-end {xyz} {v} {table} {planes} g words {r} {path} {s} k h d c =
     let n : length (d .vertices) ≡ v = vertices-length (g .points) d (c .vertices-are) in
-    let drawn : Drawn d xyz words = record {
+    let drawn : DrawnWith d xyz words = record {
       vertices-are = c .vertices-are;
-      near-are = subst (Near d) (sym (c .words-are)) (near-is d v n (g .few));
+      near-are = subst (NearWords d) (sym (c .words-are)) (near-is d v n (g .few));
     } in
     let m = k .met d drawn in
     let all : m .0 ≡ map (inItsPlane d) (loops d)
     = bare-starts-end d s (m .0) (bareSearch d) (omega arith) (m .2) ∙ bare-is d (c .places) (c .meets) in
-    let held : Holds (rooms table planes 0) r (map (inItsPlane d) (loops d))
-    = subst (Holds (rooms table planes 0) r) all (m .1 (rooms table planes 0) (g .sized) [] (holds-none table planes)) in
+    let held : HoldsLoops (rooms table planes 0) r (map (inItsPlane d) (loops d))
+    = subst (HoldsLoops (rooms table planes 0) r) all (m .1 (rooms table planes 0) (g .sized) [] (holds-none table planes)) in
     record {
       table-is = held .table-is ∙ after-map (inItsPlane d) loopRow rowBytes mostLoops (loops d) table;
       planes-is = held .planes-is ∙ after-map (inItsPlane d) planeWord 1 mostLoops (loops d) planes;

@@ -23,7 +23,7 @@ pub record PathAt (path : List ℕ) (len n : ℕ) : Type 0 where
   pub fill : (i : ℕ) → len ≤ i → i < mostCorners → getD path i 0 ≡ fillByte
 
 -- x stands for vertices below n
-pub record Below (x : Set) (n : ℕ) : Type 0 where
+pub record VerticesBelow (x : Set) (n : ℕ) : Type 0 where
   pub digits : List Bool
   pub is : Is x digits
   pub few : length digits ≤ n
@@ -32,8 +32,8 @@ abbrev pub mostVertices : ℕ
 mostVertices = editionOne .«most_vertices»
 
 -- the words of neighbours
-abbrev pub Near : Wire → List ℕ → Type 0
-Near d words = (u : ℕ) → u < mostVertices → Is (maskAt words u) (near d u)
+abbrev pub NearWords : Wire → List ℕ → Type 0
+NearWords d words = (u : ℕ) → u < mostVertices → Is (maskAt words u) (near d u)
 
 -- ---- rows
 
@@ -62,18 +62,18 @@ pub record Ended (r r' : Rooms) (path : List ℕ) (len : ℕ) (closing plane : S
 
 -- the free neighbours of the path's last vertex
 pub record Onward (words path : List ℕ) (len : ℕ) (free r : Set) : Type 0 where
-  pub below : (n : ℕ) → Below free n → Below r n
-  pub same : (d : Wire) → Near d words → (fr : List Bool) → Is free fr → Is r (both (near d (final (take len path))) fr)
+  pub below : (n : ℕ) → VerticesBelow free n → VerticesBelow r n
+  pub same : (d : Wire) → NearWords d words → (fr : List Bool) → Is free fr → Is r (both (near d (final (take len path))) fr)
 
 -- the rooms, a path, and the vertices that it may still use
-pub record Going (r : Rooms) (path : List ℕ) (len : ℕ) (free : Set) : Type 0 where
+pub record OnPath (r : Rooms) (path : List ℕ) (len : ℕ) (free : Set) : Type 0 where
   pub sized : Sized r
   pub path-at : PathAt path len mostVertices
-  pub free-below : Below free mostVertices
+  pub free-below : VerticesBelow free mostVertices
 
 -- all loops that begin with the path, whose plane is fixed, were taken in, and the path is as it was
-pub record InPlane (words path : List ℕ) (len : ℕ) (free closing plane : Set) (r r' : Rooms) (path' : List ℕ) : Type 0 where
+pub record PlaneSearched (words path : List ℕ) (len : ℕ) (free closing plane : Set) (r r' : Rooms) (path' : List ℕ) : Type 0 where
   pub sized : Sized r'
   pub path-is : path' ≡ path
-  pub adds : (d : Wire) → Near d words → (fr cl pl : List Bool) → Is free fr → Is closing cl → Is plane pl
+  pub adds : (d : Wire) → NearWords d words → (fr cl pl : List Bool) → Is free fr → Is closing cl → Is plane pl
       → Adds r r' (inPlane d (mostCorners - len) (take len path) fr cl pl)

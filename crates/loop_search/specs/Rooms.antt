@@ -40,7 +40,7 @@ abbrev pub Short : List InItsPlane → Type 0
 Short ls = (i : ℕ) → i < length ls → i < mostLoops → length (getD ls i nowhere .loop) ≤ mostCorners
 
 -- r₀ has become r once the loops ls were met, the first 128 of which are held
-pub record Holds (r₀ r : Rooms) (ls : List InItsPlane) : Type 0 where
+pub record HoldsLoops (r₀ r : Rooms) (ls : List InItsPlane) : Type 0 where
   pub short : Short ls
   pub table-is : r .table ≡ after loopRow rowBytes (take mostLoops ls) (r₀ .table)
   pub planes-is : r .planes ≡ after planeWord 1 (take mostLoops ls) (r₀ .planes)
@@ -48,7 +48,7 @@ pub record Holds (r₀ r : Rooms) (ls : List InItsPlane) : Type 0 where
 
 -- r has become r' once further loops were met
 abbrev pub Adds : Rooms → Rooms → List InItsPlane → Type 0
-Adds r r' more = (r₀ : Rooms) → Sized r₀ → (ls : List InItsPlane) → Holds r₀ r ls → Holds r₀ r' (ls ++ more)
+Adds r r' more = (r₀ : Rooms) → Sized r₀ → (ls : List InItsPlane) → HoldsLoops r₀ r ls → HoldsLoops r₀ r' (ls ++ more)
 
 -- all the loops of a drawing, cut as documented: the rooms at exit
 pub record Found (d : Wire) (table planes table' planes' : List ℕ) (count : ℕ) : Type 0 where

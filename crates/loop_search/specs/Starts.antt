@@ -12,25 +12,25 @@ use Rattle.drawing_links.specs.Neighbours.{neighbourWords}
 use Rattle.fast_search.specs.Bare.{bareSeconds}
 use Rattle.loop_search.specs.Rooms.{Rooms, rooms, Sized, Adds}
 use Rattle.loop_search.specs.Paths.{mostVertices}
-use Rattle.loop_search.specs.Lines.{Drawn}
+use Rattle.loop_search.specs.Lines.{DrawnWith}
 
 -- a path before its first vertex
-abbrev pub blank : List ℕ
-blank = replicate mostCorners fillByte
+abbrev pub noPath : List ℕ
+noPath = replicate mostCorners fillByte
 
 -- the rooms, an empty path, and the vertex that it is to start at
 pub record StartAt (r : Rooms) (xyz : List ℤ) (v : ℕ) (path : List ℕ) (s : ℕ) : Type 0 where
   pub sized : Sized r
   pub points : Points xyz v
   pub few : v ≤ mostVertices
-  pub empty : path ≡ blank
+  pub empty : path ≡ noPath
   pub s-in : s < v
 
 -- all loops that start at s were taken in
 pub record Started (xyz : List ℤ) (words : List ℕ) (s : ℕ) (r r' : Rooms) (path path' : List ℕ) : Type 0 where
   pub sized : Sized r'
   pub path-is : path' ≡ path
-  pub adds : (d : Wire) → Drawn d xyz words → Adds r r' (bareSeconds d s)
+  pub adds : (d : Wire) → DrawnWith d xyz words → Adds r r' (bareSeconds d s)
 
 -- ---- the whole search
 
@@ -41,7 +41,7 @@ pub record SearchAt (xyz : List ℤ) (v : ℕ) (table planes : List ℕ) : Type 
   pub sized : Sized (rooms table planes 0)
 
 -- the drawing that the lists are of; no two vertices are at one point, and no edge meets a vertex or an edge
-pub record Clear (d : Wire) (xyz : List ℤ) (v : ℕ) (words : List ℕ) : Type 0 where
+pub record ClearDrawing (d : Wire) (xyz : List ℤ) (v : ℕ) (words : List ℕ) : Type 0 where
   pub vertices-are : d .vertices ≡ pointsOf xyz
   pub words-are : words ≡ neighbourWords (d .edges) v
   pub places : samePlace d ≡ none

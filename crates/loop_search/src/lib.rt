@@ -9,7 +9,7 @@ mod rooms;
 ghost use mathlib.Core.Path.{_≡_};
 ghost use Rattle.paper.specs.Drawing.{Wire};
 ghost use Rattle.loop_search.specs.Rooms.{rooms, Found};
-ghost use Rattle.loop_search.specs.Starts.{StartAt, Started, SearchAt, Clear};
+ghost use Rattle.loop_search.specs.Starts.{StartAt, Started, SearchAt, ClearDrawing};
 use lines::on_line;
 use paper::FILL;
 use paper::LOOP_ROOM;
@@ -69,7 +69,7 @@ pub fn search(
     planes: &mut [u64; MOST_LOOPS],
 ) -> usize
     requires { ⌜ SearchAt (now xyz) v (now table) (now planes) ⌝ }
-    ensures { λ r. ⌜ ((d : Wire) → Clear d (now (xyz .entry)) v (now (near .entry))
+    ensures { λ r. ⌜ ((d : Wire) → ClearDrawing d (now (xyz .entry)) v (now (near .entry))
         → Found d (now (table .entry)) (now (planes .entry)) (now (table .exit)) (now (planes .exit)) r) ⌝ }
 {
     let mut path = [FILL; MOST_CORNERS];

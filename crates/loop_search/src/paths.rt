@@ -1,7 +1,7 @@
 // Paths whose plane is fixed: the search goes deeper only through free neighbours in the plane, and only as far as one of the free
 // vertices can close the path. Assumes a path of vertices that there are, followed by fill.
 ghost use Rattle.loop_search.specs.Rooms.{rooms};
-ghost use Rattle.loop_search.specs.Paths.{PathAt, mostVertices, Onward, Going, InPlane};
+ghost use Rattle.loop_search.specs.Paths.{PathAt, mostVertices, Onward, OnPath, PlaneSearched};
 use super::rooms::take_if_closed;
 use lists::wide;
 use paper::FILL;
@@ -33,8 +33,8 @@ pub fn in_plane(
     planes: &mut [u64; MOST_LOOPS],
     count: usize,
 ) -> usize
-    requires { ⌜ Going (rooms (now table) (now planes) count) (now path) len free ⌝ }
-    ensures { λ r. ⌜ InPlane (now (near .entry)) (now (path .entry)) len free closing plane
+    requires { ⌜ OnPath (rooms (now table) (now planes) count) (now path) len free ⌝ }
+    ensures { λ r. ⌜ PlaneSearched (now (near .entry)) (now (path .entry)) len free closing plane
         (rooms (now (table .entry)) (now (planes .entry)) count) (rooms (now (table .exit)) (now (planes .exit)) r) (now (path .exit)) ⌝ }
 {
     let mut c = take_if_closed(table, planes, count, path, len, closing, plane);

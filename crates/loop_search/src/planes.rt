@@ -5,7 +5,7 @@ ghost use mathlib.Core.Path.{_≡_};
 ghost use Rattle.lists.specs.Lists.{upto};
 ghost use Rattle.sets.specs.Sets.{Is};
 ghost use Rattle.fast_search.specs.Rows.{someOf};
-ghost use Rattle.loop_search.specs.Lines.{levelIn, PlaneIn, PlaneAndSet, TurnAt, Turns};
+ghost use Rattle.loop_search.specs.Lines.{levelIn, PlaneIn, PlaneAndSet, TurnAt, TurnIs};
 use lists::wide;
 use paper::MOST_CORNERS;
 use paper::Point;
@@ -60,7 +60,7 @@ fn plane_of(xyz: &[i64], v: usize, s: Point, m: Point) -> Set
 // What w makes of the path. `ends` are the free vertices where a loop may end.
 pub fn turned(xyz: &[i64], v: usize, path: &[u8; MOST_CORNERS], w: usize, ends: Set) -> Turn
     requires { ⌜ TurnAt (now xyz) v (now path) w ends ⌝ }
-    ensures { λ r. ⌜ ((a : List Bool) → Is ends a → Turns (now (xyz .entry)) v (now (path .entry)) w a r) ⌝ }
+    ensures { λ r. ⌜ ((a : List Bool) → Is ends a → TurnIs (now (xyz .entry)) v (now (path .entry)) w a r) ⌝ }
 {
     let s = point_at(xyz, wide(path[0]));
     let way = minus(point_at(xyz, wide(path[1])), s);

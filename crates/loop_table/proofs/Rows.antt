@@ -9,7 +9,7 @@ use Rattle.lists.proofs.After.{after-long, after-more, after-again, after-at}
 use Rattle.paper.specs.Numbers.{mostCorners, rowBytes}
 use Rattle.paper.specs.Loops.{Loop, loopAt, row}
 use Rattle.paper_laws.proofs.Rows.{Short, rows-wide, rows-long, row-first, row-corner, row-length}
-use Rattle.polygon.specs.Rings.{countIn, vertexIn, loopIn}
+use Rattle.polygon.specs.Rings.{cornerCount, vertexIn, loopIn}
 use Rattle.loop_table.specs.Tables.{rowsAfter, HoldsRows}
 
 -- ---- one loop more is short too
@@ -61,7 +61,7 @@ module _ (table : List ℕ) (ls : List Loop) (held : HoldsRows table ls) (short 
         ap (λ (t : List ℕ). getD t (rowBytes * k + j) 0) held
         ∙ after-at row rowBytes [] ls (rows-wide ls short) table k j 0 h m (omega arith)
 
-    pub count-is : countIn table k ≡ length (loopAt ls k)
+    pub count-is : cornerCount table k ≡ length (loopAt ls k)
     count-is =
         let e : rowBytes * k ≡ rowBytes * k + 0 = omega arith in
         ap (λ (i : ℕ). getD table i 0) e ∙ cell-is 0 (omega arith) ∙ row-first (loopAt ls k)
@@ -76,13 +76,13 @@ module _ (table : List ℕ) (ls : List Loop) (held : HoldsRows table ls) (short 
     loop-is =
         let l = loopAt ls k in
         let rest = drop (rowBytes * k + 1) table in
-        let long : length (take (countIn table k) rest) ≡ length l
-        = length-take-le (countIn table k) rest
+        let long : length (take (cornerCount table k) rest) ≡ length l
+        = length-take-le (cornerCount table k) rest
         (omega (arith, count-is, short k h, rows-room, length-drop (rowBytes * k + 1) table)) ∙ count-is in
-        ext-getD 0 (take (countIn table k) rest) l long
+        ext-getD 0 (take (cornerCount table k) rest) l long
         (λ i m.
         let n : i < length l = omega (arith, long) in
-        getD-take (countIn table k) rest i 0 (omega (arith, count-is)) ∙ getD-drop (rowBytes * k + 1) table i 0 ∙ vertex-is i n)
+        getD-take (cornerCount table k) rest i 0 (omega (arith, count-is)) ∙ getD-drop (rowBytes * k + 1) table i 0 ∙ vertex-is i n)
 
     -- the bytes of the row
     pub bytes-are : take rowBytes (drop (rowBytes * k) table) ≡ row (loopAt ls k)

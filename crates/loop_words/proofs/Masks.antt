@@ -23,7 +23,7 @@ use Rattle.fast_tables.specs.Paths.{Path}
 use Rattle.fast_tables.specs.Hits.{cornerMask, sideMask}
 use Rattle.fast_tables.proofs.Rounds.{member-yes, member-is, runs-yes, runs-is, has-cases, has-up, has-down, joins-cases}
 use Rattle.fast_tables.proofs.Counts.{map-yes}
-use Rattle.loop_words.specs.Numbered.{pairAt, Numbered}
+use Rattle.loop_words.specs.Numbered.{pairAt, EdgesNumbered}
 
 -- the place before j in a ring of n
 abbrev pub prior : ℕ → ℕ → ℕ
@@ -80,7 +80,7 @@ module _ (d : Wire) (l : Loop) (path : Path d l) where
       go (yes e) = (0, omega arith, omega arith)
       go (no e) = (suc k, omega arith, refl)
 
-  module _ (number : List ℕ) (numbered : Numbered number (d .edges)) where
+  module _ (number : List ℕ) (numbered : EdgesNumbered number (d .edges)) where
     -- the number of an edge that joins a and b
     number-is : (e a b : ℕ) → e < length (d .edges) → joins a b (getD (d .edges) e (edge 0 0)) ≡ true → getD number (pairAt a b) 0 ≡ e
     number-is e a b h t = go (joins-cases a b (getD (d .edges) e (edge 0 0)) t)

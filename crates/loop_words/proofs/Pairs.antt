@@ -15,13 +15,13 @@ use Rattle.lists.proofs.Lowest.{lowest-none}
 use Rattle.paper.specs.Sheet.{edgeAbove, lowAt}
 use Rattle.paper.specs.Drawing.{edge, edgesOf}
 use Rattle.paper_laws.proofs.Wires.{length-edges, edge-at}
-use Rattle.loop_words.specs.Numbered.{Rising, pairAt, Numbered}
+use Rattle.loop_words.specs.Numbered.{RisingEnds, pairAt, EdgesNumbered}
 
 -- how many entries the table has
 abbrev pub allPairs : ℕ
 allPairs = 1024
 
-module _ {ends : List ℕ} (r : Rising ends) where
+module _ {ends : List ℕ} (r : RisingEnds ends) where
   abbrev low : ℕ → ℕ
   low e = getD ends (2 * e) 0
 
@@ -91,7 +91,7 @@ module _ {ends : List ℕ} (r : Rising ends) where
   pub numbering-none : (number : List ℕ) → Numbering number 0
   numbering-none number = record { up = λ f h. absurd (omega arith); down = λ f h. absurd (omega arith) }
 
-  pub numbering-end : (number : List ℕ) → Numbering number (r .links .edges) → Numbered number (edgesOf ends)
+  pub numbering-end : (number : List ℕ) → Numbering number (r .links .edges) → EdgesNumbered number (edgesOf ends)
   numbering-end number n = record { up = λ e a b h q. go-up e a b (count e h) (is e h q); down = λ e a b h q. go-down e a b (count e h) (is e h q) }
     where
       count : (e : ℕ) → e < length (edgesOf ends) → e < r .links .edges

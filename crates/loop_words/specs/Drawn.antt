@@ -8,19 +8,19 @@ use Rattle.paper.specs.Numbers.{mostCorners, mostLoops, rowBytes}
 use Rattle.paper.specs.Format.{editionOne}
 use Rattle.paper.specs.Drawing.{Wire}
 use Rattle.paper.specs.Loops.{Loop}
-use Rattle.polygon.specs.Rings.{countIn, vertexIn}
+use Rattle.polygon.specs.Rings.{cornerCount, vertexIn}
 use Rattle.fast_tables.specs.Paths.{Path}
 use Rattle.fast_tables.specs.Hits.{cornerMask, sideMask}
 use Rattle.loop_table.specs.Tables.{HoldsRows, wordsAfter}
 use Rattle.loop_table.specs.Loops.{LoopsOf}
-use Rattle.loop_words.specs.Numbered.{Numbered}
+use Rattle.loop_words.specs.Numbered.{EdgesNumbered}
 use Rattle.loop_words.specs.declared.Words.{Words}
 
 -- a drawing of at most 32 vertices and 64 edges, which have these numbers
 pub record Small (d : Wire) (number : List ℕ) : Type 0 where
   pub vertices : length (d .vertices) ≤ editionOne .«most_vertices»
   pub edges : length (d .edges) ≤ editionOne .«most_edges»
-  pub numbered : Numbered number (d .edges)
+  pub numbered : EdgesNumbered number (d .edges)
 
 -- ---- one row
 
@@ -32,7 +32,7 @@ pub record RowDrawn (table : List ℕ) (k : ℕ) (number : List ℕ) : Type 0 wh
   pub path : Path drawing loop
   pub short : length loop ≤ mostCorners
   pub room : rowBytes * k + rowBytes ≤ length table
-  pub count : countIn table k ≡ length loop
+  pub count : cornerCount table k ≡ length loop
   pub vertex : (i : ℕ) → i < length loop → vertexIn table k i ≡ getD loop i 0
 
 -- its words
@@ -43,7 +43,7 @@ pub record RowWords (d : Wire) (l : Loop) (r : Words) : Type 0 where
 -- ---- n rows
 
 -- they are loops of a drawing
-pub record Drawn (table : List ℕ) (n : ℕ) (number : List ℕ) : Type 0 where
+pub record DrawnTable (table : List ℕ) (n : ℕ) (number : List ℕ) : Type 0 where
   pub drawing : Wire
   pub small : Small drawing number
   pub loops : List Loop
@@ -54,12 +54,12 @@ pub record Drawn (table : List ℕ) (n : ℕ) (number : List ℕ) : Type 0 where
 
 -- and there is room for a word of each
 pub record WithRoom (table : List ℕ) (n : ℕ) (number corners sides : List ℕ) : Type 0 where
-  pub drawn : Drawn table n number
+  pub drawn : DrawnTable table n number
   pub corner-room : n ≤ length corners
   pub side-room : n ≤ length sides
 
 -- their words are written to the start of two lists
-pub record LoopWords {table : List ℕ} {n : ℕ} {number : List ℕ} (w : Drawn table n number)
+pub record LoopWords {table : List ℕ} {n : ℕ} {number : List ℕ} (w : DrawnTable table n number)
     (corners₀ corners sides₀ sides : List ℕ) : Type 0 where
   pub corners-are : corners ≡ wordsAfter (cornerMask (w .drawing)) (w .loops) corners₀
   pub sides-are : sides ≡ wordsAfter (sideMask (w .drawing)) (w .loops) sides₀

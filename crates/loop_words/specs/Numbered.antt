@@ -11,7 +11,7 @@ use Rattle.paper.specs.Drawing.{Edge, edge}
 use Rattle.paper_laws.specs.InRange.{Ends}
 
 -- the ends of edges in rising order, as 10 leaves them
-pub record Rising (ends : List ℕ) : Type 0 where
+pub record RisingEnds (ends : List ℕ) : Type 0 where
   pub vertices : ℕ
   pub few : vertices ≤ editionOne .«most_vertices»
   pub links : Ends ends vertices
@@ -22,6 +22,6 @@ abbrev pub pairAt : ℕ → ℕ → ℕ
 pairAt a b = editionOne .«most_vertices» * a + b
 
 -- edge e of es joins a and b: both entries of the pair are e
-pub record Numbered (number : List ℕ) (es : List Edge) : Type 0 where
+pub record EdgesNumbered (number : List ℕ) (es : List Edge) : Type 0 where
   pub up : (e a b : ℕ) → e < length es → getD es e (edge 0 0) ≡ edge a b → getD number (pairAt a b) 0 ≡ e
   pub down : (e a b : ℕ) → e < length es → getD es e (edge 0 0) ≡ edge a b → getD number (pairAt b a) 0 ≡ e

@@ -1,8 +1,8 @@
 // Of each loop its corners and its sides, as words: a bit for each vertex, a bit for each edge. Assumes a table of loops of a drawing
 // whose edges are numbered.
 ghost use Rattle.paper.specs.Drawing.{edgesOf};
-ghost use Rattle.loop_words.specs.Numbered.{Rising, Numbered};
-ghost use Rattle.loop_words.specs.Drawn.{RowDrawn, RowWords, Drawn, WithRoom, LoopWords};
+ghost use Rattle.loop_words.specs.Numbered.{RisingEnds, EdgesNumbered};
+ghost use Rattle.loop_words.specs.Drawn.{RowDrawn, RowWords, DrawnTable, WithRoom, LoopWords};
 use lists::wide;
 use paper::MOST_LOOPS;
 use paper::MOST_VERTICES;
@@ -13,8 +13,8 @@ pub const PAIRS: usize = MOST_VERTICES * MOST_VERTICES;
 
 // The numbers of edges by their ends, whichever comes first. Entries of pairs that no edge joins are 0.
 pub fn number_edges(ends: &[u8]) -> [u8; PAIRS]
-    requires { ⌜ Rising (now ends) ⌝ }
-    ensures { λ r. ⌜ Numbered r (edgesOf (now (ends .entry))) ⌝ }
+    requires { ⌜ RisingEnds (now ends) ⌝ }
+    ensures { λ r. ⌜ EdgesNumbered r (edgesOf (now (ends .entry))) ⌝ }
 {
     let mut number = [0u8; PAIRS];
     let n = ends.len() / 2;
@@ -68,7 +68,7 @@ pub fn loop_words(
     sides: &mut [u64; MOST_LOOPS],
 )
     requires { ⌜ WithRoom (now table) n (now number) (now corners) (now sides) ⌝ }
-    ensures { λ _. ⌜ ((w : Drawn (now (table .entry)) n (now (number .entry)))
+    ensures { λ _. ⌜ ((w : DrawnTable (now (table .entry)) n (now (number .entry)))
         → LoopWords w (now (corners .entry)) (now (corners .exit)) (now (sides .entry)) (now (sides .exit))) ⌝ }
 {
     let mut k = 0;

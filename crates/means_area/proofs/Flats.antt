@@ -28,7 +28,7 @@ use lib.Signed.{_<ℤ_}
 use Rattle.paper.specs.declared.Flat.{Flat}
 use Rattle.means_area.specs.Theorems.{AreaNotZero}
 use Rattle.means_area.specs.Rings.{Of}
-use Rattle.means_area.specs.Flats.{turn, height, Simple, Least, area, Same, lst}
+use Rattle.means_area.specs.Flats.{twiceArea, height, Simple, Least, area, SameSign, lst}
 use Rattle.means_area.proofs.Flats.Signs.{same-ne}
 use Rattle.means_area.proofs.Flats.Rings.{area-turned}
 use Rattle.means_area.proofs.Flats.Lowest.{Found, lowest}
@@ -51,7 +51,7 @@ module _ (m : ℤ) where
 
   -- of a ring u c l whose lowest corner is u, the area has the sign of the turn at u, and neither is 0
   pub area-sign : (u c : Flat) (l : List Flat) → 1 ≤ length l → Simple m (u ∷ c ∷ l) → Least m u (c ∷ l)
-      → Same (area (u ∷ c ∷ l)) (turn u c (lst c l))
+      → SameSign (area (u ∷ c ∷ l)) (twiceArea u c (lst c l))
   area-sign u c l j s low = claims (length l) .of-area u c l (omega arith) j s low
 
   -- from any start: a simple polygon has an area

@@ -25,7 +25,7 @@ use Rattle.means_loops.proofs.OwnPlane.{less-dot, own-plane}
 use Rattle.means_loops.proofs.Paths.{listed-path}
 use Rattle.means_area.specs.Theorems.{LoopsHold}
 use Rattle.means_area.specs.Flats.{Simple}
-use Rattle.means_area.specs.Space.{Clear, Level, through}
+use Rattle.means_area.specs.Space.{SimpleRing, Level, through}
 use Rattle.means_area.specs.Loops.{loopOf}
 use Rattle.means_area.proofs.Space.Maps.{length-map}
 use Rattle.means_area.proofs.Space.Views.{axis-real, view-one}
@@ -38,7 +38,7 @@ record Good (g : Polygon) : Type 0 where
   long : 3 ≤ length g
   real : normal g ≡ origin → ⊥
   flat : InOwnPlane g
-  simple : Clear g
+  simple : SimpleRing g
 
 good : (d : Wire) → samePlace d ≡ none → edgeMeets d ≡ none → (l : Loop) → ClosedPath d l → Good (polygon d l)
 unfolding polygon
@@ -88,7 +88,7 @@ module _ (d : Wire) (r11 : samePlace d ≡ none) (r13 : edgeMeets d ≡ none) (i
       ∙ (λ t. ep t -ℤ eq t)) s
 
   -- it is a simple ring in space, and is seen as one in the flat
-  pub ring-clear : Clear (loopOf d i)
+  pub ring-clear : SimpleRing (loopOf d i)
   ring-clear = is-good .simple
 
   pub ring-seen : (m : ℤ) × Simple m (map (seen (axis (normal (loopOf d i)))) (loopOf d i))

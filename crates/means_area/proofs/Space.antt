@@ -18,13 +18,13 @@ use Rattle.paper.specs.declared.Point.{Point}
 use Rattle.paper.specs.declared.Axis.{Axis}
 use Rattle.paper.specs.declared.Axis.the-variants.{AlongX, AlongY, AlongZ}
 use Rattle.means_area.specs.Flats.{Simple}
-use Rattle.means_area.specs.Space.{Clear, Level, through}
+use Rattle.means_area.specs.Space.{SimpleRing, Level, through}
 use Rattle.means_area.proofs.Space.Maps.{length-map}
 use Rattle.means_area.proofs.Space.View.{steepness, down-simple, third-not-zero}
 use Rattle.means_area.proofs.Space.Axes.{upright, last-is, seen-down, clear-upright, level-upright, normal-upright}
 use Rattle.means_area.proofs.Space.Views.{axis-real}
 
-module _ (g : List Point) (n s : Point) (a : Axis) (h : through a n ≡ pos 0 → ⊥) (level : Level n s g) (clear : Clear g) where
+module _ (g : List Point) (n s : Point) (a : Axis) (h : through a n ≡ pos 0 → ⊥) (level : Level n s g) (clear : SimpleRing g) where
   abbrev r : List Point
   r = map (upright a) g
 
@@ -45,7 +45,7 @@ module _ (g : List Point) (n s : Point) (a : Axis) (h : through a n ≡ pos 0 �
       (normal-upright a g e)
 
 -- the normal of a simple ring in a plane is not the origin
-pub normal-not-zero : (g : List Point) (n s : Point) → (n ≡ origin → ⊥) → Level n s g → Clear g → 3 ≤ length g → normal g ≡ origin → ⊥
+pub normal-not-zero : (g : List Point) (n s : Point) → (n ≡ origin → ⊥) → Level n s g → SimpleRing g → 3 ≤ length g → normal g ≡ origin → ⊥
 normal-not-zero g n s ne l c j e = normal-through g n s (axis n) (axis-real n ne) l c j (ap (through (axis n)) e ∙ none-through (axis n))
   where
     none-through : (a : Axis) → through a origin ≡ pos 0

@@ -10,13 +10,13 @@ use Rattle.means_drawing.specs.Segments.{Between, Common}
 use Rattle.means_area.specs.Rings.{Of, Link}
 
 -- no two corners are at one point
-abbrev pub Different : List Point → Type 0
-Different [] = Unit {0}
-Different (p ∷ l) = ((r : Point) → Of r l → r ≡ p → ⊥) × Different l
+abbrev pub DifferentPoints : List Point → Type 0
+DifferentPoints [] = Unit {0}
+DifferentPoints (p ∷ l) = ((r : Point) → Of r l → r ≡ p → ⊥) × DifferentPoints l
 
 -- a simple ring: no corner is inside a side, and two sides without a common corner have no common point
-pub record Clear (g : List Point) : Type 0 where
-  pub apart : Different g
+pub record SimpleRing (g : List Point) : Type 0 where
+  pub apart : DifferentPoints g
   pub corners : (p q r : Point) → Link g p q → Of r g → Between p q r → ⊥
   pub edges : (p q r s : Point) → Link g p q → Link g r s → (p ≡ r → ⊥) → (p ≡ s → ⊥) → (q ≡ r → ⊥) → (q ≡ s → ⊥) → Common p q r s → ⊥
 

@@ -13,7 +13,7 @@ use Rattle.paper.specs.declared.Point.{Point}
 use Rattle.paper.specs.declared.Flat.{Flat}
 use Rattle.paper_laws.specs.Planes.{InOwnPlane}
 use Rattle.means_area.specs.Flats.{Simple, area}
-use Rattle.means_area.specs.Space.{Clear, through}
+use Rattle.means_area.specs.Space.{SimpleRing, through}
 use Rattle.means_area.specs.Loops.{loopOf}
 
 -- a simple polygon in the flat has an area
@@ -26,16 +26,16 @@ AxisReal = (n : Point) → (n ≡ origin → ⊥) → through (axis n) n ≡ pos
 
 -- a loop's corners: it has a normal, which is not 0 along the axis that it is seen along; its plane has all of them; two points of
 -- the plane are seen as two; it is a simple ring in space and as it is seen
-pub record Holds (g : Polygon) : Type 0 where
+pub record WellDrawn (g : Polygon) : Type 0 where
   pub corners : 3 ≤ length g
   pub normal-real : normal g ≡ origin → ⊥
   pub plane-holds : InOwnPlane g
   pub axis-holds : through (axis (normal g)) (normal g) ≡ pos 0 → ⊥
   pub view-holds : (p q : Point) → planeSide g p ≡ pos 0 → planeSide g q ≡ pos 0
       → seen (axis (normal g)) p ≡ seen (axis (normal g)) q → p ≡ q
-  pub ring-clear : Clear g
+  pub ring-clear : SimpleRing g
   pub ring-seen : (m : ℤ) × Simple m (map (seen (axis (normal g))) g)
 
 -- every loop of a drawing that passes 11 and 13 is so
 abbrev pub LoopsHold : Type 0
-LoopsHold = (d : Wire) → samePlace d ≡ none → edgeMeets d ≡ none → (i : ℕ) → i < length (loops d) → Holds (loopOf d i)
+LoopsHold = (d : Wire) → samePlace d ≡ none → edgeMeets d ≡ none → (i : ℕ) → i < length (loops d) → WellDrawn (loopOf d i)

@@ -11,15 +11,15 @@ use Rattle.exact.proofs.Order.{add-nonneg, mul-pos, mul-nonneg}
 use Rattle.paper.specs.Points.{above, below}
 use Rattle.paper.specs.Polygon.{meetsRay}
 use Rattle.paper.specs.declared.Flat.{Flat}
-use Rattle.means_area.specs.Flats.{Up, Nn, turn}
+use Rattle.means_area.specs.Flats.{Up, Nn, twiceArea}
 use Rattle.means_area.proofs.Flats.Signs.{up-is, nn-is, up-nn, up-add, nn-up, which, up-out}
 use Rattle.means_area.proofs.Flats.Turns.{uE, vE}
-use Rattle.means_inside.specs.Beams.{walk, round, right, beam, facing}
+use Rattle.means_inside.specs.Beams.{oddAlong, round, right, beam, facing}
 use Rattle.means_inside.specs.Means.{big}
 use Rattle.means_inside.proofs.Beams.{above-is, above-no, low-is, low-no, yes-low, no-low}
 use Rattle.means_inside.proofs.Segment.{below-neg}
 use Rattle.means_inside.proofs.Scale.{ray-scale}
-use Rattle.means_corner.specs.Ways.{further}
+use Rattle.means_corner.specs.Ways.{aheadBy}
 use Rattle.means_border.proofs.Side.{across, size, Never, Until, turn-at, hit-miss}
 use Rattle.means_border.proofs.Meets.{hit-there}
 
@@ -29,7 +29,7 @@ pub round-map : (h : Flat → Flat) (f k : Flat → Flat → Bool) (g : List Fla
 round-map h f k [] e = refl
 round-map h f k (x ∷ l) e = go x l x
   where
-    go : (x : Flat) (l : List Flat) (y : Flat) → walk f (h x) (map h l) (h y) ≡ walk k x l y
+    go : (x : Flat) (l : List Flat) (y : Flat) → oddAlong f (h x) (map h l) (h y) ≡ oddAlong k x l y
     go x [] y = e x y
     go x (z ∷ l) y = λ i. xor (e x z i) (go z l y i)
 
@@ -47,8 +47,8 @@ module _ (p w : Flat) (uw : Up (size p w)) where
   abbrev α : Flat → ℤ
   α = across p w
 
-  across-at : (s m : ℤ) (a : Flat) → turn (further p w s m) (tip (further p w s m)) (big m a) ≡ m *ℤ α a
-  unfolding turn
+  across-at : (s m : ℤ) (a : Flat) → twiceArea (aheadBy p w s m) (tip (aheadBy p w s m)) (big m a) ≡ m *ℤ α a
+  unfolding twiceArea
   across-at s m a =
       ring (m ∷ p .u ∷ p .v ∷ w .u ∷ w .v ∷ a .u ∷ a .v ∷ s ∷ [])
       (((var 0 ⊗ uE 0 ⊕ var 7 ⊗ uE 1) ⊕ uE 1 ⊖ (var 0 ⊗ uE 0 ⊕ var 7 ⊗ uE 1)) ⊗ (var 0 ⊗ vE 2 ⊖ (var 0 ⊗ vE 0 ⊕ var 7 ⊗ vE 1))
@@ -65,41 +65,41 @@ module _ (p w : Flat) (uw : Up (size p w)) where
           ∙ sym (low-is x n)
 
   -- the ray from the point at s / m, in numbers of the start
-  pub ray-at : (s m : ℤ) → Up m → (a b : Flat) → beam (further p w s m) (tip (further p w s m)) (big m a) (big m b)
-      ≡ meetsRay (leZ (α a) (pos 0)) (leZ (α b) (pos 0)) (m *ℤ turn a b p -ℤ s *ℤ (α b -ℤ α a))
+  pub ray-at : (s m : ℤ) → Up m → (a b : Flat) → beam (aheadBy p w s m) (tip (aheadBy p w s m)) (big m a) (big m b)
+      ≡ meetsRay (leZ (α a) (pos 0)) (leZ (α b) (pos 0)) (m *ℤ twiceArea a b p -ℤ s *ℤ (α b -ℤ α a))
   unfolding beam right
   ray-at s m um a b =
       (λ i.
       meetsRay ((ap (λ (z : ℤ). leZ z (pos 0)) (across-at s m a) ∙ low-times m (α a) um) i)
       ((ap (λ (z : ℤ). leZ z (pos 0)) (across-at s m b) ∙ low-times m (α b) um) i) (turn-at p w s m a b i))
-      ∙ ray-scale p m um (leZ (α a) (pos 0)) (leZ (α b) (pos 0)) (m *ℤ turn a b p -ℤ s *ℤ (α b -ℤ α a))
+      ∙ ray-scale p m um (leZ (α a) (pos 0)) (leZ (α b) (pos 0)) (m *ℤ twiceArea a b p -ℤ s *ℤ (α b -ℤ α a))
 
   gap : (a b : Flat) → Nn (negℤ (α a)) → Up (α b) → Up (α b -ℤ α a)
   gap a b na ub = up-is (ring (α a ∷ α b ∷ []) (var 1 ⊕ neg (var 0)) (var 1 ⊖ var 0) tt) (up-add ub na)
 
   -- ---- a side that is never met
-  pub silent-one : (a b : Flat) → Never p w a b → Nn (negℤ (α a)) → Up (α b) → above (turn a b p) ≡ false
-  silent-one a b f na ub = go (which (turn a b p))
+  pub silent-one : (a b : Flat) → Never p w a b → Nn (negℤ (α a)) → Up (α b) → above (twiceArea a b p) ≡ false
+  silent-one a b f na ub = go (which (twiceArea a b p))
     where
       d : Up (α b -ℤ α a)
       d = gap a b na ub
 
-      go : Up (turn a b p) ⊎ Nn (negℤ (turn a b p)) → above (turn a b p) ≡ false
-      go (inr n) = above-no (turn a b p) n
+      go : Up (twiceArea a b p) ⊎ Nn (negℤ (twiceArea a b p)) → above (twiceArea a b p) ≡ false
+      go (inr n) = above-no (twiceArea a b p) n
       go (inl u) =
-          absurd (hit-miss p w (turn a b p) (α b -ℤ α a) a b (hit-there p w uw a b na (up-nn ub) d u)
-          (f (turn a b p) (α b -ℤ α a) (up-nn u) d))
+          absurd (hit-miss p w (twiceArea a b p) (α b -ℤ α a) a b (hit-there p w uw a b na (up-nn ub) d u)
+          (f (twiceArea a b p) (α b -ℤ α a) (up-nn u) d))
 
   -- ---- before the first
   module _ (s m : ℤ) (um : Up m) (s' m' : ℤ) (hs : Nn s') (um' : Up m') (k : Up (s *ℤ m' -ℤ s' *ℤ m)) where
     abbrev now : Flat → Flat → ℤ
-    now a b = m' *ℤ turn a b p -ℤ s' *ℤ (α b -ℤ α a)
+    now a b = m' *ℤ twiceArea a b p -ℤ s' *ℤ (α b -ℤ α a)
 
-    pub same-one : (a b : Flat) → Until p w s m a b → Nn (negℤ (α a)) → Up (α b) → above (now a b) ≡ above (turn a b p)
-    same-one a b f na ub = go (which (turn a b p))
+    pub same-one : (a b : Flat) → Until p w s m a b → Nn (negℤ (α a)) → Up (α b) → above (now a b) ≡ above (twiceArea a b p)
+    same-one a b f na ub = go (which (twiceArea a b p))
       where
         t : ℤ
-        t = turn a b p
+        t = twiceArea a b p
 
         d : ℤ
         d = α b -ℤ α a

@@ -16,11 +16,11 @@ use Rattle.means_area.proofs.Flats.Signs.{up-is}
 use Rattle.means_area.proofs.Space.Views.{axis-real, view-one}
 use Rattle.means_inside.specs.Beams.{facing}
 use Rattle.means_inside.proofs.Triangle.{self-up}
-use Rattle.means_corner.specs.Ways.{further}
+use Rattle.means_corner.specs.Ways.{aheadBy}
 use Rattle.means_border.specs.Along.{MeetsBorder}
 use Rattle.means_border.proofs.InFlat.{meets-flat}
 
-seen-along : (a : Axis) (p q : Point) (s m : ℤ) → seen a (along m s p q) ≡ further (seen a p) (seen a (minus q p)) s m
+seen-along : (a : Axis) (p q : Point) (s m : ℤ) → seen a (along m s p q) ≡ aheadBy (seen a p) (seen a (minus q p)) s m
 unfolding seen plus times
 seen-along AlongX p q s m = refl
 seen-along AlongY p q s m = refl

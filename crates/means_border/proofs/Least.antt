@@ -8,7 +8,7 @@ use Rattle.exact.proofs.Order.{mul-pos, mul-nonneg}
 use Rattle.paper.specs.declared.Flat.{Flat}
 use Rattle.means_area.specs.Flats.{Up, Nn}
 use Rattle.means_area.proofs.Flats.Signs.{up-is, nn-is, up-nn, nn-up, which, up-out}
-use Rattle.means_inside.specs.Convex.{Step}
+use Rattle.means_inside.specs.Convex.{NextAlong}
 use Rattle.means_border.proofs.Side.{Hit, Never, Until, Side, never, first}
 
 at-ends : (P : Flat → Flat → Type 0) (x y : Flat) → P x y → (a b : Flat) → (a ≡ x) × (b ≡ y) → P a b
@@ -16,9 +16,9 @@ at-ends P x y h a b e = subst (λ (z : Flat). P z b) (sym (e .0)) (subst (λ (z 
 
 module _ (p w : Flat) where
   pub data Firsts (x : Flat) (l : List Flat) (e : Flat) : Type 0 where
-    not-met : ((a b : Flat) → Step x l e a b → Never p w a b) → Firsts x l e
-    met : (s m : ℤ) → Up s → Up m → (a b : Flat) → Step x l e a b → Hit p w s m a b
-        → ((c d : Flat) → Step x l e c d → Until p w s m c d) → Firsts x l e
+    not-met : ((a b : Flat) → NextAlong x l e a b → Never p w a b) → Firsts x l e
+    met : (s m : ℤ) → Up s → Up m → (a b : Flat) → NextAlong x l e a b → Hit p w s m a b
+        → ((c d : Flat) → NextAlong x l e c d → Until p w s m c d) → Firsts x l e
 
   -- what is not met before s₂ / m₂ is not met before s₁ / m₁, which is not above it
   sooner : (s₁ m₁ s₂ m₂ : ℤ) (a b : Flat) → Up m₁ → Up m₂ → Nn (s₂ *ℤ m₁ -ℤ s₁ *ℤ m₂) → Until p w s₂ m₂ a b → Until p w s₁ m₁ a b
@@ -34,7 +34,7 @@ module _ (p w : Flat) where
   always-until : (s m : ℤ) (a b : Flat) → Never p w a b → Until p w s m a b
   always-until s m a b f s' m' hs um k = f s' m' hs um
 
-  pub least : (x : Flat) (l : List Flat) (e : Flat) → ((a b : Flat) → Step x l e a b → Side p w a b) → Firsts x l e
+  pub least : (x : Flat) (l : List Flat) (e : Flat) → ((a b : Flat) → NextAlong x l e a b → Side p w a b) → Firsts x l e
   least x [] e f = go (f x e (refl, refl))
     where
       go : Side p w x e → Firsts x [] e
@@ -42,7 +42,7 @@ module _ (p w : Flat) where
       go (first s m us um h n) = met s m us um x e (refl, refl) h (at-ends (Until p w s m) x e n)
   least x (y ∷ l) e f = go (f x y (inl (refl, refl))) (least y l e (λ a b k. f a b (inr k)))
     where
-      both : (P : Flat → Flat → Type 0) → P x y → ((a b : Flat) → Step y l e a b → P a b) → (a b : Flat) → Step x (y ∷ l) e a b → P a b
+      both : (P : Flat → Flat → Type 0) → P x y → ((a b : Flat) → NextAlong y l e a b → P a b) → (a b : Flat) → NextAlong x (y ∷ l) e a b → P a b
       both P h r a b (inl k) = at-ends P x y h a b k
       both P h r a b (inr k) = r a b k
 

@@ -8,12 +8,12 @@ use Rattle.exact.proofs.Laws.{eq-of-sub}
 use Rattle.exact.proofs.Order.{mul-pos, mul-nonneg, add-nonneg, square-nonneg}
 use Rattle.exact.proofs.Signs.{mul-zero, pos-ne}
 use Rattle.paper.specs.declared.Flat.{Flat}
-use Rattle.means_area.specs.Flats.{Up, Nn, turn}
+use Rattle.means_area.specs.Flats.{Up, Nn, twiceArea}
 use Rattle.means_area.proofs.Flats.Net.{nn0}
 use Rattle.means_area.proofs.Flats.Signs.{up-is, nn-is, up-nn, up-add, nn-up, off, zero-off, ways, which, up-out, nn-out}
 use Rattle.means_inside.specs.Beams.{facing}
 use Rattle.means_inside.specs.Means.{big}
-use Rattle.means_corner.specs.Ways.{further}
+use Rattle.means_corner.specs.Ways.{aheadBy}
 use Rattle.means_border.proofs.Side.{across, ahead, size, Miss, Hit, Never, Side, never, first, left, turn-at, turn-by, face-by}
 use Rattle.means_border.proofs.Side.{side-back}
 
@@ -41,7 +41,7 @@ module _ (p w : Flat) (uw : Up (size p w)) where
   α = across p w
 
   -- where the side's line is met
-  in-line : (s m : ℤ) (a b : Flat) → Up m → turn (big m a) (big m b) (further p w s m) ≡ pos 0
+  in-line : (s m : ℤ) (a b : Flat) → Up m → twiceArea (big m a) (big m b) (aheadBy p w s m) ≡ pos 0
       → left p w s m a *ℤ α b ≡ α a *ℤ left p w s m b
   in-line s m a b um e =
       eq-of-sub (left p w s m a *ℤ α b) (α a *ℤ left p w s m b)
@@ -49,15 +49,15 @@ module _ (p w : Flat) (uw : Up (size p w)) where
       (sym (turn-by p w s m a b) ∙ ap (λ (z : ℤ). size p w *ℤ z) e ∙ ring (size p w ∷ []) (var 0 ⊗ con (pos 0)) (con (pos 0)) tt))
 
   face-up : (s m : ℤ) (a b : Flat) → Up (left p w s m a *ℤ left p w s m b +ℤ (m *ℤ m) *ℤ (α a *ℤ α b))
-      → Up (facing (further p w s m) (big m a) (big m b))
+      → Up (facing (aheadBy p w s m) (big m a) (big m b))
   face-up s m a b u = up-out (size p w) uw (up-is (sym (face-by p w s m a b)) u)
 
   face-low : (s m : ℤ) (a b : Flat) → Nn (negℤ (left p w s m a *ℤ left p w s m b +ℤ (m *ℤ m) *ℤ (α a *ℤ α b)))
-      → Nn (negℤ (facing (further p w s m) (big m a) (big m b)))
+      → Nn (negℤ (facing (aheadBy p w s m) (big m a) (big m b)))
   face-low s m a b u =
       nn-out (size p w) uw
       (nn-is (ap negℤ (sym (face-by p w s m a b))
-      ∙ ring (size p w ∷ facing (further p w s m) (big m a) (big m b) ∷ []) (neg (var 0 ⊗ var 1)) (var 0 ⊗ neg (var 1)) tt) u)
+      ∙ ring (size p w ∷ facing (aheadBy p w s m) (big m a) (big m b) ∷ []) (neg (var 0 ⊗ var 1)) (var 0 ⊗ neg (var 1)) tt) u)
 
   -- ---- both ends on one side of the line
   one-side : (a b : Flat) → Up (α a *ℤ α b) → Never p w a b
@@ -67,7 +67,7 @@ module _ (p w : Flat) (uw : Up (size p w)) where
 
   -- ---- one on each, or one in the line
   module _ (a b : Flat) (na : Nn (negℤ (α a))) (nb : Nn (α b)) (ud : Up (α b -ℤ α a)) where
-    mid : (s m : ℤ) → Up m → turn (big m a) (big m b) (further p w s m) ≡ pos 0 → Hit p w s m a b
+    mid : (s m : ℤ) → Up m → twiceArea (big m a) (big m b) (aheadBy p w s m) ≡ pos 0 → Hit p w s m a b
     mid s m um e = (
       e,
       face-low s m a b
@@ -78,17 +78,17 @@ module _ (p w : Flat) (uw : Up (size p w)) where
           (mul-nonneg (square-nonneg m) (mul-nonneg na nb)))),
     )
 
-    pub hit-there : Up (turn a b p) → Hit p w (turn a b p) (α b -ℤ α a) a b
+    pub hit-there : Up (twiceArea a b p) → Hit p w (twiceArea a b p) (α b -ℤ α a) a b
     hit-there ut =
-        mid (turn a b p) (α b -ℤ α a) ud
-        (turn-at p w (turn a b p) (α b -ℤ α a) a b
-        ∙ ring (turn a b p ∷ (α b -ℤ α a) ∷ []) (var 1 ⊗ (var 1 ⊗ var 0 ⊖ var 0 ⊗ var 1)) (con (pos 0)) tt)
+        mid (twiceArea a b p) (α b -ℤ α a) ud
+        (turn-at p w (twiceArea a b p) (α b -ℤ α a) a b
+        ∙ ring (twiceArea a b p ∷ (α b -ℤ α a) ∷ []) (var 1 ⊗ (var 1 ⊗ var 0 ⊖ var 0 ⊗ var 1)) (con (pos 0)) tt)
 
     pub passes : Miss p w (pos 0) (pos 1) a b → Side p w a b
-    passes o = go (ways (turn a b p))
+    passes o = go (ways (twiceArea a b p))
       where
         t : ℤ
-        t = turn a b p
+        t = twiceArea a b p
 
         d : ℤ
         d = α b -ℤ α a
@@ -103,7 +103,7 @@ module _ (p w : Flat) (uw : Up (size p w)) where
             (ring (t ∷ d ∷ s' ∷ m' ∷ []) (var 3 ⊗ (var 3 ⊗ neg (var 0) ⊕ var 2 ⊗ var 1)) (neg (var 3 ⊗ (var 3 ⊗ var 0 ⊖ var 2 ⊗ var 1))) tt
             ∙ ap negℤ (sym (turn-at p w s' m' a b) ∙ e)) (mul-pos um (up-add (mul-pos um ut) (mul-nonneg hs (up-nn ud))))))
         go (inr (inl e)) =
-            let z : turn (big (pos 1) a) (big (pos 1) b) (further p w (pos 0) (pos 1)) ≡ pos 0 = turn-at p w (pos 0) (pos 1) a b
+            let z : twiceArea (big (pos 1) a) (big (pos 1) b) (aheadBy p w (pos 0) (pos 1)) ≡ pos 0 = turn-at p w (pos 0) (pos 1) a b
             ∙ ring (t ∷ d ∷ []) (con (pos 1) ⊗ (con (pos 1) ⊗ var 0 ⊖ con (pos 0) ⊗ var 1)) (var 0) tt ∙ e in
             absurd (off (o z) (mid (pos 0) (pos 1) (record { lt = tt }) z .1))
 
@@ -114,9 +114,9 @@ module _ (p w : Flat) (uw : Up (size p w)) where
         ap₂ (λ (x y : ℤ). left p w s m a *ℤ left p w s m b +ℤ (m *ℤ m) *ℤ (x *ℤ y)) ea eb
         ∙ ring ((left p w s m a *ℤ left p w s m b) ∷ m ∷ []) (var 0 ⊕ (var 1 ⊗ var 1) ⊗ (con (pos 0) ⊗ con (pos 0))) (var 0) tt
 
-    flat-turn : (s m : ℤ) → turn (big m a) (big m b) (further p w s m) ≡ pos 0
+    flat-turn : (s m : ℤ) → twiceArea (big m a) (big m b) (aheadBy p w s m) ≡ pos 0
     flat-turn s m =
-        mul-zero (size p w) (turn (big m a) (big m b) (further p w s m)) (pos-ne uw)
+        mul-zero (size p w) (twiceArea (big m a) (big m b) (aheadBy p w s m)) (pos-ne uw)
         (turn-by p w s m a b ∙ ap₂ (λ (x y : ℤ). m *ℤ (left p w s m a *ℤ y -ℤ x *ℤ left p w s m b)) ea eb
         ∙ ring (m ∷ left p w s m a ∷ left p w s m b ∷ []) (var 0 ⊗ (var 1 ⊗ con (pos 0) ⊖ con (pos 0) ⊗ var 2)) (con (pos 0)) tt)
 

@@ -4,13 +4,13 @@ use mathlib.Core.List.{List, [], _∷_}
 use lib.IntN.{ℤ, pos, negℤ, _+ℤ_, _-ℤ_, _*ℤ_}
 use Rattle.exact.proofs.Ring.{Expr, var, _⊕_, _⊖_, _⊗_, ring}
 use Rattle.paper.specs.declared.Flat.{Flat}
-use Rattle.means_area.specs.Flats.{Up, Nn, turn}
+use Rattle.means_area.specs.Flats.{Up, Nn, twiceArea}
 use Rattle.means_area.proofs.Flats.Signs.{nn-is, off}
 use Rattle.means_area.proofs.Flats.Turns.{uE, vE, tE, flip}
 use Rattle.means_inside.specs.Beams.{facing, Off}
 use Rattle.means_inside.specs.Means.{big}
 use Rattle.means_inside.proofs.Ears.{off-back}
-use Rattle.means_corner.specs.Ways.{further}
+use Rattle.means_corner.specs.Ways.{aheadBy}
 
 module _ (p w : Flat) where
   -- across and along the direction
@@ -25,10 +25,10 @@ module _ (p w : Flat) where
 
   -- the side from a to b at the fraction s / m: it is not met, or it is
   abbrev pub Miss : ℤ → ℤ → Flat → Flat → Type 0
-  Miss s m a b = Off (further p w s m) (big m a) (big m b)
+  Miss s m a b = Off (aheadBy p w s m) (big m a) (big m b)
 
   abbrev pub Hit : ℤ → ℤ → Flat → Flat → Type 0
-  Hit s m a b = (turn (big m a) (big m b) (further p w s m) ≡ pos 0) × Nn (negℤ (facing (further p w s m) (big m a) (big m b)))
+  Hit s m a b = (twiceArea (big m a) (big m b) (aheadBy p w s m) ≡ pos 0) × Nn (negℤ (facing (aheadBy p w s m) (big m a) (big m b)))
 
   abbrev pub Never : Flat → Flat → Type 0
   Never a b = (s m : ℤ) → Nn s → Up m → Miss s m a b
@@ -74,32 +74,32 @@ module _ (p w : Flat) where
   leftE a = var 0 ⊗ aheadE a ⊖ var 9 ⊗ sizeE
 
   pub turn-at : (s m : ℤ) (a b : Flat)
-      → turn (big m a) (big m b) (further p w s m) ≡ m *ℤ (m *ℤ turn a b p -ℤ s *ℤ (across b -ℤ across a))
-  unfolding turn
+      → twiceArea (big m a) (big m b) (aheadBy p w s m) ≡ m *ℤ (m *ℤ twiceArea a b p -ℤ s *ℤ (across b -ℤ across a))
+  unfolding twiceArea
   turn-at s m a b = ring (ρ s m a b) turnE (var 0 ⊗ (var 0 ⊗ tE 2 3 0 ⊖ var 9 ⊗ (acrossE 3 ⊖ acrossE 2))) tt
 
   pub turn-by : (s m : ℤ) (a b : Flat)
-      → size *ℤ turn (big m a) (big m b) (further p w s m) ≡ m *ℤ (left s m a *ℤ across b -ℤ across a *ℤ left s m b)
-  unfolding turn
+      → size *ℤ twiceArea (big m a) (big m b) (aheadBy p w s m) ≡ m *ℤ (left s m a *ℤ across b -ℤ across a *ℤ left s m b)
+  unfolding twiceArea
   turn-by s m a b = ring (ρ s m a b) (sizeE ⊗ turnE) (var 0 ⊗ (leftE 2 ⊗ acrossE 3 ⊖ acrossE 2 ⊗ leftE 3)) tt
 
   pub face-by : (s m : ℤ) (a b : Flat)
-      → size *ℤ facing (further p w s m) (big m a) (big m b) ≡ left s m a *ℤ left s m b +ℤ (m *ℤ m) *ℤ (across a *ℤ across b)
+      → size *ℤ facing (aheadBy p w s m) (big m a) (big m b) ≡ left s m a *ℤ left s m b +ℤ (m *ℤ m) *ℤ (across a *ℤ across b)
   unfolding facing
   face-by s m a b = ring (ρ s m a b) (sizeE ⊗ faceE) (leftE 2 ⊗ leftE 3 ⊕ (var 0 ⊗ var 0) ⊗ (acrossE 2 ⊗ acrossE 3)) tt
 
-  face-back : (s m : ℤ) (a b : Flat) → facing (further p w s m) (big m a) (big m b) ≡ facing (further p w s m) (big m b) (big m a)
+  face-back : (s m : ℤ) (a b : Flat) → facing (aheadBy p w s m) (big m a) (big m b) ≡ facing (aheadBy p w s m) (big m b) (big m a)
   unfolding facing
   face-back s m a b =
       ring (ρ s m a b) faceE ((var 0 ⊗ uE 3 ⊖ xE) ⊗ (var 0 ⊗ uE 2 ⊖ xE) ⊕ (var 0 ⊗ vE 3 ⊖ yE) ⊗ (var 0 ⊗ vE 2 ⊖ yE)) tt
 
   -- ---- from b to a
   pub miss-back : (s m : ℤ) (a b : Flat) → Miss s m a b → Miss s m b a
-  miss-back s m a b o = off-back (further p w s m) (big m a) (big m b) o
+  miss-back s m a b o = off-back (aheadBy p w s m) (big m a) (big m b) o
 
   pub hit-back : (s m : ℤ) (a b : Flat) → Hit s m a b → Hit s m b a
   hit-back s m a b h =
-      (flip (big m b) (big m a) (further p w s m) ∙ ap negℤ (h .0), nn-is (ap negℤ (face-back s m a b)) (h .1))
+      (flip (big m b) (big m a) (aheadBy p w s m) ∙ ap negℤ (h .0), nn-is (ap negℤ (face-back s m a b)) (h .1))
 
   pub side-back : (a b : Flat) → Side a b → Side b a
   side-back a b (never f) = never (λ s m hs hm. miss-back s m a b (f s m hs hm))

@@ -10,7 +10,7 @@ use Rattle.paper.specs.declared.Flat.{Flat}
 use Rattle.paper.specs.declared.Where.the-variants.{Border, Inside}
 use Rattle.means_drawing.specs.Segments.{along}
 use Rattle.means_area.specs.Flats.{Up, Nn}
-use Rattle.means_corner.specs.Ways.{further}
+use Rattle.means_corner.specs.Ways.{aheadBy}
 
 -- From p / n towards q / n, and beyond: the place s / m of the way is along m s p q, divided by m n. The border is first met at s / m,
 -- which is above 0: there it is, and every point from p / n on before it is strictly inside.
@@ -34,8 +34,8 @@ pub record FirstFlat (g : List Flat) (p : Flat) (d : ℤ) (w : Flat) : Type 0 wh
   pub m : ℤ
   pub up-s : Up s
   pub up-m : Up m
-  pub border : whereFlat (further p w s m) (m *ℤ d) g ≡ Border
-  pub inside : (s' m' : ℤ) → Nn s' → Up m' → (s' *ℤ m) <ℤ (s *ℤ m') → whereFlat (further p w s' m') (m' *ℤ d) g ≡ Inside
+  pub border : whereFlat (aheadBy p w s m) (m *ℤ d) g ≡ Border
+  pub inside : (s' m' : ℤ) → Nn s' → Up m' → (s' *ℤ m) <ℤ (s *ℤ m') → whereFlat (aheadBy p w s' m') (m' *ℤ d) g ≡ Inside
 
 abbrev pub MeetsFlat : Type 0
 MeetsFlat =

@@ -20,7 +20,7 @@ use Rattle.paper.specs.declared.Answer.the-variants.{Fine, Refused}
 use Rattle.paper.specs.declared.Verdict.the-variants.{Accepted}
 use Rattle.paper_laws.proofs.Checks.{clear, found-none, none-found, fails, passed, first-both, both-first}
 use Rattle.means_solid.specs.Solid.{IsSolid}
-use Rattle.means_check.specs.Candidates.{Candidates}
+use Rattle.means_check.specs.Candidates.{ProperCandidates}
 use Rattle.means_solid.specs.Named.{Names}
 use Rattle.means_check.specs.Accepts.{NamesSolid, Accepts}
 use Rattle.means_check.proofs.Numbered.{numbersOf, takenOf, turnedOf, numbers-length, number-of, taken-yes, taken-is, turned-yes}
@@ -78,7 +78,7 @@ module _ (d : Wire) (cs : List Loop) (fs : List (List ℕ)) where
         (r .0, omega (arith, r .1, numbers-length cs fs), number-of cs fs (r .0) (r .1) ∙ r .2);
   }
 
-  module _ (c : Candidates d cs) where
+  module _ (c : ProperCandidates d cs) where
     -- what passes is a solid
     pass-solid : AllPass → NamesSolid d cs fs
     pass-solid p =
@@ -166,7 +166,7 @@ module _ (form : List Check) (d : Wire) (list : List ℕ) where
       let q = first-both (form ++ drawingChecks d) (loopChecks (loops d) (candidates d)) (p .0) in
       first-both form (drawingChecks d) (q .0) .1
 
-module _ (form : List Check) (d : Wire) (c : Candidates d (candidates d)) (list : List ℕ) where
+module _ (form : List Check) (d : Wire) (c : ProperCandidates d (candidates d)) (list : List ℕ) where
   -- a list is accepted exactly when the drawing passes its rules, the list its own, and its faces name one solid of the drawing
   pub verdict-accepts : verdict form d list ≡ Accepted → Accepts form d list
   verdict-accepts e =

@@ -19,7 +19,7 @@ use Rattle.paper.specs.Solids.{tablesOf}
 use Rattle.paper.specs.Verdict.{listed, faceChecks}
 use Rattle.paper.specs.declared.Answer.the-variants.{Fine}
 use Rattle.means_solid.specs.Solid.{IsSolid}
-use Rattle.means_check.specs.Candidates.{Candidates}
+use Rattle.means_check.specs.Candidates.{ProperCandidates}
 use Rattle.means_solid.specs.Named.{SameRing, directed, Names}
 use Rattle.means_check.specs.Sent.{faceList}
 use Rattle.means_check.specs.Bodies.{Among, AmongEither, Singly, SameBody, OneSolid}
@@ -33,7 +33,7 @@ use Rattle.means_check.proofs.Accepting.{accepted-names, names-accepted
 use Rattle.means_loops.proofs.Kept.{filter-yes, filter-is}
 use Rattle.means_check.proofs.Picked.{inside, kept-once}
 
-module _ (d : Wire) (cs : List Loop) (c : Candidates d cs) where
+module _ (d : Wire) (cs : List Loop) (c : ProperCandidates d cs) where
   -- the list passes 21 to 27
   abbrev pub Fair : List Loop → Type 0
   Fair fs = Fine ≡ firstOf (faceChecks (tablesOf d cs) (length cs) (listed cs fs))

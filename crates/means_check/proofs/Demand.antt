@@ -18,7 +18,7 @@ use Rattle.paper.specs.declared.Answer.the-variants.{Fine}
 use Rattle.paper.specs.declared.Verdict.the-variants.{Accepted}
 use Rattle.paper_laws.proofs.Checks.{found-none}
 use Rattle.means_solid.specs.Solid.{IsSolid}
-use Rattle.means_check.specs.Candidates.{Candidates}
+use Rattle.means_check.specs.Candidates.{ProperCandidates}
 use Rattle.means_solid.specs.Named.{SameRing, Names}
 use Rattle.means_check.specs.Accepts.{NamesSolid, Accepts}
 use Rattle.means_sheets.proofs.FaceLists.{faces-read-one}
@@ -39,7 +39,7 @@ pub drawing-places : (d : Wire) → Fine ≡ firstOf (drawingChecks d) → sameP
 unfolding drawingChecks
 drawing-places d e = found-none _ _ e .0
 
-pub drawing-fits : (d : Wire) → Fine ≡ firstOf (drawingChecks d) → Candidates d (candidates d)
+pub drawing-fits : (d : Wire) → Fine ≡ firstOf (drawingChecks d) → ProperCandidates d (candidates d)
 drawing-fits d e = record {
   normal = λ k h. loop-normal d (loopAt (candidates d) k) (candidates-are d k h .loop);
   differ = candidates-once d;
@@ -57,7 +57,7 @@ module _ (form : List Check) (d : Wire) where
   )
 
   module _ (list : List ℕ) (a : verdict form d list ≡ Accepted) where
-    fits : Candidates d (candidates d)
+    fits : ProperCandidates d (candidates d)
     fits = drawing-fits d (fine-passes form d list a)
 
     told : Accepts form d list

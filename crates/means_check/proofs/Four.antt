@@ -14,7 +14,7 @@ use Rattle.sets.proofs.Digits.{never, count-only, count-none, first-in, left-in
 use Rattle.paper.specs.Drawing.{Wire, edge, edgeAt}
 use Rattle.paper.specs.Loops.{Loop, loopAt}
 use Rattle.paper.specs.Solids.{has}
-use Rattle.means_solid.specs.Solid.{Has, Way, stay, cross, IsSolid}
+use Rattle.means_solid.specs.Solid.{HasSide, Way, stay, cross, IsSolid}
 use Rattle.means_loops.specs.Path.{ClosedPath}
 use Rattle.means_solid.proofs.Goes.{has-cases, cases-has, around-at, wrap-next}
 use Rattle.means_check.proofs.Parts.{some-face}
@@ -119,7 +119,7 @@ module _ (d : Wire) (cs : List Loop) (taken turned : List Bool) (paths : (k : �
 
   -- a way to c comes to it from another face
   enters : (a c : ℕ) → (a ≡ c → ⊥) → (k : ℕ) → Way d cs taken turned a k → k ≡ c → (g : ℕ) × (g ≡ c → ⊥) × (dig taken g ≡ true)
-      × ((e : ℕ) × (e < length (d .edges)) × Has d cs taken turned g (edgeAt d e) × Has d cs taken turned c (edgeAt d e))
+      × ((e : ℕ) × (e < length (d .edges)) × HasSide d cs taken turned g (edgeAt d e) × HasSide d cs taken turned c (edgeAt d e))
   enters a c n k (stay f) z = absurd (n z)
   enters a c n k (cross {k = g} w e h p f q) z = go (ℕ-discrete g c) (enters a c n g w)
     where
@@ -129,11 +129,11 @@ module _ (d : Wire) (cs : List Loop) (taken turned : List Bool) (paths : (k : �
 
       go : Dec (g ≡ c)
           → (g ≡ c → (g : ℕ) × (g ≡ c → ⊥) × (dig taken g ≡ true)
-          × ((e : ℕ) × (e < length (d .edges)) × Has d cs taken turned g (edgeAt d e) × Has d cs taken turned c (edgeAt d e)))
+          × ((e : ℕ) × (e < length (d .edges)) × HasSide d cs taken turned g (edgeAt d e) × HasSide d cs taken turned c (edgeAt d e)))
           → (g : ℕ) × (g ≡ c → ⊥) × (dig taken g ≡ true)
-          × ((e : ℕ) × (e < length (d .edges)) × Has d cs taken turned g (edgeAt d e) × Has d cs taken turned c (edgeAt d e))
+          × ((e : ℕ) × (e < length (d .edges)) × HasSide d cs taken turned g (edgeAt d e) × HasSide d cs taken turned c (edgeAt d e))
       go (yes y) r = r y
-      go (no y) r = (g, y, face-of w, (e, h, p, subst (λ (m : ℕ). Has d cs taken turned m (edgeAt d e)) z q))
+      go (no y) r = (g, y, face-of w, (e, h, p, subst (λ (m : ℕ). HasSide d cs taken turned m (edgeAt d e)) z q))
 
   pub four-faces : 4 ≤ count taken
   four-faces = go (decLt (count taken) 4)
@@ -199,15 +199,15 @@ module _ (d : Wire) (cs : List Loop) (taken turned : List Bool) (paths : (k : �
                   pick (g .0) (g .1) (g .3) (all (g .0) (g .2))
                 where
                   pick : (g : ℕ) → (g ≡ c → ⊥)
-                      → ((e : ℕ) × (e < length (d .edges)) × Has d cs taken turned g (edgeAt d e) × Has d cs taken turned c (edgeAt d e))
+                      → ((e : ℕ) × (e < length (d .edges)) × HasSide d cs taken turned g (edgeAt d e) × HasSide d cs taken turned c (edgeAt d e))
                       → (g ≡ a) ⊎ ((g ≡ b) ⊎ (g ≡ c)) → ⊥
                   pick g gc (e, h, p, q) (inl x) =
                       let r = shared d cs taken turned paths s (edgeAt d e) a c
-                      (subst (λ (m : ℕ). Has d cs taken turned m (edgeAt d e)) x p) q in
+                      (subst (λ (m : ℕ). HasSide d cs taken turned m (edgeAt d e)) x p) q in
                       three a b c fa fb fc n (λ y. cb (sym y)) all 0 ha bs (r .0) (r .1) (r .2) ca
                   pick g gc (e, h, p, q) (inr (inl x)) =
                       let r = shared d cs taken turned paths s (edgeAt d e) b c
-                      (subst (λ (m : ℕ). Has d cs taken turned m (edgeAt d e)) x p) q in
+                      (subst (λ (m : ℕ). HasSide d cs taken turned m (edgeAt d e)) x p) q in
                       let t = flip bs in
                       three b a c fb fa fc (λ y. n (sym y)) (λ y. ca (sym y)) (λ k f. turn-all (all k f)) (t .0) (t .1) (t .2) (r .0)
                       (r .1)

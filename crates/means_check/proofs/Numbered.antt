@@ -20,7 +20,7 @@ use Rattle.sets.proofs.Ones.{dig-lt}
 use Rattle.paper.specs.Drawing.{Wire}
 use Rattle.paper.specs.Loops.{Loop, loopAt, flipped}
 use Rattle.paper.specs.Verdict.{onward, normalForm, numberIn, maskOf, notCandidate, faceTwice}
-use Rattle.means_check.specs.Candidates.{Candidates}
+use Rattle.means_check.specs.Candidates.{ProperCandidates}
 use Rattle.means_solid.specs.Named.{SameRing, directed, Names}
 use Rattle.means_loops.proofs.Rings.{same-length, flip-length}
 use Rattle.means_check.proofs.Numbers.{number-at, number-in, row-yes, row-is, none-lowest}
@@ -143,7 +143,7 @@ module _ (cs : List Loop) (fs : List Loop) where
 
 -- ---- a list that names a selection with its directions
 
-module _ (d : Wire) (cs : List Loop) (c : Candidates d cs) where
+module _ (d : Wire) (cs : List Loop) (c : ProperCandidates d cs) where
   number-is : (f : List ℕ) (k : ℕ) → k < length cs → normalForm f ≡ loopAt cs k → numberIn cs f ≡ k
   number-is f k h e =
       let l = number-in cs f k h e in

@@ -12,7 +12,7 @@ use Rattle.paper.specs.Drawing.{Wire, Edge, edgeAt}
 use Rattle.paper.specs.Loops.{Loop}
 use Rattle.paper.specs.Solids.{tablesOf}
 use Rattle.means_leaf.proofs.Solids.{six-none}
-use Rattle.means_solid.specs.Solid.{Has, InTwo, Way, stay, cross, sixOf, IsSolid}
+use Rattle.means_solid.specs.Solid.{HasSide, InTwo, Way, stay, cross, sixOfFaces, IsSolid}
 use Rattle.means_masks.proofs.Tables.{six-is}
 
 -- with no face there is no volume
@@ -24,14 +24,14 @@ some-face d cs taken turned {six} s = (
       go (s .iv .0) (s .iv .1) (sym (six-is d cs taken turned) ∙ six-none taken turned (count-none taken z) 0 (tablesOf d cs .sixes))),
 )
   where
-    go : sixOf d cs taken turned 0 cs ≡ pos six → 0 < six → sixOf d cs taken turned 0 cs ≡ pos 0 → ⊥
+    go : sixOfFaces d cs taken turned 0 cs ≡ pos six → 0 < six → sixOfFaces d cs taken turned 0 cs ≡ pos 0 → ⊥
     go p h q = let e : pos 0 ≡ pos six = sym q ∙ p in let z : 0 ≡ six = cc in omega arith
 
 -- ---- no solid is a part of another
 
 module _ (d : Wire) (cs : List Loop) (taken t less u : List Bool) where
   both-in : (e : Edge) → InTwo d cs taken t e → InTwo d cs less u e → ((k : ℕ) → dig less k ≡ true → dig taken k ≡ true)
-      → (k : ℕ) → dig taken k ≡ true → Has d cs taken t k e → dig less k ≡ true
+      → (k : ℕ) → dig taken k ≡ true → HasSide d cs taken t k e → dig less k ≡ true
   both-in e i j sub k f h =
       pick (i .only k f h) (i .only (j .one) (sub (j .one) (j .faces .0)) (j .have .0))
       (i .only (j .two) (sub (j .two) (j .faces .1)) (j .have .1))

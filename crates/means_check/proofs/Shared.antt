@@ -16,7 +16,7 @@ use Rattle.sets.proofs.Ones.{dig-lt}
 use Rattle.lists.proofs.Places.{one-later}
 use Rattle.paper.specs.Drawing.{Wire, Edge, edge}
 use Rattle.paper.specs.Loops.{Loop, loopAt}
-use Rattle.means_solid.specs.Solid.{Goes, Has, InTwo, IsSolid}
+use Rattle.means_solid.specs.Solid.{Goes, HasSide, InTwo, IsSolid}
 use Rattle.means_loops.specs.Path.{EdgeOf, ClosedPath}
 use Rattle.means_solid.proofs.Goes.{around-at, wrap-next}
 
@@ -125,8 +125,8 @@ module _ (d : Wire) (cs : List Loop) (taken turned : List Bool) (paths : (k : �
       swap a b l (inl g) = inr g
       swap a b l (inr g) = inl g
 
-      by-two : (e : Edge) → InTwo d cs taken turned e → ((k : ℕ) → Has d cs taken turned k e → Beside q i k)
-          → ((k : ℕ) → Beside q i k → Has d cs taken turned k e) → Other q i
+      by-two : (e : Edge) → InTwo d cs taken turned e → ((k : ℕ) → HasSide d cs taken turned k e → Beside q i k)
+          → ((k : ℕ) → Beside q i k → HasSide d cs taken turned k e) → Other q i
       by-two e t out into = pick (t .only q f (into q (own q i h)))
         where
           pick : (q ≡ t .one) ⊎ (q ≡ t .two) → Other q i
@@ -163,7 +163,7 @@ module _ (d : Wire) (cs : List Loop) (taken turned : List Bool) (paths : (k : �
           (λ k g. swap (around (loopAt cs q) i 0) (around (loopAt cs q) (suc i) 0) (loopAt cs k) g)
 
   -- two faces that share an edge: one of the first one's sides is in the other
-  pub shared : (e : Edge) (q k : ℕ) → Has d cs taken turned q e → Has d cs taken turned k e
+  pub shared : (e : Edge) (q k : ℕ) → HasSide d cs taken turned q e → HasSide d cs taken turned k e
       → (i : ℕ) × (i < length (loopAt cs q)) × Beside q i k
   shared (edge a b) q k (inl g) h = (g .at, g .here, to h)
     where

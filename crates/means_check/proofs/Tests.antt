@@ -24,14 +24,14 @@ use Rattle.means_leaf.proofs.Spread.{place-in}
 use Rattle.means_leaf.proofs.Reaches.{way-on, way-back, reached-ways, ways-reached}
 use Rattle.means_leaf.specs.Meaning as Masks
 use Rattle.means_solid.specs.Proper.{AllProper}
-use Rattle.means_solid.specs.Solid.{Way, EachWay, sixOf}
+use Rattle.means_solid.specs.Solid.{Way, EachWay, sixOfFaces}
 use Rattle.means_masks.proofs.Tables.{Even, EachTwo, Apart, masks-length, as-many, two-masks, masks-two, way-through, through-way}
 use Rattle.means_masks.proofs.Tables.{ways-at, at-ways, six-is, clear-apart, apart-clear}
-use Rattle.means_check.specs.Candidates.{Candidates}
+use Rattle.means_check.specs.Candidates.{ProperCandidates}
 use Rattle.means_check.proofs.Numbers.{none-lowest}
 
 -- candidates are proper loops
-pub all-proper : {d : Wire} {cs : List Loop} → Candidates d cs → AllProper cs
+pub all-proper : {d : Wire} {cs : List Loop} → ProperCandidates d cs → AllProper cs
 all-proper c k h = record { three = c .normal k h .three; different = c .normal k h .different }
 
 module _ (d : Wire) (cs : List Loop) (taken turned : List Bool) where
@@ -65,7 +65,7 @@ module _ (d : Wire) (cs : List Loop) (taken turned : List Bool) where
     unfolding pieces facesFrom
     pieces-ways p j k hj hk = way-through d cs taken turned hj (way-on (way-back (from j hj)) (from k hk))
       where
-        from : (m : ℕ) → dig taken m ≡ true → Masks.Way (tablesOf d cs .masks) taken (getD ks 0 0) m
+        from : (m : ℕ) → dig taken m ≡ true → Masks.MaskWay (tablesOf d cs .masks) taken (getD ks 0 0) m
         from m h =
             let r = l .there m h in
             let w = not-false (dig (facesFrom (getD ks 0 0) (tablesOf d cs) taken .reached) (getD ks (r .0) 0))
@@ -112,7 +112,7 @@ module _ (d : Wire) (cs : List Loop) (taken turned : List Bool) where
   unfolding above
   above-is z n e h = ap (ltZ (pos 0)) e ∙ lt-ltb 0 n h
 
-  pub inward-six : inward (tablesOf d cs) taken turned ≡ none → (six : ℕ) × (sixOf d cs taken turned 0 cs ≡ pos six) × (0 < six)
+  pub inward-six : inward (tablesOf d cs) taken turned ≡ none → (six : ℕ) × (sixOfFaces d cs taken turned 0 cs ≡ pos six) × (0 < six)
   unfolding inward
   inward-six p =
       let r = above-yes (sixFrom 0 (tablesOf d cs .sixes) taken turned) (go (above (sixFrom 0 (tablesOf d cs .sixes) taken turned)) p) in
@@ -122,7 +122,7 @@ module _ (d : Wire) (cs : List Loop) (taken turned : List Bool) where
       go true e = refl
       go false e = let z : _≡_ {A = ℕ} 0 1 = cc in absurd (omega arith)
 
-  pub six-inward : (six : ℕ) → sixOf d cs taken turned 0 cs ≡ pos six → 0 < six → inward (tablesOf d cs) taken turned ≡ none
+  pub six-inward : (six : ℕ) → sixOfFaces d cs taken turned 0 cs ≡ pos six → 0 < six → inward (tablesOf d cs) taken turned ≡ none
   unfolding inward
   six-inward n e h =
       ap (λ (b : Bool). offends (not b) 0) (above-is (sixFrom 0 (tablesOf d cs .sixes) taken turned) n (six-is d cs taken turned ∙ e) h)

@@ -18,7 +18,7 @@ use Rattle.paper.specs.declared.Point.{Point}
 use Rattle.paper_laws.proofs.Vectors.{vec, k as con, _·_, o, v, vring}
 use Rattle.paper_laws.proofs.Six.{six-normal}
 use Rattle.paper_laws.proofs.Points.{across-too, dot-comm, dot-less}
-use Rattle.means_solid.specs.Solid.{sixOf, IsSolid}
+use Rattle.means_solid.specs.Solid.{sixOfFaces, IsSolid}
 use Rattle.means_loops.specs.Plane.{InPlane}
 use Rattle.means_loops.specs.Path.{ClosedPath}
 use Rattle.means_loops.proofs.OwnPlane.{normal-across, corner-at, less-dot}
@@ -52,7 +52,7 @@ module _ (d : Wire) (cs : List Loop) (taken turned : List Bool) (paths : (k : �
   -- such a solid has no volume
   pub no-volume : ⊥
   no-volume =
-      let e : sixOf d cs taken turned 0 cs ≡ pos 0
+      let e : sixOfFaces d cs taken turned 0 cs ≡ pos 0
       = faces-same cs taken turned (λ l. faceSix (polygon d l)) (λ l. dot (at d u) (normal (polygon d l))) face-six
       ∙ faces-dot cs taken turned (at d u) (λ l. normal (polygon d l)) ∙ ap (dot (at d u)) (normals-close d cs taken turned paths s)
       ∙ vring (vec (at d u) ∷ []) (v 0 · o) (con (pos 0)) tt in

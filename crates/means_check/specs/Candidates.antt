@@ -9,7 +9,7 @@ use Rattle.paper.specs.Clash.{clash}
 use Rattle.means_loops.specs.Shape.{Normal}
 
 -- they are in normal form, no two are one, and two clash whichever is named first
-pub record Candidates (d : Wire) (cs : List Loop) : Type 0 where
+pub record ProperCandidates (d : Wire) (cs : List Loop) : Type 0 where
   pub normal : (k : ℕ) → k < length cs → Normal (loopAt cs k)
   pub differ : (j k : ℕ) → j < length cs → k < length cs → loopAt cs j ≡ loopAt cs k → j ≡ k
   pub even : (j k : ℕ) → j < length cs → k < length cs

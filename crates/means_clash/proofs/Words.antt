@@ -23,8 +23,8 @@ use Rattle.paper.specs.declared.Where.the-variants.{Outside, Border, Inside}
 use Rattle.paper_laws.proofs.Wires.{polygon-length}
 use Rattle.paper_laws.proofs.Points.{same-yes, same-is}
 use Rattle.means_clash.proofs.Either.{corner-yes, yes-corner}
-use Rattle.means_clash.specs.Clash.{cornerAt, Corner, Opposite, piercing, EdgePierces, RuleA, RuleB, InAngle, PointsIn, RuleC, Clash}
-use Rattle.means_clash.specs.Clash as Clash
+use Rattle.means_clash.specs.Clash.{cornerAt, Corner, Opposite, piercing, EdgePierces, RuleA, RuleB, InAngle, PointsIn, RuleC, ClashOf}
+use Rattle.means_clash.specs.Clash as ClashOf
 use Rattle.paper_laws.proofs.Tests.{Is, is-ltZ, is-not, is-or, is-and, is-to, is-zero, is-side}
 
 -- ---- signs, points, places
@@ -213,7 +213,7 @@ module _ (f g : Polygon) (two-f : 2 ≤ length f) (two-g : 2 ≤ length g) where
         ),
   )
 
-  pub is-clash : Is (clash f g) (Clash f g)
+  pub is-clash : Is (clash f g) (ClashOf f g)
   unfolding clash
   is-clash =
       is-to _
@@ -222,19 +222,19 @@ module _ (f g : Polygon) (two-f : 2 ≤ length f) (two-g : 2 ≤ length g) where
       (is-or (pierces f g) (pierces g f) (is-pierces f g) (is-pierces g f)) (is-or (enters f g) (enters g f) (is-enters f g) (is-enters g f)))
       is-folds) there back
     where
-      there : ((RuleA f g ⊎ RuleA g f) ⊎ (RuleB f g ⊎ RuleB g f)) ⊎ RuleC f g → Clash f g
-      there (inl (inl (inl x))) = Clash.by-a x
-      there (inl (inl (inr x))) = Clash.by-a-back x
-      there (inl (inr (inl x))) = Clash.by-b x
-      there (inl (inr (inr x))) = Clash.by-b-back x
-      there (inr x) = Clash.by-c x
+      there : ((RuleA f g ⊎ RuleA g f) ⊎ (RuleB f g ⊎ RuleB g f)) ⊎ RuleC f g → ClashOf f g
+      there (inl (inl (inl x))) = ClashOf.by-a x
+      there (inl (inl (inr x))) = ClashOf.by-a-back x
+      there (inl (inr (inl x))) = ClashOf.by-b x
+      there (inl (inr (inr x))) = ClashOf.by-b-back x
+      there (inr x) = ClashOf.by-c x
 
-      back : Clash f g → ((RuleA f g ⊎ RuleA g f) ⊎ (RuleB f g ⊎ RuleB g f)) ⊎ RuleC f g
-      back (Clash.by-a x) = inl (inl (inl x))
-      back (Clash.by-a-back x) = inl (inl (inr x))
-      back (Clash.by-b x) = inl (inr (inl x))
-      back (Clash.by-b-back x) = inl (inr (inr x))
-      back (Clash.by-c x) = inr x
+      back : ClashOf f g → ((RuleA f g ⊎ RuleA g f) ⊎ (RuleB f g ⊎ RuleB g f)) ⊎ RuleC f g
+      back (ClashOf.by-a x) = inl (inl (inl x))
+      back (ClashOf.by-a-back x) = inl (inl (inr x))
+      back (ClashOf.by-b x) = inl (inr (inl x))
+      back (ClashOf.by-b-back x) = inl (inr (inr x))
+      back (ClashOf.by-c x) = inr x
 
 -- a loop's polygon has as many corners
 pub two-corners : (d : Wire) (l : Loop) → 3 ≤ length l → 2 ≤ length (polygon d l)

@@ -72,9 +72,9 @@ pub record RuleC (f g : Polygon) : Type 0 where
   pub angles : PointsIn f u v × PointsIn g u v
 
 -- "either way round"; C is the same either way
-pub data Clash (f g : Polygon) : Type 0 where
-  by-a : RuleA f g → Clash f g
-  by-a-back : RuleA g f → Clash f g
-  by-b : RuleB f g → Clash f g
-  by-b-back : RuleB g f → Clash f g
-  by-c : RuleC f g → Clash f g
+pub data ClashOf (f g : Polygon) : Type 0 where
+  by-a : RuleA f g → ClashOf f g
+  by-a-back : RuleA g f → ClashOf f g
+  by-b : RuleB f g → ClashOf f g
+  by-b-back : RuleB g f → ClashOf f g
+  by-c : RuleC f g → ClashOf f g

@@ -19,7 +19,7 @@ use Rattle.means_inside.specs.Convex.{Next, Hand, lefts, rights}
 use Rattle.means_inside.specs.Convex as convex
 use Rattle.means_inside.proofs.Sides.{step-split, step-left, step-right, step-last}
 use Rattle.means_inside.proofs.Inside.{any-start}
-use Rattle.means_corner.specs.Corners.{Small}
+use Rattle.means_corner.specs.Corners.{ForSmall}
 use Rattle.exact.proofs.Order.{whole-pos}
 use Rattle.means_corner.proofs.Steps.{step}
 use Rattle.means_corner.proofs.Lead.{step-from}
@@ -38,16 +38,16 @@ turn-round x l y r a b t = ⊎-elim (λ i. step-right y r x l y a b i) (λ i. st
 
 module _ (m : ℤ) (h : Hand) (a v b c : Flat) (o : OuterBy h v b a c) where
   record Claim (g : List Flat) : Type 0 where
-    out : Simple m g → 3 ≤ length g → Up (convex.turned h (area g)) → Next g a v → Next g v b
-        → Small (λ s n. whereFlat (step v c s n) (pos n) g ≡ Outside)
+    out : Simple m g → 3 ≤ length g → Up (convex.handed h (area g)) → Next g a v → Next g v b
+        → ForSmall (λ s n. whereFlat (step v c s n) (pos n) g ≡ Outside)
 
   -- v is the first corner
   at-first : (l : List Flat) → Claim (v ∷ l)
   at-first [] = record { out = λ s n u p q. absurd (omega arith) }
   at-first (y ∷ r) = record { out = λ s n u p q. go s n u p q }
     where
-      go : Simple m (v ∷ y ∷ r) → 3 ≤ length (v ∷ y ∷ r) → Up (convex.turned h (area (v ∷ y ∷ r))) → Next (v ∷ y ∷ r) a v
-          → Next (v ∷ y ∷ r) v b → Small (λ s n. whereFlat (step v c s n) (pos n) (v ∷ y ∷ r) ≡ Outside)
+      go : Simple m (v ∷ y ∷ r) → 3 ≤ length (v ∷ y ∷ r) → Up (convex.handed h (area (v ∷ y ∷ r))) → Next (v ∷ y ∷ r) a v
+          → Next (v ∷ y ∷ r) v b → ForSmall (λ s n. whereFlat (step v c s n) (pos n) (v ∷ y ∷ r) ≡ Outside)
       go s n u p (inr q) = absurd (s .apart .0 v (step-from y r v v b q) refl)
       go s n u p (inl q) =
           let e : a ≡ lst y r = before-one m v c v (y ∷ r) v (s .apart .1) (s .apart .0) a (lst y r) p (step-last v (y ∷ r) v) in
@@ -59,12 +59,12 @@ module _ (m : ℤ) (h : Hand) (a v b c : Flat) (o : OuterBy h v b a c) where
   from-start x l r k = record {
     out = λ s n u p q.
         let f = k .out (turned m x l v r s) (omega (arith, length-append l (v ∷ r), length-append r (x ∷ l)))
-        (up-is (ap (convex.turned h) (area-turned x l v r)) u) (turn-round x l v r a v p) (turn-round x l v r v b q) in
+        (up-is (ap (convex.handed h) (area-turned x l v r)) u) (turn-round x l v r a v p) (turn-round x l v r v b q) in
         (f .0, λ t j ht hj z. any-start (pos j) (whole-pos j hj) x l v r (step v c t j) ∙ f .1 t j ht hj z);
   }
 
-  pub out-corner : (g : List Flat) → Simple m g → 3 ≤ length g → Up (convex.turned h (area g)) → Next g a v → Next g v b
-      → Small (λ s n. whereFlat (step v c s n) (pos n) g ≡ Outside)
+  pub out-corner : (g : List Flat) → Simple m g → 3 ≤ length g → Up (convex.handed h (area g)) → Next g a v → Next g v b
+      → ForSmall (λ s n. whereFlat (step v c s n) (pos n) g ≡ Outside)
   out-corner [] s n u p q = absurd p
   out-corner (x ∷ l) s n u p q = find (step-from x l x v b q) .out s n u p q
     where

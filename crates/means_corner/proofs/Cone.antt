@@ -6,13 +6,13 @@ use mathlib.Core.List.{List, [], _∷_}
 use lib.IntN.{ℤ, pos, negℤ, _+ℤ_, _-ℤ_, _*ℤ_}
 use lib.ListN.{getD}
 use Rattle.lists.proofs.Truth.{not-true, implied, or-cases, and-left, and-right, and-both}
-use Rattle.exact.specs.Signs.{Sign3, level, sign, turned}
+use Rattle.exact.specs.Signs.{Sign3, level, sign, negatedSign}
 use Rattle.exact.proofs.Ring.{con, _⊕_, _⊖_, _⊗_, neg, ring}
 use Rattle.exact.proofs.Signs.{sign-neg, sign-above}
 use Rattle.paper.specs.declared.Flat.{Flat}
-use Rattle.means_area.specs.Flats.{Up, Nn, turn}
+use Rattle.means_area.specs.Flats.{Up, Nn, twiceArea}
 use Rattle.means_area.proofs.Flats.Turns.{env, tE, flip-last}
-use Rattle.means_inside.specs.Convex.{Hand, lefts, rights, turned as by}
+use Rattle.means_inside.specs.Convex.{Hand, lefts, rights, handed as by}
 use Rattle.means_corner.proofs.Signs.{up, down, may, three, not-down, every3, tried3}
 
 -- from b to a, with c in between: b a, b c and c a are the turns at the point. Below 180 degrees c is to the left of b and to the right of
@@ -24,14 +24,14 @@ abbrev test : List Sign3 → Bool
 test s =
     let ba = getD s 0 level in let bx = getD s 1 level in let bc = getD s 2 level in
     let xa = getD s 3 level in let ca = getD s 4 level in let xc = getD s 5 level in
-    not (may ba xc bc xa bx ca && cone ba bc ca) || (cone bx bc (turned xc) || cone xa xc ca)
+    not (may ba xc bc xa bx ca && cone ba bc ca) || (cone bx bc (negatedSign xc) || cone xa xc ca)
 
 all-tried : every3 6 test ≡ true
 all-tried = refl
 
 module _ (h : Hand) (v : Flat) where
   abbrev pub t : Flat → Flat → ℤ
-  t x y = by h (turn v x y)
+  t x y = by h (twiceArea v x y)
 
   abbrev pub Cone : Flat → Flat → Flat → Type 0
   Cone b a c = cone (sign (t b a)) (sign (t b c)) (sign (t c a)) ≡ true
@@ -42,7 +42,7 @@ module _ (v : Flat) where
   hand-back rights x y = ap negℤ (flip-last v x y)
 
   four : (h : Hand) (b a x c : Flat) → t h v b a *ℤ t h v x c -ℤ t h v b c *ℤ t h v x a +ℤ t h v b x *ℤ t h v c a ≡ pos 0
-  unfolding turn
+  unfolding twiceArea
   four lefts b a x c =
       ring (env (pos 0) (v ∷ b ∷ a ∷ x ∷ c ∷ [])) (tE 0 1 2 ⊗ tE 0 3 4 ⊖ tE 0 1 4 ⊗ tE 0 3 2 ⊕ tE 0 1 3 ⊗ tE 0 4 2) (con (pos 0)) tt
   four rights b a x c =
@@ -52,9 +52,9 @@ module _ (v : Flat) where
   -- parted by x
   pub parted : (h : Hand) (b a x c : Flat) → Cone h v b a c → Cone h v b x c ⊎ Cone h v x a c
   parted h b a x c k =
-      go (or-cases (cone (s b x) (s b c) (turned (s x c))) (cone (s x a) (s x c) (s c a))
+      go (or-cases (cone (s b x) (s b c) (negatedSign (s x c))) (cone (s x a) (s x c) (s c a))
       (implied (may (s b a) (s x c) (s b c) (s x a) (s b x) (s c a) && cone (s b a) (s b c) (s c a))
-      (cone (s b x) (s b c) (turned (s x c)) || cone (s x a) (s x c) (s c a))
+      (cone (s b x) (s b c) (negatedSign (s x c)) || cone (s x a) (s x c) (s c a))
       (tried3 6 test all-tried (s b a ∷ s b x ∷ s b c ∷ s x a ∷ s c a ∷ s x c ∷ []) refl)
       (and-both (three (t h v b a) (t h v x c) (t h v b c) (t h v x a) (t h v b x) (t h v c a)
       (four h b a x c)) k)))
@@ -62,7 +62,7 @@ module _ (v : Flat) where
       s : Flat → Flat → Sign3
       s y z = sign (t h v y z)
 
-      go : (cone (sign (t h v b x)) (sign (t h v b c)) (turned (sign (t h v x c))) ≡ true)
+      go : (cone (sign (t h v b x)) (sign (t h v b c)) (negatedSign (sign (t h v x c))) ≡ true)
           ⊎ (cone (sign (t h v x a)) (sign (t h v x c)) (sign (t h v c a)) ≡ true) → Cone h v b x c ⊎ Cone h v x a c
       go (inl q) =
           inl ((λ i. cone (sign (t h v b x)) (sign (t h v b c)) ((ap sign (hand-back h c x) ∙ sign-neg (t h v x c)) i)) ∙ q)

@@ -20,12 +20,12 @@ use Rattle.means_area.proofs.Space.Maps.{map-link}
 use Rattle.means_inside.specs.Beams.{Off}
 use Rattle.means_inside.specs.Touch.{Touch}
 use Rattle.means_inside.specs.Means.{big}
-use Rattle.means_inside.specs.Convex.{Step, Next, Hand, turned}
+use Rattle.means_inside.specs.Convex.{NextAlong, Next, Hand, handed}
 use Rattle.means_inside.proofs.Ears.{off-back}
 use Rattle.means_inside.proofs.Segment.{off-link}
 use Rattle.means_inside.proofs.Sides.{link-next}
 use Rattle.means_inside.proofs.Inside.{means}
-use Rattle.means_corner.specs.Corners.{Small}
+use Rattle.means_corner.specs.Corners.{ForSmall}
 use Rattle.exact.proofs.Order.{whole-pos}
 use Rattle.means_corner.proofs.Small.{always, then, both-small}
 use Rattle.means_corner.proofs.Signs.{down, low-sign}
@@ -35,7 +35,7 @@ use Rattle.means_corner.proofs.Lead.{step-from, step-to, lead}
 use Rattle.means_corner.proofs.Beside.{Behind, Strict, acute, wide, away, beside, side-next, side-before, Miss, all-steps}
 use Rattle.means_corner.proofs.Beside.{next-one, before-one}
 
-pub step-chain : (x : Flat) (l : List Flat) (e a b : Flat) → Step x l e a b → Chain x l e a b
+pub step-chain : (x : Flat) (l : List Flat) (e a b : Flat) → NextAlong x l e a b → Chain x l e a b
 step-chain x [] e a b s = inl s
 step-chain x (y ∷ l) e a b (inl s) = inl (inl s)
 step-chain x (y ∷ l) e a b (inr s) = inr (step-chain y l e a b s)
@@ -53,20 +53,20 @@ module _ (m : ℤ) (x : Flat) (l : List Flat) (s : Simple m (x ∷ l)) (a v b c 
   here = step-from x l x v b after
 
   -- a side is at v or not
-  one-side : (p q : Flat) → Next (x ∷ l) p q → Small (Miss m v c p q)
+  one-side : (p q : Flat) → Next (x ∷ l) p q → ForSmall (Miss m v c p q)
   one-side p q i = go (ways (height m p -ℤ height m v)) (ways (height m q -ℤ height m v))
     where
       there : Of q (x ∷ l)
       there = ⊎-elim (λ o. inr o) (λ e. inl e) (step-to x l x p q i)
 
-      from-v : height m p -ℤ height m v ≡ pos 0 → Small (Miss m v c p q)
+      from-v : height m p -ℤ height m v ≡ pos 0 → ForSmall (Miss m v c p q)
       from-v e =
           let pv : p ≡ v = same-height m (x ∷ l) (s .apart) p v (step-from x l x p q i) here (eq-of-sub (height m p) (height m v) e) in
           let bq : b ≡ q = next-one m v c x l x (s .apart) b q after (subst (λ (z : Flat). Next (x ∷ l) z q) pv i) in
           always (λ t n ht hn. subst (λ (z : Flat). Miss m v c z q t n) (sym pv)
           (subst (λ (z : Flat). Miss m v c v z t n) bq (beside v c b okb t n ht hn)))
 
-      to-v : height m q -ℤ height m v ≡ pos 0 → Small (Miss m v c p q)
+      to-v : height m q -ℤ height m v ≡ pos 0 → ForSmall (Miss m v c p q)
       to-v e =
           let qv : q ≡ v = same-height m (x ∷ l) (s .apart) q v there here (eq-of-sub (height m q) (height m v) e) in
           let ap' : a ≡ p = before-one m v c x l x (s .apart .1) (s .apart .0) a p before (subst (λ (z : Flat). Next (x ∷ l) p z) qv i) in
@@ -79,7 +79,7 @@ module _ (m : ℤ) (x : Flat) (l : List Flat) (s : Simple m (x ∷ l)) (a v b c 
       apart y z (inr u) e = zero-off (ap negℤ (sub-of-eq (height m y) (height m z) e)) u
 
       neither : Up (height m p -ℤ height m v) ⊎ Up (negℤ (height m p -ℤ height m v))
-          → Up (height m q -ℤ height m v) ⊎ Up (negℤ (height m q -ℤ height m v)) → Small (Miss m v c p q)
+          → Up (height m q -ℤ height m v) ⊎ Up (negℤ (height m q -ℤ height m v)) → ForSmall (Miss m v c p q)
       neither yp yq =
           let link = step-chain x l x p q i in
           away v c p q
@@ -87,7 +87,7 @@ module _ (m : ℤ) (x : Flat) (l : List Flat) (s : Simple m (x ∷ l)) (a v b c 
 
       go : Up (height m p -ℤ height m v) ⊎ ((height m p -ℤ height m v ≡ pos 0) ⊎ Up (negℤ (height m p -ℤ height m v)))
           → Up (height m q -ℤ height m v) ⊎ ((height m q -ℤ height m v ≡ pos 0) ⊎ Up (negℤ (height m q -ℤ height m v)))
-          → Small (Miss m v c p q)
+          → ForSmall (Miss m v c p q)
       go (inr (inl e)) y = from-v e
       go (inl u) (inr (inl e)) = to-v e
       go (inr (inr u)) (inr (inl e)) = to-v e
@@ -96,7 +96,7 @@ module _ (m : ℤ) (x : Flat) (l : List Flat) (s : Simple m (x ∷ l)) (a v b c 
       go (inr (inr u)) (inl w) = neither (inr u) (inl w)
       go (inr (inr u)) (inr (inr w)) = neither (inr u) (inr w)
 
-  pub no-touch : Small (λ t n. Touch (step v c t n) (map (big (pos n)) (x ∷ l)) → ⊥)
+  pub no-touch : ForSmall (λ t n. Touch (step v c t n) (map (big (pos n)) (x ∷ l)) → ⊥)
   no-touch = then (λ t n f. not-on t n f) (all-steps (Miss m v c) x l x one-side)
     where
       not-on : (t n : ℕ) → ((p q : Flat) → Next (x ∷ l) p q → Miss m v c p q t n) → Touch (step v c t n) (map (big (pos n)) (x ∷ l)) → ⊥
@@ -121,7 +121,7 @@ closed h v b a c (wide i (inr w)) =
     ∙ or-right (not (down (sign (t h v b c)))) (not (down (sign (t h v c a)))) (λ y. not (down (sign-above w y)))
 
 pub at-corner : (m : ℤ) (r : List Flat) → Simple m r → (h : Hand) (a v b c : Flat) → Next r a v → Next r v b → Strict h v b a c
-    → 3 ≤ length r → Up (turned h (area r)) → Small (λ t n. whereFlat (step v c t n) (pos n) r ≡ Inside)
+    → 3 ≤ length r → Up (handed h (area r)) → ForSmall (λ t n. whereFlat (step v c t n) (pos n) r ≡ Inside)
 at-corner m [] s h a v b c p q k long up = absurd p
 at-corner m (x ∷ l) s h a v b c p q k long up =
     let r = means m (x ∷ l) long s in

@@ -7,12 +7,12 @@ use Rattle.exact.proofs.Ring.{var, con, _⊗_, neg, ring}
 use Rattle.exact.proofs.Order.{mul-pos, mul-nonneg, ring-with}
 use Rattle.exact.proofs.Signs.{mul-zero, pos-ne}
 use Rattle.paper.specs.declared.Flat.{Flat}
-use Rattle.means_area.specs.Flats.{Up, Nn, turn}
+use Rattle.means_area.specs.Flats.{Up, Nn, twiceArea}
 use Rattle.means_area.proofs.Flats.Net.{nn0}
 use Rattle.means_area.proofs.Flats.Signs.{up-is, nn-is, up-nn, off, zero-off, ways}
 use Rattle.means_area.proofs.Flats.Turns.{env, tE, flip-last}
 use Rattle.means_inside.specs.Beams.{facing}
-use Rattle.means_inside.specs.Convex.{Hand, lefts, rights, turned}
+use Rattle.means_inside.specs.Convex.{Hand, lefts, rights, handed}
 use Rattle.means_inside.proofs.Ears.{facing-back}
 use Rattle.means_inside.proofs.Triangle.{fE, twice}
 use Rattle.means_corner.proofs.Cone.{t, hand-back}
@@ -20,13 +20,13 @@ use Rattle.means_corner.proofs.Beside.{Behind, Strict, acute, wide, han
 use Rattle.means_corner.proofs.Outside.{OuterBy}
 use Rattle.means_corner.proofs.Around.{outer-hand}
 
-hand-none : (h : Hand) (z : ℤ) → turned h z ≡ pos 0 → z ≡ pos 0
+hand-none : (h : Hand) (z : ℤ) → handed h z ≡ pos 0 → z ≡ pos 0
 hand-none lefts z e = e
 hand-none rights z e = twice z ∙ ap negℤ e
 
 -- products in line: x is in line with c
-dots : (v x y c : Flat) → turn v x c ≡ pos 0 → facing v c c *ℤ facing v x y ≡ facing v x c *ℤ facing v y c
-unfolding turn facing
+dots : (v x y c : Flat) → twiceArea v x c ≡ pos 0 → facing v c c *ℤ facing v x y ≡ facing v x c *ℤ facing v y c
+unfolding twiceArea facing
 dots v x y c e =
     ring-with (env (pos 0) (v ∷ x ∷ y ∷ c ∷ [])) (fE 0 3 3 ⊗ fE 0 1 2) (fE 0 1 3 ⊗ fE 0 2 3) (neg (tE 0 3 2)) (tE 0 1 3) (con (pos 0)) tt e
 
@@ -42,18 +42,18 @@ no-down x y z w e ux uy nz nw =
     ∙ ring (x ∷ y ∷ []) (var 0 ⊗ var 1) (neg (var 0 ⊗ neg (var 1))) tt) (mul-nonneg nz nw))
 
 module _ (h : Hand) (v b a c : Flat) (behind-b : Behind v b c) (behind-a : Behind v a c)
-    (straight : turn v b a ≡ pos 0 → Up (negℤ (facing v a b))) (not-out : OuterBy h v b a c → ⊥) where
+    (straight : twiceArea v b a ≡ pos 0 → Up (negℤ (facing v a b))) (not-out : OuterBy h v b a c → ⊥) where
   cb : Up (negℤ (t h v b c)) → Up (t h v c b)
   cb u = up-is (sym (hand-back v h c b)) u
 
   ac : Up (negℤ (t h v c a)) → Up (t h v a c)
   ac u = up-is (sym (hand-back v h a c)) u
 
-  along-b : t h v b c ≡ pos 0 → turn v b c ≡ pos 0
-  along-b e = hand-none h (turn v b c) e
+  along-b : t h v b c ≡ pos 0 → twiceArea v b c ≡ pos 0
+  along-b e = hand-none h (twiceArea v b c) e
 
-  along-a : t h v c a ≡ pos 0 → turn v a c ≡ pos 0
-  along-a e = flip-last v a c ∙ ap negℤ (hand-none h (turn v c a) e)
+  along-a : t h v c a ≡ pos 0 → twiceArea v a c ≡ pos 0
+  along-a e = flip-last v a c ∙ ap negℤ (hand-none h (twiceArea v c a) e)
 
   by-b : t h v b c ≡ pos 0 → facing v c c *ℤ t h v b a ≡ facing v b c *ℤ t h v c a
   by-b e = hand-ratio v c h b a (along-b e)
@@ -69,7 +69,7 @@ module _ (h : Hand) (v b a c : Flat) (behind-b : Behind v b c) (behind-a : Behin
   no-straight : t h v b a ≡ pos 0 → Up (facing v c c) → facing v c c *ℤ facing v a b ≡ facing v a c *ℤ facing v b c
       → Nn (negℤ (facing v a c)) → Nn (negℤ (facing v b c)) → ⊥
   no-straight e u q na nb =
-      no-down (facing v c c) (facing v a b) (facing v a c) (facing v b c) q u (straight (hand-none h (turn v b a) e)) na nb
+      no-down (facing v c c) (facing v a b) (facing v a c) (facing v b c) q u (straight (hand-none h (twiceArea v b a) e)) na nb
 
   dots-b : t h v b c ≡ pos 0 → facing v c c *ℤ facing v a b ≡ facing v a c *ℤ facing v b c
   dots-b e =
@@ -114,7 +114,7 @@ module _ (h : Hand) (v b a c : Flat) (behind-b : Behind v b c) (behind-a : Behin
       crossed e (w .1) (dots-b x ∙ ap (λ (i : ℤ). facing v a c *ℤ i) z ∙ ring (facing v a c ∷ []) (var 0 ⊗ con (pos 0)) (con (pos 0)) tt)
     where
       crossed : t h v b a ≡ pos 0 → Up (facing v c c) → facing v c c *ℤ facing v a b ≡ pos 0 → ⊥
-      crossed e u q = zero-off (ap negℤ (mul-zero (facing v c c) (facing v a b) (pos-ne u) q)) (straight (hand-none h (turn v b a) e))
+      crossed e u q = zero-off (ap negℤ (mul-zero (facing v c c) (facing v a b) (pos-ne u) q)) (straight (hand-none h (twiceArea v b a) e))
 
   at-a : (t h v b a ≡ pos 0) ⊎ Up (negℤ (t h v b a)) → Up (negℤ (t h v b c)) → t h v c a ≡ pos 0 → ⊥
   at-a (inr u) x y =
@@ -126,7 +126,7 @@ module _ (h : Hand) (v b a c : Flat) (behind-b : Behind v b c) (behind-a : Behin
       ∙ ring (facing v c c ∷ []) (var 0 ⊗ con (pos 0)) (con (pos 0)) tt) in
       zero-off (ap negℤ (mul-zero (facing v c c) (facing v a b) (pos-ne (w .1))
       (dots-a y ∙ ap (λ (i : ℤ). i *ℤ facing v b c) z ∙ ring (facing v b c ∷ []) (con (pos 0) ⊗ var 0) (con (pos 0)) tt)))
-      (straight (hand-none h (turn v b a) e))
+      (straight (hand-none h (twiceArea v b a) e))
 
   wider : (t h v b a ≡ pos 0) ⊎ Up (negℤ (t h v b a)) → Up (t h v b c) ⊎ ((t h v b c ≡ pos 0) ⊎ Up (negℤ (t h v b c)))
       → Up (t h v c a) ⊎ ((t h v c a ≡ pos 0) ⊎ Up (negℤ (t h v c a))) → Strict h v b a c

@@ -26,18 +26,18 @@ use Rattle.paper.specs.declared.Where.the-variants.{Outside, Inside}
 use Rattle.paper_laws.proofs.Points.{zero-yes, self-pos}
 use Rattle.paper_laws.proofs.Vectors.{vec, v, _-s_, _·_, _-v_, vring}
 use Rattle.means_drawing.specs.Segments.{along}
-use Rattle.means_area.specs.Flats.{Up, Nn, turn, area}
+use Rattle.means_area.specs.Flats.{Up, Nn, twiceArea, area}
 use Rattle.means_area.specs.Loops.{loopOf}
 use Rattle.means_area.proofs.Flats.Signs.{up-is, off, which}
 use Rattle.means_area.proofs.Flats.Chains.{link-back}
 use Rattle.means_area.proofs.Loops.{normal-real, plane-holds, axis-holds, ring-seen, loop-long}
 use Rattle.means_area.proofs.Space.Maps.{length-map}
-use Rattle.means_inside.specs.Convex.{Step, Next, Hand, turned}
+use Rattle.means_inside.specs.Convex.{NextAlong, Next, Hand, handed}
 use Rattle.means_inside.proofs.Views.{shown, shown-real}
 use Rattle.means_inside.proofs.Inside.{io}
 use Rattle.means_inside.proofs.Loops.{lies-is}
 use Rattle.means_clash.specs.Clash.{cornerAt, Corner, Left, InAngle, PointsIn}
-use Rattle.means_corner.specs.Corners.{Small, Starts, OutAngle, CornerAngles}
+use Rattle.means_corner.specs.Corners.{ForSmall, Starts, OutAngle, CornerAngles}
 use Rattle.means_corner.proofs.Small.{then, both-small}
 use Rattle.means_corner.proofs.Steps.{step}
 use Rattle.means_corner.proofs.Beside.{Strict, acute, wide}
@@ -55,7 +55,7 @@ module _ (S : Point → Flat) where
   two y z = (S y, S z)
 
   step-at : (x : Point) (l : List Point) (e : Point) (k : ℕ) (d : Flat × Flat) → k < suc (length l)
-      → Step (S x) (map S l) (S e) (getD (sidesFrom two e x l) k d .0) (getD (sidesFrom two e x l) k d .1)
+      → NextAlong (S x) (map S l) (S e) (getD (sidesFrom two e x l) k d .0) (getD (sidesFrom two e x l) k d .1)
   unfolding sidesFrom
   step-at x [] e zero d h = (refl, refl)
   step-at x [] e (suc k) d h = absurd (omega arith)
@@ -66,7 +66,7 @@ module _ (S : Point → Flat) where
   unfolding sides
   next-at [] k h = absurd (omega arith)
   next-at (x ∷ l) k h =
-      subst (λ (q : Flat × Flat). Step (S x) (map S l) (S x) (q .0) (q .1)) (sides-at two (x ∷ l) k (S x, S x) origin h)
+      subst (λ (q : Flat × Flat). NextAlong (S x) (map S l) (S x) (q .0) (q .1)) (sides-at two (x ∷ l) k (S x, S x) origin h)
       (step-at x l x k (S x, S x) h)
 
 -- a place up to the length, as one below it
@@ -135,16 +135,16 @@ module _ (d : Wire) (r11 : samePlace d ≡ none) (r13 : edgeMeets d ≡ none) (i
       vring (vec (normal g) ∷ vec p ∷ vec q ∷ vec (corner g) ∷ []) (v 0 · (v 2 -v v 1)) (v 0 · (v 2 -v v 3) -s v 0 · (v 1 -v v 3)) tt
       ∙ (λ t. eq t -ℤ ep t)
 
-  module _ (hand : Hand) (seen-up : Up (turned hand (shown (axis (normal g)) (normal g)))) (a u b w : Point)
+  module _ (hand : Hand) (seen-up : Up (handed hand (shown (axis (normal g)) (normal g)))) (a u b w : Point)
       (ea : dot (normal g) (minus a u) ≡ pos 0) (eb : dot (normal g) (minus b u) ≡ pos 0) (ew : dot (normal g) (minus w u) ≡ pos 0) where
     square : Up (dot (normal g) (normal g))
     square = self-pos (normal g) (normal-real d r11 r13 i h)
 
     abbrev left-is : (x y : Point) → dot (normal g) (minus x u) ≡ pos 0 → dot (normal g) (minus y u) ≡ pos 0
-        → Left (normal g) (minus x u) (minus y u) → Up (turned hand (turn (S u) (S x) (S y)))
+        → Left (normal g) (minus x u) (minus y u) → Up (handed hand (twiceArea (S u) (S x) (S y)))
     left-is x y ex ey k = left-view (axis (normal g)) (normal g) square hand seen-up u x y ex ey k
 
-    not-left : (Left (normal g) (minus b u) (minus a u) → ⊥) → Nn (negℤ (turned hand (turn (S u) (S b) (S a))))
+    not-left : (Left (normal g) (minus b u) (minus a u) → ⊥) → Nn (negℤ (handed hand (twiceArea (S u) (S b) (S a))))
     not-left f =
         not-left-view (axis (normal g)) (normal g) square hand seen-up u b a eb ea (below (which (det (normal g) (minus b u) (minus a u))))
       where
@@ -165,7 +165,7 @@ module _ (d : Wire) (r11 : samePlace d ≡ none) (r13 : edgeMeets d ≡ none) (i
         outer-hand hand (S u) (S b) (S a) (S w) (inr (not-left (k .0), (left-is w b ew eb (k .1 .0), left-is a w ea ew (k .1 .1))))
 
     left-of : (x y : Point) → dot (normal g) (minus x u) ≡ pos 0 → dot (normal g) (minus y u) ≡ pos 0
-        → Up (turned hand (turn (S u) (S x) (S y))) → Left (normal g) (minus x u) (minus y u)
+        → Up (handed hand (twiceArea (S u) (S x) (S y))) → Left (normal g) (minus x u) (minus y u)
     left-of x y ex ey k = left-back (axis (normal g)) (normal g) square hand seen-up u x y ex ey k
 
     from-strict : Strict hand (S u) (S b) (S a) (S w) → InAngle (normal g) a u b (minus w u)
@@ -211,13 +211,13 @@ module _ (d : Wire) (r11 : samePlace d ≡ none) (r13 : edgeMeets d ≡ none) (i
     b-flat = flat-between u (cornerAt g (k + 2)) u-plane b-plane
 
     -- the hand on which the loop is seen
-    hand : (h : Hand) × Up (turned h (shown (axis (normal g)) (normal g)))
+    hand : (h : Hand) × Up (handed h (shown (axis (normal g)) (normal g)))
     hand = hand-for (shown (axis (normal g)) (normal g)) (shown-real (axis (normal g)) (normal g) (axis-holds d r11 r13 i h))
 
-    turns-so : Up (turned (hand .0) (area (map S g)))
-    turns-so = up-is (ap (turned (hand .0)) (sym (area-shown (axis (normal g)) g))) (hand .1)
+    turns-so : Up (handed (hand .0) (area (map S g)))
+    turns-so = up-is (ap (handed (hand .0)) (sym (area-shown (axis (normal g)) g))) (hand .1)
 
-    seen-as : (o : Where) → Small (λ s n. whereFlat (step (S u) (S w) s n) (pos n) (map S g) ≡ o)
+    seen-as : (o : Where) → ForSmall (λ s n. whereFlat (step (S u) (S w) s n) (pos n) (map S g) ≡ o)
         → Starts g u w o
     seen-as o =
         then (λ s n q. lies-is d r11 r13 i h (along (pos n) (pos s) u w) (pos n)
@@ -248,7 +248,7 @@ module _ (d : Wire) (r11 : samePlace d ≡ none) (r13 : edgeMeets d ≡ none) (i
         let a = cornerAt g k in
         let b = cornerAt g (k + 2) in
         let n : 3 ≤ length (map S g) = omega (arith, long, length-map S g) in
-        let q : Small (λ s n. whereFlat (step (S u) (S w) s n) (pos n) (map S g) ≡ Inside) = then
+        let q : ForSmall (λ s n. whereFlat (step (S u) (S w) s n) (pos n) (map S g) ≡ Inside) = then
         (λ s n q. ap (λ (z : Flat). whereFlat z (pos n) (map S g)) (sym (seen-step (axis (normal g)) u w s n))
         ∙ sym (lies-is d r11 r13 i h (along (pos n) (pos s) u w) (pos n)) ∙ q) f in
         from-strict (hand .0) (hand .1) a u b w a-flat b-flat ew
@@ -257,8 +257,8 @@ module _ (d : Wire) (r11 : samePlace d ≡ none) (r13 : edgeMeets d ≡ none) (i
         (straight-in (r .0) (map S g) (r .1) n (S a) (S u) (S b) came goes)
         (λ o. never q (out-corner (r .0) (hand .0) (S a) (S u) (S b) (S w) o (map S g) (r .1) n turns-so came goes)))
       where
-        never : Small (λ s n. whereFlat (step (S u) (S w) s n) (pos n) (map S g) ≡ Inside)
-            → Small (λ s n. whereFlat (step (S u) (S w) s n) (pos n) (map S g) ≡ Outside) → ⊥
+        never : ForSmall (λ s n. whereFlat (step (S u) (S w) s n) (pos n) (map S g) ≡ Inside)
+            → ForSmall (λ s n. whereFlat (step (S u) (S w) s n) (pos n) (map S g) ≡ Outside) → ⊥
         never p q =
             let f = both-small p q in
             let c = f .1 1 (suc (f .0)) (omega arith) (omega arith) (omega arith) in

@@ -13,18 +13,18 @@ use Rattle.paper.specs.Polygon.{whereFlat}
 use Rattle.paper.specs.declared.Flat.{Flat}
 use Rattle.paper.specs.declared.Where.the-variants.{Inside}
 use Rattle.means_area.specs.Rings.{Of, Link}
-use Rattle.means_area.specs.Flats.{Up, Nn, turn, height, Simple, Distinct, Fresh}
+use Rattle.means_area.specs.Flats.{Up, Nn, twiceArea, height, Simple, Distinct, Fresh}
 use Rattle.means_area.proofs.Flats.Signs.{up-is, nn-is, up-nn, up-add, nn-up, off, zero-off, which}
 use Rattle.means_area.proofs.Flats.Turns.{env, tE, flip-last, flat-first}
 use Rattle.means_inside.specs.Beams.{facing}
 use Rattle.means_inside.specs.Means.{big}
-use Rattle.means_inside.specs.Convex.{Step, Next}
+use Rattle.means_inside.specs.Convex.{NextAlong, Next}
 use Rattle.means_inside.proofs.Triangle.{fE, twice, facing-end, self-up}
 use Rattle.means_inside.proofs.Ears.{facing-back}
 use Rattle.means_inside.proofs.Segment.{off-link}
 use Rattle.means_inside.proofs.Sides.{link-onto, next-apart}
 use Rattle.means_inside.proofs.Inside.{inside-off}
-use Rattle.means_corner.specs.Corners.{Small}
+use Rattle.means_corner.specs.Corners.{ForSmall}
 use Rattle.means_corner.proofs.Steps.{step, step-turn}
 use Rattle.means_corner.proofs.Lead.{step-from, step-to}
 use Rattle.means_corner.proofs.Corner.{step-chain, same-height}
@@ -32,7 +32,7 @@ use Rattle.means_corner.proofs.Beside.{Behind, near}
 
 module _ (v c : Flat) where
   -- where the way is inside, it does not go along a side from v
-  pub in-front : (g : List Flat) → Small (λ s n. whereFlat (step v c s n) (pos n) g ≡ Inside) → (x : Flat) → Link g v x → Behind v x c
+  pub in-front : (g : List Flat) → ForSmall (λ s n. whereFlat (step v c s n) (pos n) g ≡ Inside) → (x : Flat) → Link g v x → Behind v x c
   in-front g f x l e = (low (which (facing v x c)), real)
     where
       k : ℕ
@@ -48,7 +48,7 @@ module _ (v c : Flat) where
       there : whereFlat (step v c 1 k) (pos k) g ≡ Inside
       there = f .1 1 k (omega arith) (omega arith) (omega arith)
 
-      line : turn (big (pos k) v) (big (pos k) x) (step v c 1 k) ≡ pos 0
+      line : twiceArea (big (pos k) v) (big (pos k) x) (step v c 1 k) ≡ pos 0
       line =
           step-turn v x v c 1 k
           ∙ (λ i. pos k *ℤ (pos k *ℤ flat-first v x i +ℤ pos 1 *ℤ (e i -ℤ flat-first v x i)))
@@ -86,7 +86,7 @@ module _ (v c : Flat) where
 -- ---- the neighbours of a corner are two, and not in one direction
 
 module _ (m : ℤ) where
-  no-back : (y : Flat) (l : List Flat) (e a v : Flat) → Distinct m (y ∷ l) → Fresh m e (y ∷ l) → Step y l e a v → Step y l e v a → ⊥
+  no-back : (y : Flat) (l : List Flat) (e a v : Flat) → Distinct m (y ∷ l) → Fresh m e (y ∷ l) → NextAlong y l e a v → NextAlong y l e v a → ⊥
   no-back y [] e a v d f i j = f y (inl refl) (ap (height m) (sym (i .0) ∙ j .1))
   no-back y (z ∷ l) e a v d f (inl i) (inl j) = d .0 z (inl refl) (ap (height m) (sym (i .1) ∙ j .0))
   no-back y (z ∷ l) e a v d f (inl i) (inr j) = ends (step-to z l e v a j)
@@ -102,7 +102,7 @@ module _ (m : ℤ) where
   no-back y (z ∷ l) e a v d f (inr i) (inr j) = no-back z l e a v (d .1) (λ w o. f w (inr o)) i j
 
   first-back : (x y : Flat) (l : List Flat) (a v : Flat) → 3 ≤ length (x ∷ y ∷ l) → Distinct m (x ∷ y ∷ l) → a ≡ x → v ≡ y
-      → Step y l x v a → ⊥
+      → NextAlong y l x v a → ⊥
   first-back x y [] a v n d ea ev s = absurd (omega arith)
   first-back x y (z ∷ l) a v n d ea ev (inl s) = d .0 z (inr (inl refl)) (ap (height m) (sym (s .1) ∙ ea))
   first-back x y (z ∷ l) a v n d ea ev (inr s) = d .1 .0 v (step-from z l x v a s) (ap (height m) ev)
@@ -115,8 +115,8 @@ module _ (m : ℤ) where
   two (x ∷ []) n d a v i j = absurd (omega arith)
   two [] n d a v i j = absurd i
 
-lagrange : (v x y : Flat) → turn v x y ≡ pos 0 → facing v x x *ℤ facing v y y ≡ facing v x y *ℤ facing v x y
-unfolding turn facing
+lagrange : (v x y : Flat) → twiceArea v x y ≡ pos 0 → facing v x x *ℤ facing v y y ≡ facing v x y *ℤ facing v x y
+unfolding twiceArea facing
 lagrange v x y e =
     ring-with (env (pos 0) (v ∷ x ∷ y ∷ [])) (fE 0 1 1 ⊗ fE 0 2 2) (fE 0 1 2 ⊗ fE 0 1 2) (tE 0 1 2) (tE 0 1 2) (con (pos 0)) tt e
 
@@ -143,7 +143,7 @@ module _ (m : ℤ) (x : Flat) (l : List Flat) (s : Simple m (x ∷ l)) (n : 3 �
   vb : height m v ≡ height m b → ⊥
   vb e = next-apart m (x ∷ l) (omega (arith, n)) (s .apart) v b after e
 
-  pub straight : turn v b a ≡ pos 0 → Up (negℤ (facing v a b))
+  pub straight : twiceArea v b a ≡ pos 0 → Up (negℤ (facing v a b))
   straight e = go (which (negℤ (facing v a b)))
     where
       link-a : Link (x ∷ l) v a
@@ -182,7 +182,7 @@ pub next-link : (g : List Flat) (p q : Flat) → Next g p q → Link g p q
 next-link [] p q i = i
 next-link (x ∷ l) p q i = step-chain x l x p q i
 
-pub straight-in : (m : ℤ) (g : List Flat) → Simple m g → 3 ≤ length g → (a v b : Flat) → Next g a v → Next g v b → turn v b a ≡ pos 0
+pub straight-in : (m : ℤ) (g : List Flat) → Simple m g → 3 ≤ length g → (a v b : Flat) → Next g a v → Next g v b → twiceArea v b a ≡ pos 0
     → Up (negℤ (facing v a b))
 straight-in m [] s n a v b i j = absurd i
 straight-in m (x ∷ l) s n a v b i j = straight m x l s n a v b i j

@@ -16,15 +16,15 @@ use Rattle.means_area.specs.Rings.{Of, Chain}
 use Rattle.means_area.specs.Flats.{Up, height, Simple, area, lst}
 use Rattle.means_area.proofs.Flats.Signs.{up-is, nn-is}
 use Rattle.means_area.proofs.Flats.Turns.{flip-last}
-use Rattle.means_inside.specs.Beams.{walk, round, beam, facing, Off}
+use Rattle.means_inside.specs.Beams.{oddAlong, round, beam, facing, Off}
 use Rattle.means_inside.specs.Means.{big}
-use Rattle.means_inside.specs.Convex.{Step, Next, Hand, lefts, rights, turned}
+use Rattle.means_inside.specs.Convex.{NextAlong, Next, Hand, lefts, rights, handed}
 use Rattle.means_inside.proofs.Parity.{xor-comm}
 use Rattle.means_inside.proofs.Segment.{beam-back, off-link}
 use Rattle.means_inside.proofs.Triangle.{facing-end}
 use Rattle.means_inside.proofs.Sides.{link-next, step-last}
 use Rattle.means_inside.proofs.Inside.{io, every-ray-says, inside-off}
-use Rattle.means_corner.specs.Corners.{Small}
+use Rattle.means_corner.specs.Corners.{ForSmall}
 use Rattle.means_corner.proofs.Small.{always, then, both-small}
 use Rattle.means_corner.proofs.Steps.{step}
 use Rattle.means_corner.proofs.Lead.{step-from, step-to}
@@ -43,7 +43,7 @@ round-big : (f : Flat → Flat → Bool) (h : Flat → Flat) (g : List Flat) →
 round-big f h [] = refl
 round-big f h (x ∷ l) = walk-big x l x
   where
-    walk-big : (x : Flat) (l : List Flat) (e : Flat) → walk f (h x) (map h l) (h e) ≡ walk (λ y z. f (h y) (h z)) x l e
+    walk-big : (x : Flat) (l : List Flat) (e : Flat) → oddAlong f (h x) (map h l) (h e) ≡ oddAlong (λ y z. f (h y) (h z)) x l e
     walk-big x [] e = refl
     walk-big x (y ∷ l) e = ap (xor (f (h x) (h y))) (walk-big y l e)
 
@@ -70,7 +70,7 @@ module _ (m : ℤ) (v b : Flat) (r : List Flat) (simple : Simple m (v ∷ b ∷ 
       (λ o. simple .net .free (simple .net .back (inr l)) (inl refl) o)
 
   -- the sides away from v
-  far-all : (c : Flat) → Small (λ s n. (x y : Flat) → Of x (b ∷ r) → Of y (b ∷ r) → Chain b r v x y → ray v c s n x y ≡ beam v
+  far-all : (c : Flat) → ForSmall (λ s n. (x y : Flat) → Of x (b ∷ r) → Of y (b ∷ r) → Chain b r v x y → ray v c s n x y ≡ beam v
       (opposite v c) x y)
   far-all c =
       let f = all-steps (λ x y s n. Of x (b ∷ r) → Of y (b ∷ r) → ray v c s n x y ≡ beam v (opposite v c) x y) b r v one in
@@ -79,13 +79,13 @@ module _ (m : ℤ) (v b : Flat) (r : List Flat) (simple : Simple m (v ∷ b ∷ 
       never : (z : Flat) → z ≡ v → Of z (b ∷ r) → ⊥
       never z e o = simple .apart .0 z o (ap (height m) e)
 
-      one : (x y : Flat) → Step b r v x y → Small (λ s n. Of x (b ∷ r) → Of y (b ∷ r) → ray v c s n x y ≡ beam v (opposite v c) x y)
+      one : (x y : Flat) → NextAlong b r v x y → ForSmall (λ s n. Of x (b ∷ r) → Of y (b ∷ r) → ray v c s n x y ≡ beam v (opposite v c) x y)
       one x y k =
           ⊎-elim
           (λ o. then (λ s n e i j. e) (far-side v c x y (off-v x y (step-from b r v x y k) (inr o) (step-chain b r v x y k))))
           (λ e. always (λ s n hs hn i j. absurd (never y e j))) (step-to b r v x y k)
 
-      pick : (s n : ℕ) → ((x y : Flat) → Step b r v x y → Of x (b ∷ r) → Of y (b ∷ r) → ray v c s n x y ≡ beam v (opposite v c) x y)
+      pick : (s n : ℕ) → ((x y : Flat) → NextAlong b r v x y → Of x (b ∷ r) → Of y (b ∷ r) → ray v c s n x y ≡ beam v (opposite v c) x y)
           → (x y : Flat) → Of x (b ∷ r) → Of y (b ∷ r) → Next g x y ⊎ Next g y x → ray v c s n x y ≡ beam v (opposite v c) x y
       pick s n f x y i j (inl (inl e)) = absurd (never x (e .0) i)
       pick s n f x y i j (inl (inr k)) = f x y k i j
@@ -106,8 +106,8 @@ module _ (m : ℤ) (v b : Flat) (r : List Flat) (simple : Simple m (v ∷ b ∷ 
   xor-true false y e f = refl
 
   -- c outside and d inside, with one side of the angle between them
-  apart-out : (h : Hand) → 3 ≤ length g → Up (turned h (area g)) → (c d : Flat) → Strict h v b a d → Up (facing v d d) → Parted v b a c d
-      → Up (facing v c c) → Behind v b c → Behind v a c → Small (λ s n. whereFlat (step v c s n) (pos n) g ≡ Outside)
+  apart-out : (h : Hand) → 3 ≤ length g → Up (handed h (area g)) → (c d : Flat) → Strict h v b a d → Up (facing v d d) → Parted v b a c d
+      → Up (facing v c c) → Behind v b c → Behind v a c → ForSmall (λ s n. whereFlat (step v c s n) (pos n) g ≡ Outside)
   apart-out h long up c d strict rd parted rc okb oka =
       let fd = both-small (at-corner m g simple h a v b d came goes strict long up) (far-all d) in
       let t = fd .1 1 (suc (fd .0)) (omega arith) (omega arith) (omega arith) in
@@ -152,8 +152,8 @@ module _ (m : ℤ) (v b : Flat) (r : List Flat) (simple : Simple m (v ∷ b ∷ 
   swap c d (after κ q) = after κ (xor-comm (jump v c d b) (jump v c d a) ∙ q)
   swap c d (before κ q) = before κ (xor-comm (jump v d c b) (jump v d c a) ∙ q)
 
-  pub out-first : (h : Hand) → 3 ≤ length g → Up (turned h (area g)) → (c : Flat) → OuterBy h v b a c
-      → Small (λ s n. whereFlat (step v c s n) (pos n) g ≡ Outside)
+  pub out-first : (h : Hand) → 3 ≤ length g → Up (handed h (area g)) → (c : Flat) → OuterBy h v b a c
+      → ForSmall (λ s n. whereFlat (step v c s n) (pos n) g ≡ Outside)
   out-first lefts long up c o =
       let w = inner v b a c o in
       apart-out lefts long up c (w .0) (w .1) (strict-real v (w .0) b a (w .1)) (w .2) (outer-real v c b a o) (outer-first v c b a o)

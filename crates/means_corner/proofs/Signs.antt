@@ -7,7 +7,7 @@ use native.Mathlib.Omega.{arith}
 use lib.IntN.{ℤ, pos, negsuc, negℤ, _+ℤ_, _-ℤ_, _*ℤ_}
 use lib.ListN.{length}
 use Rattle.lists.proofs.Truth.{or-none, and-left, and-right}
-use Rattle.exact.specs.Signs.{Sign3, below, level, above, sign, turned, product}
+use Rattle.exact.specs.Signs.{Sign3, below, level, above, sign, negatedSign, product}
 use Rattle.exact.proofs.Ring.{var, _⊕_, _⊖_, _⊗_, neg, ring}
 use Rattle.exact.proofs.Signs.{sign-neg, sign-mul, above-lt}
 use Rattle.exact.proofs.Order.{sum-zero}
@@ -22,7 +22,7 @@ up level = false
 up above = true
 
 abbrev pub down : Sign3 → Bool
-down s = up (turned s)
+down s = up (negatedSign s)
 
 -- the sign of a number that is not 0, by its test
 abbrev pub either : Bool → Sign3
@@ -96,11 +96,11 @@ balance x y z e =
 
 -- p q - r s + t u = 0
 abbrev pub may : Sign3 → Sign3 → Sign3 → Sign3 → Sign3 → Sign3 → Bool
-may p q r s t u = balanced (product p q) (turned (product r s)) (product t u)
+may p q r s t u = balanced (product p q) (negatedSign (product r s)) (product t u)
 
 pub three : (p q r s t u : ℤ) → p *ℤ q -ℤ r *ℤ s +ℤ t *ℤ u ≡ pos 0 → may (sign p) (sign q) (sign r) (sign s) (sign t) (sign u) ≡ true
 three p q r s t u e =
-    (λ i. balanced (sym (sign-mul p q) i) (turned (sym (sign-mul r s) i)) (sym (sign-mul t u) i))
+    (λ i. balanced (sym (sign-mul p q) i) (negatedSign (sym (sign-mul r s) i)) (sym (sign-mul t u) i))
     ∙ (λ i. balanced (sign (p *ℤ q)) (sym (sign-neg (r *ℤ s)) i) (sign (t *ℤ u)))
     ∙ balance (p *ℤ q) (negℤ (r *ℤ s)) (t *ℤ u)
     (ring (p ∷ q ∷ r ∷ s ∷ t ∷ u ∷ []) (var 0 ⊗ var 1 ⊕ neg (var 2 ⊗ var 3) ⊕ var 4 ⊗ var 5)

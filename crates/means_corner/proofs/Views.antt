@@ -12,9 +12,9 @@ use Rattle.paper.specs.declared.Point.{Point}
 use Rattle.paper.specs.declared.Axis.{Axis}
 use Rattle.paper.specs.declared.Axis.the-variants.{AlongX, AlongY, AlongZ}
 use Rattle.paper_laws.proofs.Vectors.{vec, k, v, _·_, dets, _-v_, _*v_, _×v_, vring}
-use Rattle.means_area.specs.Flats.{Up, Nn, turn, part, along, area}
+use Rattle.means_area.specs.Flats.{Up, Nn, twiceArea, areaPart, areaAlong, area}
 use Rattle.means_area.proofs.Flats.Signs.{up-is, nn-is, up-nn, up-out, nn-out, ways}
-use Rattle.means_inside.specs.Convex.{Hand, lefts, rights, turned}
+use Rattle.means_inside.specs.Convex.{Hand, lefts, rights, handed}
 use Rattle.means_inside.proofs.Views.{shown, turn-shown}
 
 -- ---- the area of a view is the normal's coordinate
@@ -25,8 +25,8 @@ shown-plus AlongX p q = refl
 shown-plus AlongY p q = ring (p .y ∷ q .y ∷ []) (neg (var 0 ⊕ var 1)) (neg (var 0) ⊕ neg (var 1)) tt
 shown-plus AlongZ p q = refl
 
-part-shown : (i : Axis) (p q : Point) → part (seen i p) (seen i q) ≡ shown i (cross p q)
-unfolding part seen cross
+part-shown : (i : Axis) (p q : Point) → areaPart (seen i p) (seen i q) ≡ shown i (cross p q)
+unfolding areaPart seen cross
 part-shown AlongX p q = refl
 part-shown AlongY p q =
     ring (p .x ∷ p .z ∷ q .x ∷ q .z ∷ []) (var 0 ⊗ var 3 ⊖ var 1 ⊗ var 2) (neg (var 1 ⊗ var 2 ⊖ var 0 ⊗ var 3)) tt
@@ -38,7 +38,7 @@ shown-none AlongY = refl
 shown-none AlongZ = refl
 
 along-shown : (i : Axis) (x : Point) (l : List Point) (e : Point)
-    → along (seen i x) (map (seen i) l) (seen i e) ≡ shown i (sum (sidesFrom cross e x l))
+    → areaAlong (seen i x) (map (seen i) l) (seen i e) ≡ shown i (sum (sidesFrom cross e x l))
 unfolding sum sidesFrom
 along-shown i x [] e =
     part-shown i x e ∙ ring (shown i (cross x e) ∷ []) (var 0) (var 0 ⊕ con (pos 0)) tt
@@ -62,7 +62,7 @@ shown-times AlongZ z p = refl
 module _ (i : Axis) (n : Point) where
   -- |n|^2 times a turn in the view is the determinant times what is shown of n
   in-view : (a b c : Point) → dot n (minus b a) ≡ pos 0 → dot n (minus c a) ≡ pos 0
-      → dot n n *ℤ turn (seen i a) (seen i b) (seen i c) ≡ det n (minus b a) (minus c a) *ℤ shown i n
+      → dot n n *ℤ twiceArea (seen i a) (seen i b) (seen i c) ≡ det n (minus b a) (minus c a) *ℤ shown i n
   in-view a b c eb ec =
       ap (λ (z : ℤ). dot n n *ℤ z) (turn-shown i a b c) ∙ sym (shown-times i (dot n n) (cross (minus b a) (minus c a)))
       ∙ ap (shown i)
@@ -76,40 +76,40 @@ module _ (i : Axis) (n : Point) where
 
   module _ (square : Up (dot n n)) where
     hand-view : (h : Hand) (a b c : Point) → dot n (minus b a) ≡ pos 0 → dot n (minus c a) ≡ pos 0
-        → dot n n *ℤ turned h (turn (seen i a) (seen i b) (seen i c)) ≡ det n (minus b a) (minus c a) *ℤ turned h (shown i n)
+        → dot n n *ℤ handed h (twiceArea (seen i a) (seen i b) (seen i c)) ≡ det n (minus b a) (minus c a) *ℤ handed h (shown i n)
     hand-view lefts a b c eb ec = in-view a b c eb ec
     hand-view rights a b c eb ec =
-        ring (dot n n ∷ turn (seen i a) (seen i b) (seen i c) ∷ []) (var 0 ⊗ neg (var 1)) (neg (var 0 ⊗ var 1)) tt
+        ring (dot n n ∷ twiceArea (seen i a) (seen i b) (seen i c) ∷ []) (var 0 ⊗ neg (var 1)) (neg (var 0 ⊗ var 1)) tt
         ∙ ap negℤ (in-view a b c eb ec)
         ∙ ring (det n (minus b a) (minus c a) ∷ shown i n ∷ []) (neg (var 0 ⊗ var 1)) (var 0 ⊗ neg (var 1)) tt
 
     -- with the hand on which the plane is seen
-    pub left-view : (h : Hand) → Up (turned h (shown i n)) → (a b c : Point) → dot n (minus b a) ≡ pos 0 → dot n (minus c a) ≡ pos 0
-        → Up (det n (minus b a) (minus c a)) → Up (turned h (turn (seen i a) (seen i b) (seen i c)))
+    pub left-view : (h : Hand) → Up (handed h (shown i n)) → (a b c : Point) → dot n (minus b a) ≡ pos 0 → dot n (minus c a) ≡ pos 0
+        → Up (det n (minus b a) (minus c a)) → Up (handed h (twiceArea (seen i a) (seen i b) (seen i c)))
     left-view h u a b c eb ec w = up-out (dot n n) square (up-is (sym (hand-view h a b c eb ec)) (mul-pos w u))
 
-    pub left-back : (h : Hand) → Up (turned h (shown i n)) → (a b c : Point) → dot n (minus b a) ≡ pos 0 → dot n (minus c a) ≡ pos 0
-        → Up (turned h (turn (seen i a) (seen i b) (seen i c))) → Up (det n (minus b a) (minus c a))
+    pub left-back : (h : Hand) → Up (handed h (shown i n)) → (a b c : Point) → dot n (minus b a) ≡ pos 0 → dot n (minus c a) ≡ pos 0
+        → Up (handed h (twiceArea (seen i a) (seen i b) (seen i c))) → Up (det n (minus b a) (minus c a))
     left-back h u a b c eb ec w =
-        up-out (turned h (shown i n)) u
-        (up-is (hand-view h a b c eb ec ∙ ring (det n (minus b a) (minus c a) ∷ turned h (shown i n) ∷ []) (var 0 ⊗ var 1)
+        up-out (handed h (shown i n)) u
+        (up-is (hand-view h a b c eb ec ∙ ring (det n (minus b a) (minus c a) ∷ handed h (shown i n) ∷ []) (var 0 ⊗ var 1)
         (var 1 ⊗ var 0) tt)
         (mul-pos square w))
 
-    pub not-left-view : (h : Hand) → Up (turned h (shown i n)) → (a b c : Point) → dot n (minus b a) ≡ pos 0 → dot n (minus c a) ≡ pos 0
-        → Nn (negℤ (det n (minus b a) (minus c a))) → Nn (negℤ (turned h (turn (seen i a) (seen i b) (seen i c))))
+    pub not-left-view : (h : Hand) → Up (handed h (shown i n)) → (a b c : Point) → dot n (minus b a) ≡ pos 0 → dot n (minus c a) ≡ pos 0
+        → Nn (negℤ (det n (minus b a) (minus c a))) → Nn (negℤ (handed h (twiceArea (seen i a) (seen i b) (seen i c))))
     not-left-view h u a b c eb ec w =
         nn-out (dot n n) square
-        (nn-is (ring (det n (minus b a) (minus c a) ∷ turned h (shown i n) ∷ []) (neg (var 0) ⊗ var 1) (neg (var 0 ⊗ var 1)) tt
+        (nn-is (ring (det n (minus b a) (minus c a) ∷ handed h (shown i n) ∷ []) (neg (var 0) ⊗ var 1) (neg (var 0 ⊗ var 1)) tt
         ∙ ap negℤ (sym (hand-view h a b c eb ec))
-        ∙ ring (dot n n ∷ turned h (turn (seen i a) (seen i b) (seen i c)) ∷ []) (neg (var 0 ⊗ var 1)) (var 0 ⊗ neg (var 1)) tt)
+        ∙ ring (dot n n ∷ handed h (twiceArea (seen i a) (seen i b) (seen i c)) ∷ []) (neg (var 0 ⊗ var 1)) (var 0 ⊗ neg (var 1)) tt)
         (mul-nonneg w (up-nn u)))
 
 -- a number that is not 0 is on one hand
-pub hand-for : (z : ℤ) → (z ≡ pos 0 → ⊥) → (h : Hand) × Up (turned h z)
+pub hand-for : (z : ℤ) → (z ≡ pos 0 → ⊥) → (h : Hand) × Up (handed h z)
 hand-for z r = go (ways z)
   where
-    go : Up z ⊎ ((z ≡ pos 0) ⊎ Up (negℤ z)) → (h : Hand) × Up (turned h z)
+    go : Up z ⊎ ((z ≡ pos 0) ⊎ Up (negℤ z)) → (h : Hand) × Up (handed h z)
     go (inl u) = (lefts, u)
     go (inr (inl e)) = absurd (r e)
     go (inr (inr u)) = (rights, u)

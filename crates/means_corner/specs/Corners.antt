@@ -17,12 +17,12 @@ use Rattle.means_area.specs.Loops.{loopOf}
 use Rattle.means_clash.specs.Clash.{Corner, Left, AtCorner, PointsIn}
 
 -- what holds of s / n wherever that is above 0 and small enough
-abbrev pub Small : (ℕ → ℕ → Type 0) → Type 0
-Small P = (b : ℕ) × ((s n : ℕ) → 0 < s → 0 < n → (b * s) ≤ n → P s n)
+abbrev pub ForSmall : (ℕ → ℕ → Type 0) → Type 0
+ForSmall P = (b : ℕ) × ((s n : ℕ) → 0 < s → 0 < n → (b * s) ≤ n → P s n)
 
 -- the first part of the way from u to v is where o says
 abbrev pub Starts : Polygon → Point → Point → Where → Type 0
-Starts g u v o = Small (λ s n. lies (over (along (pos n) (pos s) u v) (pos n)) g ≡ o)
+Starts g u v o = ForSmall (λ s n. lies (over (along (pos n) (pos s) u v) (pos n)) g ≡ o)
 
 -- strictly outside the angle, as `InAngle` is strictly inside: below 180 degrees w is right of b or left of a; otherwise both
 abbrev pub OutAngle : (n a u b w : Point) → Type 0

@@ -3,5 +3,5 @@ use lib.IntN.{ℤ, _+ℤ_, _*ℤ_}
 use Rattle.paper.specs.declared.Flat.{Flat}
 
 -- s / m of the direction w further than p, times m
-abbrev pub further : Flat → Flat → ℤ → ℤ → Flat
-further p w s m = record { u = m *ℤ p .u +ℤ s *ℤ w .u; v = m *ℤ p .v +ℤ s *ℤ w .v }
+abbrev pub aheadBy : Flat → Flat → ℤ → ℤ → Flat
+aheadBy p w s m = record { u = m *ℤ p .u +ℤ s *ℤ w .u; v = m *ℤ p .v +ℤ s *ℤ w .v }

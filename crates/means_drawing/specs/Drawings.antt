@@ -28,14 +28,14 @@ module _ (d : Wire) where
   HasEdge e = e < length (d .edges)
 
   -- the numbers of edge e's ends, and v is one of them
-  abbrev pub from : ℕ → ℕ
-  from e = start (edgeAt d e)
+  abbrev pub lowEnd : ℕ → ℕ
+  lowEnd e = start (edgeAt d e)
 
-  abbrev pub to : ℕ → ℕ
-  to e = stop (edgeAt d e)
+  abbrev pub highEnd : ℕ → ℕ
+  highEnd e = stop (edgeAt d e)
 
   abbrev pub EndOf : ℕ → ℕ → Type 0
-  EndOf e v = (v ≡ from e) ⊎ (v ≡ to e)
+  EndOf e v = (v ≡ lowEnd e) ⊎ (v ≡ highEnd e)
 
   -- 11, of a vertex: "two vertices at one point"
   abbrev pub Doubled : ℕ → Type 0
@@ -47,12 +47,12 @@ module _ (d : Wire) where
 
   -- 13, of an edge: "shares a point with a vertex or edge other than at its own end vertices"
   pub data Meets (e : ℕ) : Type 0 where
-    vertex : (w : ℕ) → Vertex w → Between (at d (from e)) (at d (to e)) (at d w) → Meets e
-    other : (f : ℕ) → HasEdge f → (e ≡ f → ⊥) → Common (at d (from e)) (at d (to e)) (at d (from f)) (at d (to f)) → Meets e
+    vertex : (w : ℕ) → Vertex w → Between (at d (lowEnd e)) (at d (highEnd e)) (at d w) → Meets e
+    other : (f : ℕ) → HasEdge f → (e ≡ f → ⊥) → Common (at d (lowEnd e)) (at d (highEnd e)) (at d (lowEnd f)) (at d (highEnd f)) → Meets e
 
   -- 14, of a vertex: "reachable from vertex 0", along edges from vertex to vertex
   abbrev pub Joined : ℕ → ℕ → Type 0
-  Joined u v = (e : ℕ) × HasEdge e × (((u ≡ from e) × (v ≡ to e)) ⊎ ((u ≡ to e) × (v ≡ from e)))
+  Joined u v = (e : ℕ) × HasEdge e × (((u ≡ lowEnd e) × (v ≡ highEnd e)) ⊎ ((u ≡ highEnd e) × (v ≡ lowEnd e)))
 
   pub data Reachable : ℕ → Type 0 where
     first : Reachable 0
@@ -60,7 +60,7 @@ module _ (d : Wire) where
 
   -- what 9 leaves: the ends of every edge rise and are vertices; with 11 they are at two points
   abbrev pub Rising : Type 0
-  Rising = (e : ℕ) → HasEdge e → (from e < to e) × Vertex (to e)
+  Rising = (e : ℕ) → HasEdge e → (lowEnd e < highEnd e) × Vertex (highEnd e)
 
   abbrev pub Long : Type 0
-  Long = (e : ℕ) → HasEdge e → at d (from e) ≡ at d (to e) → ⊥
+  Long = (e : ℕ) → HasEdge e → at d (lowEnd e) ≡ at d (highEnd e) → ⊥

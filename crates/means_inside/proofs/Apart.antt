@@ -8,8 +8,8 @@ use native.Mathlib.Omega.{arith}
 use lib.ListN.{length-append}
 use lib.IntN.{ℤ}
 use Rattle.paper.specs.declared.Flat.{Flat}
-use Rattle.means_area.specs.Rings.{Of, Pair, Chain, Link}
-use Rattle.means_area.specs.Flats.{turn, Net, Simple, Least, Same, both, none, lst}
+use Rattle.means_area.specs.Rings.{Of, TheTwo, Chain, Link}
+use Rattle.means_area.specs.Flats.{twiceArea, Net, Simple, Least, SameSign, both, none, lst}
 use Rattle.means_area.proofs.Flats.Signs.{up-is}
 use Rattle.means_area.proofs.Flats.Turns.{flip-last}
 use Rattle.means_area.proofs.Flats.Net.{Ok}
@@ -18,7 +18,7 @@ use Rattle.means_area.proofs.Flats.First.{first-link, last-link}
 use Rattle.means_area.proofs.Flats.Chains.{lst-append, lst-of, link-back, link-of, chain-split, chain-left, chain-right, Sub, keep, skip}
 use Rattle.means_area.proofs.Flats.Chains.{sub-all, sub-none, sub-append, sub-of, sub-distinct, narrow, of-append, of-left, of-right}
 use Rattle.means_area.proofs.Flats.Chains.{distinct-across}
-use Rattle.means_inside.specs.Beams.{right, Clear, odd}
+use Rattle.means_inside.specs.Beams.{right, OffEverySide, odd}
 use Rattle.means_inside.proofs.Parity.{xor-self}
 use Rattle.means_inside.proofs.Fan.{fan}
 use Rattle.means_inside.proofs.Cap.{by-low}
@@ -30,7 +30,7 @@ module _ (m : ℤ) where
   module _ (v x : Flat) (X : List Flat) (w y : Flat) (Y : List Flat) (s : Simple m (v ∷ x ∷ (X ++ w ∷ y ∷ Y)))
       (low : Least m v (x ∷ (X ++ w ∷ y ∷ Y)))
       (ok : Ok m (Link (v ∷ x ∷ (X ++ w ∷ y ∷ Y))) (λ z. Of z (v ∷ x ∷ (X ++ w ∷ y ∷ Y))) v w)
-      (s1 : Same (turn v x w) (turn v x (lst y Y))) (s2 : Same (turn v w (lst y Y)) (turn v x (lst y Y))) where
+      (s1 : SameSign (twiceArea v x w) (twiceArea v x (lst y Y))) (s2 : SameSign (twiceArea v w (lst y Y)) (twiceArea v x (lst y Y))) where
     abbrev g : List Flat
     g = v ∷ x ∷ (X ++ w ∷ y ∷ Y)
 
@@ -41,7 +41,7 @@ module _ (m : ℤ) where
     P2 = v ∷ w ∷ y ∷ Y
 
     abbrev K : Flat → Flat → Type 0
-    K p q = Link g p q ⊎ Pair v w p q
+    K p q = Link g p q ⊎ TheTwo v w p q
 
     sub1 : Sub P1 g
     sub1 = keep (keep (sub-append (sub-all X) (keep (sub-none (y ∷ Y)))))
@@ -95,13 +95,13 @@ module _ (m : ℤ) where
         go (inr (inl t)) = simple2 .apart .1 .0 z o (sym q ∙ ap (h m) t)
         go (inr (inr t)) = t
 
-    clear2 : (z : Flat) → Of z (x ∷ X) → Clear z P2
+    clear2 : (z : Flat) → Of z (x ∷ X) → OffEverySide z P2
     clear2 z o p q l =
         let oz = of-left z (x ∷ X) (w ∷ y ∷ Y) o in
         off-link m z p q (not2 z o p (link-of P2 p q l)) (not2 z o q (link-of P2 q p (link-back P2 p q l)))
         (λ c. net .free (f2 p q l) (inr oz) c) (λ c. net .free (f2 q p (link-back P2 p q l)) (inr oz) c)
 
-    clear1 : (z : Flat) → Of z (y ∷ Y) → Clear z P1
+    clear1 : (z : Flat) → Of z (y ∷ Y) → OffEverySide z P1
     clear1 z o p q l =
         let oz = of-right z (x ∷ X) (w ∷ y ∷ Y) (inr o) in
         off-link m z p q (not1 z o p (link-of P1 p q l)) (not1 z o q (link-of P1 q p (link-back P1 p q l)))
@@ -149,7 +149,7 @@ module _ (m : ℤ) where
         ∙ ap (λ (z : Flat). xor (right a v x) (right a v z)) (lst-append x X w [])
         ∙ ap (λ (b : Bool). xor b (right a v w)) (same-right m a v x w (flip-same s2)) ∙ xor-self (right a v w)
       where
-        flip-same : Same (turn v w (lst y Y)) (turn v x (lst y Y)) → Same (turn v (lst y Y) x) (turn v (lst y Y) w)
+        flip-same : SameSign (twiceArea v w (lst y Y)) (twiceArea v x (lst y Y)) → SameSign (twiceArea v (lst y Y) x) (twiceArea v (lst y Y) w)
         flip-same (both p q) = none (up-is (flip-last v x (lst y Y)) q) (up-is (flip-last v w (lst y Y)) p)
         flip-same (none p q) = both (up-is (sym (flip-last v (lst y Y) x)) q) (up-is (sym (flip-last v (lst y Y) w)) p)
 

@@ -10,8 +10,8 @@ use lib.IntN.{ℤ, pos, negℤ}
 use lib.Signed.{_<ℤ_, <ℤ-irrefl}
 use Rattle.lists.proofs.Truth.{false-xor}
 use Rattle.paper.specs.declared.Flat.{Flat}
-use Rattle.means_area.specs.Rings.{Of, Pair, Chain, Link}
-use Rattle.means_area.specs.Flats.{Nn, turn, Cross, Net, Least, Same, lst}
+use Rattle.means_area.specs.Rings.{Of, TheTwo, Chain, Link}
+use Rattle.means_area.specs.Flats.{Nn, twiceArea, Cross, Net, Least, SameSign, lst}
 use Rattle.means_area.proofs.Flats.Signs.{up-is, same-ne, same-is, same-is2}
 use Rattle.means_area.proofs.Flats.Turns.{spin, flat-second}
 use Rattle.means_area.proofs.Flats.Net.{Ok}
@@ -20,7 +20,7 @@ use Rattle.means_area.proofs.Flats.Lowest.{of-split}
 use Rattle.means_area.proofs.Flats.First.{first-link, last-link, ends-apart, only-first, not-flat, ear-simple, rest-link}
 use Rattle.means_area.proofs.Flats.Chains.{lst-append, lst-of, link-back, link-of, chain-end, of-append, of-left}
 use Rattle.means_area.proofs.Flats.Chains.{of-right}
-use Rattle.means_inside.specs.Beams.{beam, facing, Off, Clear, odd, east, Seen}
+use Rattle.means_inside.specs.Beams.{beam, facing, Off, OffEverySide, odd, east, Seen}
 use Rattle.means_inside.proofs.Parity.{round-ear}
 use Rattle.means_inside.proofs.Segment.{off-link, off-low, beam-back}
 use Rattle.means_inside.proofs.Look.{Between, View, Look, empty, far, look, view-ear}
@@ -34,7 +34,7 @@ module _ (m : ℤ) where
     -- ---- at the lowest corner of both
     module _ (v x : Flat) (l : List Flat) (t : Apart m (v ∷ x ∷ l) R) (bound : length (v ∷ x ∷ l) + length R ≤ suc n)
         (low : Least m v (x ∷ l))
-        (even : (p : Flat) → Clear p R → Seen m v p R → Between v x (lst x l) p → odd p R ≡ false)
+        (even : (p : Flat) → OffEverySide p R → Seen m v p R → Between v x (lst x l) p → odd p R ≡ false)
         (notin : (q : Flat) → Link R v q → Between v x (lst x l) q → ⊥) where
       abbrev P : List Flat
       P = v ∷ x ∷ l
@@ -66,7 +66,7 @@ module _ (m : ℤ) where
       apart : h m x ≡ h m z0 → ⊥
       apart = ends-apart m v x l long (t .sp .apart)
 
-      crooked : turn v x z0 ≡ pos 0 → ⊥
+      crooked : twiceArea v x z0 ≡ pos 0 → ⊥
       crooked = not-flat m v x l long (t .sp) hx hy
 
       abbrev Vw : Flat → Type 0
@@ -84,7 +84,7 @@ module _ (m : ℤ) where
       seenP p w =
           record { up = w .up; uncut = (λ a b k c. w .ok .uncut (inl k) c); bare = (λ a o c. w .ok .bare (of-left a P R o) c) }
 
-      viewed : (p : Flat) → Vw p → Clear p R → odd p R ≡ false
+      viewed : (p : Flat) → Vw p → OffEverySide p R → odd p R ≡ false
       viewed p w c = even p c (seenR p w) (w .mid)
 
       -- ---- the triangle is empty
@@ -92,7 +92,7 @@ module _ (m : ℤ) where
         eP : (z : Flat) → Of z P → Hit v x z0 z → ⊥
         eP z o = e z (of-left z P R o)
 
-        hit : (p : Flat) → Hit v x z0 p → Clear p R → odd p R ≡ false
+        hit : (p : Flat) → Hit v x z0 p → OffEverySide p R → odd p R ≡ false
         hit p i c = viewed p (view-ear m J (P ++ R) net v x z0 (inl vx) (inl vy) hx hy e p i) c
 
         -- without R's links at v
@@ -136,7 +136,7 @@ module _ (m : ℤ) where
         sum3 p = round-ear (beam p (east p)) v x l (beam-back p (east p) z0 x)
 
         -- not in the triangle
-        rest : (p : Flat) → Clear p P → Off p x z0 → (Hit v x z0 p → ⊥) → odd p P ≡ odd p (x ∷ l)
+        rest : (p : Flat) → OffEverySide p P → Off p x z0 → (Hit v x z0 p → ⊥) → odd p P ≡ odd p (x ∷ l)
         rest p c oc nh = sum3 p ∙ go (bool (odd p (v ∷ x ∷ z0 ∷ [])))
           where
             go : (odd p (v ∷ x ∷ z0 ∷ []) ≡ true) ⊎ (odd p (v ∷ x ∷ z0 ∷ []) ≡ false)
@@ -150,7 +150,7 @@ module _ (m : ℤ) where
             (λ q. nay (subst (λ (y : Flat). Of y (x ∷ l)) (t .one z0 z (inr (lst-of x l)) o q) (lst-of x l)))
             (λ c. okc .bare (of-right z P R o) c) (λ c. okc .bare-back (of-right z P R o) c)
 
-        clear-v : Clear v (x ∷ l)
+        clear-v : OffEverySide v (x ∷ l)
         clear-v a b k = off-low m v a b (low a (link-of (x ∷ l) a b k)) (low b (link-of (x ∷ l) b a (link-back (x ∷ l) a b k)))
 
         out' : (z : Flat) → Of z R → (Of z (x ∷ l) → ⊥) → odd z (x ∷ l) ≡ false
@@ -166,7 +166,7 @@ module _ (m : ℤ) where
         keep' a b (inl (inr q)) oa ob = absurd (t .sp .apart .0 b ob (ap (h m) (q .1)))
         keep' a b (inr k) oa ob = go (chain-end x l v x a b k)
           where
-            go : Chain x l x a b ⊎ Pair z0 v a b → Link (x ∷ l) a b
+            go : Chain x l x a b ⊎ TheTwo z0 v a b → Link (x ∷ l) a b
             go (inl c) = c
             go (inr (inl q)) = absurd (t .sp .apart .0 b ob (ap (h m) (q .1)))
             go (inr (inr q)) = absurd (t .sp .apart .0 a oa (ap (h m) (q .0)))
@@ -176,13 +176,13 @@ module _ (m : ℤ) where
             sub-apart m P (x ∷ l) R x z0 t (ear-simple m v x l long (t .sp) hx hy eP) k (rest-link v x l) (λ z o. inr o) keep' uncutR
             (λ r o c. okc .bare (of-right r P R o) c) (λ r o c. okc .bare-back (of-right r P R o) c) out'
 
-        by-ear : (p : Flat) → Clear p P → Clear p R → odd p P ≡ true → odd p R ≡ true → ⊥
+        by-ear : (p : Flat) → OffEverySide p P → OffEverySide p R → odd p P ≡ true → odd p R ≡ true → ⊥
         by-ear p c cR o oR = go (off-or p x z0)
           where
             nh : Hit v x z0 p → ⊥
             nh i = true≢false (sym oR ∙ hit p i cR)
 
-            go : Off p x z0 ⊎ ((turn x z0 p ≡ pos 0) × Nn (negℤ (facing p x z0))) → ⊥
+            go : Off p x z0 ⊎ ((twiceArea x z0 p ≡ pos 0) × Nn (negℤ (facing p x z0))) → ⊥
             go (inr q) = nh (chord-hit v x z0 p (c v x vx) (c v z0 vy) crooked (q .0) (q .1))
             go (inl q) = last l refl
               where
@@ -203,18 +203,18 @@ module _ (m : ℤ) where
       CutGoal : Flat → List Flat → Type 0
       CutGoal w l =
           Apart m (v ∷ x ∷ l) R → length (v ∷ x ∷ l) + length R ≤ suc n → Least m v (x ∷ l)
-          → Ok m (Link (v ∷ x ∷ l)) (λ z. Of z (v ∷ x ∷ l)) v w → Same (turn v x w) (turn v x (lst x l))
-          → Same (turn v w (lst x l)) (turn v x (lst x l))
-          → ((p : Flat) → Clear p (v ∷ x ∷ l) → Clear p R → odd p (v ∷ x ∷ l) ≡ true → odd p R ≡ true → ⊥)
+          → Ok m (Link (v ∷ x ∷ l)) (λ z. Of z (v ∷ x ∷ l)) v w → SameSign (twiceArea v x w) (twiceArea v x (lst x l))
+          → SameSign (twiceArea v w (lst x l)) (twiceArea v x (lst x l))
+          → ((p : Flat) → OffEverySide p (v ∷ x ∷ l) → OffEverySide p R → odd p (v ∷ x ∷ l) ≡ true → odd p R ≡ true → ⊥)
 
-      module _ (w : Flat) (vw : Vw w) (on : (p : Flat) → turn v w p ≡ pos 0 → Nn (negℤ (facing p v w)) → (p ≡ v → ⊥) → Vw p) where
+      module _ (w : Flat) (vw : Vw w) (on : (p : Flat) → twiceArea v w p ≡ pos 0 → Nn (negℤ (facing p v w)) → (p ≡ v → ⊥) → Vw p) where
         split-cut : (X Y : List Flat) → CutGoal w (X ++ w ∷ Y)
         unfolding CutGoal
-        split-cut X [] t' b' low' ok s1 s2 = absurd (same-ne s2 (ap (turn v w) (lst-append x X w []) ∙ flat-second v w))
+        split-cut X [] t' b' low' ok s1 s2 = absurd (same-ne s2 (ap (twiceArea v w) (lst-append x X w []) ∙ flat-second v w))
         split-cut X (y ∷ Y) t' b' low' ok s1 s2 =
             let q = lst-append x X w (y ∷ Y) in
-            by-cut m n ih R v x X w y Y t' b' low' ok (same-is2 (ap (turn v x) q) s1)
-            (same-is2 (ap (turn v x) q) (same-is (ap (turn v w) q) s2))
+            by-cut m n ih R v x X w y Y t' b' low' ok (same-is2 (ap (twiceArea v x) q) s1)
+            (same-is2 (ap (twiceArea v x) q) (same-is (ap (twiceArea v w) q) s2))
             (λ a b k c. vw .ok .uncut (inr k) c) (λ r o c. vw .ok .bare (of-right r P R o) c)
             (λ r o c. vw .ok .bare-back (of-right r P R o) c)
             (λ p e f nv cR. viewed p (on p e f nv) cR)
@@ -227,11 +227,11 @@ module _ (m : ℤ) where
               bare-back = (λ {r} o c. vw .ok .bare-back (of-left r P R o) c);
             }
 
-        by-far : Of w P → Same (turn v x w) (turn v x z0) → Same (turn v w z0) (turn v x z0) → (p : Flat) → Clear p P → Clear p R
+        by-far : Of w P → SameSign (twiceArea v x w) (twiceArea v x z0) → SameSign (twiceArea v w z0) (twiceArea v x z0) → (p : Flat) → OffEverySide p P → OffEverySide p R
             → odd p P ≡ true → odd p R ≡ true → ⊥
         unfolding CutGoal
         by-far (inl e) s1 s2 = absurd (<ℤ-irrefl (subst (λ (z : Flat). h m v <ℤ (h m) z) e (vw .up)))
-        by-far (inr (inl e)) s1 s2 = absurd (same-ne s1 (ap (turn v x) e ∙ flat-second v x))
+        by-far (inr (inl e)) s1 s2 = absurd (same-ne s1 (ap (twiceArea v x) e ∙ flat-second v x))
         by-far (inr (inr o)) s1 s2 =
             let k = of-split w l o in
             subst (CutGoal w) (sym (k .is)) (split-cut (k .before) (k .after)) t bound low okP s1 s2
@@ -249,10 +249,10 @@ module _ (m : ℤ) where
             go (inl k) = k
             go (inr k) = pick k (member m P R t w k)
 
-      pub at-lowest : (p : Flat) → Clear p P → Clear p R → odd p P ≡ true → odd p R ≡ true → ⊥
+      pub at-lowest : (p : Flat) → OffEverySide p P → OffEverySide p R → odd p P ≡ true → odd p R ≡ true → ⊥
       at-lowest = go (look m J (P ++ R) net v x z0 (inl vx) (inl vy) hx hy apart)
         where
-          go : Look m J (P ++ R) net v x z0 (inl vx) (inl vy) hx hy → (p : Flat) → Clear p P → Clear p R → odd p P ≡ true → odd p R ≡ true
+          go : Look m J (P ++ R) net v x z0 (inl vx) (inl vy) hx hy → (p : Flat) → OffEverySide p P → OffEverySide p R → odd p P ≡ true → odd p R ≡ true
               → ⊥
           go (empty e) = by-ear e
           go (far w o vw s1 s2 on) = by-far w vw on (ofP w vw on o) s1 s2

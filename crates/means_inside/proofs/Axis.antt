@@ -18,15 +18,15 @@ use Rattle.paper.specs.declared.Axis.the-variants.{AlongX, AlongY, AlongZ}
 use Rattle.paper_laws.proofs.Points.{zero-yes}
 use Rattle.paper_laws.proofs.Vectors.{num, vec, x, _+s_, _*s_, _·_, v, _+v_, _-v_, _*v_, vring}
 use Rattle.means_area.specs.Rings.{Of, Chain, Link}
-use Rattle.means_area.specs.Flats.{Up, Nn, turn}
+use Rattle.means_area.specs.Flats.{Up, Nn, twiceArea}
 use Rattle.means_area.specs.Space.{through}
 use Rattle.means_area.proofs.Space.Maps.{map-link, end-of}
 use Rattle.means_area.proofs.Space.Views.{axis-real, view-one}
 use Rattle.means_area.proofs.Space.{none-through}
-use Rattle.means_inside.specs.Beams.{walk, round, right, beam, facing, Clear, odd}
+use Rattle.means_inside.specs.Beams.{oddAlong, round, right, beam, facing, OffEverySide, odd}
 use Rattle.means_inside.specs.Touch.{Touch}
 use Rattle.means_inside.specs.Means.{big}
-use Rattle.means_inside.specs.Convex.{turned}
+use Rattle.means_inside.specs.Convex.{handed}
 use Rattle.means_inside.specs.Theorems.{AnyAxis}
 use Rattle.means_inside.proofs.Triangle.{by-ray, self-up}
 use Rattle.means_inside.proofs.Sides.{link-onto}
@@ -37,7 +37,7 @@ use Rattle.means_inside.proofs.Inside.{agree}
 -- ---- a ring seen in two ways
 module _ (B : Flat → Flat) (S T : Point → Flat) (f f' : Flat → Flat → Bool) where
   walk-two : (a : Point) (l : List Point) (e : Point) → ((b c : Point) → Chain a l e b c → f (B (S b)) (B (S c)) ≡ f' (B (T b)) (B (T c)))
-      → walk f (B (S a)) (map B (map S l)) (B (S e)) ≡ walk f' (B (T a)) (map B (map T l)) (B (T e))
+      → oddAlong f (B (S a)) (map B (map S l)) (B (S e)) ≡ oddAlong f' (B (T a)) (map B (map T l)) (B (T e))
   walk-two a [] e h = h a e (inl (refl, refl))
   walk-two a (b ∷ l) e h = λ i. xor (h a b (inl (inl (refl, refl))) i) (walk-two b l e (λ c d k. h c d (inr k)) i)
 
@@ -100,16 +100,16 @@ module _ (n c : Point) (d : ℤ) (kd : Up d) (g : List Point) (flat : (a : Point
             let w = end-of g a b l in
             let oa = larger a (w .0) in
             let ob = larger b (w .1) in
-            let z : turn (seen i (times d a)) (seen i (times d b)) (seen i p) ≡ pos 0 =
-            (λ s. turn (sym ea s) (sym eb s) (seen i p)) ∙ t .line in
+            let z : twiceArea (seen i (times d a)) (seen i (times d b)) (seen i p) ≡ pos 0 =
+            (λ s. twiceArea (sym ea s) (sym eb s) (seen i p)) ∙ t .line in
             let k = link-onto (big d) (map (seen j) g) (seen j a) (seen j b) (link-onto (seen j) g a b l) in
             record {
               a = seen j (times d a);
               b = seen j (times d b);
               side = subst (λ (y : Flat). Link (map (big d) (map (seen j) g)) y (seen j (times d b))) (big-seen d j a)
                   (subst (λ (y : Flat). Link (map (big d) (map (seen j) g)) (big d (seen j a)) y) (big-seen d j b) k);
-              line = mul-zero (shown i n) (turn (seen j (times d a)) (seen j (times d b)) (seen j p)) (shown-real i n hi)
-                  (ring (shown i n ∷ turn (seen j (times d a)) (seen j (times d b)) (seen j p) ∷ []) (var 0 ⊗ var 1) (var 1 ⊗ var 0) tt
+              line = mul-zero (shown i n) (twiceArea (seen j (times d a)) (seen j (times d b)) (seen j p)) (shown-real i n hi)
+                  (ring (shown i n ∷ twiceArea (seen j (times d a)) (seen j (times d b)) (seen j p) ∷ []) (var 0 ⊗ var 1) (var 1 ⊗ var 0) tt
                   ∙ sym (turns n (times d c) i j (times d a) (times d b) p oa ob on) ∙ ap (λ (y : ℤ). y *ℤ shown j n) z
                   ∙ ring (shown j n ∷ []) (con (pos 0) ⊗ var 0) (con (pos 0)) tt);
               mid = between-too n (times d c) i j hi (times d a) (times d b) p oa ob on z
@@ -145,20 +145,20 @@ module _ (n c : Point) (d : ℤ) (kd : Up d) (g : List Point) (flat : (a : Point
       right-too : (a : Point) → E a → right (seen i p) (seen i q) (seen i a) ≡ right (seen j p) r (seen j a)
       unfolding right
       right-too a ea =
-          low-over (s .k) (s .l) (s .upk) (s .upl) (turn (seen i p) (seen i q) (seen i a)) (turn (seen j p) r (seen j a))
-          (s .is (turn (seen i p) (seen i q) (seen i a)) (turn (seen j p) (seen j q) (seen j a)) (turns n (times d c) i j p q a on on-q ea)
+          low-over (s .k) (s .l) (s .upk) (s .upl) (twiceArea (seen i p) (seen i q) (seen i a)) (twiceArea (seen j p) r (seen j a))
+          (s .is (twiceArea (seen i p) (seen i q) (seen i a)) (twiceArea (seen j p) (seen j q) (seen j a)) (turns n (times d c) i j p q a on on-q ea)
           ∙ ap (λ (z : ℤ). z *ℤ s .l) (sym (ray-is (s .hand) (seen j p) (seen j q) (seen j a))))
 
       beam-too : (a b : Point) → E a → E b
           → beam (seen i p) (seen i q) (seen i a) (seen i b) ≡ mirrored (s .hand) (seen j p) r (seen j a) (seen j b)
       unfolding beam
       beam-too a b ea eb =
-          (λ t. meetsRay (right-too a ea t) (right-too b eb t) (turn (seen i a) (seen i b) (seen i p)))
+          (λ t. meetsRay (right-too a ea t) (right-too b eb t) (twiceArea (seen i a) (seen i b) (seen i p)))
           ∙ ray-over (s .k) (s .l) (s .upk) (s .upl) (seen i p) (right (seen j p) r (seen j a)) (right (seen j p) r (seen j b))
-          (turn (seen i a) (seen i b) (seen i p)) (turned (s .hand) (turn (seen j a) (seen j b) (seen j p)))
-          (s .is (turn (seen i a) (seen i b) (seen i p)) (turn (seen j a) (seen j b) (seen j p)) (turns n (times d c) i j a b p ea eb on))
+          (twiceArea (seen i a) (seen i b) (seen i p)) (handed (s .hand) (twiceArea (seen j a) (seen j b) (seen j p)))
+          (s .is (twiceArea (seen i a) (seen i b) (seen i p)) (twiceArea (seen j a) (seen j b) (seen j p)) (turns n (times d c) i j a b p ea eb on))
 
-      odd-too : Clear (seen i p) (map (big d) (map (seen i) g)) → Clear (seen j p) (map (big d) (map (seen j) g))
+      odd-too : OffEverySide (seen i p) (map (big d) (map (seen i) g)) → OffEverySide (seen j p) (map (big d) (map (seen j) g))
           → odd (seen i p) (map (big d) (map (seen i) g)) ≡ odd (seen j p) (map (big d) (map (seen j) g))
       odd-too ci cj =
           by-ray (seen i p) (seen i q) (map (big d) (map (seen i) g)) ci (self-up (seen i p) (seen i q) (real i hi))

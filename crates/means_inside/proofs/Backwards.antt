@@ -7,11 +7,11 @@ use mathlib.Core.List.{List, [], _∷_, _++_, map, reverse, reverse-cons}
 use lib.IntN.{ℤ}
 use Rattle.paper.specs.Polygon.{crosses}
 use Rattle.paper.specs.declared.Flat.{Flat}
-use Rattle.means_area.specs.Rings.{Pair, Chain, Link}
+use Rattle.means_area.specs.Rings.{TheTwo, Chain, Link}
 use Rattle.means_area.proofs.Space.Maps.{map-link}
 use Rattle.means_area.proofs.Flats.Chains.{chain-split, chain-left, chain-right}
 use Rattle.means_area.proofs.Flats.Lowest.{pair-swap}
-use Rattle.means_inside.specs.Beams.{walk, round, odd}
+use Rattle.means_inside.specs.Beams.{oddAlong, round, odd}
 use Rattle.means_inside.specs.Touch.{Touch}
 use Rattle.means_inside.specs.Means.{big}
 use Rattle.means_inside.specs.Theorems.{AnyWay}
@@ -22,11 +22,11 @@ use Rattle.means_inside.proofs.Sides.{link-onto}
 use Rattle.means_inside.proofs.Inside.{agree}
 
 module _ (f : Flat → Flat → Bool) (sy : (a b : Flat) → f a b ≡ f b a) where
-  walk-back : (x : Flat) (l : List Flat) (e : Flat) → walk f x (reverse l) e ≡ walk f e l x
+  walk-back : (x : Flat) (l : List Flat) (e : Flat) → oddAlong f x (reverse l) e ≡ oddAlong f e l x
   walk-back x [] e = sy x e
   walk-back x (y ∷ l) e =
-      ap (λ (t : List Flat). walk f x t e) (reverse-cons y l) ∙ walk-split f x (reverse l) y [] e
-      ∙ (λ i. xor (walk-back x l y i) (sy y e i)) ∙ xor-comm (walk f y l x) (f e y)
+      ap (λ (t : List Flat). oddAlong f x t e) (reverse-cons y l) ∙ walk-split f x (reverse l) y [] e
+      ∙ (λ i. xor (walk-back x l y i) (sy y e i)) ∙ xor-comm (oddAlong f y l x) (f e y)
 
   -- with the first corner last, and first again
   last-first : (x : Flat) (l : List Flat) → round f (l ++ x ∷ []) ≡ round f (x ∷ l)
@@ -44,7 +44,7 @@ chain-reverse x (y ∷ l) e p q c =
     go (λ d. chain-reverse x l y p q d)
     (chain-split x (reverse l) y [] e p q (subst (λ (t : List Flat). Chain x t e p q) (reverse-cons y l) c))
   where
-    go : (Chain x (reverse l) y p q → Chain y l x p q) → Chain x (reverse l) y p q ⊎ Pair y e p q → Pair e y p q ⊎ Chain y l x p q
+    go : (Chain x (reverse l) y p q → Chain y l x p q) → Chain x (reverse l) y p q ⊎ TheTwo y e p q → TheTwo e y p q ⊎ Chain y l x p q
     go f (inl d) = inr (f d)
     go f (inr d) = inl (pair-swap y e p q d)
 
@@ -53,7 +53,7 @@ reverse-chain x [] e p q c = pair-swap e x p q c
 reverse-chain x (y ∷ l) e p q c =
     subst (λ (t : List Flat). Chain x t e p q) (sym (reverse-cons y l)) (go (λ d. reverse-chain x l y p q d) c)
   where
-    go : (Chain y l x p q → Chain x (reverse l) y p q) → Pair e y p q ⊎ Chain y l x p q → Chain x (reverse l ++ y ∷ []) e p q
+    go : (Chain y l x p q → Chain x (reverse l) y p q) → TheTwo e y p q ⊎ Chain y l x p q → Chain x (reverse l ++ y ∷ []) e p q
     go f (inl d) = chain-right x (reverse l) y [] e p q (pair-swap e y p q d)
     go f (inr d) = chain-left x (reverse l) y [] e p q (f d)
 

@@ -15,10 +15,10 @@ use Rattle.exact.proofs.Signs.{lt-yes, lt-is, le-yes, le-is, lt-or-ge}
 use Rattle.paper.specs.Points.{above, below}
 use Rattle.paper.specs.Polygon.{meetsRay}
 use Rattle.paper.specs.declared.Flat.{Flat}
-use Rattle.means_area.specs.Flats.{Up, Nn, turn}
+use Rattle.means_area.specs.Flats.{Up, Nn, twiceArea}
 use Rattle.means_area.proofs.Flats.Signs.{up-is, nn-is, up-nn, off, zero-off, ways, nn-out}
 use Rattle.means_area.proofs.Flats.Turns.{env, uE, vE, tE, flip-last}
-use Rattle.means_inside.specs.Beams.{round, right, beam, facing, Clear}
+use Rattle.means_inside.specs.Beams.{round, right, beam, facing, OffEverySide}
 use Rattle.means_inside.proofs.Parity.{xor-self, potential}
 
 -- ---- tests and facts
@@ -188,21 +188,21 @@ module _ (Aa Ab Ba Bb t κ : ℤ) (k : Up κ) (e : t *ℤ κ ≡ Aa *ℤ Bb -ℤ
 -- ---- of points
 module _ (p : Flat) where
   -- two ends that p does not part are to one side of every ray
-  pub same-side : (q a b : Flat) → turn a b p ≡ pos 0 → Up (facing p a b) → right p q a ≡ right p q b
-  unfolding right facing turn
-  same-side q a b z f = go (leZ (turn p q a) (pos 0)) (leZ (turn p q b) (pos 0)) refl refl
+  pub same-side : (q a b : Flat) → twiceArea a b p ≡ pos 0 → Up (facing p a b) → right p q a ≡ right p q b
+  unfolding right facing twiceArea
+  same-side q a b z f = go (leZ (twiceArea p q a) (pos 0)) (leZ (twiceArea p q b) (pos 0)) refl refl
     where
       σ : List ℤ
       σ = env (pos 0) (p ∷ q ∷ a ∷ b ∷ [])
 
       -- by a's place, and by b's
-      at-b : facing p a a *ℤ turn p q b ≡ facing p a b *ℤ turn p q a
+      at-b : facing p a a *ℤ twiceArea p q b ≡ facing p a b *ℤ twiceArea p q a
       at-b =
           ring-with σ (((uE 2 ⊖ uE 0) ⊗ (uE 2 ⊖ uE 0) ⊕ (vE 2 ⊖ vE 0) ⊗ (vE 2 ⊖ vE 0)) ⊗ tE 0 1 3)
           (((uE 2 ⊖ uE 0) ⊗ (uE 3 ⊖ uE 0) ⊕ (vE 2 ⊖ vE 0) ⊗ (vE 3 ⊖ vE 0)) ⊗ tE 0 1 2)
           ((uE 1 ⊖ uE 0) ⊗ (uE 2 ⊖ uE 0) ⊕ (vE 1 ⊖ vE 0) ⊗ (vE 2 ⊖ vE 0)) (tE 2 3 0) (con (pos 0)) tt z
 
-      at-a : facing p b b *ℤ turn p q a ≡ facing p a b *ℤ turn p q b
+      at-a : facing p b b *ℤ twiceArea p q a ≡ facing p a b *ℤ twiceArea p q b
       at-a =
           ring-with σ (((uE 3 ⊖ uE 0) ⊗ (uE 3 ⊖ uE 0) ⊕ (vE 3 ⊖ vE 0) ⊗ (vE 3 ⊖ vE 0)) ⊗ tE 0 1 2)
           (((uE 2 ⊖ uE 0) ⊗ (uE 3 ⊖ uE 0) ⊕ (vE 2 ⊖ vE 0) ⊗ (vE 3 ⊖ vE 0)) ⊗ tE 0 1 3)
@@ -216,33 +216,33 @@ module _ (p : Flat) where
       sq : (x y : ℤ) → Nn (x *ℤ x +ℤ y *ℤ y)
       sq x y = add-nonneg (square-nonneg x) (square-nonneg y)
 
-      go : (x y : Bool) → leZ (turn p q a) (pos 0) ≡ x → leZ (turn p q b) (pos 0) ≡ y
-          → leZ (turn p q a) (pos 0) ≡ leZ (turn p q b) (pos 0)
+      go : (x y : Bool) → leZ (twiceArea p q a) (pos 0) ≡ x → leZ (twiceArea p q b) (pos 0) ≡ y
+          → leZ (twiceArea p q a) (pos 0) ≡ leZ (twiceArea p q b) (pos 0)
       go true true e h = e ∙ sym h
       go false false e h = e ∙ sym h
       go true false e h =
           absurd
-          (clash (facing p b b) (turn p q b) (turn p q a) (sq (b .u -ℤ p .u) (b .v -ℤ p .v)) at-a (yes-low (turn p q a) e)
-          (no-low (turn p q b) h))
+          (clash (facing p b b) (twiceArea p q b) (twiceArea p q a) (sq (b .u -ℤ p .u) (b .v -ℤ p .v)) at-a (yes-low (twiceArea p q a) e)
+          (no-low (twiceArea p q b) h))
       go false true e h =
           absurd
-          (clash (facing p a a) (turn p q a) (turn p q b) (sq (a .u -ℤ p .u) (a .v -ℤ p .v)) at-b (yes-low (turn p q b) h)
-          (no-low (turn p q a) e))
+          (clash (facing p a a) (twiceArea p q a) (twiceArea p q b) (sq (a .u -ℤ p .u) (a .v -ℤ p .v)) at-b (yes-low (twiceArea p q b) h)
+          (no-low (twiceArea p q a) e))
 
-  pub cross4 : (q r a b : Flat) → turn a b p *ℤ turn p q r ≡ turn p q a *ℤ turn p r b -ℤ turn p q b *ℤ turn p r a
-  unfolding turn
+  pub cross4 : (q r a b : Flat) → twiceArea a b p *ℤ twiceArea p q r ≡ twiceArea p q a *ℤ twiceArea p r b -ℤ twiceArea p q b *ℤ twiceArea p r a
+  unfolding twiceArea
   cross4 q r a b = ring (env (pos 0) (p ∷ q ∷ r ∷ a ∷ b ∷ [])) (tE 3 4 0 ⊗ tE 0 1 2) (tE 0 1 3 ⊗ tE 0 2 4 ⊖ tE 0 1 4 ⊗ tE 0 2 3) tt
 
-  pub left-of : (q r : Flat) → Up (turn p q r) → (g : List Flat) → Clear p g → round (beam p q) g ≡ round (beam p r) g
+  pub left-of : (q r : Flat) → Up (twiceArea p q r) → (g : List Flat) → OffEverySide p g → round (beam p q) g ≡ round (beam p r) g
   unfolding beam right
   left-of q r k g c = potential (beam p q) (beam p r) (λ z. sect (right p q z) (right p r z)) g (λ a b l.
-      two-rays (turn p q a) (turn p q b) (turn p r a) (turn p r b) (turn a b p) (turn p q r) k (cross4 q r a b)
+      two-rays (twiceArea p q a) (twiceArea p q b) (twiceArea p r a) (twiceArea p r b) (twiceArea a b p) (twiceArea p q r) k (cross4 q r a b)
       (λ z. same-side q a b z (c a b l z)) (λ z. same-side r a b z (c a b l z)))
 
-  any-of : (q r : Flat) → (turn p q r ≡ pos 0 → ⊥) → (g : List Flat) → Clear p g → round (beam p q) g ≡ round (beam p r) g
-  any-of q r n g c = go (ways (turn p q r))
+  any-of : (q r : Flat) → (twiceArea p q r ≡ pos 0 → ⊥) → (g : List Flat) → OffEverySide p g → round (beam p q) g ≡ round (beam p r) g
+  any-of q r n g c = go (ways (twiceArea p q r))
     where
-      go : Up (turn p q r) ⊎ ((turn p q r ≡ pos 0) ⊎ Up (negℤ (turn p q r))) → round (beam p q) g ≡ round (beam p r) g
+      go : Up (twiceArea p q r) ⊎ ((twiceArea p q r ≡ pos 0) ⊎ Up (negℤ (twiceArea p q r))) → round (beam p q) g ≡ round (beam p r) g
       go (inl k) = left-of q r k g c
       go (inr (inl z)) = absurd (n z)
       go (inr (inr k)) = sym (left-of r q (up-is (sym (flip-last p r q)) k) g c)
@@ -251,35 +251,35 @@ module _ (p : Flat) where
   quarter : Flat → Flat
   quarter q = record { u = p .u -ℤ (q .v -ℤ p .v); v = p .v +ℤ (q .u -ℤ p .u) }
 
-  quarter-is : (q : Flat) → turn p q (quarter q) ≡ facing p q q
-  unfolding turn facing quarter
+  quarter-is : (q : Flat) → twiceArea p q (quarter q) ≡ facing p q q
+  unfolding twiceArea facing quarter
   quarter-is q =
       ring (env (pos 0) (p ∷ q ∷ [])) ((uE 1 ⊖ uE 0) ⊗ ((vE 0 ⊕ (uE 1 ⊖ uE 0)) ⊖ vE 0) ⊖ (vE 1 ⊖ vE 0) ⊗ ((uE 0 ⊖ (vE 1 ⊖ vE 0)) ⊖ uE 0))
       ((uE 1 ⊖ uE 0) ⊗ (uE 1 ⊖ uE 0) ⊕ (vE 1 ⊖ vE 0) ⊗ (vE 1 ⊖ vE 0)) tt
 
-  quarter-on : (q r : Flat) → turn p r (quarter q) ≡ facing p q r
-  unfolding turn facing quarter
+  quarter-on : (q r : Flat) → twiceArea p r (quarter q) ≡ facing p q r
+  unfolding twiceArea facing quarter
   quarter-on q r =
       ring (env (pos 0) (p ∷ q ∷ r ∷ []))
       ((uE 2 ⊖ uE 0) ⊗ ((vE 0 ⊕ (uE 1 ⊖ uE 0)) ⊖ vE 0) ⊖ (vE 2 ⊖ vE 0) ⊗ ((uE 0 ⊖ (vE 1 ⊖ vE 0)) ⊖ uE 0))
       ((uE 1 ⊖ uE 0) ⊗ (uE 2 ⊖ uE 0) ⊕ (vE 1 ⊖ vE 0) ⊗ (vE 2 ⊖ vE 0)) tt
 
   -- the two cannot both be 0
-  lagrange : (q r : Flat) → turn p q r *ℤ turn p q r +ℤ facing p q r *ℤ facing p q r ≡ facing p q q *ℤ facing p r r
-  unfolding turn facing
+  lagrange : (q r : Flat) → twiceArea p q r *ℤ twiceArea p q r +ℤ facing p q r *ℤ facing p q r ≡ facing p q q *ℤ facing p r r
+  unfolding twiceArea facing
   lagrange q r =
       let fE : ℕ → ℕ → Expr = λ a b. (uE a ⊖ uE 0) ⊗ (uE b ⊖ uE 0) ⊕ (vE a ⊖ vE 0) ⊗ (vE b ⊖ vE 0) in
       ring (env (pos 0) (p ∷ q ∷ r ∷ [])) (tE 0 1 2 ⊗ tE 0 1 2 ⊕ fE 1 2 ⊗ fE 1 2) (fE 1 1 ⊗ fE 2 2) tt
 
   -- the rays through any two points other than p
-  pub every-ray : (q r : Flat) → Up (facing p q q) → Up (facing p r r) → (g : List Flat) → Clear p g
+  pub every-ray : (q r : Flat) → Up (facing p q q) → Up (facing p r r) → (g : List Flat) → OffEverySide p g
       → round (beam p q) g ≡ round (beam p r) g
-  every-ray q r hq hr g c = go (ways (turn p q r))
+  every-ray q r hq hr g c = go (ways (twiceArea p q r))
     where
-      straight : turn p q r ≡ pos 0 → facing p q r ≡ pos 0 → ⊥
+      straight : twiceArea p q r ≡ pos 0 → facing p q r ≡ pos 0 → ⊥
       straight z f = zero-off (sym (lagrange q r) ∙ (λ i. z i *ℤ z i +ℤ f i *ℤ f i)) (mul-pos hq hr)
 
-      go : Up (turn p q r) ⊎ ((turn p q r ≡ pos 0) ⊎ Up (negℤ (turn p q r))) → round (beam p q) g ≡ round (beam p r) g
+      go : Up (twiceArea p q r) ⊎ ((twiceArea p q r ≡ pos 0) ⊎ Up (negℤ (twiceArea p q r))) → round (beam p q) g ≡ round (beam p r) g
       go (inl k) = left-of q r k g c
       go (inr (inl z)) =
           left-of q (quarter q) (up-is (sym (quarter-is q)) hq) g c

@@ -10,14 +10,14 @@ use lib.IntN.{ℤ}
 use lib.Signed.{_<ℤ_}
 use Rattle.exact.proofs.Signs.{<ℤ-ne}
 use Rattle.paper.specs.declared.Flat.{Flat}
-use Rattle.means_area.specs.Rings.{Of, Pair, Chain, Link}
-use Rattle.means_area.specs.Flats.{turn, Cross, height, On, Net, Distinct, Simple, Same, both, none, lst}
+use Rattle.means_area.specs.Rings.{Of, TheTwo, Chain, Link}
+use Rattle.means_area.specs.Flats.{twiceArea, Cross, height, WithinSegment, Net, Distinct, Simple, SameSign, both, none, lst}
 use Rattle.means_area.proofs.Flats.Signs.{up-is, up-nn, zero-off}
 use Rattle.means_area.proofs.Flats.Turns.{flip, flat-first, flat-second}
 use Rattle.means_area.proofs.Flats.Net.{Ok}
 use Rattle.means_area.proofs.Flats.Choice.{compare}
 use Rattle.means_area.proofs.Flats.Chains.{link-back, link-of, cross-turned, cross-back}
-use Rattle.means_inside.specs.Beams.{right, Clear, odd}
+use Rattle.means_inside.specs.Beams.{right, OffEverySide, odd}
 use Rattle.means_inside.proofs.Beams.{low-is, low-no}
 use Rattle.means_inside.proofs.Segment.{off-link, along}
 
@@ -31,8 +31,8 @@ module _ (m : ℤ) where
     pub np : 3 ≤ length P
     pub nr : 3 ≤ length R
     pub clear : (p q r s : Flat) → Link P p q → Link R r s → Cross p q r s → ⊥
-    pub freeP : (p q r : Flat) → Link P p q → Of r R → On m p q r → ⊥
-    pub freeR : (p q r : Flat) → Link R p q → Of r P → On m p q r → ⊥
+    pub freeP : (p q r : Flat) → Link P p q → Of r R → WithinSegment m p q r → ⊥
+    pub freeR : (p q r : Flat) → Link R p q → Of r P → WithinSegment m p q r → ⊥
     pub one : (p r : Flat) → Of p P → Of r R → h p ≡ h r → p ≡ r
     pub outP : (z : Flat) → Of z R → (Of z P → ⊥) → odd z P ≡ false
     pub outR : (z : Flat) → Of z P → (Of z R → ⊥) → odd z R ≡ false
@@ -57,7 +57,7 @@ module _ (m : ℤ) where
   }
 
   -- a corner of the one that is not one of the other is on none of its sides
-  pub clear-out : (P R : List Flat) → Apart P R → (z : Flat) → Of z R → (Of z P → ⊥) → Clear z P
+  pub clear-out : (P R : List Flat) → Apart P R → (z : Flat) → Of z R → (Of z P → ⊥) → OffEverySide z P
   clear-out P R t z o n p q l =
       off-link m z p q (λ e. n (subst (λ (y : Flat). Of y P) (t .one p z (link-of P p q l) o e) (link-of P p q l)))
       (λ e. n (subst (λ (y : Flat). Of y P) (t .one q z (link-of P q p (link-back P p q l)) o e) (link-of P q p (link-back P p q l))))
@@ -119,23 +119,23 @@ module _ (m : ℤ) where
   one-at (x ∷ l) d p r (inr o) (inr k) e = one-at l (d .1) p r o k e
 
   -- to one side
-  pub same-right : (p v a b : Flat) → Same (turn v p a) (turn v p b) → right p v a ≡ right p v b
+  pub same-right : (p v a b : Flat) → SameSign (twiceArea v p a) (twiceArea v p b) → right p v a ≡ right p v b
   unfolding right
   same-right p v a b (both x y) =
-      low-is (turn p v a) (up-nn (up-is (flip v p a ∙ refl) x)) ∙ sym (low-is (turn p v b) (up-nn (up-is (flip v p b ∙ refl) y)))
+      low-is (twiceArea p v a) (up-nn (up-is (flip v p a ∙ refl) x)) ∙ sym (low-is (twiceArea p v b) (up-nn (up-is (flip v p b ∙ refl) y)))
   same-right p v a b (none x y) =
-      low-no (turn p v a) (up-is (sym (flip p v a)) x) ∙ sym (low-no (turn p v b) (up-is (sym (flip p v b)) y))
+      low-no (twiceArea p v a) (up-is (sym (flip p v a)) x) ∙ sym (low-no (twiceArea p v b) (up-is (sym (flip p v b)) y))
 
   -- ---- along links that a ring does not touch
   module _ (L : Flat → Flat → Type 0) (C : Flat → Type 0) (net : Net m L C) (R : List Flat) (fR : (p q : Flat) → Link R p q → L p q)
       (cR : (z : Flat) → Of z R → C z) where
-    step : (z z' : Flat) → L z z' → (h z ≡ h z' → ⊥) → Clear z R → Clear z' R → odd z R ≡ odd z' R
+    step : (z z' : Flat) → L z z' → (h z ≡ h z' → ⊥) → OffEverySide z R → OffEverySide z' R → odd z R ≡ odd z' R
     step z z' l ne c c' =
         along m z z' ne R c c' (λ a b k x. net .clear l (fR a b k) x) (λ a b k x. net .free l (cR a (link-of R a b k)) x)
         (λ a b k x. net .free (net .back l) (cR a (link-of R a b k)) x)
 
     pub onward : (x : Flat) (l : List Flat) (e : Flat) → Distinct m (x ∷ l) → ((p q : Flat) → Chain x l e p q → L p q)
-        → ((z : Flat) → Of z (x ∷ l) → Clear z R) → odd x R ≡ false → (z : Flat) → Of z (x ∷ l) → odd z R ≡ false
+        → ((z : Flat) → Of z (x ∷ l) → OffEverySide z R) → odd x R ≡ false → (z : Flat) → Of z (x ∷ l) → odd z R ≡ false
     onward x [] e d f c s z (inl q) = ap (λ (y : Flat). odd y R) q ∙ s
     onward x [] e d f c s z (inr o) = absurd o
     onward x (y ∷ l) e d f c s z (inl q) = ap (λ (y : Flat). odd y R) q ∙ s
@@ -144,7 +144,7 @@ module _ (m : ℤ) where
         (sym (step x y (f x y (inl (inl (refl, refl)))) (λ q. d .0 y (inl refl) (sym q)) (c x (inl refl)) (c y (inr (inl refl)))) ∙ s) z o
 
     pub backward : (x : Flat) (l : List Flat) (e : Flat) → Distinct m (x ∷ l) → ((p q : Flat) → Chain x l e p q → L p q)
-        → ((z : Flat) → Of z (x ∷ l) → Clear z R) → odd (lst x l) R ≡ false → (z : Flat) → Of z (x ∷ l) → odd z R ≡ false
+        → ((z : Flat) → Of z (x ∷ l) → OffEverySide z R) → odd (lst x l) R ≡ false → (z : Flat) → Of z (x ∷ l) → odd z R ≡ false
     backward x [] e d f c s z (inl q) = ap (λ (y : Flat). odd y R) q ∙ s
     backward x [] e d f c s z (inr o) = absurd o
     backward x (y ∷ l) e d f c s z (inr o) = backward y l e (d .1) (λ p q k. f p q (inr k)) (λ t k. c t (inr k)) s z o
@@ -155,7 +155,7 @@ module _ (m : ℤ) where
 
   -- ---- a ring and a chord
   pub joint : (g : List Flat) (x y : Flat) → Simple m g → Ok m (Link g) (λ z. Of z g) x y → Of x g → Of y g
-      → Net m (λ p q. Link g p q ⊎ Pair x y p q) (λ z. Of z g)
+      → Net m (λ p q. Link g p q ⊎ TheTwo x y p q) (λ z. Of z g)
   joint g x y s ok ox oy = record {
     back = (λ {p} {q} l. bk p q l);
     end = (λ {p} {q} l. en p q l);
@@ -163,36 +163,36 @@ module _ (m : ℤ) where
     free = (λ {p} {q} {r} l n c. free2 p q r l n c);
   }
     where
-      bk : (p q : Flat) → Link g p q ⊎ Pair x y p q → Link g q p ⊎ Pair x y q p
+      bk : (p q : Flat) → Link g p q ⊎ TheTwo x y p q → Link g q p ⊎ TheTwo x y q p
       bk p q (inl l) = inl (link-back g p q l)
       bk p q (inr (inl e)) = inr (inr (e .1, e .0))
       bk p q (inr (inr e)) = inr (inl (e .1, e .0))
 
-      en : (p q : Flat) → Link g p q ⊎ Pair x y p q → Of p g
+      en : (p q : Flat) → Link g p q ⊎ TheTwo x y p q → Of p g
       en p q (inl l) = link-of g p q l
       en p q (inr (inl e)) = subst (λ (z : Flat). Of z g) (sym (e .0)) ox
       en p q (inr (inr e)) = subst (λ (z : Flat). Of z g) (sym (e .0)) oy
 
-      chord : (p q r t : Flat) → Pair x y p q → Link g r t → Cross p q r t → ⊥
+      chord : (p q r t : Flat) → TheTwo x y p q → Link g r t → Cross p q r t → ⊥
       chord p q r t (inl e) l c = ok .uncut l (subst (λ (z : Flat). Cross z y r t) (e .0) (subst (λ (z : Flat). Cross p z r t) (e .1) c))
       chord p q r t (inr e) l c =
           ok .uncut (link-back g r t l)
           (cross-back m (subst (λ (z : Flat). Cross z x r t) (e .0) (subst (λ (z : Flat). Cross p z r t) (e .1) c)))
 
-      twice : (p q r t : Flat) → Pair x y p q → Pair x y r t → Cross p q r t → ⊥
-      twice p q r t (inl e) (inl f) c = zero-off (ap (turn p q) (f .0 ∙ sym (e .0)) ∙ flat-first p q) (c .left)
-      twice p q r t (inl e) (inr f) c = zero-off (ap (turn p q) (f .0 ∙ sym (e .1)) ∙ flat-second p q) (c .left)
-      twice p q r t (inr e) (inl f) c = zero-off (ap (turn p q) (f .0 ∙ sym (e .1)) ∙ flat-second p q) (c .left)
-      twice p q r t (inr e) (inr f) c = zero-off (ap (turn p q) (f .0 ∙ sym (e .0)) ∙ flat-first p q) (c .left)
+      twice : (p q r t : Flat) → TheTwo x y p q → TheTwo x y r t → Cross p q r t → ⊥
+      twice p q r t (inl e) (inl f) c = zero-off (ap (twiceArea p q) (f .0 ∙ sym (e .0)) ∙ flat-first p q) (c .left)
+      twice p q r t (inl e) (inr f) c = zero-off (ap (twiceArea p q) (f .0 ∙ sym (e .1)) ∙ flat-second p q) (c .left)
+      twice p q r t (inr e) (inl f) c = zero-off (ap (twiceArea p q) (f .0 ∙ sym (e .1)) ∙ flat-second p q) (c .left)
+      twice p q r t (inr e) (inr f) c = zero-off (ap (twiceArea p q) (f .0 ∙ sym (e .0)) ∙ flat-first p q) (c .left)
 
-      clear2 : (p q r t : Flat) → Link g p q ⊎ Pair x y p q → Link g r t ⊎ Pair x y r t → Cross p q r t → ⊥
+      clear2 : (p q r t : Flat) → Link g p q ⊎ TheTwo x y p q → Link g r t ⊎ TheTwo x y r t → Cross p q r t → ⊥
       clear2 p q r t (inl l) (inl n) c = s .net .clear l n c
       clear2 p q r t (inl l) (inr n) c = chord r t q p n (link-back g p q l) (cross-turned m c)
       clear2 p q r t (inr l) (inl n) c = chord p q r t l n c
       clear2 p q r t (inr l) (inr n) c = twice p q r t l n c
 
-      free2 : (p q r : Flat) → Link g p q ⊎ Pair x y p q → Of r g → On m p q r → ⊥
+      free2 : (p q r : Flat) → Link g p q ⊎ TheTwo x y p q → Of r g → WithinSegment m p q r → ⊥
       free2 p q r (inl l) n c = s .net .free l n c
-      free2 p q r (inr (inl e)) n c = ok .bare n (subst (λ (z : Flat). On m z y r) (e .0) (subst (λ (z : Flat). On m p z r) (e .1) c))
+      free2 p q r (inr (inl e)) n c = ok .bare n (subst (λ (z : Flat). WithinSegment m z y r) (e .0) (subst (λ (z : Flat). WithinSegment m p z r) (e .1) c))
       free2 p q r (inr (inr e)) n c =
-          ok .bare-back n (subst (λ (z : Flat). On m z x r) (e .0) (subst (λ (z : Flat). On m p z r) (e .1) c))
+          ok .bare-back n (subst (λ (z : Flat). WithinSegment m z x r) (e .0) (subst (λ (z : Flat). WithinSegment m p z r) (e .1) c))

@@ -9,13 +9,13 @@ use lib.ListN.{length, length-append}
 use lib.IntN.{ℤ, pos, negℤ}
 use Rattle.lists.proofs.Truth.{false-xor}
 use Rattle.paper.specs.declared.Flat.{Flat}
-use Rattle.means_area.specs.Rings.{Of, Pair, Chain, Link}
-use Rattle.means_area.specs.Flats.{Nn, turn, Cross, On, Least, Same, lst}
+use Rattle.means_area.specs.Rings.{Of, TheTwo, Chain, Link}
+use Rattle.means_area.specs.Flats.{Nn, twiceArea, Cross, WithinSegment, Least, SameSign, lst}
 use Rattle.means_area.proofs.Flats.Net.{Ok}
 use Rattle.means_area.proofs.Flats.First.{first-link}
 use Rattle.means_area.proofs.Flats.Chains.{chain-split, chain-left, of-append, of-left}
 use Rattle.means_area.proofs.Flats.Chains.{of-right, distinct-across}
-use Rattle.means_inside.specs.Beams.{beam, facing, Off, Clear, odd, east}
+use Rattle.means_inside.specs.Beams.{beam, facing, Off, OffEverySide, odd, east}
 use Rattle.means_inside.proofs.Parity.{round-cut}
 use Rattle.means_inside.proofs.Segment.{off-link, beam-back}
 use Rattle.means_inside.proofs.Apart.{parts, in1, in2, f1, f2, outside1, outside2}
@@ -29,9 +29,9 @@ module _ (m : ℤ) where
     module _ (v x : Flat) (X : List Flat) (w y : Flat) (Y : List Flat) (t : Apart m (v ∷ x ∷ (X ++ w ∷ y ∷ Y)) R)
         (bound : length (v ∷ x ∷ (X ++ w ∷ y ∷ Y)) + length R ≤ suc n) (low : Least m v (x ∷ (X ++ w ∷ y ∷ Y)))
         (ok : Ok m (Link (v ∷ x ∷ (X ++ w ∷ y ∷ Y))) (λ z. Of z (v ∷ x ∷ (X ++ w ∷ y ∷ Y))) v w)
-        (s1 : Same (turn v x w) (turn v x (lst y Y))) (s2 : Same (turn v w (lst y Y)) (turn v x (lst y Y)))
-        (uncut : (a b : Flat) → Link R a b → Cross v w a b → ⊥) (bare : (r : Flat) → Of r R → On m v w r → ⊥)
-        (bare' : (r : Flat) → Of r R → On m w v r → ⊥) where
+        (s1 : SameSign (twiceArea v x w) (twiceArea v x (lst y Y))) (s2 : SameSign (twiceArea v w (lst y Y)) (twiceArea v x (lst y Y)))
+        (uncut : (a b : Flat) → Link R a b → Cross v w a b → ⊥) (bare : (r : Flat) → Of r R → WithinSegment m v w r → ⊥)
+        (bare' : (r : Flat) → Of r R → WithinSegment m w v r → ⊥) where
       abbrev g : List Flat
       g = v ∷ x ∷ (X ++ w ∷ y ∷ Y)
 
@@ -50,10 +50,10 @@ module _ (m : ℤ) where
       into2 : (z : Flat) → Of z P2 → Of z g
       into2 = in2 m v x X w y Y (t .sp) low ok s1 s2
 
-      link1 : (a b : Flat) → Link P1 a b → Link g a b ⊎ Pair v w a b
+      link1 : (a b : Flat) → Link P1 a b → Link g a b ⊎ TheTwo v w a b
       link1 = f1 m v x X w y Y (t .sp) low ok s1 s2
 
-      link2 : (a b : Flat) → Link P2 a b → Link g a b ⊎ Pair v w a b
+      link2 : (a b : Flat) → Link P2 a b → Link g a b ⊎ TheTwo v w a b
       link2 = f2 m v x X w y Y (t .sp) low ok s1 s2
 
       len1 : length P1 + length R ≤ n
@@ -106,7 +106,7 @@ module _ (m : ℤ) where
       unfolding xor
       even12 z o nay = go (bool (odd z P1)) (bool (odd z P2))
         where
-          c : Clear z g
+          c : OffEverySide z g
           c = clear-out m g R t z o nay
 
           e : xor (odd z P1) (odd z P2) ≡ false
@@ -201,11 +201,11 @@ module _ (m : ℤ) where
           go (inl c) = nay (inner v x X w a b c)
           go (inr c) = inr c
 
-      pub by-cut : ((p : Flat) → turn v w p ≡ pos 0 → Nn (negℤ (facing p v w)) → (p ≡ v → ⊥) → Clear p R → odd p R ≡ false) → (p : Flat)
-          → Clear p g → Clear p R → odd p g ≡ true → odd p R ≡ true → ⊥
+      pub by-cut : ((p : Flat) → twiceArea v w p ≡ pos 0 → Nn (negℤ (facing p v w)) → (p ≡ v → ⊥) → OffEverySide p R → odd p R ≡ false) → (p : Flat)
+          → OffEverySide p g → OffEverySide p R → odd p g ≡ true → odd p R ≡ true → ⊥
       by-cut on p c cR o oR = go (off-or p v w)
         where
-          go : Off p v w ⊎ ((turn v w p ≡ pos 0) × Nn (negℤ (facing p v w))) → ⊥
+          go : Off p v w ⊎ ((twiceArea v w p ≡ pos 0) × Nn (negℤ (facing p v w))) → ⊥
           go (inr q) = true≢false (sym oR ∙ on p (q .0) (q .1) (off-end p v x (c v x (first-link m v x (X ++ w ∷ y ∷ Y)))) cR)
           go (inl q) = pick (where1 p o)
             where

@@ -7,8 +7,8 @@ use native.Mathlib.Omega.{arith}
 use lib.IntN.{ℤ, pos, negℤ, _+ℤ_}
 use Rattle.exact.proofs.Order.{add-nonneg}
 use Rattle.paper.specs.declared.Flat.{Flat}
-use Rattle.means_area.specs.Rings.{Pair, Chain, Link}
-use Rattle.means_area.specs.Flats.{Up, Nn, turn, Simple, lst}
+use Rattle.means_area.specs.Rings.{TheTwo, Chain, Link}
+use Rattle.means_area.specs.Flats.{Up, Nn, twiceArea, Simple, lst}
 use Rattle.means_area.proofs.Flats.Signs.{up-is, nn-is, off, ways}
 use Rattle.means_area.proofs.Flats.Turns.{spin, flip, flip-last, sum-is, sum-neg}
 use Rattle.means_area.proofs.Flats.Choice.{Hit}
@@ -25,16 +25,16 @@ use Rattle.means_inside.proofs.Ears.{facing-back, off-back, off-or, cle
 use Rattle.means_inside.proofs.Form.{turn-link}
 
 -- within a triangle, and on neither side at v
-pub within-hit : (v x y p : Flat) → (turn v x y ≡ pos 0 → ⊥) → Off p v x → Off p v y → InTriangle v x y p → Hit v x y p
-within-hit v x y p n ox oy (left a b c) = go (ways (turn v x y))
+pub within-hit : (v x y p : Flat) → (twiceArea v x y ≡ pos 0 → ⊥) → Off p v x → Off p v y → InTriangle v x y p → Hit v x y p
+within-hit v x y p n ox oy (left a b c) = go (ways (twiceArea v x y))
   where
-    go : Up (turn v x y) ⊎ ((turn v x y ≡ pos 0) ⊎ Up (negℤ (turn v x y))) → Hit v x y p
+    go : Up (twiceArea v x y) ⊎ ((twiceArea v x y ≡ pos 0) ⊎ Up (negℤ (twiceArea v x y))) → Hit v x y p
     go (inl D) = inl (inn v x y p D ox oy b c a)
     go (inr (inl k)) = absurd (n k)
-    go (inr (inr D)) = absurd (off D (nn-is (twice (turn v x y)) (nn-is (sum-is v x y p) (add-nonneg (add-nonneg b c) a))))
-within-hit v x y p n ox oy (right a b c) = go (ways (turn v x y))
+    go (inr (inr D)) = absurd (off D (nn-is (twice (twiceArea v x y)) (nn-is (sum-is v x y p) (add-nonneg (add-nonneg b c) a))))
+within-hit v x y p n ox oy (right a b c) = go (ways (twiceArea v x y))
   where
-    go : Up (turn v x y) ⊎ ((turn v x y ≡ pos 0) ⊎ Up (negℤ (turn v x y))) → Hit v x y p
+    go : Up (twiceArea v x y) ⊎ ((twiceArea v x y ≡ pos 0) ⊎ Up (negℤ (twiceArea v x y))) → Hit v x y p
     go (inl D) = absurd (off D (nn-is (sum-neg v x y p) (add-nonneg (add-nonneg (nn-is (sym (flip y x p)) b) c) a)))
     go (inr (inl k)) = absurd (n k)
     go (inr (inr D)) =
@@ -43,18 +43,18 @@ within-hit v x y p n ox oy (right a b c) = go (ways (turn v x y))
         (nn-is (sym (flip v y p)) c))
 
 -- a simple triangle is no line
-pub three-turn : (m : ℤ) (a b c : Flat) → Simple m (a ∷ b ∷ c ∷ []) → turn a b c ≡ pos 0 → ⊥
+pub three-turn : (m : ℤ) (a b c : Flat) → Simple m (a ∷ b ∷ c ∷ []) → twiceArea a b c ≡ pos 0 → ⊥
 three-turn m a b c s e =
     area-not-zero m (a ∷ b ∷ c ∷ []) (omega arith) s (area-ear a b (c ∷ []) ∙ (λ i. e i +ℤ part-back b c i))
 
 -- on the side from a to b of a triangle, in either sense
-on-side : (v a b p : Flat) → (turn v a b ≡ pos 0 → ⊥) → turn a b p ≡ pos 0 → Nn (negℤ (facing p a b)) → InTriangle v a b p
-on-side v a b p n e f = go (ways (turn v a b))
+on-side : (v a b p : Flat) → (twiceArea v a b ≡ pos 0 → ⊥) → twiceArea a b p ≡ pos 0 → Nn (negℤ (facing p a b)) → InTriangle v a b p
+on-side v a b p n e f = go (ways (twiceArea v a b))
   where
-    zero : Nn (turn a b p)
+    zero : Nn (twiceArea a b p)
     zero = nn-is (sym e) (record { le = tt })
 
-    go : Up (turn v a b) ⊎ ((turn v a b ≡ pos 0) ⊎ Up (negℤ (turn v a b))) → InTriangle v a b p
+    go : Up (twiceArea v a b) ⊎ ((twiceArea v a b ≡ pos 0) ⊎ Up (negℤ (twiceArea v a b))) → InTriangle v a b p
     go (inl D) = left (base-b v a b p D e f) zero (base-a v a b p D e f)
     go (inr (inl k)) = absurd (n k)
     go (inr (inr D)) =
@@ -69,14 +69,14 @@ pub turn-within : (a b c p : Flat) → InTriangle b c a p → InTriangle a b c p
 turn-within a b c p (left x y z) = left z x y
 turn-within a b c p (right x y z) = right z x y
 
-module _ (a b c p : Flat) (n : turn a b c ≡ pos 0 → ⊥) where
-  bc : turn b c p ≡ pos 0 → Nn (negℤ (facing p b c)) → InTriangle a b c p
+module _ (a b c p : Flat) (n : twiceArea a b c ≡ pos 0 → ⊥) where
+  bc : twiceArea b c p ≡ pos 0 → Nn (negℤ (facing p b c)) → InTriangle a b c p
   bc = on-side a b c p n
 
-  ca : turn c a p ≡ pos 0 → Nn (negℤ (facing p c a)) → InTriangle a b c p
+  ca : twiceArea c a p ≡ pos 0 → Nn (negℤ (facing p c a)) → InTriangle a b c p
   ca e f = turn-within a b c p (on-side b c a p (λ q. n (spin a b c ∙ q)) e f)
 
-  ab : turn a b p ≡ pos 0 → Nn (negℤ (facing p a b)) → InTriangle a b c p
+  ab : twiceArea a b p ≡ pos 0 → Nn (negℤ (facing p a b)) → InTriangle a b c p
   ab e f = turn-within a b c p (turn-within b c a p (on-side c a b p (λ q. n (spin a b c ∙ spin b c a ∙ q)) e f))
 
   -- odd in the triangle
@@ -84,9 +84,9 @@ module _ (a b c p : Flat) (n : turn a b c ≡ pos 0 → ⊥) where
   odd-within o = go (off-or p a b) (off-or p b c) (off-or p c a)
     where
       clear : Off p a b → Off p b c → Off p c a → InTriangle a b c p
-      clear x y z = pick (ways (turn a b c))
+      clear x y z = pick (ways (twiceArea a b c))
         where
-          pick : Up (turn a b c) ⊎ ((turn a b c ≡ pos 0) ⊎ Up (negℤ (turn a b c))) → InTriangle a b c p
+          pick : Up (twiceArea a b c) ⊎ ((twiceArea a b c ≡ pos 0) ⊎ Up (negℤ (twiceArea a b c))) → InTriangle a b c p
           pick (inl D) =
               let k = clear3 a b c p x (off-back p c a z) n b c x (off-back p c a z) y in
               left (odd-b a b c p D k o) (odd-far a b c p D k o) (odd-a a b c p D k o)
@@ -98,8 +98,8 @@ module _ (a b c p : Flat) (n : turn a b c ≡ pos 0 → ⊥) where
               right (nn-is (flip b a p) (odd-a a c b p D' k o')) (nn-is (flip c b p) (odd-far a c b p D' k o'))
               (nn-is (flip a c p) (odd-b a c b p D' k o'))
 
-      go : Off p a b ⊎ ((turn a b p ≡ pos 0) × Nn (negℤ (facing p a b))) → Off p b c ⊎ ((turn b c p ≡ pos 0) × Nn (negℤ (facing p b c)))
-          → Off p c a ⊎ ((turn c a p ≡ pos 0) × Nn (negℤ (facing p c a))) → InTriangle a b c p
+      go : Off p a b ⊎ ((twiceArea a b p ≡ pos 0) × Nn (negℤ (facing p a b))) → Off p b c ⊎ ((twiceArea b c p ≡ pos 0) × Nn (negℤ (facing p b c)))
+          → Off p c a ⊎ ((twiceArea c a p ≡ pos 0) × Nn (negℤ (facing p c a))) → InTriangle a b c p
       go (inr k) y z = ab (k .0) (k .1)
       go (inl x) (inr k) z = bc (k .0) (k .1)
       go (inl x) (inl y) (inr k) = ca (k .0) (k .1)
@@ -108,12 +108,12 @@ module _ (a b c p : Flat) (n : turn a b c ≡ pos 0 → ⊥) where
   pub touch-within : Touch p (a ∷ b ∷ c ∷ []) → InTriangle a b c p
   touch-within t = go (t .side)
     where
-      pair : (d e : Flat) → (turn d e p ≡ pos 0 → Nn (negℤ (facing p d e)) → InTriangle a b c p) → Pair d e (t .a) (t .b)
+      pair : (d e : Flat) → (twiceArea d e p ≡ pos 0 → Nn (negℤ (facing p d e)) → InTriangle a b c p) → TheTwo d e (t .a) (t .b)
           → InTriangle a b c p
       pair d e f (inl q) =
-          f ((λ i. turn (sym (q .0) i) (sym (q .1) i) p) ∙ t .line) (nn-is (λ i. negℤ (facing p (q .0 i) (q .1 i))) (t .mid))
+          f ((λ i. twiceArea (sym (q .0) i) (sym (q .1) i) p) ∙ t .line) (nn-is (λ i. negℤ (facing p (q .0 i) (q .1 i))) (t .mid))
       pair d e f (inr q) =
-          f (flip d e p ∙ ap negℤ ((λ i. turn (sym (q .0) i) (sym (q .1) i) p) ∙ t .line))
+          f (flip d e p ∙ ap negℤ ((λ i. twiceArea (sym (q .0) i) (sym (q .1) i) p) ∙ t .line))
           (nn-is (ap negℤ (facing-back p e d)) (nn-is (λ i. negℤ (facing p (q .0 i) (q .1 i))) (t .mid)))
 
       go : Link (a ∷ b ∷ c ∷ []) (t .a) (t .b) → InTriangle a b c p
@@ -161,7 +161,7 @@ module _ (m : ℤ) (p : Flat) where
       go (inr k) = inr (inl k)
   ear-here u c l (inr k) = go (k .side)
     where
-      at : Chain c l c (k .a) (k .b) ⊎ Pair (lst c l) u (k .a) (k .b) → Here (u ∷ c ∷ lst c l ∷ []) ⊎ Here (c ∷ l)
+      at : Chain c l c (k .a) (k .b) ⊎ TheTwo (lst c l) u (k .a) (k .b) → Here (u ∷ c ∷ lst c l ∷ []) ⊎ Here (c ∷ l)
       at (inl j) = inr (at-side (u ∷ c ∷ l) (c ∷ l) k j)
       at (inr j) = inl (at-side (u ∷ c ∷ l) (u ∷ c ∷ lst c l ∷ []) k (inr (inr j)))
 

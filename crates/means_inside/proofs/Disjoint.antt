@@ -12,14 +12,14 @@ use Rattle.exact.proofs.Signs.{<ℤ-ne}
 use Rattle.exact.proofs.Order.{lt-chain}
 use Rattle.paper.specs.declared.Flat.{Flat}
 use Rattle.means_area.specs.Rings.{Of, Link}
-use Rattle.means_area.specs.Flats.{Up, Nn, turn, Least, lst}
+use Rattle.means_area.specs.Flats.{Up, Nn, twiceArea, Least, lst}
 use Rattle.means_area.proofs.Flats.Signs.{up-is, nn-is, zero-off}
 use Rattle.means_area.proofs.Flats.Turns.{spin, flip, flip-last, flat-second}
 use Rattle.means_area.proofs.Flats.Choice.{compare}
 use Rattle.means_area.proofs.Flats.First.{first-link, last-link, ends-apart, only-first}
 use Rattle.means_area.proofs.Flats.Chains.{lst-of, link-back, link-of}
 use Rattle.means_area.proofs.Flats.Chains.{cross-turned}
-use Rattle.means_inside.specs.Beams.{right, Clear, odd, Seen}
+use Rattle.means_inside.specs.Beams.{right, OffEverySide, odd, Seen}
 use Rattle.means_inside.proofs.Parity.{xor-self}
 use Rattle.means_inside.proofs.Beams.{yes-low, no-low}
 use Rattle.means_inside.proofs.Fan.{fan, apart-fan}
@@ -35,7 +35,7 @@ module _ (m : ℤ) where
   -- ---- R is above v
   above : (n : ℕ) → Disjoint m n → (v x : Flat) (l R : List Flat) → Apart m (v ∷ x ∷ l) R → length (v ∷ x ∷ l) + length R ≤ suc n
       → Least m v (x ∷ l) → Least m v R
-      → (p : Flat) → Clear p (v ∷ x ∷ l) → Clear p R → odd p (v ∷ x ∷ l) ≡ true → odd p R ≡ true → ⊥
+      → (p : Flat) → OffEverySide p (v ∷ x ∷ l) → OffEverySide p R → odd p (v ∷ x ∷ l) ≡ true → odd p R ≡ true → ⊥
   above n ih v x l R t b low lowR =
       at-lowest m n ih R v x l t b low (λ p c s k. by-low m p v R c (s .up) ∙ apart-fan m p v R lowR s)
       (λ q k i. absurd (<ℤ-irrefl (lowR v (link-of R v q k))))
@@ -64,10 +64,10 @@ module _ (m : ℤ) where
 
       -- a side of the angle is not in it
       at-x : (z : Flat) → (z ≡ x) ⊎ (z ≡ lst x l) → Between v x (lst x l) z → ⊥
-      at-x z (inl e) (inl u) = zero-off (ap (turn v x) e ∙ flat-second v x) (u .0)
-      at-x z (inl e) (inr u) = zero-off (ap (λ (y : Flat). turn v y x) e ∙ flat-second v x) (u .1)
-      at-x z (inr e) (inl u) = zero-off (ap (λ (y : Flat). turn v y (lst x l)) e ∙ flat-second v (lst x l)) (u .1)
-      at-x z (inr e) (inr u) = zero-off (ap (turn v (lst x l)) e ∙ flat-second v (lst x l)) (u .0)
+      at-x z (inl e) (inl u) = zero-off (ap (twiceArea v x) e ∙ flat-second v x) (u .0)
+      at-x z (inl e) (inr u) = zero-off (ap (λ (y : Flat). twiceArea v y x) e ∙ flat-second v x) (u .1)
+      at-x z (inr e) (inl u) = zero-off (ap (λ (y : Flat). twiceArea v y (lst x l)) e ∙ flat-second v (lst x l)) (u .1)
+      at-x z (inr e) (inr u) = zero-off (ap (twiceArea v (lst x l)) e ∙ flat-second v (lst x l)) (u .0)
 
       go : Of q (v ∷ x ∷ l) ⊎ (Of q (v ∷ x ∷ l) → ⊥) → ⊥
       go (inl o) = at-x q (only-first m v x l (t .sp .apart .0) q (t .link v q (inl refl) o (inl refl) oq (λ e. <ℤ-ne hq e) .0)) i
@@ -79,7 +79,7 @@ module _ (m : ℤ) where
 
   -- two links at v in one line are one
   in-line : (P R : List Flat) → Apart m P R → (v a a' : Flat) → Link P v a → Link R v a' → h m v <ℤ (h m) a → h m v <ℤ (h m) a'
-      → turn v a a' ≡ pos 0
+      → twiceArea v a a' ≡ pos 0
       → a ≡ a'
   in-line P R t v a a' k k' ha ha' e = go (compare (h m a) (h m a'))
     where
@@ -104,7 +104,7 @@ module _ (m : ℤ) where
         → h m v <ℤ (h m) a'
         → h m v <ℤ (h m) b' → h m v <ℤ (h m) p → (h m a ≡ h m b → ⊥)
         → ((q : Flat) → Ang v a b q → Between v x (lst x l) q) → ((q : Flat) → Ang v a' b' q → Between v x' (lst x' l') q)
-        → Ang v a b p → Up (turn v a' p) → Nn (turn v p b') → ⊥
+        → Ang v a b p → Up (twiceArea v a' p) → Nn (twiceArea v p b') → ⊥
     clash a b a' b' p ka kb ka' kb' ha hb ha' hb' hp ne f f' i s s' =
         let z = ang m v a b a' b' p ha hb ha' hb' hp (i .0) (i .1) s s'
         (λ j. outside-angle v x l x' l' t low low' a' ka' (f a' j)) (λ j. outside-angle v x l x' l' t low low' b' kb' (f b' j))
@@ -120,18 +120,18 @@ module _ (m : ℤ) where
     longer : 1 ≤ length l
     longer = let k = t .np in omega (arith, k)
 
-    even-at : (p : Flat) → Clear p RA → Seen m v p RA → Between v x (lst x l) p → odd p RA ≡ false
+    even-at : (p : Flat) → OffEverySide p RA → Seen m v p RA → Between v x (lst x l) p → odd p RA ≡ false
     unfolding right
     even-at p c s i =
         by-low m p v RA c (s .up) ∙ fan m p v x' l' low' s
         ∙ ap (λ (b : Bool). xor b (right p v (lst x' l'))) (go (bool (right p v x')) (bool (right p v (lst x' l'))))
         ∙ xor-self (right p v (lst x' l'))
       where
-        left : (q : Flat) → right p v q ≡ false → Up (turn v q p)
-        left q e = up-is (spin p v q) (no-low (turn p v q) e)
+        left : (q : Flat) → right p v q ≡ false → Up (twiceArea v q p)
+        left q e = up-is (spin p v q) (no-low (twiceArea p v q) e)
 
-        weak : (q : Flat) → right p v q ≡ true → Nn (turn v p q)
-        weak q e = nn-is (sym (flip v p q)) (yes-low (turn p v q) e)
+        weak : (q : Flat) → right p v q ≡ true → Nn (twiceArea v p q)
+        weak q e = nn-is (sym (flip v p q)) (yes-low (twiceArea p v q) e)
 
         k1 : Link PA v x
         k1 = first-link m v x l
@@ -175,28 +175,28 @@ module _ (m : ℤ) where
         go (inr a) (inl b) = absurd (meet x' (lst x' l') k3 k4 h3 h4 (λ q u. inl u) a b i)
         go (inl a) (inr b) = absurd (meet (lst x' l') x' k4 k3 h4 h3 (λ q u. inr u) b a i)
 
-    at : (n : ℕ) → Disjoint m n → length PA + length RA ≤ suc n → (p : Flat) → Clear p PA → Clear p RA → odd p PA ≡ true → odd p RA ≡ true
+    at : (n : ℕ) → Disjoint m n → length PA + length RA ≤ suc n → (p : Flat) → OffEverySide p PA → OffEverySide p RA → odd p PA ≡ true → odd p RA ≡ true
         → ⊥
     at n ih b = at-lowest m n ih RA v x l t b low even-at (λ q k i. outside-angle v x l x' l' t low low' q k i)
 
   both-formed : (n : ℕ) → Disjoint m n → (v x : Flat) (l : List Flat) (v' x' : Flat) (l' : List Flat) → Apart m (v ∷ x ∷ l) (v' ∷ x' ∷ l')
       → Least m v (x ∷ l) → Least m v' (x' ∷ l') → length (v ∷ x ∷ l) + length (v' ∷ x' ∷ l') ≤ suc n
-      → (p : Flat) → Clear p (v ∷ x ∷ l) → Clear p (v' ∷ x' ∷ l') → odd p (v ∷ x ∷ l) ≡ true → odd p (v' ∷ x' ∷ l') ≡ true → ⊥
+      → (p : Flat) → OffEverySide p (v ∷ x ∷ l) → OffEverySide p (v' ∷ x' ∷ l') → odd p (v ∷ x ∷ l) ≡ true → odd p (v' ∷ x' ∷ l') ≡ true → ⊥
   both-formed n ih v x l v' x' l' t low low' b = go (compare (h m v) (h m v'))
     where
       all : (v : Flat) (v' : Flat) (r : List Flat) → h m v <ℤ (h m) v' → Least m v' r → (z : Flat) → Of z (v' ∷ r) → h m v <ℤ (h m) z
       all v v' r k f z (inl e) = subst (λ (y : Flat). h m v <ℤ (h m) y) (sym e) k
       all v v' r k f z (inr o) = lt-chain k (f z o)
 
-      go : (h m v <ℤ (h m) v') ⊎ ((h m v ≡ h m v') ⊎ (h m v' <ℤ (h m) v)) → (p : Flat) → Clear p (v ∷ x ∷ l) → Clear p (v' ∷ x' ∷ l')
+      go : (h m v <ℤ (h m) v') ⊎ ((h m v ≡ h m v') ⊎ (h m v' <ℤ (h m) v)) → (p : Flat) → OffEverySide p (v ∷ x ∷ l) → OffEverySide p (v' ∷ x' ∷ l')
           → odd p (v ∷ x ∷ l) ≡ true → odd p (v' ∷ x' ∷ l') ≡ true → ⊥
       go (inl k) = above n ih v x l (v' ∷ x' ∷ l') t b low (all v v' (x' ∷ l') k low')
       go (inr (inr k)) =
           λ p c c' o o'. above n ih v' x' l' (v ∷ x ∷ l) (swap m (v ∷ x ∷ l) (v' ∷ x' ∷ l') t) (omega (arith, b)) low'
           (all v' v (x ∷ l) k low) p c' c o' o
       go (inr (inl k)) =
-          subst (λ (z : Flat). Apart m (v ∷ x ∷ l) (z ∷ x' ∷ l') → Least m z (x' ∷ l') → (p : Flat) → Clear p (v ∷ x ∷ l)
-          → Clear p (z ∷ x' ∷ l') → odd p (v ∷ x ∷ l) ≡ true → odd p (z ∷ x' ∷ l') ≡ true → ⊥)
+          subst (λ (z : Flat). Apart m (v ∷ x ∷ l) (z ∷ x' ∷ l') → Least m z (x' ∷ l') → (p : Flat) → OffEverySide p (v ∷ x ∷ l)
+          → OffEverySide p (z ∷ x' ∷ l') → odd p (v ∷ x ∷ l) ≡ true → odd p (z ∷ x' ∷ l') ≡ true → ⊥)
           (t .one v v' (inl refl) (inl refl) k) (λ t' lw. at v x l x' l' t' low lw n ih b) t low'
 
   pub disjoint : (n : ℕ) → Disjoint m n

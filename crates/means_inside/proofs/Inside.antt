@@ -13,10 +13,10 @@ use Rattle.paper.specs.declared.Flat.{Flat}
 use Rattle.paper.specs.declared.Where.{Where}
 use Rattle.paper.specs.declared.Where.the-variants.{Outside, Border, Inside}
 use Rattle.means_area.specs.Rings.{Of}
-use Rattle.means_area.specs.Flats.{Up, Nn, turn}
+use Rattle.means_area.specs.Flats.{Up, Nn, twiceArea}
 use Rattle.means_area.proofs.Flats.Chains.{link-of, link-back}
-use Rattle.means_inside.specs.Beams.{round, beam, facing, Off, Clear, odd}
-use Rattle.means_inside.specs.Regions.{Cut, At, hits}
+use Rattle.means_inside.specs.Beams.{round, beam, facing, Off, OffEverySide, odd}
+use Rattle.means_inside.specs.Regions.{Cut, At, cutHits}
 use Rattle.means_inside.specs.Touch.{Touch}
 use Rattle.means_inside.specs.Means.{big}
 use Rattle.means_inside.proofs.Parity.{odd-round}
@@ -58,8 +58,8 @@ module _ (m d : ℤ) (k : Up d) (g : List Flat) (p : Flat) where
   -- the three ways
   pub data Ways : Type 0 where
     at-border : Touch p G → whereFlat p d g ≡ Border → Ways
-    at-inside : Clear p G → odd p G ≡ true → whereFlat p d g ≡ Inside → Ways
-    at-outside : Clear p G → odd p G ≡ false → whereFlat p d g ≡ Outside → Ways
+    at-inside : OffEverySide p G → odd p G ≡ true → whereFlat p d g ≡ Inside → Ways
+    at-outside : OffEverySide p G → odd p G ≡ false → whereFlat p d g ≡ Outside → Ways
 
   pub ways : Ways
   unfolding placed
@@ -82,17 +82,17 @@ touch-border d k g p t = go (ways (pos 0) d k g p)
 pub inside-off : (d : ℤ) → Up d → (g : List Flat) (p : Flat) → whereFlat p d g ≡ Inside → Touch p (map (big d) g) → ⊥
 inside-off d k g p e t = bi (sym (touch-border d k g p t) ∙ e)
 
-clear-of : (p : Flat) (g : List Flat) → (Touch p g → ⊥) → Clear p g
+clear-of : (p : Flat) (g : List Flat) → (Touch p g → ⊥) → OffEverySide p g
 clear-of p g n a b l = go (off-or p a b)
   where
-    go : Off p a b ⊎ ((turn a b p ≡ pos 0) × Nn (negℤ (facing p a b))) → Off p a b
+    go : Off p a b ⊎ ((twiceArea a b p ≡ pos 0) × Nn (negℤ (facing p a b))) → Off p a b
     go (inl o) = o
     go (inr t) = absurd (n (record { a = a; b = b; side = l; line = t .0; mid = t .1 }))
 
 -- two rings with the same sides at p and the same parity give the same answer, also for two points
 pub agree : (d : ℤ) → Up d → (p q : Flat) (g h : List Flat) → (Touch p (map (big d) g) → Touch q (map (big d) h))
     → (Touch q (map (big d) h) → Touch p (map (big d) g))
-    → (Clear p (map (big d) g) → Clear q (map (big d) h) → odd p (map (big d) g) ≡ odd q (map (big d) h))
+    → (OffEverySide p (map (big d) g) → OffEverySide q (map (big d) h) → odd p (map (big d) g) ≡ odd q (map (big d) h))
     → whereFlat p d g ≡ whereFlat q d h
 agree d k p q g h to from o = go (ways (pos 0) d k g p) (ways (pos 0) d k h q)
   where
@@ -121,7 +121,7 @@ every-ray-says d k g p q h n = go (ways (pos 0) d k g p)
 
 -- the number of sides met is odd where the number of triangles with an odd number of sides met is, for every triangulation and every
 -- point
-pub any-triangles : (m d : ℤ) → Up d → (g : List Flat) (t : Cut m g) (p : Flat) → oddTrue (sides (crosses p d) g) ≡ hits (crosses p d) t
+pub any-triangles : (m d : ℤ) → Up d → (g : List Flat) (t : Cut m g) (p : Flat) → oddTrue (sides (crosses p d) g) ≡ cutHits (crosses p d) t
 any-triangles m d k g t p = odd-round (crosses p d) g ∙ hits-are m (crosses p d) (crosses-back p d k) g t
 
 -- every triangulation covers the inside and the border
@@ -190,7 +190,7 @@ any-start d k x l y r p =
         record { a = t .a; b = t .b; side = link-turned (pos 0) (big d) b v a u (t .a) (t .b) (t .side); line = t .line; mid = t .mid }
 
 -- a point that has a line to one side of which all corners are is outside
-pub one-sided : (d : ℤ) → Up d → (g : List Flat) (p q : Flat) → ((z : Flat) → Of z (map (big d) g) → Up (turn p q z))
+pub one-sided : (d : ℤ) → Up d → (g : List Flat) (p q : Flat) → ((z : Flat) → Of z (map (big d) g) → Up (twiceArea p q z))
     → whereFlat p d g ≡ Outside
 one-sided d k [] p q h = go (ways (pos 0) d k [] p)
   where

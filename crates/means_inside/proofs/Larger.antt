@@ -8,7 +8,7 @@ use Rattle.exact.proofs.Order.{lt-cancel}
 use Rattle.exact.proofs.Signs.{mul-zero, mul-cancelℤ, pos-ne}
 use Rattle.paper.specs.declared.Flat.{Flat}
 use Rattle.means_area.specs.Rings.{Of, Link}
-use Rattle.means_area.specs.Flats.{Up, turn, Cross, height, On, Distinct, Simple}
+use Rattle.means_area.specs.Flats.{Up, twiceArea, Cross, height, WithinSegment, Distinct, Simple}
 use Rattle.means_area.proofs.Flats.Signs.{up-is, up-out}
 use Rattle.means_area.proofs.Flats.Turns.{env, uE, vE, tE}
 use Rattle.means_area.proofs.Space.Maps.{map-of, map-link}
@@ -18,8 +18,8 @@ use Rattle.means_inside.specs.Means.{big}
 
 -- ---- a simple ring stays simple
 module _ (m d : ℤ) (k : Up d) where
-  pub big-turn : (a b c : Flat) → turn (big d a) (big d b) (big d c) ≡ d *ℤ (d *ℤ turn a b c)
-  unfolding turn
+  pub big-turn : (a b c : Flat) → twiceArea (big d a) (big d b) (big d c) ≡ d *ℤ (d *ℤ twiceArea a b c)
+  unfolding twiceArea
   big-turn a b c =
       ring (env d (a ∷ b ∷ c ∷ []))
       ((var 0 ⊗ uE 1 ⊖ var 0 ⊗ uE 0) ⊗ (var 0 ⊗ vE 2 ⊖ var 0 ⊗ vE 0) ⊖ (var 0 ⊗ vE 1 ⊖ var 0 ⊗ vE 0) ⊗ (var 0 ⊗ uE 2 ⊖ var 0 ⊗ uE 0))
@@ -29,7 +29,7 @@ module _ (m d : ℤ) (k : Up d) where
   unfolding height
   big-height a = ring (m ∷ a .u ∷ a .v ∷ d ∷ []) (var 0 ⊗ (var 3 ⊗ var 1) ⊕ var 3 ⊗ var 2) (var 3 ⊗ (var 0 ⊗ var 1 ⊕ var 2)) tt
 
-  pub small-up : (a b c : Flat) → Up (turn (big d a) (big d b) (big d c)) → Up (turn a b c)
+  pub small-up : (a b c : Flat) → Up (twiceArea (big d a) (big d b) (big d c)) → Up (twiceArea a b c)
   small-up a b c h = up-out d k (up-out d k (up-is (big-turn a b c) h))
 
   pub small-lt : (a b : Flat) → height m (big d a) <ℤ height m (big d b) → height m a <ℤ height m b
@@ -62,19 +62,19 @@ module _ (m d : ℤ) (k : Up d) where
       cl : (p q r t : Flat) → (b : Flat) × (c : Flat) × Link g b c × (p ≡ big d b) × (q ≡ big d c)
           → (b : Flat) × (c : Flat) × Link g b c × (r ≡ big d b) × (t ≡ big d c) → Cross p q r t → ⊥
       cl p q r t x y c = s .net .clear (x .2) (y .2) (record {
-        left = small-up (x .0) (x .1) (y .0) (up-is (λ i. turn (x .3 i) (x .4 i) (y .3 i)) (c .left));
-        right = small-up (x .1) (x .0) (y .1) (up-is (λ i. turn (x .4 i) (x .3 i) (y .4 i)) (c .right));
-        ahead = small-up (y .0) (y .1) (x .1) (up-is (λ i. turn (y .3 i) (y .4 i) (x .4 i)) (c .ahead));
-        behind = small-up (y .1) (y .0) (x .0) (up-is (λ i. turn (y .4 i) (y .3 i) (x .3 i)) (c .behind));
+        left = small-up (x .0) (x .1) (y .0) (up-is (λ i. twiceArea (x .3 i) (x .4 i) (y .3 i)) (c .left));
+        right = small-up (x .1) (x .0) (y .1) (up-is (λ i. twiceArea (x .4 i) (x .3 i) (y .4 i)) (c .right));
+        ahead = small-up (y .0) (y .1) (x .1) (up-is (λ i. twiceArea (y .3 i) (y .4 i) (x .4 i)) (c .ahead));
+        behind = small-up (y .1) (y .0) (x .0) (up-is (λ i. twiceArea (y .4 i) (y .3 i) (x .3 i)) (c .behind));
       })
 
       fr : (p q r : Flat) → (b : Flat) × (c : Flat) × Link g b c × (p ≡ big d b) × (q ≡ big d c) → (b : Flat) × Of b g × (r ≡ big d b)
-          → On m p q r → ⊥
+          → WithinSegment m p q r → ⊥
       fr p q r x y c = s .net .free (x .2) (y .1) (record {
         line =
-            mul-zero d (turn (x .0) (x .1) (y .0)) (pos-ne k)
-            (mul-zero d (d *ℤ turn (x .0) (x .1) (y .0)) (pos-ne k)
-            (sym (big-turn (x .0) (x .1) (y .0)) ∙ sym (λ i. turn (x .3 i) (x .4 i) (y .2 i)) ∙ c .line));
+            mul-zero d (twiceArea (x .0) (x .1) (y .0)) (pos-ne k)
+            (mul-zero d (d *ℤ twiceArea (x .0) (x .1) (y .0)) (pos-ne k)
+            (sym (big-turn (x .0) (x .1) (y .0)) ∙ sym (λ i. twiceArea (x .3 i) (x .4 i) (y .2 i)) ∙ c .line));
         after =
             small-lt (x .0) (y .0)
             (subst (λ (z : Flat). height m z <ℤ height m (big d (y .0))) (x .3)

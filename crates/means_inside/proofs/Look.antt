@@ -11,7 +11,7 @@ use Rattle.exact.proofs.Ring.{var, con, _⊕_, _⊖_, _⊗_, neg, ring}
 use Rattle.exact.proofs.Order.{ring-with, mul-pos, mul-nonneg, add-nonneg, sub-pos}
 use Rattle.paper.specs.declared.Flat.{Flat}
 use Rattle.means_area.specs.Rings.{Of}
-use Rattle.means_area.specs.Flats.{Up, Nn, turn, height, Net, Same, both, none}
+use Rattle.means_area.specs.Flats.{Up, Nn, twiceArea, height, Net, SameSign, both, none}
 use Rattle.means_area.proofs.Flats.Signs.{up-is, nn-is, up-nn, up-add, off, zero-off, ways, up-out, nn-out}
 use Rattle.means_area.proofs.Flats.Turns.{In, env, uE, vE, tE, hE, spin, flip, flip-last, flat-first}
 use Rattle.means_area.proofs.Flats.Net.{Ok, diagonal, higher}
@@ -21,7 +21,7 @@ use Rattle.means_inside.proofs.Triangle.{fE, self-nn, self-up}
 
 -- q is strictly in the angle from a to b at v; in the angle, whichever way round
 abbrev pub Ang : Flat → Flat → Flat → Flat → Type 0
-Ang v a b q = Up (turn v a q) × Up (turn v q b)
+Ang v a b q = Up (twiceArea v a q) × Up (twiceArea v q b)
 
 abbrev pub Between : Flat → Flat → Flat → Flat → Type 0
 Between v x y q = Ang v x y q ⊎ Ang v y x q
@@ -38,30 +38,30 @@ module _ (m : ℤ) where
   h = height m
 
   -- ---- the order of directions above v
-  turn3 : (v a q b : Flat) → (h q -ℤ h v) *ℤ turn v a b ≡ (h b -ℤ h v) *ℤ turn v a q +ℤ (h a -ℤ h v) *ℤ turn v q b
-  unfolding turn height
+  turn3 : (v a q b : Flat) → (h q -ℤ h v) *ℤ twiceArea v a b ≡ (h b -ℤ h v) *ℤ twiceArea v a q +ℤ (h a -ℤ h v) *ℤ twiceArea v q b
+  unfolding twiceArea height
   turn3 v a q b = ring (env m (v ∷ a ∷ q ∷ b ∷ [])) ((hE 2 ⊖ hE 0) ⊗ tE 0 1 3) ((hE 3 ⊖ hE 0) ⊗ tE 0 1 2 ⊕ (hE 1 ⊖ hE 0) ⊗ tE 0 2 3) tt
 
   module _ (v : Flat) where
-    pub lt-le : (a q b : Flat) → h v <ℤ h a → h v <ℤ h q → h v <ℤ h b → Up (turn v a q) → Nn (turn v q b) → Up (turn v a b)
+    pub lt-le : (a q b : Flat) → h v <ℤ h a → h v <ℤ h q → h v <ℤ h b → Up (twiceArea v a q) → Nn (twiceArea v q b) → Up (twiceArea v a b)
     lt-le a q b ka kq kb s t =
         up-out (h q -ℤ h v) (sub-pos kq)
         (up-is (sym (turn3 v a q b)) (up-add (mul-pos (sub-pos kb) s) (mul-nonneg (up-nn (sub-pos ka)) t)))
 
     -- two angles with a common direction p, neither of which has a side of the other strictly inside: they have the same sides
     pub ang : (a b a' b' p : Flat) → h v <ℤ h a → h v <ℤ h b → h v <ℤ h a' → h v <ℤ h b' → h v <ℤ h p
-        → Up (turn v a p) → Up (turn v p b) → Up (turn v a' p) → Nn (turn v p b')
+        → Up (twiceArea v a p) → Up (twiceArea v p b) → Up (twiceArea v a' p) → Nn (twiceArea v p b')
         → (Ang v a b a' → ⊥) → (Ang v a b b' → ⊥) → (Ang v a' b' a → ⊥) → (Ang v a' b' b → ⊥)
-        → (turn v a a' ≡ pos 0) × (turn v b b' ≡ pos 0)
-    ang a b a' b' p ka kb ka' kb' kp s t s' t' n1 n2 n3 n4 = (first (ways (turn v a a')), second (ways (turn v b b')))
+        → (twiceArea v a a' ≡ pos 0) × (twiceArea v b b' ≡ pos 0)
+    ang a b a' b' p ka kb ka' kb' kp s t s' t' n1 n2 n3 n4 = (first (ways (twiceArea v a a')), second (ways (twiceArea v b b')))
       where
-        first : Up (turn v a a') ⊎ ((turn v a a' ≡ pos 0) ⊎ Up (negℤ (turn v a a'))) → turn v a a' ≡ pos 0
+        first : Up (twiceArea v a a') ⊎ ((twiceArea v a a' ≡ pos 0) ⊎ Up (negℤ (twiceArea v a a'))) → twiceArea v a a' ≡ pos 0
         first (inl k) = absurd (n1 (k, lt-le a' p b ka' kp kb s' (up-nn t)))
         first (inr (inl e)) = e
         first (inr (inr k)) = absurd (n3 (up-is (sym (flip-last v a' a)) k, lt-le a p b' ka kp kb' s t'))
 
         -- b and b'
-        second : Up (turn v b b') ⊎ ((turn v b b' ≡ pos 0) ⊎ Up (negℤ (turn v b b'))) → turn v b b' ≡ pos 0
+        second : Up (twiceArea v b b') ⊎ ((twiceArea v b b' ≡ pos 0) ⊎ Up (negℤ (twiceArea v b b'))) → twiceArea v b b' ≡ pos 0
         second (inl k) = absurd (n4 (lt-le a' p b ka' kp kb s' (up-nn t), k))
         second (inr (inl e)) = e
         second (inr (inr k)) = absurd (n2 (lt-le a p b' ka kp kb' s t', up-is (sym (flip-last v b' b)) k))
@@ -79,11 +79,11 @@ module _ (m : ℤ) where
 
     pub data Look : Type 0 where
       empty : ((z : Flat) → Of z cs → Hit v x y z → ⊥) → Look
-      far : (w : Flat) → Of w cs → View w → Same (turn v x w) (turn v x y) → Same (turn v w y) (turn v x y)
-          → ((p : Flat) → turn v w p ≡ pos 0 → Nn (negℤ (facing p v w)) → (p ≡ v → ⊥) → View p) → Look
+      far : (w : Flat) → Of w cs → View w → SameSign (twiceArea v x w) (twiceArea v x y) → SameSign (twiceArea v w y) (twiceArea v x y)
+          → ((p : Flat) → twiceArea v w p ≡ pos 0 → Nn (negℤ (facing p v w)) → (p ≡ v → ⊥) → View p) → Look
 
     -- in the triangle, with nothing farther
-    pub view : (p : Flat) → In v x y p → ((r : Flat) → Of r cs → In v x y r → turn x y r ≤ℤ turn x y p) → View p
+    pub view : (p : Flat) → In v x y p → ((r : Flat) → Of r cs → In v x y r → twiceArea x y r ≤ℤ twiceArea x y p) → View p
     view p i top = let D = in-sense v x y p i in
         record {
           up = higher m L (λ z. Of z cs) net v x y D vx vy hx hy p i top;
@@ -91,7 +91,7 @@ module _ (m : ℤ) where
           mid = inl (in-ang v x y p i);
         }
 
-    pub view' : (p : Flat) → In v y x p → ((r : Flat) → Of r cs → In v y x r → turn y x r ≤ℤ turn y x p) → View p
+    pub view' : (p : Flat) → In v y x p → ((r : Flat) → Of r cs → In v y x r → twiceArea y x r ≤ℤ twiceArea y x p) → View p
     view' p i top = let D = in-sense v y x p i in
         record {
           up = higher m L (λ z. Of z cs) net v y x D vy vx hy hx p i top;
@@ -104,23 +104,23 @@ module _ (m : ℤ) where
     view-ear e p (inr i) = view' p i (λ r o j. absurd (e r o (inr j)))
 
     -- points of the chord v w
-    module _ (a b w p : Flat) (e : turn v w p ≡ pos 0) (f : Nn (negℤ (facing p v w))) (n : p ≡ v → ⊥) (i : In v a b w) where
+    module _ (a b w p : Flat) (e : twiceArea v w p ≡ pos 0) (f : Nn (negℤ (facing p v w))) (n : p ≡ v → ⊥) (i : In v a b w) where
       ρ : List ℤ
       ρ = env (pos 0) (v ∷ a ∷ b ∷ w ∷ p ∷ [])
 
       ww : Up (facing v w w)
-      ww = self-up v w (λ q. zero-off (ap (turn v a) q ∙ flat-first v a) (i .by-b))
+      ww = self-up v w (λ q. zero-off (ap (twiceArea v a) q ∙ flat-first v a) (i .by-b))
 
-      along-p : facing v w w *ℤ turn v a p ≡ (facing p v v +ℤ negℤ (facing p v w)) *ℤ turn v a w
-      unfolding turn facing ρ
+      along-p : facing v w w *ℤ twiceArea v a p ≡ (facing p v v +ℤ negℤ (facing p v w)) *ℤ twiceArea v a w
+      unfolding twiceArea facing ρ
       along-p = ring-with ρ (fE 0 3 3 ⊗ tE 0 1 4) ((fE 4 0 0 ⊕ neg (fE 4 0 3)) ⊗ tE 0 1 3) (fE 0 1 3) (tE 0 3 4) (con (pos 0)) tt e
 
-      along-q : facing v w w *ℤ turn b v p ≡ (facing p v v +ℤ negℤ (facing p v w)) *ℤ turn b v w
-      unfolding turn facing ρ
+      along-q : facing v w w *ℤ twiceArea b v p ≡ (facing p v v +ℤ negℤ (facing p v w)) *ℤ twiceArea b v w
+      unfolding twiceArea facing ρ
       along-q = ring-with ρ (fE 0 3 3 ⊗ tE 2 0 4) ((fE 4 0 0 ⊕ neg (fE 4 0 3)) ⊗ tE 2 0 3) (neg (fE 0 2 3)) (tE 0 3 4) (con (pos 0)) tt e
 
-      along-f : facing v w w *ℤ (turn a b p -ℤ turn a b w) ≡ (facing p w w +ℤ negℤ (facing p v w)) *ℤ (turn b v w +ℤ turn v a w)
-      unfolding turn facing ρ
+      along-f : facing v w w *ℤ (twiceArea a b p -ℤ twiceArea a b w) ≡ (facing p w w +ℤ negℤ (facing p v w)) *ℤ (twiceArea b v w +ℤ twiceArea v a w)
+      unfolding twiceArea facing ρ
       along-f =
           ring-with ρ (fE 0 3 3 ⊗ (tE 1 2 4 ⊖ tE 1 2 3)) ((fE 4 3 3 ⊕ neg (fE 4 0 3)) ⊗ (tE 2 0 3 ⊕ tE 0 1 3))
           ((uE 3 ⊖ uE 0) ⊗ (uE 2 ⊖ uE 1) ⊕ (vE 3 ⊖ vE 0) ⊗ (vE 2 ⊖ vE 1)) (tE 0 3 4) (con (pos 0)) tt e
@@ -128,27 +128,27 @@ module _ (m : ℤ) where
       pv : Up (facing p v v +ℤ negℤ (facing p v w))
       pv = up-add (self-up p v (λ q. n (sym q))) f
 
-      farther : Nn (turn a b p -ℤ turn a b w)
+      farther : Nn (twiceArea a b p -ℤ twiceArea a b w)
       farther =
           nn-out (facing v w w) ww
           (nn-is (sym along-f) (mul-nonneg (add-nonneg (self-nn p w) f) (up-nn (up-add (i .by-a) (up-nn (i .by-b))))))
 
       pub chord-in : In v a b p
       chord-in = record {
-        far = nn-is (ring (turn a b p ∷ turn a b w ∷ []) (var 0 ⊖ var 1 ⊕ var 1) (var 0) tt) (add-nonneg farther (i .far));
+        far = nn-is (ring (twiceArea a b p ∷ twiceArea a b w ∷ []) (var 0 ⊖ var 1 ⊕ var 1) (var 0) tt) (add-nonneg farther (i .far));
         by-a = up-out (facing v w w) ww (up-is (sym along-q) (mul-pos pv (i .by-a)));
         by-b = up-out (facing v w w) ww (up-is (sym along-p) (mul-pos pv (i .by-b)));
       }
 
-      pub chord-far : (t : ℤ) → t ≤ℤ turn a b w → t ≤ℤ turn a b p
+      pub chord-far : (t : ℤ) → t ≤ℤ twiceArea a b w → t ≤ℤ twiceArea a b p
       chord-far t k =
-          let σ = t ∷ turn a b w ∷ turn a b p ∷ [] in
+          let σ = t ∷ twiceArea a b w ∷ twiceArea a b p ∷ [] in
           le-by σ (var 0) (var 2) (omega (arith, le-to σ (var 0) (var 1) k, le-to σ (con (pos 0)) (var 2 ⊖ var 1) farther))
 
     pub look : (h x ≡ h y → ⊥) → Look
-    look ne = go (ways (turn v x y))
+    look ne = go (ways (twiceArea v x y))
       where
-        up : Up (turn v x y) → ((z : Flat) → Of z cs → In v x y z → ⊥) ⊎ Best v x y cs → Look
+        up : Up (twiceArea v x y) → ((z : Flat) → Of z cs → In v x y z → ⊥) ⊎ Best v x y cs → Look
         up D (inl e) = empty (λ z o. no z (e z o))
           where
             no : (z : Flat) → (In v x y z → ⊥) → Hit v x y z → ⊥
@@ -157,9 +157,9 @@ module _ (m : ℤ) where
         up D (inr t) =
             far (t .w) (t .of) (view (t .w) (t .inn) (t .top)) (both (t .inn .by-b) D) (both (up-is (spin y v (t .w)) (t .inn .by-a)) D)
             (λ p e f n. view p (chord-in x y (t .w) p e f n (t .inn))
-            (λ r o j. chord-far x y (t .w) p e f n (t .inn) (turn x y r) (t .top r o j)))
+            (λ r o j. chord-far x y (t .w) p e f n (t .inn) (twiceArea x y r) (t .top r o j)))
 
-        down : Up (turn v y x) → ((z : Flat) → Of z cs → In v y x z → ⊥) ⊎ Best v y x cs → Look
+        down : Up (twiceArea v y x) → ((z : Flat) → Of z cs → In v y x z → ⊥) ⊎ Best v y x cs → Look
         down D (inl e) = empty (λ z o. no z (e z o))
           where
             no : (z : Flat) → (In v y x z → ⊥) → Hit v x y z → ⊥
@@ -169,9 +169,9 @@ module _ (m : ℤ) where
             (none (up-is (flip x v (t .w)) (t .inn .by-a)) (up-is (flip-last v y x) D))
             (none (up-is (flip-last v y (t .w)) (t .inn .by-b)) (up-is (flip-last v y x) D))
             (λ p e f n. view' p (chord-in y x (t .w) p e f n (t .inn))
-            (λ r o j. chord-far y x (t .w) p e f n (t .inn) (turn y x r) (t .top r o j)))
+            (λ r o j. chord-far y x (t .w) p e f n (t .inn) (twiceArea y x r) (t .top r o j)))
 
-        go : Up (turn v x y) ⊎ ((turn v x y ≡ pos 0) ⊎ Up (negℤ (turn v x y))) → Look
+        go : Up (twiceArea v x y) ⊎ ((twiceArea v x y ≡ pos 0) ⊎ Up (negℤ (twiceArea v x y))) → Look
         go (inl D) = up D (best v x y cs)
         go (inr (inl e)) = absurd (bent m L cs net v x y vx vy hx hy ne e)
         go (inr (inr D)) = down (up-is (sym (flip-last v y x)) D) (best v y x cs)

@@ -19,7 +19,7 @@ use Rattle.means_area.proofs.Space.Maps.{length-map}
 use Rattle.means_area.proofs.Loops.{ring-seen, loop-long}
 use Rattle.means_inside.specs.Touch.{Touch}
 use Rattle.means_inside.specs.Means.{big, Means}
-use Rattle.means_inside.specs.Convex.{Hand, Convex, Within, NotBeyond}
+use Rattle.means_inside.specs.Convex.{Hand, Convex, OnHand, NotBeyond}
 use Rattle.means_inside.proofs.Inside.{means}
 use Rattle.means_inside.proofs.Convex.{not-beyond-inside, convex-means}
 
@@ -48,5 +48,5 @@ module _ (d : Wire) (r11 : samePlace d ≡ none) (r13 : edgeMeets d ≡ none) (i
       → whereFlat p k view ≡ Inside
   loop-not-beyond = let s = ring-seen d r11 r13 i h in not-beyond-inside (s .0) view corners (s .1)
 
-  pub loop-convex : (t : Hand) → Convex t view → (k : ℤ) → Up k → (p : Flat) → (whereFlat p k view ≡ Inside) ↔ Within t k view p
+  pub loop-convex : (t : Hand) → Convex t view → (k : ℤ) → Up k → (p : Flat) → (whereFlat p k view ≡ Inside) ↔ OnHand t k view p
   loop-convex = let s = ring-seen d r11 r13 i h in convex-means (s .0) view corners (s .1)

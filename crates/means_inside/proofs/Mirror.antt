@@ -11,11 +11,11 @@ use Rattle.exact.proofs.Order.{ring-with, mul-pos}
 use Rattle.paper.specs.Points.{above, below}
 use Rattle.paper.specs.Polygon.{meetsRay}
 use Rattle.paper.specs.declared.Flat.{Flat}
-use Rattle.means_area.specs.Flats.{Up, Nn, turn}
+use Rattle.means_area.specs.Flats.{Up, Nn, twiceArea}
 use Rattle.means_area.proofs.Flats.Signs.{up-is, nn-is, up-nn, off, which, ways, up-out}
 use Rattle.means_area.proofs.Flats.Turns.{flip, flat-second}
-use Rattle.means_inside.specs.Beams.{round, right, beam, facing, Clear}
-use Rattle.means_inside.specs.Convex.{Hand, lefts, rights, turned}
+use Rattle.means_inside.specs.Beams.{round, right, beam, facing, OffEverySide}
+use Rattle.means_inside.specs.Convex.{Hand, lefts, rights, handed}
 use Rattle.means_inside.proofs.Parity.{potential}
 use Rattle.means_inside.proofs.Beams.{above-is, above-no, below-is, below-no, low-is, low-no, same-side}
 use Rattle.means_inside.proofs.Triangle.{twice, self-up, shift, shift-is, shift-up}
@@ -46,7 +46,7 @@ pub record Scaled (M N : ℤ) : Type 0 where
   pub l : ℤ
   pub upk : Up k
   pub upl : Up l
-  pub is : (s t : ℤ) → s *ℤ N ≡ t *ℤ M → s *ℤ k ≡ turned hand t *ℤ l
+  pub is : (s t : ℤ) → s *ℤ N ≡ t *ℤ M → s *ℤ k ≡ handed hand t *ℤ l
 
 pub scaled : (M N : ℤ) → (M ≡ pos 0 → ⊥) → (N ≡ pos 0 → ⊥) → Scaled M N
 scaled M N m n = go (ways M) (ways N)
@@ -90,12 +90,12 @@ pub ray : Hand → Flat → Flat → Flat
 ray lefts p q = q
 ray rights p q = shift p q p
 
-pub ray-is : (h : Hand) (p q z : Flat) → turn p (ray h p q) z ≡ turned h (turn p q z)
+pub ray-is : (h : Hand) (p q z : Flat) → twiceArea p (ray h p q) z ≡ handed h (twiceArea p q z)
 unfolding ray
 ray-is lefts p q z = refl
 ray-is rights p q z =
     shift-is p q p z ∙ (λ i. flip q p z i +ℤ negℤ (flat-second q p i))
-    ∙ ring (turn p q z ∷ []) (neg (var 0) ⊕ neg (con (pos 0))) (neg (var 0)) tt
+    ∙ ring (twiceArea p q z ∷ []) (neg (var 0) ⊕ neg (con (pos 0))) (neg (var 0)) tt
 
 pub ray-up : (h : Hand) (p q : Flat) → (q ≡ p → ⊥) → Up (facing p (ray h p q) (ray h p q))
 unfolding ray
@@ -103,7 +103,7 @@ ray-up lefts p q n = self-up p q n
 ray-up rights p q n = shift-up p q p (λ e. n (sym e))
 
 abbrev pub mirrored : Hand → Flat → Flat → Flat → Flat → Bool
-mirrored h p q a b = meetsRay (right p q a) (right p q b) (turned h (turn a b p))
+mirrored h p q a b = meetsRay (right p q a) (right p q b) (handed h (twiceArea a b p))
 
 both-ways : (x y : Bool) (t : ℤ) → (t ≡ pos 0 → x ≡ y) → xor (meetsRay x y (negℤ t)) (meetsRay x y t) ≡ xor x y
 unfolding xor meetsRay
@@ -122,9 +122,9 @@ both-ways false true t e = go (ways t)
     go (inr (inl z)) = absurd (true≢false (sym (e z)))
     go (inr (inr u)) = unfold xor in λ i. xor (below-no (negℤ t) (up-nn u) i) (below-is t u i)
 
-pub mirror : (h : Hand) (p q : Flat) (g : List Flat) → Clear p g → round (mirrored h p q) g ≡ round (beam p q) g
+pub mirror : (h : Hand) (p q : Flat) (g : List Flat) → OffEverySide p g → round (mirrored h p q) g ≡ round (beam p q) g
 unfolding beam
 mirror lefts p q g c = refl
 mirror rights p q g c =
     potential (mirrored rights p q) (beam p q) (right p q) g
-    (λ a b l. both-ways (right p q a) (right p q b) (turn a b p) (λ z. same-side p q a b z (c a b l z)))
+    (λ a b l. both-ways (right p q a) (right p q b) (twiceArea a b p) (λ z. same-side p q a b z (c a b l z)))

@@ -10,7 +10,7 @@ use lib.IntN.{ℤ}
 use lib.Signed.{_<ℤ_, <ℤ-irrefl}
 use Rattle.paper.specs.declared.Flat.{Flat}
 use Rattle.means_area.specs.Rings.{Of, Link}
-use Rattle.means_area.specs.Flats.{Up, turn, height, Simple, Least, area, Same, lst}
+use Rattle.means_area.specs.Flats.{Up, twiceArea, height, Simple, Least, area, SameSign, lst}
 use Rattle.means_area.proofs.Flats.Signs.{same-ne, same-is, same-is2}
 use Rattle.means_area.proofs.Flats.Turns.{flat-second}
 use Rattle.means_area.proofs.Flats.Net.{Ok}
@@ -19,7 +19,7 @@ use Rattle.means_area.proofs.Flats.Rings.{area-turned}
 use Rattle.means_area.proofs.Flats.Lowest.{of-split}
 use Rattle.means_area.proofs.Flats.First.{first-link, last-link, ear-simple}
 use Rattle.means_area.proofs.Flats.Chains.{lst-append, lst-of}
-use Rattle.means_inside.specs.Beams.{Clear, odd}
+use Rattle.means_inside.specs.Beams.{OffEverySide, odd}
 use Rattle.means_inside.specs.Regions.{Cut, one, chord, ear, start, InTriangle, At, OneWay, OffChords, AtMostOne}
 use Rattle.means_inside.specs.Means.{big}
 use Rattle.means_inside.proofs.Look.{Look, empty, far, look}
@@ -33,9 +33,9 @@ use Rattle.means_inside.proofs.OneWay.{way-same, tip-way, rest-way, par
 module _ (m : ℤ) where
   pub record Whole (g : List Flat) : Type 0 where
     pub cut : Cut m g
-    pub inside : (d : ℤ) → Up d → (p : Flat) → Clear p (map (big d) g) → At (big d) cut p → odd p (map (big d) g) ≡ true
+    pub inside : (d : ℤ) → Up d → (p : Flat) → OffEverySide p (map (big d) g) → At (big d) cut p → odd p (map (big d) g) ≡ true
     pub way : OneWay (area g) cut
-    pub single : (d : ℤ) → Up d → (p : Flat) → Clear p (map (big d) g) → OffChords (big d) cut p → AtMostOne (big d) cut p
+    pub single : (d : ℤ) → Up d → (p : Flat) → OffEverySide p (map (big d) g) → OffChords (big d) cut p → AtMostOne (big d) cut p
 
   -- from another start
   restart : {P Q : List Flat} → Started P Q → Whole Q → Whole P
@@ -47,13 +47,13 @@ module _ (m : ℤ) where
     single = (λ d k p c o. r .single d k p (back d p c) o);
   }
     where
-      back : (d : ℤ) (p : Flat) → Clear p (map (big d) (a ∷ (l ++ b ∷ s))) → Clear p (map (big d) (b ∷ (s ++ a ∷ l)))
+      back : (d : ℤ) (p : Flat) → OffEverySide p (map (big d) (a ∷ (l ++ b ∷ s))) → OffEverySide p (map (big d) (b ∷ (s ++ a ∷ l)))
       back d p c x y t = c x y (link-turned m (big d) a l b s x y t)
 
   -- two parts with a chord from the lowest corner
   join : (u c : Flat) (X : List Flat) (w y : Flat) (Y : List Flat) → Simple m (u ∷ c ∷ (X ++ w ∷ y ∷ Y))
       → Least m u (c ∷ (X ++ w ∷ y ∷ Y)) → Ok m (Link (u ∷ c ∷ (X ++ w ∷ y ∷ Y))) (λ z. Of z (u ∷ c ∷ (X ++ w ∷ y ∷ Y))) u w
-      → Same (turn u c w) (turn u c (lst y Y)) → Same (turn u w (lst y Y)) (turn u c (lst y Y)) → Whole (u ∷ c ∷ (X ++ w ∷ []))
+      → SameSign (twiceArea u c w) (twiceArea u c (lst y Y)) → SameSign (twiceArea u w (lst y Y)) (twiceArea u c (lst y Y)) → Whole (u ∷ c ∷ (X ++ w ∷ []))
       → Whole (u ∷ w ∷ y ∷ Y) → Whole (u ∷ c ∷ (X ++ w ∷ y ∷ Y))
   join u c X w y Y s low ok s1 s2 r1 r2 = record {
     cut = chord u (c ∷ X) w (y ∷ Y) s (r1 .cut) (r2 .cut);
@@ -66,7 +66,7 @@ module _ (m : ℤ) where
         (q .not-both (o .0), r1 .single d k p (q .clear1 (o .0)) (o .1), r2 .single d k p (q .clear2 (o .0)) (o .2)));
   }
     where
-      at : (d : ℤ) → Up d → (p : Flat) → Clear p (map (big d) (u ∷ c ∷ (X ++ w ∷ y ∷ Y)))
+      at : (d : ℤ) → Up d → (p : Flat) → OffEverySide p (map (big d) (u ∷ c ∷ (X ++ w ∷ y ∷ Y)))
           → Joined (map (big d) (u ∷ c ∷ (X ++ w ∷ y ∷ Y))) (map (big d) (u ∷ c ∷ (X ++ w ∷ []))) (map (big d) (u ∷ w ∷ y ∷ Y)) (big d u)
           (big d w) (At (big d) (r1 .cut)) (At (big d) (r2 .cut)) p
       at d k =
@@ -82,7 +82,7 @@ module _ (m : ℤ) where
     single = (λ d i p cl o. let t = at d i p cl in (t .not-both (o .0), r .single d i p (t .clear2 (o .0)) (o .1)));
   }
     where
-      at : (d : ℤ) → Up d → (p : Flat) → Clear p (map (big d) (u ∷ c ∷ l))
+      at : (d : ℤ) → Up d → (p : Flat) → OffEverySide p (map (big d) (u ∷ c ∷ l))
           → Joined (map (big d) (u ∷ c ∷ l)) (big d u ∷ big d c ∷ big d (lst c l) ∷ []) (map (big d) (c ∷ l)) (big d c) (big d (lst c l))
           (InTriangle (big d u) (big d c) (big d (lst c l))) (At (big d) (r .cut)) p
       at d i = ear-big m d i u c l k s low e (At (big d) (r .cut)) (r .inside d i)
@@ -101,15 +101,15 @@ module _ (m : ℤ) where
     CutGoal : Flat → Flat → Flat → List Flat → Type 0
     CutGoal u c w l =
         length l ≤ suc n → (s : Simple m (u ∷ c ∷ l)) → Least m u (c ∷ l) → Ok m (Link (u ∷ c ∷ l)) (λ z. Of z (u ∷ c ∷ l)) u w
-        → Same (turn u c w) (turn u c (lst c l)) → Same (turn u w (lst c l)) (turn u c (lst c l)) → Whole (u ∷ c ∷ l)
+        → SameSign (twiceArea u c w) (twiceArea u c (lst c l)) → SameSign (twiceArea u w (lst c l)) (twiceArea u c (lst c l)) → Whole (u ∷ c ∷ l)
 
     split-cut : (u c w : Flat) (X Y : List Flat) → CutGoal u c w (X ++ w ∷ Y)
     unfolding CutGoal
-    split-cut u c w X [] b s low ok s1 s2 = absurd (same-ne s2 (ap (turn u w) (lst-append c X w []) ∙ flat-second u w))
+    split-cut u c w X [] b s low ok s1 s2 = absurd (same-ne s2 (ap (twiceArea u w) (lst-append c X w []) ∙ flat-second u w))
     split-cut u c w X (y ∷ Y) b s low ok s1 s2 =
         let q = lst-append c X w (y ∷ Y) in
-        let t1 = same-is2 (ap (turn u c) q) s1 in
-        let t2 = same-is2 (ap (turn u c) q) (same-is (ap (turn u w) q) s2) in
+        let t1 = same-is2 (ap (twiceArea u c) q) s1 in
+        let t2 = same-is2 (ap (twiceArea u c) q) (same-is (ap (twiceArea u w) q) s2) in
         let e1 = length-append X (w ∷ y ∷ Y) in
         let e2 = length-append X (w ∷ []) in
         let r1 = ih u c (X ++ w ∷ []) (omega (arith, b, e1, e2)) (omega (arith, e2)) (simple1 m u c X w y Y s low ok t1 t2)
@@ -128,8 +128,8 @@ module _ (m : ℤ) where
         ears [] q e = let j = subst (λ (r : List Flat). 1 ≤ length r) q k in absurd (omega (arith, j))
         ears (x ∷ []) q e =
             subst (λ (r : List Flat). Simple m (u ∷ c ∷ r)
-            → ((d : ℤ) → Up d → (p : Flat) → Clear p (map (big d) (u ∷ c ∷ r)) → InTriangle (big d u) (big d c) (big d (lst c r)) p ⊎ ⊥
-            → odd p (map (big d) (u ∷ c ∷ r)) ≡ true) → Same (turn u c (lst c r)) (area (u ∷ c ∷ r)) → Whole (u ∷ c ∷ r)) (sym q)
+            → ((d : ℤ) → Up d → (p : Flat) → OffEverySide p (map (big d) (u ∷ c ∷ r)) → InTriangle (big d u) (big d c) (big d (lst c r)) p ⊎ ⊥
+            → odd p (map (big d) (u ∷ c ∷ r)) ≡ true) → SameSign (twiceArea u c (lst c r)) (area (u ∷ c ∷ r)) → Whole (u ∷ c ∷ r)) (sym q)
             (λ s f t. record { cut = one u c x s; inside = (λ d j p cl w. f d j p cl (inl w)); way = t; single = (λ d j p cl o. tt) }) s
             (λ d j p cl w. ear-big m d j u c l k s low e (λ z. ⊥) (λ p cl v. absurd v) p cl .whole w) (tip-way m u c l s low k)
         ears (x ∷ (y ∷ r)) q e =
@@ -142,7 +142,7 @@ module _ (m : ℤ) where
             (low (lst c l) (lst-of c l)) → Whole (u ∷ c ∷ l)
         go (empty e) = ears l refl e
         go (far w (inl q) vw s1 s2 on) = absurd (<ℤ-irrefl (subst (λ (z : Flat). height m u <ℤ height m z) q (vw .up)))
-        go (far w (inr (inl q)) vw s1 s2 on) = absurd (same-ne s1 (ap (turn u c) q ∙ flat-second u c))
+        go (far w (inr (inl q)) vw s1 s2 on) = absurd (same-ne s1 (ap (twiceArea u c) q ∙ flat-second u c))
         go (far w (inr (inr o)) vw s1 s2 on) =
             let t = of-split w l o in
             subst (CutGoal u c w) (sym (t .is)) (split-cut u c w (t .before) (t .after)) b s low (vw .ok) s1 s2

@@ -15,7 +15,7 @@ use Rattle.exact.proofs.Order.{mul-pos, mul-lt}
 use Rattle.exact.proofs.Signs.{mul-zero, pos-ne}
 use Rattle.paper.specs.declared.Flat.{Flat}
 use Rattle.means_area.specs.Rings.{Of, Link}
-use Rattle.means_area.specs.Flats.{Up, Nn, turn, Cross, height, On, Simple, Least, Same, both, none, lst}
+use Rattle.means_area.specs.Flats.{Up, Nn, twiceArea, Cross, height, WithinSegment, Simple, Least, SameSign, both, none, lst}
 use Rattle.means_area.proofs.Flats.Signs.{up-is, nn-is, nn-out, same-is, same-is2}
 use Rattle.means_area.proofs.Flats.Turns.{In}
 use Rattle.means_area.proofs.Flats.Net.{Ok}
@@ -23,7 +23,7 @@ use Rattle.means_area.proofs.Flats.Choice.{Hit}
 use Rattle.means_area.proofs.Flats.First.{first-link}
 use Rattle.means_area.proofs.Space.Maps.{map-of, map-link, length-map}
 use Rattle.means_area.proofs.Flats.Chains.{lst-append}
-use Rattle.means_inside.specs.Beams.{beam, facing, Off, Clear, odd, east}
+use Rattle.means_inside.specs.Beams.{beam, facing, Off, OffEverySide, odd, east}
 use Rattle.means_inside.specs.Regions.{Cut, one, chord, ear, start, InTriangle, At}
 use Rattle.means_inside.specs.Means.{big}
 use Rattle.means_inside.proofs.Parity.{round-cut}
@@ -38,21 +38,21 @@ use Rattle.means_inside.proofs.Larger.{big-turn, big-height, small-up, 
 use Rattle.means_inside.proofs.Together.{map-app, lst-map, clear-with}
 
 -- a chord from the lowest corner: in one of the parts is inside, and off the chord no point is in both
-cut-joined : (m : ℤ) (u c : Flat) (X : List Flat) (w y : Flat) (Y : List Flat) → Same (turn u c w) (turn u c (lst y Y))
-    → Same (turn u w (lst y Y)) (turn u c (lst y Y)) → (A B : Flat → Type 0)
-    → ((p : Flat) → Clear p (u ∷ c ∷ (X ++ w ∷ [])) → A p → odd p (u ∷ c ∷ (X ++ w ∷ [])) ≡ true)
-    → ((p : Flat) → Clear p (u ∷ w ∷ y ∷ Y) → B p → odd p (u ∷ w ∷ y ∷ Y) ≡ true)
+cut-joined : (m : ℤ) (u c : Flat) (X : List Flat) (w y : Flat) (Y : List Flat) → SameSign (twiceArea u c w) (twiceArea u c (lst y Y))
+    → SameSign (twiceArea u w (lst y Y)) (twiceArea u c (lst y Y)) → (A B : Flat → Type 0)
+    → ((p : Flat) → OffEverySide p (u ∷ c ∷ (X ++ w ∷ [])) → A p → odd p (u ∷ c ∷ (X ++ w ∷ [])) ≡ true)
+    → ((p : Flat) → OffEverySide p (u ∷ w ∷ y ∷ Y) → B p → odd p (u ∷ w ∷ y ∷ Y) ≡ true)
     → Simple m (u ∷ c ∷ (X ++ w ∷ y ∷ Y)) → Least m u (c ∷ (X ++ w ∷ y ∷ Y))
     → Ok m (Link (u ∷ c ∷ (X ++ w ∷ y ∷ Y))) (λ z. Of z (u ∷ c ∷ (X ++ w ∷ y ∷ Y))) u w
-    → (p : Flat) → Clear p (u ∷ c ∷ (X ++ w ∷ y ∷ Y))
+    → (p : Flat) → OffEverySide p (u ∷ c ∷ (X ++ w ∷ y ∷ Y))
     → Joined (u ∷ c ∷ (X ++ w ∷ y ∷ Y)) (u ∷ c ∷ (X ++ w ∷ [])) (u ∷ w ∷ y ∷ Y) u w A B p
 cut-joined m u c X w y Y s1 s2 A B i1 i2 s low ok p cl =
     record { whole = (λ t. go t (off-or p u w)); clear1 = c1; clear2 = c2; not-both = (λ q a b. clash q (i1 p (c1 q) a) (i2 p (c2 q) b)) }
   where
-    c1 : Off p u w → Clear p (u ∷ c ∷ (X ++ w ∷ []))
+    c1 : Off p u w → OffEverySide p (u ∷ c ∷ (X ++ w ∷ []))
     c1 q = clear-with p (u ∷ c ∷ (X ++ w ∷ y ∷ Y)) (u ∷ c ∷ (X ++ w ∷ [])) u w cl q (f1 m u c X w y Y s low ok s1 s2)
 
-    c2 : Off p u w → Clear p (u ∷ w ∷ y ∷ Y)
+    c2 : Off p u w → OffEverySide p (u ∷ w ∷ y ∷ Y)
     c2 q = clear-with p (u ∷ c ∷ (X ++ w ∷ y ∷ Y)) (u ∷ w ∷ y ∷ Y) u w cl q (f2 m u c X w y Y s low ok s1 s2)
 
     clash : Off p u w → odd p (u ∷ c ∷ (X ++ w ∷ [])) ≡ true → odd p (u ∷ w ∷ y ∷ Y) ≡ true → ⊥
@@ -73,15 +73,15 @@ cut-joined m u c X w y Y s1 s2 A B i1 i2 s low ok p cl =
         let o = i2 p (c2 q) x in
         sum ∙ (λ i. xor (never-true (odd p (u ∷ c ∷ (X ++ w ∷ []))) (λ r. clash q r o) i) (o i)) ∙ false-xor true
 
-    go : A p ⊎ B p → Off p u w ⊎ ((turn u w p ≡ pos 0) × Nn (negℤ (facing p u w))) → odd p (u ∷ c ∷ (X ++ w ∷ y ∷ Y)) ≡ true
+    go : A p ⊎ B p → Off p u w ⊎ ((twiceArea u w p ≡ pos 0) × Nn (negℤ (facing p u w))) → odd p (u ∷ c ∷ (X ++ w ∷ y ∷ Y)) ≡ true
     go t (inl q) = in-part q t
     go t (inr q) =
         let n = off-end p u c (cl u c (first-link m u c (X ++ w ∷ y ∷ Y))) in
         let z = lst-append c X w (y ∷ Y) in
         between-odd m u c (X ++ w ∷ y ∷ Y) low p cl (chord-seen m u w p hw (q .0) (q .1) n (u ∷ c ∷ (X ++ w ∷ y ∷ Y)) ok)
         (chord-between m u w p hw (q .0) (q .1) n c (lst c (X ++ w ∷ y ∷ Y))
-        (same-between u c (lst c (X ++ w ∷ y ∷ Y)) w (same-is2 (ap (turn u c) (sym z)) s1)
-        (same-is2 (ap (turn u c) (sym z)) (same-is (ap (turn u w) (sym z)) s2))))
+        (same-between u c (lst c (X ++ w ∷ y ∷ Y)) w (same-is2 (ap (twiceArea u c) (sym z)) s1)
+        (same-is2 (ap (twiceArea u c) (sym z)) (same-is (ap (twiceArea u w) (sym z)) s2))))
 
 module _ (m d : ℤ) (k : Up d) where
   abbrev B : Flat → Flat
@@ -122,44 +122,44 @@ module _ (m d : ℤ) (k : Up d) where
     where
       uncut : (p q : Flat) → (b : Flat) × (c : Flat) × Link g b c × (p ≡ B b) × (q ≡ B c) → Cross (B u) (B w) p q → ⊥
       uncut p q x c = ok .uncut (x .2) (record {
-        left = small-up m d k u w (x .0) (up-is (λ i. turn (B u) (B w) (x .3 i)) (c .left));
-        right = small-up m d k w u (x .1) (up-is (λ i. turn (B w) (B u) (x .4 i)) (c .right));
-        ahead = small-up m d k (x .0) (x .1) w (up-is (λ i. turn (x .3 i) (x .4 i) (B w)) (c .ahead));
-        behind = small-up m d k (x .1) (x .0) u (up-is (λ i. turn (x .4 i) (x .3 i) (B u)) (c .behind));
+        left = small-up m d k u w (x .0) (up-is (λ i. twiceArea (B u) (B w) (x .3 i)) (c .left));
+        right = small-up m d k w u (x .1) (up-is (λ i. twiceArea (B w) (B u) (x .4 i)) (c .right));
+        ahead = small-up m d k (x .0) (x .1) w (up-is (λ i. twiceArea (x .3 i) (x .4 i) (B w)) (c .ahead));
+        behind = small-up m d k (x .1) (x .0) u (up-is (λ i. twiceArea (x .4 i) (x .3 i) (B u)) (c .behind));
       })
 
-      on : (a b r : Flat) (z : Flat) → r ≡ B z → On m (B a) (B b) r → On m a b z
+      on : (a b r : Flat) (z : Flat) → r ≡ B z → WithinSegment m (B a) (B b) r → WithinSegment m a b z
       on a b r z q c = record {
         line =
-            mul-zero d (turn a b z) (pos-ne k)
-            (mul-zero d (d *ℤ turn a b z) (pos-ne k) (sym (big-turn m d k a b z) ∙ sym (ap (turn (B a) (B b)) q) ∙ c .line));
+            mul-zero d (twiceArea a b z) (pos-ne k)
+            (mul-zero d (d *ℤ twiceArea a b z) (pos-ne k) (sym (big-turn m d k a b z) ∙ sym (ap (twiceArea (B a) (B b)) q) ∙ c .line));
         after = small-lt m d k a z (subst (λ (y : Flat). height m (B a) <ℤ height m y) q (c .after));
         before = small-lt m d k z b (subst (λ (y : Flat). height m y <ℤ height m (B b)) q (c .before));
       }
 
-      bare : (r : Flat) → (b : Flat) × Of b g × (r ≡ B b) → On m (B u) (B w) r → ⊥
+      bare : (r : Flat) → (b : Flat) × Of b g × (r ≡ B b) → WithinSegment m (B u) (B w) r → ⊥
       bare r x c = ok .bare (x .1) (on u w r (x .0) (x .2) c)
 
-      bare' : (r : Flat) → (b : Flat) × Of b g × (r ≡ B b) → On m (B w) (B u) r → ⊥
+      bare' : (r : Flat) → (b : Flat) × Of b g × (r ≡ B b) → WithinSegment m (B w) (B u) r → ⊥
       bare' r x c = ok .bare-back (x .1) (on w u r (x .0) (x .2) c)
 
-  pub up-big : (a b c : Flat) → Up (turn a b c) → Up (turn (B a) (B b) (B c))
+  pub up-big : (a b c : Flat) → Up (twiceArea a b c) → Up (twiceArea (B a) (B b) (B c))
   up-big a b c h = up-is (sym (big-turn m d k a b c)) (mul-pos k (mul-pos k h))
 
-  down-big : (a b c : Flat) → Up (negℤ (turn a b c)) → Up (negℤ (turn (B a) (B b) (B c)))
+  down-big : (a b c : Flat) → Up (negℤ (twiceArea a b c)) → Up (negℤ (twiceArea (B a) (B b) (B c)))
   down-big a b c h =
       up-is (ap negℤ (sym (big-turn m d k a b c)))
-      (up-is (ring (d ∷ turn a b c ∷ []) (var 0 ⊗ (var 0 ⊗ neg (var 1))) (neg (var 0 ⊗ (var 0 ⊗ var 1))) tt) (mul-pos k (mul-pos k h)))
+      (up-is (ring (d ∷ twiceArea a b c ∷ []) (var 0 ⊗ (var 0 ⊗ neg (var 1))) (neg (var 0 ⊗ (var 0 ⊗ var 1))) tt) (mul-pos k (mul-pos k h)))
 
-  same-big : (a b c a' b' c' : Flat) → Same (turn a b c) (turn a' b' c') → Same (turn (B a) (B b) (B c)) (turn (B a') (B b') (B c'))
+  same-big : (a b c a' b' c' : Flat) → SameSign (twiceArea a b c) (twiceArea a' b' c') → SameSign (twiceArea (B a) (B b) (B c)) (twiceArea (B a') (B b') (B c'))
   same-big a b c a' b' c' (both x y) = both (up-big a b c x) (up-big a' b' c' y)
   same-big a b c a' b' c' (none x y) = none (down-big a b c x) (down-big a' b' c' y)
 
   -- ---- inside, of the larger ring
   pub ear-big : (u c : Flat) (l : List Flat) → 1 ≤ length l → Simple m (u ∷ c ∷ l) → Least m u (c ∷ l)
       → ((z : Flat) → Of z (u ∷ c ∷ l) → Hit u c (lst c l) z → ⊥) → (A : Flat → Type 0)
-      → ((p : Flat) → Clear p (map B (c ∷ l)) → A p → odd p (map B (c ∷ l)) ≡ true)
-      → (p : Flat) → Clear p (map B (u ∷ c ∷ l))
+      → ((p : Flat) → OffEverySide p (map B (c ∷ l)) → A p → odd p (map B (c ∷ l)) ≡ true)
+      → (p : Flat) → OffEverySide p (map B (u ∷ c ∷ l))
       → Joined (map B (u ∷ c ∷ l)) (B u ∷ B c ∷ B (lst c l) ∷ []) (map B (c ∷ l)) (B c) (B (lst c l))
       (InTriangle (B u) (B c) (B (lst c l))) A p
   ear-big u c l j s low e A f p cl =
@@ -172,26 +172,26 @@ module _ (m d : ℤ) (k : Up d) where
 
   pub cut-big : (u c : Flat) (X : List Flat) (w y : Flat) (Y : List Flat) → Simple m (u ∷ c ∷ (X ++ w ∷ y ∷ Y))
       → Least m u (c ∷ (X ++ w ∷ y ∷ Y)) → Ok m (Link (u ∷ c ∷ (X ++ w ∷ y ∷ Y))) (λ z. Of z (u ∷ c ∷ (X ++ w ∷ y ∷ Y))) u w
-      → Same (turn u c w) (turn u c (lst y Y)) → Same (turn u w (lst y Y)) (turn u c (lst y Y)) → (A C : Flat → Type 0)
-      → ((p : Flat) → Clear p (map B (u ∷ c ∷ (X ++ w ∷ []))) → A p → odd p (map B (u ∷ c ∷ (X ++ w ∷ []))) ≡ true)
-      → ((p : Flat) → Clear p (map B (u ∷ w ∷ y ∷ Y)) → C p → odd p (map B (u ∷ w ∷ y ∷ Y)) ≡ true)
-      → (p : Flat) → Clear p (map B (u ∷ c ∷ (X ++ w ∷ y ∷ Y)))
+      → SameSign (twiceArea u c w) (twiceArea u c (lst y Y)) → SameSign (twiceArea u w (lst y Y)) (twiceArea u c (lst y Y)) → (A C : Flat → Type 0)
+      → ((p : Flat) → OffEverySide p (map B (u ∷ c ∷ (X ++ w ∷ []))) → A p → odd p (map B (u ∷ c ∷ (X ++ w ∷ []))) ≡ true)
+      → ((p : Flat) → OffEverySide p (map B (u ∷ w ∷ y ∷ Y)) → C p → odd p (map B (u ∷ w ∷ y ∷ Y)) ≡ true)
+      → (p : Flat) → OffEverySide p (map B (u ∷ c ∷ (X ++ w ∷ y ∷ Y)))
       → Joined (map B (u ∷ c ∷ (X ++ w ∷ y ∷ Y))) (map B (u ∷ c ∷ (X ++ w ∷ []))) (map B (u ∷ w ∷ y ∷ Y)) (B u) (B w) A C p
   cut-big u c X w y Y s low ok s1 s2 A C i1 i2 =
       subst (λ (r : List Flat). Simple m (B u ∷ B c ∷ r) → Least m (B u) (B c ∷ r)
-      → Ok m (Link (B u ∷ B c ∷ r)) (λ z. Of z (B u ∷ B c ∷ r)) (B u) (B w) → (p : Flat) → Clear p (B u ∷ B c ∷ r)
+      → Ok m (Link (B u ∷ B c ∷ r)) (λ z. Of z (B u ∷ B c ∷ r)) (B u) (B w) → (p : Flat) → OffEverySide p (B u ∷ B c ∷ r)
       → Joined (B u ∷ B c ∷ r) (map B (u ∷ c ∷ (X ++ w ∷ []))) (map B (u ∷ w ∷ y ∷ Y)) (B u) (B w) A C p)
       (sym (map-app B X (w ∷ y ∷ Y)))
-      (subst (λ (h : List Flat). ((p : Flat) → Clear p (B u ∷ B c ∷ h) → A p → odd p (B u ∷ B c ∷ h) ≡ true)
+      (subst (λ (h : List Flat). ((p : Flat) → OffEverySide p (B u ∷ B c ∷ h) → A p → odd p (B u ∷ B c ∷ h) ≡ true)
       → Simple m (B u ∷ B c ∷ (map B X ++ B w ∷ B y ∷ map B Y)) → Least m (B u) (B c ∷ (map B X ++ B w ∷ B y ∷ map B Y))
       → Ok m (Link (B u ∷ B c ∷ (map B X ++ B w ∷ B y ∷ map B Y))) (λ z. Of z (B u ∷ B c ∷ (map B X ++ B w ∷ B y ∷ map B Y))) (B u) (B w)
-      → (p : Flat) → Clear p (B u ∷ B c ∷ (map B X ++ B w ∷ B y ∷ map B Y))
+      → (p : Flat) → OffEverySide p (B u ∷ B c ∷ (map B X ++ B w ∷ B y ∷ map B Y))
       → Joined (B u ∷ B c ∷ (map B X ++ B w ∷ B y ∷ map B Y)) (B u ∷ B c ∷ h) (map B (u ∷ w ∷ y ∷ Y)) (B u) (B w) A C p)
       (sym (map-app B X (w ∷ [])))
       (λ i. cut-joined m (B u) (B c) (map B X) (B w) (B y) (map B Y)
-      (same-is2 (ap (turn (B u) (B c)) (sym (lst-map B y Y))) (same-big u c w u c (lst y Y) s1))
-      (same-is2 (ap (turn (B u) (B c)) (sym (lst-map B y Y)))
-      (same-is (ap (turn (B u) (B w)) (sym (lst-map B y Y))) (same-big u w (lst y Y) u c (lst y Y) s2))) A C i i2) i1)
+      (same-is2 (ap (twiceArea (B u) (B c)) (sym (lst-map B y Y))) (same-big u c w u c (lst y Y) s1))
+      (same-is2 (ap (twiceArea (B u) (B c)) (sym (lst-map B y Y)))
+      (same-is (ap (twiceArea (B u) (B w)) (sym (lst-map B y Y))) (same-big u w (lst y Y) u c (lst y Y) s2))) A C i i2) i1)
       (big-simple m d k (u ∷ c ∷ (X ++ w ∷ y ∷ Y)) s) (low-big u (c ∷ (X ++ w ∷ y ∷ Y)) low) (ok-big (u ∷ c ∷ (X ++ w ∷ y ∷ Y)) u w ok)
 
   -- ---- every triangulation covers

@@ -10,7 +10,7 @@ use Rattle.exact.proofs.Ring.{var, _⊕_, _⊖_, _⊗_, neg, ring}
 use Rattle.exact.proofs.Order.{mul-pos, mul-nonneg, add-nonneg}
 use Rattle.paper.specs.Points.{above, below}
 use Rattle.paper.specs.declared.Flat.{Flat}
-use Rattle.means_area.specs.Flats.{Up, Nn, turn}
+use Rattle.means_area.specs.Flats.{Up, Nn, twiceArea}
 use Rattle.means_area.proofs.Flats.Signs.{up-is, nn-is, up-nn, up-add, nn-up, off, which, nn-out}
 use Rattle.means_area.proofs.Flats.Turns.{env, uE, vE, tE, spin, sum-is}
 use Rattle.means_inside.specs.Beams.{right}
@@ -50,28 +50,28 @@ not-above t e = go (which t)
     go (inl u) = absurd (true≢false (sym (above-is t u) ∙ e))
     go (inr n) = n
 
-module _ (p q a b c : Flat) (D : Up (turn a b c)) where
+module _ (p q a b c : Flat) (D : Up (twiceArea a b c)) where
   abbrev A : ℤ
-  A = turn p q a
+  A = twiceArea p q a
 
   abbrev B : ℤ
-  B = turn p q b
+  B = twiceArea p q b
 
   abbrev C : ℤ
-  C = turn p q c
+  C = twiceArea p q c
 
   abbrev x : ℤ
-  x = turn a b p
+  x = twiceArea a b p
 
   abbrev y : ℤ
-  y = turn b c p
+  y = twiceArea b c p
 
   abbrev z : ℤ
-  z = turn c a p
+  z = twiceArea c a p
 
   -- p by its places: on the ray's line
   weight : C *ℤ x ≡ y *ℤ negℤ A +ℤ z *ℤ negℤ B
-  unfolding turn
+  unfolding twiceArea
   weight =
       ring (env (pos 0) (p ∷ q ∷ a ∷ b ∷ c ∷ [])) (tE 0 1 4 ⊗ tE 2 3 0) (tE 3 4 0 ⊗ neg (tE 0 1 2) ⊕ tE 4 2 0 ⊗ neg (tE 0 1 3)) tt
 
@@ -93,29 +93,29 @@ module _ (p q a b c : Flat) (D : Up (turn a b c)) where
   unfolding right counts
   apex-left ea eb ec = subst (Turns a b c p) (parts true true false ea eb ec) (go (above y) (below z) refl refl)
     where
-      nA : Nn (negℤ (turn p q a))
-      nA = yes-low (turn p q a) ea
+      nA : Nn (negℤ (twiceArea p q a))
+      nA = yes-low (twiceArea p q a) ea
 
-      nB : Nn (negℤ (turn p q b))
-      nB = yes-low (turn p q b) eb
+      nB : Nn (negℤ (twiceArea p q b))
+      nB = yes-low (twiceArea p q b) eb
 
-      uC : Up (turn p q c)
-      uC = no-low (turn p q c) ec
+      uC : Up (twiceArea p q c)
+      uC = no-low (twiceArea p q c) ec
 
-      go : (s t : Bool) → above (turn b c p) ≡ s → below (turn c a p) ≡ t
+      go : (s t : Bool) → above (twiceArea b c p) ≡ s → below (twiceArea c a p) ≡ t
           → Turns a b c p (pos 0 +ℤ (cond s (pos 1) (pos 0) +ℤ cond t (negℤ (pos 1)) (pos 0)))
       go true true e f = never refl
       go false false e f = never refl
       go true false e f =
-          let j = up-nn (above-yes (turn b c p) e) in
-          let k = not-below (turn c a p) f in
-          once refl (left (nn-out (turn p q c) uC (nn-is (sym weight) (add-nonneg (mul-nonneg j nA) (mul-nonneg k nB)))) j k)
+          let j = up-nn (above-yes (twiceArea b c p) e) in
+          let k = not-below (twiceArea c a p) f in
+          once refl (left (nn-out (twiceArea p q c) uC (nn-is (sym weight) (add-nonneg (mul-nonneg j nA) (mul-nonneg k nB)))) j k)
       go false true e f =
-          let j = not-above (turn b c p) e in
-          let k = up-nn (below-yes (turn c a p) f) in
+          let j = not-above (twiceArea b c p) e in
+          let k = up-nn (below-yes (twiceArea c a p) f) in
           absurd
           (not-all
-          (nn-out (turn p q c) uC
+          (nn-out (twiceArea p q c) uC
           (nn-is
           (ring (y ∷ A ∷ z ∷ B ∷ []) (neg (var 0) ⊗ neg (var 1) ⊕ neg (var 2) ⊗ neg (var 3))
           (neg (var 0 ⊗ neg (var 1) ⊕ var 2 ⊗ neg (var 3))) tt
@@ -127,14 +127,14 @@ module _ (p q a b c : Flat) (D : Up (turn a b c)) where
   unfolding right counts
   apex-right ea eb ec = subst (Turns a b c p) (parts false false true ea eb ec) (go (below y) (above z) refl refl)
     where
-      uA : Up (turn p q a)
-      uA = no-low (turn p q a) ea
+      uA : Up (twiceArea p q a)
+      uA = no-low (twiceArea p q a) ea
 
-      uB : Up (turn p q b)
-      uB = no-low (turn p q b) eb
+      uB : Up (twiceArea p q b)
+      uB = no-low (twiceArea p q b) eb
 
-      nC : Nn (negℤ (turn p q c))
-      nC = yes-low (turn p q c) ec
+      nC : Nn (negℤ (twiceArea p q c))
+      nC = yes-low (twiceArea p q c) ec
 
       -- of x times what is not below 0
       back : negℤ C *ℤ x ≡ y *ℤ A +ℤ z *ℤ B
@@ -142,14 +142,14 @@ module _ (p q a b c : Flat) (D : Up (turn a b c)) where
           ring (C ∷ x ∷ []) (neg (var 0) ⊗ var 1) (neg (var 0 ⊗ var 1)) tt ∙ ap negℤ weight
           ∙ ring (y ∷ A ∷ z ∷ B ∷ []) (neg (var 0 ⊗ neg (var 1) ⊕ var 2 ⊗ neg (var 3))) (var 0 ⊗ var 1 ⊕ var 2 ⊗ var 3) tt
 
-      x-up : Nn (turn b c p) → Up (turn c a p) → Up (turn a b p) ⊎ Nn (negℤ (turn a b p)) → Nn (turn a b p)
+      x-up : Nn (twiceArea b c p) → Up (twiceArea c a p) → Up (twiceArea a b p) ⊎ Nn (negℤ (twiceArea a b p)) → Nn (twiceArea a b p)
       x-up j k (inl u) = up-nn u
       x-up j k (inr n) =
           absurd
           (off (up-is (sym back) (nn-up (mul-nonneg j (up-nn uA)) (mul-pos k uB)))
           (nn-is (ring (C ∷ x ∷ []) (neg (var 0) ⊗ neg (var 1)) (neg (neg (var 0) ⊗ var 1)) tt) (mul-nonneg nC n)))
 
-      x-down : Up (negℤ (turn b c p)) → Nn (negℤ (turn c a p)) → Up (turn a b p) ⊎ Nn (negℤ (turn a b p)) → Nn (negℤ (turn a b p))
+      x-down : Up (negℤ (twiceArea b c p)) → Nn (negℤ (twiceArea c a p)) → Up (twiceArea a b p) ⊎ Nn (negℤ (twiceArea a b p)) → Nn (negℤ (twiceArea a b p))
       x-down j k (inr n) = n
       x-down j k (inl u) =
           absurd
@@ -158,27 +158,27 @@ module _ (p q a b c : Flat) (D : Up (turn a b c)) where
           (back ∙ ring (y ∷ A ∷ z ∷ B ∷ []) (var 0 ⊗ var 1 ⊕ var 2 ⊗ var 3) (neg (neg (var 0) ⊗ var 1 ⊕ neg (var 2) ⊗ var 3)) tt)
           (mul-nonneg nC (up-nn u))))
 
-      go : (s t : Bool) → below (turn b c p) ≡ s → above (turn c a p) ≡ t
+      go : (s t : Bool) → below (twiceArea b c p) ≡ s → above (twiceArea c a p) ≡ t
           → Turns a b c p (pos 0 +ℤ (cond s (negℤ (pos 1)) (pos 0) +ℤ cond t (pos 1) (pos 0)))
       go true true e f = never refl
       go false false e f = never refl
       go false true e f =
-          let j = not-below (turn b c p) e in
-          let k = above-yes (turn c a p) f in
+          let j = not-below (twiceArea b c p) e in
+          let k = above-yes (twiceArea c a p) f in
           once refl (left (x-up j k (which x)) j (up-nn k))
       go true false e f =
-          let j = below-yes (turn b c p) e in
-          let k = not-above (turn c a p) f in
+          let j = below-yes (twiceArea b c p) e in
+          let k = not-above (twiceArea c a p) f in
           absurd (not-all (x-down j k (which x)) (up-nn j) k)
 
 -- whatever the ray
-pub turns : (p q a b c : Flat) → Up (turn a b c) → Turns a b c p (round3 p q a b c)
+pub turns : (p q a b c : Flat) → Up (twiceArea a b c) → Turns a b c p (round3 p q a b c)
 turns p q a b c D = go (right p q a) (right p q b) (right p q c) refl refl refl
   where
-    D1 : Up (turn b c a)
+    D1 : Up (twiceArea b c a)
     D1 = up-is (spin a b c) D
 
-    D2 : Up (turn c a b)
+    D2 : Up (twiceArea c a b)
     D2 = up-is (spin b c a) D1
 
     none : (s : Bool) (t u v : ℤ) → counts s s t +ℤ (counts s s u +ℤ counts s s v) ≡ pos 0
@@ -186,7 +186,7 @@ turns p q a b c D = go (right p q a) (right p q b) (right p q c) refl refl refl
     none false t u v = unfold counts in refl
 
     all : (s : Bool) → right p q a ≡ s → right p q b ≡ s → right p q c ≡ s → Turns a b c p (round3 p q a b c)
-    all s ea eb ec = never (sym (parts p q a b c D s s s ea eb ec) ∙ none s (turn a b p) (turn b c p) (turn c a p))
+    all s ea eb ec = never (sym (parts p q a b c D s s s ea eb ec) ∙ none s (twiceArea a b p) (twiceArea b c p) (twiceArea c a p))
 
     go : (u v w : Bool) → right p q a ≡ u → right p q b ≡ v → right p q c ≡ w → Turns a b c p (round3 p q a b c)
     go true true true ea eb ec = all true ea eb ec
@@ -200,46 +200,46 @@ turns p q a b c D = go (right p q a) (right p q b) (right p q c) refl refl refl
 
 -- ---- a ray that counts a point within: across a side that the point is not in line with
 module _ (p a b c : Flat) where
-  across-bc : Up (turn b c p) → Nn (turn c a p) → Nn (turn a b p) → round3 p (shift b p c) a b c ≡ pos 1
+  across-bc : Up (twiceArea b c p) → Nn (twiceArea c a p) → Nn (twiceArea a b p) → round3 p (shift b p c) a b c ≡ pos 1
   unfolding goes right counts
   across-bc y z x = go (right p (shift b p c) a)
     where
-      at-b : turn p (shift b p c) b ≡ negℤ (turn b c p)
+      at-b : twiceArea p (shift b p c) b ≡ negℤ (twiceArea b c p)
       at-b =
-          unfold turn shift in
+          unfold twiceArea shift in
           ring (env (pos 0) (p ∷ b ∷ c ∷ []))
           (((uE 1 ⊕ (uE 2 ⊖ uE 0)) ⊖ uE 0) ⊗ (vE 1 ⊖ vE 0) ⊖ ((vE 1 ⊕ (vE 2 ⊖ vE 0)) ⊖ vE 0) ⊗ (uE 1 ⊖ uE 0)) (neg (tE 1 2 0)) tt
 
-      at-c : turn p (shift b p c) c ≡ turn b c p
+      at-c : twiceArea p (shift b p c) c ≡ twiceArea b c p
       at-c =
-          unfold turn shift in
+          unfold twiceArea shift in
           ring (env (pos 0) (p ∷ b ∷ c ∷ []))
           (((uE 1 ⊕ (uE 2 ⊖ uE 0)) ⊖ uE 0) ⊗ (vE 2 ⊖ vE 0) ⊖ ((vE 1 ⊕ (vE 2 ⊖ vE 0)) ⊖ vE 0) ⊗ (uE 2 ⊖ uE 0)) (tE 1 2 0) tt
 
       eb : right p (shift b p c) b ≡ true
-      eb = unfold right in low-is (turn p (shift b p c) b) (nn-is (twice (turn b c p) ∙ ap negℤ (sym at-b)) (up-nn y))
+      eb = unfold right in low-is (twiceArea p (shift b p c) b) (nn-is (twice (twiceArea b c p) ∙ ap negℤ (sym at-b)) (up-nn y))
 
       ec : right p (shift b p c) c ≡ false
-      ec = unfold right in low-no (turn p (shift b p c) c) (up-is (sym at-c) y)
+      ec = unfold right in low-no (twiceArea p (shift b p c) c) (up-is (sym at-c) y)
 
-      go : (u : Bool) → counts u (right p (shift b p c) b) (turn a b p)
-          +ℤ (counts (right p (shift b p c) b) (right p (shift b p c) c) (turn b c p) +ℤ counts (right p (shift b p c) c) u (turn c a p))
+      go : (u : Bool) → counts u (right p (shift b p c) b) (twiceArea a b p)
+          +ℤ (counts (right p (shift b p c) b) (right p (shift b p c) c) (twiceArea b c p) +ℤ counts (right p (shift b p c) c) u (twiceArea c a p))
           ≡ pos 1
       go true =
           unfold counts in
-          (λ i. counts true (eb i) (turn a b p) +ℤ (counts (eb i) (ec i) (turn b c p) +ℤ counts (ec i) true (turn c a p)))
-          ∙ (λ i. pos 0 +ℤ (cond (above-is (turn b c p) y i) (pos 1) (pos 0) +ℤ cond (below-no (turn c a p) z i) (negℤ (pos 1)) (pos 0)))
+          (λ i. counts true (eb i) (twiceArea a b p) +ℤ (counts (eb i) (ec i) (twiceArea b c p) +ℤ counts (ec i) true (twiceArea c a p)))
+          ∙ (λ i. pos 0 +ℤ (cond (above-is (twiceArea b c p) y i) (pos 1) (pos 0) +ℤ cond (below-no (twiceArea c a p) z i) (negℤ (pos 1)) (pos 0)))
       go false =
           unfold counts in
-          (λ i. counts false (eb i) (turn a b p) +ℤ (counts (eb i) (ec i) (turn b c p) +ℤ counts (ec i) false (turn c a p)))
-          ∙ (λ i. cond (below-no (turn a b p) x i) (negℤ (pos 1)) (pos 0) +ℤ (cond (above-is (turn b c p) y i) (pos 1) (pos 0) +ℤ pos 0))
+          (λ i. counts false (eb i) (twiceArea a b p) +ℤ (counts (eb i) (ec i) (twiceArea b c p) +ℤ counts (ec i) false (twiceArea c a p)))
+          ∙ (λ i. cond (below-no (twiceArea a b p) x i) (negℤ (pos 1)) (pos 0) +ℤ (cond (above-is (twiceArea b c p) y i) (pos 1) (pos 0) +ℤ pos 0))
 
-pub some-ray : (p a b c : Flat) → Up (turn a b c) → InTriangle a b c p → (q : Flat) × (round3 p q a b c ≡ pos 1)
+pub some-ray : (p a b c : Flat) → Up (twiceArea a b c) → InTriangle a b c p → (q : Flat) × (round3 p q a b c ≡ pos 1)
 some-ray p a b c D (Rattle.means_inside.specs.Regions.right x y z) = absurd (not-all p p a b c D x y z)
-some-ray p a b c D (left x y z) = go (which (turn a b p)) (which (turn b c p)) (which (turn c a p))
+some-ray p a b c D (left x y z) = go (which (twiceArea a b p)) (which (twiceArea b c p)) (which (twiceArea c a p))
   where
-    go : Up (turn a b p) ⊎ Nn (negℤ (turn a b p)) → Up (turn b c p) ⊎ Nn (negℤ (turn b c p))
-        → Up (turn c a p) ⊎ Nn (negℤ (turn c a p)) → (q : Flat) × (round3 p q a b c ≡ pos 1)
+    go : Up (twiceArea a b p) ⊎ Nn (negℤ (twiceArea a b p)) → Up (twiceArea b c p) ⊎ Nn (negℤ (twiceArea b c p))
+        → Up (twiceArea c a p) ⊎ Nn (negℤ (twiceArea c a p)) → (q : Flat) × (round3 p q a b c ≡ pos 1)
     go u (inl v) w = (shift b p c, across-bc p a b c v z x)
     go u (inr v) (inl w) = (shift c p a, next3 p (shift c p a) a b c ∙ across-bc p b c a w x y)
     go (inl u) (inr v) (inr w) =

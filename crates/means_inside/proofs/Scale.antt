@@ -16,11 +16,11 @@ use Rattle.paper.specs.Points.{isZero, above, below}
 use Rattle.paper.specs.Polygon.{spans, between, touches, under, meetsRay, crosses}
 use Rattle.paper.specs.declared.Flat.{Flat}
 use Rattle.paper_laws.proofs.Points.{zero-yes, zero-is}
-use Rattle.means_area.specs.Rings.{Chain, Pair}
-use Rattle.means_area.specs.Flats.{Up, Nn, turn}
+use Rattle.means_area.specs.Rings.{Chain, TheTwo}
+use Rattle.means_area.specs.Flats.{Up, Nn, twiceArea}
 use Rattle.means_area.proofs.Flats.Signs.{up-is, nn-is, up-nn, off, ways, which, up-add, nn-out}
 use Rattle.means_area.proofs.Flats.Turns.{env, uE, vE, tE}
-use Rattle.means_inside.specs.Beams.{walk, right, beam, facing, Off, Clear, odd, east}
+use Rattle.means_inside.specs.Beams.{oddAlong, right, beam, facing, Off, OffEverySide, odd, east}
 use Rattle.means_inside.specs.Touch.{Touch}
 use Rattle.means_inside.specs.Means.{big}
 use Rattle.means_inside.proofs.Parity.{odd-round}
@@ -30,8 +30,8 @@ use Rattle.means_inside.proofs.Ears.{off-back}
 
 -- ---- the tests
 module _ (p : Flat) (d : ℤ) (k : Up d) where
-  turn-is : (a b : Flat) → turn (big d a) (big d b) p ≡ d *ℤ Rattle.paper.specs.Polygon.turn a b p d
-  unfolding turn Rattle.paper.specs.Polygon.turn
+  turn-is : (a b : Flat) → twiceArea (big d a) (big d b) p ≡ d *ℤ Rattle.paper.specs.Polygon.turn a b p d
+  unfolding twiceArea Rattle.paper.specs.Polygon.turn
   turn-is a b =
       ring (env d (a ∷ b ∷ p ∷ []))
       ((var 0 ⊗ uE 1 ⊖ var 0 ⊗ uE 0) ⊗ (vE 2 ⊖ var 0 ⊗ vE 0) ⊖ (var 0 ⊗ vE 1 ⊖ var 0 ⊗ vE 0) ⊗ (uE 2 ⊖ var 0 ⊗ uE 0))
@@ -59,17 +59,17 @@ module _ (p : Flat) (d : ℤ) (k : Up d) where
 
   -- at most as high
   under-is : (a : Flat) → right p (east p) (big d a) ≡ under p d a
-  unfolding right under turn
+  unfolding right under twiceArea
   under-is a = go (lt-or-ge (p .v) (d *ℤ a .v))
     where
-      e : turn p (east p) (big d a) ≡ d *ℤ a .v -ℤ p .v
+      e : twiceArea p (east p) (big d a) ≡ d *ℤ a .v -ℤ p .v
       e =
           ring (d ∷ p .u ∷ p .v ∷ a .u ∷ a .v ∷ [])
           ((var 1 ⊕ con (pos 1) ⊖ var 1) ⊗ (var 0 ⊗ var 4 ⊖ var 2) ⊖ (var 2 ⊖ var 2) ⊗ (var 0 ⊗ var 3 ⊖ var 1)) (var 0 ⊗ var 4 ⊖ var 2) tt
 
-      go : (p .v <ℤ (d *ℤ a .v)) ⊎ ((d *ℤ a .v) ≤ℤ p .v) → leZ (turn p (east p) (big d a)) (pos 0) ≡ leZ (d *ℤ a .v) (p .v)
+      go : (p .v <ℤ (d *ℤ a .v)) ⊎ ((d *ℤ a .v) ≤ℤ p .v) → leZ (twiceArea p (east p) (big d a)) (pos 0) ≡ leZ (d *ℤ a .v) (p .v)
       go (inl h) =
-          never-true (leZ (turn p (east p) (big d a)) (pos 0)) (λ q. clashℤ (up-is (sym e) (sub-pos h)) (le-yes q))
+          never-true (leZ (twiceArea p (east p) (big d a)) (pos 0)) (λ q. clashℤ (up-is (sym e) (sub-pos h)) (le-yes q))
           ∙ sym (never-true (leZ (d *ℤ a .v) (p .v)) (λ q. clashℤ h (le-yes q)))
       go (inr h) =
           ap (λ (z : ℤ). leZ z (pos 0)) e
@@ -85,7 +85,7 @@ module _ (p : Flat) (d : ℤ) (k : Up d) where
   pub crosses-back : (a b : Flat) → crosses p d a b ≡ crosses p d b a
   crosses-back a b = sym (crosses-is a b) ∙ beam-back p (east p) (big d a) (big d b) ∙ crosses-is b a
 
-  walk-map : (x : Flat) (l : List Flat) (e : Flat) → walk (beam p (east p)) (big d x) (map (big d) l) (big d e) ≡ walk (crosses p d) x l e
+  walk-map : (x : Flat) (l : List Flat) (e : Flat) → oddAlong (beam p (east p)) (big d x) (map (big d) l) (big d e) ≡ oddAlong (crosses p d) x l e
   walk-map x [] e = crosses-is x e
   walk-map x (y ∷ l) e = λ i. xor (crosses-is x y i) (walk-map y l e i)
 
@@ -149,7 +149,7 @@ module _ (p : Flat) (d : ℤ) (k : Up d) where
   neg-sum : (x y : ℤ) → negℤ x +ℤ negℤ y ≡ negℤ (x +ℤ y)
   neg-sum x y = ring (x ∷ y ∷ []) (neg (var 0) ⊕ neg (var 1)) (neg (var 0 ⊕ var 1)) tt
 
-  side-yes : (a b : Flat) → touches p d a b ≡ true → (turn (big d a) (big d b) p ≡ pos 0) × Nn (negℤ (facing p (big d a) (big d b)))
+  side-yes : (a b : Flat) → touches p d a b ≡ true → (twiceArea (big d a) (big d b) p ≡ pos 0) × Nn (negℤ (facing p (big d a) (big d b)))
   unfolding touches between facing
   side-yes a b e =
       let z = isZero (Rattle.paper.specs.Polygon.turn a b p d) in
@@ -164,16 +164,16 @@ module _ (p : Flat) (d : ℤ) (k : Up d) where
       )
 
   -- the products of the coordinates of two directions in a line
-  in-line : (a b : Flat) → turn a b p ≡ pos 0
+  in-line : (a b : Flat) → twiceArea a b p ≡ pos 0
       → ((a .u -ℤ p .u) *ℤ (b .u -ℤ p .u)) *ℤ ((a .v -ℤ p .v) *ℤ (b .v -ℤ p .v))
       ≡ ((a .u -ℤ p .u) *ℤ (b .v -ℤ p .v)) *ℤ ((a .u -ℤ p .u) *ℤ (b .v -ℤ p .v))
-  unfolding turn
+  unfolding twiceArea
   in-line a b e =
       ring-with (env (pos 0) (a ∷ b ∷ p ∷ [])) (((uE 0 ⊖ uE 2) ⊗ (uE 1 ⊖ uE 2)) ⊗ ((vE 0 ⊖ vE 2) ⊗ (vE 1 ⊖ vE 2)))
       (((uE 0 ⊖ uE 2) ⊗ (vE 1 ⊖ vE 2)) ⊗ ((uE 0 ⊖ uE 2) ⊗ (vE 1 ⊖ vE 2)))
       (neg ((uE 0 ⊖ uE 2) ⊗ (vE 1 ⊖ vE 2))) (tE 0 1 2) (con (pos 0)) tt e
 
-  side-is : (a b : Flat) → turn (big d a) (big d b) p ≡ pos 0 → Nn (negℤ (facing p (big d a) (big d b))) → touches p d a b ≡ true
+  side-is : (a b : Flat) → twiceArea (big d a) (big d b) p ≡ pos 0 → Nn (negℤ (facing p (big d a) (big d b))) → touches p d a b ≡ true
   unfolding touches between facing
   side-is a b e f =
       let X = (d *ℤ a .u -ℤ p .u) *ℤ (d *ℤ b .u -ℤ p .u) in
@@ -204,7 +204,7 @@ module _ (p : Flat) (d : ℤ) (k : Up d) where
           → (anyTrue (sidesFrom (touches p d) a y l) ≡ true
           → (q : Flat) × (r : Flat) × Chain (big d y) (map (big d) l) (big d a) (big d q) (big d r) × (touches p d q r ≡ true))
           → (q : Flat) × (r : Flat)
-          × (Pair (big d x) (big d y) (big d q) (big d r) ⊎ Chain (big d y) (map (big d) l) (big d a) (big d q) (big d r))
+          × (TheTwo (big d x) (big d y) (big d q) (big d r) ⊎ Chain (big d y) (map (big d) l) (big d a) (big d q) (big d r))
           × (touches p d q r ≡ true)
       go true f rec = (x, y, inl (inl (refl, refl)), f)
       go false f rec = let t = rec ((λ i. sym f i || anyTrue (sidesFrom (touches p d) a y l)) ∙ e) in (t .0, t .1, inr (t .2), t .3)
@@ -217,7 +217,7 @@ module _ (p : Flat) (d : ℤ) (k : Up d) where
       go (inl h) = h
       go (inr h) = absurd (true≢false (sym (side-is a b z h) ∙ e))
 
-  pair-off : (x y q r : Flat) → Off p x y → Pair x y q r → Off p q r
+  pair-off : (x y q r : Flat) → Off p x y → TheTwo x y q r → Off p q r
   pair-off x y q r o (inl e) = subst (λ (z : Flat). Off p z r) (sym (e .0)) (subst (λ (z : Flat). Off p x z) (sym (e .1)) o)
   pair-off x y q r o (inr e) =
       subst (λ (z : Flat). Off p z r) (sym (e .0)) (subst (λ (z : Flat). Off p y z) (sym (e .1)) (off-back p x y o))
@@ -230,7 +230,7 @@ module _ (p : Flat) (d : ℤ) (k : Up d) where
       pair-off (big d x) (big d y) q r (off-no x y (or-none (touches p d x y) (anyTrue (sidesFrom (touches p d) a y l)) e .0)) c
   no-side a x (y ∷ l) e q r (inr c) = no-side a y l (or-none (touches p d x y) (anyTrue (sidesFrom (touches p d) a y l)) e .1) q r c
 
-  pub any-clear : (g : List Flat) → anyTrue (sides (touches p d) g) ≡ false → Clear p (G g)
+  pub any-clear : (g : List Flat) → anyTrue (sides (touches p d) g) ≡ false → OffEverySide p (G g)
   unfolding sides
   any-clear [] e q r c = absurd c
   any-clear (x ∷ l) e q r c = no-side x x l e q r c
@@ -244,5 +244,5 @@ module _ (p : Flat) (d : ℤ) (k : Up d) where
       record { a = big d (t .0); b = big d (t .1); side = t .2; line = s .0; mid = s .1 }
 
   -- a point on a side is not off all
-  pub touch-not : (g : List Flat) → Clear p (G g) → Touch p (G g) → ⊥
+  pub touch-not : (g : List Flat) → OffEverySide p (G g) → Touch p (G g) → ⊥
   touch-not g c t = off (c (t .a) (t .b) (t .side) (t .line)) (t .mid)

@@ -9,12 +9,12 @@ use lib.IntN.{ℤ}
 use lib.Signed.{_<ℤ_}
 use Rattle.exact.proofs.Signs.{<ℤ-ne}
 use Rattle.paper.specs.declared.Flat.{Flat}
-use Rattle.means_area.specs.Rings.{Of, Pair, Link}
-use Rattle.means_area.specs.Flats.{Cross, height, On, Net, Simple, lst}
+use Rattle.means_area.specs.Rings.{Of, TheTwo, Link}
+use Rattle.means_area.specs.Flats.{Cross, height, WithinSegment, Net, Simple, lst}
 use Rattle.means_area.proofs.Flats.Choice.{compare}
 use Rattle.means_area.proofs.Flats.Chains.{link-back, link-of, of-append, of-left}
 use Rattle.means_area.proofs.Flats.Chains.{of-right, cross-turned, cross-back}
-use Rattle.means_inside.specs.Beams.{Off, Clear, odd}
+use Rattle.means_inside.specs.Beams.{Off, OffEverySide, odd}
 use Rattle.means_inside.proofs.Ears.{off-back}
 use Rattle.means_inside.proofs.Beside.{Apart}
 
@@ -35,11 +35,11 @@ eqd a b = go (compare a b)
     go (inr (inr k)) = inr (λ e. <ℤ-ne k (sym e))
 
 -- a point off a ring and off a chord is off what they make
-pub clear-with : (p : Flat) (P K : List Flat) (c d : Flat) → Clear p P → Off p c d
-    → ((a b : Flat) → Link K a b → Link P a b ⊎ Pair c d a b) → Clear p K
+pub clear-with : (p : Flat) (P K : List Flat) (c d : Flat) → OffEverySide p P → Off p c d
+    → ((a b : Flat) → Link K a b → Link P a b ⊎ TheTwo c d a b) → OffEverySide p K
 clear-with p P K c d k o f a b l = go (f a b l)
   where
-    go : Link P a b ⊎ Pair c d a b → Off p a b
+    go : Link P a b ⊎ TheTwo c d a b → Off p a b
     go (inl t) = k a b t
     go (inr (inl e)) = subst (λ (z : Flat). Off p z b) (sym (e .0)) (subst (λ (z : Flat). Off p c z) (sym (e .1)) o)
     go (inr (inr e)) = subst (λ (z : Flat). Off p z b) (sym (e .0)) (subst (λ (z : Flat). Off p d z) (sym (e .1)) (off-back p c d o))
@@ -50,13 +50,13 @@ module _ (m : ℤ) where
 
   abbrev pub Disjoint : ℕ → Type 0
   Disjoint n =
-      (P R : List Flat) → length P + length R ≤ n → Apart m P R → (p : Flat) → Clear p P → Clear p R → odd p P ≡ true → odd p R ≡ true → ⊥
+      (P R : List Flat) → length P + length R ≤ n → Apart m P R → (p : Flat) → OffEverySide p P → OffEverySide p R → odd p P ≡ true → odd p R ≡ true → ⊥
 
   -- a part of P, with a chord from c to d
   pub sub-apart : (P K R : List Flat) (c d : Flat) → Apart m P R → Simple m K → 3 ≤ length K
-      → ((a b : Flat) → Link K a b → Link P a b ⊎ Pair c d a b) → ((z : Flat) → Of z K → Of z P)
+      → ((a b : Flat) → Link K a b → Link P a b ⊎ TheTwo c d a b) → ((z : Flat) → Of z K → Of z P)
       → ((a b : Flat) → Link P a b → Of a K → Of b K → Link K a b)
-      → ((a b : Flat) → Link R a b → Cross c d a b → ⊥) → ((r : Flat) → Of r R → On m c d r → ⊥) → ((r : Flat) → Of r R → On m d c r → ⊥)
+      → ((a b : Flat) → Link R a b → Cross c d a b → ⊥) → ((r : Flat) → Of r R → WithinSegment m c d r → ⊥) → ((r : Flat) → Of r R → WithinSegment m d c r → ⊥)
       → ((z : Flat) → Of z R → (Of z K → ⊥) → odd z K ≡ false) → Apart m K R
   sub-apart P K R c d t s n f i k uncut bare bare' out = record {
     sp = s;
@@ -73,7 +73,7 @@ module _ (m : ℤ) where
     share = (λ a b c x y z x' y' z'. t .share a b c (i a x) (i b y) (i c z) x' y' z');
   }
     where
-      cl : (p q r s : Flat) → Link P p q ⊎ Pair c d p q → Link R r s → Cross p q r s → ⊥
+      cl : (p q r s : Flat) → Link P p q ⊎ TheTwo c d p q → Link R r s → Cross p q r s → ⊥
       cl p q r s (inl l) j x = t .clear p q r s l j x
       cl p q r s (inr (inl e)) j x =
           uncut r s j (subst (λ (z : Flat). Cross z d r s) (e .0) (subst (λ (z : Flat). Cross p z r s) (e .1) x))
@@ -81,10 +81,10 @@ module _ (m : ℤ) where
           uncut s r (link-back R r s j)
           (cross-back m (subst (λ (z : Flat). Cross z c r s) (e .0) (subst (λ (z : Flat). Cross p z r s) (e .1) x)))
 
-      fr : (p q r : Flat) → Link P p q ⊎ Pair c d p q → Of r R → On m p q r → ⊥
+      fr : (p q r : Flat) → Link P p q ⊎ TheTwo c d p q → Of r R → WithinSegment m p q r → ⊥
       fr p q r (inl l) j x = t .freeP p q r l j x
-      fr p q r (inr (inl e)) j x = bare r j (subst (λ (z : Flat). On m z d r) (e .0) (subst (λ (z : Flat). On m p z r) (e .1) x))
-      fr p q r (inr (inr e)) j x = bare' r j (subst (λ (z : Flat). On m z c r) (e .0) (subst (λ (z : Flat). On m p z r) (e .1) x))
+      fr p q r (inr (inl e)) j x = bare r j (subst (λ (z : Flat). WithinSegment m z d r) (e .0) (subst (λ (z : Flat). WithinSegment m p z r) (e .1) x))
+      fr p q r (inr (inr e)) j x = bare' r j (subst (λ (z : Flat). WithinSegment m z c r) (e .0) (subst (λ (z : Flat). WithinSegment m p z r) (e .1) x))
 
   -- both rings together
   pub together : (P R : List Flat) → Apart m P R → Net m (λ a b. Link P a b ⊎ Link R a b) (λ z. Of z (P ++ R))
@@ -110,7 +110,7 @@ module _ (m : ℤ) where
       cl p q r s (inr l) (inl k) c = t .clear r s q p k (link-back R p q l) (cross-turned m c)
       cl p q r s (inr l) (inr k) c = t .sr .net .clear l k c
 
-      fr : (p q r : Flat) → Link P p q ⊎ Link R p q → Of r P ⊎ Of r R → On m p q r → ⊥
+      fr : (p q r : Flat) → Link P p q ⊎ Link R p q → Of r P ⊎ Of r R → WithinSegment m p q r → ⊥
       fr p q r (inl l) (inl o) c = t .sp .net .free l o c
       fr p q r (inl l) (inr o) c = t .freeP p q r l o c
       fr p q r (inr l) (inl o) c = t .freeR p q r l o c

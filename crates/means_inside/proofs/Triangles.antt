@@ -6,11 +6,11 @@ use lib.IntN.{ℤ}
 use Rattle.paper.specs.declared.Flat.{Flat}
 use Rattle.means_area.specs.Flats.{lst}
 use Rattle.means_inside.specs.Beams.{round}
-use Rattle.means_inside.specs.Regions.{Cut, one, chord, ear, start, hits}
+use Rattle.means_inside.specs.Regions.{Cut, one, chord, ear, start, cutHits}
 use Rattle.means_inside.proofs.Parity.{round-turned, round-cut, round-ear}
 
 module _ (m : ℤ) (f : Flat → Flat → Bool) (sy : (a b : Flat) → f a b ≡ f b a) where
-  pub hits-are : (g : List Flat) (t : Cut m g) → round f g ≡ hits f t
+  pub hits-are : (g : List Flat) (t : Cut m g) → round f g ≡ cutHits f t
   hits-are _ (one a b c s) = refl
   hits-are _ (chord u l w r s x y) =
       round-cut f u l w r (sy w u) ∙ (λ i. xor (hits-are (u ∷ (l ++ w ∷ [])) x i) (hits-are (u ∷ w ∷ r) y i))

@@ -14,7 +14,7 @@ use Rattle.paper.specs.declared.Axis.{Axis}
 use Rattle.paper.specs.declared.Axis.the-variants.{AlongX, AlongY, AlongZ}
 use Rattle.paper_laws.proofs.Vectors.{vec, k, _-s_, _·_, o, v, _-v_, _*v_, _×v_, vring}
 use Rattle.paper_laws.proofs.Points.{in-line}
-use Rattle.means_area.specs.Flats.{Up, Nn, turn}
+use Rattle.means_area.specs.Flats.{Up, Nn, twiceArea}
 use Rattle.means_area.specs.Space.{through}
 use Rattle.means_area.proofs.Flats.Signs.{up-is, nn-is, up-nn, up-add, off, ways, nn-out}
 use Rattle.means_area.proofs.Flats.Turns.{spin}
@@ -34,8 +34,8 @@ shown-real AlongY n h e = h (twice (n .y) ∙ ap negℤ e)
 shown-real AlongZ n h e = h e
 
 -- a turn in the view
-pub turn-shown : (i : Axis) (a b c : Point) → turn (seen i a) (seen i b) (seen i c) ≡ shown i (cross (minus b a) (minus c a))
-unfolding turn seen cross minus
+pub turn-shown : (i : Axis) (a b c : Point) → twiceArea (seen i a) (seen i b) (seen i c) ≡ shown i (cross (minus b a) (minus c a))
+unfolding twiceArea seen cross minus
 turn-shown AlongX a b c = refl
 turn-shown AlongY a b c =
     ring ((b .x -ℤ a .x) ∷ (b .z -ℤ a .z) ∷ (c .x -ℤ a .x) ∷ (c .z -ℤ a .z) ∷ []) (var 0 ⊗ var 3 ⊖ var 1 ⊗ var 2)
@@ -100,7 +100,7 @@ module _ (n c : Point) where
 
   -- one factor for all turns
   pub turns : (i j : Axis) (p q r : Point) → On p → On q → On r
-      → turn (seen i p) (seen i q) (seen i r) *ℤ shown j n ≡ turn (seen j p) (seen j q) (seen j r) *ℤ shown i n
+      → twiceArea (seen i p) (seen i q) (seen i r) *ℤ shown j n ≡ twiceArea (seen j p) (seen j q) (seen j r) *ℤ shown i n
   turns i j p q r ep eq er =
       let u = cross (minus q p) (minus r p) in
       ap (λ (z : ℤ). z *ℤ shown j n) (turn-shown i p q r)
@@ -154,14 +154,14 @@ module _ (n c : Point) (i j : Axis) (hi : through i n ≡ pos 0 → ⊥) where
           (ring (shown i n ∷ shown l u ∷ []) (var 0 ⊗ var 1) (var 1 ⊗ var 0) tt ∙ shown-line l i u n e
           ∙ ap (λ (y : ℤ). y *ℤ shown l n) z ∙ ring (shown l n ∷ []) (con (pos 0) ⊗ var 0) (con (pos 0)) tt)
 
-  line-up : (a b p : Point) → On n c a → On n c b → On n c p → turn (seen i a) (seen i b) (seen i p) ≡ pos 0
+  line-up : (a b p : Point) → On n c a → On n c b → On n c p → twiceArea (seen i a) (seen i b) (seen i p) ≡ pos 0
       → cross (minus a p) (minus b p) ≡ origin
   line-up a b p ea eb ep z =
       none (cross (minus a p) (minus b p)) (across n (minus a p) (minus b p) (level n c p a ep ea) (level n c p b ep eb))
       (sym (turn-shown i p a b) ∙ spin (seen i p) (seen i a) (seen i b) ∙ z)
 
   -- p is not outside a and b in the other view either
-  pub between-too : (a b p : Point) → On n c a → On n c b → On n c p → turn (seen i a) (seen i b) (seen i p) ≡ pos 0
+  pub between-too : (a b p : Point) → On n c a → On n c b → On n c p → twiceArea (seen i a) (seen i b) (seen i p) ≡ pos 0
       → Nn (negℤ (facing (seen i p) (seen i a) (seen i b))) → Nn (negℤ (facing (seen j p) (seen j a) (seen j b)))
   between-too a b p ea eb ep z h = go (ways (facing (seen i p) (seen i a) (seen i a)))
     where

@@ -7,7 +7,7 @@ use lib.IntN.{ℤ, pos, negℤ, _+ℤ_, _-ℤ_}
 use Rattle.exact.proofs.Ring.{var, _⊕_, _⊖_, neg, ring}
 use Rattle.paper.specs.Points.{above, below}
 use Rattle.paper.specs.declared.Flat.{Flat}
-use Rattle.means_area.specs.Flats.{turn, lst}
+use Rattle.means_area.specs.Flats.{twiceArea, lst}
 use Rattle.means_area.proofs.Flats.Turns.{flip}
 use Rattle.means_inside.specs.Beams.{right}
 use Rattle.means_inside.proofs.Segment.{below-neg}
@@ -61,7 +61,7 @@ counts false true t = cond (below t) (negℤ (pos 1)) (pos 0)
 counts false false t = pos 0
 
 unfoldable pub goes : Flat → Flat → Flat → Flat → ℤ
-goes p q a b = counts (right p q a) (right p q b) (turn a b p)
+goes p q a b = counts (right p q a) (right p q b) (twiceArea a b p)
 
 pub goes-back : (p q a b : Flat) → goes p q b a ≡ negℤ (goes p q a b)
 unfolding goes counts
@@ -75,12 +75,12 @@ goes-back p q a b = go (right p q a) (right p q b)
     sign' true = refl
     sign' false = refl
 
-    go : (x y : Bool) → counts y x (turn b a p) ≡ negℤ (counts x y (turn a b p))
+    go : (x y : Bool) → counts y x (twiceArea b a p) ≡ negℤ (counts x y (twiceArea a b p))
     go true true = unfold counts in refl
     go false false = unfold counts in refl
     go true false =
         unfold counts in
-        ap (λ (s : Bool). cond s (negℤ (pos 1)) (pos 0)) (ap below (flip b a p) ∙ below-neg (turn a b p)) ∙ sign (above (turn a b p))
+        ap (λ (s : Bool). cond s (negℤ (pos 1)) (pos 0)) (ap below (flip b a p) ∙ below-neg (twiceArea a b p)) ∙ sign (above (twiceArea a b p))
     go false true =
         unfold counts in
-        ap (λ (s : Bool). cond s (pos 1) (pos 0)) (sym (below-neg (turn b a p)) ∙ ap below (sym (flip a b p))) ∙ sign' (below (turn a b p))
+        ap (λ (s : Bool). cond s (pos 1) (pos 0)) (sym (below-neg (twiceArea b a p)) ∙ ap below (sym (flip a b p))) ∙ sign' (below (twiceArea a b p))

@@ -19,7 +19,7 @@ use Rattle.means_inside.specs.Beams.{round, beam, right, Seen}
 use Rattle.means_inside.specs.Regions.{Cut, At, OneWay}
 use Rattle.means_inside.specs.Touch.{Touch}
 use Rattle.means_inside.specs.Means.{big, Means}
-use Rattle.means_inside.specs.Convex.{Hand, Convex, Within, NotBeyond}
+use Rattle.means_inside.specs.Convex.{Hand, Convex, OnHand, NotBeyond}
 
 -- where p / m and q / n are one place, one answer is given
 abbrev pub ByPlace : Type 0
@@ -48,7 +48,7 @@ NotBeyondInside =
 abbrev pub ConvexMeans : Type 0
 ConvexMeans =
     (m : ℤ) (g : List Flat) → 3 ≤ length g → Simple m g → (h : Hand) → Convex h g → (d : ℤ) → Up d → (p : Flat)
-    → (whereFlat p d g ≡ Inside) ↔ Within h d g p
+    → (whereFlat p d g ≡ Inside) ↔ OnHand h d g p
 
 -- of a polygon in its plane, a point p / d of the plane: seen along any axis that the plane is not along, the answer is the same
 abbrev pub AnyAxis : Type 0

@@ -4,7 +4,7 @@ use mathlib.Core.List.{List}
 use lib.IntN.{pos, negℤ}
 use Rattle.paper.specs.declared.Flat.{Flat}
 use Rattle.means_area.specs.Rings.{Link}
-use Rattle.means_area.specs.Flats.{Nn, turn}
+use Rattle.means_area.specs.Flats.{Nn, twiceArea}
 use Rattle.means_inside.specs.Beams.{facing}
 
 -- p is on the side from a to b of g: in its line, and its ends are not to one side of p
@@ -12,5 +12,5 @@ pub record Touch (p : Flat) (g : List Flat) : Type 0 where
   pub a : Flat
   pub b : Flat
   pub side : Link g a b
-  pub line : turn a b p ≡ pos 0
+  pub line : twiceArea a b p ≡ pos 0
   pub mid : Nn (negℤ (facing p a b))

@@ -9,8 +9,8 @@ use lib.Dec.{eqb}
 use borrow.Author.Tests.{not-true, eq-eqb, ne-eqb, eqb-true}
 use Rattle.lists.proofs.Truth.{and-left, and-right, and-both}
 use Rattle.sets.specs.Word.{bit, dig, Sub, count, both, less, first}
-use Rattle.paper.specs.Solids.{Reach, unlike, fresh, known, runsDown, acrossEdge, pass, spread, onceEachWay, oriented}
-use Rattle.means_leaf.specs.Meaning.{start, faces}
+use Rattle.paper.specs.Solids.{Reach, unlike, fresh, reachedOn, runsDown, acrossEdge, pass, spread, onceEachWay, oriented}
+use Rattle.means_leaf.specs.Meaning.{fromLowestTaken, faces}
 use Rattle.sets.proofs.Digits.{never, dig-both, dig-either, dig-less, dig-only, count-one, count-with, first-in}
 use Rattle.means_leaf.proofs.Unlike.{dig-unlike}
 
@@ -78,8 +78,8 @@ turn-of false false false true e = refl
 turn-of false false false false e = never (sym e)
 
 -- ---- over an edge, digit by digit
-pub known-dig : (mask taken : List Bool) (r : Reach) (k : ℕ) → dig (known mask taken r) k ≡ dig (both mask taken) k && dig (r .reached) k
-unfolding known
+pub known-dig : (mask taken : List Bool) (r : Reach) (k : ℕ) → dig (reachedOn mask taken r) k ≡ dig (both mask taken) k && dig (r .reached) k
+unfolding reachedOn
 known-dig mask taken r k = dig-both (both mask taken) (r .reached) k
 
 pub fresh-dig : (mask taken : List Bool) (r : Reach) (k : ℕ)
@@ -100,44 +100,44 @@ reached-within true false false p a e = never (sym (a refl))
 reached-within false false false p a e = e
 
 module _ (mask up taken : List Bool) (r : Reach) where
-  pub over-not : (count (known mask taken r) ≡ 1 → ⊥) → acrossEdge mask up taken r ≡ r
+  pub over-not : (count (reachedOn mask taken r) ≡ 1 → ⊥) → acrossEdge mask up taken r ≡ r
   unfolding acrossEdge
-  over-not n = rw (ne-eqb (count (known mask taken r)) 1 n)
+  over-not n = rw (ne-eqb (count (reachedOn mask taken r)) 1 n)
 
-  module _ (one : count (known mask taken r) ≡ 1) where
+  module _ (one : count (reachedOn mask taken r) ≡ 1) where
     pub reached-dig : (k : ℕ) → dig (acrossEdge mask up taken r .reached) k ≡ dig (r .reached) k || dig (fresh mask taken r) k
     unfolding acrossEdge
-    reached-dig k = rw (eq-eqb (count (known mask taken r)) 1 one) (dig-either (r .reached) (fresh mask taken r) k)
+    reached-dig k = rw (eq-eqb (count (reachedOn mask taken r)) 1 one) (dig-either (r .reached) (fresh mask taken r) k)
 
     pub turned-dig : (k : ℕ)
         → dig (acrossEdge mask up taken r .turned) k ≡ dig (r .turned)
         k || (dig (fresh mask taken r) k && cond (runsDown mask up taken r) (not (dig up k)) (dig up k))
     unfolding acrossEdge
     turned-dig k =
-        rw (eq-eqb (count (known mask taken r)) 1 one)
+        rw (eq-eqb (count (reachedOn mask taken r)) 1 one)
         (dig-either (r .turned) (cond (runsDown mask up taken r) (less (fresh mask taken r) up) (both (fresh mask taken r) up)) k
         ∙ ap (λ (x : Bool). dig (r .turned) k || x) (picked-dig (runsDown mask up taken r) (fresh mask taken r) up k))
 
-    here-known : dig (known mask taken r) (first (known mask taken r)) ≡ true
-    here-known = first-in (known mask taken r) (λ e. omega arith)
+    here-known : dig (reachedOn mask taken r) (first (reachedOn mask taken r)) ≡ true
+    here-known = first-in (reachedOn mask taken r) (λ e. omega arith)
 
-    down-is : runsDown mask up taken r ≡ eqb (bit (dig up (first (known mask taken r))))
-        (bit (dig (r .turned) (first (known mask taken r))))
+    down-is : runsDown mask up taken r ≡ eqb (bit (dig up (first (reachedOn mask taken r))))
+        (bit (dig (r .turned) (first (reachedOn mask taken r))))
     unfolding runsDown
     down-is =
-        ap₂ eqb (count-with (known mask taken r) up (first (known mask taken r)) one here-known)
-        (count-with (known mask taken r) (r .turned) (first (known mask taken r)) one here-known)
+        ap₂ eqb (count-with (reachedOn mask taken r) up (first (reachedOn mask taken r)) one here-known)
+        (count-with (reachedOn mask taken r) (r .turned) (first (reachedOn mask taken r)) one here-known)
 
     module _ (ts : List Bool) (s : Suits mask up taken ts) (h : Right ts r) where
-      f-mine : dig (both mask taken) (first (known mask taken r)) ≡ true
+      f-mine : dig (both mask taken) (first (reachedOn mask taken r)) ≡ true
       f-mine =
-          and-left (dig (both mask taken) (first (known mask taken r))) (dig (r .reached) (first (known mask taken r)))
-          (sym (known-dig mask taken r (first (known mask taken r))) ∙ here-known)
+          and-left (dig (both mask taken) (first (reachedOn mask taken r))) (dig (r .reached) (first (reachedOn mask taken r)))
+          (sym (known-dig mask taken r (first (reachedOn mask taken r))) ∙ here-known)
 
-      f-reached : dig (r .reached) (first (known mask taken r)) ≡ true
+      f-reached : dig (r .reached) (first (reachedOn mask taken r)) ≡ true
       f-reached =
-          and-right (dig (both mask taken) (first (known mask taken r))) (dig (r .reached) (first (known mask taken r)))
-          (sym (known-dig mask taken r (first (known mask taken r))) ∙ here-known)
+          and-right (dig (both mask taken) (first (reachedOn mask taken r))) (dig (r .reached) (first (reachedOn mask taken r)))
+          (sym (known-dig mask taken r (first (reachedOn mask taken r))) ∙ here-known)
 
       -- a fresh face gets its direction
       fresh-right : (k : ℕ) → dig (fresh mask taken r) k ≡ true → cond (runsDown mask up taken r) (not (dig up k)) (dig up k) ≡ dig ts k
@@ -146,13 +146,13 @@ module _ (mask up taken : List Bool) (r : Reach) where
           (sym (fresh-dig mask taken r k) ∙ e) in
           let out : dig (r .reached) k ≡ false = not-true (dig (r .reached) k)
           (and-right (dig (both mask taken) k) (not (dig (r .reached) k)) (sym (fresh-dig mask taken r k) ∙ e)) in
-          let apart : first (known mask taken r) ≡ k
+          let apart : first (reachedOn mask taken r) ≡ k
           → ⊥ = λ q. never (sym (subst (λ (x : ℕ). dig (r .reached) x ≡ true) q f-reached) ∙ out) in
           ap (λ (x : Bool). cond x (not (dig up k)) (dig up k))
           (down-is
-          ∙ ap (λ (x : Bool). eqb (bit (dig up (first (known mask taken r)))) (bit x)) (h .right (first (known mask taken r)) f-reached))
-          ∙ turn-of (dig up (first (known mask taken r))) (dig up k) (dig ts (first (known mask taken r))) (dig ts k)
-          (s (first (known mask taken r)) k f-mine mine apart)
+          ∙ ap (λ (x : Bool). eqb (bit (dig up (first (reachedOn mask taken r)))) (bit x)) (h .right (first (reachedOn mask taken r)) f-reached))
+          ∙ turn-of (dig up (first (reachedOn mask taken r))) (dig up k) (dig ts (first (reachedOn mask taken r))) (dig ts k)
+          (s (first (reachedOn mask taken r)) k f-mine mine apart)
 
       turned-right : (x y z t : Bool) → (x ≡ true → z ≡ true) → (z ≡ true → x ≡ t) → {p : Bool} → (y ≡ true → p ≡ t) → (z || y) ≡ true
           → (z ≡ true → y ≡ false) → (x || (y && p)) ≡ t
@@ -177,9 +177,9 @@ module _ (mask up taken : List Bool) (r : Reach) where
       }
 
   over-right : (ts : List Bool) → Suits mask up taken ts → Right ts r → Right ts (acrossEdge mask up taken r)
-  over-right ts s h = go (ℕ-discrete (count (known mask taken r)) 1)
+  over-right ts s h = go (ℕ-discrete (count (reachedOn mask taken r)) 1)
     where
-      go : Dec (count (known mask taken r) ≡ 1) → Right ts (acrossEdge mask up taken r)
+      go : Dec (count (reachedOn mask taken r) ≡ 1) → Right ts (acrossEdge mask up taken r)
       go (yes e) = over-one e ts s h
       go (no n) = subst (λ (x : Reach). Right ts x) (sym (over-not n)) h
 
@@ -217,7 +217,7 @@ spread-right (suc n) masks ups taken ts o r h =
     go true p q = p
     go false p q = q
 
-start-right : (taken ts : List Bool) → dig ts (first taken) ≡ false → Right ts (start taken)
+start-right : (taken ts : List Bool) → dig ts (first taken) ≡ false → Right ts (fromLowestTaken taken)
 start-right taken ts e = record {
   within = λ k p. never (sym p);
   right = λ k p. sym (ap (dig ts) (dig-only (first taken) k p) ∙ e);
@@ -227,4 +227,4 @@ pub faces-right : (masks ups : List (List Bool)) (taken ts : List Bool) → orie
     → dig ts (first taken) ≡ false
     → Right ts (faces masks ups taken)
 unfolding faces
-faces-right masks ups taken ts o e = spread-right (count taken) masks ups taken ts o (start taken) (start-right taken ts e)
+faces-right masks ups taken ts o e = spread-right (count taken) masks ups taken ts o (fromLowestTaken taken) (start-right taken ts e)

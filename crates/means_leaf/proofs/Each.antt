@@ -13,14 +13,14 @@ use Rattle.lists.proofs.Truth.{cond-passes}
 use Rattle.lists.proofs.Places.{one-later}
 use Rattle.paper.specs.Solids.{Tables, inTwo, onceEachWay, oriented, peaceful, clearFrom}
 use Rattle.paper.specs.Verdict.{edgeCount}
-use Rattle.means_leaf.specs.Meaning.{InTwo}
+use Rattle.means_leaf.specs.Meaning.{MaskInTwo}
 use Rattle.means_leaf.proofs.Directions.{oriented-here}
 use Rattle.means_leaf.proofs.Spread.{in-place}
 
 module _ (taken : List Bool) where
   -- ---- (i), where 23 finds no edge
 
-  pub counted-two : (t : Tables) → edgeCount t taken ≡ none → InTwo (t .masks) taken
+  pub counted-two : (t : Tables) → edgeCount t taken ≡ none → MaskInTwo (t .masks) taken
   unfolding edgeCount inTwo
   counted-two t p mask i =
       let r = in-place mask (t .masks) i in

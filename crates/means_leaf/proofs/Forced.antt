@@ -11,7 +11,7 @@ use borrow.Author.Tests.{eqb-true}
 use Rattle.lists.proofs.Truth.{and-right, and-both, and-same}
 use Rattle.sets.specs.Word.{dig, Sub, count, both, less, first}
 use Rattle.paper.specs.Solids.{Reach, unlike, connected, onceEachWay, oriented}
-use Rattle.means_leaf.specs.Meaning.{faces, Alike, Opposite}
+use Rattle.means_leaf.specs.Meaning.{faces, SameTurned, TurnedRound}
 use Rattle.sets.proofs.Digits.{dig-both, dig-less, count-same, count-none}
 use Rattle.means_leaf.proofs.Unlike.{dig-unlike}
 use Rattle.means_leaf.proofs.Directions.{faces-right}
@@ -32,7 +32,7 @@ not-not true = refl
 not-not false = refl
 
 module _ (mask up taken s t : List Bool) where
-  once-alike : Alike taken s t → onceEachWay mask up taken s ≡ onceEachWay mask up taken t
+  once-alike : SameTurned taken s t → onceEachWay mask up taken s ≡ onceEachWay mask up taken t
   unfolding onceEachWay
   once-alike h =
       ap₂ (λ (m n : ℕ). eqb m 1 && eqb n 1)
@@ -48,7 +48,7 @@ module _ (mask up taken s t : List Bool) where
       same : (k : ℕ) → dig (both mask taken) k ≡ true → dig (unlike up s) k ≡ dig (unlike up t) k
       same k e = dig-unlike up s k ∙ ap (xor (dig up k)) (h k (mine-taken mask taken k e)) ∙ sym (dig-unlike up t k)
 
-  pub once-opposite : Opposite taken s t → onceEachWay mask up taken s ≡ onceEachWay mask up taken t
+  pub once-opposite : TurnedRound taken s t → onceEachWay mask up taken s ≡ onceEachWay mask up taken t
   unfolding onceEachWay
   once-opposite h =
       ap₂ (λ (m n : ℕ). eqb m 1 && eqb n 1)
@@ -74,10 +74,10 @@ module _ (taken s t : List Bool) where
   oriented-by h (mask ∷ masks) [] = refl
   oriented-by h (mask ∷ masks) (up ∷ ups) = ap₂ (λ (b c : Bool). cond b c false) (h mask up) (oriented-by h masks ups)
 
-  pub oriented-alike : Alike taken s t → (masks ups : List (List Bool)) → oriented masks ups taken s ≡ oriented masks ups taken t
+  pub oriented-alike : SameTurned taken s t → (masks ups : List (List Bool)) → oriented masks ups taken s ≡ oriented masks ups taken t
   oriented-alike h = oriented-by (λ mask up. once-alike mask up taken s t h)
 
-  pub oriented-opposite : Opposite taken s t → (masks ups : List (List Bool)) → oriented masks ups taken s ≡ oriented masks ups taken t
+  pub oriented-opposite : TurnedRound taken s t → (masks ups : List (List Bool)) → oriented masks ups taken s ≡ oriented masks ups taken t
   oriented-opposite h = oriented-by (λ mask up. once-opposite mask up taken s t h)
 
 -- all are reached
@@ -98,25 +98,25 @@ all-reached taken r e k h = go (dig (r .reached) k) refl
 pub directions : (masks ups : List (List Bool)) (taken : List Bool) → connected taken (faces masks ups taken) ≡ true → (ts : List Bool)
     → oriented masks ups taken ts ≡ true
     → (oriented masks ups taken (faces masks ups taken .turned) ≡ true)
-    × (Alike taken ts (faces masks ups taken .turned) ⊎ Opposite taken ts (faces masks ups taken .turned))
+    × (SameTurned taken ts (faces masks ups taken .turned) ⊎ TurnedRound taken ts (faces masks ups taken .turned))
 directions masks ups taken c ts o = go (dig ts (first taken)) refl
   where
     agree : (s : List Bool) → oriented masks ups taken s ≡ true → dig s (first taken) ≡ false
-        → Alike taken s (faces masks ups taken .turned)
+        → SameTurned taken s (faces masks ups taken .turned)
     agree s p e k h = sym (faces-right masks ups taken s p e .right k (all-reached taken (faces masks ups taken) c k h))
 
-    other : Opposite taken (less taken ts) ts
+    other : TurnedRound taken (less taken ts) ts
     other k h = dig-less taken ts k ∙ ap (λ (x : Bool). x && not (dig ts k)) h
 
     go : (b : Bool) → dig ts (first taken) ≡ b
         → (oriented masks ups taken (faces masks ups taken .turned) ≡ true)
-        × (Alike taken ts (faces masks ups taken .turned) ⊎ Opposite taken ts (faces masks ups taken .turned))
+        × (SameTurned taken ts (faces masks ups taken .turned) ⊎ TurnedRound taken ts (faces masks ups taken .turned))
     go false e = (sym (oriented-alike taken ts (faces masks ups taken .turned) (agree ts o e) masks ups) ∙ o, inl (agree ts o e))
     go true e =
         let p : oriented masks ups taken (less taken ts) ≡ true = oriented-opposite taken (less taken ts) ts other masks ups ∙ o in
         let z : dig (less taken ts) (first taken) ≡ false = dig-less taken ts (first taken)
         ∙ ap (λ (x : Bool). dig taken (first taken) && not x) e ∙ and-false (dig taken (first taken)) in
-        let a : Alike taken (less taken ts) (faces masks ups taken .turned) = agree (less taken ts) p z in (
+        let a : SameTurned taken (less taken ts) (faces masks ups taken .turned) = agree (less taken ts) p z in (
           sym (oriented-alike taken (less taken ts) (faces masks ups taken .turned) a masks ups) ∙ p,
           inr (λ k h. sym (not-not (dig ts k)) ∙ ap not (sym (other k h) ∙ a k h)),
         )

@@ -9,34 +9,34 @@ use lib.ListN.{length}
 use borrow.Author.Tests.{not-true, eq-eqb}
 use Rattle.lists.proofs.Truth.{and-left, and-right, or-cases}
 use Rattle.sets.specs.Word.{dig, Sub, count, both, less, only, first}
-use Rattle.paper.specs.Solids.{Reach, fresh, known, acrossEdge, pass, connected}
-use Rattle.means_leaf.specs.Meaning.{faces, InTwo, Way, stay, across, Connected}
+use Rattle.paper.specs.Solids.{Reach, fresh, reachedOn, acrossEdge, pass, connected}
+use Rattle.means_leaf.specs.Meaning.{faces, MaskInTwo, MaskWay, stay, across, Connected}
 use Rattle.sets.proofs.Digits.{never, dig-both, dig-less, dig-only, count-empty, first-in}
 use Rattle.means_leaf.proofs.Forced.{all-reached}
 use Rattle.means_leaf.proofs.Spread.{allFrom, spread-ways, whole-first, whole-edge}
 use Rattle.means_leaf.proofs.Directions.{fresh-dig, over-not, reached-dig}
 
 -- ---- ways
-pub way-on : {masks : List (List Bool)} {taken : List Bool} {f g h : ℕ} → Way masks taken f g → Way masks taken g h → Way masks taken f h
+pub way-on : {masks : List (List Bool)} {taken : List Bool} {f g h : ℕ} → MaskWay masks taken f g → MaskWay masks taken g h → MaskWay masks taken f h
 way-on w stay = w
 way-on w (across mask k v i p q) = across mask k (way-on w v) i p q
 
-pub way-back : {masks : List (List Bool)} {taken : List Bool} {f g : ℕ} → Way masks taken f g → Way masks taken g f
+pub way-back : {masks : List (List Bool)} {taken : List Bool} {f g : ℕ} → MaskWay masks taken f g → MaskWay masks taken g f
 way-back stay = stay
 way-back (across mask k v i p q) = way-on (across mask _ stay i q p) (way-back v)
 
 -- ---- what is reached lies on a way from the start
 
 pub reached-ways : (masks ups : List (List Bool)) (taken : List Bool) (f k : ℕ) → dig (allFrom masks ups taken f .reached) k ≡ true
-    → Way masks taken f k
+    → MaskWay masks taken f k
 reached-ways masks ups taken f =
-    spread-ways masks taken (Way masks taken f) (λ mask i g h p q w. across mask g w i p q) (count taken) ups
-    (record { reached = only f; turned = [] }) (λ k p. subst (Way masks taken f) (sym (dig-only f k p)) stay)
+    spread-ways masks taken (MaskWay masks taken f) (λ mask i g h p q w. across mask g w i p q) (count taken) ups
+    (record { reached = only f; turned = [] }) (λ k p. subst (MaskWay masks taken f) (sym (dig-only f k p)) stay)
 
 -- ---- only taken faces are reached
 
 over-taken : (mask up taken : List Bool) (r : Reach) → Sub (r .reached) taken → Sub (acrossEdge mask up taken r .reached) taken
-over-taken mask up taken r s k h = go (ℕ-discrete (count (known mask taken r)) 1)
+over-taken mask up taken r s k h = go (ℕ-discrete (count (reachedOn mask taken r)) 1)
   where
     more : (dig (r .reached) k ≡ true) ⊎ (dig (fresh mask taken r) k ≡ true) → dig taken k ≡ true
     more (inl p) = s k p
@@ -44,7 +44,7 @@ over-taken mask up taken r s k h = go (ℕ-discrete (count (known mask taken r))
         and-right (dig mask k) (dig taken k)
         (sym (dig-both mask taken k) ∙ and-left (dig (both mask taken) k) (not (dig (r .reached) k)) (sym (fresh-dig mask taken r k) ∙ p))
 
-    go : Dec (count (known mask taken r) ≡ 1) → dig taken k ≡ true
+    go : Dec (count (reachedOn mask taken r) ≡ 1) → dig taken k ≡ true
     go (yes e) = more (or-cases (dig (r .reached) k) (dig (fresh mask taken r) k) (sym (reached-dig mask up taken r e k) ∙ h))
     go (no n) = s k (sym (ap (λ (x : Reach). dig (x .reached) k) (over-not mask up taken r n)) ∙ h)
 
@@ -57,8 +57,8 @@ pass-taken (mask ∷ masks) (up ∷ ups) taken r s = pass-taken masks ups taken 
 
 -- ---- and whatever lies on a way from the start is reached
 
-module _ (masks ups : List (List Bool)) (taken : List Bool) (l : length masks ≡ length ups) (two : InTwo masks taken) where
-  pub ways-reached : (f : ℕ) → dig taken f ≡ true → (k : ℕ) → Way masks taken f k → dig (allFrom masks ups taken f .reached) k ≡ true
+module _ (masks ups : List (List Bool)) (taken : List Bool) (l : length masks ≡ length ups) (two : MaskInTwo masks taken) where
+  pub ways-reached : (f : ℕ) → dig taken f ≡ true → (k : ℕ) → MaskWay masks taken f k → dig (allFrom masks ups taken f .reached) k ≡ true
   ways-reached f here k stay = whole-first masks ups taken l two f here
   ways-reached f here k (across mask g w i p q) =
       whole-edge masks ups taken l two f here mask i g k p q (ways-reached f here g w)

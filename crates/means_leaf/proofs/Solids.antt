@@ -13,7 +13,7 @@ use borrow.Author.Tests.{ne-eqb, eqb-false}
 use Rattle.lists.proofs.Truth.{and-left}
 use Rattle.sets.specs.Word.{dig, Sub, count, less}
 use Rattle.paper.specs.Solids.{facesFrom, connected, oriented, part, sixFrom, clearFrom, weighed, Tables, Judgement, Fails, Solid, judged}
-use Rattle.means_leaf.specs.Meaning.{faces, InTwo, Connected, Alike, Opposite, IsSolid}
+use Rattle.means_leaf.specs.Meaning.{faces, MaskInTwo, Connected, SameTurned, TurnedRound, MaskSolid}
 use Rattle.sets.proofs.Digits.{dig-less, count-none}
 use Rattle.means_leaf.proofs.Forced.{directions, oriented-opposite}
 use Rattle.means_leaf.proofs.Reaches.{connected-ways, ways-connected}
@@ -25,7 +25,7 @@ module _ (taken s t : List Bool) where
   part-alike true x y z h = ap (λ (w : Bool). part true w z) (h refl)
   part-alike false x y z h = refl
 
-  pub six-alike : Alike taken s t → (k : ℕ) (zs : List ℤ) → sixFrom k zs taken s ≡ sixFrom k zs taken t
+  pub six-alike : SameTurned taken s t → (k : ℕ) (zs : List ℤ) → sixFrom k zs taken s ≡ sixFrom k zs taken t
   unfolding sixFrom
   six-alike h k [] = refl
   six-alike h k (z ∷ zs) = ap₂ _+ℤ_ (part-alike (dig taken k) (dig s k) (dig t k) z (h k)) (six-alike h (suc k) zs)
@@ -35,7 +35,7 @@ module _ (taken s t : List Bool) where
   part-opposite true x false z h = ap (λ (w : Bool). part true w z) (h refl)
   part-opposite false x y z h = refl
 
-  pub six-opposite : Opposite taken s t → (k : ℕ) (zs : List ℤ) → sixFrom k zs taken s ≡ negℤ (sixFrom k zs taken t)
+  pub six-opposite : TurnedRound taken s t → (k : ℕ) (zs : List ℤ) → sixFrom k zs taken s ≡ negℤ (sixFrom k zs taken t)
   unfolding sixFrom
   six-opposite h k [] = refl
   six-opposite h k (z ∷ zs) =
@@ -51,7 +51,7 @@ six-none taken t h k (z ∷ zs) = ap₂ _+ℤ_ (off (dig taken k) (h k)) (six-no
     off true n = absurd (n refl)
     off false n = refl
 
-pub turned-opposite : (taken t : List Bool) → Opposite taken (less taken t) t
+pub turned-opposite : (taken t : List Bool) → TurnedRound taken (less taken t) t
 turned-opposite taken t k h = dig-less taken t k ∙ ap (λ (x : Bool). x && not (dig t k)) h
 
 -- ---- the tests, one by one
@@ -64,8 +64,8 @@ picked false true false d v e = let z : _≡_ {A = ℕ} 0 1 = cc in absurd (omeg
 picked false true true false v e = let z : _≡_ {A = ℕ} 0 1 = cc in absurd (omega arith)
 picked false true true true v e = (refl, refl, refl, refl, e)
 
-module _ (t : Tables) (taken : List Bool) (same : length (t .masks) ≡ length (t .ups)) (two : InTwo (t .masks) taken) where
-  pub judged-solid : {ts : List Bool} {v : ℕ} → judged t taken ≡ Solid ts v → IsSolid t taken ts v
+module _ (t : Tables) (taken : List Bool) (same : length (t .masks) ≡ length (t .ups)) (two : MaskInTwo (t .masks) taken) where
+  pub judged-solid : {ts : List Bool} {v : ℕ} → judged t taken ≡ Solid ts v → MaskSolid t taken ts v
   unfolding judged facesFrom faces
   judged-solid {ts} {v} e =
       let q = picked (eqb (count taken) 0) (connected taken (faces (t .masks) (t .ups) taken))
@@ -78,7 +78,7 @@ module _ (t : Tables) (taken : List Bool) (same : length (t .masks) ≡ length (
       go : (z : ℤ) → sixFrom 0 (t .sixes) taken (faces (t .masks) (t .ups) taken .turned) ≡ z
           → weighed taken (faces (t .masks) (t .ups) taken .turned) z ≡ Solid ts v
           → Connected (t .masks) taken → oriented (t .masks) (t .ups) taken (faces (t .masks) (t .ups) taken .turned) ≡ true
-          → clearFrom 0 (t .clashes) taken ≡ true → IsSolid t taken ts v
+          → clearFrom 0 (t .clashes) taken ≡ true → MaskSolid t taken ts v
       go (pos zero) p w c o a = let z : _≡_ {A = ℕ} 0 1 = cc in absurd (omega arith)
       go (pos (suc n)) p w c o a =
           let d : faces (t .masks) (t .ups) taken .turned ≡ ts = cc in
@@ -93,7 +93,7 @@ module _ (t : Tables) (taken : List Bool) (same : length (t .masks) ≡ length (
       go (negsuc n) p w c o a =
           let d : less taken (faces (t .masks) (t .ups) taken .turned) ≡ ts = cc in
           let m : suc n ≡ v = cc in
-          let opp : Opposite taken (less taken (faces (t .masks) (t .ups) taken .turned))
+          let opp : TurnedRound taken (less taken (faces (t .masks) (t .ups) taken .turned))
           (faces (t .masks) (t .ups) taken .turned) = turned-opposite taken (faces (t .masks) (t .ups) taken .turned) in
           record {
             joined = c;
@@ -108,8 +108,8 @@ module _ (t : Tables) (taken : List Bool) (same : length (t .masks) ≡ length (
             above = omega arith;
           }
 
-  pub solid-judged : {ts : List Bool} {v : ℕ} → IsSolid t taken ts v → (us : List Bool) × (judged t taken ≡ Solid us v)
-      × Alike taken ts us
+  pub solid-judged : {ts : List Bool} {v : ℕ} → MaskSolid t taken ts v → (us : List Bool) × (judged t taken ≡ Solid us v)
+      × SameTurned taken ts us
   unfolding judged facesFrom faces
   solid-judged {ts} {v} s =
       let some : count taken ≡ 0 → ⊥ = λ e. zero-not (sym (six-none taken ts (count-none taken e) 0 (t .sixes)) ∙ s .volume) (s .above) in
@@ -121,12 +121,12 @@ module _ (t : Tables) (taken : List Bool) (same : length (t .masks) ≡ length (
       zero-not : pos 0 ≡ pos v → 0 < v → ⊥
       zero-not e h = let z : 0 ≡ v = cc in omega arith
 
-      go : (n : ℕ) → 0 < n → sixFrom 0 (t .sixes) taken ts ≡ pos n → Alike taken ts (faces (t .masks) (t .ups) taken .turned)
-          ⊎ Opposite taken ts (faces (t .masks) (t .ups) taken .turned)
+      go : (n : ℕ) → 0 < n → sixFrom 0 (t .sixes) taken ts ≡ pos n → SameTurned taken ts (faces (t .masks) (t .ups) taken .turned)
+          ⊎ TurnedRound taken ts (faces (t .masks) (t .ups) taken .turned)
           → (us : List Bool)
           × (weighed taken (faces (t .masks) (t .ups) taken .turned)
           (sixFrom 0 (t .sixes) taken (faces (t .masks) (t .ups) taken .turned))
-          ≡ Solid us n) × Alike taken ts us
+          ≡ Solid us n) × SameTurned taken ts us
       go zero h e d = absurd (omega arith)
       go (suc n) h e (inl a) = (
         faces (t .masks) (t .ups) taken .turned,

@@ -7,8 +7,8 @@ use native.Mathlib.Decide.{ℕ-discrete}
 use lib.Dec.{eqb}
 use Rattle.sets.specs.Word.{dig, Sub, count, first}
 use Rattle.sets.proofs.Digits.{never, dig-only, first-in}
-use Rattle.paper.specs.Solids.{Reach, fresh, known, runsDown, acrossEdge, pass, spread}
-use Rattle.means_leaf.specs.Meaning.{start, faces}
+use Rattle.paper.specs.Solids.{Reach, fresh, reachedOn, runsDown, acrossEdge, pass, spread}
+use Rattle.means_leaf.specs.Meaning.{fromLowestTaken, faces}
 use Rattle.means_leaf.proofs.Reaches.{pass-taken}
 use Rattle.means_leaf.proofs.Directions.{over-not, reached-dig, turned-dig, reached-within}
 
@@ -16,9 +16,9 @@ abbrev Fit : Reach → Type 0
 Fit r = Sub (r .turned) (r .reached)
 
 over-fit : (mask up taken : List Bool) (r : Reach) → Fit r → Fit (acrossEdge mask up taken r)
-over-fit mask up taken r f = go (ℕ-discrete (count (known mask taken r)) 1)
+over-fit mask up taken r f = go (ℕ-discrete (count (reachedOn mask taken r)) 1)
   where
-    go : Dec (count (known mask taken r) ≡ 1) → Fit (acrossEdge mask up taken r)
+    go : Dec (count (reachedOn mask taken r) ≡ 1) → Fit (acrossEdge mask up taken r)
     go (yes e) = λ k h. reached-dig mask up taken r e k
         ∙ reached-within (dig (r .turned) k) (dig (fresh mask taken r) k) (dig (r .reached) k)
         (cond (runsDown mask up taken r) (not (dig up k)) (dig up k)) (f k) (sym (turned-dig mask up taken r e k) ∙ h)
@@ -50,6 +50,6 @@ spread-safe (suc n) masks ups taken r f =
 pub turned-taken : (masks ups : List (List Bool)) (taken : List Bool) → (count taken ≡ 0 → ⊥) → Sub (faces masks ups taken .turned) taken
 unfolding faces
 turned-taken masks ups taken some k h =
-    let s = spread-safe (count taken) masks ups taken (start taken)
+    let s = spread-safe (count taken) masks ups taken (fromLowestTaken taken)
     (λ j p. never (sym p), λ j p. subst (λ (x : ℕ). dig taken x ≡ true) (sym (dig-only (first taken) j p)) (first-in taken some)) in
     s .1 k (s .0 k h)

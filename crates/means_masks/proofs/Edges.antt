@@ -14,11 +14,11 @@ use Rattle.sets.proofs.Digits.{never, dig-both, dig-less}
 use Rattle.paper.specs.Drawing.{Wire, Edge, edge}
 use Rattle.paper.specs.Loops.{Loop, loopAt}
 use Rattle.paper.specs.Solids.{runs, runsUp, has, unlike, onceEachWay}
-use Rattle.means_leaf.specs.Meaning.{On}
+use Rattle.means_leaf.specs.Meaning.{FaceOn}
 use Rattle.means_leaf.proofs.Unlike.{dig-unlike}
 use Rattle.means_leaf.proofs.Counts.{one-count, count-one-is, pair-count, count-pair}
 use Rattle.means_solid.specs.Proper.{AllProper}
-use Rattle.means_solid.specs.Solid.{Goes, Face, Runs, Has, InTwo, RunOnce, EachWay}
+use Rattle.means_solid.specs.Solid.{Goes, Face, Runs, HasSide, InTwo, RunOnce, EachWay}
 use Rattle.means_solid.proofs.Goes.{runs-goes, goes-runs, has-cases, cases-has, one-way, runs-nil, has-nil, up-nil, dig-map}
 use Rattle.means_solid.proofs.Goes.{ahead-one, back-one}
 
@@ -28,14 +28,14 @@ module _ (d : Wire) (cs : List Loop) (taken turned : List Bool) where
   pub on-dig : (e : Edge) (k : ℕ) → dig (both (map (has e) cs) taken) k ≡ (has e (loopAt cs k) && dig taken k)
   on-dig e k = dig-both (map (has e) cs) taken k ∙ ap (λ (x : Bool). x && dig taken k) (dig-map (has e) (has-nil e) cs k)
 
-  pub on-has : (e : Edge) (k : ℕ) → On (map (has e) cs) taken k → Face d cs taken turned k × Has d cs taken turned k e
+  pub on-has : (e : Edge) (k : ℕ) → FaceOn (map (has e) cs) taken k → Face d cs taken turned k × HasSide d cs taken turned k e
   on-has (edge a b) k p =
       let q : (has (edge a b) (loopAt cs k) && dig taken k) ≡ true = sym (on-dig (edge a b) k) ∙ p in (
         and-right (has (edge a b) (loopAt cs k)) (dig taken k) q,
         has-cases a b (loopAt cs k) (and-left (has (edge a b) (loopAt cs k)) (dig taken k) q),
       )
 
-  pub has-on : (e : Edge) (k : ℕ) → Face d cs taken turned k → Has d cs taken turned k e → On (map (has e) cs) taken k
+  pub has-on : (e : Edge) (k : ℕ) → Face d cs taken turned k → HasSide d cs taken turned k e → FaceOn (map (has e) cs) taken k
   has-on (edge a b) k f h = on-dig (edge a b) k ∙ and-both (cases-has a b (loopAt cs k) h) f
 
   -- ---- (i)

@@ -22,10 +22,10 @@ use Rattle.paper_laws.specs.Planes.{InOwnPlane}
 use Rattle.paper_laws.proofs.Wires.{polygon-at}
 use Rattle.means_clash.proofs.Either.{clash-either}
 use Rattle.means_leaf.specs.Meaning as Masks
-use Rattle.means_leaf.specs.Meaning.{In, On}
+use Rattle.means_leaf.specs.Meaning.{In, FaceOn}
 use Rattle.means_leaf.proofs.Spread.{in-place, place-in}
 use Rattle.means_solid.specs.Proper.{AllProper}
-use Rattle.means_solid.specs.Solid.{Face, InTwo, Way, stay, cross, EachWay, faceSum, sixOf}
+use Rattle.means_solid.specs.Solid.{Face, InTwo, Way, stay, cross, EachWay, faceSum, sixOfFaces}
 use Rattle.means_masks.proofs.Edges.{on-has, has-on, two-in, in-two, once-ways, ways-once}
 
 -- two candidates clash whichever is named first
@@ -76,32 +76,32 @@ module _ (d : Wire) (cs : List Loop) where
     abbrev pub EachTwo : Type 0
     EachTwo = (e : ℕ) → e < length (d .edges) → InTwo d cs taken turned (edgeAt d e)
 
-    pub two-masks : EachTwo → Masks.InTwo (tablesOf d cs .masks) taken
+    pub two-masks : EachTwo → Masks.MaskInTwo (tablesOf d cs .masks) taken
     two-masks f mask i =
         let r = in-mask mask i in
         ap (λ (m : List Bool). count (both m taken)) (r .2) ∙ in-two d cs taken turned (edgeAt d (r .0)) (f (r .0) (r .1))
 
-    pub masks-two : Masks.InTwo (tablesOf d cs .masks) taken → EachTwo
+    pub masks-two : Masks.MaskInTwo (tablesOf d cs .masks) taken → EachTwo
     masks-two f e h = two-in d cs taken turned (edgeAt d e) (f (map (has (edgeAt d e)) cs) (mask-in e h))
 
     -- ---- (ii)
 
-    pub way-through : {j k : ℕ} → Face d cs taken turned j → Masks.Way (tablesOf d cs .masks) taken j k → Way d cs taken turned j k
+    pub way-through : {j k : ℕ} → Face d cs taken turned j → Masks.MaskWay (tablesOf d cs .masks) taken j k → Way d cs taken turned j k
     way-through f Masks.stay = stay f
     way-through f (Masks.across mask g w i p q) = go (in-mask mask i) (way-through f w) p q
       where
         go : {j k : ℕ} → (e : ℕ) × (e < length (d .edges)) × (mask ≡ map (has (edgeAt d e)) cs) → Way d cs taken turned j g
-            → On mask taken g → On mask taken k → Way d cs taken turned j k
+            → FaceOn mask taken g → FaceOn mask taken k → Way d cs taken turned j k
         go {k = k} r w p q =
-            let a = on-has d cs taken turned (edgeAt d (r .0)) g (subst (λ (m : List Bool). On m taken g) (r .2) p) in
-            let b = on-has d cs taken turned (edgeAt d (r .0)) k (subst (λ (m : List Bool). On m taken k) (r .2) q) in
+            let a = on-has d cs taken turned (edgeAt d (r .0)) g (subst (λ (m : List Bool). FaceOn m taken g) (r .2) p) in
+            let b = on-has d cs taken turned (edgeAt d (r .0)) k (subst (λ (m : List Bool). FaceOn m taken k) (r .2) q) in
             cross w (r .0) (r .1) (a .1) (b .0) (b .1)
 
     way-end : {j k : ℕ} → Way d cs taken turned j k → Face d cs taken turned k
     way-end (stay f) = f
     way-end (cross w e l h f g) = f
 
-    pub through-way : {j k : ℕ} → Way d cs taken turned j k → Masks.Way (tablesOf d cs .masks) taken j k
+    pub through-way : {j k : ℕ} → Way d cs taken turned j k → Masks.MaskWay (tablesOf d cs .masks) taken j k
     through-way (stay f) = Masks.stay
     through-way (cross w e l h f g) =
         Masks.across (map (has (edgeAt d e)) cs) _ (through-way w) (mask-in e l)
@@ -123,12 +123,12 @@ module _ (d : Wire) (cs : List Loop) where
 
     -- ---- (iv)
 
-    six-from : (k : ℕ) (ls : List Loop) → sixFrom k (map faceSix (map (polygon d) ls)) taken turned ≡ sixOf d cs taken turned k ls
+    six-from : (k : ℕ) (ls : List Loop) → sixFrom k (map faceSix (map (polygon d) ls)) taken turned ≡ sixOfFaces d cs taken turned k ls
     unfolding sixFrom faceSum
     six-from k [] = refl
     six-from k (l ∷ ls) = ap (λ (z : ℤ). part (dig taken k) (dig turned k) (faceSix (polygon d l)) +ℤ z) (six-from (suc k) ls)
 
-    pub six-is : sixFrom 0 (tablesOf d cs .sixes) taken turned ≡ sixOf d cs taken turned 0 cs
+    pub six-is : sixFrom 0 (tablesOf d cs .sixes) taken turned ≡ sixOfFaces d cs taken turned 0 cs
     unfolding tablesOf
     six-is = six-from 0 cs
 

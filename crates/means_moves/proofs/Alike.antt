@@ -40,7 +40,7 @@ use Rattle.paper.specs.Numbers.{mostCorners}
 use Rattle.means_area.proofs.Loops.{loops-hold}
 use Rattle.means_loops.proofs.Listing.{bare-are}
 use Rattle.means_moves.specs.Moves.{HasPlane}
-use Rattle.means_moves.specs.Alike.{Ends, EndsBelow, AllBelow, AllPlane, Alike}
+use Rattle.means_moves.specs.Alike.{EdgeBelow, EndsBelow, AllBelow, AllPlane, Alike}
 use Rattle.means_moves.proofs.Below.{all-at, ext-same, ext-below}
 
 filter-below : (n : ℕ) (p : ℕ → Bool) (ls : List Loop) → AllBelow n ls → (ks : List ℕ) → AllBelow n (map (loopAt ls) (filter p ks))
@@ -102,11 +102,11 @@ module _ (d e : Wire) (h : Alike d e) where
       ∙ ap (λ (marks : List Bool). lowest (λ v. not (getD marks v false)) n) (reached-same n)
 
   module _ (ok : EndsBelow d) where
-    on-same : (x : Edge) (v : ℕ) → Ends n x → v < n → vertexOn e x v ≡ vertexOn d x v
+    on-same : (x : Edge) (v : ℕ) → EdgeBelow n x → v < n → vertexOn e x v ≡ vertexOn d x v
     unfolding vertexOn
     on-same (edge a b) v p q = h .on a b v (p .0, (p .1, (q, tt)))
 
-    meet-same : (x y : Edge) → Ends n x → Ends n y → edgesMeet e x y ≡ edgesMeet d x y
+    meet-same : (x y : Edge) → EdgeBelow n x → EdgeBelow n y → edgesMeet e x y ≡ edgesMeet d x y
     unfolding edgesMeet
     meet-same (edge a b) (edge u v) p q = h .meet a b u v (p .0, (p .1, (q .0, (q .1, tt))))
 

@@ -18,7 +18,7 @@ use Rattle.paper.specs.Loops.{Loop, loopAt, flipped, polygon, candidates}
 use Rattle.paper.specs.Solids.{faceSix, part}
 use Rattle.paper.specs.Verdict.{normalForm}
 use Rattle.paper.specs.Verdict.{onward as forward}
-use Rattle.means_solid.specs.Solid.{Goes, Runs, Has}
+use Rattle.means_solid.specs.Solid.{Goes, Runs, HasSide}
 use Rattle.means_solid.specs.Named.{SameRing, directed}
 use Rattle.means_loops.specs.Path.{ClosedPath}
 use Rattle.means_loops.proofs.Rings.{same-sym, flip-flip, flip-length, flip-same}
@@ -51,7 +51,7 @@ module _ (d : Wire) (cs : List Loop) (taken turned : List Bool) (k : ℕ) (two :
 
 -- an edge, by either direction
 module _ (d : Wire) (cs : List Loop) (taken turned : List Bool) (k a b : ℕ) where
-  pub has-runs : Has d cs taken turned k (edge a b) → Runs d cs taken turned k a b ⊎ Runs d cs taken turned k b a
+  pub has-runs : HasSide d cs taken turned k (edge a b) → Runs d cs taken turned k a b ⊎ Runs d cs taken turned k b a
   has-runs = go (dig turned k)
     where
       go : (t : Bool) → Goes (loopAt cs k) a b ⊎ Goes (loopAt cs k) b a
@@ -60,7 +60,7 @@ module _ (d : Wire) (cs : List Loop) (taken turned : List Bool) (k a b : ℕ) wh
       go true (inr g) = inl g
       go false h = h
 
-  pub runs-has : Runs d cs taken turned k a b ⊎ Runs d cs taken turned k b a → Has d cs taken turned k (edge a b)
+  pub runs-has : Runs d cs taken turned k a b ⊎ Runs d cs taken turned k b a → HasSide d cs taken turned k (edge a b)
   runs-has = go (dig turned k)
     where
       go : (t : Bool) → cond t (Goes (loopAt cs k) b a) (Goes (loopAt cs k) a b) ⊎ cond t (Goes (loopAt cs k) a b) (Goes (loopAt cs k) b a)

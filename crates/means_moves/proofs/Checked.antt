@@ -23,7 +23,7 @@ use Rattle.paper.specs.declared.Answer.{Answer}
 use Rattle.paper.specs.declared.Answer.the-variants as Answer
 use Rattle.means_area.specs.Flats.{Up}
 use Rattle.means_leaf.proofs.Solids.{turned-opposite}
-use Rattle.means_check.specs.Candidates.{Candidates}
+use Rattle.means_check.specs.Candidates.{ProperCandidates}
 use Rattle.means_check.proofs.Numbered.{numbersOf, takenOf, turnedOf, numbered}
 use Rattle.means_check.proofs.Demand.{drawing-fits}
 use Rattle.means_moves.specs.Moves.{Move}
@@ -164,7 +164,7 @@ module _ (m : Move) (d e : Wire) (points : e .vertices ≡ map (m .to) (d .verti
           (faceChecks (tablesOf d cs) (length cs) (listed cs fs))
       faces ends pass =
           unfold candidates listed in
-          let c : Candidates d cs = drawing-fits d pass in
+          let c : ProperCandidates d cs = drawing-fits d pass in
           let numbers : numbersOf cs gs ≡ numbersOf cs fs = numbers-round d cs c fs gs turned in
           faces-round (tablesOf d cs) (tablesOf e cs) (masks m d e points edges ends pass) (ups m d e points edges ends pass)
           (clashes m d e points edges ends pass) (length cs) (listed cs fs) (listed cs gs) numbers (ap (maskOf (length cs)) numbers)

@@ -22,26 +22,26 @@ use Rattle.means_moves.proofs.Factors.{one-up, minus-one, minus-one-rea
 use Rattle.means_moves.proofs.Tests.{none-by, still-by}
 use Rattle.means_moves.proofs.Corners.{normal-moved, seen-moved}
 use Rattle.paper_laws.specs.Planes.{OnPlane}
-use Rattle.means_moves.specs.Moves.{Pair, XY, YZ, exchange, HasPlane, Linear}
+use Rattle.means_moves.specs.Moves.{Axes, XY, YZ, exchange, HasPlane, Linear}
 use Rattle.means_moves.proofs.Swap.{swap, where-swap}
 
 -- what is across two directions
-abbrev pub opposed : Pair → Point → Point
+abbrev pub opposed : Axes → Point → Point
 opposed e p = minus origin (exchange e p)
 
 -- ---- sums and products
 
-pub plus-exchange : (e : Pair) (p q : Point) → plus (exchange e p) (exchange e q) ≡ exchange e (plus p q)
+pub plus-exchange : (e : Axes) (p q : Point) → plus (exchange e p) (exchange e q) ≡ exchange e (plus p q)
 unfolding plus
 plus-exchange XY p q = refl
 plus-exchange YZ p q = refl
 
-pub times-exchange : (e : Pair) (k : ℤ) (p : Point) → times k (exchange e p) ≡ exchange e (times k p)
+pub times-exchange : (e : Axes) (k : ℤ) (p : Point) → times k (exchange e p) ≡ exchange e (times k p)
 unfolding times
 times-exchange XY k p = refl
 times-exchange YZ k p = refl
 
-pub dot-exchange : (e : Pair) (p q : Point) → dot (exchange e p) (exchange e q) ≡ dot p q
+pub dot-exchange : (e : Axes) (p q : Point) → dot (exchange e p) (exchange e q) ≡ dot p q
 unfolding dot
 dot-exchange XY p q =
     ring (p .x ∷ p .y ∷ p .z ∷ q .x ∷ q .y ∷ q .z ∷ []) (var 1 ⊗ var 4 ⊕ var 0 ⊗ var 3 ⊕ var 2 ⊗ var 5)
@@ -50,15 +50,15 @@ dot-exchange YZ p q =
     ring (p .x ∷ p .y ∷ p .z ∷ q .x ∷ q .y ∷ q .z ∷ []) (var 0 ⊗ var 3 ⊕ var 2 ⊗ var 5 ⊕ var 1 ⊗ var 4)
     (var 0 ⊗ var 3 ⊕ var 1 ⊗ var 4 ⊕ var 2 ⊗ var 5) tt
 
-dot-opposed : (e : Pair) (p q : Point) → dot (opposed e p) (opposed e q) ≡ dot p q
+dot-opposed : (e : Axes) (p q : Point) → dot (opposed e p) (opposed e q) ≡ dot p q
 dot-opposed e p q =
     vring (vec (exchange e p) ∷ vec (exchange e q) ∷ []) ((o -v v 0) · (o -v v 1)) (v 0 · v 1) tt ∙ dot-exchange e p q
 
-pub dot-turns : (e : Pair) (n p : Point) → dot (opposed e n) (exchange e p) ≡ negℤ (dot n p)
+pub dot-turns : (e : Axes) (n p : Point) → dot (opposed e n) (exchange e p) ≡ negℤ (dot n p)
 dot-turns e n p =
     vring (vec (exchange e n) ∷ vec (exchange e p) ∷ []) ((o -v v 0) · v 1) (negs (v 0 · v 1)) tt ∙ ap negℤ (dot-exchange e n p)
 
-pub cross-exchange : (e : Pair) (p q : Point) → cross (exchange e p) (exchange e q) ≡ opposed e (cross p q)
+pub cross-exchange : (e : Axes) (p q : Point) → cross (exchange e p) (exchange e q) ≡ opposed e (cross p q)
 unfolding cross minus
 cross-exchange e p q = go e
   where
@@ -66,19 +66,19 @@ cross-exchange e p q = go e
     other a b c d =
         ring (a ∷ b ∷ c ∷ d ∷ []) (var 0 ⊗ var 1 ⊖ var 2 ⊗ var 3) (con (pos 0) ⊖ (var 2 ⊗ var 3 ⊖ var 0 ⊗ var 1)) tt
 
-    go : (e : Pair) → cross (exchange e p) (exchange e q) ≡ opposed e (cross p q)
+    go : (e : Axes) → cross (exchange e p) (exchange e q) ≡ opposed e (cross p q)
     go XY = λ i. pt (other (p .x) (q .z) (p .z) (q .x) i) (other (p .z) (q .y) (p .y) (q .z) i) (other (p .y) (q .x) (p .x) (q .y) i)
     go YZ = λ i. pt (other (p .z) (q .y) (p .y) (q .z) i) (other (p .y) (q .x) (p .x) (q .y) i) (other (p .x) (q .z) (p .z) (q .x) i)
 
-pub opposed-sums : (e : Pair) (p q : Point) → plus (opposed e p) (opposed e q) ≡ opposed e (plus p q)
+pub opposed-sums : (e : Axes) (p q : Point) → plus (opposed e p) (opposed e q) ≡ opposed e (plus p q)
 opposed-sums e p q =
     vring (vec (exchange e p) ∷ vec (exchange e q) ∷ []) ((o -v v 0) +v (o -v v 1)) (o -v (v 0 +v v 1)) tt
     ∙ ap (minus origin) (plus-exchange e p q)
 
-pub opposed-once : (e : Pair) (p q : Point) → dot (opposed e p) (opposed e q) ≡ pos 1 *ℤ dot p q
+pub opposed-once : (e : Axes) (p q : Point) → dot (opposed e p) (opposed e q) ≡ pos 1 *ℤ dot p q
 opposed-once e p q = dot-opposed e p q ∙ sym (one-*ℤ (dot p q))
 
-normal-exchange : (e : Pair) (g : Polygon) → normal (map (exchange e) g) ≡ opposed e (normal g)
+normal-exchange : (e : Axes) (g : Polygon) → normal (map (exchange e) g) ≡ opposed e (normal g)
 normal-exchange e =
     normal-moved (exchange e) (opposed e) (cross-exchange e)
     (opposed-sums e) (still-by (opposed e) (pos 1) one-up (opposed-once e))
@@ -94,13 +94,13 @@ where-shape true p d h g = where-swap p d h g
 where-shape false p d h g = ap (whereFlat p d) (map-id g)
 
 -- along a is seen what was seen along another axis, exchanged or not
-record View (e : Pair) (a : Axis) : Type 0 where
+record View (e : Axes) (a : Axis) : Type 0 where
   from : Axis
   swapped : Bool
   along : (p : Point) → through a (exchange e p) ≡ through from p
   sees : (p : Point) → seen a (exchange e p) ≡ shape swapped (seen from p)
 
-view : (e : Pair) (a : Axis) → View e a
+view : (e : Axes) (a : Axis) → View e a
 unfolding seen
 view XY AlongX = record { from = AlongY; swapped = false; along = λ p. refl; sees = λ p. refl }
 view XY AlongY = record { from = AlongX; swapped = false; along = λ p. refl; sees = λ p. refl }
@@ -109,7 +109,7 @@ view YZ AlongX = record { from = AlongX; swapped = true; along = λ p. refl; see
 view YZ AlongY = record { from = AlongZ; swapped = false; along = λ p. refl; sees = λ p. refl }
 view YZ AlongZ = record { from = AlongY; swapped = false; along = λ p. refl; sees = λ p. refl }
 
-pub lies-exchange : (e : Pair) (d : ℤ) → Up d → (p : Point) (g : Polygon) → HasPlane g → OnPlane g p d
+pub lies-exchange : (e : Axes) (d : ℤ) → Up d → (p : Point) (g : Polygon) → HasPlane g → OnPlane g p d
     → lies (over (exchange e p) d) (map (exchange e) g) ≡ lies (over p d) g
 unfolding lies
 lies-exchange e d h p g has on = go (axis (normal (map (exchange e) g))) (axis-real (normal (map (exchange e) g)) turned)
@@ -136,7 +136,7 @@ lies-exchange e d h p g has on = go (axis (normal (map (exchange e) g))) (axis-r
         (λ z. off (ap (through a) (normal-exchange e g) ∙ through-minus a (exchange e (normal g))
         ∙ ap (λ (y : ℤ). pos 0 -ℤ y) (s .along (normal g) ∙ z))) d h p on)
 
-unfoldable pub exchanges : Pair → Linear
+unfoldable pub exchanges : Axes → Linear
 exchanges e = record {
   to = exchange e;
   across = opposed e;

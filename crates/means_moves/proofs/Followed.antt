@@ -42,7 +42,7 @@ use Rattle.means_report.specs.Report.{solidsFor}
 use Rattle.means_report.proofs.Report.{solids-told}
 use Rattle.means_moves.specs.Moves.{Move}
 use Rattle.means_moves.specs.Alike.{Alike, EndsBelow}
-use Rattle.means_moves.specs.Turned.{turnsBy, carried, Judged, fail, solid, Follows}
+use Rattle.means_moves.specs.Turned.{turnsBy, carried, Judged, fail, solid, FollowsMoved}
 use Rattle.paper_laws.proofs.Behind.{orElse, else-same, first-fine, second-fine}
 use Rattle.means_moves.proofs.Alike.{checks-same, loops-same}
 use Rattle.means_moves.proofs.Moved.{moved-alike}
@@ -104,7 +104,7 @@ module _ (turns : Bool) (by : ℕ) where
         (sym (length-map (map (entry t) l) (carried turns by) ∙ length-map l (entry t)))
 
     reported-other : (l : ℕ) (cs : List Loop) (work : ℕ) (found : List (List Status)) (faces solids : List ℕ) → Good found
-        → Follows turns by solids (reported l cs t work found faces solids) (reported l cs u work found faces solids)
+        → FollowsMoved turns by solids (reported l cs t work found faces solids) (reported l cs u work found faces solids)
     unfolding reported
     reported-other l cs work [] faces solids g =
         record { answers = refl; rows = refl; es = []; count = refl; words = none-for solids; moved = none-for solids }
@@ -127,7 +127,7 @@ module _ (turns : Bool) (by : ℕ) where
 
     concluded-other : (l : ℕ) (cs : List Loop) (log : Log) (faces solids : List ℕ) → (log .ended ≡ 0 → Good (log .found))
         → (log .ended ≡ 0) ⊎ ((log .ended ≡ No.Many) ⊎ (log .ended ≡ No.TooLong))
-        → Follows turns by solids (concluded l cs t log faces solids) (concluded l cs u log faces solids)
+        → FollowsMoved turns by solids (concluded l cs t log faces solids) (concluded l cs u log faces solids)
     unfolding concluded
     concluded-other l cs log faces solids g (inl e) = rw e (reported-other l cs (log .work) (log .found) faces solids (g e))
     concluded-other l cs log faces solids g (inr (inl e)) =
@@ -135,8 +135,8 @@ module _ (turns : Bool) (by : ℕ) where
     concluded-other l cs log faces solids g (inr (inr e)) =
         rw e (record { answers = refl; rows = refl; es = []; count = refl; words = none-for solids; moved = none-for solids })
 
-  convert-other : (a : Answer) (faces solids : List ℕ) (x y : Converted) → (Answer.Fine ≡ a → Follows turns by solids x y)
-      → Follows turns by solids (orConvert a faces solids x) (orConvert a faces solids y)
+  convert-other : (a : Answer) (faces solids : List ℕ) (x y : Converted) → (Answer.Fine ≡ a → FollowsMoved turns by solids x y)
+      → FollowsMoved turns by solids (orConvert a faces solids x) (orConvert a faces solids y)
   convert-other Answer.Fine faces solids x y h = h refl
   convert-other (Answer.Refused r) faces solids x y h =
       record { answers = refl; rows = refl; es = []; count = refl; words = none-for solids; moved = none-for solids }
@@ -194,7 +194,7 @@ module _ (m : Move) (d e : Wire) (points : e .vertices ≡ map (m .to) (d .verti
     walked : Tree (tablesOf d cs .masks) (replicate (length cs) Undecided)
     walked = tree (tablesOf d cs .masks) (replicate (length cs) Undecided)
 
-    by-tables : Follows turns by solids (under d cs) (concluded (length (loops d)) cs (tablesOf e cs) log faces solids)
+    by-tables : FollowsMoved turns by solids (under d cs) (concluded (length (loops d)) cs (tablesOf e cs) log faces solids)
     by-tables =
         concluded-other turns by (tablesOf d cs) (tablesOf e cs) other (length (loops d)) cs log faces solids
         (λ z. subst (Good turns by (tablesOf d cs) (tablesOf e cs) other)
@@ -211,13 +211,13 @@ module _ (m : Move) (d e : Wire) (points : e .vertices ≡ map (m .to) (d .verti
         (masks m d e points edges ends-ok pass i)) faces
         solids)
 
-    followed : Follows turns by solids (under d cs) (under e (uncovering e (loops e)))
-    followed = subst (Follows turns by solids (under d cs)) (sym own) by-tables
+    followed : FollowsMoved turns by solids (under d cs) (under e (uncovering e (loops e)))
+    followed = subst (FollowsMoved turns by solids (under d cs)) (sym own) by-tables
 
-  pub conversion-moved : Follows turns by solids (conversion cap form d limit faces solids) (conversion cap form′ e limit faces solids)
+  pub conversion-moved : FollowsMoved turns by solids (conversion cap form d limit faces solids) (conversion cap form′ e limit faces solids)
   unfolding conversion
   conversion-moved =
-      subst (λ (a : Answer). Follows turns by solids (orConvert (firstOf (checksOf limit faces solids form d)) faces solids (under d cs))
+      subst (λ (a : Answer). FollowsMoved turns by solids (orConvert (firstOf (checksOf limit faces solids form d)) faces solids (under d cs))
       (orConvert a faces solids (under e (uncovering e (loops e))))) (sym answer-same)
       (convert-other turns by (firstOf (checksOf limit faces solids form d)) faces solids (under d cs) (under e (uncovering e (loops e)))
       (λ p. followed (ok (fine-form limit faces solids form d p)) (fine-drawing limit faces solids form d p)))

@@ -17,14 +17,14 @@ use Rattle.means_loops.proofs.Rings.{same-sym, same-trans}
 use Rattle.means_loops.proofs.Listing.{loops-are, loops-all, loops-once, candidates-are, candidates-once, loop-normal}
 use Rattle.means_loops.proofs.OwnPlane.{candidates-flat}
 use Rattle.means_masks.proofs.Tables.{flat-even}
-use Rattle.means_check.specs.Candidates.{Candidates}
+use Rattle.means_check.specs.Candidates.{ProperCandidates}
 use Rattle.means_check.specs.Bodies.{Among, SameBody}
 use Rattle.means_check.specs.Sent.{faceList}
 use Rattle.means_check.proofs.Numbers.{number-at, number-in}
 use Rattle.means_check.proofs.Bodies.{faceList-names}
 use Rattle.means_check.proofs.Picked.{inside}
 use Rattle.means_moves.specs.Renumbered.{BothWays}
-use Rattle.means_moves.specs.Kept.{Twin, Kept}
+use Rattle.means_moves.specs.Kept.{Twin, KeptSolids}
 use Rattle.means_moves.proofs.Renamed.{same-map, renumbered-back}
 use Rattle.means_moves.proofs.Matched.{loop-over, over-back, fwd, back, back-fwd}
 use Rattle.means_moves.proofs.Sums.{Match, as-many}
@@ -65,7 +65,7 @@ module _ {new old : ℕ → ℕ} {d e : Wire} (r : BothWays new old d e) (one : 
 
 -- ---- the same body
 
-pub fit : (d : Wire) → samePlace d ≡ none → Candidates d (candidates d)
+pub fit : (d : Wire) → samePlace d ≡ none → ProperCandidates d (candidates d)
 fit d e = record {
   normal = λ k h. loop-normal d (loopAt (candidates d) k) (candidates-are d k h .loop);
   differ = candidates-once d;
@@ -135,7 +135,7 @@ module _ {new old : ℕ → ℕ} {d e : Wire} (r : BothWays new old d e) (one : 
   twin : Twin new d e taken turned six
   twin = record { taken-there = nt; turned-there = nu; solid = solid-over r one two taken turned s; body = body-over }
 
-pub kept : {new old : ℕ → ℕ} {d e : Wire} → BothWays new old d e → samePlace d ≡ none → samePlace e ≡ none → Kept new d e
+pub kept : {new old : ℕ → ℕ} {d e : Wire} → BothWays new old d e → samePlace d ≡ none → samePlace e ≡ none → KeptSolids new d e
 kept r one two = record {
   loops-too = as-many (loops-match r one two);
   candidates-too = as-many (matched r one two);

@@ -8,7 +8,7 @@ use Rattle.exact.proofs.Signs.{pos-ne}
 use Rattle.paper.specs.Points.{dot}
 use Rattle.paper.specs.Polygon.{over, lies}
 use Rattle.paper.specs.declared.Point.{Point}
-use Rattle.means_moves.specs.Moves.{Step, mirroring, exchanging, step, laid, oddly, Move, Linear}
+use Rattle.means_moves.specs.Moves.{Step, mirroring, exchanging, laidStep, laid, oddly, Move, Linear}
 use Rattle.means_moves.proofs.Factors.{one-up}
 use Rattle.means_moves.proofs.Mirror.{mirrors}
 use Rattle.means_moves.proofs.Exchange.{exchanges}
@@ -45,7 +45,7 @@ unfolding stepping
 laying [] = linear still
 laying (s ∷ ss) = both (stepping s) (laying ss)
 
-step-to : (s : Step) (p : Point) → stepping s .to p ≡ step s p
+step-to : (s : Step) (p : Point) → stepping s .to p ≡ laidStep s p
 unfolding stepping linear mirrors exchanges
 step-to mirroring p = refl
 step-to (exchanging e) p = refl
@@ -58,7 +58,7 @@ step-turns (exchanging e) = refl
 pub laid-to : (ss : List Step) (p : Point) → laying ss .to p ≡ laid ss p
 unfolding laying linear still both
 laid-to [] p = refl
-laid-to (s ∷ ss) p = ap (laying ss .to) (step-to s p) ∙ laid-to ss (step s p)
+laid-to (s ∷ ss) p = ap (laying ss .to) (step-to s p) ∙ laid-to ss (laidStep s p)
 
 pub laid-turns : (ss : List Step) → laying ss .sides-by ≡ cond (oddly ss) (negsuc 0) (pos 1)
 unfolding laying linear still both

@@ -28,9 +28,9 @@ use Rattle.paper.specs.declared.Answer.the-variants.{Fine}
 use Rattle.paper.specs.declared.Point.{Point}
 use Rattle.means_drawing.specs.Drawings.{Rising, start, stop}
 use Rattle.means_moves.specs.Moves.{mirror, Move}
-use Rattle.means_moves.specs.Alike.{Ends, EndsBelow}
-use Rattle.means_moves.specs.Lists.{eachVertex, Near}
-use Rattle.means_moves.specs.Turned.{turnsBy, Follows}
+use Rattle.means_moves.specs.Alike.{EdgeBelow, EndsBelow}
+use Rattle.means_moves.specs.Lists.{eachVertex, WithinRange}
+use Rattle.means_moves.specs.Turned.{turnsBy, FollowsMoved}
 use Rattle.means_moves.specs.TurnedRound.{AllTurned}
 use Rattle.means_moves.proofs.Followed.{conversion-moved}
 use Rattle.means_moves.proofs.Checked.{verdict-kept, verdict-round}
@@ -90,7 +90,7 @@ checks-lent f xyz xyz′ ends e h =
     ∷ check No.BadCount (offends (badCount 2 leastEdges (f .«most_edges») (length ends)) 1)
     ∷ check No.BadCoordinate o ∷ edgeChecks (length xyz / 3) ends) h
 
-pub forms-near : (f : Point → Point) (xyz : List ℤ) (ends : List ℕ) → Near xyz → Near (eachVertex f xyz)
+pub forms-near : (f : Point → Point) (xyz : List ℤ) (ends : List ℕ) → WithinRange xyz → WithinRange (eachVertex f xyz)
     → firstOf (lentChecks editionOne (eachVertex f xyz) ends) ≡ firstOf (lentChecks editionOne xyz ends)
 unfolding farAt
 forms-near f xyz ends a b =
@@ -111,7 +111,7 @@ forms-mirror xyz ends =
 pub rising-below : (d : Wire) → Rising d → EndsBelow d
 rising-below d r k h = go (edgeAt d k) (r k h)
   where
-    go : (x : Edge) → (start x < stop x) × (stop x < length (d .vertices)) → Ends (length (d .vertices)) x
+    go : (x : Edge) → (start x < stop x) × (stop x < length (d .vertices)) → EdgeBelow (length (d .vertices)) x
     go (edge a b) p = (omega (arith, p .0, p .1), p .1)
 
 -- ---- drawings of which 3 to 10 say the same, each in its own form
@@ -136,7 +136,7 @@ module _ (m : Move) (form form′ : List Check) (forms : firstOf form′ ≡ fir
   below p = rising-below d (rising p)
 
   pub either-follows : (cap limit : ℕ) (faces solids : List ℕ)
-      → Follows (turnsBy (m .sides-by)) (natAbs (m .sides-by)) solids (conversion cap form d limit faces solids)
+      → FollowsMoved (turnsBy (m .sides-by)) (natAbs (m .sides-by)) solids (conversion cap form d limit faces solids)
       (conversion cap form′ e limit faces solids)
   either-follows cap limit faces solids = conversion-moved m d e vertices links cap limit faces solids form form′ forms below
 

@@ -13,8 +13,8 @@ use Rattle.paper.specs.declared.Point.{Point}
 use Rattle.paper.specs.declared.Flat.{Flat}
 use Rattle.paper.specs.declared.Axis.{Axis}
 use Rattle.paper.specs.declared.Axis.the-variants.{AlongX, AlongY, AlongZ}
-use Rattle.means_area.specs.Flats.{Up, turn}
-use Rattle.means_inside.specs.Beams.{walk, round, beam, right, east, odd}
+use Rattle.means_area.specs.Flats.{Up, twiceArea}
+use Rattle.means_inside.specs.Beams.{oddAlong, round, beam, right, east, odd}
 use Rattle.means_inside.specs.Convex.{rights}
 use Rattle.means_inside.specs.Means.{big}
 use Rattle.means_inside.proofs.Mirror as Ray
@@ -54,15 +54,15 @@ module _ (p : Flat) (d : ℤ) where
 
   -- the ray to the one side in the mirror is the ray to the other
   right-other : (a : Flat) → right (other p) (east (other p)) (big d (other a)) ≡ right p (east p) (big d a)
-  unfolding right turn
+  unfolding right twiceArea
   right-other a =
       ap (λ (z : ℤ). leZ z (pos 0))
       (ring (p .u ∷ p .v ∷ d ∷ a .u ∷ a .v ∷ [])
       ((neg (var 0) ⊕ con (pos 1) ⊖ neg (var 0)) ⊗ (var 2 ⊗ var 4 ⊖ var 1) ⊖ (var 1 ⊖ var 1) ⊗ (var 2 ⊗ neg (var 3) ⊖ neg (var 0)))
       ((var 0 ⊕ con (pos 1) ⊖ var 0) ⊗ (var 2 ⊗ var 4 ⊖ var 1) ⊖ (var 1 ⊖ var 1) ⊗ (var 2 ⊗ var 3 ⊖ var 0)) tt)
 
-  turned-other : (a b : Flat) → turn (big d (other a)) (big d (other b)) (other p) ≡ negℤ (turn (big d a) (big d b) p)
-  unfolding turn
+  turned-other : (a b : Flat) → twiceArea (big d (other a)) (big d (other b)) (other p) ≡ negℤ (twiceArea (big d a) (big d b) p)
+  unfolding twiceArea
   turned-other a b =
       ring (p .u ∷ p .v ∷ d ∷ a .u ∷ a .v ∷ b .u ∷ b .v ∷ [])
       ((var 2 ⊗ neg (var 5) ⊖ var 2 ⊗ neg (var 3)) ⊗ (var 1 ⊖ var 2 ⊗ var 4)
@@ -75,8 +75,8 @@ module _ (p : Flat) (d : ℤ) where
   beam-other a b = λ i. meetsRay (right-other a i) (right-other b i) (turned-other a b i)
 
   walk-other : (x : Flat) (l : List Flat) (e : Flat)
-      → walk (beam (other p) (east (other p))) (big d (other x)) (map (big d) (map other l)) (big d (other e))
-      ≡ walk (Ray.mirrored rights p (east p)) (big d x) (map (big d) l) (big d e)
+      → oddAlong (beam (other p) (east (other p))) (big d (other x)) (map (big d) (map other l)) (big d (other e))
+      ≡ oddAlong (Ray.mirrored rights p (east p)) (big d x) (map (big d) l) (big d e)
   walk-other x [] e = beam-other x e
   walk-other x (y ∷ l) e = λ i. xor (beam-other x y i) (walk-other y l e i)
 

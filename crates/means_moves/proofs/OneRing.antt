@@ -17,7 +17,7 @@ use Rattle.paper.specs.declared.Point.{Point}
 use Rattle.paper_laws.specs.Planes.{InOwnPlane}
 use Rattle.paper_laws.proofs.Turned.{middle-turned, pierced-turned}
 use Rattle.means_solid.specs.Named.{SameRing}
-use Rattle.means_moves.specs.Rings.{onward, backward, OneRing}
+use Rattle.means_moves.specs.Rings.{turnedOn, backward, OneRing}
 use Rattle.means_moves.proofs.Factors.{one-up, two-up}
 use Rattle.means_moves.proofs.Faces.{opposite-up, all-sides}
 use Rattle.means_moves.proofs.Starts.{map-backward, onward-ring, backward-ring, six-onward, six-backward}
@@ -134,7 +134,7 @@ pub record Start (g h : Polygon) : Type 0 where
   pub six : faceSix h ≡ faceSix g
 
 pub any-start : (u w : List Point) → InOwnPlane (u ++ w) → Start (u ++ w) (w ++ u)
-unfolding onward
+unfolding turnedOn
 any-start [] w e = subst (Start w) (sym (append-nil w)) (record { ring = ring-same w; six = refl })
 any-start (x ∷ u) w e =
     let r : OneRing (x ∷ (u ++ w)) ((u ++ w) ++ x ∷ []) = onward-ring (x ∷ (u ++ w)) e in

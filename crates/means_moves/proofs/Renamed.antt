@@ -18,7 +18,7 @@ use Rattle.means_loops.specs.Path.{EdgeOf, ClosedPath}
 use Rattle.means_loops.specs.Plane.{InPlane}
 use Rattle.means_loops.proofs.Rings.{parts, same-parts}
 use Rattle.means_loops.proofs.OwnPlane.{own-plane}
-use Rattle.means_moves.specs.Alike.{Below, Ends}
+use Rattle.means_moves.specs.Alike.{Below, EdgeBelow}
 use Rattle.means_moves.specs.Rings.{backward}
 use Rattle.means_moves.specs.Renumbered.{BothWays}
 use Rattle.means_moves.proofs.Starts.{map-backward}
@@ -76,14 +76,14 @@ path-own d f c = own-plane (polygon d f) (c .plane) (omega (arith, c .three, len
 
 module _ {new old : ℕ → ℕ} {d e : Wire} (r : BothWays new old d e) where
   pub edge-low : (a b : ℕ) → EdgeOf d a b → (a < length (d .vertices)) × (b < length (d .vertices))
-  edge-low a b (i, h, inl p) = subst (Ends (length (d .vertices))) p (r .ends i h)
-  edge-low a b (i, h, inr p) = let q = subst (Ends (length (d .vertices))) p (r .ends i h) in (q .1, q .0)
+  edge-low a b (i, h, inl p) = subst (EdgeBelow (length (d .vertices))) p (r .ends i h)
+  edge-low a b (i, h, inr p) = let q = subst (EdgeBelow (length (d .vertices))) p (r .ends i h) in (q .1, q .0)
 
   pub edge-high : (x y : ℕ) → EdgeOf e x y → (x < length (d .vertices)) × (y < length (d .vertices))
   edge-high x y (i, h, inl p) =
-      let q = subst (Ends (length (e .vertices))) p (r .ends-too i h) in (omega (arith, q .0, r .as-many), omega (arith, q .1, r .as-many))
+      let q = subst (EdgeBelow (length (e .vertices))) p (r .ends-too i h) in (omega (arith, q .0, r .as-many), omega (arith, q .1, r .as-many))
   edge-high x y (i, h, inr p) =
-      let q = subst (Ends (length (e .vertices))) p (r .ends-too i h) in (omega (arith, q .1, r .as-many), omega (arith, q .0, r .as-many))
+      let q = subst (EdgeBelow (length (e .vertices))) p (r .ends-too i h) in (omega (arith, q .1, r .as-many), omega (arith, q .0, r .as-many))
 
   pub edge-over : (a b : ℕ) → EdgeOf d a b → EdgeOf e (new a) (new b)
   edge-over a b h = let l = edge-low a b h in r .edges a b (l .0) (l .1) .0 h

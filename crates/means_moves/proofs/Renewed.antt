@@ -13,7 +13,7 @@ use Rattle.paper.specs.Points.{dot}
 use Rattle.paper.specs.Drawing.{Wire, Edge, edge, edgeAt, samePlace}
 use Rattle.paper.specs.Loops.{Loop, loopAt, polygon, candidates}
 use Rattle.paper.specs.Solids.{faceSix}
-use Rattle.means_solid.specs.Solid.{Runs, Has, InTwo, Way, stay, cross, RunOnce, EachWay, sixOf, IsSolid}
+use Rattle.means_solid.specs.Solid.{Runs, HasSide, InTwo, Way, stay, cross, RunOnce, EachWay, sixOfFaces, IsSolid}
 use Rattle.means_loops.specs.Path.{EdgeOf}
 use Rattle.means_loops.proofs.Places.{edge-back}
 use Rattle.means_loops.proofs.Listing.{candidates-are}
@@ -44,7 +44,7 @@ use Rattle.means_moves.proofs.Carried.{
 -- ---- edges of a solid, by their ends in any order
 
 module _ (d : Wire) (cs : List Loop) (taken turned : List Bool) {six : ℕ} (s : IsSolid d cs taken turned six) where
-  has-back : (k a b : ℕ) → Has d cs taken turned k (edge a b) → Has d cs taken turned k (edge b a)
+  has-back : (k a b : ℕ) → HasSide d cs taken turned k (edge a b) → HasSide d cs taken turned k (edge b a)
   has-back k a b (inl g) = inr g
   has-back k a b (inr g) = inl g
 
@@ -107,8 +107,8 @@ module _ {new old : ℕ → ℕ} {d e : Wire} (r : BothWays new old d e) (one : 
       runs-under r one two taken turned (of j) (low (of j) (face-of j f)) (face-of j f) x y
       (subst (λ (i : ℕ). Runs e (candidates e) nt nu i x y) (sym (to-of j f)) g)
 
-  over-has : (k : ℕ) → dig taken k ≡ true → (a b : ℕ) → Has d (candidates d) taken turned k (edge a b)
-      → Has e (candidates e) nt nu (to k) (edge (new a) (new b))
+  over-has : (k : ℕ) → dig taken k ≡ true → (a b : ℕ) → HasSide d (candidates d) taken turned k (edge a b)
+      → HasSide e (candidates e) nt nu (to k) (edge (new a) (new b))
   over-has k f a b h = runs-has e (candidates e) nt nu (to k) (new a) (new b) (go (has-runs d (candidates d) taken turned k a b h))
     where
       go : Runs d (candidates d) taken turned k a b ⊎ Runs d (candidates d) taken turned k b a
@@ -116,8 +116,8 @@ module _ {new old : ℕ → ℕ} {d e : Wire} (r : BothWays new old d e) (one : 
       go (inl g) = inl (over-run k f a b g)
       go (inr g) = inr (over-run k f b a g)
 
-  under-has : (j : ℕ) → dig nt j ≡ true → (x y : ℕ) → Has e (candidates e) nt nu j (edge x y)
-      → Has d (candidates d) taken turned (of j) (edge (old x) (old y))
+  under-has : (j : ℕ) → dig nt j ≡ true → (x y : ℕ) → HasSide e (candidates e) nt nu j (edge x y)
+      → HasSide d (candidates d) taken turned (of j) (edge (old x) (old y))
   under-has j f x y h = runs-has d (candidates d) taken turned (of j) (old x) (old y) (go (has-runs e (candidates e) nt nu j x y h))
     where
       go : Runs e (candidates e) nt nu j x y ⊎ Runs e (candidates e) nt nu j y x
@@ -147,16 +147,16 @@ module _ {new old : ℕ → ℕ} {d e : Wire} (r : BothWays new old d e) (one : 
       w : Ends x y
       w = ends x y h
 
-      has : (k : ℕ) → dig taken k ≡ true → Has d (candidates d) taken turned k (edge (old x) (old y)) → Has e (candidates e) nt nu (to k)
+      has : (k : ℕ) → dig taken k ≡ true → HasSide d (candidates d) taken turned k (edge (old x) (old y)) → HasSide e (candidates e) nt nu (to k)
           (edge x y)
       has k f g =
-          subst (λ (a : ℕ). Has e (candidates e) nt nu (to k) (edge a y)) (w .first)
-          (subst (λ (b : ℕ). Has e (candidates e) nt nu (to k) (edge (new (old x)) b)) (w .second) (over-has k f (old x) (old y) g))
+          subst (λ (a : ℕ). HasSide e (candidates e) nt nu (to k) (edge a y)) (w .first)
+          (subst (λ (b : ℕ). HasSide e (candidates e) nt nu (to k) (edge (new (old x)) b)) (w .second) (over-has k f (old x) (old y) g))
 
       go : InTwo d (candidates d) taken turned (edge (old x) (old y)) → InTwo e (candidates e) nt nu (edge x y)
       go t = by (decLt (to (t .one)) (to (t .two)))
         where
-          only : (j : ℕ) → dig nt j ≡ true → Has e (candidates e) nt nu j (edge x y) → (j ≡ to (t .one)) ⊎ (j ≡ to (t .two))
+          only : (j : ℕ) → dig nt j ≡ true → HasSide e (candidates e) nt nu j (edge x y) → (j ≡ to (t .one)) ⊎ (j ≡ to (t .two))
           only j f g = pick (t .only (of j) (face-of j f) (under-has j f x y g))
             where
               pick : (of j ≡ t .one) ⊎ (of j ≡ t .two) → (j ≡ to (t .one)) ⊎ (j ≡ to (t .two))
@@ -216,26 +216,26 @@ module _ {new old : ℕ → ℕ} {d e : Wire} (r : BothWays new old d e) (one : 
   way-end (cross w i h p f q) = f
 
   step-over : (j k l : ℕ) → Way e (candidates e) nt nu (to j) (to k) → dig taken k ≡ true → dig taken l ≡ true
-      → (i : ℕ) → i < length (d .edges) → Has d (candidates d) taken turned k (edgeAt d i) → Has d (candidates d) taken turned l
+      → (i : ℕ) → i < length (d .edges) → HasSide d (candidates d) taken turned k (edgeAt d i) → HasSide d (candidates d) taken turned l
       (edgeAt d i)
       → Way e (candidates e) nt nu (to j) (to l)
   step-over j k l w f g i h p q = go (edgeAt d i) refl p q
     where
-      turn : (k x y : ℕ) → Has e (candidates e) nt nu k (edge x y) → Has e (candidates e) nt nu k (edge y x)
+      turn : (k x y : ℕ) → HasSide e (candidates e) nt nu k (edge x y) → HasSide e (candidates e) nt nu k (edge y x)
       turn k x y (inl z) = inr z
       turn k x y (inr z) = inl z
 
-      by : (a b : ℕ) → EdgeOf e (new a) (new b) → Has d (candidates d) taken turned k (edge a b) → Has d (candidates d) taken turned l
+      by : (a b : ℕ) → EdgeOf e (new a) (new b) → HasSide d (candidates d) taken turned k (edge a b) → HasSide d (candidates d) taken turned l
           (edge a b)
           → Way e (candidates e) nt nu (to j) (to l)
       by a b (n, m, inl z) p q =
-          cross w n m (subst (Has e (candidates e) nt nu (to k)) (sym z) (over-has k f a b p)) (face-to l g)
-          (subst (Has e (candidates e) nt nu (to l)) (sym z) (over-has l g a b q))
+          cross w n m (subst (HasSide e (candidates e) nt nu (to k)) (sym z) (over-has k f a b p)) (face-to l g)
+          (subst (HasSide e (candidates e) nt nu (to l)) (sym z) (over-has l g a b q))
       by a b (n, m, inr z) p q =
-          cross w n m (subst (Has e (candidates e) nt nu (to k)) (sym z) (turn (to k) (new a) (new b) (over-has k f a b p))) (face-to l g)
-          (subst (Has e (candidates e) nt nu (to l)) (sym z) (turn (to l) (new a) (new b) (over-has l g a b q)))
+          cross w n m (subst (HasSide e (candidates e) nt nu (to k)) (sym z) (turn (to k) (new a) (new b) (over-has k f a b p))) (face-to l g)
+          (subst (HasSide e (candidates e) nt nu (to l)) (sym z) (turn (to l) (new a) (new b) (over-has l g a b q)))
 
-      go : (x : Edge) → edgeAt d i ≡ x → Has d (candidates d) taken turned k x → Has d (candidates d) taken turned l x
+      go : (x : Edge) → edgeAt d i ≡ x → HasSide d (candidates d) taken turned k x → HasSide d (candidates d) taken turned l x
           → Way e (candidates e) nt nu (to j) (to l)
       go (edge a b) z p q = by a b (edge-over r a b (i, h, inl z)) p q
 
@@ -252,7 +252,7 @@ module _ {new old : ℕ → ℕ} {d e : Wire} (r : BothWays new old d e) (one : 
       (one-over r one two (loopAt (candidates d) (of j)) (candidates-are d (of j) h .loop))
 
   -- (iv)
-  six-same : sixOf e (candidates e) nt nu 0 (candidates e) ≡ sixOf d (candidates d) taken turned 0 (candidates d)
+  six-same : sixOfFaces e (candidates e) nt nu 0 (candidates e) ≡ sixOfFaces d (candidates d) taken turned 0 (candidates d)
   six-same =
       faces-wide (candidates e) nt nu (λ l. faceSix (polygon e l))
       ∙ ap (dot first)

@@ -13,7 +13,7 @@ use Rattle.sets.specs.Word.{dig}
 use Rattle.paper.specs.Drawing.{Wire, samePlace}
 use Rattle.paper.specs.Loops.{Loop, loopAt, candidates, flipped}
 use Rattle.means_report.specs.Fair.{Same}
-use Rattle.means_report.specs.Listed.{Entry, entryAt, Listed}
+use Rattle.means_report.specs.Listed.{Entry, entryAt, EverySolidOnce}
 use Rattle.means_check.specs.Bodies.{SameBody}
 use Rattle.means_check.specs.Sent.{faceList}
 use Rattle.means_moves.specs.Renumbered.{BothWays}
@@ -39,7 +39,7 @@ module _ {new old : ℕ → ℕ} {d e : Wire} (r : BothWays new old d e) (one : 
       let m : k < length (candidates d) = omega arith in
       taken-at (renumbered-back r) two one (newTaken r one two taken turned) us k m ∙ taken-to r one two taken turned k m)
 
-  module _ (es ts : List Entry) (le : Listed d (candidates d) es) (lt : Listed e (candidates e) ts) where
+  module _ (es ts : List Entry) (le : EverySolidOnce d (candidates d) es) (lt : EverySolidOnce e (candidates e) ts) where
     -- entry i's twin is entry j of the other list
     pub record Pair (i j : ℕ) : Type 0 where
       pub low : j < length ts
@@ -84,7 +84,7 @@ module _ {new old : ℕ → ℕ} {d e : Wire} (r : BothWays new old d e) (one : 
 
 -- there and back, by a renumbering and any that undoes it
 module _ {new old : ℕ → ℕ} {d e : Wire} (r : BothWays new old d e) (q : BothWays old new e d) (one : samePlace d ≡ none)
-    (two : samePlace e ≡ none) (es ts : List Entry) (le : Listed d (candidates d) es) (lt : Listed e (candidates e) ts) where
+    (two : samePlace e ≡ none) (es ts : List Entry) (le : EverySolidOnce d (candidates d) es) (lt : EverySolidOnce e (candidates e) ts) where
   abbrev to : ℕ → ℕ
   to = placeOf r one two es ts le lt
 
@@ -102,7 +102,7 @@ module _ {new old : ℕ → ℕ} {d e : Wire} (r : BothWays new old d e) (q : Bo
 
 module _ {new old : ℕ → ℕ} {d e : Wire} (r : BothWays new old d e) (one : samePlace d ≡ none) (two : samePlace e ≡ none)
     (es ts : List Entry)
-    (le : Listed d (candidates d) es) (lt : Listed e (candidates e) ts) where
+    (le : EverySolidOnce d (candidates d) es) (lt : EverySolidOnce e (candidates e) ts) where
   pub solids-match : Match (length es) (length ts) (placeOf r one two es ts le lt) (placeOf (renumbered-back r) two one ts es lt le)
   solids-match = record {
     to-low = λ i h. placed r one two es ts le lt i h .low;

@@ -9,7 +9,7 @@ use Rattle.means_area.proofs.Loops.Edges.{between-back, common-back, common-tur
 use Rattle.paper.specs.Drawing.{Wire, Edge, edge, edgeAt, at, samePlace, looseVertex, edgeMeets, apart}
 use Rattle.paper.specs.declared.Point.{Point}
 use Rattle.means_drawing.specs.Segments.{Between, Common}
-use Rattle.means_drawing.specs.Drawings.{start, stop, Vertex, HasEdge, from, to, EndOf, Meets, vertex, other, Joined, Reachable, first, next, Rising}
+use Rattle.means_drawing.specs.Drawings.{start, stop, Vertex, HasEdge, lowEnd, highEnd, EndOf, Meets, vertex, other, Joined, Reachable, first, next, Rising}
 use Rattle.means_drawing.proofs.Drawings.{looseVertex-means, edgeMeets-means, long-edges, apart-means}
 use Rattle.means_loops.specs.Path.{EdgeOf}
 use Rattle.means_moves.specs.Renumbered.{BothWays}
@@ -26,13 +26,13 @@ module _ (d : Wire) where
   whole-edge : (x : Edge) → x ≡ edge (start x) (stop x)
   whole-edge (edge a b) = refl
 
-  edge-of : (i : ℕ) → HasEdge d i → EdgeOf d (from d i) (to d i)
+  edge-of : (i : ℕ) → HasEdge d i → EdgeOf d (lowEnd d i) (highEnd d i)
   edge-of i h = (i, h, inl (whole-edge (edgeAt d i)))
 
   joined-edge : (u w : ℕ) → Joined d u w → EdgeOf d u w
-  joined-edge u w (i, h, inl p) = subst (λ (a : ℕ). EdgeOf d a w) (sym (p .0)) (subst (EdgeOf d (from d i)) (sym (p .1)) (edge-of i h))
+  joined-edge u w (i, h, inl p) = subst (λ (a : ℕ). EdgeOf d a w) (sym (p .0)) (subst (EdgeOf d (lowEnd d i)) (sym (p .1)) (edge-of i h))
   joined-edge u w (i, h, inr p) =
-      subst (λ (a : ℕ). EdgeOf d a w) (sym (p .0)) (subst (EdgeOf d (to d i)) (sym (p .1)) (i, h, inr (whole-edge (edgeAt d i))))
+      subst (λ (a : ℕ). EdgeOf d a w) (sym (p .0)) (subst (EdgeOf d (highEnd d i)) (sym (p .1)) (i, h, inr (whole-edge (edgeAt d i))))
 
   edge-joined : (u w : ℕ) → EdgeOf d u w → Joined d u w
   edge-joined u w (i, h, inl p) = (i, h, inl (sym (ap start p), sym (ap stop p)))
@@ -48,9 +48,9 @@ module _ {new old : ℕ → ℕ} {d e : Wire} (r : BothWays new old d e) where
       looseVertex-means e .1 (λ u hu.
       let l : u < length (d .vertices) = omega (arith, r .as-many) in
       let w = looseVertex-means d .0 h (old u) (r .old-below u l) in
-      on u (w .0) (w .2) (edge-over r (from d (w .0)) (to d (w .0)) (edge-of d (w .0) (w .1))) (r .new-old u l))
+      on u (w .0) (w .2) (edge-over r (lowEnd d (w .0)) (highEnd d (w .0)) (edge-of d (w .0) (w .1))) (r .new-old u l))
     where
-      on : (u i : ℕ) → EndOf d i (old u) → EdgeOf e (new (from d i)) (new (to d i)) → new (old u) ≡ u → (j : ℕ) × HasEdge e j × EndOf e j u
+      on : (u i : ℕ) → EndOf d i (old u) → EdgeOf e (new (lowEnd d i)) (new (highEnd d i)) → new (old u) ≡ u → (j : ℕ) × HasEdge e j × EndOf e j u
       on u i (inl p) (j, k, inl q) z = (j, k, inl (sym z ∙ ap new p ∙ sym (ap start q)))
       on u i (inl p) (j, k, inr q) z = (j, k, inr (sym z ∙ ap new p ∙ sym (ap stop q)))
       on u i (inr p) (j, k, inl q) z = (j, k, inr (sym z ∙ ap new p ∙ sym (ap stop q)))
@@ -92,15 +92,15 @@ module _ {new old : ℕ → ℕ} {d e : Wire} (r : BothWays new old d e) where
     record Here (i : ℕ) : Type 0 where
       at-d : ℕ
       has : HasEdge d at-d
-      is : (edgeAt d at-d ≡ edge (old (from e i)) (old (to e i))) ⊎ (edgeAt d at-d ≡ edge (old (to e i)) (old (from e i)))
-      start-low : from e i < length (d .vertices)
-      stop-low : to e i < length (d .vertices)
+      is : (edgeAt d at-d ≡ edge (old (lowEnd e i)) (old (highEnd e i))) ⊎ (edgeAt d at-d ≡ edge (old (highEnd e i)) (old (lowEnd e i)))
+      start-low : lowEnd e i < length (d .vertices)
+      stop-low : highEnd e i < length (d .vertices)
 
     here : (i : ℕ) → HasEdge e i → Here i
     here i h =
         let g = edge-of e i h in
-        let w = edge-under r (from e i) (to e i) g in
-        let l = edge-high r (from e i) (to e i) g in
+        let w = edge-under r (lowEnd e i) (highEnd e i) g in
+        let l = edge-high r (lowEnd e i) (highEnd e i) g in
         record { at-d = w .0; has = w .1; is = w .2; start-low = l .0; stop-low = l .1 }
 
     -- no two have one place
@@ -109,59 +109,59 @@ module _ {new old : ℕ → ℕ} {d e : Wire} (r : BothWays new old d e) where
         go (subst Pair p (a .is)) (subst Pair′ q (b .is))
       where
         Pair : ℕ → Type 0
-        Pair m = (edgeAt d m ≡ edge (old (from e i)) (old (to e i))) ⊎ (edgeAt d m ≡ edge (old (to e i)) (old (from e i)))
+        Pair m = (edgeAt d m ≡ edge (old (lowEnd e i)) (old (highEnd e i))) ⊎ (edgeAt d m ≡ edge (old (highEnd e i)) (old (lowEnd e i)))
 
         Pair′ : ℕ → Type 0
-        Pair′ m = (edgeAt d m ≡ edge (old (from e j)) (old (to e j))) ⊎ (edgeAt d m ≡ edge (old (to e j)) (old (from e j)))
+        Pair′ m = (edgeAt d m ≡ edge (old (lowEnd e j)) (old (highEnd e j))) ⊎ (edgeAt d m ≡ edge (old (highEnd e j)) (old (lowEnd e j)))
 
         up : (u w : ℕ) → u < length (d .vertices) → w < length (d .vertices) → old u ≡ old w → u ≡ w
         up u w lu lw z = sym (r .new-old u lu) ∙ ap new z ∙ r .new-old w lw
 
-        same : from e i ≡ from e j → to e i ≡ to e j → i ≡ j
+        same : lowEnd e i ≡ lowEnd e j → highEnd e i ≡ highEnd e j → i ≡ j
         same x y = once i j hi hj (whole-edge e (edgeAt e i) ∙ ap₂ edge x y ∙ sym (whole-edge e (edgeAt e j)))
 
-        turned : {A : Type 0} → from e i ≡ to e j → to e i ≡ from e j → A
+        turned : {A : Type 0} → lowEnd e i ≡ highEnd e j → highEnd e i ≡ lowEnd e j → A
         turned x y = absurd (omega (arith, rises-too i hi .0, rises-too j hj .0))
 
         go : Pair k → Pair′ k → i ≡ j
         go (inl x) (inl y) =
-            same (up (from e i) (from e j) (a .start-low) (b .start-low) (ap start (sym x ∙ y)))
-            (up (to e i) (to e j) (a .stop-low) (b .stop-low) (ap stop (sym x ∙ y)))
+            same (up (lowEnd e i) (lowEnd e j) (a .start-low) (b .start-low) (ap start (sym x ∙ y)))
+            (up (highEnd e i) (highEnd e j) (a .stop-low) (b .stop-low) (ap stop (sym x ∙ y)))
         go (inr x) (inr y) =
-            same (up (from e i) (from e j) (a .start-low) (b .start-low) (ap stop (sym x ∙ y)))
-            (up (to e i) (to e j) (a .stop-low) (b .stop-low) (ap start (sym x ∙ y)))
+            same (up (lowEnd e i) (lowEnd e j) (a .start-low) (b .start-low) (ap stop (sym x ∙ y)))
+            (up (highEnd e i) (highEnd e j) (a .stop-low) (b .stop-low) (ap start (sym x ∙ y)))
         go (inl x) (inr y) =
-            turned (up (from e i) (to e j) (a .start-low) (b .stop-low) (ap start (sym x ∙ y)))
-            (up (to e i) (from e j) (a .stop-low) (b .start-low) (ap stop (sym x ∙ y)))
+            turned (up (lowEnd e i) (highEnd e j) (a .start-low) (b .stop-low) (ap start (sym x ∙ y)))
+            (up (highEnd e i) (lowEnd e j) (a .stop-low) (b .start-low) (ap stop (sym x ∙ y)))
         go (inr x) (inl y) =
-            turned (up (from e i) (to e j) (a .start-low) (b .stop-low) (ap stop (sym x ∙ y)))
-            (up (to e i) (from e j) (a .stop-low) (b .start-low) (ap start (sym x ∙ y)))
+            turned (up (lowEnd e i) (highEnd e j) (a .start-low) (b .stop-low) (ap stop (sym x ∙ y)))
+            (up (highEnd e i) (lowEnd e j) (a .stop-low) (b .start-low) (ap start (sym x ∙ y)))
 
     -- its segment, one way or the other
-    ends-at : (i : ℕ) (a : Here i) → ((at d (from d (a .at-d)) ≡ at e (from e i)) × (at d (to d (a .at-d)) ≡ at e (to e i)))
-        ⊎ ((at d (from d (a .at-d)) ≡ at e (to e i)) × (at d (to d (a .at-d)) ≡ at e (from e i)))
+    ends-at : (i : ℕ) (a : Here i) → ((at d (lowEnd d (a .at-d)) ≡ at e (lowEnd e i)) × (at d (highEnd d (a .at-d)) ≡ at e (highEnd e i)))
+        ⊎ ((at d (lowEnd d (a .at-d)) ≡ at e (highEnd e i)) × (at d (highEnd d (a .at-d)) ≡ at e (lowEnd e i)))
     ends-at i a = go (a .is)
       where
-        go : (edgeAt d (a .at-d) ≡ edge (old (from e i)) (old (to e i))) ⊎ (edgeAt d (a .at-d) ≡ edge (old (to e i)) (old (from e i)))
-            → ((at d (from d (a .at-d)) ≡ at e (from e i)) × (at d (to d (a .at-d)) ≡ at e (to e i)))
-            ⊎ ((at d (from d (a .at-d)) ≡ at e (to e i)) × (at d (to d (a .at-d)) ≡ at e (from e i)))
+        go : (edgeAt d (a .at-d) ≡ edge (old (lowEnd e i)) (old (highEnd e i))) ⊎ (edgeAt d (a .at-d) ≡ edge (old (highEnd e i)) (old (lowEnd e i)))
+            → ((at d (lowEnd d (a .at-d)) ≡ at e (lowEnd e i)) × (at d (highEnd d (a .at-d)) ≡ at e (highEnd e i)))
+            ⊎ ((at d (lowEnd d (a .at-d)) ≡ at e (highEnd e i)) × (at d (highEnd d (a .at-d)) ≡ at e (lowEnd e i)))
         go (inl x) =
             inl (
-              ap (at d) (ap start x) ∙ sym (at-old (from e i) (a .start-low)),
+              ap (at d) (ap start x) ∙ sym (at-old (lowEnd e i) (a .start-low)),
               ap (at d) (ap stop x) ∙ sym
-                  (at-old (to e i) (a .stop-low)),
+                  (at-old (highEnd e i) (a .stop-low)),
             )
         go (inr x) =
             inr (
-              ap (at d) (ap start x) ∙ sym (at-old (to e i) (a .stop-low)),
+              ap (at d) (ap start x) ∙ sym (at-old (highEnd e i) (a .stop-low)),
               ap (at d) (ap stop x) ∙ sym
-                  (at-old (from e i) (a .start-low)),
+                  (at-old (lowEnd e i) (a .start-low)),
             )
 
     meets-under : (i : ℕ) (h : HasEdge e i) → Meets e i → Meets d (here i h .at-d)
     meets-under i h (vertex w hw b) =
         let l : w < length (d .vertices) = omega (arith, r .as-many) in
-        vertex (old w) (r .old-below w l) (subst (Between (at d (from d k)) (at d (to d k))) (at-old w l) (go (ends-at i a)))
+        vertex (old w) (r .old-below w l) (subst (Between (at d (lowEnd d k)) (at d (highEnd d k))) (at-old w l) (go (ends-at i a)))
       where
         a : Here i
         a = here i h
@@ -169,15 +169,15 @@ module _ {new old : ℕ → ℕ} {d e : Wire} (r : BothWays new old d e) where
         k : ℕ
         k = a .at-d
 
-        go : ((at d (from d k) ≡ at e (from e i)) × (at d (to d k) ≡ at e (to e i)))
-            ⊎ ((at d (from d k) ≡ at e (to e i)) × (at d (to d k) ≡ at e (from e i))) → Between (at d (from d k)) (at d (to d k)) (at e w)
+        go : ((at d (lowEnd d k) ≡ at e (lowEnd e i)) × (at d (highEnd d k) ≡ at e (highEnd e i)))
+            ⊎ ((at d (lowEnd d k) ≡ at e (highEnd e i)) × (at d (highEnd d k) ≡ at e (lowEnd e i))) → Between (at d (lowEnd d k)) (at d (highEnd d k)) (at e w)
         go (inl p) =
-            subst (λ (z : Point). Between z (at d (to d k)) (at e w)) (sym (p .0))
-            (subst (λ (z : Point). Between (at e (from e i)) z (at e w)) (sym (p .1)) b)
+            subst (λ (z : Point). Between z (at d (highEnd d k)) (at e w)) (sym (p .0))
+            (subst (λ (z : Point). Between (at e (lowEnd e i)) z (at e w)) (sym (p .1)) b)
         go (inr p) =
-            subst (λ (z : Point). Between z (at d (to d k)) (at e w)) (sym (p .0))
-            (subst (λ (z : Point). Between (at e (to e i)) z (at e w)) (sym (p .1))
-            (between-back (at e (from e i)) (at e (to e i)) (at e w) b))
+            subst (λ (z : Point). Between z (at d (highEnd d k)) (at e w)) (sym (p .0))
+            (subst (λ (z : Point). Between (at e (highEnd e i)) z (at e w)) (sym (p .1))
+            (between-back (at e (lowEnd e i)) (at e (highEnd e i)) (at e w) b))
     meets-under i h (other f hf ne c) =
         other m (b .has) (λ z. ne (place-one i f m h hf a b z refl)) (second (ends-at f b) (first-of (ends-at i a)))
       where
@@ -193,28 +193,28 @@ module _ {new old : ℕ → ℕ} {d e : Wire} (r : BothWays new old d e) where
         m : ℕ
         m = b .at-d
 
-        first-of : ((at d (from d k) ≡ at e (from e i)) × (at d (to d k) ≡ at e (to e i)))
-            ⊎ ((at d (from d k) ≡ at e (to e i)) × (at d (to d k) ≡ at e (from e i)))
-            → Common (at d (from d k)) (at d (to d k)) (at e (from e f)) (at e (to e f))
+        first-of : ((at d (lowEnd d k) ≡ at e (lowEnd e i)) × (at d (highEnd d k) ≡ at e (highEnd e i)))
+            ⊎ ((at d (lowEnd d k) ≡ at e (highEnd e i)) × (at d (highEnd d k) ≡ at e (lowEnd e i)))
+            → Common (at d (lowEnd d k)) (at d (highEnd d k)) (at e (lowEnd e f)) (at e (highEnd e f))
         first-of (inl p) =
-            subst (λ (z : Point). Common z (at d (to d k)) (at e (from e f)) (at e (to e f))) (sym (p .0))
-            (subst (λ (z : Point). Common (at e (from e i)) z (at e (from e f)) (at e (to e f))) (sym (p .1)) c)
+            subst (λ (z : Point). Common z (at d (highEnd d k)) (at e (lowEnd e f)) (at e (highEnd e f))) (sym (p .0))
+            (subst (λ (z : Point). Common (at e (lowEnd e i)) z (at e (lowEnd e f)) (at e (highEnd e f))) (sym (p .1)) c)
         first-of (inr p) =
-            subst (λ (z : Point). Common z (at d (to d k)) (at e (from e f)) (at e (to e f))) (sym (p .0))
-            (subst (λ (z : Point). Common (at e (to e i)) z (at e (from e f)) (at e (to e f))) (sym (p .1))
-            (common-back (at e (from e i)) (at e (to e i)) (at e (from e f)) (at e (to e f)) c))
+            subst (λ (z : Point). Common z (at d (highEnd d k)) (at e (lowEnd e f)) (at e (highEnd e f))) (sym (p .0))
+            (subst (λ (z : Point). Common (at e (highEnd e i)) z (at e (lowEnd e f)) (at e (highEnd e f))) (sym (p .1))
+            (common-back (at e (lowEnd e i)) (at e (highEnd e i)) (at e (lowEnd e f)) (at e (highEnd e f)) c))
 
-        second : ((at d (from d m) ≡ at e (from e f)) × (at d (to d m) ≡ at e (to e f)))
-            ⊎ ((at d (from d m) ≡ at e (to e f)) × (at d (to d m) ≡ at e (from e f)))
-            → Common (at d (from d k)) (at d (to d k)) (at e (from e f)) (at e (to e f))
-            → Common (at d (from d k)) (at d (to d k)) (at d (from d m)) (at d (to d m))
+        second : ((at d (lowEnd d m) ≡ at e (lowEnd e f)) × (at d (highEnd d m) ≡ at e (highEnd e f)))
+            ⊎ ((at d (lowEnd d m) ≡ at e (highEnd e f)) × (at d (highEnd d m) ≡ at e (lowEnd e f)))
+            → Common (at d (lowEnd d k)) (at d (highEnd d k)) (at e (lowEnd e f)) (at e (highEnd e f))
+            → Common (at d (lowEnd d k)) (at d (highEnd d k)) (at d (lowEnd d m)) (at d (highEnd d m))
         second (inl p) q =
-            subst (λ (z : Point). Common (at d (from d k)) (at d (to d k)) z (at d (to d m))) (sym (p .0))
-            (subst (λ (z : Point). Common (at d (from d k)) (at d (to d k)) (at e (from e f)) z) (sym (p .1)) q)
+            subst (λ (z : Point). Common (at d (lowEnd d k)) (at d (highEnd d k)) z (at d (highEnd d m))) (sym (p .0))
+            (subst (λ (z : Point). Common (at d (lowEnd d k)) (at d (highEnd d k)) (at e (lowEnd e f)) z) (sym (p .1)) q)
         second (inr p) q =
-            subst (λ (z : Point). Common (at d (from d k)) (at d (to d k)) z (at d (to d m))) (sym (p .0))
-            (subst (λ (z : Point). Common (at d (from d k)) (at d (to d k)) (at e (to e f)) z) (sym (p .1))
-            (common-turned (at d (from d k)) (at d (to d k)) (at e (from e f)) (at e (to e f)) q))
+            subst (λ (z : Point). Common (at d (lowEnd d k)) (at d (highEnd d k)) z (at d (highEnd d m))) (sym (p .0))
+            (subst (λ (z : Point). Common (at d (lowEnd d k)) (at d (highEnd d k)) (at e (highEnd e f)) z) (sym (p .1))
+            (common-turned (at d (lowEnd d k)) (at d (highEnd d k)) (at e (lowEnd e f)) (at e (highEnd e f)) q))
 
     pub meets-over : samePlace d ≡ none → edgeMeets d ≡ none → edgeMeets e ≡ none
     meets-over s h =

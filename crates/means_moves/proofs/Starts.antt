@@ -22,7 +22,7 @@ use Rattle.paper_laws.proofs.Vectors.{num, vec, k as con, x as var, _+s_, _-s_,
 use Rattle.means_area.specs.Flats.{Up}
 use Rattle.means_inside.proofs.Inside.{any-start}
 use Rattle.means_inside.proofs.Backwards.{any-way}
-use Rattle.means_moves.specs.Rings.{onward, backward, OneRing}
+use Rattle.means_moves.specs.Rings.{turnedOn, backward, OneRing}
 use Rattle.means_moves.proofs.Numbers.{zero-neg, opposite-neg}
 use Rattle.means_moves.proofs.Rings.{
   sides-onward,
@@ -39,13 +39,13 @@ use Rattle.means_moves.proofs.Rings.{
 
 -- ---- what is done to each corner
 
-map-onward : {A B : Type 0} (f : A → B) (l : List A) → map f (onward l) ≡ onward (map f l)
-unfolding onward
+map-onward : {A B : Type 0} (f : A → B) (l : List A) → map f (turnedOn l) ≡ turnedOn (map f l)
+unfolding turnedOn
 map-onward f [] = refl
 map-onward f (x ∷ l) = map-append f l (x ∷ [])
 
 map-reverse : {A B : Type 0} (f : A → B) (l : List A) → map f (reverse l) ≡ reverse (map f l)
-unfolding onward
+unfolding turnedOn
 map-reverse f [] = refl
 map-reverse {A} {B} f (x ∷ l) =
     ap (map f) (reverse-cons x l) ∙ map-onward f (x ∷ reverse l) ∙ ap (λ (r : List B). r ++ f x ∷ []) (map-reverse f l) ∙ sym
@@ -58,7 +58,7 @@ map-backward {A} {B} f (x ∷ l) = ap (λ (r : List B). f x ∷ r) (map-reverse 
 
 -- ---- normals
 
-pub normal-onward : (g : Polygon) → normal (onward g) ≡ normal g
+pub normal-onward : (g : Polygon) → normal (turnedOn g) ≡ normal g
 unfolding normal
 normal-onward g = ap sum (sides-onward cross g) ∙ gather-onward sum-of (sides cross g)
 
@@ -79,8 +79,8 @@ normal-backward g = ap sum (sides-backward cross g) ∙ gather-reverse sum-of (s
 
 -- ---- planes
 
-pub planes-onward : (g : Polygon) → InOwnPlane g → (p : Point) → planeSide (onward g) p ≡ planeSide g p
-unfolding planeSide corner onePlane onward all
+pub planes-onward : (g : Polygon) → InOwnPlane g → (p : Point) → planeSide (turnedOn g) p ≡ planeSide g p
+unfolding planeSide corner onePlane turnedOn all
 planes-onward [] h p = refl
 planes-onward (a ∷ []) h p = refl
 planes-onward (a ∷ (b ∷ r)) h p =
@@ -104,8 +104,8 @@ planes-backward g p =
 
 -- ---- places
 
-where-onward : (d : ℤ) → Up d → (p : Flat) (g : List Flat) → whereFlat p d (onward g) ≡ whereFlat p d g
-unfolding onward
+where-onward : (d : ℤ) → Up d → (p : Flat) (g : List Flat) → whereFlat p d (turnedOn g) ≡ whereFlat p d g
+unfolding turnedOn
 where-onward d h p [] = refl
 where-onward d h p (x ∷ []) = refl
 where-onward d h p (x ∷ (y ∷ r)) = sym (any-start d h x [] y r p)
@@ -113,10 +113,10 @@ where-onward d h p (x ∷ (y ∷ r)) = sym (any-start d h x [] y r p)
 where-backward : (d : ℤ) → Up d → (p : Flat) (g : List Flat) → whereFlat p d (backward g) ≡ whereFlat p d g
 where-backward d h p g = sym (where-onward d h p (backward g)) ∙ ap (whereFlat p d) (sym (reverse-onward g)) ∙ any-way d h g p
 
-lies-onward : (d : ℤ) → Up d → (p : Point) (g : Polygon) → lies (over p d) (onward g) ≡ lies (over p d) g
+lies-onward : (d : ℤ) → Up d → (p : Point) (g : Polygon) → lies (over p d) (turnedOn g) ≡ lies (over p d) g
 unfolding lies
 lies-onward d h p g =
-    ap (λ (n : Point). whereFlat (seen (axis n) p) d (map (seen (axis n)) (onward g))) (normal-onward g)
+    ap (λ (n : Point). whereFlat (seen (axis n) p) d (map (seen (axis n)) (turnedOn g))) (normal-onward g)
     ∙ ap (whereFlat (seen (axis (normal g)) p) d) (map-onward (seen (axis (normal g))) g)
     ∙ where-onward d h (seen (axis (normal g)) p) (map (seen (axis (normal g))) g)
 
@@ -136,7 +136,7 @@ lies-backward d h p g =
 
 -- ---- corner angles
 
-points-onward : (g : Polygon) (u v : Point) → pointsIn (onward g) u v ≡ pointsIn g u v
+points-onward : (g : Polygon) (u v : Point) → pointsIn (turnedOn g) u v ≡ pointsIn g u v
 unfolding pointsIn
 points-onward g u v =
     ap₂ (λ (n : Point) (s : List Side). anyTrue (sides (turnsAt n u (minus v u)) s)) (normal-onward g) (sides-onward to g)
@@ -202,7 +202,7 @@ points-backward g u v =
 
 -- ---- all of it
 
-pub onward-ring : (g : Polygon) → InOwnPlane g → OneRing g (onward g)
+pub onward-ring : (g : Polygon) → InOwnPlane g → OneRing g (turnedOn g)
 onward-ring g h = record {
   side = λ z. z;
   side-none = λ z. refl;
@@ -235,15 +235,15 @@ backward-ring g = record {
 }
 
 -- its part of six volumes
-pub six-onward : (g : Polygon) → InOwnPlane g → faceSix (onward g) ≡ faceSix g
-unfolding corner onward onePlane planeSide all
+pub six-onward : (g : Polygon) → InOwnPlane g → faceSix (turnedOn g) ≡ faceSix g
+unfolding corner turnedOn onePlane planeSide all
 six-onward [] h = refl
 six-onward (a ∷ []) h = refl
 six-onward (a ∷ (b ∷ r)) h =
     let n = normal (a ∷ (b ∷ r)) in
     let z : dot n (minus b a) ≡ pos 0 = zero-yes (dot n (minus b a)) (and-left (isZero (dot n (minus b a))) _
     (and-right (isZero (dot n (minus a a))) _ h)) in
-    six-normal (onward (a ∷ (b ∷ r))) ∙ ap (dot b) (normal-onward (a ∷ (b ∷ r)))
+    six-normal (turnedOn (a ∷ (b ∷ r))) ∙ ap (dot b) (normal-onward (a ∷ (b ∷ r)))
     ∙ vring (vec n ∷ vec a ∷ vec b ∷ []) (at 2 · at 0) ((at 1 · at 0) +s (at 0 · (at 2 -v at 1))) tt ∙ ap (λ (y : ℤ). dot a n +ℤ y) z
     ∙ vring (num (dot a n) ∷ []) (var 0 +s con (pos 0)) (var 0) tt ∙ sym (six-normal (a ∷ (b ∷ r)))
 

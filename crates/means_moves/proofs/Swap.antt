@@ -11,7 +11,7 @@ use Rattle.paper.specs.Points.{isZero}
 use Rattle.paper.specs.Polygon as Polygon
 use Rattle.paper.specs.Polygon.{flat, spans, between, touches, meetsRay, whereFlat}
 use Rattle.paper.specs.declared.Flat.{Flat}
-use Rattle.means_area.specs.Flats.{Up, turn}
+use Rattle.means_area.specs.Flats.{Up, twiceArea}
 use Rattle.means_area.proofs.Flats.Signs.{up-is}
 use Rattle.means_inside.specs.Beams.{round, beam, right, facing, east, odd}
 use Rattle.means_inside.specs.Convex.{rights}
@@ -53,15 +53,15 @@ module _ (p : Flat) (d : ℤ) where
 
   -- what is to the right of the ray to the east is then to the right of the one to the south
   right-swap : (a : Flat) → right (swap p) (east (swap p)) (swap a) ≡ right p (south p) a
-  unfolding right turn
+  unfolding right twiceArea
   right-swap a =
       ap (λ (z : ℤ). leZ z (pos 0))
       (ring (p .u ∷ p .v ∷ a .u ∷ a .v ∷ [])
       ((var 1 ⊕ con (pos 1) ⊖ var 1) ⊗ (var 2 ⊖ var 0) ⊖ (var 0 ⊖ var 0) ⊗ (var 3 ⊖ var 1))
       ((var 0 ⊖ var 0) ⊗ (var 3 ⊖ var 1) ⊖ (var 1 ⊖ con (pos 1) ⊖ var 1) ⊗ (var 2 ⊖ var 0)) tt)
 
-  turned-swap : (a b : Flat) → turn (swap a) (swap b) (swap p) ≡ negℤ (turn a b p)
-  unfolding turn
+  turned-swap : (a b : Flat) → twiceArea (swap a) (swap b) (swap p) ≡ negℤ (twiceArea a b p)
+  unfolding twiceArea
   turned-swap a b = other (b .v -ℤ a .v) (p .u -ℤ a .u) (b .u -ℤ a .u) (p .v -ℤ a .v)
 
   beam-swap : (a b : Flat) → beam (swap p) (east (swap p)) (swap a) (swap b) ≡ Ray.mirrored rights p (south p) a b

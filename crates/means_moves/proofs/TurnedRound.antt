@@ -30,10 +30,10 @@ use Rattle.paper.specs.Verdict.{clashes, faceChecks}
 use Rattle.means_solid.specs.Named.{SameRing}
 use Rattle.means_loops.proofs.Rings.{same-sym, same-trans, flip-flip, flip-same}
 use Rattle.means_loops.proofs.Lowest.{on-onward, back-onward}
-use Rattle.means_leaf.specs.Meaning.{Opposite}
+use Rattle.means_leaf.specs.Meaning.{TurnedRound}
 use Rattle.means_leaf.proofs.Forced.{once-opposite}
 use Rattle.means_leaf.proofs.Solids.{six-opposite}
-use Rattle.means_check.specs.Candidates.{Candidates}
+use Rattle.means_check.specs.Candidates.{ProperCandidates}
 use Rattle.means_check.proofs.Numbers.{is-candidate}
 use Rattle.means_check.proofs.Numbered.{numbersOf, takenOf, turnedOf, taken-yes, taken-is, turned-yes, turned-is, number-of, numbers-length}
 use Rattle.means_check.proofs.Numbered.{Numbered, either-number}
@@ -55,7 +55,7 @@ number-most : (cs : List Loop) (f : List ℕ) → numberIn cs f ≤ length cs
 unfolding numberIn
 number-most cs f = omega (arith, first-most (map (sameList (normalForm f)) cs), length-map cs (sameList (normalForm f)))
 
-module _ (d : Wire) (cs : List Loop) (c : Candidates d cs) where
+module _ (d : Wire) (cs : List Loop) (c : ProperCandidates d cs) where
   -- a candidate has one number either way round, and is run in its normal form's direction one way
   face-round : (f g : List ℕ) → SameRing (flipped f) g → numberIn cs f < length cs
       → (numberIn cs g ≡ numberIn cs f) × (onward g ≡ not (onward f))
@@ -147,7 +147,7 @@ late a b c d e f none none none none od′ oe of of′ rest h k =
     λ i. firstOf (check d (h refl refl i) ∷ check e oe ∷ check f (k refl refl refl i) ∷ rest)
 
 -- an edge is run once each way, whichever way all are turned
-direction-round : (taken s t : List Bool) → Opposite taken s t → (x : Tables) → direction x taken s ≡ direction x taken t
+direction-round : (taken s t : List Bool) → TurnedRound taken s t → (x : Tables) → direction x taken s ≡ direction x taken t
 unfolding direction
 direction-round taken s t o x =
     λ i. lowest (λ e. not (once-opposite (getD (x .masks) e []) (getD (x .ups) e []) taken s t o i)) (length (x .masks))
@@ -174,7 +174,7 @@ module _ (t u : Tables) (masks : u .masks ≡ t .masks) (ups : u .ups ≡ t .ups
       (λ a b c. ap (λ (z : Bool). offends (not z) 0) (six a b c))
 
   -- the one with every face turned round: six volumes, where 24 passes, are above zero just where the negatives of these are
-  pub faces-round : (notCandidate n (l .numbers) ≡ none → faceTwice (l .numbers) ≡ none → Opposite (l .taken) (m .turned) (l .turned))
+  pub faces-round : (notCandidate n (l .numbers) ≡ none → faceTwice (l .numbers) ≡ none → TurnedRound (l .taken) (m .turned) (l .turned))
       → (direction t (l .taken) (l .turned) ≡ none
       → above (negℤ (sixFrom 0 (u .sixes) (l .taken) (l .turned))) ≡ above (sixFrom 0 (t .sixes) (l .taken) (l .turned)))
       → firstOf (faceChecks u n m) ≡ firstOf (faceChecks t n l)

@@ -9,7 +9,7 @@ use Rattle.lists.proofs.OwnNumbers.{onto}
 use Rattle.paper.specs.Drawing.{Wire, at, samePlace}
 use Rattle.means_drawing.proofs.Drawings.{samePlace-means}
 use Rattle.means_moves.specs.Renumbered.{BothWays, NewNumbers}
-use Rattle.means_moves.specs.Kept.{Kept}
+use Rattle.means_moves.specs.Kept.{KeptSolids}
 use Rattle.means_moves.proofs.Kept.{kept}
 
 module _ {new : ℕ → ℕ} {d e : Wire} (r : NewNumbers new d e) where
@@ -54,5 +54,5 @@ places-over {new} {old} {d} {e} r h =
     sym (r .new-old u lu) ∙ ap new z ∙ r .new-old w lw)
 
 -- "the solids are the same sets of faces under the new numbers"
-pub renumbers : {new : ℕ → ℕ} {d e : Wire} → NewNumbers new d e → samePlace d ≡ none → Kept new d e
+pub renumbers : {new : ℕ → ℕ} {d e : Wire} → NewNumbers new d e → samePlace d ≡ none → KeptSolids new d e
 renumbers r h = kept (renumbered r) h (places-over (renumbered r) h)

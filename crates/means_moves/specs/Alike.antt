@@ -15,11 +15,11 @@ abbrev pub Below : ℕ → List ℕ → Type 0
 Below n [] = Unit {0}
 Below n (v ∷ l) = (v < n) × Below n l
 
-abbrev pub Ends : ℕ → Edge → Type 0
-Ends n (edge a b) = (a < n) × (b < n)
+abbrev pub EdgeBelow : ℕ → Edge → Type 0
+EdgeBelow n (edge a b) = (a < n) × (b < n)
 
 abbrev pub EndsBelow : Wire → Type 0
-EndsBelow d = (k : ℕ) → k < length (d .edges) → Ends (length (d .vertices)) (edgeAt d k)
+EndsBelow d = (k : ℕ) → k < length (d .edges) → EdgeBelow (length (d .vertices)) (edgeAt d k)
 
 abbrev pub AllBelow : ℕ → List Loop → Type 0
 AllBelow n [] = Unit {0}

@@ -16,5 +16,5 @@ eachVertex f (x ∷ (y ∷ [])) = x ∷ (y ∷ [])
 eachVertex f (x ∷ (y ∷ (z ∷ l))) = f (pt x y z) .x ∷ (f (pt x y z) .y ∷ (f (pt x y z) .z ∷ eachVertex f l))
 
 -- "within the range": 8 applies nowhere
-abbrev pub Near : List ℤ → Type 0
-Near xyz = (k : ℕ) → k < length xyz → Within farthest (getD xyz k (pos 0))
+abbrev pub WithinRange : List ℤ → Type 0
+WithinRange xyz = (k : ℕ) → k < length xyz → Within farthest (getD xyz k (pos 0))

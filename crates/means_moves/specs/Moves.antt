@@ -17,25 +17,25 @@ abbrev pub mirror : Point → Point
 mirror p = pt (negℤ (p .x)) (p .y) (p .z)
 
 -- two coordinates exchanged
-pub data Pair : Type 0 where
-  XY YZ : Pair
+pub data Axes : Type 0 where
+  XY YZ : Axes
 
-abbrev pub exchange : Pair → Point → Point
+abbrev pub exchange : Axes → Point → Point
 exchange XY p = pt (p .y) (p .x) (p .z)
 exchange YZ p = pt (p .x) (p .z) (p .y)
 
 -- a drawing laid along the axes in another way: step by step, of which each mirrors
 pub data Step : Type 0 where
   mirroring : Step
-  exchanging : Pair → Step
+  exchanging : Axes → Step
 
-abbrev pub step : Step → Point → Point
-step mirroring p = mirror p
-step (exchanging e) p = exchange e p
+abbrev pub laidStep : Step → Point → Point
+laidStep mirroring p = mirror p
+laidStep (exchanging e) p = exchange e p
 
 abbrev pub laid : List Step → Point → Point
 laid [] p = p
-laid (s ∷ ss) p = laid ss (step s p)
+laid (s ∷ ss) p = laid ss (laidStep s p)
 
 -- an odd number of steps mirrors, an even number turns
 abbrev pub oddly : List Step → Bool

@@ -12,7 +12,7 @@ use Rattle.paper.specs.Conversion.{Converted}
 use Rattle.paper.specs.declared.Conversion.{Conversion}
 use Rattle.paper.specs.declared.Conversion.the-variants as Conversion
 use Rattle.means_report.specs.Listed.{Entry}
-use Rattle.means_report.specs.Report.{reported, solidsFor}
+use Rattle.means_report.specs.Report.{solidCount, solidsFor}
 
 -- a factor below 0 exchanges the sides of every plane
 abbrev pub turnsBy : ℤ → Bool
@@ -38,11 +38,11 @@ pub data Judged (turns : Bool) (by : ℕ) (taken : List Bool) : Judgement → Ju
       → Judged turns by taken (Solid ts six) (Solid us (by * six))
 
 -- two conversions: the solids of the one are `es`, as many as its answer says, and those of the other are these, moved
-pub record Follows (turns : Bool) (by : ℕ) (solids : List ℕ) (r q : Converted) : Type 0 where
+pub record FollowsMoved (turns : Bool) (by : ℕ) (solids : List ℕ) (r q : Converted) : Type 0 where
   pub answers : q .answer ≡ grown by (r .answer)
   pub rows : q .faces ≡ r .faces
   pub es : List Entry
-  pub count : length es ≡ reported (r .answer)
+  pub count : length es ≡ solidCount (r .answer)
   pub words : r .solids ≡ solidsFor solids es
   pub moved : q .solids ≡ solidsFor solids (map (carried turns by) es)
 
@@ -55,7 +55,7 @@ pub record Mirrored (solids : List ℕ) (r q : Converted) : Type 0 where
   pub answers : q .answer ≡ r .answer
   pub rows : q .faces ≡ r .faces
   pub es : List Entry
-  pub count : length es ≡ reported (r .answer)
+  pub count : length es ≡ solidCount (r .answer)
   pub words : r .solids ≡ solidsFor solids es
   pub flipped : q .solids ≡ solidsFor solids (map flip es)
 
@@ -67,6 +67,6 @@ pub record Scaled (k : ℕ) (solids : List ℕ) (r q : Converted) : Type 0 where
   pub answers : q .answer ≡ grown (k * k * k) (r .answer)
   pub rows : q .faces ≡ r .faces
   pub es : List Entry
-  pub count : length es ≡ reported (r .answer)
+  pub count : length es ≡ solidCount (r .answer)
   pub words : r .solids ≡ solidsFor solids es
   pub enlarged : q .solids ≡ solidsFor solids (map (enlarge k) es)

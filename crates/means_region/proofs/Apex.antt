@@ -24,7 +24,7 @@ use Rattle.paper_laws.proofs.Vectors.{num, vec, k as con-s, x as var-s, o, v, n
 use Rattle.means_solid.specs.Solid.{Face}
 use Rattle.means_loops.specs.Path.{ClosedPath}
 use Rattle.means_region.specs.Tetra.{holds}
-use Rattle.means_region.specs.Winding.{OnceEachWay, away, rounds, OffPlanes, Apart}
+use Rattle.means_region.specs.Winding.{OnceEachWay, away, rounds, OffPlanes, NoTwoInPlane}
 use Rattle.means_region.proofs.Move.{Real}
 use Rattle.means_region.proofs.Fan.{Height, face-sides}
 use Rattle.means_region.proofs.Cancel.{closes}
@@ -97,7 +97,7 @@ module _ (d : Wire) (cs : List Loop) (taken turned : List Bool) (n : ℤ) (p : P
         ∙ ring (n ∷ high j ∷ []) (var 0 ⊗ con (pos 0) ⊕ var 1) (var 1) tt
 
     -- two apexes that are not in line with the point
-    not-in-line : (a b : Point) → Apart d cs taken turned n p a → Apart d cs taken turned n p b → (cross a b ≡ origin → ⊥)
+    not-in-line : (a b : Point) → NoTwoInPlane d cs taken turned n p a → NoTwoInPlane d cs taken turned n p b → (cross a b ≡ origin → ⊥)
         → round a ≡ round b
     not-in-line a b sa sb h =
         halves (round a) (round b)
@@ -108,7 +108,7 @@ module _ (d : Wire) (cs : List Loop) (taken turned : List Bool) (n : ℤ) (p : P
         (neg (var 1 ⊖ var 0)) tt) s)
 
     -- an apex near to a sees the faces as a does
-    pub near-by : (a w : Point) → Apart d cs taken turned n p a
+    pub near-by : (a w : Point) → NoTwoInPlane d cs taken turned n p a
         → (m : ℕ) × ((j : ℕ) → Face d cs taken turned j → Views (near a w m) a (seen j))
     near-by a w sa =
         let f = all-large (length cs) (λ j m. Face d cs taken turned j → Views (near a w m) a (seen j)) (λ j l. one j (dig taken j) refl) in
@@ -119,14 +119,14 @@ module _ (d : Wire) (cs : List Loop) (taken turned : List Bool) (n : ℤ) (p : P
         one j false t = (0, λ m l f. absurd (true≢false (sym f ∙ t)))
 
     pub near-apart : (a w : Point) (m : ℕ) → ((j : ℕ) → Face d cs taken turned j → Views (near a w m) a (seen j))
-        → Apart d cs taken turned n p (near a w m)
+        → NoTwoInPlane d cs taken turned n p (near a w m)
     near-apart a w m views j i l f q r z =
         let r' : l < length (seen j) = omega (arith, length-map (face j) (away n p)) in
         views j f i l q r' .real
         (ap₂ (det (near a w m)) (counts.seen-at d cs taken turned n p j i (omega arith)) (counts.seen-at d cs taken turned n p j l r') ∙ z)
 
     -- by way of such an apex
-    by-way : (a b w : Point) → Apart d cs taken turned n p a → Apart d cs taken turned n p b → cross a b ≡ origin
+    by-way : (a b w : Point) → NoTwoInPlane d cs taken turned n p a → NoTwoInPlane d cs taken turned n p b → cross a b ≡ origin
         → (cross w b ≡ origin → ⊥) → round a ≡ round b
     by-way a b w sa sb e h =
         let f = near-by a w sa in
@@ -139,14 +139,14 @@ module _ (d : Wire) (cs : List Loop) (taken turned : List Bool) (n : ℤ) (p : P
         ∙ ap₂ (λ (y q : Point). minus y (times (pos m) q)) z e ∙ vring (num (pos m) ∷ []) (o -v (var-s 0 *v o)) o tt))
 
     -- no face is seen from the point itself
-    no-faces : (a : Point) → Apart d cs taken turned n p origin → round a ≡ round origin
+    no-faces : (a : Point) → NoTwoInPlane d cs taken turned n p origin → round a ≡ round origin
     no-faces a s0 =
         counts.rounds-same d cs taken turned n p a origin
         (λ j f. absurd (s0 j 0 1 f (omega arith) (omega (arith, paths j (inside j f) .three, polygon-length d (loopAt cs j)))
         (vring (vec (away n p (getD (face j) 0 origin)) ∷ vec (away n p (getD (face j) 1 origin)) ∷ []) (dets o (v 0) (v 1)) (con-s
         (pos 0)) tt)))
 
-    pub any : (a b : Point) → Apart d cs taken turned n p a → Apart d cs taken turned n p b → round a ≡ round b
+    pub any : (a b : Point) → NoTwoInPlane d cs taken turned n p a → NoTwoInPlane d cs taken turned n p b → round a ≡ round b
     any a b sa sb = go (isOrigin (cross a b)) (isOrigin (cross first b)) (isOrigin (cross second b)) refl refl refl
       where
         go : (t u w : Bool) → isOrigin (cross a b) ≡ t → isOrigin (cross first b) ≡ u → isOrigin (cross second b) ≡ w → round a ≡ round b

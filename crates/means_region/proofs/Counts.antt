@@ -18,7 +18,7 @@ use Rattle.paper.specs.declared.Point.{Point}
 use Rattle.means_solid.specs.Solid.{Face, faceSum}
 use Rattle.exact.specs.Sum.{sumOf}
 use Rattle.means_check.proofs.FaceSums.{faces-same, faces-plus, faces-times}
-use Rattle.means_region.specs.Winding.{away, faceHolds, rounds, Apart}
+use Rattle.means_region.specs.Winding.{away, faceHolds, rounds, NoTwoInPlane}
 use Rattle.means_region.proofs.Move.{turns}
 use Rattle.means_region.proofs.Fan.{Spread}
 
@@ -33,7 +33,7 @@ module _ (d : Wire) (cs : List Loop) (taken turned : List Bool) (n : ℤ) (p : P
   pub seen-at : (j i : ℕ) → i < length (seen j) → getD (seen j) i origin ≡ away n p (getD (face j) i origin)
   seen-at j i h = map-at (away n p) (face j) i origin origin (omega (arith, length-map (face j) (away n p)))
 
-  pub spread : (a : Point) → Apart d cs taken turned n p a → (j : ℕ) → Face d cs taken turned j → Spread a (seen j)
+  pub spread : (a : Point) → NoTwoInPlane d cs taken turned n p a → (j : ℕ) → Face d cs taken turned j → Spread a (seen j)
   spread a s j f i l h m e =
       s j i l f h (omega (arith, length-map (face j) (away n p)))
       (ap₂ (det a) (sym (seen-at j i (omega arith))) (sym (seen-at j l m)) ∙ e)

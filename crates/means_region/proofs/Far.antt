@@ -28,7 +28,7 @@ use Rattle.means_loops.specs.Path.{ClosedPath}
 use Rattle.means_check.proofs.Sums.{sumTo}
 use Rattle.means_check.proofs.FaceSums.{inWay, faces-same, faces-dot}
 use Rattle.means_region.specs.Tetra.{alternate, holds}
-use Rattle.means_region.specs.Winding.{OnceEachWay, away, fanHolds, faceHolds, rounds, OffPlanes, Apart, Ahead}
+use Rattle.means_region.specs.Winding.{OnceEachWay, away, fanHolds, faceHolds, rounds, OffPlanes, NoTwoInPlane, Ahead}
 use Rattle.means_region.proofs.Near.{near}
 use Rattle.means_region.proofs.Apex.{inside, near-by, near-apart, any}
 use Rattle.means_region.proofs.Counts as counts
@@ -126,16 +126,16 @@ module _ (d : Wire) (cs : List Loop) (taken turned : List Bool) (n : ℤ) (p : P
     on-side : (q : Point) → Up (dot m q) → rounds d cs taken turned n p q ≡ pos 0
     on-side q u = rounds-none q (λ j f. face-none m q (seen j) u (all-ahead j f))
 
-    turned-round : (e : Point) → Apart d cs taken turned n p e → Apart d cs taken turned n p (minus origin e)
+    turned-round : (e : Point) → NoTwoInPlane d cs taken turned n p e → NoTwoInPlane d cs taken turned n p (minus origin e)
     turned-round e se j i l f q r z =
         let x = away n p (getD (polygon d (loopAt cs j)) i origin) in
         let y = away n p (getD (polygon d (loopAt cs j)) l origin) in
         se j i l f q r (vring (vec e ∷ vec x ∷ vec y ∷ []) (dets (v 0) (v 1) (v 2)) (negs (dets (o -v v 0) (v 1) (v 2))) tt ∙ ap negℤ z)
 
-    pub far : (a : Point) → Apart d cs taken turned n p a → rounds d cs taken turned n p a ≡ pos 0
+    pub far : (a : Point) → NoTwoInPlane d cs taken turned n p a → rounds d cs taken turned n p a ≡ pos 0
     far a sa = go (isOrigin m) refl (which (negℤ (dot m a)))
       where
-        by : (e : Point) → Apart d cs taken turned n p e → Nn (dot m e) → Up (dot m m) → rounds d cs taken turned n p a ≡ pos 0
+        by : (e : Point) → NoTwoInPlane d cs taken turned n p e → Nn (dot m e) → Up (dot m m) → rounds d cs taken turned n p a ≡ pos 0
         by e se w u =
             let c = near-by d cs taken turned n p paths own s off e m se in
             any d cs taken turned n p paths own s off a (near e m (c .0)) sa

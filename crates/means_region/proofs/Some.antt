@@ -22,7 +22,7 @@ use Rattle.paper_laws.proofs.Vectors.{num, vec, x as var-s, o, v, negs, _+s_, _
 use Rattle.means_area.specs.Flats.{Up}
 use Rattle.means_solid.specs.Solid.{Face}
 use Rattle.means_loops.specs.Path.{ClosedPath}
-use Rattle.means_region.specs.Winding.{OnceEachWay, away, OffPlanes, Apart}
+use Rattle.means_region.specs.Winding.{OnceEachWay, away, OffPlanes, NoTwoInPlane}
 use Rattle.means_region.proofs.Move.{Real, zero-or}
 use Rattle.means_region.proofs.Near.{Large, all-large, alike}
 use Rattle.means_region.proofs.Apex.{inside, high, high-real, height}
@@ -121,14 +121,14 @@ module _ (d : Wire) (cs : List Loop) (taken turned : List Bool) (n : ℤ) (p : P
         (sym (corner-at d (loopAt cs j) i hi) ∙ there ∙ corner-at d (loopAt cs j) l hl)
 
     -- first a direction, then a point far along it
-    pub some-apex-of : (a : Point) × Apart d cs taken turned n p (away n p a)
+    pub some-apex-of : (a : Point) × NoTwoInPlane d cs taken turned n p (away n p a)
     some-apex-of =
         let a = family (s .set) (λ j i l m. Real (dot (steep m) (cross (z j i) (z j l))))
         (λ j i l f h m. steep-large (cross (z j i) (z j l)) (across j i l f h m)) in
         along (steep (a .0)) (λ j i l f h m. a .1 (a .0) (omega arith) j i l (inside d cs taken turned n p paths own s off j f) f h m)
       where
         along : (w : Point) → ((j i l : ℕ) → Face d cs taken turned j → i < l → l < length (face j) → Real (dot w (cross (z j i) (z j l))))
-            → (a : Point) × Apart d cs taken turned n p (away n p a)
+            → (a : Point) × NoTwoInPlane d cs taken turned n p (away n p a)
         along w r =
             let b = family (s .set) (λ j i l m. Real (det (away n p (times (pos m) w)) (z j i) (z j l))) far in
             (times (pos (b .0)) w, λ j i l f h m. b .1 (b .0) (omega arith) j i l (inside d cs taken turned n p paths own s off j f) f h m)

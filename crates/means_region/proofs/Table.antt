@@ -5,7 +5,7 @@ use mathlib.Core.List.{List, [], _∷_}
 use lib.IntN.{ℤ, pos, _+ℤ_, _-ℤ_}
 use lib.ListN.{getD}
 use Rattle.lists.proofs.Truth.{implied}
-use Rattle.exact.specs.Signs.{Sign3, level, turned}
+use Rattle.exact.specs.Signs.{Sign3, level, negatedSign}
 use Rattle.paper.specs.Points.{isZero}
 use Rattle.paper_laws.proofs.Points.{zero-yes}
 use Rattle.means_region.specs.Tetra.{alternate}
@@ -37,7 +37,7 @@ allowed abc obc oac oab qbc qac qab sa sb sc =
 
 abbrev pub inLine : Sign3 → Sign3 → Sign3 → Sign3 → Sign3 → Sign3 → Sign3 → Sign3 → Sign3 → Bool
 inLine obc oac oab qbc qac qab sa sb sc =
-    both obc oac oab qbc qac qab sa sb sc && (balanced obc (turned oac) oab && balanced qbc (turned qac) qab)
+    both obc oac oab qbc qac qab sa sb sc && (balanced obc (negatedSign oac) oab && balanced qbc (negatedSign qac) qab)
 
 abbrev test : List Sign3 → List Bool → Bool
 test s b =

@@ -45,13 +45,13 @@ module _ (d : Wire) (cs : List Loop) (taken turned : List Bool) (n : ℤ) (p : P
   OffPlanes = (k : ℕ) → Face d cs taken turned k → OnPlane (polygon d (loopAt cs k)) p n → ⊥
 
   -- no two corners of a face are in one plane with p / n and the apex that is at o from p
-  abbrev pub Apart : Point → Type 0
-  Apart o = (k i j : ℕ) → Face d cs taken turned k → i < j → j < length (polygon d (loopAt cs k))
+  abbrev pub NoTwoInPlane : Point → Type 0
+  NoTwoInPlane o = (k i j : ℕ) → Face d cs taken turned k → i < j → j < length (polygon d (loopAt cs k))
       → det o (away n p (getD (polygon d (loopAt cs k)) i origin)) (away n p (getD (polygon d (loopAt cs k)) j origin)) ≡ pos 0 → ⊥
 
   pub record Sees (o : Point) : Type 0 where
     pub planes : OffPlanes
-    pub apart : Apart (away n p o)
+    pub apart : NoTwoInPlane (away n p o)
 
   -- seen from p / n, every corner of a face is ahead in the direction of m
   abbrev pub Ahead : Point → Type 0

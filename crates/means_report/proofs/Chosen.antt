@@ -10,7 +10,7 @@ use Rattle.paper.specs.Drawing.{Wire, Edge, edge, edgeAt}
 use Rattle.paper.specs.Loops.{Loop, loopAt, final, candidates}
 use Rattle.paper.specs.Solids.{tablesOf, has}
 use Rattle.paper.specs.Walk.{Undecided}
-use Rattle.means_walk.specs.Lowest.{On, Chooses}
+use Rattle.means_walk.specs.Lowest.{CandidateOn, Chooses}
 use Rattle.means_walk.proofs.Chosen.{tree-chooses}
 use Rattle.means_solid.specs.Solid.{Goes}
 use Rattle.means_solid.proofs.Goes.{goes-last, cases-has, has-nil, dig-map}
@@ -31,7 +31,7 @@ last-edge d q l = let r = joined-edge d (final q) (getD q 0 0) (l .closed) in (r
     go e (inr p) = ap (λ (x : Edge). has x q) p ∙ cases-has (getD q 0 0) (final q) q (inr goes)
 
 pub on-an-edge : (d : Wire) (k : ℕ) → k < length (candidates d) → (e : ℕ) × (e < length (tablesOf d (candidates d) .masks))
-    × On (tablesOf d (candidates d) .masks) e k
+    × CandidateOn (tablesOf d (candidates d) .masks) e k
 on-an-edge d k h =
     let r = last-edge d (loopAt (candidates d) k) (candidates-are d k h .loop) in (
       r .0,

@@ -14,7 +14,7 @@ use Rattle.paper.specs.declared.Conversion.{Conversion}
 use Rattle.paper.specs.declared.Conversion.the-variants as Conversion
 use Rattle.means_walk.specs.Tree.{assumptions}
 use Rattle.means_solid.specs.Solid.{IsSolid}
-use Rattle.means_report.specs.Listed.{Entry, entryAt, wordsOf, Listed, WalkTree, walked}
+use Rattle.means_report.specs.Listed.{Entry, entryAt, wordsOf, EverySolidOnce, WalkTree, walked}
 use Rattle.means_report.specs.Report.{answered, facesFor, solidsFor, workToNinth}
 use Rattle.means_report.specs.Demand.{SaysNone, SaysOne, SaysSeveral, SaysMany, SaysLong}
 use Rattle.means_report.proofs.Listed.{walked-lists}
@@ -75,7 +75,7 @@ module _ (L C W : ℕ) where
 
 module _ (d : Wire) (t : WalkTree d (candidates d)) (limit : ℕ) (faces solids : List ℕ) (r : Converted)
     (sound : Sound d t limit faces solids r) where
-  pub all-listed : Listed d (candidates d) (walked d (candidates d) t)
+  pub all-listed : EverySolidOnce d (candidates d) (walked d (candidates d) t)
   all-listed = walked-lists d (candidates d) (sound .fair) t
 
   pub says-none : {l c w : ℕ} → r .answer ≡ Conversion.NoSolid l c w → SaysNone d t limit faces solids r l c w
@@ -104,7 +104,7 @@ module _ (d : Wire) (t : WalkTree d (candidates d)) (limit : ℕ) (faces solids 
       go (inl x) =
           let q = answered-one (length (loops d)) (length (candidates d)) (assumptions t) (walked d (candidates d) t)
           (sym (x .answer) ∙ e) in
-          let one : Listed d (candidates d) (q .0 ∷ []) = subst (Listed d (candidates d)) (q .1) all-listed in
+          let one : EverySolidOnce d (candidates d) (q .0 ∷ []) = subst (EverySolidOnce d (candidates d)) (q .1) all-listed in
           record {
             taken = q .0 .taken;
             turned = q .0 .turned;

@@ -18,7 +18,7 @@ use Rattle.paper.specs.Solids.{tablesOf, Judgement, Fails, Solid, judged}
 use Rattle.paper.specs.Walk.{Status, Undecided, takenOn}
 use Rattle.paper.specs.Conversion.{takens, isSolid, turnedOf, sixOf, accepted}
 use Rattle.means_leaf.specs.Meaning as Masks
-use Rattle.means_walk.specs.Complete.{agrees, exact, times}
+use Rattle.means_walk.specs.Complete.{agrees, exact, timesIn}
 use Rattle.means_walk.specs.Tree.{leaves}
 use Rattle.means_walk.proofs.Status.{count-takens}
 use Rattle.means_walk.proofs.Ends.{leaves-all, leaves-once}
@@ -27,10 +27,10 @@ use Rattle.means_masks.proofs.Tables.{Even, flat-even, two-masks, masks-two}
 use Rattle.means_masks.proofs.Judged.{judged-is, is-judged}
 use Rattle.means_solid.specs.Solid.{IsSolid}
 use Rattle.means_report.specs.Fair.{Fair, Same}
-use Rattle.means_report.specs.Listed.{Entry, entryAt, Listed, entry, WalkTree, walked}
+use Rattle.means_report.specs.Listed.{Entry, entryAt, EverySolidOnce, entry, WalkTree, walked}
 
 -- (i) of a selection
-exact-two : (masks : List (List Bool)) (x : List Status) → exact masks x ≡ true → Masks.InTwo masks (takens x)
+exact-two : (masks : List (List Bool)) (x : List Status) → exact masks x ≡ true → Masks.MaskInTwo masks (takens x)
 unfolding exact
 exact-two [] x e mask i = absurd i
 exact-two (r ∷ masks) x e mask (inl q) =
@@ -38,7 +38,7 @@ exact-two (r ∷ masks) x e mask (inl q) =
     ∙ eqb-true (takenOn r x) 2 (and-left (eqb (takenOn r x) 2) (exact masks x) e)
 exact-two (r ∷ masks) x e mask (inr i) = exact-two masks x (and-right (eqb (takenOn r x) 2) (exact masks x) e) mask i
 
-two-exact : (masks : List (List Bool)) (x : List Status) → Masks.InTwo masks (takens x) → exact masks x ≡ true
+two-exact : (masks : List (List Bool)) (x : List Status) → Masks.MaskInTwo masks (takens x) → exact masks x ≡ true
 unfolding exact
 two-exact [] x h = refl
 two-exact (r ∷ masks) x h =
@@ -56,7 +56,7 @@ module _ (d : Wire) (cs : List Loop) (ok : Fair d cs) (t : WalkTree d cs) where
   found = filter (accepted (tablesOf d cs)) (leaves t)
 
   how-often : (x : List Status)
-      → times x found ≡ cond (accepted (tablesOf d cs) x)
+      → timesIn x found ≡ cond (accepted (tablesOf d cs) x)
       (bit (agrees (replicate (length cs) Undecided) x && exact (tablesOf d cs .masks) x)) 0
   how-often x = leaves-once (accepted (tablesOf d cs)) (length cs) (tablesOf d cs .masks) t x
 
@@ -66,7 +66,7 @@ module _ (d : Wire) (cs : List Loop) (ok : Fair d cs) (t : WalkTree d cs) where
     pub whole : agrees (replicate (length cs) Undecided) x ≡ true
     pub two : exact (tablesOf d cs .masks) x ≡ true
 
-  found-passes : (x : List Status) → 0 < times x found → Passes x
+  found-passes : (x : List Status) → 0 < timesIn x found → Passes x
   found-passes x h =
       go (accepted (tablesOf d cs) x) refl (agrees (replicate (length cs) Undecided) x) refl (exact (tablesOf d cs .masks) x) refl
       (subst (λ (m : ℕ). 0 < m) (how-often x) h)
@@ -78,10 +78,10 @@ module _ (d : Wire) (cs : List Loop) (ok : Fair d cs) (t : WalkTree d cs) where
       go true p false q c r h = absurd (omega arith)
       go false p b q c r h = absurd (omega arith)
 
-  passes-found : (x : List Status) → Passes x → times x found ≡ 1
+  passes-found : (x : List Status) → Passes x → timesIn x found ≡ 1
   passes-found x p = how-often x ∙ (λ i. cond (p .accepts i) (bit (p .whole i && p .two i)) 0)
 
-  at-most-once : (x : List Status) → times x found ≤ 1
+  at-most-once : (x : List Status) → timesIn x found ≤ 1
   at-most-once x =
       subst (λ (m : ℕ). m ≤ 1) (sym (how-often x))
       (low (accepted (tablesOf d cs) x) (agrees (replicate (length cs) Undecided) x && exact (tablesOf d cs .masks) x))
@@ -110,7 +110,7 @@ module _ (d : Wire) (cs : List Loop) (ok : Fair d cs) (t : WalkTree d cs) where
         whole = subst (λ (m : ℕ). agrees (replicate m Undecided) (stateOf taken) ≡ true) (s .some) (state-agrees taken);
         two =
             two-exact (tablesOf d cs .masks) (stateOf taken)
-            (subst (λ (b : List Bool). Masks.InTwo (tablesOf d cs .masks) b) (sym (takens-state taken))
+            (subst (λ (b : List Bool). Masks.MaskInTwo (tablesOf d cs .masks) b) (sym (takens-state taken))
             (two-masks d cs taken turned (s .i)));
       }
 
@@ -152,7 +152,7 @@ module _ (d : Wire) (cs : List Loop) (ok : Fair d cs) (t : WalkTree d cs) where
   passes-at i h = found-passes (getD found i []) (at-times found (getD found i []) i h refl)
 
   -- every solid once, in walk order
-  pub walked-lists : Listed d cs (walked d cs t)
+  pub walked-lists : EverySolidOnce d cs (walked d cs t)
   walked-lists = record {
     each = λ i h.
         let l : i < length found = omega (arith, length-walked) in

@@ -19,15 +19,15 @@ use Rattle.means_walk.proofs.Grown.{tree}
 use Rattle.means_walk.proofs.Ends.{ended-whole, ended-many}
 use Rattle.means_solid.specs.Solid.{IsSolid}
 use Rattle.means_report.specs.Fair.{Fair}
-use Rattle.means_report.specs.Listed.{Entry, Listed, entry, WalkTree, walked}
+use Rattle.means_report.specs.Listed.{Entry, EverySolidOnce, entry, WalkTree, walked}
 use Rattle.means_report.proofs.Listed.{walked-lists}
 
 -- a list of all solids is empty just where there is none
-pub none-listed : (d : Wire) (cs : List Loop) (es : List Entry) → Listed d cs es → es ≡ [] → (taken turned : List Bool) (six : ℕ)
+pub none-listed : (d : Wire) (cs : List Loop) (es : List Entry) → EverySolidOnce d cs es → es ≡ [] → (taken turned : List Bool) (six : ℕ)
     → IsSolid d cs taken turned six → ⊥
 none-listed d cs es l e taken turned six s = let r = l .there s in omega (arith, r .1, ap length e)
 
-pub listed-none : (d : Wire) (cs : List Loop) (es : List Entry) → Listed d cs es
+pub listed-none : (d : Wire) (cs : List Loop) (es : List Entry) → EverySolidOnce d cs es
     → ((taken turned : List Bool) (six : ℕ) → IsSolid d cs taken turned six → ⊥) → es ≡ []
 listed-none d cs [] l n = refl
 listed-none d cs (e ∷ es) l n = absurd (n (e .taken) (e .turned) (e .six) (l .each 0 (omega arith)))
@@ -44,11 +44,11 @@ module _ (d : Wire) (cs : List Loop) (ok : Fair d cs) (limit : ℕ) where
 
   -- found: every solid once
   pub uncut-lists : search mostSolids (accepted (tablesOf d cs)) limit (length cs) (tablesOf d cs .masks) .ended ≡ 0
-      → Listed d cs
+      → EverySolidOnce d cs
       (map (entry (tablesOf d cs)) (search mostSolids (accepted (tablesOf d cs)) limit (length cs) (tablesOf d cs .masks) .found))
   uncut-lists e =
       let t : WalkTree d cs = tree (tablesOf d cs .masks) _ in
-      subst (Listed d cs) (sym (uncut-walked e t)) (walked-lists d cs ok t)
+      subst (EverySolidOnce d cs) (sym (uncut-walked e t)) (walked-lists d cs ok t)
 
   -- nothing is found just where there is no solid
   pub none-found : search mostSolids (accepted (tablesOf d cs)) limit (length cs) (tablesOf d cs .masks) .ended ≡ 0
@@ -70,7 +70,7 @@ module _ (d : Wire) (cs : List Loop) (ok : Fair d cs) (limit : ℕ) where
 
   -- at least nine different solids: all solids are listed once, and there are more than eight
   pub many-lists : search mostSolids (accepted (tablesOf d cs)) limit (length cs) (tablesOf d cs .masks) .ended ≡ No.Many
-      → (es : List Entry) × Listed d cs es × (mostSolids < length es)
+      → (es : List Entry) × EverySolidOnce d cs es × (mostSolids < length es)
   unfolding walked
   many-lists e =
       let t : WalkTree d cs = tree (tablesOf d cs .masks) _ in

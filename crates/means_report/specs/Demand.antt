@@ -10,25 +10,25 @@ use Rattle.paper.specs.Loops.{loops, candidates}
 use Rattle.paper.specs.Conversion.{Converted, facesAfter}
 use Rattle.means_walk.specs.Tree.{assumptions}
 use Rattle.means_solid.specs.Solid.{IsSolid}
-use Rattle.means_report.specs.Listed.{wordsOf, Listed, WalkTree, walked}
+use Rattle.means_report.specs.Listed.{wordsOf, EverySolidOnce, WalkTree, walked}
 use Rattle.means_report.specs.Report.{workToNinth}
 
 module _ (d : Wire) (t : WalkTree d (candidates d)) (limit : ℕ) (faces solids : List ℕ) (r : Converted) (l c work : ℕ) where
   -- "also returns the loop and candidate counts"
-  abbrev pub Counts : Type 0
-  Counts = (l ≡ length (loops d)) × (c ≡ length (candidates d))
+  abbrev pub CountsTold : Type 0
+  CountsTold = (l ≡ length (loops d)) × (c ≡ length (candidates d))
 
   -- "Every line below leaves all buffers unchanged"
-  abbrev pub Kept : Type 0
-  Kept = (r .faces ≡ faces) × (r .solids ≡ solids)
+  abbrev pub RoomsKept : Type 0
+  RoomsKept = (r .faces ≡ faces) × (r .solids ≡ solids)
 
   -- NoSolid: there is none
   pub record SaysNone : Type 0 where
     pub none : (taken turned : List Bool) (six : ℕ) → IsSolid d (candidates d) taken turned six → ⊥
-    pub counts : Counts
+    pub counts : CountsTold
     pub works : work ≡ assumptions t
     pub within : work ≤ limit
-    pub kept : Kept
+    pub kept : RoomsKept
 
   -- One: there is one, and its three words are written
   pub record SaysOne (six : ℕ) : Type 0 where
@@ -36,7 +36,7 @@ module _ (d : Wire) (t : WalkTree d (candidates d)) (limit : ℕ) (faces solids 
     pub turned : List Bool
     pub is : IsSolid d (candidates d) taken turned six
     pub only : {taken′ turned′ : List Bool} {six′ : ℕ} → IsSolid d (candidates d) taken′ turned′ six′ → taken′ ≡ taken
-    pub counts : Counts
+    pub counts : CountsTold
     pub works : work ≡ assumptions t
     pub within : work ≤ limit
     pub faces-left : r .faces ≡ facesAfter (candidates d) faces
@@ -44,11 +44,11 @@ module _ (d : Wire) (t : WalkTree d (candidates d)) (limit : ℕ) (faces solids 
 
   -- Several: two to eight, every one listed once, in walk order
   pub record SaysSeveral (n : ℕ) : Type 0 where
-    pub listed : Listed d (candidates d) (walked d (candidates d) t)
+    pub listed : EverySolidOnce d (candidates d) (walked d (candidates d) t)
     pub how-many : length (walked d (candidates d) t) ≡ n
     pub two : 2 ≤ n
     pub eight : n ≤ 8
-    pub counts : Counts
+    pub counts : CountsTold
     pub works : work ≡ assumptions t
     pub within : work ≤ limit
     pub faces-left : r .faces ≡ facesAfter (candidates d) faces
@@ -56,16 +56,16 @@ module _ (d : Wire) (t : WalkTree d (candidates d)) (limit : ℕ) (faces solids 
 
   -- Many: nine or more
   pub record SaysMany : Type 0 where
-    pub listed : Listed d (candidates d) (walked d (candidates d) t)
+    pub listed : EverySolidOnce d (candidates d) (walked d (candidates d) t)
     pub nine : 9 ≤ length (walked d (candidates d) t)
-    pub counts : Counts
+    pub counts : CountsTold
     pub works : work ≡ workToNinth d t
     pub within : work ≤ limit
-    pub kept : Kept
+    pub kept : RoomsKept
 
   -- TooLong: the walk, up to a ninth solid, has more assumptions than the limit
   pub record SaysLong : Type 0 where
     pub long : limit < workToNinth d t
-    pub counts : Counts
+    pub counts : CountsTold
     pub works : work ≡ limit
-    pub kept : Kept
+    pub kept : RoomsKept

@@ -24,7 +24,7 @@ abbrev pub entryAt : List Entry → ℕ → Entry
 entryAt es i = getD es i (record { taken = []; turned = []; six = 0 })
 
 -- "every solid once": each entry is a solid, each solid is an entry, and no two entries are the same set of faces
-pub record Listed (d : Wire) (cs : List Loop) (es : List Entry) : Type 0 where
+pub record EverySolidOnce (d : Wire) (cs : List Loop) (es : List Entry) : Type 0 where
   pub each : (i : ℕ) → i < length es → IsSolid d cs (entryAt es i .taken) (entryAt es i .turned) (entryAt es i .six)
   pub there : {taken turned : List Bool} {six : ℕ} → IsSolid d cs taken turned six
       → (i : ℕ) × (i < length es) × (entryAt es i .taken ≡ taken) × Same (entryAt es i .turned) turned × (entryAt es i .six ≡ six)

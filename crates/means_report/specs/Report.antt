@@ -21,13 +21,13 @@ answered l c work (e ∷ []) = Conversion.One l c work (e .six)
 answered l c work (e ∷ (e′ ∷ es)) = Conversion.Several l c work (length (e ∷ (e′ ∷ es)))
 
 -- how many solids a report lists; 0 where there is no report
-abbrev pub reported : Conversion → ℕ
-reported (Conversion.One l c work six) = 1
-reported (Conversion.Several l c work n) = n
-reported (Conversion.NoSolid l c work) = 0
-reported (Conversion.Many l c work) = 0
-reported (Conversion.TooLong l c work) = 0
-reported (Conversion.Refused r) = 0
+abbrev pub solidCount : Conversion → ℕ
+solidCount (Conversion.One l c work six) = 1
+solidCount (Conversion.Several l c work n) = n
+solidCount (Conversion.NoSolid l c work) = 0
+solidCount (Conversion.Many l c work) = 0
+solidCount (Conversion.TooLong l c work) = 0
+solidCount (Conversion.Refused r) = 0
 
 -- the room for faces: a report writes the candidates, and "no solid" is no report
 abbrev pub facesFor : List Loop → List ℕ → List Entry → List ℕ

@@ -10,7 +10,7 @@ use Rattle.sets.specs.Word.{dig}
 use Rattle.paper.specs.Drawing.{Wire, Edge, edge, edgeAt}
 use Rattle.paper.specs.Loops.{Loop, loopAt, polygon, flipped}
 use Rattle.paper.specs.Solids.{faceSix, part}
-use Rattle.means_solid.specs.Solid.{Goes, Runs, InTwo, Way, stay, cross, RunOnce, EachWay, faceSum, sixOf, IsSolid}
+use Rattle.means_solid.specs.Solid.{Goes, Runs, InTwo, Way, stay, cross, RunOnce, EachWay, faceSum, sixOfFaces, IsSolid}
 use Rattle.means_solid.specs.Named.{SameRing, directed, Names}
 
 module _ (d : Wire) (cs : List Loop) (taken t u : List Bool) (same : (k : ℕ) → dig t k ≡ dig u k) where
@@ -34,7 +34,7 @@ module _ (d : Wire) (cs : List Loop) (taken t u : List Bool) (same : (k : ℕ) �
   way-to j k (stay f) = stay f
   way-to j k (cross {k = g} w e h p f q) = cross (way-to j g w) e h p f q
 
-  six-to : (k : ℕ) (ls : List Loop) → sixOf d cs taken t k ls ≡ sixOf d cs taken u k ls
+  six-to : (k : ℕ) (ls : List Loop) → sixOfFaces d cs taken t k ls ≡ sixOfFaces d cs taken u k ls
   unfolding faceSum
   six-to k [] = refl
   six-to k (x ∷ ls) = ap₂ (λ (w : Bool) (z : ℤ). part (dig taken k) w (faceSix (polygon d x)) +ℤ z) (same k) (six-to (suc k) ls)

@@ -19,7 +19,7 @@ use Rattle.paper.specs.Solids.{fan, faceSix, part}
 use Rattle.paper.specs.declared.Point.{Point}
 use Rattle.polygon.specs.Sizes.{PointWithin}
 use Rattle.polygon.proofs.Sizes.{origin-small, det-small}
-use Rattle.means_solid.specs.Solid.{faceSum, sixOf}
+use Rattle.means_solid.specs.Solid.{faceSum, sixOfFaces}
 use Rattle.means_check.proofs.Corners.{over}
 use Rattle.means_volume.specs.Bound.{mostTerm}
 
@@ -82,7 +82,7 @@ module _ (d : Wire) (near : (v : ℕ) → PointWithin farthest (at d v)) (cs : L
 
   -- the candidates from k on, and their part of the mask
   six-most : (ts : List Bool) (k : ℕ) (ls : List Loop) → ((i : ℕ) → dig taken (k + i) ≡ dig ts i)
-      → Within (over ts terms ls * mostTerm) (sixOf d cs taken turned k ls)
+      → Within (over ts terms ls * mostTerm) (sixOfFaces d cs taken turned k ls)
   unfolding over faceSum
   six-most [] k [] h = record { within = omega arith }
   six-most (t ∷ ts) k [] h = record { within = omega arith }
@@ -91,6 +91,6 @@ module _ (d : Wire) (near : (v : ℕ) → PointWithin farthest (at d v)) (cs : L
   six-most (t ∷ ts) k (l ∷ ls) h =
       within-le (omega arith) (within-add (part-most k l t (here k (h 0))) (six-most ts (suc k) ls (λ i. next k i (h (suc i)))))
 
-  pub by-terms : (six : ℕ) → sixOf d cs taken turned 0 cs ≡ pos six → six ≤ over taken terms cs * mostTerm
+  pub by-terms : (six : ℕ) → sixOfFaces d cs taken turned 0 cs ≡ pos six → six ≤ over taken terms cs * mostTerm
   by-terms six e =
       subst (λ (z : ℤ). natAbs z ≤ over taken terms cs * mostTerm) e (six-most taken 0 cs (λ i. ap (dig taken) (zero-add i)) .within)

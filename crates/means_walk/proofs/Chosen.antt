@@ -14,26 +14,26 @@ use Rattle.sets.proofs.Digits.{dig-both, count-none, first-in}
 use Rattle.paper.specs.Walk.{Status, Taken, Rejected, takenOn, openOn, openCount, decide, settle, contradicts, Outcome, Broken}
 use Rattle.paper.specs.Walk.{Stands, sweep, stable, choose}
 use Rattle.means_walk.specs.Tree.{Sweeps, breaks, rests, again, Tree, broken, leaf, branch}
-use Rattle.means_walk.specs.Lowest.{opens, Undecided, On, Lowest, Chooses}
+use Rattle.means_walk.specs.Lowest.{opens, Undecided, CandidateOn, LowestChoice, Chooses}
 use Rattle.means_walk.proofs.Status.{count-open, count-opens, open-lt}
 use Rattle.means_walk.proofs.Grown.{sweeps-stable, sweeps}
 
 -- every undecided candidate is on an edge
 abbrev pub Covered : List (List Bool) → List Status → Type 0
-Covered masks st = (k : ℕ) → Undecided st k → (e : ℕ) × (e < length masks) × On masks e k
+Covered masks st = (k : ℕ) → Undecided st k → (e : ℕ) × (e < length masks) × CandidateOn masks e k
 
 none-open : (mask : List Bool) (st : List Status) → openOn mask st ≡ 0 → (j : ℕ) → dig mask j ≡ true → Undecided st j → ⊥
 none-open mask st z j h u =
     count-none (both mask (opens st)) (count-opens mask st ∙ z) j (dig-both mask (opens st) j ∙ and-both h u)
 
 pub choose-lowest : (masks : List (List Bool)) (st : List Status) → Covered masks st → (k : ℕ) → Undecided st k
-    → Lowest masks st (choose masks st)
+    → LowestChoice masks st (choose masks st)
 unfolding choose
 choose-lowest [] st c k u = absurd (let r = c k u in omega (arith, r .1))
 choose-lowest (mask ∷ masks) st c k u = go (eqb (openOn mask st) 0) refl (choose-lowest masks st)
   where
-    go : (b : Bool) → eqb (openOn mask st) 0 ≡ b → (Covered masks st → (k : ℕ) → Undecided st k → Lowest masks st (choose masks st))
-        → Lowest (mask ∷ masks) st (cond b (choose masks st) (first (both mask (opens st))))
+    go : (b : Bool) → eqb (openOn mask st) 0 ≡ b → (Covered masks st → (k : ℕ) → Undecided st k → LowestChoice masks st (choose masks st))
+        → LowestChoice (mask ∷ masks) st (cond b (choose masks st) (first (both mask (opens st))))
     go true e ih =
         let z : openOn mask st ≡ 0 = eqb-true (openOn mask st) 0 e in
         let r = ih (λ j w. rest z j w (c j w)) k u in
@@ -46,12 +46,12 @@ choose-lowest (mask ∷ masks) st c k u = go (eqb (openOn mask st) 0) refl (choo
           lower = r .lower;
         }
       where
-        rest : openOn mask st ≡ 0 → (j : ℕ) → Undecided st j → (f : ℕ) × (f < length (mask ∷ masks)) × On (mask ∷ masks) f j
-            → (f : ℕ) × (f < length masks) × On masks f j
+        rest : openOn mask st ≡ 0 → (j : ℕ) → Undecided st j → (f : ℕ) × (f < length (mask ∷ masks)) × CandidateOn (mask ∷ masks) f j
+            → (f : ℕ) × (f < length masks) × CandidateOn masks f j
         rest z j w (zero, h, o) = absurd (none-open mask st z j o w)
         rest z j w (suc f, h, o) = (f, omega arith, o)
 
-        below : openOn mask st ≡ 0 → (r : Lowest masks st (choose masks st)) → (f j : ℕ) → f < suc (r .edge) → On (mask ∷ masks) f j
+        below : openOn mask st ≡ 0 → (r : LowestChoice masks st (choose masks st)) → (f j : ℕ) → f < suc (r .edge) → CandidateOn (mask ∷ masks) f j
             → Undecided st j → ⊥
         below z r zero j h o w = none-open mask st z j o w
         below z r (suc f) j h o w = r .lower-edge f j (omega arith) o w
@@ -113,7 +113,7 @@ some-open : (st : List Status) → (openCount st ≡ 0 → ⊥) → Undecided st
 some-open st n = first-in (opens st) (λ e. n (sym (count-open st) ∙ e))
 
 pub tree-chooses : {masks : List (List Bool)} {st : List Status} (n : ℕ) → length st ≡ n
-    → ((k : ℕ) → k < n → (e : ℕ) × (e < length masks) × On masks e k) → (t : Tree masks st) → Chooses t
+    → ((k : ℕ) → k < n → (e : ℕ) × (e < length masks) × CandidateOn masks e k) → (t : Tree masks st) → Chooses t
 unfolding Chooses
 tree-chooses n l c (broken w) = tt
 tree-chooses n l c (leaf s w z) = tt

@@ -12,7 +12,7 @@ use Rattle.sets.specs.Word.{bit, count, both, first}
 use Rattle.lists.proofs.Truth.{and-split, and-both, or-none}
 use Rattle.paper.specs.Walk.{Status, Taken, Rejected, Undecided, isOpen, takenOn, openOn, openCount}
 use Rattle.paper.specs.Walk.{contradicts, Outcome, Broken, Stands, onStands, stable, choose}
-use Rattle.means_walk.specs.Complete.{allows, agrees, exact, equal, same, times, solutions}
+use Rattle.means_walk.specs.Complete.{allows, agrees, exact, equal, same, timesIn, solutions}
 use Rattle.means_walk.specs.Lowest.{opens}
 use Rattle.means_walk.proofs.Status.{count-open, count-opens, count-set}
 use Rattle.means_walk.proofs.Settled.{stable-agrees, cond-is, Calm, stable-rest}
@@ -116,8 +116,8 @@ choose-open (mask ∷ masks) st n = go (choose-open masks st n) (eqb (openOn mas
         both-second mask (opens st) (first (both mask (opens st)))
         (first-open (both mask (opens st)) (λ e. eqb-false (openOn mask st) 0 c (sym (count-opens mask st) ∙ e)))
 
-times-append : (x : List Status) (a b : List (List Status)) → times x (a ++ b) ≡ times x a + times x b
-unfolding times
+times-append : (x : List Status) (a b : List (List Status)) → timesIn x (a ++ b) ≡ timesIn x a + timesIn x b
+unfolding timesIn
 times-append x [] b = omega arith
 times-append x (y ∷ a) b = omega (arith, times-append x a b)
 
@@ -129,16 +129,16 @@ module _ (masks : List (List Bool)) (x : List Status) where
       × ((st : List Status) → openCount st ≡ 0 → Calm masks st → bit (same st x) ≡ g st)
       × ((st : List Status) (k : ℕ) → getD (opens st) k false ≡ true → g st ≡ g (set st k Taken) + g (set st k Rejected))
 
-  shared : (g : List Status → ℕ) → Share g → (f : ℕ) (st : List Status) → openCount st < f → times x (solutions f masks st) ≡ g st
-  unfolding Share solutions times
+  shared : (g : List Status → ℕ) → Share g → (f : ℕ) (st : List Status) → openCount st < f → timesIn x (solutions f masks st) ≡ g st
+  unfolding Share solutions timesIn
   shared g w zero st h = absurd (omega arith)
   shared g w (suc f) st h = go (shared g w f) (stable (suc (openCount st)) masks st) refl (w .0 st)
     where
       IH : Type 0
-      IH = (s : List Status) → openCount s < f → times x (solutions f masks s) ≡ g s
+      IH = (s : List Status) → openCount s < f → timesIn x (solutions f masks s) ≡ g s
 
       next : IH → (s : List Status) → openCount s ≤ openCount st → Calm masks s → (b : Bool) → eqb (openCount s) 0 ≡ b
-          → times x
+          → timesIn x
           (cond b (s ∷ []) (solutions f masks (set s (choose masks s) Taken) ++ solutions f masks (set s (choose masks s) Rejected))) ≡ g
           s
       next ih s l c true q = omega (arith, w .1 s (eqb-true (openCount s) 0 q) c)
@@ -153,7 +153,7 @@ module _ (masks : List (List Bool)) (x : List Status) where
           )
 
       go : IH → (o : Outcome) → stable (suc (openCount st)) masks st ≡ o → onStands o 0 g ≡ g st
-          → times x
+          → timesIn x
           (onStands o []
           (λ s. cond (eqb (openCount s) 0) (s ∷ [])
           (solutions f masks (set s (choose masks s) Taken) ++ solutions f masks (set s (choose masks s) Rejected)))) ≡ g st
@@ -171,7 +171,7 @@ module _ (masks : List (List Bool)) (x : List Status) where
   on-none (Stands st) = refl
 
   -- every final list that the state allows and that has two taken on each edge is there once; no other list is there
-  pub finds : (f : ℕ) (st : List Status) → openCount st < f → times x (solutions f masks st) ≡ bit (agrees st x && exact masks x)
+  pub finds : (f : ℕ) (st : List Status) → openCount st < f → timesIn x (solutions f masks st) ≡ bit (agrees st x && exact masks x)
   unfolding Share
   finds f st h = go (exact masks x) refl
     where
@@ -187,7 +187,7 @@ module _ (masks : List (List Bool)) (x : List Status) where
       and-false true = refl
       and-false false = refl
 
-      go : (b : Bool) → exact masks x ≡ b → times x (solutions f masks st) ≡ bit (agrees st x && b)
+      go : (b : Bool) → exact masks x ≡ b → timesIn x (solutions f masks st) ≡ bit (agrees st x && b)
       go true e =
           shared (λ s. bit (agrees s x)) (
             (λ s. on-bit (stable (suc (openCount s)) masks s) ∙ ap bit (stable-agrees (suc (openCount s)) masks x e s)),
@@ -205,14 +205,14 @@ module _ (masks : List (List Bool)) (x : List Status) where
 
 -- ---- those that the test accepts
 module _ (accept : List Status → Bool) where
-  pub times-filter : (x : List Status) (xs : List (List Status)) → times x (filter accept xs) ≡ cond (accept x) (times x xs) 0
-  unfolding times filter keep
+  pub times-filter : (x : List Status) (xs : List (List Status)) → timesIn x (filter accept xs) ≡ cond (accept x) (timesIn x xs) 0
+  unfolding timesIn filter keep
   times-filter x [] = cond-is (λ (n : ℕ). 0 ≡ n) (accept x) refl refl
   times-filter x (y ∷ xs) = go (times-filter x xs) (accept x) refl (accept y) refl (same y x) refl
     where
-      go : times x (filter accept xs) ≡ cond (accept x) (times x xs) 0 → (a : Bool) → accept x ≡ a → (b : Bool) → accept y ≡ b
+      go : timesIn x (filter accept xs) ≡ cond (accept x) (timesIn x xs) 0 → (a : Bool) → accept x ≡ a → (b : Bool) → accept y ≡ b
           → (c : Bool) → same y x ≡ c
-          → times x (keep b y (filter accept xs)) ≡ cond a (bit (same y x) + times x xs) 0
+          → timesIn x (keep b y (filter accept xs)) ≡ cond a (bit (same y x) + timesIn x xs) 0
       go ih true p true q c r = omega (arith, rw p at ih)
       go ih false p false q c r = rw p at ih
       go ih true p false q true r = absurd (true≢false (sym p ∙ ap accept (sym (same-path y x r)) ∙ q))

@@ -10,8 +10,8 @@ use Rattle.lists.specs.Lists.{filter}
 use Rattle.sets.specs.Word.{bit}
 use Rattle.paper.specs.Refusals as No
 use Rattle.paper.specs.Walk.{Status, Undecided, openCount, stable, Log, nothing, walk, search}
-use Rattle.means_walk.specs.Complete.{agrees, exact, times}
-use Rattle.means_walk.specs.Tree.{Tree, assumptions, leaves, steps, made, upTo, Exhausted, OneMore, Passed}
+use Rattle.means_walk.specs.Complete.{agrees, exact, timesIn}
+use Rattle.means_walk.specs.Tree.{Tree, assumptions, leaves, steps, made, upTo, Exhausted, OneMore, SweepPassed}
 use Rattle.means_walk.proofs.Complete.{finds, times-filter}
 use Rattle.means_walk.proofs.Limit.{walk-higher}
 use Rattle.means_walk.proofs.Grown.{sweeps-stable, sweeps, tree, tree-leaves}
@@ -25,16 +25,16 @@ open-blank (suc n) = omega (arith, open-blank n)
 
 module _ (accept : List Status → Bool) (n : ℕ) (masks : List (List Bool)) (t : Tree masks (replicate n Undecided)) where
   -- the leaves: each selection that has two taken on each edge, once, and no other
-  pub leaves-all : (x : List Status) → times x (leaves t) ≡ bit (agrees (replicate n Undecided) x && exact masks x)
+  pub leaves-all : (x : List Status) → timesIn x (leaves t) ≡ bit (agrees (replicate n Undecided) x && exact masks x)
   leaves-all x =
-      ap (times x) (sym (tree-leaves masks t (suc n) (omega (arith, open-blank n))))
+      ap (timesIn x) (sym (tree-leaves masks t (suc n) (omega (arith, open-blank n))))
       ∙ finds masks x (suc n) (replicate n Undecided) (omega (arith, open-blank n))
 
   -- the accepted leaves: each selection that has two taken on each edge and that the test accepts, once, and no other
   pub leaves-once : (x : List Status)
-      → times x (filter accept (leaves t)) ≡ cond (accept x) (bit (agrees (replicate n Undecided) x && exact masks x)) 0
+      → timesIn x (filter accept (leaves t)) ≡ cond (accept x) (bit (agrees (replicate n Undecided) x && exact masks x)) 0
   leaves-once x =
-      ap (λ (l : List (List Status)). times x (filter accept l)) (sym (tree-leaves masks t (suc n) (omega (arith, open-blank n))))
+      ap (λ (l : List (List Status)). timesIn x (filter accept l)) (sym (tree-leaves masks t (suc n) (omega (arith, open-blank n))))
       ∙ times-filter accept x _
       ∙ ap (λ (m : ℕ). cond (accept x) m 0) (finds masks x (suc n) (replicate n Undecided) (omega (arith, open-blank n)))
 
@@ -45,11 +45,11 @@ module _ (accept : List Status → Bool) (n : ℕ) (masks : List (List Bool)) (t
 
     pub search-ends : Exhausted accept cap limit (steps t) (search cap accept limit n masks)
         ⊎ (OneMore accept cap limit (steps t) (search cap accept limit n masks)
-        ⊎ Passed accept cap limit (steps t) (search cap accept limit n masks))
+        ⊎ SweepPassed accept cap limit (steps t) (search cap accept limit n masks))
     search-ends =
         subst
         (λ (l : Log). Exhausted accept cap limit (steps t) l
-        ⊎ (OneMore accept cap limit (steps t) l ⊎ Passed accept cap limit (steps t) l)) (sym search-follows)
+        ⊎ (OneMore accept cap limit (steps t) l ⊎ SweepPassed accept cap limit (steps t) l)) (sym search-follows)
         (follow-ends cap accept limit (steps t))
 
     -- the walk's assumptions up to one accepted leaf more than the cap
@@ -80,7 +80,7 @@ module _ (accept : List Status → Bool) (n : ℕ) (masks : List (List Bool)) (t
       where
         go : Exhausted accept cap limit (steps t) (search cap accept limit n masks)
             ⊎ (OneMore accept cap limit (steps t) (search cap accept limit n masks)
-            ⊎ Passed accept cap limit (steps t) (search cap accept limit n masks)) → Whole
+            ⊎ SweepPassed accept cap limit (steps t) (search cap accept limit n masks)) → Whole
         go (inl x) = record {
           few = subst (λ (l : List (List Status)). length (filter accept l) ≤ cap) (sought-steps t) (x .few);
           short = subst (λ (m : ℕ). m ≤ limit) (made-steps t) (x .short);
@@ -100,7 +100,7 @@ module _ (accept : List Status → Bool) (n : ℕ) (masks : List (List Bool)) (t
       where
         go : Exhausted accept cap limit (steps t) (search cap accept limit n masks)
             ⊎ (OneMore accept cap limit (steps t) (search cap accept limit n masks)
-            ⊎ Passed accept cap limit (steps t) (search cap accept limit n masks)) → Many
+            ⊎ SweepPassed accept cap limit (steps t) (search cap accept limit n masks)) → Many
         go (inl x) = zero-many (x .ended) e
         go (inr (inl x)) = record {
           many = subst (λ (l : List (List Status)). cap < length (filter accept l)) (sought-steps t) (x .many);
@@ -118,7 +118,7 @@ module _ (accept : List Status → Bool) (n : ℕ) (masks : List (List Bool)) (t
       where
         go : Exhausted accept cap limit (steps t) (search cap accept limit n masks)
             ⊎ (OneMore accept cap limit (steps t) (search cap accept limit n masks)
-            ⊎ Passed accept cap limit (steps t) (search cap accept limit n masks)) → Long
+            ⊎ SweepPassed accept cap limit (steps t) (search cap accept limit n masks)) → Long
         go (inl x) = zero-long (x .ended) e
         go (inr (inl x)) = many-long (x .ended) e
         go (inr (inr x)) = record { long = x .long; work = x .work }
@@ -130,7 +130,7 @@ module _ (accept : List Status → Bool) (n : ℕ) (masks : List (List Bool)) (t
       where
         go : Exhausted accept cap limit (steps t) (search cap accept limit n masks)
             ⊎ (OneMore accept cap limit (steps t) (search cap accept limit n masks)
-            ⊎ Passed accept cap limit (steps t) (search cap accept limit n masks))
+            ⊎ SweepPassed accept cap limit (steps t) (search cap accept limit n masks))
             → (search cap accept limit n masks .ended ≡ 0)
             ⊎ ((search cap accept limit n masks .ended ≡ No.Many) ⊎ (search cap accept limit n masks .ended ≡ No.TooLong))
         go (inl x) = inl (x .ended)

@@ -11,17 +11,17 @@ use lib.ListN.{length, length-append}
 use Rattle.lists.specs.Lists.{filter, keep}
 use Rattle.paper.specs.Refusals as No
 use Rattle.paper.specs.Walk.{Status, Log}
-use Rattle.means_walk.specs.Tree.{Step, assumes, comes, made, sought, upTo}
-use Rattle.means_walk.specs.Tree.{Exhausted, OneMore, Passed}
+use Rattle.means_walk.specs.Tree.{WalkStep, assumes, comes, made, sought, upTo}
+use Rattle.means_walk.specs.Tree.{Exhausted, OneMore, SweepPassed}
 use Rattle.means_walk.proofs.Steps.{follow, follow-ended, assume-one, assume-end, come-more, come-full, come-not, follow-assumes}
 use Rattle.means_walk.proofs.Steps.{follow-comes, follow-full}
 
 module _ (cap : ℕ) (accept : List Status → Bool) (limit : ℕ) where
   -- ---- one selection more than the cap allows
-  abbrev Over : ℕ → List Step → Log → Log → Type 0
+  abbrev Over : ℕ → List WalkStep → Log → Log → Type 0
   Over c ss log r = (r .ended ≡ No.Many) × (r .work ≡ log .work + made (upTo accept c ss))
 
-  follow-over : (ss : List Step) (log : Log) (c : ℕ) → log .ended ≡ 0 → length (log .found) + c ≡ cap
+  follow-over : (ss : List WalkStep) (log : Log) (c : ℕ) → log .ended ≡ 0 → length (log .found) + c ≡ cap
       → c < length (filter accept (sought ss)) → log .work + made (upTo accept c ss) ≤ limit
       → Over c ss log (follow cap accept limit ss log)
   unfolding follow made sought filter keep upTo
@@ -72,7 +72,7 @@ module _ (cap : ℕ) (accept : List Status → Bool) (limit : ℕ) where
   abbrev Late : Log → Type 0
   Late r = (r .ended ≡ No.TooLong) × (r .work ≡ limit)
 
-  follow-late : (ss : List Step) (log : Log) (c : ℕ) → log .ended ≡ 0 → log .work ≤ limit → length (log .found) + c ≡ cap
+  follow-late : (ss : List WalkStep) (log : Log) (c : ℕ) → log .ended ≡ 0 → log .work ≤ limit → length (log .found) + c ≡ cap
       → limit < log .work + made (upTo accept c ss) → Late (follow cap accept limit ss log)
   unfolding follow made upTo
   follow-late [] log c e w n h = absurd (omega arith)
@@ -117,7 +117,7 @@ module _ (cap : ℕ) (accept : List Status → Bool) (limit : ℕ) where
           subst Late (sym (follow-comes cap accept limit st ss log log (come-not cap accept limit st log e a))) (ih log (suc c) e w n h)
 
   -- steps that come to no more than c accepted selections are not cut
-  up-all : (ss : List Step) (c : ℕ) → length (filter accept (sought ss)) ≤ c → made (upTo accept c ss) ≡ made ss
+  up-all : (ss : List WalkStep) (c : ℕ) → length (filter accept (sought ss)) ≤ c → made (upTo accept c ss) ≡ made ss
   unfolding made sought filter keep upTo
   up-all [] c h = refl
   up-all (assumes ∷ ss) c h = ap suc (up-all ss c h)
@@ -137,7 +137,7 @@ module _ (cap : ℕ) (accept : List Status → Bool) (limit : ℕ) where
       go false h ih = ih (suc c) h
 
   -- and cut steps make no more assumptions
-  pub up-least : (ss : List Step) (c : ℕ) → made (upTo accept c ss) ≤ made ss
+  pub up-least : (ss : List WalkStep) (c : ℕ) → made (upTo accept c ss) ≤ made ss
   unfolding made upTo
   up-least [] c = omega arith
   up-least (assumes ∷ ss) c = omega (arith, up-least ss c)
@@ -153,20 +153,20 @@ module _ (cap : ℕ) (accept : List Status → Bool) (limit : ℕ) where
       go true h k = h
       go false h k = k
 
-  pub up-whole : (ss : List Step) → length (filter accept (sought ss)) ≤ cap → made (upTo accept cap ss) ≡ made ss
+  pub up-whole : (ss : List WalkStep) → length (filter accept (sought ss)) ≤ cap → made (upTo accept cap ss) ≡ made ss
   up-whole ss h = up-all ss cap h
 
   -- ---- the three ends of a walk from nothing
   abbrev none : Log
   none = record { work = 0; found = []; ended = 0 }
 
-  pub follow-ends : (ss : List Step) → Exhausted accept cap limit ss (follow cap accept limit ss none)
-      ⊎ (OneMore accept cap limit ss (follow cap accept limit ss none) ⊎ Passed accept cap limit ss (follow cap accept limit ss none))
+  pub follow-ends : (ss : List WalkStep) → Exhausted accept cap limit ss (follow cap accept limit ss none)
+      ⊎ (OneMore accept cap limit ss (follow cap accept limit ss none) ⊎ SweepPassed accept cap limit ss (follow cap accept limit ss none))
   follow-ends ss = go (decLt limit (made (upTo accept cap ss))) (decLt cap (length (filter accept (sought ss))))
     where
       go : Dec (limit < made (upTo accept cap ss)) → Dec (cap < length (filter accept (sought ss)))
           → Exhausted accept cap limit ss (follow cap accept limit ss none)
-          ⊎ (OneMore accept cap limit ss (follow cap accept limit ss none) ⊎ Passed accept cap limit ss (follow cap accept limit ss none))
+          ⊎ (OneMore accept cap limit ss (follow cap accept limit ss none) ⊎ SweepPassed accept cap limit ss (follow cap accept limit ss none))
       go (yes l) d =
           let r = follow-late ss none cap refl (omega arith) (zero-add cap) (omega arith) in
           inr (inr (record { ended = r .0; long = l; work = r .1 }))

@@ -10,7 +10,7 @@ use lib.Dec.{eqb}
 use borrow.Author.Tests.{eq-eqb, ne-eqb}
 use Rattle.paper.specs.Walk.{Status, Taken, Rejected, openCount, Outcome, Broken, Stands, onStands, sweep, stable, choose}
 use Rattle.means_walk.specs.Complete.{solutions}
-use Rattle.means_walk.specs.Tree.{Sweeps, breaks, rests, again, Tree, broken, leaf, branch, leaves, Step, assumes, comes, steps}
+use Rattle.means_walk.specs.Tree.{Sweeps, breaks, rests, again, Tree, broken, leaf, branch, leaves, WalkStep, assumes, comes, steps}
 use Rattle.means_walk.specs.Lowest.{opens}
 use Rattle.means_walk.proofs.Status.{count-set}
 use Rattle.means_walk.proofs.Complete.{choose-open}
@@ -99,7 +99,7 @@ module _ (masks : List (List Bool)) where
       (ap₂ _++_ (tree-leaves a f (omega arith)) (tree-leaves b f (omega arith)))
 
   -- the steps are those of any other tree of the state: there is one walk
-  stepsOf : ℕ → List Status → List Step
+  stepsOf : ℕ → List Status → List WalkStep
   stepsOf zero st = []
   stepsOf (suc f) st =
       onStands (stable (suc (openCount st)) masks st) []
@@ -119,7 +119,7 @@ module _ (masks : List (List Bool)) where
       let m₀ = m .0 in
       let m₁ = m .1 in
       rw (sweeps-stable w (suc (openCount st)) (omega arith), ne-eqb (openCount s) 0 n)
-      (ap₂ (λ (x y : List Step). assumes ∷ (x ++ (assumes ∷ y))) (tree-steps a f (omega arith)) (tree-steps b f (omega arith)))
+      (ap₂ (λ (x y : List WalkStep). assumes ∷ (x ++ (assumes ∷ y))) (tree-steps a f (omega arith)) (tree-steps b f (omega arith)))
 
   pub one-walk : {st : List Status} (t u : Tree masks st) → steps t ≡ steps u
   one-walk {st} t u = sym (tree-steps t (suc (openCount st)) (omega arith)) ∙ tree-steps u (suc (openCount st)) (omega arith)

@@ -11,17 +11,17 @@ use Rattle.lists.specs.Lists.{filter, keep}
 use Rattle.paper.specs.Refusals as No
 use Rattle.paper.specs.Walk.{Status, Taken, Rejected, openCount, choose, Log, assume, leaf, walk}
 use Rattle.means_walk.specs.Tree as Tree
-use Rattle.means_walk.specs.Tree.{Tree, broken, branch, assumptions, leaves, Step, assumes, comes, steps, made, sought}
+use Rattle.means_walk.specs.Tree.{Tree, broken, branch, assumptions, leaves, WalkStep, assumes, comes, steps, made, sought}
 use Rattle.means_walk.proofs.Grown.{sweeps-stable, sweeps-fewer, chosen-fewer}
 
 -- ---- the steps of a tree: its assumptions and its leaves
-made-append : (a b : List Step) → made (a ++ b) ≡ made a + made b
+made-append : (a b : List WalkStep) → made (a ++ b) ≡ made a + made b
 unfolding made
 made-append [] b = omega arith
 made-append (assumes ∷ a) b = omega (arith, made-append a b)
 made-append (comes s ∷ a) b = made-append a b
 
-sought-append : (a b : List Step) → sought (a ++ b) ≡ sought a ++ sought b
+sought-append : (a b : List WalkStep) → sought (a ++ b) ≡ sought a ++ sought b
 unfolding sought
 sought-append [] b = refl
 sought-append (assumes ∷ a) b = sought-append a b
@@ -41,18 +41,18 @@ sought-steps (branch s w n a b) = sought-append (steps a) (assumes ∷ steps b) 
 
 module _ (cap : ℕ) (accept : List Status → Bool) (limit : ℕ) where
   -- ---- the log along some steps
-  unfoldable pub follow : List Step → Log → Log
+  unfoldable pub follow : List WalkStep → Log → Log
   follow [] log = log
   follow (assumes ∷ ss) log = follow ss (assume limit log)
   follow (comes st ∷ ss) log = follow ss (cond (eqb (log .ended) 0) (leaf cap accept st log) log)
 
-  follow-append : (a b : List Step) (log : Log) → follow (a ++ b) log ≡ follow b (follow a log)
+  follow-append : (a b : List WalkStep) (log : Log) → follow (a ++ b) log ≡ follow b (follow a log)
   unfolding follow
   follow-append [] b log = refl
   follow-append (assumes ∷ a) b log = follow-append a b (assume limit log)
   follow-append (comes s ∷ a) b log = follow-append a b (cond (eqb (log .ended) 0) (leaf cap accept s log) log)
 
-  pub follow-ended : (ss : List Step) (log : Log) → eqb (log .ended) 0 ≡ false → follow ss log ≡ log
+  pub follow-ended : (ss : List WalkStep) (log : Log) → eqb (log .ended) 0 ≡ false → follow ss log ≡ log
   unfolding follow assume
   follow-ended [] log e = refl
   follow-ended (assumes ∷ ss) log e = rw e (follow-ended ss log e)
@@ -62,7 +62,7 @@ module _ (cap : ℕ) (accept : List Status → Bool) (limit : ℕ) where
   unfolding follow
   follow-leaf s log e = rw e
 
-  follow-branch : (a b : List Step) (log : Log)
+  follow-branch : (a b : List WalkStep) (log : Log)
       → follow b (assume limit (follow a (assume limit log))) ≡ follow (assumes ∷ (a ++ (assumes ∷ b))) log
   unfolding follow
   follow-branch a b log = sym (follow-append a (assumes ∷ b) (assume limit log))
@@ -132,20 +132,20 @@ module _ (cap : ℕ) (accept : List Status → Bool) (limit : ℕ) where
   unfolding come leaf
   come-not st log e a = rw (eq-eqb (log .ended) 0 e, a)
 
-  pub follow-assumes : (ss : List Step) (log log′ : Log) → assume limit log ≡ log′ → follow (assumes ∷ ss) log ≡ follow ss log′
+  pub follow-assumes : (ss : List WalkStep) (log log′ : Log) → assume limit log ≡ log′ → follow (assumes ∷ ss) log ≡ follow ss log′
   unfolding follow
   follow-assumes ss log log′ e = ap (follow ss) e
 
-  pub follow-comes : (st : List Status) (ss : List Step) (log log′ : Log) → come st log ≡ log′
+  pub follow-comes : (st : List Status) (ss : List WalkStep) (log log′ : Log) → come st log ≡ log′
       → follow (comes st ∷ ss) log ≡ follow ss log′
   unfolding follow come
   follow-comes st ss log log′ e = ap (follow ss) e
 
   -- ---- all steps are gone
-  abbrev Full : List Step → Log → Log → Type 0
+  abbrev Full : List WalkStep → Log → Log → Type 0
   Full ss log r = (r .ended ≡ 0) × (r .work ≡ log .work + made ss) × (r .found ≡ log .found ++ filter accept (sought ss))
 
-  pub follow-full : (ss : List Step) (log : Log) → log .ended ≡ 0 → log .work + made ss ≤ limit
+  pub follow-full : (ss : List WalkStep) (log : Log) → log .ended ≡ 0 → log .work + made ss ≤ limit
       → length (log .found) + length (filter accept (sought ss)) ≤ cap
       → Full ss log (follow ss log)
   unfolding follow made sought filter keep

@@ -9,7 +9,7 @@ use Rattle.lists.proofs.Truth.{and-left, and-right}
 use Rattle.sets.specs.Word.{bit}
 use Rattle.paper.specs.Conversion.{takens}
 use Rattle.paper.specs.Walk.{Status, Taken, Rejected, Undecided, isTaken}
-use Rattle.means_walk.specs.Complete.{allows, agrees, equal, same, times}
+use Rattle.means_walk.specs.Complete.{allows, agrees, equal, same, timesIn}
 use Rattle.means_walk.proofs.Complete.{same-path}
 
 equal-self : (s : Status) → equal s s ≡ true
@@ -22,25 +22,25 @@ unfolding same
 same-self [] = refl
 same-self (s ∷ x) = ap₂ _&&_ (equal-self s) (same-self x)
 
-pub times-at : (x : List Status) (l : List (List Status)) → 0 < times x l → (i : ℕ) × (i < length l) × (getD l i [] ≡ x)
-unfolding times
+pub times-at : (x : List Status) (l : List (List Status)) → 0 < timesIn x l → (i : ℕ) × (i < length l) × (getD l i [] ≡ x)
+unfolding timesIn
 times-at x [] h = absurd (omega arith)
 times-at x (y ∷ l) h = go (same y x) refl h (times-at x l)
   where
-    go : (b : Bool) → same y x ≡ b → 0 < bit b + times x l → (0 < times x l → (i : ℕ) × (i < length l) × (getD l i [] ≡ x))
+    go : (b : Bool) → same y x ≡ b → 0 < bit b + timesIn x l → (0 < timesIn x l → (i : ℕ) × (i < length l) × (getD l i [] ≡ x))
         → (i : ℕ) × (i < length (y ∷ l)) × (getD (y ∷ l) i [] ≡ x)
     go true e h f = (0, omega arith, same-path y x e)
     go false e h f = let r = f (omega arith) in (suc (r .0), (let q = r .1 in omega arith), r .2)
 
-pub at-times : (l : List (List Status)) (x : List Status) (i : ℕ) → i < length l → getD l i [] ≡ x → 0 < times x l
-unfolding times
+pub at-times : (l : List (List Status)) (x : List Status) (i : ℕ) → i < length l → getD l i [] ≡ x → 0 < timesIn x l
+unfolding timesIn
 at-times [] x i h e = absurd (omega arith)
 at-times (y ∷ l) x zero h e = let q : bit (same y x) ≡ 1 = ap bit (ap (λ (z : List Status). same z x) e ∙ same-self x) in omega arith
 at-times (y ∷ l) x (suc i) h e = omega (arith, at-times l x i (omega arith) e)
 
-pub times-one : (l : List (List Status)) (x : List Status) → times x l ≤ 1 → (i j : ℕ) → i < length l → j < length l → getD l i [] ≡ x
+pub times-one : (l : List (List Status)) (x : List Status) → timesIn x l ≤ 1 → (i j : ℕ) → i < length l → j < length l → getD l i [] ≡ x
     → getD l j [] ≡ x → i ≡ j
-unfolding times
+unfolding timesIn
 times-one [] x t i j hi hj p q = absurd (omega arith)
 times-one (y ∷ l) x t zero zero hi hj p q = refl
 times-one (y ∷ l) x t zero (suc j) hi hj p q =

@@ -16,19 +16,19 @@ opens = map isOpen
 abbrev pub Undecided : List Status → ℕ → Type 0
 Undecided st k = dig (opens st) k ≡ true
 
-abbrev pub On : List (List Bool) → ℕ → ℕ → Type 0
-On masks e k = dig (getD masks e []) k ≡ true
+abbrev pub CandidateOn : List (List Bool) → ℕ → ℕ → Type 0
+CandidateOn masks e k = dig (getD masks e []) k ≡ true
 
-pub record Lowest (masks : List (List Bool)) (st : List Status) (k : ℕ) : Type 0 where
+pub record LowestChoice (masks : List (List Bool)) (st : List Status) (k : ℕ) : Type 0 where
   pub edge : ℕ
   pub here : edge < length masks
-  pub on : On masks edge k
+  pub on : CandidateOn masks edge k
   pub undecided : Undecided st k
-  pub lower-edge : (e j : ℕ) → e < edge → On masks e j → Undecided st j → ⊥
-  pub lower : (j : ℕ) → j < k → On masks edge j → Undecided st j → ⊥
+  pub lower-edge : (e j : ℕ) → e < edge → CandidateOn masks e j → Undecided st j → ⊥
+  pub lower : (j : ℕ) → j < k → CandidateOn masks edge j → Undecided st j → ⊥
 
 -- so at each branch of a tree
 unfoldable pub Chooses : {masks : List (List Bool)} {st : List Status} → Tree masks st → Type 0
 Chooses (broken s) = Unit {0}
 Chooses (leaf st s z) = Unit {0}
-Chooses {masks} (branch st s n a b) = Lowest masks st (choose masks st) × Chooses a × Chooses b
+Chooses {masks} (branch st s n a b) = LowestChoice masks st (choose masks st) × Chooses a × Chooses b

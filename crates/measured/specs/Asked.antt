@@ -7,9 +7,9 @@ use lib.ListN.{length}
 use Rattle.paper.specs.Drawing.{edgesOf}
 use Rattle.drawing_links.specs.Neighbours.{neighbourWords}
 use Rattle.loop_table.specs.Passed.{Passed}
-use Rattle.loop_known.specs.Known.{Roomy}
+use Rattle.loop_known.specs.Known.{RoomyTables}
 
 pub record Loops (xyz : List ℤ) (ends near table planes corners sides : List ℕ) : Type 0 where
   pub passed : Passed xyz ends
   pub near-are : near ≡ neighbourWords (edgesOf ends) (length xyz / 3)
-  pub roomy : Roomy table planes corners sides
+  pub roomy : RoomyTables table planes corners sides

@@ -18,7 +18,7 @@ use Rattle.paper.specs.Desk.{text}
 use Rattle.paper.specs.Questions.{converted, faced, wholly, printed, sized, lent, sent, paired, covering, selected, read, worded}
 use Rattle.paper.specs.Questions.{enclosed, posted, solved, left, bytes, number, answer, wrote, verdicts, rules, tests, reads}
 use Rattle.paper.specs.Questions.{faceBefore, solidBefore, Case, _yields_, asked, said, Holds}
-use Rattle.paper.specs.Known.Drawings.{tetrahedron, corners, cube, outward, inward, openCube, octahedron, nested, centred, touching}
+use Rattle.paper.specs.Known.Drawings.{tetrahedron, corners, cube, outward, inwardFaces, openCube, octahedron, nested, centred, touching}
 use Rattle.paper.specs.Known.Drawings.{eight, sixEnds}
 use Rattle.paper.specs.Known.Polygons as Faces
 use Rattle.paper.specs.declared.Answer.the-variants as Answer
@@ -31,7 +31,7 @@ unfoldable pub table : List Case
 unfolding flatMap row text volume ofBits
 table =
     -- "Pairs": A, none, B, C
-    paired Faces.face Faces.piercing yields rules true false false
+    paired Faces.face Faces.piercingTriangle yields rules true false false
     ∷ paired Faces.face Faces.passing yields rules false false false
     ∷ paired Faces.face Faces.entering yields rules false true false
     ∷ paired Faces.square Faces.folding yields rules false false true
@@ -80,7 +80,7 @@ table =
     -- "6 loops, work 0, 6,000. Its list with all faces turned: 26. Without one edge: NoSolid, work 0."
     ∷ converted cube mostWork yields solved (Conversion.One 6 6 0 6000) (Reading.Volume (volume 6000)) (63 ∷ 21 ∷ 6000 ∷ solidBefore 21)
     ∷ sent cube outward yields verdicts Verdict.Accepted
-    ∷ sent cube inward yields verdicts (Verdict.Refused (record { number = 26; place = 0 }))
+    ∷ sent cube inwardFaces yields verdicts (Verdict.Refused (record { number = 26; place = 0 }))
     -- the same by its sheet; without the edge that two of the faces have, those are no candidates
     ∷ enclosed cube outward yields verdicts Verdict.Accepted
     ∷ enclosed openCube outward yields verdicts (Verdict.Refused (record { number = 21; place = 0 }))

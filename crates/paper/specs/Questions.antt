@@ -23,7 +23,7 @@ use Rattle.paper.specs.Drawing.{pointsOf, wire, joined, drawingChecks}
 use Rattle.paper.specs.Loops.{flipped, row, follows, closes, branch, scan, ext, level, loops, polygon, uncovering, candidates}
 use Rattle.paper.specs.Loops.{loopChecks}
 use Rattle.paper.specs.Clash.{pierces, enters, folds, clash}
-use Rattle.paper.specs.Solids.{runs, runsUp, has, faceSix, clashing, tablesOf, inTwo, unlike, fresh, known, runsDown, acrossEdge}
+use Rattle.paper.specs.Solids.{runs, runsUp, has, faceSix, clashing, tablesOf, inTwo, unlike, fresh, reachedOn, runsDown, acrossEdge}
 use Rattle.paper.specs.Solids.{pass, spread, facesFrom, connected, onceEachWay, oriented, sixFrom, clearFrom, judged}
 use Rattle.paper.specs.Walk.{takenOn, openOn, openCount, decide, contradicts, settle, sweep, stable, choose, assume, leaf, walk}
 use Rattle.paper.specs.Walk.{search}
@@ -117,7 +117,7 @@ unfolding bits val run cut fieldAt fieldsAt Word.digits word count both either l
     member sameList flatMap firstOf filled fillAfter encode farAt wrongAt lowAt edgeChecks contentChecks openChecks countChecks
     closeChecks shapeChecks sheetChecks lentChecks padded sheetOf writerChecks writtenOf roomOf above covers pointsOf wire joined
     drawingChecks row follows closes branch scan ext level loops polygon uncovering candidates loopChecks pierces enters folds clash runs
-    runsUp has faceSix clashing tablesOf inTwo unlike fresh known runsDown acrossEdge pass spread facesFrom connected onceEachWay oriented
+    runsUp has faceSix clashing tablesOf inTwo unlike fresh reachedOn runsDown acrossEdge pass spread facesFrom connected onceEachWay oriented
     sixFrom clearFrom judged takenOn openOn openCount decide contradicts settle sweep stable choose assume leaf walk search accepted
     facesAfter words solidsAfter reported concluded entryChecks conversion convertLists convertSheet faceBits listBits encodeFaces facesAt
     facesIn span bitsOf faceFits wellShaped lowestAt fromPlace flipped fromLowest onward normalForm numberIn maskOf listed notCandidate

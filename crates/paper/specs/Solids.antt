@@ -82,16 +82,16 @@ unlike a b = either (less a b) (less b a)
 unfoldable pub fresh : List Bool → List Bool → Reach → List Bool
 fresh mask taken r = less (both mask taken) (r .reached)
 
-unfoldable pub known : List Bool → List Bool → Reach → List Bool
-known mask taken r = both (both mask taken) (r .reached)
+unfoldable pub reachedOn : List Bool → List Bool → Reach → List Bool
+reachedOn mask taken r = both (both mask taken) (r .reached)
 
 unfoldable pub runsDown : List Bool → List Bool → List Bool → Reach → Bool
-runsDown mask up taken r = eqb (count (both (known mask taken r) up)) (count (both (known mask taken r) (r .turned)))
+runsDown mask up taken r = eqb (count (both (reachedOn mask taken r) up)) (count (both (reachedOn mask taken r) (r .turned)))
 
 -- over an edge of which one face is reached: the other is reached too, and is to run it the other way
 unfoldable pub acrossEdge : List Bool → List Bool → List Bool → Reach → Reach
 acrossEdge mask up taken r =
-    cond (eqb (count (known mask taken r)) 1)
+    cond (eqb (count (reachedOn mask taken r)) 1)
     (record {
       reached = either (r .reached) (fresh mask taken r);
       turned = either (r .turned) (cond (runsDown mask up taken r) (less (fresh mask taken r) up) (both (fresh mask taken r) up));

@@ -12,7 +12,7 @@ use Rattle.paper.specs.Points.{pt, origin}
 use Rattle.paper.specs.Drawing.{Wire, pointsOf, at}
 use Rattle.paper.specs.Loops.{polygon}
 use Rattle.paper.specs.declared.Point.{Point}
-use Rattle.polygon.specs.Rings.{pointOf, countIn, vertexIn, loopIn, ring, Row}
+use Rattle.polygon.specs.Rings.{pointOf, cornerCount, vertexIn, loopIn, ring, Row}
 use Rattle.polygon.proofs.Rows.{loop-length, loop-at, ring-length, ring-at}
 
 pub point-of : (l : List ℤ) (v : ℕ) → 3 * v + 2 < length l → getD (pointsOf l) v origin ≡ pointOf l v
@@ -39,7 +39,7 @@ unfolding polygon at
 polygon-is d {l} {t} {r} w e =
     ext-getD origin (map (at d) (loopIn t r)) (ring l t r) (length-map (loopIn t r) (at d) ∙ loop-length w ∙ sym (ring-length w))
     (λ k h.
-    let n : k < countIn t r = omega (arith, length-map (loopIn t r) (at d), loop-length w) in
+    let n : k < cornerCount t r = omega (arith, length-map (loopIn t r) (at d), loop-length w) in
     map-at (at d) (loopIn t r) k 0 origin (omega (arith, length-map (loopIn t r) (at d)))
     ∙ ap (at d) (loop-at w k n)
     ∙ ap (λ (vs : List Point). getD vs (vertexIn t r k) origin) e

@@ -13,7 +13,7 @@ use Rattle.paper.specs.Points.{origin, dot, minus}
 use Rattle.paper.specs.Polygon.{Polygon, corner, planeSide}
 use Rattle.paper.specs.declared.Point.{Point}
 use Rattle.polygon.specs.Sizes.{PointWithin, mostNormal, mostPlaneSide}
-use Rattle.polygon.specs.Rings.{ring, cornerOf, Face}
+use Rattle.polygon.specs.Rings.{ring, cornerOf, FaceRow}
 use Rattle.polygon.proofs.Sizes.{small-eq, minus-small, dot-small}
 use Rattle.polygon.proofs.Rows.{ring-least, ring-most, corner-small}
 use Rattle.polygon.proofs.Areas.{normal-small}
@@ -23,7 +23,7 @@ unfolding corner
 first-is [] h = around-low [] 0 origin h
 first-is (p ∷ ps) h = around-low (p ∷ ps) 0 origin h
 
-module _ {l : List ℤ} {t : List ℕ} {r : ℕ} {m : Point} (f : Face l t r m) where
+module _ {l : List ℤ} {t : List ℕ} {r : ℕ} {m : Point} (f : FaceRow l t r m) where
   pub face-normal : PointWithin mostNormal m
   face-normal = small-eq (f .across) (normal-small (ring l t r) (corner-small (f .row)) (ring-most (f .row)))
 

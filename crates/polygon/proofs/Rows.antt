@@ -13,7 +13,7 @@ use Rattle.paper.specs.Numbers.{farthest, leastCorners, mostCorners, rowBytes}
 use Rattle.paper.specs.Points.{origin}
 use Rattle.paper.specs.declared.Point.{Point}
 use Rattle.polygon.specs.Sizes.{PointWithin}
-use Rattle.polygon.specs.Rings.{pointOf, countIn, vertexIn, loopIn, ring, cornerOf, Row, CornerIn}
+use Rattle.polygon.specs.Rings.{pointOf, cornerCount, vertexIn, loopIn, ring, cornerOf, Row, CornerIn}
 use Rattle.polygon.proofs.Sizes.{origin-small, small-eq}
 
 pub point-small : (l : List ℤ) → ((k : ℕ) → Within farthest (getD l k (pos 0))) → (v : ℕ) → PointWithin farthest (pointOf l v)
@@ -21,22 +21,22 @@ unfolding pointOf
 point-small l h v = record { x-in = h (3 * v); y-in = h (3 * v + 1); z-in = h (3 * v + 2) }
 
 module _ {l : List ℤ} {t : List ℕ} {r : ℕ} (g : Row l t r) where
-  pub loop-length : length (loopIn t r) ≡ countIn t r
+  pub loop-length : length (loopIn t r) ≡ cornerCount t r
   unfolding loopIn
   loop-length =
       let h = g .room in
       let m = g .most in
-      length-take-le (countIn t r) (drop (rowBytes * r + 1) t) (omega (arith, length-drop (rowBytes * r + 1) t))
+      length-take-le (cornerCount t r) (drop (rowBytes * r + 1) t) (omega (arith, length-drop (rowBytes * r + 1) t))
 
-  pub loop-at : (k : ℕ) → k < countIn t r → getD (loopIn t r) k 0 ≡ vertexIn t r k
+  pub loop-at : (k : ℕ) → k < cornerCount t r → getD (loopIn t r) k 0 ≡ vertexIn t r k
   unfolding loopIn
-  loop-at k h = getD-take (countIn t r) (drop (rowBytes * r + 1) t) k 0 h ∙ getD-drop (rowBytes * r + 1) t k 0
+  loop-at k h = getD-take (cornerCount t r) (drop (rowBytes * r + 1) t) k 0 h ∙ getD-drop (rowBytes * r + 1) t k 0
 
-  pub ring-length : length (ring l t r) ≡ countIn t r
+  pub ring-length : length (ring l t r) ≡ cornerCount t r
   unfolding ring
   ring-length = length-map (loopIn t r) (pointOf l) ∙ loop-length
 
-  pub ring-at : (k : ℕ) → k < countIn t r → getD (ring l t r) k origin ≡ pointOf l (vertexIn t r k)
+  pub ring-at : (k : ℕ) → k < cornerCount t r → getD (ring l t r) k origin ≡ pointOf l (vertexIn t r k)
   unfolding ring
   ring-at k h = map-at (pointOf l) (loopIn t r) k 0 origin (omega (arith, loop-length)) ∙ ap (pointOf l) (loop-at k h)
 

@@ -16,14 +16,14 @@ unfoldable pub pointOf : List ℤ → ℕ → Point
 pointOf l v = pt (getD l (3 * v) (pos 0)) (getD l (3 * v + 1) (pos 0)) (getD l (3 * v + 2) (pos 0))
 
 -- a row of a table: its corner count, its corners, and fill
-abbrev pub countIn : List ℕ → ℕ → ℕ
-countIn t r = getD t (rowBytes * r) 0
+abbrev pub cornerCount : List ℕ → ℕ → ℕ
+cornerCount t r = getD t (rowBytes * r) 0
 
 abbrev pub vertexIn : List ℕ → ℕ → ℕ → ℕ
 vertexIn t r k = getD t (rowBytes * r + 1 + k) 0
 
 unfoldable pub loopIn : List ℕ → ℕ → List ℕ
-loopIn t r = take (countIn t r) (drop (rowBytes * r + 1) t)
+loopIn t r = take (cornerCount t r) (drop (rowBytes * r + 1) t)
 
 unfoldable pub ring : List ℤ → List ℕ → ℕ → Polygon
 unfolding loopIn pointOf
@@ -41,9 +41,9 @@ cornerOf g j = around g j origin
 pub record Row (l : List ℤ) (t : List ℕ) (r : ℕ) : Type 0 where
   pub near : (k : ℕ) → Within farthest (getD l k (pos 0))
   pub room : rowBytes * r + rowBytes ≤ length t
-  pub least : leastCorners ≤ countIn t r
-  pub most : countIn t r ≤ mostCorners
-  pub known : (k : ℕ) → k < countIn t r → 3 * vertexIn t r k + 2 < length l
+  pub least : leastCorners ≤ cornerCount t r
+  pub most : cornerCount t r ≤ mostCorners
+  pub known : (k : ℕ) → k < cornerCount t r → 3 * vertexIn t r k + 2 < length l
 
 -- such a row, and j once round it or twice
 pub record CornerIn (l : List ℤ) (t : List ℕ) (r j : ℕ) : Type 0 where
@@ -51,16 +51,16 @@ pub record CornerIn (l : List ℤ) (t : List ℕ) (r j : ℕ) : Type 0 where
   pub twice : j < 2 * length (ring l t r)
 
 -- such a row with its normal, which is made once
-pub record Face (l : List ℤ) (t : List ℕ) (r : ℕ) (m : Point) : Type 0 where
+pub record FaceRow (l : List ℤ) (t : List ℕ) (r : ℕ) (m : Point) : Type 0 where
   pub row : Row l t r
   pub across : m ≡ normal (ring l t r)
 
 -- a row with its normal, and a row to hold against it
 pub record FaceAndRow (l : List ℤ) (t : List ℕ) (g : ℕ) (m : Point) (h : ℕ) : Type 0 where
-  pub face : Face l t g m
+  pub face : FaceRow l t g m
   pub row : Row l t h
 
 -- two rows, each with its normal
 pub record TwoFaces (l : List ℤ) (t : List ℕ) (f : ℕ) (mf : Point) (g : ℕ) (mg : Point) : Type 0 where
-  pub f-face : Face l t f mf
-  pub g-face : Face l t g mg
+  pub f-face : FaceRow l t f mf
+  pub g-face : FaceRow l t g mg

@@ -7,7 +7,7 @@ ghost use Rattle.paper.specs.Numbers.{rowBytes};
 ghost use Rattle.paper.specs.Points.{dot, minus};
 ghost use Rattle.paper.specs.Polygon.{normal, onePlane};
 ghost use Rattle.polygon.specs.Sizes.{PlaneWithin};
-ghost use Rattle.polygon.specs.Rings.{pointOf, countIn, ring, ofRows, cornerOf, Row, CornerIn, FaceAndRow};
+ghost use Rattle.polygon.specs.Rings.{pointOf, cornerCount, ring, ofRows, cornerOf, Row, CornerIn, FaceAndRow};
 use super::points::cross;
 use super::points::dot;
 use super::points::is_zero;
@@ -32,7 +32,7 @@ pub fn point_at(xyz: &[i64], v: usize) -> Point
 // The corner count of row r.
 pub fn count(table: &[u8], r: usize) -> usize
     requires { ⌜ rowBytes * r + rowBytes ≤ length (now table) ⌝ }
-    ensures { λ n. ⌜ n ≡ countIn (now (table .entry)) r ⌝ }
+    ensures { λ n. ⌜ n ≡ cornerCount (now (table .entry)) r ⌝ }
 {
     wide(table[ROW * r])
 }

@@ -14,10 +14,10 @@ use lib.Ieee.Scale.{round-same}
 use Rattle.paper.specs.Reading.{readingOf, volume}
 use Rattle.paper.specs.declared.Conversion.{Conversion}
 use Rattle.paper.specs.declared.Reading.the-variants as Reading
-use Rattle.reading.specs.Exact.{sixPerCubicMetre, mostExact, Held, ExactVolume}
+use Rattle.reading.specs.Exact.{sixPerCubicMetre, mostExact, HeldExactly, ExactVolume}
 
 -- "both held exactly"
-pub held : (n : ℕ) → n ≤ mostExact → Held n
+pub held : (n : ℕ) → n ≤ mostExact → HeldExactly n
 unfolding ofInt
 held n h = round-whole binary64 false n h
 

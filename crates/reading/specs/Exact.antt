@@ -19,13 +19,13 @@ abbrev pub mostExact : ℕ
 mostExact = 2 ^ prec binary64
 
 -- "both held exactly": the double of a whole number is that number
-abbrev pub Held : ℕ → Type 0
-Held n = HasValue (ofInt binary64 (pos n)) false n 1
+abbrev pub HeldExactly : ℕ → Type 0
+HeldExactly n = HasValue (ofInt binary64 (pos n)) false n 1
 
 -- "rounded once": the double nearest to the quotient of the two whole numbers
 pub record Exactly (six : ℕ) (r : Reading) : Type 0 where
-  pub dividend : Held six
-  pub divisor : Held sixPerCubicMetre
+  pub dividend : HeldExactly six
+  pub divisor : HeldExactly sixPerCubicMetre
   pub once : r ≡ Reading.Volume (round binary64 false six sixPerCubicMetre)
 
 -- the exact case of a reading

@@ -8,7 +8,7 @@ use Rattle.paper.specs.Conversion.{concluded}
 use Rattle.paper.specs.declared.Conversion.{Conversion}
 use Rattle.paper.specs.declared.Conversion.the-variants as Conversion
 use Rattle.walk.specs.declared.tally.Tally.{Tally}
-use Rattle.report.specs.Concluded.{Reported, Concluded}
+use Rattle.report.specs.Concluded.{ReportedAs, Concluded}
 
 module _ {loops n : ℕ} {rows : List ℕ} {t : Tally} {out faces₀ solids₀ : List ℕ} where
   pub says-many : t .ended ≡ No.Many → Concluded loops n rows t out faces₀ faces₀ solids₀ solids₀ (Conversion.Many loops n (t .work))
@@ -32,7 +32,7 @@ module _ {loops n : ℕ} {rows : List ℕ} {t : Tally} {out faces₀ solids₀ :
 
     -- it was not cut: by what it found
     pub says-reported : {faces solids : List ℕ} {r : Conversion} → (t .ended ≡ No.TooLong → ⊥)
-        → Reported loops n rows t out faces₀ faces solids₀ solids r → Concluded loops n rows t out faces₀ faces solids₀ solids r
+        → ReportedAs loops n rows t out faces₀ faces solids₀ solids r → Concluded loops n rows t out faces₀ faces solids₀ solids r
     unfolding concluded
     says-reported l x = record {
       same = λ cs tables log lent k held s.

@@ -18,7 +18,7 @@ use Rattle.walk.specs.Tally.{Stored}
 use Rattle.walk.specs.declared.tally.Tally.{Tally}
 use Rattle.rooms.specs.Rooms.{copied}
 use Rattle.report.specs.Room.{Wrote}
-use Rattle.report.specs.Concluded.{Concluding, Reported}
+use Rattle.report.specs.Concluded.{Concluding, ReportedAs}
 
 -- ---- the definition, by the number of solids
 module _ (loops : ℕ) (cs : List Loop) (tables : Tables) (work : ℕ) (faces solids : List ℕ) where
@@ -85,7 +85,7 @@ module _ {n : ℕ} {rows : List ℕ} {t : Tally} {out faces₀ faces solids₀ s
 -- ---- the ways out
 module _ {loops n : ℕ} {rows : List ℕ} {t : Tally} {out faces₀ solids₀ : List ℕ} where
   pub says-no-solid : t .found ≡ 0
-      → Reported loops n rows t out faces₀ faces₀ solids₀ solids₀ (Conversion.NoSolid loops n (t .work))
+      → ReportedAs loops n rows t out faces₀ faces₀ solids₀ solids₀ (Conversion.NoSolid loops n (t .work))
   says-no-solid z = record {
     same = λ cs tables log lent k held s.
         none-found loops cs tables (log .work) faces₀ solids₀ (log .found) (sym (s .counts .found-is) ∙ z)
@@ -95,7 +95,7 @@ module _ {loops n : ℕ} {rows : List ℕ} {t : Tally} {out faces₀ solids₀ :
   module _ {faces solids : List ℕ} (p : Concluding n rows t out faces₀ solids₀)
       (w : Wrote rows n out (t .found) faces₀ faces solids₀ solids) where
     pub says-one : t .found ≡ 1
-        → Reported loops n rows t out faces₀ faces solids₀ solids (Conversion.One loops n (t .work) (getD out 2 0))
+        → ReportedAs loops n rows t out faces₀ faces solids₀ solids (Conversion.One loops n (t .work) (getD out 2 0))
     says-one e = record {
       same = λ cs tables log lent k held s.
           one-found loops cs tables (log .work) faces₀ solids₀ (log .found) lent (sym (s .counts .found-is) ∙ e)
@@ -107,7 +107,7 @@ module _ {loops n : ℕ} {rows : List ℕ} {t : Tally} {out faces₀ solids₀ :
     }
 
     pub says-several : 1 < t .found
-        → Reported loops n rows t out faces₀ faces solids₀ solids (Conversion.Several loops n (t .work) (t .found))
+        → ReportedAs loops n rows t out faces₀ faces solids₀ solids (Conversion.Several loops n (t .work) (t .found))
     says-several h = record {
       same = λ cs tables log lent k held s.
           several-found loops cs tables (log .work) faces₀ solids₀ (log .found) (omega (arith, s .counts .found-is))

@@ -21,7 +21,7 @@ pub record Concluding (n : ℕ) (rows : List ℕ) (t : Tally) (out faces solids 
   pub solid-room : solidRoom ≤ length solids
 
 -- of all candidates whose rows are lent, and of every log of the walk that the tally and the words in `out` stand for
-pub record Reported (loops n : ℕ) (rows : List ℕ) (t : Tally) (out faces₀ faces solids₀ solids : List ℕ) (r : Conversion) : Type 0 where
+pub record ReportedAs (loops n : ℕ) (rows : List ℕ) (t : Tally) (out faces₀ faces solids₀ solids : List ℕ) (r : Conversion) : Type 0 where
   pub same : (cs : List Loop) (tables : Tables) (log : Log) (lent : List ℕ) → length cs ≡ n → HoldsRows rows cs
       → Stored tables lent t out log
       → reported loops cs tables (log .work) (log .found) faces₀ solids₀ ≡ record { answer = r; faces = faces; solids = solids }

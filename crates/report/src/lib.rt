@@ -2,7 +2,7 @@
 // that the walk stored.
 mod room;
 
-ghost use Rattle.report.specs.Concluded.{Concluding, Reported, Concluded};
+ghost use Rattle.report.specs.Concluded.{Concluding, ReportedAs, Concluded};
 use paper::Conversion;
 use paper::FACE_ROOM;
 use paper::MANY;
@@ -26,7 +26,7 @@ fn reported(
     solids: &mut [u64],
 ) -> Conversion
     requires { ⌜ Concluding n (now rows) t (now out) (now faces) (now solids) ⌝ }
-    ensures { λ r. ⌜ Reported loops n (now (rows .entry)) t (now (out .entry)) (now (faces .entry)) (now (faces .exit))
+    ensures { λ r. ⌜ ReportedAs loops n (now (rows .entry)) t (now (out .entry)) (now (faces .entry)) (now (faces .exit))
         (now (solids .entry)) (now (solids .exit)) r ⌝ }
 {
     let work = t.work;

@@ -14,12 +14,12 @@ use Rattle.sheet_shape.specs.Narrow.{narrowBits, Narrow}
 use Rattle.sheet_shape.specs.Fields.{Fields}
 
 -- coordinates that fit their fields, and room for those from bit i on
-pub record Coordinates (xyz : List ℤ) (room : List ℕ) (i : ℕ) : Type 0 where
+pub record CoordinatesFit (xyz : List ℤ) (room : List ℕ) (i : ℕ) : Type 0 where
   pub near : Near xyz
   pub fields : Fields room i coordinateBits (length xyz)
 
 -- room for the numbers in fields of w bits from bit i on
-pub record Numbers (list room : List ℕ) (i w : ℕ) : Type 0 where
+pub record NumbersFit (list room : List ℕ) (i w : ℕ) : Type 0 where
   pub narrow : w ≤ narrowBits
   pub fields : Fields room i w (length list)
 

@@ -6,7 +6,7 @@ ghost use Rattle.pack.specs.Bits.{run, Put};
 ghost use Rattle.paper.specs.Format.{coordinateBits, onSheet, headBits};
 ghost use Rattle.paper.specs.Sheet.{far, writtenOf, roomOf};
 ghost use Rattle.sheet_shape.specs.Narrow.{Narrow};
-ghost use Rattle.sheet_writer.specs.Asked.{Coordinates, Numbers, HeadRoom, Writable};
+ghost use Rattle.sheet_writer.specs.Asked.{CoordinatesFit, NumbersFit, HeadRoom, Writable};
 ghost use Rattle.sheet_writer.specs.Room.{sheetIn};
 use drawing_lists::lend::lent;
 use paper::Answer;
@@ -25,7 +25,7 @@ fn to_field(z: i64) -> u64
 
 // Writes the coordinates into their fields from bit i on.
 fn put_coordinates(xyz: &[i64], room: &mut [u8], i: usize)
-    requires { ⌜ Coordinates (now xyz) (now room) i ⌝ }
+    requires { ⌜ CoordinatesFit (now xyz) (now room) i ⌝ }
     ensures { λ _. ⌜ Put (now (room .entry)) (now (room .exit)) i (run coordinateBits (map onSheet (now (xyz .entry)))) ⌝ }
 {
     let mut k: usize = 0;
@@ -42,7 +42,7 @@ fn put_coordinates(xyz: &[i64], room: &mut [u8], i: usize)
 
 // Writes the numbers into the fields of w bits from bit i on.
 fn put_numbers(list: &[u8], room: &mut [u8], i: usize, w: usize)
-    requires { ⌜ Numbers (now list) (now room) i w ⌝ }
+    requires { ⌜ NumbersFit (now list) (now room) i w ⌝ }
     ensures { λ _. ⌜ Put (now (room .entry)) (now (room .exit)) i (run w (now (list .entry))) ⌝ }
 {
     let mut k: usize = 0;

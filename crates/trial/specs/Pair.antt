@@ -6,5 +6,5 @@ use lib.ListN.{length}
 use Rattle.trial.specs.declared.Pair.{Pair}
 use Rattle.trial.specs.declared.Pair.the-variants as Pair
 
-abbrev pub Stand : List ℕ → ℕ → Pair → Type 0
-Stand book at r = (m : ℕ) (n : ℕ) → r ≡ Pair.Ends m n → (at + 2 ≤ m) × (m + 2 ≤ n) × (n ≤ length book)
+abbrev pub PairStands : List ℕ → ℕ → Pair → Type 0
+PairStands book at r = (m : ℕ) (n : ℕ) → r ≡ Pair.Ends m n → (at + 2 ≤ m) × (m + 2 ≤ n) × (n ≤ length book)

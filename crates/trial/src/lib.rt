@@ -4,7 +4,7 @@ ghost use mathlib.Core.Option.{some};
 ghost use Prim.Native.Nat.{ℕ, _+_, _≤_, _<_};
 ghost use lib.ListN.{length};
 ghost use Rattle.lists.specs.Found.{found};
-ghost use Rattle.trial.specs.Pair.{Stand};
+ghost use Rattle.trial.specs.Pair.{PairStands};
 use libc::STDOUT_FILENO;
 use lists::Found;
 
@@ -59,7 +59,7 @@ pub fn end_of(book: &[u8], at: usize) -> Found
 
 // The same of two items, one behind the other.
 pub fn ends_of(book: &[u8], at: usize) -> Pair
-    ensures { λ r. ⌜ Stand (now (book .entry)) at r ⌝ }
+    ensures { λ r. ⌜ PairStands (now (book .entry)) at r ⌝ }
 {
     let Found::Value(middle) = end_of(book, at) else {
         return Pair::Nothing;

@@ -13,7 +13,7 @@ use Rattle.paper.specs.declared.Answer.the-variants.{Fine}
 abbrev pub prime : ℕ
 prime = 4294967291
 
-pub record RowOf (table : List ℕ) (k sum : ℕ) : Type 0 where
+pub record RowThere (table : List ℕ) (k sum : ℕ) : Type 0 where
   pub there : rowBytes * k + rowBytes ≤ length table
   pub low : sum < prime
 
@@ -23,7 +23,7 @@ pub record RowsOf (table : List ℕ) (n : ℕ) (corners sides : List ℕ) : Type
   pub corners-there : n ≤ length corners
   pub sides-there : n ≤ length sides
 
-pub record LoopsOf (table : List ℕ) (n : ℕ) (corners sides planes : List ℕ) : Type 0 where
+pub record LoopsRead (table : List ℕ) (n : ℕ) (corners sides planes : List ℕ) : Type 0 where
   pub rows : RowsOf table n corners sides
   pub planes-there : n ≤ length planes
 

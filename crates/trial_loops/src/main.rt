@@ -5,7 +5,7 @@ ghost use Prim.Native.Nat.{_<_};
 ghost use Rattle.paper_laws.specs.InRange.{Held};
 ghost use Rattle.loop_known.specs.Known.{DrawnBy};
 ghost use Rattle.loop_cover.specs.Known.{Known};
-ghost use Rattle.trial_loops.specs.Sums.{prime, RowOf, RowsOf, LoopsOf, Ruled};
+ghost use Rattle.trial_loops.specs.Sums.{prime, RowThere, RowsOf, LoopsRead, Ruled};
 use candidates::candidates;
 use drawing_links::neighbours;
 use drawing_lists::lend::lent;
@@ -45,7 +45,7 @@ fn more(sum: u64, n: u64) -> u64
 
 // A checksum with the bytes of row k.
 fn more_row(table: &[u8], k: usize, sum: u64) -> u64
-    requires { ⌜ RowOf (now table) k sum ⌝ }
+    requires { ⌜ RowThere (now table) k sum ⌝ }
     ensures { λ r. ⌜ r < prime ⌝ }
 {
     let mut s = sum;
@@ -72,7 +72,7 @@ fn candidates_sum(rows: &[u8], n: usize, corners: &[u64], sides: &[u64]) -> u64
 
 // The checksum of n rows with three words each.
 fn loops_sum(table: &[u8], n: usize, corners: &[u64], sides: &[u64], planes: &[u64]) -> u64
-    requires { ⌜ LoopsOf (now table) n (now corners) (now sides) (now planes) ⌝ }
+    requires { ⌜ LoopsRead (now table) n (now corners) (now sides) (now planes) ⌝ }
 {
     let mut s = 0;
     let mut k = 0;

@@ -11,7 +11,7 @@ use Rattle.paper.specs.declared.Answer.the-variants.{Fine}
 use Rattle.walk_leaf.specs.Tests.{Judging}
 use Rattle.walk_input.specs.declared.rows.Counts.{Counts}
 
-pub record Walking (m : ℕ) (sixes : List ℤ) (c : Counts) : Type 0 where
+pub record WalkingTables (m : ℕ) (sixes : List ℤ) (c : Counts) : Type 0 where
   pub judging : Judging m sixes
   pub few : c .candidates ≤ room
 

@@ -5,7 +5,7 @@ ghost use Prim.Native.Nat.{_≤_, _+_};
 ghost use lib.ListN.{length};
 ghost use Rattle.paper_laws.specs.InRange.{Held};
 ghost use Rattle.walk.specs.Tally.{Roomy};
-ghost use Rattle.trial_walk.specs.Asked.{Ruled, Walking};
+ghost use Rattle.trial_walk.specs.Asked.{Ruled, WalkingTables};
 use drawing_lists::lend::lent;
 use libc::STDIN_FILENO;
 use lists::Found;
@@ -83,7 +83,7 @@ fn show_walk(
     c: Counts,
     limit: u64,
 )
-    requires { ⌜ Walking m (now sixes) c ⌝ }
+    requires { ⌜ WalkingTables m (now sixes) c ⌝ }
 {
     let mut out = [0u64; SOLID_ROOM];
     let n = c.candidates;

@@ -22,7 +22,7 @@ use Rattle.faces_laws.proofs.FaceList.{length-in}
 use Rattle.faces_reader.specs.Filed.{allRows}
 use Rattle.faces_reader.proofs.Filed.{held, fine-is}
 use Rattle.verdict_faces.specs.Form.{FaceIn}
-use Rattle.verdict_faces.specs.Named.{Holds}
+use Rattle.verdict_faces.specs.Named.{HoldsTable}
 use Rattle.verdict_faces.proofs.Held.{face-held, padded-held}
 
 module _ (v : ℕ) (list : List ℕ) {x : Faces} (e : x ≡ facesOf editionOne v list) where
@@ -75,11 +75,11 @@ module _ (v : ℕ) (list : List ℕ) {x : Faces} (e : x ≡ facesOf editionOne v
     short k h = fit k h .1
 
     -- in rows
-    pub faces-held : Holds (x .rows) (x .count) fs
+    pub faces-held : HoldsTable (x .rows) (x .count) fs
     faces-held =
         let all = length-in editionOne list ∙ sym count-is in
         let rows = sym (ap (λ (y : Faces). y .rows) is-held) in
-        transport (λ i. Holds (rows i) (all i) fs) (padded-held fs short allRows)
+        transport (λ i. HoldsTable (rows i) (all i) fs) (padded-held fs short allRows)
 
     pub cornered : (i : ℕ) → i < x .count → FaceIn (x .rows) i
     cornered i h = face-held faces-held i h (fit i (omega (arith, faces-held .count)) .0)

@@ -13,22 +13,22 @@ use Rattle.loop_table.proofs.Loops as Loops
 use Rattle.loop_table.proofs.Loops.{candidates-of}
 use Rattle.loop_table.proofs.Rows.{rows-held, rows-kept}
 use Rattle.walk_tables.specs.Words.{WalkTables}
-use Rattle.walk_input.specs.Given.{Passed}
+use Rattle.walk_input.specs.Given.{PassedLists}
 use Rattle.walk_input.specs.Tables.{Ready}
 use Rattle.walk_input.specs.declared.rows.Counts.{Counts}
 use Rattle.walk_input.proofs.Given.{few-edges}
-use Rattle.verdict_faces.specs.Named.{Holds}
+use Rattle.verdict_faces.specs.Named.{HoldsTable}
 use Rattle.verdict.specs.Checked.{ListAt}
 
 -- three coordinates for each vertex
-pub vertices-are : (xyz : List ℤ) (ends : List ℕ) → Passed xyz ends → length xyz / 3 ≡ length (wire xyz ends .vertices)
+pub vertices-are : (xyz : List ℤ) (ends : List ℕ) → PassedLists xyz ends → length xyz / 3 ≡ length (wire xyz ends .vertices)
 vertices-are xyz ends ok =
     let r = lent-range xyz ends ok in
     omega (arith, r .points .whole, Loops.vertices-are r)
 
 module _ {xyz : List ℤ} {ends rows₀ rows : List ℕ} {tables : WalkTables} {c : Counts} (r : Ready xyz ends rows₀ rows tables c) where
   -- the rows are those of the candidates
-  pub rows-hold : Holds rows (c .candidates) (candidates (wire xyz ends))
+  pub rows-hold : HoldsTable rows (c .candidates) (candidates (wire xyz ends))
   rows-hold =
       let d = wire xyz ends in
       record {
@@ -37,7 +37,7 @@ module _ {xyz : List ℤ} {ends rows₀ rows : List ℕ} {tables : WalkTables} {
         short = candidates-of d .short;
       }
 
-  pub list-at : Passed xyz ends → length rows₀ ≡ faceRoom → ListAt rows (c .candidates) (length ends / 2) (tables .sixes)
+  pub list-at : PassedLists xyz ends → length rows₀ ≡ faceRoom → ListAt rows (c .candidates) (length ends / 2) (tables .sixes)
   list-at ok whole =
       let d = wire xyz ends in
       record {

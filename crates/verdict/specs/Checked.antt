@@ -17,7 +17,7 @@ use Rattle.paper.specs.Verdict.{listed, faceChecks, verdictFor}
 use Rattle.paper.specs.declared.Verdict.{Verdict}
 use Rattle.walk_tables.specs.Words.{SmallSixes, WalkTables, Lent}
 use Rattle.walk_input.specs.Tables.{checksOf}
-use Rattle.verdict_faces.specs.Named.{Holds}
+use Rattle.verdict_faces.specs.Named.{HoldsTable}
 
 -- ---- a list, of n candidates whose rows and tables are lent
 
@@ -28,7 +28,7 @@ listChecks v cs t list =
 
 pub record ListAt (rows : List ℕ) (n m : ℕ) (sixes : List ℤ) : Type 0 where
   pub loops : List Loop
-  pub held : Holds rows n loops
+  pub held : HoldsTable rows n loops
   pub few : n ≤ mostCandidates
   pub rows-long : length rows ≡ faceRoom
   pub edges : m ≤ editionOne .«most_edges»
@@ -36,7 +36,7 @@ pub record ListAt (rows : List ℕ) (n m : ℕ) (sixes : List ℤ) : Type 0 wher
 
 abbrev pub ListChecked : List ℕ → ℕ → List ℕ → ℕ → WalkTables → ℕ → Verdict → Type 0
 ListChecked list v rows n tables m r =
-    (cs : List Loop) (t : Tables) → Holds rows n cs → Lent tables m n t → r ≡ verdictFor (firstOf (listChecks v cs t list))
+    (cs : List Loop) (t : Tables) → HoldsTable rows n cs → Lent tables m n t → r ≡ verdictFor (firstOf (listChecks v cs t list))
 
 -- ---- a drawing that passed 3 to 10
 
@@ -44,5 +44,5 @@ ListChecked list v rows n tables m r =
 abbrev pub restChecks : Wire → List ℕ → List Check
 restChecks d list = checksOf d ++ listChecks (length (d .vertices)) (candidates d) (tablesOf d (candidates d)) list
 
-abbrev pub Checks : List ℤ → List ℕ → List ℕ → Verdict → Type 0
-Checks xyz ends list r = r ≡ verdictFor (firstOf (restChecks (wire xyz ends) list))
+abbrev pub VerdictChecked : List ℤ → List ℕ → List ℕ → Verdict → Type 0
+VerdictChecked xyz ends list r = r ≡ verdictFor (firstOf (restChecks (wire xyz ends) list))

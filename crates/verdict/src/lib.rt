@@ -5,8 +5,8 @@ mod faces;
 ghost use mathlib.Core.Path.{_≡_};
 ghost use Rattle.paper.specs.Reading.{verdictSays};
 ghost use Rattle.paper.specs.Verdict.{verdictLists, verdictSheet};
-ghost use Rattle.walk_input.specs.Given.{pointsOf, linksOf, Passed, Given};
-ghost use Rattle.verdict.specs.Checked.{Checks};
+ghost use Rattle.walk_input.specs.Given.{coordinatesOf, linksOf, PassedLists, GivenDrawing};
+ghost use Rattle.verdict.specs.Checked.{VerdictChecked};
 use drawing_lists::lend::lent;
 use faces::faces_checked;
 use paper::Answer;
@@ -23,8 +23,8 @@ use walk_input::tables;
 
 // Refusals 11 to 16, then 20 to 27, of lists that passed 3 to 10.
 fn checked(xyz: &[i64], ends: &[u8], list: &[u8]) -> Verdict
-    requires { ⌜ Passed (now xyz) (now ends) ⌝ }
-    ensures { λ r. ⌜ Checks (now (xyz .entry)) (now (ends .entry)) (now (list .entry)) r ⌝ }
+    requires { ⌜ PassedLists (now xyz) (now ends) ⌝ }
+    ensures { λ r. ⌜ VerdictChecked (now (xyz .entry)) (now (ends .entry)) (now (list .entry)) r ⌝ }
 {
     let mut rows = [FILL; FACE_ROOM];
     let mut on = [0u64; MOST_EDGES];
@@ -76,8 +76,8 @@ pub fn check(xyz: &[i64], ends: &[u8], list: &[u8]) -> Verdict
 
 // The same of a drawing by value, whose arrays have its lists in front.
 fn drawing_checked(d: Drawing, list: &[u8]) -> Verdict
-    requires { ⌜ Given d ⌝ }
-    ensures { λ r. ⌜ Checks (pointsOf d) (linksOf d) (now (list .entry)) r ⌝ }
+    requires { ⌜ GivenDrawing d ⌝ }
+    ensures { λ r. ⌜ VerdictChecked (coordinatesOf d) (linksOf d) (now (list .entry)) r ⌝ }
 {
     let xyz = d.xyz;
     let ends = d.ends;

@@ -16,8 +16,8 @@ use Rattle.paper.specs.Loops.{Loop}
 use Rattle.paper.specs.Verdict.{maskOf, listed, notCandidate, faceTwice}
 use Rattle.paper_laws.proofs.Checks.{clear, stops, passes}
 use Rattle.verdict_faces.specs.Form.{rowsIn}
-use Rattle.verdict_faces.specs.Named.{Naming, Holds, NamedIs}
-use Rattle.verdict_faces.specs.Passes.{numbersOf, turnedOf, AllNumbered, NumberedAs, Numbering, Takes, TakenAs}
+use Rattle.verdict_faces.specs.Named.{Naming, HoldsTable, NamedIs}
+use Rattle.verdict_faces.specs.Passes.{numbersOf, turnedFaces, AllNumbered, NumberedAs, Numbering, Takes, TakenAs}
 use Rattle.verdict_faces.specs.declared.selection.Named.the-variants as N
 use Rattle.verdict_faces.specs.declared.selection.Marked.{Marked}
 use Rattle.verdict_faces.specs.declared.selection.Marked.the-variants as M
@@ -26,7 +26,7 @@ use Rattle.verdict_faces.proofs.Held.{rows-held}
 
 -- ---- what is said of the rows is said of what they hold
 
-module _ {faces rows : List ℕ} {count n : ℕ} {fs cs : List Loop} (hf : Holds faces count fs) (hc : Holds rows n cs) where
+module _ {faces rows : List ℕ} {count n : ℕ} {fs cs : List Loop} (hf : HoldsTable faces count fs) (hc : HoldsTable rows n cs) where
   numbers-held : numbersOf (rowsIn rows n) (rowsIn faces count) ≡ listed cs fs .numbers
   unfolding listed
   numbers-held = λ i. numbersOf (rows-held hc i) (rows-held hf i)
@@ -38,9 +38,9 @@ module _ {faces rows : List ℕ} {count n : ℕ} {fs cs : List Loop} (hf : Holds
   unfolding listed
   taken-held = ap (λ (m : ℕ). maskOf m (listed cs fs .numbers)) (sym (hc .count))
 
-  turned-held : turnedOf n (rowsIn rows n) (rowsIn faces count) ≡ listed cs fs .turned
+  turned-held : turnedFaces n (rowsIn rows n) (rowsIn faces count) ≡ listed cs fs .turned
   unfolding listed
-  turned-held = λ i. turnedOf (sym (hc .count) i) (rows-held hc i) (rows-held hf i)
+  turned-held = λ i. turnedFaces (sym (hc .count) i) (rows-held hc i) (rows-held hf i)
 
 -- ---- the answers
 
@@ -80,7 +80,7 @@ module _ {faces rows numbers₀ numbers : List ℕ} {count n : ℕ} {r : Marked}
       below = λ i h. omega (arith, below i h, q .few-candidates);
     }
 
-    module _ {fs cs : List Loop} (hf : Holds faces count fs) (hc : Holds rows n cs) where
+    module _ {fs cs : List Loop} (hf : HoldsTable faces count fs) (hc : HoldsTable rows n cs) where
       numbers-are : take count numbers ≡ listed cs fs .numbers
       numbers-are = all .numbers-are ∙ numbers-held hf hc
 

@@ -14,9 +14,9 @@ use Rattle.paper_laws.proofs.Rows.{Short, rows-long}
 use Rattle.faces_laws.proofs.Reported.{row-loop}
 use Rattle.loop_table.proofs.Rows.{rows-room, count-is}
 use Rattle.verdict_faces.specs.Form.{rowsIn, FaceIn}
-use Rattle.verdict_faces.specs.Named.{Holds}
+use Rattle.verdict_faces.specs.Named.{HoldsTable}
 
-module _ {table : List ℕ} {n : ℕ} {ls : List Loop} (h : Holds table n ls) where
+module _ {table : List ℕ} {n : ℕ} {ls : List Loop} (h : HoldsTable table n ls) where
   row-held : (k : ℕ) → k < length ls → rowAt table k ≡ loopAt ls k
   row-held k m = ap (λ (t : List ℕ). rowAt t k) (h .rows) ∙ row-loop ls (h .short) (drop (rowBytes * length ls) table) k m
 
@@ -38,7 +38,7 @@ module _ {table : List ℕ} {n : ℕ} {ls : List Loop} (h : Holds table n ls) wh
       }
 
 -- the rows of faces by value
-pub padded-held : (fs : List Loop) → Short fs → (m : ℕ) → Holds (padded (flatMap row fs) m 0) (length fs) fs
+pub padded-held : (fs : List Loop) → Short fs → (m : ℕ) → HoldsTable (padded (flatMap row fs) m 0) (length fs) fs
 unfolding padded
 padded-held fs short m =
     let xs = flatMap row fs in

@@ -21,7 +21,7 @@ use Rattle.paper.specs.FaceList.{rowAt}
 use Rattle.paper.specs.Verdict.{onward, numberIn, maskOf, notCandidate, faceTwice}
 use Rattle.means_check.proofs.Numbers.{row-at}
 use Rattle.verdict_faces.specs.Form.{rowsIn}
-use Rattle.verdict_faces.specs.Passes.{numbersOf, turnedOf, AllNumbered, Takes, TakenOnce}
+use Rattle.verdict_faces.specs.Passes.{numbersOf, turnedFaces, AllNumbered, Takes, TakenOnce}
 use Rattle.verdict_faces.proofs.Marks.{mark-none, mark-more, made-more, made-less}
 
 -- ---- the numbers of the faces
@@ -43,7 +43,7 @@ module _ (faces : List ℕ) (count : ℕ) (rows : List ℕ) (n : ℕ) where
     pub long : length numbers ≡ length numbers₀
     pub left : LowestLeft unknown (length ks) i
     pub put : take i numbers ≡ take i ks
-    pub marked : Is turned (turnedOf n cs (take i fs))
+    pub marked : Is turned (turnedFaces n cs (take i fs))
 
   pub numbered-start : {t : Set} (numbers : List ℕ) → n ≤ room → Is t [] → Numbered numbers numbers t 0
   unfolding filter
@@ -113,7 +113,7 @@ module _ (faces : List ℕ) (count : ℕ) (rows : List ℕ) (n : ℕ) where
       known = lowest-end unknown (length ks) i (omega (arith, numbers-long)) (s .left);
       numbers-are = ap (λ (j : ℕ). take j numbers) (sym e) ∙ s .put ∙ take-all i ks (omega (arith, numbers-long));
       turned-is =
-          subst (λ (l : List Loop). Is t (turnedOf n cs l)) (take-all i fs (omega (arith, faces-long))) (s .marked);
+          subst (λ (l : List Loop). Is t (turnedFaces n cs l)) (take-all i fs (omega (arith, faces-long))) (s .marked);
     }
 
 -- ---- each number once

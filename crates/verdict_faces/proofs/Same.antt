@@ -16,7 +16,7 @@ use Rattle.paper.specs.Numbers.{rowBytes}
 use Rattle.paper.specs.Loops.{Loop}
 use Rattle.paper.specs.FaceList.{rowAt}
 use Rattle.paper.specs.Verdict.{normalForm, numberIn}
-use Rattle.polygon.specs.Rings.{countIn}
+use Rattle.polygon.specs.Rings.{cornerCount}
 use Rattle.means_check.proofs.Numbers.{same-yes}
 use Rattle.verdict_faces.specs.declared.form.Way.{Way}
 use Rattle.verdict_faces.specs.Form.{rowsIn, Compared}
@@ -52,7 +52,7 @@ module _ (a b : List ℕ) where
 
 -- ---- a face and row k of others
 
-module _ {faces : List ℕ} {r : ℕ} {w : Way} {rows : List ℕ} {k : ℕ} (c : Compared faces r w rows k) {n : ℕ} (e : n ≡ countIn faces r) where
+module _ {faces : List ℕ} {r : ℕ} {w : Way} {rows : List ℕ} {k : ℕ} (c : Compared faces r w rows k) {n : ℕ} (e : n ≡ cornerCount faces r) where
   abbrev form : Loop
   form = normalForm (rowAt faces r)
 
@@ -62,13 +62,13 @@ module _ {faces : List ℕ} {r : ℕ} {w : Way} {rows : List ℕ} {k : ℕ} (c :
   abbrev pub RowLeft : ℕ → Type 0
   RowLeft = SameLeft form (rowAt rows k)
 
-  pub row-other : (countIn rows k ≡ n → ⊥) → false ≡ sameList form (rowAt rows k)
+  pub row-other : (cornerCount rows k ≡ n → ⊥) → false ≡ sameList form (rowAt rows k)
   row-other d =
       sym (lengths-differ form (rowAt rows k)
       (λ l. other-count rows k (c .there) n (omega (arith, c .face .least)) d (sym l ∙ form-long)))
 
-  module _ (s : countIn rows k ≡ n) where
-    few : countIn rows k ≤ 12
+  module _ (s : cornerCount rows k ≡ n) where
+    few : cornerCount rows k ≤ 12
     few = omega (arith, c .face .most)
 
     long : length form ≡ length (rowAt rows k)

@@ -13,10 +13,10 @@ use Rattle.paper.specs.Numbers.{rowBytes}
 use Rattle.paper.specs.Loops.{flipped}
 use Rattle.paper.specs.FaceList.{rowAt}
 use Rattle.paper.specs.Verdict.{lowestAt, fromPlace, fromLowest, onward, normalForm}
-use Rattle.polygon.specs.Rings.{countIn}
+use Rattle.polygon.specs.Rings.{cornerCount}
 use Rattle.means_loops.proofs.Rings.{same-length, flip-length, flip-first, flip-at}
 use Rattle.means_loops.proofs.Lowest.{lowest-below, same-low}
-use Rattle.verdict_faces.specs.Form.{FaceIn, Turned}
+use Rattle.verdict_faces.specs.Form.{FaceIn, TurnedCorner}
 use Rattle.verdict_faces.proofs.Rows.{row-long, corner-at}
 
 -- ---- one corner more: the lowest so far
@@ -50,21 +50,21 @@ module _ (c : List ℕ) (m i : ℕ) where
       ∙ getD-take m c (m + i - length c) 0 (omega arith)
 
 -- the same, read from the row
-pub face-long : {table : List ℕ} {r : ℕ} → FaceIn table r → length (rowAt table r) ≡ countIn table r
+pub face-long : {table : List ℕ} {r : ℕ} → FaceIn table r → length (rowAt table r) ≡ cornerCount table r
 face-long {table} {r} f = row-long table r (f .room) (f .most)
 
-pub face-corner : {table : List ℕ} {r : ℕ} → FaceIn table r → (i : ℕ) → i < countIn table r
+pub face-corner : {table : List ℕ} {r : ℕ} → FaceIn table r → (i : ℕ) → i < cornerCount table r
     → getD table (rowBytes * r + 1 + i) 0 ≡ getD (rowAt table r) i 0
 face-corner {table} {r} f = corner-at table r (f .room) (f .most)
 
-pub lowest-in : {table : List ℕ} {r m : ℕ} → FaceIn table r → m ≡ lowestAt (rowAt table r) (length (rowAt table r)) → m < countIn table r
+pub lowest-in : {table : List ℕ} {r m : ℕ} → FaceIn table r → m ≡ lowestAt (rowAt table r) (length (rowAt table r)) → m < cornerCount table r
 lowest-in {table} {r} f e =
     let l = face-long f in
     omega (arith, f .least, e, lowest-below (rowAt table r) (length (rowAt table r)) (omega (arith, f .least)))
 
 -- the lowest of the corners up to k, read from the row
-module _ {table : List ℕ} {r : ℕ} (f : FaceIn table r) {m k : ℕ} (e : m ≡ lowestAt (rowAt table r) k) (hm : m < countIn table r)
-    (hk : k < countIn table r) where
+module _ {table : List ℕ} {r : ℕ} (f : FaceIn table r) {m k : ℕ} (e : m ≡ lowestAt (rowAt table r) k) (hm : m < cornerCount table r)
+    (hk : k < cornerCount table r) where
   lowest-so-far : getD table (rowBytes * r + 1 + m) 0 ≡ getD (rowAt table r) (lowestAt (rowAt table r) k) 0
   lowest-so-far = face-corner f m hm ∙ ap (λ (i : ℕ). getD (rowAt table r) i 0) e
 
@@ -74,11 +74,11 @@ module _ {table : List ℕ} {r : ℕ} (f : FaceIn table r) {m k : ℕ} (e : m �
   pub lowest-kept : getD table (rowBytes * r + 1 + m) 0 ≤ getD table (rowBytes * r + 1 + k) 0 → m ≡ lowestAt (rowAt table r) (k + 1)
   lowest-kept h = e ∙ sym (lowest-no (rowAt table r) k (omega (arith, lowest-so-far, face-corner f k hk)))
 
-module _ {table : List ℕ} {r m i : ℕ} (t : Turned table r m i) where
+module _ {table : List ℕ} {r m i : ℕ} (t : TurnedCorner table r m i) where
   abbrev face : List ℕ
   face = rowAt table r
 
-  module _ {n : ℕ} (e : n ≡ countIn table r) where
+  module _ {n : ℕ} (e : n ≡ cornerCount table r) where
     pub read-before : m + i < n → getD table (rowBytes * r + 1 + (m + i)) 0 ≡ getD (fromPlace face m) i 0
     read-before h = face-corner (t .face) (m + i) (omega arith) ∙ sym (place-before face m i (omega (arith, face-long (t .face))))
 

@@ -8,7 +8,7 @@ use Rattle.paper.specs.Numbers.{leastCorners, mostCorners, rowBytes}
 use Rattle.paper.specs.Loops.{Loop}
 use Rattle.paper.specs.FaceList.{rowAt}
 use Rattle.paper.specs.Verdict.{lowestAt, onward}
-use Rattle.polygon.specs.Rings.{countIn}
+use Rattle.polygon.specs.Rings.{cornerCount}
 use Rattle.verdict_faces.specs.declared.form.Way.{Way}
 
 -- the loops of the first n rows
@@ -18,14 +18,14 @@ rowsIn table n = map (rowAt table) (upto n)
 -- row r has 3 to 12 corners
 pub record FaceIn (table : List ℕ) (r : ℕ) : Type 0 where
   pub room : rowBytes * r + rowBytes ≤ length table
-  pub least : leastCorners ≤ countIn table r
-  pub most : countIn table r ≤ mostCorners
+  pub least : leastCorners ≤ cornerCount table r
+  pub most : cornerCount table r ≤ mostCorners
 
 -- such a row, a place m of it to start from, and a corner i
-pub record Turned (table : List ℕ) (r m i : ℕ) : Type 0 where
+pub record TurnedCorner (table : List ℕ) (r m i : ℕ) : Type 0 where
   pub face : FaceIn table r
-  pub start : m < countIn table r
-  pub below : i < countIn table r
+  pub start : m < cornerCount table r
+  pub below : i < cornerCount table r
 
 -- w is the way of the face f
 pub record WayOf (f : List ℕ) (w : Way) : Type 0 where
@@ -36,7 +36,7 @@ pub record WayOf (f : List ℕ) (w : Way) : Type 0 where
 pub record CornerOf (table : List ℕ) (r : ℕ) (w : Way) (i : ℕ) : Type 0 where
   pub face : FaceIn table r
   pub way : WayOf (rowAt table r) w
-  pub below : i < countIn table r
+  pub below : i < cornerCount table r
 
 -- row r with its way, and a row k of others to hold it against
 pub record Compared (faces : List ℕ) (r : ℕ) (w : Way) (rows : List ℕ) (k : ℕ) : Type 0 where

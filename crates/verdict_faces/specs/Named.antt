@@ -26,7 +26,7 @@ pub record Naming (faces : List ℕ) (count : ℕ) (rows : List ℕ) (n : ℕ) (
   pub numbers-long : length numbers ≡ editionOne .«most_faces»
 
 -- the first n rows of a table are those of the loops ls
-pub record Holds (table : List ℕ) (n : ℕ) (ls : List Loop) : Type 0 where
+pub record HoldsTable (table : List ℕ) (n : ℕ) (ls : List Loop) : Type 0 where
   pub rows : HoldsRows table ls
   pub count : length ls ≡ n
   pub short : (k : ℕ) → k < length ls → length (loopAt ls k) ≤ mostCorners
@@ -51,4 +51,4 @@ NamedAs cs fs count numbers (N.Are s) = Selected cs fs count numbers s
 -- of all faces and all candidates that the rows hold
 pub record NamedIs (faces : List ℕ) (count : ℕ) (rows : List ℕ) (n : ℕ) (numbers₀ numbers : List ℕ) (r : Named) : Type 0 where
   pub long : length numbers ≡ length numbers₀
-  pub same : (fs cs : List Loop) → Holds faces count fs → Holds rows n cs → NamedAs cs fs count numbers r
+  pub same : (fs cs : List Loop) → HoldsTable faces count fs → HoldsTable rows n cs → NamedAs cs fs count numbers r

@@ -21,13 +21,13 @@ use Rattle.verdict_faces.specs.declared.selection.Marked.the-variants as
 abbrev pub numbersOf : List Loop → List Loop → List ℕ
 numbersOf cs fs = map (numberIn cs) fs
 
-abbrev pub turnedOf : ℕ → List Loop → List Loop → List Bool
-turnedOf n cs fs = maskOf n (map (numberIn cs) (filter (λ f. not (onward f)) fs))
+abbrev pub turnedFaces : ℕ → List Loop → List Loop → List Bool
+turnedFaces n cs fs = maskOf n (map (numberIn cs) (filter (λ f. not (onward f)) fs))
 
 pub record AllNumbered (fs cs : List Loop) (count n : ℕ) (numbers : List ℕ) (s : Set) : Type 0 where
   pub known : notCandidate n (numbersOf cs fs) ≡ none
   pub numbers-are : take count numbers ≡ numbersOf cs fs
-  pub turned-is : Is s (turnedOf n cs fs)
+  pub turned-is : Is s (turnedFaces n cs fs)
 
 abbrev pub NumberedAs : List Loop → List Loop → ℕ → ℕ → List ℕ → Marked → Type 0
 NumberedAs fs cs count n numbers (M.At i) = notCandidate n (numbersOf cs fs) ≡ some i

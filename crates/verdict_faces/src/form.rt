@@ -3,7 +3,7 @@ ghost use mathlib.Core.Path.{_≡_};
 ghost use lib.ListN.{length, getD};
 ghost use Rattle.paper.specs.FaceList.{rowAt};
 ghost use Rattle.paper.specs.Verdict.{lowestAt, fromPlace, normalForm};
-ghost use Rattle.verdict_faces.specs.Form.{FaceIn, Turned, WayOf, CornerOf};
+ghost use Rattle.verdict_faces.specs.Form.{FaceIn, TurnedCorner, WayOf, CornerOf};
 use paper::ROW;
 use polygon::rings::count;
 
@@ -33,7 +33,7 @@ fn lowest_at(table: &[u8], r: usize) -> usize
 
 // Corner i, counted from place m on and past the last.
 fn from_place(table: &[u8], r: usize, m: usize, i: usize) -> u8
-    requires { ⌜ Turned (now table) r m i ⌝ }
+    requires { ⌜ TurnedCorner (now table) r m i ⌝ }
     ensures { λ c. ⌜ c ≡ getD (fromPlace (rowAt (now (table .entry)) r) m) i 0 ⌝ }
 {
     let n = count(table, r);

@@ -16,7 +16,7 @@ use Rattle.paper.specs.Verdict as Paper
 use Rattle.paper.specs.Verdict.{Listed}
 use Rattle.walk_leaf.specs.Tests.{WayIs}
 use Rattle.walk_leaf.proofs.Rounds.{mask-at}
-use Rattle.verdict_tests.specs.Tests.{edgeCount, direction, Counting, Running}
+use Rattle.verdict_tests.specs.Tests.{edgeCountOf, directionOf, Counting, Running}
 use Rattle.verdict_tests.proofs.Searching.{Offends, Finds}
 
 -- ---- the tests, as the definitions ask them
@@ -28,7 +28,7 @@ abbrev pub notOnce : Tables → Listed → ℕ → Bool
 notOnce t l e = not (onceEachWay (getD (t .masks) e []) (getD (t .ups) e []) (l .taken) (l .turned))
 
 module _ (on : List ℕ) (m : ℕ) (taken : Set) where
-  pub finds-23 : Finds (Counting on m taken) notTwo m edgeCount
+  pub finds-23 : Finds (Counting on m taken) notTwo m edgeCountOf
   unfolding Paper.edgeCount
   finds-23 t l w = ap (lowest (notTwo t l)) (w .as-many)
 
@@ -44,7 +44,7 @@ module _ (on : List ℕ) (m : ℕ) (taken : Set) where
       two-at b q t l w = ap not (ap (λ (x : ℕ). eqb x 2) (sym (counts t l w)) ∙ q)
 
 module _ (on up : List ℕ) (m : ℕ) (taken turned : Set) where
-  pub finds-24 : Finds (Running on up m taken turned) notOnce m direction
+  pub finds-24 : Finds (Running on up m taken turned) notOnce m directionOf
   unfolding Paper.direction
   finds-24 t l w = ap (lowest (notOnce t l)) (w .as-many)
 

@@ -22,7 +22,7 @@ use Rattle.fast_leaf.proofs.Around.{same-reached}
 use Rattle.walk_leaf.specs.Faces.{FromFace}
 use Rattle.walk_leaf.specs.declared.faces.Going.{Going}
 use Rattle.walk_leaf.proofs.Rounds.{mask-at}
-use Rattle.verdict_tests.specs.Tests.{pieces, clash, Joining, Clashing}
+use Rattle.verdict_tests.specs.Tests.{piecesOf, clashOf, Joining, Clashing}
 use Rattle.verdict_tests.proofs.Searching.{Offends, Finds}
 
 -- ---- the tests, as the definitions ask them
@@ -69,7 +69,7 @@ module _ (numbers : List ℕ) (n : ℕ) (fits : n ≤ length numbers) where
       }
 
   module _ (reached : Set) where
-    pub finds-25 : Finds (Reaching numbers n reached) unjoined n pieces
+    pub finds-25 : Finds (Reaching numbers n reached) unjoined n piecesOf
     unfolding Paper.pieces
     finds-25 t l w = ap (lowest (unjoined t l)) (faces-count numbers n fits (w .numbers-are))
 
@@ -82,7 +82,7 @@ module _ (numbers : List ℕ) (n : ℕ) (fits : n ≤ length numbers) where
 -- ---- 27
 
 module _ (clashes numbers : List ℕ) (n : ℕ) (taken : Set) (fits : n ≤ length numbers) where
-  pub finds-27 : Finds (Clashing clashes numbers n taken) clashing n clash
+  pub finds-27 : Finds (Clashing clashes numbers n taken) clashing n clashOf
   unfolding Paper.clashes
   finds-27 t l w = ap (lowest (clashing t l)) (faces-count numbers n fits (w .faces-are .numbers-are))
 

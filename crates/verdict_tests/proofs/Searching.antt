@@ -11,7 +11,7 @@ use Rattle.paper.specs.Solids.{Tables}
 use Rattle.paper.specs.Verdict.{Listed}
 use Rattle.paper.specs.declared.Answer.the-variants.{Fine}
 use Rattle.paper_laws.proofs.Checks.{clear, stops, passes}
-use Rattle.verdict_tests.specs.Tests.{Told}
+use Rattle.verdict_tests.specs.Tests.{ToldAt}
 
 -- the answer of place i; and what is left of n places from i on
 abbrev pub Offends : (Tables → Listed → Type 0) → (Tables → Listed → ℕ → Bool) → ℕ → Bool → Type 0
@@ -32,8 +32,8 @@ module _ (P : Tables → Listed → Type 0) (p : Tables → Listed → ℕ → B
   asking-next i h a o t l w = lowest-miss (p t l) n i h (a t l w) (o t l w)
 
   module _ (number : ℕ) (place : Tables → Listed → Option ℕ) (f : Finds P p n place) where
-    pub asking-hit : (i : ℕ) → i < n → Asking P p n i → Offends P p i true → Told P number place (refuse number i)
+    pub asking-hit : (i : ℕ) → i < n → Asking P p n i → Offends P p i true → ToldAt P number place (refuse number i)
     asking-hit i h a o t l w = stops number [] (sym (f t l w ∙ lowest-hit (p t l) n i h (a t l w) (o t l w)))
 
-    pub asking-end : (i : ℕ) → n ≤ i → Asking P p n i → Told P number place Fine
+    pub asking-end : (i : ℕ) → n ≤ i → Asking P p n i → ToldAt P number place Fine
     asking-end i h a t l w = clear ∙ passes number [] (sym (f t l w ∙ lowest-end (p t l) n i h (a t l w)))

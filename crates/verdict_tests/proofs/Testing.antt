@@ -13,8 +13,8 @@ use Rattle.paper.specs.declared.Refusal.{Refusal}
 use Rattle.paper_laws.proofs.Checks.{first-passes, first-stops, found-none}
 use Rattle.walk_tables.specs.Words.{WalkTables, Lent}
 use Rattle.walk_leaf.specs.Faces.{Edges}
-use Rattle.verdict_tests.specs.Tests.{FirstOf, Told, Counting, Running, Numbered, Joining, Weighing, Clashing, ListedIn, ListIs, Tested}
-use Rattle.verdict_tests.specs.Tests.{edgeCount, direction, pieces, inward, clash, testChecks}
+use Rattle.verdict_tests.specs.Tests.{FirstOf, ToldAt, Counting, Running, FacesNumbered, Joining, Weighing, Clashing, ListedIn, ListIs, Tested}
+use Rattle.verdict_tests.specs.Tests.{edgeCountOf, directionOf, piecesOf, inwardOf, clashOf, testChecks}
 
 -- ---- the checks of a face list, 21 to 27, end with these
 
@@ -41,7 +41,7 @@ module _ (tables : WalkTables) (m : ℕ) (numbers : List ℕ) (count : ℕ) (tak
     edges : Edges (tables .on) (tables .up) (t .masks) (t .ups)
     edges = record { on-are = h .held .on-are; up-are = h .held .up-are; as-many = h .ups-are ∙ sym (h .masks-are) }
 
-    faces : Numbered numbers count taken l
+    faces : FacesNumbered numbers count taken l
     faces = record { numbers-are = i .numbers-are; each = d .each; taken-is = i .taken-is }
 
     counting : Counting (tables .on) m taken t l
@@ -51,7 +51,7 @@ module _ (tables : WalkTables) (m : ℕ) (numbers : List ℕ) (count : ℕ) (tak
     running = record { edges-are = edges; as-many = h .masks-are; taken-is = i .taken-is; turned-is = i .turned-is }
 
     -- 23 is passed
-    joining : Fine ≡ firstOf (check EdgeCount (edgeCount t l) ∷ [])
+    joining : Fine ≡ firstOf (check EdgeCount (edgeCountOf t l) ∷ [])
         → Joining (tables .on) (tables .up) (tables .sides) numbers count taken t l
     joining e = record { edges-are = edges; sides-are = h .held .sides-are; faces-are = faces; two = found-none EdgeCount [] e .0 }
 
@@ -70,19 +70,19 @@ module _ (tables : WalkTables) (m : ℕ) (numbers : List ℕ) (count : ℕ) (tak
       faces-are = faces;
     }
 
-  module _ {r₂₃ r₂₄ r₂₅ r₂₆ r₂₇ : Answer} (t₂₃ : Told (Counting (tables .on) m taken) EdgeCount edgeCount r₂₃)
-      (t₂₄ : Told (Running (tables .on) (tables .up) m taken turned) Direction direction r₂₄)
-      (t₂₅ : Told (Joining (tables .on) (tables .up) (tables .sides) numbers count taken) Pieces pieces r₂₅)
-      (t₂₆ : Told (Weighing (tables .sixes) taken turned) Inward inward r₂₆)
-      (t₂₇ : Told (Clashing (tables .clashes) numbers count taken) Clash clash r₂₇) where
+  module _ {r₂₃ r₂₄ r₂₅ r₂₆ r₂₇ : Answer} (t₂₃ : ToldAt (Counting (tables .on) m taken) EdgeCount edgeCountOf r₂₃)
+      (t₂₄ : ToldAt (Running (tables .on) (tables .up) m taken turned) Direction directionOf r₂₄)
+      (t₂₅ : ToldAt (Joining (tables .on) (tables .up) (tables .sides) numbers count taken) Pieces piecesOf r₂₅)
+      (t₂₆ : ToldAt (Weighing (tables .sixes) taken turned) Inward inwardOf r₂₆)
+      (t₂₇ : ToldAt (Clashing (tables .clashes) numbers count taken) Clash clashOf r₂₇) where
     pub tests : {a b c d : Answer} → FirstOf r₂₆ r₂₇ d → FirstOf r₂₅ d c → FirstOf r₂₄ c b → FirstOf r₂₃ b a
         → Tested tables m numbers count taken turned a
     tests f₂₆ f₂₅ f₂₄ f₂₃ n t l h d i =
-        let c₂₃ = check EdgeCount (edgeCount t l) in
-        let c₂₄ = check Direction (direction t l) in
-        let c₂₅ = check Pieces (pieces t l) in
-        let c₂₆ = check Inward (inward t l) in
-        let c₂₇ = check Clash (clash t l) in
+        let c₂₃ = check EdgeCount (edgeCountOf t l) in
+        let c₂₄ = check Direction (directionOf t l) in
+        let c₂₅ = check Pieces (piecesOf t l) in
+        let c₂₆ = check Inward (inwardOf t l) in
+        let c₂₇ = check Clash (clashOf t l) in
         f₂₃ (c₂₃ ∷ []) (c₂₄ ∷ c₂₅ ∷ c₂₆ ∷ c₂₇ ∷ []) (t₂₃ t l (counting t l h d i))
         (λ two. f₂₄ (c₂₄ ∷ []) (c₂₅ ∷ c₂₆ ∷ c₂₇ ∷ []) (t₂₄ t l (running t l h d i))
         (λ p. f₂₅ (c₂₅ ∷ []) (c₂₆ ∷ c₂₇ ∷ []) (t₂₅ t l (joining t l h d i two))

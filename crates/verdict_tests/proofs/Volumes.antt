@@ -17,7 +17,7 @@ use Rattle.paper.specs.declared.Answer.the-variants.{Fine}
 use Rattle.paper_laws.proofs.Checks.{clear, holds, fails}
 use Rattle.fast_leaf.proofs.Sums.{six-on}
 use Rattle.walk_leaf.specs.Tests.{Weighs}
-use Rattle.verdict_tests.specs.Tests.{Told, inward, Weighing}
+use Rattle.verdict_tests.specs.Tests.{ToldAt, inwardOf, Weighing}
 
 module _ {sixes : List ℤ} {taken turned : Set} {v : ℤ} (x : Weighs sixes taken turned v) where
   six-is : (t : Tables) (l : Listed) → Weighing sixes taken turned t l → v ≡ sixFrom 0 (t .sixes) (l .taken) (l .turned)
@@ -25,11 +25,11 @@ module _ {sixes : List ℤ} {taken turned : Set} {v : ℤ} (x : Weighs sixes tak
       x .same (t .sixes) (l .taken) (l .turned) (w .sixes-are) (w .in-sixes) (w .taken-is) (w .turned-is)
       ∙ six-on (l .turned) (count (l .taken)) (t .sixes) (l .taken) refl
 
-  pub six-above : pos 0 <ℤ v → Told (Weighing sixes taken turned) Inward inward Fine
+  pub six-above : pos 0 <ℤ v → ToldAt (Weighing sixes taken turned) Inward inwardOf Fine
   unfolding Paper.inward above
   six-above p t l w = clear ∙ fails Inward 0 [] (ap (λ (z : ℤ). not (ltZ (pos 0) z)) (sym (six-is t l w)) ∙ ap not (lt-is p))
 
-  pub six-not : v ≤ℤ pos 0 → Told (Weighing sixes taken turned) Inward inward (refuse Inward 0)
+  pub six-not : v ≤ℤ pos 0 → ToldAt (Weighing sixes taken turned) Inward inwardOf (refuse Inward 0)
   unfolding Paper.inward above
   six-not p t l w =
       holds Inward 0 []

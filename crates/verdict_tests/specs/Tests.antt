@@ -21,7 +21,7 @@ use Rattle.walk_tables.specs.Words.{Masks, Sides, Sixes, SmallSixes, WalkTables
 use Rattle.walk_leaf.specs.Faces.{Edges}
 
 -- ---- what is asked for: so many faces, each with a number below 64; and of all of it
-pub record Faces (numbers : List ℕ) (count : ℕ) : Type 0 where
+pub record SomeFaces (numbers : List ℕ) (count : ℕ) : Type 0 where
   pub some : 0 < count
   pub few : count ≤ editionOne .«most_faces»
   pub held : count ≤ length numbers
@@ -30,36 +30,36 @@ pub record Faces (numbers : List ℕ) (count : ℕ) : Type 0 where
 pub record Testing (m : ℕ) (sixes : List ℤ) (numbers : List ℕ) (count : ℕ) : Type 0 where
   pub edges : m ≤ editionOne .«most_edges»
   pub small : SmallSixes sixes
-  pub faces : Faces numbers count
+  pub faces : SomeFaces numbers count
 
 -- ---- the checks, by the place that each finds
 
-abbrev pub edgeCount : Tables → Listed → Option ℕ
-edgeCount t l = Paper.edgeCount t (l .taken)
+abbrev pub edgeCountOf : Tables → Listed → Option ℕ
+edgeCountOf t l = Paper.edgeCount t (l .taken)
 
-abbrev pub direction : Tables → Listed → Option ℕ
-direction t l = Paper.direction t (l .taken) (l .turned)
+abbrev pub directionOf : Tables → Listed → Option ℕ
+directionOf t l = Paper.direction t (l .taken) (l .turned)
 
-abbrev pub pieces : Tables → Listed → Option ℕ
-pieces t l = Paper.pieces t (l .numbers) (l .taken)
+abbrev pub piecesOf : Tables → Listed → Option ℕ
+piecesOf t l = Paper.pieces t (l .numbers) (l .taken)
 
-abbrev pub inward : Tables → Listed → Option ℕ
-inward t l = Paper.inward t (l .taken) (l .turned)
+abbrev pub inwardOf : Tables → Listed → Option ℕ
+inwardOf t l = Paper.inward t (l .taken) (l .turned)
 
-abbrev pub clash : Tables → Listed → Option ℕ
-clash t l = Paper.clashes t (l .numbers) (l .taken)
+abbrev pub clashOf : Tables → Listed → Option ℕ
+clashOf t l = Paper.clashes t (l .numbers) (l .taken)
 
 -- the last five of `faceChecks`
 abbrev pub testChecks : Tables → Listed → List Check
 testChecks t l =
-    check No.EdgeCount (edgeCount t l) ∷ check No.Direction (direction t l) ∷ check No.Pieces (pieces t l) ∷ check No.Inward (inward t l)
-    ∷ check No.Clash (clash t l)
+    check No.EdgeCount (edgeCountOf t l) ∷ check No.Direction (directionOf t l) ∷ check No.Pieces (piecesOf t l) ∷ check No.Inward (inwardOf t l)
+    ∷ check No.Clash (clashOf t l)
     ∷ []
 
 -- ---- an answer on all tables and lists that P says are meant
 
-abbrev pub Told : (Tables → Listed → Type 0) → ℕ → (Tables → Listed → Option ℕ) → Answer → Type 0
-Told P number place r = (t : Tables) (l : Listed) → P t l → r ≡ firstOf (check number (place t l) ∷ [])
+abbrev pub ToldAt : (Tables → Listed → Type 0) → ℕ → (Tables → Listed → Option ℕ) → Answer → Type 0
+ToldAt P number place r = (t : Tables) (l : Listed) → P t l → r ≡ firstOf (check number (place t l) ∷ [])
 
 -- the first that applies of two lists of checks, one behind the other
 abbrev pub FirstOf : Answer → Answer → Answer → Type 0
@@ -79,7 +79,7 @@ pub record Running (on up : List ℕ) (m : ℕ) (taken turned : Set) (t : Tables
   pub turned-is : Is turned (l .turned)
 
 -- the faces of the list, each of them taken
-pub record Numbered (numbers : List ℕ) (count : ℕ) (taken : Set) (l : Listed) : Type 0 where
+pub record FacesNumbered (numbers : List ℕ) (count : ℕ) (taken : Set) (l : Listed) : Type 0 where
   pub numbers-are : l .numbers ≡ take count numbers
   pub each : (i : ℕ) → i < length (l .numbers) → dig (l .taken) (getD (l .numbers) i 0) ≡ true
   pub taken-is : Is taken (l .taken)
@@ -88,8 +88,8 @@ pub record Numbered (numbers : List ℕ) (count : ℕ) (taken : Set) (l : Listed
 pub record Joining (on up sides numbers : List ℕ) (count : ℕ) (taken : Set) (t : Tables) (l : Listed) : Type 0 where
   pub edges-are : Edges on up (t .masks) (t .ups)
   pub sides-are : Sides sides (t .masks)
-  pub faces-are : Numbered numbers count taken l
-  pub two : edgeCount t l ≡ none
+  pub faces-are : FacesNumbered numbers count taken l
+  pub two : edgeCountOf t l ≡ none
 
 -- 26
 pub record Weighing (sixes : List ℤ) (taken turned : Set) (t : Tables) (l : Listed) : Type 0 where
@@ -102,7 +102,7 @@ pub record Weighing (sixes : List ℤ) (taken turned : Set) (t : Tables) (l : Li
 pub record Clashing (clashes numbers : List ℕ) (count : ℕ) (taken : Set) (t : Tables) (l : Listed) : Type 0 where
   pub clashes-are : Masks clashes (t .clashes)
   pub in-clashes : length (l .taken) ≤ length (t .clashes)
-  pub faces-are : Numbered numbers count taken l
+  pub faces-are : FacesNumbered numbers count taken l
 
 -- ---- all of it: a list in a drawing of n candidates, each face of which is taken; and the code's form of it
 

@@ -2,7 +2,7 @@
 ghost use Prim.Native.Nat.{_≤_};
 ghost use Rattle.paper.specs.Format.{editionOne};
 ghost use Rattle.paper.specs.Refusals as No;
-ghost use Rattle.verdict_tests.specs.Tests.{Told, Counting, Running, edgeCount, direction};
+ghost use Rattle.verdict_tests.specs.Tests.{ToldAt, Counting, Running, edgeCountOf, directionOf};
 use paper::Answer;
 use paper::DIRECTION;
 use paper::EDGE_COUNT;
@@ -13,7 +13,7 @@ use walk_leaf::once_each_way;
 
 pub fn edge_count(on: &[u64; MOST_EDGES], m: usize, taken: Set) -> Answer
     requires { ⌜ m ≤ editionOne .«most_edges» ⌝ }
-    ensures { λ r. ⌜ Told (Counting (now (on .entry)) m taken) No.EdgeCount edgeCount r ⌝ }
+    ensures { λ r. ⌜ ToldAt (Counting (now (on .entry)) m taken) No.EdgeCount edgeCountOf r ⌝ }
 {
     let mut e = 0;
     while e < m {
@@ -34,7 +34,7 @@ pub fn direction(
     turned: Set,
 ) -> Answer
     requires { ⌜ m ≤ editionOne .«most_edges» ⌝ }
-    ensures { λ r. ⌜ Told (Running (now (on .entry)) (now (up .entry)) m taken turned) No.Direction direction r ⌝ }
+    ensures { λ r. ⌜ ToldAt (Running (now (on .entry)) (now (up .entry)) m taken turned) No.Direction directionOf r ⌝ }
 {
     let mut e = 0;
     while e < m {

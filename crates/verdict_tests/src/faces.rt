@@ -5,7 +5,7 @@ ghost use lib.ListN.{getD};
 ghost use Rattle.sets.specs.Sets.{room};
 ghost use Rattle.walk_leaf.specs.Faces.{FromFace};
 ghost use Rattle.paper.specs.Refusals as No;
-ghost use Rattle.verdict_tests.specs.Tests.{Faces, Told, Joining, Clashing, pieces, clash};
+ghost use Rattle.verdict_tests.specs.Tests.{SomeFaces, ToldAt, Joining, Clashing, piecesOf, clashOf};
 use lists::wide;
 use paper::Answer;
 use paper::CLASH;
@@ -40,9 +40,9 @@ pub fn pieces(
     count: usize,
     taken: Set,
 ) -> Answer
-    requires { ⌜ Faces (now numbers) count ⌝ }
-    ensures { λ r. ⌜ Told (Joining (now (on .entry)) (now (up .entry)) (now (sides .entry)) (now (numbers .entry)) count taken)
-        No.Pieces pieces r ⌝ }
+    requires { ⌜ SomeFaces (now numbers) count ⌝ }
+    ensures { λ r. ⌜ ToldAt (Joining (now (on .entry)) (now (up .entry)) (now (sides .entry)) (now (numbers .entry)) count taken)
+        No.Pieces piecesOf r ⌝ }
 {
     let g = from_first(on, up, sides, numbers, taken);
     let reached = g.reached;
@@ -62,8 +62,8 @@ pub fn clash(
     count: usize,
     taken: Set,
 ) -> Answer
-    requires { ⌜ Faces (now numbers) count ⌝ }
-    ensures { λ r. ⌜ Told (Clashing (now (clashes .entry)) (now (numbers .entry)) count taken) No.Clash clash r ⌝ }
+    requires { ⌜ SomeFaces (now numbers) count ⌝ }
+    ensures { λ r. ⌜ ToldAt (Clashing (now (clashes .entry)) (now (numbers .entry)) count taken) No.Clash clashOf r ⌝ }
 {
     let mut f = 0;
     while f < count {

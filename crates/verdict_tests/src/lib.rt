@@ -5,7 +5,7 @@ mod faces;
 
 ghost use Rattle.paper.specs.Refusals as No;
 ghost use Rattle.walk_tables.specs.Words.{SmallSixes, walkTables};
-ghost use Rattle.verdict_tests.specs.Tests.{FirstOf, Told, Weighing, inward, Testing, Tested};
+ghost use Rattle.verdict_tests.specs.Tests.{FirstOf, ToldAt, Weighing, inwardOf, Testing, Tested};
 use edges::direction;
 use edges::edge_count;
 use faces::clash;
@@ -32,7 +32,7 @@ fn first_of(a: Answer, b: Answer) -> Answer
 // 26: six volumes is not above zero.
 fn inward(sixes: &[i64; MOST_CANDIDATES], taken: Set, turned: Set) -> Answer
     requires { ⌜ SmallSixes (now sixes) ⌝ }
-    ensures { λ r. ⌜ Told (Weighing (now (sixes .entry)) taken turned) No.Inward inward r ⌝ }
+    ensures { λ r. ⌜ ToldAt (Weighing (now (sixes .entry)) taken turned) No.Inward inwardOf r ⌝ }
 {
     if 0 < weight(sixes, taken, turned) {
         return Answer::Fine;

@@ -7,7 +7,7 @@ use Rattle.sets.specs.Sets.{Is, Has, Lowest, SetAt}
 use Rattle.sets.specs.declared.Set.{Set}
 use Rattle.paper.specs.Walk.{Status}
 use Rattle.fast_sweeps.specs.Worklist.{edgesWith, openFrom, lowestOn}
-use Rattle.walk_state.specs.State.{Holds, Decided}
+use Rattle.walk_state.specs.State.{StateIs, Decided}
 use Rattle.walk_state.specs.Choice.{Opened}
 use Rattle.walk_state.specs.declared.State.{State}
 use Rattle.walk_state.specs.declared.Opening.{Opening}
@@ -30,7 +30,7 @@ module _ {on : List ℕ} {m : ℕ} (s : State) {from : ℕ} {o : Opening} (found
         let marks : Is changed (edgesWith masks k)
         = subst (λ (x : Set). Is x (edgesWith masks k)) (sym (edge .is)) (w .at k (low .narrow)) in
         record {
-          holds = subst (λ (j : ℕ). Holds s′ (set st j v)) q (d .same st h);
+          holds = subst (λ (j : ℕ). StateIs s′ (set st j v)) q (d .same st h);
           marked-is = subst (λ (j : ℕ). Is changed (edgesWith masks j)) q marks;
           edge-is = c .edge-is;
         };

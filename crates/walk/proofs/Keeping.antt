@@ -24,7 +24,7 @@ use Rattle.walk_leaf.specs.Tests.{LeafIs, Judges}
 use Rattle.walk_leaf.specs.declared.Leaf.{Leaf}
 use Rattle.walk_leaf.specs.declared.Leaf.the-variants as L
 use Rattle.walk.specs.Tally.{Roomy}
-use Rattle.walk.specs.Leaf.{Keeps}
+use Rattle.walk.specs.Leaf.{KeepsSolid}
 use Rattle.walk.specs.declared.tally.Tally.{Tally}
 use Rattle.walk.proofs.Tallies.{three-long, stored-more}
 
@@ -81,7 +81,7 @@ module _ {tables : WalkTables} {m : ℕ} {taken : Set} where
   -- ---- the ways out
 
   module _ {x : Tally} {out : List ℕ} (roomy : Roomy x out) where
-    pub kept-not : Judges tables m taken L.Fails → Keeps tables m taken x out x out
+    pub kept-not : Judges tables m taken L.Fails → KeepsSolid tables m taken x out x out
     unfolding leaf
     kept-not j = record {
       roomy = roomy;
@@ -90,7 +90,7 @@ module _ {tables : WalkTables} {m : ℕ} {taken : Set} where
 
     module _ (turned : Set) (six : ℕ) (j : Judges tables m taken (L.Solid turned six)) where
       pub kept-full : mostSolids ≤ x .found
-          → Keeps tables m taken x out (record { work = x .work; found = x .found; ended = No.Many }) out
+          → KeepsSolid tables m taken x out (record { work = x .work; found = x .found; ended = No.Many }) out
       unfolding leaf
       kept-full f = record {
         roomy = record { few = roomy .few; whole = roomy .whole };
@@ -104,7 +104,7 @@ module _ {tables : WalkTables} {m : ℕ} {taken : Set} where
       }
 
       pub kept-more : x .found < mostSolids
-          → Keeps tables m taken x out (record { work = x .work; found = x .found + 1; ended = x .ended })
+          → KeepsSolid tables m taken x out (record { work = x .work; found = x .found + 1; ended = x .ended })
           (set (set (set out (solidWords * x .found) (taken .word)) (solidWords * x .found + 1) (turned .word)) (solidWords * x .found + 2)
           six)
       unfolding leaf

@@ -14,7 +14,7 @@ use Rattle.paper.specs.Walk.{Undecided, isTaken, isOpen, openCount, nothing, se
 use Rattle.paper.specs.Conversion.{words, solidsAfter}
 use Rattle.fast_sweeps.proofs.Walk.{call-first}
 use Rattle.walk_tables.specs.Words.{WalkTables}
-use Rattle.walk_state.specs.State.{Holds}
+use Rattle.walk_state.specs.State.{StateIs}
 use Rattle.walk.specs.Walk.{Walked, Searched}
 use Rattle.walk.specs.declared.tally.Tally.{Tally}
 
@@ -29,7 +29,7 @@ all-open (suc n) = omega (arith, all-open n)
 
 -- nothing taken and n undecided
 holds-all : {n : ℕ} {taken undecided : Set} → n ≤ room → Is taken [] → Is undecided (replicate n true)
-    → Holds (record { taken = taken; undecided = undecided }) (replicate n Undecided)
+    → StateIs (record { taken = taken; undecided = undecided }) (replicate n Undecided)
 holds-all {n} {taken} {undecided} few none all = record {
   takes = subst (Is taken) (sym (each-is isTaken Undecided n)) (none-all n few none);
   leaves = subst (Is undecided) (sym (each-is isOpen Undecided n)) all;

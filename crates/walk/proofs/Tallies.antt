@@ -15,7 +15,7 @@ use Rattle.paper.specs.Refusals as No
 use Rattle.paper.specs.Solids.{Tables}
 use Rattle.paper.specs.Walk.{Status, Log, assume}
 use Rattle.paper.specs.Conversion.{words, solidsAfter}
-use Rattle.walk.specs.Tally.{Counts, Assumed, Follows}
+use Rattle.walk.specs.Tally.{CountsLog, Assumed, Follows}
 use Rattle.walk.specs.declared.tally.Tally.{Tally}
 
 -- ---- an assumption

@@ -18,13 +18,13 @@ use Rattle.means_walk.proofs.Chosen.{stable-long}
 use Rattle.fast_sweeps.specs.Worklist.{edgesWith, openFrom, lowestOn, Call}
 use Rattle.fast_sweeps.proofs.Walk.{call-next, call-choice}
 use Rattle.walk_tables.specs.Words.{WalkTables, Lent}
-use Rattle.walk_state.specs.State.{Holds}
-use Rattle.walk_state.specs.Sweeps.{Left, SweptOut}
+use Rattle.walk_state.specs.State.{StateIs}
+use Rattle.walk_state.specs.Sweeps.{SweptIs, SweptOut}
 use Rattle.walk_state.specs.declared.State.{State}
 use Rattle.walk_state.specs.declared.Swept.{Swept}
 use Rattle.walk_state.specs.declared.Swept.the-variants as S
 use Rattle.walk.specs.Tally.{Roomy, Assumed, Stored, Follows}
-use Rattle.walk.specs.Leaf.{Keeps}
+use Rattle.walk.specs.Leaf.{KeepsSolid}
 use Rattle.walk.specs.Branch.{BranchIs, Assumes, Branches}
 use Rattle.walk.specs.Walk.{Walked}
 use Rattle.walk.specs.declared.tally.Tally.{Tally}
@@ -35,16 +35,16 @@ use Rattle.walk.proofs.Turns.{turn-ended, turn-broken, turn-leaf, turn-
 
 -- ---- what the sweeps left
 
-left-broken : (o : Outcome) → Left o S.Broken → o ≡ Broken
+left-broken : (o : Outcome) → SweptIs o S.Broken → o ≡ Broken
 left-broken Broken h = refl
 left-broken (Stands st) h = absurd h
 
-left-stands : (s : State) (o : Outcome) → Left o (S.Stands s) → (st : List Status) × (o ≡ Stands st) × Holds s st
+left-stands : (s : State) (o : Outcome) → SweptIs o (S.Stands s) → (st : List Status) × (o ≡ Stands st) × StateIs s st
 left-stands s Broken h = absurd h
 left-stands s (Stands st) h = (st, refl, h)
 
 -- as many are undecided as the set has
-open-size : {s : State} {st : List Status} → Holds s st → size (s .undecided) ≡ openCount st
+open-size : {s : State} {st : List Status} → StateIs s st → size (s .undecided) ≡ openCount st
 open-size {s} {st} h = size-is (h .leaves) ∙ count-open st
 
 -- an assumption finds no solid, so there is room as before
@@ -60,7 +60,7 @@ module _ {tables : WalkTables} {m : ℕ} {b : Branch} where
   swept : {w : Swept} → SweptOut (tables .on) (tables .sides) (b .state) (b .changed) w
       → {n : ℕ} {t : Tables} {st : List Status} {marked : List Bool} {e : ℕ} → Lent tables m n t
       → BranchIs b st marked e → Call (t .masks) st marked e
-      → Left (stable (suc (openCount st)) (t .masks) st) w
+      → SweptIs (stable (suc (openCount st)) (t .masks) st) w
   swept o {n} {t} {st} {marked} lent is call =
       o .same (t .masks) _ st marked (lent .held .on-are) (lent .held .sides-are) (is .holds) (is .marked-is) (call .loop)
 
@@ -86,7 +86,7 @@ module _ {tables : WalkTables} {m : ℕ} {b : Branch} where
 
       module _ {s : State} (o : SweptOut (tables .on) (tables .sides) (b .state) (b .changed) (S.Stands s)) {r : Tally}
           {out : List ℕ} where
-        pub walked-leaf : size (s .undecided) ≡ 0 → Keeps tables m (s .taken) x out₀ r out
+        pub walked-leaf : size (s .undecided) ≡ 0 → KeepsSolid tables m (s .taken) x out₀ r out
             → Walked tables m b limit x out₀ r out
         walked-leaf none k = record {
           roomy = k .roomy;
@@ -104,7 +104,7 @@ module _ {tables : WalkTables} {m : ℕ} {b : Branch} where
   -- one branch from where the sweeps left the walk
   module _ {limit : ℕ} {s : State} {n : ℕ} {t : Tables} (st st′ : List Status) {marked : List Bool} {e : ℕ}
       (lent : Lent tables m n t) (long : length st ≡ n) (is : BranchIs b st marked e)
-      (call : Call (t .masks) st marked e) (q : stable (suc (openCount st)) (t .masks) st ≡ Stands st′) (holds : Holds s st′) where
+      (call : Call (t .masks) st marked e) (q : stable (suc (openCount st)) (t .masks) st ≡ Stands st′) (holds : StateIs s st′) where
     branched : (v : Status) → isOpen v ≡ false → {c : Branch} {y r : Tally} {out₁ out : List ℕ}
         → Assumes (tables .on) m (tables .sides) s (b .edge) v c → Walked tables m c limit y out₁ r out
         → (depth : ℕ) → openCount st′ ≤ depth

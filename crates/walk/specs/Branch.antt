@@ -8,7 +8,7 @@ use Rattle.sets.specs.Sets.{Is, size}
 use Rattle.paper.specs.Walk.{Status, Taken, Rejected}
 use Rattle.fast_sweeps.specs.Worklist.{edgesWith, openFrom, lowestOn}
 use Rattle.walk_tables.specs.Words.{Masks, Sides}
-use Rattle.walk_state.specs.State.{Holds}
+use Rattle.walk_state.specs.State.{StateIs}
 use Rattle.walk_state.specs.Choice.{From}
 use Rattle.walk_state.specs.declared.State.{State}
 use Rattle.walk.specs.declared.branch.Branch.{Branch}
@@ -21,7 +21,7 @@ pub record Branching (m : ℕ) (s : State) (from : ℕ) : Type 0 where
 
 -- it starts at the state st, with these edges marked and from the edge e
 pub record BranchIs (b : Branch) (st : List Status) (marked : List Bool) (e : ℕ) : Type 0 where
-  pub holds : Holds (b .state) st
+  pub holds : StateIs (b .state) st
   pub marked-is : Is (b .changed) marked
   pub edge-is : b .edge ≡ e
 
@@ -29,7 +29,7 @@ pub record BranchIs (b : Branch) (st : List Status) (marked : List Bool) (e : �
 pub record Assumes (on : List ℕ) (m : ℕ) (sides : List ℕ) (s : State) (from : ℕ) (v : Status) (b : Branch) : Type 0 where
   pub within : b .edge ≤ m
   pub fewer : suc (size (b .state .undecided)) ≡ size (s .undecided)
-  pub same : (masks : List (List Bool)) (st : List Status) → Masks on masks → Sides sides masks → length masks ≡ m → Holds s st
+  pub same : (masks : List (List Bool)) (st : List Status) → Masks on masks → Sides sides masks → length masks ≡ m → StateIs s st
       → let g = openFrom masks st from in
       let k = lowestOn masks st g in
       BranchIs b (set st k v) (edgesWith masks k) g

@@ -22,7 +22,7 @@ pub record Keeping (m : ℕ) (sixes : List ℤ) (x : Tally) (out : List ℕ) : T
   pub roomy : Roomy x out
 
 -- "With nothing undecided, test (ii) to (v)": those taken are two on each edge
-pub record Keeps (tables : WalkTables) (m : ℕ) (taken : Set) (x : Tally) (out₀ : List ℕ) (r : Tally) (out : List ℕ) : Type 0 where
+pub record KeepsSolid (tables : WalkTables) (m : ℕ) (taken : Set) (x : Tally) (out₀ : List ℕ) (r : Tally) (out : List ℕ) : Type 0 where
   pub roomy : Roomy r out
   pub same : (n : ℕ) (t : Tables) (st : List Status) → Lent tables m n t → length st ≡ n → Is taken (takens st)
       → exact (t .masks) st ≡ true → Follows t (leaf mostSolids (accepted t) st) x out₀ r out

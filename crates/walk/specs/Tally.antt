@@ -9,7 +9,7 @@ use Rattle.paper.specs.Walk.{Log, assume}
 use Rattle.paper.specs.Conversion.{solidsAfter}
 use Rattle.walk.specs.declared.tally.Tally.{Tally}
 
-pub record Counts (x : Tally) (log : Log) : Type 0 where
+pub record CountsLog (x : Tally) (log : Log) : Type 0 where
   pub work-is : x .work ≡ log .work
   pub found-is : x .found ≡ length (log .found)
   pub ended-is : x .ended ≡ log .ended
@@ -17,7 +17,7 @@ pub record Counts (x : Tally) (log : Log) : Type 0 where
 -- no solid more, and one more assumption where the limit allows it
 pub record Assumed (limit : ℕ) (x r : Tally) : Type 0 where
   pub no-more : r .found ≡ x .found
-  pub same : (log : Log) → Counts x log → Counts r (assume limit log)
+  pub same : (log : Log) → CountsLog x log → CountsLog r (assume limit log)
 
 -- ---- with the words of the solids found, in a room that was lent
 
@@ -27,7 +27,7 @@ pub record Roomy (x : Tally) (out : List ℕ) : Type 0 where
   pub whole : length out ≡ solidRoom
 
 pub record Stored (t : Tables) (lent : List ℕ) (x : Tally) (out : List ℕ) (log : Log) : Type 0 where
-  pub counts : Counts x log
+  pub counts : CountsLog x log
   pub words-are : out ≡ solidsAfter t (log .found) lent
 
 -- what the code does to the tally and the words is what a step does to the log

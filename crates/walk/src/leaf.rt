@@ -1,6 +1,6 @@
 // A state with nothing undecided: tested, and stored where it is a solid and there is room. Assumes two taken on each edge.
 ghost use Rattle.walk_tables.specs.Words.{walkTables};
-ghost use Rattle.walk.specs.Leaf.{Keeping, Keeps};
+ghost use Rattle.walk.specs.Leaf.{Keeping, KeepsSolid};
 use super::tally::Tally;
 use paper::MANY;
 use paper::MOST_CANDIDATES;
@@ -24,7 +24,7 @@ pub fn kept(
     out: &mut [u64; SOLID_ROOM],
 ) -> Tally
     requires { ⌜ Keeping m (now sixes) t (now out) ⌝ }
-    ensures { λ r. ⌜ Keeps
+    ensures { λ r. ⌜ KeepsSolid
         (walkTables (now (on .entry)) (now (up .entry)) (now (sides .entry)) (now (clashes .entry)) (now (sixes .entry)))
         m taken t (now (out .entry)) r (now (out .exit)) ⌝ }
 {

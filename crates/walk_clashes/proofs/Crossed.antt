@@ -19,7 +19,7 @@ use Rattle.paper.specs.Loops.{polygon}
 use Rattle.paper.specs.Solids.{has, tablesOf}
 use Rattle.paper.specs.declared.Point.{Point}
 use Rattle.clash_pierce.specs.Pierce.{pierceAt}
-use Rattle.polygon.specs.Rings.{ring, pointOf, Face}
+use Rattle.polygon.specs.Rings.{ring, pointOf, FaceRow}
 use Rattle.polygon.proofs.Drawn.{point-of}
 use Rattle.fast_tables.specs.Hits.{edgePierces}
 use Rattle.fast_tables.specs.Words.{ones, gathered, nearMask, belowMask, downFrom}
@@ -27,7 +27,7 @@ use Rattle.fast_tables.proofs.Counts.{map-yes}
 use Rattle.fast_tables.proofs.Rounds.{joins-cases, has-turn}
 use Rattle.loop_table.proofs.Loops.{vertices-are}
 use Rattle.loop_words.specs.Numbered.{pairAt}
-use Rattle.walk_clashes.specs.Lent.{Known, Lent, wireOf, allOf, loopOf}
+use Rattle.walk_clashes.specs.Lent.{KnownFace, LentFace, wireOf, allOf, knownLoop}
 use Rattle.walk_clashes.proofs.Rows.{face-at, polygon-at}
 use Rattle.walk_clashes.proofs.Folding.{folded}
 
@@ -38,11 +38,11 @@ unfolding folded gathered
 gathered-fold test mask [] s = refl
 gathered-fold test mask (x ∷ xs) s = gathered-fold test mask xs (either s (cond (test x) (mask x) []))
 
-module _ {xyz : List ℤ} {rows : List ℕ} {g : ℕ} {m : Point} (k : Known xyz rows g m) where
-  pub face-of : Face xyz rows g m
+module _ {xyz : List ℤ} {rows : List ℕ} {g : ℕ} {m : Point} (k : KnownFace xyz rows g m) where
+  pub face-of : FaceRow xyz rows g m
   face-of = face-at (k .faces) g (k .there) (k .across)
 
-  pub polygon-of : ring xyz rows g ≡ polygon (wireOf k) (loopOf k)
+  pub polygon-of : ring xyz rows g ≡ polygon (wireOf k) (knownLoop k)
   polygon-of = polygon-at (k .faces) g (k .there)
 
   -- a vertex
@@ -56,10 +56,10 @@ module _ {xyz : List ℤ} {rows : List ℕ} {g : ℕ} {m : Point} (k : Known xyz
   unfolding at wire
   at-is v h = sym (point-of xyz v (vertex-in v h))
 
-module _ {xyz : List ℤ} {rows number on : List ℕ} {g : ℕ} {m : Point} (w : Lent xyz rows number on g m) where
+module _ {xyz : List ℤ} {rows number on : List ℕ} {g : ℕ} {m : Point} (w : LentFace xyz rows number on g m) where
   -- two vertices
   module _ (a b : ℕ) (ha : a < length (wireOf (w .known) .vertices)) (hb : b < length (wireOf (w .known) .vertices)) where
-    pub pierce-is : pierceAt (ring xyz rows g) (pointOf xyz a) (pointOf xyz b) ≡ edgePierces (wireOf (w .known)) (loopOf (w .known)) (edge a b)
+    pub pierce-is : pierceAt (ring xyz rows g) (pointOf xyz a) (pointOf xyz b) ≡ edgePierces (wireOf (w .known)) (knownLoop (w .known)) (edge a b)
     unfolding edgePierces
     pierce-is =
         λ i. pierceAt (polygon-of (w .known) i) (at-is (w .known) a ha i) (at-is (w .known) b hb i)
@@ -98,16 +98,16 @@ module _ {xyz : List ℤ} {rows number on : List ℕ} {g : ℕ} {m : Point} (w :
             go f (inr p) = ap (λ (y : Edge). map (has y) (allOf (w .known))) p ∙ (λ i. map (λ l. has-turn b a l i) (allOf (w .known)))
 
 -- ---- the vertices below that are joined to a
-module _ {xyz : List ℤ} {rows number on : List ℕ} {g : ℕ} {m : Point} (w : Lent xyz rows number on g m) (a : ℕ) where
+module _ {xyz : List ℤ} {rows number on : List ℕ} {g : ℕ} {m : Point} (w : LentFace xyz rows number on g m) (a : ℕ) where
   -- the step of an edge to b, and all of them
   abbrev pub step : ℕ → List Bool → List Bool
-  step b s = either s (cond (edgePierces (wireOf (w .known)) (loopOf (w .known)) (edge a b)) (map (has (edge a b)) (allOf (w .known))) [])
+  step b s = either s (cond (edgePierces (wireOf (w .known)) (knownLoop (w .known)) (edge a b)) (map (has (edge a b)) (allOf (w .known))) [])
 
   abbrev pub under : List Bool
-  under = both (nearMask (wireOf (w .known)) a) (belowMask (wireOf (w .known)) (loopOf (w .known)))
+  under = both (nearMask (wireOf (w .known)) a) (belowMask (wireOf (w .known)) (knownLoop (w .known)))
 
   near-yes : (b : ℕ) → dig under b ≡ true → dig (nearMask (wireOf (w .known)) a) b ≡ true
-  near-yes b t = and-left (dig (nearMask (wireOf (w .known)) a) b) _ (sym (dig-both (nearMask (wireOf (w .known)) a) (belowMask (wireOf (w .known)) (loopOf (w .known))) b) ∙ t)
+  near-yes b t = and-left (dig (nearMask (wireOf (w .known)) a) b) _ (sym (dig-both (nearMask (wireOf (w .known)) a) (belowMask (wireOf (w .known)) (knownLoop (w .known))) b) ∙ t)
 
   pub under-low : (b : ℕ) → dig under b ≡ true → b < length (wireOf (w .known) .vertices)
   unfolding nearMask
@@ -122,8 +122,8 @@ module _ {xyz : List ℤ} {rows number on : List ℕ} {g : ℕ} {m : Point} (w :
       sym (made-at (joined (wireOf (w .known)) a) n b false (under-low b t)) ∙ near-yes b t
 
   pub down-fold : (s : List Bool)
-      → folded step (ones (length (wireOf (w .known) .vertices)) under) s ≡ downFrom (wireOf (w .known)) (allOf (w .known)) (loopOf (w .known)) a s
+      → folded step (ones (length (wireOf (w .known) .vertices)) under) s ≡ downFrom (wireOf (w .known)) (allOf (w .known)) (knownLoop (w .known)) a s
   unfolding downFrom
   down-fold s =
-      gathered-fold (λ b. edgePierces (wireOf (w .known)) (loopOf (w .known)) (edge a b)) (λ b. map (has (edge a b)) (allOf (w .known)))
+      gathered-fold (λ b. edgePierces (wireOf (w .known)) (knownLoop (w .known)) (edge a b)) (λ b. map (has (edge a b)) (allOf (w .known)))
       (ones (length (wireOf (w .known) .vertices)) under) s

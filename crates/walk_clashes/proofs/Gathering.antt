@@ -16,7 +16,7 @@ use Rattle.paper.specs.Drawing.{Wire, edge, at}
 use Rattle.paper.specs.Loops.{Loop, polygon}
 use Rattle.paper.specs.Solids.{has}
 use Rattle.fast_tables.specs.Hits.{edgePierces, cornerMask}
-use Rattle.fast_tables.specs.Asked.{planeMask}
+use Rattle.fast_tables.specs.Asked.{loopPlane}
 use Rattle.fast_tables.specs.Words.{ones, gathered, nearMask, aboveMask, belowMask, downFrom, goingDown, throughMask, insideMask}
 use Rattle.fast_tables.proofs.Counts.{map-yes}
 use Rattle.walk_clashes.proofs.Folding.{folded}
@@ -57,16 +57,16 @@ module _ (d : Wire) (cs : List Loop) (l : Loop) where
 
   -- ---- B
   abbrev pub askedMask : List Bool
-  askedMask = less (planeMask d l) (cornerMask d l)
+  askedMask = less (loopPlane d l) (cornerMask d l)
 
   abbrev pub enterStep : ℕ → List Bool → List Bool
   enterStep v s = either s (cond (isInside (lies (exactly (at d v)) (polygon d l))) (map (member v) cs) [])
 
   pub asked-low : (v : ℕ) → dig askedMask v ≡ true → v < length (d .vertices)
-  unfolding planeMask
+  unfolding loopPlane
   asked-low v t =
       vertex (λ u. isZero (planeSide (polygon d l) (at d u))) v
-      (and-left (dig (planeMask d l) v) _ (sym (dig-less (planeMask d l) (cornerMask d l) v) ∙ t))
+      (and-left (dig (loopPlane d l) v) _ (sym (dig-less (loopPlane d l) (cornerMask d l) v) ∙ t))
 
   pub inside-fold : folded enterStep (ones (length (d .vertices)) askedMask) [] ≡ insideMask d cs l
   unfolding insideMask

@@ -22,32 +22,32 @@ use Rattle.paper.specs.Polygon.{normal}
 use Rattle.paper.specs.Loops.{polygon}
 use Rattle.paper.specs.Solids.{faceSix, tablesOf}
 use Rattle.paper.specs.declared.Point.{Point}
-use Rattle.polygon.specs.Rings.{ring, pointOf, cornerOf, Face}
+use Rattle.polygon.specs.Rings.{ring, pointOf, cornerOf, FaceRow}
 use Rattle.polygon.proofs.Rows.{corner-small, ring-least}
 use Rattle.polygon.proofs.Planes.{face-normal, first-is}
 use Rattle.polygon.proofs.Sizes.{dot-small}
 use Rattle.paper_laws.proofs.Six.{six-normal}
-use Rattle.walk_tables.specs.Words.{mostSix}
-use Rattle.walk_clashes.specs.Faces.{Faces, drawingOf, PointPut, PartsOf}
+use Rattle.walk_tables.specs.Words.{mostPart}
+use Rattle.walk_clashes.specs.Faces.{DrawnFaces, drawingOf, PointPut, PartsOf}
 use Rattle.walk_clashes.proofs.Rows.{face-at, polygon-at}
 
-module _ {xyz : List ℤ} {rows : List ℕ} {k : ℕ} {m : Point} (f : Face xyz rows k m) where
+module _ {xyz : List ℤ} {rows : List ℕ} {k : ℕ} {m : Point} (f : FaceRow xyz rows k m) where
   pub part-is : {o : Point} → o ≡ cornerOf (ring xyz rows k) 0 → dot o m ≡ faceSix (ring xyz rows k)
   part-is e =
       let g = ring xyz rows k in
       (λ i. dot ((e ∙ first-is g (omega (arith, ring-least (f .row)))) i) (f .across i)) ∙ sym (six-normal g)
 
-  pub part-small : Within mostSix (faceSix (ring xyz rows k))
+  pub part-small : Within mostPart (faceSix (ring xyz rows k))
   part-small =
-      subst (Within mostSix) (part-is (λ i. cornerOf (ring xyz rows k) 0)) (within-up tt (dot-small (corner-small (f .row) 0) (face-normal f)))
+      subst (Within mostPart) (part-is (λ i. cornerOf (ring xyz rows k) 0)) (within-up tt (dot-small (corner-small (f .row) 0) (face-normal f)))
 
 -- a number of that size is kept by the machine
-pub kept : {z : ℤ} → Within mostSix z → toZ w64 (ofZ w64 z) ≡ z
+pub kept : {z : ℤ} → Within mostPart z → toZ w64 (ofZ w64 z) ≡ z
 kept h = reads (h ▸ done) (var 0) tt
 
 -- ---- the column
 
-module _ {xyz : List ℤ} {rows : List ℕ} {n : ℕ} (w : Faces xyz rows n) where
+module _ {xyz : List ℤ} {rows : List ℕ} {n : ℕ} (w : DrawnFaces xyz rows n) where
   -- those of the first k candidates, and their normals
   pub record Parts (normals sixes₀ sixes : List ℤ) (k : ℕ) : Type 0 where
     pub not-past : k ≤ n
@@ -116,8 +116,8 @@ module _ {xyz : List ℤ} {rows : List ℕ} {n : ℕ} (w : Faces xyz rows n) whe
           (omega (arith, h, w .count, length-map (w .loops) (polygon (drawingOf w))))
           ∙ ap faceSix (map-at (polygon (drawingOf w)) (w .loops) i [] [] (omega (arith, h, w .count)) ∙ sym (polygon-at w i h))
 
-      small : (i : ℕ) (b : Bool) → ltb i n ≡ b → Within mostSix (getD zs i (pos 0))
-      small i true t = let h = ltb-true i n t in subst (Within mostSix) (sym (entry i h)) (part-small (face-at w i h refl))
+      small : (i : ℕ) (b : Bool) → ltb i n ≡ b → Within mostPart (getD zs i (pos 0))
+      small i true t = let h = ltb-true i n t in subst (Within mostPart) (sym (entry i h)) (part-small (face-at w i h refl))
       small i false t =
           let h = ltb-false i n t in
-          subst (Within mostSix) (sym (List·getD-eq-default zs (pos 0) (omega (arith, h, long, w .count)))) (within-lit tt)
+          subst (Within mostPart) (sym (List·getD-eq-default zs (pos 0) (omega (arith, h, long, w .count)))) (within-lit tt)

@@ -20,7 +20,7 @@ use Rattle.paper.specs.Drawing.{Wire}
 use Rattle.paper.specs.Loops.{Loop, loopAt, polygon}
 use Rattle.paper.specs.Clash.{folds}
 use Rattle.paper.specs.declared.Point.{Point}
-use Rattle.polygon.specs.Rings.{ofRows, pointOf, countIn, Face}
+use Rattle.polygon.specs.Rings.{ofRows, pointOf, cornerCount, FaceRow}
 use Rattle.fast_tables.specs.Hits.{cornerMask, sideMask, shareEnough, mayFold, foldsWith}
 use Rattle.walk_clashes.specs.Faces.{drawingOf}
 use Rattle.walk_clashes.specs.Sorted.{Upto}
@@ -52,7 +52,7 @@ module _ {xyz : List ℤ} {rows corners sides : List ℕ} {normals : List ℤ} {
   drawing = drawingOf (w .faces)
 
   -- with the normal that is read
-  pub face-read : (k : ℕ) → k < n → {m : Point} → m ≡ pointOf normals k → Face xyz rows k m
+  pub face-read : (k : ℕ) → k < n → {m : Point} → m ≡ pointOf normals k → FaceRow xyz rows k m
   face-read k h e = face-at (w .faces) k h (e ∙ w .normals-are .each k h)
 
   -- the tests that rule C comes after, and rule C
@@ -70,7 +70,7 @@ module _ {xyz : List ℤ} {rows corners sides : List ℕ} {normals : List ℤ} {
   tests-are g j a b c ea eb ec = λ i. ltb g j && (((ea i && eb i) && ec i) && fold g j)
 
   -- a triangle folds with none
-  three-fold : (g : ℕ) → g < n → countIn rows g ≤ 3 → (j : ℕ) → foldsAfter drawing (w .faces .loops) g j ≡ false
+  three-fold : (g : ℕ) → g < n → cornerCount rows g ≤ 3 → (j : ℕ) → foldsAfter drawing (w .faces .loops) g j ≡ false
   three-fold g h few j =
       tests-are g j false (ltb 3 (length (here j))) (share g j) (le-ltb 3 (length (here g)) (omega (arith, few, corners-at (w .faces) g h)))
       refl refl
@@ -89,7 +89,7 @@ module _ {xyz : List ℤ} {rows corners sides : List ℕ} {normals : List ℤ} {
         upto-fail (Passes g s) (g + 1)
         (λ u h. ap (λ (b : Bool). (b && foldsWith drawing (here g) (here u)) && not (dig s u)) (le-ltb g u (omega (arith, h))))
 
-    pub pass-none : g < n → countIn rows g ≤ 3 → {x : Set} → Is x [] → Upto (Passes g s) n x
+    pub pass-none : g < n → cornerCount rows g ≤ 3 → {x : Set} → Is x [] → Upto (Passes g s) n x
     pass-none h few = upto-fail (Passes g s) n (λ u l. ap (λ (b : Bool). b && not (dig s u)) (three-fold g h few u))
 
     pub pass-all : {x : Set} → Upto (Passes g s) n x → Is x (less (foldMask drawing (w .faces .loops) g) s)
@@ -145,7 +145,7 @@ module _ {xyz : List ℤ} {rows corners sides : List ℕ} {normals : List ℤ} {
       ∙ ap (λ (b : Bool). ltb g j && (b && fold (w .lent) g j)) (and-false (first-long && last-long))
       ∙ and-false (ltb g j))
 
-  pub three-less : countIn rows j ≤ 3 → PairFolds w false
+  pub three-less : cornerCount rows j ≤ 3 → PairFolds w false
   three-less q =
       let few = le-ltb 3 (length (here (w .lent) j)) (omega (arith, q, corners-at (w .lent .faces) j (w .there))) in
       sym
@@ -153,7 +153,7 @@ module _ {xyz : List ℤ} {rows corners sides : List ℕ} {normals : List ℤ} {
       ∙ ap (λ (b : Bool). ltb g j && ((b && share (w .lent) g j) && fold (w .lent) g j)) (and-false first-long)
       ∙ and-false (ltb g j))
 
-  pub folds-are : {b : Bool} → b ≡ shareEnough (size shared) (size common) → b ≡ true → 3 < countIn rows j
+  pub folds-are : {b : Bool} → b ≡ shareEnough (size shared) (size common) → b ≡ true → 3 < cornerCount rows j
       → {r : Bool} → r ≡ ofRows folds xyz rows g j → PairFolds w r
   folds-are e t q s =
       let f = w .lent .faces in

@@ -28,21 +28,21 @@ pub record ClashLent (xyz : List ℤ) (rows near number on corner-words corners 
 
 module _ {xyz : List ℤ} {rows near number on corner-words corners sides : List ℕ} {normals : List ℤ} {n : ℕ} where
   -- the drawing and its candidates
-  abbrev pub wireOf : ClashLent xyz rows near number on corner-words corners sides normals n → Wire
-  wireOf w = drawingOf (w .all .faces)
+  abbrev pub wireLent : ClashLent xyz rows near number on corner-words corners sides normals n → Wire
+  wireLent w = drawingOf (w .all .faces)
 
-  abbrev pub allOf : ClashLent xyz rows near number on corner-words corners sides normals n → List Loop
-  allOf w = w .all .faces .loops
+  abbrev pub allLent : ClashLent xyz rows near number on corner-words corners sides normals n → List Loop
+  allLent w = w .all .faces .loops
 
   -- those that go through g, and those after g that fold with it and are not known
   abbrev pub SetOf : ClashLent xyz rows near number on corner-words corners sides normals n → ℕ → Set → Set → Type 0
   SetOf w g known r =
-      let hit = hitMask (wireOf w) (allOf w) g in
-      (s : List Bool) → Is known s → Is r (either hit (less (foldMask (wireOf w) (allOf w) g) (either s hit)))
+      let hit = hitMask (wireLent w) (allLent w) g in
+      (s : List Bool) → Is known s → Is r (either hit (less (foldMask (wireLent w) (allLent w) g) (either s hit)))
 
   -- the words are the masks of those that clash
-  abbrev pub Clashes : ClashLent xyz rows near number on corner-words corners sides normals n → List ℕ → Type 0
-  Clashes w words = Masks words (tablesOf (wireOf w) (allOf w) .clashes)
+  abbrev pub ClashMasks : ClashLent xyz rows near number on corner-words corners sides normals n → List ℕ → Type 0
+  ClashMasks w words = Masks words (tablesOf (wireLent w) (allLent w) .clashes)
 
 -- one of the candidates
 pub record CandidateLent (xyz : List ℤ) (rows near number on corner-words corners sides : List ℕ) (normals : List ℤ)

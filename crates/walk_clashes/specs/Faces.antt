@@ -19,7 +19,7 @@ use Rattle.loop_table.specs.Tables.{HoldsRows}
 use Rattle.loop_table.specs.Loops.{LoopsOf}
 use Rattle.walk_tables.specs.Words.{Sixes}
 
-pub record Faces (xyz : List ℤ) (rows : List ℕ) (n : ℕ) : Type 0 where
+pub record DrawnFaces (xyz : List ℤ) (rows : List ℕ) (n : ℕ) : Type 0 where
   pub ends : List ℕ
   pub range : InRange xyz ends
   pub loops : List Loop
@@ -29,7 +29,7 @@ pub record Faces (xyz : List ℤ) (rows : List ℕ) (n : ℕ) : Type 0 where
   pub most : n ≤ room
 
 -- the drawing
-abbrev pub drawingOf : {xyz : List ℤ} {rows : List ℕ} {n : ℕ} → Faces xyz rows n → Wire
+abbrev pub drawingOf : {xyz : List ℤ} {rows : List ℕ} {n : ℕ} → DrawnFaces xyz rows n → Wire
 drawingOf {xyz} w = wire xyz (w .ends)
 
 -- ---- normals, and six volumes
@@ -52,12 +52,12 @@ pub record PointPut (k : ℕ) (p : Point) (points₀ points : List ℤ) : Type 0
 
 -- there is room for each candidate's
 pub record PartRoom (xyz : List ℤ) (rows : List ℕ) (n : ℕ) (normals sixes : List ℤ) : Type 0 where
-  pub faces : Faces xyz rows n
+  pub faces : DrawnFaces xyz rows n
   pub normal-room : length normals ≡ 3 * mostCandidates
   pub six-room : length sixes ≡ mostCandidates
 
 -- the candidates' normals, and their parts of six volumes; later room keeps its contents
-pub record PartsOf {xyz : List ℤ} {rows : List ℕ} {n : ℕ} (w : Faces xyz rows n) (normals sixes₀ sixes : List ℤ) : Type 0 where
+pub record PartsOf {xyz : List ℤ} {rows : List ℕ} {n : ℕ} (w : DrawnFaces xyz rows n) (normals sixes₀ sixes : List ℤ) : Type 0 where
   pub normals-are : NormalsOf xyz rows n normals
   pub sixes-are : Sixes sixes (tablesOf (drawingOf w) (w .loops) .sixes)
   pub later : (i : ℕ) → n ≤ i → getD sixes i (pos 0) ≡ getD sixes₀ i (pos 0)

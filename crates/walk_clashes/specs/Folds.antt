@@ -14,10 +14,10 @@ use Rattle.sets.specs.declared.Set.{Set}
 use Rattle.paper.specs.Numbers.{leastCorners}
 use Rattle.paper.specs.Drawing.{Wire}
 use Rattle.paper.specs.Loops.{Loop, loopAt}
-use Rattle.polygon.specs.Rings.{countIn}
+use Rattle.polygon.specs.Rings.{cornerCount}
 use Rattle.fast_tables.specs.Hits.{cornerMask, sideMask, foldsWith}
 use Rattle.walk_clashes.specs.Sorted.{Upto}
-use Rattle.walk_clashes.specs.Faces.{Faces, drawingOf, NormalsOf}
+use Rattle.walk_clashes.specs.Faces.{DrawnFaces, drawingOf, NormalsOf}
 
 -- candidate j comes after i and folds with it
 unfoldable pub foldsAfter : Wire → List Loop → ℕ → ℕ → Bool
@@ -28,7 +28,7 @@ foldMask d cs i = map (foldsAfter d cs i) (upto (length cs))
 
 -- the words of the candidates' corners and sides, and their normals
 pub record FoldLent (xyz : List ℤ) (rows corners sides : List ℕ) (normals : List ℤ) (n : ℕ) : Type 0 where
-  pub faces : Faces xyz rows n
+  pub faces : DrawnFaces xyz rows n
   pub own-are : (k : ℕ) → k < n → Is (maskAt corners k) (cornerMask (drawingOf faces) (loopAt (faces .loops) k))
   pub sides-are : (k : ℕ) → k < n → Is (maskAt sides k) (sideMask (drawingOf faces) (loopAt (faces .loops) k))
   pub normals-are : NormalsOf xyz rows n normals
@@ -40,7 +40,7 @@ pub record PairLent (xyz : List ℤ) (rows corners sides : List ℕ) (normals : 
   pub lent : FoldLent xyz rows corners sides normals n
   pub after : g < j
   pub there : j < n
-  pub long : leastCorners < countIn rows g
+  pub long : leastCorners < cornerCount rows g
 
 module _ {xyz : List ℤ} {rows corners sides : List ℕ} {normals : List ℤ} {g j : ℕ} where
   abbrev pub PairFolds : PairLent xyz rows corners sides normals g j → Bool → Type 0

@@ -28,7 +28,7 @@ pub record Plane (xyz : List ℤ) (m o : Point) : Type 0 where
   pub m-in : PointWithin mostNormal m
   pub o-in : PointWithin farthest o
 
-pub record Vertex (xyz : List ℤ) (m o : Point) (v : ℕ) : Type 0 where
+pub record VertexOfPlane (xyz : List ℤ) (m o : Point) (v : ℕ) : Type 0 where
   pub plane : Plane xyz m o
   pub there : 3 * v + 2 < length xyz
 

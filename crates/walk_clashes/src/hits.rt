@@ -5,7 +5,7 @@ ghost use Rattle.polygon.specs.Rings.{ring, pointOf};
 ghost use Prim.Native.Nat.{_+_, _/_};
 ghost use lib.ListN.{length};
 ghost use Rattle.clash_pierce.specs.Pierce.{pierceAt};
-ghost use Rattle.walk_clashes.specs.Sorted.{Plane, Vertex, Sorted};
+ghost use Rattle.walk_clashes.specs.Sorted.{Plane, VertexOfPlane, Sorted};
 ghost use Rattle.walk_clashes.specs.Lent.{Crossing, EdgeLent, EdgeJoins, DownLent, DownStart, DownJoins};
 ghost use Rattle.walk_clashes.specs.Lent.{PierceLent, Through, VertexLent, VertexJoins, EnterLent, Inside};
 ghost use Rattle.walk_clashes.specs.Lent.{HitLent, Hits};
@@ -32,7 +32,7 @@ pub struct Sides {
 
 // Vertex v goes to the set of its side of the plane through o with normal m.
 fn sort_vertex(xyz: &[i64], m: Point, o: Point, v: usize, s: Sides) -> Sides
-    requires { ⌜ Vertex (now xyz) m o v ⌝ }
+    requires { ⌜ VertexOfPlane (now xyz) m o v ⌝ }
     ensures { λ r. ⌜ (Sorted (now (xyz .entry)) m o v s → Sorted (now (xyz .entry)) m o (v + 1) r) ⌝ }
 {
     let above = s.above;

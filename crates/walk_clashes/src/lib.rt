@@ -6,9 +6,9 @@ pub mod marks;
 
 ghost use mathlib.Core.Path.{_≡_};
 ghost use Rattle.paper.specs.Solids.{faceSix};
-ghost use Rattle.polygon.specs.Rings.{ring, Face};
-ghost use Rattle.walk_clashes.specs.Faces.{Faces, PointRoom, PointPut, PartRoom, PartsOf};
-ghost use Rattle.walk_clashes.specs.Clashes.{CandidateLent, SetOf, ClashLent, ClashRoom, Clashes};
+ghost use Rattle.polygon.specs.Rings.{ring, FaceRow};
+ghost use Rattle.walk_clashes.specs.Faces.{DrawnFaces, PointRoom, PointPut, PartRoom, PartsOf};
+ghost use Rattle.walk_clashes.specs.Clashes.{CandidateLent, SetOf, ClashLent, ClashRoom, ClashMasks};
 use folds::fold_set;
 use hits::hit_set;
 use loop_words::PAIRS;
@@ -27,7 +27,7 @@ pub const NORMALS: usize = 3 * MOST_CANDIDATES;
 
 // Row k's part of six volumes, where m is its normal: a corner times the normal.
 fn six_of(xyz: &[i64], rows: &[u8], k: usize, m: Point) -> i64
-    requires { ⌜ Face (now xyz) (now rows) k m ⌝ }
+    requires { ⌜ FaceRow (now xyz) (now rows) k m ⌝ }
     ensures { λ r. ⌜ r ≡ faceSix (ring (now (xyz .entry)) (now (rows .entry)) k) ⌝ }
 {
     dot(corner(xyz, rows, k, 0), m)
@@ -56,7 +56,7 @@ pub fn put_parts(
     sixes: &mut [i64; MOST_CANDIDATES],
 )
     requires { ⌜ PartRoom (now xyz) (now rows) n (now normals) (now sixes) ⌝ }
-    ensures { λ _. ⌜ ((w : Faces (now (xyz .entry)) (now (rows .entry)) n)
+    ensures { λ _. ⌜ ((w : DrawnFaces (now (xyz .entry)) (now (rows .entry)) n)
         → PartsOf w (now (normals .exit)) (now (sixes .entry)) (now (sixes .exit))) ⌝ }
 {
     let mut k = 0;
@@ -110,7 +110,7 @@ pub fn clash_words(
     requires { ⌜ ClashRoom (now xyz) (now rows) (now near) (now number) (now on) (now at) (now corners) (now sides) (now normals) n
         (now words) ⌝ }
     ensures { λ _. ⌜ ((w : ClashLent (now (xyz .entry)) (now (rows .entry)) (now (near .entry)) (now (number .entry)) (now (on .entry))
-        (now (at .entry)) (now (corners .entry)) (now (sides .entry)) (now (normals .entry)) n) → Clashes w (now (words .exit))) ⌝ }
+        (now (at .entry)) (now (corners .entry)) (now (sides .entry)) (now (normals .entry)) n) → ClashMasks w (now (words .exit))) ⌝ }
 {
     let mut g = 0;
     while g < n {

@@ -21,7 +21,7 @@ use Rattle.paper.specs.Solids.{runs, runsUp}
 use Rattle.fast_tables.specs.Paths.{Path}
 use Rattle.fast_tables.proofs.Rounds.{runs-yes, runs-is, joins-cases}
 use Rattle.fast_tables.proofs.Counts.{map-yes}
-use Rattle.loop_words.specs.Numbered.{pairAt, Numbered}
+use Rattle.loop_words.specs.Numbered.{pairAt, EdgesNumbered}
 use Rattle.loop_words.proofs.Masks.{prior, prior-low, sideNumber, after-prior, after-is, side-edge, side-number}
 use Rattle.walk_edges.specs.Marks.{Upward, upMask}
 
@@ -29,7 +29,7 @@ use Rattle.walk_edges.specs.Marks.{Upward, upMask}
 abbrev pub rises : Loop → ℕ → Bool
 rises l j = ltb (getD l (prior (length l) j) 0) (getD l j 0)
 
-module _ (d : Wire) (upward : Upward d) (l : Loop) (path : Path d l) (number : List ℕ) (numbered : Numbered number (d .edges)) where
+module _ (d : Wire) (upward : Upward d) (l : Loop) (path : Path d l) (number : List ℕ) (numbered : EdgesNumbered number (d .edges)) where
   abbrev n : ℕ
   n = length l
 

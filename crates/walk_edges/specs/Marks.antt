@@ -53,7 +53,7 @@ pub record Marks {rows : List ℕ} {k : ℕ} {number : List ℕ} (w : RowOf rows
 -- ---- n rows
 
 -- they are candidates of a drawing
-pub record Candidates (rows : List ℕ) (n : ℕ) (number : List ℕ) : Type 0 where
+pub record DrawnCandidates (rows : List ℕ) (n : ℕ) (number : List ℕ) : Type 0 where
   pub drawing : Wire
   pub small : Small drawing number
   pub upward : Upward drawing
@@ -64,16 +64,16 @@ pub record Candidates (rows : List ℕ) (n : ℕ) (number : List ℕ) : Type 0 w
   pub most : n ≤ room
 
 -- nothing is marked yet
-pub record Clear (words : List ℕ) : Type 0 where
+pub record Unmarked (words : List ℕ) : Type 0 where
   pub room-is : length words ≡ editionOne .«most_edges»
   pub none : (e : ℕ) → getD words e 0 ≡ 0
 
-pub record WithRoom (rows : List ℕ) (n : ℕ) (number on up : List ℕ) : Type 0 where
-  pub candidates : Candidates rows n number
-  pub on-clear : Clear on
-  pub up-clear : Clear up
+pub record EdgeMarkRoom (rows : List ℕ) (n : ℕ) (number on up : List ℕ) : Type 0 where
+  pub candidates : DrawnCandidates rows n number
+  pub on-clear : Unmarked on
+  pub up-clear : Unmarked up
 
 -- the words are those of the walk's tables
-pub record EdgeWords {rows : List ℕ} {n : ℕ} {number : List ℕ} (w : Candidates rows n number) (on up : List ℕ) : Type 0 where
+pub record EdgeWords {rows : List ℕ} {n : ℕ} {number : List ℕ} (w : DrawnCandidates rows n number) (on up : List ℕ) : Type 0 where
   pub on-are : Masks on (tablesOf (w .drawing) (w .loops) .masks)
   pub up-are : Masks up (tablesOf (w .drawing) (w .loops) .ups)

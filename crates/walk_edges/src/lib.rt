@@ -1,6 +1,6 @@
 // Of each edge the words of candidates: of those that have it, and of those that run it upwards. Assumes a table of candidates of a
 // drawing whose edges are numbered.
-ghost use Rattle.walk_edges.specs.Marks.{RowRoom, RowOf, Marks, WithRoom, Candidates, EdgeWords};
+ghost use Rattle.walk_edges.specs.Marks.{RowRoom, RowOf, Marks, EdgeMarkRoom, DrawnCandidates, EdgeWords};
 use lists::wide;
 use loop_words::PAIRS;
 use paper::MOST_EDGES;
@@ -43,8 +43,8 @@ pub fn edge_words(
     on: &mut [u64; MOST_EDGES],
     up: &mut [u64; MOST_EDGES],
 )
-    requires { ⌜ WithRoom (now rows) n (now number) (now on) (now up) ⌝ }
-    ensures { λ _. ⌜ ((w : Candidates (now (rows .entry)) n (now (number .entry)))
+    requires { ⌜ EdgeMarkRoom (now rows) n (now number) (now on) (now up) ⌝ }
+    ensures { λ _. ⌜ ((w : DrawnCandidates (now (rows .entry)) n (now (number .entry)))
         → EdgeWords w (now (on .exit)) (now (up .exit))) ⌝ }
 {
     let mut k = 0;

@@ -17,8 +17,8 @@ use Rattle.sheet_laws.proofs.Accepted.{coordinates-are, ends-are}
 use Rattle.sheet_reader.proofs.Range.{read-range}
 use Rattle.means_sheets.proofs.Sheets.Read.{accepted-lent}
 use Rattle.drawing_lists.proofs.Range.{lent-range}
-use Rattle.walk_tables.specs.Words.{mostSix, SmallSixes, WalkTables, walkTables}
-use Rattle.walk_input.specs.Given.{pointsOf, linksOf, Passed, Given}
+use Rattle.walk_tables.specs.Words.{mostPart, SmallSixes, WalkTables, walkTables}
+use Rattle.walk_input.specs.Given.{coordinatesOf, linksOf, PassedLists, GivenDrawing}
 use Rattle.walk_input.specs.Tables.{TablesAt}
 use Rattle.walk_input.proofs.Listing.{all-same}
 
@@ -26,9 +26,9 @@ use Rattle.walk_input.proofs.Listing.{all-same}
 
 -- numbers that are all 0 are small
 no-sixes : SmallSixes (replicate 64 (pos 0))
-no-sixes = record { small = λ k h. subst (Within mostSix) (sym (all-same (pos 0) 64 k)) (within-lit tt) }
+no-sixes = record { small = λ k h. subst (Within mostPart) (sym (all-same (pos 0) 64 k)) (within-lit tt) }
 
-pub clear-rooms : {xyz : List ℤ} {ends rows : List ℕ} → Passed xyz ends → length rows ≡ faceRoom
+pub clear-rooms : {xyz : List ℤ} {ends rows : List ℕ} → PassedLists xyz ends → length rows ≡ faceRoom
     → TablesAt xyz ends rows (walkTables (replicate 64 0) (replicate 64 0) (replicate 64 0) (replicate 64 0) (replicate 64 (pos 0)))
 clear-rooms ok long = record {
   passed = ok;
@@ -50,25 +50,25 @@ abbrev pub tablesLeft : (List ℕ × (List ℕ × (List ℕ × (List ℕ × (Lis
 tablesLeft l = walkTables (l .0) (l .1 .0) (l .1 .1 .0) (l .1 .1 .1 .0) (l .1 .1 .1 .1 .0)
 
 -- ---- at most 64 edges, which 5 sees to
-pub few-edges : (xyz : List ℤ) (ends : List ℕ) → Passed xyz ends → length ends / 2 ≤ editionOne .«most_edges»
+pub few-edges : (xyz : List ℤ) (ends : List ℕ) → PassedLists xyz ends → length ends / 2 ≤ editionOne .«most_edges»
 few-edges xyz ends ok = let r = lent-range xyz ends ok in omega (arith, r .links .whole, r .links .most)
 
 -- ---- the lists that an accepted sheet holds are those in front of the arrays of the drawing that is read
 
 module _ (s : List ℕ) {r : Sheet} (e : r ≡ sheetOf editionOne s) (ok : Fine ≡ firstOf (sheetChecks editionOne s)) where
-  pub sheet-given : Given (r .drawing)
+  pub sheet-given : GivenDrawing (r .drawing)
   unfolding sheetOf
   sheet-given =
       let c = coordinates-are editionOne s ok in
       let n = ends-are editionOne s ok in
       let fine = accepted-lent editionOne s ok ∙ (λ i. firstOf (lentChecks editionOne (c i) (n i))) in
-      subst (λ (x : Sheet). Given (x .drawing)) (sym e) (record { held = read-range s ok; passed = fine })
+      subst (λ (x : Sheet). GivenDrawing (x .drawing)) (sym e) (record { held = read-range s ok; passed = fine })
 
   -- what holds of its lists holds of those on the sheet
-  pub sheet-lists : (P : List ℤ → List ℕ → Type 0) → P (pointsOf (r .drawing)) (linksOf (r .drawing))
+  pub sheet-lists : (P : List ℤ → List ℕ → Type 0) → P (coordinatesOf (r .drawing)) (linksOf (r .drawing))
       → P (coordinatesIn editionOne s) (endsIn editionOne s)
   sheet-lists P h =
-      let same = subst (λ (x : Sheet). P (pointsOf (x .drawing)) (linksOf (x .drawing))) e h in
+      let same = subst (λ (x : Sheet). P (coordinatesOf (x .drawing)) (linksOf (x .drawing))) e h in
       let c = sym (coordinates-are editionOne s ok) in
       let n = sym (ends-are editionOne s ok) in
       transport (λ i. P (c i) (n i)) same

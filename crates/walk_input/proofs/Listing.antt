@@ -16,13 +16,13 @@ use Rattle.fast_tables.specs.Words.{nearMask}
 use Rattle.loop_table.proofs.Loops.{candidates-of, vertices-are, edges-are, corners-short, sides-short}
 use Rattle.loop_table.proofs.Words.{mask-is}
 use Rattle.loop_search.proofs.Whole.{near-is}
-use Rattle.loop_words.specs.Numbered.{Numbered}
+use Rattle.loop_words.specs.Numbered.{EdgesNumbered}
 use Rattle.walk_edges.specs.Marks as Edges
 use Rattle.walk_edges.proofs.Upward.{upward-of}
-use Rattle.walk_clashes.specs.Faces.{Faces, PartsOf}
+use Rattle.walk_clashes.specs.Faces.{DrawnFaces, PartsOf}
 use Rattle.walk_clashes.specs.Marking.{CornersOf, VertexWords}
 use Rattle.walk_clashes.specs.Clashes.{ClashLent}
-use Rattle.walk_input.specs.Words.{Listed, drawingOf}
+use Rattle.walk_input.specs.Words.{CandidatesListed, drawingListed}
 
 -- ---- a room with nothing in it, wherever it is read
 pub all-same : {A : Type 0} (a : A) (n i : ℕ) → getD (replicate n a) i a ≡ a
@@ -31,9 +31,9 @@ all-same a (suc n) zero = refl
 all-same a (suc n) (suc i) = all-same a n i
 
 module _ {xyz : List ℤ} {rows : List ℕ} {n : ℕ} {near-words number corners sides : List ℕ}
-    (w : Listed xyz rows n near-words number corners sides) where
+    (w : CandidatesListed xyz rows n near-words number corners sides) where
   abbrev pub d : Wire
-  d = drawingOf w
+  d = drawingListed w
 
   pub range : InRange xyz (w .ends)
   range = w .drawn .passed .range
@@ -44,7 +44,7 @@ module _ {xyz : List ℤ} {rows : List ℕ} {n : ℕ} {near-words number corners
   pub few-edges : length (d .edges) ≤ editionOne .«most_edges»
   few-edges = omega (arith, edges-are range, range .links .most)
 
-  pub numbers : Numbered number (d .edges)
+  pub numbers : EdgesNumbered number (d .edges)
   unfolding wire
   numbers = w .drawn .numbered
 
@@ -63,7 +63,7 @@ module _ {xyz : List ℤ} {rows : List ℕ} {n : ℕ} {near-words number corners
 
   -- ---- what each maker asks for
 
-  abbrev pub as-edges : Edges.Candidates rows n number
+  abbrev pub as-edges : Edges.DrawnCandidates rows n number
   as-edges = record {
     drawing = d;
     small = record { vertices = few-vertices; edges = few-edges; numbered = numbers };
@@ -85,7 +85,7 @@ module _ {xyz : List ℤ} {rows : List ℕ} {n : ℕ} {near-words number corners
     each = corners-of;
   }
 
-  abbrev pub as-faces : Faces xyz rows n
+  abbrev pub as-faces : DrawnFaces xyz rows n
   as-faces = record {
     ends = w .ends;
     range = range;
@@ -97,8 +97,8 @@ module _ {xyz : List ℤ} {rows : List ℕ} {n : ℕ} {near-words number corners
   }
 
   -- with what the makers before it made
-  abbrev pub as-clashes : {on up at : List ℕ} {normals sixes₀ sixes : List ℤ} → ((x : Edges.Candidates rows n number) → Edges.EdgeWords x on up)
-      → ((x : CornersOf corners n) → VertexWords x at) → ((x : Faces xyz rows n) → PartsOf x normals sixes₀ sixes)
+  abbrev pub as-clashes : {on up at : List ℕ} {normals sixes₀ sixes : List ℤ} → ((x : Edges.DrawnCandidates rows n number) → Edges.EdgeWords x on up)
+      → ((x : CornersOf corners n) → VertexWords x at) → ((x : DrawnFaces xyz rows n) → PartsOf x normals sixes₀ sixes)
       → ClashLent xyz rows near-words number on at corners sides normals n
   as-clashes e v p = record {
     all = record {

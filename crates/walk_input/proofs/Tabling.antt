@@ -28,9 +28,9 @@ use Rattle.loop_table.proofs.Rows.{rows-held}
 use Rattle.loop_table.proofs.Words.{words-held, words-later}
 use Rattle.loop_known.specs.Known.{DrawnBy}
 use Rattle.candidates.specs.Keeps.{Kept}
-use Rattle.walk_tables.specs.Words.{mostSix, SmallSixes, WalkTables, Lent}
+use Rattle.walk_tables.specs.Words.{mostPart, SmallSixes, WalkTables, Lent}
 use Rattle.walk_edges.proofs.Columns.{sides-held}
-use Rattle.walk_input.specs.Words.{Listed, WordsMade}
+use Rattle.walk_input.specs.Words.{CandidatesListed, WordsMade}
 use Rattle.walk_input.specs.Tables.{checksOf}
 
 -- ---- a count that stops one above the most
@@ -94,7 +94,7 @@ module _ {xyz : List ℤ} {ends near number : List ℕ} (drawn : DrawnBy xyz end
   pub sides-kept : sides ≡ wordsAfter (sideMask d) cs sides₀
   sides-kept = words-kept (sideMask d) sides₀ sides (kept .sides-are)
 
-  abbrev pub listed : Listed xyz rows c near number corners sides
+  abbrev pub listed : CandidatesListed xyz rows c near number corners sides
   listed = record {
     ends = ends;
     drawn = drawn;
@@ -139,7 +139,7 @@ module _ {xyz : List ℤ} {ends near number : List ℕ} (drawn : DrawnBy xyz end
   unfolding tablesOf
   small-sixes before = record { small = λ k h. go k h (ltb k c) refl }
     where
-      go : (k : ℕ) → k < room → (b : Bool) → ltb k c ≡ b → Within mostSix (getD (tables .sixes) k (pos 0))
+      go : (k : ℕ) → k < room → (b : Bool) → ltb k c ≡ b → Within mostPart (getD (tables .sixes) k (pos 0))
       go k h true e =
-          subst (Within mostSix) (sym (made .sixes-are .at k (omega (arith, lent .sixes-are, ltb-true k c e)))) (made .sixes-are .small k)
-      go k h false e = subst (Within mostSix) (sym (made .later k (ltb-false k c e))) (before .small k h)
+          subst (Within mostPart) (sym (made .sixes-are .at k (omega (arith, lent .sixes-are, ltb-true k c e)))) (made .sixes-are .small k)
+      go k h false e = subst (Within mostPart) (sym (made .later k (ltb-false k c e))) (before .small k h)

@@ -11,16 +11,16 @@ use Rattle.paper.specs.declared.Answer.the-variants.{Fine}
 use Rattle.paper.specs.declared.Drawing.{Drawing}
 use Rattle.paper_laws.specs.InRange.{Held}
 
-abbrev pub pointsOf : Drawing → List ℤ
-pointsOf d = take (3 * d .vertices) (d .xyz)
+abbrev pub coordinatesOf : Drawing → List ℤ
+coordinatesOf d = take (3 * d .vertices) (d .xyz)
 
 abbrev pub linksOf : Drawing → List ℕ
 linksOf d = take (2 * d .edges) (d .ends)
 
 -- lists that passed 3 to 10, as the tables ask for them
-abbrev pub Passed : List ℤ → List ℕ → Type 0
-Passed xyz ends = Fine ≡ firstOf (lentChecks editionOne xyz ends)
+abbrev pub PassedLists : List ℤ → List ℕ → Type 0
+PassedLists xyz ends = Fine ≡ firstOf (lentChecks editionOne xyz ends)
 
-pub record Given (d : Drawing) : Type 0 where
+pub record GivenDrawing (d : Drawing) : Type 0 where
   pub held : Held d
-  pub passed : Passed (pointsOf d) (linksOf d)
+  pub passed : PassedLists (coordinatesOf d) (linksOf d)

@@ -1,6 +1,6 @@
 // The words and numbers of a drawing's candidates that the walk is lent, each made once. Assumes the candidates' rows and words.
 ghost use Rattle.walk_tables.specs.Words.{walkTables};
-ghost use Rattle.walk_input.specs.Words.{Listed, WordsAt, WordsMade};
+ghost use Rattle.walk_input.specs.Words.{CandidatesListed, WordsAt, WordsMade};
 use loop_words::PAIRS;
 use paper::FACE_ROOM;
 use paper::MOST_CANDIDATES;
@@ -27,7 +27,7 @@ pub fn put_words(
 )
     requires { ⌜ WordsAt (now xyz) (now rows) n (now near) (now number) (now corners)
         (walkTables (now on) (now up) (now sides) (now clashes) (now sixes)) ⌝ }
-    ensures { λ _. ⌜ ((l : Listed (now (xyz .entry)) (now (rows .entry)) n (now (near .entry)) (now (number .entry))
+    ensures { λ _. ⌜ ((l : CandidatesListed (now (xyz .entry)) (now (rows .entry)) n (now (near .entry)) (now (number .entry))
         (now (corners .entry)) (now (sides .entry)))
         → WordsMade l (now (sixes .entry))
         (walkTables (now (on .exit)) (now (up .exit)) (now (sides .entry)) (now (clashes .exit)) (now (sixes .exit)))) ⌝ }

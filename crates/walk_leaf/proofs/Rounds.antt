@@ -10,7 +10,7 @@ use Rattle.sets.specs.Word.{dig, count, first, only}
 use Rattle.sets.specs.Sets.{room, Is, size, maskAt, Lowest, Dropped, SetAt}
 use Rattle.sets.specs.declared.Set.{Set}
 use Rattle.sets.proofs.Digits.{first-lt}
-use Rattle.fast_sweeps.specs.Worklist.{after, edgesWith}
+use Rattle.fast_sweeps.specs.Worklist.{withoutLowest, edgesWith}
 use Rattle.fast_sweeps.proofs.Marks.{length-after, length-sides}
 use Rattle.fast_leaf.specs.Faces.{atEdge, aroundFace, atFace, goOn, toGo, alone, fromFace}
 use Rattle.fast_leaf.specs.Faces as Lists
@@ -70,7 +70,7 @@ module _ (on up : List ℕ) (taken : Set) (f : ℕ) (g₀ : Going) (edges : Set)
           let n : k < length ups = omega (arith, q .as-many) in
           let c : e ≡ k = low .same (w .rest) (w .left-is) in
           record {
-            rest = after (w .rest);
+            rest = withoutLowest (w .rest);
             now = atEdge (getD masks k []) (getD ups k []) t f (w .now);
             short = omega (arith, length-after (w .rest), w .short);
             left-is = drops low d (w .rest) (w .left-is);
@@ -135,7 +135,7 @@ module _ (on up sides : List ℕ) (taken : Set) (start : ℕ) where
           let c : f ≡ k = low .same (w .now .waiting) (v .waiting-is) in
           let l : List Bool = edgesWith masks f in
           let h : Is edges l = subst (λ (y : Set). Is y l) (sym (e .is)) (s .at f (low .narrow)) in
-          let o : Lists.Going = record { reached = w .now .reached; waiting = after (w .now .waiting); turned = w .now .turned } in
+          let o : Lists.Going = record { reached = w .now .reached; waiting = withoutLowest (w .now .waiting); turned = w .now .turned } in
           let u : GoingIs r (aroundFace (count l) masks ups t f l o)
           = b .same masks ups t l o q (omega (arith, length-sides masks f)) i h
           (record { reached-is = v .reached-is; waiting-is = drops low d (w .now .waiting) (v .waiting-is); turned-is = v .turned-is }) in

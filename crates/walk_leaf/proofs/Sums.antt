@@ -16,11 +16,11 @@ use Rattle.sets.specs.Word.{dig, count, first, both}
 use Rattle.sets.specs.Sets.{room, Is, size, Joint, Lowest, Dropped, SetAt}
 use Rattle.sets.specs.declared.Set.{Set}
 use Rattle.paper.specs.Solids.{part}
-use Rattle.fast_sweeps.specs.Worklist.{after}
+use Rattle.fast_sweeps.specs.Worklist.{withoutLowest}
 use Rattle.fast_sweeps.proofs.Marks.{length-after}
 use Rattle.fast_leaf.specs.Faces.{clearOn, sixOn}
 use Rattle.fast_leaf.proofs.Sums.{clear-none, clear-more, six-none, six-more}
-use Rattle.walk_tables.specs.Words.{Masks, mostSix, Sixes}
+use Rattle.walk_tables.specs.Words.{Masks, mostPart, Sixes}
 use Rattle.walk_state.proofs.Lowest.{drops, some-in, none-in}
 use Rattle.walk_leaf.specs.Tests.{ClearIs, PartIs, Weighs}
 use Rattle.walk_leaf.proofs.Rounds.{mask-at, lowest-in}
@@ -51,24 +51,24 @@ module _ (clashes : List ℕ) (taken : Set) where
           j (getD cs f []) t (mask-at m e (low .same (w .rest) (w .left-is)) (lowest-in (w .left-is) p (w .short))) i
 
       here : {cs : List (List Bool)} {t : List Bool} (w : Clearing cs t left) → clearOn (count t) cs t t
-          ≡ cond (eqb (count (both (getD cs (first (w .rest)) []) t)) 0) (clearOn (count (after (w .rest))) cs (after (w .rest)) t) false
+          ≡ cond (eqb (count (both (getD cs (first (w .rest)) []) t)) 0) (clearOn (count (withoutLowest (w .rest))) cs (withoutLowest (w .rest)) t) false
       here {cs} {t} w = w .whole ∙ clear-more t cs (w .rest) (some-in (w .left-is) p)
 
       pub clear-not : 0 < size clashing → ClearIs clashes taken false
       clear-not n cs t m h i =
           let w = a cs t m h i in
           let z = ne-eqb (count (both (getD cs (first (w .rest)) []) t)) 0 (some-in (met m i w) n) in
-          sym (here w ∙ ap (λ (b : Bool). cond b (clearOn (count (after (w .rest))) cs (after (w .rest)) t) false) z)
+          sym (here w ∙ ap (λ (b : Bool). cond b (clearOn (count (withoutLowest (w .rest))) cs (withoutLowest (w .rest)) t) false) z)
 
       pub clear-next : size clashing ≡ 0 → {left′ : Set} → Dropped left k left′ → Clear clashes taken left′
       clear-next n d cs t m h i =
           let w = a cs t m h i in
           let z = eq-eqb (count (both (getD cs (first (w .rest)) []) t)) 0 (none-in (met m i w) n) in
           record {
-            rest = after (w .rest);
+            rest = withoutLowest (w .rest);
             short = omega (arith, length-after (w .rest), w .short);
             left-is = drops low d (w .rest) (w .left-is);
-            whole = here w ∙ ap (λ (b : Bool). cond b (clearOn (count (after (w .rest))) cs (after (w .rest)) t) false) z;
+            whole = here w ∙ ap (λ (b : Bool). cond b (clearOn (count (withoutLowest (w .rest))) cs (withoutLowest (w .rest)) t) false) z;
           }
 
     pub clear-end : size left ≡ 0 → ClearIs clashes taken true
@@ -88,23 +88,23 @@ pub record Weighing (sixes : List ℤ) (taken turned : Set) (sum : ℕ) (left : 
   pub done : ℤ
   pub sum-is : sum ≡ ofZ w64 done
   pub few : size left ≤ room
-  pub small : Within ((room - size left) * mostSix) done
+  pub small : Within ((room - size left) * mostPart) done
   pub same : (zs : List ℤ) (t s : List Bool) → Sixes sixes zs → length t ≤ length zs → Is taken t → Is turned s
       → Summing zs t s done left
 
 -- a face's part
-pub part-turned : {sixes : List ℤ} {k : ℕ} {b : Bool} {r : ℤ} → Within mostSix (getD sixes k (pos 0)) → b ≡ true
+pub part-turned : {sixes : List ℤ} {k : ℕ} {b : Bool} {r : ℤ} → Within mostPart (getD sixes k (pos 0)) → b ≡ true
     → r ≡ negℤ (getD sixes k (pos 0)) → PartIs sixes k b r
 part-turned {sixes} {k} w e f = record {
   is = f ∙ ap (λ (x : Bool). part true x (getD sixes k (pos 0))) (sym e);
-  small = subst (λ (z : ℤ). Within mostSix z) (sym f) (within-neg w);
+  small = subst (λ (z : ℤ). Within mostPart z) (sym f) (within-neg w);
 }
 
-pub part-plain : {sixes : List ℤ} {k : ℕ} {b : Bool} {r : ℤ} → Within mostSix (getD sixes k (pos 0)) → b ≡ false
+pub part-plain : {sixes : List ℤ} {k : ℕ} {b : Bool} {r : ℤ} → Within mostPart (getD sixes k (pos 0)) → b ≡ false
     → r ≡ getD sixes k (pos 0) → PartIs sixes k b r
 part-plain {sixes} {k} w e f = record {
   is = f ∙ ap (λ (x : Bool). part true x (getD sixes k (pos 0))) (sym e);
-  small = subst (λ (z : ℤ). Within mostSix z) (sym f) w;
+  small = subst (λ (z : ℤ). Within mostPart z) (sym f) w;
 }
 
 module _ (sixes : List ℤ) (taken turned : Set) where
@@ -137,7 +137,7 @@ module _ (sixes : List ℤ) (taken turned : Set) where
         small = within-le (omega (arith, w .few, d .fewer (low .there))) (within-add (w .small) (q .small));
         same = λ zs t s m l i j.
             let v = w .same zs t s m l i j in
-            let r : List Bool = after (v .rest) in
+            let r : List Bool = withoutLowest (v .rest) in
             record {
               rest = r;
               short = omega (arith, length-after (v .rest), v .short);
@@ -150,12 +150,12 @@ module _ (sixes : List ℤ) (taken turned : Set) where
             };
       }
 
-    pub all-small : Within (room * mostSix) (w .done)
+    pub all-small : Within (room * mostPart) (w .done)
     all-small = within-le (omega arith) (w .small)
 
     pub weighing-end : size left ≡ 0 → {v : ℤ} → v ≡ w .done → Weighs sixes taken turned v
     weighing-end z {v} e = record {
-      small = subst (λ (y : ℤ). Within (room * mostSix) y) (sym e) all-small;
+      small = subst (λ (y : ℤ). Within (room * mostPart) y) (sym e) all-small;
       same = λ zs t s m l i j.
           let u = w .same zs t s m l i j in
           let n = six-none s zs (u .rest) (none-in (u .left-is) z) in

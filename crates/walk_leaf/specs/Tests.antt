@@ -13,7 +13,7 @@ use Rattle.paper.specs.Format.{editionOne}
 use Rattle.paper.specs.Solids as Paper
 use Rattle.paper.specs.Solids.{Tables, onceEachWay, Judgement, Fails, Solid}
 use Rattle.fast_leaf.specs.Faces.{clearOn, sixOn, judgedByFaces}
-use Rattle.walk_tables.specs.Words.{Masks, mostSix, Sixes, SmallSixes, WalkTables, Held}
+use Rattle.walk_tables.specs.Words.{Masks, mostPart, Sixes, SmallSixes, WalkTables, HeldTables}
 use Rattle.walk_leaf.specs.Faces.{Edges}
 use Rattle.walk_leaf.specs.declared.Leaf.{Leaf}
 use Rattle.walk_leaf.specs.declared.Leaf.the-variants as L
@@ -43,10 +43,10 @@ pub record PartAt (sixes : List ℤ) (k : ℕ) : Type 0 where
 
 pub record PartIs (sixes : List ℤ) (k : ℕ) (turned : Bool) (r : ℤ) : Type 0 where
   pub is : r ≡ Paper.part true turned (getD sixes k (pos 0))
-  pub small : Within mostSix r
+  pub small : Within mostPart r
 
 pub record Weighs (sixes : List ℤ) (taken turned : Set) (r : ℤ) : Type 0 where
-  pub small : Within (room * mostSix) r
+  pub small : Within (room * mostPart) r
   pub same : (zs : List ℤ) (t s : List Bool) → Sixes sixes zs → length t ≤ length zs → Is taken t → Is turned s
       → r ≡ sixOn (count t) zs t s
 
@@ -79,4 +79,4 @@ pub record Judging (m : ℕ) (sixes : List ℤ) : Type 0 where
 
 abbrev pub Judges : WalkTables → ℕ → Set → Leaf → Type 0
 Judges tables m taken r =
-    (t : Tables) (a : List Bool) → Held tables t → Selects t m a → Is taken a → LeafIs r (judgedByFaces t a)
+    (t : Tables) (a : List Bool) → HeldTables tables t → Selects t m a → Is taken a → LeafIs r (judgedByFaces t a)

@@ -8,7 +8,7 @@ use Rattle.sets.specs.Word.{first, either}
 use Rattle.sets.specs.Sets.{Is, size, maskAt, Joint, Lowest, Dropped, SetAt}
 use Rattle.sets.specs.declared.Set.{Set}
 use Rattle.sets.proofs.Sets.{none-all}
-use Rattle.fast_sweeps.specs.Worklist.{after, edgesWith}
+use Rattle.fast_sweeps.specs.Worklist.{withoutLowest, edgesWith}
 use Rattle.fast_sweeps.proofs.Marks.{Gathers, gather-start, gather-more, gather-end}
 use Rattle.walk_tables.specs.Words.{Sides}
 use Rattle.walk_state.specs.Sweeps.{Gathered}
@@ -47,7 +47,7 @@ module _ (sides : List ℕ) (set : Set) where
         let w : Is e (edgesWith masks f) = subst (λ (x : Set). Is x (edgesWith masks f)) (sym (edge .is)) h in
         record {
           found = either (b .found) (edgesWith masks f);
-          rest = after (b .rest);
+          rest = withoutLowest (b .rest);
           all-is = j (b .found) (edgesWith masks f) (b .all-is) w;
           left-is = drops low drop (b .rest) (b .left-is);
           gathers = gather-more masks d (b .found) (b .rest) (some-in (b .left-is) p) (b .gathers);

@@ -11,18 +11,18 @@ use Rattle.sets.specs.Sets.{room, Is, Has, size, digitsOf, Lowest, Dropped}
 use Rattle.sets.specs.declared.Set.{Set}
 use Rattle.sets.proofs.Digits.{less-nil, count-only}
 use Rattle.sets.proofs.Sets.{is-digits, size-is}
-use Rattle.fast_sweeps.specs.Worklist.{after}
+use Rattle.fast_sweeps.specs.Worklist.{withoutLowest}
 
 -- ---- without the lowest
 
-after-is : (a : List Bool) → less a (only (first a)) ≡ after a
-unfolding less only first after
+after-is : (a : List Bool) → less a (only (first a)) ≡ withoutLowest a
+unfolding less only first withoutLowest
 after-is [] = refl
 after-is (true ∷ a) = ap (λ (x : List Bool). false ∷ x) (less-nil a)
 after-is (false ∷ a) = ap (λ (x : List Bool). false ∷ x) (after-is a)
 
 module _ {x y : Set} {e : ℕ} (low : Lowest x e) (d : Dropped x e y) where
-  pub drops : (a : List Bool) → Is x a → Is y (after a)
+  pub drops : (a : List Bool) → Is x a → Is y (withoutLowest a)
   drops a i = subst (Is y) (ap (λ (k : ℕ). less a (only k)) (low .same a i) ∙ after-is a) (d .same a i)
 
 -- one fewer is in it

@@ -12,18 +12,18 @@ use Rattle.sets.specs.Sets.{room, packedSet, Is, size, Joint, Minus, Lowest, Dr
 use Rattle.sets.specs.declared.Set.{Set}
 use Rattle.sets.proofs.Digits.{length-both, length-either, length-less}
 use Rattle.sets.proofs.Sets.{size-is, counted}
-use Rattle.fast_sweeps.specs.Worklist.{after, passed, touched, nextAhead, nextLater, turnAhead, turnLater}
+use Rattle.fast_sweeps.specs.Worklist.{withoutLowest, passed, touched, nextAhead, nextLater, turnAhead, turnLater}
 use Rattle.fast_sweeps.proofs.Marks.{length-after, length-touched}
 use Rattle.fast_sweeps.proofs.Words.{ahead-word, later-word}
 use Rattle.walk_tables.specs.Words.{Sides}
-use Rattle.walk_state.specs.Sweeps.{Gathered, Turned, Marked}
+use Rattle.walk_state.specs.Sweeps.{Gathered, MarksTurned, EdgePassed}
 use Rattle.walk_state.specs.declared.Marks.{Marks}
 use Rattle.walk_state.proofs.Lowest.{drops, some-in, none-in}
 
 -- ---- "if ahead == 0 { ahead = later; later = 0; }"
 
 module _ (ahead later : Set) where
-  pub turned-over : size ahead ≡ 0 → {none : Set} → Is none [] → Turned ahead later (record { ahead = later; later = none })
+  pub turned-over : size ahead ≡ 0 → {none : Set} → Is none [] → MarksTurned ahead later (record { ahead = later; later = none })
   unfolding turnAhead turnLater count
   turned-over z n = record {
     sum = omega (arith, size-is n);
@@ -32,7 +32,7 @@ module _ (ahead later : Set) where
         record { ahead-is = rw e j; later-is = rw e n };
   }
 
-  pub turned-on : 0 < size ahead → Turned ahead later (record { ahead = ahead; later = later })
+  pub turned-on : 0 < size ahead → MarksTurned ahead later (record { ahead = ahead; later = later })
   unfolding turnAhead turnLater
   turned-on p = record {
     sum = refl;
@@ -80,7 +80,7 @@ module _ (sides : List ℕ) (m : Marks) (p : 0 < size (m .ahead)) {e : ℕ} (low
       → length (nextAhead masks x a) ≤ room
   unfolding nextAhead
   short-ahead masks x a s h =
-      length-either room (after a) (less (touched masks x) (passed a)) (omega (arith, length-after a))
+      length-either room (withoutLowest a) (less (touched masks x) (passed a)) (omega (arith, length-after a))
       (omega (arith, length-less (touched masks x) (passed a), length-touched masks x, s .few))
 
   short-later : (masks : List (List Bool)) (x a l : List Bool) → Sides sides masks → length l ≤ room
@@ -98,7 +98,7 @@ module _ (sides : List ℕ) (m : Marks) (p : 0 < size (m .ahead)) {e : ℕ} (low
 
   -- none was decided
   pub marked-none : m .ahead .word < 2 ^ room → m .later .word < 2 ^ room → (decided : Set) → size decided ≡ 0 → {r : Marks}
-      → Turned gone (m .later) r → Marked sides m decided r
+      → MarksTurned gone (m .later) r → EdgePassed sides m decided r
   marked-none ha hl decided z t = record {
     few = omega (arith, t .sum, d .fewer (low .there), counted (m .ahead) ha .under, counted (m .later) hl .under);
     fewer = λ q. omega (arith, t .sum, d .fewer (low .there));
@@ -114,7 +114,7 @@ module _ (sides : List ℕ) (m : Marks) (p : 0 < size (m .ahead)) {e : ℕ} (low
   pub marked-some : (decided : Set) → 0 < size decided → {x low-ones most above ahead below later : Set} → Gathered sides decided x
       → Is low-ones (replicate e true) → Minus x low-ones most → Dropped most e above → Joint gone above ahead either
       → Joint x low-ones below both → Joint (m .later) below later either → ahead .word < 2 ^ room → later .word < 2 ^ room → {r : Marks}
-      → Turned ahead later r → Marked sides m decided r
+      → MarksTurned ahead later r → EdgePassed sides m decided r
   unfolding nextAhead nextLater
   marked-some decided n {x} {low-ones} {most} {above} {ahead} {below} {later} g w up drop ja down jl ha hl t = record {
     few = omega (arith, t .sum, counted ahead ha .under, counted later hl .under);
@@ -132,6 +132,6 @@ module _ (sides : List ℕ) (m : Marks) (p : 0 < size (m .ahead)) {e : ℕ} (low
         = below-word o e ∙ ap₂ (λ (z : List Bool) (j : ℕ). word (less (both o z) (only j))) q (low .same a f) in
         let h : length b ≤ room
         = omega (arith, length-less (both o (passed a)) (only (first a)), length-both o (passed a), length-touched masks y, s .few) in
-        t .same (either (after a) (less o (passed a))) (either l b) (ja (after a) (less o (passed a)) (drops low d a f) v)
+        t .same (either (withoutLowest a) (less o (passed a))) (either l b) (ja (withoutLowest a) (less o (passed a)) (drops low d a f) v)
         (jl l b (k .later-is) (other-digits b (down o (replicate e true) u w) h c));
   }

@@ -13,7 +13,7 @@ use Rattle.paper.specs.Conversion.{takens}
 use Rattle.paper.specs.Walk.{Status}
 use Rattle.means_walk.specs.Lowest.{opens}
 use Rattle.fast_sweeps.proofs.Counts.{M, L, count-split, many, few, two, exactly, more}
-use Rattle.walk_state.specs.State.{Holds, DecidedAll, Fewer, SettledOn}
+use Rattle.walk_state.specs.State.{StateIs, DecidedAll, Fewer, SettledOn}
 use Rattle.walk_state.specs.declared.State.{State}
 use Rattle.walk_state.specs.declared.Change.{Change}
 use Rattle.walk_state.specs.declared.Passed.the-variants as P
@@ -42,7 +42,7 @@ module _ {x z u : Set} (w : Is z []) (d : Minus x z u) where
 
 -- `on` are those taken on the edge, `free` those undecided
 module _ (s : State) (mask : Set) {on free : Set} (t : Joint mask (s .taken) on both) (f : Joint mask (s .undecided) free both) where
-  module _ (a : List Bool) (st : List Status) (i : Is mask a) (h : Holds s st) where
+  module _ (a : List Bool) (st : List Status) (i : Is mask a) (h : StateIs s st) where
     free-is : Is free (both a (opens st))
     free-is = f a (opens st) i (h .leaves)
 

@@ -11,13 +11,13 @@ use Rattle.sets.specs.Word.{first}
 use Rattle.sets.specs.Sets.{room, Is, size, maskAt, Lowest, SetAt}
 use Rattle.sets.specs.declared.Set.{Set}
 use Rattle.paper.specs.Walk.{Status, settle, Outcome, Broken, Stands}
-use Rattle.fast_sweeps.specs.Worklist.{decidedOn, nextAhead, nextLater, turnAhead, turnLater, Loop}
+use Rattle.fast_sweeps.specs.Worklist.{decidedOn, nextAhead, nextLater, turnAhead, turnLater, SweepKept}
 use Rattle.fast_sweeps.proofs.Marks.{length-ahead, length-later}
 use Rattle.fast_sweeps.proofs.Remain.{finish, breaks-off, pass-decided, here-lt}
 use Rattle.fast_sweeps.proofs.Work.{turn-loop}
 use Rattle.walk_tables.specs.Words.{Masks, Sides}
-use Rattle.walk_state.specs.State.{Holds, SettledOn}
-use Rattle.walk_state.specs.Sweeps.{markCount, MarksAre, Marked, Left, SweptOut}
+use Rattle.walk_state.specs.State.{StateIs, SettledOn}
+use Rattle.walk_state.specs.Sweeps.{markCount, MarksAre, EdgePassed, SweptIs, SweptOut}
 use Rattle.walk_state.specs.declared.State.{State}
 use Rattle.walk_state.specs.declared.Change.{Change}
 use Rattle.walk_state.specs.declared.Passed.the-variants as P
@@ -30,14 +30,14 @@ pub record Midst (masks : List (List Bool)) (o : Outcome) (v : State) (m : Marks
   pub st : List Status
   pub ahead : List Bool
   pub later : List Bool
-  pub holds : Holds v st
+  pub holds : StateIs v st
   pub marks-are : MarksAre m ahead later
-  pub loop : Loop masks o st ahead later
+  pub loop : SweepKept masks o st ahead later
 
 pub record Sweeping (on sides : List ℕ) (s : State) (changed : Set) (v : State) (m : Marks) : Type 0 where
   pub fewer : size (v .undecided) ≤ size (s .undecided)
   pub same : (masks : List (List Bool)) (o : Outcome) (st : List Status) (marks : List Bool) → Masks on masks → Sides sides masks
-      → Holds s st → Is changed marks → Loop masks o st marks [] → Midst masks o v m
+      → StateIs s st → Is changed marks → SweepKept masks o st marks [] → Midst masks o v m
 
 -- each edge passed makes this smaller: at most 128 edges are marked, so that one undecided outweighs all marks
 abbrev pub togo : State → Marks → ℕ
@@ -59,7 +59,7 @@ module _ (on sides : List ℕ) (s : State) (changed : Set) where
           let r = g .same masks o st marks i j h w p in
           let n = none-in (r .marks-are .ahead-is) z in
           let e : o ≡ Stands (r .st) = finish masks (r .loop .remains) n (r .loop .turned n) in
-          subst (λ (y : Outcome). Left y (S.Stands v)) (sym e) (r .holds);
+          subst (λ (y : Outcome). SweptIs y (S.Stands v)) (sym e) (r .holds);
     }
 
     module _ (n : 0 < size (m .ahead)) {e : ℕ} (low : Lowest (m .ahead) e) {mask : Set} (edge : SetAt on e mask) where
@@ -80,10 +80,10 @@ module _ (on sides : List ℕ) (s : State) (changed : Set) where
             let c = some-in (r .marks-are .ahead-is) n in
             let b : o ≡ Broken
             = breaks-off masks (r .loop .remains) c (d .same (getD masks (first (r .ahead)) []) (r .st) (mask-is i r) (r .holds)) in
-            subst (λ (y : Outcome). Left y S.Broken) (sym b) tt;
+            subst (λ (y : Outcome). SweptIs y S.Broken) (sym b) tt;
       }
 
-      module _ {c : Change} (d : SettledOn v mask (P.Stays c)) {q : Marks} (t : Marked sides m (c .decided) q) where
+      module _ {c : Change} (d : SettledOn v mask (P.Stays c)) {q : Marks} (t : EdgePassed sides m (c .decided) q) where
         no-more : size (c .state .undecided) ≤ size (v .undecided)
         no-more = go (ℕ-discrete (size (c .decided)) 0)
           where

@@ -16,14 +16,14 @@ use Rattle.walk_state.specs.declared.Passed.{Passed}
 use Rattle.walk_state.specs.declared.Passed.the-variants as P
 
 -- s is the state st of the document: its taken and its undecided candidates
-pub record Holds (s : State) (st : List Status) : Type 0 where
+pub record StateIs (s : State) (st : List Status) : Type 0 where
   pub takes : Is (s .taken) (takens st)
   pub leaves : Is (s .undecided) (opens st)
 
 -- candidate k gets the status v, and one fewer is undecided
 pub record Decided (s : State) (k : ℕ) (v : Status) (r : State) : Type 0 where
   pub fewer : suc (size (r .undecided)) ≡ size (s .undecided)
-  pub same : (st : List Status) → Holds s st → Holds r (set st k v)
+  pub same : (st : List Status) → StateIs s st → StateIs r (set st k v)
 
 -- all of a set are no more undecided, and `taken` are taken
 pub record DecidedAll (s : State) (set taken : Set) (c : Change) : Type 0 where
@@ -36,7 +36,7 @@ pub record DecidedAll (s : State) (set taken : Set) (c : Change) : Type 0 where
 -- the edge has no contradiction, and c is what settling it makes of st
 pub record ChangeIs (c : Change) (mask : List Bool) (st : List Status) : Type 0 where
   pub calm : contradicts mask st ≡ false
-  pub holds : Holds (c .state) (settle mask st)
+  pub holds : StateIs (c .state) (settle mask st)
   pub decides : Is (c .decided) (decidedOn mask st)
 
 abbrev pub PassedIs : Passed → List Bool → List Status → Type 0
@@ -54,4 +54,4 @@ PassedFewer (P.Stays c) u = Fewer c u
 
 pub record SettledOn (s : State) (mask : Set) (r : Passed) : Type 0 where
   pub fewer : PassedFewer r (s .undecided)
-  pub same : (a : List Bool) (st : List Status) → Is mask a → Holds s st → PassedIs r a st
+  pub same : (a : List Bool) (st : List Status) → Is mask a → StateIs s st → PassedIs r a st

@@ -6,9 +6,9 @@ use Prim.Native.Nat.{ℕ, _+_, _*_, _≤_, _<_}
 use Rattle.sets.specs.Sets.{room, Is, size}
 use Rattle.sets.specs.declared.Set.{Set}
 use Rattle.paper.specs.Walk.{Status, Outcome, Broken, Stands}
-use Rattle.fast_sweeps.specs.Worklist.{touched, nextAhead, nextLater, turnAhead, turnLater, Loop}
+use Rattle.fast_sweeps.specs.Worklist.{touched, nextAhead, nextLater, turnAhead, turnLater, SweepKept}
 use Rattle.walk_tables.specs.Words.{Masks, Sides}
-use Rattle.walk_state.specs.State.{Holds}
+use Rattle.walk_state.specs.State.{StateIs}
 use Rattle.walk_state.specs.declared.State.{State}
 use Rattle.walk_state.specs.declared.Marks.{Marks}
 use Rattle.walk_state.specs.declared.Swept.{Swept}
@@ -28,12 +28,12 @@ pub record MarksAre (m : Marks) (ahead later : List Bool) : Type 0 where
   pub ahead-is : Is (m .ahead) ahead
   pub later-is : Is (m .later) later
 
-pub record Turned (ahead later : Set) (r : Marks) : Type 0 where
+pub record MarksTurned (ahead later : Set) (r : Marks) : Type 0 where
   pub sum : markCount r ≡ size ahead + size later
   pub same : (a l : List Bool) → Is ahead a → Is later l → MarksAre r (turnAhead a l) (turnLater a l)
 
 -- the lowest edge ahead is passed, and a set was decided on it
-pub record Marked (sides : List ℕ) (m : Marks) (decided : Set) (r : Marks) : Type 0 where
+pub record EdgePassed (sides : List ℕ) (m : Marks) (decided : Set) (r : Marks) : Type 0 where
   pub few : markCount r ≤ 2 * room
   pub fewer : size decided ≡ 0 → markCount r < markCount m
   pub same : (masks : List (List Bool)) (d a l : List Bool) → Sides sides masks → Is decided d → MarksAre m a l
@@ -41,11 +41,11 @@ pub record Marked (sides : List ℕ) (m : Marks) (decided : Set) (r : Marks) : T
 
 -- ---- what is left in the end
 
-abbrev pub Left : Outcome → Swept → Type 0
-Left Broken S.Broken = Unit {0}
-Left Broken (S.Stands s) = ⊥
-Left (Stands st) S.Broken = ⊥
-Left (Stands st) (S.Stands s) = Holds s st
+abbrev pub SweptIs : Outcome → Swept → Type 0
+SweptIs Broken S.Broken = Unit {0}
+SweptIs Broken (S.Stands s) = ⊥
+SweptIs (Stands st) S.Broken = ⊥
+SweptIs (Stands st) (S.Stands s) = StateIs s st
 
 -- at most n are undecided
 abbrev pub AtMost : ℕ → Swept → Type 0
@@ -56,4 +56,4 @@ AtMost n (S.Stands s) = size (s .undecided) ≤ n
 pub record SweptOut (on sides : List ℕ) (s : State) (changed : Set) (r : Swept) : Type 0 where
   pub fewer : AtMost (size (s .undecided)) r
   pub same : (masks : List (List Bool)) (o : Outcome) (st : List Status) (marked : List Bool) → Masks on masks → Sides sides masks
-      → Holds s st → Is changed marked → Loop masks o st marked [] → Left o r
+      → StateIs s st → Is changed marked → SweepKept masks o st marked [] → SweptIs o r

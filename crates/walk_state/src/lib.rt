@@ -4,7 +4,7 @@ ghost use Prim.Native.Nat.{_<_};
 ghost use Rattle.sets.specs.Sets.{Has, size};
 ghost use Rattle.paper.specs.Walk.{Taken, Rejected};
 ghost use Rattle.walk_state.specs.State.{Decided, DecidedAll, SettledOn};
-ghost use Rattle.walk_state.specs.Sweeps.{Gathered, Turned, Marked, SweptOut};
+ghost use Rattle.walk_state.specs.Sweeps.{Gathered, MarksTurned, EdgePassed, SweptOut};
 ghost use Rattle.walk_state.specs.Choice.{From, Opened};
 use paper::MOST_CANDIDATES;
 use paper::MOST_EDGES;
@@ -122,7 +122,7 @@ fn gathered(sides: &[u64; MOST_CANDIDATES], set: Set) -> Set
 
 // If none is ahead, those left for later are.
 fn turned(ahead: Set, later: Set) -> Marks
-    ensures { λ r. ⌜ Turned ahead later r ⌝ }
+    ensures { λ r. ⌜ MarksTurned ahead later r ⌝ }
 {
     if ahead.is_empty() {
         return Marks {
@@ -140,7 +140,7 @@ fn turned(ahead: Set, later: Set) -> Marks
 // settled.
 fn marked(sides: &[u64; MOST_CANDIDATES], m: Marks, decided: Set) -> Marks
     requires { ⌜ 0 < size (m .ahead) ⌝ }
-    ensures { λ r. ⌜ Marked (now (sides .entry)) m decided r ⌝ }
+    ensures { λ r. ⌜ EdgePassed (now (sides .entry)) m decided r ⌝ }
 {
     let ahead = m.ahead;
     let later = m.later;

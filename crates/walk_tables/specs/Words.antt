@@ -24,17 +24,17 @@ pub record Sides (words : List ℕ) (masks : List (List Bool)) : Type 0 where
   pub at : (k : ℕ) → k < room → Is (maskAt words k) (edgesWith masks k)
 
 -- 72,000,000,000: a candidate's part of six volumes, a corner times its normal
-abbrev pub mostSix : ℕ
-mostSix = 3 * (farthest * mostNormal)
+abbrev pub mostPart : ℕ
+mostPart = 3 * (farthest * mostNormal)
 
 pub record Sixes (numbers zs : List ℤ) : Type 0 where
   pub few : length zs ≤ room
   pub at : (k : ℕ) → k < length zs → getD numbers k (pos 0) ≡ getD zs k (pos 0)
-  pub small : (k : ℕ) → Within mostSix (getD zs k (pos 0))
+  pub small : (k : ℕ) → Within mostPart (getD zs k (pos 0))
 
 -- each number is small enough that 64 of them can be added
 pub record SmallSixes (sixes : List ℤ) : Type 0 where
-  pub small : (k : ℕ) → k < room → Within mostSix (getD sixes k (pos 0))
+  pub small : (k : ℕ) → k < room → Within mostPart (getD sixes k (pos 0))
 
 -- ---- the walk's tables as the code holds them
 
@@ -51,7 +51,7 @@ abbrev pub walkTables : List ℕ → List ℕ → List ℕ → List ℕ → List
 walkTables on up sides clashes sixes = record { on = on; up = up; sides = sides; clashes = clashes; sixes = sixes }
 
 -- they are the document's
-pub record Held (tables : WalkTables) (t : Tables) : Type 0 where
+pub record HeldTables (tables : WalkTables) (t : Tables) : Type 0 where
   pub on-are : Masks (tables .on) (t .masks)
   pub up-are : Masks (tables .up) (t .ups)
   pub sides-are : Sides (tables .sides) (t .masks)
@@ -60,7 +60,7 @@ pub record Held (tables : WalkTables) (t : Tables) : Type 0 where
 
 -- and of n candidates on m edges: these letters count them in all of the walk
 pub record Lent (tables : WalkTables) (m n : ℕ) (t : Tables) : Type 0 where
-  pub held : Held tables t
+  pub held : HeldTables tables t
   pub masks-are : length (t .masks) ≡ m
   pub ups-are : length (t .ups) ≡ m
   pub clashes-are : length (t .clashes) ≡ n

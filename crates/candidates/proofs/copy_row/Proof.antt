@@ -8,12 +8,12 @@ use lib.ListN.{drop, getD, length, length-drop, set}
 use lib.Seq.{getD-drop, getD-take, length-take-le, paste, paste-suc, paste-zero}
 use denote.Ref.{now}
 use Rattle.paper.specs.Numbers.{rowBytes}
-use Rattle.candidates.specs.Keeps.{bytesOf}
+use Rattle.candidates.specs.Keeps.{rowIn}
 use Rattle.candidates.proofs.copy_row.Statement.{statement}
 use Rattle.candidates.proofs.copy_row.Tie as tie
 
 abbrev Inv-loop : tie.InvT-loop
-Inv-loop table k rows₀ c i₀ rows i = (i ≤ rowBytes) × (rows ≡ paste rows₀ (rowBytes * c) (bytesOf table k) i)
+Inv-loop table k rows₀ c i₀ rows i = (i ≤ rowBytes) × (rows ≡ paste rows₀ (rowBytes * c) (rowIn table k) i)
 
 abbrev μ-loop : tie.MeasureT-loop
 μ-loop table k rows₀ c i₀ rows i = rowBytes - i
@@ -25,16 +25,16 @@ start c = c .before
 
 -- ---- the bytes of the row
 module _ (table : List ℕ) (k : ℕ) (h : rowBytes * k + rowBytes ≤ length table) where
-  bytes-long : length (bytesOf table k) ≡ rowBytes
+  bytes-long : length (rowIn table k) ≡ rowBytes
   bytes-long = length-take-le rowBytes (drop (rowBytes * k) table) (omega (arith, length-drop (rowBytes * k) table))
 
-  byte-is : (i : ℕ) → i < rowBytes → getD table (rowBytes * k + i) 0 ≡ getD (bytesOf table k) i 0
+  byte-is : (i : ℕ) → i < rowBytes → getD table (rowBytes * k + i) 0 ≡ getD (rowIn table k) i 0
   byte-is i m = sym (getD-take rowBytes (drop (rowBytes * k) table) i 0 m ∙ getD-drop (rowBytes * k) table i 0)
 
 -- ---- the needs
 
 loop-holds : tie.Need-loop-holds Inv-loop μ-loop
-loop-holds c = let a = c .args in (omega arith, paste-zero (now (a .rows)) (rowBytes * a .c) (bytesOf (now (a .table)) (a .k)))
+loop-holds c = let a = c .args in (omega arith, paste-zero (now (a .rows)) (rowBytes * a .c) (rowIn (now (a .table)) (a .k)))
 
 mul-rows : tie.Need-mul-rows Inv-loop μ-loop
 mul-rows c = omega (arith, start (c .before) .pre .there)
@@ -60,7 +60,7 @@ loop-again c =
     let l = t .loop in
     let p = start t .pre in
     let a = start t .args in
-    let q = bytesOf (now (a .table)) (a .k) in
+    let q = rowIn (now (a .table)) (a .k) in
     let x = byte-is (now (a .table)) (a .k) (p .there) (l .i) (omega arith) in (
       omega arith,
       (λ s. set (l .inv .1 s) (rowBytes * a .c + l .i) (x s))
@@ -74,7 +74,7 @@ returns c =
     let l = c .before .loop in
     let a = start (c .before) .args in
     let e : l .i ≡ rowBytes = omega arith in
-    subst (λ (n : ℕ). l .rows ≡ paste (now (a .rows)) (rowBytes * a .c) (bytesOf (now (a .table)) (a .k)) n) e (l .inv .1)
+    subst (λ (n : ℕ). l .rows ≡ paste (now (a .rows)) (rowBytes * a .c) (rowIn (now (a .table)) (a .k)) n) e (l .inv .1)
 
 pub copy-row-spec : {M : Type 1} → statement M
 copy-row-spec =

@@ -5,7 +5,7 @@ use lib.ListN.{take}
 use lib.Seq.{length-take-le}
 use Rattle.clerk_reply.specs.Requests.{kindIn}
 use Rattle.clerk_reply.proofs.Lent.{reply-within}
-use Rattle.clerk.specs.Read.{Stands}
+use Rattle.clerk.specs.Read.{RequestStands}
 use borrow.Author.Needs.{needs}
 use Rattle.clerk.proofs.served.Statement.{statement}
 use Rattle.clerk.proofs.served.Tie as tie
@@ -20,7 +20,7 @@ start c = c .before .before .before .before
 
 -- ---- the request stands in its room
 
-stands : (c : tie.Else1) → Stands (asked c .read-request .last .0) (asked c .read-request .result)
+stands : (c : tie.Else1) → RequestStands (asked c .read-request .last .0) (asked c .read-request .result)
 stands c = asked c .read-request .ensures (λ e. omega (arith, e))
 
 slice-reshare-prefix-answer : tie.Need-slice-reshare-prefix-answer

@@ -10,7 +10,7 @@ use mir.Val.{ofZ, toZ}
 use Rattle.rooms.specs.Rooms.{Copies}
 use Rattle.rooms.proofs.Copying.{Copying, copying-start, copying-long, copying-more, copying-end}
 use Rattle.lists.proofs.Places.{made-length, made-at}
-use Rattle.clerk_words.specs.Words.{numberOf, numberAt, numbersIn}
+use Rattle.clerk_words.specs.Words.{numberOf, numberFrom, numbersIn}
 use Rattle.clerk_words.proofs.Signed.{again-is}
 use Rattle.clerk_words.proofs.take_numbers.Statement.{statement}
 use Rattle.clerk_words.proofs.take_numbers.Tie as tie
@@ -33,7 +33,7 @@ copies : (c : tie.Start Inv-loop μ-loop) → Copies (c .args .n) (numbersIn (c 
 unfolding numbersIn
 copies c =
     let a = c .args in
-    record { there = omega (arith, made-length (numberAt (a .bytes .now)) (a .n)); fits = c .pre .fits }
+    record { there = omega (arith, made-length (numberFrom (a .bytes .now)) (a .n)); fits = c .pre .fits }
 
 number-is : (c : tie.After-number-of Inv-loop μ-loop)
     → toZ w64 (ofZ w64 (c .number-of .result))
@@ -46,7 +46,7 @@ number-is c =
     again-is (c .number-of .result) (record { sfits = c .number-of .ok })
     ∙ c .number-of .ensures
     ∙ ap numberOf (c .before .word-at .ensures)
-    ∙ sym (made-at (numberAt (a .bytes .now)) (a .n) (l .loop .i) (pos 0) h)
+    ∙ sym (made-at (numberFrom (a .bytes .now)) (a .n) (l .loop .i) (pos 0) h)
 
 -- ---- the needs
 

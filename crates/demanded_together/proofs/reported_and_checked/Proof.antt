@@ -3,7 +3,7 @@ use Prim.Native.Nat.{_+_, _*_, _<_}
 use native.Mathlib.Omega.{arith}
 use denote.Ref.{now}
 use lib.ListN.{length}
-use Rattle.means_report.specs.Report.{reported}
+use Rattle.means_report.specs.Report.{solidCount}
 use Rattle.demands.specs.Input.{lent}
 use Rattle.demanded_together.proofs.Agreeing.{in-room, accepted}
 use borrow.Author.Needs.{needs}
@@ -18,7 +18,7 @@ abbrev start : tie.After-convert → tie.Start
 start k = k .before .before .before .before .before .before
 
 -- solid i is reported, and its words are in the room
-there : (e : tie.Else1) → start (made e) .args .i < reported (made e .convert .result)
+there : (e : tie.Else1) → start (made e) .args .i < solidCount (made e .convert .result)
 there e = omega (arith, e .if1 .left, e .before .solids-in .ensures)
 
 abbrev Held : tie.Else1 → Type 0

@@ -4,13 +4,13 @@ use Prim.Native.Nat.{_+_, _-_, _<_}
 use native.Mathlib.Omega.{arith}
 use Rattle.paper.specs.Numbers.{mostCandidates}
 use Rattle.desk_lines.proofs.Putting.{Onward, onward-start, onward-long, onward-fits, onward-more, onward-end}
-use Rattle.desk_solids.specs.Solids.{facesOf}
+use Rattle.desk_solids.specs.Solids.{wordsText}
 use Rattle.desk_solids.proofs.Lines.{facesFrom, faces-start, faces-more, faces-end}
 use Rattle.desk_solids.proofs.put_faces.Statement.{statement}
 use Rattle.desk_solids.proofs.put_faces.Tie as tie
 
 abbrev Inv-loop : tie.InvT-loop
-Inv-loop taken turned at room₀ next₀ k₀ room next k = Onward (facesOf taken turned) (facesFrom taken turned k) room₀ at room next
+Inv-loop taken turned at room₀ next₀ k₀ room next k = Onward (wordsText taken turned) (facesFrom taken turned k) room₀ at room next
 
 abbrev μ-loop : tie.MeasureT-loop
 μ-loop taken turned at room₀ next₀ k₀ room next k = mostCandidates - k

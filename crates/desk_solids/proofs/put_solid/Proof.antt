@@ -4,7 +4,7 @@ use Prim.Native.Nat.{ℕ}
 use lib.ListN.{getD}
 use Rattle.paper.specs.Desk.{text}
 use Rattle.desk_lines.proofs.Putting.{fits-first, fits-next, puts-both}
-use Rattle.desk_solids.specs.Solids.{facesOf}
+use Rattle.desk_solids.specs.Solids.{wordsText}
 use borrow.Author.Needs.{needs}
 use Rattle.desk_solids.proofs.put_solid.Statement.{statement}
 use Rattle.desk_solids.proofs.put_solid.Tie as tie
@@ -25,7 +25,7 @@ faced c = c .before .before .before .before .before
 
 -- the faces that a start's words say
 abbrev facesAt : tie.Start → List ℕ
-facesAt s = let ws = s .args .words .now in facesOf (getD ws 0 0) (getD ws 1 0)
+facesAt s = let ws = s .args .words .now in wordsText (getD ws 0 0) (getD ws 1 0)
 
 -- ---- the needs
 

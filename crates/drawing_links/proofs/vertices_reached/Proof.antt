@@ -1,5 +1,5 @@
 -- `drawing_links::vertices_reached`: the loop keeps that the set is what k steps reach, and a step that adds nothing ends them all.
-use Rattle.drawing_links.specs.Reach.{Stands, Grown}
+use Rattle.drawing_links.specs.Reach.{DigitsAre, Grown}
 use mathlib.Core.Bool.{false}
 use mathlib.Core.Path.{_∙_, _≡_, ap, sym}
 use Prim.Native.Nat.{_-_, _≤_, ℕ}
@@ -14,7 +14,7 @@ use Rattle.drawing_links.proofs.vertices_reached.Statement.{statement}
 use Rattle.drawing_links.proofs.vertices_reached.Tie as tie
 
 abbrev Inv-loop : tie.InvT-loop
-Inv-loop near v set₀ k₀ set k = (k ≤ v) × ((d : Wire) → Links near v d → Stands set v (verticesReached d k))
+Inv-loop near v set₀ k₀ set k = (k ≤ v) × ((d : Wire) → Links near v d → DigitsAre set v (verticesReached d k))
 
 abbrev μ-loop : tie.MeasureT-loop
 μ-loop near v set₀ k₀ set k = v - k

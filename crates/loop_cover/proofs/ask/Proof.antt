@@ -16,10 +16,10 @@ use Rattle.sets.specs.Sets.{Is, size}
 use Rattle.sets.specs.declared.Set.{Set}
 use Rattle.sets.proofs.Digits.{dig-less}
 use Rattle.paper.specs.Drawing.{wire}
-use Rattle.fast_tables.specs.Asked.{Answers, asked}
+use Rattle.fast_tables.specs.Asked.{KnownEdges, askedInTurn}
 use Rattle.fast_tables.specs.Words.{ones}
 use Rattle.fast_tables.proofs.Ones.{unheld-ones}
-use Rattle.loop_cover.specs.Midpoints.{outsideOf, Stands, EdgesOf, askedNow}
+use Rattle.loop_cover.specs.Midpoints.{outsideOf, AskedIs, EdgesOf, askedNow}
 use Rattle.loop_cover.proofs.Asking.{Left, left-end, e-known, left-hit, left-miss}
 use Rattle.loop_cover.proofs.ask.Statement.{statement}
 use Rattle.loop_cover.proofs.ask.Tie as tie
@@ -27,7 +27,7 @@ use Rattle.loop_cover.proofs.ask.Tie as tie
 -- what the loop keeps, of all that the sets at its head stand for
 abbrev Keeps : List ℤ → List ℕ → List ℕ → ℕ → Set → Set → Set → Set → Type 0
 Keeps xyz ends table k held₀ rest₀ held rest =
-    (whole : List Bool) (g : Answers) → EdgesOf xyz ends rest₀ whole → Is held₀ (g .held)
+    (whole : List Bool) (g : KnownEdges) → EdgesOf xyz ends rest₀ whole → Is held₀ (g .held)
     → Left (length (wire xyz ends .edges)) (outsideOf xyz ends table k) whole g held rest
 
 abbrev Inv-loop : tie.InvT-loop
@@ -48,38 +48,38 @@ abbrev asks : tie.After-is-outside Inv-loop μ-loop → tie.After-lowest Inv-loo
 asks c = c .before
 
 -- what the sets of the start may stand for
-abbrev May : tie.After-minus Inv-loop μ-loop → List Bool → Answers → Type 0
-May c mask g = let a = start c .args in EdgesOf (now (a .xyz)) (now (a .ends)) (a .edges) mask × Stands (a .f) g
+abbrev May : tie.After-minus Inv-loop μ-loop → List Bool → KnownEdges → Type 0
+May c mask g = let a = start c .args in EdgesOf (now (a .xyz)) (now (a .ends)) (a .edges) mask × AskedIs (a .f) g
 
 -- the answer that is asked for
-abbrev Answer : tie.After-minus Inv-loop μ-loop → List Bool → Answers → Answers
+abbrev Answer : tie.After-minus Inv-loop μ-loop → List Bool → KnownEdges → KnownEdges
 Answer c mask g = let a = start c .args in askedNow (now (a .xyz)) (now (a .ends)) (now (a .table)) (a .k) mask g
 
 -- ---- the open edges at first, and what is left of them
 
-opens : (c : tie.After-minus Inv-loop μ-loop) (mask : List Bool) (g : Answers) → May c mask g
+opens : (c : tie.After-minus Inv-loop μ-loop) (mask : List Bool) (g : KnownEdges) → May c mask g
     → let a = start c .args in EdgesOf (now (a .xyz)) (now (a .ends)) (c .minus .result) (less mask (g .held))
 opens c mask g h = record {
   is = c .minus .ensures .same mask (g .held) (h .0 .is) (h .1 .held-is);
   known = λ e d. h .0 .known e (and-left (dig mask e) (not (dig (g .held) e)) (sym (dig-less mask (g .held) e) ∙ d));
 }
 
-left : (c : tie.At-loop Inv-loop μ-loop) (mask : List Bool) (g : Answers) → May (c .before) mask g
+left : (c : tie.At-loop Inv-loop μ-loop) (mask : List Bool) (g : KnownEdges) → May (c .before) mask g
     → let a = start (c .before) .args in Left (length (wire (now (a .xyz)) (now (a .ends)) .edges))
     (outsideOf (now (a .xyz)) (now (a .ends)) (now (a .table)) (a .k)) (less mask (g .held)) g (c .loop .held) (c .loop .«open»)
 left c mask g h = c .loop .inv (less mask (g .held)) g (opens (c .before) mask g h) (h .1 .held-is)
 
 -- an answer that is found is the answer
-found : (c : tie.After-minus Inv-loop μ-loop) (mask : List Bool) (g h : Answers)
+found : (c : tie.After-minus Inv-loop μ-loop) (mask : List Bool) (g h : KnownEdges)
     → let a = start c .args in
-    h ≡ asked (outsideOf (now (a .xyz)) (now (a .ends)) (now (a .table)) (a .k))
+    h ≡ askedInTurn (outsideOf (now (a .xyz)) (now (a .ends)) (now (a .table)) (a .k))
     (ones (length (wire (now (a .xyz)) (now (a .ends)) .edges)) (less mask (g .held))) g
     → h ≡ Answer c mask g
 found c mask g h e =
     let a = start c .args in
     let d = wire (now (a .xyz)) (now (a .ends)) in
     e
-    ∙ ap (λ (es : List ℕ). asked (outsideOf (now (a .xyz)) (now (a .ends)) (now (a .table)) (a .k)) es g)
+    ∙ ap (λ (es : List ℕ). askedInTurn (outsideOf (now (a .xyz)) (now (a .ends)) (now (a .table)) (a .k)) es g)
     (sym (unheld-ones (length (d .edges)) mask g))
 
 -- some are open
@@ -122,7 +122,7 @@ returns c mask g w s =
     let k = left l mask g (w, s) in
     let e = o .before .lowest in
     let out = sym (o .is-outside .ensures) ∙ c .before .if2 .taken in
-    subst (Stands _) (found (l .before) mask g _ (left-hit k (some t) (e .result) (e .ensures) out))
+    subst (AskedIs _) (found (l .before) mask g _ (left-hit k (some t) (e .result) (e .ensures) out))
     (record { held-is = k .held-is; outside-is = c .with .ensures (g .outside) (s .outside-is) })
 
 with-requires-2 : tie.Need-with-requires-2 Inv-loop μ-loop
@@ -147,7 +147,7 @@ returns-2 c mask g w s =
     let l = c .before .before in
     let k = left l mask g (w, s) in
     let none = sym (c .before .is-empty .ensures) ∙ not-false (c .before .is-empty .result) (c .if1 .left) in
-    subst (Stands _) (found (l .before) mask g _ (left-end k none)) (record { held-is = k .held-is; outside-is = s .outside-is })
+    subst (AskedIs _) (found (l .before) mask g _ (left-end k none)) (record { held-is = k .held-is; outside-is = s .outside-is })
 
 pub ask-spec : {M : Type 1} → statement M
 ask-spec =

@@ -5,8 +5,8 @@ use mathlib.Core.Path.{_≡_, ap, subst, sym, _∙_}
 use denote.Ref.{now}
 use borrow.Author.Needs.{needs}
 use borrow.Author.Tests.{not-false, not-true}
-use Rattle.fast_tables.specs.Asked.{Answers, free}
-use Rattle.loop_cover.specs.Midpoints.{Stands, EdgesOf, askedNow}
+use Rattle.fast_tables.specs.Asked.{KnownEdges, free}
+use Rattle.loop_cover.specs.Midpoints.{AskedIs, EdgesOf, askedNow}
 use Rattle.loop_cover.proofs.Asking.{free-is}
 use Rattle.loop_cover.proofs.try_edges.Statement.{statement}
 use Rattle.loop_cover.proofs.try_edges.Tie as tie
@@ -15,9 +15,9 @@ abbrev start : tie.After-is-empty → tie.Start
 start c = c .before .before .before .before .before
 
 -- what the set of the edges that are known to be outside says
-first-free : (c : tie.After-is-empty) (mask : List Bool) (g : Answers)
+first-free : (c : tie.After-is-empty) (mask : List Bool) (g : KnownEdges)
     → let a = start c .args in
-    EdgesOf (now (a .xyz)) (now (a .ends)) (a .edges) mask → Stands (a .f) g → c .is-empty .result ≡ free mask g
+    EdgesOf (now (a .xyz)) (now (a .ends)) (a .edges) mask → AskedIs (a .f) g → c .is-empty .result ≡ free mask g
 first-free c mask g w s = free-is mask g (c .is-empty .ensures) (c .before .and .ensures mask (g .outside) (w .is) (s .outside-is))
 
 returns : tie.Need-returns
@@ -27,7 +27,7 @@ returns c mask g w s =
     let after = askedNow (now (a .xyz)) (now (a .ends)) (now (a .table)) (a .k) mask g in
     let no : free mask g ≡ false = sym (first-free e mask g w s) ∙ not-true (e .is-empty .result) (c .if1 .taken) in
     record {
-      asked-is = subst (λ (b : Bool). Stands (a .f) (cond b after g)) (sym no) s;
+      asked-is = subst (λ (b : Bool). AskedIs (a .f) (cond b after g)) (sym no) s;
       covers-is = sym (ap (λ (b : Bool). b && free mask after) no);
     }
 
@@ -40,7 +40,7 @@ returns-2 c mask g w s =
     let yes : free mask g ≡ true = sym (first-free e mask g w s) ∙ not-false (e .is-empty .result) (t .before .if1 .left) in
     let known = t .ask .ensures mask g w s in
     record {
-      asked-is = subst (λ (b : Bool). Stands (t .ask .result) (cond b after g)) (sym yes) known;
+      asked-is = subst (λ (b : Bool). AskedIs (t .ask .result) (cond b after g)) (sym yes) known;
       covers-is =
           free-is mask after (c .is-empty2 .ensures) (c .before .and2 .ensures mask (after .outside) (w .is) (known .outside-is))
           ∙ sym (ap (λ (b : Bool). b && free mask after) yes);

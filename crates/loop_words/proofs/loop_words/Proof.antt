@@ -15,18 +15,18 @@ use Rattle.fast_tables.specs.Hits.{cornerMask, sideMask}
 use Rattle.loop_table.specs.Tables.{maskWord, wordsAfter}
 use Rattle.loop_table.proofs.Rows.{rows-room, count-is, vertex-is}
 use Rattle.loop_table.proofs.Words.{word-more}
-use Rattle.loop_words.specs.Drawn.{RowDrawn, Drawn}
+use Rattle.loop_words.specs.Drawn.{RowDrawn, DrawnTable}
 use Rattle.loop_words.proofs.loop_words.Statement.{statement}
 use Rattle.loop_words.proofs.loop_words.Tie as tie
 
 -- what the loop keeps, of every drawing and loops that the rows are
-record Kept {table : List ℕ} {n : ℕ} {number : List ℕ} (w : Drawn table n number) (corners₀ corners sides₀ sides : List ℕ) (k : ℕ) : Type 0 where
+record Kept {table : List ℕ} {n : ℕ} {number : List ℕ} (w : DrawnTable table n number) (corners₀ corners sides₀ sides : List ℕ) (k : ℕ) : Type 0 where
   pub not-past : k ≤ n
   pub corners-in : corners ≡ wordsAfter (cornerMask (w .drawing)) (take k (w .loops)) corners₀
   pub sides-in : sides ≡ wordsAfter (sideMask (w .drawing)) (take k (w .loops)) sides₀
 
 abbrev Inv-loop : tie.InvT-loop
-Inv-loop table n number corners₀ sides₀ k₀ corners sides k = (w : Drawn table n number) → Kept w corners₀ corners sides₀ sides k
+Inv-loop table n number corners₀ sides₀ k₀ corners sides k = (w : DrawnTable table n number) → Kept w corners₀ corners sides₀ sides k
 
 abbrev μ-loop : tie.MeasureT-loop
 μ-loop table n number corners₀ sides₀ k₀ corners sides k = n - k
@@ -40,7 +40,7 @@ abbrev turn : tie.After-row-words Inv-loop μ-loop → tie.At-loop Inv-loop μ-l
 turn c = c .before .before
 
 -- row k of the table is loop k
-unfoldable row-drawn : {table : List ℕ} {n : ℕ} {number : List ℕ} (w : Drawn table n number) (k : ℕ) → k < n → RowDrawn table k number
+unfoldable row-drawn : {table : List ℕ} {n : ℕ} {number : List ℕ} (w : DrawnTable table n number) (k : ℕ) → k < n → RowDrawn table k number
 row-drawn {table} w k h =
     let i : k < length (w .loops) = omega (arith, w .count) in
     let short = w .of .short in

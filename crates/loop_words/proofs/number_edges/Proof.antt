@@ -5,20 +5,20 @@ use Prim.Native.Nat.{_+_, _-_, _<_, _≤_, ℕ}
 use native.Mathlib.Omega.{arith}
 use lib.ListN.{length, length-set, set}
 use borrow.Author.Needs.{needs}
-use Rattle.loop_words.specs.Numbered.{Rising, pairAt}
+use Rattle.loop_words.specs.Numbered.{RisingEnds, pairAt}
 use Rattle.loop_words.proofs.Pairs.{Numbering, allPairs, half, high-known, low-known, numbering-end, numbering-more, numbering-none}
 use Rattle.loop_words.proofs.number_edges.Statement.{statement}
 use Rattle.loop_words.proofs.number_edges.Tie as tie
 
 -- what the loop keeps
-record Kept {ends : List ℕ} (r : Rising ends) (n : ℕ) (number : List ℕ) (e : ℕ) : Type 0 where
+record Kept {ends : List ℕ} (r : RisingEnds ends) (n : ℕ) (number : List ℕ) (e : ℕ) : Type 0 where
   pub not-past : e ≤ n
   pub whole : n ≡ r .links .edges
   pub room : length number ≡ allPairs
   pub numbers : Numbering r number e
 
 abbrev Inv-loop : tie.InvT-loop
-Inv-loop ends number₀ n e₀ number e = (r : Rising ends) → Kept r n number e
+Inv-loop ends number₀ n e₀ number e = (r : RisingEnds ends) → Kept r n number e
 
 abbrev μ-loop : tie.MeasureT-loop
 μ-loop ends number₀ n e₀ number e = n - e

@@ -9,8 +9,8 @@ use lib.IntN.{ℤ, pos, _+ℤ_}
 use lib.Signed.{_<ℤ_, <ℤ-irrefl}
 use Rattle.exact.proofs.Ring.{var, con, _⊕_, ring}
 use Rattle.paper.specs.declared.Flat.{Flat}
-use Rattle.means_area.specs.Rings.{Of, Pair, Chain, Link}
-use Rattle.means_area.specs.Flats.{turn, height, Simple, Least, area, Same, lst}
+use Rattle.means_area.specs.Rings.{Of, TheTwo, Chain, Link}
+use Rattle.means_area.specs.Flats.{twiceArea, height, Simple, Least, area, SameSign, lst}
 use Rattle.means_area.proofs.Flats.Signs.{same-flip, same-trans, same-add, same-is, same-is2, same-ne, same-self}
 use Rattle.means_area.proofs.Flats.Turns.{flat-second}
 use Rattle.means_area.proofs.Flats.Net.{Ok}
@@ -27,12 +27,12 @@ module _ (m : ℤ) (n : ℕ) (A : Area m n) (R : Rest m (suc n)) where
 
   -- the triangle is empty
   no-cut : (u c : Flat) (l : List Flat) → length l ≤ suc n → 1 ≤ length l → Simple m (u ∷ c ∷ l) → Least m u (c ∷ l)
-      → Free u c (lst c l) (u ∷ c ∷ l) → Same (area (u ∷ c ∷ l)) (turn u c (lst c l))
+      → Free u c (lst c l) (u ∷ c ∷ l) → SameSign (area (u ∷ c ∷ l)) (twiceArea u c (lst c l))
   no-cut u c [] b k s low e = absurd (omega arith)
   no-cut u c (a ∷ []) b k s low e =
       same-is
-      (sym (area-ear u c (a ∷ []) ∙ ap (λ (z : ℤ). turn u c a +ℤ z) (flat2 c a)
-      ∙ ring (turn u c a ∷ []) (var 0 ⊕ con (pos 0)) (var 0) tt))
+      (sym (area-ear u c (a ∷ []) ∙ ap (λ (z : ℤ). twiceArea u c a +ℤ z) (flat2 c a)
+      ∙ ring (twiceArea u c a ∷ []) (var 0 ⊕ con (pos 0)) (var 0) tt))
       (same-self (not-flat m u c (a ∷ []) k s (low c (inl refl)) (low a (inr (inl refl)))))
     where
       flat2 : (c a : Flat) → area (c ∷ a ∷ []) ≡ pos 0
@@ -57,55 +57,55 @@ module _ (m : ℤ) (n : ℕ) (A : Area m n) (R : Rest m (suc n)) where
     simple1 : Simple m (u ∷ c ∷ (X ++ w ∷ []))
     simple1 = narrow m g (u ∷ c ∷ (X ++ w ∷ [])) u w s f (λ z o. sub-of z (keep sub1) o) (sub-distinct m (keep sub1) (s .apart)) ok
       where
-        f : (p q : Flat) → Link (u ∷ c ∷ (X ++ w ∷ [])) p q → Link g p q ⊎ Pair u w p q
+        f : (p q : Flat) → Link (u ∷ c ∷ (X ++ w ∷ [])) p q → Link g p q ⊎ TheTwo u w p q
         f p q t = go (chain-split u (c ∷ X) w [] u p q t)
           where
-            go : Chain u (c ∷ X) w p q ⊎ Chain w [] u p q → Link g p q ⊎ Pair u w p q
+            go : Chain u (c ∷ X) w p q ⊎ Chain w [] u p q → Link g p q ⊎ TheTwo u w p q
             go (inl d) = inl (chain-left u (c ∷ X) w (y ∷ Y) u p q d)
             go (inr d) = inr (pair-swap w u p q d)
 
     simple2 : Simple m (u ∷ w ∷ y ∷ Y)
     simple2 = narrow m g (u ∷ w ∷ y ∷ Y) u w s f (λ z o. sub-of z (keep sub2) o) (sub-distinct m (keep sub2) (s .apart)) ok
       where
-        f : (p q : Flat) → Link (u ∷ w ∷ y ∷ Y) p q → Link g p q ⊎ Pair u w p q
+        f : (p q : Flat) → Link (u ∷ w ∷ y ∷ Y) p q → Link g p q ⊎ TheTwo u w p q
         f p q (inl d) = inr d
         f p q (inr d) = inl (chain-right u (c ∷ X) w (y ∷ Y) u p q d)
 
-    cutting : Same (turn u c w) (turn u c (lst y Y)) → Same (turn u w (lst y Y)) (turn u c (lst y Y)) → Same (area g) (turn u c (lst y Y))
+    cutting : SameSign (twiceArea u c w) (twiceArea u c (lst y Y)) → SameSign (twiceArea u w (lst y Y)) (twiceArea u c (lst y Y)) → SameSign (area g) (twiceArea u c (lst y Y))
     cutting s1 s2 =
         let e1 = length-append X (w ∷ y ∷ Y) in
         let e2 = length-append X (w ∷ []) in
         let a1 = A u c (X ++ w ∷ []) (omega (arith, e1, e2)) (omega (arith, e1, e2)) simple1 (λ z o. low z (sub-of z sub1 o)) in
         let a2 = A u w (y ∷ Y) (omega (arith, e1, e2)) (omega (arith, e1, e2)) simple2 (λ z o. low z (sub-of z sub2 o)) in
         same-is (sym (area-cut u (c ∷ X) w (y ∷ Y)))
-        (same-add (same-trans (same-is2 (ap (turn u c) (lst-append c X w [])) a1) s1) (same-trans a2 s2))
+        (same-add (same-trans (same-is2 (ap (twiceArea u c) (lst-append c X w [])) a1) s1) (same-trans a2 s2))
 
   -- the same, with the split as an equation
   cut-split : (u c : Flat) (l : List Flat) (w : Flat) (t : Split w l) → length l ≤ suc n → Simple m (u ∷ c ∷ l) → Least m u (c ∷ l)
       → Ok m (Link (u ∷ c ∷ l)) (λ z. Of z (u ∷ c ∷ l)) u w
-      → Same (turn u c w) (turn u c (lst c l)) → Same (turn u w (lst c l)) (turn u c (lst c l))
-      → Same (area (u ∷ c ∷ l)) (turn u c (lst c l))
+      → SameSign (twiceArea u c w) (twiceArea u c (lst c l)) → SameSign (twiceArea u w (lst c l)) (twiceArea u c (lst c l))
+      → SameSign (area (u ∷ c ∷ l)) (twiceArea u c (lst c l))
   cut-split u c l w t =
       subst (λ (r : List Flat). length r ≤ suc n → Simple m (u ∷ c ∷ r) → Least m u (c ∷ r)
       → Ok m (Link (u ∷ c ∷ r)) (λ z. Of z (u ∷ c ∷ r)) u w
-      → Same (turn u c w) (turn u c (lst c r)) → Same (turn u w (lst c r)) (turn u c (lst c r))
-      → Same (area (u ∷ c ∷ r)) (turn u c (lst c r))) (sym (t .is)) (go (t .before) (t .after))
+      → SameSign (twiceArea u c w) (twiceArea u c (lst c r)) → SameSign (twiceArea u w (lst c r)) (twiceArea u c (lst c r))
+      → SameSign (area (u ∷ c ∷ r)) (twiceArea u c (lst c r))) (sym (t .is)) (go (t .before) (t .after))
     where
       go : (X Y : List Flat) → length (X ++ w ∷ Y) ≤ suc n → Simple m (u ∷ c ∷ (X ++ w ∷ Y)) → Least m u (c ∷ (X ++ w ∷ Y))
           → Ok m (Link (u ∷ c ∷ (X ++ w ∷ Y))) (λ z. Of z (u ∷ c ∷ (X ++ w ∷ Y))) u w
-          → Same (turn u c w) (turn u c (lst c (X ++ w ∷ Y))) → Same (turn u w (lst c (X ++ w ∷ Y))) (turn u c (lst c (X ++ w ∷ Y)))
-          → Same (area (u ∷ c ∷ (X ++ w ∷ Y))) (turn u c (lst c (X ++ w ∷ Y)))
-      go X [] b s low ok s1 s2 = absurd (same-ne s2 (ap (turn u w) (lst-append c X w []) ∙ flat-second u w))
+          → SameSign (twiceArea u c w) (twiceArea u c (lst c (X ++ w ∷ Y))) → SameSign (twiceArea u w (lst c (X ++ w ∷ Y))) (twiceArea u c (lst c (X ++ w ∷ Y)))
+          → SameSign (area (u ∷ c ∷ (X ++ w ∷ Y))) (twiceArea u c (lst c (X ++ w ∷ Y)))
+      go X [] b s low ok s1 s2 = absurd (same-ne s2 (ap (twiceArea u w) (lst-append c X w []) ∙ flat-second u w))
       go X (y ∷ Y) b s low ok s1 s2 =
           let e = lst-append c X w (y ∷ Y) in
-          same-is2 (ap (turn u c) (sym e))
-          (cutting u c X w y Y b s low ok (same-is2 (ap (turn u c) e) s1) (same-is2 (ap (turn u c) e) (same-is (ap (turn u w) e) s2)))
+          same-is2 (ap (twiceArea u c) (sym e))
+          (cutting u c X w y Y b s low ok (same-is2 (ap (twiceArea u c) e) s1) (same-is2 (ap (twiceArea u c) e) (same-is (ap (twiceArea u w) e) s2)))
 
   pub area-step : Area m (suc n)
   area-step u c l b k s low = go (choice m u c l k s (low c (inl refl)) (low (lst c l) (lst-of c l)))
     where
-      go : Choice m (Link (u ∷ c ∷ l)) (u ∷ c ∷ l) (s .net) u c (lst c l) → Same (area (u ∷ c ∷ l)) (turn u c (lst c l))
+      go : Choice m (Link (u ∷ c ∷ l)) (u ∷ c ∷ l) (s .net) u c (lst c l) → SameSign (area (u ∷ c ∷ l)) (twiceArea u c (lst c l))
       go (whole e ok) = no-cut u c l b k s low e
       go (cut w (inl e) ok hw s1 s2) = absurd (<ℤ-irrefl (subst (λ (z : Flat). h u <ℤ h z) e hw))
-      go (cut w (inr (inl e)) ok hw s1 s2) = absurd (same-ne s1 (ap (turn u c) e ∙ flat-second u c))
+      go (cut w (inr (inl e)) ok hw s1 s2) = absurd (same-ne s1 (ap (twiceArea u c) e ∙ flat-second u c))
       go (cut w (inr (inr o)) ok hw s1 s2) = cut-split u c l w (of-split w l o) b s low ok s1 s2

@@ -10,8 +10,8 @@ use lib.ListN.{length, length-append}
 use lib.IntN.{ℤ}
 use lib.Signed.{_<ℤ_}
 use Rattle.paper.specs.declared.Flat.{Flat}
-use Rattle.means_area.specs.Rings.{Of, Pair, Chain, Link}
-use Rattle.means_area.specs.Flats.{turn, height, Simple, Least, area, Same, lst}
+use Rattle.means_area.specs.Rings.{Of, TheTwo, Chain, Link}
+use Rattle.means_area.specs.Flats.{twiceArea, height, Simple, Least, area, SameSign, lst}
 use Rattle.means_area.proofs.Flats.Signs.{same-flip, same-trans, same-is, same-is2}
 use Rattle.means_area.proofs.Flats.Net.{Ok}
 use Rattle.means_area.proofs.Flats.Choice.{Hit, four}
@@ -32,7 +32,7 @@ pub record Second (m : ℤ) (u c : Flat) (X : List Flat) (v y : Flat) (Y : List 
 
 -- the turns at v and at u have one sign
 abbrev pub OneTurn : Flat → Flat → List Flat → Flat → Flat → List Flat → Type 0
-OneTurn u c X v y Y = Same (turn v y (lst c X)) (turn u c (lst y Y))
+OneTurn u c X v y Y = SameSign (twiceArea v y (lst c X)) (twiceArea u c (lst y Y))
 
 module _ (m : ℤ) (n : ℕ) (A : Area m n) (R : Rest m n) (u c : Flat) (X : List Flat) (v y : Flat) (Y : List Flat)
     (b : length (X ++ v ∷ y ∷ Y) ≤ suc n) (q : Second m u c X v y Y) where
@@ -73,17 +73,17 @@ module _ (m : ℤ) (n : ℕ) (A : Area m n) (R : Rest m n) (u c : Flat) (X : Lis
       go (inr p) = q .low-c z p
 
   -- the turn at v has the sign of what is left without u
-  pub at-v : Same (area (c ∷ (X ++ v ∷ y ∷ Y))) (turn v y (lst c X))
+  pub at-v : SameSign (area (c ∷ (X ++ v ∷ y ∷ Y))) (twiceArea v y (lst c X))
   at-v =
       let e1 = length-append X (v ∷ y ∷ Y) in
       let e2 = length-append Y (c ∷ X) in
       same-is (sym (area-turned c X v (y ∷ Y)))
-      (same-is2 (ap (turn v y) (lst-append y Y c X))
+      (same-is2 (ap (twiceArea v y) (lst-append y Y c X))
       (A v y (Y ++ c ∷ X) (omega (arith, e1, e2)) (omega (arith, e2)) (turned m c X v (y ∷ Y) inner) least-v))
 
   -- so has the turn at u, in a ring that is smaller
   pub reduced : length (X ++ v ∷ y ∷ Y) ≤ n → OneTurn u c X v y Y
-  reduced b' = same-trans (same-flip at-v) (same-is2 (ap (turn u c) last-is) (R u c l b' two (q .simple) (q .low) free-is))
+  reduced b' = same-trans (same-flip at-v) (same-is2 (ap (twiceArea u c) last-is) (R u c l b' two (q .simple) (q .low) free-is))
 
   -- ---- the ring from v
   pub from-v : Simple m (v ∷ y ∷ (Y ++ u ∷ c ∷ X))
@@ -105,11 +105,11 @@ module _ (m : ℤ) (n : ℕ) (A : Area m n) (R : Rest m n) (u c : Flat) (X : Lis
       let ay : lst c l ≡ y = last-is ∙ ap (lst y) eY in
       let ya : y ≡ lst c l = sym ay in
       let g = u ∷ c ∷ l in
-      let t : Same (area (c ∷ l)) (turn v (lst c l) c) = same-is2 (λ i. turn v (ya i) (cx i)) at-v in
+      let t : SameSign (area (c ∷ l)) (twiceArea v (lst c l) c) = same-is2 (λ i. twiceArea v (ya i) (cx i)) at-v in
       let r = four m (Link g) g (q .simple .net) u c (lst c l) (first-link m u c l) (last-link m u c l) hc ha free-is
       (ends-apart m u c l (omega (arith, two)) (q .simple .apart)) v
       (subst (λ (z : Flat). Link g v z) cx v-x) (subst (λ (z : Flat). Link g v z) ya v-y) u-v t in
-      same-is (λ i. turn v (ay i) (sym cx i)) (same-is2 (ap (turn u c) last-is) r)
+      same-is (λ i. twiceArea v (ay i) (sym cx i)) (same-is2 (ap (twiceArea u c) last-is) r)
 
   -- ---- more corners, and an empty triangle at v: without v, and without u and v
   module _ (e' : Free v y (lst y (Y ++ u ∷ c ∷ X)) (v ∷ y ∷ (Y ++ u ∷ c ∷ X)))
@@ -124,14 +124,14 @@ module _ (m : ℤ) (n : ℕ) (A : Area m n) (R : Rest m n) (u c : Flat) (X : Lis
         (subst (λ (z : Flat). Ok m (Link (u ∷ c ∷ l)) (λ r. Of r (u ∷ c ∷ l)) y z) x-is
         (ok-turned m u (c ∷ X) v (y ∷ Y) y (lst y (Y ++ u ∷ c ∷ X)) ok))
       where
-        f : (p r : Flat) → Link (u ∷ c ∷ (X ++ y ∷ Y)) p r → Link (u ∷ c ∷ l) p r ⊎ Pair y (lst c X) p r
+        f : (p r : Flat) → Link (u ∷ c ∷ (X ++ y ∷ Y)) p r → Link (u ∷ c ∷ l) p r ⊎ TheTwo y (lst c X) p r
         f p r t = go (chain-split u (c ∷ X) y Y u p r t)
           where
-            cutoff : Chain u (c ∷ (X ++ v ∷ y ∷ Y)) u p r ⊎ Pair (lst c X) y p r → Link (u ∷ c ∷ l) p r ⊎ Pair y (lst c X) p r
+            cutoff : Chain u (c ∷ (X ++ v ∷ y ∷ Y)) u p r ⊎ TheTwo (lst c X) y p r → Link (u ∷ c ∷ l) p r ⊎ TheTwo y (lst c X) p r
             cutoff (inl d) = inl d
             cutoff (inr d) = inr (pair-swap (lst c X) y p r d)
 
-            go : Chain u (c ∷ X) y p r ⊎ Chain y Y u p r → Link (u ∷ c ∷ l) p r ⊎ Pair y (lst c X) p r
+            go : Chain u (c ∷ X) y p r ⊎ Chain y Y u p r → Link (u ∷ c ∷ l) p r ⊎ TheTwo y (lst c X) p r
             go (inl d) = cutoff (chain-cut u (c ∷ X) y v (y ∷ Y) u p r d)
             go (inr d) = inl (chain-right u (c ∷ X) v (y ∷ Y) u p r (inr d))
 
@@ -151,5 +151,5 @@ module _ (m : ℤ) (n : ℕ) (A : Area m n) (R : Rest m n) (u c : Flat) (X : Lis
         let e3 = length-append Y (c ∷ X) in
         let r1 = R u c (X ++ y ∷ Y) (omega (arith, e1, e2)) (omega (arith, e2)) less (λ z o. q .low z (sub-of z sub o)) free1 in
         let r2 = R v y (Y ++ c ∷ X) (omega (arith, e1, e3)) (omega (arith, e3)) (turned m c X v (y ∷ Y) inner) least-v free2 in
-        same-trans (same-flip (same-is2 (ap (turn v y) (lst-append y Y c X)) r2))
-        (same-is (area-turned c X y Y) (same-is2 (ap (turn u c) (lst-append c X y Y)) r1))
+        same-trans (same-flip (same-is2 (ap (twiceArea v y) (lst-append y Y c X)) r2))
+        (same-is (area-turned c X y Y) (same-is2 (ap (twiceArea u c) (lst-append c X y Y)) r1))

@@ -4,8 +4,8 @@ use mathlib.Core.Logic.{_⊎_, inl, inr}
 use mathlib.Core.List.{List, [], _∷_, _++_}
 use lib.IntN.{ℤ}
 use Rattle.paper.specs.declared.Flat.{Flat}
-use Rattle.means_area.specs.Rings.{Of, Pair, Chain, Link}
-use Rattle.means_area.specs.Flats.{turn, Cross, height, On, Distinct, Simple, lst}
+use Rattle.means_area.specs.Rings.{Of, TheTwo, Chain, Link}
+use Rattle.means_area.specs.Flats.{twiceArea, Cross, height, WithinSegment, Distinct, Simple, lst}
 use Rattle.means_area.proofs.Flats.Signs.{zero-off}
 use Rattle.means_area.proofs.Flats.Turns.{flat-first, flat-second}
 use Rattle.means_area.proofs.Flats.Net.{Ok}
@@ -19,7 +19,7 @@ module _ {A : Type 0} where
   lst-of x [] = inl refl
   lst-of x (y ∷ l) = inr (lst-of y l)
 
-  pair-back : (x y p q : A) → Pair x y p q → Pair x y q p
+  pair-back : (x y p q : A) → TheTwo x y p q → TheTwo x y q p
   pair-back x y p q (inl t) = inr (t .1, t .0)
   pair-back x y p q (inr t) = inl (t .1, t .0)
 
@@ -57,22 +57,22 @@ module _ {A : Type 0} where
 
   -- all links but the last go on where the way goes on
   pub chain-cut : (x : A) (l : List A) (e : A) (y : A) (r : List A) (f p q : A) → Chain x l e p q
-      → Chain x (l ++ y ∷ r) f p q ⊎ Pair (lst x l) e p q
+      → Chain x (l ++ y ∷ r) f p q ⊎ TheTwo (lst x l) e p q
   chain-cut x [] e y r f p q c = inr c
   chain-cut x (z ∷ l) e y r f p q (inl c) = inl (inl c)
   chain-cut x (z ∷ l) e y r f p q (inr c) = go (chain-cut z l e y r f p q c)
     where
-      go : Chain z (l ++ y ∷ r) f p q ⊎ Pair (lst z l) e p q → Chain x (z ∷ (l ++ y ∷ r)) f p q ⊎ Pair (lst z l) e p q
+      go : Chain z (l ++ y ∷ r) f p q ⊎ TheTwo (lst z l) e p q → Chain x (z ∷ (l ++ y ∷ r)) f p q ⊎ TheTwo (lst z l) e p q
       go (inl d) = inl (inr d)
       go (inr d) = inr d
 
   -- another end
-  pub chain-end : (x : A) (l : List A) (e f p q : A) → Chain x l e p q → Chain x l f p q ⊎ Pair (lst x l) e p q
+  pub chain-end : (x : A) (l : List A) (e f p q : A) → Chain x l e p q → Chain x l f p q ⊎ TheTwo (lst x l) e p q
   chain-end x [] e f p q c = inr c
   chain-end x (z ∷ l) e f p q (inl c) = inl (inl c)
   chain-end x (z ∷ l) e f p q (inr c) = go (chain-end z l e f p q c)
     where
-      go : Chain z l f p q ⊎ Pair (lst z l) e p q → Chain x (z ∷ l) f p q ⊎ Pair (lst z l) e p q
+      go : Chain z l f p q ⊎ TheTwo (lst z l) e p q → Chain x (z ∷ l) f p q ⊎ TheTwo (lst z l) e p q
       go (inl d) = inl (inr d)
       go (inr d) = inr d
 
@@ -194,7 +194,7 @@ module _ (m : ℤ) where
   cross-back c = record { left = c .right; right = c .left; ahead = c .behind; behind = c .ahead }
 
   -- some links are left out, and the chord x y may be new
-  pub narrow : (g k : List Flat) (x y : Flat) → Simple m g → ((p q : Flat) → Link k p q → Link g p q ⊎ Pair x y p q)
+  pub narrow : (g k : List Flat) (x y : Flat) → Simple m g → ((p q : Flat) → Link k p q → Link g p q ⊎ TheTwo x y p q)
       → ((z : Flat) → Of z k → Of z g) → Distinct m k
       → Ok m (Link g) (λ z. Of z g) x y → Simple m k
   narrow g k x y s f o d ok = record {
@@ -207,29 +207,29 @@ module _ (m : ℤ) where
     };
   }
     where
-      chord : (p q r t : Flat) → Pair x y p q → Link g r t → Cross p q r t → ⊥
+      chord : (p q r t : Flat) → TheTwo x y p q → Link g r t → Cross p q r t → ⊥
       chord p q r t (inl e) l c = ok .uncut l (subst (λ (z : Flat). Cross z y r t) (e .0) (subst (λ (z : Flat). Cross p z r t) (e .1) c))
       chord p q r t (inr e) l c =
           ok .uncut (link-back g r t l)
           (cross-back (subst (λ (z : Flat). Cross z x r t) (e .0) (subst (λ (z : Flat). Cross p z r t) (e .1) c)))
 
-      twice : (p q r t : Flat) → Pair x y p q → Pair x y r t → Cross p q r t → ⊥
-      twice p q r t (inl e) (inl f) c = zero-off (ap (turn p q) (f .0 ∙ sym (e .0)) ∙ flat-first p q) (c .left)
-      twice p q r t (inl e) (inr f) c = zero-off (ap (turn p q) (f .0 ∙ sym (e .1)) ∙ flat-second p q) (c .left)
-      twice p q r t (inr e) (inl f) c = zero-off (ap (turn p q) (f .0 ∙ sym (e .1)) ∙ flat-second p q) (c .left)
-      twice p q r t (inr e) (inr f) c = zero-off (ap (turn p q) (f .0 ∙ sym (e .0)) ∙ flat-first p q) (c .left)
+      twice : (p q r t : Flat) → TheTwo x y p q → TheTwo x y r t → Cross p q r t → ⊥
+      twice p q r t (inl e) (inl f) c = zero-off (ap (twiceArea p q) (f .0 ∙ sym (e .0)) ∙ flat-first p q) (c .left)
+      twice p q r t (inl e) (inr f) c = zero-off (ap (twiceArea p q) (f .0 ∙ sym (e .1)) ∙ flat-second p q) (c .left)
+      twice p q r t (inr e) (inl f) c = zero-off (ap (twiceArea p q) (f .0 ∙ sym (e .1)) ∙ flat-second p q) (c .left)
+      twice p q r t (inr e) (inr f) c = zero-off (ap (twiceArea p q) (f .0 ∙ sym (e .0)) ∙ flat-first p q) (c .left)
 
-      clear2 : (p q r t : Flat) → Link g p q ⊎ Pair x y p q → Link g r t ⊎ Pair x y r t → Cross p q r t → ⊥
+      clear2 : (p q r t : Flat) → Link g p q ⊎ TheTwo x y p q → Link g r t ⊎ TheTwo x y r t → Cross p q r t → ⊥
       clear2 p q r t (inl l) (inl n) c = s .net .clear l n c
       clear2 p q r t (inl l) (inr n) c = chord r t q p n (link-back g p q l) (cross-turned c)
       clear2 p q r t (inr l) (inl n) c = chord p q r t l n c
       clear2 p q r t (inr l) (inr n) c = twice p q r t l n c
 
-      free2 : (p q r : Flat) → Link g p q ⊎ Pair x y p q → Of r g → On m p q r → ⊥
+      free2 : (p q r : Flat) → Link g p q ⊎ TheTwo x y p q → Of r g → WithinSegment m p q r → ⊥
       free2 p q r (inl l) n c = s .net .free l n c
-      free2 p q r (inr (inl e)) n c = ok .bare n (subst (λ (z : Flat). On m z y r) (e .0) (subst (λ (z : Flat). On m p z r) (e .1) c))
+      free2 p q r (inr (inl e)) n c = ok .bare n (subst (λ (z : Flat). WithinSegment m z y r) (e .0) (subst (λ (z : Flat). WithinSegment m p z r) (e .1) c))
       free2 p q r (inr (inr e)) n c =
-          ok .bare-back n (subst (λ (z : Flat). On m z x r) (e .0) (subst (λ (z : Flat). On m p z r) (e .1) c))
+          ok .bare-back n (subst (λ (z : Flat). WithinSegment m z x r) (e .0) (subst (λ (z : Flat). WithinSegment m p z r) (e .1) c))
 
   -- another start
   pub turned : (x : Flat) (l : List Flat) (y : Flat) (r : List Flat) → Simple m (x ∷ (l ++ y ∷ r)) → Simple m (y ∷ (r ++ x ∷ l))

@@ -10,7 +10,7 @@ use Rattle.exact.proofs.Signs.{lt-or-ge, <ℤ-≤ℤ, ≤ℤ-antisym}
 use Rattle.exact.proofs.Order.{lt-chain}
 use Rattle.paper.specs.declared.Flat.{Flat}
 use Rattle.means_area.specs.Rings.{Of}
-use Rattle.means_area.specs.Flats.{Up, Nn, turn, height, Net, Same, both, none}
+use Rattle.means_area.specs.Flats.{Up, Nn, twiceArea, height, Net, SameSign, both, none}
 use Rattle.means_area.proofs.Flats.Signs.{up-is, up-nn, up-add, nn-up, off, which, ways}
 use Rattle.means_area.proofs.Flats.Turns.{In, spin, flip, flip-last, sum-is}
 use Rattle.means_area.proofs.Flats.Net.{Ok, higher, diagonal}
@@ -27,9 +27,9 @@ compare a b = go (lt-or-ge a b) (lt-or-ge b a)
 
 module _ (v a b : Flat) where
   inside : (x : Flat) → In v a b x ⊎ (In v a b x → ⊥)
-  inside x = go (lt-or-ge (turn a b x) (pos 0)) (which (turn b v x)) (which (turn v a x))
+  inside x = go (lt-or-ge (twiceArea a b x) (pos 0)) (which (twiceArea b v x)) (which (twiceArea v a x))
     where
-      go : (turn a b x <ℤ pos 0) ⊎ Nn (turn a b x) → Up (turn b v x) ⊎ Nn (negℤ (turn b v x)) → Up (turn v a x) ⊎ Nn (negℤ (turn v a x))
+      go : (twiceArea a b x <ℤ pos 0) ⊎ Nn (twiceArea a b x) → Up (twiceArea b v x) ⊎ Nn (negℤ (twiceArea b v x)) → Up (twiceArea v a x) ⊎ Nn (negℤ (twiceArea v a x))
           → In v a b x ⊎ (In v a b x → ⊥)
       go (inl h) y z = inr (λ i. clashℤ h (i .far))
       go (inr h) (inr k) z = inr (λ i. off (i .by-a) k)
@@ -40,7 +40,7 @@ module _ (v a b : Flat) where
     pub w : Flat
     pub of : Of w cs
     pub inn : In v a b w
-    pub top : (r : Flat) → Of r cs → In v a b r → turn a b r ≤ℤ turn a b w
+    pub top : (r : Flat) → Of r cs → In v a b r → twiceArea a b r ≤ℤ twiceArea a b w
 
   abbrev Empty : List Flat → Type 0
   Empty cs = (x : Flat) → Of x cs → In v a b x → ⊥
@@ -53,33 +53,33 @@ module _ (v a b : Flat) where
       go x (inr p) i = e x p i
   more c cs (inl i) (inl e) = inr (record { w = c; of = inl refl; inn = i; top = go })
     where
-      go : (r : Flat) → Of r (c ∷ cs) → In v a b r → turn a b r ≤ℤ turn a b c
-      go r (inl p) j = subst (λ (z : Flat). turn a b z ≤ℤ turn a b c) (sym p) (≤ℤ-refl (turn a b c))
+      go : (r : Flat) → Of r (c ∷ cs) → In v a b r → twiceArea a b r ≤ℤ twiceArea a b c
+      go r (inl p) j = subst (λ (z : Flat). twiceArea a b z ≤ℤ twiceArea a b c) (sym p) (≤ℤ-refl (twiceArea a b c))
       go r (inr p) j = absurd (e r p j)
   more c cs (inr n) (inr t) = inr (record { w = t .w; of = inr (t .of); inn = t .inn; top = go })
     where
-      go : (r : Flat) → Of r (c ∷ cs) → In v a b r → turn a b r ≤ℤ turn a b (t .w)
+      go : (r : Flat) → Of r (c ∷ cs) → In v a b r → twiceArea a b r ≤ℤ twiceArea a b (t .w)
       go r (inl p) j = absurd (n (subst (λ (z : Flat). In v a b z) p j))
       go r (inr p) j = t .top r p j
-  more c cs (inl i) (inr t) = pick (lt-or-ge (turn a b (t .w)) (turn a b c))
+  more c cs (inl i) (inr t) = pick (lt-or-ge (twiceArea a b (t .w)) (twiceArea a b c))
     where
-      pick : (turn a b (t .w) <ℤ turn a b c) ⊎ (turn a b c ≤ℤ turn a b (t .w)) → Empty (c ∷ cs) ⊎ Best (c ∷ cs)
+      pick : (twiceArea a b (t .w) <ℤ twiceArea a b c) ⊎ (twiceArea a b c ≤ℤ twiceArea a b (t .w)) → Empty (c ∷ cs) ⊎ Best (c ∷ cs)
       pick (inl l) = inr (record { w = c; of = inl refl; inn = i; top = go })
         where
-          go : (r : Flat) → Of r (c ∷ cs) → In v a b r → turn a b r ≤ℤ turn a b c
-          go r (inl p) j = subst (λ (z : Flat). turn a b z ≤ℤ turn a b c) (sym p) (≤ℤ-refl (turn a b c))
+          go : (r : Flat) → Of r (c ∷ cs) → In v a b r → twiceArea a b r ≤ℤ twiceArea a b c
+          go r (inl p) j = subst (λ (z : Flat). twiceArea a b z ≤ℤ twiceArea a b c) (sym p) (≤ℤ-refl (twiceArea a b c))
           go r (inr p) j = le-trans (t .top r p j) (<ℤ-≤ℤ l)
             where
-              le-trans : turn a b r ≤ℤ turn a b (t .w) → turn a b (t .w) ≤ℤ turn a b c → turn a b r ≤ℤ turn a b c
-              le-trans h k = last (lt-or-ge (turn a b c) (turn a b r))
+              le-trans : twiceArea a b r ≤ℤ twiceArea a b (t .w) → twiceArea a b (t .w) ≤ℤ twiceArea a b c → twiceArea a b r ≤ℤ twiceArea a b c
+              le-trans h k = last (lt-or-ge (twiceArea a b c) (twiceArea a b r))
                 where
-                  last : (turn a b c <ℤ turn a b r) ⊎ (turn a b r ≤ℤ turn a b c) → turn a b r ≤ℤ turn a b c
+                  last : (twiceArea a b c <ℤ twiceArea a b r) ⊎ (twiceArea a b r ≤ℤ twiceArea a b c) → twiceArea a b r ≤ℤ twiceArea a b c
                   last (inl m) = clashℤ (lt-chain l m) h
                   last (inr m) = m
       pick (inr l) = inr (record { w = t .w; of = inr (t .of); inn = t .inn; top = go })
         where
-          go : (r : Flat) → Of r (c ∷ cs) → In v a b r → turn a b r ≤ℤ turn a b (t .w)
-          go r (inl p) j = subst (λ (z : Flat). turn a b z ≤ℤ turn a b (t .w)) (sym p) l
+          go : (r : Flat) → Of r (c ∷ cs) → In v a b r → twiceArea a b r ≤ℤ twiceArea a b (t .w)
+          go r (inl p) j = subst (λ (z : Flat). twiceArea a b z ≤ℤ twiceArea a b (t .w)) (sym p) l
           go r (inr p) j = t .top r p j
 
   pub best : (cs : List Flat) → Empty cs ⊎ Best cs
@@ -91,7 +91,7 @@ abbrev pub Hit : Flat → Flat → Flat → Flat → Type 0
 Hit v x y z = In v x y z ⊎ In v y x z
 
 -- the triangle has its sense
-pub in-sense : (v a b x : Flat) → In v a b x → Up (turn v a b)
+pub in-sense : (v a b x : Flat) → In v a b x → Up (twiceArea v a b)
 in-sense v a b x i = up-is (sum-is v a b x) (up-add (nn-up (i .far) (i .by-a)) (up-nn (i .by-b)))
 
 module _ (m : ℤ) (L : Flat → Flat → Type 0) (cs : List Flat) (net : Net m L (λ x. Of x cs)) where
@@ -100,12 +100,12 @@ module _ (m : ℤ) (L : Flat → Flat → Type 0) (cs : List Flat) (net : Net m 
 
   pub data Choice (v x y : Flat) : Type 0 where
     whole : ((z : Flat) → Of z cs → Hit v x y z → ⊥) → Ok m L (λ r. Of r cs) x y → Choice v x y
-    cut : (w : Flat) → Of w cs → Ok m L (λ r. Of r cs) v w → h v <ℤ h w → Same (turn v x w) (turn v x y) → Same (turn v w y) (turn v x y)
+    cut : (w : Flat) → Of w cs → Ok m L (λ r. Of r cs) v w → h v <ℤ h w → SameSign (twiceArea v x w) (twiceArea v x y) → SameSign (twiceArea v w y) (twiceArea v x y)
         → Choice v x y
 
   module _ (v x y : Flat) (vx : L v x) (vy : L v y) (hx : h v <ℤ h x) (hy : h v <ℤ h y) where
     -- three corners are in no line
-    pub bent : (h x ≡ h y → ⊥) → turn v x y ≡ pos 0 → ⊥
+    pub bent : (h x ≡ h y → ⊥) → twiceArea v x y ≡ pos 0 → ⊥
     bent ne e = go (compare (h x) (h y))
       where
         go : (h x <ℤ h y) ⊎ ((h x ≡ h y) ⊎ (h y <ℤ h x)) → ⊥
@@ -123,13 +123,13 @@ module _ (m : ℤ) (L : Flat → Flat → Type 0) (cs : List Flat) (net : Net m 
     -- the chord of an empty triangle
     pub ear-ok : (h x ≡ h y → ⊥) → ((q : Flat) → L v q → (q ≡ x) ⊎ (q ≡ y)) → ((z : Flat) → Of z cs → Hit v x y z → ⊥)
         → Ok m L (λ r. Of r cs) x y
-    ear-ok ne only e = go (ways (turn v x y))
+    ear-ok ne only e = go (ways (twiceArea v x y))
       where
         swap : (q : Flat) → (q ≡ x) ⊎ (q ≡ y) → (q ≡ y) ⊎ (q ≡ x)
         swap q (inl e) = inr e
         swap q (inr e) = inl e
 
-        go : Up (turn v x y) ⊎ ((turn v x y ≡ pos 0) ⊎ Up (negℤ (turn v x y))) → Ok m L (λ r. Of r cs) x y
+        go : Up (twiceArea v x y) ⊎ ((twiceArea v x y ≡ pos 0) ⊎ Up (negℤ (twiceArea v x y))) → Ok m L (λ r. Of r cs) x y
         go (inl D) = ear m L (λ r. Of r cs) net v x y D vx vy hx hy (λ z o i. e z o (inl i)) only
         go (inr (inl k)) = absurd (bent ne k)
         go (inr (inr D)) =
@@ -139,10 +139,10 @@ module _ (m : ℤ) (L : Flat → Flat → Type 0) (cs : List Flat) (net : Net m 
 
     -- y is lower than x, and r is its other neighbour: r is not on v's side of the chord
     pub near : {t : ℤ} → ((z : Flat) → Of z cs → Hit v x y z → ⊥) → (h x ≡ h y → ⊥) → h y <ℤ h x → (r : Flat) → L r y → h y <ℤ h r
-        → Same t (turn y x r) → Same (turn y x r) (turn v x y)
-    near {t} e ne k r l hr s = go (ways (turn v x y)) s
+        → SameSign t (twiceArea y x r) → SameSign (twiceArea y x r) (twiceArea v x y)
+    near {t} e ne k r l hr s = go (ways (twiceArea v x y)) s
       where
-        go : Up (turn v x y) ⊎ ((turn v x y ≡ pos 0) ⊎ Up (negℤ (turn v x y))) → Same t (turn y x r) → Same (turn y x r) (turn v x y)
+        go : Up (twiceArea v x y) ⊎ ((twiceArea v x y ≡ pos 0) ⊎ Up (negℤ (twiceArea v x y))) → SameSign t (twiceArea y x r) → SameSign (twiceArea y x r) (twiceArea v x y)
         go (inl D) (both a b) = both b D
         go (inl D) (none a b) =
             absurd
@@ -157,10 +157,10 @@ module _ (m : ℤ) (L : Flat → Flat → Type 0) (cs : List Flat) (net : Net m 
 
     -- r is the other neighbour of both
     pub four : {t : ℤ} → ((z : Flat) → Of z cs → Hit v x y z → ⊥) → (h x ≡ h y → ⊥) → (r : Flat) → L r x → L r y → h v <ℤ h r
-        → Same t (turn r y x) → Same (turn r y x) (turn v x y)
-    four {t} e ne r lx ly hr s = go (ways (turn v x y)) s
+        → SameSign t (twiceArea r y x) → SameSign (twiceArea r y x) (twiceArea v x y)
+    four {t} e ne r lx ly hr s = go (ways (twiceArea v x y)) s
       where
-        go : Up (turn v x y) ⊎ ((turn v x y ≡ pos 0) ⊎ Up (negℤ (turn v x y))) → Same t (turn r y x) → Same (turn r y x) (turn v x y)
+        go : Up (twiceArea v x y) ⊎ ((twiceArea v x y ≡ pos 0) ⊎ Up (negℤ (twiceArea v x y))) → SameSign t (twiceArea r y x) → SameSign (twiceArea r y x) (twiceArea v x y)
         go (inl D) (both a b) = both b D
         go (inl D) (none a b) =
             absurd (fourth m L (λ r. Of r cs) net v x y D vx vy hx hy (λ z o i. e z o (inl i)) {r = r} (net .end lx)
@@ -174,13 +174,13 @@ module _ (m : ℤ) (L : Flat → Flat → Type 0) (cs : List Flat) (net : Net m 
             (up-is (spin r y x) b) ly lx hr)
 
     pub choose : (h x ≡ h y → ⊥) → ((q : Flat) → L v q → (q ≡ x) ⊎ (q ≡ y)) → Choice v x y
-    choose ne only = go (ways (turn v x y))
+    choose ne only = go (ways (twiceArea v x y))
       where
         swap : (q : Flat) → (q ≡ x) ⊎ (q ≡ y) → (q ≡ y) ⊎ (q ≡ x)
         swap q (inl e) = inr e
         swap q (inr e) = inl e
 
-        up : Up (turn v x y) → Empty v x y cs ⊎ Best v x y cs → Choice v x y
+        up : Up (twiceArea v x y) → Empty v x y cs ⊎ Best v x y cs → Choice v x y
         up D (inl e) = whole (λ z o. elim-hit z (e z o)) (ear m L (λ r. Of r cs) net v x y D vx vy hx hy e only)
           where
             elim-hit : (z : Flat) → (In v x y z → ⊥) → Hit v x y z → ⊥
@@ -191,7 +191,7 @@ module _ (m : ℤ) (L : Flat → Flat → Type 0) (cs : List Flat) (net : Net m 
             (higher m L (λ r. Of r cs) net v x y D vx vy hx hy (t .w) (t .inn) (t .top))
             (both (t .inn .by-b) D) (both (up-is (spin y v (t .w)) (t .inn .by-a)) D)
 
-        down : Up (turn v y x) → Empty v y x cs ⊎ Best v y x cs → Choice v x y
+        down : Up (twiceArea v y x) → Empty v y x cs ⊎ Best v y x cs → Choice v x y
         down D (inl e) =
             whole (λ z o. elim-hit z (e z o)) (ok-back (ear m L (λ r. Of r cs) net v y x D vy vx hy hx e (λ q l. swap q (only q l))))
           where
@@ -204,7 +204,7 @@ module _ (m : ℤ) (L : Flat → Flat → Type 0) (cs : List Flat) (net : Net m 
             (none (up-is (flip x v (t .w)) (t .inn .by-a)) (up-is (flip-last v y x) D))
             (none (up-is (flip-last v y (t .w)) (t .inn .by-b)) (up-is (flip-last v y x) D))
 
-        go : Up (turn v x y) ⊎ ((turn v x y ≡ pos 0) ⊎ Up (negℤ (turn v x y))) → Choice v x y
+        go : Up (twiceArea v x y) ⊎ ((twiceArea v x y ≡ pos 0) ⊎ Up (negℤ (twiceArea v x y))) → Choice v x y
         go (inl D) = up D (best v x y cs)
         go (inr (inl e)) = absurd (bent ne e)
         go (inr (inr D)) = down (up-is (sym (flip-last v y x)) D) (best v y x cs)

@@ -7,8 +7,8 @@ use native.Mathlib.Omega.{arith}
 use lib.ListN.{length, length-append}
 use lib.IntN.{ℤ}
 use Rattle.paper.specs.declared.Flat.{Flat}
-use Rattle.means_area.specs.Rings.{Of, Pair, Chain, Link}
-use Rattle.means_area.specs.Flats.{turn, Same, lst}
+use Rattle.means_area.specs.Rings.{Of, TheTwo, Chain, Link}
+use Rattle.means_area.specs.Flats.{twiceArea, SameSign, lst}
 use Rattle.means_area.proofs.Flats.Signs.{same-flip, same-trans, same-is, same-is2, same-ne}
 use Rattle.means_area.proofs.Flats.Turns.{flat-second}
 use Rattle.means_area.proofs.Flats.Net.{Ok}
@@ -27,10 +27,10 @@ module _ (m : ℤ) (n : ℕ) (A : Area m n) (R : Rest m n) where
   -- ---- w is behind v: the corners from y up to w are cut off
   cut-y : (u c : Flat) (X : List Flat) (v y : Flat) (Z : List Flat) (w : Flat) (W : List Flat)
       → length (X ++ v ∷ y ∷ (Z ++ w ∷ W)) ≤ suc n → Second m u c X v y (Z ++ w ∷ W)
-      → Chord m u c X v y (Z ++ w ∷ W) w → Same (turn v w (lst c X)) (turn v y (lst c X)) → OneTurn u c X v y (Z ++ w ∷ W)
+      → Chord m u c X v y (Z ++ w ∷ W) w → SameSign (twiceArea v w (lst c X)) (twiceArea v y (lst c X)) → OneTurn u c X v y (Z ++ w ∷ W)
   cut-y u c X v y Z w W b q ok s2 =
       same-trans (same-flip s2)
-      (same-is2 (ap (turn u c) (sym (lst-append y Z w W)))
+      (same-is2 (ap (twiceArea u c) (sym (lst-append y Z w W)))
       (reduced m n A R u c X v w W (omega (arith, e1, e2, e3)) smaller (omega (arith, e1, e2, e3))))
     where
       e1 : length (X ++ v ∷ y ∷ (Z ++ w ∷ W)) ≡ length X + suc (suc (length (Z ++ w ∷ W)))
@@ -51,10 +51,10 @@ module _ (m : ℤ) (n : ℕ) (A : Area m n) (R : Rest m n) where
       sub : Sub (c ∷ (X ++ v ∷ w ∷ W)) (c ∷ (X ++ v ∷ y ∷ (Z ++ w ∷ W)))
       sub = keep (sub-append (sub-all X) (keep late))
 
-      f : (p r : Flat) → Link (u ∷ c ∷ (X ++ v ∷ w ∷ W)) p r → Link g p r ⊎ Pair v w p r
+      f : (p r : Flat) → Link (u ∷ c ∷ (X ++ v ∷ w ∷ W)) p r → Link g p r ⊎ TheTwo v w p r
       f p r t = go (chain-split u (c ∷ X) v (w ∷ W) u p r t)
         where
-          go : Chain u (c ∷ X) v p r ⊎ Chain v (w ∷ W) u p r → Link g p r ⊎ Pair v w p r
+          go : Chain u (c ∷ X) v p r ⊎ Chain v (w ∷ W) u p r → Link g p r ⊎ TheTwo v w p r
           go (inl d) = inl (chain-left u (c ∷ X) v (y ∷ (Z ++ w ∷ W)) u p r d)
           go (inr (inl d)) = inr d
           go (inr (inr d)) = inl (chain-right u (c ∷ X) v (y ∷ (Z ++ w ∷ W)) u p r (chain-right v (y ∷ Z) w W u p r d))
@@ -72,16 +72,16 @@ module _ (m : ℤ) (n : ℕ) (A : Area m n) (R : Rest m n) where
 
   pub cut-behind : (u c : Flat) (X : List Flat) (v y : Flat) (Y : List Flat) (w : Flat) → Split w Y → length (X ++ v ∷ y ∷ Y) ≤ suc n
       → Second m u c X v y Y
-      → Chord m u c X v y Y w → Same (turn v w (lst c X)) (turn v y (lst c X)) → OneTurn u c X v y Y
+      → Chord m u c X v y Y w → SameSign (twiceArea v w (lst c X)) (twiceArea v y (lst c X)) → OneTurn u c X v y Y
   cut-behind u c X v y Y w t =
       subst (λ (Y : List Flat). length (X ++ v ∷ y ∷ Y) ≤ suc n → Second m u c X v y Y → Chord m u c X v y Y w
-      → Same (turn v w (lst c X)) (turn v y (lst c X)) → OneTurn u c X v y Y)
+      → SameSign (twiceArea v w (lst c X)) (twiceArea v y (lst c X)) → OneTurn u c X v y Y)
       (sym (t .is)) (cut-y u c X v y (t .before) w (t .after))
 
   -- ---- w is before v: the corners after w, up to v, are cut off; w is the last of c X
   cut-x : (u c : Flat) (X : List Flat) (x : Flat) (W : List Flat) (v y : Flat) (Y : List Flat)
       → length ((X ++ x ∷ W) ++ v ∷ y ∷ Y) ≤ suc n → Second m u c (X ++ x ∷ W) v y Y
-      → Chord m u c (X ++ x ∷ W) v y Y (lst c X) → Same (turn v y (lst c X)) (turn v y (lst c (X ++ x ∷ W)))
+      → Chord m u c (X ++ x ∷ W) v y Y (lst c X) → SameSign (twiceArea v y (lst c X)) (twiceArea v y (lst c (X ++ x ∷ W)))
       → OneTurn u c (X ++ x ∷ W) v y Y
   cut-x u c X x W v y Y b q ok s1 =
       same-trans (same-flip s1) (reduced m n A R u c X v y Y (omega (arith, e1, e2, e3)) smaller (omega (arith, e1, e2, e3)))
@@ -101,14 +101,14 @@ module _ (m : ℤ) (n : ℕ) (A : Area m n) (R : Rest m n) where
       sub : Sub (c ∷ (X ++ v ∷ y ∷ Y)) (c ∷ ((X ++ x ∷ W) ++ v ∷ y ∷ Y))
       sub = keep (sub-append (sub-left X (x ∷ W)) (sub-all (v ∷ y ∷ Y)))
 
-      f : (p r : Flat) → Link (u ∷ c ∷ (X ++ v ∷ y ∷ Y)) p r → Link g p r ⊎ Pair v (lst c X) p r
+      f : (p r : Flat) → Link (u ∷ c ∷ (X ++ v ∷ y ∷ Y)) p r → Link g p r ⊎ TheTwo v (lst c X) p r
       f p r t = go (chain-split u (c ∷ X) v (y ∷ Y) u p r t)
         where
-          cutoff : Chain u (c ∷ (X ++ x ∷ W)) v p r ⊎ Pair (lst c X) v p r → Link g p r ⊎ Pair v (lst c X) p r
+          cutoff : Chain u (c ∷ (X ++ x ∷ W)) v p r ⊎ TheTwo (lst c X) v p r → Link g p r ⊎ TheTwo v (lst c X) p r
           cutoff (inl d) = inl (chain-left u (c ∷ (X ++ x ∷ W)) v (y ∷ Y) u p r d)
           cutoff (inr d) = inr (pair-swap (lst c X) v p r d)
 
-          go : Chain u (c ∷ X) v p r ⊎ Chain v (y ∷ Y) u p r → Link g p r ⊎ Pair v (lst c X) p r
+          go : Chain u (c ∷ X) v p r ⊎ Chain v (y ∷ Y) u p r → Link g p r ⊎ TheTwo v (lst c X) p r
           go (inl d) = cutoff (chain-cut u (c ∷ X) v x W v p r d)
           go (inr d) = inl (chain-right u (c ∷ (X ++ x ∷ W)) v (y ∷ Y) u p r d)
 
@@ -125,17 +125,17 @@ module _ (m : ℤ) (n : ℕ) (A : Area m n) (R : Rest m n) where
 
   abbrev Before : Flat → Flat → List Flat → Flat → Flat → List Flat → Flat → Type 0
   Before u c X v y Y w =
-      length (X ++ v ∷ y ∷ Y) ≤ suc n → Second m u c X v y Y → Chord m u c X v y Y w → Same (turn v y w) (turn v y (lst c X))
-      → Same (turn v w (lst c X)) (turn v y (lst c X)) → OneTurn u c X v y Y
+      length (X ++ v ∷ y ∷ Y) ≤ suc n → Second m u c X v y Y → Chord m u c X v y Y w → SameSign (twiceArea v y w) (twiceArea v y (lst c X))
+      → SameSign (twiceArea v w (lst c X)) (twiceArea v y (lst c X)) → OneTurn u c X v y Y
 
   pub cut-before : (u c : Flat) (X : List Flat) (v y : Flat) (Y : List Flat) (w : Flat) → Prefix w c X → length (X ++ v ∷ y ∷ Y) ≤ suc n
       → Second m u c X v y Y
-      → Chord m u c X v y Y w → Same (turn v y w) (turn v y (lst c X)) → Same (turn v w (lst c X)) (turn v y (lst c X))
+      → Chord m u c X v y Y w → SameSign (twiceArea v y w) (twiceArea v y (lst c X)) → SameSign (twiceArea v w (lst c X)) (twiceArea v y (lst c X))
       → OneTurn u c X v y Y
   cut-before u c X v y Y w t = subst (λ (X : List Flat). Before u c X v y Y w) (sym (t .is)) (go (t .upto) (t .rest) (t .last))
     where
       go : (X W : List Flat) → lst c X ≡ w → Before u c (X ++ W) v y Y w
-      go X [] e b q ok s1 s2 = absurd (same-ne s2 (ap (turn v w) (lst-nil c X ∙ e) ∙ flat-second v w))
+      go X [] e b q ok s1 s2 = absurd (same-ne s2 (ap (twiceArea v w) (lst-nil c X ∙ e) ∙ flat-second v w))
       go X (x ∷ W) e b q ok s1 s2 =
           cut-x u c X x W v y Y b q (subst (λ (z : Flat). Chord m u c (X ++ x ∷ W) v y Y z) (sym e) ok)
-          (same-is (ap (turn v y) (sym e)) s1)
+          (same-is (ap (twiceArea v y) (sym e)) s1)

@@ -8,8 +8,8 @@ use lib.ListN.{length}
 use lib.IntN.{ℤ, pos}
 use lib.Signed.{_<ℤ_}
 use Rattle.paper.specs.declared.Flat.{Flat}
-use Rattle.means_area.specs.Rings.{Of, Pair, Chain, Link}
-use Rattle.means_area.specs.Flats.{turn, height, Fresh, Distinct, Simple, Least, area, Same, lst}
+use Rattle.means_area.specs.Rings.{Of, TheTwo, Chain, Link}
+use Rattle.means_area.specs.Flats.{twiceArea, height, Fresh, Distinct, Simple, Least, area, SameSign, lst}
 use Rattle.means_area.proofs.Flats.Choice.{Hit, Choice, bent, ear-ok, choose}
 use Rattle.means_area.proofs.Flats.Lowest.{pair-swap}
 use Rattle.means_area.proofs.Flats.Chains.{lst-of, link-back, chain-last, chain-end, narrow}
@@ -19,10 +19,10 @@ abbrev pub Free : Flat → Flat → Flat → List Flat → Type 0
 Free u c a g = (z : Flat) → Of z g → Hit u c a z → ⊥
 
 -- the links of a ring without its first corner
-pub rest-link : (v x : Flat) (l : List Flat) (p q : Flat) → Link (x ∷ l) p q → Link (v ∷ x ∷ l) p q ⊎ Pair x (lst x l) p q
+pub rest-link : (v x : Flat) (l : List Flat) (p q : Flat) → Link (x ∷ l) p q → Link (v ∷ x ∷ l) p q ⊎ TheTwo x (lst x l) p q
 rest-link v x l p q t = go (chain-end x l x v p q t)
   where
-    go : Chain x l v p q ⊎ Pair (lst x l) x p q → Link (v ∷ x ∷ l) p q ⊎ Pair x (lst x l) p q
+    go : Chain x l v p q ⊎ TheTwo (lst x l) x p q → Link (v ∷ x ∷ l) p q ⊎ TheTwo x (lst x l) p q
     go (inl d) = inl (inr d)
     go (inr d) = inr (pair-swap (lst x l) x p q d)
 
@@ -59,7 +59,7 @@ module _ (m : ℤ) where
         choose m (Link (u ∷ c ∷ l)) (u ∷ c ∷ l) (s .net) u c (lst c l) (first-link u c l) (last-link u c l) hc ha
         (ends-apart u c l k (s .apart)) (only-first u c l (s .apart .0))
 
-    pub not-flat : turn u c (lst c l) ≡ pos 0 → ⊥
+    pub not-flat : twiceArea u c (lst c l) ≡ pos 0 → ⊥
     not-flat =
         bent m (Link (u ∷ c ∷ l)) (u ∷ c ∷ l) (s .net) u c (lst c l) (first-link u c l) (last-link u c l) hc ha
         (ends-apart u c l k (s .apart))
@@ -76,10 +76,10 @@ module _ (m : ℤ) where
   abbrev pub Area : ℕ → Type 0
   Area n =
       (u c : Flat) (l : List Flat) → length l ≤ n → 1 ≤ length l → Simple m (u ∷ c ∷ l) → Least m u (c ∷ l)
-      → Same (area (u ∷ c ∷ l)) (turn u c (lst c l))
+      → SameSign (area (u ∷ c ∷ l)) (twiceArea u c (lst c l))
 
   -- what is left without u has it too, where the triangle at u is empty
   abbrev pub Rest : ℕ → Type 0
   Rest n =
       (u c : Flat) (l : List Flat) → length l ≤ n → 2 ≤ length l → Simple m (u ∷ c ∷ l) → Least m u (c ∷ l)
-      → Free u c (lst c l) (u ∷ c ∷ l) → Same (area (c ∷ l)) (turn u c (lst c l))
+      → Free u c (lst c l) (u ∷ c ∷ l) → SameSign (area (c ∷ l)) (twiceArea u c (lst c l))

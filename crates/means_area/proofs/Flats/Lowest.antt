@@ -9,7 +9,7 @@ use lib.IntN.{ℤ}
 use lib.Signed.{_<ℤ_}
 use Rattle.exact.proofs.Order.{lt-chain}
 use Rattle.paper.specs.declared.Flat.{Flat}
-use Rattle.means_area.specs.Rings.{Of, Pair}
+use Rattle.means_area.specs.Rings.{Of, TheTwo}
 use Rattle.means_area.specs.Flats.{height, Distinct, Least, lst}
 use Rattle.means_area.proofs.Flats.Choice.{compare}
 use Rattle.means_area.proofs.Flats.Chains.{Sub, keep, sub-none, of-append, of-right}
@@ -55,7 +55,7 @@ pub sub-left : (l r : List Flat) → Sub l (l ++ r)
 sub-left [] r = sub-none r
 sub-left (x ∷ l) r = keep (sub-left l r)
 
-pub pair-swap : (x y p q : Flat) → Pair x y p q → Pair y x p q
+pub pair-swap : (x y p q : Flat) → TheTwo x y p q → TheTwo y x p q
 pair-swap x y p q (inl t) = inr t
 pair-swap x y p q (inr t) = inl t
 

@@ -10,7 +10,7 @@ use lib.Signed.{_<ℤ_, <ℤ-irrefl}
 use Rattle.exact.proofs.Order.{lt-chain}
 use Rattle.paper.specs.declared.Flat.{Flat}
 use Rattle.means_area.specs.Rings.{Of, Link}
-use Rattle.means_area.specs.Flats.{turn, height, Simple, Least, area, Same, lst}
+use Rattle.means_area.specs.Flats.{twiceArea, height, Simple, Least, area, SameSign, lst}
 use Rattle.means_area.proofs.Flats.Signs.{same-trans, same-is, same-is2, same-ne, same-neg}
 use Rattle.means_area.proofs.Flats.Turns.{flip-last, flat-second}
 use Rattle.means_area.proofs.Flats.Choice.{Hit, Choice, whole, cut, near}
@@ -46,17 +46,17 @@ module _ (m : ℤ) (n : ℕ) (A : Area m n) (R : Rest m n) where
           pick (inl j) = without m n A R u c X v y Y b q e' ok j
           pick (inr j) = square m n A R u c X v y Y b q (j .0) (j .1)
       go (cut w (inl e) ok hw s1 s2) = absurd (<ℤ-irrefl (subst (λ (z : Flat). h v <ℤ h z) e hw))
-      go (cut w (inr (inl e)) ok hw s1 s2) = absurd (same-ne s1 (ap (turn v y) e ∙ flat-second v y))
+      go (cut w (inr (inl e)) ok hw s1 s2) = absurd (same-ne s1 (ap (twiceArea v y) e ∙ flat-second v y))
       go (cut w (inr (inr i)) ok hw s1 s2) = place (of-append w Y (u ∷ c ∷ X) i)
         where
           chord : Chord m u c X v y Y w
           chord = ok-turned m u (c ∷ X) v (y ∷ Y) v w ok
 
-          t1 : Same (turn v y w) (turn v y (lst c X))
-          t1 = same-is2 (ap (turn v y) xi) s1
+          t1 : SameSign (twiceArea v y w) (twiceArea v y (lst c X))
+          t1 = same-is2 (ap (twiceArea v y) xi) s1
 
-          t2 : Same (turn v w (lst c X)) (turn v y (lst c X))
-          t2 = same-is2 (ap (turn v y) xi) (same-is (ap (turn v w) xi) s2)
+          t2 : SameSign (twiceArea v w (lst c X)) (twiceArea v y (lst c X))
+          t2 = same-is2 (ap (twiceArea v y) xi) (same-is (ap (twiceArea v w) xi) s2)
 
           place : Of w Y ⊎ Of w (u ∷ c ∷ X) → OneTurn u c X v y Y
           place (inl p) = cut-behind m n A R u c X v y Y w (of-split w Y p) b q chord t2
@@ -66,7 +66,7 @@ module _ (m : ℤ) (n : ℕ) (A : Area m n) (R : Rest m n) where
   -- ---- it is the next corner
   rest-next : (u c d : Flat) (l : List Flat) → length (d ∷ l) ≤ suc n → 2 ≤ length (d ∷ l) → Simple m (u ∷ c ∷ d ∷ l)
       → Least m u (c ∷ d ∷ l) → Free u c (lst d l) (u ∷ c ∷ d ∷ l) → Least m c (d ∷ l)
-      → Same (area (c ∷ d ∷ l)) (turn u c (lst d l))
+      → SameSign (area (c ∷ d ∷ l)) (twiceArea u c (lst d l))
   rest-next u c d l b j s low e lc =
       let a = lst d l in
       let g = u ∷ c ∷ d ∷ l in
@@ -74,8 +74,8 @@ module _ (m : ℤ) (n : ℕ) (A : Area m n) (R : Rest m n) where
       let ha = low a (inr (lst-of d l)) in
       let ne = ends-apart m u c (d ∷ l) (omega arith) (s .apart) in
       let i = ear-simple m u c (d ∷ l) (omega arith) s hc ha e in
-      let t : Same (area (c ∷ d ∷ l)) (turn c d a) = A c d l (omega arith) (omega arith) i lc in
-      let t' : Same (negℤ (area (c ∷ d ∷ l))) (turn c a d) = same-is2 (sym (flip-last c a d)) (same-neg t) in
+      let t : SameSign (area (c ∷ d ∷ l)) (twiceArea c d a) = A c d l (omega arith) (omega arith) i lc in
+      let t' : SameSign (negℤ (area (c ∷ d ∷ l))) (twiceArea c a d) = same-is2 (sym (flip-last c a d)) (same-neg t) in
       let r = near m (Link g) g (s .net) u a c (last-link m u c (d ∷ l)) (first-link m u c (d ∷ l)) ha hc (λ z o j. e z o (swap z j))
       (λ q. ne (sym q)) (lc a (lst-of d l)) d (inr (inl (inr (refl, refl))))
       (lc d (inl refl)) t' in
@@ -89,7 +89,7 @@ module _ (m : ℤ) (n : ℕ) (A : Area m n) (R : Rest m n) where
   rest-last : (u c : Flat) (X : List Flat) (v : Flat) → length (X ++ v ∷ []) ≤ suc n → 2 ≤ length (X ++ v ∷ [])
       → Simple m (u ∷ c ∷ (X ++ v ∷ [])) → Least m u (c ∷ (X ++ v ∷ []))
       → Free u c (lst c (X ++ v ∷ [])) (u ∷ c ∷ (X ++ v ∷ [])) → Least m v (c ∷ X)
-      → Same (area (c ∷ (X ++ v ∷ []))) (turn u c (lst c (X ++ v ∷ [])))
+      → SameSign (area (c ∷ (X ++ v ∷ []))) (twiceArea u c (lst c (X ++ v ∷ [])))
   rest-last u c X v b j s low e lv =
       let l = X ++ v ∷ [] in
       let g = u ∷ c ∷ l in
@@ -104,27 +104,27 @@ module _ (m : ℤ) (n : ℕ) (A : Area m n) (R : Rest m n) where
       (subst (λ (z : Flat). h u <ℤ h z) vi ha)
       (subst (λ (z : Flat). Free u c z g) vi e) (λ p. ends-apart m u c l one (s .apart) (p ∙ ap h (sym vi))) (lv c (inl refl)) (lst c X)
       (chain-left u (c ∷ X) v [] u (lst c X) v (chain-last u (c ∷ X) v)) (lv (lst c X) (lst-of c X)) t in
-      same-is (sym (area-turned c X v [])) (same-is2 (ap (turn u c) (sym vi)) (same-trans t r))
+      same-is (sym (area-turned c X v [])) (same-is2 (ap (twiceArea u c) (sym vi)) (same-trans t r))
 
   -- ---- the three places
   found : (u c : Flat) (X : List Flat) (v : Flat) (Y : List Flat) → length (X ++ v ∷ Y) ≤ suc n → 2 ≤ length (X ++ v ∷ Y)
       → Simple m (u ∷ c ∷ (X ++ v ∷ Y)) → Least m u (c ∷ (X ++ v ∷ Y))
       → Free u c (lst c (X ++ v ∷ Y)) (u ∷ c ∷ (X ++ v ∷ Y)) → Least m v (c ∷ X) → Least m v Y
-      → Same (area (c ∷ (X ++ v ∷ Y))) (turn u c (lst c (X ++ v ∷ Y)))
+      → SameSign (area (c ∷ (X ++ v ∷ Y))) (twiceArea u c (lst c (X ++ v ∷ Y)))
   found u c X v [] b j s low e lc ly = rest-last u c X v b j s low e lc
   found u c X v (y ∷ Y) b j s low e lc ly =
       let li = lst-append c X v (y ∷ Y) in
       let q : Second m u c X v y Y = record
       { simple = s; low = low; empty = subst (λ (a : Flat). Free u c a (u ∷ c ∷ (X ++ v ∷ y ∷ Y))) li e; low-c = lc; low-y = ly } in
-      same-is2 (ap (turn u c) (sym li)) (same-trans (at-v m n A R u c X v y Y b q) (middle u c X v y Y b q))
+      same-is2 (ap (twiceArea u c) (sym li)) (same-trans (at-v m n A R u c X v y Y b q) (middle u c X v y Y b q))
 
   pub rest-step : Rest m (suc n)
   rest-step u c [] b j s low e = absurd (omega arith)
   rest-step u c (d ∷ l) b j s low e = go (lowest m c (d ∷ l) (s .apart .1))
     where
-      go : Least m c (d ∷ l) ⊎ Found m c (d ∷ l) → Same (area (c ∷ d ∷ l)) (turn u c (lst d l))
+      go : Least m c (d ∷ l) ⊎ Found m c (d ∷ l) → SameSign (area (c ∷ d ∷ l)) (twiceArea u c (lst d l))
       go (inl lc) = rest-next u c d l b j s low e lc
       go (inr f) =
           subst (λ (r : List Flat). length r ≤ suc n → 2 ≤ length r → Simple m (u ∷ c ∷ r) → Least m u (c ∷ r)
-          → Free u c (lst c r) (u ∷ c ∷ r) → Same (area (c ∷ r)) (turn u c (lst c r)))
+          → Free u c (lst c r) (u ∷ c ∷ r) → SameSign (area (c ∷ r)) (twiceArea u c (lst c r)))
           (sym (f .is)) (λ b j s low e. found u c (f .before) (f .v) (f .after) b j s low e (f .low) (f .low')) b j s low e

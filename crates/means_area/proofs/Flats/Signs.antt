@@ -9,7 +9,7 @@ use Rattle.exact.proofs.Ring.{var, con, _⊕_, _⊖_, _⊗_, neg, ring}
 use Rattle.exact.proofs.Linear.{le-by, lt-by, le-to, lt-to}
 use Rattle.exact.proofs.Signs.{lt-or-ge, <ℤ-≤ℤ}
 use Rattle.exact.proofs.Order.{sub-pos, three-ways, lt-cancel, le-cancel}
-use Rattle.means_area.specs.Flats.{Up, Nn, Same, both, none}
+use Rattle.means_area.specs.Flats.{Up, Nn, SameSign, both, none}
 
 pub up-is : {x y : ℤ} → x ≡ y → Up x → Up y
 up-is e h = subst (λ (z : ℤ). Up z) e h
@@ -72,38 +72,38 @@ diff-up a b h = let ρ = a ∷ b ∷ [] in lt-by ρ (var 0) (var 1) (omega (arit
 
 -- ---- one sign
 
-pub same-flip : {a b : ℤ} → Same a b → Same b a
+pub same-flip : {a b : ℤ} → SameSign a b → SameSign b a
 same-flip (both h k) = both k h
 same-flip (none h k) = none k h
 
-pub same-trans : {a b c : ℤ} → Same a b → Same b c → Same a c
+pub same-trans : {a b c : ℤ} → SameSign a b → SameSign b c → SameSign a c
 same-trans (both h k) (both l m) = both h m
 same-trans (both h k) (none l m) = absurd (off k (up-nn l))
 same-trans (none h k) (both l m) = absurd (off l (up-nn k))
 same-trans (none h k) (none l m) = none h m
 
-pub same-add : {a b c : ℤ} → Same a c → Same b c → Same (a +ℤ b) c
+pub same-add : {a b c : ℤ} → SameSign a c → SameSign b c → SameSign (a +ℤ b) c
 same-add (both h k) (both l m) = both (up-add h (up-nn l)) k
 same-add (both h k) (none l m) = absurd (off k (up-nn m))
 same-add (none h k) (both l m) = absurd (off m (up-nn k))
 same-add {a} {b} {c} (none h k) (none l m) =
     none (up-is (ring (a ∷ b ∷ []) (neg (var 0) ⊕ neg (var 1)) (neg (var 0 ⊕ var 1)) tt) (up-add h (up-nn l))) k
 
-pub same-is : {a b c : ℤ} → a ≡ b → Same a c → Same b c
-same-is {a} {b} {c} e s = subst (λ (z : ℤ). Same z c) e s
+pub same-is : {a b c : ℤ} → a ≡ b → SameSign a c → SameSign b c
+same-is {a} {b} {c} e s = subst (λ (z : ℤ). SameSign z c) e s
 
-pub same-is2 : {a b c : ℤ} → b ≡ c → Same a b → Same a c
-same-is2 {a} {b} {c} e s = subst (λ (z : ℤ). Same a z) e s
+pub same-is2 : {a b c : ℤ} → b ≡ c → SameSign a b → SameSign a c
+same-is2 {a} {b} {c} e s = subst (λ (z : ℤ). SameSign a z) e s
 
-pub same-ne : {a b : ℤ} → Same a b → a ≡ pos 0 → ⊥
+pub same-ne : {a b : ℤ} → SameSign a b → a ≡ pos 0 → ⊥
 same-ne (both h k) e = zero-off e h
 same-ne {a} (none h k) e = zero-off (ap negℤ e) h
 
 -- with itself, where it is not 0
-pub same-self : {x : ℤ} → (x ≡ pos 0 → ⊥) → Same x x
+pub same-self : {x : ℤ} → (x ≡ pos 0 → ⊥) → SameSign x x
 same-self {x} n = go (ways x)
   where
-    go : Up x ⊎ ((x ≡ pos 0) ⊎ Up (negℤ x)) → Same x x
+    go : Up x ⊎ ((x ≡ pos 0) ⊎ Up (negℤ x)) → SameSign x x
     go (inl h) = both h h
     go (inr (inl e)) = absurd (n e)
     go (inr (inr h)) = none h h
@@ -111,6 +111,6 @@ same-self {x} n = go (ways x)
 pub twice : (x : ℤ) → negℤ (negℤ x) ≡ x
 twice x = ring (x ∷ []) (neg (neg (var 0))) (var 0) tt
 
-pub same-neg : {x y : ℤ} → Same x y → Same (negℤ x) (negℤ y)
+pub same-neg : {x y : ℤ} → SameSign x y → SameSign (negℤ x) (negℤ y)
 same-neg {x} {y} (both h k) = none (up-is (sym (twice x)) h) (up-is (sym (twice y)) k)
 same-neg (none h k) = both h k

@@ -23,7 +23,7 @@ use Rattle.paper.specs.declared.Point.{Point}
 use Rattle.paper_laws.proofs.Vectors.{num, vec, x, _-s_, v, _+v_, _-v_, _*v_, vring}
 use Rattle.means_drawing.specs.Segments.{Between, Common}
 use Rattle.means_drawing.proofs.Segments.{onOpen-means, openMeets-means}
-use Rattle.means_drawing.specs.Drawings.{start, stop, from, to, Vertex, HasEdge, Joined, Meets, vertex, other}
+use Rattle.means_drawing.specs.Drawings.{start, stop, lowEnd, highEnd, Vertex, HasEdge, Joined, Meets, vertex, other}
 
 -- ---- segments from their other ends
 
@@ -92,7 +92,7 @@ common-turned a b c d t =
 module _ (d : Wire) where
   -- ---- 13 finds nothing: an edge whose ends are at two points meets nothing
 
-  module _ (r13 : edgeMeets d ≡ none) (e : ℕ) (h : HasEdge d e) (long : at d (from d e) ≡ at d (to d e) → ⊥) where
+  module _ (r13 : edgeMeets d ≡ none) (e : ℕ) (h : HasEdge d e) (long : at d (lowEnd d e) ≡ at d (highEnd d e) → ⊥) where
     abbrev onVertex : Bool
     onVertex = any (vertexOn d (edgeAt d e)) (upto (length (d .vertices)))
 
@@ -113,7 +113,7 @@ module _ (d : Wire) where
     clean (vertex w k t) =
         nothing (or-left onVertex (any others (upto (length (d .edges))))
         (some-is (vertexOn d (edgeAt d e)) (length (d .vertices)) w k
-        (on-is (edgeAt d e) ∙ onOpen-means (at d (from d e)) (at d (to d e)) (at d w) long .1 t)))
+        (on-is (edgeAt d e) ∙ onOpen-means (at d (lowEnd d e)) (at d (highEnd d e)) (at d w) long .1 t)))
       where
         on-is : (e : Edge) → vertexOn d e w ≡ onOpen (at d (start e)) (at d (stop e)) (at d w)
         on-is (edge a b) = unfold vertexOn in refl
@@ -121,15 +121,15 @@ module _ (d : Wire) where
         nothing (or-right onVertex (any others (upto (length (d .edges))))
         (some-is others (length (d .edges)) f k
         (and-both (ap not (ne-eqb e f ne))
-        (meet-is (edgeAt d e) (edgeAt d f) ∙ openMeets-means (at d (from d e)) (at d (to d e)) (at d (from d f)) (at d (to d f)) long .1
+        (meet-is (edgeAt d e) (edgeAt d f) ∙ openMeets-means (at d (lowEnd d e)) (at d (highEnd d e)) (at d (lowEnd d f)) (at d (highEnd d f)) long .1
         t))))
       where
         meet-is : (e f : Edge) → edgesMeet d e f ≡ openMeets (at d (start e)) (at d (stop e)) (at d (start f)) (at d (stop f))
         meet-is (edge a b) (edge u w) = unfold edgesMeet in refl
 
   -- the ends of a joined pair
-  ends-two : (u w e : ℕ) → ((u ≡ from d e) × (w ≡ to d e)) ⊎ ((u ≡ to d e) × (w ≡ from d e)) → (at d u ≡ at d w → ⊥)
-      → at d (from d e) ≡ at d (to d e) → ⊥
+  ends-two : (u w e : ℕ) → ((u ≡ lowEnd d e) × (w ≡ highEnd d e)) ⊎ ((u ≡ highEnd d e) × (w ≡ lowEnd d e)) → (at d u ≡ at d w → ⊥)
+      → at d (lowEnd d e) ≡ at d (highEnd d e) → ⊥
   ends-two u w e (inl p) ne q = ne (ap (at d) (p .0) ∙ q ∙ ap (at d) (sym (p .1)))
   ends-two u w e (inr p) ne q = ne (ap (at d) (p .0) ∙ sym q ∙ ap (at d) (sym (p .1)))
 
@@ -140,14 +140,14 @@ module _ (d : Wire) where
         e : ℕ
         e = j .0
 
-        go : ((u ≡ from d e) × (w ≡ to d e)) ⊎ ((u ≡ to d e) × (w ≡ from d e)) → ⊥
+        go : ((u ≡ lowEnd d e) × (w ≡ highEnd d e)) ⊎ ((u ≡ highEnd d e) × (w ≡ lowEnd d e)) → ⊥
         go (inl q) =
             clean r13 e (j .1) (ends-two u w e (j .2) ne)
             (vertex z h
-            (subst (λ (y : ℕ). Between (at d y) (at d (to d e)) (at d z)) (q .0)
+            (subst (λ (y : ℕ). Between (at d y) (at d (highEnd d e)) (at d z)) (q .0)
             (subst (λ (y : ℕ). Between (at d u) (at d y) (at d z)) (q .1) t)))
-        go (inr q) = clean r13 e (j .1) (ends-two u w e (j .2) ne) (vertex z h (between-back (at d (to d e)) (at d (from d e)) (at d z)
-            (subst (λ (y : ℕ). Between (at d y) (at d (from d e)) (at d z)) (q .0)
+        go (inr q) = clean r13 e (j .1) (ends-two u w e (j .2) ne) (vertex z h (between-back (at d (highEnd d e)) (at d (lowEnd d e)) (at d z)
+            (subst (λ (y : ℕ). Between (at d y) (at d (lowEnd d e)) (at d z)) (q .0)
             (subst (λ (y : ℕ). Between (at d u) (at d y) (at d z)) (q .1) t))))
 
     pub crossing : (u w y z : ℕ) → Joined d u w → (at d u ≡ at d w → ⊥) → Joined d y z → (u ≡ y → ⊥) → (u ≡ z → ⊥)
@@ -160,29 +160,29 @@ module _ (d : Wire) where
         f : ℕ
         f = l .0
 
-        meet : ((u ≡ from d e) ⊎ (u ≡ to d e)) → ((y ≡ from d f) × (z ≡ to d f)) ⊎ ((y ≡ to d f) × (z ≡ from d f)) → e ≡ f → ⊥
-        meet (inl p) (inl q) s = n1 (p ∙ ap (from d) s ∙ sym (q .0))
-        meet (inl p) (inr q) s = n2 (p ∙ ap (from d) s ∙ sym (q .1))
-        meet (inr p) (inl q) s = n2 (p ∙ ap (to d) s ∙ sym (q .1))
-        meet (inr p) (inr q) s = n1 (p ∙ ap (to d) s ∙ sym (q .0))
+        meet : ((u ≡ lowEnd d e) ⊎ (u ≡ highEnd d e)) → ((y ≡ lowEnd d f) × (z ≡ highEnd d f)) ⊎ ((y ≡ highEnd d f) × (z ≡ lowEnd d f)) → e ≡ f → ⊥
+        meet (inl p) (inl q) s = n1 (p ∙ ap (lowEnd d) s ∙ sym (q .0))
+        meet (inl p) (inr q) s = n2 (p ∙ ap (lowEnd d) s ∙ sym (q .1))
+        meet (inr p) (inl q) s = n2 (p ∙ ap (highEnd d) s ∙ sym (q .1))
+        meet (inr p) (inr q) s = n1 (p ∙ ap (highEnd d) s ∙ sym (q .0))
 
         second : (a b : ℕ) → Common (at d a) (at d b) (at d y) (at d z)
-            → ((y ≡ from d f) × (z ≡ to d f)) ⊎ ((y ≡ to d f) × (z ≡ from d f))
-            → Common (at d a) (at d b) (at d (from d f)) (at d (to d f))
+            → ((y ≡ lowEnd d f) × (z ≡ highEnd d f)) ⊎ ((y ≡ highEnd d f) × (z ≡ lowEnd d f))
+            → Common (at d a) (at d b) (at d (lowEnd d f)) (at d (highEnd d f))
         second a b c (inl q) =
-            subst (λ (i : ℕ). Common (at d a) (at d b) (at d i) (at d (to d f))) (q .0)
+            subst (λ (i : ℕ). Common (at d a) (at d b) (at d i) (at d (highEnd d f))) (q .0)
             (subst (λ (i : ℕ). Common (at d a) (at d b) (at d y) (at d i)) (q .1) c)
-        second a b c (inr q) = common-turned (at d a) (at d b) (at d (to d f)) (at d (from d f))
-            (subst (λ (i : ℕ). Common (at d a) (at d b) (at d i) (at d (from d f))) (q .0)
+        second a b c (inr q) = common-turned (at d a) (at d b) (at d (highEnd d f)) (at d (lowEnd d f))
+            (subst (λ (i : ℕ). Common (at d a) (at d b) (at d i) (at d (lowEnd d f))) (q .0)
             (subst (λ (i : ℕ). Common (at d a) (at d b) (at d y) (at d i)) (q .1) c))
 
-        go : ((u ≡ from d e) × (w ≡ to d e)) ⊎ ((u ≡ to d e) × (w ≡ from d e))
-            → ((y ≡ from d f) × (z ≡ to d f)) ⊎ ((y ≡ to d f) × (z ≡ from d f)) → ⊥
+        go : ((u ≡ lowEnd d e) × (w ≡ highEnd d e)) ⊎ ((u ≡ highEnd d e) × (w ≡ lowEnd d e))
+            → ((y ≡ lowEnd d f) × (z ≡ highEnd d f)) ⊎ ((y ≡ highEnd d f) × (z ≡ lowEnd d f)) → ⊥
         go (inl p) q = clean r13 e (j .1) (ends-two u w e (j .2) ne) (other f (l .1) (meet (inl (p .0)) q)
-            (second (from d e) (to d e)
-            (subst (λ (i : ℕ). Common (at d i) (at d (to d e)) (at d y) (at d z)) (p .0)
+            (second (lowEnd d e) (highEnd d e)
+            (subst (λ (i : ℕ). Common (at d i) (at d (highEnd d e)) (at d y) (at d z)) (p .0)
             (subst (λ (i : ℕ). Common (at d u) (at d i) (at d y) (at d z)) (p .1) t)) q))
         go (inr p) q = clean r13 e (j .1) (ends-two u w e (j .2) ne) (other f (l .1) (meet (inr (p .0)) q)
-            (second (from d e) (to d e) (common-back (at d (to d e)) (at d (from d e)) (at d y) (at d z)
-            (subst (λ (i : ℕ). Common (at d i) (at d (from d e)) (at d y) (at d z)) (p .0)
+            (second (lowEnd d e) (highEnd d e) (common-back (at d (highEnd d e)) (at d (lowEnd d e)) (at d y) (at d z)
+            (subst (λ (i : ℕ). Common (at d i) (at d (lowEnd d e)) (at d y) (at d z)) (p .0)
             (subst (λ (i : ℕ). Common (at d u) (at d i) (at d y) (at d z)) (p .1) t))) q))

@@ -11,7 +11,7 @@ use Rattle.means_drawing.specs.Drawings.{start, stop, Joined}
 use Rattle.means_solid.specs.Solid.{Goes}
 use Rattle.means_solid.proofs.Goes.{goes-next, goes-last}
 use Rattle.means_loops.specs.Path.{EdgeOf, ClosedPath}
-use Rattle.means_area.specs.Rings.{Of, Pair, Chain, Link}
+use Rattle.means_area.specs.Rings.{Of, TheTwo, Chain, Link}
 
 module _ {A : Type 0} (z : A) where
   -- what is of a list has a place in it
@@ -22,14 +22,14 @@ module _ {A : Type 0} (z : A) where
 
   -- neighbours on a way follow each other, or are its last and its end
   chain-place : (x : A) (l : List A) (e p q : A) → Chain x l e p q
-      → ((i : ℕ) × (i < length l) × Pair (getD (x ∷ l) i z) (getD l i z) p q) ⊎ Pair (getD (x ∷ l) (length l) z) e p q
+      → ((i : ℕ) × (i < length l) × TheTwo (getD (x ∷ l) i z) (getD l i z) p q) ⊎ TheTwo (getD (x ∷ l) (length l) z) e p q
   chain-place x [] e p q c = inr c
   chain-place x (y ∷ l) e p q (inl c) = inl (0, omega arith, c)
   chain-place x (y ∷ l) e p q (inr c) = step (chain-place y l e p q c)
     where
-      step : ((i : ℕ) × (i < length l) × Pair (getD (y ∷ l) i z) (getD l i z) p q) ⊎ Pair (getD (y ∷ l) (length l) z) e p q
-          → ((i : ℕ) × (i < length (y ∷ l)) × Pair (getD (x ∷ y ∷ l) i z) (getD (y ∷ l) i z) p q)
-          ⊎ Pair (getD (x ∷ y ∷ l) (length (y ∷ l)) z) e p q
+      step : ((i : ℕ) × (i < length l) × TheTwo (getD (y ∷ l) i z) (getD l i z) p q) ⊎ TheTwo (getD (y ∷ l) (length l) z) e p q
+          → ((i : ℕ) × (i < length (y ∷ l)) × TheTwo (getD (x ∷ y ∷ l) i z) (getD (y ∷ l) i z) p q)
+          ⊎ TheTwo (getD (x ∷ y ∷ l) (length (y ∷ l)) z) e p q
       step (inl (i, h, t)) = inl (suc i, omega arith, t)
       step (inr t) = inr t
 
@@ -46,7 +46,7 @@ module _ (d : Wire) where
   by-edge a b (e, h, inl p) = (e, h, inl (sym (ap start p), sym (ap stop p)))
   by-edge a b (e, h, inr p) = (e, h, inr (sym (ap stop p), sym (ap start p)))
 
-  by-pair : (a b u w : ℕ) → Side a b → Pair a b u w → Side u w
+  by-pair : (a b u w : ℕ) → Side a b → TheTwo a b u w → Side u w
   by-pair a b u w s (inl (p, q)) = subst (λ (x : ℕ). Side x w) (sym p) (subst (λ (x : ℕ). Side a x) (sym q) s)
   by-pair a b u w s (inr (p, q)) =
       subst (λ (x : ℕ). Side x w) (sym p)
@@ -73,7 +73,7 @@ module _ (d : Wire) where
           let e : length (x ∷ r) - 1 ≡ length r = omega arith in
           subst (λ (i : ℕ). Goes (x ∷ r) (getD (x ∷ r) i 0) x) e (goes-last (x ∷ r) (omega arith))
 
-      go : ((i : ℕ) × (i < length r) × Pair (getD (x ∷ r) i 0) (getD r i 0) u w) ⊎ Pair (getD (x ∷ r) (length r) 0) x u w → Side u w
+      go : ((i : ℕ) × (i < length r) × TheTwo (getD (x ∷ r) i 0) (getD r i 0) u w) ⊎ TheTwo (getD (x ∷ r) (length r) 0) x u w → Side u w
       go (inl (i, h, t)) =
           by-pair (getD (x ∷ r) i 0) (getD r i 0) u w
           (at i (suc i) (omega arith) (omega arith) (λ e. omega arith) (goes-next (x ∷ r) i (omega arith))) t

@@ -13,7 +13,7 @@ use Rattle.means_drawing.proofs.Drawings.{samePlace-means}
 use Rattle.means_solid.specs.Proper as proper
 use Rattle.means_loops.specs.Path.{ClosedPath}
 use Rattle.means_area.specs.Rings.{Of, Link}
-use Rattle.means_area.specs.Space.{Different, Clear}
+use Rattle.means_area.specs.Space.{DifferentPoints, SimpleRing}
 use Rattle.means_area.proofs.Space.Maps.{map-of, map-link}
 use Rattle.means_area.proofs.Loops.Places.{of-place, below, side}
 use Rattle.means_area.proofs.Loops.Edges.{free, crossing}
@@ -23,7 +23,7 @@ module _ (d : Wire) (r11 : samePlace d ≡ none) (r13 : edgeMeets d ≡ none) (l
   one-place : (u w : ℕ) → Of u l → Of w l → at d u ≡ at d w → u ≡ w
   one-place u w i j = samePlace-means d .0 r11 u w (below d l c u i) (below d l c w j)
 
-  different : (m : List ℕ) → ((z : ℕ) → Of z m → Of z l) → proper.Different m → Different (map (at d) m)
+  different : (m : List ℕ) → ((z : ℕ) → Of z m → Of z l) → proper.Different m → DifferentPoints (map (at d) m)
   different [] f h = tt
   different (a ∷ m) f h = (
     go,
@@ -42,7 +42,7 @@ module _ (d : Wire) (r11 : samePlace d ≡ none) (r13 : edgeMeets d ≡ none) (l
   two-ends : (u w : ℕ) → Link l u w → at d u ≡ at d w → ⊥
   two-ends u w i e = side d l c u w i .two (one-place u w (link-of l u w i) (link-of l w u (link-back l u w i)) e)
 
-  pub clear : Clear (map (at d) l)
+  pub clear : SimpleRing (map (at d) l)
   clear = record {
     apart = different l (λ z i. i) (c .different);
     corners = (λ p q r i j b. let a = map-link (at d) l p q i in let t = map-of (at d) r l j in

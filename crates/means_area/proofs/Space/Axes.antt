@@ -11,7 +11,7 @@ use Rattle.paper.specs.declared.Axis.{Axis}
 use Rattle.paper.specs.declared.Axis.the-variants.{AlongX, AlongY, AlongZ}
 use Rattle.means_drawing.specs.Segments.{Between, Common}
 use Rattle.means_area.specs.Rings.{Of}
-use Rattle.means_area.specs.Space.{Different, Clear, Level, through}
+use Rattle.means_area.specs.Space.{DifferentPoints, SimpleRing, Level, through}
 use Rattle.means_area.proofs.Space.Maps.{map-of, map-link}
 use Rattle.means_area.proofs.Space.View.{down}
 
@@ -63,7 +63,7 @@ module _ (a : Axis) where
   abbrev f : Point → Point
   f = upright a
 
-  different-upright : (g : List Point) → Different g → Different (map (upright a) g)
+  different-upright : (g : List Point) → DifferentPoints g → DifferentPoints (map (upright a) g)
   different-upright [] d = tt
   different-upright (p ∷ l) d = (go, different-upright l (d .1))
     where
@@ -72,7 +72,7 @@ module _ (a : Axis) where
           let t = map-of f r l i in
           d .0 (t .0) (t .1) (sym (laid-upright a (t .0)) ∙ ap (laid a) (sym (t .2) ∙ e) ∙ laid-upright a p)
 
-  pub clear-upright : (g : List Point) → Clear g → Clear (map (upright a) g)
+  pub clear-upright : (g : List Point) → SimpleRing g → SimpleRing (map (upright a) g)
   clear-upright g c = record {
     apart = different-upright g (c .apart);
     corners = (λ p q r l j b. let w = map-link f g p q l in let t = map-of f r g j in

@@ -4,7 +4,7 @@ use mathlib.Core.Logic.{inl, inr}
 use mathlib.Core.List.{List, [], _∷_, map}
 use Prim.Native.Nat.{suc}
 use lib.ListN.{length}
-use Rattle.means_area.specs.Rings.{Of, Pair, Chain, Link}
+use Rattle.means_area.specs.Rings.{Of, TheTwo, Chain, Link}
 use Rattle.means_area.proofs.Flats.Chains.{link-back, link-of}
 
 module _ {A B : Type 0} (f : A → B) where
@@ -13,7 +13,7 @@ module _ {A B : Type 0} (f : A → B) where
   map-of y (a ∷ l) (inl e) = (a, inl refl, e)
   map-of y (a ∷ l) (inr o) = let r = map-of y l o in (r .0, inr (r .1), r .2)
 
-  pair-of : (a e : A) (p q : B) → Pair (f a) (f e) p q → (b : A) × (c : A) × Pair a e b c × (p ≡ f b) × (q ≡ f c)
+  pair-of : (a e : A) (p q : B) → TheTwo (f a) (f e) p q → (b : A) × (c : A) × TheTwo a e b c × (p ≡ f b) × (q ≡ f c)
   pair-of a e p q (inl t) = (a, e, inl (refl, refl), t .0, t .1)
   pair-of a e p q (inr t) = (e, a, inr (refl, refl), t .0, t .1)
 

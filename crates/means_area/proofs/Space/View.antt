@@ -21,8 +21,8 @@ use Rattle.paper_laws.proofs.Points.{point-eq}
 use Rattle.paper_laws.proofs.Vectors.{num, vec, x, _+s_, _-s_, _*s_, _·_, v, _+v_, _-v_, _*v_, vring}
 use Rattle.means_drawing.specs.Segments.{Between, Common}
 use Rattle.means_area.specs.Rings.{Of, Link}
-use Rattle.means_area.specs.Flats.{turn, Cross, height, On, Distinct, Simple, part, along, area}
-use Rattle.means_area.specs.Space.{Different, Clear, Level}
+use Rattle.means_area.specs.Flats.{twiceArea, Cross, height, WithinSegment, Distinct, Simple, areaPart, areaAlong, area}
+use Rattle.means_area.specs.Space.{DifferentPoints, SimpleRing, Level}
 use Rattle.means_area.proofs.Flats.Signs.{up-is, nn-is, up-nn, up-add, zero-off, diff-up}
 use Rattle.means_area.proofs.Flats.Turns.{flat-first, flat-second}
 use Rattle.means_area.proofs.Flats.Around.{x-is}
@@ -35,11 +35,11 @@ abbrev pub down : Point → Flat
 down p = record { u = p .x; v = p .y }
 
 pub area-is : (g : List Point) → normal g .z ≡ area (map down g)
-unfolding normal sum sides cross part plus
+unfolding normal sum sides cross areaPart plus
 area-is [] = refl
 area-is (a ∷ l) = go a l
   where
-    go : (p : Point) (l : List Point) → sum (sidesFrom cross a p l) .z ≡ along (down p) (map down l) (down a)
+    go : (p : Point) (l : List Point) → sum (sidesFrom cross a p l) .z ≡ areaAlong (down p) (map down l) (down a)
     go p [] = ring (p .x ∷ p .y ∷ a .x ∷ a .y ∷ []) ((var 0 ⊗ var 3 ⊖ var 1 ⊗ var 2) ⊕ con (pos 0)) (var 0 ⊗ var 3 ⊖ var 1 ⊗ var 2) tt
     go p (q ∷ l) = ap (λ (t : ℤ). (p .x *ℤ q .y -ℤ p .y *ℤ q .x) +ℤ t) (go q l)
 
@@ -57,7 +57,7 @@ Te = (var 6 ⊗ var 4 ⊕ var 5) ⊖ (var 6 ⊗ var 0 ⊕ var 1)
 pub steepness : List Point → ℤ
 steepness g = pos 1 +ℤ bound g +ℤ bound g
 
-module _ (g : List Point) (n s : Point) (nz : n .z ≡ pos 0 → ⊥) (level : Level n s g) (clear : Clear g) where
+module _ (g : List Point) (n s : Point) (nz : n .z ≡ pos 0 → ⊥) (level : Level n s g) (clear : SimpleRing g) where
   -- a direction of the plane that is not seen is the origin
   unseen : (w : Point) → w .x ≡ pos 0 → w .y ≡ pos 0 → dot n w ≡ pos 0 → w ≡ origin
   unfolding dot
@@ -79,7 +79,7 @@ module _ (g : List Point) (n s : Point) (nz : n .z ≡ pos 0 → ⊥) (level : L
 
   -- ---- a crossing is a common point
   cross-common : (p q r t : Point) → Of p g → Of q g → Of r g → Of t g → Cross (down p) (down q) (down r) (down t) → Common p q r t
-  unfolding turn plus minus times
+  unfolding twiceArea plus minus times
   cross-common p q r t op oq ol ot c =
       record {
         here = record { scale = K; place = D; after = c .behind; before = diff-up D K (up-is K-is (c .ahead)) };
@@ -105,13 +105,13 @@ module _ (g : List Point) (n s : Point) (nz : n .z ≡ pos 0 → ⊥) (level : L
       }
     where
       E : ℤ
-      E = turn (down p) (down q) (down r)
+      E = twiceArea (down p) (down q) (down r)
 
       F : ℤ
-      F = turn (down q) (down p) (down t)
+      F = twiceArea (down q) (down p) (down t)
 
       D : ℤ
-      D = turn (down t) (down r) (down p)
+      D = twiceArea (down t) (down r) (down p)
 
       K : ℤ
       K = E +ℤ F
@@ -119,7 +119,7 @@ module _ (g : List Point) (n s : Point) (nz : n .z ≡ pos 0 → ⊥) (level : L
       ρ : List ℤ
       ρ = p .x ∷ p .y ∷ q .x ∷ q .y ∷ r .x ∷ r .y ∷ t .x ∷ t .y ∷ []
 
-      K-is : turn (down r) (down t) (down q) ≡ K -ℤ D
+      K-is : twiceArea (down r) (down t) (down q) ≡ K -ℤ D
       K-is = ring ρ (tu 4 5 6 7 2 3) (tu 0 1 2 3 4 5 ⊕ tu 2 3 0 1 6 7 ⊖ tu 6 7 4 5 0 1) tt
 
       x-is : (K *ℤ p .x +ℤ D *ℤ (q .x -ℤ p .x)) -ℤ (K *ℤ r .x +ℤ E *ℤ (t .x -ℤ r .x)) ≡ pos 0
@@ -135,8 +135,8 @@ module _ (g : List Point) (n s : Point) (nz : n .z ≡ pos 0 → ⊥) (level : L
           ((tu 0 1 2 3 4 5 ⊕ tu 2 3 0 1 6 7) ⊗ var 5 ⊕ tu 0 1 2 3 4 5 ⊗ (var 7 ⊖ var 5))) (con (pos 0)) tt
 
   -- ---- a corner inside a side
-  on-between : (m : ℤ) (p q r : Point) → Of p g → Of q g → Of r g → On m (down p) (down q) (down r) → Between p q r
-  unfolding turn height plus minus times
+  on-between : (m : ℤ) (p q r : Point) → Of p g → Of q g → Of r g → WithinSegment m (down p) (down q) (down r) → Between p q r
+  unfolding twiceArea height plus minus times
   on-between m p q r op oq ol c =
       record {
         here =
@@ -197,7 +197,7 @@ module _ (g : List Point) (n s : Point) (nz : n .z ≡ pos 0 → ⊥) (level : L
       ∙ ring ((steepness g) ∷ []) (con (pos 0) ⊖ var 0 ⊗ con (pos 0)) (con (pos 0)) tt in
       seen-same p q op oq (eq-of-sub (p .x) (q .x) ex) (eq-of-sub (p .y) (q .y) ey)
 
-  distinct-view : (l : List Point) → ((p : Point) → Of p l → Of p g) → Different l → Distinct (steepness g) (map down l)
+  distinct-view : (l : List Point) → ((p : Point) → Of p l → Of p g) → DifferentPoints l → Distinct (steepness g) (map down l)
   distinct-view [] f d = tt
   distinct-view (p ∷ l) f d = (go, distinct-view l (λ r o. f r (inr o)) (d .1))
     where
@@ -221,20 +221,20 @@ module _ (g : List Point) (n s : Point) (nz : n .z ≡ pos 0 → ⊥) (level : L
       (subst (λ (z : Flat). Cross P z (down r) (down t)) (a .4)
       (subst (λ (z : Flat). Cross P Q z (down t)) (b .3) (subst (λ (z : Flat). Cross P Q R z) (b .4) c))) in
       clear .edges p q r t (a .2) (b .2)
-      (λ e. zero-off (ap (turn (down p) (down q)) (ap down (sym e)) ∙ flat-first (down p) (down q)) (c' .left))
-      (λ e. zero-off (ap (turn (down q) (down p)) (ap down (sym e)) ∙ flat-second (down q) (down p)) (c' .right))
-      (λ e. zero-off (ap (turn (down p) (down q)) (ap down (sym e)) ∙ flat-second (down p) (down q)) (c' .left))
-      (λ e. zero-off (ap (turn (down q) (down p)) (ap down (sym e)) ∙ flat-first (down q) (down p)) (c' .right))
+      (λ e. zero-off (ap (twiceArea (down p) (down q)) (ap down (sym e)) ∙ flat-first (down p) (down q)) (c' .left))
+      (λ e. zero-off (ap (twiceArea (down q) (down p)) (ap down (sym e)) ∙ flat-second (down q) (down p)) (c' .right))
+      (λ e. zero-off (ap (twiceArea (down p) (down q)) (ap down (sym e)) ∙ flat-second (down p) (down q)) (c' .left))
+      (λ e. zero-off (ap (twiceArea (down q) (down p)) (ap down (sym e)) ∙ flat-first (down q) (down p)) (c' .right))
       (cross-common p q r t (oa .0) (oa .1) (ob .0) (ob .1) c')
 
-  no-on : (P Q R : Flat) → Link (map down g) P Q → Of R (map down g) → On (steepness g) P Q R → ⊥
+  no-on : (P Q R : Flat) → Link (map down g) P Q → Of R (map down g) → WithinSegment (steepness g) P Q R → ⊥
   no-on P Q R l o c =
       let a = map-link down g P Q l in
       let b = map-of down R g o in
       let oa = end-of g (a .0) (a .1) (a .2) in
       clear .corners (a .0) (a .1) (b .0) (a .2) (b .1) (on-between (steepness g) (a .0) (a .1) (b .0) (oa .0) (oa .1) (b .1)
-      (subst (λ (z : Flat). On (steepness g) z (down (a .1)) (down (b .0))) (a .3)
-      (subst (λ (z : Flat). On (steepness g) P z (down (b .0))) (a .4) (subst (λ (z : Flat). On (steepness g) P Q z) (b .2) c))))
+      (subst (λ (z : Flat). WithinSegment (steepness g) z (down (a .1)) (down (b .0))) (a .3)
+      (subst (λ (z : Flat). WithinSegment (steepness g) P z (down (b .0))) (a .4) (subst (λ (z : Flat). WithinSegment (steepness g) P Q z) (b .2) c))))
 
   pub down-simple : Simple (steepness g) (map down g)
   down-simple = record {

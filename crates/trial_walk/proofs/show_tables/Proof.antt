@@ -11,13 +11,13 @@ use Rattle.walk_input.specs.declared.Tabled.the-variants as Tabled
 use Rattle.walk_input.specs.declared.rows.Counts.{Counts}
 use Rattle.walk_input.specs.Tables.{TabledIs}
 use Rattle.walk_input.proofs.Given.{clear-rooms, tablesLeft, few-edges}
-use Rattle.trial_walk.specs.Asked.{Ruled, Walking}
+use Rattle.trial_walk.specs.Asked.{Ruled, WalkingTables}
 use Rattle.trial_walk.proofs.show_tables.Statement.{statement}
 use Rattle.trial_walk.proofs.show_tables.Tie as tie
 
 -- what is ready fits the walk
 fits : (xyz : List ℤ) (ends rows₀ rows : List ℕ) (tables : WalkTables) {r : Tabled} {c : Counts} → Ruled xyz ends
-    → r ≡ Tabled.Ready c → TabledIs xyz ends rows₀ rows tables r → Walking (length ends / 2) (tables .sixes) c
+    → r ≡ Tabled.Ready c → TabledIs xyz ends rows₀ rows tables r → WalkingTables (length ends / 2) (tables .sixes) c
 fits xyz ends rows₀ rows tables p e t =
     let y = subst (TabledIs xyz ends rows₀ rows tables) e t in
     record { judging = record { few = few-edges xyz ends p; small = y .small }; few = y .few }

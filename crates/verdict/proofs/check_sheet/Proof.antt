@@ -12,7 +12,7 @@ use Rattle.paper.specs.Verdict.{verdictSheet}
 use Rattle.paper.specs.Reading.{verdictSays}
 use Rattle.paper.specs.declared.Sheet.{Sheet}
 use Rattle.walk_input.proofs.Given.{sheet-given, sheet-lists}
-use Rattle.verdict.specs.Checked.{Checks}
+use Rattle.verdict.specs.Checked.{VerdictChecked}
 use Rattle.verdict.proofs.Deciding.{form-stops, rest-decides}
 use borrow.Author.Needs.{needs}
 use Rattle.verdict.proofs.check_sheet.Statement.{statement}
@@ -50,7 +50,7 @@ returns-2 c =
     let s = now (a .sheet) in
     let ok = sym (f .enum-told .given .1) ∙ form-is l in
     let e = rest-decides (wire (coordinatesIn editionOne s) (endsIn editionOne s)) (now (a .list)) (sheetChecks editionOne s) ok
-    (sheet-lists s (l .read-sheet .ensures .0) ok (λ (xyz : List ℤ) (ends : List ℕ). Checks xyz ends (now (a .list)) (c .drawing-checked .result))
+    (sheet-lists s (l .read-sheet .ensures .0) ok (λ (xyz : List ℤ) (ends : List ℕ). VerdictChecked xyz ends (now (a .list)) (c .drawing-checked .result))
     (c .drawing-checked .ensures)) in
     (e, ap verdictSays e)
 

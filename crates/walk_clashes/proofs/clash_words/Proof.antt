@@ -12,7 +12,7 @@ use Rattle.sets.specs.Sets.{Is}
 use Rattle.sets.specs.declared.Set.{Set}
 use Rattle.fast_tables.specs.Words.{hitMask}
 use Rattle.walk_clashes.specs.Folds.{foldMask}
-use Rattle.walk_clashes.specs.Clashes.{ClashLent, wireOf, allOf}
+use Rattle.walk_clashes.specs.Clashes.{ClashLent, wireLent, allLent}
 use Rattle.walk_clashes.proofs.Marking.{digit-set}
 use Rattle.walk_clashes.proofs.Ways.{Ways, ways-none, ways-fresh}
 use Rattle.walk_clashes.proofs.Clashing.{through, folding, meets, fresh-is, clashes-are}
@@ -57,8 +57,8 @@ known-is c = c .at .ensures .some .1
 abbrev marks : (c : tie.After-at Inv-loop μ-loop) → LentAt (start (turn c)) → List Bool
 marks c w =
     let g = turn c .before .loop .g in
-    let hit = hitMask (wireOf w) (allOf w) g in
-    either hit (less (foldMask (wireOf w) (allOf w) g) (either (known c) hit))
+    let hit = hitMask (wireLent w) (allLent w) g in
+    either hit (less (foldMask (wireLent w) (allLent w) g) (either (known c) hit))
 
 -- a digit of those that are known is one of the word
 known-at : (c : tie.After-at Inv-loop μ-loop) (j : ℕ)

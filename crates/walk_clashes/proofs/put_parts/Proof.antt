@@ -4,17 +4,17 @@ use Prim.Native.Nat.{_-_, _<_}
 use native.Mathlib.Omega.{arith}
 use denote.Ref.{now}
 use Rattle.exact.specs.Size.{Within}
-use Rattle.polygon.specs.Rings.{Face}
+use Rattle.polygon.specs.Rings.{FaceRow}
 use Rattle.polygon.proofs.Planes.{face-normal}
-use Rattle.walk_tables.specs.Words.{mostSix}
-use Rattle.walk_clashes.specs.Faces.{Faces}
+use Rattle.walk_tables.specs.Words.{mostPart}
+use Rattle.walk_clashes.specs.Faces.{DrawnFaces}
 use Rattle.walk_clashes.proofs.Rows.{row-at, face-at}
 use Rattle.walk_clashes.proofs.Parts.{Parts, parts-none, parts-more, parts-all, part-small, kept}
 use Rattle.walk_clashes.proofs.put_parts.Statement.{statement}
 use Rattle.walk_clashes.proofs.put_parts.Tie as tie
 
 abbrev Inv-loop : tie.InvT-loop
-Inv-loop xyz rows n normals₀ sixes₀ k₀ normals sixes k = (w : Faces xyz rows n) → Parts w normals sixes₀ sixes k
+Inv-loop xyz rows n normals₀ sixes₀ k₀ normals sixes k = (w : DrawnFaces xyz rows n) → Parts w normals sixes₀ sixes k
 
 abbrev μ-loop : tie.MeasureT-loop
 μ-loop xyz rows n normals₀ sixes₀ k₀ normals sixes k = n - k
@@ -29,12 +29,12 @@ turn c = c .before .before .before
 
 -- the candidates that are asked for
 abbrev faces : (c : tie.At-loop Inv-loop μ-loop)
-    → Faces (now (entry c .args .xyz)) (now (entry c .args .rows)) (entry c .args .n)
+    → DrawnFaces (now (entry c .args .xyz)) (now (entry c .args .rows)) (entry c .args .n)
 faces c = entry c .pre .faces
 
 -- row k, with its normal
 face-of : (c : tie.After-normal Inv-loop μ-loop)
-    → let a = entry (c .before .before) .args in Face (now (a .xyz)) (now (a .rows)) (c .before .before .loop .k) (c .normal .result)
+    → let a = entry (c .before .before) .args in FaceRow (now (a .xyz)) (now (a .rows)) (c .before .before .loop .k) (c .normal .result)
 face-of c = face-at (faces (c .before .before)) _ (c .before .loop-test .taken) (c .normal .ensures)
 
 low : (c : tie.In-loop Inv-loop μ-loop) → c .before .loop .k < 64
@@ -68,7 +68,7 @@ loop-again c w =
     let t = turn c .before in
     let l = t .before .loop in
     let six = c .six-of in
-    let small = subst (Within mostSix) (sym (six .ensures)) (part-small (face-of (turn c))) in
+    let small = subst (Within mostPart) (sym (six .ensures)) (part-small (face-of (turn c))) in
     parts-more w (l .normals) _ _ (l .sixes) (l .k) _ _ (t .loop-test .taken) (turn c .normal .ensures) (c .before .put-normal .ensures)
     (kept small ∙ six .ensures) (l .inv w)
 

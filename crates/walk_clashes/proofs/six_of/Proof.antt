@@ -2,7 +2,7 @@
 use native.Mathlib.Omega.{arith}
 use mathlib.Core.Path.{subst, sym, _∙_}
 use Rattle.exact.specs.Size.{Within}
-use Rattle.walk_tables.specs.Words.{mostSix}
+use Rattle.walk_tables.specs.Words.{mostPart}
 use Rattle.polygon.proofs.Rows.{corner-in, corner-near}
 use Rattle.polygon.proofs.Planes.{face-normal}
 use Rattle.polygon.proofs.Sizes.{small-up}
@@ -25,7 +25,7 @@ returns : tie.Need-returns
 returns c =
     let f = start (c .before) .pre in
     let is = c .dot .ensures ∙ part-is f (c .before .corner .ensures) in
-    kept (subst (Within mostSix) (sym is) (part-small f)) ∙ is
+    kept (subst (Within mostPart) (sym is) (part-small f)) ∙ is
 
 pub six-of-spec : {M : Type 1} → statement M
 six-of-spec = tie.close (tie.spec corner-requires dot-requires returns)

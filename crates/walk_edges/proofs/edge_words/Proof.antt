@@ -10,13 +10,13 @@ use Rattle.paper.specs.Loops.{loopAt}
 use Rattle.paper.specs.Solids.{has, runsUp, tablesOf}
 use Rattle.fast_tables.specs.Hits.{sideMask}
 use Rattle.loop_table.proofs.Rows.{rows-room, count-is, vertex-is}
-use Rattle.walk_edges.specs.Marks.{RowOf, Candidates, upMask}
+use Rattle.walk_edges.specs.Marks.{RowOf, DrawnCandidates, upMask}
 use Rattle.walk_edges.proofs.Columns.{Columns, columns-none, columns-more, columns-all}
 use Rattle.walk_edges.proofs.edge_words.Statement.{statement}
 use Rattle.walk_edges.proofs.edge_words.Tie as tie
 
 -- what the loop keeps, of every drawing and candidates that the rows are
-record Kept {rows : List ℕ} {n : ℕ} {number : List ℕ} (w : Candidates rows n number) (on₀ on up₀ up : List ℕ) (k : ℕ) : Type 0 where
+record Kept {rows : List ℕ} {n : ℕ} {number : List ℕ} (w : DrawnCandidates rows n number) (on₀ on up₀ up : List ℕ) (k : ℕ) : Type 0 where
   pub not-past : k ≤ n
   pub on-in : Columns (sideMask (w .drawing)) (w .loops) on k
   pub up-in : Columns (upMask (w .drawing)) (w .loops) up k
@@ -24,7 +24,7 @@ record Kept {rows : List ℕ} {n : ℕ} {number : List ℕ} (w : Candidates rows
   pub up-long : length up ≡ length up₀
 
 abbrev Inv-loop : tie.InvT-loop
-Inv-loop rows n number on₀ up₀ k₀ on up k = (w : Candidates rows n number) → Kept w on₀ on up₀ up k
+Inv-loop rows n number on₀ up₀ k₀ on up k = (w : DrawnCandidates rows n number) → Kept w on₀ on up₀ up k
 
 abbrev μ-loop : tie.MeasureT-loop
 μ-loop rows n number on₀ up₀ k₀ on up k = n - k
@@ -36,7 +36,7 @@ abbrev turn : tie.After-mark-sides Inv-loop μ-loop → tie.At-loop Inv-loop μ-
 turn c = c .before .before .before .before
 
 -- row k of the table is candidate k
-unfoldable row-of : {rows : List ℕ} {n : ℕ} {number : List ℕ} (w : Candidates rows n number) (k : ℕ) → k < n → RowOf rows k number
+unfoldable row-of : {rows : List ℕ} {n : ℕ} {number : List ℕ} (w : DrawnCandidates rows n number) (k : ℕ) → k < n → RowOf rows k number
 row-of {rows} w k h =
     let i : k < length (w .loops) = omega (arith, w .count) in
     let short = w .of .short in

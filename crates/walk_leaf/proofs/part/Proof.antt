@@ -8,7 +8,7 @@ use mir.Syntax.{w64}
 use mir.Val.{ofZ}
 use Rattle.exact.proofs.Machine.{Env, _▸_, asked, done, reads}
 use Rattle.exact.proofs.Ring.{neg, var}
-use Rattle.walk_tables.specs.Words.{mostSix}
+use Rattle.walk_tables.specs.Words.{mostPart}
 use Rattle.walk_leaf.proofs.Sums.{part-turned, part-plain}
 use Rattle.walk_leaf.proofs.part.Statement.{statement}
 use Rattle.walk_leaf.proofs.part.Tie as tie
@@ -16,7 +16,7 @@ use Rattle.walk_leaf.proofs.part.Tie as tie
 abbrev number : tie.Start → ℤ
 number c = getD (now (c .args .sixes)) (c .args .k) (pos 0)
 
-env : (c : tie.Start) → Env (mostSix ∷ []) (ofZ w64 (number c) ∷ []) (number c ∷ [])
+env : (c : tie.Start) → Env (mostPart ∷ []) (ofZ w64 (number c) ∷ []) (number c ∷ [])
 env c = c .pre .all .small (c .args .k) (c .pre .narrow) ▸ done
 
 sub-result : tie.Need-sub-result

@@ -11,7 +11,7 @@ use Rattle.exact.proofs.Machine.{Env, _▸_, asked, done, held, raw, reads}
 use Rattle.exact.proofs.Ring.{_⊕_, var}
 use Rattle.sets.specs.Sets.{room, size}
 use Rattle.sets.proofs.Sets.{counted}
-use Rattle.walk_tables.specs.Words.{mostSix}
+use Rattle.walk_tables.specs.Words.{mostPart}
 use Rattle.walk_state.proofs.Lowest.{is-none, is-some}
 use Rattle.walk_leaf.proofs.Sums.{Weighing, weighing-start, weighing-next, weighing-end, all-small}
 use Rattle.walk_leaf.proofs.weight.Statement.{statement}
@@ -39,7 +39,7 @@ some-left c =
 
 env : (c : tie.After-part Inv-loop μ-loop)
     → let t = turn (chosen c .before) .loop in
-    Env (room * mostSix ∷ mostSix ∷ []) (t .sum ∷ ofZ w64 (c .part .result) ∷ []) (t .inv .done ∷ c .part .result ∷ [])
+    Env (room * mostPart ∷ mostPart ∷ []) (t .sum ∷ ofZ w64 (c .part .result) ∷ []) (t .inv .done ∷ c .part .result ∷ [])
 env c =
     let t = turn (chosen c .before) in
     let a = t .before .args in

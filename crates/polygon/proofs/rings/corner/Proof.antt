@@ -7,7 +7,7 @@ use denote.Ref.{now}
 use borrow.Author.Needs.{needs}
 use Rattle.lists.specs.Around.{around, wrap}
 use Rattle.paper.specs.Points.{origin}
-use Rattle.polygon.specs.Rings.{pointOf, ring, countIn}
+use Rattle.polygon.specs.Rings.{pointOf, ring, cornerCount}
 use Rattle.polygon.proofs.Rows.{ring-at, ring-length}
 use Rattle.polygon.proofs.rings.corner.Statement.{statement}
 use Rattle.polygon.proofs.rings.corner.Tie as tie
@@ -21,7 +21,7 @@ abbrev rounded : tie.After-wide → tie.After-round
 rounded c = c .before .before
 
 -- the place that is read is one of the row
-place : (c : tie.After-round) → let a = start (c .before) .args in c .round .result < countIn (now (a .table)) (a .r)
+place : (c : tie.After-round) → let a = start (c .before) .args in c .round .result < cornerCount (now (a .table)) (a .r)
 place c = subst (λ (n : ℕ). c .round .result < n) (c .before .count .ensures) (c .round .ensures .1)
 
 -- ---- the needs

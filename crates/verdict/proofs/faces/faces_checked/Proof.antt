@@ -10,7 +10,7 @@ use Rattle.paper.specs.Loops.{Loop}
 use Rattle.paper.specs.FaceList.{facesIn, facesOf}
 use Rattle.paper.specs.Verdict.{verdictFor, listed, faceChecks}
 use Rattle.paper.specs.declared.Answer.the-variants.{Fine, Refused}
-use Rattle.verdict_faces.specs.Named.{Holds, NamedAs, Selected}
+use Rattle.verdict_faces.specs.Named.{HoldsTable, NamedAs, Selected}
 use Rattle.verdict_faces.specs.declared.selection.Named.{Named}
 use Rattle.verdict_faces.specs.declared.selection.Named.the-variants as N
 use Rattle.verdict.proofs.Read.{shape-stops, shape-passes, some-faces, few-faces, faces-held, cornered}
@@ -48,7 +48,7 @@ shape-fine c = sym (shaped c .enum-told .given .1)
 
 said : (c : tie.After-named) (v : Named) → c .named .result ≡ v → (cs : List Loop)
     → let a = start (list-read c) .args in
-    Holds (now (a .rows)) (a .n) cs
+    HoldsTable (now (a .rows)) (a .n) cs
     → NamedAs cs (facesIn editionOne (now (a .list))) (list-read c .read-faces .result .count) (numbers-left c) v
 said c v e cs held =
     let l = list-read c in
@@ -60,7 +60,7 @@ said c v e cs held =
 selected : (c : tie.After-found2) (cs : List Loop)
     → let n = c .before .before in
     let a = start (list-read n) .args in
-    Holds (now (a .rows)) (a .n) cs
+    HoldsTable (now (a .rows)) (a .n) cs
     → Selected cs (facesIn editionOne (now (a .list))) (list-read n .read-faces .result .count) (numbers-left n)
     (c .found2 .given .0 .0)
 selected c cs held = said (c .before .before) (N.Are (c .found2 .given .0 .0)) (c .found2 .given .1) cs held

@@ -6,7 +6,7 @@ use native.Mathlib.Omega.{arith}
 use denote.Ref.{now}
 use Rattle.paper.specs.FaceList.{rowAt}
 use Rattle.paper.specs.Verdict.{normalForm}
-use Rattle.polygon.specs.Rings.{countIn}
+use Rattle.polygon.specs.Rings.{cornerCount}
 use Rattle.verdict_faces.proofs.Same.{SameLeft, row-other, row-differs, row-goes-on, row-same}
 use Rattle.verdict_faces.proofs.number.is_row.Statement.{statement}
 use Rattle.verdict_faces.proofs.number.is_row.Tie as tie
@@ -33,7 +33,7 @@ turn c = c .before .before .before
 
 -- ---- in the loop the two counts are one
 one-count : (c : tie.At-loop Inv-loop μ-loop)
-    → let a = start (counted c) .args in countIn (now (a .rows)) (a .k) ≡ counted c .count .result
+    → let a = start (counted c) .args in cornerCount (now (a .rows)) (a .k) ≡ counted c .count .result
 one-count c = omega (arith, c .before .before .count2 .ensures, c .before .if1 .left)
 
 -- ---- the needs

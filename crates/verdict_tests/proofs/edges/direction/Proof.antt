@@ -8,7 +8,7 @@ use mathlib.Core.Path.{_≡_, _∙_}
 use Rattle.paper.specs.Refusals.{Direction}
 use Rattle.paper.specs.Solids.{Tables}
 use Rattle.paper.specs.Verdict.{Listed}
-use Rattle.verdict_tests.specs.Tests.{Running, direction}
+use Rattle.verdict_tests.specs.Tests.{Running, directionOf}
 use Rattle.verdict_tests.proofs.AtEdge.{notOnce, finds-24, way-at}
 use Rattle.verdict_tests.proofs.Searching.{Offends, Asking, Finds, asking-start, asking-next, asking-hit, asking-end}
 use Rattle.verdict_tests.proofs.edges.direction.Statement.{statement}
@@ -28,7 +28,7 @@ turn c = c .before .before .before .before .before .before
 abbrev Meant : tie.Start Inv-loop μ-loop → Tables → Listed → Type 0
 Meant c = Running (c .args .on .now) (c .args .up .now) (c .args .m) (c .args .taken) (c .args .turned)
 
-finds : (c : tie.Start Inv-loop μ-loop) → Finds (Meant c) notOnce (c .args .m) direction
+finds : (c : tie.Start Inv-loop μ-loop) → Finds (Meant c) notOnce (c .args .m) directionOf
 finds c = finds-24 (c .args .on .now) (c .args .up .now) (c .args .m) (c .args .taken) (c .args .turned)
 
 -- the code's test of edge e
@@ -51,7 +51,7 @@ returns c =
     let t = turn o in
     let s = t .before in
     λ d l w.
-    c .refused .ensures ∙ asking-hit (Meant s) notOnce (s .args .m) Direction direction (finds s) (t .loop .e) (omega arith)
+    c .refused .ensures ∙ asking-hit (Meant s) notOnce (s .args .m) Direction directionOf (finds s) (t .loop .e) (omega arith)
     (t .loop .inv .1) (here o (c .before .if1 .taken)) d l w
 
 loop-again : tie.Need-loop-again Inv-loop μ-loop
@@ -65,7 +65,7 @@ returns-2 : tie.Need-returns-2 Inv-loop μ-loop
 returns-2 c =
     let t = c .before in
     let s = t .before in
-    asking-end (Meant s) notOnce (s .args .m) Direction direction (finds s) (t .loop .e) (omega arith) (t .loop .inv .1)
+    asking-end (Meant s) notOnce (s .args .m) Direction directionOf (finds s) (t .loop .e) (omega arith) (t .loop .inv .1)
 
 pub direction-spec : {M : Type 1} → statement M
 direction-spec =

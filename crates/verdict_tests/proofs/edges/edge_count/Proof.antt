@@ -10,7 +10,7 @@ use borrow.Author.Tests.{eq-eqb, ne-eqb}
 use Rattle.paper.specs.Refusals.{EdgeCount}
 use Rattle.paper.specs.Solids.{Tables}
 use Rattle.paper.specs.Verdict.{Listed}
-use Rattle.verdict_tests.specs.Tests.{Counting, edgeCount}
+use Rattle.verdict_tests.specs.Tests.{Counting, edgeCountOf}
 use Rattle.verdict_tests.proofs.AtEdge.{notTwo, finds-23, two-at}
 use Rattle.verdict_tests.proofs.Searching.{Offends, Asking, Finds, asking-start, asking-next, asking-hit, asking-end}
 use Rattle.verdict_tests.proofs.edges.edge_count.Statement.{statement}
@@ -30,7 +30,7 @@ turn c = c .before .before .before .before .before
 abbrev Meant : tie.Start Inv-loop μ-loop → Tables → Listed → Type 0
 Meant c = Counting (c .args .on .now) (c .args .m) (c .args .taken)
 
-finds : (c : tie.Start Inv-loop μ-loop) → Finds (Meant c) notTwo (c .args .m) edgeCount
+finds : (c : tie.Start Inv-loop μ-loop) → Finds (Meant c) notTwo (c .args .m) edgeCountOf
 finds c = finds-23 (c .args .on .now) (c .args .m) (c .args .taken)
 
 -- the code's test of edge e
@@ -53,7 +53,7 @@ returns c =
     let t = turn k in
     let s = t .before in
     λ d l w.
-    c .refused .ensures ∙ asking-hit (Meant s) notTwo (s .args .m) EdgeCount edgeCount (finds s) (t .loop .e) (omega arith)
+    c .refused .ensures ∙ asking-hit (Meant s) notTwo (s .args .m) EdgeCount edgeCountOf (finds s) (t .loop .e) (omega arith)
     (t .loop .inv .1) (here k false (ne-eqb (k .count .result) 2 (λ z. omega (arith, z)))) d l w
 
 loop-again : tie.Need-loop-again Inv-loop μ-loop
@@ -70,7 +70,7 @@ returns-2 : tie.Need-returns-2 Inv-loop μ-loop
 returns-2 c =
     let t = c .before in
     let s = t .before in
-    asking-end (Meant s) notTwo (s .args .m) EdgeCount edgeCount (finds s) (t .loop .e) (omega arith) (t .loop .inv .1)
+    asking-end (Meant s) notTwo (s .args .m) EdgeCount edgeCountOf (finds s) (t .loop .e) (omega arith) (t .loop .inv .1)
 
 pub edge-count-spec : {M : Type 1} → statement M
 edge-count-spec =

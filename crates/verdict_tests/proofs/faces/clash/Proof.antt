@@ -8,7 +8,7 @@ use mathlib.Core.Path.{_≡_, _∙_}
 use Rattle.paper.specs.Refusals.{Clash}
 use Rattle.paper.specs.Solids.{Tables}
 use Rattle.paper.specs.Verdict.{Listed}
-use Rattle.verdict_tests.specs.Tests.{Clashing, clash}
+use Rattle.verdict_tests.specs.Tests.{Clashing, clashOf}
 use Rattle.verdict_tests.proofs.AtFace.{clashing, finds-27, clash-at}
 use Rattle.verdict_tests.proofs.Searching.{Offends, Asking, Finds, asking-start, asking-next, asking-hit, asking-end}
 use Rattle.verdict_tests.proofs.faces.clash.Statement.{statement}
@@ -33,7 +33,7 @@ turn c = c .before .before .before .before
 abbrev Meant : tie.Start Inv-loop μ-loop → Tables → Listed → Type 0
 Meant c = Clashing (c .args .clashes .now) (c .args .numbers .now) (c .args .count) (c .args .taken)
 
-finds : (c : tie.Start Inv-loop μ-loop) → Finds (Meant c) clashing (c .args .count) clash
+finds : (c : tie.Start Inv-loop μ-loop) → Finds (Meant c) clashing (c .args .count) clashOf
 finds c = finds-27 (c .args .clashes .now) (c .args .numbers .now) (c .args .count) (c .args .taken) (c .pre .held)
 
 -- the code's test of face f
@@ -63,7 +63,7 @@ returns c =
     let t = turn (named o) in
     let s = t .before in
     λ d l w.
-    c .refused .ensures ∙ asking-hit (Meant s) clashing (s .args .count) Clash clash (finds s) (t .loop .f) (omega arith)
+    c .refused .ensures ∙ asking-hit (Meant s) clashing (s .args .count) Clash clashOf (finds s) (t .loop .f) (omega arith)
     (t .loop .inv .1) (here o (c .before .if1 .taken)) d l w
 
 loop-again : tie.Need-loop-again Inv-loop μ-loop
@@ -79,7 +79,7 @@ returns-2 : tie.Need-returns-2 Inv-loop μ-loop
 returns-2 c =
     let t = c .before in
     let s = t .before in
-    asking-end (Meant s) clashing (s .args .count) Clash clash (finds s) (t .loop .f) (omega arith) (t .loop .inv .1)
+    asking-end (Meant s) clashing (s .args .count) Clash clashOf (finds s) (t .loop .f) (omega arith) (t .loop .inv .1)
 
 pub clash-spec : {M : Type 1} → statement M
 clash-spec =

@@ -8,7 +8,7 @@ use mathlib.Core.Path.{_≡_, _∙_}
 use Rattle.paper.specs.Refusals.{Pieces}
 use Rattle.paper.specs.Solids.{Tables}
 use Rattle.paper.specs.Verdict.{Listed}
-use Rattle.verdict_tests.specs.Tests.{pieces, Joining}
+use Rattle.verdict_tests.specs.Tests.{piecesOf, Joining}
 use Rattle.verdict_tests.proofs.AtFace.{unjoined, Reaching, reaches, finds-25, joined-at}
 use Rattle.verdict_tests.proofs.Searching.{Offends, Asking, Finds, asking-start, asking-next, asking-hit, asking-end}
 use Rattle.verdict_tests.proofs.faces.pieces.Statement.{statement}
@@ -33,7 +33,7 @@ round c = c .before .before
 abbrev Meant : tie.After-from-first Inv-loop μ-loop → Tables → Listed → Type 0
 Meant r = Reaching (r .before .args .numbers .now) (r .before .args .count) (r .from-first .result .reached)
 
-finds : (r : tie.After-from-first Inv-loop μ-loop) → Finds (Meant r) unjoined (r .before .args .count) pieces
+finds : (r : tie.After-from-first Inv-loop μ-loop) → Finds (Meant r) unjoined (r .before .args .count) piecesOf
 finds r = finds-25 (r .before .args .numbers .now) (r .before .args .count) (r .before .pre .held) (r .from-first .result .reached)
 
 -- as `from_first` says
@@ -74,7 +74,7 @@ returns c =
     let t = turn o in
     let r = round t in
     λ d l w.
-    c .refused .ensures ∙ asking-hit (Meant r) unjoined (r .before .args .count) Pieces pieces (finds r) (t .loop .i) (omega arith)
+    c .refused .ensures ∙ asking-hit (Meant r) unjoined (r .before .args .count) Pieces piecesOf (finds r) (t .loop .i) (omega arith)
     (t .loop .inv .1) (here o (c .before .if1 .taken)) d l (meant r d l w)
 
 loop-again : tie.Need-loop-again Inv-loop μ-loop
@@ -91,7 +91,7 @@ returns-2 c =
     let t = c .before in
     let r = round t in
     λ d l w.
-    asking-end (Meant r) unjoined (r .before .args .count) Pieces pieces (finds r) (t .loop .i) (omega arith) (t .loop .inv .1) d l
+    asking-end (Meant r) unjoined (r .before .args .count) Pieces piecesOf (finds r) (t .loop .i) (omega arith) (t .loop .inv .1) d l
     (meant r d l w)
 
 pub pieces-spec : {M : Type 1} → statement M

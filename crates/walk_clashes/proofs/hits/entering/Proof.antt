@@ -10,7 +10,7 @@ use borrow.Author.Needs.{needs}
 use borrow.Author.Tests.{eqb-false, not-true, not-false}
 use Rattle.sets.specs.Sets.{size}
 use Rattle.fast_tables.specs.Words.{insideMask}
-use Rattle.walk_clashes.specs.Lent.{VertexLent, EnterLent, wireOf, allOf, loopOf}
+use Rattle.walk_clashes.specs.Lent.{VertexLent, EnterLent, wireOf, allOf, knownLoop}
 use Rattle.walk_clashes.proofs.Folding.{Left, left-start, left-end, left-known, left-next}
 use Rattle.walk_clashes.proofs.Gathering.{askedMask, enterStep, asked-low, inside-fold}
 use Rattle.walk_clashes.proofs.hits.entering.Statement.{statement}
@@ -21,8 +21,8 @@ Inv-loop xyz rows at g m open₀ found₀ «open» found =
     (w : EnterLent xyz rows at g m open₀)
     → let k = w .lent .known in
     let d = wireOf k in
-    Left (length (d .vertices)) (enterStep d (allOf k) (loopOf k)) (askedMask d (allOf k) (loopOf k)) (asked-low d (allOf k) (loopOf k))
-    (insideMask d (allOf k) (loopOf k)) «open» found
+    Left (length (d .vertices)) (enterStep d (allOf k) (knownLoop k)) (askedMask d (allOf k) (knownLoop k)) (asked-low d (allOf k) (knownLoop k))
+    (insideMask d (allOf k) (knownLoop k)) «open» found
 
 abbrev μ-loop : tie.MeasureT-loop
 μ-loop xyz rows at g m open₀ found₀ «open» found = size «open»
@@ -50,7 +50,7 @@ vertex c w =
     record {
       lent = w .lent;
       v-low =
-          asked-low (wireOf k) (allOf k) (loopOf k) _
+          asked-low (wireOf k) (allOf k) (knownLoop k) _
           (left-known _ _ _ _ (turn (c .before) .loop .inv w) (some (c .before)) (c .lowest .result) (c .lowest .ensures));
     }
 
@@ -62,11 +62,11 @@ loop-holds c w =
     let d = wireOf k in
     subst
     (λ (t : List Bool).
-    Left (length (d .vertices)) (enterStep d (allOf k) (loopOf k)) (askedMask d (allOf k) (loopOf k)) (asked-low d (allOf k) (loopOf k)) t
+    Left (length (d .vertices)) (enterStep d (allOf k) (knownLoop k)) (askedMask d (allOf k) (knownLoop k)) (asked-low d (allOf k) (knownLoop k)) t
     (start c .args .asked) (c .none .result))
-    (inside-fold d (allOf k) (loopOf k))
-    (left-start (length (d .vertices)) (enterStep d (allOf k) (loopOf k)) (askedMask d (allOf k) (loopOf k))
-    (asked-low d (allOf k) (loopOf k)) [] (w .asked-is) (c .none .ensures))
+    (inside-fold d (allOf k) (knownLoop k))
+    (left-start (length (d .vertices)) (enterStep d (allOf k) (knownLoop k)) (askedMask d (allOf k) (knownLoop k))
+    (asked-low d (allOf k) (knownLoop k)) [] (w .asked-is) (c .none .ensures))
 
 lowest-requires : tie.Need-lowest-requires Inv-loop μ-loop
 lowest-requires c κs = let n = eqb-false (size (turn c .loop .«open»)) 0 (some c) in omega (arith, n)

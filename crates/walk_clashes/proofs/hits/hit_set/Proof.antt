@@ -6,7 +6,7 @@ use borrow.Author.Needs.{needs}
 use Rattle.fast_tables.specs.Words.{hitMask}
 use Rattle.polygon.proofs.Planes.{face-normal}
 use Rattle.polygon.proofs.Rows.{corner-in, corner-near}
-use Rattle.walk_clashes.specs.Lent.{Known, PierceLent, EnterLent, HitLent}
+use Rattle.walk_clashes.specs.Lent.{KnownFace, PierceLent, EnterLent, HitLent}
 use Rattle.walk_clashes.proofs.Crossed.{face-of}
 use Rattle.walk_clashes.proofs.Planes.{above-is, below-is, flat-is}
 use Rattle.walk_clashes.proofs.hits.hit_set.Statement.{statement}
@@ -31,7 +31,7 @@ HitAt s =
 
 -- row g with its normal
 known : (c : tie.After-point-at) → HitAt (start c)
-    → let a = start c .args in Known (now (a .xyz)) (now (a .rows)) (a .g) (c .point-at .result)
+    → let a = start c .args in KnownFace (now (a .xyz)) (now (a .rows)) (a .g) (c .point-at .result)
 known c w = record { n = w .n; faces = w .all .faces; there = w .there; across = c .point-at .ensures ∙ w .all .normals-are .each _ (w .there) }
 
 -- what rules A and B are asked of

@@ -13,7 +13,7 @@ use Rattle.sets.proofs.Ones.{nil-either}
 use Rattle.paper.specs.Drawing.{edge}
 use Rattle.paper.specs.Solids.{has}
 use Rattle.fast_tables.specs.Hits.{edgePierces}
-use Rattle.walk_clashes.specs.Lent.{EdgeLent, wireOf, allOf, loopOf}
+use Rattle.walk_clashes.specs.Lent.{EdgeLent, wireOf, allOf, knownLoop}
 use Rattle.walk_clashes.proofs.Crossed.{face-of, vertex-in, vertex-low, pierce-is, number-low, faces-on}
 use Rattle.walk_clashes.proofs.hits.join_edge.Statement.{statement}
 use Rattle.walk_clashes.proofs.hits.join_edge.Tie as tie
@@ -26,7 +26,7 @@ EdgeAt s = let a = s .args in EdgeLent (now (a .xyz)) (now (a .rows)) (now (a .n
 
 -- what the code's test says
 pierces : (c : tie.After-crosses) (w : EdgeAt (start c)) {t : Bool} → c .crosses .result ≡ t
-    → edgePierces (wireOf (w .lent .known)) (loopOf (w .lent .known)) (edge (start c .args .a) (start c .args .b)) ≡ t
+    → edgePierces (wireOf (w .lent .known)) (knownLoop (w .lent .known)) (edge (start c .args .a) (start c .args .b)) ≡ t
 pierces c w e = sym (c .crosses .ensures ∙ pierce-is (w .lent) _ _ (w .a-low) (w .b-low)) ∙ e
 
 -- both vertices are in the table of pairs, and the number in that of words

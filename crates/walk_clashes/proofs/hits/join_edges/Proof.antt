@@ -10,7 +10,7 @@ use borrow.Author.Needs.{needs}
 use borrow.Author.Tests.{eqb-false, not-true, not-false}
 use Rattle.sets.specs.Sets.{Is, size}
 use Rattle.fast_tables.specs.Words.{downFrom}
-use Rattle.walk_clashes.specs.Lent.{EdgeLent, DownLent, wireOf, allOf, loopOf}
+use Rattle.walk_clashes.specs.Lent.{EdgeLent, DownLent, wireOf, allOf, knownLoop}
 use Rattle.walk_clashes.proofs.Folding.{Left, left-start, left-end, left-known, left-next}
 use Rattle.walk_clashes.proofs.Crossed.{step, under, under-low, under-tied, down-fold}
 use Rattle.walk_clashes.proofs.hits.join_edges.Statement.{statement}
@@ -20,7 +20,7 @@ abbrev Inv-loop : tie.InvT-loop
 Inv-loop xyz rows number on g m a found₀ open₀ found «open» =
     (w : DownLent xyz rows number on g m a open₀) (s : List Bool) → Is found₀ s
     → Left (length (wireOf (w .lent .known) .vertices)) (step (w .lent) a) (under (w .lent) a) (under-low (w .lent) a)
-    (downFrom (wireOf (w .lent .known)) (allOf (w .lent .known)) (loopOf (w .lent .known)) a s) «open» found
+    (downFrom (wireOf (w .lent .known)) (allOf (w .lent .known)) (knownLoop (w .lent .known)) a s) «open» found
 
 abbrev μ-loop : tie.MeasureT-loop
 μ-loop xyz rows number on g m a found₀ open₀ found «open» = size «open»

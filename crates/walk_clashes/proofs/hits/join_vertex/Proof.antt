@@ -16,7 +16,7 @@ use Rattle.paper.specs.Polygon.{exactly, lies, isInside}
 use Rattle.paper.specs.Loops.{polygon}
 use Rattle.polygon.proofs.Rows.{point-small}
 use Rattle.polygon.proofs.Sizes.{small-eq, small-up}
-use Rattle.walk_clashes.specs.Lent.{VertexLent, wireOf, allOf, loopOf, vertexOf}
+use Rattle.walk_clashes.specs.Lent.{VertexLent, wireOf, allOf, knownLoop, vertexOf}
 use Rattle.walk_clashes.proofs.Crossed.{face-of, polygon-of, vertex-in, vertex-low, at-is}
 use Rattle.walk_clashes.proofs.hits.join_vertex.Statement.{statement}
 use Rattle.walk_clashes.proofs.hits.join_vertex.Tie as tie
@@ -29,7 +29,7 @@ VertexAt s = let a = s .args in VertexLent (now (a .xyz)) (now (a .rows)) (now (
 
 -- what the code's test says
 inner : (c : tie.After-lies-inside) (w : VertexAt (start c)) {t : Bool} → c .lies-inside .result ≡ t
-    → let k = w .lent .known in isInside (lies (exactly (vertexOf k (start c .args .v))) (polygon (wireOf k) (loopOf k))) ≡ t
+    → let k = w .lent .known in isInside (lies (exactly (vertexOf k (start c .args .v))) (polygon (wireOf k) (knownLoop k))) ≡ t
 inner c w e =
     let k = w .lent .known in
     let p = c .before .point-at .ensures ∙ at-is k _ (w .v-low) in

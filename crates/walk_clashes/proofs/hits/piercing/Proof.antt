@@ -13,7 +13,7 @@ use Rattle.sets.specs.Sets.{size}
 use Rattle.sets.specs.declared.Set.{Set}
 use Rattle.fast_tables.specs.Words.{aboveMask, downFrom, throughMask}
 use Rattle.walk_clashes.specs.declared.hits.Sides.{Sides}
-use Rattle.walk_clashes.specs.Lent.{DownLent, PierceLent, wireOf, allOf, loopOf}
+use Rattle.walk_clashes.specs.Lent.{DownLent, PierceLent, wireOf, allOf, knownLoop}
 use Rattle.walk_clashes.proofs.Folding.{Left, left-start, left-end, left-known, left-next}
 use Rattle.walk_clashes.proofs.Crossed.{vertex-low}
 use Rattle.walk_clashes.proofs.Gathering.{above-low, through-fold}
@@ -28,8 +28,8 @@ abbrev Inv-loop : tie.InvT-loop
 Inv-loop xyz rows near number on g m below open₀ found₀ «open» found =
     (w : PierceLent xyz rows near number on g m (sorted open₀ below))
     → let k = w .lent .known in
-    Left (length (wireOf k .vertices)) (downFrom (wireOf k) (allOf k) (loopOf k)) (aboveMask (wireOf k) (loopOf k))
-    (above-low (wireOf k) (allOf k) (loopOf k)) (throughMask (wireOf k) (allOf k) (loopOf k)) «open» found
+    Left (length (wireOf k .vertices)) (downFrom (wireOf k) (allOf k) (knownLoop k)) (aboveMask (wireOf k) (knownLoop k))
+    (above-low (wireOf k) (allOf k) (knownLoop k)) (throughMask (wireOf k) (allOf k) (knownLoop k)) «open» found
 
 abbrev μ-loop : tie.MeasureT-loop
 μ-loop xyz rows near number on g m below open₀ found₀ «open» found = size «open»
@@ -60,7 +60,7 @@ low : (c : tie.After-lowest Inv-loop μ-loop) (w : PierceAt (start (turn (c .bef
     → c .lowest .result < length (wireOf (w .lent .known) .vertices)
 low c w =
     let k = w .lent .known in
-    above-low (wireOf k) (allOf k) (loopOf k) _
+    above-low (wireOf k) (allOf k) (knownLoop k) _
     (left-known _ _ _ _ (turn (c .before) .loop .inv w) (some (c .before)) (c .lowest .result) (c .lowest .ensures))
 
 a-low : (c : tie.After-lowest Inv-loop μ-loop) → c .lowest .result < 32
@@ -83,10 +83,10 @@ loop-holds c w =
     let s = start c .args .s in
     subst
     (λ (t : List Bool).
-    Left (length (d .vertices)) (downFrom d (allOf k) (loopOf k)) (aboveMask d (loopOf k)) (above-low d (allOf k) (loopOf k)) t (s .above)
+    Left (length (d .vertices)) (downFrom d (allOf k) (knownLoop k)) (aboveMask d (knownLoop k)) (above-low d (allOf k) (knownLoop k)) t (s .above)
     (c .none .result))
-    (through-fold d (allOf k) (loopOf k))
-    (left-start (length (d .vertices)) (downFrom d (allOf k) (loopOf k)) (aboveMask d (loopOf k)) (above-low d (allOf k) (loopOf k)) []
+    (through-fold d (allOf k) (knownLoop k))
+    (left-start (length (d .vertices)) (downFrom d (allOf k) (knownLoop k)) (aboveMask d (knownLoop k)) (above-low d (allOf k) (knownLoop k)) []
     (w .above-is) (c .none .ensures))
 
 lowest-requires : tie.Need-lowest-requires Inv-loop μ-loop

@@ -8,7 +8,7 @@ use borrow.Author.Needs.{needs}
 use denote.Ref.{now}
 use Rattle.sets.specs.Sets.{Is}
 use Rattle.paper.specs.Numbers.{mostCorners}
-use Rattle.loop_search.specs.Lines.{Turns}
+use Rattle.loop_search.specs.Lines.{TurnIs}
 use Rattle.loop_search.specs.declared.planes.Turn.{Turn}
 use Rattle.loop_search.proofs.Way.{path-up}
 use Rattle.loop_search.proofs.Deeper.{below-dropped}
@@ -38,11 +38,11 @@ low t c =
 made : (t : ℕ) (c : step-lts.After-turned (step-claims t) (step-at t) step.Post) {u : Turn} → c .turned .result ≡ u
     → let n = next t (sets t c) in
     let a = entry t n .args in
-    (b : List Bool) → Is (sets t c .and .result) b → Turns (now (a .xyz)) (a .v) (now (a .path)) (n .wide .result) b u
+    (b : List Bool) → Is (sets t c .and .result) b → TurnIs (now (a .xyz)) (a .v) (now (a .path)) (n .wide .result) b u
 made t c {u} e b i =
     let n = next t (sets t c) in
     let a = entry t n .args in
-    subst (Turns (now (a .xyz)) (a .v) (now (a .path)) (n .wide .result) b) e (c .turned .ensures b i)
+    subst (TurnIs (now (a .xyz)) (a .v) (now (a .path)) (n .wide .result) b) e (c .turned .ensures b i)
 
 -- ---- the needs
 
