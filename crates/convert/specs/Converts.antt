@@ -6,16 +6,13 @@ use lib.IntN.{ℤ}
 use lib.ListN.{length}
 use Rattle.paper.specs.Numbers.{faceRoom, solidRoom}
 use Rattle.paper.specs.Refusals.{firstOf}
-use Rattle.paper.specs.Format.{editionOne}
-use Rattle.paper.specs.Sheet.{lentChecks}
 use Rattle.paper.specs.Drawing.{Wire, wire}
 use Rattle.paper.specs.Loops.{loops, candidates}
 use Rattle.paper.specs.Conversion.{Converted, entryChecks, orConvert, concluded}
 use Rattle.paper.specs.declared.Answer.{Answer}
-use Rattle.paper.specs.declared.Answer.the-variants.{Fine}
 use Rattle.paper.specs.declared.Conversion.{Conversion}
 use Rattle.paper.specs.declared.Drawing.{Drawing}
-use Rattle.paper_laws.specs.InRange.{Held}
+use Rattle.paper_laws.specs.InRange.{Held, PassedLists}
 use Rattle.walk_input.specs.Tables.{checksOf}
 use Rattle.walk_input.specs.Given.{coordinatesOf, linksOf}
 use Rattle.convert.specs.Walked.{tablesIn, logOf}
@@ -37,7 +34,7 @@ behind d limit faces solids =
     (concluded (length (loops d)) (candidates d) (tablesIn d) (logOf d limit) faces solids)
 
 pub record Converting (xyz : List ℤ) (ends faces solids : List ℕ) : Type 0 where
-  pub passed : Fine ≡ firstOf (lentChecks editionOne xyz ends)
+  pub passed : PassedLists xyz ends
   pub face-room : faceRoom ≤ length faces
   pub solid-room : solidRoom ≤ length solids
 

@@ -6,14 +6,13 @@ use lib.IntN.{ℤ}
 use lib.ListN.{length}
 use Rattle.paper.specs.Numbers.{mostCandidates, mostSolids, faceRoom, solidRoom}
 use Rattle.paper.specs.Refusals.{firstOf}
-use Rattle.paper.specs.Format.{editionOne}
-use Rattle.paper.specs.Sheet.{lentChecks}
 use Rattle.paper.specs.Drawing.{Wire, wire}
 use Rattle.paper.specs.Loops.{loops, candidates}
 use Rattle.paper.specs.Solids.{Tables, tablesOf}
 use Rattle.paper.specs.Walk.{Log, search}
 use Rattle.paper.specs.Conversion.{accepted}
 use Rattle.paper.specs.declared.Answer.the-variants as Answer
+use Rattle.paper_laws.specs.InRange.{PassedLists}
 use Rattle.loop_table.specs.Tables.{rowsAfter}
 use Rattle.walk_input.specs.Tables.{checksOf}
 use Rattle.walk_input.specs.declared.rows.Counts.{Counts}
@@ -31,7 +30,7 @@ logOf d limit = search mostSolids (accepted (tablesIn d)) limit (length (candida
 
 -- lists that passed 3 to 10, and rooms of their sizes
 pub record WalkedAt (xyz : List ℤ) (ends rows out : List ℕ) : Type 0 where
-  pub passed : Answer.Fine ≡ firstOf (lentChecks editionOne xyz ends)
+  pub passed : PassedLists xyz ends
   pub row-room : length rows ≡ faceRoom
   pub word-room : length out ≡ solidRoom
 

@@ -8,6 +8,9 @@ use Rattle.exact.specs.Size.{Within}
 use Rattle.paper.specs.Numbers.{farthest}
 use Rattle.paper.specs.Format.{editionOne, leastVertices, leastEdges}
 use Rattle.paper.specs.declared.Drawing.{Drawing}
+use Rattle.paper.specs.Refusals.{firstOf}
+use Rattle.paper.specs.Sheet.{lentChecks}
+use Rattle.paper.specs.declared.Answer.the-variants.{Fine}
 
 -- three coordinates for each of v vertices
 pub record Points (xyz : List ℤ) (v : ℕ) : Type 0 where
@@ -40,3 +43,7 @@ pub record Held (d : Drawing) : Type 0 where
   pub ends-whole : length (take (2 * d .edges) (d .ends)) ≡ 2 * d .edges
   pub points : Points (take (3 * d .vertices) (d .xyz)) (d .vertices)
   pub links : Ends (take (2 * d .edges) (d .ends)) (d .vertices)
+
+-- the two lists pass 3 to 10
+abbrev pub PassedLists : List ℤ → List ℕ → Type 0
+PassedLists xyz ends = Fine ≡ firstOf (lentChecks editionOne xyz ends)

@@ -3,10 +3,9 @@
 // for each candidate, of those that it clashes with.
 ghost use Prim.Native.Nat.{_≤_};
 ghost use Rattle.paper.specs.Numbers.{mostCandidates};
-ghost use Rattle.paper_laws.specs.InRange.{Held};
+ghost use Rattle.paper_laws.specs.InRange.{Held, PassedLists};
 ghost use Rattle.loop_cover.specs.Known.{Known};
 ghost use Rattle.loop_known.specs.Known.{DrawnBy};
-ghost use Rattle.trial_geometry.specs.Asked.{Ruled};
 use drawing_links::neighbours;
 use drawing_lists::lend::lent;
 use drawing_rules::drawing_rules;
@@ -97,7 +96,7 @@ fn say_clashes(clashes: &[u64; MOST_CANDIDATES], n: usize)
 }
 
 fn show_clashes(xyz: &[i64], ends: &[u8])
-    requires { ⌜ Ruled (now xyz) (now ends) ⌝ }
+    requires { ⌜ PassedLists (now xyz) (now ends) ⌝ }
 {
     let mut rows = [FILL; FACE_ROOM];
     let mut on = [0u64; MOST_EDGES];
@@ -122,7 +121,7 @@ fn show_clashes(xyz: &[i64], ends: &[u8])
 }
 
 fn show_rules(xyz: &[i64], ends: &[u8])
-    requires { ⌜ Ruled (now xyz) (now ends) ⌝ }
+    requires { ⌜ PassedLists (now xyz) (now ends) ⌝ }
 {
     let near = neighbours(ends, xyz.len() / 3);
     let answer = drawing_rules(xyz, ends, &near);

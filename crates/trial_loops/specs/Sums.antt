@@ -2,13 +2,8 @@
 use mathlib.Core.List.{List}
 use mathlib.Core.Path.{_≡_}
 use Prim.Native.Nat.{ℕ, _+_, _*_, _≤_, _<_}
-use lib.IntN.{ℤ}
 use lib.ListN.{length}
 use Rattle.paper.specs.Numbers.{mostLoops, rowBytes}
-use Rattle.paper.specs.Refusals.{firstOf}
-use Rattle.paper.specs.Format.{editionOne}
-use Rattle.paper.specs.Sheet.{lentChecks}
-use Rattle.paper.specs.declared.Answer.the-variants.{Fine}
 
 abbrev pub prime : ℕ
 prime = 4294967291
@@ -26,6 +21,3 @@ pub record RowsOf (table : List ℕ) (n : ℕ) (corners sides : List ℕ) : Type
 pub record LoopsRead (table : List ℕ) (n : ℕ) (corners sides planes : List ℕ) : Type 0 where
   pub rows : RowsOf table n corners sides
   pub planes-there : n ≤ length planes
-
-abbrev pub Ruled : List ℤ → List ℕ → Type 0
-Ruled xyz ends = Fine ≡ firstOf (lentChecks editionOne xyz ends)

@@ -2,10 +2,10 @@
 // byte first. Of each drawing it prints how many loops and candidates there are, each with a checksum of their rows and words, or what
 // refuses it.
 ghost use Prim.Native.Nat.{_<_};
-ghost use Rattle.paper_laws.specs.InRange.{Held};
+ghost use Rattle.paper_laws.specs.InRange.{Held, PassedLists};
 ghost use Rattle.loop_known.specs.Known.{DrawnBy};
 ghost use Rattle.loop_cover.specs.Known.{Known};
-ghost use Rattle.trial_loops.specs.Sums.{prime, RowThere, RowsOf, LoopsRead, Ruled};
+ghost use Rattle.trial_loops.specs.Sums.{prime, RowThere, RowsOf, LoopsRead};
 use candidates::candidates;
 use drawing_links::neighbours;
 use drawing_lists::lend::lent;
@@ -161,7 +161,7 @@ fn show_loops(xyz: &[i64], ends: &[u8], near: &[u64; MOST_VERTICES], number: &[u
 }
 
 fn show_rules(xyz: &[i64], ends: &[u8])
-    requires { ⌜ Ruled (now xyz) (now ends) ⌝ }
+    requires { ⌜ PassedLists (now xyz) (now ends) ⌝ }
 {
     let near = neighbours(ends, xyz.len() / 3);
     let answer = drawing_rules(xyz, ends, &near);

@@ -4,16 +4,9 @@ use mathlib.Core.Path.{_≡_}
 use Prim.Native.Nat.{ℕ, _≤_}
 use lib.IntN.{ℤ}
 use Rattle.sets.specs.Sets.{room}
-use Rattle.paper.specs.Refusals.{firstOf}
-use Rattle.paper.specs.Format.{editionOne}
-use Rattle.paper.specs.Sheet.{lentChecks}
-use Rattle.paper.specs.declared.Answer.the-variants.{Fine}
 use Rattle.walk_leaf.specs.Tests.{Judging}
 use Rattle.walk_input.specs.declared.rows.Counts.{Counts}
 
 pub record WalkingTables (m : ℕ) (sixes : List ℤ) (c : Counts) : Type 0 where
   pub judging : Judging m sixes
   pub few : c .candidates ≤ room
-
-abbrev pub Ruled : List ℤ → List ℕ → Type 0
-Ruled xyz ends = Fine ≡ firstOf (lentChecks editionOne xyz ends)

@@ -3,9 +3,9 @@
 // there is none; or what refuses it.
 ghost use Prim.Native.Nat.{_≤_, _+_};
 ghost use lib.ListN.{length};
-ghost use Rattle.paper_laws.specs.InRange.{Held};
+ghost use Rattle.paper_laws.specs.InRange.{Held, PassedLists};
 ghost use Rattle.walk.specs.Tally.{Roomy};
-ghost use Rattle.trial_walk.specs.Asked.{Ruled, WalkingTables};
+ghost use Rattle.trial_walk.specs.Asked.{WalkingTables};
 use drawing_lists::lend::lent;
 use libc::STDIN_FILENO;
 use lists::Found;
@@ -96,7 +96,7 @@ fn show_walk(
 }
 
 fn show_tables(xyz: &[i64], ends: &[u8], limit: u64)
-    requires { ⌜ Ruled (now xyz) (now ends) ⌝ }
+    requires { ⌜ PassedLists (now xyz) (now ends) ⌝ }
 {
     let mut rows = [FILL; FACE_ROOM];
     let mut on = [0u64; MOST_EDGES];

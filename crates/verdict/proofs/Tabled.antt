@@ -8,12 +8,12 @@ use lib.ListN.{length}
 use Rattle.paper.specs.Numbers.{faceRoom}
 use Rattle.paper.specs.Drawing.{wire}
 use Rattle.paper.specs.Loops.{candidates}
+use Rattle.paper_laws.specs.InRange.{PassedLists}
 use Rattle.drawing_lists.proofs.Range.{lent-range}
 use Rattle.loop_table.proofs.Loops as Loops
 use Rattle.loop_table.proofs.Loops.{candidates-of}
 use Rattle.loop_table.proofs.Rows.{rows-held, rows-kept}
 use Rattle.walk_tables.specs.Words.{WalkTables}
-use Rattle.walk_input.specs.Given.{PassedLists}
 use Rattle.walk_input.specs.Tables.{Ready}
 use Rattle.walk_input.specs.declared.rows.Counts.{Counts}
 use Rattle.walk_input.proofs.Given.{few-edges}

@@ -13,12 +13,13 @@ use Rattle.paper.specs.Format.{editionOne, coordinatesIn, endsIn}
 use Rattle.paper.specs.Sheet.{sheetChecks, lentChecks, sheetOf}
 use Rattle.paper.specs.declared.Answer.the-variants.{Fine}
 use Rattle.paper.specs.declared.Sheet.{Sheet}
+use Rattle.paper_laws.specs.InRange.{PassedLists}
 use Rattle.sheet_laws.proofs.Accepted.{coordinates-are, ends-are}
 use Rattle.sheet_reader.proofs.Range.{read-range}
 use Rattle.means_sheets.proofs.Sheets.Read.{accepted-lent}
 use Rattle.drawing_lists.proofs.Range.{lent-range}
 use Rattle.walk_tables.specs.Words.{mostPart, SmallSixes, WalkTables, walkTables}
-use Rattle.walk_input.specs.Given.{coordinatesOf, linksOf, PassedLists, GivenDrawing}
+use Rattle.walk_input.specs.Given.{coordinatesOf, linksOf, GivenDrawing}
 use Rattle.walk_input.specs.Tables.{TablesAt}
 use Rattle.walk_input.proofs.Listing.{all-same}
 

@@ -7,12 +7,11 @@ use lib.ListN.{length, getD}
 use Rattle.sets.specs.Sets.{room}
 use Rattle.paper.specs.Numbers.{mostCandidates, faceRoom}
 use Rattle.paper.specs.Refusals.{Check, firstOf}
-use Rattle.paper.specs.Format.{editionOne}
-use Rattle.paper.specs.Sheet.{lentChecks}
 use Rattle.paper.specs.Drawing.{Wire, wire, drawingChecks}
 use Rattle.paper.specs.Loops.{loops, candidates, loopChecks}
 use Rattle.paper.specs.Solids.{tablesOf}
 use Rattle.paper.specs.declared.Answer.the-variants as Answer
+use Rattle.paper_laws.specs.InRange.{PassedLists}
 use Rattle.loop_table.specs.Tables.{rowsAfter}
 use Rattle.walk_tables.specs.Words.{SmallSixes, WalkTables, Lent}
 use Rattle.walk_input.specs.Words.{EmptyRooms}
@@ -26,7 +25,7 @@ checksOf d = drawingChecks d ++ loopChecks (loops d) (candidates d)
 
 -- lists that passed 3 to 10, and rooms of their sizes with nothing in them
 pub record TablesAt (xyz : List ℤ) (ends rows : List ℕ) (tables : WalkTables) : Type 0 where
-  pub passed : Answer.Fine ≡ firstOf (lentChecks editionOne xyz ends)
+  pub passed : PassedLists xyz ends
   pub row-room : length rows ≡ faceRoom
   pub rooms : EmptyRooms tables
   pub side-room : length (tables .sides) ≡ mostCandidates

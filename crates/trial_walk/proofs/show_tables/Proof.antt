@@ -5,18 +5,19 @@ use Prim.Native.Nat.{ℕ, _/_}
 use lib.IntN.{ℤ}
 use lib.ListN.{length}
 use borrow.Author.Needs.{needs}
+use Rattle.paper_laws.specs.InRange.{PassedLists}
 use Rattle.walk_tables.specs.Words.{WalkTables}
 use Rattle.walk_input.specs.declared.Tabled.{Tabled}
 use Rattle.walk_input.specs.declared.Tabled.the-variants as Tabled
 use Rattle.walk_input.specs.declared.rows.Counts.{Counts}
 use Rattle.walk_input.specs.Tables.{TabledIs}
 use Rattle.walk_input.proofs.Given.{clear-rooms, tablesLeft, few-edges}
-use Rattle.trial_walk.specs.Asked.{Ruled, WalkingTables}
+use Rattle.trial_walk.specs.Asked.{WalkingTables}
 use Rattle.trial_walk.proofs.show_tables.Statement.{statement}
 use Rattle.trial_walk.proofs.show_tables.Tie as tie
 
 -- what is ready fits the walk
-fits : (xyz : List ℤ) (ends rows₀ rows : List ℕ) (tables : WalkTables) {r : Tabled} {c : Counts} → Ruled xyz ends
+fits : (xyz : List ℤ) (ends rows₀ rows : List ℕ) (tables : WalkTables) {r : Tabled} {c : Counts} → PassedLists xyz ends
     → r ≡ Tabled.Ready c → TabledIs xyz ends rows₀ rows tables r → WalkingTables (length ends / 2) (tables .sixes) c
 fits xyz ends rows₀ rows tables p e t =
     let y = subst (TabledIs xyz ends rows₀ rows tables) e t in

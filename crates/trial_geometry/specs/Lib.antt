@@ -1,2 +1,0 @@
--- What contracts of this program cite beside the paper.
-pub mod Asked
