@@ -1,2 +1,3 @@
--- What the stages ask.
+-- What the stages ask and promise.
 pub mod Asked
+pub mod Costs
