@@ -44,11 +44,11 @@ module _ (g : List Point) (n s : Point) (a : Axis) (h : through a n ≡ pos 0 �
       third-not-zero r (upright a n) (upright a s) last (level-upright a n s g level) (clear-upright a g clear) (omega (arith, q))
       (normal-upright a g e)
 
+pub none-through : (a : Axis) → through a origin ≡ pos 0
+none-through AlongX = refl
+none-through AlongY = refl
+none-through AlongZ = refl
+
 -- the normal of a simple ring in a plane is not the origin
 pub normal-not-zero : (g : List Point) (n s : Point) → (n ≡ origin → ⊥) → Level n s g → SimpleRing g → 3 ≤ length g → normal g ≡ origin → ⊥
 normal-not-zero g n s ne l c j e = normal-through g n s (axis n) (axis-real n ne) l c j (ap (through (axis n)) e ∙ none-through (axis n))
-  where
-    none-through : (a : Axis) → through a origin ≡ pos 0
-    none-through AlongX = refl
-    none-through AlongY = refl
-    none-through AlongZ = refl

@@ -1,5 +1,5 @@
 -- In a drawing that passes 13: no vertex is inside a joined pair, and no two joined pairs without a common vertex have a common point.
-use mathlib.Core.Path.{_≡_, refl, sym, _∙_, ap, subst}
+use mathlib.Core.Path.{_≡_, sym, _∙_, ap, subst}
 use mathlib.Core.Bool.{Bool, true, not, _&&_, _||_, true≢false}
 use mathlib.Core.Logic.{_⊎_, inl, inr}
 use mathlib.Core.Option.{none}
@@ -18,12 +18,13 @@ use Rattle.exact.proofs.Ring.{var, con, _⊖_}
 use Rattle.exact.proofs.Linear.{le-by, lt-by, le-to, lt-to}
 use Rattle.exact.proofs.Order.{sub-pos, sub-nonneg}
 use Rattle.paper.specs.Points.{times}
-use Rattle.paper.specs.Drawing.{Wire, Edge, edge, at, edgeAt, onOpen, openMeets, vertexOn, edgesMeet, edgeMeets}
+use Rattle.paper.specs.Drawing.{Wire, at, edgeAt, vertexOn, edgesMeet, edgeMeets}
 use Rattle.paper.specs.declared.Point.{Point}
 use Rattle.paper_laws.proofs.Vectors.{num, vec, x, _-s_, v, _+v_, _-v_, _*v_, vring}
 use Rattle.means_drawing.specs.Segments.{Between, Common}
 use Rattle.means_drawing.proofs.Segments.{onOpen-means, openMeets-means}
-use Rattle.means_drawing.specs.Drawings.{start, stop, lowEnd, highEnd, Vertex, HasEdge, Joined, Meets, vertex, other}
+use Rattle.means_drawing.proofs.Drawings.Edges.{vertexOn-is, edgesMeet-is}
+use Rattle.means_drawing.specs.Drawings.{lowEnd, highEnd, Vertex, HasEdge, Joined, Meets, vertex, other}
 
 -- ---- segments from their other ends
 
@@ -113,19 +114,13 @@ module _ (d : Wire) where
     clean (vertex w k t) =
         nothing (or-left onVertex (any others (upto (length (d .edges))))
         (some-is (vertexOn d (edgeAt d e)) (length (d .vertices)) w k
-        (on-is (edgeAt d e) ∙ onOpen-means (at d (lowEnd d e)) (at d (highEnd d e)) (at d w) long .1 t)))
-      where
-        on-is : (e : Edge) → vertexOn d e w ≡ onOpen (at d (start e)) (at d (stop e)) (at d w)
-        on-is (edge a b) = unfold vertexOn in refl
+        (vertexOn-is d (edgeAt d e) w ∙ onOpen-means (at d (lowEnd d e)) (at d (highEnd d e)) (at d w) long .1 t)))
     clean (other f k ne t) =
         nothing (or-right onVertex (any others (upto (length (d .edges))))
         (some-is others (length (d .edges)) f k
         (and-both (ap not (ne-eqb e f ne))
-        (meet-is (edgeAt d e) (edgeAt d f) ∙ openMeets-means (at d (lowEnd d e)) (at d (highEnd d e)) (at d (lowEnd d f)) (at d (highEnd d f)) long .1
-        t))))
-      where
-        meet-is : (e f : Edge) → edgesMeet d e f ≡ openMeets (at d (start e)) (at d (stop e)) (at d (start f)) (at d (stop f))
-        meet-is (edge a b) (edge u w) = unfold edgesMeet in refl
+        (edgesMeet-is d (edgeAt d e) (edgeAt d f)
+        ∙ openMeets-means (at d (lowEnd d e)) (at d (highEnd d e)) (at d (lowEnd d f)) (at d (highEnd d f)) long .1 t))))
 
   -- the ends of a joined pair
   ends-two : (u w e : ℕ) → ((u ≡ lowEnd d e) × (w ≡ highEnd d e)) ⊎ ((u ≡ highEnd d e) × (w ≡ lowEnd d e)) → (at d u ≡ at d w → ⊥)
