@@ -18,7 +18,7 @@ use Rattle.means_walk.proofs.Grown.{sweeps-stable, sweeps, tree, tree-l
 use Rattle.means_walk.proofs.Follow.{follow-ends, up-whole}
 use Rattle.means_walk.proofs.Steps.{follow, walk-follows, made-steps, sought-steps}
 
-open-blank : (n : ℕ) → openCount (replicate n Undecided) ≡ n
+pub open-blank : (n : ℕ) → openCount (replicate n Undecided) ≡ n
 unfolding openCount
 open-blank zero = refl
 open-blank (suc n) = omega (arith, open-blank n)

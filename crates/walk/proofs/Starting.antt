@@ -10,8 +10,9 @@ use Rattle.sets.specs.Sets.{room, Is}
 use Rattle.sets.specs.declared.Set.{Set}
 use Rattle.sets.proofs.Sets.{none-all}
 use Rattle.paper.specs.Numbers.{solidWords}
-use Rattle.paper.specs.Walk.{Undecided, isTaken, isOpen, openCount, nothing, search}
+use Rattle.paper.specs.Walk.{Undecided, isTaken, isOpen, nothing, search}
 use Rattle.paper.specs.Conversion.{words, solidsAfter}
+use Rattle.means_walk.proofs.Ends.{open-blank}
 use Rattle.fast_sweeps.proofs.Walk.{call-first}
 use Rattle.walk_tables.specs.Words.{WalkTables}
 use Rattle.walk_state.specs.State.{StateIs}
@@ -21,11 +22,6 @@ use Rattle.walk.specs.declared.tally.Tally.{Tally}
 each-is : {A B : Type 0} (f : A → B) (x : A) (n : ℕ) → map f (replicate n x) ≡ replicate n (f x)
 each-is f x zero = refl
 each-is f x (suc n) = ap (λ (l : List _). f x ∷ l) (each-is f x n)
-
-all-open : (n : ℕ) → openCount (replicate n Undecided) ≡ n
-unfolding openCount
-all-open zero = refl
-all-open (suc n) = omega (arith, all-open n)
 
 -- nothing taken and n undecided
 holds-all : {n : ℕ} {taken undecided : Set} → n ≤ room → Is taken [] → Is undecided (replicate n true)
@@ -51,7 +47,7 @@ searched {n = n} {edges = edges} {out₀ = out₀} few i j k w = record {
         marked-is = subst (λ (k : ℕ). Is edges (replicate k true)) (sym (lent .masks-are)) k;
         edge-is = refl;
       })
-      (call-first masks (replicate n Undecided)) (omega (arith, all-open n)) nothing out₀
+      (call-first masks (replicate n Undecided)) (omega (arith, open-blank n)) nothing out₀
       (record {
         counts = record { work-is = refl; found-is = refl; ended-is = refl };
         words-are = after-none (words t) solidWords out₀;
