@@ -1,5 +1,5 @@
 -- The words of some numbers of a set are marked already, and the others are left.
-use mathlib.Core.Bool.{Bool, true, false, not, _&&_, _||_, or-false}
+use mathlib.Core.Bool.{Bool, true, false, not, _&&_, _||_, or-false, and-true, and-false}
 use mathlib.Core.Path.{_≡_, refl, sym, ap, _∙_}
 use mathlib.Core.List.{List}
 use Prim.Native.Nat.{ℕ, _^_, _<_}
@@ -51,11 +51,7 @@ module _ (mask : List Bool) (k : ℕ) (words₀ : List ℕ) where
         let z : count (h .rest-now) ≡ 0 = sym (size-is (h .rest-is)) ∙ eqb-true (size rest) 0 t in
         h .each e u
         ∙ ap (λ (b : Bool). digit (getD words₀ e 0) u || (b && eqb u k))
-        (ap (λ (b : Bool). dig mask e && not b) (dig-none (h .rest-now) z e) ∙ keeps (dig mask e))
-      where
-        keeps : (b : Bool) → (b && true) ≡ b
-        keeps true = refl
-        keeps false = refl
+        (ap (λ (b : Bool). dig mask e && not b) (dig-none (h .rest-now) z e) ∙ and-true (dig mask e))
 
     module _ (x : ℕ) (lowest : Lowest rest x) where
       there : dig (h .rest-now) x ≡ true
@@ -82,14 +78,6 @@ module _ (mask : List Bool) (k : ℕ) (words₀ : List ℕ) where
           here true = refl
           here false = refl
 
-          off : (b : Bool) → (b && false) ≡ false
-          off true = refl
-          off false = refl
-
-          on : (b : Bool) → (b && true) ≡ b
-          on true = refl
-          on false = refl
-
           digit-less : (e : ℕ) → dig (less (h .rest-now) (only x)) e ≡ (dig (h .rest-now) e && not (eqb e x))
           digit-less e = dig-less (h .rest-now) (only x) e ∙ ap (λ (b : Bool). dig (h .rest-now) e && not b) (only-is x e)
 
@@ -100,9 +88,9 @@ module _ (mask : List Bool) (k : ℕ) (words₀ : List ℕ) where
               ∙ here (dig mask e && not (dig (h .rest-now) e))
               ∙ sym
               ((λ i. (ap (dig mask) q ∙ half-known) i && not (digit-less e i))
-              ∙ ap not (ap (λ (b : Bool). dig (h .rest-now) e && not b) (eq-eqb e x q) ∙ off (dig (h .rest-now) e)))
+              ∙ ap not (ap (λ (b : Bool). dig (h .rest-now) e && not b) (eq-eqb e x q) ∙ and-false (dig (h .rest-now) e)))
           go e (no q) =
               ap (λ (b : Bool). (dig mask e && not (dig (h .rest-now) e)) || b) (ne-eqb e x q)
               ∙ or-false (dig mask e && not (dig (h .rest-now) e))
               ∙ ap (λ (b : Bool). dig mask e && not b)
-              (sym (digit-less e ∙ ap (λ (b : Bool). dig (h .rest-now) e && not b) (ne-eqb e x q) ∙ on (dig (h .rest-now) e)))
+              (sym (digit-less e ∙ ap (λ (b : Bool). dig (h .rest-now) e && not b) (ne-eqb e x q) ∙ and-true (dig (h .rest-now) e)))

@@ -1,5 +1,5 @@
 -- Sets of those numbers below n that pass a test, one number after the other.
-use mathlib.Core.Bool.{Bool, true, false, _&&_, _||_}
+use mathlib.Core.Bool.{Bool, true, false, _&&_, _||_, and-false, or-false}
 use mathlib.Core.Path.{_≡_, refl, sym, ap, _∙_}
 use mathlib.Core.List.{List, [], map}
 use Prim.Native.Nat.{ℕ, zero, suc, _+_, _≤_, _<_}
@@ -62,29 +62,21 @@ module _ (test : ℕ → Bool) where
         split : (u : ℕ) → dig (either (k .digits) (only v)) u ≡ ((ltb u v && test u) || eqb u v)
         split u = dig-either (k .digits) (only v) u ∙ (λ i. k .each u i || only-is v u i)
 
-        drops : (b : Bool) → (b || false) ≡ b
-        drops true = refl
-        drops false = refl
-
         go : (u : ℕ) → Dec (u ≡ v) → ((ltb u v && test u) || eqb u v) ≡ (ltb u (v + 1) && test u)
         go u (yes q) =
             (λ i. (le-ltb u v (omega arith) i && test u) || eq-eqb u v q i)
             ∙ sym (λ i. lt-ltb u (v + 1) (omega arith) i && (ap test q ∙ t) i)
         go u (no q) =
-            ap (λ (b : Bool). (ltb u v && test u) || b) (ne-eqb u v q) ∙ drops (ltb u v && test u)
+            ap (λ (b : Bool). (ltb u v && test u) || b) (ne-eqb u v q) ∙ or-false (ltb u v && test u)
             ∙ ap (λ (b : Bool). b && test u) (next u q)
 
     pub upto-same : {x : Set} → test v ≡ false → Upto test v x → Upto test (v + 1) x
     upto-same t k = record { digits = k .digits; is = k .is; each = λ u. k .each u ∙ go u (ℕ-discrete u v) }
       where
-        none : (b : Bool) → (b && false) ≡ false
-        none true = refl
-        none false = refl
-
         go : (u : ℕ) → Dec (u ≡ v) → (ltb u v && test u) ≡ (ltb u (v + 1) && test u)
         go u (yes q) =
-            ap (λ (b : Bool). ltb u v && b) (ap test q ∙ t) ∙ none (ltb u v)
-            ∙ sym (ap (λ (b : Bool). ltb u (v + 1) && b) (ap test q ∙ t) ∙ none (ltb u (v + 1)))
+            ap (λ (b : Bool). ltb u v && b) (ap test q ∙ t) ∙ and-false (ltb u v)
+            ∙ sym (ap (λ (b : Bool). ltb u (v + 1) && b) (ap test q ∙ t) ∙ and-false (ltb u (v + 1)))
         go u (no q) = ap (λ (b : Bool). b && test u) (next u q)
 
   -- all

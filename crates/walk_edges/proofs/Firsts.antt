@@ -1,6 +1,6 @@
 -- The first k numbers and the next one, in truth values.
 use mathlib.Core.Path.{_≡_, refl, sym, ap, _∙_}
-use mathlib.Core.Bool.{Bool, true, false, _&&_, _||_, or-false}
+use mathlib.Core.Bool.{Bool, true, false, _&&_, _||_, or-false, and-true, and-false}
 use Prim.Native.Nat.{ℕ, _+_}
 use native.Mathlib.Decide.{ℕ-discrete}
 use native.Mathlib.Omega.{arith}
@@ -22,20 +22,12 @@ before-next u k = go (ℕ-discrete u k)
 pub at-next : (test : ℕ → Bool) (u k : ℕ) → (test k && eqb u k) ≡ (eqb u k && test u)
 at-next test u k = go (ℕ-discrete u k)
   where
-    keeps : (b : Bool) → (b && true) ≡ b
-    keeps true = refl
-    keeps false = refl
-
-    drops : (b : Bool) → (b && false) ≡ false
-    drops true = refl
-    drops false = refl
-
     go : Dec (u ≡ k) → (test k && eqb u k) ≡ (eqb u k && test u)
     go (yes q) =
-        ap (λ (b : Bool). test k && b) (eq-eqb u k q) ∙ keeps (test k) ∙ ap test (sym q)
+        ap (λ (b : Bool). test k && b) (eq-eqb u k q) ∙ and-true (test k) ∙ ap test (sym q)
         ∙ sym (ap (λ (b : Bool). b && test u) (eq-eqb u k q))
     go (no q) =
-        ap (λ (b : Bool). test k && b) (ne-eqb u k q) ∙ drops (test k) ∙ sym (ap (λ (b : Bool). b && test u) (ne-eqb u k q))
+        ap (λ (b : Bool). test k && b) (ne-eqb u k q) ∙ and-false (test k) ∙ sym (ap (λ (b : Bool). b && test u) (ne-eqb u k q))
 
 pub spread : (d a b c : Bool) → ((d || (a && c)) || (b && c)) ≡ (d || ((a || b) && c))
 spread true a b c = refl

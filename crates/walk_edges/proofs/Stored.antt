@@ -15,6 +15,7 @@ use Rattle.sets.specs.Sets.{room}
 use Rattle.sets.proofs.Word.{one-shl}
 use Rattle.sets.proofs.Numbers.{digit-power, digit-stored}
 use Rattle.walk_edges.specs.Marks.{Marked}
+use Rattle.walk_edges.proofs.Firsts.{spread}
 
 -- the store `words[x] = words[x] | 1 << k`
 abbrev pub stored : List ℕ → ℕ → ℕ → List ℕ
@@ -44,14 +45,6 @@ module _ (test : ℕ → Bool) (f : ℕ → ℕ) (n k : ℕ) (words₀ : List �
       ∙ ap (λ (b : Bool). (d || (among i e && eqb u k)) || ((b && eqb e (f i)) && eqb u k)) (sym t)
       ∙ spread d (among i e) (test i && eqb e (f i)) (eqb u k)
       ∙ ap (λ (b : Bool). d || (b && eqb u k)) (sym (any-below-more (λ j. test j && eqb e (f j)) n i h))
-    where
-      spread : (d a b c : Bool) → ((d || (a && c)) || (b && c)) ≡ (d || ((a || b) && c))
-      spread true a b c = refl
-      spread false true true true = refl
-      spread false true true false = refl
-      spread false true false true = refl
-      spread false true false false = refl
-      spread false false b c = refl
 
   pub stored-same : (words : List ℕ) (i : ℕ) → i < n → test i ≡ false → Stored words i → Stored words (i + 1)
   stored-same words i h t s e u =
