@@ -6,7 +6,7 @@ use Prim.Native.Nat.{ℕ, _≤_}
 use borrow.Author.Tests.{le-ltb}
 use lib.Dec.{eqb, ltb}
 use lib.ListN.{length}
-use Rattle.paper.specs.Numbers.{mostWork, faceRoom, solidRoom}
+use Rattle.paper.specs.Numbers.{mostWork, faceRoom, solidRoom, documented}
 use Rattle.paper.specs.Refusals as No
 use Rattle.paper.specs.Refusals.{Check, check, offends, firstOf}
 use Rattle.paper.specs.Drawing.{Wire, drawingChecks}
@@ -70,7 +70,7 @@ module _ (faces solids faces′ solids′ : List ℕ) where
         let cs = uncovering d (loops d) in
         let t = tablesOf d cs in
         let log = search cap (accepted t) limit (length cs) (t .masks) in
-        let checks : List Check → List Check = λ e. e ++ form ++ drawingChecks d ++ loopChecks (loops d) cs in
+        let checks : List Check → List Check = λ e. e ++ form ++ drawingChecks d ++ loopChecks documented (loops d) cs in
         let said : Converted = concluded (length (loops d)) cs t log faces solids in
         ap (λ (e : List Check). orConvert (firstOf (checks e)) faces solids said .answer) (entry-same limit)
         ∙ or-same (firstOf (checks (entryChecks limit faces′ solids′))) said (concluded (length (loops d)) cs t log faces′ solids′)

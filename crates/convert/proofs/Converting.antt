@@ -6,7 +6,7 @@ use native.Mathlib.Omega.{arith}
 use borrow.Author.Tests.{lt-ltb, le-ltb, ltb-false}
 use lib.Dec.{ltb}
 use lib.ListN.{length}
-use Rattle.paper.specs.Numbers.{mostSolids, mostWork, faceRoom, solidRoom}
+use Rattle.paper.specs.Numbers.{mostWork, faceRoom, solidRoom, documented}
 use Rattle.paper.specs.Refusals as No
 use Rattle.paper.specs.Refusals.{Check, firstOf, refuse}
 use Rattle.paper.specs.Drawing.{Wire, drawingChecks}
@@ -82,29 +82,29 @@ module _ (form : List Check) (d : Wire) (limit : ℕ) (faces solids : List ℕ) 
   abbrev entry : List Check
   entry = entryChecks limit faces solids
 
-  in-order : entry ++ (form ++ checksOf d) ≡ entry ++ form ++ drawingChecks d ++ loopChecks (loops d) (candidates d)
+  in-order : entry ++ (form ++ checksOf d) ≡ entry ++ form ++ drawingChecks d ++ loopChecks documented (loops d) (candidates d)
   in-order =
-      sym (append-assoc entry form (checksOf d)) ∙ sym (append-assoc (entry ++ form) (drawingChecks d) (loopChecks (loops d) (candidates d)))
+      sym (append-assoc entry form (checksOf d)) ∙ sym (append-assoc (entry ++ form) (drawingChecks d) (loopChecks documented (loops d) (candidates d)))
 
   -- the answer to all checks decides
   decides : {a : Answer} → a ≡ firstOf (entry ++ (form ++ checksOf d))
       → orConvert a faces solids (concluded (length (loops d)) (candidates d) (tablesIn d) (logOf d limit) faces solids)
-      ≡ conversion mostSolids form d limit faces solids
+      ≡ conversion documented form d limit faces solids
   unfolding conversion candidates
   decides e =
       ap (λ (a : Answer). orConvert a faces solids (concluded (length (loops d)) (candidates d) (tablesIn d) (logOf d limit) faces solids))
       (e ∙ ap firstOf in-order)
 
   pub stops-at-entry : {r : Refusal} → Answer.Refused r ≡ firstOf entry
-      → atExit (Conversion.Refused r) faces solids ≡ conversion mostSolids form d limit faces solids
+      → atExit (Conversion.Refused r) faces solids ≡ conversion documented form d limit faces solids
   stops-at-entry e = decides (first-stops entry _ e)
 
   module _ (ok : Answer.Fine ≡ firstOf entry) where
     pub stops-at-form : {r : Refusal} → Answer.Refused r ≡ firstOf form
-        → atExit (Conversion.Refused r) faces solids ≡ conversion mostSolids form d limit faces solids
+        → atExit (Conversion.Refused r) faces solids ≡ conversion documented form d limit faces solids
     stops-at-form e = decides (first-stops form _ e ∙ first-passes entry _ ok)
 
-    pub goes-behind : Answer.Fine ≡ firstOf form → behind d limit faces solids ≡ conversion mostSolids form d limit faces solids
+    pub goes-behind : Answer.Fine ≡ firstOf form → behind d limit faces solids ≡ conversion documented form d limit faces solids
     goes-behind e = decides (first-passes form (checksOf d) e ∙ first-passes entry _ ok)
 
 -- ---- what 1 and 2 let through has room
@@ -122,10 +122,10 @@ roomy-enough limit faces solids ok =
 module _ (form : List Check) (d : Wire) (limit : ℕ) (faces₀ solids₀ : List ℕ) where
   abbrev pub Left : Conversion → List ℕ → List ℕ → Type 0
   Left r faces solids =
-      (atExit r faces solids ≡ conversion mostSolids form d limit faces₀ solids₀)
-      × (conversionSays r ≡ conversionSays (conversion mostSolids form d limit faces₀ solids₀ .answer))
+      (atExit r faces solids ≡ conversion documented form d limit faces₀ solids₀)
+      × (conversionSays r ≡ conversionSays (conversion documented form d limit faces₀ solids₀ .answer))
 
-  says : {r : Conversion} {faces solids : List ℕ} → atExit r faces solids ≡ conversion mostSolids form d limit faces₀ solids₀
+  says : {r : Conversion} {faces solids : List ℕ} → atExit r faces solids ≡ conversion documented form d limit faces₀ solids₀
       → Left r faces solids
   says e = (e, ap (λ (x : Converted). conversionSays (x .answer)) e)
 

@@ -7,7 +7,6 @@ use lib.IntN.{ℤ}
 use lib.ListN.{length}
 use Rattle.paper.specs.Numbers.{mostSolids, faceRoom}
 use Rattle.paper.specs.Refusals.{firstOf}
-use Rattle.paper.specs.Format.{editionOne}
 use Rattle.paper.specs.Sheet.{lentChecks}
 use Rattle.paper.specs.Drawing.{Wire, wire}
 use Rattle.paper.specs.Loops.{candidates}
@@ -26,7 +25,7 @@ use Rattle.walk_input.proofs.Given.{few-edges}
 use Rattle.convert.specs.Walked.{tablesIn, Done}
 
 module _ {xyz : List ℤ} {ends rows₀ rows : List ℕ} {tables : WalkTables} {c : Counts} (r : Ready xyz ends rows₀ rows tables c) where
-  pub searching : Fine ≡ firstOf (lentChecks editionOne xyz ends) → {out : List ℕ} → length out ≡ 24
+  pub searching : Fine ≡ firstOf (lentChecks xyz ends) → {out : List ℕ} → length out ≡ 24
       → Searching (length ends / 2) (tables .sixes) (c .candidates) out
   searching ok long = record { judging = record { few = few-edges xyz ends ok; small = r .small }; few = r .few; whole = long }
 

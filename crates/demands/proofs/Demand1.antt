@@ -8,7 +8,7 @@ use native.Mathlib.Omega.{arith}
 use lib.Ieee.{Float}
 use lib.ListN.{length}
 use Rattle.paper.specs.Format.{editionOne}
-use Rattle.paper.specs.Numbers.{mostSolids}
+use Rattle.paper.specs.Numbers.{documented}
 use Rattle.paper.specs.Refusals.{Check, check, firstOf, offends}
 use Rattle.paper.specs.FaceList.{facesIn, wellShaped}
 use Rattle.paper.specs.Drawing.{drawingChecks}
@@ -127,10 +127,10 @@ module _ (x : Input) (limit : ℕ) (room solids : List ℕ) (r : Converted) (s :
 
 module _ (x : Input) (limit : ℕ) (room solids : List ℕ) where
   abbrev made : Converted
-  made = conversion mostSolids (form x) (drawing x) limit room solids
+  made = conversion documented (form x) (drawing x) limit room solids
 
   abbrev asked : List Check
-  asked = entryChecks limit room solids ++ form x ++ drawingChecks (drawing x) ++ loopChecks (loops (drawing x)) (candidates (drawing x))
+  asked = entryChecks limit room solids ++ form x ++ drawingChecks (drawing x) ++ loopChecks documented (loops (drawing x)) (candidates (drawing x))
 
   abbrev Answers : Type 0
   Answers = Cases (drawing x) (the-walk (drawing x)) (form x) limit room solids

@@ -4,7 +4,7 @@ use mathlib.Core.List.{List, _++_}
 use Prim.Native.Nat.{ℕ}
 use borrow.Author.Tests.{le-ltb}
 use lib.ListN.{length}
-use Rattle.paper.specs.Numbers.{mostSolids}
+use Rattle.paper.specs.Numbers.{documented}
 use Rattle.paper.specs.Refusals.{firstOf}
 use Rattle.paper.specs.Format.{editionOne, coordinatesIn, endsIn}
 use Rattle.paper.specs.Drawing.{drawingChecks}
@@ -21,7 +21,7 @@ use Rattle.demands.specs.Input.{Input, lent, sheet, drawing, form, Passe
 use Rattle.demands.specs.Walk.{Allowed}
 
 pub converted-is : (x : Input) (limit : ℕ) (room solids : List ℕ)
-    → converted x limit room solids ≡ conversion mostSolids (form x) (drawing x) limit room solids
+    → converted x limit room solids ≡ conversion documented (form x) (drawing x) limit room solids
 unfolding convertLists convertSheet
 converted-is (lent xyz ends) limit room solids = refl
 converted-is (sheet s) limit room solids = refl
@@ -36,15 +36,15 @@ module _ (x : Input) (p : Passes x) where
   pub form-fine : Fine ≡ firstOf (form x)
   form-fine =
       first-both (form x) (drawingChecks (drawing x))
-      (first-both (form x ++ drawingChecks (drawing x)) (loopChecks (loops (drawing x)) (candidates (drawing x))) p .0) .0
+      (first-both (form x ++ drawingChecks (drawing x)) (loopChecks documented (loops (drawing x)) (candidates (drawing x))) p .0) .0
 
   pub drawing-fine : Fine ≡ firstOf (drawingChecks (drawing x))
   drawing-fine =
       first-both (form x) (drawingChecks (drawing x))
-      (first-both (form x ++ drawingChecks (drawing x)) (loopChecks (loops (drawing x)) (candidates (drawing x))) p .0) .1
+      (first-both (form x ++ drawingChecks (drawing x)) (loopChecks documented (loops (drawing x)) (candidates (drawing x))) p .0) .1
 
-  pub loops-fine : Fine ≡ firstOf (loopChecks (loops (drawing x)) (candidates (drawing x)))
-  loops-fine = first-both (form x ++ drawingChecks (drawing x)) (loopChecks (loops (drawing x)) (candidates (drawing x))) p .1
+  pub loops-fine : Fine ≡ firstOf (loopChecks documented (loops (drawing x)) (candidates (drawing x)))
+  loops-fine = first-both (form x ++ drawingChecks (drawing x)) (loopChecks documented (loops (drawing x)) (candidates (drawing x))) p .1
 
 -- room and a limit that are allowed pass 1 and 2
 entry-fine : (limit : ℕ) (room solids : List ℕ) → Allowed limit room solids → Fine ≡ firstOf (entryChecks limit room solids)
@@ -56,10 +56,10 @@ entry-fine limit room solids a =
 -- and with a drawing that passes its own, 1 to 16 pass
 pub unrefused : (x : Input) → Passes x → (limit : ℕ) (room solids : List ℕ) → Allowed limit room solids
     → Fine ≡ firstOf (entryChecks limit room solids ++ form x ++ drawingChecks (drawing x)
-    ++ loopChecks (loops (drawing x)) (candidates (drawing x)))
+    ++ loopChecks documented (loops (drawing x)) (candidates (drawing x)))
 unrefused x p limit room solids a =
     let E = entryChecks limit room solids in
-    both-first (E ++ form x ++ drawingChecks (drawing x)) (loopChecks (loops (drawing x)) (candidates (drawing x)))
+    both-first (E ++ form x ++ drawingChecks (drawing x)) (loopChecks documented (loops (drawing x)) (candidates (drawing x)))
     (both-first (E ++ form x) (drawingChecks (drawing x)) (both-first E (form x) (entry-fine limit room solids a) (form-fine x p))
     (drawing-fine x p)) (loops-fine x p)
 

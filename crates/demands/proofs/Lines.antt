@@ -9,6 +9,7 @@ use lib.Signed.{ltZ}
 use lib.ListN.{length, getD}
 use native.Mathlib.Omega.{arith}
 use Rattle.lists.specs.Lists.{lowest}
+use Rattle.paper.specs.Numbers.{documented}
 use Rattle.paper.specs.Format.{editionOne, outside, total, bytesFor, fillAfter, verticesIn, edgesIn}
 use Rattle.paper.specs.Format.{coordinatesIn, endsIn}
 use Rattle.pack.specs.Bits.{fieldAt}
@@ -91,7 +92,7 @@ form-says (sheet s) =
 
 -- ---- 11 to 16: where 9 finds nothing the ends of edges rise
 
-drawing-says : (d : Wire) → Rising d → Says (drawings d) (drawingChecks d ++ loopChecks (loops d) (candidates d))
+drawing-says : (d : Wire) → Rising d → Says (drawings d) (drawingChecks d ++ loopChecks documented (loops d) (candidates d))
 unfolding drawingChecks loopChecks
 drawing-says d r =
     also 11 (length (d .vertices)) (Doubled d) (samePlace d) _ _ (samePlace-finds d)
@@ -104,6 +105,6 @@ drawing-says d r =
 pub rules-say : (x : Input) → Says (λ below. forms x (drawings (drawing x) below)) (rules x)
 rules-say x =
     let d = drawing x in
-    subst (Says (λ below. forms x (drawings d below))) (sym (append-assoc (form x) (drawingChecks d) (loopChecks (loops d) (candidates d))))
-    (behind (forms x) (drawings d) (form x) (drawingChecks d ++ loopChecks (loops d) (candidates d)) (form-says x)
+    subst (Says (λ below. forms x (drawings d below))) (sym (append-assoc (form x) (drawingChecks d) (loopChecks documented (loops d) (candidates d))))
+    (behind (forms x) (drawings d) (form x) (drawingChecks d ++ loopChecks documented (loops d) (candidates d)) (form-says x)
     (λ e. drawing-says d (rising x e)))

@@ -7,7 +7,7 @@ use Prim.Native.Nat.{ℕ}
 use lib.IntN.{ℤ, pos, negsuc, natAbs}
 use lib.ListN.{length}
 use Rattle.lists.proofs.Truth.{same-truth}
-use Rattle.paper.specs.Numbers.{mostSolids}
+use Rattle.paper.specs.Numbers.{mostSolids, documented}
 use Rattle.paper.specs.Points.{times}
 use Rattle.paper.specs.Refusals.{firstOf}
 use Rattle.paper.specs.Format.{editionOne}
@@ -47,9 +47,9 @@ rises : (x : Input) → Fine ≡ firstOf (form x) → Rising (wire (coordinates 
 rises x e = subst Rising (drawing-is x) (rising x e)
 
 converted-as : (x : Input) (limit : ℕ) (faces solids : List ℕ)
-    → converted x limit faces solids ≡ conversion mostSolids (form x) (wire (coordinates x) (links x)) limit faces solids
+    → converted x limit faces solids ≡ conversion documented (form x) (wire (coordinates x) (links x)) limit faces solids
 converted-as x limit faces solids =
-    converted-is x limit faces solids ∙ ap (λ (d : Wire). conversion mostSolids (form x) d limit faces solids) (drawing-is x)
+    converted-is x limit faces solids ∙ ap (λ (d : Wire). conversion documented (form x) d limit faces solids) (drawing-is x)
 
 checked-as : (x : Input) (list : List ℕ) → checked x list ≡ verdict (form x) (wire (coordinates x) (links x)) list
 checked-as x list = checked-is x list ∙ ap (λ (d : Wire). verdict (form x) d list) (drawing-is x)
@@ -69,7 +69,7 @@ module _ (m : Move) (x y : Input) (made : Made (m .to) x y) where
       subst (λ (r : Converted). FollowsMoved (turnsBy (m .sides-by)) (natAbs (m .sides-by)) solids r (converted y limit faces solids))
       (sym (converted-as x limit faces solids))
       (subst (FollowsMoved (turnsBy (m .sides-by)) (natAbs (m .sides-by)) solids
-      (conversion mostSolids (form x) (wire (coordinates x) (links x)) limit faces solids)) (sym (converted-as y limit faces solids))
+      (conversion documented (form x) (wire (coordinates x) (links x)) limit faces solids)) (sym (converted-as y limit faces solids))
       (either-follows m (form x) (form y) (made .forms) (coordinates x) (coordinates y) (links x) (links y) (rises x) (made .edges)
       (made .points) mostSolids limit faces solids))
 

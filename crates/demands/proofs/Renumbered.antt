@@ -5,7 +5,7 @@ use mathlib.Core.List.{List, _++_}
 use Prim.Native.Nat.{ℕ}
 use native.Mathlib.Omega.{arith}
 use lib.ListN.{length}
-use Rattle.paper.specs.Numbers.{mostSolids}
+use Rattle.paper.specs.Numbers.{mostSolids, documented}
 use Rattle.paper.specs.Refusals.{firstOf}
 use Rattle.paper.specs.Format.{editionOne}
 use Rattle.paper.specs.Drawing.{samePlace, drawingChecks}
@@ -47,7 +47,7 @@ module _ (x : Input) (limit : ℕ) (faces solids : List ℕ) where
       let E = entryChecks limit faces solids in
       let a = first-stops E (form x) e in
       let b = first-stops (E ++ form x) (drawingChecks (drawing x)) a in
-      let c : Answer.Refused r ≡ firstOf (E ++ form x ++ drawingChecks (drawing x) ++ loopChecks (loops (drawing x))
+      let c : Answer.Refused r ≡ firstOf (E ++ form x ++ drawingChecks (drawing x) ++ loopChecks documented (loops (drawing x))
       (uncovering (drawing x) (loops (drawing x))))
       = first-stops (E ++ form x ++ drawingChecks (drawing x)) _ b in
       ap (λ (q : Converted). q .answer) (converted-is x limit faces solids) ∙ rw (← c)
@@ -83,16 +83,16 @@ module _ (new : ℕ → ℕ) (x y : Input) (g : Given new x y) where
 
   passes : Passes x → Passes y
   passes p =
-      go (firstOf (drawingChecks (drawing y) ++ loopChecks (loops (drawing y)) (candidates (drawing y)))) refl
+      go (firstOf (drawingChecks (drawing y) ++ loopChecks documented (loops (drawing y)) (candidates (drawing y)))) refl
       (same-rule numbers sx sy
-      ∙ ap ruleOf (sym (both-first (drawingChecks (drawing x)) (loopChecks (loops (drawing x)) (candidates (drawing x)))
+      ∙ ap ruleOf (sym (both-first (drawingChecks (drawing x)) (loopChecks documented (loops (drawing x)) (candidates (drawing x)))
       (drawing-fine x p) (loops-fine x p))))
     where
-      go : (a : Answer) → a ≡ firstOf (drawingChecks (drawing y) ++ loopChecks (loops (drawing y)) (candidates (drawing y)))
+      go : (a : Answer) → a ≡ firstOf (drawingChecks (drawing y) ++ loopChecks documented (loops (drawing y)) (candidates (drawing y)))
           → ruleOf a ≡ none → Passes y
       go Answer.Fine q z =
-          let w = first-both (drawingChecks (drawing y)) (loopChecks (loops (drawing y)) (candidates (drawing y))) q in
-          both-first (form y ++ drawingChecks (drawing y)) (loopChecks (loops (drawing y)) (candidates (drawing y)))
+          let w = first-both (drawingChecks (drawing y)) (loopChecks documented (loops (drawing y)) (candidates (drawing y))) q in
+          both-first (form y ++ drawingChecks (drawing y)) (loopChecks documented (loops (drawing y)) (candidates (drawing y)))
           (both-first (form y) (drawingChecks (drawing y)) (g .good-too) (w .0)) (w .1)
       go (Answer.Refused r) q z = let t : _≡_ {A = ℕ} 0 1 = cc in absurd (omega arith)
 
@@ -125,7 +125,7 @@ module _ (new : ℕ → ℕ) (x y : Input) (g : Given new x y) where
       let cy = converted-is y b h v in
       let s : SameReport new (drawing x) (drawing y) u v (converted x a f u) (converted y b h v) = subst
       (λ (c : Converted). SameReport new (drawing x) (drawing y) u v c (converted y b h v)) (sym cx)
-      (subst (SameReport new (drawing x) (drawing y) u v (conversion mostSolids (form x) (drawing x) a f u)) (sym cy)
+      (subst (SameReport new (drawing x) (drawing y) u v (conversion documented (form x) (drawing x) a f u)) (sym cy)
       (same-report numbers (form x) (form y) a b f h u v (unrefused x p a f u ax) (unrefused y (passes p) b h v ay)
       (subst (λ (c : Converted). NotCut (c .answer)) cx wx) (subst (λ (c : Converted). NotCut (c .answer)) cy wy))) in (
         report x u (converted x a f u) (s .here),

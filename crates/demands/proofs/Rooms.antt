@@ -8,6 +8,7 @@ use borrow.Author.Tests.{ltb-false}
 use lib.Dec.{ltb}
 use lib.ListN.{length, getD, drop}
 use Rattle.sets.specs.Word.{word}
+use Rattle.paper.specs.Numbers.{documented}
 use Rattle.paper.specs.Refusals.{firstOf}
 use Rattle.paper.specs.Drawing.{Wire}
 use Rattle.paper.specs.Loops.{Loop, loops, candidates, loopChecks}
@@ -22,11 +23,11 @@ use Rattle.means_loops.proofs.Listing.{candidates-are}
 
 -- ---- a solid's faces, from the rows and its two words
 
-few-candidates : (ls cs : List Loop) → Fine ≡ firstOf (loopChecks ls cs) → length cs ≤ 64
+few-candidates : (ls cs : List Loop) → Fine ≡ firstOf (loopChecks documented ls cs) → length cs ≤ 64
 unfolding loopChecks
 few-candidates ls cs e = ltb-false 64 (length cs) (passed 16 0 {b = ltb 64 (length cs)} [] (found-none _ _ e .1) .0)
 
-module _ (d : Wire) (fine : Fine ≡ firstOf (loopChecks (loops d) (candidates d))) (room : List ℕ) (taken turned : List Bool)
+module _ (d : Wire) (fine : Fine ≡ firstOf (loopChecks documented (loops d) (candidates d))) (room : List ℕ) (taken turned : List Bool)
     (some : length taken ≡ length (candidates d)) where
   pub faces-reported : solidFaces (facesAfter (candidates d) room) (word taken) (word turned) ≡ faceList d (candidates d) taken turned
   unfolding facesAfter faceList

@@ -92,7 +92,7 @@ write-says xyz ns room =
     let n = bytesFor (total editionOne (length xyz / 3) (length ns / 2)) in
     subst (forms (lent xyz ns) (one 1 (length room < n) end)) (sym (of-written (firstOf (writerChecks editionOne xyz ns (length room)))))
     (ends (λ below. forms (lent xyz ns) (one 1 (length room < n) below)) (writerChecks editionOne xyz ns (length room))
-    (behind (forms (lent xyz ns)) (one 1 (length room < n)) (lentChecks editionOne xyz ns) _ (form-says (lent xyz ns)) (λ e.
+    (behind (forms (lent xyz ns)) (one 1 (length room < n)) (lentChecks xyz ns) _ (form-says (lent xyz ns)) (λ e.
     also-one 1 (length room < n) (ltb (length room) n) (is-lt (length room) n) (λ below. below) [] (λ e. done))))
   where
     of-written : (a : Answer) → ofWritten (writtenFor editionOne xyz ns a) ≡ a

@@ -37,11 +37,11 @@ Either f g = SameRing f g ⊎ SameRing (flipped f) g
 module _ (d : Wire) (cs fs : List Loop) where
   -- the candidates that the faces are, those of them that are run against their normal form, and the candidate of face i; `NamedByList` says
   -- so in words
-  abbrev pub takenIn : List Bool
-  takenIn = listed cs fs .taken
+  abbrev pub takenBy : List Bool
+  takenBy = listed cs fs .taken
 
-  abbrev pub turnedIn : List Bool
-  turnedIn = listed cs fs .turned
+  abbrev pub turnedBy : List Bool
+  turnedBy = listed cs fs .turned
 
   abbrev pub candidateAt : ℕ → ℕ
   candidateAt i = getD (listed cs fs .numbers) i 0
@@ -55,30 +55,30 @@ module _ (d : Wire) (cs fs : List Loop) where
 
   -- what 23 to 27 speak of, once 21 and 22 have passed: the list names these two sets, and face i is its candidate in that direction
   pub record NamedByList : Type 0 where
-    pub names : Names d cs takenIn turnedIn fs
-    pub face : (i : ℕ) → i < length fs → Face d cs takenIn turnedIn (candidateAt i)
-    pub ring : (i : ℕ) → i < length fs → SameRing (directed d cs takenIn turnedIn (candidateAt i)) (loopAt fs i)
+    pub names : Names d cs takenBy turnedBy fs
+    pub face : (i : ℕ) → i < length fs → Face d cs takenBy turnedBy (candidateAt i)
+    pub ring : (i : ℕ) → i < length fs → SameRing (directed d cs takenBy turnedBy (candidateAt i)) (loopAt fs i)
 
   abbrev pub ListedOnce : Type 0
   ListedOnce = ((i : ℕ) → i < length fs → NoCandidate i → ⊥) → ((i : ℕ) → i < length fs → AnEarlierFace i → ⊥) → NamedByList
 
   -- 23, of an edge: "not two faces". 24, of an edge: not once each way
   abbrev pub NotTwoFaces : ℕ → Type 0
-  NotTwoFaces e = InTwo d cs takenIn turnedIn (edgeAt d e) → ⊥
+  NotTwoFaces e = InTwo d cs takenBy turnedBy (edgeAt d e) → ⊥
 
   abbrev pub NotOnceEachWay : ℕ → Type 0
-  NotOnceEachWay e = EachWay d cs takenIn turnedIn (edgeAt d e) → ⊥
+  NotOnceEachWay e = EachWay d cs takenBy turnedBy (edgeAt d e) → ⊥
 
   -- 25, of a face: "not joined to face 0". 26: "six volumes not above 0". 27, of a face: it clashes with another
   abbrev pub NotJoined : ℕ → Type 0
-  NotJoined i = Way d cs takenIn turnedIn (candidateAt 0) (candidateAt i) → ⊥
+  NotJoined i = Way d cs takenBy turnedBy (candidateAt 0) (candidateAt i) → ⊥
 
   abbrev pub NoVolume : Type 0
-  NoVolume = (six : ℕ) → sixOfFaces d cs takenIn turnedIn 0 cs ≡ pos six → 0 < six → ⊥
+  NoVolume = (six : ℕ) → sixOfFaces d cs takenBy turnedBy 0 cs ≡ pos six → 0 < six → ⊥
 
   abbrev pub ClashesWithAnother : ℕ → Type 0
   ClashesWithAnother i =
-      (k : ℕ) × Face d cs takenIn turnedIn k × (candidateAt i ≡ k → ⊥)
+      (k : ℕ) × Face d cs takenBy turnedBy k × (candidateAt i ≡ k → ⊥)
       × ClashOf (polygon d (loopAt cs (candidateAt i))) (polygon d (loopAt cs k))
 
   -- 20, 26: 0. 21, 22, 25, 27: "face". 23, 24: "edge"

@@ -13,7 +13,7 @@ use lib.Seq.{ext-getD}
 use Rattle.lists.specs.Lists.{any, upto}
 use Rattle.lists.proofs.Truth.{or-none}
 use Rattle.lists.proofs.Places.{map-at, upto-length, upto-at}
-use Rattle.paper.specs.Format.{editionOne}
+use Rattle.paper.specs.Numbers.{mostVertices}
 use Rattle.paper.specs.Drawing.{Wire, Edge, edge, edgesOf, ends, joins, joined}
 use Rattle.paper_laws.specs.InRange.{Ends}
 use Rattle.sets.specs.Word.{digit}
@@ -30,7 +30,7 @@ row es v u = map (λ k. any (joins u k) (edgesOf es)) (upto v)
 
 -- as many words as there may be vertices
 abbrev most : ℕ
-most = editionOne .«most_vertices»
+most = mostVertices
 
 module _ {es : List ℕ} {v : ℕ} (p : Ends es v) where
   row-at : (u w : ℕ) → getD (row es v u) w false ≡ any (joins u w) (edgesOf es)

@@ -6,7 +6,7 @@ use Prim.Native.Nat.{ℕ, _<_, _≤_}
 use lib.ListN.{length, getD}
 use Rattle.lists.specs.Lists.{any, upto}
 use Rattle.sets.specs.Word.{word, digit}
-use Rattle.paper.specs.Format.{editionOne}
+use Rattle.paper.specs.Numbers.{mostVertices}
 use Rattle.paper.specs.Drawing.{Wire, Edge, joins, joined}
 
 -- of v vertices and the edges es
@@ -16,11 +16,11 @@ neighbourWord es v u = word (map (λ w. any (joins u w) es) (upto v))
 
 unfoldable pub neighbourWords : List Edge → ℕ → List ℕ
 unfolding neighbourWord upto
-neighbourWords es v = map (neighbourWord es v) (upto (editionOne .«most_vertices»))
+neighbourWords es v = map (neighbourWord es v) (upto mostVertices)
 
 -- the ends of a drawing with v vertices, a word for each of which there is room for
 pub record FewEnds (ends : List ℕ) (v : ℕ) : Type 0 where
-  pub most : v ≤ editionOne .«most_vertices»
+  pub most : v ≤ mostVertices
   pub links : Ends ends v
 
 -- the words are those of the drawing d, which has v vertices

@@ -3,7 +3,7 @@
 ghost use mathlib.Core.Path.{_≡_};
 ghost use mathlib.Core.List.{[], _∷_};
 ghost use Prim.Native.Nat.{_≤_};
-ghost use Rattle.paper.specs.Format.{editionOne};
+ghost use Rattle.paper.specs.Numbers.{mostVertices};
 ghost use Rattle.paper.specs.Refusals as No;
 ghost use Rattle.paper.specs.Refusals.{check, firstOf};
 ghost use Rattle.paper.specs.Drawing.{Wire, edgesOf, looseVertex, verticesReached, apart};
@@ -36,7 +36,7 @@ pub fn neighbours(ends: &[u8], v: usize) -> [u64; MOST_VERTICES]
 }
 
 pub fn loose_vertex(near: &[u64; MOST_VERTICES], v: usize) -> Answer
-    requires { ⌜ v ≤ editionOne .«most_vertices» ⌝ }
+    requires { ⌜ v ≤ mostVertices ⌝ }
     ensures { λ r. ⌜ ((d : Wire) → Links (now (near .entry)) v d → r ≡ firstOf (check No.LooseVertex (looseVertex d) ∷ [])) ⌝ }
 {
     let mut u = 0;
@@ -51,7 +51,7 @@ pub fn loose_vertex(near: &[u64; MOST_VERTICES], v: usize) -> Answer
 
 // The vertices of a set, and those that one edge more leads to.
 fn further(near: &[u64; MOST_VERTICES], v: usize, set: u64) -> u64
-    requires { ⌜ v ≤ editionOne .«most_vertices» ⌝ }
+    requires { ⌜ v ≤ mostVertices ⌝ }
     ensures { λ r. ⌜ ((d : Wire) → Links (now (near .entry)) v d → Grown set v d r) ⌝ }
 {
     let mut more = set;
@@ -67,7 +67,7 @@ fn further(near: &[u64; MOST_VERTICES], v: usize, set: u64) -> u64
 
 // The vertices that edges lead to from vertex 0: once a step finds no more, no later one does.
 fn vertices_reached(near: &[u64; MOST_VERTICES], v: usize) -> u64
-    requires { ⌜ v ≤ editionOne .«most_vertices» ⌝ }
+    requires { ⌜ v ≤ mostVertices ⌝ }
     ensures { λ r. ⌜ ((d : Wire) → Links (now (near .entry)) v d → DigitsAre r v (verticesReached d v)) ⌝ }
 {
     let mut set = 1u64;
@@ -84,7 +84,7 @@ fn vertices_reached(near: &[u64; MOST_VERTICES], v: usize) -> u64
 }
 
 pub fn apart(near: &[u64; MOST_VERTICES], v: usize) -> Answer
-    requires { ⌜ v ≤ editionOne .«most_vertices» ⌝ }
+    requires { ⌜ v ≤ mostVertices ⌝ }
     ensures { λ r. ⌜ ((d : Wire) → Links (now (near .entry)) v d → r ≡ firstOf (check No.Apart (apart d) ∷ [])) ⌝ }
 {
     let set = vertices_reached(near, v);

@@ -5,8 +5,9 @@ use Prim.Native.Nat.{ℕ, _*_, _/_, _≤_}
 use native.Mathlib.Omega.{arith}
 use lib.IntN.{ℤ, pos}
 use lib.ListN.{length, getD}
+use Rattle.paper.specs.Numbers.{leastEdges, mostEdges}
 use Rattle.paper.specs.Refusals.{firstOf}
-use Rattle.paper.specs.Format.{editionOne, leastEdges}
+use Rattle.paper.specs.Format.{editionOne}
 use Rattle.paper.specs.Sheet.{contentChecks, lentChecks}
 use Rattle.paper.specs.declared.Answer.the-variants.{Fine}
 use Rattle.paper_laws.proofs.Coordinate.{in-reach}
@@ -21,7 +22,7 @@ module _ (xyz : List ℤ) (ends : List ℕ) (v e : ℕ) (three : length xyz ≡ 
       let c = contents v xyz ends h in
       record { whole = three; near = λ k. record { within = in-reach (getD xyz k (pos 0)) (c .near k) } }
 
-  pub ends-are : leastEdges ≤ e → e ≤ editionOne .«most_edges» → Ends ends v
+  pub ends-are : leastEdges ≤ e → e ≤ mostEdges → Ends ends v
   ends-are least most =
       let c = contents v xyz ends h in
       record {
@@ -33,7 +34,7 @@ module _ (xyz : List ℤ) (ends : List ℕ) (v e : ℕ) (three : length xyz ≡ 
         rising = λ k u. c .rising k (omega arith);
       }
 
-pub lent-range : (xyz : List ℤ) (ends : List ℕ) → Fine ≡ firstOf (lentChecks editionOne xyz ends) → InRange xyz ends
+pub lent-range : (xyz : List ℤ) (ends : List ℕ) → Fine ≡ firstOf (lentChecks xyz ends) → InRange xyz ends
 lent-range xyz ends h =
     let g = lent editionOne xyz ends h in
     let v = length xyz / 3 in

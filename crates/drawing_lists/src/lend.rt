@@ -21,7 +21,7 @@ fn is_bad_count(k: usize, lo: u64, hi: u64, n: usize) -> bool
 }
 
 pub fn lent(f: Format, xyz: &[i64], ends: &[u8]) -> Answer
-    ensures { λ r. ⌜ r ≡ firstOf (lentChecks f (now (xyz .entry)) (now (ends .entry))) ⌝ }
+    ensures { λ r. ⌜ r ≡ firstOf (lentChecks (now (xyz .entry)) (now (ends .entry))) ⌝ }
 {
     if is_bad_count(3, paper::LEAST_VERTICES as u64, f.most_vertices, xyz.len()) {
         return refused(paper::BAD_COUNT, 0);

@@ -6,8 +6,8 @@ use Prim.Native.Nat.{ℕ, _+_, _*_, _/_, _≤_, _<_}
 use lib.IntN.{ℤ}
 use lib.ListN.{length}
 use Rattle.sets.specs.Sets.{room}
+use Rattle.paper.specs.Numbers.{mostEdges}
 use Rattle.paper.specs.Drawing.{wire, edgesOf, samePlace, looseVertex}
-use Rattle.paper.specs.Format.{editionOne}
 use Rattle.paper_laws.specs.InRange.{Points, Ends, InRange}
 use Rattle.drawing_links.specs.Neighbours.{neighbourWords}
 use Rattle.drawing_segments.specs.Ways.{spanOf}
@@ -32,8 +32,8 @@ pub record ListsInRange (xyz : List ℤ) (v : ℕ) (ends : List ℕ) : Type 0 wh
 -- and room for a corner of each edge's box, twice
 pub record ListsAndRooms (xyz : List ℤ) (v : ℕ) (ends : List ℕ) (low high : List ℤ) : Type 0 where
   pub lists : ListsInRange xyz v ends
-  pub low-room : 3 * (editionOne .«most_edges») ≤ length low
-  pub high-room : 3 * (editionOne .«most_edges») ≤ length high
+  pub low-room : 3 * mostEdges ≤ length low
+  pub high-room : 3 * mostEdges ≤ length high
 
 -- the lists, and a place in the list of ends
 pub record EndAt (xyz : List ℤ) (v : ℕ) (ends : List ℕ) (k : ℕ) : Type 0 where

@@ -2,7 +2,7 @@
 ghost use mathlib.Core.Path.{_≡_};
 ghost use Prim.Native.Nat.{_+_, _*_, _<_};
 ghost use lib.ListN.{length};
-ghost use Rattle.paper.specs.Format.{editionOne};
+ghost use Rattle.paper.specs.Numbers.{mostEdges};
 ghost use Rattle.drawing_rules.specs.Asked.{ListsAndRooms, Boxed};
 ghost use Rattle.drawing_rules.specs.Boxes.{boxIn, pointPut};
 use super::ends::end_at;
@@ -44,7 +44,7 @@ pub fn put_boxes(xyz: &[i64], v: usize, ends: &[u8], low: &mut [i64], high: &mut
 }
 
 pub fn box_at(low: &[i64; CORNERS], high: &[i64; CORNERS], e: usize) -> Span
-    requires { ⌜ e < editionOne .«most_edges» ⌝ }
+    requires { ⌜ e < mostEdges ⌝ }
     ensures { λ r. ⌜ r ≡ boxIn (now (low .entry)) (now (high .entry)) e ⌝ }
 {
     Span {

@@ -10,8 +10,8 @@ use Rattle.pack.specs.Bits.{fieldAt}
 use Rattle.lists.specs.Lists.{all}
 use Rattle.lists.proofs.Truth.{and-left, and-right}
 use Rattle.lists.proofs.Passing.{all-yes}
-use Rattle.paper.specs.Numbers.{leastCorners, mostCorners}
-use Rattle.paper.specs.Format.{leastFaces, editionBits, outside, bytesFor, fillAfter}
+use Rattle.paper.specs.Numbers.{leastFaces, leastCorners, mostCorners}
+use Rattle.paper.specs.Format.{editionBits, outside, bytesFor, fillAfter}
 use Rattle.paper.specs.FaceList.{countIn, facesIn, bitsOf, faceFits, wellShaped}
 use Rattle.paper.specs.Loops.{Loop}
 use Rattle.paper.specs.declared.Format.{Format}

@@ -19,8 +19,8 @@ use Rattle.lists.proofs.Truth.{and-left, and-right}
 use Rattle.lists.proofs.Passing.{all-snoc, all-fails}
 use Rattle.paper_laws.proofs.Rows.{row-length}
 use Rattle.paper_laws.proofs.Limits.{outside-false}
-use Rattle.paper.specs.Numbers.{mostCorners, rowBytes}
-use Rattle.paper.specs.Format.{editionOne, leastFaces, editionBits, cornerBits, outside, bytesFor, fillAfter}
+use Rattle.paper.specs.Numbers.{leastFaces, mostFaces, mostCorners, rowBytes}
+use Rattle.paper.specs.Format.{editionBits, cornerBits, outside, bytesFor, fillAfter}
 use Rattle.paper.specs.Loops.{Loop, row}
 use Rattle.paper.specs.FaceList.{noFaces, countIn, facesIn, span, bitsOf, faceFits, wellShaped, facesOf}
 use Rattle.paper.specs.declared.Format.{Format}
@@ -161,7 +161,7 @@ module _ (f : Format) (v : ℕ) (s : List ℕ) where
     here-long : length here ≡ fieldAt s p cornerBits
     here-long = sym (ap length here-is) ∙ length-fields s (p + cornerBits) (f .«vertex_number_bits») (fieldAt s p cornerBits)
 
-    pub read-next : Brief f → k < editionOne .«most_faces» → {c : ℕ} → Face p c → {next : List ℕ} → length next ≡ length rows
+    pub read-next : Brief f → k < mostFaces → {c : ℕ} → Face p c → {next : List ℕ} → length next ≡ length rows
         → next ≡ paste rows (rowBytes * k) (row (cornersIn f s p c)) rowBytes → Read (k + 1) (faceEnd f p c) next
     read-next g few {c} x {next} size e =
         let before = take k faces in

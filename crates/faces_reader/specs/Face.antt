@@ -6,7 +6,8 @@ use Prim.Native.Nat.{ℕ, _+_, _*_, _≤_}
 use lib.Dec.{leb, eqb}
 use lib.ListN.{length}
 use Rattle.pack.specs.Bits.{fieldAt, fieldsAt}
-use Rattle.paper.specs.Format.{editionOne, leastFaces, editionBits, cornerBits, outside, bytesFor, fillAfter}
+use Rattle.paper.specs.Numbers.{leastFaces, mostFaces}
+use Rattle.paper.specs.Format.{editionBits, cornerBits, outside, bytesFor, fillAfter}
 use Rattle.paper.specs.FaceList.{countIn, faceFits}
 use Rattle.paper.specs.declared.Format.{Format}
 use Rattle.sheet_shape.specs.Narrow.{Narrow}
@@ -14,7 +15,7 @@ use Rattle.sheet_shape.specs.Narrow.{Narrow}
 -- so that a face list by value has room for what a list holds
 pub record Brief (f : Format) : Type 0 where
   pub slender : Narrow f
-  pub f-held : f .«most_faces» ≤ editionOne .«most_faces»
+  pub f-held : f .«most_faces» ≤ mostFaces
   pub face-count-wide : 5 ≤ f .«face_count_bits»
 
 module _ (f : Format) where

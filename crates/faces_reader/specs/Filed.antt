@@ -1,8 +1,7 @@
 -- The room of the rows that a face list is read into.
 use Prim.Native.Nat.{ℕ, _*_}
-use Rattle.paper.specs.Numbers.{rowBytes}
-use Rattle.paper.specs.Format.{editionOne}
+use Rattle.paper.specs.Numbers.{mostFaces, rowBytes}
 
 -- the bytes of the rows that a face list by value has
 abbrev pub allRows : ℕ
-allRows = rowBytes * editionOne .«most_faces»
+allRows = rowBytes * mostFaces

@@ -12,8 +12,9 @@ use Rattle.pack.proofs.Overwrite.{overwrite-next}
 use Rattle.paper_laws.proofs.Checks.{holds, fails, clear}
 use Rattle.lists.specs.Lists.{all}
 use Rattle.paper.specs.Refusals as No
+use Rattle.paper.specs.Numbers.{leastFaces}
 use Rattle.paper.specs.Refusals.{firstOf}
-use Rattle.paper.specs.Format.{leastFaces, editionBits, outside, bytesFor, filled}
+use Rattle.paper.specs.Format.{editionBits, outside, bytesFor, filled}
 use Rattle.paper.specs.Loops.{Loop}
 use Rattle.paper.specs.FaceList.{listBits, encodeFaces, bitsOf, sendChecks, sentFor, sentRoomFor, sentOf, sentRoom}
 use Rattle.paper.specs.declared.Format.{Format}

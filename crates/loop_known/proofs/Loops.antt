@@ -7,8 +7,7 @@ use native.Mathlib.Omega.{arith}
 use lib.IntN.{ℤ}
 use lib.ListN.{length, take, length-take}
 use lib.Seq.{take-all}
-use Rattle.paper.specs.Numbers.{mostLoops, rowBytes}
-use Rattle.paper.specs.Format.{editionOne}
+use Rattle.paper.specs.Numbers.{mostVertices, mostLoops, rowBytes}
 use Rattle.paper.specs.Drawing.{Wire, wire, pointsOf, edgesOf}
 use Rattle.paper.specs.Loops.{Loop, loops}
 use Rattle.paper_laws.specs.InRange.{Points}
@@ -36,7 +35,7 @@ module _ {xyz : List ℤ} {ends near number : List ℕ} (a : DrawnBy xyz ends ne
   pub points-in : Points xyz v
   points-in = record { whole = omega (arith, a .passed .range .points .whole, vertices); near = a .passed .range .points .near }
 
-  pub few-vertices : v ≤ editionOne .«most_vertices»
+  pub few-vertices : v ≤ mostVertices
   few-vertices = omega (arith, a .passed .range .most, vertices)
 
   -- the drawing as the search and the words ask for it

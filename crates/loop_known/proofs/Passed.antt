@@ -20,7 +20,7 @@ use Rattle.loop_words.specs.Numbered.{RisingEnds}
 
 module _ (xyz : List ℤ) (ends : List ℕ) where
   -- 10, the last of the checks of lent lists
-  rising-is : Fine ≡ firstOf (lentChecks editionOne xyz ends) → lowest (lowAt ends) (length ends / 2) ≡ none
+  rising-is : Fine ≡ firstOf (lentChecks xyz ends) → lowest (lowAt ends) (length ends / 2) ≡ none
   unfolding contentChecks edgeChecks
   rising-is h =
       let v = length xyz / 3 in
@@ -30,7 +30,7 @@ module _ (xyz : List ℤ) (ends : List ℕ) where
       let content : Fine ≡ firstOf (check No.BadCoordinate (lowest (farAt xyz) (length xyz)) ∷ nine) = lent editionOne xyz ends h .fine in
       found-none No.EdgeOrder [] (found-none No.BadEdge last (found-none No.BadCoordinate nine content .1) .1) .0
 
-  pub has-passed : Fine ≡ firstOf (lentChecks editionOne xyz ends) → Fine ≡ firstOf (drawingChecks (wire xyz ends)) → Passed xyz ends
+  pub has-passed : Fine ≡ firstOf (lentChecks xyz ends) → Fine ≡ firstOf (drawingChecks (wire xyz ends)) → Passed xyz ends
   unfolding drawingChecks
   has-passed ok ruled =
       let d = wire xyz ends in

@@ -12,14 +12,14 @@ use Rattle.sets.specs.Sets.{Is, size, Joint, Lowest, Dropped, SetAt}
 use Rattle.sets.specs.declared.Set.{Set}
 use Rattle.sets.proofs.Digits.{length-both-last, length-less, first-lt}
 use Rattle.sets.proofs.Sets.{size-is}
-use Rattle.paper.specs.Numbers.{mostCorners, mostLoops, fillByte}
+use Rattle.paper.specs.Numbers.{mostCorners, mostLoops, fillByte, mostVertices}
 use Rattle.paper.specs.Drawing.{Wire}
 use Rattle.paper.specs.Loops.{final}
 use Rattle.fast_search.specs.Rows.{eachOf}
 use Rattle.fast_search.specs.Search.{InItsPlane, own, near, inPlane}
 use Rattle.fast_search.proofs.Turns.{path-last, path-more, plane-last, plane-stop, plane-start}
 use Rattle.loop_search.specs.Rooms.{Rooms, Sized, Adds}
-use Rattle.loop_search.specs.Paths.{PathAt, VerticesBelow, mostVertices, NearWords, Onward, Ended, PlaneSearched}
+use Rattle.loop_search.specs.Paths.{PathAt, VerticesBelow, NearWords, Onward, Ended, PlaneSearched}
 use Rattle.loop_search.proofs.Filling.{adds-then}
 use Rattle.loop_search.proofs.Kept.{Kept, kept-start, kept-next, kept-end, kept-full}
 

@@ -13,6 +13,7 @@ use Rattle.sets.specs.Word.{count, first, either, less, only}
 use Rattle.sets.specs.Sets.{Is, size, Lowest, Dropped}
 use Rattle.sets.specs.declared.Set.{Set}
 use Rattle.sets.proofs.Sets.{size-is, is-more}
+use Rattle.paper.specs.Numbers.{mostVertices}
 use Rattle.paper.specs.Points.{minus, dot, isZero}
 use Rattle.paper.specs.declared.Point.{Point}
 use Rattle.polygon.specs.Sizes.{PlaneWithin}
@@ -20,7 +21,6 @@ use Rattle.polygon.specs.Rings.{pointOf}
 use Rattle.polygon.proofs.Rows.{point-small}
 use Rattle.fast_search.specs.Rows.{someOf}
 use Rattle.fast_search.proofs.Rows.{some-next, some-end}
-use Rattle.loop_search.specs.Paths.{mostVertices}
 use Rattle.loop_search.specs.Lines.{levelIn, PlaneIn, PlaneAndSet}
 use Rattle.loop_search.proofs.Deeper.{below-dropped}
 

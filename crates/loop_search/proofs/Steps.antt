@@ -12,7 +12,7 @@ use Rattle.lists.proofs.Places.{upto-length}
 use Rattle.sets.specs.Word.{both, less, only}
 use Rattle.sets.specs.Sets.{Is, Joint, Dropped}
 use Rattle.sets.specs.declared.Set.{Set}
-use Rattle.paper.specs.Numbers.{mostCorners}
+use Rattle.paper.specs.Numbers.{mostCorners, mostVertices}
 use Rattle.paper.specs.Points.{isOrigin}
 use Rattle.paper.specs.Drawing.{Wire, at}
 use Rattle.fast_search.specs.Rows.{someOf}
@@ -22,7 +22,7 @@ use Rattle.fast_search.proofs.Turns.{turn-line, turn-none, turn-plane}
 use Rattle.loop_search.specs.declared.planes.Turn.{Turn}
 use Rattle.loop_search.specs.declared.planes.Turn.the-variants as Turn
 use Rattle.loop_search.specs.Rooms.{Rooms, Sized, Adds}
-use Rattle.loop_search.specs.Paths.{VerticesBelow, mostVertices, PlaneSearched}
+use Rattle.loop_search.specs.Paths.{VerticesBelow, PlaneSearched}
 use Rattle.loop_search.specs.Lines.{turnIn, inFixed, TurnIs, TurnAt, StepAt, DrawnWith, OnLine, Stepped}
 use Rattle.loop_search.proofs.Filling.{adds-none}
 use Rattle.loop_search.proofs.Deeper.{below-dropped, below-both}

@@ -12,7 +12,7 @@ use Rattle.lists.specs.Lists.{any, upto}
 use Rattle.lists.proofs.Places.{made-at, upto-length}
 use Rattle.sets.specs.Word.{word}
 use Rattle.sets.specs.Sets.{Is, packedSet, maskAt}
-use Rattle.paper.specs.Numbers.{mostCorners, mostLoops, rowBytes}
+use Rattle.paper.specs.Numbers.{mostCorners, mostLoops, rowBytes, mostVertices}
 use Rattle.paper.specs.Drawing.{Wire, joins, joined}
 use Rattle.paper.specs.Loops.{Loop, row, loops}
 use Rattle.paper_laws.specs.InRange.{Points}
@@ -23,7 +23,7 @@ use Rattle.fast_search.proofs.Bare.{bare-is}
 use Rattle.fast_search.proofs.Turns.{bare-starts-next, bare-starts-end}
 use Rattle.loop_table.specs.Tables.{maskWord, rowsAfter, wordsAfter}
 use Rattle.loop_search.specs.Rooms.{Rooms, rooms, Sized, loopRow, planeWord, HoldsLoops, Adds, Found}
-use Rattle.loop_search.specs.Paths.{mostVertices, NearWords}
+use Rattle.loop_search.specs.Paths.{NearWords}
 use Rattle.loop_search.specs.Lines.{DrawnWith}
 use Rattle.loop_search.specs.Starts.{noPath, Started, SearchAt, ClearDrawing}
 use Rattle.loop_search.proofs.Filling.{adds-none, adds-then}

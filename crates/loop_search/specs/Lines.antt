@@ -8,7 +8,7 @@ use lib.ListN.{getD, take}
 use Rattle.lists.specs.Lists.{upto}
 use Rattle.sets.specs.Sets.{Is}
 use Rattle.sets.specs.declared.Set.{Set}
-use Rattle.paper.specs.Numbers.{farthest, mostCorners}
+use Rattle.paper.specs.Numbers.{farthest, mostCorners, mostVertices}
 use Rattle.paper.specs.Points.{minus, dot, cross, isZero, isOrigin}
 use Rattle.paper.specs.Drawing.{Wire, pointsOf}
 use Rattle.paper.specs.declared.Point.{Point}
@@ -21,7 +21,7 @@ use Rattle.fast_search.specs.Bare.{bareLine}
 use Rattle.loop_search.specs.declared.planes.Turn.{Turn}
 use Rattle.loop_search.specs.declared.planes.Turn.the-variants as Turn
 use Rattle.loop_search.specs.Rooms.{Rooms, Sized, Adds}
-use Rattle.loop_search.specs.Paths.{PathAt, VerticesBelow, mostVertices, NearWords}
+use Rattle.loop_search.specs.Paths.{PathAt, VerticesBelow, NearWords}
 
 -- ---- the plane through s across m
 

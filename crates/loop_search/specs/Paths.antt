@@ -7,8 +7,7 @@ use lib.ListN.{length, getD, take}
 use Rattle.sets.specs.Word.{both}
 use Rattle.sets.specs.Sets.{Is, maskAt}
 use Rattle.sets.specs.declared.Set.{Set}
-use Rattle.paper.specs.Numbers.{mostCorners, mostLoops, rowBytes, fillByte}
-use Rattle.paper.specs.Format.{editionOne}
+use Rattle.paper.specs.Numbers.{mostVertices, mostCorners, mostLoops, rowBytes, fillByte}
 use Rattle.paper.specs.Drawing.{Wire}
 use Rattle.paper.specs.Loops.{final}
 use Rattle.fast_search.specs.Search.{own, near, inPlane}
@@ -27,9 +26,6 @@ pub record VerticesBelow (x : Set) (n : ℕ) : Type 0 where
   pub digits : List Bool
   pub is : Is x digits
   pub few : length digits ≤ n
-
-abbrev pub mostVertices : ℕ
-mostVertices = editionOne .«most_vertices»
 
 -- the words of neighbours
 abbrev pub NearWords : Wire → List ℕ → Type 0

@@ -5,13 +5,12 @@ use mathlib.Core.Path.{_≡_}
 use Prim.Native.Nat.{ℕ, _≤_, _<_}
 use lib.IntN.{ℤ}
 use lib.ListN.{replicate}
-use Rattle.paper.specs.Numbers.{mostCorners, fillByte}
+use Rattle.paper.specs.Numbers.{mostCorners, fillByte, mostVertices}
 use Rattle.paper.specs.Drawing.{Wire, pointsOf, samePlace, edgeMeets}
 use Rattle.paper_laws.specs.InRange.{Points}
 use Rattle.drawing_links.specs.Neighbours.{neighbourWords}
 use Rattle.fast_search.specs.Bare.{bareSeconds}
 use Rattle.loop_search.specs.Rooms.{Rooms, rooms, Sized, Adds}
-use Rattle.loop_search.specs.Paths.{mostVertices}
 use Rattle.loop_search.specs.Lines.{DrawnWith}
 
 -- a path before its first vertex

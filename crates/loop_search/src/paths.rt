@@ -1,7 +1,8 @@
 // Paths whose plane is fixed: the search goes deeper only through free neighbours in the plane, and only as far as one of the free
 // vertices can close the path. Assumes a path of vertices that there are, followed by fill.
 ghost use Rattle.loop_search.specs.Rooms.{rooms};
-ghost use Rattle.loop_search.specs.Paths.{PathAt, mostVertices, Onward, OnPath, PlaneSearched};
+ghost use Rattle.loop_search.specs.Paths.{PathAt, Onward, OnPath, PlaneSearched};
+ghost use Rattle.paper.specs.Numbers.{mostVertices};
 use super::rooms::take_if_closed;
 use lists::wide;
 use paper::FILL;

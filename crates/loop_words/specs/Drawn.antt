@@ -4,8 +4,7 @@ use mathlib.Core.List.{List}
 use Prim.Native.Nat.{ℕ, _+_, _*_, _≤_, _<_}
 use lib.ListN.{length, getD}
 use Rattle.sets.specs.Word.{word}
-use Rattle.paper.specs.Numbers.{mostCorners, mostLoops, rowBytes}
-use Rattle.paper.specs.Format.{editionOne}
+use Rattle.paper.specs.Numbers.{mostVertices, mostEdges, mostCorners, mostLoops, rowBytes}
 use Rattle.paper.specs.Drawing.{Wire}
 use Rattle.paper.specs.Loops.{Loop}
 use Rattle.polygon.specs.Rings.{cornerCount, vertexIn}
@@ -18,8 +17,8 @@ use Rattle.loop_words.specs.declared.Words.{Words}
 
 -- a drawing of at most 32 vertices and 64 edges, which have these numbers
 pub record Small (d : Wire) (number : List ℕ) : Type 0 where
-  pub vertices : length (d .vertices) ≤ editionOne .«most_vertices»
-  pub edges : length (d .edges) ≤ editionOne .«most_edges»
+  pub vertices : length (d .vertices) ≤ mostVertices
+  pub edges : length (d .edges) ≤ mostEdges
   pub numbered : EdgesNumbered number (d .edges)
 
 -- ---- one row

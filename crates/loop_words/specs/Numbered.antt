@@ -5,7 +5,7 @@ use mathlib.Core.Option.{none}
 use Prim.Native.Nat.{ℕ, _+_, _*_, _/_, _≤_, _<_}
 use lib.ListN.{length, getD}
 use Rattle.lists.specs.Lists.{lowest}
-use Rattle.paper.specs.Format.{editionOne}
+use Rattle.paper.specs.Numbers.{mostVertices}
 use Rattle.paper.specs.Sheet.{lowAt}
 use Rattle.paper.specs.Drawing.{Edge, edge}
 use Rattle.paper_laws.specs.InRange.{Ends}
@@ -13,13 +13,13 @@ use Rattle.paper_laws.specs.InRange.{Ends}
 -- the ends of edges in rising order, as 10 leaves them
 pub record RisingEnds (ends : List ℕ) : Type 0 where
   pub vertices : ℕ
-  pub few : vertices ≤ editionOne .«most_vertices»
+  pub few : vertices ≤ mostVertices
   pub links : Ends ends vertices
   pub order : lowest (lowAt ends) (length ends / 2) ≡ none
 
 -- the entry of a pair
 abbrev pub pairAt : ℕ → ℕ → ℕ
-pairAt a b = editionOne .«most_vertices» * a + b
+pairAt a b = mostVertices * a + b
 
 -- edge e of es joins a and b: both entries of the pair are e
 pub record EdgesNumbered (number : List ℕ) (es : List Edge) : Type 0 where

@@ -7,6 +7,7 @@ use Prim.Native.Nat.{ℕ, _<_}
 use native.Mathlib.Omega.{arith}
 use borrow.Author.Tests.{not-false}
 use lib.ListN.{length, getD}
+use Rattle.paper.specs.Numbers.{documented}
 use Rattle.paper.specs.Format.{editionOne}
 use Rattle.paper.specs.Refusals.{Check, check, firstOf, offends}
 use Rattle.paper.specs.Drawing.{Wire, drawingChecks}
@@ -148,31 +149,31 @@ module _ (form : List Check) (d : Wire) (list : List ℕ) where
   abbrev shapeOf : Option ℕ
   shapeOf = offends (not (wellShaped editionOne (length (d .vertices)) list)) 0
 
-  verdict-is : verdictFor (firstOf (form ++ drawingChecks d ++ loopChecks (loops d) (candidates d) ++ (check 20 shapeOf ∷ faceLast)))
+  verdict-is : verdictFor (firstOf (form ++ drawingChecks d ++ loopChecks documented (loops d) (candidates d) ++ (check 20 shapeOf ∷ faceLast)))
       ≡ verdict form d list
   unfolding verdict candidates
   verdict-is = refl
 
   verdict-fine : verdict form d list ≡ Accepted
-      → Fine ≡ firstOf (form ++ drawingChecks d ++ loopChecks (loops d) (candidates d) ++ (check 20 shapeOf ∷ faceLast))
+      → Fine ≡ firstOf (form ++ drawingChecks d ++ loopChecks documented (loops d) (candidates d) ++ (check 20 shapeOf ∷ faceLast))
   verdict-fine e =
-      fine-verdict (firstOf (form ++ drawingChecks d ++ loopChecks (loops d) (candidates d) ++ (check 20 shapeOf ∷ faceLast)))
+      fine-verdict (firstOf (form ++ drawingChecks d ++ loopChecks documented (loops d) (candidates d) ++ (check 20 shapeOf ∷ faceLast)))
       (verdict-is ∙ e)
 
   -- the drawing of an accepted list passes its rules
   pub fine-passes : verdict form d list ≡ Accepted → Fine ≡ firstOf (drawingChecks d)
   fine-passes e =
-      let p = first-both (form ++ drawingChecks d ++ loopChecks (loops d) (candidates d)) (check 20 shapeOf ∷ faceLast) (verdict-fine e) in
-      let q = first-both (form ++ drawingChecks d) (loopChecks (loops d) (candidates d)) (p .0) in
+      let p = first-both (form ++ drawingChecks d ++ loopChecks documented (loops d) (candidates d)) (check 20 shapeOf ∷ faceLast) (verdict-fine e) in
+      let q = first-both (form ++ drawingChecks d) (loopChecks documented (loops d) (candidates d)) (p .0) in
       first-both form (drawingChecks d) (q .0) .1
 
 module _ (form : List Check) (d : Wire) (c : ProperCandidates d (candidates d)) (list : List ℕ) where
   -- a list is accepted exactly when the drawing passes its rules, the list its own, and its faces name one solid of the drawing
   pub verdict-accepts : verdict form d list ≡ Accepted → Accepts form d list
   verdict-accepts e =
-      let p = first-both (form ++ drawingChecks d ++ loopChecks (loops d) (candidates d))
+      let p = first-both (form ++ drawingChecks d ++ loopChecks documented (loops d) (candidates d))
       (check 20 (shapeOf form d list) ∷ faceLast form d list) (verdict-fine form d list e) in
-      let q = first-both (form ++ drawingChecks d) (loopChecks (loops d) (candidates d)) (p .0) in
+      let q = first-both (form ++ drawingChecks d) (loopChecks documented (loops d) (candidates d)) (p .0) in
       let r = first-both form (drawingChecks d) (q .0) in
       let s = passed 20 0 (faceLast form d list) (p .1) in
       record {
@@ -186,8 +187,8 @@ module _ (form : List Check) (d : Wire) (c : ProperCandidates d (candidates d)) 
   pub accepts-verdict : Accepts form d list → verdict form d list ≡ Accepted
   accepts-verdict a =
       sym (ap verdictFor
-      (both-first (form ++ drawingChecks d ++ loopChecks (loops d) (candidates d)) (check 20 (shapeOf form d list) ∷ faceLast form d list)
-      (both-first (form ++ drawingChecks d) (loopChecks (loops d) (candidates d))
+      (both-first (form ++ drawingChecks d ++ loopChecks documented (loops d) (candidates d)) (check 20 (shapeOf form d list) ∷ faceLast form d list)
+      (both-first (form ++ drawingChecks d) (loopChecks documented (loops d) (candidates d))
       (both-first form (drawingChecks d) (a .form-passes) (a .drawing-passes)) (a .few))
       (names-accepted d (candidates d) (facesIn editionOne list) c (a .named) ∙ fails 20 0 (faceLast form d list) (ap not (a .shape))))
       ∙ verdict-is form d list)

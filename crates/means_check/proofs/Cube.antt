@@ -10,13 +10,13 @@ use Rattle.paper.specs.Known.Drawings.{cube, outward}
 use Rattle.paper.specs.declared.Verdict.the-variants.{Accepted}
 use Rattle.means_check.proofs.Demand.{BodyOfSolid, accepted-body}
 
-cube-accepted : verdict (lentChecks editionOne (cube .xyz) (cube .ends)) (wire (cube .xyz) (cube .ends))
+cube-accepted : verdict (lentChecks (cube .xyz) (cube .ends)) (wire (cube .xyz) (cube .ends))
     (encodeFaces editionOne outward) ≡ Accepted
 unfolding reply
 cube-accepted = refl
 
-pub cube-solid : BodyOfSolid (lentChecks editionOne (cube .xyz) (cube .ends)) (wire (cube .xyz) (cube .ends))
+pub cube-solid : BodyOfSolid (lentChecks (cube .xyz) (cube .ends)) (wire (cube .xyz) (cube .ends))
     (encodeFaces editionOne outward)
 cube-solid =
-    accepted-body (lentChecks editionOne (cube .xyz) (cube .ends)) (wire (cube .xyz) (cube .ends)) (encodeFaces editionOne outward)
+    accepted-body (lentChecks (cube .xyz) (cube .ends)) (wire (cube .xyz) (cube .ends)) (encodeFaces editionOne outward)
     cube-accepted

@@ -7,6 +7,7 @@ use Prim.Native.Nat.{ℕ, _≤_, _<_}
 use native.Mathlib.Decide.{ℕ-discrete}
 use lib.ListN.{length}
 use Rattle.sets.specs.Word.{dig}
+use Rattle.paper.specs.Numbers.{mostVertices, mostEdges, documented}
 use Rattle.paper.specs.Format.{editionOne}
 use Rattle.paper.specs.Refusals.{Check, firstOf}
 use Rattle.paper.specs.Drawing.{Wire, samePlace, drawingChecks}
@@ -121,7 +122,7 @@ module _ (form : List Check) (d : Wire) where
           missing-refused d (candidates d) fits (facesIn editionOne list) (facesIn editionOne other) fair m j hj n fair-other
 
   -- "where the report lists n solids, each of the n is accepted": any list of a good shape that names it
-  pub each-accepted : Fine ≡ firstOf form → Fine ≡ firstOf (drawingChecks d) → Fine ≡ firstOf (loopChecks (loops d) (candidates d))
+  pub each-accepted : Fine ≡ firstOf form → Fine ≡ firstOf (drawingChecks d) → Fine ≡ firstOf (loopChecks documented (loops d) (candidates d))
       → (taken turned : List Bool) (six : ℕ) → IsSolid d (candidates d) taken turned six
       → (list : List ℕ) → wellShaped editionOne (length (d .vertices)) list ≡ true
       → Names d (candidates d) taken turned (facesIn editionOne list) → verdict form d list ≡ Accepted
@@ -134,8 +135,8 @@ module _ (form : List Check) (d : Wire) where
   })
 
   -- each has such a list: its own faces in candidate order, packed
-  pub each-sent : Fine ≡ firstOf form → Fine ≡ firstOf (drawingChecks d) → Fine ≡ firstOf (loopChecks (loops d) (candidates d))
-      → length (d .vertices) ≤ editionOne .«most_vertices» → length (d .edges) ≤ editionOne .«most_edges»
+  pub each-sent : Fine ≡ firstOf form → Fine ≡ firstOf (drawingChecks d) → Fine ≡ firstOf (loopChecks documented (loops d) (candidates d))
+      → length (d .vertices) ≤ mostVertices → length (d .edges) ≤ mostEdges
       → (taken turned : List Bool) (six : ℕ) → IsSolid d (candidates d) taken turned six
       → verdict form d (encodeFaces editionOne (faceList d (candidates d) taken turned)) ≡ Accepted
   each-sent f r l vertices edges taken turned six s =
@@ -184,7 +185,7 @@ module _ (form : List Check) (d : Wire) where
       pick i j f s (yes e) = e
       pick i j f s (no n) = absurd (f n s)
 
-  pub body-accepted : Fine ≡ firstOf form → Fine ≡ firstOf (drawingChecks d) → Fine ≡ firstOf (loopChecks (loops d) (candidates d))
+  pub body-accepted : Fine ≡ firstOf form → Fine ≡ firstOf (drawingChecks d) → Fine ≡ firstOf (loopChecks documented (loops d) (candidates d))
       → (list : List ℕ) → wellShaped editionOne (length (d .vertices)) list ≡ true → BodyOfSolid list → verdict form d list ≡ Accepted
   body-accepted f r l list h b =
       let c = drawing-fits d r in

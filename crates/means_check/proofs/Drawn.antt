@@ -10,7 +10,8 @@ use lib.ListN.{length, length-map}
 use Rattle.lists.proofs.Truth.{or-none}
 use Rattle.pack.specs.Bits.{fieldsAt}
 use Rattle.pack.proofs.Laws.{length-fields}
-use Rattle.paper.specs.Format.{editionOne, leastVertices, leastEdges, outside, verticesIn, edgesIn, coordinatesIn, endsIn, coordinate}
+use Rattle.paper.specs.Numbers.{leastVertices, leastEdges, documented}
+use Rattle.paper.specs.Format.{editionOne, outside, verticesIn, edgesIn, coordinatesIn, endsIn, coordinate}
 use Rattle.paper.specs.Format.{head}
 use Rattle.paper.specs.Format.{coordinateBits}
 use Rattle.paper.specs.Refusals.{firstOf}
@@ -34,7 +35,7 @@ use Rattle.means_check.proofs.Demand.{accepts-exactly, each-sent}
 abbrev pub InCounts : Wire → Type 0
 InCounts d = (length (d .vertices) ≤ 32) × (length (d .edges) ≤ 64)
 
-pub lent-small : (xyz : List ℤ) (ends : List ℕ) → Fine ≡ firstOf (lentChecks editionOne xyz ends) → InCounts (wire xyz ends)
+pub lent-small : (xyz : List ℤ) (ends : List ℕ) → Fine ≡ firstOf (lentChecks xyz ends) → InCounts (wire xyz ends)
 unfolding lentChecks wire
 lent-small xyz ends e =
     let a = passed _ _ _ e in
@@ -77,19 +78,19 @@ sheet-small s e =
 
 module _ (xyz : List ℤ) (ends : List ℕ) where
   pub lists-exactly : (list : List ℕ)
-      → ((verdictLists xyz ends list ≡ Accepted) → Accepts (lentChecks editionOne xyz ends) (wire xyz ends) list)
-      × (Accepts (lentChecks editionOne xyz ends) (wire xyz ends) list → verdictLists xyz ends list ≡ Accepted)
+      → ((verdictLists xyz ends list ≡ Accepted) → Accepts (lentChecks xyz ends) (wire xyz ends) list)
+      × (Accepts (lentChecks xyz ends) (wire xyz ends) list → verdictLists xyz ends list ≡ Accepted)
   unfolding verdictLists
-  lists-exactly list = accepts-exactly (lentChecks editionOne xyz ends) (wire xyz ends) list
+  lists-exactly list = accepts-exactly (lentChecks xyz ends) (wire xyz ends) list
 
-  pub lists-each : Fine ≡ firstOf (lentChecks editionOne xyz ends) → Fine ≡ firstOf (drawingChecks (wire xyz ends))
-      → Fine ≡ firstOf (loopChecks (loops (wire xyz ends)) (candidates (wire xyz ends)))
+  pub lists-each : Fine ≡ firstOf (lentChecks xyz ends) → Fine ≡ firstOf (drawingChecks (wire xyz ends))
+      → Fine ≡ firstOf (loopChecks documented (loops (wire xyz ends)) (candidates (wire xyz ends)))
       → (taken turned : List Bool) (six : ℕ) → IsSolid (wire xyz ends) (candidates (wire xyz ends)) taken turned six
       → verdictLists xyz ends (encodeFaces editionOne (faceList (wire xyz ends) (candidates (wire xyz ends)) taken turned)) ≡ Accepted
   unfolding verdictLists
   lists-each f r l =
       let m = lent-small xyz ends f in
-      each-sent (lentChecks editionOne xyz ends) (wire xyz ends) f r l (m .0) (m .1)
+      each-sent (lentChecks xyz ends) (wire xyz ends) f r l (m .0) (m .1)
 
 module _ (s : List ℕ) where
   pub sheet-exactly : (list : List ℕ)
@@ -103,7 +104,7 @@ module _ (s : List ℕ) where
   pub sheet-each : Fine ≡ firstOf (sheetChecks editionOne s)
       → Fine ≡ firstOf (drawingChecks (wire (coordinatesIn editionOne s) (endsIn editionOne s)))
       → Fine ≡ firstOf
-      (loopChecks (loops (wire (coordinatesIn editionOne s) (endsIn editionOne s)))
+      (loopChecks documented (loops (wire (coordinatesIn editionOne s) (endsIn editionOne s)))
       (candidates (wire (coordinatesIn editionOne s) (endsIn editionOne s))))
       → (taken turned : List Bool) (six : ℕ)
       → IsSolid (wire (coordinatesIn editionOne s) (endsIn editionOne s))

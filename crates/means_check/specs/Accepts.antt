@@ -4,6 +4,7 @@ use mathlib.Core.Bool.{Bool, true}
 use mathlib.Core.List.{List}
 use Prim.Native.Nat.{ℕ}
 use lib.ListN.{length}
+use Rattle.paper.specs.Numbers.{documented}
 use Rattle.paper.specs.Format.{editionOne}
 use Rattle.paper.specs.Refusals.{Check, firstOf}
 use Rattle.paper.specs.Drawing.{Wire, drawingChecks}
@@ -25,6 +26,6 @@ pub record NamesSolid (d : Wire) (cs : List Loop) (fs : List (List ℕ)) : Type 
 pub record Accepts (form : List Check) (d : Wire) (list : List ℕ) : Type 0 where
   pub form-passes : Fine ≡ firstOf form
   pub drawing-passes : Fine ≡ firstOf (drawingChecks d)
-  pub few : Fine ≡ firstOf (loopChecks (loops d) (candidates d))
+  pub few : Fine ≡ firstOf (loopChecks documented (loops d) (candidates d))
   pub shape : wellShaped editionOne (length (d .vertices)) list ≡ true
   pub named : NamesSolid d (candidates d) (facesIn editionOne list)

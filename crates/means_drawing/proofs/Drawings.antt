@@ -99,11 +99,11 @@ module _ (d : Wire) where
 
 -- ---- of lists that are lent, and of a sheet that is accepted: 9 comes before 11
 
-pub lent-long : (f : Format) (xyz : List ℤ) (ends : List ℕ) → Fine ≡ firstOf (lentChecks f xyz ends)
+pub lent-long : (f : Format) (xyz : List ℤ) (ends : List ℕ) → Fine ≡ firstOf (lentChecks xyz ends)
     → samePlace (wire xyz ends) ≡ none → Long (wire xyz ends)
 lent-long f xyz ends h = long-edges (wire xyz ends) (lent-rising f xyz ends h)
 
-pub lent-rules : (f : Format) (xyz : List ℤ) (ends : List ℕ) → Fine ≡ firstOf (lentChecks f xyz ends)
+pub lent-rules : (f : Format) (xyz : List ℤ) (ends : List ℕ) → Fine ≡ firstOf (lentChecks xyz ends)
     → RulesSay (wire xyz ends) (firstOf (drawingChecks (wire xyz ends)))
 lent-rules f xyz ends h = rules-say (wire xyz ends) (lent-rising f xyz ends h)
 

@@ -11,6 +11,7 @@ use lib.IntN.{ℤ, pos, negsuc, negℤ, _*ℤ_}
 use lib.ListN.{length, getD}
 use Rattle.lists.proofs.Lowest.{lowest-none}
 use Rattle.paper.specs.Refusals as No
+use Rattle.paper.specs.Numbers.{documented}
 use Rattle.paper.specs.Refusals.{Check, check, firstOf, offends}
 use Rattle.paper.specs.Points.{above}
 use Rattle.paper.specs.Format.{editionOne}
@@ -52,12 +53,12 @@ module _ (m : Move) (d e : Wire) (points : e .vertices ≡ map (m .to) (d .verti
       (listed ks (facesIn editionOne l))
 
   parts : (f : List Check) (x : Wire) (n : ℕ) (ls ks : List Loop) (l : List ℕ)
-      → firstOf (f ++ drawingChecks x ++ loopChecks ls ks ++ last x n ks l)
-      ≡ orElse (orElse (orElse (firstOf f) (firstOf (drawingChecks x))) (firstOf (loopChecks ls ks))) (firstOf (last x n ks l))
+      → firstOf (f ++ drawingChecks x ++ loopChecks documented ls ks ++ last x n ks l)
+      ≡ orElse (orElse (orElse (firstOf f) (firstOf (drawingChecks x))) (firstOf (loopChecks documented ls ks))) (firstOf (last x n ks l))
   parts f x n ls ks l =
-      first-append (f ++ drawingChecks x ++ loopChecks ls ks) (last x n ks l)
+      first-append (f ++ drawingChecks x ++ loopChecks documented ls ks) (last x n ks l)
       ∙ ap (λ (a : Answer). orElse a (firstOf (last x n ks l)))
-      (first-append (f ++ drawingChecks x) (loopChecks ls ks) ∙ ap (λ (a : Answer). orElse a (firstOf (loopChecks ls ks)))
+      (first-append (f ++ drawingChecks x) (loopChecks documented ls ks) ∙ ap (λ (a : Answer). orElse a (firstOf (loopChecks documented ls ks)))
       (first-append f (drawingChecks x)))
 
   -- it is enough that 20 to 27 say the same where 3 to 14 pass
@@ -72,7 +73,7 @@ module _ (m : Move) (d e : Wire) (points : e .vertices ≡ map (m .to) (d .verti
       ∙ ap (λ (a : Answer). orElse (orElse a L′) T′) (else-same F D′ D (λ p. ap firstOf (checks-same d e alike (ok p))))
       ∙ ap (λ (a : Answer). orElse a T′)
       (else-same (orElse F D) L′ L
-      (λ p. ap₂ (λ (ls ks : List Loop). firstOf (loopChecks ls ks)) (loops-same d e alike) (bare p)))
+      (λ p. ap₂ (λ (ls ks : List Loop). firstOf (loopChecks documented ls ks)) (loops-same d e alike) (bare p)))
       ∙ else-same (orElse (orElse F D) L) T′ T
       (λ p. let q = first-fine (orElse F D) L p in
       ap₂ (λ (n : ℕ) (ks : List Loop). firstOf (last e n ks list′)) (alike .as-many) (bare q)
@@ -89,10 +90,10 @@ module _ (m : Move) (d e : Wire) (points : e .vertices ≡ map (m .to) (d .verti
       D′ = firstOf (drawingChecks e)
 
       L : Answer
-      L = firstOf (loopChecks (loops d) cs)
+      L = firstOf (loopChecks documented (loops d) cs)
 
       L′ : Answer
-      L′ = firstOf (loopChecks (loops e) (uncovering e (loops e)))
+      L′ = firstOf (loopChecks documented (loops e) (uncovering e (loops e)))
 
       T : Answer
       T = firstOf (last d (length (d .vertices)) cs list)

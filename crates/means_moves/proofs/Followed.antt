@@ -9,7 +9,7 @@ use lib.ListN.{length, drop, replicate, length-map}
 use Rattle.lists.specs.Lists.{filter, keep}
 use Rattle.sets.specs.Word.{word, less}
 use Rattle.sets.proofs.Numbers.{same-word}
-use Rattle.paper.specs.Numbers.{solidWords}
+use Rattle.paper.specs.Numbers.{solidWords, documented}
 use Rattle.paper.specs.Refusals as No
 use Rattle.paper.specs.Refusals.{Check, firstOf}
 use Rattle.paper.specs.Drawing.{Wire, drawingChecks}
@@ -163,14 +163,14 @@ module _ (m : Move) (d e : Wire) (points : e .vertices ≡ map (m .to) (d .verti
   answer-same =
       parts limit faces solids form′ e
       ∙ ap (λ (a : Answer). orElse (orElse (orElse entry a) (firstOf (drawingChecks e)))
-      (firstOf (loopChecks (loops e) (uncovering e (loops e))))) forms
-      ∙ ap (λ (a : Answer). orElse a (firstOf (loopChecks (loops e) (uncovering e (loops e)))))
+      (firstOf (loopChecks documented (loops e) (uncovering e (loops e))))) forms
+      ∙ ap (λ (a : Answer). orElse a (firstOf (loopChecks documented (loops e) (uncovering e (loops e)))))
       (else-same (orElse entry (firstOf form)) (firstOf (drawingChecks e)) (firstOf (drawingChecks d))
       (λ p. ap firstOf (checks-same d e alike (ok (second-fine entry (firstOf form) p)))))
       ∙ else-same (orElse (orElse entry (firstOf form)) (firstOf (drawingChecks d)))
-      (firstOf (loopChecks (loops e) (uncovering e (loops e))))
-      (firstOf (loopChecks (loops d) cs))
-      (λ p. ap₂ (λ (ls ks : List Loop). firstOf (loopChecks ls ks)) (loops-same d e alike)
+      (firstOf (loopChecks documented (loops e) (uncovering e (loops e))))
+      (firstOf (loopChecks documented (loops d) cs))
+      (λ p. ap₂ (λ (ls ks : List Loop). firstOf (loopChecks documented ls ks)) (loops-same d e alike)
       (bare-same m d e points edges (ok (second-fine entry (firstOf form)
       (first-fine (orElse entry (firstOf form)) (firstOf (drawingChecks d)) p)))
       (second-fine (orElse entry (firstOf form)) (firstOf (drawingChecks d)) p)))

@@ -7,7 +7,7 @@ use native.Mathlib.Omega.{arith}
 use borrow.Author.Tests.{le-ltb}
 use lib.Dec.{ltb}
 use lib.ListN.{length}
-use Rattle.paper.specs.Numbers.{mostWork, faceRoom, solidRoom}
+use Rattle.paper.specs.Numbers.{mostWork, faceRoom, solidRoom, documented}
 use Rattle.paper.specs.Refusals as No
 use Rattle.paper.specs.Refusals.{Check, check, firstOf, offends}
 use Rattle.paper.specs.Drawing.{Wire, drawingChecks}
@@ -44,9 +44,9 @@ pub conversion-higher : (cap : ℕ) (form : List Check) (d : Wire) (a b : ℕ) (
     → conversion cap form d b faces solids ≡ conversion cap form d a faces solids
 unfolding conversion
 conversion-higher cap form d a b faces solids h q n =
-    ap (λ (es : List Check). orConvert (firstOf (es ++ form ++ drawingChecks d ++ loopChecks (loops d) cs)) faces solids (under b))
+    ap (λ (es : List Check). orConvert (firstOf (es ++ form ++ drawingChecks d ++ loopChecks documented (loops d) cs)) faces solids (under b))
     (entry-same a b faces solids (omega arith) q)
-    ∙ go (firstOf (entryChecks a faces solids ++ form ++ drawingChecks d ++ loopChecks (loops d) cs)) n
+    ∙ go (firstOf (entryChecks a faces solids ++ form ++ drawingChecks d ++ loopChecks documented (loops d) cs)) n
   where
     cs : List Loop
     cs = uncovering d (loops d)

@@ -13,11 +13,11 @@ use Rattle.lists.specs.Lists.{lowest}
 use Rattle.lists.proofs.Truth.{same-truth}
 use Rattle.lists.proofs.Agreeing.{lowest-same}
 use Rattle.exact.specs.Size.{Within}
-use Rattle.paper.specs.Numbers.{farthest}
+use Rattle.paper.specs.Numbers.{leastVertices, leastEdges, farthest}
 use Rattle.paper.specs.Refusals as No
 use Rattle.paper.specs.Refusals.{Check, check, firstOf, offends}
 use Rattle.paper.specs.Points.{pt}
-use Rattle.paper.specs.Format.{editionOne, leastVertices, leastEdges}
+use Rattle.paper.specs.Format.{editionOne}
 use Rattle.paper.specs.FaceList.{facesIn, wellShaped}
 use Rattle.paper.specs.Sheet.{far, farAt, badCount, edgeChecks, contentChecks, lentChecks}
 use Rattle.paper.specs.Drawing.{Wire, Edge, edge, edgeAt, pointsOf, edgesOf, wire}
@@ -80,7 +80,7 @@ far-mirror (x ∷ (y ∷ (z ∷ l))) (suc (suc (suc k))) = far-mirror l k
 
 -- 3 to 10 of two lists as long, of which 8 says the same
 checks-lent : (f : Format) (xyz xyz′ : List ℤ) (ends : List ℕ) → length xyz′ ≡ length xyz
-    → lowest (farAt xyz′) (length xyz) ≡ lowest (farAt xyz) (length xyz) → lentChecks f xyz′ ends ≡ lentChecks f xyz ends
+    → lowest (farAt xyz′) (length xyz) ≡ lowest (farAt xyz) (length xyz) → lentChecks xyz′ ends ≡ lentChecks xyz ends
 unfolding lentChecks contentChecks
 checks-lent f xyz xyz′ ends e h =
     ap (λ (n : ℕ). check No.BadCount (offends (badCount 3 leastVertices (f .«most_vertices») n) 0)
@@ -91,7 +91,7 @@ checks-lent f xyz xyz′ ends e h =
     ∷ check No.BadCoordinate o ∷ edgeChecks (length xyz / 3) ends) h
 
 pub forms-near : (f : Point → Point) (xyz : List ℤ) (ends : List ℕ) → WithinRange xyz → WithinRange (eachVertex f xyz)
-    → firstOf (lentChecks editionOne (eachVertex f xyz) ends) ≡ firstOf (lentChecks editionOne xyz ends)
+    → firstOf (lentChecks (eachVertex f xyz) ends) ≡ firstOf (lentChecks xyz ends)
 unfolding farAt
 forms-near f xyz ends a b =
     ap firstOf (checks-lent editionOne xyz (eachVertex f xyz) ends (long-each f xyz)
@@ -100,7 +100,7 @@ forms-near f xyz ends a b =
     (near-far (getD xyz k (pos 0)) (a k h)))))
 
 pub forms-mirror : (xyz : List ℤ) (ends : List ℕ)
-    → firstOf (lentChecks editionOne (eachVertex mirror xyz) ends) ≡ firstOf (lentChecks editionOne xyz ends)
+    → firstOf (lentChecks (eachVertex mirror xyz) ends) ≡ firstOf (lentChecks xyz ends)
 unfolding farAt
 forms-mirror xyz ends =
     ap firstOf (checks-lent editionOne xyz (eachVertex mirror xyz) ends (long-each mirror xyz)

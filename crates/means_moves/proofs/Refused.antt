@@ -7,7 +7,7 @@ use Prim.Native.Nat.{ℕ}
 use native.Mathlib.Omega.{arith}
 use lib.Dec.{eqb, ltb}
 use lib.ListN.{length}
-use Rattle.paper.specs.Numbers.{mostLoops, mostCandidates}
+use Rattle.paper.specs.Numbers.{mostLoops, mostCandidates, documented}
 use Rattle.paper.specs.Refusals as No
 use Rattle.paper.specs.Refusals.{Check, check, firstOf, offends}
 use Rattle.paper.specs.Drawing.{Wire, samePlace, looseVertex, edgeMeets, apart, drawingChecks}
@@ -59,15 +59,15 @@ module _ {new old : ℕ → ℕ} {d e : Wire} (r : BothWays new old d e) (s : So
   back-r = renumbered-back r
 
   -- 15 and 16 go by the counts
-  loops-same : samePlace d ≡ none → loopChecks (loops e) (candidates e) ≡ loopChecks (loops d) (candidates d)
+  loops-same : samePlace d ≡ none → loopChecks documented (loops e) (candidates e) ≡ loopChecks documented (loops d) (candidates d)
   unfolding loopChecks
   loops-same h =
       let k = kept r h (places-over r h) in
       ap₂ (λ (m n : ℕ). check No.ManyLoops (offends (ltb mostLoops m) 0) ∷ check No.ManyCandidates (offends (ltb mostCandidates n) 0) ∷ [])
       (k .loops-too) (k .candidates-too)
 
-  pub rule-same : ruleOf (firstOf (drawingChecks e ++ loopChecks (loops e) (candidates e)))
-      ≡ ruleOf (firstOf (drawingChecks d ++ loopChecks (loops d) (candidates d)))
+  pub rule-same : ruleOf (firstOf (drawingChecks e ++ loopChecks documented (loops e) (candidates e)))
+      ≡ ruleOf (firstOf (drawingChecks d ++ loopChecks documented (loops d) (candidates d)))
   unfolding drawingChecks
   rule-same =
       step No.SamePlace (samePlace d) (samePlace e) _ _ (record { there = places-over r; back = places-over back-r })
@@ -84,8 +84,8 @@ module _ {new old : ℕ → ℕ} {d e : Wire} (r : BothWays new old d e) (s : So
       (λ k. ap (λ (cs : List Check). ruleOf (firstOf cs)) (loops-same h)))))
 
 pub same-rule : {new : ℕ → ℕ} {d e : Wire} → NewNumbers new d e → Sorted d → Sorted e
-    → ruleOf (firstOf (drawingChecks e ++ loopChecks (loops e) (candidates e)))
-    ≡ ruleOf (firstOf (drawingChecks d ++ loopChecks (loops d) (candidates d)))
+    → ruleOf (firstOf (drawingChecks e ++ loopChecks documented (loops e) (candidates e)))
+    ≡ ruleOf (firstOf (drawingChecks d ++ loopChecks documented (loops d) (candidates d)))
 same-rule r s t = rule-same (renumbered r) s t
 
 -- ---- conversion
@@ -109,28 +109,28 @@ unrefused l cs t log faces solids r = go (eqb (log .ended) No.Many) (eqb (log .e
 module _ (limit : ℕ) (faces solids : List ℕ) (form : List Check) (d : Wire) (entry : Answer.Fine ≡ firstOf (entryChecks limit faces solids))
     (good : Answer.Fine ≡ firstOf form) where
   -- where 1 to 10 pass, 11 to 16 answer
-  only : firstOf (checksOf limit faces solids form d) ≡ firstOf (drawingChecks d ++ loopChecks (loops d) (candidates d))
+  only : firstOf (checksOf limit faces solids form d) ≡ firstOf (drawingChecks d ++ loopChecks documented (loops d) (candidates d))
   unfolding candidates
   only =
       parts limit faces solids form d
-      ∙ ap₂ (λ (a b : Answer). orElse (orElse (orElse a b) (firstOf (drawingChecks d))) (firstOf (loopChecks (loops d) (candidates d))))
+      ∙ ap₂ (λ (a b : Answer). orElse (orElse (orElse a b) (firstOf (drawingChecks d))) (firstOf (loopChecks documented (loops d) (candidates d))))
       (sym entry) (sym good)
-      ∙ sym (first-append (drawingChecks d) (loopChecks (loops d) (candidates d)))
+      ∙ sym (first-append (drawingChecks d) (loopChecks documented (loops d) (candidates d)))
 
   refusal-from : (cap : ℕ) (r : Refusal) → conversion cap form d limit faces solids .answer ≡ Conversion.Refused r
-      → Answer.Refused r ≡ firstOf (drawingChecks d ++ loopChecks (loops d) (candidates d))
+      → Answer.Refused r ≡ firstOf (drawingChecks d ++ loopChecks documented (loops d) (candidates d))
   unfolding conversion
   refusal-from cap r e = go (firstOf (checksOf limit faces solids form d)) only e
     where
-      go : (a : Answer) → a ≡ firstOf (drawingChecks d ++ loopChecks (loops d) (candidates d))
+      go : (a : Answer) → a ≡ firstOf (drawingChecks d ++ loopChecks documented (loops d) (candidates d))
           → orConvert a faces solids (concluded (length (loops d)) (uncovering d (loops d)) (tablesOf d (uncovering d (loops d)))
           (search cap (accepted (tablesOf d (uncovering d (loops d)))) limit (length (uncovering d (loops d)))
           (tablesOf d (uncovering d (loops d)) .masks)) faces solids) .answer ≡ Conversion.Refused r
-          → Answer.Refused r ≡ firstOf (drawingChecks d ++ loopChecks (loops d) (candidates d))
+          → Answer.Refused r ≡ firstOf (drawingChecks d ++ loopChecks documented (loops d) (candidates d))
       go Answer.Fine p e = absurd (unrefused _ _ _ _ faces solids r e)
       go (Answer.Refused x) p e = let same : r ≡ x = cc in ap Answer.Refused same ∙ p
 
-  refusal-to : (cap : ℕ) (r : Refusal) → Answer.Refused r ≡ firstOf (drawingChecks d ++ loopChecks (loops d) (candidates d))
+  refusal-to : (cap : ℕ) (r : Refusal) → Answer.Refused r ≡ firstOf (drawingChecks d ++ loopChecks documented (loops d) (candidates d))
       → conversion cap form d limit faces solids .answer ≡ Conversion.Refused r
   unfolding conversion
   refusal-to cap r e = rw (only ∙ sym e)
@@ -142,10 +142,10 @@ pub same-refusal : {new : ℕ → ℕ} {d e : Wire} → NewNumbers new d e → S
     → (r : Refusal) → conversion cap form d a f u .answer ≡ Conversion.Refused r
     → (q : Refusal) × (conversion cap form′ e b g v .answer ≡ Conversion.Refused q) × (q .number ≡ r .number)
 same-refusal {d = d} {e = e} n s t cap form form′ good good′ a b f g u v entry entry′ r h =
-    go (firstOf (drawingChecks e ++ loopChecks (loops e) (candidates e))) refl
+    go (firstOf (drawingChecks e ++ loopChecks documented (loops e) (candidates e))) refl
     (same-rule n s t ∙ ap ruleOf (sym (refusal-from a f u form d entry good cap r h)))
   where
-    go : (x : Answer) → x ≡ firstOf (drawingChecks e ++ loopChecks (loops e) (candidates e)) → ruleOf x ≡ some (r .number)
+    go : (x : Answer) → x ≡ firstOf (drawingChecks e ++ loopChecks documented (loops e) (candidates e)) → ruleOf x ≡ some (r .number)
         → (q : Refusal) × (conversion cap form′ e b g v .answer ≡ Conversion.Refused q) × (q .number ≡ r .number)
     go Answer.Fine p z = none-some (sym z)
     go (Answer.Refused q) p z = (q, refusal-to b g v form′ e entry′ good′ cap q p, (cc))

@@ -95,7 +95,7 @@ module _ (ends : List ℕ) (order : lowest (lowAt ends) (length ends / 2) ≡ no
       go (no p) (no q) = omega arith
 
 -- two lists that pass 3 to 10; a sheet that does
-pub lent-sorted : (f : Format) (xyz : List ℤ) (ends : List ℕ) → Fine ≡ firstOf (lentChecks f xyz ends) → Sorted (wire xyz ends)
+pub lent-sorted : (f : Format) (xyz : List ℤ) (ends : List ℕ) → Fine ≡ firstOf (lentChecks xyz ends) → Sorted (wire xyz ends)
 unfolding wire edgeAt contentChecks edgeChecks
 lent-sorted f xyz ends h =
     let v = length xyz / 3 in

@@ -8,7 +8,7 @@ use native.Mathlib.Omega.{arith}
 use lib.ListN.{length, replicate, length-map}
 use lib.IntN.{ℤ}
 use Rattle.lists.specs.Lists.{filter}
-use Rattle.paper.specs.Numbers.{mostSolids}
+use Rattle.paper.specs.Numbers.{mostSolids, documented}
 use Rattle.paper.specs.Refusals as No
 use Rattle.paper.specs.Refusals.{Check, firstOf}
 use Rattle.paper.specs.Format.{editionOne, coordinatesIn, endsIn}
@@ -29,7 +29,7 @@ use Rattle.means_walk.proofs.Follow.{up-least}
 use Rattle.means_walk.proofs.Ends.{whole-cap, ended-long, higher-limit}
 use Rattle.means_walk.proofs.Steps.{made-steps}
 use Rattle.means_solid.specs.Solid.{IsSolid}
-use Rattle.means_report.specs.Listed.{entry, WalkTree, walked}
+use Rattle.means_report.specs.Listed.{entryOf, WalkTree, walked}
 use Rattle.means_report.specs.Report.{answered, workToNinth, Reported, TooMany, TooFar}
 use Rattle.means_report.proofs.Listed.{walked-lists}
 use Rattle.means_report.proofs.Searched.{listed-none}
@@ -45,7 +45,7 @@ module _ (d : Wire) (t : WalkTree d (candidates d)) where
   unfolding walked
   no-ninth h =
       let f : length (filter (accepted (tablesOf d (candidates d))) (leaves t)) ≤ mostSolids = omega
-      (arith, length-map (filter (accepted (tablesOf d (candidates d))) (leaves t)) (entry (tablesOf d (candidates d)))) in
+      (arith, length-map (filter (accepted (tablesOf d (candidates d))) (leaves t)) (entryOf (tablesOf d (candidates d)))) in
       whole-cap (accepted (tablesOf d (candidates d))) (length (candidates d)) (tablesOf d (candidates d) .masks) t mostSolids 0 f
 
   -- and it is never more than that
@@ -118,18 +118,18 @@ module _ (d : Wire) (t : WalkTree d (candidates d)) where
 -- ---- conversion: a refusal 1 to 16 that leaves the rooms as they were, or what is told
 module _ (d : Wire) (t : WalkTree d (candidates d)) (form : List Check) (limit : ℕ) (faces solids : List ℕ) where
   abbrev checks : List Check
-  checks = entryChecks limit faces solids ++ form ++ drawingChecks d ++ loopChecks (loops d) (candidates d)
+  checks = entryChecks limit faces solids ++ form ++ drawingChecks d ++ loopChecks documented (loops d) (candidates d)
 
   pub conversion-refuses : (x : Refusal) → Answer.Refused x ≡ firstOf checks
-      → conversion mostSolids form d limit faces solids ≡ record { answer = Conversion.Refused x; faces = faces; solids = solids }
+      → conversion documented form d limit faces solids ≡ record { answer = Conversion.Refused x; faces = faces; solids = solids }
   unfolding conversion candidates
   conversion-refuses x e = rw (← e)
 
   abbrev pub Cases : Type 0
   Cases =
       ((x : Refusal) × (Answer.Refused x ≡ firstOf checks)
-      × (conversion mostSolids form d limit faces solids ≡ record { answer = Conversion.Refused x; faces = faces; solids = solids }))
-      ⊎ ((Answer.Fine ≡ firstOf checks) × Sound d t limit faces solids (conversion mostSolids form d limit faces solids))
+      × (conversion documented form d limit faces solids ≡ record { answer = Conversion.Refused x; faces = faces; solids = solids }))
+      ⊎ ((Answer.Fine ≡ firstOf checks) × Sound d t limit faces solids (conversion documented form d limit faces solids))
 
   pub conversion-says : Cases
   conversion-says = go (firstOf checks) refl
@@ -141,10 +141,10 @@ module _ (d : Wire) (t : WalkTree d (candidates d)) (form : List Check) (limit :
 -- two lists of numbers; a sheet
 pub lists-tell : (xyz : List ℤ) (ends : List ℕ) (limit : ℕ) (faces solids : List ℕ)
     (t : WalkTree (wire xyz ends) (candidates (wire xyz ends)))
-    → Unrefused (wire xyz ends) t limit faces solids (lentChecks editionOne xyz ends)
+    → Unrefused (wire xyz ends) t limit faces solids (lentChecks xyz ends)
     → Sound (wire xyz ends) t limit faces solids (convertLists xyz ends limit faces solids)
 unfolding convertLists
-lists-tell xyz ends limit faces solids t h = conversion-sound (wire xyz ends) t limit faces solids (lentChecks editionOne xyz ends) h
+lists-tell xyz ends limit faces solids t h = conversion-sound (wire xyz ends) t limit faces solids (lentChecks xyz ends) h
 
 pub sheet-tells : (s : List ℕ) (limit : ℕ) (faces solids : List ℕ)
     (t : WalkTree (wire (coordinatesIn editionOne s) (endsIn editionOne s))
@@ -159,7 +159,7 @@ sheet-tells s limit faces solids t h =
 pub higher-converts : (d : Wire) (t : WalkTree d (candidates d)) (form : List Check) (a b : ℕ) (faces solids : List ℕ) → a ≤ b
     → Unrefused d t a faces solids form → Unrefused d t b faces solids form
     → workToNinth d t ≤ a
-    → conversion mostSolids form d b faces solids ≡ conversion mostSolids form d a faces solids
+    → conversion documented form d b faces solids ≡ conversion documented form d a faces solids
 unfolding conversion candidates
 higher-converts d t form a b faces solids h ua ub w =
     rw (← ua, ← ub) (ap (λ (log : Log). concluded (length (loops d)) (candidates d) (tablesOf d (candidates d)) log faces solids)
@@ -177,11 +177,11 @@ higher-converts d t form a b faces solids h ua ub w =
 
 -- ---- an answer that is no refusal is told
 module _ (d : Wire) (t : WalkTree d (candidates d)) (form : List Check) (limit : ℕ) (faces solids : List ℕ) where
-  pub conversion-unrefused : ((x : Refusal) → conversion mostSolids form d limit faces solids .answer ≡ Conversion.Refused x → ⊥)
-      → Sound d t limit faces solids (conversion mostSolids form d limit faces solids)
+  pub conversion-unrefused : ((x : Refusal) → conversion documented form d limit faces solids .answer ≡ Conversion.Refused x → ⊥)
+      → Sound d t limit faces solids (conversion documented form d limit faces solids)
   conversion-unrefused f = go (conversion-says d t form limit faces solids)
     where
-      go : Cases d t form limit faces solids → Sound d t limit faces solids (conversion mostSolids form d limit faces solids)
+      go : Cases d t form limit faces solids → Sound d t limit faces solids (conversion documented form d limit faces solids)
       go (inl p) = absurd (f (p .0) (ap (λ (c : Converted). c .answer) (p .2)))
       go (inr p) = p .1
 
@@ -190,7 +190,7 @@ pub lists-unrefused : (xyz : List ℤ) (ends : List ℕ) (limit : ℕ) (faces so
     → Sound (wire xyz ends) (the-walk (wire xyz ends)) limit faces solids (convertLists xyz ends limit faces solids)
 unfolding convertLists
 lists-unrefused xyz ends limit faces solids f =
-    conversion-unrefused (wire xyz ends) (the-walk (wire xyz ends)) (lentChecks editionOne xyz ends) limit faces solids f
+    conversion-unrefused (wire xyz ends) (the-walk (wire xyz ends)) (lentChecks xyz ends) limit faces solids f
 
 pub sheet-unrefused : (s : List ℕ) (limit : ℕ) (faces solids : List ℕ)
     → ((x : Refusal) → convertSheet s limit faces solids .answer ≡ Conversion.Refused x → ⊥)

@@ -27,7 +27,7 @@ use Rattle.means_masks.proofs.Tables.{Even, flat-even, two-masks, masks-two}
 use Rattle.means_masks.proofs.Judged.{judged-is, is-judged}
 use Rattle.means_solid.specs.Solid.{IsSolid}
 use Rattle.means_report.specs.Fair.{Fair, Same}
-use Rattle.means_report.specs.Listed.{Entry, entryAt, EverySolidOnce, entry, WalkTree, walked}
+use Rattle.means_report.specs.Listed.{Entry, entryAt, EverySolidOnce, entryOf, WalkTree, walked}
 
 -- (i) of a selection
 exact-two : (masks : List (List Bool)) (x : List Status) → exact masks x ≡ true → Masks.MaskInTwo masks (takens x)
@@ -142,11 +142,11 @@ module _ (d : Wire) (cs : List Loop) (ok : Fair d cs) (t : WalkTree d cs) where
 
   length-walked : length (walked d cs t) ≡ length found
   unfolding walked
-  length-walked = length-map found (entry (tablesOf d cs))
+  length-walked = length-map found (entryOf (tablesOf d cs))
 
-  at-walked : (i : ℕ) → i < length found → entryAt (walked d cs t) i ≡ entry (tablesOf d cs) (getD found i [])
+  at-walked : (i : ℕ) → i < length found → entryAt (walked d cs t) i ≡ entryOf (tablesOf d cs) (getD found i [])
   unfolding walked
-  at-walked i h = map-at (entry (tablesOf d cs)) found i [] (record { taken = []; turned = []; six = 0 }) h
+  at-walked i h = map-at (entryOf (tablesOf d cs)) found i [] (record { taken = []; turned = []; six = 0 }) h
 
   passes-at : (i : ℕ) → i < length found → Passes (getD found i [])
   passes-at i h = found-passes (getD found i []) (at-times found (getD found i []) i h refl)

@@ -7,7 +7,7 @@ use Prim.Native.Nat.{ℕ, _*_}
 use native.Mathlib.Omega.{arith}
 use lib.ListN.{length, drop, length-map}
 use Rattle.lists.specs.Lists.{filter}
-use Rattle.paper.specs.Numbers.{mostSolids, solidWords}
+use Rattle.paper.specs.Numbers.{mostSolids, solidWords, documented}
 use Rattle.paper.specs.Refusals as No
 use Rattle.paper.specs.Refusals.{Check, firstOf}
 use Rattle.paper.specs.Drawing.{Wire, samePlace, drawingChecks}
@@ -23,42 +23,42 @@ use Rattle.paper_laws.proofs.Checks.{found-none, first-both}
 use Rattle.means_walk.specs.Tree.{leaves}
 use Rattle.means_walk.proofs.Ends.{ends, ended-whole, ended-many, ended-long}
 use Rattle.means_report.specs.Fair.{Fair}
-use Rattle.means_report.specs.Listed.{Entry, wordsOf, entry, WalkTree, walked}
+use Rattle.means_report.specs.Listed.{Entry, wordsOf, entryOf, WalkTree, walked}
 use Rattle.means_loops.proofs.Listing.{candidates-proper}
 use Rattle.means_loops.proofs.OwnPlane.{candidates-flat}
 use Rattle.means_report.specs.Report.{answered, facesFor, solidsFor, Reported, TooMany, TooFar}
 
 -- ---- a report
-flat-words : (t : Tables) (l : List (List Status)) → flatMap (words t) l ≡ flatMap wordsOf (map (entry t) l)
+flat-words : (t : Tables) (l : List (List Status)) → flatMap (words t) l ≡ flatMap wordsOf (map (entryOf t) l)
 unfolding flatMap words
 flat-words t [] = refl
 flat-words t (x ∷ l) = ap (λ (r : List ℕ). word-row x ++ r) (flat-words t l)
   where
     word-row : List Status → List ℕ
-    word-row x = wordsOf (entry t x)
+    word-row x = wordsOf (entryOf t x)
 
-pub solids-told : (t : Tables) (l : List (List Status)) (solids : List ℕ) → solidsAfter t l solids ≡ solidsFor solids (map (entry t) l)
+pub solids-told : (t : Tables) (l : List (List Status)) (solids : List ℕ) → solidsAfter t l solids ≡ solidsFor solids (map (entryOf t) l)
 unfolding solidsAfter solidsFor
-solids-told t l solids = ap₂ (λ (a : List ℕ) (n : ℕ). a ++ drop (solidWords * n) solids) (flat-words t l) (sym (length-map l (entry t)))
+solids-told t l solids = ap₂ (λ (a : List ℕ) (n : ℕ). a ++ drop (solidWords * n) solids) (flat-words t l) (sym (length-map l (entryOf t)))
 
 module _ (l : ℕ) (cs : List Loop) (t : Tables) (work : ℕ) (faces solids : List ℕ) where
   reported-answer : (found : List (List Status)) → reported l cs t work found faces solids .answer ≡ answered l (length cs) work
-      (map (entry t) found)
+      (map (entryOf t) found)
   unfolding reported
   reported-answer [] = refl
   reported-answer (x ∷ []) = refl
   reported-answer (x ∷ (y ∷ found)) =
-      let n : length (x ∷ (y ∷ found)) ≡ length (map (entry t) (x ∷ (y ∷ found))) = sym (length-map (x ∷ (y ∷ found)) (entry t)) in
+      let n : length (x ∷ (y ∷ found)) ≡ length (map (entryOf t) (x ∷ (y ∷ found))) = sym (length-map (x ∷ (y ∷ found)) (entryOf t)) in
       ap (Conversion.Several l (length cs) work) n
 
-  reported-faces : (found : List (List Status)) → reported l cs t work found faces solids .faces ≡ facesFor cs faces (map (entry t) found)
+  reported-faces : (found : List (List Status)) → reported l cs t work found faces solids .faces ≡ facesFor cs faces (map (entryOf t) found)
   unfolding reported
   reported-faces [] = refl
   reported-faces (x ∷ []) = refl
   reported-faces (x ∷ (y ∷ found)) = refl
 
   reported-solids : (found : List (List Status))
-      → reported l cs t work found faces solids .solids ≡ solidsFor solids (map (entry t) found)
+      → reported l cs t work found faces solids .solids ≡ solidsFor solids (map (entryOf t) found)
   unfolding reported solidsFor flatMap
   reported-solids [] = refl
   reported-solids (x ∷ []) = solids-told t (x ∷ []) solids
@@ -104,9 +104,9 @@ module _ (d : Wire) (t : WalkTree d (candidates d)) (limit : ℕ) (faces solids 
   done-whole e =
       let w = ended-whole (accepted tb) (length (candidates d)) (tb .masks) t mostSolids limit e in
       let c = concluded-zero (length (loops d)) (candidates d) tb log faces solids e in
-      let f : map (entry tb) (log .found) ≡ map (entry tb) (filter (accepted tb) (leaves t)) = ap (map (entry tb)) (w .found) in
+      let f : map (entryOf tb) (log .found) ≡ map (entryOf tb) (filter (accepted tb) (leaves t)) = ap (map (entryOf tb)) (w .found) in
       record {
-        few = omega (arith, w .few, length-map (filter (accepted tb) (leaves t)) (entry tb));
+        few = omega (arith, w .few, length-map (filter (accepted tb) (leaves t)) (entryOf tb));
         short = w .short;
         answer =
             ap (λ (r : Converted). r .answer) c ∙ reported-answer (length (loops d)) (candidates d) tb (log .work) faces solids
@@ -127,7 +127,7 @@ module _ (d : Wire) (t : WalkTree d (candidates d)) (limit : ℕ) (faces solids 
       let w = ended-many (accepted tb) (length (candidates d)) (tb .masks) t mostSolids limit e in
       let c = concluded-many (length (loops d)) (candidates d) tb log faces solids e in
       record {
-        nine = omega (arith, w .many, length-map (filter (accepted tb) (leaves t)) (entry tb));
+        nine = omega (arith, w .many, length-map (filter (accepted tb) (leaves t)) (entryOf tb));
         short = w .short;
         answer = ap (λ (r : Converted). r .answer) c ∙ ap (Conversion.Many (length (loops d)) (length (candidates d))) (w .work);
         faces-left = ap (λ (r : Converted). r .faces) c;
@@ -156,9 +156,9 @@ module _ (d : Wire) (t : WalkTree d (candidates d)) (limit : ℕ) (faces solids 
   -- a drawing with no refusal 1 to 16
   abbrev pub Unrefused : List Check → Type 0
   Unrefused form =
-      Answer.Fine ≡ firstOf (entryChecks limit faces solids ++ form ++ drawingChecks d ++ loopChecks (loops d) (candidates d))
+      Answer.Fine ≡ firstOf (entryChecks limit faces solids ++ form ++ drawingChecks d ++ loopChecks documented (loops d) (candidates d))
 
-  pub conversion-tells : (form : List Check) → Unrefused form → Tells (conversion mostSolids form d limit faces solids)
+  pub conversion-tells : (form : List Check) → Unrefused form → Tells (conversion documented form d limit faces solids)
   unfolding conversion candidates
   conversion-tells form h = rw (← h) done-tells
 
@@ -171,10 +171,10 @@ module _ (d : Wire) (t : WalkTree d (candidates d)) (limit : ℕ) (faces solids 
   unfolding drawingChecks
   unrefused-apart form h =
       let before = entryChecks limit faces solids ++ form in
-      let drawn = first-both (before ++ drawingChecks d) (loopChecks (loops d) (candidates d)) h .0 in
+      let drawn = first-both (before ++ drawingChecks d) (loopChecks documented (loops d) (candidates d)) h .0 in
       found-none _ _ (first-both before (drawingChecks d) drawn .1) .0
 
-  pub conversion-sound : (form : List Check) → Unrefused form → Sound (conversion mostSolids form d limit faces solids)
+  pub conversion-sound : (form : List Check) → Unrefused form → Sound (conversion documented form d limit faces solids)
   conversion-sound form h = record {
     fair = record { proper = candidates-proper d; flat = candidates-flat d (unrefused-apart form h) };
     tells = conversion-tells form h;

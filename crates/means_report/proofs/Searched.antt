@@ -19,7 +19,7 @@ use Rattle.means_walk.proofs.Grown.{tree}
 use Rattle.means_walk.proofs.Ends.{ended-whole, ended-many}
 use Rattle.means_solid.specs.Solid.{IsSolid}
 use Rattle.means_report.specs.Fair.{Fair}
-use Rattle.means_report.specs.Listed.{Entry, EverySolidOnce, entry, WalkTree, walked}
+use Rattle.means_report.specs.Listed.{Entry, EverySolidOnce, entryOf, WalkTree, walked}
 use Rattle.means_report.proofs.Listed.{walked-lists}
 
 -- a list of all solids is empty just where there is none
@@ -35,17 +35,17 @@ listed-none d cs (e ∷ es) l n = absurd (n (e .taken) (e .turned) (e .six) (l .
 module _ (d : Wire) (cs : List Loop) (ok : Fair d cs) (limit : ℕ) where
   pub uncut-walked : search mostSolids (accepted (tablesOf d cs)) limit (length cs) (tablesOf d cs .masks) .ended ≡ 0
       → (t : WalkTree d cs)
-      → map (entry (tablesOf d cs)) (search mostSolids (accepted (tablesOf d cs)) limit (length cs) (tablesOf d cs .masks) .found)
+      → map (entryOf (tablesOf d cs)) (search mostSolids (accepted (tablesOf d cs)) limit (length cs) (tablesOf d cs .masks) .found)
       ≡ walked d cs t
   unfolding walked
   uncut-walked e t =
-      ap (map (entry (tablesOf d cs)))
+      ap (map (entryOf (tablesOf d cs)))
       (ended-whole (accepted (tablesOf d cs)) (length cs) (tablesOf d cs .masks) t mostSolids limit e .found)
 
   -- found: every solid once
   pub uncut-lists : search mostSolids (accepted (tablesOf d cs)) limit (length cs) (tablesOf d cs .masks) .ended ≡ 0
       → EverySolidOnce d cs
-      (map (entry (tablesOf d cs)) (search mostSolids (accepted (tablesOf d cs)) limit (length cs) (tablesOf d cs .masks) .found))
+      (map (entryOf (tablesOf d cs)) (search mostSolids (accepted (tablesOf d cs)) limit (length cs) (tablesOf d cs .masks) .found))
   uncut-lists e =
       let t : WalkTree d cs = tree (tablesOf d cs .masks) _ in
       subst (EverySolidOnce d cs) (sym (uncut-walked e t)) (walked-lists d cs ok t)
@@ -56,15 +56,15 @@ module _ (d : Wire) (cs : List Loop) (ok : Fair d cs) (limit : ℕ) where
       ↔ ((taken turned : List Bool) (six : ℕ) → IsSolid d cs taken turned six → ⊥)
   none-found e = (
     λ q. none-listed d cs
-        (map (entry (tablesOf d cs)) (search mostSolids (accepted (tablesOf d cs)) limit (length cs) (tablesOf d cs .masks) .found))
-        (uncut-lists e) (ap (map (entry (tablesOf d cs))) q),
+        (map (entryOf (tablesOf d cs)) (search mostSolids (accepted (tablesOf d cs)) limit (length cs) (tablesOf d cs .masks) .found))
+        (uncut-lists e) (ap (map (entryOf (tablesOf d cs))) q),
     λ n. empty (search mostSolids (accepted (tablesOf d cs)) limit (length cs) (tablesOf d cs .masks) .found)
         (listed-none d cs
-        (map (entry (tablesOf d cs)) (search mostSolids (accepted (tablesOf d cs)) limit (length cs) (tablesOf d cs .masks) .found))
+        (map (entryOf (tablesOf d cs)) (search mostSolids (accepted (tablesOf d cs)) limit (length cs) (tablesOf d cs .masks) .found))
         (uncut-lists e) n),
   )
     where
-      empty : (l : List (List Status)) → map (entry (tablesOf d cs)) l ≡ [] → l ≡ []
+      empty : (l : List (List Status)) → map (entryOf (tablesOf d cs)) l ≡ [] → l ≡ []
       empty [] q = refl
       empty (x ∷ l) q = absurd (omega (arith, ap length q))
 
@@ -78,5 +78,5 @@ module _ (d : Wire) (cs : List Loop) (ok : Fair d cs) (limit : ℕ) where
         walked d cs t,
         walked-lists d cs ok t,
         omega
-            (arith, length-map (filter (accepted (tablesOf d cs)) (leaves t)) (entry (tablesOf d cs))),
+            (arith, length-map (filter (accepted (tablesOf d cs)) (leaves t)) (entryOf (tablesOf d cs))),
       )

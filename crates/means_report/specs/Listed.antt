@@ -35,11 +35,11 @@ abbrev pub wordsOf : Entry → List ℕ
 wordsOf e = word (e .taken) ∷ word (e .turned) ∷ e .six ∷ []
 
 -- "in walk order": the leaves of the walk's tree that pass, with their directions and volumes
-abbrev pub entry : Tables → List Status → Entry
-entry t st = record { taken = takens st; turned = turnedOf (judged t (takens st)); six = sixOf (judged t (takens st)) }
+abbrev pub entryOf : Tables → List Status → Entry
+entryOf t st = record { taken = takens st; turned = turnedOf (judged t (takens st)); six = sixOf (judged t (takens st)) }
 
 abbrev pub WalkTree : Wire → List Loop → Type 0
 WalkTree d cs = Tree (tablesOf d cs .masks) (replicate (length cs) Undecided)
 
 unfoldable pub walked : (d : Wire) (cs : List Loop) → WalkTree d cs → List Entry
-walked d cs t = map (entry (tablesOf d cs)) (filter (accepted (tablesOf d cs)) (leaves t))
+walked d cs t = map (entryOf (tablesOf d cs)) (filter (accepted (tablesOf d cs)) (leaves t))

@@ -14,7 +14,7 @@ use lib.ListN.{length, replicate, length-replicate}
 use Rattle.pack.specs.Fill.{padded}
 use Rattle.sets.specs.Word.{word}
 use Rattle.sets.proofs.Word.{full-word}
-use Rattle.paper.specs.Numbers.{mostCandidates, rowBytes}
+use Rattle.paper.specs.Numbers.{mostFaces, mostCandidates, rowBytes}
 use Rattle.paper.specs.Format.{editionOne}
 use Rattle.paper.specs.FaceList.{encodeFaces, countIn, facesIn, wellShaped, facesOf, noFaces, solidFaces}
 use Rattle.paper.specs.Loops.{Loop, row}
@@ -97,7 +97,7 @@ rows-give-faces v s a =
     let full : 2 ^ length fs - 1 ≡ word (replicate (length fs) true) = sym (full-word (length fs)) in
     ap (λ (r : Faces). solidFaces (r .rows) (2 ^ r .count - 1) 0) (w .back)
     ∙ ap (λ (t : ℕ). solidFaces (returned fs .rows) t 0) full
-    ∙ solid-faces fs (w .sendable .many) few (replicate (rowBytes * editionOne .«most_faces» - length (flatMap row fs)) 0)
+    ∙ solid-faces fs (w .sendable .many) few (replicate (rowBytes * mostFaces - length (flatMap row fs)) 0)
     (replicate (length fs) true) [] (length-replicate (length fs) true)
     ∙ all-taken fs
 

@@ -28,7 +28,7 @@ sheet-reads-back f sound xyz ends = record {
   room = λ room n e. ap (sheetOf f) (written-room f xyz ends room n e) ∙ back (written-lent f xyz ends room n e);
 }
   where
-    back : Fine ≡ firstOf (lentChecks f xyz ends) → sheetOf f (encode f xyz ends) ≡ whole xyz ends
+    back : Fine ≡ firstOf (lentChecks xyz ends) → sheetOf f (encode f xyz ends) ≡ whole xyz ends
     back h = read-written f sound xyz ends (lent f xyz ends h)
 
 -- ---- an accepted sheet
@@ -41,7 +41,7 @@ pub sheet-writes-back : (f : Format) (s : List ℕ) → Accepted f s → SheetWr
 sheet-writes-back f s a =
     let c : Fine ≡ firstOf (sheetChecks f s) = checked f s a in
     let again : encode f (coordinatesIn f s) (endsIn f s) ≡ s = written-again f s (accepted-shape f s c) (a .0) in
-    let takes : Fine ≡ firstOf (lentChecks f (coordinatesIn f s) (endsIn f s)) = accepted-lent f s c in
+    let takes : Fine ≡ firstOf (lentChecks (coordinatesIn f s) (endsIn f s)) = accepted-lent f s c in
     record {
       sheet = again;
       passes = takes;

@@ -7,8 +7,8 @@ use Prim.Native.Nat.{ℕ, _*_, _-_, _^_, _≤_, _<_}
 use lib.ListN.{length, getD, take, drop}
 use Rattle.pack.specs.Bits.{Under}
 use Rattle.pack.specs.Fill.{padded}
-use Rattle.paper.specs.Numbers.{leastCorners, mostCorners, rowBytes}
-use Rattle.paper.specs.Format.{editionOne, leastFaces}
+use Rattle.paper.specs.Numbers.{mostVertices, leastFaces, mostFaces, leastCorners, mostCorners, rowBytes}
+use Rattle.paper.specs.Format.{editionOne}
 use Rattle.paper.specs.Loops.{Loop, loopAt, row}
 use Rattle.paper.specs.FaceList.{encodeFaces, facesIn, wellShaped, facesOf, solidFaces, sentOf, sentRoom}
 use Rattle.paper.specs.declared.Format.{Format}
@@ -26,7 +26,7 @@ pub record Sendable (f : Format) (v : ℕ) (fs : List Loop) : Type 0 where
 
 -- reading returned these faces, a row for each
 abbrev pub returned : List Loop → Faces
-returned fs = record { answer = Fine; count = length fs; rows = padded (flatMap row fs) (rowBytes * editionOne .«most_faces») 0 }
+returned fs = record { answer = Fine; count = length fs; rows = padded (flatMap row fs) (rowBytes * mostFaces) 0 }
 
 -- ---- such faces, written out, read back the same
 
@@ -40,7 +40,7 @@ module _ (f : Format) (v : ℕ) (fs : List Loop) where
 
 -- of edition 1, for a drawing of any number of vertices that it may have
 abbrev pub ReadBackOne : Type 0
-ReadBackOne = (v : ℕ) → v ≤ editionOne .«most_vertices» → (fs : List Loop) → Sendable editionOne v fs → FacesReadBack editionOne v fs
+ReadBackOne = (v : ℕ) → v ≤ mostVertices → (fs : List Loop) → Sendable editionOne v fs → FacesReadBack editionOne v fs
 
 -- what the writer takes are such faces
 abbrev pub SentIsSendable : Format → Type 0

@@ -21,7 +21,7 @@ whole xyz ends = record { answer = Fine; drawing = held (length xyz / 3) (length
 
 module _ (f : Format) (xyz : List ℤ) (ends : List ℕ) where
   pub record SheetReadsBack : Type 0 where
-    pub sheet : Fine ≡ firstOf (lentChecks f xyz ends) → sheetOf f (encode f xyz ends) ≡ whole xyz ends
+    pub sheet : Fine ≡ firstOf (lentChecks xyz ends) → sheetOf f (encode f xyz ends) ≡ whole xyz ends
     -- the bytes that the writer reports are in its room, and read back
     pub room : (room : List ℕ) (n : ℕ) → writtenOf f xyz ends room ≡ Bytes n
         → sheetOf f (take n (roomOf f xyz ends room)) ≡ whole xyz ends
@@ -35,7 +35,7 @@ module _ (f : Format) (s : List ℕ) where
   pub record SheetWritesBack : Type 0 where
     pub sheet : encode f (coordinatesIn f s) (endsIn f s) ≡ s
     -- the writer takes these lists, which are the drawing that reading the sheet returns
-    pub passes : Fine ≡ firstOf (lentChecks f (coordinatesIn f s) (endsIn f s))
+    pub passes : Fine ≡ firstOf (lentChecks (coordinatesIn f s) (endsIn f s))
     pub returned : sheetOf f s .drawing ≡ held (verticesIn f s) (edgesIn f s) (coordinatesIn f s) (endsIn f s)
     -- in room enough it writes the sheet's bytes, and later room is kept
     pub room : (room : List ℕ) → length s ≤ length room

@@ -30,7 +30,7 @@ points-near (x ∷ (y ∷ (z ∷ l))) n zero = record {
 }
 points-near (x ∷ (y ∷ (z ∷ l))) n (suc v) = points-near l (λ k. n (suc (suc (suc k)))) v
 
-pub lent-near : (xyz : List ℤ) (ends : List ℕ) → Fine ≡ firstOf (lentChecks editionOne xyz ends)
+pub lent-near : (xyz : List ℤ) (ends : List ℕ) → Fine ≡ firstOf (lentChecks xyz ends)
     → (v : ℕ) → PointWithin farthest (at (wire xyz ends) v)
 unfolding wire at
 lent-near xyz ends e v = points-near xyz (contents _ xyz ends (lent editionOne xyz ends e .fine) .near) v

@@ -10,7 +10,7 @@ use native.Mathlib.Omega.{arith}
 use lib.Dec.{lit≤}
 use lib.IntN.{ℤ}
 use lib.ListN.{length}
-use Rattle.paper.specs.Numbers.{farthest, mostSolids}
+use Rattle.paper.specs.Numbers.{farthest, documented}
 use Rattle.paper.specs.Refusals.{Check, firstOf}
 use Rattle.paper.specs.Format.{editionOne, coordinatesIn, endsIn}
 use Rattle.paper.specs.Sheet.{lentChecks, sheetChecks}
@@ -57,7 +57,7 @@ solid-small d w apart taken turned {six} s =
 
 module _ (d : Wire) (form : List Check) (drawn : Answer.Fine ≡ firstOf form → Drawn d) (limit : ℕ) (faces solids : List ℕ) where
   abbrev result : Converted
-  result = conversion mostSolids form d limit faces solids
+  result = conversion documented form d limit faces solids
 
   -- "One" comes only where nothing is refused
   one-small : (l k w six : ℕ) → result .answer ≡ Conversion.One l k w six → six ≤ mostSix
@@ -67,7 +67,7 @@ module _ (d : Wire) (form : List Check) (drawn : Answer.Fine ≡ firstOf form �
       go (inl p) = absurd (omega (arith, ap kind (sym one ∙ ap (λ (c : Converted). c .answer) (p .2))))
       go (inr p) =
           let drawn-too = entryChecks limit faces solids ++ form ++ drawingChecks d in
-          let rules = first-both drawn-too (loopChecks (loops d) (candidates d)) (p .0) .0 in
+          let rules = first-both drawn-too (loopChecks documented (loops d) (candidates d)) (p .0) .0 in
           let opened = first-both (entryChecks limit faces solids ++ form) (drawingChecks d) rules .0 in
           let says = says-one d (the-walk d) limit faces solids result (p .1) one in
           solid-small d (drawn (first-both (entryChecks limit faces solids) form opened .1))
@@ -79,7 +79,7 @@ module _ (d : Wire) (form : List Check) (drawn : Answer.Fine ≡ firstOf form �
 
 -- ---- of the two ways in which a drawing comes
 
-lent-drawn : (xyz : List ℤ) (ends : List ℕ) → Answer.Fine ≡ firstOf (lentChecks editionOne xyz ends) → Drawn (wire xyz ends)
+lent-drawn : (xyz : List ℤ) (ends : List ℕ) → Answer.Fine ≡ firstOf (lentChecks xyz ends) → Drawn (wire xyz ends)
 lent-drawn xyz ends e = record { near = lent-near xyz ends e; counts = lent-small xyz ends e }
 
 sheet-drawn : (s : List ℕ) → Answer.Fine ≡ firstOf (sheetChecks editionOne s)
@@ -95,7 +95,7 @@ small-enough = record {
       solid-small (wire (coordinatesIn editionOne s) (endsIn editionOne s)) (sheet-drawn s f) apart taken turned i;
   lists-read =
       λ xyz ends limit faces solids.
-      read-exactly (wire xyz ends) (lentChecks editionOne xyz ends) (lent-drawn xyz ends) limit faces solids;
+      read-exactly (wire xyz ends) (lentChecks xyz ends) (lent-drawn xyz ends) limit faces solids;
   sheets-read =
       λ s limit faces solids.
       read-exactly (wire (coordinatesIn editionOne s) (endsIn editionOne s)) (sheetChecks editionOne s) (sheet-drawn s) limit faces solids;

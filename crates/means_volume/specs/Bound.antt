@@ -5,9 +5,9 @@ use mathlib.Core.List.{List}
 use mathlib.Core.Option.{none}
 use Prim.Native.Nat.{ℕ, _*_, _-_, _≤_}
 use lib.IntN.{ℤ}
-use Rattle.paper.specs.Numbers.{farthest}
+use Rattle.paper.specs.Numbers.{mostEdges, leastFaces, farthest}
 use Rattle.paper.specs.Refusals.{Check, firstOf}
-use Rattle.paper.specs.Format.{editionOne, leastFaces, coordinatesIn, endsIn}
+use Rattle.paper.specs.Format.{editionOne, coordinatesIn, endsIn}
 use Rattle.paper.specs.Sheet.{lentChecks, sheetChecks}
 use Rattle.paper.specs.Drawing.{Wire, wire, samePlace}
 use Rattle.paper.specs.Loops.{candidates}
@@ -24,7 +24,7 @@ mostTerm = 6 * (farthest * (farthest * farthest))
 
 -- a face of n corners has n - 2 of them, all faces together have two corners for each edge, and there are at least four
 abbrev pub mostTerms : ℕ
-mostTerms = 2 * (editionOne .«most_edges» - leastFaces)
+mostTerms = 2 * (mostEdges - leastFaces)
 
 -- "7.2 x 10^11"
 abbrev pub mostSix : ℕ
@@ -41,7 +41,7 @@ ReadExactly c = (l k w six : ℕ) → c .answer ≡ Conversion.One l k w six →
 
 -- of a drawing lent as two lists, and of one on a sheet
 pub record SmallEnough : Type 0 where
-  pub lists : (xyz : List ℤ) (ends : List ℕ) → SolidsSmall (lentChecks editionOne xyz ends) (wire xyz ends)
+  pub lists : (xyz : List ℤ) (ends : List ℕ) → SolidsSmall (lentChecks xyz ends) (wire xyz ends)
   pub sheets : (s : List ℕ) → SolidsSmall (sheetChecks editionOne s) (wire (coordinatesIn editionOne s) (endsIn editionOne s))
   pub lists-read : (xyz : List ℤ) (ends : List ℕ) (limit : ℕ) (faces solids : List ℕ)
       → ReadExactly (convertLists xyz ends limit faces solids)

@@ -5,12 +5,12 @@ use Prim.Native.Nat.{ℕ, _*_}
 use lib.Dec.{ltb, eqb}
 use lib.IntN.{ℤ}
 use lib.ListN.{length, drop}
-use Rattle.sets.specs.Word.{word}
-use Rattle.paper.specs.Numbers.{mostSolids, mostWork, faceRoom, solidRoom, rowBytes, solidWords}
+use Rattle.paper.specs.Numbers.{Limits, documented, mostWork, rowBytes, solidWords, faceRoom, solidRoom}
 use Rattle.paper.specs.Refusals as No
 use Rattle.paper.specs.Refusals.{Check, check, firstOf, offends}
-use Rattle.paper.specs.Format.{editionOne, coordinatesIn, endsIn}
+use Rattle.paper.specs.Format.{editionOf, coordinatesIn, endsIn}
 use Rattle.paper.specs.Sheet.{sheetChecks, lentChecks}
+use Rattle.paper.specs.Record.{entry}
 use Rattle.paper.specs.Drawing.{Wire, wire, drawingChecks}
 use Rattle.paper.specs.Loops.{Loop, row, loops, uncovering, loopChecks}
 use Rattle.paper.specs.Solids.{Tables, tablesOf, Judgement, Fails, Solid, judged}
@@ -48,14 +48,13 @@ sixOf (Solid turned six) = six
 unfoldable pub accepted : Tables → List Status → Bool
 accepted t st = isSolid (judged t (takens st))
 
--- ---- "A report writes 13 bytes per candidate and three words per solid: a bit per taken candidate (candidate 0 lowest), a bit per
--- taken face run against its normal form (the others 0), six volumes. Later room keeps its contents"
+-- ---- "A report writes 13 bytes per candidate and three words per solid"; "Later room keeps its contents"
 
 unfoldable pub facesAfter : List Loop → List ℕ → List ℕ
 facesAfter cs room = flatMap row cs ++ drop (rowBytes * length cs) room
 
 unfoldable pub words : Tables → List Status → List ℕ
-words t st = let j = judged t (takens st) in word (takens st) ∷ word (turnedOf j) ∷ sixOf j ∷ []
+words t st = let j = judged t (takens st) in entry (takens st) (turnedOf j) (sixOf j)
 
 unfoldable pub solidsAfter : Tables → List (List Status) → List ℕ → List ℕ
 solidsAfter t found room = flatMap (words t) found ++ drop (solidWords * length found) room
@@ -103,19 +102,20 @@ abbrev pub orConvert : Answer → List ℕ → List ℕ → Converted → Conver
 orConvert Answer.Fine faces solids c = c
 orConvert (Answer.Refused r) faces solids c = record { answer = Conversion.Refused r; faces = faces; solids = solids }
 
--- of a drawing whose own form is checked by `form`: 3 to 10. The cap is the number of solids reported.
-unfoldable pub conversion : ℕ → List Check → Wire → ℕ → List ℕ → List ℕ → Converted
-conversion cap form d limit faces solids =
+-- of a drawing whose own form is checked by `form`: 3 to 10
+unfoldable pub conversion : Limits → List Check → Wire → ℕ → List ℕ → List ℕ → Converted
+conversion most form d limit faces solids =
     let ls = loops d in
     let cs = uncovering d ls in
     let t = tablesOf d cs in
-    orConvert (firstOf (entryChecks limit faces solids ++ form ++ drawingChecks d ++ loopChecks ls cs)) faces solids
-    (concluded (length ls) cs t (search cap (accepted t) limit (length cs) (t .masks)) faces solids)
+    orConvert (firstOf (entryChecks limit faces solids ++ form ++ drawingChecks d ++ loopChecks most ls cs)) faces solids
+    (concluded (length ls) cs t (search (most .solids) (accepted t) limit (length cs) (t .masks)) faces solids)
 
 -- of "two lists of numbers", where "3, 4, 6 and 7 don't arise"; of a sheet
 unfoldable pub convertLists : List ℤ → List ℕ → ℕ → List ℕ → List ℕ → Converted
-convertLists xyz ends limit faces solids = conversion mostSolids (lentChecks editionOne xyz ends) (wire xyz ends) limit faces solids
+convertLists xyz ends limit faces solids = conversion documented (lentChecks xyz ends) (wire xyz ends) limit faces solids
 
 unfoldable pub convertSheet : List ℕ → ℕ → List ℕ → List ℕ → Converted
 convertSheet s limit faces solids =
-    conversion mostSolids (sheetChecks editionOne s) (wire (coordinatesIn editionOne s) (endsIn editionOne s)) limit faces solids
+    let f = editionOf s in
+    conversion documented (sheetChecks f s) (wire (coordinatesIn f s) (endsIn f s)) limit faces solids

@@ -7,9 +7,9 @@ use Prim.Native.String as Text
 use Prim.Native.String.{String}
 use lib.Dec.{ltb}
 use lib.ListN.{getD, drop, replicate}
-use Rattle.sets.specs.Word.{digits}
-use Rattle.paper.specs.Numbers.{mostCandidates, mostWork, faceRoom, solidRoom, solidWords}
-use Rattle.paper.specs.Format.{editionOne, verticesIn, edgesIn}
+use Rattle.paper.specs.Numbers.{mostWork, solidWords, faceRoom, solidRoom}
+use Rattle.paper.specs.Format.{editionOf, verticesIn, edgesIn}
+use Rattle.paper.specs.Record.{takenIn, turnedIn, sixIn}
 use Rattle.paper.specs.Conversion.{convertSheet}
 use Rattle.paper.specs.declared.Conversion.{Conversion}
 use Rattle.paper.specs.declared.Conversion.the-variants as Conversion
@@ -36,11 +36,11 @@ facesText k [] turned = []
 facesText k (true ∷ taken) turned = signed (getD turned k false) ++ decimal k ++ facesText (suc k) taken turned
 facesText k (false ∷ taken) turned = facesText (suc k) taken turned
 
--- "then per solid its number, six volumes and faces", from its three words; n solids from the number i on
+-- "then per solid its number, six volumes and faces", from its record; n solids from the number i on
 unfoldable pub solidText : ℕ → List ℕ → List ℕ
 solidText i ws =
-    text "solid " ++ decimal i ++ text " sixvolumes " ++ decimal (getD ws 2 0) ++ text " faces"
-    ++ facesText 0 (digits mostCandidates (getD ws 0 0)) (digits mostCandidates (getD ws 1 0)) ++ text "\n"
+    text "solid " ++ decimal i ++ text " sixvolumes " ++ decimal (sixIn ws) ++ text " faces"
+    ++ facesText 0 (takenIn ws) (turnedIn ws) ++ text "\n"
 
 unfoldable pub solidsText : ℕ → ℕ → List ℕ → List ℕ
 solidsText i zero ws = []
@@ -66,4 +66,4 @@ answerText v e (Conversion.Refused r) ws = text "refused " ++ decimal (r .number
 unfoldable pub deskText : List ℕ → List ℕ
 deskText s =
     let c = convertSheet s mostWork (replicate faceRoom 0) (replicate solidRoom 0) in
-    answerText (verticesIn editionOne s) (edgesIn editionOne s) (c .answer) (c .solids)
+    answerText (verticesIn (editionOf s) s) (edgesIn (editionOf s) s) (c .answer) (c .solids)

@@ -6,12 +6,12 @@ use lib.Dec.{leb, ltb, eqb}
 use lib.ListN.{length, getD, take, drop}
 use Rattle.pack.specs.Bits.{bits, val, run, cut, fieldAt}
 use Rattle.pack.specs.Fill.{padded}
-use Rattle.sets.specs.Word as Word
 use Rattle.lists.specs.Lists.{all, filter, upto}
-use Rattle.paper.specs.Numbers.{leastCorners, mostCorners, mostCandidates, rowBytes}
+use Rattle.paper.specs.Numbers.{leastFaces, mostFaces, leastCorners, mostCorners, mostCandidates, rowBytes}
 use Rattle.paper.specs.Refusals as No
 use Rattle.paper.specs.Refusals.{Check, check, refuse, firstOf, offends}
-use Rattle.paper.specs.Format.{editionOne, leastFaces, editionBits, cornerBits, outside, bytesFor, filled, fillAfter}
+use Rattle.paper.specs.Format.{editionBits, cornerBits, outside, bytesFor, filled, fillAfter}
+use Rattle.paper.specs.Record.{takenIn, turnedIn}
 use Rattle.paper.specs.Loops.{Loop, flipped, row}
 use Rattle.paper.specs.declared.Format.{Format}
 use Rattle.paper.specs.declared.Answer.{Answer}
@@ -22,7 +22,7 @@ use Rattle.paper.specs.declared.Faces.{Faces}
 
 -- no faces by value, where the list is refused
 abbrev pub noFaces : Faces
-noFaces = record { answer = refuse No.ShellShape 0; count = 0; rows = padded [] (rowBytes * editionOne .«most_faces») 0 }
+noFaces = record { answer = refuse No.ShellShape 0; count = 0; rows = padded [] (rowBytes * mostFaces) 0 }
 
 module _ (f : Format) where
   -- "edition (4 bits, 1), face count (6 bits, 4 to 42), then per face the corner count (4 bits, 3 to 12) and corners (5 bits each)"
@@ -78,11 +78,11 @@ module _ (f : Format) where
       (record {
         answer = Answer.Fine;
         count = countIn s;
-        rows = padded (flatMap row (facesIn s)) (rowBytes * editionOne .«most_faces») 0;
+        rows = padded (flatMap row (facesIn s)) (rowBytes * mostFaces) 0;
       })
       noFaces
 
--- ---- a reported solid, sent as a list: from the rows of a report and the first two words of the solid
+-- ---- a reported solid, sent as a list: from the rows of a report and the solid's record
 
 -- the loop of candidate k, where its row is whole and has at most 12 corners
 unfoldable pub rowAt : List ℕ → ℕ → Loop
@@ -90,11 +90,11 @@ rowAt rows k =
     let c = getD rows (rowBytes * k) 0 in
     cond (leb (rowBytes * k + rowBytes) (length rows) && leb c mostCorners) (take c (drop (rowBytes * k + 1) rows)) []
 
--- "a bit per taken candidate (candidate 0 lowest), a bit per taken face run against its normal form": its faces, in candidate order
-unfoldable pub solidFaces : List ℕ → ℕ → ℕ → List Loop
-solidFaces rows taken turned =
-    let at : ℕ → Loop = λ k. cond (getD (Word.digits mostCandidates turned) k false) (flipped (rowAt rows k)) (rowAt rows k) in
-    map at (filter (λ k. getD (Word.digits mostCandidates taken) k false) (upto mostCandidates))
+-- its faces, in candidate order
+unfoldable pub solidFaces : List ℕ → List ℕ → List Loop
+solidFaces rows ws =
+    let at : ℕ → Loop = λ k. cond (getD (turnedIn ws) k false) (flipped (rowAt rows k)) (rowAt rows k) in
+    map at (filter (λ k. getD (takenIn ws) k false) (upto mostCandidates))
 
 module _ (f : Format) (fs : List Loop) where
   -- 20 where these are no faces of a list, and 1 where the room is shorter than the list

@@ -23,14 +23,12 @@ editionOne = record {
   «most_faces» = 42;
 }
 
-abbrev pub leastVertices : ℕ
-leastVertices = 4
+-- the edition that a sheet says; the edition of a drawing of v vertices and e edges, and of its face lists. There is one
+unfoldable pub editionOf : List ℕ → Format
+editionOf s = editionOne
 
-abbrev pub leastEdges : ℕ
-leastEdges = 6
-
-abbrev pub leastFaces : ℕ
-leastFaces = 4
+unfoldable pub editionFor : ℕ → ℕ → Format
+editionFor v e = editionOne
 
 -- widths that all editions share: "edition (4 bits", "x, y, z (11 bits each", "the corner count (4 bits"
 abbrev pub editionBits : ℕ

@@ -9,7 +9,7 @@ use mathlib.Core.List.{List, [], _∷_, _++_, flatMap}
 use lib.IntN.{pos}
 use lib.ListN.{replicate}
 use lib.Ieee.{binary64, ofBits}
-use Rattle.paper.specs.Numbers.{mostSolids, mostWork}
+use Rattle.paper.specs.Numbers.{documented, mostWork}
 use Rattle.paper.specs.Refusals as No
 use Rattle.paper.specs.Refusals.{refuse}
 use Rattle.paper.specs.Loops.{row}
@@ -64,12 +64,12 @@ table =
     ∷ worded 6 12 (Conversion.TooLong 11 11 3) [] yields bytes (text "wire 6 12\nloops 11 candidates 11\nwork 3\ntoo long\n")
     ∷ worded 0 0 (Conversion.Refused (record { number = 13; place = 20 })) [] yields bytes (text "refused 13 20\n")
     -- "under 832 bytes for faces; under 24 words for solids"
-    ∷ wholly mostSolids tetrahedron mostWork 831 24
+    ∷ wholly documented tetrahedron mostWork 831 24
     yields left (Conversion.Refused (record { number = 1; place = 0 })) (faceBefore 831) (solidBefore 24)
-    ∷ wholly mostSolids tetrahedron mostWork 832 23
+    ∷ wholly documented tetrahedron mostWork 832 23
     yields left (Conversion.Refused (record { number = 1; place = 1 })) (faceBefore 832) (solidBefore 23)
     -- the tetrahedron's solid written as a face list, its turned faces the other way round; later room is kept
-    ∷ posted (flatMap row corners) 15 5 12
+    ∷ posted 4 6 (flatMap row corners) (15 ∷ 5 ∷ []) 12
     yields wrote (Written.Bytes 11) (17 ∷ 12 ∷ 2 ∷ 9 ∷ 128 ∷ 35 ∷ 48 ∷ 12 ∷ 70 ∷ 17 ∷ 12 ∷ faceBefore 1)
     -- "4 loops, work 0, six volumes 216"; its rows in the face room; "A tetrahedron takes 27 bytes"
     ∷ converted tetrahedron mostWork yields solved (Conversion.One 4 4 0 216) (Reading.Volume (volume 216))

@@ -3,6 +3,7 @@ pub mod Numbers
 pub mod Refusals
 pub mod Format
 pub mod Sheet
+pub mod Record
 pub mod Points
 pub mod Polygon
 pub mod Drawing

@@ -1,6 +1,6 @@
 -- Questions to the definitions and what they reply, for the tables that are proved by evaluation: one definition that computes with
 -- all others.
-use Prim.Native.Nat.{ℕ}
+use Prim.Native.Nat.{ℕ, _/_}
 use mathlib.Core.Path.{_≡_}
 use mathlib.Core.Bool.{Bool, true, _||_}
 use mathlib.Core.List.{List, [], _∷_, map, flatMap}
@@ -9,14 +9,14 @@ use lib.ListN.{length, replicate}
 use lib.Ieee.{div, ofInt}
 use Rattle.pack.specs.Bits.{bits, val, run, cut, fieldAt, fieldsAt}
 use Rattle.pack.specs.Fill.{padded}
-use Rattle.sets.specs.Word as Word
-use Rattle.sets.specs.Word.{word, count, both, either, less, only, first}
+use Rattle.sets.specs.Word.{word, digits, count, both, either, less, only, first}
 use Rattle.lists.specs.Lists.{any, all, filter, sides, anyTrue, upto, lowest, member, sameList}
-use Rattle.paper.specs.Numbers.{mostSolids, mostWork, faceRoom, solidRoom}
+use Rattle.paper.specs.Numbers.{Limits, mostSolids, mostWork, faceRoom, solidRoom}
 use Rattle.paper.specs.Refusals.{firstOf}
-use Rattle.paper.specs.Format.{editionOne, filled, fillAfter, encode}
+use Rattle.paper.specs.Format.{editionOf, editionFor, filled, fillAfter, encode}
 use Rattle.paper.specs.Sheet.{farAt, wrongAt, lowAt, edgeChecks, contentChecks, openChecks, countChecks, closeChecks, shapeChecks}
 use Rattle.paper.specs.Sheet.{sheetChecks, lentChecks, sheetOf, writerChecks, writtenOf, roomOf}
+use Rattle.paper.specs.Record.{setOf, digitsAt, entry}
 use Rattle.paper.specs.Points.{above}
 use Rattle.paper.specs.Polygon.{covers}
 use Rattle.paper.specs.Drawing.{pointsOf, wire, joined, drawingChecks}
@@ -36,6 +36,7 @@ use Rattle.paper.specs.Verdict.{faceTwice, edgeCount, direction, pieces,
 use Rattle.paper.specs.Verdict.{verdictSheet}
 use Rattle.paper.specs.Reading.{readingOf}
 use Rattle.paper.specs.Desk.{text, decimalIn, decimal, signed, facesText, solidText, solidsText, headText, answerText, deskText}
+use Rattle.paper.specs.declared.Format.{Format}
 use Rattle.paper.specs.declared.Answer.{Answer}
 use Rattle.paper.specs.declared.Written.{Written}
 use Rattle.paper.specs.declared.Sheet.{Sheet}
@@ -48,6 +49,10 @@ pub record Drawn : Type 0 where
   pub xyz : List ℤ
   pub ends : List ℕ
 
+-- its edition
+abbrev pub formOf : Drawn → Format
+formOf d = editionFor (length (d .xyz) / 3) (length (d .ends) / 2)
+
 abbrev pub neg : ℕ → ℤ
 neg n = negℤ (pos n)
 
@@ -55,8 +60,8 @@ pub data Question : Type 0 where
   -- a drawing under a work limit: the answer, its reading and the solid room; the face room
   converted : Drawn → ℕ → Question
   faced : Drawn → Question
-  -- the same with a cap of its own on the solids and rooms of any length: all that comes back
-  wholly : (cap : ℕ) → Drawn → (limit faceBytes solidWords : ℕ) → Question
+  -- the same with limits of its own and rooms of any length: all that comes back
+  wholly : (most : Limits) → Drawn → (limit faceBytes solidWords : ℕ) → Question
   -- a drawing lent as two lists; its sheet's length; its sheet written to room of a length
   lent : Drawn → Question
   sized : Drawn → Question
@@ -79,8 +84,9 @@ pub data Question : Type 0 where
   -- a packed list of faces sent for a sheet; a list of faces for a drawing's sheet
   ruled : (sheet list : List ℕ) → Question
   enclosed : Drawn → List (List ℕ) → Question
-  -- a reported solid, by the rows of the report and its first two words, written as a face list to room of a length
-  posted : (rows : List ℕ) → (taken turned room : ℕ) → Question
+  -- a reported solid of a drawing of so many vertices and edges, by the rows of the report and its record, written as a face list to room
+  -- of a length
+  posted : (vertices edges : ℕ) → (rows solid : List ℕ) → (room : ℕ) → Question
 
 pub data Reply : Type 0 where
   solved : Conversion → Reading → List ℕ → Reply
@@ -113,7 +119,7 @@ selections d =
     (search mostSolids (λ st. true) mostWork (length cs) (t .masks) .found)
 
 unfoldable pub reply : Question → Reply
-unfolding bits val run cut fieldAt fieldsAt Word.digits word count both either less only first any all filter sides anyTrue upto lowest
+unfolding editionOf editionFor setOf digitsAt entry bits val run cut fieldAt fieldsAt digits word count both either less only first any all filter sides anyTrue upto lowest
     member sameList flatMap firstOf filled fillAfter encode farAt wrongAt lowAt edgeChecks contentChecks openChecks countChecks
     closeChecks shapeChecks sheetChecks lentChecks padded sheetOf writerChecks writtenOf roomOf above covers pointsOf wire joined
     drawingChecks row follows closes branch scan ext level loops polygon uncovering candidates loopChecks pierces enters folds clash runs
@@ -127,16 +133,16 @@ reply (converted d limit) =
     let c = convertLists (d .xyz) (d .ends) limit (faceBefore faceRoom) (solidBefore solidRoom) in
     solved (c .answer) (readingOf (c .answer)) (c .solids)
 reply (faced d) = bytes (convertLists (d .xyz) (d .ends) mostWork (faceBefore faceRoom) (solidBefore solidRoom) .faces)
-reply (wholly cap d limit f s) =
-    let c = conversion cap (lentChecks editionOne (d .xyz) (d .ends)) (wire (d .xyz) (d .ends)) limit (faceBefore f) (solidBefore s) in
+reply (wholly most d limit f s) =
+    let c = conversion most (lentChecks (d .xyz) (d .ends)) (wire (d .xyz) (d .ends)) limit (faceBefore f) (solidBefore s) in
     left (c .answer) (c .faces) (c .solids)
-reply (lent d) = answer (firstOf (lentChecks editionOne (d .xyz) (d .ends)))
-reply (sized d) = number (length (encode editionOne (d .xyz) (d .ends)))
-reply (stored d n) = wrote (writtenOf editionOne (d .xyz) (d .ends) (faceBefore n)) (roomOf editionOne (d .xyz) (d .ends) (faceBefore n))
-reply (fetched s) = sheet (sheetOf editionOne s)
+reply (lent d) = answer (firstOf (lentChecks (d .xyz) (d .ends)))
+reply (sized d) = number (length (encode (formOf d) (d .xyz) (d .ends)))
+reply (stored d n) = wrote (writtenOf (formOf d) (d .xyz) (d .ends) (faceBefore n)) (roomOf (formOf d) (d .xyz) (d .ends) (faceBefore n))
+reply (fetched s) = sheet (sheetOf (editionOf s) s)
 reply (desk s) = bytes (deskText s)
-reply (printed d) = bytes (deskText (encode editionOne (d .xyz) (d .ends)))
-reply (sent d fs) = verdicts (verdictLists (d .xyz) (d .ends) (encodeFaces editionOne fs))
+reply (printed d) = bytes (deskText (encode (formOf d) (d .xyz) (d .ends)))
+reply (sent d fs) = verdicts (verdictLists (d .xyz) (d .ends) (encodeFaces (formOf d) fs))
 reply (checked d list) = verdicts (verdictLists (d .xyz) (d .ends) list)
 reply (paired f g) =
     let p = pointsOf f in
@@ -147,10 +153,10 @@ reply (selected d) = tests (selections d)
 reply (read c) = reads (readingOf c)
 reply (worded v e c ws) = bytes (answerText v e c ws)
 reply (ruled s list) = verdicts (verdictSheet s list)
-reply (enclosed d fs) = verdicts (verdictSheet (encode editionOne (d .xyz) (d .ends)) (encodeFaces editionOne fs))
-reply (posted rows taken turned n) =
-    let fs = solidFaces rows taken turned in
-    wrote (sentOf editionOne fs (faceBefore n)) (sentRoom editionOne fs (faceBefore n))
+reply (enclosed d fs) = verdicts (verdictSheet (encode (formOf d) (d .xyz) (d .ends)) (encodeFaces (formOf d) fs))
+reply (posted v e rows solid n) =
+    let fs = solidFaces rows solid in
+    wrote (sentOf (editionFor v e) fs (faceBefore n)) (sentRoom (editionFor v e) fs (faceBefore n))
 
 infix 80 _yields_
 pub data Case : Type 0 where

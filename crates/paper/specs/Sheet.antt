@@ -9,10 +9,10 @@ use lib.ListN.{length, getD, drop}
 use Rattle.pack.specs.Bits.{fieldAt}
 use Rattle.pack.specs.Fill.{padded}
 use Rattle.lists.specs.Lists.{lowest}
-use Rattle.paper.specs.Numbers.{farthest}
+use Rattle.paper.specs.Numbers.{leastVertices, mostVertices, leastEdges, mostEdges, farthest}
 use Rattle.paper.specs.Refusals as No
 use Rattle.paper.specs.Refusals.{Check, check, firstOf, offends}
-use Rattle.paper.specs.Format.{editionOne, leastVertices, leastEdges, editionBits, outside, total, bytesFor, fillAfter, verticesIn}
+use Rattle.paper.specs.Format.{editionBits, outside, total, bytesFor, fillAfter, verticesIn}
 use Rattle.paper.specs.Format.{edgesIn, coordinatesIn, endsIn, encode}
 use Rattle.paper.specs.declared.Format.{Format}
 use Rattle.paper.specs.declared.Answer.{Answer}
@@ -91,8 +91,8 @@ held v e xyz ends =
     record {
       vertices = v;
       edges = e;
-      xyz = padded xyz (3 * editionOne .«most_vertices») (pos 0);
-      ends = padded ends (2 * editionOne .«most_edges») 0;
+      xyz = padded xyz (3 * mostVertices) (pos 0);
+      ends = padded ends (2 * mostEdges) 0;
     }
 
 abbrev pub blank : Drawing
@@ -114,18 +114,18 @@ sheetOf f s =
 abbrev pub badCount : ℕ → ℕ → ℕ → ℕ → Bool
 badCount k lo hi n = not (eqb (n % k) 0) || outside lo hi (n / k)
 
-module _ (f : Format) (xyz : List ℤ) (ends : List ℕ) where
-  -- "a lent list that isn't whole": "then 3, 4, 6 and 7 don't arise"
-  unfoldable pub lentChecks : List Check
-  lentChecks =
-      check No.BadCount (offends (badCount 3 leastVertices (f .«most_vertices») (length xyz)) 0)
-      ∷ check No.BadCount (offends (badCount 2 leastEdges (f .«most_edges») (length ends)) 1)
-      ∷ contentChecks (length xyz / 3) xyz ends
+-- "a lent list that isn't whole": "then 3, 4, 6 and 7 don't arise"
+unfoldable pub lentChecks : List ℤ → List ℕ → List Check
+lentChecks xyz ends =
+    check No.BadCount (offends (badCount 3 leastVertices mostVertices (length xyz)) 0)
+    ∷ check No.BadCount (offends (badCount 2 leastEdges mostEdges (length ends)) 1)
+    ∷ contentChecks (length xyz / 3) xyz ends
 
+module _ (f : Format) (xyz : List ℤ) (ends : List ℕ) where
   -- 1: "a sheet writer's room shorter than the sheet"
   unfoldable pub writerChecks : ℕ → List Check
   writerChecks room =
-      lentChecks ++ (check No.NoRoom (offends (ltb room (bytesFor (total f (length xyz / 3) (length ends / 2)))) 0) ∷ [])
+      lentChecks xyz ends ++ (check No.NoRoom (offends (ltb room (bytesFor (total f (length xyz / 3) (length ends / 2)))) 0) ∷ [])
 
   -- the answer, and what the room holds then: "Later room keeps its contents, after a written sheet too"
   abbrev pub writtenFor : Answer → Written

@@ -8,9 +8,10 @@ use lib.ListN.{length, getD, take, drop}
 use lib.IntN.{ℤ}
 use Rattle.sets.specs.Word.{count, both, first}
 use Rattle.lists.specs.Lists.{filter, upto, lowest, member, sameList}
+use Rattle.paper.specs.Numbers.{documented}
 use Rattle.paper.specs.Refusals as No
 use Rattle.paper.specs.Refusals.{Check, check, firstOf, offends}
-use Rattle.paper.specs.Format.{editionOne, coordinatesIn, endsIn}
+use Rattle.paper.specs.Format.{editionOf, editionFor, coordinatesIn, endsIn}
 use Rattle.paper.specs.Sheet.{sheetChecks, lentChecks}
 use Rattle.paper.specs.Points.{above}
 use Rattle.paper.specs.Drawing.{Wire, wire, drawingChecks}
@@ -117,18 +118,20 @@ abbrev pub verdictFor : Answer → Verdict
 verdictFor Answer.Fine = Verdict.Accepted
 verdictFor (Answer.Refused r) = Verdict.Refused r
 
--- 11 to 16, 20, and then 21 to 27
+-- 11 to 16, 20, and then 21 to 27. A face list has the edition of its drawing
 unfoldable pub verdict : List Check → Wire → List ℕ → Verdict
 verdict form d list =
     let ls = loops d in
     let cs = uncovering d ls in
-    verdictFor (firstOf (form ++ drawingChecks d ++ loopChecks ls cs
-    ++ (check No.ShellShape (offends (not (wellShaped editionOne (length (d .vertices)) list)) 0)
-    ∷ faceChecks (tablesOf d cs) (length cs) (listed cs (facesIn editionOne list)))))
+    let v = length (d .vertices) in
+    let f = editionFor v (length (d .edges)) in
+    verdictFor (firstOf (form ++ drawingChecks d ++ loopChecks documented ls cs
+    ++ (check No.ShellShape (offends (not (wellShaped f v list)) 0)
+    ∷ faceChecks (tablesOf d cs) (length cs) (listed cs (facesIn f list)))))
 
 -- of a drawing lent as two lists; of a sheet
 unfoldable pub verdictLists : List ℤ → List ℕ → List ℕ → Verdict
-verdictLists xyz ends list = verdict (lentChecks editionOne xyz ends) (wire xyz ends) list
+verdictLists xyz ends list = verdict (lentChecks xyz ends) (wire xyz ends) list
 
 unfoldable pub verdictSheet : List ℕ → List ℕ → Verdict
-verdictSheet s list = verdict (sheetChecks editionOne s) (wire (coordinatesIn editionOne s) (endsIn editionOne s)) list
+verdictSheet s list = let f = editionOf s in verdict (sheetChecks f s) (wire (coordinatesIn f s) (endsIn f s)) list

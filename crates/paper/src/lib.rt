@@ -43,19 +43,21 @@ pub const VERTEX_BITS: usize = 3 * COORDINATE_BITS;
 
 pub const CORNER_BITS: usize = 4;
 
-// A report's room: 13 bytes for each candidate, three words for each solid.
+// A report's room: 13 bytes for each candidate; for each solid the words of two sets, and six volumes.
 pub const ROW: usize = 13;
 
-pub const WORDS: usize = 3;
+pub const SET_WORDS: usize = 1;
 
-pub const FACE_ROOM: usize = 832;
+pub const WORDS: usize = 2 * SET_WORDS + 1;
 
-pub const SOLID_ROOM: usize = 24;
+pub const FACE_ROOM: usize = ROW * MOST_CANDIDATES;
+
+pub const SOLID_ROOM: usize = WORDS * MOST_SOLIDS;
 
 pub const FILL: u8 = 255;
 
-// The loop table's room: 13 bytes for each of 128 loops.
-pub const LOOP_ROOM: usize = 1664;
+// The loop table's room: 13 bytes for each loop.
+pub const LOOP_ROOM: usize = ROW * MOST_LOOPS;
 
 // "What comes back": the numbers of the refusals, by the table's names.
 pub const NO_ROOM: u8 = 1;

@@ -73,7 +73,7 @@ whole k lo hi n e =
     let b = outside-false lo hi (n / k) (or-none (not (eqb (n % k) 0)) _ e .1) in
     (eqb-true _ _ (not-false _ (or-none (not (eqb (n % k) 0)) _ e .0)), b .0, b .1)
 
-pub lent : (f : Format) (xyz : List ℤ) (ends : List ℕ) → Fine ≡ firstOf (lentChecks f xyz ends) → Lent f xyz ends
+pub lent : (f : Format) (xyz : List ℤ) (ends : List ℕ) → Fine ≡ firstOf (lentChecks xyz ends) → Lent f xyz ends
 unfolding lentChecks
 lent f xyz ends h =
     let p0 = passed _ _ _ h in

@@ -29,15 +29,15 @@ module _ (f : Format) (xyz : List ℤ) (ends room : List ℕ) where
   unfolding writtenOf roomOf
   from e = (ap (writtenFor f xyz ends) e, ap (λ (a : Answer). roomFor f xyz ends a room) e)
 
-  pub result-refused : {r : Refusal} → Answer.Refused r ≡ firstOf (lentChecks f xyz ends) → Result (Written.Refused r) room
+  pub result-refused : {r : Refusal} → Answer.Refused r ≡ firstOf (lentChecks xyz ends) → Result (Written.Refused r) room
   unfolding writerChecks
-  result-refused e = from (first-stops (lentChecks f xyz ends) _ e)
+  result-refused e = from (first-stops (lentChecks xyz ends) _ e)
 
-  module _ (e : Answer.Fine ≡ firstOf (lentChecks f xyz ends)) where
+  module _ (e : Answer.Fine ≡ firstOf (lentChecks xyz ends)) where
     pub result-short : length room < size → Result (Written.Refused (record { number = No.NoRoom; place = 0 })) room
     unfolding writerChecks
-    result-short h = from (holds _ _ _ (lt-ltb _ _ h) ∙ first-passes (lentChecks f xyz ends) _ e)
+    result-short h = from (holds _ _ _ (lt-ltb _ _ h) ∙ first-passes (lentChecks xyz ends) _ e)
 
     pub result-fine : size ≤ length room → Result (Written.Bytes size) (encode f xyz ends ++ drop size room)
     unfolding writerChecks
-    result-fine h = from (clear ∙ fails _ _ _ (le-ltb _ _ h) ∙ first-passes (lentChecks f xyz ends) _ e)
+    result-fine h = from (clear ∙ fails _ _ _ (le-ltb _ _ h) ∙ first-passes (lentChecks xyz ends) _ e)

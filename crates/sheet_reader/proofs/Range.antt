@@ -6,6 +6,7 @@ use native.Mathlib.Omega.{arith}
 use lib.IntN.{pos}
 use lib.ListN.{length}
 use Rattle.pack.proofs.Fill.{length-padded, take-padded}
+use Rattle.paper.specs.Numbers.{mostVertices, mostEdges}
 use Rattle.paper.specs.Format.{editionOne, verticesIn, edgesIn, coordinatesIn, endsIn}
 use Rattle.paper.specs.Sheet.{held, sheetOf}
 use Rattle.paper.specs.declared.Answer.the-variants.{Fine}
@@ -25,8 +26,8 @@ read-range s h =
     let two = length-ends editionOne s in
     let k = accepted-shape editionOne s h .counts-are in
     let fine = accepted-contents editionOne s h in
-    let xyz-fit : length xyz ≤ 3 * editionOne .«most_vertices» = omega (arith, k .v-most, three) in
-    let ends-fit : length ends ≤ 2 * editionOne .«most_edges» = omega (arith, k .e-most, two) in
+    let xyz-fit : length xyz ≤ 3 * mostVertices = omega (arith, k .v-most, three) in
+    let ends-fit : length ends ≤ 2 * mostEdges = omega (arith, k .e-most, two) in
     let all : Held (held v e xyz ends) =
     record {
       least = k .v-least;

@@ -6,8 +6,9 @@ use native.Mathlib.Nat.{mul-assoc, mul-left-comm}
 use native.Mathlib.Omega.{arith}
 use lib.ListN.{length}
 use Rattle.sheet_laws.proofs.Shaped.{shaped}
+use Rattle.paper.specs.Numbers.{mostVertices, mostEdges}
 use Rattle.paper.specs.Refusals.{firstOf}
-use Rattle.paper.specs.Format.{editionOne, total, bytesFor, verticesIn, edgesIn}
+use Rattle.paper.specs.Format.{total, bytesFor, verticesIn, edgesIn}
 use Rattle.paper.specs.Sheet.{shapeChecks}
 use Rattle.paper.specs.declared.Format.{Format}
 use Rattle.paper.specs.declared.Answer.the-variants.{Fine}
@@ -16,8 +17,8 @@ use Rattle.sheet_shape.proofs.Sizes.{numbers-small}
 
 -- of its own v and e
 pub record Bounds (f : Format) (s : List ℕ) (v e : ℕ) : Type 0 where
-  pub v-most : v ≤ editionOne .«most_vertices»
-  pub e-most : e ≤ editionOne .«most_edges»
+  pub v-most : v ≤ mostVertices
+  pub e-most : e ≤ mostEdges
   pub long : 3 ≤ length s
   pub fits : total f v e ≤ length s * 8
   pub few : 2 * f .«vertex_number_bits» * e ≤ 2 * narrowBits * fewEdges
@@ -29,8 +30,8 @@ module _ (f : Format) (s : List ℕ) {v e : ℕ} (g : FitsDrawing f) where
       let h = shaped f s o in
       let k = h .counts-are in
       let t : total f (verticesIn f s) (edgesIn f s) ≡ total f v e = ap₂ (λ (x y : ℕ). total f x y) (sym hv) (sym he) in
-      let a : v ≤ editionOne .«most_vertices» = omega (arith, k .v-most, g .v-held) in
-      let b : e ≤ editionOne .«most_edges» = omega (arith, k .e-most, g .e-held) in
+      let a : v ≤ mostVertices = omega (arith, k .v-most, g .v-held) in
+      let b : e ≤ mostEdges = omega (arith, k .e-most, g .e-held) in
       let n : NarrowCounts f v e = record { narrow = g .narrow; v-few = omega arith; e-few = omega arith } in
       let d : length s ≡ bytesFor (total f v e) = h .close-is .sized ∙ ap bytesFor t in
       record {

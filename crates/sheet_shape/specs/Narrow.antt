@@ -1,6 +1,6 @@
 -- Layouts that are small enough for the code.
 use Prim.Native.Nat.{ℕ, _≤_}
-use Rattle.paper.specs.Format.{editionOne}
+use Rattle.paper.specs.Numbers.{mostVertices, mostEdges}
 use Rattle.paper.specs.declared.Format.{Format}
 
 -- the code's own limits, with room for an edition to come: a count's or number's width, vertices, edges
@@ -31,5 +31,5 @@ pub record NarrowCounts (f : Format) (v e : ℕ) : Type 0 where
 -- so that a drawing by value has room for what a sheet holds
 pub record FitsDrawing (f : Format) : Type 0 where
   pub narrow : Narrow f
-  pub v-held : f .«most_vertices» ≤ editionOne .«most_vertices»
-  pub e-held : f .«most_edges» ≤ editionOne .«most_edges»
+  pub v-held : f .«most_vertices» ≤ mostVertices
+  pub e-held : f .«most_edges» ≤ mostEdges

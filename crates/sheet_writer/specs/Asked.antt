@@ -31,7 +31,7 @@ pub record HeadRoom (f : Format) (room : List ℕ) : Type 0 where
 -- lists that pass 5, 8, 9 and 10, their counts, and room for the sheet
 pub record Writable (f : Format) (xyz : List ℤ) (ends room : List ℕ) (v e : ℕ) : Type 0 where
   pub narrow : Narrow f
-  pub passes : Fine ≡ firstOf (lentChecks f xyz ends)
+  pub passes : Fine ≡ firstOf (lentChecks xyz ends)
   pub v-is : v ≡ length xyz / 3
   pub e-is : e ≡ length ends / 2
   pub long : bytesFor (total f v e) ≤ length room

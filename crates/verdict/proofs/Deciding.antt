@@ -3,6 +3,7 @@ use mathlib.Core.List.{List, _++_, append-assoc}
 use mathlib.Core.Path.{_≡_, sym, ap, _∙_}
 use Prim.Native.Nat.{ℕ}
 use lib.ListN.{length}
+use Rattle.paper.specs.Numbers.{documented}
 use Rattle.paper.specs.Refusals.{Check, firstOf}
 use Rattle.paper.specs.Drawing.{Wire, drawingChecks}
 use Rattle.paper.specs.Loops.{loops, candidates, loopChecks}
@@ -41,7 +42,7 @@ module _ (d : Wire) (list : List ℕ) where
     in-order =
         ap (λ (cs : List Check). verdictFor (firstOf cs))
         (sym (append-assoc form (checksOf d) mine) ∙ ap (λ (cs : List Check). cs ++ mine)
-        (sym (append-assoc form (drawingChecks d) (loopChecks (loops d) (candidates d)))))
+        (sym (append-assoc form (drawingChecks d) (loopChecks documented (loops d) (candidates d)))))
 
     pub form-stops : {r : Refusal} → Refused r ≡ firstOf form → Verdict.Refused r ≡ verdict form d list
     form-stops e = refused-so (first-stops form (restChecks d list) e) ∙ in-order

@@ -6,7 +6,7 @@ use Prim.Native.Nat.{ℕ, _≤_, _<_}
 use native.Mathlib.Omega.{arith}
 use lib.ListN.{length}
 use Rattle.lists.proofs.Passing.{all-yes}
-use Rattle.paper.specs.Numbers.{leastCorners, mostCorners}
+use Rattle.paper.specs.Numbers.{mostFaces, leastCorners, mostCorners}
 use Rattle.paper.specs.Refusals as No
 use Rattle.paper.specs.Refusals.{Check, check, offends, firstOf}
 use Rattle.paper.specs.Format.{editionOne}
@@ -62,7 +62,7 @@ module _ (v : ℕ) (list : List ℕ) {x : Faces} (e : x ≡ facesOf editionOne v
     pub some-faces : 0 < x .count
     some-faces = omega (arith, count-is, shaped .least)
 
-    pub few-faces : x .count ≤ editionOne .«most_faces»
+    pub few-faces : x .count ≤ mostFaces
     few-faces = omega (arith, count-is, shaped .most)
 
     -- of 3 to 12 corners each

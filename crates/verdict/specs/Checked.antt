@@ -5,7 +5,7 @@ use mathlib.Core.Path.{_≡_}
 use Prim.Native.Nat.{ℕ, _≤_}
 use lib.IntN.{ℤ}
 use lib.ListN.{length}
-use Rattle.paper.specs.Numbers.{mostCandidates, faceRoom}
+use Rattle.paper.specs.Numbers.{mostEdges, mostCandidates, faceRoom}
 use Rattle.paper.specs.Refusals as No
 use Rattle.paper.specs.Refusals.{Check, check, offends, firstOf}
 use Rattle.paper.specs.Format.{editionOne}
@@ -31,7 +31,7 @@ pub record ListAt (rows : List ℕ) (n m : ℕ) (sixes : List ℤ) : Type 0 wher
   pub held : HoldsTable rows n loops
   pub few : n ≤ mostCandidates
   pub rows-long : length rows ≡ faceRoom
-  pub edges : m ≤ editionOne .«most_edges»
+  pub edges : m ≤ mostEdges
   pub small : SmallSixes sixes
 
 abbrev pub ListChecked : List ℕ → ℕ → List ℕ → ℕ → WalkTables → ℕ → Verdict → Type 0

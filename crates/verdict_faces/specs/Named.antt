@@ -4,8 +4,7 @@ use mathlib.Core.Path.{_≡_}
 use Prim.Native.Nat.{ℕ, _≤_, _<_}
 use lib.ListN.{length, take}
 use Rattle.sets.specs.Sets.{Is}
-use Rattle.paper.specs.Numbers.{mostCorners, mostCandidates, faceRoom}
-use Rattle.paper.specs.Format.{editionOne}
+use Rattle.paper.specs.Numbers.{mostFaces, mostCorners, mostCandidates, faceRoom}
 use Rattle.paper.specs.Refusals as No
 use Rattle.paper.specs.Refusals.{Check, check, firstOf}
 use Rattle.paper.specs.Loops.{Loop, loopAt}
@@ -19,11 +18,11 @@ use Rattle.verdict_faces.specs.declared.selection.Named.the-variants as 
 
 -- count rows of 3 to 12 corners each, rows for n candidates, and room for the numbers
 pub record Naming (faces : List ℕ) (count : ℕ) (rows : List ℕ) (n : ℕ) (numbers : List ℕ) : Type 0 where
-  pub few : count ≤ editionOne .«most_faces»
+  pub few : count ≤ mostFaces
   pub few-candidates : n ≤ mostCandidates
   pub cornered : (i : ℕ) → i < count → FaceIn faces i
   pub rows-long : length rows ≡ faceRoom
-  pub numbers-long : length numbers ≡ editionOne .«most_faces»
+  pub numbers-long : length numbers ≡ mostFaces
 
 -- the first n rows of a table are those of the loops ls
 pub record HoldsTable (table : List ℕ) (n : ℕ) (ls : List Loop) : Type 0 where

@@ -8,7 +8,7 @@ use lib.ListN.{length, getD, take}
 use Rattle.lists.specs.Lists.{filter}
 use Rattle.sets.specs.Sets.{room, Is}
 use Rattle.sets.specs.declared.Set.{Set}
-use Rattle.paper.specs.Format.{editionOne}
+use Rattle.paper.specs.Numbers.{mostFaces}
 use Rattle.paper.specs.Loops.{Loop}
 use Rattle.paper.specs.Verdict.{onward, numberIn, maskOf, notCandidate, faceTwice}
 use Rattle.verdict_faces.specs.Form.{rowsIn}
@@ -41,8 +41,8 @@ pub record Numbering (faces : List ℕ) (count : ℕ) (rows : List ℕ) (n : ℕ
 
 -- the first count numbers are of a set
 pub record Takes (numbers : List ℕ) (count : ℕ) : Type 0 where
-  pub few : count ≤ editionOne .«most_faces»
-  pub long : length numbers ≡ editionOne .«most_faces»
+  pub few : count ≤ mostFaces
+  pub long : length numbers ≡ mostFaces
   pub below : (i : ℕ) → i < count → getD numbers i 0 < room
 
 pub record TakenOnce (numbers : List ℕ) (count : ℕ) (s : Set) : Type 0 where

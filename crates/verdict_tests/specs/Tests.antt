@@ -9,7 +9,7 @@ use lib.ListN.{length, getD, take}
 use Rattle.sets.specs.Word.{dig}
 use Rattle.sets.specs.Sets.{room, Is}
 use Rattle.sets.specs.declared.Set.{Set}
-use Rattle.paper.specs.Format.{editionOne}
+use Rattle.paper.specs.Numbers.{mostEdges, mostFaces}
 use Rattle.paper.specs.Refusals as No
 use Rattle.paper.specs.Refusals.{Check, check, firstOf}
 use Rattle.paper.specs.Solids.{Tables}
@@ -23,12 +23,12 @@ use Rattle.walk_leaf.specs.Faces.{Edges}
 -- ---- what is asked for: so many faces, each with a number below 64; and of all of it
 pub record SomeFaces (numbers : List ℕ) (count : ℕ) : Type 0 where
   pub some : 0 < count
-  pub few : count ≤ editionOne .«most_faces»
+  pub few : count ≤ mostFaces
   pub held : count ≤ length numbers
   pub narrow : (i : ℕ) → i < count → getD numbers i 0 < room
 
 pub record Testing (m : ℕ) (sixes : List ℤ) (numbers : List ℕ) (count : ℕ) : Type 0 where
-  pub edges : m ≤ editionOne .«most_edges»
+  pub edges : m ≤ mostEdges
   pub small : SmallSixes sixes
   pub faces : SomeFaces numbers count
 

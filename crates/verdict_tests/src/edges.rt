@@ -1,6 +1,6 @@
 // Refusals 23 and 24, edge by edge: EdgeCount, not in two faces of the list; Direction, both run one way. Assumes at most 64 edges.
 ghost use Prim.Native.Nat.{_≤_};
-ghost use Rattle.paper.specs.Format.{editionOne};
+ghost use Rattle.paper.specs.Numbers.{mostEdges};
 ghost use Rattle.paper.specs.Refusals as No;
 ghost use Rattle.verdict_tests.specs.Tests.{ToldAt, Counting, Running, edgeCountOf, directionOf};
 use paper::Answer;
@@ -12,7 +12,7 @@ use sets::Set;
 use walk_leaf::once_each_way;
 
 pub fn edge_count(on: &[u64; MOST_EDGES], m: usize, taken: Set) -> Answer
-    requires { ⌜ m ≤ editionOne .«most_edges» ⌝ }
+    requires { ⌜ m ≤ mostEdges ⌝ }
     ensures { λ r. ⌜ ToldAt (Counting (now (on .entry)) m taken) No.EdgeCount edgeCountOf r ⌝ }
 {
     let mut e = 0;
@@ -33,7 +33,7 @@ pub fn direction(
     taken: Set,
     turned: Set,
 ) -> Answer
-    requires { ⌜ m ≤ editionOne .«most_edges» ⌝ }
+    requires { ⌜ m ≤ mostEdges ⌝ }
     ensures { λ r. ⌜ ToldAt (Running (now (on .entry)) (now (up .entry)) m taken turned) No.Direction directionOf r ⌝ }
 {
     let mut e = 0;

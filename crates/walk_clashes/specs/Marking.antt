@@ -9,7 +9,7 @@ use Rattle.lists.specs.Lists.{member}
 use Rattle.sets.specs.Word.{dig, digit}
 use Rattle.sets.specs.Sets.{room, Is, maskAt}
 use Rattle.sets.specs.declared.Set.{Set}
-use Rattle.paper.specs.Format.{editionOne}
+use Rattle.paper.specs.Numbers.{mostVertices}
 use Rattle.paper.specs.Drawing.{Wire}
 use Rattle.paper.specs.Loops.{Loop, loopAt}
 use Rattle.fast_tables.specs.Hits.{cornerMask}
@@ -44,7 +44,7 @@ pub record BothBy (set : Set) (k : ℕ) (words₀ words : List ℕ) : Type 0 whe
 
 pub record CornersOf (corners : List ℕ) (n : ℕ) : Type 0 where
   pub drawing : Wire
-  pub small : length (drawing .vertices) ≤ editionOne .«most_vertices»
+  pub small : length (drawing .vertices) ≤ mostVertices
   pub loops : List Loop
   pub count : n ≡ length loops
   pub most : n ≤ room
@@ -53,7 +53,7 @@ pub record CornersOf (corners : List ℕ) (n : ℕ) : Type 0 where
 -- and a word for each vertex, with nothing in it
 pub record CornerRoom (corners : List ℕ) (n : ℕ) (words : List ℕ) : Type 0 where
   pub of : CornersOf corners n
-  pub whole : length words ≡ editionOne .«most_vertices»
+  pub whole : length words ≡ mostVertices
   pub none : (v : ℕ) → getD words v 0 ≡ 0
 
 -- the word of a vertex has the candidates with it

@@ -8,7 +8,7 @@ use lib.Dec.{eqb}
 use lib.ListN.{length, getD}
 use Rattle.sets.specs.Word.{dig, digit}
 use Rattle.sets.specs.Sets.{room}
-use Rattle.paper.specs.Format.{editionOne}
+use Rattle.paper.specs.Numbers.{mostEdges}
 use Rattle.paper.specs.Drawing.{Wire, edge}
 use Rattle.paper.specs.Loops.{Loop}
 use Rattle.paper.specs.Solids.{runsUp, tablesOf}
@@ -37,8 +37,8 @@ pub record RowOf (rows : List ℕ) (k : ℕ) (number : List ℕ) : Type 0 where
 -- there is a word for each edge
 pub record RowRoom (rows : List ℕ) (k : ℕ) (number on up : List ℕ) : Type 0 where
   pub row : RowOf rows k number
-  pub on-room : length on ≡ editionOne .«most_edges»
-  pub up-room : length up ≡ editionOne .«most_edges»
+  pub on-room : length on ≡ mostEdges
+  pub up-room : length up ≡ mostEdges
 
 -- candidate k is now in the words of the edges of a mask
 abbrev pub Marked : List Bool → ℕ → List ℕ → List ℕ → Type 0
@@ -65,7 +65,7 @@ pub record DrawnCandidates (rows : List ℕ) (n : ℕ) (number : List ℕ) : Typ
 
 -- nothing is marked yet
 pub record Unmarked (words : List ℕ) : Type 0 where
-  pub room-is : length words ≡ editionOne .«most_edges»
+  pub room-is : length words ≡ mostEdges
   pub none : (e : ℕ) → getD words e 0 ≡ 0
 
 pub record EdgeMarkRoom (rows : List ℕ) (n : ℕ) (number on up : List ℕ) : Type 0 where

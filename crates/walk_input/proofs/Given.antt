@@ -7,7 +7,7 @@ use lib.IntN.{ℤ, pos}
 use lib.ListN.{length, replicate}
 use Rattle.exact.specs.Size.{Within}
 use Rattle.exact.proofs.Size.{within-lit}
-use Rattle.paper.specs.Numbers.{faceRoom}
+use Rattle.paper.specs.Numbers.{mostEdges, faceRoom}
 use Rattle.paper.specs.Refusals.{firstOf}
 use Rattle.paper.specs.Format.{editionOne, coordinatesIn, endsIn}
 use Rattle.paper.specs.Sheet.{sheetChecks, lentChecks, sheetOf}
@@ -51,7 +51,7 @@ abbrev pub tablesLeft : (List ℕ × (List ℕ × (List ℕ × (List ℕ × (Lis
 tablesLeft l = walkTables (l .0) (l .1 .0) (l .1 .1 .0) (l .1 .1 .1 .0) (l .1 .1 .1 .1 .0)
 
 -- ---- at most 64 edges, which 5 sees to
-pub few-edges : (xyz : List ℤ) (ends : List ℕ) → PassedLists xyz ends → length ends / 2 ≤ editionOne .«most_edges»
+pub few-edges : (xyz : List ℤ) (ends : List ℕ) → PassedLists xyz ends → length ends / 2 ≤ mostEdges
 few-edges xyz ends ok = let r = lent-range xyz ends ok in omega (arith, r .links .whole, r .links .most)
 
 -- ---- the lists that an accepted sheet holds are those in front of the arrays of the drawing that is read
@@ -62,7 +62,7 @@ module _ (s : List ℕ) {r : Sheet} (e : r ≡ sheetOf editionOne s) (ok : Fine 
   sheet-given =
       let c = coordinates-are editionOne s ok in
       let n = ends-are editionOne s ok in
-      let fine = accepted-lent editionOne s ok ∙ (λ i. firstOf (lentChecks editionOne (c i) (n i))) in
+      let fine = accepted-lent editionOne s ok ∙ (λ i. firstOf (lentChecks (c i) (n i))) in
       subst (λ (x : Sheet). GivenDrawing (x .drawing)) (sym e) (record { held = read-range s ok; passed = fine })
 
   -- what holds of its lists holds of those on the sheet

@@ -6,8 +6,8 @@ use native.Mathlib.Omega.{arith}
 use lib.IntN.{ℤ}
 use lib.ListN.{length, getD, replicate}
 use Rattle.sets.specs.Sets.{Is, maskAt}
+use Rattle.paper.specs.Numbers.{mostVertices, mostEdges}
 use Rattle.paper.specs.Drawing.{Wire, wire}
-use Rattle.paper.specs.Format.{editionOne}
 use Rattle.paper.specs.Loops.{loopAt, candidates}
 use Rattle.paper_laws.specs.InRange.{InRange}
 use Rattle.fast_search.specs.Search.{near}
@@ -38,10 +38,10 @@ module _ {xyz : List ℤ} {rows : List ℕ} {n : ℕ} {near-words number corners
   pub range : InRange xyz (w .ends)
   range = w .drawn .passed .range
 
-  pub few-vertices : length (d .vertices) ≤ editionOne .«most_vertices»
+  pub few-vertices : length (d .vertices) ≤ mostVertices
   few-vertices = omega (arith, vertices-are range, range .most)
 
-  pub few-edges : length (d .edges) ≤ editionOne .«most_edges»
+  pub few-edges : length (d .edges) ≤ mostEdges
   few-edges = omega (arith, edges-are range, range .links .most)
 
   pub numbers : EdgesNumbered number (d .edges)

@@ -13,7 +13,7 @@ use Rattle.exact.specs.Size.{Within}
 use Rattle.lists.specs.Lists.{upto}
 use Rattle.lists.proofs.Places.{upto-length}
 use Rattle.sets.specs.Sets.{room}
-use Rattle.paper.specs.Numbers.{mostLoops, mostCandidates}
+use Rattle.paper.specs.Numbers.{mostLoops, mostCandidates, documented}
 use Rattle.paper.specs.Refusals as No
 use Rattle.paper.specs.Refusals.{check, firstOf, offends, refuse}
 use Rattle.paper.specs.Drawing.{Wire, wire, drawingChecks}
@@ -43,8 +43,8 @@ within e h = omega (arith, e)
 
 module _ (d : Wire) (ruled : Fine ≡ firstOf (drawingChecks d)) {l : ℕ} (counted : l ≡ min (suc mostLoops) (length (loops d))) where
   -- what is left is the answer of 15 and 16
-  left : firstOf (loopChecks (loops d) (candidates d)) ≡ firstOf (checksOf d)
-  left = first-passes (drawingChecks d) (loopChecks (loops d) (candidates d)) ruled
+  left : firstOf (loopChecks documented (loops d) (candidates d)) ≡ firstOf (checksOf d)
+  left = first-passes (drawingChecks d) (loopChecks documented (loops d) (candidates d)) ruled
 
   pub many-loops : mostLoops < l → refuse No.ManyLoops 0 ≡ firstOf (checksOf d)
   unfolding loopChecks

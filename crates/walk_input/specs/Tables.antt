@@ -5,7 +5,7 @@ use Prim.Native.Nat.{ℕ, _≤_, _/_}
 use lib.IntN.{ℤ}
 use lib.ListN.{length, getD}
 use Rattle.sets.specs.Sets.{room}
-use Rattle.paper.specs.Numbers.{mostCandidates, faceRoom}
+use Rattle.paper.specs.Numbers.{mostCandidates, faceRoom, documented}
 use Rattle.paper.specs.Refusals.{Check, firstOf}
 use Rattle.paper.specs.Drawing.{Wire, wire, drawingChecks}
 use Rattle.paper.specs.Loops.{loops, candidates, loopChecks}
@@ -21,7 +21,7 @@ use Rattle.walk_input.specs.declared.Tabled.the-variants as T
 
 -- 11 to 16
 abbrev pub checksOf : Wire → List Check
-checksOf d = drawingChecks d ++ loopChecks (loops d) (candidates d)
+checksOf d = drawingChecks d ++ loopChecks documented (loops d) (candidates d)
 
 -- lists that passed 3 to 10, and rooms of their sizes with nothing in them
 pub record TablesAt (xyz : List ℤ) (ends rows : List ℕ) (tables : WalkTables) : Type 0 where

@@ -9,7 +9,7 @@ use Rattle.exact.specs.Size.{Within}
 use Rattle.sets.specs.Word.{count}
 use Rattle.sets.specs.Sets.{room, Is}
 use Rattle.sets.specs.declared.Set.{Set}
-use Rattle.paper.specs.Format.{editionOne}
+use Rattle.paper.specs.Numbers.{mostEdges}
 use Rattle.paper.specs.Solids as Paper
 use Rattle.paper.specs.Solids.{Tables, onceEachWay, Judgement, Fails, Solid}
 use Rattle.fast_leaf.specs.Faces.{clearOn, sixOn, judgedByFaces}
@@ -74,7 +74,7 @@ pub record Selects (t : Tables) (m : ℕ) (a : List Bool) : Type 0 where
   pub in-sixes : length a ≤ length (t .sixes)
 
 pub record Judging (m : ℕ) (sixes : List ℤ) : Type 0 where
-  pub few : m ≤ editionOne .«most_edges»
+  pub few : m ≤ mostEdges
   pub small : SmallSixes sixes
 
 abbrev pub Judges : WalkTables → ℕ → Set → Leaf → Type 0

@@ -6,7 +6,7 @@ ghost use mathlib.Core.Path.{_≡_};
 ghost use Prim.Native.Nat.{_≤_};
 ghost use lib.Dec.{eqb};
 ghost use Rattle.sets.specs.Sets.{size};
-ghost use Rattle.paper.specs.Format.{editionOne};
+ghost use Rattle.paper.specs.Numbers.{mostEdges};
 ghost use Rattle.walk_tables.specs.Words.{SmallSixes, walkTables};
 ghost use Rattle.walk_leaf.specs.Tests.{WayIs, OrientedIs, ClearIs, PartAt, PartIs, Weighs, WeighedIs};
 ghost use Rattle.walk_leaf.specs.Tests.{Judging, Judges};
@@ -50,7 +50,7 @@ fn oriented(
     taken: Set,
     turned: Set,
 ) -> bool
-    requires { ⌜ m ≤ editionOne .«most_edges» ⌝ }
+    requires { ⌜ m ≤ mostEdges ⌝ }
     ensures { λ r. ⌜ OrientedIs (now (on .entry)) (now (up .entry)) m taken turned r ⌝ }
 {
     let mut e = 0;

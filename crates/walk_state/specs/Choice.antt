@@ -7,7 +7,7 @@ use lib.ListN.{length}
 use Rattle.sets.specs.Word.{first}
 use Rattle.sets.specs.Sets.{Is, Has, size}
 use Rattle.sets.specs.declared.Set.{Set}
-use Rattle.paper.specs.Format.{editionOne}
+use Rattle.paper.specs.Numbers.{mostEdges}
 use Rattle.paper.specs.Walk.{Status}
 use Rattle.means_walk.specs.Lowest.{opens}
 use Rattle.fast_sweeps.specs.Worklist.{openFrom, lowestOn}
@@ -15,7 +15,7 @@ use Rattle.walk_tables.specs.Words.{Masks}
 use Rattle.walk_state.specs.declared.Opening.{Opening}
 
 pub record From (m from : ℕ) : Type 0 where
-  pub few : m ≤ editionOne .«most_edges»
+  pub few : m ≤ mostEdges
   pub within : from ≤ m
 
 -- the edge is the lowest that has an undecided candidate, and the lowest of the set the lowest such candidate on it

@@ -7,7 +7,6 @@ use lib.ListN.{replicate}
 use borrow.Author.Needs.{needs}
 use denote.Ref.{now}
 use Rattle.paper.specs.Numbers.{mostSolids, faceRoom, solidRoom}
-use Rattle.paper.specs.Format.{editionOne}
 use Rattle.paper.specs.Sheet.{lentChecks}
 use Rattle.paper.specs.Drawing.{wire}
 use Rattle.paper.specs.Conversion.{Converted, convertLists}
@@ -21,7 +20,7 @@ unfolding convertLists
 returns c =
     let k = c .before .before .before in
     let a = k .before .before .before .before .args in
-    let form = (lentChecks editionOne (now (a .xyz)) (now (a .ends))) in
+    let form = (lentChecks (now (a .xyz)) (now (a .ends))) in
     let d = (wire (now (a .xyz)) (now (a .ends))) in
     assessed (convertLists (now (a .xyz)) (now (a .ends)) (a .limit))
     (λ f s f′ s′ p q p′ q′. answer-same f s f′ s′ p q p′ q′ mostSolids form d (a .limit)) (small-enough .lists-read (now (a .xyz)) (now (a .ends)) (a .limit))

@@ -3,7 +3,6 @@ use mathlib.Core.Path.{_≡_, refl, sym, ap, _∙_}
 use borrow.Author.Needs.{needs}
 use denote.Ref.{now}
 use Rattle.paper.specs.Refusals.{firstOf}
-use Rattle.paper.specs.Format.{editionOne}
 use Rattle.paper.specs.Sheet.{lentChecks}
 use Rattle.paper.specs.Drawing.{wire}
 use Rattle.paper.specs.Conversion.{entryChecks, convertLists}
@@ -34,10 +33,10 @@ entry-is : (c : tie.After-entered)
 entry-is c = let a = c .before .before .before .before .args in c .entered .ensures (now (a .faces)) (now (a .solids)) refl refl
 
 form-is : (c : tie.After-lent)
-    → let a = start (entered c) .args in c .lent .result ≡ firstOf (lentChecks editionOne (now (a .xyz)) (now (a .ends)))
+    → let a = start (entered c) .args in c .lent .result ≡ firstOf (lentChecks (now (a .xyz)) (now (a .ends)))
 form-is c =
     let a = start (entered c) .args in
-    c .lent .ensures ∙ ap (λ (f : Format). firstOf (lentChecks f (now (a .xyz)) (now (a .ends)))) (c .before .edition-one .ensures)
+    c .lent .ensures ∙ ap (λ (f : Format). firstOf (lentChecks (now (a .xyz)) (now (a .ends)))) (c .before .edition-one .ensures)
 
 -- ---- the needs
 
@@ -46,7 +45,7 @@ unfolding convertLists
 returns c =
     let n = c .before .before .before in
     let a = n .before .before .before .before .args in
-    stopped (lentChecks editionOne (now (a .xyz)) (now (a .ends))) (wire (now (a .xyz)) (now (a .ends))) (a .limit) (now (a .faces)) (now (a .solids))
+    stopped (lentChecks (now (a .xyz)) (now (a .ends))) (wire (now (a .xyz)) (now (a .ends))) (a .limit) (now (a .faces)) (now (a .solids))
     (sym (c .before .entry .given .1) ∙ entry-is n)
 
 returns-2 : tie.Need-returns-2
@@ -55,7 +54,7 @@ returns-2 c =
     let l = c .before .before .before in
     let n = entered l in
     let a = start n .args in
-    stopped-at-form (lentChecks editionOne (now (a .xyz)) (now (a .ends))) (wire (now (a .xyz)) (now (a .ends))) (a .limit) (now (a .faces)) (now (a .solids))
+    stopped-at-form (lentChecks (now (a .xyz)) (now (a .ends))) (wire (now (a .xyz)) (now (a .ends))) (a .limit) (now (a .faces)) (now (a .solids))
     (sym (n .enum-told .given .1) ∙ entry-is (n .before .before)) (sym (c .before .form .given .1) ∙ form-is l)
 
 converted-requires : tie.Need-converted-requires
@@ -73,7 +72,7 @@ returns-3 c =
     let f = formed (k .before) in
     let n = entered (lists f) in
     let a = start n .args in
-    gone-behind (lentChecks editionOne (now (a .xyz)) (now (a .ends))) (wire (now (a .xyz)) (now (a .ends))) (a .limit) (now (a .faces)) (now (a .solids))
+    gone-behind (lentChecks (now (a .xyz)) (now (a .ends))) (wire (now (a .xyz)) (now (a .ends))) (a .limit) (now (a .faces)) (now (a .solids))
     (sym (n .enum-told .given .1) ∙ entry-is (n .before .before)) (sym (f .enum-told2 .given .1) ∙ form-is (lists f))
     (k .converted .ensures)
 

@@ -10,8 +10,8 @@ use denote.Ref.{now}
 use borrow.Author.Needs.{needs}
 use Rattle.lists.proofs.Places.{any-more}
 use Rattle.lists.specs.Lists.{any}
+use Rattle.paper.specs.Numbers.{mostVertices}
 use Rattle.paper.specs.Drawing.{edge, edgesOf, ends, joins}
-use Rattle.paper.specs.Format.{editionOne}
 use Rattle.sets.specs.Word.{digit}
 use Rattle.drawing_links.proofs.Edges.{edge-count, edge-is, half-count}
 use Rattle.drawing_links.proofs.Words.{marked, no-marks, words-are}
@@ -22,7 +22,7 @@ use Rattle.drawing_links.proofs.neighbours.Tie as tie
 record Marked (ends : List ℕ) (n : ℕ) (near : List ℕ) (e : ℕ) : Type 0 where
   pub not-past : e ≤ n
   pub whole : n ≡ length (edgesOf ends)
-  pub room : length near ≡ editionOne .«most_vertices»
+  pub room : length near ≡ mostVertices
   pub marks : (u w : ℕ) → digit (getD near u 0) w ≡ any (joins u w) (take e (edgesOf ends))
 
 abbrev Inv-loop : tie.InvT-loop
@@ -45,13 +45,13 @@ first c = c .before .before
 
 -- ---- the ends of edge e are vertices
 
-a-low : (c : tie.After-wide Inv-loop μ-loop) → c .wide .result < editionOne .«most_vertices»
+a-low : (c : tie.After-wide Inv-loop μ-loop) → c .wide .result < mostVertices
 a-low c =
     let p = start (turn c) .pre in
     let low = p .links .known (2 * turn c .loop .e) (omega (arith, edge-count (p .links), p .links .whole)) in
     omega (arith, c .wide .ensures, p .most)
 
-b-low : (c : tie.After-wide2 Inv-loop μ-loop) → c .wide2 .result < editionOne .«most_vertices»
+b-low : (c : tie.After-wide2 Inv-loop μ-loop) → c .wide2 .result < mostVertices
 b-low c =
     let l = turn (first c) in
     let p = start l .pre in
@@ -59,7 +59,7 @@ b-low c =
     omega (arith, c .wide2 .ensures, p .most)
 
 both-low : (c : tie.After-wide2 Inv-loop μ-loop)
-    → (first c .wide .result < editionOne .«most_vertices») × (c .wide2 .result < editionOne .«most_vertices»)
+    → (first c .wide .result < mostVertices) × (c .wide2 .result < mostVertices)
 both-low c = (a-low (first c), b-low c)
 
 -- ---- the needs
@@ -72,7 +72,7 @@ loop-holds c =
       not-past = omega arith;
       whole = half-count p ∙ sym (edge-count p);
       room = refl;
-      marks = λ u w. no-marks (editionOne .«most_vertices») u w;
+      marks = λ u w. no-marks mostVertices u w;
     }
 
 shared-slice-read-wide : tie.Need-shared-slice-read-wide Inv-loop μ-loop

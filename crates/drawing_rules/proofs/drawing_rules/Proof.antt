@@ -6,8 +6,8 @@ use native.Mathlib.Omega.{arith}
 use lib.ListN.{length}
 use denote.Ref.{now}
 use borrow.Author.Needs.{needs}
+use Rattle.paper.specs.Numbers.{mostVertices}
 use Rattle.paper.specs.Drawing.{Wire, apart, drawingChecks, edgeMeets, ends, looseVertex, samePlace, wire}
-use Rattle.paper.specs.Format.{editionOne}
 use Rattle.paper.specs.Refusals.{Apart, Check, EdgeMeets, LooseVertex, SamePlace, check, firstOf}
 use Rattle.paper.specs.declared.Answer.the-variants.{Fine}
 use Rattle.paper_laws.specs.InRange.{Ends, Points}
@@ -34,7 +34,7 @@ points-in c = subst (Points (now (c .args .xyz))) (counted c) (c .pre .range .po
 ends-in : (c : tie.Start) → Ends (now (c .args .ends)) (N c)
 ends-in c = subst (Ends (now (c .args .ends))) (counted c) (c .pre .range .links)
 
-few : (c : tie.Start) → N c ≤ editionOne .«most_vertices»
+few : (c : tie.Start) → N c ≤ mostVertices
 few c = let h = c .pre .range .most in omega (arith, counted c)
 
 -- ---- the ways back

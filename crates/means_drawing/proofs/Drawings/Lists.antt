@@ -14,7 +14,7 @@ use Rattle.paper.specs.declared.Answer.the-variants.{Fine}
 use Rattle.sheet_laws.proofs.Lent.{contents, lent}
 use Rattle.means_drawing.specs.Drawings.{Rising}
 
-pub lent-rising : (f : Format) (xyz : List ℤ) (ends : List ℕ) → Fine ≡ firstOf (lentChecks f xyz ends) → Rising (wire xyz ends)
+pub lent-rising : (f : Format) (xyz : List ℤ) (ends : List ℕ) → Fine ≡ firstOf (lentChecks xyz ends) → Rising (wire xyz ends)
 unfolding wire edgeAt
 lent-rising f xyz ends h e l =
     let c = contents (length xyz / 3) xyz ends (lent f xyz ends h .fine) in

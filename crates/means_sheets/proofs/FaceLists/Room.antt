@@ -11,8 +11,9 @@ use Rattle.lists.specs.Lists.{all}
 use Rattle.lists.proofs.Truth.{or-none}
 use Rattle.paper_laws.proofs.Checks.{clear, fails, passed}
 use Rattle.paper_laws.proofs.Limits.{outside-false, not-outside}
+use Rattle.paper.specs.Numbers.{leastFaces}
 use Rattle.paper.specs.Refusals.{firstOf}
-use Rattle.paper.specs.Format.{leastFaces, outside, bytesFor}
+use Rattle.paper.specs.Format.{outside, bytesFor}
 use Rattle.paper.specs.Loops.{Loop}
 use Rattle.paper.specs.FaceList.{listBits, encodeFaces, bitsOf, faceFits, sendChecks, sentFor, sentRoomFor, sentOf, sentRoom}
 use Rattle.paper.specs.declared.Format.{Format}

@@ -11,8 +11,8 @@ use Rattle.pack.specs.Bits.{bits, run, fieldAt}
 use Rattle.pack.specs.Fill.{padded}
 use Rattle.pack.proofs.Laws.{length-bits}
 use Rattle.pack.proofs.Trip.{field-in}
-use Rattle.paper.specs.Numbers.{rowBytes}
-use Rattle.paper.specs.Format.{editionOne, bytesFor, filled, fillAfter}
+use Rattle.paper.specs.Numbers.{mostFaces, rowBytes}
+use Rattle.paper.specs.Format.{bytesFor, filled, fillAfter}
 use Rattle.paper.specs.FaceList.{faceBits, listBits, encodeFaces, facesAt, countIn, facesIn, bitsOf, wellShaped, facesOf}
 use Rattle.paper.specs.Loops.{Loop, row}
 use Rattle.paper.specs.declared.Format.{Format}
@@ -73,9 +73,9 @@ module _ (f : Format) (sound : Sound f) (v : ℕ) (w : v ≤ 2 ^ f .«vertex_num
       })
 
   pub rows-returned : facesOf f v s ≡ record
-      { answer = Fine; count = length fs; rows = padded (flatMap row fs) (rowBytes * editionOne .«most_faces») 0 }
+      { answer = Fine; count = length fs; rows = padded (flatMap row fs) (rowBytes * mostFaces) 0 }
   unfolding facesOf
   rows-returned =
       rw faces-accepted
       (λ i. record
-      { answer = Fine; count = at-count i; rows = padded (flatMap row (faces-read-back i)) (rowBytes * editionOne .«most_faces») 0 })
+      { answer = Fine; count = at-count i; rows = padded (flatMap row (faces-read-back i)) (rowBytes * mostFaces) 0 })

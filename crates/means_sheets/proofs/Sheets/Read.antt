@@ -91,7 +91,7 @@ good-count k lo hi n m w e a b = rw (eq-eqb (n % k) 0 w, e) (not-outside lo hi m
 
 module _ (f : Format) (s : List ℕ) (h : Fine ≡ firstOf (sheetChecks f s)) where
   -- the writer takes what the reader accepted
-  pub accepted-lent : Fine ≡ firstOf (lentChecks f (coordinatesIn f s) (endsIn f s))
+  pub accepted-lent : Fine ≡ firstOf (lentChecks (coordinatesIn f s) (endsIn f s))
   unfolding lentChecks
   accepted-lent =
       let g = accepted-shape f s h in

@@ -35,9 +35,9 @@ module _ (f : Format) (xyz : List ℤ) (ends room : List ℕ) (n : ℕ) (e : wri
   unfolding writtenOf
   fine = wrote (writtenFor f xyz ends) size refl (λ r. refl) n (firstOf (writerChecks f xyz ends (length room))) e
 
-  pub written-lent : Answer.Fine ≡ firstOf (lentChecks f xyz ends)
+  pub written-lent : Answer.Fine ≡ firstOf (lentChecks xyz ends)
   unfolding writerChecks
-  written-lent = first-both (lentChecks f xyz ends) _ (fine .0) .0
+  written-lent = first-both (lentChecks xyz ends) _ (fine .0) .0
 
   pub written-room : take n (roomOf f xyz ends room) ≡ encode f xyz ends
   unfolding roomOf
@@ -46,7 +46,7 @@ module _ (f : Format) (xyz : List ℤ) (ends room : List ℕ) (n : ℕ) (e : wri
       ∙ take-at (encode f xyz ends) (drop size room) n (length-sheet f xyz ends ∙ sym (fine .1))
 
 -- lists that the writer takes, in room for their sheet
-pub writes : (f : Format) (xyz : List ℤ) (ends s room : List ℕ) → Answer.Fine ≡ firstOf (lentChecks f xyz ends)
+pub writes : (f : Format) (xyz : List ℤ) (ends s room : List ℕ) → Answer.Fine ≡ firstOf (lentChecks xyz ends)
     → encode f xyz ends ≡ s → length s ≤ length room
     → (writtenOf f xyz ends room ≡ Written.Bytes (length s)) × (roomOf f xyz ends room ≡ s ++ drop (length s) room)
 writes f xyz ends s room h e l =

@@ -1,5 +1,6 @@
 -- `sheet_counts::counts`: the two tests in order are the two checks of 5.
-use Rattle.paper.specs.Format.{leastVertices, outside}
+use Rattle.paper.specs.Numbers.{leastVertices}
+use Rattle.paper.specs.Format.{outside}
 use mathlib.Core.Bool.{false}
 use mathlib.Core.Path.{_∙_, sym, _≡_}
 use Rattle.paper_laws.proofs.Checks.{holds, fails, clear}

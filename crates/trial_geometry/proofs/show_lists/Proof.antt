@@ -13,7 +13,7 @@ show-rules-requires c κs =
     let l = c .before .before in
     let a = l .before .before .before .args in
     sym (c .enum-told .given .1) ∙ l .lent .ensures
-    ∙ ap (λ (f : Format). firstOf (lentChecks f (now (a .xyz)) (now (a .ends)))) (l .before .edition-one .ensures)
+    ∙ ap (λ (f : Format). firstOf (lentChecks (now (a .xyz)) (now (a .ends)))) (l .before .edition-one .ensures)
 
 pub show-lists-spec : {M : Type 1} → statement M
 show-lists-spec =

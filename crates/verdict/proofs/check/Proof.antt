@@ -2,7 +2,6 @@
 use mathlib.Core.Path.{_≡_, sym, ap, _∙_}
 use denote.Ref.{now}
 use Rattle.paper.specs.Refusals.{firstOf}
-use Rattle.paper.specs.Format.{editionOne}
 use Rattle.paper.specs.Sheet.{lentChecks}
 use Rattle.paper.specs.Drawing.{wire}
 use Rattle.paper.specs.Verdict.{verdictLists}
@@ -17,17 +16,17 @@ use Rattle.verdict.proofs.check.Tie as tie
 abbrev start : tie.After-lent → tie.Start
 start c = c .before .before .before .before
 
-form-is : (c : tie.After-lent) → let a = start c .args in c .lent .result ≡ firstOf (lentChecks editionOne (now (a .xyz)) (now (a .ends)))
+form-is : (c : tie.After-lent) → let a = start c .args in c .lent .result ≡ firstOf (lentChecks (now (a .xyz)) (now (a .ends)))
 form-is c =
     let a = start c .args in
-    c .lent .ensures ∙ ap (λ (f : Format). firstOf (lentChecks f (now (a .xyz)) (now (a .ends)))) (c .before .edition-one .ensures)
+    c .lent .ensures ∙ ap (λ (f : Format). firstOf (lentChecks (now (a .xyz)) (now (a .ends)))) (c .before .edition-one .ensures)
 
 returns : tie.Need-returns
 unfolding verdictLists
 returns c =
     let l = c .before .before .before in
     let a = start l .args in
-    let e = form-stops (wire (now (a .xyz)) (now (a .ends))) (now (a .list)) (lentChecks editionOne (now (a .xyz)) (now (a .ends)))
+    let e = form-stops (wire (now (a .xyz)) (now (a .ends))) (now (a .list)) (lentChecks (now (a .xyz)) (now (a .ends)))
     (sym (c .before .form .given .1) ∙ form-is l) in
     (e, ap verdictSays e)
 
@@ -40,7 +39,7 @@ returns-2 c =
     let f = c .before in
     let l = f .before .before in
     let a = start l .args in
-    let e = rest-decides (wire (now (a .xyz)) (now (a .ends))) (now (a .list)) (lentChecks editionOne (now (a .xyz)) (now (a .ends)))
+    let e = rest-decides (wire (now (a .xyz)) (now (a .ends))) (now (a .list)) (lentChecks (now (a .xyz)) (now (a .ends)))
     (sym (f .enum-told .given .1) ∙ form-is l) (c .checked .ensures) in
     (e, ap verdictSays e)
 

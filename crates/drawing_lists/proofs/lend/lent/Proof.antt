@@ -1,9 +1,9 @@
 -- `drawing_lists::lend::lent`: the two counts of 5 in order, and then the contents.
-use Rattle.paper.specs.Format.{leastVertices}
 use lib.ListN.{length}
 use mathlib.Core.Bool.{false}
 use mathlib.Core.Path.{_∙_, sym, _≡_}
 use Rattle.paper_laws.proofs.Checks.{holds, fails}
+use Rattle.paper.specs.Numbers.{leastVertices}
 use Rattle.paper.specs.Sheet.{lentChecks, badCount}
 use borrow.Author.Needs.{needs}
 use Rattle.drawing_lists.proofs.lend.lent.Statement.{statement}

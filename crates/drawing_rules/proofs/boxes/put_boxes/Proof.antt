@@ -7,7 +7,7 @@ use lib.IntN.{ℤ}
 use lib.ListN.{length}
 use denote.Ref.{now}
 use borrow.Author.Needs.{needs}
-use Rattle.paper.specs.Format.{editionOne}
+use Rattle.paper.specs.Numbers.{mostEdges}
 use Rattle.drawing_segments.specs.Ways.{spanOf}
 use Rattle.drawing_segments.specs.declared.Span.{Span}
 use Rattle.drawing_rules.specs.Boxes.{boxIn}
@@ -50,7 +50,7 @@ lowPut c = c .before .before .before
 
 -- ---- edge e is one of few, and there is room for its box
 
-few : (c : tie.In-loop Inv-loop μ-loop) → c .before .loop .e < editionOne .«most_edges»
+few : (c : tie.In-loop Inv-loop μ-loop) → c .before .loop .e < mostEdges
 few c = let q = start (c .before) .pre .lists .links in omega (arith, q .whole, q .most)
 
 room : (c : tie.In-loop Inv-loop μ-loop)

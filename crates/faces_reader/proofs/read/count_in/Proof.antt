@@ -6,7 +6,8 @@ use borrow.Author.Tests.{le-leb, lt-leb, eq-eqb, ne-eqb}
 use lib.Dec.{leb, eqb}
 use lib.ListN.{length}
 use Rattle.pack.specs.Bits.{fieldAt}
-use Rattle.paper.specs.Format.{leastFaces, editionBits, outside}
+use Rattle.paper.specs.Numbers.{leastFaces}
+use Rattle.paper.specs.Format.{editionBits, outside}
 use Rattle.paper.specs.FaceList.{countIn}
 use Rattle.faces_reader.specs.Face.{countOf}
 use Rattle.faces_reader.proofs.read.count_in.Statement.{statement}

@@ -4,7 +4,7 @@ use mathlib.Core.Path.{sym, ap, _∙_}
 use Prim.Native.Nat.{ℕ, _*_, _-_, _≤_, _<_}
 use borrow.Author.Needs.{needs}
 use Rattle.lists.specs.Found.{found}
-use Rattle.paper.specs.Format.{editionOne}
+use Rattle.paper.specs.Numbers.{mostFaces}
 use Rattle.paper.specs.FaceList.{countIn}
 use Rattle.faces_reader.proofs.Brief.{corners-small}
 use Rattle.faces_reader.proofs.ReadFaces.{Counted, counted, Read, Face, face-known}
@@ -66,7 +66,7 @@ known c =
     counted (a .f) (a .s .now) (sym (ap found (c .counted .given .1)) ∙ c .before .before .count-in .ensures)
 
 -- so k and the bit at which the loop is are small numbers
-few : (c : AtLoop) → c .loop .k ≤ editionOne .«most_faces»
+few : (c : AtLoop) → c .loop .k ≤ mostFaces
 few c = let o = known (told c) in omega (arith, c .loop .inv .few, o .count-is, o .most, entry c .pre .f-held)
 
 near : (c : AtLoop) → c .loop .at ≤ 4212
@@ -76,7 +76,7 @@ near c = omega (arith, c .loop .inv .small, few c)
 more : (c : tie.In-loop Inv-loop μ-loop) → let a = entry (c .before) .args in c .before .loop .k < countIn (a .f) (a .s .now)
 more c = omega (arith, known (told (c .before)) .count-is, c .loop-test .taken)
 
-few-more : (c : tie.In-loop Inv-loop μ-loop) → c .before .loop .k < editionOne .«most_faces»
+few-more : (c : tie.In-loop Inv-loop μ-loop) → c .before .loop .k < mostFaces
 few-more c =
     let o = known (told (c .before)) in
     omega (arith, o .most, entry (c .before) .pre .f-held, c .loop-test .taken)

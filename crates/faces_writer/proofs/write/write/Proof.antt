@@ -4,7 +4,8 @@ use mathlib.Core.Path.{_≡_, sym, ap, _∙_}
 use mathlib.Core.List.{List}
 use Prim.Native.Nat.{ℕ, _+_, _≤_}
 use lib.ListN.{length}
-use Rattle.paper.specs.Format.{leastFaces, outside, bytesFor}
+use Rattle.paper.specs.Numbers.{leastFaces}
+use Rattle.paper.specs.Format.{outside, bytesFor}
 use Rattle.paper.specs.Loops.{Loop}
 use Rattle.paper.specs.FaceList.{solidFaces, bitsOf}
 use Rattle.paper.specs.declared.Written.the-variants.{Bytes}

@@ -7,9 +7,9 @@ use lib.Dec.{eqb}
 use borrow.Author.Needs.{needs}
 use borrow.Author.Tests.{eqb-true, eqb-false, not-true, not-false}
 use Rattle.sets.specs.Sets.{size}
-use Rattle.paper.specs.Numbers.{mostCorners}
+use Rattle.paper.specs.Numbers.{mostCorners, mostVertices}
 use Rattle.loop_search.specs.Rooms.{rooms}
-use Rattle.loop_search.specs.Paths.{PathAt, mostVertices}
+use Rattle.loop_search.specs.Paths.{PathAt}
 use Rattle.loop_search.proofs.Deeper.{below-dropped, lowest-below, at-most, none-closes, Turning, turning-start, turning-next, turning-end, turning-full}
 use Rattle.loop_search.proofs.Way.{path-next}
 use Prim.Native.Nat.{ℕ, _-_, _<_}

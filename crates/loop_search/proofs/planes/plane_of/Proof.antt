@@ -11,10 +11,10 @@ use lib.IntN.{ℤ}
 use Rattle.lists.specs.Lists.{from, upto}
 use Rattle.sets.specs.Sets.{Is}
 use Rattle.sets.specs.declared.Set.{Set}
+use Rattle.paper.specs.Numbers.{mostVertices}
 use Rattle.paper.specs.Points.{isZero}
 use Rattle.paper.specs.declared.Point.{Point}
 use Rattle.polygon.proofs.Zeros.{reads-back}
-use Rattle.loop_search.specs.Paths.{mostVertices}
 use Rattle.loop_search.specs.Lines.{levelIn}
 use Rattle.loop_search.proofs.Level.{level-yes, level-no, plane-small, level-is}
 use Rattle.loop_search.proofs.planes.plane_of.Statement.{statement}

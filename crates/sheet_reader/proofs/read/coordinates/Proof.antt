@@ -11,7 +11,8 @@ use mir.ValLaws.{toZ-ofZ}
 use Rattle.pack.specs.Bits.{fieldAt, fieldsAt}
 use Rattle.pack.proofs.Laws.{fields-none, fields-more, length-fields, field-lt}
 use Rattle.pack.proofs.Fill.{padded-none, padded-more}
-use Rattle.paper.specs.Format.{editionOne, coordinateBits, coordinate}
+use Rattle.paper.specs.Numbers.{mostVertices}
+use Rattle.paper.specs.Format.{coordinateBits, coordinate}
 use Rattle.sheet_reader.specs.Kept.{heldXyz}
 use Rattle.sheet_reader.proofs.read.coordinates.Statement.{statement}
 use Rattle.sheet_reader.proofs.read.coordinates.Tie as tie
@@ -39,7 +40,7 @@ turn c = c .before .before
 none : (s : List ℕ) (i : ℕ) → heldXyz [] ≡ heldXyz (upTo s i 0)
 none s i = ap (λ (l : List ℕ). heldXyz (map coordinate l)) (sym (fields-none s i coordinateBits))
 
-more : (s : List ℕ) (i k : ℕ) → k < 3 * editionOne .«most_vertices» → (z : ℤ)
+more : (s : List ℕ) (i k : ℕ) → k < 3 * mostVertices → (z : ℤ)
     → z ≡ coordinate (fieldAt s (i + coordinateBits * k) coordinateBits)
     → set (heldXyz (upTo s i k)) k z ≡ heldXyz (upTo s i (k + 1))
 more s i k h z e =

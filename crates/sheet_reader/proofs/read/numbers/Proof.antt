@@ -8,7 +8,7 @@ use lib.ListN.{set}
 use Rattle.pack.specs.Bits.{fieldAt, fieldsAt}
 use Rattle.pack.proofs.Laws.{fields-none, fields-more, length-fields, field-below, slot}
 use Rattle.pack.proofs.Fill.{padded-none, padded-more}
-use Rattle.paper.specs.Format.{editionOne}
+use Rattle.paper.specs.Numbers.{mostEdges}
 use Rattle.sheet_reader.specs.Kept.{heldEnds}
 use Rattle.sheet_reader.proofs.read.numbers.Statement.{statement}
 use Rattle.sheet_reader.proofs.read.numbers.Tie as tie
@@ -36,7 +36,7 @@ slot-within c =
     let a = start (c .before) .args in
     slot (a .w) (c .before .loop .k) (a .n) (omega arith)
 
-more : (s : List ℕ) (i w k : ℕ) → k < 2 * editionOne .«most_edges» → (x : ℕ) → x ≡ fieldAt s (i + w * k) w
+more : (s : List ℕ) (i w k : ℕ) → k < 2 * mostEdges → (x : ℕ) → x ≡ fieldAt s (i + w * k) w
     → set (heldEnds (fieldsAt s i w k)) k x ≡ heldEnds (fieldsAt s i w (k + 1))
 more s i w k h x e =
     padded-more (fieldsAt s i w k) _ k x 0 (length-fields s i w k) h

@@ -27,7 +27,7 @@ tested c = c .before .before .before .before
 -- ---- what is known there
 
 -- 5, 8, 9 and 10 don't apply
-passes : (c : tie.After-enum-told) → let a = start c .args in Fine ≡ firstOf (lentChecks (a .f) (a .xyz .now) (a .ends .now))
+passes : (c : tie.After-enum-told) → let a = start c .args in Fine ≡ firstOf (lentChecks (a .xyz .now) (a .ends .now))
 passes c = sym (c .enum-told .given .1) ∙ c .before .before .lent .ensures
 
 -- so the counts are few
