@@ -7,7 +7,6 @@ use lib.IntN.{ℤ, pos}
 use lib.ListN.{length, getD}
 use Rattle.paper.specs.Numbers.{leastEdges, mostEdges}
 use Rattle.paper.specs.Refusals.{firstOf}
-use Rattle.paper.specs.Format.{editionOne}
 use Rattle.paper.specs.Sheet.{contentChecks, lentChecks}
 use Rattle.paper.specs.declared.Answer.the-variants.{Fine}
 use Rattle.paper_laws.proofs.Coordinate.{in-reach}
@@ -36,7 +35,7 @@ module _ (xyz : List ℤ) (ends : List ℕ) (v e : ℕ) (three : length xyz ≡ 
 
 pub lent-range : (xyz : List ℤ) (ends : List ℕ) → Fine ≡ firstOf (lentChecks xyz ends) → InRange xyz ends
 lent-range xyz ends h =
-    let g = lent editionOne xyz ends h in
+    let g = lent xyz ends h in
     let v = length xyz / 3 in
     let e = length ends / 2 in
     record {

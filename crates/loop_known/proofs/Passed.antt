@@ -8,7 +8,6 @@ use lib.ListN.{length}
 use Rattle.lists.specs.Lists.{lowest}
 use Rattle.paper.specs.Refusals as No
 use Rattle.paper.specs.Refusals.{check, firstOf}
-use Rattle.paper.specs.Format.{editionOne}
 use Rattle.paper.specs.Sheet.{farAt, wrongAt, lowAt, edgeChecks, contentChecks, lentChecks}
 use Rattle.paper.specs.Drawing.{wire, samePlace, looseVertex, edgeMeets, apart, drawingChecks}
 use Rattle.paper.specs.declared.Answer.the-variants.{Fine}
@@ -27,7 +26,7 @@ module _ (xyz : List ℤ) (ends : List ℕ) where
       let e = length ends / 2 in
       let last = check No.EdgeOrder (lowest (lowAt ends) e) ∷ [] in
       let nine = check No.BadEdge (lowest (wrongAt v ends) e) ∷ last in
-      let content : Fine ≡ firstOf (check No.BadCoordinate (lowest (farAt xyz) (length xyz)) ∷ nine) = lent editionOne xyz ends h .fine in
+      let content : Fine ≡ firstOf (check No.BadCoordinate (lowest (farAt xyz) (length xyz)) ∷ nine) = lent xyz ends h .fine in
       found-none No.EdgeOrder [] (found-none No.BadEdge last (found-none No.BadCoordinate nine content .1) .1) .0
 
   pub has-passed : Fine ≡ firstOf (lentChecks xyz ends) → Fine ≡ firstOf (drawingChecks (wire xyz ends)) → Passed xyz ends

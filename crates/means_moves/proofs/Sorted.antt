@@ -102,7 +102,7 @@ lent-sorted f xyz ends h =
     let n = length ends / 2 in
     let last = check No.EdgeOrder (lowest (lowAt ends) n) ∷ [] in
     let nine = check No.BadEdge (lowest (wrongAt v ends) n) ∷ last in
-    let content : Fine ≡ firstOf (check No.BadCoordinate (lowest (farAt xyz) (length xyz)) ∷ nine) = lent f xyz ends h .fine in
+    let content : Fine ≡ firstOf (check No.BadCoordinate (lowest (farAt xyz) (length xyz)) ∷ nine) = lent xyz ends h .fine in
     let order = found-none No.EdgeOrder [] (found-none No.BadEdge last (found-none No.BadCoordinate nine content .1) .1) .0 in
     record {
       rising = lent-rising f xyz ends h;

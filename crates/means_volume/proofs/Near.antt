@@ -33,7 +33,7 @@ points-near (x ∷ (y ∷ (z ∷ l))) n (suc v) = points-near l (λ k. n (suc (s
 pub lent-near : (xyz : List ℤ) (ends : List ℕ) → Fine ≡ firstOf (lentChecks xyz ends)
     → (v : ℕ) → PointWithin farthest (at (wire xyz ends) v)
 unfolding wire at
-lent-near xyz ends e v = points-near xyz (contents _ xyz ends (lent editionOne xyz ends e .fine) .near) v
+lent-near xyz ends e v = points-near xyz (contents _ xyz ends (lent xyz ends e .fine) .near) v
 
 pub sheet-near : (s : List ℕ) → Fine ≡ firstOf (sheetChecks editionOne s)
     → (v : ℕ) → PointWithin farthest (at (wire (coordinatesIn editionOne s) (endsIn editionOne s)) v)

@@ -30,6 +30,10 @@ editionOf s = editionOne
 unfoldable pub editionFor : ℕ → ℕ → Format
 editionFor v e = editionOne
 
+-- of a drawing that is lent as two lists
+abbrev pub lentEdition : List ℤ → List ℕ → Format
+lentEdition xyz ends = editionFor (length xyz / 3) (length ends / 2)
+
 -- widths that all editions share: "edition (4 bits", "x, y, z (11 bits each", "the corner count (4 bits"
 abbrev pub editionBits : ℕ
 editionBits = 4

@@ -1,6 +1,6 @@
 -- Questions to the definitions and what they reply, for the tables that are proved by evaluation: one definition that computes with
 -- all others.
-use Prim.Native.Nat.{ℕ, _/_}
+use Prim.Native.Nat.{ℕ}
 use mathlib.Core.Path.{_≡_}
 use mathlib.Core.Bool.{Bool, true, _||_}
 use mathlib.Core.List.{List, [], _∷_, map, flatMap}
@@ -13,9 +13,9 @@ use Rattle.sets.specs.Word.{word, digits, count, both, either, less, only, firs
 use Rattle.lists.specs.Lists.{any, all, filter, sides, anyTrue, upto, lowest, member, sameList}
 use Rattle.paper.specs.Numbers.{Limits, mostSolids, mostWork, faceRoom, solidRoom}
 use Rattle.paper.specs.Refusals.{firstOf}
-use Rattle.paper.specs.Format.{editionOf, editionFor, filled, fillAfter, encode}
+use Rattle.paper.specs.Format.{editionOf, editionFor, lentEdition, filled, fillAfter, encode}
 use Rattle.paper.specs.Sheet.{farAt, wrongAt, lowAt, edgeChecks, contentChecks, openChecks, countChecks, closeChecks, shapeChecks}
-use Rattle.paper.specs.Sheet.{sheetChecks, lentChecks, sheetOf, writerChecks, writtenOf, roomOf}
+use Rattle.paper.specs.Sheet.{sheetChecks, lentChecks, sheetOf, readSheet, writerChecks, writtenOf, roomOf}
 use Rattle.paper.specs.Record.{setOf, digitsAt, entry}
 use Rattle.paper.specs.Points.{above}
 use Rattle.paper.specs.Polygon.{covers}
@@ -51,7 +51,7 @@ pub record Drawn : Type 0 where
 
 -- its edition
 abbrev pub formOf : Drawn → Format
-formOf d = editionFor (length (d .xyz) / 3) (length (d .ends) / 2)
+formOf d = lentEdition (d .xyz) (d .ends)
 
 abbrev pub neg : ℕ → ℤ
 neg n = negℤ (pos n)
@@ -139,7 +139,7 @@ reply (wholly most d limit f s) =
 reply (lent d) = answer (firstOf (lentChecks (d .xyz) (d .ends)))
 reply (sized d) = number (length (encode (formOf d) (d .xyz) (d .ends)))
 reply (stored d n) = wrote (writtenOf (formOf d) (d .xyz) (d .ends) (faceBefore n)) (roomOf (formOf d) (d .xyz) (d .ends) (faceBefore n))
-reply (fetched s) = sheet (sheetOf (editionOf s) s)
+reply (fetched s) = sheet (readSheet s)
 reply (desk s) = bytes (deskText s)
 reply (printed d) = bytes (deskText (encode (formOf d) (d .xyz) (d .ends)))
 reply (sent d fs) = verdicts (verdictLists (d .xyz) (d .ends) (encodeFaces (formOf d) fs))

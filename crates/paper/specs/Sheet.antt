@@ -12,7 +12,7 @@ use Rattle.lists.specs.Lists.{lowest}
 use Rattle.paper.specs.Numbers.{leastVertices, mostVertices, leastEdges, mostEdges, farthest}
 use Rattle.paper.specs.Refusals as No
 use Rattle.paper.specs.Refusals.{Check, check, firstOf, offends}
-use Rattle.paper.specs.Format.{editionBits, outside, total, bytesFor, fillAfter, verticesIn}
+use Rattle.paper.specs.Format.{editionOf, editionBits, outside, total, bytesFor, fillAfter, verticesIn}
 use Rattle.paper.specs.Format.{edgesIn, coordinatesIn, endsIn, encode}
 use Rattle.paper.specs.declared.Format.{Format}
 use Rattle.paper.specs.declared.Answer.{Answer}
@@ -107,6 +107,10 @@ unfoldable pub sheetOf : Format → List ℕ → Sheet
 sheetOf f s =
     let a = firstOf (sheetChecks f s) in
     record { answer = a; drawing = drawnFor a (held (verticesIn f s) (edgesIn f s) (coordinatesIn f s) (endsIn f s)) }
+
+-- in the edition that it says
+abbrev pub readSheet : List ℕ → Sheet
+readSheet s = sheetOf (editionOf s) s
 
 -- ---- writing: "the sheet writer 5, 8, 9, 10, then 1"
 

@@ -2,6 +2,7 @@
 pub mod Checks
 pub mod Behind
 pub mod Limits
+pub mod Editions
 pub mod Coordinate
 pub mod Rows
 pub mod Vectors

@@ -95,7 +95,7 @@ module _ (f : Format) (xyz : List ℤ) (ends : List ℕ) (v e : ℕ) (hv : lengt
       (p4 ∙ ap (λ (n : ℕ). overwrite r3 n (bits (bytesFor n * 8 - n) 0)) hb)
 
 -- the sheet and then the room's bytes
-pub encoded : (f : Format) (xyz : List ℤ) (ends : List ℕ) → Lent f xyz ends → {v e : ℕ} → v ≡ length xyz / 3 → e ≡ length ends / 2
+pub encoded : (f : Format) (xyz : List ℤ) (ends : List ℕ) → Lent xyz ends → {v e : ℕ} → v ≡ length xyz / 3 → e ≡ length ends / 2
     → (room last : List ℕ)
     → bytesFor (total f v e) ≤ length room → length last ≡ length room → Under (2 ^ 8) room → Under (2 ^ 8) last
     → run 8 last ≡ overwrite (run 8 room) 0

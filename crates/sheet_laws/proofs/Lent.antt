@@ -11,9 +11,9 @@ use lib.ListN.{length, getD, List·getD-eq-default}
 use Rattle.lists.proofs.Truth.{or-none}
 use Rattle.lists.proofs.Lowest.{lowest-none}
 use Rattle.paper_laws.proofs.Checks.{found-none, passed}
+use Rattle.paper.specs.Numbers.{leastVertices, mostVertices, leastEdges, mostEdges}
 use Rattle.paper.specs.Refusals.{firstOf}
 use Rattle.paper.specs.Sheet.{far, farAt, wrong, wrongAt, edgeChecks, contentChecks, lentChecks, badCount}
-use Rattle.paper.specs.declared.Format.{Format}
 use Rattle.paper.specs.declared.Answer.the-variants.{Fine}
 use Rattle.paper_laws.proofs.Limits.{outside-false}
 use Rattle.sheet_laws.specs.Near.{Near}
@@ -58,13 +58,13 @@ contents v xyz ends h =
         (or-none (leb v (getD ends (2 * e + 1) 0)) _ (or-none (leb v (getD ends (2 * e) 0)) _ w .1) .0) in
         either k e a b (leb (k % 2) 0) refl (omega arith) (omega arith)
 
-pub record Lent (f : Format) (xyz : List ℤ) (ends : List ℕ) : Type 0 where
+pub record Lent (xyz : List ℤ) (ends : List ℕ) : Type 0 where
   pub v-whole : length xyz ≡ 3 * (length xyz / 3)
-  pub v-least : 4 ≤ length xyz / 3
-  pub v-most : length xyz / 3 ≤ f .«most_vertices»
+  pub v-least : leastVertices ≤ length xyz / 3
+  pub v-most : length xyz / 3 ≤ mostVertices
   pub e-whole : length ends ≡ 2 * (length ends / 2)
-  pub e-least : 6 ≤ length ends / 2
-  pub e-most : length ends / 2 ≤ f .«most_edges»
+  pub e-least : leastEdges ≤ length ends / 2
+  pub e-most : length ends / 2 ≤ mostEdges
   pub fine : Fine ≡ firstOf (contentChecks (length xyz / 3) xyz ends)
 
 -- a list is whole where its count is not bad, and there are as many parts as there may be
@@ -73,13 +73,13 @@ whole k lo hi n e =
     let b = outside-false lo hi (n / k) (or-none (not (eqb (n % k) 0)) _ e .1) in
     (eqb-true _ _ (not-false _ (or-none (not (eqb (n % k) 0)) _ e .0)), b .0, b .1)
 
-pub lent : (f : Format) (xyz : List ℤ) (ends : List ℕ) → Fine ≡ firstOf (lentChecks xyz ends) → Lent f xyz ends
+pub lent : (xyz : List ℤ) (ends : List ℕ) → Fine ≡ firstOf (lentChecks xyz ends) → Lent xyz ends
 unfolding lentChecks
-lent f xyz ends h =
+lent xyz ends h =
     let p0 = passed _ _ _ h in
     let p1 = passed _ _ _ (p0 .1) in
-    let v = whole 3 4 (f .«most_vertices») (length xyz) (p0 .0) in
-    let e = whole 2 6 (f .«most_edges») (length ends) (p1 .0) in
+    let v = whole 3 leastVertices mostVertices (length xyz) (p0 .0) in
+    let e = whole 2 leastEdges mostEdges (length ends) (p1 .0) in
     record {
       v-whole = omega (arith, v .0);
       v-least = v .1;

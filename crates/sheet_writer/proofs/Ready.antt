@@ -28,7 +28,7 @@ pub record Ready (f : Format) (xyz : List ℤ) (ends : List ℕ) (v e r : ℕ) :
 pub ready : {f : Format} {xyz : List ℤ} {ends room : List ℕ} {v e : ℕ} → Writable f xyz ends room v e
     → Ready f xyz ends v e (length room)
 ready {f} {xyz} {ends} {room} {v} {e} w =
-    let g = lent f xyz ends (w .passes) in
+    let g = lent xyz ends (w .passes) in
     let n = w .narrow in
     let few : NarrowCounts f v e =
     record { narrow = n; v-few = omega (arith, g .v-most, n, w .v-is); e-few = omega (arith, g .e-most, n, w .e-is) } in

@@ -17,6 +17,6 @@ use Rattle.means_drawing.specs.Drawings.{Rising}
 pub lent-rising : (f : Format) (xyz : List ℤ) (ends : List ℕ) → Fine ≡ firstOf (lentChecks xyz ends) → Rising (wire xyz ends)
 unfolding wire edgeAt
 lent-rising f xyz ends h e l =
-    let c = contents (length xyz / 3) xyz ends (lent f xyz ends h .fine) in
+    let c = contents (length xyz / 3) xyz ends (lent xyz ends h .fine) in
     let few = length-edges ends in
     rw (edge-at ends e (edge 0 0) l, length-points xyz) (c .rising e (omega arith), c .below (2 * e + 1) (omega arith))

@@ -12,6 +12,7 @@ use Rattle.pack.specs.Bits.{bits, run, fieldsAt, Under}
 use Rattle.pack.proofs.Trip.{bits-field, run-fields}
 use Rattle.paper_laws.proofs.Checks.{fails}
 use Rattle.paper_laws.proofs.Limits.{not-outside}
+use Rattle.paper.specs.Numbers.{leastVertices, mostVertices, leastEdges, mostEdges}
 use Rattle.paper.specs.Refusals.{firstOf}
 use Rattle.paper.specs.Format.{head, total, filled, headBits, onSheet, coordinate, verticesIn, edgesIn, coordinatesIn, endsIn, encode}
 use Rattle.paper.specs.Sheet.{contentChecks, sheetChecks, lentChecks, badCount, sheetOf}
@@ -23,6 +24,7 @@ use Rattle.paper_laws.proofs.Coordinate.{onSheet-coordinate}
 use Rattle.sheet_laws.proofs.Accepted.{length-coordinates, length-ends}
 use Rattle.sheet_laws.proofs.Shaped.{Shaped}
 use Rattle.means_sheets.proofs.Filled.{bytes-hold, filled-again}
+use Rattle.paper_laws.specs.Editions.{Limited}
 
 map-back : (ns : List ℕ) → map onSheet (map coordinate ns) ≡ ns
 map-back [] = refl
@@ -89,7 +91,7 @@ module _ (f : Format) (s : List ℕ) (g : Shaped f s) where
 good-count : (k lo hi n m : ℕ) → n % k ≡ 0 → n / k ≡ m → lo ≤ m → m ≤ hi → badCount k lo hi n ≡ false
 good-count k lo hi n m w e a b = rw (eq-eqb (n % k) 0 w, e) (not-outside lo hi m a b)
 
-module _ (f : Format) (s : List ℕ) (h : Fine ≡ firstOf (sheetChecks f s)) where
+module _ (f : Format) (held : Limited f) (s : List ℕ) (h : Fine ≡ firstOf (sheetChecks f s)) where
   -- the writer takes what the reader accepted
   pub accepted-lent : Fine ≡ firstOf (lentChecks (coordinatesIn f s) (endsIn f s))
   unfolding lentChecks
@@ -100,9 +102,11 @@ module _ (f : Format) (s : List ℕ) (h : Fine ≡ firstOf (sheetChecks f s)) wh
       let w2 : length (endsIn f s) % 2 ≡ 0 = rw (length-ends f s) (omega arith) in
       accepted-contents f s h
       ∙ ap (λ (n : ℕ). firstOf (contentChecks n (coordinatesIn f s) (endsIn f s))) (sym (v-is f s g))
-      ∙ fails _ _ _ (good-count 2 6 (f .«most_edges») (length (endsIn f s)) (edgesIn f s) w2 (e-is f s g) (k .e-least) (k .e-most))
+      ∙ fails _ _ _ (good-count 2 leastEdges mostEdges (length (endsIn f s)) (edgesIn f s) w2 (e-is f s g) (k .e-least)
+      (le-trans (k .e-most) (held .e-held)))
       ∙ fails _ _ _
-      (good-count 3 4 (f .«most_vertices») (length (coordinatesIn f s)) (verticesIn f s) w3 (v-is f s g) (k .v-least) (k .v-most))
+      (good-count 3 leastVertices mostVertices (length (coordinatesIn f s)) (verticesIn f s) w3 (v-is f s g) (k .v-least)
+      (le-trans (k .v-most) (held .v-held)))
 
 pub same-lists : (f : Format) (s t : List ℕ) → Fine ≡ firstOf (sheetChecks f s) → Fine ≡ firstOf (sheetChecks f t)
     → sheetOf f s .drawing ≡ sheetOf f t .drawing

@@ -29,6 +29,7 @@ use Rattle.sheet_laws.proofs.Lent.{Contents, contents, Lent}
 use Rattle.sheet_laws.proofs.Encoded.{length-head, length-placed, length-content, under-content}
 use Rattle.means_sheets.specs.Sound.{Sound}
 use Rattle.means_sheets.proofs.Filled.{zeros, length-filled, run-filled, fill-filled}
+use Rattle.paper_laws.specs.Editions.{FitsEdition}
 
 -- ---- coordinates in range come back
 
@@ -75,7 +76,8 @@ module _ (f : Format) (s : List ℕ) where
 
 -- ---- what stands in the bytes of a drawing's sheet
 
-module _ (f : Format) (sound : Sound f) (xyz : List ℤ) (ends : List ℕ) (g : Lent f xyz ends) where
+module _ (f : Format) (sound : Sound f) (xyz : List ℤ) (ends : List ℕ) (g : Lent xyz ends)
+    (room : FitsEdition f (length xyz / 3) (length ends / 2)) where
   abbrev v : ℕ
   v = length xyz / 3
 
@@ -113,14 +115,14 @@ module _ (f : Format) (sound : Sound f) (xyz : List ℤ) (ends : List ℕ) (g : 
   at-vertices : verticesIn f s ≡ v
   at-vertices =
       field-in s (bits 4 (f .edition)) (bits (f .«edge_count_bits») e ++ (points ++ (numbers ++ fill))) 4 (length-bits 4 (f .edition))
-      (f .«vertex_count_bits») v nested (lt-of-le-of-lt (g .v-most) (sound .vertices-fit))
+      (f .«vertex_count_bits») v nested (lt-of-le-of-lt (room .v-fits) (sound .vertices-fit))
 
   at-edges : edgesIn f s ≡ e
   at-edges =
       field-in s (bits 4 (f .edition) ++ bits (f .«vertex_count_bits») v) (points ++ (numbers ++ fill)) (4 + f .«vertex_count_bits»)
       (length-append (bits 4 (f .edition)) (bits (f .«vertex_count_bits») v)
       ∙ ap₂ (λ (x y : ℕ). x + y) (length-bits 4 (f .edition)) (length-bits (f .«vertex_count_bits») v))
-      (f .«edge_count_bits») e (run-s ∙ simp append-assoc) (lt-of-le-of-lt (g .e-most) (sound .edges-fit))
+      (f .«edge_count_bits») e (run-s ∙ simp append-assoc) (lt-of-le-of-lt (room .e-fits) (sound .edges-fit))
 
   holds : Contents v xyz ends
   holds = contents v xyz ends (g .fine)
@@ -139,7 +141,7 @@ module _ (f : Format) (sound : Sound f) (xyz : List ℤ) (ends : List ℕ) (g : 
       go : (b : Bool) → ltb k (length ends) ≡ b → getD ends k 0 < 2 ^ f .«vertex_number_bits»
       go true t =
           lt-of-lt-of-le (holds .below k (omega (arith, ltb-true k (length ends) t, g .e-whole)))
-          (le-trans (g .v-most) (sound .numbers-fit))
+          (le-trans (room .v-fits) (sound .numbers-fit))
       go false t = rw (List·getD-eq-default ends 0 (ltb-false k (length ends) t)) (pow-pos (f .«vertex_number_bits»))
 
   at-ends : endsIn f s ≡ ends
@@ -164,9 +166,9 @@ module _ (f : Format) (sound : Sound f) (xyz : List ℤ) (ends : List ℕ) (g : 
     open-is = record { long = omega (arith, length-s, g .v-least); edition = at-edition };
     counts-are = record {
       v-least = omega (arith, at-vertices, g .v-least);
-      v-most = omega (arith, at-vertices, g .v-most);
+      v-most = omega (arith, at-vertices, room .v-fits);
       e-least = omega (arith, at-edges, g .e-least);
-      e-most = omega (arith, at-edges, g .e-most);
+      e-most = omega (arith, at-edges, room .e-fits);
     };
     close-is = record {
       sized = length-s ∙ ap₂ (λ (a b : ℕ). bytesFor (total f a b)) (sym at-vertices) (sym at-edges);
