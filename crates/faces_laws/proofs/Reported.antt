@@ -1,4 +1,4 @@
--- The faces of a solid, as they are read from rows of 13 bytes and the solid's two words.
+-- The faces of a solid, as they are read from rows of 13 bytes and the solid's record.
 use mathlib.Core.Path.{_≡_, refl, sym, ap, ap₂, _∙_}
 use mathlib.Core.Bool.{Bool, true, false, _&&_, cond}
 use mathlib.Core.List.{List, [], _∷_, _++_, map, flatMap}
@@ -11,11 +11,12 @@ use lib.ListN.{length, getD, take, drop, replicate, getD-replicate, length-appen
 use lib.Seq.{ext-getD, getD-take, getD-drop, length-take-le}
 use Rattle.lists.specs.Lists.{keep, filter, from, upto}
 use Rattle.lists.proofs.Places.{made-length, made-at}
-use Rattle.sets.specs.Word.{dig, word, digits}
+use Rattle.sets.specs.Word.{dig}
 use Rattle.sets.proofs.Digits.{never}
-use Rattle.sets.proofs.Numbers.{digit-word, digit-bits}
+use Rattle.paper_laws.proofs.Record.{taken-in, turned-in}
 use Rattle.paper_laws.proofs.Rows.{Short, row-first, row-corner, rows-long, rows-at}
 use Rattle.paper.specs.Numbers.{mostCorners, mostCandidates, rowBytes}
+use Rattle.paper.specs.Record.{entry, takenIn, turnedIn}
 use Rattle.paper.specs.Loops.{Loop, loopAt, flipped, row}
 use Rattle.paper.specs.FaceList.{rowAt, solidFaces}
 
@@ -106,17 +107,14 @@ kept-short q (suc n) j i h =
     let z : suc n + j ≡ suc (n + j) = omega arith in
     ap (λ (m : ℕ). filter q (from i m)) z ∙ ap (keep (q i) i) (kept-short q n j (suc i) (λ k a. h k (omega arith)))
 
--- ---- a solid's faces, from the rows and its two words
+-- ---- a solid's faces, from the rows and its record
 
 -- the taken loops in order, turned ones the other way round
 abbrev pub takenFaces : List Loop → List Bool → List Bool → List Loop
 takenFaces cs taken turned = map (λ k. cond (dig turned k) (flipped (loopAt cs k)) (loopAt cs k)) (filter (dig taken) (upto (length cs)))
 
 module _ (cs : List Loop) (short : Short cs) (few : length cs ≤ mostCandidates) (rest : List ℕ)
-    (taken turned : List Bool) (all : length taken ≡ length cs) where
-  digit-of : (a : List Bool) (k : ℕ) → k < mostCandidates → getD (digits mostCandidates (word a)) k false ≡ dig a k
-  digit-of a k h = digit-bits mostCandidates (word a) k h ∙ digit-word a k
-
+    (taken turned : List Bool) (all : length taken ≡ length cs) (six : ℕ) (more : List ℕ) where
   past : (k : ℕ) → length cs ≤ k → dig taken k ≡ false
   past k h = List·getD-eq-default taken false (omega arith)
 
@@ -127,22 +125,24 @@ module _ (cs : List Loop) (short : Short cs) (few : length cs ≤ mostCandidates
       go (yes h) = h
       go (no h) = never (sym e ∙ past k (omega arith))
 
-  -- candidate k as its row and the word of the turned ones give it
+  -- its record, and what comes behind it
+  abbrev there : List ℕ
+  there = entry taken turned six ++ more
+
+  -- candidate k as its row and the turned ones give it
   abbrev read : ℕ → Loop
-  read k =
-      let l = rowAt (flatMap row cs ++ rest) k in
-      cond (getD (digits mostCandidates (word turned)) k false) (flipped l) l
+  read k = let l = rowAt (flatMap row cs ++ rest) k in cond (dig (turnedIn there) k) (flipped l) l
 
   abbrev face : ℕ → Loop
   face k = cond (dig turned k) (flipped (loopAt cs k)) (loopAt cs k)
 
-  pub solid-faces : solidFaces (flatMap row cs ++ rest) (word taken) (word turned) ≡ takenFaces cs taken turned
+  pub solid-faces : solidFaces (flatMap row cs ++ rest) there ≡ takenFaces cs taken turned
   unfolding solidFaces upto
   solid-faces =
       let e : mostCandidates ≡ length cs + (mostCandidates - length cs) = omega arith in
-      kept-same (λ k. getD (digits mostCandidates (word taken)) k false) (dig taken) read face
-      mostCandidates 0 (λ k a b. digit-of taken k (omega arith))
-      (λ k a b y. ap₂ (λ (t : Bool) (l : Loop). cond t (flipped l) l) (digit-of turned k (omega arith))
+      kept-same (dig (takenIn there)) (dig taken) read face
+      mostCandidates 0 (λ k a b. taken-in taken turned six more k (omega arith))
+      (λ k a b y. ap₂ (λ (t : Bool) (l : Loop). cond t (flipped l) l) (turned-in taken turned six more k (omega arith))
       (row-loop cs short rest k (below k y)))
       ∙ ap (λ (n : ℕ). map face (filter (dig taken) (from 0 n))) e
       ∙ ap (map face) (kept-short (dig taken) (length cs) (mostCandidates - length cs) 0 (λ k a. past k (omega arith)))

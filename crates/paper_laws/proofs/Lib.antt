@@ -5,6 +5,7 @@ pub mod Limits
 pub mod Editions
 pub mod Coordinate
 pub mod Rows
+pub mod Record
 pub mod Vectors
 pub mod Six
 pub mod Points
