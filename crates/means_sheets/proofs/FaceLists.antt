@@ -1,4 +1,4 @@
--- Demand 2: face lists read back and are written back the same. Over the layout, and of edition 1.
+-- Demand 2: face lists read back and are written back the same. Over the layout.
 pub mod Packed
 pub mod Shape
 pub mod Written
@@ -6,16 +6,13 @@ pub mod Read
 pub mod Room
 use mathlib.Core.Path.{_≡_, refl, sym, ap, _∙_}
 use mathlib.Core.Bool.{Bool, true, false, cond}
-use mathlib.Core.List.{List, [], flatMap}
+use mathlib.Core.List.{List, [], flatMap, append-nil}
 use Prim.Native.Nat.{ℕ, _*_, _-_, _^_, _≤_}
-use native.Mathlib.Nat.{le-trans}
 use native.Mathlib.Omega.{arith}
 use lib.ListN.{length, replicate, length-replicate}
 use Rattle.pack.specs.Fill.{padded}
-use Rattle.sets.specs.Word.{word}
-use Rattle.sets.proofs.Word.{full-word}
 use Rattle.paper.specs.Numbers.{mostFaces, mostCandidates, rowBytes}
-use Rattle.paper.specs.Format.{editionOne}
+use Rattle.paper.specs.Record.{entry}
 use Rattle.paper.specs.FaceList.{encodeFaces, countIn, facesIn, wellShaped, facesOf, noFaces, solidFaces}
 use Rattle.paper.specs.Loops.{Loop, row}
 use Rattle.paper.specs.declared.Format.{Format}
@@ -25,12 +22,12 @@ use Rattle.faces_laws.proofs.FaceList.{length-in}
 use Rattle.faces_laws.proofs.Shape.{shape-yes}
 use Rattle.faces_laws.proofs.Reported.{solid-faces, all-taken}
 use Rattle.means_sheets.specs.Sound.{Sound}
-use Rattle.means_sheets.specs.FaceLists.{Sendable, returned, FacesReadBack, ReadBackOne, SentIsSendable, AcceptedList}
+use Rattle.means_sheets.specs.FaceLists.{Sendable, returned, FacesReadBack, SentIsSendable, AcceptedList}
 use Rattle.means_sheets.specs.FaceLists.{FacesWriteBack, RowsGiveFaces, OneList}
-use Rattle.means_sheets.proofs.Sheets.{one-sound}
 use Rattle.means_sheets.proofs.FaceLists.Written.{faces-accepted, faces-read-back, rows-returned}
 use Rattle.means_sheets.proofs.FaceLists.Read.{written-again, can-be-sent}
 use Rattle.means_sheets.proofs.FaceLists.Room.{sent-sendable, sent-room, sends, sendable-more}
+use Rattle.paper_laws.specs.Editions.{Limited}
 
 -- ---- faces that a face list can hold, for a drawing of v vertices
 
@@ -76,30 +73,16 @@ module _ (f : Format) (v : ℕ) (s : List ℕ) (a : AcceptedList f v s) where
 pub one-list : (f : Format) (v : ℕ) → OneList f v
 one-list f v s t hs ht e = sym (faces-write f v s hs .list) ∙ ap (encodeFaces f) e ∙ faces-write f v t ht .list
 
--- ---- edition 1
-
-pub faces-read-one : ReadBackOne
-faces-read-one = faces-read editionOne one-sound
-
-pub sent-is-sendable-one : SentIsSendable editionOne
-sent-is-sendable-one = sent-is-sendable editionOne
-
-pub faces-write-one : (v : ℕ) (s : List ℕ) → AcceptedList editionOne v s → FacesWriteBack editionOne v s
-faces-write-one = faces-write editionOne
-
 -- the writer gives an accepted list back from the rows that reading returned
-pub rows-give-faces : (v : ℕ) (s : List ℕ) → AcceptedList editionOne v s → RowsGiveFaces editionOne v s
-unfolding padded word
-rows-give-faces v s a =
-    let w = faces-write-one v s a in
-    let fs : List Loop = facesIn editionOne s in
-    let few : length fs ≤ mostCandidates = le-trans (w .sendable .most) (omega arith) in
-    let full : 2 ^ length fs - 1 ≡ word (replicate (length fs) true) = sym (full-word (length fs)) in
-    ap (λ (r : Faces). solidFaces (r .rows) (2 ^ r .count - 1) 0) (w .back)
-    ∙ ap (λ (t : ℕ). solidFaces (returned fs .rows) t 0) full
+pub rows-give-faces : (f : Format) → Limited f → (v : ℕ) (s : List ℕ) → AcceptedList f v s → RowsGiveFaces f v s
+unfolding padded
+rows-give-faces f held v s a =
+    let w = faces-write f v s a in
+    let fs : List Loop = facesIn f s in
+    let few : length fs ≤ mostCandidates = omega (arith, w .sendable .most, held .faces-held) in
+    let solid : List ℕ = entry (replicate (length fs) true) [] 0 in
+    ap (λ (r : Faces). solidFaces (r .rows) (entry (replicate (r .count) true) [] 0)) (w .back)
+    ∙ ap (solidFaces (returned fs .rows)) (sym (append-nil solid))
     ∙ solid-faces fs (w .sendable .many) few (replicate (rowBytes * mostFaces - length (flatMap row fs)) 0)
-    (replicate (length fs) true) [] (length-replicate (length fs) true)
+    (replicate (length fs) true) [] (length-replicate (length fs) true) 0 []
     ∙ all-taken fs
-
-pub one-list-one : (v : ℕ) → OneList editionOne v
-one-list-one = one-list editionOne

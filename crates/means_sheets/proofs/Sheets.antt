@@ -11,10 +11,11 @@ use lib.ListN.{length}
 use Rattle.paper.specs.Refusals.{firstOf}
 use Rattle.paper.specs.Format.{editionOne, editionOf, editionFor, lentEdition, verticesIn, edgesIn, coordinatesIn, endsIn, encode}
 use Rattle.paper.specs.Sheet.{lentChecks, sheetChecks, sheetOf, readSheet}
+use Rattle.paper.specs.declared.Drawing.{Drawing}
 use Rattle.paper.specs.declared.Format.{Format}
 use Rattle.paper.specs.declared.Answer.the-variants.{Fine}
 use Rattle.paper_laws.proofs.Editions.{holds-of, holds-for, limited-of, fits-for, said-by, says}
-use Rattle.sheet_laws.proofs.Accepted.{accepted-shape, returns}
+use Rattle.sheet_laws.proofs.Accepted.{accepted-shape, length-coordinates, length-ends, returns}
 use Rattle.sheet_laws.proofs.Lent.{lent}
 use Rattle.means_sheets.specs.Sound.{Sound}
 use Rattle.means_sheets.specs.Sheets.{whole, SheetReadsBack, Accepted, SheetWritesBack, OneSheet}
@@ -52,7 +53,7 @@ sheet-reads-back xyz ends = record {
 -- ---- an accepted sheet
 
 module _ (s : List ℕ) (a : Accepted s) where
-  f : Format
+  abbrev f : Format
   f = editionOf s
 
   checked : Fine ≡ firstOf (sheetChecks f s)
@@ -61,8 +62,7 @@ module _ (s : List ℕ) (a : Accepted s) where
 
   -- as many as its counts say
   counts : lentEdition (coordinatesIn f s) (endsIn f s) ≡ editionFor (verticesIn f s) (edgesIn f s)
-  counts =
-      ap₂ editionFor (omega (arith, length-coordinates f s)) (omega (arith, length-ends f s))
+  counts = ap₂ editionFor (omega (arith, length-coordinates f s)) (omega (arith, length-ends f s))
 
   pub sheet-writes-back : SheetWritesBack s
   sheet-writes-back =
@@ -80,5 +80,10 @@ module _ (s : List ℕ) (a : Accepted s) where
 
 pub one-sheet : OneSheet
 one-sheet s t hs ht e =
-    let same : editionOf s ≡ editionOf t = ? in
-    ?
+    let w = sheet-writes-back s hs in
+    let x = sheet-writes-back t ht in
+    let drawings = sym (w .returned) ∙ e ∙ x .returned in
+    let same : editionOf s ≡ editionOf t = sym (said-by s)
+    ∙ ap₂ editionFor (ap (λ (d : Drawing). d .vertices) drawings) (ap (λ (d : Drawing). d .edges) drawings) ∙ said-by t in
+    let l = same-lists (editionOf s) (editionOf t) s t (checked s hs) (checked t ht) e in
+    sym (w .sheet) ∙ (λ i. encode (same i) (l .0 i) (l .1 i)) ∙ x .sheet

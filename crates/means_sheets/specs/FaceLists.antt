@@ -2,13 +2,13 @@
 -- "face count (6 bits, 4 to 42), then per face the corner count (4 bits, 3 to 12) and corners (5 bits each)"
 use mathlib.Core.Path.{_≡_}
 use mathlib.Core.Bool.{true}
-use mathlib.Core.List.{List, _++_, flatMap}
-use Prim.Native.Nat.{ℕ, _*_, _-_, _^_, _≤_, _<_}
-use lib.ListN.{length, getD, take, drop}
+use mathlib.Core.List.{List, [], _++_, flatMap}
+use Prim.Native.Nat.{ℕ, _*_, _^_, _≤_, _<_}
+use lib.ListN.{length, getD, take, drop, replicate}
 use Rattle.pack.specs.Bits.{Under}
 use Rattle.pack.specs.Fill.{padded}
-use Rattle.paper.specs.Numbers.{mostVertices, leastFaces, mostFaces, leastCorners, mostCorners, rowBytes}
-use Rattle.paper.specs.Format.{editionOne}
+use Rattle.paper.specs.Record.{entry}
+use Rattle.paper.specs.Numbers.{leastFaces, mostFaces, leastCorners, mostCorners, rowBytes}
 use Rattle.paper.specs.Loops.{Loop, loopAt, row}
 use Rattle.paper.specs.FaceList.{encodeFaces, facesIn, wellShaped, facesOf, solidFaces, sentOf, sentRoom}
 use Rattle.paper.specs.declared.Format.{Format}
@@ -38,10 +38,6 @@ module _ (f : Format) (v : ℕ) (fs : List Loop) where
     -- the bytes that the writer reports are in its room, and read back
     pub room : (room : List ℕ) (n : ℕ) → sentOf f fs room ≡ Bytes n → facesOf f v (take n (sentRoom f fs room)) ≡ returned fs
 
--- of edition 1, for a drawing of any number of vertices that it may have
-abbrev pub ReadBackOne : Type 0
-ReadBackOne = (v : ℕ) → v ≤ mostVertices → (fs : List Loop) → Sendable editionOne v fs → FacesReadBack editionOne v fs
-
 -- what the writer takes are such faces
 abbrev pub SentIsSendable : Format → Type 0
 SentIsSendable f = (fs : List Loop) (room : List ℕ) (n : ℕ) → sentOf f fs room ≡ Bytes n → Sendable f (f .«most_vertices») fs
@@ -61,9 +57,9 @@ module _ (f : Format) (v : ℕ) (s : List ℕ) where
     pub room : v ≤ f .«most_vertices» → (room : List ℕ) → length s ≤ length room
         → (sentOf f (facesIn f s) room ≡ Bytes (length s)) × (sentRoom f (facesIn f s) room ≡ s ++ drop (length s) room)
 
-  -- the writer takes its faces from rows and two words: from the rows that reading returned, each taken and none turned
+  -- the writer takes its faces from rows and a record: from the rows that reading returned, each taken and none turned
   abbrev pub RowsGiveFaces : Type 0
-  RowsGiveFaces = solidFaces (facesOf f v s .rows) (2 ^ facesOf f v s .count - 1) 0 ≡ facesIn f s
+  RowsGiveFaces = solidFaces (facesOf f v s .rows) (entry (replicate (facesOf f v s .count) true) [] 0) ≡ facesIn f s
 
 -- ---- so no two face lists hold the same faces
 

@@ -108,10 +108,10 @@ module _ (f : Format) (held : Limited f) (s : List ℕ) (h : Fine ≡ firstOf (s
       (good-count 3 leastVertices mostVertices (length (coordinatesIn f s)) (verticesIn f s) w3 (v-is f s g) (k .v-least)
       (le-trans (k .v-most) (held .v-held)))
 
-pub same-lists : (f : Format) (s t : List ℕ) → Fine ≡ firstOf (sheetChecks f s) → Fine ≡ firstOf (sheetChecks f t)
-    → sheetOf f s .drawing ≡ sheetOf f t .drawing
-    → (coordinatesIn f s ≡ coordinatesIn f t) × (endsIn f s ≡ endsIn f t)
-same-lists f s t hs ht e = (
-  coordinates-are f s hs ∙ ap (λ (d : Drawing). take (3 * d .vertices) (d .xyz)) e ∙ sym (coordinates-are f t ht),
-  ends-are f s hs ∙ ap (λ (d : Drawing). take (2 * d .edges) (d .ends)) e ∙ sym (ends-are f t ht),
+pub same-lists : (f g : Format) (s t : List ℕ) → Fine ≡ firstOf (sheetChecks f s) → Fine ≡ firstOf (sheetChecks g t)
+    → sheetOf f s .drawing ≡ sheetOf g t .drawing
+    → (coordinatesIn f s ≡ coordinatesIn g t) × (endsIn f s ≡ endsIn g t)
+same-lists f g s t hs ht e = (
+  coordinates-are f s hs ∙ ap (λ (d : Drawing). take (3 * d .vertices) (d .xyz)) e ∙ sym (coordinates-are g t ht),
+  ends-are f s hs ∙ ap (λ (d : Drawing). take (2 * d .edges) (d .ends)) e ∙ sym (ends-are g t ht),
 )
