@@ -13,7 +13,7 @@ use lib.Seq.{take-all, take-at}
 use Rattle.rooms.specs.Rooms.{copied}
 use Rattle.lists.proofs.Places.{made-length}
 use Rattle.paper.specs.Numbers.{faceRoom, solidRoom}
-use Rattle.paper.specs.Format.{editionOne}
+use Rattle.paper.specs.Format.{editionOne, lentEdition}
 use Rattle.paper.specs.Sheet.{roomOf}
 use Rattle.paper.specs.FaceList.{sentRoom}
 use Rattle.paper.specs.Conversion.{convertSheet}
@@ -64,7 +64,7 @@ room-is : {s : Paper.Said} {after room said : List ℕ} {r : ℕ} → WritesAs s
 room-is h = λ i. wordsBytes (sym (h .tells .words-are) i) ++ sym (h .room-is) i
 
 pub written-is : (xyz : List ℤ) (ends : List ℕ) {r : ℕ} {room said : List ℕ}
-    → WritesAs (writtenSaid editionOne xyz ends (zeros 215)) (roomOf editionOne xyz ends (zeros 215)) r room (zeros mostSaid) said
+    → WritesAs (writtenSaid editionOne xyz ends (zeros 215)) (roomOf (lentEdition xyz ends) xyz ends (zeros 215)) r room (zeros mostSaid) said
     → writtenReply xyz ends ≡ wordsBytes said ++ room
 unfolding writtenReply
 written-is xyz ends h = room-is h

@@ -8,7 +8,7 @@ use lib.IntN.{ℤ, pos}
 use lib.Ieee.{Float, binary64, toBits}
 use lib.ListN.{length, replicate}
 use Rattle.paper.specs.Numbers.{faceRoom, solidRoom}
-use Rattle.paper.specs.Format.{editionOne}
+use Rattle.paper.specs.Format.{editionOne, lentEdition}
 use Rattle.paper.specs.Sheet.{roomOf}
 use Rattle.paper.specs.FaceList.{solidFaces, sentRoom}
 use Rattle.paper.specs.Conversion.{Converted, convertSheet}
@@ -74,7 +74,7 @@ checkedReply sheet list = saidBytes (verdictSays (verdictSheet sheet list))
 unfoldable pub writtenReply : List ℤ → List ℕ → List ℕ
 writtenReply xyz ends =
     let room = zeros 215 in
-    saidBytes (writtenSaid editionOne xyz ends room) ++ roomOf editionOne xyz ends room
+    saidBytes (writtenSaid editionOne xyz ends room) ++ roomOf (lentEdition xyz ends) xyz ends room
 
 -- 5: a solid as a face list
 unfoldable pub sentReply : List ℕ → ℕ → ℕ → List ℕ

@@ -16,7 +16,6 @@ use paper::FILL;
 use paper::MOST_WORK;
 use paper::NO_ROOM;
 use paper::SOLID_ROOM;
-use paper_values::edition_one;
 use paper_values::refused;
 use report::concluded;
 use sheet_reader::read_sheet;
@@ -78,7 +77,7 @@ pub fn convert(
         Answer::Refused(r) => return Conversion::Refused(r),
         Answer::Fine => {}
     }
-    let form = lent(edition_one(), xyz, ends);
+    let form = lent(xyz, ends);
     match form {
         Answer::Refused(r) => return Conversion::Refused(r),
         Answer::Fine => {}

@@ -7,10 +7,10 @@ use native.Mathlib.Omega.{arith}
 use lib.IntN.{ℤ}
 use lib.ListN.{length, drop}
 use Rattle.pack.specs.Bits.{Under}
-use Rattle.paper.specs.Format.{editionOne, encode}
+use Rattle.paper.specs.Format.{editionOne, encode, lentEdition}
 use Rattle.paper.specs.Loops.{Loop}
 use Rattle.paper.specs.FaceList.{countIn, facesIn, wellShaped, noFaces, encodeFaces, facesOf, sentOf, sentRoom}
-use Rattle.paper.specs.Sheet.{sheetOf, writtenOf, roomOf}
+use Rattle.paper.specs.Sheet.{writtenOf, roomOf, readSheet}
 use Rattle.paper.specs.Conversion.{Converted}
 use Rattle.paper.specs.Reading.{readingOf}
 use Rattle.paper.specs.declared.Answer.the-variants as Answer
@@ -73,7 +73,7 @@ pub checks : (x : Input) (list : List ℕ) {r : Verdict} → r ≡ checked x lis
 checks x list e =
     subst (Checks x list) (sym e) (record { first = demand1 .checks x list; exactly = λ ok. demand3 x ok .exactly list })
 
-pub reads : (s : List ℕ) → Under 256 s → {r : Sheet} → r ≡ sheetOf editionOne s → ReadsSheet s r
+pub reads : (s : List ℕ) → Under 256 s → {r : Sheet} → r ≡ readSheet s → ReadsSheet s r
 reads s bytes e =
     subst (ReadsSheet s) (sym e)
     (record {
@@ -94,16 +94,16 @@ module _ (xyz : List ℤ) (ends room₀ : List ℕ) where
   written w = byWriter xyz ends room₀ (ofWritten w)
 
   -- the last line of the table, 1, doesn't offend
-  written-back : (n : ℕ) → writtenOf editionOne xyz ends room₀ ≡ Written.Bytes n
-      → (s : List ℕ) × Stands s room₀ n (roomOf editionOne xyz ends room₀) × Sheets.Reads s xyz ends
+  written-back : (n : ℕ) → writtenOf (lentEdition xyz ends) xyz ends room₀ ≡ Written.Bytes n
+      → (s : List ℕ) × Stands s room₀ n (roomOf (lentEdition xyz ends) xyz ends room₀) × Sheets.Reads s xyz ends
   written-back n e =
-      let s = encode editionOne xyz ends in
+      let s = encode (lentEdition xyz ends) xyz ends in
       let roomy = subst written e (demand1 .writes xyz ends room₀) .1 .1 .1 .1 .0 0 (omega arith) in
       let h = SheetRoom.written-lent editionOne xyz ends room₀ n e in
       let w = SheetRoom.writes editionOne xyz ends s room₀ h refl (omega (arith, roomy, SheetRoom.length-sheet editionOne xyz ends)) in
       (s, stands e (w .0) (w .1), reads-back-one xyz ends .sheet h)
 
-  pub writes : {r : Written} {room : List ℕ} → r ≡ writtenOf editionOne xyz ends room₀ → room ≡ roomOf editionOne xyz ends room₀
+  pub writes : {r : Written} {room : List ℕ} → r ≡ writtenOf (lentEdition xyz ends) xyz ends room₀ → room ≡ roomOf (lentEdition xyz ends) xyz ends room₀
       → WritesSheet xyz ends room₀ r room
   writes {r} {room} e p = record {
     first = subst written (sym e) (demand1 .writes xyz ends room₀);

@@ -6,7 +6,7 @@ use Prim.Native.Nat.{ℕ, _/_, _≤_, _<_}
 use lib.Ieee.{Float}
 use lib.IntN.{ℤ}
 use lib.ListN.{length, drop}
-use Rattle.paper.specs.Format.{editionOne, total, bytesFor}
+use Rattle.paper.specs.Format.{editionOne, total, bytesFor, lentEdition}
 use Rattle.paper.specs.Loops.{Loop}
 use Rattle.paper.specs.FaceList.{facesIn, bitsOf, encodeFaces, noFaces}
 use Rattle.paper.specs.Sheet.{blank, held}
@@ -92,7 +92,7 @@ pub record ReadsSheet (s : List ℕ) (r : Sheet) : Type 0 where
 -- the lines of the table for what is written: "the sheet writer 5, 8, 9, 10, then 1"; of a face list 20, then 1
 abbrev pub byWriter : List ℤ → List ℕ → List ℕ → Answer → Type 0
 byWriter xyz ends room =
-    forms (lent xyz ends) (one 1 (length room < bytesFor (total editionOne (length xyz / 3) (length ends / 2))) end)
+    forms (lent xyz ends) (one 1 (length room < bytesFor (total (lentEdition xyz ends) (length xyz / 3) (length ends / 2))) end)
 
 abbrev pub bySender : List Loop → List ℕ → Answer → Type 0
 bySender fs room = one 20 (NoList fs) (one 1 (length room < bytesFor (bitsOf editionOne fs)) end)

@@ -12,8 +12,8 @@ use lib.ListN.{length, take, drop, length-append}
 use Rattle.pack.specs.Bits.{Under}
 use Rattle.paper.specs.Refusals as No
 use Rattle.paper.specs.Refusals.{Check, check, offends, firstOf}
-use Rattle.paper.specs.Format.{editionOne, total, bytesFor, coordinatesIn, endsIn}
-use Rattle.paper.specs.Sheet.{sheetChecks, sheetOf, writtenOf, roomOf}
+use Rattle.paper.specs.Format.{editionOne, total, bytesFor, coordinatesIn, endsIn, editionOf, lentEdition}
+use Rattle.paper.specs.Sheet.{sheetChecks, sheetOf, writtenOf, roomOf, readSheet}
 use Rattle.paper.specs.declared.Answer.{Answer}
 use Rattle.paper.specs.declared.Answer.the-variants as Answer
 use Rattle.paper.specs.declared.Drawing.{Drawing}
@@ -44,14 +44,14 @@ stands-fit {s} {room₀} {room} {n} h =
 
 -- ---- written, and then read
 
-module _ (xyz : List ℤ) (ns room₀ : List ℕ) {room : List ℕ} (left : room ≡ roomOf editionOne xyz ns room₀) where
-  pub written-fits : {n : ℕ} → Written.Bytes n ≡ writtenOf editionOne xyz ns room₀ → n ≤ length room
+module _ (xyz : List ℤ) (ns room₀ : List ℕ) {room : List ℕ} (left : room ≡ roomOf (lentEdition xyz ns) xyz ns room₀) where
+  pub written-fits : {n : ℕ} → Written.Bytes n ≡ writtenOf (lentEdition xyz ns) xyz ns room₀ → n ≤ length room
   written-fits {n} e = let b = Demanding.writes xyz ns room₀ e left .back n refl in stands-fit (b .1)
 
-  pub read-back : {n : ℕ} {r : Sheet} → Written.Bytes n ≡ writtenOf editionOne xyz ns room₀ → r ≡ sheetOf editionOne (take n room)
+  pub read-back : {n : ℕ} {r : Sheet} → Written.Bytes n ≡ writtenOf (lentEdition xyz ns) xyz ns room₀ → r ≡ readSheet (take n room)
       → ReadsBack xyz ns room₀ r room
   read-back {n} {r} e is =
-      let whole = is ∙ ap (λ (l : List ℕ). sheetOf editionOne (take n l)) left ∙ reads-back-one xyz ns .room room₀ n (sym e) in
+      let whole = is ∙ ap (λ (l : List ℕ). readSheet (take n l)) left ∙ reads-back-one xyz ns .room room₀ n (sym e) in
       let fine : r .answer ≡ Answer.Fine = ap (λ (q : Sheet). q .answer) whole in
       record {
         first = subst (byWriter xyz ns room₀) (sym fine) (Demanding.writes xyz ns room₀ e left .first);
@@ -62,7 +62,7 @@ module _ (xyz : List ℤ) (ns room₀ : List ℕ) {room : List ℕ} (left : room
       clash : {f : Refusal} → Answer.Fine ≡ Answer.Refused f → _≡_ {A = ℕ} 0 1
       clash q = cc
 
-  pub not-written : {f : Refusal} {d : Drawing} → Written.Refused f ≡ writtenOf editionOne xyz ns room₀
+  pub not-written : {f : Refusal} {d : Drawing} → Written.Refused f ≡ writtenOf (lentEdition xyz ns) xyz ns room₀
       → ReadsBack xyz ns room₀ (record { answer = Answer.Refused f; drawing = d }) room
   not-written {f} e =
       let w = Demanding.writes xyz ns room₀ e left in
@@ -79,7 +79,7 @@ module _ (s room₀ : List ℕ) where
   room-check = check No.NoRoom (offends (ltb (length room₀) (length s)) 0) ∷ []
 
   abbrev checks : List Check
-  checks = sheetChecks editionOne s ++ room-check
+  checks = sheetChecks (editionOf s) s ++ room-check
 
   abbrev by-reader : Answer → Type 0
   by-reader = forms (sheet s) (one 1 (length room₀ < length s) end)
@@ -87,38 +87,38 @@ module _ (s room₀ : List ℕ) where
   first : by-reader (firstOf checks)
   first =
       ends (λ below. forms (sheet s) (one 1 (length room₀ < length s) below)) checks
-      (behind (forms (sheet s)) (one 1 (length room₀ < length s)) (sheetChecks editionOne s) room-check (form-says (sheet s)) (λ e.
+      (behind (forms (sheet s)) (one 1 (length room₀ < length s)) (sheetChecks (editionOf s) s) room-check (form-says (sheet s)) (λ e.
       also-one 1 (length room₀ < length s) (ltb (length room₀) (length s)) (is-lt (length room₀) (length s)) (λ below. below) []
       (λ e. done)))
 
-  pub not-read : {f : Refusal} → Answer.Refused f ≡ firstOf (sheetChecks editionOne s) → WritesBack s room₀ (Written.Refused f) room₀
+  pub not-read : {f : Refusal} → Answer.Refused f ≡ firstOf (sheetChecks (editionOf s) s) → WritesBack s room₀ (Written.Refused f) room₀
   not-read {f} e = record {
-    first = subst by-reader (sym (first-stops (sheetChecks editionOne s) room-check e)) first;
+    first = subst by-reader (sym (first-stops (sheetChecks (editionOf s) s) room-check e)) first;
     kept = λ g q. refl;
     same = λ n q. let z : _≡_ {A = ℕ} 0 1 = cc in absurd (omega (arith, z));
   }
 
-  module _ (bytes : Under 256 s) (ok : Answer.Fine ≡ firstOf (sheetChecks editionOne s)) where
+  module _ (bytes : Under 256 s) (ok : Answer.Fine ≡ firstOf (sheetChecks (editionOf s) s)) where
     abbrev points : List ℤ
-    points = coordinatesIn editionOne s
+    points = coordinatesIn (editionOf s) s
 
     abbrev links : List ℕ
-    links = endsIn editionOne s
+    links = endsIn (editionOf s) s
 
     back : SheetWritesBack editionOne s
     unfolding sheetOf
     back = writes-back-one s (bytes, ok)
 
-    size : bytesFor (total editionOne (length points / 3) (length links / 2)) ≡ length s
+    size : bytesFor (total (lentEdition points links) (length points / 3) (length links / 2)) ≡ length s
     size = sym (length-sheet editionOne points links) ∙ ap length (back .sheet)
 
     -- what the line for 1 says
     last : (b : Bool) → ltb (length room₀) (length s) ≡ b → firstOf (check No.NoRoom (offends b 0) ∷ []) ≡ firstOf checks
     last b e =
-        ap (λ (b : Bool). firstOf (check No.NoRoom (offends b 0) ∷ [])) (sym e) ∙ first-passes (sheetChecks editionOne s) room-check ok
+        ap (λ (b : Bool). firstOf (check No.NoRoom (offends b 0) ∷ [])) (sym e) ∙ first-passes (sheetChecks (editionOf s) s) room-check ok
 
-    module _ {r : Written} {room : List ℕ} (written : r ≡ writtenOf editionOne points links room₀)
-        (left : room ≡ roomOf editionOne points links room₀) where
+    module _ {r : Written} {room : List ℕ} (written : r ≡ writtenOf (lentEdition points links) points links room₀)
+        (left : room ≡ roomOf (lentEdition points links) points links room₀) where
       short : length room₀ < length s → WritesBack s room₀ r room
       unfolding firstOf
       short h =
@@ -149,10 +149,10 @@ module _ (s room₀ : List ℕ) where
           go (no h) = long (omega (arith, h))
 
   -- the drawing that was read has the sheet's lists
-  pub written-back : Under 256 s → Answer.Fine ≡ firstOf (sheetChecks editionOne s) → {q : Sheet} {r : Written} {room : List ℕ}
-      → q ≡ sheetOf editionOne s → WrittenFrom (q .drawing) room₀ r room → WritesBack s room₀ r room
+  pub written-back : Under 256 s → Answer.Fine ≡ firstOf (sheetChecks (editionOf s) s) → {q : Sheet} {r : Written} {room : List ℕ}
+      → q ≡ readSheet s → WrittenFrom (q .drawing) room₀ r room → WritesBack s room₀ r room
   written-back bytes ok {q} e w =
       let points-are = ap (λ (q : Sheet). coordinatesOf (q .drawing)) e ∙ sym (coordinates-are editionOne s ok) in
       let links-are = ap (λ (q : Sheet). linksOf (q .drawing)) e ∙ sym (ends-are editionOne s ok) in
-      again bytes ok (w .0 ∙ (λ i. writtenOf editionOne (points-are i) (links-are i) room₀))
-      (w .1 ∙ (λ i. roomOf editionOne (points-are i) (links-are i) room₀))
+      again bytes ok (w .0 ∙ (λ i. writtenOf (lentEdition (points-are i) (links-are i)) (points-are i) (links-are i) room₀))
+      (w .1 ∙ (λ i. roomOf (lentEdition (points-are i) (links-are i)) (points-are i) (links-are i) room₀))

@@ -6,7 +6,7 @@ use mathlib.Core.Path.{_≡_}
 use Prim.Native.Nat.{ℕ, _*_, _/_, _≤_, _<_}
 use lib.IntN.{ℤ}
 use lib.ListN.{length, drop}
-use Rattle.paper.specs.Format.{editionOne, bytesFor}
+use Rattle.paper.specs.Format.{editionOne, bytesFor, lentEdition}
 use Rattle.paper.specs.Loops.{Loop}
 use Rattle.paper.specs.FaceList.{facesIn, bitsOf, encodeFaces}
 use Rattle.paper.specs.Sheet.{held, writtenOf, roomOf}
@@ -40,7 +40,7 @@ pub record ReadsBack (xyz : List ℤ) (ends room₀ : List ℕ) (r : Sheet) (roo
 -- a drawing by value, written out
 abbrev pub WrittenFrom : Drawing → List ℕ → Written → List ℕ → Type 0
 WrittenFrom d room₀ r room =
-    (r ≡ writtenOf editionOne (coordinatesOf d) (linksOf d) room₀) × (room ≡ roomOf editionOne (coordinatesOf d) (linksOf d) room₀)
+    (r ≡ writtenOf (lentEdition (coordinatesOf d) (linksOf d)) (coordinatesOf d) (linksOf d) room₀) × (room ≡ roomOf (lentEdition (coordinatesOf d) (linksOf d)) (coordinatesOf d) (linksOf d) room₀)
 
 -- demand 2, "a sheet that is accepted is written back with the same bytes": or it is refused as the reader refuses it, or by 1
 pub record WritesBack (s room₀ : List ℕ) (r : Written) (room : List ℕ) : Type 0 where

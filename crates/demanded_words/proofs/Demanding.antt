@@ -8,7 +8,7 @@ use lib.Ieee.{Float}
 use lib.IntN.{ℤ}
 use lib.ListN.{length}
 use lib.Seq.{take-nil}
-use Rattle.paper.specs.Format.{editionOne}
+use Rattle.paper.specs.Format.{editionOne, lentEdition}
 use Rattle.paper.specs.Loops.{Loop}
 use Rattle.paper.specs.FaceList.{sentOf, sentRoom}
 use Rattle.paper.specs.Sheet.{writtenOf, roomOf}
@@ -160,12 +160,12 @@ module _ (w : Written) (positive : (f : Refusal) → w ≡ Written.Refused f →
       go (Written.Refused f) e q not-zero = kept f e
 
 pub writes : (xyz : List ℤ) (ends room₀ : List ℕ) {r : ℕ} {room words₀ words : List ℕ}
-    → WritesAs (writtenSaid editionOne xyz ends room₀) (roomOf editionOne xyz ends room₀) r room words₀ words
+    → WritesAs (writtenSaid editionOne xyz ends room₀) (roomOf (lentEdition xyz ends) xyz ends room₀) r room words₀ words
     → WritesInWords (λ w. WritesSheet xyz ends room₀ w room) room₀ r room words₀ words
 writes xyz ends room₀ h =
     let d = Demanding.writes xyz ends room₀ refl (h .room-is) in
     let said = sheet-written-said editionOne xyz ends room₀ in
-    written (writtenOf editionOne xyz ends room₀) (numbered .writes xyz ends room₀) d (d .kept) said (h .tells)
+    written (writtenOf (lentEdition xyz ends) xyz ends room₀) (numbered .writes xyz ends room₀) d (d .kept) said (h .tells)
 
 pub sends : (fs : List Loop) (room₀ : List ℕ) {r : ℕ} {room words₀ words : List ℕ}
     → WritesAs (sentSaid editionOne fs room₀) (sentRoom editionOne fs room₀) r room words₀ words

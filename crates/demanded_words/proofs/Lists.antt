@@ -8,7 +8,7 @@ use lib.Dec.{ltb}
 use lib.IntN.{ℤ}
 use lib.ListN.{length}
 use Rattle.pack.specs.Bits.{Under}
-use Rattle.paper.specs.Format.{editionOne, verticesIn, edgesIn, coordinatesIn, endsIn}
+use Rattle.paper.specs.Format.{verticesIn, edgesIn, coordinatesIn, endsIn, editionOf}
 use Rattle.paper.specs.Refusals.{Check, firstOf}
 use Rattle.paper.specs.Sheet.{sheetChecks, sheetOf}
 use Rattle.paper.specs.Reading.{Said}
@@ -31,13 +31,13 @@ use Rattle.demanded_words.proofs.Numbers.{of-number}
 
 module _ (s : List ℕ) (bytes : Under 256 s) (xyz₀ : List ℤ) (ends₀ : List ℕ) where
   abbrev points : List ℤ
-  points = coordinatesIn editionOne s
+  points = coordinatesIn (editionOf s) s
 
   abbrev links : List ℕ
-  links = endsIn editionOne s
+  links = endsIn (editionOf s) s
 
   abbrev checks : List Check
-  checks = sheetChecks editionOne s ++ roomChecks points links xyz₀ ends₀
+  checks = sheetChecks (editionOf s) s ++ roomChecks points links xyz₀ ends₀
 
   abbrev lines : (Answer → Type 0) → Answer → Type 0
   lines below = forms (sheet s) (line 1 2 (Two (length xyz₀ < length points) (length ends₀ < length links)) below)
@@ -46,7 +46,7 @@ module _ (s : List ℕ) (bytes : Under 256 s) (xyz₀ : List ℤ) (ends₀ : Lis
   unfolding roomChecks
   first =
       ends lines checks
-      (behind (forms (sheet s)) (line 1 2 (Two (length xyz₀ < length points) (length ends₀ < length links))) (sheetChecks editionOne s)
+      (behind (forms (sheet s)) (line 1 2 (Two (length xyz₀ < length points) (length ends₀ < length links))) (sheetChecks (editionOf s) s)
       (roomChecks points links xyz₀ ends₀) (form-says (sheet s)) (λ e.
       also-two 1 (length xyz₀ < length points) (length ends₀ < length links) (ltb (length xyz₀) (length points))
       (ltb (length ends₀) (length links)) (is-lt (length xyz₀) (length points)) (is-lt (length ends₀) (length links)) (λ below. below) []
@@ -63,11 +63,11 @@ module _ (s : List ℕ) (bytes : Under 256 s) (xyz₀ : List ℤ) (ends₀ : Lis
 
   again : Answer.Fine ≡ firstOf checks → Sheets.Writes points links s
   unfolding sheetOf
-  again e = writes-back-one s (bytes, first-both (sheetChecks editionOne s) (roomChecks points links xyz₀ ends₀) e .0) .room
+  again e = writes-back-one s (bytes, first-both (sheetChecks (editionOf s) s) (roomChecks points links xyz₀ ends₀) e .0) .room
 
   -- what is read, by the answer
   abbrev read : Answer → Read
-  read a = readFor a (verticesIn editionOne s) (edgesIn editionOne s) points links xyz₀ ends₀
+  read a = readFor a (verticesIn (editionOf s) s) (edgesIn (editionOf s) s) points links xyz₀ ends₀
 
   said : (a : Answer) → read a .said ≡ countsSaid s a
   said Answer.Fine = refl

@@ -3,7 +3,7 @@ use mathlib.Core.List.{List}
 use mathlib.Core.Path.{_≡_}
 use Prim.Native.Nat.{ℕ, _≤_, _<_}
 use lib.ListN.{length, replicate}
-use Rattle.paper.specs.Format.{editionOne, verticesIn, edgesIn}
+use Rattle.paper.specs.Format.{verticesIn, edgesIn, editionOf}
 use Rattle.paper.specs.Conversion.{Converted}
 use Rattle.paper.specs.Desk.{answerText}
 use Rattle.paper.specs.declared.Refusal.{Refusal}
@@ -15,7 +15,7 @@ use Rattle.demanded.specs.Demanded.{Converts, Stands}
 
 -- what a conversion of the sheet says, with the counts that stand in it
 abbrev pub textOf : List ℕ → Converted → List ℕ
-textOf s c = answerText (verticesIn editionOne s) (edgesIn editionOne s) (c .answer) (c .solids)
+textOf s c = answerText (verticesIn (editionOf s) s) (edgesIn (editionOf s) s) (c .answer) (c .solids)
 
 pub record Prints (s room₀ : List ℕ) (r : Written) (room : List ℕ) : Type 0 where
   -- "reads one sheet .. and converts it with limit 1,000,000": demands 1 and 2 hold of what is told

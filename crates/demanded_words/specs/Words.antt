@@ -8,7 +8,7 @@ use Prim.Native.Nat.{ℕ, _≤_, _<_}
 use lib.Ieee.{Float}
 use lib.IntN.{ℤ}
 use lib.ListN.{length, drop}
-use Rattle.paper.specs.Format.{editionOne, verticesIn, edgesIn, coordinatesIn, endsIn}
+use Rattle.paper.specs.Format.{editionOne, verticesIn, edgesIn, coordinatesIn, endsIn, editionOf}
 use Rattle.paper.specs.FaceList.{facesIn}
 use Rattle.paper.specs.Conversion.{Converted}
 use Rattle.paper.specs.Reading.{Said, fine, refused, conversionSays, verdictSays, writtenSays}
@@ -92,18 +92,18 @@ pub record WritesInWords (Demanded : Written → Type 0) (room₀ : List ℕ) (r
 -- demand 1, of a sheet read into two lists: 3 to 10, and then 1 where the list for coordinates is too short, or that for ends, "0; 1"
 pub record ReadsInto (s : List ℕ) (xyz₀ : List ℤ) (ends₀ : List ℕ) (a : Answer) (xyz : List ℤ) (ends : List ℕ) : Type 0 where
   pub first : forms (sheet s)
-      (line 1 2 (Two (length xyz₀ < length (coordinatesIn editionOne s)) (length ends₀ < length (endsIn editionOne s))) end)
+      (line 1 2 (Two (length xyz₀ < length (coordinatesIn (editionOf s) s)) (length ends₀ < length (endsIn (editionOf s) s))) end)
       a
   pub kept : (f : Refusal) → a ≡ Answer.Refused f → (xyz ≡ xyz₀) × (ends ≡ ends₀)
   pub lists : a ≡ Answer.Fine
-      → (xyz ≡ coordinatesIn editionOne s ++ drop (length (coordinatesIn editionOne s)) xyz₀)
-      × (ends ≡ endsIn editionOne s ++ drop (length (endsIn editionOne s)) ends₀)
+      → (xyz ≡ coordinatesIn (editionOf s) s ++ drop (length (coordinatesIn (editionOf s) s)) xyz₀)
+      × (ends ≡ endsIn (editionOf s) s ++ drop (length (endsIn (editionOf s) s)) ends₀)
   -- demand 2: written back, these lists are the same bytes
-  pub again : a ≡ Answer.Fine → Sheets.Writes (coordinatesIn editionOne s) (endsIn editionOne s) s
+  pub again : a ≡ Answer.Fine → Sheets.Writes (coordinatesIn (editionOf s) s) (endsIn (editionOf s) s) s
 
 -- the values are the counts of vertices and edges
 abbrev pub countsSaid : List ℕ → Answer → Said
-countsSaid s Answer.Fine = fine (verticesIn editionOne s ∷ edgesIn editionOne s ∷ [])
+countsSaid s Answer.Fine = fine (verticesIn (editionOf s) s ∷ edgesIn (editionOf s) s ∷ [])
 countsSaid s (Answer.Refused f) = refused f
 
 pub record ReadsInWords (s : List ℕ) (xyz₀ : List ℤ) (ends₀ : List ℕ) (r : ℕ) (xyz : List ℤ) (ends words₀ words : List ℕ) : Type 0 where

@@ -7,7 +7,7 @@ use native.Mathlib.Omega.{arith}
 use lib.IntN.{ℤ}
 use lib.ListN.{length}
 use Rattle.paper_laws.proofs.Answers.{answer-told, verdict-told, written-told, conversion-told, reading-told}
-use Rattle.paper.specs.Format.{editionOne, total, bytesFor, verticesIn, coordinatesIn, endsIn}
+use Rattle.paper.specs.Format.{editionOne, total, bytesFor, verticesIn, coordinatesIn, endsIn, editionOf, lentEdition}
 use Rattle.paper.specs.Drawing.{Wire}
 use Rattle.paper.specs.Loops.{Loop}
 use Rattle.paper.specs.FaceList.{facesIn, bitsOf}
@@ -53,7 +53,7 @@ module _ (most : ℕ) where
         (more 5 _ _ _ (omega (arith, h))
         (more 6 _ _ _ (omega (arith, h))
         (more 7 _ _ _ (omega (arith, h))
-        (of-lists h (verticesIn editionOne s) (coordinatesIn editionOne s) (endsIn editionOne s))))))
+        (of-lists h (verticesIn (editionOf s) s) (coordinatesIn (editionOf s) s) (endsIn (editionOf s) s))))))
 
     of-drawings : 16 ≤ most → (d : Wire) → Numbers (drawings d below)
     of-drawings h d =
@@ -84,7 +84,7 @@ pub numbered : NumbersNotZero
 numbered = record {
   reads = λ s r e. of-forms 16 end (none-left 16) (omega arith) (sheet s) .number r (subst (forms (sheet s) end) e (demand1 .reads s)) .0;
   writes = λ xyz ns room r e.
-      let below = one 1 (length room < bytesFor (total editionOne (length xyz / 3) (length ns / 2))) end in
+      let below = one 1 (length room < bytesFor (total (lentEdition xyz ns) (length xyz / 3) (length ns / 2))) end in
       of-forms 16 below (more 16 1 _ _ end (omega arith) (none-left 16)) (omega arith) (lent xyz ns) .number r
       (subst (λ (w : Written). forms (lent xyz ns) below (ofWritten w)) e (demand1 .writes xyz ns room)) .0;
   reads-faces = λ v list r e.

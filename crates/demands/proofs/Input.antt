@@ -6,7 +6,7 @@ use borrow.Author.Tests.{le-ltb}
 use lib.ListN.{length}
 use Rattle.paper.specs.Numbers.{documented}
 use Rattle.paper.specs.Refusals.{firstOf}
-use Rattle.paper.specs.Format.{editionOne, coordinatesIn, endsIn}
+use Rattle.paper.specs.Format.{editionOne, coordinatesIn, endsIn, editionOf}
 use Rattle.paper.specs.Drawing.{drawingChecks}
 use Rattle.paper.specs.Loops.{loops, candidates, loopChecks}
 use Rattle.paper.specs.Conversion.{entryChecks, conversion, convertLists, convertSheet}
@@ -66,7 +66,7 @@ unrefused x p limit room solids a =
 -- the ends of edges rise where 9 finds nothing
 pub rising : (x : Input) → Fine ≡ firstOf (form x) → Rising (drawing x)
 rising (lent xyz ends) e = lent-rising editionOne xyz ends e
-rising (sheet s) e = lent-rising editionOne (coordinatesIn editionOne s) (endsIn editionOne s) (accepted-lent editionOne s e)
+rising (sheet s) e = lent-rising editionOne (coordinatesIn (editionOf s) s) (endsIn (editionOf s) s) (accepted-lent editionOne s e)
 
 -- "4 to 32 vertices; 6 to 64 edges"
 pub small : (x : Input) → Fine ≡ firstOf (form x) → InCounts (drawing x)

@@ -5,8 +5,8 @@ use Prim.Native.Nat.{ℕ, _/_}
 use native.Mathlib.Omega.{arith}
 use lib.ListN.{length}
 use Rattle.pack.specs.Bits.{Under}
-use Rattle.paper.specs.Format.{editionOne, verticesIn, edgesIn, coordinatesIn, endsIn, encode}
-use Rattle.paper.specs.Sheet.{held, sheetOf}
+use Rattle.paper.specs.Format.{editionOne, verticesIn, edgesIn, coordinatesIn, endsIn, encode, editionOf, lentEdition}
+use Rattle.paper.specs.Sheet.{held, readSheet}
 use Rattle.paper.specs.declared.Answer.the-variants.{Fine}
 use Rattle.paper.specs.declared.Drawing.{Drawing}
 use Rattle.sheet_laws.proofs.Accepted.{length-coordinates, length-ends}
@@ -15,22 +15,22 @@ use Rattle.means_sheets.proofs.Sheets.Room.{writes}
 use Rattle.demands.specs.Sheets.{Reads, Sheets2}
 
 -- what an accepted sheet reads as
-module _ (s : List ℕ) (bytes : Under 256 s) (h : sheetOf editionOne s .answer ≡ Fine) where
-  whole : Reads s (coordinatesIn editionOne s) (endsIn editionOne s)
+module _ (s : List ℕ) (bytes : Under 256 s) (h : readSheet s .answer ≡ Fine) where
+  whole : Reads s (coordinatesIn (editionOf s) s) (endsIn (editionOf s) s)
   whole =
-      let v : length (coordinatesIn editionOne s) / 3 ≡ verticesIn editionOne s = omega (arith, length-coordinates editionOne s) in
-      let e : length (endsIn editionOne s) / 2 ≡ edgesIn editionOne s = omega (arith, length-ends editionOne s) in
+      let v : length (coordinatesIn (editionOf s) s) / 3 ≡ verticesIn (editionOf s) s = omega (arith, length-coordinates (editionOf s) s) in
+      let e : length (endsIn (editionOf s) s) / 2 ≡ edgesIn (editionOf s) s = omega (arith, length-ends (editionOf s) s) in
       ap₂ (λ a (d : Drawing). record { answer = a; drawing = d }) h
-      (writes-back-one s (bytes, sym h) .returned ∙ ap₂ (λ (v e : ℕ). held v e (coordinatesIn editionOne s) (endsIn editionOne s)) (sym v)
+      (writes-back-one s (bytes, sym h) .returned ∙ ap₂ (λ (v e : ℕ). held v e (coordinatesIn (editionOf s) s) (endsIn (editionOf s) s)) (sym v)
       (sym e))
 
 pub sheets2 : Sheets2
 sheets2 = record {
   back =
       λ xyz ends h. (
-        encode editionOne xyz ends,
-        λ room l. writes editionOne xyz ends (encode editionOne xyz ends) room h refl l,
+        encode (lentEdition xyz ends) xyz ends,
+        λ room l. writes editionOne xyz ends (encode (lentEdition xyz ends) xyz ends) room h refl l,
         reads-back-one xyz ends .sheet h,
       );
-  again = λ s u h. (coordinatesIn editionOne s, endsIn editionOne s, whole s u h, λ room l. writes-back-one s (u, sym h) .room room l);
+  again = λ s u h. (coordinatesIn (editionOf s) s, endsIn (editionOf s) s, whole s u h, λ room l. writes-back-one s (u, sym h) .room room l);
 }

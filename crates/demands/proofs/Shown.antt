@@ -16,7 +16,7 @@ use Rattle.sets.proofs.Digits.{never, dig-less}
 use Rattle.sets.proofs.Word.{length-digits}
 use Rattle.sets.proofs.Numbers.{digit-word, digit-bits}
 use Rattle.paper.specs.Numbers.{mostCandidates, mostWork, faceRoom, solidRoom, solidWords}
-use Rattle.paper.specs.Format.{editionOne, verticesIn, edgesIn, coordinatesIn}
+use Rattle.paper.specs.Format.{verticesIn, edgesIn, coordinatesIn, editionOf}
 use Rattle.paper.specs.Conversion.{Converted, convertSheet}
 use Rattle.paper.specs.Reading.{readingOf}
 use Rattle.paper.specs.Desk.{text, decimalIn, decimal, signed, facesText, solidText, solidsText, headText, answerText, deskText}
@@ -42,23 +42,23 @@ abbrev blank : ℕ → List ℕ
 blank n = replicate n 0
 
 module _ (by : Point → Point) (s t : List ℕ) (m : Made by (sheet s) (sheet t)) where
-  vertices-same : verticesIn editionOne t ≡ verticesIn editionOne s
+  vertices-same : verticesIn (editionOf t) t ≡ verticesIn (editionOf s) s
   vertices-same =
       omega (
         arith,
-        length-coordinates editionOne s,
-        length-coordinates editionOne t,
+        length-coordinates (editionOf s) s,
+        length-coordinates (editionOf t) t,
         ap length (m .points),
         long-each by
-            (coordinatesIn editionOne s),
+            (coordinatesIn (editionOf s) s),
       )
 
-  edges-same : edgesIn editionOne t ≡ edgesIn editionOne s
-  edges-same = omega (arith, length-ends editionOne s, length-ends editionOne t, ap length (m .edges))
+  edges-same : edgesIn (editionOf t) t ≡ edgesIn (editionOf s) s
+  edges-same = omega (arith, length-ends (editionOf s) s, length-ends (editionOf t) t, ap length (m .edges))
 
   -- so the text goes by what conversion says
   text-by : deskText t
-      ≡ answerText (verticesIn editionOne s) (edgesIn editionOne s)
+      ≡ answerText (verticesIn (editionOf s) s) (edgesIn (editionOf s) s)
       (convertSheet t mostWork (blank faceRoom) (blank solidRoom) .answer)
       (convertSheet t mostWork (blank faceRoom) (blank solidRoom) .solids)
   unfolding deskText
@@ -70,7 +70,7 @@ shift-desk : (w : Point) (s t : List ℕ) → Made (shift w) (sheet s) (sheet t)
 unfolding deskText
 shift-desk w s t m =
     text-by (shift w) s t m
-    ∙ ap (λ (c : Converted). answerText (verticesIn editionOne s) (edgesIn editionOne s) (c .answer) (c .solids))
+    ∙ ap (λ (c : Converted). answerText (verticesIn (editionOf s) s) (edgesIn (editionOf s) s) (c .answer) (c .solids))
     (shifts .both w (sheet s) (sheet t) m mostWork (blank faceRoom) (blank solidRoom))
 
 -- ---- m is the text l with the signs exchanged: part by part
@@ -204,8 +204,8 @@ zeros n j k = getD-drop j (blank n) k 0 ∙ go (decLt (j + k) n)
 mirror-desk : (s t : List ℕ) → Made mirror (sheet s) (sheet t) → deskText t ≡ map otherSign (deskText s)
 unfolding deskText solidsFor
 mirror-desk s t m =
-    let v = verticesIn editionOne s in
-    let e = edgesIn editionOne s in
+    let v = verticesIn (editionOf s) s in
+    let e = edgesIn (editionOf s) s in
     let room = blank solidRoom in
     let c = mirrors .both (sheet s) (sheet t) m mostWork (blank faceRoom) room in
     let a = convertSheet s mostWork (blank faceRoom) room .answer in

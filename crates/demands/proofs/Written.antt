@@ -9,12 +9,12 @@ use lib.Dec.{ltb}
 use lib.IntN.{ℤ}
 use lib.ListN.{length}
 use Rattle.lists.specs.Lists.{all}
-use Rattle.paper.specs.Format.{editionOne, outside, total, bytesFor, verticesIn, edgesIn}
+use Rattle.paper.specs.Format.{editionOne, outside, total, bytesFor, verticesIn, edgesIn, editionOf, lentEdition}
 use Rattle.paper.specs.Format.{coordinatesIn, endsIn}
 use Rattle.paper.specs.Refusals.{firstOf}
 use Rattle.paper.specs.FaceList.{countIn, bitsOf, faceFits, facesIn, facesOf, noFaces, wellShaped, sendChecks, sentFor, sentRoomFor, sentOf}
 use Rattle.paper.specs.FaceList.{sentRoom}
-use Rattle.paper.specs.Sheet.{sheetChecks, lentChecks, writerChecks, writtenFor, roomFor, blank, held, drawnFor, sheetOf}
+use Rattle.paper.specs.Sheet.{sheetChecks, lentChecks, writerChecks, writtenFor, roomFor, blank, held, drawnFor, sheetOf, readSheet}
 use Rattle.paper.specs.Sheet.{writtenOf, roomOf}
 use Rattle.paper.specs.Loops.{Loop}
 use Rattle.paper.specs.declared.Refusal.{Refusal}
@@ -33,16 +33,16 @@ use Rattle.demands.proofs.Lines.{form-says}
 
 -- ---- sheets
 
-pub read-says : (s : List ℕ) → forms (sheet s) end (sheetOf editionOne s .answer)
+pub read-says : (s : List ℕ) → forms (sheet s) end (readSheet s .answer)
 unfolding sheetOf
-read-says s = ends (forms (sheet s)) (sheetChecks editionOne s) (form-says (sheet s))
+read-says s = ends (forms (sheet s)) (sheetChecks (editionOf s) s) (form-says (sheet s))
 
-pub read-blank : (s : List ℕ) (r : Refusal) → sheetOf editionOne s .answer ≡ Answer.Refused r → sheetOf editionOne s .drawing ≡ blank
+pub read-blank : (s : List ℕ) (r : Refusal) → readSheet s .answer ≡ Answer.Refused r → readSheet s .drawing ≡ blank
 unfolding sheetOf
 read-blank s r e =
     ap
     (λ (a : Answer). drawnFor a
-    (held (verticesIn editionOne s) (edgesIn editionOne s) (coordinatesIn editionOne s) (endsIn editionOne s)))
+    (held (verticesIn (editionOf s) s) (edgesIn (editionOf s) s) (coordinatesIn (editionOf s) s) (endsIn (editionOf s) s)))
     e
 
 pub faces-say : (v : ℕ) (list : List ℕ) → one 20 (Shape v list → ⊥) end (facesOf editionOne v list .answer)
@@ -57,18 +57,18 @@ faces-say v list = go (wellShaped editionOne v list) (is-shape v list)
     go false i = inl (refl, (omega arith, is-off i refl, λ k h q. omega arith))
 
 module _ (xyz : List ℤ) (ns room : List ℕ) (r : Refusal) where
-  written-refused : (a : Answer) → writtenFor editionOne xyz ns a ≡ Written.Refused r → a ≡ Answer.Refused r
+  written-refused : (a : Answer) → writtenFor (lentEdition xyz ns) xyz ns a ≡ Written.Refused r → a ≡ Answer.Refused r
   written-refused Answer.Fine e = let z : _≡_ {A = ℕ} 0 1 = cc in absurd (omega arith)
   written-refused (Answer.Refused q) e = let z : q ≡ r = cc in ap Answer.Refused z
 
-  refuses : writtenOf editionOne xyz ns room ≡ Written.Refused r
-      → firstOf (writerChecks editionOne xyz ns (length room)) ≡ Answer.Refused r
+  refuses : writtenOf (lentEdition xyz ns) xyz ns room ≡ Written.Refused r
+      → firstOf (writerChecks (lentEdition xyz ns) xyz ns (length room)) ≡ Answer.Refused r
   unfolding writtenOf
-  refuses e = written-refused (firstOf (writerChecks editionOne xyz ns (length room))) e
+  refuses e = written-refused (firstOf (writerChecks (lentEdition xyz ns) xyz ns (length room))) e
 
-  pub write-keeps : writtenOf editionOne xyz ns room ≡ Written.Refused r → roomOf editionOne xyz ns room ≡ room
+  pub write-keeps : writtenOf (lentEdition xyz ns) xyz ns room ≡ Written.Refused r → roomOf (lentEdition xyz ns) xyz ns room ≡ room
   unfolding roomOf
-  write-keeps e = ap (λ (a : Answer). roomFor editionOne xyz ns a room) (refuses e)
+  write-keeps e = ap (λ (a : Answer). roomFor (lentEdition xyz ns) xyz ns a room) (refuses e)
 
 -- a face list written from a report
 module _ (fs : List Loop) (room : List ℕ) (r : Refusal) where
@@ -85,17 +85,17 @@ module _ (fs : List Loop) (room : List ℕ) (r : Refusal) where
   send-keeps e = ap (λ (a : Answer). sentRoomFor editionOne fs a room) (sending e)
 
 pub write-says : (xyz : List ℤ) (ns room : List ℕ)
-    → forms (lent xyz ns) (one 1 (length room < bytesFor (total editionOne (length xyz / 3) (length ns / 2))) end)
-    (ofWritten (writtenOf editionOne xyz ns room))
+    → forms (lent xyz ns) (one 1 (length room < bytesFor (total (lentEdition xyz ns) (length xyz / 3) (length ns / 2))) end)
+    (ofWritten (writtenOf (lentEdition xyz ns) xyz ns room))
 unfolding writtenOf writerChecks
 write-says xyz ns room =
-    let n = bytesFor (total editionOne (length xyz / 3) (length ns / 2)) in
-    subst (forms (lent xyz ns) (one 1 (length room < n) end)) (sym (of-written (firstOf (writerChecks editionOne xyz ns (length room)))))
-    (ends (λ below. forms (lent xyz ns) (one 1 (length room < n) below)) (writerChecks editionOne xyz ns (length room))
+    let n = bytesFor (total (lentEdition xyz ns) (length xyz / 3) (length ns / 2)) in
+    subst (forms (lent xyz ns) (one 1 (length room < n) end)) (sym (of-written (firstOf (writerChecks (lentEdition xyz ns) xyz ns (length room)))))
+    (ends (λ below. forms (lent xyz ns) (one 1 (length room < n) below)) (writerChecks (lentEdition xyz ns) xyz ns (length room))
     (behind (forms (lent xyz ns)) (one 1 (length room < n)) (lentChecks xyz ns) _ (form-says (lent xyz ns)) (λ e.
     also-one 1 (length room < n) (ltb (length room) n) (is-lt (length room) n) (λ below. below) [] (λ e. done))))
   where
-    of-written : (a : Answer) → ofWritten (writtenFor editionOne xyz ns a) ≡ a
+    of-written : (a : Answer) → ofWritten (writtenFor (lentEdition xyz ns) xyz ns a) ≡ a
     of-written Answer.Fine = refl
     of-written (Answer.Refused r) = refl
 

@@ -3,10 +3,10 @@ use mathlib.Core.Path.{_≡_}
 use mathlib.Core.List.{List}
 use Prim.Native.Nat.{ℕ, _≤_, _<_}
 use lib.IntN.{ℤ}
-use Rattle.paper.specs.Format.{editionOne}
+use Rattle.paper.specs.Format.{editionOne, lentEdition}
 use Rattle.paper.specs.Loops.{Loop}
 use Rattle.paper.specs.FaceList.{facesOf, sentOf}
-use Rattle.paper.specs.Sheet.{sheetOf, writtenOf}
+use Rattle.paper.specs.Sheet.{writtenOf, readSheet}
 use Rattle.paper.specs.Reading.{answerSays, writtenSays, conversionSays, verdictSays, readingSays, readingOf}
 use Rattle.paper.specs.declared.Refusal.{Refusal}
 use Rattle.paper.specs.declared.Answer.the-variants as Answer
@@ -20,8 +20,8 @@ use Rattle.demands.specs.Input.{Input, converted, checked}
 
 -- no refusal has the number 0, which says that nothing is refused
 pub record NumbersNotZero : Type 0 where
-  pub reads : (s : List ℕ) (r : Refusal) → sheetOf editionOne s .answer ≡ Answer.Refused r → 0 < r .number
-  pub writes : (xyz : List ℤ) (ends room : List ℕ) (r : Refusal) → writtenOf editionOne xyz ends room ≡ Written.Refused r → 0 < r .number
+  pub reads : (s : List ℕ) (r : Refusal) → readSheet s .answer ≡ Answer.Refused r → 0 < r .number
+  pub writes : (xyz : List ℤ) (ends room : List ℕ) (r : Refusal) → writtenOf (lentEdition xyz ends) xyz ends room ≡ Written.Refused r → 0 < r .number
   pub reads-faces : (v : ℕ) (list : List ℕ) (r : Refusal) → facesOf editionOne v list .answer ≡ Answer.Refused r → 0 < r .number
   pub sends : (fs : List Loop) (room : List ℕ) (r : Refusal) → sentOf editionOne fs room ≡ Written.Refused r → 0 < r .number
   pub converts : (x : Input) (limit : ℕ) (room solids : List ℕ) (r : Refusal)
@@ -33,8 +33,8 @@ pub record NumbersNotZero : Type 0 where
 
 -- "a definition gives this paper's number and values for each of its cases": two answers of which the same is said are the same
 pub record Told : Type 0 where
-  pub sheets : (s t : List ℕ) → answerSays (sheetOf editionOne s .answer) ≡ answerSays (sheetOf editionOne t .answer)
-      → sheetOf editionOne s .answer ≡ sheetOf editionOne t .answer
+  pub sheets : (s t : List ℕ) → answerSays (readSheet s .answer) ≡ answerSays (readSheet t .answer)
+      → readSheet s .answer ≡ readSheet t .answer
   pub faces : (v w : ℕ) (s t : List ℕ) → answerSays (facesOf editionOne v s .answer) ≡ answerSays (facesOf editionOne w t .answer)
       → facesOf editionOne v s .answer ≡ facesOf editionOne w t .answer
   pub verdicts : (x y : Input) (s t : List ℕ) → verdictSays (checked x s) ≡ verdictSays (checked y t) → checked x s ≡ checked y t

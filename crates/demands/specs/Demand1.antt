@@ -5,10 +5,10 @@ use Prim.Native.Nat.{ℕ, _/_, _≤_, _<_}
 use lib.IntN.{ℤ}
 use lib.Ieee.{Float}
 use lib.ListN.{length}
-use Rattle.paper.specs.Format.{editionOne, total, bytesFor}
+use Rattle.paper.specs.Format.{editionOne, total, bytesFor, lentEdition}
 use Rattle.paper.specs.Loops.{Loop}
 use Rattle.paper.specs.FaceList.{facesIn, facesOf, bitsOf, sentOf, sentRoom}
-use Rattle.paper.specs.Sheet.{blank, sheetOf, writtenOf, roomOf}
+use Rattle.paper.specs.Sheet.{blank, writtenOf, roomOf, readSheet}
 use Rattle.paper.specs.Reading.{conversionSays, volume, readingOf}
 use Rattle.paper.specs.declared.Refusal.{Refusal}
 use Rattle.paper.specs.declared.Answer.the-variants as Answer
@@ -41,19 +41,19 @@ pub record Demand1 : Type 0 where
       (drawings (drawing x)
       (one 20 (Shape (length (drawing x .vertices)) list → ⊥) (shells (drawing x) (candidatesOf x) (facesIn editionOne list) end)))
       (ofVerdict (checked x list))
-  pub reads : (s : List ℕ) → forms (sheet s) end (sheetOf editionOne s .answer)
+  pub reads : (s : List ℕ) → forms (sheet s) end (readSheet s .answer)
   pub reads-faces : (v : ℕ) (list : List ℕ) → one 20 (Shape v list → ⊥) end (facesOf editionOne v list .answer)
   pub writes : (xyz : List ℤ) (ends room : List ℕ)
-      → forms (lent xyz ends) (one 1 (length room < bytesFor (total editionOne (length xyz / 3) (length ends / 2))) end)
-      (ofWritten (writtenOf editionOne xyz ends room))
+      → forms (lent xyz ends) (one 1 (length room < bytesFor (total (lentEdition xyz ends) (length xyz / 3) (length ends / 2))) end)
+      (ofWritten (writtenOf (lentEdition xyz ends) xyz ends room))
   pub sends : (fs : List Loop) (room : List ℕ)
       → one 20 (NoList fs) (one 1 (length room < bytesFor (bitsOf editionOne fs)) end) (ofWritten (sentOf editionOne fs room))
   -- "leaves all lent buffers with the contents they came with": wherever there is no report, and no sheet or face list is written
   pub rooms-kept : (x : Input) (limit : ℕ) (room solids : List ℕ) → solidCount (converted x limit room solids .answer) ≡ 0
       → (converted x limit room solids .faces ≡ room) × (converted x limit room solids .solids ≡ solids)
-  pub blank-kept : (s : List ℕ) (r : Refusal) → sheetOf editionOne s .answer ≡ Answer.Refused r → sheetOf editionOne s .drawing ≡ blank
-  pub room-kept : (xyz : List ℤ) (ends room : List ℕ) (r : Refusal) → writtenOf editionOne xyz ends room ≡ Written.Refused r
-      → roomOf editionOne xyz ends room ≡ room
+  pub blank-kept : (s : List ℕ) (r : Refusal) → readSheet s .answer ≡ Answer.Refused r → readSheet s .drawing ≡ blank
+  pub room-kept : (xyz : List ℤ) (ends room : List ℕ) (r : Refusal) → writtenOf (lentEdition xyz ends) xyz ends room ≡ Written.Refused r
+      → roomOf (lentEdition xyz ends) xyz ends room ≡ room
   pub send-room-kept : (fs : List Loop) (room : List ℕ) (r : Refusal) → sentOf editionOne fs room ≡ Written.Refused r
       → sentRoom editionOne fs room ≡ room
   -- "A volume that wasn't assessed is never shown as a number": a volume is that of one solid; otherwise there is 30, or the answer's own

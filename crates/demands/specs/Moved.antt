@@ -8,7 +8,7 @@ use Prim.Native.Nat.{ℕ, _<_}
 use lib.IntN.{ℤ, pos}
 use lib.ListN.{length}
 use Rattle.paper.specs.Points.{times}
-use Rattle.paper.specs.Format.{editionOne, coordinatesIn, endsIn}
+use Rattle.paper.specs.Format.{editionOne, coordinatesIn, endsIn, editionOf}
 use Rattle.paper.specs.FaceList.{facesIn}
 use Rattle.paper.specs.Refusals.{firstOf}
 use Rattle.paper.specs.Conversion.{Converted}
@@ -23,11 +23,11 @@ use Rattle.demands.specs.Shells.{Shape}
 -- a drawing's two lists, lent or read off a sheet
 abbrev pub coordinates : Input → List ℤ
 coordinates (lent xyz ends) = xyz
-coordinates (sheet s) = coordinatesIn editionOne s
+coordinates (sheet s) = coordinatesIn (editionOf s) s
 
 abbrev pub links : Input → List ℕ
 links (lent xyz ends) = ends
-links (sheet s) = endsIn editionOne s
+links (sheet s) = endsIn (editionOf s) s
 
 -- x and y are drawings with the same edges, and each vertex of y is where `by` moves that of x; 3 to 10 say the same of both, as where both
 -- pass

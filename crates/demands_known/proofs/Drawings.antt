@@ -4,7 +4,7 @@ use mathlib.Core.List.{List, _∷_}
 use Prim.Native.Nat.{ℕ, _<_}
 use native.Mathlib.Omega.{arith}
 use Rattle.paper.specs.Numbers.{mostWork, faceRoom, solidRoom}
-use Rattle.paper.specs.Format.{editionOne, encode}
+use Rattle.paper.specs.Format.{encode, lentEdition}
 use Rattle.paper.specs.Questions.{Drawn, reply, faceBefore, solidBefore}
 use Rattle.paper.specs.Known.Drawings.{cube, octahedron, nested}
 use Rattle.paper.specs.Conversion.{Converted}
@@ -19,7 +19,7 @@ abbrev pub of : Drawn → Input
 of d = lent (d .xyz) (d .ends)
 
 abbrev pub bytes : Drawn → List ℕ
-bytes d = encode editionOne (d .xyz) (d .ends)
+bytes d = encode (lentEdition (d .xyz) (d .ends)) (d .xyz) (d .ends)
 
 abbrev pub on : Drawn → Input
 on d = sheet (bytes d)

@@ -9,7 +9,7 @@ use lib.ListN.{length, replicate}
 use Rattle.paper.specs.Numbers.{mostWork, mostSolids, faceRoom, solidRoom}
 use Rattle.paper.specs.Refusals as No
 use Rattle.paper.specs.Refusals.{firstOf, refuse}
-use Rattle.paper.specs.Format.{editionOne, verticesIn, edgesIn, coordinatesIn, endsIn}
+use Rattle.paper.specs.Format.{verticesIn, edgesIn, coordinatesIn, endsIn, editionOf}
 use Rattle.paper.specs.Sheet.{openChecks, shapeChecks, sheetChecks}
 use Rattle.paper.specs.Drawing.{Wire, wire}
 use Rattle.paper.specs.Conversion.{Converted, entryChecks, convertSheet}
@@ -45,7 +45,7 @@ module _ (s : List ℕ) where
   made = convertSheet s mostWork faces solids
 
   abbrev drawing : Wire
-  drawing = wire (coordinatesIn editionOne s) (endsIn editionOne s)
+  drawing = wire (coordinatesIn (editionOf s) s) (endsIn (editionOf s) s)
 
   several-few : (l c w n : ℕ) → made .answer ≡ Conversion.Several l c w n → n ≤ mostSolids
   several-few l c w n e =
@@ -57,14 +57,14 @@ module _ (s : List ℕ) where
   unfolding entryChecks firstOf
   entry-fine = refl
 
-  short-first : length s < 3 → refuse No.SheetShort 0 ≡ firstOf (sheetChecks editionOne s)
+  short-first : length s < 3 → refuse No.SheetShort 0 ≡ firstOf (sheetChecks (editionOf s) s)
   unfolding sheetChecks shapeChecks openChecks firstOf
   short-first h = rw (lt-ltb (length s) 3 h)
 
   short-refused : length s < 3 → made .answer ≡ Conversion.Refused (record { number = No.SheetShort; place = 0 })
   unfolding convertSheet
   short-refused h =
-      sym (ap (λ (c : Converted). c .answer) (stops-at-form (sheetChecks editionOne s) drawing mostWork faces solids entry-fine (short-first h)))
+      sym (ap (λ (c : Converted). c .answer) (stops-at-form (sheetChecks (editionOf s) s) drawing mostWork faces solids entry-fine (short-first h)))
 
   module _ (k : SheetCounts) (n : SheetCounted s k) where
     made-text : answerText (k .vertices) (k .edges) (made .answer) (made .solids) ≡ deskText s
@@ -73,13 +73,13 @@ module _ (s : List ℕ) where
       where
         go : Dec (length s < 3)
             → answerText (k .vertices) (k .edges) (made .answer) (made .solids)
-            ≡ answerText (verticesIn editionOne s) (edgesIn editionOne s) (made .answer) (made .solids)
+            ≡ answerText (verticesIn (editionOf s) s) (edgesIn (editionOf s) s) (made .answer) (made .solids)
         go (yes h) =
             let e = short-refused h in
             ap (λ (a : Conversion). answerText (k .vertices) (k .edges) a (made .solids)) e
-            ∙ any-counts (k .vertices) (k .edges) (verticesIn editionOne s) (edgesIn editionOne s)
+            ∙ any-counts (k .vertices) (k .edges) (verticesIn (editionOf s) s) (edgesIn (editionOf s) s)
             (record { number = No.SheetShort; place = 0 }) (made .solids)
-            ∙ sym (ap (λ (a : Conversion). answerText (verticesIn editionOne s) (edgesIn editionOne s) a (made .solids)) e)
+            ∙ sym (ap (λ (a : Conversion). answerText (verticesIn (editionOf s) s) (edgesIn (editionOf s) s) a (made .solids)) e)
         go (no h) =
             let m = n (omega (arith, h)) in
             λ i. answerText (m .0 i) (m .1 i) (made .answer) (made .solids)
@@ -101,7 +101,7 @@ module _ (s : List ℕ) where
   -- no text is longer than the room for any
   pub desk-short : length (deskText s) ≤ textRoomSize
   unfolding deskText
-  desk-short = answer-short (verticesIn editionOne s) (edgesIn editionOne s) (made .answer) (made .solids) several-few
+  desk-short = answer-short (verticesIn (editionOf s) s) (edgesIn (editionOf s) s) (made .answer) (made .solids) several-few
 
   -- so in that room it is always written
   pub enough : (room : List ℕ) → RoomForText room → Written.Bytes (length (deskText s)) ≡ writtenText (deskText s) room

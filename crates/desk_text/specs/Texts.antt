@@ -4,7 +4,7 @@ use mathlib.Core.Path.{_≡_}
 use Prim.Native.Nat.{ℕ, _*_, _≤_}
 use lib.ListN.{length}
 use Rattle.paper.specs.Numbers.{mostSolids, solidRoom, solidWords}
-use Rattle.paper.specs.Format.{editionOne, verticesIn, edgesIn}
+use Rattle.paper.specs.Format.{verticesIn, edgesIn, editionOf}
 use Rattle.paper.specs.Desk.{text, solidsText, answerText}
 use Rattle.paper.specs.declared.Conversion.{Conversion}
 use Rattle.paper.specs.declared.Conversion.the-variants as Conversion
@@ -35,7 +35,7 @@ refusedOf r = pairText (text "refused ") (r .number) (text " ") (r .place) ++ te
 
 -- the counts of a sheet that has them
 abbrev pub SheetCounted : List ℕ → SheetCounts → Type 0
-SheetCounted s r = 3 ≤ length s → (r .vertices ≡ verticesIn editionOne s) × (r .edges ≡ edgesIn editionOne s)
+SheetCounted s r = 3 ≤ length s → (r .vertices ≡ verticesIn (editionOf s) s) × (r .edges ≡ edgesIn (editionOf s) s)
 
 abbrev pub headFor : SheetCounts → ℕ → ℕ → ℕ → Head
 headFor s l c w = record { vertices = s .vertices; edges = s .edges; loops = l; candidates = c; work = w }

@@ -5,7 +5,6 @@ ghost use Rattle.paper.specs.Refusals.{firstOf};
 ghost use Rattle.paper.specs.Sheet.{badCount, lentChecks};
 use super::content;
 use paper::Answer;
-use paper::Format;
 use paper_values::refused;
 use sheet_counts::is_outside;
 
@@ -20,13 +19,23 @@ fn is_bad_count(k: usize, lo: u64, hi: u64, n: usize) -> bool
     is_outside(lo, hi, (n / k) as u64)
 }
 
-pub fn lent(f: Format, xyz: &[i64], ends: &[u8]) -> Answer
+pub fn lent(xyz: &[i64], ends: &[u8]) -> Answer
     ensures { λ r. ⌜ r ≡ firstOf (lentChecks (now (xyz .entry)) (now (ends .entry))) ⌝ }
 {
-    if is_bad_count(3, paper::LEAST_VERTICES as u64, f.most_vertices, xyz.len()) {
+    if is_bad_count(
+        3,
+        paper::LEAST_VERTICES as u64,
+        paper::MOST_VERTICES as u64,
+        xyz.len(),
+    ) {
         return refused(paper::BAD_COUNT, 0);
     }
-    if is_bad_count(2, paper::LEAST_EDGES as u64, f.most_edges, ends.len()) {
+    if is_bad_count(
+        2,
+        paper::LEAST_EDGES as u64,
+        paper::MOST_EDGES as u64,
+        ends.len(),
+    ) {
         return refused(paper::BAD_COUNT, 1);
     }
     content(xyz.len() / 3, xyz, ends)

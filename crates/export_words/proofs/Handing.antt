@@ -10,8 +10,8 @@ use lib.IntN.{ℤ}
 use lib.ListN.{length, take, drop}
 use Rattle.paper.specs.Refusals as No
 use Rattle.paper.specs.Refusals.{Check, check, offends, firstOf}
-use Rattle.paper.specs.Format.{editionOne, verticesIn, edgesIn, coordinatesIn, endsIn}
-use Rattle.paper.specs.Sheet.{sheetChecks, sheetOf}
+use Rattle.paper.specs.Format.{editionOne, verticesIn, edgesIn, coordinatesIn, endsIn, editionOf}
+use Rattle.paper.specs.Sheet.{sheetChecks, readSheet}
 use Rattle.paper.specs.Reading.{fine, refused}
 use Rattle.paper.specs.declared.Answer.{Answer}
 use Rattle.paper.specs.declared.Answer.the-variants as Answer
@@ -89,33 +89,33 @@ module _ (d : Drawing) (held : Held d) (xyz₀ : List ℤ) (ends₀ : List ℕ) 
 module _ (s : List ℕ) (xyz₀ : List ℤ) (ends₀ : List ℕ) {r : ℕ} {words₀ words : List ℕ} where
   -- it was refused
   pub sheet-refused : {x : Said} {f : Refusal} → ToldBy x r words₀ words → SaidIs x (refused f)
-      → Answer.Refused f ≡ firstOf (sheetChecks editionOne s) → ReadsAs (readInto s xyz₀ ends₀) r xyz₀ ends₀ words₀ words
+      → Answer.Refused f ≡ firstOf (sheetChecks (editionOf s) s) → ReadsAs (readInto s xyz₀ ends₀) r xyz₀ ends₀ words₀ words
   unfolding readInto
   sheet-refused {x} {f} told h e =
-      let points = coordinatesIn editionOne s in
-      let links = endsIn editionOne s in
-      subst (λ (a : Answer). ReadsAs (readFor a (verticesIn editionOne s) (edgesIn editionOne s) points links xyz₀ ends₀) r xyz₀ ends₀ words₀ words)
-      (first-stops (sheetChecks editionOne s) (roomChecks points links xyz₀ ends₀) e)
+      let points = coordinatesIn (editionOf s) s in
+      let links = endsIn (editionOf s) s in
+      subst (λ (a : Answer). ReadsAs (readFor a (verticesIn (editionOf s) s) (edgesIn (editionOf s) s) points links xyz₀ ends₀) r xyz₀ ends₀ words₀ words)
+      (first-stops (sheetChecks (editionOf s) s) (roomChecks points links xyz₀ ends₀) e)
       (record { xyz-are = refl; ends-are = refl; tells = told (refused f) h })
 
   -- its lists stand in front of the arrays of the drawing that was read
-  pub sheet-handed : {y : Sheet} {xyz : List ℤ} {ends : List ℕ} → y ≡ sheetOf editionOne s → Answer.Fine ≡ firstOf (sheetChecks editionOne s)
+  pub sheet-handed : {y : Sheet} {xyz : List ℤ} {ends : List ℕ} → y ≡ readSheet s → Answer.Fine ≡ firstOf (sheetChecks (editionOf s) s)
       → Handed (y .drawing) xyz₀ ends₀ r xyz ends words₀ words → ReadsAs (readInto s xyz₀ ends₀) r xyz ends words₀ words
   unfolding readInto
   sheet-handed {y} {xyz} {ends} e ok h =
-      let points = coordinatesIn editionOne s in
-      let links = endsIn editionOne s in
-      let d = sheetOf editionOne s .drawing in
+      let points = coordinatesIn (editionOf s) s in
+      let links = endsIn (editionOf s) s in
+      let d = readSheet s .drawing in
       let same : Handed d xyz₀ ends₀ r xyz ends words₀ words =
       subst (λ (y : Sheet). Handed (y .drawing) xyz₀ ends₀ r xyz ends words₀ words) e h in
       let counts = returns editionOne s ok in
-      let v : d .vertices ≡ verticesIn editionOne s = ap (λ (x : Drawing). x .vertices) counts in
-      let n : d .edges ≡ edgesIn editionOne s = ap (λ (x : Drawing). x .edges) counts in
+      let v : d .vertices ≡ verticesIn (editionOf s) s = ap (λ (x : Drawing). x .vertices) counts in
+      let n : d .edges ≡ edgesIn (editionOf s) s = ap (λ (x : Drawing). x .edges) counts in
       let p = sym (coordinates-are editionOne s ok) in
       let l = sym (ends-are editionOne s ok) in
       let checks = roomChecks points links xyz₀ ends₀ in
       subst (λ (x : Read). ReadsAs x r xyz ends words₀ words)
       ((λ i. readFor (firstOf (roomChecks (p i) (l i) xyz₀ ends₀)) (v i) (n i) (p i) (l i) xyz₀ ends₀)
-      ∙ ap (λ (a : Answer). readFor a (verticesIn editionOne s) (edgesIn editionOne s) points links xyz₀ ends₀)
-      (first-passes (sheetChecks editionOne s) checks ok))
+      ∙ ap (λ (a : Answer). readFor a (verticesIn (editionOf s) s) (edgesIn (editionOf s) s) points links xyz₀ ends₀)
+      (first-passes (sheetChecks (editionOf s) s) checks ok))
       same

@@ -7,7 +7,7 @@ use lib.IntN.{ℤ}
 use lib.ListN.{length, take, drop}
 use Rattle.paper.specs.Refusals as No
 use Rattle.paper.specs.Refusals.{Check, check, offends, firstOf}
-use Rattle.paper.specs.Format.{editionOne, verticesIn, edgesIn, coordinatesIn, endsIn}
+use Rattle.paper.specs.Format.{verticesIn, edgesIn, coordinatesIn, endsIn, editionOf}
 use Rattle.paper.specs.Sheet.{sheetChecks}
 use Rattle.paper.specs.Reading.{Said, fine, refused}
 use Rattle.paper.specs.declared.Answer.{Answer}
@@ -39,9 +39,9 @@ readFor (Answer.Refused r) v e points links xyz ends = record { said = refused r
 
 unfoldable pub readInto : List ℕ → List ℤ → List ℕ → Read
 readInto s xyz ends =
-    let points = coordinatesIn editionOne s in
-    let links = endsIn editionOne s in
-    readFor (firstOf (sheetChecks editionOne s ++ roomChecks points links xyz ends)) (verticesIn editionOne s) (edgesIn editionOne s) points links
+    let points = coordinatesIn (editionOf s) s in
+    let links = endsIn (editionOf s) s in
+    readFor (firstOf (sheetChecks (editionOf s) s ++ roomChecks points links xyz ends)) (verticesIn (editionOf s) s) (edgesIn (editionOf s) s) points links
     xyz ends
 
 pub record ReadsAs (x : Read) (r : ℕ) (xyz : List ℤ) (ends words₀ words : List ℕ) : Type 0 where

@@ -11,7 +11,7 @@ use Rattle.lists.proofs.Truth.{or-none}
 use Rattle.pack.specs.Bits.{fieldsAt}
 use Rattle.pack.proofs.Laws.{length-fields}
 use Rattle.paper.specs.Numbers.{leastVertices, leastEdges, documented}
-use Rattle.paper.specs.Format.{editionOne, outside, verticesIn, edgesIn, coordinatesIn, endsIn, coordinate}
+use Rattle.paper.specs.Format.{editionOne, outside, verticesIn, edgesIn, coordinatesIn, endsIn, coordinate, editionOf}
 use Rattle.paper.specs.Format.{head}
 use Rattle.paper.specs.Format.{coordinateBits}
 use Rattle.paper.specs.Refusals.{firstOf}
@@ -47,32 +47,32 @@ lent-small xyz ends e =
           (arith, length-edges ends, outside-false leastEdges 64 (length ends / 2) (q .1) .1),
     )
 
-pub sheet-small : (s : List ℕ) → Fine ≡ firstOf (sheetChecks editionOne s)
-    → InCounts (wire (coordinatesIn editionOne s) (endsIn editionOne s))
+pub sheet-small : (s : List ℕ) → Fine ≡ firstOf (sheetChecks (editionOf s) s)
+    → InCounts (wire (coordinatesIn (editionOf s) s) (endsIn (editionOf s) s))
 unfolding sheetChecks shapeChecks countChecks wire
 sheet-small s e =
-    let v = verticesIn editionOne s in
-    let n = edgesIn editionOne s in
+    let v = verticesIn (editionOf s) s in
+    let n = edgesIn (editionOf s) s in
     let p = first-both
-    (openChecks editionOne s ++ countChecks editionOne (verticesIn editionOne s) (edgesIn editionOne s) ++ closeChecks editionOne s
-    (verticesIn editionOne s) (edgesIn editionOne s))
-    (contentChecks (verticesIn editionOne s) (coordinatesIn editionOne s) (endsIn editionOne s)) e in
-    let q = first-both (openChecks editionOne s ++ countChecks editionOne (verticesIn editionOne s) (edgesIn editionOne s))
-    (closeChecks editionOne s (verticesIn editionOne s) (edgesIn editionOne s)) (p .0) in
-    let r = first-both (openChecks editionOne s) (countChecks editionOne (verticesIn editionOne s) (edgesIn editionOne s)) (q .0) in
+    (openChecks (editionOf s) s ++ countChecks editionOne (verticesIn (editionOf s) s) (edgesIn (editionOf s) s) ++ closeChecks editionOne s
+    (verticesIn (editionOf s) s) (edgesIn (editionOf s) s))
+    (contentChecks (verticesIn (editionOf s) s) (coordinatesIn (editionOf s) s) (endsIn (editionOf s) s)) e in
+    let q = first-both (openChecks (editionOf s) s ++ countChecks editionOne (verticesIn (editionOf s) s) (edgesIn (editionOf s) s))
+    (closeChecks editionOne s (verticesIn (editionOf s) s) (edgesIn (editionOf s) s)) (p .0) in
+    let r = first-both (openChecks (editionOf s) s) (countChecks editionOne (verticesIn (editionOf s) s) (edgesIn (editionOf s) s)) (q .0) in
     let a = passed _ _ _ (r .1) in
     let b = passed _ _ _ (a .1) in
-    let va = outside-false leastVertices 32 (verticesIn editionOne s) (a .0) .1 in
-    let eb = outside-false leastEdges 64 (edgesIn editionOne s) (b .0) .1 in
-    (omega (arith, length-points (coordinatesIn editionOne s), lengths), omega (arith, length-edges (endsIn editionOne s), ends-long))
+    let va = outside-false leastVertices 32 (verticesIn (editionOf s) s) (a .0) .1 in
+    let eb = outside-false leastEdges 64 (edgesIn (editionOf s) s) (b .0) .1 in
+    (omega (arith, length-points (coordinatesIn (editionOf s) s), lengths), omega (arith, length-edges (endsIn (editionOf s) s), ends-long))
   where
-    lengths : length (coordinatesIn editionOne s) ≡ 3 * verticesIn editionOne s
+    lengths : length (coordinatesIn (editionOf s) s) ≡ 3 * verticesIn (editionOf s) s
     lengths =
-        length-map (fieldsAt s (head editionOne) coordinateBits (3 * verticesIn editionOne s)) coordinate
-        ∙ length-fields s (head editionOne) coordinateBits (3 * verticesIn editionOne s)
+        length-map (fieldsAt s (head editionOne) coordinateBits (3 * verticesIn (editionOf s) s)) coordinate
+        ∙ length-fields s (head editionOne) coordinateBits (3 * verticesIn (editionOf s) s)
 
-    ends-long : length (endsIn editionOne s) ≡ 2 * edgesIn editionOne s
-    ends-long = length-fields s (head editionOne + 3 * coordinateBits * verticesIn editionOne s) 5 (2 * edgesIn editionOne s)
+    ends-long : length (endsIn (editionOf s) s) ≡ 2 * edgesIn (editionOf s) s
+    ends-long = length-fields s (head editionOne + 3 * coordinateBits * verticesIn (editionOf s) s) 5 (2 * edgesIn (editionOf s) s)
 
 -- ---- demand 3
 
@@ -94,26 +94,26 @@ module _ (xyz : List ℤ) (ends : List ℕ) where
 
 module _ (s : List ℕ) where
   pub sheet-exactly : (list : List ℕ)
-      → ((verdictSheet s list ≡ Accepted) → Accepts (sheetChecks editionOne s) (wire (coordinatesIn editionOne s) (endsIn editionOne s))
+      → ((verdictSheet s list ≡ Accepted) → Accepts (sheetChecks (editionOf s) s) (wire (coordinatesIn (editionOf s) s) (endsIn (editionOf s) s))
       list)
-      × (Accepts (sheetChecks editionOne s) (wire (coordinatesIn editionOne s) (endsIn editionOne s)) list
+      × (Accepts (sheetChecks (editionOf s) s) (wire (coordinatesIn (editionOf s) s) (endsIn (editionOf s) s)) list
       → verdictSheet s list ≡ Accepted)
   unfolding verdictSheet
-  sheet-exactly list = accepts-exactly (sheetChecks editionOne s) (wire (coordinatesIn editionOne s) (endsIn editionOne s)) list
+  sheet-exactly list = accepts-exactly (sheetChecks (editionOf s) s) (wire (coordinatesIn (editionOf s) s) (endsIn (editionOf s) s)) list
 
-  pub sheet-each : Fine ≡ firstOf (sheetChecks editionOne s)
-      → Fine ≡ firstOf (drawingChecks (wire (coordinatesIn editionOne s) (endsIn editionOne s)))
+  pub sheet-each : Fine ≡ firstOf (sheetChecks (editionOf s) s)
+      → Fine ≡ firstOf (drawingChecks (wire (coordinatesIn (editionOf s) s) (endsIn (editionOf s) s)))
       → Fine ≡ firstOf
-      (loopChecks documented (loops (wire (coordinatesIn editionOne s) (endsIn editionOne s)))
-      (candidates (wire (coordinatesIn editionOne s) (endsIn editionOne s))))
+      (loopChecks documented (loops (wire (coordinatesIn (editionOf s) s) (endsIn (editionOf s) s)))
+      (candidates (wire (coordinatesIn (editionOf s) s) (endsIn (editionOf s) s))))
       → (taken turned : List Bool) (six : ℕ)
-      → IsSolid (wire (coordinatesIn editionOne s) (endsIn editionOne s))
-      (candidates (wire (coordinatesIn editionOne s) (endsIn editionOne s))) taken turned six
+      → IsSolid (wire (coordinatesIn (editionOf s) s) (endsIn (editionOf s) s))
+      (candidates (wire (coordinatesIn (editionOf s) s) (endsIn (editionOf s) s))) taken turned six
       → verdictSheet s
       (encodeFaces editionOne
-      (faceList (wire (coordinatesIn editionOne s) (endsIn editionOne s))
-      (candidates (wire (coordinatesIn editionOne s) (endsIn editionOne s))) taken turned)) ≡ Accepted
+      (faceList (wire (coordinatesIn (editionOf s) s) (endsIn (editionOf s) s))
+      (candidates (wire (coordinatesIn (editionOf s) s) (endsIn (editionOf s) s))) taken turned)) ≡ Accepted
   unfolding verdictSheet
   sheet-each f r l =
       let m = sheet-small s f in
-      each-sent (sheetChecks editionOne s) (wire (coordinatesIn editionOne s) (endsIn editionOne s)) f r l (m .0) (m .1)
+      each-sent (sheetChecks (editionOf s) s) (wire (coordinatesIn (editionOf s) s) (endsIn (editionOf s) s)) f r l (m .0) (m .1)

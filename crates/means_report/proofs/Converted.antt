@@ -11,7 +11,7 @@ use Rattle.lists.specs.Lists.{filter}
 use Rattle.paper.specs.Numbers.{mostSolids, documented}
 use Rattle.paper.specs.Refusals as No
 use Rattle.paper.specs.Refusals.{Check, firstOf}
-use Rattle.paper.specs.Format.{editionOne, coordinatesIn, endsIn}
+use Rattle.paper.specs.Format.{coordinatesIn, endsIn, editionOf}
 use Rattle.paper.specs.Sheet.{sheetChecks, lentChecks}
 use Rattle.paper.specs.Drawing.{Wire, wire, drawingChecks}
 use Rattle.paper.specs.Loops.{loops, candidates, loopChecks}
@@ -147,13 +147,13 @@ unfolding convertLists
 lists-tell xyz ends limit faces solids t h = conversion-sound (wire xyz ends) t limit faces solids (lentChecks xyz ends) h
 
 pub sheet-tells : (s : List ℕ) (limit : ℕ) (faces solids : List ℕ)
-    (t : WalkTree (wire (coordinatesIn editionOne s) (endsIn editionOne s))
-    (candidates (wire (coordinatesIn editionOne s) (endsIn editionOne s))))
-    → Unrefused (wire (coordinatesIn editionOne s) (endsIn editionOne s)) t limit faces solids (sheetChecks editionOne s)
-    → Sound (wire (coordinatesIn editionOne s) (endsIn editionOne s)) t limit faces solids (convertSheet s limit faces solids)
+    (t : WalkTree (wire (coordinatesIn (editionOf s) s) (endsIn (editionOf s) s))
+    (candidates (wire (coordinatesIn (editionOf s) s) (endsIn (editionOf s) s))))
+    → Unrefused (wire (coordinatesIn (editionOf s) s) (endsIn (editionOf s) s)) t limit faces solids (sheetChecks (editionOf s) s)
+    → Sound (wire (coordinatesIn (editionOf s) s) (endsIn (editionOf s) s)) t limit faces solids (convertSheet s limit faces solids)
 unfolding convertSheet
 sheet-tells s limit faces solids t h =
-    conversion-sound (wire (coordinatesIn editionOne s) (endsIn editionOne s)) t limit faces solids (sheetChecks editionOne s) h
+    conversion-sound (wire (coordinatesIn (editionOf s) s) (endsIn (editionOf s) s)) t limit faces solids (sheetChecks (editionOf s) s) h
 
 -- a higher limit changes no answer but 19: where neither limit is refused and the lower did not cut the walk
 pub higher-converts : (d : Wire) (t : WalkTree d (candidates d)) (form : List Check) (a b : ℕ) (faces solids : List ℕ) → a ≤ b
@@ -194,9 +194,9 @@ lists-unrefused xyz ends limit faces solids f =
 
 pub sheet-unrefused : (s : List ℕ) (limit : ℕ) (faces solids : List ℕ)
     → ((x : Refusal) → convertSheet s limit faces solids .answer ≡ Conversion.Refused x → ⊥)
-    → Sound (wire (coordinatesIn editionOne s) (endsIn editionOne s)) (the-walk (wire (coordinatesIn editionOne s) (endsIn editionOne s)))
+    → Sound (wire (coordinatesIn (editionOf s) s) (endsIn (editionOf s) s)) (the-walk (wire (coordinatesIn (editionOf s) s) (endsIn (editionOf s) s)))
     limit faces solids (convertSheet s limit faces solids)
 unfolding convertSheet
 sheet-unrefused s limit faces solids f =
-    conversion-unrefused (wire (coordinatesIn editionOne s) (endsIn editionOne s))
-    (the-walk (wire (coordinatesIn editionOne s) (endsIn editionOne s))) (sheetChecks editionOne s) limit faces solids f
+    conversion-unrefused (wire (coordinatesIn (editionOf s) s) (endsIn (editionOf s) s))
+    (the-walk (wire (coordinatesIn (editionOf s) s) (endsIn (editionOf s) s))) (sheetChecks (editionOf s) s) limit faces solids f

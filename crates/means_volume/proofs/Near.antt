@@ -7,7 +7,7 @@ use lib.ListN.{getD}
 use Rattle.paper.specs.Numbers.{farthest}
 use Rattle.paper.specs.Points.{origin}
 use Rattle.paper.specs.Refusals.{firstOf}
-use Rattle.paper.specs.Format.{editionOne, verticesIn, coordinatesIn, endsIn}
+use Rattle.paper.specs.Format.{editionOne, verticesIn, coordinatesIn, endsIn, editionOf}
 use Rattle.paper.specs.Sheet.{lentChecks, sheetChecks}
 use Rattle.paper.specs.Drawing.{wire, pointsOf, at}
 use Rattle.paper.specs.declared.Answer.the-variants.{Fine}
@@ -35,9 +35,9 @@ pub lent-near : (xyz : List ℤ) (ends : List ℕ) → Fine ≡ firstOf (lentChe
 unfolding wire at
 lent-near xyz ends e v = points-near xyz (contents _ xyz ends (lent xyz ends e .fine) .near) v
 
-pub sheet-near : (s : List ℕ) → Fine ≡ firstOf (sheetChecks editionOne s)
-    → (v : ℕ) → PointWithin farthest (at (wire (coordinatesIn editionOne s) (endsIn editionOne s)) v)
+pub sheet-near : (s : List ℕ) → Fine ≡ firstOf (sheetChecks (editionOf s) s)
+    → (v : ℕ) → PointWithin farthest (at (wire (coordinatesIn (editionOf s) s) (endsIn (editionOf s) s)) v)
 unfolding wire at
 sheet-near s e v =
-    points-near (coordinatesIn editionOne s)
-    (contents (verticesIn editionOne s) (coordinatesIn editionOne s) (endsIn editionOne s) (accepted-contents editionOne s e) .near) v
+    points-near (coordinatesIn (editionOf s) s)
+    (contents (verticesIn (editionOf s) s) (coordinatesIn (editionOf s) s) (endsIn (editionOf s) s) (accepted-contents editionOne s e) .near) v

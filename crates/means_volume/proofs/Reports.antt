@@ -12,7 +12,7 @@ use lib.IntN.{ℤ}
 use lib.ListN.{length}
 use Rattle.paper.specs.Numbers.{farthest, documented}
 use Rattle.paper.specs.Refusals.{Check, firstOf}
-use Rattle.paper.specs.Format.{editionOne, coordinatesIn, endsIn}
+use Rattle.paper.specs.Format.{coordinatesIn, endsIn, editionOf}
 use Rattle.paper.specs.Sheet.{lentChecks, sheetChecks}
 use Rattle.paper.specs.Drawing.{Wire, wire, at, samePlace, drawingChecks}
 use Rattle.paper.specs.Loops.{loopAt, loops, candidates, loopChecks}
@@ -82,8 +82,8 @@ module _ (d : Wire) (form : List Check) (drawn : Answer.Fine ≡ firstOf form �
 lent-drawn : (xyz : List ℤ) (ends : List ℕ) → Answer.Fine ≡ firstOf (lentChecks xyz ends) → Drawn (wire xyz ends)
 lent-drawn xyz ends e = record { near = lent-near xyz ends e; counts = lent-small xyz ends e }
 
-sheet-drawn : (s : List ℕ) → Answer.Fine ≡ firstOf (sheetChecks editionOne s)
-    → Drawn (wire (coordinatesIn editionOne s) (endsIn editionOne s))
+sheet-drawn : (s : List ℕ) → Answer.Fine ≡ firstOf (sheetChecks (editionOf s) s)
+    → Drawn (wire (coordinatesIn (editionOf s) s) (endsIn (editionOf s) s))
 sheet-drawn s e = record { near = sheet-near s e; counts = sheet-small s e }
 
 pub small-enough : SmallEnough
@@ -92,11 +92,11 @@ small-enough = record {
   lists = λ xyz ends f apart taken turned six s. solid-small (wire xyz ends) (lent-drawn xyz ends f) apart taken turned s;
   sheets =
       λ s f apart taken turned six i.
-      solid-small (wire (coordinatesIn editionOne s) (endsIn editionOne s)) (sheet-drawn s f) apart taken turned i;
+      solid-small (wire (coordinatesIn (editionOf s) s) (endsIn (editionOf s) s)) (sheet-drawn s f) apart taken turned i;
   lists-read =
       λ xyz ends limit faces solids.
       read-exactly (wire xyz ends) (lentChecks xyz ends) (lent-drawn xyz ends) limit faces solids;
   sheets-read =
       λ s limit faces solids.
-      read-exactly (wire (coordinatesIn editionOne s) (endsIn editionOne s)) (sheetChecks editionOne s) (sheet-drawn s) limit faces solids;
+      read-exactly (wire (coordinatesIn (editionOf s) s) (endsIn (editionOf s) s)) (sheetChecks (editionOf s) s) (sheet-drawn s) limit faces solids;
 }

@@ -7,7 +7,7 @@ use Prim.Native.Nat.{ℕ, _*_, _-_, _≤_}
 use lib.IntN.{ℤ}
 use Rattle.paper.specs.Numbers.{mostEdges, leastFaces, farthest}
 use Rattle.paper.specs.Refusals.{Check, firstOf}
-use Rattle.paper.specs.Format.{editionOne, coordinatesIn, endsIn}
+use Rattle.paper.specs.Format.{coordinatesIn, endsIn, editionOf}
 use Rattle.paper.specs.Sheet.{lentChecks, sheetChecks}
 use Rattle.paper.specs.Drawing.{Wire, wire, samePlace}
 use Rattle.paper.specs.Loops.{candidates}
@@ -42,7 +42,7 @@ ReadExactly c = (l k w six : ℕ) → c .answer ≡ Conversion.One l k w six →
 -- of a drawing lent as two lists, and of one on a sheet
 pub record SmallEnough : Type 0 where
   pub lists : (xyz : List ℤ) (ends : List ℕ) → SolidsSmall (lentChecks xyz ends) (wire xyz ends)
-  pub sheets : (s : List ℕ) → SolidsSmall (sheetChecks editionOne s) (wire (coordinatesIn editionOne s) (endsIn editionOne s))
+  pub sheets : (s : List ℕ) → SolidsSmall (sheetChecks (editionOf s) s) (wire (coordinatesIn (editionOf s) s) (endsIn (editionOf s) s))
   pub lists-read : (xyz : List ℤ) (ends : List ℕ) (limit : ℕ) (faces solids : List ℕ)
       → ReadExactly (convertLists xyz ends limit faces solids)
   pub sheets-read : (s : List ℕ) (limit : ℕ) (faces solids : List ℕ) → ReadExactly (convertSheet s limit faces solids)

@@ -18,6 +18,7 @@ use Rattle.paper.specs.Drawing.{Wire, wire, drawingChecks}
 use Rattle.paper.specs.Loops.{Loop, flipped, loops, uncovering, loopChecks}
 use Rattle.paper.specs.Solids.{Tables, tablesOf, inTwo, facesFrom, onceEachWay, sixFrom}
 use Rattle.paper.specs.FaceList.{facesIn, wellShaped}
+use Rattle.paper.specs.declared.Format.{Format}
 use Rattle.paper.specs.declared.Answer.{Answer}
 use Rattle.paper.specs.declared.Answer.the-variants as Answer
 use Rattle.paper.specs.declared.Verdict.{Verdict}
@@ -118,15 +119,18 @@ abbrev pub verdictFor : Answer → Verdict
 verdictFor Answer.Fine = Verdict.Accepted
 verdictFor (Answer.Refused r) = Verdict.Refused r
 
--- 11 to 16, 20, and then 21 to 27. A face list has the edition of its drawing
+-- a face list has the edition of its drawing
+abbrev pub listEdition : Wire → Format
+listEdition d = editionFor (length (d .vertices)) (length (d .edges))
+
+-- 11 to 16, 20, and then 21 to 27
 unfoldable pub verdict : List Check → Wire → List ℕ → Verdict
 verdict form d list =
     let ls = loops d in
     let cs = uncovering d ls in
-    let v = length (d .vertices) in
-    let f = editionFor v (length (d .edges)) in
+    let f = listEdition d in
     verdictFor (firstOf (form ++ drawingChecks d ++ loopChecks documented ls cs
-    ++ (check No.ShellShape (offends (not (wellShaped f v list)) 0)
+    ++ (check No.ShellShape (offends (not (wellShaped f (length (d .vertices)) list)) 0)
     ∷ faceChecks (tablesOf d cs) (length cs) (listed cs (facesIn f list)))))
 
 -- of a drawing lent as two lists; of a sheet

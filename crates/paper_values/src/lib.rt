@@ -1,6 +1,6 @@
-// Values of document 01's types that many crates make: a refusal, and the layout of edition 1. Nothing is assumed.
+// Values of document 01's types that many crates make: a refusal, and the layout of an edition. Nothing is assumed.
 ghost use mathlib.Core.Path.{_≡_};
-ghost use Rattle.paper.specs.Format.{editionOne};
+ghost use Rattle.paper.specs.Format.{editionOne, editionOf, editionFor};
 ghost use Rattle.paper.specs.Refusals.{refuse};
 use paper::Answer;
 use paper::Format;
@@ -13,7 +13,7 @@ pub fn refused(number: u8, place: usize) -> Answer
 }
 
 // Edition 1.
-pub fn edition_one() -> Format
+fn edition_one() -> Format
     ensures { λ r. ⌜ r ≡ editionOne ⌝ }
 {
     Format {
@@ -26,4 +26,18 @@ pub fn edition_one() -> Format
         most_edges: paper::MOST_EDGES as u64,
         most_faces: paper::MOST_FACES as u64,
     }
+}
+
+// The edition that a sheet or a face list says: there is one.
+pub fn edition_of(_bytes: &[u8]) -> Format
+    ensures { λ r. ⌜ r ≡ editionOf (now («_bytes» .entry)) ⌝ }
+{
+    edition_one()
+}
+
+// The edition of a drawing of so many vertices and edges, and of its face lists: there is one.
+pub fn edition_for(_vertices: usize, _edges: usize) -> Format
+    ensures { λ r. ⌜ r ≡ editionFor «_vertices» «_edges» ⌝ }
+{
+    edition_one()
 }

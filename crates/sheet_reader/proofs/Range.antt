@@ -7,24 +7,24 @@ use lib.IntN.{pos}
 use lib.ListN.{length}
 use Rattle.pack.proofs.Fill.{length-padded, take-padded}
 use Rattle.paper.specs.Numbers.{mostVertices, mostEdges}
-use Rattle.paper.specs.Format.{editionOne, verticesIn, edgesIn, coordinatesIn, endsIn}
-use Rattle.paper.specs.Sheet.{held, sheetOf}
+use Rattle.paper.specs.Format.{editionOne, verticesIn, edgesIn, coordinatesIn, endsIn, editionOf}
+use Rattle.paper.specs.Sheet.{held, sheetOf, readSheet}
 use Rattle.paper.specs.declared.Answer.the-variants.{Fine}
 use Rattle.paper_laws.specs.InRange.{Held}
 use Rattle.drawing_lists.proofs.Range.{points-are, ends-are}
 use Rattle.sheet_laws.proofs.Accepted.{length-coordinates, length-ends}
 use Rattle.sheet_laws.proofs.Accepted.{accepted-shape, accepted-contents, returns}
 
-pub read-range : (s : List ℕ) → Fine ≡ sheetOf editionOne s .answer → Held (sheetOf editionOne s .drawing)
+pub read-range : (s : List ℕ) → Fine ≡ readSheet s .answer → Held (readSheet s .drawing)
 unfolding sheetOf
 read-range s h =
-    let v = verticesIn editionOne s in
-    let e = edgesIn editionOne s in
-    let xyz = coordinatesIn editionOne s in
-    let ends = endsIn editionOne s in
-    let three = length-coordinates editionOne s in
-    let two = length-ends editionOne s in
-    let k = accepted-shape editionOne s h .counts-are in
+    let v = verticesIn (editionOf s) s in
+    let e = edgesIn (editionOf s) s in
+    let xyz = coordinatesIn (editionOf s) s in
+    let ends = endsIn (editionOf s) s in
+    let three = length-coordinates (editionOf s) s in
+    let two = length-ends (editionOf s) s in
+    let k = accepted-shape (editionOf s) s h .counts-are in
     let fine = accepted-contents editionOne s h in
     let xyz-fit : length xyz ≤ 3 * mostVertices = omega (arith, k .v-most, three) in
     let ends-fit : length ends ≤ 2 * mostEdges = omega (arith, k .e-most, two) in

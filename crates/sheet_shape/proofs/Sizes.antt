@@ -1,13 +1,21 @@
 -- How large the numbers of a narrow layout get.
+use mathlib.Core.List.{List}
 use Prim.Native.Nat.{ℕ, _≤_, _*_}
 use native.Mathlib.Nat.{mul-le-mul, le-trans}
 use native.Mathlib.Omega.{arith}
-use Rattle.paper.specs.Format.{editionOne, total}
+use Rattle.paper.specs.Format.{editionOne, editionOf, editionFor, total}
 use Rattle.paper.specs.declared.Format.{Format}
-use Rattle.sheet_shape.specs.Narrow.{narrowBits, fewEdges, NarrowCounts, FitsDrawing}
+use Rattle.sheet_shape.specs.Narrow.{narrowBits, fewEdges, Narrow, NarrowCounts, FitsDrawing}
+use Rattle.paper_laws.proofs.Editions.{holds-of, holds-for}
 
-pub one-fits : FitsDrawing editionOne
+one-fits : FitsDrawing editionOne
 one-fits = record { narrow = omega arith; v-held = omega arith; e-held = omega arith }
+
+pub fits-of : (s : List ℕ) → FitsDrawing (editionOf s)
+fits-of = holds-of FitsDrawing one-fits
+
+pub narrow-for : (v e : ℕ) → Narrow (editionFor v e)
+narrow-for v e = holds-for FitsDrawing one-fits v e .narrow
 
 module _ {f : Format} {v e : ℕ} (h : NarrowCounts f v e) where
   -- the bits of all vertex numbers

@@ -26,7 +26,6 @@ use paper::MOST_CANDIDATES;
 use paper::MOST_LOOPS;
 use paper::MOST_VERTICES;
 use paper::ROW;
-use paper_values::edition_one;
 use trial::end_of;
 use trial::say;
 use trial::say_number;
@@ -175,7 +174,7 @@ fn show_rules(xyz: &[i64], ends: &[u8])
 }
 
 fn show_lists(xyz: &[i64], ends: &[u8]) {
-    let answer = lent(edition_one(), xyz, ends);
+    let answer = lent(xyz, ends);
     match answer {
         Answer::Refused(r) => say_refused(r.number, r.place),
         Answer::Fine => show_rules(xyz, ends),

@@ -19,7 +19,6 @@ use paper::MOST_EDGES;
 use paper::SOLID_ROOM;
 use paper::TOO_LONG;
 use paper::WORDS;
-use paper_values::edition_one;
 use trial::end_of;
 use trial::say;
 use trial::say_number;
@@ -121,7 +120,7 @@ fn show_tables(xyz: &[i64], ends: &[u8], limit: u64)
 }
 
 fn show_lists(xyz: &[i64], ends: &[u8], limit: u64) {
-    let answer = lent(edition_one(), xyz, ends);
+    let answer = lent(xyz, ends);
     match answer {
         Answer::Refused(r) => say_refused(r.number, r.place),
         Answer::Fine => show_tables(xyz, ends, limit),

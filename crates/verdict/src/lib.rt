@@ -17,7 +17,6 @@ use paper::FILL;
 use paper::MOST_CANDIDATES;
 use paper::MOST_EDGES;
 use paper::Verdict;
-use paper_values::edition_one;
 use sheet_reader::read_sheet;
 use walk_input::Tabled;
 use walk_input::tables;
@@ -67,7 +66,7 @@ pub fn check(xyz: &[i64], ends: &[u8], list: &[u8]) -> Verdict
     ensures result { λ r. ⌜ r ≡ verdictLists (now (xyz .entry)) (now (ends .entry)) (now (list .entry)) ⌝ }
     ensures said { λ r. ⌜ verdictSays r ≡ verdictSays (verdictLists (now (xyz .entry)) (now (ends .entry)) (now (list .entry))) ⌝ }
 {
-    let form = lent(edition_one(), xyz, ends);
+    let form = lent(xyz, ends);
     match form {
         Answer::Refused(r) => return Verdict::Refused(r),
         Answer::Fine => {}

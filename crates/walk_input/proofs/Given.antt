@@ -9,8 +9,8 @@ use Rattle.exact.specs.Size.{Within}
 use Rattle.exact.proofs.Size.{within-lit}
 use Rattle.paper.specs.Numbers.{mostEdges, faceRoom}
 use Rattle.paper.specs.Refusals.{firstOf}
-use Rattle.paper.specs.Format.{editionOne, coordinatesIn, endsIn}
-use Rattle.paper.specs.Sheet.{sheetChecks, lentChecks, sheetOf}
+use Rattle.paper.specs.Format.{editionOne, coordinatesIn, endsIn, editionOf}
+use Rattle.paper.specs.Sheet.{sheetChecks, lentChecks, sheetOf, readSheet}
 use Rattle.paper.specs.declared.Answer.the-variants.{Fine}
 use Rattle.paper.specs.declared.Sheet.{Sheet}
 use Rattle.paper_laws.specs.InRange.{PassedLists}
@@ -56,7 +56,7 @@ few-edges xyz ends ok = let r = lent-range xyz ends ok in omega (arith, r .links
 
 -- ---- the lists that an accepted sheet holds are those in front of the arrays of the drawing that is read
 
-module _ (s : List ℕ) {r : Sheet} (e : r ≡ sheetOf editionOne s) (ok : Fine ≡ firstOf (sheetChecks editionOne s)) where
+module _ (s : List ℕ) {r : Sheet} (e : r ≡ readSheet s) (ok : Fine ≡ firstOf (sheetChecks (editionOf s) s)) where
   pub sheet-given : GivenDrawing (r .drawing)
   unfolding sheetOf
   sheet-given =
@@ -67,7 +67,7 @@ module _ (s : List ℕ) {r : Sheet} (e : r ≡ sheetOf editionOne s) (ok : Fine 
 
   -- what holds of its lists holds of those on the sheet
   pub sheet-lists : (P : List ℤ → List ℕ → Type 0) → P (coordinatesOf (r .drawing)) (linksOf (r .drawing))
-      → P (coordinatesIn editionOne s) (endsIn editionOne s)
+      → P (coordinatesIn (editionOf s) s) (endsIn (editionOf s) s)
   sheet-lists P h =
       let same = subst (λ (x : Sheet). P (coordinatesOf (x .drawing)) (linksOf (x .drawing))) e h in
       let c = sym (coordinates-are editionOne s ok) in

@@ -7,7 +7,7 @@ use lib.ListN.{replicate}
 use borrow.Author.Needs.{needs}
 use denote.Ref.{now}
 use Rattle.paper.specs.Numbers.{mostSolids, faceRoom, solidRoom}
-use Rattle.paper.specs.Format.{editionOne, coordinatesIn, endsIn}
+use Rattle.paper.specs.Format.{coordinatesIn, endsIn, editionOf}
 use Rattle.paper.specs.Sheet.{sheetChecks}
 use Rattle.paper.specs.Drawing.{wire}
 use Rattle.paper.specs.Conversion.{Converted, convertSheet}
@@ -21,8 +21,8 @@ unfolding convertSheet
 returns c =
     let k = c .before .before .before in
     let a = k .before .before .before .before .args in
-    let form = (sheetChecks editionOne (now (a .sheet))) in
-    let d = (wire (coordinatesIn editionOne (now (a .sheet))) (endsIn editionOne (now (a .sheet)))) in
+    let form = (sheetChecks (editionOf (now (a .sheet))) (now (a .sheet))) in
+    let d = (wire (coordinatesIn (editionOf (now (a .sheet))) (now (a .sheet))) (endsIn (editionOf (now (a .sheet))) (now (a .sheet)))) in
     assessed (convertSheet (now (a .sheet)) (a .limit))
     (λ f s f′ s′ p q p′ q′. answer-same f s f′ s′ p q p′ q′ mostSolids form d (a .limit)) (small-enough .sheets-read (now (a .sheet)) (a .limit))
     (replicate faceRoom 0) (replicate solidRoom 0) (omega arith) (omega arith)

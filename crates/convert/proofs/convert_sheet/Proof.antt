@@ -3,7 +3,7 @@ use mathlib.Core.Path.{_≡_, refl, sym, ap, _∙_}
 use borrow.Author.Needs.{needs}
 use denote.Ref.{now}
 use Rattle.paper.specs.Refusals.{firstOf}
-use Rattle.paper.specs.Format.{editionOne, coordinatesIn, endsIn}
+use Rattle.paper.specs.Format.{coordinatesIn, endsIn, editionOf}
 use Rattle.paper.specs.Sheet.{sheetChecks, sheetOf}
 use Rattle.paper.specs.Drawing.{wire}
 use Rattle.paper.specs.Conversion.{entryChecks, convertSheet}
@@ -32,7 +32,7 @@ entry-is : (c : tie.After-entered)
 entry-is c = let a = c .before .before .before .before .args in c .entered .ensures (now (a .faces)) (now (a .solids)) refl refl
 
 form-is : (c : tie.After-read-sheet)
-    → c .read-sheet .result .answer ≡ firstOf (sheetChecks editionOne (now (start (c .before) .args .sheet)))
+    → c .read-sheet .result .answer ≡ firstOf (sheetChecks (editionOf (now (start (c .before) .args .sheet))) (now (start (c .before) .args .sheet)))
 unfolding sheetOf
 form-is c = ap (λ (r : Sheet). r .answer) (c .read-sheet .ensures .0)
 
@@ -44,7 +44,7 @@ returns c =
     let n = c .before .before .before in
     let a = n .before .before .before .before .args in
     let s = now (a .sheet) in
-    stopped (sheetChecks editionOne s) (wire (coordinatesIn editionOne s) (endsIn editionOne s)) (a .limit) (now (a .faces)) (now (a .solids))
+    stopped (sheetChecks (editionOf s) s) (wire (coordinatesIn (editionOf s) s) (endsIn (editionOf s) s)) (a .limit) (now (a .faces)) (now (a .solids))
     (sym (c .before .entry .given .1) ∙ entry-is n)
 
 returns-2 : tie.Need-returns-2
@@ -54,7 +54,7 @@ returns-2 c =
     let n = l .before in
     let a = start n .args in
     let s = now (a .sheet) in
-    stopped-at-form (sheetChecks editionOne s) (wire (coordinatesIn editionOne s) (endsIn editionOne s)) (a .limit) (now (a .faces))
+    stopped-at-form (sheetChecks (editionOf s) s) (wire (coordinatesIn (editionOf s) s) (endsIn (editionOf s) s)) (a .limit) (now (a .faces))
     (now (a .solids)) (sym (n .enum-told .given .1) ∙ entry-is (n .before .before)) (sym (c .before .form .given .1) ∙ form-is l)
 
 drawing-converted-requires : tie.Need-drawing-converted-requires
@@ -76,7 +76,7 @@ returns-3 c =
     let a = start n .args in
     let s = now (a .sheet) in
     let ok = sym (f .enum-told2 .given .1) ∙ form-is l in
-    gone-behind (sheetChecks editionOne s) (wire (coordinatesIn editionOne s) (endsIn editionOne s)) (a .limit) (now (a .faces))
+    gone-behind (sheetChecks (editionOf s) s) (wire (coordinatesIn (editionOf s) s) (endsIn (editionOf s) s)) (a .limit) (now (a .faces))
     (now (a .solids)) (sym (n .enum-told .given .1) ∙ entry-is (n .before .before)) ok
     (sheet-converts s (l .read-sheet .ensures .0) ok (a .limit) (now (a .faces)) (now (a .solids)) (k .drawing-converted .ensures))
 

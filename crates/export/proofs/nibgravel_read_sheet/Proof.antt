@@ -2,7 +2,7 @@
 use mathlib.Core.Path.{_≡_, sym, ap, _∙_, subst}
 use denote.Ref.{now}
 use Rattle.paper.specs.Refusals.{firstOf}
-use Rattle.paper.specs.Format.{editionOne}
+use Rattle.paper.specs.Format.{editionOf}
 use Rattle.paper.specs.Sheet.{sheetChecks, sheetOf}
 use Rattle.paper.specs.declared.Sheet.{Sheet}
 use Rattle.paper_laws.specs.InRange.{Held}
@@ -16,7 +16,7 @@ use Rattle.export.proofs.nibgravel_read_sheet.Tie as tie
 abbrev start : tie.After-read-sheet → tie.Start
 start c = c .before .before .before .before
 
-form-is : (c : tie.After-read-sheet) → c .read-sheet .result .answer ≡ firstOf (sheetChecks editionOne (now (start c .args .sheet)))
+form-is : (c : tie.After-read-sheet) → c .read-sheet .result .answer ≡ firstOf (sheetChecks (editionOf (now (start c .args .sheet))) (now (start c .args .sheet)))
 unfolding sheetOf
 form-is c = ap (λ (r : Sheet). r .answer) (c .read-sheet .ensures .0)
 

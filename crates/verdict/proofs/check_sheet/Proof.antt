@@ -5,7 +5,7 @@ use denote.Ref.{now}
 use lib.IntN.{ℤ}
 use Prim.Native.Nat.{ℕ}
 use Rattle.paper.specs.Refusals.{firstOf}
-use Rattle.paper.specs.Format.{editionOne, coordinatesIn, endsIn}
+use Rattle.paper.specs.Format.{coordinatesIn, endsIn, editionOf}
 use Rattle.paper.specs.Sheet.{sheetChecks, sheetOf}
 use Rattle.paper.specs.Drawing.{wire}
 use Rattle.paper.specs.Verdict.{verdictSheet}
@@ -22,7 +22,7 @@ use Rattle.verdict.proofs.check_sheet.Tie as tie
 abbrev start : tie.After-read-sheet → tie.Start
 start c = c .before .before .before
 
-form-is : (c : tie.After-read-sheet) → c .read-sheet .result .answer ≡ firstOf (sheetChecks editionOne (now (start c .args .sheet)))
+form-is : (c : tie.After-read-sheet) → c .read-sheet .result .answer ≡ firstOf (sheetChecks (editionOf (now (start c .args .sheet))) (now (start c .args .sheet)))
 unfolding sheetOf
 form-is c = ap (λ (r : Sheet). r .answer) (c .read-sheet .ensures .0)
 
@@ -32,7 +32,7 @@ returns c =
     let l = c .before .before .before in
     let a = start l .args in
     let s = now (a .sheet) in
-    let e = form-stops (wire (coordinatesIn editionOne s) (endsIn editionOne s)) (now (a .list)) (sheetChecks editionOne s)
+    let e = form-stops (wire (coordinatesIn (editionOf s) s) (endsIn (editionOf s) s)) (now (a .list)) (sheetChecks (editionOf s) s)
     (sym (c .before .form .given .1) ∙ form-is l) in
     (e, ap verdictSays e)
 
@@ -49,7 +49,7 @@ returns-2 c =
     let a = start l .args in
     let s = now (a .sheet) in
     let ok = sym (f .enum-told .given .1) ∙ form-is l in
-    let e = rest-decides (wire (coordinatesIn editionOne s) (endsIn editionOne s)) (now (a .list)) (sheetChecks editionOne s) ok
+    let e = rest-decides (wire (coordinatesIn (editionOf s) s) (endsIn (editionOf s) s)) (now (a .list)) (sheetChecks (editionOf s) s) ok
     (sheet-lists s (l .read-sheet .ensures .0) ok (λ (xyz : List ℤ) (ends : List ℕ). VerdictChecked xyz ends (now (a .list)) (c .drawing-checked .result))
     (c .drawing-checked .ensures)) in
     (e, ap verdictSays e)

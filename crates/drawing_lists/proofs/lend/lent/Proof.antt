@@ -3,7 +3,7 @@ use lib.ListN.{length}
 use mathlib.Core.Bool.{false}
 use mathlib.Core.Path.{_∙_, sym, _≡_}
 use Rattle.paper_laws.proofs.Checks.{holds, fails}
-use Rattle.paper.specs.Numbers.{leastVertices}
+use Rattle.paper.specs.Numbers.{leastVertices, mostVertices}
 use Rattle.paper.specs.Sheet.{lentChecks, badCount}
 use borrow.Author.Needs.{needs}
 use Rattle.drawing_lists.proofs.lend.lent.Statement.{statement}
@@ -11,7 +11,7 @@ use Rattle.drawing_lists.proofs.lend.lent.Tie as tie
 
 -- the coordinates are whole and as many as they may be
 vertices-pass : (c : tie.Else1)
-    → let a = c .before .before .before .args in badCount 3 leastVertices (a .f .«most_vertices») (length (a .xyz .now)) ≡ false
+    → let a = c .before .before .before .args in badCount 3 leastVertices mostVertices (length (a .xyz .now)) ≡ false
 vertices-pass c = sym (c .before .is-bad-count .ensures) ∙ c .if1 .left
 
 returns : tie.Need-returns
