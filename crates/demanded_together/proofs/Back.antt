@@ -152,7 +152,7 @@ module _ (s room₀ : List ℕ) where
   pub written-back : Under 256 s → Answer.Fine ≡ firstOf (sheetChecks (editionOf s) s) → {q : Sheet} {r : Written} {room : List ℕ}
       → q ≡ readSheet s → WrittenFrom (q .drawing) room₀ r room → WritesBack s room₀ r room
   written-back bytes ok {q} e w =
-      let points-are = ap (λ (q : Sheet). coordinatesOf (q .drawing)) e ∙ sym (coordinates-are editionOne s ok) in
-      let links-are = ap (λ (q : Sheet). linksOf (q .drawing)) e ∙ sym (ends-are editionOne s ok) in
+      let points-are = ap (λ (q : Sheet). coordinatesOf (q .drawing)) e ∙ sym (coordinates-are (editionOf s) s ok) in
+      let links-are = ap (λ (q : Sheet). linksOf (q .drawing)) e ∙ sym (ends-are (editionOf s) s ok) in
       again bytes ok (w .0 ∙ (λ i. writtenOf (lentEdition (points-are i) (links-are i)) (points-are i) (links-are i) room₀))
       (w .1 ∙ (λ i. roomOf (lentEdition (points-are i) (links-are i)) (points-are i) (links-are i) room₀))

@@ -6,12 +6,13 @@ use borrow.Author.Tests.{le-ltb}
 use lib.ListN.{length}
 use Rattle.paper.specs.Numbers.{documented}
 use Rattle.paper.specs.Refusals.{firstOf}
-use Rattle.paper.specs.Format.{editionOne, coordinatesIn, endsIn, editionOf}
+use Rattle.paper.specs.Format.{coordinatesIn, endsIn, editionOf}
 use Rattle.paper.specs.Drawing.{drawingChecks}
 use Rattle.paper.specs.Loops.{loops, candidates, loopChecks}
 use Rattle.paper.specs.Conversion.{entryChecks, conversion, convertLists, convertSheet}
 use Rattle.paper.specs.Verdict.{verdict, verdictLists, verdictSheet}
 use Rattle.paper.specs.declared.Answer.the-variants.{Fine}
+use Rattle.paper_laws.proofs.Editions.{limited-of}
 use Rattle.paper_laws.proofs.Checks.{clear, fails, first-both, both-first}
 use Rattle.means_sheets.proofs.Sheets.Read.{accepted-lent}
 use Rattle.means_drawing.specs.Drawings.{Rising}
@@ -65,8 +66,8 @@ unrefused x p limit room solids a =
 
 -- the ends of edges rise where 9 finds nothing
 pub rising : (x : Input) → Fine ≡ firstOf (form x) → Rising (drawing x)
-rising (lent xyz ends) e = lent-rising editionOne xyz ends e
-rising (sheet s) e = lent-rising editionOne (coordinatesIn (editionOf s) s) (endsIn (editionOf s) s) (accepted-lent editionOne s e)
+rising (lent xyz ends) e = lent-rising xyz ends e
+rising (sheet s) e = lent-rising (coordinatesIn (editionOf s) s) (endsIn (editionOf s) s) (accepted-lent (editionOf s) (limited-of s) s e)
 
 -- "4 to 32 vertices; 6 to 64 edges"
 pub small : (x : Input) → Fine ≡ firstOf (form x) → InCounts (drawing x)

@@ -7,7 +7,7 @@ use native.Mathlib.Omega.{arith}
 use lib.ListN.{length}
 use Rattle.paper.specs.Numbers.{mostSolids, documented}
 use Rattle.paper.specs.Refusals.{firstOf}
-use Rattle.paper.specs.Format.{editionOne}
+use Rattle.paper.specs.Format.{editionOf}
 use Rattle.paper.specs.Drawing.{samePlace, drawingChecks}
 use Rattle.paper.specs.Loops.{loops, uncovering, candidates, loopChecks}
 use Rattle.paper.specs.Conversion.{Converted, entryChecks, conversion}
@@ -18,6 +18,7 @@ use Rattle.paper.specs.declared.Refusal.{Refusal}
 use Rattle.means_report.specs.Listed.{Entry}
 use Rattle.means_report.specs.Report.{solidCount}
 use Rattle.means_report.proofs.Counted.{counted}
+use Rattle.paper_laws.proofs.Editions.{limited-of}
 use Rattle.paper_laws.proofs.Checks.{first-stops, first-both, both-first}
 use Rattle.means_check.proofs.Demand.{drawing-places}
 use Rattle.means_moves.specs.Renumbered.{NewNumbers}
@@ -35,8 +36,8 @@ use Rattle.demands.proofs.Solid.{of-words, in-words, every-words}
 use Rattle.demands.specs.Renumbered.{SameSolid, Given, SolidsKept, ListsAll, OneToOne, Renumbers}
 
 sorted : (x : Input) → Answer.Fine ≡ firstOf (form x) → Sorted (drawing x)
-sorted (lent xyz ends) e = lent-sorted editionOne xyz ends e
-sorted (sheet s) e = sheet-sorted editionOne s e
+sorted (lent xyz ends) e = lent-sorted xyz ends e
+sorted (sheet s) e = sheet-sorted (editionOf s) (limited-of s) s e
 
 -- a refusal of 1 and 2 is no matter of the drawing
 module _ (x : Input) (limit : ℕ) (faces solids : List ℕ) where

@@ -10,7 +10,7 @@ use lib.IntN.{ℤ}
 use lib.ListN.{length, take, drop}
 use Rattle.paper.specs.Refusals as No
 use Rattle.paper.specs.Refusals.{Check, check, offends, firstOf}
-use Rattle.paper.specs.Format.{editionOne, verticesIn, edgesIn, coordinatesIn, endsIn, editionOf}
+use Rattle.paper.specs.Format.{verticesIn, edgesIn, coordinatesIn, endsIn, editionOf}
 use Rattle.paper.specs.Sheet.{sheetChecks, readSheet}
 use Rattle.paper.specs.Reading.{fine, refused}
 use Rattle.paper.specs.declared.Answer.{Answer}
@@ -108,11 +108,11 @@ module _ (s : List ℕ) (xyz₀ : List ℤ) (ends₀ : List ℕ) {r : ℕ} {word
       let d = readSheet s .drawing in
       let same : Handed d xyz₀ ends₀ r xyz ends words₀ words =
       subst (λ (y : Sheet). Handed (y .drawing) xyz₀ ends₀ r xyz ends words₀ words) e h in
-      let counts = returns editionOne s ok in
+      let counts = returns (editionOf s) s ok in
       let v : d .vertices ≡ verticesIn (editionOf s) s = ap (λ (x : Drawing). x .vertices) counts in
       let n : d .edges ≡ edgesIn (editionOf s) s = ap (λ (x : Drawing). x .edges) counts in
-      let p = sym (coordinates-are editionOne s ok) in
-      let l = sym (ends-are editionOne s ok) in
+      let p = sym (coordinates-are (editionOf s) s ok) in
+      let l = sym (ends-are (editionOf s) s ok) in
       let checks = roomChecks points links xyz₀ ends₀ in
       subst (λ (x : Read). ReadsAs x r xyz ends words₀ words)
       ((λ i. readFor (firstOf (roomChecks (p i) (l i) xyz₀ ends₀)) (v i) (n i) (p i) (l i) xyz₀ ends₀)

@@ -27,6 +27,7 @@ use Rattle.means_drawing.proofs.Drawings.Vertices.{samePlace-search, sa
 use Rattle.means_drawing.proofs.Drawings.Edges.{edgeMeets-search, rising-long}
 use Rattle.means_drawing.proofs.Drawings.Rows.{marked-means, apart-search, apart-none}
 use Rattle.means_drawing.proofs.Drawings.Lists.{lent-rising}
+use Rattle.paper_laws.specs.Editions.{Limited}
 
 module _ (d : Wire) where
   -- ---- 11
@@ -99,14 +100,14 @@ module _ (d : Wire) where
 
 -- ---- of lists that are lent, and of a sheet that is accepted: 9 comes before 11
 
-pub lent-long : (f : Format) (xyz : List ℤ) (ends : List ℕ) → Fine ≡ firstOf (lentChecks xyz ends)
+pub lent-long : (xyz : List ℤ) (ends : List ℕ) → Fine ≡ firstOf (lentChecks xyz ends)
     → samePlace (wire xyz ends) ≡ none → Long (wire xyz ends)
-lent-long f xyz ends h = long-edges (wire xyz ends) (lent-rising f xyz ends h)
+lent-long xyz ends h = long-edges (wire xyz ends) (lent-rising xyz ends h)
 
-pub lent-rules : (f : Format) (xyz : List ℤ) (ends : List ℕ) → Fine ≡ firstOf (lentChecks xyz ends)
+pub lent-rules : (xyz : List ℤ) (ends : List ℕ) → Fine ≡ firstOf (lentChecks xyz ends)
     → RulesSay (wire xyz ends) (firstOf (drawingChecks (wire xyz ends)))
-lent-rules f xyz ends h = rules-say (wire xyz ends) (lent-rising f xyz ends h)
+lent-rules xyz ends h = rules-say (wire xyz ends) (lent-rising xyz ends h)
 
-pub sheet-rules : (f : Format) (s : List ℕ) → Fine ≡ firstOf (sheetChecks f s)
+pub sheet-rules : (f : Format) → Limited f → (s : List ℕ) → Fine ≡ firstOf (sheetChecks f s)
     → RulesSay (wire (coordinatesIn f s) (endsIn f s)) (firstOf (drawingChecks (wire (coordinatesIn f s) (endsIn f s))))
-sheet-rules f s h = lent-rules f (coordinatesIn f s) (endsIn f s) (accepted-lent f s h)
+sheet-rules f held s h = lent-rules (coordinatesIn f s) (endsIn f s) (accepted-lent f held s h)

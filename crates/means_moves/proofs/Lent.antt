@@ -82,7 +82,7 @@ far-mirror (x ∷ (y ∷ (z ∷ l))) (suc (suc (suc k))) = far-mirror l k
 checks-lent : (f : Format) (xyz xyz′ : List ℤ) (ends : List ℕ) → length xyz′ ≡ length xyz
     → lowest (farAt xyz′) (length xyz) ≡ lowest (farAt xyz) (length xyz) → lentChecks xyz′ ends ≡ lentChecks xyz ends
 unfolding lentChecks contentChecks
-checks-lent f xyz xyz′ ends e h =
+checks-lent xyz xyz′ ends e h =
     ap (λ (n : ℕ). check No.BadCount (offends (badCount 3 leastVertices (f .«most_vertices») n) 0)
     ∷ check No.BadCount (offends (badCount 2 leastEdges (f .«most_edges») (length ends)) 1)
     ∷ check No.BadCoordinate (lowest (farAt xyz′) n) ∷ edgeChecks (n / 3) ends) e
@@ -94,7 +94,7 @@ pub forms-near : (f : Point → Point) (xyz : List ℤ) (ends : List ℕ) → Wi
     → firstOf (lentChecks (eachVertex f xyz) ends) ≡ firstOf (lentChecks xyz ends)
 unfolding farAt
 forms-near f xyz ends a b =
-    ap firstOf (checks-lent editionOne xyz (eachVertex f xyz) ends (long-each f xyz)
+    ap firstOf (checks-lent xyz (eachVertex f xyz) ends (long-each f xyz)
     (lowest-same (farAt (eachVertex f xyz)) (farAt xyz) (length xyz)
     (λ k h. near-far (getD (eachVertex f xyz) k (pos 0)) (b k (omega (arith, long-each f xyz))) ∙ sym
     (near-far (getD xyz k (pos 0)) (a k h)))))
@@ -103,7 +103,7 @@ pub forms-mirror : (xyz : List ℤ) (ends : List ℕ)
     → firstOf (lentChecks (eachVertex mirror xyz) ends) ≡ firstOf (lentChecks xyz ends)
 unfolding farAt
 forms-mirror xyz ends =
-    ap firstOf (checks-lent editionOne xyz (eachVertex mirror xyz) ends (long-each mirror xyz)
+    ap firstOf (checks-lent xyz (eachVertex mirror xyz) ends (long-each mirror xyz)
     (lowest-same (farAt (eachVertex mirror xyz)) (farAt xyz) (length xyz) (λ k h. far-mirror xyz k)))
 
 -- ---- 9

@@ -28,6 +28,7 @@ use Rattle.means_drawing.specs.Drawings.{start, stop}
 use Rattle.means_drawing.proofs.Drawings.Lists.{lent-rising}
 use Rattle.means_sheets.proofs.Sheets.Read.{accepted-lent}
 use Rattle.means_moves.proofs.Refused.{Sorted}
+use Rattle.paper_laws.specs.Editions.{Limited}
 
 -- as pairs
 Above : Edge → Edge → Type 0
@@ -95,9 +96,9 @@ module _ (ends : List ℕ) (order : lowest (lowAt ends) (length ends / 2) ≡ no
       go (no p) (no q) = omega arith
 
 -- two lists that pass 3 to 10; a sheet that does
-pub lent-sorted : (f : Format) (xyz : List ℤ) (ends : List ℕ) → Fine ≡ firstOf (lentChecks xyz ends) → Sorted (wire xyz ends)
+pub lent-sorted : (xyz : List ℤ) (ends : List ℕ) → Fine ≡ firstOf (lentChecks xyz ends) → Sorted (wire xyz ends)
 unfolding wire edgeAt contentChecks edgeChecks
-lent-sorted f xyz ends h =
+lent-sorted xyz ends h =
     let v = length xyz / 3 in
     let n = length ends / 2 in
     let last = check No.EdgeOrder (lowest (lowAt ends) n) ∷ [] in
@@ -105,11 +106,11 @@ lent-sorted f xyz ends h =
     let content : Fine ≡ firstOf (check No.BadCoordinate (lowest (farAt xyz) (length xyz)) ∷ nine) = lent xyz ends h .fine in
     let order = found-none No.EdgeOrder [] (found-none No.BadEdge last (found-none No.BadCoordinate nine content .1) .1) .0 in
     record {
-      rising = lent-rising f xyz ends h;
+      rising = lent-rising xyz ends h;
       once = λ i j hi hj e.
           once ends order i j (omega (arith, length-edges ends)) (omega (arith, length-edges ends))
           (sym (edge-at ends i (edge 0 0) hi) ∙ e ∙ edge-at ends j (edge 0 0) hj);
     }
 
-pub sheet-sorted : (f : Format) (s : List ℕ) → Fine ≡ firstOf (sheetChecks f s) → Sorted (wire (coordinatesIn f s) (endsIn f s))
-sheet-sorted f s h = lent-sorted f (coordinatesIn f s) (endsIn f s) (accepted-lent f s h)
+pub sheet-sorted : (f : Format) → Limited f → (s : List ℕ) → Fine ≡ firstOf (sheetChecks f s) → Sorted (wire (coordinatesIn f s) (endsIn f s))
+sheet-sorted f held s h = lent-sorted (coordinatesIn f s) (endsIn f s) (accepted-lent f held s h)

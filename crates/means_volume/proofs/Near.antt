@@ -7,7 +7,7 @@ use lib.ListN.{getD}
 use Rattle.paper.specs.Numbers.{farthest}
 use Rattle.paper.specs.Points.{origin}
 use Rattle.paper.specs.Refusals.{firstOf}
-use Rattle.paper.specs.Format.{editionOne, verticesIn, coordinatesIn, endsIn, editionOf}
+use Rattle.paper.specs.Format.{verticesIn, coordinatesIn, endsIn, editionOf}
 use Rattle.paper.specs.Sheet.{lentChecks, sheetChecks}
 use Rattle.paper.specs.Drawing.{wire, pointsOf, at}
 use Rattle.paper.specs.declared.Answer.the-variants.{Fine}
@@ -40,4 +40,4 @@ pub sheet-near : (s : List ℕ) → Fine ≡ firstOf (sheetChecks (editionOf s) 
 unfolding wire at
 sheet-near s e v =
     points-near (coordinatesIn (editionOf s) s)
-    (contents (verticesIn (editionOf s) s) (coordinatesIn (editionOf s) s) (endsIn (editionOf s) s) (accepted-contents editionOne s e) .near) v
+    (contents (verticesIn (editionOf s) s) (coordinatesIn (editionOf s) s) (endsIn (editionOf s) s) (accepted-contents (editionOf s) s e) .near) v

@@ -22,7 +22,7 @@ pub record Ready (f : Format) (xyz : List ℤ) (ends : List ℕ) (v e r : ℕ) :
   pub stretch : f .«vertex_number_bits» * length ends ≡ 2 * f .«vertex_number_bits» * e
   pub small : total f v e ≤ 4200
   pub fits : total f v e ≤ r * 8
-  pub good : Lent f xyz ends
+  pub good : Lent xyz ends
   pub in-range : Near xyz
 
 pub ready : {f : Format} {xyz : List ℤ} {ends room : List ℕ} {v e : ℕ} → Writable f xyz ends room v e

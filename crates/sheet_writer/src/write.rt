@@ -91,7 +91,7 @@ pub fn write(f: Format, xyz: &[i64], ends: &[u8], room: &mut [u8]) -> Written
     ensures answer { λ r. ⌜ r ≡ writtenOf f (now (xyz .entry)) (now (ends .entry)) (now (room .entry)) ⌝ }
     ensures kept { λ _. ⌜ now (room .exit) ≡ roomOf f (now (xyz .entry)) (now (ends .entry)) (now (room .entry)) ⌝ }
 {
-    match lent(f, xyz, ends) {
+    match lent(xyz, ends) {
         Answer::Refused(r) => Written::Refused(r),
         Answer::Fine => {
             let v = xyz.len() / 3;

@@ -9,7 +9,7 @@ use Rattle.exact.specs.Size.{Within}
 use Rattle.exact.proofs.Size.{within-lit}
 use Rattle.paper.specs.Numbers.{mostEdges, faceRoom}
 use Rattle.paper.specs.Refusals.{firstOf}
-use Rattle.paper.specs.Format.{editionOne, coordinatesIn, endsIn, editionOf}
+use Rattle.paper.specs.Format.{coordinatesIn, endsIn, editionOf}
 use Rattle.paper.specs.Sheet.{sheetChecks, lentChecks, sheetOf, readSheet}
 use Rattle.paper.specs.declared.Answer.the-variants.{Fine}
 use Rattle.paper.specs.declared.Sheet.{Sheet}
@@ -22,6 +22,7 @@ use Rattle.walk_tables.specs.Words.{mostPart, SmallSixes, WalkTables, walkTable
 use Rattle.walk_input.specs.Given.{coordinatesOf, linksOf, GivenDrawing}
 use Rattle.walk_input.specs.Tables.{TablesAt}
 use Rattle.walk_input.proofs.Listing.{all-same}
+use Rattle.paper_laws.proofs.Editions.{limited-of}
 
 -- ---- rooms with nothing in them
 
@@ -60,9 +61,9 @@ module _ (s : List ℕ) {r : Sheet} (e : r ≡ readSheet s) (ok : Fine ≡ first
   pub sheet-given : GivenDrawing (r .drawing)
   unfolding sheetOf
   sheet-given =
-      let c = coordinates-are editionOne s ok in
-      let n = ends-are editionOne s ok in
-      let fine = accepted-lent editionOne s ok ∙ (λ i. firstOf (lentChecks (c i) (n i))) in
+      let c = coordinates-are (editionOf s) s ok in
+      let n = ends-are (editionOf s) s ok in
+      let fine = accepted-lent (editionOf s) (limited-of s) s ok ∙ (λ i. firstOf (lentChecks (c i) (n i))) in
       subst (λ (x : Sheet). GivenDrawing (x .drawing)) (sym e) (record { held = read-range s ok; passed = fine })
 
   -- what holds of its lists holds of those on the sheet
@@ -70,6 +71,6 @@ module _ (s : List ℕ) {r : Sheet} (e : r ≡ readSheet s) (ok : Fine ≡ first
       → P (coordinatesIn (editionOf s) s) (endsIn (editionOf s) s)
   sheet-lists P h =
       let same = subst (λ (x : Sheet). P (coordinatesOf (x .drawing)) (linksOf (x .drawing))) e h in
-      let c = sym (coordinates-are editionOne s ok) in
-      let n = sym (ends-are editionOne s ok) in
+      let c = sym (coordinates-are (editionOf s) s ok) in
+      let n = sym (ends-are (editionOf s) s ok) in
       transport (λ i. P (c i) (n i)) same

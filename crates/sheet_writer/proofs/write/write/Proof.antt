@@ -35,7 +35,7 @@ counts : (c : tie.After-enum-told)
     → let a = start c .args in NarrowCounts (a .f) (length (a .xyz .now) / 3) (length (a .ends .now) / 2)
 counts c =
     let n = start c .pre in
-    let g = lent _ _ _ (passes c) in
+    let g = lent _ _ (passes c) in
     record { narrow = n; v-few = omega (arith, g, n); e-few = omega (arith, g, n) }
 
 -- the room is long enough
