@@ -8,14 +8,13 @@ use native.Mathlib.Omega.{arith}
 use borrow.Author.Tests.{not-false}
 use lib.ListN.{length, getD}
 use Rattle.paper.specs.Numbers.{documented}
-use Rattle.paper.specs.Format.{editionOne}
 use Rattle.paper.specs.Refusals.{Check, check, firstOf, offends}
 use Rattle.paper.specs.Drawing.{Wire, drawingChecks}
 use Rattle.paper.specs.Loops.{Loop, loops, candidates, loopChecks}
 use Rattle.paper.specs.Solids.{tablesOf}
 use Rattle.paper.specs.FaceList.{facesIn, wellShaped}
 use Rattle.paper.specs.Verdict.{listed, notCandidate, faceTwice, edgeCount, direction, pieces, inward, clashes, faceChecks, verdictFor}
-use Rattle.paper.specs.Verdict.{verdict}
+use Rattle.paper.specs.Verdict.{verdict, listEdition}
 use Rattle.paper.specs.declared.Answer.{Answer}
 use Rattle.paper.specs.declared.Answer.the-variants.{Fine, Refused}
 use Rattle.paper.specs.declared.Verdict.the-variants.{Accepted}
@@ -144,10 +143,10 @@ fine-verdict (Refused r) e = let z : _≡_ {A = ℕ} 0 1 = cc in absurd (omega a
 
 module _ (form : List Check) (d : Wire) (list : List ℕ) where
   abbrev faceLast : List Check
-  faceLast = faceChecks (tablesOf d (candidates d)) (length (candidates d)) (listed (candidates d) (facesIn editionOne list))
+  faceLast = faceChecks (tablesOf d (candidates d)) (length (candidates d)) (listed (candidates d) (facesIn (listEdition d) list))
 
   abbrev shapeOf : Option ℕ
-  shapeOf = offends (not (wellShaped editionOne (length (d .vertices)) list)) 0
+  shapeOf = offends (not (wellShaped (listEdition d) (length (d .vertices)) list)) 0
 
   verdict-is : verdictFor (firstOf (form ++ drawingChecks d ++ loopChecks documented (loops d) (candidates d) ++ (check 20 shapeOf ∷ faceLast)))
       ≡ verdict form d list
@@ -180,8 +179,8 @@ module _ (form : List Check) (d : Wire) (c : ProperCandidates d (candidates d)) 
         form-passes = r .0;
         drawing-passes = r .1;
         few = q .1;
-        shape = not-false (wellShaped editionOne (length (d .vertices)) list) (s .0);
-        named = accepted-names d (candidates d) (facesIn editionOne list) c (s .1);
+        shape = not-false (wellShaped (listEdition d) (length (d .vertices)) list) (s .0);
+        named = accepted-names d (candidates d) (facesIn (listEdition d) list) c (s .1);
       }
 
   pub accepts-verdict : Accepts form d list → verdict form d list ≡ Accepted
@@ -190,5 +189,5 @@ module _ (form : List Check) (d : Wire) (c : ProperCandidates d (candidates d)) 
       (both-first (form ++ drawingChecks d ++ loopChecks documented (loops d) (candidates d)) (check 20 (shapeOf form d list) ∷ faceLast form d list)
       (both-first (form ++ drawingChecks d) (loopChecks documented (loops d) (candidates d))
       (both-first form (drawingChecks d) (a .form-passes) (a .drawing-passes)) (a .few))
-      (names-accepted d (candidates d) (facesIn editionOne list) c (a .named) ∙ fails 20 0 (faceLast form d list) (ap not (a .shape))))
+      (names-accepted d (candidates d) (facesIn (listEdition d) list) c (a .named) ∙ fails 20 0 (faceLast form d list) (ap not (a .shape))))
       ∙ verdict-is form d list)

@@ -1,4 +1,4 @@
--- A solid of a drawing with at most 64 edges has at most 42 faces, and so its faces can be sent as a list.
+-- A solid of a drawing that an edition has room for has no more faces than a face list of it, and so its faces can be sent as a list.
 use mathlib.Core.Path.{_≡_, refl, sym, ap, subst, _∙_}
 use mathlib.Core.Bool.{Bool, true, false, cond}
 use mathlib.Core.Option.{none}
@@ -11,9 +11,13 @@ use Rattle.lists.specs.Lists.{keep, filter, from, upto}
 use Rattle.lists.proofs.Places.{map-at, upto-length, upto-at, one-later}
 use Rattle.sets.specs.Word.{bit, dig, count}
 use Rattle.sets.proofs.Digits.{never}
-use Rattle.paper.specs.Format.{editionOne}
+use Rattle.paper.specs.Numbers.{mostVertices, mostEdges}
 use Rattle.paper.specs.Drawing.{Wire, samePlace}
 use Rattle.paper.specs.Loops.{Loop, loopAt, flipped, candidates}
+use Rattle.paper.specs.Verdict.{listEdition}
+use Rattle.paper.specs.declared.Format.{Format}
+use Rattle.paper_laws.specs.Editions.{Roomy}
+use Rattle.paper_laws.proofs.Editions.{roomy-for, fits-for}
 use Rattle.means_solid.specs.Solid.{IsSolid}
 use Rattle.means_loops.specs.Path.{ClosedPath}
 use Rattle.means_solid.specs.Named.{directed}
@@ -57,9 +61,10 @@ module _ (d : Wire) (cs : List Loop) (taken turned : List Bool) (paths : (k : �
       let b = over-le taken (λ l. 3) length cs (λ i h. paths i h .three) in
       omega (arith, a, b, corners-few d cs taken turned paths s)
 
-  pub can-be-sent : length (d .edges) ≤ 64 → Sendable editionOne (length (d .vertices)) (faceList d cs taken turned)
+  pub can-be-sent : (f : Format) → Roomy f → length (d .edges) ≤ f .«most_edges»
+      → Sendable f (length (d .vertices)) (faceList d cs taken turned)
   unfolding faceList upto
-  can-be-sent few = record {
+  can-be-sent f roomy few = record {
     least = omega (arith, long, four-faces d cs taken turned paths s);
     most = omega (arith, long, faces-few);
     few = λ i h. let c = face i h in c .three;
@@ -89,9 +94,12 @@ module _ (d : Wire) (cs : List Loop) (taken turned : List Bool) (paths : (k : �
           (subst (λ (k : ℕ). ClosedPath d (directed d cs taken turned k)) (sym q)
           (turn (dig turned (r .0)) (loopAt cs (r .0)) (paths (r .0) b)))
 
--- every solid of a drawing with at most 64 edges can be sent as a list of its faces
-pub solid-sent : (d : Wire) → samePlace d ≡ none → length (d .edges) ≤ 64 → (taken turned : List Bool) {six : ℕ}
-    → IsSolid d (candidates d) taken turned six
-    → Sendable editionOne (length (d .vertices)) (faceList d (candidates d) taken turned)
-solid-sent d e few taken turned s =
-    can-be-sent d (candidates d) taken turned (λ k h. loop-path d e (loopAt (candidates d) k) (candidates-are d k h .loop)) s few
+-- every solid of a drawing of so many vertices and edges as there may be can be sent as a list of its faces
+pub solid-sent : (d : Wire) → samePlace d ≡ none → length (d .vertices) ≤ mostVertices → length (d .edges) ≤ mostEdges
+    → (taken turned : List Bool) {six : ℕ} → IsSolid d (candidates d) taken turned six
+    → Sendable (listEdition d) (length (d .vertices)) (faceList d (candidates d) taken turned)
+solid-sent d e few-vertices few-edges taken turned s =
+    let v = length (d .vertices) in
+    let n = length (d .edges) in
+    can-be-sent d (candidates d) taken turned (λ k h. loop-path d e (loopAt (candidates d) k) (candidates-are d k h .loop)) s
+    (listEdition d) (roomy-for v n) (fits-for v n few-vertices few-edges .e-fits)

@@ -4,8 +4,8 @@ use mathlib.Core.Bool.{Bool, true}
 use mathlib.Core.List.{List}
 use Prim.Native.Nat.{ℕ}
 use lib.ListN.{length}
+use Rattle.paper.specs.Verdict.{listEdition}
 use Rattle.paper.specs.Numbers.{documented}
-use Rattle.paper.specs.Format.{editionOne}
 use Rattle.paper.specs.Refusals.{Check, firstOf}
 use Rattle.paper.specs.Drawing.{Wire, drawingChecks}
 use Rattle.paper.specs.Loops.{Loop, loops, candidates, loopChecks}
@@ -27,5 +27,5 @@ pub record Accepts (form : List Check) (d : Wire) (list : List ℕ) : Type 0 whe
   pub form-passes : Fine ≡ firstOf form
   pub drawing-passes : Fine ≡ firstOf (drawingChecks d)
   pub few : Fine ≡ firstOf (loopChecks documented (loops d) (candidates d))
-  pub shape : wellShaped editionOne (length (d .vertices)) list ≡ true
-  pub named : NamesSolid d (candidates d) (facesIn editionOne list)
+  pub shape : wellShaped (listEdition d) (length (d .vertices)) list ≡ true
+  pub named : NamesSolid d (candidates d) (facesIn (listEdition d) list)

@@ -8,7 +8,7 @@ use Rattle.paper.specs.Refusals.{Check, firstOf}
 use Rattle.paper.specs.Drawing.{Wire, drawingChecks}
 use Rattle.paper.specs.Loops.{loops, candidates, loopChecks}
 use Rattle.paper.specs.Solids.{tablesOf}
-use Rattle.paper.specs.Verdict.{verdictFor, verdict}
+use Rattle.paper.specs.Verdict.{listEdition, verdictFor, verdict}
 use Rattle.paper.specs.declared.Answer.{Answer}
 use Rattle.paper.specs.declared.Answer.the-variants.{Fine, Refused}
 use Rattle.paper.specs.declared.Refusal.{Refusal}
@@ -26,7 +26,7 @@ refused-so e = ap verdictFor e
 
 module _ (d : Wire) (list : List ℕ) where
   abbrev mine : List Check
-  mine = listChecks (length (d .vertices)) (candidates d) (tablesOf d (candidates d)) list
+  mine = listChecks (listEdition d) (length (d .vertices)) (candidates d) (tablesOf d (candidates d)) list
 
   pub drawing-stops : {r : Refusal} → Refused r ≡ firstOf (checksOf d) → Verdict.Refused r ≡ verdictFor (firstOf (restChecks d list))
   drawing-stops e = refused-so (first-stops (checksOf d) mine e)

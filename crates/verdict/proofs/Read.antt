@@ -9,9 +9,9 @@ use Rattle.lists.proofs.Passing.{all-yes}
 use Rattle.paper.specs.Numbers.{mostFaces, leastCorners, mostCorners}
 use Rattle.paper.specs.Refusals as No
 use Rattle.paper.specs.Refusals.{Check, check, offends, firstOf}
-use Rattle.paper.specs.Format.{editionOne}
 use Rattle.paper.specs.Loops.{Loop, loopAt}
 use Rattle.paper.specs.FaceList.{noFaces, countIn, facesIn, faceFits, wellShaped, facesOf}
+use Rattle.paper.specs.declared.Format.{Format}
 use Rattle.paper.specs.declared.Answer.the-variants.{Fine, Refused}
 use Rattle.paper.specs.declared.Faces.{Faces}
 use Rattle.paper.specs.declared.Refusal.{Refusal}
@@ -24,52 +24,53 @@ use Rattle.faces_reader.proofs.Filed.{held, fine-is}
 use Rattle.verdict_faces.specs.Form.{FaceIn}
 use Rattle.verdict_faces.specs.Named.{HoldsTable}
 use Rattle.verdict_faces.proofs.Held.{face-held, padded-held}
+use Rattle.paper_laws.specs.Editions.{Limited}
 
-module _ (v : ℕ) (list : List ℕ) {x : Faces} (e : x ≡ facesOf editionOne v list) where
+module _ (f : Format) (v : ℕ) (list : List ℕ) {x : Faces} (e : x ≡ facesOf f v list) where
   -- 20 refuses it
   pub shape-stops : {r : Refusal} (rest : List Check) → Refused r ≡ x .answer
-      → Refused r ≡ firstOf (check No.ShellShape (offends (not (wellShaped editionOne v list)) 0) ∷ rest)
+      → Refused r ≡ firstOf (check No.ShellShape (offends (not (wellShaped f v list)) 0) ∷ rest)
   unfolding facesOf
-  shape-stops {r} rest a = go (wellShaped editionOne v list) refl (a ∙ ap (λ (y : Faces). y .answer) e)
+  shape-stops {r} rest a = go (wellShaped f v list) refl (a ∙ ap (λ (y : Faces). y .answer) e)
     where
-      go : (b : Bool) → wellShaped editionOne v list ≡ b → Refused r ≡ cond b (held editionOne v list) noFaces .answer
-          → Refused r ≡ firstOf (check No.ShellShape (offends (not (wellShaped editionOne v list)) 0) ∷ rest)
+      go : (b : Bool) → wellShaped f v list ≡ b → Refused r ≡ cond b (held f v list) noFaces .answer
+          → Refused r ≡ firstOf (check No.ShellShape (offends (not (wellShaped f v list)) 0) ∷ rest)
       go true t q = let z : _≡_ {A = ℕ} 1 0 = cc in absurd (omega arith)
       go false t q = q ∙ holds No.ShellShape 0 rest (ap not t)
 
   -- or it is passed
   module _ (ok : Fine ≡ x .answer) where
     abbrev fs : List Loop
-    fs = facesIn editionOne list
+    fs = facesIn f list
 
-    whole : (wellShaped editionOne v list ≡ true) × (facesOf editionOne v list ≡ held editionOne v list)
-    whole = fine-is editionOne v list (ok ∙ ap (λ (y : Faces). y .answer) e)
+    whole : (wellShaped f v list ≡ true) × (facesOf f v list ≡ held f v list)
+    whole = fine-is f v list (ok ∙ ap (λ (y : Faces). y .answer) e)
 
-    shaped : Shaped editionOne v list
-    shaped = shape-yes editionOne v list (whole .0)
+    shaped : Shaped f v list
+    shaped = shape-yes f v list (whole .0)
 
     pub shape-passes : (rest : List Check)
-        → firstOf rest ≡ firstOf (check No.ShellShape (offends (not (wellShaped editionOne v list)) 0) ∷ rest)
+        → firstOf rest ≡ firstOf (check No.ShellShape (offends (not (wellShaped f v list)) 0) ∷ rest)
     shape-passes rest = fails No.ShellShape 0 rest (ap not (whole .0))
 
-    is-held : x ≡ held editionOne v list
+    is-held : x ≡ held f v list
     is-held = e ∙ whole .1
 
     -- so many faces
-    count-is : x .count ≡ countIn editionOne list
+    count-is : x .count ≡ countIn f list
     count-is = ap (λ (y : Faces). y .count) is-held
 
     pub some-faces : 0 < x .count
     some-faces = omega (arith, count-is, shaped .least)
 
-    pub few-faces : x .count ≤ mostFaces
-    few-faces = omega (arith, count-is, shaped .most)
+    pub few-faces : Limited f → x .count ≤ mostFaces
+    few-faces held-by = omega (arith, count-is, shaped .most, held-by .faces-held)
 
     -- of 3 to 12 corners each
     fit : (k : ℕ) → k < length fs → (leastCorners ≤ length (loopAt fs k)) × (length (loopAt fs k) ≤ mostCorners)
     fit k h =
-        let f = face-yes editionOne v (loopAt fs k) (all-yes (faceFits editionOne v) [] fs (shaped .faces) k h) in
-        (f .0, f .1)
+        let y = face-yes f v (loopAt fs k) (all-yes (faceFits f v) [] fs (shaped .faces) k h) in
+        (y .0, y .1)
 
     short : Short fs
     short k h = fit k h .1
@@ -77,7 +78,7 @@ module _ (v : ℕ) (list : List ℕ) {x : Faces} (e : x ≡ facesOf editionOne v
     -- in rows
     pub faces-held : HoldsTable (x .rows) (x .count) fs
     faces-held =
-        let all = length-in editionOne list ∙ sym count-is in
+        let all = length-in f list ∙ sym count-is in
         let rows = sym (ap (λ (y : Faces). y .rows) is-held) in
         transport (λ i. HoldsTable (rows i) (all i) fs) (padded-held fs short allRows)
 

@@ -19,12 +19,17 @@ use Rattle.walk_input.specs.declared.rows.Counts.{Counts}
 use Rattle.walk_input.proofs.Given.{few-edges}
 use Rattle.verdict_faces.specs.Named.{HoldsTable}
 use Rattle.verdict.specs.Checked.{ListAt}
+use Rattle.paper_laws.proofs.Wires.{length-edges}
 
 -- three coordinates for each vertex
 pub vertices-are : (xyz : List ℤ) (ends : List ℕ) → PassedLists xyz ends → length xyz / 3 ≡ length (wire xyz ends .vertices)
 vertices-are xyz ends ok =
     let r = lent-range xyz ends ok in
     omega (arith, r .points .whole, Loops.vertices-are r)
+
+pub edges-are : (xyz : List ℤ) (ends : List ℕ) → length ends / 2 ≡ length (wire xyz ends .edges)
+unfolding wire
+edges-are xyz ends = sym (length-edges ends)
 
 module _ {xyz : List ℤ} {ends rows₀ rows : List ℕ} {tables : WalkTables} {c : Counts} (r : Ready xyz ends rows₀ rows tables c) where
   -- the rows are those of the candidates

@@ -3,7 +3,7 @@ ghost use mathlib.Core.Path.{_≡_};
 ghost use Rattle.paper.specs.Verdict.{verdictFor};
 ghost use Rattle.walk_tables.specs.Words.{walkTables};
 ghost use Rattle.verdict.specs.Checked.{ListAt, ListChecked};
-use faces_reader::read_faces;
+use faces_reader::read_sent;
 use paper::Answer;
 use paper::FACE_ROOM;
 use paper::MOST_CANDIDATES;
@@ -40,7 +40,7 @@ pub fn faces_checked(
     ensures { λ r. ⌜ ListChecked (now (list .entry)) v (now (rows .entry)) n
         (walkTables (now (on .entry)) (now (up .entry)) (now (sides .entry)) (now (clashes .entry)) (now (sixes .entry))) m r ⌝ }
 {
-    let faces = read_faces(list, v);
+    let faces = read_sent(list, v, m);
     let shape = faces.answer;
     match shape {
         Answer::Refused(r) => return Verdict::Refused(r),

@@ -6,7 +6,6 @@ use Rattle.paper.specs.Refusals.{firstOf}
 use Rattle.paper.specs.Sheet.{lentChecks}
 use Rattle.paper.specs.Drawing.{wire}
 use Rattle.paper.specs.Conversion.{entryChecks, convertLists}
-use Rattle.paper.specs.declared.Format.{Format}
 use Rattle.convert.proofs.Converting.{stopped, stopped-at-form, gone-behind, roomy-enough}
 use Rattle.convert.proofs.convert.Statement.{statement}
 use Rattle.convert.proofs.convert.Tie as tie
@@ -20,7 +19,7 @@ abbrev lists : tie.After-enum-told2 → tie.After-lent
 lists c = c .before .before
 
 abbrev entered : tie.After-lent → tie.After-enum-told
-entered c = c .before .before
+entered c = c .before
 
 abbrev start : tie.After-enum-told → tie.Start
 start c = c .before .before .before .before .before .before
@@ -34,9 +33,7 @@ entry-is c = let a = c .before .before .before .before .args in c .entered .ensu
 
 form-is : (c : tie.After-lent)
     → let a = start (entered c) .args in c .lent .result ≡ firstOf (lentChecks (now (a .xyz)) (now (a .ends)))
-form-is c =
-    let a = start (entered c) .args in
-    c .lent .ensures ∙ ap (λ (f : Format). firstOf (lentChecks (now (a .xyz)) (now (a .ends)))) (c .before .edition-one .ensures)
+form-is c = c .lent .ensures
 
 -- ---- the needs
 
@@ -79,5 +76,5 @@ returns-3 c =
 pub convert-spec : {M : Type 1} → statement M
 convert-spec =
     tie.close
-    (tie.spec (λ c κs. search needs) (λ c. search needs) returns (λ c. search needs) (λ c κs. search needs) (λ c κs. search needs)
+    (tie.spec (λ c κs. search needs) (λ c. search needs) returns (λ c. search needs) (λ c κs. search needs)
     (λ c. search needs) returns-2 (λ c. search needs) converted-requires (λ c. search needs) (λ c. search needs) returns-3)

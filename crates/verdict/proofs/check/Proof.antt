@@ -6,7 +6,6 @@ use Rattle.paper.specs.Sheet.{lentChecks}
 use Rattle.paper.specs.Drawing.{wire}
 use Rattle.paper.specs.Verdict.{verdictLists}
 use Rattle.paper.specs.Reading.{verdictSays}
-use Rattle.paper.specs.declared.Format.{Format}
 use Rattle.verdict.proofs.Deciding.{form-stops, rest-decides}
 use borrow.Author.Needs.{needs}
 use Rattle.verdict.proofs.check.Statement.{statement}
@@ -14,12 +13,10 @@ use Rattle.verdict.proofs.check.Tie as tie
 
 -- the way back to the start
 abbrev start : tie.After-lent → tie.Start
-start c = c .before .before .before .before
+start c = c .before .before .before
 
 form-is : (c : tie.After-lent) → let a = start c .args in c .lent .result ≡ firstOf (lentChecks (now (a .xyz)) (now (a .ends)))
-form-is c =
-    let a = start c .args in
-    c .lent .ensures ∙ ap (λ (f : Format). firstOf (lentChecks (now (a .xyz)) (now (a .ends)))) (c .before .edition-one .ensures)
+form-is c = c .lent .ensures
 
 returns : tie.Need-returns
 unfolding verdictLists
@@ -46,4 +43,4 @@ returns-2 c =
 pub check-spec : {M : Type 1} → statement M
 check-spec =
     tie.close
-    (tie.spec (λ c κs. search needs) (λ c κs. search needs) (λ c. search needs) returns (λ c. search needs) checked-requires returns-2)
+    (tie.spec (λ c κs. search needs) (λ c. search needs) returns (λ c. search needs) checked-requires returns-2)

@@ -1,9 +1,10 @@
 -- `verdict::checked`: rooms with nothing in them are lent to the tables, and the tables to the list's check.
 use mathlib.Core.List.{List}
-use mathlib.Core.Path.{_≡_, refl, subst}
+use mathlib.Core.Path.{_≡_, refl, subst, transport}
 use Prim.Native.Nat.{ℕ}
 use lib.ListN.{replicate}
 use denote.Ref.{now}
+use Rattle.paper.specs.Format.{editionFor}
 use Rattle.paper.specs.Numbers.{faceRoom, fillByte}
 use Rattle.paper.specs.Refusals.{firstOf}
 use Rattle.paper.specs.Verdict.{verdictFor}
@@ -17,7 +18,7 @@ use Rattle.walk_input.specs.declared.Tabled.{Tabled}
 use Rattle.walk_input.specs.declared.Tabled.the-variants as T
 use Rattle.walk_input.proofs.Given.{clear-rooms, tablesLeft}
 use Rattle.verdict.proofs.Deciding.{drawing-stops, list-decides}
-use Rattle.verdict.proofs.Tabled.{list-at, vertices-are, rows-hold}
+use Rattle.verdict.proofs.Tabled.{list-at, vertices-are, edges-are, rows-hold}
 use borrow.Author.Needs.{needs}
 use Rattle.verdict.proofs.checked.Statement.{statement}
 use Rattle.verdict.proofs.checked.Tie as tie
@@ -78,9 +79,12 @@ returns-2 c =
     let a = o .args in
     let d = wire (now (a .xyz)) (now (a .ends)) in
     let r = tabled t in
+    let v = vertices-are (now (a .xyz)) (now (a .ends)) (o .pre) in
+    let e = edges-are (now (a .xyz)) (now (a .ends)) in
+    let cs = candidates d in
     list-decides d (now (a .list)) (r .fine)
-    (subst (λ (v : ℕ). c .faces-checked .result ≡ verdictFor (firstOf (listChecks v (candidates d) (tablesOf d (candidates d)) (now (a .list)))))
-    (vertices-are (now (a .xyz)) (now (a .ends)) (o .pre)) (c .faces-checked .ensures (candidates d) (tablesOf d (candidates d)) (rows-hold r) (r .lent)))
+    (transport (λ i. c .faces-checked .result ≡ verdictFor (firstOf (listChecks (editionFor (v i) (e i)) (v i) cs (tablesOf d cs) (now (a .list)))))
+    (c .faces-checked .ensures cs (tablesOf d cs) (rows-hold r) (r .lent)))
 
 pub checked-spec : {M : Type 1} → statement M
 checked-spec = tie.close (tie.spec tables-requires (λ c. search needs) (λ c. search needs) faces-checked-requires returns returns-2)
