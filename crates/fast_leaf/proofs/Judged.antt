@@ -8,9 +8,8 @@ use lib.IntN.{ℤ, pos, negsuc}
 use lib.ListN.{length}
 use borrow.Author.Tests.{eqb-true, eqb-false}
 use Rattle.lists.proofs.Truth.{and-both, same-truth, never-true}
-use Rattle.sets.specs.Word.{word, dig, Sub, count, less, first}
+use Rattle.sets.specs.Word.{dig, Sub, count, less, first}
 use Rattle.sets.proofs.Digits.{never, dig-less, count-none, count-same, first-in}
-use Rattle.sets.proofs.Numbers.{same-word}
 use Rattle.paper.specs.Solids.{facesFrom, connected, oriented, sixFrom, clearFrom, weighed, Tables, Judgement, Fails, judged}
 use Rattle.paper.specs.Conversion.{isSolid, turnedOf, sixOf}
 use Rattle.means_leaf.specs.Meaning.{faces, MaskInTwo, SameTurned}
@@ -159,12 +158,12 @@ judged-by-faces t taken same two =
 -- ---- what a report says of a judgement is the same
 pub record Reports (i j : Judgement) : Type 0 where
   pub same-solid : isSolid i ≡ isSolid j
-  pub same-word : word (turnedOf i) ≡ word (turnedOf j)
+  pub same-ways : (k : ℕ) → dig (turnedOf i) k ≡ dig (turnedOf j) k
   pub same-six : sixOf i ≡ sixOf j
 
 pub agrees-reports : {i j : Judgement} → SameJudgement i j → Reports i j
-agrees-reports fails = record { same-solid = refl; same-word = refl; same-six = refl }
-agrees-reports (solid {s} {t} v h) = record { same-solid = refl; same-word = same-word s t h; same-six = refl }
+agrees-reports fails = record { same-solid = refl; same-ways = λ k. refl; same-six = refl }
+agrees-reports (solid {s} {t} v h) = record { same-solid = refl; same-ways = h; same-six = refl }
 
 pub reports-by-faces : (t : Tables) (taken : List Bool) → length (t .masks) ≡ length (t .ups) → MaskInTwo (t .masks) taken
     → Reports (judgedByFaces t taken) (judged t taken)

@@ -1,12 +1,13 @@
 -- Demand 2, answer by answer.
 use mathlib.Core.Bool.{Bool}
-use mathlib.Core.List.{List, [], _∷_, _++_, flatMap}
+use mathlib.Core.List.{List, [], _∷_, _++_, flatMap, append-nil}
 use mathlib.Core.Logic.{inl, inr}
 use mathlib.Core.Path.{_≡_, refl, sym, ap, _∙_, subst}
 use Prim.Native.Nat.{ℕ, _*_, _≤_, _<_}
 use native.Mathlib.Omega.{arith}
 use lib.ListN.{length, drop}
-use Rattle.sets.specs.Word.{word}
+use Rattle.paper.specs.Numbers.{solidWords}
+use Rattle.paper.specs.Record.{entry}
 use Rattle.paper.specs.Drawing.{Wire}
 use Rattle.paper.specs.Loops.{loops, candidates}
 use Rattle.paper.specs.Conversion.{Converted}
@@ -116,7 +117,8 @@ module _ (d : Wire) (t : WalkTree d (candidates d)) (limit : ℕ) (faces solids 
             faces-left = x .faces-left ∙ ap (facesFor (candidates d) faces) (q .1);
             solids-left =
                 x .solids-left ∙ ap (solidsFor solids) (q .1)
-                ∙ ap (λ (n : ℕ). word (q .0 .taken) ∷ word (q .0 .turned) ∷ n ∷ drop 3 solids) (sym (q .2));
+                ∙ ap (λ (ws : List ℕ). ws ++ drop solidWords solids) (append-nil (wordsOf (q .0)))
+                ∙ ap (λ (n : ℕ). entry (q .0 .taken) (q .0 .turned) n ++ drop solidWords solids) (sym (q .2));
           }
         where
           alone : (x : Entry) (taken′ : List Bool) (i : ℕ) → i < length (x ∷ []) → entryAt (x ∷ []) i .taken ≡ taken′ → taken′ ≡ x .taken
@@ -141,7 +143,7 @@ module _ (d : Wire) (t : WalkTree d (candidates d)) (limit : ℕ) (faces solids 
             works = q .5;
             within = omega (arith, q .5, x .short);
             faces-left = x .faces-left ∙ ap (facesFor (candidates d) faces) (q .2 .2);
-            solids-left = x .solids-left ∙ ap (λ (m : ℕ). flatMap wordsOf (walked d (candidates d) t) ++ drop (3 * m) solids) (q .0);
+            solids-left = x .solids-left ∙ ap (λ (m : ℕ). flatMap wordsOf (walked d (candidates d) t) ++ drop (solidWords * m) solids) (q .0);
           }
       go (inr (inl x)) = absurd (omega (arith, ap kind (sym (x .answer) ∙ e)))
       go (inr (inr x)) = absurd (omega (arith, ap kind (sym (x .answer) ∙ e)))

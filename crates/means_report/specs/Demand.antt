@@ -1,10 +1,11 @@
 -- What each answer of conversion says of the drawing and leaves in the rooms.
 use mathlib.Core.Path.{_≡_}
 use mathlib.Core.Bool.{Bool}
-use mathlib.Core.List.{List, _∷_, _++_, flatMap}
+use mathlib.Core.List.{List, _++_, flatMap}
 use Prim.Native.Nat.{ℕ, _*_, _≤_, _<_}
 use lib.ListN.{length, drop}
-use Rattle.sets.specs.Word.{word}
+use Rattle.paper.specs.Numbers.{solidWords}
+use Rattle.paper.specs.Record.{entry}
 use Rattle.paper.specs.Drawing.{Wire}
 use Rattle.paper.specs.Loops.{loops, candidates}
 use Rattle.paper.specs.Conversion.{Converted, facesAfter}
@@ -30,7 +31,7 @@ module _ (d : Wire) (t : WalkTree d (candidates d)) (limit : ℕ) (faces solids 
     pub within : work ≤ limit
     pub kept : RoomsKept
 
-  -- One: there is one, and its three words are written
+  -- One: there is one, and its record is written
   pub record SaysOne (six : ℕ) : Type 0 where
     pub taken : List Bool
     pub turned : List Bool
@@ -40,7 +41,7 @@ module _ (d : Wire) (t : WalkTree d (candidates d)) (limit : ℕ) (faces solids 
     pub works : work ≡ assumptions t
     pub within : work ≤ limit
     pub faces-left : r .faces ≡ facesAfter (candidates d) faces
-    pub solids-left : r .solids ≡ word taken ∷ word turned ∷ six ∷ drop 3 solids
+    pub solids-left : r .solids ≡ entry taken turned six ++ drop solidWords solids
 
   -- Several: two to eight, every one listed once, in walk order
   pub record SaysSeveral (n : ℕ) : Type 0 where
@@ -52,7 +53,7 @@ module _ (d : Wire) (t : WalkTree d (candidates d)) (limit : ℕ) (faces solids 
     pub works : work ≡ assumptions t
     pub within : work ≤ limit
     pub faces-left : r .faces ≡ facesAfter (candidates d) faces
-    pub solids-left : r .solids ≡ flatMap wordsOf (walked d (candidates d) t) ++ drop (3 * n) solids
+    pub solids-left : r .solids ≡ flatMap wordsOf (walked d (candidates d) t) ++ drop (solidWords * n) solids
 
   -- Many: nine or more
   pub record SaysMany : Type 0 where

@@ -1,11 +1,11 @@
 -- A list that has every solid once, with its directions and six volumes; and the list that the walk comes to.
 use mathlib.Core.Path.{_≡_}
 use mathlib.Core.Bool.{Bool}
-use mathlib.Core.List.{List, [], _∷_, map}
+use mathlib.Core.List.{List, [], map}
 use Prim.Native.Nat.{ℕ, _<_}
 use lib.ListN.{length, getD, replicate}
 use Rattle.lists.specs.Lists.{filter}
-use Rattle.sets.specs.Word.{word}
+use Rattle.paper.specs.Record.{entry}
 use Rattle.paper.specs.Drawing.{Wire}
 use Rattle.paper.specs.Loops.{Loop}
 use Rattle.paper.specs.Solids.{Tables, tablesOf, judged}
@@ -30,9 +30,9 @@ pub record EverySolidOnce (d : Wire) (cs : List Loop) (es : List Entry) : Type 0
       → (i : ℕ) × (i < length es) × (entryAt es i .taken ≡ taken) × Same (entryAt es i .turned) turned × (entryAt es i .six ≡ six)
   pub once : (i j : ℕ) → i < length es → j < length es → entryAt es i .taken ≡ entryAt es j .taken → i ≡ j
 
--- three words for a solid
+-- a solid's record
 abbrev pub wordsOf : Entry → List ℕ
-wordsOf e = word (e .taken) ∷ word (e .turned) ∷ e .six ∷ []
+wordsOf e = entry (e .taken) (e .turned) (e .six)
 
 -- "in walk order": the leaves of the walk's tree that pass, with their directions and volumes
 abbrev pub entryOf : Tables → List Status → Entry

@@ -34,7 +34,7 @@ abbrev pub facesFor : List Loop → List ℕ → List Entry → List ℕ
 facesFor cs faces [] = faces
 facesFor cs faces (e ∷ es) = facesAfter cs faces
 
--- the room for solids: three words for each, in order, and the rest as it was
+-- the room for solids: a record for each, in order, and the rest as it was
 unfoldable pub solidsFor : List ℕ → List Entry → List ℕ
 solidsFor solids es = flatMap wordsOf es ++ drop (solidWords * length es) solids
 

@@ -1,17 +1,20 @@
 -- A solid's record, word by word and digit by digit, whatever comes behind it.
-use mathlib.Core.Path.{_≡_, refl, ap, ap₂, _∙_}
+use mathlib.Core.Path.{_≡_, refl, sym, ap, ap₂, _∙_}
 use mathlib.Core.Bool.{Bool, false}
 use mathlib.Core.List.{List, [], _∷_, _++_, append-assoc}
 use Prim.Native.Nat.{ℕ, zero, suc, _+_, _*_, _-_, _≤_, _<_}
 use native.Mathlib.Decide.{decLt}
-use native.Mathlib.Nat.{mul-suc}
+use native.Mathlib.Nat.{mul-suc, min-le-left}
 use native.Mathlib.Omega.{arith}
-use lib.ListN.{length, getD, take, drop, length-append, List·getD-append}
+use lib.ListN.{length, getD, take, drop, length-append, length-take, List·getD-append, List·getD-eq-default}
 use lib.Seq.{take-all, getD-take, getD-drop, getD-append-add}
 use Rattle.sets.specs.Word.{dig, word, digits}
-use Rattle.sets.proofs.Numbers.{digit-word, digit-bits}
+use Rattle.sets.proofs.Numbers.{digit-word, digit-bits, same-word}
 use Rattle.sets.proofs.Word.{length-digits}
 use Rattle.paper.specs.Numbers.{setWords, wordBits, solidWords}
+use Rattle.paper.specs.Solids.{Tables, judged}
+use Rattle.paper.specs.Walk.{Status}
+use Rattle.paper.specs.Conversion.{takens, turnedOf, sixOf, words}
 use Rattle.paper.specs.Record.{setOf, digitsAt, entry, takenIn, turnedIn, sixIn}
 
 -- ---- a set of n words
@@ -70,12 +73,38 @@ set-digit (suc n) i ws bs h k l = go (set-digit n (suc i) ws (drop wordBits bs) 
         ∙ getD-drop wordBits bs (k - wordBits) false
         ∙ ap (dig bs) f
 
+-- lists of the same digits are one set
+same-low : (m : ℕ) (a b : List Bool) → ((k : ℕ) → dig a k ≡ dig b k) → (k : ℕ) → dig (take m a) k ≡ dig (take m b) k
+same-low m a b h k = go (decLt k m)
+  where
+    none : (c : List Bool) → m ≤ k → dig (take m c) k ≡ false
+    none c n =
+        List·getD-eq-default (take m c) false
+        (omega (arith, length-take m c, min-le-left m (length c)))
+
+    go : Dec (k < m) → dig (take m a) k ≡ dig (take m b) k
+    go (yes l) = getD-take m a k false l ∙ h k ∙ sym (getD-take m b k false l)
+    go (no l) = none a (omega arith) ∙ sym (none b (omega arith))
+
+pub same-set : (n : ℕ) (a b : List Bool) → ((k : ℕ) → dig a k ≡ dig b k) → setOf n a ≡ setOf n b
+unfolding setOf
+same-set zero a b h = refl
+same-set (suc n) a b h =
+    ap₂ _∷_ (same-word (take wordBits a) (take wordBits b) (same-low wordBits a b h))
+    (same-set n (drop wordBits a) (drop wordBits b)
+    (λ k. getD-drop wordBits a k false ∙ h (wordBits + k) ∙ sym (getD-drop wordBits b k false)))
+
 -- a set of one word
 pub one-word : (bs : List Bool) → length bs ≤ wordBits → setOf 1 bs ≡ word bs ∷ []
 unfolding setOf
 one-word bs h = ap (λ (l : List Bool). word l ∷ []) (take-all wordBits bs h)
 
 -- ---- a record, and what comes behind it
+
+-- turned faces of the same digits make one record
+pub same-entry : (taken a b : List Bool) (six : ℕ) → ((k : ℕ) → dig a k ≡ dig b k) → entry taken a six ≡ entry taken b six
+unfolding entry
+same-entry taken a b six h = ap (λ (l : List ℕ). (setOf setWords taken ++ l) ++ six ∷ []) (same-set setWords a b h)
 
 module _ (taken turned : List Bool) (six : ℕ) where
   pub entry-length : length (entry taken turned six) ≡ solidWords
@@ -136,3 +165,8 @@ module _ (taken turned : List Bool) (six : ℕ) where
         ∙ past-taken setWords
         ∙ ap (λ (t : ℕ). getD (b ++ (six ∷ more)) t 0) f
         ∙ getD-append-add b (six ∷ more) 0 0
+
+-- of a solid that the walk finds
+pub words-length : (t : Tables) (st : List Status) → length (words t st) ≡ solidWords
+unfolding words
+words-length t st = let j = judged t (takens st) in entry-length (takens st) (turnedOf j) (sixOf j)

@@ -6,7 +6,6 @@ use Prim.Native.Nat.{ℕ, _+_, _*_, _≤_, _<_}
 use native.Mathlib.Omega.{arith}
 use lib.ListN.{length, set, length-append, length-map}
 use borrow.Author.Tests.{lt-ltb, le-ltb}
-use Rattle.sets.specs.Word.{word}
 use Rattle.sets.specs.Sets.{Is}
 use Rattle.sets.specs.declared.Set.{Set}
 use Rattle.sets.proofs.Sets.{word-is}
@@ -15,6 +14,7 @@ use Rattle.paper.specs.Refusals as No
 use Rattle.paper.specs.Solids.{Tables, Judgement, Fails, Solid, judged}
 use Rattle.paper.specs.Walk.{Status, leaf, isTaken}
 use Rattle.paper.specs.Conversion.{takens, isSolid, turnedOf, sixOf, accepted, words, solidsAfter}
+use Rattle.paper_laws.proofs.Record.{same-entry, three-words}
 use Rattle.means_walk.specs.Complete.{exact}
 use Rattle.fast_leaf.specs.Faces.{judgedByFaces}
 use Rattle.fast_leaf.proofs.Judged.{Reports, reports-by-faces}
@@ -36,12 +36,12 @@ fails-not (Solid s v) h = absurd h
 
 record IsSolid (turned : Set) (six : ℕ) (j : Judgement) : Type 0 where
   solid : isSolid j ≡ true
-  turned-is : turned .word ≡ word (turnedOf j)
+  turned-is : Is turned (turnedOf j)
   six-is : six ≡ sixOf j
 
 solid-is : {turned : Set} {six : ℕ} (j : Judgement) → LeafIs (L.Solid turned six) j → IsSolid turned six j
 solid-is Fails h = absurd h
-solid-is (Solid s v) h = record { solid = refl; turned-is = word-is (h .turned-is); six-is = h .six-is }
+solid-is (Solid s v) h = record { solid = refl; turned-is = h .turned-is; six-is = h .six-is }
 
 module _ {tables : WalkTables} {m : ℕ} {taken : Set} where
   module _ {n : ℕ} {t : Tables} (st : List Status) (lent : Lent tables m n t) (long : length st ≡ n)
@@ -76,7 +76,10 @@ module _ {tables : WalkTables} {m : ℕ} {taken : Set} where
       its-words : words t st ≡ taken .word ∷ turned .word ∷ six ∷ []
       unfolding words
       its-words =
-          sym (λ k. word-is i k ∷ (its .turned-is ∙ reports .same-word) k ∷ (its .six-is ∙ reports .same-six) k ∷ [])
+          let ways = turnedOf (judgedByFaces t (takens st)) in
+          same-entry (takens st) (turnedOf (judged t (takens st))) ways (sixOf (judged t (takens st))) (λ k. sym (reports .same-ways k))
+          ∙ three-words (takens st) ways (sixOf (judged t (takens st))) (i .short) (its .turned-is .short)
+          ∙ sym (λ k. word-is i k ∷ word-is (its .turned-is) k ∷ (its .six-is ∙ reports .same-six) k ∷ [])
 
   -- ---- the ways out
 

@@ -6,7 +6,7 @@ use Prim.Native.Nat.{ℕ, suc, _+_, _*_, _≤_, _<_}
 use native.Mathlib.Nat.{add-zero}
 use native.Mathlib.Omega.{arith}
 use lib.Dec.{eqb, ltb}
-use lib.ListN.{length, set, length-set}
+use lib.ListN.{length, getD, set, length-set}
 use lib.Seq.{paste, paste-zero, paste-suc}
 use borrow.Author.Tests.{eq-eqb, ne-eqb, lt-ltb, le-ltb}
 use Rattle.lists.proofs.After.{after-more}
@@ -15,6 +15,7 @@ use Rattle.paper.specs.Refusals as No
 use Rattle.paper.specs.Solids.{Tables}
 use Rattle.paper.specs.Walk.{Status, Log, assume}
 use Rattle.paper.specs.Conversion.{words, solidsAfter}
+use Rattle.paper_laws.proofs.Record.{words-length}
 use Rattle.walk.specs.Tally.{CountsLog, Assumed, Follows}
 use Rattle.walk.specs.declared.tally.Tally.{Tally}
 
@@ -85,8 +86,8 @@ pub stored-more : (t : Tables) (found : List (List Status)) (st : List Status) (
     → set (set (set (solidsAfter t found lent) (solidWords * length found) u) (solidWords * length found + 1) v)
     (solidWords * length found + 2) w
     ≡ solidsAfter t (found ++ (st ∷ [])) lent
-unfolding solidsAfter words
+unfolding solidsAfter
 stored-more t found st lent u v w e h =
     three-sets (solidsAfter t found lent) (solidWords * length found) u v w h
     ∙ ap (λ (s : List ℕ). paste (solidsAfter t found lent) (solidWords * length found) s solidWords) (sym e)
-    ∙ after-more (words t) solidWords [] found (λ i k. refl) lent st refl
+    ∙ after-more (words t) solidWords [] found (λ i k. words-length t (getD found i [])) lent st (words-length t st)

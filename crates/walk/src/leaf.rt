@@ -6,6 +6,7 @@ use paper::MANY;
 use paper::MOST_CANDIDATES;
 use paper::MOST_EDGES;
 use paper::MOST_SOLIDS;
+use paper::SET_WORDS;
 use paper::SOLID_ROOM;
 use paper::WORDS;
 use sets::Set;
@@ -41,8 +42,8 @@ pub fn kept(
         };
     }
     out[WORDS * k] = taken.word;
-    out[WORDS * k + 1] = turned.word;
-    out[WORDS * k + 2] = six;
+    out[WORDS * k + SET_WORDS] = turned.word;
+    out[WORDS * k + 2 * SET_WORDS] = six;
     Tally {
         work: t.work,
         found: k + 1,

@@ -55,7 +55,7 @@ fn walk(
     walk(on, up, m, sides, clashes, sixes, reject, limit, c, out)
 }
 
-// The whole walk of n candidates on m edges: what it comes to, with three words in `out` for each solid.
+// The whole walk of n candidates on m edges: what it comes to, with a record in `out` for each solid.
 pub fn search(
     on: &[u64; MOST_EDGES],
     up: &[u64; MOST_EDGES],
