@@ -48,6 +48,8 @@ pub const ROW: usize = 13;
 
 pub const SET_WORDS: usize = 1;
 
+pub const WORD_BITS: usize = 64;
+
 pub const WORDS: usize = 2 * SET_WORDS + 1;
 
 pub const FACE_ROOM: usize = ROW * MOST_CANDIDATES;

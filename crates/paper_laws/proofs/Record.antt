@@ -2,7 +2,7 @@
 use mathlib.Core.Path.{_≡_, refl, sym, ap, ap₂, _∙_}
 use mathlib.Core.Bool.{Bool, false}
 use mathlib.Core.List.{List, [], _∷_, _++_, append-assoc}
-use Prim.Native.Nat.{ℕ, zero, suc, _+_, _*_, _-_, _≤_, _<_}
+use Prim.Native.Nat.{ℕ, zero, suc, _+_, _*_, _-_, _/_, _%_, _≤_, _<_}
 use native.Mathlib.Decide.{decLt}
 use native.Mathlib.Nat.{mul-suc, min-le-left}
 use native.Mathlib.Omega.{arith}
@@ -30,6 +30,41 @@ digits-length zero i ws = refl
 digits-length (suc n) i ws =
     length-append (digits wordBits (getD ws i 0)) (digitsAt n (suc i) ws)
     ∙ omega (arith, length-digits wordBits (getD ws i 0), digits-length n (suc i) ws)
+
+-- its digits are those of its words, and past them there is none
+pub word-digit : (n i : ℕ) (ws : List ℕ) (k : ℕ) → k / wordBits < n
+    → dig (digitsAt n i ws) k ≡ dig (digits wordBits (getD ws (i + k / wordBits) 0)) (k % wordBits)
+unfolding digitsAt
+word-digit zero i ws k l = absurd (omega arith)
+word-digit (suc n) i ws k l = go (word-digit n (suc i) ws (k - wordBits)) (decLt k wordBits)
+  where
+    low : List Bool
+    low = digits wordBits (getD ws i 0)
+
+    long : length low ≡ wordBits
+    long = length-digits wordBits (getD ws i 0)
+
+    at : ℕ → ℕ → Bool
+    at j m = dig (digits wordBits (getD ws j 0)) m
+
+    go : ((k - wordBits) / wordBits < n
+        → dig (digitsAt n (suc i) ws) (k - wordBits) ≡ at (suc i + (k - wordBits) / wordBits) ((k - wordBits) % wordBits))
+        → Dec (k < wordBits) → dig (low ++ digitsAt n (suc i) ws) k ≡ at (i + k / wordBits) (k % wordBits)
+    go r (yes m) =
+        let e : i ≡ i + k / wordBits = omega arith in
+        let f : k ≡ k % wordBits = omega arith in
+        List·getD-append low (digitsAt n (suc i) ws) false k (omega (arith, long)) ∙ (λ t. at (e t) (f t))
+    go r (no m) =
+        let e : k ≡ length low + (k - wordBits) = omega (arith, long) in
+        let f : suc i + (k - wordBits) / wordBits ≡ i + k / wordBits = omega arith in
+        let g : (k - wordBits) % wordBits ≡ k % wordBits = omega arith in
+        ap (λ (t : ℕ). dig (low ++ digitsAt n (suc i) ws) t) e
+        ∙ getD-append-add low (digitsAt n (suc i) ws) (k - wordBits) false
+        ∙ r (omega arith)
+        ∙ (λ t. at (f t) (g t))
+
+pub past-digit : (n i : ℕ) (ws : List ℕ) (k : ℕ) → n ≤ k / wordBits → dig (digitsAt n i ws) k ≡ false
+past-digit n i ws k l = List·getD-eq-default (digitsAt n i ws) false (omega (arith, digits-length n i ws))
 
 -- the words of the set stand in ws from word i on
 abbrev pub SetFrom : ℕ → ℕ → List ℕ → List Bool → Type 0
