@@ -10,8 +10,10 @@ use Rattle.pack.proofs.Laws.{length-bits, length-run}
 use Rattle.pack.proofs.Overwrite.{overwrite-none, overwrite-next}
 use Rattle.lists.specs.Lists.{all, keep}
 use Rattle.lists.proofs.Truth.{and-left, and-right, and-both}
+use Rattle.sets.specs.Word.{dig}
 use Rattle.paper.specs.Numbers.{mostCandidates}
 use Rattle.paper.specs.Format.{cornerBits}
+use Rattle.paper.specs.Record.{turnedIn}
 use Rattle.paper.specs.Loops.{Loop}
 use Rattle.paper.specs.FaceList.{faceBits, span, solidFaces}
 use Rattle.paper.specs.declared.Format.{Format}
@@ -23,12 +25,12 @@ use Rattle.faces_writer.proofs.Weight.{faceSpan, facesLeft, faces-start
 
 -- ---- one candidate: taken, and left out
 
-module _ (rows : List ℕ) (taken turned k : ℕ) where
-  pub alone-taken : marked taken k ≡ true → faceAlone rows taken turned k ≡ rowAlone rows k (marked turned k)
+module _ (rows ws : List ℕ) (k : ℕ) where
+  pub alone-taken : marked ws k ≡ true → faceAlone rows ws k ≡ rowAlone rows k (dig (turnedIn ws) k)
   unfolding faceAlone keep
   alone-taken e = rw e refl
 
-  pub alone-left : marked taken k ≡ false → faceAlone rows taken turned k ≡ []
+  pub alone-left : marked ws k ≡ false → faceAlone rows ws k ≡ []
   unfolding faceAlone keep
   alone-left e = rw e refl
 
@@ -81,16 +83,16 @@ module _ (f : Format) where
   keep-fit true l fs e = (and-both (and-left (fits f l) (all (fits f) fs) e) refl, and-right (fits f l) (all (fits f) fs) e)
   keep-fit false l fs e = (refl, e)
 
-  module _ (rows : List ℕ) (taken turned : ℕ) where
+  module _ (rows ws : List ℕ) where
     -- all faces, and those from candidate k on
     abbrev faces : List Loop
-    faces = solidFaces rows taken turned
+    faces = solidFaces rows ws
 
     abbrev left : ℕ → List Loop
-    left k = facesLeft f rows taken turned k
+    left k = facesLeft f rows ws k
 
     abbrev alone : ℕ → List Loop
-    alone k = faceAlone rows taken turned k
+    alone k = faceAlone rows ws k
 
     -- candidate k is next, at bit b of a room that holds last by now: with the faces left it will hold all
     pub record Sending (room : List ℕ) (k b : ℕ) (last : List ℕ) : Type 0 where
@@ -103,7 +105,7 @@ module _ (f : Format) where
     module _ (room : List ℕ) (g : SendsFrom f faces room (listHead f)) where
       pub send-start : Sending room 0 (listHead f) room
       send-start =
-          let e : left 0 ≡ faces = sym (faces-start f rows taken turned) in
+          let e : left 0 ≡ faces = sym (faces-start f rows ws) in
           record {
             reached = omega arith;
             kept = refl;
@@ -113,21 +115,21 @@ module _ (f : Format) where
           }
 
       module _ (k b : ℕ) (last : List ℕ) (h : k < mostCandidates) (s : Sending room k b last) where
-        more : left k ≡ keep (marked taken k) (faceOf rows turned k) (left (k + 1))
-        more = faces-next f rows taken turned k h
+        more : left k ≡ keep (marked ws k) (faceOf rows ws k) (left (k + 1))
+        more = faces-next f rows ws k h
 
         fitting : (all (fits f) (alone k) ≡ true) × (all (fits f) (left (k + 1)) ≡ true)
         unfolding faceAlone
-        fitting = keep-fit (marked taken k) (faceOf rows turned k) (left (k + 1)) (sym (ap (all (fits f)) more) ∙ s .fit)
+        fitting = keep-fit (marked ws k) (faceOf rows ws k) (left (k + 1)) (sym (ap (all (fits f)) more) ∙ s .fit)
 
         spans : span f (left k) ≡ span f (alone k) + span f (left (k + 1))
         unfolding faceAlone
-        spans = ap (span f) more ∙ keep-span (marked taken k) (faceOf rows turned k) (left (k + 1))
+        spans = ap (span f) more ∙ keep-span (marked ws k) (faceOf rows ws k) (left (k + 1))
 
         -- what writes candidate k may be called
         pub send-one : SendsOne f k (alone k) last b
         send-one =
-            let small = solid-small f rows taken (g .brief) turned (g .fit) in
+            let small = solid-small f rows ws (g .brief) (g .fit) in
             record {
               known = h;
               faces = record {
@@ -142,13 +144,13 @@ module _ (f : Format) where
             → Put last next b (facesBits f (alone k)) → Sending room (k + 1) c next
         unfolding faceAlone
         send-next {c} next l e q =
-            let x = facesBits f (keep (marked taken k) (faceOf rows turned k) []) in
+            let x = facesBits f (keep (marked ws k) (faceOf rows ws k) []) in
             let y = facesBits f (left (k + 1)) in
             let m : b ≤ length (run 8 last) = rw length-run (omega (arith, send-one .faces .roomy)) in
             let n : c ≡ b + length x =
-            e ∙ ap (λ (j : ℕ). b + j) (sym (length-bits-of f (keep (marked taken k) (faceOf rows turned k) []))) in
+            e ∙ ap (λ (j : ℕ). b + j) (sym (length-bits-of f (keep (marked ws k) (faceOf rows ws k) []))) in
             let w : facesBits f (left k) ≡ x ++ y =
-            ap (facesBits f) more ∙ keep-bits (marked taken k) (faceOf rows turned k) (left (k + 1)) in
+            ap (facesBits f) more ∙ keep-bits (marked ws k) (faceOf rows ws k) (left (k + 1)) in
             record {
               reached = omega arith;
               kept = l ∙ s .kept;
@@ -164,5 +166,5 @@ module _ (f : Format) where
     unfolding flatMap
     send-end room k b last h s =
         overwrite-none (run 8 last) b
-        ∙ ap (λ (fs : List Loop). overwrite (run 8 last) b (facesBits f fs)) (sym (faces-end f rows taken turned k h))
+        ∙ ap (λ (fs : List Loop). overwrite (run 8 last) b (facesBits f fs)) (sym (faces-end f rows ws k h))
         ∙ s .whole

@@ -11,8 +11,10 @@ use Rattle.lists.specs.Lists.{all, keep, filter, upto}
 use Rattle.lists.proofs.Truth.{and-left, and-right}
 use Rattle.lists.proofs.Places.{upto-length}
 use Rattle.lists.proofs.Kept.{keptFrom, kept-start, kept-next, kept-end}
+use Rattle.sets.specs.Word.{dig}
 use Rattle.paper.specs.Numbers.{mostCandidates}
 use Rattle.paper.specs.Format.{cornerBits}
+use Rattle.paper.specs.Record.{turnedIn}
 use Rattle.paper.specs.Loops.{Loop}
 use Rattle.paper.specs.FaceList.{span, rowAt, solidFaces}
 use Rattle.paper.specs.declared.Format.{Format}
@@ -54,11 +56,11 @@ unfolding filter
 length-filter p [] = omega arith
 length-filter p (x ∷ xs) = omega (arith, length-keep (p x) x (filter p xs), length-filter p xs)
 
-faces-few : (rows : List ℕ) (taken turned : ℕ) → length (solidFaces rows taken turned) ≤ mostCandidates
+faces-few : (rows ws : List ℕ) → length (solidFaces rows ws) ≤ mostCandidates
 unfolding solidFaces
-faces-few rows taken turned =
-    let ks = filter (marked taken) (upto mostCandidates) in
-    omega (arith, length-map ks (faceOf rows turned), length-filter (marked taken) (upto mostCandidates), upto-length mostCandidates)
+faces-few rows ws =
+    let ks = filter (marked ws) (upto mostCandidates) in
+    omega (arith, length-map ks (faceOf rows ws), length-filter (marked ws) (upto mostCandidates), upto-length mostCandidates)
 
 module _ (f : Format) where
   -- the bits of a face of c corners
@@ -108,73 +110,69 @@ module _ (f : Format) where
       let c = face-yes f (f .«most_vertices») l a .1 in
       omega (arith, span-small g fs b, corners-small (g .slender .vertex-number-narrow) c)
 
-  module _ (rows : List ℕ) (taken : ℕ) where
-    pub solid-small : Brief f → (turned : ℕ) → all (fits f) (solidFaces rows taken turned) ≡ true
-        → span f (solidFaces rows taken turned) ≤ 6400
-    solid-small g turned h =
-        omega (arith, span-small g (solidFaces rows taken turned) h, faces-few rows taken turned)
+  module _ (rows ws : List ℕ) where
+    pub solid-small : Brief f → all (fits f) (solidFaces rows ws) ≡ true → span f (solidFaces rows ws) ≤ 6400
+    solid-small g h = omega (arith, span-small g (solidFaces rows ws) h, faces-few rows ws)
 
     -- ---- one candidate: not taken, no face, a face
 
     abbrev pub One : ℕ → Extent → Type 0
-    One k w = (turned : ℕ) → w ≡ weight f (faceAlone rows taken turned k)
+    One k w = w ≡ weight f (faceAlone rows ws k)
 
-    pub weigh-left : (k : ℕ) → marked taken k ≡ false → One k (Of 0 0)
+    pub weigh-left : (k : ℕ) → marked ws k ≡ false → One k (Of 0 0)
     unfolding faceAlone keep
-    weigh-left k e turned = rw e (sym weight-none)
+    weigh-left k e = rw e (sym weight-none)
 
     -- a taken candidate, by the corner count that is found
     abbrev found-extent : Option ℕ → Extent
     found-extent none = Misfit
     found-extent (some c) = Of 1 (faceSpan c)
 
-    weigh-one : (k turned : ℕ) → marked taken k ≡ true
-        → found-extent (cornersOf f (rowAt rows k)) ≡ weight f (faceAlone rows taken turned k)
+    weigh-one : (k : ℕ) → marked ws k ≡ true → found-extent (cornersOf f (rowAt rows k)) ≡ weight f (faceAlone rows ws k)
     unfolding faceAlone keep weight all span cornersOf
-    weigh-one k turned e =
+    weigh-one k e =
         let l = rowAt rows k in
-        let b = marked turned k in
+        let b = dig (turnedIn ws) k in
         rw (e, way-fits f (f .«most_vertices») b l, way-length b l) (go (fits f l) (length l))
       where
         go : (b : Bool) (n : ℕ) → found-extent (cond b (some n) none) ≡ cond (b && true) (Of 1 (faceSpan n + 0)) Misfit
         go true n = of refl (omega arith)
         go false n = refl
 
-    pub weigh-row : (k : ℕ) {o : Option ℕ} → marked taken k ≡ true → o ≡ cornersOf f (rowAt rows k) → One k (found-extent o)
-    weigh-row k e q turned = ap found-extent q ∙ weigh-one k turned e
+    pub weigh-row : (k : ℕ) {o : Option ℕ} → marked ws k ≡ true → o ≡ cornersOf f (rowAt rows k) → One k (found-extent o)
+    weigh-row k e q = ap found-extent q ∙ weigh-one k e
 
     -- one candidate weighs little
     pub one-small : Brief f → (k : ℕ) {m b : ℕ} → One k (Of m b) → (m ≤ 1) × (b ≤ 100)
     unfolding faceAlone
     one-small g k {m} {b} o =
-        let fs = keep (marked taken k) (faceOf rows 0 k) [] in
-        let w = weighed fs (o 0) in
-        let c : length fs ≤ 1 = length-keep (marked taken k) (faceOf rows 0 k) [] in
+        let fs = keep (marked ws k) (faceOf rows ws k) [] in
+        let w = weighed fs o in
+        let c : length fs ≤ 1 = length-keep (marked ws k) (faceOf rows ws k) [] in
         let d : span f fs ≤ 100 * length fs = span-small g fs (w .fit) in
         (omega (arith, w .count-is), omega (arith, w .span-is))
 
     -- ---- the faces from candidate k on
 
-    unfoldable pub facesLeft : ℕ → ℕ → List Loop
-    facesLeft turned k = keptFrom (faceOf rows turned) (marked taken) mostCandidates k
+    unfoldable pub facesLeft : ℕ → List Loop
+    facesLeft k = keptFrom (faceOf rows ws) (marked ws) mostCandidates k
 
-    pub faces-start : (turned : ℕ) → solidFaces rows taken turned ≡ facesLeft turned 0
+    pub faces-start : solidFaces rows ws ≡ facesLeft 0
     unfolding solidFaces facesLeft
-    faces-start turned = kept-start (faceOf rows turned) (marked taken) mostCandidates
+    faces-start = kept-start (faceOf rows ws) (marked ws) mostCandidates
 
-    pub faces-next : (turned k : ℕ) → k < mostCandidates
-        → facesLeft turned k ≡ keep (marked taken k) (faceOf rows turned k) (facesLeft turned (k + 1))
+    pub faces-next : (k : ℕ) → k < mostCandidates → facesLeft k ≡ keep (marked ws k) (faceOf rows ws k) (facesLeft (k + 1))
     unfolding facesLeft
-    faces-next turned k h = kept-next (faceOf rows turned) (marked taken) mostCandidates k h
+    faces-next k h = kept-next (faceOf rows ws) (marked ws) mostCandidates k h
 
-    pub faces-end : (turned k : ℕ) → mostCandidates ≤ k → facesLeft turned k ≡ []
+    pub faces-end : (k : ℕ) → mostCandidates ≤ k → facesLeft k ≡ []
     unfolding facesLeft
-    faces-end turned k h = kept-end (faceOf rows turned) (marked taken) mostCandidates k h
+    faces-end k h = kept-end (faceOf rows ws) (marked ws) mostCandidates k h
 
     -- ---- what is weighed and what is left give the whole
 
     abbrev Passed : ℕ → ℕ → ℕ → Type 0
-    Passed k n b = (turned : ℕ) → weight f (solidFaces rows taken turned) ≡ plus (Of n b) (weight f (facesLeft turned k))
+    Passed k n b = weight f (solidFaces rows ws) ≡ plus (Of n b) (weight f (facesLeft k))
 
     -- candidate k is next, and those before it are n faces of b bits
     pub record Weighing (k n b : ℕ) : Type 0 where
@@ -188,21 +186,21 @@ module _ (f : Format) where
       reached = omega arith;
       count-small = omega arith;
       bits-small = omega arith;
-      passed = λ turned. ap (weight f) (faces-start turned) ∙ plus-none (weight f (facesLeft turned 0));
+      passed = ap (weight f) faces-start ∙ plus-none (weight f (facesLeft 0));
     }
 
     module _ (k n b : ℕ) (h : k < mostCandidates) (r : Weighing k n b) where
-      abbrev rest : ℕ → Extent
-      rest turned = weight f (facesLeft turned (k + 1))
+      abbrev rest : Extent
+      rest = weight f (facesLeft (k + 1))
 
       -- the faces left are those of candidate k and the rest
-      split : (turned : ℕ) {w : Extent} → One k w → weight f (solidFaces rows taken turned) ≡ plus (Of n b) (plus w (rest turned))
+      split : {w : Extent} → One k w → weight f (solidFaces rows ws) ≡ plus (Of n b) (plus w rest)
       unfolding faceAlone
-      split turned {w} o =
-          r .passed turned
-          ∙ ap (plus (Of n b)) (ap (weight f) (faces-next turned k h))
-          ∙ ap (plus (Of n b)) (weight-keep (marked taken k) (faceOf rows turned k) (facesLeft turned (k + 1)))
-          ∙ ap (λ (x : Extent). plus (Of n b) (plus x (rest turned))) (sym (o turned))
+      split {w} o =
+          r .passed
+          ∙ ap (plus (Of n b)) (ap (weight f) (faces-next k h))
+          ∙ ap (plus (Of n b)) (weight-keep (marked ws k) (faceOf rows ws k) (facesLeft (k + 1)))
+          ∙ ap (λ (x : Extent). plus (Of n b) (plus x rest)) (sym o)
 
       pub weigh-next : Brief f → {m c : ℕ} → One k (Of m c) → Weighing (k + 1) (n + m) (b + c)
       weigh-next g {m} {c} o =
@@ -211,14 +209,13 @@ module _ (f : Format) where
             reached = omega arith;
             count-small = omega (arith, s, r .count-small);
             bits-small = omega (arith, s, r .bits-small);
-            passed = λ turned. split turned o ∙ plus-plus n b m c (rest turned);
+            passed = split o ∙ plus-plus n b m c rest;
           }
 
-      pub weigh-stop : One k Misfit → (turned : ℕ) → Misfit ≡ weight f (solidFaces rows taken turned)
-      weigh-stop o turned = sym (split turned o)
+      pub weigh-stop : One k Misfit → Misfit ≡ weight f (solidFaces rows ws)
+      weigh-stop o = sym (split o)
 
-    pub weigh-end : (k n b : ℕ) → mostCandidates ≤ k → Weighing k n b
-        → (turned : ℕ) → Of n b ≡ weight f (solidFaces rows taken turned)
-    weigh-end k n b h r turned =
-        let none-left = ap (weight f) (faces-end turned k h) ∙ weight-none in
-        sym (r .passed turned ∙ ap (plus (Of n b)) none-left ∙ of (add-zero n) (add-zero b))
+    pub weigh-end : (k n b : ℕ) → mostCandidates ≤ k → Weighing k n b → Of n b ≡ weight f (solidFaces rows ws)
+    weigh-end k n b h r =
+        let none-left = ap (weight f) (faces-end k h) ∙ weight-none in
+        sym (r .passed ∙ ap (plus (Of n b)) none-left ∙ of (add-zero n) (add-zero b))

@@ -6,10 +6,10 @@ use mathlib.Core.List.{List, [], _∷_, flatMap}
 use Prim.Native.Nat.{ℕ, _+_}
 use lib.ListN.{length, take, drop}
 use Rattle.pack.specs.Bits.{Put}
-use Rattle.sets.specs.Word.{digits, dig}
+use Rattle.sets.specs.Word.{dig}
 use Rattle.lists.specs.Lists.{all, keep}
-use Rattle.paper.specs.Numbers.{mostCandidates}
 use Rattle.paper.specs.Format.{editionBits}
+use Rattle.paper.specs.Record.{takenIn, turnedIn}
 use Rattle.paper.specs.Loops.{Loop, flipped}
 use Rattle.paper.specs.FaceList.{faceBits, span, faceFits, rowAt, solidFaces, sentRoomFor}
 use Rattle.paper.specs.declared.Format.{Format}
@@ -25,24 +25,24 @@ cornersAt rows i c = take c (drop i rows)
 abbrev pub way : Bool → Loop → Loop
 way b l = cond b (flipped l) l
 
--- a word has the bit of candidate k
-abbrev pub marked : ℕ → ℕ → Bool
-marked w k = dig (digits mostCandidates w) k
+-- a solid's record has candidate k
+abbrev pub marked : List ℕ → ℕ → Bool
+marked ws k = dig (takenIn ws) k
 
 -- candidate k as the one face of a list, its loop turned back or not
 abbrev pub rowAlone : List ℕ → ℕ → Bool → List Loop
 rowAlone rows k back = way back (rowAt rows k) ∷ []
 
 -- candidate k as a solid has it, and as the list of one or of none
-abbrev pub faceOf : List ℕ → ℕ → ℕ → Loop
-faceOf rows turned k = way (marked turned k) (rowAt rows k)
+abbrev pub faceOf : List ℕ → List ℕ → ℕ → Loop
+faceOf rows ws k = way (dig (turnedIn ws) k) (rowAt rows k)
 
-unfoldable pub faceAlone : List ℕ → ℕ → ℕ → ℕ → List Loop
-faceAlone rows taken turned k = keep (marked taken k) (faceOf rows turned k) []
+unfoldable pub faceAlone : List ℕ → List ℕ → ℕ → List Loop
+faceAlone rows ws k = keep (marked ws k) (faceOf rows ws k) []
 
 -- what is said of a list of the faces of a reported solid, and of the room for it
-abbrev pub ofSolid : {A : Type 0} → (List Loop → List ℕ → A) → List ℕ → ℕ → ℕ → List ℕ → A
-ofSolid say rows taken turned room = say (solidFaces rows taken turned) room
+abbrev pub ofSolid : {A : Type 0} → (List Loop → List ℕ → A) → List ℕ → List ℕ → List ℕ → A
+ofSolid say rows ws room = say (solidFaces rows ws) room
 
 module _ (f : Format) where
   -- a face that a list can have

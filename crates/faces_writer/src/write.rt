@@ -1,4 +1,4 @@
-// A reported solid, written as a face list to the start of a lent room: refusal 20, then 1. Nothing is assumed of rows, words or room.
+// A reported solid, written as a face list to the start of a lent room: refusal 20, then 1. Nothing is assumed of rows, record or room.
 ghost use mathlib.Core.Path.{_≡_};
 ghost use Prim.Native.Nat.{ℕ, _+_, _≤_, _<_};
 ghost use lib.Dec.{ltb};
@@ -15,7 +15,8 @@ use lists::Found;
 use paper::Format;
 use paper::Refusal;
 use paper::Written;
-use sets::is_set;
+use solid_words::is_taken;
+use solid_words::is_turned;
 
 // How many faces there are and their bits, where all fit.
 pub enum Extent {
@@ -59,11 +60,11 @@ fn row_fits(f: Format, rows: &[u8], k: usize) -> Found
 }
 
 // What candidate k weighs: nothing where it is not taken.
-fn weigh(f: Format, rows: &[u8], taken: u64, k: usize) -> Extent
+fn weigh(f: Format, rows: &[u8], solid: &[u64], k: usize) -> Extent
     requires { ⌜ Candidate f k ⌝ }
-    ensures { λ r. ⌜ ((turned : ℕ) → r ≡ weight f (faceAlone (now (rows .entry)) taken turned k)) ⌝ }
+    ensures { λ r. ⌜ r ≡ weight f (faceAlone (now (rows .entry)) (now (solid .entry)) k) ⌝ }
 {
-    if is_set(taken, k) {
+    if is_taken(solid, k) {
         let fit = row_fits(f, rows, k);
         let Found::Value(c) = fit else {
             return Extent::Misfit;
@@ -74,15 +75,15 @@ fn weigh(f: Format, rows: &[u8], taken: u64, k: usize) -> Extent
 }
 
 // What the solid's faces weigh.
-fn weigh_all(f: Format, rows: &[u8], taken: u64) -> Extent
+fn weigh_all(f: Format, rows: &[u8], solid: &[u64]) -> Extent
     requires { ⌜ Brief f ⌝ }
-    ensures { λ r. ⌜ ((turned : ℕ) → r ≡ weight f (solidFaces (now (rows .entry)) taken turned)) ⌝ }
+    ensures { λ r. ⌜ r ≡ weight f (solidFaces (now (rows .entry)) (now (solid .entry))) ⌝ }
 {
     let mut faces: usize = 0;
     let mut bits: usize = 0;
     let mut k: usize = 0;
     while k < paper::MOST_CANDIDATES {
-        let one = weigh(f, rows, taken, k);
+        let one = weigh(f, rows, solid, k);
         let Extent::Of(n, b) = one else {
             return Extent::Misfit;
         };
@@ -141,46 +142,38 @@ fn put_face(f: Format, rows: &[u8], k: usize, back: bool, room: &mut [u8], b: us
 }
 
 // The same where it is taken; else nothing.
-fn put_taken(
-    f: Format,
-    rows: &[u8],
-    taken: u64,
-    turned: u64,
-    k: usize,
-    room: &mut [u8],
-    b: usize,
-) -> usize
-    requires { ⌜ SendsOne f k (faceAlone (now rows) taken turned k) (now room) b ⌝ }
-    ensures end { λ r. ⌜ r ≡ b + span f (faceAlone (now (rows .entry)) taken turned k) ⌝ }
-    ensures put { λ _. ⌜ PutFaces f (faceAlone (now (rows .entry)) taken turned k) (now (room .entry)) (now (room .exit)) b ⌝ }
+fn put_taken(f: Format, rows: &[u8], solid: &[u64], k: usize, room: &mut [u8], b: usize) -> usize
+    requires { ⌜ SendsOne f k (faceAlone (now rows) (now solid) k) (now room) b ⌝ }
+    ensures end { λ r. ⌜ r ≡ b + span f (faceAlone (now (rows .entry)) (now (solid .entry)) k) ⌝ }
+    ensures put { λ _. ⌜ PutFaces f (faceAlone (now (rows .entry)) (now (solid .entry)) k) (now (room .entry)) (now (room .exit)) b ⌝ }
 {
-    if is_set(taken, k) {
-        return put_face(f, rows, k, is_set(turned, k), room, b);
+    if is_taken(solid, k) {
+        return put_face(f, rows, k, is_turned(solid, k), room, b);
     }
     b
 }
 
 // Writes the solid's faces behind the head.
-fn put_faces(f: Format, rows: &[u8], taken: u64, turned: u64, room: &mut [u8])
-    requires { ⌜ SendsFrom f (solidFaces (now rows) taken turned) (now room) (listHead f) ⌝ }
-    ensures { λ _. ⌜ PutFaces f (solidFaces (now (rows .entry)) taken turned) (now (room .entry)) (now (room .exit)) (listHead f) ⌝ }
+fn put_faces(f: Format, rows: &[u8], solid: &[u64], room: &mut [u8])
+    requires { ⌜ SendsFrom f (solidFaces (now rows) (now solid)) (now room) (listHead f) ⌝ }
+    ensures { λ _. ⌜ PutFaces f (solidFaces (now (rows .entry)) (now (solid .entry))) (now (room .entry)) (now (room .exit)) (listHead f) ⌝ }
 {
     let mut b = paper::EDITION_BITS + f.face_count_bits;
     let mut k: usize = 0;
     while k < paper::MOST_CANDIDATES {
-        b = put_taken(f, rows, taken, turned, k, room, b);
+        b = put_taken(f, rows, solid, k, room, b);
         k += 1;
     }
 }
 
 // Writes the list of n faces of b bits, all of which fit, into room that is long enough.
-fn put_list(f: Format, rows: &[u8], taken: u64, turned: u64, room: &mut [u8], n: usize, b: usize)
-    requires { ⌜ SendsList f (solidFaces (now rows) taken turned) (now room) n b ⌝ }
-    ensures { λ _. ⌜ now (room .exit) ≡ listIn f (solidFaces (now (rows .entry)) taken turned) (now (room .entry)) ⌝ }
+fn put_list(f: Format, rows: &[u8], solid: &[u64], room: &mut [u8], n: usize, b: usize)
+    requires { ⌜ SendsList f (solidFaces (now rows) (now solid)) (now room) n b ⌝ }
+    ensures { λ _. ⌜ now (room .exit) ≡ listIn f (solidFaces (now (rows .entry)) (now (solid .entry))) (now (room .entry)) ⌝ }
 {
     pack::put(room, 0, paper::EDITION_BITS, f.edition);
     pack::put(room, paper::EDITION_BITS, f.face_count_bits, n as u64);
-    put_faces(f, rows, taken, turned, room);
+    put_faces(f, rows, solid, room);
     pack::put_fill(room, paper::EDITION_BITS + f.face_count_bits + b);
 }
 
@@ -191,12 +184,12 @@ fn refused(number: u8) -> Written
 }
 
 // Writes a reported solid as a list of one edition.
-pub fn write(f: Format, rows: &[u8], taken: u64, turned: u64, room: &mut [u8]) -> Written
+pub fn write(f: Format, rows: &[u8], solid: &[u64], room: &mut [u8]) -> Written
     requires { ⌜ Brief f ⌝ }
-    ensures answer { λ r. ⌜ r ≡ sentOf f (solidFaces (now (rows .entry)) taken turned) (now (room .entry)) ⌝ }
-    ensures kept { λ _. ⌜ now (room .exit) ≡ sentRoom f (solidFaces (now (rows .entry)) taken turned) (now (room .entry)) ⌝ }
+    ensures answer { λ r. ⌜ r ≡ sentOf f (solidFaces (now (rows .entry)) (now (solid .entry))) (now (room .entry)) ⌝ }
+    ensures kept { λ _. ⌜ now (room .exit) ≡ sentRoom f (solidFaces (now (rows .entry)) (now (solid .entry))) (now (room .entry)) ⌝ }
 {
-    let weighed = weigh_all(f, rows, taken);
+    let weighed = weigh_all(f, rows, solid);
     let Extent::Of(n, b) = weighed else {
         return refused(paper::SHELL_SHAPE);
     };
@@ -207,6 +200,6 @@ pub fn write(f: Format, rows: &[u8], taken: u64, turned: u64, room: &mut [u8]) -
     if room.len() < size {
         return refused(paper::NO_ROOM);
     }
-    put_list(f, rows, taken, turned, room, n, b);
+    put_list(f, rows, solid, room, n, b);
     Written::Bytes(size)
 }

@@ -7,15 +7,15 @@ use Rattle.faces_writer.proofs.write.put_faces.Statement.{statement}
 use Rattle.faces_writer.proofs.write.put_faces.Tie as tie
 
 abbrev Inv-loop : tie.InvT-loop
-Inv-loop f rows taken turned room₀ b₀ k₀ room b k = Sending f rows taken turned room₀ k b room
+Inv-loop f rows solid room₀ b₀ k₀ room b k = Sending f rows solid room₀ k b room
 
 abbrev μ-loop : tie.MeasureT-loop
-μ-loop f rows taken turned room₀ b₀ k₀ room b k = mostCandidates - k
+μ-loop f rows solid room₀ b₀ k₀ room b k = mostCandidates - k
 
 -- ---- the places that the proof goes back to
 
 abbrev entry : tie.At-loop Inv-loop μ-loop → tie.Start Inv-loop μ-loop
-entry c = c .before .before .before .before
+entry c = c .before .before .before .before .before
 
 abbrev turn : tie.After-put-taken-arg Inv-loop μ-loop → tie.At-loop Inv-loop μ-loop
 turn c = c .before .before
@@ -23,20 +23,20 @@ turn c = c .before .before
 -- ---- the needs
 
 add-b : tie.Need-add-b Inv-loop μ-loop
-add-b c = omega (arith, c .before .before .before .pre .brief .slender .face-count-narrow)
+add-b c = omega (arith, c .before .before .before .before .pre .brief .slender .face-count-narrow)
 
 loop-holds : tie.Need-loop-holds Inv-loop μ-loop
 loop-holds c =
-    let s = c .before .before .before in
+    let s = c .before .before .before .before in
     let a = s .args in
-    send-start (a .f) (a .rows .now) (a .taken) (a .turned) (a .room .now) (s .pre)
+    send-start (a .f) (a .rows .now) (a .solid .now) (a .room .now) (s .pre)
 
 put-taken-requires : tie.Need-put-taken-requires Inv-loop μ-loop
 put-taken-requires c κs =
     let l = turn c .loop in
     let s = entry (turn c) in
     let a = s .args in
-    send-one (a .f) (a .rows .now) (a .taken) (a .turned) (a .room .now) (s .pre) (l .k) (l .b) (l .room) (omega arith) (l .inv)
+    send-one (a .f) (a .rows .now) (a .solid .now) (a .room .now) (s .pre) (l .k) (l .b) (l .room) (omega arith) (l .inv)
 
 loop-again : tie.Need-loop-again Inv-loop μ-loop
 loop-again c =
@@ -45,8 +45,8 @@ loop-again c =
     let l = t .loop in
     let s = entry t in
     let a = s .args in
-    send-next (a .f) (a .rows .now) (a .taken) (a .turned) (a .room .now) (s .pre) (l .k) (l .b) (l .room) (omega arith) (l .inv)
-    (p .last .1 .1 .1 .1 .1 .0) (p .kept .1 .1 .1 .1 .1 .0) (p .ensures .0) (p .ensures .1)
+    send-next (a .f) (a .rows .now) (a .solid .now) (a .room .now) (s .pre) (l .k) (l .b) (l .room) (omega arith) (l .inv)
+    (p .last .1 .1 .1 .1 .0) (p .kept .1 .1 .1 .1 .0) (p .ensures .0) (p .ensures .1)
 
 same-length : tie.Need-same-length Inv-loop μ-loop
 same-length c = c .before .loop .inv .kept
@@ -55,7 +55,7 @@ returns : tie.Need-returns Inv-loop μ-loop
 returns c =
     let l = c .before .loop in
     let a = entry (c .before) .args in
-    send-end (a .f) (a .rows .now) (a .taken) (a .turned) (a .room .now) (l .k) (l .b) (l .room) (omega arith) (l .inv)
+    send-end (a .f) (a .rows .now) (a .solid .now) (a .room .now) (l .k) (l .b) (l .room) (omega arith) (l .inv)
 
 pub put-faces-spec : {M : Type 1} → statement M
 put-faces-spec =

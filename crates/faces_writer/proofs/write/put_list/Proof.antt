@@ -17,7 +17,7 @@ use Rattle.faces_writer.proofs.write.put_list.Tie as tie
 -- ---- the way back from each call to the one before it
 
 abbrev start : tie.After-put → tie.Start
-start c = c .before .before .before .before
+start c = c .before .before .before .before .before
 
 abbrev numbered : tie.After-put2 → tie.After-put
 numbered c = c .before .before .before .before
@@ -31,7 +31,7 @@ placed c = c .before .before .before .before
 -- ---- what is known as the call begins: b is the faces' bits, which are few
 
 abbrev faces : tie.Start → List Loop
-faces s = let a = s .args in solidFaces (a .rows .now) (a .taken) (a .turned)
+faces s = let a = s .args in solidFaces (a .rows .now) (a .solid .now)
 
 ends : (s : tie.Start) → listHead (s .args .f) + s .args .b ≡ bitsOf (s .args .f) (faces s)
 ends s = size-is (s .args .f) (faces s) (s .pre .weighed .span-is)
@@ -39,12 +39,12 @@ ends s = size-is (s .args .f) (faces s) (s .pre .weighed .span-is)
 small : (s : tie.Start) → s .args .b ≤ 6400
 small s =
     let a = s .args in
-    omega (arith, solid-small (a .f) (a .rows .now) (a .taken) (s .pre .brief) (a .turned) (s .pre .weighed .fit), s .pre .weighed .span-is)
+    omega (arith, solid-small (a .f) (a .rows .now) (a .solid .now) (s .pre .brief) (s .pre .weighed .fit), s .pre .weighed .span-is)
 
 -- ---- the needs
 
 put-requires : tie.Need-put-requires
-put-requires c κs = let s = c .before .before .before in omega (arith, ends s, s .pre .roomy)
+put-requires c κs = let s = c .before .before .before .before in omega (arith, ends s, s .pre .roomy)
 
 put-requires-2 : tie.Need-put-requires-2
 put-requires-2 c κs =
@@ -84,7 +84,7 @@ put-fill-requires c κs =
       s .pre .brief .slender .face-count-narrow,
       p .put .kept .0,
       q .put2 .kept .0,
-      r .put-faces .kept .1 .1 .1 .1 .0,
+      r .put-faces .kept .1 .1 .1 .0,
     )
 
 returns : tie.Need-returns
@@ -95,7 +95,7 @@ returns c =
     let p = numbered q in
     let s = start p in
     let a = s .args in
-    let kept = l .put-fill .kept .0 ∙ r .put-faces .kept .1 .1 .1 .1 .0 ∙ q .put2 .kept .0 ∙ p .put .kept .0 in
+    let kept = l .put-fill .kept .0 ∙ r .put-faces .kept .1 .1 .1 .0 ∙ q .put2 .kept .0 ∙ p .put .kept .0 in
     listed (a .f) (faces s) (a .room .now) (l .put-fill .last .0) (s .pre) kept
     (λ i. omega (arith, p .before .before .slice-known .given i)) (λ i. omega (arith, c .slice-known5 .given i))
     (p .put .ensures) (q .put2 .ensures) (r .put-faces .ensures) (l .put-fill .ensures)

@@ -14,33 +14,33 @@ use Rattle.faces_writer.proofs.write.put_taken.Tie as tie
 
 -- ---- the places that the proof goes back to
 
-abbrev start : tie.After-is-set → tie.Start
-start c = c .before .before .before
+abbrev start : tie.After-is-taken → tie.Start
+start c = c .before .before .before .before
 
-abbrev looked : tie.After-is-set2 → tie.After-is-set
+abbrev looked : tie.After-is-turned → tie.After-is-taken
 looked c = c .before .before
 
-abbrev asked : tie.After-put-face → tie.After-is-set2
+abbrev asked : tie.After-put-face → tie.After-is-turned
 asked c = c .before .before
 
 -- ---- what candidate k gives
 
 abbrev alone : tie.Start → List Loop
-alone s = let a = s .args in faceAlone (a .rows .now) (a .taken) (a .turned) (a .k)
+alone s = let a = s .args in faceAlone (a .rows .now) (a .solid .now) (a .k)
 
--- it is the face that is put, as the two words tell
-is-put : (c : tie.After-is-set2) → let s = start (looked c) in
-    alone s ≡ rowAlone (s .args .rows .now) (s .args .k) (c .is-set2 .result)
+-- it is the face that is put, as the record tells
+is-put : (c : tie.After-is-turned) → let s = start (looked c) in
+    alone s ≡ rowAlone (s .args .rows .now) (s .args .k) (c .is-turned .result)
 is-put c =
     let t = looked c in
     let a = start t .args in
-    alone-taken (a .rows .now) (a .taken) (a .turned) (a .k) (sym (t .is-set .ensures) ∙ c .before .if1 .taken)
-    ∙ sym (ap (rowAlone (a .rows .now) (a .k)) (c .is-set2 .ensures))
+    alone-taken (a .rows .now) (a .solid .now) (a .k) (sym (t .is-taken .ensures) ∙ c .before .if1 .taken)
+    ∙ sym (ap (rowAlone (a .rows .now) (a .k)) (c .is-turned .ensures))
 
 is-none : (c : tie.Else1) → alone (start (c .before)) ≡ []
 is-none c =
     let a = start (c .before) .args in
-    alone-left (a .rows .now) (a .taken) (a .turned) (a .k) (sym (c .before .is-set .ensures) ∙ c .if1 .left)
+    alone-left (a .rows .now) (a .solid .now) (a .k) (sym (c .before .is-taken .ensures) ∙ c .if1 .left)
 
 -- ---- the needs
 

@@ -18,15 +18,15 @@ use Rattle.faces_writer.proofs.write.weigh.Tie as tie
 -- ---- the places that the proof goes back to
 
 abbrev start : tie.Then1 → tie.Start
-start c = c .before .before .before
+start c = c .before .before .before .before
 
 abbrev looked : tie.After-fit → tie.After-row-fits
 looked c = c .before .before
 
 -- ---- what is known there: the candidate is taken, and where it is a face its corners are few bits
 
-is-taken : (c : tie.Then1) → marked (start c .args .taken) (start c .args .k) ≡ true
-is-taken c = sym (c .before .is-set .ensures) ∙ c .if1 .taken
+has : (c : tie.Then1) → marked (start c .args .solid .now) (start c .args .k) ≡ true
+has c = sym (c .before .is-taken .ensures) ∙ c .if1 .taken
 
 abbrev corners : tie.After-fit → ℕ
 corners c = c .fit .given .0 .0
@@ -49,7 +49,7 @@ returns c =
     let r = c .before .before in
     let a = start (r .before) .args in
     let misfit = sym (ap found (c .enum-told .given .1)) ∙ r .row-fits .ensures in
-    weigh-row (a .f) (a .rows .now) (a .taken) (a .k) (is-taken (r .before)) misfit
+    weigh-row (a .f) (a .rows .now) (a .solid .now) (a .k) (has (r .before)) misfit
 
 mul-t8 : tie.Need-mul-t8
 mul-t8 c = omega (arith, few-bits (c .before .before))
@@ -62,12 +62,12 @@ returns-2 c =
     let m = c .before .before in
     let t = looked m .before in
     let a = start t .args in
-    weigh-row (a .f) (a .rows .now) (a .taken) (a .k) (is-taken t) (is-face m)
+    weigh-row (a .f) (a .rows .now) (a .solid .now) (a .k) (has t) (is-face m)
 
 returns-3 : tie.Need-returns-3
 returns-3 c =
-    let a = c .before .before .before .args in
-    weigh-left (a .f) (a .rows .now) (a .taken) (a .k) (sym (c .before .is-set .ensures) ∙ c .if1 .left)
+    let a = c .before .before .before .before .args in
+    weigh-left (a .f) (a .rows .now) (a .solid .now) (a .k) (sym (c .before .is-taken .ensures) ∙ c .if1 .left)
 
 pub weigh-spec : {M : Type 1} → statement M
 weigh-spec =

@@ -10,15 +10,15 @@ use Rattle.faces_writer.proofs.write.weigh_all.Statement.{statement}
 use Rattle.faces_writer.proofs.write.weigh_all.Tie as tie
 
 abbrev Inv-loop : tie.InvT-loop
-Inv-loop f rows taken faces₀ bits₀ k₀ faces bits k = Weighing f rows taken k faces bits
+Inv-loop f rows solid faces₀ bits₀ k₀ faces bits k = Weighing f rows solid k faces bits
 
 abbrev μ-loop : tie.MeasureT-loop
-μ-loop f rows taken faces₀ bits₀ k₀ faces bits k = mostCandidates - k
+μ-loop f rows solid faces₀ bits₀ k₀ faces bits k = mostCandidates - k
 
 -- ---- the places that the proof goes back to
 
 abbrev entry : tie.At-loop Inv-loop μ-loop → tie.Start Inv-loop μ-loop
-entry c = c .before .before
+entry c = c .before .before .before
 
 abbrev turn : tie.After-weigh Inv-loop μ-loop → tie.At-loop Inv-loop μ-loop
 turn c = c .before .before
@@ -35,19 +35,19 @@ abbrev b : tie.After-one Inv-loop μ-loop → ℕ
 b c = c .one .given .0 .1 .0
 
 one : (c : tie.After-one Inv-loop μ-loop) → let t = turn (weighing c) in let a = entry t .args in
-    One (a .f) (a .rows .now) (a .taken) (t .loop .k) (Of (m c) (b c))
-one c turned = sym (c .one .given .1) ∙ weighing c .weigh .ensures turned
+    One (a .f) (a .rows .now) (a .solid .now) (t .loop .k) (Of (m c) (b c))
+one c = sym (c .one .given .1) ∙ weighing c .weigh .ensures
 
 small : (c : tie.After-one Inv-loop μ-loop) → (m c ≤ 1) × (b c ≤ 100)
 small c =
     let t = turn (weighing c) in
     let s = entry t in
-    one-small (s .args .f) (s .args .rows .now) (s .args .taken) (s .pre) (t .loop .k) (one c)
+    one-small (s .args .f) (s .args .rows .now) (s .args .solid .now) (s .pre) (t .loop .k) (one c)
 
 -- ---- the needs
 
 loop-holds : tie.Need-loop-holds Inv-loop μ-loop
-loop-holds c = let a = c .before .args in weigh-start (a .f) (a .rows .now) (a .taken)
+loop-holds c = let a = c .before .before .args in weigh-start (a .f) (a .rows .now) (a .solid .now)
 
 weigh-requires : tie.Need-weigh-requires Inv-loop μ-loop
 weigh-requires c κs = record { brief = entry (c .before) .pre; known = omega arith }
@@ -58,8 +58,8 @@ returns c =
     let t = turn w in
     let a = entry t .args in
     let l = t .loop in
-    weigh-stop (a .f) (a .rows .now) (a .taken) (l .k) (l .faces) (l .bits) (omega arith) (l .inv)
-    (λ turned. sym (c .enum-told .given .1) ∙ w .weigh .ensures turned)
+    weigh-stop (a .f) (a .rows .now) (a .solid .now) (l .k) (l .faces) (l .bits) (omega arith) (l .inv)
+    (sym (c .enum-told .given .1) ∙ w .weigh .ensures)
 
 add-faces : tie.Need-add-faces Inv-loop μ-loop
 add-faces c = omega (arith, small (c .before))
@@ -73,13 +73,13 @@ loop-again c =
     let s = entry t in
     let a = s .args in
     let l = t .loop in
-    weigh-next (a .f) (a .rows .now) (a .taken) (l .k) (l .faces) (l .bits) (omega arith) (l .inv) (s .pre) (one (c .before))
+    weigh-next (a .f) (a .rows .now) (a .solid .now) (l .k) (l .faces) (l .bits) (omega arith) (l .inv) (s .pre) (one (c .before))
 
 returns-2 : tie.Need-returns-2 Inv-loop μ-loop
 returns-2 c =
     let a = entry (c .before) .args in
     let l = c .before .loop in
-    weigh-end (a .f) (a .rows .now) (a .taken) (l .k) (l .faces) (l .bits) (omega arith) (l .inv)
+    weigh-end (a .f) (a .rows .now) (a .solid .now) (l .k) (l .faces) (l .bits) (omega arith) (l .inv)
 
 pub weigh-all-spec : {M : Type 1} → statement M
 weigh-all-spec =

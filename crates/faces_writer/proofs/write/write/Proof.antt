@@ -21,7 +21,7 @@ use Rattle.faces_writer.proofs.write.write.Tie as tie
 -- ---- the way back from each test to the one before it
 
 abbrev start : tie.After-weigh-all → tie.Start
-start c = c .before .before .before
+start c = c .before .before .before .before
 
 abbrev told : tie.After-is-outside → tie.After-weighed
 told c = c .before .before
@@ -35,7 +35,7 @@ entry c = start (c .before .before)
 -- ---- what is known there: the faces, n of b bits, all of which fit
 
 abbrev faces : tie.Start → List Loop
-faces s = let a = s .args in solidFaces (a .rows .now) (a .taken) (a .turned)
+faces s = let a = s .args in solidFaces (a .rows .now) (a .solid .now)
 
 abbrev n : tie.After-weighed → ℕ
 n c = c .weighed .given .0 .0
@@ -46,7 +46,7 @@ b c = c .weighed .given .0 .1 .0
 known : (c : tie.After-weighed) → Weighed (entry c .args .f) (faces (entry c)) (n c) (b c)
 known c =
     let a = entry c .args in
-    weighed (a .f) (faces (entry c)) (sym (c .weighed .given .1) ∙ c .before .before .weigh-all .ensures (a .turned))
+    weighed (a .f) (faces (entry c)) (sym (c .weighed .given .1) ∙ c .before .before .weigh-all .ensures)
 
 -- where they end is a small number
 ends : (c : tie.After-weighed) → listHead (entry c .args .f) + b c ≡ bitsOf (entry c .args .f) (faces (entry c))
@@ -56,7 +56,7 @@ small : (c : tie.After-weighed) → listHead (entry c .args .f) + b c ≤ 6412
 small c =
     let s = entry c in
     let a = s .args in
-    let bits = solid-small (a .f) (a .rows .now) (a .taken) (s .pre) (a .turned) (known c .fit) in
+    let bits = solid-small (a .f) (a .rows .now) (a .solid .now) (s .pre) (known c .fit) in
     omega (arith, bits, known c .span-is, s .pre .slender .face-count-narrow)
 
 -- what the test of the count finds
@@ -72,7 +72,7 @@ returns c =
     let w = c .before .before .before in
     let s = start w in
     let a = s .args in
-    let wrong = misfit (a .f) (faces s) (sym (c .before .enum-told .given .1) ∙ w .weigh-all .ensures (a .turned)) in
+    let wrong = misfit (a .f) (faces s) (sym (c .before .enum-told .given .1) ∙ w .weigh-all .ensures) in
     let r = result-misfit (a .f) (faces s) (a .room .now) wrong in
     (c .refused .ensures ∙ r .0, r .1)
 
