@@ -18,7 +18,8 @@ pub fn write_faces(
     edges: usize,
     room: &mut [u8],
 ) -> Written
-    ensures answer { λ r. ⌜ r ≡ ofSolid (sentOf (editionFor vertices edges)) (now (rows .entry)) (now (solid .entry)) (now (room .entry)) ⌝ }
+    ensures answer { λ r. ⌜ r
+        ≡ ofSolid (sentOf (editionFor vertices edges)) (now (rows .entry)) (now (solid .entry)) (now (room .entry)) ⌝ }
     ensures said { λ r. ⌜ writtenSays r
         ≡ ofSolid (sentSaid (editionFor vertices edges)) (now (rows .entry)) (now (solid .entry)) (now (room .entry)) ⌝ }
     ensures kept { λ _. ⌜ now (room .exit)

@@ -156,7 +156,8 @@ fn put_taken(f: Format, rows: &[u8], solid: &[u64], k: usize, room: &mut [u8], b
 // Writes the solid's faces behind the head.
 fn put_faces(f: Format, rows: &[u8], solid: &[u64], room: &mut [u8])
     requires { ⌜ SendsFrom f (solidFaces (now rows) (now solid)) (now room) (listHead f) ⌝ }
-    ensures { λ _. ⌜ PutFaces f (solidFaces (now (rows .entry)) (now (solid .entry))) (now (room .entry)) (now (room .exit)) (listHead f) ⌝ }
+    ensures { λ _. ⌜ PutFaces f (solidFaces (now (rows .entry)) (now (solid .entry)))
+        (now (room .entry)) (now (room .exit)) (listHead f) ⌝ }
 {
     let mut b = paper::EDITION_BITS + f.face_count_bits;
     let mut k: usize = 0;

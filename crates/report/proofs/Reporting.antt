@@ -1,5 +1,5 @@
 -- Each way out of `reported` is the document's: no solid, one, or more.
-use mathlib.Core.List.{List, [], _∷_, _++_, flatMap}
+use mathlib.Core.List.{List, [], _∷_, _++_, flatMap, append-nil}
 use mathlib.Core.Path.{_≡_, refl, sym, ap, _∙_}
 use Prim.Native.Nat.{ℕ, _*_, _<_}
 use native.Mathlib.Omega.{arith}
@@ -9,16 +9,28 @@ use Rattle.lists.specs.After.{after}
 use Rattle.lists.proofs.After.{each-long}
 use Rattle.paper.specs.Numbers.{rowBytes, solidWords}
 use Rattle.paper.specs.Loops.{Loop, row}
-use Rattle.paper.specs.Solids.{Tables}
+use Rattle.paper.specs.Record.{sixIn}
+use Rattle.paper.specs.Solids.{Tables, judged}
 use Rattle.paper.specs.Walk.{Status, Log}
-use Rattle.paper.specs.Conversion.{words, facesAfter, solidsAfter, reported}
+use Rattle.paper.specs.Conversion.{takens, turnedOf, sixOf, words, facesAfter, solidsAfter, reported}
 use Rattle.paper.specs.declared.Conversion.the-variants as Conversion
+use Rattle.paper_laws.proofs.Record.{six-in, words-length}
 use Rattle.loop_table.specs.Tables.{HoldsRows}
 use Rattle.walk.specs.Tally.{Stored}
 use Rattle.walk.specs.declared.tally.Tally.{Tally}
 use Rattle.rooms.specs.Rooms.{copied}
 use Rattle.report.specs.Room.{Wrote}
 use Rattle.report.specs.Concluded.{Concluding, ReportedAs}
+
+-- six volumes of a solid that is the only one
+six-told : (tables : Tables) (st : List Status) (lent : List ℕ)
+    → sixIn (solidsAfter tables (st ∷ []) lent) ≡ sixOf (judged tables (takens st))
+unfolding solidsAfter words flatMap
+six-told tables st lent =
+    let j = judged tables (takens st) in
+    let rest = drop (solidWords * 1) lent in
+    ap (λ (ws : List ℕ). sixIn (ws ++ rest)) (append-nil (words tables st))
+    ∙ six-in (takens st) (turnedOf j) (sixOf j) rest
 
 -- ---- the definition, by the number of solids
 module _ (loops : ℕ) (cs : List Loop) (tables : Tables) (work : ℕ) (faces solids : List ℕ) where
@@ -29,17 +41,24 @@ module _ (loops : ℕ) (cs : List Loop) (tables : Tables) (work : ℕ) (faces so
   none-found [] e = refl
   none-found (st ∷ found) e = absurd (omega (arith, e))
 
-  -- six volumes is the third word
+  -- six volumes is in the record
   one-found : (found : List (List Status)) (lent : List ℕ) → length found ≡ 1
       → reported loops cs tables work found faces solids
       ≡ record {
-        answer = Conversion.One loops (length cs) work (getD (solidsAfter tables found lent) 2 0);
+        answer = Conversion.One loops (length cs) work (sixIn (solidsAfter tables found lent));
         faces = facesAfter cs faces;
         solids = solidsAfter tables found solids;
       }
-  unfolding reported solidsAfter words flatMap
+  unfolding reported
   one-found [] lent e = absurd (omega (arith, e))
-  one-found (st ∷ []) lent e = refl
+  one-found (st ∷ []) lent e =
+      ap
+      (λ (six : ℕ). record {
+        answer = Conversion.One loops (length cs) work six;
+        faces = facesAfter cs faces;
+        solids = solidsAfter tables (st ∷ []) solids;
+      })
+      (sym (six-told tables st lent))
   one-found (st ∷ (st′ ∷ found)) lent e = absurd (omega (arith, e))
 
   several-found : (found : List (List Status)) → 1 < length found
@@ -75,9 +94,10 @@ module _ {n : ℕ} {rows : List ℕ} {t : Tally} {out faces₀ faces solids₀ s
 
   solids-is : (tables : Tables) (log : Log) (lent : List ℕ) → Stored tables lent t out log
       → solidsAfter tables (log .found) solids₀ ≡ solids
-  unfolding solidsAfter words
+  unfolding solidsAfter
   solids-is tables log lent s =
-      let long = each-long (words tables) solidWords [] (log .found) (λ i h. refl) in
+      let found = log .found in
+      let long = each-long (words tables) solidWords [] found (λ i h. words-length tables (getD found i [])) in
       sym (copied-after (words tables) solidWords (log .found) lent out solids₀ long (s .words-are))
       ∙ ap (λ (i : ℕ). copied (solidWords * i) out solids₀) (sym (s .counts .found-is))
       ∙ sym (w .solids-are)
@@ -95,12 +115,12 @@ module _ {loops n : ℕ} {rows : List ℕ} {t : Tally} {out faces₀ solids₀ :
   module _ {faces solids : List ℕ} (p : Concluding n rows t out faces₀ solids₀)
       (w : Wrote rows n out (t .found) faces₀ faces solids₀ solids) where
     pub says-one : t .found ≡ 1
-        → ReportedAs loops n rows t out faces₀ faces solids₀ solids (Conversion.One loops n (t .work) (getD out 2 0))
+        → ReportedAs loops n rows t out faces₀ faces solids₀ solids (Conversion.One loops n (t .work) (sixIn out))
     says-one e = record {
       same = λ cs tables log lent k held s.
           one-found loops cs tables (log .work) faces₀ solids₀ (log .found) lent (sym (s .counts .found-is) ∙ e)
           ∙ (λ i. record {
-            answer = Conversion.One loops (k i) (sym (s .counts .work-is) i) (getD (sym (s .words-are) i) 2 0);
+            answer = Conversion.One loops (k i) (sym (s .counts .work-is) i) (sixIn (sym (s .words-are) i));
             faces = faces-is p w cs k held i;
             solids = solids-is p w tables log lent s i;
           });

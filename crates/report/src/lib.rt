@@ -6,14 +6,14 @@ ghost use Rattle.report.specs.Concluded.{Concluding, ReportedAs, Conclud
 use paper::Conversion;
 use paper::FACE_ROOM;
 use paper::MANY;
+use paper::SET_WORDS;
 use paper::SOLID_ROOM;
 use paper::TOO_LONG;
-use paper::WORDS;
 use room::write_report;
 use walk::tally::Tally;
 
-// Of a solid's three words the last is its six volumes.
-const SIX: usize = WORDS - 1;
+// The word of a solid's record that is its six volumes.
+const SIX: usize = 2 * SET_WORDS;
 
 // Of a walk that was not cut. The rooms are written only where there is a solid.
 fn reported(
