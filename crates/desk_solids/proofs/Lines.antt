@@ -5,27 +5,27 @@ use mathlib.Core.Path.{_≡_, refl, sym, ap, _∙_}
 use Prim.Native.Nat.{ℕ, suc, _+_, _*_, _-_, _≤_, _<_}
 use native.Mathlib.Numerals.{add-one}
 use native.Mathlib.Omega.{arith}
-use lib.ListN.{length, getD, take, drop, length-drop, drop-of-length-le}
+use lib.ListN.{length, take, drop, length-drop, drop-of-length-le}
 use lib.Seq.{take-all, drop-cons, drop-drop}
-use Rattle.sets.specs.Word.{digits, dig}
-use Rattle.sets.proofs.Word.{length-digits}
-use Rattle.paper.specs.Numbers.{mostCandidates, solidWords}
+use Rattle.sets.specs.Word.{dig}
+use Rattle.paper.specs.Numbers.{setWords, wordBits, solidWords}
+use Rattle.paper.specs.Record.{takenIn, turnedIn, sixIn}
 use Rattle.paper.specs.Desk.{text, decimal, facesText, solidText, solidsText}
+use Rattle.paper_laws.proofs.Record.{digits-length}
 use Rattle.desk_solids.specs.Solids.{faceIf, faceText, wordsText, lineText}
 
 -- ---- a face, once it is known whether it is taken and turned
 
-pub face-is : (k taken turned : ℕ) {a b : Bool} → dig (digits mostCandidates taken) k ≡ a → dig (digits mostCandidates turned) k ≡ b
-    → faceText k taken turned ≡ faceIf a b k
-face-is k taken turned p q i = faceIf (p i) (q i) k
+pub face-is : (k : ℕ) (ws : List ℕ) {a b : Bool} → dig (takenIn ws) k ≡ a → dig (turnedIn ws) k ≡ b → faceText k ws ≡ faceIf a b k
+face-is k ws p q i = faceIf (p i) (q i) k
 
 -- ---- the faces from candidate k on
 
-module _ (taken turned : ℕ) where
+module _ (ws : List ℕ) where
   pub facesFrom : ℕ → List ℕ
-  facesFrom k = facesText k (drop k (digits mostCandidates taken)) (digits mostCandidates turned)
+  facesFrom k = facesText k (drop k (takenIn ws)) (turnedIn ws)
 
-  pub faces-start : wordsText taken turned ≡ facesFrom 0
+  pub faces-start : wordsText ws ≡ facesFrom 0
   unfolding facesFrom
   faces-start = refl
 
@@ -34,30 +34,30 @@ module _ (taken turned : ℕ) where
   face-next true k ts us = refl
   face-next false k ts us = refl
 
-  pub faces-more : (k : ℕ) → k < mostCandidates → facesFrom k ≡ faceText k taken turned ++ facesFrom (k + 1)
+  pub faces-more : (k : ℕ) → k < wordBits * setWords → facesFrom k ≡ faceText k ws ++ facesFrom (k + 1)
   unfolding facesFrom
   faces-more k h =
-      let ts = digits mostCandidates taken in
-      let us = digits mostCandidates turned in
-      let n : k < length ts = omega (arith, length-digits mostCandidates taken) in
+      let ts = takenIn ws in
+      let us = turnedIn ws in
+      let n : k < length ts = omega (arith, digits-length setWords 0 ws) in
       ap (λ (l : List Bool). facesText k l us) (drop-cons ts k false n)
       ∙ face-next (dig ts k) k (drop (suc k) ts) us
-      ∙ ap (λ (m : ℕ). faceText k taken turned ++ facesText m (drop m ts) us) (sym (add-one k))
+      ∙ ap (λ (m : ℕ). faceText k ws ++ facesText m (drop m ts) us) (sym (add-one k))
 
-  pub faces-end : (k : ℕ) → mostCandidates ≤ k → facesFrom k ≡ []
+  pub faces-end : (k : ℕ) → wordBits * setWords ≤ k → facesFrom k ≡ []
   unfolding facesFrom facesText
   faces-end k h =
-      let ts = digits mostCandidates taken in
-      let n : length ts ≤ k = omega (arith, length-digits mostCandidates taken) in
-      ap (λ (l : List Bool). facesText k l (digits mostCandidates turned)) (drop-of-length-le ts n)
+      let ts = takenIn ws in
+      let n : length ts ≤ k = omega (arith, digits-length setWords 0 ws) in
+      ap (λ (l : List Bool). facesText k l (turnedIn ws)) (drop-of-length-le ts n)
 
 -- ---- the solids from the i-th on, of n
 
 line-is : (i : ℕ) (ws : List ℕ) → solidText i ws ≡ lineText i ws
 unfolding solidText
 line-is i ws =
-    ap (λ (l : List ℕ). l ++ text " faces" ++ wordsText (getD ws 0 0) (getD ws 1 0) ++ text "\n")
-    (append-assoc (text "solid " ++ decimal i) (text " sixvolumes ") (decimal (getD ws 2 0)))
+    ap (λ (l : List ℕ). l ++ text " faces" ++ wordsText ws ++ text "\n")
+    (append-assoc (text "solid " ++ decimal i) (text " sixvolumes ") (decimal (sixIn ws)))
 
 module _ (n : ℕ) (ws : List ℕ) where
   pub solidsFrom : ℕ → List ℕ
@@ -77,9 +77,6 @@ module _ (n : ℕ) (ws : List ℕ) where
 
   words-are : (i : ℕ) → drop (solidWords * i) ws ≡ wordsFrom i
   words-are i = sym (take-all (length ws - solidWords * i) (drop (solidWords * i) ws) (omega (arith, length-drop (solidWords * i) ws)))
-
-  pub words-long : (i : ℕ) → i < n → solidWords * n ≤ length ws → solidWords ≤ length (wordsFrom i)
-  words-long i h f = omega (arith, length-drop (solidWords * i) ws, ap length (words-are i))
 
   pub solids-more : (i : ℕ) → i < n → solidsFrom i ≡ lineText (i + 1) (wordsFrom i) ++ solidsFrom (i + 1)
   unfolding solidsFrom

@@ -1,21 +1,27 @@
 // The lines of a report's solids, put into a room behind one another. Assumes that there is room, and the words of the solids.
 ghost use Rattle.paper.specs.Desk.{solidsText};
-ghost use Rattle.desk_lines.specs.Put.{Puts};
-ghost use Rattle.desk_solids.specs.Solids.{faceText, wordsText, FaceAt, FacesAt, lineText, SolidAt, SolidsAt};
+ghost use Rattle.desk_lines.specs.Put.{Fits, Puts};
+ghost use Rattle.desk_solids.specs.Solids.{faceText, wordsText, lineText, SolidsAt};
 use desk_lines::put_field;
 use desk_lines::put_pair;
 use desk_lines::put_text;
-use paper::MOST_CANDIDATES;
+use paper::SET_WORDS;
+use paper::WORD_BITS;
 use paper::WORDS;
-use sets::is_set;
+use solid_words::is_taken;
+use solid_words::is_turned;
+use solid_words::six;
+
+// The candidates that a record has a bit for.
+const SET_BITS: usize = WORD_BITS * SET_WORDS;
 
 // Each function answers the place behind what it put. Candidate k, where it is taken: "minus for a face run against normal form"
-fn put_face(k: usize, taken: u64, turned: u64, at: usize, room: &mut [u8]) -> usize
-    requires { ⌜ FaceAt k taken turned at (now room) ⌝ }
-    ensures { λ r. ⌜ Puts (now (room .entry)) at (faceText k taken turned) (now (room .exit)) r ⌝ }
+fn put_face(k: usize, solid: &[u64], at: usize, room: &mut [u8]) -> usize
+    requires { ⌜ Fits at (faceText k (now solid)) (now room) ⌝ }
+    ensures { λ r. ⌜ Puts (now (room .entry)) at (faceText k (now (solid .entry))) (now (room .exit)) r ⌝ }
 {
-    if is_set(taken, k) {
-        if is_set(turned, k) {
+    if is_taken(solid, k) {
+        if is_turned(solid, k) {
             return put_field(b" -", k as u64, at, room);
         }
         return put_field(b" +", k as u64, at, room);
@@ -23,30 +29,28 @@ fn put_face(k: usize, taken: u64, turned: u64, at: usize, room: &mut [u8]) -> us
     at
 }
 
-fn put_faces(taken: u64, turned: u64, at: usize, room: &mut [u8]) -> usize
-    requires { ⌜ FacesAt taken turned at (now room) ⌝ }
-    ensures { λ r. ⌜ Puts (now (room .entry)) at (wordsText taken turned) (now (room .exit)) r ⌝ }
+fn put_faces(solid: &[u64], at: usize, room: &mut [u8]) -> usize
+    requires { ⌜ Fits at (wordsText (now solid)) (now room) ⌝ }
+    ensures { λ r. ⌜ Puts (now (room .entry)) at (wordsText (now (solid .entry))) (now (room .exit)) r ⌝ }
 {
     let mut next = at;
     let mut k: usize = 0;
-    while k < MOST_CANDIDATES {
-        next = put_face(k, taken, turned, next, room);
+    while k < SET_BITS {
+        next = put_face(k, solid, next, room);
         k += 1;
     }
     next
 }
 
-// "its number, six volumes and faces", from its three words
-fn put_solid(i: usize, words: &[u64], at: usize, room: &mut [u8]) -> usize
-    requires { ⌜ SolidAt i (now words) at (now room) ⌝ }
-    ensures { λ r. ⌜ Puts (now (room .entry)) at (lineText i (now (words .entry))) (now (room .exit)) r ⌝ }
+// "its number, six volumes and faces", from its record
+fn put_solid(i: usize, solid: &[u64], at: usize, room: &mut [u8]) -> usize
+    requires { ⌜ Fits at (lineText i (now solid)) (now room) ⌝ }
+    ensures { λ r. ⌜ Puts (now (room .entry)) at (lineText i (now (solid .entry))) (now (room .exit)) r ⌝ }
 {
-    let taken = words[0];
-    let turned = words[1];
-    let six = words[2];
-    let numbered = put_pair(b"solid ", i as u64, b" sixvolumes ", six, at, room);
+    let volumes = six(solid);
+    let numbered = put_pair(b"solid ", i as u64, b" sixvolumes ", volumes, at, room);
     let named = put_text(b" faces", numbered, room);
-    let faced = put_faces(taken, turned, named, room);
+    let faced = put_faces(solid, named, room);
     put_text(b"\n", faced, room)
 }
 

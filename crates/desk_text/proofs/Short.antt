@@ -6,13 +6,14 @@ use Prim.Native.Nat.{ℕ, zero, suc, _+_, _*_, _/_, _%_, _≤_, _<_}
 use native.Mathlib.Decide.{decLt}
 use native.Mathlib.Omega.{arith}
 use lib.Dec.{ltb}
-use lib.ListN.{length, getD, drop, length-append}
-use Rattle.sets.specs.Word.{digits, dig}
-use Rattle.sets.proofs.Word.{length-digits}
-use Rattle.paper.specs.Numbers.{mostCandidates, mostSolids, solidWords}
+use lib.ListN.{length, drop, length-append}
+use Rattle.sets.specs.Word.{dig}
+use Rattle.paper.specs.Numbers.{mostSolids, setWords, solidWords}
+use Rattle.paper.specs.Record.{takenIn, turnedIn, sixIn}
 use Rattle.paper.specs.Desk.{text, decimalIn, decimal, signed, facesText, solidText, solidsText, headText, answerText}
 use Rattle.paper.specs.declared.Conversion.{Conversion}
 use Rattle.paper.specs.declared.Conversion.the-variants as Conversion
+use Rattle.paper_laws.proofs.Record.{digits-length}
 use Rattle.desk_lines.specs.Put.{digitText}
 use Rattle.desk_lines.proofs.Decimal.{decimal-one, decimal-more}
 use Rattle.desk_text.specs.Texts.{textRoomSize}
@@ -71,10 +72,9 @@ faces-short k (false ∷ ts) us h = omega (arith, faces-short (suc k) ts us (ome
 solid-short : (i : ℕ) (ws : List ℕ) → length (solidText i ws) ≤ 321
 unfolding solidText text
 solid-short i ws =
-    let ts = digits mostCandidates (getD ws 0 0) in
-    let us = digits mostCandidates (getD ws 1 0) in
-    let n = length-digits mostCandidates (getD ws 0 0) in
-    simp length-append (omega (arith, number-short i, number-short (getD ws 2 0), n, faces-short 0 ts us (omega (arith, n))))
+    let n = digits-length setWords 0 ws in
+    let faces = faces-short 0 (takenIn ws) (turnedIn ws) (omega (arith, n)) in
+    simp length-append (omega (arith, number-short i, number-short (sixIn ws), n, faces))
 
 solids-short : (i n : ℕ) (ws : List ℕ) → length (solidsText i n ws) ≤ 321 * n
 unfolding solidsText

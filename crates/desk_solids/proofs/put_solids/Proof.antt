@@ -4,7 +4,7 @@ use Prim.Native.Nat.{_+_, _-_, _<_}
 use native.Mathlib.Omega.{arith}
 use Rattle.paper.specs.Desk.{solidsText}
 use Rattle.desk_lines.proofs.Putting.{Onward, onward-start, onward-long, onward-fits, onward-more, onward-end}
-use Rattle.desk_solids.proofs.Lines.{solidsFrom, solids-start, words-long, solids-more, solids-end}
+use Rattle.desk_solids.proofs.Lines.{solidsFrom, solids-start, solids-more, solids-end}
 use Rattle.desk_solids.proofs.put_solids.Statement.{statement}
 use Rattle.desk_solids.proofs.put_solids.Tie as tie
 
@@ -26,11 +26,8 @@ put-solid-requires c κs =
     let s = start l in
     let i = l .loop .i in
     let h : i < s .args .n = omega arith in
-    record {
-      words = words-long (s .args .n) (s .args .words .now) i h (s .pre .words);
-      fits = onward-fits (l .loop .inv) (solidsFrom (s .args .n) (s .args .words .now) (i + 1))
-          (solids-more (s .args .n) (s .args .words .now) i h) (s .pre .fits);
-    }
+    onward-fits (l .loop .inv) (solidsFrom (s .args .n) (s .args .words .now) (i + 1))
+    (solids-more (s .args .n) (s .args .words .now) i h) (s .pre .fits)
 
 loop-again : tie.Need-loop-again Inv-loop μ-loop
 loop-again c =
