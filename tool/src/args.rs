@@ -2,10 +2,8 @@
 use crate::command::{Choice, Command};
 use crate::input::shown;
 use crate::trouble::Trouble;
+use nibgravel_numbers::MOST_WORK;
 use std::ffi::{OsStr, OsString};
-
-/// By document 01; it is the desk's too.
-const MOST_WORK: u64 = 1_000_000;
 
 pub struct Args {
     command: &'static Command,
@@ -75,7 +73,7 @@ impl Args {
         self.value("output")
     }
 
-    /// Any number of 64 bits: what is wrong with a larger limit is for the proved program to say.
+    /// The highest one where none is named, as at the desk; else any number of 64 bits: what is wrong with a larger limit is for the proved program to say.
     pub fn limit(&self) -> Result<u64, Trouble> {
         match self.value("limit") {
             None => Ok(MOST_WORK),

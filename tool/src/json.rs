@@ -1,4 +1,5 @@
 //! JSON values, written on one line.
+use nibgravel_numbers::Number;
 use std::fmt;
 
 #[derive(Clone, Debug, PartialEq)]
@@ -96,6 +97,12 @@ impl From<bool> for Json {
 impl From<u64> for Json {
     fn from(value: u64) -> Json {
         Json::Whole(value)
+    }
+}
+
+impl From<Number> for Json {
+    fn from(number: Number) -> Json {
+        u64::from(u8::from(number)).into()
     }
 }
 

@@ -27,7 +27,7 @@ pub fn line(file: &str, row: &Row) -> String {
             }
             _ => Default::default(),
         };
-        let number = refused.map_or(0, |refused| refused.number);
+        let number = refused.map_or(0, |refused| u8::from(refused.number));
         [number.to_string(), place, reading, solids, six, work]
     });
     format!("{},{}\n", quoted(&no_formula(file)), fields.join(","))

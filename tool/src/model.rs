@@ -1,4 +1,6 @@
 //! What the proved program said of a sheet, as values. Nothing here decides anything.
+use nibgravel_numbers::Number;
+use std::fmt;
 
 /// A drawing as it was read off a sheet: corners in whole centimetres, and edges by the numbers of their two ends.
 #[derive(Clone, Debug, PartialEq, Eq)]
@@ -10,8 +12,15 @@ pub struct Drawing {
 /// A number of document 01's table and its place.
 #[derive(Clone, Copy, Debug, PartialEq, Eq)]
 pub struct Refusal {
-    pub number: u8,
+    pub number: Number,
     pub place: u64,
+}
+
+/// As `13 EdgeMeets, edge 4`; without the place where it is always 0.
+impl fmt::Display for Refusal {
+    fn fmt(&self, f: &mut fmt::Formatter) -> fmt::Result {
+        f.write_str(&self.number.at(self.place))
+    }
 }
 
 /// The loops and candidates of a drawing that was searched, and the assumptions that were made.
@@ -57,7 +66,7 @@ pub enum Conversion {
     },
     /// 17 to 19: the drawing was searched, and there is no report.
     Ended {
-        number: u8,
+        number: Number,
         search: Search,
     },
     Refused(Refusal),
@@ -67,7 +76,7 @@ pub enum Conversion {
 #[derive(Clone, Copy, Debug, PartialEq)]
 pub enum Reading {
     Volume(f64),
-    NotAssessed(u8),
+    NotAssessed(Number),
 }
 
 /// All that is said of a sheet. There is a drawing where the sheet could be read (refusals 3 to 10 leave none).

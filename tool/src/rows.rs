@@ -1,10 +1,11 @@
 //! Sheets that are asked about one after another, and what is said of each, in words and as fields of JSON.
-use crate::answers::{advised, answer, Place};
+use crate::answers::{advice, advised};
 use crate::clerk::Clerk;
 use crate::input;
 use crate::json::Json;
 use crate::model::{Assessment, Conversion, Reading, Refusal};
 use crate::trouble::{Problem, Trouble, FINE, REFUSED};
+use nibgravel_numbers::Place;
 use std::collections::VecDeque;
 use std::ffi::OsStr;
 
@@ -81,12 +82,12 @@ pub fn status(assessment: &Assessment) -> u8 {
 
 /// The fields of a refusal; a place that is always 0 is left out.
 pub fn refusal_fields(refusal: Refusal) -> Vec<(&'static str, Json)> {
-    let Some(known) = answer(refusal.number) else { return vec![] };
-    let mut fields = vec![("number", u64::from(refusal.number).into()), ("name", known.name.into())];
-    if known.place != Place::None {
-        fields.extend([("place", refusal.place.into()), ("place_is", known.place.word().into())]);
+    let (number, counted) = (refusal.number, refusal.number.place());
+    let mut fields = vec![("number", number.into()), ("name", number.name().into())];
+    if counted != Place::None {
+        fields.extend([("place", refusal.place.into()), ("place_is", counted.word().into())]);
     }
-    fields.push(("advice", known.advice.into()));
+    fields.push(("advice", advice(number).into()));
     fields
 }
 

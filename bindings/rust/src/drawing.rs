@@ -2,8 +2,9 @@
 use crate::error::Error;
 use crate::reading::{assess, Reading};
 use crate::report::{convert, Report};
-use crate::sys::{self, COORDINATES, ENDS, SAID, SHEET_BYTES};
+use crate::sys;
 use crate::verdict::{check, Verdict};
+use nibgravel_numbers::{COORDINATES, ENDS, SAID, SHEET_BYTES};
 
 /// A drawing: three coordinates for each vertex, in centimetres, and two vertex numbers for each edge.
 ///

@@ -1,6 +1,5 @@
 //! What comes back where there is no answer.
-use crate::number::Number;
-use crate::sys::SAID;
+use nibgravel_numbers::{Number, ENDED, SAID};
 use std::fmt;
 
 /// What a search counted: the loops of the drawing, how many of them may be faces, and the assumptions that were made.
@@ -91,9 +90,12 @@ impl Error {
 
     /// From a number above 0 that was returned, and what was said.
     pub(crate) fn said(number: u64, said: &[u64; SAID]) -> Error {
-        let (number, place) = (Number::returned(number), said[1] as usize);
-        let ended = (Number::NoSolid..=Number::TooLong).contains(&number);
-        let search = ended.then(|| Search { loops: said[2] as usize, candidates: said[3] as usize, work: said[1] });
+        let (number, place) = (returned(number), said[1] as usize);
+        let search = ENDED.contains(&number).then(|| Search {
+            loops: said[2] as usize,
+            candidates: said[3] as usize,
+            work: said[1],
+        });
         Error { number, place, search }
     }
 }
@@ -101,13 +103,28 @@ impl Error {
 /// The number, the name and, where it can be other than 0, the place: `13 EdgeMeets, edge 4`, or `5 BadCount, edges`.
 impl fmt::Display for Error {
     fn fmt(&self, f: &mut fmt::Formatter) -> fmt::Result {
-        match (self.number.place_is(), self.place) {
-            ("", _) => write!(f, "{}", self.number),
-            ("list", 0) => write!(f, "{}, vertices", self.number),
-            ("list", _) => write!(f, "{}, edges", self.number),
-            (counted, place) => write!(f, "{}, {counted} {place}", self.number),
-        }
+        f.write_str(&self.number.at(self.place as u64))
     }
 }
 
 impl std::error::Error for Error {}
+
+/// The number that a function of the archive returned. That it is one of the table is proved of the archive, so another one means that
+/// some other archive was linked.
+pub(crate) fn returned(number: u64) -> Number {
+    let known = u8::try_from(number).ok().and_then(|number| Number::try_from(number).ok());
+    known.unwrap_or_else(|| {
+        panic!("the archive is not nibgravel's: it returned {number}, which is no number of the table")
+    })
+}
+
+#[cfg(test)]
+mod tests {
+    use super::*;
+
+    #[test]
+    #[should_panic(expected = "returned 286")]
+    fn a_number_of_more_than_a_byte_is_not_cut() {
+        returned(256 + 30);
+    }
+}

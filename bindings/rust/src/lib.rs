@@ -29,7 +29,6 @@
 
 mod drawing;
 mod error;
-mod number;
 mod reading;
 mod report;
 mod solid;
@@ -39,7 +38,7 @@ mod verdict;
 
 pub use drawing::Drawing;
 pub use error::{Error, Search};
-pub use number::Number;
+pub use nibgravel_numbers::Number;
 pub use reading::{assess, assess_sheet, Reading};
 pub use report::{convert, convert_sheet, Report};
 pub use solid::{write_faces, Face, Solid};
@@ -53,4 +52,4 @@ pub use verdict::{check, check_sheet, Verdict};
 /// assert_eq!(assess(&[], &[], MOST_WORK), Reading::NotAssessed(5));
 /// assert_eq!(assess(&[], &[], MOST_WORK + 1), Reading::NotAssessed(2));
 /// ```
-pub const MOST_WORK: u64 = 1_000_000;
+pub const MOST_WORK: u64 = nibgravel_numbers::MOST_WORK;

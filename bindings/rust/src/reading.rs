@@ -1,6 +1,7 @@
 //! What a premium may be set from.
-use crate::number::Number;
+use crate::error::returned;
 use crate::sys;
+use nibgravel_numbers::Number;
 use std::fmt;
 
 /// The reading of a drawing that is lent as two lists, with a work limit of 0 to [`MOST_WORK`](crate::MOST_WORK).
@@ -34,7 +35,7 @@ fn read(call: impl FnOnce(&mut [f64]) -> u64) -> Reading {
     let mut volume = [f64::NAN];
     match call(&mut volume) {
         0 => Reading::Volume(volume[0]),
-        number => Reading::NotAssessed(Number::returned(number).into()),
+        number => Reading::NotAssessed(returned(number).into()),
     }
 }
 

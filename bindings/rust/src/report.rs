@@ -1,10 +1,8 @@
 //! Conversion and its report.
 use crate::error::{Error, Search};
 use crate::solid::Solid;
-use crate::sys::{self, FACE_ROOM, ROW, SAID, SOLID_ROOM};
-
-/// Words for each solid.
-const WORDS: usize = 3;
+use crate::sys;
+use nibgravel_numbers::{FACE_ROOM, ROW, SAID, SOLID_ROOM, SOLID_WORDS};
 
 /// Converts a drawing that is lent as two lists, with a work limit of 0 to [`MOST_WORK`](crate::MOST_WORK): refusals 2, 5 and 8 to 19.
 ///
@@ -42,7 +40,7 @@ fn reported(call: impl FnOnce(&mut [u8], &mut [u64], &mut [u64]) -> u64) -> Resu
     match call(&mut rows, &mut words, &mut said) {
         0 => {
             let search = Search { loops: said[2] as usize, candidates: said[3] as usize, work: said[4] };
-            let (rows, words) = (&rows[..ROW * search.candidates], &words[..WORDS * said[5] as usize]);
+            let (rows, words) = (&rows[..ROW * search.candidates], &words[..SOLID_WORDS * said[5] as usize]);
             Ok(Report { search, rows: rows.to_vec(), words: words.to_vec() })
         }
         number => Err(Error::said(number, &said)),
@@ -93,7 +91,7 @@ impl Report {
     /// # Ok::<(), nibgravel::Error>(())
     /// ```
     pub fn solids(&self) -> impl ExactSizeIterator<Item = Solid<'_>> {
-        self.words.chunks_exact(WORDS).map(|words| Solid::new(&self.rows, words))
+        self.words.chunks_exact(SOLID_WORDS).map(|words| Solid::new(&self.rows, words))
     }
 
     /// 13 bytes for each candidate: its number of corners, the corners in normal form, and 255 as fill.

@@ -1,6 +1,7 @@
 //! The solids of a report and their faces.
 use crate::error::Error;
-use crate::sys::{self, LIST_BYTES, ROW, SAID};
+use crate::sys;
+use nibgravel_numbers::{LIST_BYTES, ROW, SAID};
 use std::fmt;
 
 /// One solid of a report.

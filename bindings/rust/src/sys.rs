@@ -5,20 +5,6 @@
 //! another slice of the same call. Of the contents of a list nothing is asked. The functions keep no address, call nothing back and
 //! don't unwind.
 
-/// Bytes of the faces of a report, and words of its solids.
-pub const FACE_ROOM: usize = 832;
-pub const SOLID_ROOM: usize = 24;
-/// Bytes for each candidate.
-pub const ROW: usize = 13;
-/// Words of what is said at the most.
-pub const SAID: usize = 7;
-/// Entries of the largest drawing's lists.
-pub const COORDINATES: usize = 96;
-pub const ENDS: usize = 128;
-/// Bytes of the longest sheet and of the longest face list.
-pub const SHEET_BYTES: usize = 215;
-pub const LIST_BYTES: usize = 338;
-
 // Lengths and places are 64 bits wide in the archive.
 const _: () = assert!(usize::BITS == 64);
 

@@ -1,6 +1,7 @@
 //! The check of a face list.
 use crate::error::Error;
-use crate::sys::{self, SAID};
+use crate::sys;
+use nibgravel_numbers::SAID;
 
 /// Checks a face list against a drawing that is lent as two lists: refusals 5, 8 to 16 and 20 to 27.
 ///

@@ -5,6 +5,7 @@
 mod stream;
 
 use nibgravel::*;
+use nibgravel_numbers::{FACE_ROOM, SOLID_ROOM};
 use std::collections::BTreeMap;
 use stream::{Room, Stream};
 
@@ -20,7 +21,7 @@ const NAMES: [&str; 9] = [
     "check_sheet",
 ];
 
-const NO_ROOM: u64 = 1;
+const NO_ROOM: u64 = Number::NoRoom as u64;
 
 /// A drawing as it is lent.
 enum Lent {
@@ -106,7 +107,7 @@ impl Calls<'_> {
             Lent::Sheet(sheet) => convert_sheet(sheet, limit),
         };
         let good = match answer {
-            _ if number == NO_ROOM => faces.length() < 832 || solids.length() < 24,
+            _ if number == NO_ROOM => faces.length() < FACE_ROOM || solids.length() < SOLID_ROOM,
             Err(error) => faces.got(&[]) && solids.got(&[]) && refused(&error, &said, number),
             Ok(report) => {
                 let words: Vec<u64> = report.solids().flat_map(|s| [s.taken(), s.turned(), s.six_volumes()]).collect();

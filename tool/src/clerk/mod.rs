@@ -9,6 +9,7 @@ pub use request::Request;
 
 use crate::model::{Assessment, Conversion, Drawing, Reading, Refusal};
 use crate::trouble::Trouble;
+use nibgravel_numbers::{Number, SHEET_RULES};
 use start::Running;
 use words::Parsed;
 
@@ -60,18 +61,19 @@ impl Clerk {
     pub fn verdict(&mut self) -> Result<Result<(), Refusal>, Trouble> {
         let (drawing, verdict) = (self.drawing()?, self.hear(reply::checked)?);
         let one = match drawing {
-            Ok(_) => verdict.map_or_else(|refusal| refusal.number > 10, |()| true),
+            Ok(_) => !unread(verdict.err()),
             Err(refusal) => verdict == Err(refusal),
         };
         one.then_some(verdict).ok_or_else(|| Trouble::clerk(TWO_THINGS))
     }
 
     pub fn sheet(&mut self) -> Result<Result<Vec<u8>, Refusal>, Trouble> {
-        self.hear(|bytes: &[u8; reply::SHEET]| reply::written(bytes, |number| [5, 8, 9, 10].contains(&number)))
+        let can_get = [Number::BadCount, Number::BadCoordinate, Number::BadEdge, Number::EdgeOrder];
+        self.hear(|bytes: &[u8; reply::SHEET]| reply::written(bytes, |number| can_get.contains(number)))
     }
 
     pub fn face_list(&mut self) -> Result<Result<Vec<u8>, Refusal>, Trouble> {
-        self.hear(|bytes: &[u8; reply::LIST]| reply::written(bytes, |number| number == 20))
+        self.hear(|bytes: &[u8; reply::LIST]| reply::written(bytes, |number| *number == Number::ShellShape))
     }
 
     /// The desk's text has every refusal in it, so there is none beside it.
@@ -90,12 +92,20 @@ pub fn rows(candidates: &[Vec<usize>]) -> Vec<u8> {
     report::rows(candidates)
 }
 
+/// Whether a sheet is refused where it is read.
+fn unread(refused: Option<Refusal>) -> bool {
+    refused.is_some_and(|refusal| SHEET_RULES.contains(&refusal.number))
+}
+
 /// Whether a sheet read and the same sheet converted can be true together.
 fn fits(drawing: &Result<Drawing, Refusal>, conversion: &Conversion) -> Parsed<()> {
-    let bad_limit = matches!(conversion, Conversion::Refused(refusal) if refusal.number <= 2);
-    let unread = matches!(conversion, Conversion::Refused(refusal) if (3..=10).contains(&refusal.number));
+    let refused = match conversion {
+        Conversion::Refused(refusal) => Some(*refusal),
+        _ => None,
+    };
+    let bad_limit = refused.is_some_and(|refusal| refusal.number <= Number::BadLimit);
     let one = match drawing {
-        Ok(drawing) => !unread && corners(conversion).all(|corner| corner < drawing.vertices.len()),
+        Ok(drawing) => !unread(refused) && corners(conversion).all(|corner| corner < drawing.vertices.len()),
         Err(refusal) => bad_limit || *conversion == Conversion::Refused(*refusal),
     };
     if one {

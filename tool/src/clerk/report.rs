@@ -1,22 +1,15 @@
-//! A report's rooms: 13 bytes for each candidate and three words for each solid.
+//! A report's rooms: a row for each candidate and three words for each solid.
 use super::words::{within, word, Parsed};
 use crate::model::{Conversion, Face, Search, Solid};
-
-pub const CANDIDATES: u64 = 64;
-const ROW: usize = 13;
-/// Bytes for faces, and words for solids.
-pub const FACES: usize = CANDIDATES as usize * ROW;
-pub const SOLIDS: usize = 3 * MOST_SOLIDS as usize;
-const MOST_SOLIDS: u64 = 8;
-const FILL: u8 = 255;
+use nibgravel_numbers::{CORNERS, FACES, FACE_ROOM, FILL, ROW, SOLIDS, SOLID_WORDS, VERTICES};
 
 /// Of both rooms, one behind the other.
 pub fn report(search: Search, solids: u64, rooms: &[u8]) -> Parsed<Conversion> {
-    let solids = within("solids", solids, 1, MOST_SOLIDS)? as usize;
-    let (rows, words) = rooms.split_at(FACES);
+    let solids = within("solids", solids, SOLIDS)? as usize;
+    let (rows, words) = rooms.split_at(FACE_ROOM);
     let rows = rows.chunks_exact(ROW).take(search.candidates as usize);
     let candidates = rows.map(candidate).collect::<Parsed<Vec<_>>>()?;
-    let solid = |k: usize| solid(&candidates, [0, 1, 2].map(|part| word(words, 3 * k + part)));
+    let solid = |k: usize| solid(&candidates, [0, 1, 2].map(|part| word(words, SOLID_WORDS * k + part)));
     let solids = (0..solids).map(solid).collect::<Parsed<Vec<_>>>()?;
     Ok(Conversion::Report { search, candidates, solids })
 }
@@ -34,20 +27,20 @@ pub fn rows(candidates: &[Vec<usize>]) -> Vec<u8> {
 }
 
 fn candidate(row: &[u8]) -> Parsed<Vec<usize>> {
-    let count = within("corners of a candidate", row[0].into(), 3, 12)? as usize;
+    let count = within("corners of a candidate", row[0].into(), CORNERS)? as usize;
     let (corners, fill) = row[1..].split_at(count);
-    if corners.iter().any(|corner| *corner > 31) || fill.iter().any(|byte| *byte != FILL) {
+    if corners.iter().any(|corner| usize::from(*corner) >= *VERTICES.end()) || fill.iter().any(|byte| *byte != FILL) {
         return Err("said a candidate whose corners are not numbers of vertices".to_string());
     }
     Ok(corners.iter().map(|corner| (*corner).into()).collect())
 }
 
-fn solid(candidates: &[Vec<usize>], [taken, turned, six]: [u64; 3]) -> Parsed<Solid> {
+fn solid(candidates: &[Vec<usize>], [taken, turned, six]: [u64; SOLID_WORDS]) -> Parsed<Solid> {
     let known = u64::MAX.checked_shr(u64::BITS - candidates.len() as u32).unwrap_or(0);
     if taken & !known != 0 || turned & !taken != 0 || six == 0 {
         return Err("said a solid of faces that are no candidates, or of no volume".to_string());
     }
-    within("faces of a solid", taken.count_ones().into(), 4, 42)?;
+    within("faces of a solid", taken.count_ones().into(), FACES)?;
     let has = |word: u64, k: usize| word >> k & 1 == 1;
     let face = |(k, corners): (usize, &Vec<usize>)| {
         has(taken, k).then(|| Face { candidate: k, turned: has(turned, k), corners: run(corners, has(turned, k)) })

@@ -1,6 +1,7 @@
 //! Replies that no right program gives: none of them becomes an answer.
 use super::reply::{checked, converted, read, written, CHECKED, CONVERTED, READ, SHEET};
 use super::{fits, rows, Conversion, Drawing, Reading, Refusal};
+use nibgravel_numbers::{Number, ENDS, FACE_ROOM, FILL, ROW};
 
 /// Puts a word at a place counted in words.
 fn put(bytes: &mut [u8], k: usize, word: u64) {
@@ -8,7 +9,7 @@ fn put(bytes: &mut [u8], k: usize, word: u64) {
 }
 
 const FACES: usize = 9 * 8;
-const SOLIDS: usize = (FACES + 832) / 8;
+const SOLIDS: usize = (FACES + FACE_ROOM) / 8;
 
 /// A tetrahedron's: four loops and candidates, no work, one solid of six volumes 216.
 fn report() -> [u8; CONVERTED] {
@@ -17,8 +18,8 @@ fn report() -> [u8; CONVERTED] {
         put(&mut bytes, k, word);
     }
     for (k, corners) in [[0, 1, 2], [0, 1, 3], [0, 2, 3], [1, 2, 3]].into_iter().enumerate() {
-        let row = &mut bytes[FACES + 13 * k..][..13];
-        row.fill(255);
+        let row = &mut bytes[FACES + ROW * k..][..ROW];
+        row.fill(FILL);
         row[0] = 3;
         row[1..4].copy_from_slice(&corners);
     }
@@ -40,7 +41,7 @@ fn a_report_is_believed() {
     let Conversion::Report { candidates, solids, .. } = conversion else { panic!("no report") };
     assert_eq!(reading, Reading::Volume(0.000036));
     assert_eq!((solids[0].six, solids[0].faces.len(), &solids[0].faces[2].corners[..]), (216, 4, &[0, 3, 2][..]));
-    assert_eq!(rows(&candidates), report()[FACES..FACES + 52]);
+    assert_eq!(rows(&candidates), report()[FACES..FACES + 4 * ROW]);
 }
 
 #[test]
@@ -82,8 +83,8 @@ fn a_refusal_has_a_place_and_a_reading_of_its_own() {
         put(&mut bytes, 7, shown);
         converted(&bytes)
     };
-    let refused = Conversion::Refused(Refusal { number: 13, place: 4 });
-    assert_eq!(said(13, 4, 13), Ok((refused, Reading::NotAssessed(13))));
+    let refused = Conversion::Refused(Refusal { number: Number::EdgeMeets, place: 4 });
+    assert_eq!(said(13, 4, 13), Ok((refused, Reading::NotAssessed(Number::EdgeMeets))));
     for (number, place, shown) in
         [(13, 64, 13), (13, 4, 0), (13, 4, 12), (12, 32, 12), (8, 96, 8), (3, 1, 3), (5, 2, 5)]
     {
@@ -97,7 +98,7 @@ fn drawing() -> [u8; READ] {
     let mut bytes = [0; READ];
     put(&mut bytes, 2, 4);
     put(&mut bytes, 3, 6);
-    bytes[READ - 128..READ - 116].copy_from_slice(&[0, 1, 0, 2, 0, 3, 1, 2, 1, 3, 2, 3]);
+    bytes[READ - ENDS..][..12].copy_from_slice(&[0, 1, 0, 2, 0, 3, 1, 2, 1, 3, 2, 3]);
     bytes
 }
 
@@ -110,7 +111,7 @@ fn a_drawing_has_counts_coordinates_and_ends_that_fit() {
         assert!(read(&bytes).is_err(), "{word} at {k}");
     }
     let mut bytes = drawing();
-    bytes[READ - 127] = 4;
+    bytes[READ - ENDS + 1] = 4;
     assert!(read(&bytes).is_err());
 }
 
@@ -122,7 +123,7 @@ fn other_replies_have_their_own_numbers_and_lengths() {
         checked(&bytes)
     };
     assert_eq!(said(0), Ok(Ok(())));
-    assert_eq!(said(24), Ok(Err(Refusal { number: 24, place: 0 })));
+    assert_eq!(said(24), Ok(Err(Refusal { number: Number::Direction, place: 0 })));
     assert!(said(2).is_err() && said(17).is_err() && said(30).is_err());
     let long = |length: u64| {
         let mut bytes = [0; SHEET];
@@ -134,11 +135,11 @@ fn other_replies_have_their_own_numbers_and_lengths() {
 
 #[test]
 fn a_sheet_read_and_converted_is_one_sheet() {
-    let (drawing, refusal) = (read(&drawing()).expect("a reply"), Refusal { number: 6, place: 0 });
+    let (drawing, refusal) = (read(&drawing()).expect("a reply"), Refusal { number: Number::SheetLength, place: 0 });
     let (report, _) = converted(&report()).expect("a reply");
     assert!(fits(&drawing, &report).is_ok());
     assert!(fits(&Err(refusal), &Conversion::Refused(refusal)).is_ok());
-    assert!(fits(&Err(refusal), &Conversion::Refused(Refusal { number: 2, place: 0 })).is_ok());
+    assert!(fits(&Err(refusal), &Conversion::Refused(Refusal { number: Number::BadLimit, place: 0 })).is_ok());
     assert!(fits(&Err(refusal), &report).is_err());
     assert!(fits(&drawing, &Conversion::Refused(refusal)).is_err());
 }

@@ -1,6 +1,5 @@
 //! `book`: every sheet of a folder, in a ledger and on a page.
 use super::objects::put_object;
-use crate::answers::named;
 use crate::args::Args;
 use crate::clerk::Clerk;
 use crate::command::{output, Command, Operand, Takes, LIMIT};
@@ -11,6 +10,7 @@ use crate::output::{put, Draft};
 use crate::page::{self, Page};
 use crate::rows::{each, refusal, status, Row};
 use crate::trouble::{Trouble, FINE, TROUBLE};
+use nibgravel_numbers::Number;
 use std::collections::BTreeMap;
 use std::ffi::{OsStr, OsString};
 use std::io::{self, IsTerminal, Write};
@@ -69,11 +69,11 @@ fn names(folder: &Path) -> io::Result<Vec<OsString>> {
     Ok(names)
 }
 
-/// How often each answer came, by number; and last the files that can't be read.
+/// How often each answer came, with none for those assessed; and last the files that can't be read.
 #[derive(Default)]
 struct Tally {
     sheets: usize,
-    answers: BTreeMap<u8, u64>,
+    answers: BTreeMap<Option<Number>, u64>,
     unreadable: u64,
     highest: u8,
 }
@@ -83,7 +83,7 @@ impl Tally {
         self.sheets += 1;
         match row {
             Ok(assessment) => {
-                let number = refusal(assessment).map_or(0, |refusal| refusal.number);
+                let number = refusal(assessment).map(|refusal| refusal.number);
                 *self.answers.entry(number).or_default() += 1;
                 self.highest = self.highest.max(status(assessment));
             }
@@ -96,7 +96,7 @@ impl Tally {
 
     fn lines(&self) -> Vec<(String, u64)> {
         let name =
-            |number: u8| if number == 0 { "assessed".to_string() } else { format!("not assessed {}", named(number)) };
+            |number: Option<Number>| number.map_or("assessed".to_string(), |number| format!("not assessed {number}"));
         let mut lines: Vec<(String, u64)> =
             self.answers.iter().map(|(number, count)| (name(*number), *count)).collect();
         if self.unreadable > 0 {

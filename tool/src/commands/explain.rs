@@ -1,6 +1,6 @@
 //! `explain`: what was asked of a sheet, and what was found.
 use super::objects::put_object;
-use crate::answers::{answer, named, told, Answer, Place, DRAWING_RULES};
+use crate::answers::{advice, passed, wrong};
 use crate::args::Args;
 use crate::command::{file, Command, LIMIT};
 use crate::input::shown;
@@ -9,6 +9,7 @@ use crate::model::{Assessment, Conversion, Drawing, Refusal};
 use crate::output::put;
 use crate::rows::{one, reading, reading_fields, refusal, status};
 use crate::trouble::Trouble;
+use nibgravel_numbers::{Number, Place, DRAWING_RULES};
 use solids::{differing, explain_solids, in_all, solid_object};
 
 mod solids;
@@ -48,7 +49,7 @@ fn explained(assessment: &Assessment) -> String {
         text += &format!("{} vertices, {} edges\n", drawing.vertices.len(), drawing.edges.len());
     }
     text += "\nrules\n";
-    for number in DRAWING_RULES {
+    for number in rules() {
         text += &format!("  {}\n", rule(number, assessment));
     }
     if let Conversion::Report { search, .. } | Conversion::Ended { search, .. } = &assessment.conversion {
@@ -63,14 +64,17 @@ fn explained(assessment: &Assessment) -> String {
 
 /// The reading, and where there is none what is wrong and what to do.
 fn head(assessment: &Assessment) -> String {
-    let why = refusal(assessment).and_then(|refusal| Some((refusal, answer(refusal.number)?)));
-    match why {
+    match refusal(assessment) {
         None => format!("{}\n", reading(assessment)),
-        Some((refusal, known)) => {
-            let Answer { wrong, advice, .. } = known;
-            format!("not assessed {}\nwhat is wrong: {wrong}\nwhat to do: {advice}\n", told(refusal))
+        Some(refusal) => {
+            let (wrong, advice) = (wrong(refusal.number), advice(refusal.number));
+            format!("not assessed {refusal}\nwhat is wrong: {wrong}\nwhat to do: {advice}\n")
         }
     }
+}
+
+fn rules() -> impl Iterator<Item = Number> {
+    Number::all().filter(|number| DRAWING_RULES.contains(number))
 }
 
 /// The first rule that refused; those before it were passed, and those behind it not asked.
@@ -81,7 +85,7 @@ fn refusing(assessment: &Assessment) -> Option<Refusal> {
     }
 }
 
-fn result(number: u8, assessment: &Assessment) -> &'static str {
+fn result(number: Number, assessment: &Assessment) -> &'static str {
     match refusing(assessment) {
         Some(refusal) if refusal.number == number => "refused",
         Some(refusal) if refusal.number < number => "not asked",
@@ -89,12 +93,12 @@ fn result(number: u8, assessment: &Assessment) -> &'static str {
     }
 }
 
-fn rule(number: u8, assessment: &Assessment) -> String {
+fn rule(number: Number, assessment: &Assessment) -> String {
     let result = result(number, assessment);
-    let line = format!("{:<17} {result}", named(number));
-    match (result, refusing(assessment), answer(number)) {
-        ("passed", _, Some(known)) => format!("{line}: {}", known.passed),
-        ("refused", Some(refusal), _) => line + &located(refusal, assessment.drawing.as_ref()),
+    let line = format!("{:<17} {result}", number.to_string());
+    match (result, refusing(assessment)) {
+        ("passed", _) => format!("{line}: {}", passed(number)),
+        ("refused", Some(refusal)) => line + &located(refusal, assessment.drawing.as_ref()),
         _ => line,
     }
 }
@@ -102,11 +106,10 @@ fn rule(number: u8, assessment: &Assessment) -> String {
 /// Where a refusal is, by the drawing's own points.
 fn located(refusal: Refusal, drawing: Option<&Drawing>) -> String {
     let place = refusal.place as usize;
-    let counted = answer(refusal.number).map_or(Place::None, |known| known.place);
     let point = |vertex: usize| {
         drawing.and_then(|drawing| drawing.vertices.get(vertex)).map(|[x, y, z]| format!("({x}, {y}, {z})"))
     };
-    match counted {
+    match refusal.number.place() {
         Place::List => format!(" for its {}", if place == 0 { "vertices" } else { "edges" }),
         Place::Coordinate => format!(" at {} of vertex {}", ["x", "y", "z"][place % 3], place / 3),
         Place::Vertex => {
@@ -126,12 +129,11 @@ fn fields(assessment: &Assessment) -> Vec<(&'static str, Json)> {
     if let Some(drawing) = &assessment.drawing {
         fields.extend([("vertices", drawing.vertices.len().into()), ("edges", drawing.edges.len().into())]);
     }
-    let rule = |number: u8| {
-        let name = answer(number).map_or("", |known| known.name);
-        let result = result(number, assessment);
-        Json::Object(vec![("number", u64::from(number).into()), ("name", name.into()), ("result", result.into())])
+    let rule = |number: Number| {
+        let (name, result) = (number.name(), result(number, assessment));
+        Json::Object(vec![("number", number.into()), ("name", name.into()), ("result", result.into())])
     };
-    fields.push(("rules", Json::List(DRAWING_RULES.map(rule).collect())));
+    fields.push(("rules", Json::List(rules().map(rule).collect())));
     if let Conversion::Report { search, .. } | Conversion::Ended { search, .. } = &assessment.conversion {
         fields.extend([
             ("loops", search.loops.into()),

@@ -1,6 +1,6 @@
 //! `sheet`: a plain text as a sheet.
 use super::objects::{put_object, refused_at};
-use crate::answers::{advised, named};
+use crate::answers::{advised, ends};
 use crate::args::Args;
 use crate::clerk::{Clerk, Request};
 use crate::command::{file, output, Command, Takes};
@@ -9,6 +9,7 @@ use crate::model::Refusal;
 use crate::output::save;
 use crate::text::{self, Lists, LONGEST_TEXT};
 use crate::trouble::{Trouble, FINE};
+use nibgravel_numbers::{Number, COORDINATE, EDGES, VERTICES};
 
 pub const COMMAND: Command = Command {
     name: "sheet",
@@ -58,9 +59,9 @@ fn at(args: &Args, line: usize) -> String {
 fn line_of(lists: &Lists, refusal: Refusal) -> usize {
     let place = refusal.place as usize;
     let line = match (refusal.number, place) {
-        (5, 0) => lists.vertex_lines.last(),
-        (5, _) => lists.edge_lines.iter().max(),
-        (8, _) => lists.vertex_lines.get(place / 3),
+        (Number::BadCount, 0) => lists.vertex_lines.last(),
+        (Number::BadCount, _) => lists.edge_lines.iter().max(),
+        (Number::BadCoordinate, _) => lists.vertex_lines.get(place / 3),
         _ => lists.edge_lines.get(place),
     };
     line.copied().unwrap_or(lists.lines)
@@ -68,16 +69,20 @@ fn line_of(lists: &Lists, refusal: Refusal) -> usize {
 
 /// The refusal in the words of a text, whose edges are sorted by the tool and not by whoever wrote it.
 fn in_a_text(lists: &Lists, refusal: Refusal) -> String {
-    let name = named(refusal.number);
+    let name = refusal.number;
     match (refusal.number, refusal.place) {
-        (5, 0) => format!("{name}: there are {} vertices, and 4 to 32 are allowed.", lists.vertex_lines.len()),
-        (5, _) => format!("{name}: there are {} edges, and 6 to 64 are allowed.", lists.edge_lines.len()),
-        (8, place) => {
-            let axis = ["x", "y", "z"][place as usize % 3];
-            format!("{name}: {axis} of this vertex is more than 1000 centimetres from the origin.")
+        (Number::BadCount, 0) => {
+            format!("{name}: there are {} vertices, and {} are allowed.", lists.vertex_lines.len(), ends(&VERTICES))
         }
-        (9, _) => format!("{name}: an end of this edge is no vertex, or both ends are the same."),
-        (10, _) => format!("{name}: this edge stands twice; delete one of the two."),
+        (Number::BadCount, _) => {
+            format!("{name}: there are {} edges, and {} are allowed.", lists.edge_lines.len(), ends(&EDGES))
+        }
+        (Number::BadCoordinate, place) => {
+            let (axis, far) = (["x", "y", "z"][place as usize % 3], COORDINATE.end());
+            format!("{name}: {axis} of this vertex is more than {far} centimetres from the origin.")
+        }
+        (Number::BadEdge, _) => format!("{name}: an end of this edge is no vertex, or both ends are the same."),
+        (Number::EdgeOrder, _) => format!("{name}: this edge stands twice; delete one of the two."),
         _ => advised(refusal),
     }
 }

@@ -1,7 +1,7 @@
 //! The cells of a row. One that has nothing to say is empty: above all the cubic metres of a sheet not assessed.
 use super::sort::Sort;
-use crate::answers::{answer, named, told};
-use crate::model::{Assessment, Conversion, Reading, Refusal};
+use crate::answers;
+use crate::model::{Assessment, Conversion, Reading};
 use crate::picture::escape::escape;
 use crate::picture::small;
 use std::io::{self, Write};
@@ -81,18 +81,17 @@ impl<'a> Cells<'a> {
 /// The sentence of the table, with a capital.
 fn advice(sort: Sort) -> String {
     let Sort::NotAssessed(number) = sort else { return String::new() };
-    let sentence = answer(number).map_or("", |answer| answer.advice);
+    let sentence = answers::advice(number);
     let mut letters = sentence.chars();
     letters.next().map_or(String::new(), |first| first.to_uppercase().chain(letters).collect())
 }
 
 /// The place in words, as `edge 4`; empty where there is none.
 fn place(conversion: &Conversion) -> String {
-    let refusal = match conversion {
-        Conversion::Report { .. } => return String::new(),
-        Conversion::Ended { number, search } => Refusal { number: *number, place: search.work },
-        Conversion::Refused(refusal) => *refusal,
+    let told = match conversion {
+        Conversion::Report { .. } => None,
+        Conversion::Ended { number, search } => number.place().told(search.work),
+        Conversion::Refused(refusal) => refusal.number.place().told(refusal.place),
     };
-    let (name, told) = (named(refusal.number), told(refusal));
-    told.strip_prefix(&name).unwrap_or_default().trim_start_matches(", ").to_string()
+    told.unwrap_or_default()
 }

@@ -1,12 +1,12 @@
 //! What a row counts as, in its filter and in the counts.
-use crate::answers::named;
 use crate::ledger::UNREADABLE;
+use nibgravel_numbers::Number;
 
 /// What a row counts as.
 #[derive(Clone, Copy, Debug, PartialEq, Eq, PartialOrd, Ord)]
 pub enum Sort {
     Assessed,
-    NotAssessed(u8),
+    NotAssessed(Number),
     Unreadable,
 }
 
@@ -15,7 +15,7 @@ impl Sort {
     pub fn words(self) -> String {
         match self {
             Sort::Assessed => "assessed".to_string(),
-            Sort::NotAssessed(number) => named(number),
+            Sort::NotAssessed(number) => number.to_string(),
             Sort::Unreadable => UNREADABLE.to_string(),
         }
     }
@@ -24,7 +24,7 @@ impl Sort {
     pub fn key(self) -> String {
         match self {
             Sort::Assessed => "0".to_string(),
-            Sort::NotAssessed(number) => number.to_string(),
+            Sort::NotAssessed(number) => u8::from(number).to_string(),
             Sort::Unreadable => UNREADABLE.to_string(),
         }
     }

@@ -2,12 +2,13 @@
 use super::{Page, Row};
 use crate::model::{Assessment, Conversion, Reading, Refusal, Search};
 use crate::picture::tests::known::{self, Known};
+use nibgravel_numbers::Number;
 
 fn assessed((drawing, conversion): Known, reading: Reading) -> Assessment {
     Assessment { drawing: Some(drawing), conversion, reading }
 }
 
-fn refused(number: u8, place: u64) -> Assessment {
+fn refused(number: Number, place: u64) -> Assessment {
     let conversion = Conversion::Refused(Refusal { number, place });
     Assessment { drawing: None, conversion, reading: Reading::NotAssessed(number) }
 }
@@ -34,14 +35,14 @@ fn a_sheet_that_was_assessed_has_its_reading() {
 
 #[test]
 fn no_other_sheet_has_one() {
-    let ambiguous = cells("b", &assessed(known::nested_cubes(), Reading::NotAssessed(30)));
+    let ambiguous = cells("b", &assessed(known::nested_cubes(), Reading::NotAssessed(Number::Ambiguous)));
     assert!(ambiguous[1].starts_with("<b>30 Ambiguous</b><small>Ask which walls exist"));
     assert_eq!(ambiguous[2..], ["", "", "3", "4"]);
     let search = Search { loops: 7, candidates: 6, work: 12 };
-    let ended = (known::a_box().0, Conversion::Ended { number: 17, search });
-    assert_eq!(cells("c", &assessed(ended, Reading::NotAssessed(17)))[2..], ["work 12", "", "", "12"]);
-    assert_eq!(cells("d", &refused(13, 4))[2..], ["edge 4", "", "", ""]);
-    for number in (1..=19).chain([30]) {
+    let ended = (known::a_box().0, Conversion::Ended { number: Number::NoSolid, search });
+    assert_eq!(cells("c", &assessed(ended, Reading::NotAssessed(Number::NoSolid)))[2..], ["work 12", "", "", "12"]);
+    assert_eq!(cells("d", &refused(Number::EdgeMeets, 4))[2..], ["edge 4", "", "", ""]);
+    for number in Number::all() {
         assert_eq!(cells("e", &refused(number, 0))[3..], ["", "", ""], "{number}");
     }
 }
@@ -65,7 +66,7 @@ fn a_problem_leaves_no_reading() {
 #[test]
 fn names_can_not_break_out() {
     let hostile = "</bdi><script>alert(1)</script>\" onclick='x' &amp;\n\u{202e}";
-    let html = page(&[Row { file: hostile, assessment: Some(&refused(6, 0)), problem: None }]);
+    let html = page(&[Row { file: hostile, assessment: Some(&refused(Number::SheetLength, 0)), problem: None }]);
     let shown = "&lt;/bdi&gt;&lt;script&gt;alert(1)&lt;/script&gt;&quot; onclick=&#39;x&#39; &amp;amp;\\n\\u{202e}";
     assert!(html.contains(&format!("<bdi>{shown}</bdi>")));
     assert_eq!(html.matches("<script").count(), 1, "the page's own");
@@ -86,7 +87,7 @@ fn nothing_comes_from_elsewhere() {
 
 #[test]
 fn the_end_counts_the_answers() {
-    let (meets, damaged) = (refused(13, 4), refused(6, 0));
+    let (meets, damaged) = (refused(Number::EdgeMeets, 4), refused(Number::SheetLength, 0));
     let one = assessed(known::a_box(), Reading::Volume(1.92));
     let row = |assessment| Row { file: "x", assessment, problem: None };
     let html = page(&[row(Some(&meets)), row(Some(&damaged)), row(None), row(Some(&one)), row(Some(&meets))]);

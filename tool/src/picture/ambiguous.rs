@@ -8,6 +8,7 @@ use super::shade::{shade, Tone, HIDDEN, TEXT, WARNING};
 use super::svg::{Letters, Svg};
 use super::whole::counts;
 use crate::model::{shared, Conversion, Drawing, Solid};
+use nibgravel_numbers::MOST_CANDIDATES;
 
 const PANEL: [f64; 2] = [280.0, 280.0];
 const TOP: f64 = 84.0;
@@ -49,7 +50,7 @@ fn columns(solids: usize) -> usize {
 }
 
 fn is_in(set: u64, candidate: usize) -> bool {
-    candidate < 64 && set >> candidate & 1 == 1
+    candidate < MOST_CANDIDATES && set >> candidate & 1 == 1
 }
 
 fn legend(svg: &mut Svg, height: f64) {

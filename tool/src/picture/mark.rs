@@ -1,6 +1,6 @@
 //! What is said over a picture, and the place in it that a rule refuses.
-use crate::answers;
 use crate::model::{Conversion, Drawing, Refusal};
+use nibgravel_numbers::Number;
 
 /// The place that is marked.
 #[derive(Clone, Copy, Debug, PartialEq, Eq)]
@@ -16,8 +16,10 @@ impl Mark {
         let Conversion::Refused(Refusal { number, place }) = *conversion else { return Mark::Nothing };
         let place = usize::try_from(place).unwrap_or(usize::MAX);
         match number {
-            11 | 12 | 14 if place < drawing.vertices.len() => Mark::Vertex(place),
-            13 if place < drawing.edges.len() => Mark::Edge(place),
+            Number::SamePlace | Number::LooseVertex | Number::Apart if place < drawing.vertices.len() => {
+                Mark::Vertex(place)
+            }
+            Number::EdgeMeets if place < drawing.edges.len() => Mark::Edge(place),
             _ => Mark::Nothing,
         }
     }
@@ -28,7 +30,7 @@ pub fn heading(conversion: &Conversion) -> String {
     match conversion {
         Conversion::Report { solids, .. } if solids.len() == 1 => "one solid".to_string(),
         Conversion::Report { solids, .. } => format!("ambiguous: {} solids", solids.len()),
-        Conversion::Ended { number, search } => answers::told(Refusal { number: *number, place: search.work }),
-        Conversion::Refused(refusal) => answers::told(*refusal),
+        Conversion::Ended { number, search } => number.at(search.work),
+        Conversion::Refused(refusal) => refusal.to_string(),
     }
 }

@@ -1,6 +1,7 @@
 //! The drawings that document 01 names.
 #![allow(dead_code)] // each test file uses some of them
 use nibgravel::{write_faces, Drawing, Error};
+use nibgravel_numbers::{FILL, ROW};
 
 pub fn tetrahedron() -> Drawing {
     complete(&[[0, 0, 0], [6, 0, 0], [0, 6, 0], [0, 0, 6]])
@@ -70,8 +71,8 @@ fn pairs(count: u8, joined: impl Fn(u8, u8) -> bool) -> Vec<[u8; 2]> {
 
 /// Faces, each in the direction of its corners, as a face list.
 pub fn face_list(faces: &[Vec<u8>]) -> Result<Vec<u8>, Error> {
-    let mut rows = vec![255; 13 * faces.len()];
-    for (row, face) in rows.chunks_mut(13).zip(faces) {
+    let mut rows = vec![FILL; ROW * faces.len()];
+    for (row, face) in rows.chunks_mut(ROW).zip(faces) {
         row[0] = face.len() as u8;
         row[1..=face.len()].copy_from_slice(face);
     }

@@ -3,6 +3,7 @@ use super::known::refused;
 use super::xml;
 use crate::model::{Conversion, Drawing, Face, Search, Solid};
 use crate::picture::{picture, small};
+use nibgravel_numbers::{Number, VERTICES};
 
 fn is_fine(drawing: &Drawing, conversion: &Conversion) {
     for svg in [picture(drawing, conversion), small(drawing, conversion)] {
@@ -24,7 +25,7 @@ fn drawings() -> Vec<Drawing> {
     ];
     let mut drawings: Vec<Drawing> =
         sets.into_iter().map(|vertices| Drawing { vertices, edges: edges.clone() }).collect();
-    drawings.push(Drawing { vertices: vec![[1, 2, 3]; 32], edges: vec![] });
+    drawings.push(Drawing { vertices: vec![[1, 2, 3]; *VERTICES.end()], edges: vec![] });
     drawings.push(Drawing { vertices: vec![], edges: vec![] });
     drawings
 }
@@ -32,7 +33,7 @@ fn drawings() -> Vec<Drawing> {
 #[test]
 fn drawings_without_extent_have_pictures() {
     for drawing in drawings() {
-        for number in (1..=19).chain([0, 30, 255]) {
+        for number in Number::all() {
             for place in [0, 1, 3, 31, 63, u64::MAX] {
                 is_fine(&drawing, &refused(drawing.clone(), number, place).1);
             }

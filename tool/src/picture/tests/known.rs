@@ -1,5 +1,6 @@
 //! Known drawings with their solids, as a conversion gives them.
 use crate::model::{Conversion, Drawing, Face, Refusal, Search, Solid};
+use nibgravel_numbers::Number;
 
 pub type Known = (Drawing, Conversion);
 
@@ -127,7 +128,7 @@ fn facing(vertices: &[[i64; 3]], corners: [usize; 4], out: [i64; 3]) -> Vec<usiz
     }
 }
 
-pub fn refused(drawing: Drawing, number: u8, place: u64) -> Known {
+pub fn refused(drawing: Drawing, number: Number, place: u64) -> Known {
     (drawing, Conversion::Refused(Refusal { number, place }))
 }
 

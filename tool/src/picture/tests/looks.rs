@@ -5,6 +5,7 @@ use crate::model::{Conversion, Drawing, Search};
 use crate::picture::escape::escape;
 use crate::picture::svg::{Letters, Svg};
 use crate::picture::{picture, small};
+use nibgravel_numbers::{Number, ENDED};
 
 fn both((drawing, conversion): &Known) -> [String; 2] {
     [picture(drawing, conversion), small(drawing, conversion)]
@@ -22,14 +23,14 @@ fn refused() -> [Known; 4] {
         drawing
     };
     [
-        known::refused(drawing(|d| d.vertices[6] = d.vertices[2]), 11, 2),
-        known::refused(drawing(|d| d.vertices.push([60, 40, 300])), 12, 8),
+        known::refused(drawing(|d| d.vertices[6] = d.vertices[2]), Number::SamePlace, 2),
+        known::refused(drawing(|d| d.vertices.push([60, 40, 300])), Number::LooseVertex, 8),
         known::refused(
             drawing(|d| {
                 d.vertices.push([60, 0, 0]);
                 d.edges.push([6, 8])
             }),
-            13,
+            Number::EdgeMeets,
             0,
         ),
         known::refused(
@@ -37,7 +38,7 @@ fn refused() -> [Known; 4] {
                 d.vertices.extend([[500, 0, 0], [500, 90, 0]]);
                 d.edges.push([8, 9])
             }),
-            14,
+            Number::Apart,
             8,
         ),
     ]
@@ -102,9 +103,9 @@ fn what_is_refused_is_marked() {
 fn a_search_that_ended_is_told_over_the_wires() {
     let (drawing, _) = known::a_box();
     let search = Search { loops: 6, candidates: 6, work: 40 };
-    for (number, words) in [(17, "17 NoSolid, work 40"), (18, "18 Many, work 40"), (19, "19 TooLong, work 40")] {
+    for number in Number::all().filter(|number| ENDED.contains(number)) {
         let svg = picture(&drawing, &Conversion::Ended { number, search });
-        assert!(xml::texts(&svg).contains(&words.to_string()));
+        assert!(xml::texts(&svg).contains(&format!("{number}, work 40")));
         assert!(!svg.contains("stroke-width=\"4.5\"") && !svg.contains("r=\"7\""));
     }
 }
