@@ -46,26 +46,31 @@ pub struct Passed {
 }
 
 pub fn drawing_rules(source: Source) -> Result<Passed, Refusal> {
+    drawing_rules_most(DOCUMENTED, source)
+}
+
+/// The same under other limits.
+pub fn drawing_rules_most(most: Limits, source: Source) -> Result<Passed, Refusal> {
     let drawing = source.read()?;
     rules_11_to_14(&drawing)?;
-    let loops = find_loops(&drawing)?;
-    let candidates = find_candidates(&drawing, &loops)?;
+    let loops = find_loops(&drawing, most.loops)?;
+    let candidates = find_candidates(&drawing, &loops, most.candidates)?;
     Ok(Passed { drawing, loops, candidates })
 }
 
 /// Converts a drawing into the two rooms; only a report changes them.
 pub fn convert(source: Source, limit: u64, face_room: &mut [u8], solid_room: &mut [u64]) -> Answer {
-    convert_most(MOST_SOLIDS, source, limit, face_room, solid_room)
+    convert_most(DOCUMENTED, source, limit, face_room, solid_room)
 }
 
-/// The same with another number of solids that are reported at most.
-pub fn convert_most(most: usize, source: Source, limit: u64, face_room: &mut [u8], solid_room: &mut [u64]) -> Answer {
-    let passed = match room_and_limit(limit, face_room, solid_room).and_then(|()| drawing_rules(source)) {
+/// The same under other limits.
+pub fn convert_most(most: Limits, source: Source, limit: u64, face_room: &mut [u8], solid_room: &mut [u64]) -> Answer {
+    let passed = match room_and_limit(limit, face_room, solid_room).and_then(|()| drawing_rules_most(most, source)) {
         Ok(passed) => passed,
         Err(refusal) => return Answer::Refused(refusal),
     };
     let table = Table::new(&passed.drawing, &passed.candidates);
-    let walked = walk(&table, limit, most);
+    let walked = walk(&table, limit, most.solids);
     let (loops, candidates) = (passed.loops.len() as u32, passed.candidates.len() as u32);
     let work = walked.work as u32;
     let ended = |number: u32| Answer::Ended { number, loops, candidates, work };

@@ -15,9 +15,9 @@ pub fn covers(d: &Drawing, a: &Loop, b: &Loop) -> bool {
 }
 
 /// The candidates in loop order.
-pub fn find_candidates(d: &Drawing, loops: &[Loop]) -> Result<Vec<Loop>, Refusal> {
+pub fn find_candidates(d: &Drawing, loops: &[Loop], most: usize) -> Result<Vec<Loop>, Refusal> {
     let candidates: Vec<Loop> = loops.iter().filter(|a| !loops.iter().any(|b| covers(d, a, b))).cloned().collect();
-    if candidates.len() > MOST_CANDIDATES {
+    if candidates.len() > most {
         return refuse(MANY_CANDIDATES, 0);
     }
     Ok(candidates)

@@ -18,15 +18,15 @@ pub fn normal_form(l: &[usize]) -> Loop {
 }
 
 /// The loops in order. (Lists compare number by number, and the beginning of a list comes before it.)
-pub fn find_loops(d: &Drawing) -> Result<Vec<Loop>, Refusal> {
-    let mut search = Search { near: neighbours(d), plane: vec![], found: BTreeSet::new() };
+pub fn find_loops(d: &Drawing, most: usize) -> Result<Vec<Loop>, Refusal> {
+    let mut search = Search { near: neighbours(d), most, plane: vec![], found: BTreeSet::new() };
     for plane in planes(d) {
         search.plane = plane;
         for start in search.plane.clone() {
             search.extend(&mut vec![start]);
         }
     }
-    if search.found.len() > MOST_LOOPS {
+    if search.found.len() > most {
         return refuse(MANY_LOOPS, 0);
     }
     Ok(search.found.into_iter().collect())
@@ -62,6 +62,7 @@ fn planes(d: &Drawing) -> BTreeSet<Vec<usize>> {
 
 struct Search {
     near: Vec<Vec<usize>>,
+    most: usize,
     plane: Vec<usize>,
     found: BTreeSet<Loop>,
 }
@@ -71,7 +72,7 @@ impl Search {
     fn extend(&mut self, path: &mut Vec<usize>) {
         let last = path[path.len() - 1];
         for next in self.near[last].clone() {
-            if self.found.len() > MOST_LOOPS {
+            if self.found.len() > self.most {
                 return;
             }
             if next == path[0] && path.len() >= *CORNERS.start() {

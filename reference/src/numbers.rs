@@ -12,6 +12,16 @@ pub const MOST_CANDIDATES: usize = 64;
 pub const MOST_SOLIDS: usize = 8;
 pub const MOST_WORK: u64 = 1_000_000;
 
+/// The most loops, candidates and solids of a conversion.
+#[derive(Clone, Copy, Debug, PartialEq, Eq)]
+pub struct Limits {
+    pub loops: usize,
+    pub candidates: usize,
+    pub solids: usize,
+}
+
+pub const DOCUMENTED: Limits = Limits { loops: MOST_LOOPS, candidates: MOST_CANDIDATES, solids: MOST_SOLIDS };
+
 /// Bytes that a report writes per candidate, and its fill.
 pub const FACE_ROW: usize = 13;
 pub const FACE_FILL: u8 = 255;

@@ -87,7 +87,7 @@ pub fn geometry(seed: u64, count: u64) -> Trial {
 
 /// A digit for each loop: 1 where it covers another.
 fn covers_line(d: &Drawing) -> String {
-    find_loops(d).map_or_else(refused, |loops| {
+    find_loops(d, MOST_LOOPS).map_or_else(refused, |loops| {
         let digit = |a: &Loop| (loops.iter().any(|b| covers(d, a, b)) as u8).to_string();
         format!("covers {}\n", loops.iter().map(digit).collect::<String>())
     })
@@ -95,12 +95,15 @@ fn covers_line(d: &Drawing) -> String {
 
 /// A word for each candidate: those that it clashes with.
 fn clashes_line(d: &Drawing) -> String {
-    find_loops(d).and_then(|loops| find_candidates(d, &loops)).map_or_else(refused, |candidates| {
-        let faces: Vec<_> = candidates.iter().map(|l| d.points(l)).collect();
-        let others = |k: usize| (0..faces.len()).filter(move |j| *j != k);
-        let those = |k: usize| word(others(k).filter(|j| clash(&faces[k], &faces[*j]).is_some()));
-        format!("clashes{}\n", (0..faces.len()).map(|k| format!(" {}", those(k))).collect::<String>())
-    })
+    find_loops(d, MOST_LOOPS).and_then(|loops| find_candidates(d, &loops, MOST_CANDIDATES)).map_or_else(
+        refused,
+        |candidates| {
+            let faces: Vec<_> = candidates.iter().map(|l| d.points(l)).collect();
+            let others = |k: usize| (0..faces.len()).filter(move |j| *j != k);
+            let those = |k: usize| word(others(k).filter(|j| clash(&faces[k], &faces[*j]).is_some()));
+            format!("clashes{}\n", (0..faces.len()).map(|k| format!(" {}", those(k))).collect::<String>())
+        },
+    )
 }
 
 /// Sheets of the named drawings, of those with 128 and 129 loops and with 64 and 65 candidates, and of generated ones.
@@ -122,14 +125,14 @@ pub fn loops(seed: u64, count: u64) -> Trial {
 
 /// How many loops and candidates there are, each with a checksum of their rows and words.
 fn loops_and_candidates(d: &Drawing) -> String {
-    let loops = match rules_11_to_14(d).and_then(|()| find_loops(d)) {
+    let loops = match rules_11_to_14(d).and_then(|()| find_loops(d, MOST_LOOPS)) {
         Ok(loops) => loops,
         Err(refusal) => return refused(refusal),
     };
     let planes = loops.iter().flat_map(|l| [row_and_words(d, l), vec![word(in_plane_of(d, l))]].concat());
     let found = format!("loops {} {} ", loops.len(), checksum(planes));
     found
-        + &find_candidates(d, &loops).map_or_else(refused, |candidates| {
+        + &find_candidates(d, &loops, MOST_CANDIDATES).map_or_else(refused, |candidates| {
             let words = candidates.iter().flat_map(|l| row_and_words(d, l));
             format!("candidates {} {}\n", candidates.len(), checksum(words))
         })

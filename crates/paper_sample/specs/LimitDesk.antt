@@ -4,6 +4,7 @@ use mathlib.Core.Bool.{true, false}
 use mathlib.Core.List.{List, [], _∷_, _++_}
 use lib.IntN.{pos}
 use lib.Ieee.{binary64, ofBits}
+use Rattle.paper.specs.Numbers.{documented}
 use Rattle.paper.specs.Sheet.{held, blank}
 use Rattle.paper.specs.Desk.{text}
 use Rattle.paper.specs.Questions.{neg, wholly, fetched, stored, checked, paired, covering, desk, read, ruled, posted, left, wrote, sheet, bytes, verdicts, rules, tests, reads, faceBefore, solidBefore, Case, _yields_, asked, said, Holds}

@@ -4,6 +4,7 @@ use mathlib.Core.Bool.{true, false}
 use mathlib.Core.List.{List, [], _∷_, _++_}
 use lib.IntN.{pos}
 use lib.Ieee.{binary64, ofBits}
+use Rattle.paper.specs.Numbers.{documented}
 use Rattle.paper.specs.Sheet.{held, blank}
 use Rattle.paper.specs.Desk.{text}
 use Rattle.paper.specs.Questions.{neg, wholly, fetched, stored, checked, paired, covering, desk, read, ruled, posted, left, wrote, sheet, bytes, verdicts, rules, tests, reads, faceBefore, solidBefore, Case, _yields_, asked, said, Holds}
@@ -147,3 +148,14 @@ rows8 =
 pub hold8 : Holds rows8
 unfolding rows8 asked said
 hold8 = refl
+
+unfoldable pub rows9 : List Case
+unfolding text ofBits
+rows9 =
+    read (Conversion.NoSolid 7 3 0)
+    yields reads (Reading.NotAssessed 17)
+    ∷ []
+
+pub hold9 : Holds rows9
+unfolding rows9 asked said
+hold9 = refl

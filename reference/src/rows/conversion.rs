@@ -38,17 +38,23 @@ pub fn drawing_row(r: &mut Rng, order: &Order, turn: usize) -> Object {
         let fits = order.size.admits(lent.xyz.len() / 3) || aim == BAD_COUNT;
         answer.number() == aim && fits && is_light(order, &answer)
     };
-    converted(order.cap, &aimed(r, make, good))
+    converted(Limits { solids: order.cap, ..DOCUMENTED }, &aimed(r, make, good))
 }
 
 /// A drawing lent as two lists, with what conversion says of it.
-pub fn converted(cap: usize, lent: &Lent) -> Object {
+pub fn converted(most: Limits, lent: &Lent) -> Object {
     let (mut face_room, mut solid_room) = (vec![0; lent.face_room], vec![0; lent.solid_room]);
-    let answer = convert_most(cap, lent.source(), lent.limit, &mut face_room, &mut solid_room);
+    let answer = convert_most(most, lent.source(), lent.limit, &mut face_room, &mut solid_room);
     let row = Object::of_kind("drawing").put("xyz", &lent.xyz).put("ends", &lent.ends).put("limit", &lent.limit);
-    let row = row.put("cap", &cap).put("faceroom", &lent.face_room).put("solidroom", &lent.solid_room);
+    let row = if most == DOCUMENTED { row.put("most", "documented") } else { row.put("most", &limits(most)) };
+    let row = row.put("faceroom", &lent.face_room).put("solidroom", &lent.solid_room);
     row.put("answer", &conversion(&answer, &face_room, &solid_room))
         .put("reading", &read(reading(&answer, &solid_room)))
+}
+
+fn limits(most: Limits) -> Object {
+    let limits = Object::default().put("loops", &most.loops).put("candidates", &most.candidates);
+    limits.put("solids", &most.solids)
 }
 
 fn is_light(order: &Order, answer: &Answer) -> bool {

@@ -3,6 +3,7 @@ use super::conversion::{converted, printed, Lent};
 use super::json::{refused, Json, Object};
 use super::lists::{checked_lists, checked_sheet};
 use super::sheets::{fetched, stored};
+use crate::convert::drawing_rules;
 use crate::drawing::Drawing;
 use crate::face_list::{pack_faces, send_solid};
 use crate::fast;
@@ -27,30 +28,53 @@ fn drawings() -> Vec<Object> {
         face_room,
         solid_room,
     };
-    let drawn = |cap: usize, d: Drawing, limit: u64| converted(cap, &lent(d.lists(), limit, FACE_ROOM, SOLID_ROOM));
+    let drawn = |most: Limits, d: Drawing, limit: u64| converted(most, &lent(d.lists(), limit, FACE_ROOM, SOLID_ROOM));
+    let solids = |solids: usize| Limits { solids, ..DOCUMENTED };
     let entry = [(1_000_001, 831, 24), (1_000_001, 832, 23), (0, 831, 23), (1_000_001, 832, 24), (1_000_000, 840, 27)];
-    let entry = entry.map(|(limit, faces, solids)| converted(8, &lent(tetrahedron().lists(), limit, faces, solids)));
+    let entry =
+        entry.map(|(limit, faces, solids)| converted(DOCUMENTED, &lent(tetrahedron().lists(), limit, faces, solids)));
     // under limit 0, so that a definition without the refusal can be told: a proof can't walk 65 candidates
-    let refused = refused_lists().into_iter().map(|lists| converted(8, &lent(lists, 0, FACE_ROOM, SOLID_ROOM)));
+    let refused =
+        refused_lists().into_iter().map(|lists| converted(DOCUMENTED, &lent(lists, 0, FACE_ROOM, SOLID_ROOM)));
     let at_limits = [
-        drawn(8, flat_128(), MOST_WORK),
-        drawn(8, all_but_three(false), 0),
-        drawn(8, based_on(12), MOST_WORK),
-        drawn(8, based_on(13), MOST_WORK),
-        drawn(3, centred_cubes(1), MOST_WORK),
-        drawn(2, centred_cubes(1), MOST_WORK),
-        drawn(8, octahedron(), 3),
-        drawn(8, octahedron(), 4),
-        drawn(8, cube_without(0), 0),
+        drawn(DOCUMENTED, flat_128(), MOST_WORK),
+        drawn(DOCUMENTED, all_but_three(false), 0),
+        drawn(DOCUMENTED, based_on(12), MOST_WORK),
+        drawn(DOCUMENTED, based_on(13), MOST_WORK),
+        drawn(solids(3), centred_cubes(1), MOST_WORK),
+        drawn(solids(2), centred_cubes(1), MOST_WORK),
+        drawn(DOCUMENTED, octahedron(), 3),
+        drawn(DOCUMENTED, octahedron(), 4),
+        drawn(DOCUMENTED, cube_without(0), 0),
     ];
-    entry.into_iter().chain(refused).chain(at_limits).collect()
+    let small = [octahedron(), triangle_with_centre()].into_iter().flat_map(|d| {
+        let limits = just_under(&d).into_iter().chain([just_enough(&d)]);
+        limits.map(move |most| drawn(most, d.clone(), MOST_WORK)).collect::<Vec<_>>()
+    });
+    entry.into_iter().chain(refused).chain(at_limits).chain(small).collect()
+}
+
+/// Limits that a drawing just passes.
+fn just_enough(d: &Drawing) -> Limits {
+    let passed = drawing_rules(Source::Sheet(&pack_sheet(d))).unwrap_or_else(|_| panic!("a drawing that passes"));
+    Limits { loops: passed.loops.len(), candidates: passed.candidates.len(), ..DOCUMENTED }
+}
+
+/// One fewer of the loops, of the candidates, and of both.
+fn just_under(d: &Drawing) -> [Limits; 3] {
+    let enough = just_enough(d);
+    [(1, 0), (0, 1), (1, 1)].map(|(loops, candidates)| Limits {
+        loops: enough.loops - loops,
+        candidates: enough.candidates - candidates,
+        ..enough
+    })
 }
 
 /// The rows of a drawing's report, and the first two words of its first solid.
-fn report(d: &Drawing, candidates: usize) -> (Vec<u8>, u64, u64) {
+fn report(d: &Drawing, candidates: usize) -> (Vec<u8>, [u64; 2]) {
     let (mut rows, mut words) = ([0; FACE_ROOM], [0; SOLID_ROOM]);
     fast::convert(Source::Sheet(&pack_sheet(d)), MOST_WORK, &mut rows, &mut words);
-    (rows[..FACE_ROW * candidates].to_vec(), words[0], words[1])
+    (rows[..FACE_ROW * candidates].to_vec(), [words[0], words[1]])
 }
 
 fn lists() -> Vec<Object> {
@@ -66,7 +90,7 @@ fn lists() -> Vec<Object> {
     });
     // two bodies that share a vertex: each outward
     let eight = [[2, 1, 0], [0, 1, 3], [3, 2, 0], [1, 2, 3], [0, 4, 5], [6, 4, 0], [0, 5, 6], [6, 5, 4]];
-    let (rows, taken, turned) = report(&based_on(12), 13);
+    let (rows, [taken, turned]) = report(&based_on(12), 13);
     let mut twelve = [0; 512];
     let length = send_solid(&rows, taken, turned, &mut twelve).expect("13 faces");
     let more = [
@@ -103,35 +127,36 @@ fn writes() -> Vec<Object> {
     shapes.iter().map(|(xyz, ends)| stored(xyz, ends, 26)).chain(rooms).collect()
 }
 
-/// A solid's rows and words, and what is written of it in so much room.
-fn sent(rows: &[u8], taken: u64, turned: u64, room: usize) -> Object {
+/// A drawing's rows and a solid's words, and what is written of it in so much room.
+fn sent(d: &Drawing, rows: &[u8], solid: [u64; 2], room: usize) -> Object {
     let mut bytes = vec![0; room];
-    let answer = match send_solid(rows, taken, turned, &mut bytes) {
+    let answer = match send_solid(rows, solid[0], solid[1], &mut bytes) {
         Ok(length) => Object::that_is("written").put("length", &length).put("bytes", &bytes[..length]),
         Err(refusal) => refused(refusal),
     };
-    let row = Object::of_kind("sent").put("rows", rows).put("taken", &taken).put("turned", &turned);
-    row.put("room", &room).put("answer", &answer)
+    let row = Object::of_kind("sent").put("vertices", &d.vertices.len()).put("edges", &d.edges.len());
+    row.put("rows", rows).put("solid", &solid).put("room", &room).put("answer", &answer)
 }
 
 fn sends() -> Vec<Object> {
-    let (rows, taken, turned) = report(&tetrahedron(), 4);
+    let (small, large) = (tetrahedron(), based_on(12));
+    let (rows, solid) = report(&small, 4);
     let row_with = |at: usize, byte: u8| {
         let mut rows = rows.clone();
         rows[at] = byte;
         rows
     };
-    let (many, all, some) = report(&based_on(12), 13);
+    let (many, all) = report(&large, 13);
     vec![
-        sent(&rows, taken, turned, 20),
-        sent(&rows, taken, turned, 11),
-        sent(&rows, taken, turned, 10),
-        sent(&rows, 7, turned, 10),
-        sent(&rows[..51], taken, turned, 20),
-        sent(&row_with(0, 2), taken, turned, 20),
-        sent(&row_with(0, 13), taken, turned, 20),
-        sent(&row_with(1, 32), taken, turned, 20),
-        sent(&many, all, some, 50),
+        sent(&small, &rows, solid, 20),
+        sent(&small, &rows, solid, 11),
+        sent(&small, &rows, solid, 10),
+        sent(&small, &rows, [7, solid[1]], 10),
+        sent(&small, &rows[..51], solid, 20),
+        sent(&small, &row_with(0, 2), solid, 20),
+        sent(&small, &row_with(0, 13), solid, 20),
+        sent(&small, &row_with(1, 32), solid, 20),
+        sent(&large, &many, all, 50),
     ]
 }
 

@@ -1,6 +1,6 @@
 //! Clear against fast on generated and damaged sheets, lists and rooms: 24,000 sheets in all.
 use crate::common::*;
-use nibgravel_reference::convert::{convert_most, Answer};
+use nibgravel_reference::convert::convert_most;
 use nibgravel_reference::fast;
 use nibgravel_reference::gen::families::FAMILIES;
 use nibgravel_reference::gen::lists::any_list;
@@ -76,10 +76,11 @@ fn lower_caps() {
         let d = counted_drawing(&mut r, 16);
         let (xyz, ends) = changed(&mut r, d).lists();
         let (most, source) = (r.count(1, 8), Source::Lists(&xyz, &ends));
-        let run = |converter: fn(usize, Source, u64, &mut [u8], &mut [u64]) -> Answer| {
-            let (mut faces, mut solids) = ([0xa5; FACE_ROOM], [0xa5; SOLID_ROOM]);
-            (converter(most, source, 500, &mut faces, &mut solids), faces, solids)
-        };
-        assert_eq!(run(convert_most), run(fast::convert_most));
+        let rooms = || ([0xa5; FACE_ROOM], [0xa5; SOLID_ROOM]);
+        let (mut clear, mut quick) = (rooms(), rooms());
+        let limits = Limits { solids: most, ..DOCUMENTED };
+        let answer = convert_most(limits, source, 500, &mut clear.0, &mut clear.1);
+        assert_eq!(answer, fast::convert_most(most, source, 500, &mut quick.0, &mut quick.1));
+        assert_eq!(clear, quick);
     }
 }

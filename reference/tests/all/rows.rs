@@ -1,7 +1,8 @@
 //! The rows: repeatable, small, and between them every refusal.
 use nibgravel_reference::convert::{convert_most, Answer};
+use nibgravel_reference::gen::known::octahedron;
 use nibgravel_reference::gen::limits::nine_solids;
-use nibgravel_reference::numbers::{FACE_ROOM, MOST_WORK};
+use nibgravel_reference::numbers::{Limits, DOCUMENTED, FACE_ROOM, MOST_WORK, SOLID_ROOM};
 use nibgravel_reference::rows::{limits, row, Order, KINDS, SMALL};
 use nibgravel_reference::source::Source;
 use std::collections::BTreeSet;
@@ -86,6 +87,17 @@ fn limits_meet_every_number_and_reading() {
 #[test]
 fn nine_solids_are_nine() {
     let (xyz, ends) = nine_solids().lists();
-    let answer = convert_most(9, Source::Lists(&xyz, &ends), MOST_WORK, &mut [0; FACE_ROOM], &mut [0; 27]);
+    let most = Limits { solids: 9, ..DOCUMENTED };
+    let answer = convert_most(most, Source::Lists(&xyz, &ends), MOST_WORK, &mut [0; FACE_ROOM], &mut [0; 27]);
     assert!(matches!(answer, Answer::Report { solids: 9, .. }), "{answer:?}");
+}
+
+#[test]
+fn limits_refuse_at_one_more() {
+    let (xyz, ends) = octahedron().lists();
+    for (loops, candidates, number) in [(11, 11, 0), (10, 11, 15), (11, 10, 16), (10, 10, 15)] {
+        let most = Limits { loops, candidates, ..DOCUMENTED };
+        let answer = convert_most(most, Source::Lists(&xyz, &ends), 4, &mut [0; FACE_ROOM], &mut [0; SOLID_ROOM]);
+        assert_eq!(answer.number(), number, "{loops} {candidates}");
+    }
 }
