@@ -10,7 +10,7 @@ use Rattle.lists.specs.Lists.{all, filter, upto}
 use Rattle.paper.specs.Numbers.{leastFaces, mostFaces, leastCorners, mostCorners, mostCandidates, rowBytes}
 use Rattle.paper.specs.Refusals as No
 use Rattle.paper.specs.Refusals.{Check, check, refuse, firstOf, offends}
-use Rattle.paper.specs.Format.{editionBits, cornerBits, outside, bytesFor, filled, fillAfter}
+use Rattle.paper.specs.Format.{editionOne, editionBits, cornerBits, outside, bytesFor, filled, fillAfter}
 use Rattle.paper.specs.Record.{takenIn, turnedIn}
 use Rattle.paper.specs.Loops.{Loop, flipped, row}
 use Rattle.paper.specs.declared.Format.{Format}
@@ -81,6 +81,12 @@ module _ (f : Format) where
         rows = padded (flatMap row (facesIn s)) (rowBytes * mostFaces) 0;
       })
       noFaces
+
+-- the longest list: each face has as many corners as there can be
+abbrev pub listRoom : ℕ
+listRoom =
+    let face = cornerBits + editionOne .«vertex_number_bits» * mostCorners in
+    bytesFor (editionBits + editionOne .«face_count_bits» + face * mostFaces)
 
 -- ---- a reported solid, sent as a list: from the rows of a report and the solid's record
 

@@ -6,7 +6,7 @@ use lib.IntN.{ℤ, pos, _-ℤ_, _+ℤ_, natAbs}
 use lib.Dec.{ltb}
 use lib.ListN.{length}
 use Rattle.pack.specs.Bits.{bits, run, cut, fieldAt, fieldsAt}
-use Rattle.paper.specs.Numbers.{farthest}
+use Rattle.paper.specs.Numbers.{mostVertices, mostEdges, farthest}
 use Rattle.paper.specs.declared.Format.{Format}
 
 -- edition 1: "edition (4 bits, 1), vertex count (6), edge count (7)", "two vertex numbers (5 bits each)", "face count (6 bits, 4 to
@@ -98,3 +98,7 @@ module _ (f : Format) where
       let v = length xyz / 3 in
       let e = length ends / 2 in
       filled (total v e) (headBits v e ++ run coordinateBits (map onSheet xyz) ++ run (f .«vertex_number_bits») ends)
+
+-- the longest sheet
+abbrev pub sheetRoom : ℕ
+sheetRoom = bytesFor (total editionOne mostVertices mostEdges)

@@ -43,6 +43,28 @@ pub const VERTEX_BITS: usize = 3 * COORDINATE_BITS;
 
 pub const CORNER_BITS: usize = 4;
 
+// Edition 1's own widths.
+pub const VERTEX_COUNT_BITS: usize = 6;
+
+pub const EDGE_COUNT_BITS: usize = 7;
+
+pub const VERTEX_NUMBER_BITS: usize = 5;
+
+pub const FACE_COUNT_BITS: usize = 6;
+
+// The longest sheet and the longest face list, in bytes: all that stands in front of the drawing or the faces, these, and fill.
+const SHEET_HEAD: usize = EDITION_BITS + VERTEX_COUNT_BITS + EDGE_COUNT_BITS;
+
+pub const SHEET_ROOM: usize = (SHEET_HEAD
+    + VERTEX_BITS * MOST_VERTICES
+    + VERTEX_NUMBER_BITS * ENDS
+    + 7)
+    / 8;
+
+const FACE_BITS: usize = CORNER_BITS + VERTEX_NUMBER_BITS * MOST_CORNERS;
+
+pub const LIST_ROOM: usize = (EDITION_BITS + FACE_COUNT_BITS + FACE_BITS * MOST_FACES + 7) / 8;
+
 // A report's room: 13 bytes for each candidate; for each solid the words of two sets, and six volumes.
 pub const ROW: usize = 13;
 

@@ -18,10 +18,10 @@ fn edition_one() -> Format
 {
     Format {
         edition: 1,
-        vertex_count_bits: 6,
-        edge_count_bits: 7,
-        vertex_number_bits: 5,
-        face_count_bits: 6,
+        vertex_count_bits: paper::VERTEX_COUNT_BITS,
+        edge_count_bits: paper::EDGE_COUNT_BITS,
+        vertex_number_bits: paper::VERTEX_NUMBER_BITS,
+        face_count_bits: paper::FACE_COUNT_BITS,
         most_vertices: paper::MOST_VERTICES as u64,
         most_edges: paper::MOST_EDGES as u64,
         most_faces: paper::MOST_FACES as u64,
