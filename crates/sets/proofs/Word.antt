@@ -9,6 +9,7 @@ use native.Mathlib.Omega.{arith}
 use lib.ListN.{length, replicate}
 use lib.Arith.{digits-div, digits-mod}
 use lib.Bits.{bitAnd, bitOr, and-step, or-step, and-zero-r, or-zero-r, and-self, and-mask}
+use lib.Bits.{bitXor, differ, xor-step, xor-zero-l, xor-zero-r}
 use lib.Dec.{eqb}
 use lib.Count.{ones, onesIn, ones-step, trailingZeros, under}
 use lib.Pow.{pow-pos, pow-mono, pow-lt}
@@ -75,6 +76,20 @@ unfolding word either
 or-word [] b = refl
 or-word (x ∷ xs) [] = or-zero-r (word xs * 2 + bit x)
 or-word (x ∷ xs) (y ∷ ys) = or-digits (word xs) (word ys) (bit-lt x) (bit-lt y) ∙ join (or-word xs ys) (max-bit x y)
+
+xor-digits : (p q : ℕ) {x y : ℕ} → x < 2 → y < 2 → bitXor (p * 2 + x) (q * 2 + y) ≡ bitXor p q * 2 + differ x y
+xor-digits p q {x} {y} hx hy =
+    xor-step (p * 2 + x) (q * 2 + y) ∙ join (ap₂ bitXor (digits-div p hx) (digits-div q hy)) (ap₂ differ (digits-mod p hx) (digits-mod q hy))
+
+pub unlike-word : (a b : List Bool) → bitXor (word a) (word b) ≡ word (either (less a b) (less b a))
+unfolding word either less
+unlike-word [] [] = refl
+unlike-word [] (y ∷ b) = xor-zero-l (word (y ∷ b))
+unlike-word (x ∷ a) [] = xor-zero-r (word (x ∷ a))
+unlike-word (true ∷ a) (true ∷ b) = xor-digits (word a) (word b) (bit-lt true) (bit-lt true) ∙ join (unlike-word a b) refl
+unlike-word (true ∷ a) (false ∷ b) = xor-digits (word a) (word b) (bit-lt true) (bit-lt false) ∙ join (unlike-word a b) refl
+unlike-word (false ∷ a) (true ∷ b) = xor-digits (word a) (word b) (bit-lt false) (bit-lt true) ∙ join (unlike-word a b) refl
+unlike-word (false ∷ a) (false ∷ b) = xor-digits (word a) (word b) (bit-lt false) (bit-lt false) ∙ join (unlike-word a b) refl
 
 -- `!x` of a word of k + 1 digits, its lowest split off
 not-digits : (k p x : ℕ) → p < 2 ^ k → x < 2 → (2 ^ suc k - 1) - (p * 2 + x) ≡ ((2 ^ k - 1) - p) * 2 + (1 - x)

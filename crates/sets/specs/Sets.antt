@@ -1,11 +1,13 @@
--- A set as the code holds it: one word. Contracts say what holds of every list of digits that a set stands for.
-use mathlib.Core.Bool.{Bool, true}
+-- A set as the code holds it: one word. Contracts say what holds of every list of digits that a set stands for (`Kinds`).
+use mathlib.Core.Bool.{Bool, _&&_, _||_}
 use mathlib.Core.List.{List}
 use mathlib.Core.Path.{_≡_}
-use Prim.Native.Nat.{ℕ, suc, _≤_, _<_}
+use Prim.Native.Nat.{ℕ, _≤_}
 use lib.Count.{ones}
-use lib.ListN.{length, getD}
-use Rattle.sets.specs.Word.{word, digits, dig, less, only, first}
+use lib.Dec.{eqb}
+use lib.ListN.{length, getD, set}
+use Rattle.sets.specs.Word.{word, digits, digit}
+use Rattle.sets.specs.Kinds.{Kind}
 use Rattle.sets.specs.declared.Set.{Set}
 
 -- how many a set has room for: the width of the word
@@ -28,41 +30,24 @@ digitsOf x = digits room (x .word)
 abbrev pub size : Set → ℕ
 size x = ones (x .word)
 
--- k is in it
-abbrev pub Has : Set → ℕ → Type 0
-Has x k = (a : List Bool) → Is x a → dig a k ≡ true
-
--- r has the digits that f makes of those of x and y
-abbrev pub Joint : Set → Set → Set → (List Bool → List Bool → List Bool) → Type 0
-Joint x y r f = (a b : List Bool) → Is x a → Is y b → Is r (f a b)
-
-pub record Minus (x y r : Set) : Type 0 where
-  pub fewer : size r ≤ size x
-  pub same : Joint x y r less
-
-pub record Counted (x : Set) (r : ℕ) : Type 0 where
-  pub size-is : r ≡ size x
-  pub under : r ≤ room
-
-pub record Lowest (x : Set) (r : ℕ) : Type 0 where
-  pub narrow : r < room
-  pub there : Has x r
-  pub same : (a : List Bool) → Is x a → r ≡ first a
-
-pub record Dropped (x : Set) (k : ℕ) (r : Set) : Type 0 where
-  pub fewer : Has x k → size r < size x
-  pub same : (a : List Bool) → Is x a → Is r (less a (only k))
-
--- r is x without its lowest
-pub record Rest (x r : Set) : Type 0 where
-  pub one-fewer : suc (size r) ≡ size x
-  pub same : (a : List Bool) → Is x a → Is r (less a (only (first a)))
-
 -- the set at place k of a list of words
 abbrev pub maskAt : List ℕ → ℕ → Set
 maskAt words k = record { word = getD words k 0 }
 
--- r is the set at place k of the words, and some list's
-pub record SetAt (words : List ℕ) (k : ℕ) (r : Set) : Type 0 where
-  pub is : r ≡ maskAt words k
-  pub some : (a : List Bool) × Is r a
+-- the kind of sets of one word
+abbrev pub oneWord : Kind
+oneWord = record { Of = Set; room = room; Is = Is; size = size; at = maskAt }
+
+-- the kind of sets of edges and of sets of candidates
+abbrev pub wides : Kind
+wides = oneWord
+
+-- ---- words that are written
+
+-- the words with the set x at place k
+abbrev pub withSet : List ℕ → ℕ → Set → List ℕ
+withSet words k x = set words k (x .word)
+
+-- i is in the set at place k, and nothing else is changed
+abbrev pub MarkedAt : List ℕ → ℕ → ℕ → List ℕ → Type 0
+MarkedAt words k i after = (u w : ℕ) → digit (getD after u 0) w ≡ (digit (getD words u 0) w || (eqb u k && eqb w i))

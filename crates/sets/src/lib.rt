@@ -5,16 +5,20 @@ ghost use mathlib.Core.List.{List, []};
 ghost use Prim.Native.Nat.{_≤_, _<_};
 ghost use lib.Dec.{eqb};
 ghost use lib.ListN.{length, replicate};
-ghost use Rattle.sets.specs.Word.{digits, dig, both, either, only};
-ghost use Rattle.sets.specs.Sets.{room, Is, size, Joint, Minus, Counted, Lowest, Dropped, Rest, SetAt};
+ghost use Rattle.sets.specs.Word.{digits, dig, both, either, less, only};
+ghost use Rattle.sets.specs.Kinds.{Joint, Minus, Counted, Lowest, Dropped, Rest, SetAt};
+ghost use Rattle.sets.specs.Sets.{room, Is, size, oneWord, withSet, MarkedAt};
 
 pub struct Set {
     pub word: u64,
 }
 
+// A set of edges or of candidates.
+pub type Wide = Set;
+
 impl Set {
     pub fn and(self, y: Set) -> Set
-        ensures { λ r. ⌜ Joint self y r both ⌝ }
+        ensures { λ r. ⌜ Joint oneWord self y r both ⌝ }
     {
         Set {
             word: self.word & y.word,
@@ -22,7 +26,7 @@ impl Set {
     }
 
     pub fn or(self, y: Set) -> Set
-        ensures { λ r. ⌜ Joint self y r either ⌝ }
+        ensures { λ r. ⌜ Joint oneWord self y r either ⌝ }
     {
         Set {
             word: self.word | y.word,
@@ -31,16 +35,25 @@ impl Set {
 
     // What is in self and not in y.
     pub fn minus(self, y: Set) -> Set
-        ensures { λ r. ⌜ Minus self y r ⌝ }
+        ensures { λ r. ⌜ Minus oneWord self y r ⌝ }
     {
         Set {
             word: self.word & !y.word,
         }
     }
 
+    // What is in one and not in the other.
+    pub fn unlike(self, y: Set) -> Set
+        ensures { λ r. ⌜ Joint oneWord self y r (λ a b. either (less a b) (less b a)) ⌝ }
+    {
+        Set {
+            word: self.word ^ y.word,
+        }
+    }
+
     // How many are in the set.
     pub fn count(self) -> usize
-        ensures { λ r. ⌜ Counted self r ⌝ }
+        ensures { λ r. ⌜ Counted oneWord self r ⌝ }
     {
         u64::count_ones(self.word) as usize
     }
@@ -54,7 +67,7 @@ impl Set {
 
     pub fn lowest(self) -> usize
         requires { ⌜ 0 < size self ⌝ }
-        ensures { λ r. ⌜ Lowest self r ⌝ }
+        ensures { λ r. ⌜ Lowest oneWord self r ⌝ }
     {
         u64::trailing_zeros(self.word) as usize
     }
@@ -62,7 +75,7 @@ impl Set {
     // The set without its lowest: cheaper than `without`.
     pub fn rest(self) -> Set
         requires { ⌜ 0 < size self ⌝ }
-        ensures { λ r. ⌜ Rest self r ⌝ }
+        ensures { λ r. ⌜ Rest oneWord self r ⌝ }
     {
         Set {
             word: self.word & (self.word - 1),
@@ -80,7 +93,7 @@ impl Set {
 
     pub fn without(self, k: usize) -> Set
         requires { ⌜ k < room ⌝ }
-        ensures { λ r. ⌜ Dropped self k r ⌝ }
+        ensures { λ r. ⌜ Dropped oneWord self k r ⌝ }
     {
         Set {
             word: self.word & !(1u64 << k),
@@ -124,9 +137,25 @@ impl Set {
     // The set at place k of a list of words.
     pub fn at(words: &[u64], k: usize) -> Set
         requires { ⌜ k < length (now words) ⌝ }
-        ensures { λ r. ⌜ SetAt (now (words .entry)) k r ⌝ }
+        ensures { λ r. ⌜ SetAt oneWord (now (words .entry)) k r ⌝ }
     {
         Set { word: words[k] }
+    }
+
+    // The set at place k is now this one.
+    pub fn put(words: &mut [u64], k: usize, set: Set)
+        requires { ⌜ k < length (now words) ⌝ }
+        ensures { λ _. ⌜ now (words .exit) ≡ withSet (now (words .entry)) k set ⌝ }
+    {
+        words[k] = set.word;
+    }
+
+    // i is now in the set at place k.
+    pub fn mark(words: &mut [u64], k: usize, i: usize)
+        requires { ⌜ (k < length (now words)) × (i < room) ⌝ }
+        ensures { λ _. ⌜ MarkedAt (now (words .entry)) k i (now (words .exit)) ⌝ }
+    {
+        words[k] = words[k] | 1u64 << i;
     }
 }
 
