@@ -38,7 +38,10 @@ maskAt words k = record { word = getD words k 0 }
 abbrev pub oneWord : Kind
 oneWord = record { Of = Set; room = room; Is = Is; size = size; at = maskAt }
 
--- the kind of sets of edges and of sets of candidates
+-- a set of edges or of candidates, and their kind
+abbrev pub Wide : Type 0
+Wide = Set
+
 abbrev pub wides : Kind
 wides = oneWord
 

@@ -6,10 +6,10 @@ use Prim.Native.Nat.{ℕ, zero, suc, _≤_}
 use native.Mathlib.Omega.{arith}
 use lib.ListN.{length, replicate, length-replicate}
 use Rattle.lists.proofs.After.{after-none}
-use Rattle.sets.specs.Sets.{room, Is}
-use Rattle.sets.specs.declared.Set.{Set}
-use Rattle.sets.proofs.Sets.{none-all}
-use Rattle.paper.specs.Numbers.{solidWords}
+use Rattle.sets.specs.Sets.{wides, Wide}
+use Rattle.sets.proofs.Laws.{none-all}
+use Rattle.sets.proofs.Sets.{wides-laws}
+use Rattle.paper.specs.Numbers.{solidWords, mostCandidates}
 use Rattle.paper.specs.Walk.{Undecided, isTaken, isOpen, nothing, search}
 use Rattle.paper.specs.Conversion.{words, solidsAfter}
 use Rattle.means_walk.proofs.Ends.{open-blank}
@@ -24,15 +24,16 @@ each-is f x zero = refl
 each-is f x (suc n) = ap (λ (l : List _). f x ∷ l) (each-is f x n)
 
 -- nothing taken and n undecided
-holds-all : {n : ℕ} {taken undecided : Set} → n ≤ room → Is taken [] → Is undecided (replicate n true)
+holds-all : {n : ℕ} {taken undecided : Wide} → n ≤ mostCandidates → wides .Is taken [] → wides .Is undecided (replicate n true)
     → StateIs (record { taken = taken; undecided = undecided }) (replicate n Undecided)
 holds-all {n} {taken} {undecided} few none all = record {
-  takes = subst (Is taken) (sym (each-is isTaken Undecided n)) (none-all n few none);
-  leaves = subst (Is undecided) (sym (each-is isOpen Undecided n)) all;
+  takes = subst (wides .Is taken) (sym (each-is isTaken Undecided n)) (none-all wides-laws n few none);
+  leaves = subst (wides .Is undecided) (sym (each-is isOpen Undecided n)) all;
 }
 
-pub searched : {tables : WalkTables} {m n limit : ℕ} {none all edges : Set} {out₀ : List ℕ}
-    {r : Tally} {out : List ℕ} → n ≤ room → Is none [] → Is all (replicate n true) → Is edges (replicate m true)
+pub searched : {tables : WalkTables} {m n limit : ℕ} {none all edges : Wide} {out₀ : List ℕ}
+    {r : Tally} {out : List ℕ} → n ≤ mostCandidates → wides .Is none [] → wides .Is all (replicate n true)
+    → wides .Is edges (replicate m true)
     → Walked tables m (record { state = record { taken = none; undecided = all }; changed = edges; edge = 0 }) limit
     (record { work = 0; found = 0; ended = 0 }) out₀ r out
     → Searched tables m n limit out₀ r out
@@ -44,7 +45,7 @@ searched {n = n} {edges = edges} {out₀ = out₀} few i j k w = record {
       w .same n t (replicate n Undecided) (replicate (length masks) true) 0 (suc n) lent (length-replicate n Undecided)
       (record {
         holds = holds-all few i j;
-        marked-is = subst (λ (k : ℕ). Is edges (replicate k true)) (sym (lent .masks-are)) k;
+        marked-is = subst (λ (k : ℕ). wides .Is edges (replicate k true)) (sym (lent .masks-are)) k;
         edge-is = refl;
       })
       (call-first masks (replicate n Undecided)) (omega (arith, open-blank n)) nothing out₀

@@ -5,8 +5,8 @@ use mathlib.Core.Path.{_≡_, refl, sym, _∙_, subst}
 use Prim.Native.Nat.{ℕ, suc, _≤_, _<_}
 use native.Mathlib.Omega.{arith}
 use lib.ListN.{length, set, length-set}
-use Rattle.sets.specs.Sets.{size}
-use Rattle.sets.proofs.Sets.{size-is}
+use Rattle.sets.specs.Sets.{wides}
+use Rattle.sets.proofs.Sets.{wides-laws}
 use Rattle.paper.specs.Numbers.{mostSolids}
 use Rattle.paper.specs.Solids.{Tables}
 use Rattle.paper.specs.Walk.{Status, Taken, Rejected, isOpen, openCount, Outcome, Broken, Stands, stable, choose, Log, assume, walk}
@@ -44,15 +44,16 @@ left-stands s Broken h = absurd h
 left-stands s (Stands st) h = (st, refl, h)
 
 -- as many are undecided as the set has
-open-size : {s : State} {st : List Status} → StateIs s st → size (s .undecided) ≡ openCount st
-open-size {s} {st} h = size-is (h .leaves) ∙ count-open st
+open-size : {s : State} {st : List Status} → StateIs s st → wides .size (s .undecided) ≡ openCount st
+open-size {s} {st} h = wides-laws .size-is (h .leaves) ∙ count-open st
 
 -- an assumption finds no solid, so there is room as before
 pub still-roomy : {limit : ℕ} {x r : Tally} {out : List ℕ} → Assumed limit x r → Roomy x out → Roomy r out
 still-roomy a h = record { few = omega (arith, a .no-more, h .few); whole = h .whole }
 
 -- the same log, told another way
-told : {t : Tables} {lent : List ℕ} {x : Tally} {out : List ℕ} {log log′ : Log} → log ≡ log′ → Stored t lent x out log′ → Stored t lent x out log
+told : {t : Tables} {lent : List ℕ} {x : Tally} {out : List ℕ} {log log′ : Log} → log ≡ log′ → Stored t lent x out log′
+    → Stored t lent x out log
 told {t} {lent} {x} {out} q h = subst (Stored t lent x out) (sym q) h
 
 module _ {tables : WalkTables} {m : ℕ} {b : Branch} where
@@ -86,7 +87,7 @@ module _ {tables : WalkTables} {m : ℕ} {b : Branch} where
 
       module _ {s : State} (o : SweptOut (tables .on) (tables .sides) (b .state) (b .changed) (S.Stands s)) {r : Tally}
           {out : List ℕ} where
-        pub walked-leaf : size (s .undecided) ≡ 0 → KeepsSolid tables m (s .taken) x out₀ r out
+        pub walked-leaf : wides .size (s .undecided) ≡ 0 → KeepsSolid tables m (s .taken) x out₀ r out
             → Walked tables m b limit x out₀ r out
         walked-leaf none k = record {
           roomy = k .roomy;
@@ -123,7 +124,7 @@ module _ {tables : WalkTables} {m : ℕ} {b : Branch} where
 
   module _ {limit : ℕ} {x : Tally} {out₀ : List ℕ} (z : x .ended ≡ 0) {s : State}
       (o : SweptOut (tables .on) (tables .sides) (b .state) (b .changed) (S.Stands s)) {r : Tally} {out : List ℕ} where
-    pub walked-both : {next : Both} {a d c : Tally} {out₁ : List ℕ} → 0 < size (s .undecided)
+    pub walked-both : {next : Both} {a d c : Tally} {out₁ : List ℕ} → 0 < wides .size (s .undecided)
         → Branches (tables .on) m (tables .sides) s (b .edge) next → Assumed limit x a → Walked tables m (next .take) limit a out₀ d out₁
         → Assumed limit d c → Walked tables m (next .reject) limit c out₁ r out
         → Walked tables m b limit x out₀ r out

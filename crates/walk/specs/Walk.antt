@@ -5,8 +5,7 @@ use mathlib.Core.Path.{_≡_}
 use Prim.Native.Nat.{ℕ, _≤_, _<_}
 use lib.IntN.{ℤ}
 use lib.ListN.{length}
-use Rattle.sets.specs.Sets.{room}
-use Rattle.paper.specs.Numbers.{mostSolids, solidRoom}
+use Rattle.paper.specs.Numbers.{mostSolids, solidRoom, mostCandidates}
 use Rattle.paper.specs.Solids.{Tables}
 use Rattle.paper.specs.Walk.{Status, openCount, walk, search}
 use Rattle.paper.specs.Conversion.{accepted}
@@ -33,7 +32,7 @@ pub record Walked (tables : WalkTables) (m : ℕ) (b : Branch) (limit : ℕ) (x 
 
 pub record Searching (m : ℕ) (sixes : List ℤ) (n : ℕ) (out : List ℕ) : Type 0 where
   pub judging : Judging m sixes
-  pub few : n ≤ room
+  pub few : n ≤ mostCandidates
   pub whole : length out ≡ solidRoom
 
 -- all that the document's walk finds, in the room that was lent

@@ -2,7 +2,7 @@
 ghost use Rattle.walk.specs.Branch.{Branching, Branches};
 use paper::MOST_CANDIDATES;
 use paper::MOST_EDGES;
-use sets::Set;
+use sets::Wide;
 use walk_state::State;
 use walk_state::first_open;
 
@@ -10,7 +10,7 @@ use walk_state::first_open;
 // last choice, below which none is undecided.
 pub struct Branch {
     pub state: State,
-    pub changed: Set,
+    pub changed: Wide,
     pub edge: usize,
 }
 
@@ -33,7 +33,7 @@ pub fn branches(
     let open = first_open(on, m, s.undecided, from);
     let edge = open.edge;
     let k = open.free.lowest();
-    let changed = Set::at(sides, k);
+    let changed = Wide::at(sides, k);
     let taking = s.with_taken(k);
     let rejecting = s.with_rejected(k);
     Both {

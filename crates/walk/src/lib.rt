@@ -12,7 +12,7 @@ use leaf::kept;
 use paper::MOST_CANDIDATES;
 use paper::MOST_EDGES;
 use paper::SOLID_ROOM;
-use sets::Set;
+use sets::Wide;
 use tally::Tally;
 use walk_state::State;
 use walk_state::Swept;
@@ -73,12 +73,12 @@ pub fn search(
         m n limit (now (out .entry)) r (now (out .exit)) ⌝ }
 {
     let state = State {
-        taken: Set::none(),
-        undecided: Set::lowest_of(n),
+        taken: Wide::none(),
+        undecided: Wide::lowest_of(n),
     };
     let all = Branch {
         state: state,
-        changed: Set::lowest_of(m),
+        changed: Wide::lowest_of(m),
         edge: 0,
     };
     let none = Tally {

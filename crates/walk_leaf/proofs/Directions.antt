@@ -2,16 +2,16 @@
 use mathlib.Core.Bool.{Bool, true, false, _&&_, cond}
 use mathlib.Core.List.{List, []}
 use mathlib.Core.Path.{_≡_, refl, sym, ap, ap₂, _∙_}
-use Prim.Native.Nat.{ℕ, zero, suc, _+_, _^_, _≤_, _<_}
+use Prim.Native.Nat.{ℕ, zero, suc, _+_, _≤_, _<_}
 use native.Mathlib.Omega.{arith}
 use lib.Dec.{eqb}
 use lib.ListN.{length, getD, drop, drop-of-length-le}
 use borrow.Author.Tests.{eq-eqb, ne-eqb}
 use Rattle.lists.proofs.Places.{drop-more}
 use Rattle.sets.specs.Word.{count, both, less}
-use Rattle.sets.specs.Sets.{room, Is, size, Joint, Minus, Lowest, Dropped, SetAt}
-use Rattle.sets.specs.declared.Set.{Set}
-use Rattle.sets.proofs.Sets.{size-is}
+use Rattle.sets.specs.Kinds.{Joint, Minus, Lowest, Dropped, SetAt}
+use Rattle.sets.specs.Sets.{wides, Wide}
+use Rattle.sets.proofs.Sets.{wides-laws}
 use Rattle.paper.specs.Solids.{unlike, onceEachWay, oriented}
 use Rattle.walk_state.proofs.Lowest.{drop-one}
 use Rattle.walk_leaf.specs.Faces.{Edges}
@@ -20,45 +20,50 @@ use Rattle.walk_leaf.proofs.Rounds.{mask-at}
 
 -- ---- one alone
 
-pub one-none : (x : Set) → size x ≡ 0 → false ≡ eqb (size x) 1
-one-none x z = sym (ne-eqb (size x) 1 (λ e. omega (arith, z, e)))
+pub one-none : (x : Wide) → wides .size x ≡ 0 → false ≡ eqb (wides .size x) 1
+one-none x z = sym (ne-eqb (wides .size x) 1 (λ e. omega (arith, z, e)))
 
 same-one : (m n : ℕ) → suc m ≡ n → eqb m 0 ≡ eqb n 1
 same-one zero n e = sym (eq-eqb n 1 (omega arith))
 same-one (suc m) n e = ne-eqb (suc m) 0 (λ z. omega (arith, z)) ∙ sym (ne-eqb n 1 (λ z. omega (arith, z)))
 
-pub one-some : {x y : Set} {k : ℕ} → x .word < 2 ^ room → Lowest x k → Dropped x k y → {b : Bool} → b ≡ eqb (size y) 0 → b ≡ eqb (size x) 1
-one-some {x} {y} {k} h low d e = e ∙ same-one (size y) (size x) (drop-one k h (low .there) d)
+pub one-some : {x y : Wide} {k : ℕ} → wides-laws .Fits x → Lowest wides x k → Dropped wides x k y → {b : Bool} → b ≡ eqb (wides .size y) 0
+    → b ≡ eqb (wides .size x) 1
+one-some {x} {y} {k} h low d e = e ∙ same-one (wides .size y) (wides .size x) (drop-one wides-laws k h (low .there) d)
 
 -- ---- an edge
 
-module _ (mask up taken turned : Set) {mine runs ours : Set} (jm : Joint mask taken mine both) (ju : Joint up turned runs unlike)
-    (jo : Joint mine runs ours both) {b : Bool} (e : b ≡ eqb (size ours) 1) where
-  ups : (m u t s : List Bool) → Is mask m → Is up u → Is taken t → Is turned s → eqb (count (both (both m t) (unlike u s))) 1 ≡ b
-  ups m u t s i j k l = sym (e ∙ ap (λ (n : ℕ). eqb n 1) (size-is (jo (both m t) (unlike u s) (jm m t i k) (ju u s j l))))
+module _ (mask up taken turned : Wide) {mine runs ours : Wide} (jm : Joint wides mask taken mine both)
+    (ju : Joint wides up turned runs unlike)
+    (jo : Joint wides mine runs ours both) {b : Bool} (e : b ≡ eqb (wides .size ours) 1) where
+  ups : (m u t s : List Bool) → wides .Is mask m → wides .Is up u → wides .Is taken t → wides .Is turned s
+      → eqb (count (both (both m t) (unlike u s))) 1 ≡ b
+  ups m u t s i j k l = sym (e ∙ ap (λ (n : ℕ). eqb n 1) (wides-laws .size-is (jo (both m t) (unlike u s) (jm m t i k) (ju u s j l))))
 
   pub way-not : b ≡ false → WayIs mask up taken turned false
   unfolding onceEachWay
   way-not f m u t s i j k l =
       sym (ap (λ (x : Bool). x && eqb (count (less (both m t) (unlike u s))) 1) (ups m u t s i j k l ∙ f))
 
-  pub way-once : b ≡ true → {theirs : Set} → Minus mine runs theirs → {r : Bool} → r ≡ eqb (size theirs) 1 → WayIs mask up taken turned r
+  pub way-once : b ≡ true → {theirs : Wide} → Minus wides mine runs theirs → {r : Bool} → r ≡ eqb (wides .size theirs) 1
+      → WayIs mask up taken turned r
   unfolding onceEachWay
   way-once f d {r} q m u t s i j k l =
       sym (ap₂ (λ (x y : Bool). x && y) (ups m u t s i j k l ∙ f)
-      (sym (q ∙ ap (λ (n : ℕ). eqb n 1) (size-is (d .same (both m t) (unlike u s) (jm m t i k) (ju u s j l))))))
+      (sym (q ∙ ap (λ (n : ℕ). eqb n 1) (wides-laws .size-is (d .same (both m t) (unlike u s) (jm m t i k) (ju u s j l))))))
 
 -- ---- all edges: what is left is the whole answer
 
-abbrev pub Asking : List ℕ → List ℕ → ℕ → Set → Set → ℕ → Type 0
+abbrev pub Asking : List ℕ → List ℕ → ℕ → Wide → Wide → ℕ → Type 0
 Asking on up m taken turned e =
-    (masks ups : List (List Bool)) (t s : List Bool) → Edges on up masks ups → length masks ≡ m → Is taken t → Is turned s
+    (masks ups : List (List Bool)) (t s : List Bool) → Edges on up masks ups → length masks ≡ m → wides .Is taken t → wides .Is turned s
     → oriented masks ups t s ≡ oriented (drop e masks) (drop e ups) t s
 
-module _ (on up : List ℕ) (m : ℕ) (taken turned : Set) (e : ℕ) (a : Asking on up m taken turned e) where
-  module _ (h : e < m) {mask other : Set} (eo : SetAt on e mask) (eu : SetAt up e other) {b : Bool}
+module _ (on up : List ℕ) (m : ℕ) (taken turned : Wide) (e : ℕ) (a : Asking on up m taken turned e) where
+  module _ (h : e < m) {mask other : Wide} (eo : SetAt wides on e mask) (eu : SetAt wides up e other) {b : Bool}
       (c : WayIs mask other taken turned b) where
-    here : (masks ups : List (List Bool)) (t s : List Bool) → Edges on up masks ups → length masks ≡ m → Is taken t → Is turned s
+    here : (masks ups : List (List Bool)) (t s : List Bool) → Edges on up masks ups → length masks ≡ m → wides .Is taken t
+        → wides .Is turned s
         → oriented masks ups t s ≡ cond b (oriented (drop (e + 1) masks) (drop (e + 1) ups) t s) false
     unfolding oriented
     here masks ups t s q l i j =

@@ -6,8 +6,9 @@ use Prim.Native.Nat.{ℕ, _<_}
 use lib.Dec.{eqb}
 use borrow.Author.Tests.{eq-eqb, ne-eqb}
 use Rattle.sets.specs.Word.{count, less}
-use Rattle.sets.specs.Sets.{Is, size, Lowest, Minus}
-use Rattle.sets.specs.declared.Set.{Set}
+use Rattle.sets.specs.Kinds.{Lowest, Minus}
+use Rattle.sets.specs.Sets.{wides, Wide}
+use Rattle.sets.proofs.Sets.{wides-laws}
 use Rattle.paper.specs.Solids.{Tables, oriented}
 use Rattle.fast_leaf.specs.Faces.{fromFace, fromLowestFace, clearOn, judgedByFaces}
 use Rattle.walk_tables.specs.Words.{WalkTables, HeldTables}
@@ -18,41 +19,41 @@ use Rattle.walk_leaf.specs.declared.faces.Going.{Going}
 use Rattle.walk_leaf.specs.declared.Leaf.{Leaf}
 use Rattle.walk_leaf.specs.declared.Leaf.the-variants as L
 
-module _ (tables : WalkTables) (m : ℕ) (taken : Set) where
-  pub judge-none : size taken ≡ 0 → Judges tables m taken L.Fails
+module _ (tables : WalkTables) (m : ℕ) (taken : Wide) where
+  pub judge-none : wides .size taken ≡ 0 → Judges tables m taken L.Fails
   unfolding judgedByFaces
-  judge-none z t a h s i = rw (eq-eqb (count a) 0 (none-in i z)) tt
+  judge-none z t a h s i = rw (eq-eqb (count a) 0 (none-in wides-laws i z)) tt
 
-  module _ (p : 0 < size taken) {start : ℕ} (low : Lowest taken start) {g : Going}
-      (f : FromFace (tables .on) (tables .up) (tables .sides) taken start g) {far : Set} (d : Minus taken (g .reached) far) where
-    some : {a : List Bool} → Is taken a → eqb (count a) 0 ≡ false
-    some {a} i = ne-eqb (count a) 0 (some-in i p)
+  module _ (p : 0 < wides .size taken) {start : ℕ} (low : Lowest wides taken start) {g : Going}
+      (f : FromFace (tables .on) (tables .up) (tables .sides) taken start g) {far : Wide} (d : Minus wides taken (g .reached) far) where
+    some : {a : List Bool} → wides .Is taken a → eqb (count a) 0 ≡ false
+    some {a} i = ne-eqb (count a) 0 (some-in wides-laws i p)
 
     edges : {t : Tables} {a : List Bool} → HeldTables tables t → Selects t m a → Edges (tables .on) (tables .up) (t .masks) (t .ups)
     edges h s = record { on-are = h .on-are; up-are = h .up-are; as-many = s .ups-are ∙ sym (s .masks-are) }
 
-    going : {t : Tables} {a : List Bool} → HeldTables tables t → Selects t m a → Is taken a
+    going : {t : Tables} {a : List Bool} → HeldTables tables t → Selects t m a → wides .Is taken a
         → GoingIs g (fromLowestFace (t .masks) (t .ups) a)
     going {t} {a} h s i =
         subst (λ (j : ℕ). GoingIs g (fromFace (t .masks) (t .ups) a j)) (low .same a i)
         (f (t .masks) (t .ups) a (edges h s) (h .sides-are) i (low .there a i))
 
-    far-is : {t : Tables} {a : List Bool} → HeldTables tables t → Selects t m a → Is taken a
-        → Is far (less a (fromLowestFace (t .masks) (t .ups) a .reached))
+    far-is : {t : Tables} {a : List Bool} → HeldTables tables t → Selects t m a → wides .Is taken a
+        → wides .Is far (less a (fromLowestFace (t .masks) (t .ups) a .reached))
     far-is {t} {a} h s i = d .same a (fromLowestFace (t .masks) (t .ups) a .reached) i (going h s i .reached-is)
 
-    pub judge-apart : 0 < size far → Judges tables m taken L.Fails
+    pub judge-apart : 0 < wides .size far → Judges tables m taken L.Fails
     unfolding judgedByFaces
     judge-apart q t a h s i =
         let r = fromLowestFace (t .masks) (t .ups) a .reached in
-        rw (some i, ne-eqb (count (less a r)) 0 (some-in (far-is h s i) q)) tt
+        rw (some i, ne-eqb (count (less a r)) 0 (some-in wides-laws (far-is h s i) q)) tt
 
-    module _ (z : size far ≡ 0) {b : Bool} (o : OrientedIs (tables .on) (tables .up) m taken (g .turned) b) where
-      all : {t : Tables} {a : List Bool} → HeldTables tables t → Selects t m a → Is taken a
+    module _ (z : wides .size far ≡ 0) {b : Bool} (o : OrientedIs (tables .on) (tables .up) m taken (g .turned) b) where
+      all : {t : Tables} {a : List Bool} → HeldTables tables t → Selects t m a → wides .Is taken a
           → eqb (count (less a (fromLowestFace (t .masks) (t .ups) a .reached))) 0 ≡ true
-      all {t} {a} h s i = eq-eqb (count (less a (fromLowestFace (t .masks) (t .ups) a .reached))) 0 (none-in (far-is h s i) z)
+      all {t} {a} h s i = eq-eqb (count (less a (fromLowestFace (t .masks) (t .ups) a .reached))) 0 (none-in wides-laws (far-is h s i) z)
 
-      ways : {t : Tables} {a : List Bool} → HeldTables tables t → Selects t m a → Is taken a
+      ways : {t : Tables} {a : List Bool} → HeldTables tables t → Selects t m a → wides .Is taken a
           → oriented (t .masks) (t .ups) a (fromLowestFace (t .masks) (t .ups) a .turned) ≡ b
       ways {t} {a} h s i =
           sym (o (t .masks) (t .ups) a (fromLowestFace (t .masks) (t .ups) a .turned) (edges h s) (s .masks-are) i (going h s i .turned-is))
@@ -62,7 +63,7 @@ module _ (tables : WalkTables) (m : ℕ) (taken : Set) where
       judge-ways e t a h s i = rw (some i, all h s i, ways h s i ∙ e) tt
 
       module _ (e : b ≡ true) {c : Bool} (k : ClearIs (tables .clashes) taken c) where
-        clears : {t : Tables} {a : List Bool} → HeldTables tables t → Selects t m a → Is taken a
+        clears : {t : Tables} {a : List Bool} → HeldTables tables t → Selects t m a → wides .Is taken a
             → clearOn (count a) (t .clashes) a a ≡ c
         clears {t} {a} h s i = sym (k (t .clashes) a (h .clashes-are) (s .in-clashes) i)
 

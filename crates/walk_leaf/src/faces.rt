@@ -1,35 +1,25 @@
 // The faces of a selection, gone round once each: from one of them over its edges, then from each face that is reached so. Assumes nothing.
 ghost use Prim.Native.Nat.{_<_};
-ghost use Rattle.sets.specs.Sets.{room, Joint};
-ghost use Rattle.paper.specs.Solids.{unlike};
+ghost use Rattle.paper.specs.Numbers.{mostCandidates};
 ghost use Rattle.walk_leaf.specs.Faces.{TurnedAt, AtEdge, AroundFace, FromFace};
 use paper::MOST_CANDIDATES;
 use paper::MOST_EDGES;
-use sets::Set;
+use sets::Wide;
 
 // The faces that are reached, those of them whose edges are still to be gone over, and those that are turned against their normal form.
 pub struct Going {
-    pub reached: Set,
-    pub waiting: Set,
-    pub turned: Set,
-}
-
-// What is in one and not in the other.
-pub fn unlike(x: Set, y: Set) -> Set
-    ensures { λ r. ⌜ Joint x y r unlike ⌝ }
-{
-    Set {
-        word: x.word ^ y.word,
-    }
+    pub reached: Wide,
+    pub waiting: Wide,
+    pub turned: Wide,
 }
 
 // Those turned after an edge of face f: the others on it are, where they run it as f does.
-fn turned_at(up: Set, turned: Set, f: usize, other: Set) -> Set
-    requires { ⌜ f < room ⌝ }
+fn turned_at(up: Wide, turned: Wide, f: usize, other: Wide) -> Wide
+    requires { ⌜ f < mostCandidates ⌝ }
     ensures { λ r. ⌜ TurnedAt up turned f other r ⌝ }
 {
-    let runs = unlike(up, turned);
-    let down = Set::just(f).and(runs).is_empty();
+    let runs = up.unlike(turned);
+    let down = Wide::just(f).and(runs).is_empty();
     let other_down = other.and(runs).is_empty();
     if down ^ other_down {
         return turned;
@@ -38,8 +28,8 @@ fn turned_at(up: Set, turned: Set, f: usize, other: Set) -> Set
 }
 
 // Over an edge of face f, where none of the others on it is reached yet: they are, and they wait.
-fn at_edge(mask: Set, up: Set, taken: Set, f: usize, g: Going) -> Going
-    requires { ⌜ f < room ⌝ }
+fn at_edge(mask: Wide, up: Wide, taken: Wide, f: usize, g: Going) -> Going
+    requires { ⌜ f < mostCandidates ⌝ }
     ensures { λ r. ⌜ AtEdge mask up taken f g r ⌝ }
 {
     let reached = g.reached;
@@ -60,20 +50,20 @@ fn at_edge(mask: Set, up: Set, taken: Set, f: usize, g: Going) -> Going
 fn around_face(
     on: &[u64; MOST_EDGES],
     up: &[u64; MOST_EDGES],
-    edges: Set,
-    taken: Set,
+    edges: Wide,
+    taken: Wide,
     f: usize,
     g: Going,
 ) -> Going
-    requires { ⌜ f < room ⌝ }
+    requires { ⌜ f < mostCandidates ⌝ }
     ensures { λ r. ⌜ AroundFace (now (on .entry)) (now (up .entry)) edges taken f g r ⌝ }
 {
     let mut going = g;
     let mut left = edges;
     while !left.is_empty() {
         let e = left.lowest();
-        let mask = Set::at(on, e);
-        going = at_edge(mask, Set::at(up, e), taken, f, going);
+        let mask = Wide::at(on, e);
+        going = at_edge(mask, Wide::at(up, e), taken, f, going);
         left = left.without(e);
     }
     going
@@ -84,21 +74,21 @@ pub fn from_face(
     on: &[u64; MOST_EDGES],
     up: &[u64; MOST_EDGES],
     sides: &[u64; MOST_CANDIDATES],
-    taken: Set,
+    taken: Wide,
     k: usize,
 ) -> Going
-    requires { ⌜ k < room ⌝ }
+    requires { ⌜ k < mostCandidates ⌝ }
     ensures { λ r. ⌜ FromFace (now (on .entry)) (now (up .entry)) (now (sides .entry)) taken k r ⌝ }
 {
-    let alone = Set::just(k);
+    let alone = Wide::just(k);
     let mut going = Going {
         reached: alone,
         waiting: alone,
-        turned: Set::none(),
+        turned: Wide::none(),
     };
     while !going.waiting.is_empty() {
         let f = going.waiting.lowest();
-        let edges = Set::at(sides, f);
+        let edges = Wide::at(sides, f);
         let reached = going.reached;
         let turned = going.turned;
         let next = Going {

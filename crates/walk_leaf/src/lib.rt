@@ -5,25 +5,24 @@ pub mod faces;
 ghost use mathlib.Core.Path.{_≡_};
 ghost use Prim.Native.Nat.{_≤_};
 ghost use lib.Dec.{eqb};
-ghost use Rattle.sets.specs.Sets.{size};
+ghost use Rattle.sets.specs.Sets.{wides};
 ghost use Rattle.paper.specs.Numbers.{mostEdges};
 ghost use Rattle.walk_tables.specs.Words.{SmallSixes, walkTables};
 ghost use Rattle.walk_leaf.specs.Tests.{WayIs, OrientedIs, ClearIs, PartAt, PartIs, Weighs, WeighedIs};
 ghost use Rattle.walk_leaf.specs.Tests.{Judging, Judges};
 use faces::from_face;
-use faces::unlike;
 use paper::MOST_CANDIDATES;
 use paper::MOST_EDGES;
-use sets::Set;
+use sets::Wide;
 
 // A solid: the faces that are turned against their normal form, and six volumes.
 pub enum Leaf {
     Fails,
-    Solid(Set, u64),
+    Solid(Wide, u64),
 }
 
-fn is_one(x: Set) -> bool
-    ensures { λ r. ⌜ r ≡ eqb (size x) 1 ⌝ }
+fn is_one(x: Wide) -> bool
+    ensures { λ r. ⌜ r ≡ eqb (wides .size x) 1 ⌝ }
 {
     if x.is_empty() {
         return false;
@@ -32,11 +31,11 @@ fn is_one(x: Set) -> bool
 }
 
 // Whether an edge is run once each way by the faces taken: `up` are those whose normal form runs it upwards.
-pub fn once_each_way(mask: Set, up: Set, taken: Set, turned: Set) -> bool
+pub fn once_each_way(mask: Wide, up: Wide, taken: Wide, turned: Wide) -> bool
     ensures { λ r. ⌜ WayIs mask up taken turned r ⌝ }
 {
     let mine = mask.and(taken);
-    let runs = unlike(up, turned);
+    let runs = up.unlike(turned);
     if is_one(mine.and(runs)) {
         return is_one(mine.minus(runs));
     }
@@ -47,16 +46,16 @@ fn oriented(
     on: &[u64; MOST_EDGES],
     up: &[u64; MOST_EDGES],
     m: usize,
-    taken: Set,
-    turned: Set,
+    taken: Wide,
+    turned: Wide,
 ) -> bool
     requires { ⌜ m ≤ mostEdges ⌝ }
     ensures { λ r. ⌜ OrientedIs (now (on .entry)) (now (up .entry)) m taken turned r ⌝ }
 {
     let mut e = 0;
     while e < m {
-        let mask = Set::at(on, e);
-        if !once_each_way(mask, Set::at(up, e), taken, turned) {
+        let mask = Wide::at(on, e);
+        if !once_each_way(mask, Wide::at(up, e), taken, turned) {
             return false;
         }
         e += 1;
@@ -64,13 +63,13 @@ fn oriented(
     true
 }
 
-fn clear(clashes: &[u64; MOST_CANDIDATES], taken: Set) -> bool
+fn clear(clashes: &[u64; MOST_CANDIDATES], taken: Wide) -> bool
     ensures { λ r. ⌜ ClearIs (now (clashes .entry)) taken r ⌝ }
 {
     let mut left = taken;
     while !left.is_empty() {
         let k = left.lowest();
-        let clashing = Set::at(clashes, k).and(taken);
+        let clashing = Wide::at(clashes, k).and(taken);
         if !clashing.is_empty() {
             return false;
         }
@@ -92,7 +91,7 @@ fn part(sixes: &[i64; MOST_CANDIDATES], k: usize, turned: bool) -> i64
 }
 
 // Six volumes of the faces taken, with these directions.
-pub fn weight(sixes: &[i64; MOST_CANDIDATES], taken: Set, turned: Set) -> i64
+pub fn weight(sixes: &[i64; MOST_CANDIDATES], taken: Wide, turned: Wide) -> i64
     requires { ⌜ SmallSixes (now sixes) ⌝ }
     ensures { λ r. ⌜ Weighs (now (sixes .entry)) taken turned r ⌝ }
 {
@@ -107,7 +106,7 @@ pub fn weight(sixes: &[i64; MOST_CANDIDATES], taken: Set, turned: Set) -> i64
 }
 
 // Six volumes is above zero with these directions, or with all of them turned.
-fn weighed(sixes: &[i64; MOST_CANDIDATES], taken: Set, turned: Set) -> Leaf
+fn weighed(sixes: &[i64; MOST_CANDIDATES], taken: Wide, turned: Wide) -> Leaf
     requires { ⌜ SmallSixes (now sixes) ⌝ }
     ensures { λ r. ⌜ WeighedIs (now (sixes .entry)) taken turned r ⌝ }
 {
@@ -129,7 +128,7 @@ pub fn judge(
     sides: &[u64; MOST_CANDIDATES],
     clashes: &[u64; MOST_CANDIDATES],
     sixes: &[i64; MOST_CANDIDATES],
-    taken: Set,
+    taken: Wide,
 ) -> Leaf
     requires { ⌜ Judging m (now sixes) ⌝ }
     ensures { λ r. ⌜ Judges

@@ -2,14 +2,15 @@
 use mathlib.Core.Bool.{Bool}
 use mathlib.Core.List.{List}
 use mathlib.Core.Path.{_≡_, refl, sym, subst}
-use Prim.Native.Nat.{ℕ, _^_, _<_}
+use Prim.Native.Nat.{ℕ, _<_}
 use native.Mathlib.Omega.{arith}
 use lib.ListN.{set}
 use Rattle.sets.specs.Word.{either, only}
-use Rattle.sets.specs.Sets.{room, Is, Has, digitsOf, Dropped}
-use Rattle.sets.specs.declared.Set.{Set}
+use Rattle.sets.specs.Kinds.{Kind, Has, Dropped}
+use Rattle.sets.specs.Sets.{wides, Wide}
 use Rattle.sets.proofs.Ones.{dig-lt}
-use Rattle.sets.proofs.Sets.{is-digits}
+use Rattle.sets.proofs.Laws.{Laws}
+use Rattle.sets.proofs.Sets.{wides-laws}
 use Rattle.paper.specs.Conversion.{takens}
 use Rattle.paper.specs.Walk.{Taken, Rejected}
 use Rattle.means_walk.specs.Lowest.{opens}
@@ -19,33 +20,34 @@ use Rattle.walk_state.specs.State.{Decided}
 use Rattle.walk_state.specs.declared.State.{State}
 use Rattle.walk_state.proofs.Lowest.{drop-one}
 
--- what is in a set is below 64
-pub narrow : {x : Set} (k : ℕ) → x .word < 2 ^ room → Has x k → k < room
-narrow {x} k h there =
-    let i = is-digits x h in
-    omega (arith, dig-lt (digitsOf x) k (there (digitsOf x) i), i .short)
+-- what is in a set is below its room
+pub narrow : {K : Kind} (laws : Laws K) {x : K .Of} (k : ℕ) → laws .Fits x → Has K x k → k < K .room
+narrow laws {x} k h there =
+    let a = laws .digits-of x in
+    let i = laws .is-digits x h in
+    omega (arith, dig-lt a k (there a i), laws .short i)
 
-module _ (s : State) (k : ℕ) (h : s .undecided .word < 2 ^ room) (there : Has (s .undecided) k) {u : Set}
-    (d : Dropped (s .undecided) k u) where
-  pub taken-is : {t : Set} → ((a : List Bool) → Is (s .taken) a → Is t (either a (only k)))
+module _ (s : State) (k : ℕ) (h : wides-laws .Fits (s .undecided)) (there : Has wides (s .undecided) k) {u : Wide}
+    (d : Dropped wides (s .undecided) k u) where
+  pub taken-is : {t : Wide} → ((a : List Bool) → wides .Is (s .taken) a → wides .Is t (either a (only k)))
       → Decided s k Taken (record { taken = t; undecided = u })
   taken-is {t} f = record {
-    fewer = drop-one k h there d;
+    fewer = drop-one wides-laws k h there d;
     same = λ st i.
         let e : takens (set st k Taken) ≡ either (takens st) (only k)
         = takens-set-taken st k (open-lt st k (there (opens st) (i .leaves))) in
         record {
-          takes = subst (Is t) (sym e) (f (takens st) (i .takes));
-          leaves = subst (Is u) (sym (opens-set Taken refl st k)) (d .same (opens st) (i .leaves));
+          takes = subst (wides .Is t) (sym e) (f (takens st) (i .takes));
+          leaves = subst (wides .Is u) (sym (opens-set Taken refl st k)) (d .same (opens st) (i .leaves));
         };
   }
 
   pub rejected-is : Decided s k Rejected (record { taken = s .taken; undecided = u })
   rejected-is = record {
-    fewer = drop-one k h there d;
+    fewer = drop-one wides-laws k h there d;
     same = λ st i.
         record {
-          takes = subst (Is (s .taken)) (sym (takens-set-rejected st k (there (opens st) (i .leaves)))) (i .takes);
-          leaves = subst (Is u) (sym (opens-set Rejected refl st k)) (d .same (opens st) (i .leaves));
+          takes = subst (wides .Is (s .taken)) (sym (takens-set-rejected st k (there (opens st) (i .leaves)))) (i .takes);
+          leaves = subst (wides .Is u) (sym (opens-set Rejected refl st k)) (d .same (opens st) (i .leaves));
         };
   }

@@ -8,8 +8,10 @@ use native.Mathlib.Decide.{ℕ-discrete}
 use native.Mathlib.Omega.{arith}
 use lib.ListN.{getD}
 use Rattle.sets.specs.Word.{first}
-use Rattle.sets.specs.Sets.{room, Is, size, maskAt, Lowest, SetAt}
-use Rattle.sets.specs.declared.Set.{Set}
+use Rattle.sets.specs.Kinds.{Lowest, SetAt}
+use Rattle.sets.specs.Sets.{wides, Wide}
+use Rattle.sets.proofs.Sets.{wides-laws}
+use Rattle.paper.specs.Numbers.{mostEdges}
 use Rattle.paper.specs.Walk.{Status, settle, Outcome, Broken, Stands}
 use Rattle.fast_sweeps.specs.Worklist.{decidedOn, nextAhead, nextLater, turnAhead, turnLater, SweepKept}
 use Rattle.fast_sweeps.proofs.Marks.{length-ahead, length-later}
@@ -34,17 +36,17 @@ pub record Midst (masks : List (List Bool)) (o : Outcome) (v : State) (m : Marks
   pub marks-are : MarksAre m ahead later
   pub loop : SweepKept masks o st ahead later
 
-pub record Sweeping (on sides : List ℕ) (s : State) (changed : Set) (v : State) (m : Marks) : Type 0 where
-  pub fewer : size (v .undecided) ≤ size (s .undecided)
+pub record Sweeping (on sides : List ℕ) (s : State) (changed : Wide) (v : State) (m : Marks) : Type 0 where
+  pub fewer : wides .size (v .undecided) ≤ wides .size (s .undecided)
   pub same : (masks : List (List Bool)) (o : Outcome) (st : List Status) (marks : List Bool) → Masks on masks → Sides sides masks
-      → StateIs s st → Is changed marks → SweepKept masks o st marks [] → Midst masks o v m
+      → StateIs s st → wides .Is changed marks → SweepKept masks o st marks [] → Midst masks o v m
 
 -- each edge passed makes this smaller: at most 128 edges are marked, so that one undecided outweighs all marks
 abbrev pub togo : State → Marks → ℕ
-togo v m = size (v .undecided) * (2 * room + 1) + markCount m
+togo v m = wides .size (v .undecided) * (2 * mostEdges + 1) + markCount m
 
-module _ (on sides : List ℕ) (s : State) (changed : Set) where
-  pub sweeping-start : {none : Set} → Is none [] → Sweeping on sides s changed s (record { ahead = changed; later = none })
+module _ (on sides : List ℕ) (s : State) (changed : Wide) where
+  pub sweeping-start : {none : Wide} → wides .Is none [] → Sweeping on sides s changed s (record { ahead = changed; later = none })
   sweeping-start n = record {
     fewer = omega arith;
     same = λ masks o st marks i j h w p.
@@ -52,56 +54,56 @@ module _ (on sides : List ℕ) (s : State) (changed : Set) where
   }
 
   module _ {v : State} {m : Marks} (g : Sweeping on sides s changed v m) where
-    pub sweeping-end : size (m .ahead) ≡ 0 → SweptOut on sides s changed (S.Stands v)
+    pub sweeping-end : wides .size (m .ahead) ≡ 0 → SweptOut on sides s changed (S.Stands v)
     sweeping-end z = record {
       fewer = g .fewer;
       same = λ masks o st marks i j h w p.
           let r = g .same masks o st marks i j h w p in
-          let n = none-in (r .marks-are .ahead-is) z in
+          let n = none-in wides-laws (r .marks-are .ahead-is) z in
           let e : o ≡ Stands (r .st) = finish masks (r .loop .remains) n (r .loop .turned n) in
           subst (λ (y : Outcome). SweptIs y (S.Stands v)) (sym e) (r .holds);
     }
 
-    module _ (n : 0 < size (m .ahead)) {e : ℕ} (low : Lowest (m .ahead) e) {mask : Set} (edge : SetAt on e mask) where
+    module _ (n : 0 < wides .size (m .ahead)) {e : ℕ} (low : Lowest wides (m .ahead) e) {mask : Wide} (edge : SetAt wides on e mask) where
       mask-is : {masks : List (List Bool)} {o : Outcome} → Masks on masks → (r : Midst masks o v m)
-          → Is mask (getD masks (first (r .ahead)) [])
+          → wides .Is mask (getD masks (first (r .ahead)) [])
       mask-is {masks} i r =
           let a = r .marks-are .ahead-is in
           let f = first (r .ahead) in
-          let h : Is (maskAt on f) (getD masks f []) = i .at f (here-lt masks (r .loop .remains) (some-in a n)) in
-          let q : mask ≡ maskAt on f = edge .is ∙ ap (λ (k : ℕ). maskAt on k) (low .same (r .ahead) a) in
-          subst (λ (x : Set). Is x (getD masks f [])) (sym q) h
+          let h : wides .Is (wides .at on f) (getD masks f []) = i .at f (here-lt masks (r .loop .remains) (some-in wides-laws a n)) in
+          let q : mask ≡ wides .at on f = edge .is ∙ ap (λ (k : ℕ). wides .at on k) (low .same (r .ahead) a) in
+          subst (λ (x : Wide). wides .Is x (getD masks f [])) (sym q) h
 
       pub sweeping-broken : SettledOn v mask P.Broken → SweptOut on sides s changed S.Broken
       sweeping-broken d = record {
         fewer = tt;
         same = λ masks o st marks i j h w p.
             let r = g .same masks o st marks i j h w p in
-            let c = some-in (r .marks-are .ahead-is) n in
+            let c = some-in wides-laws (r .marks-are .ahead-is) n in
             let b : o ≡ Broken
             = breaks-off masks (r .loop .remains) c (d .same (getD masks (first (r .ahead)) []) (r .st) (mask-is i r) (r .holds)) in
             subst (λ (y : Outcome). SweptIs y S.Broken) (sym b) tt;
       }
 
       module _ {c : Change} (d : SettledOn v mask (P.Stays c)) {q : Marks} (t : EdgePassed sides m (c .decided) q) where
-        no-more : size (c .state .undecided) ≤ size (v .undecided)
-        no-more = go (ℕ-discrete (size (c .decided)) 0)
+        no-more : wides .size (c .state .undecided) ≤ wides .size (v .undecided)
+        no-more = go (ℕ-discrete (wides .size (c .decided)) 0)
           where
-            go : Dec (size (c .decided) ≡ 0) → size (c .state .undecided) ≤ size (v .undecided)
+            go : Dec (wides .size (c .decided) ≡ 0) → wides .size (c .state .undecided) ≤ wides .size (v .undecided)
             go (yes z) = omega (arith, d .fewer .none z)
             go (no z) = omega (arith, d .fewer .some (omega (arith, z)))
 
         pub sweeping-less : togo (c .state) q < togo v m
-        sweeping-less = go (ℕ-discrete (size (c .decided)) 0)
+        sweeping-less = go (ℕ-discrete (wides .size (c .decided)) 0)
           where
-            go : Dec (size (c .decided) ≡ 0) → togo (c .state) q < togo v m
+            go : Dec (wides .size (c .decided) ≡ 0) → togo (c .state) q < togo v m
             go (yes z) = omega (arith, d .fewer .none z, t .fewer z)
             go (no z) = omega (arith, d .fewer .some (omega (arith, z)), t .few)
 
         next : {masks : List (List Bool)} {o : Outcome} → Masks on masks → Sides sides masks → Midst masks o v m
             → Midst masks o (c .state) q
         next {masks} i j r =
-            let b = some-in (r .marks-are .ahead-is) n in
+            let b = some-in wides-laws (r .marks-are .ahead-is) n in
             let k : List Bool = getD masks (first (r .ahead)) [] in
             let y = d .same k (r .st) (mask-is i r) (r .holds) in
             let f : List Bool = decidedOn k (r .st) in

@@ -5,8 +5,8 @@ use mathlib.Core.Path.{_≡_}
 use Prim.Native.Nat.{ℕ, _≤_, _<_}
 use lib.ListN.{length}
 use Rattle.sets.specs.Word.{first}
-use Rattle.sets.specs.Sets.{Is, Has, size}
-use Rattle.sets.specs.declared.Set.{Set}
+use Rattle.sets.specs.Kinds.{Has}
+use Rattle.sets.specs.Sets.{wides, Wide}
 use Rattle.paper.specs.Numbers.{mostEdges}
 use Rattle.paper.specs.Walk.{Status}
 use Rattle.means_walk.specs.Lowest.{opens}
@@ -22,13 +22,13 @@ pub record From (m from : ℕ) : Type 0 where
 pub record Chosen (masks : List (List Bool)) (st : List Status) (from : ℕ) (r : Opening) : Type 0 where
   pub edge-is : r .edge ≡ openFrom masks st from
   pub digits : List Bool
-  pub free-is : Is (r .free) digits
+  pub free-is : wides .Is (r .free) digits
   pub lowest-is : first digits ≡ lowestOn masks st (r .edge)
 
 -- also, where any is undecided there is one to choose, and only undecided ones are
-pub record Opened (on : List ℕ) (m : ℕ) (undecided : Set) (from : ℕ) (r : Opening) : Type 0 where
+pub record Opened (on : List ℕ) (m : ℕ) (undecided : Wide) (from : ℕ) (r : Opening) : Type 0 where
   pub within : r .edge ≤ m
-  pub some : 0 < size undecided → 0 < size (r .free)
-  pub there : (k : ℕ) → Has (r .free) k → Has undecided k
-  pub same : (masks : List (List Bool)) (st : List Status) → Masks on masks → length masks ≡ m → Is undecided (opens st)
+  pub some : 0 < wides .size undecided → 0 < wides .size (r .free)
+  pub there : (k : ℕ) → Has wides (r .free) k → Has wides undecided k
+  pub same : (masks : List (List Bool)) (st : List Status) → Masks on masks → length masks ≡ m → wides .Is undecided (opens st)
       → Chosen masks st from r

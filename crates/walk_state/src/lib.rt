@@ -1,24 +1,25 @@
 // The walk's state and the sweeps over it: those taken and those undecided as sets, one edge settled, edges swept again only where a
 // candidate on them was decided, and the edge of the next assumption. Assumes at most 64 candidates and 64 edges.
 ghost use Prim.Native.Nat.{_<_};
-ghost use Rattle.sets.specs.Sets.{Has, size};
+ghost use Rattle.sets.specs.Kinds.{Has};
+ghost use Rattle.sets.specs.Sets.{wides};
 ghost use Rattle.paper.specs.Walk.{Taken, Rejected};
 ghost use Rattle.walk_state.specs.State.{Decided, DecidedAll, SettledOn};
 ghost use Rattle.walk_state.specs.Sweeps.{Gathered, MarksTurned, EdgePassed, SweptOut};
 ghost use Rattle.walk_state.specs.Choice.{From, Opened};
 use paper::MOST_CANDIDATES;
 use paper::MOST_EDGES;
-use sets::Set;
+use sets::Wide;
 
 pub struct State {
-    pub taken: Set,
-    pub undecided: Set,
+    pub taken: Wide,
+    pub undecided: Wide,
 }
 
 // What settling an edge leaves: the state, and the candidates that it decided.
 struct Change {
     pub state: State,
-    pub decided: Set,
+    pub decided: Wide,
 }
 
 enum Passed {
@@ -28,7 +29,7 @@ enum Passed {
 
 impl State {
     pub fn with_taken(self, k: usize) -> State
-        requires { ⌜ Has (self .undecided) k ⌝ }
+        requires { ⌜ Has wides (self .undecided) k ⌝ }
         ensures { λ r. ⌜ Decided self k Taken r ⌝ }
     {
         State {
@@ -38,7 +39,7 @@ impl State {
     }
 
     pub fn with_rejected(self, k: usize) -> State
-        requires { ⌜ Has (self .undecided) k ⌝ }
+        requires { ⌜ Has wides (self .undecided) k ⌝ }
         ensures { λ r. ⌜ Decided self k Rejected r ⌝ }
     {
         let kept = self.taken;
@@ -49,7 +50,7 @@ impl State {
     }
 
     // All of a set are decided, and `taken` are those taken after it.
-    fn with_decided(self, set: Set, taken: Set) -> Change
+    fn with_decided(self, set: Wide, taken: Wide) -> Change
         ensures { λ r. ⌜ DecidedAll self set taken r ⌝ }
     {
         let state = State {
@@ -64,7 +65,7 @@ impl State {
 
     // On the edge M are taken, the ones of `on`, and L undecided, the ones of `free`. L is asked where M is 0 and where M is 1. A rest has
     // one fewer, so that each count is only told from 1 or from 2: a machine that has no instruction for counts need not count further.
-    fn settled_on(self, mask: Set) -> Passed
+    fn settled_on(self, mask: Wide) -> Passed
         ensures { λ r. ⌜ SettledOn self mask r ⌝ }
     {
         let taken = self.taken;
@@ -83,7 +84,7 @@ impl State {
             if free.rest().count() < 2 {
                 return Passed::Stays(self.with_decided(free, taken.or(free)));
             }
-            return Passed::Stays(self.with_decided(Set::none(), taken));
+            return Passed::Stays(self.with_decided(Wide::none(), taken));
         }
         if free.count() < 1 {
             return Passed::Broken;
@@ -91,7 +92,7 @@ impl State {
         if free.count() < 2 {
             return Passed::Stays(self.with_decided(free, taken.or(free)));
         }
-        Passed::Stays(self.with_decided(Set::none(), taken))
+        Passed::Stays(self.with_decided(Wide::none(), taken))
     }
 }
 
@@ -102,32 +103,32 @@ pub enum Swept {
 
 // The edges to pass in this sweep, and those to pass in the next.
 struct Marks {
-    pub ahead: Set,
-    pub later: Set,
+    pub ahead: Wide,
+    pub later: Wide,
 }
 
 // The edges of all candidates of a set.
-fn gathered(sides: &[u64; MOST_CANDIDATES], set: Set) -> Set
+fn gathered(sides: &[u64; MOST_CANDIDATES], set: Wide) -> Wide
     ensures { λ r. ⌜ Gathered (now (sides .entry)) set r ⌝ }
 {
-    let mut all = Set::none();
+    let mut all = Wide::none();
     let mut left = set;
     while !left.is_empty() {
         let k = left.lowest();
-        all = all.or(Set::at(sides, k));
+        all = all.or(Wide::at(sides, k));
         left = left.rest();
     }
     all
 }
 
 // If none is ahead, those left for later are.
-fn turned(ahead: Set, later: Set) -> Marks
+fn turned(ahead: Wide, later: Wide) -> Marks
     ensures { λ r. ⌜ MarksTurned ahead later r ⌝ }
 {
     if ahead.is_empty() {
         return Marks {
             ahead: later,
-            later: Set::none(),
+            later: Wide::none(),
         };
     }
     Marks {
@@ -138,8 +139,8 @@ fn turned(ahead: Set, later: Set) -> Marks
 
 // The marks after the lowest edge ahead is passed and a set was decided on it: edges below it wait for the next sweep, and it itself is
 // settled.
-fn marked(sides: &[u64; MOST_CANDIDATES], m: Marks, decided: Set) -> Marks
-    requires { ⌜ 0 < size (m .ahead) ⌝ }
+fn marked(sides: &[u64; MOST_CANDIDATES], m: Marks, decided: Wide) -> Marks
+    requires { ⌜ 0 < wides .size (m .ahead) ⌝ }
     ensures { λ r. ⌜ EdgePassed (now (sides .entry)) m decided r ⌝ }
 {
     let ahead = m.ahead;
@@ -150,7 +151,7 @@ fn marked(sides: &[u64; MOST_CANDIDATES], m: Marks, decided: Set) -> Marks
         return turned(after, later);
     }
     let touched = gathered(sides, decided);
-    let below = Set::lowest_of(e);
+    let below = Wide::lowest_of(e);
     turned(
         after.or(touched.minus(below).without(e)),
         later.or(touched.and(below)),
@@ -162,18 +163,18 @@ pub fn settled(
     on: &[u64; MOST_EDGES],
     sides: &[u64; MOST_CANDIDATES],
     s: State,
-    changed: Set,
+    changed: Wide,
 ) -> Swept
     ensures { λ r. ⌜ SweptOut (now (on .entry)) (now (sides .entry)) s changed r ⌝ }
 {
     let mut state = s;
     let mut marks = Marks {
         ahead: changed,
-        later: Set::none(),
+        later: Wide::none(),
     };
     while !marks.ahead.is_empty() {
         let e = marks.ahead.lowest();
-        let passed = state.settled_on(Set::at(on, e));
+        let passed = state.settled_on(Wide::at(on, e));
         let Passed::Stays(change) = passed else {
             return Swept::Broken;
         };
@@ -185,17 +186,17 @@ pub fn settled(
 
 pub struct Opening {
     pub edge: usize,
-    pub free: Set,
+    pub free: Wide,
 }
 
 // The lowest edge from `from` on that has one undecided, and those undecided on it; m and all where there is none.
-pub fn first_open(on: &[u64; MOST_EDGES], m: usize, undecided: Set, from: usize) -> Opening
+pub fn first_open(on: &[u64; MOST_EDGES], m: usize, undecided: Wide, from: usize) -> Opening
     requires { ⌜ From m from ⌝ }
     ensures { λ r. ⌜ Opened (now (on .entry)) m undecided from r ⌝ }
 {
     let mut e = from;
     while e < m {
-        let free = Set::at(on, e).and(undecided);
+        let free = Wide::at(on, e).and(undecided);
         if !free.is_empty() {
             return Opening {
                 edge: e,

@@ -1,4 +1,4 @@
--- Masks in lists of words and six volumes in a list of numbers, for up to 64 candidates and edges; and those that the walk is lent, in one
+-- Masks in lists of sets and six volumes in a list of numbers, for up to 64 candidates and edges; and those that the walk is lent, in one
 -- record.
 use mathlib.Core.Bool.{Bool}
 use mathlib.Core.List.{List, []}
@@ -7,34 +7,34 @@ use Prim.Native.Nat.{ℕ, _*_, _≤_, _<_}
 use lib.IntN.{ℤ, pos}
 use lib.ListN.{length, getD}
 use Rattle.exact.specs.Size.{Within}
-use Rattle.sets.specs.Sets.{room, Is, maskAt}
-use Rattle.paper.specs.Numbers.{farthest}
+use Rattle.sets.specs.Sets.{wides}
+use Rattle.paper.specs.Numbers.{mostCandidates, farthest}
 use Rattle.paper.specs.Solids.{Tables}
 use Rattle.polygon.specs.Sizes.{mostNormal}
 use Rattle.fast_sweeps.specs.Worklist.{edgesWith}
 
--- word i has the digits of mask i
+-- set i has the digits of mask i; there are no more of them than a set has room for
 pub record Masks (words : List ℕ) (masks : List (List Bool)) : Type 0 where
-  pub few : length masks ≤ room
-  pub at : (i : ℕ) → i < length masks → Is (maskAt words i) (getD masks i [])
+  pub few : length masks ≤ wides .room
+  pub at : (i : ℕ) → i < length masks → wides .Is (wides .at words i) (getD masks i [])
 
--- word k has the edges of candidate k: of each of the masks, whether k is in it
+-- set k has the edges of candidate k: of each of the masks, whether k is in it
 pub record Sides (words : List ℕ) (masks : List (List Bool)) : Type 0 where
-  pub few : length masks ≤ room
-  pub at : (k : ℕ) → k < room → Is (maskAt words k) (edgesWith masks k)
+  pub few : length masks ≤ wides .room
+  pub at : (k : ℕ) → k < mostCandidates → wides .Is (wides .at words k) (edgesWith masks k)
 
 -- 72,000,000,000: a candidate's part of six volumes, a corner times its normal
 abbrev pub mostPart : ℕ
 mostPart = 3 * (farthest * mostNormal)
 
 pub record Sixes (numbers zs : List ℤ) : Type 0 where
-  pub few : length zs ≤ room
+  pub few : length zs ≤ mostCandidates
   pub at : (k : ℕ) → k < length zs → getD numbers k (pos 0) ≡ getD zs k (pos 0)
   pub small : (k : ℕ) → Within mostPart (getD zs k (pos 0))
 
 -- each number is small enough that 64 of them can be added
 pub record SmallSixes (sixes : List ℤ) : Type 0 where
-  pub small : (k : ℕ) → k < room → Within mostPart (getD sixes k (pos 0))
+  pub small : (k : ℕ) → k < mostCandidates → Within mostPart (getD sixes k (pos 0))
 
 -- ---- the walk's tables as the code holds them
 

@@ -6,7 +6,7 @@ use borrow.Author.Needs.{needs}
 use borrow.Fn.Kinds.{In}
 use borrow.Fn.PlainCycle.{Measures, is, falls, and}
 use denote.Ref.{now}
-use Rattle.sets.specs.Sets.{size}
+use Rattle.sets.specs.Sets.{wides}
 use Rattle.walk_tables.specs.Words.{WalkTables, walkTables}
 use Rattle.walk_state.specs.Sweeps.{SweptOut}
 use Rattle.walk_state.specs.declared.State.{State}
@@ -27,7 +27,7 @@ use Rattle.walk.proofs.+walk.Tie.{close}
 
 -- how many are undecided in the branch, which is the seventh parameter
 abbrev undecided : Measures 6 kinds.ps ℕ
-undecided κs a = let b = a .1 .1 .1 .1 .1 .1 .0 in size (b .state .undecided)
+undecided κs a = let b = a .1 .1 .1 .1 .1 .1 .0 in wides .size (b .state .undecided)
 
 abbrev at : ℕ → In 6 kinds.ps
 at t = and 6 kinds.ps (is 6 kinds.ps undecided t) walk.Pre
@@ -95,7 +95,8 @@ module _ (t : ℕ) where
   left c = said (settled c) (S.Stands (state c)) (c .swept .given .1)
 
   -- fewer are undecided than at the start
-  falls-to : (c : lts.After-branches (claims t) (at t) walk.Post) (n : ℕ) → suc n ≡ size (state (stands (asked c)) .undecided) → n < t
+  falls-to : (c : lts.After-branches (claims t) (at t) walk.Post) (n : ℕ) → suc n ≡ wides .size (state (stands (asked c)) .undecided)
+      → n < t
   falls-to c n e =
       let w = stands (asked c) in
       omega (arith, left w .fewer, start (settled w) .pre .0, e)
@@ -133,7 +134,7 @@ module _ (t : ℕ) where
       let w = stands e in
       let s = settled w in
       walked-leaf {tables = lent (start s)} (start s .args .limit) (s .before .if1 .left) (left w)
-      (is-none (state w .undecided) (e .is-empty .ensures) (c .before .before .if2 .taken)) (c .kept .ensures)
+      (is-none wides (state w .undecided) (e .is-empty .ensures) (c .before .before .if2 .taken)) (c .kept .ensures)
 
   branches-requires : lts.Need-branches-requires (claims t) (at t) walk.Post
   branches-requires c κs =
@@ -141,7 +142,7 @@ module _ (t : ℕ) where
       let p = start (settled (stands e)) .pre .1 in
       record {
         from-in = record { few = p .judging .few; within = p .within };
-        some = is-some (state (stands e) .undecided) (e .is-empty .ensures) (c .if2 .left);
+        some = is-some wides (state (stands e) .undecided) (e .is-empty .ensures) (c .if2 .left);
       }
 
   assumed-requires : lts.Need-assumed-requires (claims t) (at t) walk.Post
@@ -181,7 +182,7 @@ module _ (t : ℕ) where
       let e = asked b in
       let s = settled (stands e) in
       walked-both {tables = lent (start s)} (s .before .if1 .left) (left (stands e))
-      (is-some (state (stands e) .undecided) (e .is-empty .ensures) (b .before .if2 .left)) (b .branches .ensures)
+      (is-some wides (state (stands e) .undecided) (e .is-empty .ensures) (b .before .if2 .left)) (b .branches .ensures)
       (called w .before .assumed .ensures) (w .walk .ensures) (d .assumed2 .ensures) (c .walk2 .ensures)
 
 pub +walk-spec : {M : Type 1} → statement M

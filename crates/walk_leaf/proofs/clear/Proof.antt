@@ -3,7 +3,7 @@ use borrow.Author.Needs.{needs}
 use borrow.Author.Tests.{not-true, not-false}
 use native.Mathlib.Omega.{arith}
 use Prim.Native.Nat.{_<_}
-use Rattle.sets.specs.Sets.{size}
+use Rattle.sets.specs.Sets.{wides}
 use Rattle.walk_state.proofs.Lowest.{is-none, is-some}
 use Rattle.walk_leaf.proofs.Sums.{Clear, clear-start, clear-not, clear-next, clear-end}
 use Rattle.walk_leaf.proofs.clear.Statement.{statement}
@@ -13,7 +13,7 @@ abbrev Inv-loop : tie.InvT-loop
 Inv-loop clashes taken left₀ left = Clear clashes taken left
 
 abbrev μ-loop : tie.MeasureT-loop
-μ-loop clashes taken left₀ left = size left
+μ-loop clashes taken left₀ left = wides .size left
 
 -- ---- the ways back: from a face's answer to the face, and from there to the loop
 
@@ -24,10 +24,10 @@ abbrev turn : tie.Then1 Inv-loop μ-loop → tie.At-loop Inv-loop μ-loop
 turn c = c .before .before
 
 -- in a turn some are left
-some-left : (c : tie.Then1 Inv-loop μ-loop) → 0 < size (turn c .loop .left)
+some-left : (c : tie.Then1 Inv-loop μ-loop) → 0 < wides .size (turn c .loop .left)
 some-left c =
     let e = c .before .is-empty in
-    is-some (turn c .loop .left) (e .ensures) (not-true (e .result) (c .if1 .taken))
+    is-some wides (turn c .loop .left) (e .ensures) (not-true (e .result) (c .if1 .taken))
 
 -- ---- the needs
 
@@ -48,7 +48,7 @@ returns c =
     let t = turn (l .before) in
     let a = t .before .args in
     clear-not (a .clashes .now) (a .taken) (t .loop .inv) (some-left (l .before)) (l .lowest .ensures) (m .before .at .ensures)
-    (m .and .ensures) (is-some (m .and .result) (q .is-empty2 .ensures) (not-true (q .is-empty2 .result) (c .if2 .taken)))
+    (m .and .ensures) (is-some wides (m .and .result) (q .is-empty2 .ensures) (not-true (q .is-empty2 .result) (c .if2 .taken)))
 
 without-requires : tie.Need-without-requires Inv-loop μ-loop
 without-requires c κs = chosen (c .before) .lowest .ensures .narrow
@@ -64,7 +64,7 @@ loop-again c =
     let t = turn (l .before) in
     let a = t .before .args in
     clear-next (a .clashes .now) (a .taken) (t .loop .inv) (some-left (l .before)) (l .lowest .ensures) (m .before .at .ensures)
-    (m .and .ensures) (is-none (m .and .result) (q .is-empty2 .ensures) (not-false (q .is-empty2 .result) (c .before .if2 .left)))
+    (m .and .ensures) (is-none wides (m .and .result) (q .is-empty2 .ensures) (not-false (q .is-empty2 .result) (c .before .if2 .left)))
     (c .without .ensures)
 
 returns-2 : tie.Need-returns-2 Inv-loop μ-loop
@@ -72,7 +72,8 @@ returns-2 c =
     let e = c .before .is-empty in
     let t = c .before .before in
     let a = t .before .args in
-    clear-end (a .clashes .now) (a .taken) (t .loop .inv) (is-none (t .loop .left) (e .ensures) (not-false (e .result) (c .if1 .left)))
+    clear-end (a .clashes .now) (a .taken) (t .loop .inv)
+    (is-none wides (t .loop .left) (e .ensures) (not-false (e .result) (c .if1 .left)))
 
 pub clear-spec : {M : Type 1} → statement M
 clear-spec =

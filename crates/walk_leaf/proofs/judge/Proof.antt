@@ -3,7 +3,7 @@ use borrow.Author.Needs.{needs}
 use borrow.Author.Tests.{not-true, not-false}
 use mathlib.Core.Path.{_≡_}
 use Prim.Native.Nat.{_<_}
-use Rattle.sets.specs.Sets.{size}
+use Rattle.sets.specs.Sets.{wides}
 use Rattle.walk_tables.specs.Words.{WalkTables, walkTables}
 use Rattle.walk_state.proofs.Lowest.{is-none, is-some}
 use Rattle.walk_leaf.proofs.Judging.{judge-none, judge-apart, judge-ways, judge-clash, judge-weighed}
@@ -29,14 +29,14 @@ abbrev lent : tie.Start → WalkTables
 lent s = let a = s .args in walkTables (a .on .now) (a .up .now) (a .sides .now) (a .clashes .now) (a .sixes .now)
 
 -- some are taken
-some-taken : (c : tie.Else1) → 0 < size (c .before .before .args .taken)
-some-taken c = is-some (c .before .before .args .taken) (c .before .is-empty .ensures) (c .if1 .left)
+some-taken : (c : tie.Else1) → 0 < wides .size (c .before .before .args .taken)
+some-taken c = is-some wides (c .before .before .args .taken) (c .before .is-empty .ensures) (c .if1 .left)
 
 -- all are reached
-none-far : (c : tie.Else2) → size (c .before .before .minus .result) ≡ 0
+none-far : (c : tie.Else2) → wides .size (c .before .before .minus .result) ≡ 0
 none-far c =
     let q = c .before in
-    is-none (q .before .minus .result) (q .is-empty2 .ensures) (not-false (q .is-empty2 .result) (c .if2 .left))
+    is-none wides (q .before .minus .result) (q .is-empty2 .ensures) (not-false (q .is-empty2 .result) (c .if2 .left))
 
 -- ---- the needs
 
@@ -44,7 +44,7 @@ returns : tie.Need-returns
 returns c =
     let s = c .before .before in
     let a = s .args in
-    judge-none (lent s) (a .m) (a .taken) (is-none (a .taken) (c .before .is-empty .ensures) (c .if1 .taken))
+    judge-none (lent s) (a .m) (a .taken) (is-none wides (a .taken) (c .before .is-empty .ensures) (c .if1 .taken))
 
 lowest-requires : tie.Need-lowest-requires
 lowest-requires c κs = some-taken c
@@ -61,7 +61,7 @@ returns-2 c =
     let m = q .before .minus in
     judge-apart (lent s) (a .m) (a .taken)
     (some-taken (r .before .before)) (r .before .lowest .ensures) (r .from-face .ensures) (m .ensures)
-    (is-some (m .result) (q .is-empty2 .ensures) (not-true (q .is-empty2 .result) (c .if2 .taken)))
+    (is-some wides (m .result) (q .is-empty2 .ensures) (not-true (q .is-empty2 .result) (c .if2 .taken)))
 
 returns-3 : tie.Need-returns-3
 returns-3 c =
@@ -71,7 +71,8 @@ returns-3 c =
     let s = start r in
     let a = s .args in
     judge-ways (lent s) (a .m) (a .taken)
-    (some-taken (r .before .before)) (r .before .lowest .ensures) (r .from-face .ensures) (q .before .minus .ensures) (none-far (o .before)) (o .oriented .ensures)
+    (some-taken (r .before .before)) (r .before .lowest .ensures) (r .from-face .ensures) (q .before .minus .ensures)
+    (none-far (o .before)) (o .oriented .ensures)
     (not-true (o .oriented .result) (c .if3 .taken))
 
 returns-4 : tie.Need-returns-4
@@ -83,7 +84,8 @@ returns-4 c =
     let s = start r in
     let a = s .args in
     judge-clash (lent s) (a .m) (a .taken)
-    (some-taken (r .before .before)) (r .before .lowest .ensures) (r .from-face .ensures) (q .before .minus .ensures) (none-far (o .before)) (o .oriented .ensures)
+    (some-taken (r .before .before)) (r .before .lowest .ensures) (r .from-face .ensures) (q .before .minus .ensures)
+    (none-far (o .before)) (o .oriented .ensures)
     (not-false (o .oriented .result) (k .before .if3 .left)) (k .clear .ensures) (not-true (k .clear .result) (c .if4 .taken))
 
 returns-5 : tie.Need-returns-5
@@ -95,7 +97,8 @@ returns-5 c =
     let s = start r in
     let a = s .args in
     judge-weighed (lent s) (a .m) (a .taken)
-    (some-taken (r .before .before)) (r .before .lowest .ensures) (r .from-face .ensures) (q .before .minus .ensures) (none-far (o .before)) (o .oriented .ensures)
+    (some-taken (r .before .before)) (r .before .lowest .ensures) (r .from-face .ensures) (q .before .minus .ensures)
+    (none-far (o .before)) (o .oriented .ensures)
     (not-false (o .oriented .result) (k .before .if3 .left)) (k .clear .ensures) (not-false (k .clear .result) (c .before .if4 .left))
     (c .weighed .result) (c .weighed .ensures)
 

@@ -11,13 +11,13 @@ use Rattle.exact.proofs.Machine.{Env, _▸_, asked, done, lit, lt-left, lt-take
 use Rattle.exact.proofs.Ring.{neg, var}
 use Rattle.exact.proofs.Signs.{<ℤ-≤ℤ, ≤ℤ-antisym}
 use Rattle.exact.proofs.Size.{within-neg}
-use Rattle.sets.specs.Sets.{room}
+use Rattle.paper.specs.Numbers.{mostCandidates}
 use Rattle.walk_tables.specs.Words.{mostPart}
 use Rattle.walk_leaf.proofs.Volumes.{turned-above, volume-above, volume-below, volume-none}
 use Rattle.walk_leaf.proofs.weighed.Statement.{statement}
 use Rattle.walk_leaf.proofs.weighed.Tie as tie
 
-env : (c : tie.After-weight) → Env (room * mostPart ∷ []) (ofZ w64 (c .weight .result) ∷ []) (c .weight .result ∷ [])
+env : (c : tie.After-weight) → Env (mostCandidates * mostPart ∷ []) (ofZ w64 (c .weight .result) ∷ []) (c .weight .result ∷ [])
 env c = c .weight .ensures .small ▸ done
 
 -- ---- what the tests say

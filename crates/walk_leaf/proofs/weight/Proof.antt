@@ -9,8 +9,10 @@ use mir.Syntax.{w64}
 use mir.Val.{ofZ}
 use Rattle.exact.proofs.Machine.{Env, _▸_, asked, done, held, raw, reads}
 use Rattle.exact.proofs.Ring.{_⊕_, var}
-use Rattle.sets.specs.Sets.{room, size}
-use Rattle.sets.proofs.Sets.{counted}
+use Rattle.sets.specs.Sets.{wides}
+use Rattle.sets.proofs.Laws.{fits-room}
+use Rattle.sets.proofs.Sets.{wides-laws}
+use Rattle.paper.specs.Numbers.{mostCandidates}
 use Rattle.walk_tables.specs.Words.{mostPart}
 use Rattle.walk_state.proofs.Lowest.{is-none, is-some}
 use Rattle.walk_leaf.proofs.Sums.{Weighing, weighing-start, weighing-next, weighing-end, all-small}
@@ -21,7 +23,7 @@ abbrev Inv-loop : tie.InvT-loop
 Inv-loop sixes turned sum₀ left₀ sum left = Weighing sixes left₀ turned sum left
 
 abbrev μ-loop : tie.MeasureT-loop
-μ-loop sixes turned sum₀ left₀ sum left = size left
+μ-loop sixes turned sum₀ left₀ sum left = wides .size left
 
 -- ---- the ways back: from a face's part to the face, and from there to the loop
 
@@ -32,14 +34,14 @@ abbrev turn : tie.Then1 Inv-loop μ-loop → tie.At-loop Inv-loop μ-loop
 turn c = c .before .before
 
 -- in a turn some are left
-some-left : (c : tie.Then1 Inv-loop μ-loop) → 0 < size (turn c .loop .left)
+some-left : (c : tie.Then1 Inv-loop μ-loop) → 0 < wides .size (turn c .loop .left)
 some-left c =
     let e = c .before .is-empty in
-    is-some (turn c .loop .left) (e .ensures) (not-true (e .result) (c .if1 .taken))
+    is-some wides (turn c .loop .left) (e .ensures) (not-true (e .result) (c .if1 .taken))
 
 env : (c : tie.After-part Inv-loop μ-loop)
     → let t = turn (chosen c .before) .loop in
-    Env (room * mostPart ∷ mostPart ∷ []) (t .sum ∷ ofZ w64 (c .part .result) ∷ []) (t .inv .done ∷ c .part .result ∷ [])
+    Env (mostCandidates * mostPart ∷ mostPart ∷ []) (t .sum ∷ ofZ w64 (c .part .result) ∷ []) (t .inv .done ∷ c .part .result ∷ [])
 env c =
     let t = turn (chosen c .before) in
     let a = t .before .args in
@@ -50,7 +52,7 @@ env c =
 loop-holds : tie.Need-loop-holds Inv-loop μ-loop
 loop-holds c =
     let a = c .args in
-    weighing-start (a .sixes .now) (a .taken) (a .turned) (counted (a .taken) (omega arith) .under) refl
+    weighing-start (a .sixes .now) (a .taken) (a .turned) (fits-room wides-laws (a .taken) (omega arith)) refl
 
 lowest-requires : tie.Need-lowest-requires Inv-loop μ-loop
 lowest-requires c κs = some-left c
@@ -85,7 +87,8 @@ returns c =
     let t = c .before .before in
     let a = t .before .args in
     let w = t .loop .inv in
-    weighing-end (a .sixes .now) (a .taken) (a .turned) w (is-none (t .loop .left) (e .ensures) (not-false (e .result) (c .if1 .left)))
+    weighing-end (a .sixes .now) (a .taken) (a .turned) w
+    (is-none wides (t .loop .left) (e .ensures) (not-false (e .result) (c .if1 .left)))
     (reads (raw (w .sum-is) (all-small (a .sixes .now) (a .taken) (a .turned) w) done) (var 0) tt)
 
 pub weight-spec : {M : Type 1} → statement M

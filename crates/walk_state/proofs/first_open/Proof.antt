@@ -4,6 +4,7 @@ use borrow.Author.Tests.{not-true, not-false}
 use mathlib.Core.Path.{refl}
 use native.Mathlib.Omega.{arith}
 use Prim.Native.Nat.{_-_, _≤_}
+use Rattle.sets.specs.Sets.{wides}
 use Rattle.walk_state.proofs.Lowest.{is-none, is-some}
 use Rattle.walk_state.proofs.Choosing.{Looking, open-found, open-next, open-last}
 use Rattle.walk_state.proofs.first_open.Statement.{statement}
@@ -35,7 +36,7 @@ returns c =
     let a = t .before .args in
     let e = c .before .is-empty in
     open-found (a .on .now) (a .m) (a .undecided) (a .from) (t .loop .e) (t .loop .inv .1) (omega arith) (f .before .at .ensures)
-    (f .and .ensures) (is-some (f .and .result) (e .ensures) (not-true (e .result) (c .if1 .taken)))
+    (f .and .ensures) (is-some wides (f .and .result) (e .ensures) (not-true (e .result) (c .if1 .taken)))
 
 add-e : tie.Need-add-e Inv-loop μ-loop
 add-e c = let p = turn (c .before .before) .before .pre in omega (arith, p)
@@ -46,7 +47,7 @@ loop-again c =
     let t = turn f in
     let a = t .before .args in
     let e = c .before .is-empty in
-    let z = is-none (f .and .result) (e .ensures) (not-false (e .result) (c .if1 .left)) in (
+    let z = is-none wides (f .and .result) (e .ensures) (not-false (e .result) (c .if1 .left)) in (
       omega arith,
       open-next (a .on .now) (a .m) (a .undecided) (a .from) (t .loop .e) (t .loop .inv .1) (omega arith)
           (f .before .at .ensures) (f .and .ensures) z,

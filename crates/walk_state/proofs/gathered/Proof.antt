@@ -4,8 +4,8 @@ use borrow.Author.Needs.{needs}
 use borrow.Author.Tests.{not-true, not-false}
 use native.Mathlib.Omega.{arith}
 use Prim.Native.Nat.{_<_}
-use Rattle.sets.specs.Sets.{size}
-use Rattle.sets.proofs.Sets.{rest-drops}
+use Rattle.sets.specs.Sets.{wides}
+use Rattle.sets.proofs.Laws.{rest-drops}
 use Rattle.walk_state.proofs.Lowest.{is-none, is-some}
 use Rattle.walk_state.proofs.Gathering.{Gathering, gathering-start, gathering-more, gathering-end}
 use Rattle.walk_state.proofs.gathered.Statement.{statement}
@@ -15,7 +15,7 @@ abbrev Inv-loop : tie.InvT-loop
 Inv-loop sides all₀ left₀ all left = Gathering sides left₀ all left
 
 abbrev μ-loop : tie.MeasureT-loop
-μ-loop sides all₀ left₀ all left = size left
+μ-loop sides all₀ left₀ all left = wides .size left
 
 -- ---- the ways back: from the end of a turn to its candidate, from there to the loop, and from the loop to the start
 
@@ -29,10 +29,10 @@ abbrev start : tie.At-loop Inv-loop μ-loop → tie.Start Inv-loop μ-loop
 start c = c .before .before
 
 -- in a turn some are left
-some-left : (c : tie.Then1 Inv-loop μ-loop) → 0 < size (turn c .loop .left)
+some-left : (c : tie.Then1 Inv-loop μ-loop) → 0 < wides .size (turn c .loop .left)
 some-left c =
     let e = c .before .is-empty in
-    is-some (turn c .loop .left) (e .ensures) (not-true (e .result) (c .if1 .taken))
+    is-some wides (turn c .loop .left) (e .ensures) (not-true (e .result) (c .if1 .taken))
 
 -- ---- the needs
 
@@ -64,7 +64,8 @@ returns c =
     let e = c .before .is-empty in
     let t = c .before .before in
     let a = start t .args in
-    gathering-end (a .sides .now) (a .set) (t .loop .inv) (is-none (t .loop .left) (e .ensures) (not-false (e .result) (c .if1 .left)))
+    gathering-end (a .sides .now) (a .set) (t .loop .inv)
+    (is-none wides (t .loop .left) (e .ensures) (not-false (e .result) (c .if1 .left)))
 
 pub gathered-spec : {M : Type 1} → statement M
 gathered-spec =

@@ -1,9 +1,9 @@
 -- `walk_state::marked`: the edge passed is the lowest ahead, so that all below it are the e lowest.
 use borrow.Author.Needs.{needs}
 use native.Mathlib.Omega.{arith}
-use Prim.Native.Nat.{_^_, _<_}
-use Rattle.sets.specs.Sets.{room}
-use Rattle.sets.proofs.Sets.{rest-drops}
+use Rattle.sets.specs.Sets.{wides}
+use Rattle.sets.proofs.Laws.{rest-drops}
+use Rattle.sets.proofs.Sets.{wides-laws}
 use Rattle.walk_state.proofs.Lowest.{is-none, is-some}
 use Rattle.walk_state.proofs.Marking.{marked-none, marked-some}
 use Rattle.walk_state.proofs.marked.Statement.{statement}
@@ -21,16 +21,16 @@ abbrev start : tie.After-lowest → tie.Start
 start c = c .before .before .before
 
 -- all are words
-ahead-fits : (c : tie.Start) → c .args .m .ahead .word < 2 ^ room
+ahead-fits : (c : tie.Start) → wides-laws .Fits (c .args .m .ahead)
 ahead-fits c = omega arith
 
-later-fits : (c : tie.Start) → c .args .m .later .word < 2 ^ room
+later-fits : (c : tie.Start) → wides-laws .Fits (c .args .m .later)
 later-fits c = omega arith
 
-next-ahead-fits : (c : tie.After-or) → c .or .result .word < 2 ^ room
+next-ahead-fits : (c : tie.After-or) → wides-laws .Fits (c .or .result)
 next-ahead-fits c = omega arith
 
-next-later-fits : (c : tie.After-or2) → c .or2 .result .word < 2 ^ room
+next-later-fits : (c : tie.After-or2) → wides-laws .Fits (c .or2 .result)
 next-later-fits c = omega arith
 
 -- ---- the needs
@@ -42,7 +42,7 @@ returns c =
     let a = s .args in
     let e = low q .lowest .ensures in
     marked-none (a .sides .now) (a .m) (s .pre) e (rest-drops e (q .before .rest .ensures)) (ahead-fits s) (later-fits s) (a .decided)
-    (is-none (a .decided) (q .is-empty .ensures) (c .before .if1 .taken)) (c .turned .ensures)
+    (is-none wides (a .decided) (q .is-empty .ensures) (c .before .if1 .taken)) (c .turned .ensures)
 
 returns-2 : tie.Need-returns-2
 returns-2 c =
@@ -55,7 +55,8 @@ returns-2 c =
     let a = s .args in
     let e = low q .lowest .ensures in
     marked-some (a .sides .now) (a .m) (s .pre) e (rest-drops e (q .before .rest .ensures)) (a .decided)
-    (is-some (a .decided) (q .is-empty .ensures) (g .before .if1 .left)) (g .gathered .ensures) (w .before .before .lowest-of .ensures)
+    (is-some wides (a .decided) (q .is-empty .ensures) (g .before .if1 .left)) (g .gathered .ensures)
+    (w .before .before .lowest-of .ensures)
     (w .before .minus .ensures) (w .without .ensures) (o .or .ensures) (l .before .and .ensures) (l .or2 .ensures)
     (next-ahead-fits o) (next-later-fits l) (c .turned2 .ensures)
 

@@ -5,7 +5,7 @@ use borrow.Author.Tests.{not-true, not-false}
 use mathlib.Core.Path.{subst}
 use native.Mathlib.Omega.{arith}
 use Prim.Native.Nat.{_<_}
-use Rattle.sets.specs.Sets.{size}
+use Rattle.sets.specs.Sets.{wides}
 use Rattle.walk_state.specs.State.{SettledOn}
 use Rattle.walk_state.proofs.Lowest.{is-none, is-some}
 use Rattle.walk_state.proofs.Sweeping.{Sweeping, togo, sweeping-start, sweeping-end, sweeping-broken, sweeping-less, sweeping-more}
@@ -33,10 +33,10 @@ abbrev start : tie.At-loop Inv-loop μ-loop → tie.Start Inv-loop μ-loop
 start c = c .before .before
 
 -- in a turn an edge is ahead
-some-ahead : (c : tie.Then1 Inv-loop μ-loop) → 0 < size (turn c .loop .marks .ahead)
+some-ahead : (c : tie.Then1 Inv-loop μ-loop) → 0 < wides .size (turn c .loop .marks .ahead)
 some-ahead c =
     let e = c .before .is-empty in
-    is-some (turn c .loop .marks .ahead) (e .ensures) (not-true (e .result) (c .if1 .taken))
+    is-some wides (turn c .loop .marks .ahead) (e .ensures) (not-true (e .result) (c .if1 .taken))
 
 -- ---- the needs
 
@@ -87,7 +87,7 @@ returns-2 c =
     let e = c .before .is-empty in
     let t = c .before .before in
     let a = start t .args in
-    let z = is-none (t .loop .marks .ahead) (e .ensures) (not-false (e .result) (c .if1 .left)) in
+    let z = is-none wides (t .loop .marks .ahead) (e .ensures) (not-false (e .result) (c .if1 .left)) in
     sweeping-end (a .on .now) (a .sides .now) (a .s) (a .changed) (t .loop .inv) z
 
 pub settled-spec : {M : Type 1} → statement M

@@ -4,8 +4,9 @@ use borrow.Author.Needs.{needs}
 use borrow.Author.Tests.{not-true, not-false}
 use native.Mathlib.Omega.{arith}
 use Prim.Native.Nat.{_<_}
-use Rattle.sets.specs.Sets.{size}
-use Rattle.sets.proofs.Sets.{counted}
+use Rattle.sets.specs.Sets.{wides}
+use Rattle.sets.proofs.Laws.{fits-room}
+use Rattle.sets.proofs.Sets.{wides-laws}
 use Rattle.walk_state.proofs.Lowest.{is-none, is-some}
 use Rattle.walk_leaf.proofs.Rounds.{Around, around-start, around-next, around-end}
 use Rattle.walk_leaf.proofs.faces.around_face.Statement.{statement}
@@ -15,7 +16,7 @@ abbrev Inv-loop : tie.InvT-loop
 Inv-loop on up taken f going₀ left₀ going left = Around on up taken f going₀ left₀ going left
 
 abbrev μ-loop : tie.MeasureT-loop
-μ-loop on up taken f going₀ left₀ going left = size left
+μ-loop on up taken f going₀ left₀ going left = wides .size left
 
 -- ---- the ways back: from the end of a turn to its edge, from there to the loop
 
@@ -26,17 +27,17 @@ abbrev turn : tie.Then1 Inv-loop μ-loop → tie.At-loop Inv-loop μ-loop
 turn c = c .before .before
 
 -- in a turn some are left
-some-left : (c : tie.Then1 Inv-loop μ-loop) → 0 < size (turn c .loop .left)
+some-left : (c : tie.Then1 Inv-loop μ-loop) → 0 < wides .size (turn c .loop .left)
 some-left c =
     let e = c .before .is-empty in
-    is-some (turn c .loop .left) (e .ensures) (not-true (e .result) (c .if1 .taken))
+    is-some wides (turn c .loop .left) (e .ensures) (not-true (e .result) (c .if1 .taken))
 
 -- ---- the needs
 
 loop-holds : tie.Need-loop-holds Inv-loop μ-loop
 loop-holds c =
     let a = c .args in
-    around-start (a .on .now) (a .up .now) (a .taken) (a .f) (a .g) (a .edges) (counted (a .g .reached) (omega arith) .under)
+    around-start (a .on .now) (a .up .now) (a .taken) (a .f) (a .g) (a .edges) (fits-room wides-laws (a .g .reached) (omega arith))
 
 lowest-requires : tie.Need-lowest-requires Inv-loop μ-loop
 lowest-requires c κs = some-left c
@@ -71,7 +72,7 @@ returns c =
     let t = c .before .before in
     let a = t .before .args in
     around-end (a .on .now) (a .up .now) (a .taken) (a .f) (a .g) (a .edges) (t .loop .inv)
-    (is-none (t .loop .left) (e .ensures) (not-false (e .result) (c .if1 .left)))
+    (is-none wides (t .loop .left) (e .ensures) (not-false (e .result) (c .if1 .left)))
 
 pub around-face-spec : {M : Type 1} → statement M
 around-face-spec =

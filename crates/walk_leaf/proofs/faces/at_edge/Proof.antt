@@ -2,8 +2,8 @@
 use borrow.Author.Needs.{needs}
 use borrow.Author.Tests.{not-true, not-false}
 use native.Mathlib.Omega.{arith}
-use Prim.Native.Nat.{_^_, _<_}
-use Rattle.sets.specs.Sets.{room}
+use Rattle.sets.specs.Sets.{wides}
+use Rattle.sets.proofs.Sets.{wides-laws}
 use Rattle.walk_state.proofs.Lowest.{is-none, is-some}
 use Rattle.walk_leaf.proofs.Steps.{edge-stays, edge-goes}
 use Rattle.walk_leaf.proofs.faces.at_edge.Statement.{statement}
@@ -18,16 +18,16 @@ abbrev start : tie.After-is-empty → tie.Start
 start c = c .before .before .before .before .before .before .before
 
 -- all are words
-mask-fits : (c : tie.Start) → c .args .mask .word < 2 ^ room
+mask-fits : (c : tie.Start) → wides-laws .Fits (c .args .mask)
 mask-fits c = omega arith
 
-taken-fits : (c : tie.Start) → c .args .taken .word < 2 ^ room
+taken-fits : (c : tie.Start) → wides-laws .Fits (c .args .taken)
 taken-fits c = omega arith
 
-reached-fits : (c : tie.Start) → c .args .g .reached .word < 2 ^ room
+reached-fits : (c : tie.Start) → wides-laws .Fits (c .args .g .reached)
 reached-fits c = omega arith
 
-waiting-fits : (c : tie.Start) → c .args .g .waiting .word < 2 ^ room
+waiting-fits : (c : tie.Start) → wides-laws .Fits (c .args .g .waiting)
 waiting-fits c = omega arith
 
 -- ---- the needs
@@ -39,7 +39,7 @@ returns c =
     let s = start q in
     let a = s .args in
     edge-stays (a .mask) (a .up) (a .taken) (a .f) (a .g) (m .before .before .and .ensures) (m .before .without .ensures) (m .and2 .ensures)
-    (reached-fits s) (is-some (m .and2 .result) (q .is-empty .ensures) (not-true (q .is-empty .result) (c .if1 .taken)))
+    (reached-fits s) (is-some wides (m .and2 .result) (q .is-empty .ensures) (not-true (q .is-empty .result) (c .if1 .taken)))
 
 returns-2 : tie.Need-returns-2
 returns-2 c =
@@ -47,7 +47,8 @@ returns-2 c =
     let m = q .before in
     let s = start q in
     let a = s .args in
-    let z = is-none (m .and2 .result) (q .is-empty .ensures) (not-false (q .is-empty .result) (c .before .before .before .if1 .left)) in
+    let z = is-none wides (m .and2 .result) (q .is-empty .ensures)
+    (not-false (q .is-empty .result) (c .before .before .before .if1 .left)) in
     edge-goes (a .mask) (a .up) (a .taken) (a .f) (a .g) (m .before .before .and .ensures) (m .before .without .ensures) (m .and2 .ensures)
     z (c .before .before .or .ensures) (c .before .or2 .ensures) (c .turned-at .ensures)
     (mask-fits s) (taken-fits s) (reached-fits s) (waiting-fits s)

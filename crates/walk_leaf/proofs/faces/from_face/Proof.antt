@@ -4,7 +4,7 @@ use borrow.Author.Needs.{needs}
 use borrow.Author.Tests.{not-true, not-false}
 use native.Mathlib.Omega.{arith}
 use Prim.Native.Nat.{_<_}
-use Rattle.sets.specs.Sets.{size}
+use Rattle.sets.specs.Sets.{wides}
 use Rattle.walk_state.proofs.Lowest.{is-none, is-some}
 use Rattle.walk_leaf.proofs.Rounds.{Rounds, togo, rounds-start, rounds-less, rounds-next, rounds-end}
 use Rattle.walk_leaf.proofs.faces.from_face.Statement.{statement}
@@ -28,10 +28,10 @@ abbrev start : tie.At-loop Inv-loop μ-loop → tie.Start Inv-loop μ-loop
 start c = c .before .before .before
 
 -- in a turn some wait
-some-wait : (c : tie.Then1 Inv-loop μ-loop) → 0 < size (turn c .loop .going .waiting)
+some-wait : (c : tie.Then1 Inv-loop μ-loop) → 0 < wides .size (turn c .loop .going .waiting)
 some-wait c =
     let e = c .before .is-empty in
-    is-some (turn c .loop .going .waiting) (e .ensures) (not-true (e .result) (c .if1 .taken))
+    is-some wides (turn c .loop .going .waiting) (e .ensures) (not-true (e .result) (c .if1 .taken))
 
 -- ---- the needs
 
@@ -79,7 +79,7 @@ returns c =
     let t = c .before .before in
     let a = start t .args in
     rounds-end (a .on .now) (a .up .now) (a .sides .now) (a .taken) (a .k) (t .loop .inv)
-    (is-none (t .loop .going .waiting) (e .ensures) (not-false (e .result) (c .if1 .left)))
+    (is-none wides (t .loop .going .waiting) (e .ensures) (not-false (e .result) (c .if1 .left)))
 
 pub from-face-spec : {M : Type 1} → statement M
 from-face-spec =

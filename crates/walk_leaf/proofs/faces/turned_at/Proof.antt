@@ -1,7 +1,7 @@
 -- `walk_leaf::faces::turned_at`: face f and the others run the edge in unlike ways just where one of the two sets is empty.
 use borrow.Author.Needs.{needs}
 use mathlib.Core.Bool.{xor}
-use Rattle.walk_leaf.proofs.Steps.{turned-stays, turned-more}
+use Rattle.walk_leaf.proofs.Steps.{runs-unlike, turned-stays, turned-more}
 use Rattle.walk_leaf.proofs.faces.turned_at.Statement.{statement}
 use Rattle.walk_leaf.proofs.faces.turned_at.Tie as tie
 
@@ -22,7 +22,8 @@ returns c =
     let l = asked h in
     let j = l .before .before in
     let a = start l .args in
-    turned-stays (a .up) (a .turned) (a .f) (a .other) (j .before .unlike .ensures) (j .just .ensures) (l .before .and .ensures)
+    turned-stays (a .up) (a .turned) (a .f) (a .other) (runs-unlike (j .before .unlike .ensures)) (j .just .ensures)
+    (l .before .and .ensures)
     (h .before .and2 .ensures) (l .is-empty .ensures) (h .is-empty2 .ensures) (c .if1 .taken)
 
 returns-2 : tie.Need-returns-2
@@ -32,7 +33,8 @@ returns-2 c =
     let l = asked h in
     let j = l .before .before in
     let a = start l .args in
-    turned-more (a .up) (a .turned) (a .f) (a .other) (j .before .unlike .ensures) (j .just .ensures) (l .before .and .ensures)
+    turned-more (a .up) (a .turned) (a .f) (a .other) (runs-unlike (j .before .unlike .ensures)) (j .just .ensures)
+    (l .before .and .ensures)
     (h .before .and2 .ensures) (l .is-empty .ensures) (h .is-empty2 .ensures) (c .before .if1 .left) (c .or .ensures)
 
 pub turned-at-spec : {M : Type 1} → statement M

@@ -2,9 +2,9 @@
 -- or 1, L from as many as are missing to 2; each way through them is one of the laws.
 use borrow.Author.Needs.{needs}
 use mathlib.Core.Path.{_≡_}
-use Prim.Native.Nat.{_^_, _<_}
 use native.Mathlib.Omega.{arith}
-use Rattle.sets.specs.Sets.{room, size}
+use Rattle.sets.specs.Sets.{wides}
+use Rattle.sets.proofs.Sets.{wides-laws}
 use Rattle.walk_state.proofs.Settling.{edge-many, edge-few, edge-two, edge-exactly, edge-more}
 use Rattle.walk_state.proofs.State.settled_on.Statement.{statement}
 use Rattle.walk_state.proofs.State.settled_on.Tie as tie
@@ -34,17 +34,17 @@ abbrev start : tie.After-count → tie.Start
 start c = c .before .before .before .before
 
 -- both are words
-mask-fits : (c : tie.Start) → c .args .mask .word < 2 ^ room
+mask-fits : (c : tie.Start) → wides-laws .Fits (c .args .mask)
 mask-fits c = omega arith
 
-undecided-fits : (c : tie.Start) → c .args .self .undecided .word < 2 ^ room
+undecided-fits : (c : tie.Start) → wides-laws .Fits (c .args .self .undecided)
 undecided-fits c = omega arith
 
 -- M is 0, M is 1
-is-none : (c : tie.After-count4) → size (none c .before .before .and .result) ≡ 0
+is-none : (c : tie.After-count4) → wides .size (none c .before .before .and .result) ≡ 0
 is-none c = omega arith
 
-is-one : (c : tie.After-count6) → size (one c .before .before .and .result) ≡ 1
+is-one : (c : tie.After-count6) → wides .size (one c .before .before .and .result) ≡ 1
 is-one c = omega arith
 
 -- ---- the needs

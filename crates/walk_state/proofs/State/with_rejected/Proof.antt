@@ -1,11 +1,12 @@
 -- `walk_state::State::with_rejected`: the candidate leaves the undecided, and those taken stay.
 use native.Mathlib.Omega.{arith}
+use Rattle.sets.proofs.Sets.{wides-laws}
 use Rattle.walk_state.proofs.Deciding.{narrow, rejected-is}
 use Rattle.walk_state.proofs.State.with_rejected.Statement.{statement}
 use Rattle.walk_state.proofs.State.with_rejected.Tie as tie
 
 without-requires : tie.Need-without-requires
-without-requires c κs = let s = c .before in narrow (s .args .k) (omega arith) (s .pre)
+without-requires c κs = let s = c .before in narrow wides-laws (s .args .k) (omega arith) (s .pre)
 
 returns : tie.Need-returns
 returns c =

@@ -1,14 +1,15 @@
 -- `walk_state::State::with_taken`: the candidate goes from one set to the other. It is below 64, since it is in a set.
 use native.Mathlib.Omega.{arith}
+use Rattle.sets.proofs.Sets.{wides-laws}
 use Rattle.walk_state.proofs.Deciding.{narrow, taken-is}
 use Rattle.walk_state.proofs.State.with_taken.Statement.{statement}
 use Rattle.walk_state.proofs.State.with_taken.Tie as tie
 
 with-requires : tie.Need-with-requires
-with-requires c κs = narrow (c .args .k) (omega arith) (c .pre)
+with-requires c κs = narrow wides-laws (c .args .k) (omega arith) (c .pre)
 
 without-requires : tie.Need-without-requires
-without-requires c κs = let s = c .before in narrow (s .args .k) (omega arith) (s .pre)
+without-requires c κs = let s = c .before in narrow wides-laws (s .args .k) (omega arith) (s .pre)
 
 returns : tie.Need-returns
 returns c =
