@@ -2,13 +2,12 @@
 use mathlib.Core.Path.{_≡_, refl, sym, ap, _∙_}
 use mathlib.Core.Bool.{Bool, true, false, not, _||_, _&&_, true≢false, or-assoc, and-true}
 use mathlib.Core.List.{List, [], _∷_, map}
-use Prim.Native.Nat.{ℕ, _*_, _%_, _^_, _≤_, _<_}
+use Prim.Native.Nat.{ℕ, _≤_, _<_}
 use native.Mathlib.Decide.{decLt}
 use native.Mathlib.Omega.{arith}
 use borrow.Author.Tests.{eq-eqb, ne-eqb}
-use lib.Bits.{bitOr}
 use lib.Dec.{eqb}
-use lib.ListN.{length, getD, set, replicate, length-map, length-set, length-replicate, getD-replicate, List·getD-eq-default}
+use lib.ListN.{length, getD, replicate, length-map, length-replicate, getD-replicate, List·getD-eq-default}
 use lib.Seq.{ext-getD}
 use Rattle.lists.specs.Lists.{any, upto}
 use Rattle.lists.proofs.Truth.{or-none}
@@ -17,9 +16,9 @@ use Rattle.paper.specs.Numbers.{mostVertices}
 use Rattle.paper.specs.Drawing.{Wire, Edge, edge, edgesOf, ends, joins, joined}
 use Rattle.paper_laws.specs.InRange.{Ends}
 use Rattle.sets.specs.Word.{digit}
+use Rattle.sets.specs.Sets.{MarkedAt}
 use Rattle.drawing_links.specs.Neighbours.{neighbourWord, neighbourWords, Links}
-use Rattle.sets.proofs.Word.{one-shl}
-use Rattle.sets.proofs.Numbers.{digit-zero, digit-word, by-digits, none-digits, digit-power, digit-stored}
+use Rattle.sets.proofs.Numbers.{digit-zero, digit-word, by-digits, none-digits}
 use Rattle.drawing_links.proofs.Edges.{unknown}
 
 -- ---- the words by their digits
@@ -87,24 +86,12 @@ no-marks n u w = go (decLt u n)
         let past : getD none u 0 ≡ 0 = List·getD-eq-default none 0 (omega (arith, length-replicate {A = ℕ} n 0)) in
         ap (λ (m : ℕ). digit m w) past ∙ digit-zero w
 
--- `l[a] = l[a] | 1 << b`
-abbrev pub mark : List ℕ → ℕ → ℕ → List ℕ
-mark l a b = set l a (bitOr (getD l a 0) ((1 * 2 ^ b) % 2 ^ 64))
-
-mark-digit : (l : List ℕ) (a b u w : ℕ) → a < length l → b < 64
-    → digit (getD (mark l a b) u 0) w ≡ digit (getD l u 0) w || eqb u a && eqb w b
-mark-digit l a b u w h k =
-    ap (λ (m : ℕ). digit (getD (set l a (bitOr (getD l a 0) m)) u 0) w) (one-shl 64 b k) ∙ digit-stored l a (2 ^ b) u w h
-    ∙ ap (λ (t : Bool). digit (getD l u 0) w || eqb u a && t) (digit-power b w)
-
 -- both marks of an edge
-pub marked : (l : List ℕ) (a b u w : ℕ) → a < length l → b < length l → length l ≤ 64
-    → digit (getD (mark (mark l a b) b a) u 0) w ≡ digit (getD l u 0) w || joins u w (edge a b)
+pub marked : (l l′ l″ : List ℕ) (a b u w : ℕ) → MarkedAt l a b l′ → MarkedAt l′ b a l″
+    → digit (getD l″ u 0) w ≡ digit (getD l u 0) w || joins u w (edge a b)
 unfolding joins
-marked l a b u w h k n =
-    let m = length-set l a (bitOr (getD l a 0) ((1 * 2 ^ b) % 2 ^ 64)) in
-    mark-digit (mark l a b) b a u w (omega (arith, m)) (omega arith)
-    ∙ ap (λ (t : Bool). t || eqb u b && eqb w a) (mark-digit l a b u w h (omega arith))
+marked l l′ l″ a b u w m n =
+    n u w ∙ ap (λ (t : Bool). t || eqb u b && eqb w a) (m u w)
     ∙ or-assoc (digit (getD l u 0) w) (eqb u a && eqb w b) (eqb u b && eqb w a)
 
 -- ---- a word is zero where the vertex is on no edge

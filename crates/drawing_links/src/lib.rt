@@ -15,6 +15,7 @@ use paper::Answer;
 use paper::LOOSE_VERTEX;
 use paper::MOST_VERTICES;
 use paper_values::refused;
+use sets::Set;
 use sets::is_set;
 
 // One word for each vertex: bit w of word u says whether an edge joins u and w.
@@ -28,8 +29,8 @@ pub fn neighbours(ends: &[u8], v: usize) -> [u64; MOST_VERTICES]
     while e < n {
         let a = wide(ends[2 * e]);
         let b = wide(ends[2 * e + 1]);
-        near[a] = near[a] | 1u64 << b;
-        near[b] = near[b] | 1u64 << a;
+        Set::mark(&mut near, a, b);
+        Set::mark(&mut near, b, a);
         e += 1;
     }
     near

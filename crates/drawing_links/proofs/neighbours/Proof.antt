@@ -4,7 +4,7 @@ use mathlib.Core.Bool.{_||_}
 use mathlib.Core.Path.{_∙_, _≡_, ap, refl, sym}
 use Prim.Native.Nat.{_*_, _+_, _-_, _<_, _≤_, ℕ}
 use native.Mathlib.Omega.{arith}
-use lib.ListN.{getD, length, length-set, take}
+use lib.ListN.{getD, length, take}
 use lib.Seq.{take-length}
 use denote.Ref.{now}
 use borrow.Author.Needs.{needs}
@@ -62,6 +62,10 @@ both-low : (c : tie.After-wide2 Inv-loop μ-loop)
     → (first c .wide .result < mostVertices) × (c .wide2 .result < mostVertices)
 both-low c = (a-low (first c), b-low c)
 
+-- a mark leaves as many words
+once-long : (c : tie.After-mark Inv-loop μ-loop) → length (c .mark .last .0) ≡ mostVertices
+once-long c = c .mark .kept .0 ∙ turn (first (c .before .before)) .loop .inv .room
+
 -- ---- the needs
 
 loop-holds : tie.Need-loop-holds Inv-loop μ-loop
@@ -85,55 +89,43 @@ shared-slice-read-wide-2 c =
     let p = start (turn (c .before)) .pre .links in
     omega (arith, edge-count p, p .whole)
 
-mul-near : tie.Need-mul-near Inv-loop μ-loop
-mul-near c = omega (arith, both-low c)
+slice-aggregate-mark : tie.Need-slice-aggregate-mark Inv-loop μ-loop
+slice-aggregate-mark c = sym (turn (first (c .before)) .loop .inv .room)
 
-array-read-near : tie.Need-array-read-near Inv-loop μ-loop
-array-read-near c = omega (arith, both-low c)
+mark-requires : tie.Need-mark-requires Inv-loop μ-loop
+mark-requires c κs =
+    let low = both-low (c .before) in
+    let l = turn (first (c .before)) .loop in
+    (omega (arith, low, l .inv .room), omega (arith, low))
 
-shl-near : tie.Need-shl-near Inv-loop μ-loop
-shl-near c = omega (arith, both-low c)
+slice-aggregate-mark-2 : tie.Need-slice-aggregate-mark-2 Inv-loop μ-loop
+slice-aggregate-mark-2 c = sym (once-long (c .before .before))
 
-mul-near-2 : tie.Need-mul-near-2 Inv-loop μ-loop
-mul-near-2 c = omega (arith, both-low c)
-
-array-write-near : tie.Need-array-write-near Inv-loop μ-loop
-array-write-near c = omega (arith, both-low c)
-
-mul-near-3 : tie.Need-mul-near-3 Inv-loop μ-loop
-mul-near-3 c = omega (arith, both-low c)
-
-array-read-near-2 : tie.Need-array-read-near-2 Inv-loop μ-loop
-array-read-near-2 c = omega (arith, both-low c)
-
-shl-near-2 : tie.Need-shl-near-2 Inv-loop μ-loop
-shl-near-2 c = omega (arith, both-low c)
-
-mul-near-4 : tie.Need-mul-near-4 Inv-loop μ-loop
-mul-near-4 c = omega (arith, both-low c)
-
-array-write-near-2 : tie.Need-array-write-near-2 Inv-loop μ-loop
-array-write-near-2 c = omega (arith, both-low c)
+mark-requires-2 : tie.Need-mark-requires-2 Inv-loop μ-loop
+mark-requires-2 c κs =
+    let m = c .before .before in
+    let low = both-low (m .before .before) in
+    (omega (arith, low, once-long m), omega (arith, low))
 
 loop-again : tie.Need-loop-again Inv-loop μ-loop
 loop-again c =
-    let l = turn (first c) .loop in
-    let s = start (turn (first c)) in
+    let m = c .before .before .before .before in
+    let g = m .before .before in
+    let l = turn (first g) .loop in
+    let s = start (turn (first g)) in
     let p = s .pre .links in
     let es = edgesOf (now (s .args .ends)) in
-    let a = first c .wide .result in
-    let b = c .wide2 .result in
+    let a = first g .wide .result in
+    let b = g .wide2 .result in
     let here : edge a b ≡ getD es (l .e) (edge 0 0) =
-    (λ i. edge (first c .wide .ensures i) (c .wide2 .ensures i)) ∙ sym (edge-is p (l .e) (omega (arith, edge-count p))) in
-    let a< : a < length (l .near) = omega (arith, both-low c) in
-    let b< : b < length (l .near) = omega (arith, both-low c) in
+    (λ i. edge (first g .wide .ensures i) (g .wide2 .ensures i)) ∙ sym (edge-is p (l .e) (omega (arith, edge-count p))) in
     record {
       not-past = omega arith;
       whole = l .inv .whole;
-      room = simp length-set (l .inv .room);
+      room = c .before .mark2 .kept .0 ∙ once-long m;
       marks =
           λ u w.
-          marked (l .near) a b u w a< b< (omega arith)
+          marked (l .near) (m .mark .last .0) (c .before .mark2 .last .0) a b u w (m .mark .ensures) (c .before .mark2 .ensures)
           ∙ (λ i. l .inv .marks u w i || joins u w (here i))
           ∙ sym (any-more (joins u w) es (l .e) (edge 0 0) (omega arith));
     }
@@ -151,5 +143,5 @@ pub neighbours-spec : {M : Type 1} → statement M
 neighbours-spec =
     tie.close
     (tie.spec Inv-loop μ-loop loop-holds (λ c. omega arith) shared-slice-read-wide (λ c κs. search needs) (λ c. omega arith)
-    (λ c. omega arith) shared-slice-read-wide-2 (λ c κs. search needs) mul-near array-read-near shl-near mul-near-2 array-write-near
-    mul-near-3 array-read-near-2 shl-near-2 mul-near-4 array-write-near-2 (λ c. omega arith) (λ c. omega arith) loop-again returns)
+    (λ c. omega arith) shared-slice-read-wide-2 (λ c κs. search needs) slice-aggregate-mark mark-requires slice-aggregate-mark-2
+    mark-requires-2 (λ c. omega arith) (λ c. omega arith) loop-again returns)
