@@ -8,7 +8,7 @@ use native.Mathlib.Decide.{ℕ-discrete}
 use native.Mathlib.Omega.{arith}
 use borrow.Author.Tests.{eq-eqb, eqb-true}
 use lib.Dec.{eqb}
-use lib.ListN.{length, getD}
+use lib.ListN.{length, getD, length-map}
 use Rattle.lists.specs.Lists.{any, upto, member}
 use Rattle.lists.specs.Around.{wrap, around}
 use Rattle.lists.proofs.Places.{map-at, made-at, upto-length, upto-at}
@@ -33,6 +33,15 @@ prior n (suc j) = j
 -- the number of the side to corner j
 abbrev pub sideNumber : List ℕ → Loop → ℕ → ℕ
 sideNumber number l j = getD number (pairAt (getD l (prior (length l) j) 0) (getD l j 0)) 0
+
+-- as many digits as there are vertices, and as there are edges
+pub corners-long : (d : Wire) (l : Loop) → length (cornerMask d l) ≡ length (d .vertices)
+unfolding cornerMask
+corners-long d l = length-map (upto (length (d .vertices))) (λ v. member v l) ∙ upto-length (length (d .vertices))
+
+pub sides-long : (d : Wire) (l : Loop) → length (sideMask d l) ≡ length (d .edges)
+unfolding sideMask
+sides-long d l = length-map (d .edges) (λ e. has e l)
 
 module _ (d : Wire) (l : Loop) (path : Path d l) where
   abbrev n : ℕ

@@ -3,7 +3,7 @@ use mathlib.Core.Path.{_≡_}
 use mathlib.Core.List.{List}
 use Prim.Native.Nat.{ℕ, _+_, _*_, _≤_, _<_}
 use lib.ListN.{length, getD}
-use Rattle.sets.specs.Word.{word}
+use Rattle.sets.specs.Sets.{oneWord, wides}
 use Rattle.paper.specs.Numbers.{mostVertices, mostEdges, mostCorners, mostLoops, rowBytes}
 use Rattle.paper.specs.Drawing.{Wire}
 use Rattle.paper.specs.Loops.{Loop}
@@ -36,8 +36,8 @@ pub record RowDrawn (table : List ℕ) (k : ℕ) (number : List ℕ) : Type 0 wh
 
 -- its words
 pub record RowWords (d : Wire) (l : Loop) (r : Words) : Type 0 where
-  pub corners : r .corners ≡ word (cornerMask d l)
-  pub sides : r .sides ≡ word (sideMask d l)
+  pub corners : oneWord .Is (r .corners) (cornerMask d l)
+  pub sides : wides .Is (r .sides) (sideMask d l)
 
 -- ---- n rows
 

@@ -1,5 +1,5 @@
-// Of each loop its corners and its sides, as words: a bit for each vertex, a bit for each edge. Assumes a table of loops of a drawing
-// whose edges are numbered.
+// Of each loop its corners and its sides, as sets of vertices and of edges. Assumes a table of loops of a drawing whose edges are
+// numbered.
 ghost use Rattle.paper.specs.Drawing.{edgesOf};
 ghost use Rattle.loop_words.specs.Numbered.{RisingEnds, EdgesNumbered};
 ghost use Rattle.loop_words.specs.Drawn.{RowDrawn, RowWords, DrawnTable, WithRoom, LoopWords};
@@ -7,6 +7,8 @@ use lists::wide;
 use paper::MOST_LOOPS;
 use paper::MOST_VERTICES;
 use paper::ROW;
+use sets::Set;
+use sets::Wide;
 
 // An entry for each pair of vertices.
 pub const PAIRS: usize = MOST_VERTICES * MOST_VERTICES;
@@ -30,8 +32,8 @@ pub fn number_edges(ends: &[u8]) -> [u8; PAIRS]
 }
 
 pub struct Words {
-    pub corners: u64,
-    pub sides: u64,
+    pub corners: Set,
+    pub sides: Wide,
 }
 
 // The words of row k: a side goes from the corner before, so the first is that from the last corner.
@@ -42,14 +44,14 @@ fn row_words(table: &[u8], k: usize, number: &[u8; PAIRS]) -> Words
     let first = ROW * k;
     let len = wide(table[first]);
     let mut a = wide(table[first + len]);
-    let mut corners = 0u64;
-    let mut sides = 0u64;
+    let mut corners = Set::none();
+    let mut sides = Wide::none();
     let mut i = 0;
     while i < len {
         let b = wide(table[first + 1 + i]);
         let e = wide(number[MOST_VERTICES * a + b]);
-        corners = corners | 1u64 << b;
-        sides = sides | 1u64 << e;
+        corners = corners.with(b);
+        sides = sides.with(e);
         a = b;
         i += 1;
     }
@@ -74,8 +76,8 @@ pub fn loop_words(
     let mut k = 0;
     while k < n {
         let w = row_words(table, k, number);
-        corners[k] = w.corners;
-        sides[k] = w.sides;
+        Set::put(corners, k, w.corners);
+        Wide::put(sides, k, w.sides);
         k += 1;
     }
 }

@@ -10,9 +10,10 @@ use lib.ListN.{length, getD, length-map}
 use Rattle.lists.proofs.Truth.{never-true}
 use Rattle.lists.proofs.Places.{map-at}
 use Rattle.sets.specs.Word.{word, dig, digit}
-use Rattle.sets.specs.Sets.{room, Is, packedSet, maskAt}
+use Rattle.sets.specs.Sets.{packedSet, wides}
 use Rattle.sets.proofs.Ones.{dig-lt}
 use Rattle.sets.proofs.Numbers.{digit-zero, by-digits}
+use Rattle.paper.specs.Numbers.{mostEdges}
 use Rattle.paper.specs.Drawing.{Wire, Edge}
 use Rattle.paper.specs.Loops.{Loop, loopAt}
 use Rattle.paper.specs.Solids.{has, tablesOf}
@@ -46,7 +47,7 @@ past-end a k h = never-true (dig a k) (λ t. let s = dig-lt a k t in omega (arit
 
 module _ {A : Type 0} (z : A) (f : A → Loop → Bool) (es : List A) (cs : List Loop) where
   -- all candidates: the words are those of a table with a mask for each edge, or for each of other things that candidates have
-  pub columns-all : (words : List ℕ) (n : ℕ) → n ≡ length cs → n ≤ room → length es ≤ room → Columns (λ l. map (λ e. f e l) es) cs words n
+  pub columns-all : (words : List ℕ) (n : ℕ) → n ≡ length cs → n ≤ wides .room → length es ≤ wides .room → Columns (λ l. map (λ e. f e l) es) cs words n
       → Masks words (map (λ e. map (f e) cs) es)
   unfolding packedSet
   columns-all words n q most few s =
@@ -65,12 +66,12 @@ module _ {A : Type 0} (z : A) (f : A → Loop → Bool) (es : List A) (cs : List
           (past-end (map (f (getD es e z)) cs) u
           (omega (arith, ltb-false u n p, q, length-map cs (f (getD es e z)))))
 
-      at : (e : ℕ) → e < length es → Is (maskAt words e) (getD (map (λ e. map (f e) cs) es) e [])
+      at : (e : ℕ) → e < length es → wides .Is (wides .at words e) (getD (map (λ e. map (f e) cs) es) e [])
       at e h =
           let m : getD (map (λ e. map (f e) cs) es) e [] ≡ map (f (getD es e z)) cs
           = map-at (λ e. map (f e) cs) es e z [] h in
           let w = by-digits (getD words e 0) (map (f (getD es e z)) cs) (λ u. digits-are e h u (ltb u n) refl) in
-          let is : Is (maskAt words e) (map (f (getD es e z)) cs)
+          let is : wides .Is (wides .at words e) (map (f (getD es e z)) cs)
           = record { short = omega (arith, q, length-map cs (f (getD es e z))); words = λ i. record { word = w i } } in
           rw m is
 
@@ -93,7 +94,7 @@ module _ (f : Edge → Loop → Bool) (cs : List Loop) where
   column-none k h (e ∷ es) (suc j) = column-none k h es j
 
 -- the words of candidates' sides, and no word behind them
-pub sides-held : (d : Wire) (cs : List Loop) (words : List ℕ) → length (d .edges) ≤ room → HoldsWords (sideMask d) words cs
+pub sides-held : (d : Wire) (cs : List Loop) (words : List ℕ) → length (d .edges) ≤ mostEdges → HoldsWords (sideMask d) words cs
     → ((k : ℕ) → length cs ≤ k → getD words k 0 ≡ 0) → Sides words (tablesOf d cs .masks)
 unfolding tablesOf packedSet sideMask
 sides-held d cs words few held none =

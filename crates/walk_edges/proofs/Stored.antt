@@ -1,27 +1,20 @@
--- One bit that is set in several words of a list, one after the other.
-use mathlib.Core.Path.{_≡_, refl, sym, ap, _∙_}
+-- One number that is put into several sets of a list of words, one after the other.
+use mathlib.Core.Path.{_≡_, sym, ap, _∙_}
 use mathlib.Core.Bool.{Bool, true, false, _&&_, _||_, or-false}
 use mathlib.Core.List.{List}
-use Prim.Native.Nat.{ℕ, _+_, _*_, _%_, _^_, _<_}
+use Prim.Native.Nat.{ℕ, _+_, _<_}
 use native.Mathlib.Omega.{arith}
-use lib.Bits.{bitOr}
 use lib.Dec.{eqb}
-use lib.ListN.{length, getD, set, take}
+use lib.ListN.{length, getD, take}
 use lib.Seq.{take-length}
 use Rattle.lists.specs.Lists.{any, upto}
 use Rattle.lists.proofs.Places.{upto-length, any-below-more}
 use Rattle.sets.specs.Word.{dig, digit}
-use Rattle.sets.specs.Sets.{room}
-use Rattle.sets.proofs.Word.{one-shl}
-use Rattle.sets.proofs.Numbers.{digit-power, digit-stored}
+use Rattle.sets.specs.Sets.{MarkedAt}
 use Rattle.walk_edges.specs.Marks.{Marked}
 use Rattle.walk_edges.proofs.Firsts.{spread}
 
--- the store `words[x] = words[x] | 1 << k`
-abbrev pub stored : List ℕ → ℕ → ℕ → List ℕ
-stored words x k = set words x (bitOr (getD words x 0) ((1 * 2 ^ k) % 2 ^ room))
-
--- which passes over those that fail the test
+-- the store passes over those that fail the test
 module _ (test : ℕ → Bool) (f : ℕ → ℕ) (n k : ℕ) (words₀ : List ℕ) where
   -- e is one of those of the first i numbers f 0, f 1, .. that pass
   abbrev among : ℕ → ℕ → Bool
@@ -35,13 +28,12 @@ module _ (test : ℕ → Bool) (f : ℕ → ℕ) (n k : ℕ) (words₀ : List �
   stored-none e u = sym (or-false (digit (getD words₀ e 0) u))
 
   -- one more, which passes or fails
-  pub stored-more : (words : List ℕ) (i x : ℕ) → i < n → x < length words → k < room → x ≡ f i → test i ≡ true → Stored words i
-      → Stored (stored words x k) (i + 1)
-  stored-more words i x h room-x few q t s e u =
+  pub stored-more : (words after : List ℕ) (i x : ℕ) → i < n → x ≡ f i → test i ≡ true → MarkedAt words x k after → Stored words i
+      → Stored after (i + 1)
+  stored-more words after i x h q t m s e u =
       let d = digit (getD words₀ e 0) u in
-      ap (λ (m : ℕ). digit (getD (set words x (bitOr (getD words x 0) m)) e 0) u) (one-shl room k few)
-      ∙ digit-stored words x (2 ^ k) e u room-x
-      ∙ (λ r. s e u r || (eqb e (q r) && digit-power k u r))
+      m e u
+      ∙ (λ r. s e u r || (eqb e (q r) && eqb u k))
       ∙ ap (λ (b : Bool). (d || (among i e && eqb u k)) || ((b && eqb e (f i)) && eqb u k)) (sym t)
       ∙ spread d (among i e) (test i && eqb e (f i)) (eqb u k)
       ∙ ap (λ (b : Bool). d || (b && eqb u k)) (sym (any-below-more (λ j. test j && eqb e (f j)) n i h))

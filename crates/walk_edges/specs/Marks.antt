@@ -7,8 +7,7 @@ use Prim.Native.Nat.{ℕ, _≤_, _<_}
 use lib.Dec.{eqb}
 use lib.ListN.{length, getD}
 use Rattle.sets.specs.Word.{dig, digit}
-use Rattle.sets.specs.Sets.{room}
-use Rattle.paper.specs.Numbers.{mostEdges}
+use Rattle.paper.specs.Numbers.{mostEdges, mostCandidates}
 use Rattle.paper.specs.Drawing.{Wire, edge}
 use Rattle.paper.specs.Loops.{Loop}
 use Rattle.paper.specs.Solids.{runsUp, tablesOf}
@@ -32,7 +31,7 @@ upMask d l = map (λ e. runsUp e l) (d .edges)
 pub record RowOf (rows : List ℕ) (k : ℕ) (number : List ℕ) : Type 0 where
   pub drawn : RowDrawn rows k number
   pub upward : Upward (drawn .drawing)
-  pub few : k < room
+  pub few : k < mostCandidates
 
 -- there is a word for each edge
 pub record RowRoom (rows : List ℕ) (k : ℕ) (number on up : List ℕ) : Type 0 where
@@ -61,7 +60,7 @@ pub record DrawnCandidates (rows : List ℕ) (n : ℕ) (number : List ℕ) : Typ
   pub of : LoopsOf drawing loops
   pub held : HoldsRows rows loops
   pub count : n ≡ length loops
-  pub most : n ≤ room
+  pub most : n ≤ mostCandidates
 
 -- nothing is marked yet
 pub record Unmarked (words : List ℕ) : Type 0 where

@@ -6,6 +6,7 @@ use loop_words::PAIRS;
 use paper::MOST_EDGES;
 use paper::MOST_VERTICES;
 use paper::ROW;
+use sets::Wide;
 
 // Candidate k is marked on each of its edges: a side goes from the corner before, so the first is that from the last corner.
 fn mark_sides(
@@ -26,9 +27,9 @@ fn mark_sides(
     while i < len {
         let b = wide(rows[first + 1 + i]);
         let e = wide(number[MOST_VERTICES * a + b]);
-        on[e] = on[e] | 1u64 << k;
+        Wide::mark(on, e, k);
         if a < b {
-            up[e] = up[e] | 1u64 << k;
+            Wide::mark(up, e, k);
         }
         a = b;
         i += 1;

@@ -8,13 +8,14 @@ use lib.ListN.{length, set, take}
 use lib.Seq.{length-take-le, take-length}
 use denote.Ref.{now}
 use Rattle.sets.specs.Word.{word}
+use Rattle.sets.proofs.Sets.{word-is}
 use Rattle.paper.specs.Loops.{Loop, loopAt}
 use Rattle.lists.proofs.After.{after-none}
 use Rattle.lists.proofs.Places.{take-more}
 use Rattle.fast_tables.specs.Hits.{cornerMask, sideMask}
 use Rattle.loop_table.specs.Tables.{maskWord, wordsAfter}
 use Rattle.loop_table.proofs.Rows.{rows-room, count-is, vertex-is}
-use Rattle.loop_table.proofs.Words.{word-more}
+use Rattle.loop_table.proofs.Words.{words-kept, word-more}
 use Rattle.loop_words.specs.Drawn.{RowDrawn, DrawnTable}
 use Rattle.loop_words.proofs.loop_words.Statement.{statement}
 use Rattle.loop_words.proofs.loop_words.Tie as tie
@@ -64,6 +65,29 @@ more mask ls k words before x h m e q =
     ∙ word-more mask (take k ls) (loopAt ls k) words before (omega (arith, s)) e
     ∙ ap (λ (t : List Loop). wordsAfter mask t before) (sym (take-more ls k [] h))
 
+-- there is a place for row k
+place : (mask : Loop → List Bool) (ls : List Loop) (k : ℕ) (words before : List ℕ) → k < length ls → length ls ≤ length before
+    → words ≡ wordsAfter mask (take k ls) before → k < length words
+place mask ls k words before h m e =
+    let s : length (take k ls) ≡ k = length-take-le k ls (omega arith) in
+    omega (arith, words-kept mask (take k ls) words before (omega (arith, s)) e)
+
+corners-last : (c : tie.After-row-words Inv-loop μ-loop) → turn c .loop .k < length (turn c .loop .corners)
+corners-last c =
+    let p = entry (turn c) .pre in
+    let w = p .drawn in
+    let l = turn c .loop in
+    place (cornerMask (w .drawing)) (w .loops) (l .k) (l .corners) _ (omega (arith, w .count)) (omega (arith, w .count, p .corner-room))
+    (l .inv w .corners-in)
+
+sides-last : (c : tie.After-row-words Inv-loop μ-loop) → turn c .loop .k < length (turn c .loop .sides)
+sides-last c =
+    let p = entry (turn c) .pre in
+    let w = p .drawn in
+    let l = turn c .loop in
+    place (sideMask (w .drawing)) (w .loops) (l .k) (l .sides) _ (omega (arith, w .count)) (omega (arith, w .count, p .side-room))
+    (l .inv w .sides-in)
+
 -- ---- the needs
 
 loop-holds : tie.Need-loop-holds Inv-loop μ-loop
@@ -78,35 +102,33 @@ loop-holds c w =
 row-words-requires : tie.Need-row-words-requires Inv-loop μ-loop
 row-words-requires c κs = row-drawn (entry (c .before) .pre .drawn) (c .before .loop .k) (omega arith)
 
-mul-corners : tie.Need-mul-corners Inv-loop μ-loop
-mul-corners c = let w = entry (turn c) .pre in omega (arith, w .drawn .most)
+put-requires : tie.Need-put-requires Inv-loop μ-loop
+put-requires c κs = corners-last (c .before)
 
-element-write-corners : tie.Need-element-write-corners Inv-loop μ-loop
-element-write-corners c = let w = entry (turn c) .pre in omega (arith, w .drawn .most)
-
-mul-sides : tie.Need-mul-sides Inv-loop μ-loop
-mul-sides c = let w = entry (turn c) .pre in omega (arith, w .drawn .most)
-
-element-write-sides : tie.Need-element-write-sides Inv-loop μ-loop
-element-write-sides c = let w = entry (turn c) .pre in omega (arith, w .drawn .most)
+put-requires-2 : tie.Need-put-requires-2 Inv-loop μ-loop
+put-requires-2 c κs = sides-last (c .before .before .before)
 
 loop-again : tie.Need-loop-again Inv-loop μ-loop
 unfolding row-drawn
 loop-again c w =
-    let s = entry (turn c) in
+    let f = c .before .before in
+    let r = f .before .before in
+    let s = entry (turn r) in
     let a = s .args in
-    let l = turn c .loop in
+    let l = turn r .loop in
     let k = l .inv w in
-    let row = c .row-words .ensures (row-drawn w (l .k) (omega arith)) in
+    let row = r .row-words .ensures (row-drawn w (l .k) (omega arith)) in
     let h : l .k < length (w .loops) = omega (arith, w .count) in
     record {
       not-past = omega arith;
       corners-in =
-          more (cornerMask (w .drawing)) (w .loops) (l .k) (l .corners) (now (a .corners)) (c .row-words .result .corners) h
-          (omega (arith, s .pre .corner-room)) (k .corners-in) (row .corners);
+          f .put .ensures
+          ∙ more (cornerMask (w .drawing)) (w .loops) (l .k) (l .corners) (now (a .corners)) (r .row-words .result .corners .word) h
+          (omega (arith, s .pre .corner-room)) (k .corners-in) (word-is (row .corners));
       sides-in =
-          more (sideMask (w .drawing)) (w .loops) (l .k) (l .sides) (now (a .sides)) (c .row-words .result .sides) h
-          (omega (arith, s .pre .side-room)) (k .sides-in) (row .sides);
+          c .put2 .ensures
+          ∙ more (sideMask (w .drawing)) (w .loops) (l .k) (l .sides) (now (a .sides)) (r .row-words .result .sides .word) h
+          (omega (arith, s .pre .side-room)) (k .sides-in) (word-is (row .sides));
     }
 
 returns : tie.Need-returns Inv-loop μ-loop
@@ -124,5 +146,4 @@ returns c w =
 pub loop-words-spec : {M : Type 1} → statement M
 loop-words-spec =
     tie.close
-    (tie.spec Inv-loop μ-loop loop-holds row-words-requires mul-corners element-write-corners mul-sides element-write-sides
-    (λ c. omega arith) (λ c. omega arith) loop-again returns)
+    (tie.spec Inv-loop μ-loop loop-holds row-words-requires put-requires put-requires-2 (λ c. omega arith) (λ c. omega arith) loop-again returns)

@@ -8,20 +8,25 @@ use native.Mathlib.Omega.{arith}
 use lib.ListN.{getD, length}
 use denote.Ref.{now}
 use borrow.Author.Needs.{needs}
+use Rattle.sets.specs.Sets.{oneWord, wides, Wide}
+use Rattle.sets.specs.declared.Set.{Set}
+use Rattle.sets.proofs.Sets.{one-word-laws, wides-laws}
+use Rattle.fast_tables.specs.Hits.{cornerMask, sideMask}
 use Rattle.loop_words.specs.Numbered.{pairAt}
 use Rattle.loop_words.specs.Drawn.{RowDrawn}
 use Rattle.loop_words.proofs.Gathered.{Gathered, gathered-none, gathered-more, gathered-all}
-use Rattle.loop_words.proofs.Masks.{prior, prior-low, sideNumber, corners-are, sides-are, side-low}
+use Rattle.loop_words.proofs.Masks.{prior, prior-low, sideNumber, corners-long, sides-long, corners-are, sides-are, side-low}
 use Rattle.loop_words.proofs.row_words.Statement.{statement}
 use Rattle.loop_words.proofs.row_words.Tie as tie
 
 -- what the loop keeps, of every drawing and loop that the row is one of
-record Kept {table : List ℕ} {k : ℕ} {number : List ℕ} (w : RowDrawn table k number) (len a corners sides i : ℕ) : Type 0 where
+record Kept {table : List ℕ} {k : ℕ} {number : List ℕ} (w : RowDrawn table k number) (len a : ℕ) (corners : Set) (sides : Wide)
+    (i : ℕ) : Type 0 where
   pub whole : len ≡ length (w .loop)
   pub not-past : i ≤ len
   pub last : a ≡ getD (w .loop) (prior (length (w .loop)) i) 0
-  pub corners-in : Gathered (λ j. getD (w .loop) j 0) (length (w .loop)) corners i
-  pub sides-in : Gathered (sideNumber number (w .loop)) (length (w .loop)) sides i
+  pub corners-in : Gathered oneWord (λ j. getD (w .loop) j 0) (length (w .loop)) corners i
+  pub sides-in : Gathered wides (sideNumber number (w .loop)) (length (w .loop)) sides i
 
 abbrev Inv-loop : tie.InvT-loop
 Inv-loop table k number first len a₀ corners₀ sides₀ i₀ a corners sides i = (w : RowDrawn table k number) → Kept w len a corners sides i
@@ -35,7 +40,7 @@ abbrev start : tie.After-wide Inv-loop μ-loop → tie.Start Inv-loop μ-loop
 start c = c .before .before .before
 
 abbrev entry : tie.At-loop Inv-loop μ-loop → tie.Start Inv-loop μ-loop
-entry c = start (c .before .before .before)
+entry c = start (c .before .before .before .before .before)
 
 abbrev turn : tie.After-wide3 Inv-loop μ-loop → tie.In-loop Inv-loop μ-loop
 turn c = c .before .before
@@ -103,7 +108,8 @@ shared-slice-read-wide-2 c = let w = start (c .before) .pre in omega (arith, cou
 
 loop-holds : tie.Need-loop-holds Inv-loop μ-loop
 loop-holds c w =
-    let r = c .before .before in
+    let e = c .before .before in
+    let r = e .before .before in
     let a = start r .args in
     let n = length (w .loop) in
     let long = w .path .long in
@@ -111,9 +117,9 @@ loop-holds c w =
     record {
       whole = count-is r w;
       not-past = omega arith;
-      last = c .wide2 .ensures ∙ ap (λ (i : ℕ). getD (now (a .table)) i 0) s ∙ w .vertex (n - 1) (omega arith);
-      corners-in = gathered-none (λ j. getD (w .loop) j 0) n;
-      sides-in = gathered-none (sideNumber (now (a .number)) (w .loop)) n;
+      last = e .wide2 .ensures ∙ ap (λ (i : ℕ). getD (now (a .table)) i 0) s ∙ w .vertex (n - 1) (omega arith);
+      corners-in = gathered-none oneWord (λ j. getD (w .loop) j 0) n (c .before .none .ensures);
+      sides-in = gathered-none wides (sideNumber (now (a .number)) (w .loop)) n (c .none2 .ensures);
     }
 
 add-wide-2 : tie.Need-add-wide-2 Inv-loop μ-loop
@@ -134,27 +140,28 @@ add-wide-4 c = omega (arith, pair-low c)
 element-copy-out-wide : tie.Need-element-copy-out-wide Inv-loop μ-loop
 element-copy-out-wide c = omega (arith, pair-low c)
 
-shl-corners : tie.Need-shl-corners Inv-loop μ-loop
-shl-corners c = omega (arith, pair-low (corner c))
+with-requires : tie.Need-with-requires Inv-loop μ-loop
+with-requires c κs = omega (arith, pair-low (corner c))
 
-shl-sides : tie.Need-shl-sides Inv-loop μ-loop
-shl-sides c = edge-low c (entry (turn (corner c) .before) .pre)
+with-requires-2 : tie.Need-with-requires-2 Inv-loop μ-loop
+with-requires-2 c κs = let e = c .before in edge-low e (entry (turn (corner e) .before) .pre)
 
 loop-again : tie.Need-loop-again Inv-loop μ-loop
 loop-again c w =
-    let t = turn (corner c) in
+    let e = c .before .before in
+    let t = turn (corner e) in
     let l = t .before .loop in
     let k = l .inv w in
     let n = length (w .loop) in
     let h = here t w in
     let number = now (entry (t .before) .args .number) in
-    let b = corner-is (corner c) w in
+    let b = corner-is (corner e) w in
     record {
       whole = k .whole;
       not-past = omega arith;
       last = b ∙ ap (λ (i : ℕ). getD (w .loop) (prior n i) 0) (sym (add-one (l .i)));
-      corners-in = gathered-more (λ j. getD (w .loop) j 0) n (l .corners) (l .i) _ h (omega (arith, corner-low (corner c) w)) b (k .corners-in);
-      sides-in = gathered-more (sideNumber number (w .loop)) n (l .sides) (l .i) _ h (edge-low c w) (side-is c w) (k .sides-in);
+      corners-in = gathered-more oneWord (λ j. getD (w .loop) j 0) n (l .i) _ h b (c .before .with .ensures) (k .corners-in);
+      sides-in = gathered-more wides (sideNumber number (w .loop)) n (l .i) _ h (side-is e w) (c .with2 .ensures) (k .sides-in);
     }
 
 returns : tie.Need-returns Inv-loop μ-loop
@@ -166,15 +173,17 @@ returns c w =
     let e : l .i ≡ n = omega (arith, k .whole, k .not-past) in
     let d = w .drawing in
     record {
-      corners = gathered-all (λ j. getD (w .loop) j 0) n (l .corners) (l .i) e _ (corners-are d (w .loop) (w .path)) (k .corners-in);
+      corners =
+          gathered-all oneWord (λ j. getD (w .loop) j 0) n one-word-laws (l .i) e (cornerMask d (w .loop)) (omega (arith, corners-long d (w .loop), w .small .vertices))
+          (corners-are d (w .loop) (w .path)) (k .corners-in);
       sides =
-          gathered-all (sideNumber number (w .loop)) n (l .sides) (l .i) e _ (sides-are d (w .loop) (w .path) number (w .small .numbered))
-          (k .sides-in);
+          gathered-all wides (sideNumber number (w .loop)) n wides-laws (l .i) e (sideMask d (w .loop)) (omega (arith, sides-long d (w .loop), w .small .edges))
+          (sides-are d (w .loop) (w .path) number (w .small .numbered)) (k .sides-in);
     }
 
 pub row-words-spec : {M : Type 1} → statement M
 row-words-spec =
     tie.close
     (tie.spec Inv-loop μ-loop mul-first shared-slice-read-wide (λ c κs. search needs) add-wide shared-slice-read-wide-2
-    (λ c κs. search needs) loop-holds add-wide-2 add-wide-3 shared-slice-read-wide-3 (λ c κs. search needs) mul-wide add-wide-4
-    element-copy-out-wide (λ c κs. search needs) shl-corners shl-sides (λ c. omega arith) (λ c. omega arith) loop-again returns)
+    (λ c κs. search needs) (λ c κs. search needs) (λ c κs. search needs) loop-holds add-wide-2 add-wide-3 shared-slice-read-wide-3 (λ c κs. search needs) mul-wide add-wide-4
+    element-copy-out-wide (λ c κs. search needs) with-requires with-requires-2 (λ c. omega arith) (λ c. omega arith) loop-again returns)

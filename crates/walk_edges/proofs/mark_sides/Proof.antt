@@ -13,7 +13,7 @@ use Rattle.fast_tables.specs.Hits.{sideMask}
 use Rattle.loop_words.specs.Numbered.{pairAt}
 use Rattle.loop_words.proofs.Masks.{prior, prior-low, sideNumber, sides-are, side-low}
 use Rattle.walk_edges.specs.Marks.{RowOf, upMask}
-use Rattle.walk_edges.proofs.Stored.{stored, stored-none, stored-all}
+use Rattle.walk_edges.proofs.Stored.{stored-none, stored-all}
 use Rattle.walk_edges.proofs.Ups.{rises, ups-are}
 use Rattle.walk_edges.proofs.Turns.{Kept, turn-up, turn-down}
 use Rattle.walk_edges.proofs.mark_sides.Statement.{statement}
@@ -94,6 +94,19 @@ low c = edge-low c (entry (turn (corner c) .before) .pre .row)
 few : (c : tie.After-wide4 Inv-loop μ-loop) → entry (turn (corner c) .before) .args .k < 64
 few c = entry (turn (corner c) .before) .pre .row .few
 
+-- it has a place in both lists
+on-low : (c : tie.After-wide4 Inv-loop μ-loop) → c .wide4 .result < length (turn (corner c) .before .loop .on)
+on-low c =
+    let l = turn (corner c) .before in
+    let p = entry l .pre in
+    omega (arith, l .loop .inv (p .row) .on-long, p .on-room, low c)
+
+up-low : (c : tie.After-wide4 Inv-loop μ-loop) → c .wide4 .result < length (turn (corner c) .before .loop .up)
+up-low c =
+    let l = turn (corner c) .before in
+    let p = entry l .pre in
+    omega (arith, l .loop .inv (p .row) .up-long, p .up-room, low c)
+
 -- ---- the needs
 
 mul-first : tie.Need-mul-first Inv-loop μ-loop
@@ -148,54 +161,31 @@ add-wide-4 c = omega (arith, pair-low c)
 element-copy-out-wide : tie.Need-element-copy-out-wide Inv-loop μ-loop
 element-copy-out-wide c = omega (arith, pair-low c)
 
-mul-on : tie.Need-mul-on Inv-loop μ-loop
-mul-on c = omega (arith, low c)
+mark-requires : tie.Need-mark-requires Inv-loop μ-loop
+mark-requires c κs = (on-low (c .before), few (c .before))
 
-element-copy-out-on : tie.Need-element-copy-out-on Inv-loop μ-loop
-element-copy-out-on c = low c
-
-shl-on : tie.Need-shl-on Inv-loop μ-loop
-shl-on c = few (c .before)
-
-mul-on-2 : tie.Need-mul-on-2 Inv-loop μ-loop
-mul-on-2 c = omega (arith, low (c .before))
-
-element-write-on : tie.Need-element-write-on Inv-loop μ-loop
-element-write-on c = low (c .before)
-
-mul-up : tie.Need-mul-up Inv-loop μ-loop
-mul-up c = omega (arith, low (c .before .before))
-
-element-copy-out-up : tie.Need-element-copy-out-up Inv-loop μ-loop
-element-copy-out-up c = low (c .before .before)
-
-shl-up : tie.Need-shl-up Inv-loop μ-loop
-shl-up c = few (c .before .before .before)
-
-mul-up-2 : tie.Need-mul-up-2 Inv-loop μ-loop
-mul-up-2 c = omega (arith, low (c .before .before .before))
-
-element-write-up : tie.Need-element-write-up Inv-loop μ-loop
-element-write-up c = low (c .before .before .before)
+mark-requires-2 : tie.Need-mark-requires-2 Inv-loop μ-loop
+mark-requires-2 c κs = let p = c .before .before .before .before in (up-low p, few p)
 
 loop-again : tie.Need-loop-again Inv-loop μ-loop
 loop-again c w =
-    let p = c .before .before in
+    let q = c .before in
+    let p = q .before .before in
     let t = turn (corner p) in
     let l = t .before .loop in
     let s = entry (t .before) in
     let o = l .inv w in
-    let on-low : p .wide4 .result < length (l .on) = omega (arith, o .on-long, s .pre .on-room, edge-low p w) in
-    let up-low : p .wide4 .result < length (l .up) = omega (arith, o .up-long, s .pre .up-room, edge-low p w) in
     let b = corner-is (corner p) w in
+    let e = side-is p w in
     let Next : List ℕ → Type 0
-    = λ x. Kept w (now (s .args .on)) (stored (l .on) (p .wide4 .result) (s .args .k)) (now (s .args .up)) x
+    = λ x. Kept w (now (s .args .on)) (q .mark .last .0) (now (s .args .up)) x
     (t .before .before .before .before .wide .result) (corner p .wide3 .result) (l .i + 1) in
     ⊎-elim
-    (λ m. subst Next (sym (m .2))
-    (turn-up w o (here t w) b (side-is p w) on-low up-low (omega (arith, m .0 .taken))))
+    (λ m. subst Next (sym (m .3))
+    (turn-up w o (here t w) b e (q .mark .last .0) (q .mark .ensures) (q .mark .kept .0) (m .2 .last .0) (m .2 .ensures)
+    (m .2 .kept .0) (omega (arith, m .0 .taken))))
     (λ m. subst Next (sym (m .1))
-    (turn-down w o (here t w) b (side-is p w) on-low (omega (arith, m .0 .left))))
+    (turn-down w o (here t w) b e (q .mark .last .0) (q .mark .ensures) (q .mark .kept .0) (omega (arith, m .0 .left))))
     (c .if1 .came)
 
 returns : tie.Need-returns Inv-loop μ-loop
@@ -225,5 +215,4 @@ mark-sides-spec =
     tie.close
     (tie.spec Inv-loop μ-loop mul-first shared-slice-read-wide (λ c κs. search needs) add-wide shared-slice-read-wide-2
     (λ c κs. search needs) loop-holds add-wide-2 add-wide-3 shared-slice-read-wide-3 (λ c κs. search needs) mul-wide add-wide-4
-    element-copy-out-wide (λ c κs. search needs) mul-on element-copy-out-on shl-on mul-on-2 element-write-on mul-up element-copy-out-up
-    shl-up mul-up-2 element-write-up (λ c. omega arith) (λ c. omega arith) loop-again returns)
+    element-copy-out-wide (λ c κs. search needs) mark-requires mark-requires-2 (λ c. omega arith) (λ c. omega arith) loop-again returns)
