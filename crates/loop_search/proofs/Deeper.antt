@@ -8,7 +8,8 @@ use borrow.Author.Tests.{eq-eqb, ne-eqb}
 use lib.ListN.{getD, take, set}
 use lib.Seq.{set-set, set-getD}
 use Rattle.sets.specs.Word.{count, empty, both, less, only}
-use Rattle.sets.specs.Sets.{Is, size, Joint, Lowest, Dropped, SetAt}
+use Rattle.sets.specs.Kinds.{Joint, Lowest, Dropped, SetAt}
+use Rattle.sets.specs.Sets.{Is, size, oneWord}
 use Rattle.sets.specs.declared.Set.{Set}
 use Rattle.sets.proofs.Digits.{length-both-last, length-less, first-lt}
 use Rattle.sets.proofs.Sets.{size-is}
@@ -24,19 +25,19 @@ use Rattle.loop_search.proofs.Filling.{adds-then}
 use Rattle.loop_search.proofs.Kept.{Kept, kept-start, kept-next, kept-end, kept-full}
 
 -- ---- sets of vertices
-pub below-dropped : {x x' : Set} {n v : ℕ} → VerticesBelow x n → Dropped x v x' → VerticesBelow x' n
+pub below-dropped : {x x' : Set} {n v : ℕ} → VerticesBelow x n → Dropped oneWord x v x' → VerticesBelow x' n
 below-dropped {x} {x'} {n} {v} b d = record {
   digits = less (b .digits) (only v);
   is = d .same (b .digits) (b .is);
   few = omega (arith, length-less (b .digits) (only v), b .few);
 }
 
-pub lowest-below : {x : Set} {n v : ℕ} → VerticesBelow x n → 0 < size x → Lowest x v → v < n
+pub lowest-below : {x : Set} {n v : ℕ} → VerticesBelow x n → 0 < size x → Lowest oneWord x v → v < n
 lowest-below {x} {n} {v} b some low =
     let f = first-lt (b .digits) (λ z. absurd (omega (arith, z, size-is (b .is)))) in
     omega (arith, f, low .same (b .digits) (b .is), b .few)
 
-pub below-both : {x y r : Set} {n : ℕ} (a : List Bool) → Is x a → VerticesBelow y n → Joint x y r both → VerticesBelow r n
+pub below-both : {x y r : Set} {n : ℕ} (a : List Bool) → Is x a → VerticesBelow y n → Joint oneWord x y r both → VerticesBelow r n
 below-both {x} {y} {r} {n} a i b j = record {
   digits = both a (b .digits);
   is = j a (b .digits) i (b .is);
@@ -45,7 +46,7 @@ below-both {x} {y} {r} {n} a i b j = record {
 
 -- ---- v is the last vertex
 module _ (words path : List ℕ) (len : ℕ) {free all r : Set} {v : ℕ} (p : PathAt path len mostVertices) (at-v : v ≡ getD path (len - 1) 0) where
-  pub onward-is : SetAt words v all → Joint all free r both → Onward words path len free r
+  pub onward-is : SetAt oneWord words v all → Joint oneWord all free r both → Onward words path len free r
   onward-is e j = record {
     below = λ n b. below-both (e .some .0) (e .some .1) b j;
     same = λ d n fr i.
@@ -66,7 +67,7 @@ module _ {words path : List ℕ} {len : ℕ} {free closing plane : Set} {r r' : 
         (e .adds cl pl j k);
   }
 
-  pub none-closes : {ends : Set} → Joint closing free ends both → size ends ≡ 0 → PlaneSearched words path len free closing plane r r' path
+  pub none-closes : {ends : Set} → Joint oneWord closing free ends both → size ends ≡ 0 → PlaneSearched words path len free closing plane r r' path
   none-closes j z = record {
     sized = e .sized;
     path-is = refl;
@@ -100,7 +101,7 @@ module _ (words path : List ℕ) (len : ℕ) (free closing plane : Set) (r₁ : 
 
   module _ (p : PathAt path len mostVertices) (h : len < mostCorners) where
     pub turning-next : {path' path'' : List ℕ} {r' r'' : Rooms} {left left' rest : Set} {v : ℕ} → Turning path' r' left → 0 < size left
-        → Lowest left v → Dropped left v left' → Dropped free v rest
+        → Lowest oneWord left v → Dropped oneWord left v left' → Dropped oneWord free v rest
         → PlaneSearched words (set path' len v) (len + 1) rest closing plane r' r'' path'' → Turning (set path'' len fillByte) r'' left'
     turning-next {path'} {path''} {r'} {r''} {left} {left'} {rest} {v} t some low drop drop' s = record {
       sized = s .sized;
@@ -126,7 +127,7 @@ module _ (words path : List ℕ) (len : ℕ) (free closing plane : Set) (r₁ : 
             λ i. inPlane d (z i) (grown i) fr cl pl
 
     -- it has gone through all, or the table is full
-    module _ {r : Rooms} {ends : Set} (e : Ended r r₁ path len closing plane) (j : Joint closing free ends both) (some : size ends ≡ 0 → ⊥) where
+    module _ {r : Rooms} {ends : Set} (e : Ended r r₁ path len closing plane) (j : Joint oneWord closing free ends both) (some : size ends ≡ 0 → ⊥) where
       whole : (d : Wire) (fr cl pl : List Bool) → Is free fr → Is closing cl
           → own cl (take len path) pl ++ eachOf (deeper d fr cl pl) 0 (both (near d (final (take len path))) fr)
           ≡ inPlane d (mostCorners - len) (take len path) fr cl pl

@@ -6,7 +6,8 @@ use Prim.Native.Nat.{ℕ, _<_}
 use native.Mathlib.Omega.{arith}
 use borrow.Author.Tests.{eq-eqb}
 use Rattle.sets.specs.Word.{count, first, less, only}
-use Rattle.sets.specs.Sets.{Is, size, Lowest, Dropped}
+use Rattle.sets.specs.Kinds.{Lowest, Dropped}
+use Rattle.sets.specs.Sets.{Is, size, oneWord}
 use Rattle.sets.specs.declared.Set.{Set}
 use Rattle.sets.proofs.Sets.{size-is}
 use Rattle.paper.specs.Numbers.{mostLoops}
@@ -29,7 +30,7 @@ module _ (f : ℕ → List Bool → List InItsPlane) (every : List Bool) (r : Ro
   kept-start left i = record { digits = every; left-is = i; met = []; adds = adds-none; whole = refl }
 
   -- one turn: v is the lowest
-  pub kept-next : {r' r'' : Rooms} {left left' : Set} {v : ℕ} (k : Kept r' left) → 0 < size left → Lowest left v → Dropped left v left'
+  pub kept-next : {r' r'' : Rooms} {left left' : Set} {v : ℕ} (k : Kept r' left) → 0 < size left → Lowest oneWord left v → Dropped oneWord left v left'
       → Adds r' r'' (f v (less (k .digits) (only v))) → Kept r'' left'
   kept-next {r'} {r''} {left} {left'} {v} k some low drop a =
       let op = k .digits in

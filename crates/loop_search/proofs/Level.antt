@@ -10,7 +10,8 @@ use lib.ListN.{length, length-map}
 use Rattle.lists.specs.Lists.{from, upto}
 use Rattle.lists.proofs.Places.{upto-length}
 use Rattle.sets.specs.Word.{count, first, either, less, only}
-use Rattle.sets.specs.Sets.{Is, size, Lowest, Dropped}
+use Rattle.sets.specs.Kinds.{Lowest, Dropped}
+use Rattle.sets.specs.Sets.{Is, size, oneWord}
 use Rattle.sets.specs.declared.Set.{Set}
 use Rattle.sets.proofs.Sets.{size-is, is-more}
 use Rattle.paper.specs.Numbers.{mostVertices}
@@ -44,13 +45,13 @@ module _ (xyz : List ℤ) (s m : Point) where
   asking-start p = record { asked = p; same = λ a i. (a, i, refl) }
 
   module _ {set left : Set} (k : Asking set left) where
-    module _ {v : ℕ} (some : 0 < size left) (low : Lowest left v) where
+    module _ {v : ℕ} (some : 0 < size left) (low : Lowest oneWord left v) where
       next : (b : List Bool) → Is left b → someOf level 0 b ≡ (level v || someOf level 0 (less b (only v)))
       next b i =
           let e : first b ≡ v = sym (low .same b i) in
           some-next level b (λ z. absurd (omega (arith, z, size-is i))) ∙ ap (λ (j : ℕ). level j || someOf level 0 (less b (only j))) e
 
-      pub asking-next : {left' : Set} → Dropped left v left' → level v ≡ false → Asking set left'
+      pub asking-next : {left' : Set} → Dropped oneWord left v left' → level v ≡ false → Asking set left'
       asking-next {left'} drop e = record {
         asked = record { vertices = k .asked .vertices; plane = k .asked .plane; below = below-dropped (k .asked .below) drop };
         same = λ a i.

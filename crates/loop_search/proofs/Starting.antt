@@ -8,7 +8,8 @@ use lib.IntN.{ℤ}
 use lib.ListN.{length, getD, take, set, replicate, length-set, length-replicate, getD-replicate}
 use lib.Seq.{set-set, set-getD, getD-set-same, getD-set-other}
 use Rattle.sets.specs.Word.{both, less, only}
-use Rattle.sets.specs.Sets.{Is, size, Joint, Minus, Lowest, Dropped, SetAt}
+use Rattle.sets.specs.Kinds.{Joint, Minus, Lowest, Dropped, SetAt}
+use Rattle.sets.specs.Sets.{Is, size, oneWord}
 use Rattle.sets.specs.declared.Set.{Set}
 use Rattle.sets.proofs.Digits.{length-less}
 use Rattle.paper.specs.Numbers.{mostCorners, fillByte}
@@ -65,7 +66,7 @@ module _ {xyz : List ℤ} (words : List ℕ) {v s : ℕ} {path : List ℕ} {r : 
   }
 
   -- ---- the higher vertices
-  module _ {all low up : Set} (all-is : Is all (replicate v true)) (low-is : Is low (replicate (s + 1) true)) (m : Minus all low up) where
+  module _ {all low up : Set} (all-is : Is all (replicate v true)) (low-is : Is low (replicate (s + 1) true)) (m : Minus oneWord all low up) where
     up-is : (d : Wire) → DrawnWith d xyz words → Is up (higher d s)
     unfolding higher
     up-is d n =
@@ -82,7 +83,7 @@ module _ {xyz : List ℤ} (words : List ℕ) {v s : ℕ} {path : List ℕ} {r : 
     }
 
     -- ---- the loop
-    pub starting-start : {row later : Set} → SetAt words s row → Joint row up later both → Starting xyz words v s begun r begun r later
+    pub starting-start : {row later : Set} → SetAt oneWord words s row → Joint oneWord row up later both → Starting xyz words v s begun r begun r later
     starting-start {row} {later} e j = record {
       sized = g .sized;
       path-is = refl;
@@ -93,8 +94,8 @@ module _ {xyz : List ℤ} (words : List ℕ) {v s : ℕ} {path : List ℕ} {r : 
     }
 
     module _ {path' : List ℕ} {r' : Rooms} {later : Set} (t : Starting xyz words v s begun r path' r' later) where
-      module _ {w : ℕ} {later' rest : Set} (some : 0 < size later) (low-w : Lowest later w) (drop : Dropped later w later')
-          (drop' : Dropped up w rest) where
+      module _ {w : ℕ} {later' rest : Set} (some : 0 < size later) (low-w : Lowest oneWord later w) (drop : Dropped oneWord later w later')
+          (drop' : Dropped oneWord up w rest) where
         pub second-at : OnLineAt r' xyz v (set path' 1 w) 2 rest later'
         second-at = record {
           sized = t .sized;

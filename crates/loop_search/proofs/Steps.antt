@@ -10,7 +10,8 @@ use lib.Seq.{take-suc}
 use Rattle.lists.specs.Lists.{upto}
 use Rattle.lists.proofs.Places.{upto-length}
 use Rattle.sets.specs.Word.{both, less, only}
-use Rattle.sets.specs.Sets.{Is, Joint, Dropped}
+use Rattle.sets.specs.Kinds.{Joint, Dropped}
+use Rattle.sets.specs.Sets.{Is, oneWord}
 use Rattle.sets.specs.declared.Set.{Set}
 use Rattle.paper.specs.Numbers.{mostCorners, mostVertices}
 use Rattle.paper.specs.Points.{isOrigin}
@@ -43,7 +44,7 @@ module _ {xyz : List ℤ} {v : ℕ} (words : List ℕ) {path : List ℕ} {len : 
       ∙ ap (λ (k : ℕ). take k path) e
 
   -- what `turned` asks for
-  pub turn-at : {ends : Set} → Joint closing free ends both → TurnAt xyz v path w ends
+  pub turn-at : {ends : Set} → Joint oneWord closing free ends both → TurnAt xyz v path w ends
   turn-at j = record {
     points = g .points;
     few = g .few;
@@ -54,8 +55,8 @@ module _ {xyz : List ℤ} {v : ℕ} (words : List ℕ) {path : List ℕ} {len : 
   }
 
   -- what `in_plane` asks for, of the free vertices
-  pub plane-below : {plane less-w free' : Set} (ends : List Bool) → TurnIs xyz v path w ends (Turn.Plane plane) → Dropped free w less-w
-      → Joint less-w plane free' both → VerticesBelow free' mostVertices
+  pub plane-below : {plane less-w free' : Set} (ends : List Bool) → TurnIs xyz v path w ends (Turn.Plane plane) → Dropped oneWord free w less-w
+      → Joint oneWord less-w plane free' both → VerticesBelow free' mostVertices
   plane-below {plane} ends t d j =
       let mask = map (inFixed xyz path w) (upto v) in
       let rest-below = below-dropped (g .free-below) d in
@@ -81,7 +82,7 @@ module _ {xyz : List ℤ} {v : ℕ} (words : List ℕ) {path : List ℕ} {len : 
     mask-is : {plane : Set} → Is plane (map (inFixed xyz path w) (upto v)) → Is plane (planeMask d (at d (getD p 0 0)) (acrossLine d p w))
     mask-is {plane} i = subst (Is plane) (fixed-mask (g .points) d (n .vertices-are) path len (g .two) w) i
 
-  module _ {ends : Set} (ends-are : Joint closing free ends both) where
+  module _ {ends : Set} (ends-are : Joint oneWord closing free ends both) where
     pub stepped-dead : ((a : List Bool) → Is ends a → TurnIs xyz v path w a Turn.Dead) → Stepped xyz words path len free closing r r path
     stepped-dead t = record {
       sized = g .sized;
@@ -92,7 +93,7 @@ module _ {xyz : List ℤ} {v : ℕ} (words : List ℕ) {path : List ℕ} {len : 
           (sym (turn-none d p fr cl (line d n cl) rest w (origin-is d n (u .0)) (some-is d n (both cl fr) (u .1)))) adds-none);
     }
 
-    module _ {less-w : Set} (dropped : Dropped free w less-w) {r' : Rooms} {path' : List ℕ} where
+    module _ {less-w : Set} (dropped : Dropped oneWord free w less-w) {r' : Rooms} {path' : List ℕ} where
       pub stepped-line : ((a : List Bool) → Is ends a → TurnIs xyz v path w a Turn.Line)
           → OnLine xyz words path (len + 1) less-w closing r r' path' → Stepped xyz words path len free closing r r' path'
       stepped-line t s = record {
@@ -106,7 +107,7 @@ module _ {xyz : List ℤ} {v : ℕ} (words : List ℕ) {path : List ℕ} {len : 
       }
 
       pub stepped-plane : {plane free' : Set} → ((a : List Bool) → Is ends a → TurnIs xyz v path w a (Turn.Plane plane))
-          → Joint less-w plane free' both → PlaneSearched words path (len + 1) free' closing plane r r' path'
+          → Joint oneWord less-w plane free' both → PlaneSearched words path (len + 1) free' closing plane r r' path'
           → Stepped xyz words path len free closing r r' path'
       stepped-plane {plane} {free'} t k s = record {
         sized = s .sized;

@@ -9,7 +9,8 @@ use lib.IntN.{ℤ}
 use lib.ListN.{length, getD, take, set}
 use lib.Seq.{set-set, set-getD, take-suc, take-set-le, getD-set-same}
 use Rattle.sets.specs.Word.{count, empty, both, less, only}
-use Rattle.sets.specs.Sets.{Is, size, Joint, Lowest, Dropped}
+use Rattle.sets.specs.Kinds.{Joint, Lowest, Dropped}
+use Rattle.sets.specs.Sets.{Is, size, oneWord}
 use Rattle.sets.specs.declared.Set.{Set}
 use Rattle.sets.proofs.Sets.{size-is}
 use Rattle.paper.specs.Numbers.{mostCorners, mostLoops, fillByte}
@@ -37,7 +38,7 @@ module _ {xyz : List ℤ} {words path : List ℕ} {len : ℕ} {free closing : Se
         subst (Adds r r) (sym (bare-last d (take len path) fr cl) ∙ ap (λ (m : ℕ). bareLine d m (take len path) fr cl) e) adds-none;
   }
 
-  pub line-none : {ends : Set} → Joint closing free ends both → size ends ≡ 0 → OnLine xyz words path len free closing r r path
+  pub line-none : {ends : Set} → Joint oneWord closing free ends both → size ends ≡ 0 → OnLine xyz words path len free closing r r path
   line-none k e = record {
     sized = z;
     path-is = refl;
@@ -80,7 +81,7 @@ module _ (xyz : List ℤ) (words path : List ℕ) (len : ℕ) (free closing : Se
         λ i. lineStep d (λ q f. bareLine d (z i) q f cl) (z i) (q i) fr cl (u i)
 
     pub passing-next : {path' path'' : List ℕ} {r' r'' : Rooms} {left left' : Set} {w : ℕ} → Passing path' r' left → 0 < size left
-        → Lowest left w → Dropped left w left' → Stepped xyz words (set path' len w) len free closing r' r'' path''
+        → Lowest oneWord left w → Dropped oneWord left w left' → Stepped xyz words (set path' len w) len free closing r' r'' path''
         → Passing (set path'' len fillByte) r'' left'
     passing-next {path'} {path''} {r'} {r''} {left} {left'} {w} t some low drop s = record {
       sized = s .sized;
@@ -93,7 +94,7 @@ module _ (xyz : List ℤ) (words path : List ℕ) (len : ℕ) (free closing : Se
     }
 
     -- it has gone through all, or the table is full
-    module _ {ends : Set} (j : Joint closing free ends both) (some : size ends ≡ 0 → ⊥) where
+    module _ {ends : Set} (j : Joint oneWord closing free ends both) (some : size ends ≡ 0 → ⊥) where
       whole : (d : Wire) (fr cl : List Bool) → Is free fr → Is closing cl
           → eachOf (onwards d fr cl) 0 (both (near d (final (take len path))) fr) ≡ bareLine d (mostCorners - len) (take len path) fr cl
       whole d fr cl a b =

@@ -7,7 +7,7 @@ use native.Mathlib.Omega.{arith}
 use lib.ListN.{length, getD, take, set, length-set}
 use lib.Seq.{paste, length-paste}
 use Rattle.sets.specs.Word.{word, dig}
-use Rattle.sets.specs.Sets.{Is}
+use Rattle.sets.specs.Sets.{Is, withSet}
 use Rattle.sets.specs.declared.Set.{Set}
 use Rattle.sets.proofs.Sets.{word-is}
 use Rattle.paper.specs.Numbers.{mostCorners, mostLoops, rowBytes}
@@ -31,22 +31,22 @@ module _ {r : Rooms} {path : List ℕ} {len : ℕ} (p : RoomsAndPath r path len)
       adds = λ pl i. adds-over r (record { loop = take len path; plane = pl }) few-corners many;
     }
 
-    pub taken-more : (table : List ℕ) → r .count < mostLoops
+    pub taken-more : (table planes : List ℕ) → r .count < mostLoops
         → table ≡ paste (r .table) (rowBytes * r .count) (row (take len path)) rowBytes
-        → Taken r (rooms table (set (r .planes) (r .count) (plane .word)) (r .count + 1)) path len plane
-    taken-more table few e =
+        → planes ≡ withSet (r .planes) (r .count) plane → Taken r (rooms table planes (r .count + 1)) path len plane
+    taken-more table planes few e f =
         let long : length (row (take len path)) ≡ rowBytes = row-length (take len path) few-corners in
         record {
           sized = record {
             table-long = ap length e ∙ length-paste (r .table) (rowBytes * r .count) (row (take len path)) rowBytes
                 (omega (arith, p .sized .table-long)) (omega (arith, long)) ∙ p .sized .table-long;
-            planes-long = length-set (r .planes) (r .count) (plane .word) ∙ p .sized .planes-long;
+            planes-long = ap length f ∙ length-set (r .planes) (r .count) (plane .word) ∙ p .sized .planes-long;
             most = omega arith;
           };
           adds = λ pl i.
               let x : InItsPlane = record { loop = take len path; plane = pl } in
               subst (λ (s : Rooms). Adds r s (x ∷ []))
-              (λ k. rooms (sym e k) (set (r .planes) (r .count) (sym (word-is i) k)) (r .count + 1))
+              (λ k. rooms (sym e k) ((ap (set (r .planes) (r .count)) (sym (word-is i)) ∙ sym f) k) (r .count + 1))
               (adds-more r x few-corners few (p .sized .planes-long));
         }
 

@@ -43,7 +43,7 @@ fn take_in(
         return MOST_LOOPS + 1;
     }
     put_row(table, ROW * count, path, len);
-    planes[count] = plane.word;
+    Set::put(planes, count, plane);
     count + 1
 }
 

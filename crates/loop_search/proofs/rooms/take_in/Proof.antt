@@ -13,13 +13,16 @@ put-row-requires c κs =
     let s = c .before .before in
     record { table-long = s .pre .sized .table-long; roomy = omega arith; path-at = s .pre .path-at }
 
+put-requires : tie.Need-put-requires
+put-requires c κs = let p = c .before .before .before .before .pre in omega (arith, p .sized .planes-long)
+
 returns-2 : tie.Need-returns-2
 returns-2 c =
-    let s = c .before .before .before in
-    taken-more (s .pre) (s .args .plane) (c .put-row .last .0) (omega arith) (c .put-row .ensures)
+    let r = c .before .before in
+    let s = r .before .before .before in
+    taken-more (s .pre) (s .args .plane) (r .put-row .last .0) (c .put .last .0) (omega arith) (r .put-row .ensures) (c .put .ensures)
 
 pub take-in-spec : {M : Type 1} → statement M
 take-in-spec =
     tie.close
-    (tie.spec (λ c. search needs) returns (λ c. search needs) put-row-requires (λ c. search needs) (λ c. search needs) (λ c. search needs)
-    returns-2)
+    (tie.spec (λ c. search needs) returns (λ c. search needs) put-row-requires put-requires (λ c. search needs) returns-2)
