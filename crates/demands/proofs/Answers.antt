@@ -7,10 +7,10 @@ use native.Mathlib.Omega.{arith}
 use lib.IntN.{ℤ}
 use lib.ListN.{length}
 use Rattle.paper_laws.proofs.Answers.{answer-told, verdict-told, written-told, conversion-told, reading-told}
-use Rattle.paper.specs.Format.{editionOne, total, bytesFor, verticesIn, coordinatesIn, endsIn, editionOf, lentEdition}
+use Rattle.paper.specs.Format.{total, bytesFor, verticesIn, coordinatesIn, endsIn, editionOf, lentEdition, editionFor}
 use Rattle.paper.specs.Drawing.{Wire}
 use Rattle.paper.specs.Loops.{Loop}
-use Rattle.paper.specs.FaceList.{facesIn, bitsOf}
+use Rattle.paper.specs.FaceList.{bitsOf}
 use Rattle.paper.specs.Reading.{readingSays, readingOf}
 use Rattle.paper.specs.declared.Refusal.{Refusal}
 use Rattle.paper.specs.declared.Answer.{Answer}
@@ -21,7 +21,7 @@ use Rattle.paper.specs.declared.Conversion.the-variants as Conversion
 use Rattle.paper.specs.declared.Verdict.{Verdict}
 use Rattle.demands.specs.Input.{Input, lent, sheet, drawing, candidatesOf, converted}
 use Rattle.demands.specs.Table.{line, end, one, roomsAndLimit, lists, forms, drawings, ofConversion, ofWritten, ofVerdict}
-use Rattle.demands.specs.Shells.{Shape, shells, NoList}
+use Rattle.demands.specs.Shells.{Shape, GoodList, sentFaces, shells, NoList}
 use Rattle.demands.specs.Answers.{NumbersNotZero, Told, VolumeOfOne}
 use Rattle.demands.proofs.Demand1.{demand1}
 
@@ -88,17 +88,17 @@ numbered = record {
       of-forms 16 below (more 16 1 _ _ end (omega arith) (none-left 16)) (omega arith) (lent xyz ns) .number r
       (subst (λ (w : Written). forms (lent xyz ns) below (ofWritten w)) e (demand1 .writes xyz ns room)) .0;
   reads-faces = λ v list r e.
-      more 27 20 _ _ end (omega arith) (none-left 27) .number r (subst (one 20 (Shape v list → ⊥) end) e (demand1 .reads-faces v list)) .0;
-  sends = λ fs room r e.
-      let below = one 1 (length room < bytesFor (bitsOf editionOne fs)) end in
+      more 27 20 _ _ end (omega arith) (none-left 27) .number r (subst (one 20 (Shape (editionOf list) v list → ⊥) end) e (demand1 .reads-faces v list)) .0;
+  sends = λ v n fs room r e.
+      let below = one 1 (length room < bytesFor (bitsOf (editionFor v n) fs)) end in
       more 27 20 _ _ below (omega arith) (more 27 1 _ _ end (omega arith) (none-left 27)) .number r
-      (subst (λ (w : Written). one 20 (NoList fs) below (ofWritten w)) e (demand1 .sends fs room)) .0;
+      (subst (λ (w : Written). one 20 (NoList fs) below (ofWritten w)) e (demand1 .sends v n fs room)) .0;
   converts = λ x limit room solids r e. conversion-refused x limit room solids r e .0;
   checks = λ x list r e.
       let d = drawing x in
-      let below = one 20 (Shape (length (d .vertices)) list → ⊥) (shells d (candidatesOf x) (facesIn editionOne list) end) in
+      let below = one 20 (GoodList d list → ⊥) (shells d (candidatesOf x) (sentFaces d list) end) in
       let listed = more 27 20 _ _ _ (omega arith)
-      (of-shells 27 end (none-left 27) (omega arith) d (candidatesOf x) (facesIn editionOne list)) in
+      (of-shells 27 end (none-left 27) (omega arith) d (candidatesOf x) (sentFaces d list)) in
       of-forms 27 (drawings d below) (of-drawings 27 below listed (omega arith) d) (omega arith) x .number r
       (subst (λ (v : Verdict). forms x (drawings d below) (ofVerdict v)) e (demand1 .checks x list)) .0;
   below = λ x limit room solids r e. conversion-refused x limit room solids r e .1;

@@ -7,15 +7,15 @@ use Prim.Native.Nat.{ℕ, _<_}
 use native.Mathlib.Omega.{arith}
 use lib.Ieee.{Float}
 use lib.ListN.{length}
-use Rattle.paper.specs.Format.{editionOne}
+use Rattle.paper.specs.Format.{editionFor}
 use Rattle.paper.specs.Numbers.{documented}
 use Rattle.paper.specs.Refusals.{Check, check, firstOf, offends}
-use Rattle.paper.specs.FaceList.{facesIn, wellShaped}
+use Rattle.paper.specs.FaceList.{wellShaped}
 use Rattle.paper.specs.Drawing.{drawingChecks}
 use Rattle.paper.specs.Loops.{loops, candidates, loopChecks}
 use Rattle.paper.specs.Solids.{tablesOf}
 use Rattle.paper.specs.Conversion.{Converted, entryChecks, conversion}
-use Rattle.paper.specs.Verdict.{listed}
+use Rattle.paper.specs.Verdict.{listed, listEdition}
 use Rattle.paper.specs.Verdict.{faceChecks, verdictFor, verdict}
 use Rattle.paper.specs.Reading.{conversionSays, volume, readingOf}
 use Rattle.paper.specs.declared.Answer.{Answer}
@@ -31,11 +31,12 @@ use Rattle.means_report.proofs.Counted.{counted}
 use Rattle.means_report.proofs.Report.{Tells, Sound}
 use Rattle.means_report.proofs.Demand.{says-none, says-one, says-several, says-many, says-long}
 use Rattle.means_report.proofs.Converted.{Cases, the-walk, conversion-says}
+use Rattle.paper_laws.proofs.Editions.{one-for}
 use Rattle.paper_laws.proofs.Checks.{first-both}
 use Rattle.means_check.proofs.Demand.{drawing-fits}
 use Rattle.demands.specs.Input.{Input, drawing, candidatesOf, form, rules, Passes}
 use Rattle.demands.specs.Table.{end, one, roomsAndLimit, forms, drawings, ofConversion, ofVerdict}
-use Rattle.demands.specs.Shells.{Shape, shells}
+use Rattle.demands.specs.Shells.{GoodList, sentFaces, shells}
 use Rattle.demands.specs.Demand1.{WithinLimit, Demand1}
 use Rattle.demands.proofs.Input.{converted-is, checked-is, drawing-fine}
 use Rattle.paper_laws.proofs.Tests.{is-not}
@@ -50,23 +51,23 @@ use Rattle.demands.proofs.Written.{read-says, read-blank, faces-say, wr
 check-says : (x : Input) (list : List ℕ)
     → forms x
     (drawings (drawing x)
-    (one 20 (Shape (length (drawing x .vertices)) list → ⊥) (shells (drawing x) (candidatesOf x) (facesIn editionOne list) end)))
+    (one 20 (GoodList (drawing x) list → ⊥) (shells (drawing x) (candidatesOf x) (sentFaces (drawing x) list) end)))
     (ofVerdict (verdict (form x) (drawing x) list))
 unfolding verdict candidates
 check-says x list =
     let d = drawing x in
-    let fs = facesIn editionOne list in
-    let ks = check 20 (offends (not (wellShaped editionOne (length (d .vertices)) list)) 0)
+    let fs = sentFaces d list in
+    let ks = check 20 (offends (not (wellShaped (listEdition d) (length (d .vertices)) list)) 0)
     ∷ faceChecks (tablesOf d (candidates d)) (length (candidates d)) (listed (candidates d) fs) in
-    let s = ends (λ below. forms x (drawings d (one 20 (Shape (length (d .vertices)) list → ⊥) (shells d (candidates d) fs below))))
+    let s = ends (λ below. forms x (drawings d (one 20 (GoodList d list → ⊥) (shells d (candidates d) fs below))))
     (rules x ++ ks)
-    (behind (λ below. forms x (drawings d below)) (λ below. one 20 (Shape (length (d .vertices)) list → ⊥) (shells d (candidates d) fs below))
+    (behind (λ below. forms x (drawings d below)) (λ below. one 20 (GoodList d list → ⊥) (shells d (candidates d) fs below))
     (rules x) ks (rules-say x) (λ p.
-    also-one 20 (Shape (length (d .vertices)) list → ⊥) (not (wellShaped editionOne (length (d .vertices)) list))
-    (is-not (wellShaped editionOne (length (d .vertices)) list) (is-shape (length (d .vertices)) list)) (shells d (candidates d) fs)
+    also-one 20 (GoodList d list → ⊥) (not (wellShaped (listEdition d) (length (d .vertices)) list))
+    (is-not (wellShaped (listEdition d) (length (d .vertices)) list) (is-shape (one-for (length (d .vertices)) (length (d .edges))) (length (d .vertices)) list)) (shells d (candidates d) fs)
     (faceChecks (tablesOf d (candidates d)) (length (candidates d)) (listed (candidates d) fs))
     (λ e. shells-say d (candidates d) fs (drawing-fits d (drawing-fine x p))))) in
-    subst (forms x (drawings d (one 20 (Shape (length (d .vertices)) list → ⊥) (shells d (candidates d) fs end))))
+    subst (forms x (drawings d (one 20 (GoodList d list → ⊥) (shells d (candidates d) fs end))))
     (sym (of-verdict (firstOf (rules x ++ ks)))) s
   where
     of-verdict : (a : Answer) → ofVerdict (verdictFor a) ≡ a
@@ -213,19 +214,19 @@ demand1 = record {
       λ x list. subst
       (λ (v : Verdict). forms x
       (drawings (drawing x)
-      (one 20 (Shape (length (drawing x .vertices)) list → ⊥) (shells (drawing x) (candidatesOf x) (facesIn editionOne list) end)))
+      (one 20 (GoodList (drawing x) list → ⊥) (shells (drawing x) (candidatesOf x) (sentFaces (drawing x) list) end)))
       (ofVerdict v))
       (sym (checked-is x list)) (check-says x list);
   reads = read-says;
   reads-faces = faces-say;
   writes = write-says;
-  sends = send-says;
+  sends = λ v e. send-says (one-for v e);
   rooms-kept = λ x limit room solids e.
       subst (λ (c : Converted). solidCount (c .answer) ≡ 0 → (c .faces ≡ room) × (c .solids ≡ solids))
       (sym (converted-is x limit room solids)) (keeps x limit room solids) e;
   blank-kept = read-blank;
   room-kept = write-keeps;
-  send-room-kept = send-keeps;
+  send-room-kept = λ v e. send-keeps (editionFor v e);
   volume-of = volume-one;
   one-solid = one-volume;
   several = several-none;

@@ -4,14 +4,13 @@ use mathlib.Core.Bool.{Bool}
 use mathlib.Core.Logic.{inl, inr}
 use mathlib.Core.List.{List, [], _∷_}
 use Prim.Native.Nat.{ℕ, _+_, _*_, _<_}
+use native.Mathlib.Nat.{le-trans}
 use native.Mathlib.Omega.{arith}
-use lib.ListN.{length, getD, drop}
-use Rattle.sets.specs.Word.{word}
-use Rattle.paper.specs.Format.{editionOne}
-use Rattle.paper.specs.FaceList.{encodeFaces, facesIn, solidFaces}
+use lib.ListN.{length, drop}
+use Rattle.paper.specs.FaceList.{encodeFaces, solidFaces, wellShaped}
 use Rattle.paper.specs.Loops.{Loop, loopAt, loops, candidates}
 use Rattle.paper.specs.Conversion.{Converted, facesAfter}
-use Rattle.paper.specs.Verdict.{verdict}
+use Rattle.paper.specs.Verdict.{verdict, listEdition}
 use Rattle.paper.specs.declared.Refusal.{Refusal}
 use Rattle.paper.specs.declared.Verdict.{Verdict}
 use Rattle.paper.specs.declared.Verdict.the-variants.{Accepted, Refused}
@@ -35,7 +34,9 @@ use Rattle.means_check.proofs.Bodies.{faceList-names, same-named, names-again, 
 use Rattle.means_check.proofs.Demand.{drawing-places, drawing-fits, accepts-exactly, each-accepted, one-named, not-turned, not-missing}
 use Rattle.means_check.proofs.Demand.{not-doubled}
 use Rattle.means_check.proofs.Parts.{some-face}
-use Rattle.means_sheets.proofs.FaceLists.{faces-read-one}
+use Rattle.means_sheets.proofs.Sheets.{sound-for}
+use Rattle.means_sheets.proofs.FaceLists.{faces-read}
+use Rattle.demands.specs.Shells.{sentFaces, GoodList}
 use Rattle.demands.specs.Input.{Input, drawing, form, Passes, converted, checked}
 use Rattle.demands.specs.Demand3.{NamesIt, Report, Demand3, Holds3}
 use Rattle.demands.specs.Spoiled.{Spoiled, face-turned, all-turned, face-missing, face-doubled}
@@ -44,6 +45,8 @@ use Rattle.demands.proofs.Shape.{is-shape}
 use Rattle.demands.proofs.Solid.{every-words, names-words, words-names}
 use Rattle.demands.proofs.Sendable.{names-sent, sent-taken}
 use Rattle.demands.proofs.Rooms.{faces-reported, words-at}
+use Rattle.paper_laws.proofs.Tests.{Is}
+use Rattle.paper_laws.proofs.Editions.{fits-for, one-for}
 
 module _ (x : Input) (p : Passes x) where
   fits : ProperCandidates (drawing x) (candidates (drawing x))
@@ -51,26 +54,32 @@ module _ (x : Input) (p : Passes x) where
 
   -- faces that name a solid can be sent
   sendable : (taken turned : List Bool) (six : ℕ) → IsSolid (drawing x) (candidates (drawing x)) taken turned six → (fs : List Loop)
-      → Names (drawing x) (candidates (drawing x)) taken turned fs → Sendable editionOne (length (drawing x .vertices)) fs
+      → Names (drawing x) (candidates (drawing x)) taken turned fs → Sendable (listEdition (drawing x)) (length (drawing x .vertices)) fs
   sendable taken turned six s fs n =
-      names-sent (drawing x) fits (drawing-places (drawing x) (drawing-fine x p)) (small x (form-fine x p) .1) taken turned s fs n
+      let few = small x (form-fine x p) in
+      names-sent (drawing x) fits (drawing-places (drawing x) (drawing-fine x p)) (few .0) (few .1) taken turned s fs n
 
   -- they are accepted, packed
   packed : (taken turned : List Bool) (six : ℕ) → IsSolid (drawing x) (candidates (drawing x)) taken turned six → (fs : List Loop)
-      → Names (drawing x) (candidates (drawing x)) taken turned fs → checked x (encodeFaces editionOne fs) ≡ Accepted
+      → Names (drawing x) (candidates (drawing x)) taken turned fs → checked x (encodeFaces (listEdition (drawing x)) fs) ≡ Accepted
   packed taken turned six s fs n =
-      let b = faces-read-one (length (drawing x .vertices)) (small x (form-fine x p) .0) fs (sendable taken turned six s fs n) in
-      checked-is x (encodeFaces editionOne fs)
+      let d = drawing x in
+      let few = small x (form-fine x p) in
+      let sound = sound-for (length (d .vertices)) (length (d .edges)) in
+      let fits = fits-for (length (d .vertices)) (length (d .edges)) (few .0) (few .1) in
+      let b = faces-read (listEdition d) sound (length (d .vertices)) (le-trans (fits .v-fits) (sound .numbers-fit)) fs
+      (sendable taken turned six s fs n) in
+      checked-is x (encodeFaces (listEdition (drawing x)) fs)
       ∙ each-accepted (form x) (drawing x) (form-fine x p) (drawing-fine x p) (loops-fine x p) taken turned six s
-      (encodeFaces editionOne fs) (b .shape)
+      (encodeFaces (listEdition (drawing x)) fs) (b .shape)
       (subst (λ (gs : List Loop). Names (drawing x) (candidates (drawing x)) taken turned gs) (sym (b .faces)) n)
 
-  named : (list : List ℕ) → checked x list ≡ Accepted → NamesSolid (drawing x) (candidates (drawing x)) (facesIn editionOne list)
+  named : (list : List ℕ) → checked x list ≡ Accepted → NamesSolid (drawing x) (candidates (drawing x)) (sentFaces (drawing x) list)
   named list a = accepts-exactly (form x) (drawing x) list .0 (sym (checked-is x list) ∙ a) .named
 
   -- what is accepted is one of all solids
   module _ (es : List Entry) (all : EverySolidOnce (drawing x) (candidates (drawing x)) es) where
-    among : (list : List ℕ) → checked x list ≡ Accepted → (i : ℕ) × (i < length es) × NamesIt x (entryAt es i) (facesIn editionOne list)
+    among : (list : List ℕ) → checked x list ≡ Accepted → (i : ℕ) × (i < length es) × NamesIt x (entryAt es i) (sentFaces (drawing x) list)
     among list a =
         let w = named list a in
         let r = all .there (w .solid) in (
@@ -78,19 +87,19 @@ module _ (x : Input) (p : Passes x) where
           r .1,
           names-to (drawing x) (candidates (drawing x)) (entryAt es (r .0) .taken) (w .turned) (entryAt es (r .0) .turned)
               (λ k. sym (r .3 k))
-              (subst (λ (t : List Bool). Names (drawing x) (candidates (drawing x)) t (w .turned) (facesIn editionOne list)) (sym (r .2))
+              (subst (λ (t : List Bool). Names (drawing x) (candidates (drawing x)) t (w .turned) (sentFaces (drawing x) list)) (sym (r .2))
               (w .names)),
         )
 
     alone : length es ≡ 1 → (a b : List ℕ) → checked x a ≡ Accepted → checked x b ≡ Accepted
-        → SameBody (facesIn editionOne a) (facesIn editionOne b)
+        → SameBody (sentFaces (drawing x) a) (sentFaces (drawing x) b)
     alone e a b p q =
         let r = among a p in
         let s = among b q in
         let z : s .0 ≡ r .0 = omega (arith, r .1, s .1) in
-        same-named (drawing x) (candidates (drawing x)) fits (entryAt es (r .0) .taken) (entryAt es (r .0) .turned) (facesIn editionOne a)
-        (facesIn editionOne b) (r .2)
-        (subst (λ (i : ℕ). NamesIt x (entryAt es i) (facesIn editionOne b)) z (s .2))
+        same-named (drawing x) (candidates (drawing x)) fits (entryAt es (r .0) .taken) (entryAt es (r .0) .turned) (sentFaces (drawing x) a)
+        (sentFaces (drawing x) b) (r .2)
+        (subst (λ (i : ℕ). NamesIt x (entryAt es i) (sentFaces (drawing x) b)) z (s .2))
 
     -- no two of them have lists that are the same body
     differ : (i j : ℕ) → i < length es → j < length es → (fs gs : List Loop) → NamesIt x (entryAt es i) fs → NamesIt x (entryAt es j) gs
@@ -108,10 +117,10 @@ module _ (x : Input) (p : Passes x) where
   -- ---- what comes of an accepted list by turning, leaving out or doubling faces
   module _ (a b : List ℕ) (ok : checked x a ≡ Accepted) (too : checked x b ≡ Accepted) where
     abbrev fs : List Loop
-    fs = facesIn editionOne a
+    fs = sentFaces (drawing x) a
 
     abbrev gs : List Loop
-    gs = facesIn editionOne b
+    gs = sentFaces (drawing x) b
 
     ok-is : verdict (form x) (drawing x) a ≡ Accepted
     ok-is = sym (checked-is x a) ∙ ok
@@ -139,7 +148,7 @@ module _ (x : Input) (p : Passes x) where
     spoiled (face-doubled i j hi hj n (inl s)) = not-doubled (form x) (drawing x) b too-is i j hi hj n s
     spoiled (face-doubled i j hi hj n (inr s)) = not-turned (form x) (drawing x) b too-is b too-is itself j i hj hi s
 
-  refused : (a b : List ℕ) → checked x a ≡ Accepted → Spoiled (facesIn editionOne a) (facesIn editionOne b)
+  refused : (a b : List ℕ) → checked x a ≡ Accepted → Spoiled (sentFaces (drawing x) a) (sentFaces (drawing x) b)
       → (r : Refusal) × (checked x b ≡ Refused r)
   refused a b ok s = go (checked x b) refl
     where
@@ -164,18 +173,14 @@ module _ (x : Input) (p : Passes x) where
       written (e ∷ es) l = refl
 
       own : Reported (drawing x) (the-walk (drawing x)) limit room solids r → (i : ℕ) → i < length es
-          → solidFaces (r .faces) (getD (r .solids) (3 * i) 0) (getD (r .solids) (3 * i + 1) 0) ≡ faceList (drawing x)
+          → solidFaces (r .faces) (drop (3 * i) (r .solids)) ≡ faceList (drawing x)
           (candidates (drawing x)) (entryAt es i .taken) (entryAt es i .turned)
       own t i l =
           let w = words-at es (drop (3 * length es) solids) i l in
-          let a : getD (r .solids) (3 * i) 0 ≡ word (entryAt es i .taken) = ap (λ (ws : List ℕ). getD ws (3 * i) 0) (t .solids-left)
-          ∙ w .0 in
-          let b : getD (r .solids) (3 * i + 1) 0 ≡ word (entryAt es i .turned) = ap (λ (ws : List ℕ). getD ws (3 * i + 1) 0)
-          (t .solids-left) ∙ w .1 in
+          let e = entryAt es i in
           let f : r .faces ≡ facesAfter (candidates (drawing x)) room = t .faces-left ∙ written es (omega arith) in
-          ap (λ (rs : List ℕ). solidFaces rs (getD (r .solids) (3 * i) 0) (getD (r .solids) (3 * i + 1) 0)) f
-          ∙ ap₂ (solidFaces (facesAfter (candidates (drawing x)) room)) a b
-          ∙ faces-reported (drawing x) (loops-fine x p) room (entryAt es i .taken) (entryAt es i .turned) (all .each i l .some)
+          ap₂ solidFaces f (ap (drop (3 * i)) (t .solids-left) ∙ w .1)
+          ∙ faces-reported (drawing x) (loops-fine x p) room (w .0) (e .taken) (e .turned) (all .each i l .some) (e .six)
 
       go : Tells (drawing x) (the-walk (drawing x)) limit room solids r → Report x solids r
       go (inl t) = record {
@@ -191,7 +196,7 @@ module _ (x : Input) (p : Passes x) where
             λ i l. subst (NamesIt x (entryAt es i)) (sym (own t i l))
             (faceList-names (drawing x) (candidates (drawing x)) fits (entryAt es i .taken) (entryAt es i .turned) (all .each i l));
         sent =
-            λ i l fs n. sent-taken (small x (form-fine x p) .0) fs
+            λ i l fs n. sent-taken (one-for (length (drawing x .vertices)) (length (drawing x .edges))) (small x (form-fine x p) .0) fs
             (sendable (entryAt es i .taken) (entryAt es i .turned) (entryAt es i .six) (all .each i l) fs n);
         other = among es all;
         differ = differ es all;
@@ -200,14 +205,24 @@ module _ (x : Input) (p : Passes x) where
       go (inr (inl t)) = absurd (omega (arith, ap solidCount (t .answer)))
       go (inr (inr t)) = absurd (omega (arith, ap solidCount (t .answer)))
 
+  -- 20 is asked just where the list is no good one
+  shaped : (list : List ℕ) → Is (wellShaped (listEdition (drawing x)) (length (drawing x .vertices)) list) (GoodList (drawing x) list)
+  shaped = is-shape (one-for (length (drawing x .vertices)) (length (drawing x .edges))) (length (drawing x .vertices))
+
   holds : Demand3 x
   holds = record {
     exactly = λ list. (
       λ a. let w = accepts-exactly (form x) (drawing x) list .0 (sym (checked-is x list) ∙ a) in
-          (is-shape (length (drawing x .vertices)) list .0 (w .shape), names-words (drawing x) (w .named)),
+          (shaped list .0 (w .shape), names-words (drawing x) (w .named)),
       λ w. checked-is x list
           ∙ accepts-exactly (form x) (drawing x) list .1
-          (record { form-passes = form-fine x p; drawing-passes = drawing-fine x p; few = loops-fine x p; shape = is-shape (length (drawing x .vertices)) list .1 (w .0); named = words-names (drawing x) (w .1) }),
+          (record {
+            form-passes = form-fine x p;
+            drawing-passes = drawing-fine x p;
+            few = loops-fine x p;
+            shape = shaped list .1 (w .0);
+            named = words-names (drawing x) (w .1);
+          }),
     );
     one-solid = λ fs a b. one-named (form x) (drawing x) (drawing-fine x p) fs (words-names (drawing x) a) (words-names (drawing x) b);
     refused = refused;

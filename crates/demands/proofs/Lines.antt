@@ -10,7 +10,7 @@ use lib.ListN.{length, getD}
 use native.Mathlib.Omega.{arith}
 use Rattle.lists.specs.Lists.{lowest}
 use Rattle.paper.specs.Numbers.{documented}
-use Rattle.paper.specs.Format.{editionOne, outside, total, bytesFor, fillAfter, verticesIn, edgesIn, editionOf}
+use Rattle.paper.specs.Format.{outside, total, bytesFor, fillAfter, verticesIn, edgesIn, editionOf}
 use Rattle.paper.specs.Format.{coordinatesIn, endsIn}
 use Rattle.pack.specs.Bits.{fieldAt}
 use Rattle.paper.specs.Sheet.{badCount, farAt, wrong, wrongAt, edgeAbove, lowAt, edgeChecks, contentChecks, countChecks, openChecks}
@@ -81,14 +81,15 @@ unfolding lentChecks sheetChecks shapeChecks openChecks countChecks closeChecks
 form-says (lent xyz ns) =
     also-two 5 _ _ _ _ (is-bad 3 4 32 (length xyz)) (is-bad 2 6 64 (length ns)) _ _ (content-says (length xyz / 3) xyz ns)
 form-says (sheet s) =
-    let v = verticesIn (editionOf s) s in
-    let n = edgesIn (editionOf s) s in
+    let f = editionOf s in
+    let v = verticesIn f s in
+    let n = edgesIn f s in
     also-one 3 _ _ (is-lt (length s) 3) _ _ (λ e.
     also-one 4 _ _ (is-not (eqb (fieldAt s 0 4) 1) (is-eq (fieldAt s 0 4) 1)) _ _ (λ e.
     also-two 5 _ _ _ _ (is-outside 4 32 v) (is-outside 6 64 n) _ _
-    (also-one 6 _ _ (is-not (eqb (length s) (bytesFor (total editionOne v n))) (is-eq (length s) (bytesFor (total editionOne v n)))) _ _ (λ e.
-    also-one 7 _ _ (is-not (eqb (fillAfter (total editionOne v n) s) 0) (is-eq (fillAfter (total editionOne v n) s) 0)) _ _ (λ e.
-    content-says v (coordinatesIn (editionOf s) s) (endsIn (editionOf s) s))))))
+    (also-one 6 _ _ (is-not (eqb (length s) (bytesFor (total f v n))) (is-eq (length s) (bytesFor (total f v n)))) _ _ (λ e.
+    also-one 7 _ _ (is-not (eqb (fillAfter (total f v n) s) 0) (is-eq (fillAfter (total f v n) s) 0)) _ _ (λ e.
+    content-says v (coordinatesIn f s) (endsIn f s))))))
 
 -- ---- 11 to 16: where 9 finds nothing the ends of edges rise
 

@@ -10,11 +10,10 @@ use Rattle.lists.proofs.Truth.{same-truth}
 use Rattle.paper.specs.Numbers.{mostSolids, documented}
 use Rattle.paper.specs.Points.{times}
 use Rattle.paper.specs.Refusals.{firstOf}
-use Rattle.paper.specs.Format.{editionOne}
 use Rattle.paper.specs.FaceList.{wellShaped}
 use Rattle.paper.specs.Drawing.{Wire, wire}
 use Rattle.paper.specs.Conversion.{Converted, conversion}
-use Rattle.paper.specs.Verdict.{verdict}
+use Rattle.paper.specs.Verdict.{verdict, listEdition}
 use Rattle.paper.specs.declared.Answer.the-variants.{Fine}
 use Rattle.paper.specs.declared.Point.{Point}
 use Rattle.means_drawing.specs.Drawings.{Rising}
@@ -31,11 +30,12 @@ use Rattle.means_moves.proofs.Turned.{follows-same, follows-mirrored, follows-s
 use Rattle.means_moves.proofs.Lent.{forms-near, forms-mirror, either-follows, either-kept, either-round}
 use Rattle.means_moves.proofs.Higher.{conversion-higher}
 use Rattle.demands.specs.Input.{Input, lent, sheet, drawing, form, converted, checked}
-use Rattle.demands.specs.Shells.{Shape}
+use Rattle.demands.specs.Shells.{GoodList, sentFaces}
 use Rattle.demands.specs.Moved.{coordinates, links, Made, Round, Shifts, Mirrors, Laid, Turns, Scales}
 use Rattle.demands.specs.Limits.{HigherLimit}
 use Rattle.demands.proofs.Input.{converted-is, checked-is, rising}
 use Rattle.demands.proofs.Shape.{is-shape}
+use Rattle.paper_laws.proofs.Editions.{one-for}
 
 -- ---- one form for both kinds of drawing
 
@@ -55,10 +55,13 @@ checked-as : (x : Input) (list : List ℕ) → checked x list ≡ verdict (form 
 checked-as x list = checked-is x list ∙ ap (λ (d : Wire). verdict (form x) d list) (drawing-is x)
 
 -- the two lists are both of good shape, or neither
-shapes-same : (v : ℕ) (list other : List ℕ) → Shape v list ↔ Shape v other → wellShaped editionOne v other ≡ wellShaped editionOne v list
-shapes-same v list other s =
-    same-truth (wellShaped editionOne v other) (wellShaped editionOne v list)
-    (λ e. is-shape v list .1 (s .1 (is-shape v other .0 e))) (λ e. is-shape v other .1 (s .0 (is-shape v list .0 e)))
+shapes-same : (d : Wire) (list other : List ℕ) → GoodList d list ↔ GoodList d other
+    → let v = length (d .vertices) in wellShaped (listEdition d) v other ≡ wellShaped (listEdition d) v list
+shapes-same d list other s =
+    let v = length (d .vertices) in
+    let is = is-shape (one-for v (length (d .edges))) v in
+    same-truth (wellShaped (listEdition d) v other) (wellShaped (listEdition d) v list)
+    (λ e. is list .1 (s .1 (is other .0 e))) (λ e. is other .1 (s .0 (is list .0 e)))
 
 -- ---- any move
 
@@ -71,7 +74,7 @@ module _ (m : Move) (x y : Input) (made : Made (m .to) x y) where
       (subst (FollowsMoved (turnsBy (m .sides-by)) (natAbs (m .sides-by)) solids
       (conversion documented (form x) (wire (coordinates x) (links x)) limit faces solids)) (sym (converted-as y limit faces solids))
       (either-follows m (form x) (form y) (made .forms) (coordinates x) (coordinates y) (links x) (links y) (rises x) (made .edges)
-      (made .points) mostSolids limit faces solids))
+      (made .points) documented limit faces solids))
 
   kept : turnsBy (m .sides-by) ≡ false → (list : List ℕ) → checked y list ≡ checked x list
   kept t list =
@@ -85,8 +88,9 @@ module _ (m : Move) (x y : Input) (made : Made (m .to) x y) where
       checked-as y other
       ∙ either-round m (form x) (form y) (made .forms) (coordinates x) (coordinates y) (links x) (links y) (rises x) (made .edges)
       (made .points) t list other
-      (subst (λ (d : Wire). wellShaped editionOne (length (d .vertices)) other ≡ wellShaped editionOne (length (d .vertices)) list)
-      (drawing-is x) (shapes-same (length (drawing x .vertices)) list other (round .shape))) (round .faces)
+      (subst (λ (d : Wire). wellShaped (listEdition d) (length (d .vertices)) other ≡ wellShaped (listEdition d) (length (d .vertices)) list)
+      (drawing-is x) (shapes-same (drawing x) list other (round .shape)))
+      (subst (λ (d : Wire). AllTurned (sentFaces d list) (sentFaces d other)) (drawing-is x) (round .faces))
       ∙ sym (checked-as x list)
 
 -- lent lists, with any fault that 8 does not tell

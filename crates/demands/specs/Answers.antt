@@ -3,7 +3,7 @@ use mathlib.Core.Path.{_≡_}
 use mathlib.Core.List.{List}
 use Prim.Native.Nat.{ℕ, _≤_, _<_}
 use lib.IntN.{ℤ}
-use Rattle.paper.specs.Format.{editionOne, lentEdition}
+use Rattle.paper.specs.Format.{editionOf, editionFor, lentEdition}
 use Rattle.paper.specs.Loops.{Loop}
 use Rattle.paper.specs.FaceList.{facesOf, sentOf}
 use Rattle.paper.specs.Sheet.{writtenOf, readSheet}
@@ -21,9 +21,10 @@ use Rattle.demands.specs.Input.{Input, converted, checked}
 -- no refusal has the number 0, which says that nothing is refused
 pub record NumbersNotZero : Type 0 where
   pub reads : (s : List ℕ) (r : Refusal) → readSheet s .answer ≡ Answer.Refused r → 0 < r .number
-  pub writes : (xyz : List ℤ) (ends room : List ℕ) (r : Refusal) → writtenOf (lentEdition xyz ends) xyz ends room ≡ Written.Refused r → 0 < r .number
-  pub reads-faces : (v : ℕ) (list : List ℕ) (r : Refusal) → facesOf editionOne v list .answer ≡ Answer.Refused r → 0 < r .number
-  pub sends : (fs : List Loop) (room : List ℕ) (r : Refusal) → sentOf editionOne fs room ≡ Written.Refused r → 0 < r .number
+  pub writes : (xyz : List ℤ) (ends room : List ℕ) (r : Refusal) → writtenOf (lentEdition xyz ends) xyz ends room ≡ Written.Refused r
+      → 0 < r .number
+  pub reads-faces : (v : ℕ) (list : List ℕ) (r : Refusal) → facesOf (editionOf list) v list .answer ≡ Answer.Refused r → 0 < r .number
+  pub sends : (v e : ℕ) (fs : List Loop) (room : List ℕ) (r : Refusal) → sentOf (editionFor v e) fs room ≡ Written.Refused r → 0 < r .number
   pub converts : (x : Input) (limit : ℕ) (room solids : List ℕ) (r : Refusal)
       → converted x limit room solids .answer ≡ Conversion.Refused r → 0 < r .number
   pub checks : (x : Input) (list : List ℕ) (r : Refusal) → checked x list ≡ Verdict.Refused r → 0 < r .number
@@ -35,8 +36,9 @@ pub record NumbersNotZero : Type 0 where
 pub record Told : Type 0 where
   pub sheets : (s t : List ℕ) → answerSays (readSheet s .answer) ≡ answerSays (readSheet t .answer)
       → readSheet s .answer ≡ readSheet t .answer
-  pub faces : (v w : ℕ) (s t : List ℕ) → answerSays (facesOf editionOne v s .answer) ≡ answerSays (facesOf editionOne w t .answer)
-      → facesOf editionOne v s .answer ≡ facesOf editionOne w t .answer
+  pub faces : (v w : ℕ) (s t : List ℕ)
+      → answerSays (facesOf (editionOf s) v s .answer) ≡ answerSays (facesOf (editionOf t) w t .answer)
+      → facesOf (editionOf s) v s .answer ≡ facesOf (editionOf t) w t .answer
   pub verdicts : (x y : Input) (s t : List ℕ) → verdictSays (checked x s) ≡ verdictSays (checked y t) → checked x s ≡ checked y t
   pub written : (a b : Written) → writtenSays a ≡ writtenSays b → a ≡ b
   pub conversions : (a b : Conversion) → conversionSays a ≡ conversionSays b → a ≡ b

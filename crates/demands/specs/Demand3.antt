@@ -2,10 +2,11 @@
 use mathlib.Core.Path.{_≡_}
 use mathlib.Core.Logic.{_↔_}
 use mathlib.Core.List.{List, _++_, flatMap}
-use Prim.Native.Nat.{ℕ, _+_, _*_, _≤_, _<_}
-use lib.ListN.{length, getD, drop}
-use Rattle.paper.specs.Format.{editionOne, bytesFor}
-use Rattle.paper.specs.FaceList.{encodeFaces, facesIn, bitsOf, solidFaces}
+use Prim.Native.Nat.{ℕ, _*_, _≤_, _<_}
+use lib.ListN.{length, drop}
+use Rattle.paper.specs.Verdict.{listEdition}
+use Rattle.paper.specs.Format.{bytesFor}
+use Rattle.paper.specs.FaceList.{encodeFaces, bitsOf, solidFaces}
 use Rattle.paper.specs.Loops.{Loop}
 use Rattle.paper.specs.Conversion.{Converted}
 use Rattle.paper.specs.declared.Refusal.{Refusal}
@@ -17,7 +18,7 @@ use Rattle.means_check.specs.Bodies.{SameBody}
 use Rattle.means_report.specs.Report.{solidCount}
 use Rattle.demands.specs.Input.{Input, drawing, candidatesOf, Passes, converted, checked}
 use Rattle.demands.specs.Solid.{Every, NamesOne}
-use Rattle.demands.specs.Shells.{Shape, NoList}
+use Rattle.demands.specs.Shells.{GoodList, sentFaces, NoList}
 use Rattle.demands.specs.Spoiled.{Spoiled}
 
 module _ (x : Input) where
@@ -32,33 +33,33 @@ module _ (x : Input) where
     pub n : length es ≡ solidCount (r .answer)
     pub all : Every (drawing x) (candidatesOf x) es
     pub words : r .solids ≡ flatMap wordsOf es ++ drop (3 * length es) solids
-    -- "each of the n is accepted": any faces that name it, packed; and the faces that its words and the report's rows give do name it
-    pub each : (i : ℕ) → i < length es → (fs : List Loop) → NamesIt (entryAt es i) fs → checked x (encodeFaces editionOne fs) ≡ Accepted
+    -- "each of the n is accepted": any faces that name it, packed; and the faces that its record and the report's rows give do name it
+    pub each : (i : ℕ) → i < length es → (fs : List Loop) → NamesIt (entryAt es i) fs → checked x (encodeFaces (listEdition (drawing x)) fs) ≡ Accepted
     pub some : (i : ℕ) → i < length es
-        → NamesIt (entryAt es i) (solidFaces (r .faces) (getD (r .solids) (3 * i) 0) (getD (r .solids) (3 * i + 1) 0))
+        → NamesIt (entryAt es i) (solidFaces (r .faces) (drop (3 * i) (r .solids)))
     -- such faces can be sent: the writer of face lists takes them, and 338 bytes are enough
     pub sent : (i : ℕ) → i < length es → (fs : List Loop) → NamesIt (entryAt es i) fs
-        → (NoList fs → ⊥) × (bytesFor (bitsOf editionOne fs) ≤ 338)
+        → (NoList fs → ⊥) × (bytesFor (bitsOf (listEdition (drawing x)) fs) ≤ 338)
     -- "no other body is": what is accepted names one of the n
-    pub other : (list : List ℕ) → checked x list ≡ Accepted → (i : ℕ) × (i < length es) × NamesIt (entryAt es i) (facesIn editionOne list)
+    pub other : (list : List ℕ) → checked x list ≡ Accepted → (i : ℕ) × (i < length es) × NamesIt (entryAt es i) (sentFaces (drawing x) list)
     -- the n are n bodies: no two have lists that are the same body
     pub differ : (i j : ℕ) → i < length es → j < length es → (fs gs : List Loop) → NamesIt (entryAt es i) fs → NamesIt (entryAt es j) gs
         → SameBody fs gs → i ≡ j
     -- "with n = 1 any two accepted lists are the same body"
     pub same : length es ≡ 1 → (a b : List ℕ) → checked x a ≡ Accepted → checked x b ≡ Accepted
-        → SameBody (facesIn editionOne a) (facesIn editionOne b)
+        → SameBody (sentFaces (drawing x) a) (sentFaces (drawing x) b)
 
   -- "For a drawing that passes the drawing rules"
   pub record Demand3 : Type 0 where
     -- "the check accepts a list exactly when it names one solid of demand 2 with its directions": a list of good shape, 20
     pub exactly : (list : List ℕ)
         → (checked x list ≡ Accepted)
-        ↔ (Shape (length (drawing x .vertices)) list × NamesOne (drawing x) (candidatesOf x) (facesIn editionOne list))
+        ↔ (GoodList (drawing x) list × NamesOne (drawing x) (candidatesOf x) (sentFaces (drawing x) list))
     -- "one solid": no list names two
     pub one-solid : (fs : List Loop) (a b : NamesOne (drawing x) (candidatesOf x) fs)
         → Same (a .taken) (b .taken) × Same (a .turned) (b .turned)
     -- an accepted list with a face turned, all turned, one missing or one doubled is refused
-    pub refused : (a b : List ℕ) → checked x a ≡ Accepted → Spoiled (facesIn editionOne a) (facesIn editionOne b)
+    pub refused : (a b : List ℕ) → checked x a ≡ Accepted → Spoiled (sentFaces (drawing x) a) (sentFaces (drawing x) b)
         → (r : Refusal) × (checked x b ≡ Refused r)
     pub reports : (limit : ℕ) (room solids : List ℕ) → 0 < solidCount (converted x limit room solids .answer)
         → Report solids (converted x limit room solids)

@@ -8,8 +8,7 @@ use Prim.Native.Nat.{ℕ, _<_}
 use lib.IntN.{ℤ, pos}
 use lib.ListN.{length}
 use Rattle.paper.specs.Points.{times}
-use Rattle.paper.specs.Format.{editionOne, coordinatesIn, endsIn, editionOf}
-use Rattle.paper.specs.FaceList.{facesIn}
+use Rattle.paper.specs.Format.{coordinatesIn, endsIn, editionOf}
 use Rattle.paper.specs.Refusals.{firstOf}
 use Rattle.paper.specs.Conversion.{Converted}
 use Rattle.paper.specs.declared.Point.{Point}
@@ -18,7 +17,7 @@ use Rattle.means_moves.specs.Lists.{eachVertex, WithinRange}
 use Rattle.means_moves.specs.Turned.{Mirrored, Scaled}
 use Rattle.means_moves.specs.TurnedRound.{AllTurned}
 use Rattle.demands.specs.Input.{Input, lent, sheet, drawing, form, converted, checked}
-use Rattle.demands.specs.Shells.{Shape}
+use Rattle.demands.specs.Shells.{GoodList, sentFaces}
 
 -- a drawing's two lists, lent or read off a sheet
 abbrev pub coordinates : Input → List ℤ
@@ -38,8 +37,8 @@ pub record Made (by : Point → Point) (x y : Input) : Type 0 where
 
 -- two face lists of which every face of the one is that of the other turned round; of both 20 says the same
 pub record Round (x : Input) (list other : List ℕ) : Type 0 where
-  pub shape : Shape (length (drawing x .vertices)) list ↔ Shape (length (drawing x .vertices)) other
-  pub faces : AllTurned (facesIn editionOne list) (facesIn editionOne other)
+  pub shape : GoodList (drawing x) list ↔ GoodList (drawing x) other
+  pub faces : AllTurned (sentFaces (drawing x) list) (sentFaces (drawing x) other)
 
 pub record Shifts : Type 0 where
   -- "a drawing shifted by whole centimetres within the range gives the same answer, work, bit sets and volumes": the answer and both rooms.

@@ -7,11 +7,12 @@ use Prim.Native.Nat.{ℕ, _≤_, _<_}
 use lib.IntN.{pos}
 use lib.ListN.{length, getD}
 use Rattle.pack.specs.Bits.{fieldAt}
-use Rattle.paper.specs.Format.{editionOne, bytesFor, fillAfter}
+use Rattle.paper.specs.Format.{bytesFor, fillAfter}
 use Rattle.paper.specs.Drawing.{Wire, edgeAt}
 use Rattle.paper.specs.Loops.{Loop, loopAt, flipped, polygon}
 use Rattle.paper.specs.FaceList.{countIn, facesIn, bitsOf}
-use Rattle.paper.specs.Verdict.{listed}
+use Rattle.paper.specs.Verdict.{listEdition, listed}
+use Rattle.paper.specs.declared.Format.{Format}
 use Rattle.paper.specs.declared.Answer.{Answer}
 use Rattle.means_solid.specs.Solid.{Face, InTwo, EachWay, Way, sixOfFaces}
 use Rattle.means_solid.specs.Named.{SameRing, directed, Names}
@@ -22,13 +23,20 @@ use Rattle.demands.specs.Table.{Outside, line, one}
 abbrev pub Corners : ℕ → Loop → Type 0
 Corners v l = (3 ≤ length l) × (length l ≤ 12) × ((j : ℕ) → j < length l → getD l j 0 < v)
 
--- 20 ShellShape: "counts, length, fill, edition or corner number", of a list that is good for a drawing of v vertices
-pub record Shape (v : ℕ) (list : List ℕ) : Type 0 where
+-- 20 ShellShape: "counts, length, fill, edition or corner number", of a list that is good for a drawing of v vertices, in edition f
+pub record Shape (f : Format) (v : ℕ) (list : List ℕ) : Type 0 where
   pub edition : fieldAt list 0 4 ≡ 1
-  pub count : (4 ≤ countIn editionOne list) × (countIn editionOne list ≤ 42)
-  pub corners : (i : ℕ) → i < length (facesIn editionOne list) → Corners v (loopAt (facesIn editionOne list) i)
-  pub size : length list ≡ bytesFor (bitsOf editionOne (facesIn editionOne list))
-  pub fill : fillAfter (bitsOf editionOne (facesIn editionOne list)) list ≡ 0
+  pub count : (4 ≤ countIn f list) × (countIn f list ≤ 42)
+  pub corners : (i : ℕ) → i < length (facesIn f list) → Corners v (loopAt (facesIn f list) i)
+  pub size : length list ≡ bytesFor (bitsOf f (facesIn f list))
+  pub fill : fillAfter (bitsOf f (facesIn f list)) list ≡ 0
+
+-- of one that is sent for a drawing: it is in the drawing's edition, and has these faces
+abbrev pub GoodList : Wire → List ℕ → Type 0
+GoodList d list = Shape (listEdition d) (length (d .vertices)) list
+
+abbrev pub sentFaces : Wire → List ℕ → List Loop
+sentFaces d list = facesIn (listEdition d) list
 
 -- f and g are one ring of corners, "in any direction or start"
 abbrev pub Either : Loop → Loop → Type 0

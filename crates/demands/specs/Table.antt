@@ -8,7 +8,7 @@ use lib.IntN.{ℤ, pos, negsuc}
 use lib.Signed.{_<ℤ_}
 use lib.ListN.{length, getD}
 use Rattle.pack.specs.Bits.{fieldAt}
-use Rattle.paper.specs.Format.{editionOne, bytesFor, fillAfter, total, verticesIn, edgesIn, coordinatesIn, endsIn, editionOf}
+use Rattle.paper.specs.Format.{bytesFor, fillAfter, total, verticesIn, edgesIn, coordinatesIn, endsIn, editionOf}
 use Rattle.paper.specs.Drawing.{Wire}
 use Rattle.paper.specs.Loops.{loops, candidates}
 use Rattle.paper.specs.declared.Answer.{Answer}
@@ -84,13 +84,14 @@ abbrev pub forms : Input → (Answer → Type 0) → Answer → Type 0
 forms (lent xyz ends) below =
     line 5 2 (Two (CountOffends 3 4 32 (length xyz)) (CountOffends 2 6 64 (length ends))) (lists (length xyz / 3) xyz ends below)
 forms (sheet s) below =
-    let v = verticesIn (editionOf s) s in
-    let e = edgesIn (editionOf s) s in
+    let f = editionOf s in
+    let v = verticesIn f s in
+    let e = edgesIn f s in
     one 3 (length s < 3)
     (one 4 (fieldAt s 0 4 ≡ 1 → ⊥)
     (line 5 2 (Two (Outside 4 32 v) (Outside 6 64 e))
-    (one 6 (length s ≡ bytesFor (total editionOne v e) → ⊥)
-    (one 7 (fillAfter (total editionOne v e) s ≡ 0 → ⊥) (lists v (coordinatesIn (editionOf s) s) (endsIn (editionOf s) s) below)))))
+    (one 6 (length s ≡ bytesFor (total f v e) → ⊥)
+    (one 7 (fillAfter (total f v e) s ≡ 0 → ⊥) (lists v (coordinatesIn f s) (endsIn f s) below)))))
 
 -- 11 SamePlace, 12 LooseVertex, 14 Apart: "vertex". 13 EdgeMeets: "edge". 15 ManyLoops, "over 128"; 16 ManyCandidates, "over 64"
 abbrev pub drawings : Wire → (Answer → Type 0) → Answer → Type 0

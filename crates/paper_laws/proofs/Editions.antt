@@ -18,6 +18,13 @@ module _ (P : Format → Type 0) (one : P editionOne) where
   unfolding editionFor
   holds-for v e = one
 
+-- there is one, in document 01
+pub one-of : (s : List ℕ) → editionOf s ≡ editionOne
+one-of = holds-of (λ f. f ≡ editionOne) refl
+
+pub one-for : (v e : ℕ) → editionFor v e ≡ editionOne
+one-for = holds-for (λ f. f ≡ editionOne) refl
+
 one-limited : Limited editionOne
 one-limited = record { v-held = omega arith; e-held = omega arith; faces-held = omega arith }
 
