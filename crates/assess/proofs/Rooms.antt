@@ -6,7 +6,7 @@ use Prim.Native.Nat.{ℕ, _≤_}
 use borrow.Author.Tests.{le-ltb}
 use lib.Dec.{eqb, ltb}
 use lib.ListN.{length}
-use Rattle.paper.specs.Numbers.{mostWork, faceRoom, solidRoom, documented}
+use Rattle.paper.specs.Numbers.{mostWork, faceRoom, solidRoom, Limits}
 use Rattle.paper.specs.Refusals as No
 use Rattle.paper.specs.Refusals.{Check, check, offends, firstOf}
 use Rattle.paper.specs.Drawing.{Wire, drawingChecks}
@@ -63,14 +63,14 @@ module _ (faces solids faces′ solids′ : List ℕ) where
         λ i. check No.NoRoom (offends (p i) 0) ∷ check No.NoRoom (offends (q i) 1)
         ∷ check No.BadLimit (offends (ltb mostWork limit) 0) ∷ []
 
-    pub answer-same : (cap : ℕ) (form : List Check) (d : Wire) (limit : ℕ)
-        → conversion cap form d limit faces solids .answer ≡ conversion cap form d limit faces′ solids′ .answer
+    pub answer-same : (most : Limits) (form : List Check) (d : Wire) (limit : ℕ)
+        → conversion most form d limit faces solids .answer ≡ conversion most form d limit faces′ solids′ .answer
     unfolding conversion
-    answer-same cap form d limit =
+    answer-same most form d limit =
         let cs = uncovering d (loops d) in
         let t = tablesOf d cs in
-        let log = search cap (accepted t) limit (length cs) (t .masks) in
-        let checks : List Check → List Check = λ e. e ++ form ++ drawingChecks d ++ loopChecks documented (loops d) cs in
+        let log = search (most .solids) (accepted t) limit (length cs) (t .masks) in
+        let checks : List Check → List Check = λ e. e ++ form ++ drawingChecks d ++ loopChecks most (loops d) cs in
         let said : Converted = concluded (length (loops d)) cs t log faces solids in
         ap (λ (e : List Check). orConvert (firstOf (checks e)) faces solids said .answer) (entry-same limit)
         ∙ or-same (firstOf (checks (entryChecks limit faces′ solids′))) said (concluded (length (loops d)) cs t log faces′ solids′)

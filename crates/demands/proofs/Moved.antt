@@ -7,7 +7,7 @@ use Prim.Native.Nat.{ℕ}
 use lib.IntN.{ℤ, pos, negsuc, natAbs}
 use lib.ListN.{length}
 use Rattle.lists.proofs.Truth.{same-truth}
-use Rattle.paper.specs.Numbers.{mostSolids, documented}
+use Rattle.paper.specs.Numbers.{documented}
 use Rattle.paper.specs.Points.{times}
 use Rattle.paper.specs.Refusals.{firstOf}
 use Rattle.paper.specs.FaceList.{wellShaped}
@@ -174,6 +174,6 @@ scaled = record {
 pub higher : HigherLimit
 higher x a b h q faces solids n =
     converted-is x b faces solids
-    ∙ conversion-higher mostSolids (form x) (drawing x) a b faces solids h q
+    ∙ conversion-higher documented (form x) (drawing x) a b faces solids h q
     (λ l c w e. n l c w (ap (λ (r : Converted). r .answer) (converted-is x a faces solids) ∙ e))
     ∙ sym (converted-is x a faces solids)

@@ -5,7 +5,7 @@ use mathlib.Core.List.{List, _++_}
 use Prim.Native.Nat.{ℕ}
 use native.Mathlib.Omega.{arith}
 use lib.ListN.{length}
-use Rattle.paper.specs.Numbers.{mostSolids, documented}
+use Rattle.paper.specs.Numbers.{documented}
 use Rattle.paper.specs.Refusals.{firstOf}
 use Rattle.paper.specs.Format.{editionOf}
 use Rattle.paper.specs.Drawing.{samePlace, drawingChecks}
@@ -74,7 +74,7 @@ module _ (new : ℕ → ℕ) (x y : Input) (g : Given new x y) where
       go : (a : Answer) → a ≡ firstOf (entryChecks limit faces solids)
           → (q : Refusal) × (converted y limit faces solids .answer ≡ Conversion.Refused q) × (q .number ≡ r .number)
       go Answer.Fine p =
-          let w = same-refusal numbers sx sy mostSolids (form x) (form y) (g .good) (g .good-too) limit limit faces faces solids solids p
+          let w = same-refusal numbers sx sy documented (form x) (form y) (g .good) (g .good-too) limit limit faces faces solids solids p
           p r
           (ap (λ (c : Converted). c .answer) (sym (converted-is x limit faces solids)) ∙ e) in
           (w .0, ap (λ (c : Converted). c .answer) (converted-is y limit faces solids) ∙ w .1, w .2)

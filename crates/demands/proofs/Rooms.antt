@@ -1,14 +1,13 @@
 -- The faces of a solid, as they are read from the rows and words of a report.
-use mathlib.Core.Path.{_≡_, refl, ap, _∙_}
+use mathlib.Core.Path.{_≡_, ap₂, _∙_}
 use mathlib.Core.Bool.{Bool}
-use mathlib.Core.List.{List, [], _∷_, _++_, flatMap}
+use mathlib.Core.List.{List, [], _∷_, _++_, flatMap, append-assoc}
 use Prim.Native.Nat.{ℕ, zero, suc, _+_, _*_, _≤_, _<_}
 use native.Mathlib.Omega.{arith}
 use borrow.Author.Tests.{ltb-false}
 use lib.Seq.{drop-append-add}
 use lib.Dec.{ltb}
-use lib.ListN.{length, getD, drop}
-use Rattle.sets.specs.Word.{word}
+use lib.ListN.{length, drop}
 use Rattle.paper.specs.Record.{entry}
 use Rattle.paper.specs.Numbers.{documented, mostCandidates, rowBytes, solidWords}
 use Rattle.paper.specs.Refusals.{firstOf}

@@ -36,7 +36,7 @@ pub sheets2 : Sheets2
 sheets2 = record {
   back =
       λ xyz ends h.
-          let f = lentEdition xyz ends in
-          (encode f xyz ends, λ room l. writes f xyz ends (encode f xyz ends) room h refl l, sheet-reads-back xyz ends .sheet h);
+      let f = lentEdition xyz ends in
+      (encode f xyz ends, λ room l. writes f xyz ends (encode f xyz ends) room h refl l, sheet-reads-back xyz ends .sheet h);
   again = λ s u h. (coordinatesIn (editionOf s) s, endsIn (editionOf s) s, whole s u h, written s u h);
 }

@@ -14,12 +14,13 @@ use Rattle.paper.specs.Refusals as No
 use Rattle.paper.specs.Numbers.{documented}
 use Rattle.paper.specs.Refusals.{Check, check, firstOf, offends}
 use Rattle.paper.specs.Points.{above}
-use Rattle.paper.specs.Format.{editionOne}
+use Rattle.paper.specs.Format.{editionFor}
 use Rattle.paper.specs.FaceList.{facesIn, wellShaped}
 use Rattle.paper.specs.Drawing.{Wire, drawingChecks}
 use Rattle.paper.specs.Loops.{Loop, loops, uncovering, candidates, loopChecks}
 use Rattle.paper.specs.Solids.{onceEachWay, sixFrom, tablesOf}
-use Rattle.paper.specs.Verdict.{listed, maskOf, direction, faceChecks, verdictFor, verdict}
+use Rattle.paper.specs.Verdict.{listed, maskOf, direction, faceChecks, verdictFor, verdict, listEdition}
+use Rattle.paper.specs.declared.Format.{Format}
 use Rattle.paper.specs.declared.Answer.{Answer}
 use Rattle.paper.specs.declared.Answer.the-variants as Answer
 use Rattle.means_area.specs.Flats.{Up}
@@ -47,28 +48,34 @@ module _ (m : Move) (d e : Wire) (points : e .vertices ≡ map (m .to) (d .verti
   abbrev cs : List Loop
   cs = uncovering d (loops d)
 
-  -- 20 to 27
-  abbrev last : Wire → ℕ → List Loop → List ℕ → List Check
-  last x n ks l = check No.ShellShape (offends (not (wellShaped editionOne n l)) 0) ∷ faceChecks (tablesOf x ks) (length ks)
-      (listed ks (facesIn editionOne l))
+  -- both drawings have face lists of one edition
+  abbrev f : Format
+  f = listEdition d
 
-  parts : (f : List Check) (x : Wire) (n : ℕ) (ls ks : List Loop) (l : List ℕ)
-      → firstOf (f ++ drawingChecks x ++ loopChecks documented ls ks ++ last x n ks l)
-      ≡ orElse (orElse (orElse (firstOf f) (firstOf (drawingChecks x))) (firstOf (loopChecks documented ls ks))) (firstOf (last x n ks l))
-  parts f x n ls ks l =
-      first-append (f ++ drawingChecks x ++ loopChecks documented ls ks) (last x n ks l)
-      ∙ ap (λ (a : Answer). orElse a (firstOf (last x n ks l)))
-      (first-append (f ++ drawingChecks x) (loopChecks documented ls ks) ∙ ap (λ (a : Answer). orElse a (firstOf (loopChecks documented ls ks)))
-      (first-append f (drawingChecks x)))
+  edition-same : listEdition e ≡ f
+  edition-same = ap₂ editionFor (alike .as-many) (ap length edges)
+
+  -- 20 to 27
+  abbrev last : Format → Wire → ℕ → List Loop → List ℕ → List Check
+  last g x n ks l = check No.ShellShape (offends (not (wellShaped g n l)) 0) ∷ faceChecks (tablesOf x ks) (length ks) (listed ks (facesIn g l))
+
+  parts : (g : Format) (own : List Check) (x : Wire) (n : ℕ) (ls ks : List Loop) (l : List ℕ)
+      → firstOf (own ++ drawingChecks x ++ loopChecks documented ls ks ++ last g x n ks l)
+      ≡ orElse (orElse (orElse (firstOf own) (firstOf (drawingChecks x))) (firstOf (loopChecks documented ls ks))) (firstOf (last g x n ks l))
+  parts g own x n ls ks l =
+      first-append (own ++ drawingChecks x ++ loopChecks documented ls ks) (last g x n ks l)
+      ∙ ap (λ (a : Answer). orElse a (firstOf (last g x n ks l)))
+      (first-append (own ++ drawingChecks x) (loopChecks documented ls ks)
+      ∙ ap (λ (a : Answer). orElse a (firstOf (loopChecks documented ls ks))) (first-append own (drawingChecks x)))
 
   -- it is enough that 20 to 27 say the same where 3 to 14 pass
   by-last : (EndsBelow d → Answer.Fine ≡ firstOf (drawingChecks d)
-      → firstOf (last e (length (d .vertices)) cs list′) ≡ firstOf (last d (length (d .vertices)) cs list))
+      → firstOf (last f e (length (d .vertices)) cs list′) ≡ firstOf (last f d (length (d .vertices)) cs list))
       → verdict form′ e list′ ≡ verdict form d list
   unfolding verdict
   by-last rest =
       ap verdictFor
-      (parts form′ e (length (e .vertices)) (loops e) (uncovering e (loops e)) list′
+      (parts (listEdition e) form′ e (length (e .vertices)) (loops e) (uncovering e (loops e)) list′
       ∙ (λ i. orElse (orElse (orElse (forms i) D′) L′) T′)
       ∙ ap (λ (a : Answer). orElse (orElse a L′) T′) (else-same F D′ D (λ p. ap firstOf (checks-same d e alike (ok p))))
       ∙ ap (λ (a : Answer). orElse a T′)
@@ -76,9 +83,9 @@ module _ (m : Move) (d e : Wire) (points : e .vertices ≡ map (m .to) (d .verti
       (λ p. ap₂ (λ (ls ks : List Loop). firstOf (loopChecks documented ls ks)) (loops-same d e alike) (bare p)))
       ∙ else-same (orElse (orElse F D) L) T′ T
       (λ p. let q = first-fine (orElse F D) L p in
-      ap₂ (λ (n : ℕ) (ks : List Loop). firstOf (last e n ks list′)) (alike .as-many) (bare q)
+      (λ i. firstOf (last (edition-same i) e (alike .as-many i) (bare q i) list′))
       ∙ rest (ok (first-fine F D q)) (second-fine F D q))
-      ∙ sym (parts form d (length (d .vertices)) (loops d) cs list))
+      ∙ sym (parts f form d (length (d .vertices)) (loops d) cs list))
     where
       F : Answer
       F = firstOf form
@@ -96,25 +103,25 @@ module _ (m : Move) (d e : Wire) (points : e .vertices ≡ map (m .to) (d .verti
       L′ = firstOf (loopChecks documented (loops e) (uncovering e (loops e)))
 
       T : Answer
-      T = firstOf (last d (length (d .vertices)) cs list)
+      T = firstOf (last f d (length (d .vertices)) cs list)
 
       T′ : Answer
-      T′ = firstOf (last e (length (e .vertices)) (uncovering e (loops e)) list′)
+      T′ = firstOf (last (listEdition e) e (length (e .vertices)) (uncovering e (loops e)) list′)
 
       bare : Answer.Fine ≡ orElse F D → uncovering e (loops e) ≡ cs
       bare q = bare-same m d e points edges (ok (first-fine F D q)) (second-fine F D q)
 
   -- behind 20
-  by-faces : wellShaped editionOne (length (d .vertices)) list′ ≡ wellShaped editionOne (length (d .vertices)) list
-      → firstOf (faceChecks (tablesOf e cs) (length cs) (listed cs (facesIn editionOne list′)))
-      ≡ firstOf (faceChecks (tablesOf d cs) (length cs) (listed cs (facesIn editionOne list)))
-      → firstOf (last e (length (d .vertices)) cs list′) ≡ firstOf (last d (length (d .vertices)) cs list)
+  by-faces : wellShaped f (length (d .vertices)) list′ ≡ wellShaped f (length (d .vertices)) list
+      → firstOf (faceChecks (tablesOf e cs) (length cs) (listed cs (facesIn f list′)))
+      ≡ firstOf (faceChecks (tablesOf d cs) (length cs) (listed cs (facesIn f list)))
+      → firstOf (last f e (length (d .vertices)) cs list′) ≡ firstOf (last f d (length (d .vertices)) cs list)
   by-faces shape faces =
-      first-append (check No.ShellShape (offends (not (wellShaped editionOne (length (d .vertices)) list′)) 0) ∷ [])
-      (faceChecks (tablesOf e cs) (length cs) (listed cs (facesIn editionOne list′)))
+      first-append (check No.ShellShape (offends (not (wellShaped f (length (d .vertices)) list′)) 0) ∷ [])
+      (faceChecks (tablesOf e cs) (length cs) (listed cs (facesIn f list′)))
       ∙ (λ i. orElse (firstOf (check No.ShellShape (offends (not (shape i)) 0) ∷ [])) (faces i))
-      ∙ sym (first-append (check No.ShellShape (offends (not (wellShaped editionOne (length (d .vertices)) list)) 0) ∷ [])
-      (faceChecks (tablesOf d cs) (length cs) (listed cs (facesIn editionOne list))))
+      ∙ sym (first-append (check No.ShellShape (offends (not (wellShaped f (length (d .vertices)) list)) 0) ∷ [])
+      (faceChecks (tablesOf d cs) (length cs) (listed cs (facesIn f list))))
 
   module _ (ends : EndsBelow d) (pass : Answer.Fine ≡ firstOf (drawingChecks d)) where
     -- where 24 passes, each edge is run once each way
@@ -132,10 +139,10 @@ module _ (m : Move) (d e : Wire) (points : e .vertices ≡ map (m .to) (d .verti
   pub verdict-kept : turnsBy (m .sides-by) ≡ false → list′ ≡ list → verdict form′ e list′ ≡ verdict form d list
   verdict-kept t same =
       by-last
-      (λ ends pass. by-faces (ap (wellShaped editionOne (length (d .vertices))) same)
-      (ap (λ (l : List ℕ). firstOf (faceChecks (tablesOf e cs) (length cs) (listed cs (facesIn editionOne l)))) same
+      (λ ends pass. by-faces (ap (wellShaped f (length (d .vertices))) same)
+      (ap (λ (l : List ℕ). firstOf (faceChecks (tablesOf e cs) (length cs) (listed cs (facesIn f l)))) same
       ∙ faces-kept (tablesOf d cs) (tablesOf e cs) (masks m d e points edges ends pass) (ups m d e points edges ends pass)
-      (clashes m d e points edges ends pass) (length cs) (listed cs (facesIn editionOne list))
+      (clashes m d e points edges ends pass) (length cs) (listed cs (facesIn f list))
       (λ q. ap above (six-by ends pass _ _ q) ∙ above-times (m .sides-by) (up (m .sides-by) t (m .sides-real)) _)))
     where
       up : (z : ℤ) → turnsBy z ≡ false → (z ≡ pos 0 → ⊥) → Up z
@@ -146,15 +153,15 @@ module _ (m : Move) (d e : Wire) (points : e .vertices ≡ map (m .to) (d .verti
   -- ---- a move that mirrors
 
   pub verdict-round : turnsBy (m .sides-by) ≡ true
-      → wellShaped editionOne (length (d .vertices)) list′ ≡ wellShaped editionOne (length (d .vertices)) list
-      → AllTurned (facesIn editionOne list) (facesIn editionOne list′) → verdict form′ e list′ ≡ verdict form d list
+      → wellShaped f (length (d .vertices)) list′ ≡ wellShaped f (length (d .vertices)) list
+      → AllTurned (facesIn f list) (facesIn f list′) → verdict form′ e list′ ≡ verdict form d list
   verdict-round t shape turned = by-last (λ ends pass. by-faces shape (faces ends pass))
     where
       fs : List Loop
-      fs = facesIn editionOne list
+      fs = facesIn f list
 
       gs : List Loop
-      gs = facesIn editionOne list′
+      gs = facesIn f list′
 
       back : (c z y : ℤ) → turnsBy c ≡ true → y ≡ c *ℤ z → above (negℤ y) ≡ above z
       back (pos n) z y t p = absurd (true≢false (sym t))

@@ -9,7 +9,7 @@ use lib.ListN.{length, drop, replicate, length-map}
 use Rattle.lists.specs.Lists.{filter, keep}
 use Rattle.sets.specs.Word.{word, less}
 use Rattle.sets.proofs.Numbers.{same-word}
-use Rattle.paper.specs.Numbers.{solidWords, documented}
+use Rattle.paper.specs.Numbers.{solidWords, Limits}
 use Rattle.paper.specs.Refusals as No
 use Rattle.paper.specs.Refusals.{Check, firstOf}
 use Rattle.paper.specs.Drawing.{Wire, drawingChecks}
@@ -143,7 +143,7 @@ module _ (turns : Bool) (by : ℕ) where
 
 -- ---- a moved drawing
 
-module _ (m : Move) (d e : Wire) (points : e .vertices ≡ map (m .to) (d .vertices)) (edges : e .edges ≡ d .edges) (cap limit : ℕ)
+module _ (m : Move) (d e : Wire) (points : e .vertices ≡ map (m .to) (d .vertices)) (edges : e .edges ≡ d .edges) (most : Limits) (limit : ℕ)
     (faces solids : List ℕ) (form form′ : List Check) (forms : firstOf form′ ≡ firstOf form)
     (ok : Answer.Fine ≡ firstOf form → EndsBelow d) where
   abbrev alike : Alike d e
@@ -159,34 +159,34 @@ module _ (m : Move) (d e : Wire) (points : e .vertices ≡ map (m .to) (d .verti
   by = natAbs (m .sides-by)
 
   -- 3 to 10 answer alike; where they pass, 9 has seen to the ends of the edges, and where 11 to 14 pass, there are the same candidates
-  answer-same : firstOf (checksOf limit faces solids form′ e) ≡ firstOf (checksOf limit faces solids form d)
+  answer-same : firstOf (checksOf most limit faces solids form′ e) ≡ firstOf (checksOf most limit faces solids form d)
   answer-same =
-      parts limit faces solids form′ e
+      parts most limit faces solids form′ e
       ∙ ap (λ (a : Answer). orElse (orElse (orElse entry a) (firstOf (drawingChecks e)))
-      (firstOf (loopChecks documented (loops e) (uncovering e (loops e))))) forms
-      ∙ ap (λ (a : Answer). orElse a (firstOf (loopChecks documented (loops e) (uncovering e (loops e)))))
+      (firstOf (loopChecks most (loops e) (uncovering e (loops e))))) forms
+      ∙ ap (λ (a : Answer). orElse a (firstOf (loopChecks most (loops e) (uncovering e (loops e)))))
       (else-same (orElse entry (firstOf form)) (firstOf (drawingChecks e)) (firstOf (drawingChecks d))
       (λ p. ap firstOf (checks-same d e alike (ok (second-fine entry (firstOf form) p)))))
       ∙ else-same (orElse (orElse entry (firstOf form)) (firstOf (drawingChecks d)))
-      (firstOf (loopChecks documented (loops e) (uncovering e (loops e))))
-      (firstOf (loopChecks documented (loops d) cs))
-      (λ p. ap₂ (λ (ls ks : List Loop). firstOf (loopChecks documented ls ks)) (loops-same d e alike)
+      (firstOf (loopChecks most (loops e) (uncovering e (loops e))))
+      (firstOf (loopChecks most (loops d) cs))
+      (λ p. ap₂ (λ (ls ks : List Loop). firstOf (loopChecks most ls ks)) (loops-same d e alike)
       (bare-same m d e points edges (ok (second-fine entry (firstOf form)
       (first-fine (orElse entry (firstOf form)) (firstOf (drawingChecks d)) p)))
       (second-fine (orElse entry (firstOf form)) (firstOf (drawingChecks d)) p)))
-      ∙ sym (parts limit faces solids form d)
+      ∙ sym (parts most limit faces solids form d)
     where
       entry : Answer
       entry = firstOf (entryChecks limit faces solids)
 
   abbrev under : Wire → List Loop → Converted
   under x ks =
-      concluded (length (loops x)) ks (tablesOf x ks) (search cap (accepted (tablesOf x ks)) limit (length ks) (tablesOf x ks .masks))
+      concluded (length (loops x)) ks (tablesOf x ks) (search (most .solids) (accepted (tablesOf x ks)) limit (length ks) (tablesOf x ks .masks))
       faces solids
 
   module _ (ends-ok : EndsBelow d) (pass : Answer.Fine ≡ firstOf (drawingChecks d)) where
     abbrev log : Log
-    log = search cap (accepted (tablesOf d cs)) limit (length cs) (tablesOf d cs .masks)
+    log = search (most .solids) (accepted (tablesOf d cs)) limit (length cs) (tablesOf d cs .masks)
 
     abbrev other : (taken : List Bool) → Judged turns by taken (judged (tablesOf d cs) taken) (judged (tablesOf e cs) taken)
     other = judges m d e points edges ends-ok pass
@@ -198,26 +198,26 @@ module _ (m : Move) (d e : Wire) (points : e .vertices ≡ map (m .to) (d .verti
     by-tables =
         concluded-other turns by (tablesOf d cs) (tablesOf e cs) other (length (loops d)) cs log faces solids
         (λ z. subst (Good turns by (tablesOf d cs) (tablesOf e cs) other)
-        (sym (ended-whole (accepted (tablesOf d cs)) (length cs) (tablesOf d cs .masks) walked cap limit z .found))
+        (sym (ended-whole (accepted (tablesOf d cs)) (length cs) (tablesOf d cs .masks) walked (most .solids) limit z .found))
         (filter-good turns by (tablesOf d cs) (tablesOf e cs) other (leaves walked)))
-        (ends (accepted (tablesOf d cs)) (length cs) (tablesOf d cs .masks) walked cap limit)
+        (ends (accepted (tablesOf d cs)) (length cs) (tablesOf d cs .masks) walked (most .solids) limit)
 
     -- with its own loops, candidates and tables
     own : under e (uncovering e (loops e)) ≡ concluded (length (loops d)) cs (tablesOf e cs) log faces solids
     own =
         ap (under e) (bare-same m d e points edges ends-ok pass)
         ∙ (λ i. concluded (length (loops-same d e alike i)) cs (tablesOf e cs)
-        (search cap (accepted-other turns by (tablesOf d cs) (tablesOf e cs) other i) limit (length cs)
+        (search (most .solids) (accepted-other turns by (tablesOf d cs) (tablesOf e cs) other i) limit (length cs)
         (masks m d e points edges ends-ok pass i)) faces
         solids)
 
     followed : FollowsMoved turns by solids (under d cs) (under e (uncovering e (loops e)))
     followed = subst (FollowsMoved turns by solids (under d cs)) (sym own) by-tables
 
-  pub conversion-moved : FollowsMoved turns by solids (conversion cap form d limit faces solids) (conversion cap form′ e limit faces solids)
+  pub conversion-moved : FollowsMoved turns by solids (conversion most form d limit faces solids) (conversion most form′ e limit faces solids)
   unfolding conversion
   conversion-moved =
-      subst (λ (a : Answer). FollowsMoved turns by solids (orConvert (firstOf (checksOf limit faces solids form d)) faces solids (under d cs))
+      subst (λ (a : Answer). FollowsMoved turns by solids (orConvert (firstOf (checksOf most limit faces solids form d)) faces solids (under d cs))
       (orConvert a faces solids (under e (uncovering e (loops e))))) (sym answer-same)
-      (convert-other turns by (firstOf (checksOf limit faces solids form d)) faces solids (under d cs) (under e (uncovering e (loops e)))
-      (λ p. followed (ok (fine-form limit faces solids form d p)) (fine-drawing limit faces solids form d p)))
+      (convert-other turns by (firstOf (checksOf most limit faces solids form d)) faces solids (under d cs) (under e (uncovering e (loops e)))
+      (λ p. followed (ok (fine-form most limit faces solids form d p)) (fine-drawing most limit faces solids form d p)))

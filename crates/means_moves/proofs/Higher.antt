@@ -7,7 +7,7 @@ use native.Mathlib.Omega.{arith}
 use borrow.Author.Tests.{le-ltb}
 use lib.Dec.{ltb}
 use lib.ListN.{length}
-use Rattle.paper.specs.Numbers.{mostWork, faceRoom, solidRoom, documented}
+use Rattle.paper.specs.Numbers.{mostWork, faceRoom, solidRoom, Limits}
 use Rattle.paper.specs.Refusals as No
 use Rattle.paper.specs.Refusals.{Check, check, firstOf, offends}
 use Rattle.paper.specs.Drawing.{Wire, drawingChecks}
@@ -39,20 +39,20 @@ long-told : (l : ℕ) (cs : List Loop) (t : Tables) (log : Log) (faces solids : 
 unfolding concluded
 long-told l cs t log faces solids e = rw e
 
-pub conversion-higher : (cap : ℕ) (form : List Check) (d : Wire) (a b : ℕ) (faces solids : List ℕ) → a ≤ b → b ≤ mostWork
-    → Ended (conversion cap form d a faces solids .answer)
-    → conversion cap form d b faces solids ≡ conversion cap form d a faces solids
+pub conversion-higher : (most : Limits) (form : List Check) (d : Wire) (a b : ℕ) (faces solids : List ℕ) → a ≤ b → b ≤ mostWork
+    → Ended (conversion most form d a faces solids .answer)
+    → conversion most form d b faces solids ≡ conversion most form d a faces solids
 unfolding conversion
-conversion-higher cap form d a b faces solids h q n =
-    ap (λ (es : List Check). orConvert (firstOf (es ++ form ++ drawingChecks d ++ loopChecks documented (loops d) cs)) faces solids (under b))
+conversion-higher most form d a b faces solids h q n =
+    ap (λ (es : List Check). orConvert (firstOf (es ++ form ++ drawingChecks d ++ loopChecks most (loops d) cs)) faces solids (under b))
     (entry-same a b faces solids (omega arith) q)
-    ∙ go (firstOf (entryChecks a faces solids ++ form ++ drawingChecks d ++ loopChecks documented (loops d) cs)) n
+    ∙ go (firstOf (entryChecks a faces solids ++ form ++ drawingChecks d ++ loopChecks most (loops d) cs)) n
   where
     cs : List Loop
     cs = uncovering d (loops d)
 
     walked : ℕ → Log
-    walked limit = search cap (accepted (tablesOf d cs)) limit (length cs) (tablesOf d cs .masks)
+    walked limit = search (most .solids) (accepted (tablesOf d cs)) limit (length cs) (tablesOf d cs .masks)
 
     under : ℕ → Converted
     under limit = concluded (length (loops d)) cs (tablesOf d cs) (walked limit) faces solids
@@ -61,7 +61,7 @@ conversion-higher cap form d a b faces solids h q n =
         (under a)
     go Answer.Fine n =
         ap (λ (log : Log). concluded (length (loops d)) cs (tablesOf d cs) log faces solids)
-        (higher-limit cap (accepted (tablesOf d cs)) a b h (length cs) (tablesOf d cs .masks)
+        (higher-limit (most .solids) (accepted (tablesOf d cs)) a b h (length cs) (tablesOf d cs .masks)
         (λ e. n (length (loops d)) (length cs) (walked a .work) (long-told (length (loops d)) cs (tablesOf d cs) (walked a) faces solids
         e)))
     go (Answer.Refused r) n = refl

@@ -13,16 +13,15 @@ use Rattle.lists.specs.Lists.{lowest}
 use Rattle.lists.proofs.Truth.{same-truth}
 use Rattle.lists.proofs.Agreeing.{lowest-same}
 use Rattle.exact.specs.Size.{Within}
-use Rattle.paper.specs.Numbers.{leastVertices, leastEdges, farthest}
+use Rattle.paper.specs.Numbers.{leastVertices, leastEdges, farthest, Limits}
 use Rattle.paper.specs.Refusals as No
 use Rattle.paper.specs.Refusals.{Check, check, firstOf, offends}
 use Rattle.paper.specs.Points.{pt}
-use Rattle.paper.specs.Format.{editionOne}
 use Rattle.paper.specs.FaceList.{facesIn, wellShaped}
 use Rattle.paper.specs.Sheet.{far, farAt, badCount, edgeChecks, contentChecks, lentChecks}
 use Rattle.paper.specs.Drawing.{Wire, Edge, edge, edgeAt, pointsOf, edgesOf, wire}
 use Rattle.paper.specs.Conversion.{conversion}
-use Rattle.paper.specs.Verdict.{verdict}
+use Rattle.paper.specs.Verdict.{verdict, listEdition}
 use Rattle.paper.specs.declared.Format.{Format}
 use Rattle.paper.specs.declared.Answer.the-variants.{Fine}
 use Rattle.paper.specs.declared.Point.{Point}
@@ -135,15 +134,15 @@ module _ (m : Move) (form form′ : List Check) (forms : firstOf form′ ≡ fir
   below : Fine ≡ firstOf form → EndsBelow d
   below p = rising-below d (rising p)
 
-  pub either-follows : (cap limit : ℕ) (faces solids : List ℕ)
-      → FollowsMoved (turnsBy (m .sides-by)) (natAbs (m .sides-by)) solids (conversion cap form d limit faces solids)
-      (conversion cap form′ e limit faces solids)
-  either-follows cap limit faces solids = conversion-moved m d e vertices links cap limit faces solids form form′ forms below
+  pub either-follows : (most : Limits) (limit : ℕ) (faces solids : List ℕ)
+      → FollowsMoved (turnsBy (m .sides-by)) (natAbs (m .sides-by)) solids (conversion most form d limit faces solids)
+      (conversion most form′ e limit faces solids)
+  either-follows most limit faces solids = conversion-moved m d e vertices links most limit faces solids form form′ forms below
 
   pub either-kept : turnsBy (m .sides-by) ≡ false → (list : List ℕ) → verdict form′ e list ≡ verdict form d list
   either-kept t list = verdict-kept m d e vertices links form form′ forms below list list t refl
 
   pub either-round : turnsBy (m .sides-by) ≡ true → (list list′ : List ℕ)
-      → wellShaped editionOne (length (d .vertices)) list′ ≡ wellShaped editionOne (length (d .vertices)) list
-      → AllTurned (facesIn editionOne list) (facesIn editionOne list′) → verdict form′ e list′ ≡ verdict form d list
+      → wellShaped (listEdition d) (length (d .vertices)) list′ ≡ wellShaped (listEdition d) (length (d .vertices)) list
+      → AllTurned (facesIn (listEdition d) list) (facesIn (listEdition d) list′) → verdict form′ e list′ ≡ verdict form d list
   either-round t list list′ = verdict-round m d e vertices links form form′ forms below list list′ t

@@ -7,8 +7,8 @@ use Prim.Native.Nat.{ℕ}
 use native.Mathlib.Omega.{arith}
 use lib.Dec.{eqb, ltb}
 use lib.ListN.{length}
-use Rattle.paper.specs.Numbers.{mostLoops, mostCandidates, documented}
 use Rattle.paper.specs.Refusals as No
+use Rattle.paper.specs.Numbers.{Limits}
 use Rattle.paper.specs.Refusals.{Check, check, firstOf, offends}
 use Rattle.paper.specs.Drawing.{Wire, samePlace, looseVertex, edgeMeets, apart, drawingChecks}
 use Rattle.paper.specs.Loops.{Loop, loops, uncovering, candidates, loopChecks}
@@ -54,20 +54,20 @@ step n none (some q) xs ys w h = none-some (w .there refl)
 step n (some p) none xs ys w h = none-some (w .back refl)
 step n (some p) (some q) xs ys w h = refl
 
-module _ {new old : ℕ → ℕ} {d e : Wire} (r : BothWays new old d e) (s : Sorted d) (t : Sorted e) where
+module _ (most : Limits) {new old : ℕ → ℕ} {d e : Wire} (r : BothWays new old d e) (s : Sorted d) (t : Sorted e) where
   back-r : BothWays old new e d
   back-r = renumbered-back r
 
   -- 15 and 16 go by the counts
-  loops-same : samePlace d ≡ none → loopChecks documented (loops e) (candidates e) ≡ loopChecks documented (loops d) (candidates d)
+  loops-same : samePlace d ≡ none → loopChecks most (loops e) (candidates e) ≡ loopChecks most (loops d) (candidates d)
   unfolding loopChecks
   loops-same h =
       let k = kept r h (places-over r h) in
-      ap₂ (λ (m n : ℕ). check No.ManyLoops (offends (ltb mostLoops m) 0) ∷ check No.ManyCandidates (offends (ltb mostCandidates n) 0) ∷ [])
+      ap₂ (λ (m n : ℕ). check No.ManyLoops (offends (ltb (most .loops) m) 0) ∷ check No.ManyCandidates (offends (ltb (most .candidates) n) 0) ∷ [])
       (k .loops-too) (k .candidates-too)
 
-  pub rule-same : ruleOf (firstOf (drawingChecks e ++ loopChecks documented (loops e) (candidates e)))
-      ≡ ruleOf (firstOf (drawingChecks d ++ loopChecks documented (loops d) (candidates d)))
+  pub rule-same : ruleOf (firstOf (drawingChecks e ++ loopChecks most (loops e) (candidates e)))
+      ≡ ruleOf (firstOf (drawingChecks d ++ loopChecks most (loops d) (candidates d)))
   unfolding drawingChecks
   rule-same =
       step No.SamePlace (samePlace d) (samePlace e) _ _ (record { there = places-over r; back = places-over back-r })
@@ -83,10 +83,10 @@ module _ {new old : ℕ → ℕ} {d e : Wire} (r : BothWays new old d e) (s : So
       step No.Apart (apart d) (apart e) _ _ (record { there = apart-over r; back = apart-over back-r })
       (λ k. ap (λ (cs : List Check). ruleOf (firstOf cs)) (loops-same h)))))
 
-pub same-rule : {new : ℕ → ℕ} {d e : Wire} → NewNumbers new d e → Sorted d → Sorted e
-    → ruleOf (firstOf (drawingChecks e ++ loopChecks documented (loops e) (candidates e)))
-    ≡ ruleOf (firstOf (drawingChecks d ++ loopChecks documented (loops d) (candidates d)))
-same-rule r s t = rule-same (renumbered r) s t
+pub same-rule : (most : Limits) {new : ℕ → ℕ} {d e : Wire} → NewNumbers new d e → Sorted d → Sorted e
+    → ruleOf (firstOf (drawingChecks e ++ loopChecks most (loops e) (candidates e)))
+    ≡ ruleOf (firstOf (drawingChecks d ++ loopChecks most (loops d) (candidates d)))
+same-rule most r s t = rule-same most (renumbered r) s t
 
 -- ---- conversion
 
@@ -106,46 +106,46 @@ unrefused l cs t log faces solids r = go (eqb (log .ended) No.Many) (eqb (log .e
     go false false (x ∷ []) e = let z : _≡_ {A = ℕ} 0 1 = cc in omega arith
     go false false (x ∷ (y ∷ found)) e = let z : _≡_ {A = ℕ} 0 1 = cc in omega arith
 
-module _ (limit : ℕ) (faces solids : List ℕ) (form : List Check) (d : Wire) (entry : Answer.Fine ≡ firstOf (entryChecks limit faces solids))
-    (good : Answer.Fine ≡ firstOf form) where
+module _ (most : Limits) (limit : ℕ) (faces solids : List ℕ) (form : List Check) (d : Wire)
+    (entry : Answer.Fine ≡ firstOf (entryChecks limit faces solids)) (good : Answer.Fine ≡ firstOf form) where
   -- where 1 to 10 pass, 11 to 16 answer
-  only : firstOf (checksOf limit faces solids form d) ≡ firstOf (drawingChecks d ++ loopChecks documented (loops d) (candidates d))
+  only : firstOf (checksOf most limit faces solids form d) ≡ firstOf (drawingChecks d ++ loopChecks most (loops d) (candidates d))
   unfolding candidates
   only =
-      parts limit faces solids form d
-      ∙ ap₂ (λ (a b : Answer). orElse (orElse (orElse a b) (firstOf (drawingChecks d))) (firstOf (loopChecks documented (loops d) (candidates d))))
+      parts most limit faces solids form d
+      ∙ ap₂ (λ (a b : Answer). orElse (orElse (orElse a b) (firstOf (drawingChecks d))) (firstOf (loopChecks most (loops d) (candidates d))))
       (sym entry) (sym good)
-      ∙ sym (first-append (drawingChecks d) (loopChecks documented (loops d) (candidates d)))
+      ∙ sym (first-append (drawingChecks d) (loopChecks most (loops d) (candidates d)))
 
-  refusal-from : (cap : ℕ) (r : Refusal) → conversion cap form d limit faces solids .answer ≡ Conversion.Refused r
-      → Answer.Refused r ≡ firstOf (drawingChecks d ++ loopChecks documented (loops d) (candidates d))
+  refusal-from : (r : Refusal) → conversion most form d limit faces solids .answer ≡ Conversion.Refused r
+      → Answer.Refused r ≡ firstOf (drawingChecks d ++ loopChecks most (loops d) (candidates d))
   unfolding conversion
-  refusal-from cap r e = go (firstOf (checksOf limit faces solids form d)) only e
+  refusal-from r e = go (firstOf (checksOf most limit faces solids form d)) only e
     where
-      go : (a : Answer) → a ≡ firstOf (drawingChecks d ++ loopChecks documented (loops d) (candidates d))
+      go : (a : Answer) → a ≡ firstOf (drawingChecks d ++ loopChecks most (loops d) (candidates d))
           → orConvert a faces solids (concluded (length (loops d)) (uncovering d (loops d)) (tablesOf d (uncovering d (loops d)))
-          (search cap (accepted (tablesOf d (uncovering d (loops d)))) limit (length (uncovering d (loops d)))
+          (search (most .solids) (accepted (tablesOf d (uncovering d (loops d)))) limit (length (uncovering d (loops d)))
           (tablesOf d (uncovering d (loops d)) .masks)) faces solids) .answer ≡ Conversion.Refused r
-          → Answer.Refused r ≡ firstOf (drawingChecks d ++ loopChecks documented (loops d) (candidates d))
+          → Answer.Refused r ≡ firstOf (drawingChecks d ++ loopChecks most (loops d) (candidates d))
       go Answer.Fine p e = absurd (unrefused _ _ _ _ faces solids r e)
       go (Answer.Refused x) p e = let same : r ≡ x = cc in ap Answer.Refused same ∙ p
 
-  refusal-to : (cap : ℕ) (r : Refusal) → Answer.Refused r ≡ firstOf (drawingChecks d ++ loopChecks documented (loops d) (candidates d))
-      → conversion cap form d limit faces solids .answer ≡ Conversion.Refused r
+  refusal-to : (r : Refusal) → Answer.Refused r ≡ firstOf (drawingChecks d ++ loopChecks most (loops d) (candidates d))
+      → conversion most form d limit faces solids .answer ≡ Conversion.Refused r
   unfolding conversion
-  refusal-to cap r e = rw (only ∙ sym e)
+  refusal-to r e = rw (only ∙ sym e)
 
 -- "the same rule refuses both, at a place of its own"
 pub same-refusal : {new : ℕ → ℕ} {d e : Wire} → NewNumbers new d e → Sorted d → Sorted e
-    → (cap : ℕ) (form form′ : List Check) → Answer.Fine ≡ firstOf form → Answer.Fine ≡ firstOf form′
+    → (most : Limits) (form form′ : List Check) → Answer.Fine ≡ firstOf form → Answer.Fine ≡ firstOf form′
     → (a b : ℕ) (f g u v : List ℕ) → Answer.Fine ≡ firstOf (entryChecks a f u) → Answer.Fine ≡ firstOf (entryChecks b g v)
-    → (r : Refusal) → conversion cap form d a f u .answer ≡ Conversion.Refused r
-    → (q : Refusal) × (conversion cap form′ e b g v .answer ≡ Conversion.Refused q) × (q .number ≡ r .number)
-same-refusal {d = d} {e = e} n s t cap form form′ good good′ a b f g u v entry entry′ r h =
-    go (firstOf (drawingChecks e ++ loopChecks documented (loops e) (candidates e))) refl
-    (same-rule n s t ∙ ap ruleOf (sym (refusal-from a f u form d entry good cap r h)))
+    → (r : Refusal) → conversion most form d a f u .answer ≡ Conversion.Refused r
+    → (q : Refusal) × (conversion most form′ e b g v .answer ≡ Conversion.Refused q) × (q .number ≡ r .number)
+same-refusal {d = d} {e = e} n s t most form form′ good good′ a b f g u v entry entry′ r h =
+    go (firstOf (drawingChecks e ++ loopChecks most (loops e) (candidates e))) refl
+    (same-rule most n s t ∙ ap ruleOf (sym (refusal-from most a f u form d entry good r h)))
   where
-    go : (x : Answer) → x ≡ firstOf (drawingChecks e ++ loopChecks documented (loops e) (candidates e)) → ruleOf x ≡ some (r .number)
-        → (q : Refusal) × (conversion cap form′ e b g v .answer ≡ Conversion.Refused q) × (q .number ≡ r .number)
+    go : (x : Answer) → x ≡ firstOf (drawingChecks e ++ loopChecks most (loops e) (candidates e)) → ruleOf x ≡ some (r .number)
+        → (q : Refusal) × (conversion most form′ e b g v .answer ≡ Conversion.Refused q) × (q .number ≡ r .number)
     go Answer.Fine p z = none-some (sym z)
-    go (Answer.Refused q) p z = (q, refusal-to b g v form′ e entry′ good′ cap q p, (cc))
+    go (Answer.Refused q) p z = (q, refusal-to most b g v form′ e entry′ good′ q p, (cc))

@@ -6,7 +6,7 @@ use native.Mathlib.Omega.{arith}
 use lib.ListN.{replicate}
 use borrow.Author.Needs.{needs}
 use denote.Ref.{now}
-use Rattle.paper.specs.Numbers.{mostSolids, faceRoom, solidRoom}
+use Rattle.paper.specs.Numbers.{faceRoom, solidRoom, documented}
 use Rattle.paper.specs.Sheet.{lentChecks}
 use Rattle.paper.specs.Drawing.{wire}
 use Rattle.paper.specs.Conversion.{Converted, convertLists}
@@ -23,7 +23,7 @@ returns c =
     let form = (lentChecks (now (a .xyz)) (now (a .ends))) in
     let d = (wire (now (a .xyz)) (now (a .ends))) in
     assessed (convertLists (now (a .xyz)) (now (a .ends)) (a .limit))
-    (λ f s f′ s′ p q p′ q′. answer-same f s f′ s′ p q p′ q′ mostSolids form d (a .limit)) (small-enough .lists-read (now (a .xyz)) (now (a .ends)) (a .limit))
+    (λ f s f′ s′ p q p′ q′. answer-same f s f′ s′ p q p′ q′ documented form d (a .limit)) (small-enough .lists-read (now (a .xyz)) (now (a .ends)) (a .limit))
     (replicate faceRoom 0) (replicate solidRoom 0) (omega arith) (omega arith)
     (ap (λ (x : Converted). x .answer) (k .convert .ensures .0)) (c .reading .ensures .0) (c .reading .ensures .1 .0)
 

@@ -6,7 +6,7 @@ use native.Mathlib.Omega.{arith}
 use lib.ListN.{replicate}
 use borrow.Author.Needs.{needs}
 use denote.Ref.{now}
-use Rattle.paper.specs.Numbers.{mostSolids, faceRoom, solidRoom}
+use Rattle.paper.specs.Numbers.{faceRoom, solidRoom, documented}
 use Rattle.paper.specs.Format.{coordinatesIn, endsIn, editionOf}
 use Rattle.paper.specs.Sheet.{sheetChecks}
 use Rattle.paper.specs.Drawing.{wire}
@@ -24,7 +24,7 @@ returns c =
     let form = (sheetChecks (editionOf (now (a .sheet))) (now (a .sheet))) in
     let d = (wire (coordinatesIn (editionOf (now (a .sheet))) (now (a .sheet))) (endsIn (editionOf (now (a .sheet))) (now (a .sheet)))) in
     assessed (convertSheet (now (a .sheet)) (a .limit))
-    (λ f s f′ s′ p q p′ q′. answer-same f s f′ s′ p q p′ q′ mostSolids form d (a .limit)) (small-enough .sheets-read (now (a .sheet)) (a .limit))
+    (λ f s f′ s′ p q p′ q′. answer-same f s f′ s′ p q p′ q′ documented form d (a .limit)) (small-enough .sheets-read (now (a .sheet)) (a .limit))
     (replicate faceRoom 0) (replicate solidRoom 0) (omega arith) (omega arith)
     (ap (λ (x : Converted). x .answer) (k .convert-sheet .ensures .0)) (c .reading .ensures .0) (c .reading .ensures .1 .0)
 
