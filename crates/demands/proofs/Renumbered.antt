@@ -85,7 +85,7 @@ module _ (new : ℕ → ℕ) (x y : Input) (g : Given new x y) where
   passes : Passes x → Passes y
   passes p =
       go (firstOf (drawingChecks (drawing y) ++ loopChecks documented (loops (drawing y)) (candidates (drawing y)))) refl
-      (same-rule numbers sx sy
+      (same-rule documented numbers sx sy
       ∙ ap ruleOf (sym (both-first (drawingChecks (drawing x)) (loopChecks documented (loops (drawing x)) (candidates (drawing x)))
       (drawing-fine x p) (loops-fine x p))))
     where
