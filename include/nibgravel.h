@@ -100,10 +100,10 @@ uint64_t nibgravel_assess(const int64_t *xyz, size_t xyz_len, const uint8_t *end
                           size_t volume_len);
 uint64_t nibgravel_assess_sheet(const uint8_t *sheet, size_t sheet_len, uint64_t limit, double *volume, size_t volume_len);
 
-/* Writes a reported solid as a face list to the start of `room`, from the rows of the report and the first two words of the solid: 20 where
- * they make no list, then 1. Value: the length of the list. */
-uint64_t nibgravel_write_faces(const uint8_t *rows, size_t rows_len, uint64_t taken, uint64_t turned, uint8_t *room, size_t room_len,
-                               uint64_t *said, size_t said_len);
+/* Writes a reported solid as a face list to the start of `room`, from the rows of the report and the solid's words (words that aren't lent
+ * are 0), for a drawing of so many vertices and edges: 20 where they make no list, then 1. Value: the length of the list. */
+uint64_t nibgravel_write_faces(const uint8_t *rows, size_t rows_len, const uint64_t *solid, size_t solid_len, size_t vertices,
+                               size_t edges, uint8_t *room, size_t room_len, uint64_t *said, size_t said_len);
 
 /* Checks a face list against a drawing: 5, 8 to 16, then 20 to 27. Number 0 is "accepted": the list names one of the drawing's solids with
  * its directions. No values. */

@@ -1,6 +1,6 @@
 // The interface for C and Rust: numbers and lent slices only. Nothing is assumed of any input. An answer is document 01's number, which is
 // returned, 0 where nothing is refused; `said` gets it with its place and values, as far as it reaches.
-ghost use Rattle.paper.specs.Format.{editionOne, lentEdition};
+ghost use Rattle.paper.specs.Format.{editionOne, editionFor, lentEdition};
 ghost use Rattle.paper.specs.Conversion.{convertLists, convertSheet};
 ghost use Rattle.paper.specs.FaceList.{sentRoom};
 ghost use Rattle.paper.specs.Reading.{sentSaid, writtenSaid, verdictSays};
@@ -62,20 +62,26 @@ pub extern "C" fn nibgravel_write_sheet(
     tell(written_said(write_sheet(xyz, ends, room)), said)
 }
 
-// Writes a reported solid as a face list, from the report's rows and the solid's first two words: 20, then 1. Value: its length.
+// Writes a reported solid of a drawing of so many vertices and edges as a face list, from the report's rows and the solid's record: 20,
+// then 1. Value: its length.
 #[no_mangle]
 pub extern "C" fn nibgravel_write_faces(
     rows: &[u8],
-    taken: u64,
-    turned: u64,
+    solid: &[u64],
+    vertices: usize,
+    edges: usize,
     room: &mut [u8],
     said: &mut [u64],
 ) -> u64
-    ensures { λ r. ⌜ WritesAs (ofSolid (sentSaid editionOne) (now (rows .entry)) taken turned (now (room .entry)))
-        (ofSolid (sentRoom editionOne) (now (rows .entry)) taken turned (now (room .entry))) r (now (room .exit))
-        (now (said .entry)) (now (said .exit)) ⌝ }
+    ensures { λ r. ⌜ WritesAs
+        (ofSolid (sentSaid (editionFor vertices edges)) (now (rows .entry)) (now (solid .entry)) (now (room .entry)))
+        (ofSolid (sentRoom (editionFor vertices edges)) (now (rows .entry)) (now (solid .entry)) (now (room .entry)))
+        r (now (room .exit)) (now (said .entry)) (now (said .exit)) ⌝ }
 {
-    tell(written_said(write_faces(rows, taken, turned, room)), said)
+    tell(
+        written_said(write_faces(rows, solid, vertices, edges, room)),
+        said,
+    )
 }
 
 // Converts two lent lists: 1, 2, 5, 8 to 19. Values: loops, candidates; of a report also work, solids and, of one solid, six volumes.
