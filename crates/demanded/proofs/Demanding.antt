@@ -7,13 +7,14 @@ use native.Mathlib.Omega.{arith}
 use lib.IntN.{ℤ}
 use lib.ListN.{length, drop}
 use Rattle.pack.specs.Bits.{Under}
-use Rattle.paper.specs.Format.{editionOne, encode, lentEdition}
+use Rattle.paper.specs.Format.{encode, lentEdition, editionOf, editionFor}
 use Rattle.paper.specs.Loops.{Loop}
 use Rattle.paper.specs.FaceList.{countIn, facesIn, wellShaped, noFaces, encodeFaces, facesOf, sentOf, sentRoom}
 use Rattle.paper.specs.Sheet.{writtenOf, roomOf, readSheet}
 use Rattle.paper.specs.Conversion.{Converted}
 use Rattle.paper.specs.Reading.{readingOf}
 use Rattle.paper.specs.declared.Answer.the-variants as Answer
+use Rattle.paper.specs.declared.Format.{Format}
 use Rattle.paper.specs.declared.Conversion.{Conversion}
 use Rattle.paper.specs.declared.Faces.{Faces}
 use Rattle.paper.specs.declared.Reading.{Reading}
@@ -27,7 +28,7 @@ use Rattle.convert.specs.Converts.{atExit}
 use Rattle.assess.specs.Assessed.{Assessed}
 use Rattle.faces_laws.proofs.FaceList.{length-in}
 use Rattle.means_sheets.specs.FaceLists.{returned}
-use Rattle.means_sheets.proofs.Sheets.{reads-back-one}
+use Rattle.means_sheets.proofs.Sheets.{sheet-reads-back}
 use Rattle.means_sheets.proofs.Sheets.Room as SheetRoom
 use Rattle.means_sheets.proofs.FaceLists.Room as ListRoom
 use Rattle.demands.specs.Input.{Input, converted, checked}
@@ -99,9 +100,10 @@ module _ (xyz : List ℤ) (ends room₀ : List ℕ) where
   written-back n e =
       let s = encode (lentEdition xyz ends) xyz ends in
       let roomy = subst written e (demand1 .writes xyz ends room₀) .1 .1 .1 .1 .0 0 (omega arith) in
-      let h = SheetRoom.written-lent editionOne xyz ends room₀ n e in
-      let w = SheetRoom.writes editionOne xyz ends s room₀ h refl (omega (arith, roomy, SheetRoom.length-sheet editionOne xyz ends)) in
-      (s, stands e (w .0) (w .1), reads-back-one xyz ends .sheet h)
+      let f = lentEdition xyz ends in
+      let h = SheetRoom.written-lent f xyz ends room₀ n e in
+      let w = SheetRoom.writes f xyz ends s room₀ h refl (omega (arith, roomy, SheetRoom.length-sheet f xyz ends)) in
+      (s, stands e (w .0) (w .1), sheet-reads-back xyz ends .sheet h)
 
   pub writes : {r : Written} {room : List ℕ} → r ≡ writtenOf (lentEdition xyz ends) xyz ends room₀ → room ≡ roomOf (lentEdition xyz ends) xyz ends room₀
       → WritesSheet xyz ends room₀ r room
@@ -112,45 +114,48 @@ module _ (xyz : List ℤ) (ends room₀ : List ℕ) where
         (b .0, subst (Stands (b .0) room₀ n) (sym p) (b .1), b .2);
   }
 
-pub reads-faces : (v : ℕ) (list : List ℕ) {r : Faces} → r ≡ facesOf editionOne v list → ReadsFaces v list r
+pub reads-faces : (v : ℕ) (list : List ℕ) {r : Faces} → r ≡ facesOf (editionOf list) v list → ReadsFaces v list r
 unfolding facesOf
 reads-faces v list e =
     subst (ReadsFaces v list) (sym e)
     (record {
       first = demand1 .reads-faces v list;
-      none = λ f. blank (wellShaped editionOne v list) f;
-      faces = whole (wellShaped editionOne v list);
+      none = λ f. blank (wellShaped (editionOf list) v list) f;
+      faces = whole (wellShaped (editionOf list) v list);
     })
   where
     read : Faces
-    read = record { answer = Answer.Fine; count = countIn editionOne list; rows = returned (facesIn editionOne list) .rows }
+    read = record { answer = Answer.Fine; count = countIn (editionOf list) list; rows = returned (facesIn (editionOf list) list) .rows }
 
     blank : (b : Bool) (f : Refusal) → cond b read noFaces .answer ≡ Answer.Refused f → cond b read noFaces ≡ noFaces
     blank true f q = let z : _≡_ {A = ℕ} 0 1 = cc in absurd (omega arith)
     blank false f q = refl
 
-    whole : (b : Bool) → cond b read noFaces .answer ≡ Answer.Fine → cond b read noFaces ≡ returned (facesIn editionOne list)
+    whole : (b : Bool) → cond b read noFaces .answer ≡ Answer.Fine → cond b read noFaces ≡ returned (facesIn (editionOf list) list)
     whole true q =
-        ap (λ (n : ℕ). record { answer = Answer.Fine; count = n; rows = returned (facesIn editionOne list) .rows })
-        (sym (length-in editionOne list))
+        ap (λ (n : ℕ). record { answer = Answer.Fine; count = n; rows = returned (facesIn (editionOf list) list) .rows })
+        (sym (length-in (editionOf list) list))
     whole false q = let z : _≡_ {A = ℕ} 0 1 = cc in absurd (omega arith)
 
-module _ (fs : List Loop) (room₀ : List ℕ) where
+module _ (v e : ℕ) (fs : List Loop) (room₀ : List ℕ) where
+  abbrev f : Format
+  f = editionFor v e
+
   abbrev sent : Written → Type 0
-  sent w = bySender fs room₀ (ofWritten w)
+  sent w = bySender f fs room₀ (ofWritten w)
 
-  sent-stands : (n : ℕ) → sentOf editionOne fs room₀ ≡ Written.Bytes n
-      → Stands (encodeFaces editionOne fs) room₀ n (sentRoom editionOne fs room₀)
-  sent-stands n e =
-      let s = encodeFaces editionOne fs in
-      let roomy = subst sent e (demand1 .sends fs room₀) .1 .0 0 (omega arith) in
-      let w = ListRoom.sends editionOne fs room₀ (ListRoom.sent-sendable editionOne fs room₀ n e) s refl
-      (omega (arith, roomy, ListRoom.length-encoded editionOne fs room₀)) in
-      stands e (w .0) (w .1)
+  sent-stands : (n : ℕ) → sentOf f fs room₀ ≡ Written.Bytes n
+      → Stands (encodeFaces f fs) room₀ n (sentRoom f fs room₀)
+  sent-stands n is =
+      let s = encodeFaces f fs in
+      let roomy = subst sent is (demand1 .sends v e fs room₀) .1 .0 0 (omega arith) in
+      let w = ListRoom.sends f fs room₀ (ListRoom.sent-sendable f fs room₀ n is) s refl
+      (omega (arith, roomy, ListRoom.length-encoded f fs room₀)) in
+      stands is (w .0) (w .1)
 
-  pub sends : {r : Written} {room : List ℕ} → r ≡ sentOf editionOne fs room₀ → room ≡ sentRoom editionOne fs room₀ → Sends fs room₀ r room
-  sends e p = record {
-    first = subst sent (sym e) (demand1 .sends fs room₀);
-    kept = λ f q. p ∙ demand1 .send-room-kept fs room₀ f (sym e ∙ q);
-    sent = λ n q. subst (Stands (encodeFaces editionOne fs) room₀ n) (sym p) (sent-stands n (sym e ∙ q));
+  pub sends : {r : Written} {room : List ℕ} → r ≡ sentOf f fs room₀ → room ≡ sentRoom f fs room₀ → Sends f fs room₀ r room
+  sends is p = record {
+    first = subst sent (sym is) (demand1 .sends v e fs room₀);
+    kept = λ r q. p ∙ demand1 .send-room-kept v e fs room₀ r (sym is ∙ q);
+    sent = λ n q. subst (Stands (encodeFaces f fs) room₀ n) (sym p) (sent-stands n (sym is ∙ q));
   }

@@ -6,12 +6,13 @@ use Prim.Native.Nat.{ℕ, _/_, _≤_, _<_}
 use lib.Ieee.{Float}
 use lib.IntN.{ℤ}
 use lib.ListN.{length, drop}
-use Rattle.paper.specs.Format.{editionOne, total, bytesFor, lentEdition}
+use Rattle.paper.specs.Format.{total, bytesFor, lentEdition, editionOf}
 use Rattle.paper.specs.Loops.{Loop}
 use Rattle.paper.specs.FaceList.{facesIn, bitsOf, encodeFaces, noFaces}
 use Rattle.paper.specs.Sheet.{blank, held}
 use Rattle.paper.specs.Conversion.{Converted}
 use Rattle.paper.specs.Reading.{conversionSays, volume}
+use Rattle.paper.specs.declared.Format.{Format}
 use Rattle.paper.specs.declared.Answer.{Answer}
 use Rattle.paper.specs.declared.Answer.the-variants as Answer
 use Rattle.paper.specs.declared.Conversion.{Conversion}
@@ -30,7 +31,7 @@ use Rattle.means_report.specs.Listed.{WalkTree}
 use Rattle.means_report.specs.Report.{solidCount}
 use Rattle.demands.specs.Input.{Input, lent, sheet, drawing, candidatesOf, Passes}
 use Rattle.demands.specs.Table.{one, end, roomsAndLimit, forms, drawings, ofConversion, ofWritten, ofVerdict}
-use Rattle.demands.specs.Shells.{Shape, shells, NoList}
+use Rattle.demands.specs.Shells.{Shape, GoodList, sentFaces, shells, NoList}
 use Rattle.demands.specs.Solid.{NamesOne}
 use Rattle.demands.specs.Walk.{Allowed}
 use Rattle.demands.specs.Demand1.{WithinLimit}
@@ -73,12 +74,12 @@ pub record Checks (x : Input) (list : List ℕ) (r : Verdict) : Type 0 where
   -- demand 1: the first line of the table that offends, with the lowest place that does
   pub first : forms x
       (drawings (drawing x)
-      (one 20 (Shape (length (drawing x .vertices)) list → ⊥) (shells (drawing x) (candidatesOf x) (facesIn editionOne list) end)))
+      (one 20 (GoodList (drawing x) list → ⊥) (shells (drawing x) (candidatesOf x) (sentFaces (drawing x) list) end)))
       (ofVerdict r)
   -- demand 3: accepted exactly where the list names one solid with its directions
   pub exactly : Passes x
       → (r ≡ Verdict.Accepted)
-      ↔ (Shape (length (drawing x .vertices)) list × NamesOne (drawing x) (candidatesOf x) (facesIn editionOne list))
+      ↔ (GoodList (drawing x) list × NamesOne (drawing x) (candidatesOf x) (sentFaces (drawing x) list))
 
 -- of sheets that are read and written
 pub record ReadsSheet (s : List ℕ) (r : Sheet) : Type 0 where
@@ -94,8 +95,8 @@ abbrev pub byWriter : List ℤ → List ℕ → List ℕ → Answer → Type 0
 byWriter xyz ends room =
     forms (lent xyz ends) (one 1 (length room < bytesFor (total (lentEdition xyz ends) (length xyz / 3) (length ends / 2))) end)
 
-abbrev pub bySender : List Loop → List ℕ → Answer → Type 0
-bySender fs room = one 20 (NoList fs) (one 1 (length room < bytesFor (bitsOf editionOne fs)) end)
+abbrev pub bySender : Format → List Loop → List ℕ → Answer → Type 0
+bySender f fs room = one 20 (NoList fs) (one 1 (length room < bytesFor (bitsOf f fs)) end)
 
 -- these bytes stand at the start of the room, as many as were reported, and later room keeps its contents
 pub record Stands (s room₀ : List ℕ) (n : ℕ) (room : List ℕ) : Type 0 where
@@ -111,11 +112,11 @@ pub record WritesSheet (xyz : List ℤ) (ends room₀ : List ℕ) (r : Written) 
 
 -- demand 1, of face lists that are read and written; a list that is read holds these faces, and what is written are the faces, packed
 pub record ReadsFaces (v : ℕ) (list : List ℕ) (r : Faces) : Type 0 where
-  pub first : one 20 (Shape v list → ⊥) end (r .answer)
+  pub first : one 20 (Shape (editionOf list) v list → ⊥) end (r .answer)
   pub none : (f : Refusal) → r .answer ≡ Answer.Refused f → r ≡ noFaces
-  pub faces : r .answer ≡ Answer.Fine → r ≡ returned (facesIn editionOne list)
+  pub faces : r .answer ≡ Answer.Fine → r ≡ returned (facesIn (editionOf list) list)
 
-pub record Sends (fs : List Loop) (room₀ : List ℕ) (r : Written) (room : List ℕ) : Type 0 where
-  pub first : bySender fs room₀ (ofWritten r)
-  pub kept : (f : Refusal) → r ≡ Written.Refused f → room ≡ room₀
-  pub sent : (n : ℕ) → r ≡ Written.Bytes n → Stands (encodeFaces editionOne fs) room₀ n room
+pub record Sends (f : Format) (fs : List Loop) (room₀ : List ℕ) (r : Written) (room : List ℕ) : Type 0 where
+  pub first : bySender f fs room₀ (ofWritten r)
+  pub kept : (e : Refusal) → r ≡ Written.Refused e → room ≡ room₀
+  pub sent : (n : ℕ) → r ≡ Written.Bytes n → Stands (encodeFaces f fs) room₀ n room

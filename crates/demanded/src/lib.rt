@@ -1,5 +1,6 @@
 // The functions that a customer's program calls, once more: each hands on what the function of its name says, and its contract is not an
 // equation with document 01's definitions but the customer's demand itself. Nothing is assumed of any input.
+ghost use Rattle.paper.specs.Format.{editionFor};
 ghost use Rattle.paper.specs.FaceList.{solidFaces};
 ghost use Rattle.demands.specs.Input.{lent};
 ghost use Rattle.demands.specs.Input as Input;
@@ -79,8 +80,15 @@ pub fn read_faces(list: &[u8], vertices: usize) -> Faces
     faces_reader::read_faces(list, vertices)
 }
 
-pub fn write_faces(rows: &[u8], taken: u64, turned: u64, room: &mut [u8]) -> Written
-    ensures { λ r. ⌜ Sends (solidFaces (now (rows .entry)) taken turned) (now (room .entry)) r (now (room .exit)) ⌝ }
+pub fn write_faces(
+    rows: &[u8],
+    solid: &[u64],
+    vertices: usize,
+    edges: usize,
+    room: &mut [u8],
+) -> Written
+    ensures { λ r. ⌜ Sends (editionFor vertices edges) (solidFaces (now (rows .entry)) (now (solid .entry))) (now (room .entry)) r
+        (now (room .exit)) ⌝ }
 {
-    faces_writer::write_faces(rows, taken, turned, room)
+    faces_writer::write_faces(rows, solid, vertices, edges, room)
 }

@@ -5,11 +5,14 @@ use mathlib.Core.List.{List, [], _∷_, flatMap}
 use mathlib.Core.Path.{_≡_, refl, sym, ap, _∙_}
 use Prim.Native.Nat.{ℕ, _+_, _*_, _≤_, _<_}
 use native.Mathlib.Omega.{arith}
-use lib.ListN.{length, getD, take, drop, length-append}
+use lib.IntN.{ℤ}
+use lib.ListN.{length, take, drop, length-append}
 use lib.Seq.{take-at}
-use Rattle.paper.specs.Format.{editionOne, bytesFor}
+use Rattle.paper.specs.Verdict.{listEdition}
+use Rattle.paper.specs.Format.{bytesFor, editionFor, lentEdition}
 use Rattle.paper.specs.Loops.{Loop}
 use Rattle.paper.specs.FaceList.{bitsOf, encodeFaces, solidFaces, sentOf, sentRoom}
+use Rattle.paper.specs.declared.Format.{Format}
 use Rattle.paper.specs.declared.Conversion.{Conversion}
 use Rattle.paper.specs.declared.Conversion.the-variants as Conversion
 use Rattle.paper.specs.declared.Refusal.{Refusal}
@@ -20,7 +23,7 @@ use Rattle.paper.specs.declared.Written.the-variants as Written
 use Rattle.convert.specs.Converts.{atExit}
 use Rattle.means_report.specs.Listed.{Entry, entryAt, wordsOf}
 use Rattle.means_report.specs.Report.{solidCount}
-use Rattle.demands.specs.Input.{Input, converted, checked}
+use Rattle.demands.specs.Input.{Input, lent, drawing, converted, checked}
 use Rattle.demands.specs.Demand1.{WithinLimit}
 use Rattle.demands.specs.Demand3.{Report}
 use Rattle.demands.specs.Shells.{NoList}
@@ -30,6 +33,7 @@ use Rattle.means_sheets.proofs.FaceLists.Room.{length-encoded}
 use Rattle.demanded.specs.Demanded.{Converts, bySender, Stands, Sends}
 use Rattle.demanded.proofs.Demanding as Demanding
 use Rattle.demanded_together.specs.Together.{Lists, Agrees, AcceptedAsSent}
+use Rattle.paper_laws.proofs.Editions.{wire-edition}
 
 -- three words for each solid
 words-long : (es : List Entry) → length (flatMap wordsOf es) ≡ 3 * length es
@@ -97,7 +101,7 @@ module _ (x : Input) (limit : ℕ) (faces₀ solids₀ : List ℕ) {c : Conversi
     report = made .reports (omega (arith, there))
 
     -- its words are in the room
-    pub in-room : (i < 8) × (3 * i + 1 < length solids)
+    pub in-room : (i < 8) × (3 * i ≤ length solids)
     in-room = (
       omega (arith, there, few c (made .within)),
       omega (
@@ -111,12 +115,12 @@ module _ (x : Input) (limit : ℕ) (faces₀ solids₀ : List ℕ) {c : Conversi
     )
 
     abbrev fs : List Loop
-    fs = solidFaces faces (getD solids (3 * i) 0) (getD solids (3 * i + 1) 0)
+    fs = solidFaces faces (drop (3 * i) solids)
 
     inside : i < length (report .es)
     inside = omega (arith, there, report .n)
 
-    taken : (NoList fs → ⊥) × (bytesFor (bitsOf editionOne fs) ≤ 338)
+    taken : (NoList fs → ⊥) × (bytesFor (bitsOf (listEdition (drawing x)) fs) ≤ 338)
     taken = report .sent i inside fs (report .some i inside)
 
     pub accepted : {b : Bool} → AcceptedAsSent x fs b → b ≡ true
@@ -124,32 +128,47 @@ module _ (x : Input) (limit : ℕ) (faces₀ solids₀ : List ℕ) {c : Conversi
 
 -- ---- faces that are sent in 338 bytes
 
-pub sent-fits : (fs : List Loop) (room₀ : List ℕ) {n : ℕ} → Written.Bytes n ≡ sentOf editionOne fs room₀ → n ≤ length room₀
-sent-fits fs room₀ {n} e = go (Demanding.sends fs room₀ e refl)
+pub sent-fits : (v e : ℕ) (fs : List Loop) (room₀ : List ℕ) {n : ℕ} → Written.Bytes n ≡ sentOf (editionFor v e) fs room₀
+    → n ≤ length room₀
+sent-fits v e fs room₀ {n} is = go (Demanding.sends v e fs room₀ is refl)
   where
-    go : Sends fs room₀ (Written.Bytes n) (sentRoom editionOne fs room₀) → n ≤ length room₀
-    go h = omega (arith, h .first .1 .0 0 (omega arith), h .sent n refl .size, length-encoded editionOne fs room₀)
+    f : Format
+    f = editionFor v e
 
-module _ (x : Input) (fs : List Loop) (room₀ : List ℕ) (long : length room₀ ≡ 338) where
+    go : Sends f fs room₀ (Written.Bytes n) (sentRoom f fs room₀) → n ≤ length room₀
+    go h = omega (arith, h .first .1 .0 0 (omega arith), h .sent n refl .size, length-encoded f fs room₀)
+
+module _ (xyz : List ℤ) (ends : List ℕ) (fs : List Loop) (room₀ : List ℕ) (long : length room₀ ≡ 338) where
+  abbrev x : Input
+  x = lent xyz ends
+
+  abbrev f : Format
+  f = lentEdition xyz ends
+
+  -- the drawing's own edition
+  same : listEdition (drawing x) ≡ f
+  same = wire-edition xyz ends
+
   -- what can be sent is not refused
-  pub unsent : {f : Refusal} {b : Bool} → Written.Refused f ≡ sentOf editionOne fs room₀ → AcceptedAsSent x fs b
-  unsent {f} {b} q can fits ok = absurd (go (Demanding.sends fs room₀ q refl .first))
+  pub unsent : {r : Refusal} {b : Bool} → Written.Refused r ≡ sentOf f fs room₀ → AcceptedAsSent x fs b
+  unsent {r} {b} q can fits ok = absurd (go (Demanding.sends (length xyz / 3) (length ends / 2) fs room₀ q refl .first))
     where
-      go : bySender fs room₀ (ofWritten (Written.Refused f)) → ⊥
+      go : bySender f fs room₀ (ofWritten (Written.Refused r)) → ⊥
       go (inl p) = can (p .1 .1)
-      go (inr (p, inl q)) = omega (arith, q .1 .1, fits, long)
+      go (inr (p, inl q)) = omega (arith, q .1 .1, fits, long, ap (λ (g : Format). bytesFor (bitsOf g fs)) same)
       go (inr (p, inr q)) = q .1
 
-  module _ {n : ℕ} {room : List ℕ} (q : Written.Bytes n ≡ sentOf editionOne fs room₀) (p : room ≡ sentRoom editionOne fs room₀) where
-    stands : Stands (encodeFaces editionOne fs) room₀ n room
-    stands = Demanding.sends fs room₀ q p .sent n refl
+  module _ {n : ℕ} {room : List ℕ} (q : Written.Bytes n ≡ sentOf f fs room₀) (p : room ≡ sentRoom f fs room₀) where
+    stands : Stands (encodeFaces f fs) room₀ n room
+    stands = Demanding.sends (length xyz / 3) (length ends / 2) fs room₀ q p .sent n refl
 
-    list-is : take n room ≡ encodeFaces editionOne fs
+    list-is : take n room ≡ encodeFaces (listEdition (drawing x)) fs
     list-is =
-        ap (take n) (stands .there) ∙ take-at (encodeFaces editionOne fs) (drop n room₀) n (sym (stands .size))
+        ap (take n) (stands .there) ∙ take-at (encodeFaces f fs) (drop n room₀) n (sym (stands .size))
+        ∙ ap (λ (g : Format). encodeFaces g fs) (sym same)
 
-    pub unaccepted : {f : Refusal} {b : Bool} → Verdict.Refused f ≡ checked x (take n room) → AcceptedAsSent x fs b
-    unaccepted {f} e can fits ok =
-        let c : Verdict.Refused f ≡ Verdict.Accepted = e ∙ ap (checked x) list-is ∙ ok in
+    pub unaccepted : {r : Refusal} {b : Bool} → Verdict.Refused r ≡ checked x (take n room) → AcceptedAsSent x fs b
+    unaccepted {r} e can fits ok =
+        let c : Verdict.Refused r ≡ Verdict.Accepted = e ∙ ap (checked x) list-is ∙ ok in
         let z : _≡_ {A = ℕ} 0 1 = cc in
         absurd (omega (arith, z))

@@ -12,8 +12,9 @@ use lib.ListN.{length, take, drop, length-append}
 use Rattle.pack.specs.Bits.{Under}
 use Rattle.paper.specs.Refusals as No
 use Rattle.paper.specs.Refusals.{Check, check, offends, firstOf}
-use Rattle.paper.specs.Format.{editionOne, total, bytesFor, coordinatesIn, endsIn, editionOf, lentEdition}
+use Rattle.paper.specs.Format.{total, bytesFor, coordinatesIn, endsIn, editionOf, lentEdition, encode}
 use Rattle.paper.specs.Sheet.{sheetChecks, sheetOf, writtenOf, roomOf, readSheet}
+use Rattle.paper.specs.declared.Format.{Format}
 use Rattle.paper.specs.declared.Answer.{Answer}
 use Rattle.paper.specs.declared.Answer.the-variants as Answer
 use Rattle.paper.specs.declared.Drawing.{Drawing}
@@ -26,7 +27,7 @@ use Rattle.sheet_laws.proofs.Accepted.{coordinates-are, ends-are}
 use Rattle.sheet_laws.proofs.Written.{result-short}
 use Rattle.walk_input.specs.Given.{coordinatesOf, linksOf}
 use Rattle.means_sheets.specs.Sheets.{SheetWritesBack}
-use Rattle.means_sheets.proofs.Sheets.{reads-back-one, writes-back-one}
+use Rattle.means_sheets.proofs.Sheets.{sheet-reads-back, sheet-writes-back}
 use Rattle.means_sheets.proofs.Sheets.Room.{length-sheet}
 use Rattle.demands.specs.Input.{sheet}
 use Rattle.demands.specs.Table.{one, end, forms, ofWritten}
@@ -51,7 +52,7 @@ module _ (xyz : List ℤ) (ns room₀ : List ℕ) {room : List ℕ} (left : room
   pub read-back : {n : ℕ} {r : Sheet} → Written.Bytes n ≡ writtenOf (lentEdition xyz ns) xyz ns room₀ → r ≡ readSheet (take n room)
       → ReadsBack xyz ns room₀ r room
   read-back {n} {r} e is =
-      let whole = is ∙ ap (λ (l : List ℕ). readSheet (take n l)) left ∙ reads-back-one xyz ns .room room₀ n (sym e) in
+      let whole = is ∙ ap (λ (l : List ℕ). readSheet (take n l)) left ∙ sheet-reads-back xyz ns .room room₀ n (sym e) in
       let fine : r .answer ≡ Answer.Fine = ap (λ (q : Sheet). q .answer) whole in
       record {
         first = subst (byWriter xyz ns room₀) (sym fine) (Demanding.writes xyz ns room₀ e left .first);
@@ -105,12 +106,16 @@ module _ (s room₀ : List ℕ) where
     abbrev links : List ℕ
     links = endsIn (editionOf s) s
 
-    back : SheetWritesBack editionOne s
+    abbrev own : Format
+    own = lentEdition points links
+
+    back : SheetWritesBack s
     unfolding sheetOf
-    back = writes-back-one s (bytes, ok)
+    back = sheet-writes-back s (bytes, ok)
 
     size : bytesFor (total (lentEdition points links) (length points / 3) (length links / 2)) ≡ length s
-    size = sym (length-sheet editionOne points links) ∙ ap length (back .sheet)
+    size =
+        sym (length-sheet own points links) ∙ ap length (ap (λ (f : Format). encode f points links) (back .edition) ∙ back .sheet)
 
     -- what the line for 1 says
     last : (b : Bool) → ltb (length room₀) (length s) ≡ b → firstOf (check No.NoRoom (offends b 0) ∷ []) ≡ firstOf checks
@@ -122,7 +127,7 @@ module _ (s room₀ : List ℕ) where
       short : length room₀ < length s → WritesBack s room₀ r room
       unfolding firstOf
       short h =
-          let w = result-short editionOne points links room₀ (back .passes) (omega (arith, h, size)) in
+          let w = result-short own points links room₀ (back .passes) (omega (arith, h, size)) in
           let is : r ≡ Written.Refused (record { number = No.NoRoom; place = 0 }) = written ∙ sym (w .0) in
           record {
             first = subst by-reader (sym (ap ofWritten is ∙ last true (lt-ltb (length room₀) (length s) h))) first;

@@ -6,9 +6,10 @@ use mathlib.Core.Path.{_≡_}
 use Prim.Native.Nat.{ℕ, _*_, _/_, _≤_, _<_}
 use lib.IntN.{ℤ}
 use lib.ListN.{length, drop}
-use Rattle.paper.specs.Format.{editionOne, bytesFor, lentEdition}
+use Rattle.paper.specs.Verdict.{listEdition}
+use Rattle.paper.specs.Format.{bytesFor, lentEdition}
 use Rattle.paper.specs.Loops.{Loop}
-use Rattle.paper.specs.FaceList.{facesIn, bitsOf, encodeFaces}
+use Rattle.paper.specs.FaceList.{bitsOf, encodeFaces}
 use Rattle.paper.specs.Sheet.{held, writtenOf, roomOf}
 use Rattle.paper.specs.declared.Answer.the-variants as Answer
 use Rattle.paper.specs.declared.Drawing.{Drawing}
@@ -24,7 +25,7 @@ use Rattle.means_check.specs.Bodies.{SameBody}
 use Rattle.means_report.specs.Report.{solidCount}
 use Rattle.demands.specs.Input.{Input, sheet, drawing, candidatesOf, Passes, checked}
 use Rattle.demands.specs.Table.{one, end, forms, ofWritten}
-use Rattle.demands.specs.Shells.{Shape, NoList}
+use Rattle.demands.specs.Shells.{GoodList, sentFaces, NoList}
 use Rattle.demands.specs.Solid.{Every}
 use Rattle.demands.specs.Spoiled.{Spoiled}
 use Rattle.demands.specs.Demand3.{NamesIt}
@@ -40,7 +41,8 @@ pub record ReadsBack (xyz : List ℤ) (ends room₀ : List ℕ) (r : Sheet) (roo
 -- a drawing by value, written out
 abbrev pub WrittenFrom : Drawing → List ℕ → Written → List ℕ → Type 0
 WrittenFrom d room₀ r room =
-    (r ≡ writtenOf (lentEdition (coordinatesOf d) (linksOf d)) (coordinatesOf d) (linksOf d) room₀) × (room ≡ roomOf (lentEdition (coordinatesOf d) (linksOf d)) (coordinatesOf d) (linksOf d) room₀)
+    let f = lentEdition (coordinatesOf d) (linksOf d) in
+    (r ≡ writtenOf f (coordinatesOf d) (linksOf d) room₀) × (room ≡ roomOf f (coordinatesOf d) (linksOf d) room₀)
 
 -- demand 2, "a sheet that is accepted is written back with the same bytes": or it is refused as the reader refuses it, or by 1
 pub record WritesBack (s room₀ : List ℕ) (r : Written) (room : List ℕ) : Type 0 where
@@ -51,7 +53,8 @@ pub record WritesBack (s room₀ : List ℕ) (r : Written) (room : List ℕ) : T
 -- faces that can be sent, and whose list is accepted, are found so
 abbrev pub AcceptedAsSent : Input → List Loop → Bool → Type 0
 AcceptedAsSent x fs r =
-    (NoList fs → ⊥) → bytesFor (bitsOf editionOne fs) ≤ 338 → checked x (encodeFaces editionOne fs) ≡ Verdict.Accepted → r ≡ true
+    let f = listEdition (drawing x) in
+    (NoList fs → ⊥) → bytesFor (bitsOf f fs) ≤ 338 → checked x (encodeFaces f fs) ≡ Verdict.Accepted → r ≡ true
 
 -- demand 3, of a report and two lists
 module _ (x : Input) (limit : ℕ) (faces₀ solids₀ list other : List ℕ) where
@@ -62,10 +65,10 @@ module _ (x : Input) (limit : ℕ) (faces₀ solids₀ list other : List ℕ) wh
     pub all : Every (drawing x) (candidatesOf x) es
     pub words : solids ≡ flatMap wordsOf es ++ drop (3 * length es) solids₀
     pub exactly : (r .first ≡ Verdict.Accepted)
-        ↔ (Shape (length (drawing x .vertices)) list × ((i : ℕ) × (i < length es) × NamesIt x (entryAt es i) (facesIn editionOne list)))
+        ↔ (GoodList (drawing x) list × ((i : ℕ) × (i < length es) × NamesIt x (entryAt es i) (sentFaces (drawing x) list)))
     -- "with n = 1 any two lists that are accepted are the same body"
     pub same : length es ≡ 1 → r .first ≡ Verdict.Accepted → r .second ≡ Verdict.Accepted
-        → SameBody (facesIn editionOne list) (facesIn editionOne other)
+        → SameBody (sentFaces (drawing x) list) (sentFaces (drawing x) other)
 
   pub record Agrees (faces solids : List ℕ) (r : Told) : Type 0 where
     pub converts : Converts x limit faces₀ solids₀ (r .conversion) faces solids
@@ -73,5 +76,5 @@ module _ (x : Input) (limit : ℕ) (faces₀ solids₀ list other : List ℕ) wh
     pub checks-other : Checks x other (r .second)
     pub lists : 0 < solidCount (r .conversion) → Lists faces solids r
     -- a list that was accepted, and then had a face turned, all turned, one left out or one doubled, is refused
-    pub spoiled : Passes x → r .first ≡ Verdict.Accepted → Spoiled (facesIn editionOne list) (facesIn editionOne other)
+    pub spoiled : Passes x → r .first ≡ Verdict.Accepted → Spoiled (sentFaces (drawing x) list) (sentFaces (drawing x) other)
         → (f : Refusal) × (r .second ≡ Verdict.Refused f)

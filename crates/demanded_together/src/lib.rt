@@ -19,6 +19,7 @@ use paper::Drawing;
 use paper::ENDS;
 use paper::Sheet;
 use paper::Verdict;
+use paper::WORDS;
 use paper::Written;
 use sheet_reader::read_sheet;
 use sheet_writer::write_sheet;
@@ -175,11 +176,13 @@ pub fn sheets_converted_twice(
 }
 
 // The faces of a solid are written as a list, and the list is checked.
-fn sent_and_checked(xyz: &[i64], ends: &[u8], rows: &[u8], taken: u64, turned: u64) -> bool
-    ensures { λ r. ⌜ AcceptedAsSent (lent (now (xyz .entry)) (now (ends .entry))) (solidFaces (now (rows .entry)) taken turned) r ⌝ }
+fn sent_and_checked(xyz: &[i64], ends: &[u8], rows: &[u8], solid: &[u64]) -> bool
+    ensures { λ r. ⌜ AcceptedAsSent (lent (now (xyz .entry)) (now (ends .entry))) (solidFaces (now (rows .entry)) (now (solid .entry))) r ⌝ }
 {
     let mut room = [0u8; LIST_ROOM];
-    let sent = write_faces(rows, taken, turned, &mut room);
+    let v = xyz.len() / 3;
+    let e = ends.len() / 2;
+    let sent = write_faces(rows, solid, v, e, &mut room);
     match sent {
         Written::Refused(_) => false,
         Written::Bytes(n) => {
@@ -206,7 +209,7 @@ fn solids_in(c: Conversion) -> usize
     }
 }
 
-// "Where the report lists n solids, each of the n is accepted": solid i is written as a face list, from the report's rows and its words,
+// "Where the report lists n solids, each of the n is accepted": solid i is written as a face list, from the report's rows and its record,
 // and the list is checked. It can only say yes.
 pub fn reported_and_checked(
     xyz: &[i64],
@@ -222,5 +225,5 @@ pub fn reported_and_checked(
     if solids_in(said) <= i {
         return true;
     }
-    sent_and_checked(xyz, ends, faces, solids[3 * i], solids[3 * i + 1])
+    sent_and_checked(xyz, ends, faces, &solids[WORDS * i..])
 }

@@ -8,7 +8,7 @@ use lib.Ieee.{Float}
 use lib.IntN.{ℤ}
 use lib.ListN.{length}
 use lib.Seq.{take-nil}
-use Rattle.paper.specs.Format.{editionOne, lentEdition}
+use Rattle.paper.specs.Format.{lentEdition, editionFor}
 use Rattle.paper.specs.Loops.{Loop}
 use Rattle.paper.specs.FaceList.{sentOf, sentRoom}
 use Rattle.paper.specs.Sheet.{writtenOf, roomOf}
@@ -160,16 +160,17 @@ module _ (w : Written) (positive : (f : Refusal) → w ≡ Written.Refused f →
       go (Written.Refused f) e q not-zero = kept f e
 
 pub writes : (xyz : List ℤ) (ends room₀ : List ℕ) {r : ℕ} {room words₀ words : List ℕ}
-    → WritesAs (writtenSaid editionOne xyz ends room₀) (roomOf (lentEdition xyz ends) xyz ends room₀) r room words₀ words
+    → WritesAs (writtenSaid (lentEdition xyz ends) xyz ends room₀) (roomOf (lentEdition xyz ends) xyz ends room₀) r room words₀ words
     → WritesInWords (λ w. WritesSheet xyz ends room₀ w room) room₀ r room words₀ words
 writes xyz ends room₀ h =
     let d = Demanding.writes xyz ends room₀ refl (h .room-is) in
-    let said = sheet-written-said editionOne xyz ends room₀ in
+    let said = sheet-written-said (lentEdition xyz ends) xyz ends room₀ in
     written (writtenOf (lentEdition xyz ends) xyz ends room₀) (numbered .writes xyz ends room₀) d (d .kept) said (h .tells)
 
-pub sends : (fs : List Loop) (room₀ : List ℕ) {r : ℕ} {room words₀ words : List ℕ}
-    → WritesAs (sentSaid editionOne fs room₀) (sentRoom editionOne fs room₀) r room words₀ words
-    → WritesInWords (λ w. Sends fs room₀ w room) room₀ r room words₀ words
-sends fs room₀ h =
-    let d = Demanding.sends fs room₀ refl (h .room-is) in
-    written (sentOf editionOne fs room₀) (numbered .sends fs room₀) d (d .kept) (sent-said editionOne fs room₀) (h .tells)
+pub sends : (v e : ℕ) (fs : List Loop) (room₀ : List ℕ) {r : ℕ} {room words₀ words : List ℕ}
+    → WritesAs (sentSaid (editionFor v e) fs room₀) (sentRoom (editionFor v e) fs room₀) r room words₀ words
+    → WritesInWords (λ w. Sends (editionFor v e) fs room₀ w room) room₀ r room words₀ words
+sends v e fs room₀ h =
+    let f = editionFor v e in
+    let d = Demanding.sends v e fs room₀ refl (h .room-is) in
+    written (sentOf f fs room₀) (numbered .sends v e fs room₀) d (d .kept) (sent-said f fs room₀) (h .tells)

@@ -17,7 +17,7 @@ use Rattle.paper.specs.declared.Answer.the-variants as Answer
 use Rattle.paper.specs.declared.Refusal.{Refusal}
 use Rattle.export_words.specs.Words.{Tells}
 use Rattle.export_words.specs.Lists.{Read, roomChecks, readFor, readInto, ReadsAs}
-use Rattle.means_sheets.proofs.Sheets.{writes-back-one}
+use Rattle.means_sheets.proofs.Sheets.{sheet-writes-back}
 use Rattle.demands.specs.Input.{sheet}
 use Rattle.demands.specs.Sheets as Sheets
 use Rattle.demands.specs.Table.{line, end, forms, Two}
@@ -63,7 +63,7 @@ module _ (s : List ℕ) (bytes : Under 256 s) (xyz₀ : List ℤ) (ends₀ : Lis
 
   again : Answer.Fine ≡ firstOf checks → Sheets.Writes points links s
   unfolding sheetOf
-  again e = writes-back-one s (bytes, first-both (sheetChecks (editionOf s) s) (roomChecks points links xyz₀ ends₀) e .0) .room
+  again e = sheet-writes-back s (bytes, first-both (sheetChecks (editionOf s) s) (roomChecks points links xyz₀ ends₀) e .0) .room
 
   -- what is read, by the answer
   abbrev read : Answer → Read

@@ -8,8 +8,7 @@ use Prim.Native.Nat.{ℕ, _≤_, _<_}
 use lib.Ieee.{Float}
 use lib.IntN.{ℤ}
 use lib.ListN.{length, drop}
-use Rattle.paper.specs.Format.{editionOne, verticesIn, edgesIn, coordinatesIn, endsIn, editionOf}
-use Rattle.paper.specs.FaceList.{facesIn}
+use Rattle.paper.specs.Format.{verticesIn, edgesIn, coordinatesIn, endsIn, editionOf}
 use Rattle.paper.specs.Conversion.{Converted}
 use Rattle.paper.specs.Reading.{Said, fine, refused, conversionSays, verdictSays, writtenSays}
 use Rattle.paper.specs.Reading as Paper
@@ -26,7 +25,7 @@ use Rattle.export_words.specs.Words.{onto, Tells}
 use Rattle.means_report.specs.Report.{solidCount}
 use Rattle.demands.specs.Input.{Input, sheet, drawing, candidatesOf, Passes}
 use Rattle.demands.specs.Table.{line, end, forms, Two}
-use Rattle.demands.specs.Shells.{Shape}
+use Rattle.demands.specs.Shells.{GoodList, sentFaces}
 use Rattle.demands.specs.Solid.{Solid, NamesOne}
 use Rattle.demands.specs.Walk.{solidsOf, workOf, workToNine, Allowed}
 use Rattle.demands.specs.Sheets as Sheets
@@ -81,7 +80,7 @@ pub record ChecksInWords (x : Input) (list : List ℕ) (r : ℕ) (words₀ words
   pub answers : Answers verdictSays (λ v. v ≡ Verdict.Accepted) (Checks x list) r words₀ words
   -- demand 3, of the number: it is 0 exactly where the list names one solid with its directions
   pub exactly : Passes x
-      → (r ≡ 0) ↔ (Shape (length (drawing x .vertices)) list × NamesOne (drawing x) (candidatesOf x) (facesIn editionOne list))
+      → (r ≡ 0) ↔ (GoodList (drawing x) list × NamesOne (drawing x) (candidatesOf x) (sentFaces (drawing x) list))
 
 -- ---- sheets and face lists that are written; a sheet that is read
 

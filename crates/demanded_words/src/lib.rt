@@ -1,5 +1,6 @@
 // The functions for C and Rust and the desk's text, once more: each hands on what the function of its name says, and its contract is the
 // customer's demand itself, of the number returned and of what is left in all that was lent. Nothing is assumed of any input.
+ghost use Rattle.paper.specs.Format.{editionFor};
 ghost use Rattle.paper.specs.FaceList.{solidFaces};
 ghost use Rattle.demands.specs.Input.{lent};
 ghost use Rattle.demands.specs.Input as Input;
@@ -22,11 +23,19 @@ pub fn write_sheet(xyz: &[i64], ends: &[u8], room: &mut [u8], said: &mut [u64]) 
     export::nibgravel_write_sheet(xyz, ends, room, said)
 }
 
-pub fn write_faces(rows: &[u8], taken: u64, turned: u64, room: &mut [u8], said: &mut [u64]) -> u64
-    ensures { λ r. ⌜ WritesInWords (λ w. Sends (solidFaces (now (rows .entry)) taken turned) (now (room .entry)) w (now (room .exit)))
+pub fn write_faces(
+    rows: &[u8],
+    solid: &[u64],
+    vertices: usize,
+    edges: usize,
+    room: &mut [u8],
+    said: &mut [u64],
+) -> u64
+    ensures { λ r. ⌜ WritesInWords
+        (λ w. Sends (editionFor vertices edges) (solidFaces (now (rows .entry)) (now (solid .entry))) (now (room .entry)) w (now (room .exit)))
         (now (room .entry)) r (now (room .exit)) (now (said .entry)) (now (said .exit)) ⌝ }
 {
-    export::nibgravel_write_faces(rows, taken, turned, room, said)
+    export::nibgravel_write_faces(rows, solid, vertices, edges, room, said)
 }
 
 pub fn convert(

@@ -1,5 +1,5 @@
 -- Demand 2 holds of sheets.
-use mathlib.Core.Path.{_≡_, refl, sym, ap₂, subst, _∙_}
+use mathlib.Core.Path.{_≡_, refl, sym, ap₂, _∙_}
 use mathlib.Core.List.{List}
 use Prim.Native.Nat.{ℕ, _/_}
 use native.Mathlib.Omega.{arith}
@@ -13,7 +13,7 @@ use Rattle.paper.specs.declared.Drawing.{Drawing}
 use Rattle.sheet_laws.proofs.Accepted.{length-coordinates, length-ends}
 use Rattle.means_sheets.proofs.Sheets.{sheet-reads-back, sheet-writes-back}
 use Rattle.means_sheets.proofs.Sheets.Room.{writes}
-use Rattle.demands.specs.Sheets.{Reads, WritesIn, Writes, Sheets2}
+use Rattle.demands.specs.Sheets.{Reads, Sheets2}
 
 -- what an accepted sheet reads as
 module _ (s : List ℕ) (bytes : Under 256 s) (h : readSheet s .answer ≡ Fine) where
@@ -27,16 +27,11 @@ module _ (s : List ℕ) (bytes : Under 256 s) (h : readSheet s .answer ≡ Fine)
       ap₂ (λ a (d : Drawing). record { answer = a; drawing = d }) h
       (sheet-writes-back s (bytes, sym h) .returned ∙ ap₂ (λ (v e : ℕ). held v e (coordinatesIn f s) (endsIn f s)) (sym v) (sym e))
 
-  written : Writes (coordinatesIn f s) (endsIn f s) s
-  written =
-      let w = sheet-writes-back s (bytes, sym h) in
-      λ room l. subst (λ (g : Format). WritesIn g (coordinatesIn f s) (endsIn f s) s room) (sym (w .edition)) (w .room room l)
-
 pub sheets2 : Sheets2
 sheets2 = record {
   back =
       λ xyz ends h.
       let f = lentEdition xyz ends in
       (encode f xyz ends, λ room l. writes f xyz ends (encode f xyz ends) room h refl l, sheet-reads-back xyz ends .sheet h);
-  again = λ s u h. (coordinatesIn (editionOf s) s, endsIn (editionOf s) s, whole s u h, written s u h);
+  again = λ s u h. (coordinatesIn (editionOf s) s, endsIn (editionOf s) s, whole s u h, sheet-writes-back s (u, sym h) .room);
 }

@@ -1,6 +1,6 @@
 // The interface for C and Rust: numbers and lent slices only. Nothing is assumed of any input. An answer is document 01's number, which is
 // returned, 0 where nothing is refused; `said` gets it with its place and values, as far as it reaches.
-ghost use Rattle.paper.specs.Format.{editionOne, editionFor, lentEdition};
+ghost use Rattle.paper.specs.Format.{editionFor, lentEdition};
 ghost use Rattle.paper.specs.Conversion.{convertLists, convertSheet};
 ghost use Rattle.paper.specs.FaceList.{sentRoom};
 ghost use Rattle.paper.specs.Reading.{sentSaid, writtenSaid, verdictSays};
@@ -55,9 +55,10 @@ pub extern "C" fn nibgravel_write_sheet(
     room: &mut [u8],
     said: &mut [u64],
 ) -> u64
-    ensures { λ r. ⌜ WritesAs (writtenSaid editionOne (now (xyz .entry)) (now (ends .entry)) (now (room .entry)))
-        (roomOf (lentEdition (now (xyz .entry)) (now (ends .entry))) (now (xyz .entry)) (now (ends .entry)) (now (room .entry))) r (now (room .exit))
-        (now (said .entry)) (now (said .exit)) ⌝ }
+    ensures { λ r. ⌜ WritesAs
+        (writtenSaid (lentEdition (now (xyz .entry)) (now (ends .entry))) (now (xyz .entry)) (now (ends .entry)) (now (room .entry)))
+        (roomOf (lentEdition (now (xyz .entry)) (now (ends .entry))) (now (xyz .entry)) (now (ends .entry)) (now (room .entry)))
+        r (now (room .exit)) (now (said .entry)) (now (said .exit)) ⌝ }
 {
     tell(written_said(write_sheet(xyz, ends, room)), said)
 }

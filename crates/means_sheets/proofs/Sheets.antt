@@ -60,9 +60,12 @@ module _ (s : List ℕ) (a : Accepted s) where
   unfolding sheetOf
   checked = a .1
 
-  -- as many as its counts say
-  counts : lentEdition (coordinatesIn f s) (endsIn f s) ≡ editionFor (verticesIn f s) (edgesIn f s)
-  counts = ap₂ editionFor (omega (arith, length-coordinates f s)) (omega (arith, length-ends f s))
+  abbrev own : Format
+  own = lentEdition (coordinatesIn f s) (endsIn f s)
+
+  -- the lists are as many as the counts say
+  same : own ≡ f
+  same = ap₂ editionFor (omega (arith, length-coordinates f s)) (omega (arith, length-ends f s)) ∙ said-by s
 
   pub sheet-writes-back : SheetWritesBack s
   sheet-writes-back =
@@ -72,8 +75,9 @@ module _ (s : List ℕ) (a : Accepted s) where
         sheet = again;
         passes = takes;
         returned = returns f s checked;
-        edition = counts ∙ said-by s;
-        room = λ room l. writes f (coordinatesIn f s) (endsIn f s) s room takes again l;
+        edition = same;
+        room = λ room l. writes own (coordinatesIn f s) (endsIn f s) s room takes
+            (ap (λ (g : Format). encode g (coordinatesIn f s) (endsIn f s)) same ∙ again) l;
       }
 
 -- ---- no two sheets hold one drawing

@@ -1,13 +1,16 @@
 -- The editions that there are: what holds of each of them holds of that which a sheet says and of that of a drawing.
-use mathlib.Core.Path.{_≡_, refl}
+use mathlib.Core.Path.{_≡_, refl, ap₂}
 use mathlib.Core.List.{List}
 use Prim.Native.Nat.{ℕ, _≤_}
 use native.Mathlib.Omega.{arith}
 use lib.IntN.{ℤ}
+use Rattle.paper.specs.Verdict.{listEdition}
+use Rattle.paper.specs.Drawing.{wire}
 use Rattle.paper.specs.Numbers.{mostVertices, mostEdges}
 use Rattle.paper.specs.Format.{editionOne, editionOf, editionFor, lentEdition, verticesIn, edgesIn, encode}
 use Rattle.paper.specs.declared.Format.{Format}
 use Rattle.paper_laws.specs.Editions.{Limited, Roomy, FitsEdition}
+use Rattle.paper_laws.proofs.Wires.{length-points, length-edges}
 
 module _ (P : Format → Type 0) (one : P editionOne) where
   pub holds-of : (s : List ℕ) → P (editionOf s)
@@ -51,3 +54,8 @@ pub says : (xyz : List ℤ) (ends : List ℕ)
     → editionOf (encode (lentEdition xyz ends) xyz ends) ≡ lentEdition xyz ends
 unfolding editionOf editionFor
 says xyz ends = refl
+
+-- two lists are a drawing of their own edition
+pub wire-edition : (xyz : List ℤ) (ends : List ℕ) → listEdition (wire xyz ends) ≡ lentEdition xyz ends
+unfolding wire
+wire-edition xyz ends = ap₂ editionFor (length-points xyz) (length-edges ends)

@@ -9,8 +9,8 @@ use Rattle.demanded_words.proofs.write_faces.Tie as tie
 returns : tie.Need-returns
 returns c =
     let k = c .before .before .before .before in
-    let a = k .before .before .before .before .before .before .args in
-    sends (solidFaces (now (a .rows)) (a .taken) (a .turned)) (now (a .room)) (k .nibgravel-write-faces .ensures)
+    let a = k .before .before .before .before .before .before .before .args in
+    sends (a .vertices) (a .edges) (solidFaces (now (a .rows)) (now (a .solid))) (now (a .room)) (k .nibgravel-write-faces .ensures)
 
 pub write-faces-spec : {M : Type 1} → statement M
 write-faces-spec = tie.close (tie.spec (λ c κs. search needs) (λ c. search needs) (λ c. search needs) returns)
