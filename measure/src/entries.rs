@@ -18,7 +18,8 @@ extern "C" {
     ) -> u64;
     fn nibgravel_assess_sheet(sheet: *const u8, sheet_len: usize, limit: u64, volume: *mut f64, volume_len: usize) -> u64;
     fn nibgravel_write_faces(
-        rows: *const u8, rows_len: usize, taken: u64, turned: u64, room: *mut u8, room_len: usize, said: *mut u64, said_len: usize,
+        rows: *const u8, rows_len: usize, solid: *const u64, solid_len: usize, vertices: usize, edges: usize, room: *mut u8,
+        room_len: usize, said: *mut u64, said_len: usize,
     ) -> u64;
     fn nibgravel_check_sheet(
         sheet: *const u8, sheet_len: usize, list: *const u8, list_len: usize, said: *mut u64, said_len: usize,
@@ -43,7 +44,7 @@ pub fn stack_of(d: &Drawing, l: &Lists) -> [usize; 4] {
         });
         let of_sheet = bytes(|| nibgravel_convert_sheet(at, len, MOST_WORK, f, FACE_ROOM, s, SOLID_ROOM, t, 0));
         let reading = bytes(|| nibgravel_assess_sheet(at, len, MOST_WORK, v, 1));
-        nibgravel_write_faces(f, FACE_ROOM, *s, *s.add(1), list.as_mut_ptr(), LIST_BYTES, t, said.len());
+        nibgravel_write_faces(f, FACE_ROOM, s, 3, xyz.len() / 3, ends.len() / 2, list.as_mut_ptr(), LIST_BYTES, t, said.len());
         let check = bytes(|| nibgravel_check_sheet(at, len, list.as_ptr(), said[2] as usize, t, 0));
         [of_lists, of_sheet, reading, check]
     }

@@ -43,17 +43,18 @@ pub fn pack_faces(faces: &[Loop]) -> Vec<u8> {
     fields.bytes()
 }
 
-/// A solid's faces, from the rows of a report and the solid's first two words: in order, turned ones from the same corner
-/// the other way round. Nothing where they make no list.
-pub fn solid_faces(rows: &[u8], taken: u64, turned: u64) -> Option<Vec<Loop>> {
-    let chosen = (0..MOST_CANDIDATES).filter(|c| taken >> c & 1 == 1);
-    let faces = chosen.map(|c| row_face(rows, c, turned >> c & 1 == 1)).collect::<Option<Vec<Loop>>>();
+/// A solid's faces, from the rows of a report and the solid's record, in which a word that isn't there is 0: in order, turned ones from
+/// the same corner the other way round. Nothing where they make no list.
+pub fn solid_faces(rows: &[u8], solid: &[u64]) -> Option<Vec<Loop>> {
+    let has = |word: usize, c: usize| solid.get(word).is_some_and(|set| set >> c & 1 == 1);
+    let chosen = (0..MOST_CANDIDATES).filter(|c| has(0, *c));
+    let faces = chosen.map(|c| row_face(rows, c, has(1, c))).collect::<Option<Vec<Loop>>>();
     faces.filter(|faces| FACES.contains(&faces.len()))
 }
 
 /// Writes a solid as a face list. 20 where its faces make none, 1 where the room is shorter than it.
-pub fn send_solid(rows: &[u8], taken: u64, turned: u64, room: &mut [u8]) -> Result<usize, Refusal> {
-    let Some(faces) = solid_faces(rows, taken, turned) else { return refuse(SHELL_SHAPE, 0) };
+pub fn send_solid(rows: &[u8], solid: &[u64], room: &mut [u8]) -> Result<usize, Refusal> {
+    let Some(faces) = solid_faces(rows, solid) else { return refuse(SHELL_SHAPE, 0) };
     let list = pack_faces(&faces);
     let Some(part) = room.get_mut(..list.len()) else { return refuse(NO_ROOM, 0) };
     part.copy_from_slice(&list);

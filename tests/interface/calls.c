@@ -111,6 +111,11 @@ static void drop_drawing(struct drawing d) {
     drop_list(d.ends);
 }
 
+/* the counts that stand in a sheet */
+static uint64_t sheet_vertices(struct drawing d) { return (d.sheet.entries[0] & 15u) << 2 | d.sheet.entries[1] >> 6; }
+
+static uint64_t sheet_edges(struct drawing d) { return (d.sheet.entries[1] & 63u) << 1 | d.sheet.entries[2] >> 7; }
+
 #define BYTES(l) (l).entries, (l).length
 #define NUMBERS(l) (int64_t *)(l).entries, (l).length
 #define WORDS(l) (uint64_t *)(l).entries, (l).length
@@ -127,8 +132,9 @@ static void send_solids(struct drawing d, int on_sheet, uint64_t limit) {
         nibgravel_convert_sheet(BYTES(d.sheet), limit, faces, sizeof faces, solids, NIBGRAVEL_SOLID_ROOM, said, NIBGRAVEL_SAID);
     else
         nibgravel_convert(NUMBERS(d.xyz), BYTES(d.ends), limit, faces, sizeof faces, solids, NIBGRAVEL_SOLID_ROOM, said, NIBGRAVEL_SAID);
+    uint64_t vertices = on_sheet ? sheet_vertices(d) : d.xyz.length / 3, edges = on_sheet ? sheet_edges(d) : d.ends.length / 2;
     for (uint64_t k = 0; k < said[5]; k++) {
-        uint64_t number = nibgravel_write_faces(faces, 13 * said[3], solids[3 * k], solids[3 * k + 1], list, sizeof list, words,
+        uint64_t number = nibgravel_write_faces(faces, 13 * said[3], solids + 3 * k, 3, vertices, edges, list, sizeof list, words,
                                                 NIBGRAVEL_SAID);
         if (number == 0)
             number = on_sheet ? nibgravel_check_sheet(BYTES(d.sheet), list, words[2], words, 0)
@@ -207,7 +213,7 @@ static int checked(enum function f) {
                               : nibgravel_check(NUMBERS(d.xyz), BYTES(d.ends), BYTES(list), words, NIBGRAVEL_SAID);
     if (number > NIBGRAVEL_SHELL_SHAPE)
         note_place(number, words[1], (list.entries[0] & 15u) << 2 | list.entries[1] >> 6,
-                   on_sheet ? (d.sheet.entries[1] & 63u) << 1 | d.sheet.entries[2] >> 7 : d.ends.length / 2);
+                   on_sheet ? sheet_edges(d) : d.ends.length / 2);
     drop_drawing(d);
     drop_list(list);
     return !(room_holds(said) & (number == want) & (again == want));
@@ -228,10 +234,12 @@ static int read_or_written(enum function f) {
         good = room_holds(room) & room_holds(said);
         drop_list(ends);
     } else {
-        uint64_t taken = taken_number(8), turned = taken_number(8);
+        struct list solid = taken_list(8);
+        uint64_t vertices = taken_number(8), edges = taken_number(8);
         struct room room = taken_room(1), said = taken_room(8);
-        number = nibgravel_write_faces(BYTES(first), taken, turned, BYTES(room.list), WORDS(said.list));
+        number = nibgravel_write_faces(BYTES(first), WORDS(solid), vertices, edges, BYTES(room.list), WORDS(said.list));
         good = room_holds(room) & room_holds(said);
+        drop_list(solid);
     }
     want = taken_number(8);
     drop_list(first);

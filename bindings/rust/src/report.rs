@@ -1,4 +1,5 @@
 //! Conversion and its report.
+use crate::drawing::Drawing;
 use crate::error::{Error, Search};
 use crate::solid::Solid;
 use crate::sys;
@@ -17,7 +18,8 @@ use nibgravel_numbers::{FACE_ROOM, ROW, SAID, SOLID_ROOM, SOLID_WORDS};
 /// # Ok::<(), nibgravel::Error>(())
 /// ```
 pub fn convert(xyz: &[i64], ends: &[u8], limit: u64) -> Result<Report, Error> {
-    reported(|faces, solids, said| sys::convert(xyz, ends, limit, faces, solids, said))
+    let counts = || (xyz.len() / 3, ends.len() / 2);
+    reported(counts, |faces, solids, said| sys::convert(xyz, ends, limit, faces, solids, said))
 }
 
 /// Converts a sheet: refusals 2 to 19.
@@ -32,16 +34,21 @@ pub fn convert(xyz: &[i64], ends: &[u8], limit: u64) -> Result<Report, Error> {
 /// # Ok::<(), nibgravel::Error>(())
 /// ```
 pub fn convert_sheet(sheet: &[u8], limit: u64) -> Result<Report, Error> {
-    reported(|faces, solids, said| sys::convert_sheet(sheet, limit, faces, solids, said))
+    let counts = || Drawing::read(sheet).map_or((0, 0), |drawing| (drawing.xyz.len() / 3, drawing.ends.len() / 2));
+    reported(counts, |faces, solids, said| sys::convert_sheet(sheet, limit, faces, solids, said))
 }
 
-fn reported(call: impl FnOnce(&mut [u8], &mut [u64], &mut [u64]) -> u64) -> Result<Report, Error> {
+/// The report that a call makes of a drawing of so many vertices and edges.
+fn reported(
+    counts: impl FnOnce() -> (usize, usize),
+    call: impl FnOnce(&mut [u8], &mut [u64], &mut [u64]) -> u64,
+) -> Result<Report, Error> {
     let (mut rows, mut words, mut said) = ([0; FACE_ROOM], [0; SOLID_ROOM], [0; SAID]);
     match call(&mut rows, &mut words, &mut said) {
         0 => {
             let search = Search { loops: said[2] as usize, candidates: said[3] as usize, work: said[4] };
             let (rows, words) = (&rows[..ROW * search.candidates], &words[..SOLID_WORDS * said[5] as usize]);
-            Ok(Report { search, rows: rows.to_vec(), words: words.to_vec() })
+            Ok(Report { counts: counts(), search, rows: rows.to_vec(), words: words.to_vec() })
         }
         number => Err(Error::said(number, &said)),
     }
@@ -64,6 +71,8 @@ fn reported(call: impl FnOnce(&mut [u8], &mut [u64], &mut [u64]) -> u64) -> Resu
 /// ```
 #[derive(Clone, Debug, PartialEq, Eq, Hash)]
 pub struct Report {
+    /// Vertices and edges of the drawing.
+    counts: (usize, usize),
     search: Search,
     rows: Vec<u8>,
     words: Vec<u64>,
@@ -91,7 +100,7 @@ impl Report {
     /// # Ok::<(), nibgravel::Error>(())
     /// ```
     pub fn solids(&self) -> impl ExactSizeIterator<Item = Solid<'_>> {
-        self.words.chunks_exact(SOLID_WORDS).map(|words| Solid::new(&self.rows, words))
+        self.words.chunks_exact(SOLID_WORDS).map(|words| Solid::new(self.counts, &self.rows, words))
     }
 
     /// 13 bytes for each candidate: its number of corners, the corners in normal form, and 255 as fill.

@@ -15,16 +15,16 @@ use std::fmt;
 /// ```
 #[derive(Clone, Copy, Debug, PartialEq, Eq, Hash)]
 pub struct Solid<'a> {
+    /// Vertices and edges of the drawing.
+    counts: (usize, usize),
     rows: &'a [u8],
-    taken: u64,
-    turned: u64,
-    six: u64,
+    words: &'a [u64],
 }
 
 impl<'a> Solid<'a> {
-    /// From the rows of a report and three words.
-    pub(crate) fn new(rows: &'a [u8], words: &[u64]) -> Solid<'a> {
-        Solid { rows, taken: words[0], turned: words[1], six: words[2] }
+    /// From the drawing's counts, the rows of a report and the solid's three words.
+    pub(crate) fn new(counts: (usize, usize), rows: &'a [u8], words: &'a [u64]) -> Solid<'a> {
+        Solid { counts, rows, words }
     }
 
     /// Six times the volume in cubic centimetres, which is a whole number.
@@ -36,7 +36,7 @@ impl<'a> Solid<'a> {
     /// # Ok::<(), nibgravel::Error>(())
     /// ```
     pub fn six_volumes(&self) -> u64 {
-        self.six
+        self.words[2]
     }
 
     /// A bit for each candidate that is a face of it, candidate 0 the lowest.
@@ -48,7 +48,7 @@ impl<'a> Solid<'a> {
     /// # Ok::<(), nibgravel::Error>(())
     /// ```
     pub fn taken(&self) -> u64 {
-        self.taken
+        self.words[0]
     }
 
     /// A bit for each face that is run against its normal form.
@@ -60,7 +60,20 @@ impl<'a> Solid<'a> {
     /// # Ok::<(), nibgravel::Error>(())
     /// ```
     pub fn turned(&self) -> u64 {
-        self.turned
+        self.words[1]
+    }
+
+    /// Its words, as a report has them.
+    ///
+    /// ```
+    /// # use nibgravel::{convert_sheet, MOST_WORK};
+    /// # let report = convert_sheet(include_bytes!("../../../samples/octahedron.sheet"), MOST_WORK)?;
+    /// let solid = report.solids().next().unwrap();
+    /// assert_eq!(solid.words(), [solid.taken(), solid.turned(), solid.six_volumes()]);
+    /// # Ok::<(), nibgravel::Error>(())
+    /// ```
+    pub fn words(&self) -> &'a [u64] {
+        self.words
     }
 
     /// Its faces, in the order of the candidates.
@@ -73,7 +86,7 @@ impl<'a> Solid<'a> {
     /// # Ok::<(), nibgravel::Error>(())
     /// ```
     pub fn faces(&self) -> impl Iterator<Item = Face<'a>> {
-        let Solid { rows, taken, turned, .. } = *self;
+        let (rows, taken, turned) = (self.rows, self.taken(), self.turned());
         let has = |word: u64, candidate: usize| word >> candidate & 1 == 1;
         let face = move |(candidate, row): (usize, &'a [u8])| {
             let corners = &row[1..=row[0] as usize];
@@ -92,7 +105,7 @@ impl<'a> Solid<'a> {
     /// # Ok::<(), nibgravel::Error>(())
     /// ```
     pub fn to_face_list(&self) -> Result<Vec<u8>, Error> {
-        write_faces(self.rows, self.taken, self.turned)
+        write_faces(self.rows, self.words, self.counts.0, self.counts.1)
     }
 }
 
@@ -166,16 +179,17 @@ impl fmt::Display for Face<'_> {
     }
 }
 
-/// Writes faces as a face list, from the rows of a report and the first two words of a solid: refusal 20 where they make no list.
+/// Writes faces as a face list, from the rows of a report and the words of a solid (a word that isn't there is 0), for a drawing of so many
+/// vertices and edges: refusal 20 where they make no list.
 ///
 /// [`Solid::to_face_list`] does this for a solid of a report.
 ///
 /// ```
-/// assert_eq!(nibgravel::write_faces(&[], 0, 0).unwrap_err().name(), "ShellShape");
+/// assert_eq!(nibgravel::write_faces(&[], &[], 4, 6).unwrap_err().name(), "ShellShape");
 /// ```
-pub fn write_faces(rows: &[u8], taken: u64, turned: u64) -> Result<Vec<u8>, Error> {
+pub fn write_faces(rows: &[u8], solid: &[u64], vertices: usize, edges: usize) -> Result<Vec<u8>, Error> {
     let (mut room, mut said) = ([0; LIST_BYTES], [0; SAID]);
-    match sys::write_faces(rows, taken, turned, &mut room, &mut said) {
+    match sys::write_faces(rows, solid, vertices, edges, &mut room, &mut said) {
         0 => Ok(room[..said[2] as usize].to_vec()),
         number => Err(Error::said(number, &said)),
     }

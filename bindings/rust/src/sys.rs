@@ -74,8 +74,10 @@ mod header {
         pub fn nibgravel_write_faces(
             rows: *const u8,
             rows_len: usize,
-            taken: u64,
-            turned: u64,
+            solid: *const u64,
+            solid_len: usize,
+            vertices: usize,
+            edges: usize,
             room: *mut u8,
             room_len: usize,
             said: *mut u64,
@@ -194,15 +196,24 @@ pub fn assess_sheet(sheet: &[u8], limit: u64, volume: &mut [f64]) -> u64 {
     unsafe { header::nibgravel_assess_sheet(sheet.as_ptr(), sheet.len(), limit, volume.as_mut_ptr(), volume.len()) }
 }
 
-pub fn write_faces(rows: &[u8], taken: u64, turned: u64, room: &mut [u8], said: &mut [u64]) -> u64 {
+pub fn write_faces(
+    rows: &[u8],
+    solid: &[u64],
+    vertices: usize,
+    edges: usize,
+    room: &mut [u8],
+    said: &mut [u64],
+) -> u64 {
     // SAFETY: each address and length is of one slice that lives through the call; the two written ones are borrowed alone. The
-    // words may be any numbers.
+    // counts may be any numbers.
     unsafe {
         header::nibgravel_write_faces(
             rows.as_ptr(),
             rows.len(),
-            taken,
-            turned,
+            solid.as_ptr(),
+            solid.len(),
+            vertices,
+            edges,
             room.as_mut_ptr(),
             room.len(),
             said.as_mut_ptr(),

@@ -92,9 +92,13 @@ impl Calls<'_> {
     }
 
     fn send(&mut self) -> Outcome {
-        let (rows, taken, turned): (Vec<u8>, u64, u64) = (self.stream.list(), self.stream.one(), self.stream.one());
+        let (rows, solid): (Vec<u8>, Vec<u64>) = (self.stream.list(), self.stream.list());
+        let [vertices, edges]: [u64; 2] = [self.stream.one(), self.stream.one()];
         let (room, said, number) = (self.stream.room(), self.stream.room(), self.stream.one());
-        Outcome { number, good: written(write_faces(&rows, taken, turned), &room, &said, number) }
+        Outcome {
+            number,
+            good: written(write_faces(&rows, &solid, vertices as usize, edges as usize), &room, &said, number),
+        }
     }
 
     fn convert(&mut self, is_sheet: bool) -> Outcome {
@@ -110,7 +114,7 @@ impl Calls<'_> {
             _ if number == NO_ROOM => faces.length() < FACE_ROOM || solids.length() < SOLID_ROOM,
             Err(error) => faces.got(&[]) && solids.got(&[]) && refused(&error, &said, number),
             Ok(report) => {
-                let words: Vec<u64> = report.solids().flat_map(|s| [s.taken(), s.turned(), s.six_volumes()]).collect();
+                let words: Vec<u64> = report.solids().flat_map(|solid| solid.words().to_vec()).collect();
                 let right = faces.got(report.rows()) && solids.got(&words);
                 right && told(&reported(&report), &said, number) && self.accepts_all(&lent, &report)
             }

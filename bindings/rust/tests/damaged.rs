@@ -24,7 +24,7 @@ fn nothing_at_all() {
     assert_eq!(number(convert_sheet(&[], 0)), Some(Number::SheetShort));
     assert_eq!(assess(&[], &[], 0), Reading::NotAssessed(5));
     assert_eq!(assess_sheet(&[], 0), Reading::NotAssessed(3));
-    assert_eq!(number(write_faces(&[], 0, 0)), Some(Number::ShellShape));
+    assert_eq!(number(write_faces(&[], &[], 0, 0)), Some(Number::ShellShape));
     assert_eq!(verdict(check(&[], &[], &[])), Some(Number::BadCount));
     assert_eq!(verdict(check_sheet(&[], &[])), Some(Number::SheetShort));
 }
@@ -39,7 +39,7 @@ fn far_too_much() {
     assert_eq!(verdict(check(&xyz, &ends, &bytes)), Some(Number::BadCount));
     assert_eq!(verdict(check(&tetrahedron().xyz, &tetrahedron().ends, &bytes)), Some(Number::ShellShape));
     assert!(Drawing::read(&bytes).is_err());
-    assert_eq!(number(write_faces(&bytes, u64::MAX, u64::MAX)), Some(Number::ShellShape));
+    assert_eq!(number(write_faces(&bytes, &[u64::MAX; 300], usize::MAX, usize::MAX)), Some(Number::ShellShape));
 }
 
 #[test]

@@ -89,7 +89,7 @@ fn two_tetrahedra_are_pieces() {
     // vertices 1 to 3 of the image are 4 to 6 of the two
     let mut faces = faces_of(&tetrahedron());
     faces.extend(faces_of(&image()).iter().map(|f| f.iter().map(|v| if *v > 0 { v + 3 } else { 0 }).collect()));
-    let list = face_list(&faces).unwrap();
+    let list = face_list(&two_tetrahedra(), &faces).unwrap();
     assert_eq!(refused(two_tetrahedra().check(&list)), (Number::Pieces, 4));
 }
 
@@ -97,7 +97,8 @@ fn two_tetrahedra_are_pieces() {
 fn turned_faces_are_inward() {
     let report = cube().convert(MOST_WORK).unwrap();
     let solid = report.solids().next().unwrap();
-    let list = write_faces(report.rows(), solid.taken(), solid.taken() & !solid.turned()).unwrap();
+    let inward = [solid.taken(), solid.taken() & !solid.turned()];
+    let list = write_faces(report.rows(), &inward, 8, 12).unwrap();
     assert_eq!(refused(cube().check(&list)), (Number::Inward, 0));
     let sheet = cube().to_sheet().unwrap();
     assert_eq!(refused(nibgravel::check_sheet(&sheet, &list)), (Number::Inward, 0));
@@ -113,7 +114,7 @@ fn every_solid_that_is_sent_is_accepted() {
             assert_eq!(nibgravel::check_sheet(&sheet, &list), Verdict::Accepted);
             // by hand, from the corners as they are run
             let faces: Vec<Vec<u8>> = solid.faces().map(|face| face.corners().collect()).collect();
-            assert_eq!(face_list(&faces), Ok(list));
+            assert_eq!(face_list(&drawing, &faces), Ok(list));
         }
     }
 }
@@ -134,9 +135,9 @@ fn the_longest_sheet_and_list() {
     let mut drawing = chain(32);
     drawing.ends = (0..64).flat_map(|edge| [edge / 16, edge % 16 + 8]).collect();
     let sheet = drawing.to_sheet().unwrap();
-    assert_eq!((sheet.len(), Drawing::read(&sheet)), (215, Ok(drawing)));
+    assert_eq!((sheet.len(), Drawing::read(&sheet)), (215, Ok(drawing.clone())));
     let faces = vec![(0..12).collect(); 42];
-    assert_eq!(face_list(&faces).unwrap().len(), 338);
+    assert_eq!(face_list(&drawing, &faces).unwrap().len(), 338);
 }
 
 #[test]

@@ -180,38 +180,39 @@ impl Case<'_> {
         stream.number(number);
     }
 
-    /// The rows of a report and a solid's first two words, or rows and words that are none.
-    pub fn to_send(&self, r: &mut Rng) -> (Vec<u8>, u64, u64) {
+    /// The rows of a report and a solid's record, or rows and words that are none; and the drawing's numbers of vertices and edges.
+    pub fn to_send(&self, r: &mut Rng) -> (Vec<u8>, Vec<u64>, [usize; 2]) {
         let (mut rows, mut words) = (vec![0; FACE_ROOM], [0; SOLID_ROOM]);
         let (xyz, ends) = any_small(r).lists();
         let answer = fast::convert(Source::Lists(&xyz, &ends), 200, &mut rows, &mut words);
         let solid = r.below(SOLID_ROOM / 3);
-        let (mut taken, mut turned) = match answer {
-            Answer::Report { solids, .. } => {
-                (words[3 * (solid % solids as usize)], words[3 * (solid % solids as usize) + 1])
-            }
-            _ => (r.word() & r.word() & r.word(), r.word()),
+        let mut solid = match answer {
+            Answer::Report { solids, .. } => words[3 * (solid % solids as usize)..][..3].to_vec(),
+            _ => vec![r.word() & r.word() & r.word(), r.word()],
         };
         match r.below(8) {
-            0 => taken ^= 1 << r.below(64),
-            1 => turned = r.word(),
+            0 => solid[0] ^= 1 << r.below(64),
+            1 => solid[1] = r.word(),
             2 => rows.truncate(r.below(FACE_ROOM)),
             3 => rows[FACE_ROW * (self.turn % 8)] = r.pick(&[0, 2, 13, 255]),
             4 => rows[1 + self.turn % 60] = r.pick(&[31, 32, 255]),
             _ => {}
         }
-        (rows, taken, turned)
+        (rows, solid, [xyz.len() / 3, ends.len() / 2])
     }
 
     /// A solid sent as a face list.
     fn send(&self, r: &mut Rng, stream: &mut Stream) {
-        let (rows, taken, turned) = self.to_send(r);
-        let length = send_solid(&rows, taken, turned, &mut [0; 400]).unwrap_or(0);
+        let (rows, mut solid, counts) = self.to_send(r);
+        if self.turn % 5 == 0 {
+            solid.truncate(self.turn / 5 % 4);
+        }
+        let length = send_solid(&rows, &solid, &mut [0; 400]).unwrap_or(0);
         let mut room = near(r, length, LONGEST_LIST);
-        let said = written(send_solid(&rows, taken, turned, &mut room.now));
+        let said = written(send_solid(&rows, &solid, &mut room.now));
         stream.list(&rows);
-        stream.number(taken);
-        stream.number(turned);
+        stream.list(&solid);
+        counts.iter().for_each(|count| stream.number(*count as u64));
         stream.room(&room);
         self.tell(r, stream, &said);
     }

@@ -144,10 +144,11 @@ impl Pipe {
     }
 
     fn send(&mut self, case: &Case, r: &mut Rng) {
-        let (rows, taken, turned) = case.to_send(r);
+        let (rows, mut solid, _) = case.to_send(r);
+        solid.resize(2, 0);
         let mut room = [0; LONGEST_LIST];
-        let said = written(send_solid(&rows, taken, turned, &mut room));
-        self.ask(SEND, 0, &rows, &[taken.to_be_bytes(), turned.to_be_bytes()].concat());
+        let said = written(send_solid(&rows, &solid, &mut room));
+        self.ask(SEND, 0, &rows, &[solid[0].to_be_bytes(), solid[1].to_be_bytes()].concat());
         self.words(SAID, &said);
         self.bytes(LONGEST_LIST, &room);
     }

@@ -44,7 +44,7 @@ pub fn from_any_corners(r: &mut Rng, faces: &mut [Loop]) {
 pub fn sent_solids(source: Source, limit: u64) -> Vec<Vec<Loop>> {
     let (mut rows, mut words) = ([0; FACE_ROOM], [0; SOLID_ROOM]);
     let Answer::Report { solids, .. } = convert(source, limit, &mut rows, &mut words) else { return vec![] };
-    words.chunks(3).take(solids as usize).filter_map(|word| solid_faces(&rows, word[0], word[1])).collect()
+    words.chunks(3).take(solids as usize).filter_map(|words| solid_faces(&rows, words)).collect()
 }
 
 /// Mostly as they are; or bits turned over, cut off, too long, of another edition, or with a bit set at the end.

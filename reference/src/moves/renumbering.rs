@@ -35,7 +35,7 @@ type Body = (Vec<Loop>, u64);
 /// The solids of a report under new numbers, sorted.
 fn bodies(said: &Converted, new: impl Fn(usize) -> usize) -> Vec<Body> {
     let body = |words: &[u64]| {
-        let faces = solid_faces(&said.faces, words[0], words[1]).expect("a solid makes a face list");
+        let faces = solid_faces(&said.faces, words).expect("a solid makes a face list");
         let renewed = faces.iter().map(|face| from_lowest(&face.iter().map(|v| new(*v)).collect::<Loop>()));
         (sorted(renewed), words[2])
     };

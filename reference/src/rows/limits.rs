@@ -90,9 +90,9 @@ fn lists() -> Vec<Object> {
     });
     // two bodies that share a vertex: each outward
     let eight = [[2, 1, 0], [0, 1, 3], [3, 2, 0], [1, 2, 3], [0, 4, 5], [6, 4, 0], [0, 5, 6], [6, 5, 4]];
-    let (rows, [taken, turned]) = report(&based_on(12), 13);
+    let (rows, solid) = report(&based_on(12), 13);
     let mut twelve = [0; 512];
-    let length = send_solid(&rows, taken, turned, &mut twelve).expect("13 faces");
+    let length = send_solid(&rows, &solid, &mut twelve).expect("13 faces");
     let more = [
         (pierced(), dent),
         (two_tetrahedra(), pack_faces(&eight.map(|face| face.to_vec()))),
@@ -130,7 +130,7 @@ fn writes() -> Vec<Object> {
 /// A drawing's rows and a solid's words, and what is written of it in so much room.
 fn sent(d: &Drawing, rows: &[u8], solid: [u64; 2], room: usize) -> Object {
     let mut bytes = vec![0; room];
-    let answer = match send_solid(rows, solid[0], solid[1], &mut bytes) {
+    let answer = match send_solid(rows, &solid, &mut bytes) {
         Ok(length) => Object::that_is("written").put("length", &length).put("bytes", &bytes[..length]),
         Err(refusal) => refused(refusal),
     };

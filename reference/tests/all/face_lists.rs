@@ -112,11 +112,11 @@ fn a_solid_that_is_sent_is_accepted() {
         let outcome = converted(&d, MOST_WORK);
         for (words, faces) in outcome.solids.chunks(3).zip(solids_of(&d)) {
             let mut room = vec![0x5a; 100];
-            let length = send_solid(&outcome.faces, words[0], words[1], &mut room).expect("a solid");
+            let length = send_solid(&outcome.faces, words, &mut room).expect("a solid");
             assert_eq!(verdict(&d, &faces), (0, 0));
             assert_eq!(checked(Source::Sheet(&pack_sheet(&d)), &room[..length]), (0, 0));
             assert!(room[length..].iter().all(|byte| *byte == 0x5a));
-            let short = send_solid(&outcome.faces, words[0], words[1], &mut room[..length - 1]);
+            let short = send_solid(&outcome.faces, words, &mut room[..length - 1]);
             assert_eq!(short, refuse(NO_ROOM, 0));
         }
     }

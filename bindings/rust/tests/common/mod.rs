@@ -69,14 +69,14 @@ fn pairs(count: u8, joined: impl Fn(u8, u8) -> bool) -> Vec<[u8; 2]> {
     all.filter(|[a, b]| joined(*a, *b)).collect()
 }
 
-/// Faces, each in the direction of its corners, as a face list.
-pub fn face_list(faces: &[Vec<u8>]) -> Result<Vec<u8>, Error> {
+/// Faces, each in the direction of its corners, as a face list for a drawing.
+pub fn face_list(drawing: &Drawing, faces: &[Vec<u8>]) -> Result<Vec<u8>, Error> {
     let mut rows = vec![FILL; ROW * faces.len()];
     for (row, face) in rows.chunks_mut(ROW).zip(faces) {
         row[0] = face.len() as u8;
         row[1..=face.len()].copy_from_slice(face);
     }
-    write_faces(&rows, (1 << faces.len()) - 1, 0)
+    write_faces(&rows, &[(1 << faces.len()) - 1], drawing.xyz.len() / 3, drawing.ends.len() / 2)
 }
 
 /// The faces of a drawing's only solid, each in the direction in which it is run.
