@@ -7,10 +7,10 @@ use borrow.Author.Tests.{eqb-true, eqb-false}
 use lib.Dec.{eqb}
 use Rattle.lists.proofs.Truth.{and-left}
 use Rattle.sets.specs.Word.{dig, count, first, both, either, less, only}
-use Rattle.sets.specs.Sets.{Is, size, Lowest, Dropped}
-use Rattle.sets.specs.declared.Set.{Set}
+use Rattle.sets.specs.Kinds.{Lowest, Dropped}
+use Rattle.sets.specs.Sets.{wides, Wide}
 use Rattle.sets.proofs.Digits.{dig-less}
-use Rattle.sets.proofs.Sets.{size-is}
+use Rattle.sets.proofs.Sets.{wides-laws}
 use Rattle.fast_tables.specs.Asked.{KnownEdges, holding, missing, askedInTurn, free}
 use Rattle.fast_tables.specs.Words.{ones}
 use Rattle.fast_tables.proofs.Ones.{ones-none, ones-first}
@@ -20,26 +20,26 @@ abbrev pub heldWith : KnownEdges → List Bool → KnownEdges
 heldWith g h = record { held = h; outside = g .outside }
 
 -- of m edges, those of the mask `whole` are asked; held and open are the sets of those known to be held and of those left
-pub record Left (m : ℕ) (out : ℕ → Bool) (whole : List Bool) (g : KnownEdges) (held rest : Set) : Type 0 where
+pub record Left (m : ℕ) (out : ℕ → Bool) (whole : List Bool) (g : KnownEdges) (held rest : Wide) : Type 0 where
   pub held-now : List Bool
-  pub held-is : Is held held-now
+  pub held-is : wides .Is held held-now
   pub rest-now : List Bool
-  pub rest-is : Is rest rest-now
+  pub rest-is : wides .Is rest rest-now
   pub known : (e : ℕ) → dig rest-now e ≡ true → e < m
   pub same : askedInTurn out (ones m rest-now) (heldWith g held-now) ≡ askedInTurn out (ones m whole) g
 
-module _ {m : ℕ} {out : ℕ → Bool} {whole : List Bool} {g : KnownEdges} {held rest : Set} (l : Left m out whole g held rest) where
+module _ {m : ℕ} {out : ℕ → Bool} {whole : List Bool} {g : KnownEdges} {held rest : Wide} (l : Left m out whole g held rest) where
   -- ---- none is left
-  pub left-end : eqb (size rest) 0 ≡ true → heldWith g (l .held-now) ≡ askedInTurn out (ones m whole) g
+  pub left-end : eqb (wides .size rest) 0 ≡ true → heldWith g (l .held-now) ≡ askedInTurn out (ones m whole) g
   unfolding askedInTurn
   left-end t =
-      let z : count (l .rest-now) ≡ 0 = sym (size-is (l .rest-is)) ∙ eqb-true (size rest) 0 t in
+      let z : count (l .rest-now) ≡ 0 = sym (wides-laws .size-is (l .rest-is)) ∙ eqb-true (wides .size rest) 0 t in
       sym (ap (λ (es : List ℕ). askedInTurn out es (heldWith g (l .held-now))) (ones-none m (l .rest-now) z)) ∙ l .same
 
   -- ---- the lowest that is left
-  module _ (t : eqb (size rest) 0 ≡ false) (e : ℕ) (low : Lowest rest e) where
+  module _ (t : eqb (wides .size rest) 0 ≡ false) (e : ℕ) (low : Lowest wides rest e) where
     some : count (l .rest-now) ≡ 0 → ⊥
-    some z = eqb-false (size rest) 0 t (size-is (l .rest-is) ∙ z)
+    some z = eqb-false (wides .size rest) 0 t (wides-laws .size-is (l .rest-is) ∙ z)
 
     e-first : e ≡ first (l .rest-now)
     e-first = low .same (l .rest-now) (l .rest-is)
@@ -63,7 +63,7 @@ module _ {m : ℕ} {out : ℕ → Bool} {whole : List Bool} {g : KnownEdges} {he
         sym (ap (λ (b : Bool). cond b (missing f e) (askedInTurn out es (holding f e))) o) ∙ next
 
     -- it is held
-    pub left-miss : out e ≡ false → {held' rest' : Set} → ((a : List Bool) → Is held a → Is held' (either a (only e))) → Dropped rest e rest'
+    pub left-miss : out e ≡ false → {held' rest' : Wide} → ((a : List Bool) → wides .Is held a → wides .Is held' (either a (only e))) → Dropped wides rest e rest'
         → Left m out whole g held' rest'
     unfolding askedInTurn
     left-miss o with' without' =
@@ -79,6 +79,6 @@ module _ {m : ℕ} {out : ℕ → Bool} {whole : List Bool} {g : KnownEdges} {he
         }
 
 -- ---- no edge of a mask is known to be outside, where the set of those that are is empty
-pub free-is : (mask : List Bool) (g : KnownEdges) {edges : Set} {r : Bool} → r ≡ eqb (size edges) 0 → Is edges (both mask (g .outside))
+pub free-is : (mask : List Bool) (g : KnownEdges) {edges : Wide} {r : Bool} → r ≡ eqb (wides .size edges) 0 → wides .Is edges (both mask (g .outside))
     → r ≡ free mask g
-free-is mask g e i = e ∙ ap (λ (n : ℕ). eqb n 0) (size-is i)
+free-is mask g e i = e ∙ ap (λ (n : ℕ). eqb n 0) (wides-laws .size-is i)

@@ -6,11 +6,14 @@ use Prim.Native.Nat.{ℕ, _+_, _≤_, _<_}
 use native.Mathlib.Omega.{arith}
 use lib.Dec.{eqb}
 use lib.IntN.{ℤ}
-use lib.ListN.{length, drop, length-map, drop-of-length-le}
-use Rattle.lists.specs.Lists.{upto, member}
+use lib.ListN.{length, drop, drop-of-length-le}
+use Rattle.lists.specs.Lists.{upto}
 use Rattle.lists.proofs.Places.{drop-more, made-length, upto-length, upto-at}
 use Rattle.sets.specs.Word.{count, less}
-use Rattle.sets.specs.Sets.{room, Is, maskAt}
+use Rattle.sets.specs.Kinds.{SetAt}
+use Rattle.sets.specs.Sets.{room, oneWord, wides, Wide}
+use Rattle.sets.specs.declared.Set.{Set}
+use Rattle.sets.proofs.Laws.{at-is}
 use Rattle.paper.specs.Polygon.{normal}
 use Rattle.paper.specs.Drawing.{Wire, edge, wire, edgeAt}
 use Rattle.paper.specs.Loops.{Loop, loopAt, level, loops, coversOther}
@@ -105,12 +108,12 @@ module _ {xyz : List ℤ} {ends table : List ℕ} {n : ℕ} {corners sides plane
       omega (arith, ap length (plane-level l) ∙ made-length (level d l) (length (d .vertices)), vertices-are r, r .most)
 
   -- the sides of loop j, as a set of edges
-  pub side-set : (j : ℕ) → j < n → EdgesOf xyz ends (maskAt sides j) (sideMask d (loopAt ls j))
+  pub side-set : (j : ℕ) → j < n → {x : Wide} → SetAt wides sides j x → EdgesOf xyz ends x (sideMask d (loopAt ls j))
   unfolding sideMask
-  side-set j h =
+  side-set j h a =
       let l = loopAt ls j in
       record {
-        is = mask-is (sideMask d) sides ls (known .sides-are) j (there-in j h) (sides-short (known .passed .range) l);
+        is = at-is a (sideMask d l) (mask-is (sideMask d) sides ls (known .sides-are) j (there-in j h) (sides-short (known .passed .range) l));
         known = λ e t. map-yes (λ e. has e l) (edge 0 0) (d .edges) e t .0;
       }
 
@@ -125,13 +128,13 @@ module _ {xyz : List ℤ} {ends table : List ℕ} {n : ℕ} {corners sides plane
   masks j = sideMask d (loopAt ls j)
 
   -- its test of loop j is the code's
-  pub fits-is : (j : ℕ) → j < n → {r : Bool} → FitsPlane corners (maskAt planes k) k j r → r ≡ fit j
-  fits-is j h f =
+  pub fits-is : (j : ℕ) → j < n → {plane : Set} → SetAt oneWord planes k plane → {r : Bool} → FitsPlane corners plane k j r → r ≡ fit j
+  fits-is j h e f =
       let l = loopAt ls k in
       let i = loopAt ls j in
       let p = known .passed in
       let a = mask-is (cornerMask d) corners ls (known .corners-are) j (there-in j h) (corners-short (known .passed .range) i) in
-      let b = mask-is (planeOf d) planes ls (known .planes-are) k (there-in k (q .there)) (plane-short l) in
+      let b = at-is e (planeOf d l) (mask-is (planeOf d) planes ls (known .planes-are) k (there-in k (q .there)) (plane-short l)) in
       f (cornerMask d i) (planeOf d l) a b
       ∙ ap (λ (mask : List Bool). not (eqb k j) && eqb (count (less (cornerMask d i) mask)) 0) (plane-level l)
       ∙ ap (λ (b : Bool). not (eqb k j) && b) (sym (level-search d (p .places) (p .clear) k (there-in k (q .there)) i))
@@ -142,7 +145,7 @@ module _ {xyz : List ℤ} {ends table : List ℕ} {n : ℕ} {corners sides plane
     pub stands : AskedIs f answers
     pub rest : coversOther d ls k ≡ searched (length (d .edges)) out fit masks (drop j (upto (length ls))) answers
 
-  pub searching-start : {f : Asked} → Is (f .held) (sideMask d (loopAt ls k)) → Is (f .outside) [] → Searching f 0
+  pub searching-start : {f : Asked} → wides .Is (f .held) (sideMask d (loopAt ls k)) → wides .Is (f .outside) [] → Searching f 0
   unfolding coversByAnswers
   searching-start a b =
       let l : loopAt ls k ≡ loopIn table k = sym (loop-is table ls (known .rows) (loops-of d .short) k (there-in k (q .there))) in
@@ -164,9 +167,9 @@ module _ {xyz : List ℤ} {ends table : List ℕ} {n : ℕ} {corners sides plane
       rest = s .rest ∙ skips (length (d .edges)) out fit masks (length ls) j (there-in j h) (s .answers) e;
     }
 
-    module _ (e : fit j ≡ true) {t : Tried} (o : TriedOf xyz ends table k (maskAt sides j) f t) where
+    module _ (e : fit j ≡ true) {x : Wide} (a : SetAt wides sides j x) {t : Tried} (o : TriedOf xyz ends table k x f t) where
       trial : Trial t (masks j) (s .answers) (askedNow xyz ends table k (masks j) (s .answers))
-      trial = o (masks j) (s .answers) (side-set j h) (s .stands)
+      trial = o (masks j) (s .answers) (side-set j h a) (s .stands)
 
       -- its edges are asked
       asked-next : {b : Bool} → t .covers ≡ b → coversOther d ls k ≡ cond b true (searched (length (d .edges)) out fit masks
@@ -188,12 +191,12 @@ module _ {xyz : List ℤ} {ends table : List ℕ} {n : ℕ} {corners sides plane
       }
 
     -- what asking them takes
-    pub asks : (m : Point) → m ≡ normal (ring xyz table k) → AsksEdges xyz ends table k m (maskAt sides j) f
-    asks m a = record {
+    pub asks : (m : Point) → m ≡ normal (ring xyz table k) → {x : Wide} → SetAt wides sides j x → AsksEdges xyz ends table k m x f
+    asks m a e = record {
       range = known .passed .range;
       face = record { row = row; across = a };
       mask = masks j;
-      mask-is = side-set j h;
+      mask-is = side-set j h e;
       answers = s .answers;
       stands = s .stands;
     }

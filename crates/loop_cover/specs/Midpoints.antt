@@ -6,8 +6,7 @@ use Prim.Native.Nat.{ℕ, _<_}
 use lib.IntN.{ℤ}
 use lib.ListN.{length}
 use Rattle.sets.specs.Word.{dig}
-use Rattle.sets.specs.Sets.{Is}
-use Rattle.sets.specs.declared.Set.{Set}
+use Rattle.sets.specs.Sets.{wides, Wide}
 use Rattle.paper.specs.Drawing.{wire, edgeAt}
 use Rattle.paper.specs.declared.Point.{Point}
 use Rattle.paper_laws.specs.InRange.{InRange}
@@ -31,16 +30,16 @@ pub record RowAndEdge (xyz : List ℤ) (ends table : List ℕ) (k : ℕ) (m : Po
 
 -- the two sets stand for what is known
 pub record AskedIs (f : Asked) (g : KnownEdges) : Type 0 where
-  pub held-is : Is (f .held) (g .held)
-  pub outside-is : Is (f .outside) (g .outside)
+  pub held-is : wides .Is (f .held) (g .held)
+  pub outside-is : wides .Is (f .outside) (g .outside)
 
 -- a set of edges of the drawing
-pub record EdgesOf (xyz : List ℤ) (ends : List ℕ) (edges : Set) (mask : List Bool) : Type 0 where
-  pub is : Is edges mask
+pub record EdgesOf (xyz : List ℤ) (ends : List ℕ) (edges : Wide) (mask : List Bool) : Type 0 where
+  pub is : wides .Is edges mask
   pub known : (e : ℕ) → dig mask e ≡ true → e < length (wire xyz ends .edges)
 
 -- row k with its normal, a set of edges, and what was asked before
-pub record AsksEdges (xyz : List ℤ) (ends table : List ℕ) (k : ℕ) (m : Point) (edges : Set) (f : Asked) : Type 0 where
+pub record AsksEdges (xyz : List ℤ) (ends table : List ℕ) (k : ℕ) (m : Point) (edges : Wide) (f : Asked) : Type 0 where
   pub range : InRange xyz ends
   pub face : FaceRow xyz table k m
   pub mask : List Bool
@@ -52,7 +51,7 @@ pub record AsksEdges (xyz : List ℤ) (ends table : List ℕ) (k : ℕ) (m : Poi
 abbrev pub askedNow : List ℤ → List ℕ → List ℕ → ℕ → List Bool → KnownEdges → KnownEdges
 askedNow xyz ends table k mask g = askedInTurn (outsideOf xyz ends table k) (unheld (length (wire xyz ends .edges)) mask g) g
 
-abbrev pub AskedOf : List ℤ → List ℕ → List ℕ → ℕ → Set → Asked → Asked → Type 0
+abbrev pub AskedOf : List ℤ → List ℕ → List ℕ → ℕ → Wide → Asked → Asked → Type 0
 AskedOf xyz ends table k edges f r =
     (mask : List Bool) (g : KnownEdges) → EdgesOf xyz ends edges mask → AskedIs f g → AskedIs r (askedNow xyz ends table k mask g)
 
@@ -61,6 +60,6 @@ pub record Trial (r : Tried) (mask : List Bool) (g after : KnownEdges) : Type 0 
   pub asked-is : AskedIs (r .asked) (cond (free mask g) after g)
   pub covers-is : r .covers ≡ (free mask g && free mask after)
 
-abbrev pub TriedOf : List ℤ → List ℕ → List ℕ → ℕ → Set → Asked → Tried → Type 0
+abbrev pub TriedOf : List ℤ → List ℕ → List ℕ → ℕ → Wide → Asked → Tried → Type 0
 TriedOf xyz ends table k edges f r =
     (mask : List Bool) (g : KnownEdges) → EdgesOf xyz ends edges mask → AskedIs f g → Trial r mask g (askedNow xyz ends table k mask g)

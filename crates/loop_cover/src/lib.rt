@@ -16,11 +16,12 @@ use polygon::points::plus;
 use polygon::rings::normal;
 use polygon::rings::point_at;
 use sets::Set;
+use sets::Wide;
 
 // Edges whose midpoint is known not to be outside, and edges whose midpoint is.
 pub struct Asked {
-    pub held: Set,
-    pub outside: Set,
+    pub held: Wide,
+    pub outside: Wide,
 }
 
 // What was asked up to some loop, and whether that loop is covered.
@@ -45,7 +46,7 @@ fn is_outside(xyz: &[i64], ends: &[u8], table: &[u8], k: usize, m: Point, e: usi
 }
 
 // Asks those of the edges that are not known to be held, in order, up to the first that is outside.
-fn ask(xyz: &[i64], ends: &[u8], table: &[u8], k: usize, m: Point, edges: Set, f: Asked) -> Asked
+fn ask(xyz: &[i64], ends: &[u8], table: &[u8], k: usize, m: Point, edges: Wide, f: Asked) -> Asked
     requires { ⌜ AsksEdges (now xyz) (now ends) (now table) k m edges f ⌝ }
     ensures { λ r. ⌜ AskedOf (now (xyz .entry)) (now (ends .entry)) (now (table .entry)) k edges f r ⌝ }
 {
@@ -76,7 +77,7 @@ fn try_edges(
     table: &[u8],
     k: usize,
     m: Point,
-    edges: Set,
+    edges: Wide,
     f: Asked,
 ) -> Tried
     requires { ⌜ AsksEdges (now xyz) (now ends) (now table) k m edges f ⌝ }
@@ -105,7 +106,7 @@ fn fits(corners: &[u64; MOST_LOOPS], plane: Set, k: usize, j: usize) -> bool
     if k == j {
         return false;
     }
-    let others = Set { word: corners[j] };
+    let others = Set::at(corners, j);
     others.minus(plane).is_empty()
 }
 
@@ -125,16 +126,16 @@ pub fn covers_other(
         (loops (wire (now (xyz .entry)) (now (ends .entry)))) k ⌝ }
 {
     let m = normal(xyz, table, k);
-    let plane = Set { word: planes[k] };
-    let own = Set { word: sides[k] };
+    let plane = Set::at(planes, k);
+    let own = Wide::at(sides, k);
     let mut f = Asked {
         held: own,
-        outside: Set::none(),
+        outside: Wide::none(),
     };
     let mut j = 0;
     while j < n {
         if fits(corners, plane, k, j) {
-            let edges = Set { word: sides[j] };
+            let edges = Wide::at(sides, j);
             let t = try_edges(xyz, ends, table, k, m, edges, f);
             if t.covers {
                 return true;

@@ -7,7 +7,7 @@ use native.Mathlib.Nat.{le-of-eq, le-trans}
 use native.Mathlib.Omega.{arith}
 use lib.ListN.{length, replicate, length-replicate}
 use Rattle.sets.specs.Word.{word, count, less, only}
-use Rattle.sets.specs.Kinds.{Kind, Lowest, Dropped, Rest}
+use Rattle.sets.specs.Kinds.{Kind, Lowest, Dropped, Rest, SetAt}
 use Rattle.sets.proofs.Digits.{count-length}
 use Rattle.sets.proofs.Word.{none-word}
 
@@ -39,3 +39,7 @@ rest-drops {K} {x} {r} {k} low d = record {
   fewer = λ q. omega (arith, d .one-fewer);
   same = λ a i. subst (λ (j : ℕ). K .Is r (less a (only j))) (sym (low .same a i)) (d .same a i);
 }
+
+-- what was read at place k of the words has the digits that are there
+pub at-is : {K : Kind} {words : List ℕ} {k : ℕ} {x : K .Of} → SetAt K words k x → (a : List Bool) → K .Is (K .at words k) a → K .Is x a
+at-is {K} e a i = subst (λ (y : K .Of). K .Is y a) (sym (e .is)) i

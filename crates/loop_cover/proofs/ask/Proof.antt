@@ -12,8 +12,7 @@ use borrow.Author.Needs.{needs}
 use borrow.Author.Tests.{eqb-false, not-false, not-true}
 use Rattle.lists.proofs.Truth.{and-left}
 use Rattle.sets.specs.Word.{dig, less}
-use Rattle.sets.specs.Sets.{Is, size}
-use Rattle.sets.specs.declared.Set.{Set}
+use Rattle.sets.specs.Sets.{wides, Wide}
 use Rattle.sets.proofs.Digits.{dig-less}
 use Rattle.paper.specs.Drawing.{wire}
 use Rattle.fast_tables.specs.Asked.{KnownEdges, askedInTurn}
@@ -25,16 +24,16 @@ use Rattle.loop_cover.proofs.ask.Statement.{statement}
 use Rattle.loop_cover.proofs.ask.Tie as tie
 
 -- what the loop keeps, of all that the sets at its head stand for
-abbrev Keeps : List ℤ → List ℕ → List ℕ → ℕ → Set → Set → Set → Set → Type 0
+abbrev Keeps : List ℤ → List ℕ → List ℕ → ℕ → Wide → Wide → Wide → Wide → Type 0
 Keeps xyz ends table k held₀ rest₀ held rest =
-    (whole : List Bool) (g : KnownEdges) → EdgesOf xyz ends rest₀ whole → Is held₀ (g .held)
+    (whole : List Bool) (g : KnownEdges) → EdgesOf xyz ends rest₀ whole → wides .Is held₀ (g .held)
     → Left (length (wire xyz ends .edges)) (outsideOf xyz ends table k) whole g held rest
 
 abbrev Inv-loop : tie.InvT-loop
 Inv-loop xyz ends table k m held₀ outside open₀ held «open» = Keeps xyz ends table k held₀ open₀ held «open»
 
 abbrev μ-loop : tie.MeasureT-loop
-μ-loop xyz ends table k m held₀ outside open₀ held «open» = size «open»
+μ-loop xyz ends table k m held₀ outside open₀ held «open» = wides .size «open»
 
 -- ---- the ways back
 
@@ -83,7 +82,7 @@ found c mask g h e =
     (sym (unheld-ones (length (d .edges)) mask g))
 
 -- some are open
-some : (c : tie.Then1 Inv-loop μ-loop) → eqb (size (turn c .loop .«open»)) 0 ≡ false
+some : (c : tie.Then1 Inv-loop μ-loop) → eqb (wides .size (turn c .loop .«open»)) 0 ≡ false
 some c = sym (c .before .is-empty .ensures) ∙ not-true (c .before .is-empty .result) (c .if1 .taken)
 
 -- ---- the needs
@@ -99,7 +98,7 @@ loop-holds c whole g w h = record {
 }
 
 lowest-requires : tie.Need-lowest-requires Inv-loop μ-loop
-lowest-requires c κs = let n = eqb-false (size (turn c .loop .«open»)) 0 (some c) in omega (arith, n)
+lowest-requires c κs = let n = eqb-false (wides .size (turn c .loop .«open»)) 0 (some c) in omega (arith, n)
 
 is-outside-requires : tie.Need-is-outside-requires Inv-loop μ-loop
 is-outside-requires c κs =

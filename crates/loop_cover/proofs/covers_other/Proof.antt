@@ -23,8 +23,15 @@ abbrev μ-loop : tie.MeasureT-loop
 abbrev begun : tie.After-normal Inv-loop μ-loop → tie.Start Inv-loop μ-loop
 begun c = c .before .before .before
 
+-- the plane was read before the loop
+abbrev planed : tie.At-loop Inv-loop μ-loop → tie.After-at Inv-loop μ-loop
+planed c = c .before .before .before .before
+
+abbrev normed : tie.After-at Inv-loop μ-loop → tie.After-normal Inv-loop μ-loop
+normed c = c .before .before
+
 abbrev entry : tie.At-loop Inv-loop μ-loop → tie.Start Inv-loop μ-loop
-entry c = begun (c .before .before .before .before)
+entry c = begun (normed (planed c))
 
 abbrev turn : tie.After-fits2 Inv-loop μ-loop → tie.At-loop Inv-loop μ-loop
 turn c = c .before .before
@@ -34,46 +41,37 @@ turn c = c .before .before
 normal-requires : tie.Need-normal-requires Inv-loop μ-loop
 normal-requires c κs = row (c .before .before .pre)
 
-mul-t16 : tie.Need-mul-t16 Inv-loop μ-loop
-mul-t16 c = let p = begun c .pre in omega (arith, p .there, p .loops-known .most)
+at-requires : tie.Need-at-requires Inv-loop μ-loop
+at-requires c κs = let p = begun (c .before) .pre in omega (arith, p .there, p .loops-known .most)
 
-element-copy-out-t19 : tie.Need-element-copy-out-t19 Inv-loop μ-loop
-element-copy-out-t19 c = let p = begun c .pre in omega (arith, p .there, p .loops-known .most)
-
-mul-t16-2 : tie.Need-mul-t16-2 Inv-loop μ-loop
-mul-t16-2 c = let p = begun (c .before) .pre in omega (arith, p .there, p .loops-known .most)
-
-element-copy-out-t19-2 : tie.Need-element-copy-out-t19-2 Inv-loop μ-loop
-element-copy-out-t19-2 c = let p = begun (c .before) .pre in omega (arith, p .there, p .loops-known .most)
+at-requires-2 : tie.Need-at-requires-2 Inv-loop μ-loop
+at-requires-2 c κs = let p = begun (normed (c .before)) .pre in omega (arith, p .there, p .loops-known .most)
 
 loop-holds : tie.Need-loop-holds Inv-loop μ-loop
-loop-holds c = (omega arith, λ q. searching-start q (side-set q _ (q .there) .is) (c .none .ensures))
+loop-holds c = (omega arith, λ q. searching-start q (side-set q _ (q .there) (c .before .at2 .ensures) .is) (c .none .ensures))
 
 fits-requires : tie.Need-fits-requires Inv-loop μ-loop
 fits-requires c κs = let p = entry (c .before) .pre in omega (arith, p .loops-known .most)
 
-mul-t25 : tie.Need-mul-t25 Inv-loop μ-loop
-mul-t25 c = let p = entry (turn (c .before)) .pre in omega (arith, p .loops-known .most)
-
-element-copy-out-t28 : tie.Need-element-copy-out-t28 Inv-loop μ-loop
-element-copy-out-t28 c = let p = entry (turn (c .before)) .pre in omega (arith, p .loops-known .most)
+at-requires-3 : tie.Need-at-requires-3 Inv-loop μ-loop
+at-requires-3 c κs = let p = entry (turn (c .before .before)) .pre in omega (arith, p .loops-known .most)
 
 try-edges-requires : tie.Need-try-edges-requires Inv-loop μ-loop
 try-edges-requires c κs =
-    let l = turn (c .before .before) in
+    let l = turn (c .before .before .before) in
     let p = entry l .pre in
-    asks p (l .loop .j) (omega arith) (l .loop .inv .1 p) _ (l .before .before .before .before .normal .ensures)
+    asks p (l .loop .j) (omega arith) (l .loop .inv .1 p) _ (normed (planed l) .normal .ensures) (c .at3 .ensures)
 
 returns : tie.Need-returns Inv-loop μ-loop
 returns c =
     let t = c .before in
-    let i = t .before .before in
+    let i = t .before .before .before in
     let l = turn (i .before) in
     let p = entry l .pre in
     let j = l .loop .j in
     let h : j < entry l .args .n = omega arith in
-    let fit = sym (fits-is p j h (i .before .fits2 .ensures)) ∙ i .if1 .taken in
-    searching-hit p j h (l .loop .inv .1 p) fit (t .try-edges .ensures) (c .if2 .taken)
+    let fit = sym (fits-is p j h (planed l .at .ensures) (i .before .fits2 .ensures)) ∙ i .if1 .taken in
+    searching-hit p j h (l .loop .inv .1 p) fit (t .before .at3 .ensures) (t .try-edges .ensures) (c .if2 .taken)
 
 loop-again : tie.Need-loop-again Inv-loop μ-loop
 loop-again c =
@@ -82,12 +80,12 @@ loop-again c =
     let h : j < entry l .args .n = omega arith in (
       omega arith,
       λ q.
-          let test = sym (fits-is q j h (c .before .fits2 .ensures)) in
+          let test = sym (fits-is q j h (planed l .at .ensures) (c .before .fits2 .ensures)) in
           let s = l .loop .inv .1 q in
           ⊎-elim
           (λ t.
-          subst (λ (f : Asked). Searching q f (j + 1)) (sym (t .5))
-          (searching-miss q j h s (test ∙ t .0 .taken) (t .2 .ensures) (t .3 .left)))
+          subst (λ (f : Asked). Searching q f (j + 1)) (sym (t .6))
+          (searching-miss q j h s (test ∙ t .0 .taken) (t .2 .ensures) (t .3 .ensures) (t .4 .left)))
           (λ t. subst (λ (f : Asked). Searching q f (j + 1)) (sym (t .1)) (searching-skip q j h s (test ∙ t .0 .left)))
           (c .if1 .came),
     )
@@ -101,6 +99,5 @@ returns-2 c =
 pub covers-other-spec : {M : Type 1} → statement M
 covers-other-spec =
     tie.close
-    (tie.spec Inv-loop μ-loop normal-requires mul-t16 element-copy-out-t19 mul-t16-2 element-copy-out-t19-2 (λ c κs. search needs)
-    loop-holds fits-requires mul-t25 element-copy-out-t28 try-edges-requires returns (λ c. omega arith) (λ c. omega arith) loop-again
-    returns-2)
+    (tie.spec Inv-loop μ-loop normal-requires at-requires at-requires-2 (λ c κs. search needs) loop-holds fits-requires at-requires-3
+    try-edges-requires returns (λ c. omega arith) (λ c. omega arith) loop-again returns-2)
