@@ -7,9 +7,9 @@ use Prim.Native.Nat.{ℕ, _*_}
 use lib.IntN.{natAbs}
 use lib.ListN.{length, drop, replicate, length-map}
 use Rattle.lists.specs.Lists.{filter, keep}
-use Rattle.sets.specs.Word.{word, less}
-use Rattle.sets.proofs.Numbers.{same-word}
-use Rattle.paper.specs.Numbers.{solidWords, Limits}
+use Rattle.sets.specs.Word.{less}
+use Rattle.paper.specs.Record.{setOf, entry}
+use Rattle.paper.specs.Numbers.{solidWords, Limits, setWords}
 use Rattle.paper.specs.Refusals as No
 use Rattle.paper.specs.Refusals.{Check, firstOf}
 use Rattle.paper.specs.Drawing.{Wire, drawingChecks}
@@ -37,12 +37,13 @@ use Rattle.paper.specs.declared.Conversion.the-variants as Conversion
 use Rattle.means_walk.specs.Tree.{Tree, leaves}
 use Rattle.means_walk.proofs.Grown.{tree}
 use Rattle.means_walk.proofs.Ends.{ends, ended-whole}
-use Rattle.means_report.specs.Listed.{wordsOf, entry}
+use Rattle.means_report.specs.Listed.{wordsOf, entryOf}
 use Rattle.means_report.specs.Report.{solidsFor}
 use Rattle.means_report.proofs.Report.{solids-told}
 use Rattle.means_moves.specs.Moves.{Move}
 use Rattle.means_moves.specs.Alike.{Alike, EndsBelow}
 use Rattle.means_moves.specs.Turned.{turnsBy, carried, Judged, fail, solid, FollowsMoved}
+use Rattle.paper_laws.proofs.Record.{same-set}
 use Rattle.paper_laws.proofs.Behind.{orElse, else-same, first-fine, second-fine}
 use Rattle.means_moves.proofs.Alike.{checks-same, loops-same}
 use Rattle.means_moves.proofs.Moved.{moved-alike}
@@ -65,10 +66,10 @@ module _ (turns : Bool) (by : ℕ) where
   judged-six fail e = absurd (true≢false (sym e))
   judged-six (solid ts us six h) e = refl
 
-  judged-word : {taken : List Bool} {j k : Judgement} → Judged turns by taken j k → isSolid j ≡ true
-      → word (turnedOf k) ≡ word (cond turns (less taken (turnedOf j)) (turnedOf j))
-  judged-word fail e = absurd (true≢false (sym e))
-  judged-word {taken} (solid ts us six h) e = same-word us (cond turns (less taken ts) ts) h
+  judged-set : {taken : List Bool} {j k : Judgement} → Judged turns by taken j k → isSolid j ≡ true
+      → setOf setWords (turnedOf k) ≡ setOf setWords (cond turns (less taken (turnedOf j)) (turnedOf j))
+  judged-set fail e = absurd (true≢false (sym e))
+  judged-set {taken} (solid ts us six h) e = same-set setWords us (cond turns (less taken ts) ts) h
 
   module _ (t u : Tables) (other : (taken : List Bool) → Judged turns by taken (judged t taken) (judged u taken)) where
     accepted-other : accepted u ≡ accepted t
@@ -89,19 +90,19 @@ module _ (turns : Bool) (by : ℕ) where
         go true e r = unfold keep accepted in (e, r)
         go false e r = unfold keep in r
 
-    rows-other : (l : List (List Status)) → Good l → flatMap (words u) l ≡ flatMap wordsOf (map (carried turns by) (map (entry t) l))
-    unfolding flatMap words
+    rows-other : (l : List (List Status)) → Good l → flatMap (words u) l ≡ flatMap wordsOf (map (carried turns by) (map (entryOf t) l))
+    unfolding flatMap words entry
     rows-other [] g = refl
     rows-other (st ∷ l) g =
-        λ i. (word (takens st) ∷ judged-word (other (takens st)) (g .0) i ∷ judged-six (other (takens st)) (g .0) i ∷ []) ++ rows-other l
-        (g .1) i
+        λ i. (setOf setWords (takens st) ++ judged-set (other (takens st)) (g .0) i ++ (judged-six (other (takens st)) (g .0) i ∷ []))
+        ++ rows-other l (g .1) i
 
     after-other : (l : List (List Status)) → Good l → (room : List ℕ)
-        → solidsAfter u l room ≡ solidsFor room (map (carried turns by) (map (entry t) l))
+        → solidsAfter u l room ≡ solidsFor room (map (carried turns by) (map (entryOf t) l))
     unfolding solidsAfter solidsFor
     after-other l g room =
         ap₂ (λ (a : List ℕ) (n : ℕ). a ++ drop (solidWords * n) room) (rows-other l g)
-        (sym (length-map (map (entry t) l) (carried turns by) ∙ length-map l (entry t)))
+        (sym (length-map (map (entryOf t) l) (carried turns by) ∙ length-map l (entryOf t)))
 
     reported-other : (l : ℕ) (cs : List Loop) (work : ℕ) (found : List (List Status)) (faces solids : List ℕ) → Good found
         → FollowsMoved turns by solids (reported l cs t work found faces solids) (reported l cs u work found faces solids)
@@ -111,7 +112,7 @@ module _ (turns : Bool) (by : ℕ) where
     reported-other l cs work (st ∷ []) faces solids g = record {
       answers = ap (Conversion.One l (length cs) work) (judged-six (other (takens st)) (g .0));
       rows = refl;
-      es = map (entry t) (st ∷ []);
+      es = map (entryOf t) (st ∷ []);
       count = refl;
       words = solids-told t (st ∷ []) solids;
       moved = after-other (st ∷ []) g solids;
@@ -119,8 +120,8 @@ module _ (turns : Bool) (by : ℕ) where
     reported-other l cs work (st ∷ (st′ ∷ found)) faces solids g = record {
       answers = refl;
       rows = refl;
-      es = map (entry t) (st ∷ (st′ ∷ found));
-      count = length-map (st ∷ (st′ ∷ found)) (entry t);
+      es = map (entryOf t) (st ∷ (st′ ∷ found));
+      count = length-map (st ∷ (st′ ∷ found)) (entryOf t);
       words = solids-told t (st ∷ (st′ ∷ found)) solids;
       moved = after-other (st ∷ (st′ ∷ found)) g solids;
     }

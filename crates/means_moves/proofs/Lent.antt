@@ -13,7 +13,7 @@ use Rattle.lists.specs.Lists.{lowest}
 use Rattle.lists.proofs.Truth.{same-truth}
 use Rattle.lists.proofs.Agreeing.{lowest-same}
 use Rattle.exact.specs.Size.{Within}
-use Rattle.paper.specs.Numbers.{leastVertices, leastEdges, farthest, Limits}
+use Rattle.paper.specs.Numbers.{leastVertices, leastEdges, farthest, Limits, mostVertices, mostEdges}
 use Rattle.paper.specs.Refusals as No
 use Rattle.paper.specs.Refusals.{Check, check, firstOf, offends}
 use Rattle.paper.specs.Points.{pt}
@@ -22,7 +22,6 @@ use Rattle.paper.specs.Sheet.{far, farAt, badCount, edgeChecks, contentChecks, 
 use Rattle.paper.specs.Drawing.{Wire, Edge, edge, edgeAt, pointsOf, edgesOf, wire}
 use Rattle.paper.specs.Conversion.{conversion}
 use Rattle.paper.specs.Verdict.{verdict, listEdition}
-use Rattle.paper.specs.declared.Format.{Format}
 use Rattle.paper.specs.declared.Answer.the-variants.{Fine}
 use Rattle.paper.specs.declared.Point.{Point}
 use Rattle.means_drawing.specs.Drawings.{Rising, start, stop}
@@ -78,15 +77,15 @@ far-mirror (x ∷ (y ∷ (z ∷ l))) (suc (suc zero)) = refl
 far-mirror (x ∷ (y ∷ (z ∷ l))) (suc (suc (suc k))) = far-mirror l k
 
 -- 3 to 10 of two lists as long, of which 8 says the same
-checks-lent : (f : Format) (xyz xyz′ : List ℤ) (ends : List ℕ) → length xyz′ ≡ length xyz
+checks-lent : (xyz xyz′ : List ℤ) (ends : List ℕ) → length xyz′ ≡ length xyz
     → lowest (farAt xyz′) (length xyz) ≡ lowest (farAt xyz) (length xyz) → lentChecks xyz′ ends ≡ lentChecks xyz ends
 unfolding lentChecks contentChecks
 checks-lent xyz xyz′ ends e h =
-    ap (λ (n : ℕ). check No.BadCount (offends (badCount 3 leastVertices (f .«most_vertices») n) 0)
-    ∷ check No.BadCount (offends (badCount 2 leastEdges (f .«most_edges») (length ends)) 1)
+    ap (λ (n : ℕ). check No.BadCount (offends (badCount 3 leastVertices mostVertices n) 0)
+    ∷ check No.BadCount (offends (badCount 2 leastEdges mostEdges (length ends)) 1)
     ∷ check No.BadCoordinate (lowest (farAt xyz′) n) ∷ edgeChecks (n / 3) ends) e
-    ∙ ap (λ (o : Option ℕ). check No.BadCount (offends (badCount 3 leastVertices (f .«most_vertices») (length xyz)) 0)
-    ∷ check No.BadCount (offends (badCount 2 leastEdges (f .«most_edges») (length ends)) 1)
+    ∙ ap (λ (o : Option ℕ). check No.BadCount (offends (badCount 3 leastVertices mostVertices (length xyz)) 0)
+    ∷ check No.BadCount (offends (badCount 2 leastEdges mostEdges (length ends)) 1)
     ∷ check No.BadCoordinate o ∷ edgeChecks (length xyz / 3) ends) h
 
 pub forms-near : (f : Point → Point) (xyz : List ℤ) (ends : List ℕ) → WithinRange xyz → WithinRange (eachVertex f xyz)
