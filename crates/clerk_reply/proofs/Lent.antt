@@ -1,6 +1,6 @@
 -- What the functions leave in rooms of zeros are the parts of each reply.
 use mathlib.Core.Bool.{Bool, cond}
-use mathlib.Core.List.{List, [], _++_}
+use mathlib.Core.List.{List, [], _∷_, _++_}
 use mathlib.Core.Logic.{⊎-elim}
 use mathlib.Core.Path.{_≡_, sym, ap, _∙_, subst}
 use Prim.Native.Nat.{ℕ, zero, suc, _+_, _-_, _/_, _%_, _≤_, zero-le}
@@ -13,7 +13,7 @@ use lib.Seq.{take-all, take-at}
 use Rattle.rooms.specs.Rooms.{copied}
 use Rattle.lists.proofs.Places.{made-length}
 use Rattle.paper.specs.Numbers.{faceRoom, solidRoom}
-use Rattle.paper.specs.Format.{editionOne, lentEdition}
+use Rattle.paper.specs.Format.{editionOne, editionFor, lentEdition}
 use Rattle.paper.specs.Sheet.{roomOf}
 use Rattle.paper.specs.FaceList.{sentRoom}
 use Rattle.paper.specs.Conversion.{convertSheet}
@@ -70,8 +70,8 @@ unfolding writtenReply
 written-is xyz ends h = room-is h
 
 pub sent-is : (rows : List ℕ) (taken turned : ℕ) {r : ℕ} {room said : List ℕ}
-    → WritesAs (ofSolid (sentSaid editionOne) rows taken turned (zeros 338)) (ofSolid (sentRoom editionOne) rows taken turned (zeros 338)) r
-    room (zeros mostSaid) said
+    → WritesAs (ofSolid (sentSaid (editionFor 0 0)) rows (taken ∷ turned ∷ []) (zeros 338))
+    (ofSolid (sentRoom (editionFor 0 0)) rows (taken ∷ turned ∷ []) (zeros 338)) r room (zeros mostSaid) said
     → sentReply rows taken turned ≡ wordsBytes said ++ room
 unfolding sentReply
 sent-is rows taken turned h = room-is h

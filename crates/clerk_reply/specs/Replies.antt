@@ -8,7 +8,7 @@ use lib.IntN.{ℤ, pos}
 use lib.Ieee.{Float, binary64, toBits}
 use lib.ListN.{length, replicate}
 use Rattle.paper.specs.Numbers.{faceRoom, solidRoom}
-use Rattle.paper.specs.Format.{editionOne, lentEdition}
+use Rattle.paper.specs.Format.{editionOne, editionFor, lentEdition}
 use Rattle.paper.specs.Sheet.{roomOf}
 use Rattle.paper.specs.FaceList.{solidFaces, sentRoom}
 use Rattle.paper.specs.Conversion.{Converted, convertSheet}
@@ -76,12 +76,13 @@ writtenReply xyz ends =
     let room = zeros 215 in
     saidBytes (writtenSaid editionOne xyz ends room) ++ roomOf (lentEdition xyz ends) xyz ends room
 
--- 5: a solid as a face list
+-- 5: a solid as a face list. A request names no counts of a drawing
 unfoldable pub sentReply : List ℕ → ℕ → ℕ → List ℕ
 sentReply rows taken turned =
-    let fs = solidFaces rows taken turned in
+    let fs = solidFaces rows (taken ∷ turned ∷ []) in
+    let f = editionFor 0 0 in
     let room = zeros 338 in
-    saidBytes (sentSaid editionOne fs room) ++ sentRoom editionOne fs room
+    saidBytes (sentSaid f fs room) ++ sentRoom f fs room
 
 -- 6: the desk's text
 unfoldable pub textReply : List ℕ → List ℕ

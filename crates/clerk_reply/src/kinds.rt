@@ -145,9 +145,10 @@ pub fn put_faces(rows: &[u8], solid: &[u8], room: &mut [u8]) -> usize
     }
     let taken = word_at(solid, 0);
     let turned = word_at(solid, WORD_BYTES);
+    let words = [taken, turned];
     let mut list = [0u8; LIST_ROOM];
     let mut said = [0u64; MOST_SAID];
-    nibgravel_write_faces(rows, taken, turned, &mut list, &mut said);
+    nibgravel_write_faces(rows, &words, 0, 0, &mut list, &mut said);
     put_said(&said, &list, room)
 }
 
