@@ -77,7 +77,7 @@ content-says v xyz ns =
     (finds (lowAt ns) (OrderOffends ns) (length ns / 2) (λ k h. is-low ns k)) (λ e. done)))
 
 pub form-says : (x : Input) → Says (forms x) (form x)
-unfolding lentChecks sheetChecks shapeChecks openChecks countChecks closeChecks
+unfolding editionOf lentChecks sheetChecks shapeChecks openChecks countChecks closeChecks
 form-says (lent xyz ns) =
     also-two 5 _ _ _ _ (is-bad 3 4 32 (length xyz)) (is-bad 2 6 64 (length ns)) _ _ (content-says (length xyz / 3) xyz ns)
 form-says (sheet s) =

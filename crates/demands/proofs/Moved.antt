@@ -17,6 +17,7 @@ use Rattle.paper.specs.Verdict.{verdict, listEdition}
 use Rattle.paper.specs.declared.Answer.the-variants.{Fine}
 use Rattle.paper.specs.declared.Point.{Point}
 use Rattle.means_drawing.specs.Drawings.{Rising}
+use Rattle.means_moves.specs.TurnedRound.{AllTurned}
 use Rattle.means_moves.specs.Moves.{shift, mirror, Step, laid, oddly, Move}
 use Rattle.means_moves.specs.Lists.{eachVertex, WithinRange}
 use Rattle.means_moves.specs.Turned.{turnsBy, FollowsMoved}

@@ -1,8 +1,8 @@
 -- Readings and the desk's text follow the conversion. In a mirrored drawing's text only the faces' signs differ: each candidate that is
 -- printed is a taken one, and no other byte is a plus or a minus.
-use mathlib.Core.Path.{_≡_, refl, sym, ap, _∙_, subst}
+use mathlib.Core.Path.{_≡_, refl, sym, ap, _∙_, subst, transport}
 use mathlib.Core.Bool.{Bool, true, false, not, _&&_, cond}
-use mathlib.Core.List.{List, [], _∷_, _++_, map, map-append, flatMap}
+use mathlib.Core.List.{List, [], _∷_, _++_, map, map-append, flatMap, append-assoc}
 use Prim.Native.String.{String}
 use Prim.Native.Nat.{ℕ, zero, suc, _+_, _*_, _/_, _%_, _<_}
 use native.Mathlib.Omega.{arith}
@@ -10,12 +10,11 @@ use native.Mathlib.Decide.{decLt}
 use borrow.Author.Tests.{ne-eqb}
 use lib.Dec.{ltb}
 use lib.ListN.{length, getD, drop, replicate, getD-replicate, length-replicate, List·getD-eq-default, length-map}
-use lib.Seq.{getD-drop}
-use Rattle.sets.specs.Word.{dig, digit, digits, less, word}
+use lib.Seq.{getD-drop, ext-getD, drop-at}
+use Rattle.sets.specs.Word.{dig, less}
 use Rattle.sets.proofs.Digits.{never, dig-less}
-use Rattle.sets.proofs.Word.{length-digits}
-use Rattle.sets.proofs.Numbers.{digit-word, digit-bits}
-use Rattle.paper.specs.Numbers.{mostCandidates, mostWork, faceRoom, solidRoom, solidWords}
+use Rattle.paper.specs.Record.{takenIn, turnedIn, sixIn}
+use Rattle.paper.specs.Numbers.{mostWork, faceRoom, solidRoom, solidWords, setWords, wordBits}
 use Rattle.paper.specs.Format.{verticesIn, edgesIn, coordinatesIn, editionOf}
 use Rattle.paper.specs.Conversion.{Converted, convertSheet}
 use Rattle.paper.specs.Reading.{readingOf}
@@ -24,6 +23,7 @@ use Rattle.paper.specs.declared.Conversion.{Conversion}
 use Rattle.paper.specs.declared.Conversion.the-variants as Conversion
 use Rattle.paper.specs.declared.Point.{Point}
 use Rattle.paper.specs.declared.Reading.{Reading}
+use Rattle.paper_laws.proofs.Record.{digits-length, past-digit, zero-digit, entry-length, taken-in, turned-in, six-in}
 use Rattle.sheet_laws.proofs.Accepted.{length-coordinates, length-ends}
 use Rattle.means_report.specs.Listed.{Entry, wordsOf}
 use Rattle.means_report.specs.Report.{solidsFor}
@@ -124,54 +124,72 @@ faces k (b ∷ taken) ts us h =
     go false f r = unfold facesText in r
     go true f r = unfold facesText in sign (dig ts k) (dig us k) (f refl) & number k & r
 
--- ---- the solids: of each the first and the third word are the same, and the second has each taken face the other way round
+-- ---- the solids: of each the taken faces and six volumes are the same, and each taken face is the other way round
 
-solid : (i : ℕ) (ws vs : List ℕ) → getD vs 0 0 ≡ getD ws 0 0 → getD vs 2 0 ≡ getD ws 2 0
-    → ((k : ℕ) → digit (getD ws 0 0) k ≡ true → digit (getD vs 1 0) k ≡ not (digit (getD ws 1 0) k)) → Other (solidText i ws)
-    (solidText i vs)
+solid : (i : ℕ) (ws vs : List ℕ) → takenIn vs ≡ takenIn ws → sixIn vs ≡ sixIn ws
+    → ((k : ℕ) → dig (takenIn ws) k ≡ true → dig (turnedIn vs) k ≡ not (dig (turnedIn ws) k)) → Other (solidText i ws) (solidText i vs)
 unfolding solidText text otherSign
-solid i ws vs first third h =
-    subst (λ (n : ℕ). Other (solidText i ws) (with n (getD vs 2 0))) (sym first)
-    (subst (λ (n : ℕ). Other (solidText i ws) (with (getD ws 0 0) n)) (sym third)
-    (words "solid " refl & number i & words " sixvolumes " refl & number (getD ws 2 0) & words " faces" refl
-    & faces 0 (digits mostCandidates (getD ws 0 0)) (digits mostCandidates (getD ws 1 0)) (digits mostCandidates (getD vs 1 0)) turns
-    & words "\n" refl))
+solid i ws vs taken six h =
+    subst (λ (l : List Bool). Other (solidText i ws) (with l (sixIn vs))) (sym taken)
+    (subst (λ (n : ℕ). Other (solidText i ws) (with (takenIn ws) n)) (sym six)
+    (words "solid " refl & number i & words " sixvolumes " refl & number (sixIn ws) & words " faces" refl
+    & faces 0 (takenIn ws) (turnedIn ws) (turnedIn vs) turns & words "\n" refl))
   where
-    with : ℕ → ℕ → List ℕ
-    with taken six =
-        text "solid " ++ decimal i ++ text " sixvolumes " ++ decimal six ++ text " faces"
-        ++ facesText 0 (digits mostCandidates taken) (digits mostCandidates (getD vs 1 0)) ++ text "\n"
+    with : List Bool → ℕ → List ℕ
+    with l n = text "solid " ++ decimal i ++ text " sixvolumes " ++ decimal n ++ text " faces" ++ facesText 0 l (turnedIn vs) ++ text "\n"
 
-    below : (n j : ℕ) → Dec (j < mostCandidates) → dig (digits mostCandidates n) j ≡ true → j < mostCandidates
-    below n j (yes l) e = l
-    below n j (no l) e =
-        never (sym e ∙ List·getD-eq-default (digits mostCandidates n) false (omega (arith, length-digits mostCandidates n)))
+    turns : (j m : ℕ) → m ≡ 0 + j → dig (takenIn ws) j ≡ true → dig (turnedIn vs) m ≡ not (dig (turnedIn ws) m)
+    turns j m z e = let q : m ≡ j = omega arith in h m (ap (dig (takenIn ws)) q ∙ e)
 
-    turns : (j m : ℕ) → m ≡ 0 + j → dig (digits mostCandidates (getD ws 0 0)) j ≡ true
-        → dig (digits mostCandidates (getD vs 1 0)) m ≡ not (dig (digits mostCandidates (getD ws 1 0)) m)
-    turns j m z e =
-        let l : j < mostCandidates = below (getD ws 0 0) j (decLt j mostCandidates) e in
-        let q : m ≡ j = omega arith in
-        digit-bits mostCandidates (getD vs 1 0) m (omega arith)
-        ∙ h m (ap (digit (getD ws 0 0)) q ∙ sym (digit-bits mostCandidates (getD ws 0 0) j l) ∙ e)
-        ∙ sym (ap not (digit-bits mostCandidates (getD ws 1 0) m (omega arith)))
+-- a solid and the same with its taken faces turned, whatever comes behind
+module _ (e : Entry) (more : List ℕ) (more′ : List ℕ) where
+  abbrev ws : List ℕ
+  ws = wordsOf e ++ more
+
+  abbrev vs : List ℕ
+  vs = wordsOf (flip e) ++ more′
+
+  abbrev other : List Bool
+  other = less (e .taken) (e .turned)
+
+  same-taken : takenIn vs ≡ takenIn ws
+  same-taken =
+      ext-getD false (takenIn vs) (takenIn ws) (digits-length setWords 0 vs ∙ sym (digits-length setWords 0 ws))
+      (λ k l. let n : k < wordBits * setWords = omega (arith, l, digits-length setWords 0 vs) in
+      taken-in (e .taken) other (e .six) more′ k n ∙ sym (taken-in (e .taken) (e .turned) (e .six) more k n))
+
+  turned-over : (k : ℕ) → dig (takenIn ws) k ≡ true → dig (turnedIn vs) k ≡ not (dig (turnedIn ws) k)
+  turned-over k t = go (decLt k (wordBits * setWords))
+    where
+      go : Dec (k < wordBits * setWords) → dig (turnedIn vs) k ≡ not (dig (turnedIn ws) k)
+      go (yes l) =
+          turned-in (e .taken) other (e .six) more′ k l ∙ dig-less (e .taken) (e .turned) k
+          ∙ ap (λ (b : Bool). b && not (dig (e .turned) k)) (sym (taken-in (e .taken) (e .turned) (e .six) more k l) ∙ t)
+          ∙ sym (ap not (turned-in (e .taken) (e .turned) (e .six) more k l))
+      go (no l) = never (sym t ∙ past-digit setWords 0 ws k (omega arith))
+
+  turned-solid : (i : ℕ) → Other (solidText i ws) (solidText i vs)
+  turned-solid i =
+      solid i ws vs same-taken (six-in (e .taken) other (e .six) more′ ∙ sym (six-in (e .taken) (e .turned) (e .six) more)) turned-over
 
 -- n of them from the words of es and, behind these, zeros
 solids : (i n : ℕ) (es : List Entry) (z : List ℕ) → ((k : ℕ) → getD z k 0 ≡ 0)
     → Other (solidsText i n (flatMap wordsOf es ++ z)) (solidsText i n (flatMap wordsOf (map flip es) ++ z))
-unfolding solidsText flatMap word
+unfolding solidsText flatMap
 solids i zero es z o = record { same = refl }
 solids i (suc n) [] z o =
-    solid i z z refl refl (λ k e. never (sym e ∙ ap (λ (w : ℕ). digit w k) (o 0) ∙ digit-word [] k))
+    solid i z z refl refl (λ k e. never (sym e ∙ zero-digit setWords 0 z o k))
     & solids (suc i) n [] (drop solidWords z) (λ k. getD-drop solidWords z k 0 ∙ o (solidWords + k))
 solids i (suc n) (e ∷ es) z o =
-    solid i (flatMap wordsOf (e ∷ es) ++ z) (flatMap wordsOf (map flip (e ∷ es)) ++ z) refl refl turns & solids (suc i) n es z o
+    let a = flatMap wordsOf es ++ z in
+    let b = flatMap wordsOf (map flip es) ++ z in
+    transport (λ j. Other (solidsText i (suc n) (sym (append-assoc (wordsOf e) (flatMap wordsOf es) z) j))
+    (solidsText i (suc n) (sym (append-assoc (wordsOf (flip e)) (flatMap wordsOf (map flip es)) z) j)))
+    (turned-solid e a b i & transport (λ j. Other (solidsText (suc i) n (sym (behind e a) j)) (solidsText (suc i) n (sym (behind (flip e) b) j)))
+    (solids (suc i) n es z o))
   where
-    turns : (k : ℕ) → digit (word (e .taken)) k ≡ true → digit (word (less (e .taken) (e .turned))) k ≡ not (digit (word (e .turned)) k)
-    turns k t =
-        digit-word (less (e .taken) (e .turned)) k ∙ dig-less (e .taken) (e .turned) k
-        ∙ ap (λ (b : Bool). b && not (dig (e .turned) k)) (sym (digit-word (e .taken) k) ∙ t)
-        ∙ sym (ap not (digit-word (e .turned) k))
+    behind : (e : Entry) (more : List ℕ) → drop solidWords (wordsOf e ++ more) ≡ more
+    behind e more = drop-at (wordsOf e) more solidWords (entry-length (e .taken) (e .turned) (e .six))
 
 -- ---- the whole text, of any answer
 

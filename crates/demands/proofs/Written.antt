@@ -53,7 +53,7 @@ faces-say v list = go (wellShaped (editionOf list) v list) (is-shape (one-of lis
     read : Faces
     read = record { answer = Answer.Fine; count = countIn (editionOf list) list; rows = returned (facesIn (editionOf list) list) .rows }
 
-    go : (b : Bool) → Is b (Shape v list) → one 20 (Shape v list → ⊥) end (cond b read noFaces .answer)
+    go : (b : Bool) → Is b (Shape (editionOf list) v list) → one 20 (Shape (editionOf list) v list → ⊥) end (cond b read noFaces .answer)
     go true i = (λ k h q. q (i .0 refl), tt)
     go false i = inl (refl, (omega arith, is-off i refl, λ k h q. omega arith))
 

@@ -108,6 +108,20 @@ set-digit (suc n) i ws bs h k l = go (set-digit n (suc i) ws (drop wordBits bs) 
         ∙ getD-drop wordBits bs (k - wordBits) false
         ∙ ap (dig bs) f
 
+-- of words that are 0
+pub zero-digit : (n i : ℕ) (ws : List ℕ) → ((k : ℕ) → getD ws k 0 ≡ 0) → (k : ℕ) → dig (digitsAt n i ws) k ≡ false
+unfolding setOf word
+zero-digit n i ws o k = go (decLt k (wordBits * n))
+  where
+    empty : (m j : ℕ) → getD (setOf m []) j 0 ≡ 0
+    empty zero j = refl
+    empty (suc m) zero = refl
+    empty (suc m) (suc j) = empty m j
+
+    go : Dec (k < wordBits * n) → dig (digitsAt n i ws) k ≡ false
+    go (yes l) = set-digit n i ws [] (λ j h. o (i + j) ∙ sym (empty n j)) k l
+    go (no l) = past-digit n i ws k (omega arith)
+
 -- lists of the same digits are one set
 same-low : (m : ℕ) (a b : List Bool) → ((k : ℕ) → dig a k ≡ dig b k) → (k : ℕ) → dig (take m a) k ≡ dig (take m b) k
 same-low m a b h k = go (decLt k m)
