@@ -1,14 +1,14 @@
 -- A request that was read stands at the start of its room.
 use mathlib.Core.List.{List}
 use mathlib.Core.Path.{_≡_}
-use Prim.Native.Nat.{ℕ, _≤_}
+use Prim.Native.Nat.{ℕ, _+_, _*_, _≤_}
 use lib.ListN.{length, take}
 use Rattle.clerk_reply.specs.Replies.{LongEnough}
-use Rattle.clerk_reply.specs.Requests.{secondLength, mostItem, WholeRequest}
+use Rattle.clerk_reply.specs.Requests.{headBytes, secondLength, mostItem, WholeRequest}
 
 -- room for a head and two items
 abbrev pub requestRoom : ℕ
-requestRoom = 2061
+requestRoom = headBytes + 2 * mostItem
 
 pub record RoomyRequest (room : List ℕ) : Type 0 where
   pub roomy : requestRoom ≤ length room

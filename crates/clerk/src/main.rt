@@ -12,7 +12,7 @@ use libc::STDIN_FILENO;
 use libc::STDOUT_FILENO;
 
 // A head and two items.
-const REQUEST_ROOM: usize = 2061;
+const REQUEST_ROOM: usize = HEAD + 2 * MOST_ITEM;
 
 // 2^62: more requests than can be answered while a machine lasts. Every function is proved to end, and so has a bound on its turns.
 const MOST_REQUESTS: u64 = 4611686018427387904;

@@ -3,7 +3,7 @@ use mathlib.Core.Bool.{Bool, cond}
 use mathlib.Core.List.{List, [], _∷_, _++_}
 use mathlib.Core.Logic.{⊎-elim}
 use mathlib.Core.Path.{_≡_, sym, ap, _∙_, subst}
-use Prim.Native.Nat.{ℕ, zero, suc, _+_, _-_, _/_, _%_, _≤_, zero-le}
+use Prim.Native.Nat.{ℕ, zero, suc, _+_, _-_, _*_, _/_, _%_, _≤_, zero-le}
 use native.Mathlib.Omega.{arith}
 use borrow.Author.Tests.{eq-eqb, ne-eqb}
 use lib.Dec.{lit≤}
@@ -12,10 +12,10 @@ use lib.ListN.{length, take, drop, getD, replicate, List·getD-eq-default}
 use lib.Seq.{take-all, take-at}
 use Rattle.rooms.specs.Rooms.{copied}
 use Rattle.lists.proofs.Places.{made-length}
-use Rattle.paper.specs.Numbers.{faceRoom, solidRoom}
-use Rattle.paper.specs.Format.{editionOne, editionFor, lentEdition}
+use Rattle.paper.specs.Numbers.{mostVertices, mostEdges, faceRoom, solidRoom}
+use Rattle.paper.specs.Format.{sheetRoom, editionOne, editionFor, lentEdition}
 use Rattle.paper.specs.Sheet.{roomOf}
-use Rattle.paper.specs.FaceList.{sentRoom}
+use Rattle.paper.specs.FaceList.{listRoom, sentRoom}
 use Rattle.paper.specs.Conversion.{convertSheet}
 use Rattle.paper.specs.Verdict.{verdictSheet}
 use Rattle.paper.specs.Reading.{conversionSays, verdictSays, writtenSays, writtenSaid, sentSaid}
@@ -31,15 +31,15 @@ use Rattle.desk_text.specs.Texts.{textRoomSize}
 use Rattle.export_words.specs.Words.{mostSaid, Tells, WritesAs, SaidIs}
 use Rattle.export_words.specs.Lists.{readInto, ReadsAs}
 use Rattle.export_words.specs.declared.words.Said.{Said}
-use Rattle.clerk_words.specs.Words.{wordsBytes, numbersBytes, wordAt, numberFrom, numbersIn}
-use Rattle.clerk_reply.specs.Replies.{zeros, saidWords, saidBytes, readingWords, conversionBytes, LongEnough, Replies}
+use Rattle.clerk_words.specs.Words.{wordSize, wordsBytes, numbersBytes, wordAt, numberFrom, numbersIn}
+use Rattle.clerk_reply.specs.Replies.{replyRoom, zeros, saidWords, saidBytes, readingWords, conversionBytes, LongEnough, Replies}
 use Rattle.clerk_reply.specs.Replies.{readReply, convertedReply, checkedReply, writtenReply, sentReply, textReply}
 use Rattle.clerk_reply.specs.Requests.{sheetReply, facesReply, replies, lengths, replyTo, lengthOf}
 use Rattle.clerk_reply.specs.Requests.{headBytes, kindIn, limitIn, firstLength, secondLength, answerTo}
 use Rattle.clerk_reply.specs.Held.{SaidAs}
 
 pub read-is : (sheet : List ℕ) {r : ℕ} {xyz : List ℤ} {ends said : List ℕ}
-    → ReadsAs (readInto sheet (replicate 96 (pos 0)) (zeros 128)) r xyz ends (zeros mostSaid) said
+    → ReadsAs (readInto sheet (replicate (3 * mostVertices) (pos 0)) (zeros (2 * mostEdges))) r xyz ends (zeros mostSaid) said
     → readReply sheet ≡ wordsBytes said ++ numbersBytes xyz ++ ends
 unfolding readReply
 read-is sheet h = λ i. wordsBytes (sym (h .tells .words-are) i) ++ numbersBytes (sym (h .xyz-are) i) ++ sym (h .ends-are) i
@@ -64,14 +64,14 @@ room-is : {s : Paper.Said} {after room said : List ℕ} {r : ℕ} → WritesAs s
 room-is h = λ i. wordsBytes (sym (h .tells .words-are) i) ++ sym (h .room-is) i
 
 pub written-is : (xyz : List ℤ) (ends : List ℕ) {r : ℕ} {room said : List ℕ}
-    → WritesAs (writtenSaid editionOne xyz ends (zeros 215)) (roomOf (lentEdition xyz ends) xyz ends (zeros 215)) r room (zeros mostSaid) said
+    → WritesAs (writtenSaid editionOne xyz ends (zeros sheetRoom)) (roomOf (lentEdition xyz ends) xyz ends (zeros sheetRoom)) r room (zeros mostSaid) said
     → writtenReply xyz ends ≡ wordsBytes said ++ room
 unfolding writtenReply
 written-is xyz ends h = room-is h
 
 pub sent-is : (rows : List ℕ) (taken turned : ℕ) {r : ℕ} {room said : List ℕ}
-    → WritesAs (ofSolid (sentSaid (editionFor 0 0)) rows (taken ∷ turned ∷ []) (zeros 338))
-    (ofSolid (sentRoom (editionFor 0 0)) rows (taken ∷ turned ∷ []) (zeros 338)) r room (zeros mostSaid) said
+    → WritesAs (ofSolid (sentSaid (editionFor 0 0)) rows (taken ∷ turned ∷ []) (zeros listRoom))
+    (ofSolid (sentRoom (editionFor 0 0)) rows (taken ∷ turned ∷ []) (zeros listRoom)) r room (zeros mostSaid) said
     → sentReply rows taken turned ≡ wordsBytes said ++ room
 unfolding sentReply
 sent-is rows taken turned h = room-is h
@@ -86,21 +86,21 @@ text-is sheet w e k told h =
 -- ---- whether there is one
 
 module _ (first second : List ℕ) where
-  pub sheet-none : (length first % 8 ≡ 0 → ⊥) → sheetReply first second ≡ []
+  pub sheet-none : (length first % wordSize ≡ 0 → ⊥) → sheetReply first second ≡ []
   unfolding sheetReply
-  sheet-none h = ap (λ (b : Bool). cond b (writtenReply (numbersIn (length first / 8) first) second) []) (ne-eqb (length first % 8) 0 h)
+  sheet-none h = ap (λ (b : Bool). cond b (writtenReply (numbersIn (length first / wordSize) first) second) []) (ne-eqb (length first % wordSize) 0 h)
 
-  pub sheet-is : length first % 8 ≡ 0 → sheetReply first second ≡ writtenReply (numbersIn (length first / 8) first) second
+  pub sheet-is : length first % wordSize ≡ 0 → sheetReply first second ≡ writtenReply (numbersIn (length first / wordSize) first) second
   unfolding sheetReply
-  sheet-is h = ap (λ (b : Bool). cond b (writtenReply (numbersIn (length first / 8) first) second) []) (eq-eqb (length first % 8) 0 h)
+  sheet-is h = ap (λ (b : Bool). cond b (writtenReply (numbersIn (length first / wordSize) first) second) []) (eq-eqb (length first % wordSize) 0 h)
 
-  pub faces-none : (length second ≡ 16 → ⊥) → facesReply first second ≡ []
+  pub faces-none : (length second ≡ wordSize * 2 → ⊥) → facesReply first second ≡ []
   unfolding facesReply
-  faces-none h = ap (λ (b : Bool). cond b (sentReply first (wordAt second 0) (wordAt second 8)) []) (ne-eqb (length second) 16 h)
+  faces-none h = ap (λ (b : Bool). cond b (sentReply first (wordAt second 0) (wordAt second wordSize)) []) (ne-eqb (length second) (wordSize * 2) h)
 
-  pub faces-are : length second ≡ 16 → facesReply first second ≡ sentReply first (wordAt second 0) (wordAt second 8)
+  pub faces-are : length second ≡ wordSize * 2 → facesReply first second ≡ sentReply first (wordAt second 0) (wordAt second wordSize)
   unfolding facesReply
-  faces-are h = ap (λ (b : Bool). cond b (sentReply first (wordAt second 0) (wordAt second 8)) []) (eq-eqb (length second) 16 h)
+  faces-are h = ap (λ (b : Bool). cond b (sentReply first (wordAt second 0) (wordAt second wordSize)) []) (eq-eqb (length second) (wordSize * 2) h)
 
 -- the numbers in front of a room that they were copied to
 pub numbers-are : (n : ℕ) (bytes : List ℕ) (room₀ : List ℤ) {room : List ℤ} → room ≡ copied n (numbersIn n bytes) room₀
@@ -137,7 +137,7 @@ no-kind kind limit first second h = List·getD-eq-default (replies limit first s
 
 -- ---- no reply is longer than the room for any
 
-most : (kind : ℕ) → lengthOf kind ≤ 2784
+most : (kind : ℕ) → lengthOf kind ≤ replyRoom
 most zero = lit≤ tt
 most (suc zero) = lit≤ tt
 most (suc (suc zero)) = lit≤ tt

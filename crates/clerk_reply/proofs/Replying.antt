@@ -8,22 +8,22 @@ use lib.IntN.{ℤ}
 use lib.ListN.{length, length-append}
 use Rattle.desk_lines.specs.Put.{Fits, Puts}
 use Rattle.desk_lines.proofs.Putting.{puts-as}
-use Rattle.clerk_words.specs.Words.{wordsBytes, numbersBytes}
+use Rattle.clerk_words.specs.Words.{wordSize, wordsBytes, numbersBytes}
 use Rattle.clerk_words.proofs.Long.{words-long, numbers-long}
-use Rattle.clerk_reply.specs.Replies.{LongEnough, Replies}
+use Rattle.clerk_reply.specs.Replies.{replyRoom, LongEnough, Replies}
 
 -- ---- how many bytes the parts are
 
-pub said-long : (ws bs : List ℕ) → length (wordsBytes ws ++ bs) ≡ 8 * length ws + length bs
+pub said-long : (ws bs : List ℕ) → length (wordsBytes ws ++ bs) ≡ wordSize * length ws + length bs
 said-long ws bs = omega (arith, length-append (wordsBytes ws) bs, words-long ws)
 
 pub drawing-long : (ws : List ℕ) (zs : List ℤ) (bs : List ℕ)
-    → length (wordsBytes ws ++ numbersBytes zs ++ bs) ≡ 8 * length ws + 8 * length zs + length bs
+    → length (wordsBytes ws ++ numbersBytes zs ++ bs) ≡ wordSize * length ws + wordSize * length zs + length bs
 drawing-long ws zs bs =
     omega (arith, length-append (wordsBytes ws ++ numbersBytes zs) bs, said-long ws (numbersBytes zs), numbers-long zs)
 
 pub report-long : (ws us bs vs : List ℕ)
-    → length (wordsBytes ws ++ wordsBytes us ++ bs ++ wordsBytes vs) ≡ 8 * length ws + 8 * length us + length bs + 8 * length vs
+    → length (wordsBytes ws ++ wordsBytes us ++ bs ++ wordsBytes vs) ≡ wordSize * length ws + wordSize * length us + length bs + wordSize * length vs
 report-long ws us bs vs =
     omega (
       arith,
@@ -37,7 +37,7 @@ report-long ws us bs vs =
 -- ---- a reply
 
 module _ {bytes room₀ : List ℕ} {n : ℕ} where
-  pub fits-any : length bytes ≡ n → n ≤ 2784 → LongEnough room₀ → Fits 0 bytes room₀
+  pub fits-any : length bytes ≡ n → n ≤ replyRoom → LongEnough room₀ → Fits 0 bytes room₀
   fits-any e h l = record { fits = omega (arith, l .long) }
 
   -- the bytes that were put are the reply's

@@ -1,22 +1,23 @@
 -- docs/PIPE.md, "A request": its parts, and the reply by its kind.
 use mathlib.Core.Bool.{cond}
 use mathlib.Core.List.{List, [], _∷_}
-use Prim.Native.Nat.{ℕ, _+_, _/_, _%_, _≤_}
+use Prim.Native.Nat.{ℕ, _+_, _*_, _/_, _%_, _≤_}
 use lib.Dec.{eqb}
 use lib.ListN.{length, getD, take, drop}
-use Rattle.clerk_words.specs.Words.{twoAt, wordAt, numbersIn}
+use Rattle.clerk_words.specs.Words.{wordSize, twoAt, wordAt, numbersIn}
 use Rattle.clerk_reply.specs.Replies.{helloReply, readReply, convertedReply, checkedReply, writtenReply, sentReply, textReply}
+use Rattle.clerk_reply.specs.Replies.{helloLength, readLength, convertedLength, saidLength, writtenLength, sentLength, textLength}
 use Rattle.clerk_reply.specs.Replies.{LongEnough}
 
 -- ---- the reply by the kind; where a request can't be understood there is none, which is one of no bytes
 
 -- "coordinates that are not whole words"
 unfoldable pub sheetReply : List ℕ → List ℕ → List ℕ
-sheetReply first second = cond (eqb (length first % 8) 0) (writtenReply (numbersIn (length first / 8) first) second) []
+sheetReply first second = cond (eqb (length first % wordSize) 0) (writtenReply (numbersIn (length first / wordSize) first) second) []
 
 -- "a solid of other than two words"
 unfoldable pub facesReply : List ℕ → List ℕ → List ℕ
-facesReply first second = cond (eqb (length second) 16) (sentReply first (wordAt second 0) (wordAt second 8)) []
+facesReply first second = cond (eqb (length second) (wordSize * 2)) (sentReply first (wordAt second 0) (wordAt second wordSize)) []
 
 -- kinds 0 to 6
 unfoldable pub replies : ℕ → List ℕ → List ℕ → List (List ℕ)
@@ -32,7 +33,7 @@ replies limit first second =
 
 -- "Its length goes by the kind alone."
 abbrev pub lengths : List ℕ
-lengths = 16 ∷ 952 ∷ 1096 ∷ 56 ∷ 271 ∷ 394 ∷ 2784 ∷ []
+lengths = helloLength ∷ readLength ∷ convertedLength ∷ saidLength ∷ writtenLength ∷ sentLength ∷ textLength ∷ []
 
 -- "an unknown kind" has none
 unfoldable pub replyTo : ℕ → ℕ → List ℕ → List ℕ → List ℕ

@@ -4,8 +4,10 @@ ghost use mathlib.Core.List.{_++_};
 ghost use Rattle.desk_lines.specs.Put.{Fits, Puts};
 ghost use Rattle.clerk_words.specs.Words.{wordsBytes, numbersBytes};
 ghost use Rattle.clerk_reply.specs.Replies.{helloReply, readReply, convertedReply, checkedReply, writtenReply, textReply};
-ghost use Rattle.clerk_reply.specs.Replies.{LongEnough, Replies};
+ghost use Rattle.clerk_reply.specs.Replies.{helloLength, readLength, convertedLength, saidLength, writtenLength, sentLength};
+ghost use Rattle.clerk_reply.specs.Replies.{textLength, LongEnough, Replies};
 ghost use Rattle.clerk_reply.specs.Requests.{sheetReply, facesReply, Lends};
+use super::MOST_ITEM;
 use super::parts::reading_words;
 use super::parts::said_words;
 use clerk_words::WORD_BYTES;
@@ -27,23 +29,20 @@ use export_words::words::written_said;
 use paper::COORDINATES;
 use paper::ENDS;
 use paper::FACE_ROOM;
+use paper::LIST_ROOM;
+use paper::SHEET_ROOM;
 use paper::SOLID_ROOM;
 
-// The longest sheet and the longest face list.
-const SHEET_ROOM: usize = 215;
-
-const LIST_ROOM: usize = 338;
-
 // The most numbers that an item holds.
-const ITEM_NUMBERS: usize = 128;
+const ITEM_NUMBERS: usize = MOST_ITEM / WORD_BYTES;
 
 // A solid's first two words.
-const SOLID_BYTES: usize = 16;
+const SOLID_BYTES: usize = WORD_BYTES * 2;
 
 // Each function answers how many bytes it put.
 pub fn put_hello(room: &mut [u8]) -> usize
     requires { ⌜ LongEnough (now room) ⌝ }
-    ensures { λ r. ⌜ Replies helloReply 16 (now (room .entry)) (now (room .exit)) r ⌝ }
+    ensures { λ r. ⌜ Replies helloReply helloLength (now (room .entry)) (now (room .exit)) r ⌝ }
 {
     put_text(b"nibgravel pipe 1", 0, room)
 }
@@ -69,7 +68,7 @@ fn put_drawing(said: &[u64], xyz: &[i64], ends: &[u8], room: &mut [u8]) -> usize
 
 pub fn put_read(sheet: &[u8], room: &mut [u8]) -> usize
     requires { ⌜ LongEnough (now room) ⌝ }
-    ensures { λ r. ⌜ Replies (readReply (now (sheet .entry))) 952 (now (room .entry)) (now (room .exit)) r ⌝ }
+    ensures { λ r. ⌜ Replies (readReply (now (sheet .entry))) readLength (now (room .entry)) (now (room .exit)) r ⌝ }
 {
     let mut xyz = [0i64; COORDINATES];
     let mut ends = [0u8; ENDS];
@@ -92,7 +91,7 @@ fn put_report(said: &[u64], shown: &[u64], faces: &[u8], solids: &[u64], room: &
 
 pub fn put_converted(sheet: &[u8], limit: u64, room: &mut [u8]) -> usize
     requires { ⌜ LongEnough (now room) ⌝ }
-    ensures { λ r. ⌜ Replies (convertedReply (now (sheet .entry)) limit) 1096 (now (room .entry)) (now (room .exit)) r ⌝ }
+    ensures { λ r. ⌜ Replies (convertedReply (now (sheet .entry)) limit) convertedLength (now (room .entry)) (now (room .exit)) r ⌝ }
 {
     let mut faces = [0u8; FACE_ROOM];
     let mut solids = [0u64; SOLID_ROOM];
@@ -104,7 +103,8 @@ pub fn put_converted(sheet: &[u8], limit: u64, room: &mut [u8]) -> usize
 
 pub fn put_checked(sheet: &[u8], list: &[u8], room: &mut [u8]) -> usize
     requires { ⌜ LongEnough (now room) ⌝ }
-    ensures { λ r. ⌜ Replies (checkedReply (now (sheet .entry)) (now (list .entry))) 56 (now (room .entry)) (now (room .exit)) r ⌝ }
+    ensures { λ r. ⌜ Replies (checkedReply (now (sheet .entry)) (now (list .entry))) saidLength
+        (now (room .entry)) (now (room .exit)) r ⌝ }
 {
     let mut said = [0u64; MOST_SAID];
     nibgravel_check_sheet(sheet, list, &mut said);
@@ -113,7 +113,8 @@ pub fn put_checked(sheet: &[u8], list: &[u8], room: &mut [u8]) -> usize
 
 fn put_written(xyz: &[i64], ends: &[u8], room: &mut [u8]) -> usize
     requires { ⌜ LongEnough (now room) ⌝ }
-    ensures { λ r. ⌜ Replies (writtenReply (now (xyz .entry)) (now (ends .entry))) 271 (now (room .entry)) (now (room .exit)) r ⌝ }
+    ensures { λ r. ⌜ Replies (writtenReply (now (xyz .entry)) (now (ends .entry))) writtenLength
+        (now (room .entry)) (now (room .exit)) r ⌝ }
 {
     let mut sheet = [0u8; SHEET_ROOM];
     let mut said = [0u64; MOST_SAID];
@@ -124,7 +125,8 @@ fn put_written(xyz: &[i64], ends: &[u8], room: &mut [u8]) -> usize
 // No reply where the coordinates are not whole words.
 pub fn put_sheet(first: &[u8], ends: &[u8], room: &mut [u8]) -> usize
     requires { ⌜ Lends (now first) (now room) ⌝ }
-    ensures { λ r. ⌜ Replies (sheetReply (now (first .entry)) (now (ends .entry))) 271 (now (room .entry)) (now (room .exit)) r ⌝ }
+    ensures { λ r. ⌜ Replies (sheetReply (now (first .entry)) (now (ends .entry))) writtenLength
+        (now (room .entry)) (now (room .exit)) r ⌝ }
 {
     if first.len() % WORD_BYTES != 0 {
         return 0;
@@ -138,7 +140,7 @@ pub fn put_sheet(first: &[u8], ends: &[u8], room: &mut [u8]) -> usize
 // No reply where the solid has other than two words.
 pub fn put_faces(rows: &[u8], solid: &[u8], room: &mut [u8]) -> usize
     requires { ⌜ LongEnough (now room) ⌝ }
-    ensures { λ r. ⌜ Replies (facesReply (now (rows .entry)) (now (solid .entry))) 394 (now (room .entry)) (now (room .exit)) r ⌝ }
+    ensures { λ r. ⌜ Replies (facesReply (now (rows .entry)) (now (solid .entry))) sentLength (now (room .entry)) (now (room .exit)) r ⌝ }
 {
     if solid.len() != SOLID_BYTES {
         return 0;
@@ -154,7 +156,7 @@ pub fn put_faces(rows: &[u8], solid: &[u8], room: &mut [u8]) -> usize
 
 pub fn put_desk(sheet: &[u8], room: &mut [u8]) -> usize
     requires { ⌜ LongEnough (now room) ⌝ }
-    ensures { λ r. ⌜ Replies (textReply (now (sheet .entry))) 2784 (now (room .entry)) (now (room .exit)) r ⌝ }
+    ensures { λ r. ⌜ Replies (textReply (now (sheet .entry))) textLength (now (room .entry)) (now (room .exit)) r ⌝ }
 {
     let mut text = [0u8; TEXT_ROOM];
     let said = said_words(written_said(desk_text(sheet, &mut text)));

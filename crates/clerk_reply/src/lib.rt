@@ -5,8 +5,11 @@ mod parts;
 
 ghost use Rattle.clerk_reply.specs.Replies.{Replies};
 ghost use Rattle.clerk_reply.specs.Requests.{replyTo, lengthOf, kindIn, answerTo, Lends, Asks};
+use clerk_words::WORD_BYTES;
 use clerk_words::two_at;
 use clerk_words::word_at;
+use desk_text::TEXT_ROOM;
+use export_words::words::MOST_SAID;
 use kinds::put_checked;
 use kinds::put_converted;
 use kinds::put_desk;
@@ -27,7 +30,7 @@ pub const SECOND_AT: usize = 11;
 pub const MOST_ITEM: usize = 1024;
 
 // The longest reply has the desk's text.
-pub const REPLY_ROOM: usize = 2784;
+pub const REPLY_ROOM: usize = WORD_BYTES * MOST_SAID + TEXT_ROOM;
 
 // Answers how many bytes the reply has: 0 where there is none.
 pub fn reply(kind: u8, limit: u64, first: &[u8], second: &[u8], room: &mut [u8]) -> usize

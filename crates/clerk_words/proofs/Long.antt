@@ -5,12 +5,12 @@ use Prim.Native.Nat.{ℕ, _*_}
 use lib.IntN.{ℤ, pos}
 use lib.ListN.{length}
 use Rattle.lists.proofs.After.{each-long}
-use Rattle.clerk_words.specs.Words.{bytesOf, wordBytes, wordsBytes, numberBytes, numbersBytes}
+use Rattle.clerk_words.specs.Words.{wordSize, bytesOf, wordBytes, wordsBytes, numberBytes, numbersBytes}
 
-pub words-long : (ws : List ℕ) → length (wordsBytes ws) ≡ 8 * length ws
+pub words-long : (ws : List ℕ) → length (wordsBytes ws) ≡ wordSize * length ws
 unfolding bytesOf
-words-long ws = each-long wordBytes 8 0 ws (λ i h. refl)
+words-long ws = each-long wordBytes wordSize 0 ws (λ i h. refl)
 
-pub numbers-long : (zs : List ℤ) → length (numbersBytes zs) ≡ 8 * length zs
+pub numbers-long : (zs : List ℤ) → length (numbersBytes zs) ≡ wordSize * length zs
 unfolding bytesOf
-numbers-long zs = each-long numberBytes 8 (pos 0) zs (λ i h. refl)
+numbers-long zs = each-long numberBytes wordSize (pos 0) zs (λ i h. refl)

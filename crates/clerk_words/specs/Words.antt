@@ -7,6 +7,9 @@ use lib.IntN.{ℤ, pos, negsuc}
 use lib.ListN.{length, getD}
 use Rattle.lists.specs.Lists.{upto}
 
+abbrev pub wordSize : ℕ
+wordSize = 8
+
 -- ---- as bytes
 
 -- the k lowest bytes of n, the highest of them first
@@ -15,7 +18,7 @@ bytesOf zero n = []
 bytesOf (suc k) n = n / 256 ^ k % 256 ∷ bytesOf k n
 
 abbrev pub wordBytes : ℕ → List ℕ
-wordBytes n = bytesOf 8 n
+wordBytes n = bytesOf wordSize n
 
 abbrev pub wordsBytes : List ℕ → List ℕ
 wordsBytes ws = flatMap wordBytes ws
@@ -49,7 +52,7 @@ numberOf n = cond (ltb n (2 ^ 63)) (pos n) (negsuc (2 ^ 64 - suc n))
 
 -- number i of bytes, and the first n
 abbrev pub numberFrom : List ℕ → ℕ → ℤ
-numberFrom bytes i = numberOf (wordAt bytes (8 * i))
+numberFrom bytes i = numberOf (wordAt bytes (wordSize * i))
 
 unfoldable pub numbersIn : ℕ → List ℕ → List ℤ
 numbersIn n bytes = map (numberFrom bytes) (upto n)
@@ -62,5 +65,5 @@ pub record Stand (k at : ℕ) (bytes : List ℕ) : Type 0 where
 
 -- n numbers are there and there is room for them
 pub record NumbersThere (n : ℕ) (bytes : List ℕ) (room : List ℤ) : Type 0 where
-  pub there : 8 * n ≤ length bytes
+  pub there : wordSize * n ≤ length bytes
   pub fits : n ≤ length room

@@ -5,7 +5,7 @@ ghost use Prim.Native.Nat.{_<_, _%_};
 ghost use Rattle.rooms.specs.Rooms.{copied};
 ghost use Rattle.desk_lines.specs.Put.{Fits, Puts};
 ghost use Rattle.clerk_words.specs.Words.{wordBytes, wordsBytes, numbersBytes, wordOf, twoAt, fourAt, wordAt, numberOf, numbersIn};
-ghost use Rattle.clerk_words.specs.Words.{Stand, NumbersThere};
+ghost use Rattle.clerk_words.specs.Words.{wordSize, Stand, NumbersThere};
 use desk_lines::put_text;
 
 pub const WORD_BYTES: usize = 8;
@@ -98,7 +98,7 @@ fn four_at(bytes: &[u8], at: usize) -> u64
 }
 
 pub fn word_at(bytes: &[u8], at: usize) -> u64
-    requires { ⌜ Stand 8 at (now bytes) ⌝ }
+    requires { ⌜ Stand wordSize at (now bytes) ⌝ }
     ensures { λ r. ⌜ r ≡ wordAt (now (bytes .entry)) at ⌝ }
 {
     4294967296 * four_at(bytes, at) + four_at(bytes, at + 4)

@@ -2,11 +2,13 @@
 use mathlib.Core.Path.{_≡_, refl, sym}
 use native.Mathlib.Omega.{arith}
 use lib.ListN.{length}
+use Rattle.clerk_reply.specs.Replies.{replyRoom}
+use Rattle.clerk.specs.Read.{requestRoom}
 use Rattle.clerk.proofs.main.Statement.{statement}
 use Rattle.clerk.proofs.main.Tie as tie
 
 abbrev Inv-loop : tie.InvT-loop
-Inv-loop request₀ room₀ left₀ request room left = (length request ≡ 2061) × (length room ≡ 2784)
+Inv-loop request₀ room₀ left₀ request room left = (length request ≡ requestRoom) × (length room ≡ replyRoom)
 
 abbrev μ-loop : tie.MeasureT-loop
 μ-loop request₀ room₀ left₀ request room left = left

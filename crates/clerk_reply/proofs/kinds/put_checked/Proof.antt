@@ -5,6 +5,7 @@ use lib.Dec.{lit≤}
 use lib.ListN.{length}
 use Rattle.clerk_words.specs.Words.{wordsBytes}
 use Rattle.clerk_words.proofs.Long.{words-long}
+use Rattle.clerk_reply.specs.Replies.{saidLength}
 use Rattle.clerk_reply.proofs.Replying.{fits-any, replied}
 use Rattle.clerk_reply.proofs.Lent.{checked-is}
 use borrow.Author.Needs.{needs}
@@ -19,7 +20,7 @@ abbrev start : tie.After-nibgravel-check-sheet → tie.Start
 start c = c .before .before .before .before .before
 
 -- what is put: so many bytes
-long : (c : tie.After-put-words-arg) → length (wordsBytes (checked c .nibgravel-check-sheet .last .1 .1 .0)) ≡ 56
+long : (c : tie.After-put-words-arg) → length (wordsBytes (checked c .nibgravel-check-sheet .last .1 .1 .0)) ≡ saidLength
 long c = omega (arith, words-long (checked c .nibgravel-check-sheet .last .1 .1 .0))
 
 put-words-requires : tie.Need-put-words-requires

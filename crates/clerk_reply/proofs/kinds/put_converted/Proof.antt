@@ -7,6 +7,7 @@ use native.Mathlib.Omega.{arith}
 use lib.Dec.{lit≤}
 use lib.ListN.{length}
 use Rattle.clerk_words.specs.Words.{wordsBytes}
+use Rattle.clerk_reply.specs.Replies.{convertedLength}
 use Rattle.clerk_reply.proofs.Replying.{report-long, fits-any, replied}
 use Rattle.clerk_reply.proofs.Lent.{converted-is}
 use borrow.Author.Needs.{needs}
@@ -34,7 +35,7 @@ put c =
     let l = made c .convert-sheet .last .1 .1 in
     wordsBytes (told c .said-words .result) ++ wordsBytes (shown c .reading-words .result) ++ l .0 ++ wordsBytes (l .1 .0)
 
-long : (c : tie.After-put-report-arg) → length (put c) ≡ 1096
+long : (c : tie.After-put-report-arg) → length (put c) ≡ convertedLength
 long c =
     let l = made c .convert-sheet .last .1 .1 in
     omega (arith, report-long (told c .said-words .result) (shown c .reading-words .result) (l .0) (l .1 .0))

@@ -6,6 +6,7 @@ use native.Mathlib.Omega.{arith}
 use lib.Dec.{lit≤}
 use lib.ListN.{length}
 use Rattle.clerk_words.specs.Words.{wordsBytes}
+use Rattle.clerk_reply.specs.Replies.{textLength}
 use Rattle.clerk_reply.proofs.Replying.{said-long, fits-any, replied}
 use Rattle.clerk_reply.proofs.Lent.{text-is}
 use borrow.Author.Needs.{needs}
@@ -26,7 +27,7 @@ start c = c .before .before .before .before
 abbrev put : tie.After-put-said-arg → List ℕ
 put c = wordsBytes (told c .said-words .result) ++ texted (told c) .desk-text .last .1 .0
 
-long : (c : tie.After-put-said-arg) → length (put c) ≡ 2784
+long : (c : tie.After-put-said-arg) → length (put c) ≡ textLength
 long c = let t = told c in omega (arith, said-long (t .said-words .result) (texted t .desk-text .last .1 .0))
 
 put-said-requires : tie.Need-put-said-requires

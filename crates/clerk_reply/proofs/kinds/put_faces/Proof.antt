@@ -7,7 +7,7 @@ use native.Mathlib.Omega.{arith}
 use lib.Dec.{lit≤}
 use lib.ListN.{length}
 use Rattle.clerk_words.specs.Words.{wordsBytes}
-use Rattle.clerk_reply.specs.Replies.{sentReply}
+use Rattle.clerk_reply.specs.Replies.{sentLength, sentReply}
 use Rattle.clerk_reply.proofs.Replying.{said-long, fits-any, replied, none-replied}
 use Rattle.clerk_reply.proofs.Lent.{sent-is, faces-none, faces-are}
 use borrow.Author.Needs.{needs}
@@ -30,7 +30,7 @@ start c = c .before .before .before .before .before .before
 abbrev put : tie.After-put-said-arg → List ℕ
 put c = let l = sent c .nibgravel-write-faces .last .1 .1 .1 in wordsBytes (l .1 .0) ++ l .0
 
-long : (c : tie.After-put-said-arg) → length (put c) ≡ 394
+long : (c : tie.After-put-said-arg) → length (put c) ≡ sentLength
 long c = let l = sent c .nibgravel-write-faces .last .1 .1 .1 in omega (arith, said-long (l .1 .0) (l .0))
 
 -- ---- the needs

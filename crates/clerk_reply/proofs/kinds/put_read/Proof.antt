@@ -6,6 +6,7 @@ use native.Mathlib.Omega.{arith}
 use lib.Dec.{lit≤}
 use lib.ListN.{length}
 use Rattle.clerk_words.specs.Words.{wordsBytes, numbersBytes}
+use Rattle.clerk_reply.specs.Replies.{readLength}
 use Rattle.clerk_reply.proofs.Replying.{drawing-long, fits-any, replied}
 use Rattle.clerk_reply.proofs.Lent.{read-is}
 use borrow.Author.Needs.{needs}
@@ -25,7 +26,7 @@ start c = c .before .before .before .before .before .before
 abbrev put : tie.After-put-drawing-arg → List ℕ
 put c = let l = read c .nibgravel-read-sheet .last .1 in wordsBytes (l .1 .1 .0) ++ numbersBytes (l .0) ++ l .1 .0
 
-long : (c : tie.After-put-drawing-arg) → length (put c) ≡ 952
+long : (c : tie.After-put-drawing-arg) → length (put c) ≡ readLength
 long c = let l = read c .nibgravel-read-sheet .last .1 in omega (arith, drawing-long (l .1 .1 .0) (l .0) (l .1 .0))
 
 -- ---- the needs

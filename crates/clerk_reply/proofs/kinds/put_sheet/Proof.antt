@@ -7,7 +7,9 @@ use native.Mathlib.Omega.{arith}
 use lib.IntN.{ℤ, pos}
 use lib.ListN.{length, replicate}
 use lib.Seq.{length-take-le}
+use Rattle.clerk_words.specs.Words.{wordSize}
 use Rattle.clerk_reply.specs.Replies.{writtenReply}
+use Rattle.clerk_reply.specs.Requests.{mostItem}
 use Rattle.clerk_reply.proofs.Replying.{none-replied, replied-as}
 use Rattle.clerk_reply.proofs.Lent.{sheet-none, sheet-is, numbers-are}
 use borrow.Author.Needs.{needs}
@@ -36,7 +38,7 @@ returns-2 c =
     let a = start t .args in
     let first = a .first .now in
     let ends = a .ends .now in
-    let numbers = numbers-are (length first / 8) first (replicate 128 (pos 0)) (t .take-numbers .ensures) in
+    let numbers = numbers-are (length first / wordSize) first (replicate (mostItem / wordSize) (pos 0)) (t .take-numbers .ensures) in
     replied-as (sheet-is first ends (omega arith) ∙ ap (λ (zs : List ℤ). writtenReply zs ends) (sym numbers))
     (p .put-written .ensures)
 

@@ -6,6 +6,7 @@ use native.Mathlib.Omega.{arith}
 use lib.Dec.{lit≤}
 use lib.ListN.{length}
 use Rattle.clerk_words.specs.Words.{wordsBytes}
+use Rattle.clerk_reply.specs.Replies.{writtenLength}
 use Rattle.clerk_reply.proofs.Replying.{said-long, fits-any, replied}
 use Rattle.clerk_reply.proofs.Lent.{written-is}
 use borrow.Author.Needs.{needs}
@@ -23,7 +24,7 @@ start c = c .before .before .before .before .before
 abbrev put : tie.After-put-said-arg → List ℕ
 put c = let l = written c .nibgravel-write-sheet .last .1 .1 in wordsBytes (l .1 .0) ++ l .0
 
-long : (c : tie.After-put-said-arg) → length (put c) ≡ 271
+long : (c : tie.After-put-said-arg) → length (put c) ≡ writtenLength
 long c = let l = written c .nibgravel-write-sheet .last .1 .1 in omega (arith, said-long (l .1 .0) (l .0))
 
 put-said-requires : tie.Need-put-said-requires
