@@ -64,7 +64,8 @@ room-is : {s : Paper.Said} {after room said : List ℕ} {r : ℕ} → WritesAs s
 room-is h = λ i. wordsBytes (sym (h .tells .words-are) i) ++ sym (h .room-is) i
 
 pub written-is : (xyz : List ℤ) (ends : List ℕ) {r : ℕ} {room said : List ℕ}
-    → WritesAs (writtenSaid editionOne xyz ends (zeros sheetRoom)) (roomOf (lentEdition xyz ends) xyz ends (zeros sheetRoom)) r room (zeros mostSaid) said
+    → WritesAs (writtenSaid editionOne xyz ends (zeros sheetRoom)) (roomOf (lentEdition xyz ends) xyz ends (zeros sheetRoom)) r room
+    (zeros mostSaid) said
     → writtenReply xyz ends ≡ wordsBytes said ++ room
 unfolding writtenReply
 written-is xyz ends h = room-is h
@@ -88,19 +89,23 @@ text-is sheet w e k told h =
 module _ (first second : List ℕ) where
   pub sheet-none : (length first % wordSize ≡ 0 → ⊥) → sheetReply first second ≡ []
   unfolding sheetReply
-  sheet-none h = ap (λ (b : Bool). cond b (writtenReply (numbersIn (length first / wordSize) first) second) []) (ne-eqb (length first % wordSize) 0 h)
+  sheet-none h =
+      ap (λ (b : Bool). cond b (writtenReply (numbersIn (length first / wordSize) first) second) []) (ne-eqb (length first % wordSize) 0 h)
 
   pub sheet-is : length first % wordSize ≡ 0 → sheetReply first second ≡ writtenReply (numbersIn (length first / wordSize) first) second
   unfolding sheetReply
-  sheet-is h = ap (λ (b : Bool). cond b (writtenReply (numbersIn (length first / wordSize) first) second) []) (eq-eqb (length first % wordSize) 0 h)
+  sheet-is h =
+      ap (λ (b : Bool). cond b (writtenReply (numbersIn (length first / wordSize) first) second) []) (eq-eqb (length first % wordSize) 0 h)
 
   pub faces-none : (length second ≡ wordSize * 2 → ⊥) → facesReply first second ≡ []
   unfolding facesReply
-  faces-none h = ap (λ (b : Bool). cond b (sentReply first (wordAt second 0) (wordAt second wordSize)) []) (ne-eqb (length second) (wordSize * 2) h)
+  faces-none h =
+      ap (λ (b : Bool). cond b (sentReply first (wordAt second 0) (wordAt second wordSize)) []) (ne-eqb (length second) (wordSize * 2) h)
 
   pub faces-are : length second ≡ wordSize * 2 → facesReply first second ≡ sentReply first (wordAt second 0) (wordAt second wordSize)
   unfolding facesReply
-  faces-are h = ap (λ (b : Bool). cond b (sentReply first (wordAt second 0) (wordAt second wordSize)) []) (eq-eqb (length second) (wordSize * 2) h)
+  faces-are h =
+      ap (λ (b : Bool). cond b (sentReply first (wordAt second 0) (wordAt second wordSize)) []) (eq-eqb (length second) (wordSize * 2) h)
 
 -- the numbers in front of a room that they were copied to
 pub numbers-are : (n : ℕ) (bytes : List ℕ) (room₀ : List ℤ) {room : List ℤ} → room ≡ copied n (numbersIn n bytes) room₀

@@ -23,7 +23,8 @@ drawing-long ws zs bs =
     omega (arith, length-append (wordsBytes ws ++ numbersBytes zs) bs, said-long ws (numbersBytes zs), numbers-long zs)
 
 pub report-long : (ws us bs vs : List ℕ)
-    → length (wordsBytes ws ++ wordsBytes us ++ bs ++ wordsBytes vs) ≡ wordSize * length ws + wordSize * length us + length bs + wordSize * length vs
+    → length (wordsBytes ws ++ wordsBytes us ++ bs ++ wordsBytes vs)
+    ≡ wordSize * length ws + wordSize * length us + length bs + wordSize * length vs
 report-long ws us bs vs =
     omega (
       arith,

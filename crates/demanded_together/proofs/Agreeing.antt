@@ -11,7 +11,7 @@ use lib.Seq.{take-at}
 use Rattle.paper.specs.Verdict.{listEdition}
 use Rattle.paper.specs.Format.{bytesFor, editionFor, lentEdition}
 use Rattle.paper.specs.Loops.{Loop}
-use Rattle.paper.specs.FaceList.{bitsOf, encodeFaces, solidFaces, sentOf, sentRoom}
+use Rattle.paper.specs.FaceList.{bitsOf, encodeFaces, solidFaces, sentOf, sentRoom, listRoom}
 use Rattle.paper.specs.declared.Format.{Format}
 use Rattle.paper.specs.declared.Conversion.{Conversion}
 use Rattle.paper.specs.declared.Conversion.the-variants as Conversion
@@ -120,13 +120,13 @@ module _ (x : Input) (limit : ℕ) (faces₀ solids₀ : List ℕ) {c : Conversi
     inside : i < length (report .es)
     inside = omega (arith, there, report .n)
 
-    taken : (NoList fs → ⊥) × (bytesFor (bitsOf (listEdition (drawing x)) fs) ≤ 338)
+    taken : (NoList fs → ⊥) × (bytesFor (bitsOf (listEdition (drawing x)) fs) ≤ listRoom)
     taken = report .sent i inside fs (report .some i inside)
 
     pub accepted : {b : Bool} → AcceptedAsSent x fs b → b ≡ true
     accepted h = h (taken .0) (taken .1) (report .each i inside fs (report .some i inside))
 
--- ---- faces that are sent in 338 bytes
+-- ---- faces that are sent in room for any list
 
 pub sent-fits : (v e : ℕ) (fs : List Loop) (room₀ : List ℕ) {n : ℕ} → Written.Bytes n ≡ sentOf (editionFor v e) fs room₀
     → n ≤ length room₀
@@ -138,7 +138,7 @@ sent-fits v e fs room₀ {n} is = go (Demanding.sends v e fs room₀ is refl)
     go : Sends f fs room₀ (Written.Bytes n) (sentRoom f fs room₀) → n ≤ length room₀
     go h = omega (arith, h .first .1 .0 0 (omega arith), h .sent n refl .size, length-encoded f fs room₀)
 
-module _ (xyz : List ℤ) (ends : List ℕ) (fs : List Loop) (room₀ : List ℕ) (long : length room₀ ≡ 338) where
+module _ (xyz : List ℤ) (ends : List ℕ) (fs : List Loop) (room₀ : List ℕ) (long : length room₀ ≡ listRoom) where
   abbrev x : Input
   x = lent xyz ends
 

@@ -9,7 +9,7 @@ use lib.ListN.{length, drop}
 use Rattle.paper.specs.Verdict.{listEdition}
 use Rattle.paper.specs.Format.{bytesFor, lentEdition}
 use Rattle.paper.specs.Loops.{Loop}
-use Rattle.paper.specs.FaceList.{bitsOf, encodeFaces}
+use Rattle.paper.specs.FaceList.{bitsOf, encodeFaces, listRoom}
 use Rattle.paper.specs.Sheet.{held, writtenOf, roomOf}
 use Rattle.paper.specs.declared.Answer.the-variants as Answer
 use Rattle.paper.specs.declared.Drawing.{Drawing}
@@ -54,7 +54,7 @@ pub record WritesBack (s room₀ : List ℕ) (r : Written) (room : List ℕ) : T
 abbrev pub AcceptedAsSent : Input → List Loop → Bool → Type 0
 AcceptedAsSent x fs r =
     let f = listEdition (drawing x) in
-    (NoList fs → ⊥) → bytesFor (bitsOf f fs) ≤ 338 → checked x (encodeFaces f fs) ≡ Verdict.Accepted → r ≡ true
+    (NoList fs → ⊥) → bytesFor (bitsOf f fs) ≤ listRoom → checked x (encodeFaces f fs) ≡ Verdict.Accepted → r ≡ true
 
 -- demand 3, of a report and two lists
 module _ (x : Input) (limit : ℕ) (faces₀ solids₀ list other : List ℕ) where

@@ -17,6 +17,7 @@ use paper::COORDINATES;
 use paper::Conversion;
 use paper::Drawing;
 use paper::ENDS;
+use paper::LIST_ROOM;
 use paper::Sheet;
 use paper::Verdict;
 use paper::WORDS;
@@ -38,9 +39,6 @@ pub struct Pair {
     pub first: Conversion,
     pub second: Conversion,
 }
-
-// A face list of 42 faces with 12 corners each; no reported solid needs more.
-const LIST_ROOM: usize = 338;
 
 // A drawing is written out, and what was written is read.
 pub fn written_and_read(xyz: &[i64], ends: &[u8], room: &mut [u8]) -> Sheet

@@ -14,6 +14,7 @@ use Rattle.paper.specs.declared.Refusal.{Refusal}
 use Rattle.paper.specs.declared.Written.{Written}
 use Rattle.paper.specs.declared.Written.the-variants as Written
 use Rattle.desk_text.specs.Written.{textChecks, textWritten, textRoomFor, writtenText, textRoom}
+use Rattle.desk_text.specs.Texts.{textRoomSize}
 use Rattle.desk_text.proofs.Desk.{desk-short}
 use Rattle.demands.specs.Input.{sheet, converted}
 use Rattle.demands.specs.Table.{one, end, ofWritten}
@@ -76,5 +77,5 @@ module _ (s : List ℕ) where
         first = subst (λ (w : Written). one 1 (length room₀ < length t) end (ofWritten w)) (sym written) (first t room₀);
         kept = λ f q. left ∙ kept t room₀ f (sym written ∙ q);
         printed = λ n q. subst (Stands t room₀ n) (sym left) (printed t room₀ n (sym written ∙ q));
-        enough = subst (λ (t : List ℕ). length t ≤ 2728) text-is (desk-short s);
+        enough = subst (λ (t : List ℕ). length t ≤ textRoomSize) text-is (desk-short s);
       }

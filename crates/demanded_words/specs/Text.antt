@@ -9,6 +9,7 @@ use Rattle.paper.specs.Desk.{answerText}
 use Rattle.paper.specs.declared.Refusal.{Refusal}
 use Rattle.paper.specs.declared.Written.{Written}
 use Rattle.paper.specs.declared.Written.the-variants as Written
+use Rattle.desk_text.specs.Texts.{textRoomSize}
 use Rattle.demands.specs.Input.{sheet}
 use Rattle.demands.specs.Table.{one, end, ofWritten}
 use Rattle.demanded.specs.Demanded.{Converts, Stands}
@@ -26,4 +27,4 @@ pub record Prints (s room₀ : List ℕ) (r : Written) (room : List ℕ) : Type 
   pub kept : (f : Refusal) → r ≡ Written.Refused f → room ≡ room₀
   pub printed : (n : ℕ) → r ≡ Written.Bytes n → Stands (textOf s conversion) room₀ n room
   -- no text is longer
-  pub enough : length (textOf s conversion) ≤ 2728
+  pub enough : length (textOf s conversion) ≤ textRoomSize

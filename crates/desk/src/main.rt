@@ -3,9 +3,10 @@ ghost use Rattle.desk.specs.Input.{WithinRoom};
 use desk_print::print_all;
 use desk_print::print_text;
 use libc::STDIN_FILENO;
+use paper::SHEET_ROOM;
 
 // A byte more than the longest sheet has, so that a longer input is seen to be longer.
-const INPUT_ROOM: usize = 216;
+const INPUT_ROOM: usize = SHEET_ROOM + 1;
 
 enum Input {
     Bytes(usize),

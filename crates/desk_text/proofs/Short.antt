@@ -16,7 +16,7 @@ use Rattle.paper.specs.declared.Conversion.the-variants as Conversion
 use Rattle.paper_laws.proofs.Record.{digits-length}
 use Rattle.desk_lines.specs.Put.{digitText}
 use Rattle.desk_lines.proofs.Decimal.{decimal-one, decimal-more}
-use Rattle.desk_text.specs.Texts.{textRoomSize}
+use Rattle.desk_text.specs.Texts.{textRoomSize, digitRoom, headRoom, lineRoom}
 
 -- ---- numbers
 
@@ -30,9 +30,9 @@ in-places (suc k) n = go (ltb n 10) (in-places k (n / 10))
     go true h = omega arith
     go false h = omega (arith, length-append (decimalIn k (n / 10)) ((48 + n % 10) ∷ []))
 
-number-short : (n : ℕ) → length (decimal n) ≤ 20
+number-short : (n : ℕ) → length (decimal n) ≤ digitRoom
 unfolding decimal
-number-short n = in-places 20 n
+number-short n = in-places digitRoom n
 
 two-digits : (n : ℕ) → n < 100 → length (decimal n) ≤ 2
 two-digits n h = go (decLt n 10)
@@ -69,14 +69,14 @@ faces-short k (true ∷ ts) us h =
     )
 faces-short k (false ∷ ts) us h = omega (arith, faces-short (suc k) ts us (omega arith))
 
-solid-short : (i : ℕ) (ws : List ℕ) → length (solidText i ws) ≤ 321
+solid-short : (i : ℕ) (ws : List ℕ) → length (solidText i ws) ≤ lineRoom
 unfolding solidText text
 solid-short i ws =
     let n = digits-length setWords 0 ws in
     let faces = faces-short 0 (takenIn ws) (turnedIn ws) (omega (arith, n)) in
     simp length-append (omega (arith, number-short i, number-short (sixIn ws), n, faces))
 
-solids-short : (i n : ℕ) (ws : List ℕ) → length (solidsText i n ws) ≤ 321 * n
+solids-short : (i n : ℕ) (ws : List ℕ) → length (solidsText i n ws) ≤ lineRoom * n
 unfolding solidsText
 solids-short i zero ws = omega arith
 solids-short i (suc n) ws =
@@ -87,7 +87,7 @@ solids-short i (suc n) ws =
       length-append (solidText i ws) (solidsText (suc i) n (drop solidWords ws)),
     )
 
-head-short : (v e l c w : ℕ) → length (headText v e l c w) ≤ 132
+head-short : (v e l c w : ℕ) → length (headText v e l c w) ≤ headRoom
 unfolding headText text
 head-short v e l c w =
     simp length-append (omega (arith, number-short v, number-short e, number-short l, number-short c, number-short w))

@@ -1,9 +1,9 @@
 -- The desk's text in the parts in which it is put, and what is asked.
 use mathlib.Core.List.{List, _++_}
 use mathlib.Core.Path.{_≡_}
-use Prim.Native.Nat.{ℕ, _*_, _≤_}
+use Prim.Native.Nat.{ℕ, _+_, _*_, _≤_}
 use lib.ListN.{length}
-use Rattle.paper.specs.Numbers.{mostSolids, solidRoom, solidWords}
+use Rattle.paper.specs.Numbers.{mostSolids, solidRoom, solidWords, setWords, wordBits}
 use Rattle.paper.specs.Format.{verticesIn, edgesIn, editionOf}
 use Rattle.paper.specs.Desk.{text, solidsText, answerText}
 use Rattle.paper.specs.declared.Conversion.{Conversion}
@@ -52,9 +52,22 @@ pub record Answering (s : SheetCounts) (a : Conversion) (ws room : List ℕ) : T
   pub few : (l c w n : ℕ) → a ≡ Conversion.Several l c w n → n ≤ mostSolids
   pub fits : Fits 0 (answerText (s .vertices) (s .edges) a ws) room
 
--- room for any text
+-- room for any text: a number has at most 20 digits, a candidate's at most 2 behind a blank and a sign, and the rest are the document's
+-- words; the lines before the solids' count, the count's, and a solid's
+abbrev pub digitRoom : ℕ
+digitRoom = 20
+
+abbrev pub headRoom : ℕ
+headRoom = 32 + 5 * digitRoom
+
+abbrev pub countRoom : ℕ
+countRoom = 8 + digitRoom
+
+abbrev pub lineRoom : ℕ
+lineRoom = 25 + 2 * digitRoom + 4 * (setWords * wordBits)
+
 abbrev pub textRoomSize : ℕ
-textRoomSize = 2728
+textRoomSize = headRoom + countRoom + lineRoom * mostSolids
 
 abbrev pub RoomForText : List ℕ → Type 0
 RoomForText room = textRoomSize ≤ length room

@@ -12,17 +12,28 @@ use answer::put_answer;
 use convert::convert_sheet;
 use paper::EDITION_BITS;
 use paper::FACE_ROOM;
+use paper::MOST_SOLIDS;
 use paper::MOST_WORK;
 use paper::NO_ROOM;
 use paper::Refusal;
+use paper::SET_WORDS;
 use paper::SOLID_ROOM;
+use paper::WORD_BITS;
 use paper::Written;
 use paper_values::edition_one;
 use rooms::copy_bytes;
 
-// No text is longer: a number has at most 20 digits, a candidate's at most 2; 132 bytes before the solids' count, 28 with it, and 321
-// for each of at most eight solids.
-pub const TEXT_ROOM: usize = 2728;
+// No text is longer: a number has at most 20 digits, a candidate's at most 2 behind a blank and a sign, and the rest are the document's
+// words. The lines before the solids' count, the count's, and a solid's.
+const DIGIT_ROOM: usize = 20;
+
+const HEAD_ROOM: usize = 32 + 5 * DIGIT_ROOM;
+
+const COUNT_ROOM: usize = 8 + DIGIT_ROOM;
+
+const LINE_ROOM: usize = 25 + 2 * DIGIT_ROOM + 4 * WORD_BITS * SET_WORDS;
+
+pub const TEXT_ROOM: usize = HEAD_ROOM + COUNT_ROOM + LINE_ROOM * MOST_SOLIDS;
 
 // The counts that stand in a sheet of three bytes or more; a shorter one is refused for that.
 fn counted(sheet: &[u8]) -> SheetCounts

@@ -33,7 +33,7 @@ fn show_drawing(v: usize, e: usize, xyz: [i64; paper::COORDINATES], ends: [u8; p
     }
     let m = 3 * v;
     let n = 2 * e;
-    let mut room = [0u8; 215];
+    let mut room = [0u8; paper::SHEET_ROOM];
     let written = sheet_writer::write_sheet(&xyz[..m], &ends[..n], &mut room);
     say(b"drawing ");
     say_number(v as u64);

@@ -7,7 +7,7 @@ use denote.Ref.{now}
 use lib.ListN.{replicate, length-replicate}
 use lib.Seq.{length-take-le}
 use Rattle.paper.specs.Loops.{Loop}
-use Rattle.paper.specs.FaceList.{solidFaces}
+use Rattle.paper.specs.FaceList.{solidFaces, listRoom}
 use Rattle.demands.specs.Input.{Input, lent}
 use Rattle.demanded_together.proofs.Agreeing.{sent-fits, unsent, unaccepted}
 use borrow.Author.Needs.{needs}
@@ -29,15 +29,15 @@ abbrev drawn : tie.After-write-faces → Input
 drawn w = let a = start w .args in lent (now (a .xyz)) (now (a .ends))
 
 abbrev room : List ℕ
-room = replicate 338 0
+room = replicate listRoom 0
 
 -- the bytes that it reports are in its room
-in-room : (c : tie.After-sent) → c .sent .given .0 .0 ≤ 338
+in-room : (c : tie.After-sent) → c .sent .given .0 .0 ≤ listRoom
 in-room c =
     let w = wrote c in
     omega (
       arith,
-      length-replicate {A = ℕ} 338 0,
+      length-replicate {A = ℕ} listRoom 0,
       sent-fits (faces w) room (sym (c .sent .given .1) ∙ w .write-faces .ensures .0),
     )
 
@@ -50,14 +50,14 @@ slice-aggregate-check c = sym (length-take-le _ _ (omega (arith, in-room (c .bef
 returns : tie.Need-returns
 returns c =
     let w = c .before .before .before in
-    unsent (drawn w) (faces w) room (length-replicate {A = ℕ} 338 0) (sym (c .enum-told .given .1) ∙ w .write-faces .ensures .0)
+    unsent (drawn w) (faces w) room (length-replicate {A = ℕ} listRoom 0) (sym (c .enum-told .given .1) ∙ w .write-faces .ensures .0)
 
 returns-3 : tie.Need-returns-3
 returns-3 c =
     let k = c .before .before in
     let n = k .before .before .before in
     let w = wrote n in
-    unaccepted (drawn w) (faces w) room (length-replicate {A = ℕ} 338 0) (sym (n .sent .given .1) ∙ w .write-faces .ensures .0)
+    unaccepted (drawn w) (faces w) room (length-replicate {A = ℕ} listRoom 0) (sym (n .sent .given .1) ∙ w .write-faces .ensures .0)
     (w .write-faces .ensures .1 .1) (sym (c .enum-told3 .given .1) ∙ k .check .ensures .0)
 
 pub sent-and-checked-spec : {M : Type 1} → statement M
