@@ -5,7 +5,6 @@ use mathlib.Core.Option.{none}
 use Prim.Native.Nat.{ℕ, _+_, _*_, _/_, _≤_, _<_}
 use lib.IntN.{ℤ}
 use lib.ListN.{length}
-use Rattle.sets.specs.Sets.{room}
 use Rattle.paper.specs.Numbers.{mostEdges}
 use Rattle.paper.specs.Drawing.{wire, edgesOf, samePlace, looseVertex}
 use Rattle.paper_laws.specs.InRange.{Points, Ends, InRange}
@@ -71,5 +70,5 @@ pub record PairBoxed (xyz : List ℤ) (v : ℕ) (ends : List ℕ) (low high : Li
 
 -- two edges to be marked in a set
 pub record TwoMarks (e f : ℕ) : Type 0 where
-  pub e-low : e < room
-  pub f-low : f < room
+  pub e-low : e < mostEdges
+  pub f-low : f < mostEdges

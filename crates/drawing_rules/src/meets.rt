@@ -4,10 +4,11 @@ ghost use mathlib.Core.Path.{_≡_};
 ghost use mathlib.Core.Bool.{Bool};
 ghost use mathlib.Core.List.{List, [], _∷_};
 ghost use Prim.Native.Nat.{_<_};
+ghost use Rattle.paper.specs.Numbers.{mostEdges};
 ghost use Rattle.paper.specs.Refusals as No;
 ghost use Rattle.paper.specs.Refusals.{check, firstOf};
 ghost use Rattle.paper.specs.Drawing.{Wire, wire, edgeMeets};
-ghost use Rattle.sets.specs.Sets.{room, Is};
+ghost use Rattle.sets.specs.Sets.{wides};
 ghost use Rattle.fast_meets.specs.Pairs.{mark, laterMarked, offenders};
 ghost use Rattle.drawing_rules.specs.Asked.{PassedSoFar, EdgesBoxed, EdgeBoxed, PairBoxed, TwoMarks};
 ghost use Rattle.drawing_rules.specs.Meets.{bothAt, Lowest13};
@@ -22,7 +23,7 @@ use drawing_segments::both_meet;
 use paper::Answer;
 use paper::EDGE_MEETS;
 use paper_values::refused;
-use sets::Set;
+use sets::Wide;
 
 // Whether e meets f, and f e, each off its own ends.
 fn pair(
@@ -51,17 +52,17 @@ fn pair(
 }
 
 // The set, with k where it offends.
-fn mark(hit: Set, k: usize, offends: bool) -> Set
-    requires { ⌜ k < room ⌝ }
-    ensures { λ r. ⌜ ((w : List Bool) → Is hit w → Is r (mark offends k w)) ⌝ }
+fn mark(hit: Wide, k: usize, offends: bool) -> Wide
+    requires { ⌜ k < mostEdges ⌝ }
+    ensures { λ r. ⌜ ((w : List Bool) → wides .Is hit w → wides .Is r (mark offends k w)) ⌝ }
 {
     if offends { hit.with(k) } else { hit }
 }
 
 // The set, with those of e and f that offend: of most pairs, neither.
-fn mark_both(hit: Set, e: usize, f: usize, both: Both) -> Set
+fn mark_both(hit: Wide, e: usize, f: usize, both: Both) -> Wide
     requires { ⌜ TwoMarks e f ⌝ }
-    ensures { λ r. ⌜ ((w : List Bool) → Is hit w → Is r (mark (both .second) f (mark (both .first) e w))) ⌝ }
+    ensures { λ r. ⌜ ((w : List Bool) → wides .Is hit w → wides .Is r (mark (both .second) f (mark (both .first) e w))) ⌝ }
 {
     if !(both.first | both.second) {
         return hit;
@@ -77,10 +78,10 @@ fn meets(
     low: &[i64; CORNERS],
     high: &[i64; CORNERS],
     e: usize,
-    hit: Set,
-) -> Set
+    hit: Wide,
+) -> Wide
     requires { ⌜ EdgeBoxed (now xyz) v (now ends) (now low) (now high) e ⌝ }
-    ensures { λ r. ⌜ ((w : List Bool) → Is hit w → Is r (laterMarked (wire (now (xyz .entry)) (now (ends .entry))) e w)) ⌝ }
+    ensures { λ r. ⌜ ((w : List Bool) → wides .Is hit w → wides .Is r (laterMarked (wire (now (xyz .entry)) (now (ends .entry))) e w)) ⌝ }
 {
     let n = ends.len() / 2;
     let mut met = hit;
@@ -93,12 +94,18 @@ fn meets(
 }
 
 // The edges that offend.
-fn offenders(xyz: &[i64], v: usize, ends: &[u8], low: &[i64; CORNERS], high: &[i64; CORNERS]) -> Set
+fn offenders(
+    xyz: &[i64],
+    v: usize,
+    ends: &[u8],
+    low: &[i64; CORNERS],
+    high: &[i64; CORNERS],
+) -> Wide
     requires { ⌜ EdgesBoxed (now xyz) v (now ends) (now low) (now high) ⌝ }
-    ensures { λ r. ⌜ Is r (offenders (wire (now (xyz .entry)) (now (ends .entry)))) ⌝ }
+    ensures { λ r. ⌜ wides .Is r (offenders (wire (now (xyz .entry)) (now (ends .entry)))) ⌝ }
 {
     let n = ends.len() / 2;
-    let mut hit = Set::none();
+    let mut hit = Wide::none();
     let mut e = 0;
     while e < n {
         hit = meets(xyz, v, ends, low, high, e, hit);
@@ -108,8 +115,8 @@ fn offenders(xyz: &[i64], v: usize, ends: &[u8], low: &[i64; CORNERS], high: &[i
 }
 
 // The lowest of them.
-fn lowest(hit: Set) -> Answer
-    ensures { λ r. ⌜ ((d : Wire) → Is hit (offenders d) → Lowest13 d r) ⌝ }
+fn lowest(hit: Wide) -> Answer
+    ensures { λ r. ⌜ ((d : Wire) → wides .Is hit (offenders d) → Lowest13 d r) ⌝ }
 {
     if hit.count() == 0 {
         return Answer::Fine;

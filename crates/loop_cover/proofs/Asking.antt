@@ -63,7 +63,8 @@ module _ {m : ℕ} {out : ℕ → Bool} {whole : List Bool} {g : KnownEdges} {he
         sym (ap (λ (b : Bool). cond b (missing f e) (askedInTurn out es (holding f e))) o) ∙ next
 
     -- it is held
-    pub left-miss : out e ≡ false → {held' rest' : Wide} → ((a : List Bool) → wides .Is held a → wides .Is held' (either a (only e))) → Dropped wides rest e rest'
+    pub left-miss : out e ≡ false → {held' rest' : Wide} → ((a : List Bool) → wides .Is held a → wides .Is held' (either a (only e)))
+        → Dropped wides rest e rest'
         → Left m out whole g held' rest'
     unfolding askedInTurn
     left-miss o with' without' =
@@ -79,6 +80,7 @@ module _ {m : ℕ} {out : ℕ → Bool} {whole : List Bool} {g : KnownEdges} {he
         }
 
 -- ---- no edge of a mask is known to be outside, where the set of those that are is empty
-pub free-is : (mask : List Bool) (g : KnownEdges) {edges : Wide} {r : Bool} → r ≡ eqb (wides .size edges) 0 → wides .Is edges (both mask (g .outside))
+pub free-is : (mask : List Bool) (g : KnownEdges) {edges : Wide} {r : Bool} → r ≡ eqb (wides .size edges) 0
+    → wides .Is edges (both mask (g .outside))
     → r ≡ free mask g
 free-is mask g e i = e ∙ ap (λ (n : ℕ). eqb n 0) (wides-laws .size-is i)

@@ -113,7 +113,8 @@ module _ {xyz : List ℤ} {ends table : List ℕ} {n : ℕ} {corners sides plane
   side-set j h a =
       let l = loopAt ls j in
       record {
-        is = at-is a (sideMask d l) (mask-is (sideMask d) sides ls (known .sides-are) j (there-in j h) (sides-short (known .passed .range) l));
+        is = at-is a (sideMask d l)
+            (mask-is (sideMask d) sides ls (known .sides-are) j (there-in j h) (sides-short (known .passed .range) l));
         known = λ e t. map-yes (λ e. has e l) (edge 0 0) (d .edges) e t .0;
       }
 
@@ -178,7 +179,8 @@ module _ {xyz : List ℤ} {ends table : List ℕ} {n : ℕ} {corners sides plane
       asked-next c =
           s .rest ∙ tries (length (d .edges)) out fit masks (length ls) j (there-in j h) (s .answers) e
           ∙ ap (λ (b : Bool). cond b true (searched (length (d .edges)) out fit masks (drop (j + 1) (upto (length ls)))
-          (cond (free (masks j) (s .answers)) (askedNow xyz ends table k (masks j) (s .answers)) (s .answers)))) (sym (trial .covers-is) ∙ c)
+          (cond (free (masks j) (s .answers)) (askedNow xyz ends table k (masks j) (s .answers)) (s .answers))))
+          (sym (trial .covers-is) ∙ c)
 
       pub searching-hit : t .covers ≡ true → true ≡ coversOther d ls k
       searching-hit c = sym (asked-next c)

@@ -45,14 +45,16 @@ below-both {x} {y} {r} {n} a i b j = record {
 }
 
 -- ---- v is the last vertex
-module _ (words path : List ℕ) (len : ℕ) {free all r : Set} {v : ℕ} (p : PathAt path len mostVertices) (at-v : v ≡ getD path (len - 1) 0) where
+module _ (words path : List ℕ) (len : ℕ) {free all r : Set} {v : ℕ} (p : PathAt path len mostVertices)
+    (at-v : v ≡ getD path (len - 1) 0) where
   pub onward-is : SetAt oneWord words v all → Joint oneWord all free r both → Onward words path len free r
   onward-is e j = record {
     below = λ n b. below-both (e .some .0) (e .some .1) b j;
     same = λ d n fr i.
         let l : final (take len path) ≡ v = path-last path len (omega (arith, p .some)) (omega (arith, p .most, p .long)) ∙ sym at-v in
         let h : v < mostVertices = let low = p .low (len - 1) (omega (arith, p .some)) in omega (arith, low, at-v) in
-        subst (λ (m : ℕ). Is r (both (near d m) fr)) (sym l) (j (near d v) fr (subst (λ (x : Set). Is x (near d v)) (sym (e .is)) (n v h)) i);
+        subst (λ (m : ℕ). Is r (both (near d m) fr)) (sym l)
+        (j (near d v) fr (subst (λ (x : Set). Is x (near d v)) (sym (e .is)) (n v h)) i);
   }
 
 -- ---- the path is not gone on with: it is as long as a loop can be; no free vertex closes it
@@ -67,7 +69,8 @@ module _ {words path : List ℕ} {len : ℕ} {free closing plane : Set} {r r' : 
         (e .adds cl pl j k);
   }
 
-  pub none-closes : {ends : Set} → Joint oneWord closing free ends both → size ends ≡ 0 → PlaneSearched words path len free closing plane r r' path
+  pub none-closes : {ends : Set} → Joint oneWord closing free ends both → size ends ≡ 0
+      → PlaneSearched words path len free closing plane r r' path
   none-closes j z = record {
     sized = e .sized;
     path-is = refl;
@@ -127,7 +130,8 @@ module _ (words path : List ℕ) (len : ℕ) (free closing plane : Set) (r₁ : 
             λ i. inPlane d (z i) (grown i) fr cl pl
 
     -- it has gone through all, or the table is full
-    module _ {r : Rooms} {ends : Set} (e : Ended r r₁ path len closing plane) (j : Joint oneWord closing free ends both) (some : size ends ≡ 0 → ⊥) where
+    module _ {r : Rooms} {ends : Set} (e : Ended r r₁ path len closing plane) (j : Joint oneWord closing free ends both)
+        (some : size ends ≡ 0 → ⊥) where
       whole : (d : Wire) (fr cl pl : List Bool) → Is free fr → Is closing cl
           → own cl (take len path) pl ++ eachOf (deeper d fr cl pl) 0 (both (near d (final (take len path))) fr)
           ≡ inPlane d (mostCorners - len) (take len path) fr cl pl

@@ -30,7 +30,8 @@ module _ (f : ℕ → List Bool → List InItsPlane) (every : List Bool) (r : Ro
   kept-start left i = record { digits = every; left-is = i; met = []; adds = adds-none; whole = refl }
 
   -- one turn: v is the lowest
-  pub kept-next : {r' r'' : Rooms} {left left' : Set} {v : ℕ} (k : Kept r' left) → 0 < size left → Lowest oneWord left v → Dropped oneWord left v left'
+  pub kept-next : {r' r'' : Rooms} {left left' : Set} {v : ℕ} (k : Kept r' left) → 0 < size left → Lowest oneWord left v
+      → Dropped oneWord left v left'
       → Adds r' r'' (f v (less (k .digits) (only v))) → Kept r'' left'
   kept-next {r'} {r''} {left} {left'} {v} k some low drop a =
       let op = k .digits in

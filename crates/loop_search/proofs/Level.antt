@@ -55,8 +55,12 @@ module _ (xyz : List ℤ) (s m : Point) where
       asking-next {left'} drop e = record {
         asked = record { vertices = k .asked .vertices; plane = k .asked .plane; below = below-dropped (k .asked .below) drop };
         same = λ a i.
-            let b = k .same a i in
-            (less (b .0) (only v), drop .same (b .0) (b .1), sym (next (b .0) (b .1) ∙ ap (λ (x : Bool). x || someOf level 0 (less (b .0) (only v))) e) ∙ b .2);
+            let b = k .same a i in (
+              less (b .0) (only v),
+              drop .same (b .0) (b .1),
+              sym
+                  (next (b .0) (b .1) ∙ ap (λ (x : Bool). x || someOf level 0 (less (b .0) (only v))) e) ∙ b .2,
+            );
       }
 
       pub asking-met : level v ≡ true → (a : List Bool) → Is set a → true ≡ someOf level 0 a
@@ -76,7 +80,8 @@ module _ (xyz : List ℤ) (s m : Point) where
   upto-more w =
       let e : w + 1 ≡ suc w = omega arith in
       let z : 0 + w ≡ w = omega arith in
-      ap (λ (n : ℕ). map level (upto n)) e ∙ ap (map level) (from-more 0 w ∙ ap (λ (k : ℕ). from 0 w ++ k ∷ []) z) ∙ map-append level (from 0 w) (w ∷ [])
+      ap (λ (n : ℕ). map level (upto n)) e ∙ ap (map level) (from-more 0 w ∙ ap (λ (k : ℕ). from 0 w ++ k ∷ []) z)
+      ∙ map-append level (from 0 w) (w ∷ [])
 
   behind : (a : List Bool) → either a (only (length a)) ≡ a ++ true ∷ []
   unfolding either only
@@ -89,7 +94,8 @@ module _ (xyz : List ℤ) (s m : Point) where
   level-yes {plane} {plane'} w h i e f =
       let a = map level (upto w) in
       let n : length a ≡ w = length-map (upto w) level ∙ upto-length w in
-      subst (Is plane') (ap (λ (k : ℕ). either a (only k)) (sym n) ∙ behind a ∙ ap (λ (b : Bool). a ++ b ∷ []) (sym e) ∙ sym (upto-more w)) (f a i)
+      subst (Is plane') (ap (λ (k : ℕ). either a (only k)) (sym n) ∙ behind a ∙ ap (λ (b : Bool). a ++ b ∷ []) (sym e)
+      ∙ sym (upto-more w)) (f a i)
 
   pub level-no : {plane : Set} (w : ℕ) → w < mostVertices → Is plane (map level (upto w)) → level w ≡ false
       → Is plane (map level (upto (w + 1)))

@@ -66,7 +66,8 @@ module _ {xyz : List ℤ} (words : List ℕ) {v s : ℕ} {path : List ℕ} {r : 
   }
 
   -- ---- the higher vertices
-  module _ {all low up : Set} (all-is : Is all (replicate v true)) (low-is : Is low (replicate (s + 1) true)) (m : Minus oneWord all low up) where
+  module _ {all low up : Set} (all-is : Is all (replicate v true)) (low-is : Is low (replicate (s + 1) true))
+      (m : Minus oneWord all low up) where
     up-is : (d : Wire) → DrawnWith d xyz words → Is up (higher d s)
     unfolding higher
     up-is d n =
@@ -83,7 +84,8 @@ module _ {xyz : List ℤ} (words : List ℕ) {v s : ℕ} {path : List ℕ} {r : 
     }
 
     -- ---- the loop
-    pub starting-start : {row later : Set} → SetAt oneWord words s row → Joint oneWord row up later both → Starting xyz words v s begun r begun r later
+    pub starting-start : {row later : Set} → SetAt oneWord words s row → Joint oneWord row up later both
+        → Starting xyz words v s begun r begun r later
     starting-start {row} {later} e j = record {
       sized = g .sized;
       path-is = refl;

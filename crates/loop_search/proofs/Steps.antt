@@ -55,7 +55,8 @@ module _ {xyz : List ℤ} {v : ℕ} (words : List ℕ) {path : List ℕ} {len : 
   }
 
   -- what `in_plane` asks for, of the free vertices
-  pub plane-below : {plane less-w free' : Set} (ends : List Bool) → TurnIs xyz v path w ends (Turn.Plane plane) → Dropped oneWord free w less-w
+  pub plane-below : {plane less-w free' : Set} (ends : List Bool) → TurnIs xyz v path w ends (Turn.Plane plane)
+      → Dropped oneWord free w less-w
       → Joint oneWord less-w plane free' both → VerticesBelow free' mostVertices
   plane-below {plane} ends t d j =
       let mask = map (inFixed xyz path w) (upto v) in
@@ -76,7 +77,8 @@ module _ {xyz : List ℤ} {v : ℕ} (words : List ℕ) {path : List ℕ} {len : 
     origin-is : {b : Bool} → isOrigin (turnIn xyz path w) ≡ b → isOrigin (acrossLine d p w) ≡ b
     origin-is e = ap isOrigin (sym (turn-is (g .points) d (n .vertices-are) path len (g .two) w)) ∙ e
 
-    some-is : {b : Bool} (a : List Bool) → someOf (inFixed xyz path w) 0 a ≡ b → someOf (onPlane d (at d (getD p 0 0)) (acrossLine d p w)) 0 a ≡ b
+    some-is : {b : Bool} (a : List Bool) → someOf (inFixed xyz path w) 0 a ≡ b
+        → someOf (onPlane d (at d (getD p 0 0)) (acrossLine d p w)) 0 a ≡ b
     some-is a e = ap (λ (t : ℕ → Bool). someOf t 0 a) (sym (in-fixed (g .points) d (n .vertices-are) path len (g .two) w)) ∙ e
 
     mask-is : {plane : Set} → Is plane (map (inFixed xyz path w) (upto v)) → Is plane (planeMask d (at d (getD p 0 0)) (acrossLine d p w))

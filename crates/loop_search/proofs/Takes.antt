@@ -51,7 +51,8 @@ module _ {r : Rooms} {path : List ℕ} {len : ℕ} (p : RoomsAndPath r path len)
         }
 
   -- ---- v is the last vertex, and b says whether a loop may end there
-  module _ (closing plane : Set) (v : ℕ) (b : Bool) (at-v : v ≡ getD path (len - 1) 0) (has : (a : List Bool) → Is closing a → b ≡ dig a v) where
+  module _ (closing plane : Set) (v : ℕ) (b : Bool) (at-v : v ≡ getD path (len - 1) 0)
+      (has : (a : List Bool) → Is closing a → b ≡ dig a v) where
     last-v : final (take len path) ≡ v
     last-v = path-last path len (omega (arith, p .path-at .some)) (omega (arith, p .path-at .most, p .path-at .long)) ∙ sym at-v
 

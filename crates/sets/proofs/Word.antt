@@ -79,7 +79,8 @@ or-word (x ∷ xs) (y ∷ ys) = or-digits (word xs) (word ys) (bit-lt x) (bit-lt
 
 xor-digits : (p q : ℕ) {x y : ℕ} → x < 2 → y < 2 → bitXor (p * 2 + x) (q * 2 + y) ≡ bitXor p q * 2 + differ x y
 xor-digits p q {x} {y} hx hy =
-    xor-step (p * 2 + x) (q * 2 + y) ∙ join (ap₂ bitXor (digits-div p hx) (digits-div q hy)) (ap₂ differ (digits-mod p hx) (digits-mod q hy))
+    xor-step (p * 2 + x) (q * 2 + y)
+    ∙ join (ap₂ bitXor (digits-div p hx) (digits-div q hy)) (ap₂ differ (digits-mod p hx) (digits-mod q hy))
 
 pub unlike-word : (a b : List Bool) → bitXor (word a) (word b) ≡ word (either (less a b) (less b a))
 unfolding word either less

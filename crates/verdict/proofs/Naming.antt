@@ -7,7 +7,7 @@ use native.Mathlib.Omega.{arith}
 use lib.ListN.{length, getD}
 use lib.Seq.{getD-take}
 use Rattle.sets.specs.Word.{dig}
-use Rattle.sets.specs.Sets.{room}
+use Rattle.paper.specs.Numbers.{mostCandidates}
 use Rattle.paper.specs.Refusals.{firstOf}
 use Rattle.paper.specs.Loops.{Loop}
 use Rattle.paper.specs.Solids.{Tables}
@@ -28,7 +28,8 @@ use Rattle.verdict_tests.specs.Tests.{testChecks, ListedIn, Tested}
 module _ (cs : List Loop) (fs : List (List ℕ)) where
   pub naming-stops : (t : Tables) {r : Refusal} → Refused r ≡ firstOf (namedChecks cs fs)
       → Refused r ≡ firstOf (faceChecks t (length cs) (listed cs fs))
-  naming-stops t e = first-stops (namedChecks cs fs) (testChecks t (listed cs fs)) e ∙ ap firstOf (sym (last-five t (length cs) (listed cs fs)))
+  naming-stops t e = first-stops (namedChecks cs fs) (testChecks t (listed cs fs)) e
+      ∙ ap firstOf (sym (last-five t (length cs) (listed cs fs)))
 
   module _ {count : ℕ} {numbers : List ℕ} {s : Selection} (h : Selected cs fs count numbers s) (all : length fs ≡ count) where
     abbrev ks : List ℕ
@@ -38,7 +39,7 @@ module _ (cs : List Loop) (fs : List (List ℕ)) where
     below = named-below cs fs (h .fine)
 
     -- each face's number is that of a candidate
-    pub numbers-narrow : length cs ≤ room → (i : ℕ) → i < count → getD numbers i 0 < room
+    pub numbers-narrow : length cs ≤ mostCandidates → (i : ℕ) → i < count → getD numbers i 0 < mostCandidates
     numbers-narrow few i m =
         let same : getD numbers i 0 ≡ getD ks i 0 =
         sym (getD-take count numbers i 0 m) ∙ ap (λ (l : List ℕ). getD l i 0) (h .numbers-are) in
@@ -59,4 +60,5 @@ module _ (cs : List Loop) (fs : List (List ℕ)) where
     tests-decide {n = n} t count-is lent tested =
         tested n t (listed cs fs) lent (listed-in count-is)
         (record { numbers-are = sym (h .numbers-are); taken-is = h .taken-is; turned-is = h .turned-is })
-        ∙ first-passes (namedChecks cs fs) (testChecks t (listed cs fs)) (h .fine) ∙ ap firstOf (sym (last-five t (length cs) (listed cs fs)))
+        ∙ first-passes (namedChecks cs fs) (testChecks t (listed cs fs)) (h .fine)
+        ∙ ap firstOf (sym (last-five t (length cs) (listed cs fs)))

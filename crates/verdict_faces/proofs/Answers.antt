@@ -9,8 +9,7 @@ use lib.ListN.{length, getD, take}
 use lib.Seq.{getD-take}
 use borrow.Author.Tests.{leb-false}
 use Rattle.lists.proofs.Lowest.{lowest-none}
-use Rattle.sets.specs.Sets.{Is}
-use Rattle.sets.specs.declared.Set.{Set}
+use Rattle.sets.specs.Sets.{wides, Wide}
 use Rattle.paper.specs.Refusals as No
 use Rattle.paper.specs.Loops.{Loop}
 use Rattle.paper.specs.Verdict.{maskOf, listed, notCandidate, faceTwice}
@@ -57,7 +56,7 @@ module _ {faces rows numbers₀ numbers : List ℕ} {count n : ℕ} {r : Marked}
   }
 
   -- all are
-  module _ (q : Naming faces count rows n numbers₀) {turned : Set} (e : r ≡ M.All turned) where
+  module _ (q : Naming faces count rows n numbers₀) {turned : Wide} (e : r ≡ M.All turned) where
     all : AllNumbered (rowsIn faces count) (rowsIn rows n) count n numbers turned
     all = subst said e (p .said)
 
@@ -99,7 +98,7 @@ module _ {faces rows numbers₀ numbers : List ℕ} {count n : ℕ} {r : Marked}
       }
 
       -- none is
-      pub answer-are : {taken : Set} → s ≡ M.All taken
+      pub answer-are : {taken : Wide} → s ≡ M.All taken
           → NamedIs faces count rows n numbers₀ numbers (N.Are (record { taken = taken; turned = turned }))
       answer-are {taken} w =
           let o = subst (TakenAs numbers count) w t in
@@ -111,7 +110,7 @@ module _ {faces rows numbers₀ numbers : List ℕ} {count n : ℕ} {r : Marked}
                   ∙ passes No.NotCandidate _ (past-21 hf hc);
               numbers-are = numbers-are hf hc;
               taken-is =
-                  subst (Is taken) (ap (maskOf n) (numbers-are hf hc) ∙ taken-held hf hc) (o .taken-is n (q .few-candidates) below);
-              turned-is = subst (Is turned) (turned-held hf hc) (all .turned-is);
+                  subst (wides .Is taken) (ap (maskOf n) (numbers-are hf hc) ∙ taken-held hf hc) (o .taken-is n (q .few-candidates) below);
+              turned-is = subst (wides .Is turned) (turned-held hf hc) (all .turned-is);
             };
           }

@@ -9,11 +9,12 @@ use lib.Seq.{ext-getD}
 use Rattle.lists.specs.Lists.{keep, filter, member}
 use Rattle.lists.proofs.Places.{take-more}
 use Rattle.sets.specs.Word.{either, only}
-use Rattle.sets.specs.Sets.{room, Is}
-use Rattle.sets.specs.declared.Set.{Set}
+use Rattle.sets.specs.Sets.{wides, Wide}
 use Rattle.sets.proofs.Digits.{length-only, dig-either}
 use Rattle.sets.proofs.Ones.{only-is}
-use Rattle.sets.proofs.Sets.{none-all}
+use Rattle.sets.proofs.Laws.{none-all}
+use Rattle.sets.proofs.Sets.{wides-laws}
+use Rattle.paper.specs.Numbers.{mostCandidates}
 use Rattle.paper.specs.Verdict.{maskOf}
 use Rattle.fast_search.proofs.Sets.{member-more}
 use Rattle.means_check.proofs.Numbers.{row-length, row-at}
@@ -25,14 +26,14 @@ unfolding member
 member-none k = refl
 
 -- no face: no mark
-pub mark-none : {x : Set} (n : ℕ) → n ≤ room → Is x [] → Is x (maskOf n [])
+pub mark-none : {x : Wide} (n : ℕ) → n ≤ mostCandidates → wides .Is x [] → wides .Is x (maskOf n [])
 mark-none {x} n h i =
-    subst (Is x)
+    subst (wides .Is x)
     (ext-getD false (replicate n false) (maskOf n []) (length-replicate n false ∙ sym (row-length n []))
     (λ k l.
     let m : k < n = omega (arith, length-replicate n false) in
     getD-replicate n k false false m ∙ sym (row-at n [] k m ∙ member-none k)))
-    (none-all n h i)
+    (none-all wides-laws n h i)
 
 either-length : (a b : List Bool) → length b ≤ length a → length (either a b) ≡ length a
 unfolding either
@@ -50,9 +51,9 @@ mask-more n ks k h =
     let j : i < n = omega (arith, l) in
     dig-either a (only k) i ∙ (λ t. row-at n ks i j t || only-is k i t) ∙ sym (row-at n (ks ++ k ∷ []) i j ∙ member-more i ks k))
 
-module _ {x y : Set} (n : ℕ) (k : ℕ) (h : k < n) (w : (a : List Bool) → Is x a → Is y (either a (only k))) where
-  pub mark-more : (ks : List ℕ) → Is x (maskOf n ks) → Is y (maskOf n (ks ++ k ∷ []))
-  mark-more ks i = subst (Is y) (mask-more n ks k h) (w (maskOf n ks) i)
+module _ {x y : Wide} (n : ℕ) (k : ℕ) (h : k < n) (w : (a : List Bool) → wides .Is x a → wides .Is y (either a (only k))) where
+  pub mark-more : (ks : List ℕ) → wides .Is x (maskOf n ks) → wides .Is y (maskOf n (ks ++ k ∷ []))
+  mark-more ks i = subst (wides .Is y) (mask-more n ks k h) (w (maskOf n ks) i)
 
 -- ---- those of a list that pass, one element more
 

@@ -14,8 +14,8 @@ use Rattle.lists.specs.Lists.{filter, member}
 use Rattle.lists.proofs.Places.{take-more, map-at, made-length, made-at}
 use Rattle.lists.proofs.Search.{LowestLeft, lowest-start, lowest-hit, lowest-miss, lowest-end}
 use Rattle.sets.specs.Word.{either, only}
-use Rattle.sets.specs.Sets.{room, Is}
-use Rattle.sets.specs.declared.Set.{Set}
+use Rattle.sets.specs.Sets.{wides, Wide}
+use Rattle.paper.specs.Numbers.{mostCandidates}
 use Rattle.paper.specs.Loops.{Loop}
 use Rattle.paper.specs.FaceList.{rowAt}
 use Rattle.paper.specs.Verdict.{onward, numberIn, maskOf, notCandidate, faceTwice}
@@ -39,13 +39,13 @@ module _ (faces : List ℕ) (count : ℕ) (rows : List ℕ) (n : ℕ) where
   abbrev unknown : ℕ → Bool
   unknown i = leb n (getD ks i 0)
 
-  pub record Numbered (numbers₀ numbers : List ℕ) (turned : Set) (i : ℕ) : Type 0 where
+  pub record Numbered (numbers₀ numbers : List ℕ) (turned : Wide) (i : ℕ) : Type 0 where
     pub long : length numbers ≡ length numbers₀
     pub left : LowestLeft unknown (length ks) i
     pub put : take i numbers ≡ take i ks
-    pub marked : Is turned (turnedFaces n cs (take i fs))
+    pub marked : wides .Is turned (turnedFaces n cs (take i fs))
 
-  pub numbered-start : {t : Set} (numbers : List ℕ) → n ≤ room → Is t [] → Numbered numbers numbers t 0
+  pub numbered-start : {t : Wide} (numbers : List ℕ) → n ≤ mostCandidates → wides .Is t [] → Numbered numbers numbers t 0
   unfolding filter
   numbered-start numbers h e = record { long = refl; left = lowest-start unknown (length ks); put = refl; marked = mark-none n h e }
 
@@ -55,7 +55,7 @@ module _ (faces : List ℕ) (count : ℕ) (rows : List ℕ) (n : ℕ) where
   pub numbers-long : length ks ≡ count
   numbers-long = length-map fs (numberIn cs) ∙ faces-long
 
-  module _ {numbers₀ numbers : List ℕ} {t : Set} {i : ℕ} (s : Numbered numbers₀ numbers t i) where
+  module _ {numbers₀ numbers : List ℕ} {t : Wide} {i : ℕ} (s : Numbered numbers₀ numbers t i) where
     module _ (h : i < count) {k : ℕ} (e : k ≡ numberIn cs (rowAt faces i)) where
       face-is : getD fs i [] ≡ rowAt faces i
       face-is = made-at (rowAt faces) count i [] h
@@ -86,20 +86,20 @@ module _ (faces : List ℕ) (count : ℕ) (rows : List ℕ) (n : ℕ) where
           left = next;
           put = put-more;
           marked =
-              subst (λ (l : List ℕ). Is t (maskOf n l))
+              subst (λ (l : List ℕ). wides .Is t (maskOf n l))
               (made-less (λ f. not (onward f)) (numberIn cs) fs i [] (omega (arith, faces-long))
               (ap (λ (f : Loop). not (onward f)) face-is ∙ ap not (sym o ∙ w))) (s .marked);
         }
 
         -- against it
-        pub numbered-back : {b : Bool} {u : Set} → b ≡ onward (rowAt faces i) → b ≡ false
-            → ((a : List Bool) → Is t a → Is u (either a (only k))) → Numbered numbers₀ (set numbers i k) u (i + 1)
+        pub numbered-back : {b : Bool} {u : Wide} → b ≡ onward (rowAt faces i) → b ≡ false
+            → ((a : List Bool) → wides .Is t a → wides .Is u (either a (only k))) → Numbered numbers₀ (set numbers i k) u (i + 1)
         numbered-back {u = u} o w f = record {
           long = length-set numbers i k ∙ s .long;
           left = next;
           put = put-more;
           marked =
-              subst (λ (l : List ℕ). Is u (maskOf n l))
+              subst (λ (l : List ℕ). wides .Is u (maskOf n l))
               (ap (λ (j : ℕ). map (numberIn cs) (filter (λ f. not (onward f)) (take i fs)) ++ j ∷ [])
               (e ∙ ap (numberIn cs) (sym face-is))
               ∙ made-more (λ f. not (onward f)) (numberIn cs) fs i [] (omega (arith, faces-long))
@@ -113,7 +113,7 @@ module _ (faces : List ℕ) (count : ℕ) (rows : List ℕ) (n : ℕ) where
       known = lowest-end unknown (length ks) i (omega (arith, numbers-long)) (s .left);
       numbers-are = ap (λ (j : ℕ). take j numbers) (sym e) ∙ s .put ∙ take-all i ks (omega (arith, numbers-long));
       turned-is =
-          subst (λ (l : List Loop). Is t (turnedFaces n cs l)) (take-all i fs (omega (arith, faces-long))) (s .marked);
+          subst (λ (l : List Loop). wides .Is t (turnedFaces n cs l)) (take-all i fs (omega (arith, faces-long))) (s .marked);
     }
 
 -- ---- each number once
@@ -129,38 +129,38 @@ module _ {numbers : List ℕ} {count : ℕ} (q : Takes numbers count) where
   abbrev Below : ℕ → Type 0
   Below m = (i : ℕ) → i < count → getD numbers i 0 < m
 
-  pub record Passed (t : Set) (i : ℕ) : Type 0 where
+  pub record Passed (t : Wide) (i : ℕ) : Type 0 where
     pub left : LowestLeft twice (length taken) i
-    pub marked : (m : ℕ) → m ≤ room → Below m → Is t (maskOf m (take i taken))
+    pub marked : (m : ℕ) → m ≤ mostCandidates → Below m → wides .Is t (maskOf m (take i taken))
 
-  pub passed-start : {t : Set} → Is t [] → Passed t 0
+  pub passed-start : {t : Wide} → wides .Is t [] → Passed t 0
   passed-start e = record { left = lowest-start twice (length taken); marked = λ m h b. mark-none m h e }
 
   taken-long : length taken ≡ count
   taken-long = length-take-le count numbers (omega (arith, q .few, q .long))
 
-  module _ {t : Set} {i : ℕ} (s : Passed t i) where
+  module _ {t : Wide} {i : ℕ} (s : Passed t i) where
     module _ (h : i < count) {k : ℕ} (e : k ≡ getD numbers i 0) where
       taken-at : getD taken i 0 ≡ k
       taken-at = getD-take count numbers i 0 h ∙ sym e
 
       -- the set knows whether the number was there
-      module _ {b : Bool} (has : (a : List Bool) → Is t a → b ≡ getD a k false) where
+      module _ {b : Bool} (has : (a : List Bool) → wides .Is t a → b ≡ getD a k false) where
         twice-is : twice i ≡ b
         twice-is =
             ap (λ (j : ℕ). member j (take i taken)) taken-at
-            ∙ sym (has (maskOf room (take i taken)) (s .marked room (omega arith) (q .below))
-            ∙ row-at room (take i taken) k (omega (arith, q .below i h)))
+            ∙ sym (has (maskOf mostCandidates (take i taken)) (s .marked mostCandidates (omega arith) (q .below))
+            ∙ row-at mostCandidates (take i taken) k (omega (arith, q .below i h)))
 
         pub passed-hit : b ≡ true → faceTwice taken ≡ some i
         unfolding faceTwice
         passed-hit w = lowest-hit twice (length taken) i (omega (arith, taken-long)) (s .left) (twice-is ∙ w)
 
-        pub passed-more : {u : Set} → b ≡ false → ((a : List Bool) → Is t a → Is u (either a (only k))) → Passed u (i + 1)
+        pub passed-more : {u : Wide} → b ≡ false → ((a : List Bool) → wides .Is t a → wides .Is u (either a (only k))) → Passed u (i + 1)
         passed-more {u} w f = record {
           left = lowest-miss twice (length taken) i (omega (arith, taken-long)) (s .left) (twice-is ∙ w);
           marked = λ m l b.
-              subst (λ (x : List ℕ). Is u (maskOf m x))
+              subst (λ (x : List ℕ). wides .Is u (maskOf m x))
               (ap (λ (j : ℕ). take i taken ++ j ∷ []) (sym taken-at) ∙ sym (take-more taken i 0 (omega (arith, taken-long))))
               (mark-more m k (omega (arith, b i h)) f (take i taken) (s .marked m l b));
         }
@@ -169,5 +169,5 @@ module _ {numbers : List ℕ} {count : ℕ} (q : Takes numbers count) where
     unfolding faceTwice
     passed-end e = record {
       once = lowest-end twice (length taken) i (omega (arith, taken-long)) (s .left);
-      taken-is = λ m l b. subst (λ (x : List ℕ). Is t (maskOf m x)) (take-all i taken (omega (arith, taken-long))) (s .marked m l b);
+      taken-is = λ m l b. subst (λ (x : List ℕ). wides .Is t (maskOf m x)) (take-all i taken (omega (arith, taken-long))) (s .marked m l b);
     }

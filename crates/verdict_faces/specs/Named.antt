@@ -3,7 +3,7 @@ use mathlib.Core.List.{List, [], _∷_}
 use mathlib.Core.Path.{_≡_}
 use Prim.Native.Nat.{ℕ, _≤_, _<_}
 use lib.ListN.{length, take}
-use Rattle.sets.specs.Sets.{Is}
+use Rattle.sets.specs.Sets.{wides}
 use Rattle.paper.specs.Numbers.{mostFaces, mostCorners, mostCandidates, faceRoom}
 use Rattle.paper.specs.Refusals as No
 use Rattle.paper.specs.Refusals.{Check, check, firstOf}
@@ -40,8 +40,8 @@ namedChecks cs fs =
 pub record Selected (cs : List Loop) (fs : List (List ℕ)) (count : ℕ) (numbers : List ℕ) (s : Selection) : Type 0 where
   pub fine : Answer.Fine ≡ firstOf (namedChecks cs fs)
   pub numbers-are : take count numbers ≡ listed cs fs .numbers
-  pub taken-is : Is (s .taken) (listed cs fs .taken)
-  pub turned-is : Is (s .turned) (listed cs fs .turned)
+  pub taken-is : wides .Is (s .taken) (listed cs fs .taken)
+  pub turned-is : wides .Is (s .turned) (listed cs fs .turned)
 
 abbrev pub NamedAs : List Loop → List (List ℕ) → ℕ → List ℕ → Named → Type 0
 NamedAs cs fs count numbers (N.Refused r) = Answer.Refused r ≡ firstOf (namedChecks cs fs)

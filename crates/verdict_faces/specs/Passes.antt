@@ -6,9 +6,8 @@ use mathlib.Core.Path.{_≡_}
 use Prim.Native.Nat.{ℕ, _≤_, _<_}
 use lib.ListN.{length, getD, take}
 use Rattle.lists.specs.Lists.{filter}
-use Rattle.sets.specs.Sets.{room, Is}
-use Rattle.sets.specs.declared.Set.{Set}
-use Rattle.paper.specs.Numbers.{mostFaces}
+use Rattle.sets.specs.Sets.{wides, Wide}
+use Rattle.paper.specs.Numbers.{mostFaces, mostCandidates}
 use Rattle.paper.specs.Loops.{Loop}
 use Rattle.paper.specs.Verdict.{onward, numberIn, maskOf, notCandidate, faceTwice}
 use Rattle.verdict_faces.specs.Form.{rowsIn}
@@ -24,10 +23,10 @@ numbersOf cs fs = map (numberIn cs) fs
 abbrev pub turnedFaces : ℕ → List Loop → List Loop → List Bool
 turnedFaces n cs fs = maskOf n (map (numberIn cs) (filter (λ f. not (onward f)) fs))
 
-pub record AllNumbered (fs cs : List Loop) (count n : ℕ) (numbers : List ℕ) (s : Set) : Type 0 where
+pub record AllNumbered (fs cs : List Loop) (count n : ℕ) (numbers : List ℕ) (s : Wide) : Type 0 where
   pub known : notCandidate n (numbersOf cs fs) ≡ none
   pub numbers-are : take count numbers ≡ numbersOf cs fs
-  pub turned-is : Is s (turnedFaces n cs fs)
+  pub turned-is : wides .Is s (turnedFaces n cs fs)
 
 abbrev pub NumberedAs : List Loop → List Loop → ℕ → ℕ → List ℕ → Marked → Type 0
 NumberedAs fs cs count n numbers (M.At i) = notCandidate n (numbersOf cs fs) ≡ some i
@@ -43,11 +42,11 @@ pub record Numbering (faces : List ℕ) (count : ℕ) (rows : List ℕ) (n : ℕ
 pub record Takes (numbers : List ℕ) (count : ℕ) : Type 0 where
   pub few : count ≤ mostFaces
   pub long : length numbers ≡ mostFaces
-  pub below : (i : ℕ) → i < count → getD numbers i 0 < room
+  pub below : (i : ℕ) → i < count → getD numbers i 0 < mostCandidates
 
-pub record TakenOnce (numbers : List ℕ) (count : ℕ) (s : Set) : Type 0 where
+pub record TakenOnce (numbers : List ℕ) (count : ℕ) (s : Wide) : Type 0 where
   pub once : faceTwice (take count numbers) ≡ none
-  pub taken-is : (n : ℕ) → n ≤ room → ((i : ℕ) → i < count → getD numbers i 0 < n) → Is s (maskOf n (take count numbers))
+  pub taken-is : (n : ℕ) → n ≤ mostCandidates → ((i : ℕ) → i < count → getD numbers i 0 < n) → wides .Is s (maskOf n (take count numbers))
 
 abbrev pub TakenAs : List ℕ → ℕ → Marked → Type 0
 TakenAs numbers count (M.At i) = faceTwice (take count numbers) ≡ some i

@@ -18,7 +18,7 @@ use paper::Refusal;
 use selection::Marked;
 use selection::Named;
 use selection::Selection;
-use sets::Set;
+use sets::Wide;
 
 // Writes the number of each face, up to one that is no candidate, and marks those that are run against their normal form.
 fn number_faces(
@@ -31,7 +31,7 @@ fn number_faces(
     requires { ⌜ Naming (now faces) count (now rows) n (now numbers) ⌝ }
     ensures { λ r. ⌜ Numbering (now (faces .entry)) count (now (rows .entry)) n (now (numbers .entry)) (now (numbers .exit)) r ⌝ }
 {
-    let mut against = Set::none();
+    let mut against = Wide::none();
     let mut i = 0;
     while i < count {
         let way = way_of(faces, i);
@@ -53,7 +53,7 @@ fn take_each(numbers: &[u8; MOST_FACES], count: usize) -> Marked
     requires { ⌜ Takes (now numbers) count ⌝ }
     ensures { λ r. ⌜ TakenAs (now (numbers .entry)) count r ⌝ }
 {
-    let mut taken = Set::none();
+    let mut taken = Wide::none();
     let mut i = 0;
     while i < count {
         let k = wide(numbers[i]);

@@ -9,9 +9,9 @@ use lib.ListN.{length, getD, take}
 use lib.Seq.{getD-take, length-take-le}
 use Rattle.lists.specs.Lists.{lowest}
 use Rattle.sets.specs.Word.{dig, count, both}
-use Rattle.sets.specs.Sets.{Is, size, Joint, SetAt}
-use Rattle.sets.specs.declared.Set.{Set}
-use Rattle.sets.proofs.Sets.{size-is}
+use Rattle.sets.specs.Kinds.{Joint, SetAt}
+use Rattle.sets.specs.Sets.{wides, Wide}
+use Rattle.sets.proofs.Sets.{wides-laws}
 use Rattle.sets.proofs.Ones.{dig-lt}
 use Rattle.paper.specs.Solids.{Tables, facesFrom}
 use Rattle.paper.specs.Verdict as Paper
@@ -44,15 +44,15 @@ module _ (numbers : List ℕ) (n : ℕ) (fits : n ≤ length numbers) {ks : List
 
 -- ---- 25: the set has the digits of what the definition's passes reach
 
-pub record Reaching (numbers : List ℕ) (n : ℕ) (reached : Set) (t : Tables) (l : Listed) : Type 0 where
+pub record Reaching (numbers : List ℕ) (n : ℕ) (reached : Wide) (t : Tables) (l : Listed) : Type 0 where
   pub numbers-are : l .numbers ≡ take n numbers
   pub digits : List Bool
-  pub reached-is : Is reached digits
+  pub reached-is : wides .Is reached digits
   pub same : (k : ℕ) → dig digits k ≡ dig (facesFrom (getD (l .numbers) 0 0) t (l .taken) .reached) k
 
 module _ (numbers : List ℕ) (n : ℕ) (fits : n ≤ length numbers) where
   -- the faces gone round from face 0 are those
-  pub reaches : {on up sides : List ℕ} {taken : Set} {g : Going} → 0 < n → FromFace on up sides taken (getD numbers 0 0) g
+  pub reaches : {on up sides : List ℕ} {taken : Wide} {g : Going} → 0 < n → FromFace on up sides taken (getD numbers 0 0) g
       → (t : Tables) (l : Listed) → Joining on up sides numbers n taken t l → Reaching numbers n (g .reached) t l
   unfolding facesFrom
   reaches {on} {up} {sides} {taken} {g} z f t l w =
@@ -68,12 +68,12 @@ module _ (numbers : List ℕ) (n : ℕ) (fits : n ≤ length numbers) where
             same-reached (t .masks) (t .ups) (l .taken) start (sym (w .edges-are .as-many)) (counted-two (l .taken) t (w .two)) here;
       }
 
-  module _ (reached : Set) where
+  module _ (reached : Wide) where
     pub finds-25 : Finds (Reaching numbers n reached) unjoined n piecesOf
     unfolding Paper.pieces
     finds-25 t l w = ap (lowest (unjoined t l)) (faces-count numbers n fits (w .numbers-are))
 
-    pub joined-at : (i : ℕ) → i < n → {k : ℕ} → k ≡ getD numbers i 0 → {b : Bool} → ((a : List Bool) → Is reached a → b ≡ dig a k)
+    pub joined-at : (i : ℕ) → i < n → {k : ℕ} → k ≡ getD numbers i 0 → {b : Bool} → ((a : List Bool) → wides .Is reached a → b ≡ dig a k)
         → {r : Bool} → not b ≡ r → Offends (Reaching numbers n reached) unjoined i r
     joined-at i h e s q t l w =
         let d = facesFrom (getD (l .numbers) 0 0) t (l .taken) .reached in
@@ -81,13 +81,13 @@ module _ (numbers : List ℕ) (n : ℕ) (fits : n ≤ length numbers) where
 
 -- ---- 27
 
-module _ (clashes numbers : List ℕ) (n : ℕ) (taken : Set) (fits : n ≤ length numbers) where
+module _ (clashes numbers : List ℕ) (n : ℕ) (taken : Wide) (fits : n ≤ length numbers) where
   pub finds-27 : Finds (Clashing clashes numbers n taken) clashing n clashOf
   unfolding Paper.clashes
   finds-27 t l w = ap (lowest (clashing t l)) (faces-count numbers n fits (w .faces-are .numbers-are))
 
-  module _ (i : ℕ) (h : i < n) {k : ℕ} (e : k ≡ getD numbers i 0) {mask mine : Set} (o : SetAt clashes k mask)
-      (j : Joint mask taken mine both) {b : Bool} (s : b ≡ eqb (size mine) 0) where
+  module _ (i : ℕ) (h : i < n) {k : ℕ} (e : k ≡ getD numbers i 0) {mask mine : Wide} (o : SetAt wides clashes k mask)
+      (j : Joint wides mask taken mine both) {b : Bool} (s : b ≡ eqb (wides .size mine) 0) where
     pub clash-at : {r : Bool} → not b ≡ r → Offends (Clashing clashes numbers n taken) clashing i r
     clash-at q t l w =
         let v = w .faces-are in
@@ -96,4 +96,4 @@ module _ (clashes numbers : List ℕ) (n : ℕ) (taken : Set) (fits : n ≤ leng
         let c : k ≡ m = e ∙ sym (number-at numbers n fits (v .numbers-are) i h) in
         let p : m < length (t .clashes) = omega (arith, dig-lt (l .taken) m here, w .in-clashes) in
         ap not (sym (s ∙ ap (λ (x : ℕ). eqb x 0)
-        (size-is (j (getD (t .clashes) m []) (l .taken) (mask-at (w .clashes-are) o c p) (v .taken-is))))) ∙ q
+        (wides-laws .size-is (j (getD (t .clashes) m []) (l .taken) (mask-at (w .clashes-are) o c p) (v .taken-is))))) ∙ q

@@ -3,7 +3,7 @@ use mathlib.Core.List.{List, [], _∷_}
 use mathlib.Core.Path.{_≡_, refl, sym, _∙_}
 use Prim.Native.Nat.{ℕ}
 use native.Mathlib.Omega.{arith}
-use Rattle.sets.specs.declared.Set.{Set}
+use Rattle.sets.specs.Sets.{Wide}
 use Rattle.paper.specs.Refusals.{check, firstOf, NotCandidate, FaceTwice, EdgeCount, Direction, Pieces, Inward, Clash}
 use Rattle.paper.specs.Solids.{Tables}
 use Rattle.paper.specs.Verdict.{Listed, notCandidate, faceTwice, faceChecks}
@@ -35,7 +35,7 @@ module _ {a b : Answer} where
 
 -- ---- all five
 
-module _ (tables : WalkTables) (m : ℕ) (numbers : List ℕ) (count : ℕ) (taken turned : Set) where
+module _ (tables : WalkTables) (m : ℕ) (numbers : List ℕ) (count : ℕ) (taken turned : Wide) where
   module _ {n : ℕ} (t : Tables) (l : Listed) (h : Lent tables m n t) (d : ListedIn n l)
       (i : ListIs numbers count taken turned l) where
     edges : Edges (tables .on) (tables .up) (t .masks) (t .ups)

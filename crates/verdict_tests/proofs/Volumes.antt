@@ -6,8 +6,8 @@ use lib.IntN.{ℤ, pos}
 use lib.Signed.{ltZ, _<ℤ_, _≤ℤ_, clashℤ}
 use Rattle.lists.proofs.Truth.{never-true}
 use Rattle.exact.proofs.Signs.{lt-is, lt-yes}
+use Rattle.sets.specs.Sets.{Wide}
 use Rattle.sets.specs.Word.{count}
-use Rattle.sets.specs.declared.Set.{Set}
 use Rattle.paper.specs.Points.{above}
 use Rattle.paper.specs.Refusals.{Inward, refuse}
 use Rattle.paper.specs.Solids.{Tables, sixFrom}
@@ -19,7 +19,7 @@ use Rattle.fast_leaf.proofs.Sums.{six-on}
 use Rattle.walk_leaf.specs.Tests.{Weighs}
 use Rattle.verdict_tests.specs.Tests.{ToldAt, inwardOf, Weighing}
 
-module _ {sixes : List ℤ} {taken turned : Set} {v : ℤ} (x : Weighs sixes taken turned v) where
+module _ {sixes : List ℤ} {taken turned : Wide} {v : ℤ} (x : Weighs sixes taken turned v) where
   six-is : (t : Tables) (l : Listed) → Weighing sixes taken turned t l → v ≡ sixFrom 0 (t .sixes) (l .taken) (l .turned)
   six-is t l w =
       x .same (t .sixes) (l .taken) (l .turned) (w .sixes-are) (w .in-sixes) (w .taken-is) (w .turned-is)

@@ -7,9 +7,8 @@ use Prim.Native.Nat.{ℕ, _≤_, _<_}
 use lib.IntN.{ℤ}
 use lib.ListN.{length, getD, take}
 use Rattle.sets.specs.Word.{dig}
-use Rattle.sets.specs.Sets.{room, Is}
-use Rattle.sets.specs.declared.Set.{Set}
-use Rattle.paper.specs.Numbers.{mostEdges, mostFaces}
+use Rattle.sets.specs.Sets.{wides, Wide}
+use Rattle.paper.specs.Numbers.{mostEdges, mostFaces, mostCandidates}
 use Rattle.paper.specs.Refusals as No
 use Rattle.paper.specs.Refusals.{Check, check, firstOf}
 use Rattle.paper.specs.Solids.{Tables}
@@ -25,7 +24,7 @@ pub record SomeFaces (numbers : List ℕ) (count : ℕ) : Type 0 where
   pub some : 0 < count
   pub few : count ≤ mostFaces
   pub held : count ≤ length numbers
-  pub narrow : (i : ℕ) → i < count → getD numbers i 0 < room
+  pub narrow : (i : ℕ) → i < count → getD numbers i 0 < mostCandidates
 
 pub record Testing (m : ℕ) (sixes : List ℤ) (numbers : List ℕ) (count : ℕ) : Type 0 where
   pub edges : m ≤ mostEdges
@@ -52,7 +51,8 @@ clashOf t l = Paper.clashes t (l .numbers) (l .taken)
 -- the last five of `faceChecks`
 abbrev pub testChecks : Tables → Listed → List Check
 testChecks t l =
-    check No.EdgeCount (edgeCountOf t l) ∷ check No.Direction (directionOf t l) ∷ check No.Pieces (piecesOf t l) ∷ check No.Inward (inwardOf t l)
+    check No.EdgeCount (edgeCountOf t l) ∷ check No.Direction (directionOf t l) ∷ check No.Pieces (piecesOf t l) ∷ check No.Inward
+    (inwardOf t l)
     ∷ check No.Clash (clashOf t l)
     ∷ []
 
@@ -67,39 +67,39 @@ FirstOf a b r = (cs ds : List Check) → a ≡ firstOf cs → (Answer.Fine ≡ f
 
 -- ---- what the words stand for that each check asks. 23 and 24, edge by edge
 
-pub record Counting (on : List ℕ) (m : ℕ) (taken : Set) (t : Tables) (l : Listed) : Type 0 where
+pub record Counting (on : List ℕ) (m : ℕ) (taken : Wide) (t : Tables) (l : Listed) : Type 0 where
   pub on-are : Masks on (t .masks)
   pub as-many : length (t .masks) ≡ m
-  pub taken-is : Is taken (l .taken)
+  pub taken-is : wides .Is taken (l .taken)
 
-pub record Running (on up : List ℕ) (m : ℕ) (taken turned : Set) (t : Tables) (l : Listed) : Type 0 where
+pub record Running (on up : List ℕ) (m : ℕ) (taken turned : Wide) (t : Tables) (l : Listed) : Type 0 where
   pub edges-are : Edges on up (t .masks) (t .ups)
   pub as-many : length (t .masks) ≡ m
-  pub taken-is : Is taken (l .taken)
-  pub turned-is : Is turned (l .turned)
+  pub taken-is : wides .Is taken (l .taken)
+  pub turned-is : wides .Is turned (l .turned)
 
 -- the faces of the list, each of them taken
-pub record FacesNumbered (numbers : List ℕ) (count : ℕ) (taken : Set) (l : Listed) : Type 0 where
+pub record FacesNumbered (numbers : List ℕ) (count : ℕ) (taken : Wide) (l : Listed) : Type 0 where
   pub numbers-are : l .numbers ≡ take count numbers
   pub each : (i : ℕ) → i < length (l .numbers) → dig (l .taken) (getD (l .numbers) i 0) ≡ true
-  pub taken-is : Is taken (l .taken)
+  pub taken-is : wides .Is taken (l .taken)
 
 -- 25, where 23 is passed
-pub record Joining (on up sides numbers : List ℕ) (count : ℕ) (taken : Set) (t : Tables) (l : Listed) : Type 0 where
+pub record Joining (on up sides numbers : List ℕ) (count : ℕ) (taken : Wide) (t : Tables) (l : Listed) : Type 0 where
   pub edges-are : Edges on up (t .masks) (t .ups)
   pub sides-are : Sides sides (t .masks)
   pub faces-are : FacesNumbered numbers count taken l
   pub two : edgeCountOf t l ≡ none
 
 -- 26
-pub record Weighing (sixes : List ℤ) (taken turned : Set) (t : Tables) (l : Listed) : Type 0 where
+pub record Weighing (sixes : List ℤ) (taken turned : Wide) (t : Tables) (l : Listed) : Type 0 where
   pub sixes-are : Sixes sixes (t .sixes)
   pub in-sixes : length (l .taken) ≤ length (t .sixes)
-  pub taken-is : Is taken (l .taken)
-  pub turned-is : Is turned (l .turned)
+  pub taken-is : wides .Is taken (l .taken)
+  pub turned-is : wides .Is turned (l .turned)
 
 -- 27
-pub record Clashing (clashes numbers : List ℕ) (count : ℕ) (taken : Set) (t : Tables) (l : Listed) : Type 0 where
+pub record Clashing (clashes numbers : List ℕ) (count : ℕ) (taken : Wide) (t : Tables) (l : Listed) : Type 0 where
   pub clashes-are : Masks clashes (t .clashes)
   pub in-clashes : length (l .taken) ≤ length (t .clashes)
   pub faces-are : FacesNumbered numbers count taken l
@@ -110,12 +110,12 @@ pub record ListedIn (n : ℕ) (l : Listed) : Type 0 where
   pub as-many : length (l .taken) ≡ n
   pub each : (i : ℕ) → i < length (l .numbers) → dig (l .taken) (getD (l .numbers) i 0) ≡ true
 
-pub record ListIs (numbers : List ℕ) (count : ℕ) (taken turned : Set) (l : Listed) : Type 0 where
+pub record ListIs (numbers : List ℕ) (count : ℕ) (taken turned : Wide) (l : Listed) : Type 0 where
   pub numbers-are : l .numbers ≡ take count numbers
-  pub taken-is : Is taken (l .taken)
-  pub turned-is : Is turned (l .turned)
+  pub taken-is : wides .Is taken (l .taken)
+  pub turned-is : wides .Is turned (l .turned)
 
-abbrev pub Tested : WalkTables → ℕ → List ℕ → ℕ → Set → Set → Answer → Type 0
+abbrev pub Tested : WalkTables → ℕ → List ℕ → ℕ → Wide → Wide → Answer → Type 0
 Tested tables m numbers count taken turned r =
     (n : ℕ) (t : Tables) (l : Listed) → Lent tables m n t → ListedIn n l → ListIs numbers count taken turned l
     → r ≡ firstOf (testChecks t l)

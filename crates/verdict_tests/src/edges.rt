@@ -8,16 +8,16 @@ use paper::DIRECTION;
 use paper::EDGE_COUNT;
 use paper::MOST_EDGES;
 use paper_values::refused;
-use sets::Set;
+use sets::Wide;
 use walk_leaf::once_each_way;
 
-pub fn edge_count(on: &[u64; MOST_EDGES], m: usize, taken: Set) -> Answer
+pub fn edge_count(on: &[u64; MOST_EDGES], m: usize, taken: Wide) -> Answer
     requires { ⌜ m ≤ mostEdges ⌝ }
     ensures { λ r. ⌜ ToldAt (Counting (now (on .entry)) m taken) No.EdgeCount edgeCountOf r ⌝ }
 {
     let mut e = 0;
     while e < m {
-        let mine = Set::at(on, e).and(taken);
+        let mine = Wide::at(on, e).and(taken);
         if mine.count() != 2 {
             return refused(EDGE_COUNT, e);
         }
@@ -30,16 +30,16 @@ pub fn direction(
     on: &[u64; MOST_EDGES],
     up: &[u64; MOST_EDGES],
     m: usize,
-    taken: Set,
-    turned: Set,
+    taken: Wide,
+    turned: Wide,
 ) -> Answer
     requires { ⌜ m ≤ mostEdges ⌝ }
     ensures { λ r. ⌜ ToldAt (Running (now (on .entry)) (now (up .entry)) m taken turned) No.Direction directionOf r ⌝ }
 {
     let mut e = 0;
     while e < m {
-        let mask = Set::at(on, e);
-        if !once_each_way(mask, Set::at(up, e), taken, turned) {
+        let mask = Wide::at(on, e);
+        if !once_each_way(mask, Wide::at(up, e), taken, turned) {
             return refused(DIRECTION, e);
         }
         e += 1;

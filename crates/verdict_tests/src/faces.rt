@@ -2,8 +2,8 @@
 // with a number below 64.
 ghost use Prim.Native.Nat.{_<_};
 ghost use lib.ListN.{getD};
-ghost use Rattle.sets.specs.Sets.{room};
 ghost use Rattle.walk_leaf.specs.Faces.{FromFace};
+ghost use Rattle.paper.specs.Numbers.{mostCandidates};
 ghost use Rattle.paper.specs.Refusals as No;
 ghost use Rattle.verdict_tests.specs.Tests.{SomeFaces, ToldAt, Joining, Clashing, piecesOf, clashOf};
 use lists::wide;
@@ -14,7 +14,7 @@ use paper::MOST_EDGES;
 use paper::MOST_FACES;
 use paper::PIECES;
 use paper_values::refused;
-use sets::Set;
+use sets::Wide;
 use walk_leaf::faces::Going;
 use walk_leaf::faces::from_face;
 
@@ -24,9 +24,9 @@ fn from_first(
     up: &[u64; MOST_EDGES],
     sides: &[u64; MOST_CANDIDATES],
     numbers: &[u8; MOST_FACES],
-    taken: Set,
+    taken: Wide,
 ) -> Going
-    requires { ⌜ getD (now numbers) 0 0 < room ⌝ }
+    requires { ⌜ getD (now numbers) 0 0 < mostCandidates ⌝ }
     ensures { λ r. ⌜ FromFace (now (on .entry)) (now (up .entry)) (now (sides .entry)) taken (getD (now (numbers .entry)) 0 0) r ⌝ }
 {
     from_face(on, up, sides, taken, numbers[0] as usize)
@@ -38,7 +38,7 @@ pub fn pieces(
     sides: &[u64; MOST_CANDIDATES],
     numbers: &[u8; MOST_FACES],
     count: usize,
-    taken: Set,
+    taken: Wide,
 ) -> Answer
     requires { ⌜ SomeFaces (now numbers) count ⌝ }
     ensures { λ r. ⌜ ToldAt (Joining (now (on .entry)) (now (up .entry)) (now (sides .entry)) (now (numbers .entry)) count taken)
@@ -60,14 +60,14 @@ pub fn clash(
     clashes: &[u64; MOST_CANDIDATES],
     numbers: &[u8; MOST_FACES],
     count: usize,
-    taken: Set,
+    taken: Wide,
 ) -> Answer
     requires { ⌜ SomeFaces (now numbers) count ⌝ }
     ensures { λ r. ⌜ ToldAt (Clashing (now (clashes .entry)) (now (numbers .entry)) count taken) No.Clash clashOf r ⌝ }
 {
     let mut f = 0;
     while f < count {
-        let clashing = Set::at(clashes, wide(numbers[f])).and(taken);
+        let clashing = Wide::at(clashes, wide(numbers[f])).and(taken);
         if !clashing.is_empty() {
             return refused(CLASH, f);
         }

@@ -16,7 +16,7 @@ use paper::MOST_CANDIDATES;
 use paper::MOST_EDGES;
 use paper::MOST_FACES;
 use paper_values::refused;
-use sets::Set;
+use sets::Wide;
 use walk_leaf::weight;
 
 // The first that applies: a's refusal, or else what b says.
@@ -30,7 +30,7 @@ fn first_of(a: Answer, b: Answer) -> Answer
 }
 
 // 26: six volumes is not above zero.
-fn inward(sixes: &[i64; MOST_CANDIDATES], taken: Set, turned: Set) -> Answer
+fn inward(sixes: &[i64; MOST_CANDIDATES], taken: Wide, turned: Wide) -> Answer
     requires { ⌜ SmallSixes (now sixes) ⌝ }
     ensures { λ r. ⌜ ToldAt (Weighing (now (sixes .entry)) taken turned) No.Inward inwardOf r ⌝ }
 {
@@ -51,8 +51,8 @@ pub fn tested(
     sixes: &[i64; MOST_CANDIDATES],
     numbers: &[u8; MOST_FACES],
     count: usize,
-    taken: Set,
-    turned: Set,
+    taken: Wide,
+    turned: Wide,
 ) -> Answer
     requires { ⌜ Testing m (now sixes) (now numbers) count ⌝ }
     ensures { λ r. ⌜ Tested

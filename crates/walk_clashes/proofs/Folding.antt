@@ -7,7 +7,8 @@ use borrow.Author.Tests.{eqb-true, eqb-false}
 use lib.Dec.{eqb}
 use Rattle.lists.proofs.Truth.{and-left}
 use Rattle.sets.specs.Word.{dig, count, less, only, Sub}
-use Rattle.sets.specs.Sets.{Is, size, Lowest, Dropped}
+use Rattle.sets.specs.Kinds.{Lowest, Dropped}
+use Rattle.sets.specs.Sets.{Is, size, oneWord}
 use Rattle.sets.specs.declared.Set.{Set}
 use Rattle.sets.proofs.Digits.{dig-less}
 use Rattle.sets.proofs.Sets.{size-is}
@@ -40,14 +41,15 @@ module _ (m : ℕ) (step : ℕ → List Bool → List Bool) (all : List Bool) (l
         subst (Is set) (sym (ap (λ (xs : List ℕ). folded step xs (l .set-now)) (ones-none m (l .rest-now) z)) ∙ l .same) (l .set-is)
 
     -- the lowest that is left is next
-    module _ (t : eqb (size rest) 0 ≡ false) (x : ℕ) (lowest : Lowest rest x) where
+    module _ (t : eqb (size rest) 0 ≡ false) (x : ℕ) (lowest : Lowest oneWord rest x) where
       some : count (l .rest-now) ≡ 0 → ⊥
       some z = eqb-false (size rest) 0 t (size-is (l .rest-is) ∙ z)
 
       pub left-known : dig all x ≡ true
       left-known = l .known x (lowest .there (l .rest-now) (l .rest-is))
 
-      pub left-next : {rest' set' : Set} → ((s : List Bool) → Is set s → Is set' (step x s)) → Dropped rest x rest' → Left answer rest' set'
+      pub left-next : {rest' set' : Set} → ((s : List Bool) → Is set s → Is set' (step x s)) → Dropped oneWord rest x rest'
+          → Left answer rest' set'
       unfolding folded
       left-next more dropped =
           let e = lowest .same (l .rest-now) (l .rest-is) in

@@ -1,29 +1,38 @@
 -- The words of some numbers of a set are marked already, and the others are left.
 use mathlib.Core.Bool.{Bool, true, false, not, _&&_, _||_, or-false, and-true, and-false}
-use mathlib.Core.Path.{_≡_, refl, sym, ap, _∙_}
+use mathlib.Core.Path.{_≡_, refl, sym, ap, ap₂, _∙_}
 use mathlib.Core.List.{List}
-use Prim.Native.Nat.{ℕ, _^_, _<_}
+use Prim.Native.Nat.{ℕ}
 use native.Mathlib.Decide.{ℕ-discrete}
 use borrow.Author.Tests.{eqb-true, eq-eqb, ne-eqb}
 use lib.Bits.{bitOr}
 use lib.Dec.{eqb}
-use lib.ListN.{length, getD, set}
+use lib.ListN.{getD}
 use Rattle.lists.proofs.Truth.{and-left}
-use Rattle.sets.specs.Word.{dig, digit, count, less, only, Sub}
-use Rattle.sets.specs.Sets.{room, Is, size, Lowest, Dropped}
+use Rattle.sets.specs.Word.{dig, digit, count, either, less, only, Sub}
+use Rattle.sets.specs.Kinds.{Joint, Lowest, Dropped, SetAt}
+use Rattle.sets.specs.Sets.{Is, size, MarkedAt, oneWord}
 use Rattle.sets.specs.declared.Set.{Set}
-use Rattle.sets.proofs.Word.{one-shl}
+use Rattle.sets.proofs.Word.{or-word}
 use Rattle.sets.proofs.Digits.{dig-less}
 use Rattle.sets.proofs.Ones.{dig-none, only-is}
-use Rattle.sets.proofs.Numbers.{digit-word, digit-power, digit-stored}
+use Rattle.sets.proofs.Numbers.{digit-word}
 use Rattle.sets.proofs.Sets.{word-is, size-is}
 use Rattle.walk_edges.specs.Marks.{Marked}
 use Rattle.walk_edges.proofs.Firsts.{spread}
-use Rattle.walk_edges.proofs.Stored.{stored}
 
 -- the digits of a set's word
 pub digit-set : {x : Set} (mask : List Bool) → Is x mask → (u : ℕ) → digit (x .word) u ≡ dig mask u
 digit-set mask i u = ap (λ (m : ℕ). digit m u) (word-is i) ∙ digit-word mask u
+
+-- the word of a set that was read and joined with another
+pub joined-word : (words : List ℕ) (k : ℕ) {own x r : Set} (mask : List Bool) → SetAt oneWord words k own → Is x mask
+    → Joint oneWord own x r either → r .word ≡ bitOr (getD words k 0) (x .word)
+joined-word words k mask e i j =
+    let a = e .some .0 in
+    let ia = e .some .1 in
+    word-is (j a mask ia i) ∙ sym (or-word a mask)
+    ∙ ap₂ bitOr (sym (word-is ia) ∙ ap (λ (s : Set). s .word) (e .is)) (sym (word-is i))
 
 module _ (mask : List Bool) (k : ℕ) (words₀ : List ℕ) where
   pub record Half (rest : Set) (words : List ℕ) : Type 0 where
@@ -38,7 +47,8 @@ module _ (mask : List Bool) (k : ℕ) (words₀ : List ℕ) where
         rest-now = mask;
         rest-is = i;
         known = λ j t. t;
-        each = λ e u. sym (ap (λ (b : Bool). digit (getD words₀ e 0) u || (b && eqb u k)) (never (dig mask e)) ∙ or-false (digit (getD words₀ e 0) u));
+        each = λ e u. sym (ap (λ (b : Bool). digit (getD words₀ e 0) u || (b && eqb u k)) (never (dig mask e))
+            ∙ or-false (digit (getD words₀ e 0) u));
       }
     where
       never : (b : Bool) → (b && not b) ≡ false
@@ -53,23 +63,22 @@ module _ (mask : List Bool) (k : ℕ) (words₀ : List ℕ) where
         ∙ ap (λ (b : Bool). digit (getD words₀ e 0) u || (b && eqb u k))
         (ap (λ (b : Bool). dig mask e && not b) (dig-none (h .rest-now) z e) ∙ and-true (dig mask e))
 
-    module _ (x : ℕ) (lowest : Lowest rest x) where
+    module _ (x : ℕ) (lowest : Lowest oneWord rest x) where
       there : dig (h .rest-now) x ≡ true
       there = lowest .there (h .rest-now) (h .rest-is)
 
       pub half-known : dig mask x ≡ true
       half-known = h .known x there
 
-      pub half-next : {rest' : Set} → k < room → x < length words → Dropped rest x rest' → Half rest' (stored words x k)
-      half-next few low dropped =
+      pub half-next : {rest' : Set} (after : List ℕ) → MarkedAt words x k after → Dropped oneWord rest x rest' → Half rest' after
+      half-next after marks dropped =
           record {
             rest-now = less (h .rest-now) (only x);
             rest-is = dropped .same (h .rest-now) (h .rest-is);
             known = λ j t. h .known j (and-left (dig (h .rest-now) j) _ (sym (dig-less (h .rest-now) (only x) j) ∙ t));
             each = λ e u.
-                ap (λ (m : ℕ). digit (getD (set words x (bitOr (getD words x 0) m)) e 0) u) (one-shl room k few)
-                ∙ digit-stored words x (2 ^ k) e u low
-                ∙ (λ i. h .each e u i || (eqb e x && digit-power k u i))
+                marks e u
+                ∙ (λ i. h .each e u i || (eqb e x && eqb u k))
                 ∙ spread (digit (getD words₀ e 0) u) (dig mask e && not (dig (h .rest-now) e)) (eqb e x) (eqb u k)
                 ∙ ap (λ (b : Bool). digit (getD words₀ e 0) u || (b && eqb u k)) (go e (ℕ-discrete e x));
           }

@@ -5,17 +5,18 @@ use mathlib.Core.List.{List, [], map}
 use Prim.Native.Nat.{ℕ, _+_, _≤_, _<_}
 use native.Mathlib.Omega.{arith}
 use borrow.Author.Tests.{eq-eqb, ne-eqb, lt-ltb, le-ltb}
-use lib.Bits.{bitAnd}
 use lib.Dec.{eqb, ltb}
 use lib.IntN.{ℤ}
-use lib.ListN.{length, getD}
+use lib.ListN.{length}
 use Rattle.lists.specs.Lists.{upto}
 use Rattle.lists.proofs.Places.{made-length}
 use Rattle.sets.specs.Word.{dig, count, both, less}
-use Rattle.sets.specs.Sets.{Is, size}
+use Rattle.sets.specs.Kinds.{Joint, SetAt}
+use Rattle.sets.specs.Sets.{Is, size, oneWord, wides, Wide}
 use Rattle.sets.specs.declared.Set.{Set}
 use Rattle.sets.proofs.Digits.{length-less, dig-less}
-use Rattle.sets.proofs.Sets.{size-is, and-is}
+use Rattle.sets.proofs.Laws.{at-is}
+use Rattle.sets.proofs.Sets.{size-is, wides-laws}
 use Rattle.paper.specs.Drawing.{Wire}
 use Rattle.paper.specs.Loops.{Loop, loopAt, polygon}
 use Rattle.paper.specs.Clash.{folds}
@@ -117,33 +118,12 @@ module _ {xyz : List ℤ} {rows corners sides : List ℕ} {normals : List ℤ} {
   pub first-low : g < w .n
   first-low = omega (arith, w .after, w .there)
 
-  -- the words have those that they share
-  abbrev shared : Set
-  shared = record { word = bitAnd (getD corners g 0) (getD corners j 0) }
-
-  abbrev common : Set
-  common = record { word = bitAnd (getD sides g 0) (getD sides j 0) }
-
-  share-is : shareEnough (size shared) (size common) ≡ share (w .lent) g j
-  share-is =
-      let l = w .lent in
-      let c = size-is (and-is _ _ (l .own-are g first-low) (l .own-are j (w .there))) in
-      let s = size-is (and-is _ _ (l .sides-are g first-low) (l .sides-are j (w .there))) in
-      λ i. shareEnough (c i) (s i)
-
   -- how many corners they have
   abbrev first-long : Bool
   first-long = ltb 3 (length (here (w .lent) g))
 
   abbrev last-long : Bool
   last-long = ltb 3 (length (here (w .lent) j))
-
-  pub share-less : {b : Bool} → b ≡ shareEnough (size shared) (size common) → b ≡ false → PairFolds w false
-  share-less e z =
-      sym
-      (tests-are (w .lent) g j first-long last-long false refl refl (sym share-is ∙ sym e ∙ z)
-      ∙ ap (λ (b : Bool). ltb g j && (b && fold (w .lent) g j)) (and-false (first-long && last-long))
-      ∙ and-false (ltb g j))
 
   pub three-less : cornerCount rows j ≤ 3 → PairFolds w false
   three-less q =
@@ -153,13 +133,30 @@ module _ {xyz : List ℤ} {rows corners sides : List ℕ} {normals : List ℤ} {
       ∙ ap (λ (b : Bool). ltb g j && ((b && share (w .lent) g j) && fold (w .lent) g j)) (and-false first-long)
       ∙ and-false (ltb g j))
 
-  pub folds-are : {b : Bool} → b ≡ shareEnough (size shared) (size common) → b ≡ true → 3 < cornerCount rows j
-      → {r : Bool} → r ≡ ofRows folds xyz rows g j → PairFolds w r
-  folds-are e t q s =
-      let f = w .lent .faces in
-      let a = lt-ltb 3 (length (here (w .lent) g)) (omega (arith, w .long, corners-at f g first-low)) in
-      let b = lt-ltb 3 (length (here (w .lent) j)) (omega (arith, q, corners-at f j (w .there))) in
-      s ∙ (λ i. folds (polygon-at f g first-low i) (polygon-at f j (w .there) i))
-      ∙ sym
-      (tests-are (w .lent) g j true true true a b (sym share-is ∙ sym e ∙ t)
-      ∙ ap (λ (c : Bool). c && fold (w .lent) g j) (lt-ltb g j (w .after)))
+  -- the corners and the sides of the two, and what they share of each
+  module _ {x y shared : Set} (ax : SetAt oneWord corners g x) (ay : SetAt oneWord corners j y) (js : Joint oneWord x y shared both)
+      {u v common : Wide} (au : SetAt wides sides g u) (av : SetAt wides sides j v) (jc : Joint wides u v common both) where
+    share-is : shareEnough (size shared) (wides .size common) ≡ share (w .lent) g j
+    share-is =
+        let l = w .lent in
+        let c = size-is (js _ _ (at-is ax _ (l .own-are g first-low)) (at-is ay _ (l .own-are j (w .there)))) in
+        let s = wides-laws .size-is (jc _ _ (at-is au _ (l .sides-are g first-low)) (at-is av _ (l .sides-are j (w .there)))) in
+        λ i. shareEnough (c i) (s i)
+
+    pub share-less : {b : Bool} → b ≡ shareEnough (size shared) (wides .size common) → b ≡ false → PairFolds w false
+    share-less e z =
+        sym
+        (tests-are (w .lent) g j first-long last-long false refl refl (sym share-is ∙ sym e ∙ z)
+        ∙ ap (λ (b : Bool). ltb g j && (b && fold (w .lent) g j)) (and-false (first-long && last-long))
+        ∙ and-false (ltb g j))
+
+    pub folds-are : {b : Bool} → b ≡ shareEnough (size shared) (wides .size common) → b ≡ true → 3 < cornerCount rows j
+        → {r : Bool} → r ≡ ofRows folds xyz rows g j → PairFolds w r
+    folds-are e t q s =
+        let f = w .lent .faces in
+        let a = lt-ltb 3 (length (here (w .lent) g)) (omega (arith, w .long, corners-at f g first-low)) in
+        let b = lt-ltb 3 (length (here (w .lent) j)) (omega (arith, q, corners-at f j (w .there))) in
+        s ∙ (λ i. folds (polygon-at f g first-low i) (polygon-at f j (w .there) i))
+        ∙ sym
+        (tests-are (w .lent) g j true true true a b (sym share-is ∙ sym e ∙ t)
+        ∙ ap (λ (c : Bool). c && fold (w .lent) g j) (lt-ltb g j (w .after)))

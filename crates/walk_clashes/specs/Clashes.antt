@@ -7,8 +7,9 @@ use Prim.Native.Nat.{ℕ, _<_}
 use lib.IntN.{ℤ}
 use lib.ListN.{length, getD}
 use Rattle.sets.specs.Word.{either, less}
-use Rattle.sets.specs.Sets.{room, Is, maskAt}
+use Rattle.sets.specs.Sets.{Is, maskAt}
 use Rattle.sets.specs.declared.Set.{Set}
+use Rattle.paper.specs.Numbers.{mostCandidates}
 use Rattle.paper.specs.Drawing.{Wire}
 use Rattle.paper.specs.Loops.{Loop, loopAt, candidates}
 use Rattle.paper.specs.Solids.{tablesOf}
@@ -54,5 +55,5 @@ pub record CandidateLent (xyz : List ℤ) (rows near number on corner-words corn
 pub record ClashRoom (xyz : List ℤ) (rows near number on corner-words corners sides : List ℕ) (normals : List ℤ) (n : ℕ)
     (words : List ℕ) : Type 0 where
   pub lent : ClashLent xyz rows near number on corner-words corners sides normals n
-  pub whole : length words ≡ room
+  pub whole : length words ≡ mostCandidates
   pub none : (k : ℕ) → getD words k 0 ≡ 0

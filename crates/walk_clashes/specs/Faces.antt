@@ -5,7 +5,6 @@ use mathlib.Core.List.{List}
 use Prim.Native.Nat.{ℕ, _*_, _≤_, _<_}
 use lib.IntN.{ℤ, pos}
 use lib.ListN.{length, getD}
-use Rattle.sets.specs.Sets.{room}
 use Rattle.paper.specs.Numbers.{mostCandidates}
 use Rattle.paper.specs.Polygon.{normal}
 use Rattle.paper.specs.Drawing.{Wire, wire}
@@ -26,7 +25,7 @@ pub record DrawnFaces (xyz : List ℤ) (rows : List ℕ) (n : ℕ) : Type 0 wher
   pub of : LoopsOf (wire xyz ends) loops
   pub held : HoldsRows rows loops
   pub count : n ≡ length loops
-  pub most : n ≤ room
+  pub most : n ≤ mostCandidates
 
 -- the drawing
 abbrev pub drawingOf : {xyz : List ℤ} {rows : List ℕ} {n : ℕ} → DrawnFaces xyz rows n → Wire

@@ -7,9 +7,9 @@ use lib.Dec.{eqb}
 use lib.ListN.{length, getD}
 use Rattle.lists.specs.Lists.{member}
 use Rattle.sets.specs.Word.{dig, digit}
-use Rattle.sets.specs.Sets.{room, Is, maskAt}
+use Rattle.sets.specs.Sets.{Is, maskAt}
 use Rattle.sets.specs.declared.Set.{Set}
-use Rattle.paper.specs.Numbers.{mostVertices}
+use Rattle.paper.specs.Numbers.{mostVertices, mostCandidates}
 use Rattle.paper.specs.Drawing.{Wire}
 use Rattle.paper.specs.Loops.{Loop, loopAt}
 use Rattle.fast_tables.specs.Hits.{cornerMask}
@@ -20,7 +20,7 @@ pub record MarkRoom (words : List ℕ) (set : Set) (k : ℕ) : Type 0 where
   pub mask : List Bool
   pub mask-is : Is set mask
   pub low : (j : ℕ) → dig mask j ≡ true → j < length words
-  pub few : k < room
+  pub few : k < mostCandidates
 
 -- the number is in their words, and all else is as before
 pub record MarkedBy (set : Set) (k : ℕ) (words₀ words : List ℕ) : Type 0 where
@@ -32,8 +32,8 @@ pub record MarkedBy (set : Set) (k : ℕ) (words₀ words : List ℕ) : Type 0 w
 pub record BothRoom (words : List ℕ) (set : Set) (k : ℕ) : Type 0 where
   pub mask : List Bool
   pub mask-is : Is set mask
-  pub whole : length words ≡ room
-  pub few : k < room
+  pub whole : length words ≡ mostCandidates
+  pub few : k < mostCandidates
 
 pub record BothBy (set : Set) (k : ℕ) (words₀ words : List ℕ) : Type 0 where
   pub marked : (mask : List Bool) → Is set mask → (e u : ℕ)
@@ -47,7 +47,7 @@ pub record CornersOf (corners : List ℕ) (n : ℕ) : Type 0 where
   pub small : length (drawing .vertices) ≤ mostVertices
   pub loops : List Loop
   pub count : n ≡ length loops
-  pub most : n ≤ room
+  pub most : n ≤ mostCandidates
   pub each : (k : ℕ) → k < n → Is (maskAt corners k) (cornerMask drawing (loopAt loops k))
 
 -- and a word for each vertex, with nothing in it

@@ -11,9 +11,10 @@ use paper::MOST_CANDIDATES;
 use polygon::rings::count;
 use polygon::rings::point_at;
 use sets::Set;
+use sets::Wide;
 
 // Two candidates with these corners and sides in common share three corners, or two that are no common side.
-fn may_fold(shared: Set, common: Set) -> bool
+fn may_fold(shared: Set, common: Wide) -> bool
     ensures { λ r. ⌜ r ≡ shareEnough (size shared) (size common) ⌝ }
 {
     if shared.is_empty() {
@@ -44,12 +45,8 @@ fn folds_with(
     ensures { λ r. ⌜ ((w : PairLent (now (xyz .entry)) (now (rows .entry)) (now (corners .entry)) (now (sides .entry))
         (now (normals .entry)) g j) → PairFolds w r) ⌝ }
 {
-    let shared = Set {
-        word: corners[g] & corners[j],
-    };
-    let common = Set {
-        word: sides[g] & sides[j],
-    };
+    let shared = Set::at(corners, g).and(Set::at(corners, j));
+    let common = Wide::at(sides, g).and(Wide::at(sides, j));
     if !may_fold(shared, common) {
         return false;
     }
@@ -68,9 +65,9 @@ fn join_fold(
     normals: &[i64; NORMALS],
     g: usize,
     j: usize,
-    known: Set,
-    set: Set,
-) -> Set
+    known: Wide,
+    set: Wide,
+) -> Wide
     requires { ⌜ PairLent (now xyz) (now rows) (now corners) (now sides) (now normals) g j ⌝ }
     ensures { λ r. ⌜ ((w : PairLent (now (xyz .entry)) (now (rows .entry)) (now (corners .entry)) (now (sides .entry))
         (now (normals .entry)) g j) → PairJoins w known set r) ⌝ }
@@ -93,13 +90,13 @@ pub fn fold_set(
     sides: &[u64; MOST_CANDIDATES],
     normals: &[i64; NORMALS],
     g: usize,
-    known: Set,
-) -> Set
+    known: Wide,
+) -> Wide
     requires { ⌜ FoldStart (now xyz) (now rows) (now corners) (now sides) (now normals) n g ⌝ }
     ensures { λ r. ⌜ ((w : FoldLent (now (xyz .entry)) (now (rows .entry)) (now (corners .entry)) (now (sides .entry))
         (now (normals .entry)) n) → FoldsAfter w g known r) ⌝ }
 {
-    let mut found = Set::none();
+    let mut found = Wide::none();
     if count(rows, g) <= LEAST_CORNERS {
         return found;
     }

@@ -22,6 +22,7 @@ use polygon::rings::corner;
 use polygon::rings::plane_side;
 use polygon::rings::point_at;
 use sets::Set;
+use sets::Wide;
 
 // Vertices by the side of a plane that they are on.
 pub struct Sides {
@@ -110,8 +111,8 @@ fn join_edge(
     m: Point,
     a: usize,
     b: usize,
-    set: Set,
-) -> Set
+    set: Wide,
+) -> Wide
     requires { ⌜ EdgeLent (now xyz) (now rows) (now number) (now on) g m a b ⌝ }
     ensures { λ r. ⌜ ((w : EdgeLent (now (xyz .entry)) (now (rows .entry)) (now (number .entry)) (now (on .entry)) g m a b)
         → EdgeJoins w set r) ⌝ }
@@ -120,7 +121,7 @@ fn join_edge(
         return set;
     }
     let e = wide(number[MOST_VERTICES * a + b]);
-    let faces = Set { word: on[e] };
+    let faces = Wide::at(on, e);
     set.or(faces)
 }
 
@@ -134,8 +135,8 @@ fn join_edges(
     m: Point,
     a: usize,
     under: Set,
-    set: Set,
-) -> Set
+    set: Wide,
+) -> Wide
     requires { ⌜ DownStart (now xyz) (now rows) (now number) (now on) g m a under set ⌝ }
     ensures { λ r. ⌜ ((w : DownLent (now (xyz .entry)) (now (rows .entry)) (now (number .entry)) (now (on .entry)) g m a under)
         → DownJoins w set r) ⌝ }
@@ -160,17 +161,17 @@ fn piercing(
     g: usize,
     m: Point,
     s: Sides,
-) -> Set
+) -> Wide
     requires { ⌜ PierceLent (now xyz) (now rows) (now near) (now number) (now on) g m s ⌝ }
     ensures { λ r. ⌜ ((w : PierceLent (now (xyz .entry)) (now (rows .entry)) (now (near .entry)) (now (number .entry))
         (now (on .entry)) g m s) → Through w r) ⌝ }
 {
     let below = s.below;
     let mut open = s.above;
-    let mut found = Set::none();
+    let mut found = Wide::none();
     while !open.is_empty() {
         let a = open.lowest();
-        let tied = Set { word: near[a] };
+        let tied = Set::at(near, a);
         found = join_edges(xyz, rows, number, on, g, m, a, tied.and(below), found);
         open = open.without(a);
     }
@@ -185,15 +186,15 @@ fn join_vertex(
     g: usize,
     m: Point,
     v: usize,
-    set: Set,
-) -> Set
+    set: Wide,
+) -> Wide
     requires { ⌜ VertexLent (now xyz) (now rows) (now at) g m v ⌝ }
     ensures { λ r. ⌜ ((w : VertexLent (now (xyz .entry)) (now (rows .entry)) (now (at .entry)) g m v) → VertexJoins w set r) ⌝ }
 {
     if !lies_inside(xyz, rows, g, m, point_at(xyz, v), 1) {
         return set;
     }
-    let faces = Set { word: at[v] };
+    let faces = Wide::at(at, v);
     set.or(faces)
 }
 
@@ -205,12 +206,12 @@ fn entering(
     g: usize,
     m: Point,
     asked: Set,
-) -> Set
+) -> Wide
     requires { ⌜ EnterLent (now xyz) (now rows) (now at) g m asked ⌝ }
     ensures { λ r. ⌜ ((w : EnterLent (now (xyz .entry)) (now (rows .entry)) (now (at .entry)) g m asked) → Inside w r) ⌝ }
 {
     let mut open = asked;
-    let mut found = Set::none();
+    let mut found = Wide::none();
     while !open.is_empty() {
         let v = open.lowest();
         found = join_vertex(xyz, rows, at, g, m, v, found);
@@ -230,14 +231,14 @@ pub fn hit_set(
     corners: &[u64; MOST_CANDIDATES],
     normals: &[i64; NORMALS],
     g: usize,
-) -> Set
+) -> Wide
     requires { ⌜ HitLent (now xyz) (now rows) (now near) (now number) (now on) (now at) (now corners) (now normals) g ⌝ }
     ensures { λ r. ⌜ ((w : HitLent (now (xyz .entry)) (now (rows .entry)) (now (near .entry)) (now (number .entry))
         (now (on .entry)) (now (at .entry)) (now (corners .entry)) (now (normals .entry)) g) → Hits w r) ⌝ }
 {
     let m = point_at(normals, g);
     let o = corner(xyz, rows, g, 0);
-    let own = Set { word: corners[g] };
+    let own = Set::at(corners, g);
     let s = sort_vertices(xyz, m, o);
     let flat = s.flat;
     let through = piercing(xyz, rows, near, number, on, g, m, s);

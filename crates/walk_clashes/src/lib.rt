@@ -20,7 +20,7 @@ use paper::Point;
 use polygon::points::dot;
 use polygon::rings::corner;
 use polygon::rings::normal;
-use sets::Set;
+use sets::Wide;
 
 // Three numbers for each candidate: its normal.
 pub const NORMALS: usize = 3 * MOST_CANDIDATES;
@@ -81,8 +81,8 @@ fn clash_set(
     sides: &[u64; MOST_CANDIDATES],
     normals: &[i64; NORMALS],
     g: usize,
-    known: Set,
-) -> Set
+    known: Wide,
+) -> Wide
     requires { ⌜ CandidateLent (now xyz) (now rows) (now near) (now number) (now on) (now at) (now corners) (now sides) (now normals)
         n g ⌝ }
     ensures { λ r. ⌜ ((w : ClashLent (now (xyz .entry)) (now (rows .entry)) (now (near .entry)) (now (number .entry)) (now (on .entry))
@@ -114,7 +114,7 @@ pub fn clash_words(
 {
     let mut g = 0;
     while g < n {
-        let known = Set::at(words, g);
+        let known = Wide::at(words, g);
         let set = clash_set(
             xyz,
             rows,

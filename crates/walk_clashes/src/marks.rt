@@ -5,6 +5,7 @@ ghost use Rattle.walk_clashes.specs.Marking.{CornersOf, CornerRoom, Vert
 use paper::MOST_CANDIDATES;
 use paper::MOST_VERTICES;
 use sets::Set;
+use sets::Wide;
 
 // Number k goes into the words of all in the set.
 pub fn mark_all(words: &mut [u64], set: Set, k: usize)
@@ -14,17 +15,18 @@ pub fn mark_all(words: &mut [u64], set: Set, k: usize)
     let mut open = set;
     while !open.is_empty() {
         let j = open.lowest();
-        words[j] = words[j] | 1u64 << k;
+        Wide::mark(words, j, k);
         open = open.without(j);
     }
 }
 
 // Both ways: the set goes into the word of k too.
-pub fn mark_both(words: &mut [u64; MOST_CANDIDATES], set: Set, k: usize)
+pub fn mark_both(words: &mut [u64; MOST_CANDIDATES], set: Wide, k: usize)
     requires { ⌜ BothRoom (now words) set k ⌝ }
     ensures { λ _. ⌜ BothBy set k (now (words .entry)) (now (words .exit)) ⌝ }
 {
-    words[k] = words[k] | set.word;
+    let own = Wide::at(words, k);
+    Wide::put(words, k, own.or(set));
     mark_all(words, set, k);
 }
 
@@ -35,7 +37,7 @@ pub fn vertex_words(corners: &[u64; MOST_CANDIDATES], n: usize, at: &mut [u64; M
 {
     let mut k = 0;
     while k < n {
-        let set = Set { word: corners[k] };
+        let set = Set::at(corners, k);
         mark_all(at, set, k);
         k += 1;
     }

@@ -47,11 +47,16 @@ past-end a k h = never-true (dig a k) (λ t. let s = dig-lt a k t in omega (arit
 
 module _ {A : Type 0} (z : A) (f : A → Loop → Bool) (es : List A) (cs : List Loop) where
   -- all candidates: the words are those of a table with a mask for each edge, or for each of other things that candidates have
-  pub columns-all : (words : List ℕ) (n : ℕ) → n ≡ length cs → n ≤ wides .room → length es ≤ wides .room → Columns (λ l. map (λ e. f e l) es) cs words n
+  pub columns-all : (words : List ℕ) (n : ℕ) → n ≡ length cs → n ≤ wides .room → length es ≤ wides .room
+      → Columns (λ l. map (λ e. f e l) es) cs words n
       → Masks words (map (λ e. map (f e) cs) es)
   unfolding packedSet
   columns-all words n q most few s =
-      record { few = omega (arith, length-map es (λ e. map (f e) cs)); at = λ e h. at e (omega (arith, h, length-map es (λ e. map (f e) cs))) }
+      record {
+        few = omega (arith, length-map es (λ e. map (f e) cs));
+        at = λ e h. at e
+            (omega (arith, h, length-map es (λ e. map (f e) cs)));
+      }
     where
       digits-are : (e : ℕ) → e < length es → (u : ℕ) (b : Bool) → ltb u n ≡ b
           → digit (getD words e 0) u ≡ dig (map (f (getD es e z)) cs) u
@@ -100,7 +105,11 @@ unfolding tablesOf packedSet sideMask
 sides-held d cs words few held none =
     record {
       few = omega (arith, length-map (d .edges) (λ e. map (has e) cs));
-      at = λ k h. record { short = omega (arith, column-length has cs k (d .edges)); words = λ i. record { word = go k (ltb k (length cs)) refl i } };
+      at = λ k h. record {
+        short = omega
+            (arith, column-length has cs k (d .edges));
+        words = λ i. record { word = go k (ltb k (length cs)) refl i };
+      };
     }
   where
     go : (k : ℕ) (b : Bool) → ltb k (length cs) ≡ b → getD words k 0 ≡ word (edgesWith (map (λ e. map (has e) cs) (d .edges)) k)

@@ -12,7 +12,6 @@ use lib.Seq.{take-all}
 use Rattle.exact.specs.Size.{Within}
 use Rattle.lists.specs.Lists.{upto}
 use Rattle.lists.proofs.Places.{upto-length}
-use Rattle.sets.specs.Sets.{room}
 use Rattle.paper.specs.Numbers.{mostLoops, mostCandidates, documented}
 use Rattle.paper.specs.Refusals as No
 use Rattle.paper.specs.Refusals.{check, firstOf, offends, refuse}
@@ -139,7 +138,7 @@ module _ {xyz : List ℤ} {ends near number : List ℕ} (drawn : DrawnBy xyz end
   unfolding tablesOf
   small-sixes before = record { small = λ k h. go k h (ltb k c) refl }
     where
-      go : (k : ℕ) → k < room → (b : Bool) → ltb k c ≡ b → Within mostPart (getD (tables .sixes) k (pos 0))
+      go : (k : ℕ) → k < mostCandidates → (b : Bool) → ltb k c ≡ b → Within mostPart (getD (tables .sixes) k (pos 0))
       go k h true e =
           subst (Within mostPart) (sym (made .sixes-are .at k (omega (arith, lent .sixes-are, ltb-true k c e)))) (made .sixes-are .small k)
       go k h false e = subst (Within mostPart) (sym (made .later k (ltb-false k c e))) (before .small k h)

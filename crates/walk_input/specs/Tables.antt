@@ -4,7 +4,6 @@ use mathlib.Core.Path.{_≡_}
 use Prim.Native.Nat.{ℕ, _≤_, _/_}
 use lib.IntN.{ℤ}
 use lib.ListN.{length, getD}
-use Rattle.sets.specs.Sets.{room}
 use Rattle.paper.specs.Numbers.{mostCandidates, faceRoom, documented}
 use Rattle.paper.specs.Refusals.{Check, firstOf}
 use Rattle.paper.specs.Drawing.{Wire, wire, drawingChecks}
@@ -37,7 +36,7 @@ pub record Ready (xyz : List ℤ) (ends rows₀ rows : List ℕ) (tables : WalkT
   pub fine : Answer.Fine ≡ firstOf (checksOf (wire xyz ends))
   pub loops-are : c .loops ≡ length (loops (wire xyz ends))
   pub candidates-are : c .candidates ≡ length (candidates (wire xyz ends))
-  pub few : c .candidates ≤ room
+  pub few : c .candidates ≤ mostCandidates
   pub rows-are : rows ≡ rowsAfter (candidates (wire xyz ends)) rows₀
   pub small : SmallSixes (tables .sixes)
   pub lent : Lent tables (length ends / 2) (c .candidates) (tablesOf (wire xyz ends) (candidates (wire xyz ends)))

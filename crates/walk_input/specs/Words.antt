@@ -5,7 +5,6 @@ use mathlib.Core.Path.{_≡_}
 use Prim.Native.Nat.{ℕ, _≤_}
 use lib.IntN.{ℤ, pos}
 use lib.ListN.{length, getD}
-use Rattle.sets.specs.Sets.{room}
 use Rattle.paper.specs.Numbers.{mostCandidates, faceRoom}
 use Rattle.paper.specs.Drawing.{Wire, wire}
 use Rattle.paper.specs.Loops.{candidates}
@@ -21,7 +20,7 @@ pub record CandidatesListed (xyz : List ℤ) (rows : List ℕ) (n : ℕ) (near n
   pub ends : List ℕ
   pub drawn : DrawnBy xyz ends near number
   pub count : n ≡ length (candidates (wire xyz ends))
-  pub most : n ≤ room
+  pub most : n ≤ mostCandidates
   pub held : HoldsRows rows (candidates (wire xyz ends))
   pub corners-are : HoldsWords (cornerMask (wire xyz ends)) corners (candidates (wire xyz ends))
   pub sides-are : HoldsWords (sideMask (wire xyz ends)) sides (candidates (wire xyz ends))
@@ -36,7 +35,7 @@ drawingListed {xyz} l = wire xyz (l .ends)
 pub record EmptyRooms (tables : WalkTables) : Type 0 where
   pub on-clear : Unmarked (tables .on)
   pub up-clear : Unmarked (tables .up)
-  pub clash-room : length (tables .clashes) ≡ room
+  pub clash-room : length (tables .clashes) ≡ mostCandidates
   pub no-clash : (k : ℕ) → getD (tables .clashes) k 0 ≡ 0
   pub six-room : length (tables .sixes) ≡ mostCandidates
 

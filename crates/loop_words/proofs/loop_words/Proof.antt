@@ -21,7 +21,8 @@ use Rattle.loop_words.proofs.loop_words.Statement.{statement}
 use Rattle.loop_words.proofs.loop_words.Tie as tie
 
 -- what the loop keeps, of every drawing and loops that the rows are
-record Kept {table : List ℕ} {n : ℕ} {number : List ℕ} (w : DrawnTable table n number) (corners₀ corners sides₀ sides : List ℕ) (k : ℕ) : Type 0 where
+record Kept {table : List ℕ} {n : ℕ} {number : List ℕ} (w : DrawnTable table n number) (corners₀ corners sides₀ sides : List ℕ)
+    (k : ℕ) : Type 0 where
   pub not-past : k ≤ n
   pub corners-in : corners ≡ wordsAfter (cornerMask (w .drawing)) (take k (w .loops)) corners₀
   pub sides-in : sides ≡ wordsAfter (sideMask (w .drawing)) (take k (w .loops)) sides₀
@@ -146,4 +147,5 @@ returns c w =
 pub loop-words-spec : {M : Type 1} → statement M
 loop-words-spec =
     tie.close
-    (tie.spec Inv-loop μ-loop loop-holds row-words-requires put-requires put-requires-2 (λ c. omega arith) (λ c. omega arith) loop-again returns)
+    (tie.spec Inv-loop μ-loop loop-holds row-words-requires put-requires put-requires-2 (λ c. omega arith)
+    (λ c. omega arith) loop-again returns)

@@ -174,10 +174,12 @@ returns c w =
     let d = w .drawing in
     record {
       corners =
-          gathered-all oneWord (λ j. getD (w .loop) j 0) n one-word-laws (l .i) e (cornerMask d (w .loop)) (omega (arith, corners-long d (w .loop), w .small .vertices))
+          gathered-all oneWord (λ j. getD (w .loop) j 0) n one-word-laws (l .i) e (cornerMask d (w .loop))
+          (omega (arith, corners-long d (w .loop), w .small .vertices))
           (corners-are d (w .loop) (w .path)) (k .corners-in);
       sides =
-          gathered-all wides (sideNumber number (w .loop)) n wides-laws (l .i) e (sideMask d (w .loop)) (omega (arith, sides-long d (w .loop), w .small .edges))
+          gathered-all wides (sideNumber number (w .loop)) n wides-laws (l .i) e (sideMask d (w .loop))
+          (omega (arith, sides-long d (w .loop), w .small .edges))
           (sides-are d (w .loop) (w .path) number (w .small .numbered)) (k .sides-in);
     }
 
@@ -185,5 +187,6 @@ pub row-words-spec : {M : Type 1} → statement M
 row-words-spec =
     tie.close
     (tie.spec Inv-loop μ-loop mul-first shared-slice-read-wide (λ c κs. search needs) add-wide shared-slice-read-wide-2
-    (λ c κs. search needs) (λ c κs. search needs) (λ c κs. search needs) loop-holds add-wide-2 add-wide-3 shared-slice-read-wide-3 (λ c κs. search needs) mul-wide add-wide-4
+    (λ c κs. search needs) (λ c κs. search needs) (λ c κs. search needs) loop-holds add-wide-2 add-wide-3 shared-slice-read-wide-3
+    (λ c κs. search needs) mul-wide add-wide-4
     element-copy-out-wide (λ c κs. search needs) with-requires with-requires-2 (λ c. omega arith) (λ c. omega arith) loop-again returns)

@@ -7,7 +7,7 @@ use lib.ListN.{length, set}
 use denote.Ref.{now}
 use borrow.Author.Needs.{needs}
 use borrow.Author.Tests.{not-true, not-false}
-use Rattle.sets.specs.declared.Set.{Set}
+use Rattle.sets.specs.Sets.{Wide}
 use Rattle.verdict_faces.proofs.Passing.{Numbered, numbered-start, numbered-hit, numbered-on, numbered-back, numbered-end}
 use Rattle.verdict_faces.proofs.number_faces.Statement.{statement}
 use Rattle.verdict_faces.proofs.number_faces.Tie as tie
@@ -79,7 +79,7 @@ loop-again c =
     let l = t .loop in
     let a = start t .args in
     let p = start t .pre in
-    let to : Set → Type 0 = λ u.
+    let to : Wide → Type 0 = λ u.
     Numbered (now (a .faces)) (a .count) (now (a .rows)) (a .n) (now (a .numbers)) (set (l .numbers) (l .i) (k .result)) u (l .i + 1) in
     let o = w .way-of .ensures .onward-is in
     let m : k .result < a .n = omega (arith, e .if1 .left) in

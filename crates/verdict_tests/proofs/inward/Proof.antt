@@ -8,13 +8,13 @@ use mir.Syntax.{w64}
 use mir.Val.{ofZ}
 use Rattle.exact.proofs.Machine.{Env, _▸_, done, lit, lt-left, lt-taken, value}
 use Rattle.exact.proofs.Ring.{var}
-use Rattle.sets.specs.Sets.{room}
+use Rattle.paper.specs.Numbers.{mostCandidates}
 use Rattle.walk_tables.specs.Words.{mostPart}
 use Rattle.verdict_tests.proofs.Volumes.{six-above, six-not}
 use Rattle.verdict_tests.proofs.inward.Statement.{statement}
 use Rattle.verdict_tests.proofs.inward.Tie as tie
 
-env : (c : tie.After-weight) → Env (room * mostPart ∷ []) (ofZ w64 (c .weight .result) ∷ []) (c .weight .result ∷ [])
+env : (c : tie.After-weight) → Env (mostCandidates * mostPart ∷ []) (ofZ w64 (c .weight .result) ∷ []) (c .weight .result ∷ [])
 env c = c .weight .ensures .small ▸ done
 
 returns : tie.Need-returns

@@ -5,8 +5,7 @@ use mathlib.Core.Path.{_∙_, ap, sym}
 use native.Mathlib.Omega.{arith}
 use borrow.Author.Needs.{needs}
 use lib.ListN.{length}
-use Rattle.sets.specs.Word.{count}
-use Rattle.sets.proofs.Sets.{size-is}
+use Rattle.sets.proofs.Sets.{wides-laws}
 use Rattle.paper.specs.Refusals.{EdgeMeets}
 use Rattle.paper_laws.proofs.Checks.{clear, passes, stops}
 use Rattle.fast_meets.specs.Pairs.{offenders}
@@ -18,14 +17,16 @@ use Rattle.drawing_rules.proofs.meets.lowest.Tie as tie
 returns : tie.Need-returns
 returns c = λ d i.
     let n = c .before .count .ensures .size-is in
-    clear ∙ passes EdgeMeets [] (sym (lowest-none (offenders d) (length (d .edges)) (omega (arith, n, size-is i, c .if1 .taken))))
+    clear ∙ passes EdgeMeets []
+    (sym (lowest-none (offenders d) (length (d .edges)) (omega (arith, n, wides-laws .size-is i, c .if1 .taken))))
 
 returns-2 : tie.Need-returns-2
 returns-2 c = λ d i.
     let l = c .before in
     let e = l .before in
     let n = e .before .count .ensures .size-is in
-    let here = lowest-first (offenders d) (length (d .edges)) (offenders-below d) (λ z. omega (arith, z, n, size-is i, e .if1 .left)) in
+    let here = lowest-first (offenders d) (length (d .edges)) (offenders-below d)
+    (λ z. omega (arith, z, n, wides-laws .size-is i, e .if1 .left)) in
     c .refused .ensures ∙ stops EdgeMeets [] (ap some (l .lowest .ensures .same (offenders d) i) ∙ sym here)
 
 pub lowest-spec : {M : Type 1} → statement M

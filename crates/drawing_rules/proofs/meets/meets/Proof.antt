@@ -6,8 +6,7 @@ use Prim.Native.Nat.{_-_, _≤_, ℕ}
 use native.Mathlib.Omega.{arith}
 use lib.ListN.{length}
 use denote.Ref.{now}
-use Rattle.sets.specs.Sets.{Is}
-use Rattle.sets.specs.declared.Set.{Set}
+use Rattle.sets.specs.Sets.{wides, Wide}
 use Rattle.paper.specs.Drawing.{Wire, wire}
 use Rattle.drawing_segments.specs.declared.Both.{Both}
 use Rattle.fast_meets.specs.Pairs.{mark, laterMarked, meetAt, pairMarked}
@@ -17,10 +16,10 @@ use Rattle.drawing_rules.proofs.meets.meets.Statement.{statement}
 use Rattle.drawing_rules.proofs.meets.meets.Tie as tie
 
 -- what the loop keeps, of edge e of the drawing d
-record Marking (d : Wire) (e n : ℕ) (hit met : Set) (f : ℕ) : Type 0 where
+record Marking (d : Wire) (e n : ℕ) (hit met : Wide) (f : ℕ) : Type 0 where
   pub not-past : f ≤ n
   pub whole : n ≡ length (d .edges)
-  pub left : (w : List Bool) → Is hit w → (u : List Bool) × Is met u × (laterMarked d e w ≡ restOf d e f u)
+  pub left : (w : List Bool) → wides .Is hit w → (u : List Bool) × wides .Is met u × (laterMarked d e w ≡ restOf d e f u)
 
 abbrev Inv-loop : tie.InvT-loop
 Inv-loop xyz v ends low high e n met₀ f₀ met f = Marking (wire xyz ends) e n met₀ met f
@@ -78,7 +77,7 @@ loop-again c =
           let u = r .0 in
           let marked = ap (λ (b : Both). mark (b .second) (l .f) (mark (b .first) (a .e) u)) (p .pair .ensures) in (
             pairMarked (meetAt d) (a .e) (l .f) u,
-            subst (Is (c .mark-both .result)) marked (c .mark-both .ensures u (r .1)),
+            subst (wides .Is (c .mark-both .result)) marked (c .mark-both .ensures u (r .1)),
             r .2 ∙ rest-turn d (a .e) (l .f) u (omega (arith, l .inv .whole)),
           );
     }
@@ -89,7 +88,7 @@ returns c = λ w i.
     let s = start (c .before) in
     let d = wire (now (s .args .xyz)) (now (s .args .ends)) in
     let r = l .inv .left w i in
-    subst (Is (l .met)) (sym (r .2 ∙ rest-end d (s .args .e) (l .f) (r .0) (omega (arith, l .inv .whole)))) (r .1)
+    subst (wides .Is (l .met)) (sym (r .2 ∙ rest-end d (s .args .e) (l .f) (r .0) (omega (arith, l .inv .whole)))) (r .1)
 
 pub meets-spec : {M : Type 1} → statement M
 meets-spec =

@@ -7,8 +7,7 @@ use native.Mathlib.Omega.{arith}
 use borrow.Author.Needs.{needs}
 use lib.ListN.{length}
 use denote.Ref.{now}
-use Rattle.sets.specs.Sets.{Is}
-use Rattle.sets.specs.declared.Set.{Set}
+use Rattle.sets.specs.Sets.{wides, Wide}
 use Rattle.paper.specs.Drawing.{Wire, wire}
 use Rattle.fast_meets.specs.Pairs.{laterMarked, offenders}
 use Rattle.fast_meets.proofs.Steps.{pairs-end, pairs-start, pairs-turn, pairsOf}
@@ -17,10 +16,10 @@ use Rattle.drawing_rules.proofs.meets.offenders.Statement.{statement}
 use Rattle.drawing_rules.proofs.meets.offenders.Tie as tie
 
 -- what the loop keeps
-record Marking (d : Wire) (n : ℕ) (hit : Set) (e : ℕ) : Type 0 where
+record Marking (d : Wire) (n : ℕ) (hit : Wide) (e : ℕ) : Type 0 where
   pub not-past : e ≤ n
   pub whole : n ≡ length (d .edges)
-  pub left : (w : List Bool) × Is hit w × (offenders d ≡ pairsOf d e w)
+  pub left : (w : List Bool) × wides .Is hit w × (offenders d ≡ pairsOf d e w)
 
 abbrev Inv-loop : tie.InvT-loop
 Inv-loop xyz v ends low high n hit₀ e₀ hit e = Marking (wire xyz ends) n hit e
@@ -68,7 +67,7 @@ returns c =
     let a = start (c .before) .args in
     let d = wire (now (a .xyz)) (now (a .ends)) in
     let r = l .inv .left in
-    subst (Is (l .hit)) (sym (r .2 ∙ pairs-end d (l .e) (r .0) (omega (arith, l .inv .whole)))) (r .1)
+    subst (wides .Is (l .hit)) (sym (r .2 ∙ pairs-end d (l .e) (r .0) (omega (arith, l .inv .whole)))) (r .1)
 
 pub offenders-spec : {M : Type 1} → statement M
 offenders-spec =

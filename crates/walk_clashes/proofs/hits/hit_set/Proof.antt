@@ -3,6 +3,7 @@ use mathlib.Core.Path.{_∙_}
 use native.Mathlib.Omega.{arith}
 use denote.Ref.{now}
 use borrow.Author.Needs.{needs}
+use Rattle.sets.proofs.Laws.{at-is}
 use Rattle.fast_tables.specs.Words.{hitMask}
 use Rattle.polygon.proofs.Planes.{face-normal}
 use Rattle.polygon.proofs.Rows.{corner-in, corner-near}
@@ -17,8 +18,11 @@ use Rattle.walk_clashes.proofs.hits.hit_set.Tie as tie
 abbrev start : tie.After-point-at → tie.Start
 start c = c .before .before .before
 
+abbrev read : tie.After-flat → tie.After-at
+read c = c .before .before
+
 abbrev level : tie.After-flat → tie.After-corner
-level c = c .before .before .before
+level c = read c .before .before
 
 abbrev made : tie.After-flat → tie.After-point-at
 made c = level c .before
@@ -27,12 +31,19 @@ made c = level c .before
 abbrev HitAt : tie.Start → Type 0
 HitAt s =
     let a = s .args in
-    HitLent (now (a .xyz)) (now (a .rows)) (now (a .near)) (now (a .number)) (now (a .on)) (now (a .at)) (now (a .corners)) (now (a .normals)) (a .g)
+    HitLent (now (a .xyz)) (now (a .rows)) (now (a .near)) (now (a .number)) (now (a .on)) (now (a .at)) (now (a .corners))
+    (now (a .normals)) (a .g)
 
 -- row g with its normal
 known : (c : tie.After-point-at) → HitAt (start c)
     → let a = start c .args in KnownFace (now (a .xyz)) (now (a .rows)) (a .g) (c .point-at .result)
-known c w = record { n = w .n; faces = w .all .faces; there = w .there; across = c .point-at .ensures ∙ w .all .normals-are .each _ (w .there) }
+known c w = record {
+  n = w .n;
+  faces = w .all .faces;
+  there = w .there;
+  across = c .point-at .ensures
+      ∙ w .all .normals-are .each _ (w .there);
+}
 
 -- what rules A and B are asked of
 pierce : (c : tie.After-flat) → HitAt (start (made c))
@@ -61,7 +72,8 @@ enter c w =
     let s = f .before .sort-vertices .ensures in
     record {
       lent = record { known = k; at-are = w .all .at-are };
-      asked-is = c .minus .ensures .same _ _ (flat-is k (level f .corner .ensures) (s .flat-in)) (w .all .own-are _ (w .there));
+      asked-is = c .minus .ensures .same _ _ (flat-is k (level f .corner .ensures) (s .flat-in))
+          (at-is (read f .at .ensures) _ (w .all .own-are _ (w .there)));
     }
 
 -- ---- the needs
@@ -74,9 +86,12 @@ point-at-requires c κs =
 corner-requires : tie.Need-corner-requires
 corner-requires c κs = corner-in (face-of (known c (start c .pre)) .row) _ (omega arith)
 
+at-requires : tie.Need-at-requires
+at-requires c κs = let w = start (c .before .before) .pre in omega (arith, w .there, w .all .faces .most)
+
 sort-vertices-requires : tie.Need-sort-vertices-requires
 sort-vertices-requires c κs =
-    let l = c .before in
+    let l = c .before .before in
     let w = start (l .before) .pre in
     let f = face-of (known (l .before) w) in
     record {
@@ -102,5 +117,5 @@ returns c w =
 pub hit-set-spec : {M : Type 1} → statement M
 hit-set-spec =
     tie.close
-    (tie.spec point-at-requires corner-requires (λ c. search needs) (λ c. search needs) sort-vertices-requires piercing-requires
+    (tie.spec point-at-requires corner-requires at-requires sort-vertices-requires piercing-requires
     (λ c κs. search needs) entering-requires (λ c κs. search needs) returns)

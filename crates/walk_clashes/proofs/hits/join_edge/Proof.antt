@@ -9,6 +9,7 @@ use borrow.Author.Needs.{needs}
 use borrow.Author.Tests.{not-true, not-false}
 use Rattle.sets.specs.Word.{either}
 use Rattle.sets.specs.Sets.{Is}
+use Rattle.sets.proofs.Laws as Laws
 use Rattle.sets.proofs.Ones.{nil-either}
 use Rattle.paper.specs.Drawing.{edge}
 use Rattle.paper.specs.Solids.{has}
@@ -41,7 +42,12 @@ edge-low c =
 crosses-requires : tie.Need-crosses-requires
 crosses-requires c κs =
     let w = c .before .pre in
-    record { face = face-of (w .lent .known); a-in = vertex-in (w .lent .known) _ (w .a-low); b-in = vertex-in (w .lent .known) _ (w .b-low) }
+    record {
+      face = face-of (w .lent .known);
+      a-in = vertex-in (w .lent .known) _ (w .a-low);
+      b-in = vertex-in (w .lent .known) _
+          (w .b-low);
+    }
 
 returns : tie.Need-returns
 returns c w s i =
@@ -59,24 +65,21 @@ add-wide c = omega (arith, low (start (c .before)))
 element-copy-out-wide : tie.Need-element-copy-out-wide
 element-copy-out-wide c = omega (arith, low (start (c .before)))
 
-mul-t14 : tie.Need-mul-t14
-mul-t14 c = omega (arith, edge-low c)
-
-element-copy-out-t21 : tie.Need-element-copy-out-t21
-element-copy-out-t21 c = edge-low c
+at-requires : tie.Need-at-requires
+at-requires c κs = omega (arith, edge-low (c .before))
 
 returns-2 : tie.Need-returns-2
 returns-2 c w s i =
-    let n = c .before .before in
+    let n = c .before .before .before in
     let e = n .before .before in
     let t = pierces (e .before) w (not-false (e .before .crosses .result) (e .if1 .left)) in
     let a = start (e .before) .args in
     let on-edge = faces-on (w .lent) _ _ (w .a-low) (w .b-low) (w .tied) (n .wide .result) (n .wide .ensures) in
     subst (Is (c .or .result)) (sym (ap (λ (b : Bool). either s (cond b (map (has (edge (a .a) (a .b))) (allOf (w .lent .known))) [])) t))
-    (c .or .ensures s _ i on-edge)
+    (c .or .ensures s _ i (Laws.at-is (c .before .at .ensures) _ on-edge))
 
 pub join-edge-spec : {M : Type 1} → statement M
 join-edge-spec =
     tie.close
-    (tie.spec crosses-requires returns mul-wide add-wide element-copy-out-wide (λ c κs. search needs) mul-t14 element-copy-out-t21
+    (tie.spec crosses-requires returns mul-wide add-wide element-copy-out-wide (λ c κs. search needs) at-requires
     (λ c κs. search needs) returns-2)

@@ -11,6 +11,7 @@ use Rattle.exact.proofs.Size.{within-lit}
 use Rattle.lists.specs.Lists.{member}
 use Rattle.sets.specs.Word.{either}
 use Rattle.sets.specs.Sets.{Is}
+use Rattle.sets.proofs.Laws as Laws
 use Rattle.sets.proofs.Ones.{nil-either}
 use Rattle.paper.specs.Polygon.{exactly, lies, isInside}
 use Rattle.paper.specs.Loops.{polygon}
@@ -57,21 +58,18 @@ returns c w s i =
     let a = start (c .before) .args in
     subst (Is (a .set)) (sym (ap (λ (b : Bool). either s (cond b (map (member (a .v)) (allOf (w .lent .known))) [])) t ∙ nil-either s)) i
 
-mul-t12 : tie.Need-mul-t12
-mul-t12 c = omega (arith, v-low (start (c .before)))
-
-element-copy-out-t15 : tie.Need-element-copy-out-t15
-element-copy-out-t15 c = v-low (start (c .before))
+at-requires : tie.Need-at-requires
+at-requires c κs = omega (arith, v-low (start (c .before .before)))
 
 returns-2 : tie.Need-returns-2
 returns-2 c w s i =
-    let e = c .before .before in
+    let e = c .before .before .before in
     let t = inner (e .before) w (not-false (e .before .lies-inside .result) (e .if1 .left)) in
     let a = start (e .before) .args in
     subst (Is (c .or .result)) (sym (ap (λ (b : Bool). either s (cond b (map (member (a .v)) (allOf (w .lent .known))) [])) t))
-    (c .or .ensures s _ i (w .lent .at-are _ (w .v-low)))
+    (c .or .ensures s _ i (Laws.at-is (c .before .at .ensures) _ (w .lent .at-are _ (w .v-low))))
 
 pub join-vertex-spec : {M : Type 1} → statement M
 join-vertex-spec =
     tie.close
-    (tie.spec point-at-requires lies-inside-requires returns mul-t12 element-copy-out-t15 (λ c κs. search needs) returns-2)
+    (tie.spec point-at-requires lies-inside-requires returns at-requires (λ c κs. search needs) returns-2)

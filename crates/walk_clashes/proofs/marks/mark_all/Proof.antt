@@ -5,7 +5,7 @@ use mathlib.Core.Path.{_≡_, refl, sym, _∙_}
 use Prim.Native.Nat.{_<_}
 use native.Mathlib.Omega.{arith}
 use lib.Dec.{eqb}
-use lib.ListN.{length, length-set}
+use lib.ListN.{length}
 use borrow.Author.Needs.{needs}
 use borrow.Author.Tests.{eqb-false, not-true, not-false}
 use Rattle.sets.specs.Sets.{Is, size}
@@ -14,7 +14,8 @@ use Rattle.walk_clashes.proofs.marks.mark_all.Statement.{statement}
 use Rattle.walk_clashes.proofs.marks.mark_all.Tie as tie
 
 abbrev Inv-loop : tie.InvT-loop
-Inv-loop words₀ k open₀ words «open» = (length words ≡ length words₀) × ((mask : List Bool) → Is open₀ mask → Half mask k words₀ «open» words)
+Inv-loop words₀ k open₀ words «open» = (length words ≡ length words₀) ×
+    ((mask : List Bool) → Is open₀ mask → Half mask k words₀ «open» words)
 
 abbrev μ-loop : tie.MeasureT-loop
 μ-loop words₀ k open₀ words «open» = size «open»
@@ -47,34 +48,24 @@ loop-holds c = (refl, λ mask i. half-start mask _ _ i)
 lowest-requires : tie.Need-lowest-requires Inv-loop μ-loop
 lowest-requires c κs = let n = eqb-false (size (turn c .loop .«open»)) 0 (some c) in omega (arith, n)
 
-mul-words : tie.Need-mul-words Inv-loop μ-loop
-mul-words c = omega (arith, c .lowest .ensures .narrow)
-
-slice-read-words : tie.Need-slice-read-words Inv-loop μ-loop
-slice-read-words c = low (c .before)
-
-shl-words : tie.Need-shl-words Inv-loop μ-loop
-shl-words c = omega (arith, start (turn (c .before .before)) .pre .few, c .before .lowest .ensures .narrow)
-
-mul-words-2 : tie.Need-mul-words-2 Inv-loop μ-loop
-mul-words-2 c = omega (arith, c .before .lowest .ensures .narrow)
-
-slice-write-words : tie.Need-slice-write-words Inv-loop μ-loop
-slice-write-words c = low (c .before)
+mark-requires : tie.Need-mark-requires Inv-loop μ-loop
+mark-requires c κs = let a = c .before in (low a, start (turn (a .before)) .pre .few)
 
 without-requires : tie.Need-without-requires Inv-loop μ-loop
-without-requires c κs = c .before .lowest .ensures .narrow
+without-requires c κs = c .before .before .before .before .lowest .ensures .narrow
 
 loop-less : tie.Need-loop-less Inv-loop μ-loop
-loop-less c = c .without .ensures .fewer (c .before .before .lowest .ensures .there)
+loop-less c = c .without .ensures .fewer (c .before .before .before .before .before .lowest .ensures .there)
 
 loop-again : tie.Need-loop-again Inv-loop μ-loop
 loop-again c =
-    let a = c .before .before in
+    let m = c .before .before .before in
+    let a = m .before .before in
     let l = turn (a .before) in
     let j = a .lowest in (
-      length-set (l .loop .words) (j .result) _ ∙ l .loop .inv .0,
-      λ mask i. half-next mask _ _ (l .loop .inv .1 mask i) (j .result) (j .ensures) (start l .pre .few) (low a) (c .without .ensures),
+      m .mark .kept .0 ∙ l .loop .inv .0,
+      λ mask i. half-next mask _ _ (l .loop .inv .1 mask i) (j .result) (j .ensures) (m .mark .last .0) (m .mark .ensures)
+          (c .without .ensures),
     )
 
 same-length : tie.Need-same-length Inv-loop μ-loop
@@ -89,5 +80,5 @@ returns c =
 pub mark-all-spec : {M : Type 1} → statement M
 mark-all-spec =
     tie.close
-    (tie.spec Inv-loop μ-loop loop-holds (λ c κs. search needs) lowest-requires mul-words slice-read-words shl-words mul-words-2
-    slice-write-words without-requires loop-less loop-again same-length returns)
+    (tie.spec Inv-loop μ-loop loop-holds (λ c κs. search needs) lowest-requires mark-requires without-requires loop-less loop-again
+    same-length returns)

@@ -10,6 +10,7 @@ use Rattle.lists.specs.Lists.{upto, member}
 use Rattle.lists.proofs.Places.{made-at, made-length, upto-length}
 use Rattle.sets.specs.Word.{dig}
 use Rattle.sets.specs.Sets.{Is, maskAt}
+use Rattle.sets.proofs.Laws.{at-is}
 use Rattle.paper.specs.Loops.{loopAt}
 use Rattle.fast_tables.specs.Hits.{cornerMask}
 use Rattle.fast_tables.proofs.Counts.{map-yes}
@@ -31,7 +32,8 @@ abbrev μ-loop : tie.MeasureT-loop
 μ-loop corners n at₀ k₀ at k = n - k
 
 -- a corner is a vertex
-corner-low : {corners : List ℕ} {n : ℕ} (w : CornersOf corners n) (k j : ℕ) → dig (cornerMask (w .drawing) (loopAt (w .loops) k)) j ≡ true → j < 32
+corner-low : {corners : List ℕ} {n : ℕ} (w : CornersOf corners n) (k j : ℕ) → dig (cornerMask (w .drawing) (loopAt (w .loops) k)) j ≡ true
+    → j < 32
 unfolding cornerMask
 corner-low w k j t =
     let v = length (w .drawing .vertices) in
@@ -42,29 +44,31 @@ few c = omega (arith, c .before .before .pre .of .most, c .loop-test .taken)
 
 loop-holds : tie.Need-loop-holds Inv-loop μ-loop
 loop-holds c w =
-    record { not-past = omega arith; in-words = columns-none (cornerMask (w .drawing)) (w .loops) (now (c .args .at)) (c .pre .none); long = refl }
+    record {
+      not-past = omega arith;
+      in-words = columns-none (cornerMask (w .drawing)) (w .loops) (now (c .args .at))
+          (c .pre .none);
+      long = refl;
+    }
 
-mul-t7 : tie.Need-mul-t7 Inv-loop μ-loop
-mul-t7 c = omega (arith, few c)
-
-element-copy-out-t10 : tie.Need-element-copy-out-t10 Inv-loop μ-loop
-element-copy-out-t10 c = few c
+at-requires : tie.Need-at-requires Inv-loop μ-loop
+at-requires c κs = omega (arith, few (c .before))
 
 mark-all-requires : tie.Need-mark-all-requires Inv-loop μ-loop
 mark-all-requires c κs =
-    let t = c .before .before in
+    let t = c .before .before .before in
     let l = t .before in
     let w = l .before .pre .of in
     record {
       mask = cornerMask (w .drawing) (loopAt (w .loops) (l .loop .k));
-      mask-is = w .each (l .loop .k) (t .loop-test .taken);
+      mask-is = at-is (c .before .at .ensures) _ (w .each (l .loop .k) (t .loop-test .taken));
       low = λ j d. omega (arith, corner-low w (l .loop .k) j d, l .loop .inv w .long, l .before .pre .whole);
       few = few t;
     }
 
 loop-again : tie.Need-loop-again Inv-loop μ-loop
 loop-again c w =
-    let t = c .before .before .before in
+    let t = c .before .before .before .before in
     let l = t .before .loop in
     let o = l .inv w in
     let m = c .mark-all .ensures in
@@ -72,7 +76,8 @@ loop-again c w =
       not-past = omega arith;
       in-words =
           columns-more (cornerMask (w .drawing)) (w .loops) (l .at) (c .mark-all .last .0) (l .k)
-          (m .marked (cornerMask (w .drawing) (loopAt (w .loops) (l .k))) (w .each (l .k) (t .loop-test .taken))) (o .in-words);
+          (m .marked (cornerMask (w .drawing) (loopAt (w .loops) (l .k)))
+          (at-is (c .before .before .at .ensures) _ (w .each (l .k) (t .loop-test .taken)))) (o .in-words);
       long = m .long ∙ o .long;
     }
 
@@ -91,5 +96,5 @@ returns c w v h =
 pub vertex-words-spec : {M : Type 1} → statement M
 vertex-words-spec =
     tie.close
-    (tie.spec Inv-loop μ-loop loop-holds mul-t7 element-copy-out-t10 mark-all-requires (λ c. omega arith) (λ c. omega arith) loop-again
+    (tie.spec Inv-loop μ-loop loop-holds at-requires mark-all-requires (λ c. omega arith) (λ c. omega arith) loop-again
     returns)
