@@ -13,7 +13,7 @@ use lib.Seq.{take-all, take-at}
 use Rattle.rooms.specs.Rooms.{copied}
 use Rattle.lists.proofs.Places.{made-length}
 use Rattle.paper.specs.Numbers.{mostVertices, mostEdges, faceRoom, solidRoom}
-use Rattle.paper.specs.Format.{sheetRoom, editionOne, editionFor, lentEdition}
+use Rattle.paper.specs.Format.{sheetRoom, editionFor, lentEdition}
 use Rattle.paper.specs.Sheet.{roomOf}
 use Rattle.paper.specs.FaceList.{listRoom, sentRoom}
 use Rattle.paper.specs.Conversion.{convertSheet}
@@ -64,7 +64,7 @@ room-is : {s : Paper.Said} {after room said : List ℕ} {r : ℕ} → WritesAs s
 room-is h = λ i. wordsBytes (sym (h .tells .words-are) i) ++ sym (h .room-is) i
 
 pub written-is : (xyz : List ℤ) (ends : List ℕ) {r : ℕ} {room said : List ℕ}
-    → WritesAs (writtenSaid editionOne xyz ends (zeros sheetRoom)) (roomOf (lentEdition xyz ends) xyz ends (zeros sheetRoom)) r room
+    → WritesAs (writtenSaid (lentEdition xyz ends) xyz ends (zeros sheetRoom)) (roomOf (lentEdition xyz ends) xyz ends (zeros sheetRoom)) r room
     (zeros mostSaid) said
     → writtenReply xyz ends ≡ wordsBytes said ++ room
 unfolding writtenReply

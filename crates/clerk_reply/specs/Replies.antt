@@ -8,7 +8,7 @@ use lib.IntN.{ℤ, pos}
 use lib.Ieee.{Float, binary64, toBits}
 use lib.ListN.{length, replicate}
 use Rattle.paper.specs.Numbers.{mostVertices, mostEdges, faceRoom, solidRoom}
-use Rattle.paper.specs.Format.{sheetRoom, editionOne, editionFor, lentEdition}
+use Rattle.paper.specs.Format.{sheetRoom, editionFor, lentEdition}
 use Rattle.paper.specs.Sheet.{roomOf}
 use Rattle.paper.specs.FaceList.{listRoom, solidFaces, sentRoom}
 use Rattle.paper.specs.Conversion.{Converted, convertSheet}
@@ -101,7 +101,7 @@ checkedReply sheet list = saidBytes (verdictSays (verdictSheet sheet list))
 unfoldable pub writtenReply : List ℤ → List ℕ → List ℕ
 writtenReply xyz ends =
     let room = zeros sheetRoom in
-    saidBytes (writtenSaid editionOne xyz ends room) ++ roomOf (lentEdition xyz ends) xyz ends room
+    saidBytes (writtenSaid (lentEdition xyz ends) xyz ends room) ++ roomOf (lentEdition xyz ends) xyz ends room
 
 -- 5: a solid as a face list. A request names no counts of a drawing
 unfoldable pub sentReply : List ℕ → ℕ → ℕ → List ℕ

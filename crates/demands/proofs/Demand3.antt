@@ -4,7 +4,6 @@ use mathlib.Core.Bool.{Bool}
 use mathlib.Core.Logic.{inl, inr}
 use mathlib.Core.List.{List, [], _∷_}
 use Prim.Native.Nat.{ℕ, _+_, _*_, _<_}
-use native.Mathlib.Nat.{le-trans}
 use native.Mathlib.Omega.{arith}
 use lib.ListN.{length, drop}
 use Rattle.paper.specs.FaceList.{encodeFaces, solidFaces, wellShaped}
@@ -34,8 +33,7 @@ use Rattle.means_check.proofs.Bodies.{faceList-names, same-named, names-again, 
 use Rattle.means_check.proofs.Demand.{drawing-places, drawing-fits, accepts-exactly, each-accepted, one-named, not-turned, not-missing}
 use Rattle.means_check.proofs.Demand.{not-doubled}
 use Rattle.means_check.proofs.Parts.{some-face}
-use Rattle.means_sheets.proofs.Sheets.{sound-for}
-use Rattle.means_sheets.proofs.FaceLists.{faces-read}
+use Rattle.means_sheets.proofs.FaceLists.{sent-read-back}
 use Rattle.demands.specs.Shells.{sentFaces, GoodList}
 use Rattle.demands.specs.Input.{Input, drawing, form, Passes, converted, checked}
 use Rattle.demands.specs.Demand3.{NamesIt, Report, Demand3, Holds3}
@@ -46,7 +44,7 @@ use Rattle.demands.proofs.Solid.{every-words, names-words, words-names}
 use Rattle.demands.proofs.Sendable.{names-sent, sent-taken}
 use Rattle.demands.proofs.Rooms.{faces-reported, words-at}
 use Rattle.paper_laws.proofs.Tests.{Is}
-use Rattle.paper_laws.proofs.Editions.{fits-for, one-for}
+use Rattle.paper_laws.proofs.Editions.{one-for}
 
 module _ (x : Input) (p : Passes x) where
   fits : ProperCandidates (drawing x) (candidates (drawing x))
@@ -65,10 +63,7 @@ module _ (x : Input) (p : Passes x) where
   packed taken turned six s fs n =
       let d = drawing x in
       let few = small x (form-fine x p) in
-      let sound = sound-for (length (d .vertices)) (length (d .edges)) in
-      let fits = fits-for (length (d .vertices)) (length (d .edges)) (few .0) (few .1) in
-      let b = faces-read (listEdition d) sound (length (d .vertices)) (le-trans (fits .v-fits) (sound .numbers-fit)) fs
-      (sendable taken turned six s fs n) in
+      let b = sent-read-back (length (d .vertices)) (length (d .edges)) (few .0) (few .1) fs (sendable taken turned six s fs n) in
       checked-is x (encodeFaces (listEdition (drawing x)) fs)
       ∙ each-accepted (form x) (drawing x) (form-fine x p) (drawing-fine x p) (loops-fine x p) taken turned six s
       (encodeFaces (listEdition (drawing x)) fs) (b .shape)

@@ -15,8 +15,6 @@ use Rattle.sets.proofs.Digits.{dig-less}
 use Rattle.sets.proofs.Numbers.{same-word}
 use Rattle.paper.specs.Numbers.{farthest, mostWork, faceRoom, solidRoom}
 use Rattle.paper.specs.Points.{pt, plus, times}
-use Rattle.paper.specs.Format.{editionOne}
-use Rattle.paper.specs.FaceList.{encodeFaces, facesIn}
 use Rattle.paper.specs.Questions.{Drawn, neg, reply, faceBefore, solidBefore}
 use Rattle.paper.specs.Known.Drawings.{cube, outward, inwardFaces, octahedron}
 use Rattle.paper.specs.Loops.{Loop}
@@ -40,7 +38,8 @@ use Rattle.demands.proofs.Moved.{shifts, mirrors, turns, scaled, higher}
 use Rattle.demands.proofs.Shape.{is-shape}
 use Rattle.demands.proofs.Shown.{shown-alike}
 use Rattle.demands_known.proofs.Drawings.{of, bytes, on, result, Said, said, one, cube-said, octahedron-said, cube-one, octahedron-one}
-use Rattle.demands_known.proofs.Samples.{cube-list, turned-at, outward-read, inward-read}
+use Rattle.demands_known.proofs.Samples.{packed, facesFor, cube-list, turned-at, outward-read, inward-read}
+use Rattle.paper_laws.proofs.Editions.{one-for}
 
 -- ---- what is evaluated of the drawings themselves
 
@@ -232,27 +231,27 @@ of-quarter : Made (laid (exchanging XY ∷ mirroring ∷ [])) (of cube) (of quar
 unfolding reply eachVertex
 of-quarter = record { points = refl; edges = refl; forms = refl }
 
-round : Round (of cube) (encodeFaces editionOne outward) (encodeFaces editionOne inwardFaces)
+round : Round (of cube) (packed (of cube) outward) (packed (of cube) inwardFaces)
 unfolding reply
 round = record {
   shape = (
-    λ s. is-shape 8 (encodeFaces editionOne inwardFaces) .0 refl,
-    λ s. is-shape 8 (encodeFaces editionOne outward) .0 refl,
+    λ s. is-shape (one-for 8 12) 8 (packed (of cube) inwardFaces) .0 refl,
+    λ s. is-shape (one-for 8 12) 8 (packed (of cube) outward) .0 refl,
   );
   faces =
-      subst (λ (fs : List Loop). AllTurned fs (facesIn editionOne (encodeFaces editionOne inwardFaces))) (sym outward-read)
+      subst (λ (fs : List Loop). AllTurned fs (facesFor (of cube) (packed (of cube) inwardFaces))) (sym outward-read)
       (subst (AllTurned outward) (sym inward-read) (record { as-many = refl; each = turned-at }));
 }
 
-pub exchanged-list : checked (of exchanged) (encodeFaces editionOne inwardFaces) ≡ Accepted
+pub exchanged-list : checked (of exchanged) (packed (of cube) inwardFaces) ≡ Accepted
 exchanged-list =
-    turns .check-round (exchanging XY ∷ []) refl (of cube) (of exchanged) of-exchanged (encodeFaces editionOne outward)
-    (encodeFaces editionOne inwardFaces) round
+    turns .check-round (exchanging XY ∷ []) refl (of cube) (of exchanged) of-exchanged (packed (of cube) outward)
+    (packed (of cube) inwardFaces) round
     ∙ cube-list
 
-pub quarter-list : checked (of quarter) (encodeFaces editionOne outward) ≡ Accepted
+pub quarter-list : checked (of quarter) (packed (of cube) outward) ≡ Accepted
 quarter-list =
-    turns .check (exchanging XY ∷ mirroring ∷ []) refl (of cube) (of quarter) of-quarter (encodeFaces editionOne outward) ∙ cube-list
+    turns .check (exchanging XY ∷ mirroring ∷ []) refl (of cube) (of quarter) of-quarter (packed (of cube) outward) ∙ cube-list
 
 -- ---- limits: the octahedron's work is 4
 

@@ -2,8 +2,8 @@
 use mathlib.Core.Path.{_≡_, refl, sym, ap, _∙_, subst}
 use mathlib.Core.Bool.{Bool, true, false, not, _&&_, _||_, cond, and-comm}
 use mathlib.Core.Logic.{_⊎_, inl, inr}
-use mathlib.Core.List.{List, [], _∷_, map}
-use Prim.Native.Nat.{ℕ, _+_, _*_, _<_}
+use mathlib.Core.List.{List, [], _∷_, _++_, map}
+use Prim.Native.Nat.{ℕ, _*_, _≤_, _<_}
 use native.Mathlib.Omega.{arith}
 use borrow.Author.Tests.{eqb-true}
 use lib.Dec.{eqb}
@@ -12,18 +12,20 @@ use lib.ListN.{length, getD, drop}
 use Rattle.lists.specs.Lists.{any, all, filter, upto, member}
 use Rattle.lists.proofs.Passing.{each-yes, any-yes, all-yes, all-append}
 use Rattle.lists.proofs.Truth.{and-left, and-right, or-cases}
-use Rattle.sets.specs.Word.{dig, digit, word}
+use Rattle.sets.specs.Word.{dig, digit}
 use Rattle.sets.proofs.Digits.{never}
-use Rattle.sets.proofs.Numbers.{digit-word}
-use Rattle.paper.specs.Numbers.{mostWork, faceRoom, solidRoom}
+use Rattle.paper.specs.Numbers.{mostWork, setWords, wordBits, faceRoom, solidRoom}
+use Rattle.paper.specs.Record.{takenIn, turnedIn, sixIn}
 use Rattle.paper.specs.Loops.{Loop, loopAt, flipped}
 use Rattle.paper.specs.Questions.{Drawn, neg, reply, faceBefore, solidBefore}
 use Rattle.paper.specs.Known.Drawings.{octahedron, nested}
 use Rattle.paper.specs.declared.Conversion.{Conversion}
 use Rattle.paper.specs.declared.Conversion.the-variants as Conversion
+use Rattle.paper_laws.proofs.Record.{taken-in, turned-in, six-in}
+use Rattle.faces_laws.proofs.Reported.{kept-same}
 use Rattle.means_loops.proofs.Rings.{Parts, parts}
 use Rattle.means_solid.specs.Named.{SameRing}
-use Rattle.means_report.specs.Listed.{Entry, entryAt}
+use Rattle.means_report.specs.Listed.{Entry, entryAt, wordsOf}
 use Rattle.means_report.specs.Report.{solidsFor}
 use Rattle.means_check.specs.Bodies.{SameBody}
 use Rattle.means_check.specs.Sent.{faceList}
@@ -62,21 +64,23 @@ module _ (new : ℕ → ℕ) (x y : Input) where
       k .reports h mostWork mostWork (faceBefore faceRoom) (faceBefore faceRoom) (solidBefore solidRoom) (solidBefore solidRoom) allowed
       allowed (whole (result x .answer) a) (whole (result y .answer) b)
 
--- solid i by its words
+-- solid i by its record
 record Words (ws : List ℕ) (i : ℕ) (e : Entry) : Type 0 where
-  taken-word : word (e .taken) ≡ getD ws (3 * i) 0
-  turned-word : word (e .turned) ≡ getD ws (3 * i + 1) 0
-  six-word : e .six ≡ getD ws (3 * i + 2) 0
+  taken-is : (k : ℕ) → k < wordBits * setWords → dig (e .taken) k ≡ dig (takenIn (drop (3 * i) ws)) k
+  turned-is : (k : ℕ) → k < wordBits * setWords → dig (e .turned) k ≡ dig (turnedIn (drop (3 * i) ws)) k
+  six-is : e .six ≡ sixIn (drop (3 * i) ws)
 
 words-of : (x : Input) (p : ReportOf x) (ws : List ℕ) → result x .solids ≡ ws → (i : ℕ) → i < length (p .es)
     → Words ws i (entryAt (p .es) i)
 unfolding solidsFor
 words-of x p ws e i h =
     let w = words-at (p .es) (drop (3 * length (p .es)) (solidBefore solidRoom)) i h in
+    let y = entryAt (p .es) i in
+    let z : wordsOf y ++ w .0 ≡ drop (3 * i) ws = sym (w .1) ∙ ap (drop (3 * i)) (sym (p .words) ∙ e) in
     record {
-      taken-word = sym (ap (λ (l : List ℕ). getD l (3 * i) 0) (sym e ∙ p .words) ∙ w .0);
-      turned-word = sym (ap (λ (l : List ℕ). getD l (3 * i + 1) 0) (sym e ∙ p .words) ∙ w .1);
-      six-word = sym (ap (λ (l : List ℕ). getD l (3 * i + 2) 0) (sym e ∙ p .words) ∙ w .2);
+      taken-is = λ k l. sym (taken-in (y .taken) (y .turned) (y .six) (w .0) k l) ∙ ap (λ (l : List ℕ). dig (takenIn l) k) z;
+      turned-is = λ k l. sym (turned-in (y .taken) (y .turned) (y .six) (w .0) k l) ∙ ap (λ (l : List ℕ). dig (turnedIn l) k) z;
+      six-is = sym (six-in (y .taken) (y .turned) (y .six) (w .0)) ∙ ap sixIn z;
     }
 
 -- ---- samples/octahedron_renumbered.sheet: "with vertices 1 and 2 exchanged, so that 0 to 3 go round"
@@ -123,23 +127,25 @@ around-one =
     let h : 0 < length (r .0 .es) = omega arith in
     let first : m .to 0 ≡ 0 = omega (arith, m .low 0 h, m .as-many) in
     let w = words-of (of octahedron) (r .0) (one 990 588 8000) (ap (λ (s : Said). s .1) octahedron-said) 0 h in
-    (r .1, m .as-many ∙ one-here, ap (λ (i : ℕ). entryAt (r .1 .es) i .six) (sym first) ∙ m .same 0 h .six ∙ w .six-word)
+    (r .1, m .as-many ∙ one-here, ap (λ (i : ℕ). entryAt (r .1 .es) i .six) (sym first) ∙ m .same 0 h .six ∙ w .six-is)
 
--- ---- faces by their words, and bodies that differ
+-- ---- faces by their records, and bodies that differ
 
 abbrev rings : List Loop → List ℕ → ℕ → List Loop
 rings cs ws i =
-    map (λ k. cond (digit (getD ws (3 * i + 1) 0) k) (flipped (loopAt cs k)) (loopAt cs k))
-    (filter (digit (getD ws (3 * i) 0)) (upto (length cs)))
+    let solid = drop (3 * i) ws in
+    map (λ k. cond (dig (turnedIn solid) k) (flipped (loopAt cs k)) (loopAt cs k)) (filter (dig (takenIn solid)) (upto (length cs)))
 
-faces-by : (x : Input) (ws : List ℕ) (i : ℕ) (e : Entry) → Words ws i e → entryFaces x e ≡ rings (candidatesOf x) ws i
-unfolding faceList
-faces-by x ws i e w =
-    λ j. map (λ k. cond (by (e .turned) _ (w .turned-word) k j) (flipped (loopAt (candidatesOf x) k)) (loopAt (candidatesOf x) k))
-    (filter (λ k. by (e .taken) _ (w .taken-word) k j) (upto (length (candidatesOf x))))
+faces-by : (x : Input) → length (candidatesOf x) ≤ wordBits * setWords → (ws : List ℕ) (i : ℕ) (e : Entry) → Words ws i e
+    → entryFaces x e ≡ rings (candidatesOf x) ws i
+unfolding faceList upto
+faces-by x few ws i e w =
+    kept-same (dig (e .taken)) (dig (takenIn (drop (3 * i) ws))) (way (e .turned)) (way (turnedIn (drop (3 * i) ws)))
+    (length (candidatesOf x)) 0 (λ k a b. w .taken-is k (omega arith))
+    (λ k a b y. ap (λ (t : Bool). cond t (flipped (loopAt (candidatesOf x) k)) (loopAt (candidatesOf x) k)) (w .turned-is k (omega arith)))
   where
-    by : (a : List Bool) (m : ℕ) → word a ≡ m → (k : ℕ) → dig a k ≡ digit m k
-    by a m e k = sym (digit-word a k) ∙ ap (λ (w : ℕ). digit w k) e
+    way : List Bool → ℕ → Loop
+    way turned k = cond (dig turned k) (flipped (loopAt (candidatesOf x) k)) (loopAt (candidatesOf x) k)
 
 -- not all vertices of f are vertices of g
 abbrev unlike : Loop → Loop → Bool
@@ -199,6 +205,14 @@ nested-kept = renumbering noughtForFour (of nested) (of cornered) cornered-given
 abbrev corneredWords : List ℕ
 corneredWords = three 8076211 2763042 13495661 8997956 11982558 10523218
 
+nested-few : length (candidatesOf (of nested)) ≤ wordBits * setWords
+unfolding reply
+nested-few = omega arith
+
+cornered-few : length (candidatesOf (of cornered)) ≤ wordBits * setWords
+unfolding reply
+cornered-few = omega arith
+
 pub cornered-said : said (result (of cornered)) ≡ (Conversion.Several 24 24 4 3, corneredWords)
 unfolding reply
 cornered-said = refl
@@ -234,9 +248,9 @@ nested-order p q m i h =
     go (or-cases (eqb (m .to i) (there i)) (differ cs ds i (m .to i))
     (each-yes (λ j. eqb j (there i) || differ cs ds i j) 3
     (each-yes (λ k. all (λ j. eqb j (there k) || differ cs ds k j) (upto 3)) 3 nested-differ i h) (m .to i) hj))
-    (faces-by (of nested) nestedWords i (entryAt (p .es) i)
+    (faces-by (of nested) nested-few nestedWords i (entryAt (p .es) i)
     (words-of (of nested) p nestedWords (ap (λ (s : Said). s .1) nested-said) i hi))
-    (faces-by (of cornered) corneredWords (m .to i) (entryAt (q .es) (m .to i))
+    (faces-by (of cornered) cornered-few corneredWords (m .to i) (entryAt (q .es) (m .to i))
     (words-of (of cornered) q corneredWords (ap (λ (s : Said). s .1) cornered-said) (m .to i) (m .low i hi)))
     (m .same i hi .body)
   where

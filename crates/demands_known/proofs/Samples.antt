@@ -2,13 +2,13 @@
 use mathlib.Core.Path.{_≡_, refl, sym, subst, _∙_}
 use mathlib.Core.Logic.{_⊎_, inl, inr}
 use mathlib.Core.List.{List, [], _∷_}
-use Prim.Native.Nat.{ℕ, zero, suc, _+_, _*_, _<_}
+use Prim.Native.Nat.{ℕ, zero, suc, _*_, _<_}
 use native.Mathlib.Omega.{arith}
 use lib.IntN.{pos}
-use lib.ListN.{length, getD, length-replicate}
+use lib.ListN.{length, drop, length-replicate}
+use Rattle.paper.specs.Verdict.{listEdition}
 use Rattle.paper.specs.Numbers.{mostWork, faceRoom, solidRoom}
-use Rattle.paper.specs.Format.{editionOne}
-use Rattle.paper.specs.FaceList.{encodeFaces, facesIn, solidFaces}
+use Rattle.paper.specs.FaceList.{encodeFaces, solidFaces}
 use Rattle.paper.specs.Questions.{reply, faceBefore, solidBefore}
 use Rattle.paper.specs.Loops.{Loop, loopAt, flipped}
 use Rattle.paper.specs.Known.Drawings.{cube, outward, inwardFaces, nested, tetrahedron, octahedron}
@@ -23,6 +23,7 @@ use Rattle.means_solid.specs.Named.{SameRing}
 use Rattle.means_report.specs.Listed.{WalkTree}
 use Rattle.means_check.specs.Bodies.{SameBody}
 use Rattle.means_report.specs.Report.{solidCount}
+use Rattle.demands.specs.Shells.{sentFaces}
 use Rattle.demands.specs.Input.{Input, lent, drawing, candidatesOf, Passes, converted, checked}
 use Rattle.demands.specs.Walk.{workToNine, Allowed}
 use Rattle.demands.specs.Spoiled.{Spoiled, all-turned}
@@ -36,29 +37,31 @@ use Rattle.demands_known.proofs.Drawings.{of, on, result, cube-one, nes
 told : (x : Input) → Passes x → 0 < solidCount (result x .answer) → Report x (solidBefore solidRoom) (result x)
 told x p h = demand3 x p .reports mostWork (faceBefore faceRoom) (solidBefore solidRoom) h
 
+-- faces as a list that is sent for a drawing, and the faces of such a list
+abbrev pub packed : Input → List Loop → List ℕ
+packed x = encodeFaces (listEdition (drawing x))
+
+abbrev pub facesFor : Input → List ℕ → List Loop
+facesFor x = sentFaces (drawing x)
+
 -- "Cube of side 10": one solid, so every list that is accepted is the body of its known list
-pub cube-list : checked (of cube) (encodeFaces editionOne outward) ≡ Accepted
+pub cube-list : checked (of cube) (packed (of cube) outward) ≡ Accepted
 unfolding reply
 cube-list = refl
 
 pub cube-body : (list : List ℕ) → checked (of cube) list ≡ Accepted
-    → SameBody (facesIn editionOne (encodeFaces editionOne outward)) (facesIn editionOne list)
+    → SameBody (facesFor (of cube) (packed (of cube) outward)) (facesFor (of cube) list)
 cube-body list a =
     let r = told (of cube) cube-passes (omega (arith, cube-one)) in
-    r .same (r .n ∙ cube-one) (encodeFaces editionOne outward) list cube-list a
+    r .same (r .n ∙ cube-one) (packed (of cube) outward) list cube-list a
 
--- "Cube of corners +-20 round a cube of corners +-10": three solids, and each, packed from the report's own rows and words, is accepted
+-- "Cube of corners +-20 round a cube of corners +-10": three solids, and each, packed from the report's own rows and record, is accepted
 pub nested-each : (i : ℕ) → i < 3
-    → checked (of nested)
-    (encodeFaces editionOne
-    (solidFaces (result (of nested) .faces) (getD (result (of nested) .solids) (3 * i) 0)
-    (getD (result (of nested) .solids) (3 * i + 1) 0))) ≡ Accepted
+    → checked (of nested) (packed (of nested) (solidFaces (result (of nested) .faces) (drop (3 * i) (result (of nested) .solids)))) ≡ Accepted
 nested-each i h =
     let r = told (of nested) nested-passes (omega (arith, nested-three)) in
     let l : i < length (r .es) = omega (arith, r .n, nested-three) in
-    r .each i l
-    (solidFaces (result (of nested) .faces) (getD (result (of nested) .solids) (3 * i) 0)
-    (getD (result (of nested) .solids) (3 * i + 1) 0)) (r .some i l)
+    r .each i l (solidFaces (result (of nested) .faces) (drop (3 * i) (result (of nested) .solids))) (r .some i l)
 
 -- the tetrahedron on its sheet
 sheet-passes : Passes (on tetrahedron)
@@ -70,7 +73,7 @@ unfolding reply
 sheet-one = refl
 
 pub tetrahedron-bodies : (a b : List ℕ) → checked (on tetrahedron) a ≡ Accepted → checked (on tetrahedron) b ≡ Accepted
-    → SameBody (facesIn editionOne a) (facesIn editionOne b)
+    → SameBody (facesFor (on tetrahedron) a) (facesFor (on tetrahedron) b)
 tetrahedron-bodies = let r = told (on tetrahedron) sheet-passes (omega (arith, sheet-one)) in r .same (r .n ∙ sheet-one)
 
 -- "Its list with all faces turned" comes from an accepted list, so it is refused
@@ -84,18 +87,18 @@ turned-at (suc (suc (suc (suc zero)))) h = record { at = 1; turns = refl }
 turned-at (suc (suc (suc (suc (suc zero))))) h = record { at = 1; turns = refl }
 turned-at (suc (suc (suc (suc (suc (suc i)))))) h = absurd (omega arith)
 
-pub outward-read : facesIn editionOne (encodeFaces editionOne outward) ≡ outward
+pub outward-read : facesFor (of cube) (packed (of cube) outward) ≡ outward
 unfolding reply
 outward-read = refl
 
-pub inward-read : facesIn editionOne (encodeFaces editionOne inwardFaces) ≡ inwardFaces
+pub inward-read : facesFor (of cube) (packed (of cube) inwardFaces) ≡ inwardFaces
 unfolding reply
 inward-read = refl
 
-pub cube-turned : (r : Refusal) × (checked (of cube) (encodeFaces editionOne inwardFaces) ≡ Refused r)
+pub cube-turned : (r : Refusal) × (checked (of cube) (packed (of cube) inwardFaces) ≡ Refused r)
 cube-turned =
-    demand3 (of cube) cube-passes .refused (encodeFaces editionOne outward) (encodeFaces editionOne inwardFaces) cube-list
-    (subst (λ (fs : List Loop). Spoiled fs (facesIn editionOne (encodeFaces editionOne inwardFaces))) (sym outward-read)
+    demand3 (of cube) cube-passes .refused (packed (of cube) outward) (packed (of cube) inwardFaces) cube-list
+    (subst (λ (fs : List Loop). Spoiled fs (facesFor (of cube) (packed (of cube) inwardFaces))) (sym outward-read)
     (subst (Spoiled outward) (sym inward-read) (all-turned (λ i h. (i, h, turned-at i h)))))
 
 -- "Octahedron .. With limit 3: TooLong": so its walk has more than three assumptions

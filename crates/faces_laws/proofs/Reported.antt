@@ -77,7 +77,7 @@ module _ {A : Type 0} (p q : ℕ → Bool) (f g : ℕ → A) where
   abbrev Same : ℕ → ℕ → Type 0
   Same i m = map f (filter p (from i m)) ≡ map g (filter q (from i m))
 
-  kept-same : (m i : ℕ) → ((k : ℕ) → i ≤ k → k < i + m → p k ≡ q k)
+  pub kept-same : (m i : ℕ) → ((k : ℕ) → i ≤ k → k < i + m → p k ≡ q k)
       → ((k : ℕ) → i ≤ k → k < i + m → q k ≡ true → f k ≡ g k) → Same i m
   unfolding filter keep from
   kept-same zero i h e = refl

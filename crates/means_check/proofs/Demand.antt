@@ -5,7 +5,6 @@ use mathlib.Core.Option.{none, some}
 use mathlib.Core.List.{List}
 use Prim.Native.Nat.{ℕ, _≤_, _<_}
 use native.Mathlib.Decide.{ℕ-discrete}
-use native.Mathlib.Nat.{le-trans}
 use lib.ListN.{length}
 use Rattle.sets.specs.Word.{dig}
 use Rattle.paper.specs.Numbers.{mostVertices, mostEdges, documented}
@@ -18,13 +17,11 @@ use Rattle.paper.specs.Verdict.{listEdition, listed, faceChecks, verdict}
 use Rattle.paper.specs.declared.Answer.the-variants.{Fine}
 use Rattle.paper.specs.declared.Verdict.the-variants.{Accepted}
 use Rattle.paper_laws.proofs.Checks.{found-none}
-use Rattle.paper_laws.proofs.Editions.{fits-for}
 use Rattle.means_solid.specs.Solid.{IsSolid}
 use Rattle.means_check.specs.Candidates.{ProperCandidates}
 use Rattle.means_solid.specs.Named.{SameRing, Names}
 use Rattle.means_check.specs.Accepts.{NamesSolid, Accepts}
-use Rattle.means_sheets.proofs.Sheets.{sound-for}
-use Rattle.means_sheets.proofs.FaceLists.{faces-read}
+use Rattle.means_sheets.proofs.FaceLists.{sent-read-back}
 use Rattle.means_check.specs.Sent.{faceList}
 use Rattle.means_check.specs.Bodies.{AmongEither, Singly, SameBody, OneSolid}
 use Rattle.means_check.proofs.Numbered.{names-taken, names-turned}
@@ -147,9 +144,7 @@ module _ (form : List Check) (d : Wire) where
       → verdict form d (encodeFaces (listEdition d) (faceList d (candidates d) taken turned)) ≡ Accepted
   each-sent f r l vertices edges taken turned six s =
       let fs : List Loop = faceList d (candidates d) taken turned in
-      let sound = sound-for (length (d .vertices)) (length (d .edges)) in
-      let fits = fits-for (length (d .vertices)) (length (d .edges)) vertices edges in
-      let b = faces-read (listEdition d) sound (length (d .vertices)) (le-trans (fits .v-fits) (sound .numbers-fit)) fs
+      let b = sent-read-back (length (d .vertices)) (length (d .edges)) vertices edges fs
       (solid-sent d (drawing-places d r) vertices edges taken turned s) in
       each-accepted f r l taken turned six s (encodeFaces (listEdition d) fs) (b .shape)
       (subst (Names d (candidates d) taken turned) (sym (b .faces)) (faceList-names d (candidates d) (drawing-fits d r) taken turned s))

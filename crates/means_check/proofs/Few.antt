@@ -16,7 +16,7 @@ use Rattle.paper.specs.Drawing.{Wire, samePlace}
 use Rattle.paper.specs.Loops.{Loop, loopAt, flipped, candidates}
 use Rattle.paper.specs.Verdict.{listEdition}
 use Rattle.paper.specs.declared.Format.{Format}
-use Rattle.paper_laws.specs.Editions.{Roomy}
+use Rattle.paper_laws.specs.Editions.{HoldsFaces}
 use Rattle.paper_laws.proofs.Editions.{roomy-for, fits-for}
 use Rattle.means_solid.specs.Solid.{IsSolid}
 use Rattle.means_loops.specs.Path.{ClosedPath}
@@ -61,7 +61,7 @@ module _ (d : Wire) (cs : List Loop) (taken turned : List Bool) (paths : (k : �
       let b = over-le taken (λ l. 3) length cs (λ i h. paths i h .three) in
       omega (arith, a, b, corners-few d cs taken turned paths s)
 
-  pub can-be-sent : (f : Format) → Roomy f → length (d .edges) ≤ f .«most_edges»
+  pub can-be-sent : (f : Format) → HoldsFaces f → length (d .edges) ≤ f .«most_edges»
       → Sendable f (length (d .vertices)) (faceList d cs taken turned)
   unfolding faceList upto
   can-be-sent f roomy few = record {

@@ -8,9 +8,11 @@ use mathlib.Core.Path.{_≡_, refl, sym, ap, _∙_}
 use mathlib.Core.Bool.{Bool, true, false, cond}
 use mathlib.Core.List.{List, [], flatMap, append-nil}
 use Prim.Native.Nat.{ℕ, _*_, _-_, _^_, _≤_}
+use native.Mathlib.Nat.{le-trans}
 use native.Mathlib.Omega.{arith}
 use lib.ListN.{length, replicate, length-replicate}
 use Rattle.pack.specs.Fill.{padded}
+use Rattle.paper.specs.Format.{editionFor}
 use Rattle.paper.specs.Numbers.{mostFaces, mostCandidates, rowBytes}
 use Rattle.paper.specs.Record.{entry}
 use Rattle.paper.specs.FaceList.{encodeFaces, countIn, facesIn, wellShaped, facesOf, noFaces, solidFaces}
@@ -22,16 +24,18 @@ use Rattle.faces_laws.proofs.FaceList.{length-in}
 use Rattle.faces_laws.proofs.Shape.{shape-yes}
 use Rattle.faces_laws.proofs.Reported.{solid-faces, all-taken}
 use Rattle.means_sheets.specs.Sound.{Sound}
-use Rattle.means_sheets.specs.FaceLists.{Sendable, returned, FacesReadBack, SentIsSendable, AcceptedList}
+use Rattle.means_sheets.specs.FaceLists.{Sendable, returned, FacesReadBack, SentReadBack, SentIsSendable, AcceptedList}
 use Rattle.means_sheets.specs.FaceLists.{FacesWriteBack, RowsGiveFaces, OneList}
+use Rattle.means_sheets.proofs.Sheets.{sound-for}
 use Rattle.means_sheets.proofs.FaceLists.Written.{faces-accepted, faces-read-back, rows-returned}
 use Rattle.means_sheets.proofs.FaceLists.Read.{written-again, can-be-sent}
 use Rattle.means_sheets.proofs.FaceLists.Room.{sent-sendable, sent-room, sends, sendable-more}
 use Rattle.paper_laws.specs.Editions.{Limited}
+use Rattle.paper_laws.proofs.Editions.{fits-for}
 
 -- ---- faces that a face list can hold, for a drawing of v vertices
 
-pub faces-read : (f : Format) → Sound f → (v : ℕ) → v ≤ 2 ^ f .«vertex_number_bits» → (fs : List Loop) → Sendable f v fs
+faces-read : (f : Format) → Sound f → (v : ℕ) → v ≤ 2 ^ f .«vertex_number_bits» → (fs : List Loop) → Sendable f v fs
     → FacesReadBack f v fs
 faces-read f sound v fits fs g = record {
   shape = faces-accepted f sound v fits fs g;
@@ -39,6 +43,11 @@ faces-read f sound v fits fs g = record {
   faces = faces-read-back f sound v fits fs g;
   room = λ room n e. ap (facesOf f v) (sent-room f fs room n e) ∙ rows-returned f sound v fits fs g;
 }
+
+pub sent-read-back : SentReadBack
+sent-read-back v e few-vertices few-edges =
+    let sound = sound-for v e in
+    faces-read (editionFor v e) sound v (le-trans (fits-for v e few-vertices few-edges .v-fits) (sound .numbers-fit))
 
 pub sent-is-sendable : (f : Format) → SentIsSendable f
 sent-is-sendable f fs room n e = sent-sendable f fs room n e

@@ -7,8 +7,9 @@ use Prim.Native.Nat.{ℕ, _*_, _^_, _≤_, _<_}
 use lib.ListN.{length, getD, take, drop, replicate}
 use Rattle.pack.specs.Bits.{Under}
 use Rattle.pack.specs.Fill.{padded}
+use Rattle.paper.specs.Format.{editionFor}
 use Rattle.paper.specs.Record.{entry}
-use Rattle.paper.specs.Numbers.{leastFaces, mostFaces, leastCorners, mostCorners, rowBytes}
+use Rattle.paper.specs.Numbers.{leastFaces, mostFaces, leastCorners, mostCorners, rowBytes, mostVertices, mostEdges}
 use Rattle.paper.specs.Loops.{Loop, loopAt, row}
 use Rattle.paper.specs.FaceList.{encodeFaces, facesIn, wellShaped, facesOf, solidFaces, sentOf, sentRoom}
 use Rattle.paper.specs.declared.Format.{Format}
@@ -37,6 +38,11 @@ module _ (f : Format) (v : ℕ) (fs : List Loop) where
     pub faces : facesIn f (encodeFaces f fs) ≡ fs
     -- the bytes that the writer reports are in its room, and read back
     pub room : (room : List ℕ) (n : ℕ) → sentOf f fs room ≡ Bytes n → facesOf f v (take n (sentRoom f fs room)) ≡ returned fs
+
+-- in the edition of a drawing of v vertices and e edges, as many as it may have
+abbrev pub SentReadBack : Type 0
+SentReadBack = (v e : ℕ) → v ≤ mostVertices → e ≤ mostEdges
+    → (fs : List Loop) → Sendable (editionFor v e) v fs → FacesReadBack (editionFor v e) v fs
 
 -- what the writer takes are such faces
 abbrev pub SentIsSendable : Format → Type 0

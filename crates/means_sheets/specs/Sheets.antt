@@ -39,19 +39,19 @@ module _ (s : List ℕ) where
   f = editionOf s
 
   -- the edition of the drawing on it
-  abbrev own : Format
-  own = lentEdition (coordinatesIn f s) (endsIn f s)
+  abbrev itsEdition : Format
+  itsEdition = lentEdition (coordinatesIn f s) (endsIn f s)
 
   pub record SheetWritesBack : Type 0 where
-    pub edition : own ≡ f
+    pub edition : itsEdition ≡ f
     pub sheet : encode f (coordinatesIn f s) (endsIn f s) ≡ s
     -- the writer takes these lists, which are the drawing that reading the sheet returns
     pub passes : Fine ≡ firstOf (lentChecks (coordinatesIn f s) (endsIn f s))
     pub returned : readSheet s .drawing ≡ held (verticesIn f s) (edgesIn f s) (coordinatesIn f s) (endsIn f s)
     -- in room enough it writes the sheet's bytes, and later room is kept
     pub room : (room : List ℕ) → length s ≤ length room
-        → (writtenOf own (coordinatesIn f s) (endsIn f s) room ≡ Bytes (length s))
-        × (roomOf own (coordinatesIn f s) (endsIn f s) room ≡ s ++ drop (length s) room)
+        → (writtenOf itsEdition (coordinatesIn f s) (endsIn f s) room ≡ Bytes (length s))
+        × (roomOf itsEdition (coordinatesIn f s) (endsIn f s) room ≡ s ++ drop (length s) room)
 
 -- ---- so no two sheets hold one drawing
 

@@ -9,7 +9,7 @@ use Rattle.paper.specs.Drawing.{wire}
 use Rattle.paper.specs.Numbers.{mostVertices, mostEdges}
 use Rattle.paper.specs.Format.{editionOne, editionOf, editionFor, lentEdition, verticesIn, edgesIn, encode}
 use Rattle.paper.specs.declared.Format.{Format}
-use Rattle.paper_laws.specs.Editions.{Limited, Roomy, FitsEdition}
+use Rattle.paper_laws.specs.Editions.{Limited, HoldsFaces, FitsEdition}
 use Rattle.paper_laws.proofs.Wires.{length-points, length-edges}
 
 module _ (P : Format → Type 0) (one : P editionOne) where
@@ -37,8 +37,8 @@ limited-of = holds-of Limited one-limited
 pub limited-for : (v e : ℕ) → Limited (editionFor v e)
 limited-for = holds-for Limited one-limited
 
-pub roomy-for : (v e : ℕ) → Roomy (editionFor v e)
-roomy-for = holds-for Roomy (omega arith)
+pub roomy-for : (v e : ℕ) → HoldsFaces (editionFor v e)
+roomy-for = holds-for HoldsFaces (omega arith)
 
 -- the edition of a drawing has room for it
 pub fits-for : (v e : ℕ) → v ≤ mostVertices → e ≤ mostEdges → FitsEdition (editionFor v e) v e

@@ -10,8 +10,8 @@ pub record Limited (f : Format) : Type 0 where
   pub faces-held : f .«most_faces» ≤ mostFaces
 
 -- it has room for the faces of a solid, which have three edges at least, and an edge two faces
-abbrev pub Roomy : Format → Type 0
-Roomy f = 2 * f .«most_edges» ≤ 3 * f .«most_faces» + 2
+abbrev pub HoldsFaces : Format → Type 0
+HoldsFaces f = 2 * f .«most_edges» ≤ 3 * f .«most_faces» + 2
 
 -- it has room for v vertices and e edges
 pub record FitsEdition (f : Format) (v e : ℕ) : Type 0 where
