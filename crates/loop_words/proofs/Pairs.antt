@@ -10,6 +10,7 @@ use borrow.Author.Tests.{ltb-true, eqb-true, not-false}
 use lib.Dec.{eqb, ltb}
 use lib.ListN.{length, getD, set, length-set}
 use lib.Seq.{getD-set-same, getD-set-other}
+use Rattle.paper.specs.Numbers.{mostVertices}
 use Rattle.lists.proofs.Truth.{or-cases, and-left, and-right}
 use Rattle.lists.proofs.Lowest.{lowest-none}
 use Rattle.paper.specs.Sheet.{edgeAbove, lowAt}
@@ -19,7 +20,7 @@ use Rattle.loop_words.specs.Numbered.{RisingEnds, pairAt, EdgesNumbered}
 
 -- how many entries the table has
 abbrev pub allPairs : ℕ
-allPairs = 1024
+allPairs = mostVertices * mostVertices
 
 module _ {ends : List ℕ} (r : RisingEnds ends) where
   abbrev low : ℕ → ℕ
@@ -32,10 +33,10 @@ module _ {ends : List ℕ} (r : RisingEnds ends) where
   half = omega (arith, r .links .whole)
 
   -- the ends of an edge are vertices, the lower first
-  pub low-known : (e : ℕ) → e < r .links .edges → low e < 32
+  pub low-known : (e : ℕ) → e < r .links .edges → low e < mostVertices
   low-known e h = omega (arith, r .links .known (2 * e) (omega (arith, r .links .whole)), r .few)
 
-  pub high-known : (e : ℕ) → e < r .links .edges → high e < 32
+  pub high-known : (e : ℕ) → e < r .links .edges → high e < mostVertices
   high-known e h = omega (arith, r .links .known (2 * e + 1) (omega (arith, r .links .whole)), r .few)
 
   -- ---- the entry of an edge, its lower end first, is above that of the edge before

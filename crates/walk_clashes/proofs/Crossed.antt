@@ -7,6 +7,7 @@ use Prim.Native.Nat.{ℕ, _+_, _*_, _<_}
 use native.Mathlib.Omega.{arith}
 use lib.IntN.{ℤ}
 use lib.ListN.{length, getD, length-map}
+use Rattle.paper.specs.Numbers.{mostVertices, mostEdges}
 use Rattle.lists.specs.Lists.{upto}
 use Rattle.lists.proofs.Truth.{and-left}
 use Rattle.lists.proofs.Places.{map-at, made-at, upto-length}
@@ -49,7 +50,7 @@ module _ {xyz : List ℤ} {rows : List ℕ} {g : ℕ} {m : Point} (k : KnownFace
   pub vertex-in : (v : ℕ) → v < length (wireOf k .vertices) → 3 * v + 2 < length xyz
   vertex-in v h = omega (arith, h, vertices-are (k .faces .range), k .faces .range .points .whole)
 
-  pub vertex-low : (v : ℕ) → v < length (wireOf k .vertices) → v < 32
+  pub vertex-low : (v : ℕ) → v < length (wireOf k .vertices) → v < mostVertices
   vertex-low v h = omega (arith, h, vertices-are (k .faces .range), k .faces .range .most)
 
   pub at-is : (v : ℕ) → v < length (wireOf k .vertices) → pointOf xyz v ≡ at (wireOf k) v
@@ -79,7 +80,7 @@ module _ {xyz : List ℤ} {rows number on : List ℕ} {g : ℕ} {m : Point} (w :
             go (inl p) = w .numbered .up (edge-is .0) a b (edge-is .1) p
             go (inr p) = w .numbered .down (edge-is .0) b a (edge-is .1) p
 
-        pub number-low : x < 64
+        pub number-low : x < mostEdges
         unfolding tablesOf
         number-low = omega (arith, number-is, edge-is .1, w .on-are .few, length-map (wireOf (w .known) .edges) (λ g. map (has g) (allOf (w .known))))
 

@@ -2,7 +2,7 @@
 use mathlib.Core.Path.{_≡_, refl, sym, ap, subst, _∙_}
 use mathlib.Core.Bool.{Bool, true, false}
 use mathlib.Core.List.{List, [], map}
-use Prim.Native.Nat.{ℕ, _+_, _<_, _≤_}
+use Prim.Native.Nat.{ℕ, _+_, _*_, _<_, _≤_}
 use native.Mathlib.Omega.{arith}
 use borrow.Author.Tests.{ltb-true, ltb-false}
 use lib.Dec.{ltb}
@@ -12,6 +12,7 @@ use lib.Seq.{getD-set-same, getD-set-other}
 use native.Mathlib.Decide.{ℕ-discrete}
 use mir.Syntax.{w64}
 use mir.Val.{ofZ, toZ}
+use Rattle.paper.specs.Numbers.{mostCandidates}
 use Rattle.exact.specs.Size.{Within}
 use Rattle.exact.proofs.Machine.{_▸_, done, reads}
 use Rattle.exact.proofs.Ring.{var}
@@ -51,13 +52,13 @@ module _ {xyz : List ℤ} {rows : List ℕ} {n : ℕ} (w : DrawnFaces xyz rows n
   -- those of the first k candidates, and their normals
   pub record Parts (normals sixes₀ sixes : List ℤ) (k : ℕ) : Type 0 where
     pub not-past : k ≤ n
-    pub normal-room : length normals ≡ 192
-    pub six-room : length sixes ≡ 64
+    pub normal-room : length normals ≡ 3 * mostCandidates
+    pub six-room : length sixes ≡ mostCandidates
     pub across : (i : ℕ) → i < k → pointOf normals i ≡ normal (ring xyz rows i)
     pub each : (i : ℕ) → i < k → getD sixes i (pos 0) ≡ faceSix (ring xyz rows i)
     pub later : (i : ℕ) → k ≤ i → getD sixes i (pos 0) ≡ getD sixes₀ i (pos 0)
 
-  pub parts-none : (normals sixes : List ℤ) → length normals ≡ 192 → length sixes ≡ 64 → Parts normals sixes sixes 0
+  pub parts-none : (normals sixes : List ℤ) → length normals ≡ 3 * mostCandidates → length sixes ≡ mostCandidates → Parts normals sixes sixes 0
   parts-none normals sixes e q = record {
     not-past = omega arith;
     normal-room = e;

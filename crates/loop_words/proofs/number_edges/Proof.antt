@@ -4,6 +4,7 @@ use mathlib.Core.Path.{_≡_, refl, subst, sym}
 use Prim.Native.Nat.{_+_, _-_, _<_, _≤_, ℕ}
 use native.Mathlib.Omega.{arith}
 use lib.ListN.{length, length-set, set}
+use Rattle.paper.specs.Numbers.{mostVertices, mostEdges}
 use borrow.Author.Needs.{needs}
 use Rattle.loop_words.specs.Numbered.{RisingEnds, pairAt}
 use Rattle.loop_words.proofs.Pairs.{Numbering, allPairs, half, high-known, low-known, numbering-end, numbering-more, numbering-none}
@@ -40,19 +41,19 @@ first c = c .before .before
 here : (c : tie.In-loop Inv-loop μ-loop) → let l = c .before in l .loop .e < start l .pre .links .edges
 here c = let l = c .before in omega (arith, l .loop .inv (start l .pre) .whole)
 
-a-low : (c : tie.After-wide Inv-loop μ-loop) → c .wide .result < 32
+a-low : (c : tie.After-wide Inv-loop μ-loop) → c .wide .result < mostVertices
 a-low c = let l = turn c .before in omega (arith, c .wide .ensures, low-known (start l .pre) (l .loop .e) (here (turn c)))
 
-b-low : (c : tie.After-wide2 Inv-loop μ-loop) → c .wide2 .result < 32
+b-low : (c : tie.After-wide2 Inv-loop μ-loop) → c .wide2 .result < mostVertices
 b-low c =
     let t = turn (first c) in
     let l = t .before in
     omega (arith, c .wide2 .ensures, high-known (start l .pre) (l .loop .e) (here t))
 
-both-low : (c : tie.After-wide2 Inv-loop μ-loop) → (first c .wide .result < 32) × (c .wide2 .result < 32)
+both-low : (c : tie.After-wide2 Inv-loop μ-loop) → (first c .wide .result < mostVertices) × (c .wide2 .result < mostVertices)
 both-low c = (a-low (first c), b-low c)
 
-e-low : (c : tie.After-wide2 Inv-loop μ-loop) → turn (first c) .before .loop .e < 64
+e-low : (c : tie.After-wide2 Inv-loop μ-loop) → turn (first c) .before .loop .e < mostEdges
 e-low c = let t = turn (first c) in omega (arith, here t, start (t .before) .pre .links .most)
 
 -- ---- the needs

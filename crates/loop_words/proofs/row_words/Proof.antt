@@ -7,6 +7,7 @@ use native.Mathlib.Numerals.{add-one}
 use native.Mathlib.Omega.{arith}
 use lib.ListN.{getD, length}
 use denote.Ref.{now}
+use Rattle.paper.specs.Numbers.{mostVertices, mostEdges}
 use borrow.Author.Needs.{needs}
 use Rattle.sets.specs.Sets.{oneWord, wides, Wide}
 use Rattle.sets.specs.declared.Set.{Set}
@@ -61,7 +62,7 @@ here : (c : tie.In-loop Inv-loop μ-loop) (w : RowAt (entry (c .before))) → c 
 here c w = omega (arith, c .before .loop .inv w .whole)
 
 -- the corner before, and the corner
-before-low : (c : tie.In-loop Inv-loop μ-loop) (w : RowAt (entry (c .before))) → c .before .loop .a < 32
+before-low : (c : tie.In-loop Inv-loop μ-loop) (w : RowAt (entry (c .before))) → c .before .loop .a < mostVertices
 before-low c w =
     let l = c .before .loop in
     let p = prior-low (w .drawing) (w .loop) (w .path) (l .i) (here c w) in
@@ -71,11 +72,11 @@ corner-is : (c : tie.After-wide3 Inv-loop μ-loop) (w : RowAt (entry (turn c .be
     → c .wide3 .result ≡ getD (w .loop) (turn c .before .loop .i) 0
 corner-is c w = c .wide3 .ensures ∙ w .vertex (turn c .before .loop .i) (here (turn c) w)
 
-corner-low : (c : tie.After-wide3 Inv-loop μ-loop) (w : RowAt (entry (turn c .before))) → c .wide3 .result < 32
+corner-low : (c : tie.After-wide3 Inv-loop μ-loop) (w : RowAt (entry (turn c .before))) → c .wide3 .result < mostVertices
 corner-low c w = omega (arith, corner-is c w, w .path .below (turn c .before .loop .i) (here (turn c) w), w .small .vertices)
 
 -- both are in the table of pairs
-pair-low : (c : tie.After-wide3 Inv-loop μ-loop) → (turn c .before .loop .a < 32) × (c .wide3 .result < 32)
+pair-low : (c : tie.After-wide3 Inv-loop μ-loop) → (turn c .before .loop .a < mostVertices) × (c .wide3 .result < mostVertices)
 pair-low c = let w = entry (turn c .before) .pre in (before-low (turn c) w, corner-low c w)
 
 -- the number of the side
@@ -86,7 +87,7 @@ side-is c w =
     let number = now (entry l .args .number) in
     c .wide4 .ensures ∙ (λ t. getD number (pairAt (l .loop .inv w .last t) (corner-is (corner c) w t)) 0)
 
-edge-low : (c : tie.After-wide4 Inv-loop μ-loop) (w : RowAt (entry (turn (corner c) .before))) → c .wide4 .result < 64
+edge-low : (c : tie.After-wide4 Inv-loop μ-loop) (w : RowAt (entry (turn (corner c) .before))) → c .wide4 .result < mostEdges
 edge-low c w =
     let l = turn (corner c) in
     let low = side-low (w .drawing) (w .loop) (w .path) _ (w .small .numbered) (l .before .loop .i) (here l w) in

@@ -7,6 +7,7 @@ use native.Mathlib.Omega.{arith}
 use lib.IntN.{ℤ}
 use lib.ListN.{length, getD}
 use denote.Ref.{now}
+use Rattle.paper.specs.Numbers.{mostCandidates}
 use Rattle.sets.specs.Word.{dig, digit, either, less}
 use Rattle.sets.specs.Sets.{Is}
 use Rattle.sets.specs.declared.Set.{Set}
@@ -65,7 +66,7 @@ known-at : (c : tie.After-at Inv-loop μ-loop) (j : ℕ)
     → let l = turn c .before .loop in dig (known c) j ≡ digit (getD (l .words) (l .g) 0) j
 known-at c j = sym (digit-set (known c) (known-is c) j) ∙ ap (λ (x : Set). digit (x .word) j) (c .at .ensures .is)
 
-low : (c : tie.In-loop Inv-loop μ-loop) → c .before .loop .g < 64
+low : (c : tie.In-loop Inv-loop μ-loop) → c .before .loop .g < mostCandidates
 low c = omega (arith, start c .pre .lent .all .faces .most, c .loop-test .taken)
 
 -- ---- the needs

@@ -3,6 +3,7 @@ use mathlib.Core.Path.{_≡_, subst, sym, _∙_}
 use Prim.Native.Nat.{_-_, _<_}
 use native.Mathlib.Omega.{arith}
 use denote.Ref.{now}
+use Rattle.paper.specs.Numbers.{mostCandidates}
 use Rattle.exact.specs.Size.{Within}
 use Rattle.polygon.specs.Rings.{FaceRow}
 use Rattle.polygon.proofs.Planes.{face-normal}
@@ -37,7 +38,7 @@ face-of : (c : tie.After-normal Inv-loop μ-loop)
     → let a = entry (c .before .before) .args in FaceRow (now (a .xyz)) (now (a .rows)) (c .before .before .loop .k) (c .normal .result)
 face-of c = face-at (faces (c .before .before)) _ (c .before .loop-test .taken) (c .normal .ensures)
 
-low : (c : tie.In-loop Inv-loop μ-loop) → c .before .loop .k < 64
+low : (c : tie.In-loop Inv-loop μ-loop) → c .before .loop .k < mostCandidates
 low c = omega (arith, faces (c .before) .most, c .loop-test .taken)
 
 -- ---- the needs

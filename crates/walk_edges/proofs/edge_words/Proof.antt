@@ -5,6 +5,7 @@ use Prim.Native.Nat.{_-_, _<_, _≤_, ℕ}
 use native.Mathlib.Omega.{arith}
 use lib.ListN.{length}
 use denote.Ref.{now}
+use Rattle.paper.specs.Numbers.{mostCandidates}
 use Rattle.paper.specs.Drawing.{edge}
 use Rattle.paper.specs.Loops.{loopAt}
 use Rattle.paper.specs.Solids.{has, runsUp, tablesOf}
@@ -104,7 +105,7 @@ returns c w =
     let o = l .inv w in
     let e : l .k ≡ length (w .loops) = omega (arith, o .not-past, w .count) in
     let es = w .drawing .edges in
-    let most : l .k ≤ 64 = omega (arith, w .most, o .not-past) in
+    let most : l .k ≤ mostCandidates = omega (arith, w .most, o .not-past) in
     record {
       on-are = columns-all (edge 0 0) has es (w .loops) (l .on) (l .k) e most (w .small .edges) (o .on-in);
       up-are = columns-all (edge 0 0) runsUp es (w .loops) (l .up) (l .k) e most (w .small .edges) (o .up-in);

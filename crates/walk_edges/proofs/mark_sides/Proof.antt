@@ -8,6 +8,7 @@ use Prim.Native.Nat.{_*_, _+_, _-_, _<_, ℕ}
 use native.Mathlib.Omega.{arith}
 use lib.ListN.{getD, length}
 use denote.Ref.{now}
+use Rattle.paper.specs.Numbers.{mostVertices, mostEdges, mostCandidates}
 use borrow.Author.Needs.{needs}
 use Rattle.fast_tables.specs.Hits.{sideMask}
 use Rattle.loop_words.specs.Numbered.{pairAt}
@@ -52,7 +53,7 @@ here : (c : tie.In-loop Inv-loop μ-loop) (w : RowAt (entry (c .before))) → c 
 here c w = omega (arith, c .before .loop .inv w .whole)
 
 -- the corner before, and the corner
-before-low : (c : tie.In-loop Inv-loop μ-loop) (w : RowAt (entry (c .before))) → c .before .loop .a < 32
+before-low : (c : tie.In-loop Inv-loop μ-loop) (w : RowAt (entry (c .before))) → c .before .loop .a < mostVertices
 before-low c w =
     let l = c .before .loop in
     let r = w .drawn in
@@ -63,13 +64,13 @@ corner-is : (c : tie.After-wide3 Inv-loop μ-loop) (w : RowAt (entry (turn c .be
     → c .wide3 .result ≡ getD (w .drawn .loop) (turn c .before .loop .i) 0
 corner-is c w = c .wide3 .ensures ∙ w .drawn .vertex (turn c .before .loop .i) (here (turn c) w)
 
-corner-low : (c : tie.After-wide3 Inv-loop μ-loop) (w : RowAt (entry (turn c .before))) → c .wide3 .result < 32
+corner-low : (c : tie.After-wide3 Inv-loop μ-loop) (w : RowAt (entry (turn c .before))) → c .wide3 .result < mostVertices
 corner-low c w =
     let r = w .drawn in
     omega (arith, corner-is c w, r .path .below (turn c .before .loop .i) (here (turn c) w), r .small .vertices)
 
 -- both are in the table of pairs
-pair-low : (c : tie.After-wide3 Inv-loop μ-loop) → (turn c .before .loop .a < 32) × (c .wide3 .result < 32)
+pair-low : (c : tie.After-wide3 Inv-loop μ-loop) → (turn c .before .loop .a < mostVertices) × (c .wide3 .result < mostVertices)
 pair-low c = let w = entry (turn c .before) .pre .row in (before-low (turn c) w, corner-low c w)
 
 -- the number of the side
@@ -81,17 +82,17 @@ side-is c w =
     let number = now (entry l .args .number) in
     c .wide4 .ensures ∙ (λ t. getD number (pairAt (l .loop .inv w .last t) (corner-is (corner c) w t)) 0)
 
-edge-low : (c : tie.After-wide4 Inv-loop μ-loop) (w : RowAt (entry (turn (corner c) .before))) → c .wide4 .result < 64
+edge-low : (c : tie.After-wide4 Inv-loop μ-loop) (w : RowAt (entry (turn (corner c) .before))) → c .wide4 .result < mostEdges
 edge-low c w =
     let l = turn (corner c) in
     let r = w .drawn in
     let low = side-low (r .drawing) (r .loop) (r .path) _ (r .small .numbered) (l .before .loop .i) (here l w) in
     omega (arith, side-is c w, low, r .small .edges)
 
-low : (c : tie.After-wide4 Inv-loop μ-loop) → c .wide4 .result < 64
+low : (c : tie.After-wide4 Inv-loop μ-loop) → c .wide4 .result < mostEdges
 low c = edge-low c (entry (turn (corner c) .before) .pre .row)
 
-few : (c : tie.After-wide4 Inv-loop μ-loop) → entry (turn (corner c) .before) .args .k < 64
+few : (c : tie.After-wide4 Inv-loop μ-loop) → entry (turn (corner c) .before) .args .k < mostCandidates
 few c = entry (turn (corner c) .before) .pre .row .few
 
 -- it has a place in both lists

@@ -5,6 +5,7 @@ use mathlib.Core.Path.{_≡_, subst, sym, ap, _∙_}
 use Prim.Native.Nat.{_<_}
 use native.Mathlib.Omega.{arith}
 use denote.Ref.{now}
+use Rattle.paper.specs.Numbers.{mostVertices, mostEdges}
 use borrow.Author.Needs.{needs}
 use borrow.Author.Tests.{not-true, not-false}
 use Rattle.sets.specs.Word.{either}
@@ -31,10 +32,10 @@ pierces : (c : tie.After-crosses) (w : EdgeAt (start c)) {t : Bool} → c .cross
 pierces c w e = sym (c .crosses .ensures ∙ pierce-is (w .lent) _ _ (w .a-low) (w .b-low)) ∙ e
 
 -- both vertices are in the table of pairs, and the number in that of words
-low : (s : tie.Start) → (s .args .a < 32) × (s .args .b < 32)
+low : (s : tie.Start) → (s .args .a < mostVertices) × (s .args .b < mostVertices)
 low s = let w = s .pre in (vertex-low (w .lent .known) _ (w .a-low), vertex-low (w .lent .known) _ (w .b-low))
 
-edge-low : (c : tie.After-wide) → c .wide .result < 64
+edge-low : (c : tie.After-wide) → c .wide .result < mostEdges
 edge-low c =
     let w = start (c .before .before .before) .pre in
     number-low (w .lent) _ _ (w .a-low) (w .b-low) (w .tied) (c .wide .result) (c .wide .ensures)

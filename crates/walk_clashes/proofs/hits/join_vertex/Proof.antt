@@ -5,6 +5,7 @@ use mathlib.Core.Path.{_≡_, subst, sym, ap, _∙_}
 use Prim.Native.Nat.{_<_}
 use native.Mathlib.Omega.{arith}
 use denote.Ref.{now}
+use Rattle.paper.specs.Numbers.{mostVertices}
 use borrow.Author.Needs.{needs}
 use borrow.Author.Tests.{not-true, not-false}
 use Rattle.exact.proofs.Size.{within-lit}
@@ -36,7 +37,7 @@ inner c w e =
     let p = c .before .point-at .ensures ∙ at-is k _ (w .v-low) in
     sym (c .lies-inside .ensures ∙ (λ i. isInside (lies (exactly (p i)) (polygon-of k i)))) ∙ e
 
-v-low : (s : tie.Start) → s .args .v < 32
+v-low : (s : tie.Start) → s .args .v < mostVertices
 v-low s = let w = s .pre in vertex-low (w .lent .known) _ (w .v-low)
 
 point-at-requires : tie.Need-point-at-requires

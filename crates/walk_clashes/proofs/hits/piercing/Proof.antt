@@ -7,6 +7,7 @@ use native.Mathlib.Omega.{arith}
 use lib.Dec.{eqb}
 use lib.ListN.{length}
 use denote.Ref.{now}
+use Rattle.paper.specs.Numbers.{mostVertices}
 use borrow.Author.Needs.{needs}
 use borrow.Author.Tests.{eqb-false, not-true, not-false}
 use Rattle.sets.specs.Sets.{size}
@@ -65,7 +66,7 @@ low c w =
     above-low (wireOf k) (allOf k) (knownLoop k) _
     (left-known _ _ _ _ (turn (c .before) .loop .inv w) (some (c .before)) (c .lowest .result) (c .lowest .ensures))
 
-a-low : (c : tie.After-lowest Inv-loop μ-loop) → c .lowest .result < 32
+a-low : (c : tie.After-lowest Inv-loop μ-loop) → c .lowest .result < mostVertices
 a-low c = let w = lent (start (turn (c .before) .before)) in vertex-low (w .lent .known) _ (low c w)
 
 -- the vertex was found before those joined to it were read

@@ -6,6 +6,7 @@ use Prim.Native.Nat.{ℕ, _-_, _<_, _≤_}
 use native.Mathlib.Omega.{arith}
 use lib.ListN.{length}
 use denote.Ref.{now}
+use Rattle.paper.specs.Numbers.{mostVertices, mostCandidates}
 use Rattle.lists.specs.Lists.{upto, member}
 use Rattle.lists.proofs.Places.{made-at, made-length, upto-length}
 use Rattle.sets.specs.Word.{dig}
@@ -33,13 +34,13 @@ abbrev μ-loop : tie.MeasureT-loop
 
 -- a corner is a vertex
 corner-low : {corners : List ℕ} {n : ℕ} (w : CornersOf corners n) (k j : ℕ) → dig (cornerMask (w .drawing) (loopAt (w .loops) k)) j ≡ true
-    → j < 32
+    → j < mostVertices
 unfolding cornerMask
 corner-low w k j t =
     let v = length (w .drawing .vertices) in
     omega (arith, map-yes (λ u. member u (loopAt (w .loops) k)) 0 (upto v) j t .0, upto-length v, w .small)
 
-few : (c : tie.In-loop Inv-loop μ-loop) → c .before .loop .k < 64
+few : (c : tie.In-loop Inv-loop μ-loop) → c .before .loop .k < mostCandidates
 few c = omega (arith, c .before .before .pre .of .most, c .loop-test .taken)
 
 loop-holds : tie.Need-loop-holds Inv-loop μ-loop
