@@ -7,8 +7,7 @@ use Prim.Native.Nat.{ℕ, _<_}
 use lib.IntN.{ℤ}
 use lib.ListN.{length, getD}
 use Rattle.sets.specs.Word.{either, less}
-use Rattle.sets.specs.Sets.{Is, maskAt}
-use Rattle.sets.specs.declared.Set.{Set}
+use Rattle.sets.specs.Sets.{wides, Wide}
 use Rattle.paper.specs.Numbers.{mostCandidates}
 use Rattle.paper.specs.Drawing.{Wire}
 use Rattle.paper.specs.Loops.{Loop, loopAt, candidates}
@@ -23,7 +22,7 @@ use Rattle.walk_clashes.specs.Folds.{foldMask}
 
 pub record ClashLent (xyz : List ℤ) (rows near number on corner-words corners sides : List ℕ) (normals : List ℤ) (n : ℕ) : Type 0 where
   pub all : AllLent xyz rows near number on corner-words corners normals n
-  pub sides-are : (k : ℕ) → k < n → Is (maskAt sides k) (sideMask (drawingOf (all .faces)) (loopAt (all .faces .loops) k))
+  pub sides-are : (k : ℕ) → k < n → wides .Is (wides .at sides k) (sideMask (drawingOf (all .faces)) (loopAt (all .faces .loops) k))
   pub passed : Passed xyz (all .faces .ends)
   pub are : all .faces .loops ≡ candidates (drawingOf (all .faces))
 
@@ -36,10 +35,10 @@ module _ {xyz : List ℤ} {rows near number on corner-words corners sides : List
   allLent w = w .all .faces .loops
 
   -- those that go through g, and those after g that fold with it and are not known
-  abbrev pub SetOf : ClashLent xyz rows near number on corner-words corners sides normals n → ℕ → Set → Set → Type 0
+  abbrev pub SetOf : ClashLent xyz rows near number on corner-words corners sides normals n → ℕ → Wide → Wide → Type 0
   SetOf w g known r =
       let hit = hitMask (wireLent w) (allLent w) g in
-      (s : List Bool) → Is known s → Is r (either hit (less (foldMask (wireLent w) (allLent w) g) (either s hit)))
+      (s : List Bool) → wides .Is known s → wides .Is r (either hit (less (foldMask (wireLent w) (allLent w) g) (either s hit)))
 
   -- the words are the masks of those that clash
   abbrev pub ClashMasks : ClashLent xyz rows near number on corner-words corners sides normals n → List ℕ → Type 0

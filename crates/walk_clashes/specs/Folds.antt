@@ -9,8 +9,7 @@ use lib.IntN.{ℤ}
 use lib.ListN.{length}
 use Rattle.lists.specs.Lists.{upto}
 use Rattle.sets.specs.Word.{dig, less}
-use Rattle.sets.specs.Sets.{Is, maskAt}
-use Rattle.sets.specs.declared.Set.{Set}
+use Rattle.sets.specs.Sets.{Is, maskAt, wides, Wide}
 use Rattle.paper.specs.Numbers.{leastCorners}
 use Rattle.paper.specs.Drawing.{Wire}
 use Rattle.paper.specs.Loops.{Loop, loopAt}
@@ -30,7 +29,7 @@ foldMask d cs i = map (foldsAfter d cs i) (upto (length cs))
 pub record FoldLent (xyz : List ℤ) (rows corners sides : List ℕ) (normals : List ℤ) (n : ℕ) : Type 0 where
   pub faces : DrawnFaces xyz rows n
   pub own-are : (k : ℕ) → k < n → Is (maskAt corners k) (cornerMask (drawingOf faces) (loopAt (faces .loops) k))
-  pub sides-are : (k : ℕ) → k < n → Is (maskAt sides k) (sideMask (drawingOf faces) (loopAt (faces .loops) k))
+  pub sides-are : (k : ℕ) → k < n → wides .Is (wides .at sides k) (sideMask (drawingOf faces) (loopAt (faces .loops) k))
   pub normals-are : NormalsOf xyz rows n normals
 
 -- ---- two of them, of which the first has more than three corners
@@ -47,10 +46,10 @@ module _ {xyz : List ℤ} {rows corners sides : List ℕ} {normals : List ℤ} {
   PairFolds w r = r ≡ foldsAfter (drawingOf (w .lent .faces)) (w .lent .faces .loops) g j
 
   -- j joins those before it in a set, where it folds and is not known
-  abbrev pub PairJoins : PairLent xyz rows corners sides normals g j → Set → Set → Set → Type 0
+  abbrev pub PairJoins : PairLent xyz rows corners sides normals g j → Wide → Wide → Wide → Type 0
   PairJoins w known x r =
       let test = foldsAfter (drawingOf (w .lent .faces)) (w .lent .faces .loops) g in
-      (s : List Bool) → Is known s → Upto (λ u. test u && not (dig s u)) j x → Upto (λ u. test u && not (dig s u)) (j + 1) r
+      (s : List Bool) → wides .Is known s → Upto (λ u. test u && not (dig s u)) j x → Upto (λ u. test u && not (dig s u)) (j + 1) r
 
 -- ---- all after candidate g
 
@@ -60,6 +59,6 @@ pub record FoldStart (xyz : List ℤ) (rows corners sides : List ℕ) (normals :
 
 -- those that fold with it and are not known
 abbrev pub FoldsAfter : {xyz : List ℤ} {rows corners sides : List ℕ} {normals : List ℤ} {n : ℕ}
-    → FoldLent xyz rows corners sides normals n → ℕ → Set → Set → Type 0
+    → FoldLent xyz rows corners sides normals n → ℕ → Wide → Wide → Type 0
 FoldsAfter w g known r =
-    (s : List Bool) → Is known s → Is r (less (foldMask (drawingOf (w .faces)) (w .faces .loops) g) s)
+    (s : List Bool) → wides .Is known s → wides .Is r (less (foldMask (drawingOf (w .faces)) (w .faces .loops) g) s)

@@ -8,7 +8,7 @@ use lib.IntN.{ℤ}
 use lib.ListN.{length}
 use Rattle.lists.specs.Lists.{member}
 use Rattle.sets.specs.Word.{both, either, less}
-use Rattle.sets.specs.Sets.{Is, maskAt}
+use Rattle.sets.specs.Sets.{Is, maskAt, wides, Wide}
 use Rattle.sets.specs.declared.Set.{Set}
 use Rattle.paper.specs.Polygon.{normal, exactly, lies, isInside}
 use Rattle.paper.specs.Drawing.{Wire, edge, at, joined}
@@ -67,12 +67,13 @@ pub record EdgeLent (xyz : List ℤ) (rows number on : List ℕ) (g : ℕ) (m : 
 
 -- the candidates on it join a set where it pierces g
 abbrev pub EdgeJoins : {xyz : List ℤ} {rows number on : List ℕ} {g : ℕ} {m : Point} {a b : ℕ}
-    → EdgeLent xyz rows number on g m a b → Set → Set
+    → EdgeLent xyz rows number on g m a b → Wide → Wide
     → Type 0
 EdgeJoins {a = a} {b = b} w x r =
     let d = wireOf (w .lent .known) in
-    (s : List Bool) → Is x s
-    → Is r (either s (cond (edgePierces d (knownLoop (w .lent .known)) (edge a b)) (map (has (edge a b)) (allOf (w .lent .known))) []))
+    (s : List Bool) → wides .Is x s
+    → wides .Is r
+    (either s (cond (edgePierces d (knownLoop (w .lent .known)) (edge a b)) (map (has (edge a b)) (allOf (w .lent .known))) []))
 
 -- ---- the edges from a to the vertices below g's plane
 
@@ -82,16 +83,16 @@ pub record DownLent (xyz : List ℤ) (rows number on : List ℕ) (g : ℕ) (m : 
   pub under-is : Is under (both (nearMask (wireOf (lent .known)) a) (belowMask (wireOf (lent .known)) (knownLoop (lent .known))))
 
 -- and a set for the candidates on them, which stands for some mask
-pub record DownStart (xyz : List ℤ) (rows number on : List ℕ) (g : ℕ) (m : Point) (a : ℕ) (under set : Set) : Type 0 where
+pub record DownStart (xyz : List ℤ) (rows number on : List ℕ) (g : ℕ) (m : Point) (a : ℕ) (under : Set) (set : Wide) : Type 0 where
   pub down : DownLent xyz rows number on g m a under
   pub mask : List Bool
-  pub mask-is : Is set mask
+  pub mask-is : wides .Is set mask
 
 abbrev pub DownJoins : {xyz : List ℤ} {rows number on : List ℕ} {g : ℕ} {m : Point} {a : ℕ} {under : Set}
-    → DownLent xyz rows number on g m a under → Set → Set → Type 0
+    → DownLent xyz rows number on g m a under → Wide → Wide → Type 0
 DownJoins {a = a} w x r =
     let k = w .lent .known in
-    (s : List Bool) → Is x s → Is r (downFrom (wireOf k) (allOf k) (knownLoop k) a s)
+    (s : List Bool) → wides .Is x s → wides .Is r (downFrom (wireOf k) (allOf k) (knownLoop k) a s)
 
 -- ---- rule A, of all edges: the vertices joined to each, those above g's plane and those below it
 
@@ -102,14 +103,14 @@ pub record PierceLent (xyz : List ℤ) (rows near number on : List ℕ) (g : ℕ
   pub below-is : Is (s .below) (belowMask (wireOf (lent .known)) (knownLoop (lent .known)))
 
 abbrev pub Through : {xyz : List ℤ} {rows near number on : List ℕ} {g : ℕ} {m : Point} {s : Sides}
-    → PierceLent xyz rows near number on g m s → Set → Type 0
-Through w r = Is r (throughMask (wireOf (w .lent .known)) (allOf (w .lent .known)) (knownLoop (w .lent .known)))
+    → PierceLent xyz rows near number on g m s → Wide → Type 0
+Through w r = wides .Is r (throughMask (wireOf (w .lent .known)) (allOf (w .lent .known)) (knownLoop (w .lent .known)))
 
 -- ---- rule B: the words of the candidates with each vertex, and the vertices to ask
 
 pub record CornersLent (xyz : List ℤ) (rows corner-words : List ℕ) (g : ℕ) (m : Point) : Type 0 where
   pub known : KnownFace xyz rows g m
-  pub at-are : (v : ℕ) → v < length (wireOf known .vertices) → Is (maskAt corner-words v) (map (member v) (allOf known))
+  pub at-are : (v : ℕ) → v < length (wireOf known .vertices) → wides .Is (wides .at corner-words v) (map (member v) (allOf known))
 
 pub record VertexLent (xyz : List ℤ) (rows corner-words : List ℕ) (g : ℕ) (m : Point) (v : ℕ) : Type 0 where
   pub lent : CornersLent xyz rows corner-words g m
@@ -117,19 +118,20 @@ pub record VertexLent (xyz : List ℤ) (rows corner-words : List ℕ) (g : ℕ) 
 
 -- the candidates with vertex v join a set where it is strictly inside g
 abbrev pub VertexJoins : {xyz : List ℤ} {rows corner-words : List ℕ} {g : ℕ} {m : Point} {v : ℕ}
-    → VertexLent xyz rows corner-words g m v → Set → Set → Type 0
+    → VertexLent xyz rows corner-words g m v → Wide → Wide → Type 0
 VertexJoins {v = v} w x r =
     let k = w .lent .known in
-    (s : List Bool) → Is x s
-    → Is r (either s (cond (isInside (lies (exactly (vertexOf k v)) (polygon (wireOf k) (knownLoop k)))) (map (member v) (allOf k)) []))
+    (s : List Bool) → wides .Is x s
+    → wides .Is r
+    (either s (cond (isInside (lies (exactly (vertexOf k v)) (polygon (wireOf k) (knownLoop k)))) (map (member v) (allOf k)) []))
 
 pub record EnterLent (xyz : List ℤ) (rows corner-words : List ℕ) (g : ℕ) (m : Point) (asked : Set) : Type 0 where
   pub lent : CornersLent xyz rows corner-words g m
   pub asked-is : let k = lent .known in Is asked (less (loopPlane (wireOf k) (knownLoop k)) (cornerMask (wireOf k) (knownLoop k)))
 
 abbrev pub Inside : {xyz : List ℤ} {rows corner-words : List ℕ} {g : ℕ} {m : Point} {asked : Set}
-    → EnterLent xyz rows corner-words g m asked → Set → Type 0
-Inside w r = let k = w .lent .known in Is r (insideMask (wireOf k) (allOf k) (knownLoop k))
+    → EnterLent xyz rows corner-words g m asked → Wide → Type 0
+Inside w r = let k = w .lent .known in wides .Is r (insideMask (wireOf k) (allOf k) (knownLoop k))
 
 -- ---- both, of n candidates and of one of them
 
@@ -138,7 +140,7 @@ pub record AllLent (xyz : List ℤ) (rows near number on corner-words corners : 
   pub numbered : EdgesNumbered number (drawingOf faces .edges)
   pub on-are : Masks on (tablesOf (drawingOf faces) (faces .loops) .masks)
   pub near-are : (a : ℕ) → a < length (drawingOf faces .vertices) → Is (maskAt near a) (nearMask (drawingOf faces) a)
-  pub at-are : (v : ℕ) → v < length (drawingOf faces .vertices) → Is (maskAt corner-words v) (map (member v) (faces .loops))
+  pub at-are : (v : ℕ) → v < length (drawingOf faces .vertices) → wides .Is (wides .at corner-words v) (map (member v) (faces .loops))
   pub own-are : (k : ℕ) → k < n → Is (maskAt corners k) (cornerMask (drawingOf faces) (loopAt (faces .loops) k))
   pub normals-are : NormalsOf xyz rows n normals
 
@@ -149,5 +151,5 @@ pub record HitLent (xyz : List ℤ) (rows near number on corner-words corners : 
 
 -- those that go through candidate g
 abbrev pub Hits : {xyz : List ℤ} {rows near number on corner-words corners : List ℕ} {normals : List ℤ} {g : ℕ}
-    → HitLent xyz rows near number on corner-words corners normals g → Set → Type 0
-Hits {g = g} w r = Is r (hitMask (drawingOf (w .all .faces)) (w .all .faces .loops) g)
+    → HitLent xyz rows near number on corner-words corners normals g → Wide → Type 0
+Hits {g = g} w r = wides .Is r (hitMask (drawingOf (w .all .faces)) (w .all .faces .loops) g)

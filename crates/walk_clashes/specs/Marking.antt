@@ -7,7 +7,7 @@ use lib.Dec.{eqb}
 use lib.ListN.{length, getD}
 use Rattle.lists.specs.Lists.{member}
 use Rattle.sets.specs.Word.{dig, digit}
-use Rattle.sets.specs.Sets.{Is, maskAt}
+use Rattle.sets.specs.Sets.{Is, maskAt, wides, Wide}
 use Rattle.sets.specs.declared.Set.{Set}
 use Rattle.paper.specs.Numbers.{mostVertices, mostCandidates}
 use Rattle.paper.specs.Drawing.{Wire}
@@ -29,14 +29,14 @@ pub record MarkedBy (set : Set) (k : ℕ) (words₀ words : List ℕ) : Type 0 w
 
 -- ---- both ways
 
-pub record BothRoom (words : List ℕ) (set : Set) (k : ℕ) : Type 0 where
+pub record BothRoom (words : List ℕ) (set : Wide) (k : ℕ) : Type 0 where
   pub mask : List Bool
-  pub mask-is : Is set mask
+  pub mask-is : wides .Is set mask
   pub whole : length words ≡ mostCandidates
   pub few : k < mostCandidates
 
-pub record BothBy (set : Set) (k : ℕ) (words₀ words : List ℕ) : Type 0 where
-  pub marked : (mask : List Bool) → Is set mask → (e u : ℕ)
+pub record BothBy (set : Wide) (k : ℕ) (words₀ words : List ℕ) : Type 0 where
+  pub marked : (mask : List Bool) → wides .Is set mask → (e u : ℕ)
       → digit (getD words e 0) u ≡ ((digit (getD words₀ e 0) u || (eqb e k && dig mask u)) || (dig mask e && eqb u k))
   pub long : length words ≡ length words₀
 
@@ -58,4 +58,4 @@ pub record CornerRoom (corners : List ℕ) (n : ℕ) (words : List ℕ) : Type 0
 
 -- the word of a vertex has the candidates with it
 abbrev pub VertexWords : {corners : List ℕ} {n : ℕ} → CornersOf corners n → List ℕ → Type 0
-VertexWords w words = (v : ℕ) → v < length (w .drawing .vertices) → Is (maskAt words v) (map (member v) (w .loops))
+VertexWords w words = (v : ℕ) → v < length (w .drawing .vertices) → wides .Is (wides .at words v) (map (member v) (w .loops))

@@ -1,7 +1,7 @@
 // The candidates that fold with a candidate: rule C, asked only of those that share enough corners. Assumes a table of candidates of a
 // drawing in range, with their normals and the words of their corners and sides.
 ghost use mathlib.Core.Path.{_≡_};
-ghost use Rattle.sets.specs.Sets.{size};
+ghost use Rattle.sets.specs.Sets.{size, wides};
 ghost use Rattle.fast_tables.specs.Hits.{shareEnough};
 ghost use Rattle.walk_clashes.specs.Folds.{PairLent, PairFolds, PairJoins, FoldStart, FoldLent, FoldsAfter};
 use super::NORMALS;
@@ -15,7 +15,7 @@ use sets::Wide;
 
 // Two candidates with these corners and sides in common share three corners, or two that are no common side.
 fn may_fold(shared: Set, common: Wide) -> bool
-    ensures { λ r. ⌜ r ≡ shareEnough (size shared) (size common) ⌝ }
+    ensures { λ r. ⌜ r ≡ shareEnough (size shared) (wides .size common) ⌝ }
 {
     if shared.is_empty() {
         return false;
