@@ -2,18 +2,19 @@
 use mathlib.Core.Path.{_≡_, refl, sym, ap, ap₂, subst, _∙_}
 use mathlib.Core.Bool.{Bool, true, not, _&&_}
 use mathlib.Core.List.{List, [], _∷_, _++_, map, flatMap}
-use Prim.Native.Nat.{ℕ, _*_}
+use Prim.Native.Nat.{ℕ, _*_, suc, zero}
 use native.Mathlib.Omega.{arith}
 use borrow.Author.Tests.{leb-true}
 use lib.Dec.{leb}
 use lib.IntN.{ℤ, pos, natAbs}
-use lib.ListN.{length, getD}
+use lib.ListN.{length, getD, take}
 use Rattle.lists.specs.Lists.{all}
 use Rattle.lists.proofs.Passing.{all-yes}
 use Rattle.sets.specs.Word.{digits, less, word}
 use Rattle.sets.proofs.Digits.{dig-less}
 use Rattle.sets.proofs.Numbers.{same-word}
-use Rattle.paper.specs.Numbers.{farthest, mostWork, faceRoom, solidRoom}
+use Rattle.paper.specs.Record.{entry, setOf}
+use Rattle.paper.specs.Numbers.{farthest, mostWork, faceRoom, solidRoom, wordBits}
 use Rattle.paper.specs.Points.{pt, plus, times}
 use Rattle.paper.specs.Questions.{Drawn, neg, reply, faceBefore, solidBefore}
 use Rattle.paper.specs.Known.Drawings.{cube, outward, inwardFaces, octahedron}
@@ -106,14 +107,14 @@ mirrored = record {
 module _ (f : Entry → Entry) (r q : Converted) (a b six : ℕ) where
   record First : Type 0 where
     solid : Entry
-    taken-word : word (solid .taken) ≡ a
-    turned-word : word (solid .turned) ≡ b
+    taken-word : word (take wordBits (solid .taken)) ≡ a
+    turned-word : word (take wordBits (solid .turned)) ≡ b
     six-volumes : solid .six ≡ six
     moved : q .solids ≡ wordsOf (f solid) ++ solidBefore 21
 
   first-words : (es : List Entry) → length es ≡ 1 → r .solids ≡ solidsFor (solidBefore solidRoom) es
       → q .solids ≡ solidsFor (solidBefore solidRoom) (map f es) → r .solids ≡ one a b six → First
-  unfolding solidsFor flatMap
+  unfolding solidsFor flatMap entry setOf
   first-words [] n p m s = absurd (omega arith)
   first-words (e ∷ []) n p m s = record {
     solid = e;
@@ -125,10 +126,21 @@ module _ (f : Entry → Entry) (r q : Converted) (a b six : ℕ) where
   first-words (e ∷ (e′ ∷ es)) n p m s = absurd (omega arith)
 
 -- a set is told by its word
-less-words : (a b c d : List Bool) → word a ≡ word c → word b ≡ word d → word (less a b) ≡ word (less c d)
+take-less : (n : ℕ) (a b : List Bool) → take n (less a b) ≡ less (take n a) (take n b)
+unfolding less
+take-less zero a b = refl
+take-less (suc n) [] b = refl
+take-less (suc n) (x ∷ a) [] = refl
+take-less (suc n) (x ∷ a) (y ∷ b) = ap (λ (l : List Bool). (x && not y) ∷ l) (take-less n a b)
+
+less-words : (a b c d : List Bool) → word (take wordBits a) ≡ word c → word (take wordBits b) ≡ word d
+    → word (take wordBits (less a b)) ≡ word (less c d)
 less-words a b c d p q =
-    same-word (less a b) (less c d)
-    (λ k. dig-less a b k ∙ ap₂ (λ (x y : Bool). x && not y) (word-same a c p k) (word-same b d q k) ∙ sym (dig-less c d k))
+    let front = take wordBits a in
+    let turned = take wordBits b in
+    ap word (take-less wordBits a b)
+    ∙ same-word (less front turned) (less c d)
+    (λ k. dig-less front turned k ∙ ap₂ (λ (x y : Bool). x && not y) (word-same front c p k) (word-same turned d q k) ∙ sym (dig-less c d k))
 
 pub octahedron-mirrored : Mirrored (solidBefore solidRoom) (result (of octahedron)) (result (of mirrored))
 unfolding eachVertex
@@ -139,12 +151,12 @@ mirrored-answer = octahedron-mirrored .answers ∙ ap (λ (s : Said). s .0) octa
 
 -- of the taken ones, 990, those that were turned are 588, and in the mirror the others, 402
 pub mirrored-words : result (of mirrored) .solids ≡ one 990 402 8000
-unfolding word digits less
+unfolding word digits less entry setOf
 mirrored-words =
     let m = octahedron-mirrored in
     let w = first-words flip (result (of octahedron)) (result (of mirrored)) 990 588 8000 (m .es)
     (m .count ∙ octahedron-one) (m .words) (m .flipped) (ap (λ (s : Said). s .1) octahedron-said) in
-    let others : word (less (w .solid .taken) (w .solid .turned)) ≡ 402 = less-words (w .solid .taken) (w .solid .turned) (digits 10 990)
+    let others : word (take wordBits (less (w .solid .taken) (w .solid .turned))) ≡ 402 = less-words (w .solid .taken) (w .solid .turned) (digits 10 990)
     (digits 10 588) (w .taken-word) (w .turned-word) in
     w .moved ∙ (λ i. one (w .taken-word i) (others i) (w .six-volumes i))
 
@@ -216,6 +228,7 @@ pub doubled-answer : result (of double) .answer ≡ Conversion.One 6 6 0 48000
 doubled-answer = cube-doubled .answers ∙ ap (λ (s : Said). grown 8 (s .0)) cube-said
 
 pub doubled-words : result (of double) .solids ≡ one 63 21 48000
+unfolding entry setOf
 doubled-words =
     let m = cube-doubled in
     let w = first-words (enlarge 2) (result (of cube)) (result (of double)) 63 21 6000 (m .es)
