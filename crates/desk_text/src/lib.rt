@@ -20,7 +20,7 @@ use paper::SET_WORDS;
 use paper::SOLID_ROOM;
 use paper::WORD_BITS;
 use paper::Written;
-use paper_values::edition_one;
+use paper_values::edition_of;
 use rooms::copy_bytes;
 
 // No text is longer: a number has at most 20 digits, a candidate's at most 2 behind a blank and a sign, and the rest are the document's
@@ -45,7 +45,7 @@ fn counted(sheet: &[u8]) -> SheetCounts
             edges: 0,
         };
     }
-    let f = edition_one();
+    let f = edition_of(sheet);
     let v = f.vertex_count_bits;
     let e = f.edge_count_bits;
     SheetCounts {

@@ -3,18 +3,20 @@ use mathlib.Core.Path.{_≡_, ap, _∙_}
 use Prim.Native.Nat.{_+_}
 use native.Mathlib.Omega.{arith}
 use Rattle.pack.specs.Bits.{fieldAt}
-use Rattle.paper.specs.Format.{editionBits}
+use Rattle.paper.specs.Format.{editionOne, editionOf, editionBits}
 use Rattle.paper.specs.declared.Format.{Format}
 use borrow.Author.Needs.{needs}
 use Rattle.desk_text.proofs.counted.Statement.{statement}
 use Rattle.desk_text.proofs.counted.Tie as tie
 
 -- the widths are those of edition 1
-vertex-bits : (c : tie.After-edition-one) → c .edition-one .result .«vertex_count_bits» ≡ 6
-vertex-bits c = ap (λ (f : Format). f .«vertex_count_bits») (c .edition-one .ensures)
+vertex-bits : (c : tie.After-edition-of) → c .edition-of .result .«vertex_count_bits» ≡ editionOne .«vertex_count_bits»
+unfolding editionOf
+vertex-bits c = ap (λ (f : Format). f .«vertex_count_bits») (c .edition-of .ensures)
 
-edge-bits : (c : tie.After-edition-one) → c .edition-one .result .«edge_count_bits» ≡ 7
-edge-bits c = ap (λ (f : Format). f .«edge_count_bits») (c .edition-one .ensures)
+edge-bits : (c : tie.After-edition-of) → c .edition-of .result .«edge_count_bits» ≡ editionOne .«edge_count_bits»
+unfolding editionOf
+edge-bits c = ap (λ (f : Format). f .«edge_count_bits») (c .edition-of .ensures)
 
 returns : tie.Need-returns
 returns c = λ h. absurd (omega arith)
@@ -29,6 +31,7 @@ field-requires-2 : tie.Need-field-requires-2
 field-requires-2 c κs = let f = c .before in record { narrow = omega (arith, edge-bits f); inside = omega (arith, vertex-bits f, edge-bits f) }
 
 returns-2 : tie.Need-returns-2
+unfolding editionOf
 returns-2 c =
     let f = c .before .before in
     let s = f .before .before .before .args .sheet .now in
