@@ -20,7 +20,7 @@ abbrev sent : tie.After-put-said-arg → tie.After-nibgravel-write-faces
 sent c = c .before .before .before .before .before
 
 abbrev turned : tie.After-nibgravel-write-faces → tie.After-word-at2
-turned c = c .before .before .before
+turned c = c .before .before .before .before
 
 abbrev start : tie.After-word-at2 → tie.Start
 start c = c .before .before .before .before .before .before
@@ -28,10 +28,10 @@ start c = c .before .before .before .before .before .before
 -- ---- what is put: so many bytes
 
 abbrev put : tie.After-put-said-arg → List ℕ
-put c = let l = sent c .nibgravel-write-faces .last .1 .1 .1 in wordsBytes (l .1 .0) ++ l .0
+put c = let l = sent c .nibgravel-write-faces .last .1 .1 .1 .1 in wordsBytes (l .1 .0) ++ l .0
 
 long : (c : tie.After-put-said-arg) → length (put c) ≡ sentLength
-long c = let l = sent c .nibgravel-write-faces .last .1 .1 .1 in omega (arith, said-long (l .1 .0) (l .0))
+long c = let l = sent c .nibgravel-write-faces .last .1 .1 .1 .1 in omega (arith, said-long (l .1 .0) (l .0))
 
 -- ---- the needs
 
@@ -58,5 +58,6 @@ returns-2 c =
 pub put-faces-spec : {M : Type 1} → statement M
 put-faces-spec =
     tie.close
-    (tie.spec returns (λ c κs. search needs) (λ c κs. search needs) (λ c. search needs) (λ c. search needs) (λ c κs. search needs)
+    (tie.spec returns (λ c κs. search needs) (λ c κs. search needs) (λ c. search needs) (λ c. search needs) (λ c. search needs)
+    (λ c κs. search needs)
     (λ c. search needs) (λ c. search needs) put-said-requires (λ c. search needs) returns-2)
