@@ -3,7 +3,7 @@ use mathlib.Core.Bool.{Bool, true}
 use mathlib.Core.Logic.{inl, inr}
 use mathlib.Core.List.{List, [], _∷_, flatMap}
 use mathlib.Core.Path.{_≡_, refl, sym, ap, _∙_}
-use Prim.Native.Nat.{ℕ, _+_, _*_, _≤_, _<_}
+use Prim.Native.Nat.{ℕ, _+_, _*_, _≤_, _<_, _/_}
 use native.Mathlib.Omega.{arith}
 use lib.IntN.{ℤ}
 use lib.ListN.{length, take, drop, length-append}
@@ -33,13 +33,15 @@ use Rattle.means_sheets.proofs.FaceLists.Room.{length-encoded}
 use Rattle.demanded.specs.Demanded.{Converts, bySender, Stands, Sends}
 use Rattle.demanded.proofs.Demanding as Demanding
 use Rattle.demanded_together.specs.Together.{Lists, Agrees, AcceptedAsSent}
+use Rattle.paper_laws.proofs.Record.{entry-length}
 use Rattle.paper_laws.proofs.Editions.{wire-edition}
 
 -- three words for each solid
 words-long : (es : List Entry) → length (flatMap wordsOf es) ≡ 3 * length es
 unfolding flatMap
 words-long [] = refl
-words-long (e ∷ es) = omega (arith, words-long es)
+words-long (e ∷ es) =
+    length-append (wordsOf e) (flatMap wordsOf es) ∙ omega (arith, words-long es, entry-length (e .taken) (e .turned) (e .six))
 
 module _ (x : Input) (limit : ℕ) (faces₀ solids₀ : List ℕ) {c : Conversion} {faces solids : List ℕ}
     (e : atExit c faces solids ≡ converted x limit faces₀ solids₀) where

@@ -2,6 +2,7 @@
 // assumed of any input.
 ghost use mathlib.Core.Path.{_≡_};
 ghost use mathlib.Core.Bool.{true};
+ghost use Rattle.paper.specs.Numbers.{solidWords};
 ghost use Rattle.paper.specs.FaceList.{solidFaces};
 ghost use Rattle.paper_laws.specs.InRange.{Held};
 ghost use Rattle.means_report.specs.Report.{solidCount};
@@ -9,6 +10,8 @@ ghost use Rattle.demands.specs.Input.{lent};
 ghost use Rattle.demands.specs.Input as Input;
 ghost use Rattle.demanded_together.specs.Together.{ReadsBack, WrittenFrom, WritesBack, Agrees, AcceptedAsSent};
 ghost use Rattle.demanded_together.specs.Twice.{ConvertsTwice};
+ghost use lib.ListN.{length, drop};
+ghost use Prim.Native.Nat.{_*_, _≤_};
 use convert::convert;
 use convert::convert_sheet;
 use faces_writer::write_faces;
@@ -173,13 +176,16 @@ pub fn sheets_converted_twice(
     }
 }
 
-// The faces of a solid are written as a list, and the list is checked.
-fn sent_and_checked(xyz: &[i64], ends: &[u8], rows: &[u8], solid: &[u64]) -> bool
-    ensures { λ r. ⌜ AcceptedAsSent (lent (now (xyz .entry)) (now (ends .entry))) (solidFaces (now (rows .entry)) (now (solid .entry))) r ⌝ }
+// The faces of solid i are written as a list, and the list is checked.
+fn sent_and_checked(xyz: &[i64], ends: &[u8], rows: &[u8], solids: &[u64], i: usize) -> bool
+    requires { ⌜ solidWords * i ≤ length (now solids) ⌝ }
+    ensures { λ r. ⌜ AcceptedAsSent (lent (now (xyz .entry)) (now (ends .entry)))
+        (solidFaces (now (rows .entry)) (drop (solidWords * i) (now (solids .entry)))) r ⌝ }
 {
     let mut room = [0u8; LIST_ROOM];
     let v = xyz.len() / 3;
     let e = ends.len() / 2;
+    let solid = &solids[WORDS * i..];
     let sent = write_faces(rows, solid, v, e, &mut room);
     match sent {
         Written::Refused(_) => false,
@@ -223,5 +229,5 @@ pub fn reported_and_checked(
     if solids_in(said) <= i {
         return true;
     }
-    sent_and_checked(xyz, ends, faces, &solids[WORDS * i..])
+    sent_and_checked(xyz, ends, faces, solids, i)
 }

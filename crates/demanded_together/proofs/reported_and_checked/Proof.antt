@@ -1,5 +1,5 @@
 -- `demanded_together::reported_and_checked`: a reported solid has its words in the room, and is accepted as sent.
-use Prim.Native.Nat.{_+_, _*_, _<_}
+use Prim.Native.Nat.{_*_, _≤_, _<_}
 use native.Mathlib.Omega.{arith}
 use denote.Ref.{now}
 use lib.ListN.{length}
@@ -22,7 +22,7 @@ there : (e : tie.Else1) → start (made e) .args .i < solidCount (made e .conver
 there e = omega (arith, e .if1 .left, e .before .solids-in .ensures)
 
 abbrev Held : tie.Else1 → Type 0
-Held e = (start (made e) .args .i < 8) × (3 * start (made e) .args .i + 1 < length (made e .convert .last .1 .1 .1 .1 .0))
+Held e = (start (made e) .args .i < 8) × (3 * start (made e) .args .i ≤ length (made e .convert .last .1 .1 .1 .1 .0))
 
 held : (e : tie.Else1) → Held e
 held e =
@@ -30,30 +30,12 @@ held e =
     let a = start k .args in
     in-room (lent (now (a .xyz)) (now (a .ends))) (a .limit) (now (a .faces)) (now (a .solids)) (k .convert .ensures .0) (a .i) (there e)
 
-mul-sent-and-checked : tie.Need-mul-sent-and-checked
-mul-sent-and-checked c = omega (arith, held (c .before))
-
-mul-sent-and-checked-2 : tie.Need-mul-sent-and-checked-2
-mul-sent-and-checked-2 c = omega (arith, held (c .before))
-
-slice-read-sent-and-checked : tie.Need-slice-read-sent-and-checked
-slice-read-sent-and-checked c = omega (arith, held (c .before .before))
-
-mul-sent-and-checked-3 : tie.Need-mul-sent-and-checked-3
-mul-sent-and-checked-3 c = omega (arith, held (c .before .before))
-
-add-sent-and-checked : tie.Need-add-sent-and-checked
-add-sent-and-checked c = omega (arith, held (c .before .before))
-
-mul-sent-and-checked-4 : tie.Need-mul-sent-and-checked-4
-mul-sent-and-checked-4 c = omega (arith, held (c .before .before))
-
-slice-read-sent-and-checked-2 : tie.Need-slice-read-sent-and-checked-2
-slice-read-sent-and-checked-2 c = omega (arith, held (c .before .before .before))
+sent-and-checked-requires : tie.Need-sent-and-checked-requires
+sent-and-checked-requires c κs = held (c .before .before) .1
 
 returns-2 : tie.Need-returns-2
 returns-2 c =
-    let e = c .before .before .before .before in
+    let e = c .before .before .before in
     let k = made e in
     let a = start k .args in
     accepted (lent (now (a .xyz)) (now (a .ends))) (a .limit) (now (a .faces)) (now (a .solids)) (k .convert .ensures .0) (a .i) (there e)
@@ -62,6 +44,5 @@ returns-2 c =
 pub reported-and-checked-spec : {M : Type 1} → statement M
 reported-and-checked-spec =
     tie.close
-    (tie.spec (λ c κs. search needs) (λ c κs. search needs) (λ c. search needs) (λ c. search needs) (λ c. search needs) mul-sent-and-checked
-    mul-sent-and-checked-2 slice-read-sent-and-checked mul-sent-and-checked-3 add-sent-and-checked mul-sent-and-checked-4
-    slice-read-sent-and-checked-2 (λ c κs. search needs) (λ c. search needs) (λ c. search needs) returns-2)
+    (tie.spec (λ c κs. search needs) (λ c κs. search needs) (λ c. search needs) (λ c. search needs) (λ c. search needs)
+    sent-and-checked-requires (λ c. search needs) (λ c. search needs) returns-2)
