@@ -140,7 +140,8 @@ pub fn put_sheet(first: &[u8], ends: &[u8], room: &mut [u8]) -> usize
 // No reply where the solid has other than two words.
 pub fn put_faces(rows: &[u8], solid: &[u8], room: &mut [u8]) -> usize
     requires { ⌜ LongEnough (now room) ⌝ }
-    ensures { λ r. ⌜ Replies (facesReply (now (rows .entry)) (now (solid .entry))) sentLength (now (room .entry)) (now (room .exit)) r ⌝ }
+    ensures { λ r. ⌜ Replies (facesReply (now (rows .entry)) (now (solid .entry))) sentLength (now (room .entry))
+        (now (room .exit)) r ⌝ }
 {
     if solid.len() != SOLID_BYTES {
         return 0;

@@ -32,7 +32,8 @@ pub fn write_faces(
     said: &mut [u64],
 ) -> u64
     ensures { λ r. ⌜ WritesInWords
-        (λ w. Sends (editionFor vertices edges) (solidFaces (now (rows .entry)) (now (solid .entry))) (now (room .entry)) w (now (room .exit)))
+        (λ w. Sends (editionFor vertices edges) (solidFaces (now (rows .entry)) (now (solid .entry))) (now (room .entry)) w
+        (now (room .exit)))
         (now (room .entry)) r (now (room .exit)) (now (said .entry)) (now (said .exit)) ⌝ }
 {
     export::nibgravel_write_faces(rows, solid, vertices, edges, room, said)

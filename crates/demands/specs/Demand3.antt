@@ -34,14 +34,16 @@ module _ (x : Input) where
     pub all : Every (drawing x) (candidatesOf x) es
     pub words : r .solids ≡ flatMap wordsOf es ++ drop (3 * length es) solids
     -- "each of the n is accepted": any faces that name it, packed; and the faces that its record and the report's rows give do name it
-    pub each : (i : ℕ) → i < length es → (fs : List Loop) → NamesIt (entryAt es i) fs → checked x (encodeFaces (listEdition (drawing x)) fs) ≡ Accepted
+    pub each : (i : ℕ) → i < length es → (fs : List Loop) → NamesIt (entryAt es i) fs
+        → checked x (encodeFaces (listEdition (drawing x)) fs) ≡ Accepted
     pub some : (i : ℕ) → i < length es
         → NamesIt (entryAt es i) (solidFaces (r .faces) (drop (3 * i) (r .solids)))
     -- such faces can be sent: the writer of face lists takes them, and 338 bytes are enough
     pub sent : (i : ℕ) → i < length es → (fs : List Loop) → NamesIt (entryAt es i) fs
         → (NoList fs → ⊥) × (bytesFor (bitsOf (listEdition (drawing x)) fs) ≤ 338)
     -- "no other body is": what is accepted names one of the n
-    pub other : (list : List ℕ) → checked x list ≡ Accepted → (i : ℕ) × (i < length es) × NamesIt (entryAt es i) (sentFaces (drawing x) list)
+    pub other : (list : List ℕ) → checked x list ≡ Accepted
+        → (i : ℕ) × (i < length es) × NamesIt (entryAt es i) (sentFaces (drawing x) list)
     -- the n are n bodies: no two have lists that are the same body
     pub differ : (i j : ℕ) → i < length es → j < length es → (fs gs : List Loop) → NamesIt (entryAt es i) fs → NamesIt (entryAt es j) gs
         → SameBody fs gs → i ≡ j

@@ -81,7 +81,8 @@ fn meets(
     hit: Wide,
 ) -> Wide
     requires { ⌜ EdgeBoxed (now xyz) v (now ends) (now low) (now high) e ⌝ }
-    ensures { λ r. ⌜ ((w : List Bool) → wides .Is hit w → wides .Is r (laterMarked (wire (now (xyz .entry)) (now (ends .entry))) e w)) ⌝ }
+    ensures { λ r. ⌜ ((w : List Bool) → wides .Is hit w
+        → wides .Is r (laterMarked (wire (now (xyz .entry)) (now (ends .entry))) e w)) ⌝ }
 {
     let n = ends.len() / 2;
     let mut met = hit;

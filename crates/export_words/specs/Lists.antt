@@ -41,7 +41,8 @@ unfoldable pub readInto : List ℕ → List ℤ → List ℕ → Read
 readInto s xyz ends =
     let points = coordinatesIn (editionOf s) s in
     let links = endsIn (editionOf s) s in
-    readFor (firstOf (sheetChecks (editionOf s) s ++ roomChecks points links xyz ends)) (verticesIn (editionOf s) s) (edgesIn (editionOf s) s) points links
+    readFor (firstOf (sheetChecks (editionOf s) s ++ roomChecks points links xyz ends)) (verticesIn (editionOf s) s)
+    (edgesIn (editionOf s) s) points links
     xyz ends
 
 pub record ReadsAs (x : Read) (r : ℕ) (xyz : List ℤ) (ends words₀ words : List ℕ) : Type 0 where

@@ -61,8 +61,8 @@ rowBytes = 13
 abbrev pub fillByte : ℕ
 fillByte = 255
 
--- "and three words per solid": a bit set of taken candidates, one of those that are turned, and six volumes. The words of a bit set, and the
--- bits of a word
+-- "and three words per solid": a bit set of taken candidates, one of those that are turned, and six volumes. The words of a bit set,
+-- and the bits of a word
 abbrev pub setWords : ℕ
 setWords = 1
 

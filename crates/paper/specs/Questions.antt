@@ -119,7 +119,8 @@ selections d =
     (search mostSolids (λ st. true) mostWork (length cs) (t .masks) .found)
 
 unfoldable pub reply : Question → Reply
-unfolding editionOf editionFor setOf digitsAt entry bits val run cut fieldAt fieldsAt digits word count both either less only first any all filter sides anyTrue upto lowest
+unfolding editionOf editionFor setOf digitsAt entry bits val run cut fieldAt fieldsAt digits word count both either less only first any all
+    filter sides anyTrue upto lowest
     member sameList flatMap firstOf filled fillAfter encode farAt wrongAt lowAt edgeChecks contentChecks openChecks countChecks
     closeChecks shapeChecks sheetChecks lentChecks padded sheetOf writerChecks writtenOf roomOf above covers pointsOf wire joined
     drawingChecks row follows closes branch scan ext level loops polygon uncovering candidates loopChecks pierces enters folds clash runs

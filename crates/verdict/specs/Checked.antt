@@ -37,7 +37,8 @@ pub record ListAt (rows : List ℕ) (n m : ℕ) (sixes : List ℤ) : Type 0 wher
 
 abbrev pub ListChecked : List ℕ → ℕ → List ℕ → ℕ → WalkTables → ℕ → Verdict → Type 0
 ListChecked list v rows n tables m r =
-    (cs : List Loop) (t : Tables) → HoldsTable rows n cs → Lent tables m n t → r ≡ verdictFor (firstOf (listChecks (editionFor v m) v cs t list))
+    (cs : List Loop) (t : Tables) → HoldsTable rows n cs → Lent tables m n t
+    → r ≡ verdictFor (firstOf (listChecks (editionFor v m) v cs t list))
 
 -- ---- a drawing that passed 3 to 10
 
