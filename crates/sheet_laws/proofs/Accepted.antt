@@ -8,6 +8,7 @@ use Rattle.pack.specs.Bits.{fieldsAt}
 use Rattle.pack.proofs.Laws.{length-fields}
 use Rattle.pack.proofs.Fill.{take-padded}
 use Rattle.paper_laws.proofs.Checks.{first-both}
+use Rattle.paper.specs.Numbers.{mostVertices, mostEdges}
 use Rattle.paper.specs.Refusals.{firstOf}
 use Rattle.paper.specs.Format.{coordinate, head, verticesIn, edgesIn, coordinatesIn, endsIn}
 use Rattle.paper.specs.Sheet.{contentChecks, shapeChecks, sheetChecks, held, drawnFor, sheetOf}
@@ -41,7 +42,7 @@ module _ (f : Format) (s : List ℕ) (h : Fine ≡ firstOf (sheetChecks f s)) wh
   returns = ap (λ (a : Answer). drawnFor a (held (verticesIn f s) (edgesIn f s) (coordinatesIn f s) (endsIn f s))) (sym h)
 
   pub coordinates-are : coordinatesIn f s ≡ take (3 * sheetOf f s .drawing .vertices) (sheetOf f s .drawing .xyz)
-  coordinates-are = rw returns (sym (take-padded (coordinatesIn f s) 96 (3 * verticesIn f s) (pos 0) (length-coordinates f s)))
+  coordinates-are = rw returns (sym (take-padded (coordinatesIn f s) (3 * mostVertices) (3 * verticesIn f s) (pos 0) (length-coordinates f s)))
 
   pub ends-are : endsIn f s ≡ take (2 * sheetOf f s .drawing .edges) (sheetOf f s .drawing .ends)
-  ends-are = rw returns (sym (take-padded (endsIn f s) 128 (2 * edgesIn f s) 0 (length-ends f s)))
+  ends-are = rw returns (sym (take-padded (endsIn f s) (2 * mostEdges) (2 * edgesIn f s) 0 (length-ends f s)))

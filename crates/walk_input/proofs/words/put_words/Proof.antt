@@ -3,6 +3,7 @@ use mathlib.Core.Path.{refl}
 use Rattle.walk_input.proofs.Listing.{all-same, as-edges, as-corners, as-faces, as-clashes}
 use Rattle.walk_input.proofs.words.put_words.Statement.{statement}
 use Rattle.walk_input.proofs.words.put_words.Tie as tie
+use Rattle.paper.specs.Numbers.{mostVertices}
 
 -- ---- the ways back: from the last maker to the ones before it, and to the start
 
@@ -26,7 +27,7 @@ edge-words-requires c κs =
     record { candidates = as-edges (p .all); on-clear = p .rooms .on-clear; up-clear = p .rooms .up-clear }
 
 vertex-words-requires : tie.Need-vertex-words-requires
-vertex-words-requires c κs = record { of = as-corners (start (c .before) .pre .all); whole = refl; none = all-same 0 32 }
+vertex-words-requires c κs = record { of = as-corners (start (c .before) .pre .all); whole = refl; none = all-same 0 mostVertices }
 
 put-parts-requires : tie.Need-put-parts-requires
 put-parts-requires c κs =
