@@ -13,12 +13,12 @@
  * caller who needs the number only may lend an empty list. NIBGRAVEL_SAID entries are always enough. Apart from `said`, a call with a
  * number above 0 leaves every lent list as it was.
  *
- * THREADS AND STACK. There are no globals: any number of threads may call at once, on lists of their own. A conversion was seen to take
- * 12 to 15 KB of stack from two lists and 14 to 16 KB from a sheet, a reading and a check of a sheet 15 to 17 KB; by the deepest nesting
- * some 27 KB are the most (docs/MEASURES.md, computed).
+ * THREADS AND STACK. There are no globals: any number of threads may call at once, on lists of their own. As measured under an earlier
+ * toolchain, a conversion takes 12 to 15 KB of stack from two lists and 14 to 16 KB from a sheet, a reading and a check of a sheet 15 to
+ * 17 KB; by the deepest nesting some 27 KB are the most (docs/MEASURES.md, computed).
  * Nothing is allocated, and every call ends: the work limit is what bounds its time.
  *
- * Link target/staticlib/libexport.a, which `rt staticlib export` writes, for x86-64 Linux. */
+ * Link target/staticlib/libexport.a, which `tools/archive export` writes, for x86-64 Linux. */
 #ifndef NIBGRAVEL_H
 #define NIBGRAVEL_H
 

@@ -18,7 +18,7 @@ fn main() {
     println!("cargo::rerun-if-changed={}", archive.display());
     if !archive.is_file() {
         println!("cargo::error=there is no {}", archive.display());
-        println!("cargo::error=`rt staticlib export` in the repository's folder writes target/staticlib/{ARCHIVE}");
+        println!("cargo::error=`tools/archive export` in the repository's folder writes target/staticlib/{ARCHIVE}");
         println!("cargo::error={FOLDER} names another folder that has it");
         return;
     }

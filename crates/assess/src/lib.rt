@@ -1,4 +1,6 @@
 // The reading of a drawing, for which no rooms need be lent: what the insurer sees. Nothing is assumed of any input.
+#![tactic(auto)]
+
 ghost use Rattle.paper.specs.Conversion.{convert_lists, convert_sheet};
 ghost use Rattle.assess.specs.Assessed.{Assessed};
 

@@ -1,5 +1,7 @@
 // The candidates of a drawing: the loops that cover no other, in a table of their own and with the words of their corners and sides.
 // Assumes the loops of a drawing that passed 3 to 14, with what is known of them.
+#![tactic(auto)]
+
 ghost use Rattle.std.specs.Prelude.{◌≡◌, ◌*◌};
 ghost use Rattle.std.proofs.Math.Seq.{paste};
 ghost use Rattle.paper.specs.Numbers.{row_bytes};

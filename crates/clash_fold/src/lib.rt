@@ -1,5 +1,7 @@
 // Clash C: two corners of both rows, and the direction from one to the other inside both angles. Assumes rows in range, each with its
 // normal.
+#![tactic(auto)]
+
 ghost use Rattle.std.specs.Prelude.{◌≡◌, ◌&&◌};
 ghost use Rattle.paper.specs.Points.{same_point};
 ghost use Rattle.paper.specs.Clash.{angle_holds, in_angle, points_in, is_corner, bends, folds};

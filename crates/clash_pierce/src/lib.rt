@@ -1,4 +1,6 @@
 // Clash A: an edge pierces a loop strictly inside. Assumes a row of a loop table in range, with its normal.
+#![tactic(auto)]
+
 ghost use Rattle.std.specs.Prelude.{◌≡◌, pos, nat_abs};
 ghost use Rattle.exact.specs.Size.{Within};
 ghost use Rattle.paper.specs.Points.{plus, times};

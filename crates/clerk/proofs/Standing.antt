@@ -1,4 +1,4 @@
--- A request whose head stands in a room, once its items were read behind it: the head is as it was.
+-- A request whose head stands in a room, once its items were read behind it: the head is as it was, and nothing of the next was taken.
 use mathlib.Core.List.{List, ◌++◌}
 use mathlib.Core.Path.{◌≡◌, ◌∙◌}
 use Prim.Native.Nat.{ℕ, ◌+◌, ◌-◌, ◌≤◌, ◌<◌}
@@ -7,7 +7,7 @@ use borrow.Rule.Slice.PartMut.{post_of, put_mid}
 use lib.ListN.{length, get_or, take, get_or-append}
 use lib.Seq.{length-take-le, get_or-take}
 use Rattle.clerk_words.specs.Words.{two_at}
-use Rattle.clerk_reply.specs.Requests.{head_bytes, most_item}
+use Rattle.clerk_reply.specs.Requests.{head_bytes, first_length, second_length, most_item}
 use Rattle.clerk.specs.Read.{RequestStands}
 
 module _ (room items : List ℕ) (m n : ℕ) (head : head_bytes ≤ length room) where
@@ -40,3 +40,13 @@ module _ (room items : List ℕ) (m n : ℕ) (head : head_bytes ≤ length room)
         };
         second_short = omega (arith, c, d);
       }
+
+  pub ends : end ≤ length after → m ≡ two_at room 9 → n ≡ two_at room 11
+      → head_bytes + first_length (take end after) + second_length (take end after) ≡ length (take end after)
+  ends w e f =
+      let long = length-take-le end after w in
+      let a = byte_is 9 (omega arith) in
+      let b = byte_is 10 (omega arith) in
+      let c = byte_is 11 (omega arith) in
+      let d = byte_is 12 (omega arith) in
+      omega (arith, long, a, b, c, d)

@@ -1,5 +1,7 @@
 // The reply to a request of docs/PIPE.md, put at the start of a lent room. Assumes a request that is all there, with items of at most 1,024
 // bytes, and room for any reply.
+#![tactic(auto)]
+
 mod kinds;
 mod parts;
 

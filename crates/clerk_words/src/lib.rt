@@ -1,5 +1,7 @@
 // Words as bytes: eight each, high byte first, and a signed number as its two's complement. Assumes that there is room for what is put,
 // and that what is taken is there.
+#![tactic(auto)]
+
 ghost use Rattle.std.specs.Prelude.{◌≡◌, ◌<◌, ◌%◌};
 ghost use Rattle.rooms.specs.Rooms.{copied};
 ghost use Rattle.desk_lines.specs.Put.{Fits, Puts};

@@ -1,4 +1,6 @@
 // Conversion, the service's main job: a drawing to every solid that it allows. Nothing is assumed of any input.
+#![tactic(auto)]
+
 mod walked;
 
 ghost use Rattle.std.specs.Prelude.{◌≡◌};

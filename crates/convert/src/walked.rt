@@ -8,7 +8,7 @@ use walk::tally::Tally;
 use walk_input::rows::Counts;
 use walk_input::{Tabled, tables};
 
-#[derive(Drop)]
+#[derive(Clone, Copy)]
 pub enum Walked {
     Refused(Refusal),
     Done(Counts, Tally),

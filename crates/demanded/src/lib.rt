@@ -1,5 +1,7 @@
 // The functions that a customer's program calls, once more: each hands on what the function of its name says, and its contract is not an
 // equation with document 01's definitions but the customer's demand itself. Nothing is assumed of any input.
+#![tactic(auto)]
+
 ghost use Rattle.paper.specs.Format.{edition_for};
 ghost use Rattle.paper.specs.FaceList.{solid_faces};
 ghost use Rattle.demands.specs.Input.{lent};

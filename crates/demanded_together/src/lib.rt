@@ -1,5 +1,7 @@
 // Public functions called one after the other, with what the one before left: the demands that speak of more than one call. Nothing is
 // assumed of any input.
+#![tactic(auto)]
+
 ghost use Rattle.std.specs.Prelude.{◌≡◌, true, length, drop, ◌*◌, ◌≤◌};
 ghost use Rattle.paper.specs.Numbers.{solid_words};
 ghost use Rattle.paper.specs.FaceList.{solid_faces};
@@ -20,7 +22,7 @@ use sheet_writer::write_sheet;
 use verdict::{check, check_sheet};
 
 // What is said of one drawing by its conversion and by the check of two face lists.
-#[derive(Drop)]
+#[derive(Clone, Copy)]
 pub struct Told {
     pub conversion: Conversion,
     pub first: Verdict,
@@ -28,7 +30,7 @@ pub struct Told {
 }
 
 // What is said of two drawings by their conversions.
-#[derive(Drop)]
+#[derive(Clone, Copy)]
 pub struct Pair {
     pub first: Conversion,
     pub second: Conversion,

@@ -1,5 +1,7 @@
 // The functions for C and Rust and the desk's text, once more: each hands on what the function of its name says, and its contract is the
 // customer's demand itself, of the number returned and of what is left in all that was lent. Nothing is assumed of any input.
+#![tactic(auto)]
+
 ghost use Rattle.paper.specs.Format.{edition_for};
 ghost use Rattle.paper.specs.FaceList.{solid_faces};
 ghost use Rattle.demands.specs.Input.{lent};

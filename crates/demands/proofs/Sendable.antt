@@ -1,22 +1,21 @@
--- Faces that name a solid, in any order and from any starts, can be sent as a face list, in 338 bytes.
-use mathlib.Core.Path.{◌≡◌, sym, ◌∙◌, subst}
-use mathlib.Core.Bool.{Bool, true, false, cond}
+-- Faces that name a solid, in any order and from any starts, can be sent as a face list, in the room of the longest list.
+use mathlib.Core.Path.{◌≡◌, sym, subst}
+use mathlib.Core.Bool.{Bool}
 use mathlib.Core.Option.{none}
 use mathlib.Core.Logic.{inl, inr}
 use mathlib.Core.List.{List, [], ◌∷◌}
-use Prim.Native.Nat.{ℕ, suc, ◌*◌, ◌≤◌, ◌<◌}
+use Prim.Native.Nat.{ℕ, suc, ◌+◌, ◌*◌, ◌≤◌, ◌<◌}
 use native.Mathlib.Omega.{arith}
-use native.Mathlib.Decide.{dec_lt}
-use lib.ListN.{length, get_or-eq_default}
+use lib.ListN.{length}
 use Rattle.lists.proofs.OwnNumbers.{partners}
 use Rattle.sets.specs.Word.{dig}
-use Rattle.sets.proofs.Digits.{never}
-use Rattle.paper.specs.Numbers.{most_vertices, most_edges}
+use Rattle.sets.proofs.Ones.{dig-below}
+use Rattle.paper.specs.Numbers.{most_vertices, most_edges, most_corners}
 use Rattle.paper.specs.Verdict.{list_edition}
-use Rattle.paper.specs.Format.{edition_one, bytes_for}
-use Rattle.paper.specs.FaceList.{span, bits_of}
+use Rattle.paper.specs.Format.{edition_one, corner_bits, bytes_for}
+use Rattle.paper.specs.FaceList.{span, bits_of, list_room}
 use Rattle.paper.specs.Drawing.{Wire, same_place}
-use Rattle.paper.specs.Loops.{Loop, loop_at, flipped, candidates}
+use Rattle.paper.specs.Loops.{Loop, loop_at, candidates}
 use Rattle.means_solid.specs.Solid.{IsSolid}
 use Rattle.means_solid.specs.Named.{SameRing, Names}
 use Rattle.means_loops.specs.Path.{ClosedPath}
@@ -26,7 +25,7 @@ use Rattle.means_check.specs.Candidates.{ProperCandidates}
 use Rattle.means_check.specs.Bodies.{Singly, SameBody}
 use Rattle.demands.specs.Shells.{NoList}
 use Rattle.means_loops.proofs.Rings.{same_sym, same_trans}
-use Rattle.means_loops.proofs.Paths.{path_same, path_flip, loop_path}
+use Rattle.means_loops.proofs.Paths.{path_same, path_turned, loop_path}
 use Rattle.means_loops.proofs.Listing.{candidates_are}
 use Rattle.means_check.proofs.Few.{solid-sent}
 use Rattle.means_check.proofs.Bodies.{face_list_names, same_named, named_singly}
@@ -40,23 +39,12 @@ body_least fs gs b y =
 module _ (d : Wire) (c : ProperCandidates d (candidates d)) (apart : same_place d ≡ none)
     (few_vertices_lem : length d.vertices ≤ most_vertices) (few : length d.edges ≤ most_edges)
     (taken turned : List Bool) {six : ℕ} (s : IsSolid d (candidates d) taken turned six) where
-  turn : (b : Bool) (l : Loop) → ClosedPath d l → ClosedPath d (cond b (flipped l) l)
-  turn true l c = path_flip d l c
-  turn false l c = c
-
-  inside : (k : ℕ) → dig taken k ≡ true → k < length (candidates d)
-  inside k e = go (dec_lt k (length (candidates d)))
-    where
-      go : Dec (k < length (candidates d)) → k < length (candidates d)
-      go (yes h) = h
-      go (no h) = never (sym e ∙ get_or-eq_default taken false (omega (arith, s.some)))
-
   path : (fs : List Loop) → Names d (candidates d) taken turned fs → (i : ℕ) → i < length fs → ClosedPath d (loop_at fs i)
   path fs n i h =
       let r = n.each i h in
       path_same d r.2
-      (turn (dig turned r.0) (loop_at (candidates d) r.0)
-      (loop_path d apart (loop_at (candidates d) r.0) (candidates_are d r.0 (inside r.0 r.1)).loop))
+      (path_turned d (dig turned r.0) (loop_at (candidates d) r.0)
+      (loop_path d apart (loop_at (candidates d) r.0) (candidates_are d r.0 (dig-below taken s.some r.0 r.1)).loop))
 
   pub names_sent : (fs : List Loop) → Names d (candidates d) taken turned fs → Sendable (list_edition d) (length d.vertices) fs
   names_sent fs n =
@@ -74,15 +62,19 @@ module _ (d : Wire) (c : ProperCandidates d (candidates d)) (apart : same_place 
         numbers = λ i j h l. (path fs n i h).inside j l;
       }
 
--- ---- what can be sent is taken by the writer: at most 42 faces of at most 12 corners each, in 2,698 bits
+-- ---- what can be sent is taken by the writer: no face has more bits than one of the most corners
 
-most_bits : (fs : List Loop) → ((i : ℕ) → i < length fs → length (loop_at fs i) ≤ 12) → span edition_one fs ≤ 64 * length fs
+abbrev most_face_bits : ℕ
+most_face_bits = corner_bits + edition_one.vertex_number_bits * most_corners
+
+most_bits : (fs : List Loop) → ((i : ℕ) → i < length fs → length (loop_at fs i) ≤ most_corners)
+    → span edition_one fs ≤ most_face_bits * length fs
 unfolding span
 most_bits [] h = omega arith
 most_bits (l ∷ fs) h = omega (arith, h 0 (omega arith), most_bits fs (λ i p. h (suc i) (omega (arith, p))))
 
-taken_one : {v : ℕ} → v ≤ 32 → (fs : List Loop) → Sendable edition_one v fs
-    → (NoList fs → ⊥) × (bytes_for (bits_of edition_one fs) ≤ 338)
+taken_one : {v : ℕ} → v ≤ most_vertices → (fs : List Loop) → Sendable edition_one v fs
+    → (NoList fs → ⊥) × (bytes_for (bits_of edition_one fs) ≤ list_room)
 unfolding bits_of
 taken_one {v} low fs s = (taken, omega (arith, s.most, most_bits fs s.many))
   where
@@ -91,7 +83,7 @@ taken_one {v} low fs s = (taken, omega (arith, s.most, most_bits fs s.many))
     taken (inl (inr h)) = omega (arith, h, s.most)
     taken (inr h) = h (λ i p. (s.few i p, s.many i p, λ j q. omega (arith, s.numbers i j p q, low)))
 
-pub sent_taken : {f : Format} → f ≡ edition_one → {v : ℕ} → v ≤ 32 → (fs : List Loop) → Sendable f v fs
-    → (NoList fs → ⊥) × (bytes_for (bits_of f fs) ≤ 338)
+pub sent_taken : {f : Format} → f ≡ edition_one → {v : ℕ} → v ≤ most_vertices → (fs : List Loop) → Sendable f v fs
+    → (NoList fs → ⊥) × (bytes_for (bits_of f fs) ≤ list_room)
 sent_taken e {v} low fs =
-    subst (λ (f : Format). Sendable f v fs → (NoList fs → ⊥) × (bytes_for (bits_of f fs) ≤ 338)) (sym e) (taken_one low fs)
+    subst (λ (f : Format). Sendable f v fs → (NoList fs → ⊥) × (bytes_for (bits_of f fs) ≤ list_room)) (sym e) (taken_one low fs)

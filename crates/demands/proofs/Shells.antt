@@ -15,7 +15,7 @@ use Rattle.lists.specs.Lists.{lowest, member}
 use Rattle.lists.proofs.Truth.{and_left, and_right, and_both}
 use Rattle.sets.specs.Word.{dig, count, both, first}
 use Rattle.sets.proofs.Digits.{never, dig-both, count_none, first_in}
-use Rattle.sets.proofs.Ones.{dig_lt}
+use Rattle.sets.proofs.Ones.{dig-below}
 use Rattle.paper.specs.Refusals.{offends}
 use Rattle.paper.specs.Points.{above}
 use Rattle.paper.specs.Drawing.{Wire, edge_at}
@@ -237,11 +237,11 @@ module _ (d : Wire) (cs fs : List Loop) (c : ProperCandidates d cs) where
           let k = first (both (clashes_of j) (taken_of cs fs)) in
           let b = sym (dig-both (clashes_of j) (taken_of cs fs) k) ∙ first_in (both (clashes_of j) (taken_of cs fs)) ne in
           let t = and_right (dig (clashes_of j) k) (dig (taken_of cs fs) k) b in
-          let hk : k < length cs = omega (arith, dig_lt (taken_of cs fs) k t, some) in
+          let hk = dig-below (taken_of cs fs) some k t in
           found k t hk (sym (clash-dig d cs c.even (taken_of cs fs) some j k hj hk) ∙ and_left (dig (clashes_of j) k) (dig (taken_of cs fs) k) b)
           (ℕ_discrete j k),
       λ r.
-          let hk : r.0 < length cs = omega (arith, dig_lt (taken_of cs fs) r.0 r.1, some) in
+          let hk = dig-below (taken_of cs fs) some r.0 r.1 in
           (is_not (eqb (count (both (clashes_of j) (taken_of cs fs))) 0) (is_eq (count (both (clashes_of j) (taken_of cs fs))) 0)).1
           (λ z. count_none (both (clashes_of j) (taken_of cs fs)) z r.0
           (dig-both (clashes_of j) (taken_of cs fs) r.0

@@ -13,7 +13,7 @@ use Rattle.lists.proofs.Passing.{all_yes, all_is}
 use Rattle.lists.proofs.Sides.{sides_length, sides-at}
 use Rattle.lists.proofs.Truth.{never_true}
 use Rattle.sets.specs.Word.{dig}
-use Rattle.sets.proofs.Ones.{dig_lt}
+use Rattle.sets.proofs.Ones.{dig-below}
 use Rattle.paper.specs.Points.{origin}
 use Rattle.paper.specs.Polygon.{Polygon, Ratio, over, midpoint, one_plane, lies, is_outside, covers}
 use Rattle.paper.specs.Drawing.{Wire, same_place}
@@ -44,8 +44,8 @@ module _ (d : Wire) where
       (ClashOf (polygon d (loop_at (candidates d) j)) (polygon d (loop_at (candidates d) k)))
   is_at taken s j k hj hk =
       is_clash (polygon d (loop_at (candidates d) j)) (polygon d (loop_at (candidates d) k))
-      (two_corners d (loop_at (candidates d) j) (candidates_proper d j (omega (arith, dig_lt taken j hj))).three)
-      (two_corners d (loop_at (candidates d) k) (candidates_proper d k (omega (arith, dig_lt taken k hk))).three)
+      (two_corners d (loop_at (candidates d) j) (candidates_proper d j (dig-below taken s j hj)).three)
+      (two_corners d (loop_at (candidates d) k) (candidates_proper d k (dig-below taken s k hk)).three)
 
   module _ {taken turned : List Bool} {six : ℕ} where
     pub of_words : Solid d (candidates d) taken turned six → IsSolid d (candidates d) taken turned six

@@ -16,8 +16,8 @@ use Rattle.demands.specs.Table.{line, end, one, Two}
 use Rattle.paper_laws.proofs.Tests.{Is, is_off}
 
 -- the checks are the lines: their answer, with that of all behind them, says what the lines say
-abbrev pub Says : ((Answer → Type 0) → Answer → Type 0) → List Check → Type 1
-Says lines cs = (below : Answer → Type 0) (a : Answer) → (Fine ≡ first_of cs → below a) → lines below (or_else (first_of cs) a)
+pub record Says (lines : (Answer → Type 0) → Answer → Type 0) (cs : List Check) : Type 1 where
+  pub at : (below : Answer → Type 0) (a : Answer) → (Fine ≡ first_of cs → below a) → lines below (or_else (first_of cs) a)
 
 pass : (n k : ℕ) (P : ℕ → Type 0) (below : Answer → Type 0) → Finds P k none → (a : Answer) → below a → line n k P below a
 pass n k P below f Fine b = (f, b)
@@ -26,13 +26,13 @@ pass n k P below f (Refused r) b = inr (f, b)
 -- no checks; one more
 pub done : Says (λ below. below) []
 unfolding first_of
-done below a g = g refl
+done = record { at = λ below a g. g refl }
 
 pub also : (n k : ℕ) (P : ℕ → Type 0) (o : Option ℕ) (lines : (Answer → Type 0) → Answer → Type 0) (cs : List Check) → Finds P k o
     → (o ≡ none → Says lines cs) → Says (λ below. line n k P (lines below)) (check n o ∷ cs)
 unfolding first_of
-also n k P none lines cs f g below a h = pass n k P (lines below) f (or_else (first_of cs) a) (g refl below a h)
-also n k P (some p) lines cs f g below a h = inl (refl, f)
+also n k P none lines cs f g = record { at = λ below a h. pass n k P (lines below) f (or_else (first_of cs) a) ((g refl).at below a h) }
+also n k P (some p) lines cs f g = record { at = λ below a h. inl (refl, f) }
 
 -- a check of the place 0 alone; two checks of the places 0 and 1
 finds_one : (b : Bool) (A : Type 0) → Is b A → Finds (λ p. A) 1 (offends b 0)
@@ -46,14 +46,14 @@ also_one n A b i lines cs g = also n 1 (λ p. A) (offends b 0) lines cs (finds_o
 pub also_two : (n : ℕ) (A B : Type 0) (a b : Bool) → Is a A → Is b B → (lines : (Answer → Type 0) → Answer → Type 0) (cs : List Check)
     → Says lines cs → Says (λ below. line n 2 (Two A B) (lines below)) (check n (offends a 0) ∷ check n (offends b 1) ∷ cs)
 unfolding first_of
-also_two n A B true b i j lines cs g below c h = inl (refl, (omega arith, i.0 refl, λ k l q. omega arith))
-also_two n A B false true i j lines cs g below c h = inl (refl, (omega arith, j.0 refl, first))
+also_two n A B true b i j lines cs g = record { at = λ below c h. inl (refl, (omega arith, i.0 refl, λ k l q. omega arith)) }
+also_two n A B false true i j lines cs g = record { at = λ below c h. inl (refl, (omega arith, j.0 refl, first)) }
   where
     first : (k : ℕ) → k < 1 → Two A B k → ⊥
     first zero l q = is_off i refl q
     first (suc k) l q = omega arith
-also_two n A B false false i j lines cs g below c h =
-    pass n 2 (Two A B) (lines below) both (or_else (first_of cs) c) (g below c h)
+also_two n A B false false i j lines cs g =
+    record { at = λ below c h. pass n 2 (Two A B) (lines below) both (or_else (first_of cs) c) (g.at below c h) }
   where
     both : (k : ℕ) → k < 2 → Two A B k → ⊥
     both zero l q = is_off i refl q
@@ -68,9 +68,11 @@ or_on (check n (some p) ∷ cs) ds a = refl
 
 pub behind : (lines more : (Answer → Type 0) → Answer → Type 0) (cs ds : List Check) → Says lines cs → (Fine ≡ first_of cs → Says more ds)
     → Says (λ below. lines (more below)) (cs ++ ds)
-behind lines more cs ds s u below a h =
-    subst (lines (more below)) (sym (or_on cs ds a))
-    (s (more below) (or_else (first_of ds) a) (λ e. u e below a (λ f. h (both_first cs ds e f))))
+behind lines more cs ds s u = record {
+  at = λ below a h.
+      subst (lines (more below)) (sym (or_on cs ds a))
+      (s.at (more below) (or_else (first_of ds) a) (λ e. (u e).at below a (λ f. h (both_first cs ds e f))));
+}
 
 -- all lines
 or_fine : (a : Answer) → or_else a Fine ≡ a
@@ -78,4 +80,4 @@ or_fine Fine = refl
 or_fine (Refused r) = refl
 
 pub ends : (lines : (Answer → Type 0) → Answer → Type 0) (cs : List Check) → Says lines cs → lines end (first_of cs)
-ends lines cs s = subst (lines end) (or_fine (first_of cs)) (s end Fine (λ e. tt))
+ends lines cs s = subst (lines end) (or_fine (first_of cs)) (s.at end Fine (λ e. tt))

@@ -1,1 +1,2 @@
 // Known drawings, put to the demands. There is no code.
+#![tactic(auto)]

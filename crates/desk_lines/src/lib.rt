@@ -1,4 +1,6 @@
 // Parts of a line put into a room behind one another: a text, a number in decimal digits, both. Assumes that there is room.
+#![tactic(auto)]
+
 ghost use Rattle.std.specs.Prelude.{◌<◌};
 ghost use Rattle.paper.specs.Desk.{decimal};
 ghost use Rattle.desk_lines.specs.Put.{Fits, Puts, digit_text, field_text, pair_text};

@@ -1,18 +1,29 @@
 // What the desk program and its trial print of a sheet. Nothing is assumed of it.
-use desk_text::{TEXT_ROOM, desk_text};
-use libc::STDOUT_FILENO;
-use paper::Written;
+#![tactic(auto)]
 
-pub fn print_all(bytes: &[u8]) {
-    io::write_all(STDOUT_FILENO, bytes);
+ghost use Rattle.std.specs.Prelude.{OnOk};
+ghost use Rattle.std.specs.Io.KnownBytes.{Appends};
+ghost use Rattle.paper.specs.Desk.{desk_text};
+
+use desk_text::{TEXT_ROOM, desk_text};
+use paper::Written;
+use std::io::{self, Write};
+
+pub fn print_all<W: Write>(out: &mut W, bytes: &[u8]) -> io::Result<()>
+    ensures { OnOk result (Appends (W.contents out.old) (W.contents out.new) bytes.now) }
+{
+    out.write_all(bytes)
 }
 
 // The room is enough for any text (`enough` in desk_text/proofs), so the last arm is never taken.
-pub fn print_text(sheet: &[u8]) {
+pub fn print_text<W: Write>(out: &mut W, sheet: &[u8]) -> io::Result<()>
+    ensures { OnOk result (Appends (W.contents out.old) (W.contents out.new)
+        (desk_text sheet.now)) }
+{
     let mut text = [0u8; TEXT_ROOM];
     let written = desk_text(sheet, &mut text);
     match written {
-        Written::Bytes(n) => print_all(&text[..n]),
-        Written::Refused(_) => print_all(b"no room for the text\n"),
+        Written::Bytes(n) => print_all(out, &text[..n]),
+        Written::Refused(_) => print_all(out, b"no room for the text\n"),
     }
 }

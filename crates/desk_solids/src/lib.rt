@@ -1,4 +1,6 @@
 // The lines of a report's solids, put into a room behind one another. Assumes that there is room, and the words of the solids.
+#![tactic(auto)]
+
 ghost use Rattle.paper.specs.Desk.{solids_text};
 ghost use Rattle.desk_lines.specs.Put.{Fits, Puts};
 ghost use Rattle.desk_solids.specs.Solids.{face_text, words_text, line_text, SolidsAt};

@@ -8,14 +8,14 @@ use desk_solids::put_solids;
 use paper::{Conversion, Refusal};
 
 // The counts that stand in a sheet.
-#[derive(Drop)]
+#[derive(Clone, Copy)]
 pub struct SheetCounts {
     pub vertices: u64,
     pub edges: u64,
 }
 
 // "Fields: vertices, edges; loops, candidates; assumptions"
-#[derive(Drop)]
+#[derive(Clone, Copy)]
 pub struct Head {
     pub vertices: u64,
     pub edges: u64,

@@ -1,4 +1,6 @@
 // The desk program's text of a sheet, written to the start of a lent room. Nothing is assumed of sheet or room.
+#![tactic(auto)]
+
 mod answer;
 
 ghost use Rattle.std.specs.Prelude.{◌≡◌};

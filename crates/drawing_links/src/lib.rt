@@ -1,5 +1,7 @@
 // The neighbour words of a drawing, and rules 12 and 14 on them: LooseVertex, on no edge; Apart, not reachable from vertex 0. Assumes at
 // most 32 vertices, and ends in range.
+#![tactic(auto)]
+
 ghost use Rattle.std.specs.Prelude.{◌≡◌, [], ◌∷◌, ◌≤◌};
 ghost use Rattle.paper.specs.Numbers.{most_vertices};
 ghost use Rattle.paper.specs.Refusals as No;

@@ -1,5 +1,7 @@
 // What a drawing's two lists are refused for, lent or read off a sheet: 8, 9 and 10 here, with 5 of lent ones in lend. Nothing is
 // assumed of them.
+#![tactic(auto)]
+
 pub mod lend;
 
 ghost use Rattle.std.specs.Prelude.{◌≡◌, ◌+◌, ◌*◌, ◌/◌, ◌<◌, length};

@@ -1,5 +1,7 @@
 // The drawing rules that need no loops: refusals 11 to 14, the first that applies being the answer. Assumes a drawing in range and its
 // neighbour words, which the loops need too.
+#![tactic(auto)]
+
 mod boxes;
 mod ends;
 mod meets;

@@ -1,5 +1,7 @@
 // The tests of rule 13 on two segments: boxes that are apart, and which of the two without its ends meets the other. Assumes points in
 // range.
+#![tactic(auto)]
+
 ghost use Rattle.std.specs.Prelude.{◌≡◌};
 ghost use Rattle.paper.specs.Drawing.{overlap, cuts_open};
 ghost use Rattle.fast_meets.specs.Boxes.{lesser, greater, clear};
@@ -11,14 +13,14 @@ use paper::Point;
 use polygon::points::{cross, dot, is_origin, is_zero, minus};
 
 // The box of a segment, by its lowest and its highest corner.
-#[derive(Drop)]
+#[derive(Clone, Copy)]
 pub struct Span {
     pub low: Point,
     pub high: Point,
 }
 
 // Whether the first of two segments without its ends meets the second, and the second the first.
-#[derive(Drop)]
+#[derive(Clone, Copy)]
 pub struct Both {
     pub first: bool,
     pub second: bool,

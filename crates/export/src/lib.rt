@@ -1,5 +1,8 @@
-// The interface for C and Rust: numbers and lent slices only. Nothing is assumed of any input. An answer is document 01's number, which is
-// returned, 0 where nothing is refused; `said` gets it with its place and values, as far as it reaches.
+// The interface for C and Rust, which `export_c` hands out under C's names: numbers and lent slices only. Nothing is assumed of any input.
+// An answer is document 01's number, which is returned, 0 where nothing is refused; `said` gets it with its place and values, as far as it
+// reaches.
+#![tactic(auto)]
+
 ghost use Rattle.paper.specs.Format.{edition_for, lent_edition};
 ghost use Rattle.paper.specs.Conversion.{convert_lists, convert_sheet};
 ghost use Rattle.paper.specs.FaceList.{sent_room};
@@ -13,7 +16,7 @@ ghost use Rattle.export_words.specs.Volume.{AssessesAs};
 
 use assess::{assess, assess_sheet};
 use convert::{convert, convert_sheet};
-use export_words::lists::handed;
+use export_words::lent::handed;
 use export_words::volume::show;
 use export_words::words::{conversion_said, refusal_said, tell, verdict_said, written_said};
 use faces_writer::write_faces;
@@ -23,13 +26,7 @@ use sheet_writer::write_sheet;
 use verdict::{check, check_sheet};
 
 // Reads a sheet into two lent lists: 3 to 10, then 1 where a list is too short (0 coordinates, 1 ends). Values: vertices, edges.
-#[unsafe(no_mangle)]
-pub extern "C" fn nibgravel_read_sheet(
-    sheet: &[u8],
-    xyz: &mut [i64],
-    ends: &mut [u8],
-    said: &mut [u64],
-) -> u64
+pub fn nibgravel_read_sheet(sheet: &[u8], xyz: &mut [i64], ends: &mut [u8], said: &mut [u64]) -> u64
     ensures { ReadsAs (read_into sheet.now xyz.old ends.old) result
         xyz.new ends.new said.old said.new }
 {
@@ -42,13 +39,7 @@ pub extern "C" fn nibgravel_read_sheet(
 }
 
 // Writes a drawing's sheet: 5, 8, 9, 10, then 1. Value: its length.
-#[unsafe(no_mangle)]
-pub extern "C" fn nibgravel_write_sheet(
-    xyz: &[i64],
-    ends: &[u8],
-    room: &mut [u8],
-    said: &mut [u64],
-) -> u64
+pub fn nibgravel_write_sheet(xyz: &[i64], ends: &[u8], room: &mut [u8], said: &mut [u64]) -> u64
     ensures { WritesAs
         (written_said (lent_edition xyz.now ends.now) xyz.now ends.now room.old)
         (room_of (lent_edition xyz.now ends.now) xyz.now ends.now room.old)
@@ -59,8 +50,7 @@ pub extern "C" fn nibgravel_write_sheet(
 
 // Writes a reported solid of a drawing of so many vertices and edges as a face list, from the report's rows and the solid's record: 20,
 // then 1. Value: its length.
-#[unsafe(no_mangle)]
-pub extern "C" fn nibgravel_write_faces(
+pub fn nibgravel_write_faces(
     rows: &[u8],
     solid: &[u64],
     vertices: usize,
@@ -80,8 +70,7 @@ pub extern "C" fn nibgravel_write_faces(
 }
 
 // Converts two lent lists: 1, 2, 5, 8 to 19. Values: loops, candidates; of a report also work, solids and, of one solid, six volumes.
-#[unsafe(no_mangle)]
-pub extern "C" fn nibgravel_convert(
+pub fn nibgravel_convert(
     xyz: &[i64],
     ends: &[u8],
     limit: u64,
@@ -99,8 +88,7 @@ pub extern "C" fn nibgravel_convert(
 }
 
 // Converts a sheet: 1 to 19. Values as above.
-#[unsafe(no_mangle)]
-pub extern "C" fn nibgravel_convert_sheet(
+pub fn nibgravel_convert_sheet(
     sheet: &[u8],
     limit: u64,
     faces: &mut [u8],
@@ -117,8 +105,7 @@ pub extern "C" fn nibgravel_convert_sheet(
 }
 
 // The reading of two lent lists, for which no rooms are lent: 0 with a volume in cubic metres, or why there is none.
-#[unsafe(no_mangle)]
-pub extern "C" fn nibgravel_assess(xyz: &[i64], ends: &[u8], limit: u64, volume: &mut [f64]) -> u64
+pub fn nibgravel_assess(xyz: &[i64], ends: &[u8], limit: u64, volume: &mut [f64]) -> u64
     ensures { AssessesAs (convert_lists xyz.now ends.now limit) result
         volume.old volume.new }
 {
@@ -126,16 +113,14 @@ pub extern "C" fn nibgravel_assess(xyz: &[i64], ends: &[u8], limit: u64, volume:
 }
 
 // The reading of a sheet.
-#[unsafe(no_mangle)]
-pub extern "C" fn nibgravel_assess_sheet(sheet: &[u8], limit: u64, volume: &mut [f64]) -> u64
+pub fn nibgravel_assess_sheet(sheet: &[u8], limit: u64, volume: &mut [f64]) -> u64
     ensures { AssessesAs (convert_sheet sheet.now limit) result volume.old volume.new }
 {
     show(assess_sheet(sheet, limit), volume)
 }
 
 // Checks a face list against two lent lists: 5, 8 to 16, then 20 to 27. No values; 0 is "accepted".
-#[unsafe(no_mangle)]
-pub extern "C" fn nibgravel_check(xyz: &[i64], ends: &[u8], list: &[u8], said: &mut [u64]) -> u64
+pub fn nibgravel_check(xyz: &[i64], ends: &[u8], list: &[u8], said: &mut [u64]) -> u64
     ensures { Tells (verdict_says (verdict_lists xyz.now ends.now list.now)) result
         said.old said.new }
 {
@@ -143,8 +128,7 @@ pub extern "C" fn nibgravel_check(xyz: &[i64], ends: &[u8], list: &[u8], said: &
 }
 
 // Checks a face list against a sheet: 3 to 16, then 20 to 27.
-#[unsafe(no_mangle)]
-pub extern "C" fn nibgravel_check_sheet(sheet: &[u8], list: &[u8], said: &mut [u64]) -> u64
+pub fn nibgravel_check_sheet(sheet: &[u8], list: &[u8], said: &mut [u64]) -> u64
     ensures { Tells (verdict_says (verdict_sheet sheet.now list.now)) result
         said.old said.new }
 {

@@ -9,7 +9,7 @@ use rooms::copy_words;
 // Number and place, and at most five values.
 pub const MOST_SAID: usize = 7;
 
-#[derive(Drop)]
+#[derive(Clone, Copy)]
 pub struct Said {
     pub words: [u64; MOST_SAID],
     pub count: usize,

@@ -4,7 +4,6 @@ use mathlib.Core.Bool.{Bool, true, false, ◌&&◌, cond}
 use mathlib.Core.List.{List, [], ◌∷◌, ◌++◌, map, flat_map}
 use Prim.Native.Nat.{ℕ, zero, suc, ◌+◌, ◌*◌, ◌-◌, ◌≤◌, ◌<◌}
 use native.Mathlib.Omega.{arith}
-use native.Mathlib.Decide.{dec_lt}
 use borrow.Author.Tests.{le-leb}
 use lib.Dec.{leb}
 use lib.ListN.{length, get_or, take, drop, replicate, get_or-replicate, length-append, length-drop, get_or-append, get_or-eq_default}
@@ -13,6 +12,7 @@ use Rattle.lists.specs.Lists.{keep, filter, from, upto}
 use Rattle.lists.proofs.Places.{made_length, made_at}
 use Rattle.sets.specs.Word.{dig}
 use Rattle.sets.proofs.Digits.{never}
+use Rattle.sets.proofs.Ones.{dig-below}
 use Rattle.paper_laws.proofs.Record.{taken_in_lem, turned_in_lem}
 use Rattle.paper_laws.proofs.Rows.{Short, row_first, row-corner, rows_long, rows_at}
 use Rattle.paper.specs.Numbers.{most_corners, most_candidates, row_bytes}
@@ -118,13 +118,6 @@ module _ (cs : List Loop) (short : Short cs) (few : length cs ≤ most_candidate
   past : (k : ℕ) → length cs ≤ k → dig taken k ≡ false
   past k h = get_or-eq_default taken false (omega arith)
 
-  below : (k : ℕ) → dig taken k ≡ true → k < length cs
-  below k e = go (dec_lt k (length cs))
-    where
-      go : Dec (k < length cs) → k < length cs
-      go (yes h) = h
-      go (no h) = never (sym e ∙ past k (omega arith))
-
   -- its record, and what comes behind it
   abbrev there : List ℕ
   there = entry taken turned six ++ more
@@ -143,7 +136,7 @@ module _ (cs : List Loop) (short : Short cs) (few : length cs ≤ most_candidate
       kept_same (dig (taken_in there)) (dig taken) read face
       most_candidates 0 (λ k a b. taken_in_lem taken turned six more k (omega arith))
       (λ k a b y. ap₂ (λ (t : Bool) (l : Loop). cond t (flipped l) l) (turned_in_lem taken turned six more k (omega arith))
-      (row_loop cs short rest k (below k y)))
+      (row_loop cs short rest k (dig-below taken all k y)))
       ∙ ap (λ (n : ℕ). map face (filter (dig taken) (from 0 n))) e
       ∙ ap (map face) (kept_short (dig taken) (length cs) (most_candidates - length cs) 0 (λ k a. past k (omega arith)))
 

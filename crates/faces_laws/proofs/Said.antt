@@ -12,7 +12,6 @@ use Rattle.paper.specs.Loops.{Loop}
 use Rattle.paper.specs.FaceList.{bits_of, count_in, well_shaped, faces_of, no_faces, send_checks, sent_for, sent_of}
 use Rattle.paper.specs.Reading.{first_said, answer_says, written_says, faces_said, sent_said}
 use Rattle.paper.specs.declared.Format.{Format}
-use Rattle.paper.specs.declared.Faces.{Faces}
 use Rattle.paper.specs.declared.Answer.TheVariants.{Fine}
 
 pub faces-said : (f : Format) (v : ℕ) (s : List ℕ) → answer_says (faces_of f v s).answer ≡ faces_said f v s

@@ -1,4 +1,6 @@
 // Face lists, read at the rim of the service: nothing is assumed of any input.
+#![tactic(auto)]
+
 ghost use Rattle.std.specs.Prelude.{◌≡◌};
 ghost use Rattle.paper.specs.Format.{edition_of, edition_for};
 ghost use Rattle.paper.specs.FaceList.{faces_of};

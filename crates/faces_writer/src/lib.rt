@@ -1,4 +1,6 @@
 // Face lists, written at the rim of the service: nothing is assumed of any input.
+#![tactic(auto)]
+
 ghost use Rattle.std.specs.Prelude.{◌≡◌};
 ghost use Rattle.paper.specs.Format.{edition_for};
 ghost use Rattle.paper.specs.FaceList.{sent_of, sent_room};

@@ -14,7 +14,7 @@ use paper::{Format, Refusal, Written};
 use solid_words::{is_taken, is_turned};
 
 // How many faces there are and their bits, where all fit.
-#[derive(Drop)]
+#[derive(Clone, Copy)]
 pub enum Extent {
     Misfit,
     Of(usize, usize),

@@ -30,9 +30,9 @@ use Rattle.fast_search.proofs.Scan.{goes, each_scan}
 use Rattle.fast_search.proofs.Phases.{none_self, two_line, across-turn, level-line}
 use Rattle.fast_search.proofs.Line.{Between, between_open, between_turned, self_above, no_place, start_between, short_between}
 use Rattle.fast_search.proofs.Line.{long_between, at-end}
-use Rattle.fast_search.proofs.Search.{deeper_is, step_is, higher-free, start-level, start-closing}
+use Rattle.fast_search.proofs.Search.{deeper_is, step_is, higher-free, start-level, start-closing, start-row}
 use Rattle.fast_search.proofs.Search.{follow_uses, final_in}
-use Rattle.fast_search.proofs.Sets.{final_more, can, ends, size, follow, deep, begun, Free, Closing, row_is}
+use Rattle.fast_search.proofs.Sets.{final_more, can, ends, size, follow, deep, begun, Free, Closing}
 use Rattle.fast_search.proofs.Sets.{free_more, follow_can, closes-ends}
 
 module _ (d : Wire) (places : same_place d ≡ none) (meets : edge_meets d ≡ none) where
@@ -171,7 +171,7 @@ module _ (d : Wire) (places : same_place d ≡ none) (meets : edge_meets d ≡ n
   bare_seconds_is x hx =
       each_scan (size d) (joined d) (level d) (in_its_plane d) (λ w rest. bare_line d 10 (x ∷ (w ∷ [])) (less (higher d x) (only w)) rest)
       (deep d 10) (x ∷ []) same 0 (size d - 0) (omega arith)
-      (both (near d x) (higher d x)) start
+      (both (near d x) (higher d x)) (start-row d x)
     where
       same : (w : ℕ) (rest : List Bool) → w < size d → follow d (x ∷ []) w ≡ true
           → ((j : ℕ) → dig rest j ≡ (ltb w j && goes (size d) (joined d) (level d) (x ∷ []) j))
@@ -185,11 +185,6 @@ module _ (d : Wire) (places : same_place d ≡ none) (meets : edge_meets d ≡ n
           bare_line_is x w hx h b j 10 [] (less (higher d x) (only w)) rest (two_line d x w)
           (free_more d x [] w (higher d x) (start-level d x w) (higher-free d x)) (start-closing d x w rest t r) h
           (record { line = none_self (minus (at d w) (at d x)); front = self_above (minus (at d w) (at d x)) (apart-start x w hx h b j) })
-
-      start : (j : ℕ) → dig (both (near d x) (higher d x)) j ≡ goes (size d) (joined d) (level d) (x ∷ []) (0 + j)
-      start j =
-          let z : j ≡ 0 + j = omega arith in
-          row_is d x [] (higher d x) (higher-free d x) j ∙ ap (goes (size d) (joined d) (level d) (x ∷ [])) z
 
   bare_starts_is : (i k : ℕ) → i + k ≤ size d
       → bare_starts d i k ≡ map (in_its_plane d) (scan (size d) (joined d) (level d) (deep d 11) [] i k)

@@ -5,8 +5,8 @@ use mathlib.Core.Path.{◌≡◌, refl, sym, ap, ◌∙◌}
 use Prim.Native.Nat.{ℕ, zero, suc, ◌+◌}
 use native.Mathlib.Omega.{arith}
 use lib.ListN.{replicate}
-use borrow.Author.Tests.{eqb-true, eq-eqb}
-use Rattle.lists.proofs.Truth.{never_true, or-none}
+use borrow.Author.Tests.{eqb-true}
+use Rattle.lists.proofs.Truth.{or-none}
 use Rattle.sets.specs.Word.{dig, count, empty, first, less, only}
 use Rattle.sets.proofs.Digits.{less_nil}
 use Rattle.sets.proofs.Ones.{dig-none}

@@ -249,12 +249,18 @@ module _ (d : Wire) where
           (ap (λ (b : Bool). b && follow d (x ∷ []) j) (lt-ltb j (size d) h) ∙ follow_can d x [] j ∙ (λ i. joined d x j && u i)
           ∙ and-true (joined d x j) ∙ joined_turned d x j)
 
+  -- a row of those that may come second
+  pub start-row : (x j : ℕ) → dig (both (near d x) (higher d x)) j ≡ goes (size d) (joined d) (level d) (x ∷ []) (0 + j)
+  start-row x j =
+      let z : j ≡ 0 + j = omega arith in
+      row_is d x [] (higher d x) (higher-free x) j ∙ ap (goes (size d) (joined d) (level d) (x ∷ [])) z
+
   seconds_is : (x : ℕ) → seconds d x ≡ map (in_its_plane d) (deep d 11 (x ∷ []))
   unfolding seconds ext
   seconds_is x =
       each_scan (size d) (joined d) (level d) (in_its_plane d) (λ w rest. on_line d 10 (x ∷ (w ∷ [])) (less (higher d x) (only w)) rest)
       (deep d 10) (x ∷ []) same 0 (size d - 0) (omega arith)
-      (both (near d x) (higher d x)) start
+      (both (near d x) (higher d x)) (start-row x)
     where
       same : (w : ℕ) (rest : List Bool) → w < size d → follow d (x ∷ []) w ≡ true
           → ((j : ℕ) → dig rest j ≡ (ltb w j && goes (size d) (joined d) (level d) (x ∷ []) j))
@@ -262,11 +268,6 @@ module _ (d : Wire) where
       same w rest h t r =
           line_is 10 x w [] (less (higher d x) (only w)) rest (two_line d x w)
           (free_more d x [] w (higher d x) (start-level x w) (higher-free x)) (start-closing x w rest t r) h
-
-      start : (j : ℕ) → dig (both (near d x) (higher d x)) j ≡ goes (size d) (joined d) (level d) (x ∷ []) (0 + j)
-      start j =
-          let z : j ≡ 0 + j = omega arith in
-          row_is d x [] (higher d x) (higher-free x) j ∙ ap (goes (size d) (joined d) (level d) (x ∷ [])) z
 
   starts_is : (i k : ℕ) → starts d i k ≡ map (in_its_plane d) (scan (size d) (joined d) (level d) (deep d 11) [] i k)
   unfolding starts scan follows branch closes

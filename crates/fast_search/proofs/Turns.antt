@@ -11,8 +11,7 @@ use Rattle.paper.specs.Points.{is_origin}
 use Rattle.paper.specs.Drawing.{Wire, at}
 use Rattle.paper.specs.Loops.{final}
 use Rattle.fast_search.specs.Rows.{when, each_of, some_of}
-use Rattle.fast_search.specs.Search.{InItsPlane, own, near, higher, on_plane, plane_mask, across_line, in_plane, line_step, on_line}
-use Rattle.fast_search.specs.Search.{starts}
+use Rattle.fast_search.specs.Search.{InItsPlane, own, near, higher, on_plane, plane_mask, across_line, in_plane, line_step}
 use Rattle.fast_search.specs.Bare.{bare_line, bare_seconds, bare_starts}
 use Rattle.fast_search.proofs.Cut.{Whole}
 

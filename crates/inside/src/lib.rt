@@ -1,5 +1,7 @@
 // Where a point of a polygon's plane lies: outside, on the border or inside. The point is p / d. Assumes that it is in the plane and
 // no larger than a piercing point.
+#![tactic(auto)]
+
 ghost use Rattle.std.specs.Prelude.{◌≡◌, false, ◌&&◌};
 ghost use Rattle.paper.specs.Points.{is_zero};
 ghost use Rattle.paper.specs.Polygon.{axis, seen, turn, spans, between, under, meets_ray, placed, lies, over, is_inside};

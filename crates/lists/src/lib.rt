@@ -1,9 +1,11 @@
 // What code says of lists: where a search found something, and a byte that is read as a place. What definitions say of lists is in
 // specs/.
+#![tactic(auto)]
+
 ghost use Rattle.std.specs.Prelude.{◌≡◌};
 
 // Where a search found something: the lowest place, or none.
-#[derive(Drop)]
+#[derive(Clone, Copy)]
 pub enum Found {
     Nothing,
     Value(usize),

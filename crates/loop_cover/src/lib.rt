@@ -1,5 +1,7 @@
 // Whether a loop covers another. For one loop each edge's midpoint is asked at most once, and what was found is kept. Assumes the loops of
 // a drawing that passed 3 to 14, with what is known of them.
+#![tactic(auto)]
+
 ghost use Rattle.std.specs.Prelude.{◌≡◌, ◌<◌};
 ghost use Rattle.paper.specs.Drawing.{wire};
 ghost use Rattle.paper.specs.Loops.{loops, covers_other};
@@ -15,14 +17,14 @@ use polygon::rings::{normal, point_at};
 use sets::{Set, Wide};
 
 // Edges whose midpoint is known not to be outside, and edges whose midpoint is.
-#[derive(Drop)]
+#[derive(Clone, Copy)]
 pub struct Asked {
     pub held: Wide,
     pub outside: Wide,
 }
 
 // What was asked up to some loop, and whether that loop is covered.
-#[derive(Drop)]
+#[derive(Clone, Copy)]
 pub struct Tried {
     pub asked: Asked,
     pub covers: bool,

@@ -1,5 +1,7 @@
 // The loops of a drawing with what is known of each: its row, and the words of its corners, of its sides and of its plane's vertices.
 // Assumes a drawing that passed 3 to 14, by its points, its neighbour words and its edges' numbers.
+#![tactic(auto)]
+
 ghost use Rattle.std.specs.Prelude.{List, ℕ};
 ghost use Rattle.loop_known.specs.Known.{LoopsAt, DrawnBy, LoopsKnown};
 

@@ -10,10 +10,9 @@ use Rattle.lists.specs.After.{after}
 use Rattle.lists.proofs.After.{Wide, after_more}
 use Rattle.sets.specs.Word.{word}
 use Rattle.paper.specs.Numbers.{most_corners, most_loops, row_bytes}
-use Rattle.paper.specs.Loops.{row}
 use Rattle.paper_laws.proofs.Rows.{row_length}
 use Rattle.fast_search.specs.Search.{InItsPlane}
-use Rattle.loop_search.specs.Rooms.{Rooms, Sized, loop_row, plane_word, nowhere, Short, HoldsLoops, Adds}
+use Rattle.loop_search.specs.Rooms.{Rooms, loop_row, plane_word, nowhere, Short, HoldsLoops, Adds}
 
 -- ---- composing
 

@@ -2,7 +2,7 @@
 use mathlib.Core.Bool.{Bool, true}
 use mathlib.Core.List.{List, [], ◌∷◌}
 use mathlib.Core.Path.{◌≡◌, refl, sym, ap, ◌∙◌, subst}
-use Prim.Native.Nat.{ℕ, suc, ◌+◌, ◌-◌, ◌≤◌, ◌<◌}
+use Prim.Native.Nat.{ℕ, suc, ◌+◌, ◌<◌}
 use native.Mathlib.Omega.{arith}
 use lib.IntN.{ℤ}
 use lib.ListN.{length, get_or, take, set, replicate, length-set, length-replicate, get_or-replicate}
@@ -21,7 +21,7 @@ use Rattle.fast_search.proofs.Turns.{bare_seconds-start}
 use Rattle.loop_search.specs.Rooms.{Rooms, Sized, Adds}
 use Rattle.loop_search.specs.Paths.{PathAt, VerticesBelow}
 use Rattle.loop_search.specs.Lines.{DrawnWith, OnLineAt, OnLine}
-use Rattle.loop_search.specs.Starts.{no_path, StartAt, Started}
+use Rattle.loop_search.specs.Starts.{StartAt, Started}
 use Rattle.loop_search.proofs.Kept.{Kept, kept_start, kept_next, kept_end}
 use Rattle.loop_search.proofs.Deeper.{below_both, below_dropped, lowest-below}
 use Rattle.loop_search.proofs.Drawn.{vertices_length}

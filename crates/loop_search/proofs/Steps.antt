@@ -1,8 +1,8 @@
 -- One step from a path in one line: the path stays in line, nothing can close it, or a plane is fixed.
-use mathlib.Core.Bool.{Bool, true, false}
+use mathlib.Core.Bool.{Bool}
 use mathlib.Core.List.{List, [], ◌∷◌, ◌++◌, map}
 use mathlib.Core.Path.{◌≡◌, refl, sym, ap, ◌∙◌, subst}
-use Prim.Native.Nat.{ℕ, suc, ◌+◌, ◌-◌, ◌≤◌, ◌<◌}
+use Prim.Native.Nat.{ℕ, suc, ◌+◌, ◌-◌, ◌≤◌}
 use native.Mathlib.Omega.{arith}
 use lib.IntN.{ℤ}
 use lib.ListN.{length, get_or, take, length-map}
@@ -21,8 +21,7 @@ use Rattle.fast_search.specs.Search.{InItsPlane, across_line, on_plane, plane_ma
 use Rattle.fast_search.specs.Bare.{bare_line}
 use Rattle.fast_search.proofs.Turns.{turn-line, turn-none, turn_plane}
 use Rattle.loop_search.specs.declared.planes.Turn.{Turn}
-use Rattle.loop_search.specs.declared.planes.Turn.TheVariants as Turn
-use Rattle.loop_search.specs.Rooms.{Rooms, Sized, Adds}
+use Rattle.loop_search.specs.Rooms.{Rooms, Adds}
 use Rattle.loop_search.specs.Paths.{VerticesBelow, PlaneSearched}
 use Rattle.loop_search.specs.Lines.{turn_in, in_fixed, TurnIs, TurnAt, StepAt, DrawnWith, OnLine, Stepped}
 use Rattle.loop_search.proofs.Filling.{adds_none}

@@ -1,14 +1,14 @@
 -- The search from a path in one line: where it stops, one law for each return, and what its loop keeps.
-use mathlib.Core.Bool.{Bool, true, false}
-use mathlib.Core.List.{List, [], ◌∷◌, ◌++◌}
+use mathlib.Core.Bool.{Bool, false}
+use mathlib.Core.List.{List, []}
 use mathlib.Core.Path.{◌≡◌, refl, sym, ap, ◌∙◌, subst}
 use Prim.Native.Nat.{ℕ, suc, ◌+◌, ◌-◌, ◌≤◌, ◌<◌}
 use native.Mathlib.Omega.{arith}
 use borrow.Author.Tests.{eq-eqb, ne_eqb}
 use lib.IntN.{ℤ}
 use lib.ListN.{length, get_or, take, set}
-use lib.Seq.{set-set, set-get_or, take-suc, take-set-le, get_or-set_same}
-use Rattle.sets.specs.Word.{count, empty, both, less, only}
+use lib.Seq.{set-set, set-get_or, take-set-le, get_or-set_same}
+use Rattle.sets.specs.Word.{count, empty, both}
 use Rattle.sets.specs.Kinds.{Joint, Lowest, Dropped}
 use Rattle.sets.specs.Sets.{Is, size, one_word}
 use Rattle.sets.specs.declared.Set.{Set}

@@ -1,22 +1,22 @@
 -- A path that is taken in: with room for it, without, and only where it is closed.
 use mathlib.Core.Bool.{Bool, true, false}
-use mathlib.Core.List.{List, [], ◌∷◌, ◌++◌}
+use mathlib.Core.List.{List, [], ◌∷◌}
 use mathlib.Core.Path.{◌≡◌, sym, ap, ◌∙◌, subst}
 use Prim.Native.Nat.{ℕ, ◌+◌, ◌*◌, ◌-◌, ◌≤◌, ◌<◌}
 use native.Mathlib.Omega.{arith}
 use lib.ListN.{length, get_or, take, set, length-set}
 use lib.Seq.{paste, length-paste}
-use Rattle.sets.specs.Word.{word, dig}
+use Rattle.sets.specs.Word.{dig}
 use Rattle.sets.specs.Sets.{Is, with_set}
 use Rattle.sets.specs.declared.Set.{Set}
 use Rattle.sets.proofs.Sets.{word_is}
 use Rattle.paper.specs.Numbers.{most_corners, most_loops, row_bytes}
 use Rattle.paper.specs.Loops.{row, final}
 use Rattle.paper_laws.proofs.Rows.{row_length}
-use Rattle.fast_search.specs.Search.{InItsPlane, own}
+use Rattle.fast_search.specs.Search.{InItsPlane}
 use Rattle.fast_search.proofs.Turns.{path_last, own_yes, own_no}
-use Rattle.loop_search.specs.Rooms.{Rooms, rooms, Sized, Adds}
-use Rattle.loop_search.specs.Paths.{PathAt, RoomsAndPath, Taken, Ended}
+use Rattle.loop_search.specs.Rooms.{Rooms, rooms, Adds}
+use Rattle.loop_search.specs.Paths.{RoomsAndPath, Taken, Ended}
 use Rattle.loop_search.proofs.Filling.{adds_none, adds_more, adds_over}
 use Rattle.loop_search.proofs.Way.{path_length}
 

@@ -1,12 +1,12 @@
 -- The search's path: its row, and the path with one vertex more.
 use mathlib.Core.List.{List, [], ◌∷◌, ◌++◌, append_assoc}
-use mathlib.Core.Path.{◌≡◌, refl, sym, ap, ◌∙◌, subst}
+use mathlib.Core.Path.{◌≡◌, sym, ap, ◌∙◌}
 use Prim.Native.Nat.{ℕ, suc, ◌+◌, ◌-◌, ◌≤◌, ◌<◌}
 use native.Mathlib.Omega.{arith}
 use native.Mathlib.Decide.{dec_lt}
 use lib.ListN.{length, get_or, take, drop, set, replicate, length-drop, length-set, length-replicate, take-append-drop, get_or-replicate}
 use lib.Seq.{paste, length-take-le, get_or-drop, get_or-set_same, get_or-set_other, ext_get_or, take-suc-set, drop-set-lt}
-use Rattle.paper.specs.Numbers.{most_corners, row_bytes, fill_byte}
+use Rattle.paper.specs.Numbers.{most_corners, fill_byte}
 use Rattle.paper.specs.Loops.{row}
 use Rattle.loop_search.specs.Paths.{PathAt}
 

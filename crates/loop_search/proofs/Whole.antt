@@ -1,27 +1,24 @@
 -- The whole search: what the loop over the starts keeps, and that the rooms hold the drawing's loops in the end.
-use mathlib.Core.Bool.{Bool}
 use mathlib.Core.List.{List, [], ◌∷◌, ◌++◌, map, flat_map}
 use mathlib.Core.Path.{◌≡◌, refl, sym, ap, ◌∙◌, subst}
 use Prim.Native.Nat.{ℕ, zero, suc, ◌+◌, ◌*◌, ◌-◌, ◌≤◌, ◌<◌, min}
 use native.Mathlib.Omega.{arith}
 use lib.IntN.{ℤ}
-use lib.ListN.{length, get_or, take, drop, length-map}
-use lib.Seq.{take-nil}
+use lib.ListN.{length, take, drop, length-map}
 use Rattle.lists.specs.After.{after}
 use Rattle.lists.specs.Lists.{any, upto}
 use Rattle.lists.proofs.Places.{made_at, upto_length}
 use Rattle.sets.specs.Word.{word}
-use Rattle.sets.specs.Sets.{Is, packed_set, mask_at}
-use Rattle.paper.specs.Numbers.{most_corners, most_loops, row_bytes, most_vertices}
+use Rattle.sets.specs.Sets.{packed_set}
+use Rattle.paper.specs.Numbers.{most_loops, row_bytes, most_vertices}
 use Rattle.paper.specs.Drawing.{Wire, joins, joined}
-use Rattle.paper.specs.Loops.{Loop, row, loops}
+use Rattle.paper.specs.Loops.{loops}
 use Rattle.paper_laws.specs.InRange.{Points}
 use Rattle.drawing_links.specs.Neighbours.{neighbour_word, neighbour_words}
-use Rattle.fast_search.specs.Search.{InItsPlane, near, plane_of, in_its_plane}
+use Rattle.fast_search.specs.Search.{InItsPlane, near, in_its_plane}
 use Rattle.fast_search.specs.Bare.{bare_seconds, bare_starts, bare_search}
 use Rattle.fast_search.proofs.Bare.{bare_is}
 use Rattle.fast_search.proofs.Turns.{bare_starts-next, bare_starts-end}
-use Rattle.loop_table.specs.Tables.{mask_word, rows_after, words_after}
 use Rattle.loop_search.specs.Rooms.{Rooms, rooms, Sized, loop_row, plane_word, HoldsLoops, Adds, Found}
 use Rattle.loop_search.specs.Paths.{NearWords}
 use Rattle.loop_search.specs.Lines.{DrawnWith}

@@ -14,7 +14,6 @@ use Rattle.fast_search.specs.Rows.{some_of}
 use Rattle.fast_search.specs.Search.{line_step}
 use Rattle.fast_search.specs.Bare.{bare_line}
 use Rattle.loop_search.specs.declared.planes.Turn.{Turn}
-use Rattle.loop_search.specs.declared.planes.Turn.TheVariants as Turn
 use Rattle.loop_search.specs.Rooms.{Rooms, Sized, Adds}
 use Rattle.loop_search.specs.Paths.{PathAt, VerticesBelow, NearWords}
 

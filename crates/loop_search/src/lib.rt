@@ -1,6 +1,8 @@
 // The loop search: all loops of a drawing in their normal form and order, each with the vertices in its plane. The search goes through
 // words, of free vertices, of the plane's, and of those where a loop may end; it recurs only deeper into a path. Assumes a drawing in
 // range; where it has passed 11 and 13 the loops found are the drawing's.
+#![tactic(auto)]
+
 mod lines;
 mod paths;
 mod planes;

@@ -13,7 +13,7 @@ use sets::Set;
 
 // What the next vertex makes of a path in one line: it stays in line; it fixes a plane in which no vertex can close it; it fixes a
 // plane that may hold loops, with these vertices.
-#[derive(Drop)]
+#[derive(Clone, Copy)]
 pub enum Turn {
     Line,
     Dead,

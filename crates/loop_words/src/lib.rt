@@ -1,5 +1,7 @@
 // Of each loop its corners and its sides, as sets of vertices and of edges. Assumes a table of loops of a drawing whose edges are
 // numbered.
+#![tactic(auto)]
+
 ghost use Rattle.paper.specs.Drawing.{edges_of};
 ghost use Rattle.loop_words.specs.Numbered.{RisingEnds, EdgesNumbered};
 ghost use Rattle.loop_words.specs.Drawn.{RowDrawn, RowWords, DrawnTable, WithRoom, LoopWords};
@@ -29,7 +31,7 @@ pub fn number_edges(ends: &[u8]) -> [u8; PAIRS]
     number
 }
 
-#[derive(Drop)]
+#[derive(Clone, Copy)]
 pub struct Words {
     pub corners: Set,
     pub sides: Wide,

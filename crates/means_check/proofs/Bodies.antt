@@ -11,6 +11,7 @@ use lib.ListN.{length, get_or, length-map, get_or-eq_default}
 use Rattle.lists.specs.Lists.{filter, upto}
 use Rattle.lists.proofs.Places.{map_at, upto_length, upto-at}
 use Rattle.sets.specs.Word.{dig}
+use Rattle.sets.proofs.Ones.{dig-below}
 use Rattle.lists.proofs.Truth.{same_truth}
 use Rattle.paper.specs.Refusals.{first_of}
 use Rattle.paper.specs.Drawing.{Wire}
@@ -31,7 +32,7 @@ use Rattle.means_check.proofs.Parts.{no_part}
 use Rattle.means_check.proofs.Tests.{all_proper}
 use Rattle.means_check.proofs.Accepting.{accepted_names, names_accepted}
 use Rattle.means_loops.proofs.Kept.{filter_yes, filter_is}
-use Rattle.means_check.proofs.Picked.{inside, kept_once}
+use Rattle.means_check.proofs.Picked.{kept_once}
 
 module _ (d : Wire) (cs : List Loop) (c : ProperCandidates d cs) where
   -- the list passes 21 to 27
@@ -56,7 +57,7 @@ module _ (d : Wire) (cs : List Loop) (c : ProperCandidates d cs) where
               (same_refl (directed d cs taken turned (get_or ks i 0))),
         );
     there = λ k f.
-        let l = inside cs taken s.some k f in
+        let l = dig-below taken s.some k f in
         let r = filter_is 0 (dig taken) (upto (length cs)) k (omega (arith, upto_length (length cs)))
         (ap (dig taken) (upto-at (length cs) k l) ∙ f) in
         let e : get_or ks r.0 0 ≡ k = r.2 ∙ upto-at (length cs) k l in (
@@ -97,7 +98,7 @@ module _ (d : Wire) (cs : List Loop) (c : ProperCandidates d cs) where
       number i k h p = go (dec_lt k (length cs))
         where
           m : get_or (filter (dig taken) (upto (length cs))) i 0 < length cs
-          m = inside cs taken s.some (get_or (filter (dig taken) (upto (length cs))) i 0) (face i h)
+          m = dig-below taken s.some (get_or (filter (dig taken) (upto (length cs))) i 0) (face i h)
 
           q : SameRing (directed d cs taken turned k) (directed d cs taken turned (get_or (filter (dig taken) (upto (length cs))) i 0))
           q = subst (SameRing (directed d cs taken turned k)) (at i h) p
@@ -229,7 +230,7 @@ module _ (d : Wire) (cs : List Loop) (c : ProperCandidates d cs) where
           let x = m q.0 q.1 in
           let y = n.each x.0 x.1 in
           let e : y.0 ≡ k = one_number taken turned taken' turned' (loop_at fs x.0) (loop_at gs q.0) y.0 k
-          (inside cs taken s.some y.0 y.1) (inside cs taken' r.some k f) y.2 q.2 x.2 in
+          (dig-below taken s.some y.0 y.1) (dig-below taken' r.some k f) y.2 q.2 x.2 in
           subst (λ (z : ℕ). dig taken z ≡ true) e y.1 in
           let back = no_part d cs taken turned taken' turned' s r sub in
           let same : (k : ℕ) → dig taken k ≡ dig taken' k = λ k. same_truth (dig taken k) (dig taken' k) (back k) (sub k) in
@@ -248,8 +249,8 @@ module _ (d : Wire) (cs : List Loop) (c : ProperCandidates d cs) where
       let n = w.names in
       let p = n.each j hj in
       let q = n.each x.0 x.1 in
-      let pl = inside cs w.taken w.solid.some p.0 p.1 in
-      let ql = inside cs w.taken w.solid.some q.0 q.1 in
+      let pl = dig-below w.taken w.solid.some p.0 p.1 in
+      let ql = dig-below w.taken w.solid.some q.0 q.1 in
       let e : p.0 ≡ q.0 = one_number w.taken w.turned w.taken w.turned (loop_at fs j) (loop_at gs i) p.0 q.0 pl ql
       p.2
       (same_trans q.2 x.2) (inr s) in

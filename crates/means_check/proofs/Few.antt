@@ -1,6 +1,6 @@
 -- A solid of a drawing that an edition has room for has no more faces than a face list of it, and so its faces can be sent as a list.
 use mathlib.Core.Path.{◌≡◌, refl, sym, ap, subst, ◌∙◌}
-use mathlib.Core.Bool.{Bool, true, false, cond}
+use mathlib.Core.Bool.{Bool, true, false}
 use mathlib.Core.Option.{none}
 use mathlib.Core.List.{List, [], ◌∷◌, map}
 use Prim.Native.Nat.{ℕ, suc, ◌+◌, ◌*◌, ◌≤◌, ◌<◌}
@@ -13,7 +13,7 @@ use Rattle.sets.specs.Word.{bit, dig, count}
 use Rattle.sets.proofs.Digits.{never}
 use Rattle.paper.specs.Numbers.{most_vertices, most_edges}
 use Rattle.paper.specs.Drawing.{Wire, same_place}
-use Rattle.paper.specs.Loops.{Loop, loop_at, flipped, candidates}
+use Rattle.paper.specs.Loops.{Loop, loop_at, candidates}
 use Rattle.paper.specs.Verdict.{list_edition}
 use Rattle.paper.specs.declared.Format.{Format}
 use Rattle.paper_laws.specs.Editions.{HoldsFaces}
@@ -24,7 +24,7 @@ use Rattle.means_solid.specs.Named.{directed}
 use Rattle.means_sheets.specs.FaceLists.{Sendable}
 use Rattle.means_check.specs.Sent.{face_list}
 use Rattle.means_loops.proofs.Listing.{candidates_are}
-use Rattle.means_loops.proofs.Paths.{loop_path, path_flip}
+use Rattle.means_loops.proofs.Paths.{loop_path, path_turned}
 use Rattle.means_check.proofs.Four.{four_faces}
 use Rattle.means_loops.proofs.Kept.{filter_yes}
 use Rattle.means_check.proofs.Corners.{over, over_le, corners_few}
@@ -78,10 +78,6 @@ module _ (d : Wire) (cs : List Loop) (taken turned : List Bool) (paths : (k : �
           ∙ ap (λ (n : ℕ). length (filter (dig taken) (from 0 n))) (sym s.some)
           ∙ kept_count (dig taken) taken 0 (λ i h. ap (dig taken) (zero-add i))
 
-      turn : (b : Bool) (l : Loop) → ClosedPath d l → ClosedPath d (cond b (flipped l) l)
-      turn true l c = path_flip d l c
-      turn false l c = c
-
       face : (i : ℕ) → i < length (map (directed d cs taken turned) (filter (dig taken) (from 0 (length cs))))
           → ClosedPath d (loop_at (map (directed d cs taken turned) (filter (dig taken) (from 0 (length cs)))) i)
       face i h =
@@ -92,7 +88,7 @@ module _ (d : Wire) (cs : List Loop) (taken turned : List Bool) (paths : (k : �
           let q : get_or (filter (dig taken) (from 0 (length cs))) i 0 ≡ r.0 = sym r.2 ∙ upto-at (length cs) r.0 b in
           subst (ClosedPath d) (sym (map_at (directed d cs taken turned) (filter (dig taken) (from 0 (length cs))) i 0 [] l))
           (subst (λ (k : ℕ). ClosedPath d (directed d cs taken turned k)) (sym q)
-          (turn (dig turned r.0) (loop_at cs r.0) (paths r.0 b)))
+          (path_turned d (dig turned r.0) (loop_at cs r.0) (paths r.0 b)))
 
 -- every solid of a drawing of so many vertices and edges as there may be can be sent as a list of its faces
 pub solid-sent : (d : Wire) → same_place d ≡ none → length d.vertices ≤ most_vertices → length d.edges ≤ most_edges

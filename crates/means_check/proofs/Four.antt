@@ -11,6 +11,7 @@ use Rattle.lists.specs.Around.{wrap, around}
 use Rattle.lists.proofs.Sides.{wrap_low}
 use Rattle.sets.specs.Word.{dig, count, first, less, only}
 use Rattle.sets.proofs.Digits.{never, count-only, count_none, first_in, left_in, left_out}
+use Rattle.sets.proofs.Ones.{dig-below}
 use Rattle.paper.specs.Drawing.{Wire, edge, edge_at}
 use Rattle.paper.specs.Loops.{Loop, loop_at}
 use Rattle.paper.specs.Solids.{has}
@@ -19,7 +20,7 @@ use Rattle.means_loops.specs.Path.{ClosedPath}
 use Rattle.means_solid.proofs.Goes.{has_cases, cases_has, around-at, wrap-next}
 use Rattle.means_check.proofs.Parts.{some_face}
 use Rattle.means_check.proofs.Volume.{no_volume}
-use Rattle.means_check.proofs.Shared.{turn, inside, Beside, own, beside_start, beside_end, Other, other, shared}
+use Rattle.means_check.proofs.Shared.{turn, Beside, own, beside_start, beside_end, Other, other, shared}
 
 module _ (d : Wire) (cs : List Loop) (taken turned : List Bool) (paths : (k : ℕ) → k < length cs → ClosedPath d (loop_at cs k)) {six : ℕ}
     (s : IsSolid d cs taken turned six) where
@@ -141,7 +142,7 @@ module _ (d : Wire) (cs : List Loop) (taken turned : List Bool) (paths : (k : �
       fewer : count taken < 4 → ⊥
       fewer few =
           let f = some_face d cs taken turned s in
-          let ha : 0 < length (loop_at cs f.0) = let t = (paths f.0 (inside d cs taken turned paths s f.0 f.1)).three in
+          let ha : 0 < length (loop_at cs f.0) = let t = (paths f.0 (dig-below taken s.some f.0 f.1)).three in
           omega arith in
           let o = other d cs taken turned paths s f.0 0 f.1 ha in
           third f.0 f.1 ha o.face o.taken_too o.another o.beside

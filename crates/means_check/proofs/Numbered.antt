@@ -4,7 +4,7 @@ use mathlib.Core.Bool.{Bool, true, false, not, cond, true≢false}
 use mathlib.Core.Logic.{◌⊎◌, inl, inr}
 use mathlib.Core.Option.{none, some}
 use mathlib.Core.List.{List, [], map}
-use Prim.Native.Nat.{ℕ, ◌-◌, ◌<◌}
+use Prim.Native.Nat.{ℕ, ◌<◌}
 use native.Mathlib.Omega.{arith}
 use native.Mathlib.Decide.{dec_lt}
 use lib.Dec.{leb}
@@ -16,7 +16,7 @@ use Rattle.lists.proofs.Places.{map_at}
 use Rattle.lists.proofs.Lowest.{lowest-none}
 use Rattle.sets.specs.Word.{dig}
 use Rattle.sets.proofs.Digits.{never}
-use Rattle.sets.proofs.Ones.{dig_lt}
+use Rattle.sets.proofs.Ones.{dig-below}
 use Rattle.paper.specs.Drawing.{Wire}
 use Rattle.paper.specs.Loops.{Loop, loop_at, flipped}
 use Rattle.paper.specs.Verdict.{onward, normal_form, number_in, mask_of, not_candidate, face_twice}
@@ -109,12 +109,10 @@ module _ (cs : List Loop) (fs : List Loop) where
           true≢false (sym (member_is (get_or numbers_of j 0) (take j numbers_of) i (omega arith) (get_or-take j numbers_of i 0 h ∙ e)) ∙ f)
 
       go : (i j : ℕ) → i < length fs → j < length fs → get_or numbers_of i 0 ≡ get_or numbers_of j 0 → i ≡ j
-      go i j hi hj e = by (dec_lt i j) (dec_lt j i)
-        where
-          by : Dec (i < j) → Dec (j < i) → i ≡ j
-          by (yes a) b = absurd (before i j a hj e)
-          by (no a) (yes b) = absurd (before j i b hi (sym e))
-          by (no a) (no b) = omega arith
+      go i j hi hj e =
+          let a : i < j → ⊥ = λ h. before i j h hj e in
+          let b : j < i → ⊥ = λ h. before j i h hi (sym e) in
+          omega (arith, a, b)
 
   pub numbered_21 : Numbered → not_candidate (length cs) numbers_of ≡ none
   unfolding not_candidate
@@ -242,28 +240,25 @@ module _ (d : Wire) (cs : List Loop) (c : ProperCandidates d cs) where
     -- what names a selection is numbered, and its masks are the selection's
     module _ (taken turned : List Bool) (some : length taken ≡ length cs) (within : (k : ℕ) → dig turned k ≡ true → dig taken k ≡ true)
         (n : Names d cs taken turned fs) where
-      inside : (k : ℕ) → dig taken k ≡ true → k < length cs
-      inside k e = omega (arith, dig_lt taken k e)
-
       -- the number of face i is that of the face it is
       number_each : (i : ℕ) → i < length fs → (k : ℕ) × (dig taken k ≡ true) × (number_in cs (loop_at fs i) ≡ k)
           × (onward (loop_at fs i) ≡ not (dig turned k))
       number_each i h =
           let r = n.each i h in
-          let q = ring-number taken turned r.0 (loop_at fs i) (inside r.0 r.1) r.2 in
+          let q = ring-number taken turned r.0 (loop_at fs i) (dig-below taken some r.0 r.1) r.2 in
           (r.0, r.1, q.0, q.1)
 
       pub names_numbered : Numbered cs fs
       unfolding number_each
       names_numbered = record {
-        known = λ i h. let r = number_each i h in omega (arith, inside r.0 r.1, r.2);
+        known = λ i h. let r = number_each i h in omega (arith, dig-below taken some r.0 r.1, r.2);
         apart = λ i j hi hj e.
             let r = n.each i hi in
             let p = number_each i hi in
             let q = number_each j hj in
             let same : number_in cs (loop_at fs j) ≡ p.0 = sym e ∙ p.2 in
             n.once i j p.0 hi hj r.2
-            (number-ring taken turned p.0 (loop_at fs j) (inside p.0 p.1) same
+            (number-ring taken turned p.0 (loop_at fs j) (dig-below taken some p.0 p.1) same
             (q.3 ∙ ap (λ (k : ℕ). not (dig turned k)) (sym q.2 ∙ same)));
       }
 
@@ -278,8 +273,9 @@ module _ (d : Wire) (cs : List Loop) (c : ProperCandidates d cs) where
               let w = number_each r.0 r.1 in
               sym (subst (λ (j : ℕ). dig taken j ≡ true) (sym w.2 ∙ r.2) w.1) ∙ q
           go false true p q =
+              let h = dig-below taken some k q in
               let r = n.there k q in
-              sym p ∙ taken_is cs fs r.0 k r.1 (ring-number taken turned k (loop_at fs r.0) (inside k q) r.2).0 (inside k q)
+              sym p ∙ taken_is cs fs r.0 k r.1 (ring-number taken turned k (loop_at fs r.0) h r.2).0 h
 
       pub names_turned : (k : ℕ) → dig (turned_of cs fs) k ≡ dig turned k
       names_turned k = go (dig (turned_of cs fs) k) (dig turned k) refl refl
@@ -293,7 +289,7 @@ module _ (d : Wire) (cs : List Loop) (c : ProperCandidates d cs) where
               let e : dig turned w.0 ≡ false = ap (dig turned) (sym w.2 ∙ r.2) ∙ q in
               never (sym (w.3 ∙ ap not e) ∙ r.3)
           go false true p q =
-              let h = inside k (within k q) in
+              let h = dig-below taken some k (within k q) in
               let r = n.there k (within k q) in
               let w = ring-number taken turned k (loop_at fs r.0) h r.2 in
               sym p ∙ turned_is cs fs r.0 k r.1 w.0 h (w.1 ∙ ap not q)

@@ -1,20 +1,11 @@
--- The numbers that pass, each once, and digits that are set.
+-- The numbers that pass, each once.
 use mathlib.Core.Path.{◌≡◌, refl, ap}
 use mathlib.Core.Bool.{Bool, true, false}
-use mathlib.Core.List.{List}
 use Prim.Native.Nat.{ℕ, zero, suc, ◌≤◌, ◌<◌}
 use native.Mathlib.Omega.{arith}
 use lib.ListN.{length, get_or}
 use Rattle.lists.specs.Lists.{keep, filter, from}
-use Rattle.sets.specs.Word.{dig}
-use Rattle.sets.proofs.Ones.{dig_lt}
-use Rattle.paper.specs.Loops.{Loop}
 
--- a digit that is set is one of the row's
-pub inside : (cs : List Loop) (taken : List Bool) → length taken ≡ length cs → (k : ℕ) → dig taken k ≡ true → k < length cs
-inside cs taken some k e = omega (arith, dig_lt taken k e)
-
--- the numbers that pass, each once
 kept_low : (p : ℕ → Bool) (m i k : ℕ) → k < length (filter p (from i m)) → i ≤ get_or (filter p (from i m)) k 0
 unfolding filter keep from
 kept_low p zero i k h = absurd (omega arith)

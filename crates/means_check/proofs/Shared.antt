@@ -12,7 +12,7 @@ use Rattle.lists.specs.Around.{wrap, around}
 use Rattle.lists.proofs.Sides.{wrap_low, wrap_high}
 use Rattle.sets.specs.Word.{dig, only}
 use Rattle.sets.proofs.Digits.{never}
-use Rattle.sets.proofs.Ones.{dig_lt}
+use Rattle.sets.proofs.Ones.{dig-below}
 use Rattle.lists.proofs.Places.{one_later}
 use Rattle.paper.specs.Drawing.{Wire, Edge, edge}
 use Rattle.paper.specs.Loops.{Loop, loop_at}
@@ -85,9 +85,6 @@ goes_end l a b g = (wrap (length l) (suc g.at), go (wrap-next (length l) g.at g.
 
 module _ (d : Wire) (cs : List Loop) (taken turned : List Bool) (paths : (k : ℕ) → k < length cs → ClosedPath d (loop_at cs k)) {six : ℕ}
     (s : IsSolid d cs taken turned six) where
-  pub inside : (k : ℕ) → dig taken k ≡ true → k < length cs
-  inside k e = omega (arith, dig_lt taken k e, s.some)
-
   -- face k has side i of face q
   abbrev pub Beside : ℕ → ℕ → ℕ → Type 0
   Beside q i k =
@@ -118,7 +115,7 @@ module _ (d : Wire) (cs : List Loop) (taken turned : List Bool) (paths : (k : �
   pub other : (q i : ℕ) → dig taken q ≡ true → i < length (loop_at cs q) → Other q i
   other q i f h =
       go
-      ((paths q (inside q f)).along (around (loop_at cs q) i 0) (around (loop_at cs q) (suc i) 0)
+      ((paths q (dig-below taken s.some q f)).along (around (loop_at cs q) i 0) (around (loop_at cs q) (suc i) 0)
       (record { at = i; here = h; from = refl; to = refl }))
     where
       swap : (a b : ℕ) (l : Loop) → Goes l a b ⊎ Goes l b a → Goes l b a ⊎ Goes l a b

@@ -8,7 +8,7 @@ use lib.IntN.{pos}
 use lib.ListN.{length, get_or, length-map}
 use Rattle.lists.proofs.Places.{map_at}
 use Rattle.sets.specs.Word.{dig}
-use Rattle.sets.proofs.Ones.{dig_lt}
+use Rattle.sets.proofs.Ones.{dig-below}
 use Rattle.paper.specs.Points.{origin, minus, dot}
 use Rattle.paper.specs.Polygon.{Polygon, normal, corner}
 use Rattle.paper.specs.Drawing.{Wire, at}
@@ -44,7 +44,7 @@ module _ (d : Wire) (cs : List Loop) (taken turned : List Bool) (paths : (k : �
   unfolding polygon
   face_six_lem k f =
       let r = common k f in
-      six_corner (polygon d (loop_at cs k)) r.0 (paths k (omega (arith, dig_lt taken k f, s.some))).plane
+      six_corner (polygon d (loop_at cs k)) r.0 (paths k (dig-below taken s.some k f)).plane
       (omega (arith, r.1, length-map (loop_at cs k) (at d)))
       ∙ ap (λ (p : Point). dot p (normal (polygon d (loop_at cs k)))) (map_at (at d) (loop_at cs k) r.0 0 origin r.1
       ∙ ap (at d) r.2)

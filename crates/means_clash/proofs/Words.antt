@@ -24,7 +24,6 @@ use Rattle.paper_laws.proofs.Wires.{polygon_length}
 use Rattle.paper_laws.proofs.Points.{same_yes, same_is}
 use Rattle.means_clash.proofs.Either.{corner_yes, yes_corner}
 use Rattle.means_clash.specs.Clash.{corner_at, Corner, Opposite, piercing, EdgePierces, RuleA, RuleB, InAngle, PointsIn, RuleC, ClashOf}
-use Rattle.means_clash.specs.Clash as ClashOf
 use Rattle.paper_laws.proofs.Tests.{Is, is_lt_z, is_not, is_or, is_and, is_to, is_zero_lem, is_side}
 
 -- ---- signs, points, places

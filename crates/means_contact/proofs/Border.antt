@@ -192,9 +192,9 @@ border_meets f g two p n un in_f i hi there = go (ways on.t) (ways on.s)
     go (inr (inl e)) y =
         let l = low g two (i + 1) (omega arith) in
         inl (at-corner l.0 l.1 (at_b f p n un in_f (corner_at g i) (corner_at g (i + 1)) on e ∙ ap (times n) l.2))
-    go (inr (inr u)) y = absurd (off u (nn_is (sym (twice on.t)) on.low_t))
+    go (inr (inr u)) y = absurd (off u (nn_is (twice on.t) on.low_t))
     go (inl u) (inr (inl e)) = inl (at-corner i hi (at_a f p n un in_f (corner_at g i) (corner_at g (i + 1)) on e))
-    go (inl u) (inr (inr w)) = absurd (off w (nn_is (sym (twice on.s)) on.low_s))
+    go (inl u) (inr (inr w)) = absurd (off w (nn_is (twice on.s) on.low_s))
     go (inl u) (inl w) = pick (between f p n un in_f (corner_at g i) (corner_at g (i + 1)) on u w)
       where
         pick : EdgePierces f (corner_at g i) (corner_at g (i + 1))

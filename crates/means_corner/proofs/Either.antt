@@ -9,12 +9,12 @@ use Rattle.exact.proofs.Signs.{mul-zero, pos-ne}
 use Rattle.paper.specs.declared.Flat.{Flat}
 use Rattle.means_area.specs.Flats.{Up, Nn, twice_area}
 use Rattle.means_area.proofs.Flats.Net.{nn0}
-use Rattle.means_area.proofs.Flats.Signs.{up_is, nn_is, up_nn, off, zero_off, ways}
+use Rattle.means_area.proofs.Flats.Signs.{up_is, nn_is, up_nn, off, zero_off, ways, twice}
 use Rattle.means_area.proofs.Flats.Turns.{env, tE, flip_last}
 use Rattle.means_inside.specs.Beams.{facing}
 use Rattle.means_inside.specs.Convex.{Hand, lefts, rights, handed}
 use Rattle.means_inside.proofs.Ears.{facing_back}
-use Rattle.means_inside.proofs.Triangle.{f_e, twice}
+use Rattle.means_inside.proofs.Triangle.{f_e}
 use Rattle.means_corner.proofs.Cone.{t, hand_back}
 use Rattle.means_corner.proofs.Beside.{Behind, Strict, acute, wide, hand_ratio}
 use Rattle.means_corner.proofs.Outside.{OuterBy}

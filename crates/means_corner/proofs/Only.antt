@@ -14,12 +14,12 @@ use Rattle.paper.specs.declared.Flat.{Flat}
 use Rattle.paper.specs.declared.Where.TheVariants.{Inside}
 use Rattle.means_area.specs.Rings.{Of, Link}
 use Rattle.means_area.specs.Flats.{Up, Nn, twice_area, height, Simple, Distinct, Fresh}
-use Rattle.means_area.proofs.Flats.Signs.{up_is, nn_is, up_nn, up_add, nn_up, off, zero_off, which}
+use Rattle.means_area.proofs.Flats.Signs.{up_is, nn_is, up_nn, up_add, nn_up, off, zero_off, which, twice}
 use Rattle.means_area.proofs.Flats.Turns.{env, tE, flip_last, flat-first}
 use Rattle.means_inside.specs.Beams.{facing}
 use Rattle.means_inside.specs.Means.{big}
 use Rattle.means_inside.specs.Convex.{NextAlong, Next}
-use Rattle.means_inside.proofs.Triangle.{f_e, twice, facing-end, self_up}
+use Rattle.means_inside.proofs.Triangle.{f_e, facing-end, self_up}
 use Rattle.means_inside.proofs.Ears.{facing_back}
 use Rattle.means_inside.proofs.Segment.{off_link}
 use Rattle.means_inside.proofs.Sides.{link_onto, next-apart}

@@ -16,8 +16,8 @@ use Rattle.means_area.proofs.Flats.Net.{Ok}
 use Rattle.means_area.proofs.Flats.Lowest.{pair_swap}
 use Rattle.means_area.proofs.Flats.First.{first_link, last_link}
 use Rattle.means_area.proofs.Flats.Chains.{lst_append, lst_of, link_back, link_of, chain_split, chain_left, chain_right, Sub, keep, skip}
-use Rattle.means_area.proofs.Flats.Chains.{sub_all, sub_none, sub_append, sub_of, sub_distinct, narrow, of_append, of_left, of_right}
-use Rattle.means_area.proofs.Flats.Chains.{distinct_across}
+use Rattle.means_area.proofs.Flats.Chains.{sub_all, sub_none, sub_left, sub_append, sub_of, sub_distinct, narrow, of_append, of_left}
+use Rattle.means_area.proofs.Flats.Chains.{of_right, distinct_across}
 use Rattle.means_inside.specs.Beams.{right, OffEverySide, odd}
 use Rattle.means_inside.proofs.Parity.{xor_self}
 use Rattle.means_inside.proofs.Fan.{fan}
@@ -120,11 +120,7 @@ module _ (m : ℤ) where
         ∙ ap (λ (b : Bool). xor b (right x v (lst y Y))) (same-right m x v w (lst y Y) s1) ∙ xor_self (right x v (lst y Y))
 
     sub_x : Sub (x ∷ X) g
-    sub_x = skip (keep (sub_left' X (w ∷ y ∷ Y)))
-      where
-        sub_left' : (l r : List Flat) → Sub l (l ++ r)
-        sub_left' [] r = sub_none r
-        sub_left' (z ∷ l) r = keep (sub_left' l r)
+    sub_x = skip (keep (sub_left X (w ∷ y ∷ Y)))
 
     pub outside2 : (z : Flat) → Of z (x ∷ X) → odd z P2 ≡ false
     outside2 =

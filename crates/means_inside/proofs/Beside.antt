@@ -12,11 +12,11 @@ use Rattle.exact.proofs.Signs.{<ℤ-ne}
 use Rattle.paper.specs.declared.Flat.{Flat}
 use Rattle.means_area.specs.Rings.{Of, TheTwo, Chain, Link}
 use Rattle.means_area.specs.Flats.{twice_area, Cross, height, WithinSegment, Net, Distinct, Simple, SameSign, both, none, lst}
-use Rattle.means_area.proofs.Flats.Signs.{up_is, up_nn, zero_off}
-use Rattle.means_area.proofs.Flats.Turns.{flip, flat-first, flat-second}
+use Rattle.means_area.proofs.Flats.Signs.{up_is, up_nn}
+use Rattle.means_area.proofs.Flats.Turns.{flip}
 use Rattle.means_area.proofs.Flats.Net.{Ok}
 use Rattle.means_area.proofs.Flats.Choice.{compare}
-use Rattle.means_area.proofs.Flats.Chains.{link_back, link_of, cross_turned, cross_back}
+use Rattle.means_area.proofs.Flats.Chains.{link_back, link_of, cross_turned, chord-clear, chord-free}
 use Rattle.means_inside.specs.Beams.{right, OffEverySide, odd}
 use Rattle.means_inside.proofs.Beams.{low-is, low_no}
 use Rattle.means_inside.proofs.Segment.{off_link, along}
@@ -159,8 +159,8 @@ module _ (m : ℤ) where
   joint g x y s ok ox oy = record {
     back = (λ {p} {q} l. bk p q l);
     end = (λ {p} {q} l. en p q l);
-    clear = (λ {p} {q} {r} {s = t} l n c. clear2 p q r t l n c);
-    free = (λ {p} {q} {r} l n c. free2 p q r l n c);
+    clear = (λ {p} {q} {r} {s = t} l n c. chord-clear m g x y s ok p q r t l n c);
+    free = (λ {p} {q} {r} l n c. chord-free m g x y s ok p q r l n c);
   }
     where
       bk : (p q : Flat) → Link g p q ⊎ TheTwo x y p q → Link g q p ⊎ TheTwo x y q p
@@ -172,27 +172,3 @@ module _ (m : ℤ) where
       en p q (inl l) = link_of g p q l
       en p q (inr (inl e)) = subst (λ (z : Flat). Of z g) (sym e.0) ox
       en p q (inr (inr e)) = subst (λ (z : Flat). Of z g) (sym e.0) oy
-
-      chord : (p q r t : Flat) → TheTwo x y p q → Link g r t → Cross p q r t → ⊥
-      chord p q r t (inl e) l c = ok.uncut l (subst (λ (z : Flat). Cross z y r t) e.0 (subst (λ (z : Flat). Cross p z r t) e.1 c))
-      chord p q r t (inr e) l c =
-          ok.uncut (link_back g r t l)
-          (cross_back m (subst (λ (z : Flat). Cross z x r t) e.0 (subst (λ (z : Flat). Cross p z r t) e.1 c)))
-
-      twice : (p q r t : Flat) → TheTwo x y p q → TheTwo x y r t → Cross p q r t → ⊥
-      twice p q r t (inl e) (inl f) c = zero_off (ap (twice_area p q) (f.0 ∙ sym e.0) ∙ flat-first p q) c.left
-      twice p q r t (inl e) (inr f) c = zero_off (ap (twice_area p q) (f.0 ∙ sym e.1) ∙ flat-second p q) c.left
-      twice p q r t (inr e) (inl f) c = zero_off (ap (twice_area p q) (f.0 ∙ sym e.1) ∙ flat-second p q) c.left
-      twice p q r t (inr e) (inr f) c = zero_off (ap (twice_area p q) (f.0 ∙ sym e.0) ∙ flat-first p q) c.left
-
-      clear2 : (p q r t : Flat) → Link g p q ⊎ TheTwo x y p q → Link g r t ⊎ TheTwo x y r t → Cross p q r t → ⊥
-      clear2 p q r t (inl l) (inl n) c = s.net.clear l n c
-      clear2 p q r t (inl l) (inr n) c = chord r t q p n (link_back g p q l) (cross_turned m c)
-      clear2 p q r t (inr l) (inl n) c = chord p q r t l n c
-      clear2 p q r t (inr l) (inr n) c = twice p q r t l n c
-
-      free2 : (p q r : Flat) → Link g p q ⊎ TheTwo x y p q → Of r g → WithinSegment m p q r → ⊥
-      free2 p q r (inl l) n c = s.net.free l n c
-      free2 p q r (inr (inl e)) n c = ok.bare n (subst (λ (z : Flat). WithinSegment m z y r) e.0 (subst (λ (z : Flat). WithinSegment m p z r) e.1 c))
-      free2 p q r (inr (inr e)) n c =
-          ok.bare_back n (subst (λ (z : Flat). WithinSegment m z x r) e.0 (subst (λ (z : Flat). WithinSegment m p z r) e.1 c))

@@ -13,7 +13,7 @@ use Rattle.paper.specs.declared.Flat.{Flat}
 use Rattle.paper.specs.declared.Where.TheVariants.{Inside}
 use Rattle.means_area.specs.Rings.{Of, Link}
 use Rattle.means_area.specs.Flats.{Up, Nn, twice_area, height, lst}
-use Rattle.means_area.proofs.Flats.Signs.{up_is, nn_is, up_nn, zero_off, which}
+use Rattle.means_area.proofs.Flats.Signs.{up_is, nn_is, up_nn, zero_off, which, twice}
 use Rattle.means_area.proofs.Flats.Turns.{flip}
 use Rattle.means_area.proofs.Space.Maps.{map_of, map_link}
 use Rattle.means_inside.specs.Regions.{Cut, one, chord, ear, start, InTriangle, left, right, At}
@@ -21,7 +21,7 @@ use Rattle.means_inside.specs.Touch.{Touch}
 use Rattle.means_inside.specs.Means.{big}
 use Rattle.means_inside.specs.Convex.{NextAlong, Next, Hand, lefts, rights, handed, OnHand}
 use Rattle.means_inside.specs.Theorems.{NotBeyondInside, ConvexMeans}
-use Rattle.means_inside.proofs.Triangle.{twice, shift, shift_is, shift_up, not_left}
+use Rattle.means_inside.proofs.Triangle.{shift, shift_is, shift_up, not_left}
 use Rattle.means_inside.proofs.Larger.{big-turn, small_eq}
 use Rattle.means_inside.proofs.Sides.{step_split, step_left, step_right, step_end, step_last, link_next, next-apart}
 use Rattle.means_inside.proofs.Inside.{io, inside_off, every_ray_says, means}

@@ -8,10 +8,10 @@ use lib.IntN.{ℤ, pos, neg_ℤ, ◌+ℤ◌}
 use Rattle.exact.proofs.Order.{add_nonneg}
 use Rattle.paper.specs.declared.Flat.{Flat}
 use Rattle.means_area.specs.Rings.{TheTwo, Chain, Link}
-use Rattle.means_area.specs.Flats.{Up, Nn, twice_area, Simple, lst}
-use Rattle.means_area.proofs.Flats.Signs.{up_is, nn_is, off, ways}
+use Rattle.means_area.specs.Flats.{Nn, twice_area, Simple, lst}
+use Rattle.means_area.proofs.Flats.Signs.{nn_is, off}
 use Rattle.means_area.proofs.Flats.Turns.{spin, flip, flip_last, sum_is, sum-neg}
-use Rattle.means_area.proofs.Flats.Choice.{Hit}
+use Rattle.means_area.proofs.Flats.Choice.{Hit, by_sense}
 use Rattle.means_area.proofs.Flats.Rings.{part_back, area-ear}
 use Rattle.means_area.proofs.Flats.{area_not_zero}
 use Rattle.means_area.proofs.Flats.Chains.{chain_split, chain_left, chain_end}
@@ -19,28 +19,19 @@ use Rattle.means_inside.specs.Beams.{beam, facing, Off, odd, east}
 use Rattle.means_inside.specs.Regions.{InTriangle, left, right}
 use Rattle.means_inside.specs.Touch.{Touch}
 use Rattle.means_inside.proofs.Parity.{round_turned, round-cut, round-ear}
-use Rattle.means_inside.proofs.Triangle.{inn, base_a, base_b, odd-far, odd_a, odd_b, twice}
+use Rattle.means_inside.proofs.Triangle.{inn, base_a, base_b, odd-far, odd_a, odd_b}
 use Rattle.means_inside.proofs.Segment.{beam_back}
 use Rattle.means_inside.proofs.Ears.{facing_back, off_back, off_or, clear3, flip3}
 use Rattle.means_inside.proofs.Form.{turn_link}
 
 -- within a triangle, and on neither side at v
 pub within_hit : (v x y p : Flat) → (twice_area v x y ≡ pos 0 → ⊥) → Off p v x → Off p v y → InTriangle v x y p → Hit v x y p
-within_hit v x y p n ox oy (left a b c) = go (ways (twice_area v x y))
-  where
-    go : Up (twice_area v x y) ⊎ ((twice_area v x y ≡ pos 0) ⊎ Up (neg_ℤ (twice_area v x y))) → Hit v x y p
-    go (inl D) = inl (inn v x y p D ox oy b c a)
-    go (inr (inl k)) = absurd (n k)
-    go (inr (inr D)) = absurd (off D (nn_is (twice (twice_area v x y)) (nn_is (sum_is v x y p) (add_nonneg (add_nonneg b c) a))))
-within_hit v x y p n ox oy (right a b c) = go (ways (twice_area v x y))
-  where
-    go : Up (twice_area v x y) ⊎ ((twice_area v x y ≡ pos 0) ⊎ Up (neg_ℤ (twice_area v x y))) → Hit v x y p
-    go (inl D) = absurd (off D (nn_is (sum-neg v x y p) (add_nonneg (add_nonneg (nn_is (sym (flip y x p)) b) c) a)))
-    go (inr (inl k)) = absurd (n k)
-    go (inr (inr D)) =
-        inr
-        (inn v y x p (up_is (sym (flip_last v y x)) D) oy ox (nn_is (sym (flip y x p)) b) (nn_is (sym (flip x v p)) a)
-        (nn_is (sym (flip v y p)) c))
+within_hit v x y p n ox oy (left a b c) =
+    by_sense v x y n (λ D. inl (inn v x y p D ox oy b c a))
+    (λ D. absurd (off D (nn_is (sum_is v x y p ∙ flip_last v x y) (add_nonneg (add_nonneg b c) a))))
+within_hit v x y p n ox oy (right a b c) =
+    by_sense v x y n (λ D. absurd (off D (nn_is (sum-neg v x y p) (add_nonneg (add_nonneg (nn_is (sym (flip y x p)) b) c) a))))
+    (λ D. inr (inn v y x p D oy ox (nn_is (sym (flip y x p)) b) (nn_is (sym (flip x v p)) a) (nn_is (sym (flip v y p)) c)))
 
 -- a simple triangle is no line
 pub three-turn : (m : ℤ) (a b c : Flat) → Simple m (a ∷ b ∷ c ∷ []) → twice_area a b c ≡ pos 0 → ⊥
@@ -49,20 +40,13 @@ three-turn m a b c s e =
 
 -- on the side from a to b of a triangle, in either sense
 on_side : (v a b p : Flat) → (twice_area v a b ≡ pos 0 → ⊥) → twice_area a b p ≡ pos 0 → Nn (neg_ℤ (facing p a b)) → InTriangle v a b p
-on_side v a b p n e f = go (ways (twice_area v a b))
-  where
-    zero : Nn (twice_area a b p)
-    zero = nn_is (sym e) (record { le = tt })
-
-    go : Up (twice_area v a b) ⊎ ((twice_area v a b ≡ pos 0) ⊎ Up (neg_ℤ (twice_area v a b))) → InTriangle v a b p
-    go (inl D) = left (base_b v a b p D e f) zero (base_a v a b p D e f)
-    go (inr (inl k)) = absurd (n k)
-    go (inr (inr D)) =
-        let D' = up_is (sym (flip_last v b a)) D in
-        let e' = flip b a p ∙ ap neg_ℤ e in
-        let f' = nn_is (ap neg_ℤ (facing_back p a b)) f in
-        right (nn_is (flip a v p) (base_a v b a p D' e' f')) (nn_is (ap neg_ℤ (sym e)) (record { le = tt }))
-        (nn_is (flip v b p) (base_b v b a p D' e' f'))
+on_side v a b p n e f =
+    by_sense v a b n (λ D. left (base_b v a b p D e f) (nn_is (sym e) (record { le = tt })) (base_a v a b p D e f))
+    (λ D.
+    let e' = flip b a p ∙ ap neg_ℤ e in
+    let f' = nn_is (ap neg_ℤ (facing_back p a b)) f in
+    right (nn_is (flip a v p) (base_a v b a p D e' f')) (nn_is (ap neg_ℤ (sym e)) (record { le = tt }))
+    (nn_is (flip v b p) (base_b v b a p D e' f')))
 
 -- the next corner first
 pub turn_within : (a b c p : Flat) → InTriangle b c a p → InTriangle a b c p
@@ -84,19 +68,16 @@ module _ (a b c p : Flat) (n : twice_area a b c ≡ pos 0 → ⊥) where
   odd_within o = go (off_or p a b) (off_or p b c) (off_or p c a)
     where
       clear : Off p a b → Off p b c → Off p c a → InTriangle a b c p
-      clear x y z = pick (ways (twice_area a b c))
-        where
-          pick : Up (twice_area a b c) ⊎ ((twice_area a b c ≡ pos 0) ⊎ Up (neg_ℤ (twice_area a b c))) → InTriangle a b c p
-          pick (inl D) =
-              let k = clear3 a b c p x (off_back p c a z) n b c x (off_back p c a z) y in
-              left (odd_b a b c p D k o) (odd-far a b c p D k o) (odd_a a b c p D k o)
-          pick (inr (inl k)) = absurd (n k)
-          pick (inr (inr D)) =
-              let D' = up_is (sym (flip_last a c b)) D in
-              let k = clear3 a b c p x (off_back p c a z) n c b (off_back p c a z) x (off_back p b c y) in
-              let o' = sym (flip3 a b c p x (off_back p c a z) n (beam p (east p)) (beam_back p (east p))) ∙ o in
-              right (nn_is (flip b a p) (odd_a a c b p D' k o')) (nn_is (flip c b p) (odd-far a c b p D' k o'))
-              (nn_is (flip a c p) (odd_b a c b p D' k o'))
+      clear x y z =
+          by_sense a b c n
+          (λ D.
+          let k = clear3 a b c p x (off_back p c a z) n b c x (off_back p c a z) y in
+          left (odd_b a b c p D k o) (odd-far a b c p D k o) (odd_a a b c p D k o))
+          (λ D.
+          let k = clear3 a b c p x (off_back p c a z) n c b (off_back p c a z) x (off_back p b c y) in
+          let o' = sym (flip3 a b c p x (off_back p c a z) n (beam p (east p)) (beam_back p (east p))) ∙ o in
+          right (nn_is (flip b a p) (odd_a a c b p D k o')) (nn_is (flip c b p) (odd-far a c b p D k o'))
+          (nn_is (flip a c p) (odd_b a c b p D k o')))
 
       go : Off p a b ⊎ ((twice_area a b p ≡ pos 0) × Nn (neg_ℤ (facing p a b))) → Off p b c ⊎ ((twice_area b c p ≡ pos 0) × Nn (neg_ℤ (facing p b c)))
           → Off p c a ⊎ ((twice_area c a p ≡ pos 0) × Nn (neg_ℤ (facing p c a))) → InTriangle a b c p

@@ -10,8 +10,8 @@ use Rattle.paper.specs.declared.Flat.{Flat}
 use Rattle.means_area.specs.Rings.{Of, Link, TheTwo}
 use Rattle.means_area.specs.Flats.{Up, Nn, twice_area, height, Least, lst}
 use Rattle.means_area.proofs.Flats.Signs.{up_is, nn_is, zero_off, ways, which, up_diff}
-use Rattle.means_area.proofs.Flats.Turns.{env, u_e, v_e, h_e, spin, flip, flip_last, flat-first}
-use Rattle.means_area.proofs.Flats.Choice.{Hit}
+use Rattle.means_area.proofs.Flats.Turns.{env, u_e, v_e, h_e, spin, flip, flat-first}
+use Rattle.means_area.proofs.Flats.Choice.{Hit, by_sense}
 use Rattle.means_inside.specs.Beams.{round, beam, facing, Off, OffEverySide, odd, east, Seen}
 use Rattle.means_inside.proofs.Parity.{xor_comm, xor_self}
 use Rattle.means_inside.proofs.Triangle.{f_e, facing-end, odd-far, odd_a, odd_b, inn, onto, out}
@@ -47,13 +47,9 @@ bool false = inr refl
 
 module _ (v x y p : Flat) (ox : Off p v x) (oy : Off p v y) (n : twice_area v x y ≡ pos 0 → ⊥) where
   pub chord_hit : twice_area x y p ≡ pos 0 → Nn (neg_ℤ (facing p x y)) → Hit v x y p
-  chord_hit e f = go (ways (twice_area v x y))
-    where
-      go : Up (twice_area v x y) ⊎ ((twice_area v x y ≡ pos 0) ⊎ Up (neg_ℤ (twice_area v x y))) → Hit v x y p
-      go (inl D) = inl (onto v x y p D ox oy e f)
-      go (inr (inl k)) = absurd (n k)
-      go (inr (inr D)) =
-          inr (onto v y x p (up_is (sym (flip_last v y x)) D) oy ox (flip y x p ∙ ap neg_ℤ e) (nn_is (ap neg_ℤ (facing_back p x y)) f))
+  chord_hit e f =
+      by_sense v x y n (λ D. inl (onto v x y p D ox oy e f))
+      (λ D. inr (onto v y x p D oy ox (flip y x p ∙ ap neg_ℤ e) (nn_is (ap neg_ℤ (facing_back p x y)) f)))
 
   pub clear3 : (a b : Flat) → Off p v a → Off p v b → Off p a b → OffEverySide p (v ∷ a ∷ b ∷ [])
   clear3 a b oa ob oc q r l = go l
@@ -74,18 +70,15 @@ module _ (v x y p : Flat) (ox : Off p v x) (oy : Off p v y) (n : twice_area v x 
       ∙ ap (xor (f x v)) (xor_comm (f y x) (f v y)) ∙ xor_comm (f x v) (xor (f v y) (f y x)) ∙ xor_assoc (f v y) (f y x) (f x v)
 
   pub odd_hit : Off p x y → odd p (v ∷ x ∷ y ∷ []) ≡ true → Hit v x y p
-  odd_hit oc o = go (ways (twice_area v x y))
-    where
-      go : Up (twice_area v x y) ⊎ ((twice_area v x y ≡ pos 0) ⊎ Up (neg_ℤ (twice_area v x y))) → Hit v x y p
-      go (inl D) =
-          let c = clear3 x y ox oy oc in
-          inl (inn v x y p D ox oy (odd-far v x y p D c o) (odd_a v x y p D c o) (odd_b v x y p D c o))
-      go (inr (inl k)) = absurd (n k)
-      go (inr (inr D)) =
-          let D' = up_is (sym (flip_last v y x)) D in
-          let c = clear3 y x oy ox (off_back p x y oc) in
-          let o' = sym (flip3 (beam p (east p)) (beam_back p (east p))) ∙ o in
-          inr (inn v y x p D' oy ox (odd-far v y x p D' c o') (odd_a v y x p D' c o') (odd_b v y x p D' c o'))
+  odd_hit oc o =
+      by_sense v x y n
+      (λ D.
+      let c = clear3 x y ox oy oc in
+      inl (inn v x y p D ox oy (odd-far v x y p D c o) (odd_a v x y p D c o) (odd_b v x y p D c o)))
+      (λ D.
+      let c = clear3 y x oy ox (off_back p x y oc) in
+      let o' = sym (flip3 (beam p (east p)) (beam_back p (east p))) ∙ o in
+      inr (inn v y x p D oy ox (odd-far v y x p D c o') (odd_a v y x p D c o') (odd_b v y x p D c o')))
 
 -- two corners only
 pub odd_two : (p x y : Flat) → odd p (x ∷ y ∷ []) ≡ false

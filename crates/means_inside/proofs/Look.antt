@@ -1,7 +1,7 @@
 -- What is seen from a corner v that is lower than its neighbours x and y, of any links: an empty triangle, or a farthest corner w; and
 -- points of the chord v w. Two angles at v.
 use mathlib.Core.Path.{◌≡◌, sym, ◌∙◌, ap}
-use mathlib.Core.Logic.{◌⊎◌, inl, inr}
+use mathlib.Core.Logic.{◌⊎◌, inl, inr, ⊎_swap}
 use mathlib.Core.List.{List, [], ◌∷◌}
 use lib.IntN.{ℤ, pos, neg_ℤ, ◌+ℤ◌, ◌-ℤ◌, ◌*ℤ◌}
 use lib.Signed.{◌≤ℤ◌, ◌<ℤ◌}
@@ -12,10 +12,10 @@ use Rattle.exact.proofs.Order.{ring_with, mul-pos, mul_nonneg, add_nonneg, sub_p
 use Rattle.paper.specs.declared.Flat.{Flat}
 use Rattle.means_area.specs.Rings.{Of}
 use Rattle.means_area.specs.Flats.{Up, Nn, twice_area, height, Net, SameSign, both, none}
-use Rattle.means_area.proofs.Flats.Signs.{up_is, nn_is, up_nn, up_add, off, zero_off, ways, up_out, nn_out}
+use Rattle.means_area.proofs.Flats.Signs.{up_is, nn_is, up_nn, up_add, zero_off, ways, up_out, nn_out}
 use Rattle.means_area.proofs.Flats.Turns.{In, env, u_e, v_e, tE, h_e, spin, flip, flip_last, flat-first}
 use Rattle.means_area.proofs.Flats.Net.{Ok, diagonal, higher}
-use Rattle.means_area.proofs.Flats.Choice.{Hit, in_sense, best, Best, bent}
+use Rattle.means_area.proofs.Flats.Choice.{Hit, in_sense, hit_sense, by_sense, best, Best, bent}
 use Rattle.means_inside.specs.Beams.{facing}
 use Rattle.means_inside.proofs.Triangle.{f_e, self_nn, self_up}
 
@@ -146,32 +146,20 @@ module _ (m : ℤ) where
           le_by σ (var 0) (var 2) (omega (arith, le_to σ (var 0) (var 1) k, le_to σ (con (pos 0)) (var 2 ⊖ var 1) farther))
 
     pub look : (h x ≡ h y → ⊥) → Look
-    look ne = go (ways (twice_area v x y))
+    look ne =
+        by_sense v x y (bent m L cs net v x y vx vy hx hy ne) (λ D. up D (best v x y cs)) (λ D. down D (best v y x cs))
       where
         up : Up (twice_area v x y) → ((z : Flat) → Of z cs → In v x y z → ⊥) ⊎ Best v x y cs → Look
-        up D (inl e) = empty (λ z o. no z (e z o))
-          where
-            no : (z : Flat) → (In v x y z → ⊥) → Hit v x y z → ⊥
-            no z n (inl i) = n i
-            no z n (inr i) = off D (up_nn (up_is (flip_last v y x) (in_sense v y x z i)))
+        up D (inl e) = empty (λ z o i. e z o (hit_sense v x y z D i))
         up D (inr t) =
             far t.w t.of (view t.w t.inn t.top) (both t.inn.by_b D) (both (up_is (spin y v t.w) t.inn.by_a) D)
             (λ p e f n. view p (chord_in x y t.w p e f n t.inn)
             (λ r o j. chord-far x y t.w p e f n t.inn (twice_area x y r) (t.top r o j)))
 
         down : Up (twice_area v y x) → ((z : Flat) → Of z cs → In v y x z → ⊥) ⊎ Best v y x cs → Look
-        down D (inl e) = empty (λ z o. no z (e z o))
-          where
-            no : (z : Flat) → (In v y x z → ⊥) → Hit v x y z → ⊥
-            no z n (inr i) = n i
-            no z n (inl i) = off D (up_nn (up_is (flip_last v x y) (in_sense v x y z i)))
+        down D (inl e) = empty (λ z o i. e z o (hit_sense v y x z D (⊎_swap i)))
         down D (inr t) = far t.w t.of (view' t.w t.inn t.top)
             (none (up_is (flip x v t.w) t.inn.by_a) (up_is (flip_last v y x) D))
             (none (up_is (flip_last v y t.w) t.inn.by_b) (up_is (flip_last v y x) D))
             (λ p e f n. view' p (chord_in y x t.w p e f n t.inn)
             (λ r o j. chord-far y x t.w p e f n t.inn (twice_area y x r) (t.top r o j)))
-
-        go : Up (twice_area v x y) ⊎ ((twice_area v x y ≡ pos 0) ⊎ Up (neg_ℤ (twice_area v x y))) → Look
-        go (inl D) = up D (best v x y cs)
-        go (inr (inl e)) = absurd (bent m L cs net v x y vx vy hx hy ne e)
-        go (inr (inr D)) = down (up_is (sym (flip_last v y x)) D) (best v y x cs)

@@ -12,13 +12,13 @@ use Rattle.paper.specs.Points.{above, below}
 use Rattle.paper.specs.Polygon.{meets_ray}
 use Rattle.paper.specs.declared.Flat.{Flat}
 use Rattle.means_area.specs.Flats.{Up, Nn, twice_area}
-use Rattle.means_area.proofs.Flats.Signs.{up_is, nn_is, up_nn, off, which, ways, up_out}
+use Rattle.means_area.proofs.Flats.Signs.{up_is, nn_is, up_nn, off, which, ways, up_out, twice}
 use Rattle.means_area.proofs.Flats.Turns.{flip, flat-second}
 use Rattle.means_inside.specs.Beams.{round, right, beam, facing, OffEverySide}
 use Rattle.means_inside.specs.Convex.{Hand, lefts, rights, handed}
 use Rattle.means_inside.proofs.Parity.{potential}
 use Rattle.means_inside.proofs.Beams.{above_is, above_no, below_is, below_no, low-is, low_no, same_side}
-use Rattle.means_inside.proofs.Triangle.{twice, self_up, shift, shift_is, shift_up}
+use Rattle.means_inside.proofs.Triangle.{self_up, shift, shift_is, shift_up}
 use Rattle.means_inside.proofs.Scale.{ray_scale}
 
 -- ---- two numbers that are one up to factors above 0

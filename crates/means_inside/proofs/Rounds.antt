@@ -11,12 +11,12 @@ use Rattle.exact.proofs.Order.{mul-pos, mul_nonneg, add_nonneg}
 use Rattle.paper.specs.Points.{above, below}
 use Rattle.paper.specs.declared.Flat.{Flat}
 use Rattle.means_area.specs.Flats.{Up, Nn, twice_area}
-use Rattle.means_area.proofs.Flats.Signs.{up_is, nn_is, up_nn, up_add, nn_up, off, which, nn_out}
+use Rattle.means_area.proofs.Flats.Signs.{up_is, nn_is, up_nn, up_add, nn_up, off, which, nn_out, twice}
 use Rattle.means_area.proofs.Flats.Turns.{env, u_e, v_e, tE, spin, sum_is}
 use Rattle.means_inside.specs.Beams.{right}
 use Rattle.means_inside.specs.Regions.{InTriangle, left}
 use Rattle.means_inside.proofs.Beams.{above_is, above_yes, below_is, below_no, below_yes, low-is, low_no, yes_low, no_low}
-use Rattle.means_inside.proofs.Triangle.{twice, shift}
+use Rattle.means_inside.proofs.Triangle.{shift}
 use Rattle.means_inside.proofs.Covers.{turn_within}
 use Rattle.means_inside.proofs.Winding.{around, counts, goes}
 

@@ -13,14 +13,14 @@ use Rattle.paper.specs.Polygon.{meets_ray}
 use Rattle.paper.specs.declared.Flat.{Flat}
 use Rattle.means_area.specs.Rings.{Link}
 use Rattle.means_area.specs.Flats.{Up, Nn, twice_area, Cross, height, WithinSegment}
-use Rattle.means_area.proofs.Flats.Signs.{up_is, nn_is, up_nn, up_add, off, ways, which, up_out, diff_up}
+use Rattle.means_area.proofs.Flats.Signs.{up_is, nn_is, up_nn, up_add, off, ways, which, up_out, diff_up, twice}
 use Rattle.means_area.proofs.Flats.Turns.{env, u_e, v_e, tE, h_e, flip}
 use Rattle.means_area.proofs.Flats.Choice.{compare}
 use Rattle.means_area.proofs.Flats.Chains.{link_back}
 use Rattle.means_inside.specs.Beams.{right, beam, facing, Off, OffEverySide, odd}
 use Rattle.means_inside.proofs.Parity.{potential, xor_self}
 use Rattle.means_inside.proofs.Beams.{above_is, above_no, below_is, below_no, yes_low, no_low}
-use Rattle.means_inside.proofs.Triangle.{f_e, self_nn, self_up, by_ray, twice}
+use Rattle.means_inside.proofs.Triangle.{f_e, self_nn, self_up, by_ray}
 
 pub below-neg : (t : ℤ) → below (neg_ℤ t) ≡ above t
 below-neg t = go (ways t)

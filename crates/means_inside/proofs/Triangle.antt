@@ -13,7 +13,7 @@ use Rattle.paper.specs.Polygon.{meets_ray}
 use Rattle.paper.specs.declared.Flat.{Flat}
 use Rattle.means_area.specs.Rings.{Of}
 use Rattle.means_area.specs.Flats.{Up, Nn, twice_area}
-use Rattle.means_area.proofs.Flats.Signs.{up_is, nn_is, up_nn, nn_up, off, zero_off, ways, which, nn_out}
+use Rattle.means_area.proofs.Flats.Signs.{up_is, nn_is, up_nn, nn_up, off, zero_off, up_else, twice, which, nn_out}
 use Rattle.means_area.proofs.Flats.Turns.{In, env, u_e, v_e, tE, spin, flip}
 use Rattle.means_area.proofs.Flats.Chains.{link_of, link_back}
 use Rattle.means_inside.specs.Beams.{round, right, beam, facing, Off, OffEverySide, east, odd}
@@ -22,9 +22,6 @@ use Rattle.means_inside.proofs.Beams.{low-is, low_no, every_ray}
 
 abbrev pub f_e : ℕ → ℕ → ℕ → Expr
 f_e p a b = (u_e a ⊖ u_e p) ⊗ (u_e b ⊖ u_e p) ⊕ (v_e a ⊖ v_e p) ⊗ (v_e b ⊖ v_e p)
-
-pub twice : (x : ℤ) → x ≡ neg_ℤ (neg_ℤ x)
-twice x = ring (x ∷ []) (var 0) (neg (neg (var 0))) tt
 
 -- ---- another point
 two_zero : (x y : ℤ) → x *ℤ x +ℤ y *ℤ y ≡ pos 0 → (x ≡ pos 0) × (y ≡ pos 0)
@@ -49,12 +46,7 @@ unfolding facing
 facing-end p b = ring (env (pos 0) (p ∷ b ∷ [])) (f_e 0 0 1) (con (pos 0)) tt
 
 pub self_up : (p q : Flat) → (q ≡ p → ⊥) → Up (facing p q q)
-self_up p q n = go (ways (facing p q q))
-  where
-    go : Up (facing p q q) ⊎ ((facing p q q ≡ pos 0) ⊎ Up (neg_ℤ (facing p q q))) → Up (facing p q q)
-    go (inl k) = k
-    go (inr (inl e)) = absurd (n (self_zero p q e))
-    go (inr (inr k)) = absurd (off k (nn_is (ring (facing p q q ∷ []) (var 0) (neg (neg (var 0))) tt) (self_nn p q)))
+self_up p q n = up_else (λ e. n (self_zero p q e)) (λ k. off k (nn_is (twice (facing p q q)) (self_nn p q)))
 
 pub moved : (p q z : Flat) → Up (twice_area p q z) → Up (facing p q q)
 unfolding twice_area
@@ -182,23 +174,19 @@ module _ (v a b p : Flat) (D : Up (twice_area v a b)) where
 
   -- within, and on neither side at v
   pub inn : Off p v a → Off p v b → Nn (twice_area a b p) → Nn (twice_area b v p) → Nn (twice_area v a p) → In v a b p
-  inn oa ob far xa xb = record { far = far; by_a = go_a (ways (twice_area b v p)); by_b = go_b (ways (twice_area v a p)) }
-    where
-      go_a : Up (twice_area b v p) ⊎ ((twice_area b v p ≡ pos 0) ⊎ Up (neg_ℤ (twice_area b v p))) → Up (twice_area b v p)
-      go_a (inl k) = k
-      go_a (inr (inl e)) =
-          absurd
-          (off (up_is (on_vb e) (mul-pos (mul-pos D D) (ob (flip v b p ∙ ap neg_ℤ e))))
-          (nn_is (twice (twice_area v a p *ℤ twice_area a b p *ℤ facing v b b)) (mul_nonneg (mul_nonneg xb far) (self_nn v b))))
-      go_a (inr (inr k)) = absurd (off k (nn_is (ring (twice_area b v p ∷ []) (var 0) (neg (neg (var 0))) tt) xa))
-
-      go_b : Up (twice_area v a p) ⊎ ((twice_area v a p ≡ pos 0) ⊎ Up (neg_ℤ (twice_area v a p))) → Up (twice_area v a p)
-      go_b (inl k) = k
-      go_b (inr (inl e)) =
-          absurd
-          (off (up_is (on_va e) (mul-pos (mul-pos D D) (oa e)))
-          (nn_is (twice (twice_area b v p *ℤ twice_area a b p *ℤ facing v a a)) (mul_nonneg (mul_nonneg xa far) (self_nn v a))))
-      go_b (inr (inr k)) = absurd (off k (nn_is (ring (twice_area v a p ∷ []) (var 0) (neg (neg (var 0))) tt) xb))
+  inn oa ob far xa xb = record {
+    far = far;
+    by_a =
+        up_else
+        (λ e. off (up_is (on_vb e) (mul-pos (mul-pos D D) (ob (flip v b p ∙ ap neg_ℤ e))))
+        (nn_is (twice (twice_area v a p *ℤ twice_area a b p *ℤ facing v b b)) (mul_nonneg (mul_nonneg xb far) (self_nn v b))))
+        (λ k. off k (nn_is (twice (twice_area b v p)) xa));
+    by_b =
+        up_else
+        (λ e. off (up_is (on_va e) (mul-pos (mul-pos D D) (oa e)))
+        (nn_is (twice (twice_area b v p *ℤ twice_area a b p *ℤ facing v a a)) (mul_nonneg (mul_nonneg xa far) (self_nn v a))))
+        (λ k. off k (nn_is (twice (twice_area v a p)) xb));
+  }
 
   -- a point of the chord
   base_xa : twice_area a b p ≡ pos 0 → facing a b b *ℤ twice_area b v p ≡ twice_area v a b *ℤ (facing p b b +ℤ neg_ℤ (facing p a b))

@@ -16,11 +16,11 @@ use Rattle.paper_laws.proofs.Vectors.{vec, k, ◌-s◌, ◌·◌, o, v, ◌-v◌
 use Rattle.paper_laws.proofs.Points.{in_line_lem}
 use Rattle.means_area.specs.Flats.{Up, Nn, twice_area}
 use Rattle.means_area.specs.Space.{through}
-use Rattle.means_area.proofs.Flats.Signs.{up_is, nn_is, up_nn, up_add, off, ways, nn_out}
+use Rattle.means_area.proofs.Flats.Signs.{up_is, nn_is, up_nn, up_add, off, ways, nn_out, twice}
 use Rattle.means_area.proofs.Flats.Turns.{spin}
 use Rattle.means_area.proofs.Space.Views.{view_one}
 use Rattle.means_inside.specs.Beams.{facing}
-use Rattle.means_inside.proofs.Triangle.{facing-end, self_nn, self_zero, twice}
+use Rattle.means_inside.proofs.Triangle.{facing-end, self_nn, self_zero}
 
 -- what a view along i shows of a direction across the plane: along the second axis a ring is seen the other way round
 abbrev pub shown : Axis → Point → ℤ

@@ -4,9 +4,8 @@ use mathlib.Core.Bool.{Bool, true, false, not, ◌&&◌, true≢false}
 use mathlib.Core.Logic.{◌⊎◌, inl, inr, ⊎_elim}
 use mathlib.Core.List.Memᴰ
 use mathlib.Core.List.{List, [], ◌∷◌, map, Memᴰ}
-use Prim.Native.Nat.{ℕ, zero, suc, ◌+◌, ◌-◌, ◌≤◌, ◌<◌}
+use Prim.Native.Nat.{ℕ, zero, suc, ◌+◌, ◌≤◌, ◌<◌}
 use native.Mathlib.Omega.{arith}
-use native.Mathlib.Decide.{dec_lt}
 use lib.Dec.{eqb}
 use lib.ListN.{length, get_or, length-map}
 use borrow.Author.Tests.{eqb-true, eq-eqb, ne_eqb, not-true}
@@ -33,12 +32,10 @@ loop_place q (x ∷ l) m =
     (Memᴰ.cases_cons m)
 
 pub ascending_once : (l : List Loop) → Ascending l → (i j : ℕ) → i < length l → j < length l → loop_at l i ≡ loop_at l j → i ≡ j
-ascending_once l a i j hi hj e = go (dec_lt i j) (dec_lt j i)
-  where
-    go : Dec (i < j) → Dec (j < i) → i ≡ j
-    go (yes h) k = absurd (before_self (loop_at l j) (subst (λ (q : Loop). Before q (loop_at l j)) e (ascending_at l a i j h hj)))
-    go (no h) (yes k) = absurd (before_self (loop_at l j) (subst (λ (q : Loop). Before (loop_at l j) q) e (ascending_at l a j i k hi)))
-    go (no h) (no k) = omega arith
+ascending_once l a i j hi hj e =
+    let x : i < j → ⊥ = λ h. before_self (loop_at l j) (subst (λ (q : Loop). Before q (loop_at l j)) e (ascending_at l a i j h hj)) in
+    let y : j < i → ⊥ = λ h. before_self (loop_at l j) (subst (λ (q : Loop). Before (loop_at l j) q) e (ascending_at l a j i h hi)) in
+    omega (arith, x, y)
 
 module _ (d : Wire) where
   -- every listed loop is one, every loop is listed, and none twice

@@ -84,7 +84,7 @@ module _ (d : Wire) where
           (sym (flip-at f (suc i) (omega arith) (omega (arith, n))) ∙ p ∙ flip-at f (suc j) (omega arith) (omega (arith, n))) in
           omega (arith, n)
 
-  pub path_flip : (f : List ℕ) → ClosedPath d f → ClosedPath d (flipped f)
+  path_flip : (f : List ℕ) → ClosedPath d f → ClosedPath d (flipped f)
   path_flip f c =
       let n = flip_length f in
       record {
@@ -95,6 +95,10 @@ module _ (d : Wire) where
         along = λ a b h. edge_back d b a (c.along b a (goes_back f a b (let z = c.three in omega arith) h));
         plane = plane_from d f (flipped f) (flip_place f) c.plane;
       }
+
+  pub path_turned : (b : Bool) (f : List ℕ) → ClosedPath d f → ClosedPath d (cond b (flipped f) f)
+  path_turned true f c = path_flip f c
+  path_turned false f c = c
 
   -- ---- a closed path in normal form is a loop, and a loop is a closed path
 

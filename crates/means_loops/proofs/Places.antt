@@ -13,7 +13,7 @@ use Rattle.lists.specs.Around.{wrap, around}
 use Rattle.lists.proofs.Truth.{and_both, or_left, or_right}
 use Rattle.lists.proofs.Passing.{any_is}
 use Rattle.lists.proofs.Sides.{wrap_low, wrap_high, wrap_cases, wrap-below}
-use Rattle.paper.specs.Drawing.{Wire, Edge, edge, edge_at, at, joins, joined}
+use Rattle.paper.specs.Drawing.{Wire, Edge, edge, edge_at, joins, joined}
 use Rattle.paper.specs.Loops.{flipped}
 use Rattle.means_solid.specs.Solid.{Goes}
 use Rattle.means_loops.specs.Path.{EdgeOf}

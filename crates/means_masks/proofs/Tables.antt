@@ -13,7 +13,7 @@ use Rattle.lists.proofs.Truth.{and_left, and_right, and_both, never_true}
 use Rattle.lists.proofs.Places.{map_at, made_at}
 use Rattle.sets.specs.Word.{dig, count, both}
 use Rattle.sets.proofs.Digits.{never, dig-both, count_none, count-empty}
-use Rattle.sets.proofs.Ones.{dig_lt}
+use Rattle.sets.proofs.Ones.{dig-below}
 use Rattle.paper.specs.Drawing.{Wire, edge, edge_at}
 use Rattle.paper.specs.Loops.{Loop, loop_at, polygon}
 use Rattle.paper.specs.Clash.{clash}
@@ -135,9 +135,6 @@ module _ (d : Wire) (cs : List Loop) where
   -- ---- (v)
 
   module _ (even : Even d cs) (taken : List Bool) (some : length taken ≡ length cs) where
-    inside : (k : ℕ) → dig taken k ≡ true → k < length cs
-    inside k e = omega (arith, dig_lt taken k e)
-
     pub clash-dig : (j k : ℕ) → j < length cs → k < length cs
         → dig (get_or (tables_of d cs).clashes j []) k ≡ clashing (map (polygon d) cs) j k
     unfolding tables_of
@@ -170,10 +167,12 @@ module _ (d : Wire) (cs : List Loop) where
 
     pub clear_apart : Clear → Apart
     clear_apart f j k hj hk n =
-        sym (clashing_is j k (inside j hj) (inside k hk) n)
+        let lj = dig-below taken some j hj in
+        let lk = dig-below taken some k hk in
+        sym (clashing_is j k lj lk n)
         ∙ never_true (clashing (map (polygon d) cs) j k) (λ e.
         count_none (both (get_or (tables_of d cs).clashes j []) taken) (f j hj) k
-        (dig-both (get_or (tables_of d cs).clashes j []) taken k ∙ and_both (clash-dig j k (inside j hj) (inside k hk) ∙ e) hk))
+        (dig-both (get_or (tables_of d cs).clashes j []) taken k ∙ and_both (clash-dig j k lj lk ∙ e) hk))
 
     pub apart-clear : Apart → Clear
     apart-clear f j hj =
@@ -181,9 +180,11 @@ module _ (d : Wire) (cs : List Loop) where
         let b : (dig (get_or (tables_of d cs).clashes j []) k && dig taken k) ≡ true
         = sym (dig-both (get_or (tables_of d cs).clashes j []) taken k) ∙ q in
         let hk = and_right (dig (get_or (tables_of d cs).clashes j []) k) (dig taken k) b in
-        differ k hk (sym (clash-dig j k (inside j hj) (inside k hk)) ∙ and_left (dig (get_or (tables_of d cs).clashes j []) k) (dig taken k) b)
+        differ k hk
+        (sym (clash-dig j k (dig-below taken some j hj) (dig-below taken some k hk))
+        ∙ and_left (dig (get_or (tables_of d cs).clashes j []) k) (dig taken k) b)
         (ℕ_discrete j k))
       where
         differ : (k : ℕ) → dig taken k ≡ true → clashing (map (polygon d) cs) j k ≡ true → Dec (j ≡ k) → ⊥
         differ k hk e (yes z) = never (sym (subst (λ (x : ℕ). clashing (map (polygon d) cs) j x ≡ true) (sym z) e) ∙ clashing_self j)
-        differ k hk e (no z) = never (sym e ∙ clashing_is j k (inside j hj) (inside k hk) z ∙ f j k hj hk z)
+        differ k hk e (no z) = never (sym e ∙ clashing_is j k (dig-below taken some j hj) (dig-below taken some k hk) z ∙ f j k hj hk z)

@@ -12,7 +12,7 @@ use Rattle.lists.specs.Lists.{upto}
 use Rattle.lists.proofs.Places.{made_at, made_length}
 use Rattle.lists.proofs.Truth.{and_left}
 use Rattle.sets.specs.Word.{dig}
-use Rattle.sets.proofs.Ones.{dig_lt}
+use Rattle.sets.proofs.Ones.{dig_lt, dig-below}
 use Rattle.paper.specs.Drawing.{Wire, edge, same_place}
 use Rattle.paper.specs.Loops.{Loop, loop_at, flipped, polygon, candidates}
 use Rattle.paper.specs.Solids.{face_six, part}
@@ -100,7 +100,7 @@ module _ {new old : ℕ → ℕ} {d e : Wire} (r : BothWays new old d e) (one : 
     new_long = made_length (λ j. dig taken (back r one two j)) (length (candidates e))
 
     pub new_low : (j : ℕ) → dig new_taken j ≡ true → j < length (candidates e)
-    new_low j h = omega (arith, dig_lt new_taken j h, new_long)
+    new_low j h = dig-below new_taken new_long j h
 
     pub taken_at : (j : ℕ) → j < length (candidates e) → dig new_taken j ≡ dig taken (back r one two j)
     taken_at j h = made_at (λ j. dig taken (back r one two j)) (length (candidates e)) j false h

@@ -8,6 +8,7 @@ use native.Mathlib.Omega.{arith}
 use lib.ListN.{length, length-map}
 use Rattle.lists.proofs.Places.{map_at}
 use Rattle.sets.specs.Word.{dig}
+use Rattle.sets.proofs.Ones.{dig-below}
 use Rattle.paper.specs.Drawing.{Wire, same_place}
 use Rattle.paper.specs.Loops.{Loop, loop_at, loops, candidates}
 use Rattle.paper.specs.Verdict.{normal_form, number_in}
@@ -22,7 +23,6 @@ use Rattle.means_check.specs.Bodies.{Among, SameBody}
 use Rattle.means_check.specs.Sent.{face_list}
 use Rattle.means_check.proofs.Numbers.{number_at, number_in_lem}
 use Rattle.means_check.proofs.Bodies.{face_list_names}
-use Rattle.means_check.proofs.Picked.{inside}
 use Rattle.means_moves.specs.Renumbered.{BothWays}
 use Rattle.means_moves.specs.Kept.{Twin, KeptSolids}
 use Rattle.means_moves.proofs.Renamed.{same_map, renumbered_back}
@@ -94,7 +94,7 @@ module _ {new old : ℕ → ℕ} {d e : Wire} (r : BothWays new old d e) (one : 
 
   ring : (k : ℕ) → dig taken k ≡ true
       → SameRing (directed e (candidates e) nt nu (fwd r one two k)) (map new (directed d (candidates d) taken turned k))
-  ring k f = ring-over r one two taken turned k (inside (candidates d) taken s.some k f) f
+  ring k f = ring-over r one two taken turned k (dig-below taken s.some k f) f
 
   new_at : (i : ℕ) → i < length fs → loop_at (map (map new) fs) i ≡ map new (loop_at fs i)
   new_at i h = map_at (map new) fs i [] [] h
@@ -121,7 +121,7 @@ module _ {new old : ℕ → ℕ} {d e : Wire} (r : BothWays new old d e) (one : 
       let l : i < length fs = omega (arith, length-map fs (map new)) in
       let w = here.each i l in
       let q = there.there (fwd r one two w.0) (taken_to r one two taken turned w.0
-      (inside (candidates d) taken s.some w.0 w.1) ∙ w.1) in (
+      (dig-below taken s.some w.0 w.1) ∙ w.1) in (
         q.0,
         q.1,
         subst (SameRing (loop_at gs q.0)) (sym (new_at i l))

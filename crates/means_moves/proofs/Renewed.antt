@@ -9,6 +9,7 @@ use native.Mathlib.Omega.{arith}
 use native.Mathlib.Decide.{dec_lt}
 use lib.ListN.{length}
 use Rattle.sets.specs.Word.{dig}
+use Rattle.sets.proofs.Ones.{dig-below}
 use Rattle.paper.specs.Points.{dot}
 use Rattle.paper.specs.Drawing.{Wire, Edge, edge, edge_at, same_place}
 use Rattle.paper.specs.Loops.{Loop, loop_at, polygon, candidates}
@@ -17,7 +18,6 @@ use Rattle.means_solid.specs.Solid.{Runs, HasSide, InTwo, Way, stay, cross, RunO
 use Rattle.means_loops.specs.Path.{EdgeOf}
 use Rattle.means_loops.proofs.Places.{edge_back}
 use Rattle.means_loops.proofs.Listing.{candidates_are}
-use Rattle.means_check.proofs.Picked.{inside}
 use Rattle.means_moves.specs.Rings.{OneRing}
 use Rattle.means_moves.specs.Renumbered.{BothWays}
 use Rattle.means_moves.proofs.OneRing.{clash-ring}
@@ -82,9 +82,6 @@ module _ {new old : ℕ → ℕ} {d e : Wire} (r : BothWays new old d e) (one : 
   abbrev nu : List Bool
   nu = new_turned r one two taken turned
 
-  low : (k : ℕ) → dig taken k ≡ true → k < length (candidates d)
-  low k f = inside (candidates d) taken s.some k f
-
   high : (j : ℕ) → dig nt j ≡ true → j < length (candidates e)
   high j f = new_low r one two taken turned j f
 
@@ -92,19 +89,19 @@ module _ {new old : ℕ → ℕ} {d e : Wire} (r : BothWays new old d e) (one : 
   to_of j f = back_fwd (renumbered_back r) two one j (high j f)
 
   face-to : (k : ℕ) → dig taken k ≡ true → dig nt (to k) ≡ true
-  face-to k f = taken_to r one two taken turned k (low k f) ∙ f
+  face-to k f = taken_to r one two taken turned k (dig-below taken s.some k f) ∙ f
 
   face_of_lem : (j : ℕ) → dig nt j ≡ true → dig taken (of j) ≡ true
   face_of_lem j f = sym (taken_at r one two taken turned j (high j f)) ∙ f
 
   over-run : (k : ℕ) → dig taken k ≡ true → (a b : ℕ) → Runs d (candidates d) taken turned k a b → Runs e (candidates e) nt nu (to k)
       (new a) (new b)
-  over-run k f = runs-over r one two taken turned k (low k f) f
+  over-run k f = runs-over r one two taken turned k (dig-below taken s.some k f) f
 
   under-run : (j : ℕ) → dig nt j ≡ true → (x y : ℕ) → Runs e (candidates e) nt nu j x y → Runs d (candidates d) taken turned (of j)
       (old x) (old y)
   under-run j f x y g =
-      runs-under r one two taken turned (of j) (low (of j) (face_of_lem j f)) (face_of_lem j f) x y
+      runs-under r one two taken turned (of j) (dig-below taken s.some (of j) (face_of_lem j f)) (face_of_lem j f) x y
       (subst (λ (i : ℕ). Runs e (candidates e) nt nu i x y) (sym (to_of j f)) g)
 
   over-has : (k : ℕ) → dig taken k ≡ true → (a b : ℕ) → HasSide d (candidates d) taken turned k (edge a b)
@@ -165,8 +162,8 @@ module _ {new old : ℕ → ℕ} {d e : Wire} (r : BothWays new old d e) (one : 
 
           apart : to t.one ≡ to t.two → t.one ≡ t.two
           apart q =
-              sym (back_fwd r one two t.one (low t.one t.faces.0)) ∙ ap of q ∙ back_fwd r one two t.two
-              (low t.two t.faces.1)
+              sym (back_fwd r one two t.one (dig-below taken s.some t.one t.faces.0)) ∙ ap of q ∙ back_fwd r one two t.two
+              (dig-below taken s.some t.two t.faces.1)
 
           by : Dec (to t.one < to t.two) → InTwo e (candidates e) nt nu (edge x y)
           by (yes l) = record {
@@ -246,7 +243,7 @@ module _ {new old : ℕ → ℕ} {d e : Wire} (r : BothWays new old d e) (one : 
   -- (v)
   ring-at : (j : ℕ) → dig nt j ≡ true → OneRing (polygon d (loop_at (candidates d) (of j))) (polygon e (loop_at (candidates e) j))
   ring-at j f =
-      let h = low (of j) (face_of_lem j f) in
+      let h = dig-below taken s.some (of j) (face_of_lem j f) in
       subst (λ (q : Loop). OneRing (polygon d (loop_at (candidates d) (of j))) (polygon e q))
       (sym (fwd_at r one two (of j) h) ∙ ap (loop_at (candidates e)) (to_of j f))
       (one-over r one two (loop_at (candidates d) (of j)) (candidates_are d (of j) h).loop)

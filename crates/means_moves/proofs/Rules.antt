@@ -5,6 +5,7 @@ use mathlib.Core.Option.{none}
 use Prim.Native.Nat.{ℕ, ◌<◌}
 use native.Mathlib.Omega.{arith}
 use lib.ListN.{length}
+use Rattle.means_area.proofs.Loops.Places.{by_edge}
 use Rattle.means_area.proofs.Loops.Edges.{between_back, common_back, common_turned}
 use Rattle.paper.specs.Drawing.{Wire, Edge, edge, edge_at, at, same_place, loose_vertex, edge_meets, apart}
 use Rattle.paper.specs.declared.Point.{Point}
@@ -34,10 +35,6 @@ module _ (d : Wire) where
   joined-edge u w (i, h, inr p) =
       subst (λ (a : ℕ). EdgeOf d a w) (sym p.0) (subst (EdgeOf d (high_end d i)) (sym p.1) (i, h, inr (whole-edge (edge_at d i))))
 
-  edge-joined : (u w : ℕ) → EdgeOf d u w → Joined d u w
-  edge-joined u w (i, h, inl p) = (i, h, inl (sym (ap start p), sym (ap stop p)))
-  edge-joined u w (i, h, inr p) = (i, h, inr (sym (ap stop p), sym (ap start p)))
-
 module _ {new old : ℕ → ℕ} {d e : Wire} (r : BothWays new old d e) where
   at_old : (u : ℕ) → u < length d.vertices → at e u ≡ at d (old u)
   at_old u h = sym (ap (at e) (r.new_old u h)) ∙ r.place (old u) (r.old_below u h)
@@ -63,7 +60,7 @@ module _ {new old : ℕ → ℕ} {d e : Wire} (r : BothWays new old d e) where
     start_reached u (next {u = t} s j h) q =
         let g = edge-over r t u (joined-edge d t u j) in
         let l = edge_high r (new t) (new u) g in
-        start_reached t s (next q (edge-joined e (new u) (new t) (back g)) (omega (arith, l.0, r.as_many)))
+        start_reached t s (next q (by_edge e (new u) (new t) (back g)) (omega (arith, l.0, r.as_many)))
       where
         back : EdgeOf e (new t) (new u) → EdgeOf e (new u) (new t)
         back (i, h, inl p) = (i, h, inr p)
@@ -74,7 +71,7 @@ module _ {new old : ℕ → ℕ} {d e : Wire} (r : BothWays new old d e) where
     reached_over u q (next {u = t} s j h) =
         let g = edge-over r t u (joined-edge d t u j) in
         let l = edge_high r (new t) (new u) g in
-        next (reached_over t q s) (edge-joined e (new t) (new u) g) (omega (arith, l.1, r.as_many))
+        next (reached_over t q s) (by_edge e (new t) (new u) g) (omega (arith, l.1, r.as_many))
 
     reached_all : (u : ℕ) → Vertex e u → Reachable e u
     reached_all u h =

@@ -6,7 +6,6 @@ use mathlib.Core.Option.{none}
 use mathlib.Core.List.{List, [], ◌∷◌}
 use Prim.Native.Nat.{ℕ, zero, suc, ◌+◌, ◌-◌, ◌*◌, ◌/◌, ◌<◌}
 use native.Mathlib.Omega.{arith}
-use native.Mathlib.Decide.{dec_lt}
 use borrow.Author.Tests.{ltb-true, eqb-true, not-false}
 use lib.Dec.{eqb, ltb}
 use lib.IntN.{ℤ}
@@ -88,12 +87,10 @@ module _ (ends : List ℕ) (order : lowest (low_at ends) (length ends / 2) ≡ n
       go (inr p) x y = omega (arith, p.1)
 
   pub once : (i j : ℕ) → i < length ends / 2 → j < length ends / 2 → pair_at i ≡ pair_at j → i ≡ j
-  once i j hi hj e = go (dec_lt i j) (dec_lt j i)
-    where
-      go : Dec (i < j) → Dec (j < i) → i ≡ j
-      go (yes p) q = absurd (apart i j p hj e)
-      go (no p) (yes q) = absurd (apart j i q hi (sym e))
-      go (no p) (no q) = omega arith
+  once i j hi hj e =
+      let p : i < j → ⊥ = λ h. apart i j h hj e in
+      let q : j < i → ⊥ = λ h. apart j i h hi (sym e) in
+      omega (arith, p, q)
 
 -- two lists that pass 3 to 10; a sheet that does
 pub lent_sorted : (xyz : List ℤ) (ends : List ℕ) → Fine ≡ first_of (lent_checks xyz ends) → Sorted (wire xyz ends)

@@ -8,7 +8,7 @@ use lib.IntN.{ℤ, pos, negsuc, neg_ℤ, ◌+ℤ◌, ◌-ℤ◌, ◌*ℤ◌}
 use lib.ListN.{length, length-map, get_or}
 use Rattle.lists.proofs.Passing.{all_yes}
 use Rattle.sets.specs.Word.{dig}
-use Rattle.sets.proofs.Ones.{dig_lt}
+use Rattle.sets.proofs.Ones.{dig-below}
 use Rattle.exact.proofs.Ring.{var, con, ◌⊕◌, ◌⊖◌, ◌⊗◌, neg, ring}
 use Rattle.exact.proofs.Laws.{eq_of_sub}
 use Rattle.exact.proofs.Signs.{mul-zero}
@@ -66,9 +66,6 @@ module _ (d : Wire) (cs : List Loop) (taken turned : List Bool) (n : ℤ) (p : P
 
   module _ (paths : (j : ℕ) → j < length cs → ClosedPath d (loop_at cs j)) (own : (j : ℕ) → j < length cs → InOwnPlane (face j))
       (s : OnceEachWay d cs taken turned) (off : OffPlanes d cs taken turned n p) where
-    pub inside : (j : ℕ) → Face d cs taken turned j → j < length cs
-    inside j f = omega (arith, dig_lt taken j f, s.set)
-
     -- the corners of a face are at one height over the point
     abbrev pub high : ℕ → ℤ
     high j = dot (normal (face j)) (away n p (corner (face j)))
@@ -84,7 +81,7 @@ module _ (d : Wire) (cs : List Loop) (taken turned : List Bool) (n : ℤ) (p : P
     unfolding one_plane plane_side
     in_plane j f i h =
         zero_yes (plane_side (face j) (get_or (face j) i origin))
-        (all_yes (λ q. is_zero (plane_side (face j) q)) origin (face j) (own j (inside j f)) i h)
+        (all_yes (λ q. is_zero (plane_side (face j) q)) origin (face j) (own j (dig-below taken s.set j f)) i h)
 
     pub height : (j : ℕ) → Face d cs taken turned j → Height (normal (face j)) (high j) (seen j)
     height j f i h =
@@ -112,7 +109,7 @@ module _ (d : Wire) (cs : List Loop) (taken turned : List Bool) (n : ℤ) (p : P
         → (m : ℕ) × ((j : ℕ) → Face d cs taken turned j → Views (near a w m) a (seen j))
     near_by a w sa =
         let f = all_large (length cs) (λ j m. Face d cs taken turned j → Views (near a w m) a (seen j)) (λ j l. one j (dig taken j) refl) in
-        (f.0, λ j t. f.1 f.0 (omega arith) j (inside j t) t)
+        (f.0, λ j t. f.1 f.0 (omega arith) j (dig-below taken s.set j t) t)
       where
         one : (j : ℕ) (t : Bool) → dig taken j ≡ t → Large (λ m. Face d cs taken turned j → Views (near a w m) a (seen j))
         one j true t = let r = views_large a w (seen j) (counts.spread d cs taken turned n p a sa j t) in (r.0, λ m l f. r.1 m l)
@@ -142,7 +139,8 @@ module _ (d : Wire) (cs : List Loop) (taken turned : List Bool) (n : ℤ) (p : P
     no_faces_lem : (a : Point) → NoTwoInPlane d cs taken turned n p origin → round a ≡ round origin
     no_faces_lem a s0 =
         counts.rounds-same d cs taken turned n p a origin
-        (λ j f. absurd (s0 j 0 1 f (omega arith) (omega (arith, (paths j (inside j f)).three, polygon_length d (loop_at cs j)))
+        (λ j f. absurd (s0 j 0 1 f (omega arith)
+        (omega (arith, (paths j (dig-below taken s.set j f)).three, polygon_length d (loop_at cs j)))
         (vring (vec (away n p (get_or (face j) 0 origin)) ∷ vec (away n p (get_or (face j) 1 origin)) ∷ []) (dets o (v 0) (v 1)) (con-s
         (pos 0)) tt)))
 

@@ -8,6 +8,7 @@ use native.Mathlib.Omega.{arith}
 use lib.IntN.{ℤ, pos, neg_ℤ, ◌+ℤ◌, ◌-ℤ◌, ◌*ℤ◌}
 use lib.ListN.{length, length-map, get_or}
 use Rattle.sets.specs.Word.{dig}
+use Rattle.sets.proofs.Ones.{dig-below}
 use Rattle.exact.proofs.Ring.{var, ◌⊕◌, ◌⊖◌, ◌⊗◌, neg, ring}
 use Rattle.exact.proofs.Order.{whole_nonneg, mul-pos, mul_nonneg}
 use Rattle.paper.specs.Points.{origin, minus, dot, det, above, is_origin}
@@ -30,7 +31,7 @@ use Rattle.means_check.proofs.FaceSums.{in_way, faces_same, faces-dot}
 use Rattle.means_region.specs.Tetra.{alternate, holds}
 use Rattle.means_region.specs.Winding.{OnceEachWay, away, fan_holds, face_holds, rounds, OffPlanes, NoTwoInPlane, Ahead}
 use Rattle.means_region.proofs.Near.{near}
-use Rattle.means_region.proofs.Apex.{inside, near_by, near_apart, any}
+use Rattle.means_region.proofs.Apex.{near_by, near_apart, any}
 use Rattle.means_region.proofs.Counts as counts
 
 alternate-none : (x y z w : Bool) → (x ≡ true → y ≡ false → z ≡ true → w ≡ false → ⊥)
@@ -114,9 +115,6 @@ module _ (d : Wire) (cs : List Loop) (taken turned : List Bool) (n : ℤ) (p : P
     abbrev seen : ℕ → Polygon
     seen = counts.seen d cs taken turned n p
 
-    in_cs : (j : ℕ) → Face d cs taken turned j → j < length cs
-    in_cs j f = inside d cs taken turned n p paths own s off j f
-
     all_ahead : (j : ℕ) → Face d cs taken turned j → Before m (seen j)
     all_ahead j f i l =
         up_is (ap (dot m) (sym (counts.seen_at d cs taken turned n p j i l)))
@@ -150,7 +148,7 @@ module _ (d : Wire) (cs : List Loop) (taken turned : List Bool) (n : ℤ) (p : P
             rounds-none a (λ j f. absurd (zero_off
             (ap (λ (q : Point). dot q (away n p (get_or (polygon d (loop_at cs j)) 0 origin))) e
             ∙ vring (vec (away n p (get_or (polygon d (loop_at cs j)) 0 origin)) ∷ []) (o · v 0) (con-s (pos 0)) tt)
-            (ahead j 0 f (omega (arith, (paths j (in_cs j f)).three, polygon_length d (loop_at cs j))))))
+            (ahead j 0 f (omega (arith, (paths j (dig-below taken s.set j f)).three, polygon_length d (loop_at cs j))))))
 
         go : (t : Bool) → is_origin m ≡ t → Up (neg_ℤ (dot m a)) ⊎ Nn (neg_ℤ (neg_ℤ (dot m a))) → rounds d cs taken turned n p a ≡ pos 0
         go true e w = nothing (origin_yes m e)

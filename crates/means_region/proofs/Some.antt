@@ -8,6 +8,7 @@ use native.Mathlib.Omega.{arith}
 use lib.IntN.{ℤ, pos, neg_ℤ, nat_abs, ◌+ℤ◌, ◌*ℤ◌}
 use lib.ListN.{length, length-map, get_or}
 use Rattle.sets.specs.Word.{dig}
+use Rattle.sets.proofs.Ones.{dig-below}
 use Rattle.exact.proofs.Ring.{var, con, ◌⊕◌, ◌⊗◌, ring}
 use Rattle.exact.proofs.Signs.{mul-zero, pos-ne}
 use Rattle.paper.specs.Points.{pt, origin, plus, minus, times, dot, cross, det}
@@ -25,7 +26,7 @@ use Rattle.means_loops.specs.Path.{ClosedPath}
 use Rattle.means_region.specs.Winding.{OnceEachWay, away, OffPlanes, NoTwoInPlane}
 use Rattle.means_region.proofs.Move.{Real, zero_or}
 use Rattle.means_region.proofs.Near.{Large, all_large, alike}
-use Rattle.means_region.proofs.Apex.{inside, high, high_real, height}
+use Rattle.means_region.proofs.Apex.{high, high_real, height}
 use Rattle.means_region.proofs.Counts as counts
 
 -- ---- a direction that is at right angles to none of finitely many
@@ -99,7 +100,7 @@ module _ (d : Wire) (cs : List Loop) (taken turned : List Bool) (n : ℤ) (p : P
     -- two corners of a face are not in line with the point
     across : (j i l : ℕ) → Face d cs taken turned j → i < l → l < length (face j) → cross (z j i) (z j l) ≡ origin → ⊥
     across j i l f h m e =
-        let hj = inside d cs taken turned n p paths own s off j f in
+        let hj = dig-below taken s.set j f in
         let N = normal (face j) in
         let high' = high d cs taken turned n p paths own s off j in
         let same : z j i ≡ z j l = point_eq (z j i) (z j l)
@@ -125,13 +126,13 @@ module _ (d : Wire) (cs : List Loop) (taken turned : List Bool) (n : ℤ) (p : P
     some_apex_of =
         let a = family s.set (λ j i l m. Real (dot (steep m) (cross (z j i) (z j l))))
         (λ j i l f h m. steep_large (cross (z j i) (z j l)) (across j i l f h m)) in
-        along (steep a.0) (λ j i l f h m. a.1 a.0 (omega arith) j i l (inside d cs taken turned n p paths own s off j f) f h m)
+        along (steep a.0) (λ j i l f h m. a.1 a.0 (omega arith) j i l (dig-below taken s.set j f) f h m)
       where
         along : (w : Point) → ((j i l : ℕ) → Face d cs taken turned j → i < l → l < length (face j) → Real (dot w (cross (z j i) (z j l))))
             → (a : Point) × NoTwoInPlane d cs taken turned n p (away n p a)
         along w r =
             let b = family s.set (λ j i l m. Real (det (away n p (times (pos m) w)) (z j i) (z j l))) far in
-            (times (pos b.0) w, λ j i l f h m. b.1 b.0 (omega arith) j i l (inside d cs taken turned n p paths own s off j f) f h m)
+            (times (pos b.0) w, λ j i l f h m. b.1 b.0 (omega arith) j i l (dig-below taken s.set j f) f h m)
           where
             far : (j i l : ℕ) → Face d cs taken turned j → i < l → l < length (face j)
                 → Large (λ m. Real (det (away n p (times (pos m) w)) (z j i) (z j l)))

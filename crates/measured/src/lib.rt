@@ -1,5 +1,7 @@
 // The stages of a conversion one by one, and a conversion as a whole, for a program that counts what each costs (tools/measure). No entry
 // points: each asks what its stage asks, and promises what that promises.
+#![tactic(auto)]
+
 ghost use Rattle.std.specs.Prelude.{◌≡◌};
 ghost use Rattle.paper.specs.Refusals.{first_of};
 ghost use Rattle.paper.specs.Drawing.{wire, drawing_checks};

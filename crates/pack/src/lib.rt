@@ -1,4 +1,6 @@
 // Packed fields, most significant bit first. A field of up to 16 bits lies within three bytes, and is read and written there at once.
+#![tactic(auto)]
+
 ghost use Rattle.std.specs.Prelude.{◌≡◌, ◌+◌, ◌*◌, ◌-◌, ◌<◌, ◌/◌, ◌^◌, get_or, set};
 ghost use Rattle.pack.specs.Bits.{bits, run, field_at, overwrite};
 ghost use Rattle.pack.specs.Bytes.{window_at, patched};

@@ -12,9 +12,7 @@ use Rattle.paper.specs.Loops.{Loop, row, loops, uncovering, loop_checks}
 use Rattle.paper.specs.Solids.{Tables, tables_of, Judgement, Fails, Solid, judged}
 use Rattle.paper.specs.Walk.{Status, is_taken, Log, search}
 use Rattle.paper.specs.declared.Answer.{Answer}
-use Rattle.paper.specs.declared.Answer.TheVariants as Answer
 use Rattle.paper.specs.declared.Conversion.{Conversion}
-use Rattle.paper.specs.declared.Conversion.TheVariants as Conversion
 
 -- what conversion says and what it leaves in the two rooms
 pub record Converted : Type 0 where

@@ -8,7 +8,6 @@ use Rattle.paper.specs.Format.{edition_of, vertices_in, edges_in}
 use Rattle.paper.specs.Record.{taken_in, turned_in, six_in}
 use Rattle.paper.specs.Conversion.{convert_sheet}
 use Rattle.paper.specs.declared.Conversion.{Conversion}
-use Rattle.paper.specs.declared.Conversion.TheVariants as Conversion
 
 -- the bytes of a text; a number in as many decimal digits as it needs, of which a word has at most 20
 unfoldable pub text : String → List ℕ

@@ -12,9 +12,7 @@ use Rattle.paper.specs.Record.{taken_in, turned_in}
 use Rattle.paper.specs.Loops.{Loop, flipped, row}
 use Rattle.paper.specs.declared.Format.{Format}
 use Rattle.paper.specs.declared.Answer.{Answer}
-use Rattle.paper.specs.declared.Answer.TheVariants as Answer
 use Rattle.paper.specs.declared.Written.{Written}
-use Rattle.paper.specs.declared.Written.TheVariants as Written
 use Rattle.paper.specs.declared.Faces.{Faces}
 
 -- no faces by value, where the list is refused

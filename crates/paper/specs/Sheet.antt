@@ -11,11 +11,9 @@ use Rattle.paper.specs.Format.{edition_of, edition_bits, outside, total, bytes_f
 use Rattle.paper.specs.Format.{edges_in, coordinates_in, ends_in, encode}
 use Rattle.paper.specs.declared.Format.{Format}
 use Rattle.paper.specs.declared.Answer.{Answer}
-use Rattle.paper.specs.declared.Answer.TheVariants as Answer
 use Rattle.paper.specs.declared.Drawing.{Drawing}
 use Rattle.paper.specs.declared.Sheet.{Sheet}
 use Rattle.paper.specs.declared.Written.{Written}
-use Rattle.paper.specs.declared.Written.TheVariants as Written
 
 -- ---- 8, 9 and 10, of a drawing with v vertices as two lists: "3 per vertex, 2 per edge"
 

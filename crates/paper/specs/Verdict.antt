@@ -15,9 +15,7 @@ use Rattle.paper.specs.Solids.{Tables, tables_of, in_two, faces_from, once_each_
 use Rattle.paper.specs.FaceList.{faces_in, well_shaped}
 use Rattle.paper.specs.declared.Format.{Format}
 use Rattle.paper.specs.declared.Answer.{Answer}
-use Rattle.paper.specs.declared.Answer.TheVariants as Answer
 use Rattle.paper.specs.declared.Verdict.{Verdict}
-use Rattle.paper.specs.declared.Verdict.TheVariants as Verdict
 
 -- ---- the candidate that a face is, "in any direction or start": "start at the lowest vertex, then go to the lower of its two
 -- neighbours"

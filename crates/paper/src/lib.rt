@@ -1,4 +1,5 @@
 // Document 01's numbers and types: what every crate of the project hands to the next. The definitions are in specs/.
+#![tactic(auto)]
 
 // "Numbers": what a drawing may have and what is held at once.
 pub const LEAST_VERTICES: usize = 4;
@@ -141,14 +142,14 @@ pub const CLASH: u8 = 27;
 pub const AMBIGUOUS: u8 = 30;
 
 // A number of the table and its place.
-#[derive(Drop)]
+#[derive(Clone, Copy)]
 pub struct Refusal {
     pub number: u8,
     pub place: usize,
 }
 
 // What a list of checks says: all are passed, or the first refusal that applies.
-#[derive(Drop)]
+#[derive(Clone, Copy)]
 pub enum Answer {
     Fine,
     Refused(Refusal),
@@ -156,7 +157,7 @@ pub enum Answer {
 
 // An edition's layout of sheets and face lists: its number; the widths of the vertex count, the edge count, a vertex
 // number and the face count; and the largest counts.
-#[derive(Drop)]
+#[derive(Clone, Copy)]
 pub struct Format {
     pub edition: u64,
     pub vertex_count_bits: usize,
@@ -169,7 +170,7 @@ pub struct Format {
 }
 
 // A drawing by value: three coordinates for each vertex, two vertex numbers for each edge, and 0 in unused entries.
-#[derive(Drop)]
+#[derive(Clone, Copy)]
 pub struct Drawing {
     pub vertices: usize,
     pub edges: usize,
@@ -178,21 +179,21 @@ pub struct Drawing {
 }
 
 // What reading a sheet gives: the drawing is blank where the sheet is refused.
-#[derive(Drop)]
+#[derive(Clone, Copy)]
 pub struct Sheet {
     pub answer: Answer,
     pub drawing: Drawing,
 }
 
 // What writing gives: the length of what was written, or a refusal.
-#[derive(Drop)]
+#[derive(Clone, Copy)]
 pub enum Written {
     Bytes(usize),
     Refused(Refusal),
 }
 
 // What reading a face list gives: a row of 13 bytes for each face, and 0 in unused entries.
-#[derive(Drop)]
+#[derive(Clone, Copy)]
 pub struct Faces {
     pub answer: Answer,
     pub count: usize,
@@ -200,7 +201,7 @@ pub struct Faces {
 }
 
 // A point with whole coordinates, which also serves as a direction.
-#[derive(Drop)]
+#[derive(Clone, Copy)]
 pub struct Point {
     pub x: i64,
     pub y: i64,
@@ -208,13 +209,13 @@ pub struct Point {
 }
 
 // A point seen along an axis.
-#[derive(Drop)]
+#[derive(Clone, Copy)]
 pub struct Flat {
     pub u: i64,
     pub v: i64,
 }
 
-#[derive(Drop)]
+#[derive(Clone, Copy)]
 pub enum Axis {
     AlongX,
     AlongY,
@@ -222,7 +223,7 @@ pub enum Axis {
 }
 
 // Where a point of a polygon's plane lies.
-#[derive(Drop)]
+#[derive(Clone, Copy)]
 pub enum Where {
     Outside,
     Border,
@@ -231,7 +232,7 @@ pub enum Where {
 
 // The answer of a conversion: one solid, with its six volumes; two to eight; none; a ninth was met; the limit was met;
 // or one of 1 to 16. The counts of loops and candidates and the work come with all but the last.
-#[derive(Drop)]
+#[derive(Clone, Copy)]
 pub enum Conversion {
     One {
         loops: usize,
@@ -264,14 +265,14 @@ pub enum Conversion {
 }
 
 // The answer of the face-list check.
-#[derive(Drop)]
+#[derive(Clone, Copy)]
 pub enum Verdict {
     Accepted,
     Refused(Refusal),
 }
 
 // The reading of a conversion's answer: a volume in cubic metres, or the number that says why there is none.
-#[derive(Drop)]
+#[derive(Clone, Copy)]
 pub enum Reading {
     Volume(f64),
     NotAssessed(u8),

@@ -12,15 +12,10 @@ use Rattle.paper.specs.Refusals.{Check, check, first_of}
 use Rattle.paper.specs.Reading.{Said, Shown, first_said, answer_says, written_says, conversion_says, verdict_says, reading_says}
 use Rattle.paper.specs.declared.Refusal.{Refusal}
 use Rattle.paper.specs.declared.Answer.{Answer}
-use Rattle.paper.specs.declared.Answer.TheVariants as Answer
 use Rattle.paper.specs.declared.Written.{Written}
-use Rattle.paper.specs.declared.Written.TheVariants as Written
 use Rattle.paper.specs.declared.Conversion.{Conversion}
-use Rattle.paper.specs.declared.Conversion.TheVariants as Conversion
 use Rattle.paper.specs.declared.Verdict.{Verdict}
-use Rattle.paper.specs.declared.Verdict.TheVariants as Verdict
 use Rattle.paper.specs.declared.Reading.{Reading}
-use Rattle.paper.specs.declared.Reading.TheVariants as Reading
 
 -- ---- the first check, as it is said
 

@@ -1,4 +1,6 @@
 // Values of document 01's types that many crates make: a refusal, and the layout of an edition. Nothing is assumed.
+#![tactic(auto)]
+
 ghost use Rattle.std.specs.Prelude.{◌≡◌};
 ghost use Rattle.paper.specs.Format.{edition_one, edition_of, edition_for};
 ghost use Rattle.paper.specs.Refusals.{refuse};

@@ -18,5 +18,5 @@ as_said (Conversion.TooLong l c w) = refl
 as_said (Conversion.Refused r) = refl
 
 pub promised : (c : Conversion) (r : Reading) → r ≡ reading_of c
-    → (r ≡ reading_of c) × ((reading_says r ≡ shown_of (conversion_says c)) × ExactVolume c r)
-promised c r is = (is, (ap reading_says is ∙ as_said c, subst (ExactVolume c) (sym is) (exact-volume c)))
+    → (r ≡ reading_of c) × (reading_says r ≡ shown_of (conversion_says c)) × ExactVolume c r
+promised c r is = (is, ap reading_says is ∙ as_said c, subst (ExactVolume c) (sym is) (exact-volume c))

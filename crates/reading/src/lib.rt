@@ -1,4 +1,6 @@
 // What the insurer sees of a conversion: a volume in cubic metres, or the number that says why there is none. Nothing is assumed.
+#![tactic(auto)]
+
 ghost use Rattle.std.specs.Prelude.{◌≡◌};
 ghost use Rattle.paper.specs.Reading.{conversion_says, reading_of, reading_says, volume};
 ghost use Rattle.reading.specs.Exact.{ExactVolume};

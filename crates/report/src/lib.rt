@@ -1,5 +1,7 @@
 // What a conversion says of a finished walk, with the report in the two lent rooms. Assumes the rows of the candidates and the words
 // that the walk stored.
+#![tactic(auto)]
+
 mod room;
 
 ghost use Rattle.report.specs.Concluded.{Concluding, ReportedAs, Concluded};

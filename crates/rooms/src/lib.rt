@@ -1,4 +1,6 @@
 // Entries copied to the start of a lent room, where later room keeps its contents. Assumes that they are there and that there is room.
+#![tactic(auto)]
+
 ghost use Rattle.std.specs.Prelude.{◌≡◌};
 ghost use Rattle.rooms.specs.Rooms.{copied, Copies};
 

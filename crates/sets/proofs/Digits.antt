@@ -105,12 +105,17 @@ count_back (x ∷ a) (y ∷ b) s h (suc k) e = count_back a b (λ j. s (suc j)) 
 pub count_same : (a b : List Bool) → ((k : ℕ) → dig a k ≡ dig b k) → count a ≡ count b
 count_same a b h = omega (arith, count-le a b (λ k e. sym (h k) ∙ e), count-le b a (λ k e. h k ∙ e))
 
-left : (x y : Bool) → (x && y) ≡ true → x ≡ true
-left true y e = refl
-left false y e = e
+-- what is in both and what is in the first alone
+pub count_split : (a b : List Bool) → count (both a b) + count (less a b) ≡ count a
+unfolding count both less
+count_split [] b = refl
+count_split (x ∷ a) [] = omega arith
+count_split (true ∷ a) (true ∷ b) = omega (arith, count_split a b)
+count_split (true ∷ a) (false ∷ b) = omega (arith, count_split a b)
+count_split (false ∷ a) (y ∷ b) = omega (arith, count_split a b)
 
 pub count_less : (a b : List Bool) → count (less a b) ≤ count a
-count_less a b = count-le (less a b) a (λ k e. left (dig a k) (not (dig b k)) (sym (dig-less a b k) ∙ e))
+count_less a b = omega (arith, count_split a b)
 
 pub less_nil : (a : List Bool) → less a [] ≡ a
 unfolding less
@@ -154,10 +159,7 @@ pub count_with : (a b : List Bool) (j : ℕ) → count a ≡ 1 → dig a j ≡ t
 unfolding count both
 count_with [] b j e h = never (sym h)
 count_with (x ∷ a) [] j e h = refl
-count_with (true ∷ a) (y ∷ b) zero e h = omega (arith, both-none a b (omega arith))
-  where
-    both-none : (a b : List Bool) → count a ≡ 0 → count (both a b) ≡ 0
-    both-none a b z = count-empty (both a b) (λ k p. count_none a z k (left (dig a k) (dig b k) (sym (dig-both a b k) ∙ p)))
+count_with (true ∷ a) (y ∷ b) zero e h = omega (arith, count_split a b)
 count_with (true ∷ a) (y ∷ b) (suc j) e h = absurd (count_none a (omega arith) j h)
 count_with (false ∷ a) (y ∷ b) zero e h = never (sym h)
 count_with (false ∷ a) (y ∷ b) (suc j) e h = omega (arith, count_with a b j (omega arith) h)
@@ -195,15 +197,6 @@ left_out a j k h = go (dig a k) (dig (only j) k) refl (sym (dig-less a (only j) 
     go true false p e = (refl, λ q. never (sym (ap (dig (only j)) q ∙ dig_self j) ∙ p))
     go true true p e = never (sym e)
     go false y p e = never (sym e)
-
--- what is in both and what is in the first alone
-pub count_split : (a b : List Bool) → count (both a b) + count (less a b) ≡ count a
-unfolding count both less
-count_split [] b = refl
-count_split (x ∷ a) [] = omega arith
-count_split (true ∷ a) (true ∷ b) = omega (arith, count_split a b)
-count_split (true ∷ a) (false ∷ b) = omega (arith, count_split a b)
-count_split (false ∷ a) (y ∷ b) = omega (arith, count_split a b)
 
 -- a digit alone is one; no more are set than there are
 pub count-alone : (j : ℕ) → count (only j) ≡ 1

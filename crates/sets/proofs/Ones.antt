@@ -18,6 +18,10 @@ dig_lt [] j e = never (sym e)
 dig_lt (b ∷ a) zero e = omega arith
 dig_lt (b ∷ a) (suc j) e = omega (arith, dig_lt a j e)
 
+-- where there are n digits
+pub dig-below : (a : List Bool) {n : ℕ} → length a ≡ n → (j : ℕ) → dig a j ≡ true → j < n
+dig-below a long j e = omega (arith, dig_lt a j e)
+
 pub dig-none : (a : List Bool) → count a ≡ 0 → (j : ℕ) → dig a j ≡ false
 unfolding count
 dig-none [] z j = refl

@@ -1,10 +1,12 @@
 // Sets of numbers below 64: a bit of one word for each.
+#![tactic(auto)]
+
 ghost use Rattle.std.specs.Prelude.{◌≡◌, Bool, true, List, [], ◌≤◌, ◌<◌, eqb, length, replicate};
 ghost use Rattle.sets.specs.Word.{digits, dig, both, either, less, only};
 ghost use Rattle.sets.specs.Kinds.{Joint, Minus, Counted, Lowest, Dropped, Rest, SetAt};
 ghost use Rattle.sets.specs.Sets.{room, Is, size, one_word, with_set, MarkedAt};
 
-#[derive(Drop)]
+#[derive(Clone, Copy)]
 pub struct Set {
     pub word: u64,
 }

@@ -1,4 +1,6 @@
 // Refusal 5: counts outside an edition's limits. Nothing is assumed of them.
+#![tactic(auto)]
+
 ghost use Rattle.std.specs.Prelude.{◌≡◌};
 ghost use Rattle.paper.specs.Refusals.{first_of};
 ghost use Rattle.paper.specs.Format.{outside};

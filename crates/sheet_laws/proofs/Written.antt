@@ -13,9 +13,7 @@ use Rattle.paper.specs.Sheet.{lent_checks, writer_checks, written_for, room_for,
 use Rattle.paper.specs.declared.Format.{Format}
 use Rattle.paper.specs.declared.Refusal.{Refusal}
 use Rattle.paper.specs.declared.Answer.{Answer}
-use Rattle.paper.specs.declared.Answer.TheVariants as Answer
 use Rattle.paper.specs.declared.Written.{Written}
-use Rattle.paper.specs.declared.Written.TheVariants as Written
 
 module _ (f : Format) (xyz : List ℤ) (ends room : List ℕ) where
   -- the sheet's length

@@ -1,4 +1,6 @@
 // Sheets, read at the rim of the service: nothing is assumed of any input.
+#![tactic(auto)]
+
 ghost use Rattle.std.specs.Prelude.{◌≡◌};
 ghost use Rattle.paper.specs.Format.{edition_of};
 ghost use Rattle.paper.specs.Reading.{answer_says, sheet_said};

@@ -1,7 +1,7 @@
 -- How large the numbers of a narrow layout get.
 use mathlib.Core.List.{List}
 use Prim.Native.Nat.{ℕ, ◌≤◌, ◌*◌}
-use native.Mathlib.Nat.{mul-le-mul, le_trans}
+use native.Mathlib.Nat.{mul-le-mul}
 use native.Mathlib.Omega.{arith}
 use Rattle.paper.specs.Format.{edition_one, edition_of, edition_for, total}
 use Rattle.paper.specs.declared.Format.{Format}

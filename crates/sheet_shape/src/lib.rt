@@ -1,4 +1,6 @@
 // Refusals 3 to 7, the shape of a sheet, over any edition's layout. Nothing is assumed of the sheet.
+#![tactic(auto)]
+
 ghost use Rattle.std.specs.Prelude.{◌≡◌};
 ghost use Rattle.paper.specs.Refusals.{first_of};
 ghost use Rattle.paper.specs.Format.{total};

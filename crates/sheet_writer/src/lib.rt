@@ -1,4 +1,6 @@
 // Sheets, written at the rim of the service: nothing is assumed of any input.
+#![tactic(auto)]
+
 ghost use Rattle.std.specs.Prelude.{◌≡◌};
 ghost use Rattle.paper.specs.Format.{lent_edition};
 ghost use Rattle.paper.specs.Reading.{written_says, written_said};

@@ -1,4 +1,6 @@
 // What a solid's record in a lent list says: a word that isn't there is 0. Nothing is assumed of any list.
+#![tactic(auto)]
+
 ghost use Rattle.std.specs.Prelude.{◌≡◌, ◌≤◌, get_or};
 ghost use Rattle.sets.specs.Word.{dig};
 ghost use Rattle.paper.specs.Numbers.{set_words};

@@ -1,2 +1,3 @@
 -- What contracts of this crate cite.
+pub mod Lines
 pub mod Pair

@@ -1,36 +1,62 @@
 // What the trial programs share: items in a stored book, and lines of what is said of them. Assumes nothing.
-ghost use Rattle.std.specs.Prelude.{◌≡◌, ℕ, ◌+◌, ◌≤◌, ◌<◌, length};
-ghost use Rattle.std.proofs.Math.Option.{some};
-ghost use Rattle.lists.specs.Found.{found};
-ghost use Rattle.trial.specs.Pair.{PairStands};
+#![tactic(auto)]
 
-use libc::STDOUT_FILENO;
+ghost use Rattle.std.specs.Prelude.{◌≡◌, ℕ, ◌+◌, ◌≤◌, ◌<◌, length, take, IfOk, OnOk};
+ghost use Rattle.std.proofs.Math.Option.{some};
+ghost use Rattle.std.specs.Io.KnownBytes.{Appends, Consumes, IsAtEnd};
+ghost use Rattle.std.specs.Fmt.{decimal};
+ghost use Rattle.lists.specs.Found.{found};
+ghost use Rattle.trial.specs.Lines.{refused_line};
+ghost use Rattle.trial.specs.Pair.{ItemStands, PairStands};
+
 use lists::Found;
+use std::io::{self, Read, Write};
 
 // Room for a book.
 pub const BOOK: usize = 262144;
 
 // Where two items end.
-#[derive(Drop)]
+#[derive(Clone, Copy)]
 pub enum Pair {
     Nothing,
     Ends(usize, usize),
 }
 
-pub fn say(text: &[u8]) {
-    io::write_all(STDOUT_FILENO, text);
+// Reads until the room is full or the input ends, and answers how many bytes it put at the room's start.
+pub fn read_full<R: Read>(input: &mut R, room: &mut [u8]) -> io::Result<usize>
+    ensures within { IfOk result (λ n. n ≤ length room.new) }
+    ensures taken { IfOk result (λ n. Consumes (R.remaining input.old) (R.remaining input.new)
+        (take n room.new)) }
+    ensures end { IfOk result (λ n. n < length room.new → IsAtEnd (R.remaining input.new)) }
+{
+    let mut at: usize = 0;
+    while at < room.len() {
+        let more = input.read(&mut room[at..])?;
+        if more == 0 {
+            break;
+        }
+        at += more;
+    }
+    Ok(at)
 }
 
-pub fn say_number(n: u64) {
-    io::print_decimal(STDOUT_FILENO, n);
+pub fn say<W: Write>(out: &mut W, text: &[u8]) -> io::Result<()>
+    ensures { OnOk result (Appends (W.contents out.old) (W.contents out.new) text.now) }
+{
+    out.write_all(text)
 }
 
-pub fn say_refused(number: u8, place: usize) {
-    say(b"refused ");
-    say_number(number as u64);
-    say(b" ");
-    say_number(place as u64);
-    say(b"\n");
+pub fn say_number<W: Write>(out: &mut W, n: u64) -> io::Result<()>
+    ensures { OnOk result (Appends (W.contents out.old) (W.contents out.new) (decimal n)) }
+{
+    write!(out, "{n}")
+}
+
+pub fn say_refused<W: Write>(out: &mut W, number: u8, place: usize) -> io::Result<()>
+    ensures { OnOk result (Appends (W.contents out.old) (W.contents out.new)
+        (refused_line number place)) }
+{
+    writeln!(out, "refused {number} {place}")
 }
 
 pub fn wide(x: u8) -> u64
@@ -41,7 +67,8 @@ pub fn wide(x: u8) -> u64
 
 // Where the item ends that stands at byte `at` behind its length in two bytes, high byte first.
 pub fn end_of(book: &[u8], at: usize) -> Found
-    ensures { (k : ℕ) → some k ≡ found result → (at + 2 ≤ k) × (k ≤ length book.now) }
+    ensures value { (k : ℕ) → some k ≡ found result → (at + 2 ≤ k) × (k ≤ length book.now) }
+    ensures stands { ItemStands book.now at result }
 {
     if book.len() < at {
         return Found::Nothing;

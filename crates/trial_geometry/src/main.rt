@@ -1,6 +1,8 @@
 // Puts stored drawings to rules 11 to 14, to cover and to clash. Standard input has sheets, each behind its length in two bytes, high byte
 // first. Of each drawing it prints what refuses it; or a line with a digit for each loop, 1 where it covers another, and a line with a word
 // for each candidate, of those that it clashes with.
+#![tactic(auto)]
+
 ghost use Rattle.std.specs.Prelude.{◌≤◌};
 ghost use Rattle.paper.specs.Numbers.{most_candidates};
 ghost use Rattle.paper_laws.specs.InRange.{Held, PassedLists};
@@ -10,7 +12,6 @@ ghost use Rattle.loop_known.specs.Known.{DrawnBy};
 use drawing_links::neighbours;
 use drawing_lists::lend::lent;
 use drawing_rules::drawing_rules;
-use libc::STDIN_FILENO;
 use lists::Found;
 use loop_cover::covers_other;
 use loop_known::known_loops;
@@ -19,11 +20,16 @@ use paper::{
     Answer, Drawing, FACE_ROOM, FILL, LOOP_ROOM, MANY_LOOPS, MOST_CANDIDATES, MOST_EDGES,
     MOST_LOOPS, MOST_VERTICES,
 };
-use trial::{end_of, say, say_number, say_refused};
+use std::io::{self, Stdout};
+use trial::{end_of, read_full, say, say_number, say_refused};
 use walk_input::{Tabled, tables};
+
+// Room for the corpus.
+const BOOK: usize = 65536;
 
 // A digit for each of the n loops.
 fn say_covers(
+    out: &mut Stdout,
     xyz: &[i64],
     ends: &[u8],
     table: &[u8],
@@ -31,23 +37,29 @@ fn say_covers(
     corners: &[u64; MOST_LOOPS],
     sides: &[u64; MOST_LOOPS],
     planes: &[u64; MOST_LOOPS],
-)
+) -> io::Result<()>
     requires { Known xyz.now ends.now table.now n corners.now sides.now planes.now }
 {
-    say(b"covers ");
+    say(out, b"covers ")?;
     let mut k = 0;
     while k < n {
         if covers_other(xyz, ends, table, n, corners, sides, planes, k) {
-            say(b"1");
+            say(out, b"1")?;
         } else {
-            say(b"0");
+            say(out, b"0")?;
         }
         k += 1;
     }
-    say(b"\n");
+    say(out, b"\n")
 }
 
-fn show_covers(xyz: &[i64], ends: &[u8], near: &[u64; MOST_VERTICES], number: &[u8; PAIRS])
+fn show_covers(
+    out: &mut Stdout,
+    xyz: &[i64],
+    ends: &[u8],
+    near: &[u64; MOST_VERTICES],
+    number: &[u8; PAIRS],
+) -> io::Result<()>
     requires { DrawnBy xyz.now ends.now near.now number.now }
 {
     let mut table = [0u8; LOOP_ROOM];
@@ -64,27 +76,26 @@ fn show_covers(xyz: &[i64], ends: &[u8], near: &[u64; MOST_VERTICES], number: &[
         &mut sides,
     );
     if MOST_LOOPS < n {
-        say_refused(MANY_LOOPS, 0);
-        return;
+        return say_refused(out, MANY_LOOPS, 0);
     }
-    say_covers(xyz, ends, &table, n, &corners, &sides, &planes);
+    say_covers(out, xyz, ends, &table, n, &corners, &sides, &planes)
 }
 
 // The words of the n candidates.
-fn say_clashes(clashes: &[u64; MOST_CANDIDATES], n: usize)
+fn say_clashes(out: &mut Stdout, clashes: &[u64; MOST_CANDIDATES], n: usize) -> io::Result<()>
     requires { n ≤ most_candidates }
 {
-    say(b"clashes");
+    say(out, b"clashes")?;
     let mut k = 0;
     while k < n {
-        say(b" ");
-        say_number(clashes[k]);
+        say(out, b" ")?;
+        say_number(out, clashes[k])?;
         k += 1;
     }
-    say(b"\n");
+    say(out, b"\n")
 }
 
-fn show_clashes(xyz: &[i64], ends: &[u8])
+fn show_clashes(out: &mut Stdout, xyz: &[i64], ends: &[u8]) -> io::Result<()>
     requires { PassedLists xyz.now ends.now }
 {
     let mut rows = [FILL; FACE_ROOM];
@@ -104,66 +115,67 @@ fn show_clashes(xyz: &[i64], ends: &[u8])
         &mut sixes,
     );
     match tabled {
-        Tabled::Refused(r) => say_refused(r.number, r.place),
-        Tabled::Ready(c) => say_clashes(&clashes, c.candidates),
+        Tabled::Refused(r) => say_refused(out, r.number, r.place),
+        Tabled::Ready(c) => say_clashes(out, &clashes, c.candidates),
     }
 }
 
-fn show_rules(xyz: &[i64], ends: &[u8])
+fn show_rules(out: &mut Stdout, xyz: &[i64], ends: &[u8]) -> io::Result<()>
     requires { PassedLists xyz.now ends.now }
 {
     let near = neighbours(ends, xyz.len() / 3);
     let answer = drawing_rules(xyz, ends, &near);
     match answer {
-        Answer::Refused(r) => say_refused(r.number, r.place),
+        Answer::Refused(r) => say_refused(out, r.number, r.place),
         Answer::Fine => {
             let number = number_edges(ends);
-            show_covers(xyz, ends, &near, &number);
-            show_clashes(xyz, ends)
+            show_covers(out, xyz, ends, &near, &number)?;
+            show_clashes(out, xyz, ends)
         }
     }
 }
 
-fn show_lists(xyz: &[i64], ends: &[u8]) {
+fn show_lists(out: &mut Stdout, xyz: &[i64], ends: &[u8]) -> io::Result<()> {
     let answer = lent(xyz, ends);
     match answer {
-        Answer::Refused(r) => say_refused(r.number, r.place),
-        Answer::Fine => show_rules(xyz, ends),
+        Answer::Refused(r) => say_refused(out, r.number, r.place),
+        Answer::Fine => show_rules(out, xyz, ends),
     }
 }
 
-fn show_drawing(d: Drawing)
+fn show_drawing(out: &mut Stdout, d: Drawing) -> io::Result<()>
     requires { Held d }
 {
     let xyz = d.xyz;
     let ends = d.ends;
     let m = 3 * d.vertices;
     let n = 2 * d.edges;
-    show_lists(&xyz[..m], &ends[..n])
+    show_lists(out, &xyz[..m], &ends[..n])
 }
 
-fn show(s: &[u8]) {
+fn show(out: &mut Stdout, s: &[u8]) -> io::Result<()> {
     let read = sheet_reader::read_sheet(s);
     let answer = read.answer;
     match answer {
-        Answer::Refused(r) => say_refused(r.number, r.place),
-        Answer::Fine => show_drawing(read.drawing),
+        Answer::Refused(r) => say_refused(out, r.number, r.place),
+        Answer::Fine => show_drawing(out, read.drawing),
     }
 }
 
-fn show_all(book: &[u8]) {
+fn show_all(out: &mut Stdout, book: &[u8]) -> io::Result<()> {
     let mut at: usize = 0;
     while at < book.len() {
         let Found::Value(end) = end_of(book, at) else {
-            return
+            return Ok(());
         };
-        show(&book[at + 2..end]);
+        show(out, &book[at + 2..end])?;
         at = end;
     }
+    Ok(())
 }
 
-fn main() {
-    let mut book = io::large_buffer();
-    let n = io::read_full(STDIN_FILENO, &mut book);
-    show_all(&book[..n]);
+fn main(rt: HostRuntime) -> io::Result<()> {
+    let mut book = [0u8; BOOK];
+    let n = read_full(&mut rt.stdin(), &mut book)?;
+    show_all(&mut rt.stdout(), &book[..n])
 }

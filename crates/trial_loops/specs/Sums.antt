@@ -1,5 +1,5 @@
 -- Tables and words of which a checksum is made, and lists that have passed 3 to 10.
-use Rattle.std.specs.Prelude.{List, ◌≡◌, ℕ, ◌+◌, ◌*◌, ◌≤◌, ◌<◌, length}
+use Rattle.std.specs.Prelude.{List, ℕ, ◌+◌, ◌*◌, ◌≤◌, ◌<◌, length}
 use Rattle.paper.specs.Numbers.{most_loops, row_bytes}
 
 abbrev pub prime : ℕ

@@ -1,6 +1,8 @@
 // Runs stored drawings through the loop search and the candidates. Standard input has sheets, each behind its length in two bytes, high
 // byte first. Of each drawing it prints how many loops and candidates there are, each with a checksum of their rows and words, or what
 // refuses it.
+#![tactic(auto)]
+
 ghost use Rattle.std.specs.Prelude.{◌<◌};
 ghost use Rattle.paper_laws.specs.InRange.{Held, PassedLists};
 ghost use Rattle.loop_known.specs.Known.{DrawnBy};
@@ -11,7 +13,6 @@ use candidates::candidates;
 use drawing_links::neighbours;
 use drawing_lists::lend::lent;
 use drawing_rules::drawing_rules;
-use libc::STDIN_FILENO;
 use lists::Found;
 use loop_known::known_loops;
 use loop_words::{PAIRS, number_edges};
@@ -19,7 +20,11 @@ use paper::{
     Answer, Drawing, FACE_ROOM, FILL, LOOP_ROOM, MANY_CANDIDATES, MANY_LOOPS, MOST_CANDIDATES,
     MOST_LOOPS, MOST_VERTICES, ROW,
 };
-use trial::{end_of, say, say_number, say_refused, wide};
+use std::io::{self, Stdout};
+use trial::{end_of, read_full, say, say_number, say_refused, wide};
+
+// Room for the corpus.
+const BOOK: usize = 65536;
 
 const PRIME: u64 = 4294967291;
 
@@ -74,14 +79,15 @@ fn loops_sum(table: &[u8], n: usize, corners: &[u64], sides: &[u64], planes: &[u
     s
 }
 
-fn say_count(what: &[u8], n: usize, sum: u64) {
-    say(what);
-    say_number(n as u64);
-    say(b" ");
-    say_number(sum);
+fn say_count(out: &mut Stdout, what: &[u8], n: usize, sum: u64) -> io::Result<()> {
+    say(out, what)?;
+    say_number(out, n as u64)?;
+    say(out, b" ")?;
+    say_number(out, sum)
 }
 
 fn show_candidates(
+    out: &mut Stdout,
     xyz: &[i64],
     ends: &[u8],
     table: &[u8],
@@ -89,7 +95,7 @@ fn show_candidates(
     corners: &[u64; MOST_LOOPS],
     sides: &[u64; MOST_LOOPS],
     planes: &[u64; MOST_LOOPS],
-)
+) -> io::Result<()>
     requires { Known xyz.now ends.now table.now n corners.now sides.now planes.now }
 {
     let mut rows = [FILL; FACE_ROOM];
@@ -108,18 +114,20 @@ fn show_candidates(
         &mut kept_sides,
     );
     if MOST_CANDIDATES < c {
-        say_refused(MANY_CANDIDATES, 0);
-        return;
+        return say_refused(out, MANY_CANDIDATES, 0);
     }
-    say_count(
-        b"candidates ",
-        c,
-        candidates_sum(&rows, c, &kept_corners, &kept_sides),
-    );
-    say(b"\n");
+    let sum = candidates_sum(&rows, c, &kept_corners, &kept_sides);
+    say_count(out, b"candidates ", c, sum)?;
+    say(out, b"\n")
 }
 
-fn show_loops(xyz: &[i64], ends: &[u8], near: &[u64; MOST_VERTICES], number: &[u8; PAIRS])
+fn show_loops(
+    out: &mut Stdout,
+    xyz: &[i64],
+    ends: &[u8],
+    near: &[u64; MOST_VERTICES],
+    number: &[u8; PAIRS],
+) -> io::Result<()>
     requires { DrawnBy xyz.now ends.now near.now number.now }
 {
     let mut table = [0u8; LOOP_ROOM];
@@ -136,72 +144,69 @@ fn show_loops(xyz: &[i64], ends: &[u8], near: &[u64; MOST_VERTICES], number: &[u
         &mut sides,
     );
     if MOST_LOOPS < n {
-        say_refused(MANY_LOOPS, 0);
-        return;
+        return say_refused(out, MANY_LOOPS, 0);
     }
-    say_count(
-        b"loops ",
-        n,
-        loops_sum(&table, n, &corners, &sides, &planes),
-    );
-    say(b" ");
-    show_candidates(xyz, ends, &table, n, &corners, &sides, &planes);
+    let sum = loops_sum(&table, n, &corners, &sides, &planes);
+    say_count(out, b"loops ", n, sum)?;
+    say(out, b" ")?;
+    show_candidates(out, xyz, ends, &table, n, &corners, &sides, &planes)
 }
 
-fn show_rules(xyz: &[i64], ends: &[u8])
+fn show_rules(out: &mut Stdout, xyz: &[i64], ends: &[u8]) -> io::Result<()>
     requires { PassedLists xyz.now ends.now }
 {
     let near = neighbours(ends, xyz.len() / 3);
     let answer = drawing_rules(xyz, ends, &near);
     match answer {
-        Answer::Refused(r) => say_refused(r.number, r.place),
+        Answer::Refused(r) => say_refused(out, r.number, r.place),
         Answer::Fine => {
             let number = number_edges(ends);
-            show_loops(xyz, ends, &near, &number)
+            show_loops(out, xyz, ends, &near, &number)
         }
     }
 }
 
-fn show_lists(xyz: &[i64], ends: &[u8]) {
+fn show_lists(out: &mut Stdout, xyz: &[i64], ends: &[u8]) -> io::Result<()> {
     let answer = lent(xyz, ends);
     match answer {
-        Answer::Refused(r) => say_refused(r.number, r.place),
-        Answer::Fine => show_rules(xyz, ends),
+        Answer::Refused(r) => say_refused(out, r.number, r.place),
+        Answer::Fine => show_rules(out, xyz, ends),
     }
 }
 
-fn show_drawing(d: Drawing)
+fn show_drawing(out: &mut Stdout, d: Drawing) -> io::Result<()>
     requires { Held d }
 {
     let xyz = d.xyz;
     let ends = d.ends;
     let m = 3 * d.vertices;
     let n = 2 * d.edges;
-    show_lists(&xyz[..m], &ends[..n])
+    show_lists(out, &xyz[..m], &ends[..n])
 }
 
-fn show(s: &[u8]) {
+fn show(out: &mut Stdout, s: &[u8]) -> io::Result<()> {
     let read = sheet_reader::read_sheet(s);
     let answer = read.answer;
     match answer {
-        Answer::Refused(r) => say_refused(r.number, r.place),
-        Answer::Fine => show_drawing(read.drawing),
+        Answer::Refused(r) => say_refused(out, r.number, r.place),
+        Answer::Fine => show_drawing(out, read.drawing),
     }
 }
 
-fn show_all(book: &[u8]) {
+fn show_all(out: &mut Stdout, book: &[u8]) -> io::Result<()> {
     let mut at: usize = 0;
     while at < book.len() {
         let Found::Value(end) = end_of(book, at) else {
-            return
+            return Ok(());
         };
-        show(&book[at + 2..end]);
+        show(out, &book[at + 2..end])?;
         at = end;
     }
+    Ok(())
 }
 
-fn main() {
-    let mut book = io::large_buffer();
-    let n = io::read_full(STDIN_FILENO, &mut book);
-    show_all(&book[..n]);
+fn main(rt: HostRuntime) -> io::Result<()> {
+    let mut book = [0u8; BOOK];
+    let n = read_full(&mut rt.stdin(), &mut book)?;
+    show_all(&mut rt.stdout(), &book[..n])
 }

@@ -1,72 +1,80 @@
 // Runs a stored corpus of sheets through the reader and the writer. Standard input has the sheets, each behind its length in two bytes,
 // high byte first. Of each it prints what the reader says and, of a drawing, what the writer makes of it again, byte by byte.
-use libc::{STDIN_FILENO, STDOUT_FILENO};
+#![tactic(auto)]
+
 use lists::Found;
 use paper::{Answer, Written};
-use trial::{end_of, say, say_number, say_refused, wide};
+use std::io::{self, Stdout, Write};
+use trial::{end_of, read_full, say, say_number, say_refused};
+
+// Room for the corpus.
+const BOOK: usize = 65536;
 
 // The first n bytes, in two hexadecimal digits each.
-fn say_bytes(bytes: &[u8], n: usize) {
-    let mut i: usize = 0;
-    while i < bytes.len() {
-        if i < n {
-            io::print_hex(STDOUT_FILENO, wide(bytes[i]), 2);
-        }
-        i += 1;
+fn say_bytes(out: &mut Stdout, bytes: &[u8], n: usize) -> io::Result<()> {
+    for byte in bytes.iter().take(n) {
+        write!(out, "{byte:02x}")?;
     }
-    say(b"\n");
+    say(out, b"\n")
 }
 
 // The drawing, written again.
-fn show_drawing(v: usize, e: usize, xyz: [i64; paper::COORDINATES], ends: [u8; paper::ENDS]) {
+fn show_drawing(
+    out: &mut Stdout,
+    v: usize,
+    e: usize,
+    xyz: [i64; paper::COORDINATES],
+    ends: [u8; paper::ENDS],
+) -> io::Result<()> {
     if paper::MOST_VERTICES < v {
-        return;
+        return Ok(());
     }
     if paper::MOST_EDGES < e {
-        return;
+        return Ok(());
     }
     let m = 3 * v;
     let n = 2 * e;
     let mut room = [0u8; paper::SHEET_ROOM];
     let written = sheet_writer::write_sheet(&xyz[..m], &ends[..n], &mut room);
-    say(b"drawing ");
-    say_number(v as u64);
-    say(b" ");
-    say_number(e as u64);
-    say(b"\n");
+    say(out, b"drawing ")?;
+    say_number(out, v as u64)?;
+    say(out, b" ")?;
+    say_number(out, e as u64)?;
+    say(out, b"\n")?;
     match written {
-        Written::Refused(r) => say_refused(r.number, r.place),
-        Written::Bytes(k) => say_bytes(&room, k),
+        Written::Refused(r) => say_refused(out, r.number, r.place),
+        Written::Bytes(k) => say_bytes(out, &room, k),
     }
 }
 
-fn show(s: &[u8]) {
+fn show(out: &mut Stdout, s: &[u8]) -> io::Result<()> {
     let read = sheet_reader::read_sheet(s);
     let answer = read.answer;
     match answer {
-        Answer::Refused(r) => say_refused(r.number, r.place),
+        Answer::Refused(r) => say_refused(out, r.number, r.place),
         Answer::Fine => {
             let d = read.drawing;
             let xyz = d.xyz;
             let ends = d.ends;
-            show_drawing(d.vertices, d.edges, xyz, ends)
+            show_drawing(out, d.vertices, d.edges, xyz, ends)
         }
     }
 }
 
-fn show_all(book: &[u8]) {
+fn show_all(out: &mut Stdout, book: &[u8]) -> io::Result<()> {
     let mut at: usize = 0;
     while at < book.len() {
         let Found::Value(end) = end_of(book, at) else {
-            return;
+            return Ok(());
         };
-        show(&book[at + 2..end]);
+        show(out, &book[at + 2..end])?;
         at = end;
     }
+    Ok(())
 }
 
-fn main() {
-    let mut book = io::large_buffer();
-    let n = io::read_full(STDIN_FILENO, &mut book);
-    show_all(&book[..n]);
+fn main(rt: HostRuntime) -> io::Result<()> {
+    let mut book = [0u8; BOOK];
+    let n = read_full(&mut rt.stdin(), &mut book)?;
+    show_all(&mut rt.stdout(), &book[..n])
 }

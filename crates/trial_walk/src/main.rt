@@ -1,19 +1,21 @@
 // Runs stored drawings through the walk. Standard input has sheets, each behind a work limit in three bytes and its length in two, high
 // byte first. Of each drawing it prints how many loops, candidates and assumptions there are, and the three words of each solid or why
 // there is none; or what refuses it.
+#![tactic(auto)]
+
 ghost use Rattle.std.specs.Prelude.{◌≤◌, ◌+◌, length};
 ghost use Rattle.paper_laws.specs.InRange.{Held, PassedLists};
 ghost use Rattle.walk.specs.Tally.{Roomy};
 ghost use Rattle.trial_walk.specs.Asked.{WalkingTables};
 
 use drawing_lists::lend::lent;
-use libc::STDIN_FILENO;
 use lists::Found;
 use paper::{
     Answer, Drawing, FACE_ROOM, FILL, MANY, MOST_CANDIDATES, MOST_EDGES, SOLID_ROOM, TOO_LONG,
     WORDS,
 };
-use trial::{end_of, say, say_number, say_refused, wide};
+use std::io::{self, Stdout};
+use trial::{end_of, read_full, say, say_number, say_refused, wide};
 use walk::search;
 use walk::tally::Tally;
 use walk_input::rows::Counts;
@@ -21,47 +23,51 @@ use walk_input::{Tabled, tables};
 
 const BOOK: usize = 131072;
 
-fn say_count(what: &[u8], n: u64) {
-    say(what);
-    say_number(n);
+fn say_count(out: &mut Stdout, what: &[u8], n: u64) -> io::Result<()> {
+    say(out, what)?;
+    say_number(out, n)
 }
 
-fn say_solid(taken: u64, turned: u64, six: u64) {
-    say_count(b" solid ", taken);
-    say_count(b" ", turned);
-    say_count(b" ", six);
+fn say_solid(out: &mut Stdout, taken: u64, turned: u64, six: u64) -> io::Result<()> {
+    say_count(out, b" solid ", taken)?;
+    say_count(out, b" ", turned)?;
+    say_count(out, b" ", six)
 }
 
-fn say_solids(t: Tally, out: &[u64; SOLID_ROOM])
-    requires { Roomy t out.now }
+fn say_solids(out: &mut Stdout, t: Tally, words: &[u64; SOLID_ROOM]) -> io::Result<()>
+    requires { Roomy t words.now }
 {
     let n = t.found;
     let mut k = 0;
     while k < n {
-        say_solid(out[WORDS * k], out[WORDS * k + 1], out[WORDS * k + 2]);
+        say_solid(
+            out,
+            words[WORDS * k],
+            words[WORDS * k + 1],
+            words[WORDS * k + 2],
+        )?;
         k += 1;
     }
+    Ok(())
 }
 
-fn say_end(t: Tally, out: &[u64; SOLID_ROOM])
-    requires { Roomy t out.now }
+fn say_end(out: &mut Stdout, t: Tally, words: &[u64; SOLID_ROOM]) -> io::Result<()>
+    requires { Roomy t words.now }
 {
     if t.ended == MANY {
-        say(b" many");
-        return;
+        return say(out, b" many");
     }
     if t.ended == TOO_LONG {
-        say(b" too long");
-        return;
+        return say(out, b" too long");
     }
     if t.found == 0 {
-        say(b" no solid");
-        return;
+        return say(out, b" no solid");
     }
-    say_solids(t, out);
+    say_solids(out, t, words)
 }
 
 fn show_walk(
+    out: &mut Stdout,
     on: &[u64; MOST_EDGES],
     up: &[u64; MOST_EDGES],
     m: usize,
@@ -70,20 +76,20 @@ fn show_walk(
     sixes: &[i64; MOST_CANDIDATES],
     c: Counts,
     limit: u64,
-)
+) -> io::Result<()>
     requires { WalkingTables m sixes.now c }
 {
-    let mut out = [0u64; SOLID_ROOM];
+    let mut words = [0u64; SOLID_ROOM];
     let n = c.candidates;
-    let t = search(on, up, m, sides, clashes, sixes, n, limit, &mut out);
-    say_count(b"loops ", c.loops as u64);
-    say_count(b" candidates ", n as u64);
-    say_count(b" work ", t.work);
-    say_end(t, &out);
-    say(b"\n");
+    let t = search(on, up, m, sides, clashes, sixes, n, limit, &mut words);
+    say_count(out, b"loops ", c.loops as u64)?;
+    say_count(out, b" candidates ", n as u64)?;
+    say_count(out, b" work ", t.work)?;
+    say_end(out, t, &words)?;
+    say(out, b"\n")
 }
 
-fn show_tables(xyz: &[i64], ends: &[u8], limit: u64)
+fn show_tables(out: &mut Stdout, xyz: &[i64], ends: &[u8], limit: u64) -> io::Result<()>
     requires { PassedLists xyz.now ends.now }
 {
     let mut rows = [FILL; FACE_ROOM];
@@ -103,35 +109,38 @@ fn show_tables(xyz: &[i64], ends: &[u8], limit: u64)
         &mut sixes,
     );
     match tabled {
-        Tabled::Refused(r) => say_refused(r.number, r.place),
-        Tabled::Ready(c) => show_walk(&on, &up, ends.len() / 2, &sides, &clashes, &sixes, c, limit),
+        Tabled::Refused(r) => say_refused(out, r.number, r.place),
+        Tabled::Ready(c) => {
+            let m = ends.len() / 2;
+            show_walk(out, &on, &up, m, &sides, &clashes, &sixes, c, limit)
+        }
     }
 }
 
-fn show_lists(xyz: &[i64], ends: &[u8], limit: u64) {
+fn show_lists(out: &mut Stdout, xyz: &[i64], ends: &[u8], limit: u64) -> io::Result<()> {
     let answer = lent(xyz, ends);
     match answer {
-        Answer::Refused(r) => say_refused(r.number, r.place),
-        Answer::Fine => show_tables(xyz, ends, limit),
+        Answer::Refused(r) => say_refused(out, r.number, r.place),
+        Answer::Fine => show_tables(out, xyz, ends, limit),
     }
 }
 
-fn show_drawing(d: Drawing, limit: u64)
+fn show_drawing(out: &mut Stdout, d: Drawing, limit: u64) -> io::Result<()>
     requires { Held d }
 {
     let xyz = d.xyz;
     let ends = d.ends;
     let m = 3 * d.vertices;
     let n = 2 * d.edges;
-    show_lists(&xyz[..m], &ends[..n], limit)
+    show_lists(out, &xyz[..m], &ends[..n], limit)
 }
 
-fn show(s: &[u8], limit: u64) {
+fn show(out: &mut Stdout, s: &[u8], limit: u64) -> io::Result<()> {
     let read = sheet_reader::read_sheet(s);
     let answer = read.answer;
     match answer {
-        Answer::Refused(r) => say_refused(r.number, r.place),
-        Answer::Fine => show_drawing(read.drawing, limit),
+        Answer::Refused(r) => say_refused(out, r.number, r.place),
+        Answer::Fine => show_drawing(out, read.drawing, limit),
     }
 }
 
@@ -142,22 +151,23 @@ fn limit_at(book: &[u8], at: usize) -> u64
     (wide(book[at]) * 256 + wide(book[at + 1])) * 256 + wide(book[at + 2])
 }
 
-fn show_all(book: &[u8]) {
+fn show_all(out: &mut Stdout, book: &[u8]) -> io::Result<()> {
     let mut at: usize = 0;
     while at < book.len() {
         if book.len() - at < 3 {
-            return;
+            return Ok(());
         }
         let Found::Value(end) = end_of(book, at + 3) else {
-            return
+            return Ok(());
         };
-        show(&book[at + 5..end], limit_at(book, at));
+        show(out, &book[at + 5..end], limit_at(book, at))?;
         at = end;
     }
+    Ok(())
 }
 
-fn main() {
+fn main(rt: HostRuntime) -> io::Result<()> {
     let mut book = [0u8; BOOK];
-    let n = io::read_full(STDIN_FILENO, &mut book);
-    show_all(&book[..n]);
+    let n = read_full(&mut rt.stdin(), &mut book)?;
+    show_all(&mut rt.stdout(), &book[..n])
 }

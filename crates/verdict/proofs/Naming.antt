@@ -35,23 +35,21 @@ module _ (cs : List Loop) (fs : List (List ℕ)) where
     abbrev ks : List ℕ
     ks = (listed cs fs).numbers
 
-    below : (i : ℕ) → i < length fs → get_or ks i 0 < length cs
-    below = named_below cs fs h.fine
-
     -- each face's number is that of a candidate
     pub numbers_narrow : length cs ≤ most_candidates → (i : ℕ) → i < count → get_or numbers i 0 < most_candidates
     numbers_narrow few i m =
         let same : get_or numbers i 0 ≡ get_or ks i 0 =
         sym (get_or-take count numbers i 0 m) ∙ ap (λ (l : List ℕ). get_or l i 0) h.numbers_are in
-        omega (arith, same, below i (omega (arith, all)))
+        omega (arith, same, named_below cs fs h.fine i (omega (arith, all)))
 
     -- and is taken
     listed_in : {n : ℕ} → length cs ≡ n → ListedIn n (listed cs fs)
     listed_in count_is = record {
       as_many = taken_long cs fs ∙ count_is;
       each = λ i m.
+          let below = named_below cs fs h.fine i (omega (arith, listed_long cs fs)) in
           subst (λ (a : List Bool). dig a (get_or ks i 0) ≡ true) (sym (taken_mask cs fs))
-          (row_is (length cs) ks (get_or ks i 0) (below i (omega (arith, listed_long cs fs))) (member_is (get_or ks i 0) ks i m refl));
+          (row_is (length cs) ks (get_or ks i 0) below (member_is (get_or ks i 0) ks i m refl));
     }
 
     pub tests-decide : {tables : WalkTables} {m n : ℕ} {a : Answer} (t : Tables)

@@ -1,5 +1,7 @@
 // The face-list check: whether a list of faces that someone else sent names a solid of a drawing, with its directions. Nothing is
 // assumed of any input.
+#![tactic(auto)]
+
 mod faces;
 
 ghost use Rattle.std.specs.Prelude.{◌≡◌};

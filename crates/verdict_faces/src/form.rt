@@ -8,7 +8,7 @@ use paper::ROW;
 use polygon::rings::count;
 
 // Where the normal form of a face starts, and whether the face is run as it is.
-#[derive(Drop)]
+#[derive(Clone, Copy)]
 pub struct Way {
     pub lowest: usize,
     pub onward: bool,

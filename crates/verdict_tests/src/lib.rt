@@ -1,5 +1,7 @@
 // Refusals 23 to 27 of a face list whose faces are candidates, each once: the tests (i) to (v) of the selection that it is, with the
 // directions that it gives. Assumes at most 64 edges and candidates and 42 faces, and words that stand for the drawing's tables.
+#![tactic(auto)]
+
 mod edges;
 mod faces;
 

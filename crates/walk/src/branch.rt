@@ -7,14 +7,14 @@ use walk_state::{State, first_open};
 
 // Where a branch starts: its state, the edges on which a candidate was decided since they were last passed, and the edge of the
 // last choice, below which none is undecided.
-#[derive(Drop)]
+#[derive(Clone, Copy)]
 pub struct Branch {
     pub state: State,
     pub changed: Wide,
     pub edge: usize,
 }
 
-#[derive(Drop)]
+#[derive(Clone, Copy)]
 pub struct Both {
     pub take: Branch,
     pub reject: Branch,

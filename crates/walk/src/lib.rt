@@ -1,5 +1,7 @@
 // The walk: of a state swept until nothing changes the test, or one assumption, the take branch first and then the reject branch, each from
 // the state before it. Assumes the tables of at most 64 candidates and 64 edges.
+#![tactic(auto)]
+
 mod branch;
 mod leaf;
 pub mod tally;

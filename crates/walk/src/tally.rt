@@ -4,7 +4,7 @@ ghost use Rattle.walk.specs.Tally.{Assumed};
 
 use paper::TOO_LONG;
 
-#[derive(Drop)]
+#[derive(Clone, Copy)]
 pub struct Tally {
     pub work: u64,
     pub found: usize,

@@ -18,7 +18,7 @@ use polygon::rings::{corner, plane_side, point_at};
 use sets::{Set, Wide};
 
 // Vertices by the side of a plane that they are on.
-#[derive(Drop)]
+#[derive(Clone, Copy)]
 pub struct Sides {
     pub above: Set,
     pub below: Set,

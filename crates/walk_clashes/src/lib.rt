@@ -1,5 +1,7 @@
 // The candidates' normals and parts of six volumes, and of each candidate the word of those that it clashes with. Assumes a table of the
 // candidates of a drawing that passed 3 to 14, and what is known of them.
+#![tactic(auto)]
+
 mod folds;
 mod hits;
 pub mod marks;

@@ -1,5 +1,7 @@
 // Of each edge the words of candidates: of those that have it, and of those that run it upwards. Assumes a table of candidates of a
 // drawing whose edges are numbered.
+#![tactic(auto)]
+
 ghost use Rattle.walk_edges.specs.Marks.{RowRoom, RowOf, Marks, EdgeMarkRoom, DrawnCandidates, EdgeWords};
 
 use lists::wide;

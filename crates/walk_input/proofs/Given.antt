@@ -18,7 +18,7 @@ use Rattle.sheet_laws.proofs.Accepted.{coordinates_are, ends_are}
 use Rattle.sheet_reader.proofs.Range.{read_range}
 use Rattle.means_sheets.proofs.Sheets.Read.{accepted-lent}
 use Rattle.drawing_lists.proofs.Range.{lent_range}
-use Rattle.walk_tables.specs.Words.{most_part, SmallSixes, WalkTables, walk_tables}
+use Rattle.walk_tables.specs.Words.{most_part, SmallSixes, walk_tables}
 use Rattle.walk_input.specs.Given.{coordinates_of, links_of, GivenDrawing}
 use Rattle.walk_input.specs.Tables.{TablesAt}
 use Rattle.walk_input.proofs.Listing.{all_same}
@@ -46,10 +46,6 @@ clear-rooms ok long = record {
   no_side = all_same 0 64;
   small = no_sixes;
 }
-
--- ---- the tables as `tables` left them, of the last values of its last five parameters
-abbrev pub tables_left : (List ℕ × (List ℕ × (List ℕ × (List ℕ × (List ℤ × Unit {0}))))) → WalkTables
-tables_left l = walk_tables l.0 l.1.0 l.1.1.0 l.1.1.1.0 l.1.1.1.1.0
 
 -- ---- at most 64 edges, which 5 sees to
 pub few_edges_lem : (xyz : List ℤ) (ends : List ℕ) → PassedLists xyz ends → length ends / 2 ≤ most_edges

@@ -1,5 +1,7 @@
 // The way from a drawing to the tables that the walk is lent, or to what refuses it: rules, loops, candidates, words. Assumes lists that
 // passed 3 to 10.
+#![tactic(auto)]
+
 pub mod rows;
 pub mod words;
 
@@ -16,7 +18,7 @@ use paper::{
 use rows::{Counts, candidate_rows};
 use words::put_words;
 
-#[derive(Drop)]
+#[derive(Clone, Copy)]
 pub enum Tabled {
     Refused(Refusal),
     Ready(Counts),

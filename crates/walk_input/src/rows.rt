@@ -8,7 +8,7 @@ use loop_words::PAIRS;
 use paper::{FACE_ROOM, LOOP_ROOM, MOST_CANDIDATES, MOST_LOOPS, MOST_VERTICES};
 
 // How many loops there are, 129 for more than 128, and of no more than that how many candidates, 65 for more than 64.
-#[derive(Drop)]
+#[derive(Clone, Copy)]
 pub struct Counts {
     pub loops: usize,
     pub candidates: usize,

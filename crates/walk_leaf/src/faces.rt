@@ -7,7 +7,7 @@ use paper::{MOST_CANDIDATES, MOST_EDGES};
 use sets::Wide;
 
 // The faces that are reached, those of them whose edges are still to be gone over, and those that are turned against their normal form.
-#[derive(Drop)]
+#[derive(Clone, Copy)]
 pub struct Going {
     pub reached: Wide,
     pub waiting: Wide,

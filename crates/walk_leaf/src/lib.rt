@@ -1,5 +1,7 @@
 // The tests (ii) to (v) of a selection that has (i). No ones are counted: one alone, or none, is asked for. Assumes at most 64 candidates
 // and 64 edges.
+#![tactic(auto)]
+
 pub mod faces;
 
 ghost use Rattle.std.specs.Prelude.{◌≡◌, ◌≤◌, eqb};
@@ -14,7 +16,7 @@ use paper::{MOST_CANDIDATES, MOST_EDGES};
 use sets::Wide;
 
 // A solid: the faces that are turned against their normal form, and six volumes.
-#[derive(Drop)]
+#[derive(Clone, Copy)]
 pub enum Leaf {
     Fails,
     Solid(Wide, u64),

@@ -1,5 +1,7 @@
 // The walk's state and the sweeps over it: those taken and those undecided as sets, one edge settled, edges swept again only where a
 // candidate on them was decided, and the edge of the next assumption. Assumes at most 64 candidates and 64 edges.
+#![tactic(auto)]
+
 ghost use Rattle.std.specs.Prelude.{◌<◌};
 ghost use Rattle.sets.specs.Kinds.{Has};
 ghost use Rattle.sets.specs.Sets.{wides};
@@ -11,20 +13,20 @@ ghost use Rattle.walk_state.specs.Choice.{From, Opened};
 use paper::{MOST_CANDIDATES, MOST_EDGES};
 use sets::Wide;
 
-#[derive(Drop)]
+#[derive(Clone, Copy)]
 pub struct State {
     pub taken: Wide,
     pub undecided: Wide,
 }
 
 // What settling an edge leaves: the state, and the candidates that it decided.
-#[derive(Drop)]
+#[derive(Clone, Copy)]
 struct Change {
     pub state: State,
     pub decided: Wide,
 }
 
-#[derive(Drop)]
+#[derive(Clone, Copy)]
 enum Passed {
     Broken,
     Stays(Change),
@@ -99,14 +101,14 @@ impl State {
     }
 }
 
-#[derive(Drop)]
+#[derive(Clone, Copy)]
 pub enum Swept {
     Broken,
     Stands(State),
 }
 
 // The edges to pass in this sweep, and those to pass in the next.
-#[derive(Drop)]
+#[derive(Clone, Copy)]
 struct Marks {
     pub ahead: Wide,
     pub later: Wide,
@@ -189,7 +191,7 @@ pub fn settled(
     Swept::Stands(state)
 }
 
-#[derive(Drop)]
+#[derive(Clone, Copy)]
 pub struct Opening {
     pub edge: usize,
     pub free: Wide,

@@ -12,8 +12,8 @@ pub fn repository() -> PathBuf {
 /// The proved program: without it nothing here says anything, so that is a failure.
 fn clerk() -> PathBuf {
     let named = std::env::var_os("NIBGRAVEL_CLERK").map(PathBuf::from);
-    let built = repository().join("target/bin/clerk").exists().then(|| repository().join("tools/clerk"));
-    named.or(built).expect("no proved program: run `rt check clerk`, or let NIBGRAVEL_CLERK name it")
+    let built = repository().join("crates/clerk/out/clerk").exists().then(|| repository().join("tools/clerk"));
+    named.or(built).expect("no proved program: run `tools/prove clerk`, or let NIBGRAVEL_CLERK name it")
 }
 
 pub struct Ran {

@@ -111,6 +111,10 @@ pub sub_none : (l : List Flat) → Sub [] l
 sub_none [] = done
 sub_none (x ∷ l) = skip (sub_none l)
 
+pub sub_left : (l r : List Flat) → Sub l (l ++ r)
+sub_left [] r = sub_none r
+sub_left (x ∷ l) r = keep (sub_left l r)
+
 pub sub_append : {l r l' r' : List Flat} → Sub l r → Sub l' r' → Sub (l ++ l') (r ++ r')
 sub_append done t = t
 sub_append (keep s) t = keep (sub_append s t)
@@ -178,10 +182,6 @@ module _ (m : ℤ) where
       distinct_both r l (sub_distinct (sub_right l r) d) (sub_distinct (sub_left l r) d)
       (λ z w o p q. distinct_across l r d w z p o (sym q))
     where
-      sub_left : (l r : List Flat) → Sub l (l ++ r)
-      sub_left [] r = sub_none r
-      sub_left (x ∷ l) r = keep (sub_left l r)
-
       sub_right : (l r : List Flat) → Sub r (l ++ r)
       sub_right [] r = sub_all r
       sub_right (x ∷ l) r = skip (sub_right l r)
@@ -193,6 +193,33 @@ module _ (m : ℤ) where
   pub cross_back : {p q r s : Flat} → Cross p q r s → Cross q p s r
   cross_back c = record { left = c.right; right = c.left; ahead = c.behind; behind = c.ahead }
 
+  -- a ring with a chord that may be added: no two of its links cross, and no corner is within one
+  module _ (g : List Flat) (x y : Flat) (s : Simple m g) (ok : Ok m (Link g) (λ z. Of z g) x y) where
+    chord : (p q r t : Flat) → TheTwo x y p q → Link g r t → Cross p q r t → ⊥
+    chord p q r t (inl e) l c = ok.uncut l (subst (λ (z : Flat). Cross z y r t) e.0 (subst (λ (z : Flat). Cross p z r t) e.1 c))
+    chord p q r t (inr e) l c =
+        ok.uncut (link_back g r t l)
+        (cross_back (subst (λ (z : Flat). Cross z x r t) e.0 (subst (λ (z : Flat). Cross p z r t) e.1 c)))
+
+    twice : (p q r t : Flat) → TheTwo x y p q → TheTwo x y r t → Cross p q r t → ⊥
+    twice p q r t (inl e) (inl f) c = zero_off (ap (twice_area p q) (f.0 ∙ sym e.0) ∙ flat-first p q) c.left
+    twice p q r t (inl e) (inr f) c = zero_off (ap (twice_area p q) (f.0 ∙ sym e.1) ∙ flat-second p q) c.left
+    twice p q r t (inr e) (inl f) c = zero_off (ap (twice_area p q) (f.0 ∙ sym e.1) ∙ flat-second p q) c.left
+    twice p q r t (inr e) (inr f) c = zero_off (ap (twice_area p q) (f.0 ∙ sym e.0) ∙ flat-first p q) c.left
+
+    pub chord-clear : (p q r t : Flat) → Link g p q ⊎ TheTwo x y p q → Link g r t ⊎ TheTwo x y r t → Cross p q r t → ⊥
+    chord-clear p q r t (inl l) (inl n) c = s.net.clear l n c
+    chord-clear p q r t (inl l) (inr n) c = chord r t q p n (link_back g p q l) (cross_turned c)
+    chord-clear p q r t (inr l) (inl n) c = chord p q r t l n c
+    chord-clear p q r t (inr l) (inr n) c = twice p q r t l n c
+
+    pub chord-free : (p q r : Flat) → Link g p q ⊎ TheTwo x y p q → Of r g → WithinSegment m p q r → ⊥
+    chord-free p q r (inl l) n c = s.net.free l n c
+    chord-free p q r (inr (inl e)) n c =
+        ok.bare n (subst (λ (z : Flat). WithinSegment m z y r) e.0 (subst (λ (z : Flat). WithinSegment m p z r) e.1 c))
+    chord-free p q r (inr (inr e)) n c =
+        ok.bare_back n (subst (λ (z : Flat). WithinSegment m z x r) e.0 (subst (λ (z : Flat). WithinSegment m p z r) e.1 c))
+
   -- some links are left out, and the chord x y may be new
   pub narrow : (g k : List Flat) (x y : Flat) → Simple m g → ((p q : Flat) → Link k p q → Link g p q ⊎ TheTwo x y p q)
       → ((z : Flat) → Of z k → Of z g) → Distinct m k
@@ -202,34 +229,10 @@ module _ (m : ℤ) where
     net = record {
       back = (λ {p} {q} l. link_back k p q l);
       end = (λ {p} {q} l. link_of k p q l);
-      clear = (λ {p} {q} {r} {s = t} l n c. clear2 p q r t (f p q l) (f r t n) c);
-      free = (λ {p} {q} {r} l n c. free2 p q r (f p q l) (o r n) c);
+      clear = (λ {p} {q} {r} {s = t} l n c. chord-clear g x y s ok p q r t (f p q l) (f r t n) c);
+      free = (λ {p} {q} {r} l n c. chord-free g x y s ok p q r (f p q l) (o r n) c);
     };
   }
-    where
-      chord : (p q r t : Flat) → TheTwo x y p q → Link g r t → Cross p q r t → ⊥
-      chord p q r t (inl e) l c = ok.uncut l (subst (λ (z : Flat). Cross z y r t) e.0 (subst (λ (z : Flat). Cross p z r t) e.1 c))
-      chord p q r t (inr e) l c =
-          ok.uncut (link_back g r t l)
-          (cross_back (subst (λ (z : Flat). Cross z x r t) e.0 (subst (λ (z : Flat). Cross p z r t) e.1 c)))
-
-      twice : (p q r t : Flat) → TheTwo x y p q → TheTwo x y r t → Cross p q r t → ⊥
-      twice p q r t (inl e) (inl f) c = zero_off (ap (twice_area p q) (f.0 ∙ sym e.0) ∙ flat-first p q) c.left
-      twice p q r t (inl e) (inr f) c = zero_off (ap (twice_area p q) (f.0 ∙ sym e.1) ∙ flat-second p q) c.left
-      twice p q r t (inr e) (inl f) c = zero_off (ap (twice_area p q) (f.0 ∙ sym e.1) ∙ flat-second p q) c.left
-      twice p q r t (inr e) (inr f) c = zero_off (ap (twice_area p q) (f.0 ∙ sym e.0) ∙ flat-first p q) c.left
-
-      clear2 : (p q r t : Flat) → Link g p q ⊎ TheTwo x y p q → Link g r t ⊎ TheTwo x y r t → Cross p q r t → ⊥
-      clear2 p q r t (inl l) (inl n) c = s.net.clear l n c
-      clear2 p q r t (inl l) (inr n) c = chord r t q p n (link_back g p q l) (cross_turned c)
-      clear2 p q r t (inr l) (inl n) c = chord p q r t l n c
-      clear2 p q r t (inr l) (inr n) c = twice p q r t l n c
-
-      free2 : (p q r : Flat) → Link g p q ⊎ TheTwo x y p q → Of r g → WithinSegment m p q r → ⊥
-      free2 p q r (inl l) n c = s.net.free l n c
-      free2 p q r (inr (inl e)) n c = ok.bare n (subst (λ (z : Flat). WithinSegment m z y r) e.0 (subst (λ (z : Flat). WithinSegment m p z r) e.1 c))
-      free2 p q r (inr (inr e)) n c =
-          ok.bare_back n (subst (λ (z : Flat). WithinSegment m z x r) e.0 (subst (λ (z : Flat). WithinSegment m p z r) e.1 c))
 
   -- another start
   pub turned : (x : Flat) (l : List Flat) (y : Flat) (r : List Flat) → Simple m (x ∷ (l ++ y ∷ r)) → Simple m (y ∷ (r ++ x ∷ l))

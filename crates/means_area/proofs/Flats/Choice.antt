@@ -1,8 +1,7 @@
 -- At a corner v that is lower than its neighbours x and y: the three are in no line, and either the triangle has no other corner and the
--- chord
--- x y may be added, or a chord from v to a corner w inside the angle.
+-- chord x y may be added, or a chord from v to a corner w inside the angle.
 use mathlib.Core.Path.{◌≡◌, refl, sym, ◌∙◌, ap, subst}
-use mathlib.Core.Logic.{◌⊎◌, inl, inr}
+use mathlib.Core.Logic.{◌⊎◌, inl, inr, ⊎_swap}
 use mathlib.Core.List.{List, [], ◌∷◌}
 use lib.IntN.{ℤ, pos, neg_ℤ}
 use lib.Signed.{◌≤ℤ◌, ◌<ℤ◌, ≤ℤ_refl, clash_ℤ}
@@ -94,6 +93,20 @@ Hit v x y z = In v x y z ⊎ In v y x z
 pub in_sense : (v a b x : Flat) → In v a b x → Up (twice_area v a b)
 in_sense v a b x i = up_is (sum_is v a b x) (up_add (nn_up i.far i.by_a) (up_nn i.by_b))
 
+-- what is in it is in it that way round
+pub hit_sense : (v a b x : Flat) → Up (twice_area v a b) → Hit v a b x → In v a b x
+hit_sense v a b x D (inl i) = i
+hit_sense v a b x D (inr i) = absurd (off D (up_nn (up_is (flip_last v b a) (in_sense v b a x i))))
+
+-- one that is no line has one sense or the other
+pub by_sense : {A : Type 0} (v x y : Flat) → (twice_area v x y ≡ pos 0 → ⊥) → (Up (twice_area v x y) → A) → (Up (twice_area v y x) → A) → A
+by_sense {A} v x y n f g = go (ways (twice_area v x y))
+  where
+    go : Up (twice_area v x y) ⊎ ((twice_area v x y ≡ pos 0) ⊎ Up (neg_ℤ (twice_area v x y))) → A
+    go (inl D) = f D
+    go (inr (inl e)) = absurd (n e)
+    go (inr (inr D)) = g (up_is (sym (flip_last v y x)) D)
+
 module _ (m : ℤ) (L : Flat → Flat → Type 0) (cs : List Flat) (net : Net m L (λ x. Of x cs)) where
   abbrev h : Flat → ℤ
   h = height m
@@ -123,69 +136,39 @@ module _ (m : ℤ) (L : Flat → Flat → Type 0) (cs : List Flat) (net : Net m 
     -- the chord of an empty triangle
     pub ear_ok : (h x ≡ h y → ⊥) → ((q : Flat) → L v q → (q ≡ x) ⊎ (q ≡ y)) → ((z : Flat) → Of z cs → Hit v x y z → ⊥)
         → Ok m L (λ r. Of r cs) x y
-    ear_ok ne only e = go (ways (twice_area v x y))
-      where
-        swap : (q : Flat) → (q ≡ x) ⊎ (q ≡ y) → (q ≡ y) ⊎ (q ≡ x)
-        swap q (inl e) = inr e
-        swap q (inr e) = inl e
-
-        go : Up (twice_area v x y) ⊎ ((twice_area v x y ≡ pos 0) ⊎ Up (neg_ℤ (twice_area v x y))) → Ok m L (λ r. Of r cs) x y
-        go (inl D) = ear m L (λ r. Of r cs) net v x y D vx vy hx hy (λ z o i. e z o (inl i)) only
-        go (inr (inl k)) = absurd (bent ne k)
-        go (inr (inr D)) =
-            ok_back
-            (ear m L (λ r. Of r cs) net v y x (up_is (sym (flip_last v y x)) D) vy vx hy hx (λ z o i. e z o (inr i))
-            (λ q l. swap q (only q l)))
+    ear_ok ne only e =
+        by_sense v x y (bent ne) (λ D. ear m L (λ r. Of r cs) net v x y D vx vy hx hy (λ z o i. e z o (inl i)) only)
+        (λ D. ok_back (ear m L (λ r. Of r cs) net v y x D vy vx hy hx (λ z o i. e z o (inr i)) (λ q l. ⊎_swap (only q l))))
 
     -- y is lower than x, and r is its other neighbour: r is not on v's side of the chord
     pub near : {t : ℤ} → ((z : Flat) → Of z cs → Hit v x y z → ⊥) → (h x ≡ h y → ⊥) → h y <ℤ h x → (r : Flat) → L r y → h y <ℤ h r
         → SameSign t (twice_area y x r) → SameSign (twice_area y x r) (twice_area v x y)
-    near {t} e ne k r l hr s = go (ways (twice_area v x y)) s
-      where
-        go : Up (twice_area v x y) ⊎ ((twice_area v x y ≡ pos 0) ⊎ Up (neg_ℤ (twice_area v x y))) → SameSign t (twice_area y x r) → SameSign (twice_area y x r) (twice_area v x y)
-        go (inl D) (both a b) = both b D
-        go (inl D) (none a b) =
-            absurd
-            (next_b m L (λ r. Of r cs) net v x y D vx vy hx hy (λ z o i. e z o (inl i)) {r = r} (net.end l) (up_is (sym (flip x y r)) b)
-            l hr k)
-        go (inr (inl d)) u = absurd (bent ne d)
-        go (inr (inr D)) (none a b) = none b D
-        go (inr (inr D)) (both a b) =
-            absurd
-            (next_a m L (λ r. Of r cs) net v y x (up_is (sym (flip_last v y x)) D) vy vx hy hx (λ z o i. e z o (inr i)) {r = r}
-            (net.end l) b l hr k)
+    near e ne k r l hr (both a b) =
+        by_sense v x y (bent ne) (λ D. both b D) (λ D. absurd
+        (next_a m L (λ r. Of r cs) net v y x D vy vx hy hx (λ z o i. e z o (inr i)) {r = r} (net.end l) b l hr k))
+    near e ne k r l hr (none a b) =
+        by_sense v x y (bent ne) (λ D. absurd
+        (next_b m L (λ r. Of r cs) net v x y D vx vy hx hy (λ z o i. e z o (inl i)) {r = r} (net.end l) (up_is (sym (flip x y r)) b) l hr
+        k))
+        (λ D. none b (up_is (flip_last v y x) D))
 
     -- r is the other neighbour of both
     pub four : {t : ℤ} → ((z : Flat) → Of z cs → Hit v x y z → ⊥) → (h x ≡ h y → ⊥) → (r : Flat) → L r x → L r y → h v <ℤ h r
         → SameSign t (twice_area r y x) → SameSign (twice_area r y x) (twice_area v x y)
-    four {t} e ne r lx ly hr s = go (ways (twice_area v x y)) s
-      where
-        go : Up (twice_area v x y) ⊎ ((twice_area v x y ≡ pos 0) ⊎ Up (neg_ℤ (twice_area v x y))) → SameSign t (twice_area r y x) → SameSign (twice_area r y x) (twice_area v x y)
-        go (inl D) (both a b) = both b D
-        go (inl D) (none a b) =
-            absurd (fourth m L (λ r. Of r cs) net v x y D vx vy hx hy (λ z o i. e z o (inl i)) {r = r} (net.end lx)
-            (up_is (ap neg_ℤ (spin r y x) ∙ sym (flip x y r)) b) lx ly hr)
-        go (inr (inl d)) u = absurd (bent ne d)
-        go (inr (inr D)) (none a b) = none b D
-        go (inr (inr D)) (both a b) =
-            absurd
-            (fourth m L (λ r. Of r cs) net v y x (up_is (sym (flip_last v y x)) D) vy vx hy hx (λ z o i. e z o (inr i)) {r = r}
-            (net.end lx)
-            (up_is (spin r y x) b) ly lx hr)
+    four e ne r lx ly hr (both a b) =
+        by_sense v x y (bent ne) (λ D. both b D) (λ D. absurd
+        (fourth m L (λ r. Of r cs) net v y x D vy vx hy hx (λ z o i. e z o (inr i)) {r = r} (net.end lx) (up_is (spin r y x) b) ly lx hr))
+    four e ne r lx ly hr (none a b) =
+        by_sense v x y (bent ne) (λ D. absurd
+        (fourth m L (λ r. Of r cs) net v x y D vx vy hx hy (λ z o i. e z o (inl i)) {r = r} (net.end lx)
+        (up_is (ap neg_ℤ (spin r y x) ∙ sym (flip x y r)) b) lx ly hr))
+        (λ D. none b (up_is (flip_last v y x) D))
 
     pub choose : (h x ≡ h y → ⊥) → ((q : Flat) → L v q → (q ≡ x) ⊎ (q ≡ y)) → Choice v x y
-    choose ne only = go (ways (twice_area v x y))
+    choose ne only = by_sense v x y (bent ne) (λ D. up D (best v x y cs)) (λ D. down D (best v y x cs))
       where
-        swap : (q : Flat) → (q ≡ x) ⊎ (q ≡ y) → (q ≡ y) ⊎ (q ≡ x)
-        swap q (inl e) = inr e
-        swap q (inr e) = inl e
-
         up : Up (twice_area v x y) → Empty v x y cs ⊎ Best v x y cs → Choice v x y
-        up D (inl e) = whole (λ z o. elim_hit z (e z o)) (ear m L (λ r. Of r cs) net v x y D vx vy hx hy e only)
-          where
-            elim_hit : (z : Flat) → (In v x y z → ⊥) → Hit v x y z → ⊥
-            elim_hit z n (inl i) = n i
-            elim_hit z n (inr i) = off D (up_nn (up_is (flip_last v y x) (in_sense v y x z i)))
+        up D (inl e) = whole (λ z o i. e z o (hit_sense v x y z D i)) (ear m L (λ r. Of r cs) net v x y D vx vy hx hy e only)
         up D (inr t) =
             cut t.w t.of (diagonal m L (λ r. Of r cs) net v x y D vx vy hx hy t.w t.inn t.top)
             (higher m L (λ r. Of r cs) net v x y D vx vy hx hy t.w t.inn t.top)
@@ -193,18 +176,10 @@ module _ (m : ℤ) (L : Flat → Flat → Type 0) (cs : List Flat) (net : Net m 
 
         down : Up (twice_area v y x) → Empty v y x cs ⊎ Best v y x cs → Choice v x y
         down D (inl e) =
-            whole (λ z o. elim_hit z (e z o)) (ok_back (ear m L (λ r. Of r cs) net v y x D vy vx hy hx e (λ q l. swap q (only q l))))
-          where
-            elim_hit : (z : Flat) → (In v y x z → ⊥) → Hit v x y z → ⊥
-            elim_hit z n (inr i) = n i
-            elim_hit z n (inl i) = off D (up_nn (up_is (flip_last v x y) (in_sense v x y z i)))
+            whole (λ z o i. e z o (hit_sense v y x z D (⊎_swap i)))
+            (ok_back (ear m L (λ r. Of r cs) net v y x D vy vx hy hx e (λ q l. ⊎_swap (only q l))))
         down D (inr t) =
             cut t.w t.of (diagonal m L (λ r. Of r cs) net v y x D vy vx hy hx t.w t.inn t.top)
             (higher m L (λ r. Of r cs) net v y x D vy vx hy hx t.w t.inn t.top)
             (none (up_is (flip x v t.w) t.inn.by_a) (up_is (flip_last v y x) D))
             (none (up_is (flip_last v y t.w) t.inn.by_b) (up_is (flip_last v y x) D))
-
-        go : Up (twice_area v x y) ⊎ ((twice_area v x y ≡ pos 0) ⊎ Up (neg_ℤ (twice_area v x y))) → Choice v x y
-        go (inl D) = up D (best v x y cs)
-        go (inr (inl e)) = absurd (bent ne e)
-        go (inr (inr D)) = down (up_is (sym (flip_last v y x)) D) (best v y x cs)

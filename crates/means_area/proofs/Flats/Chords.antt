@@ -13,11 +13,11 @@ use Rattle.means_area.proofs.Flats.Signs.{same-flip, same_trans, same_is, same_i
 use Rattle.means_area.proofs.Flats.Turns.{flat-second}
 use Rattle.means_area.proofs.Flats.Net.{Ok}
 use Rattle.means_area.proofs.Flats.Choice.{Hit}
-use Rattle.means_area.proofs.Flats.Lowest.{Split, Prefix, lst_nil, sub_left, pair_swap}
+use Rattle.means_area.proofs.Flats.Lowest.{Split, Prefix, lst_nil, pair_swap}
 use Rattle.means_area.proofs.Flats.First.{Area, Rest}
 use Rattle.means_area.proofs.Flats.Around.{Second, OneTurn, reduced}
 use Rattle.means_area.proofs.Flats.Chains.{lst_append, chain_split, chain_left, chain_right, chain_cut, Sub, keep, skip, sub_all}
-use Rattle.means_area.proofs.Flats.Chains.{sub_none, sub_append, sub_of, sub_distinct, narrow}
+use Rattle.means_area.proofs.Flats.Chains.{sub_none, sub_left, sub_append, sub_of, sub_distinct, narrow}
 
 -- the chord from v to w may be added
 abbrev pub Chord : ℤ → Flat → Flat → List Flat → Flat → Flat → List Flat → Flat → Type 0

@@ -3,7 +3,7 @@
 use mathlib.Core.Path.{◌≡◌, sym, ◌∙◌, ap, subst}
 use mathlib.Core.Logic.{◌⊎◌, inl, inr}
 use mathlib.Core.List.{[], ◌∷◌}
-use lib.IntN.{ℤ, pos, neg_ℤ, ◌+ℤ◌, ◌-ℤ◌}
+use lib.IntN.{ℤ, pos, neg_ℤ, ◌+ℤ◌, ◌-ℤ◌, ◌*ℤ◌}
 use lib.Signed.{◌<ℤ◌, <ℤ_irrefl}
 use Rattle.exact.proofs.Laws.{eq_of_sub}
 use Rattle.exact.proofs.Ring.{var, ◌⊖◌, ◌⊗◌, neg, ring}
@@ -16,7 +16,7 @@ use Rattle.means_area.proofs.Flats.Turns.{In, spin, flip, flat-first, flat-secon
 use Rattle.means_area.proofs.Flats.Turns.{sum-neg, line_pa, line_pa', line_pb, line_qa', line_qb'}
 use Rattle.means_area.proofs.Flats.Turns.{base_a, base_b}
 use Rattle.means_area.proofs.Flats.Turns.{back_a, back_b}
-use Rattle.means_area.proofs.Flats.Net.{Ok, nn0, by0, of0, neg0, on_a as line-a, on_b as line-b}
+use Rattle.means_area.proofs.Flats.Net.{Ok, nn0, by0, of0, neg0, beside_a, beside_b}
 
 module _ (m : ℤ) (L : Flat → Flat → Type 0) (Corner : Flat → Type 0) (net : Net m L Corner) where
   abbrev h : Flat → ℤ
@@ -28,12 +28,6 @@ module _ (m : ℤ) (L : Flat → Flat → Type 0) (Corner : Flat → Type 0) (ne
 
     up_b : Up (h b -ℤ h v)
     up_b = sub_pos hb
-
-    on_a : {p : Flat} → Corner p → twice_area v a p ≡ pos 0 → Up (twice_area b v p) → Up (twice_area a b p) → ⊥
-    on_a = line-a m L Corner net v a b D va vb ha hb
-
-    on_b : {p : Flat} → Corner p → twice_area b v p ≡ pos 0 → Up (twice_area v a p) → Up (twice_area a b p) → ⊥
-    on_b = line-b m L Corner net v a b D va vb ha hb
 
     -- ---- the ear
     module _ (empty : (x : Flat) → Corner x → In v a b x → ⊥) where
@@ -75,32 +69,25 @@ module _ (m : ℤ) (L : Flat → Flat → Type 0) (Corner : Flat → Type 0) (ne
           inside pa pb = empty p (net.end l) (record { far = up_nn x.left; by_a = pa; by_b = pb })
 
           v_right : Up (twice_area p q v) → ⊥
-          v_right gv = go (ways (twice_area v a p))
+          v_right gv = inside (pa_up (up_nn gv) pb) pb
             where
-              go : Up (twice_area v a p) ⊎ ((twice_area v a p ≡ pos 0) ⊎ Up (neg_ℤ (twice_area v a p))) → ⊥
-              go (inl pb) = inside (pa_up (up_nn gv) pb) pb
-              go (inr (inl e)) =
-                  on_a (net.end l) e
-                  (up_out (twice_area q p a) x.behind
-                  (up_is (sym (line_pa v a b p q)) (up_add (mul-pos x.left gv) (nn0 (of0 (twice_area p q b) e))))) x.left
-              go (inr (inr k)) =
-                  net.clear (net.back va) l
-                  (record { left = up_is (sym (flip a v p)) k; right = qb_up (up_nn gv); ahead = gv; behind = x.behind })
+              pb : Up (twice_area v a p)
+              pb =
+                  beside_a m L Corner net v a b D va vb ha hb l x.left
+                  (λ e. up_out (twice_area q p a) x.behind
+                  (up_is (sym (line_pa v a b p q)) (up_add (mul-pos x.left gv) (nn0 (of0 (twice_area p q b) e)))))
+                  (λ k. record { left = up_is (sym (flip a v p)) k; right = qb_up (up_nn gv); ahead = gv; behind = x.behind })
 
           v_left : Up (twice_area q p v) → ⊥
-          v_left gv = go (ways (twice_area b v p))
+          v_left gv = inside pa (pb (mul_nonneg (up_nn pa) (up_nn x.behind)))
             where
-              go : Up (twice_area b v p) ⊎ ((twice_area b v p ≡ pos 0) ⊎ Up (neg_ℤ (twice_area b v p))) → ⊥
-              go (inl pa) =
-                  inside pa
-                  (up_out (twice_area p q b) x.ahead
-                  (up_is (sym (line_pb v a b p q)) (up_add (mul-pos x.left gv) (up_nn (mul-pos pa x.behind)))))
-              go (inr (inl e)) =
-                  on_b (net.end l) e
-                  (up_out (twice_area p q b) x.ahead
-                  (up_is (sym (line_pb v a b p q)) (up_add (mul-pos x.left gv) (nn0 (of0 (twice_area q p a) e))))) x.left
-              go (inr (inr k)) =
-                  net.clear vb l (record { left = up_is (sym (flip v b p)) k; right = qa_up (up_nn gv); ahead = x.ahead; behind = gv })
+              pb : Nn (twice_area b v p *ℤ twice_area q p a) → Up (twice_area v a p)
+              pb n = up_out (twice_area p q b) x.ahead (up_is (sym (line_pb v a b p q)) (up_add (mul-pos x.left gv) n))
+
+              pa : Up (twice_area b v p)
+              pa =
+                  beside_b m L Corner net v a b D va vb ha hb l x.left (λ e. pb (nn0 (of0 (twice_area q p a) e)))
+                  (λ k. record { left = up_is (sym (flip v b p)) k; right = qa_up (up_nn gv); ahead = x.ahead; behind = gv })
 
           -- p is v
           same_u : twice_area b v p ≡ pos 0 → twice_area v a p ≡ pos 0 → p.u ≡ v.u
@@ -176,34 +163,28 @@ module _ (m : ℤ) (L : Flat → Flat → Type 0) (Corner : Flat → Type 0) (ne
       -- ---- a corner r on the same side of a b as v
       module _ {r : Flat} (c : Corner r) (rv : Up (twice_area a b r)) where
         side_a : L r a → Up (twice_area v a r) → ⊥
-        side_a l rb = go (ways (twice_area b v r))
-          where
-            go : Up (twice_area b v r) ⊎ ((twice_area b v r ≡ pos 0) ⊎ Up (neg_ℤ (twice_area b v r))) → ⊥
-            go (inl ra) = empty r c (record { far = up_nn rv; by_a = ra; by_b = rb })
-            go (inr (inl e)) = on_b c e rb rv
-            go (inr (inr k)) =
-                net.clear vb l
-                (record {
-                  left = up_is (sym (flip v b r)) k;
-                  right = up_is (spin v a b ∙ spin a b v) D;
-                  ahead = up_is (sym (spin r a b)) rv;
-                  behind = up_is (spin v a r) rb;
-                })
+        side_a l rb = empty r c (record {
+          far = up_nn rv;
+          by_a = beside_b m L Corner net v a b D va vb ha hb l rv (λ e. rb) (λ k. record {
+            left = up_is (sym (flip v b r)) k;
+            right = up_is (spin v a b ∙ spin a b v) D;
+            ahead = up_is (sym (spin r a b)) rv;
+            behind = up_is (spin v a r) rb;
+          });
+          by_b = rb;
+        })
 
         side_b : L r b → Up (twice_area b v r) → ⊥
-        side_b l ra = go (ways (twice_area v a r))
-          where
-            go : Up (twice_area v a r) ⊎ ((twice_area v a r ≡ pos 0) ⊎ Up (neg_ℤ (twice_area v a r))) → ⊥
-            go (inl rb) = empty r c (record { far = up_nn rv; by_a = ra; by_b = rb })
-            go (inr (inl e)) = on_a c e ra rv
-            go (inr (inr k)) =
-                net.clear (net.back va) l
-                (record {
-                  left = up_is (sym (flip a v r)) k;
-                  right = D;
-                  ahead = up_is (sym (spin r b v)) ra;
-                  behind = up_is (spin a b r) rv;
-                })
+        side_b l ra = empty r c (record {
+          far = up_nn rv;
+          by_a = ra;
+          by_b = beside_a m L Corner net v a b D va vb ha hb l rv (λ e. ra) (λ k. record {
+            left = up_is (sym (flip a v r)) k;
+            right = D;
+            ahead = up_is (sym (spin r b v)) ra;
+            behind = up_is (spin a b r) rv;
+          });
+        })
 
         -- the lowest corner but v is a, or b, and r is its other neighbour
         pub next_a : L r a → h a <ℤ h r → h a <ℤ h b → ⊥

@@ -12,7 +12,7 @@ use Rattle.paper.specs.declared.Flat.{Flat}
 use Rattle.means_area.specs.Rings.{Of, TheTwo}
 use Rattle.means_area.specs.Flats.{height, Distinct, Least, lst}
 use Rattle.means_area.proofs.Flats.Choice.{compare}
-use Rattle.means_area.proofs.Flats.Chains.{Sub, keep, sub_none, of_append, of_right}
+use Rattle.means_area.proofs.Flats.Chains.{of_append, of_right}
 
 -- ---- splitting a list at a corner
 
@@ -50,10 +50,6 @@ pub both-empty : (X Y : List Flat) → (1 ≤ length X + length Y) ⊎ ((X ≡ [
 both-empty [] [] = inr (refl, refl)
 both-empty [] (y ∷ Y) = inl (omega arith)
 both-empty (x ∷ X) Y = inl (omega arith)
-
-pub sub_left : (l r : List Flat) → Sub l (l ++ r)
-sub_left [] r = sub_none r
-sub_left (x ∷ l) r = keep (sub_left l r)
 
 pub pair_swap : (x y p q : Flat) → TheTwo x y p q → TheTwo y x p q
 pair_swap x y p q (inl t) = inr t

@@ -10,7 +10,7 @@ use Rattle.exact.proofs.Signs.{lt-or-ge, <ℤ-≤ℤ}
 use Rattle.exact.proofs.Order.{mul-pos, mul_nonneg, sub_pos, sub_nonneg, lt_chain}
 use Rattle.paper.specs.declared.Flat.{Flat}
 use Rattle.means_area.specs.Flats.{Up, Nn, twice_area, Cross, height, WithinSegment, Net}
-use Rattle.means_area.proofs.Flats.Signs.{up_is, nn_is, up_nn, up_add, nn_up, ways, up_out, diff_up}
+use Rattle.means_area.proofs.Flats.Signs.{up_is, nn_is, up_nn, up_add, nn_up, up_else, up_out, diff_up}
 use Rattle.means_area.proofs.Flats.Turns.{In, flip, low_v, low_a, low_b}
 use Rattle.means_area.proofs.Flats.Turns.{over_p, over_q, other_q}
 use Rattle.means_area.proofs.Flats.Turns.{other_p, left_b, left_a, angle_p, angle_q, along_a, along_b, along-far}
@@ -47,7 +47,7 @@ module _ (m : ℤ) (L : Flat → Flat → Type 0) (Corner : Flat → Type 0) (ne
     up_b = sub_pos hb
 
     -- a corner in the line of v and a, between them by its places; in the line of v and b
-    pub on_a : {p : Flat} → Corner p → twice_area v a p ≡ pos 0 → Up (twice_area b v p) → Up (twice_area a b p) → ⊥
+    on_a : {p : Flat} → Corner p → twice_area v a p ≡ pos 0 → Up (twice_area b v p) → Up (twice_area a b p) → ⊥
     on_a {p} c e pa pv = net.free va c (record {
       line = e;
       after =
@@ -58,7 +58,7 @@ module _ (m : ℤ) (L : Flat → Flat → Type 0) (Corner : Flat → Type 0) (ne
           (up_out (twice_area v a b) D (up_is (sym (low_a m v a b p)) (up_add (mul-pos pv up_a) (nn0 (of0 (h b -ℤ h a) (neg0 e))))));
     })
 
-    pub on_b : {p : Flat} → Corner p → twice_area b v p ≡ pos 0 → Up (twice_area v a p) → Up (twice_area a b p) → ⊥
+    on_b : {p : Flat} → Corner p → twice_area b v p ≡ pos 0 → Up (twice_area v a p) → Up (twice_area a b p) → ⊥
     on_b {p} c e pb pv = net.free vb c (record {
       line = flip v b p ∙ neg0 e;
       after =
@@ -68,6 +68,16 @@ module _ (m : ℤ) (L : Flat → Flat → Type 0) (Corner : Flat → Type 0) (ne
           diff_up (h p) (h b)
           (up_out (twice_area v a b) D (up_is (sym (low_b m v a b p)) (up_add (mul-pos pv up_b) (nn0 (of0 (h a -ℤ h b) (neg0 e))))));
     })
+
+    -- a corner p on v's side of a b, which is between v and a where it is in their line, and has a link that crosses v a where it is
+    -- beyond: it is on b's side of that line. Of v and b the same
+    pub beside_a : {p q : Flat} → L p q → Up (twice_area a b p) → (twice_area v a p ≡ pos 0 → Up (twice_area b v p))
+        → (Up (neg_ℤ (twice_area v a p)) → Cross a v p q) → Up (twice_area v a p)
+    beside_a l pv on across = up_else (λ e. on_a (net.end l) e (on e) pv) (λ k. net.clear (net.back va) l (across k))
+
+    pub beside_b : {p q : Flat} → L p q → Up (twice_area a b p) → (twice_area b v p ≡ pos 0 → Up (twice_area v a p))
+        → (Up (neg_ℤ (twice_area b v p)) → Cross v b p q) → Up (twice_area b v p)
+    beside_b l pv on across = up_else (λ e. on_b (net.end l) e (on e) pv) (λ k. net.clear vb l (across k))
 
     -- ---- the diagonal from v to the corner w of the triangle that is farthest from a b
     module _ (w : Flat) (i : In v a b w) (top : (r : Flat) → Corner r → In v a b r → twice_area a b r ≤ℤ twice_area a b w) where
@@ -84,7 +94,7 @@ module _ (m : ℤ) (L : Flat → Flat → Type 0) (Corner : Flat → Type 0) (ne
 
       module _ {p q : Flat} (l : L p q) (x : Cross v w p q) where
         p_far : twice_area a b q ≤ℤ twice_area a b p → ⊥
-        p_far k = go (ways (twice_area b v p))
+        p_far k = too_far (net.end l) over pa (pb (up_nn pa))
           where
             d : Nn (twice_area a b p -ℤ twice_area a b q)
             d = sub_nonneg k
@@ -104,10 +114,8 @@ module _ (m : ℤ) (L : Flat → Flat → Type 0) (Corner : Flat → Type 0) (ne
                 up_out (twice_area b v w) i.by_a
                 (up_is (sym (angle_p v a b w p)) (up_add (mul-pos D x.left) (mul_nonneg (up_nn i.by_b) n)))
 
-            go : Up (twice_area b v p) ⊎ ((twice_area b v p ≡ pos 0) ⊎ Up (neg_ℤ (twice_area b v p))) → ⊥
-            go (inl pa) = too_far (net.end l) over pa (pb (up_nn pa))
-            go (inr (inl e)) = on_b (net.end l) e (pb (nn0 e)) (beyond p over)
-            go (inr (inr n)) = net.clear vb l (record {
+            pa : Up (twice_area b v p)
+            pa = beside_b l (beyond p over) (λ e. pb (nn0 e)) (λ n. record {
               left = up_is (sym (flip v b p)) n;
               right =
                   up_out (twice_area v w p) x.left
@@ -117,7 +125,7 @@ module _ (m : ℤ) (L : Flat → Flat → Type 0) (Corner : Flat → Type 0) (ne
             })
 
         q_far : twice_area a b p ≤ℤ twice_area a b q → ⊥
-        q_far k = go (ways (twice_area v a q))
+        q_far k = too_far (net.end (net.back l)) over (qa (up_nn qb)) qb
           where
             d : Nn (twice_area a b q -ℤ twice_area a b p)
             d = sub_nonneg k
@@ -137,10 +145,8 @@ module _ (m : ℤ) (L : Flat → Flat → Type 0) (Corner : Flat → Type 0) (ne
                 up_out (twice_area v a w) i.by_b
                 (up_is (sym (angle_q v a b w q)) (up_add (mul-pos D x.right) (mul_nonneg (up_nn i.by_a) n)))
 
-            go : Up (twice_area v a q) ⊎ ((twice_area v a q ≡ pos 0) ⊎ Up (neg_ℤ (twice_area v a q))) → ⊥
-            go (inl qb) = too_far (net.end (net.back l)) over (qa (up_nn qb)) qb
-            go (inr (inl e)) = on_a (net.end (net.back l)) e (qa (nn0 e)) (beyond q over)
-            go (inr (inr n)) = net.clear (net.back va) (net.back l) (record {
+            qb : Up (twice_area v a q)
+            qb = beside_a (net.back l) (beyond q over) (λ e. qa (nn0 e)) (λ n. record {
               left = up_is (sym (flip a v q)) n;
               right =
                   up_out (twice_area w v q) x.right

@@ -1,5 +1,5 @@
 -- Numbers above 0 and not below 0, with sums and products; numbers of one sign.
-use mathlib.Core.Path.{◌≡◌, sym, ap, subst}
+use mathlib.Core.Path.{◌≡◌, ap, subst}
 use mathlib.Core.Logic.{◌⊎◌, inl, inr}
 use mathlib.Core.List.{[], ◌∷◌}
 use native.Mathlib.Omega.{arith}
@@ -56,6 +56,19 @@ ways x = go (three_ways x)
     go (inr (inl e)) = inr (inl e)
     go (inr (inr h)) = inl h
 
+-- above 0, where it is neither 0 nor below
+pub up_else : {x : ℤ} → (x ≡ pos 0 → ⊥) → (Up (neg_ℤ x) → ⊥) → Up x
+up_else {x} z n = go (ways x)
+  where
+    go : Up x ⊎ ((x ≡ pos 0) ⊎ Up (neg_ℤ x)) → Up x
+    go (inl h) = h
+    go (inr (inl e)) = absurd (z e)
+    go (inr (inr h)) = absurd (n h)
+
+-- the negation's negation
+pub twice : (x : ℤ) → x ≡ neg_ℤ (neg_ℤ x)
+twice x = ring (x ∷ []) (var 0) (neg (neg (var 0))) tt
+
 -- a factor above 0 goes out
 pub up_out : (k : ℤ) {x : ℤ} → Up k → Up (k *ℤ x) → Up x
 up_out k {x} h l = lt_cancel k h (subst (λ (z : ℤ). z <ℤ (k *ℤ x)) (ring (k ∷ []) (con (pos 0)) (var 0 ⊗ con (pos 0)) tt) l)
@@ -108,9 +121,6 @@ same_self {x} n = go (ways x)
     go (inr (inl e)) = absurd (n e)
     go (inr (inr h)) = none h h
 
-pub twice : (x : ℤ) → neg_ℤ (neg_ℤ x) ≡ x
-twice x = ring (x ∷ []) (neg (neg (var 0))) (var 0) tt
-
 pub same-neg : {x y : ℤ} → SameSign x y → SameSign (neg_ℤ x) (neg_ℤ y)
-same-neg {x} {y} (both h k) = none (up_is (sym (twice x)) h) (up_is (sym (twice y)) k)
+same-neg {x} {y} (both h k) = none (up_is (twice x) h) (up_is (twice y) k)
 same-neg (none h k) = both h k

@@ -42,7 +42,7 @@ module _ (d : Wire) where
     pub two : u ≡ w → ⊥
     pub edge : Joined d u w
 
-  by_edge : (a b : ℕ) → EdgeOf d a b → Joined d a b
+  pub by_edge : (a b : ℕ) → EdgeOf d a b → Joined d a b
   by_edge a b (e, h, inl p) = (e, h, inl (sym (ap start p), sym (ap stop p)))
   by_edge a b (e, h, inr p) = (e, h, inr (sym (ap stop p), sym (ap start p)))
 

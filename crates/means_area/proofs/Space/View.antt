@@ -25,7 +25,6 @@ use Rattle.means_area.specs.Flats.{twice_area, Cross, height, WithinSegment, Dis
 use Rattle.means_area.specs.Space.{DifferentPoints, SimpleRing, Level}
 use Rattle.means_area.proofs.Flats.Signs.{up_is, nn_is, up_nn, up_add, zero_off, diff_up}
 use Rattle.means_area.proofs.Flats.Turns.{flat-first, flat-second}
-use Rattle.means_area.proofs.Flats.Around.{x_is}
 use Rattle.means_area.proofs.Flats.{area_not_zero}
 use Rattle.means_area.proofs.Space.Maps.{map_of, map_link, length-map, end_of}
 use Rattle.means_area.proofs.Space.Heights.{bound, bound_nn, bounded, steep}

@@ -13,8 +13,9 @@ use Rattle.lists.proofs.Truth.{and_left, and_right, and_both, or_left, or_right,
 use Rattle.lists.proofs.Passing.{some_yes, some_is}
 use Rattle.paper.specs.Drawing.{Wire, Edge, edge, at, edge_at, on_open, open_meets, vertex_on, edges_meet, same_place, edge_meets}
 use Rattle.means_drawing.specs.Drawings.{Finds, start, stop, low_end, high_end, Rising, Long, Meets, vertex, other}
-use Rattle.means_drawing.proofs.Searches.{finds}
-use Rattle.means_drawing.proofs.Drawings.Vertices.{same_place-none}
+use Rattle.means_drawing.specs.Rules.{Passes13}
+use Rattle.means_drawing.proofs.Searches.{finds, finds_none}
+use Rattle.means_drawing.proofs.Drawings.Vertices.{same_place_means}
 use Rattle.means_drawing.proofs.Segments.{on_open_means, open_meets_means}
 
 module _ (d : Wire) where
@@ -64,16 +65,20 @@ module _ (d : Wire) where
           (and_both (ap not (ne_eqb e f ne)) (edges_meet_is (edge_at d e) (edge_at d f)
           ∙ (open_meets_means (at d (low_end d e)) (at d (high_end d e)) (at d (low_end d f)) (at d (high_end d f)) long).1 t)))
 
-  pub edge_meets-search : Long d → Finds (Meets d) (length d.edges) (edge_meets d)
+  pub edge_meets_finds : Long d → Finds (Meets d) (length d.edges) (edge_meets d)
   unfolding edge_meets
-  edge_meets-search long = finds (λ e. on_vertex e || on_edge e) (Meets d) (length d.edges) (λ e h. meets e (long e h))
+  edge_meets_finds long = finds (λ e. on_vertex e || on_edge e) (Meets d) (length d.edges) (λ e h. meets e (long e h))
+
+  pub edge_meets_means : Long d → (edge_meets d ≡ none) ↔ Passes13 d
+  edge_meets_means long = finds_none (Meets d) (length d.edges) (edge_meets d) (edge_meets_finds long)
 
   -- ---- where 9 and 11 find nothing, the ends of every edge are at two points
 
-  pub rising_long : Rising d → same_place d ≡ none → Long d
-  rising_long r s e h q =
+  pub long_edges : Rising d → same_place d ≡ none → Long d
+  long_edges r s e h q =
       unlike (low_end d e) (high_end d e) (r e h).0
-      ((same_place-none d).0 s (low_end d e) (high_end d e) (below (low_end d e) (high_end d e) (length d.vertices) (r e h).0 (r e h).1) (r e h).1 q)
+      ((same_place_means d).0 s (low_end d e) (high_end d e)
+      (below (low_end d e) (high_end d e) (length d.vertices) (r e h).0 (r e h).1) (r e h).1 q)
     where
       below : (a b c : ℕ) → a < b → b < c → a < c
       below a b c h l = omega arith

@@ -20,6 +20,7 @@ use Rattle.lists.proofs.Places.{made_at, made_length}
 use Rattle.lists.proofs.Passing.{any_yes, any_is, some_yes, some_is}
 use Rattle.paper.specs.Drawing.{Wire, Edge, edge, edge_at, joins, joined, further, vertices_reached, apart}
 use Rattle.means_drawing.specs.Drawings.{Finds, start, stop, Vertex, Joined, Reachable, first, next}
+use Rattle.means_drawing.specs.Rules.{Passes14, RoundsReach}
 use Rattle.means_drawing.proofs.Searches.{finds, finds_none}
 
 -- ---- counts of rows
@@ -163,22 +164,22 @@ module _ (d : Wire) where
   abbrev marked : ℕ → Bool
   marked v = dig (row n) v
 
-  pub marked_means : (v : ℕ) → Vertex d v → (marked v ≡ true) ↔ Reachable d v
-  marked_means v h = (sound n v, complete (omega arith) v)
+  pub reached_means : RoundsReach d
+  reached_means v h = (sound n v, complete (omega arith) v)
 
-  pub apart-search : Finds (λ v. Reachable d v → ⊥) n (apart d)
+  pub apart_finds : Finds (λ v. Reachable d v → ⊥) n (apart d)
   unfolding apart
-  apart-search = finds (λ v. not (marked v)) (λ v. Reachable d v → ⊥) n (λ v h. (to_not v h, of_not v h))
+  apart_finds = finds (λ v. not (marked v)) (λ v. Reachable d v → ⊥) n (λ v h. (to_not v h, of_not v h))
     where
       to_not : (v : ℕ) → v < n → not (marked v) ≡ true → Reachable d v → ⊥
-      to_not v h e r = true≢false (sym ((marked_means v h).1 r) ∙ not-true (marked v) e)
+      to_not v h e r = true≢false (sym ((reached_means v h).1 r) ∙ not-true (marked v) e)
 
       of_not : (v : ℕ) → v < n → (Reachable d v → ⊥) → not (marked v) ≡ true
-      of_not v h f = ap not (never_true (marked v) (λ q. f ((marked_means v h).0 q)))
+      of_not v h f = ap not (never_true (marked v) (λ q. f ((reached_means v h).0 q)))
 
-  pub apart_none : (apart d ≡ none) ↔ ((v : ℕ) → Vertex d v → Reachable d v)
+  pub apart_means : (apart d ≡ none) ↔ Passes14 d
   unfolding apart
-  apart_none = (
-    (λ e v h. (marked_means v h).0 (not-false (marked v) (lowest-none (λ v. not (marked v)) n e v h))),
-    (λ f. (finds_none (λ v. Reachable d v → ⊥) n (apart d) apart-search).1 (λ v h r. r (f v h))),
+  apart_means = (
+    (λ e v h. (reached_means v h).0 (not-false (marked v) (lowest-none (λ v. not (marked v)) n e v h))),
+    (λ f. (finds_none (λ v. Reachable d v → ⊥) n (apart d) apart_finds).1 (λ v h r. r (f v h))),
   )

@@ -14,7 +14,8 @@ use Rattle.lists.proofs.Passing.{any_yes, any_is, some_yes, some_is}
 use Rattle.paper.specs.Points.{minus, same_point}
 use Rattle.paper.specs.Drawing.{Wire, Edge, edge, at, edge_at, ends, same_place, loose_vertex}
 use Rattle.paper_laws.proofs.Points.{origin_yes, origin_is, point_eq, point_diff}
-use Rattle.means_drawing.specs.Drawings.{Finds, start, stop, Vertex, HasEdge, EndOf, Doubled, Loose}
+use Rattle.means_drawing.specs.Drawings.{Finds, start, stop, HasEdge, EndOf, Doubled, Loose}
+use Rattle.means_drawing.specs.Rules.{Passes11, Passes12}
 use Rattle.means_drawing.proofs.Searches.{finds, finds_none}
 
 module _ (d : Wire) where
@@ -42,13 +43,13 @@ module _ (d : Wire) where
       of : Doubled d u → any (doubles u) (upto n) ≡ true
       of (w, l, ne, e) = some_is (doubles u) n w l (and_both (ap not (ne_eqb u w ne)) (origin_is (point_diff e)))
 
-  pub same_place-search : Finds (Doubled d) n (same_place d)
+  pub same_place_finds : Finds (Doubled d) n (same_place d)
   unfolding same_place
-  same_place-search = finds (λ u. any (doubles u) (upto n)) (Doubled d) n doubled
+  same_place_finds = finds (λ u. any (doubles u) (upto n)) (Doubled d) n doubled
 
-  pub same_place-none : (same_place d ≡ none) ↔ ((u w : ℕ) → Vertex d u → Vertex d w → at d u ≡ at d w → u ≡ w)
-  same_place-none =
-      let o = finds_none (Doubled d) n (same_place d) same_place-search in (
+  pub same_place_means : (same_place d ≡ none) ↔ Passes11 d
+  same_place_means =
+      let o = finds_none (Doubled d) n (same_place d) same_place_finds in (
         (λ e u w hu hw q. same u w (ℕ_discrete u w) (λ ne. o.0 e u hu (w, hw, ne, q))),
         (λ h. o.1 (λ u hu t. t.2 (h u t.0 hu t.1 t.3))),
       )
@@ -86,9 +87,9 @@ module _ (d : Wire) where
       to e i l q =
           true≢false (sym (any_is (ends v) (edge 0 0) d.edges i l (end_is v (edge_at d i) q)) ∙ not-true (any (ends v) d.edges) e)
 
-  pub loose_vertex-search : Finds (Loose d) n (loose_vertex d)
+  pub loose_vertex_finds : Finds (Loose d) n (loose_vertex d)
   unfolding loose_vertex
-  loose_vertex-search = finds (λ v. not (any (ends v) d.edges)) (Loose d) n loose
+  loose_vertex_finds = finds (λ v. not (any (ends v) d.edges)) (Loose d) n loose
 
   -- a vertex that is not loose is on an edge
   on_some : (v : ℕ) → (Loose d v → ⊥) → (e : ℕ) × HasEdge d e × EndOf d e v
@@ -99,7 +100,7 @@ module _ (d : Wire) where
       go true q = let r = any_yes (ends v) (edge 0 0) d.edges q in (r.0, r.1, end_yes v (edge_at d r.0) r.2)
       go false q = absurd (f (λ e h t. true≢false (sym (any_is (ends v) (edge 0 0) d.edges e h (end_is v (edge_at d e) t)) ∙ q)))
 
-  pub loose_vertex-none : (loose_vertex d ≡ none) ↔ ((v : ℕ) → Vertex d v → (e : ℕ) × HasEdge d e × EndOf d e v)
-  loose_vertex-none =
-      let o = finds_none (Loose d) n (loose_vertex d) loose_vertex-search in
+  pub loose_vertex_means : (loose_vertex d ≡ none) ↔ Passes12 d
+  loose_vertex_means =
+      let o = finds_none (Loose d) n (loose_vertex d) loose_vertex_finds in
       ((λ e v h. on_some v (o.0 e v h)), (λ f. o.1 (λ v h l. let t = f v h in l t.0 t.1 t.2)))

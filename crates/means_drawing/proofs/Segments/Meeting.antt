@@ -98,6 +98,7 @@ module _ (a b c d : Point) (ne : a ≡ b → ⊥) where
       let e = of_places a b c d y.here.scale y.here.place y.there.scale y.there.place y.is in
       and_both (zero_is (meet_flat pp qq rr y.here y.there e)) (meet_cuts pp qq rr y.here y.there e (origin_no i))
 
-  pub meets : (open_meets a b c d ≡ true) ↔ Common a b c d
+  -- the segment from a to b without its ends and the one from c to d with its ends have a common point exactly when `openMeets` says so
+  pub open_meets_means : (open_meets a b c d ≡ true) ↔ Common a b c d
   unfolding open_meets
-  meets = (meets_yes (is_origin (cross pp qq)) refl, meets_is (is_origin (cross pp qq)) refl)
+  open_meets_means = (meets_yes (is_origin (cross pp qq)) refl, meets_is (is_origin (cross pp qq)) refl)

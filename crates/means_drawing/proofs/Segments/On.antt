@@ -97,9 +97,10 @@ module _ (a b p : Point) where
       um : u <ℤ m
       um = lt_cancel u up (lt_subst square (vring (num m ∷ num u ∷ []) (x 0 *s x 1) (x 1 *s x 0) tt) (mul-lt m mp wu))
 
-pub on : (a b p : Point) → (a ≡ b → ⊥) → (on_open a b p ≡ true) ↔ Between a b p
+-- a point lies on the segment from a to b without its ends exactly when `onOpen` says so
+pub on_open_means : (a b p : Point) → (a ≡ b → ⊥) → (on_open a b p ≡ true) ↔ Between a b p
 unfolding on_open below
-on a b p n =
+on_open_means a b p n =
     let line = is_origin (cross (minus b a) (minus p a)) in
     let inner = below (dot (minus p a) (minus p b)) in (
       (λ e. between_of a b p (origin_yes (cross (minus b a) (minus p a)) (and_left line inner e)) (lt_yes (and_right line inner e))),

@@ -18,9 +18,7 @@ use Rattle.paper.specs.Loops.{Loop}
 use Rattle.paper.specs.FaceList.{list_bits, encode_faces, bits_of, face_fits, send_checks, sent_for, sent_room_for, sent_of, sent_room}
 use Rattle.paper.specs.declared.Format.{Format}
 use Rattle.paper.specs.declared.Answer.{Answer}
-use Rattle.paper.specs.declared.Answer.TheVariants as Answer
 use Rattle.paper.specs.declared.Written.{Written}
-use Rattle.paper.specs.declared.Written.TheVariants as Written
 use Rattle.faces_laws.proofs.Packed.{length_list}
 use Rattle.means_sheets.specs.FaceLists.{Sendable}
 use Rattle.means_sheets.proofs.Filled.{length-filled}

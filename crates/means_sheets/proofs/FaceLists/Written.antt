@@ -12,7 +12,7 @@ use Rattle.pack.specs.Fill.{padded}
 use Rattle.pack.proofs.Laws.{length_bits}
 use Rattle.pack.proofs.Trip.{field_in}
 use Rattle.paper.specs.Numbers.{most_faces, row_bytes}
-use Rattle.paper.specs.Format.{bytes_for, filled, fill_after}
+use Rattle.paper.specs.Format.{bytes_for, fill_after}
 use Rattle.paper.specs.FaceList.{face_bits, list_bits, encode_faces, faces_at, count_in, faces_in, bits_of, well_shaped, faces_of}
 use Rattle.paper.specs.Loops.{Loop, row}
 use Rattle.paper.specs.declared.Format.{Format}

@@ -13,7 +13,6 @@ use Rattle.paper.specs.Format.{coordinate_bits, head_bits, total, bytes_for, on_
 use Rattle.paper.specs.Sheet.{lent_checks, writer_checks, written_for, room_for, written_of, room_of}
 use Rattle.paper.specs.declared.Format.{Format}
 use Rattle.paper.specs.declared.Answer.{Answer}
-use Rattle.paper.specs.declared.Answer.TheVariants as Answer
 use Rattle.paper.specs.declared.Written.TheVariants as Written
 use Rattle.sheet_laws.proofs.Written.{result_fine}
 use Rattle.means_sheets.proofs.Filled.{length-filled}

@@ -1,0 +1,6 @@
+-- `report::room::write_report`: the two copies are the report.
+use Rattle.report.proofs.room.write_report.Goals as goal
+
+pub returns : goal.returns
+returns c =
+    record { faces_are = c.copy_bytes.ensures; solids_are = c.copy_words.ensures }

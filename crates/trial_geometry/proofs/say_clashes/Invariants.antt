@@ -1,0 +1,10 @@
+-- trial_geometry/proofs/say_clashes/Invariants.antt
+-- `trial_geometry::say_clashes`: the loop keeps that k is one of the n numbers or their end.
+use Rattle.std.proofs.Common.{◌-◌, ◌≤◌}
+use Rattle.trial_geometry.proofs.say_clashes.Given as goal
+
+abbrev pub invariant-loop-k : goal.invariant-loop-k
+invariant-loop-k l = l.k ≤ l.n
+
+abbrev pub decreases-loop-k : goal.decreases-loop-k
+decreases-loop-k l = l.n - l.k

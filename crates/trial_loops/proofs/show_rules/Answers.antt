@@ -1,0 +1,22 @@
+-- trial_loops/proofs/show_rules/Answers.antt
+-- `trial_loops::show_rules`: lists that pass 3 to 10 and then 11 to 14 have passed.
+use Rattle.drawing_lists.proofs.Range.{lent_range}
+use Rattle.drawing_links.proofs.Range.{few_ends}
+use Rattle.loop_known.proofs.Passed.{has-passed, rising_ends}
+use Rattle.trial_loops.proofs.show_rules.Goals as goal
+
+pub neighbours-near-requires : goal.neighbours-near-requires
+neighbours-near-requires c = few_ends (lent_range _ _ c.requires)
+
+pub drawing_rules-answer-requires : goal.drawing_rules-answer-requires
+drawing_rules-answer-requires c = record { range = lent_range _ _ c.requires; near_are = c.neighbours-near.ensures }
+
+pub number_edges-number-requires : goal.number_edges-number-requires
+number_edges-number-requires c = rising_ends (has-passed _ _ c.requires c.in-Fine.ensures)
+
+pub show_loops-requires : goal.show_loops-requires
+show_loops-requires c = record {
+  passed = has-passed _ _ c.requires c.in-Fine.ensures;
+  near_are = c.neighbours-near.ensures;
+  numbered = c.number_edges-number.ensures;
+}
