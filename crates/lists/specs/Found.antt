@@ -1,9 +1,8 @@
--- What the code's searches answer, as the definitions' searches do.
-use Rattle.std.specs.Prelude.{ℕ}
+-- What the code's searches answer, as the definitions' searches do: the lowest place, or none.
+use Rattle.std.specs.Prelude as Std
+use Rattle.std.specs.Prelude.{ℕ, Some, None}
 use Rattle.std.proofs.Math.Option.{Option, none, some}
-use Rattle.lists.specs.declared.Found.{Found}
-use Rattle.lists.specs.declared.Found.TheVariants.{Nothing, Value}
 
-abbrev pub found : Found → Option ℕ
-found Nothing = none
-found (Value i) = some i
+abbrev pub found : Std.Option ℕ → Option ℕ
+found None = none
+found (Some i) = some i

@@ -1,9 +1,9 @@
 -- Document 01, "What comes back": the answers of conversion, 1 to 19, with both rooms at exit.
-use Rattle.std.specs.Prelude.{Bool, true, false, cond, ℕ, ◌*◌, ltb, eqb, ℤ, length, drop}
+use Rattle.std.specs.Prelude.{Bool, true, false, cond, ℕ, ◌*◌, ltb, eqb, ℤ, length, drop, Ok, Err}
 use mathlib.Core.List.{List, [], ◌∷◌, ◌++◌, map, flat_map}
 use Rattle.paper.specs.Numbers.{Limits, documented, most_work, row_bytes, solid_words, face_room, solid_room}
-use Rattle.paper.specs.Refusals as No
-use Rattle.paper.specs.Refusals.{Check, check, first_of, offends}
+use Rattle.paper.specs.declared.Number.TheVariants as No
+use Rattle.paper.specs.Refusals.{value_of, Check, check, first_of, offends, Answer}
 use Rattle.paper.specs.Format.{edition_of, coordinates_in, ends_in}
 use Rattle.paper.specs.Sheet.{sheet_checks, lent_checks}
 use Rattle.paper.specs.Record.{entry}
@@ -11,7 +11,6 @@ use Rattle.paper.specs.Drawing.{Wire, wire, drawing_checks}
 use Rattle.paper.specs.Loops.{Loop, row, loops, uncovering, loop_checks}
 use Rattle.paper.specs.Solids.{Tables, tables_of, Judgement, Fails, Solid, judged}
 use Rattle.paper.specs.Walk.{Status, is_taken, Log, search}
-use Rattle.paper.specs.declared.Answer.{Answer}
 use Rattle.paper.specs.declared.Conversion.{Conversion}
 
 -- what conversion says and what it leaves in the two rooms
@@ -75,9 +74,9 @@ reported l cs t work (st ∷ (st' ∷ found)) faces solids =
 -- 18 and 19 go by how the walk ended
 unfoldable pub concluded : ℕ → List Loop → Tables → Log → List ℕ → List ℕ → Converted
 concluded l cs t log faces solids =
-    cond (eqb log.ended No.Many)
+    cond (eqb log.ended (value_of No.Many))
     (record { answer = Conversion.Many l (length cs) log.work; faces = faces; solids = solids })
-    (cond (eqb log.ended No.TooLong)
+    (cond (eqb log.ended (value_of No.TooLong))
     (record { answer = Conversion.TooLong l (length cs) log.work; faces = faces; solids = solids })
     (reported l cs t log.work log.found faces solids))
 
@@ -93,8 +92,8 @@ entry_checks limit faces solids =
 
 -- "Every line below leaves all buffers unchanged"
 abbrev pub or_convert : Answer → List ℕ → List ℕ → Converted → Converted
-or_convert Answer.Fine faces solids c = c
-or_convert (Answer.Refused r) faces solids c = record { answer = Conversion.Refused r; faces = faces; solids = solids }
+or_convert (Ok _) faces solids c = c
+or_convert (Err r) faces solids c = record { answer = Conversion.Refused r; faces = faces; solids = solids }
 
 -- of a drawing whose own form is checked by `form`: 3 to 10
 unfoldable pub conversion : Limits → List Check → Wire → ℕ → List ℕ → List ℕ → Converted

@@ -7,6 +7,7 @@ use Rattle.paper.specs.Numbers.{most_work, solid_words, face_room, solid_room}
 use Rattle.paper.specs.Format.{edition_of, vertices_in, edges_in}
 use Rattle.paper.specs.Record.{taken_in, turned_in, six_in}
 use Rattle.paper.specs.Conversion.{convert_sheet}
+use Rattle.paper.specs.Refusals.{value_of}
 use Rattle.paper.specs.declared.Conversion.{Conversion}
 
 -- the bytes of a text; a number in as many decimal digits as it needs, of which a word has at most 20
@@ -55,7 +56,7 @@ answer_text v e (Conversion.Several l c w n) ws = head_text v e l c w ++ text "s
 answer_text v e (Conversion.NoSolid l c w) ws = head_text v e l c w ++ text "no solid\n"
 answer_text v e (Conversion.Many l c w) ws = head_text v e l c w ++ text "many\n"
 answer_text v e (Conversion.TooLong l c w) ws = head_text v e l c w ++ text "too long\n"
-answer_text v e (Conversion.Refused r) ws = text "refused " ++ decimal r.number ++ text " " ++ decimal r.place ++ text "\n"
+answer_text v e (Conversion.Refused r) ws = text "refused " ++ decimal (value_of r.number) ++ text " " ++ decimal r.place ++ text "\n"
 
 -- the vertices and edges are those of the sheet
 unfoldable pub desk_text : List ℕ → List ℕ

@@ -5,19 +5,33 @@ use Rattle.pack.specs.Bits.{bits, val, run, cut, field_at}
 use Rattle.pack.specs.Fill.{padded}
 use Rattle.lists.specs.Lists.{all, filter, upto}
 use Rattle.paper.specs.Numbers.{least_faces, most_faces, least_corners, most_corners, most_candidates, row_bytes}
-use Rattle.paper.specs.Refusals as No
-use Rattle.paper.specs.Refusals.{Check, check, refuse, first_of, offends}
+use Rattle.paper.specs.declared.Number.TheVariants as No
+use Rattle.paper.specs.Refusals.{Check, check, refuse, first_of, offends, Answer, Fine, Written}
 use Rattle.paper.specs.Format.{edition_one, edition_bits, corner_bits, outside, bytes_for, filled, fill_after}
 use Rattle.paper.specs.Record.{taken_in, turned_in}
 use Rattle.paper.specs.Loops.{Loop, flipped, row}
 use Rattle.paper.specs.declared.Format.{Format}
-use Rattle.paper.specs.declared.Answer.{Answer}
-use Rattle.paper.specs.declared.Written.{Written}
-use Rattle.paper.specs.declared.Faces.{Faces}
+use Rattle.std.specs.Prelude.{Result, Ok, Err}
+use Rattle.paper.specs.declared.Refusal.{Refusal}
+use Rattle.paper.specs.declared.FaceRows.{FaceRows}
+
+-- what reading a face list gives
+pub record Faces : Type 0 where
+  pub answer : Answer
+  pub count : ℕ
+  pub rows : List ℕ
 
 -- no faces by value, where the list is refused
+abbrev pub none_for : Answer → Faces
+none_for a = record { answer = a; count = 0; rows = padded [] (row_bytes * most_faces) 0 }
+
 abbrev pub no_faces : Faces
-no_faces = record { answer = refuse No.ShellShape 0; count = 0; rows = padded [] (row_bytes * most_faces) 0 }
+no_faces = none_for (refuse No.ShellShape 0)
+
+-- the same of the code's answer
+abbrev pub faces_as : Result FaceRows Refusal → Faces
+faces_as (Ok f) = record { answer = Fine; count = f.count; rows = f.rows }
+faces_as (Err r) = none_for (Err r)
 
 module _ (f : Format) where
   -- "edition (4 bits, 1), face count (6 bits, 4 to 42), then per face the corner count (4 bits, 3 to 12) and corners (5 bits each)"
@@ -71,7 +85,7 @@ module _ (f : Format) where
   faces_of v s =
       cond (well_shaped v s)
       (record {
-        answer = Answer.Fine;
+        answer = Fine;
         count = count_in s;
         rows = padded (flat_map row (faces_in s)) (row_bytes * most_faces) 0;
       })
@@ -107,12 +121,12 @@ module _ (f : Format) (fs : List Loop) where
 
   -- the answer, and what the room holds then
   abbrev pub sent_for : Answer → Written
-  sent_for Answer.Fine = Written.Bytes (bytes_for (bits_of f fs))
-  sent_for (Answer.Refused r) = Written.Refused r
+  sent_for (Ok _) = Ok (bytes_for (bits_of f fs))
+  sent_for (Err r) = Err r
 
   abbrev pub sent_room_for : Answer → List ℕ → List ℕ
-  sent_room_for Answer.Fine room = encode_faces f fs ++ drop (bytes_for (bits_of f fs)) room
-  sent_room_for (Answer.Refused r) room = room
+  sent_room_for (Ok _) room = encode_faces f fs ++ drop (bytes_for (bits_of f fs)) room
+  sent_room_for (Err r) room = room
 
   unfoldable pub sent_of : List ℕ → Written
   sent_of room = sent_for (first_of (send_checks (length room)))

@@ -8,10 +8,10 @@ use Rattle.pack.specs.Fill.{padded}
 use Rattle.sets.specs.Word.{word, digits, count, both, either, less, only, first}
 use Rattle.lists.specs.Lists.{any, all, filter, sides, any_true, upto, lowest, member, same_list}
 use Rattle.paper.specs.Numbers.{Limits, most_solids, most_work, face_room, solid_room}
-use Rattle.paper.specs.Refusals.{first_of}
+use Rattle.paper.specs.Refusals.{first_of, Answer, Reading, Verdict, Written}
 use Rattle.paper.specs.Format.{edition_of, edition_for, lent_edition, filled, fill_after, encode}
 use Rattle.paper.specs.Sheet.{far_at, wrong_at, low_at, edge_checks, content_checks, open_checks, count_checks, close_checks, shape_checks}
-use Rattle.paper.specs.Sheet.{sheet_checks, lent_checks, sheet_of, read_sheet, writer_checks, written_of, room_of}
+use Rattle.paper.specs.Sheet.{Sheet, sheet_checks, lent_checks, sheet_of, read_sheet, writer_checks, written_of, room_of}
 use Rattle.paper.specs.Record.{set_of, digits_at, entry}
 use Rattle.paper.specs.Points.{above}
 use Rattle.paper.specs.Polygon.{covers}
@@ -33,12 +33,7 @@ use Rattle.paper.specs.Verdict.{verdict_sheet}
 use Rattle.paper.specs.Reading.{reading_of}
 use Rattle.paper.specs.Desk.{text, decimal_in, decimal, signed, faces_text, solid_text, solids_text, head_text, answer_text, desk_text}
 use Rattle.paper.specs.declared.Format.{Format}
-use Rattle.paper.specs.declared.Answer.{Answer}
-use Rattle.paper.specs.declared.Written.{Written}
-use Rattle.paper.specs.declared.Sheet.{Sheet}
 use Rattle.paper.specs.declared.Conversion.{Conversion}
-use Rattle.paper.specs.declared.Verdict.{Verdict}
-use Rattle.paper.specs.declared.Reading.{Reading}
 
 -- a drawing as two lists
 pub record Drawn : Type 0 where

@@ -1,21 +1,17 @@
 -- Document 01, the numbers and values of each answer, and "The reading of a conversion's answer".
-use Rattle.std.specs.Prelude.{not, List, [], ◌∷◌, ℕ, ◌/◌, ℤ, pos, length, Float}
+use Rattle.std.specs.Prelude.{not, List, [], ◌∷◌, ℕ, ◌/◌, ℤ, pos, length, Float, Ok, Err}
 use Rattle.std.proofs.Math.Option.{Option, none, some}
 use Rattle.std.specs.Float.{binary64}
 use Rattle.std.specs.Float.Ieee.{div, of_int}
-use Rattle.paper.specs.Refusals as No
-use Rattle.paper.specs.Refusals.{Check, check, offends}
+use Rattle.paper.specs.declared.Number.TheVariants as No
+use Rattle.paper.specs.Refusals.{value_of, Check, check, offends, Answer, Reading, Verdict, Written}
 use Rattle.paper.specs.Format.{total, bytes_for}
 use Rattle.paper.specs.Sheet.{sheet_checks, writer_checks}
 use Rattle.paper.specs.Loops.{Loop}
 use Rattle.paper.specs.FaceList.{bits_of, well_shaped, send_checks}
 use Rattle.paper.specs.declared.Format.{Format}
 use Rattle.paper.specs.declared.Refusal.{Refusal}
-use Rattle.paper.specs.declared.Answer.{Answer}
-use Rattle.paper.specs.declared.Written.{Written}
 use Rattle.paper.specs.declared.Conversion.{Conversion}
-use Rattle.paper.specs.declared.Verdict.{Verdict}
-use Rattle.paper.specs.declared.Reading.{Reading}
 
 -- ---- "a definition gives this paper's number and values for each of its cases": the number of the table, 0 where nothing is refused;
 -- its place; and what else comes back
@@ -26,7 +22,7 @@ pub record Said : Type 0 where
   pub values : List ℕ
 
 abbrev pub refused : Refusal → Said
-refused r = record { number = r.number; place = r.place; values = [] }
+refused r = record { number = value_of r.number; place = r.place; values = [] }
 
 abbrev pub fine : List ℕ → Said
 fine vs = record { number = 0; place = 0; values = vs }
@@ -35,31 +31,31 @@ fine vs = record { number = 0; place = 0; values = vs }
 unfoldable pub first_said : List Check → List ℕ → Said
 first_said [] vs = fine vs
 first_said (check n none ∷ cs) vs = first_said cs vs
-first_said (check n (some p) ∷ cs) vs = record { number = n; place = p; values = [] }
+first_said (check n (some p) ∷ cs) vs = record { number = value_of n; place = p; values = [] }
 
 -- a sheet, a lent drawing or a face list that is read
 abbrev pub answer_says : Answer → Said
-answer_says Answer.Fine = fine []
-answer_says (Answer.Refused r) = refused r
+answer_says (Ok _) = fine []
+answer_says (Err r) = refused r
 
 -- the length of what was written
 abbrev pub written_says : Written → Said
-written_says (Written.Bytes n) = fine (n ∷ [])
-written_says (Written.Refused r) = refused r
+written_says (Ok n) = fine (n ∷ [])
+written_says (Err r) = refused r
 
 -- "A report, and each of 17 to 19, also returns the loop and candidate counts": then the work, the number of solids, and six volumes
 -- where there is one. The place of 17 to 19 is the work.
 abbrev pub conversion_says : Conversion → Said
 conversion_says (Conversion.One l c w six) = fine (l ∷ c ∷ w ∷ 1 ∷ six ∷ [])
 conversion_says (Conversion.Several l c w n) = fine (l ∷ c ∷ w ∷ n ∷ [])
-conversion_says (Conversion.NoSolid l c w) = record { number = No.NoSolid; place = w; values = l ∷ c ∷ [] }
-conversion_says (Conversion.Many l c w) = record { number = No.Many; place = w; values = l ∷ c ∷ [] }
-conversion_says (Conversion.TooLong l c w) = record { number = No.TooLong; place = w; values = l ∷ c ∷ [] }
+conversion_says (Conversion.NoSolid l c w) = record { number = value_of No.NoSolid; place = w; values = l ∷ c ∷ [] }
+conversion_says (Conversion.Many l c w) = record { number = value_of No.Many; place = w; values = l ∷ c ∷ [] }
+conversion_says (Conversion.TooLong l c w) = record { number = value_of No.TooLong; place = w; values = l ∷ c ∷ [] }
 conversion_says (Conversion.Refused r) = refused r
 
 abbrev pub verdict_says : Verdict → Said
-verdict_says Verdict.Accepted = fine []
-verdict_says (Verdict.Refused r) = refused r
+verdict_says (Ok _) = fine []
+verdict_says (Err r) = refused r
 
 -- ---- what is said of a sheet and of a face list that are read, and of those that are written
 
@@ -89,14 +85,14 @@ pub record Shown : Type 0 where
   pub shown : Option Float
 
 abbrev pub reading_says : Reading → Shown
-reading_says (Reading.Volume v) = record { number = 0; shown = some v }
-reading_says (Reading.NotAssessed n) = record { number = n; shown = none }
+reading_says (Ok v) = record { number = 0; shown = some v }
+reading_says (Err n) = record { number = value_of n; shown = none }
 
 unfoldable pub reading_of : Conversion → Reading
 unfolding volume
-reading_of (Conversion.One l c w six) = Reading.Volume (volume six)
-reading_of (Conversion.Several l c w n) = Reading.NotAssessed No.Ambiguous
-reading_of (Conversion.NoSolid l c w) = Reading.NotAssessed No.NoSolid
-reading_of (Conversion.Many l c w) = Reading.NotAssessed No.Many
-reading_of (Conversion.TooLong l c w) = Reading.NotAssessed No.TooLong
-reading_of (Conversion.Refused r) = Reading.NotAssessed r.number
+reading_of (Conversion.One l c w six) = Ok (volume six)
+reading_of (Conversion.Several l c w n) = Err No.Ambiguous
+reading_of (Conversion.NoSolid l c w) = Err No.NoSolid
+reading_of (Conversion.Many l c w) = Err No.Many
+reading_of (Conversion.TooLong l c w) = Err No.TooLong
+reading_of (Conversion.Refused r) = Err r.number

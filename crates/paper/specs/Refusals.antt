@@ -1,16 +1,71 @@
 -- Document 01, "What comes back": the numbers of the table by its names, and the rule that the first check that applies is the
 -- answer.
-use Rattle.std.specs.Prelude.{ℕ, Bool, cond, List, [], ◌∷◌}
+use Rattle.std.specs.Prelude.{ℕ, Bool, cond, List, [], ◌∷◌, Result, Ok, Err, Float}
 use Rattle.std.proofs.Math.Option.{Option, none, some}
-use Rattle.paper.specs.declared.Answer.{Answer}
-use Rattle.paper.specs.declared.Answer.TheVariants.{Fine, Refused}
+use Rattle.paper.specs.declared.Number.{Number}
+use Rattle.paper.specs.declared.Refusal.{Refusal}
+use Rattle.paper.specs.declared.Number.TheVariants.{NoRoom, BadLimit, SheetShort, SheetEdition, BadCount, SheetLength, SheetPad, BadCoordinate, BadEdge, EdgeOrder}
+use Rattle.paper.specs.declared.Number.TheVariants.{SamePlace, LooseVertex, EdgeMeets, Apart, ManyLoops, ManyCandidates, NoSolid, Many, TooLong, ShellShape}
+use Rattle.paper.specs.declared.Number.TheVariants.{NotCandidate, FaceTwice, EdgeCount, Direction, Pieces, Inward, Clash, Ambiguous}
+
+-- the table; "or 30 where two to eight solids exist"
+abbrev pub value_of : Number → ℕ
+value_of NoRoom = 1
+value_of BadLimit = 2
+value_of SheetShort = 3
+value_of SheetEdition = 4
+value_of BadCount = 5
+value_of SheetLength = 6
+value_of SheetPad = 7
+value_of BadCoordinate = 8
+value_of BadEdge = 9
+value_of EdgeOrder = 10
+value_of SamePlace = 11
+value_of LooseVertex = 12
+value_of EdgeMeets = 13
+value_of Apart = 14
+value_of ManyLoops = 15
+value_of ManyCandidates = 16
+value_of NoSolid = 17
+value_of Many = 18
+value_of TooLong = 19
+value_of ShellShape = 20
+value_of NotCandidate = 21
+value_of FaceTwice = 22
+value_of EdgeCount = 23
+value_of Direction = 24
+value_of Pieces = 25
+value_of Inward = 26
+value_of Clash = 27
+value_of Ambiguous = 30
+
+-- nothing is refused, or a refusal: of what is read, and of the face-list check
+abbrev pub Answer : Type 0
+Answer = Result (Unit {0}) Refusal
+
+abbrev pub Fine : Answer
+Fine = Ok tt
+
+abbrev pub Verdict : Type 0
+Verdict = Result (Unit {0}) Refusal
+
+abbrev pub ListAccepted : Verdict
+ListAccepted = Ok tt
+
+-- the length of what was written, or a refusal
+abbrev pub Written : Type 0
+Written = Result ℕ Refusal
+
+-- a volume in cubic metres, or the number that says why nothing was assessed
+abbrev pub Reading : Type 0
+Reading = Result Float Number
 
 -- "Checks run in number order": a check is a number of the table and "the lowest" place that offends, if one does
 pub data Check : Type 0 where
-  check : (number : ℕ) → (place : Option ℕ) → Check
+  check : (number : Number) → (place : Option ℕ) → Check
 
-abbrev pub refuse : ℕ → ℕ → Answer
-refuse n p = Refused (record { number = n; place = p })
+abbrev pub refuse : Number → ℕ → Answer
+refuse n p = Err (record { number = n; place = p })
 
 -- "the first that applies is the answer"
 unfoldable pub first_of : List Check → Answer
@@ -21,89 +76,3 @@ first_of (check n (some p) ∷ cs) = refuse n p
 -- a check of one place
 abbrev pub offends : Bool → ℕ → Option ℕ
 offends b p = cond b (some p) none
-
--- the table
-abbrev pub NoRoom : ℕ
-NoRoom = 1
-
-abbrev pub BadLimit : ℕ
-BadLimit = 2
-
-abbrev pub SheetShort : ℕ
-SheetShort = 3
-
-abbrev pub SheetEdition : ℕ
-SheetEdition = 4
-
-abbrev pub BadCount : ℕ
-BadCount = 5
-
-abbrev pub SheetLength : ℕ
-SheetLength = 6
-
-abbrev pub SheetPad : ℕ
-SheetPad = 7
-
-abbrev pub BadCoordinate : ℕ
-BadCoordinate = 8
-
-abbrev pub BadEdge : ℕ
-BadEdge = 9
-
-abbrev pub EdgeOrder : ℕ
-EdgeOrder = 10
-
-abbrev pub SamePlace : ℕ
-SamePlace = 11
-
-abbrev pub LooseVertex : ℕ
-LooseVertex = 12
-
-abbrev pub EdgeMeets : ℕ
-EdgeMeets = 13
-
-abbrev pub Apart : ℕ
-Apart = 14
-
-abbrev pub ManyLoops : ℕ
-ManyLoops = 15
-
-abbrev pub ManyCandidates : ℕ
-ManyCandidates = 16
-
-abbrev pub NoSolid : ℕ
-NoSolid = 17
-
-abbrev pub Many : ℕ
-Many = 18
-
-abbrev pub TooLong : ℕ
-TooLong = 19
-
-abbrev pub ShellShape : ℕ
-ShellShape = 20
-
-abbrev pub NotCandidate : ℕ
-NotCandidate = 21
-
-abbrev pub FaceTwice : ℕ
-FaceTwice = 22
-
-abbrev pub EdgeCount : ℕ
-EdgeCount = 23
-
-abbrev pub Direction : ℕ
-Direction = 24
-
-abbrev pub Pieces : ℕ
-Pieces = 25
-
-abbrev pub Inward : ℕ
-Inward = 26
-
-abbrev pub Clash : ℕ
-Clash = 27
-
--- "or 30 where two to eight solids exist"
-abbrev pub Ambiguous : ℕ
-Ambiguous = 30

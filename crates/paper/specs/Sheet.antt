@@ -5,15 +5,14 @@ use Rattle.pack.specs.Bits.{field_at}
 use Rattle.pack.specs.Fill.{padded}
 use Rattle.lists.specs.Lists.{lowest}
 use Rattle.paper.specs.Numbers.{least_vertices, most_vertices, least_edges, most_edges, farthest}
-use Rattle.paper.specs.Refusals as No
-use Rattle.paper.specs.Refusals.{Check, check, first_of, offends}
+use Rattle.paper.specs.declared.Number.TheVariants as No
+use Rattle.paper.specs.Refusals.{Check, check, first_of, offends, Answer, Fine, Written}
 use Rattle.paper.specs.Format.{edition_of, edition_bits, outside, total, bytes_for, fill_after, vertices_in}
 use Rattle.paper.specs.Format.{edges_in, coordinates_in, ends_in, encode}
 use Rattle.paper.specs.declared.Format.{Format}
-use Rattle.paper.specs.declared.Answer.{Answer}
+use Rattle.std.specs.Prelude.{Result, Ok, Err}
+use Rattle.paper.specs.declared.Refusal.{Refusal}
 use Rattle.paper.specs.declared.Drawing.{Drawing}
-use Rattle.paper.specs.declared.Sheet.{Sheet}
-use Rattle.paper.specs.declared.Written.{Written}
 
 -- ---- 8, 9 and 10, of a drawing with v vertices as two lists: "3 per vertex, 2 per edge"
 
@@ -92,8 +91,17 @@ abbrev pub blank : Drawing
 blank = held 0 0 [] []
 
 abbrev pub drawn_for : Answer → Drawing → Drawing
-drawn_for Answer.Fine d = d
-drawn_for (Answer.Refused r) d = blank
+drawn_for (Ok _) d = d
+drawn_for (Err r) d = blank
+
+-- what reading a sheet gives; and the same of the code's answer
+pub record Sheet : Type 0 where
+  pub answer : Answer
+  pub drawing : Drawing
+
+abbrev pub sheet_as : Result Drawing Refusal → Sheet
+sheet_as (Ok d) = record { answer = Fine; drawing = d }
+sheet_as (Err r) = record { answer = Err r; drawing = blank }
 
 -- the whole result
 unfoldable pub sheet_of : Format → List ℕ → Sheet
@@ -126,12 +134,12 @@ module _ (f : Format) (xyz : List ℤ) (ends : List ℕ) where
 
   -- the answer, and what the room holds then: "Later room keeps its contents, after a written sheet too"
   abbrev pub written_for : Answer → Written
-  written_for Answer.Fine = Written.Bytes (bytes_for (total f (length xyz / 3) (length ends / 2)))
-  written_for (Answer.Refused r) = Written.Refused r
+  written_for (Ok _) = Ok (bytes_for (total f (length xyz / 3) (length ends / 2)))
+  written_for (Err r) = Err r
 
   abbrev pub room_for : Answer → List ℕ → List ℕ
-  room_for Answer.Fine room = encode f xyz ends ++ drop (bytes_for (total f (length xyz / 3) (length ends / 2))) room
-  room_for (Answer.Refused r) room = room
+  room_for (Ok _) room = encode f xyz ends ++ drop (bytes_for (total f (length xyz / 3) (length ends / 2))) room
+  room_for (Err r) room = room
 
   unfoldable pub written_of : List ℕ → Written
   written_of room = written_for (first_of (writer_checks (length room)))

@@ -4,8 +4,8 @@ use Rattle.std.proofs.Math.Option.{Option}
 use Rattle.sets.specs.Word.{count, both, first}
 use Rattle.lists.specs.Lists.{filter, upto, lowest, member, same_list}
 use Rattle.paper.specs.Numbers.{documented}
-use Rattle.paper.specs.Refusals as No
-use Rattle.paper.specs.Refusals.{Check, check, first_of, offends}
+use Rattle.paper.specs.declared.Number.TheVariants as No
+use Rattle.paper.specs.Refusals.{Check, check, first_of, offends, ListAccepted, Answer, Verdict}
 use Rattle.paper.specs.Format.{edition_of, edition_for, coordinates_in, ends_in}
 use Rattle.paper.specs.Sheet.{sheet_checks, lent_checks}
 use Rattle.paper.specs.Points.{above}
@@ -14,8 +14,7 @@ use Rattle.paper.specs.Loops.{Loop, flipped, loops, uncovering, loop_checks}
 use Rattle.paper.specs.Solids.{Tables, tables_of, in_two, faces_from, once_each_way, six_from}
 use Rattle.paper.specs.FaceList.{faces_in, well_shaped}
 use Rattle.paper.specs.declared.Format.{Format}
-use Rattle.paper.specs.declared.Answer.{Answer}
-use Rattle.paper.specs.declared.Verdict.{Verdict}
+use Rattle.std.specs.Prelude.{Ok, Err}
 
 -- ---- the candidate that a face is, "in any direction or start": "start at the lowest vertex, then go to the lower of its two
 -- neighbours"
@@ -109,8 +108,8 @@ face_checks t n l =
 
 -- an accepted list has no number in the table
 abbrev pub verdict_for : Answer → Verdict
-verdict_for Answer.Fine = Verdict.Accepted
-verdict_for (Answer.Refused r) = Verdict.Refused r
+verdict_for (Ok _) = ListAccepted
+verdict_for (Err r) = Err r
 
 -- a face list has the edition of its drawing
 abbrev pub list_edition : Wire → Format

@@ -1,6 +1,9 @@
 // Document 01's numbers and types: what every crate of the project hands to the next. The definitions are in specs/.
 #![tactic(auto)]
 
+ghost use Rattle.std.specs.Prelude.{◌≡◌};
+ghost use Rattle.paper.specs.Refusals.{value_of};
+
 // "Numbers": what a drawing may have and what is held at once.
 pub const LEAST_VERTICES: usize = 4;
 
@@ -84,75 +87,52 @@ pub const FILL: u8 = 255;
 // The loop table's room: 13 bytes for each loop.
 pub const LOOP_ROOM: usize = ROW * MOST_LOOPS;
 
-// "What comes back": the numbers of the refusals, by the table's names.
-pub const NO_ROOM: u8 = 1;
-
-pub const BAD_LIMIT: u8 = 2;
-
-pub const SHEET_SHORT: u8 = 3;
-
-pub const SHEET_EDITION: u8 = 4;
-
-pub const BAD_COUNT: u8 = 5;
-
-pub const SHEET_LENGTH: u8 = 6;
-
-pub const SHEET_PAD: u8 = 7;
-
-pub const BAD_COORDINATE: u8 = 8;
-
-pub const BAD_EDGE: u8 = 9;
-
-pub const EDGE_ORDER: u8 = 10;
-
-pub const SAME_PLACE: u8 = 11;
-
-pub const LOOSE_VERTEX: u8 = 12;
-
-pub const EDGE_MEETS: u8 = 13;
-
-pub const APART: u8 = 14;
-
-pub const MANY_LOOPS: u8 = 15;
-
-pub const MANY_CANDIDATES: u8 = 16;
-
-pub const NO_SOLID: u8 = 17;
-
-pub const MANY: u8 = 18;
-
-pub const TOO_LONG: u8 = 19;
-
-pub const SHELL_SHAPE: u8 = 20;
-
-pub const NOT_CANDIDATE: u8 = 21;
-
-pub const FACE_TWICE: u8 = 22;
-
-pub const EDGE_COUNT: u8 = 23;
-
-pub const DIRECTION: u8 = 24;
-
-pub const PIECES: u8 = 25;
-
-pub const INWARD: u8 = 26;
-
-pub const CLASH: u8 = 27;
-// Of the reading: two to eight solids exist.
-pub const AMBIGUOUS: u8 = 30;
-
-// A number of the table and its place.
-#[derive(Clone, Copy)]
-pub struct Refusal {
-    pub number: u8,
-    pub place: usize,
+// "What comes back": the table's numbers by their names; and 30 of the reading, where two to eight solids exist.
+#[derive(Clone, Copy, PartialEq, Eq)]
+pub enum Number {
+    NoRoom = 1,
+    BadLimit = 2,
+    SheetShort = 3,
+    SheetEdition = 4,
+    BadCount = 5,
+    SheetLength = 6,
+    SheetPad = 7,
+    BadCoordinate = 8,
+    BadEdge = 9,
+    EdgeOrder = 10,
+    SamePlace = 11,
+    LooseVertex = 12,
+    EdgeMeets = 13,
+    Apart = 14,
+    ManyLoops = 15,
+    ManyCandidates = 16,
+    NoSolid = 17,
+    Many = 18,
+    TooLong = 19,
+    ShellShape = 20,
+    NotCandidate = 21,
+    FaceTwice = 22,
+    EdgeCount = 23,
+    Direction = 24,
+    Pieces = 25,
+    Inward = 26,
+    Clash = 27,
+    Ambiguous = 30,
 }
 
-// What a list of checks says: all are passed, or the first refusal that applies.
+impl From<Number> for u64 {
+    ghost from_gives = { λ number value. value ≡ value_of number };
+
+    fn from(number: Number) -> u64 {
+        number as u64
+    }
+}
+
+// A refusal: a number of the table and its place.
 #[derive(Clone, Copy)]
-pub enum Answer {
-    Fine,
-    Refused(Refusal),
+pub struct Refusal {
+    pub number: Number,
+    pub place: usize,
 }
 
 // An edition's layout of sheets and face lists: its number; the widths of the vertex count, the edge count, a vertex
@@ -178,24 +158,9 @@ pub struct Drawing {
     pub ends: [u8; ENDS],
 }
 
-// What reading a sheet gives: the drawing is blank where the sheet is refused.
+// The faces of a list by value: a row of 13 bytes for each face, and 0 in unused entries.
 #[derive(Clone, Copy)]
-pub struct Sheet {
-    pub answer: Answer,
-    pub drawing: Drawing,
-}
-
-// What writing gives: the length of what was written, or a refusal.
-#[derive(Clone, Copy)]
-pub enum Written {
-    Bytes(usize),
-    Refused(Refusal),
-}
-
-// What reading a face list gives: a row of 13 bytes for each face, and 0 in unused entries.
-#[derive(Clone, Copy)]
-pub struct Faces {
-    pub answer: Answer,
+pub struct FaceRows {
     pub count: usize,
     pub rows: [u8; ROWS],
 }
@@ -262,18 +227,4 @@ pub enum Conversion {
         work: u64,
     },
     Refused(Refusal),
-}
-
-// The answer of the face-list check.
-#[derive(Clone, Copy)]
-pub enum Verdict {
-    Accepted,
-    Refused(Refusal),
-}
-
-// The reading of a conversion's answer: a volume in cubic metres, or the number that says why there is none.
-#[derive(Clone, Copy)]
-pub enum Reading {
-    Volume(f64),
-    NotAssessed(u8),
 }

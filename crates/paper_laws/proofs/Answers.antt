@@ -7,15 +7,14 @@ use Prim.Native.Nat.{ℕ, ◌<◌}
 use native.Mathlib.Omega.{arith}
 use lib.Dec.{eqb}
 use lib.Ieee.{Float}
-use Rattle.paper.specs.Refusals as No
-use Rattle.paper.specs.Refusals.{Check, check, first_of}
+use Rattle.paper.specs.declared.Number.TheVariants as No
+use Rattle.paper.specs.Refusals.{value_of, Check, check, first_of, Answer, Fine, Reading, Verdict, Written}
 use Rattle.paper.specs.Reading.{Said, Shown, first_said, answer_says, written_says, conversion_says, verdict_says, reading_says}
+use Rattle.paper.specs.declared.Number.{Number}
 use Rattle.paper.specs.declared.Refusal.{Refusal}
-use Rattle.paper.specs.declared.Answer.{Answer}
-use Rattle.paper.specs.declared.Written.{Written}
+use Rattle.paper_laws.proofs.Values.{number_of, number-back, value_told}
+use Rattle.std.specs.Prelude.{Ok, Err}
 use Rattle.paper.specs.declared.Conversion.{Conversion}
-use Rattle.paper.specs.declared.Verdict.{Verdict}
-use Rattle.paper.specs.declared.Reading.{Reading}
 
 -- ---- the first check, as it is said
 
@@ -26,8 +25,8 @@ answer-said (check n none ∷ cs) = answer-said cs
 answer-said (check n (some p) ∷ cs) = refl
 
 -- a writer: `to` is what it says for each answer of its checks
-pub written-said : (to : Answer → Written) (size : ℕ) → to Answer.Fine ≡ Written.Bytes size
-    → ((r : Refusal) → to (Answer.Refused r) ≡ Written.Refused r)
+pub written-said : (to : Answer → Written) (size : ℕ) → to Fine ≡ Ok size
+    → ((r : Refusal) → to (Err r) ≡ Err r)
     → (cs : List Check) → written_says (to (first_of cs)) ≡ first_said cs (size ∷ [])
 unfolding first_of first_said
 written-said to size p q [] = λ i. written_says (p i)
@@ -40,21 +39,21 @@ said-number : {a b : Said} → a ≡ b → a.number ≡ b.number
 said-number e = λ i. (e i).number
 
 -- of answers whose refusals have a number above 0
-pub answer-told : (a b : Answer) → ((r : Refusal) → a ≡ Answer.Refused r → 0 < r.number)
-    → ((r : Refusal) → b ≡ Answer.Refused r → 0 < r.number)
+pub answer-told : (a b : Answer) → ((r : Refusal) → a ≡ Err r → 0 < value_of r.number)
+    → ((r : Refusal) → b ≡ Err r → 0 < value_of r.number)
     → answer_says a ≡ answer_says b → a ≡ b
-answer-told Answer.Fine Answer.Fine f g e = refl
-answer-told Answer.Fine (Answer.Refused r) f g e = absurd (omega (arith, g r refl, said-number e))
-answer-told (Answer.Refused r) Answer.Fine f g e = absurd (omega (arith, f r refl, said-number e))
-answer-told (Answer.Refused r) (Answer.Refused s) f g e = λ i. Answer.Refused (record { number = (e i).number; place = (e i).place })
+answer-told (Ok _) (Ok _) f g e = refl
+answer-told (Ok _) (Err r) f g e = absurd (omega (arith, g r refl, said-number e))
+answer-told (Err r) (Ok _) f g e = absurd (omega (arith, f r refl, said-number e))
+answer-told (Err r) (Err s) f g e = λ i. Err (record { number = value_told r.number s.number (said-number e) i; place = (e i).place })
 
-pub verdict-told : (a b : Verdict) → ((r : Refusal) → a ≡ Verdict.Refused r → 0 < r.number)
-    → ((r : Refusal) → b ≡ Verdict.Refused r → 0 < r.number)
+pub verdict-told : (a b : Verdict) → ((r : Refusal) → a ≡ Err r → 0 < value_of r.number)
+    → ((r : Refusal) → b ≡ Err r → 0 < value_of r.number)
     → verdict_says a ≡ verdict_says b → a ≡ b
-verdict-told Verdict.Accepted Verdict.Accepted f g e = refl
-verdict-told Verdict.Accepted (Verdict.Refused r) f g e = absurd (omega (arith, g r refl, said-number e))
-verdict-told (Verdict.Refused r) Verdict.Accepted f g e = absurd (omega (arith, f r refl, said-number e))
-verdict-told (Verdict.Refused r) (Verdict.Refused s) f g e = λ i. Verdict.Refused (record { number = (e i).number; place = (e i).place })
+verdict-told (Ok _) (Ok _) f g e = refl
+verdict-told (Ok _) (Err r) f g e = absurd (omega (arith, g r refl, said-number e))
+verdict-told (Err r) (Ok _) f g e = absurd (omega (arith, f r refl, said-number e))
+verdict-told (Err r) (Err s) f g e = λ i. Err (record { number = value_told r.number s.number (said-number e) i; place = (e i).place })
 
 -- The others can be told from what is said alone: each is read back from it
 
@@ -62,13 +61,13 @@ writtenBack : Said → Written
 writtenBack s = go s.values
   where
     go : List ℕ → Written
-    go [] = Written.Refused (record { number = s.number; place = s.place })
-    go (n ∷ vs) = Written.Bytes n
+    go [] = Err (record { number = number_of s.number; place = s.place })
+    go (n ∷ vs) = Ok n
 
 written_back : (a : Written) → writtenBack (written_says a) ≡ a
 unfolding writtenBack
-written_back (Written.Bytes n) = refl
-written_back (Written.Refused r) = refl
+written_back (Ok n) = refl
+written_back (Err r) = ap (λ (n : Number). Err (record { number = n; place = r.place })) (number-back r.number)
 
 pub written-told : (a b : Written) → written_says a ≡ written_says b → a ≡ b
 written-told a b e = sym (written_back a) ∙ ap writtenBack e ∙ written_back b
@@ -78,11 +77,11 @@ conversionBack s = go s.values
   where
     ended : ℕ → ℕ → Conversion
     ended l c =
-        cond (eqb s.number No.NoSolid) (Conversion.NoSolid l c s.place)
-        (cond (eqb s.number No.Many) (Conversion.Many l c s.place) (Conversion.TooLong l c s.place))
+        cond (eqb s.number (value_of No.NoSolid)) (Conversion.NoSolid l c s.place)
+        (cond (eqb s.number (value_of No.Many)) (Conversion.Many l c s.place) (Conversion.TooLong l c s.place))
 
     go : List ℕ → Conversion
-    go [] = Conversion.Refused (record { number = s.number; place = s.place })
+    go [] = Conversion.Refused (record { number = number_of s.number; place = s.place })
     go (l ∷ []) = ended l 0
     go (l ∷ (c ∷ [])) = ended l c
     go (l ∷ (c ∷ (w ∷ []))) = ended l c
@@ -96,7 +95,8 @@ conversion-back (Conversion.Several l c w n) = refl
 conversion-back (Conversion.NoSolid l c w) = refl
 conversion-back (Conversion.Many l c w) = refl
 conversion-back (Conversion.TooLong l c w) = refl
-conversion-back (Conversion.Refused r) = refl
+conversion-back (Conversion.Refused r) =
+    ap (λ (n : Number). Conversion.Refused (record { number = n; place = r.place })) (number-back r.number)
 
 pub conversion-told : (a b : Conversion) → conversion_says a ≡ conversion_says b → a ≡ b
 conversion-told a b e = sym (conversion-back a) ∙ ap conversionBack e ∙ conversion-back b
@@ -105,13 +105,13 @@ readingBack : Shown → Reading
 readingBack s = go s.shown
   where
     go : Option Float → Reading
-    go none = Reading.NotAssessed s.number
-    go (some v) = Reading.Volume v
+    go none = Err (number_of s.number)
+    go (some v) = Ok v
 
 reading-back : (a : Reading) → readingBack (reading_says a) ≡ a
 unfolding readingBack
-reading-back (Reading.Volume v) = refl
-reading-back (Reading.NotAssessed n) = refl
+reading-back (Ok v) = refl
+reading-back (Err n) = ap (λ (m : Number). Err m) (number-back n)
 
 pub reading-told : (a b : Reading) → reading_says a ≡ reading_says b → a ≡ b
 reading-told a b e = sym (reading-back a) ∙ ap readingBack e ∙ reading-back b

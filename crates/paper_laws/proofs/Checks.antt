@@ -5,8 +5,9 @@ use mathlib.Core.Option.{Option, none, some}
 use mathlib.Core.List.{List, [], ◌∷◌, ◌++◌}
 use Prim.Native.Nat.{ℕ}
 use native.Mathlib.Omega.{arith}
-use Rattle.paper.specs.Refusals.{Check, check, refuse, first_of, offends}
-use Rattle.paper.specs.declared.Answer.TheVariants.{Fine, Refused}
+use Rattle.paper.specs.Refusals.{Check, check, refuse, first_of, offends, Fine}
+use Rattle.std.specs.Prelude.{Err}
+use Rattle.paper.specs.declared.Number.{Number}
 use Rattle.paper.specs.declared.Refusal.{Refusal}
 
 -- no check is left
@@ -15,7 +16,7 @@ unfolding first_of
 clear = refl
 
 -- a check that finds a place is the answer; one that finds none leaves it to the rest
-module _ (n : ℕ) {o : Option ℕ} (cs : List Check) where
+module _ (n : Number) {o : Option ℕ} (cs : List Check) where
   pub stops : {p : ℕ} → some p ≡ o → refuse n p ≡ first_of (check n o ∷ cs)
   unfolding first_of
   stops e = rw (← e) refl
@@ -36,7 +37,7 @@ module _ (n : ℕ) {o : Option ℕ} (cs : List Check) where
   none_found e f = f ∙ passes (sym e)
 
 -- the same of a check of one place
-module _ (n p : ℕ) {b : Bool} (cs : List Check) where
+module _ (n : Number) (p : ℕ) {b : Bool} (cs : List Check) where
   pub holds : b ≡ true → refuse n p ≡ first_of (check n (offends b p) ∷ cs)
   unfolding first_of
   holds e = rw e refl
@@ -55,7 +56,7 @@ module _ (n p : ℕ) {b : Bool} (cs : List Check) where
       go false e = (refl, e)
 
 -- two lists: the first one's answer, unless it is passed
-pub first_stops : (cs ds : List Check) {r : Refusal} → Refused r ≡ first_of cs → Refused r ≡ first_of (cs ++ ds)
+pub first_stops : (cs ds : List Check) {r : Refusal} → Err r ≡ first_of cs → Err r ≡ first_of (cs ++ ds)
 unfolding first_of
 first_stops [] ds {r} e = let z : ◌≡◌ {A = ℕ} 0 1 = cc in absurd (omega arith)
 first_stops (check n none ∷ cs) ds e = first_stops cs ds e

@@ -1,4 +1,5 @@
 -- What follows from document 01's definitions, for any crate to cite.
+pub mod Values
 pub mod Checks
 pub mod Behind
 pub mod Limits

@@ -3,9 +3,8 @@ use Rattle.std.specs.Prelude.{◌≡◌, List, ℕ, ◌+◌, ◌*◌, ◌≤◌,
 use Rattle.exact.specs.Size.{Within}
 use Rattle.paper.specs.Numbers.{least_vertices, most_vertices, least_edges, most_edges, farthest}
 use Rattle.paper.specs.declared.Drawing.{Drawing}
-use Rattle.paper.specs.Refusals.{first_of}
+use Rattle.paper.specs.Refusals.{first_of, Fine}
 use Rattle.paper.specs.Sheet.{lent_checks}
-use Rattle.paper.specs.declared.Answer.TheVariants.{Fine}
 
 -- three coordinates for each of v vertices
 pub record Points (xyz : List ℤ) (v : ℕ) : Type 0 where

@@ -6,11 +6,8 @@ use Rattle.paper.specs.Numbers.{documented}
 use Rattle.paper.specs.Sheet.{held, blank}
 use Rattle.paper.specs.Desk.{text}
 use Rattle.paper.specs.Questions.{neg, wholly, fetched, stored, checked, paired, covering, desk, read, ruled, posted, left, wrote, sheet, bytes, verdicts, rules, tests, reads, face_before, solid_before, Case, ◌yields◌, asked, said, Holds}
-use Rattle.paper.specs.declared.Answer.TheVariants as Answer
-use Rattle.paper.specs.declared.Written.TheVariants as Written
 use Rattle.paper.specs.declared.Conversion.TheVariants as Conversion
-use Rattle.paper.specs.declared.Verdict.TheVariants as Verdict
-use Rattle.paper.specs.declared.Reading.TheVariants as Reading
+use Rattle.paper.specs.declared.Number.TheVariants as No
 
 unfoldable pub rows0 : List Case
 unfolding text of_bits
@@ -20,7 +17,7 @@ rows0 =
     ∷ wholly documented (record { xyz = (neg 895 ∷ neg 890 ∷ pos 724 ∷ neg 814 ∷ neg 872 ∷ pos 688 ∷ neg 1000 ∷ neg 950 ∷ pos 814 ∷ neg 919 ∷ neg 932 ∷ pos 778 ∷ neg 885 ∷ neg 940 ∷ pos 814 ∷ neg 804 ∷ neg 922 ∷ pos 778 ∷ neg 990 ∷ neg 1000 ∷ pos 904 ∷ neg 909 ∷ neg 982 ∷ pos 868 ∷ []); ends = (0 ∷ 1 ∷ 0 ∷ 2 ∷ 0 ∷ 4 ∷ 1 ∷ 3 ∷ 1 ∷ 5 ∷ 2 ∷ 3 ∷ 2 ∷ 6 ∷ 3 ∷ 7 ∷ 4 ∷ 5 ∷ 4 ∷ 6 ∷ 5 ∷ 7 ∷ 6 ∷ 7 ∷ []) }) 28 840 27
     yields left (Conversion.One 6 6 0 583200) ((4 ∷ 0 ∷ 1 ∷ 3 ∷ 2 ∷ 255 ∷ 255 ∷ 255 ∷ 255 ∷ 255 ∷ 255 ∷ 255 ∷ 255 ∷ 4 ∷ 0 ∷ 1 ∷ 5 ∷ 4 ∷ 255 ∷ 255 ∷ 255 ∷ 255 ∷ 255 ∷ 255 ∷ 255 ∷ 255 ∷ 4 ∷ 0 ∷ 2 ∷ 6 ∷ 4 ∷ 255 ∷ 255 ∷ 255 ∷ 255 ∷ 255 ∷ 255 ∷ 255 ∷ 255 ∷ 4 ∷ 1 ∷ 3 ∷ 7 ∷ 5 ∷ 255 ∷ 255 ∷ 255 ∷ 255 ∷ 255 ∷ 255 ∷ 255 ∷ 255 ∷ 4 ∷ 2 ∷ 3 ∷ 7 ∷ 6 ∷ 255 ∷ 255 ∷ 255 ∷ 255 ∷ 255 ∷ 255 ∷ 255 ∷ 255 ∷ 4 ∷ 4 ∷ 5 ∷ 7 ∷ 6 ∷ 255 ∷ 255 ∷ 255 ∷ 255 ∷ 255 ∷ 255 ∷ 255 ∷ 255 ∷ []) ++ face_before 762) ((63 ∷ 42 ∷ 583200 ∷ []) ++ solid_before 24)
     ∷ wholly documented (record { xyz = (pos 0 ∷ pos 0 ∷ pos 0 ∷ pos 4 ∷ pos 0 ∷ pos 0 ∷ pos 4 ∷ pos 2 ∷ pos 0 ∷ pos 2 ∷ pos 2 ∷ pos 0 ∷ pos 2 ∷ pos 4 ∷ pos 0 ∷ pos 0 ∷ pos 4 ∷ pos 0 ∷ pos 1 ∷ pos 1 ∷ pos 1 ∷ []); ends = (0 ∷ 1 ∷ 0 ∷ 5 ∷ 0 ∷ 6 ∷ 1 ∷ 2 ∷ 1 ∷ 6 ∷ 2 ∷ 3 ∷ 2 ∷ 6 ∷ 3 ∷ 4 ∷ 3 ∷ 6 ∷ 4 ∷ 5 ∷ 4 ∷ 6 ∷ 5 ∷ 6 ∷ []) }) 2000000 832 24
-    yields left (Conversion.Refused (record { number = 2; place = 0 })) (([]) ++ face_before 832) (([]) ++ solid_before 24)
+    yields left (Conversion.Refused (record { number = No.BadLimit; place = 0 })) (([]) ++ face_before 832) (([]) ++ solid_before 24)
     ∷ []
 
 pub hold0 : Holds rows0
@@ -31,11 +28,11 @@ unfoldable pub rows1 : List Case
 unfolding text of_bits
 rows1 =
     wholly documented (record { xyz = (pos 10 ∷ pos 0 ∷ pos 0 ∷ neg 10 ∷ pos 0 ∷ pos 0 ∷ pos 0 ∷ pos 10 ∷ pos 0 ∷ []); ends = (0 ∷ 2 ∷ 0 ∷ 3 ∷ 0 ∷ 4 ∷ 0 ∷ 5 ∷ 1 ∷ 2 ∷ 1 ∷ 3 ∷ 1 ∷ 4 ∷ 1 ∷ 5 ∷ 2 ∷ 4 ∷ 2 ∷ 5 ∷ 3 ∷ 4 ∷ 3 ∷ 5 ∷ []) }) 1000000 832 24
-    yields left (Conversion.Refused (record { number = 5; place = 0 })) (([]) ++ face_before 832) (([]) ++ solid_before 24)
+    yields left (Conversion.Refused (record { number = No.BadCount; place = 0 })) (([]) ++ face_before 832) (([]) ++ solid_before 24)
     ∷ wholly documented (record { xyz = (neg 6 ∷ neg 4 ∷ neg 5 ∷ pos 5 ∷ neg 4 ∷ neg 5 ∷ neg 6 ∷ pos 1 ∷ neg 5 ∷ pos 5 ∷ pos 1 ∷ neg 5 ∷ neg 6 ∷ neg 4 ∷ pos 4 ∷ pos 5 ∷ neg 4 ∷ pos 4 ∷ neg 6 ∷ pos 1 ∷ pos 4 ∷ pos 5 ∷ pos 1 ∷ pos 4 ∷ []); ends = (0 ∷ 1 ∷ 6 ∷ 7 ∷ 0 ∷ 4 ∷ 1 ∷ 3 ∷ 1 ∷ 5 ∷ 2 ∷ 3 ∷ 2 ∷ 6 ∷ 3 ∷ 7 ∷ 4 ∷ 5 ∷ 4 ∷ 6 ∷ 5 ∷ 7 ∷ 0 ∷ 2 ∷ []) }) 0 840 27
-    yields left (Conversion.Refused (record { number = 10; place = 2 })) (([]) ++ face_before 840) (([]) ++ solid_before 27)
+    yields left (Conversion.Refused (record { number = No.EdgeOrder; place = 2 })) (([]) ++ face_before 840) (([]) ++ solid_before 27)
     ∷ wholly documented (record { xyz = (neg 9 ∷ pos 6 ∷ pos 0 ∷ neg 9 ∷ pos 6 ∷ pos 0 ∷ pos 2 ∷ neg 9 ∷ pos 0 ∷ pos 2 ∷ neg 4 ∷ pos 0 ∷ pos 0 ∷ neg 1 ∷ pos 5 ∷ neg 9 ∷ pos 6 ∷ pos 0 ∷ []); ends = (0 ∷ 1 ∷ 0 ∷ 3 ∷ 0 ∷ 4 ∷ 0 ∷ 5 ∷ 1 ∷ 2 ∷ 1 ∷ 4 ∷ 1 ∷ 5 ∷ 2 ∷ 3 ∷ 2 ∷ 4 ∷ 2 ∷ 5 ∷ 3 ∷ 4 ∷ 3 ∷ 5 ∷ []) }) 1000000 832 24
-    yields left (Conversion.Refused (record { number = 11; place = 0 })) (([]) ++ face_before 832) (([]) ++ solid_before 24)
+    yields left (Conversion.Refused (record { number = No.SamePlace; place = 0 })) (([]) ++ face_before 832) (([]) ++ solid_before 24)
     ∷ []
 
 pub hold1 : Holds rows1
@@ -46,7 +43,7 @@ unfoldable pub rows2 : List Case
 unfolding text of_bits
 rows2 =
     wholly documented (record { xyz = (pos 227 ∷ pos 999 ∷ neg 999 ∷ pos 0 ∷ pos 0 ∷ pos 0 ∷ pos 3 ∷ pos 0 ∷ pos 0 ∷ pos 0 ∷ pos 3 ∷ pos 0 ∷ pos 0 ∷ pos 0 ∷ pos 3 ∷ pos 3 ∷ pos 3 ∷ pos 0 ∷ pos 3 ∷ pos 0 ∷ pos 3 ∷ pos 0 ∷ pos 3 ∷ pos 3 ∷ pos 3 ∷ pos 3 ∷ pos 3 ∷ []); ends = (0 ∷ 1 ∷ 0 ∷ 2 ∷ 0 ∷ 3 ∷ 1 ∷ 4 ∷ 1 ∷ 5 ∷ 2 ∷ 4 ∷ 2 ∷ 6 ∷ 3 ∷ 5 ∷ 3 ∷ 6 ∷ 4 ∷ 7 ∷ 5 ∷ 7 ∷ 6 ∷ 7 ∷ []) }) 1 832 24
-    yields left (Conversion.Refused (record { number = 12; place = 8 })) (([]) ++ face_before 832) (([]) ++ solid_before 24)
+    yields left (Conversion.Refused (record { number = No.LooseVertex; place = 8 })) (([]) ++ face_before 832) (([]) ++ solid_before 24)
     ∷ wholly documented (record { xyz = (neg 988 ∷ pos 878 ∷ neg 165 ∷ neg 1000 ∷ pos 875 ∷ neg 165 ∷ neg 988 ∷ pos 878 ∷ neg 163 ∷ neg 979 ∷ pos 875 ∷ neg 165 ∷ neg 988 ∷ pos 875 ∷ neg 166 ∷ neg 988 ∷ pos 878 ∷ neg 166 ∷ neg 988 ∷ pos 875 ∷ neg 165 ∷ []); ends = (0 ∷ 1 ∷ 0 ∷ 3 ∷ 0 ∷ 5 ∷ 0 ∷ 6 ∷ 1 ∷ 2 ∷ 1 ∷ 4 ∷ 1 ∷ 5 ∷ 1 ∷ 6 ∷ 2 ∷ 3 ∷ 3 ∷ 4 ∷ 3 ∷ 5 ∷ 3 ∷ 6 ∷ 4 ∷ 5 ∷ 4 ∷ 6 ∷ []) }) 1000000 832 24
     yields left (Conversion.NoSolid 13 11 0) (([]) ++ face_before 832) (([]) ++ solid_before 24)
     ∷ wholly documented (record { xyz = (pos 10 ∷ pos 10 ∷ pos 10 ∷ pos 0 ∷ pos 10 ∷ pos 10 ∷ pos 0 ∷ pos 10 ∷ pos 0 ∷ pos 10 ∷ pos 0 ∷ pos 10 ∷ pos 10 ∷ pos 10 ∷ pos 0 ∷ pos 10 ∷ pos 0 ∷ pos 0 ∷ pos 0 ∷ pos 0 ∷ pos 10 ∷ pos 0 ∷ pos 0 ∷ pos 0 ∷ []); ends = (0 ∷ 1 ∷ 0 ∷ 3 ∷ 0 ∷ 4 ∷ 1 ∷ 2 ∷ 1 ∷ 6 ∷ 2 ∷ 4 ∷ 2 ∷ 7 ∷ 3 ∷ 5 ∷ 3 ∷ 6 ∷ 4 ∷ 5 ∷ 5 ∷ 7 ∷ 6 ∷ 7 ∷ []) }) 14 840 27
@@ -95,7 +92,7 @@ rows5 =
     ∷ wholly (record { loops = 128; candidates = 64; solids = 1 }) (record { xyz = (neg 531 ∷ pos 1000 ∷ pos 596 ∷ neg 531 ∷ pos 999 ∷ pos 594 ∷ neg 531 ∷ pos 1000 ∷ pos 594 ∷ neg 533 ∷ pos 999 ∷ pos 594 ∷ []); ends = (0 ∷ 1 ∷ 0 ∷ 2 ∷ 0 ∷ 3 ∷ 1 ∷ 2 ∷ 1 ∷ 3 ∷ 2 ∷ 3 ∷ []) }) 1000000 832 24
     yields left (Conversion.One 4 4 0 4) ((3 ∷ 0 ∷ 1 ∷ 2 ∷ 255 ∷ 255 ∷ 255 ∷ 255 ∷ 255 ∷ 255 ∷ 255 ∷ 255 ∷ 255 ∷ 3 ∷ 0 ∷ 1 ∷ 3 ∷ 255 ∷ 255 ∷ 255 ∷ 255 ∷ 255 ∷ 255 ∷ 255 ∷ 255 ∷ 255 ∷ 3 ∷ 0 ∷ 2 ∷ 3 ∷ 255 ∷ 255 ∷ 255 ∷ 255 ∷ 255 ∷ 255 ∷ 255 ∷ 255 ∷ 255 ∷ 3 ∷ 1 ∷ 2 ∷ 3 ∷ 255 ∷ 255 ∷ 255 ∷ 255 ∷ 255 ∷ 255 ∷ 255 ∷ 255 ∷ 255 ∷ []) ++ face_before 780) ((15 ∷ 10 ∷ 4 ∷ []) ++ solid_before 21)
     ∷ wholly (record { loops = 128; candidates = 64; solids = 1 }) (record { xyz = (neg 1000 ∷ pos 990 ∷ pos 314 ∷ neg 944 ∷ pos 990 ∷ pos 353 ∷ neg 972 ∷ pos 1000 ∷ pos 340 ∷ neg 1000 ∷ pos 995 ∷ pos 340 ∷ neg 944 ∷ pos 1000 ∷ pos 314 ∷ neg 916 ∷ pos 990 ∷ pos 340 ∷ []); ends = (0 ∷ 3 ∷ 0 ∷ 4 ∷ 0 ∷ 5 ∷ 1 ∷ 2 ∷ 1 ∷ 3 ∷ 1 ∷ 5 ∷ 2 ∷ 3 ∷ 2 ∷ 4 ∷ 2 ∷ 5 ∷ 4 ∷ 5 ∷ []) }) 1000001 832 24
-    yields left (Conversion.Refused (record { number = 2; place = 0 })) (([]) ++ face_before 832) (([]) ++ solid_before 24)
+    yields left (Conversion.Refused (record { number = No.BadLimit; place = 0 })) (([]) ++ face_before 832) (([]) ++ solid_before 24)
     ∷ []
 
 pub hold5 : Holds rows5

@@ -6,11 +6,7 @@ use Rattle.paper.specs.Numbers.{documented}
 use Rattle.paper.specs.Sheet.{held, blank}
 use Rattle.paper.specs.Desk.{text}
 use Rattle.paper.specs.Questions.{neg, wholly, fetched, stored, checked, paired, covering, desk, read, ruled, posted, left, wrote, sheet, bytes, verdicts, rules, tests, reads, face_before, solid_before, Case, ◌yields◌, asked, said, Holds}
-use Rattle.paper.specs.declared.Answer.TheVariants as Answer
-use Rattle.paper.specs.declared.Written.TheVariants as Written
 use Rattle.paper.specs.declared.Conversion.TheVariants as Conversion
-use Rattle.paper.specs.declared.Verdict.TheVariants as Verdict
-use Rattle.paper.specs.declared.Reading.TheVariants as Reading
 
 unfoldable pub rows0 : List Case
 unfolding text of_bits

@@ -6,21 +6,18 @@ use Rattle.paper.specs.Numbers.{documented}
 use Rattle.paper.specs.Sheet.{held, blank}
 use Rattle.paper.specs.Desk.{text}
 use Rattle.paper.specs.Questions.{neg, wholly, fetched, stored, checked, paired, covering, desk, read, ruled, posted, left, wrote, sheet, bytes, verdicts, rules, tests, reads, face_before, solid_before, Case, ◌yields◌, asked, said, Holds}
-use Rattle.paper.specs.declared.Answer.TheVariants as Answer
-use Rattle.paper.specs.declared.Written.TheVariants as Written
 use Rattle.paper.specs.declared.Conversion.TheVariants as Conversion
-use Rattle.paper.specs.declared.Verdict.TheVariants as Verdict
-use Rattle.paper.specs.declared.Reading.TheVariants as Reading
+use Rattle.paper.specs.declared.Number.TheVariants as No
 
 unfoldable pub rows0 : List Case
 unfolding text of_bits
 rows0 =
     wholly documented (record { xyz = (pos 0 ∷ pos 0 ∷ pos 0 ∷ pos 6 ∷ pos 0 ∷ pos 0 ∷ pos 0 ∷ pos 6 ∷ pos 0 ∷ pos 0 ∷ pos 0 ∷ pos 6 ∷ []); ends = (0 ∷ 1 ∷ 0 ∷ 2 ∷ 0 ∷ 3 ∷ 1 ∷ 2 ∷ 1 ∷ 3 ∷ 2 ∷ 3 ∷ []) }) 1000001 831 24
-    yields left (Conversion.Refused (record { number = 1; place = 0 })) (([]) ++ face_before 831) (([]) ++ solid_before 24)
+    yields left (Conversion.Refused (record { number = No.NoRoom; place = 0 })) (([]) ++ face_before 831) (([]) ++ solid_before 24)
     ∷ wholly documented (record { xyz = (pos 0 ∷ pos 0 ∷ pos 0 ∷ pos 6 ∷ pos 0 ∷ pos 0 ∷ pos 0 ∷ pos 6 ∷ pos 0 ∷ pos 0 ∷ pos 0 ∷ pos 6 ∷ []); ends = (0 ∷ 1 ∷ 0 ∷ 2 ∷ 0 ∷ 3 ∷ 1 ∷ 2 ∷ 1 ∷ 3 ∷ 2 ∷ 3 ∷ []) }) 1000001 832 23
-    yields left (Conversion.Refused (record { number = 1; place = 1 })) (([]) ++ face_before 832) (([]) ++ solid_before 23)
+    yields left (Conversion.Refused (record { number = No.NoRoom; place = 1 })) (([]) ++ face_before 832) (([]) ++ solid_before 23)
     ∷ wholly documented (record { xyz = (pos 0 ∷ pos 0 ∷ pos 0 ∷ pos 6 ∷ pos 0 ∷ pos 0 ∷ pos 0 ∷ pos 6 ∷ pos 0 ∷ pos 0 ∷ pos 0 ∷ pos 6 ∷ []); ends = (0 ∷ 1 ∷ 0 ∷ 2 ∷ 0 ∷ 3 ∷ 1 ∷ 2 ∷ 1 ∷ 3 ∷ 2 ∷ 3 ∷ []) }) 0 831 23
-    yields left (Conversion.Refused (record { number = 1; place = 0 })) (([]) ++ face_before 831) (([]) ++ solid_before 23)
+    yields left (Conversion.Refused (record { number = No.NoRoom; place = 0 })) (([]) ++ face_before 831) (([]) ++ solid_before 23)
     ∷ []
 
 pub hold0 : Holds rows0
@@ -31,11 +28,11 @@ unfoldable pub rows1 : List Case
 unfolding text of_bits
 rows1 =
     wholly documented (record { xyz = (pos 0 ∷ pos 0 ∷ pos 0 ∷ pos 6 ∷ pos 0 ∷ pos 0 ∷ pos 0 ∷ pos 6 ∷ pos 0 ∷ pos 0 ∷ pos 0 ∷ pos 6 ∷ []); ends = (0 ∷ 1 ∷ 0 ∷ 2 ∷ 0 ∷ 3 ∷ 1 ∷ 2 ∷ 1 ∷ 3 ∷ 2 ∷ 3 ∷ []) }) 1000001 832 24
-    yields left (Conversion.Refused (record { number = 2; place = 0 })) (([]) ++ face_before 832) (([]) ++ solid_before 24)
+    yields left (Conversion.Refused (record { number = No.BadLimit; place = 0 })) (([]) ++ face_before 832) (([]) ++ solid_before 24)
     ∷ wholly documented (record { xyz = (pos 0 ∷ pos 0 ∷ pos 0 ∷ pos 6 ∷ pos 0 ∷ pos 0 ∷ pos 0 ∷ pos 6 ∷ pos 0 ∷ pos 0 ∷ pos 0 ∷ pos 6 ∷ []); ends = (0 ∷ 1 ∷ 0 ∷ 2 ∷ 0 ∷ 3 ∷ 1 ∷ 2 ∷ 1 ∷ 3 ∷ 2 ∷ 3 ∷ []) }) 1000000 840 27
     yields left (Conversion.One 4 4 0 216) ((3 ∷ 0 ∷ 1 ∷ 2 ∷ 255 ∷ 255 ∷ 255 ∷ 255 ∷ 255 ∷ 255 ∷ 255 ∷ 255 ∷ 255 ∷ 3 ∷ 0 ∷ 1 ∷ 3 ∷ 255 ∷ 255 ∷ 255 ∷ 255 ∷ 255 ∷ 255 ∷ 255 ∷ 255 ∷ 255 ∷ 3 ∷ 0 ∷ 2 ∷ 3 ∷ 255 ∷ 255 ∷ 255 ∷ 255 ∷ 255 ∷ 255 ∷ 255 ∷ 255 ∷ 255 ∷ 3 ∷ 1 ∷ 2 ∷ 3 ∷ 255 ∷ 255 ∷ 255 ∷ 255 ∷ 255 ∷ 255 ∷ 255 ∷ 255 ∷ 255 ∷ []) ++ face_before 788) ((15 ∷ 5 ∷ 216 ∷ []) ++ solid_before 24)
     ∷ wholly documented (record { xyz = (pos 0 ∷ pos 0 ∷ pos 0 ∷ pos 6 ∷ pos 0 ∷ pos 0 ∷ pos 0 ∷ pos 6 ∷ pos 0 ∷ pos 0 ∷ pos 0 ∷ pos 6 ∷ pos 0 ∷ []); ends = (0 ∷ 1 ∷ 0 ∷ 2 ∷ 0 ∷ 3 ∷ 1 ∷ 2 ∷ 1 ∷ 3 ∷ 2 ∷ 3 ∷ []) }) 0 832 24
-    yields left (Conversion.Refused (record { number = 5; place = 0 })) (([]) ++ face_before 832) (([]) ++ solid_before 24)
+    yields left (Conversion.Refused (record { number = No.BadCount; place = 0 })) (([]) ++ face_before 832) (([]) ++ solid_before 24)
     ∷ []
 
 pub hold1 : Holds rows1
@@ -46,11 +43,11 @@ unfoldable pub rows2 : List Case
 unfolding text of_bits
 rows2 =
     wholly documented (record { xyz = (pos 0 ∷ pos 0 ∷ pos 0 ∷ pos 6 ∷ pos 0 ∷ pos 0 ∷ pos 0 ∷ pos 6 ∷ pos 0 ∷ pos 0 ∷ pos 0 ∷ pos 6 ∷ []); ends = (0 ∷ 1 ∷ 0 ∷ 2 ∷ 0 ∷ 3 ∷ 1 ∷ 2 ∷ 1 ∷ 3 ∷ 2 ∷ 3 ∷ 3 ∷ []) }) 0 832 24
-    yields left (Conversion.Refused (record { number = 5; place = 1 })) (([]) ++ face_before 832) (([]) ++ solid_before 24)
+    yields left (Conversion.Refused (record { number = No.BadCount; place = 1 })) (([]) ++ face_before 832) (([]) ++ solid_before 24)
     ∷ wholly documented (record { xyz = (pos 0 ∷ pos 0 ∷ pos 0 ∷ neg 1001 ∷ pos 0 ∷ pos 0 ∷ pos 0 ∷ pos 6 ∷ pos 0 ∷ pos 0 ∷ pos 0 ∷ pos 6 ∷ []); ends = (0 ∷ 1 ∷ 0 ∷ 2 ∷ 0 ∷ 3 ∷ 1 ∷ 2 ∷ 1 ∷ 3 ∷ 2 ∷ 3 ∷ []) }) 0 832 24
-    yields left (Conversion.Refused (record { number = 8; place = 3 })) (([]) ++ face_before 832) (([]) ++ solid_before 24)
+    yields left (Conversion.Refused (record { number = No.BadCoordinate; place = 3 })) (([]) ++ face_before 832) (([]) ++ solid_before 24)
     ∷ wholly documented (record { xyz = (pos 0 ∷ pos 0 ∷ pos 0 ∷ pos 6 ∷ pos 0 ∷ pos 0 ∷ pos 0 ∷ pos 6 ∷ pos 0 ∷ []); ends = (0 ∷ 1 ∷ 0 ∷ 2 ∷ 0 ∷ 3 ∷ 1 ∷ 2 ∷ 1 ∷ 3 ∷ 2 ∷ 3 ∷ []) }) 0 832 24
-    yields left (Conversion.Refused (record { number = 5; place = 0 })) (([]) ++ face_before 832) (([]) ++ solid_before 24)
+    yields left (Conversion.Refused (record { number = No.BadCount; place = 0 })) (([]) ++ face_before 832) (([]) ++ solid_before 24)
     ∷ []
 
 pub hold2 : Holds rows2
@@ -61,11 +58,11 @@ unfoldable pub rows3 : List Case
 unfolding text of_bits
 rows3 =
     wholly documented (record { xyz = (pos 7 ∷ pos 8 ∷ pos 9 ∷ pos 7 ∷ pos 8 ∷ pos 9 ∷ pos 7 ∷ pos 8 ∷ pos 9 ∷ pos 7 ∷ pos 8 ∷ pos 9 ∷ pos 7 ∷ pos 8 ∷ pos 9 ∷ pos 7 ∷ pos 8 ∷ pos 9 ∷ pos 7 ∷ pos 8 ∷ pos 9 ∷ pos 7 ∷ pos 8 ∷ pos 9 ∷ pos 7 ∷ pos 8 ∷ pos 9 ∷ pos 7 ∷ pos 8 ∷ pos 9 ∷ pos 7 ∷ pos 8 ∷ pos 9 ∷ pos 7 ∷ pos 8 ∷ pos 9 ∷ pos 7 ∷ pos 8 ∷ pos 9 ∷ pos 7 ∷ pos 8 ∷ pos 9 ∷ pos 7 ∷ pos 8 ∷ pos 9 ∷ pos 7 ∷ pos 8 ∷ pos 9 ∷ pos 7 ∷ pos 8 ∷ pos 9 ∷ pos 7 ∷ pos 8 ∷ pos 9 ∷ pos 7 ∷ pos 8 ∷ pos 9 ∷ pos 7 ∷ pos 8 ∷ pos 9 ∷ pos 7 ∷ pos 8 ∷ pos 9 ∷ pos 7 ∷ pos 8 ∷ pos 9 ∷ pos 7 ∷ pos 8 ∷ pos 9 ∷ pos 7 ∷ pos 8 ∷ pos 9 ∷ pos 7 ∷ pos 8 ∷ pos 9 ∷ pos 7 ∷ pos 8 ∷ pos 9 ∷ pos 7 ∷ pos 8 ∷ pos 9 ∷ pos 7 ∷ pos 8 ∷ pos 9 ∷ pos 7 ∷ pos 8 ∷ pos 9 ∷ pos 7 ∷ pos 8 ∷ pos 9 ∷ pos 7 ∷ pos 8 ∷ pos 9 ∷ pos 7 ∷ pos 8 ∷ pos 9 ∷ pos 7 ∷ pos 8 ∷ pos 9 ∷ []); ends = (0 ∷ 1 ∷ 0 ∷ 2 ∷ 0 ∷ 3 ∷ 1 ∷ 2 ∷ 1 ∷ 3 ∷ 2 ∷ 3 ∷ []) }) 0 832 24
-    yields left (Conversion.Refused (record { number = 5; place = 0 })) (([]) ++ face_before 832) (([]) ++ solid_before 24)
+    yields left (Conversion.Refused (record { number = No.BadCount; place = 0 })) (([]) ++ face_before 832) (([]) ++ solid_before 24)
     ∷ wholly documented (record { xyz = (pos 0 ∷ pos 0 ∷ pos 0 ∷ pos 6 ∷ pos 0 ∷ pos 0 ∷ pos 0 ∷ pos 6 ∷ pos 0 ∷ pos 0 ∷ pos 0 ∷ pos 6 ∷ []); ends = (0 ∷ 1 ∷ 0 ∷ 2 ∷ 0 ∷ 3 ∷ 1 ∷ 2 ∷ 1 ∷ 3 ∷ []) }) 0 832 24
-    yields left (Conversion.Refused (record { number = 5; place = 1 })) (([]) ++ face_before 832) (([]) ++ solid_before 24)
+    yields left (Conversion.Refused (record { number = No.BadCount; place = 1 })) (([]) ++ face_before 832) (([]) ++ solid_before 24)
     ∷ wholly documented (record { xyz = (pos 0 ∷ pos 0 ∷ pos 0 ∷ pos 6 ∷ pos 0 ∷ pos 0 ∷ pos 0 ∷ pos 6 ∷ pos 0 ∷ pos 0 ∷ pos 0 ∷ pos 6 ∷ []); ends = (0 ∷ 1 ∷ 0 ∷ 1 ∷ 0 ∷ 1 ∷ 0 ∷ 1 ∷ 0 ∷ 1 ∷ 0 ∷ 1 ∷ 0 ∷ 1 ∷ 0 ∷ 1 ∷ 0 ∷ 1 ∷ 0 ∷ 1 ∷ 0 ∷ 1 ∷ 0 ∷ 1 ∷ 0 ∷ 1 ∷ 0 ∷ 1 ∷ 0 ∷ 1 ∷ 0 ∷ 1 ∷ 0 ∷ 1 ∷ 0 ∷ 1 ∷ 0 ∷ 1 ∷ 0 ∷ 1 ∷ 0 ∷ 1 ∷ 0 ∷ 1 ∷ 0 ∷ 1 ∷ 0 ∷ 1 ∷ 0 ∷ 1 ∷ 0 ∷ 1 ∷ 0 ∷ 1 ∷ 0 ∷ 1 ∷ 0 ∷ 1 ∷ 0 ∷ 1 ∷ 0 ∷ 1 ∷ 0 ∷ 1 ∷ 0 ∷ 1 ∷ 0 ∷ 1 ∷ 0 ∷ 1 ∷ 0 ∷ 1 ∷ 0 ∷ 1 ∷ 0 ∷ 1 ∷ 0 ∷ 1 ∷ 0 ∷ 1 ∷ 0 ∷ 1 ∷ 0 ∷ 1 ∷ 0 ∷ 1 ∷ 0 ∷ 1 ∷ 0 ∷ 1 ∷ 0 ∷ 1 ∷ 0 ∷ 1 ∷ 0 ∷ 1 ∷ 0 ∷ 1 ∷ 0 ∷ 1 ∷ 0 ∷ 1 ∷ 0 ∷ 1 ∷ 0 ∷ 1 ∷ 0 ∷ 1 ∷ 0 ∷ 1 ∷ 0 ∷ 1 ∷ 0 ∷ 1 ∷ 0 ∷ 1 ∷ 0 ∷ 1 ∷ 0 ∷ 1 ∷ 0 ∷ 1 ∷ 0 ∷ 1 ∷ 0 ∷ 1 ∷ 0 ∷ 1 ∷ 0 ∷ 1 ∷ []) }) 0 832 24
-    yields left (Conversion.Refused (record { number = 5; place = 1 })) (([]) ++ face_before 832) (([]) ++ solid_before 24)
+    yields left (Conversion.Refused (record { number = No.BadCount; place = 1 })) (([]) ++ face_before 832) (([]) ++ solid_before 24)
     ∷ []
 
 pub hold3 : Holds rows3
@@ -76,11 +73,11 @@ unfoldable pub rows4 : List Case
 unfolding text of_bits
 rows4 =
     wholly documented (record { xyz = (pos 0 ∷ pos 0 ∷ pos 0 ∷ pos 6 ∷ pos 0 ∷ pos 0 ∷ pos 0 ∷ pos 6 ∷ pos 0 ∷ pos 0 ∷ pos 0 ∷ pos 1001 ∷ []); ends = (0 ∷ 1 ∷ 0 ∷ 2 ∷ 0 ∷ 3 ∷ 1 ∷ 2 ∷ 1 ∷ 3 ∷ 2 ∷ 3 ∷ []) }) 0 832 24
-    yields left (Conversion.Refused (record { number = 8; place = 11 })) (([]) ++ face_before 832) (([]) ++ solid_before 24)
+    yields left (Conversion.Refused (record { number = No.BadCoordinate; place = 11 })) (([]) ++ face_before 832) (([]) ++ solid_before 24)
     ∷ wholly documented (record { xyz = (pos 0 ∷ pos 0 ∷ pos 0 ∷ pos 6 ∷ pos 0 ∷ pos 0 ∷ pos 0 ∷ pos 6 ∷ pos 0 ∷ pos 0 ∷ pos 0 ∷ pos 6 ∷ []); ends = (0 ∷ 1 ∷ 0 ∷ 2 ∷ 0 ∷ 3 ∷ 1 ∷ 2 ∷ 1 ∷ 3 ∷ 2 ∷ 4 ∷ []) }) 0 832 24
-    yields left (Conversion.Refused (record { number = 9; place = 5 })) (([]) ++ face_before 832) (([]) ++ solid_before 24)
+    yields left (Conversion.Refused (record { number = No.BadEdge; place = 5 })) (([]) ++ face_before 832) (([]) ++ solid_before 24)
     ∷ wholly documented (record { xyz = (pos 0 ∷ pos 0 ∷ pos 0 ∷ pos 6 ∷ pos 0 ∷ pos 0 ∷ pos 0 ∷ pos 6 ∷ pos 0 ∷ pos 0 ∷ pos 0 ∷ pos 6 ∷ []); ends = (0 ∷ 1 ∷ 0 ∷ 2 ∷ 0 ∷ 3 ∷ 2 ∷ 1 ∷ 1 ∷ 3 ∷ 2 ∷ 3 ∷ []) }) 0 832 24
-    yields left (Conversion.Refused (record { number = 9; place = 3 })) (([]) ++ face_before 832) (([]) ++ solid_before 24)
+    yields left (Conversion.Refused (record { number = No.BadEdge; place = 3 })) (([]) ++ face_before 832) (([]) ++ solid_before 24)
     ∷ []
 
 pub hold4 : Holds rows4
@@ -91,11 +88,11 @@ unfoldable pub rows5 : List Case
 unfolding text of_bits
 rows5 =
     wholly documented (record { xyz = (pos 0 ∷ pos 0 ∷ pos 0 ∷ pos 6 ∷ pos 0 ∷ pos 0 ∷ pos 0 ∷ pos 6 ∷ pos 0 ∷ pos 0 ∷ pos 0 ∷ pos 6 ∷ []); ends = (0 ∷ 1 ∷ 0 ∷ 2 ∷ 0 ∷ 3 ∷ 1 ∷ 2 ∷ 1 ∷ 2 ∷ 2 ∷ 3 ∷ []) }) 0 832 24
-    yields left (Conversion.Refused (record { number = 10; place = 4 })) (([]) ++ face_before 832) (([]) ++ solid_before 24)
+    yields left (Conversion.Refused (record { number = No.EdgeOrder; place = 4 })) (([]) ++ face_before 832) (([]) ++ solid_before 24)
     ∷ wholly documented (record { xyz = (pos 0 ∷ pos 0 ∷ pos 0 ∷ pos 6 ∷ pos 0 ∷ pos 0 ∷ pos 0 ∷ pos 6 ∷ pos 0 ∷ pos 0 ∷ pos 0 ∷ pos 6 ∷ []); ends = (0 ∷ 1 ∷ 0 ∷ 3 ∷ 0 ∷ 2 ∷ 1 ∷ 2 ∷ 1 ∷ 3 ∷ 2 ∷ 3 ∷ []) }) 0 832 24
-    yields left (Conversion.Refused (record { number = 10; place = 2 })) (([]) ++ face_before 832) (([]) ++ solid_before 24)
+    yields left (Conversion.Refused (record { number = No.EdgeOrder; place = 2 })) (([]) ++ face_before 832) (([]) ++ solid_before 24)
     ∷ wholly documented (record { xyz = (pos 0 ∷ pos 0 ∷ pos 0 ∷ pos 6 ∷ pos 0 ∷ pos 0 ∷ pos 0 ∷ pos 6 ∷ pos 0 ∷ pos 0 ∷ pos 6 ∷ pos 0 ∷ []); ends = (0 ∷ 1 ∷ 0 ∷ 2 ∷ 0 ∷ 3 ∷ 1 ∷ 2 ∷ 1 ∷ 3 ∷ 2 ∷ 3 ∷ []) }) 0 832 24
-    yields left (Conversion.Refused (record { number = 11; place = 2 })) (([]) ++ face_before 832) (([]) ++ solid_before 24)
+    yields left (Conversion.Refused (record { number = No.SamePlace; place = 2 })) (([]) ++ face_before 832) (([]) ++ solid_before 24)
     ∷ []
 
 pub hold5 : Holds rows5
@@ -106,11 +103,11 @@ unfoldable pub rows6 : List Case
 unfolding text of_bits
 rows6 =
     wholly documented (record { xyz = (pos 0 ∷ pos 0 ∷ pos 0 ∷ pos 6 ∷ pos 0 ∷ pos 0 ∷ pos 0 ∷ pos 6 ∷ pos 0 ∷ pos 0 ∷ pos 0 ∷ pos 6 ∷ pos 9 ∷ pos 9 ∷ pos 9 ∷ []); ends = (0 ∷ 1 ∷ 0 ∷ 2 ∷ 0 ∷ 3 ∷ 1 ∷ 2 ∷ 1 ∷ 3 ∷ 2 ∷ 3 ∷ []) }) 0 832 24
-    yields left (Conversion.Refused (record { number = 12; place = 4 })) (([]) ++ face_before 832) (([]) ++ solid_before 24)
+    yields left (Conversion.Refused (record { number = No.LooseVertex; place = 4 })) (([]) ++ face_before 832) (([]) ++ solid_before 24)
     ∷ wholly documented (record { xyz = (pos 0 ∷ pos 0 ∷ pos 0 ∷ pos 6 ∷ pos 0 ∷ pos 0 ∷ pos 0 ∷ pos 6 ∷ pos 0 ∷ pos 6 ∷ pos 6 ∷ pos 0 ∷ []); ends = (0 ∷ 1 ∷ 0 ∷ 2 ∷ 0 ∷ 3 ∷ 1 ∷ 2 ∷ 1 ∷ 3 ∷ 2 ∷ 3 ∷ []) }) 0 832 24
-    yields left (Conversion.Refused (record { number = 13; place = 2 })) (([]) ++ face_before 832) (([]) ++ solid_before 24)
+    yields left (Conversion.Refused (record { number = No.EdgeMeets; place = 2 })) (([]) ++ face_before 832) (([]) ++ solid_before 24)
     ∷ wholly documented (record { xyz = (pos 0 ∷ pos 0 ∷ pos 0 ∷ pos 6 ∷ pos 0 ∷ pos 0 ∷ pos 0 ∷ pos 6 ∷ pos 0 ∷ pos 0 ∷ pos 0 ∷ pos 6 ∷ pos 50 ∷ pos 60 ∷ pos 70 ∷ pos 56 ∷ pos 60 ∷ pos 70 ∷ pos 50 ∷ pos 66 ∷ pos 70 ∷ pos 50 ∷ pos 60 ∷ pos 76 ∷ []); ends = (0 ∷ 1 ∷ 0 ∷ 2 ∷ 0 ∷ 3 ∷ 1 ∷ 2 ∷ 1 ∷ 3 ∷ 2 ∷ 3 ∷ 4 ∷ 5 ∷ 4 ∷ 6 ∷ 4 ∷ 7 ∷ 5 ∷ 6 ∷ 5 ∷ 7 ∷ 6 ∷ 7 ∷ []) }) 0 832 24
-    yields left (Conversion.Refused (record { number = 14; place = 4 })) (([]) ++ face_before 832) (([]) ++ solid_before 24)
+    yields left (Conversion.Refused (record { number = No.Apart; place = 4 })) (([]) ++ face_before 832) (([]) ++ solid_before 24)
     ∷ []
 
 pub hold6 : Holds rows6
@@ -121,9 +118,9 @@ unfoldable pub rows7 : List Case
 unfolding text of_bits
 rows7 =
     wholly documented (record { xyz = (pos 0 ∷ pos 1 ∷ pos 0 ∷ pos 2 ∷ pos 1 ∷ pos 0 ∷ pos 3 ∷ pos 3 ∷ pos 0 ∷ pos 4 ∷ pos 0 ∷ pos 0 ∷ pos 2 ∷ pos 3 ∷ pos 0 ∷ pos 1 ∷ pos 6 ∷ pos 0 ∷ pos 3 ∷ pos 1 ∷ pos 0 ∷ pos 4 ∷ pos 5 ∷ pos 0 ∷ []); ends = (0 ∷ 1 ∷ 0 ∷ 3 ∷ 0 ∷ 5 ∷ 1 ∷ 4 ∷ 1 ∷ 5 ∷ 1 ∷ 6 ∷ 2 ∷ 3 ∷ 2 ∷ 5 ∷ 2 ∷ 6 ∷ 2 ∷ 7 ∷ 3 ∷ 6 ∷ 3 ∷ 7 ∷ 4 ∷ 5 ∷ 4 ∷ 6 ∷ 5 ∷ 6 ∷ 5 ∷ 7 ∷ []) }) 0 832 24
-    yields left (Conversion.Refused (record { number = 15; place = 0 })) (([]) ++ face_before 832) (([]) ++ solid_before 24)
+    yields left (Conversion.Refused (record { number = No.ManyLoops; place = 0 })) (([]) ++ face_before 832) (([]) ++ solid_before 24)
     ∷ wholly documented (record { xyz = (neg 4 ∷ pos 16 ∷ neg 64 ∷ neg 3 ∷ pos 9 ∷ neg 27 ∷ neg 2 ∷ pos 4 ∷ neg 8 ∷ neg 1 ∷ pos 1 ∷ neg 1 ∷ pos 0 ∷ pos 0 ∷ pos 0 ∷ pos 1 ∷ pos 1 ∷ pos 1 ∷ pos 2 ∷ pos 4 ∷ pos 8 ∷ pos 3 ∷ pos 9 ∷ pos 27 ∷ pos 4 ∷ pos 16 ∷ pos 64 ∷ []); ends = (0 ∷ 2 ∷ 0 ∷ 3 ∷ 0 ∷ 4 ∷ 0 ∷ 5 ∷ 0 ∷ 6 ∷ 0 ∷ 7 ∷ 0 ∷ 8 ∷ 1 ∷ 3 ∷ 1 ∷ 4 ∷ 1 ∷ 5 ∷ 1 ∷ 6 ∷ 1 ∷ 7 ∷ 1 ∷ 8 ∷ 2 ∷ 4 ∷ 2 ∷ 5 ∷ 2 ∷ 6 ∷ 2 ∷ 7 ∷ 2 ∷ 8 ∷ 3 ∷ 4 ∷ 3 ∷ 5 ∷ 3 ∷ 6 ∷ 3 ∷ 7 ∷ 3 ∷ 8 ∷ 4 ∷ 5 ∷ 4 ∷ 6 ∷ 4 ∷ 7 ∷ 4 ∷ 8 ∷ 5 ∷ 6 ∷ 5 ∷ 7 ∷ 5 ∷ 8 ∷ 6 ∷ 7 ∷ 6 ∷ 8 ∷ 7 ∷ 8 ∷ []) }) 0 832 24
-    yields left (Conversion.Refused (record { number = 16; place = 0 })) (([]) ++ face_before 832) (([]) ++ solid_before 24)
+    yields left (Conversion.Refused (record { number = No.ManyCandidates; place = 0 })) (([]) ++ face_before 832) (([]) ++ solid_before 24)
     ∷ wholly documented (record { xyz = (pos 2 ∷ pos 3 ∷ pos 0 ∷ pos 4 ∷ pos 5 ∷ pos 0 ∷ pos 6 ∷ pos 0 ∷ pos 0 ∷ pos 0 ∷ pos 4 ∷ pos 0 ∷ pos 5 ∷ pos 5 ∷ pos 0 ∷ pos 4 ∷ pos 4 ∷ pos 0 ∷ pos 5 ∷ pos 6 ∷ pos 0 ∷ pos 2 ∷ pos 2 ∷ pos 0 ∷ []); ends = (0 ∷ 1 ∷ 0 ∷ 3 ∷ 0 ∷ 7 ∷ 1 ∷ 3 ∷ 1 ∷ 5 ∷ 1 ∷ 6 ∷ 1 ∷ 7 ∷ 2 ∷ 4 ∷ 2 ∷ 5 ∷ 2 ∷ 6 ∷ 2 ∷ 7 ∷ 3 ∷ 6 ∷ 3 ∷ 7 ∷ 4 ∷ 5 ∷ 4 ∷ 6 ∷ 5 ∷ 6 ∷ []) }) 1000000 832 24
     yields left (Conversion.NoSolid 128 9 0) (([]) ++ face_before 832) (([]) ++ solid_before 24)
     ∷ []
@@ -170,7 +167,7 @@ rows10 =
     ∷ wholly documented (record { xyz = (pos 0 ∷ pos 0 ∷ pos 0 ∷ pos 10 ∷ pos 0 ∷ pos 0 ∷ pos 0 ∷ pos 10 ∷ pos 0 ∷ pos 10 ∷ pos 10 ∷ pos 0 ∷ pos 0 ∷ pos 0 ∷ pos 10 ∷ pos 10 ∷ pos 0 ∷ pos 10 ∷ pos 0 ∷ pos 10 ∷ pos 10 ∷ pos 10 ∷ pos 10 ∷ pos 10 ∷ []); ends = (0 ∷ 2 ∷ 0 ∷ 4 ∷ 1 ∷ 3 ∷ 1 ∷ 5 ∷ 2 ∷ 3 ∷ 2 ∷ 6 ∷ 3 ∷ 7 ∷ 4 ∷ 5 ∷ 4 ∷ 6 ∷ 5 ∷ 7 ∷ 6 ∷ 7 ∷ []) }) 0 832 24
     yields left (Conversion.NoSolid 4 4 0) (([]) ++ face_before 832) (([]) ++ solid_before 24)
     ∷ wholly (record { loops = 10; candidates = 11; solids = 8 }) (record { xyz = (pos 10 ∷ pos 0 ∷ pos 0 ∷ neg 10 ∷ pos 0 ∷ pos 0 ∷ pos 0 ∷ pos 10 ∷ pos 0 ∷ pos 0 ∷ neg 10 ∷ pos 0 ∷ pos 0 ∷ pos 0 ∷ pos 10 ∷ pos 0 ∷ pos 0 ∷ neg 10 ∷ []); ends = (0 ∷ 2 ∷ 0 ∷ 3 ∷ 0 ∷ 4 ∷ 0 ∷ 5 ∷ 1 ∷ 2 ∷ 1 ∷ 3 ∷ 1 ∷ 4 ∷ 1 ∷ 5 ∷ 2 ∷ 4 ∷ 2 ∷ 5 ∷ 3 ∷ 4 ∷ 3 ∷ 5 ∷ []) }) 1000000 832 24
-    yields left (Conversion.Refused (record { number = 15; place = 0 })) (([]) ++ face_before 832) (([]) ++ solid_before 24)
+    yields left (Conversion.Refused (record { number = No.ManyLoops; place = 0 })) (([]) ++ face_before 832) (([]) ++ solid_before 24)
     ∷ []
 
 pub hold10 : Holds rows10
@@ -181,9 +178,9 @@ unfoldable pub rows11 : List Case
 unfolding text of_bits
 rows11 =
     wholly (record { loops = 11; candidates = 10; solids = 8 }) (record { xyz = (pos 10 ∷ pos 0 ∷ pos 0 ∷ neg 10 ∷ pos 0 ∷ pos 0 ∷ pos 0 ∷ pos 10 ∷ pos 0 ∷ pos 0 ∷ neg 10 ∷ pos 0 ∷ pos 0 ∷ pos 0 ∷ pos 10 ∷ pos 0 ∷ pos 0 ∷ neg 10 ∷ []); ends = (0 ∷ 2 ∷ 0 ∷ 3 ∷ 0 ∷ 4 ∷ 0 ∷ 5 ∷ 1 ∷ 2 ∷ 1 ∷ 3 ∷ 1 ∷ 4 ∷ 1 ∷ 5 ∷ 2 ∷ 4 ∷ 2 ∷ 5 ∷ 3 ∷ 4 ∷ 3 ∷ 5 ∷ []) }) 1000000 832 24
-    yields left (Conversion.Refused (record { number = 16; place = 0 })) (([]) ++ face_before 832) (([]) ++ solid_before 24)
+    yields left (Conversion.Refused (record { number = No.ManyCandidates; place = 0 })) (([]) ++ face_before 832) (([]) ++ solid_before 24)
     ∷ wholly (record { loops = 10; candidates = 10; solids = 8 }) (record { xyz = (pos 10 ∷ pos 0 ∷ pos 0 ∷ neg 10 ∷ pos 0 ∷ pos 0 ∷ pos 0 ∷ pos 10 ∷ pos 0 ∷ pos 0 ∷ neg 10 ∷ pos 0 ∷ pos 0 ∷ pos 0 ∷ pos 10 ∷ pos 0 ∷ pos 0 ∷ neg 10 ∷ []); ends = (0 ∷ 2 ∷ 0 ∷ 3 ∷ 0 ∷ 4 ∷ 0 ∷ 5 ∷ 1 ∷ 2 ∷ 1 ∷ 3 ∷ 1 ∷ 4 ∷ 1 ∷ 5 ∷ 2 ∷ 4 ∷ 2 ∷ 5 ∷ 3 ∷ 4 ∷ 3 ∷ 5 ∷ []) }) 1000000 832 24
-    yields left (Conversion.Refused (record { number = 15; place = 0 })) (([]) ++ face_before 832) (([]) ++ solid_before 24)
+    yields left (Conversion.Refused (record { number = No.ManyLoops; place = 0 })) (([]) ++ face_before 832) (([]) ++ solid_before 24)
     ∷ wholly (record { loops = 11; candidates = 11; solids = 8 }) (record { xyz = (pos 10 ∷ pos 0 ∷ pos 0 ∷ neg 10 ∷ pos 0 ∷ pos 0 ∷ pos 0 ∷ pos 10 ∷ pos 0 ∷ pos 0 ∷ neg 10 ∷ pos 0 ∷ pos 0 ∷ pos 0 ∷ pos 10 ∷ pos 0 ∷ pos 0 ∷ neg 10 ∷ []); ends = (0 ∷ 2 ∷ 0 ∷ 3 ∷ 0 ∷ 4 ∷ 0 ∷ 5 ∷ 1 ∷ 2 ∷ 1 ∷ 3 ∷ 1 ∷ 4 ∷ 1 ∷ 5 ∷ 2 ∷ 4 ∷ 2 ∷ 5 ∷ 3 ∷ 4 ∷ 3 ∷ 5 ∷ []) }) 1000000 832 24
     yields left (Conversion.One 11 11 4 8000) ((4 ∷ 0 ∷ 2 ∷ 1 ∷ 3 ∷ 255 ∷ 255 ∷ 255 ∷ 255 ∷ 255 ∷ 255 ∷ 255 ∷ 255 ∷ 3 ∷ 0 ∷ 2 ∷ 4 ∷ 255 ∷ 255 ∷ 255 ∷ 255 ∷ 255 ∷ 255 ∷ 255 ∷ 255 ∷ 255 ∷ 3 ∷ 0 ∷ 2 ∷ 5 ∷ 255 ∷ 255 ∷ 255 ∷ 255 ∷ 255 ∷ 255 ∷ 255 ∷ 255 ∷ 255 ∷ 3 ∷ 0 ∷ 3 ∷ 4 ∷ 255 ∷ 255 ∷ 255 ∷ 255 ∷ 255 ∷ 255 ∷ 255 ∷ 255 ∷ 255 ∷ 3 ∷ 0 ∷ 3 ∷ 5 ∷ 255 ∷ 255 ∷ 255 ∷ 255 ∷ 255 ∷ 255 ∷ 255 ∷ 255 ∷ 255 ∷ 4 ∷ 0 ∷ 4 ∷ 1 ∷ 5 ∷ 255 ∷ 255 ∷ 255 ∷ 255 ∷ 255 ∷ 255 ∷ 255 ∷ 255 ∷ 3 ∷ 1 ∷ 2 ∷ 4 ∷ 255 ∷ 255 ∷ 255 ∷ 255 ∷ 255 ∷ 255 ∷ 255 ∷ 255 ∷ 255 ∷ 3 ∷ 1 ∷ 2 ∷ 5 ∷ 255 ∷ 255 ∷ 255 ∷ 255 ∷ 255 ∷ 255 ∷ 255 ∷ 255 ∷ 255 ∷ 3 ∷ 1 ∷ 3 ∷ 4 ∷ 255 ∷ 255 ∷ 255 ∷ 255 ∷ 255 ∷ 255 ∷ 255 ∷ 255 ∷ 255 ∷ 3 ∷ 1 ∷ 3 ∷ 5 ∷ 255 ∷ 255 ∷ 255 ∷ 255 ∷ 255 ∷ 255 ∷ 255 ∷ 255 ∷ 255 ∷ 4 ∷ 2 ∷ 4 ∷ 3 ∷ 5 ∷ 255 ∷ 255 ∷ 255 ∷ 255 ∷ 255 ∷ 255 ∷ 255 ∷ 255 ∷ []) ++ face_before 689) ((990 ∷ 588 ∷ 8000 ∷ []) ++ solid_before 21)
     ∷ []
@@ -196,11 +193,11 @@ unfoldable pub rows12 : List Case
 unfolding text of_bits
 rows12 =
     wholly (record { loops = 6; candidates = 3; solids = 8 }) (record { xyz = (pos 0 ∷ pos 0 ∷ pos 0 ∷ pos 9 ∷ pos 0 ∷ pos 0 ∷ pos 0 ∷ pos 9 ∷ pos 0 ∷ pos 3 ∷ pos 3 ∷ pos 0 ∷ []); ends = (0 ∷ 1 ∷ 0 ∷ 2 ∷ 0 ∷ 3 ∷ 1 ∷ 2 ∷ 1 ∷ 3 ∷ 2 ∷ 3 ∷ []) }) 1000000 832 24
-    yields left (Conversion.Refused (record { number = 15; place = 0 })) (([]) ++ face_before 832) (([]) ++ solid_before 24)
+    yields left (Conversion.Refused (record { number = No.ManyLoops; place = 0 })) (([]) ++ face_before 832) (([]) ++ solid_before 24)
     ∷ wholly (record { loops = 7; candidates = 2; solids = 8 }) (record { xyz = (pos 0 ∷ pos 0 ∷ pos 0 ∷ pos 9 ∷ pos 0 ∷ pos 0 ∷ pos 0 ∷ pos 9 ∷ pos 0 ∷ pos 3 ∷ pos 3 ∷ pos 0 ∷ []); ends = (0 ∷ 1 ∷ 0 ∷ 2 ∷ 0 ∷ 3 ∷ 1 ∷ 2 ∷ 1 ∷ 3 ∷ 2 ∷ 3 ∷ []) }) 1000000 832 24
-    yields left (Conversion.Refused (record { number = 16; place = 0 })) (([]) ++ face_before 832) (([]) ++ solid_before 24)
+    yields left (Conversion.Refused (record { number = No.ManyCandidates; place = 0 })) (([]) ++ face_before 832) (([]) ++ solid_before 24)
     ∷ wholly (record { loops = 6; candidates = 2; solids = 8 }) (record { xyz = (pos 0 ∷ pos 0 ∷ pos 0 ∷ pos 9 ∷ pos 0 ∷ pos 0 ∷ pos 0 ∷ pos 9 ∷ pos 0 ∷ pos 3 ∷ pos 3 ∷ pos 0 ∷ []); ends = (0 ∷ 1 ∷ 0 ∷ 2 ∷ 0 ∷ 3 ∷ 1 ∷ 2 ∷ 1 ∷ 3 ∷ 2 ∷ 3 ∷ []) }) 1000000 832 24
-    yields left (Conversion.Refused (record { number = 15; place = 0 })) (([]) ++ face_before 832) (([]) ++ solid_before 24)
+    yields left (Conversion.Refused (record { number = No.ManyLoops; place = 0 })) (([]) ++ face_before 832) (([]) ++ solid_before 24)
     ∷ []
 
 pub hold12 : Holds rows12

@@ -1,16 +1,16 @@
 // Values of document 01's types that many crates make: a refusal, and the layout of an edition. Nothing is assumed.
 #![tactic(auto)]
 
-ghost use Rattle.std.specs.Prelude.{◌≡◌};
+ghost use Rattle.std.specs.Prelude.{◌≡◌, Err};
 ghost use Rattle.paper.specs.Format.{edition_one, edition_of, edition_for};
-ghost use Rattle.paper.specs.Refusals.{refuse};
 
-use paper::{Answer, Format, Refusal};
+use paper::{Format, Number, Refusal};
 
-pub fn refused(number: u8, place: usize) -> Answer
-    ensures { result ≡ refuse number place }
+// A refusal, whatever else would have come back.
+pub fn refused<T>(number: Number, place: usize) -> Result<T, Refusal>
+    ensures { result ≡ Err (record { number = number; place = place }) }
 {
-    Answer::Refused(Refusal { number, place })
+    Err(Refusal { number, place })
 }
 
 // Edition 1.
