@@ -5,8 +5,8 @@ use Prim.Native.Nat.{ℕ, ◌+◌, ◌≤◌, ◌<◌}
 use native.Mathlib.Nat.{zero-add}
 use native.Mathlib.Numerals.{add-one}
 use native.Mathlib.Omega.{arith}
-use lib.ListN.{length, get_or, set, take, drop}
-use lib.Seq.{paste, paste-zero, paste-suc, length-paste}
+use lib.ListN.{get_or, set, take, drop}
+use lib.Seq.{paste, paste-zero, paste-suc}
 use Rattle.rooms.specs.Rooms.{copied, Copies}
 
 -- the first i of m entries are copied
@@ -19,10 +19,6 @@ module _ {A : Type 0} {m : ℕ} {from room₀ : List A} where
   copying_start = record { within = omega arith; done = paste-zero room₀ 0 from }
 
   module _ {room : List A} {i : ℕ} (s : Copying m from room₀ room i) where
-    pub copying_long : Copies m from room₀ → length room ≡ length room₀
-    copying_long p =
-        ap length s.done ∙ length-paste room₀ 0 from i (omega (arith, s.within, p.fits)) (omega (arith, s.within, p.there))
-
     pub copying_more : (z : A) → Copies m from room₀ → i < m → Copying m from room₀ (set room i (get_or from i z)) (i + 1)
     copying_more z p h = record {
       within = omega arith;

@@ -1,5 +1,5 @@
 -- A kind of sets, by the lists of digits that its sets stand for. Contracts say what holds of every such list: once, whatever the width.
-use Rattle.std.specs.Prelude.{Bool, true, List, ◌≡◌, ℕ, suc, ◌≤◌, ◌<◌}
+use Rattle.std.specs.Prelude.{Bool, true, List, ◌≡◌, ℕ, suc, ◌≤◌, ◌<◌, Option, Some, None}
 use Rattle.sets.specs.Word.{dig, less, only, first}
 
 -- sets of numbers below `room`: x has the digits bs; how many are in x; the set at place k of a list of words
@@ -40,6 +40,18 @@ module _ (K : Kind) where
   pub record Rest (x r : K.Of) : Type 0 where
     pub one_fewer : suc (K.size r) ≡ K.size x
     pub same : (a : List Bool) → K.Is x a → K.Is r (less a (only (first a)))
+
+  -- k was the lowest of x, and y is what is left
+  pub record First (x y : K.Of) (k : ℕ) : Type 0 where
+    pub some : 0 < K.size x
+    pub lowest : Lowest x k
+    pub dropped : Dropped x k y
+    pub rest : Rest x y
+
+  -- the lowest of x is taken out, if there is one
+  abbrev pub Pops : K.Of → K.Of → Option ℕ → Type 0
+  Pops x y None = (K.size x ≡ 0) × (y ≡ x)
+  Pops x y (Some k) = First x y k
 
   -- r is the set at place k of the words, and some list's
   pub record SetAt (words : List ℕ) (k : ℕ) (r : K.Of) : Type 0 where

@@ -3,7 +3,7 @@
 
 ghost use Rattle.std.specs.Prelude.{◌≡◌, Bool, true, List, [], ◌≤◌, ◌<◌, eqb, length, replicate};
 ghost use Rattle.sets.specs.Word.{digits, dig, both, either, less, only};
-ghost use Rattle.sets.specs.Kinds.{Joint, Minus, Counted, Lowest, Dropped, Rest, SetAt};
+ghost use Rattle.sets.specs.Kinds.{Joint, Minus, Counted, Lowest, Dropped, Rest, Pops, SetAt};
 ghost use Rattle.sets.specs.Sets.{room, Is, size, one_word, with_set, MarkedAt};
 
 #[derive(Clone, Copy)]
@@ -78,6 +78,18 @@ impl Set {
         Set {
             word: self.word & (self.word - 1),
         }
+    }
+
+    // Takes the lowest out, if there is one.
+    pub fn pop_first(&mut self) -> Option<usize>
+        ensures { Pops one_word self.old self.new result }
+    {
+        if self.is_empty() {
+            return None;
+        }
+        let k = self.lowest();
+        *self = self.rest();
+        Some(k)
     }
 
     pub fn with(self, k: usize) -> Set
