@@ -4,14 +4,14 @@
 
 ghost use Rattle.std.specs.Prelude.{◌≡◌, [], ◌∷◌, ◌≤◌};
 ghost use Rattle.paper.specs.Numbers.{most_vertices};
-ghost use Rattle.paper.specs.Refusals as No;
+ghost use Rattle.paper.specs.declared.Number.TheVariants as No;
 ghost use Rattle.paper.specs.Refusals.{check, first_of};
 ghost use Rattle.paper.specs.Drawing.{Wire, edges_of, loose_vertex, vertices_reached, apart};
 ghost use Rattle.drawing_links.specs.Neighbours.{neighbour_words, FewEnds, Links};
 ghost use Rattle.drawing_links.specs.Reach.{DigitsAre, Grown};
 
 use lists::wide;
-use paper::{APART, Answer, LOOSE_VERTEX, MOST_VERTICES};
+use paper::{MOST_VERTICES, Number, Refusal};
 use paper_values::refused;
 use sets::{Set, is_set};
 
@@ -22,29 +22,25 @@ pub fn neighbours(ends: &[u8], v: usize) -> [u64; MOST_VERTICES]
 {
     let mut near = [0u64; MOST_VERTICES];
     let n = ends.len() / 2;
-    let mut e = 0;
-    while e < n {
+    for e in 0..n {
         let a = wide(ends[2 * e]);
         let b = wide(ends[2 * e + 1]);
         Set::mark(&mut near, a, b);
         Set::mark(&mut near, b, a);
-        e += 1;
     }
     near
 }
 
-pub fn loose_vertex(near: &[u64; MOST_VERTICES], v: usize) -> Answer
+pub fn loose_vertex(near: &[u64; MOST_VERTICES], v: usize) -> Result<(), Refusal>
     requires { v ≤ most_vertices }
     ensures { (d : Wire) → Links near.now v d → result ≡ first_of (check No.LooseVertex (loose_vertex d) ∷ []) }
 {
-    let mut u = 0;
-    while u < v {
+    for u in 0..v {
         if near[u] == 0 {
-            return refused(LOOSE_VERTEX, u);
+            return refused(Number::LooseVertex, u);
         }
-        u += 1;
     }
-    Answer::Fine
+    Ok(())
 }
 
 // The vertices of a set, and those that one edge more leads to.
@@ -53,12 +49,10 @@ fn further(near: &[u64; MOST_VERTICES], v: usize, set: u64) -> u64
     ensures { (d : Wire) → Links near.now v d → Grown set v d result }
 {
     let mut more = set;
-    let mut u = 0;
-    while u < v {
+    for u in 0..v {
         if is_set(set, u) {
             more = more | near[u];
         }
-        u += 1;
     }
     more
 }
@@ -69,29 +63,25 @@ fn vertices_reached(near: &[u64; MOST_VERTICES], v: usize) -> u64
     ensures { (d : Wire) → Links near.now v d → DigitsAre result v (vertices_reached d v) }
 {
     let mut set = 1u64;
-    let mut k = 0;
-    while k < v {
+    for k in 0..v {
         let more = further(near, v, set);
         if more == set {
             return set;
         }
         set = more;
-        k += 1;
     }
     set
 }
 
-pub fn apart(near: &[u64; MOST_VERTICES], v: usize) -> Answer
+pub fn apart(near: &[u64; MOST_VERTICES], v: usize) -> Result<(), Refusal>
     requires { v ≤ most_vertices }
     ensures { (d : Wire) → Links near.now v d → result ≡ first_of (check No.Apart (apart d) ∷ []) }
 {
     let set = vertices_reached(near, v);
-    let mut w = 0;
-    while w < v {
+    for w in 0..v {
         if !is_set(set, w) {
-            return refused(APART, w);
+            return refused(Number::Apart, w);
         }
-        w += 1;
     }
-    Answer::Fine
+    Ok(())
 }

@@ -6,9 +6,8 @@ use native.Mathlib.Omega.{arith}
 use lib.IntN.{ℤ, pos}
 use lib.ListN.{length, get_or}
 use Rattle.paper.specs.Numbers.{least_edges, most_edges}
-use Rattle.paper.specs.Refusals.{first_of}
+use Rattle.paper.specs.Refusals.{first_of, Fine}
 use Rattle.paper.specs.Sheet.{content_checks, lent_checks}
-use Rattle.paper.specs.declared.Answer.TheVariants.{Fine}
 use Rattle.paper_laws.proofs.Coordinate.{in_reach}
 use Rattle.paper_laws.specs.InRange.{Points, Ends, InRange}
 use Rattle.sheet_laws.proofs.Lent.{contents, lent}

@@ -4,7 +4,7 @@ ghost use Rattle.paper.specs.Refusals.{first_of};
 ghost use Rattle.paper.specs.Sheet.{bad_count, lent_checks};
 
 use super::content;
-use paper::Answer;
+use paper::{Number, Refusal};
 use paper_values::refused;
 use sheet_counts::is_outside;
 
@@ -19,7 +19,7 @@ fn is_bad_count(k: usize, lo: u64, hi: u64, n: usize) -> bool
     is_outside(lo, hi, (n / k) as u64)
 }
 
-pub fn lent(xyz: &[i64], ends: &[u8]) -> Answer
+pub fn lent(xyz: &[i64], ends: &[u8]) -> Result<(), Refusal>
     ensures { result ≡ first_of (lent_checks xyz.now ends.now) }
 {
     if is_bad_count(
@@ -28,7 +28,7 @@ pub fn lent(xyz: &[i64], ends: &[u8]) -> Answer
         paper::MOST_VERTICES as u64,
         xyz.len(),
     ) {
-        return refused(paper::BAD_COUNT, 0);
+        return refused(Number::BadCount, 0);
     }
     if is_bad_count(
         2,
@@ -36,7 +36,7 @@ pub fn lent(xyz: &[i64], ends: &[u8]) -> Answer
         paper::MOST_EDGES as u64,
         ends.len(),
     ) {
-        return refused(paper::BAD_COUNT, 1);
+        return refused(Number::BadCount, 1);
     }
     content(xyz.len() / 3, xyz, ends)
 }

@@ -10,8 +10,7 @@ ghost use Rattle.lists.specs.Found.{found};
 ghost use Rattle.paper.specs.Refusals.{first_of};
 ghost use Rattle.paper.specs.Sheet.{far, far_at, wrong, wrong_at, edge_above, low_at, edge_checks, content_checks};
 
-use lists::Found;
-use paper::Answer;
+use paper::{Number, Refusal};
 use paper_values::refused;
 
 fn is_far(z: i64) -> bool
@@ -21,17 +20,15 @@ fn is_far(z: i64) -> bool
 }
 
 // The lowest place of a coordinate out of range.
-fn first_far(xyz: &[i64]) -> Found
+fn first_far(xyz: &[i64]) -> Option<usize>
     ensures { found result ≡ lowest (far_at xyz.now) (length xyz.now) }
 {
-    let mut i: usize = 0;
-    while i < xyz.len() {
-        if is_far(xyz[i]) {
-            return Found::Value(i);
+    for (i, z) in xyz.iter().enumerate() {
+        if is_far(*z) {
+            return Some(i);
         }
-        i += 1;
     }
-    Found::Nothing
+    None
 }
 
 fn is_wrong(v: usize, a: u8, b: u8) -> bool
@@ -47,18 +44,16 @@ fn is_wrong(v: usize, a: u8, b: u8) -> bool
 }
 
 // The lowest edge with an end that is no vertex below v, or whose ends do not rise.
-fn first_wrong(v: usize, ends: &[u8]) -> Found
+fn first_wrong(v: usize, ends: &[u8]) -> Option<usize>
     ensures { found result ≡ lowest (wrong_at v ends.now) (length ends.now / 2) }
 {
     let n = ends.len() / 2;
-    let mut e: usize = 0;
-    while e < n {
+    for e in 0..n {
         if is_wrong(v, ends[2 * e], ends[2 * e + 1]) {
-            return Found::Value(e);
+            return Some(e);
         }
-        e += 1;
     }
-    Found::Nothing
+    None
 }
 
 fn is_edge_above(a0: u8, b0: u8, a: u8, b: u8) -> bool
@@ -91,39 +86,37 @@ fn is_low(ends: &[u8], e: usize) -> bool
 }
 
 // The lowest edge that is not above the edge before it.
-fn first_low(ends: &[u8]) -> Found
+fn first_low(ends: &[u8]) -> Option<usize>
     ensures { found result ≡ lowest (low_at ends.now) (length ends.now / 2) }
 {
     let n = ends.len() / 2;
-    let mut e: usize = 0;
-    while e < n {
+    for e in 0..n {
         if is_low(ends, e) {
-            return Found::Value(e);
+            return Some(e);
         }
-        e += 1;
     }
-    Found::Nothing
+    None
 }
 
 // Refusals 9 and 10.
-fn edges(v: usize, ends: &[u8]) -> Answer
+fn edges(v: usize, ends: &[u8]) -> Result<(), Refusal>
     ensures { result ≡ first_of (edge_checks v ends.now) }
 {
     match first_wrong(v, ends) {
-        Found::Value(e) => refused(paper::BAD_EDGE, e),
-        Found::Nothing => match first_low(ends) {
-            Found::Value(e) => refused(paper::EDGE_ORDER, e),
-            Found::Nothing => Answer::Fine,
+        Some(e) => refused(Number::BadEdge, e),
+        None => match first_low(ends) {
+            Some(e) => refused(Number::EdgeOrder, e),
+            None => Ok(()),
         },
     }
 }
 
 // Refusals 8, 9 and 10 of a drawing with v vertices.
-pub fn content(v: usize, xyz: &[i64], ends: &[u8]) -> Answer
+pub fn content(v: usize, xyz: &[i64], ends: &[u8]) -> Result<(), Refusal>
     ensures { result ≡ first_of (content_checks v xyz.now ends.now) }
 {
     match first_far(xyz) {
-        Found::Value(i) => refused(paper::BAD_COORDINATE, i),
-        Found::Nothing => edges(v, ends),
+        Some(i) => refused(Number::BadCoordinate, i),
+        None => edges(v, ends),
     }
 }

@@ -2,11 +2,10 @@
 use Rattle.std.specs.Prelude.{◌≡◌, Bool, ◌||◌, List, [], ◌∷◌, ℕ, suc, ◌+◌, ◌*◌, ◌-◌, eqb, ℤ, length, get_or}
 use Rattle.lists.specs.Lists.{any, from, lowest}
 use Rattle.sets.specs.Word.{dig}
-use Rattle.paper.specs.Refusals as No
-use Rattle.paper.specs.Refusals.{check, first_of}
+use Rattle.paper.specs.declared.Number.TheVariants as No
+use Rattle.paper.specs.Refusals.{check, first_of, Answer}
 use Rattle.paper.specs.Points.{same_point}
 use Rattle.paper.specs.Drawing.{Wire, points_of, same_place}
-use Rattle.paper.specs.declared.Answer.{Answer}
 use Rattle.paper.specs.declared.Point.{Point}
 use Rattle.polygon.specs.Rings.{point_of}
 use Rattle.drawing_segments.specs.declared.Both.{Both}

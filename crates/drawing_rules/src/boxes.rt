@@ -31,12 +31,10 @@ pub fn put_boxes(xyz: &[i64], v: usize, ends: &[u8], low: &mut [i64], high: &mut
     ensures { Boxed xyz.now ends.now low.new high.new }
 {
     let n = ends.len() / 2;
-    let mut e = 0;
-    while e < n {
+    for e in 0..n {
         let s = span_of(end_at(xyz, v, ends, 2 * e), end_at(xyz, v, ends, 2 * e + 1));
         put_point(low, e, s.low);
         put_point(high, e, s.high);
-        e += 1;
     }
 }
 

@@ -12,27 +12,15 @@ ghost use Rattle.paper.specs.Refusals.{first_of};
 ghost use Rattle.paper.specs.Drawing.{wire, drawing_checks};
 ghost use Rattle.drawing_rules.specs.Asked.{Linked};
 
-use paper::{Answer, MOST_VERTICES};
+use paper::{MOST_VERTICES, Refusal};
 
-pub fn drawing_rules(xyz: &[i64], ends: &[u8], near: &[u64; MOST_VERTICES]) -> Answer
+pub fn drawing_rules(xyz: &[i64], ends: &[u8], near: &[u64; MOST_VERTICES]) -> Result<(), Refusal>
     requires { Linked xyz.now ends.now near.now }
     ensures { result ≡ first_of (drawing_checks (wire xyz.now ends.now)) }
 {
     let v = xyz.len() / 3;
-    let same = places::same_place(xyz, v);
-    match same {
-        Answer::Refused(_) => return same,
-        Answer::Fine => {}
-    }
-    let loose = drawing_links::loose_vertex(near, v);
-    match loose {
-        Answer::Refused(_) => return loose,
-        Answer::Fine => {}
-    }
-    let meets = meets::edge_meets(xyz, v, ends);
-    match meets {
-        Answer::Refused(_) => return meets,
-        Answer::Fine => {}
-    }
+    places::same_place(xyz, v)?;
+    drawing_links::loose_vertex(near, v)?;
+    meets::edge_meets(xyz, v, ends)?;
     drawing_links::apart(near, v)
 }

@@ -2,7 +2,7 @@
 // once, boxes first; as every vertex is an end of an edge, no vertex is. Assumes a drawing in range that has passed 11 and 12.
 ghost use Rattle.std.specs.Prelude.{◌≡◌, Bool, List, [], ◌∷◌, ◌<◌};
 ghost use Rattle.paper.specs.Numbers.{most_edges};
-ghost use Rattle.paper.specs.Refusals as No;
+ghost use Rattle.paper.specs.declared.Number.TheVariants as No;
 ghost use Rattle.paper.specs.Refusals.{check, first_of};
 ghost use Rattle.paper.specs.Drawing.{Wire, wire, edge_meets};
 ghost use Rattle.sets.specs.Sets.{wides};
@@ -13,7 +13,7 @@ ghost use Rattle.drawing_rules.specs.Meets.{both_at, Lowest13};
 use super::boxes::{CORNERS, box_at, put_boxes};
 use super::ends::{are_joined, end_at};
 use drawing_segments::{Both, are_apart, both_meet};
-use paper::{Answer, EDGE_MEETS};
+use paper::{Number, Refusal};
 use paper_values::refused;
 use sets::Wide;
 
@@ -78,10 +78,8 @@ fn meets(
 {
     let n = ends.len() / 2;
     let mut met = hit;
-    let mut f = e + 1;
-    while f < n {
+    for f in e + 1..n {
         met = mark_both(met, e, f, pair(xyz, v, ends, low, high, e, f));
-        f += 1;
     }
     met
 }
@@ -99,25 +97,23 @@ fn offenders(
 {
     let n = ends.len() / 2;
     let mut hit = Wide::none();
-    let mut e = 0;
-    while e < n {
+    for e in 0..n {
         hit = meets(xyz, v, ends, low, high, e, hit);
-        e += 1;
     }
     hit
 }
 
 // The lowest of them.
-fn lowest(hit: Wide) -> Answer
+fn lowest(hit: Wide) -> Result<(), Refusal>
     ensures { (d : Wire) → wides.Is hit (offenders d) → Lowest13 d result }
 {
     if hit.count() == 0 {
-        return Answer::Fine;
+        return Ok(());
     }
-    refused(EDGE_MEETS, hit.lowest())
+    refused(Number::EdgeMeets, hit.lowest())
 }
 
-pub fn edge_meets(xyz: &[i64], v: usize, ends: &[u8]) -> Answer
+pub fn edge_meets(xyz: &[i64], v: usize, ends: &[u8]) -> Result<(), Refusal>
     requires { PassedSoFar xyz.now v ends.now }
     ensures { result ≡ first_of (check No.EdgeMeets (edge_meets (wire xyz.now ends.now)) ∷ []) }
 {

@@ -4,7 +4,7 @@ ghost use Rattle.paper_laws.specs.InRange.{Points};
 ghost use Rattle.drawing_rules.specs.Asked.{VertexAt};
 ghost use Rattle.drawing_rules.specs.Meets.{shared_in, Told11};
 
-use paper::{Answer, SAME_PLACE};
+use paper::{Number, Refusal};
 use paper_values::refused;
 use polygon::points::same_point;
 use polygon::rings::point_at;
@@ -15,26 +15,22 @@ fn shares(xyz: &[i64], v: usize, u: usize) -> bool
     ensures { result ≡ shared_in xyz.now v u }
 {
     let p = point_at(xyz, u);
-    let mut w = u + 1;
-    while w < v {
+    for w in u + 1..v {
         if same_point(p, point_at(xyz, w)) {
             return true;
         }
-        w += 1;
     }
     false
 }
 
-pub fn same_place(xyz: &[i64], v: usize) -> Answer
+pub fn same_place(xyz: &[i64], v: usize) -> Result<(), Refusal>
     requires { Points xyz.now v }
     ensures { Told11 xyz.now result }
 {
-    let mut u = 0;
-    while u < v {
+    for u in 0..v {
         if shares(xyz, v, u) {
-            return refused(SAME_PLACE, u);
+            return refused(Number::SamePlace, u);
         }
-        u += 1;
     }
-    Answer::Fine
+    Ok(())
 }

@@ -5,14 +5,13 @@ use mathlib.Core.List.{List, [], ◌∷◌}
 use Prim.Native.Nat.{ℕ}
 use lib.ListN.{length}
 use Rattle.paper_laws.proofs.Answers.{written-said}
-use Rattle.paper.specs.Refusals as No
-use Rattle.paper.specs.Refusals.{check, offends}
+use Rattle.paper.specs.declared.Number.TheVariants as No
+use Rattle.paper.specs.Refusals.{check, offends, Fine}
 use Rattle.paper.specs.Format.{bytes_for}
 use Rattle.paper.specs.Loops.{Loop}
 use Rattle.paper.specs.FaceList.{bits_of, count_in, well_shaped, faces_of, no_faces, send_checks, sent_for, sent_of}
 use Rattle.paper.specs.Reading.{first_said, answer_says, written_says, faces_said, sent_said}
 use Rattle.paper.specs.declared.Format.{Format}
-use Rattle.paper.specs.declared.Answer.TheVariants.{Fine}
 
 pub faces-said : (f : Format) (v : ℕ) (s : List ℕ) → answer_says (faces_of f v s).answer ≡ faces_said f v s
 unfolding faces_of faces_said first_said

@@ -8,8 +8,8 @@ use Rattle.pack.specs.Fill.{padded}
 use Rattle.paper.specs.Loops.{row}
 use Rattle.paper.specs.FaceList.{no_faces, count_in, faces_in, well_shaped, faces_of}
 use Rattle.paper.specs.declared.Format.{Format}
-use Rattle.paper.specs.declared.Faces.{Faces}
-use Rattle.paper.specs.declared.Answer.TheVariants.{Fine}
+use Rattle.paper.specs.FaceList.{Faces}
+use Rattle.paper.specs.Refusals.{Fine}
 use Rattle.faces_reader.specs.Filed.{all_rows}
 
 module _ (f : Format) (v : ℕ) (s : List ℕ) where

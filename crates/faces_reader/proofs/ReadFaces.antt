@@ -24,7 +24,7 @@ use Rattle.paper.specs.Format.{edition_bits, corner_bits, outside, bytes_for, fi
 use Rattle.paper.specs.Loops.{Loop, row}
 use Rattle.paper.specs.FaceList.{no_faces, count_in, faces_in, span, bits_of, face_fits, well_shaped, faces_of}
 use Rattle.paper.specs.declared.Format.{Format}
-use Rattle.paper.specs.declared.Answer.TheVariants as Answer
+use Rattle.paper.specs.Refusals.{Fine}
 use Rattle.faces_reader.specs.Face.{Brief, begins, count_of, face_end, corners_in, face_at, closes_at}
 use Rattle.faces_reader.specs.Filed.{all_rows}
 use Rattle.faces_reader.proofs.Brief.{corners_small}
@@ -215,12 +215,12 @@ module _ (f : Format) (v : ℕ) (s : List ℕ) where
         let fit : fit_all ≡ true = sym (ap (all (face_fits f v)) all_read) ∙ r.fit in
         rw e (last_two (leb 2 (length s)) edition_right count-right size-right fill_right o.begun fit)
 
-    pub read-ends : closes_at s p ≡ true → record { answer = Answer.Fine; count = n; rows = rows } ≡ faces_of f v s
+    pub read-ends : closes_at s p ≡ true → record { answer = Fine; count = n; rows = rows } ≡ faces_of f v s
     unfolding faces_of
     read-ends e =
         let rows_are = r.rows_are ∙ ap (λ (fs : List Loop). padded (flat_map row fs) all_rows 0) all_read in
         rw (ends ∙ e)
-        (ap₂ (λ (m : ℕ) (t : List ℕ). record { answer = Answer.Fine; count = m; rows = t }) o.count_is rows_are)
+        (ap₂ (λ (m : ℕ) (t : List ℕ). record { answer = Fine; count = m; rows = t }) o.count_is rows_are)
 
     pub no_end : closes_at s p ≡ false → no_faces ≡ faces_of f v s
     no_end e = refuses (ends ∙ e)

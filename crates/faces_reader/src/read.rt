@@ -6,39 +6,29 @@ ghost use Rattle.lists.specs.Lists.{all};
 ghost use Rattle.lists.specs.Found.{found};
 ghost use Rattle.paper.specs.Numbers.{row_bytes};
 ghost use Rattle.paper.specs.Loops.{row};
-ghost use Rattle.paper.specs.FaceList.{no_faces, faces_of};
+ghost use Rattle.paper.specs.FaceList.{faces_as, faces_of};
 ghost use Rattle.faces_reader.specs.Face.{Brief, count_of, face_at, closes_at};
 ghost use Rattle.faces_reader.specs.Asked.{FaceFields, Cell, PutRow, FacePlace};
 
-use lists::Found;
-use paper::{Answer, Faces, Format};
-
-fn no_faces() -> Faces
-    ensures { result ≡ no_faces }
-{
-    Faces {
-        answer: paper_values::refused(paper::SHELL_SHAPE, 0),
-        count: 0,
-        rows: [0u8; paper::ROWS],
-    }
-}
+use paper::{FaceRows, Format, Number, Refusal};
+use paper_values::refused;
 
 // The face count, where the list begins as one of this edition.
-fn count_in(f: Format, s: &[u8]) -> Found
+fn count_in(f: Format, s: &[u8]) -> Option<usize>
     requires { Brief f }
     ensures { found result ≡ count_of f s.now }
 {
     if s.len() < 2 {
-        return Found::Nothing;
+        return None;
     }
     if pack::field(s, 0, paper::EDITION_BITS) != f.edition {
-        return Found::Nothing;
+        return None;
     }
     let n = pack::field(s, paper::EDITION_BITS, f.face_count_bits);
     if sheet_counts::is_outside(paper::LEAST_FACES as u64, f.most_faces, n) {
-        return Found::Nothing;
+        return None;
     }
-    Found::Value(n as usize)
+    Some(n as usize)
 }
 
 // Whether the c numbers of w bits from bit i on are vertices below v.
@@ -46,36 +36,34 @@ fn are_below(v: usize, s: &[u8], i: usize, w: usize, c: usize) -> bool
     requires { FaceFields s.now i w c }
     ensures { result ≡ all (λ x. ltb x v) (fields_at s.now i w c) }
 {
-    let mut k: usize = 0;
-    while k < c {
+    for k in 0..c {
         if v <= pack::field(s, i + w * k, w) as usize {
             return false;
         }
-        k += 1;
     }
     true
 }
 
 // The corner count of the face that starts at bit `at`, where there is such a face.
-fn face_at(f: Format, s: &[u8], at: usize, v: usize) -> Found
+fn face_at(f: Format, s: &[u8], at: usize, v: usize) -> Option<usize>
     requires { FacePlace f at }
     ensures { found result ≡ face_at f v s.now at }
 {
     if s.len() < (at + paper::CORNER_BITS + 7) / 8 {
-        return Found::Nothing;
+        return None;
     }
     let c = pack::field(s, at, paper::CORNER_BITS);
     if sheet_counts::is_outside(paper::LEAST_CORNERS as u64, paper::MOST_CORNERS as u64, c) {
-        return Found::Nothing;
+        return None;
     }
     let n = c as usize;
     if s.len() < (at + paper::CORNER_BITS + f.vertex_number_bits * n + 7) / 8 {
-        return Found::Nothing;
+        return None;
     }
     if are_below(v, s, at + paper::CORNER_BITS, f.vertex_number_bits, n) {
-        return Found::Value(n);
+        return Some(n);
     }
-    Found::Nothing
+    None
 }
 
 // Cell j of the row of the c numbers of w bits from bit i on.
@@ -97,10 +85,8 @@ fn put_row(s: &[u8], i: usize, w: usize, c: usize, rows: &mut [u8], at: usize)
     requires { PutRow s.now i w c rows.old at }
     ensures { rows.new ≡ paste rows.old at (row (fields_at s.now i w c)) row_bytes }
 {
-    let mut j: usize = 0;
-    while j < paper::ROW {
+    for j in 0..paper::ROW {
         rows[at + j] = cell(s, i, w, c, j);
-        j += 1;
     }
 }
 
@@ -116,21 +102,18 @@ fn closes(s: &[u8], n: usize) -> bool
 }
 
 // Reads a face list of one edition.
-pub fn read(f: Format, s: &[u8], v: usize) -> Faces
+pub fn read(f: Format, s: &[u8], v: usize) -> Result<FaceRows, Refusal>
     requires { Brief f }
-    ensures { result ≡ faces_of f v s.now }
+    ensures { faces_as result ≡ faces_of f v s.now }
 {
-    let counted = count_in(f, s);
-    let Found::Value(n) = counted else {
-        return no_faces();
+    let Some(n) = count_in(f, s) else {
+        return refused(Number::ShellShape, 0);
     };
     let mut rows = [0u8; paper::ROWS];
     let mut at = paper::EDITION_BITS + f.face_count_bits;
-    let mut k: usize = 0;
-    while k < n {
-        let face = face_at(f, s, at, v);
-        let Found::Value(c) = face else {
-            return no_faces();
+    for k in 0..n {
+        let Some(c) = face_at(f, s, at, v) else {
+            return refused(Number::ShellShape, 0);
         };
         put_row(
             s,
@@ -141,14 +124,9 @@ pub fn read(f: Format, s: &[u8], v: usize) -> Faces
             paper::ROW * k,
         );
         at = at + paper::CORNER_BITS + f.vertex_number_bits * c;
-        k += 1;
     }
     if closes(s, at) {
-        return Faces {
-            answer: Answer::Fine,
-            count: n,
-            rows,
-        };
+        return Ok(FaceRows { count: n, rows });
     }
-    no_faces()
+    refused(Number::ShellShape, 0)
 }

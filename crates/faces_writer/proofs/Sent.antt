@@ -11,16 +11,15 @@ use Rattle.pack.proofs.Laws.{length_bits}
 use Rattle.pack.proofs.Overwrite.{overwrite-next}
 use Rattle.paper_laws.proofs.Checks.{holds, fails, clear}
 use Rattle.lists.specs.Lists.{all}
-use Rattle.paper.specs.Refusals as No
+use Rattle.paper.specs.declared.Number.{Number}
+use Rattle.paper.specs.declared.Number.TheVariants as No
 use Rattle.paper.specs.Numbers.{least_faces}
-use Rattle.paper.specs.Refusals.{first_of}
+use Rattle.paper.specs.Refusals.{first_of, Answer, Written}
 use Rattle.paper.specs.Format.{edition_bits, outside, bytes_for, filled}
 use Rattle.paper.specs.Loops.{Loop}
 use Rattle.paper.specs.FaceList.{list_bits, encode_faces, bits_of, send_checks, sent_for, sent_room_for, sent_of, sent_room}
 use Rattle.paper.specs.declared.Format.{Format}
-use Rattle.paper.specs.declared.Answer.{Answer}
-use Rattle.paper.specs.declared.Written.{Written}
-use Rattle.paper.specs.declared.Written.TheVariants as Written
+use Rattle.std.specs.Prelude.{Ok, Err}
 use Rattle.sheet_laws.proofs.Encoded.{filled_is}
 use Rattle.faces_writer.specs.Send.{fits, faces_bits, list_head, list_in}
 use Rattle.faces_writer.specs.Asked.{SendsList}
@@ -70,8 +69,8 @@ module _ (f : Format) (fs : List Loop) where
   -- ---- the answer
 
   -- refused with a number of the table, at place 0
-  abbrev refusal : ℕ → Written
-  refusal n = Written.Refused (record { number = n; place = 0 })
+  abbrev refusal : Number → Written
+  refusal n = Err (record { number = n; place = 0 })
 
   -- too few faces or too many
   abbrev miscounted : Bool
@@ -105,6 +104,6 @@ module _ (f : Format) (fs : List Loop) where
       unfolding send_checks
       result_short h = from (holds _ _ _ (lt-ltb _ _ h) ∙ fails _ _ _ neither)
 
-      pub result_fine : bytes_for (bits_of f fs) ≤ length room → Result (Written.Bytes (bytes_for (bits_of f fs))) (list_in f fs room)
+      pub result_fine : bytes_for (bits_of f fs) ≤ length room → Result (Ok (bytes_for (bits_of f fs))) (list_in f fs room)
       unfolding send_checks
       result_fine h = from (clear ∙ fails _ _ _ (le-ltb _ _ h) ∙ fails _ _ _ neither)

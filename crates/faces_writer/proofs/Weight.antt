@@ -19,30 +19,38 @@ use Rattle.paper.specs.Loops.{Loop}
 use Rattle.paper.specs.FaceList.{span, row_at, solid_faces}
 use Rattle.paper.specs.declared.Format.{Format}
 use Rattle.faces_reader.specs.Face.{Brief}
-use Rattle.faces_writer.specs.Send.{marked, face_of, face_alone, fits, corners_of, weight, Weighed}
-use Rattle.faces_writer.specs.declared.write.Extent.{Extent}
-use Rattle.faces_writer.specs.declared.write.Extent.TheVariants.{Misfit, Of}
+use Rattle.faces_writer.specs.Send.{Weight, of, marked, face_of, face_alone, fits, corners_of, weight, Weighed}
+use Rattle.std.specs.Prelude.{Some, None}
 use Rattle.faces_reader.proofs.Brief.{corners_small}
 use Rattle.faces_laws.proofs.Shape.{face_yes}
 use Rattle.faces_writer.proofs.Fits.{way_length, way-fits}
 
 -- ---- two weights one behind the other
 
-abbrev pub plus : Extent → Extent → Extent
-plus Misfit y = Misfit
-plus (Of n a) Misfit = Misfit
-plus (Of n a) (Of m b) = Of (n + m) (a + b)
+abbrev pub plus : Weight → Weight → Weight
+plus None y = None
+plus (Some x) None = None
+plus (Some x) (Some y) = of (x.faces + y.faces) (x.bits + y.bits)
 
-of : {n m a b : ℕ} → n ≡ m → a ≡ b → Of n a ≡ Of m b
-of p q = ap₂ (λ (x y : ℕ). Of x y) p q
+same : {n m a b : ℕ} → n ≡ m → a ≡ b → of n a ≡ of m b
+same p q = ap₂ (λ (x y : ℕ). of x y) p q
 
-plus_none : (w : Extent) → w ≡ plus (Of 0 0) w
-plus_none Misfit = refl
-plus_none (Of n a) = of (sym (zero-add n)) (sym (zero-add a))
+plus_none : (w : Weight) → w ≡ plus (of 0 0) w
+plus_none None = refl
+plus_none (Some x) = same (sym (zero-add x.faces)) (sym (zero-add x.bits))
 
-plus-plus : (n a m b : ℕ) (w : Extent) → plus (Of n a) (plus (Of m b) w) ≡ plus (Of (n + m) (a + b)) w
-plus-plus n a m b Misfit = refl
-plus-plus n a m b (Of o c) = of (sym (add_assoc n m o)) (sym (add_assoc a b c))
+plus-plus : (n a m b : ℕ) (w : Weight) → plus (of n a) (plus (of m b) w) ≡ plus (of (n + m) (a + b)) w
+plus-plus n a m b None = refl
+plus-plus n a m b (Some x) = same (sym (add_assoc n m x.faces)) (sym (add_assoc a b x.bits))
+
+-- what a weight has, 0 where there is none
+faces_in : Weight → ℕ
+faces_in None = 0
+faces_in (Some x) = x.faces
+
+bits_in : Weight → ℕ
+bits_in None = 0
+bits_in (Some x) = x.bits
 
 -- ---- a solid has at most 64 faces
 
@@ -69,7 +77,7 @@ module _ (f : Format) where
 
   -- ---- the weight of a list
 
-  weight-none : weight f [] ≡ Of 0 0
+  weight-none : weight f [] ≡ of 0 0
   unfolding weight all span
   weight-none = refl
 
@@ -77,26 +85,26 @@ module _ (f : Format) where
   unfolding weight all span keep
   weight-keep true l fs = go (fits f l) (all (fits f) fs)
     where
-      go : (x y : Bool) → cond (x && y) (Of (suc (length fs)) (face_span (length l) + span f fs)) Misfit
-          ≡ plus (cond (x && true) (Of 1 (face_span (length l) + 0)) Misfit) (cond y (Of (length fs) (span f fs)) Misfit)
-      go true true = of (omega arith) (omega arith)
+      go : (x y : Bool) → cond (x && y) (of (suc (length fs)) (face_span (length l) + span f fs)) None
+          ≡ plus (cond (x && true) (of 1 (face_span (length l) + 0)) None) (cond y (of (length fs) (span f fs)) None)
+      go true true = same (omega arith) (omega arith)
       go true false = refl
       go false y = refl
-  weight-keep false l fs = plus_none (cond (all (fits f) fs) (Of (length fs) (span f fs)) Misfit)
+  weight-keep false l fs = plus_none (cond (all (fits f) fs) (of (length fs) (span f fs)) None)
 
-  pub weighed : (fs : List Loop) {n b : ℕ} → Of n b ≡ weight f fs → Weighed f fs n b
-  unfolding weight
+  pub weighed : (fs : List Loop) {n b : ℕ} → of n b ≡ weight f fs → Weighed f fs n b
+  unfolding weight faces_in bits_in
   weighed fs {n} {b} e = go (all (fits f) fs) refl e
     where
-      go : (x : Bool) → all (fits f) fs ≡ x → Of n b ≡ cond x (Of (length fs) (span f fs)) Misfit → Weighed f fs n b
-      go true t q = record { fit = t; count_is = cc; span_is = cc }
+      go : (x : Bool) → all (fits f) fs ≡ x → of n b ≡ cond x (of (length fs) (span f fs)) None → Weighed f fs n b
+      go true t q = record { fit = t; count_is = ap faces_in q; span_is = ap bits_in q }
       go false t q = let z : ◌≡◌ {A = ℕ} 0 1 = cc in absurd (omega arith)
 
-  pub misfit : (fs : List Loop) → Misfit ≡ weight f fs → all (fits f) fs ≡ false
+  pub misfit : (fs : List Loop) → None ≡ weight f fs → all (fits f) fs ≡ false
   unfolding weight
   misfit fs e = go (all (fits f) fs) refl e
     where
-      go : (x : Bool) → all (fits f) fs ≡ x → Misfit ≡ cond x (Of (length fs) (span f fs)) Misfit → all (fits f) fs ≡ false
+      go : (x : Bool) → all (fits f) fs ≡ x → None ≡ cond x (of (length fs) (span f fs)) None → all (fits f) fs ≡ false
       go true t q = let z : ◌≡◌ {A = ℕ} 0 1 = cc in absurd (omega arith)
       go false t q = t
 
@@ -116,17 +124,17 @@ module _ (f : Format) where
 
     -- ---- one candidate: not taken, no face, a face
 
-    abbrev pub One : ℕ → Extent → Type 0
+    abbrev pub One : ℕ → Weight → Type 0
     One k w = w ≡ weight f (face_alone rows ws k)
 
-    pub weigh_left : (k : ℕ) → marked ws k ≡ false → One k (Of 0 0)
+    pub weigh_left : (k : ℕ) → marked ws k ≡ false → One k (of 0 0)
     unfolding face_alone keep
     weigh_left k e = rw e (sym weight-none)
 
     -- a taken candidate, by the corner count that is found
-    abbrev found_extent : Option ℕ → Extent
-    found_extent none = Misfit
-    found_extent (some c) = Of 1 (face_span c)
+    abbrev found_extent : Option ℕ → Weight
+    found_extent none = None
+    found_extent (some c) = of 1 (face_span c)
 
     weigh_one : (k : ℕ) → marked ws k ≡ true → found_extent (corners_of f (row_at rows k)) ≡ weight f (face_alone rows ws k)
     unfolding face_alone keep weight all span corners_of
@@ -135,15 +143,15 @@ module _ (f : Format) where
         let b = dig (turned_in ws) k in
         rw (e, way-fits f f.most_vertices b l, way_length b l) (go (fits f l) (length l))
       where
-        go : (b : Bool) (n : ℕ) → found_extent (cond b (some n) none) ≡ cond (b && true) (Of 1 (face_span n + 0)) Misfit
-        go true n = of refl (omega arith)
+        go : (b : Bool) (n : ℕ) → found_extent (cond b (some n) none) ≡ cond (b && true) (of 1 (face_span n + 0)) None
+        go true n = same refl (omega arith)
         go false n = refl
 
     pub weigh_row : (k : ℕ) {o : Option ℕ} → marked ws k ≡ true → o ≡ corners_of f (row_at rows k) → One k (found_extent o)
     weigh_row k e q = ap found_extent q ∙ weigh_one k e
 
     -- one candidate weighs little
-    pub one_small : Brief f → (k : ℕ) {m b : ℕ} → One k (Of m b) → (m ≤ 1) × (b ≤ 100)
+    pub one_small : Brief f → (k : ℕ) {m b : ℕ} → One k (of m b) → (m ≤ 1) × (b ≤ 100)
     unfolding face_alone
     one_small g k {m} {b} o =
         let fs = keep (marked ws k) (face_of rows ws k) [] in
@@ -172,7 +180,7 @@ module _ (f : Format) where
     -- ---- what is weighed and what is left give the whole
 
     abbrev Passed : ℕ → ℕ → ℕ → Type 0
-    Passed k n b = weight f (solid_faces rows ws) ≡ plus (Of n b) (weight f (faces_left k))
+    Passed k n b = weight f (solid_faces rows ws) ≡ plus (of n b) (weight f (faces_left k))
 
     -- candidate k is next, and those before it are n faces of b bits
     pub record Weighing (k n b : ℕ) : Type 0 where
@@ -190,19 +198,19 @@ module _ (f : Format) where
     }
 
     module _ (k n b : ℕ) (h : k < most_candidates) (r : Weighing k n b) where
-      abbrev rest : Extent
+      abbrev rest : Weight
       rest = weight f (faces_left (k + 1))
 
       -- the faces left are those of candidate k and the rest
-      split : {w : Extent} → One k w → weight f (solid_faces rows ws) ≡ plus (Of n b) (plus w rest)
+      split : {w : Weight} → One k w → weight f (solid_faces rows ws) ≡ plus (of n b) (plus w rest)
       unfolding face_alone
       split {w} o =
           r.passed
-          ∙ ap (plus (Of n b)) (ap (weight f) (faces-next k h))
-          ∙ ap (plus (Of n b)) (weight-keep (marked ws k) (face_of rows ws k) (faces_left (k + 1)))
-          ∙ ap (λ (x : Extent). plus (Of n b) (plus x rest)) (sym o)
+          ∙ ap (plus (of n b)) (ap (weight f) (faces-next k h))
+          ∙ ap (plus (of n b)) (weight-keep (marked ws k) (face_of rows ws k) (faces_left (k + 1)))
+          ∙ ap (λ (x : Weight). plus (of n b) (plus x rest)) (sym o)
 
-      pub weigh_next : Brief f → {m c : ℕ} → One k (Of m c) → Weighing (k + 1) (n + m) (b + c)
+      pub weigh_next : Brief f → {m c : ℕ} → One k (of m c) → Weighing (k + 1) (n + m) (b + c)
       weigh_next g {m} {c} o =
           let s = one_small g k o in
           record {
@@ -212,10 +220,10 @@ module _ (f : Format) where
             passed = split o ∙ plus-plus n b m c rest;
           }
 
-      pub weigh_stop : One k Misfit → Misfit ≡ weight f (solid_faces rows ws)
+      pub weigh_stop : One k None → None ≡ weight f (solid_faces rows ws)
       weigh_stop o = sym (split o)
 
-    pub weigh_end : (k n b : ℕ) → most_candidates ≤ k → Weighing k n b → Of n b ≡ weight f (solid_faces rows ws)
+    pub weigh_end : (k n b : ℕ) → most_candidates ≤ k → Weighing k n b → of n b ≡ weight f (solid_faces rows ws)
     weigh_end k n b h r =
         let none_left = ap (weight f) (faces-end k h) ∙ weight-none in
-        sym (r.passed ∙ ap (plus (Of n b)) none_left ∙ of (add-zero n) (add-zero b))
+        sym (r.passed ∙ ap (plus (of n b)) none_left ∙ same (add-zero n) (add-zero b))

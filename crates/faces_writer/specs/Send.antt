@@ -1,5 +1,5 @@
 -- A reported solid on its way into a list: candidate by candidate, and what faces weigh.
-use Rattle.std.specs.Prelude.{◌≡◌, Bool, true, cond, ℕ, ◌+◌, length, take, drop}
+use Rattle.std.specs.Prelude.{◌≡◌, Bool, true, cond, ℕ, ◌+◌, length, take, drop, Some, None}
 use Rattle.std.proofs.Math.Option.{Option, none, some}
 use mathlib.Core.List.{List, [], ◌∷◌, flat_map}
 use Rattle.pack.specs.Bits.{Put}
@@ -10,9 +10,9 @@ use Rattle.paper.specs.Record.{taken_in, turned_in}
 use Rattle.paper.specs.Loops.{Loop, flipped}
 use Rattle.paper.specs.FaceList.{face_bits, span, face_fits, row_at, solid_faces, sent_room_for}
 use Rattle.paper.specs.declared.Format.{Format}
-use Rattle.paper.specs.declared.Answer.TheVariants as Answer
+use Rattle.std.specs.Prelude as Std
+use Rattle.paper.specs.Refusals.{Fine}
 use Rattle.faces_writer.specs.declared.write.Extent.{Extent}
-use Rattle.faces_writer.specs.declared.write.Extent.TheVariants.{Misfit, Of}
 
 -- the c numbers of rows from place i on
 abbrev pub corners_at : List ℕ → ℕ → ℕ → List ℕ
@@ -41,6 +41,13 @@ face_alone rows ws k = keep (marked ws k) (face_of rows ws k) []
 abbrev pub of_solid : {A : Type 0} → (List Loop → List ℕ → A) → List ℕ → List ℕ → List ℕ → A
 of_solid say rows ws room = say (solid_faces rows ws) room
 
+-- how many faces there are and their bits, where all fit
+abbrev pub Weight : Type 0
+Weight = Std.Option Extent
+
+abbrev pub of : ℕ → ℕ → Weight
+of n b = Some (record { faces = n; bits = b })
+
 module _ (f : Format) where
   -- a face that a list can have
   abbrev pub fits : Loop → Bool
@@ -61,8 +68,8 @@ module _ (f : Format) where
   PutFaces fs room last b = Put room last b (faces_bits fs)
 
   -- the count and the bits of faces that all fit
-  unfoldable pub weight : List Loop → Extent
-  weight fs = cond (all fits fs) (Of (length fs) (span f fs)) Misfit
+  unfoldable pub weight : List Loop → Weight
+  weight fs = cond (all fits fs) (of (length fs) (span f fs)) None
 
   -- what a weight says of the faces
   pub record Weighed (fs : List Loop) (n b : ℕ) : Type 0 where
@@ -72,4 +79,4 @@ module _ (f : Format) where
 
   -- the list at the start of a room whose later bytes stay
   abbrev pub list_in : List Loop → List ℕ → List ℕ
-  list_in fs room = sent_room_for f fs Answer.Fine room
+  list_in fs room = sent_room_for f fs Fine room

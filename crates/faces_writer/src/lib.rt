@@ -9,7 +9,7 @@ ghost use Rattle.faces_writer.specs.Send.{of_solid};
 
 mod write;
 
-use paper::Written;
+use paper::Refusal;
 
 // Writes a reported solid of a drawing of so many vertices and edges as a face list to the start of the room, from the report's rows and
 // the solid's record: refusal 20, then 1. Later room keeps its contents.
@@ -19,7 +19,7 @@ pub fn write_faces(
     vertices: usize,
     edges: usize,
     room: &mut [u8],
-) -> Written
+) -> Result<usize, Refusal>
     ensures answer { result
         ≡ of_solid (sent_of (edition_for vertices edges)) rows.now solid.now room.old }
     ensures said { written_says result

@@ -9,15 +9,15 @@ ghost use Rattle.faces_reader.specs.Face.{Brief};
 ghost use Rattle.faces_writer.specs.Send.{corners_at, way, row_alone, face_alone, PutFaces, corners_of, list_head, weight, list_in};
 ghost use Rattle.faces_writer.specs.Asked.{CornerInRow, CornerFields, Candidate, SendsFrom, SendsOne, SendsList};
 
-use lists::Found;
-use paper::{Format, Refusal, Written};
+use paper::{Format, Number, Refusal};
+use paper_values::refused;
 use solid_words::{is_taken, is_turned};
 
-// How many faces there are and their bits, where all fit.
+// How many faces there are, and their bits.
 #[derive(Clone, Copy)]
-pub enum Extent {
-    Misfit,
-    Of(usize, usize),
+pub struct Extent {
+    pub faces: usize,
+    pub bits: usize,
 }
 
 // Whether the c numbers from place i on are below v.
@@ -25,69 +25,62 @@ fn are_under(v: u64, rows: &[u8], i: usize, c: usize) -> bool
     requires { i + c ≤ length rows.now }
     ensures { result ≡ all (λ x. ltb x v) (corners_at rows.now i c) }
 {
-    let mut j: usize = 0;
-    while j < c {
+    for j in 0..c {
         if v <= rows[i + j] as u64 {
             return false;
         }
-        j += 1;
     }
     true
 }
 
 // The corner count of candidate k, where it is a face.
-fn row_fits(f: Format, rows: &[u8], k: usize) -> Found
+fn row_fits(f: Format, rows: &[u8], k: usize) -> Option<usize>
     requires { k < most_candidates }
     ensures { found result ≡ corners_of f (row_at rows.now k) }
 {
     let first = paper::ROW * k;
     if rows.len() < first + paper::ROW {
-        return Found::Nothing;
+        return None;
     }
     let c = rows[first] as u64;
     if sheet_counts::is_outside(paper::LEAST_CORNERS as u64, paper::MOST_CORNERS as u64, c) {
-        return Found::Nothing;
+        return None;
     }
     let n = c as usize;
     if are_under(f.most_vertices, rows, first + 1, n) {
-        return Found::Value(n);
+        return Some(n);
     }
-    Found::Nothing
+    None
 }
 
-// What candidate k weighs: nothing where it is not taken.
-fn weigh(f: Format, rows: &[u8], solid: &[u64], k: usize) -> Extent
+// What candidate k weighs, where it fits: nothing where it is not taken.
+fn weigh(f: Format, rows: &[u8], solid: &[u64], k: usize) -> Option<Extent>
     requires { Candidate f k }
     ensures { result ≡ weight f (face_alone rows.now solid.now k) }
 {
     if is_taken(solid, k) {
-        let fit = row_fits(f, rows, k);
-        let Found::Value(c) = fit else {
-            return Extent::Misfit;
-        };
-        return Extent::Of(1, paper::CORNER_BITS + f.vertex_number_bits * c);
+        let c = row_fits(f, rows, k)?;
+        return Some(Extent {
+            faces: 1,
+            bits: paper::CORNER_BITS + f.vertex_number_bits * c,
+        });
     }
-    Extent::Of(0, 0)
+    Some(Extent { faces: 0, bits: 0 })
 }
 
-// What the solid's faces weigh.
-fn weigh_all(f: Format, rows: &[u8], solid: &[u64]) -> Extent
+// What the solid's faces weigh, where all fit.
+fn weigh_all(f: Format, rows: &[u8], solid: &[u64]) -> Option<Extent>
     requires { Brief f }
     ensures { result ≡ weight f (solid_faces rows.now solid.now) }
 {
-    let mut faces: usize = 0;
-    let mut bits: usize = 0;
-    let mut k: usize = 0;
-    while k < paper::MOST_CANDIDATES {
-        let one = weigh(f, rows, solid, k);
-        let Extent::Of(n, b) = one else {
-            return Extent::Misfit;
-        };
-        faces += n;
-        bits += b;
-        k += 1;
+    let mut faces = 0;
+    let mut bits = 0;
+    for k in 0..paper::MOST_CANDIDATES {
+        let one = weigh(f, rows, solid, k)?;
+        faces += one.faces;
+        bits += one.bits;
     }
-    Extent::Of(faces, bits)
+    Some(Extent { faces, bits })
 }
 
 // Corner j of the c corners from place i on: against their order the first stays first.
@@ -109,10 +102,8 @@ fn put_corners(rows: &[u8], i: usize, c: usize, back: bool, room: &mut [u8], b: 
     requires { CornerFields rows.now i c room.old b w }
     ensures { Put room.old room.new b (run w (way back (corners_at rows.now i c))) }
 {
-    let mut j: usize = 0;
-    while j < c {
+    for j in 0..c {
         pack::put(room, b + w * j, w, corner(rows, i, c, back, j));
-        j += 1;
     }
 }
 
@@ -156,10 +147,8 @@ fn put_faces(f: Format, rows: &[u8], solid: &[u64], room: &mut [u8])
         room.old room.new (list_head f) }
 {
     let mut b = paper::EDITION_BITS + f.face_count_bits;
-    let mut k: usize = 0;
-    while k < paper::MOST_CANDIDATES {
+    for k in 0..paper::MOST_CANDIDATES {
         b = put_taken(f, rows, solid, k, room, b);
-        k += 1;
     }
 }
 
@@ -174,29 +163,24 @@ fn put_list(f: Format, rows: &[u8], solid: &[u64], room: &mut [u8], n: usize, b:
     pack::put_fill(room, paper::EDITION_BITS + f.face_count_bits + b);
 }
 
-fn refused(number: u8) -> Written
-    ensures { result ≡ Written.Refused (record { number = number; place = 0 }) }
-{
-    Written::Refused(Refusal { number, place: 0 })
-}
-
 // Writes a reported solid as a list of one edition.
-pub fn write(f: Format, rows: &[u8], solid: &[u64], room: &mut [u8]) -> Written
+pub fn write(f: Format, rows: &[u8], solid: &[u64], room: &mut [u8]) -> Result<usize, Refusal>
     requires { Brief f }
     ensures answer { result ≡ sent_of f (solid_faces rows.now solid.now) room.old }
     ensures kept { room.new ≡ sent_room f (solid_faces rows.now solid.now) room.old }
 {
-    let weighed = weigh_all(f, rows, solid);
-    let Extent::Of(n, b) = weighed else {
-        return refused(paper::SHELL_SHAPE);
+    let Some(extent) = weigh_all(f, rows, solid) else {
+        return refused(Number::ShellShape, 0);
     };
+    let n = extent.faces;
+    let b = extent.bits;
     if sheet_counts::is_outside(paper::LEAST_FACES as u64, f.most_faces, n as u64) {
-        return refused(paper::SHELL_SHAPE);
+        return refused(Number::ShellShape, 0);
     }
     let size = (paper::EDITION_BITS + f.face_count_bits + b + 7) / 8;
     if room.len() < size {
-        return refused(paper::NO_ROOM);
+        return refused(Number::NoRoom, 0);
     }
     put_list(f, rows, solid, room, n, b);
-    Written::Bytes(size)
+    Ok(size)
 }

@@ -6,7 +6,7 @@ ghost use Rattle.paper.specs.Refusals.{first_of};
 ghost use Rattle.paper.specs.Format.{outside};
 ghost use Rattle.paper.specs.Sheet.{count_checks};
 
-use paper::{Answer, Format};
+use paper::{Format, Number, Refusal};
 use paper_values::refused;
 
 pub fn is_outside(lo: u64, hi: u64, n: u64) -> bool
@@ -19,14 +19,14 @@ pub fn is_outside(lo: u64, hi: u64, n: u64) -> bool
 }
 
 // Refusal 5.
-pub fn counts(f: Format, v: u64, e: u64) -> Answer
+pub fn counts(f: Format, v: u64, e: u64) -> Result<(), Refusal>
     ensures { result ≡ first_of (count_checks f v e) }
 {
     if is_outside(paper::LEAST_VERTICES as u64, f.most_vertices, v) {
-        return refused(paper::BAD_COUNT, 0);
+        return refused(Number::BadCount, 0);
     }
     if is_outside(paper::LEAST_EDGES as u64, f.most_edges, e) {
-        return refused(paper::BAD_COUNT, 1);
+        return refused(Number::BadCount, 1);
     }
-    Answer::Fine
+    Ok(())
 }

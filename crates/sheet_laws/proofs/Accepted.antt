@@ -9,12 +9,10 @@ use Rattle.pack.proofs.Laws.{length_fields}
 use Rattle.pack.proofs.Fill.{take_padded}
 use Rattle.paper_laws.proofs.Checks.{first-both}
 use Rattle.paper.specs.Numbers.{most_vertices, most_edges}
-use Rattle.paper.specs.Refusals.{first_of}
+use Rattle.paper.specs.Refusals.{first_of, Answer, Fine}
 use Rattle.paper.specs.Format.{coordinate, head, vertices_in, edges_in, coordinates_in, ends_in}
 use Rattle.paper.specs.Sheet.{content_checks, shape_checks, sheet_checks, held, drawn_for, sheet_of}
 use Rattle.paper.specs.declared.Format.{Format}
-use Rattle.paper.specs.declared.Answer.{Answer}
-use Rattle.paper.specs.declared.Answer.TheVariants.{Fine}
 use Rattle.sheet_laws.proofs.Shaped.{Shaped, shaped}
 
 module _ (f : Format) (s : List ℕ) where

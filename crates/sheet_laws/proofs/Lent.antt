@@ -12,9 +12,8 @@ use Rattle.lists.proofs.Truth.{or-none}
 use Rattle.lists.proofs.Lowest.{lowest-none}
 use Rattle.paper_laws.proofs.Checks.{found_none, passed}
 use Rattle.paper.specs.Numbers.{least_vertices, most_vertices, least_edges, most_edges}
-use Rattle.paper.specs.Refusals.{first_of}
+use Rattle.paper.specs.Refusals.{first_of, Fine}
 use Rattle.paper.specs.Sheet.{far, far_at, wrong, wrong_at, edge_checks, content_checks, lent_checks, bad_count}
-use Rattle.paper.specs.declared.Answer.TheVariants.{Fine}
 use Rattle.paper_laws.proofs.Limits.{outside_false}
 use Rattle.sheet_laws.specs.Near.{Near}
 

@@ -7,11 +7,11 @@ use lib.ListN.{length}
 use Rattle.pack.specs.Bits.{field_at}
 use Rattle.paper_laws.proofs.Limits.{outside_false}
 use Rattle.paper_laws.proofs.Checks.{passed, first_stops, first_passes, first-both}
-use Rattle.paper.specs.Refusals.{first_of}
+use Rattle.paper.specs.Refusals.{first_of, Fine}
 use Rattle.paper.specs.Format.{total, bytes_for, fill_after, vertices_in, edges_in}
 use Rattle.paper.specs.Sheet.{open_checks, count_checks, close_checks, shape_checks}
 use Rattle.paper.specs.declared.Format.{Format}
-use Rattle.paper.specs.declared.Answer.TheVariants.{Fine, Refused}
+use Rattle.std.specs.Prelude.{Err}
 use Rattle.paper.specs.declared.Refusal.{Refusal}
 
 pub record Opened (f : Format) (s : List ℕ) : Type 0 where
@@ -67,7 +67,7 @@ shaped f s h =
 
 -- the three groups one behind the other, as the code asks them
 module _ (f : Format) (s : List ℕ) where
-  pub shape_open : {r : Refusal} → Refused r ≡ first_of (open_checks f s) → Refused r ≡ first_of (shape_checks f s)
+  pub shape_open : {r : Refusal} → Err r ≡ first_of (open_checks f s) → Err r ≡ first_of (shape_checks f s)
   unfolding shape_checks
   shape_open e = first_stops _ _ (first_stops (open_checks f s) _ e)
 
@@ -75,7 +75,7 @@ module _ (f : Format) (s : List ℕ) where
     counts_at : first_of (count_checks f v e) ≡ first_of (open_checks f s ++ count_checks f (vertices_in f s) (edges_in f s))
     counts_at = rw (hv, he) (first_passes (open_checks f s) _ o)
 
-    pub shape_counts : {r : Refusal} → Refused r ≡ first_of (count_checks f v e) → Refused r ≡ first_of (shape_checks f s)
+    pub shape_counts : {r : Refusal} → Err r ≡ first_of (count_checks f v e) → Err r ≡ first_of (shape_checks f s)
     unfolding shape_checks
     shape_counts q = first_stops _ _ (q ∙ counts_at)
 

@@ -6,14 +6,13 @@ use lib.IntN.{ℤ, pos}
 use Rattle.pack.specs.Bits.{fields_at}
 use Rattle.pack.proofs.Fill.{take_padded}
 use Rattle.paper_laws.proofs.Checks.{first_stops, first_passes}
-use Rattle.paper.specs.Refusals.{first_of}
+use Rattle.paper.specs.Refusals.{first_of, Answer, Fine}
 use Rattle.paper.specs.Format.{coordinate_bits, coordinate, head, vertices_in, edges_in, coordinates_in, ends_in}
 use Rattle.paper.specs.Sheet.{content_checks, shape_checks, sheet_checks, drawn_for, held, blank, sheet_of}
 use Rattle.paper.specs.declared.Format.{Format}
 use Rattle.paper.specs.declared.Refusal.{Refusal}
-use Rattle.paper.specs.declared.Answer.{Answer}
-use Rattle.paper.specs.declared.Answer.TheVariants.{Fine, Refused}
-use Rattle.paper.specs.declared.Sheet.{Sheet}
+use Rattle.std.specs.Prelude.{Err}
+use Rattle.paper.specs.Sheet.{Sheet}
 use Rattle.sheet_laws.proofs.Accepted.{length_coordinates, length-ends}
 use Rattle.sheet_reader.specs.Kept.{held_xyz, held_ends, kept_of}
 
@@ -31,8 +30,8 @@ module _ (f : Format) (s : List ℕ) where
   abbrev pub ends_at : ℕ → ℕ → List ℕ
   ends_at v e = held_ends (fields_at s (head f + 3 * coordinate_bits * v) f.vertex_number_bits (2 * e))
 
-  pub sheet_misshapen : {r : Refusal} → Refused r ≡ first_of (shape_checks f s)
-      → record { answer = Refused r; drawing = blank } ≡ sheet_of f s
+  pub sheet_misshapen : {r : Refusal} → Err r ≡ first_of (shape_checks f s)
+      → record { answer = Err r; drawing = blank } ≡ sheet_of f s
   unfolding sheet_of sheet_checks at-answer
   sheet_misshapen e = ap at-answer (first_stops (shape_checks f s) _ e)
 

@@ -10,7 +10,7 @@ use Rattle.pack.proofs.Fill.{length-padded, take_padded}
 use Rattle.paper.specs.Numbers.{most_vertices, most_edges}
 use Rattle.paper.specs.Format.{vertices_in, edges_in, coordinates_in, ends_in, edition_of}
 use Rattle.paper.specs.Sheet.{held, sheet_of, read_sheet}
-use Rattle.paper.specs.declared.Answer.TheVariants.{Fine}
+use Rattle.paper.specs.Refusals.{Fine}
 use Rattle.paper_laws.specs.InRange.{Held}
 use Rattle.drawing_lists.proofs.Range.{points_are, ends_are}
 use Rattle.sheet_laws.proofs.Accepted.{length_coordinates, length-ends}

@@ -1,11 +1,10 @@
 -- What the functions of this crate ask of their inputs.
 use Rattle.std.specs.Prelude.{◌≡◌, List, ℕ, ◌*◌, ◌≤◌}
 use Rattle.paper.specs.Numbers.{most_vertices, most_edges}
-use Rattle.paper.specs.Refusals.{first_of}
+use Rattle.paper.specs.Refusals.{first_of, Fine}
 use Rattle.paper.specs.Format.{coordinate_bits}
 use Rattle.paper.specs.Sheet.{shape_checks}
 use Rattle.paper.specs.declared.Format.{Format}
-use Rattle.paper.specs.declared.Answer.TheVariants.{Fine}
 use Rattle.sheet_shape.specs.Narrow.{narrow_bits, FitsDrawing}
 use Rattle.sheet_shape.specs.Fields.{Fields}
 

@@ -2,10 +2,9 @@
 use Rattle.std.specs.Prelude.{List, ℕ, ◌*◌, ℤ, pos, take}
 use Rattle.pack.specs.Fill.{padded}
 use Rattle.paper.specs.Numbers.{most_vertices, most_edges}
-use Rattle.paper.specs.Refusals.{first_of}
+use Rattle.paper.specs.Refusals.{first_of, Answer}
 use Rattle.paper.specs.Sheet.{content_checks, drawn_for}
-use Rattle.paper.specs.declared.Sheet.{Sheet}
-use Rattle.paper.specs.declared.Answer.{Answer}
+use Rattle.paper.specs.Sheet.{Sheet}
 
 -- the lists of a drawing by value: what is known, then zeros
 abbrev pub held_xyz : List ℤ → List ℤ

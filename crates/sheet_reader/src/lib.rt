@@ -4,16 +4,16 @@
 ghost use Rattle.std.specs.Prelude.{◌≡◌};
 ghost use Rattle.paper.specs.Format.{edition_of};
 ghost use Rattle.paper.specs.Reading.{answer_says, sheet_said};
-ghost use Rattle.paper.specs.Sheet.{read_sheet};
+ghost use Rattle.paper.specs.Sheet.{sheet_as, read_sheet};
 
 mod read;
 
-use paper::Sheet;
+use paper::{Drawing, Refusal};
 
 // Reads a sheet: refusals 3 to 10, and the drawing by value.
-pub fn read_sheet(sheet: &[u8]) -> Sheet
-    ensures result { result ≡ read_sheet sheet.now }
-    ensures said { answer_says result.answer ≡ sheet_said (edition_of sheet.now) sheet.now }
+pub fn read_sheet(sheet: &[u8]) -> Result<Drawing, Refusal>
+    ensures result { sheet_as result ≡ read_sheet sheet.now }
+    ensures said { answer_says (sheet_as result).answer ≡ sheet_said (edition_of sheet.now) sheet.now }
 {
     read::read(paper_values::edition_of(sheet), sheet)
 }

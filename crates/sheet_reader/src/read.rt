@@ -2,13 +2,13 @@
 ghost use Rattle.std.specs.Prelude.{◌≡◌, map, ◌<◌, ◌^◌};
 ghost use Rattle.pack.specs.Bits.{fields_at};
 ghost use Rattle.paper.specs.Format.{coordinate_bits, coordinate};
-ghost use Rattle.paper.specs.Sheet.{blank, sheet_of};
+ghost use Rattle.paper.specs.Sheet.{sheet_as, sheet_of};
 ghost use Rattle.sheet_shape.specs.Narrow.{FitsDrawing};
 ghost use Rattle.sheet_reader.specs.Asked.{Coordinates, Numbers, Few, Readable};
 ghost use Rattle.sheet_reader.specs.Kept.{held_xyz, held_ends, kept_of};
 
 use drawing_lists::content;
-use paper::{Answer, Drawing, Format, Sheet};
+use paper::{Drawing, Format, Refusal};
 use sheet_shape::shape;
 
 // A coordinate, from its number on the sheet.
@@ -25,15 +25,13 @@ fn coordinates(s: &[u8], i: usize, n: usize) -> [i64; paper::COORDINATES]
     ensures { result ≡ held_xyz (map coordinate (fields_at s.now i coordinate_bits n)) }
 {
     let mut xyz = [0i64; paper::COORDINATES];
-    let mut k: usize = 0;
-    while k < n {
+    for k in 0..n {
         let z = to_coordinate(pack::field(
             s,
             i + paper::COORDINATE_BITS * k,
             paper::COORDINATE_BITS,
         ));
         xyz[k] = z;
-        k += 1;
     }
     xyz
 }
@@ -44,54 +42,38 @@ fn numbers(s: &[u8], i: usize, w: usize, n: usize) -> [u8; paper::ENDS]
     ensures { result ≡ held_ends (fields_at s.now i w n) }
 {
     let mut ends = [0u8; paper::ENDS];
-    let mut k: usize = 0;
-    while k < n {
+    for k in 0..n {
         let f = pack::field(s, i + w * k, w);
         ends[k] = (f % 256) as u8;
-        k += 1;
     }
     ends
 }
 
-fn no_drawing() -> Drawing
-    ensures { result ≡ blank }
-{
-    Drawing {
-        vertices: 0,
-        edges: 0,
-        xyz: [0i64; paper::COORDINATES],
-        ends: [0u8; paper::ENDS],
-    }
-}
-
 // The drawing, if it passes 8 to 10.
-fn kept(v: usize, e: usize, xyz: [i64; paper::COORDINATES], ends: [u8; paper::ENDS]) -> Sheet
+fn kept(
+    v: usize,
+    e: usize,
+    xyz: [i64; paper::COORDINATES],
+    ends: [u8; paper::ENDS],
+) -> Result<Drawing, Refusal>
     requires { Few v e }
-    ensures { result ≡ kept_of v e xyz ends }
+    ensures { sheet_as result ≡ kept_of v e xyz ends }
 {
     let m = 3 * v;
     let n = 2 * e;
-    match content(v, &xyz[..m], &ends[..n]) {
-        Answer::Refused(r) => Sheet {
-            answer: Answer::Refused(r),
-            drawing: no_drawing(),
-        },
-        Answer::Fine => Sheet {
-            answer: Answer::Fine,
-            drawing: Drawing {
-                vertices: v,
-                edges: e,
-                xyz,
-                ends,
-            },
-        },
-    }
+    content(v, &xyz[..m], &ends[..n])?;
+    Ok(Drawing {
+        vertices: v,
+        edges: e,
+        xyz,
+        ends,
+    })
 }
 
 // The drawing of a sheet that passes 3 to 7.
-fn drawn(f: Format, s: &[u8]) -> Sheet
+fn drawn(f: Format, s: &[u8]) -> Result<Drawing, Refusal>
     requires { Readable f s.now }
-    ensures { result ≡ sheet_of f s.now }
+    ensures { sheet_as result ≡ sheet_of f s.now }
 {
     let first = paper::EDITION_BITS + f.vertex_count_bits + f.edge_count_bits;
     let v = pack::field(s, paper::EDITION_BITS, f.vertex_count_bits) as usize;
@@ -111,15 +93,10 @@ fn drawn(f: Format, s: &[u8]) -> Sheet
 }
 
 // Reads a sheet of one edition.
-pub fn read(f: Format, s: &[u8]) -> Sheet
+pub fn read(f: Format, s: &[u8]) -> Result<Drawing, Refusal>
     requires { FitsDrawing f }
-    ensures { result ≡ sheet_of f s.now }
+    ensures { sheet_as result ≡ sheet_of f s.now }
 {
-    match shape(f, s) {
-        Answer::Refused(r) => Sheet {
-            answer: Answer::Refused(r),
-            drawing: no_drawing(),
-        },
-        Answer::Fine => drawn(f, s),
-    }
+    shape(f, s)?;
+    drawn(f, s)
 }

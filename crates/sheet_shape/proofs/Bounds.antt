@@ -7,11 +7,10 @@ use native.Mathlib.Omega.{arith}
 use lib.ListN.{length}
 use Rattle.sheet_laws.proofs.Shaped.{shaped}
 use Rattle.paper.specs.Numbers.{most_vertices, most_edges}
-use Rattle.paper.specs.Refusals.{first_of}
+use Rattle.paper.specs.Refusals.{first_of, Fine}
 use Rattle.paper.specs.Format.{total, bytes_for, vertices_in, edges_in}
 use Rattle.paper.specs.Sheet.{shape_checks}
 use Rattle.paper.specs.declared.Format.{Format}
-use Rattle.paper.specs.declared.Answer.TheVariants.{Fine}
 use Rattle.sheet_shape.specs.Narrow.{narrow_bits, few_edges, FitsDrawing, NarrowCounts}
 use Rattle.sheet_shape.proofs.Sizes.{numbers_small}
 

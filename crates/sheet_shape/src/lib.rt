@@ -7,7 +7,7 @@ ghost use Rattle.paper.specs.Format.{total};
 ghost use Rattle.paper.specs.Sheet.{open_checks, close_checks, shape_checks};
 ghost use Rattle.sheet_shape.specs.Narrow.{Narrow, NarrowCounts};
 
-use paper::{Answer, Format};
+use paper::{Format, Number, Refusal};
 use paper_values::refused;
 use sheet_counts::counts;
 
@@ -24,51 +24,45 @@ pub fn total_bits(f: Format, v: usize, e: usize) -> usize
 }
 
 // Refusals 3 and 4.
-fn opening(f: Format, s: &[u8]) -> Answer
+fn opening(f: Format, s: &[u8]) -> Result<(), Refusal>
     ensures { result ≡ first_of (open_checks f s.now) }
 {
     if s.len() < 3 {
-        return refused(paper::SHEET_SHORT, 0);
+        return refused(Number::SheetShort, 0);
     }
     if pack::field(s, 0, paper::EDITION_BITS) != f.edition {
-        return refused(paper::SHEET_EDITION, 0);
+        return refused(Number::SheetEdition, 0);
     }
-    Answer::Fine
+    Ok(())
 }
 
 // Refusals 6 and 7.
-fn closing(f: Format, s: &[u8], v: usize, e: usize) -> Answer
+fn closing(f: Format, s: &[u8], v: usize, e: usize) -> Result<(), Refusal>
     requires { NarrowCounts f v e }
     ensures { result ≡ first_of (close_checks f s.now v e) }
 {
     let bits = total_bits(f, v, e);
     if s.len() != (bits + 7) / 8 {
-        return refused(paper::SHEET_LENGTH, 0);
+        return refused(Number::SheetLength, 0);
     }
     if pack::field(s, bits, s.len() * 8 - bits) != 0 {
-        return refused(paper::SHEET_PAD, 0);
+        return refused(Number::SheetPad, 0);
     }
-    Answer::Fine
+    Ok(())
 }
 
 // Refusals 3 to 7.
-pub fn shape(f: Format, s: &[u8]) -> Answer
+pub fn shape(f: Format, s: &[u8]) -> Result<(), Refusal>
     requires { Narrow f }
     ensures { result ≡ first_of (shape_checks f s.now) }
 {
-    match opening(f, s) {
-        Answer::Refused(r) => Answer::Refused(r),
-        Answer::Fine => {
-            let v = pack::field(s, paper::EDITION_BITS, f.vertex_count_bits);
-            let e = pack::field(
-                s,
-                paper::EDITION_BITS + f.vertex_count_bits,
-                f.edge_count_bits,
-            );
-            match counts(f, v, e) {
-                Answer::Refused(r) => Answer::Refused(r),
-                Answer::Fine => closing(f, s, v as usize, e as usize),
-            }
-        }
-    }
+    opening(f, s)?;
+    let v = pack::field(s, paper::EDITION_BITS, f.vertex_count_bits);
+    let e = pack::field(
+        s,
+        paper::EDITION_BITS + f.vertex_count_bits,
+        f.edge_count_bits,
+    );
+    counts(f, v, e)?;
+    closing(f, s, v as usize, e as usize)
 }

@@ -1,10 +1,9 @@
 -- What the functions of this crate ask of their inputs.
 use Rattle.std.specs.Prelude.{◌≡◌, List, ℕ, ◌*◌, ◌/◌, ◌≤◌, ℤ, length}
-use Rattle.paper.specs.Refusals.{first_of}
+use Rattle.paper.specs.Refusals.{first_of, Fine}
 use Rattle.paper.specs.Format.{coordinate_bits, head, total, bytes_for}
 use Rattle.paper.specs.Sheet.{lent_checks}
 use Rattle.paper.specs.declared.Format.{Format}
-use Rattle.paper.specs.declared.Answer.TheVariants.{Fine}
 use Rattle.sheet_laws.specs.Near.{Near}
 use Rattle.sheet_shape.specs.Narrow.{narrow_bits, Narrow}
 use Rattle.sheet_shape.specs.Fields.{Fields}

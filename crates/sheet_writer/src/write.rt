@@ -8,7 +8,8 @@ ghost use Rattle.sheet_writer.specs.Asked.{CoordinatesFit, NumbersFit, HeadRoom,
 ghost use Rattle.sheet_writer.specs.Room.{sheet_in};
 
 use drawing_lists::lend::lent;
-use paper::{Answer, Format, Refusal, Written};
+use paper::{Format, Number, Refusal};
+use paper_values::refused;
 use sheet_shape::total_bits;
 
 // A coordinate's number on the sheet.
@@ -24,15 +25,13 @@ fn put_coordinates(xyz: &[i64], room: &mut [u8], i: usize)
     requires { CoordinatesFit xyz.now room.old i }
     ensures { Put room.old room.new i (run coordinate_bits (map on_sheet xyz.now)) }
 {
-    let mut k: usize = 0;
-    while k < xyz.len() {
+    for k in 0..xyz.len() {
         pack::put(
             room,
             i + paper::COORDINATE_BITS * k,
             paper::COORDINATE_BITS,
             to_field(xyz[k]),
         );
-        k += 1;
     }
 }
 
@@ -41,10 +40,8 @@ fn put_numbers(list: &[u8], room: &mut [u8], i: usize, w: usize)
     requires { NumbersFit list.now room.old i w }
     ensures { Put room.old room.new i (run w list.now) }
 {
-    let mut k: usize = 0;
-    while k < list.len() {
+    for k in 0..list.len() {
         pack::put(room, i + w * k, w, list[k] as u64);
-        k += 1;
     }
 }
 
@@ -82,25 +79,18 @@ fn put_sheet(f: Format, xyz: &[i64], ends: &[u8], room: &mut [u8], v: usize, e: 
 }
 
 // Writes a drawing's sheet of one edition.
-pub fn write(f: Format, xyz: &[i64], ends: &[u8], room: &mut [u8]) -> Written
+pub fn write(f: Format, xyz: &[i64], ends: &[u8], room: &mut [u8]) -> Result<usize, Refusal>
     requires { Narrow f }
     ensures answer { result ≡ written_of f xyz.now ends.now room.old }
     ensures kept { room.new ≡ room_of f xyz.now ends.now room.old }
 {
-    match lent(xyz, ends) {
-        Answer::Refused(r) => Written::Refused(r),
-        Answer::Fine => {
-            let v = xyz.len() / 3;
-            let e = ends.len() / 2;
-            let size = (total_bits(f, v, e) + 7) / 8;
-            if room.len() < size {
-                return Written::Refused(Refusal {
-                    number: paper::NO_ROOM,
-                    place: 0,
-                });
-            }
-            put_sheet(f, xyz, ends, room, v, e);
-            Written::Bytes(size)
-        }
+    lent(xyz, ends)?;
+    let v = xyz.len() / 3;
+    let e = ends.len() / 2;
+    let size = (total_bits(f, v, e) + 7) / 8;
+    if room.len() < size {
+        return refused(Number::NoRoom, 0);
     }
+    put_sheet(f, xyz, ends, room, v, e);
+    Ok(size)
 }

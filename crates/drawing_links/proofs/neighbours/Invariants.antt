@@ -1,7 +1,7 @@
 -- `drawing_links::neighbours`: the loop keeps that the words say which vertices the first e edges join.
 use mathlib.Core.List.{List}
 use mathlib.Core.Path.{◌≡◌}
-use Prim.Native.Nat.{◌-◌, ◌≤◌, ℕ}
+use Prim.Native.Nat.{◌≤◌, ℕ}
 use lib.ListN.{get_or, length, take}
 use Rattle.lists.specs.Lists.{any}
 use Rattle.paper.specs.Numbers.{most_vertices}
@@ -18,6 +18,3 @@ pub record Marked (ends : List ℕ) (n : ℕ) (near : List ℕ) (e : ℕ) : Type
 
 abbrev pub invariant-loop-e : goal.invariant-loop-e
 invariant-loop-e l = Marked l.ends l.n l.near l.e
-
-abbrev pub decreases-loop-e : goal.decreases-loop-e
-decreases-loop-e l = l.n - l.e

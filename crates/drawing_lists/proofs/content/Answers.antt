@@ -5,12 +5,12 @@ use Rattle.paper_laws.proofs.Checks.{stops, passes}
 use Rattle.paper.specs.Sheet.{content_checks}
 use Rattle.drawing_lists.proofs.content.Goals as goal
 
-pub returns-in-Value : goal.returns-in-Value
+pub returns-in-Some : goal.returns-in-Some
 unfolding content_checks
-returns-in-Value c =
-    c.refused.ensures ∙ stops _ _ (sym (ap found c.in-Value.is) ∙ c.first_far.ensures)
+returns-in-Some c =
+    c.refused.ensures ∙ stops _ _ (sym (ap found c.in-Some.is) ∙ c.first_far.ensures)
 
-pub returns-in-Nothing : goal.returns-in-Nothing
+pub returns-in-None : goal.returns-in-None
 unfolding content_checks
-returns-in-Nothing c =
-    c.edges.ensures ∙ passes _ _ (sym (ap found c.in-Nothing.is) ∙ c.first_far.ensures)
+returns-in-None c =
+    c.edges.ensures ∙ passes _ _ (sym (ap found c.in-None.is) ∙ c.first_far.ensures)

@@ -10,29 +10,29 @@ use Rattle.paper.specs.Sheet.{edge_checks, wrong_at}
 use Rattle.drawing_lists.proofs.edges.Goals as goal
 
 -- no edge is wrong
-nine-passes : (c : goal.After-refused-in-Value-first_low)
+nine-passes : (c : goal.After-refused-in-Some-first_low)
     → let a = c.args in none ≡ lowest (wrong_at a.v a.ends.now) (length a.ends.now / 2)
-nine-passes c = sym (ap found c.in-Nothing.is) ∙ c.first_wrong.ensures
+nine-passes c = sym (ap found c.in-None.is) ∙ c.first_wrong.ensures
 
-nine-passes-2 : (c : goal.In-Nothing-first_low)
+nine-passes-2 : (c : goal.In-None-first_low)
     → let a = c.args in none ≡ lowest (wrong_at a.v a.ends.now) (length a.ends.now / 2)
-nine-passes-2 c = sym (ap found c.in-Nothing.is) ∙ c.first_wrong.ensures
+nine-passes-2 c = sym (ap found c.in-None.is) ∙ c.first_wrong.ensures
 
-pub returns-in-Value : goal.returns-in-Value
+pub returns-in-Some : goal.returns-in-Some
 unfolding edge_checks
-returns-in-Value c =
-    c.refused.ensures ∙ stops _ _ (sym (ap found c.in-Value.is) ∙ c.first_wrong.ensures)
+returns-in-Some c =
+    c.refused.ensures ∙ stops _ _ (sym (ap found c.in-Some.is) ∙ c.first_wrong.ensures)
 
-pub returns-in-Value-first_low : goal.returns-in-Value-first_low
+pub returns-in-Some-first_low : goal.returns-in-Some-first_low
 unfolding edge_checks
-returns-in-Value-first_low c =
-    c.refused-in-Value-first_low.ensures
-    ∙ stops _ _ (sym (ap found c.in-Value-first_low.is) ∙ c.first_low.ensures)
+returns-in-Some-first_low c =
+    c.refused-in-Some-first_low.ensures
+    ∙ stops _ _ (sym (ap found c.in-Some-first_low.is) ∙ c.first_low.ensures)
     ∙ passes _ _ (nine-passes c)
 
-pub returns-in-Nothing-first_low : goal.returns-in-Nothing-first_low
+pub returns-in-None-first_low : goal.returns-in-None-first_low
 unfolding edge_checks
-returns-in-Nothing-first_low c =
+returns-in-None-first_low c =
     clear
-    ∙ passes _ _ (sym (ap found c.in-Nothing-first_low.is) ∙ c.first_low.ensures)
+    ∙ passes _ _ (sym (ap found c.in-None-first_low.is) ∙ c.first_low.ensures)
     ∙ passes _ _ (nine-passes-2 c)

@@ -1,6 +1,6 @@
 -- `drawing_lists::first_wrong`: the loop keeps that what is left to search holds the whole answer.
 use mathlib.Core.Path.{◌≡◌}
-use Prim.Native.Nat.{◌≤◌, ◌-◌, ◌/◌}
+use Prim.Native.Nat.{◌≤◌, ◌/◌}
 use lib.ListN.{length}
 use Rattle.lists.proofs.Search.{LowestLeft}
 use Rattle.paper.specs.Sheet.{wrong_at}
@@ -8,6 +8,3 @@ use Rattle.drawing_lists.proofs.first_wrong.Given as goal
 
 abbrev pub invariant-loop-e : goal.invariant-loop-e
 invariant-loop-e l = (l.e ≤ l.n) × (l.n ≡ length l.ends / 2) × LowestLeft (wrong_at l.v l.ends) (length l.ends / 2) l.e
-
-abbrev pub decreases-loop-e : goal.decreases-loop-e
-decreases-loop-e l = l.n - l.e

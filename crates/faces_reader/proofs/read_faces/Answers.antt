@@ -4,7 +4,7 @@ use Rattle.paper.specs.Format.{edition_of}
 use Rattle.paper.specs.FaceList.{faces_of}
 use Rattle.paper.specs.Reading.{answer_says}
 use Rattle.paper.specs.declared.Format.{Format}
-use Rattle.paper.specs.declared.Faces.{Faces}
+use Rattle.paper.specs.FaceList.{Faces}
 use Rattle.faces_laws.proofs.Said.{faces-said}
 use Rattle.faces_reader.proofs.Brief.{brief_of}
 use Rattle.faces_reader.proofs.read_faces.Goals as goal

@@ -4,7 +4,7 @@ use Rattle.paper.specs.Format.{edition_of}
 use Rattle.paper.specs.Reading.{answer_says}
 use Rattle.paper.specs.Sheet.{sheet_of}
 use Rattle.paper.specs.declared.Format.{Format}
-use Rattle.paper.specs.declared.Sheet.{Sheet}
+use Rattle.paper.specs.Sheet.{Sheet}
 use Rattle.sheet_laws.proofs.Said.{sheet-said}
 use Rattle.sheet_shape.proofs.Sizes.{fits_of}
 use Rattle.sheet_reader.proofs.read_sheet.Goals as goal

@@ -59,9 +59,6 @@ put_point-requires c = (room c).0
 pub put_point-requires-in-loop-e : goal.put_point-requires-in-loop-e
 put_point-requires-in-loop-e c = (room-2 c).1
 
-pub overflow_add-e-in-loop-e : goal.overflow_add-e-in-loop-e
-overflow_add-e-in-loop-e c = omega (arith, few-3 c)
-
 pub loop-e-preserved : goal.loop-e-preserved
 loop-e-preserved c =
     let a = c.args in

@@ -1,7 +1,7 @@
 -- `drawing_rules::boxes::put_boxes`: the loop keeps that the first e boxes are those of the edges.
 use mathlib.Core.List.{List}
 use mathlib.Core.Path.{◌≡◌}
-use Prim.Native.Nat.{◌*◌, ◌+◌, ◌-◌, ◌/◌, ◌<◌, ◌≤◌, ℕ}
+use Prim.Native.Nat.{◌*◌, ◌+◌, ◌/◌, ◌<◌, ◌≤◌, ℕ}
 use lib.IntN.{ℤ}
 use lib.ListN.{length}
 use Rattle.drawing_segments.specs.Ways.{span_of}
@@ -24,6 +24,3 @@ pub record Filled (xyz : List ℤ) (ends : List ℕ) (low₀ high₀ : List ℤ)
 
 abbrev pub invariant-loop-e : goal.invariant-loop-e
 invariant-loop-e l = Filled l.xyz l.ends l.initial.low l.initial.high l.n l.low l.high l.e
-
-abbrev pub decreases-loop-e : goal.decreases-loop-e
-decreases-loop-e l = l.n - l.e

@@ -2,7 +2,7 @@
 use mathlib.Core.Bool.{Bool}
 use mathlib.Core.List.{List}
 use mathlib.Core.Path.{◌≡◌}
-use Prim.Native.Nat.{◌-◌, ◌≤◌, ℕ}
+use Prim.Native.Nat.{◌≤◌, ℕ}
 use lib.ListN.{length}
 use Rattle.sets.specs.Sets.{wides, Wide}
 use Rattle.paper.specs.Drawing.{Wire, wire}
@@ -18,6 +18,3 @@ pub record Marking (d : Wire) (e n : ℕ) (hit met : Wide) (f : ℕ) : Type 0 wh
 
 abbrev pub invariant-loop-f : goal.invariant-loop-f
 invariant-loop-f l = Marking (wire l.xyz l.ends) l.e l.n l.initial.met l.met l.f
-
-abbrev pub decreases-loop-f : goal.decreases-loop-f
-decreases-loop-f l = l.n - l.f

@@ -2,7 +2,7 @@
 use mathlib.Core.List.{List}
 use mathlib.Core.Bool.{Bool}
 use mathlib.Core.Path.{◌≡◌}
-use Prim.Native.Nat.{◌-◌, ◌≤◌, ℕ}
+use Prim.Native.Nat.{◌≤◌, ℕ}
 use lib.ListN.{length}
 use Rattle.sets.specs.Sets.{wides, Wide}
 use Rattle.paper.specs.Drawing.{Wire, wire}
@@ -18,6 +18,3 @@ pub record Marking (d : Wire) (n : ℕ) (hit : Wide) (e : ℕ) : Type 0 where
 
 abbrev pub invariant-loop-e : goal.invariant-loop-e
 invariant-loop-e l = Marking (wire l.xyz l.ends) l.n l.hit l.e
-
-abbrev pub decreases-loop-e : goal.decreases-loop-e
-decreases-loop-e l = l.n - l.e

@@ -37,9 +37,6 @@ Here-3 c = let a = c.args in share_in a.xyz.now a.u
 pub point_at-p-requires : goal.point_at-p-requires
 point_at-p-requires c = vertex-read c.requires.points c.args.u c.requires.u_in
 
-pub overflow_add-w : goal.overflow_add-w
-overflow_add-w c = omega (arith, c.requires.u_in)
-
 pub loop-w-init : goal.loop-w-init
 loop-w-init c =
     let a = c.args in

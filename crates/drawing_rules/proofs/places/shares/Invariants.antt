@@ -7,6 +7,3 @@ use Rattle.drawing_rules.proofs.places.shares.Given as goal
 
 abbrev pub invariant-loop-w : goal.invariant-loop-w
 invariant-loop-w l = (l.w ≤ l.v) × (shared_in l.xyz l.v l.u ≡ any (share_in l.xyz l.u) (from l.w (l.v - l.w)))
-
-abbrev pub decreases-loop-w : goal.decreases-loop-w
-decreases-loop-w l = l.v - l.w

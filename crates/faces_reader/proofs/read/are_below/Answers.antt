@@ -6,7 +6,6 @@ use lib.Dec.{ltb}
 use lib.ListN.{length, get_or}
 use Rattle.pack.specs.Bits.{field_at, fields_at}
 use Rattle.pack.proofs.Laws.{slot, length_fields, get_d_fields}
-use Rattle.lists.specs.Lists.{all}
 use Rattle.lists.proofs.Search.{all-search, search-end}
 use Rattle.lists.proofs.Below.{high_hit, high_miss}
 use Rattle.faces_reader.proofs.Brief.{corners_small}

@@ -1,7 +1,7 @@
 -- `faces_reader::read::put_row`: the loop keeps that the first j cells of the row are pasted at byte `at`.
 use mathlib.Core.Path.{◌≡◌}
 use mathlib.Core.List.{List}
-use Prim.Native.Nat.{ℕ, ◌≤◌, ◌-◌}
+use Prim.Native.Nat.{ℕ, ◌≤◌}
 use lib.ListN.{length}
 use lib.Seq.{paste}
 use Rattle.pack.specs.Bits.{fields_at}
@@ -17,6 +17,3 @@ pub record Filling (q rows : List ℕ) (at : ℕ) (last : List ℕ) (j : ℕ) : 
 
 abbrev pub invariant-loop-j : goal.invariant-loop-j
 invariant-loop-j l = Filling (row (fields_at l.s l.i l.w l.c)) l.initial.rows l.at l.rows l.j
-
-abbrev pub decreases-loop-j : goal.decreases-loop-j
-decreases-loop-j l = row_bytes - l.j

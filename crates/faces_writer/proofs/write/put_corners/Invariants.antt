@@ -1,7 +1,7 @@
 -- `faces_writer::write::put_corners`: the loop keeps that the first j corners stand in their fields.
 use mathlib.Core.Path.{◌≡◌}
 use mathlib.Core.List.{List}
-use Prim.Native.Nat.{ℕ, ◌≤◌, ◌-◌}
+use Prim.Native.Nat.{ℕ, ◌≤◌}
 use lib.ListN.{length, take}
 use Rattle.pack.specs.Bits.{run, Put}
 use Rattle.faces_writer.specs.Send.{corners_at, way}
@@ -15,6 +15,3 @@ pub record Filling (vs room : List ℕ) (b w c : ℕ) (last : List ℕ) (j : ℕ
 
 abbrev pub invariant-loop-j : goal.invariant-loop-j
 invariant-loop-j l = Filling (way l.back (corners_at l.rows l.i l.c)) l.initial.room l.b l.w l.c l.room l.j
-
-abbrev pub decreases-loop-j : goal.decreases-loop-j
-decreases-loop-j l = l.c - l.j

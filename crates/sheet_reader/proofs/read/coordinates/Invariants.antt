@@ -1,7 +1,7 @@
 -- `sheet_reader::read::coordinates`: the loop keeps that the first k coordinates stand in the list, and zeros behind them.
 use mathlib.Core.Path.{◌≡◌}
 use mathlib.Core.List.{List, map}
-use Prim.Native.Nat.{ℕ, ◌≤◌, ◌-◌}
+use Prim.Native.Nat.{ℕ, ◌≤◌}
 use lib.IntN.{ℤ}
 use Rattle.pack.specs.Bits.{fields_at}
 use Rattle.paper.specs.Format.{coordinate_bits, coordinate}
@@ -14,6 +14,3 @@ up_to s i k = map coordinate (fields_at s i coordinate_bits k)
 
 abbrev pub invariant-loop-k : goal.invariant-loop-k
 invariant-loop-k l = (l.k ≤ l.n) × (l.xyz ≡ held_xyz (up_to l.s l.i l.k))
-
-abbrev pub decreases-loop-k : goal.decreases-loop-k
-decreases-loop-k l = l.n - l.k
