@@ -16,10 +16,8 @@ fn copy_row(table: &[u8], k: usize, rows: &mut [u8; FACE_ROOM], c: usize)
     requires { CopiesRow table.now k rows.old c }
     ensures { rows.new ≡ paste rows.old (row_bytes * c) (row_in table.now k) row_bytes }
 {
-    let mut i = 0;
-    while i < ROW {
+    for i in 0..ROW {
         rows[ROW * c + i] = table[ROW * k + i];
-        i += 1;
     }
 }
 
@@ -42,8 +40,7 @@ pub fn candidates(
         kept_corners.old kept_corners.new kept_sides.old kept_sides.new }
 {
     let mut c = 0;
-    let mut k = 0;
-    while k < n {
+    for k in 0..n {
         if !covers_other(xyz, ends, table, n, corners, sides, planes, k) {
             if MOST_CANDIDATES <= c {
                 return MOST_CANDIDATES + 1;
@@ -53,7 +50,6 @@ pub fn candidates(
             kept_sides[c] = sides[k];
             c += 1;
         }
-        k += 1;
     }
     c
 }

@@ -49,15 +49,13 @@ fn points_in(xyz: &[i64], table: &[u8], r: usize, m: Point, u: Point, v: Point) 
     let w = minus(v, u);
     let mut a = corner(xyz, table, r, 0);
     let mut p = corner(xyz, table, r, 1);
-    let mut j = 0;
-    while j < n {
+    for j in 0..n {
         let b = corner(xyz, table, r, j + 2);
         if turns_at(m, u, w, a, p, b) {
             return true;
         }
         a = p;
         p = b;
-        j += 1;
     }
     false
 }
@@ -67,12 +65,10 @@ fn is_corner(xyz: &[i64], table: &[u8], r: usize, p: Point) -> bool
     ensures { result ≡ is_corner (ring xyz.now table.now r) p }
 {
     let n = count(table, r);
-    let mut j = 0;
-    while j < n {
+    for j in 0..n {
         if same_point(p, corner(xyz, table, r, j)) {
             return true;
         }
-        j += 1;
     }
     false
 }
@@ -112,12 +108,10 @@ fn folds_at(xyz: &[i64], table: &[u8], f: usize, mf: Point, g: usize, mg: Point,
         return false;
     }
     let n = count(table, f);
-    let mut j = 0;
-    while j < n {
+    for j in 0..n {
         if bends(xyz, table, f, mf, g, mg, u, corner(xyz, table, f, j)) {
             return true;
         }
-        j += 1;
     }
     false
 }
@@ -131,12 +125,10 @@ pub fn folds(xyz: &[i64], table: &[u8], f: usize, mf: Point, g: usize, mg: Point
         return false;
     }
     let n = count(table, f);
-    let mut j = 0;
-    while j < n {
+    for j in 0..n {
         if folds_at(xyz, table, f, mf, g, mg, corner(xyz, table, f, j)) {
             return true;
         }
-        j += 1;
     }
     false
 }

@@ -99,8 +99,7 @@ pub fn lies(xyz: &[i64], table: &[u8], r: usize, m: Point, p: Point, d: i64) -> 
     let q = seen(v, p);
     let mut odd = false;
     let mut a = seen(v, corner(xyz, table, r, 0));
-    let mut j = 0;
-    while j < n {
+    for j in 0..n {
         let b = seen(v, corner(xyz, table, r, j + 1));
         let t = turn(a, b, q, d);
         if touches(a, b, q, d, t) {
@@ -108,7 +107,6 @@ pub fn lies(xyz: &[i64], table: &[u8], r: usize, m: Point, p: Point, d: i64) -> 
         }
         odd = odd ^ meets_ray(under(q, d, a), under(q, d, b), t);
         a = b;
-        j += 1;
     }
     placed(odd)
 }

@@ -53,8 +53,7 @@ fn ask(xyz: &[i64], ends: &[u8], table: &[u8], k: usize, m: Point, edges: Wide, 
     let mut held = f.held;
     let outside = f.outside;
     let mut open = edges.minus(held);
-    while !open.is_empty() {
-        let e = open.lowest();
+    while let Some(e) = open.pop_first() {
         if is_outside(xyz, ends, table, k, m, e) {
             return Asked {
                 held: held,
@@ -62,7 +61,6 @@ fn ask(xyz: &[i64], ends: &[u8], table: &[u8], k: usize, m: Point, edges: Wide, 
             };
         }
         held = held.with(e);
-        open = open.without(e);
     }
     Asked {
         held: held,
@@ -132,8 +130,7 @@ pub fn covers_other(
         held: own,
         outside: Wide::none(),
     };
-    let mut j = 0;
-    while j < n {
+    for j in 0..n {
         if fits(corners, plane, k, j) {
             let edges = Wide::at(sides, j);
             let t = try_edges(xyz, ends, table, k, m, edges, f);
@@ -142,7 +139,6 @@ pub fn covers_other(
             }
             f = t.asked;
         }
-        j += 1;
     }
     false
 }

@@ -1,14 +1,14 @@
 -- From what the search and the words of loops ensure to what is known of the loops.
 use mathlib.Core.Bool.{Bool}
 use mathlib.Core.List.{List}
-use mathlib.Core.Path.{◌≡◌, refl, sym, ap, ◌∙◌}
-use Prim.Native.Nat.{ℕ, suc, ◌*◌, ◌/◌, ◌≤◌, ◌<◌, min}
+use mathlib.Core.Path.{◌≡◌, refl, ap, ◌∙◌}
+use Prim.Native.Nat.{ℕ, ◌*◌, ◌/◌, ◌≤◌, ◌<◌}
 use native.Mathlib.Omega.{arith}
 use lib.IntN.{ℤ}
 use lib.ListN.{length, take, length-take}
 use lib.Seq.{take_all}
 use Rattle.paper.specs.Numbers.{most_vertices, most_loops, row_bytes}
-use Rattle.paper.specs.Drawing.{Wire, wire, points_of, edges_of}
+use Rattle.paper.specs.Drawing.{Wire, wire}
 use Rattle.paper.specs.Loops.{Loop, loops}
 use Rattle.paper_laws.specs.InRange.{Points}
 use Rattle.fast_search.specs.Search.{plane_of}

@@ -1,14 +1,14 @@
 -- The search from a path whose plane is fixed: where it stops, one law for each return, and what its loop keeps.
-use mathlib.Core.Bool.{Bool, false}
+use mathlib.Core.Bool.{Bool, true, false}
 use mathlib.Core.List.{List, [], ◌∷◌, ◌++◌}
 use mathlib.Core.Path.{◌≡◌, refl, sym, ap, ◌∙◌, subst}
 use Prim.Native.Nat.{ℕ, suc, ◌+◌, ◌-◌, ◌≤◌, ◌<◌}
 use native.Mathlib.Omega.{arith}
-use borrow.Author.Tests.{eq-eqb, ne_eqb}
+use lib.Dec.{eqb}
 use lib.ListN.{get_or, take, set}
 use lib.Seq.{set-set, set-get_or}
-use Rattle.sets.specs.Word.{count, empty, both, less, only}
-use Rattle.sets.specs.Kinds.{Joint, Lowest, Dropped, SetAt}
+use Rattle.sets.specs.Word.{empty, both, less, only}
+use Rattle.sets.specs.Kinds.{Joint, Dropped, First, SetAt}
 use Rattle.sets.specs.Sets.{Is, size, one_word}
 use Rattle.sets.specs.declared.Set.{Set}
 use Rattle.sets.proofs.Digits.{length_both_last, length_less, first-lt}
@@ -20,9 +20,10 @@ use Rattle.fast_search.specs.Rows.{each_of}
 use Rattle.fast_search.specs.Search.{InItsPlane, own, near, in_plane}
 use Rattle.fast_search.proofs.Turns.{path_last, path_more, plane_last, plane_stop, plane_start}
 use Rattle.loop_search.specs.Rooms.{Rooms, Sized, Adds}
-use Rattle.loop_search.specs.Paths.{PathAt, VerticesBelow, NearWords, Onward, Ended, PlaneSearched}
+use Rattle.loop_search.specs.Paths.{PathAt, VerticesBelow, NearWords, Onward, Ended, OnPath, PlaneSearched}
 use Rattle.loop_search.proofs.Filling.{adds_then}
 use Rattle.loop_search.proofs.Kept.{Kept, kept_start, kept_next, kept_end, kept_full}
+use Rattle.loop_search.proofs.Way.{path_next}
 
 -- ---- sets of vertices
 pub below_dropped : {x x' : Set} {n v : ℕ} → VerticesBelow x n → Dropped one_word x v x' → VerticesBelow x' n
@@ -32,10 +33,10 @@ below_dropped {x} {x'} {n} {v} b d = record {
   few = omega (arith, length_less b.digits (only v), b.few);
 }
 
-pub lowest-below : {x : Set} {n v : ℕ} → VerticesBelow x n → 0 < size x → Lowest one_word x v → v < n
-lowest-below {x} {n} {v} b some low =
-    let f = first-lt b.digits (λ z. absurd (omega (arith, z, size_is b.is))) in
-    omega (arith, f, low.same b.digits b.is, b.few)
+pub first_below : {x x' : Set} {n v : ℕ} → VerticesBelow x n → First one_word x x' v → v < n
+first_below b p =
+    let f = first-lt b.digits (λ z. absurd (omega (arith, z, p.some, size_is b.is))) in
+    omega (arith, f, p.lowest.same b.digits b.is, b.few)
 
 pub below_both : {x y r : Set} {n : ℕ} (a : List Bool) → Is x a → VerticesBelow y n → Joint one_word x y r both → VerticesBelow r n
 below_both {x} {y} {r} {n} a i b j = record {
@@ -69,15 +70,14 @@ module _ {words path : List ℕ} {len : ℕ} {free closing plane : Set} {r r' : 
         (e.adds cl pl j k);
   }
 
-  pub none-closes : {ends : Set} → Joint one_word closing free ends both → size ends ≡ 0
+  pub none-closes : {ends : Set} → Joint one_word closing free ends both → true ≡ eqb (size ends) 0
       → PlaneSearched words path len free closing plane r r' path
   none-closes j z = record {
     sized = e.sized;
     path_is = refl;
     adds = λ d n fr cl pl a b k.
-        let c : count (both cl fr) ≡ 0 = sym (size_is (j cl fr b a)) ∙ z in
-        subst (Adds r r') (sym (plane_stop d (take len path) fr cl pl (most_corners - len) (eq-eqb (count (both cl fr)) 0 c)))
-        (e.adds cl pl b k);
+        let none : empty (both cl fr) ≡ true = ap (λ (n : ℕ). eqb n 0) (sym (size_is (j cl fr b a))) ∙ sym z in
+        subst (Adds r r') (sym (plane_stop d (take len path) fr cl pl (most_corners - len) none)) (e.adds cl pl b k);
   }
 
 -- ---- the loop over the free neighbours: r₁ are the rooms where it starts
@@ -103,20 +103,29 @@ module _ (words path : List ℕ) (len : ℕ) (free closing plane : Set) (r₁ : 
   }
 
   module _ (p : PathAt path len most_vertices) (h : len < most_corners) where
-    pub turning_next : {path' path'' : List ℕ} {r' r'' : Rooms} {left left' rest : Set} {v : ℕ} → Turning path' r' left → 0 < size left
-        → Lowest one_word left v → Dropped one_word left v left' → Dropped one_word free v rest
+    -- one turn: the path goes on to v
+    pub turning_at : {path' : List ℕ} {r' : Rooms} {left left' rest : Set} {v : ℕ} → Turning path' r' left → First one_word left left' v
+        → VerticesBelow free most_vertices → Dropped one_word free v rest → OnPath r' (set path' len v) (len + 1) rest
+    turning_at {v = v} t q b drop = record {
+      sized = t.sized;
+      path_at = path_next (subst (λ (l : List ℕ). PathAt l len most_vertices) (sym t.path_is) p) v h (first_below t.below q);
+      free_below = below_dropped b drop;
+    }
+
+    pub turning_next : {path' path'' : List ℕ} {r' r'' : Rooms} {left left' rest : Set} {v : ℕ} → Turning path' r' left
+        → First one_word left left' v → Dropped one_word free v rest
         → PlaneSearched words (set path' len v) (len + 1) rest closing plane r' r'' path'' → Turning (set path'' len fill_byte) r'' left'
-    turning_next {path'} {path''} {r'} {r''} {left} {left'} {rest} {v} t some low drop drop' s = record {
+    turning_next {path'} {path''} {r'} {r''} {left} {left'} {rest} {v} t q drop s = record {
       sized = s.sized;
       path_is = ap (λ (l : List ℕ). set l len fill_byte) (s.path_is ∙ ap (λ (l : List ℕ). set l len v) t.path_is)
           ∙ set-set path len v fill_byte ∙ ap (set path len) (sym (p.fill len (omega arith) h)) ∙ set-get_or path len 0;
-      below = below_dropped t.below drop;
+      below = below_dropped t.below q.dropped;
       kept = λ d n fr cl pl i j k.
           let one : in_plane d (most_corners - (len + 1)) (take (len + 1) (set path' len v)) (less fr (only v)) cl pl
           ≡ in_plane d (most_corners - suc len) (take len path ++ v ∷ []) (less fr (only v)) cl pl
           = deeper_is d (less fr (only v)) cl pl path' v t.path_is in
-          kept_next (deeper d fr cl pl) (both (near d (final (take len path))) fr) r₁ (t.kept d n fr cl pl i j k) some low drop
-          (subst (Adds r' r'') one (s.adds d n (less fr (only v)) cl pl (drop'.same fr i) j k));
+          kept_next (deeper d fr cl pl) (both (near d (final (take len path))) fr) r₁ (t.kept d n fr cl pl i j k) q
+          (subst (Adds r' r'') one (s.adds d n (less fr (only v)) cl pl (drop.same fr i) j k));
     }
       where
         deeper_is : (d : Wire) (fr cl pl : List Bool) (path' : List ℕ) (v : ℕ) → path' ≡ path
@@ -131,12 +140,12 @@ module _ (words path : List ℕ) (len : ℕ) (free closing plane : Set) (r₁ : 
 
     -- it has gone through all, or the table is full
     module _ {r : Rooms} {ends : Set} (e : Ended r r₁ path len closing plane) (j : Joint one_word closing free ends both)
-        (some : size ends ≡ 0 → ⊥) where
+        (some : false ≡ eqb (size ends) 0) where
       whole : (d : Wire) (fr cl pl : List Bool) → Is free fr → Is closing cl
           → own cl (take len path) pl ++ each_of (deeper d fr cl pl) 0 (both (near d (final (take len path))) fr)
           ≡ in_plane d (most_corners - len) (take len path) fr cl pl
       whole d fr cl pl a b =
-          let full : empty (both cl fr) ≡ false = ne_eqb (count (both cl fr)) 0 (λ z. some (size_is (j cl fr b a) ∙ z)) in
+          let full : empty (both cl fr) ≡ false = ap (λ (n : ℕ). eqb n 0) (sym (size_is (j cl fr b a))) ∙ sym some in
           let z : suc (most_corners - suc len) ≡ most_corners - len = omega arith in
           plane_start d (take len path) fr cl pl (most_corners - suc len) [] full
           ∙ ap (λ (m : ℕ). in_plane d m (take len path) fr cl pl) z

@@ -6,7 +6,7 @@ use Prim.Native.Nat.{ℕ, ◌<◌}
 use native.Mathlib.Omega.{arith}
 use borrow.Author.Tests.{eq-eqb}
 use Rattle.sets.specs.Word.{count, first, less, only}
-use Rattle.sets.specs.Kinds.{Lowest, Dropped}
+use Rattle.sets.specs.Kinds.{First}
 use Rattle.sets.specs.Sets.{Is, size, one_word}
 use Rattle.sets.specs.declared.Set.{Set}
 use Rattle.sets.proofs.Sets.{size_is}
@@ -30,19 +30,18 @@ module _ (f : ℕ → List Bool → List InItsPlane) (every : List Bool) (r : Ro
   kept_start left i = record { digits = every; left_is = i; met = []; adds = adds_none; whole = refl }
 
   -- one turn: v is the lowest
-  pub kept_next : {r' r'' : Rooms} {left left' : Set} {v : ℕ} (k : Kept r' left) → 0 < size left → Lowest one_word left v
-      → Dropped one_word left v left'
+  pub kept_next : {r' r'' : Rooms} {left left' : Set} {v : ℕ} (k : Kept r' left) → First one_word left left' v
       → Adds r' r'' (f v (less k.digits (only v))) → Kept r'' left'
-  kept_next {r'} {r''} {left} {left'} {v} k some low drop a =
+  kept_next {r'} {r''} k p a =
       let op = k.digits in
-      let e : v ≡ first op = low.same op k.left_is in
-      let a' : Adds r' r'' (f (first op) (less op (only (first op)))) = subst (λ (j : ℕ). Adds r' r'' (f j (less op (only j)))) e a in
+      let more : List InItsPlane = f (first op) (less op (only (first op))) in
+      let a' : Adds r' r'' more = subst (λ (j : ℕ). Adds r' r'' (f j (less op (only j)))) (p.lowest.same op k.left_is) a in
       record {
         digits = less op (only (first op));
-        left_is = subst (λ (j : ℕ). Is left' (less op (only j))) e (drop.same op k.left_is);
-        met = k.met ++ f (first op) (less op (only (first op)));
-        adds = adds_then k.met (f (first op) (less op (only (first op)))) k.adds a';
-        whole = whole-next f k.met op (each_of f 0 every) (λ z. absurd (omega (arith, z, size_is k.left_is))) k.whole;
+        left_is = p.rest.same op k.left_is;
+        met = k.met ++ more;
+        adds = adds_then k.met more k.adds a';
+        whole = whole-next f k.met op (each_of f 0 every) (λ z. absurd (omega (arith, z, p.some, size_is k.left_is))) k.whole;
       }
 
   -- the set is empty, or the table is full

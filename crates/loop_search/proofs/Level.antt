@@ -2,15 +2,18 @@
 use mathlib.Core.Bool.{Bool, true, false, ◌||◌}
 use mathlib.Core.List.{List, [], ◌∷◌, ◌++◌, map, map-append}
 use mathlib.Core.Path.{◌≡◌, refl, sym, ap, ◌∙◌, subst}
-use Prim.Native.Nat.{ℕ, zero, suc, ◌+◌, ◌<◌}
+use Prim.Native.Nat.{ℕ, zero, suc, ◌+◌, ◌^◌, ◌<◌}
 use native.Mathlib.Omega.{arith}
 use borrow.Author.Tests.{eq-eqb}
 use lib.IntN.{ℤ}
+use lib.Signed.{mag}
+use mir.Syntax.{w64}
+use mir.Val.{of_z, to_z, hbits}
 use lib.ListN.{length, length-map}
 use Rattle.lists.specs.Lists.{from, upto}
 use Rattle.lists.proofs.Places.{upto_length}
 use Rattle.sets.specs.Word.{count, first, either, less, only}
-use Rattle.sets.specs.Kinds.{Lowest, Dropped}
+use Rattle.sets.specs.Kinds.{First}
 use Rattle.sets.specs.Sets.{Is, size, one_word}
 use Rattle.sets.specs.declared.Set.{Set}
 use Rattle.sets.proofs.Sets.{size_is, is_more}
@@ -20,6 +23,7 @@ use Rattle.paper.specs.declared.Point.{Point}
 use Rattle.polygon.specs.Sizes.{PlaneWithin}
 use Rattle.polygon.specs.Rings.{point_of}
 use Rattle.polygon.proofs.Rows.{point_small}
+use Rattle.polygon.proofs.Zeros.{reads_back}
 use Rattle.fast_search.specs.Rows.{some_of}
 use Rattle.fast_search.proofs.Rows.{some_next, some_end}
 use Rattle.loop_search.specs.Lines.{level_in, PlaneIn, PlaneAndSet}
@@ -45,19 +49,20 @@ module _ (xyz : List ℤ) (s m : Point) where
   asking_start p = record { asked = p; same = λ a i. (a, i, refl) }
 
   module _ {set left : Set} (k : Asking set left) where
-    module _ {v : ℕ} (some : 0 < size left) (low : Lowest one_word left v) where
+    module _ {left' : Set} {v : ℕ} (p : First one_word left left' v) where
       next : (b : List Bool) → Is left b → some_of level 0 b ≡ (level v || some_of level 0 (less b (only v)))
       next b i =
-          let e : first b ≡ v = sym (low.same b i) in
-          some_next level b (λ z. absurd (omega (arith, z, size_is i))) ∙ ap (λ (j : ℕ). level j || some_of level 0 (less b (only j))) e
+          let e : first b ≡ v = sym (p.lowest.same b i) in
+          some_next level b (λ z. absurd (omega (arith, z, p.some, size_is i)))
+          ∙ ap (λ (j : ℕ). level j || some_of level 0 (less b (only j))) e
 
-      pub asking_next : {left' : Set} → Dropped one_word left v left' → level v ≡ false → Asking set left'
-      asking_next {left'} drop e = record {
-        asked = record { vertices = k.asked.vertices; plane = k.asked.plane; below = below_dropped k.asked.below drop };
+      pub asking_next : level v ≡ false → Asking set left'
+      asking_next e = record {
+        asked = record { vertices = k.asked.vertices; plane = k.asked.plane; below = below_dropped k.asked.below p.dropped };
         same = λ a i.
             let b = k.same a i in (
               less b.0 (only v),
-              drop.same b.0 b.1,
+              p.dropped.same b.0 b.1,
               sym
                   (next b.0 b.1 ∙ ap (λ (x : Bool). x || some_of level 0 (less b.0 (only v))) e) ∙ b.2,
             );
@@ -104,10 +109,11 @@ module _ (xyz : List ℤ) (s m : Point) where
       let n : length a ≡ w = length-map (upto w) level ∙ upto_length w in
       subst (Is plane) (ap (λ (b : Bool). a ++ b ∷ []) (sym e) ∙ sym (upto_more w)) (is_more a (omega (arith, n)) i)
 
--- what the code made of the vertex w: its place, its side of the plane, and whether that is 0
+-- what the code made of the vertex w: its place q, its side z of the plane, and whether that is 0
 module _ {xyz : List ℤ} {v : ℕ} {s m : Point} (p : PlaneIn xyz v s m) where
   pub plane_small : (w : ℕ) (q : Point) → q ≡ point_of xyz w → PlaneWithin m s q
   plane_small w q e = record { m_in = p.m_in; o_in = p.s_in; p_in = rw e (point_small xyz p.points.near w) }
 
-  pub level_is : (w : ℕ) (q : Point) (z : ℤ) → q ≡ point_of xyz w → z ≡ dot m (minus q s) → is_zero z ≡ level_in xyz s m w
-  level_is w q z e f = ap is_zero (f ∙ ap (λ (x : Point). dot m (minus x s)) e)
+  pub level_is : (w : ℕ) {q : Point} {z : ℤ} {b : Bool} → q ≡ point_of xyz w → z ≡ dot m (minus q s) → mag z < 2 ^ hbits w64
+      → b ≡ is_zero (to_z w64 (of_z w64 z)) → level_in xyz s m w ≡ b
+  level_is w {z = z} e f h i = sym (i ∙ ap is_zero (reads_back z h ∙ f ∙ ap (λ (x : Point). dot m (minus x s)) e))

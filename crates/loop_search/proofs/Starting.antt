@@ -8,7 +8,7 @@ use lib.IntN.{ℤ}
 use lib.ListN.{length, get_or, take, set, replicate, length-set, length-replicate, get_or-replicate}
 use lib.Seq.{set-set, set-get_or, get_or-set_same, get_or-set_other}
 use Rattle.sets.specs.Word.{both, less, only}
-use Rattle.sets.specs.Kinds.{Joint, Minus, Lowest, Dropped, SetAt}
+use Rattle.sets.specs.Kinds.{Joint, Minus, Dropped, First, SetAt}
 use Rattle.sets.specs.Sets.{Is, size, one_word}
 use Rattle.sets.specs.declared.Set.{Set}
 use Rattle.sets.proofs.Digits.{length_less}
@@ -23,7 +23,7 @@ use Rattle.loop_search.specs.Paths.{PathAt, VerticesBelow}
 use Rattle.loop_search.specs.Lines.{DrawnWith, OnLineAt, OnLine}
 use Rattle.loop_search.specs.Starts.{StartAt, Started}
 use Rattle.loop_search.proofs.Kept.{Kept, kept_start, kept_next, kept_end}
-use Rattle.loop_search.proofs.Deeper.{below_both, below_dropped, lowest-below}
+use Rattle.loop_search.proofs.Deeper.{below_both, below_dropped, first_below}
 use Rattle.loop_search.proofs.Drawn.{vertices_length}
 use Rattle.loop_search.proofs.Way.{path_next}
 
@@ -96,18 +96,17 @@ module _ {xyz : List ℤ} (words : List ℕ) {v s : ℕ} {path : List ℕ} {r : 
     }
 
     module _ {path' : List ℕ} {r' : Rooms} {later : Set} (t : Starting xyz words v s begun r path' r' later) where
-      module _ {w : ℕ} {later' rest : Set} (some : 0 < size later) (low-w : Lowest one_word later w) (drop : Dropped one_word later w later')
-          (drop' : Dropped one_word up w rest) where
+      module _ {w : ℕ} {later' rest : Set} (p : First one_word later later' w) (drop : Dropped one_word up w rest) where
         pub second_at : OnLineAt r' xyz v (set path' 1 w) 2 rest later'
         second_at = record {
           sized = t.sized;
           points = g.points;
           few = g.few;
           path_at = subst (λ (q : List ℕ). PathAt (set q 1 w) 2 v) (sym t.path_is)
-              (path_next begun_at w (omega arith) (lowest-below t.below some low-w));
+              (path_next begun_at w (omega arith) (first_below t.below p));
           two = omega arith;
-          free_below = below_dropped up_below drop';
-          closing_below = below_dropped t.below drop;
+          free_below = below_dropped up_below drop;
+          closing_below = below_dropped t.below p.dropped;
         }
 
         pub starting_next : {path'' : List ℕ} {r'' : Rooms} → OnLine xyz words (set path' 1 w) 2 rest later' r' r'' path''
@@ -116,15 +115,15 @@ module _ {xyz : List ℤ} (words : List ℕ) {v s : ℕ} {path : List ℕ} {r : 
           sized = o.sized;
           path_is = ap (λ (l : List ℕ). set l 1 fill_byte) (o.path_is ∙ ap (λ (l : List ℕ). set l 1 w) t.path_is)
               ∙ set-set begun 1 w fill_byte ∙ ap (set begun 1) (sym (begun_at.fill 1 (omega arith) (omega arith))) ∙ set-get_or begun 1 0;
-          below = below_dropped t.below drop;
+          below = below_dropped t.below p.dropped;
           kept = λ d n.
               let k = t.kept d n in
               let two : take 2 (set path' 1 w) ≡ s ∷ w ∷ [] = ap (λ (l : List ℕ). take 2 (set l 1 w)) t.path_is
               ∙ ap (λ (l : List ℕ). take 2 (set (set l 0 s) 1 w)) g.empty in
-              kept_next (seconds s d) (every s d) r k some low-w drop
+              kept_next (seconds s d) (every s d) r k p
               (subst (λ (q : List ℕ). Adds r' r'' (bare_line d 10 q (less (higher d s) (only w)) (less k.digits (only w)))) two
-              (o.adds d n (less (higher d s) (only w)) (less k.digits (only w)) (drop'.same (higher d s) (up_is d n))
-              (drop.same k.digits k.left_is)));
+              (o.adds d n (less (higher d s) (only w)) (less k.digits (only w)) (drop.same (higher d s) (up_is d n))
+              (p.dropped.same k.digits k.left_is)));
         }
 
       pub starting_end : size later ≡ 0 → Started xyz words s r r' path (set path' 0 fill_byte)

@@ -22,11 +22,12 @@ use Rattle.fast_search.specs.Bare.{bare_line}
 use Rattle.fast_search.proofs.Turns.{turn-line, turn-none, turn_plane}
 use Rattle.loop_search.specs.declared.planes.Turn.{Turn}
 use Rattle.loop_search.specs.Rooms.{Rooms, Adds}
-use Rattle.loop_search.specs.Paths.{VerticesBelow, PlaneSearched}
-use Rattle.loop_search.specs.Lines.{turn_in, in_fixed, TurnIs, TurnAt, StepAt, DrawnWith, OnLine, Stepped}
+use Rattle.loop_search.specs.Paths.{OnPath, PlaneSearched}
+use Rattle.loop_search.specs.Lines.{turn_in, in_fixed, TurnIs, TurnAt, StepAt, DrawnWith, OnLineAt, OnLine, Stepped}
 use Rattle.loop_search.proofs.Filling.{adds_none}
 use Rattle.loop_search.proofs.Deeper.{below_dropped, below_both}
 use Rattle.loop_search.proofs.Drawn.{turn_is, in_fixed_lem, fixed_mask}
+use Rattle.loop_search.proofs.Way.{path_up}
 
 module _ {xyz : List ℤ} {v : ℕ} (words : List ℕ) {path : List ℕ} {len : ℕ} {free closing : Set} {r : Rooms}
     (g : StepAt r xyz v path len free closing) (w : ℕ) (at-w : w ≡ get_or path len 0) where
@@ -53,15 +54,32 @@ module _ {xyz : List ℤ} {v : ℕ} (words : List ℕ) {path : List ℕ} {len : 
     ends_below = below_both g.closing_below.digits g.closing_below.is g.free_below j;
   }
 
-  -- what `in_plane` asks for, of the free vertices
-  pub plane_below : {plane less-w free' : Set} (ends : List Bool) → TurnIs xyz v path w ends (Turn.Plane plane)
-      → Dropped one_word free w less-w
-      → Joint one_word less-w plane free' both → VerticesBelow free' most_vertices
-  plane_below {plane} ends t d j =
+  -- what `on_line` asks for
+  pub line_at : {less-w : Set} → Dropped one_word free w less-w → OnLineAt r xyz v path (len + 1) less-w closing
+  line_at d = record {
+    sized = g.sized;
+    points = g.points;
+    few = g.few;
+    path_at = g.path_at;
+    two = omega (arith, g.two);
+    free_below = below_dropped g.free_below d;
+    closing_below = g.closing_below;
+  }
+
+  -- what `in_plane` asks for
+  pub plane_at : {ends : Set} → Joint one_word closing free ends both → {less-w : Set} → Dropped one_word free w less-w
+      → {plane free' : Set} → ((a : List Bool) → Is ends a → TurnIs xyz v path w a (Turn.Plane plane))
+      → Joint one_word less-w plane free' both → OnPath r path (len + 1) free'
+  plane_at k d t j =
       let mask = map (in_fixed xyz path w) (upto v) in
+      let b = (turn_at_lem k).ends_below in
       let rest_below = below_dropped g.free_below d in
       let few : length mask ≤ most_vertices = omega (arith, length-map (upto v) (in_fixed xyz path w), upto_length v, g.few) in
-      below_both rest_below.digits rest_below.is (record { digits = mask; is = t.2; few = few }) j
+      record {
+        sized = g.sized;
+        path_at = path_up g.path_at g.few;
+        free_below = below_both rest_below.digits rest_below.is (record { digits = mask; is = (t b.digits b.is).2; few = few }) j;
+      }
 
   -- what the turn says of the drawing
   module _ (d : Wire) (n : DrawnWith d xyz words) where

@@ -1,15 +1,15 @@
 -- The search from a path in one line: where it stops, one law for each return, and what its loop keeps.
-use mathlib.Core.Bool.{Bool, false}
+use mathlib.Core.Bool.{Bool, true, false}
 use mathlib.Core.List.{List, []}
 use mathlib.Core.Path.{◌≡◌, refl, sym, ap, ◌∙◌, subst}
 use Prim.Native.Nat.{ℕ, suc, ◌+◌, ◌-◌, ◌≤◌, ◌<◌}
 use native.Mathlib.Omega.{arith}
-use borrow.Author.Tests.{eq-eqb, ne_eqb}
+use lib.Dec.{eqb}
 use lib.IntN.{ℤ}
 use lib.ListN.{length, get_or, take, set}
 use lib.Seq.{set-set, set-get_or, take-set-le, get_or-set_same}
-use Rattle.sets.specs.Word.{count, empty, both}
-use Rattle.sets.specs.Kinds.{Joint, Lowest, Dropped}
+use Rattle.sets.specs.Word.{empty, both}
+use Rattle.sets.specs.Kinds.{Joint, First}
 use Rattle.sets.specs.Sets.{Is, size, one_word}
 use Rattle.sets.specs.declared.Set.{Set}
 use Rattle.sets.proofs.Sets.{size_is}
@@ -22,10 +22,11 @@ use Rattle.fast_search.specs.Bare.{bare_line}
 use Rattle.fast_search.proofs.Turns.{bare_last, bare_turns, bare_stop, bare_start}
 use Rattle.loop_search.specs.Rooms.{Rooms, Sized, Adds}
 use Rattle.loop_search.specs.Paths.{PathAt, VerticesBelow, Onward}
-use Rattle.loop_search.specs.Lines.{DrawnWith, OnLine, Stepped}
+use Rattle.loop_search.specs.Lines.{DrawnWith, OnLineAt, OnLine, StepAt, Stepped}
 use Rattle.loop_search.proofs.Filling.{adds_none}
 use Rattle.loop_search.proofs.Kept.{Kept, kept_start, kept_next, kept_end, kept_full}
-use Rattle.loop_search.proofs.Deeper.{below_dropped}
+use Rattle.loop_search.proofs.Deeper.{below_dropped, first_below}
+use Rattle.loop_search.proofs.Way.{path_next}
 
 -- ---- the path is not gone on with: it is as long as a loop can be; no free vertex closes it
 module _ {xyz : List ℤ} {words path : List ℕ} {len : ℕ} {free closing : Set} {r : Rooms} (z : Sized r) where
@@ -38,13 +39,13 @@ module _ {xyz : List ℤ} {words path : List ℕ} {len : ℕ} {free closing : Se
         subst (Adds r r) (sym (bare_last d (take len path) fr cl) ∙ ap (λ (m : ℕ). bare_line d m (take len path) fr cl) e) adds_none;
   }
 
-  pub line-none : {ends : Set} → Joint one_word closing free ends both → size ends ≡ 0 → OnLine xyz words path len free closing r r path
+  pub line-none : {ends : Set} → Joint one_word closing free ends both → true ≡ eqb (size ends) 0 → OnLine xyz words path len free closing r r path
   line-none k e = record {
     sized = z;
     path_is = refl;
     adds = λ d n fr cl i j.
-        let c : count (both cl fr) ≡ 0 = sym (size_is (k cl fr j i)) ∙ e in
-        subst (Adds r r) (sym (bare_stop d (take len path) fr cl (most_corners - len) (eq-eqb (count (both cl fr)) 0 c))) adds_none;
+        let none : empty (both cl fr) ≡ true = ap (λ (n : ℕ). eqb n 0) (sym (size_is (k cl fr j i))) ∙ sym e in
+        subst (Adds r r) (sym (bare_stop d (take len path) fr cl (most_corners - len) none)) adds_none;
   }
 
 -- ---- the loop over the free neighbours
@@ -80,25 +81,38 @@ module _ (xyz : List ℤ) (words path : List ℕ) (len : ℕ) (free closing : Se
         let u : get_or (set path' len w) len 0 ≡ w = get_or-set_same path' len w 0 (omega (arith, ap length e, p.long)) in
         λ i. line_step d (λ q f. bare_line d (z i) q f cl) (z i) (q i) fr cl (u i)
 
-    pub passing-next : {path' path'' : List ℕ} {r' r'' : Rooms} {left left' : Set} {w : ℕ} → Passing path' r' left → 0 < size left
-        → Lowest one_word left w → Dropped one_word left w left' → Stepped xyz words (set path' len w) len free closing r' r'' path''
+    -- one turn: w is the next vertex
+    pub passing_at : {r₀ : Rooms} → OnLineAt r₀ xyz v path len free closing → {path' : List ℕ} {r' : Rooms} {left left' : Set} {w : ℕ}
+        → Passing path' r' left → First one_word left left' w → StepAt r' xyz v (set path' len w) len free closing
+    passing_at g {w = w} t q = record {
+      sized = t.sized;
+      points = g.points;
+      few = g.few;
+      path_at = path_next (subst (λ (l : List ℕ). PathAt l len v) (sym t.path_is) p) w h (first_below t.below q);
+      two = g.two;
+      free_below = g.free_below;
+      closing_below = g.closing_below;
+    }
+
+    pub passing-next : {path' path'' : List ℕ} {r' r'' : Rooms} {left left' : Set} {w : ℕ} → Passing path' r' left
+        → First one_word left left' w → Stepped xyz words (set path' len w) len free closing r' r'' path''
         → Passing (set path'' len fill_byte) r'' left'
-    passing-next {path'} {path''} {r'} {r''} {left} {left'} {w} t some low drop s = record {
+    passing-next {path'} {path''} {r'} {r''} {left} {left'} {w} t q s = record {
       sized = s.sized;
       path_is = ap (λ (l : List ℕ). set l len fill_byte) (s.path_is ∙ ap (λ (l : List ℕ). set l len w) t.path_is)
           ∙ set-set path len w fill_byte ∙ ap (set path len) (sym (p.fill len (omega arith) h)) ∙ set-get_or path len 0;
-      below = below_dropped t.below drop;
+      below = below_dropped t.below q.dropped;
       kept = λ d n fr cl i j.
-          kept_next (onwards d fr cl) (both (near d (final (take len path))) fr) r (t.kept d n fr cl i j) some low drop
+          kept_next (onwards d fr cl) (both (near d (final (take len path))) fr) r (t.kept d n fr cl i j) q
           (subst (Adds r' r'') (step_is d fr cl path' w t.path_is) (s.adds d n fr cl i j));
     }
 
     -- it has gone through all, or the table is full
-    module _ {ends : Set} (j : Joint one_word closing free ends both) (some : size ends ≡ 0 → ⊥) where
+    module _ {ends : Set} (j : Joint one_word closing free ends both) (some : false ≡ eqb (size ends) 0) where
       whole : (d : Wire) (fr cl : List Bool) → Is free fr → Is closing cl
           → each_of (onwards d fr cl) 0 (both (near d (final (take len path))) fr) ≡ bare_line d (most_corners - len) (take len path) fr cl
       whole d fr cl a b =
-          let full : empty (both cl fr) ≡ false = ne_eqb (count (both cl fr)) 0 (λ z. some (size_is (j cl fr b a) ∙ z)) in
+          let full : empty (both cl fr) ≡ false = ap (λ (n : ℕ). eqb n 0) (sym (size_is (j cl fr b a))) ∙ sym some in
           let z : suc (most_corners - suc len) ≡ most_corners - len = omega arith in
           bare_start d (take len path) fr cl (most_corners - suc len) [] full ∙ ap (λ (m : ℕ). bare_line d m (take len path) fr cl) z
 

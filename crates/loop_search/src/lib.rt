@@ -36,9 +36,7 @@ fn starting_at(
     let mut later = Set::at(near, s).and(higher);
     let mut c = count;
     path[0] = s as u8;
-    while !later.is_empty() {
-        let w = later.lowest();
-        later = later.without(w);
+    while let Some(w) = later.pop_first() {
         path[1] = w as u8;
         c = on_line(
             xyz,
@@ -73,10 +71,8 @@ pub fn search(
 {
     let mut path = [FILL; MOST_CORNERS];
     let mut c = 0;
-    let mut s = 0;
-    while s < v {
+    for s in 0..v {
         c = starting_at(xyz, v, near, &mut path, s, table, planes, c);
-        s += 1;
     }
     c
 }

@@ -85,12 +85,10 @@ pub fn on_line(
     }
     let mut c = count;
     let mut left = onward(near, path, len, free);
-    while !left.is_empty() {
+    while let Some(w) = left.pop_first() {
         if MOST_LOOPS < c {
             return c;
         }
-        let w = left.lowest();
-        left = left.without(w);
         path[len] = w as u8;
         c = step(xyz, v, near, path, len, free, closing, table, planes, c);
         path[len] = FILL;

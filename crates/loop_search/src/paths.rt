@@ -43,12 +43,10 @@ pub fn in_plane(
         return c;
     }
     let mut left = onward(near, path, len, free);
-    while !left.is_empty() {
+    while let Some(w) = left.pop_first() {
         if MOST_LOOPS < c {
             return c;
         }
-        let w = left.lowest();
-        left = left.without(w);
         path[len] = w as u8;
         c = in_plane(
             near,

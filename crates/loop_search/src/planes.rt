@@ -26,9 +26,7 @@ fn any_level(xyz: &[i64], set: Set, s: Point, m: Point) -> bool
     ensures { (a : List Bool) → Is set a → result ≡ some_of (level_in xyz.now s m) 0 a }
 {
     let mut left = set;
-    while !left.is_empty() {
-        let w = left.lowest();
-        left = left.without(w);
+    while let Some(w) = left.pop_first() {
         if is_zero(plane_side(m, s, point_at(xyz, w))) {
             return true;
         }
@@ -42,12 +40,10 @@ fn plane_of(xyz: &[i64], v: usize, s: Point, m: Point) -> Set
     ensures { Is result (map (level_in xyz.now s m) (upto v)) }
 {
     let mut plane = Set::none();
-    let mut w = 0;
-    while w < v {
+    for w in 0..v {
         if is_zero(plane_side(m, s, point_at(xyz, w))) {
             plane = plane.with(w);
         }
-        w += 1;
     }
     plane
 }

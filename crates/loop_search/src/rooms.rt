@@ -16,10 +16,8 @@ fn put_row(table: &mut [u8; LOOP_ROOM], at: usize, path: &[u8; MOST_CORNERS], le
     ensures { table.new ≡ paste table.old at (row (take len path.now)) row_bytes }
 {
     table[at] = len as u8;
-    let mut i = 0;
-    while i < MOST_CORNERS {
+    for i in 0..MOST_CORNERS {
         table[at + 1 + i] = path[i];
-        i += 1;
     }
 }
 

@@ -20,13 +20,11 @@ pub fn number_edges(ends: &[u8]) -> [u8; PAIRS]
 {
     let mut number = [0u8; PAIRS];
     let n = ends.len() / 2;
-    let mut e = 0;
-    while e < n {
+    for e in 0..n {
         let a = wide(ends[2 * e]);
         let b = wide(ends[2 * e + 1]);
         number[MOST_VERTICES * a + b] = e as u8;
         number[MOST_VERTICES * b + a] = e as u8;
-        e += 1;
     }
     number
 }
@@ -47,14 +45,12 @@ fn row_words(table: &[u8], k: usize, number: &[u8; PAIRS]) -> Words
     let mut a = wide(table[first + len]);
     let mut corners = Set::none();
     let mut sides = Wide::none();
-    let mut i = 0;
-    while i < len {
+    for i in 0..len {
         let b = wide(table[first + 1 + i]);
         let e = wide(number[MOST_VERTICES * a + b]);
         corners = corners.with(b);
         sides = sides.with(e);
         a = b;
-        i += 1;
     }
     Words {
         corners: corners,
@@ -74,11 +70,9 @@ pub fn loop_words(
     ensures { (w : DrawnTable table.now n number.now)
         → LoopWords w corners.old corners.new sides.old sides.new }
 {
-    let mut k = 0;
-    while k < n {
+    for k in 0..n {
         let w = row_words(table, k, number);
         Set::put(corners, k, w.corners);
         Wide::put(sides, k, w.sides);
-        k += 1;
     }
 }

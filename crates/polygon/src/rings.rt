@@ -55,12 +55,10 @@ pub fn normal(xyz: &[i64], table: &[u8], r: usize) -> Point
     let n = count(table, r);
     let mut sum = Point { x: 0, y: 0, z: 0 };
     let mut a = corner(xyz, table, r, 0);
-    let mut j = 0;
-    while j < n {
+    for j in 0..n {
         let b = corner(xyz, table, r, j + 1);
         sum = plus(sum, cross(a, b));
         a = b;
-        j += 1;
     }
     sum
 }
@@ -80,13 +78,11 @@ pub fn in_plane(xyz: &[i64], table: &[u8], g: usize, m: Point, h: usize) -> bool
 {
     let n = count(table, h);
     let o = corner(xyz, table, g, 0);
-    let mut j = 0;
-    while j < n {
+    for j in 0..n {
         let s = plane_side(m, o, corner(xyz, table, h, j));
         if !is_zero(s) {
             return false;
         }
-        j += 1;
     }
     true
 }

@@ -1,7 +1,7 @@
 -- `clash_fold::points_in`: the loop keeps that what is left of the corners decides, and that a and p are corners j and j + 1.
 use Rattle.paper.specs.declared.Point.{Point}
 use mathlib.Core.Path.{◌≡◌}
-use Prim.Native.Nat.{◌+◌, ◌-◌, ◌≤◌, ℕ}
+use Prim.Native.Nat.{◌+◌, ◌≤◌, ℕ}
 use lib.ListN.{length}
 use Rattle.paper.specs.Polygon.{Polygon}
 use Rattle.polygon.specs.Rings.{corner_of, ring}
@@ -18,6 +18,3 @@ pub record Turned (m u w : Point) (g : Polygon) (n : ℕ) (a p : Point) (j : ℕ
 
 abbrev pub invariant-loop-j : goal.invariant-loop-j
 invariant-loop-j l = Turned l.m l.u l.w (ring l.xyz l.table l.r) l.n l.a l.p l.j
-
-abbrev pub decreases-loop-j : goal.decreases-loop-j
-decreases-loop-j l = l.n - l.j

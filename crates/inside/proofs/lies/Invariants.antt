@@ -2,7 +2,7 @@
 -- is corner j as it is seen.
 use mathlib.Core.Bool.{Bool}
 use mathlib.Core.Path.{◌≡◌}
-use Prim.Native.Nat.{ℕ, ◌-◌, ◌≤◌}
+use Prim.Native.Nat.{ℕ, ◌≤◌}
 use lib.IntN.{ℤ}
 use lib.ListN.{length, take}
 use Rattle.lists.proofs.Search.{Left}
@@ -24,6 +24,3 @@ pub record Passed (g : Polygon) (v : Axis) (q : Flat) (d : ℤ) (n : ℕ) (odd :
 
 abbrev pub invariant-loop-j : goal.invariant-loop-j
 invariant-loop-j l = Passed (ring l.xyz l.table l.r) l.v l.q l.d l.n l.odd l.a l.j
-
-abbrev pub decreases-loop-j : goal.decreases-loop-j
-decreases-loop-j l = l.n - l.j

@@ -1,7 +1,7 @@
 -- `loop_words::loop_words`: the loop keeps that the words of the first k rows are written.
 use mathlib.Core.List.{List}
 use mathlib.Core.Path.{◌≡◌}
-use Prim.Native.Nat.{◌-◌, ◌≤◌, ℕ}
+use Prim.Native.Nat.{◌≤◌, ℕ}
 use lib.ListN.{take}
 use Rattle.fast_tables.specs.Hits.{corner_mask, side_mask}
 use Rattle.loop_table.specs.Tables.{words_after}
@@ -17,6 +17,3 @@ pub record Kept {table : List ℕ} {n : ℕ} {number : List ℕ} (w : DrawnTable
 
 abbrev pub invariant-loop-k : goal.invariant-loop-k
 invariant-loop-k l = (w : DrawnTable l.table l.n l.number) → Kept w l.initial.corners l.corners l.initial.sides l.sides l.k
-
-abbrev pub decreases-loop-k : goal.decreases-loop-k
-decreases-loop-k l = l.n - l.k

@@ -1,7 +1,7 @@
 -- `loop_words::number_edges`: the loop keeps that the entries of the first e edges are their numbers.
 use mathlib.Core.List.{List}
 use mathlib.Core.Path.{◌≡◌}
-use Prim.Native.Nat.{◌-◌, ◌≤◌, ℕ}
+use Prim.Native.Nat.{◌≤◌, ℕ}
 use lib.ListN.{length}
 use Rattle.loop_words.specs.Numbered.{RisingEnds}
 use Rattle.loop_words.proofs.Pairs.{Numbering, all_pairs}
@@ -16,6 +16,3 @@ pub record Kept {ends : List ℕ} (r : RisingEnds ends) (n : ℕ) (number : List
 
 abbrev pub invariant-loop-e : goal.invariant-loop-e
 invariant-loop-e l = (r : RisingEnds l.ends) → Kept r l.n l.number l.e
-
-abbrev pub decreases-loop-e : goal.decreases-loop-e
-decreases-loop-e l = l.n - l.e

@@ -2,7 +2,7 @@
 -- that a is the corner before.
 use mathlib.Core.List.{List}
 use mathlib.Core.Path.{◌≡◌}
-use Prim.Native.Nat.{◌-◌, ◌≤◌, ℕ}
+use Prim.Native.Nat.{◌≤◌, ℕ}
 use lib.ListN.{get_or, length}
 use Rattle.sets.specs.Sets.{one_word, wides, Wide}
 use Rattle.sets.specs.declared.Set.{Set}
@@ -22,6 +22,3 @@ pub record Kept {table : List ℕ} {k : ℕ} {number : List ℕ} (w : RowDrawn t
 
 abbrev pub invariant-loop-i : goal.invariant-loop-i
 invariant-loop-i l = (w : RowDrawn l.table l.k l.number) → Kept w l.len l.a l.corners l.sides l.i
-
-abbrev pub decreases-loop-i : goal.decreases-loop-i
-decreases-loop-i l = l.len - l.i

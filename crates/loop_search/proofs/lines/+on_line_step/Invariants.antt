@@ -14,10 +14,10 @@ decreases-on_line l = 2 * (most_corners - l.len) + 1
 abbrev pub decreases-step : goal.decreases-step
 decreases-step l = 2 * (most_corners - l.len)
 
-abbrev pub invariant-on_line-loop-free : goal.invariant-on_line-loop-free
-invariant-on_line-loop-free l =
+abbrev pub invariant-on_line-loop-w : goal.invariant-on_line-loop-w
+invariant-on_line-loop-w l =
     Passing l.xyz l.near l.initial.path l.len l.free l.closing l.v (rooms l.initial.table l.initial.planes l.initial.c) l.path
     (rooms l.table l.planes l.c) l.left
 
-abbrev pub decreases-on_line-loop-free : goal.decreases-on_line-loop-free
-decreases-on_line-loop-free l = size l.left
+abbrev pub decreases-on_line-loop-w : goal.decreases-on_line-loop-w
+decreases-on_line-loop-w l = size l.left

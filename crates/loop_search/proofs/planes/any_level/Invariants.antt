@@ -3,8 +3,8 @@ use Rattle.sets.specs.Sets.{size}
 use Rattle.loop_search.proofs.Level.{Asking}
 use Rattle.loop_search.proofs.planes.any_level.Given as goal
 
-abbrev pub invariant-loop-s : goal.invariant-loop-s
-invariant-loop-s l = Asking l.xyz l.s l.m l.initial.left l.left
+abbrev pub invariant-loop-w : goal.invariant-loop-w
+invariant-loop-w l = Asking l.xyz l.s l.m l.initial.left l.left
 
-abbrev pub decreases-loop-s : goal.decreases-loop-s
-decreases-loop-s l = size l.left
+abbrev pub decreases-loop-w : goal.decreases-loop-w
+decreases-loop-w l = size l.left

@@ -1,15 +1,13 @@
 -- `loop_search::planes::plane_of`: the loop keeps that the set has those of the first w vertices that are in the plane.
 use mathlib.Core.Bool.{Bool}
 use mathlib.Core.List.{List, map}
-use mathlib.Core.Path.{◌≡◌, sym, ap, subst, ◌∙◌}
+use mathlib.Core.Path.{◌≡◌, sym, subst, ◌∙◌}
 use Prim.Native.Nat.{ℕ, ◌+◌, ◌<◌}
 use native.Mathlib.Omega.{arith}
 use Rattle.lists.specs.Lists.{from, upto}
 use Rattle.sets.specs.Sets.{Is}
 use Rattle.sets.specs.declared.Set.{Set}
 use Rattle.paper.specs.Numbers.{most_vertices}
-use Rattle.paper.specs.Points.{is_zero}
-use Rattle.polygon.proofs.Zeros.{reads_back}
 use Rattle.loop_search.specs.Lines.{level_in}
 use Rattle.loop_search.proofs.Level.{level_yes, level_no, plane_small, level_is}
 use Rattle.loop_search.proofs.planes.plane_of.Goals as goal
@@ -20,12 +18,9 @@ abbrev wider : goal.Joined-is_zero → List Bool
 wider c = let a = c.args in map (level_in a.xyz.now a.s a.m) (upto (c.loop-w.w + 1))
 
 -- the code asks whether w is in the plane
-w-level : (c : goal.Joined-is_zero)
-    → let a = c.args in c.is_zero.result ≡ level_in a.xyz.now a.s a.m c.loop-w.w
+w-level : (c : goal.Joined-is_zero) → let a = c.args in level_in a.xyz.now a.s a.m c.loop-w.w ≡ c.is_zero.result
 w-level c =
-    let p = c.point_at in
-    c.is_zero.ensures ∙ ap is_zero (reads_back c.plane_side.result c.plane_side.type_inv)
-    ∙ level_is c.requires c.loop-w.w p.result c.plane_side.result p.ensures c.plane_side.ensures
+    level_is c.requires c.loop-w.w c.point_at.ensures c.plane_side.ensures c.plane_side.type_inv c.is_zero.ensures
 
 gathers : (c : goal.Joined-is_zero) → Is c.if-is_zero.plane (wider c)
 gathers c =
@@ -34,10 +29,10 @@ gathers c =
     elim c.if-is_zero.branch [
       | then-is_zero t ↦
           subst (λ (x : Set). Is x (wider c)) (sym t.plane-is)
-          (level_yes a.xyz.now a.s a.m c.loop-w.w few c.loop-w.invariant.is (sym (w-level c) ∙ t.if-is_zero.true) t.with-plane.ensures)
+          (level_yes a.xyz.now a.s a.m c.loop-w.w few c.loop-w.invariant.is (w-level c ∙ t.if-is_zero.true) t.with-plane.ensures)
       | else-is_zero t ↦
           subst (λ (x : Set). Is x (wider c)) (sym t.plane-is)
-          (level_no a.xyz.now a.s a.m c.loop-w.w few c.loop-w.invariant.is (sym (w-level c) ∙ t.if-is_zero.false))
+          (level_no a.xyz.now a.s a.m c.loop-w.w few c.loop-w.invariant.is (w-level c ∙ t.if-is_zero.false))
     ]
 
 -- ---- the needs

@@ -1,6 +1,6 @@
 -- `loop_search::planes::plane_of`: the loop keeps that the set has those of the first w vertices that are in the plane.
 use mathlib.Core.List.{List, map}
-use Prim.Native.Nat.{ℕ, ◌-◌, ◌≤◌}
+use Prim.Native.Nat.{ℕ, ◌≤◌}
 use lib.IntN.{ℤ}
 use Rattle.lists.specs.Lists.{upto}
 use Rattle.sets.specs.Sets.{Is}
@@ -15,6 +15,3 @@ pub record Gathered (xyz : List ℤ) (v : ℕ) (s m : Point) (plane : Set) (w : 
 
 abbrev pub invariant-loop-w : goal.invariant-loop-w
 invariant-loop-w l = Gathered l.xyz l.v l.s l.m l.plane l.w
-
-abbrev pub decreases-loop-w : goal.decreases-loop-w
-decreases-loop-w l = l.v - l.w

@@ -1,7 +1,7 @@
 -- `loop_search::rooms::put_row`: behind the corner count, the loop keeps that the first i cells of the path are pasted.
 use mathlib.Core.List.{List}
 use mathlib.Core.Path.{◌≡◌}
-use Prim.Native.Nat.{ℕ, ◌≤◌, ◌-◌, ◌+◌}
+use Prim.Native.Nat.{ℕ, ◌≤◌, ◌+◌}
 use lib.Seq.{paste}
 use Rattle.paper.specs.Numbers.{most_corners}
 use Rattle.loop_search.proofs.rooms.put_row.Given as goal
@@ -13,6 +13,3 @@ pub record Filling (path table : List ℕ) (at : ℕ) (last : List ℕ) (i : ℕ
 
 abbrev pub invariant-loop-i : goal.invariant-loop-i
 invariant-loop-i l = Filling l.path l.initial.table l.at l.table l.i
-
-abbrev pub decreases-loop-i : goal.decreases-loop-i
-decreases-loop-i l = most_corners - l.i

@@ -1,7 +1,7 @@
 -- `polygon::rings::in_plane`: the loop keeps that what is left of row h decides, since the corners before are in the plane.
 use mathlib.Core.Bool.{Bool}
 use mathlib.Core.Path.{◌≡◌}
-use Prim.Native.Nat.{◌-◌, ◌≤◌}
+use Prim.Native.Nat.{◌≤◌}
 use lib.ListN.{length}
 use Rattle.lists.proofs.Search.{Left}
 use Rattle.lists.specs.Lists.{all}
@@ -17,6 +17,3 @@ Level g p = is_zero (plane_side g p)
 
 abbrev pub invariant-loop-j : goal.invariant-loop-j
 invariant-loop-j l = (l.j ≤ l.n) × (l.n ≡ length (ring l.xyz l.table l.h)) × Left (all (Level (ring l.xyz l.table l.g))) (ring l.xyz l.table l.h) l.j
-
-abbrev pub decreases-loop-j : goal.decreases-loop-j
-decreases-loop-j l = l.n - l.j
