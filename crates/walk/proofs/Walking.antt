@@ -1,5 +1,7 @@
 -- The ways out of the walk: it had ended, a contradiction, a leaf, both branches; and the start of it.
-use mathlib.Core.Bool.{Bool, false}
+use Rattle.std.specs.Prelude.{Some, None, Option}
+use Rattle.std.specs.Option.{is_some}
+use mathlib.Core.Bool.{Bool, true, false}
 use mathlib.Core.List.{List}
 use mathlib.Core.Path.{◌≡◌, refl, sym, ◌∙◌, subst}
 use Prim.Native.Nat.{ℕ, suc, ◌≤◌, ◌<◌}
@@ -21,8 +23,6 @@ use Rattle.walk_tables.specs.Words.{WalkTables, Lent}
 use Rattle.walk_state.specs.State.{StateIs}
 use Rattle.walk_state.specs.Sweeps.{SweptIs, SweptOut}
 use Rattle.walk_state.specs.declared.State.{State}
-use Rattle.walk_state.specs.declared.Swept.{Swept}
-use Rattle.walk_state.specs.declared.Swept.TheVariants as S
 use Rattle.walk.specs.Tally.{Roomy, Assumed, Stored, Follows}
 use Rattle.walk.specs.Leaf.{KeepsSolid}
 use Rattle.walk.specs.Branch.{BranchIs, Assumes, Branches}
@@ -30,26 +30,22 @@ use Rattle.walk.specs.Walk.{Walked}
 use Rattle.walk.specs.declared.tally.Tally.{Tally}
 use Rattle.walk.specs.declared.branch.Branch.{Branch}
 use Rattle.walk.specs.declared.branch.Both.{Both}
-use Rattle.walk.proofs.Tallies.{assumed_follows}
+use Rattle.walk.proofs.Tallies.{has_ended, goes_on, assumed_follows}
 use Rattle.walk.proofs.Turns.{turn_ended, turn-broken, turn-leaf, turn-both}
 
 -- ---- what the sweeps left
 
-left-broken : (o : Outcome) → SweptIs o S.Broken → o ≡ Broken
+left-broken : (o : Outcome) → SweptIs o None → o ≡ Broken
 left-broken Broken h = refl
 left-broken (Stands st) h = absurd h
 
-left_stands : (s : State) (o : Outcome) → SweptIs o (S.Stands s) → (st : List Status) × (o ≡ Stands st) × StateIs s st
+left_stands : (s : State) (o : Outcome) → SweptIs o (Some s) → (st : List Status) × (o ≡ Stands st) × StateIs s st
 left_stands s Broken h = absurd h
 left_stands s (Stands st) h = (st, refl, h)
 
 -- as many are undecided as the set has
 open_size : {s : State} {st : List Status} → StateIs s st → wides.size s.undecided ≡ open_count st
 open_size {s} {st} h = wides_laws.size_is h.leaves ∙ count_open st
-
--- an assumption finds no solid, so there is room as before
-pub still_roomy : {limit : ℕ} {x r : Tally} {out : List ℕ} → Assumed limit x r → Roomy x out → Roomy r out
-still_roomy a h = record { few = omega (arith, a.no_more, h.few); whole = h.whole }
 
 -- the same log, told another way
 told : {t : Tables} {lent : List ℕ} {x : Tally} {out : List ℕ} {log log' : Log} → log ≡ log' → Stored t lent x out log'
@@ -58,7 +54,7 @@ told {t} {lent} {x} {out} q h = subst (Stored t lent x out) (sym q) h
 
 module _ {tables : WalkTables} {m : ℕ} {b : Branch} where
   -- what sweeping from the branch's state leaves
-  swept : {w : Swept} → SweptOut tables.on tables.sides b.state b.changed w
+  swept : {w : Option State} → SweptOut tables.on tables.sides b.state b.changed w
       → {n : ℕ} {t : Tables} {st : List Status} {marked : List Bool} {e : ℕ} → Lent tables m n t
       → BranchIs b st marked e → Call t.masks st marked e
       → SweptIs (stable (suc (open_count st)) t.masks st) w
@@ -66,26 +62,26 @@ module _ {tables : WalkTables} {m : ℕ} {b : Branch} where
       o.same t.masks _ st marked lent.held.on_are lent.held.sides_are is.holds is.marked_is call.loop
 
   module _ (limit : ℕ) {x : Tally} {out₀ : List ℕ} where
-    pub walked_ended : Roomy x out₀ → (x.ended ≡ 0 → ⊥) → Walked tables m b limit x out₀ x out₀
-    walked_ended roomy z = record {
+    pub walked_ended : Roomy x out₀ → true ≡ is_some x.ended → Walked tables m b limit x out₀ x out₀
+    walked_ended roomy i = record {
       roomy = roomy;
       same = λ n t st marked e depth lent long is call few log room h.
-          told (turn_ended most_solids (accepted t) limit t.masks st depth log (λ q. z (h.counts.ended_is ∙ q))) h;
+          told (turn_ended most_solids (accepted t) limit t.masks st depth log (has_ended h.counts i)) h;
     }
 
-    module _ (z : x.ended ≡ 0) where
-      pub walked-broken : Roomy x out₀ → SweptOut tables.on tables.sides b.state b.changed S.Broken
+    module _ (on : false ≡ is_some x.ended) where
+      pub walked-broken : Roomy x out₀ → SweptOut tables.on tables.sides b.state b.changed None
           → Walked tables m b limit x out₀ x out₀
       walked-broken roomy o = record {
         roomy = roomy;
         same = λ n t st marked e depth lent long is call few log room h.
             told
-            (turn-broken most_solids (accepted t) limit t.masks st depth log (sym h.counts.ended_is ∙ z)
+            (turn-broken most_solids (accepted t) limit t.masks st depth log (goes_on h.counts on)
             (left-broken (stable (suc (open_count st)) t.masks st) (swept o lent is call)))
             h;
       }
 
-      module _ {s : State} (o : SweptOut tables.on tables.sides b.state b.changed (S.Stands s)) {r : Tally}
+      module _ {s : State} (o : SweptOut tables.on tables.sides b.state b.changed (Some s)) {r : Tally}
           {out : List ℕ} where
         pub walked-leaf : wides.size s.undecided ≡ 0 → KeepsSolid tables m s.taken x out₀ r out
             → Walked tables m b limit x out₀ r out
@@ -97,7 +93,7 @@ module _ {tables : WalkTables} {m : ℕ} {b : Branch} where
               let shut : open_count l.0 ≡ 0 = sym (open_size l.2) ∙ none in
               let calm = (stable_rest (suc (open_count st)) masks st l.0 (omega arith) l.1).1 in
               told
-              (turn-leaf most_solids (accepted t) limit masks st l.0 l.1 depth few log (sym h.counts.ended_is ∙ z) shut)
+              (turn-leaf most_solids (accepted t) limit masks st l.0 l.1 depth few log (goes_on h.counts on) shut)
               (k.same n t l.0 lent (stable_long masks st l.0 l.1 ∙ long) l.2.takes (calm_exact masks l.0 shut calm)
               log room h);
         }
@@ -122,8 +118,8 @@ module _ {tables : WalkTables} {m : ℕ} {b : Branch} where
         (call_next masks st st' marked b.edge here q k v shut)
         (omega (arith, a.fewer, open_size i.holds, open_size holds, few)))
 
-  module _ {limit : ℕ} {x : Tally} {out₀ : List ℕ} (z : x.ended ≡ 0) {s : State}
-      (o : SweptOut tables.on tables.sides b.state b.changed (S.Stands s)) {r : Tally} {out : List ℕ} where
+  module _ {limit : ℕ} {x : Tally} {out₀ : List ℕ} (on : false ≡ is_some x.ended) {s : State}
+      (o : SweptOut tables.on tables.sides b.state b.changed (Some s)) {r : Tally} {out : List ℕ} where
     pub walked_both : {next : Both} {a d c : Tally} {out₁ : List ℕ} → 0 < wides.size s.undecided
         → Branches tables.on m tables.sides s b.edge next → Assumed limit x a → Walked tables m next.take limit a out₀ d out₁
         → Assumed limit d c → Walked tables m next.reject limit c out₁ r out
@@ -134,7 +130,7 @@ module _ {tables : WalkTables} {m : ℕ} {b : Branch} where
           let masks = t.masks in
           let l = left_stands s (stable (suc (open_count st)) masks st) (swept o lent is call) in
           let fewer = (stable_rest (suc (open_count st)) masks st l.0 (omega arith) l.1).0 in
-          let turn = turn-both most_solids (accepted t) limit masks st l.0 l.1 depth few log (sym h.counts.ended_is ∙ z)
+          let turn = turn-both most_solids (accepted t) limit masks st l.0 l.1 depth few log (goes_on h.counts on)
           (λ none. omega (arith, open_size l.2, some, none)) in
           let first = branched st l.0 lent long is call l.1 l.2 Taken refl two.takes w₁ turn.0
           (omega (arith, fewer, turn.1)) (assume limit log) room (assumed_follows a₁ t out₀ log room h) in

@@ -2,10 +2,10 @@
 ghost use Rattle.walk_tables.specs.Words.{walk_tables};
 ghost use Rattle.walk.specs.Leaf.{Keeping, KeepsSolid};
 
-use super::tally::Tally;
-use paper::{MANY, MOST_CANDIDATES, MOST_EDGES, MOST_SOLIDS, SET_WORDS, SOLID_ROOM, WORDS};
+use super::tally::{End, Tally};
+use paper::{MOST_CANDIDATES, MOST_EDGES, MOST_SOLIDS, SET_WORDS, SOLID_ROOM, WORDS};
 use sets::Set;
-use walk_leaf::{Leaf, judge};
+use walk_leaf::judge;
 
 pub fn kept(
     on: &[u64; MOST_EDGES],
@@ -23,8 +23,7 @@ pub fn kept(
         (walk_tables on.now up.now sides.now clashes.now sixes.now)
         m taken t out.old result out.new }
 {
-    let verdict = judge(on, up, m, sides, clashes, sixes, taken);
-    let Leaf::Solid(turned, six) = verdict else {
+    let Some(solid) = judge(on, up, m, sides, clashes, sixes, taken) else {
         return t;
     };
     let k = t.found;
@@ -32,12 +31,12 @@ pub fn kept(
         return Tally {
             work: t.work,
             found: k,
-            ended: MANY,
+            ended: Some(End::Many),
         };
     }
     out[WORDS * k] = taken.word;
-    out[WORDS * k + SET_WORDS] = turned.word;
-    out[WORDS * k + 2 * SET_WORDS] = six;
+    out[WORDS * k + SET_WORDS] = solid.turned.word;
+    out[WORDS * k + 2 * SET_WORDS] = solid.six;
     Tally {
         work: t.work,
         found: k + 1,

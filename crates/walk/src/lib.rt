@@ -14,7 +14,7 @@ use leaf::kept;
 use paper::{MOST_CANDIDATES, MOST_EDGES, SOLID_ROOM};
 use sets::Wide;
 use tally::Tally;
-use walk_state::{State, Swept, settled};
+use walk_state::{State, settled};
 
 fn walk(
     on: &[u64; MOST_EDGES],
@@ -33,11 +33,10 @@ fn walk(
         (walk_tables on.now up.now sides.now clashes.now sixes.now)
         m b limit t out.old result out.new }
 {
-    if t.ended != 0 {
+    if t.ended.is_some() {
         return t;
     }
-    let swept = settled(on, sides, b.state, b.changed);
-    let Swept::Stands(s) = swept else {
+    let Some(s) = settled(on, sides, b.state, b.changed) else {
         return t;
     };
     let taken = s.taken;
@@ -82,7 +81,7 @@ pub fn search(
     let none = Tally {
         work: 0,
         found: 0,
-        ended: 0,
+        ended: None,
     };
     walk(on, up, m, sides, clashes, sixes, all, limit, none, out)
 }

@@ -1,14 +1,18 @@
-// What the walk has done so far: assumptions made, solids found, and why it ended: 0 not yet, 18 at a ninth solid, 19 at the limit.
-// Assumes nothing.
+// What the walk has done so far: assumptions made, solids found, and why it ended, once it has. Assumes nothing.
 ghost use Rattle.walk.specs.Tally.{Assumed};
 
-use paper::TOO_LONG;
+// Why a walk ends before all is tried: at a ninth solid, or at the limit.
+#[derive(Clone, Copy)]
+pub enum End {
+    Many,
+    TooLong,
+}
 
 #[derive(Clone, Copy)]
 pub struct Tally {
     pub work: u64,
     pub found: usize,
-    pub ended: u8,
+    pub ended: Option<End>,
 }
 
 impl Tally {
@@ -16,20 +20,20 @@ impl Tally {
     pub fn assumed(self, limit: u64) -> Tally
         ensures { Assumed limit self result }
     {
-        if self.ended != 0 {
+        if self.ended.is_some() {
             return self;
         }
         if self.work < limit {
             return Tally {
                 work: self.work + 1,
                 found: self.found,
-                ended: 0,
+                ended: None,
             };
         }
         Tally {
             work: self.work,
             found: self.found,
-            ended: TOO_LONG,
+            ended: Some(End::TooLong),
         }
     }
 }

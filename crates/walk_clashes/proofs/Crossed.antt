@@ -14,7 +14,9 @@ use Rattle.lists.proofs.Places.{map_at, made_at, upto_length}
 use Rattle.lists.proofs.Passing.{any_yes}
 use Rattle.sets.specs.Word.{dig, both, either}
 use Rattle.sets.proofs.Digits.{dig-both}
-use Rattle.sets.specs.Sets.{Is, mask_at}
+use Rattle.sets.specs.Kinds.{First}
+use Rattle.sets.specs.Sets.{Is, mask_at, one_word}
+use Rattle.sets.specs.declared.Set.{Set}
 use Rattle.paper.specs.Drawing.{Edge, edge, wire, at, joins, joined}
 use Rattle.paper.specs.Loops.{polygon}
 use Rattle.paper.specs.Solids.{has, tables_of}
@@ -28,9 +30,9 @@ use Rattle.fast_tables.proofs.Counts.{map_yes}
 use Rattle.fast_tables.proofs.Rounds.{joins_cases, has-turn}
 use Rattle.loop_table.proofs.Loops.{vertices_are}
 use Rattle.loop_words.specs.Numbered.{pair_at}
-use Rattle.walk_clashes.specs.Lent.{KnownFace, LentFace, wire_of, all_of, known_loop}
+use Rattle.walk_clashes.specs.Lent.{KnownFace, LentFace, EdgeLent, EdgeJoins, DownLent, wire_of, all_of, known_loop}
 use Rattle.walk_clashes.proofs.Rows.{face-at, polygon-at}
-use Rattle.walk_clashes.proofs.Folding.{folded}
+use Rattle.walk_clashes.proofs.Folding.{folded, Left, left-start, left-known, left-next}
 
 -- what is gathered is folded
 pub gathered_fold : (test : ℕ → Bool) (mask : ℕ → List Bool) (xs : List ℕ) (s : List Bool)
@@ -128,3 +130,27 @@ module _ {xyz : List ℤ} {rows number on : List ℕ} {g : ℕ} {m : Point} (w :
   down_fold s =
       gathered_fold (λ b. edge_pierces (wire_of w.known) (known_loop w.known) (edge a b)) (λ b. map (has (edge a b)) (all_of w.known))
       (ones (length (wire_of w.known).vertices) under) s
+
+-- ---- the loop over them: s is the mask of the set that it began with
+module _ {xyz : List ℤ} {rows number on : List ℕ} {g : ℕ} {m : Point} {a : ℕ} {below : Set} (w : DownLent xyz rows number on g m a below)
+    (s : List Bool) where
+  abbrev pub Down : Set → Set → Type 0
+  Down =
+      let k = w.lent.known in
+      Left (length (wire_of k).vertices) (step w.lent a) (under w.lent a) (under_low w.lent a) (down_from (wire_of k) (all_of k) (known_loop k) a s)
+
+  pub down_start : {set : Set} → Is set s → Down below set
+  down_start {set} i =
+      let n = length (wire_of w.lent.known).vertices in
+      subst (λ (t : List Bool). Left n (step w.lent a) (under w.lent a) (under_low w.lent a) t below set) (down_fold w.lent a s)
+      (left-start n (step w.lent a) (under w.lent a) (under_low w.lent a) s w.under_is i)
+
+  module _ {rest set : Set} (l : Down rest set) {b : ℕ} {rest' : Set} (p : First one_word rest rest' b) where
+    pub down_edge : EdgeLent xyz rows number on g m a b
+    down_edge =
+        let t = left-known l p in
+        record { lent = w.lent; a_low = w.a_low; b_low = under_low w.lent a b t; tied = under_tied w.lent a b t }
+
+    pub down_next : {r : Set} → ((e : EdgeLent xyz rows number on g m a b) → EdgeJoins e set r) → Down rest' r
+    unfolding down_edge
+    down_next more = left-next l p (more down_edge)

@@ -98,10 +98,8 @@ pub fn fold_set(
     if count(rows, g) <= LEAST_CORNERS {
         return found;
     }
-    let mut j = g + 1;
-    while j < n {
+    for j in g + 1..n {
         found = join_fold(xyz, rows, corners, sides, normals, g, j, known, found);
-        j += 1;
     }
     found
 }

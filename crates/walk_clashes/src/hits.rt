@@ -66,10 +66,8 @@ fn sort_vertices(xyz: &[i64], m: Point, o: Point) -> Sides
         below: Set::none(),
         flat: Set::none(),
     };
-    let mut v = 0;
-    while v < n {
+    for v in 0..n {
         s = sort_vertex(xyz, m, o, v, s);
-        v += 1;
     }
     s
 }
@@ -137,10 +135,8 @@ fn join_edges(
 {
     let mut found = set;
     let mut open = under;
-    while !open.is_empty() {
-        let b = open.lowest();
+    while let Some(b) = open.pop_first() {
         found = join_edge(xyz, rows, number, on, g, m, a, b, found);
-        open = open.without(b);
     }
     found
 }
@@ -163,11 +159,9 @@ fn piercing(
     let below = s.below;
     let mut open = s.above;
     let mut found = Wide::none();
-    while !open.is_empty() {
-        let a = open.lowest();
+    while let Some(a) = open.pop_first() {
         let tied = Set::at(near, a);
         found = join_edges(xyz, rows, number, on, g, m, a, tied.and(below), found);
-        open = open.without(a);
     }
     found
 }
@@ -206,10 +200,8 @@ fn entering(
 {
     let mut open = asked;
     let mut found = Wide::none();
-    while !open.is_empty() {
-        let v = open.lowest();
+    while let Some(v) = open.pop_first() {
         found = join_vertex(xyz, rows, at, g, m, v, found);
-        open = open.without(v);
     }
     found
 }

@@ -58,12 +58,10 @@ pub fn put_parts(
     ensures { (w : DrawnFaces xyz.now rows.now n)
         → PartsOf w normals.new sixes.old sixes.new }
 {
-    let mut k = 0;
-    while k < n {
+    for k in 0..n {
         let m = normal(xyz, rows, k);
         put_normal(normals, k, m);
         sixes[k] = six_of(xyz, rows, k, m);
-        k += 1;
     }
 }
 
@@ -111,13 +109,11 @@ pub fn clash_words(
     ensures { (w : ClashLent xyz.now rows.now near.now number.now on.now
         at.now corners.now sides.now normals.now n) → ClashMasks w words.new }
 {
-    let mut g = 0;
-    while g < n {
+    for g in 0..n {
         let known = Wide::at(words, g);
         let set = clash_set(
             xyz, rows, n, near, number, on, at, corners, sides, normals, g, known,
         );
         mark_both(words, set, g);
-        g += 1;
     }
 }

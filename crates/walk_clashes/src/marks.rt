@@ -12,10 +12,8 @@ pub fn mark_all(words: &mut [u64], set: Set, k: usize)
     ensures { MarkedBy set k words.old words.new }
 {
     let mut open = set;
-    while !open.is_empty() {
-        let j = open.lowest();
+    while let Some(j) = open.pop_first() {
         Wide::mark(words, j, k);
-        open = open.without(j);
     }
 }
 
@@ -34,10 +32,8 @@ pub fn vertex_words(corners: &[u64; MOST_CANDIDATES], n: usize, at: &mut [u64; M
     requires { CornerRoom corners.now n at.old }
     ensures { (w : CornersOf corners.now n) → VertexWords w at.new }
 {
-    let mut k = 0;
-    while k < n {
+    for k in 0..n {
         let set = Set::at(corners, k);
         mark_all(at, set, k);
-        k += 1;
     }
 }

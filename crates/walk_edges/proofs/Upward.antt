@@ -4,7 +4,7 @@ use mathlib.Core.List.{List}
 use Prim.Native.Nat.{ℕ, ◌+◌, ◌*◌}
 use native.Mathlib.Omega.{arith}
 use lib.IntN.{ℤ}
-use lib.ListN.{length, get_or}
+use lib.ListN.{get_or}
 use Rattle.paper.specs.Drawing.{edge, wire}
 use Rattle.paper_laws.specs.InRange.{InRange}
 use Rattle.paper_laws.proofs.Wires.{length_edges, edge-at}

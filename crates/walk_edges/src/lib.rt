@@ -24,8 +24,7 @@ fn mark_sides(
     let first = ROW * k;
     let len = wide(rows[first]);
     let mut a = wide(rows[first + len]);
-    let mut i = 0;
-    while i < len {
+    for i in 0..len {
         let b = wide(rows[first + 1 + i]);
         let e = wide(number[MOST_VERTICES * a + b]);
         Wide::mark(on, e, k);
@@ -33,7 +32,6 @@ fn mark_sides(
             Wide::mark(up, e, k);
         }
         a = b;
-        i += 1;
     }
 }
 
@@ -49,9 +47,7 @@ pub fn edge_words(
     ensures { (w : DrawnCandidates rows.now n number.now)
         → EdgeWords w on.new up.new }
 {
-    let mut k = 0;
-    while k < n {
+    for k in 0..n {
         mark_sides(rows, k, number, on, up);
-        k += 1;
     }
 }

@@ -8,11 +8,10 @@ use lib.ListN.{length, replicate}
 use Rattle.exact.specs.Size.{Within}
 use Rattle.exact.proofs.Size.{within_lit}
 use Rattle.paper.specs.Numbers.{most_edges, face_room}
-use Rattle.paper.specs.Refusals.{first_of}
+use Rattle.paper.specs.Refusals.{first_of, Fine}
 use Rattle.paper.specs.Format.{coordinates_in, ends_in, edition_of}
 use Rattle.paper.specs.Sheet.{sheet_checks, lent_checks, sheet_of, read_sheet}
-use Rattle.paper.specs.declared.Answer.TheVariants.{Fine}
-use Rattle.paper.specs.declared.Sheet.{Sheet}
+use Rattle.paper.specs.Sheet.{Sheet}
 use Rattle.paper_laws.specs.InRange.{PassedLists}
 use Rattle.sheet_laws.proofs.Accepted.{coordinates_are, ends_are}
 use Rattle.sheet_reader.proofs.Range.{read_range}

@@ -13,12 +13,11 @@ use Rattle.exact.specs.Size.{Within}
 use Rattle.lists.specs.Lists.{upto}
 use Rattle.lists.proofs.Places.{upto_length}
 use Rattle.paper.specs.Numbers.{most_loops, most_candidates, documented}
-use Rattle.paper.specs.Refusals as No
-use Rattle.paper.specs.Refusals.{check, first_of, offends, refuse}
+use Rattle.paper.specs.declared.Number.TheVariants as No
+use Rattle.paper.specs.Refusals.{check, first_of, offends, refuse, Fine}
 use Rattle.paper.specs.Drawing.{Wire, wire, drawing_checks}
 use Rattle.paper.specs.Loops.{Loop, loops, candidates, polygon, loop_checks}
 use Rattle.paper.specs.Solids.{has, runs_up, face_six, tables_of}
-use Rattle.paper.specs.declared.Answer.TheVariants.{Fine}
 use Rattle.paper_laws.proofs.Checks.{clear, holds, fails, first_passes}
 use Rattle.fast_tables.specs.Hits.{corner_mask, side_mask}
 use Rattle.loop_table.specs.Tables.{rows_after, words_after}

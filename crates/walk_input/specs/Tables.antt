@@ -1,18 +1,16 @@
 -- What a drawing that passed 3 to 10 comes to before the walk: a refusal, 11 to 16, or its candidates with their tables.
-use Rattle.std.specs.Prelude.{List, ◌++◌, ◌≡◌, ℕ, ◌≤◌, ◌/◌, ℤ, length, get_or}
+use Rattle.std.specs.Prelude.{List, ◌++◌, ◌≡◌, ℕ, ◌≤◌, ◌/◌, ℤ, length, get_or, Ok, Err, Result}
 use Rattle.paper.specs.Numbers.{most_candidates, face_room, documented}
-use Rattle.paper.specs.Refusals.{Check, first_of}
+use Rattle.paper.specs.Refusals.{Check, first_of, Fine}
 use Rattle.paper.specs.Drawing.{Wire, wire, drawing_checks}
 use Rattle.paper.specs.Loops.{loops, candidates, loop_checks}
 use Rattle.paper.specs.Solids.{tables_of}
-use Rattle.paper.specs.declared.Answer.TheVariants as Answer
+use Rattle.paper.specs.declared.Refusal.{Refusal}
 use Rattle.paper_laws.specs.InRange.{PassedLists}
 use Rattle.loop_table.specs.Tables.{rows_after}
 use Rattle.walk_tables.specs.Words.{SmallSixes, WalkTables, Lent}
 use Rattle.walk_input.specs.Words.{EmptyRooms}
 use Rattle.walk_input.specs.declared.rows.Counts.{Counts}
-use Rattle.walk_input.specs.declared.Tabled.{Tabled}
-use Rattle.walk_input.specs.declared.Tabled.TheVariants as T
 
 -- 11 to 16
 abbrev pub checks_of : Wire → List Check
@@ -29,7 +27,7 @@ pub record TablesAt (xyz : List ℤ) (ends rows : List ℕ) (tables : WalkTables
 
 -- none of 11 to 16 applies; so many loops and candidates, their rows, and the tables
 pub record Ready (xyz : List ℤ) (ends rows₀ rows : List ℕ) (tables : WalkTables) (c : Counts) : Type 0 where
-  pub fine : Answer.Fine ≡ first_of (checks_of (wire xyz ends))
+  pub fine : Fine ≡ first_of (checks_of (wire xyz ends))
   pub loops_are : c.loops ≡ length (loops (wire xyz ends))
   pub candidates_are : c.candidates ≡ length (candidates (wire xyz ends))
   pub few : c.candidates ≤ most_candidates
@@ -37,6 +35,6 @@ pub record Ready (xyz : List ℤ) (ends rows₀ rows : List ℕ) (tables : WalkT
   pub small : SmallSixes tables.sixes
   pub lent : Lent tables (length ends / 2) c.candidates (tables_of (wire xyz ends) (candidates (wire xyz ends)))
 
-abbrev pub TabledIs : List ℤ → List ℕ → List ℕ → List ℕ → WalkTables → Tabled → Type 0
-TabledIs xyz ends rows₀ rows tables (T.Refused r) = Answer.Refused r ≡ first_of (checks_of (wire xyz ends))
-TabledIs xyz ends rows₀ rows tables (T.Ready c) = Ready xyz ends rows₀ rows tables c
+abbrev pub TabledIs : List ℤ → List ℕ → List ℕ → List ℕ → WalkTables → Result Counts Refusal → Type 0
+TabledIs xyz ends rows₀ rows tables (Err r) = Err r ≡ first_of (checks_of (wire xyz ends))
+TabledIs xyz ends rows₀ rows tables (Ok c) = Ready xyz ends rows₀ rows tables c

@@ -11,18 +11,10 @@ ghost use Rattle.walk_input.specs.Tables.{TablesAt, TabledIs};
 use drawing_links::neighbours;
 use drawing_rules::drawing_rules;
 use loop_words::number_edges;
-use paper::{
-    Answer, FACE_ROOM, MANY_CANDIDATES, MANY_LOOPS, MOST_CANDIDATES, MOST_EDGES, MOST_LOOPS,
-    Refusal,
-};
+use paper::{FACE_ROOM, MOST_CANDIDATES, MOST_EDGES, MOST_LOOPS, Number, Refusal};
+use paper_values::refused;
 use rows::{Counts, candidate_rows};
 use words::put_words;
-
-#[derive(Clone, Copy)]
-pub enum Tabled {
-    Refused(Refusal),
-    Ready(Counts),
-}
 
 // Refusals 11 to 16, or the candidates in rows with their tables.
 pub fn tables(
@@ -34,35 +26,25 @@ pub fn tables(
     sides: &mut [u64; MOST_CANDIDATES],
     clashes: &mut [u64; MOST_CANDIDATES],
     sixes: &mut [i64; MOST_CANDIDATES],
-) -> Tabled
+) -> Result<Counts, Refusal>
     requires { TablesAt xyz.now ends.now rows.old (walk_tables on.old up.old sides.old clashes.old sixes.old) }
     ensures { TabledIs xyz.now ends.now rows.old rows.new
         (walk_tables on.new up.new sides.new clashes.new sixes.new) result }
 {
     let near = neighbours(ends, xyz.len() / 3);
-    let rules = drawing_rules(xyz, ends, &near);
-    match rules {
-        Answer::Refused(r) => return Tabled::Refused(r),
-        Answer::Fine => {}
-    }
+    drawing_rules(xyz, ends, &near)?;
     let number = number_edges(ends);
     let mut corners = [0u64; MOST_CANDIDATES];
     let c = candidate_rows(xyz, ends, &near, &number, rows, &mut corners, sides);
     if MOST_LOOPS < c.loops {
-        return Tabled::Refused(Refusal {
-            number: MANY_LOOPS,
-            place: 0,
-        });
+        return refused(Number::ManyLoops, 0);
     }
     let n = c.candidates;
     if MOST_CANDIDATES < n {
-        return Tabled::Refused(Refusal {
-            number: MANY_CANDIDATES,
-            place: 0,
-        });
+        return refused(Number::ManyCandidates, 0);
     }
     put_words(
         xyz, rows, n, &near, &number, &corners, sides, on, up, clashes, sixes,
     );
-    Tabled::Ready(c)
+    Ok(c)
 }

@@ -16,11 +16,11 @@ use Rattle.walk_state.proofs.Lowest.{some_in, none_in}
 use Rattle.walk_leaf.specs.Faces.{GoingIs, Edges, FromFace}
 use Rattle.walk_leaf.specs.Tests.{OrientedIs, ClearIs, WeighedIs, Selects, Judges}
 use Rattle.walk_leaf.specs.declared.faces.Going.{Going}
-use Rattle.walk_leaf.specs.declared.Leaf.{Leaf}
-use Rattle.walk_leaf.specs.declared.Leaf.TheVariants as L
+use Rattle.std.specs.Prelude.{None, Option}
+use Rattle.walk_leaf.specs.declared.Judged.{Judged}
 
 module _ (tables : WalkTables) (m : ℕ) (taken : Wide) where
-  pub judge_none : wides.size taken ≡ 0 → Judges tables m taken L.Fails
+  pub judge_none : wides.size taken ≡ 0 → Judges tables m taken None
   unfolding judged_by_faces
   judge_none z t a h s i = rw (eq-eqb (count a) 0 (none_in wides_laws i z)) tt
 
@@ -42,7 +42,7 @@ module _ (tables : WalkTables) (m : ℕ) (taken : Wide) where
         → wides.Is far (less a (from_lowest_face t.masks t.ups a).reached)
     far_is {t} {a} h s i = d.same a (from_lowest_face t.masks t.ups a).reached i (going h s i).reached_is
 
-    pub judge_apart : 0 < wides.size far → Judges tables m taken L.Fails
+    pub judge_apart : 0 < wides.size far → Judges tables m taken None
     unfolding judged_by_faces
     judge_apart q t a h s i =
         let r = (from_lowest_face t.masks t.ups a).reached in
@@ -58,7 +58,7 @@ module _ (tables : WalkTables) (m : ℕ) (taken : Wide) where
       ways {t} {a} h s i =
           sym (o t.masks t.ups a (from_lowest_face t.masks t.ups a).turned (edges h s) s.masks_are i (going h s i).turned_is)
 
-      pub judge_ways : b ≡ false → Judges tables m taken L.Fails
+      pub judge_ways : b ≡ false → Judges tables m taken None
       unfolding judged_by_faces
       judge_ways e t a h s i = rw (some i, all h s i, ways h s i ∙ e) tt
 
@@ -67,11 +67,11 @@ module _ (tables : WalkTables) (m : ℕ) (taken : Wide) where
             → clear_on (count a) t.clashes a a ≡ c
         clears {t} {a} h s i = sym (k t.clashes a h.clashes_are s.in_clashes i)
 
-        pub judge_clash : c ≡ false → Judges tables m taken L.Fails
+        pub judge_clash : c ≡ false → Judges tables m taken None
         unfolding judged_by_faces
         judge_clash q t a h s i = rw (some i, all h s i, ways h s i ∙ e, clears h s i ∙ q) tt
 
-        pub judge_weighed : c ≡ true → (r : Leaf) → WeighedIs tables.sixes taken g.turned r → Judges tables m taken r
+        pub judge_weighed : c ≡ true → (r : Option Judged) → WeighedIs tables.sixes taken g.turned r → Judges tables m taken r
         unfolding judged_by_faces
         judge_weighed q r w t a h s i =
             rw (some i, all h s i, ways h s i ∙ e, clears h s i ∙ q)

@@ -7,7 +7,7 @@ use Prim.Native.Nat.{ℕ, ◌+◌, ◌-◌, ◌≤◌, ◌<◌}
 use native.Mathlib.Omega.{arith}
 use lib.ListN.{length, get_or}
 use Rattle.sets.specs.Word.{dig, count, first, only}
-use Rattle.sets.specs.Kinds.{Lowest, Dropped, SetAt}
+use Rattle.sets.specs.Kinds.{First, SetAt}
 use Rattle.sets.specs.Sets.{wides, Wide}
 use Rattle.sets.proofs.Digits.{first-lt}
 use Rattle.sets.proofs.Sets.{wides_laws}
@@ -61,26 +61,25 @@ module _ (on up : List ℕ) (taken : Wide) (f : ℕ) (g₀ : Going) (edges : Wid
   }
 
   module _ {g : Going} {left : Wide} (a : Around on up taken f g₀ edges g left) where
-    pub around-next : 0 < wides.size left → {e : ℕ} → Lowest wides left e → {mask other : Wide} → SetAt wides on e mask
-        → SetAt wides up e other → {r : Going}
-        → AtEdge mask other taken f g r → {left' : Wide} → Dropped wides left e left' → Around on up taken f g₀ edges r left'
-    around-next p {e} low {mask} {other} eo eu {r} st {left'} d = record {
+    pub around-next : {e : ℕ} {left' : Wide} → First wides left left' e → {mask other : Wide} → SetAt wides on e mask
+        → SetAt wides up e other → {r : Going} → AtEdge mask other taken f g r → Around on up taken f g₀ edges r left'
+    around-next {e} p eo eu st = record {
       grows = grows_on a.grows st.grows;
       same = λ masks ups t l s q h i j v.
           let w = a.same masks ups t l s q h i j v in
           let k : ℕ = first w.rest in
-          let m : k < length masks = lowest_in w.left_is p w.short in
+          let m : k < length masks = lowest_in w.left_is p.some w.short in
           let n : k < length ups = omega (arith, q.as_many) in
-          let c : e ≡ k = low.same w.rest w.left_is in
+          let c : e ≡ k = p.lowest.same w.rest w.left_is in
           record {
             rest = without_lowest w.rest;
             now = at_edge (get_or masks k []) (get_or ups k []) t f w.now;
             short = omega (arith, length_after w.rest, w.short);
-            left_is = drops low d w.rest w.left_is;
+            left_is = drops p.lowest p.dropped w.rest w.left_is;
             going_is =
                 st.same (get_or masks k []) (get_or ups k []) t w.now (mask_at q.on_are eo c m) (mask_at q.up_are eu c n) i
                 w.going_is;
-            whole = w.whole ∙ around_more masks ups t f w.rest w.now (some_in wides_laws w.left_is p);
+            whole = w.whole ∙ around_more masks ups t f w.rest w.now (some_in wides_laws w.left_is p.some);
           };
     }
 
@@ -123,12 +122,10 @@ module _ (on up sides : List ℕ) (taken : Wide) (start : ℕ) where
   }
 
   module _ {g : Going} (a : Rounds on up sides taken start g) where
-    module _ (p : 0 < wides.size g.waiting) {f : ℕ} (low : Lowest wides g.waiting f) {edges : Wide}
-        (e : SetAt wides sides f edges) {waiting : Wide}
-        (d : Dropped wides g.waiting f waiting) {r : Going}
+    module _ {f : ℕ} {waiting : Wide} (p : First wides g.waiting waiting f) {edges : Wide} (e : SetAt wides sides f edges) {r : Going}
         (b : AroundFace on up edges taken f (record { reached = g.reached; waiting = waiting; turned = g.turned }) r) where
       pub rounds-less : togo r < togo g
-      rounds-less = omega (arith, a.few, b.grows.few, b.grows.anew, d.fewer low.there)
+      rounds-less = omega (arith, a.few, b.grows.few, b.grows.anew, p.rest.one_fewer)
 
       next : {masks ups : List (List Bool)} {t : List Bool} → Edges on up masks ups → Sides sides masks → wides.Is taken t
           → Round masks ups t start g
@@ -137,25 +134,31 @@ module _ (on up sides : List ℕ) (taken : Wide) (start : ℕ) where
       next {masks} {ups} {t} q s i w =
           let v = w.going_is in
           let k : ℕ = first w.now.waiting in
-          let c : f ≡ k = low.same w.now.waiting v.waiting_is in
+          let c : f ≡ k = p.lowest.same w.now.waiting v.waiting_is in
           let l : List Bool = edges_with masks f in
-          let h : wides.Is edges l = subst (λ (y : Wide). wides.Is y l) (sym e.is) (s.at f low.narrow) in
+          let h : wides.Is edges l = subst (λ (y : Wide). wides.Is y l) (sym e.is) (s.at f p.lowest.narrow) in
           let o : Lists.Going = record { reached = w.now.reached; waiting = without_lowest w.now.waiting; turned = w.now.turned } in
           let u : GoingIs r (around_face (count l) masks ups t f l o)
           = b.same masks ups t l o q (omega (arith, length_sides masks f)) i h
-          (record { reached_is = v.reached_is; waiting_is = drops low d w.now.waiting v.waiting_is; turned_is = v.turned_is }) in
+          (record {
+            reached_is = v.reached_is;
+            waiting_is = drops p.lowest p.dropped w.now.waiting v.waiting_is;
+            turned_is = v.turned_is;
+          }) in
           record {
             now = at_face masks ups t w.now;
             going_is =
                 subst (λ (j : ℕ). GoingIs r (around_face (count (edges_with masks j)) masks ups t j (edges_with masks j) o)) c u;
-            whole = sym (rest_more masks ups t w.now (some_in wides_laws v.waiting_is p)) ∙ w.whole;
+            whole = sym (rest_more masks ups t w.now (some_in wides_laws v.waiting_is p.some)) ∙ w.whole;
           }
 
       pub rounds-next : Rounds on up sides taken start r
       rounds-next = record { few = b.grows.few; same = λ masks ups t q s i h. next q s i (a.same masks ups t q s i h) }
 
-    pub rounds-end : wides.size g.waiting ≡ 0 → FromFace on up sides taken start g
-    rounds-end z masks ups t q s i h =
+    -- none waits: the code has what it had
+    pub rounds-end : wides.size g.waiting ≡ 0 → {waiting : Wide} → waiting ≡ g.waiting
+        → FromFace on up sides taken start (record g { waiting = waiting })
+    rounds-end z e masks ups t q s i h =
         let w = a.same masks ups t q s i h in
-        let e = sym w.whole ∙ on_none masks ups t (to_go t w.now) w.now (none_in wides_laws w.going_is.waiting_is z) in
-        subst (GoingIs g) (sym e) w.going_is
+        let n = sym w.whole ∙ on_none masks ups t (to_go t w.now) w.now (none_in wides_laws w.going_is.waiting_is z) in
+        rw (e, n) w.going_is

@@ -13,7 +13,7 @@ use mir.Val.{of_z}
 use Rattle.exact.specs.Size.{Within}
 use Rattle.exact.proofs.Size.{within_add, within_le, within_lit, within_neg}
 use Rattle.sets.specs.Word.{dig, count, first, both}
-use Rattle.sets.specs.Kinds.{Joint, Lowest, Dropped, SetAt}
+use Rattle.sets.specs.Kinds.{Joint, First, SetAt}
 use Rattle.sets.specs.Sets.{wides, Wide}
 use Rattle.sets.proofs.Sets.{wides_laws}
 use Rattle.paper.specs.Numbers.{most_candidates}
@@ -44,18 +44,18 @@ module _ (clashes : List ℕ) (taken : Wide) where
   clear-start cs t m h i = record { rest = t; short = h; left_is = i; whole = refl }
 
   module _ {left : Wide} (a : Clear clashes taken left) where
-    module _ (p : 0 < wides.size left) {k : ℕ} (low : Lowest wides left k) {mask clashing : Wide} (e : SetAt wides clashes k mask)
+    module _ {k : ℕ} {left' : Wide} (p : First wides left left' k) {mask clashing : Wide} (e : SetAt wides clashes k mask)
         (j : Joint wides mask taken clashing both) where
       met : {cs : List (List Bool)} {t : List Bool} → Masks clashes cs → wides.Is taken t → (w : Clearing cs t left)
           → wides.Is clashing (both (get_or cs (first w.rest) []) t)
       met {cs} {t} m i w =
           let f : ℕ = first w.rest in
-          j (get_or cs f []) t (mask_at m e (low.same w.rest w.left_is) (lowest_in w.left_is p w.short)) i
+          j (get_or cs f []) t (mask_at m e (p.lowest.same w.rest w.left_is) (lowest_in w.left_is p.some w.short)) i
 
       here : {cs : List (List Bool)} {t : List Bool} (w : Clearing cs t left) → clear_on (count t) cs t t
           ≡ cond (eqb (count (both (get_or cs (first w.rest) []) t)) 0)
           (clear_on (count (without_lowest w.rest)) cs (without_lowest w.rest) t) false
-      here {cs} {t} w = w.whole ∙ clear_more t cs w.rest (some_in wides_laws w.left_is p)
+      here {cs} {t} w = w.whole ∙ clear_more t cs w.rest (some_in wides_laws w.left_is p.some)
 
       pub clear_not : 0 < wides.size clashing → ClearIs clashes taken false
       clear_not n cs t m h i =
@@ -63,14 +63,14 @@ module _ (clashes : List ℕ) (taken : Wide) where
           let z = ne_eqb (count (both (get_or cs (first w.rest) []) t)) 0 (some_in wides_laws (met m i w) n) in
           sym (here w ∙ ap (λ (b : Bool). cond b (clear_on (count (without_lowest w.rest)) cs (without_lowest w.rest) t) false) z)
 
-      pub clear_next : wides.size clashing ≡ 0 → {left' : Wide} → Dropped wides left k left' → Clear clashes taken left'
-      clear_next n d cs t m h i =
+      pub clear_next : wides.size clashing ≡ 0 → Clear clashes taken left'
+      clear_next n cs t m h i =
           let w = a cs t m h i in
           let z = eq-eqb (count (both (get_or cs (first w.rest) []) t)) 0 (none_in wides_laws (met m i w) n) in
           record {
             rest = without_lowest w.rest;
             short = omega (arith, length_after w.rest, w.short);
-            left_is = drops low d w.rest w.left_is;
+            left_is = drops p.lowest p.dropped w.rest w.left_is;
             whole = here w ∙ ap (λ (b : Bool). cond b (clear_on (count (without_lowest w.rest)) cs (without_lowest w.rest) t) false) z;
           }
 
@@ -121,36 +121,35 @@ module _ (sixes : List ℤ) (taken turned : Wide) where
   }
 
   module _ {sum : ℕ} {left : Wide} (w : Weighing sixes taken turned sum left) where
-    module _ (p : 0 < wides.size left) {k : ℕ} (low : Lowest wides left k) {b : Bool}
+    module _ {k : ℕ} {left' : Wide} (p : First wides left left' k) {b : Bool}
         (h : (a : List Bool) → wides.Is turned a → b ≡ dig a k) {z : ℤ}
         (q : PartIs sixes k b z) where
       one : {zs : List ℤ} {t s : List Bool} → Sixes sixes zs → wides.Is turned s → (v : Summing zs t s w.done left)
           → z ≡ part true (dig s (first v.rest)) (get_or zs (first v.rest) (pos 0))
       one {zs} {t} {s} m j v =
-          let c : k ≡ first v.rest = low.same v.rest v.left_is in
-          let n : k < length zs = omega (arith, lowest_in v.left_is p v.short) in
+          let c : k ≡ first v.rest = p.lowest.same v.rest v.left_is in
+          let n : k < length zs = omega (arith, lowest_in v.left_is p.some v.short) in
           q.is ∙ ap₂ (λ (x : Bool) (y : ℤ). part true x y) (h s j) (m.at k n)
           ∙ ap (λ (f : ℕ). part true (dig s f) (get_or zs f (pos 0))) c
 
-      pub weighing_next : {sum' : ℕ} → sum' ≡ of_z w64 (w.done +ℤ z) → {left' : Wide} → Dropped wides left k left'
-          → Weighing sixes taken turned sum' left'
-      weighing_next e d = record {
+      pub weighing_next : {sum' : ℕ} → sum' ≡ of_z w64 (w.done +ℤ z) → Weighing sixes taken turned sum' left'
+      weighing_next e = record {
         done = w.done +ℤ z;
         sum_is = e;
-        few = omega (arith, w.few, d.fewer low.there);
-        small = within_le (omega (arith, w.few, d.fewer low.there)) (within_add w.small q.small);
+        few = omega (arith, w.few, p.rest.one_fewer);
+        small = within_le (omega (arith, w.few, p.rest.one_fewer)) (within_add w.small q.small);
         same = λ zs t s m l i j.
             let v = w.same zs t s m l i j in
             let r : List Bool = without_lowest v.rest in
             record {
               rest = r;
               short = omega (arith, length_after v.rest, v.short);
-              left_is = drops low d v.rest v.left_is;
+              left_is = drops p.lowest p.dropped v.rest v.left_is;
               whole =
                   +ℤ_assoc w.done z (six_on (count r) zs r s)
                   ∙ ap (λ (y : ℤ). w.done +ℤ y)
                   (ap (λ (y : ℤ). y +ℤ six_on (count r) zs r s) (one m j v)
-                  ∙ sym (six_more s zs v.rest (some_in wides_laws v.left_is p)))
+                  ∙ sym (six_more s zs v.rest (some_in wides_laws v.left_is p.some)))
                   ∙ v.whole;
             };
       }

@@ -1,5 +1,5 @@
 -- The tests of a selection on words.
-use Rattle.std.specs.Prelude.{Bool, true, List, ◌≡◌, ℕ, ◌*◌, ◌≤◌, ◌<◌, ℤ, pos, length, get_or}
+use Rattle.std.specs.Prelude.{Bool, true, List, ◌≡◌, ℕ, ◌*◌, ◌≤◌, ◌<◌, ℤ, pos, length, get_or, Option, Some, None}
 use Rattle.exact.specs.Size.{Within}
 use Rattle.sets.specs.Word.{count}
 use Rattle.sets.specs.Sets.{wides, Wide}
@@ -9,8 +9,7 @@ use Rattle.paper.specs.Solids.{Tables, once_each_way, Judgement, Fails, Solid}
 use Rattle.fast_leaf.specs.Faces.{clear_on, six_on, judged_by_faces}
 use Rattle.walk_tables.specs.Words.{Masks, most_part, Sixes, SmallSixes, WalkTables, HeldTables}
 use Rattle.walk_leaf.specs.Faces.{Edges}
-use Rattle.walk_leaf.specs.declared.Leaf.{Leaf}
-use Rattle.walk_leaf.specs.declared.Leaf.TheVariants as L
+use Rattle.walk_leaf.specs.declared.Judged.{Judged}
 
 -- ---- (iii)
 
@@ -49,13 +48,13 @@ pub record SolidIs (turned : Wide) (six : ℕ) (s : List Bool) (v : ℕ) : Type 
   pub turned_is : wides.Is turned s
   pub six_is : six ≡ v
 
-abbrev pub LeafIs : Leaf → Judgement → Type 0
-LeafIs L.Fails Fails = Unit {0}
-LeafIs L.Fails (Solid s v) = ⊥
-LeafIs (L.Solid turned six) Fails = ⊥
-LeafIs (L.Solid turned six) (Solid s v) = SolidIs turned six s v
+abbrev pub LeafIs : Option Judged → Judgement → Type 0
+LeafIs None Fails = Unit {0}
+LeafIs None (Solid s v) = ⊥
+LeafIs (Some j) Fails = ⊥
+LeafIs (Some j) (Solid s v) = SolidIs j.turned j.six s v
 
-abbrev pub WeighedIs : List ℤ → Wide → Wide → Leaf → Type 0
+abbrev pub WeighedIs : List ℤ → Wide → Wide → Option Judged → Type 0
 WeighedIs sixes taken turned r =
     (zs : List ℤ) (t s : List Bool) → Sixes sixes zs → length t ≤ length zs → wides.Is taken t → wides.Is turned s
     → LeafIs r (Paper.weighed t s (six_on (count t) zs t s))
@@ -71,6 +70,6 @@ pub record Judging (m : ℕ) (sixes : List ℤ) : Type 0 where
   pub few : m ≤ most_edges
   pub small : SmallSixes sixes
 
-abbrev pub Judges : WalkTables → ℕ → Wide → Leaf → Type 0
+abbrev pub Judges : WalkTables → ℕ → Wide → Option Judged → Type 0
 Judges tables m taken r =
     (t : Tables) (a : List Bool) → HeldTables tables t → Selects t m a → wides.Is taken a → LeafIs r (judged_by_faces t a)

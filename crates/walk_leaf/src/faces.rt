@@ -61,11 +61,9 @@ fn around_face(
 {
     let mut going = g;
     let mut left = edges;
-    while !left.is_empty() {
-        let e = left.lowest();
+    while let Some(e) = left.pop_first() {
         let mask = Wide::at(on, e);
         going = at_edge(mask, Wide::at(up, e), taken, f, going);
-        left = left.without(e);
     }
     going
 }
@@ -87,17 +85,9 @@ pub fn from_face(
         waiting: alone,
         turned: Wide::none(),
     };
-    while !going.waiting.is_empty() {
-        let f = going.waiting.lowest();
+    while let Some(f) = going.waiting.pop_first() {
         let edges = Wide::at(sides, f);
-        let reached = going.reached;
-        let turned = going.turned;
-        let next = Going {
-            reached: reached,
-            waiting: going.waiting.without(f),
-            turned: turned,
-        };
-        going = around_face(on, up, edges, taken, f, next);
+        going = around_face(on, up, edges, taken, f, going);
     }
     going
 }

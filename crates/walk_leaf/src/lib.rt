@@ -17,9 +17,9 @@ use sets::Wide;
 
 // A solid: the faces that are turned against their normal form, and six volumes.
 #[derive(Clone, Copy)]
-pub enum Leaf {
-    Fails,
-    Solid(Wide, u64),
+pub struct Judged {
+    pub turned: Wide,
+    pub six: u64,
 }
 
 fn is_one(x: Wide) -> bool
@@ -53,13 +53,11 @@ fn oriented(
     requires { m ≤ most_edges }
     ensures { OrientedIs on.now up.now m taken turned result }
 {
-    let mut e = 0;
-    while e < m {
+    for e in 0..m {
         let mask = Wide::at(on, e);
         if !once_each_way(mask, Wide::at(up, e), taken, turned) {
             return false;
         }
-        e += 1;
     }
     true
 }
@@ -68,13 +66,11 @@ fn clear(clashes: &[u64; MOST_CANDIDATES], taken: Wide) -> bool
     ensures { ClearIs clashes.now taken result }
 {
     let mut left = taken;
-    while !left.is_empty() {
-        let k = left.lowest();
+    while let Some(k) = left.pop_first() {
         let clashing = Wide::at(clashes, k).and(taken);
         if !clashing.is_empty() {
             return false;
         }
-        left = left.without(k);
     }
     true
 }
@@ -98,27 +94,31 @@ pub fn weight(sixes: &[i64; MOST_CANDIDATES], taken: Wide, turned: Wide) -> i64
 {
     let mut sum: i64 = 0;
     let mut left = taken;
-    while !left.is_empty() {
-        let k = left.lowest();
+    while let Some(k) = left.pop_first() {
         sum = sum + part(sixes, k, turned.has(k));
-        left = left.without(k);
     }
     sum
 }
 
 // Six volumes is above zero with these directions, or with all of them turned.
-fn weighed(sixes: &[i64; MOST_CANDIDATES], taken: Wide, turned: Wide) -> Leaf
+fn weighed(sixes: &[i64; MOST_CANDIDATES], taken: Wide, turned: Wide) -> Option<Judged>
     requires { SmallSixes sixes.now }
     ensures { WeighedIs sixes.now taken turned result }
 {
     let v = weight(sixes, taken, turned);
     if 0 < v {
-        return Leaf::Solid(turned, v as u64);
+        return Some(Judged {
+            turned,
+            six: v as u64,
+        });
     }
     if v < 0 {
-        return Leaf::Solid(taken.minus(turned), (-v) as u64);
+        return Some(Judged {
+            turned: taken.minus(turned),
+            six: (-v) as u64,
+        });
     }
-    Leaf::Fails
+    None
 }
 
 // Whether a selection with (i) is a solid: "With nothing undecided, test (ii) to (v)".
@@ -130,25 +130,25 @@ pub fn judge(
     clashes: &[u64; MOST_CANDIDATES],
     sixes: &[i64; MOST_CANDIDATES],
     taken: Wide,
-) -> Leaf
+) -> Option<Judged>
     requires { Judging m sixes.now }
     ensures { Judges
         (walk_tables on.now up.now sides.now clashes.now sixes.now)
         m taken result }
 {
     if taken.is_empty() {
-        return Leaf::Fails;
+        return None;
     }
     let g = from_face(on, up, sides, taken, taken.lowest());
     let turned = g.turned;
     if !taken.minus(g.reached).is_empty() {
-        return Leaf::Fails;
+        return None;
     }
     if !oriented(on, up, m, taken, turned) {
-        return Leaf::Fails;
+        return None;
     }
     if !clear(clashes, taken) {
-        return Leaf::Fails;
+        return None;
     }
     weighed(sixes, taken, turned)
 }

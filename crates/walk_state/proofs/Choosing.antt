@@ -61,17 +61,17 @@ module _ (on : List ℕ) (m : ℕ) (u : Wide) (from e : ℕ) (g : Looking on m u
         g masks st i l w
         ∙ open_skip masks st e (omega arith) (sym (count-opens (get_or masks e []) st) ∙ none_in wides_laws (free_is masks st i l w) z)
 
-  pub open_last : e ≡ m → Opened on m u from (record { edge = e; free = u })
+  pub open_last : e ≡ m → Opened on m u from (record { edge = m; free = u })
   open_last h = record {
     within = omega arith;
     some = λ q. q;
     there = λ k f. f;
     same = λ masks st i l w.
-        let past : length masks ≤ e = omega arith in
+        let past : length masks ≤ m = omega arith in
         record {
-          edge_is = sym (g masks st i l w ∙ open_end masks st e past);
+          edge_is = sym (g masks st i l w ∙ open_end masks st e (omega arith) ∙ h);
           digits = opens st;
           free_is = w;
-          lowest_is = lowest-none masks st e past;
+          lowest_is = lowest-none masks st m past;
         };
   }

@@ -2,10 +2,10 @@
 use mathlib.Core.Bool.{Bool, false}
 use mathlib.Core.List.{List, []}
 use mathlib.Core.Path.{◌≡◌, sym, subst}
-use Prim.Native.Nat.{ℕ, ◌<◌}
+use Prim.Native.Nat.{ℕ}
 use lib.ListN.{length, replicate}
 use Rattle.sets.specs.Word.{first, either}
-use Rattle.sets.specs.Kinds.{Joint, Lowest, Dropped, SetAt}
+use Rattle.sets.specs.Kinds.{Joint, First, SetAt}
 use Rattle.sets.specs.Sets.{wides, Wide}
 use Rattle.sets.proofs.Laws.{none-all}
 use Rattle.sets.proofs.Sets.{wides_laws}
@@ -38,20 +38,20 @@ module _ (sides : List ℕ) (set : Wide) where
   }
 
   module _ {all left : Wide} (g : Gathering sides set all left) where
-    pub gathering_more : 0 < wides.size left → {k : ℕ} → Lowest wides left k → {e : Wide} → SetAt wides sides k e → {all' left' : Wide}
-        → Joint wides all e all' either → Dropped wides left k left' → Gathering sides set all' left'
-    gathering_more p {k} low {e} edge {all'} {left'} j drop masks d s i =
+    pub gathering_more : {k : ℕ} {left' : Wide} → First wides left left' k → {e : Wide} → SetAt wides sides k e → {all' : Wide}
+        → Joint wides all e all' either → Gathering sides set all' left'
+    gathering_more {k} p {e} edge j masks d s i =
         let b = g masks d s i in
         let f = first b.rest in
         let h : wides.Is (wides.at sides k) (edges_with masks f)
-        = subst (λ (n : ℕ). wides.Is (wides.at sides k) (edges_with masks n)) (low.same b.rest b.left_is) (s.at k low.narrow) in
+        = subst (λ (n : ℕ). wides.Is (wides.at sides k) (edges_with masks n)) (p.lowest.same b.rest b.left_is) (s.at k p.lowest.narrow) in
         let w : wides.Is e (edges_with masks f) = subst (λ (x : Wide). wides.Is x (edges_with masks f)) (sym edge.is) h in
         record {
           found = either b.found (edges_with masks f);
           rest = without_lowest b.rest;
           all_is = j b.found (edges_with masks f) b.all_is w;
-          left_is = drops low drop b.rest b.left_is;
-          gathers = gather_more masks d b.found b.rest (some_in wides_laws b.left_is p) b.gathers;
+          left_is = drops p.lowest p.dropped b.rest b.left_is;
+          gathers = gather_more masks d b.found b.rest (some_in wides_laws b.left_is p.some) b.gathers;
         }
 
     pub gathering_end : wides.size left ≡ 0 → Gathered sides set all

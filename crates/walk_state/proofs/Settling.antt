@@ -16,7 +16,7 @@ use Rattle.fast_sweeps.proofs.Counts.{M, L, count_split, many, few, two, exactly
 use Rattle.walk_state.specs.State.{StateIs, DecidedAll, Fewer, SettledOn}
 use Rattle.walk_state.specs.declared.State.{State}
 use Rattle.walk_state.specs.declared.Change.{Change}
-use Rattle.walk_state.specs.declared.Passed.TheVariants as P
+use Rattle.std.specs.Prelude.{Some, None}
 
 -- those decided and those left are all that were undecided
 module _ (s : State) (mask : Wide) (hm : wides_laws.Fits mask) (hu : wides_laws.Fits s.undecided) {free : Wide}
@@ -56,19 +56,19 @@ module _ (s : State) (mask : Wide) {on free : Wide} (t : Joint wides mask s.take
 
   -- what holds of the change as the code makes it
   stays : {set taken : Wide} {c : Change} (d : DecidedAll s set taken c)
-      → SettledOn s mask (P.Stays (record { state = record { taken = taken; undecided = d.left }; decided = set }))
-      → SettledOn s mask (P.Stays c)
-  stays d r = subst (λ (c : Change). SettledOn s mask (P.Stays c)) (sym d.is) r
+      → SettledOn s mask (Some (record { state = record { taken = taken; undecided = d.left }; decided = set }))
+      → SettledOn s mask (Some c)
+  stays d r = subst (λ (c : Change). SettledOn s mask (Some c)) (sym d.is) r
 
-  pub edge_many : 2 < wides.size on → SettledOn s mask P.Broken
+  pub edge_many : 2 < wides.size on → SettledOn s mask None
   edge_many p = record { fewer = tt; same = λ a st i h. many a st (omega (arith, is_m a st i h)) }
 
-  pub edge_few : wides.size on + wides.size free < 2 → SettledOn s mask P.Broken
+  pub edge_few : wides.size on + wides.size free < 2 → SettledOn s mask None
   edge_few p = record { fewer = tt; same = λ a st i h. few a st (omega (arith, is_m a st i h, is_l a st i h)) }
 
   pub edge_two : {c : Change} → DecidedAll s free s.taken c → wides.size on ≡ 2 → wides_laws.Fits mask
       → wides_laws.Fits s.undecided
-      → SettledOn s mask (P.Stays c)
+      → SettledOn s mask (Some c)
   edge_two d e hm hu = stays d (record {
     fewer = fewer_by s mask hm hu f d.minus s.taken;
     same = λ a st i h.
@@ -85,7 +85,7 @@ module _ (s : State) (mask : Wide) {on free : Wide} (t : Joint wides mask s.take
   })
 
   pub edge-exactly : {t' : Wide} {c : Change} → Joint wides s.taken free t' either → DecidedAll s free t' c → wides.size on < 2
-      → wides.size on + wides.size free ≡ 2 → wides_laws.Fits mask → wides_laws.Fits s.undecided → SettledOn s mask (P.Stays c)
+      → wides.size on + wides.size free ≡ 2 → wides_laws.Fits mask → wides_laws.Fits s.undecided → SettledOn s mask (Some c)
   edge-exactly {t'} j d p e hm hu = stays d (record {
     fewer = fewer_by s mask hm hu f d.minus t';
     same = λ a st i h.
@@ -103,7 +103,7 @@ module _ (s : State) (mask : Wide) {on free : Wide} (t : Joint wides mask s.take
 
   pub edge_more : {z : Wide} {c : Change} → wides.Is z [] → DecidedAll s z s.taken c → wides.size on < 2
       → 2 < wides.size on + wides.size free
-      → wides_laws.Fits s.undecided → SettledOn s mask (P.Stays c)
+      → wides_laws.Fits s.undecided → SettledOn s mask (Some c)
   unfolding count
   edge_more {z} w d p e hu = stays d (record {
     fewer = record { none = λ q. none_fewer w d.minus hu; some = λ q. omega (arith, wides_laws.size_is w) };

@@ -22,9 +22,8 @@ use Rattle.walk_state.specs.State.{StateIs, SettledOn}
 use Rattle.walk_state.specs.Sweeps.{mark_count, MarksAre, EdgePassed, SweptIs, SweptOut}
 use Rattle.walk_state.specs.declared.State.{State}
 use Rattle.walk_state.specs.declared.Change.{Change}
-use Rattle.walk_state.specs.declared.Passed.TheVariants as P
+use Rattle.std.specs.Prelude.{Some, None}
 use Rattle.walk_state.specs.declared.Marks.{Marks}
-use Rattle.walk_state.specs.declared.Swept.TheVariants as S
 use Rattle.walk_state.proofs.Lowest.{some_in, none_in}
 
 -- what the state and the marks stand for in the midst of the sweeps that end as o
@@ -54,14 +53,14 @@ module _ (on sides : List ℕ) (s : State) (changed : Wide) where
   }
 
   module _ {v : State} {m : Marks} (g : Sweeping on sides s changed v m) where
-    pub sweeping_end : wides.size m.ahead ≡ 0 → SweptOut on sides s changed (S.Stands v)
+    pub sweeping_end : wides.size m.ahead ≡ 0 → SweptOut on sides s changed (Some v)
     sweeping_end z = record {
       fewer = g.fewer;
       same = λ masks o st marks i j h w p.
           let r = g.same masks o st marks i j h w p in
           let n = none_in wides_laws r.marks_are.ahead_is z in
           let e : o ≡ Stands r.st = finish masks r.loop.remains n (r.loop.turned n) in
-          subst (λ (y : Outcome). SweptIs y (S.Stands v)) (sym e) r.holds;
+          subst (λ (y : Outcome). SweptIs y (Some v)) (sym e) r.holds;
     }
 
     module _ (n : 0 < wides.size m.ahead) {e : ℕ} (low : Lowest wides m.ahead e) {mask : Wide} (edge : SetAt wides on e mask) where
@@ -74,7 +73,7 @@ module _ (on sides : List ℕ) (s : State) (changed : Wide) where
           let q : mask ≡ wides.at on f = edge.is ∙ ap (λ (k : ℕ). wides.at on k) (low.same r.ahead a) in
           subst (λ (x : Wide). wides.Is x (get_or masks f [])) (sym q) h
 
-      pub sweeping_broken : SettledOn v mask P.Broken → SweptOut on sides s changed S.Broken
+      pub sweeping_broken : SettledOn v mask None → SweptOut on sides s changed None
       sweeping_broken d = record {
         fewer = tt;
         same = λ masks o st marks i j h w p.
@@ -82,10 +81,10 @@ module _ (on sides : List ℕ) (s : State) (changed : Wide) where
             let c = some_in wides_laws r.marks_are.ahead_is n in
             let b : o ≡ Broken
             = breaks_off masks r.loop.remains c (d.same (get_or masks (first r.ahead) []) r.st (mask_is i r) r.holds) in
-            subst (λ (y : Outcome). SweptIs y S.Broken) (sym b) tt;
+            subst (λ (y : Outcome). SweptIs y None) (sym b) tt;
       }
 
-      module _ {c : Change} (d : SettledOn v mask (P.Stays c)) {q : Marks} (t : EdgePassed sides m c.decided q) where
+      module _ {c : Change} (d : SettledOn v mask (Some c)) {q : Marks} (t : EdgePassed sides m c.decided q) where
         no_more : wides.size c.state.undecided ≤ wides.size v.undecided
         no_more = go (ℕ_discrete (wides.size c.decided) 0)
           where

@@ -1,5 +1,5 @@
 -- A state as the code holds it, one candidate decided, and one edge settled.
-use Rattle.std.specs.Prelude.{Bool, true, false, List, ◌≡◌, ℕ, suc, ◌<◌, set}
+use Rattle.std.specs.Prelude.{Bool, true, false, List, ◌≡◌, ℕ, suc, ◌<◌, set, Some, None, Option}
 use Rattle.sets.specs.Kinds.{Minus}
 use Rattle.sets.specs.Sets.{wides, Wide}
 use Rattle.paper.specs.Conversion.{takens}
@@ -8,8 +8,6 @@ use Rattle.means_walk.specs.Lowest.{opens}
 use Rattle.fast_sweeps.specs.Worklist.{decided_on}
 use Rattle.walk_state.specs.declared.State.{State}
 use Rattle.walk_state.specs.declared.Change.{Change}
-use Rattle.walk_state.specs.declared.Passed.{Passed}
-use Rattle.walk_state.specs.declared.Passed.TheVariants as P
 
 -- s is the state st of the document: its taken and its undecided candidates
 pub record StateIs (s : State) (st : List Status) : Type 0 where
@@ -35,19 +33,19 @@ pub record ChangeIs (c : Change) (mask : List Bool) (st : List Status) : Type 0 
   pub holds : StateIs c.state (settle mask st)
   pub decides : wides.Is c.decided (decided_on mask st)
 
-abbrev pub PassedIs : Passed → List Bool → List Status → Type 0
-PassedIs P.Broken mask st = contradicts mask st ≡ true
-PassedIs (P.Stays c) mask st = ChangeIs c mask st
+abbrev pub PassedIs : Option Change → List Bool → List Status → Type 0
+PassedIs None mask st = contradicts mask st ≡ true
+PassedIs (Some c) mask st = ChangeIs c mask st
 
 -- those decided are no more undecided
 pub record Fewer (c : Change) (undecided : Wide) : Type 0 where
   pub none : wides.size c.decided ≡ 0 → wides.size c.state.undecided ≡ wides.size undecided
   pub some : 0 < wides.size c.decided → wides.size c.state.undecided < wides.size undecided
 
-abbrev pub PassedFewer : Passed → Wide → Type 0
-PassedFewer P.Broken u = Unit {0}
-PassedFewer (P.Stays c) u = Fewer c u
+abbrev pub PassedFewer : Option Change → Wide → Type 0
+PassedFewer None u = Unit {0}
+PassedFewer (Some c) u = Fewer c u
 
-pub record SettledOn (s : State) (mask : Wide) (r : Passed) : Type 0 where
+pub record SettledOn (s : State) (mask : Wide) (r : Option Change) : Type 0 where
   pub fewer : PassedFewer r s.undecided
   pub same : (a : List Bool) (st : List Status) → wides.Is mask a → StateIs s st → PassedIs r a st

@@ -1,5 +1,5 @@
 -- Sweeps over marked edges: the marks, and what is left in the end.
-use Rattle.std.specs.Prelude.{Bool, List, [], ◌≡◌, ℕ, ◌+◌, ◌*◌, ◌≤◌, ◌<◌}
+use Rattle.std.specs.Prelude.{Bool, List, [], ◌≡◌, ℕ, ◌+◌, ◌*◌, ◌≤◌, ◌<◌, Some, None, Option}
 use Rattle.sets.specs.Sets.{wides, Wide}
 use Rattle.paper.specs.Numbers.{most_edges}
 use Rattle.paper.specs.Walk.{Status, Outcome, Broken, Stands}
@@ -8,8 +8,6 @@ use Rattle.walk_tables.specs.Words.{Masks, Sides}
 use Rattle.walk_state.specs.State.{StateIs}
 use Rattle.walk_state.specs.declared.State.{State}
 use Rattle.walk_state.specs.declared.Marks.{Marks}
-use Rattle.walk_state.specs.declared.Swept.{Swept}
-use Rattle.walk_state.specs.declared.Swept.TheVariants as S
 
 -- ---- the marks
 
@@ -38,19 +36,19 @@ pub record EdgePassed (sides : List ℕ) (m : Marks) (decided : Wide) (r : Marks
 
 -- ---- what is left in the end
 
-abbrev pub SweptIs : Outcome → Swept → Type 0
-SweptIs Broken S.Broken = Unit {0}
-SweptIs Broken (S.Stands s) = ⊥
-SweptIs (Stands st) S.Broken = ⊥
-SweptIs (Stands st) (S.Stands s) = StateIs s st
+abbrev pub SweptIs : Outcome → Option State → Type 0
+SweptIs Broken None = Unit {0}
+SweptIs Broken (Some s) = ⊥
+SweptIs (Stands st) None = ⊥
+SweptIs (Stands st) (Some s) = StateIs s st
 
 -- at most n are undecided
-abbrev pub AtMost : ℕ → Swept → Type 0
-AtMost n S.Broken = Unit {0}
-AtMost n (S.Stands s) = wides.size s.undecided ≤ n
+abbrev pub AtMost : ℕ → Option State → Type 0
+AtMost n None = Unit {0}
+AtMost n (Some s) = wides.size s.undecided ≤ n
 
 -- the sweeps end as all whole sweeps would, and no more are undecided than before
-pub record SweptOut (on sides : List ℕ) (s : State) (changed : Wide) (r : Swept) : Type 0 where
+pub record SweptOut (on sides : List ℕ) (s : State) (changed : Wide) (r : Option State) : Type 0 where
   pub fewer : AtMost (wides.size s.undecided) r
   pub same : (masks : List (List Bool)) (o : Outcome) (st : List Status) (marked : List Bool) → Masks on masks → Sides sides masks
       → StateIs s st → wides.Is changed marked → SweepKept masks o st marked [] → SweptIs o r

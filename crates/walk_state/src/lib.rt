@@ -26,12 +26,6 @@ struct Change {
     pub decided: Wide,
 }
 
-#[derive(Clone, Copy)]
-enum Passed {
-    Broken,
-    Stays(Change),
-}
-
 impl State {
     pub fn with_taken(self, k: usize) -> State
         requires { Has wides self.undecided k }
@@ -68,9 +62,10 @@ impl State {
         }
     }
 
-    // On the edge M are taken, the ones of `on`, and L undecided, the ones of `free`. L is asked where M is 0 and where M is 1. A rest has
-    // one fewer, so that each count is only told from 1 or from 2: a machine that has no instruction for counts need not count further.
-    fn settled_on(self, mask: Wide) -> Passed
+    // None where the edge is contradicted. On the edge M are taken, the ones of `on`, and L undecided, the ones of `free`. L is asked
+    // where M is 0 and where M is 1. A rest has one fewer, so that each count is only told from 1 or from 2: a machine that has no
+    // instruction for counts need not count further.
+    fn settled_on(self, mask: Wide) -> Option<Change>
         ensures { SettledOn self mask result }
     {
         let taken = self.taken;
@@ -78,33 +73,27 @@ impl State {
         let free = mask.and(self.undecided);
         if 1 < on.count() {
             if 1 < on.rest().count() {
-                return Passed::Broken;
+                return None;
             }
-            return Passed::Stays(self.with_decided(free, taken));
+            return Some(self.with_decided(free, taken));
         }
         if on.count() < 1 {
             if free.count() < 2 {
-                return Passed::Broken;
+                return None;
             }
             if free.rest().count() < 2 {
-                return Passed::Stays(self.with_decided(free, taken.or(free)));
+                return Some(self.with_decided(free, taken.or(free)));
             }
-            return Passed::Stays(self.with_decided(Wide::none(), taken));
+            return Some(self.with_decided(Wide::none(), taken));
         }
         if free.count() < 1 {
-            return Passed::Broken;
+            return None;
         }
         if free.count() < 2 {
-            return Passed::Stays(self.with_decided(free, taken.or(free)));
+            return Some(self.with_decided(free, taken.or(free)));
         }
-        Passed::Stays(self.with_decided(Wide::none(), taken))
+        Some(self.with_decided(Wide::none(), taken))
     }
-}
-
-#[derive(Clone, Copy)]
-pub enum Swept {
-    Broken,
-    Stands(State),
 }
 
 // The edges to pass in this sweep, and those to pass in the next.
@@ -120,10 +109,8 @@ fn gathered(sides: &[u64; MOST_CANDIDATES], set: Wide) -> Wide
 {
     let mut all = Wide::none();
     let mut left = set;
-    while !left.is_empty() {
-        let k = left.lowest();
+    while let Some(k) = left.pop_first() {
         all = all.or(Wide::at(sides, k));
-        left = left.rest();
     }
     all
 }
@@ -165,13 +152,13 @@ fn marked(sides: &[u64; MOST_CANDIDATES], m: Marks, decided: Wide) -> Marks
     )
 }
 
-// "Sweep edges in order until a whole sweep changes nothing or a contradiction appears."
+// "Sweep edges in order until a whole sweep changes nothing or a contradiction appears": none then.
 pub fn settled(
     on: &[u64; MOST_EDGES],
     sides: &[u64; MOST_CANDIDATES],
     s: State,
     changed: Wide,
-) -> Swept
+) -> Option<State>
     ensures { SweptOut on.now sides.now s changed result }
 {
     let mut state = s;
@@ -181,14 +168,11 @@ pub fn settled(
     };
     while !marks.ahead.is_empty() {
         let e = marks.ahead.lowest();
-        let passed = state.settled_on(Wide::at(on, e));
-        let Passed::Stays(change) = passed else {
-            return Swept::Broken;
-        };
+        let change = state.settled_on(Wide::at(on, e))?;
         state = change.state;
         marks = marked(sides, marks, change.decided);
     }
-    Swept::Stands(state)
+    Some(state)
 }
 
 #[derive(Clone, Copy)]
@@ -202,19 +186,14 @@ pub fn first_open(on: &[u64; MOST_EDGES], m: usize, undecided: Wide, from: usize
     requires { From m from }
     ensures { Opened on.now m undecided from result }
 {
-    let mut e = from;
-    while e < m {
-        let free = Wide::at(on, e).and(undecided);
+    for edge in from..m {
+        let free = Wide::at(on, edge).and(undecided);
         if !free.is_empty() {
-            return Opening {
-                edge: e,
-                free: free,
-            };
+            return Opening { edge, free };
         }
-        e += 1;
     }
     Opening {
-        edge: e,
+        edge: m,
         free: undecided,
     }
 }

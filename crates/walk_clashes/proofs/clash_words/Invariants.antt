@@ -1,7 +1,7 @@
 -- `walk_clashes::clash_words`: the loop keeps that the first g candidates are marked both ways.
 use mathlib.Core.List.{List}
 use mathlib.Core.Path.{◌≡◌}
-use Prim.Native.Nat.{ℕ, ◌-◌, ◌≤◌}
+use Prim.Native.Nat.{ℕ, ◌≤◌}
 use lib.IntN.{ℤ}
 use lib.ListN.{length}
 use Rattle.walk_clashes.specs.Clashes.{ClashLent}
@@ -18,6 +18,3 @@ pub record Kept {xyz : List ℤ} {rows near number on at corners sides : List �
 
 abbrev pub invariant-loop-g : goal.invariant-loop-g
 invariant-loop-g l = (w : ClashLent l.xyz l.rows l.near l.number l.on l.at l.corners l.sides l.normals l.n) → Kept w l.initial.words l.words l.g
-
-abbrev pub decreases-loop-g : goal.decreases-loop-g
-decreases-loop-g l = l.n - l.g

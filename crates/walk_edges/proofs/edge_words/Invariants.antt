@@ -1,7 +1,7 @@
 -- `walk_edges::edge_words`: the loop keeps that the words have the first k candidates.
 use mathlib.Core.List.{List}
 use mathlib.Core.Path.{◌≡◌}
-use Prim.Native.Nat.{◌-◌, ◌≤◌, ℕ}
+use Prim.Native.Nat.{◌≤◌, ℕ}
 use lib.ListN.{length}
 use Rattle.fast_tables.specs.Hits.{side_mask}
 use Rattle.walk_edges.specs.Marks.{DrawnCandidates, up_mask}
@@ -18,6 +18,3 @@ pub record Kept {rows : List ℕ} {n : ℕ} {number : List ℕ} (w : DrawnCandid
 
 abbrev pub invariant-loop-k : goal.invariant-loop-k
 invariant-loop-k l = (w : DrawnCandidates l.rows l.n l.number) → Kept w l.initial.on l.on l.initial.up l.up l.k
-
-abbrev pub decreases-loop-k : goal.decreases-loop-k
-decreases-loop-k l = l.n - l.k

@@ -22,9 +22,6 @@ returns-then-not-once_each_way c =
     c.at-mask.ensures c.at.ensures c.once_each_way.ensures
     (c.if-not-once_each_way.true)
 
-pub overflow_add-e : goal.overflow_add-e
-overflow_add-e c = let p = c.requires in omega (arith, p)
-
 pub loop-e-preserved : goal.loop-e-preserved
 loop-e-preserved c =
     let a = c.args in (

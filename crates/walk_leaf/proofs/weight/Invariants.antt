@@ -5,8 +5,8 @@ use Rattle.sets.specs.Sets.{wides}
 use Rattle.walk_leaf.proofs.Sums.{Weighing}
 use Rattle.walk_leaf.proofs.weight.Given as goal
 
-abbrev pub invariant-loop-turned : goal.invariant-loop-turned
-invariant-loop-turned l = Weighing l.sixes l.initial.left l.turned (of_z w64 l.sum) l.left
+abbrev pub invariant-loop-k : goal.invariant-loop-k
+invariant-loop-k l = Weighing l.sixes l.initial.left l.turned (of_z w64 l.sum) l.left
 
-abbrev pub decreases-loop-turned : goal.decreases-loop-turned
-decreases-loop-turned l = wides.size l.left
+abbrev pub decreases-loop-k : goal.decreases-loop-k
+decreases-loop-k l = wides.size l.left

@@ -1,4 +1,4 @@
--- `walk_state::first_open`: the loop keeps that the answer is that of the search from e on.
+-- `walk_state::first_open`: the loop keeps that the answer is that of the search from this edge on.
 use mathlib.Core.Path.{refl}
 use native.Mathlib.Omega.{arith}
 use Rattle.sets.specs.Sets.{wides}
@@ -6,35 +6,22 @@ use Rattle.walk_state.proofs.Lowest.{is_none, is_some}
 use Rattle.walk_state.proofs.Choosing.{open_found, open_next, open_last}
 use Rattle.walk_state.proofs.first_open.Goals as goal
 
--- ---- the needs
-
-pub loop-e-init : goal.loop-e-init
-loop-e-init c = (omega arith, λ masks st i l w. refl)
-
-pub at-requires : goal.at-requires
-at-requires c = let p = c.requires in omega (arith, p)
+pub loop-edge-init : goal.loop-edge-init
+loop-edge-init c = λ masks st i l w. refl
 
 pub returns-then-not-is_empty : goal.returns-then-not-is_empty
 returns-then-not-is_empty c =
     let a = c.args in
-    let e = c.is_empty in
-    open_found a.on.now a.m a.undecided a.from c.loop-e.e c.loop-e.invariant.1 (omega arith) c.at.ensures
-    c.and-free.ensures (is_some wides c.and-free.result e.ensures (c.if-not-is_empty.true))
+    open_found a.on.now a.m a.undecided a.from c.loop-edge.edge c.loop-edge.invariant (omega arith) c.at.ensures
+    c.and-free.ensures (is_some wides c.and-free.result c.is_empty.ensures c.if-not-is_empty.true)
 
-pub overflow_add-e : goal.overflow_add-e
-overflow_add-e c = let p = c.requires in omega (arith, p)
-
-pub loop-e-preserved : goal.loop-e-preserved
-loop-e-preserved c =
+pub loop-edge-preserved : goal.loop-edge-preserved
+loop-edge-preserved c =
     let a = c.args in
-    let e = c.is_empty in
-    let z = is_none wides c.and-free.result e.ensures (c.if-not-is_empty.false) in (
-      omega arith,
-      open_next a.on.now a.m a.undecided a.from c.loop-e.e c.loop-e.invariant.1 (omega arith)
-          c.at.ensures c.and-free.ensures z,
-    )
+    open_next a.on.now a.m a.undecided a.from c.loop-edge.edge c.loop-edge.invariant (omega arith)
+    c.at.ensures c.and-free.ensures (is_none wides c.and-free.result c.is_empty.ensures c.if-not-is_empty.false)
 
 pub returns : goal.returns
 returns c =
     let a = c.args in
-    open_last a.on.now a.m a.undecided a.from c.loop-e.e c.loop-e.invariant.1 (omega (arith, c.loop-e.invariant.0))
+    open_last a.on.now a.m a.undecided a.from c.loop-edge.edge c.loop-edge.invariant (omega arith)

@@ -4,8 +4,8 @@ use Rattle.sets.specs.Sets.{wides}
 use Rattle.walk_state.proofs.Gathering.{Gathering}
 use Rattle.walk_state.proofs.gathered.Given as goal
 
-abbrev pub invariant-loop-left : goal.invariant-loop-left
-invariant-loop-left l = Gathering l.sides l.initial.left l.all l.left
+abbrev pub invariant-loop-k : goal.invariant-loop-k
+invariant-loop-k l = Gathering l.sides l.initial.left l.all l.left
 
-abbrev pub decreases-loop-left : goal.decreases-loop-left
-decreases-loop-left l = wides.size l.left
+abbrev pub decreases-loop-k : goal.decreases-loop-k
+decreases-loop-k l = wides.size l.left

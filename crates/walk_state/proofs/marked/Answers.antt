@@ -2,31 +2,15 @@
 use native.Mathlib.Omega.{arith}
 use Rattle.sets.specs.Sets.{wides}
 use Rattle.sets.proofs.Laws.{rest_drops}
-use Rattle.sets.proofs.Sets.{wides_laws}
 use Rattle.walk_state.proofs.Lowest.{is_none, is_some}
 use Rattle.walk_state.proofs.Marking.{marked-none, marked-some}
 use Rattle.walk_state.proofs.marked.Goals as goal
-
--- all are words
-ahead-fits : (c : goal.After-turned) → wides_laws.Fits c.args.m.ahead
-ahead-fits c = omega arith
-
-later-fits : (c : goal.After-turned) → wides_laws.Fits c.args.m.later
-later-fits c = omega arith
-
-next-ahead-fits : (c : goal.After-turned-2) → wides_laws.Fits c.or.result
-next-ahead-fits c = omega arith
-
-next-later-fits : (c : goal.After-turned-2) → wides_laws.Fits c.or-2.result
-next-later-fits c = omega arith
-
--- ---- the needs
 
 pub returns-then-is_empty : goal.returns-then-is_empty
 returns-then-is_empty c =
     let a = c.args in
     let e = c.lowest-e.ensures in
-    marked-none a.sides.now a.m c.requires e (rest_drops e c.rest-after.ensures) (ahead-fits c) (later-fits c) a.decided
+    marked-none a.sides.now a.m c.requires e (rest_drops e c.rest-after.ensures) (omega arith) (omega arith) a.decided
     (is_none wides a.decided c.is_empty.ensures c.if-is_empty.true) c.turned.ensures
 
 pub returns : goal.returns
@@ -37,4 +21,4 @@ returns c =
     (is_some wides a.decided c.is_empty.ensures c.if-is_empty.false) c.gathered-touched.ensures
     c.lowest_of-below.ensures
     c.minus.ensures c.without.ensures c.or.ensures c.and.ensures c.or-2.ensures
-    (next-ahead-fits c) (next-later-fits c) c.turned-2.ensures
+    (omega arith) (omega arith) c.turned-2.ensures

@@ -53,9 +53,6 @@ returns-then-count-le-LEAST_CORNERS c w s i =
     let p = c.requires in
     pass_all w c.args.g s (pass-none w _ s p.there (omega (arith, c.count.ensures, c.if-count-le-LEAST_CORNERS.true)) c.none-found.ensures)
 
-pub overflow_add-j : goal.overflow_add-j
-overflow_add-j c = let p = c.requires in omega (arith, p.there, p.lent.faces.most)
-
 pub loop-j-init : goal.loop-j-init
 loop-j-init c w =
     record {

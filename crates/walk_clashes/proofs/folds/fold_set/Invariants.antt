@@ -1,7 +1,7 @@
 -- `walk_clashes::folds::fold_set`: the loop keeps that the set has those before j that pass.
 use mathlib.Core.Bool.{Bool}
 use mathlib.Core.List.{List}
-use Prim.Native.Nat.{ℕ, ◌-◌, ◌≤◌, ◌<◌}
+use Prim.Native.Nat.{ℕ, ◌≤◌, ◌<◌}
 use lib.IntN.{ℤ}
 use Rattle.sets.specs.Sets.{Is}
 use Rattle.sets.specs.declared.Set.{Set}
@@ -19,6 +19,3 @@ pub record Kept {xyz : List ℤ} {rows corners sides : List ℕ} {normals : List
 
 abbrev pub invariant-loop-j : goal.invariant-loop-j
 invariant-loop-j l = (w : FoldLent l.xyz l.rows l.corners l.sides l.normals l.n) → Kept w l.g l.known l.found l.j
-
-abbrev pub decreases-loop-j : goal.decreases-loop-j
-decreases-loop-j l = l.n - l.j

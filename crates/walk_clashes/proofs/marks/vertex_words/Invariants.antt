@@ -1,7 +1,7 @@
 -- `walk_clashes::marks::vertex_words`: the loop keeps that the words have the first k candidates.
 use mathlib.Core.List.{List}
 use mathlib.Core.Path.{◌≡◌}
-use Prim.Native.Nat.{ℕ, ◌-◌, ◌≤◌}
+use Prim.Native.Nat.{ℕ, ◌≤◌}
 use lib.ListN.{length}
 use Rattle.fast_tables.specs.Hits.{corner_mask}
 use Rattle.walk_edges.proofs.Columns.{Columns}
@@ -16,6 +16,3 @@ pub record Kept {corners : List ℕ} {n : ℕ} (w : CornersOf corners n) (words�
 
 abbrev pub invariant-loop-k : goal.invariant-loop-k
 invariant-loop-k l = (w : CornersOf l.corners l.n) → Kept w l.initial.at l.at l.k
-
-abbrev pub decreases-loop-k : goal.decreases-loop-k
-decreases-loop-k l = l.n - l.k

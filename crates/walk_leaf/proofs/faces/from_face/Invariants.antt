@@ -3,8 +3,8 @@
 use Rattle.walk_leaf.proofs.Rounds.{Rounds, togo}
 use Rattle.walk_leaf.proofs.faces.from_face.Given as goal
 
-abbrev pub invariant-loop-taken : goal.invariant-loop-taken
-invariant-loop-taken l = Rounds l.on l.up l.sides l.taken l.k l.going
+abbrev pub invariant-loop-f : goal.invariant-loop-f
+invariant-loop-f l = Rounds l.on l.up l.sides l.taken l.k l.going
 
-abbrev pub decreases-loop-taken : goal.decreases-loop-taken
-decreases-loop-taken l = togo l.going
+abbrev pub decreases-loop-f : goal.decreases-loop-f
+decreases-loop-f l = togo l.going
