@@ -1,25 +1,27 @@
 -- The first check that applies to a drawing with its list.
 use mathlib.Core.List.{List, ◌++◌, append_assoc}
-use mathlib.Core.Path.{◌≡◌, sym, ap, ◌∙◌}
+use mathlib.Core.Path.{◌≡◌, refl, sym, ap, ◌∙◌}
 use Prim.Native.Nat.{ℕ}
 use lib.ListN.{length}
 use Rattle.paper.specs.Numbers.{documented}
-use Rattle.paper.specs.Refusals.{Check, first_of}
+use Rattle.paper.specs.Refusals.{Check, first_of, Answer, Fine, Verdict}
 use Rattle.paper.specs.Drawing.{Wire, drawing_checks}
 use Rattle.paper.specs.Loops.{loops, candidates, loop_checks}
 use Rattle.paper.specs.Solids.{tables_of}
 use Rattle.paper.specs.Verdict.{list_edition, verdict_for, verdict}
-use Rattle.paper.specs.declared.Answer.{Answer}
-use Rattle.paper.specs.declared.Answer.TheVariants.{Fine, Refused}
+use Rattle.std.specs.Prelude.{Ok, Err}
 use Rattle.paper.specs.declared.Refusal.{Refusal}
-use Rattle.paper.specs.declared.Verdict.{Verdict}
-use Rattle.paper.specs.declared.Verdict.TheVariants as Verdict
 use Rattle.paper_laws.proofs.Checks.{first_stops, first_passes}
 use Rattle.walk_input.specs.Tables.{checks_of}
 use Rattle.verdict.specs.Checked.{list_checks, rest_checks}
 
+-- an answer is the verdict of it
+pub same_verdict : (a : Answer) → a ≡ verdict_for a
+same_verdict (Ok _) = refl
+same_verdict (Err r) = refl
+
 -- what is refused is refused
-pub refused_so : {r : Refusal} {a : Answer} → Refused r ≡ a → Verdict.Refused r ≡ verdict_for a
+pub refused_so : {r : Refusal} {a : Answer} → Err r ≡ a → Err r ≡ verdict_for a
 refused_so e = ap verdict_for e
 
 -- ---- behind 3 to 10
@@ -28,7 +30,7 @@ module _ (d : Wire) (list : List ℕ) where
   abbrev mine : List Check
   mine = list_checks (list_edition d) (length d.vertices) (candidates d) (tables_of d (candidates d)) list
 
-  pub drawing_stops : {r : Refusal} → Refused r ≡ first_of (checks_of d) → Verdict.Refused r ≡ verdict_for (first_of (rest_checks d list))
+  pub drawing_stops : {r : Refusal} → Err r ≡ first_of (checks_of d) → Err r ≡ verdict_for (first_of (rest_checks d list))
   drawing_stops e = refused_so (first_stops (checks_of d) mine e)
 
   pub list_decides : {r : Verdict} → Fine ≡ first_of (checks_of d) → r ≡ verdict_for (first_of mine) → r ≡ verdict_for (first_of (rest_checks d list))
@@ -44,7 +46,7 @@ module _ (d : Wire) (list : List ℕ) where
         (sym (append_assoc form (checks_of d) mine) ∙ ap (λ (cs : List Check). cs ++ mine)
         (sym (append_assoc form (drawing_checks d) (loop_checks documented (loops d) (candidates d)))))
 
-    pub form_stops : {r : Refusal} → Refused r ≡ first_of form → Verdict.Refused r ≡ verdict form d list
+    pub form_stops : {r : Refusal} → Err r ≡ first_of form → Err r ≡ verdict form d list
     form_stops e = refused_so (first_stops form (rest_checks d list) e) ∙ in_order
 
     pub rest_decides : {r : Verdict} → Fine ≡ first_of form → r ≡ verdict_for (first_of (rest_checks d list)) → r ≡ verdict form d list

@@ -8,12 +8,11 @@ use lib.ListN.{length, get_or}
 use lib.Seq.{get_or-take}
 use Rattle.sets.specs.Word.{dig}
 use Rattle.paper.specs.Numbers.{most_candidates}
-use Rattle.paper.specs.Refusals.{first_of}
+use Rattle.paper.specs.Refusals.{first_of, Answer}
 use Rattle.paper.specs.Loops.{Loop}
 use Rattle.paper.specs.Solids.{Tables}
 use Rattle.paper.specs.Verdict.{listed, face_checks}
-use Rattle.paper.specs.declared.Answer.{Answer}
-use Rattle.paper.specs.declared.Answer.TheVariants.{Refused}
+use Rattle.std.specs.Prelude.{Err}
 use Rattle.paper.specs.declared.Refusal.{Refusal}
 use Rattle.paper_laws.proofs.Checks.{first_stops, first_passes}
 use Rattle.means_loops.proofs.Kept.{member_is}
@@ -26,8 +25,8 @@ use Rattle.verdict_tests.proofs.Testing.{last_five}
 use Rattle.verdict_tests.specs.Tests.{test_checks, ListedIn, Tested}
 
 module _ (cs : List Loop) (fs : List (List ℕ)) where
-  pub naming_stops : (t : Tables) {r : Refusal} → Refused r ≡ first_of (named_checks cs fs)
-      → Refused r ≡ first_of (face_checks t (length cs) (listed cs fs))
+  pub naming_stops : (t : Tables) {r : Refusal} → Err r ≡ first_of (named_checks cs fs)
+      → Err r ≡ first_of (face_checks t (length cs) (listed cs fs))
   naming_stops t e = first_stops (named_checks cs fs) (test_checks t (listed cs fs)) e
       ∙ ap first_of (sym (last_five t (length cs) (listed cs fs)))
 

@@ -7,13 +7,13 @@ use native.Mathlib.Omega.{arith}
 use lib.ListN.{length}
 use Rattle.lists.proofs.Passing.{all_yes}
 use Rattle.paper.specs.Numbers.{most_faces, least_corners, most_corners}
-use Rattle.paper.specs.Refusals as No
-use Rattle.paper.specs.Refusals.{Check, check, offends, first_of}
+use Rattle.paper.specs.declared.Number.TheVariants as No
+use Rattle.paper.specs.Refusals.{Check, check, offends, first_of, Fine}
 use Rattle.paper.specs.Loops.{Loop, loop_at}
 use Rattle.paper.specs.FaceList.{no_faces, count_in, faces_in, face_fits, well_shaped, faces_of}
 use Rattle.paper.specs.declared.Format.{Format}
-use Rattle.paper.specs.declared.Answer.TheVariants.{Fine, Refused}
-use Rattle.paper.specs.declared.Faces.{Faces}
+use Rattle.std.specs.Prelude.{Err}
+use Rattle.paper.specs.FaceList.{Faces}
 use Rattle.paper.specs.declared.Refusal.{Refusal}
 use Rattle.paper_laws.proofs.Checks.{holds, fails}
 use Rattle.paper_laws.proofs.Rows.{Short}
@@ -28,13 +28,13 @@ use Rattle.paper_laws.specs.Editions.{Limited}
 
 module _ (f : Format) (v : ℕ) (list : List ℕ) {x : Faces} (e : x ≡ faces_of f v list) where
   -- 20 refuses it
-  pub shape_stops : {r : Refusal} (rest : List Check) → Refused r ≡ x.answer
-      → Refused r ≡ first_of (check No.ShellShape (offends (not (well_shaped f v list)) 0) ∷ rest)
+  pub shape_stops : {r : Refusal} (rest : List Check) → Err r ≡ x.answer
+      → Err r ≡ first_of (check No.ShellShape (offends (not (well_shaped f v list)) 0) ∷ rest)
   unfolding faces_of
   shape_stops {r} rest a = go (well_shaped f v list) refl (a ∙ ap (λ (y : Faces). y.answer) e)
     where
-      go : (b : Bool) → well_shaped f v list ≡ b → Refused r ≡ (cond b (held f v list) no_faces).answer
-          → Refused r ≡ first_of (check No.ShellShape (offends (not (well_shaped f v list)) 0) ∷ rest)
+      go : (b : Bool) → well_shaped f v list ≡ b → Err r ≡ (cond b (held f v list) no_faces).answer
+          → Err r ≡ first_of (check No.ShellShape (offends (not (well_shaped f v list)) 0) ∷ rest)
       go true t q = let z : ◌≡◌ {A = ℕ} 1 0 = cc in absurd (omega arith)
       go false t q = q ∙ holds No.ShellShape 0 rest (ap not t)
 

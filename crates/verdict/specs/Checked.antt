@@ -1,8 +1,8 @@
 -- What the check says of a drawing behind 3 to 10, and of a face list behind 3 to 16.
 use Rattle.std.specs.Prelude.{not, List, ◌∷◌, ◌++◌, ◌≡◌, ℕ, ◌≤◌, ℤ, length}
 use Rattle.paper.specs.Numbers.{most_edges, most_candidates, face_room}
-use Rattle.paper.specs.Refusals as No
-use Rattle.paper.specs.Refusals.{Check, check, offends, first_of}
+use Rattle.paper.specs.declared.Number.TheVariants as No
+use Rattle.paper.specs.Refusals.{Check, check, offends, first_of, Verdict}
 use Rattle.paper.specs.Format.{edition_for}
 use Rattle.paper.specs.Drawing.{Wire, wire}
 use Rattle.paper.specs.Loops.{Loop, candidates}
@@ -10,7 +10,6 @@ use Rattle.paper.specs.Solids.{Tables, tables_of}
 use Rattle.paper.specs.FaceList.{faces_in, well_shaped}
 use Rattle.paper.specs.Verdict.{list_edition, listed, face_checks, verdict_for}
 use Rattle.paper.specs.declared.Format.{Format}
-use Rattle.paper.specs.declared.Verdict.{Verdict}
 use Rattle.walk_tables.specs.Words.{SmallSixes, WalkTables, Lent}
 use Rattle.walk_input.specs.Tables.{checks_of}
 use Rattle.verdict_faces.specs.Named.{HoldsTable}

@@ -5,20 +5,9 @@ ghost use Rattle.walk_tables.specs.Words.{walk_tables};
 ghost use Rattle.verdict.specs.Checked.{ListAt, ListChecked};
 
 use faces_reader::read_sent;
-use paper::{Answer, FACE_ROOM, MOST_CANDIDATES, MOST_EDGES, MOST_FACES, Verdict};
+use paper::{FACE_ROOM, MOST_CANDIDATES, MOST_EDGES, MOST_FACES, Refusal};
 use verdict_faces::named;
-use verdict_faces::selection::Named;
 use verdict_tests::tested;
-
-// What is refused is refused; a list that passes is accepted.
-fn verdict_for(a: Answer) -> Verdict
-    ensures { result ≡ verdict_for a }
-{
-    match a {
-        Answer::Refused(r) => Verdict::Refused(r),
-        Answer::Fine => Verdict::Accepted,
-    }
-}
 
 pub fn faces_checked(
     list: &[u8],
@@ -31,30 +20,24 @@ pub fn faces_checked(
     sides: &[u64; MOST_CANDIDATES],
     clashes: &[u64; MOST_CANDIDATES],
     sixes: &[i64; MOST_CANDIDATES],
-) -> Verdict
+) -> Result<(), Refusal>
     requires { ListAt rows.now n m sixes.now }
     ensures { ListChecked list.now v rows.now n
         (walk_tables on.now up.now sides.now clashes.now sixes.now) m result }
 {
-    let faces = read_sent(list, v, m);
-    let shape = faces.answer;
-    match shape {
-        Answer::Refused(r) => return Verdict::Refused(r),
-        Answer::Fine => {}
-    }
-    let count = faces.count;
-    let face_rows = faces.rows;
+    let faces = read_sent(list, v, m)?;
     let mut numbers = [0u8; MOST_FACES];
-    let found = named(&face_rows, count, rows, n, &mut numbers);
-    match found {
-        Named::Refused(r) => Verdict::Refused(r),
-        Named::Are(s) => {
-            let taken = s.taken;
-            let turned = s.turned;
-            let answer = tested(
-                on, up, m, sides, clashes, sixes, &numbers, count, taken, turned,
-            );
-            verdict_for(answer)
-        }
-    }
+    let s = named(&faces.rows, faces.count, rows, n, &mut numbers)?;
+    tested(
+        on,
+        up,
+        m,
+        sides,
+        clashes,
+        sixes,
+        &numbers,
+        faces.count,
+        s.taken,
+        s.turned,
+    )
 }

@@ -13,12 +13,12 @@ ghost use Rattle.verdict.specs.Checked.{VerdictChecked};
 
 use drawing_lists::lend::lent;
 use faces::faces_checked;
-use paper::{Answer, Drawing, FACE_ROOM, FILL, MOST_CANDIDATES, MOST_EDGES, Verdict};
+use paper::{Drawing, FACE_ROOM, FILL, MOST_CANDIDATES, MOST_EDGES, Refusal};
 use sheet_reader::read_sheet;
-use walk_input::{Tabled, tables};
+use walk_input::tables;
 
 // Refusals 11 to 16, then 20 to 27, of lists that passed 3 to 10.
-fn checked(xyz: &[i64], ends: &[u8], list: &[u8]) -> Verdict
+fn checked(xyz: &[i64], ends: &[u8], list: &[u8]) -> Result<(), Refusal>
     requires { PassedLists xyz.now ends.now }
     ensures { VerdictChecked xyz.now ends.now list.now result }
 {
@@ -28,7 +28,7 @@ fn checked(xyz: &[i64], ends: &[u8], list: &[u8]) -> Verdict
     let mut sides = [0u64; MOST_CANDIDATES];
     let mut clashes = [0u64; MOST_CANDIDATES];
     let mut sixes = [0i64; MOST_CANDIDATES];
-    let tabled = tables(
+    let c = tables(
         xyz,
         ends,
         &mut rows,
@@ -37,41 +37,34 @@ fn checked(xyz: &[i64], ends: &[u8], list: &[u8]) -> Verdict
         &mut sides,
         &mut clashes,
         &mut sixes,
-    );
+    )?;
     let v = xyz.len() / 3;
     let m = ends.len() / 2;
-    match tabled {
-        Tabled::Refused(r) => Verdict::Refused(r),
-        Tabled::Ready(c) => faces_checked(
-            list,
-            v,
-            &rows,
-            c.candidates,
-            &on,
-            &up,
-            m,
-            &sides,
-            &clashes,
-            &sixes,
-        ),
-    }
+    faces_checked(
+        list,
+        v,
+        &rows,
+        c.candidates,
+        &on,
+        &up,
+        m,
+        &sides,
+        &clashes,
+        &sixes,
+    )
 }
 
 // Checks a list against two lent lists: refusals 5, 8 to 16, then 20 to 27, or accepted.
-pub fn check(xyz: &[i64], ends: &[u8], list: &[u8]) -> Verdict
+pub fn check(xyz: &[i64], ends: &[u8], list: &[u8]) -> Result<(), Refusal>
     ensures result { result ≡ verdict_lists xyz.now ends.now list.now }
     ensures said { verdict_says result ≡ verdict_says (verdict_lists xyz.now ends.now list.now) }
 {
-    let form = lent(xyz, ends);
-    match form {
-        Answer::Refused(r) => return Verdict::Refused(r),
-        Answer::Fine => {}
-    }
+    lent(xyz, ends)?;
     checked(xyz, ends, list)
 }
 
 // The same of a drawing by value, whose arrays have its lists in front.
-fn drawing_checked(d: Drawing, list: &[u8]) -> Verdict
+fn drawing_checked(d: Drawing, list: &[u8]) -> Result<(), Refusal>
     requires { GivenDrawing d }
     ensures { VerdictChecked (coordinates_of d) (links_of d) list.now result }
 {
@@ -83,15 +76,10 @@ fn drawing_checked(d: Drawing, list: &[u8]) -> Verdict
 }
 
 // Checks a list against a sheet: refusals 3 to 16, then 20 to 27, or accepted.
-pub fn check_sheet(sheet: &[u8], list: &[u8]) -> Verdict
+pub fn check_sheet(sheet: &[u8], list: &[u8]) -> Result<(), Refusal>
     ensures result { result ≡ verdict_sheet sheet.now list.now }
     ensures said { verdict_says result ≡ verdict_says (verdict_sheet sheet.now list.now) }
 {
-    let read = read_sheet(sheet);
-    let form = read.answer;
-    match form {
-        Answer::Refused(r) => return Verdict::Refused(r),
-        Answer::Fine => {}
-    }
-    drawing_checked(read.drawing, list)
+    let drawing = read_sheet(sheet)?;
+    drawing_checked(drawing, list)
 }

@@ -1,4 +1,5 @@
 -- What the two passes answer, said of all faces and candidates that the rows hold: 21, then 22, or the selection.
+use Rattle.std.specs.Prelude.{Ok, Err}
 use mathlib.Core.Path.{◌≡◌, sym, ap, subst, ◌∙◌}
 use mathlib.Core.List.{List, []}
 use mathlib.Core.Option.{none}
@@ -10,16 +11,13 @@ use lib.Seq.{get_or-take}
 use borrow.Author.Tests.{leb-false}
 use Rattle.lists.proofs.Lowest.{lowest-none}
 use Rattle.sets.specs.Sets.{wides, Wide}
-use Rattle.paper.specs.Refusals as No
+use Rattle.paper.specs.declared.Number.TheVariants as No
 use Rattle.paper.specs.Loops.{Loop}
 use Rattle.paper.specs.Verdict.{mask_of, listed, not_candidate, face_twice}
 use Rattle.paper_laws.proofs.Checks.{clear, stops, passes}
 use Rattle.verdict_faces.specs.Form.{rows_in}
 use Rattle.verdict_faces.specs.Named.{Naming, HoldsTable, NamedIs}
-use Rattle.verdict_faces.specs.Passes.{numbers_of, turned_faces, AllNumbered, NumberedAs, Numbering, Takes, TakenAs}
-use Rattle.verdict_faces.specs.declared.selection.Named.TheVariants as N
-use Rattle.verdict_faces.specs.declared.selection.Marked.{Marked}
-use Rattle.verdict_faces.specs.declared.selection.Marked.TheVariants as M
+use Rattle.verdict_faces.specs.Passes.{numbers_of, turned_faces, AllNumbered, Numbering, Takes, TakenAs}
 use Rattle.verdict_faces.proofs.Passing.{numbers_long}
 use Rattle.verdict_faces.proofs.Held.{rows_held}
 
@@ -43,22 +41,19 @@ module _ {faces rows : List ℕ} {count n : ℕ} {fs cs : List Loop} (hf : Holds
 
 -- ---- the answers
 
-module _ {faces rows numbers₀ numbers : List ℕ} {count n : ℕ} {r : Marked} (p : Numbering faces count rows n numbers₀ numbers r) where
-  abbrev said : Marked → Type 0
-  said = NumberedAs (rows_in faces count) (rows_in rows n) count n numbers
-
+module _ {faces rows numbers₀ numbers : List ℕ} {count n : ℕ} where
   -- some face is no candidate
-  pub answer-21 : {i : ℕ} → r ≡ M.At i
-      → NamedIs faces count rows n numbers₀ numbers (N.Refused (record { number = No.NotCandidate; place = i }))
-  answer-21 e = record {
+  pub answer-21 : {i : ℕ} → Numbering faces count rows n numbers₀ numbers (Err i)
+      → NamedIs faces count rows n numbers₀ numbers (Err (record { number = No.NotCandidate; place = i }))
+  answer-21 p = record {
     long = p.long;
-    same = λ fs cs hf hc. stops No.NotCandidate _ (sym (subst said e p.said) ∙ unknown-held hf hc);
+    same = λ fs cs hf hc. stops No.NotCandidate _ (sym p.said ∙ unknown-held hf hc);
   }
 
   -- all are
-  module _ (q : Naming faces count rows n numbers₀) {turned : Wide} (e : r ≡ M.All turned) where
+  module _ (q : Naming faces count rows n numbers₀) {turned : Wide} (p : Numbering faces count rows n numbers₀ numbers (Ok turned)) where
     all : AllNumbered (rows_in faces count) (rows_in rows n) count n numbers turned
-    all = subst said e p.said
+    all = p.said
 
     below : (i : ℕ) → i < count → get_or numbers i 0 < n
     unfolding not_candidate
@@ -86,31 +81,25 @@ module _ {faces rows numbers₀ numbers : List ℕ} {count n : ℕ} {r : Marked}
       past-21 : none ≡ not_candidate (length cs) (listed cs fs).numbers
       past-21 = sym all.known ∙ unknown-held hf hc
 
-    module _ {s : Marked} (t : TakenAs numbers count s) where
-      -- a face is there twice
-      pub answer-22 : {i : ℕ} → s ≡ M.At i
-          → NamedIs faces count rows n numbers₀ numbers (N.Refused (record { number = No.FaceTwice; place = i }))
-      answer-22 w = record {
-        long = p.long;
-        same = λ fs cs hf hc.
-            stops No.FaceTwice [] (sym (subst (TakenAs numbers count) w t) ∙ ap face_twice (numbers_are hf hc))
-            ∙ passes No.NotCandidate _ (past-21 hf hc);
-      }
+    -- a face is there twice
+    pub answer-22 : {i : ℕ} → TakenAs numbers count (Err i)
+        → NamedIs faces count rows n numbers₀ numbers (Err (record { number = No.FaceTwice; place = i }))
+    answer-22 t = record {
+      long = p.long;
+      same = λ fs cs hf hc.
+          stops No.FaceTwice [] (sym t ∙ ap face_twice (numbers_are hf hc)) ∙ passes No.NotCandidate _ (past-21 hf hc);
+    }
 
-      -- none is
-      pub answer-are : {taken : Wide} → s ≡ M.All taken
-          → NamedIs faces count rows n numbers₀ numbers (N.Are (record { taken = taken; turned = turned }))
-      answer-are {taken} w =
-          let o = subst (TakenAs numbers count) w t in
-          record {
-            long = p.long;
-            same = λ fs cs hf hc. record {
-              fine =
-                  clear ∙ passes No.FaceTwice [] (sym o.once ∙ ap face_twice (numbers_are hf hc))
-                  ∙ passes No.NotCandidate _ (past-21 hf hc);
-              numbers_are = numbers_are hf hc;
-              taken_is =
-                  subst (wides.Is taken) (ap (mask_of n) (numbers_are hf hc) ∙ taken-held hf hc) (o.taken_is n q.few_candidates below);
-              turned_is = subst (wides.Is turned) (turned-held hf hc) all.turned_is;
-            };
-          }
+    -- none is
+    pub answer-are : {taken : Wide} → TakenAs numbers count (Ok taken)
+        → NamedIs faces count rows n numbers₀ numbers (Ok (record { taken = taken; turned = turned }))
+    answer-are {taken} t = record {
+      long = p.long;
+      same = λ fs cs hf hc. record {
+        fine =
+            clear ∙ passes No.FaceTwice [] (sym t.once ∙ ap face_twice (numbers_are hf hc)) ∙ passes No.NotCandidate _ (past-21 hf hc);
+        numbers_are = numbers_are hf hc;
+        taken_is = subst (wides.Is taken) (ap (mask_of n) (numbers_are hf hc) ∙ taken-held hf hc) (t.taken_is n q.few_candidates below);
+        turned_is = subst (wides.Is turned) (turned-held hf hc) all.turned_is;
+      };
+    }

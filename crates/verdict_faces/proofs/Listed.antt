@@ -1,15 +1,14 @@
--- A list of faces that passes 21 and 22: each is a candidate, no two are one, and the masks are as long as the candidates. For the
--- caller, which goes on to 23.
-use mathlib.Core.Path.{◌≡◌, refl, sym, ap, ◌∙◌}
+-- A list of faces that passes 21 and 22: each is a candidate, and the mask of the taken ones is as long as the candidates. For the caller,
+-- which goes on to 23.
+use mathlib.Core.Path.{◌≡◌, refl, ap, ◌∙◌}
 use mathlib.Core.List.{List, []}
 use Prim.Native.Nat.{ℕ, ◌<◌}
 use native.Mathlib.Omega.{arith}
 use lib.ListN.{length, get_or}
-use Rattle.paper.specs.Refusals as No
-use Rattle.paper.specs.Refusals.{first_of}
+use Rattle.paper.specs.declared.Number.TheVariants as No
+use Rattle.paper.specs.Refusals.{first_of, Fine}
 use Rattle.paper.specs.Loops.{Loop}
 use Rattle.paper.specs.Verdict.{mask_of, listed}
-use Rattle.paper.specs.declared.Answer.TheVariants.{Fine}
 use Rattle.paper_laws.proofs.Checks.{found_none}
 use Rattle.means_check.proofs.Numbers.{row_length}
 use Rattle.means_check.proofs.Numbered.{Numbered, numbered, numbers_length, number_of_lem}
@@ -26,10 +25,6 @@ module _ (cs : List Loop) (fs : List (List ℕ)) where
   pub taken_long : length (listed cs fs).taken ≡ length cs
   taken_long = ap length taken_mask ∙ row_length (length cs) ks
 
-  pub turned_long : length (listed cs fs).turned ≡ length cs
-  unfolding listed
-  turned_long = row_length (length cs) _
-
   pub listed_long : length ks ≡ length fs
   unfolding listed
   listed_long = numbers_length cs fs
@@ -45,8 +40,3 @@ module _ (cs : List Loop) (fs : List (List ℕ)) where
     pub named_below : (i : ℕ) → i < length fs → get_or ks i 0 < length cs
     unfolding listed
     named_below i h = omega (arith, number_of_lem cs fs i h, passed.known i h)
-
-    -- and no two are one
-    pub named_once : (i j : ℕ) → i < length fs → j < length fs → get_or ks i 0 ≡ get_or ks j 0 → i ≡ j
-    unfolding listed
-    named_once i j hi hj s = passed.apart i j hi hj (sym (number_of_lem cs fs i hi) ∙ s ∙ number_of_lem cs fs j hj)

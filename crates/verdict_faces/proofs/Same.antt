@@ -52,7 +52,8 @@ module _ (a b : List ℕ) where
 
 -- ---- a face and row k of others
 
-module _ {faces : List ℕ} {r : ℕ} {w : Way} {rows : List ℕ} {k : ℕ} (c : Compared faces r w rows k) {n : ℕ} (e : n ≡ corner_count faces r) where
+module _ {faces : List ℕ} {r : ℕ} {w : Way} {rows : List ℕ} {k : ℕ} (c : Compared faces r w rows k) {n : ℕ}
+    (e : n ≡ corner_count faces r) where
   abbrev form : Loop
   form = normal_form (row_at faces r)
 

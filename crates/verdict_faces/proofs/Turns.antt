@@ -57,7 +57,8 @@ pub face-corner : {table : List ℕ} {r : ℕ} → FaceIn table r → (i : ℕ) 
     → get_or table (row_bytes * r + 1 + i) 0 ≡ get_or (row_at table r) i 0
 face-corner {table} {r} f = corner-at table r f.room f.most
 
-pub lowest_in : {table : List ℕ} {r m : ℕ} → FaceIn table r → m ≡ lowest_at (row_at table r) (length (row_at table r)) → m < corner_count table r
+pub lowest_in : {table : List ℕ} {r m : ℕ} → FaceIn table r → m ≡ lowest_at (row_at table r) (length (row_at table r))
+    → m < corner_count table r
 lowest_in {table} {r} f e =
     let l = face_long f in
     omega (arith, f.least, e, lowest-below (row_at table r) (length (row_at table r)) (omega (arith, f.least)))
@@ -110,7 +111,8 @@ module _ (f : List ℕ) where
     from_low = ap (from_place f) e
 
     -- the corners beside the lowest decide the direction
-    pub onward_by : {n a z : ℕ} → n ≡ length f → a ≡ get_or (from_place f m) 1 0 → z ≡ get_or (from_place f m) (n - 1) 0 → ltb a z ≡ onward f
+    pub onward_by : {n a z : ℕ} → n ≡ length f → a ≡ get_or (from_place f m) 1 0 → z ≡ get_or (from_place f m) (n - 1) 0
+        → ltb a z ≡ onward f
     unfolding onward
     onward_by {n} {a} {z} l p q =
         (λ i. ltb (p i) (q i))

@@ -1,17 +1,15 @@
 -- A list of faces and the candidates of a drawing, each in rows: 21 and 22, or which candidates the faces are.
-use Rattle.std.specs.Prelude.{List, [], ◌∷◌, ◌≡◌, ℕ, ◌≤◌, ◌<◌, length, take}
+use Rattle.std.specs.Prelude.{List, [], ◌∷◌, ◌≡◌, ℕ, ◌≤◌, ◌<◌, length, take, Ok, Err, Result}
 use Rattle.sets.specs.Sets.{wides}
 use Rattle.paper.specs.Numbers.{most_faces, most_corners, most_candidates, face_room}
-use Rattle.paper.specs.Refusals as No
-use Rattle.paper.specs.Refusals.{Check, check, first_of}
+use Rattle.paper.specs.declared.Number.TheVariants as No
+use Rattle.paper.specs.Refusals.{Check, check, first_of, Fine}
 use Rattle.paper.specs.Loops.{Loop, loop_at}
 use Rattle.paper.specs.Verdict.{listed, not_candidate, face_twice}
-use Rattle.paper.specs.declared.Answer.TheVariants as Answer
+use Rattle.paper.specs.declared.Refusal.{Refusal}
 use Rattle.loop_table.specs.Tables.{HoldsRows}
 use Rattle.verdict_faces.specs.Form.{FaceIn}
 use Rattle.verdict_faces.specs.declared.selection.Selection.{Selection}
-use Rattle.verdict_faces.specs.declared.selection.Named.{Named}
-use Rattle.verdict_faces.specs.declared.selection.Named.TheVariants as N
 
 -- count rows of 3 to 12 corners each, rows for n candidates, and room for the numbers
 pub record Naming (faces : List ℕ) (count : ℕ) (rows : List ℕ) (n : ℕ) (numbers : List ℕ) : Type 0 where
@@ -35,16 +33,17 @@ named_checks cs fs =
 
 -- neither applies: the numbers in list order, the candidates that are taken, and those of them that are turned
 pub record Selected (cs : List Loop) (fs : List (List ℕ)) (count : ℕ) (numbers : List ℕ) (s : Selection) : Type 0 where
-  pub fine : Answer.Fine ≡ first_of (named_checks cs fs)
+  pub fine : Fine ≡ first_of (named_checks cs fs)
   pub numbers_are : take count numbers ≡ (listed cs fs).numbers
   pub taken_is : wides.Is s.taken (listed cs fs).taken
   pub turned_is : wides.Is s.turned (listed cs fs).turned
 
-abbrev pub NamedAs : List Loop → List (List ℕ) → ℕ → List ℕ → Named → Type 0
-NamedAs cs fs count numbers (N.Refused r) = Answer.Refused r ≡ first_of (named_checks cs fs)
-NamedAs cs fs count numbers (N.Are s) = Selected cs fs count numbers s
+abbrev pub NamedAs : List Loop → List (List ℕ) → ℕ → List ℕ → Result Selection Refusal → Type 0
+NamedAs cs fs count numbers (Err r) = Err r ≡ first_of (named_checks cs fs)
+NamedAs cs fs count numbers (Ok s) = Selected cs fs count numbers s
 
 -- of all faces and all candidates that the rows hold
-pub record NamedIs (faces : List ℕ) (count : ℕ) (rows : List ℕ) (n : ℕ) (numbers₀ numbers : List ℕ) (r : Named) : Type 0 where
+pub record NamedIs (faces : List ℕ) (count : ℕ) (rows : List ℕ) (n : ℕ) (numbers₀ numbers : List ℕ)
+    (r : Result Selection Refusal) : Type 0 where
   pub long : length numbers ≡ length numbers₀
   pub same : (fs cs : List Loop) → HoldsTable faces count fs → HoldsTable rows n cs → NamedAs cs fs count numbers r

@@ -1,5 +1,5 @@
 -- What each pass over a list of faces answers: the place that 21 or 22 finds, or the candidates that it marked.
-use Rattle.std.specs.Prelude.{Bool, not, List, map, ◌≡◌, ℕ, ◌≤◌, ◌<◌, length, get_or, take}
+use Rattle.std.specs.Prelude.{Bool, not, List, map, ◌≡◌, ℕ, ◌≤◌, ◌<◌, length, get_or, take, Ok, Err, Result}
 use Rattle.std.proofs.Math.Option.{none, some}
 use Rattle.lists.specs.Lists.{filter}
 use Rattle.sets.specs.Sets.{wides, Wide}
@@ -7,8 +7,6 @@ use Rattle.paper.specs.Numbers.{most_faces, most_candidates}
 use Rattle.paper.specs.Loops.{Loop}
 use Rattle.paper.specs.Verdict.{onward, number_in, mask_of, not_candidate, face_twice}
 use Rattle.verdict_faces.specs.Form.{rows_in}
-use Rattle.verdict_faces.specs.declared.selection.Marked.{Marked}
-use Rattle.verdict_faces.specs.declared.selection.Marked.TheVariants as M
 
 -- ---- the first: the number of each face
 
@@ -24,11 +22,11 @@ pub record AllNumbered (fs cs : List Loop) (count n : ℕ) (numbers : List ℕ) 
   pub numbers_are : take count numbers ≡ numbers_of cs fs
   pub turned_is : wides.Is s (turned_faces n cs fs)
 
-abbrev pub NumberedAs : List Loop → List Loop → ℕ → ℕ → List ℕ → Marked → Type 0
-NumberedAs fs cs count n numbers (M.At i) = not_candidate n (numbers_of cs fs) ≡ some i
-NumberedAs fs cs count n numbers (M.All s) = AllNumbered fs cs count n numbers s
+abbrev pub NumberedAs : List Loop → List Loop → ℕ → ℕ → List ℕ → Result Wide ℕ → Type 0
+NumberedAs fs cs count n numbers (Err i) = not_candidate n (numbers_of cs fs) ≡ some i
+NumberedAs fs cs count n numbers (Ok s) = AllNumbered fs cs count n numbers s
 
-pub record Numbering (faces : List ℕ) (count : ℕ) (rows : List ℕ) (n : ℕ) (numbers₀ numbers : List ℕ) (r : Marked) : Type 0 where
+pub record Numbering (faces : List ℕ) (count : ℕ) (rows : List ℕ) (n : ℕ) (numbers₀ numbers : List ℕ) (r : Result Wide ℕ) : Type 0 where
   pub long : length numbers ≡ length numbers₀
   pub said : NumberedAs (rows_in faces count) (rows_in rows n) count n numbers r
 
@@ -42,8 +40,9 @@ pub record Takes (numbers : List ℕ) (count : ℕ) : Type 0 where
 
 pub record TakenOnce (numbers : List ℕ) (count : ℕ) (s : Wide) : Type 0 where
   pub once : face_twice (take count numbers) ≡ none
-  pub taken_is : (n : ℕ) → n ≤ most_candidates → ((i : ℕ) → i < count → get_or numbers i 0 < n) → wides.Is s (mask_of n (take count numbers))
+  pub taken_is : (n : ℕ) → n ≤ most_candidates → ((i : ℕ) → i < count → get_or numbers i 0 < n)
+      → wides.Is s (mask_of n (take count numbers))
 
-abbrev pub TakenAs : List ℕ → ℕ → Marked → Type 0
-TakenAs numbers count (M.At i) = face_twice (take count numbers) ≡ some i
-TakenAs numbers count (M.All s) = TakenOnce numbers count s
+abbrev pub TakenAs : List ℕ → ℕ → Result Wide ℕ → Type 0
+TakenAs numbers count (Err i) = face_twice (take count numbers) ≡ some i
+TakenAs numbers count (Ok s) = TakenOnce numbers count s

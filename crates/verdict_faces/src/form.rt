@@ -22,12 +22,10 @@ fn lowest_at(table: &[u8], r: usize) -> usize
     let n = count(table, r);
     let first = ROW * r + 1;
     let mut m = 0;
-    let mut k = 0;
-    while k < n {
+    for k in 0..n {
         if table[first + k] < table[first + m] {
             m = k;
         }
-        k += 1;
     }
     m
 }

@@ -19,12 +19,10 @@ fn is_row(faces: &[u8], r: usize, way: Way, rows: &[u8], k: usize) -> bool
         return false;
     }
     let first = ROW * k + 1;
-    let mut i = 0;
-    while i < n {
+    for i in 0..n {
         if corner(faces, r, way, i) != rows[first + i] {
             return false;
         }
-        i += 1;
     }
     true
 }
@@ -34,12 +32,10 @@ pub fn number_in(faces: &[u8], r: usize, way: Way, rows: &[u8], n: usize) -> usi
     requires { Sought faces.now r way rows.now n }
     ensures { result ≡ number_in (rows_in rows.now n) (row_at faces.now r) }
 {
-    let mut k = 0;
-    while k < n {
+    for k in 0..n {
         if is_row(faces, r, way, rows, k) {
             return k;
         }
-        k += 1;
     }
     n
 }

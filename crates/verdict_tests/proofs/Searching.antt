@@ -6,10 +6,10 @@ use mathlib.Core.Path.{◌≡◌, sym, ◌∙◌}
 use Prim.Native.Nat.{ℕ, ◌+◌, ◌≤◌, ◌<◌}
 use Rattle.lists.specs.Lists.{lowest}
 use Rattle.lists.proofs.Search.{LowestLeft, lowest_start, lowest_hit, lowest_miss, lowest-end}
-use Rattle.paper.specs.Refusals.{refuse}
+use Rattle.paper.specs.declared.Number.{Number}
+use Rattle.paper.specs.Refusals.{refuse, Fine}
 use Rattle.paper.specs.Solids.{Tables}
 use Rattle.paper.specs.Verdict.{Listed}
-use Rattle.paper.specs.declared.Answer.TheVariants.{Fine}
 use Rattle.paper_laws.proofs.Checks.{clear, stops, passes}
 use Rattle.verdict_tests.specs.Tests.{ToldAt}
 
@@ -31,7 +31,7 @@ module _ (P : Tables → Listed → Type 0) (p : Tables → Listed → ℕ → B
   pub asking_next : (i : ℕ) → i < n → Asking P p n i → Offends P p i false → Asking P p n (i + 1)
   asking_next i h a o t l w = lowest_miss (p t l) n i h (a t l w) (o t l w)
 
-  module _ (number : ℕ) (place : Tables → Listed → Option ℕ) (f : Finds P p n place) where
+  module _ (number : Number) (place : Tables → Listed → Option ℕ) (f : Finds P p n place) where
     pub asking_hit : (i : ℕ) → i < n → Asking P p n i → Offends P p i true → ToldAt P number place (refuse number i)
     asking_hit i h a o t l w = stops number [] (sym (f t l w ∙ lowest_hit (p t l) n i h (a t l w) (o t l w)))
 

@@ -9,11 +9,11 @@ use Rattle.exact.proofs.Signs.{lt_is, lt_yes}
 use Rattle.sets.specs.Sets.{Wide}
 use Rattle.sets.specs.Word.{count}
 use Rattle.paper.specs.Points.{above}
-use Rattle.paper.specs.Refusals.{Inward, refuse}
+use Rattle.paper.specs.declared.Number.TheVariants.{Inward}
+use Rattle.paper.specs.Refusals.{refuse, Fine}
 use Rattle.paper.specs.Solids.{Tables, six_from}
 use Rattle.paper.specs.Verdict as Paper
 use Rattle.paper.specs.Verdict.{Listed}
-use Rattle.paper.specs.declared.Answer.TheVariants.{Fine}
 use Rattle.paper_laws.proofs.Checks.{clear, holds, fails}
 use Rattle.fast_leaf.proofs.Sums.{six_on_lem}
 use Rattle.walk_leaf.specs.Tests.{Weighs}

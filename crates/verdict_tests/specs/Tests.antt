@@ -1,16 +1,15 @@
 -- Refusals 23 to 27 on words, of every list of faces that the words stand for.
-use Rattle.std.specs.Prelude.{true, List, [], ◌∷◌, ◌++◌, ◌≡◌, ℕ, ◌≤◌, ◌<◌, ℤ, length, get_or, take}
+use Rattle.std.specs.Prelude.{true, List, [], ◌∷◌, ◌≡◌, ℕ, ◌≤◌, ◌<◌, ℤ, length, get_or, take}
 use Rattle.std.proofs.Math.Option.{Option, none}
 use Rattle.sets.specs.Word.{dig}
 use Rattle.sets.specs.Sets.{wides, Wide}
 use Rattle.paper.specs.Numbers.{most_edges, most_faces, most_candidates}
-use Rattle.paper.specs.Refusals as No
-use Rattle.paper.specs.Refusals.{Check, check, first_of}
+use Rattle.paper.specs.declared.Number.{Number}
+use Rattle.paper.specs.declared.Number.TheVariants as No
+use Rattle.paper.specs.Refusals.{Check, check, first_of, Answer}
 use Rattle.paper.specs.Solids.{Tables}
 use Rattle.paper.specs.Verdict as Paper
 use Rattle.paper.specs.Verdict.{Listed}
-use Rattle.paper.specs.declared.Answer.{Answer}
-use Rattle.paper.specs.declared.Answer.TheVariants as Answer
 use Rattle.walk_tables.specs.Words.{Masks, Sides, Sixes, SmallSixes, WalkTables, Lent}
 use Rattle.walk_leaf.specs.Faces.{Edges}
 
@@ -53,12 +52,8 @@ test_checks t l =
 
 -- ---- an answer on all tables and lists that P says are meant
 
-abbrev pub ToldAt : (Tables → Listed → Type 0) → ℕ → (Tables → Listed → Option ℕ) → Answer → Type 0
+abbrev pub ToldAt : (Tables → Listed → Type 0) → Number → (Tables → Listed → Option ℕ) → Answer → Type 0
 ToldAt P number place r = (t : Tables) (l : Listed) → P t l → r ≡ first_of (check number (place t l) ∷ [])
-
--- the first that applies of two lists of checks, one behind the other
-abbrev pub FirstOf : Answer → Answer → Answer → Type 0
-FirstOf a b r = (cs ds : List Check) → a ≡ first_of cs → (Answer.Fine ≡ first_of cs → b ≡ first_of ds) → r ≡ first_of (cs ++ ds)
 
 -- ---- what the words stand for that each check asks. 23 and 24, edge by edge
 

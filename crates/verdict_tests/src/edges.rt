@@ -1,27 +1,25 @@
 // Refusals 23 and 24, edge by edge: EdgeCount, not in two faces of the list; Direction, both run one way. Assumes at most 64 edges.
 ghost use Rattle.std.specs.Prelude.{◌≤◌};
 ghost use Rattle.paper.specs.Numbers.{most_edges};
-ghost use Rattle.paper.specs.Refusals as No;
+ghost use Rattle.paper.specs.declared.Number.TheVariants as No;
 ghost use Rattle.verdict_tests.specs.Tests.{ToldAt, Counting, Running, edge_count_of, direction_of};
 
-use paper::{Answer, DIRECTION, EDGE_COUNT, MOST_EDGES};
+use paper::{MOST_EDGES, Number, Refusal};
 use paper_values::refused;
 use sets::Wide;
 use walk_leaf::once_each_way;
 
-pub fn edge_count(on: &[u64; MOST_EDGES], m: usize, taken: Wide) -> Answer
+pub fn edge_count(on: &[u64; MOST_EDGES], m: usize, taken: Wide) -> Result<(), Refusal>
     requires { m ≤ most_edges }
     ensures { ToldAt (Counting on.now m taken) No.EdgeCount edge_count_of result }
 {
-    let mut e = 0;
-    while e < m {
+    for e in 0..m {
         let mine = Wide::at(on, e).and(taken);
         if mine.count() != 2 {
-            return refused(EDGE_COUNT, e);
+            return refused(Number::EdgeCount, e);
         }
-        e += 1;
     }
-    Answer::Fine
+    Ok(())
 }
 
 pub fn direction(
@@ -30,17 +28,15 @@ pub fn direction(
     m: usize,
     taken: Wide,
     turned: Wide,
-) -> Answer
+) -> Result<(), Refusal>
     requires { m ≤ most_edges }
     ensures { ToldAt (Running on.now up.now m taken turned) No.Direction direction_of result }
 {
-    let mut e = 0;
-    while e < m {
+    for e in 0..m {
         let mask = Wide::at(on, e);
         if !once_each_way(mask, Wide::at(up, e), taken, turned) {
-            return refused(DIRECTION, e);
+            return refused(Number::Direction, e);
         }
-        e += 1;
     }
-    Answer::Fine
+    Ok(())
 }

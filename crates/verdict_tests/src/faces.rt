@@ -3,11 +3,11 @@
 ghost use Rattle.std.specs.Prelude.{◌<◌, get_or};
 ghost use Rattle.walk_leaf.specs.Faces.{FromFace};
 ghost use Rattle.paper.specs.Numbers.{most_candidates};
-ghost use Rattle.paper.specs.Refusals as No;
+ghost use Rattle.paper.specs.declared.Number.TheVariants as No;
 ghost use Rattle.verdict_tests.specs.Tests.{SomeFaces, ToldAt, Joining, Clashing, pieces_of, clash_of};
 
 use lists::wide;
-use paper::{Answer, CLASH, MOST_CANDIDATES, MOST_EDGES, MOST_FACES, PIECES};
+use paper::{MOST_CANDIDATES, MOST_EDGES, MOST_FACES, Number, Refusal};
 use paper_values::refused;
 use sets::Wide;
 use walk_leaf::faces::{Going, from_face};
@@ -33,21 +33,19 @@ pub fn pieces(
     numbers: &[u8; MOST_FACES],
     count: usize,
     taken: Wide,
-) -> Answer
+) -> Result<(), Refusal>
     requires { SomeFaces numbers.now count }
     ensures { ToldAt (Joining on.now up.now sides.now numbers.now count taken)
         No.Pieces pieces_of result }
 {
     let g = from_first(on, up, sides, numbers, taken);
     let reached = g.reached;
-    let mut i = 0;
-    while i < count {
+    for i in 0..count {
         if !reached.has(wide(numbers[i])) {
-            return refused(PIECES, i);
+            return refused(Number::Pieces, i);
         }
-        i += 1;
     }
-    Answer::Fine
+    Ok(())
 }
 
 pub fn clash(
@@ -55,17 +53,15 @@ pub fn clash(
     numbers: &[u8; MOST_FACES],
     count: usize,
     taken: Wide,
-) -> Answer
+) -> Result<(), Refusal>
     requires { SomeFaces numbers.now count }
     ensures { ToldAt (Clashing clashes.now numbers.now count taken) No.Clash clash_of result }
 {
-    let mut f = 0;
-    while f < count {
+    for f in 0..count {
         let clashing = Wide::at(clashes, wide(numbers[f])).and(taken);
         if !clashing.is_empty() {
-            return refused(CLASH, f);
+            return refused(Number::Clash, f);
         }
-        f += 1;
     }
-    Answer::Fine
+    Ok(())
 }

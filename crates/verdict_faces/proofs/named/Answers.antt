@@ -3,21 +3,14 @@
 use Rattle.verdict_faces.proofs.Answers.{answer-21, all_taken, answer-22, answer-are}
 use Rattle.verdict_faces.proofs.named.Goals as goal
 
--- ---- the needs
+pub returns-in-Err : goal.returns-in-Err
+returns-in-Err c = rw c.refused.ensures (answer-21 c.in-Err.ensures)
 
-pub returns-in-At : goal.returns-in-At
-returns-in-At c = answer-21 c.number_faces-numbered.ensures c.in-At.is
+pub take_each-requires : goal.take_each-requires
+take_each-requires c = all_taken c.requires c.in-Ok.ensures
 
-pub take_each-each-requires : goal.take_each-each-requires
-take_each-each-requires c =
-    all_taken c.number_faces-numbered.ensures c.requires c.in-All.is
+pub returns-in-Err-take_each : goal.returns-in-Err-take_each
+returns-in-Err-take_each c = rw c.refused-in-Err-take_each.ensures (answer-22 c.requires c.in-Ok.ensures c.in-Err-take_each.ensures)
 
-pub returns-in-At-each : goal.returns-in-At-each
-returns-in-At-each c =
-    answer-22 c.number_faces-numbered.ensures c.requires c.in-All.is c.take_each-each.ensures
-    c.in-At-each.is
-
-pub returns-in-All-each : goal.returns-in-All-each
-returns-in-All-each c =
-    answer-are c.number_faces-numbered.ensures c.requires c.in-All.is c.take_each-each.ensures
-    c.in-All-each.is
+pub returns-in-Ok-take_each : goal.returns-in-Ok-take_each
+returns-in-Ok-take_each c = answer-are c.requires c.in-Ok.ensures c.in-Ok-take_each.ensures

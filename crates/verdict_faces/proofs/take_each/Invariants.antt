@@ -1,11 +1,7 @@
 -- `verdict_faces::take_each`: the loop keeps that the set has the numbers passed, and that none of them was there twice.
-use Prim.Native.Nat.{◌-◌, ◌≤◌}
 use Rattle.verdict_faces.specs.Passes.{Takes}
 use Rattle.verdict_faces.proofs.Passing.{Passed}
 use Rattle.verdict_faces.proofs.take_each.Given as goal
 
 abbrev pub invariant-loop-i : goal.invariant-loop-i
-invariant-loop-i l = (l.i ≤ l.count) × ((q : Takes l.numbers l.count) → Passed q l.taken l.i)
-
-abbrev pub decreases-loop-i : goal.decreases-loop-i
-decreases-loop-i l = l.count - l.i
+invariant-loop-i l = (q : Takes l.numbers l.count) → Passed q l.taken l.i

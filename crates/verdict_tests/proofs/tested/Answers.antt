@@ -1,18 +1,31 @@
--- `verdict_tests::tested`: the answers of the five checks, and the first of them that refuses (`Testing`).
-use Rattle.walk_tables.specs.Words.{WalkTables, walk_tables}
-use Rattle.verdict_tests.proofs.Testing.{tests}
+-- `verdict_tests::tested`: each way out is one of the laws (`Testing`); that the checks before it are passed is known there.
+use Rattle.std.proofs.Common.{rules}
+use Rattle.std.proofs.lemmas.Result.{err_from_is_err_and}
+use Rattle.verdict_tests.proofs.Testing.{refused_23, refused_24, refused_25, refused_26, last_27}
 use Rattle.verdict_tests.proofs.tested.Goals as goal
 
--- the tables that were lent
-abbrev lent : goal.After-first_of-4 → WalkTables
-lent c = let a = c.args in walk_tables a.on.now a.up.now a.sides.now a.clashes.now a.sixes.now
+pub returns-in_err-edge_count : goal.returns-in_err-edge_count
+returns-in_err-edge_count c =
+    let p = err_from_is_err_and c.from_residual.result c.from_residual.ensures.1 in
+    rw (p.1, p.2) (refused_23 _ _ _ _ _ _ c.in_err-edge_count.ensures)
 
--- ---- the needs
+pub returns-in_err-direction : goal.returns-in_err-direction
+returns-in_err-direction c =
+    let f = c.from_residual-in_err-direction in
+    let p = err_from_is_err_and f.result f.ensures.1 in
+    rw (p.1, p.2) (refused_24 _ _ _ _ _ _ (search rules) c.in_err-direction.ensures)
+
+pub returns-in_err-pieces : goal.returns-in_err-pieces
+returns-in_err-pieces c =
+    let f = c.from_residual-in_err-pieces in
+    let p = err_from_is_err_and f.result f.ensures.1 in
+    rw (p.1, p.2) (refused_25 _ _ _ _ _ _ (search rules) (search rules) c.in_err-pieces.ensures)
+
+pub returns-in_err-inward : goal.returns-in_err-inward
+returns-in_err-inward c =
+    let f = c.from_residual-in_err-inward in
+    let p = err_from_is_err_and f.result f.ensures.1 in
+    rw (p.1, p.2) (refused_26 _ _ _ _ _ _ (search rules) (search rules) (search rules) c.in_err-inward.ensures)
 
 pub returns : goal.returns
-returns c =
-    let a = c.args in
-    tests (lent c) a.m a.numbers.now a.count a.taken a.turned
-    c.edge_count-counted.ensures c.direction-ways.ensures c.pieces-joined.ensures
-    c.inward-outward.ensures c.clash-apart.ensures c.first_of.ensures
-    c.first_of-2.ensures c.first_of-3.ensures c.first_of-4.ensures
+returns c = last_27 _ _ _ _ _ _ (search rules) (search rules) (search rules) (search rules) c.clash.ensures

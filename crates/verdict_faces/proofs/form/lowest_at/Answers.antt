@@ -20,7 +20,7 @@ pub overflow_add-first : goal.overflow_add-first
 overflow_add-first c = omega (arith, c.requires.room)
 
 pub loop-k-init : goal.loop-k-init
-loop-k-init c = (omega arith, (lowest_zero _, omega (arith, c.requires.least, c.count-n.ensures)))
+loop-k-init c = (lowest_zero _, omega (arith, c.requires.least, c.count-n.ensures))
 
 pub overflow_add-first-in-loop-k : goal.overflow_add-first-in-loop-k
 overflow_add-first-in-loop-k c = omega (arith, c.requires.room, c.requires.most, c.count-n.ensures)
@@ -38,16 +38,16 @@ pub loop-k-preserved : goal.loop-k-preserved
 loop-k-preserved c =
     let n = c.count-n.ensures in
     let f = c.requires in
-    let e = c.loop-k.invariant.1.0 in
+    let e = c.loop-k.invariant.0 in
     elim c.if-table-first.branch [
       | then-table-first y ↦
-          (omega arith, (y.m-is ∙ lowest_new f e (omega (arith, n)) (omega (arith, n)) y.if-table-first.true, omega (arith, y.m-is)))
+          (y.m-is ∙ lowest_new f e (omega (arith, n)) (omega (arith, n)) y.if-table-first.true, omega (arith, y.m-is))
       | else-table-first y ↦
-          (omega arith, (y.m-is ∙ lowest_kept f e (omega (arith, n)) (omega (arith, n)) y.if-table-first.false, omega (arith, y.m-is)))
+          (y.m-is ∙ lowest_kept f e (omega (arith, n)) (omega (arith, n)) y.if-table-first.false, omega (arith, y.m-is))
     ]
 
 pub returns : goal.returns
 returns c =
     let f = row_at c.args.table.now c.args.r in
     let k : c.loop-k.k ≡ length f = omega (arith, face_long c.requires, c.count-n.ensures) in
-    c.loop-k.invariant.1.0 ∙ ap (lowest_at f) k
+    c.loop-k.invariant.0 ∙ ap (lowest_at f) k

@@ -5,19 +5,11 @@ use native.Mathlib.Omega.{arith}
 use Rattle.polygon.specs.Rings.{corner_count}
 use Rattle.verdict_faces.proofs.Same.{row_other, row_differs, row_goes_on, row_same}
 use Rattle.verdict_faces.proofs.number.is_row.Goals as goal
+use Rattle.verdict_faces.proofs.number.is_row.Goals.{Else-count-n}
 
--- ---- in the loop the two counts are one
-one-count : (c : goal.Then-corner-rows)
-    → let a = c.args in corner_count a.rows.now a.k ≡ c.count-n.result
+-- behind the first test the two counts are one
+one-count : (c : Else-count-n) → corner_count c.args.rows.now c.args.k ≡ c.count-n.result
 one-count c = omega (arith, c.count.ensures, c.if-count-n.false)
-
-one-count-2 : (c : goal.Else-corner-rows)
-    → let a = c.args in corner_count a.rows.now a.k ≡ c.count-n.result
-one-count-2 c = omega (arith, c.count.ensures, c.if-count-n.false)
-
-one-count-3 : (c : goal.After-loop-i)
-    → let a = c.args in corner_count a.rows.now a.k ≡ c.count-n.result
-one-count-3 c = omega (arith, c.count.ensures, c.if-count-n.false)
 
 -- ---- the needs
 
@@ -38,7 +30,7 @@ pub overflow_add-first : goal.overflow_add-first
 overflow_add-first c = omega (arith, c.requires.there)
 
 pub loop-i-init : goal.loop-i-init
-loop-i-init c = (omega arith, refl)
+loop-i-init c = refl
 
 pub corner-requires : goal.corner-requires
 corner-requires c =
@@ -57,17 +49,14 @@ bounds-rows-first c =
 
 pub returns-then-corner-rows : goal.returns-then-corner-rows
 returns-then-corner-rows c =
-    row_differs c.requires c.count-n.ensures (one-count c) c.loop-i.i (omega arith)
-    c.loop-i.invariant.1 c.corner.ensures c.if-corner-rows.true
+    row_differs c.requires c.count-n.ensures (one-count (goal.at.returns-then-corner-rows c).Else-count-n) c.loop-i.i (omega arith)
+    c.loop-i.invariant c.corner.ensures c.if-corner-rows.true
 
 pub loop-i-preserved : goal.loop-i-preserved
-loop-i-preserved c = (
-  omega arith,
-  row_goes_on c.requires c.count-n.ensures (one-count-2 c) c.loop-i.i (omega arith)
-      c.loop-i.invariant.1 c.corner.ensures c.if-corner-rows.false,
-)
+loop-i-preserved c =
+    row_goes_on c.requires c.count-n.ensures (one-count (goal.at.loop-i-preserved c).Else-count-n) c.loop-i.i (omega arith)
+    c.loop-i.invariant c.corner.ensures c.if-corner-rows.false
 
 pub returns : goal.returns
 returns c =
-    row_same c.requires c.count-n.ensures (one-count-3 c) c.loop-i.i (omega arith)
-    c.loop-i.invariant.1
+    row_same c.requires c.count-n.ensures (one-count (goal.at.returns c).Else-count-n) c.loop-i.i (omega arith) c.loop-i.invariant

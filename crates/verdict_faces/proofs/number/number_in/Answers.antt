@@ -3,10 +3,8 @@ use native.Mathlib.Omega.{arith}
 use Rattle.verdict_faces.proofs.Same.{first-start, first_hit, first_miss, first-end}
 use Rattle.verdict_faces.proofs.number.number_in.Goals as goal
 
--- ---- the needs
-
 pub loop-k-init : goal.loop-k-init
-loop-k-init c = (omega arith, first-start _ _ _ _)
+loop-k-init c = first-start _ _ _ _
 
 pub is_row-requires : goal.is_row-requires
 is_row-requires c =
@@ -14,12 +12,10 @@ is_row-requires c =
     record { face = p.face; way = p.way; there = omega (arith, p.there) }
 
 pub returns-then-is_row : goal.returns-then-is_row
-returns-then-is_row c =
-    first_hit _ _ _ _ c.loop-k.k c.loop-k.invariant.1 (omega arith) c.is_row.ensures c.if-is_row.true
+returns-then-is_row c = first_hit _ _ _ _ c.loop-k.k c.loop-k.invariant (omega arith) c.is_row.ensures c.if-is_row.true
 
 pub loop-k-preserved : goal.loop-k-preserved
-loop-k-preserved c =
-    (omega arith, first_miss _ _ _ _ c.loop-k.k c.loop-k.invariant.1 (omega arith) c.is_row.ensures c.if-is_row.false)
+loop-k-preserved c = first_miss _ _ _ _ c.loop-k.k c.loop-k.invariant (omega arith) c.is_row.ensures c.if-is_row.false
 
 pub returns : goal.returns
-returns c = let t = c.loop-k in first-end _ _ _ _ t.k t.invariant.1 (omega arith)
+returns c = first-end _ _ _ _ c.loop-k.k c.loop-k.invariant (omega arith)
