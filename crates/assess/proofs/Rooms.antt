@@ -7,19 +7,17 @@ use borrow.Author.Tests.{le-ltb}
 use lib.Dec.{eqb, ltb}
 use lib.ListN.{length}
 use Rattle.paper.specs.Numbers.{most_work, face_room, solid_room, Limits}
-use Rattle.paper.specs.Refusals as No
-use Rattle.paper.specs.Refusals.{Check, check, offends, first_of}
+use Rattle.paper.specs.declared.Number.TheVariants as No
+use Rattle.paper.specs.Refusals.{value_of, Check, check, offends, first_of, Answer, Reading}
 use Rattle.paper.specs.Drawing.{Wire, drawing_checks}
 use Rattle.paper.specs.Loops.{Loop, loops, uncovering, loop_checks}
 use Rattle.paper.specs.Solids.{Tables, tables_of}
 use Rattle.paper.specs.Walk.{Status, Log, search}
 use Rattle.paper.specs.Conversion.{Converted, accepted, reported, concluded, entry_checks, or_convert, conversion}
 use Rattle.paper.specs.Reading.{conversion_says, reading_of, reading_says}
-use Rattle.paper.specs.declared.Answer.{Answer}
-use Rattle.paper.specs.declared.Answer.TheVariants as Answer
+use Rattle.std.specs.Prelude.{Ok, Err}
 use Rattle.paper.specs.declared.Conversion.{Conversion}
 use Rattle.paper.specs.declared.Conversion.TheVariants as Conversion
-use Rattle.paper.specs.declared.Reading.{Reading}
 use Rattle.reading.specs.Exact.{Exactly}
 use Rattle.reading.specs.Shown.{shown_of}
 use Rattle.means_volume.specs.Bound.{ReadExactly}
@@ -36,7 +34,7 @@ module _ (faces solids faces' solids' : List ℕ) where
   concluded-same : (l : ℕ) (cs : List Loop) (t : Tables) (log : Log)
       → (concluded l cs t log faces solids).answer ≡ (concluded l cs t log faces' solids').answer
   unfolding concluded
-  concluded-same l cs t log = go (eqb log.ended No.Many) (eqb log.ended No.TooLong)
+  concluded-same l cs t log = go (eqb log.ended (value_of No.Many)) (eqb log.ended (value_of No.TooLong))
     where
       go : (a b : Bool)
           → (cond a (record { answer = Conversion.Many l (length cs) log.work; faces = faces; solids = solids })
@@ -51,8 +49,8 @@ module _ (faces solids faces' solids' : List ℕ) where
 
   or_same : (a : Answer) (c c' : Converted) → c.answer ≡ c'.answer
       → (or_convert a faces solids c).answer ≡ (or_convert a faces' solids' c').answer
-  or_same Answer.Fine c c' e = e
-  or_same (Answer.Refused r) c c' e = refl
+  or_same (Ok _) c c' e = e
+  or_same (Err r) c c' e = refl
 
   module _ (f : face_room ≤ length faces) (s : solid_room ≤ length solids) (f' : face_room ≤ length faces') (s' : solid_room ≤ length solids') where
     entry-same : (limit : ℕ) → entry_checks limit faces solids ≡ entry_checks limit faces' solids'

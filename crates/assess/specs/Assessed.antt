@@ -5,7 +5,7 @@ use Rattle.paper.specs.Conversion.{Converted}
 use Rattle.paper.specs.Reading.{conversion_says, reading_of, reading_says}
 use Rattle.paper.specs.declared.Conversion.{Conversion}
 use Rattle.paper.specs.declared.Conversion.TheVariants as Conversion
-use Rattle.paper.specs.declared.Reading.{Reading}
+use Rattle.paper.specs.Refusals.{Reading}
 use Rattle.reading.specs.Exact.{Exactly}
 use Rattle.reading.specs.Shown.{shown_of}
 

@@ -7,14 +7,13 @@ use borrow.Author.Tests.{lt-ltb, le-ltb, ltb-false}
 use lib.Dec.{ltb}
 use lib.ListN.{length}
 use Rattle.paper.specs.Numbers.{most_work, face_room, solid_room, documented}
-use Rattle.paper.specs.Refusals as No
-use Rattle.paper.specs.Refusals.{Check, first_of, refuse}
+use Rattle.paper.specs.declared.Number.TheVariants as No
+use Rattle.paper.specs.Refusals.{Check, first_of, refuse, Answer, Fine}
 use Rattle.paper.specs.Drawing.{Wire, drawing_checks}
 use Rattle.paper.specs.Loops.{loops, candidates, loop_checks}
 use Rattle.paper.specs.Conversion.{Converted, entry_checks, or_convert, concluded, conversion}
 use Rattle.paper.specs.Reading.{conversion_says}
-use Rattle.paper.specs.declared.Answer.{Answer}
-use Rattle.paper.specs.declared.Answer.TheVariants as Answer
+use Rattle.std.specs.Prelude.{Err}
 use Rattle.paper.specs.declared.Conversion.{Conversion}
 use Rattle.paper.specs.declared.Conversion.TheVariants as Conversion
 use Rattle.paper.specs.declared.Refusal.{Refusal}
@@ -50,7 +49,7 @@ module _ (limit f s : ℕ) where
           ∙ fails No.NoRoom 1 _ (le-ltb (length solids) solid_room (omega (arith, g, q)))
           ∙ fails No.NoRoom 0 _ (le-ltb (length faces) face_room (omega (arith, h, p)))
 
-      pub enters : limit ≤ most_work → Entered limit f s Answer.Fine
+      pub enters : limit ≤ most_work → Entered limit f s Fine
       unfolding entry_checks
       enters l faces solids p q =
           clear ∙ fails No.BadLimit 0 _ (le-ltb most_work limit l)
@@ -60,7 +59,7 @@ module _ (limit f s : ℕ) where
 -- ---- 11 to 19, or a report
 
 -- a refusal leaves the rooms as they came
-pub refuses : (a : Answer) (r : Refusal) (faces solids : List ℕ) (c : Converted) → Answer.Refused r ≡ a
+pub refuses : (a : Answer) (r : Refusal) (faces solids : List ℕ) (c : Converted) → Err r ≡ a
     → at_exit (Conversion.Refused r) faces solids ≡ or_convert a faces solids c
 refuses a r faces solids c e = ap (λ (x : Answer). or_convert x faces solids c) e
 
@@ -95,21 +94,21 @@ module _ (form : List Check) (d : Wire) (limit : ℕ) (faces solids : List ℕ) 
       ap (λ (a : Answer). or_convert a faces solids (concluded (length (loops d)) (candidates d) (tables_in d) (log_of d limit) faces solids))
       (e ∙ ap first_of in_order)
 
-  pub stops_at-entry : {r : Refusal} → Answer.Refused r ≡ first_of entry
+  pub stops_at-entry : {r : Refusal} → Err r ≡ first_of entry
       → at_exit (Conversion.Refused r) faces solids ≡ conversion documented form d limit faces solids
   stops_at-entry e = decides (first_stops entry _ e)
 
-  module _ (ok : Answer.Fine ≡ first_of entry) where
-    pub stops_at-form : {r : Refusal} → Answer.Refused r ≡ first_of form
+  module _ (ok : Fine ≡ first_of entry) where
+    pub stops_at-form : {r : Refusal} → Err r ≡ first_of form
         → at_exit (Conversion.Refused r) faces solids ≡ conversion documented form d limit faces solids
     stops_at-form e = decides (first_stops form _ e ∙ first_passes entry _ ok)
 
-    pub goes_behind : Answer.Fine ≡ first_of form → behind d limit faces solids ≡ conversion documented form d limit faces solids
+    pub goes_behind : Fine ≡ first_of form → behind d limit faces solids ≡ conversion documented form d limit faces solids
     goes_behind e = decides (first_passes form (checks_of d) e ∙ first_passes entry _ ok)
 
 -- ---- what 1 and 2 let through has room
 
-pub roomy_enough : (limit : ℕ) (faces solids : List ℕ) → Answer.Fine ≡ first_of (entry_checks limit faces solids)
+pub roomy_enough : (limit : ℕ) (faces solids : List ℕ) → Fine ≡ first_of (entry_checks limit faces solids)
     → (face_room ≤ length faces) × (solid_room ≤ length solids)
 unfolding entry_checks
 roomy_enough limit faces solids ok =
@@ -129,13 +128,13 @@ module _ (form : List Check) (d : Wire) (limit : ℕ) (faces₀ solids₀ : List
       → Left r faces solids
   says e = (e, ap (λ (x : Converted). conversion_says x.answer) e)
 
-  pub stopped : {r : Refusal} → Answer.Refused r ≡ first_of (entry_checks limit faces₀ solids₀) → Left (Conversion.Refused r) faces₀ solids₀
+  pub stopped : {r : Refusal} → Err r ≡ first_of (entry_checks limit faces₀ solids₀) → Left (Conversion.Refused r) faces₀ solids₀
   stopped e = says (stops_at-entry form d limit faces₀ solids₀ e)
 
-  module _ (ok : Answer.Fine ≡ first_of (entry_checks limit faces₀ solids₀)) where
-    pub stopped_at-form : {r : Refusal} → Answer.Refused r ≡ first_of form → Left (Conversion.Refused r) faces₀ solids₀
+  module _ (ok : Fine ≡ first_of (entry_checks limit faces₀ solids₀)) where
+    pub stopped_at-form : {r : Refusal} → Err r ≡ first_of form → Left (Conversion.Refused r) faces₀ solids₀
     stopped_at-form e = says (stops_at-form form d limit faces₀ solids₀ ok e)
 
-    pub gone_behind : {r : Conversion} {faces solids : List ℕ} → Answer.Fine ≡ first_of form
+    pub gone_behind : {r : Conversion} {faces solids : List ℕ} → Fine ≡ first_of form
         → at_exit r faces solids ≡ behind d limit faces₀ solids₀ → Left r faces solids
     gone_behind e w = says (w ∙ goes_behind form d limit faces₀ solids₀ ok e)

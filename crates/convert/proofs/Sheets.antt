@@ -5,13 +5,12 @@ use Prim.Native.Nat.{ℕ, ◌≤◌}
 use lib.IntN.{ℤ}
 use lib.ListN.{length}
 use Rattle.paper.specs.Numbers.{face_room, solid_room}
-use Rattle.paper.specs.Refusals.{first_of}
+use Rattle.paper.specs.Refusals.{first_of, Fine}
 use Rattle.paper.specs.Format.{coordinates_in, ends_in, edition_of}
 use Rattle.paper.specs.Sheet.{sheet_checks, read_sheet}
 use Rattle.paper.specs.Drawing.{wire}
-use Rattle.paper.specs.declared.Answer.TheVariants.{Fine}
 use Rattle.paper.specs.declared.Conversion.{Conversion}
-use Rattle.paper.specs.declared.Sheet.{Sheet}
+use Rattle.paper.specs.Sheet.{Sheet}
 use Rattle.walk_input.specs.Given.{coordinates_of, links_of}
 use Rattle.walk_input.proofs.Given.{sheet_given, sheet-lists}
 use Rattle.convert.specs.Converts.{at_exit, behind, ConvertsLists, DrawingAt}

@@ -6,13 +6,12 @@ use native.Mathlib.Omega.{arith}
 use lib.IntN.{ℤ}
 use lib.ListN.{length}
 use Rattle.paper.specs.Numbers.{most_solids, face_room}
-use Rattle.paper.specs.Refusals.{first_of}
+use Rattle.paper.specs.Refusals.{first_of, Fine}
 use Rattle.paper.specs.Sheet.{lent_checks}
 use Rattle.paper.specs.Drawing.{Wire, wire}
 use Rattle.paper.specs.Loops.{candidates}
 use Rattle.paper.specs.Walk.{search}
 use Rattle.paper.specs.Conversion.{accepted}
-use Rattle.paper.specs.declared.Answer.TheVariants.{Fine}
 use Rattle.loop_table.proofs.Loops.{candidates_of_lem}
 use Rattle.loop_table.proofs.Rows.{rows-kept}
 use Rattle.walk_tables.specs.Words.{WalkTables}

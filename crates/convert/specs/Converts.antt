@@ -1,11 +1,10 @@
 -- What a conversion says and leaves in the two rooms.
 use Rattle.std.specs.Prelude.{List, ◌≡◌, ℕ, ◌≤◌, ℤ, length}
 use Rattle.paper.specs.Numbers.{face_room, solid_room}
-use Rattle.paper.specs.Refusals.{first_of}
+use Rattle.paper.specs.Refusals.{first_of, Answer}
 use Rattle.paper.specs.Drawing.{Wire, wire}
 use Rattle.paper.specs.Loops.{loops, candidates}
 use Rattle.paper.specs.Conversion.{Converted, entry_checks, or_convert, concluded}
-use Rattle.paper.specs.declared.Answer.{Answer}
 use Rattle.paper.specs.declared.Conversion.{Conversion}
 use Rattle.paper.specs.declared.Drawing.{Drawing}
 use Rattle.paper_laws.specs.InRange.{Held, PassedLists}

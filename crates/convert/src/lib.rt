@@ -10,28 +10,26 @@ ghost use Rattle.walk_input.specs.Given.{coordinates_of, links_of};
 ghost use Rattle.convert.specs.Converts.{at_exit, Entered, Converting, ConvertsLists, DrawingAt};
 
 use drawing_lists::lend::lent;
-use paper::{
-    Answer, BAD_LIMIT, Conversion, Drawing, FACE_ROOM, FILL, MOST_WORK, NO_ROOM, SOLID_ROOM,
-};
+use paper::{Conversion, Drawing, FACE_ROOM, FILL, MOST_WORK, Number, Refusal, SOLID_ROOM};
 use paper_values::refused;
 use report::concluded;
 use sheet_reader::read_sheet;
-use walked::{Walked, walk_drawing};
+use walked::walk_drawing;
 
 // Refusals 1 and 2, by the sizes of the two rooms.
-fn entered(limit: u64, faces: usize, solids: usize) -> Answer
+fn entered(limit: u64, faces: usize, solids: usize) -> Result<(), Refusal>
     ensures { Entered limit faces solids result }
 {
     if faces < FACE_ROOM {
-        return refused(NO_ROOM, 0);
+        return refused(Number::NoRoom, 0);
     }
     if solids < SOLID_ROOM {
-        return refused(NO_ROOM, 1);
+        return refused(Number::NoRoom, 1);
     }
     if MOST_WORK < limit {
-        return refused(BAD_LIMIT, 0);
+        return refused(Number::BadLimit, 0);
     }
-    Answer::Fine
+    Ok(())
 }
 
 // Refusals 11 to 19, or a report, of lists that passed 1 to 10.
@@ -48,10 +46,9 @@ fn converted(
 {
     let mut rows = [FILL; FACE_ROOM];
     let mut out = [0u64; SOLID_ROOM];
-    let walked = walk_drawing(xyz, ends, limit, &mut rows, &mut out);
-    match walked {
-        Walked::Refused(r) => Conversion::Refused(r),
-        Walked::Done(c, t) => concluded(c.loops, c.candidates, &rows, t, &out, faces, solids),
+    match walk_drawing(xyz, ends, limit, &mut rows, &mut out) {
+        Err(r) => Conversion::Refused(r),
+        Ok((c, t)) => concluded(c.loops, c.candidates, &rows, t, &out, faces, solids),
     }
 }
 
@@ -68,15 +65,11 @@ pub fn convert(
     ensures said { conversion_says result ≡ conversion_says
         (convert_lists xyz.now ends.now limit faces.old solids.old).answer }
 {
-    let entry = entered(limit, faces.len(), solids.len());
-    match entry {
-        Answer::Refused(r) => return Conversion::Refused(r),
-        Answer::Fine => {}
+    if let Err(r) = entered(limit, faces.len(), solids.len()) {
+        return Conversion::Refused(r);
     }
-    let form = lent(xyz, ends);
-    match form {
-        Answer::Refused(r) => return Conversion::Refused(r),
-        Answer::Fine => {}
+    if let Err(r) = lent(xyz, ends) {
+        return Conversion::Refused(r);
     }
     converted(xyz, ends, limit, faces, solids)
 }
@@ -101,16 +94,11 @@ pub fn convert_sheet(sheet: &[u8], limit: u64, faces: &mut [u8], solids: &mut [u
     ensures said { conversion_says result ≡ conversion_says
         (convert_sheet sheet.now limit faces.old solids.old).answer }
 {
-    let entry = entered(limit, faces.len(), solids.len());
-    match entry {
-        Answer::Refused(r) => return Conversion::Refused(r),
-        Answer::Fine => {}
+    if let Err(r) = entered(limit, faces.len(), solids.len()) {
+        return Conversion::Refused(r);
     }
-    let read = read_sheet(sheet);
-    let form = read.answer;
-    match form {
-        Answer::Refused(r) => return Conversion::Refused(r),
-        Answer::Fine => {}
+    match read_sheet(sheet) {
+        Err(r) => Conversion::Refused(r),
+        Ok(drawing) => drawing_converted(drawing, limit, faces, solids),
     }
-    drawing_converted(read.drawing, limit, faces, solids)
 }

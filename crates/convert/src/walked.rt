@@ -6,13 +6,7 @@ use paper::{FACE_ROOM, MOST_CANDIDATES, MOST_EDGES, Refusal, SOLID_ROOM};
 use walk::search;
 use walk::tally::Tally;
 use walk_input::rows::Counts;
-use walk_input::{Tabled, tables};
-
-#[derive(Clone, Copy)]
-pub enum Walked {
-    Refused(Refusal),
-    Done(Counts, Tally),
-}
+use walk_input::tables;
 
 pub fn walk_drawing(
     xyz: &[i64],
@@ -20,7 +14,7 @@ pub fn walk_drawing(
     limit: u64,
     rows: &mut [u8; FACE_ROOM],
     out: &mut [u64; SOLID_ROOM],
-) -> Walked
+) -> Result<(Counts, Tally), Refusal>
     requires { WalkedAt xyz.now ends.now rows.old out.old }
     ensures { WalkedIs xyz.now ends.now limit rows.old rows.new
         out.old out.new result }
@@ -30,7 +24,7 @@ pub fn walk_drawing(
     let mut sides = [0u64; MOST_CANDIDATES];
     let mut clashes = [0u64; MOST_CANDIDATES];
     let mut sixes = [0i64; MOST_CANDIDATES];
-    let tabled = tables(
+    let c = tables(
         xyz,
         ends,
         rows,
@@ -39,14 +33,9 @@ pub fn walk_drawing(
         &mut sides,
         &mut clashes,
         &mut sixes,
-    );
-    match tabled {
-        Tabled::Refused(r) => Walked::Refused(r),
-        Tabled::Ready(c) => {
-            let m = ends.len() / 2;
-            let n = c.candidates;
-            let t = search(&on, &up, m, &sides, &clashes, &sixes, n, limit, out);
-            Walked::Done(c, t)
-        }
-    }
+    )?;
+    let m = ends.len() / 2;
+    let n = c.candidates;
+    let t = search(&on, &up, m, &sides, &clashes, &sixes, n, limit, out);
+    Ok((c, t))
 }

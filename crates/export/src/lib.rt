@@ -20,7 +20,6 @@ use export_words::lent::handed;
 use export_words::volume::show;
 use export_words::words::{conversion_said, refusal_said, tell, verdict_said, written_said};
 use faces_writer::write_faces;
-use paper::Answer;
 use sheet_reader::read_sheet;
 use sheet_writer::write_sheet;
 use verdict::{check, check_sheet};
@@ -30,11 +29,9 @@ pub fn nibgravel_read_sheet(sheet: &[u8], xyz: &mut [i64], ends: &mut [u8], said
     ensures { ReadsAs (read_into sheet.now xyz.old ends.old) result
         xyz.new ends.new said.old said.new }
 {
-    let read = read_sheet(sheet);
-    let answer = read.answer;
-    match answer {
-        Answer::Refused(r) => tell(refusal_said(r), said),
-        Answer::Fine => handed(read.drawing, xyz, ends, said),
+    match read_sheet(sheet) {
+        Err(r) => tell(refusal_said(r), said),
+        Ok(drawing) => handed(drawing, xyz, ends, said),
     }
 }
 

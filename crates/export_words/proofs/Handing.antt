@@ -8,16 +8,15 @@ use borrow.Author.Tests.{lt-ltb, le-ltb}
 use lib.Dec.{ltb}
 use lib.IntN.{ℤ}
 use lib.ListN.{length, take, drop}
-use Rattle.paper.specs.Refusals as No
-use Rattle.paper.specs.Refusals.{Check, check, offends, first_of}
+use Rattle.paper.specs.declared.Number.TheVariants as No
+use Rattle.paper.specs.Refusals.{Check, check, offends, first_of, Answer, Fine}
 use Rattle.paper.specs.Format.{vertices_in, edges_in, coordinates_in, ends_in, edition_of}
 use Rattle.paper.specs.Sheet.{sheet_checks, read_sheet}
 use Rattle.paper.specs.Reading.{fine, refused}
-use Rattle.paper.specs.declared.Answer.{Answer}
-use Rattle.paper.specs.declared.Answer.TheVariants as Answer
+use Rattle.std.specs.Prelude.{Err}
 use Rattle.paper.specs.declared.Drawing.{Drawing}
 use Rattle.paper.specs.declared.Refusal.{Refusal}
-use Rattle.paper.specs.declared.Sheet.{Sheet}
+use Rattle.paper.specs.Sheet.{Sheet}
 use Rattle.paper_laws.specs.InRange.{Held}
 use Rattle.paper_laws.proofs.Checks.{first_stops, first_passes}
 use Rattle.rooms.specs.Rooms.{copied}
@@ -89,7 +88,7 @@ module _ (d : Drawing) (held : Held d) (xyz₀ : List ℤ) (ends₀ : List ℕ) 
 module _ (s : List ℕ) (xyz₀ : List ℤ) (ends₀ : List ℕ) {r : ℕ} {words₀ words : List ℕ} where
   -- it was refused
   pub sheet-refused : {x : Said} {f : Refusal} → ToldBy x r words₀ words → SaidIs x (refused f)
-      → Answer.Refused f ≡ first_of (sheet_checks (edition_of s) s) → ReadsAs (read_into s xyz₀ ends₀) r xyz₀ ends₀ words₀ words
+      → Err f ≡ first_of (sheet_checks (edition_of s) s) → ReadsAs (read_into s xyz₀ ends₀) r xyz₀ ends₀ words₀ words
   unfolding read_into
   sheet-refused {x} {f} told h e =
       let points = coordinates_in (edition_of s) s in
@@ -99,7 +98,7 @@ module _ (s : List ℕ) (xyz₀ : List ℤ) (ends₀ : List ℕ) {r : ℕ} {word
       (record { xyz_are = refl; ends_are = refl; tells = told (refused f) h })
 
   -- its lists stand in front of the arrays of the drawing that was read
-  pub sheet-handed : {y : Sheet} {xyz : List ℤ} {ends : List ℕ} → y ≡ read_sheet s → Answer.Fine ≡ first_of (sheet_checks (edition_of s) s)
+  pub sheet-handed : {y : Sheet} {xyz : List ℤ} {ends : List ℕ} → y ≡ read_sheet s → Fine ≡ first_of (sheet_checks (edition_of s) s)
       → Handed y.drawing xyz₀ ends₀ r xyz ends words₀ words → ReadsAs (read_into s xyz₀ ends₀) r xyz ends words₀ words
   unfolding read_into
   sheet-handed {y} {xyz} {ends} e ok h =

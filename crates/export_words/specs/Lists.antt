@@ -1,12 +1,10 @@
 -- A sheet read into two lent lists: "Reading a sheet applies refusals 3 to 10", and then 1 where a list is too short.
-use Rattle.std.specs.Prelude.{List, [], ◌∷◌, ◌++◌, ◌≡◌, ℕ, ◌*◌, ltb, ℤ, length, take, drop}
-use Rattle.paper.specs.Refusals as No
-use Rattle.paper.specs.Refusals.{Check, check, offends, first_of}
+use Rattle.std.specs.Prelude.{List, [], ◌∷◌, ◌++◌, ◌≡◌, ℕ, ◌*◌, ltb, ℤ, length, take, drop, Ok, Err}
+use Rattle.paper.specs.declared.Number.TheVariants as No
+use Rattle.paper.specs.Refusals.{Check, check, offends, first_of, Answer}
 use Rattle.paper.specs.Format.{vertices_in, edges_in, coordinates_in, ends_in, edition_of}
 use Rattle.paper.specs.Sheet.{sheet_checks}
 use Rattle.paper.specs.Reading.{Said, fine, refused}
-use Rattle.paper.specs.declared.Answer.{Answer}
-use Rattle.paper.specs.declared.Answer.TheVariants as Answer
 use Rattle.paper.specs.declared.Drawing.{Drawing}
 use Rattle.export_words.specs.Words.{Tells}
 
@@ -25,12 +23,12 @@ room_checks points links xyz ends =
 
 -- by what the checks say, of v vertices and e edges: a refusal leaves the lists as they came, and later room keeps its contents
 abbrev pub read_for : Answer → ℕ → ℕ → List ℤ → List ℕ → List ℤ → List ℕ → Read
-read_for Answer.Fine v e points links xyz ends = record {
+read_for (Ok _) v e points links xyz ends = record {
   said = fine (v ∷ e ∷ []);
   xyz = points ++ drop (length points) xyz;
   ends = links ++ drop (length links) ends;
 }
-read_for (Answer.Refused r) v e points links xyz ends = record { said = refused r; xyz = xyz; ends = ends }
+read_for (Err r) v e points links xyz ends = record { said = refused r; xyz = xyz; ends = ends }
 
 unfoldable pub read_into : List ℕ → List ℤ → List ℕ → Read
 read_into s xyz ends =

@@ -3,8 +3,8 @@ ghost use Rattle.paper_laws.specs.InRange.{Held};
 ghost use Rattle.export_words.specs.Lists.{Handed};
 
 use super::words::{counts_said, refusal_said, tell};
-use paper::{Drawing, NO_ROOM, Refusal};
-use rooms::{copy_bytes, copy_numbers};
+use paper::{Drawing, Number, Refusal};
+use rooms::copy;
 
 // Refusal 1 where a list is too short, or both lists and the counts.
 pub fn handed(d: Drawing, xyz: &mut [i64], ends: &mut [u8], said: &mut [u64]) -> u64
@@ -16,21 +16,21 @@ pub fn handed(d: Drawing, xyz: &mut [i64], ends: &mut [u8], said: &mut [u64]) ->
     let n = 2 * d.edges;
     if xyz.len() < m {
         let short = refusal_said(Refusal {
-            number: NO_ROOM,
+            number: Number::NoRoom,
             place: 0,
         });
         return tell(short, said);
     }
     if ends.len() < n {
         let short = refusal_said(Refusal {
-            number: NO_ROOM,
+            number: Number::NoRoom,
             place: 1,
         });
         return tell(short, said);
     }
     let points = d.xyz;
     let links = d.ends;
-    copy_numbers(&points, m, xyz);
-    copy_bytes(&links, n, ends);
+    copy(&points, m, xyz);
+    copy(&links, n, ends);
     tell(counts_said(d.vertices, d.edges), said)
 }

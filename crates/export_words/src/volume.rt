@@ -2,19 +2,19 @@
 ghost use Rattle.paper.specs.Reading.{reading_says};
 ghost use Rattle.export_words.specs.Volume.{Shows};
 
-use paper::Reading;
+use paper::Number;
 
 // The number that says why nothing was assessed, 0 where there is a volume.
-pub fn show(r: Reading, volume: &mut [f64]) -> u64
+pub fn show(r: Result<f64, Number>, volume: &mut [f64]) -> u64
     ensures { Shows (reading_says r) result volume.old volume.new }
 {
     match r {
-        Reading::Volume(v) => {
+        Ok(v) => {
             if 0 < volume.len() {
                 volume[0] = v;
             }
             0
         }
-        Reading::NotAssessed(n) => n as u64,
+        Err(n) => u64::from(n),
     }
 }

@@ -1,10 +1,11 @@
 // An answer as words: document 01's number, its place, and the values that come with it. Assumes nothing.
 ghost use Rattle.std.specs.Prelude.{[], ◌∷◌};
+ghost use Rattle.paper.specs.Refusals.{value_of};
 ghost use Rattle.paper.specs.Reading.{fine, refused, written_says, conversion_says, verdict_says};
 ghost use Rattle.export_words.specs.Words.{SaidIs, Telling, ToldBy};
 
-use paper::{Conversion, MANY, NO_SOLID, Refusal, TOO_LONG, Verdict, Written};
-use rooms::copy_words;
+use paper::{Conversion, Number, Refusal};
+use rooms::copy;
 
 // Number and place, and at most five values.
 pub const MOST_SAID: usize = 7;
@@ -19,30 +20,30 @@ pub fn refusal_said(r: Refusal) -> Said
     ensures { SaidIs result (refused r) }
 {
     Said {
-        words: [r.number as u64, r.place as u64, 0, 0, 0, 0, 0],
+        words: [u64::from(r.number), r.place as u64, 0, 0, 0, 0, 0],
         count: 2,
     }
 }
 
-pub fn written_said(w: Written) -> Said
+pub fn written_said(w: Result<usize, Refusal>) -> Said
     ensures { SaidIs result (written_says w) }
 {
     match w {
-        Written::Bytes(n) => Said {
+        Ok(n) => Said {
             words: [0, 0, n as u64, 0, 0, 0, 0],
             count: 3,
         },
-        Written::Refused(r) => refusal_said(r),
+        Err(r) => refusal_said(r),
     }
 }
 
 // Of 17 to 19: the work is the place.
-fn ended_said(number: u8, loops: usize, candidates: usize, work: u64) -> Said
-    ensures { SaidIs result (record { number = number; place = work; values = loops ∷ candidates ∷ [] }) }
+fn ended_said(number: Number, loops: usize, candidates: usize, work: u64) -> Said
+    ensures { SaidIs result (record { number = value_of number; place = work; values = loops ∷ candidates ∷ [] }) }
 {
     Said {
         words: [
-            number as u64,
+            u64::from(number),
             work,
             loops as u64,
             candidates as u64,
@@ -88,28 +89,28 @@ pub fn conversion_said(c: Conversion) -> Said
             loops,
             candidates,
             work,
-        } => ended_said(NO_SOLID, loops, candidates, work),
+        } => ended_said(Number::NoSolid, loops, candidates, work),
         Conversion::Many {
             loops,
             candidates,
             work,
-        } => ended_said(MANY, loops, candidates, work),
+        } => ended_said(Number::Many, loops, candidates, work),
         Conversion::TooLong {
             loops,
             candidates,
             work,
-        } => ended_said(TOO_LONG, loops, candidates, work),
+        } => ended_said(Number::TooLong, loops, candidates, work),
         Conversion::Refused(r) => refusal_said(r),
     }
 }
 
 // An accepted list has no number in the table.
-pub fn verdict_said(v: Verdict) -> Said
+pub fn verdict_said(v: Result<(), Refusal>) -> Said
     ensures { SaidIs result (verdict_says v) }
 {
     match v {
-        Verdict::Refused(r) => refusal_said(r),
-        Verdict::Accepted => Said {
+        Err(r) => refusal_said(r),
+        Ok(()) => Said {
             words: [0, 0, 0, 0, 0, 0, 0],
             count: 2,
         },
@@ -135,9 +136,9 @@ pub fn tell(s: Said, room: &mut [u64]) -> u64
     let count = s.count;
     let reach = room.len();
     if reach < count {
-        copy_words(&words, reach, room);
+        copy(&words, reach, room);
         return words[0];
     }
-    copy_words(&words, count, room);
+    copy(&words, count, room);
     words[0]
 }

@@ -6,6 +6,7 @@ use Rattle.paper.specs.declared.Conversion.TheVariants as Conversion
 use Rattle.walk_tables.specs.Words.{WalkTables}
 use Rattle.walk.specs.Walk.{Searched}
 use Rattle.walk.specs.declared.tally.Tally.{Tally}
+use Rattle.paper.specs.Refusals.{value_of}
 use Rattle.convert.specs.Converts.{at_exit}
 
 -- the work of the whole walk, whose words are in the room
@@ -21,7 +22,7 @@ cost_of (Conversion.Several l c work k) = work
 cost_of (Conversion.NoSolid l c work) = work
 cost_of (Conversion.Many l c work) = work
 cost_of (Conversion.TooLong l c work) = work
-cost_of (Conversion.Refused f) = f.number
+cost_of (Conversion.Refused f) = value_of f.number
 
 -- it is that of the document's conversion, whose rooms these are
 pub record CostOf (xyz : List ℤ) (ends : List ℕ) (limit : ℕ) (faces₀ solids₀ : List ℕ) (r : ℕ) (faces solids : List ℕ) : Type 0 where

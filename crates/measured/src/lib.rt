@@ -17,16 +17,16 @@ ghost use Rattle.measured.specs.Costs.{WorkOf, cost_of, CostOf};
 
 use loop_words::PAIRS;
 use paper::{
-    Answer, Conversion, FACE_ROOM, LOOP_ROOM, MOST_CANDIDATES, MOST_EDGES, MOST_LOOPS,
-    MOST_VERTICES, SOLID_ROOM,
+    Conversion, FACE_ROOM, LOOP_ROOM, MOST_CANDIDATES, MOST_EDGES, MOST_LOOPS, MOST_VERTICES,
+    Refusal, SOLID_ROOM,
 };
 
-fn number_of(answer: Answer) -> u64
+fn number_of(answer: Result<(), Refusal>) -> u64
     ensures { result ≡ (answer_says answer).number }
 {
     match answer {
-        Answer::Refused(r) => r.number as u64,
-        Answer::Fine => 0,
+        Err(r) => u64::from(r.number),
+        Ok(()) => 0,
     }
 }
 
@@ -151,7 +151,7 @@ fn cost(answer: Conversion) -> u64
         Conversion::NoSolid { work, .. } => work,
         Conversion::Many { work, .. } => work,
         Conversion::TooLong { work, .. } => work,
-        Conversion::Refused(r) => r.number as u64,
+        Conversion::Refused(r) => u64::from(r.number),
     }
 }
 

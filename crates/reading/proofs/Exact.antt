@@ -9,7 +9,7 @@ use lib.Ieee.Fits.{up_pos, down_pos}
 use lib.Ieee.Scale.{round_same}
 use Rattle.paper.specs.Reading.{reading_of, volume}
 use Rattle.paper.specs.declared.Conversion.{Conversion}
-use Rattle.paper.specs.declared.Reading.TheVariants as Reading
+use Rattle.std.specs.Prelude.{Ok}
 use Rattle.reading.specs.Exact.{six_per_cubic_metre, most_exact, HeldExactly, ExactVolume}
 
 -- "both held exactly"
@@ -66,5 +66,5 @@ unfolding reading_of
 exact-volume c l k w six one h = record {
   dividend = held six h;
   divisor = held six_per_cubic_metre (lit≤ tt);
-  once = ap reading_of one ∙ ap Reading.Volume (volume_once six h);
+  once = ap reading_of one ∙ ap Ok (volume_once six h);
 }

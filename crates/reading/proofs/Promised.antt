@@ -2,8 +2,7 @@
 use Rattle.std.proofs.Common.{◌≡◌, sym, refl, ap, ◌∙◌, subst}
 use Rattle.paper.specs.Reading.{conversion_says, reading_of, reading_says}
 use Rattle.paper.specs.declared.Conversion.{Conversion}
-use Rattle.paper.specs.declared.Conversion.TheVariants as Conversion
-use Rattle.paper.specs.declared.Reading.{Reading}
+use Rattle.paper.specs.Refusals.{Reading}
 use Rattle.reading.specs.Exact.{ExactVolume}
 use Rattle.reading.specs.Shown.{shown_of}
 use Rattle.reading.proofs.Exact.{exact-volume}

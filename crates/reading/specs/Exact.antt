@@ -1,12 +1,10 @@
 -- "divided by 6,000,000, both held exactly, rounded once", as doubles have it.
-use Rattle.std.specs.Prelude.{◌≡◌, ℕ, ◌^◌, ◌≤◌, false, pos}
+use Rattle.std.specs.Prelude.{◌≡◌, ℕ, ◌^◌, ◌≤◌, false, pos, Ok}
 use Rattle.std.specs.Float.{binary64}
 use Rattle.std.specs.Float.Ieee.{of_int, prec, round}
 use Rattle.std.specs.Float.Ieee.Exact.{HasValue}
 use Rattle.paper.specs.declared.Conversion.{Conversion}
-use Rattle.paper.specs.declared.Conversion.TheVariants as Conversion
-use Rattle.paper.specs.declared.Reading.{Reading}
-use Rattle.paper.specs.declared.Reading.TheVariants as Reading
+use Rattle.paper.specs.Refusals.{Reading}
 
 -- "6,000,000": six volumes, in cubic centimetres, of a cubic metre
 abbrev pub six_per_cubic_metre : ℕ
@@ -24,7 +22,7 @@ HeldExactly n = HasValue (of_int binary64 (pos n)) false n 1
 pub record Exactly (six : ℕ) (r : Reading) : Type 0 where
   pub dividend : HeldExactly six
   pub divisor : HeldExactly six_per_cubic_metre
-  pub once : r ≡ Reading.Volume (round binary64 false six six_per_cubic_metre)
+  pub once : r ≡ Ok (round binary64 false six six_per_cubic_metre)
 
 -- the exact case of a reading
 abbrev pub ExactVolume : Conversion → Reading → Type 0

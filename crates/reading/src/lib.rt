@@ -6,7 +6,7 @@ ghost use Rattle.paper.specs.Reading.{conversion_says, reading_of, reading_says,
 ghost use Rattle.reading.specs.Exact.{ExactVolume};
 ghost use Rattle.reading.specs.Shown.{shown_of};
 
-use paper::{Conversion, Reading};
+use paper::{Conversion, Number};
 
 // Six volumes, in cubic centimetres, of a cubic metre.
 const SIX_PER_CUBIC_METRE: u64 = 6000000;
@@ -27,17 +27,17 @@ fn cubic_metres(six: u64) -> f64
 }
 
 // The reading of a conversion's answer.
-pub fn reading(c: Conversion) -> Reading
+pub fn reading(c: Conversion) -> Result<f64, Number>
     ensures result { result ≡ reading_of c }
     ensures said { reading_says result ≡ shown_of (conversion_says c) }
     ensures exact { ExactVolume c result }
 {
     match c {
-        Conversion::One { six, .. } => Reading::Volume(cubic_metres(six)),
-        Conversion::Several { .. } => Reading::NotAssessed(paper::AMBIGUOUS),
-        Conversion::NoSolid { .. } => Reading::NotAssessed(paper::NO_SOLID),
-        Conversion::Many { .. } => Reading::NotAssessed(paper::MANY),
-        Conversion::TooLong { .. } => Reading::NotAssessed(paper::TOO_LONG),
-        Conversion::Refused(r) => Reading::NotAssessed(r.number),
+        Conversion::One { six, .. } => Ok(cubic_metres(six)),
+        Conversion::Several { .. } => Err(Number::Ambiguous),
+        Conversion::NoSolid { .. } => Err(Number::NoSolid),
+        Conversion::Many { .. } => Err(Number::Many),
+        Conversion::TooLong { .. } => Err(Number::TooLong),
+        Conversion::Refused(r) => Err(r.number),
     }
 }

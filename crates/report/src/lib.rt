@@ -6,9 +6,9 @@ mod room;
 
 ghost use Rattle.report.specs.Concluded.{Concluding, ReportedAs, Concluded};
 
-use paper::{Conversion, FACE_ROOM, MANY, SET_WORDS, SOLID_ROOM, TOO_LONG};
+use paper::{Conversion, FACE_ROOM, SET_WORDS, SOLID_ROOM};
 use room::write_report;
-use walk::tally::Tally;
+use walk::tally::{End, Tally};
 
 // The word of a solid's record that is its six volumes.
 const SIX: usize = 2 * SET_WORDS;
@@ -68,20 +68,17 @@ pub fn concluded(
     ensures { Concluded loops n rows.now t out.now faces.old faces.new
         solids.old solids.new result }
 {
-    let ended = t.ended;
-    if ended == MANY {
-        return Conversion::Many {
-            loops: loops,
+    match t.ended {
+        Some(End::Many) => Conversion::Many {
+            loops,
             candidates: n,
             work: t.work,
-        };
-    }
-    if ended == TOO_LONG {
-        return Conversion::TooLong {
-            loops: loops,
+        },
+        Some(End::TooLong) => Conversion::TooLong {
+            loops,
             candidates: n,
             work: t.work,
-        };
+        },
+        None => reported(loops, n, rows, t, out, faces, solids),
     }
-    reported(loops, n, rows, t, out, faces, solids)
 }

@@ -2,7 +2,7 @@
 ghost use Rattle.report.specs.Room.{Writing, Wrote};
 
 use paper::{FACE_ROOM, ROW, SOLID_ROOM, WORDS};
-use rooms::{copy_bytes, copy_words};
+use rooms::copy;
 
 // "A report writes 13 bytes per candidate and three words per solid"
 pub fn write_report(
@@ -17,6 +17,6 @@ pub fn write_report(
     ensures { Wrote rows.now n out.now found faces.old faces.new
         solids.old solids.new }
 {
-    copy_bytes(rows, ROW * n, faces);
-    copy_words(out, WORDS * found, solids);
+    copy(rows, ROW * n, faces);
+    copy(out, WORDS * found, solids);
 }

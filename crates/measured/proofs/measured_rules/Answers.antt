@@ -1,7 +1,7 @@
 -- `measured::measured_rules`: the ends of a drawing in range are few enough for neighbour words, and what the rules answer has a number.
 use mathlib.Core.Path.{ap, ◌∙◌}
 use Rattle.paper.specs.Reading.{answer_says}
-use Rattle.paper.specs.declared.Answer.{Answer}
+use Rattle.paper.specs.Refusals.{Answer}
 use Rattle.drawing_links.proofs.Range.{few_ends}
 use Rattle.measured.proofs.measured_rules.Goals as goal
 

@@ -1,14 +1,14 @@
 -- `reading::reading`: each arm knows which answer it has, and at that answer the paper's reading computes.
 use Rattle.std.proofs.Common.{sym, ap, ◌∙◌}
 use Rattle.paper.specs.Reading.{reading_of}
-use Rattle.paper.specs.declared.Reading.TheVariants as Reading
+use Rattle.std.specs.Prelude.{Ok}
 use Rattle.reading.proofs.Promised.{promised}
 use Rattle.reading.proofs.reading.Goals as goal
 
 pub returns-in-One : goal.returns-in-One
 unfolding reading_of
 returns-in-One c =
-    let p = promised c.args.c _ (ap Reading.Volume c.cubic_metres.ensures ∙ sym (ap reading_of c.in-One.is)) in
+    let p = promised c.args.c _ (ap Ok c.cubic_metres.ensures ∙ sym (ap reading_of c.in-One.is)) in
     record { result = p.0; said = p.1; exact = p.2 }
 
 pub returns-in-Several : goal.returns-in-Several

@@ -23,4 +23,4 @@ pub returns : goal.returns
 returns c =
     let a = c.args in
     both-handed a.d c.requires a.xyz.now a.ends.now c.tell-2.ensures c.if-xyz-m.false c.if-ends-n.false
-    c.copy_numbers.ensures c.copy_bytes.ensures c.counts_said.ensures
+    c.copy.ensures c.copy-2.ensures c.counts_said.ensures

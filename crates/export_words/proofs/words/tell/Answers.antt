@@ -4,8 +4,8 @@ use Rattle.export_words.proofs.words.tell.Goals as goal
 
 pub returns-then-reach-count : goal.returns-then-reach-count
 returns-then-reach-count c =
-    λ s h. tells_short h c.args.room.now c.if-reach-count.true c.copy_words.ensures
+    λ s h. tells_short h c.args.room.now c.if-reach-count.true c.copy.ensures
 
 pub returns : goal.returns
 returns c =
-    λ s h. tells_whole h c.args.room.now c.if-reach-count.false c.copy_words-2.ensures
+    λ s h. tells_whole h c.args.room.now c.if-reach-count.false c.copy-2.ensures

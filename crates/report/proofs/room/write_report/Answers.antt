@@ -3,4 +3,4 @@ use Rattle.report.proofs.room.write_report.Goals as goal
 
 pub returns : goal.returns
 returns c =
-    record { faces_are = c.copy_bytes.ensures; solids_are = c.copy_words.ensures }
+    record { faces_are = c.copy.ensures; solids_are = c.copy-2.ensures }
