@@ -12,18 +12,14 @@ use Rattle.paper.specs.Loops.{Loop}
 use Rattle.paper.specs.FaceList.{count_in, faces_in, well_shaped, no_faces, encode_faces, faces_of, sent_of, sent_room}
 use Rattle.paper.specs.Sheet.{written_of, room_of, read_sheet}
 use Rattle.paper.specs.Conversion.{Converted}
-use Rattle.paper.specs.Reading.{reading_of}
-use Rattle.paper.specs.declared.Answer.TheVariants as Answer
+use Rattle.paper.specs.Reading.{reading_of, reading_says}
+use Rattle.std.specs.Prelude.{Ok, Err}
+use Rattle.paper.specs.Refusals.{Fine, Reading, Verdict, Written}
 use Rattle.paper.specs.declared.Format.{Format}
 use Rattle.paper.specs.declared.Conversion.{Conversion}
-use Rattle.paper.specs.declared.Faces.{Faces}
-use Rattle.paper.specs.declared.Reading.{Reading}
-use Rattle.paper.specs.declared.Reading.TheVariants as Reading
+use Rattle.paper.specs.FaceList.{Faces}
 use Rattle.paper.specs.declared.Refusal.{Refusal}
-use Rattle.paper.specs.declared.Sheet.{Sheet}
-use Rattle.paper.specs.declared.Verdict.{Verdict}
-use Rattle.paper.specs.declared.Written.{Written}
-use Rattle.paper.specs.declared.Written.TheVariants as Written
+use Rattle.paper.specs.Sheet.{Sheet}
 use Rattle.convert.specs.Converts.{at_exit}
 use Rattle.assess.specs.Assessed.{Assessed}
 use Rattle.faces_laws.proofs.FaceList.{length_in}
@@ -57,10 +53,10 @@ pub read_as : (a : Conversion) {r : Reading} → r ≡ reading_of a → ReadAs a
 read_as a is = record {
   one_solid = λ v. (
     λ e. demand1.volume_of a v (sym is ∙ e),
-    λ o. is ∙ ap reading_of o.4 ∙ demand1.one_solid o.0 o.1 o.2 o.3 ∙ ap Reading.Volume (sym o.5),
+    λ o. is ∙ ap reading_of o.4 ∙ demand1.one_solid o.0 o.1 o.2 o.3 ∙ ap Ok (sym o.5),
   );
-  several = λ l c work n e. is ∙ ap reading_of e ∙ demand1.several l c work n;
-  no_volume = λ h. is ∙ demand1.no_volume a h;
+  several = λ l c work n e. ap reading_says (is ∙ ap reading_of e) ∙ demand1.several l c work n;
+  no_volume = λ h. ap reading_says is ∙ demand1.no_volume a h;
 }
 
 pub assesses : (x : Input) (limit : ℕ) {r : Reading} → Assessed (converted x limit) r → Assesses x limit r
@@ -84,7 +80,7 @@ reads s bytes e =
     })
 
 -- the length that is reported is that of the bytes
-pub stands : {w : Written} {s room₀ room : List ℕ} {n : ℕ} → w ≡ Written.Bytes n → w ≡ Written.Bytes (length s)
+pub stands : {w : Written} {s room₀ room : List ℕ} {n : ℕ} → w ≡ Ok n → w ≡ Ok (length s)
     → room ≡ s ++ drop (length s) room₀ → Stands s room₀ n room
 stands {s = s} {room₀ = room₀} {n = n} p q left =
     let size : n ≡ length s = cc in
@@ -95,7 +91,7 @@ module _ (xyz : List ℤ) (ends room₀ : List ℕ) where
   written w = by_writer xyz ends room₀ (of_written w)
 
   -- the last line of the table, 1, doesn't offend
-  written_back : (n : ℕ) → written_of (lent_edition xyz ends) xyz ends room₀ ≡ Written.Bytes n
+  written_back : (n : ℕ) → written_of (lent_edition xyz ends) xyz ends room₀ ≡ Ok n
       → (s : List ℕ) × Stands s room₀ n (room_of (lent_edition xyz ends) xyz ends room₀) × Sheets.Reads s xyz ends
   written_back n e =
       let s = encode (lent_edition xyz ends) xyz ends in
@@ -125,15 +121,15 @@ reads_faces v list e =
     })
   where
     read : Faces
-    read = record { answer = Answer.Fine; count = count_in (edition_of list) list; rows = (returned (faces_in (edition_of list) list)).rows }
+    read = record { answer = Fine; count = count_in (edition_of list) list; rows = (returned (faces_in (edition_of list) list)).rows }
 
-    blank : (b : Bool) (f : Refusal) → (cond b read no_faces).answer ≡ Answer.Refused f → cond b read no_faces ≡ no_faces
+    blank : (b : Bool) (f : Refusal) → (cond b read no_faces).answer ≡ Err f → cond b read no_faces ≡ no_faces
     blank true f q = let z : ◌≡◌ {A = ℕ} 0 1 = cc in absurd (omega arith)
     blank false f q = refl
 
-    whole : (b : Bool) → (cond b read no_faces).answer ≡ Answer.Fine → cond b read no_faces ≡ returned (faces_in (edition_of list) list)
+    whole : (b : Bool) → (cond b read no_faces).answer ≡ Fine → cond b read no_faces ≡ returned (faces_in (edition_of list) list)
     whole true q =
-        ap (λ (n : ℕ). record { answer = Answer.Fine; count = n; rows = (returned (faces_in (edition_of list) list)).rows })
+        ap (λ (n : ℕ). record { answer = Fine; count = n; rows = (returned (faces_in (edition_of list) list)).rows })
         (sym (length_in (edition_of list) list))
     whole false q = let z : ◌≡◌ {A = ℕ} 0 1 = cc in absurd (omega arith)
 
@@ -144,7 +140,7 @@ module _ (v e : ℕ) (fs : List Loop) (room₀ : List ℕ) where
   abbrev sent : Written → Type 0
   sent w = by_sender f fs room₀ (of_written w)
 
-  sent_stands : (n : ℕ) → sent_of f fs room₀ ≡ Written.Bytes n
+  sent_stands : (n : ℕ) → sent_of f fs room₀ ≡ Ok n
       → Stands (encode_faces f fs) room₀ n (sent_room f fs room₀)
   sent_stands n is =
       let s = encode_faces f fs in

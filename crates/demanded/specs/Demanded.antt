@@ -1,25 +1,19 @@
 -- The customer's demands of what one call returns and leaves in the lists that were lent.
-use Rattle.std.specs.Prelude.{◌↔◌, List, ◌++◌, ◌≡◌, ℕ, ◌/◌, ◌≤◌, ◌<◌, Float, ℤ, length, drop}
+use Rattle.std.specs.Prelude.{◌↔◌, List, ◌++◌, ◌≡◌, ℕ, ◌/◌, ◌≤◌, ◌<◌, Float, ℤ, length, drop, Ok, Err}
+use Rattle.std.proofs.Math.Option.{none}
 use Rattle.paper.specs.Format.{total, bytes_for, lent_edition, edition_of}
 use Rattle.paper.specs.Loops.{Loop}
 use Rattle.paper.specs.FaceList.{faces_in, bits_of, encode_faces, no_faces}
 use Rattle.paper.specs.Sheet.{blank, held}
 use Rattle.paper.specs.Conversion.{Converted}
-use Rattle.paper.specs.Reading.{conversion_says, volume}
+use Rattle.paper.specs.Reading.{conversion_says, reading_says, volume}
 use Rattle.paper.specs.declared.Format.{Format}
-use Rattle.paper.specs.declared.Answer.{Answer}
-use Rattle.paper.specs.declared.Answer.TheVariants as Answer
+use Rattle.paper.specs.Refusals.{ListAccepted, Answer, Fine, Reading, Verdict, Written}
 use Rattle.paper.specs.declared.Conversion.{Conversion}
 use Rattle.paper.specs.declared.Conversion.TheVariants as Conversion
-use Rattle.paper.specs.declared.Faces.{Faces}
-use Rattle.paper.specs.declared.Reading.{Reading}
-use Rattle.paper.specs.declared.Reading.TheVariants as Reading
+use Rattle.paper.specs.FaceList.{Faces}
 use Rattle.paper.specs.declared.Refusal.{Refusal}
-use Rattle.paper.specs.declared.Sheet.{Sheet}
-use Rattle.paper.specs.declared.Verdict.{Verdict}
-use Rattle.paper.specs.declared.Verdict.TheVariants as Verdict
-use Rattle.paper.specs.declared.Written.{Written}
-use Rattle.paper.specs.declared.Written.TheVariants as Written
+use Rattle.paper.specs.Sheet.{Sheet}
 use Rattle.means_sheets.specs.FaceLists.{returned}
 use Rattle.means_report.specs.Listed.{WalkTree}
 use Rattle.means_report.specs.Report.{solid_count}
@@ -50,9 +44,9 @@ pub record Converts (x : Input) (limit : ℕ) (faces₀ solids₀ : List ℕ) (r
 -- the answer's own number
 pub record ReadAs (a : Conversion) (r : Reading) : Type 0 where
   pub one_solid : (v : Float)
-      → (r ≡ Reading.Volume v) ↔ ((l c work six : ℕ) × (a ≡ Conversion.One l c work six) × (v ≡ volume six))
-  pub several : (l c work n : ℕ) → a ≡ Conversion.Several l c work n → r ≡ Reading.NotAssessed 30
-  pub no_volume : 0 < (conversion_says a).number → r ≡ Reading.NotAssessed (conversion_says a).number
+      → (r ≡ Ok v) ↔ ((l c work six : ℕ) × (a ≡ Conversion.One l c work six) × (v ≡ volume six))
+  pub several : (l c work n : ℕ) → a ≡ Conversion.Several l c work n → reading_says r ≡ record { number = 30; shown = none }
+  pub no_volume : 0 < (conversion_says a).number → reading_says r ≡ record { number = (conversion_says a).number; shown = none }
 
 -- so it is of a drawing, of what a conversion says of it that was lent these rooms
 pub record AssessedIn (x : Input) (limit : ℕ) (faces₀ solids₀ : List ℕ) (r : Reading) : Type 0 where
@@ -72,16 +66,16 @@ pub record Checks (x : Input) (list : List ℕ) (r : Verdict) : Type 0 where
       (of_verdict r)
   -- demand 3: accepted exactly where the list names one solid with its directions
   pub exactly : Passes x
-      → (r ≡ Verdict.Accepted)
+      → (r ≡ ListAccepted)
       ↔ (GoodList (drawing x) list × NamesOne (drawing x) (candidates_of x) (sent_faces (drawing x) list))
 
 -- of sheets that are read and written
 pub record ReadsSheet (s : List ℕ) (r : Sheet) : Type 0 where
   -- demand 1
   pub first : forms (sheet s) end r.answer
-  pub none : (f : Refusal) → r.answer ≡ Answer.Refused f → r.drawing ≡ blank
+  pub none : (f : Refusal) → r.answer ≡ Err f → r.drawing ≡ blank
   -- demand 2: what is accepted is written back with the same bytes
-  pub again : r.answer ≡ Answer.Fine → (xyz : List ℤ) × (ends : List ℕ)
+  pub again : r.answer ≡ Fine → (xyz : List ℤ) × (ends : List ℕ)
       × (r.drawing ≡ held (length xyz / 3) (length ends / 2) xyz ends) × Sheets.Writes xyz ends s
 
 -- the lines of the table for what is written: "the sheet writer 5, 8, 9, 10, then 1"; of a face list 20, then 1
@@ -100,17 +94,17 @@ pub record Stands (s room₀ : List ℕ) (n : ℕ) (room : List ℕ) : Type 0 wh
 pub record WritesSheet (xyz : List ℤ) (ends room₀ : List ℕ) (r : Written) (room : List ℕ) : Type 0 where
   -- demand 1
   pub first : by_writer xyz ends room₀ (of_written r)
-  pub kept : (f : Refusal) → r ≡ Written.Refused f → room ≡ room₀
+  pub kept : (f : Refusal) → r ≡ Err f → room ≡ room₀
   -- demand 2: what was written reads back the same
-  pub back : (n : ℕ) → r ≡ Written.Bytes n → (s : List ℕ) × Stands s room₀ n room × Sheets.Reads s xyz ends
+  pub back : (n : ℕ) → r ≡ Ok n → (s : List ℕ) × Stands s room₀ n room × Sheets.Reads s xyz ends
 
 -- demand 1, of face lists that are read and written; a list that is read holds these faces, and what is written are the faces, packed
 pub record ReadsFaces (v : ℕ) (list : List ℕ) (r : Faces) : Type 0 where
   pub first : one 20 (Shape (edition_of list) v list → ⊥) end r.answer
-  pub none : (f : Refusal) → r.answer ≡ Answer.Refused f → r ≡ no_faces
-  pub faces : r.answer ≡ Answer.Fine → r ≡ returned (faces_in (edition_of list) list)
+  pub none : (f : Refusal) → r.answer ≡ Err f → r ≡ no_faces
+  pub faces : r.answer ≡ Fine → r ≡ returned (faces_in (edition_of list) list)
 
 pub record Sends (f : Format) (fs : List Loop) (room₀ : List ℕ) (r : Written) (room : List ℕ) : Type 0 where
   pub first : by_sender f fs room₀ (of_written r)
-  pub kept : (e : Refusal) → r ≡ Written.Refused e → room ≡ room₀
-  pub sent : (n : ℕ) → r ≡ Written.Bytes n → Stands (encode_faces f fs) room₀ n room
+  pub kept : (e : Refusal) → r ≡ Err e → room ≡ room₀
+  pub sent : (n : ℕ) → r ≡ Ok n → Stands (encode_faces f fs) room₀ n room

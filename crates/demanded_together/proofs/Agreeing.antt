@@ -16,10 +16,8 @@ use Rattle.paper.specs.declared.Format.{Format}
 use Rattle.paper.specs.declared.Conversion.{Conversion}
 use Rattle.paper.specs.declared.Conversion.TheVariants as Conversion
 use Rattle.paper.specs.declared.Refusal.{Refusal}
-use Rattle.paper.specs.declared.Verdict.{Verdict}
-use Rattle.paper.specs.declared.Verdict.TheVariants as Verdict
-use Rattle.paper.specs.declared.Written.{Written}
-use Rattle.paper.specs.declared.Written.TheVariants as Written
+use Rattle.std.specs.Prelude.{Ok, Err, is_ok}
+use Rattle.paper.specs.Refusals.{ListAccepted, Verdict, Written}
 use Rattle.convert.specs.Converts.{at_exit}
 use Rattle.means_report.specs.Listed.{Entry, entry_at, words_of}
 use Rattle.means_report.specs.Report.{solid_count}
@@ -130,14 +128,14 @@ module _ (x : Input) (limit : ℕ) (faces₀ solids₀ : List ℕ) {c : Conversi
 
 -- ---- faces that are sent in room for any list
 
-pub sent-fits : (v e : ℕ) (fs : List Loop) (room₀ : List ℕ) {n : ℕ} → Written.Bytes n ≡ sent_of (edition_for v e) fs room₀
+pub sent-fits : (v e : ℕ) (fs : List Loop) (room₀ : List ℕ) {n : ℕ} → Ok n ≡ sent_of (edition_for v e) fs room₀
     → n ≤ length room₀
 sent-fits v e fs room₀ {n} is = go (Demanding.sends v e fs room₀ is refl)
   where
     f : Format
     f = edition_for v e
 
-    go : Sends f fs room₀ (Written.Bytes n) (sent_room f fs room₀) → n ≤ length room₀
+    go : Sends f fs room₀ (Ok n) (sent_room f fs room₀) → n ≤ length room₀
     go h = omega (arith, h.first.1.0 0 (omega arith), (h.sent n refl).size, length_encoded f fs room₀)
 
 module _ (xyz : List ℤ) (ends : List ℕ) (fs : List Loop) (room₀ : List ℕ) (long : length room₀ ≡ list_room) where
@@ -152,15 +150,15 @@ module _ (xyz : List ℤ) (ends : List ℕ) (fs : List Loop) (room₀ : List ℕ
   same = wire_edition xyz ends
 
   -- what can be sent is not refused
-  pub unsent : {r : Refusal} {b : Bool} → Written.Refused r ≡ sent_of f fs room₀ → AcceptedAsSent x fs b
+  pub unsent : {r : Refusal} {b : Bool} → Err r ≡ sent_of f fs room₀ → AcceptedAsSent x fs b
   unsent {r} {b} q can fits ok = absurd (go (Demanding.sends (length xyz / 3) (length ends / 2) fs room₀ q refl).first)
     where
-      go : by_sender f fs room₀ (of_written (Written.Refused r)) → ⊥
+      go : by_sender f fs room₀ (of_written (Err r)) → ⊥
       go (inl p) = can p.1.1
       go (inr (p, inl q)) = omega (arith, q.1.1, fits, long, ap (λ (g : Format). bytes_for (bits_of g fs)) same)
       go (inr (p, inr q)) = q.1
 
-  module _ {n : ℕ} {room : List ℕ} (q : Written.Bytes n ≡ sent_of f fs room₀) (p : room ≡ sent_room f fs room₀) where
+  module _ {n : ℕ} {room : List ℕ} (q : Ok n ≡ sent_of f fs room₀) (p : room ≡ sent_room f fs room₀) where
     stands : Stands (encode_faces f fs) room₀ n room
     stands = (Demanding.sends (length xyz / 3) (length ends / 2) fs room₀ q p).sent n refl
 
@@ -169,8 +167,6 @@ module _ (xyz : List ℤ) (ends : List ℕ) (fs : List Loop) (room₀ : List ℕ
         ap (take n) stands.there ∙ take_at (encode_faces f fs) (drop n room₀) n (sym stands.size)
         ∙ ap (λ (g : Format). encode_faces g fs) (sym same)
 
-    pub unaccepted : {r : Refusal} {b : Bool} → Verdict.Refused r ≡ checked x (take n room) → AcceptedAsSent x fs b
-    unaccepted {r} e can fits ok =
-        let c : Verdict.Refused r ≡ Verdict.Accepted = e ∙ ap (checked x) list_is ∙ ok in
-        let z : ◌≡◌ {A = ℕ} 0 1 = cc in
-        absurd (omega (arith, z))
+    -- and the check accepts what was sent, where it accepts the list of these faces
+    pub sent_so : {v : Verdict} {b : Bool} → v ≡ checked x (take n room) → b ≡ is_ok v → AcceptedAsSent x fs b
+    sent_so e i can fits ok = i ∙ ap (λ (v : Verdict). is_ok v) (e ∙ ap (checked x) list_is ∙ ok)

@@ -10,18 +10,15 @@ use lib.Dec.{ltb}
 use lib.IntN.{ℤ}
 use lib.ListN.{length, take, drop, length-append}
 use Rattle.pack.specs.Bits.{Under}
-use Rattle.paper.specs.Refusals as No
-use Rattle.paper.specs.Refusals.{Check, check, offends, first_of}
+use Rattle.paper.specs.declared.Number.TheVariants as No
+use Rattle.paper.specs.Refusals.{Check, check, offends, first_of, Answer, Fine, Written}
 use Rattle.paper.specs.Format.{total, bytes_for, coordinates_in, ends_in, edition_of, lent_edition, encode}
 use Rattle.paper.specs.Sheet.{sheet_checks, sheet_of, written_of, room_of, read_sheet}
 use Rattle.paper.specs.declared.Format.{Format}
-use Rattle.paper.specs.declared.Answer.{Answer}
-use Rattle.paper.specs.declared.Answer.TheVariants as Answer
+use Rattle.std.specs.Prelude.{Ok, Err}
 use Rattle.paper.specs.declared.Drawing.{Drawing}
 use Rattle.paper.specs.declared.Refusal.{Refusal}
-use Rattle.paper.specs.declared.Sheet.{Sheet}
-use Rattle.paper.specs.declared.Written.{Written}
-use Rattle.paper.specs.declared.Written.TheVariants as Written
+use Rattle.paper.specs.Sheet.{Sheet}
 use Rattle.paper_laws.proofs.Checks.{first_stops, first_passes}
 use Rattle.sheet_laws.proofs.Accepted.{coordinates_are, ends_are}
 use Rattle.sheet_laws.proofs.Written.{result_short}
@@ -46,25 +43,25 @@ stands_fit {s} {room₀} {room} {n} h =
 -- ---- written, and then read
 
 module _ (xyz : List ℤ) (ns room₀ : List ℕ) {room : List ℕ} (left : room ≡ room_of (lent_edition xyz ns) xyz ns room₀) where
-  pub written_fits : {n : ℕ} → Written.Bytes n ≡ written_of (lent_edition xyz ns) xyz ns room₀ → n ≤ length room
+  pub written_fits : {n : ℕ} → Ok n ≡ written_of (lent_edition xyz ns) xyz ns room₀ → n ≤ length room
   written_fits {n} e = let b = (Demanding.writes xyz ns room₀ e left).back n refl in stands_fit b.1
 
-  pub read_back : {n : ℕ} {r : Sheet} → Written.Bytes n ≡ written_of (lent_edition xyz ns) xyz ns room₀ → r ≡ read_sheet (take n room)
+  pub read_back : {n : ℕ} {r : Sheet} → Ok n ≡ written_of (lent_edition xyz ns) xyz ns room₀ → r ≡ read_sheet (take n room)
       → ReadsBack xyz ns room₀ r room
   read_back {n} {r} e is =
       let whole = is ∙ ap (λ (l : List ℕ). read_sheet (take n l)) left ∙ (sheet-reads_back xyz ns).room room₀ n (sym e) in
-      let fine : r.answer ≡ Answer.Fine = ap (λ (q : Sheet). q.answer) whole in
+      let fine : r.answer ≡ Fine = ap (λ (q : Sheet). q.answer) whole in
       record {
         first = subst (by_writer xyz ns room₀) (sym fine) (Demanding.writes xyz ns room₀ e left).first;
         kept = λ f q. let z : ◌≡◌ {A = ℕ} 0 1 = clash (sym fine ∙ q) in absurd (omega (arith, z));
         same = λ q. ap (λ (q : Sheet). q.drawing) whole;
       }
     where
-      clash : {f : Refusal} → Answer.Fine ≡ Answer.Refused f → ◌≡◌ {A = ℕ} 0 1
+      clash : {f : Refusal} → Fine ≡ Err f → ◌≡◌ {A = ℕ} 0 1
       clash q = cc
 
-  pub not_written : {f : Refusal} {d : Drawing} → Written.Refused f ≡ written_of (lent_edition xyz ns) xyz ns room₀
-      → ReadsBack xyz ns room₀ (record { answer = Answer.Refused f; drawing = d }) room
+  pub not_written : {f : Refusal} {d : Drawing} → Err f ≡ written_of (lent_edition xyz ns) xyz ns room₀
+      → ReadsBack xyz ns room₀ (record { answer = Err f; drawing = d }) room
   not_written {f} e =
       let w = Demanding.writes xyz ns room₀ e left in
       record {
@@ -89,17 +86,17 @@ module _ (s room₀ : List ℕ) where
   first =
       ends (λ below. forms (sheet s) (one 1 (length room₀ < length s) below)) checks
       (behind (forms (sheet s)) (one 1 (length room₀ < length s)) (sheet_checks (edition_of s) s) room-check (form_says (sheet s)) (λ e.
-      also_one 1 (length room₀ < length s) (ltb (length room₀) (length s)) (is_lt (length room₀) (length s)) (λ below. below) []
+      also_one No.NoRoom (length room₀ < length s) (ltb (length room₀) (length s)) (is_lt (length room₀) (length s)) (λ below. below) []
       (λ e. done)))
 
-  pub not_read : {f : Refusal} → Answer.Refused f ≡ first_of (sheet_checks (edition_of s) s) → WritesBack s room₀ (Written.Refused f) room₀
+  pub not_read : {f : Refusal} → Err f ≡ first_of (sheet_checks (edition_of s) s) → WritesBack s room₀ (Err f) room₀
   not_read {f} e = record {
     first = subst by_reader (sym (first_stops (sheet_checks (edition_of s) s) room-check e)) first;
     kept = λ g q. refl;
     same = λ n q. let z : ◌≡◌ {A = ℕ} 0 1 = cc in absurd (omega (arith, z));
   }
 
-  module _ (bytes : Under 256 s) (ok : Answer.Fine ≡ first_of (sheet_checks (edition_of s) s)) where
+  module _ (bytes : Under 256 s) (ok : Fine ≡ first_of (sheet_checks (edition_of s) s)) where
     abbrev points : List ℤ
     points = coordinates_in (edition_of s) s
 
@@ -128,7 +125,7 @@ module _ (s room₀ : List ℕ) where
       unfolding first_of
       short h =
           let w = result_short own points links room₀ back.passes (omega (arith, h, size)) in
-          let is : r ≡ Written.Refused (record { number = No.NoRoom; place = 0 }) = written ∙ sym w.0 in
+          let is : r ≡ Err (record { number = No.NoRoom; place = 0 }) = written ∙ sym w.0 in
           record {
             first = subst by_reader (sym (ap of_written is ∙ last true (lt-ltb (length room₀) (length s) h))) first;
             kept = λ f q. left ∙ sym w.1;
@@ -139,7 +136,7 @@ module _ (s room₀ : List ℕ) where
       unfolding first_of
       long h =
           let w = back.room room₀ h in
-          let is : r ≡ Written.Bytes (length s) = written ∙ w.0 in
+          let is : r ≡ Ok (length s) = written ∙ w.0 in
           record {
             first = subst by_reader (sym (ap of_written is ∙ last false (le-ltb (length room₀) (length s) h))) first;
             kept = λ f q. let z : ◌≡◌ {A = ℕ} 0 1 = cc in absurd (omega (arith, z));
@@ -154,7 +151,7 @@ module _ (s room₀ : List ℕ) where
           go (no h) = long (omega (arith, h))
 
   -- the drawing that was read has the sheet's lists
-  pub written_back : Under 256 s → Answer.Fine ≡ first_of (sheet_checks (edition_of s) s) → {q : Sheet} {r : Written} {room : List ℕ}
+  pub written_back : Under 256 s → Fine ≡ first_of (sheet_checks (edition_of s) s) → {q : Sheet} {r : Written} {room : List ℕ}
       → q ≡ read_sheet s → WrittenFrom q.drawing room₀ r room → WritesBack s room₀ r room
   written_back bytes ok {q} e w =
       let points_are = ap (λ (q : Sheet). coordinates_of q.drawing) e ∙ sym (coordinates_are (edition_of s) s ok) in

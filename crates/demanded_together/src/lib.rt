@@ -4,6 +4,7 @@
 
 ghost use Rattle.std.specs.Prelude.{◌≡◌, true, length, drop, ◌*◌, ◌≤◌};
 ghost use Rattle.paper.specs.Numbers.{solid_words};
+ghost use Rattle.paper.specs.Sheet.{sheet_as};
 ghost use Rattle.paper.specs.FaceList.{solid_faces};
 ghost use Rattle.paper_laws.specs.InRange.{Held};
 ghost use Rattle.means_report.specs.Report.{solid_count};
@@ -14,9 +15,7 @@ ghost use Rattle.demanded_together.specs.Twice.{ConvertsTwice};
 
 use convert::{convert, convert_sheet};
 use faces_writer::write_faces;
-use paper::{
-    Answer, COORDINATES, Conversion, Drawing, ENDS, LIST_ROOM, Sheet, Verdict, WORDS, Written,
-};
+use paper::{Conversion, Drawing, LIST_ROOM, Refusal, WORDS};
 use sheet_reader::read_sheet;
 use sheet_writer::write_sheet;
 use verdict::{check, check_sheet};
@@ -25,8 +24,8 @@ use verdict::{check, check_sheet};
 #[derive(Clone, Copy)]
 pub struct Told {
     pub conversion: Conversion,
-    pub first: Verdict,
-    pub second: Verdict,
+    pub first: Result<(), Refusal>,
+    pub second: Result<(), Refusal>,
 }
 
 // What is said of two drawings by their conversions.
@@ -37,26 +36,17 @@ pub struct Pair {
 }
 
 // A drawing is written out, and what was written is read.
-pub fn written_and_read(xyz: &[i64], ends: &[u8], room: &mut [u8]) -> Sheet
-    ensures { ReadsBack xyz.now ends.now room.old result room.new }
+pub fn written_and_read(xyz: &[i64], ends: &[u8], room: &mut [u8]) -> Result<Drawing, Refusal>
+    ensures { ReadsBack xyz.now ends.now room.old (sheet_as result) room.new }
 {
-    let written = write_sheet(xyz, ends, room);
-    match written {
-        Written::Bytes(n) => read_sheet(&room[..n]),
-        Written::Refused(f) => Sheet {
-            answer: Answer::Refused(f),
-            drawing: Drawing {
-                vertices: 0,
-                edges: 0,
-                xyz: [0; COORDINATES],
-                ends: [0; ENDS],
-            },
-        },
+    match write_sheet(xyz, ends, room) {
+        Ok(n) => read_sheet(&room[..n]),
+        Err(f) => Err(f),
     }
 }
 
 // A drawing by value: its lists stand in front of its arrays.
-fn drawing_written(d: Drawing, room: &mut [u8]) -> Written
+fn drawing_written(d: Drawing, room: &mut [u8]) -> Result<usize, Refusal>
     requires { Held d }
     ensures { WrittenFrom d room.old result room.new }
 {
@@ -68,15 +58,11 @@ fn drawing_written(d: Drawing, room: &mut [u8]) -> Written
 }
 
 // A sheet is read, and the drawing that was read is written out.
-pub fn read_and_written(sheet: &[u8], room: &mut [u8]) -> Written
+pub fn read_and_written(sheet: &[u8], room: &mut [u8]) -> Result<usize, Refusal>
     ensures { WritesBack sheet.now room.old result room.new }
 {
-    let read = read_sheet(sheet);
-    let answer = read.answer;
-    match answer {
-        Answer::Refused(f) => Written::Refused(f),
-        Answer::Fine => drawing_written(read.drawing, room),
-    }
+    let drawing = read_sheet(sheet)?;
+    drawing_written(drawing, room)
 }
 
 // A drawing is converted, and two face lists are checked against it.
@@ -179,16 +165,9 @@ fn sent_and_checked(xyz: &[i64], ends: &[u8], rows: &[u8], solids: &[u64], i: us
     let v = xyz.len() / 3;
     let e = ends.len() / 2;
     let solid = &solids[WORDS * i..];
-    let sent = write_faces(rows, solid, v, e, &mut room);
-    match sent {
-        Written::Refused(_) => false,
-        Written::Bytes(n) => {
-            let said = check(xyz, ends, &room[..n]);
-            match said {
-                Verdict::Accepted => true,
-                Verdict::Refused(_) => false,
-            }
-        }
+    match write_faces(rows, solid, v, e, &mut room) {
+        Err(_) => false,
+        Ok(n) => check(xyz, ends, &room[..n]).is_ok(),
     }
 }
 

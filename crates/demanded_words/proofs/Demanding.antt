@@ -14,16 +14,12 @@ use Rattle.paper.specs.Loops.{Loop}
 use Rattle.paper.specs.FaceList.{sent_of, sent_room}
 use Rattle.paper.specs.Sheet.{written_of, room_of}
 use Rattle.paper.specs.Conversion.{Converted}
-use Rattle.paper.specs.Reading.{Said, conversion_says, verdict_says, written_says, written_said, sent_said, reading_of, reading_says}
+use Rattle.paper.specs.Reading.{Shown, Said, conversion_says, verdict_says, written_says, written_said, sent_said, reading_of, reading_says}
 use Rattle.paper.specs.declared.Conversion.{Conversion}
 use Rattle.paper.specs.declared.Conversion.TheVariants as Conversion
-use Rattle.paper.specs.declared.Reading.{Reading}
-use Rattle.paper.specs.declared.Reading.TheVariants as Reading
+use Rattle.std.specs.Prelude.{Ok, Err}
+use Rattle.paper.specs.Refusals.{value_of, ListAccepted, Reading, Verdict, Written}
 use Rattle.paper.specs.declared.Refusal.{Refusal}
-use Rattle.paper.specs.declared.Verdict.{Verdict}
-use Rattle.paper.specs.declared.Verdict.TheVariants as Verdict
-use Rattle.paper.specs.declared.Written.{Written}
-use Rattle.paper.specs.declared.Written.TheVariants as Written
 use Rattle.sheet_laws.proofs.Said.{sheet_written_said}
 use Rattle.faces_laws.proofs.Said.{sent-said}
 use Rattle.means_report.specs.Listed.{WalkTree}
@@ -98,9 +94,9 @@ module _ (x : Input) (limit : ℕ) (faces₀ solids₀ : List ℕ) where
     shown = λ l c work six e. (as_one l c work six e).volume_is;
     several = (
       λ e. several made.answer (known x limit faces₀ solids₀) (sym h.number_is ∙ e),
-      λ p. h.number_is ∙ ap (λ (q : Reading). (reading_says q).number) (ap reading_of p.4 ∙ demand1.several p.0 p.1 p.2 p.3),
+      λ p. h.number_is ∙ ap (λ (s : Shown). s.number) (ap reading_says (ap reading_of p.4) ∙ demand1.several p.0 p.1 p.2 p.3),
     );
-    no_volume = λ g. h.number_is ∙ ap (λ (q : Reading). (reading_says q).number) (demand1.no_volume made.answer g);
+    no_volume = λ g. h.number_is ∙ ap (λ (s : Shown). s.number) (demand1.no_volume made.answer g);
     kept = unshown (reading_of made.answer) h;
   }
     where
@@ -109,8 +105,8 @@ module _ (x : Input) (limit : ℕ) (faces₀ solids₀ : List ℕ) where
       as_one l c work six e = subst (λ (a : Conversion). Shows (reading_says (reading_of a)) n volume₀ volume) e h
 
       unshown : (q : Reading) → Shows (reading_says q) n volume₀ volume → (n ≡ 0 → ⊥) → volume ≡ volume₀
-      unshown (Reading.Volume v) s not-zero = absurd (not-zero s.number_is)
-      unshown (Reading.NotAssessed m) s not-zero = s.volume_is ∙ ap (λ (l : List Float). l ++ volume₀) (take-nil (length volume₀))
+      unshown (Ok v) s not-zero = absurd (not-zero s.number_is)
+      unshown (Err m) s not-zero = s.volume_is ∙ ap (λ (l : List Float). l ++ volume₀) (take-nil (length volume₀))
 
 pub assesses : (x : Input) (limit : ℕ) {n : ℕ} {volume₀ volume : List Float} → AssessesAs (converted x limit) n volume₀ volume
     → AssessesInWords x limit n volume₀ volume
@@ -132,22 +128,22 @@ checks x list {r} h =
       exactly = λ ok. Iff.trans z (c.exactly ok);
     }
   where
-    accepted : (v : Verdict) → checked x list ≡ v → ((verdict_says v).number ≡ 0) ↔ (v ≡ Verdict.Accepted)
-    accepted Verdict.Accepted e = (λ z. refl, λ z. refl)
-    accepted (Verdict.Refused f) e =
+    accepted : (v : Verdict) → checked x list ≡ v → ((verdict_says v).number ≡ 0) ↔ (v ≡ ListAccepted)
+    accepted (Ok _) e = (λ z. refl, λ z. refl)
+    accepted (Err f) e =
         (λ z. absurd (omega (arith, z, numbered.checks x list f e)), λ z. ap (λ (v : Verdict). (verdict_says v).number) z)
 
 -- ---- sheets and face lists that are written
 
-module _ (w : Written) (positive : (f : Refusal) → w ≡ Written.Refused f → 0 < f.number) where
-  zero_written : (v : Written) → w ≡ v → ((written_says v).number ≡ 0) ↔ ((n : ℕ) × (v ≡ Written.Bytes n))
-  zero_written (Written.Bytes n) e = (λ z. (n, refl), λ z. refl)
-  zero_written (Written.Refused f) e =
+module _ (w : Written) (positive : (f : Refusal) → w ≡ Err f → 0 < value_of f.number) where
+  zero_written : (v : Written) → w ≡ v → ((written_says v).number ≡ 0) ↔ ((n : ℕ) × (v ≡ Ok n))
+  zero_written (Ok n) e = (λ z. (n, refl), λ z. refl)
+  zero_written (Err f) e =
       (λ z. absurd (omega (arith, z, positive f e)), λ p. ap (λ (v : Written). (written_says v).number) p.1)
 
   -- as the room is kept by a refusal, it is by any number but 0
   pub written : {Demanded : Written → Type 0} {s : Said} {room₀ room : List ℕ} {r : ℕ} {words₀ words : List ℕ} → Demanded w
-      → ((f : Refusal) → w ≡ Written.Refused f → room ≡ room₀) → written_says w ≡ s → Tells s r words₀ words
+      → ((f : Refusal) → w ≡ Err f → room ≡ room₀) → written_says w ≡ s → Tells s r words₀ words
       → WritesInWords Demanded room₀ r room words₀ words
   written {Demanded} {s} {room₀} {room} {r} {words₀} {words} d kept says tells =
       let t : Tells (written_says w) r words₀ words = subst (λ (q : Said). Tells q r words₀ words) (sym says) tells in
@@ -157,8 +153,8 @@ module _ (w : Written) (positive : (f : Refusal) → w ≡ Written.Refused f →
       }
     where
       go : (v : Written) → w ≡ v → r ≡ (written_says v).number → (r ≡ 0 → ⊥) → room ≡ room₀
-      go (Written.Bytes n) e q not-zero = absurd (not-zero q)
-      go (Written.Refused f) e q not-zero = kept f e
+      go (Ok n) e q not-zero = absurd (not-zero q)
+      go (Err f) e q not-zero = kept f e
 
 pub writes : (xyz : List ℤ) (ends room₀ : List ℕ) {r : ℕ} {room words₀ words : List ℕ}
     → WritesAs (written_said (lent_edition xyz ends) xyz ends room₀) (room_of (lent_edition xyz ends) xyz ends room₀) r room words₀ words

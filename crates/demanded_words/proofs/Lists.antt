@@ -9,11 +9,11 @@ use lib.IntN.{ℤ}
 use lib.ListN.{length}
 use Rattle.pack.specs.Bits.{Under}
 use Rattle.paper.specs.Format.{vertices_in, edges_in, coordinates_in, ends_in, edition_of}
-use Rattle.paper.specs.Refusals.{Check, first_of}
+use Rattle.paper.specs.declared.Number.TheVariants as No
+use Rattle.paper.specs.Refusals.{value_of, Check, first_of, Answer, Fine}
 use Rattle.paper.specs.Sheet.{sheet_checks, sheet_of}
 use Rattle.paper.specs.Reading.{Said}
-use Rattle.paper.specs.declared.Answer.{Answer}
-use Rattle.paper.specs.declared.Answer.TheVariants as Answer
+use Rattle.std.specs.Prelude.{Ok, Err}
 use Rattle.paper.specs.declared.Refusal.{Refusal}
 use Rattle.export_words.specs.Words.{Tells}
 use Rattle.export_words.specs.Lists.{Read, room_checks, read_for, read_into, ReadsAs}
@@ -48,20 +48,20 @@ module _ (s : List ℕ) (bytes : Under 256 s) (xyz₀ : List ℤ) (ends₀ : Lis
       ends lines checks
       (behind (forms (sheet s)) (line 1 2 (Two (length xyz₀ < length points) (length ends₀ < length links))) (sheet_checks (edition_of s) s)
       (room_checks points links xyz₀ ends₀) (form_says (sheet s)) (λ e.
-      also_two 1 (length xyz₀ < length points) (length ends₀ < length links) (ltb (length xyz₀) (length points))
+      also_two No.NoRoom (length xyz₀ < length points) (length ends₀ < length links) (ltb (length xyz₀) (length points))
       (ltb (length ends₀) (length links)) (is_lt (length xyz₀) (length points)) (is_lt (length ends₀) (length links)) (λ below. below) []
       done))
 
-  positive : (f : Refusal) → Answer.Refused f ≡ first_of checks → 0 < f.number
+  positive : (f : Refusal) → Err f ≡ first_of checks → 0 < value_of f.number
   positive f e =
       ((of-forms 16 _ (more 16 1 _ _ end (omega arith) (none_left 16)) (omega arith) (sheet s)).number f (subst (lines end) (sym e) first)).0
 
-  zero : (a : Answer) → a ≡ first_of checks → ((counts_said s a).number ≡ 0) ↔ (a ≡ Answer.Fine)
-  zero Answer.Fine e = (λ z. refl, λ z. refl)
-  zero (Answer.Refused f) e =
+  zero : (a : Answer) → a ≡ first_of checks → ((counts_said s a).number ≡ 0) ↔ (a ≡ Fine)
+  zero (Ok _) e = (λ z. refl, λ z. refl)
+  zero (Err f) e =
       (λ z. absurd (omega (arith, z, positive f e)), λ z. ap (λ (a : Answer). (counts_said s a).number) z)
 
-  again : Answer.Fine ≡ first_of checks → Sheets.Writes points links s
+  again : Fine ≡ first_of checks → Sheets.Writes points links s
   unfolding sheet_of
   again e = (sheet_writes_back s (bytes, (first-both (sheet_checks (edition_of s) s) (room_checks points links xyz₀ ends₀) e).0)).room
 
@@ -70,8 +70,8 @@ module _ (s : List ℕ) (bytes : Under 256 s) (xyz₀ : List ℤ) (ends₀ : Lis
   read a = read_for a (vertices_in (edition_of s) s) (edges_in (edition_of s) s) points links xyz₀ ends₀
 
   said : (a : Answer) → (read a).said ≡ counts_said s a
-  said Answer.Fine = refl
-  said (Answer.Refused f) = refl
+  said (Ok _) = refl
+  said (Err f) = refl
 
   module _ {r : ℕ} {xyz : List ℤ} {ends words₀ words : List ℕ} where
     into : (a : Answer) → a ≡ first_of checks → ReadsAs (read a) r xyz ends words₀ words → ReadsInto s xyz₀ ends₀ a xyz ends
@@ -83,8 +83,8 @@ module _ (s : List ℕ) (bytes : Under 256 s) (xyz₀ : List ℤ) (ends₀ : Lis
     }
 
     kept : (a : Answer) → ReadsAs (read a) r xyz ends words₀ words → (r ≡ 0 → ⊥) → (xyz ≡ xyz₀) × (ends ≡ ends₀)
-    kept Answer.Fine h not-zero = absurd (not-zero h.tells.number_is)
-    kept (Answer.Refused f) h not-zero = (h.xyz_are, h.ends_are)
+    kept (Ok _) h not-zero = absurd (not-zero h.tells.number_is)
+    kept (Err f) h not-zero = (h.xyz_are, h.ends_are)
 
     pub reads : ReadsAs (read_into s xyz₀ ends₀) r xyz ends words₀ words → ReadsInWords s xyz₀ ends₀ r xyz ends words₀ words
     unfolding read_into

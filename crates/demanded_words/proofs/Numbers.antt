@@ -12,6 +12,7 @@ use Rattle.means_report.specs.Report.{solid_count}
 use Rattle.demands.specs.Input.{Input, converted}
 use Rattle.demands.specs.Demand1.{WithinLimit}
 use Rattle.demands.proofs.Demand1.{demand1}
+use Rattle.paper.specs.Refusals.{value_of}
 use Rattle.demands.proofs.Answers.{numbered, told}
 
 -- what holds exactly where n is k, said of what equals n
@@ -20,8 +21,8 @@ of_number e p = (λ q. p.0 (sym e ∙ q), λ a. e ∙ p.1 a)
 
 -- by a refusal's number an answer is no report and no end of the walk; a report of several has some
 pub record Known (a : Conversion) : Type 0 where
-  pub above : (f : Refusal) → a ≡ Conversion.Refused f → 0 < f.number
-  pub below : (f : Refusal) → a ≡ Conversion.Refused f → f.number ≤ 16
+  pub above : (f : Refusal) → a ≡ Conversion.Refused f → 0 < value_of f.number
+  pub below : (f : Refusal) → a ≡ Conversion.Refused f → value_of f.number ≤ 16
   pub some : (l c work n : ℕ) → a ≡ Conversion.Several l c work n → 0 < n
 
 pub known : (x : Input) (limit : ℕ) (faces solids : List ℕ) → Known (converted x limit faces solids).answer

@@ -5,14 +5,12 @@ use Prim.Native.Nat.{ℕ, ◌≤◌, ◌<◌}
 use native.Mathlib.Omega.{arith}
 use lib.Dec.{ltb}
 use lib.ListN.{length, replicate}
-use Rattle.paper.specs.Refusals.{first_of}
+use Rattle.paper.specs.declared.Number.TheVariants as No
+use Rattle.paper.specs.Refusals.{first_of, Answer, Written}
 use Rattle.paper.specs.Conversion.{Converted}
 use Rattle.paper.specs.Desk.{desk_text}
-use Rattle.paper.specs.declared.Answer.{Answer}
-use Rattle.paper.specs.declared.Answer.TheVariants as Answer
+use Rattle.std.specs.Prelude.{Ok, Err}
 use Rattle.paper.specs.declared.Refusal.{Refusal}
-use Rattle.paper.specs.declared.Written.{Written}
-use Rattle.paper.specs.declared.Written.TheVariants as Written
 use Rattle.desk_text.specs.Written.{text_checks, text_written, text_room_for, written_text, text_room}
 use Rattle.desk_text.specs.Texts.{text_room_size}
 use Rattle.desk_text.proofs.Desk.{desk_short}
@@ -33,27 +31,27 @@ module _ (t room₀ : List ℕ) where
       let short = ltb (length room₀) (length t) in
       subst (one 1 (length room₀ < length t) end) (sym (of_text (first_of (text_checks t (length room₀)))))
       (ends (one 1 (length room₀ < length t)) (text_checks t (length room₀))
-      (also_one 1 (length room₀ < length t) short (is_lt (length room₀) (length t)) (λ below. below) [] (λ e. done)))
+      (also_one No.NoRoom (length room₀ < length t) short (is_lt (length room₀) (length t)) (λ below. below) [] (λ e. done)))
     where
       of_text : (a : Answer) → of_written (text_written t a) ≡ a
-      of_text Answer.Fine = refl
-      of_text (Answer.Refused f) = refl
+      of_text (Ok _) = refl
+      of_text (Err f) = refl
 
-  kept : (f : Refusal) → written_text t room₀ ≡ Written.Refused f → text_room t room₀ ≡ room₀
+  kept : (f : Refusal) → written_text t room₀ ≡ Err f → text_room t room₀ ≡ room₀
   unfolding written_text text_room
   kept f = go (first_of (text_checks t (length room₀)))
     where
-      go : (a : Answer) → text_written t a ≡ Written.Refused f → text_room_for t a room₀ ≡ room₀
-      go Answer.Fine e = let z : ◌≡◌ {A = ℕ} 0 1 = cc in absurd (omega arith)
-      go (Answer.Refused g) e = refl
+      go : (a : Answer) → text_written t a ≡ Err f → text_room_for t a room₀ ≡ room₀
+      go (Ok _) e = let z : ◌≡◌ {A = ℕ} 0 1 = cc in absurd (omega arith)
+      go (Err g) e = refl
 
-  printed : (n : ℕ) → written_text t room₀ ≡ Written.Bytes n → Stands t room₀ n (text_room t room₀)
+  printed : (n : ℕ) → written_text t room₀ ≡ Ok n → Stands t room₀ n (text_room t room₀)
   unfolding written_text text_room
   printed n = go (first_of (text_checks t (length room₀)))
     where
-      go : (a : Answer) → text_written t a ≡ Written.Bytes n → Stands t room₀ n (text_room_for t a room₀)
-      go Answer.Fine e = stands e refl refl
-      go (Answer.Refused g) e = let z : ◌≡◌ {A = ℕ} 0 1 = cc in absurd (omega arith)
+      go : (a : Answer) → text_written t a ≡ Ok n → Stands t room₀ n (text_room_for t a room₀)
+      go (Ok _) e = stands e refl refl
+      go (Err g) e = let z : ◌≡◌ {A = ℕ} 0 1 = cc in absurd (omega arith)
 
 -- ---- the desk's
 

@@ -1,11 +1,10 @@
 -- The customer's demands of the desk's text.
-use Rattle.std.specs.Prelude.{List, ◌≡◌, ℕ, ◌≤◌, ◌<◌, length, replicate}
+use Rattle.std.specs.Prelude.{List, ◌≡◌, ℕ, ◌≤◌, ◌<◌, length, replicate, Ok, Err}
 use Rattle.paper.specs.Format.{vertices_in, edges_in, edition_of}
 use Rattle.paper.specs.Conversion.{Converted}
 use Rattle.paper.specs.Desk.{answer_text}
 use Rattle.paper.specs.declared.Refusal.{Refusal}
-use Rattle.paper.specs.declared.Written.{Written}
-use Rattle.paper.specs.declared.Written.TheVariants as Written
+use Rattle.paper.specs.Refusals.{Written}
 use Rattle.desk_text.specs.Texts.{text_room_size}
 use Rattle.demands.specs.Input.{sheet}
 use Rattle.demands.specs.Table.{one, end, of_written}
@@ -21,7 +20,7 @@ pub record Prints (s room₀ : List ℕ) (r : Written) (room : List ℕ) : Type 
   pub converts : Converts (sheet s) 1000000 (replicate 832 0) (replicate 24 0) conversion.answer conversion.faces conversion.solids
   -- demand 1: 1 where the room is shorter than the text, and then it is as it came; otherwise the text stands in it
   pub first : one 1 (length room₀ < length (text_of s conversion)) end (of_written r)
-  pub kept : (f : Refusal) → r ≡ Written.Refused f → room ≡ room₀
-  pub printed : (n : ℕ) → r ≡ Written.Bytes n → Stands (text_of s conversion) room₀ n room
+  pub kept : (f : Refusal) → r ≡ Err f → room ≡ room₀
+  pub printed : (n : ℕ) → r ≡ Ok n → Stands (text_of s conversion) room₀ n room
   -- no text is longer
   pub enough : length (text_of s conversion) ≤ text_room_size

@@ -1,18 +1,14 @@
 -- The customer's demands of one call by a program in C or Rust: of the number that is returned, and of every word, double and list that was
 -- lent.
-use Rattle.std.specs.Prelude.{◌↔◌, Bool, List, [], ◌∷◌, ◌++◌, ◌≡◌, ℕ, ◌≤◌, ◌<◌, Float, ℤ, length, drop}
+use Rattle.std.specs.Prelude.{◌↔◌, Bool, List, [], ◌∷◌, ◌++◌, ◌≡◌, ℕ, ◌≤◌, ◌<◌, Float, ℤ, length, drop, Ok, Err}
 use Rattle.paper.specs.Format.{vertices_in, edges_in, coordinates_in, ends_in, edition_of}
 use Rattle.paper.specs.Conversion.{Converted}
 use Rattle.paper.specs.Reading.{Said, fine, refused, conversion_says, verdict_says, written_says}
 use Rattle.paper.specs.Reading as Paper
-use Rattle.paper.specs.declared.Answer.{Answer}
-use Rattle.paper.specs.declared.Answer.TheVariants as Answer
+use Rattle.paper.specs.Refusals.{ListAccepted, Answer, Fine, Written}
 use Rattle.paper.specs.declared.Conversion.{Conversion}
 use Rattle.paper.specs.declared.Conversion.TheVariants as Conversion
 use Rattle.paper.specs.declared.Refusal.{Refusal}
-use Rattle.paper.specs.declared.Verdict.TheVariants as Verdict
-use Rattle.paper.specs.declared.Written.{Written}
-use Rattle.paper.specs.declared.Written.TheVariants as Written
 use Rattle.means_report.specs.Listed.{WalkTree}
 use Rattle.export_words.specs.Words.{onto, Tells}
 use Rattle.means_report.specs.Report.{solid_count}
@@ -70,7 +66,7 @@ AssessesInWords x limit n volume₀ volume =
 -- ---- the check
 
 pub record ChecksInWords (x : Input) (list : List ℕ) (r : ℕ) (words₀ words : List ℕ) : Type 0 where
-  pub answers : Answers verdict_says (λ v. v ≡ Verdict.Accepted) (Checks x list) r words₀ words
+  pub answers : Answers verdict_says (λ v. v ≡ ListAccepted) (Checks x list) r words₀ words
   -- demand 3, of the number: it is 0 exactly where the list names one solid with its directions
   pub exactly : Passes x
       → (r ≡ 0) ↔ (GoodList (drawing x) list × NamesOne (drawing x) (candidates_of x) (sent_faces (drawing x) list))
@@ -78,7 +74,7 @@ pub record ChecksInWords (x : Input) (list : List ℕ) (r : ℕ) (words₀ words
 -- ---- sheets and face lists that are written; a sheet that is read
 
 pub record WritesInWords (Demanded : Written → Type 0) (room₀ : List ℕ) (r : ℕ) (room words₀ words : List ℕ) : Type 0 where
-  pub answers : Answers written_says (λ w. (n : ℕ) × (w ≡ Written.Bytes n)) Demanded r words₀ words
+  pub answers : Answers written_says (λ w. (n : ℕ) × (w ≡ Ok n)) Demanded r words₀ words
   pub kept : (r ≡ 0 → ⊥) → room ≡ room₀
 
 -- demand 1, of a sheet read into two lists: 3 to 10, and then 1 where the list for coordinates is too short, or that for ends, "0; 1"
@@ -86,18 +82,18 @@ pub record ReadsInto (s : List ℕ) (xyz₀ : List ℤ) (ends₀ : List ℕ) (a 
   pub first : forms (sheet s)
       (line 1 2 (Two (length xyz₀ < length (coordinates_in (edition_of s) s)) (length ends₀ < length (ends_in (edition_of s) s))) end)
       a
-  pub kept : (f : Refusal) → a ≡ Answer.Refused f → (xyz ≡ xyz₀) × (ends ≡ ends₀)
-  pub lists : a ≡ Answer.Fine
+  pub kept : (f : Refusal) → a ≡ Err f → (xyz ≡ xyz₀) × (ends ≡ ends₀)
+  pub lists : a ≡ Fine
       → (xyz ≡ coordinates_in (edition_of s) s ++ drop (length (coordinates_in (edition_of s) s)) xyz₀)
       × (ends ≡ ends_in (edition_of s) s ++ drop (length (ends_in (edition_of s) s)) ends₀)
   -- demand 2: written back, these lists are the same bytes
-  pub again : a ≡ Answer.Fine → Sheets.Writes (coordinates_in (edition_of s) s) (ends_in (edition_of s) s) s
+  pub again : a ≡ Fine → Sheets.Writes (coordinates_in (edition_of s) s) (ends_in (edition_of s) s) s
 
 -- the values are the counts of vertices and edges
 abbrev pub counts_said : List ℕ → Answer → Said
-counts_said s Answer.Fine = fine (vertices_in (edition_of s) s ∷ edges_in (edition_of s) s ∷ [])
-counts_said s (Answer.Refused f) = refused f
+counts_said s (Ok _) = fine (vertices_in (edition_of s) s ∷ edges_in (edition_of s) s ∷ [])
+counts_said s (Err f) = refused f
 
 pub record ReadsInWords (s : List ℕ) (xyz₀ : List ℤ) (ends₀ : List ℕ) (r : ℕ) (xyz : List ℤ) (ends words₀ words : List ℕ) : Type 0 where
-  pub answers : Answers (counts_said s) (λ a. a ≡ Answer.Fine) (λ a. ReadsInto s xyz₀ ends₀ a xyz ends) r words₀ words
+  pub answers : Answers (counts_said s) (λ a. a ≡ Fine) (λ a. ReadsInto s xyz₀ ends₀ a xyz ends) r words₀ words
   pub kept : (r ≡ 0 → ⊥) → (xyz ≡ xyz₀) × (ends ≡ ends₀)

@@ -10,7 +10,7 @@ ghost use Rattle.demanded.specs.Demanded.{WritesSheet, Sends};
 ghost use Rattle.demanded_words.specs.Words.{ConvertsInWords, AssessesInWords, ChecksInWords, WritesInWords, ReadsInWords};
 ghost use Rattle.demanded_words.specs.Text.{Prints};
 
-use paper::Written;
+use paper::Refusal;
 
 pub fn read_sheet(sheet: &[u8], xyz: &mut [i64], ends: &mut [u8], said: &mut [u64]) -> u64
     ensures { ReadsInWords sheet.now xyz.old ends.old result xyz.new ends.new
@@ -95,7 +95,7 @@ pub fn check_sheet(sheet: &[u8], list: &[u8], said: &mut [u64]) -> u64
     export::nibgravel_check_sheet(sheet, list, said)
 }
 
-pub fn desk_text(sheet: &[u8], room: &mut [u8]) -> Written
+pub fn desk_text(sheet: &[u8], room: &mut [u8]) -> Result<usize, Refusal>
     ensures { Prints sheet.now room.old result room.new }
 {
     desk_text::desk_text(sheet, room)

@@ -13,12 +13,9 @@ use Rattle.paper.specs.Loops.{Loop}
 use Rattle.paper.specs.FaceList.{bits_of}
 use Rattle.paper.specs.Reading.{reading_says, reading_of}
 use Rattle.paper.specs.declared.Refusal.{Refusal}
-use Rattle.paper.specs.declared.Answer.{Answer}
-use Rattle.paper.specs.declared.Answer.TheVariants as Answer
-use Rattle.paper.specs.declared.Written.{Written}
+use Rattle.std.specs.Prelude.{Err}
+use Rattle.paper.specs.Refusals.{value_of, Answer, Verdict, Written}
 use Rattle.paper.specs.declared.Conversion.{Conversion}
-use Rattle.paper.specs.declared.Conversion.TheVariants as Conversion
-use Rattle.paper.specs.declared.Verdict.{Verdict}
 use Rattle.demands.specs.Input.{Input, lent, sheet, drawing, candidates_of, converted}
 use Rattle.demands.specs.Table.{line, end, one, rooms_and_limit, lists, forms, drawings, of_conversion, of_written, of_verdict}
 use Rattle.demands.specs.Shells.{Shape, GoodList, sent_faces, shells, NoList}
@@ -29,7 +26,7 @@ use Rattle.demands.proofs.Demand1.{demand1}
 
 module _ (most : ℕ) where
   pub record Numbers (table : Answer → Type 0) : Type 0 where
-    pub number : (r : Refusal) → table (Answer.Refused r) → (0 < r.number) × (r.number ≤ most)
+    pub number : (r : Refusal) → table (Err r) → (0 < value_of r.number) × (value_of r.number ≤ most)
 
   pub none_left : Numbers end
   none_left = record { number = λ r h. absurd h }
@@ -37,7 +34,7 @@ module _ (most : ℕ) where
   pub more : (n k : ℕ) (P : ℕ → Type 0) (below : Answer → Type 0) → (0 < n) × (n ≤ most) → Numbers below → Numbers (line n k P below)
   more n k P below h f = record { number = go }
     where
-      go : (r : Refusal) → line n k P below (Answer.Refused r) → (0 < r.number) × (r.number ≤ most)
+      go : (r : Refusal) → line n k P below (Err r) → (0 < value_of r.number) × (value_of r.number ≤ most)
       go r (inl q) = omega (arith, q.0, h)
       go r (inr q) = f.number r q.1
 
@@ -73,7 +70,7 @@ module _ (most : ℕ) where
 -- ---- so are those of the refusals
 
 conversion-refused : (x : Input) (limit : ℕ) (room solids : List ℕ) (r : Refusal)
-    → (converted x limit room solids).answer ≡ Conversion.Refused r → (0 < r.number) × (r.number ≤ 16)
+    → (converted x limit room solids).answer ≡ Conversion.Refused r → (0 < value_of r.number) × (value_of r.number ≤ 16)
 conversion-refused x limit room solids r e =
     let ruled = of-forms 16 (drawings (drawing x) end) (of-drawings 16 end (none_left 16) (omega arith) (drawing x)) (omega arith) x in
     (more 16 1 _ _ _ (omega arith) (more 16 2 _ _ _ (omega arith) ruled)).number r

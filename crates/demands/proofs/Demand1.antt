@@ -1,6 +1,7 @@
 -- Demand 1 holds.
 use mathlib.Core.Path.{◌≡◌, refl, sym, ap, subst, ◌∙◌}
 use mathlib.Core.Bool.{not}
+use mathlib.Core.Option.{none}
 use mathlib.Core.Logic.{inl, inr}
 use mathlib.Core.List.{List, [], ◌∷◌, ◌++◌, append_assoc, flat_map}
 use Prim.Native.Nat.{ℕ, ◌<◌}
@@ -9,7 +10,8 @@ use lib.Ieee.{Float}
 use lib.ListN.{length}
 use Rattle.paper.specs.Format.{edition_for}
 use Rattle.paper.specs.Numbers.{documented}
-use Rattle.paper.specs.Refusals.{Check, check, first_of, offends}
+use Rattle.paper.specs.declared.Number.TheVariants as No
+use Rattle.paper.specs.Refusals.{Check, check, first_of, offends, Answer, Fine, Verdict}
 use Rattle.paper.specs.FaceList.{well_shaped}
 use Rattle.paper.specs.Drawing.{drawing_checks}
 use Rattle.paper.specs.Loops.{loops, candidates, loop_checks}
@@ -17,13 +19,9 @@ use Rattle.paper.specs.Solids.{tables_of}
 use Rattle.paper.specs.Conversion.{Converted, entry_checks, conversion}
 use Rattle.paper.specs.Verdict.{listed, list_edition}
 use Rattle.paper.specs.Verdict.{face_checks, verdict_for, verdict}
-use Rattle.paper.specs.Reading.{conversion_says, volume, reading_of}
-use Rattle.paper.specs.declared.Answer.{Answer}
-use Rattle.paper.specs.declared.Answer.TheVariants as Answer
+use Rattle.paper.specs.Reading.{conversion_says, reading_says, volume, reading_of}
+use Rattle.std.specs.Prelude.{Ok, Err}
 use Rattle.paper.specs.declared.Conversion.{Conversion}
-use Rattle.paper.specs.declared.Conversion.TheVariants as Conversion
-use Rattle.paper.specs.declared.Verdict.{Verdict}
-use Rattle.paper.specs.declared.Reading.TheVariants as Reading
 use Rattle.means_walk.specs.Tree.{assumptions}
 use Rattle.means_report.specs.Listed.{Entry, WalkTree, walked}
 use Rattle.means_report.specs.Report.{answered, faces_for, solids_for, solid_count}
@@ -57,13 +55,13 @@ unfolding verdict candidates
 check_says x list =
     let d = drawing x in
     let fs = sent_faces d list in
-    let ks = check 20 (offends (not (well_shaped (list_edition d) (length d.vertices) list)) 0)
+    let ks = check No.ShellShape (offends (not (well_shaped (list_edition d) (length d.vertices) list)) 0)
     ∷ face_checks (tables_of d (candidates d)) (length (candidates d)) (listed (candidates d) fs) in
     let s = ends (λ below. forms x (drawings d (one 20 (GoodList d list → ⊥) (shells d (candidates d) fs below))))
     (rules x ++ ks)
     (behind (λ below. forms x (drawings d below)) (λ below. one 20 (GoodList d list → ⊥) (shells d (candidates d) fs below))
     (rules x) ks (rules_say x) (λ p.
-    also_one 20 (GoodList d list → ⊥) (not (well_shaped (list_edition d) (length d.vertices) list))
+    also_one No.ShellShape (GoodList d list → ⊥) (not (well_shaped (list_edition d) (length d.vertices) list))
     (is_not (well_shaped (list_edition d) (length d.vertices) list) (is_shape (one_for (length d.vertices) (length d.edges)) (length d.vertices) list)) (shells d (candidates d) fs)
     (face_checks (tables_of d (candidates d)) (length (candidates d)) (listed (candidates d) fs))
     (λ e. shells_say d (candidates d) fs (drawing-fits d (drawing-fine x p))))) in
@@ -71,13 +69,13 @@ check_says x list =
     (sym (of_verdict_lem (first_of (rules x ++ ks)))) s
   where
     of_verdict_lem : (a : Answer) → of_verdict (verdict_for a) ≡ a
-    of_verdict_lem Answer.Fine = refl
-    of_verdict_lem (Answer.Refused r) = refl
+    of_verdict_lem (Ok _) = refl
+    of_verdict_lem (Err r) = refl
 
 -- ---- conversion
 
 -- a report, and 17 to 19, are no refusals
-fine-answered : (l c w : ℕ) (es : List Entry) → of_conversion (answered l c w es) ≡ Answer.Fine
+fine-answered : (l c w : ℕ) (es : List Entry) → of_conversion (answered l c w es) ≡ Fine
 fine-answered l c w [] = refl
 fine-answered l c w (a ∷ []) = refl
 fine-answered l c w (a ∷ (b ∷ es)) = refl
@@ -97,10 +95,10 @@ module _ (x : Input) (limit : ℕ) (room solids : List ℕ) (r : Converted) (s :
     sound_within (Conversion.TooLong l c w) e = (says_long (drawing x) t limit room solids r s e).works
     sound_within (Conversion.Refused q) e = tt
 
-    sound_fine : of_conversion r.answer ≡ Answer.Fine
+    sound_fine : of_conversion r.answer ≡ Fine
     sound_fine = go s.tells
       where
-        go : Tells (drawing x) t limit room solids r → of_conversion r.answer ≡ Answer.Fine
+        go : Tells (drawing x) t limit room solids r → of_conversion r.answer ≡ Fine
         go (inl y) =
             ap of_conversion y.answer
             ∙ fine-answered (length (loops (drawing x))) (length (candidates (drawing x))) (assumptions t)
@@ -176,7 +174,7 @@ module _ (x : Input) (limit : ℕ) (room solids : List ℕ) where
 
 -- ---- the reading
 
-volume-one : (a : Conversion) (v : Float) → reading_of a ≡ Reading.Volume v → (l c work six : ℕ) × (a ≡ Conversion.One l c work six)
+volume-one : (a : Conversion) (v : Float) → reading_of a ≡ Ok v → (l c work six : ℕ) × (a ≡ Conversion.One l c work six)
     × (v ≡ volume six)
 unfolding reading_of volume
 volume-one (Conversion.One l c w six) v e = (l, c, w, six, refl, cc)
@@ -186,15 +184,16 @@ volume-one (Conversion.Many l c w) v e = let z : ◌≡◌ {A = ℕ} 0 1 = cc in
 volume-one (Conversion.TooLong l c w) v e = let z : ◌≡◌ {A = ℕ} 0 1 = cc in absurd (omega arith)
 volume-one (Conversion.Refused r) v e = let z : ◌≡◌ {A = ℕ} 0 1 = cc in absurd (omega arith)
 
-one-volume : (l c work six : ℕ) → reading_of (Conversion.One l c work six) ≡ Reading.Volume (volume six)
+one-volume : (l c work six : ℕ) → reading_of (Conversion.One l c work six) ≡ Ok (volume six)
 unfolding reading_of volume
 one-volume l c w six = refl
 
-several_none : (l c work n : ℕ) → reading_of (Conversion.Several l c work n) ≡ Reading.NotAssessed 30
+several_none : (l c work n : ℕ) → reading_says (reading_of (Conversion.Several l c work n)) ≡ record { number = 30; shown = none }
 unfolding reading_of
 several_none l c w n = refl
 
-number-none : (a : Conversion) → 0 < (conversion_says a).number → reading_of a ≡ Reading.NotAssessed (conversion_says a).number
+number-none : (a : Conversion) → 0 < (conversion_says a).number
+    → reading_says (reading_of a) ≡ record { number = (conversion_says a).number; shown = none }
 unfolding reading_of
 number-none (Conversion.One l c w six) h = absurd (omega arith)
 number-none (Conversion.Several l c w n) h = absurd (omega arith)

@@ -7,10 +7,9 @@ use lib.ListN.{length}
 use Rattle.paper.specs.Loops.{loop_at, loops, candidates}
 use Rattle.paper.specs.Solids.{tables_of}
 use Rattle.paper.specs.Conversion.{Converted}
-use Rattle.paper.specs.declared.Answer.TheVariants.{Fine}
+use Rattle.paper.specs.Refusals.{Fine}
 use Rattle.paper.specs.declared.Conversion.{Conversion}
 use Rattle.paper.specs.declared.Conversion.TheVariants.{One, Several, NoSolid, Many, TooLong}
-use Rattle.paper.specs.declared.Conversion.TheVariants as Conversion
 use Rattle.means_walk.specs.Tree.{assumptions}
 use Rattle.means_walk.proofs.Grown.{one-walk}
 use Rattle.means_report.specs.Listed.{WalkTree}

@@ -3,7 +3,7 @@ use mathlib.Core.Path.{◌≡◌, refl, sym, ap, ap₂, subst, ◌∙◌}
 use mathlib.Core.Bool.{Bool}
 use mathlib.Core.Logic.{inl, inr}
 use mathlib.Core.List.{List, [], ◌∷◌}
-use Prim.Native.Nat.{ℕ, ◌+◌, ◌*◌, ◌<◌}
+use Prim.Native.Nat.{ℕ, ◌*◌, ◌<◌}
 use native.Mathlib.Omega.{arith}
 use lib.ListN.{length, drop}
 use Rattle.paper.specs.FaceList.{encode_faces, solid_faces, well_shaped}
@@ -11,8 +11,8 @@ use Rattle.paper.specs.Loops.{Loop, loop_at, loops, candidates}
 use Rattle.paper.specs.Conversion.{Converted, faces_after}
 use Rattle.paper.specs.Verdict.{verdict, list_edition}
 use Rattle.paper.specs.declared.Refusal.{Refusal}
-use Rattle.paper.specs.declared.Verdict.{Verdict}
-use Rattle.paper.specs.declared.Verdict.TheVariants.{Accepted, Refused}
+use Rattle.std.specs.Prelude.{Ok, Err}
+use Rattle.paper.specs.Refusals.{ListAccepted, Verdict}
 use Rattle.means_solid.specs.Solid.{IsSolid}
 use Rattle.means_solid.specs.Named.{Names}
 use Rattle.means_walk.specs.Tree.{assumptions}
@@ -59,7 +59,7 @@ module _ (x : Input) (p : Passes x) where
 
   -- they are accepted, packed
   packed : (taken turned : List Bool) (six : ℕ) → IsSolid (drawing x) (candidates (drawing x)) taken turned six → (fs : List Loop)
-      → Names (drawing x) (candidates (drawing x)) taken turned fs → checked x (encode_faces (list_edition (drawing x)) fs) ≡ Accepted
+      → Names (drawing x) (candidates (drawing x)) taken turned fs → checked x (encode_faces (list_edition (drawing x)) fs) ≡ ListAccepted
   packed taken turned six s fs n =
       let d = drawing x in
       let few = small x (form-fine x p) in
@@ -69,12 +69,12 @@ module _ (x : Input) (p : Passes x) where
       (encode_faces (list_edition (drawing x)) fs) b.shape
       (subst (λ (gs : List Loop). Names (drawing x) (candidates (drawing x)) taken turned gs) (sym b.faces) n)
 
-  named : (list : List ℕ) → checked x list ≡ Accepted → NamesSolid (drawing x) (candidates (drawing x)) (sent_faces (drawing x) list)
+  named : (list : List ℕ) → checked x list ≡ ListAccepted → NamesSolid (drawing x) (candidates (drawing x)) (sent_faces (drawing x) list)
   named list a = ((accepts_exactly (form x) (drawing x) list).0 (sym (checked_is x list) ∙ a)).named
 
   -- what is accepted is one of all solids
   module _ (es : List Entry) (all : EverySolidOnce (drawing x) (candidates (drawing x)) es) where
-    among : (list : List ℕ) → checked x list ≡ Accepted → (i : ℕ) × (i < length es) × NamesIt x (entry_at es i) (sent_faces (drawing x) list)
+    among : (list : List ℕ) → checked x list ≡ ListAccepted → (i : ℕ) × (i < length es) × NamesIt x (entry_at es i) (sent_faces (drawing x) list)
     among list a =
         let w = named list a in
         let r = all.there w.solid in (
@@ -86,7 +86,7 @@ module _ (x : Input) (p : Passes x) where
               w.names),
         )
 
-    alone : length es ≡ 1 → (a b : List ℕ) → checked x a ≡ Accepted → checked x b ≡ Accepted
+    alone : length es ≡ 1 → (a b : List ℕ) → checked x a ≡ ListAccepted → checked x b ≡ ListAccepted
         → SameBody (sent_faces (drawing x) a) (sent_faces (drawing x) b)
     alone e a b p q =
         let r = among a p in
@@ -110,17 +110,17 @@ module _ (x : Input) (p : Passes x) where
         all.once i j hi hj (row_same (entry_at es i).taken (entry_at es j).taken (si.some ∙ sym sj.some) one.0)
 
   -- ---- what comes of an accepted list by turning, leaving out or doubling faces
-  module _ (a b : List ℕ) (ok : checked x a ≡ Accepted) (too : checked x b ≡ Accepted) where
+  module _ (a b : List ℕ) (ok : checked x a ≡ ListAccepted) (too : checked x b ≡ ListAccepted) where
     abbrev fs : List Loop
     fs = sent_faces (drawing x) a
 
     abbrev gs : List Loop
     gs = sent_faces (drawing x) b
 
-    ok_is : verdict (form x) (drawing x) a ≡ Accepted
+    ok_is : verdict (form x) (drawing x) a ≡ ListAccepted
     ok_is = sym (checked_is x a) ∙ ok
 
-    too_is : verdict (form x) (drawing x) b ≡ Accepted
+    too_is : verdict (form x) (drawing x) b ≡ ListAccepted
     too_is = sym (checked_is x b) ∙ too
 
     -- an accepted list has a face
@@ -143,13 +143,13 @@ module _ (x : Input) (p : Passes x) where
     spoiled (face_doubled i j hi hj n (inl s)) = not_doubled (form x) (drawing x) b too_is i j hi hj n s
     spoiled (face_doubled i j hi hj n (inr s)) = not_turned (form x) (drawing x) b too_is b too_is itself j i hj hi s
 
-  refused : (a b : List ℕ) → checked x a ≡ Accepted → Spoiled (sent_faces (drawing x) a) (sent_faces (drawing x) b)
-      → (r : Refusal) × (checked x b ≡ Refused r)
+  refused : (a b : List ℕ) → checked x a ≡ ListAccepted → Spoiled (sent_faces (drawing x) a) (sent_faces (drawing x) b)
+      → (r : Refusal) × (checked x b ≡ Err r)
   refused a b ok s = go (checked x b) refl
     where
-      go : (v : Verdict) → checked x b ≡ v → (r : Refusal) × (checked x b ≡ Refused r)
-      go Accepted e = absurd (spoiled a b ok e s)
-      go (Refused r) e = (r, e)
+      go : (v : Verdict) → checked x b ≡ v → (r : Refusal) × (checked x b ≡ Err r)
+      go (Ok _) e = absurd (spoiled a b ok e s)
+      go (Err r) e = (r, e)
 
   report : (limit : ℕ) (room solids : List ℕ) (r : Converted) → Sound (drawing x) (the_walk (drawing x)) limit room solids r
       → 0 < solid_count r.answer → Report x solids r

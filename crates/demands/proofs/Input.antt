@@ -5,13 +5,12 @@ use Prim.Native.Nat.{ℕ}
 use borrow.Author.Tests.{le-ltb}
 use lib.ListN.{length}
 use Rattle.paper.specs.Numbers.{documented}
-use Rattle.paper.specs.Refusals.{first_of}
+use Rattle.paper.specs.Refusals.{first_of, Fine}
 use Rattle.paper.specs.Format.{coordinates_in, ends_in, edition_of}
 use Rattle.paper.specs.Drawing.{drawing_checks}
 use Rattle.paper.specs.Loops.{loops, candidates, loop_checks}
 use Rattle.paper.specs.Conversion.{entry_checks, conversion, convert_lists, convert_sheet}
 use Rattle.paper.specs.Verdict.{verdict, verdict_lists, verdict_sheet}
-use Rattle.paper.specs.declared.Answer.TheVariants.{Fine}
 use Rattle.paper_laws.proofs.Editions.{limited_of}
 use Rattle.paper_laws.proofs.Checks.{clear, fails, first-both, both_first}
 use Rattle.means_sheets.proofs.Sheets.Read.{accepted-lent}

@@ -10,6 +10,7 @@ use lib.ListN.{length, get_or}
 use native.Mathlib.Omega.{arith}
 use Rattle.lists.specs.Lists.{lowest}
 use Rattle.paper.specs.Numbers.{documented}
+use Rattle.paper.specs.declared.Number.TheVariants as No
 use Rattle.paper.specs.Format.{outside, total, bytes_for, fill_after, vertices_in, edges_in, edition_of}
 use Rattle.paper.specs.Format.{coordinates_in, ends_in}
 use Rattle.pack.specs.Bits.{field_at}
@@ -32,8 +33,8 @@ use Rattle.demands.proofs.Table.{Says, done, also, also_one, also_two, behind}
 pub entry_says : (limit : ℕ) (room solids : List ℕ) → Says (rooms_and_limit limit room solids) (entry_checks limit room solids)
 unfolding entry_checks
 entry_says limit room solids =
-    also_two 1 _ _ _ _ (is_lt (length room) 832) (is_lt (length solids) 24) _ _
-    (also_one 2 _ _ (is_lt 1000000 limit) (λ below. below) [] (λ e. done))
+    also_two No.NoRoom _ _ _ _ (is_lt (length room) 832) (is_lt (length solids) 24) _ _
+    (also_one No.BadLimit _ _ (is_lt 1000000 limit) (λ below. below) [] (λ e. done))
 
 -- ---- 3 to 10
 
@@ -70,25 +71,25 @@ is_low ns (suc e) =
 content_says : (v : ℕ) (xyz : List ℤ) (ns : List ℕ) → Says (lists v xyz ns) (content_checks v xyz ns)
 unfolding content_checks edge_checks
 content_says v xyz ns =
-    also 8 (length xyz) (Far xyz) (lowest (far_at xyz) (length xyz)) _ _ (finds (far_at xyz) (Far xyz) (length xyz) (λ k h. is_far xyz k))
-    (λ e. also 9 (length ns / 2) (EdgeOffends v ns) (lowest (wrong_at v ns) (length ns / 2)) _ _
+    also No.BadCoordinate (length xyz) (Far xyz) (lowest (far_at xyz) (length xyz)) _ _ (finds (far_at xyz) (Far xyz) (length xyz) (λ k h. is_far xyz k))
+    (λ e. also No.BadEdge (length ns / 2) (EdgeOffends v ns) (lowest (wrong_at v ns) (length ns / 2)) _ _
     (finds (wrong_at v ns) (EdgeOffends v ns) (length ns / 2) (λ k h. is_bad_edge v ns k))
-    (λ e. also 10 (length ns / 2) (OrderOffends ns) (lowest (low_at ns) (length ns / 2)) (λ below. below) []
+    (λ e. also No.EdgeOrder (length ns / 2) (OrderOffends ns) (lowest (low_at ns) (length ns / 2)) (λ below. below) []
     (finds (low_at ns) (OrderOffends ns) (length ns / 2) (λ k h. is_low ns k)) (λ e. done)))
 
 pub form_says : (x : Input) → Says (forms x) (form x)
 unfolding edition_of lent_checks sheet_checks shape_checks open_checks count_checks close_checks
 form_says (lent xyz ns) =
-    also_two 5 _ _ _ _ (is_bad 3 4 32 (length xyz)) (is_bad 2 6 64 (length ns)) _ _ (content_says (length xyz / 3) xyz ns)
+    also_two No.BadCount _ _ _ _ (is_bad 3 4 32 (length xyz)) (is_bad 2 6 64 (length ns)) _ _ (content_says (length xyz / 3) xyz ns)
 form_says (sheet s) =
     let f = edition_of s in
     let v = vertices_in f s in
     let n = edges_in f s in
-    also_one 3 _ _ (is_lt (length s) 3) _ _ (λ e.
-    also_one 4 _ _ (is_not (eqb (field_at s 0 4) 1) (is_eq (field_at s 0 4) 1)) _ _ (λ e.
-    also_two 5 _ _ _ _ (is_outside 4 32 v) (is_outside 6 64 n) _ _
-    (also_one 6 _ _ (is_not (eqb (length s) (bytes_for (total f v n))) (is_eq (length s) (bytes_for (total f v n)))) _ _ (λ e.
-    also_one 7 _ _ (is_not (eqb (fill_after (total f v n) s) 0) (is_eq (fill_after (total f v n) s) 0)) _ _ (λ e.
+    also_one No.SheetShort _ _ (is_lt (length s) 3) _ _ (λ e.
+    also_one No.SheetEdition _ _ (is_not (eqb (field_at s 0 4) 1) (is_eq (field_at s 0 4) 1)) _ _ (λ e.
+    also_two No.BadCount _ _ _ _ (is_outside 4 32 v) (is_outside 6 64 n) _ _
+    (also_one No.SheetLength _ _ (is_not (eqb (length s) (bytes_for (total f v n))) (is_eq (length s) (bytes_for (total f v n)))) _ _ (λ e.
+    also_one No.SheetPad _ _ (is_not (eqb (fill_after (total f v n) s) 0) (is_eq (fill_after (total f v n) s) 0)) _ _ (λ e.
     content_says v (coordinates_in f s) (ends_in f s))))))
 
 -- ---- 11 to 16: where 9 finds nothing the ends of edges rise
@@ -96,12 +97,12 @@ form_says (sheet s) =
 drawing_says : (d : Wire) → Rising d → Says (drawings d) (drawing_checks d ++ loop_checks documented (loops d) (candidates d))
 unfolding drawing_checks loop_checks
 drawing_says d r =
-    also 11 (length d.vertices) (Doubled d) (same_place d) _ _ (same_place_finds d)
-    (λ p. also 12 (length d.vertices) (Loose d) (loose_vertex d) _ _ (loose_vertex_finds d)
-    (λ e. also 13 (length d.edges) (Meets d) (edge_meets d) _ _ (edge_meets_finds d (long_edges d r p))
-    (λ e. also 14 (length d.vertices) (λ v. Reachable d v → ⊥) (apart d) _ _ (apart_finds d)
-    (λ e. also_one 15 _ _ (is_lt 128 (length (loops d))) _ _
-    (λ e. also_one 16 _ _ (is_lt 64 (length (candidates d))) (λ below. below) [] (λ e. done))))))
+    also No.SamePlace (length d.vertices) (Doubled d) (same_place d) _ _ (same_place_finds d)
+    (λ p. also No.LooseVertex (length d.vertices) (Loose d) (loose_vertex d) _ _ (loose_vertex_finds d)
+    (λ e. also No.EdgeMeets (length d.edges) (Meets d) (edge_meets d) _ _ (edge_meets_finds d (long_edges d r p))
+    (λ e. also No.Apart (length d.vertices) (λ v. Reachable d v → ⊥) (apart d) _ _ (apart_finds d)
+    (λ e. also_one No.ManyLoops _ _ (is_lt 128 (length (loops d))) _ _
+    (λ e. also_one No.ManyCandidates _ _ (is_lt 64 (length (candidates d))) (λ below. below) [] (λ e. done))))))
 
 pub rules_say : (x : Input) → Says (λ below. forms x (drawings (drawing x) below)) (rules x)
 rules_say x =

@@ -9,12 +9,11 @@ use lib.ListN.{length}
 use Rattle.lists.proofs.Truth.{same_truth}
 use Rattle.paper.specs.Numbers.{documented}
 use Rattle.paper.specs.Points.{times}
-use Rattle.paper.specs.Refusals.{first_of}
+use Rattle.paper.specs.Refusals.{first_of, Fine}
 use Rattle.paper.specs.FaceList.{well_shaped}
 use Rattle.paper.specs.Drawing.{Wire, wire}
 use Rattle.paper.specs.Conversion.{Converted, conversion}
 use Rattle.paper.specs.Verdict.{verdict, list_edition}
-use Rattle.paper.specs.declared.Answer.TheVariants.{Fine}
 use Rattle.paper.specs.declared.Point.{Point}
 use Rattle.means_drawing.specs.Drawings.{Rising}
 use Rattle.means_moves.specs.TurnedRound.{AllTurned}

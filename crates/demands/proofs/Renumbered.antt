@@ -6,13 +6,12 @@ use Prim.Native.Nat.{ℕ}
 use native.Mathlib.Omega.{arith}
 use lib.ListN.{length}
 use Rattle.paper.specs.Numbers.{documented}
-use Rattle.paper.specs.Refusals.{first_of}
+use Rattle.paper.specs.Refusals.{first_of, Answer, Fine}
 use Rattle.paper.specs.Format.{edition_of}
 use Rattle.paper.specs.Drawing.{same_place, drawing_checks}
 use Rattle.paper.specs.Loops.{loops, uncovering, candidates, loop_checks}
 use Rattle.paper.specs.Conversion.{Converted, entry_checks, conversion}
-use Rattle.paper.specs.declared.Answer.{Answer}
-use Rattle.paper.specs.declared.Answer.TheVariants as Answer
+use Rattle.std.specs.Prelude.{Ok, Err}
 use Rattle.paper.specs.declared.Conversion.TheVariants as Conversion
 use Rattle.paper.specs.declared.Refusal.{Refusal}
 use Rattle.means_report.specs.Listed.{Entry}
@@ -35,20 +34,20 @@ use Rattle.demands.proofs.Input.{converted_is, drawing-fine, loops-fine, unrefus
 use Rattle.demands.proofs.Solid.{of_words, in_words, every-words}
 use Rattle.demands.specs.Renumbered.{SameSolid, Given, SolidsKept, ListsAll, OneToOne, Renumbers}
 
-sorted : (x : Input) → Answer.Fine ≡ first_of (form x) → Sorted (drawing x)
+sorted : (x : Input) → Fine ≡ first_of (form x) → Sorted (drawing x)
 sorted (lent xyz ends) e = lent_sorted xyz ends e
 sorted (sheet s) e = sheet_sorted (edition_of s) (limited_of s) s e
 
 -- a refusal of 1 and 2 is no matter of the drawing
 module _ (x : Input) (limit : ℕ) (faces solids : List ℕ) where
-  entry_stops : (r : Refusal) → Answer.Refused r ≡ first_of (entry_checks limit faces solids) → (converted x limit faces solids).answer ≡
+  entry_stops : (r : Refusal) → Err r ≡ first_of (entry_checks limit faces solids) → (converted x limit faces solids).answer ≡
       Conversion.Refused r
   unfolding conversion
   entry_stops r e =
       let E = entry_checks limit faces solids in
       let a = first_stops E (form x) e in
       let b = first_stops (E ++ form x) (drawing_checks (drawing x)) a in
-      let c : Answer.Refused r ≡ first_of (E ++ form x ++ drawing_checks (drawing x) ++ loop_checks documented (loops (drawing x))
+      let c : Err r ≡ first_of (E ++ form x ++ drawing_checks (drawing x) ++ loop_checks documented (loops (drawing x))
       (uncovering (drawing x) (loops (drawing x))))
       = first_stops (E ++ form x ++ drawing_checks (drawing x)) _ b in
       ap (λ (q : Converted). q.answer) (converted_is x limit faces solids) ∙ rw (← c)
@@ -73,12 +72,12 @@ module _ (new : ℕ → ℕ) (x y : Input) (g : Given new x y) where
     where
       go : (a : Answer) → a ≡ first_of (entry_checks limit faces solids)
           → (q : Refusal) × ((converted y limit faces solids).answer ≡ Conversion.Refused q) × (q.number ≡ r.number)
-      go Answer.Fine p =
+      go (Ok _) p =
           let w = same_refusal numbers sx sy documented (form x) (form y) g.good g.good_too limit limit faces faces solids solids p
           p r
           (ap (λ (c : Converted). c.answer) (sym (converted_is x limit faces solids)) ∙ e) in
           (w.0, ap (λ (c : Converted). c.answer) (converted_is y limit faces solids) ∙ w.1, w.2)
-      go (Answer.Refused q) p =
+      go (Err q) p =
           let z = entry_stops x limit faces solids q p in
           (q, entry_stops y limit faces solids q p, (let t : q ≡ r = cc in ap (λ (k : Refusal). k.number) t))
 
@@ -91,11 +90,11 @@ module _ (new : ℕ → ℕ) (x y : Input) (g : Given new x y) where
     where
       go : (a : Answer) → a ≡ first_of (drawing_checks (drawing y) ++ loop_checks documented (loops (drawing y)) (candidates (drawing y)))
           → rule_of a ≡ none → Passes y
-      go Answer.Fine q z =
+      go (Ok _) q z =
           let w = first-both (drawing_checks (drawing y)) (loop_checks documented (loops (drawing y)) (candidates (drawing y))) q in
           both_first (form y ++ drawing_checks (drawing y)) (loop_checks documented (loops (drawing y)) (candidates (drawing y)))
           (both_first (form y) (drawing_checks (drawing y)) g.good_too w.0) w.1
-      go (Answer.Refused r) q z = let t : ◌≡◌ {A = ℕ} 0 1 = cc in absurd (omega arith)
+      go (Err r) q z = let t : ◌≡◌ {A = ℕ} 0 1 = cc in absurd (omega arith)
 
   places : Passes x → same_place (drawing x) ≡ none
   places p = drawing_places (drawing x) (drawing-fine x p)

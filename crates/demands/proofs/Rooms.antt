@@ -10,12 +10,12 @@ use lib.Dec.{ltb}
 use lib.ListN.{length, drop}
 use Rattle.paper.specs.Record.{entry}
 use Rattle.paper.specs.Numbers.{documented, most_candidates, row_bytes, solid_words}
-use Rattle.paper.specs.Refusals.{first_of}
+use Rattle.paper.specs.declared.Number.TheVariants as No
+use Rattle.paper.specs.Refusals.{first_of, Fine}
 use Rattle.paper.specs.Drawing.{Wire}
 use Rattle.paper.specs.Loops.{Loop, loops, candidates, loop_checks}
 use Rattle.paper.specs.FaceList.{solid_faces}
 use Rattle.paper.specs.Conversion.{faces_after}
-use Rattle.paper.specs.declared.Answer.TheVariants.{Fine}
 use Rattle.paper_laws.proofs.Record.{entry_length}
 use Rattle.paper_laws.proofs.Checks.{found_none, passed}
 use Rattle.faces_laws.proofs.Reported.{solid-faces}
@@ -28,7 +28,7 @@ use Rattle.means_loops.proofs.Listing.{candidates_are}
 few_candidates : (ls cs : List Loop) → Fine ≡ first_of (loop_checks documented ls cs) → length cs ≤ most_candidates
 unfolding loop_checks
 few_candidates ls cs e =
-    ltb-false most_candidates (length cs) (passed 16 0 {b = ltb most_candidates (length cs)} [] (found_none _ _ e).1).0
+    ltb-false most_candidates (length cs) (passed No.ManyCandidates 0 {b = ltb most_candidates (length cs)} [] (found_none _ _ e).1).0
 
 module _ (d : Wire) (fine : Fine ≡ first_of (loop_checks documented (loops d) (candidates d))) (room more : List ℕ)
     (taken turned : List Bool) (some : length taken ≡ length (candidates d)) (six : ℕ) where

@@ -8,7 +8,7 @@ use Rattle.pack.specs.Bits.{Under}
 use Rattle.paper.specs.Format.{vertices_in, edges_in, coordinates_in, ends_in, encode, edition_of, lent_edition}
 use Rattle.paper.specs.Sheet.{held, read_sheet}
 use Rattle.paper.specs.declared.Format.{Format}
-use Rattle.paper.specs.declared.Answer.TheVariants.{Fine}
+use Rattle.paper.specs.Refusals.{Fine}
 use Rattle.paper.specs.declared.Drawing.{Drawing}
 use Rattle.sheet_laws.proofs.Accepted.{length_coordinates, length-ends}
 use Rattle.means_sheets.proofs.Sheets.{sheet-reads_back, sheet_writes_back}

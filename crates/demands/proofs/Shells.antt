@@ -16,6 +16,7 @@ use Rattle.lists.proofs.Truth.{and_left, and_right, and_both}
 use Rattle.sets.specs.Word.{dig, count, both, first}
 use Rattle.sets.proofs.Digits.{never, dig-both, count_none, first_in}
 use Rattle.sets.proofs.Ones.{dig-below}
+use Rattle.paper.specs.declared.Number.TheVariants as No
 use Rattle.paper.specs.Refusals.{offends}
 use Rattle.paper.specs.Points.{above}
 use Rattle.paper.specs.Drawing.{Wire, edge_at}
@@ -269,12 +270,12 @@ module _ (d : Wire) (cs fs : List Loop) (c : ProperCandidates d cs) where
   pub shells_say : Says (shells d cs fs) (face_checks (tables_of d cs) (length cs) (listed cs fs))
   unfolding face_checks listed inward
   shells_say =
-      also 21 (length fs) (NoCandidate d cs fs) (not_candidate (length cs) (numbers_of cs fs)) _ _ finds_21
-      (λ p. also 22 (length fs) (AnEarlierFace d cs fs) (face_twice (numbers_of cs fs)) _ _ (finds_22 (known-all cs fs p))
-      (λ e. also 23 (length d.edges) (NotTwoFaces d cs fs) (edge_count (tables_of d cs) (taken_of cs fs)) _ _ finds_23
-      (λ q. also 24 (length d.edges) (NotOnceEachWay d cs fs) (direction (tables_of d cs) (taken_of cs fs) (turned_of cs fs)) _ _ finds_24
-      (λ e. also 25 (length fs) (NotJoined d cs fs) (pieces (tables_of d cs) (numbers_of cs fs) (taken_of cs fs)) _ _
+      also No.NotCandidate (length fs) (NoCandidate d cs fs) (not_candidate (length cs) (numbers_of cs fs)) _ _ finds_21
+      (λ p. also No.FaceTwice (length fs) (AnEarlierFace d cs fs) (face_twice (numbers_of cs fs)) _ _ (finds_22 (known-all cs fs p))
+      (λ e. also No.EdgeCount (length d.edges) (NotTwoFaces d cs fs) (edge_count (tables_of d cs) (taken_of cs fs)) _ _ finds_23
+      (λ q. also No.Direction (length d.edges) (NotOnceEachWay d cs fs) (direction (tables_of d cs) (taken_of cs fs) (turned_of cs fs)) _ _ finds_24
+      (λ e. also No.Pieces (length fs) (NotJoined d cs fs) (pieces (tables_of d cs) (numbers_of cs fs) (taken_of cs fs)) _ _
       (finds_25 (known-all cs fs p) (edges_two d cs (taken_of cs fs) (turned_of cs fs) q))
-      (λ e. also_one 26 (NoVolume d cs fs) (not (above (six_from 0 (tables_of d cs).sixes (taken_of cs fs) (turned_of cs fs)))) is_inward _ _
-      (λ e. also 27 (length fs) (ClashesWithAnother d cs fs) (clashes (tables_of d cs) (numbers_of cs fs) (taken_of cs fs)) (λ below. below) []
+      (λ e. also_one No.Inward (NoVolume d cs fs) (not (above (six_from 0 (tables_of d cs).sixes (taken_of cs fs) (turned_of cs fs)))) is_inward _ _
+      (λ e. also No.Clash (length fs) (ClashesWithAnother d cs fs) (clashes (tables_of d cs) (numbers_of cs fs) (taken_of cs fs)) (λ below. below) []
       (finds_27 (known-all cs fs p)) (λ e. done)))))))

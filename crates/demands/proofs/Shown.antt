@@ -20,9 +20,8 @@ use Rattle.paper.specs.Conversion.{Converted, convert_sheet}
 use Rattle.paper.specs.Reading.{reading_of}
 use Rattle.paper.specs.Desk.{text, decimal_in, decimal, signed, faces_text, solid_text, solids_text, head_text, answer_text, desk_text}
 use Rattle.paper.specs.declared.Conversion.{Conversion}
-use Rattle.paper.specs.declared.Conversion.TheVariants as Conversion
 use Rattle.paper.specs.declared.Point.{Point}
-use Rattle.paper.specs.declared.Reading.{Reading}
+use Rattle.paper.specs.Refusals.{value_of, Reading}
 use Rattle.paper_laws.proofs.Record.{digits_length, past_digit, zero_digit, entry_length, taken_in_lem, turned_in_lem, six_in_lem}
 use Rattle.sheet_laws.proofs.Accepted.{length_coordinates, length-ends}
 use Rattle.means_report.specs.Listed.{Entry, words_of}
@@ -209,7 +208,7 @@ whole v e (Conversion.NoSolid l c w) es z o = head v e l c w & words "no solid\n
 whole v e (Conversion.Many l c w) es z o = head v e l c w & words "many\n" refl
 whole v e (Conversion.TooLong l c w) es z o = head v e l c w & words "too long\n" refl
 whole v e (Conversion.Refused r) es z o =
-    words "refused " refl & number r.number & words " " refl & number r.place & words "\n" refl
+    words "refused " refl & number (value_of r.number) & words " " refl & number r.place & words "\n" refl
 
 -- of the desk's room, which is all zeros, and of what is left of it
 zeros : (n j k : ℕ) → get_or (drop j (blank n)) k 0 ≡ 0

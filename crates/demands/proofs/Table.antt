@@ -6,9 +6,9 @@ use mathlib.Core.Logic.{inl, inr}
 use mathlib.Core.List.{List, [], ◌∷◌, ◌++◌}
 use Prim.Native.Nat.{ℕ, zero, suc, ◌<◌}
 use native.Mathlib.Omega.{arith}
-use Rattle.paper.specs.Refusals.{Check, check, first_of, offends}
-use Rattle.paper.specs.declared.Answer.{Answer}
-use Rattle.paper.specs.declared.Answer.TheVariants.{Fine, Refused}
+use Rattle.std.specs.Prelude.{Ok, Err}
+use Rattle.paper.specs.declared.Number.{Number}
+use Rattle.paper.specs.Refusals.{value_of, Check, check, first_of, offends, Answer, Fine}
 use Rattle.paper_laws.proofs.Behind.{or_else}
 use Rattle.means_drawing.specs.Drawings.{Finds}
 use Rattle.paper_laws.proofs.Checks.{both_first}
@@ -20,18 +20,19 @@ pub record Says (lines : (Answer → Type 0) → Answer → Type 0) (cs : List C
   pub at : (below : Answer → Type 0) (a : Answer) → (Fine ≡ first_of cs → below a) → lines below (or_else (first_of cs) a)
 
 pass : (n k : ℕ) (P : ℕ → Type 0) (below : Answer → Type 0) → Finds P k none → (a : Answer) → below a → line n k P below a
-pass n k P below f Fine b = (f, b)
-pass n k P below f (Refused r) b = inr (f, b)
+pass n k P below f (Ok _) b = (f, b)
+pass n k P below f (Err r) b = inr (f, b)
 
 -- no checks; one more
 pub done : Says (λ below. below) []
 unfolding first_of
 done = record { at = λ below a g. g refl }
 
-pub also : (n k : ℕ) (P : ℕ → Type 0) (o : Option ℕ) (lines : (Answer → Type 0) → Answer → Type 0) (cs : List Check) → Finds P k o
-    → (o ≡ none → Says lines cs) → Says (λ below. line n k P (lines below)) (check n o ∷ cs)
+pub also : (n : Number) (k : ℕ) (P : ℕ → Type 0) (o : Option ℕ) (lines : (Answer → Type 0) → Answer → Type 0) (cs : List Check)
+    → Finds P k o → (o ≡ none → Says lines cs) → Says (λ below. line (value_of n) k P (lines below)) (check n o ∷ cs)
 unfolding first_of
-also n k P none lines cs f g = record { at = λ below a h. pass n k P (lines below) f (or_else (first_of cs) a) ((g refl).at below a h) }
+also n k P none lines cs f g =
+    record { at = λ below a h. pass (value_of n) k P (lines below) f (or_else (first_of cs) a) ((g refl).at below a h) }
 also n k P (some p) lines cs f g = record { at = λ below a h. inl (refl, f) }
 
 -- a check of the place 0 alone; two checks of the places 0 and 1
@@ -39,12 +40,12 @@ finds_one : (b : Bool) (A : Type 0) → Is b A → Finds (λ p. A) 1 (offends b 
 finds_one true A i = (omega arith, i.0 refl, λ k h q. omega arith)
 finds_one false A i = λ k h q. is_off i refl q
 
-pub also_one : (n : ℕ) (A : Type 0) (b : Bool) → Is b A → (lines : (Answer → Type 0) → Answer → Type 0) (cs : List Check)
-    → (offends b 0 ≡ none → Says lines cs) → Says (λ below. one n A (lines below)) (check n (offends b 0) ∷ cs)
+pub also_one : (n : Number) (A : Type 0) (b : Bool) → Is b A → (lines : (Answer → Type 0) → Answer → Type 0) (cs : List Check)
+    → (offends b 0 ≡ none → Says lines cs) → Says (λ below. one (value_of n) A (lines below)) (check n (offends b 0) ∷ cs)
 also_one n A b i lines cs g = also n 1 (λ p. A) (offends b 0) lines cs (finds_one b A i) g
 
-pub also_two : (n : ℕ) (A B : Type 0) (a b : Bool) → Is a A → Is b B → (lines : (Answer → Type 0) → Answer → Type 0) (cs : List Check)
-    → Says lines cs → Says (λ below. line n 2 (Two A B) (lines below)) (check n (offends a 0) ∷ check n (offends b 1) ∷ cs)
+pub also_two : (n : Number) (A B : Type 0) (a b : Bool) → Is a A → Is b B → (lines : (Answer → Type 0) → Answer → Type 0) (cs : List Check)
+    → Says lines cs → Says (λ below. line (value_of n) 2 (Two A B) (lines below)) (check n (offends a 0) ∷ check n (offends b 1) ∷ cs)
 unfolding first_of
 also_two n A B true b i j lines cs g = record { at = λ below c h. inl (refl, (omega arith, i.0 refl, λ k l q. omega arith)) }
 also_two n A B false true i j lines cs g = record { at = λ below c h. inl (refl, (omega arith, j.0 refl, first)) }
@@ -53,7 +54,7 @@ also_two n A B false true i j lines cs g = record { at = λ below c h. inl (refl
     first zero l q = is_off i refl q
     first (suc k) l q = omega arith
 also_two n A B false false i j lines cs g =
-    record { at = λ below c h. pass n 2 (Two A B) (lines below) both (or_else (first_of cs) c) (g.at below c h) }
+    record { at = λ below c h. pass (value_of n) 2 (Two A B) (lines below) both (or_else (first_of cs) c) (g.at below c h) }
   where
     both : (k : ℕ) → k < 2 → Two A B k → ⊥
     both zero l q = is_off i refl q
@@ -76,8 +77,8 @@ behind lines more cs ds s u = record {
 
 -- all lines
 or_fine : (a : Answer) → or_else a Fine ≡ a
-or_fine Fine = refl
-or_fine (Refused r) = refl
+or_fine (Ok _) = refl
+or_fine (Err r) = refl
 
 pub ends : (lines : (Answer → Type 0) → Answer → Type 0) (cs : List Check) → Says lines cs → lines end (first_of cs)
 ends lines cs s = subst (lines end) (or_fine (first_of cs)) (s.at end Fine (λ e. tt))

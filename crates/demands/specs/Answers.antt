@@ -1,33 +1,28 @@
 -- What is said of each answer: a number of the table, a place and values, and that these tell which answer it is.
-use Rattle.std.specs.Prelude.{◌≡◌, List, ℕ, ◌≤◌, ◌<◌, ℤ}
+use Rattle.std.specs.Prelude.{◌≡◌, List, ℕ, ◌≤◌, ◌<◌, ℤ, Err}
 use Rattle.paper.specs.Format.{edition_of, edition_for, lent_edition}
 use Rattle.paper.specs.Loops.{Loop}
 use Rattle.paper.specs.FaceList.{faces_of, sent_of}
 use Rattle.paper.specs.Sheet.{written_of, read_sheet}
 use Rattle.paper.specs.Reading.{answer_says, written_says, conversion_says, verdict_says, reading_says, reading_of}
 use Rattle.paper.specs.declared.Refusal.{Refusal}
-use Rattle.paper.specs.declared.Answer.TheVariants as Answer
-use Rattle.paper.specs.declared.Written.{Written}
-use Rattle.paper.specs.declared.Written.TheVariants as Written
+use Rattle.paper.specs.Refusals.{value_of, Reading, Written}
 use Rattle.paper.specs.declared.Conversion.{Conversion}
-use Rattle.paper.specs.declared.Conversion.TheVariants as Conversion
-use Rattle.paper.specs.declared.Verdict.TheVariants as Verdict
-use Rattle.paper.specs.declared.Reading.{Reading}
 use Rattle.demands.specs.Input.{Input, converted, checked}
 
 -- no refusal has the number 0, which says that nothing is refused
 pub record NumbersNotZero : Type 0 where
-  pub reads : (s : List ℕ) (r : Refusal) → (read_sheet s).answer ≡ Answer.Refused r → 0 < r.number
-  pub writes : (xyz : List ℤ) (ends room : List ℕ) (r : Refusal) → written_of (lent_edition xyz ends) xyz ends room ≡ Written.Refused r
-      → 0 < r.number
-  pub reads_faces : (v : ℕ) (list : List ℕ) (r : Refusal) → (faces_of (edition_of list) v list).answer ≡ Answer.Refused r → 0 < r.number
-  pub sends : (v e : ℕ) (fs : List Loop) (room : List ℕ) (r : Refusal) → sent_of (edition_for v e) fs room ≡ Written.Refused r → 0 < r.number
+  pub reads : (s : List ℕ) (r : Refusal) → (read_sheet s).answer ≡ Err r → 0 < value_of r.number
+  pub writes : (xyz : List ℤ) (ends room : List ℕ) (r : Refusal) → written_of (lent_edition xyz ends) xyz ends room ≡ Err r
+      → 0 < value_of r.number
+  pub reads_faces : (v : ℕ) (list : List ℕ) (r : Refusal) → (faces_of (edition_of list) v list).answer ≡ Err r → 0 < value_of r.number
+  pub sends : (v e : ℕ) (fs : List Loop) (room : List ℕ) (r : Refusal) → sent_of (edition_for v e) fs room ≡ Err r → 0 < value_of r.number
   pub converts : (x : Input) (limit : ℕ) (room solids : List ℕ) (r : Refusal)
-      → (converted x limit room solids).answer ≡ Conversion.Refused r → 0 < r.number
-  pub checks : (x : Input) (list : List ℕ) (r : Refusal) → checked x list ≡ Verdict.Refused r → 0 < r.number
+      → (converted x limit room solids).answer ≡ Conversion.Refused r → 0 < value_of r.number
+  pub checks : (x : Input) (list : List ℕ) (r : Refusal) → checked x list ≡ Err r → 0 < value_of r.number
   -- and none of a conversion has 17 to 19, by which its other ends are said, or 30
   pub below : (x : Input) (limit : ℕ) (room solids : List ℕ) (r : Refusal)
-      → (converted x limit room solids).answer ≡ Conversion.Refused r → r.number ≤ 16
+      → (converted x limit room solids).answer ≡ Conversion.Refused r → value_of r.number ≤ 16
 
 -- "a definition gives this paper's number and values for each of its cases": two answers of which the same is said are the same
 pub record Told : Type 0 where

@@ -1,16 +1,13 @@
 -- The customer's demand 1, of every input.
-use Rattle.std.specs.Prelude.{◌≡◌, List, ℕ, ◌/◌, ◌≤◌, ◌<◌, ℤ, Float, length}
+use Rattle.std.specs.Prelude.{◌≡◌, List, ℕ, ◌/◌, ◌≤◌, ◌<◌, ℤ, Float, length, Ok, Err}
+use Rattle.std.proofs.Math.Option.{none}
 use Rattle.paper.specs.Format.{edition_of, edition_for, lent_edition, total, bytes_for}
 use Rattle.paper.specs.Loops.{Loop}
 use Rattle.paper.specs.FaceList.{faces_of, bits_of, sent_of, sent_room}
 use Rattle.paper.specs.Sheet.{blank, written_of, room_of, read_sheet}
-use Rattle.paper.specs.Reading.{conversion_says, volume, reading_of}
+use Rattle.paper.specs.Reading.{conversion_says, reading_says, volume, reading_of}
 use Rattle.paper.specs.declared.Refusal.{Refusal}
-use Rattle.paper.specs.declared.Answer.TheVariants as Answer
-use Rattle.paper.specs.declared.Written.TheVariants as Written
 use Rattle.paper.specs.declared.Conversion.{Conversion}
-use Rattle.paper.specs.declared.Conversion.TheVariants as Conversion
-use Rattle.paper.specs.declared.Reading.TheVariants as Reading
 use Rattle.means_report.specs.Report.{solid_count}
 use Rattle.demands.specs.Input.{Input, lent, sheet, drawing, candidates_of, converted, checked}
 use Rattle.demands.specs.Table.{end, one, rooms_and_limit, forms, drawings, of_conversion, of_written, of_verdict}
@@ -46,15 +43,16 @@ pub record Demand1 : Type 0 where
   -- "leaves all lent buffers with the contents they came with": wherever there is no report, and no sheet or face list is written
   pub rooms_kept : (x : Input) (limit : ℕ) (room solids : List ℕ) → solid_count (converted x limit room solids).answer ≡ 0
       → ((converted x limit room solids).faces ≡ room) × ((converted x limit room solids).solids ≡ solids)
-  pub blank_kept : (s : List ℕ) (r : Refusal) → (read_sheet s).answer ≡ Answer.Refused r → (read_sheet s).drawing ≡ blank
-  pub room_kept : (xyz : List ℤ) (ends room : List ℕ) (r : Refusal) → written_of (lent_edition xyz ends) xyz ends room ≡ Written.Refused r
+  pub blank_kept : (s : List ℕ) (r : Refusal) → (read_sheet s).answer ≡ Err r → (read_sheet s).drawing ≡ blank
+  pub room_kept : (xyz : List ℤ) (ends room : List ℕ) (r : Refusal) → written_of (lent_edition xyz ends) xyz ends room ≡ Err r
       → room_of (lent_edition xyz ends) xyz ends room ≡ room
-  pub send_room_kept : (v e : ℕ) (fs : List Loop) (room : List ℕ) (r : Refusal) → sent_of (edition_for v e) fs room ≡ Written.Refused r
+  pub send_room_kept : (v e : ℕ) (fs : List Loop) (room : List ℕ) (r : Refusal) → sent_of (edition_for v e) fs room ≡ Err r
       → sent_room (edition_for v e) fs room ≡ room
   -- "A volume that wasn't assessed is never shown as a number": a volume is that of one solid; otherwise there is 30, or the answer's own
   -- number
-  pub volume_of : (a : Conversion) (v : Float) → reading_of a ≡ Reading.Volume v → (l c work six : ℕ) × (a ≡ Conversion.One l c work six)
+  pub volume_of : (a : Conversion) (v : Float) → reading_of a ≡ Ok v → (l c work six : ℕ) × (a ≡ Conversion.One l c work six)
       × (v ≡ volume six)
-  pub one_solid : (l c work six : ℕ) → reading_of (Conversion.One l c work six) ≡ Reading.Volume (volume six)
-  pub several : (l c work n : ℕ) → reading_of (Conversion.Several l c work n) ≡ Reading.NotAssessed 30
-  pub no_volume : (a : Conversion) → 0 < (conversion_says a).number → reading_of a ≡ Reading.NotAssessed (conversion_says a).number
+  pub one_solid : (l c work six : ℕ) → reading_of (Conversion.One l c work six) ≡ Ok (volume six)
+  pub several : (l c work n : ℕ) → reading_says (reading_of (Conversion.Several l c work n)) ≡ record { number = 30; shown = none }
+  pub no_volume : (a : Conversion) → 0 < (conversion_says a).number
+      → reading_says (reading_of a) ≡ record { number = (conversion_says a).number; shown = none }

@@ -5,7 +5,7 @@ use Rattle.std.proofs.Math.Option.{none}
 use Rattle.lists.specs.Lists.{sides}
 use Rattle.exact.specs.Sum.{sum_of}
 use Rattle.paper.specs.Points.{plus, times, det}
-use Rattle.paper.specs.Polygon.{Polygon, over, normal, corner, plane_side, axis, seen, where_flat, lies}
+use Rattle.paper.specs.Polygon.{Polygon, over, normal, plane_side, axis, seen, where_flat, lies}
 use Rattle.paper.specs.Drawing.{Wire, on_open, open_meets, same_place, edge_meets}
 use Rattle.paper.specs.Loops.{loops, candidates}
 use Rattle.paper.specs.Clash.{clash}

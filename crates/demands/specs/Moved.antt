@@ -1,6 +1,6 @@
 -- "The body doesn't depend on where it was drawn": a drawing shifted within the range, mirrored in x, laid along the axes in another way,
 -- and enlarged.
-use Rattle.std.specs.Prelude.{◌≡◌, Bool, true, false, ◌↔◌, List, ℕ, ◌<◌, ℤ, pos, length}
+use Rattle.std.specs.Prelude.{◌≡◌, Bool, true, false, ◌↔◌, List, ℕ, ◌<◌, ℤ, pos}
 use Rattle.paper.specs.Points.{times}
 use Rattle.paper.specs.Format.{coordinates_in, ends_in, edition_of}
 use Rattle.paper.specs.Refusals.{first_of}

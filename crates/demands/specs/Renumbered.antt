@@ -1,11 +1,10 @@
 -- "With vertices renumbered and edges sorted again, the solids are the same sets of faces under the new numbers".
 use Rattle.std.specs.Prelude.{◌≡◌, List, map, ℕ, ◌<◌, length}
 use Rattle.std.proofs.Math.Option.{none}
-use Rattle.paper.specs.Refusals.{first_of}
+use Rattle.paper.specs.Refusals.{first_of, Fine}
 use Rattle.paper.specs.Drawing.{same_place}
 use Rattle.paper.specs.Loops.{Loop, loops}
 use Rattle.paper.specs.Conversion.{Converted}
-use Rattle.paper.specs.declared.Answer.TheVariants.{Fine}
 use Rattle.paper.specs.declared.Conversion.TheVariants as Conversion
 use Rattle.paper.specs.declared.Refusal.{Refusal}
 use Rattle.means_report.specs.Listed.{Entry, entry_at}

@@ -7,7 +7,7 @@ use Rattle.paper.specs.Loops.{Loop, loop_at, flipped, polygon}
 use Rattle.paper.specs.FaceList.{count_in, faces_in, bits_of}
 use Rattle.paper.specs.Verdict.{list_edition, listed}
 use Rattle.paper.specs.declared.Format.{Format}
-use Rattle.paper.specs.declared.Answer.{Answer}
+use Rattle.paper.specs.Refusals.{Answer}
 use Rattle.means_solid.specs.Solid.{Face, InTwo, EachWay, Way, six_of_faces}
 use Rattle.means_solid.specs.Named.{SameRing, directed, Names}
 use Rattle.means_clash.specs.Clash.{ClashOf}

@@ -5,7 +5,7 @@ use Rattle.paper.specs.Reading.{reading_of}
 use Rattle.paper.specs.Desk.{desk_text}
 use Rattle.paper.specs.declared.Conversion.TheVariants as Conversion
 use Rattle.paper.specs.declared.Point.{Point}
-use Rattle.paper.specs.declared.Reading.{Reading}
+use Rattle.paper.specs.Refusals.{Reading}
 use Rattle.means_moves.specs.Moves.{shift, mirror}
 use Rattle.means_moves.specs.Lists.{each_vertex, WithinRange}
 use Rattle.demands.specs.Input.{Input, lent, sheet, converted}

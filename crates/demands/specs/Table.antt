@@ -1,18 +1,12 @@
 -- Document 01's table, "What comes back", 1 to 16: what offends by each line, and at which places.
-use Rattle.std.specs.Prelude.{◌≡◌, ◌⊎◌, List, ℕ, zero, suc, ◌+◌, ◌*◌, ◌/◌, ◌%◌, ◌≤◌, ◌<◌, ℤ, pos, negsuc, ◌<ℤ◌, length, get_or}
+use Rattle.std.specs.Prelude.{◌≡◌, ◌⊎◌, List, ℕ, zero, suc, ◌+◌, ◌*◌, ◌/◌, ◌%◌, ◌≤◌, ◌<◌, ℤ, pos, negsuc, ◌<ℤ◌, length, get_or, Ok, Err}
 use Rattle.std.proofs.Math.Option.{none, some}
 use Rattle.pack.specs.Bits.{field_at}
 use Rattle.paper.specs.Format.{bytes_for, fill_after, total, vertices_in, edges_in, coordinates_in, ends_in, edition_of}
 use Rattle.paper.specs.Drawing.{Wire}
 use Rattle.paper.specs.Loops.{loops, candidates}
-use Rattle.paper.specs.declared.Answer.{Answer}
-use Rattle.paper.specs.declared.Answer.TheVariants.{Fine, Refused}
-use Rattle.paper.specs.declared.Written.{Written}
-use Rattle.paper.specs.declared.Written.TheVariants as Written
+use Rattle.paper.specs.Refusals.{value_of, Answer, Fine, Verdict, Written}
 use Rattle.paper.specs.declared.Conversion.{Conversion}
-use Rattle.paper.specs.declared.Conversion.TheVariants as Conversion
-use Rattle.paper.specs.declared.Verdict.{Verdict}
-use Rattle.paper.specs.declared.Verdict.TheVariants as Verdict
 use Rattle.means_drawing.specs.Drawings.{Finds, Doubled, Loose, Meets, Reachable}
 use Rattle.demands.specs.Input.{Input, lent, sheet}
 
@@ -20,13 +14,13 @@ use Rattle.demands.specs.Input.{Input, lent, sheet}
 -- places, counted from 0, and P says what offends at a place. An answer says of a line and the lines below it: nothing is refused, and
 -- nothing offends; or it is this line's, with the lowest place that offends; or nothing offends by this line, and it is one below.
 abbrev pub line : (n k : ℕ) → (ℕ → Type 0) → (Answer → Type 0) → Answer → Type 0
-line n k P below Fine = Finds P k none × below Fine
-line n k P below (Refused r) = ((r.number ≡ n) × Finds P k (some r.place)) ⊎ (Finds P k none × below (Refused r))
+line n k P below (Ok _) = Finds P k none × below Fine
+line n k P below (Err r) = ((value_of r.number ≡ n) × Finds P k (some r.place)) ⊎ (Finds P k none × below (Err r))
 
 -- no lines are left
 abbrev pub end : Answer → Type 0
-end Fine = Unit {0}
-end (Refused r) = ⊥
+end (Ok _) = Unit {0}
+end (Err r) = ⊥
 
 -- a line with the place 0 alone; and what offends by a line with the places 0 and 1
 abbrev pub one : ℕ → Type 0 → (Answer → Type 0) → Answer → Type 0
@@ -103,12 +97,12 @@ of_conversion (Conversion.Several l c work n) = Fine
 of_conversion (Conversion.NoSolid l c work) = Fine
 of_conversion (Conversion.Many l c work) = Fine
 of_conversion (Conversion.TooLong l c work) = Fine
-of_conversion (Conversion.Refused r) = Refused r
+of_conversion (Conversion.Refused r) = Err r
 
 abbrev pub of_written : Written → Answer
-of_written (Written.Bytes n) = Fine
-of_written (Written.Refused r) = Refused r
+of_written (Ok n) = Fine
+of_written (Err r) = Err r
 
 abbrev pub of_verdict : Verdict → Answer
-of_verdict Verdict.Accepted = Fine
-of_verdict (Verdict.Refused r) = Refused r
+of_verdict (Ok _) = Fine
+of_verdict (Err r) = Err r

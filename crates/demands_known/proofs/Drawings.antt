@@ -9,7 +9,6 @@ use Rattle.paper.specs.Questions.{Drawn, reply, face_before, solid_before}
 use Rattle.paper.specs.Known.Drawings.{cube, octahedron, nested}
 use Rattle.paper.specs.Conversion.{Converted}
 use Rattle.paper.specs.declared.Conversion.{Conversion}
-use Rattle.paper.specs.declared.Conversion.TheVariants as Conversion
 use Rattle.means_report.specs.Report.{solid_count}
 use Rattle.demands.specs.Input.{Input, lent, sheet, Passes, converted}
 use Rattle.demands.specs.Walk.{Allowed}

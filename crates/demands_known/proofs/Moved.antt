@@ -22,9 +22,8 @@ use Rattle.paper.specs.Loops.{Loop}
 use Rattle.paper.specs.Conversion.{Converted}
 use Rattle.paper.specs.Desk.{text, desk_text}
 use Rattle.paper.specs.declared.Conversion.{Conversion}
-use Rattle.paper.specs.declared.Conversion.TheVariants as Conversion
 use Rattle.paper.specs.declared.Point.{Point}
-use Rattle.paper.specs.declared.Verdict.TheVariants.{Accepted}
+use Rattle.paper.specs.Refusals.{ListAccepted}
 use Rattle.means_report.specs.Listed.{Entry, words_of}
 use Rattle.means_report.specs.Report.{solids_for}
 use Rattle.means_report.proofs.Counted.{word_same}
@@ -256,13 +255,13 @@ round = record {
       (subst (AllTurned outward) (sym inward-read) (record { as_many = refl; each = turned_at }));
 }
 
-pub exchanged_list : checked (of exchanged) (packed (of cube) inward_faces) ≡ Accepted
+pub exchanged_list : checked (of exchanged) (packed (of cube) inward_faces) ≡ ListAccepted
 exchanged_list =
     turns.check_round (exchanging XY ∷ []) refl (of cube) (of exchanged) of_exchanged (packed (of cube) outward)
     (packed (of cube) inward_faces) round
     ∙ cube_list
 
-pub quarter_list : checked (of quarter) (packed (of cube) outward) ≡ Accepted
+pub quarter_list : checked (of quarter) (packed (of cube) outward) ≡ ListAccepted
 quarter_list =
     turns.check (exchanging XY ∷ mirroring ∷ []) refl (of cube) (of quarter) of_quarter (packed (of cube) outward) ∙ cube_list
 

@@ -20,7 +20,6 @@ use Rattle.paper.specs.Loops.{Loop, loop_at, flipped}
 use Rattle.paper.specs.Questions.{Drawn, neg, reply, face_before, solid_before}
 use Rattle.paper.specs.Known.Drawings.{octahedron, nested}
 use Rattle.paper.specs.declared.Conversion.{Conversion}
-use Rattle.paper.specs.declared.Conversion.TheVariants as Conversion
 use Rattle.paper_laws.proofs.Record.{taken_in_lem, turned_in_lem, six_in_lem}
 use Rattle.faces_laws.proofs.Reported.{kept_same}
 use Rattle.means_loops.proofs.Rings.{Parts, parts}

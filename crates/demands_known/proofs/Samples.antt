@@ -14,9 +14,9 @@ use Rattle.paper.specs.Loops.{Loop, loop_at, flipped}
 use Rattle.paper.specs.Known.Drawings.{cube, outward, inward_faces, nested, tetrahedron, octahedron}
 use Rattle.paper.specs.declared.Refusal.{Refusal}
 use Rattle.paper.specs.declared.Conversion.{Conversion}
-use Rattle.paper.specs.declared.Conversion.TheVariants as Conversion
 use Rattle.paper.specs.declared.Conversion.TheVariants.{TooLong}
-use Rattle.paper.specs.declared.Verdict.TheVariants.{Accepted, Refused}
+use Rattle.std.specs.Prelude.{Err}
+use Rattle.paper.specs.Refusals.{ListAccepted}
 use Rattle.means_drawing.specs.Drawings.{Doubled}
 use Rattle.means_drawing.specs.Rules.{LowestVertex}
 use Rattle.means_solid.specs.Named.{SameRing}
@@ -33,6 +33,7 @@ use Rattle.demands.proofs.Demand1.{demand1}
 use Rattle.demands.proofs.Demand2.{demand2}
 use Rattle.demands.proofs.Demand3.{demand3}
 use Rattle.demands_known.proofs.Drawings.{of, on, result, cube-one, nested-three, cube_passes, octahedron_passes, nested_passes}
+use Rattle.paper.specs.declared.Number.TheVariants as No
 
 told : (x : Input) → Passes x → 0 < solid_count (result x).answer → Report x (solid_before solid_room) (result x)
 told x p h = (demand3 x p).reports most_work (face_before face_room) (solid_before solid_room) h
@@ -45,11 +46,11 @@ abbrev pub faces_for : Input → List ℕ → List Loop
 faces_for x = sent_faces (drawing x)
 
 -- "Cube of side 10": one solid, so every list that is accepted is the body of its known list
-pub cube_list : checked (of cube) (packed (of cube) outward) ≡ Accepted
+pub cube_list : checked (of cube) (packed (of cube) outward) ≡ ListAccepted
 unfolding reply
 cube_list = refl
 
-pub cube_body : (list : List ℕ) → checked (of cube) list ≡ Accepted
+pub cube_body : (list : List ℕ) → checked (of cube) list ≡ ListAccepted
     → SameBody (faces_for (of cube) (packed (of cube) outward)) (faces_for (of cube) list)
 cube_body list a =
     let r = told (of cube) cube_passes (omega (arith, cube-one)) in
@@ -57,7 +58,7 @@ cube_body list a =
 
 -- "Cube of corners +-20 round a cube of corners +-10": three solids, and each, packed from the report's own rows and record, is accepted
 pub nested_each : (i : ℕ) → i < 3
-    → checked (of nested) (packed (of nested) (solid_faces (result (of nested)).faces (drop (3 * i) (result (of nested)).solids))) ≡ Accepted
+    → checked (of nested) (packed (of nested) (solid_faces (result (of nested)).faces (drop (3 * i) (result (of nested)).solids))) ≡ ListAccepted
 nested_each i h =
     let r = told (of nested) nested_passes (omega (arith, nested-three)) in
     let l : i < length r.es = omega (arith, r.n, nested-three) in
@@ -72,7 +73,7 @@ sheet-one : solid_count (result (on tetrahedron)).answer ≡ 1
 unfolding reply
 sheet-one = refl
 
-pub tetrahedron_bodies : (a b : List ℕ) → checked (on tetrahedron) a ≡ Accepted → checked (on tetrahedron) b ≡ Accepted
+pub tetrahedron_bodies : (a b : List ℕ) → checked (on tetrahedron) a ≡ ListAccepted → checked (on tetrahedron) b ≡ ListAccepted
     → SameBody (faces_for (on tetrahedron) a) (faces_for (on tetrahedron) b)
 tetrahedron_bodies = let r = told (on tetrahedron) sheet_passes (omega (arith, sheet-one)) in r.same (r.n ∙ sheet-one)
 
@@ -95,7 +96,7 @@ pub inward-read : faces_for (of cube) (packed (of cube) inward_faces) ≡ inward
 unfolding reply
 inward-read = refl
 
-pub cube_turned : (r : Refusal) × (checked (of cube) (packed (of cube) inward_faces) ≡ Refused r)
+pub cube_turned : (r : Refusal) × (checked (of cube) (packed (of cube) inward_faces) ≡ Err r)
 cube_turned =
     (demand3 (of cube) cube_passes).refused (packed (of cube) outward) (packed (of cube) inward_faces) cube_list
     (subst (λ (fs : List Loop). Spoiled fs (faces_for (of cube) (packed (of cube) inward_faces))) (sym outward-read)
@@ -127,7 +128,7 @@ abbrev twice : Input
 twice =
     lent (pos 0 ∷ pos 0 ∷ pos 0 ∷ pos 6 ∷ pos 0 ∷ pos 0 ∷ pos 0 ∷ pos 6 ∷ pos 0 ∷ pos 6 ∷ pos 0 ∷ pos 0 ∷ []) tetrahedron.ends
 
-twice_refused : (result twice).answer ≡ Conversion.Refused (record { number = 11; place = 1 })
+twice_refused : (result twice).answer ≡ Conversion.Refused (record { number = No.SamePlace; place = 1 })
 unfolding reply
 twice_refused = refl
 

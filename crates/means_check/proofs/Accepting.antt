@@ -1,23 +1,22 @@
 -- Demand 3: the check accepts a list exactly when it names one solid with its directions.
 use mathlib.Core.Path.{◌≡◌, refl, sym, ap, subst, ◌∙◌}
 use mathlib.Core.Bool.{Bool, not}
-use mathlib.Core.Option.{Option, none, some}
+use mathlib.Core.Option.{Option, none}
 use mathlib.Core.List.{List, ◌∷◌, ◌++◌}
 use Prim.Native.Nat.{ℕ, ◌<◌}
 use native.Mathlib.Omega.{arith}
 use borrow.Author.Tests.{not-false}
 use lib.ListN.{length, get_or}
 use Rattle.paper.specs.Numbers.{documented}
-use Rattle.paper.specs.Refusals.{Check, check, first_of, offends}
+use Rattle.paper.specs.declared.Number.TheVariants as No
+use Rattle.paper.specs.Refusals.{Check, check, first_of, offends, ListAccepted, Answer, Fine}
 use Rattle.paper.specs.Drawing.{Wire, drawing_checks}
 use Rattle.paper.specs.Loops.{Loop, loops, candidates, loop_checks}
 use Rattle.paper.specs.Solids.{tables_of}
 use Rattle.paper.specs.FaceList.{faces_in, well_shaped}
 use Rattle.paper.specs.Verdict.{listed, not_candidate, face_twice, edge_count, direction, pieces, inward, clashes, face_checks, verdict_for}
 use Rattle.paper.specs.Verdict.{verdict, list_edition}
-use Rattle.paper.specs.declared.Answer.{Answer}
-use Rattle.paper.specs.declared.Answer.TheVariants.{Fine, Refused}
-use Rattle.paper.specs.declared.Verdict.TheVariants.{Accepted}
+use Rattle.std.specs.Prelude.{Ok, Err}
 use Rattle.paper_laws.proofs.Checks.{clear, found_none, none_found, fails, passed, first-both, both_first}
 use Rattle.means_solid.specs.Solid.{IsSolid}
 use Rattle.means_check.specs.Candidates.{ProperCandidates}
@@ -137,9 +136,9 @@ module _ (d : Wire) (cs : List Loop) (fs : List (List ℕ)) where
 
 -- ---- the whole check
 
-fine-verdict : (a : Answer) → verdict_for a ≡ Accepted → Fine ≡ a
-fine-verdict Fine e = refl
-fine-verdict (Refused r) e = let z : ◌≡◌ {A = ℕ} 0 1 = cc in absurd (omega arith)
+fine-verdict : (a : Answer) → verdict_for a ≡ ListAccepted → Fine ≡ a
+fine-verdict (Ok _) e = refl
+fine-verdict (Err r) e = let z : ◌≡◌ {A = ℕ} 0 1 = cc in absurd (omega arith)
 
 module _ (form : List Check) (d : Wire) (list : List ℕ) where
   abbrev face_last : List Check
@@ -148,33 +147,33 @@ module _ (form : List Check) (d : Wire) (list : List ℕ) where
   abbrev shape_of : Option ℕ
   shape_of = offends (not (well_shaped (list_edition d) (length d.vertices) list)) 0
 
-  verdict_is : verdict_for (first_of (form ++ drawing_checks d ++ loop_checks documented (loops d) (candidates d) ++ (check 20 shape_of ∷ face_last)))
+  verdict_is : verdict_for (first_of (form ++ drawing_checks d ++ loop_checks documented (loops d) (candidates d) ++ (check No.ShellShape shape_of ∷ face_last)))
       ≡ verdict form d list
   unfolding verdict candidates
   verdict_is = refl
 
-  verdict-fine : verdict form d list ≡ Accepted
-      → Fine ≡ first_of (form ++ drawing_checks d ++ loop_checks documented (loops d) (candidates d) ++ (check 20 shape_of ∷ face_last))
+  verdict-fine : verdict form d list ≡ ListAccepted
+      → Fine ≡ first_of (form ++ drawing_checks d ++ loop_checks documented (loops d) (candidates d) ++ (check No.ShellShape shape_of ∷ face_last))
   verdict-fine e =
-      fine-verdict (first_of (form ++ drawing_checks d ++ loop_checks documented (loops d) (candidates d) ++ (check 20 shape_of ∷ face_last)))
+      fine-verdict (first_of (form ++ drawing_checks d ++ loop_checks documented (loops d) (candidates d) ++ (check No.ShellShape shape_of ∷ face_last)))
       (verdict_is ∙ e)
 
   -- the drawing of an accepted list passes its rules
-  pub fine_passes : verdict form d list ≡ Accepted → Fine ≡ first_of (drawing_checks d)
+  pub fine_passes : verdict form d list ≡ ListAccepted → Fine ≡ first_of (drawing_checks d)
   fine_passes e =
-      let p = first-both (form ++ drawing_checks d ++ loop_checks documented (loops d) (candidates d)) (check 20 shape_of ∷ face_last) (verdict-fine e) in
+      let p = first-both (form ++ drawing_checks d ++ loop_checks documented (loops d) (candidates d)) (check No.ShellShape shape_of ∷ face_last) (verdict-fine e) in
       let q = first-both (form ++ drawing_checks d) (loop_checks documented (loops d) (candidates d)) p.0 in
       (first-both form (drawing_checks d) q.0).1
 
 module _ (form : List Check) (d : Wire) (c : ProperCandidates d (candidates d)) (list : List ℕ) where
   -- a list is accepted exactly when the drawing passes its rules, the list its own, and its faces name one solid of the drawing
-  pub verdict_accepts : verdict form d list ≡ Accepted → Accepts form d list
+  pub verdict_accepts : verdict form d list ≡ ListAccepted → Accepts form d list
   verdict_accepts e =
       let p = first-both (form ++ drawing_checks d ++ loop_checks documented (loops d) (candidates d))
-      (check 20 (shape_of form d list) ∷ face_last form d list) (verdict-fine form d list e) in
+      (check No.ShellShape (shape_of form d list) ∷ face_last form d list) (verdict-fine form d list e) in
       let q = first-both (form ++ drawing_checks d) (loop_checks documented (loops d) (candidates d)) p.0 in
       let r = first-both form (drawing_checks d) q.0 in
-      let s = passed 20 0 (face_last form d list) p.1 in
+      let s = passed No.ShellShape 0 (face_last form d list) p.1 in
       record {
         form_passes = r.0;
         drawing_passes = r.1;
@@ -183,11 +182,11 @@ module _ (form : List Check) (d : Wire) (c : ProperCandidates d (candidates d)) 
         named = accepted_names d (candidates d) (faces_in (list_edition d) list) c s.1;
       }
 
-  pub accepts_verdict : Accepts form d list → verdict form d list ≡ Accepted
+  pub accepts_verdict : Accepts form d list → verdict form d list ≡ ListAccepted
   accepts_verdict a =
       sym (ap verdict_for
-      (both_first (form ++ drawing_checks d ++ loop_checks documented (loops d) (candidates d)) (check 20 (shape_of form d list) ∷ face_last form d list)
+      (both_first (form ++ drawing_checks d ++ loop_checks documented (loops d) (candidates d)) (check No.ShellShape (shape_of form d list) ∷ face_last form d list)
       (both_first (form ++ drawing_checks d) (loop_checks documented (loops d) (candidates d))
       (both_first form (drawing_checks d) a.form_passes a.drawing_passes) a.few)
-      (names_accepted d (candidates d) (faces_in (list_edition d) list) c a.named ∙ fails 20 0 (face_last form d list) (ap not a.shape)))
+      (names_accepted d (candidates d) (faces_in (list_edition d) list) c a.named ∙ fails No.ShellShape 0 (face_last form d list) (ap not a.shape)))
       ∙ verdict_is form d list)

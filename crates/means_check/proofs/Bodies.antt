@@ -13,12 +13,11 @@ use Rattle.lists.proofs.Places.{map_at, upto_length, upto-at}
 use Rattle.sets.specs.Word.{dig}
 use Rattle.sets.proofs.Ones.{dig-below}
 use Rattle.lists.proofs.Truth.{same_truth}
-use Rattle.paper.specs.Refusals.{first_of}
+use Rattle.paper.specs.Refusals.{first_of, Fine}
 use Rattle.paper.specs.Drawing.{Wire}
 use Rattle.paper.specs.Loops.{Loop, loop_at, flipped}
 use Rattle.paper.specs.Solids.{tables_of}
 use Rattle.paper.specs.Verdict.{listed, face_checks}
-use Rattle.paper.specs.declared.Answer.TheVariants.{Fine}
 use Rattle.means_solid.specs.Solid.{IsSolid}
 use Rattle.means_check.specs.Candidates.{ProperCandidates}
 use Rattle.means_solid.specs.Named.{SameRing, directed, Names}

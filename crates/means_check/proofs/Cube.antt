@@ -6,11 +6,11 @@ use Rattle.paper.specs.FaceList.{encode_faces}
 use Rattle.paper.specs.Verdict.{list_edition, verdict}
 use Rattle.paper.specs.Questions.{reply}
 use Rattle.paper.specs.Known.Drawings.{cube, outward}
-use Rattle.paper.specs.declared.Verdict.TheVariants.{Accepted}
+use Rattle.paper.specs.Refusals.{ListAccepted}
 use Rattle.means_check.proofs.Demand.{BodyOfSolid, accepted_body}
 
 cube-accepted : verdict (lent_checks cube.xyz cube.ends) (wire cube.xyz cube.ends)
-    (encode_faces (list_edition (wire cube.xyz cube.ends)) outward) ≡ Accepted
+    (encode_faces (list_edition (wire cube.xyz cube.ends)) outward) ≡ ListAccepted
 unfolding reply
 cube-accepted = refl
 

@@ -1,21 +1,19 @@
 -- Demand 3, of the whole check, with nothing assumed of the drawing.
 use mathlib.Core.Path.{◌≡◌, sym, subst, ◌∙◌}
 use mathlib.Core.Bool.{Bool, true}
-use mathlib.Core.Option.{none, some}
+use mathlib.Core.Option.{none}
 use mathlib.Core.List.{List}
 use Prim.Native.Nat.{ℕ, ◌≤◌, ◌<◌}
 use native.Mathlib.Decide.{ℕ_discrete}
 use lib.ListN.{length}
 use Rattle.sets.specs.Word.{dig}
 use Rattle.paper.specs.Numbers.{most_vertices, most_edges, documented}
-use Rattle.paper.specs.Refusals.{Check, first_of}
+use Rattle.paper.specs.Refusals.{Check, first_of, ListAccepted, Fine}
 use Rattle.paper.specs.Drawing.{Wire, same_place, drawing_checks}
 use Rattle.paper.specs.Loops.{Loop, loop_at, flipped, loops, candidates, loop_checks}
 use Rattle.paper.specs.Solids.{tables_of}
 use Rattle.paper.specs.FaceList.{encode_faces, faces_in, well_shaped}
 use Rattle.paper.specs.Verdict.{list_edition, listed, face_checks, verdict}
-use Rattle.paper.specs.declared.Answer.TheVariants.{Fine}
-use Rattle.paper.specs.declared.Verdict.TheVariants.{Accepted}
 use Rattle.paper_laws.proofs.Checks.{found_none}
 use Rattle.means_solid.specs.Solid.{IsSolid}
 use Rattle.means_check.specs.Candidates.{ProperCandidates}
@@ -53,14 +51,14 @@ module _ (form : List Check) (d : Wire) where
 
   -- "For a drawing that passes the drawing rules, the check accepts a list exactly when it names one solid of demand 2 with its
   -- directions, in any order of faces and from any starting corners."
-  pub accepts_exactly : (list : List ℕ) → ((verdict form d list ≡ Accepted) → Accepts form d list)
-      × (Accepts form d list → verdict form d list ≡ Accepted)
+  pub accepts_exactly : (list : List ℕ) → ((verdict form d list ≡ ListAccepted) → Accepts form d list)
+      × (Accepts form d list → verdict form d list ≡ ListAccepted)
   accepts_exactly list = (
     λ e. verdict_accepts form d (drawing-fits d (fine_passes form d list e)) list e,
     λ a. accepts_verdict form d (drawing-fits d a.drawing_passes) list a,
   )
 
-  module _ (list : List ℕ) (a : verdict form d list ≡ Accepted) where
+  module _ (list : List ℕ) (a : verdict form d list ≡ ListAccepted) where
     fits : ProperCandidates d (candidates d)
     fits = drawing-fits d (fine_passes form d list a)
 
@@ -73,7 +71,7 @@ module _ (form : List Check) (d : Wire) where
     -- an accepted list, in another order of faces and from other starts, and of a good shape, is accepted
     pub again : (other : List ℕ) → well_shaped (list_edition d) (length d.vertices) other ≡ true
         → SameBody (faces list) (faces other) → Singly (faces other)
-        → verdict form d other ≡ Accepted
+        → verdict form d other ≡ ListAccepted
     again other h b y =
         let w = told.named in
         (accepts_exactly other).1 (record {
@@ -97,7 +95,7 @@ module _ (form : List Check) (d : Wire) where
         → SameRing (loop_at (faces list) i) (loop_at (faces list) j) → ⊥
     not_doubled i j hi hj n s = doubled_refused d (candidates d) fits (faces list) i j hi hj n s fair
 
-    module _ (other : List ℕ) (b : verdict form d other ≡ Accepted) where
+    module _ (other : List ℕ) (b : verdict form d other ≡ ListAccepted) where
       fair_other : Fine ≡ first_of
           (face_checks (tables_of d (candidates d)) (length (candidates d)) (listed (candidates d) (faces other)))
       fair_other = names_accepted d (candidates d) (faces other) fits ((accepts_exactly other).0 b).named
@@ -128,7 +126,7 @@ module _ (form : List Check) (d : Wire) where
   pub each_accepted : Fine ≡ first_of form → Fine ≡ first_of (drawing_checks d) → Fine ≡ first_of (loop_checks documented (loops d) (candidates d))
       → (taken turned : List Bool) (six : ℕ) → IsSolid d (candidates d) taken turned six
       → (list : List ℕ) → well_shaped (list_edition d) (length d.vertices) list ≡ true
-      → Names d (candidates d) taken turned (faces list) → verdict form d list ≡ Accepted
+      → Names d (candidates d) taken turned (faces list) → verdict form d list ≡ ListAccepted
   each_accepted f r l taken turned six s list h n = (accepts_exactly list).1 (record {
     form_passes = f;
     drawing_passes = r;
@@ -141,7 +139,7 @@ module _ (form : List Check) (d : Wire) where
   pub each_sent : Fine ≡ first_of form → Fine ≡ first_of (drawing_checks d) → Fine ≡ first_of (loop_checks documented (loops d) (candidates d))
       → length d.vertices ≤ most_vertices → length d.edges ≤ most_edges
       → (taken turned : List Bool) (six : ℕ) → IsSolid d (candidates d) taken turned six
-      → verdict form d (encode_faces (list_edition d) (face_list d (candidates d) taken turned)) ≡ Accepted
+      → verdict form d (encode_faces (list_edition d) (face_list d (candidates d) taken turned)) ≡ ListAccepted
   each_sent f r l vertices edges taken turned six s =
       let fs : List Loop = face_list d (candidates d) taken turned in
       let b = sent-read_back (length d.vertices) (length d.edges) vertices edges fs
@@ -169,7 +167,7 @@ module _ (form : List Check) (d : Wire) where
     pub body : SameBody (face_list d (candidates d) taken turned) (faces list)
     pub singly : Singly (faces list)
 
-  pub accepted_body : (list : List ℕ) → verdict form d list ≡ Accepted → BodyOfSolid list
+  pub accepted_body : (list : List ℕ) → verdict form d list ≡ ListAccepted → BodyOfSolid list
   accepted_body list a =
       let c = drawing-fits d (fine_passes form d list a) in
       let w = ((accepts_exactly list).0 a).named in
@@ -190,7 +188,7 @@ module _ (form : List Check) (d : Wire) where
       pick i j f s (no n) = absurd (f n s)
 
   pub body_accepted : Fine ≡ first_of form → Fine ≡ first_of (drawing_checks d) → Fine ≡ first_of (loop_checks documented (loops d) (candidates d))
-      → (list : List ℕ) → well_shaped (list_edition d) (length d.vertices) list ≡ true → BodyOfSolid list → verdict form d list ≡ Accepted
+      → (list : List ℕ) → well_shaped (list_edition d) (length d.vertices) list ≡ true → BodyOfSolid list → verdict form d list ≡ ListAccepted
   body_accepted f r l list h b =
       let c = drawing-fits d r in
       each_accepted f r l b.taken b.turned b.six b.solid list h

@@ -8,14 +8,12 @@ use lib.IntN.{ℤ}
 use lib.ListN.{length}
 use Rattle.paper.specs.Numbers.{most_vertices, most_edges, documented}
 use Rattle.paper.specs.Format.{edition_of, coordinates_in, ends_in}
-use Rattle.paper.specs.Refusals.{first_of}
+use Rattle.paper.specs.Refusals.{first_of, ListAccepted, Fine}
 use Rattle.paper.specs.Sheet.{sheet_checks, lent_checks}
 use Rattle.paper.specs.Drawing.{Wire, wire, drawing_checks}
 use Rattle.paper.specs.Loops.{loops, candidates, loop_checks}
 use Rattle.paper.specs.FaceList.{encode_faces}
 use Rattle.paper.specs.Verdict.{list_edition, verdict_lists, verdict_sheet}
-use Rattle.paper.specs.declared.Answer.TheVariants.{Fine}
-use Rattle.paper.specs.declared.Verdict.TheVariants.{Accepted}
 use Rattle.paper_laws.proofs.Editions.{limited_of}
 use Rattle.paper_laws.proofs.Wires.{length_points, length_edges}
 use Rattle.sheet_laws.proofs.Lent.{lent}
@@ -51,15 +49,15 @@ module _ (xyz : List ℤ) (ends : List ℕ) where
   abbrev lists : Wire
   lists = wire xyz ends
 
-  pub lists-exactly : (list : List ℕ) → ((verdict_lists xyz ends list ≡ Accepted) → Accepts (lent_checks xyz ends) lists list)
-      × (Accepts (lent_checks xyz ends) lists list → verdict_lists xyz ends list ≡ Accepted)
+  pub lists-exactly : (list : List ℕ) → ((verdict_lists xyz ends list ≡ ListAccepted) → Accepts (lent_checks xyz ends) lists list)
+      × (Accepts (lent_checks xyz ends) lists list → verdict_lists xyz ends list ≡ ListAccepted)
   unfolding verdict_lists
   lists-exactly list = accepts_exactly (lent_checks xyz ends) lists list
 
   pub lists_each : Fine ≡ first_of (lent_checks xyz ends) → Fine ≡ first_of (drawing_checks lists)
       → Fine ≡ first_of (loop_checks documented (loops lists) (candidates lists))
       → (taken turned : List Bool) (six : ℕ) → IsSolid lists (candidates lists) taken turned six
-      → verdict_lists xyz ends (sent lists taken turned) ≡ Accepted
+      → verdict_lists xyz ends (sent lists taken turned) ≡ ListAccepted
   unfolding verdict_lists
   lists_each f r l =
       let m = lent_small xyz ends f in
@@ -69,15 +67,15 @@ module _ (s : List ℕ) where
   abbrev drawn : Wire
   drawn = wire (coordinates_in (edition_of s) s) (ends_in (edition_of s) s)
 
-  pub sheet-exactly : (list : List ℕ) → ((verdict_sheet s list ≡ Accepted) → Accepts (sheet_checks (edition_of s) s) drawn list)
-      × (Accepts (sheet_checks (edition_of s) s) drawn list → verdict_sheet s list ≡ Accepted)
+  pub sheet-exactly : (list : List ℕ) → ((verdict_sheet s list ≡ ListAccepted) → Accepts (sheet_checks (edition_of s) s) drawn list)
+      × (Accepts (sheet_checks (edition_of s) s) drawn list → verdict_sheet s list ≡ ListAccepted)
   unfolding verdict_sheet
   sheet-exactly list = accepts_exactly (sheet_checks (edition_of s) s) drawn list
 
   pub sheet_each : Fine ≡ first_of (sheet_checks (edition_of s) s) → Fine ≡ first_of (drawing_checks drawn)
       → Fine ≡ first_of (loop_checks documented (loops drawn) (candidates drawn))
       → (taken turned : List Bool) (six : ℕ) → IsSolid drawn (candidates drawn) taken turned six
-      → verdict_sheet s (sent drawn taken turned) ≡ Accepted
+      → verdict_sheet s (sent drawn taken turned) ≡ ListAccepted
   unfolding verdict_sheet
   sheet_each f r l =
       let m = sheet_small s f in

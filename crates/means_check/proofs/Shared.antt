@@ -10,7 +10,7 @@ use native.Mathlib.Nat.{add-zero}
 use lib.ListN.{length, get_or}
 use Rattle.lists.specs.Around.{wrap, around}
 use Rattle.lists.proofs.Sides.{wrap_low, wrap_high}
-use Rattle.sets.specs.Word.{dig, only}
+use Rattle.sets.specs.Word.{dig}
 use Rattle.sets.proofs.Digits.{never}
 use Rattle.sets.proofs.Ones.{dig-below}
 use Rattle.lists.proofs.Places.{one_later}

@@ -2,11 +2,10 @@
 use Rattle.std.specs.Prelude.{◌≡◌, Bool, true, List, ℕ, length}
 use Rattle.paper.specs.Verdict.{list_edition}
 use Rattle.paper.specs.Numbers.{documented}
-use Rattle.paper.specs.Refusals.{Check, first_of}
+use Rattle.paper.specs.Refusals.{Check, first_of, Fine}
 use Rattle.paper.specs.Drawing.{Wire, drawing_checks}
 use Rattle.paper.specs.Loops.{Loop, loops, candidates, loop_checks}
 use Rattle.paper.specs.FaceList.{faces_in, well_shaped}
-use Rattle.paper.specs.declared.Answer.TheVariants.{Fine}
 use Rattle.means_solid.specs.Solid.{IsSolid}
 use Rattle.means_solid.specs.Named.{Names}
 

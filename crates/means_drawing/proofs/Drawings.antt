@@ -16,13 +16,12 @@ use mathlib.Core.List.{List, [], ◌∷◌}
 use Prim.Native.Nat.{ℕ}
 use lib.IntN.{ℤ}
 use lib.ListN.{length}
-use Rattle.paper.specs.Refusals as No
-use Rattle.paper.specs.Refusals.{check, first_of}
+use Rattle.paper.specs.declared.Number.TheVariants as No
+use Rattle.paper.specs.Refusals.{check, first_of, Fine}
 use Rattle.paper.specs.Format.{coordinates_in, ends_in}
 use Rattle.paper.specs.Sheet.{lent_checks, sheet_checks}
 use Rattle.paper.specs.Drawing.{Wire, wire, same_place, loose_vertex, edge_meets, apart, drawing_checks}
 use Rattle.paper.specs.declared.Format.{Format}
-use Rattle.paper.specs.declared.Answer.TheVariants.{Fine}
 use Rattle.means_drawing.specs.Drawings.{Finds, Doubled, Loose, Meets, Reachable, Rising, Long}
 use Rattle.means_drawing.specs.Rules.{RulesSay}
 use Rattle.means_sheets.proofs.Sheets.Read.{accepted-lent}

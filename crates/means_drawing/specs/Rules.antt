@@ -1,10 +1,9 @@
 -- What the table's 11 to 14 answer, in plain mathematics.
-use Rattle.std.specs.Prelude.{◌≡◌, true, false, ◌↔◌, ◌⊎◌, ℕ, length, get_or}
+use Rattle.std.specs.Prelude.{◌≡◌, true, false, ◌↔◌, ◌⊎◌, ℕ, length, get_or, Ok, Err}
 use Rattle.std.proofs.Math.Option.{some}
-use Rattle.paper.specs.Refusals as No
+use Rattle.paper.specs.declared.Number.TheVariants as No
 use Rattle.paper.specs.Drawing.{Wire, at, vertices_reached}
-use Rattle.paper.specs.declared.Answer.{Answer}
-use Rattle.paper.specs.declared.Answer.TheVariants.{Fine, Refused}
+use Rattle.paper.specs.Refusals.{Answer}
 use Rattle.means_drawing.specs.Drawings.{Finds, Vertex, HasEdge, EndOf, Doubled, Loose, Meets, Reachable}
 
 module _ (d : Wire) where
@@ -31,8 +30,8 @@ module _ (d : Wire) where
 
   -- "Checks run in number order; the first that applies is the answer. Places are the lowest that offend"
   abbrev pub RulesSay : Answer → Type 0
-  RulesSay Fine = Passes11 × Passes12 × Passes13 × Passes14
-  RulesSay (Refused r) =
+  RulesSay (Ok _) = Passes11 × Passes12 × Passes13 × Passes14
+  RulesSay (Err r) =
       ((r.number ≡ No.SamePlace) × LowestVertex (Doubled d) r.place)
       ⊎ (((r.number ≡ No.LooseVertex) × Passes11 × LowestVertex (Loose d) r.place)
       ⊎ (((r.number ≡ No.EdgeMeets) × Passes11 × Passes12 × LowestEdge (Meets d) r.place)

@@ -10,9 +10,9 @@ use borrow.Author.Tests.{not-false}
 use lib.IntN.{ℤ, pos, negsuc, neg_ℤ, ◌*ℤ◌}
 use lib.ListN.{length, get_or}
 use Rattle.lists.proofs.Lowest.{lowest-none}
-use Rattle.paper.specs.Refusals as No
+use Rattle.paper.specs.declared.Number.TheVariants as No
 use Rattle.paper.specs.Numbers.{documented}
-use Rattle.paper.specs.Refusals.{Check, check, first_of, offends}
+use Rattle.paper.specs.Refusals.{Check, check, first_of, offends, Answer, Fine}
 use Rattle.paper.specs.Points.{above}
 use Rattle.paper.specs.Format.{edition_for}
 use Rattle.paper.specs.FaceList.{faces_in, well_shaped}
@@ -21,8 +21,6 @@ use Rattle.paper.specs.Loops.{Loop, loops, uncovering, candidates, loop_checks}
 use Rattle.paper.specs.Solids.{once_each_way, six_from, tables_of}
 use Rattle.paper.specs.Verdict.{listed, mask_of, direction, face_checks, verdict_for, verdict, list_edition}
 use Rattle.paper.specs.declared.Format.{Format}
-use Rattle.paper.specs.declared.Answer.{Answer}
-use Rattle.paper.specs.declared.Answer.TheVariants as Answer
 use Rattle.means_area.specs.Flats.{Up}
 use Rattle.means_leaf.proofs.Solids.{turned_opposite}
 use Rattle.means_check.specs.Candidates.{ProperCandidates}
@@ -41,7 +39,7 @@ use Rattle.means_moves.proofs.Passed.{bare_same, masks, ups, clashes, six_kept}
 use Rattle.means_moves.proofs.TurnedRound.{numbers_round, turned_round, faces-round, faces_kept, above_back}
 
 module _ (m : Move) (d e : Wire) (points : e.vertices ≡ map m.to d.vertices) (edges : e.edges ≡ d.edges) (form form' : List Check)
-    (forms : first_of form' ≡ first_of form) (ok : Answer.Fine ≡ first_of form → EndsBelow d) (list list' : List ℕ) where
+    (forms : first_of form' ≡ first_of form) (ok : Fine ≡ first_of form → EndsBelow d) (list list' : List ℕ) where
   abbrev alike : Alike d e
   alike = moved_alike m d e points edges
 
@@ -69,7 +67,7 @@ module _ (m : Move) (d e : Wire) (points : e.vertices ≡ map m.to d.vertices) (
       ∙ ap (λ (a : Answer). or_else a (first_of (loop_checks documented ls ks))) (first_append own (drawing_checks x)))
 
   -- it is enough that 20 to 27 say the same where 3 to 14 pass
-  by_last : (EndsBelow d → Answer.Fine ≡ first_of (drawing_checks d)
+  by_last : (EndsBelow d → Fine ≡ first_of (drawing_checks d)
       → first_of (last f e (length d.vertices) cs list') ≡ first_of (last f d (length d.vertices) cs list))
       → verdict form' e list' ≡ verdict form d list
   unfolding verdict
@@ -108,7 +106,7 @@ module _ (m : Move) (d e : Wire) (points : e.vertices ≡ map m.to d.vertices) (
       T' : Answer
       T' = first_of (last (list_edition e) e (length e.vertices) (uncovering e (loops e)) list')
 
-      bare : Answer.Fine ≡ or_else F D → uncovering e (loops e) ≡ cs
+      bare : Fine ≡ or_else F D → uncovering e (loops e) ≡ cs
       bare q = bare_same m d e points edges (ok (first_fine F D q)) (second-fine F D q)
 
   -- behind 20
@@ -123,7 +121,7 @@ module _ (m : Move) (d e : Wire) (points : e.vertices ≡ map m.to d.vertices) (
       ∙ sym (first_append (check No.ShellShape (offends (not (well_shaped f (length d.vertices) list)) 0) ∷ [])
       (face_checks (tables_of d cs) (length cs) (listed cs (faces_in f list))))
 
-  module _ (ends : EndsBelow d) (pass : Answer.Fine ≡ first_of (drawing_checks d)) where
+  module _ (ends : EndsBelow d) (pass : Fine ≡ first_of (drawing_checks d)) where
     -- where 24 passes, each edge is run once each way
     six_by : (taken turned : List Bool) → direction (tables_of d cs) taken turned ≡ none
         → six_from 0 (tables_of e cs).sixes taken turned ≡ m.sides_by *ℤ six_from 0 (tables_of d cs).sixes taken turned
@@ -167,7 +165,7 @@ module _ (m : Move) (d e : Wire) (points : e.vertices ≡ map m.to d.vertices) (
       back (pos n) z y t p = absurd (true≢false (sym t))
       back (negsuc n) z y t p = ap (λ (x : ℤ). above (neg_ℤ x)) p ∙ above_back n z
 
-      faces : EndsBelow d → Answer.Fine ≡ first_of (drawing_checks d)
+      faces : EndsBelow d → Fine ≡ first_of (drawing_checks d)
           → first_of (face_checks (tables_of e cs) (length cs) (listed cs gs)) ≡ first_of
           (face_checks (tables_of d cs) (length cs) (listed cs fs))
       faces ends pass =

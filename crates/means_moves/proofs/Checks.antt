@@ -3,12 +3,10 @@ use mathlib.Core.Path.{◌≡◌, ap, ◌∙◌}
 use mathlib.Core.List.{List, ◌++◌}
 use Prim.Native.Nat.{ℕ}
 use Rattle.paper.specs.Numbers.{Limits}
-use Rattle.paper.specs.Refusals.{Check, first_of}
+use Rattle.paper.specs.Refusals.{Check, first_of, Answer, Fine}
 use Rattle.paper.specs.Drawing.{Wire, drawing_checks}
 use Rattle.paper.specs.Loops.{loops, uncovering, loop_checks}
 use Rattle.paper.specs.Conversion.{entry_checks}
-use Rattle.paper.specs.declared.Answer.{Answer}
-use Rattle.paper.specs.declared.Answer.TheVariants as Answer
 use Rattle.paper_laws.proofs.Behind.{or_else, first_append}
 use Rattle.paper_laws.proofs.Checks.{first-both}
 
@@ -28,13 +26,13 @@ module _ (most : Limits) (limit : ℕ) (faces solids : List ℕ) where
       ∙ ap (λ (a : Answer). or_else a (first_of (drawing_checks d))) (first_append (entry_checks limit faces solids) form))
 
   -- what passes them all
-  pub fine-form : (form : List Check) (d : Wire) → Answer.Fine ≡ first_of (checks_of form d) → Answer.Fine ≡ first_of form
+  pub fine-form : (form : List Check) (d : Wire) → Fine ≡ first_of (checks_of form d) → Fine ≡ first_of form
   fine-form form d p =
       (first-both (entry_checks limit faces solids) form
       (first-both (entry_checks limit faces solids ++ form) (drawing_checks d)
       (first-both (entry_checks limit faces solids ++ form ++ drawing_checks d) (loop_checks most (loops d) (uncovering d (loops d))) p).0).0).1
 
-  pub fine-drawing : (form : List Check) (d : Wire) → Answer.Fine ≡ first_of (checks_of form d) → Answer.Fine ≡ first_of (drawing_checks d)
+  pub fine-drawing : (form : List Check) (d : Wire) → Fine ≡ first_of (checks_of form d) → Fine ≡ first_of (drawing_checks d)
   fine-drawing form d p =
       (first-both (entry_checks limit faces solids ++ form) (drawing_checks d)
       (first-both (entry_checks limit faces solids ++ form ++ drawing_checks d) (loop_checks most (loops d) (uncovering d (loops d))) p).0).1

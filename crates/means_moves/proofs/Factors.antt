@@ -7,7 +7,7 @@ use Prim.Native.Nat.{ℕ, zero, suc, ◌*◌}
 use native.Mathlib.Omega.{arith}
 use lib.IntN.{ℤ, pos, negsuc, neg_ℤ, nat_abs, ◌*ℤ◌}
 use Rattle.exact.proofs.Ring.{var, con, ◌⊗◌, neg, ring}
-use Rattle.paper.specs.Points.{above, below}
+use Rattle.paper.specs.Points.{above}
 use Rattle.paper.specs.Drawing.{overlap, cuts_open}
 use Rattle.paper.specs.Clash.{opposite}
 use Rattle.paper_laws.proofs.Factors.{le_times, lt_times, low_times, high_times, above-times, below-times}

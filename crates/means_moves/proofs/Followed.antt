@@ -10,8 +10,8 @@ use Rattle.lists.specs.Lists.{filter, keep}
 use Rattle.sets.specs.Word.{less}
 use Rattle.paper.specs.Record.{set_of, entry}
 use Rattle.paper.specs.Numbers.{solid_words, Limits, set_words}
-use Rattle.paper.specs.Refusals as No
-use Rattle.paper.specs.Refusals.{Check, first_of}
+use Rattle.paper.specs.declared.Number.TheVariants as No
+use Rattle.paper.specs.Refusals.{value_of, Check, first_of, Answer, Fine}
 use Rattle.paper.specs.Drawing.{Wire, drawing_checks}
 use Rattle.paper.specs.Loops.{Loop, loops, uncovering, loop_checks}
 use Rattle.paper.specs.Solids.{Tables, Judgement, tables_of, judged}
@@ -31,8 +31,7 @@ use Rattle.paper.specs.Conversion.{
   or_convert,
   conversion,
 }
-use Rattle.paper.specs.declared.Answer.{Answer}
-use Rattle.paper.specs.declared.Answer.TheVariants as Answer
+use Rattle.std.specs.Prelude.{Ok, Err}
 use Rattle.paper.specs.declared.Conversion.TheVariants as Conversion
 use Rattle.means_walk.specs.Tree.{Tree, leaves}
 use Rattle.means_walk.proofs.Grown.{tree}
@@ -127,7 +126,7 @@ module _ (turns : Bool) (by : ℕ) where
     }
 
     concluded-other : (l : ℕ) (cs : List Loop) (log : Log) (faces solids : List ℕ) → (log.ended ≡ 0 → Good log.found)
-        → (log.ended ≡ 0) ⊎ ((log.ended ≡ No.Many) ⊎ (log.ended ≡ No.TooLong))
+        → (log.ended ≡ 0) ⊎ ((log.ended ≡ value_of No.Many) ⊎ (log.ended ≡ value_of No.TooLong))
         → FollowsMoved turns by solids (concluded l cs t log faces solids) (concluded l cs u log faces solids)
     unfolding concluded
     concluded-other l cs log faces solids g (inl e) = rw e (reported-other l cs log.work log.found faces solids (g e))
@@ -136,17 +135,17 @@ module _ (turns : Bool) (by : ℕ) where
     concluded-other l cs log faces solids g (inr (inr e)) =
         rw e (record { answers = refl; rows = refl; es = []; count = refl; words = none_for solids; moved = none_for solids })
 
-  convert_other : (a : Answer) (faces solids : List ℕ) (x y : Converted) → (Answer.Fine ≡ a → FollowsMoved turns by solids x y)
+  convert_other : (a : Answer) (faces solids : List ℕ) (x y : Converted) → (Fine ≡ a → FollowsMoved turns by solids x y)
       → FollowsMoved turns by solids (or_convert a faces solids x) (or_convert a faces solids y)
-  convert_other Answer.Fine faces solids x y h = h refl
-  convert_other (Answer.Refused r) faces solids x y h =
+  convert_other (Ok _) faces solids x y h = h refl
+  convert_other (Err r) faces solids x y h =
       record { answers = refl; rows = refl; es = []; count = refl; words = none_for solids; moved = none_for solids }
 
 -- ---- a moved drawing
 
 module _ (m : Move) (d e : Wire) (points : e.vertices ≡ map m.to d.vertices) (edges : e.edges ≡ d.edges) (most : Limits) (limit : ℕ)
     (faces solids : List ℕ) (form form' : List Check) (forms : first_of form' ≡ first_of form)
-    (ok : Answer.Fine ≡ first_of form → EndsBelow d) where
+    (ok : Fine ≡ first_of form → EndsBelow d) where
   abbrev alike : Alike d e
   alike = moved_alike m d e points edges
 
@@ -185,7 +184,7 @@ module _ (m : Move) (d e : Wire) (points : e.vertices ≡ map m.to d.vertices) (
       concluded (length (loops x)) ks (tables_of x ks) (search most.solids (accepted (tables_of x ks)) limit (length ks) (tables_of x ks).masks)
       faces solids
 
-  module _ (ends-ok : EndsBelow d) (pass : Answer.Fine ≡ first_of (drawing_checks d)) where
+  module _ (ends-ok : EndsBelow d) (pass : Fine ≡ first_of (drawing_checks d)) where
     abbrev log : Log
     log = search most.solids (accepted (tables_of d cs)) limit (length cs) (tables_of d cs).masks
 

@@ -8,17 +8,15 @@ use borrow.Author.Tests.{le-ltb}
 use lib.Dec.{ltb}
 use lib.ListN.{length}
 use Rattle.paper.specs.Numbers.{most_work, face_room, solid_room, Limits}
-use Rattle.paper.specs.Refusals as No
-use Rattle.paper.specs.Refusals.{Check, check, first_of, offends}
+use Rattle.paper.specs.declared.Number.TheVariants as No
+use Rattle.paper.specs.Refusals.{value_of, Check, check, first_of, offends, Answer}
 use Rattle.paper.specs.Drawing.{Wire, drawing_checks}
 use Rattle.paper.specs.Loops.{Loop, loops, uncovering, loop_checks}
 use Rattle.paper.specs.Solids.{Tables, tables_of}
 use Rattle.paper.specs.Walk.{Log, search}
 use Rattle.paper.specs.Conversion.{Converted, accepted, concluded, entry_checks, or_convert, conversion}
-use Rattle.paper.specs.declared.Answer.{Answer}
-use Rattle.paper.specs.declared.Answer.TheVariants as Answer
+use Rattle.std.specs.Prelude.{Ok, Err}
 use Rattle.paper.specs.declared.Conversion.{Conversion}
-use Rattle.paper.specs.declared.Conversion.TheVariants as Conversion
 use Rattle.means_walk.proofs.Ends.{higher_limit}
 
 -- the answer is not 19
@@ -34,7 +32,7 @@ entry-same a b faces solids p q =
     ∷ check No.BadLimit (offends t 0) ∷ []) (le-ltb most_work b q ∙ sym (le-ltb most_work a p))
 
 -- a walk that the limit cut is told so
-long_told : (l : ℕ) (cs : List Loop) (t : Tables) (log : Log) (faces solids : List ℕ) → log.ended ≡ No.TooLong
+long_told : (l : ℕ) (cs : List Loop) (t : Tables) (log : Log) (faces solids : List ℕ) → log.ended ≡ value_of No.TooLong
     → (concluded l cs t log faces solids).answer ≡ Conversion.TooLong l (length cs) log.work
 unfolding concluded
 long_told l cs t log faces solids e = rw e
@@ -59,9 +57,9 @@ conversion-higher most form d a b faces solids h q n =
 
     go : (r : Answer) → Ended (or_convert r faces solids (under a)).answer → or_convert r faces solids (under b) ≡ or_convert r faces solids
         (under a)
-    go Answer.Fine n =
+    go (Ok _) n =
         ap (λ (log : Log). concluded (length (loops d)) cs (tables_of d cs) log faces solids)
         (higher_limit most.solids (accepted (tables_of d cs)) a b h (length cs) (tables_of d cs).masks
         (λ e. n (length (loops d)) (length cs) (walked a).work (long_told (length (loops d)) cs (tables_of d cs) (walked a) faces solids
         e)))
-    go (Answer.Refused r) n = refl
+    go (Err r) n = refl

@@ -14,15 +14,14 @@ use Rattle.lists.proofs.Truth.{same_truth}
 use Rattle.lists.proofs.Agreeing.{lowest-same}
 use Rattle.exact.specs.Size.{Within}
 use Rattle.paper.specs.Numbers.{least_vertices, least_edges, farthest, Limits, most_vertices, most_edges}
-use Rattle.paper.specs.Refusals as No
-use Rattle.paper.specs.Refusals.{Check, check, first_of, offends}
+use Rattle.paper.specs.declared.Number.TheVariants as No
+use Rattle.paper.specs.Refusals.{Check, check, first_of, offends, Fine}
 use Rattle.paper.specs.Points.{pt}
 use Rattle.paper.specs.FaceList.{faces_in, well_shaped}
 use Rattle.paper.specs.Sheet.{far, far_at, bad_count, edge_checks, content_checks, lent_checks}
 use Rattle.paper.specs.Drawing.{Wire, Edge, edge, edge_at, points_of, edges_of, wire}
 use Rattle.paper.specs.Conversion.{conversion}
 use Rattle.paper.specs.Verdict.{verdict, list_edition}
-use Rattle.paper.specs.declared.Answer.TheVariants.{Fine}
 use Rattle.paper.specs.declared.Point.{Point}
 use Rattle.means_drawing.specs.Drawings.{Rising, start, stop}
 use Rattle.means_moves.specs.Moves.{mirror, Move}

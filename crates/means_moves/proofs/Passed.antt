@@ -8,11 +8,10 @@ use Prim.Native.Nat.{ℕ, ◌<◌}
 use native.Mathlib.Omega.{arith}
 use lib.IntN.{nat_abs, ◌*ℤ◌}
 use lib.ListN.{length, get_or}
-use Rattle.paper.specs.Refusals.{first_of}
+use Rattle.paper.specs.Refusals.{first_of, Fine}
 use Rattle.paper.specs.Drawing.{Wire, edge_meets, drawing_checks}
 use Rattle.paper.specs.Loops.{Loop, loop_at, loops, uncovering, candidates}
 use Rattle.paper.specs.Solids.{once_each_way, six_from, tables_of, judged}
-use Rattle.paper.specs.declared.Answer.TheVariants.{Fine}
 use Rattle.paper_laws.proofs.Checks.{found_none}
 use Rattle.means_loops.specs.Path.{ClosedPath}
 use Rattle.means_loops.proofs.Listing.{candidates_are, candidates_proper}

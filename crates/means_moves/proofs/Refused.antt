@@ -7,17 +7,17 @@ use Prim.Native.Nat.{ℕ}
 use native.Mathlib.Omega.{arith}
 use lib.Dec.{eqb, ltb}
 use lib.ListN.{length}
-use Rattle.paper.specs.Refusals as No
+use Rattle.paper.specs.declared.Number.TheVariants as No
 use Rattle.paper.specs.Numbers.{Limits}
-use Rattle.paper.specs.Refusals.{Check, check, first_of, offends}
+use Rattle.paper.specs.Refusals.{value_of, Check, check, first_of, offends, Answer, Fine}
 use Rattle.paper.specs.Drawing.{Wire, same_place, loose_vertex, edge_meets, apart, drawing_checks}
 use Rattle.paper.specs.Loops.{Loop, loops, uncovering, candidates, loop_checks}
 use Rattle.paper.specs.Solids.{Tables, tables_of}
 use Rattle.paper.specs.Walk.{Status, Log, search}
 use Rattle.paper.specs.Conversion.{accepted, reported, concluded, entry_checks, or_convert, conversion}
-use Rattle.paper.specs.declared.Answer.{Answer}
-use Rattle.paper.specs.declared.Answer.TheVariants as Answer
+use Rattle.std.specs.Prelude.{Ok, Err}
 use Rattle.paper.specs.declared.Conversion.TheVariants as Conversion
+use Rattle.paper.specs.declared.Number.{Number}
 use Rattle.paper.specs.declared.Refusal.{Refusal}
 use Rattle.means_drawing.specs.Drawings.{Rising}
 use Rattle.means_moves.specs.Renumbered.{BothWays, NewNumbers}
@@ -29,9 +29,9 @@ use Rattle.means_moves.proofs.Checks.{checks_of, parts}
 use Rattle.means_moves.proofs.Rules.{Once, loose_over, meets-over, apart-over}
 
 -- the number of the rule that refuses, if one does
-abbrev pub rule_of : Answer → Option ℕ
-rule_of Answer.Fine = none
-rule_of (Answer.Refused r) = some r.number
+abbrev pub rule_of : Answer → Option Number
+rule_of (Ok _) = none
+rule_of (Err r) = some r.number
 
 -- what 9 and 10 leave: the ends of every edge rise, and no edge stands twice
 pub record Sorted (d : Wire) : Type 0 where
@@ -43,10 +43,10 @@ record Both (a b : Option ℕ) : Type 0 where
   there : a ≡ none → b ≡ none
   back : b ≡ none → a ≡ none
 
-none-some : {A : Type 0} {p : ℕ} → ◌≡◌ {A = Option ℕ} (some p) none → A
+none-some : {A B : Type 0} {p : B} → ◌≡◌ {A = Option B} (some p) none → A
 none-some {p = p} e = let z : ◌≡◌ {A = ℕ} 0 1 = cc in absurd (omega arith)
 
-step : (n : ℕ) (a b : Option ℕ) (xs ys : List Check) → Both a b → (a ≡ none → rule_of (first_of ys) ≡ rule_of (first_of xs))
+step : (n : Number) (a b : Option ℕ) (xs ys : List Check) → Both a b → (a ≡ none → rule_of (first_of ys) ≡ rule_of (first_of xs))
     → rule_of (first_of (check n b ∷ ys)) ≡ rule_of (first_of (check n a ∷ xs))
 unfolding first_of
 step n none none xs ys w h = h refl
@@ -94,7 +94,7 @@ same_rule most r s t = rule_same most (renumbered r) s t
 unrefused : (l : ℕ) (cs : List Loop) (t : Tables) (log : Log) (faces solids : List ℕ) (r : Refusal)
     → (concluded l cs t log faces solids).answer ≡ Conversion.Refused r → ⊥
 unfolding concluded reported
-unrefused l cs t log faces solids r = go (eqb log.ended No.Many) (eqb log.ended No.TooLong) log.found
+unrefused l cs t log faces solids r = go (eqb log.ended (value_of No.Many)) (eqb log.ended (value_of No.TooLong)) log.found
   where
     go : (a b : Bool) (found : List (List Status))
         → (cond a (record { answer = Conversion.Many l (length cs) log.work; faces = faces; solids = solids })
@@ -107,7 +107,7 @@ unrefused l cs t log faces solids r = go (eqb log.ended No.Many) (eqb log.ended 
     go false false (x ∷ (y ∷ found)) e = let z : ◌≡◌ {A = ℕ} 0 1 = cc in omega arith
 
 module _ (most : Limits) (limit : ℕ) (faces solids : List ℕ) (form : List Check) (d : Wire)
-    (entry : Answer.Fine ≡ first_of (entry_checks limit faces solids)) (good : Answer.Fine ≡ first_of form) where
+    (entry : Fine ≡ first_of (entry_checks limit faces solids)) (good : Fine ≡ first_of form) where
   -- where 1 to 10 pass, 11 to 16 answer
   only : first_of (checks_of most limit faces solids form d) ≡ first_of (drawing_checks d ++ loop_checks most (loops d) (candidates d))
   unfolding candidates
@@ -118,7 +118,7 @@ module _ (most : Limits) (limit : ℕ) (faces solids : List ℕ) (form : List Ch
       ∙ sym (first_append (drawing_checks d) (loop_checks most (loops d) (candidates d)))
 
   refusal_from : (r : Refusal) → (conversion most form d limit faces solids).answer ≡ Conversion.Refused r
-      → Answer.Refused r ≡ first_of (drawing_checks d ++ loop_checks most (loops d) (candidates d))
+      → Err r ≡ first_of (drawing_checks d ++ loop_checks most (loops d) (candidates d))
   unfolding conversion
   refusal_from r e = go (first_of (checks_of most limit faces solids form d)) only e
     where
@@ -126,19 +126,19 @@ module _ (most : Limits) (limit : ℕ) (faces solids : List ℕ) (form : List Ch
           → (or_convert a faces solids (concluded (length (loops d)) (uncovering d (loops d)) (tables_of d (uncovering d (loops d)))
           (search most.solids (accepted (tables_of d (uncovering d (loops d)))) limit (length (uncovering d (loops d)))
           (tables_of d (uncovering d (loops d))).masks) faces solids)).answer ≡ Conversion.Refused r
-          → Answer.Refused r ≡ first_of (drawing_checks d ++ loop_checks most (loops d) (candidates d))
-      go Answer.Fine p e = absurd (unrefused _ _ _ _ faces solids r e)
-      go (Answer.Refused x) p e = let same : r ≡ x = cc in ap Answer.Refused same ∙ p
+          → Err r ≡ first_of (drawing_checks d ++ loop_checks most (loops d) (candidates d))
+      go (Ok _) p e = absurd (unrefused _ _ _ _ faces solids r e)
+      go (Err x) p e = let same : r ≡ x = cc in ap Err same ∙ p
 
-  refusal_to : (r : Refusal) → Answer.Refused r ≡ first_of (drawing_checks d ++ loop_checks most (loops d) (candidates d))
+  refusal_to : (r : Refusal) → Err r ≡ first_of (drawing_checks d ++ loop_checks most (loops d) (candidates d))
       → (conversion most form d limit faces solids).answer ≡ Conversion.Refused r
   unfolding conversion
   refusal_to r e = rw (only ∙ sym e)
 
 -- "the same rule refuses both, at a place of its own"
 pub same_refusal : {new : ℕ → ℕ} {d e : Wire} → NewNumbers new d e → Sorted d → Sorted e
-    → (most : Limits) (form form' : List Check) → Answer.Fine ≡ first_of form → Answer.Fine ≡ first_of form'
-    → (a b : ℕ) (f g u v : List ℕ) → Answer.Fine ≡ first_of (entry_checks a f u) → Answer.Fine ≡ first_of (entry_checks b g v)
+    → (most : Limits) (form form' : List Check) → Fine ≡ first_of form → Fine ≡ first_of form'
+    → (a b : ℕ) (f g u v : List ℕ) → Fine ≡ first_of (entry_checks a f u) → Fine ≡ first_of (entry_checks b g v)
     → (r : Refusal) → (conversion most form d a f u).answer ≡ Conversion.Refused r
     → (q : Refusal) × ((conversion most form' e b g v).answer ≡ Conversion.Refused q) × (q.number ≡ r.number)
 same_refusal {d = d} {e = e} n s t most form form' good good' a b f g u v entry entry' r h =
@@ -147,5 +147,5 @@ same_refusal {d = d} {e = e} n s t most form form' good good' a b f g u v entry 
   where
     go : (x : Answer) → x ≡ first_of (drawing_checks e ++ loop_checks most (loops e) (candidates e)) → rule_of x ≡ some r.number
         → (q : Refusal) × ((conversion most form' e b g v).answer ≡ Conversion.Refused q) × (q.number ≡ r.number)
-    go Answer.Fine p z = none-some (sym z)
-    go (Answer.Refused q) p z = (q, refusal_to most b g v form' e entry' good' q p, (cc))
+    go (Ok _) p z = none-some (sym z)
+    go (Err q) p z = (q, refusal_to most b g v form' e entry' good' q p, (cc))

@@ -9,7 +9,7 @@ use Rattle.exact.proofs.Order.{mul-pos}
 use Rattle.exact.proofs.Signs.{pos-ne}
 use Rattle.exact.proofs.Ring.{var, ◌⊖◌, ◌⊗◌, ring}
 use Rattle.paper.specs.Points.{times}
-use Rattle.paper.specs.Polygon.{Polygon, over, normal, axis, seen, turn, crosses, where_flat, lies}
+use Rattle.paper.specs.Polygon.{Polygon, over, normal, axis, seen, turn, where_flat, lies}
 use Rattle.paper.specs.declared.Point.{Point}
 use Rattle.paper.specs.declared.Flat.{Flat}
 use Rattle.paper.specs.declared.Axis.{Axis}

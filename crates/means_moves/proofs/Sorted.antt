@@ -13,13 +13,12 @@ use lib.ListN.{length, get_or}
 use Rattle.lists.specs.Lists.{lowest}
 use Rattle.lists.proofs.Lowest.{lowest-none}
 use Rattle.lists.proofs.Truth.{and_left, and_right, or_cases}
-use Rattle.paper.specs.Refusals as No
-use Rattle.paper.specs.Refusals.{check, first_of}
+use Rattle.paper.specs.declared.Number.TheVariants as No
+use Rattle.paper.specs.Refusals.{check, first_of, Fine}
 use Rattle.paper.specs.Format.{coordinates_in, ends_in}
 use Rattle.paper.specs.Sheet.{far_at, wrong_at, edge_above, low_at, edge_checks, content_checks, lent_checks, sheet_checks}
 use Rattle.paper.specs.Drawing.{Edge, edge, edge_at, wire}
 use Rattle.paper.specs.declared.Format.{Format}
-use Rattle.paper.specs.declared.Answer.TheVariants.{Fine}
 use Rattle.paper_laws.proofs.Checks.{found_none}
 use Rattle.paper_laws.proofs.Wires.{length_edges, edge-at}
 use Rattle.sheet_laws.proofs.Lent.{lent}

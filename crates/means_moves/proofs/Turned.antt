@@ -6,7 +6,6 @@ use Prim.Native.Nat.{ℕ, ◌*◌}
 use native.Mathlib.Nat.{one-mul}
 use Rattle.paper.specs.Conversion.{Converted}
 use Rattle.paper.specs.declared.Conversion.{Conversion}
-use Rattle.paper.specs.declared.Conversion.TheVariants as Conversion
 use Rattle.means_report.specs.Listed.{Entry}
 use Rattle.means_report.specs.Report.{solids_for}
 use Rattle.means_moves.specs.Turned.{grown, FollowsMoved, flip, Mirrored, Scaled}

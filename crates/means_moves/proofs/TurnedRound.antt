@@ -19,7 +19,8 @@ use Rattle.lists.specs.Lists.{lowest, same_list}
 use Rattle.lists.proofs.Truth.{same_truth, and_left, and_right, and_both, never_true}
 use Rattle.sets.specs.Word.{dig, first, less}
 use Rattle.sets.proofs.Digits.{never, dig-less}
-use Rattle.paper.specs.Refusals as No
+use Rattle.paper.specs.declared.Number.{Number}
+use Rattle.paper.specs.declared.Number.TheVariants as No
 use Rattle.paper.specs.Refusals.{Check, check, first_of, offends}
 use Rattle.paper.specs.Points.{above}
 use Rattle.paper.specs.Drawing.{Wire}
@@ -133,7 +134,7 @@ module _ (d : Wire) (cs : List Loop) (c : ProperCandidates d cs) where
 -- ---- 21 to 27
 
 -- 24 comes behind 21 and 22, and 26 behind these three
-late : (a b c d e f : ℕ) (oa ob oc od od' oe of of' : Option ℕ) (rest : List Check) → (oa ≡ none → ob ≡ none → od' ≡ od)
+late : (a b c d e f : Number) (oa ob oc od od' oe of of' : Option ℕ) (rest : List Check) → (oa ≡ none → ob ≡ none → od' ≡ od)
     → (oa ≡ none → ob ≡ none → od ≡ none → of' ≡ of)
     → first_of (check a oa ∷ check b ob ∷ check c oc ∷ check d od' ∷ check e oe ∷ check f of' ∷ rest)
     ≡ first_of (check a oa ∷ check b ob ∷ check c oc ∷ check d od ∷ check e oe ∷ check f of ∷ rest)

@@ -1,7 +1,7 @@
 -- The moves of space: a shift by w, the mirror x to -x, two axes exchanged, each coordinate k times.
 use Rattle.std.specs.Prelude.{◌≡◌, Bool, false, not, List, [], ◌∷◌, map, ℕ, ◌+◌, ℤ, pos, neg_ℤ, ◌*ℤ◌}
 use Rattle.paper.specs.Points.{pt, origin, plus, minus, times, dot, cross}
-use Rattle.paper.specs.Polygon.{Polygon, over, normal, corner, lies}
+use Rattle.paper.specs.Polygon.{Polygon, over, normal, lies}
 use Rattle.paper.specs.declared.Point.{Point}
 use Rattle.paper_laws.specs.Planes.{InOwnPlane, OnPlane}
 use Rattle.means_area.specs.Flats.{Up}

@@ -5,7 +5,6 @@ use Rattle.sets.specs.Word.{dig, less}
 use Rattle.paper.specs.Solids.{Judgement, Fails, Solid}
 use Rattle.paper.specs.Conversion.{Converted}
 use Rattle.paper.specs.declared.Conversion.{Conversion}
-use Rattle.paper.specs.declared.Conversion.TheVariants as Conversion
 use Rattle.means_report.specs.Listed.{Entry}
 use Rattle.means_report.specs.Report.{solid_count, solids_for}
 

@@ -9,8 +9,8 @@ use lib.ListN.{length, replicate, length-map}
 use lib.IntN.{ℤ}
 use Rattle.lists.specs.Lists.{filter}
 use Rattle.paper.specs.Numbers.{most_solids, documented}
-use Rattle.paper.specs.Refusals as No
-use Rattle.paper.specs.Refusals.{Check, first_of}
+use Rattle.paper.specs.declared.Number.TheVariants as No
+use Rattle.paper.specs.Refusals.{value_of, Check, first_of, Answer, Fine}
 use Rattle.paper.specs.Format.{coordinates_in, ends_in, edition_of}
 use Rattle.paper.specs.Sheet.{sheet_checks, lent_checks}
 use Rattle.paper.specs.Drawing.{Wire, wire, drawing_checks}
@@ -18,11 +18,9 @@ use Rattle.paper.specs.Loops.{loops, candidates, loop_checks}
 use Rattle.paper.specs.Solids.{tables_of}
 use Rattle.paper.specs.Walk.{Undecided, Log, search}
 use Rattle.paper.specs.Conversion.{Converted, accepted, concluded, entry_checks, conversion, convert_lists, convert_sheet}
-use Rattle.paper.specs.declared.Answer.{Answer}
-use Rattle.paper.specs.declared.Answer.TheVariants as Answer
+use Rattle.std.specs.Prelude.{Ok, Err}
 use Rattle.paper.specs.declared.Refusal.{Refusal}
 use Rattle.paper.specs.declared.Conversion.{Conversion}
-use Rattle.paper.specs.declared.Conversion.TheVariants as Conversion
 use Rattle.means_walk.specs.Tree.{assumptions, leaves, steps}
 use Rattle.means_walk.proofs.Grown.{tree}
 use Rattle.means_walk.proofs.Follow.{up_least}
@@ -120,23 +118,23 @@ module _ (d : Wire) (t : WalkTree d (candidates d)) (form : List Check) (limit :
   abbrev checks : List Check
   checks = entry_checks limit faces solids ++ form ++ drawing_checks d ++ loop_checks documented (loops d) (candidates d)
 
-  pub conversion_refuses : (x : Refusal) → Answer.Refused x ≡ first_of checks
+  pub conversion_refuses : (x : Refusal) → Err x ≡ first_of checks
       → conversion documented form d limit faces solids ≡ record { answer = Conversion.Refused x; faces = faces; solids = solids }
   unfolding conversion candidates
   conversion_refuses x e = rw (← e)
 
   abbrev pub Cases : Type 0
   Cases =
-      ((x : Refusal) × (Answer.Refused x ≡ first_of checks)
+      ((x : Refusal) × (Err x ≡ first_of checks)
       × (conversion documented form d limit faces solids ≡ record { answer = Conversion.Refused x; faces = faces; solids = solids }))
-      ⊎ ((Answer.Fine ≡ first_of checks) × Sound d t limit faces solids (conversion documented form d limit faces solids))
+      ⊎ ((Fine ≡ first_of checks) × Sound d t limit faces solids (conversion documented form d limit faces solids))
 
   pub conversion_says_lem : Cases
   conversion_says_lem = go (first_of checks) refl
     where
       go : (a : Answer) → a ≡ first_of checks → Cases
-      go Answer.Fine e = inr (e, conversion_sound d t limit faces solids form e)
-      go (Answer.Refused x) e = inl (x, e, conversion_refuses x e)
+      go (Ok _) e = inr (e, conversion_sound d t limit faces solids form e)
+      go (Err x) e = inl (x, e, conversion_refuses x e)
 
 -- two lists of numbers; a sheet
 pub lists_tell : (xyz : List ℤ) (ends : List ℕ) (limit : ℕ) (faces solids : List ℕ)
@@ -167,7 +165,7 @@ higher_converts d t form a b faces solids h ua ub w =
     (λ e. not_long e)))
   where
     not_long : (search most_solids (accepted (tables_of d (candidates d))) a (length (candidates d))
-        (tables_of d (candidates d)).masks).ended ≡ No.TooLong → ⊥
+        (tables_of d (candidates d)).masks).ended ≡ value_of No.TooLong → ⊥
     not_long e =
         omega (
           arith,

@@ -12,7 +12,6 @@ use Rattle.paper.specs.Drawing.{Wire}
 use Rattle.paper.specs.Loops.{loops, candidates}
 use Rattle.paper.specs.Conversion.{Converted}
 use Rattle.paper.specs.declared.Conversion.{Conversion}
-use Rattle.paper.specs.declared.Conversion.TheVariants as Conversion
 use Rattle.means_walk.specs.Tree.{assumptions}
 use Rattle.means_solid.specs.Solid.{IsSolid}
 use Rattle.means_report.specs.Listed.{Entry, entry_at, words_of, EverySolidOnce, WalkTree, walked}

@@ -8,17 +8,14 @@ use native.Mathlib.Omega.{arith}
 use lib.ListN.{length, drop, length-map}
 use Rattle.lists.specs.Lists.{filter}
 use Rattle.paper.specs.Numbers.{most_solids, solid_words, documented}
-use Rattle.paper.specs.Refusals as No
-use Rattle.paper.specs.Refusals.{Check, first_of}
+use Rattle.paper.specs.declared.Number.TheVariants as No
+use Rattle.paper.specs.Refusals.{value_of, Check, first_of, Fine}
 use Rattle.paper.specs.Drawing.{Wire, same_place, drawing_checks}
 use Rattle.paper.specs.Loops.{Loop, loops, candidates, loop_checks}
 use Rattle.paper.specs.Solids.{Tables, tables_of}
 use Rattle.paper.specs.Walk.{Status, Log, search}
 use Rattle.paper.specs.Conversion.{Converted, accepted, words, solids_after, reported, concluded, entry_checks, conversion}
-use Rattle.paper.specs.declared.Answer.{Answer}
-use Rattle.paper.specs.declared.Answer.TheVariants as Answer
 use Rattle.paper.specs.declared.Conversion.{Conversion}
-use Rattle.paper.specs.declared.Conversion.TheVariants as Conversion
 use Rattle.paper_laws.proofs.Checks.{found_none, first-both}
 use Rattle.means_walk.specs.Tree.{leaves}
 use Rattle.means_walk.proofs.Ends.{ends, ended_whole, ended_many, ended_long}
@@ -70,12 +67,12 @@ module _ (l : ℕ) (cs : List Loop) (t : Tables) (log : Log) (faces solids : Lis
   unfolding concluded
   concluded_zero e = rw e
 
-  concluded_many : log.ended ≡ No.Many
+  concluded_many : log.ended ≡ value_of No.Many
       → concluded l cs t log faces solids ≡ record { answer = Conversion.Many l (length cs) log.work; faces = faces; solids = solids }
   unfolding concluded
   concluded_many e = rw e
 
-  concluded_long : log.ended ≡ No.TooLong
+  concluded_long : log.ended ≡ value_of No.TooLong
       → concluded l cs t log faces solids ≡ record {
         answer = Conversion.TooLong l (length cs) log.work;
         faces = faces;
@@ -121,7 +118,7 @@ module _ (d : Wire) (t : WalkTree d (candidates d)) (limit : ℕ) (faces solids 
             ∙ ap (solids_for solids) f;
       }
 
-  done_many : log.ended ≡ No.Many → TooMany d t limit faces solids done
+  done_many : log.ended ≡ value_of No.Many → TooMany d t limit faces solids done
   unfolding walked
   done_many e =
       let w = ended_many (accepted tb) (length (candidates d)) tb.masks t most_solids limit e in
@@ -134,7 +131,7 @@ module _ (d : Wire) (t : WalkTree d (candidates d)) (limit : ℕ) (faces solids 
         solids_left = ap (λ (r : Converted). r.solids) c;
       }
 
-  done_long : log.ended ≡ No.TooLong → TooFar d t limit faces solids done
+  done_long : log.ended ≡ value_of No.TooLong → TooFar d t limit faces solids done
   done_long e =
       let w = ended_long (accepted tb) (length (candidates d)) tb.masks t most_solids limit e in
       let c = concluded_long (length (loops d)) (candidates d) tb log faces solids e in
@@ -148,7 +145,7 @@ module _ (d : Wire) (t : WalkTree d (candidates d)) (limit : ℕ) (faces solids 
   done_tells : Tells done
   done_tells = go (ends (accepted tb) (length (candidates d)) tb.masks t most_solids limit)
     where
-      go : (log.ended ≡ 0) ⊎ ((log.ended ≡ No.Many) ⊎ (log.ended ≡ No.TooLong)) → Tells done
+      go : (log.ended ≡ 0) ⊎ ((log.ended ≡ value_of No.Many) ⊎ (log.ended ≡ value_of No.TooLong)) → Tells done
       go (inl e) = inl (done_whole e)
       go (inr (inl e)) = inr (inl (done_many e))
       go (inr (inr e)) = inr (inr (done_long e))
@@ -156,7 +153,7 @@ module _ (d : Wire) (t : WalkTree d (candidates d)) (limit : ℕ) (faces solids 
   -- a drawing with no refusal 1 to 16
   abbrev pub Unrefused : List Check → Type 0
   Unrefused form =
-      Answer.Fine ≡ first_of (entry_checks limit faces solids ++ form ++ drawing_checks d ++ loop_checks documented (loops d) (candidates d))
+      Fine ≡ first_of (entry_checks limit faces solids ++ form ++ drawing_checks d ++ loop_checks documented (loops d) (candidates d))
 
   pub conversion_tells : (form : List Check) → Unrefused form → Tells (conversion documented form d limit faces solids)
   unfolding conversion candidates

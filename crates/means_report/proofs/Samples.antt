@@ -9,7 +9,6 @@ use Rattle.paper.specs.Known.Drawings.{tetrahedron, open_cube, octahedron, neste
 use Rattle.paper.specs.Conversion.{Converted, convert_lists}
 use Rattle.paper.specs.declared.Refusal.{Refusal}
 use Rattle.paper.specs.declared.Conversion.{Conversion}
-use Rattle.paper.specs.declared.Conversion.TheVariants as Conversion
 use Rattle.means_report.specs.Demand.{SaysNone, SaysOne, SaysSeveral, SaysLong}
 use Rattle.means_report.proofs.Demand.{kind, says_none, says_one, says_several, says_long}
 use Rattle.means_report.proofs.Report.{Sound}

@@ -8,7 +8,8 @@ use native.Mathlib.Omega.{arith}
 use lib.ListN.{length, length-map}
 use Rattle.lists.specs.Lists.{filter}
 use Rattle.paper.specs.Numbers.{most_solids}
-use Rattle.paper.specs.Refusals as No
+use Rattle.paper.specs.Refusals.{value_of}
+use Rattle.paper.specs.declared.Number.TheVariants as No
 use Rattle.paper.specs.Drawing.{Wire}
 use Rattle.paper.specs.Loops.{Loop}
 use Rattle.paper.specs.Solids.{tables_of}
@@ -69,7 +70,7 @@ module _ (d : Wire) (cs : List Loop) (ok : Fair d cs) (limit : ℕ) where
       empty (x ∷ l) q = absurd (omega (arith, ap length q))
 
   -- at least nine different solids: all solids are listed once, and there are more than eight
-  pub many_lists : (search most_solids (accepted (tables_of d cs)) limit (length cs) (tables_of d cs).masks).ended ≡ No.Many
+  pub many_lists : (search most_solids (accepted (tables_of d cs)) limit (length cs) (tables_of d cs).masks).ended ≡ value_of No.Many
       → (es : List Entry) × EverySolidOnce d cs es × (most_solids < length es)
   unfolding walked
   many_lists e =

@@ -8,7 +8,6 @@ use Rattle.paper.specs.Loops.{Loop, loops, candidates}
 use Rattle.paper.specs.Solids.{tables_of}
 use Rattle.paper.specs.Conversion.{Converted, accepted, faces_after}
 use Rattle.paper.specs.declared.Conversion.{Conversion}
-use Rattle.paper.specs.declared.Conversion.TheVariants as Conversion
 use Rattle.means_walk.specs.Tree.{assumptions, steps, made, up_to}
 use Rattle.means_report.specs.Listed.{Entry, words_of, WalkTree, walked}
 

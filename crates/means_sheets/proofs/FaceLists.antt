@@ -18,8 +18,8 @@ use Rattle.paper.specs.Record.{entry}
 use Rattle.paper.specs.FaceList.{encode_faces, count_in, faces_in, well_shaped, faces_of, no_faces, solid_faces}
 use Rattle.paper.specs.Loops.{Loop, row}
 use Rattle.paper.specs.declared.Format.{Format}
-use Rattle.paper.specs.declared.Faces.{Faces}
-use Rattle.paper.specs.declared.Answer.TheVariants.{Fine}
+use Rattle.paper.specs.FaceList.{Faces}
+use Rattle.paper.specs.Refusals.{Fine}
 use Rattle.faces_laws.proofs.FaceList.{length_in}
 use Rattle.faces_laws.proofs.Shape.{shape_yes}
 use Rattle.faces_laws.proofs.Reported.{solid-faces, all_taken}

@@ -8,12 +8,11 @@ use Prim.Native.Nat.{ℕ, ◌/◌}
 use native.Mathlib.Omega.{arith}
 use lib.IntN.{ℤ}
 use lib.ListN.{length}
-use Rattle.paper.specs.Refusals.{first_of}
+use Rattle.paper.specs.Refusals.{first_of, Fine}
 use Rattle.paper.specs.Format.{edition_one, edition_of, edition_for, lent_edition, vertices_in, edges_in, coordinates_in, ends_in, encode}
 use Rattle.paper.specs.Sheet.{lent_checks, sheet_checks, sheet_of, read_sheet}
 use Rattle.paper.specs.declared.Drawing.{Drawing}
 use Rattle.paper.specs.declared.Format.{Format}
-use Rattle.paper.specs.declared.Answer.TheVariants.{Fine}
 use Rattle.paper_laws.proofs.Editions.{holds_of, holds_for, limited_of, fits_for, said_by, says}
 use Rattle.sheet_laws.proofs.Accepted.{accepted_shape, length_coordinates, length-ends, returns}
 use Rattle.sheet_laws.proofs.Lent.{lent}

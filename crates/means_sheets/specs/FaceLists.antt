@@ -1,6 +1,6 @@
 -- Face lists read back and are written back the same, over an edition's layout.
 -- "face count (6 bits, 4 to 42), then per face the corner count (4 bits, 3 to 12) and corners (5 bits each)"
-use Rattle.std.specs.Prelude.{◌≡◌, true, ℕ, ◌*◌, ◌^◌, ◌≤◌, ◌<◌, length, get_or, take, drop, replicate}
+use Rattle.std.specs.Prelude.{◌≡◌, true, ℕ, ◌*◌, ◌^◌, ◌≤◌, ◌<◌, length, get_or, take, drop, replicate, Ok}
 use mathlib.Core.List.{List, [], ◌++◌, flat_map}
 use Rattle.pack.specs.Bits.{Under}
 use Rattle.pack.specs.Fill.{padded}
@@ -10,9 +10,8 @@ use Rattle.paper.specs.Numbers.{least_faces, most_faces, least_corners, most_cor
 use Rattle.paper.specs.Loops.{Loop, loop_at, row}
 use Rattle.paper.specs.FaceList.{encode_faces, faces_in, well_shaped, faces_of, solid_faces, sent_of, sent_room}
 use Rattle.paper.specs.declared.Format.{Format}
-use Rattle.paper.specs.declared.Faces.{Faces}
-use Rattle.paper.specs.declared.Answer.TheVariants.{Fine}
-use Rattle.paper.specs.declared.Written.TheVariants.{Bytes}
+use Rattle.paper.specs.FaceList.{Faces}
+use Rattle.paper.specs.Refusals.{Fine}
 
 -- the faces that a face list can hold, for a drawing of v vertices
 pub record Sendable (f : Format) (v : ℕ) (fs : List Loop) : Type 0 where
@@ -34,7 +33,7 @@ module _ (f : Format) (v : ℕ) (fs : List Loop) where
     pub list : faces_of f v (encode_faces f fs) ≡ returned fs
     pub faces : faces_in f (encode_faces f fs) ≡ fs
     -- the bytes that the writer reports are in its room, and read back
-    pub room : (room : List ℕ) (n : ℕ) → sent_of f fs room ≡ Bytes n → faces_of f v (take n (sent_room f fs room)) ≡ returned fs
+    pub room : (room : List ℕ) (n : ℕ) → sent_of f fs room ≡ Ok n → faces_of f v (take n (sent_room f fs room)) ≡ returned fs
 
 -- in the edition of a drawing of v vertices and e edges, as many as it may have
 abbrev pub SentReadBack : Type 0
@@ -43,7 +42,7 @@ SentReadBack = (v e : ℕ) → v ≤ most_vertices → e ≤ most_edges
 
 -- what the writer takes are such faces
 abbrev pub SentIsSendable : Format → Type 0
-SentIsSendable f = (fs : List Loop) (room : List ℕ) (n : ℕ) → sent_of f fs room ≡ Bytes n → Sendable f f.most_vertices fs
+SentIsSendable f = (fs : List Loop) (room : List ℕ) (n : ℕ) → sent_of f fs room ≡ Ok n → Sendable f f.most_vertices fs
 
 -- ---- a face list that is accepted, for a drawing of v vertices, is written back with the same bytes
 
@@ -58,7 +57,7 @@ module _ (f : Format) (v : ℕ) (s : List ℕ) where
     pub back : faces_of f v s ≡ returned (faces_in f s)
     -- in room enough the writer writes the list's bytes, and later room is kept
     pub room : v ≤ f.most_vertices → (room : List ℕ) → length s ≤ length room
-        → (sent_of f (faces_in f s) room ≡ Bytes (length s)) × (sent_room f (faces_in f s) room ≡ s ++ drop (length s) room)
+        → (sent_of f (faces_in f s) room ≡ Ok (length s)) × (sent_room f (faces_in f s) room ≡ s ++ drop (length s) room)
 
   -- the writer takes its faces from rows and a record: from the rows that reading returned, each taken and none turned
   abbrev pub RowsGiveFaces : Type 0

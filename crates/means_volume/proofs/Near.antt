@@ -6,11 +6,10 @@ use lib.IntN.{ℤ}
 use lib.ListN.{get_or}
 use Rattle.paper.specs.Numbers.{farthest}
 use Rattle.paper.specs.Points.{origin}
-use Rattle.paper.specs.Refusals.{first_of}
+use Rattle.paper.specs.Refusals.{first_of, Fine}
 use Rattle.paper.specs.Format.{vertices_in, coordinates_in, ends_in, edition_of}
 use Rattle.paper.specs.Sheet.{lent_checks, sheet_checks}
 use Rattle.paper.specs.Drawing.{wire, points_of, at}
-use Rattle.paper.specs.declared.Answer.TheVariants.{Fine}
 use Rattle.paper_laws.proofs.Coordinate.{in_reach}
 use Rattle.sheet_laws.specs.Near.{Near}
 use Rattle.sheet_laws.proofs.Lent.{contents, lent}

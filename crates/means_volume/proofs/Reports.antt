@@ -11,13 +11,12 @@ use lib.Dec.{lit≤}
 use lib.IntN.{ℤ}
 use lib.ListN.{length}
 use Rattle.paper.specs.Numbers.{farthest, documented}
-use Rattle.paper.specs.Refusals.{Check, first_of}
+use Rattle.paper.specs.Refusals.{Check, first_of, Fine}
 use Rattle.paper.specs.Format.{coordinates_in, ends_in, edition_of}
 use Rattle.paper.specs.Sheet.{lent_checks, sheet_checks}
 use Rattle.paper.specs.Drawing.{Wire, wire, at, same_place, drawing_checks}
 use Rattle.paper.specs.Loops.{loop_at, loops, candidates, loop_checks}
 use Rattle.paper.specs.Conversion.{Converted, conversion, convert_lists, convert_sheet, entry_checks}
-use Rattle.paper.specs.declared.Answer.TheVariants as Answer
 use Rattle.paper.specs.declared.Conversion.TheVariants as Conversion
 use Rattle.paper_laws.proofs.Checks.{first-both}
 use Rattle.polygon.specs.Sizes.{PointWithin}
@@ -55,7 +54,7 @@ solid_small d w apart taken turned {six} s =
 
 -- ---- of a conversion
 
-module _ (d : Wire) (form : List Check) (drawn : Answer.Fine ≡ first_of form → Drawn d) (limit : ℕ) (faces solids : List ℕ) where
+module _ (d : Wire) (form : List Check) (drawn : Fine ≡ first_of form → Drawn d) (limit : ℕ) (faces solids : List ℕ) where
   abbrev result : Converted
   result = conversion documented form d limit faces solids
 
@@ -79,10 +78,10 @@ module _ (d : Wire) (form : List Check) (drawn : Answer.Fine ≡ first_of form �
 
 -- ---- of the two ways in which a drawing comes
 
-lent_drawn : (xyz : List ℤ) (ends : List ℕ) → Answer.Fine ≡ first_of (lent_checks xyz ends) → Drawn (wire xyz ends)
+lent_drawn : (xyz : List ℤ) (ends : List ℕ) → Fine ≡ first_of (lent_checks xyz ends) → Drawn (wire xyz ends)
 lent_drawn xyz ends e = record { near = lent-near xyz ends e; counts = lent_small xyz ends e }
 
-sheet_drawn : (s : List ℕ) → Answer.Fine ≡ first_of (sheet_checks (edition_of s) s)
+sheet_drawn : (s : List ℕ) → Fine ≡ first_of (sheet_checks (edition_of s) s)
     → Drawn (wire (coordinates_in (edition_of s) s) (ends_in (edition_of s) s))
 sheet_drawn s e = record { near = sheet-near s e; counts = sheet_small s e }
 

@@ -2,14 +2,13 @@
 use Rattle.std.specs.Prelude.{◌≡◌, Bool, List, ℕ, ◌*◌, ◌-◌, ◌≤◌, ℤ}
 use Rattle.std.proofs.Math.Option.{none}
 use Rattle.paper.specs.Numbers.{most_edges, least_faces, farthest}
-use Rattle.paper.specs.Refusals.{Check, first_of}
+use Rattle.paper.specs.Refusals.{Check, first_of, Fine}
 use Rattle.paper.specs.Format.{coordinates_in, ends_in, edition_of}
 use Rattle.paper.specs.Sheet.{lent_checks, sheet_checks}
 use Rattle.paper.specs.Drawing.{Wire, wire, same_place}
 use Rattle.paper.specs.Loops.{candidates}
 use Rattle.paper.specs.Conversion.{Converted, convert_lists, convert_sheet}
 use Rattle.paper.specs.Reading.{reading_of}
-use Rattle.paper.specs.declared.Answer.TheVariants.{Fine}
 use Rattle.paper.specs.declared.Conversion.TheVariants as Conversion
 use Rattle.means_solid.specs.Solid.{IsSolid}
 use Rattle.reading.specs.Exact.{Exactly}

@@ -8,7 +8,8 @@ use native.Mathlib.Omega.{arith}
 use lib.ListN.{length, replicate}
 use Rattle.lists.specs.Lists.{filter}
 use Rattle.sets.specs.Word.{bit}
-use Rattle.paper.specs.Refusals as No
+use Rattle.paper.specs.Refusals.{value_of}
+use Rattle.paper.specs.declared.Number.TheVariants as No
 use Rattle.paper.specs.Walk.{Status, Undecided, open_count, stable, Log, nothing, walk, search}
 use Rattle.means_walk.specs.Complete.{agrees, exact, times_in}
 use Rattle.means_walk.specs.Tree.{Tree, assumptions, leaves, steps, made, up_to, Exhausted, OneMore, SweepPassed}
@@ -66,13 +67,13 @@ module _ (accept : List Status → Bool) (n : ℕ) (masks : List (List Bool)) (t
       pub work : (search cap accept limit n masks).work ≡ assumptions t
       pub found : (search cap accept limit n masks).found ≡ accepted-leaves
 
-    zero_many : {A : Type 0} {x : ℕ} → x ≡ 0 → x ≡ No.Many → A
+    zero_many : {A : Type 0} {x : ℕ} → x ≡ 0 → x ≡ value_of No.Many → A
     zero_many p q = absurd (omega arith)
 
-    zero_long : {A : Type 0} {x : ℕ} → x ≡ 0 → x ≡ No.TooLong → A
+    zero_long : {A : Type 0} {x : ℕ} → x ≡ 0 → x ≡ value_of No.TooLong → A
     zero_long p q = absurd (omega arith)
 
-    many_long : {A : Type 0} {x : ℕ} → x ≡ No.Many → x ≡ No.TooLong → A
+    many_long : {A : Type 0} {x : ℕ} → x ≡ value_of No.Many → x ≡ value_of No.TooLong → A
     many_long p q = absurd (omega arith)
 
     pub ended_whole : (search cap accept limit n masks).ended ≡ 0 → Whole
@@ -95,7 +96,7 @@ module _ (accept : List Status → Bool) (n : ℕ) (masks : List (List Bool)) (t
       pub short : up_to_cap ≤ limit
       pub work : (search cap accept limit n masks).work ≡ up_to_cap
 
-    pub ended_many : (search cap accept limit n masks).ended ≡ No.Many → Many
+    pub ended_many : (search cap accept limit n masks).ended ≡ value_of No.Many → Many
     ended_many e = go search-ends
       where
         go : Exhausted accept cap limit (steps t) (search cap accept limit n masks)
@@ -113,7 +114,7 @@ module _ (accept : List Status → Bool) (n : ℕ) (masks : List (List Bool)) (t
       pub long : limit < up_to_cap
       pub work : (search cap accept limit n masks).work ≡ limit
 
-    pub ended_long : (search cap accept limit n masks).ended ≡ No.TooLong → Long
+    pub ended_long : (search cap accept limit n masks).ended ≡ value_of No.TooLong → Long
     ended_long e = go search-ends
       where
         go : Exhausted accept cap limit (steps t) (search cap accept limit n masks)
@@ -125,14 +126,14 @@ module _ (accept : List Status → Bool) (n : ℕ) (masks : List (List Bool)) (t
 
     -- it ends in one of the three ways
     pub ends : ((search cap accept limit n masks).ended ≡ 0)
-        ⊎ (((search cap accept limit n masks).ended ≡ No.Many) ⊎ ((search cap accept limit n masks).ended ≡ No.TooLong))
+        ⊎ (((search cap accept limit n masks).ended ≡ value_of No.Many) ⊎ ((search cap accept limit n masks).ended ≡ value_of No.TooLong))
     ends = go search-ends
       where
         go : Exhausted accept cap limit (steps t) (search cap accept limit n masks)
             ⊎ (OneMore accept cap limit (steps t) (search cap accept limit n masks)
             ⊎ SweepPassed accept cap limit (steps t) (search cap accept limit n masks))
             → ((search cap accept limit n masks).ended ≡ 0)
-            ⊎ (((search cap accept limit n masks).ended ≡ No.Many) ⊎ ((search cap accept limit n masks).ended ≡ No.TooLong))
+            ⊎ (((search cap accept limit n masks).ended ≡ value_of No.Many) ⊎ ((search cap accept limit n masks).ended ≡ value_of No.TooLong))
         go (inl x) = inl x.ended
         go (inr (inl x)) = inr (inl x.ended)
         go (inr (inr x)) = inr (inr x.ended)
@@ -147,28 +148,28 @@ module _ (accept : List Status → Bool) (n : ℕ) (masks : List (List Bool)) (t
     whole_ended f s = go ends
       where
         go : ((search cap accept limit n masks).ended ≡ 0)
-            ⊎ (((search cap accept limit n masks).ended ≡ No.Many) ⊎ ((search cap accept limit n masks).ended ≡ No.TooLong))
+            ⊎ (((search cap accept limit n masks).ended ≡ value_of No.Many) ⊎ ((search cap accept limit n masks).ended ≡ value_of No.TooLong))
             → (search cap accept limit n masks).ended ≡ 0
         go (inl e) = e
         go (inr (inl e)) = absurd (omega (arith, (ended_many e).many))
         go (inr (inr e)) = absurd (omega (arith, (ended_long e).long, whole_cap f))
 
-    pub many_ended : cap < length accepted-leaves → up_to_cap ≤ limit → (search cap accept limit n masks).ended ≡ No.Many
+    pub many_ended : cap < length accepted-leaves → up_to_cap ≤ limit → (search cap accept limit n masks).ended ≡ value_of No.Many
     many_ended m s = go ends
       where
         go : ((search cap accept limit n masks).ended ≡ 0)
-            ⊎ (((search cap accept limit n masks).ended ≡ No.Many) ⊎ ((search cap accept limit n masks).ended ≡ No.TooLong))
-            → (search cap accept limit n masks).ended ≡ No.Many
+            ⊎ (((search cap accept limit n masks).ended ≡ value_of No.Many) ⊎ ((search cap accept limit n masks).ended ≡ value_of No.TooLong))
+            → (search cap accept limit n masks).ended ≡ value_of No.Many
         go (inl e) = absurd (omega (arith, (ended_whole e).few))
         go (inr (inl e)) = e
         go (inr (inr e)) = absurd (omega (arith, (ended_long e).long))
 
-    pub long_ended : limit < up_to_cap → (search cap accept limit n masks).ended ≡ No.TooLong
+    pub long_ended : limit < up_to_cap → (search cap accept limit n masks).ended ≡ value_of No.TooLong
     long_ended l = go ends
       where
         go : ((search cap accept limit n masks).ended ≡ 0)
-            ⊎ (((search cap accept limit n masks).ended ≡ No.Many) ⊎ ((search cap accept limit n masks).ended ≡ No.TooLong))
-            → (search cap accept limit n masks).ended ≡ No.TooLong
+            ⊎ (((search cap accept limit n masks).ended ≡ value_of No.Many) ⊎ ((search cap accept limit n masks).ended ≡ value_of No.TooLong))
+            → (search cap accept limit n masks).ended ≡ value_of No.TooLong
         go (inl e) = absurd (omega (arith, (ended_whole e).short, whole_cap (ended_whole e).few))
         go (inr (inl e)) = absurd (omega (arith, (ended_many e).short))
         go (inr (inr e)) = e
@@ -190,6 +191,6 @@ search_fuel cap accept limit n masks f h =
 
 -- a higher limit changes no answer but 19
 pub higher_limit : (cap : ℕ) (accept : List Status → Bool) (a b : ℕ) → a ≤ b → (n : ℕ) (masks : List (List Bool))
-    → ((search cap accept a n masks).ended ≡ No.TooLong → ⊥) → search cap accept b n masks ≡ search cap accept a n masks
+    → ((search cap accept a n masks).ended ≡ value_of No.TooLong → ⊥) → search cap accept b n masks ≡ search cap accept a n masks
 unfolding search
 higher_limit cap accept a b h n masks m = walk-higher cap accept a b h masks (suc n) (replicate n Undecided) nothing m

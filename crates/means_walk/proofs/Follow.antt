@@ -9,7 +9,8 @@ use native.Mathlib.Decide.{dec_lt}
 use native.Mathlib.Nat.{zero-add}
 use lib.ListN.{length, length-append}
 use Rattle.lists.specs.Lists.{filter, keep}
-use Rattle.paper.specs.Refusals as No
+use Rattle.paper.specs.Refusals.{value_of}
+use Rattle.paper.specs.declared.Number.TheVariants as No
 use Rattle.paper.specs.Walk.{Status, Log}
 use Rattle.means_walk.specs.Tree.{WalkStep, assumes, comes, made, sought, up_to}
 use Rattle.means_walk.specs.Tree.{Exhausted, OneMore, SweepPassed}
@@ -19,7 +20,7 @@ use Rattle.means_walk.proofs.Steps.{follow_comes, follow_full}
 module _ (cap : ℕ) (accept : List Status → Bool) (limit : ℕ) where
   -- ---- one selection more than the cap allows
   abbrev Over : ℕ → List WalkStep → Log → Log → Type 0
-  Over c ss log r = (r.ended ≡ No.Many) × (r.work ≡ log.work + made (up_to accept c ss))
+  Over c ss log r = (r.ended ≡ value_of No.Many) × (r.work ≡ log.work + made (up_to accept c ss))
 
   follow_over : (ss : List WalkStep) (log : Log) (c : ℕ) → log.ended ≡ 0 → length log.found + c ≡ cap
       → c < length (filter accept (sought ss)) → log.work + made (up_to accept c ss) ≤ limit
@@ -40,7 +41,7 @@ module _ (cap : ℕ) (accept : List Status → Bool) (limit : ℕ) where
           → Over 0 ss log (follow cap accept limit ss log))
           → Over 0 (comes st ∷ ss) log (follow cap accept limit (comes st ∷ ss) log)
       go true a m h ih =
-          let next : Log = record { work = log.work; found = log.found; ended = No.Many } in
+          let next : Log = record { work = log.work; found = log.found; ended = value_of No.Many } in
           let q = follow_comes cap accept limit st ss log next (come_full cap accept limit st log e a (omega arith))
           ∙ follow_ended cap accept limit ss next refl in
           subst (λ (x : Log). Over 0 (comes st ∷ ss) log x) (sym q) (refl, rw a (omega arith))
@@ -70,7 +71,7 @@ module _ (cap : ℕ) (accept : List Status → Bool) (limit : ℕ) where
 
   -- ---- one assumption more than the limit allows
   abbrev Late : Log → Type 0
-  Late r = (r.ended ≡ No.TooLong) × (r.work ≡ limit)
+  Late r = (r.ended ≡ value_of No.TooLong) × (r.work ≡ limit)
 
   follow_late : (ss : List WalkStep) (log : Log) (c : ℕ) → log.ended ≡ 0 → log.work ≤ limit → length log.found + c ≡ cap
       → limit < log.work + made (up_to accept c ss) → Late (follow cap accept limit ss log)
@@ -89,7 +90,7 @@ module _ (cap : ℕ) (accept : List Status → Bool) (limit : ℕ) where
           let q = follow_assumes cap accept limit ss log next (assume-one cap accept limit log e l) in
           subst Late (sym q) (ih next c refl (omega arith) n (omega arith))
       go (no l) ih =
-          let next : Log = record { work = log.work; found = log.found; ended = No.TooLong } in
+          let next : Log = record { work = log.work; found = log.found; ended = value_of No.TooLong } in
           let q = follow_assumes cap accept limit ss log next (assume-end cap accept limit log e (omega (arith, l)))
           ∙ follow_ended cap accept limit ss next refl in
           subst Late (sym q) (refl, omega (arith, l))

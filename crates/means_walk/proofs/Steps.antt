@@ -8,7 +8,8 @@ use lib.ListN.{length, set, length-append}
 use lib.Dec.{eqb}
 use borrow.Author.Tests.{eq-eqb, ne_eqb, lt-ltb, le-ltb}
 use Rattle.lists.specs.Lists.{filter, keep}
-use Rattle.paper.specs.Refusals as No
+use Rattle.paper.specs.Refusals.{value_of}
+use Rattle.paper.specs.declared.Number.TheVariants as No
 use Rattle.paper.specs.Walk.{Status, Taken, Rejected, open_count, choose, Log, assume, leaf, walk}
 use Rattle.means_walk.specs.Tree.{Tree, broken, branch, assumptions, leaves, WalkStep, assumes, comes, steps, made, sought}
 use Rattle.means_walk.proofs.Grown.{sweeps_stable, sweeps_fewer, chosen_fewer}
@@ -110,7 +111,7 @@ module _ (cap : ℕ) (accept : List Status → Bool) (limit : ℕ) where
   assume-one log e h = rw (eq-eqb log.ended 0 e, lt-ltb log.work limit h)
 
   pub assume-end : (log : Log) → log.ended ≡ 0 → limit ≤ log.work
-      → assume limit log ≡ record { work = log.work; found = log.found; ended = No.TooLong }
+      → assume limit log ≡ record { work = log.work; found = log.found; ended = value_of No.TooLong }
   unfolding assume
   assume-end log e h = rw (eq-eqb log.ended 0 e, le-ltb log.work limit h)
 
@@ -123,7 +124,7 @@ module _ (cap : ℕ) (accept : List Status → Bool) (limit : ℕ) where
   come_more st log e a h = rw (eq-eqb log.ended 0 e, a, lt-ltb (length log.found) cap h)
 
   pub come_full : (st : List Status) (log : Log) → log.ended ≡ 0 → accept st ≡ true → cap ≤ length log.found
-      → come st log ≡ record { work = log.work; found = log.found; ended = No.Many }
+      → come st log ≡ record { work = log.work; found = log.found; ended = value_of No.Many }
   unfolding come leaf
   come_full st log e a h = rw (eq-eqb log.ended 0 e, a, le-ltb (length log.found) cap h)
 

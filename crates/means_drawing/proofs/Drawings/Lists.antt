@@ -6,10 +6,9 @@ use native.Mathlib.Omega.{arith}
 use lib.IntN.{ℤ}
 use lib.ListN.{length}
 use Rattle.paper_laws.proofs.Wires.{length_points, length_edges, edge-at}
-use Rattle.paper.specs.Refusals.{first_of}
+use Rattle.paper.specs.Refusals.{first_of, Fine}
 use Rattle.paper.specs.Sheet.{lent_checks}
 use Rattle.paper.specs.Drawing.{edge, edge_at, wire}
-use Rattle.paper.specs.declared.Answer.TheVariants.{Fine}
 use Rattle.sheet_laws.proofs.Lent.{contents, lent}
 use Rattle.means_drawing.specs.Drawings.{Rising}
 

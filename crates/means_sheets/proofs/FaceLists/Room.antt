@@ -17,8 +17,8 @@ use Rattle.paper.specs.Format.{outside, bytes_for}
 use Rattle.paper.specs.Loops.{Loop}
 use Rattle.paper.specs.FaceList.{list_bits, encode_faces, bits_of, face_fits, send_checks, sent_for, sent_room_for, sent_of, sent_room}
 use Rattle.paper.specs.declared.Format.{Format}
-use Rattle.paper.specs.declared.Answer.{Answer}
-use Rattle.paper.specs.declared.Written.{Written}
+use Rattle.std.specs.Prelude.{Ok}
+use Rattle.paper.specs.Refusals.{Answer, Fine}
 use Rattle.faces_laws.proofs.Packed.{length_list}
 use Rattle.means_sheets.specs.FaceLists.{Sendable}
 use Rattle.means_sheets.proofs.Filled.{length-filled}
@@ -36,8 +36,8 @@ module _ (f : Format) (fs : List Loop) (room : List ℕ) where
 
   -- ---- where it writes
 
-  module _ (n : ℕ) (e : sent_of f fs room ≡ Written.Bytes n) where
-    fine : (Answer.Fine ≡ first_of (send_checks f fs (length room))) × (n ≡ size)
+  module _ (n : ℕ) (e : sent_of f fs room ≡ Ok n) where
+    fine : (Fine ≡ first_of (send_checks f fs (length room))) × (n ≡ size)
     unfolding sent_of
     fine = wrote (sent_for f fs) size refl (λ r. refl) n (first_of (send_checks f fs (length room))) e
 
@@ -63,13 +63,13 @@ module _ (f : Format) (fs : List Loop) (room : List ℕ) where
         rw (not_outside least_faces f.most_faces (length fs) g.least g.most, sendable_fits f f.most_vertices fs g) refl
 
     pub sends : (s : List ℕ) → encode_faces f fs ≡ s → length s ≤ length room
-        → (sent_of f fs room ≡ Written.Bytes (length s)) × (sent_room f fs room ≡ s ++ drop (length s) room)
+        → (sent_of f fs room ≡ Ok (length s)) × (sent_room f fs room ≡ s ++ drop (length s) room)
     unfolding sent_of sent_room send_checks
     sends s e l =
         let m : size ≡ length s = sym length_encoded ∙ ap length e in
-        let c : Answer.Fine ≡ first_of (send_checks f fs (length room)) =
+        let c : Fine ≡ first_of (send_checks f fs (length room)) =
         clear ∙ fails _ _ _ (le-ltb (length room) size (le_trans (le_of_eq m) l)) ∙ fails _ _ _ neither in (
-          ap (sent_for f fs) (sym c) ∙ ap Written.Bytes m,
+          ap (sent_for f fs) (sym c) ∙ ap Ok m,
           ap (λ (a : Answer). sent_room_for f fs a room) (sym c) ∙ ap₂ (λ (t : List ℕ) (k : ℕ). t ++ drop k room) e m,
         )
 

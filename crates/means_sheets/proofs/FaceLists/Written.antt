@@ -16,7 +16,7 @@ use Rattle.paper.specs.Format.{bytes_for, fill_after}
 use Rattle.paper.specs.FaceList.{face_bits, list_bits, encode_faces, faces_at, count_in, faces_in, bits_of, well_shaped, faces_of}
 use Rattle.paper.specs.Loops.{Loop, row}
 use Rattle.paper.specs.declared.Format.{Format}
-use Rattle.paper.specs.declared.Answer.TheVariants.{Fine}
+use Rattle.paper.specs.Refusals.{Fine}
 use Rattle.faces_laws.proofs.Packed.{length_list, under_list}
 use Rattle.means_sheets.specs.Sound.{Sound}
 use Rattle.means_sheets.specs.FaceLists.{Sendable}

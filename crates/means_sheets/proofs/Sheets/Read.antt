@@ -13,12 +13,11 @@ use Rattle.pack.proofs.Trip.{bits_field, run_fields}
 use Rattle.paper_laws.proofs.Checks.{fails}
 use Rattle.paper_laws.proofs.Limits.{not_outside}
 use Rattle.paper.specs.Numbers.{least_vertices, most_vertices, least_edges, most_edges}
-use Rattle.paper.specs.Refusals.{first_of}
+use Rattle.paper.specs.Refusals.{first_of, Fine}
 use Rattle.paper.specs.Format.{head, total, filled, head_bits, on_sheet, coordinate, vertices_in, edges_in, coordinates_in, ends_in, encode}
 use Rattle.paper.specs.Sheet.{content_checks, sheet_checks, lent_checks, bad_count, sheet_of}
 use Rattle.paper.specs.declared.Format.{Format}
 use Rattle.paper.specs.declared.Drawing.{Drawing}
-use Rattle.paper.specs.declared.Answer.TheVariants.{Fine}
 use Rattle.sheet_laws.proofs.Accepted.{accepted_shape, accepted_contents, coordinates_are, ends_are}
 use Rattle.paper_laws.proofs.Coordinate.{on_sheet-coordinate}
 use Rattle.sheet_laws.proofs.Accepted.{length_coordinates, length-ends}

@@ -15,13 +15,11 @@ use Rattle.pack.proofs.Laws.{length_bits}
 use Rattle.pack.proofs.Trip.{field_in, fields_in}
 use Rattle.paper_laws.proofs.Checks.{clear, fails, first_passes}
 use Rattle.paper_laws.proofs.Limits.{not_outside}
-use Rattle.paper.specs.Refusals.{first_of}
+use Rattle.paper.specs.Refusals.{first_of, Answer, Fine}
 use Rattle.paper.specs.Format.{head, total, bytes_for, fill_after, head_bits, on_sheet, coordinate, vertices_in, edges_in, coordinates_in}
 use Rattle.paper.specs.Format.{ends_in, encode}
 use Rattle.paper.specs.Sheet.{content_checks, open_checks, count_checks, close_checks, shape_checks, sheet_checks, drawn_for, held, sheet_of}
 use Rattle.paper.specs.declared.Format.{Format}
-use Rattle.paper.specs.declared.Answer.{Answer}
-use Rattle.paper.specs.declared.Answer.TheVariants.{Fine}
 use Rattle.sheet_laws.specs.Near.{Near}
 use Rattle.paper_laws.proofs.Coordinate.{near}
 use Rattle.sheet_laws.proofs.Shaped.{Opened, Counted, Closed, Shaped}
