@@ -22,10 +22,6 @@ pub record RequestStands (room : List ℕ) (n : ℕ) : Type 0 where
   pub whole : WholeRequest (take n room)
   pub second_short : second_length (take n room) ≤ most_item
 
--- 0 where none was read
-abbrev pub ReadTo : List ℕ → ℕ → Type 0
-ReadTo room n = (n ≡ 0 → ⊥) → RequestStands room n
-
 -- a request was taken of the input, and nothing of the next
 pub record TakesOne (old new : Option (List ℕ)) (q : List ℕ) : Type 0 where
   pub taken : Consumes old new q

@@ -2,9 +2,9 @@
 // docs/PIPE.md says. Nothing is assumed of the input.
 #![tactic(auto)]
 
-ghost use Rattle.std.specs.Prelude.{◌≡◌, ◌≢◌, true, false, take, IfOk};
+ghost use Rattle.std.specs.Prelude.{◌≡◌, true, false, take, IfOk, IfSome};
 ghost use Rattle.std.specs.Io.KnownBytes.{Consumes, Keeps};
-ghost use Rattle.clerk.specs.Read.{RoomyRequest, RequestRooms, ReadTo, Serves, TakesOne};
+ghost use Rattle.clerk.specs.Read.{RoomyRequest, RequestRooms, RequestStands, Serves, TakesOne};
 
 use clerk_reply::{FIRST_AT, HEAD, MOST_ITEM, REPLY_ROOM, SECOND_AT, answer};
 use clerk_words::two_at;
@@ -28,30 +28,30 @@ fn filled<R: Read>(input: &mut R, room: &mut [u8]) -> io::Result<bool>
     }
 }
 
-// Answers the request's length, or 0 where the input ends or an item is too long. The items are read only once their lengths are known, so
+// Answers the request's length; none where the input ends or an item is too long. The items are read only once their lengths are known, so
 // that nothing is taken of the next request.
-fn read_request<R: Read>(input: &mut R, room: &mut [u8]) -> io::Result<usize>
+fn read_request<R: Read>(input: &mut R, room: &mut [u8]) -> io::Result<Option<usize>>
     requires { RoomyRequest room.old }
-    ensures read { IfOk result (λ n. ReadTo room.new n) }
-    ensures taken { IfOk result (λ n. n ≢ 0
-        → TakesOne (R.remaining input.old) (R.remaining input.new) (take n room.new)) }
+    ensures read { IfOk result (λ end. IfSome end (λ n. RequestStands room.new n)) }
+    ensures taken { IfOk result (λ end. IfSome end
+        (λ n. TakesOne (R.remaining input.old) (R.remaining input.new) (take n room.new))) }
 {
     if !filled(input, &mut room[..HEAD])? {
-        return Ok(0);
+        return Ok(None);
     }
     let first = two_at(room, FIRST_AT) as usize;
     let second = two_at(room, SECOND_AT) as usize;
     if first > MOST_ITEM {
-        return Ok(0);
+        return Ok(None);
     }
     if second > MOST_ITEM {
-        return Ok(0);
+        return Ok(None);
     }
     let end = HEAD + first + second;
     if !filled(input, &mut room[HEAD..end])? {
-        return Ok(0);
+        return Ok(None);
     }
-    Ok(end)
+    Ok(Some(end))
 }
 
 // Whether a request came and its reply was written.
@@ -68,17 +68,17 @@ fn served<R: Read, W: Write>(
     ensures quiet { IfOk result (λ more. more ≡ false
         → Keeps (W.contents out.old) (W.contents out.new)) }
 {
-    let end = read_request(input, request)?;
-    if end == 0 {
+    let Some(end) = read_request(input, request)? else {
         return Ok(false);
+    };
+    match answer(&request[..end], room) {
+        None => Ok(false),
+        Some(n) => {
+            out.write_all(&room[..n])?;
+            out.flush()?;
+            Ok(true)
+        }
     }
-    let n = answer(&request[..end], room);
-    if n == 0 {
-        return Ok(false);
-    }
-    out.write_all(&room[..n])?;
-    out.flush()?;
-    Ok(true)
 }
 
 fn main(rt: HostRuntime) -> io::Result<()> {

@@ -1,15 +1,16 @@
 -- What the functions leave in rooms of zeros are the parts of each reply.
 use mathlib.Core.Bool.{Bool, cond}
 use mathlib.Core.List.{List, [], ◌∷◌, ◌++◌}
-use mathlib.Core.Logic.{⊎_elim}
-use mathlib.Core.Path.{◌≡◌, sym, ap, ◌∙◌, subst}
-use Prim.Native.Nat.{ℕ, zero, suc, ◌+◌, ◌-◌, ◌*◌, ◌/◌, ◌%◌, ◌≤◌, zero-le}
+use mathlib.Core.Path.{◌≡◌, sym, ap, ◌∙◌}
+use Prim.Native.Nat.{ℕ, zero, suc, ◌+◌, ◌-◌, ◌*◌, ◌/◌, ◌%◌, ◌≤◌, ◌<◌}
 use native.Mathlib.Omega.{arith}
 use borrow.Author.Tests.{eq-eqb, ne_eqb}
 use lib.Dec.{lit≤}
 use lib.IntN.{ℤ, pos}
-use lib.ListN.{length, take, drop, get_or, replicate, get_or-eq_default}
+use lib.ListN.{length, take, drop, replicate, get_or-eq_default}
 use lib.Seq.{take_all, take_at}
+use Rattle.std.specs.Prelude.{Result, Ok, Err, None, Some}
+use Rattle.std.specs.Result.{result_ok}
 use Rattle.rooms.specs.Rooms.{copied}
 use Rattle.lists.proofs.Places.{made_length}
 use Rattle.paper.specs.Numbers.{most_vertices, most_edges, face_room, solid_room}
@@ -22,7 +23,7 @@ use Rattle.paper.specs.Reading.{conversion_says, verdict_says, written_says, wri
 use Rattle.paper.specs.Reading as Paper
 use Rattle.paper.specs.Desk.{desk_text}
 use Rattle.paper.specs.declared.Conversion.{Conversion}
-use Rattle.paper.specs.declared.Written.{Written}
+use Rattle.paper.specs.Refusals.{Written}
 use Rattle.convert.specs.Converts.{at_exit}
 use Rattle.faces_writer.specs.Send.{of_solid}
 use Rattle.desk_lines.proofs.Putting.{puts_long}
@@ -34,8 +35,11 @@ use Rattle.export_words.specs.declared.words.Said.{Said}
 use Rattle.clerk_words.specs.Words.{word_size, words_bytes, numbers_bytes, word_at, number_from, numbers_in}
 use Rattle.clerk_reply.specs.Replies.{reply_room, zeros, said_words, said_bytes, reading_words, conversion_bytes, LongEnough, Replies}
 use Rattle.clerk_reply.specs.Replies.{read_reply, converted_reply, checked_reply, written_reply, sent_reply, text_reply}
-use Rattle.clerk_reply.specs.Requests.{sheet_reply, faces_reply, replies, lengths, reply_to, length_of}
+use Rattle.clerk_reply.specs.Requests.{sheet_reply, faces_reply, replies, reply_to, length_of}
 use Rattle.clerk_reply.specs.Requests.{head_bytes, kind_in, limit_in, first_length, second_length, answer_to}
+use Rattle.clerk_reply.specs.Codes.{code_of, Decodes}
+use Rattle.clerk_reply.specs.declared.request.Request.{Request}
+use Rattle.clerk_reply.specs.declared.request.UnknownKind.{UnknownKind}
 use Rattle.clerk_reply.specs.Held.{SaidAs}
 
 pub read_is : (sheet : List ℕ) {r : ℕ} {xyz : List ℤ} {ends said : List ℕ}
@@ -118,30 +122,21 @@ numbers_are n bytes room₀ e =
 
 -- ---- by the kind
 
-module _ (limit : ℕ) (first second : List ℕ) {room₀ room : List ℕ} {r : ℕ} where
-  pub of_kind : {kind : ℕ} (k : ℕ) → kind ≡ k → Replies (get_or (replies limit first second) k []) (get_or lengths k 0) room₀ room r
-      → Replies (reply_to kind limit first second) (length_of kind) room₀ room r
-  unfolding reply_to
-  of_kind k e h = subst (λ (j : ℕ). Replies (reply_to j limit first second) (length_of j) room₀ room r) (sym e) h
+-- of a kind that a code stands for, or of a code that stands for none
+pub kind_is : (code : ℕ) (r : Result Request UnknownKind) {kind asked : Request} → Decodes code r → Some kind ≡ result_ok r → kind ≡ asked
+    → code ≡ code_of asked
+kind_is code (Ok k) {kind} {asked} d e s = let same : k ≡ asked = cc in sym d ∙ ap code_of same
+kind_is code (Err u) d e s = cc
 
--- past the last there is none
-abbrev NoneBelow : ℕ → ℕ → Type 0
-NoneBelow n zero = Unit {0}
-NoneBelow n (suc k) = NoneBelow n k × (n ≡ k → ⊥)
+pub unknown : (code : ℕ) (r : Result Request UnknownKind) → Decodes code r → None ≡ result_ok r → 6 < code
+unknown code (Ok k) d e = cc
+unknown code (Err u) d e = d.1
 
-pub past : (k n : ℕ) → NoneBelow n k → k ≤ n
-past zero n h = zero-le
-past (suc k) n h =
-    let before = past k n h.0 in
-    let other = h.1 in
-    omega arith
-
-pub no_kind : (kind limit : ℕ) (first second : List ℕ) → 7 ≤ kind → reply_to kind limit first second ≡ []
+pub no_kind : (kind limit : ℕ) (first second : List ℕ) → 6 < kind → reply_to kind limit first second ≡ []
 unfolding reply_to replies
 no_kind kind limit first second h = get_or-eq_default (replies limit first second) [] {n = kind} h
 
--- ---- no reply is longer than the room for any
-
+-- no reply is longer than the room for any
 most : (kind : ℕ) → length_of kind ≤ reply_room
 most zero = lit≤ tt
 most (suc zero) = lit≤ tt
@@ -154,9 +149,7 @@ most (suc (suc (suc (suc (suc (suc (suc k))))))) = lit≤ tt
 
 pub reply_within : (kind : ℕ) {bytes room₀ room : List ℕ} {r : ℕ} → Replies bytes (length_of kind) room₀ room r → LongEnough room₀
     → r ≤ length room
-reply_within kind h l =
-    let same = puts_long h.puts in
-    ⊎_elim (λ e. omega (arith, e)) (λ e. omega (arith, e, most kind, same, l.long)) h.sized
+reply_within kind h l = let same = puts_long h.puts in omega (arith, h.sized, most kind, same, l.long)
 
 -- ---- of a whole request
 

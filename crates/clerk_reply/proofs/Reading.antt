@@ -2,16 +2,15 @@
 use mathlib.Core.Bool.{Bool, true, false, not, cond}
 use mathlib.Core.Path.{◌≡◌, refl, sym, ap, ◌∙◌, subst}
 use Prim.Native.Nat.{ℕ, zero, suc, ◌+◌, ◌-◌, ◌*◌, ◌/◌, ◌%◌, ◌^◌, compare}
-use native.Mathlib.Omega.{arith}
 use lib.Dec.{T, ltb}
 use lib.IntN.{pos}
 use lib.Ieee.{Float, nan, inf, fin, Format, binary64, prec, emax, low, unlike, up, down, size, nearest}
 use lib.Ieee.{is_nan, odd, units, round, div, of_int}
 use Rattle.paper.specs.Reading.{volume, reading_of, reading_says}
 use Rattle.paper.specs.declared.Conversion.{Conversion}
-use Rattle.paper.specs.declared.Conversion.TheVariants as Conversion
-use Rattle.paper.specs.declared.Reading.{Reading}
-use Rattle.paper.specs.declared.Reading.TheVariants as Reading
+use Rattle.std.specs.Prelude.{Ok, Err}
+use Rattle.paper.specs.Refusals.{Reading}
+use Rattle.paper.specs.declared.Number.{Number}
 use Rattle.clerk_reply.specs.Replies.{shown_words, reading_words}
 
 -- ---- what is rounded is a number or an infinity
@@ -53,13 +52,13 @@ volume-number six = divided (of_int binary64 (pos six)) (round_number binary64 f
 
 -- ---- of a reading
 
-same : {x v : Float} → Reading.Volume x ≡ Reading.Volume v → x ≡ v
+same : {x v : Float} → ◌≡◌ {A = Reading} (Ok x) (Ok v) → x ≡ v
 same e = cc
 
-never : {n : ℕ} {v : Float} → Reading.NotAssessed n ≡ Reading.Volume v → ⊥
-never e = let z : ◌≡◌ {A = ℕ} 0 1 = cc in omega arith
+never : {n : Number} {v : Float} → ◌≡◌ {A = Reading} (Err n) (Ok v) → ⊥
+never e = cc
 
-pub volume-has-bits : (c : Conversion) (v : Float) → reading_of c ≡ Reading.Volume v → T (not (is_nan v))
+pub volume-has-bits : (c : Conversion) (v : Float) → ◌≡◌ {A = Reading} (reading_of c) (Ok v) → T (not (is_nan v))
 unfolding reading_of
 volume-has-bits (Conversion.One l k w six) v e =
     subst (λ (b : Bool). T (not b)) (sym (volume-number six) ∙ ap is_nan (same e)) tt

@@ -1,7 +1,6 @@
--- Bytes that are put as a reply: there is room, they are as many as the kind says, or there are none.
-use mathlib.Core.List.{List, [], ◌++◌}
-use mathlib.Core.Logic.{inl, inr}
-use mathlib.Core.Path.{◌≡◌, refl}
+-- Bytes that are put as a reply: there is room, and they are as many as the kind says.
+use mathlib.Core.List.{List, ◌++◌}
+use mathlib.Core.Path.{◌≡◌}
 use Prim.Native.Nat.{ℕ, ◌+◌, ◌*◌, ◌≤◌}
 use native.Mathlib.Omega.{arith}
 use lib.IntN.{ℤ}
@@ -44,11 +43,8 @@ module _ {bytes room₀ : List ℕ} {n : ℕ} where
   -- the bytes that were put are the reply's
   pub replied : {reply room : List ℕ} {r : ℕ} → reply ≡ bytes → length bytes ≡ n → Puts room₀ 0 bytes room r
       → Replies reply n room₀ room r
-  replied e l p = record { puts = puts_as e p; sized = inr (omega (arith, p.next_is)) }
+  replied e l p = record { puts = puts_as e p; sized = omega (arith, p.next_is) }
 
   -- a reply by another name
   pub replied_as : {reply room : List ℕ} {r : ℕ} → reply ≡ bytes → Replies bytes n room₀ room r → Replies reply n room₀ room r
   replied_as e h = record { puts = puts_as e h.puts; sized = h.sized }
-
-  pub none_replied : bytes ≡ [] → Replies bytes n room₀ room₀ 0
-  none_replied e = record { puts = puts_as e (record { room_is = refl; next_is = refl }); sized = inl refl }

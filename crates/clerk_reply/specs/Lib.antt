@@ -2,3 +2,4 @@
 pub mod Replies
 pub mod Requests
 pub mod Held
+pub mod Codes

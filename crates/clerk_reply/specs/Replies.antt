@@ -1,5 +1,6 @@
 -- docs/PIPE.md, "A reply": the bytes of each kind. "Rooms are as a function leaves them that was lent zeros."
-use Rattle.std.specs.Prelude.{List, [], ◌∷◌, ◌++◌, ◌⊎◌, ◌≡◌, ℕ, ◌+◌, ◌*◌, ◌≤◌, ℤ, pos, Float, length, replicate}
+use Rattle.std.specs.Prelude as Std
+use Rattle.std.specs.Prelude.{None, Some, List, [], ◌∷◌, ◌++◌, ◌≡◌, ℕ, ◌+◌, ◌*◌, ◌≤◌, ◌<◌, ℤ, pos, Float, length, replicate}
 use Rattle.std.proofs.Math.Option.{Option, none, some}
 use Rattle.std.specs.Float.{binary64}
 use Rattle.std.specs.Float.Ieee.{to_bits}
@@ -120,7 +121,12 @@ text_reply sheet =
 pub record LongEnough (room : List ℕ) : Type 0 where
   pub long : reply_room ≤ length room
 
--- these bytes stand at the room's start, all else is as it was, and r is how many they are: none, or n
+-- these bytes stand at the room's start, all else is as it was, and r is how many they are: n
 pub record Replies (bytes : List ℕ) (n : ℕ) (room₀ room : List ℕ) (r : ℕ) : Type 0 where
   pub puts : Puts room₀ 0 bytes room r
-  pub sized : (r ≡ 0) ⊎ (r ≡ n)
+  pub sized : r ≡ n
+
+-- the same of some bytes, or there is no reply and the room is as it was
+abbrev pub MayReply : List ℕ → ℕ → List ℕ → List ℕ → Std.Option ℕ → Type 0
+MayReply bytes n room₀ room None = (bytes ≡ []) × (room ≡ room₀)
+MayReply bytes n room₀ room (Some r) = (0 < r) × Replies bytes n room₀ room r

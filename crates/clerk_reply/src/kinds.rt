@@ -5,7 +5,7 @@ ghost use Rattle.desk_lines.specs.Put.{Fits, Puts};
 ghost use Rattle.clerk_words.specs.Words.{words_bytes, numbers_bytes};
 ghost use Rattle.clerk_reply.specs.Replies.{hello_reply, read_reply, converted_reply, checked_reply, written_reply, text_reply};
 ghost use Rattle.clerk_reply.specs.Replies.{hello_length, read_length, converted_length, said_length, written_length, sent_length};
-ghost use Rattle.clerk_reply.specs.Replies.{text_length, LongEnough, Replies};
+ghost use Rattle.clerk_reply.specs.Replies.{text_length, LongEnough, Replies, MayReply};
 ghost use Rattle.clerk_reply.specs.Requests.{sheet_reply, faces_reply, Lends};
 
 use super::MOST_ITEM;
@@ -110,28 +110,28 @@ fn put_written(xyz: &[i64], ends: &[u8], room: &mut [u8]) -> usize
 }
 
 // No reply where the coordinates are not whole words.
-pub fn put_sheet(first: &[u8], ends: &[u8], room: &mut [u8]) -> usize
+pub fn put_sheet(first: &[u8], ends: &[u8], room: &mut [u8]) -> Option<usize>
     requires { Lends first.now room.old }
-    ensures { Replies (sheet_reply first.now ends.now) written_length
+    ensures { MayReply (sheet_reply first.now ends.now) written_length
         room.old room.new result }
 {
     if first.len() % WORD_BYTES != 0 {
-        return 0;
+        return None;
     }
     let n = first.len() / WORD_BYTES;
     let mut xyz = [0i64; ITEM_NUMBERS];
     take_numbers(first, n, &mut xyz);
-    put_written(&xyz[..n], ends, room)
+    Some(put_written(&xyz[..n], ends, room))
 }
 
 // No reply where the solid has other than two words.
-pub fn put_faces(rows: &[u8], solid: &[u8], room: &mut [u8]) -> usize
+pub fn put_faces(rows: &[u8], solid: &[u8], room: &mut [u8]) -> Option<usize>
     requires { LongEnough room.old }
-    ensures { Replies (faces_reply rows.now solid.now) sent_length room.old
+    ensures { MayReply (faces_reply rows.now solid.now) sent_length room.old
         room.new result }
 {
     if solid.len() != SOLID_BYTES {
-        return 0;
+        return None;
     }
     let taken = word_at(solid, 0);
     let turned = word_at(solid, WORD_BYTES);
@@ -139,7 +139,7 @@ pub fn put_faces(rows: &[u8], solid: &[u8], room: &mut [u8]) -> usize
     let mut list = [0u8; LIST_ROOM];
     let mut said = [0u64; MOST_SAID];
     nibgravel_write_faces(rows, &words, 0, 0, &mut list, &mut said);
-    put_said(&said, &list, room)
+    Some(put_said(&said, &list, room))
 }
 
 pub fn put_desk(sheet: &[u8], room: &mut [u8]) -> usize

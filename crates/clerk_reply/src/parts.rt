@@ -5,7 +5,7 @@ ghost use Rattle.clerk_reply.specs.Replies.{reading_words};
 ghost use Rattle.clerk_reply.specs.Held.{SaidAs};
 
 use export_words::words::{MOST_SAID, Said, tell};
-use paper::{Conversion, Reading};
+use paper::Conversion;
 use reading::reading;
 
 const READING_WORDS: usize = 2;
@@ -24,9 +24,8 @@ pub fn said_words(s: Said) -> [u64; MOST_SAID]
 pub fn reading_words(c: Conversion) -> [u64; READING_WORDS]
     ensures { result ≡ reading_words c }
 {
-    let shown = reading(c);
-    match shown {
-        Reading::Volume(v) => [0, f64::to_bits(v)],
-        Reading::NotAssessed(n) => [n as u64, 0],
+    match reading(c) {
+        Ok(v) => [0, f64::to_bits(v)],
+        Err(n) => [u64::from(n), 0],
     }
 }

@@ -50,10 +50,8 @@ pub fn put_words(words: &[u64], at: usize, room: &mut [u8]) -> usize
     ensures { Puts room.old at (words_bytes words.now) room.new result }
 {
     let mut next = at;
-    let mut i = 0;
-    while i < words.len() {
-        next = put_word(words[i], next, room);
-        i += 1;
+    for word in words {
+        next = put_word(*word, next, room);
     }
     next
 }
@@ -70,18 +68,10 @@ pub fn put_numbers(numbers: &[i64], at: usize, room: &mut [u8]) -> usize
     ensures { Puts room.old at (numbers_bytes numbers.now) room.new result }
 {
     let mut next = at;
-    let mut i = 0;
-    while i < numbers.len() {
-        next = put_word(word_of(numbers[i]), next, room);
-        i += 1;
+    for number in numbers {
+        next = put_word(word_of(*number), next, room);
     }
     next
-}
-
-fn wide(x: u8) -> u64
-    ensures { (result ≡ x) × (result < 256) }
-{
-    x as u64
 }
 
 // The number of two bytes from a place on, of four, and of eight.
@@ -89,7 +79,7 @@ pub fn two_at(bytes: &[u8], at: usize) -> u64
     requires { Stand 2 at bytes.now }
     ensures { (result ≡ two_at bytes.now at) × (result < 65536) }
 {
-    256 * wide(bytes[at]) + wide(bytes[at + 1])
+    256 * u64::from(bytes[at]) + u64::from(bytes[at + 1])
 }
 
 fn four_at(bytes: &[u8], at: usize) -> u64
@@ -122,9 +112,7 @@ pub fn take_numbers(bytes: &[u8], n: usize, room: &mut [i64])
     requires { NumbersThere n bytes.now room.old }
     ensures { room.new ≡ copied n (numbers_in n bytes.now) room.old }
 {
-    let mut i = 0;
-    while i < n {
+    for i in 0..n {
         room[i] = number_of(word_at(bytes, WORD_BYTES * i));
-        i += 1;
     }
 }

@@ -10,14 +10,8 @@ use std::io::{self, Read};
 // A byte more than the longest sheet has, so that a longer input is seen to be longer.
 const INPUT_ROOM: usize = SHEET_ROOM + 1;
 
-#[derive(Clone, Copy)]
-enum Input {
-    Bytes(usize),
-    Failed,
-}
-
-// Reads until the room is full or the input ends.
-fn read_input<R: Read>(input: &mut R, room: &mut [u8]) -> Input
+// Reads until the room is full or the input ends; none where it can't be read.
+fn read_input<R: Read>(input: &mut R, room: &mut [u8]) -> Option<usize>
     ensures within { WithinRoom room.new result }
     ensures taken { TakenFrom (R.remaining input.old) (R.remaining input.new) room.new result }
 {
@@ -25,22 +19,21 @@ fn read_input<R: Read>(input: &mut R, room: &mut [u8]) -> Input
     while at < room.len() {
         let more = match input.read(&mut room[at..]) {
             Ok(more) => more,
-            Err(_) => return Input::Failed,
+            Err(_) => return None,
         };
         if more == 0 {
-            return Input::Bytes(at);
+            return Some(at);
         }
         at += more;
     }
-    Input::Bytes(at)
+    Some(at)
 }
 
 // That the input can't be read is said where the text is looked for.
 fn main(rt: HostRuntime) -> io::Result<()> {
     let mut sheet = [0u8; INPUT_ROOM];
-    let input = read_input(&mut rt.stdin(), &mut sheet);
-    match input {
-        Input::Failed => print_all(&mut rt.stdout(), b"cannot read standard input\n"),
-        Input::Bytes(n) => print_text(&mut rt.stdout(), &sheet[..n]),
+    match read_input(&mut rt.stdin(), &mut sheet) {
+        None => print_all(&mut rt.stdout(), b"cannot read standard input\n"),
+        Some(n) => print_text(&mut rt.stdout(), &sheet[..n]),
     }
 }

@@ -5,14 +5,14 @@ ghost use Rattle.std.specs.Prelude.{◌<◌};
 ghost use Rattle.paper.specs.Desk.{decimal};
 ghost use Rattle.desk_lines.specs.Put.{Fits, Puts, digit_text, field_text, pair_text};
 
-use rooms::copy_bytes;
+use rooms::copy;
 
 // Each function answers the place behind what it put.
 pub fn put_text(text: &[u8], at: usize, room: &mut [u8]) -> usize
     requires { Fits at text.now room.old }
     ensures { Puts room.old at text.now room.new result }
 {
-    copy_bytes(text, text.len(), &mut room[at..]);
+    copy(text, text.len(), &mut room[at..]);
     at + text.len()
 }
 

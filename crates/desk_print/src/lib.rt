@@ -6,7 +6,6 @@ ghost use Rattle.std.specs.Io.KnownBytes.{Appends};
 ghost use Rattle.paper.specs.Desk.{desk_text};
 
 use desk_text::{TEXT_ROOM, desk_text};
-use paper::Written;
 use std::io::{self, Write};
 
 pub fn print_all<W: Write>(out: &mut W, bytes: &[u8]) -> io::Result<()>
@@ -21,9 +20,8 @@ pub fn print_text<W: Write>(out: &mut W, sheet: &[u8]) -> io::Result<()>
         (desk_text sheet.now)) }
 {
     let mut text = [0u8; TEXT_ROOM];
-    let written = desk_text(sheet, &mut text);
-    match written {
-        Written::Bytes(n) => print_all(out, &text[..n]),
-        Written::Refused(_) => print_all(out, b"no room for the text\n"),
+    match desk_text(sheet, &mut text) {
+        Ok(n) => print_all(out, &text[..n]),
+        Err(_) => print_all(out, b"no room for the text\n"),
     }
 }

@@ -31,10 +31,8 @@ fn put_faces(solid: &[u64], at: usize, room: &mut [u8]) -> usize
     ensures { Puts room.old at (words_text solid.now) room.new result }
 {
     let mut next = at;
-    let mut k: usize = 0;
-    while k < SET_BITS {
+    for k in 0..SET_BITS {
         next = put_face(k, solid, next, room);
-        k += 1;
     }
     next
 }
@@ -57,10 +55,8 @@ pub fn put_solids(n: usize, words: &[u64], at: usize, room: &mut [u8]) -> usize
     ensures { Puts room.old at (solids_text 1 n words.now) room.new result }
 {
     let mut next = at;
-    let mut i: usize = 0;
-    while i < n {
+    for i in 0..n {
         next = put_solid(i + 1, &words[WORDS * i..], next, room);
-        i += 1;
     }
     next
 }

@@ -7,18 +7,16 @@ use native.Mathlib.Omega.{arith}
 use borrow.Author.Tests.{lt-ltb}
 use lib.ListN.{length, replicate}
 use Rattle.paper.specs.Numbers.{most_work, most_solids, face_room, solid_room}
-use Rattle.paper.specs.Refusals as No
-use Rattle.paper.specs.Refusals.{first_of, refuse}
+use Rattle.paper.specs.declared.Number.TheVariants as No
+use Rattle.paper.specs.Refusals.{first_of, refuse, Fine}
 use Rattle.paper.specs.Format.{vertices_in, edges_in, coordinates_in, ends_in, edition_of}
 use Rattle.paper.specs.Sheet.{open_checks, shape_checks, sheet_checks}
 use Rattle.paper.specs.Drawing.{Wire, wire}
 use Rattle.paper.specs.Conversion.{Converted, entry_checks, convert_sheet}
 use Rattle.paper.specs.Desk.{answer_text, desk_text}
-use Rattle.paper.specs.declared.Answer.TheVariants as Answer
+use Rattle.std.specs.Prelude.{Ok}
 use Rattle.paper.specs.declared.Conversion.{Conversion}
-use Rattle.paper.specs.declared.Conversion.TheVariants as Conversion
 use Rattle.paper.specs.declared.Refusal.{Refusal}
-use Rattle.paper.specs.declared.Written.TheVariants as Written
 use Rattle.means_report.proofs.Demand.{kind, says_several}
 use Rattle.means_report.proofs.Converted.{the_walk, sheet_unrefused}
 use Rattle.convert.specs.Converts.{at_exit}
@@ -53,7 +51,7 @@ module _ (s : List ℕ) where
       (sheet_unrefused s most_work faces solids (λ x r. omega (arith, ap kind (sym r ∙ e)))) e).eight
 
   -- a sheet too short for counts is refused for that
-  entry-fine : Answer.Fine ≡ first_of (entry_checks most_work faces solids)
+  entry-fine : Fine ≡ first_of (entry_checks most_work faces solids)
   unfolding entry_checks first_of
   entry-fine = refl
 
@@ -104,5 +102,5 @@ module _ (s : List ℕ) where
   desk_short = answer_short (vertices_in (edition_of s) s) (edges_in (edition_of s) s) made.answer made.solids several_few
 
   -- so in that room it is always written
-  pub enough : (room : List ℕ) → RoomForText room → Written.Bytes (length (desk_text s)) ≡ written_text (desk_text s) room
+  pub enough : (room : List ℕ) → RoomForText room → Ok (length (desk_text s)) ≡ written_text (desk_text s) room
   enough room h = (roomy (desk_text s) room (omega (arith, desk_short))).0

@@ -4,10 +4,10 @@ use mathlib.Core.Path.{◌≡◌, refl, sym, ap, ◌∙◌}
 use Prim.Native.Nat.{ℕ}
 use Rattle.paper.specs.Desk.{text, decimal, decimal_in, head_text, solids_text, answer_text}
 use Rattle.paper.specs.declared.Conversion.{Conversion}
-use Rattle.paper.specs.declared.Conversion.TheVariants as Conversion
 use Rattle.paper.specs.declared.Refusal.{Refusal}
 use Rattle.desk_text.specs.declared.answer.Head.{Head}
 use Rattle.desk_text.specs.declared.answer.SheetCounts.{SheetCounts}
+use Rattle.paper.specs.Refusals.{value_of}
 use Rattle.desk_text.specs.Texts.{head_for, head_of, ended_of, report_of, refused_of}
 
 one_counted : text "solids 1\n" ≡ text "solids " ++ decimal 1 ++ text "\n"
@@ -57,7 +57,7 @@ refused_is : (s : SheetCounts) (r : Refusal) (ws : List ℕ)
     → answer_text s.vertices s.edges (Conversion.Refused r) ws ≡ refused_of r
 unfolding answer_text
 refused_is s r ws =
-    ap (λ (h : List ℕ). h ++ text "\n") (append_assoc (text "refused " ++ decimal r.number) (text " ") (decimal r.place))
+    ap (λ (h : List ℕ). h ++ text "\n") (append_assoc (text "refused " ++ decimal (value_of r.number)) (text " ") (decimal r.place))
 
 -- ---- the same of an answer and a head, once it is known which they are
 

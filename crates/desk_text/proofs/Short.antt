@@ -12,10 +12,10 @@ use Rattle.paper.specs.Numbers.{most_solids, set_words, solid_words}
 use Rattle.paper.specs.Record.{taken_in, turned_in, six_in}
 use Rattle.paper.specs.Desk.{text, decimal_in, decimal, signed, faces_text, solid_text, solids_text, head_text, answer_text}
 use Rattle.paper.specs.declared.Conversion.{Conversion}
-use Rattle.paper.specs.declared.Conversion.TheVariants as Conversion
 use Rattle.paper_laws.proofs.Record.{digits_length}
 use Rattle.desk_lines.specs.Put.{digit_text}
 use Rattle.desk_lines.proofs.Decimal.{decimal-one, decimal_more}
+use Rattle.paper.specs.Refusals.{value_of}
 use Rattle.desk_text.specs.Texts.{text_room_size, digit_room, head_room, line_room}
 
 -- ---- numbers
@@ -103,4 +103,4 @@ answer_short v e (Conversion.Several l c w n) ws f =
 answer_short v e (Conversion.NoSolid l c w) ws f = simp length-append (omega (arith, head_short v e l c w))
 answer_short v e (Conversion.Many l c w) ws f = simp length-append (omega (arith, head_short v e l c w))
 answer_short v e (Conversion.TooLong l c w) ws f = simp length-append (omega (arith, head_short v e l c w))
-answer_short v e (Conversion.Refused r) ws f = simp length-append (omega (arith, number_short r.number, number_short r.place))
+answer_short v e (Conversion.Refused r) ws f = simp length-append (omega (arith, number_short (value_of r.number), number_short r.place))

@@ -4,10 +4,10 @@ use Rattle.paper.specs.Numbers.{most_solids, solid_room, solid_words, set_words,
 use Rattle.paper.specs.Format.{vertices_in, edges_in, edition_of}
 use Rattle.paper.specs.Desk.{text, solids_text, answer_text}
 use Rattle.paper.specs.declared.Conversion.{Conversion}
-use Rattle.paper.specs.declared.Conversion.TheVariants as Conversion
 use Rattle.paper.specs.declared.Refusal.{Refusal}
 use Rattle.desk_lines.specs.Put.{Fits, field_text, pair_text}
 use Rattle.desk_text.specs.declared.answer.Head.{Head}
+use Rattle.paper.specs.Refusals.{value_of}
 use Rattle.desk_text.specs.declared.answer.SheetCounts.{SheetCounts}
 
 -- ---- the parts
@@ -26,7 +26,7 @@ abbrev pub report_of : Head → ℕ → List ℕ → List ℕ
 report_of h n ws = head_of h ++ field_text (text "solids ") n ++ text "\n" ++ solids_text 1 n ws
 
 abbrev pub refused_of : Refusal → List ℕ
-refused_of r = pair_text (text "refused ") r.number (text " ") r.place ++ text "\n"
+refused_of r = pair_text (text "refused ") (value_of r.number) (text " ") r.place ++ text "\n"
 
 -- ---- what is asked
 

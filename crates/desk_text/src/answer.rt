@@ -67,7 +67,14 @@ fn put_refused(r: Refusal, room: &mut [u8]) -> usize
     requires { Fits 0 (refused_of r) room.old }
     ensures { Puts room.old 0 (refused_of r) room.new result }
 {
-    let named = put_pair(b"refused ", r.number as u64, b" ", r.place as u64, 0, room);
+    let named = put_pair(
+        b"refused ",
+        u64::from(r.number),
+        b" ",
+        r.place as u64,
+        0,
+        room,
+    );
     put_text(b"\n", named, room)
 }
 

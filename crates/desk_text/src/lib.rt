@@ -13,11 +13,11 @@ ghost use Rattle.desk_text.specs.Texts.{SheetCounted, RoomForText};
 use answer::{SheetCounts, put_answer};
 use convert::convert_sheet;
 use paper::{
-    EDITION_BITS, FACE_ROOM, MOST_SOLIDS, MOST_WORK, NO_ROOM, Refusal, SET_WORDS, SOLID_ROOM,
-    WORD_BITS, Written,
+    EDITION_BITS, FACE_ROOM, MOST_SOLIDS, MOST_WORK, Number, Refusal, SET_WORDS, SOLID_ROOM,
+    WORD_BITS,
 };
-use paper_values::edition_of;
-use rooms::copy_bytes;
+use paper_values::{edition_of, refused};
+use rooms::copy;
 
 // No text is longer: a number has at most 20 digits, a candidate's at most 2 behind a blank and a sign, and the rest are the document's
 // words. The lines before the solids' count, the count's, and a solid's.
@@ -64,7 +64,7 @@ fn put_desk(sheet: &[u8], text: &mut [u8]) -> usize
 
 // Converts a sheet with limit 1,000,000 and writes what the desk program says of it: refusal 1 where the room is shorter than the text.
 // Later room keeps its contents.
-pub fn desk_text(sheet: &[u8], room: &mut [u8]) -> Written
+pub fn desk_text(sheet: &[u8], room: &mut [u8]) -> Result<usize, Refusal>
     ensures answer { result ≡ written_text (desk_text sheet.now) room.old }
     ensures said { written_says result ≡ text_said (desk_text sheet.now) room.old }
     ensures kept { room.new ≡ text_room (desk_text sheet.now) room.old }
@@ -72,11 +72,8 @@ pub fn desk_text(sheet: &[u8], room: &mut [u8]) -> Written
     let mut text = [0u8; TEXT_ROOM];
     let n = put_desk(sheet, &mut text);
     if room.len() < n {
-        return Written::Refused(Refusal {
-            number: NO_ROOM,
-            place: 0,
-        });
+        return refused(Number::NoRoom, 0);
     }
-    copy_bytes(&text, n, room);
-    Written::Bytes(n)
+    copy(&text, n, room);
+    Ok(n)
 }

@@ -28,12 +28,12 @@ module _ (g : _) (c : goal.Else-not-branch-2 g) where
   within = simp (length-append, length-take, length-drop) (omega (arith, head_long, items_long))
 
 pub returns-clause-read : goal.returns-clause-read
-returns-clause-read g c = λ some.
+returns-clause-read g c =
     stands (room c.filled.new.room c.args.room.now) c.filled-2.new.room c.two_at-first.result c.two_at-second.result (room_long g c)
     (within g c) c.two_at-first.ensures.0 c.two_at-second.ensures.0 (omega arith) (omega arith)
 
 pub returns-clause-taken : goal.returns-clause-taken
-returns-clause-taken g c = λ some. record {
+returns-clause-taken g c = record {
   taken = both_taken _ _ _ c.filled.new.room (drop 13 c.args.room.now) c.filled-2.new.room 13 _ _
       (c.in_ok-filled.ensures c.if-not-branch.false) (c.in_ok-filled-2.ensures c.if-not-branch-2.false) (head_long g c)
       (omega (arith, items_long g c));

@@ -1,54 +1,39 @@
--- `clerk_reply::reply`: each arm puts the reply of its kind, and the last none. Each need goes back to its arm and to the start.
-use Rattle.clerk_reply.specs.Requests.{replies}
-use Rattle.clerk_reply.proofs.Replying.{none_replied}
-use Rattle.clerk_reply.proofs.Lent.{of_kind, past, no_kind}
+-- `clerk_reply::reply`: each arm puts the reply of its kind, and a byte that stands for none has no reply.
+use mathlib.Core.Path.{refl}
+use native.Mathlib.Omega.{arith}
+use Rattle.clerk_reply.specs.Requests.{reply_to, replies}
+use Rattle.clerk_reply.proofs.Lent.{kind_is, unknown, no_kind}
 use Rattle.clerk_reply.proofs.reply.Goals as goal
 
--- ---- the needs
+pub returns-in_err-request : goal.returns-in_err-request
+returns-in_err-request c =
+    let above = unknown c.args.kind _ c.try_from.ensures c.in_err-request.ensures.value in
+    rw c.from_residual.ensures (no_kind c.args.kind c.args.limit c.args.first.now c.args.second.now above, refl)
 
-pub returns-in-0 : goal.returns-in-0
-unfolding replies
-returns-in-0 c =
-    let a = c.args in
-    of_kind a.limit a.first.now a.second.now 0 c.in-0.is c.put_hello.ensures
+pub returns-in-Hello : goal.returns-in-Hello
+unfolding reply_to replies
+returns-in-Hello c = rw (kind_is c.args.kind _ c.try_from.ensures c.in_ok-request.ensures.value c.in-Hello.is) (omega (arith, c.put_hello.ensures.sized), c.put_hello.ensures)
 
-pub returns-in-1 : goal.returns-in-1
-unfolding replies
-returns-in-1 c =
-    let a = c.args in
-    of_kind a.limit a.first.now a.second.now 1 c.in-1.is c.put_read.ensures
+pub returns-in-Read : goal.returns-in-Read
+unfolding reply_to replies
+returns-in-Read c = rw (kind_is c.args.kind _ c.try_from.ensures c.in_ok-request.ensures.value c.in-Read.is) (omega (arith, c.put_read.ensures.sized), c.put_read.ensures)
 
-pub returns-in-2 : goal.returns-in-2
-unfolding replies
-returns-in-2 c =
-    let a = c.args in
-    of_kind a.limit a.first.now a.second.now 2 c.in-2.is c.put_converted.ensures
+pub returns-in-Converted : goal.returns-in-Converted
+unfolding reply_to replies
+returns-in-Converted c = rw (kind_is c.args.kind _ c.try_from.ensures c.in_ok-request.ensures.value c.in-Converted.is) (omega (arith, c.put_converted.ensures.sized), c.put_converted.ensures)
 
-pub returns-in-3 : goal.returns-in-3
-unfolding replies
-returns-in-3 c =
-    let a = c.args in
-    of_kind a.limit a.first.now a.second.now 3 c.in-3.is c.put_checked.ensures
+pub returns-in-Checked : goal.returns-in-Checked
+unfolding reply_to replies
+returns-in-Checked c = rw (kind_is c.args.kind _ c.try_from.ensures c.in_ok-request.ensures.value c.in-Checked.is) (omega (arith, c.put_checked.ensures.sized), c.put_checked.ensures)
 
-pub returns-in-4 : goal.returns-in-4
-unfolding replies
-returns-in-4 c =
-    let a = c.args in
-    of_kind a.limit a.first.now a.second.now 4 c.in-4.is c.put_sheet.ensures
+pub returns-in-Written : goal.returns-in-Written
+unfolding reply_to replies
+returns-in-Written c = rw (kind_is c.args.kind _ c.try_from.ensures c.in_ok-request.ensures.value c.in-Written.is) c.put_sheet.ensures
 
-pub returns-in-5 : goal.returns-in-5
-unfolding replies
-returns-in-5 c =
-    let a = c.args in
-    of_kind a.limit a.first.now a.second.now 5 c.in-5.is c.put_faces.ensures
+pub returns-in-Faces : goal.returns-in-Faces
+unfolding reply_to replies
+returns-in-Faces c = rw (kind_is c.args.kind _ c.try_from.ensures c.in_ok-request.ensures.value c.in-Faces.is) c.put_faces.ensures
 
-pub returns-in-6 : goal.returns-in-6
-unfolding replies
-returns-in-6 c =
-    let a = c.args in
-    of_kind a.limit a.first.now a.second.now 6 c.in-6.is c.put_desk.ensures
-
-pub returns-in_default : goal.returns-in_default
-returns-in_default c =
-    let a = c.args in
-    none_replied (no_kind a.kind a.limit a.first.now a.second.now (past 7 a.kind c.in_default.in_default-own.rest))
+pub returns-in-Text : goal.returns-in-Text
+unfolding reply_to replies
+returns-in-Text c = rw (kind_is c.args.kind _ c.try_from.ensures c.in_ok-request.ensures.value c.in-Text.is) (omega (arith, c.put_desk.ensures.sized), c.put_desk.ensures)

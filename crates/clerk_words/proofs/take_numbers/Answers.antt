@@ -8,7 +8,7 @@ use lib.ListN.{get_or, set}
 use mir.Syntax.{w64}
 use mir.Val.{of_z, to_z}
 use Rattle.rooms.specs.Rooms.{Copies}
-use Rattle.rooms.proofs.Copying.{Copying, copying_start, copying_long, copying_more, copying_end}
+use Rattle.rooms.proofs.Copying.{Copying, copying_start, copying_more, copying_end}
 use Rattle.lists.proofs.Places.{made_length, made_at}
 use Rattle.clerk_words.specs.Words.{number_of, number_from, numbers_in}
 use Rattle.clerk_words.proofs.Signed.{again_is}
@@ -32,12 +32,6 @@ number_is c =
     ∙ ap number_of c.word_at.ensures
     ∙ sym (made_at (number_from a.bytes.now) a.n c.loop-i.i (pos 0) h)
 
-copies-2 : (c : goal.After-loop-i) → Copies c.args.n (numbers_in c.args.n c.args.bytes.now) c.args.room.now
-unfolding numbers_in
-copies-2 c =
-    let a = c.args in
-    record { there = omega (arith, made_length (number_from a.bytes.now) a.n); fits = c.requires.fits }
-
 -- ---- the needs
 
 pub loop-i-init : goal.loop-i-init
@@ -52,19 +46,12 @@ word_at-requires c = record { stand = omega (arith, c.requires.there) }
 pub number_of-requires : goal.number_of-requires
 number_of-requires c = tt
 
-pub bounds-room-i : goal.bounds-room-i
-bounds-room-i c =
-    omega (arith, copying_long c.loop-i.invariant (copies c), c.requires.fits)
-
 pub loop-i-preserved : goal.loop-i-preserved
 loop-i-preserved c =
     let a = c.args in
     let i = c.loop-i.i in
     subst⁻¹ (λ (z : ℤ). Copying a.n (numbers_in a.n a.bytes.now) a.room.now (set c.loop-i.room i z) (i + 1)) (number_is c)
     (copying_more c.loop-i.invariant (pos 0) (copies c) (omega arith))
-
-pub shape_of-room : goal.shape_of-room
-shape_of-room c = copying_long c.loop-i.invariant (copies-2 c)
 
 pub returns : goal.returns
 returns c = copying_end c.loop-i.invariant (omega arith)

@@ -4,4 +4,4 @@ use Rattle.desk_lines.proofs.put_text.Goals as goal
 
 pub returns : goal.returns
 returns c =
-    text_put c.args.at c.args.text.now c.args.room.now c.requires c.copy_bytes.ensures
+    text_put c.args.at c.args.text.now c.args.room.now c.requires c.copy.ensures

@@ -1,14 +1,14 @@
 -- `clerk_reply::kinds::put_faces`: what is said of the writing is put, and its room, where the solid has two words. Each need goes back to
 -- the calls and to the start.
 use mathlib.Core.List.{List, ◌++◌}
-use mathlib.Core.Path.{◌≡◌, sym, ◌∙◌}
+use mathlib.Core.Path.{◌≡◌, refl, sym, ◌∙◌}
 use Prim.Native.Nat.{ℕ}
 use native.Mathlib.Omega.{arith}
 use lib.Dec.{lit≤}
 use lib.ListN.{length}
 use Rattle.clerk_words.specs.Words.{words_bytes}
 use Rattle.clerk_reply.specs.Replies.{sent_length, sent_reply}
-use Rattle.clerk_reply.proofs.Replying.{said_long, fits-any, replied, none_replied}
+use Rattle.clerk_reply.proofs.Replying.{said_long, fits-any, replied}
 use Rattle.clerk_reply.proofs.Lent.{sent_is, faces-none, faces_are}
 use Rattle.clerk_reply.proofs.kinds.put_faces.Goals as goal
 
@@ -31,7 +31,7 @@ long-2 c = omega (arith, said_long c.nibgravel_write_faces.new.said c.nibgravel_
 pub returns-then-solid-ne-SOLID_BYTES : goal.returns-then-solid-ne-SOLID_BYTES
 returns-then-solid-ne-SOLID_BYTES c =
     let a = c.args in
-    none_replied (faces-none a.rows.now a.solid.now (λ e. omega (arith, e)))
+    (faces-none a.rows.now a.solid.now (λ e. omega (arith, e)), refl)
 
 pub put_said-requires : goal.put_said-requires
 put_said-requires c = fits-any (long c) (lit≤ tt) c.requires
@@ -39,8 +39,10 @@ put_said-requires c = fits-any (long c) (lit≤ tt) c.requires
 pub returns : goal.returns
 returns c =
     let a = c.args in
+    let r =
     replied
     (faces_are a.rows.now a.solid.now (omega arith)
     ∙ (λ i. sent_reply a.rows.now (sym c.word_at-taken.ensures i) (sym c.word_at-turned.ensures i))
     ∙ sent_is a.rows.now c.word_at-taken.result c.word_at-turned.result c.nibgravel_write_faces.ensures)
-    (long-2 c) c.put_said.ensures
+    (long-2 c) c.put_said.ensures in
+    (omega (arith, r.sized), r)
