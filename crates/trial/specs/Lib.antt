@@ -1,3 +1,3 @@
 -- What contracts of this crate cite.
 pub mod Lines
-pub mod Pair
+pub mod Items

@@ -1,26 +1,19 @@
-// What the trial programs share: items in a stored book, and lines of what is said of them. Assumes nothing.
+// What the trial programs share: the items of a stored book, and lines of what is said of them. Assumes nothing.
 #![tactic(auto)]
 
-ghost use Rattle.std.specs.Prelude.{◌≡◌, ℕ, ◌+◌, ◌≤◌, ◌<◌, length, take, IfOk, OnOk};
-ghost use Rattle.std.proofs.Math.Option.{some};
+ghost use Rattle.std.specs.Prelude.{◌≡◌, ◌+◌, ◌≤◌, ◌<◌, [], ◌∷◌, ◌++◌, length, take, IfOk, OnOk, IfSome, MatchOption};
+ghost use Rattle.std.specs.Iterator.{YieldsFirstRef, item_count};
 ghost use Rattle.std.specs.Io.KnownBytes.{Appends, Consumes, IsAtEnd};
 ghost use Rattle.std.specs.Fmt.{decimal};
-ghost use Rattle.lists.specs.Found.{found};
+ghost use Rattle.paper.specs.Refusals.{value_of};
 ghost use Rattle.trial.specs.Lines.{refused_line};
-ghost use Rattle.trial.specs.Pair.{ItemStands, PairStands};
+ghost use Rattle.trial.specs.Items.{items, items_left};
 
-use lists::Found;
+use paper::Number;
 use std::io::{self, Read, Write};
 
 // Room for a book.
 pub const BOOK: usize = 262144;
-
-// Where two items end.
-#[derive(Clone, Copy)]
-pub enum Pair {
-    Nothing,
-    Ends(usize, usize),
-}
 
 // Reads until the room is full or the input ends, and answers how many bytes it put at the room's start.
 pub fn read_full<R: Read>(input: &mut R, room: &mut [u8]) -> io::Result<usize>
@@ -46,53 +39,60 @@ pub fn say<W: Write>(out: &mut W, text: &[u8]) -> io::Result<()>
     out.write_all(text)
 }
 
-pub fn say_number<W: Write>(out: &mut W, n: u64) -> io::Result<()>
-    ensures { OnOk result (Appends (W.contents out.old) (W.contents out.new) (decimal n)) }
+// A number behind what it counts.
+pub fn say_count<W: Write>(out: &mut W, what: &[u8], n: u64) -> io::Result<()>
+    ensures { OnOk result (Appends (W.contents out.old) (W.contents out.new)
+        (what.now ++ decimal n)) }
 {
+    say(out, what)?;
     write!(out, "{n}")
 }
 
-pub fn say_refused<W: Write>(out: &mut W, number: u8, place: usize) -> io::Result<()>
+pub fn say_refused<W: Write>(out: &mut W, number: Number, place: usize) -> io::Result<()>
     ensures { OnOk result (Appends (W.contents out.old) (W.contents out.new)
-        (refused_line number place)) }
+        (refused_line (value_of number) place)) }
 {
-    writeln!(out, "refused {number} {place}")
+    let n = u64::from(number);
+    writeln!(out, "refused {n} {place}")
 }
 
-pub fn wide(x: u8) -> u64
-    ensures { result < 256 }
+// The item that a book begins with, behind its length in two bytes, high byte first, and what stands behind it; none where it is not
+// whole.
+pub fn first_item(book: &[u8]) -> Option<(&[u8], &[u8])>
+    ensures first { MatchOption result (items book.now ≡ [])
+        (λ p. items book.now ≡ p.0.now ∷ items p.1.now) }
+    ensures bytes { IfSome result (λ p. 2 + length p.0.now + length p.1.now ≡ length book.now) }
 {
-    x as u64
+    let (high, behind) = book.split_first()?;
+    let (low, behind) = behind.split_first()?;
+    let size = 256 * usize::from(*high) + usize::from(*low);
+    behind.split_at_checked(size)
 }
 
-// Where the item ends that stands at byte `at` behind its length in two bytes, high byte first.
-pub fn end_of(book: &[u8], at: usize) -> Found
-    ensures value { (k : ℕ) → some k ≡ found result → (at + 2 ≤ k) × (k ≤ length book.now) }
-    ensures stands { ItemStands book.now at result }
-{
-    if book.len() < at {
-        return Found::Nothing;
-    }
-    let rest = book.len() - at;
-    if rest < 2 {
-        return Found::Nothing;
-    }
-    let size = wide(book[at]) as usize * 256 + wide(book[at + 1]) as usize;
-    if rest - 2 < size {
-        return Found::Nothing;
-    }
-    Found::Value(at + 2 + size)
+// The items of a stored book, up to the first that is not whole.
+#[derive(Drop)]
+pub struct Items<'a> {
+    rest: &'a [u8],
 }
 
-// The same of two items, one behind the other.
-pub fn ends_of(book: &[u8], at: usize) -> Pair
-    ensures { PairStands book.now at result }
-{
-    let Found::Value(middle) = end_of(book, at) else {
-        return Pair::Nothing;
-    };
-    let Found::Value(end) = end_of(book, middle) else {
-        return Pair::Nothing;
-    };
-    Pair::Ends(middle, end)
+impl<'a> Items<'a> {
+    pub fn new(book: &'a [u8]) -> Items<'a>
+        ensures { items_left result ≡ items book.now }
+    {
+        Items { rest: book }
+    }
+}
+
+impl<'a> Iterator for Items<'a> {
+    type Item = &'a [u8];
+
+    ghost next_gives = { YieldsFirstRef items_left };
+
+    ghost remaining = { item_count items_left };
+
+    fn next(&mut self) -> Option<&'a [u8]> {
+        let (item, behind) = first_item(self.rest)?;
+        self.rest = behind;
+        Some(item)
+    }
 }

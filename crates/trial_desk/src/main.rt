@@ -2,24 +2,15 @@
 #![tactic(auto)]
 
 use desk_print::print_text;
-use lists::Found;
-use std::io::{self, Stdout};
-use trial::{BOOK, end_of, read_full};
-
-fn show_all(out: &mut Stdout, book: &[u8]) -> io::Result<()> {
-    let mut at: usize = 0;
-    while at < book.len() {
-        let Found::Value(end) = end_of(book, at) else {
-            return Ok(());
-        };
-        print_text(out, &book[at + 2..end])?;
-        at = end;
-    }
-    Ok(())
-}
+use std::io;
+use trial::{BOOK, Items, read_full};
 
 fn main(rt: HostRuntime) -> io::Result<()> {
     let mut book = [0u8; BOOK];
     let n = read_full(&mut rt.stdin(), &mut book)?;
-    show_all(&mut rt.stdout(), &book[..n])
+    let mut out = rt.stdout();
+    for sheet in Items::new(&book[..n]) {
+        print_text(&mut out, sheet)?;
+    }
+    Ok(())
 }

@@ -12,17 +12,16 @@ ghost use Rattle.loop_known.specs.Known.{DrawnBy};
 use drawing_links::neighbours;
 use drawing_lists::lend::lent;
 use drawing_rules::drawing_rules;
-use lists::Found;
 use loop_cover::covers_other;
 use loop_known::known_loops;
 use loop_words::{PAIRS, number_edges};
 use paper::{
-    Answer, Drawing, FACE_ROOM, FILL, LOOP_ROOM, MANY_LOOPS, MOST_CANDIDATES, MOST_EDGES,
-    MOST_LOOPS, MOST_VERTICES,
+    Drawing, FACE_ROOM, FILL, LOOP_ROOM, MOST_CANDIDATES, MOST_EDGES, MOST_LOOPS, MOST_VERTICES,
+    Number,
 };
 use std::io::{self, Stdout};
-use trial::{end_of, read_full, say, say_number, say_refused};
-use walk_input::{Tabled, tables};
+use trial::{Items, read_full, say, say_count, say_refused};
+use walk_input::tables;
 
 // Room for the corpus.
 const BOOK: usize = 65536;
@@ -41,14 +40,12 @@ fn say_covers(
     requires { Known xyz.now ends.now table.now n corners.now sides.now planes.now }
 {
     say(out, b"covers ")?;
-    let mut k = 0;
-    while k < n {
+    for k in 0..n {
         if covers_other(xyz, ends, table, n, corners, sides, planes, k) {
             say(out, b"1")?;
         } else {
             say(out, b"0")?;
         }
-        k += 1;
     }
     say(out, b"\n")
 }
@@ -76,7 +73,7 @@ fn show_covers(
         &mut sides,
     );
     if MOST_LOOPS < n {
-        return say_refused(out, MANY_LOOPS, 0);
+        return say_refused(out, Number::ManyLoops, 0);
     }
     say_covers(out, xyz, ends, &table, n, &corners, &sides, &planes)
 }
@@ -86,11 +83,8 @@ fn say_clashes(out: &mut Stdout, clashes: &[u64; MOST_CANDIDATES], n: usize) -> 
     requires { n ≤ most_candidates }
 {
     say(out, b"clashes")?;
-    let mut k = 0;
-    while k < n {
-        say(out, b" ")?;
-        say_number(out, clashes[k])?;
-        k += 1;
+    for word in &clashes[..n] {
+        say_count(out, b" ", *word)?;
     }
     say(out, b"\n")
 }
@@ -115,8 +109,8 @@ fn show_clashes(out: &mut Stdout, xyz: &[i64], ends: &[u8]) -> io::Result<()>
         &mut sixes,
     );
     match tabled {
-        Tabled::Refused(r) => say_refused(out, r.number, r.place),
-        Tabled::Ready(c) => say_clashes(out, &clashes, c.candidates),
+        Err(r) => say_refused(out, r.number, r.place),
+        Ok(c) => say_clashes(out, &clashes, c.candidates),
     }
 }
 
@@ -124,10 +118,9 @@ fn show_rules(out: &mut Stdout, xyz: &[i64], ends: &[u8]) -> io::Result<()>
     requires { PassedLists xyz.now ends.now }
 {
     let near = neighbours(ends, xyz.len() / 3);
-    let answer = drawing_rules(xyz, ends, &near);
-    match answer {
-        Answer::Refused(r) => say_refused(out, r.number, r.place),
-        Answer::Fine => {
+    match drawing_rules(xyz, ends, &near) {
+        Err(r) => say_refused(out, r.number, r.place),
+        Ok(()) => {
             let number = number_edges(ends);
             show_covers(out, xyz, ends, &near, &number)?;
             show_clashes(out, xyz, ends)
@@ -136,10 +129,9 @@ fn show_rules(out: &mut Stdout, xyz: &[i64], ends: &[u8]) -> io::Result<()>
 }
 
 fn show_lists(out: &mut Stdout, xyz: &[i64], ends: &[u8]) -> io::Result<()> {
-    let answer = lent(xyz, ends);
-    match answer {
-        Answer::Refused(r) => say_refused(out, r.number, r.place),
-        Answer::Fine => show_rules(out, xyz, ends),
+    match lent(xyz, ends) {
+        Err(r) => say_refused(out, r.number, r.place),
+        Ok(()) => show_rules(out, xyz, ends),
     }
 }
 
@@ -154,28 +146,18 @@ fn show_drawing(out: &mut Stdout, d: Drawing) -> io::Result<()>
 }
 
 fn show(out: &mut Stdout, s: &[u8]) -> io::Result<()> {
-    let read = sheet_reader::read_sheet(s);
-    let answer = read.answer;
-    match answer {
-        Answer::Refused(r) => say_refused(out, r.number, r.place),
-        Answer::Fine => show_drawing(out, read.drawing),
+    match sheet_reader::read_sheet(s) {
+        Err(r) => say_refused(out, r.number, r.place),
+        Ok(drawing) => show_drawing(out, drawing),
     }
-}
-
-fn show_all(out: &mut Stdout, book: &[u8]) -> io::Result<()> {
-    let mut at: usize = 0;
-    while at < book.len() {
-        let Found::Value(end) = end_of(book, at) else {
-            return Ok(());
-        };
-        show(out, &book[at + 2..end])?;
-        at = end;
-    }
-    Ok(())
 }
 
 fn main(rt: HostRuntime) -> io::Result<()> {
     let mut book = [0u8; BOOK];
     let n = read_full(&mut rt.stdin(), &mut book)?;
-    show_all(&mut rt.stdout(), &book[..n])
+    let mut out = rt.stdout();
+    for sheet in Items::new(&book[..n]) {
+        show(&mut out, sheet)?;
+    }
+    Ok(())
 }

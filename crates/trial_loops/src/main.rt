@@ -7,21 +7,19 @@ ghost use Rattle.std.specs.Prelude.{◌<◌};
 ghost use Rattle.paper_laws.specs.InRange.{Held, PassedLists};
 ghost use Rattle.loop_known.specs.Known.{DrawnBy};
 ghost use Rattle.loop_cover.specs.Known.{Known};
-ghost use Rattle.trial_loops.specs.Sums.{prime, RowThere, RowsOf, LoopsRead};
+ghost use Rattle.trial_loops.specs.Sums.{prime};
 
 use candidates::candidates;
 use drawing_links::neighbours;
 use drawing_lists::lend::lent;
 use drawing_rules::drawing_rules;
-use lists::Found;
 use loop_known::known_loops;
 use loop_words::{PAIRS, number_edges};
 use paper::{
-    Answer, Drawing, FACE_ROOM, FILL, LOOP_ROOM, MANY_CANDIDATES, MANY_LOOPS, MOST_CANDIDATES,
-    MOST_LOOPS, MOST_VERTICES, ROW,
+    Drawing, FACE_ROOM, FILL, LOOP_ROOM, MOST_CANDIDATES, MOST_LOOPS, MOST_VERTICES, Number, ROW,
 };
 use std::io::{self, Stdout};
-use trial::{end_of, read_full, say, say_number, say_refused, wide};
+use trial::{Items, read_full, say, say_count, say_refused};
 
 // Room for the corpus.
 const BOOK: usize = 65536;
@@ -36,54 +34,39 @@ fn more(sum: u64, n: u64) -> u64
     (31 * sum + n % PRIME) % PRIME
 }
 
-// A checksum with the bytes of row k.
-fn more_row(table: &[u8], k: usize, sum: u64) -> u64
-    requires { RowThere table.now k sum }
+// A checksum with the bytes of a row.
+fn more_row(row: &[u8], sum: u64) -> u64
+    requires { sum < prime }
     ensures { result < prime }
 {
     let mut s = sum;
-    let mut i = 0;
-    while i < ROW {
-        s = more(s, wide(table[ROW * k + i]));
-        i += 1;
+    for byte in row {
+        s = more(s, u64::from(*byte));
     }
     s
 }
 
-// The checksum of n rows with two words each.
-fn candidates_sum(rows: &[u8], n: usize, corners: &[u64], sides: &[u64]) -> u64
-    requires { RowsOf rows.now n corners.now sides.now }
-{
+// The checksum of rows with two words each.
+fn candidates_sum(rows: &[u8], corners: &[u64], sides: &[u64]) -> u64 {
     let mut s = 0;
-    let mut k = 0;
-    while k < n {
-        s = more(more(more_row(rows, k, s), corners[k]), sides[k]);
-        k += 1;
+    for ((row, corner), side) in rows.chunks_exact(ROW).zip(corners).zip(sides) {
+        s = more(more(more_row(row, s), *corner), *side);
     }
     s
 }
 
-// The checksum of n rows with three words each.
-fn loops_sum(table: &[u8], n: usize, corners: &[u64], sides: &[u64], planes: &[u64]) -> u64
-    requires { LoopsRead table.now n corners.now sides.now planes.now }
-{
+// The checksum of rows with three words each.
+fn loops_sum(table: &[u8], corners: &[u64], sides: &[u64], planes: &[u64]) -> u64 {
     let mut s = 0;
-    let mut k = 0;
-    while k < n {
-        s = more(
-            more(more(more_row(table, k, s), corners[k]), sides[k]),
-            planes[k],
-        );
-        k += 1;
+    for (((row, corner), side), plane) in table
+        .chunks_exact(ROW)
+        .zip(corners)
+        .zip(sides)
+        .zip(planes)
+    {
+        s = more(more(more(more_row(row, s), *corner), *side), *plane);
     }
     s
-}
-
-fn say_count(out: &mut Stdout, what: &[u8], n: usize, sum: u64) -> io::Result<()> {
-    say(out, what)?;
-    say_number(out, n as u64)?;
-    say(out, b" ")?;
-    say_number(out, sum)
 }
 
 fn show_candidates(
@@ -114,10 +97,11 @@ fn show_candidates(
         &mut kept_sides,
     );
     if MOST_CANDIDATES < c {
-        return say_refused(out, MANY_CANDIDATES, 0);
+        return say_refused(out, Number::ManyCandidates, 0);
     }
-    let sum = candidates_sum(&rows, c, &kept_corners, &kept_sides);
-    say_count(out, b"candidates ", c, sum)?;
+    let sum = candidates_sum(&rows, &kept_corners[..c], &kept_sides[..c]);
+    say_count(out, b"candidates ", c as u64)?;
+    say_count(out, b" ", sum)?;
     say(out, b"\n")
 }
 
@@ -144,10 +128,11 @@ fn show_loops(
         &mut sides,
     );
     if MOST_LOOPS < n {
-        return say_refused(out, MANY_LOOPS, 0);
+        return say_refused(out, Number::ManyLoops, 0);
     }
-    let sum = loops_sum(&table, n, &corners, &sides, &planes);
-    say_count(out, b"loops ", n, sum)?;
+    let sum = loops_sum(&table, &corners[..n], &sides[..n], &planes[..n]);
+    say_count(out, b"loops ", n as u64)?;
+    say_count(out, b" ", sum)?;
     say(out, b" ")?;
     show_candidates(out, xyz, ends, &table, n, &corners, &sides, &planes)
 }
@@ -156,10 +141,9 @@ fn show_rules(out: &mut Stdout, xyz: &[i64], ends: &[u8]) -> io::Result<()>
     requires { PassedLists xyz.now ends.now }
 {
     let near = neighbours(ends, xyz.len() / 3);
-    let answer = drawing_rules(xyz, ends, &near);
-    match answer {
-        Answer::Refused(r) => say_refused(out, r.number, r.place),
-        Answer::Fine => {
+    match drawing_rules(xyz, ends, &near) {
+        Err(r) => say_refused(out, r.number, r.place),
+        Ok(()) => {
             let number = number_edges(ends);
             show_loops(out, xyz, ends, &near, &number)
         }
@@ -167,10 +151,9 @@ fn show_rules(out: &mut Stdout, xyz: &[i64], ends: &[u8]) -> io::Result<()>
 }
 
 fn show_lists(out: &mut Stdout, xyz: &[i64], ends: &[u8]) -> io::Result<()> {
-    let answer = lent(xyz, ends);
-    match answer {
-        Answer::Refused(r) => say_refused(out, r.number, r.place),
-        Answer::Fine => show_rules(out, xyz, ends),
+    match lent(xyz, ends) {
+        Err(r) => say_refused(out, r.number, r.place),
+        Ok(()) => show_rules(out, xyz, ends),
     }
 }
 
@@ -185,28 +168,18 @@ fn show_drawing(out: &mut Stdout, d: Drawing) -> io::Result<()>
 }
 
 fn show(out: &mut Stdout, s: &[u8]) -> io::Result<()> {
-    let read = sheet_reader::read_sheet(s);
-    let answer = read.answer;
-    match answer {
-        Answer::Refused(r) => say_refused(out, r.number, r.place),
-        Answer::Fine => show_drawing(out, read.drawing),
+    match sheet_reader::read_sheet(s) {
+        Err(r) => say_refused(out, r.number, r.place),
+        Ok(drawing) => show_drawing(out, drawing),
     }
-}
-
-fn show_all(out: &mut Stdout, book: &[u8]) -> io::Result<()> {
-    let mut at: usize = 0;
-    while at < book.len() {
-        let Found::Value(end) = end_of(book, at) else {
-            return Ok(());
-        };
-        show(out, &book[at + 2..end])?;
-        at = end;
-    }
-    Ok(())
 }
 
 fn main(rt: HostRuntime) -> io::Result<()> {
     let mut book = [0u8; BOOK];
     let n = read_full(&mut rt.stdin(), &mut book)?;
-    show_all(&mut rt.stdout(), &book[..n])
+    let mut out = rt.stdout();
+    for sheet in Items::new(&book[..n]) {
+        show(&mut out, sheet)?;
+    }
+    Ok(())
 }

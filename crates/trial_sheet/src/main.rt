@@ -2,10 +2,8 @@
 // high byte first. Of each it prints what the reader says and, of a drawing, what the writer makes of it again, byte by byte.
 #![tactic(auto)]
 
-use lists::Found;
-use paper::{Answer, Written};
 use std::io::{self, Stdout, Write};
-use trial::{end_of, read_full, say, say_number, say_refused};
+use trial::{Items, read_full, say, say_count, say_refused};
 
 // Room for the corpus.
 const BOOK: usize = 65536;
@@ -36,45 +34,28 @@ fn show_drawing(
     let n = 2 * e;
     let mut room = [0u8; paper::SHEET_ROOM];
     let written = sheet_writer::write_sheet(&xyz[..m], &ends[..n], &mut room);
-    say(out, b"drawing ")?;
-    say_number(out, v as u64)?;
-    say(out, b" ")?;
-    say_number(out, e as u64)?;
+    say_count(out, b"drawing ", v as u64)?;
+    say_count(out, b" ", e as u64)?;
     say(out, b"\n")?;
     match written {
-        Written::Refused(r) => say_refused(out, r.number, r.place),
-        Written::Bytes(k) => say_bytes(out, &room, k),
+        Err(r) => say_refused(out, r.number, r.place),
+        Ok(k) => say_bytes(out, &room, k),
     }
 }
 
 fn show(out: &mut Stdout, s: &[u8]) -> io::Result<()> {
-    let read = sheet_reader::read_sheet(s);
-    let answer = read.answer;
-    match answer {
-        Answer::Refused(r) => say_refused(out, r.number, r.place),
-        Answer::Fine => {
-            let d = read.drawing;
-            let xyz = d.xyz;
-            let ends = d.ends;
-            show_drawing(out, d.vertices, d.edges, xyz, ends)
-        }
+    match sheet_reader::read_sheet(s) {
+        Err(r) => say_refused(out, r.number, r.place),
+        Ok(d) => show_drawing(out, d.vertices, d.edges, d.xyz, d.ends),
     }
-}
-
-fn show_all(out: &mut Stdout, book: &[u8]) -> io::Result<()> {
-    let mut at: usize = 0;
-    while at < book.len() {
-        let Found::Value(end) = end_of(book, at) else {
-            return Ok(());
-        };
-        show(out, &book[at + 2..end])?;
-        at = end;
-    }
-    Ok(())
 }
 
 fn main(rt: HostRuntime) -> io::Result<()> {
     let mut book = [0u8; BOOK];
     let n = read_full(&mut rt.stdin(), &mut book)?;
-    show_all(&mut rt.stdout(), &book[..n])
+    let mut out = rt.stdout();
+    for sheet in Items::new(&book[..n]) {
+        show(&mut out, sheet)?;
+    }
+    Ok(())
 }

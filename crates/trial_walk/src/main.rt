@@ -3,30 +3,22 @@
 // there is none; or what refuses it.
 #![tactic(auto)]
 
-ghost use Rattle.std.specs.Prelude.{◌≤◌, ◌+◌, length};
+ghost use Rattle.std.specs.Prelude.{length};
+ghost use Rattle.std.specs.Iterator.{at_most};
 ghost use Rattle.paper_laws.specs.InRange.{Held, PassedLists};
 ghost use Rattle.walk.specs.Tally.{Roomy};
 ghost use Rattle.trial_walk.specs.Asked.{WalkingTables};
 
 use drawing_lists::lend::lent;
-use lists::Found;
-use paper::{
-    Answer, Drawing, FACE_ROOM, FILL, MANY, MOST_CANDIDATES, MOST_EDGES, SOLID_ROOM, TOO_LONG,
-    WORDS,
-};
+use paper::{Drawing, FACE_ROOM, FILL, MOST_CANDIDATES, MOST_EDGES, SOLID_ROOM, WORDS};
 use std::io::{self, Stdout};
-use trial::{end_of, read_full, say, say_number, say_refused, wide};
+use trial::{first_item, read_full, say, say_count, say_refused};
 use walk::search;
-use walk::tally::Tally;
+use walk::tally::{End, Tally};
 use walk_input::rows::Counts;
-use walk_input::{Tabled, tables};
+use walk_input::tables;
 
 const BOOK: usize = 131072;
-
-fn say_count(out: &mut Stdout, what: &[u8], n: u64) -> io::Result<()> {
-    say(out, what)?;
-    say_number(out, n)
-}
 
 fn say_solid(out: &mut Stdout, taken: u64, turned: u64, six: u64) -> io::Result<()> {
     say_count(out, b" solid ", taken)?;
@@ -38,15 +30,13 @@ fn say_solids(out: &mut Stdout, t: Tally, words: &[u64; SOLID_ROOM]) -> io::Resu
     requires { Roomy t words.now }
 {
     let n = t.found;
-    let mut k = 0;
-    while k < n {
+    for k in 0..n {
         say_solid(
             out,
             words[WORDS * k],
             words[WORDS * k + 1],
             words[WORDS * k + 2],
         )?;
-        k += 1;
     }
     Ok(())
 }
@@ -54,16 +44,12 @@ fn say_solids(out: &mut Stdout, t: Tally, words: &[u64; SOLID_ROOM]) -> io::Resu
 fn say_end(out: &mut Stdout, t: Tally, words: &[u64; SOLID_ROOM]) -> io::Result<()>
     requires { Roomy t words.now }
 {
-    if t.ended == MANY {
-        return say(out, b" many");
+    match t.ended {
+        Some(End::Many) => say(out, b" many"),
+        Some(End::TooLong) => say(out, b" too long"),
+        None if t.found == 0 => say(out, b" no solid"),
+        None => say_solids(out, t, words),
     }
-    if t.ended == TOO_LONG {
-        return say(out, b" too long");
-    }
-    if t.found == 0 {
-        return say(out, b" no solid");
-    }
-    say_solids(out, t, words)
 }
 
 fn show_walk(
@@ -109,8 +95,8 @@ fn show_tables(out: &mut Stdout, xyz: &[i64], ends: &[u8], limit: u64) -> io::Re
         &mut sixes,
     );
     match tabled {
-        Tabled::Refused(r) => say_refused(out, r.number, r.place),
-        Tabled::Ready(c) => {
+        Err(r) => say_refused(out, r.number, r.place),
+        Ok(c) => {
             let m = ends.len() / 2;
             show_walk(out, &on, &up, m, &sides, &clashes, &sixes, c, limit)
         }
@@ -118,10 +104,9 @@ fn show_tables(out: &mut Stdout, xyz: &[i64], ends: &[u8], limit: u64) -> io::Re
 }
 
 fn show_lists(out: &mut Stdout, xyz: &[i64], ends: &[u8], limit: u64) -> io::Result<()> {
-    let answer = lent(xyz, ends);
-    match answer {
-        Answer::Refused(r) => say_refused(out, r.number, r.place),
-        Answer::Fine => show_tables(out, xyz, ends, limit),
+    match lent(xyz, ends) {
+        Err(r) => say_refused(out, r.number, r.place),
+        Ok(()) => show_tables(out, xyz, ends, limit),
     }
 }
 
@@ -136,38 +121,37 @@ fn show_drawing(out: &mut Stdout, d: Drawing, limit: u64) -> io::Result<()>
 }
 
 fn show(out: &mut Stdout, s: &[u8], limit: u64) -> io::Result<()> {
-    let read = sheet_reader::read_sheet(s);
-    let answer = read.answer;
-    match answer {
-        Answer::Refused(r) => say_refused(out, r.number, r.place),
-        Answer::Fine => show_drawing(out, read.drawing, limit),
+    match sheet_reader::read_sheet(s) {
+        Err(r) => say_refused(out, r.number, r.place),
+        Ok(drawing) => show_drawing(out, drawing, limit),
     }
 }
 
-// The work limit that stands at byte `at`.
-fn limit_at(book: &[u8], at: usize) -> u64
-    requires { at + 3 ≤ length book.now }
-{
-    (wide(book[at]) * 256 + wide(book[at + 1])) * 256 + wide(book[at + 2])
-}
+// The sheets of a stored book, each with the work limit that stands before it in three bytes, high byte first; up to the first that is
+// not whole.
+#[derive(Drop)]
+struct Limited<'a>(&'a [u8]);
 
-fn show_all(out: &mut Stdout, book: &[u8]) -> io::Result<()> {
-    let mut at: usize = 0;
-    while at < book.len() {
-        if book.len() - at < 3 {
-            return Ok(());
-        }
-        let Found::Value(end) = end_of(book, at + 3) else {
-            return Ok(());
-        };
-        show(out, &book[at + 5..end], limit_at(book, at))?;
-        at = end;
+impl<'a> Iterator for Limited<'a> {
+    type Item = (u64, &'a [u8]);
+
+    ghost remaining = { λ s. at_most (length s.0.now) };
+
+    fn next(&mut self) -> Option<(u64, &'a [u8])> {
+        let ([high, middle, low], behind) = self.0.split_first_chunk::<3>()?;
+        let limit = 65536 * u64::from(*high) + 256 * u64::from(*middle) + u64::from(*low);
+        let (sheet, behind) = first_item(behind)?;
+        self.0 = behind;
+        Some((limit, sheet))
     }
-    Ok(())
 }
 
 fn main(rt: HostRuntime) -> io::Result<()> {
     let mut book = [0u8; BOOK];
     let n = read_full(&mut rt.stdin(), &mut book)?;
-    show_all(&mut rt.stdout(), &book[..n])
+    let mut out = rt.stdout();
+    for (limit, sheet) in Limited(&book[..n]) {
+        show(&mut out, sheet, limit)?;
+    }
+    Ok(())
 }

@@ -8,15 +8,15 @@ use Rattle.trial_geometry.proofs.show_rules.Goals as goal
 pub neighbours-near-requires : goal.neighbours-near-requires
 neighbours-near-requires c = few_ends (lent_range _ _ c.requires)
 
-pub drawing_rules-answer-requires : goal.drawing_rules-answer-requires
-drawing_rules-answer-requires c = record { range = lent_range _ _ c.requires; near_are = c.neighbours-near.ensures }
+pub drawing_rules-requires : goal.drawing_rules-requires
+drawing_rules-requires c = record { range = lent_range _ _ c.requires; near_are = c.neighbours-near.ensures }
 
 pub number_edges-number-requires : goal.number_edges-number-requires
-number_edges-number-requires c = rising_ends (has-passed _ _ c.requires c.in-Fine.ensures)
+number_edges-number-requires c = rising_ends (has-passed _ _ c.requires c.in-Ok.ensures)
 
 pub show_covers-requires : goal.show_covers-requires
 show_covers-requires c = record {
-  passed = has-passed _ _ c.requires c.in-Fine.ensures;
+  passed = has-passed _ _ c.requires c.in-Ok.ensures;
   near_are = c.neighbours-near.ensures;
   numbered = c.number_edges-number.ensures;
 }

@@ -1,0 +1,2 @@
+-- Laws behind the items of a book.
+pub mod Book
