@@ -7,7 +7,7 @@ use borrow.Author.Tests.{lt-ltb, le-ltb, ltb-false}
 use lib.Dec.{ltb}
 use lib.ListN.{length}
 use Rattle.paper.specs.Numbers.{most_work, face_room, solid_room, documented}
-use Rattle.paper.specs.declared.Number.TheVariants as No
+use Rattle.paper.specs.Refusals as No
 use Rattle.paper.specs.Refusals.{Check, first_of, refuse, Answer, Fine}
 use Rattle.paper.specs.Drawing.{Wire, drawing_checks}
 use Rattle.paper.specs.Loops.{loops, candidates, loop_checks}

@@ -21,13 +21,13 @@ fn entered(limit: u64, faces: usize, solids: usize) -> Result<(), Refusal>
     ensures { Entered limit faces solids result }
 {
     if faces < FACE_ROOM {
-        return refused(Number::NoRoom, 0);
+        return refused(Number::NO_ROOM, 0);
     }
     if solids < SOLID_ROOM {
-        return refused(Number::NoRoom, 1);
+        return refused(Number::NO_ROOM, 1);
     }
     if MOST_WORK < limit {
-        return refused(Number::BadLimit, 0);
+        return refused(Number::BAD_LIMIT, 0);
     }
     Ok(())
 }

@@ -10,7 +10,7 @@ use lib.Dec.{ltb}
 use lib.IntN.{ℤ}
 use lib.ListN.{length, take, drop, length-append}
 use Rattle.pack.specs.Bits.{Under}
-use Rattle.paper.specs.declared.Number.TheVariants as No
+use Rattle.paper.specs.Refusals as No
 use Rattle.paper.specs.Refusals.{Check, check, offends, first_of, Answer, Fine, Written}
 use Rattle.paper.specs.Format.{total, bytes_for, coordinates_in, ends_in, edition_of, lent_edition, encode}
 use Rattle.paper.specs.Sheet.{sheet_checks, sheet_of, written_of, room_of, read_sheet}

@@ -9,7 +9,7 @@ use lib.IntN.{ℤ}
 use lib.ListN.{length}
 use Rattle.pack.specs.Bits.{Under}
 use Rattle.paper.specs.Format.{vertices_in, edges_in, coordinates_in, ends_in, edition_of}
-use Rattle.paper.specs.declared.Number.TheVariants as No
+use Rattle.paper.specs.Refusals as No
 use Rattle.paper.specs.Refusals.{value_of, Check, first_of, Answer, Fine}
 use Rattle.paper.specs.Sheet.{sheet_checks, sheet_of}
 use Rattle.paper.specs.Reading.{Said}

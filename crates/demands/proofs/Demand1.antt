@@ -10,7 +10,7 @@ use lib.Ieee.{Float}
 use lib.ListN.{length}
 use Rattle.paper.specs.Format.{edition_for}
 use Rattle.paper.specs.Numbers.{documented}
-use Rattle.paper.specs.declared.Number.TheVariants as No
+use Rattle.paper.specs.Refusals as No
 use Rattle.paper.specs.Refusals.{Check, check, first_of, offends, Answer, Fine, Verdict}
 use Rattle.paper.specs.FaceList.{well_shaped}
 use Rattle.paper.specs.Drawing.{drawing_checks}

@@ -10,7 +10,7 @@ use lib.ListN.{length, get_or}
 use native.Mathlib.Omega.{arith}
 use Rattle.lists.specs.Lists.{lowest}
 use Rattle.paper.specs.Numbers.{documented}
-use Rattle.paper.specs.declared.Number.TheVariants as No
+use Rattle.paper.specs.Refusals as No
 use Rattle.paper.specs.Format.{outside, total, bytes_for, fill_after, vertices_in, edges_in, edition_of}
 use Rattle.paper.specs.Format.{coordinates_in, ends_in}
 use Rattle.pack.specs.Bits.{field_at}

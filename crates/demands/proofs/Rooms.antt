@@ -10,7 +10,7 @@ use lib.Dec.{ltb}
 use lib.ListN.{length, drop}
 use Rattle.paper.specs.Record.{entry}
 use Rattle.paper.specs.Numbers.{documented, most_candidates, row_bytes, solid_words}
-use Rattle.paper.specs.declared.Number.TheVariants as No
+use Rattle.paper.specs.Refusals as No
 use Rattle.paper.specs.Refusals.{first_of, Fine}
 use Rattle.paper.specs.Drawing.{Wire}
 use Rattle.paper.specs.Loops.{Loop, loops, candidates, loop_checks}

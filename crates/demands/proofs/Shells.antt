@@ -16,7 +16,7 @@ use Rattle.lists.proofs.Truth.{and_left, and_right, and_both}
 use Rattle.sets.specs.Word.{dig, count, both, first}
 use Rattle.sets.proofs.Digits.{never, dig-both, count_none, first_in}
 use Rattle.sets.proofs.Ones.{dig-below}
-use Rattle.paper.specs.declared.Number.TheVariants as No
+use Rattle.paper.specs.Refusals as No
 use Rattle.paper.specs.Refusals.{offends}
 use Rattle.paper.specs.Points.{above}
 use Rattle.paper.specs.Drawing.{Wire, edge_at}

@@ -17,7 +17,7 @@ use Rattle.paper.specs.Sheet.{sheet_checks, lent_checks, writer_checks, written_
 use Rattle.paper.specs.Sheet.{written_of, room_of}
 use Rattle.paper.specs.Loops.{Loop}
 use Rattle.paper.specs.declared.Format.{Format}
-use Rattle.paper.specs.declared.Number.TheVariants as No
+use Rattle.paper.specs.Refusals as No
 use Rattle.paper.specs.declared.Refusal.{Refusal}
 use Rattle.std.specs.Prelude.{Ok, Err}
 use Rattle.paper.specs.FaceList.{Faces}

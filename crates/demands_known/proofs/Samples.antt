@@ -33,7 +33,7 @@ use Rattle.demands.proofs.Demand1.{demand1}
 use Rattle.demands.proofs.Demand2.{demand2}
 use Rattle.demands.proofs.Demand3.{demand3}
 use Rattle.demands_known.proofs.Drawings.{of, on, result, cube-one, nested-three, cube_passes, octahedron_passes, nested_passes}
-use Rattle.paper.specs.declared.Number.TheVariants as No
+use Rattle.paper.specs.Refusals as No
 
 told : (x : Input) → Passes x → 0 < solid_count (result x).answer → Report x (solid_before solid_room) (result x)
 told x p h = (demand3 x p).reports most_work (face_before face_room) (solid_before solid_room) h

@@ -8,7 +8,7 @@ use native.Mathlib.Omega.{arith}
 use borrow.Author.Tests.{lt-ltb, le-ltb}
 use lib.ListN.{length, take, drop}
 use lib.Seq.{sets-eq, take_at}
-use Rattle.paper.specs.declared.Number.TheVariants as No
+use Rattle.paper.specs.Refusals as No
 use Rattle.paper.specs.Refusals.{first_of, Written}
 use Rattle.paper.specs.Reading.{written_says, first_said}
 use Rattle.std.specs.Prelude.{Ok, Err}

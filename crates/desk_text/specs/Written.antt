@@ -1,6 +1,6 @@
 -- A text written to the start of a lent room: the answer, by its number and value too, and the room at exit.
 use Rattle.std.specs.Prelude.{List, [], ◌∷◌, ◌++◌, ℕ, ltb, length, drop, Ok, Err}
-use Rattle.paper.specs.declared.Number.TheVariants as No
+use Rattle.paper.specs.Refusals as No
 use Rattle.paper.specs.Refusals.{Check, check, first_of, offends, Answer, Written}
 use Rattle.paper.specs.Reading.{Said, first_said}
 

@@ -72,7 +72,7 @@ pub fn desk_text(sheet: &[u8], room: &mut [u8]) -> Result<usize, Refusal>
     let mut text = [0u8; TEXT_ROOM];
     let n = put_desk(sheet, &mut text);
     if room.len() < n {
-        return refused(Number::NoRoom, 0);
+        return refused(Number::NO_ROOM, 0);
     }
     copy(&text, n, room);
     Ok(n)

@@ -4,7 +4,7 @@
 
 ghost use Rattle.std.specs.Prelude.{◌≡◌, [], ◌∷◌, ◌≤◌};
 ghost use Rattle.paper.specs.Numbers.{most_vertices};
-ghost use Rattle.paper.specs.declared.Number.TheVariants as No;
+ghost use Rattle.paper.specs.Refusals as No;
 ghost use Rattle.paper.specs.Refusals.{check, first_of};
 ghost use Rattle.paper.specs.Drawing.{Wire, edges_of, loose_vertex, vertices_reached, apart};
 ghost use Rattle.drawing_links.specs.Neighbours.{neighbour_words, FewEnds, Links};
@@ -37,7 +37,7 @@ pub fn loose_vertex(near: &[u64; MOST_VERTICES], v: usize) -> Result<(), Refusal
 {
     for u in 0..v {
         if near[u] == 0 {
-            return refused(Number::LooseVertex, u);
+            return refused(Number::LOOSE_VERTEX, u);
         }
     }
     Ok(())
@@ -80,7 +80,7 @@ pub fn apart(near: &[u64; MOST_VERTICES], v: usize) -> Result<(), Refusal>
     let set = vertices_reached(near, v);
     for w in 0..v {
         if !is_set(set, w) {
-            return refused(Number::Apart, w);
+            return refused(Number::APART, w);
         }
     }
     Ok(())

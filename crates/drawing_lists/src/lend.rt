@@ -28,7 +28,7 @@ pub fn lent(xyz: &[i64], ends: &[u8]) -> Result<(), Refusal>
         paper::MOST_VERTICES as u64,
         xyz.len(),
     ) {
-        return refused(Number::BadCount, 0);
+        return refused(Number::BAD_COUNT, 0);
     }
     if is_bad_count(
         2,
@@ -36,7 +36,7 @@ pub fn lent(xyz: &[i64], ends: &[u8]) -> Result<(), Refusal>
         paper::MOST_EDGES as u64,
         ends.len(),
     ) {
-        return refused(Number::BadCount, 1);
+        return refused(Number::BAD_COUNT, 1);
     }
     content(xyz.len() / 3, xyz, ends)
 }

@@ -103,9 +103,9 @@ fn edges(v: usize, ends: &[u8]) -> Result<(), Refusal>
     ensures { result ≡ first_of (edge_checks v ends.now) }
 {
     match first_wrong(v, ends) {
-        Some(e) => refused(Number::BadEdge, e),
+        Some(e) => refused(Number::BAD_EDGE, e),
         None => match first_low(ends) {
-            Some(e) => refused(Number::EdgeOrder, e),
+            Some(e) => refused(Number::EDGE_ORDER, e),
             None => Ok(()),
         },
     }
@@ -116,7 +116,7 @@ pub fn content(v: usize, xyz: &[i64], ends: &[u8]) -> Result<(), Refusal>
     ensures { result ≡ first_of (content_checks v xyz.now ends.now) }
 {
     match first_far(xyz) {
-        Some(i) => refused(Number::BadCoordinate, i),
+        Some(i) => refused(Number::BAD_COORDINATE, i),
         None => edges(v, ends),
     }
 }

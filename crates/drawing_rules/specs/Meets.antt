@@ -2,7 +2,7 @@
 use Rattle.std.specs.Prelude.{◌≡◌, Bool, ◌||◌, List, [], ◌∷◌, ℕ, suc, ◌+◌, ◌*◌, ◌-◌, eqb, ℤ, length, get_or}
 use Rattle.lists.specs.Lists.{any, from, lowest}
 use Rattle.sets.specs.Word.{dig}
-use Rattle.paper.specs.declared.Number.TheVariants as No
+use Rattle.paper.specs.Refusals as No
 use Rattle.paper.specs.Refusals.{check, first_of, Answer}
 use Rattle.paper.specs.Points.{same_point}
 use Rattle.paper.specs.Drawing.{Wire, points_of, same_place}

@@ -2,7 +2,7 @@
 // once, boxes first; as every vertex is an end of an edge, no vertex is. Assumes a drawing in range that has passed 11 and 12.
 ghost use Rattle.std.specs.Prelude.{◌≡◌, Bool, List, [], ◌∷◌, ◌<◌};
 ghost use Rattle.paper.specs.Numbers.{most_edges};
-ghost use Rattle.paper.specs.declared.Number.TheVariants as No;
+ghost use Rattle.paper.specs.Refusals as No;
 ghost use Rattle.paper.specs.Refusals.{check, first_of};
 ghost use Rattle.paper.specs.Drawing.{Wire, wire, edge_meets};
 ghost use Rattle.sets.specs.Sets.{wides};
@@ -110,7 +110,7 @@ fn lowest(hit: Wide) -> Result<(), Refusal>
     if hit.count() == 0 {
         return Ok(());
     }
-    refused(Number::EdgeMeets, hit.lowest())
+    refused(Number::EDGE_MEETS, hit.lowest())
 }
 
 pub fn edge_meets(xyz: &[i64], v: usize, ends: &[u8]) -> Result<(), Refusal>

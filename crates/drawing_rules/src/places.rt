@@ -29,7 +29,7 @@ pub fn same_place(xyz: &[i64], v: usize) -> Result<(), Refusal>
 {
     for u in 0..v {
         if shares(xyz, v, u) {
-            return refused(Number::SamePlace, u);
+            return refused(Number::SAME_PLACE, u);
         }
     }
     Ok(())

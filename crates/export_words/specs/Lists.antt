@@ -1,6 +1,6 @@
 -- A sheet read into two lent lists: "Reading a sheet applies refusals 3 to 10", and then 1 where a list is too short.
 use Rattle.std.specs.Prelude.{List, [], ◌∷◌, ◌++◌, ◌≡◌, ℕ, ◌*◌, ltb, ℤ, length, take, drop, Ok, Err}
-use Rattle.paper.specs.declared.Number.TheVariants as No
+use Rattle.paper.specs.Refusals as No
 use Rattle.paper.specs.Refusals.{Check, check, offends, first_of, Answer}
 use Rattle.paper.specs.Format.{vertices_in, edges_in, coordinates_in, ends_in, edition_of}
 use Rattle.paper.specs.Sheet.{sheet_checks}

@@ -16,14 +16,14 @@ pub fn handed(d: Drawing, xyz: &mut [i64], ends: &mut [u8], said: &mut [u64]) ->
     let n = 2 * d.edges;
     if xyz.len() < m {
         let short = refusal_said(Refusal {
-            number: Number::NoRoom,
+            number: Number::NO_ROOM,
             place: 0,
         });
         return tell(short, said);
     }
     if ends.len() < n {
         let short = refusal_said(Refusal {
-            number: Number::NoRoom,
+            number: Number::NO_ROOM,
             place: 1,
         });
         return tell(short, said);

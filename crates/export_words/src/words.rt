@@ -89,17 +89,17 @@ pub fn conversion_said(c: Conversion) -> Said
             loops,
             candidates,
             work,
-        } => ended_said(Number::NoSolid, loops, candidates, work),
+        } => ended_said(Number::NO_SOLID, loops, candidates, work),
         Conversion::Many {
             loops,
             candidates,
             work,
-        } => ended_said(Number::Many, loops, candidates, work),
+        } => ended_said(Number::MANY, loops, candidates, work),
         Conversion::TooLong {
             loops,
             candidates,
             work,
-        } => ended_said(Number::TooLong, loops, candidates, work),
+        } => ended_said(Number::TOO_LONG, loops, candidates, work),
         Conversion::Refused(r) => refusal_said(r),
     }
 }

@@ -5,7 +5,7 @@ use mathlib.Core.List.{List, [], ◌∷◌}
 use Prim.Native.Nat.{ℕ}
 use lib.ListN.{length}
 use Rattle.paper_laws.proofs.Answers.{written-said}
-use Rattle.paper.specs.declared.Number.TheVariants as No
+use Rattle.paper.specs.Refusals as No
 use Rattle.paper.specs.Refusals.{check, offends, Fine}
 use Rattle.paper.specs.Format.{bytes_for}
 use Rattle.paper.specs.Loops.{Loop}

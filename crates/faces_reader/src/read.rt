@@ -107,13 +107,13 @@ pub fn read(f: Format, s: &[u8], v: usize) -> Result<FaceRows, Refusal>
     ensures { faces_as result ≡ faces_of f v s.now }
 {
     let Some(n) = count_in(f, s) else {
-        return refused(Number::ShellShape, 0);
+        return refused(Number::SHELL_SHAPE, 0);
     };
     let mut rows = [0u8; paper::ROWS];
     let mut at = paper::EDITION_BITS + f.face_count_bits;
     for k in 0..n {
         let Some(c) = face_at(f, s, at, v) else {
-            return refused(Number::ShellShape, 0);
+            return refused(Number::SHELL_SHAPE, 0);
         };
         put_row(
             s,
@@ -128,5 +128,5 @@ pub fn read(f: Format, s: &[u8], v: usize) -> Result<FaceRows, Refusal>
     if closes(s, at) {
         return Ok(FaceRows { count: n, rows });
     }
-    refused(Number::ShellShape, 0)
+    refused(Number::SHELL_SHAPE, 0)
 }

@@ -12,7 +12,7 @@ use Rattle.pack.proofs.Overwrite.{overwrite-next}
 use Rattle.paper_laws.proofs.Checks.{holds, fails, clear}
 use Rattle.lists.specs.Lists.{all}
 use Rattle.paper.specs.declared.Number.{Number}
-use Rattle.paper.specs.declared.Number.TheVariants as No
+use Rattle.paper.specs.Refusals as No
 use Rattle.paper.specs.Numbers.{least_faces}
 use Rattle.paper.specs.Refusals.{first_of, Answer, Written}
 use Rattle.paper.specs.Format.{edition_bits, outside, bytes_for, filled}

@@ -170,16 +170,16 @@ pub fn write(f: Format, rows: &[u8], solid: &[u64], room: &mut [u8]) -> Result<u
     ensures kept { room.new ≡ sent_room f (solid_faces rows.now solid.now) room.old }
 {
     let Some(extent) = weigh_all(f, rows, solid) else {
-        return refused(Number::ShellShape, 0);
+        return refused(Number::SHELL_SHAPE, 0);
     };
     let n = extent.faces;
     let b = extent.bits;
     if sheet_counts::is_outside(paper::LEAST_FACES as u64, f.most_faces, n as u64) {
-        return refused(Number::ShellShape, 0);
+        return refused(Number::SHELL_SHAPE, 0);
     }
     let size = (paper::EDITION_BITS + f.face_count_bits + b + 7) / 8;
     if room.len() < size {
-        return refused(Number::NoRoom, 0);
+        return refused(Number::NO_ROOM, 0);
     }
     put_list(f, rows, solid, room, n, b);
     Ok(size)

@@ -6,7 +6,7 @@ use Prim.Native.Nat.{ℕ, ◌/◌}
 use lib.IntN.{ℤ}
 use lib.ListN.{length}
 use Rattle.lists.specs.Lists.{lowest}
-use Rattle.paper.specs.declared.Number.TheVariants as No
+use Rattle.paper.specs.Refusals as No
 use Rattle.paper.specs.Refusals.{check, first_of, Fine}
 use Rattle.paper.specs.Sheet.{far_at, wrong_at, low_at, edge_checks, content_checks, lent_checks}
 use Rattle.paper.specs.Drawing.{wire, same_place, loose_vertex, edge_meets, apart, drawing_checks}

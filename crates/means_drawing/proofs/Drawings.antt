@@ -16,7 +16,7 @@ use mathlib.Core.List.{List, [], ◌∷◌}
 use Prim.Native.Nat.{ℕ}
 use lib.IntN.{ℤ}
 use lib.ListN.{length}
-use Rattle.paper.specs.declared.Number.TheVariants as No
+use Rattle.paper.specs.Refusals as No
 use Rattle.paper.specs.Refusals.{check, first_of, Fine}
 use Rattle.paper.specs.Format.{coordinates_in, ends_in}
 use Rattle.paper.specs.Sheet.{lent_checks, sheet_checks}

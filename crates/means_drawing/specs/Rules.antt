@@ -1,7 +1,7 @@
 -- What the table's 11 to 14 answer, in plain mathematics.
 use Rattle.std.specs.Prelude.{◌≡◌, true, false, ◌↔◌, ◌⊎◌, ℕ, length, get_or, Ok, Err}
 use Rattle.std.proofs.Math.Option.{some}
-use Rattle.paper.specs.declared.Number.TheVariants as No
+use Rattle.paper.specs.Refusals as No
 use Rattle.paper.specs.Drawing.{Wire, at, vertices_reached}
 use Rattle.paper.specs.Refusals.{Answer}
 use Rattle.means_drawing.specs.Drawings.{Finds, Vertex, HasEdge, EndOf, Doubled, Loose, Meets, Reachable}

@@ -10,7 +10,7 @@ use lib.ListN.{length, get_or}
 use Rattle.lists.specs.Lists.{any, filter, keep, upto, lowest}
 use Rattle.lists.proofs.Places.{map_at, any-below-same}
 use Rattle.lists.proofs.Agreeing.{lowest-same, filter_same, map_same}
-use Rattle.paper.specs.declared.Number.TheVariants as No
+use Rattle.paper.specs.Refusals as No
 use Rattle.paper.specs.Refusals.{check}
 use Rattle.paper.specs.Points.{same_point}
 use Rattle.paper.specs.Polygon.{covers}

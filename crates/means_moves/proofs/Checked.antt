@@ -10,7 +10,7 @@ use borrow.Author.Tests.{not-false}
 use lib.IntN.{ℤ, pos, negsuc, neg_ℤ, ◌*ℤ◌}
 use lib.ListN.{length, get_or}
 use Rattle.lists.proofs.Lowest.{lowest-none}
-use Rattle.paper.specs.declared.Number.TheVariants as No
+use Rattle.paper.specs.Refusals as No
 use Rattle.paper.specs.Numbers.{documented}
 use Rattle.paper.specs.Refusals.{Check, check, first_of, offends, Answer, Fine}
 use Rattle.paper.specs.Points.{above}

@@ -10,7 +10,7 @@ use Rattle.lists.specs.Lists.{filter, keep}
 use Rattle.sets.specs.Word.{less}
 use Rattle.paper.specs.Record.{set_of, entry}
 use Rattle.paper.specs.Numbers.{solid_words, Limits, set_words}
-use Rattle.paper.specs.declared.Number.TheVariants as No
+use Rattle.paper.specs.Refusals as No
 use Rattle.paper.specs.Refusals.{value_of, Check, first_of, Answer, Fine}
 use Rattle.paper.specs.Drawing.{Wire, drawing_checks}
 use Rattle.paper.specs.Loops.{Loop, loops, uncovering, loop_checks}

@@ -14,7 +14,7 @@ use Rattle.lists.proofs.Truth.{same_truth}
 use Rattle.lists.proofs.Agreeing.{lowest-same}
 use Rattle.exact.specs.Size.{Within}
 use Rattle.paper.specs.Numbers.{least_vertices, least_edges, farthest, Limits, most_vertices, most_edges}
-use Rattle.paper.specs.declared.Number.TheVariants as No
+use Rattle.paper.specs.Refusals as No
 use Rattle.paper.specs.Refusals.{Check, check, first_of, offends, Fine}
 use Rattle.paper.specs.Points.{pt}
 use Rattle.paper.specs.FaceList.{faces_in, well_shaped}

@@ -7,7 +7,7 @@ use Prim.Native.Nat.{ℕ}
 use native.Mathlib.Omega.{arith}
 use lib.Dec.{eqb, ltb}
 use lib.ListN.{length}
-use Rattle.paper.specs.declared.Number.TheVariants as No
+use Rattle.paper.specs.Refusals as No
 use Rattle.paper.specs.Numbers.{Limits}
 use Rattle.paper.specs.Refusals.{value_of, Check, check, first_of, offends, Answer, Fine}
 use Rattle.paper.specs.Drawing.{Wire, same_place, loose_vertex, edge_meets, apart, drawing_checks}

@@ -13,7 +13,7 @@ use lib.ListN.{length, get_or}
 use Rattle.lists.specs.Lists.{lowest}
 use Rattle.lists.proofs.Lowest.{lowest-none}
 use Rattle.lists.proofs.Truth.{and_left, and_right, or_cases}
-use Rattle.paper.specs.declared.Number.TheVariants as No
+use Rattle.paper.specs.Refusals as No
 use Rattle.paper.specs.Refusals.{check, first_of, Fine}
 use Rattle.paper.specs.Format.{coordinates_in, ends_in}
 use Rattle.paper.specs.Sheet.{far_at, wrong_at, edge_above, low_at, edge_checks, content_checks, lent_checks, sheet_checks}

@@ -20,7 +20,7 @@ use Rattle.lists.proofs.Truth.{same_truth, and_left, and_right, and_both, never_
 use Rattle.sets.specs.Word.{dig, first, less}
 use Rattle.sets.proofs.Digits.{never, dig-less}
 use Rattle.paper.specs.declared.Number.{Number}
-use Rattle.paper.specs.declared.Number.TheVariants as No
+use Rattle.paper.specs.Refusals as No
 use Rattle.paper.specs.Refusals.{Check, check, first_of, offends}
 use Rattle.paper.specs.Points.{above}
 use Rattle.paper.specs.Drawing.{Wire}

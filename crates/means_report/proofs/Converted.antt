@@ -9,7 +9,7 @@ use lib.ListN.{length, replicate, length-map}
 use lib.IntN.{ℤ}
 use Rattle.lists.specs.Lists.{filter}
 use Rattle.paper.specs.Numbers.{most_solids, documented}
-use Rattle.paper.specs.declared.Number.TheVariants as No
+use Rattle.paper.specs.Refusals as No
 use Rattle.paper.specs.Refusals.{value_of, Check, first_of, Answer, Fine}
 use Rattle.paper.specs.Format.{coordinates_in, ends_in, edition_of}
 use Rattle.paper.specs.Sheet.{sheet_checks, lent_checks}

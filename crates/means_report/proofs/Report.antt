@@ -8,7 +8,7 @@ use native.Mathlib.Omega.{arith}
 use lib.ListN.{length, drop, length-map}
 use Rattle.lists.specs.Lists.{filter}
 use Rattle.paper.specs.Numbers.{most_solids, solid_words, documented}
-use Rattle.paper.specs.declared.Number.TheVariants as No
+use Rattle.paper.specs.Refusals as No
 use Rattle.paper.specs.Refusals.{value_of, Check, first_of, Fine}
 use Rattle.paper.specs.Drawing.{Wire, same_place, drawing_checks}
 use Rattle.paper.specs.Loops.{Loop, loops, candidates, loop_checks}

@@ -9,7 +9,7 @@ use lib.ListN.{length, length-map}
 use Rattle.lists.specs.Lists.{filter}
 use Rattle.paper.specs.Numbers.{most_solids}
 use Rattle.paper.specs.Refusals.{value_of}
-use Rattle.paper.specs.declared.Number.TheVariants as No
+use Rattle.paper.specs.Refusals as No
 use Rattle.paper.specs.Drawing.{Wire}
 use Rattle.paper.specs.Loops.{Loop}
 use Rattle.paper.specs.Solids.{tables_of}

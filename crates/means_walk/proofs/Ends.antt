@@ -9,7 +9,7 @@ use lib.ListN.{length, replicate}
 use Rattle.lists.specs.Lists.{filter}
 use Rattle.sets.specs.Word.{bit}
 use Rattle.paper.specs.Refusals.{value_of}
-use Rattle.paper.specs.declared.Number.TheVariants as No
+use Rattle.paper.specs.Refusals as No
 use Rattle.paper.specs.Walk.{Status, Undecided, open_count, stable, Log, nothing, walk, search}
 use Rattle.means_walk.specs.Complete.{agrees, exact, times_in}
 use Rattle.means_walk.specs.Tree.{Tree, assumptions, leaves, steps, made, up_to, Exhausted, OneMore, SweepPassed}

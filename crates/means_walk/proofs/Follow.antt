@@ -10,7 +10,7 @@ use native.Mathlib.Nat.{zero-add}
 use lib.ListN.{length, length-append}
 use Rattle.lists.specs.Lists.{filter, keep}
 use Rattle.paper.specs.Refusals.{value_of}
-use Rattle.paper.specs.declared.Number.TheVariants as No
+use Rattle.paper.specs.Refusals as No
 use Rattle.paper.specs.Walk.{Status, Log}
 use Rattle.means_walk.specs.Tree.{WalkStep, assumes, comes, made, sought, up_to}
 use Rattle.means_walk.specs.Tree.{Exhausted, OneMore, SweepPassed}

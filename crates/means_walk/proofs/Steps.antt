@@ -9,7 +9,7 @@ use lib.Dec.{eqb}
 use borrow.Author.Tests.{eq-eqb, ne_eqb, lt-ltb, le-ltb}
 use Rattle.lists.specs.Lists.{filter, keep}
 use Rattle.paper.specs.Refusals.{value_of}
-use Rattle.paper.specs.declared.Number.TheVariants as No
+use Rattle.paper.specs.Refusals as No
 use Rattle.paper.specs.Walk.{Status, Taken, Rejected, open_count, choose, Log, assume, leaf, walk}
 use Rattle.means_walk.specs.Tree.{Tree, broken, branch, assumptions, leaves, WalkStep, assumes, comes, steps, made, sought}
 use Rattle.means_walk.proofs.Grown.{sweeps_stable, sweeps_fewer, chosen_fewer}

@@ -2,7 +2,7 @@
 use Rattle.std.specs.Prelude.{Bool, true, false, cond, ℕ, ◌*◌, ltb, eqb, ℤ, length, drop, Ok, Err}
 use mathlib.Core.List.{List, [], ◌∷◌, ◌++◌, map, flat_map}
 use Rattle.paper.specs.Numbers.{Limits, documented, most_work, row_bytes, solid_words, face_room, solid_room}
-use Rattle.paper.specs.declared.Number.TheVariants as No
+use Rattle.paper.specs.Refusals as No
 use Rattle.paper.specs.Refusals.{value_of, Check, check, first_of, offends, Answer}
 use Rattle.paper.specs.Format.{edition_of, coordinates_in, ends_in}
 use Rattle.paper.specs.Sheet.{sheet_checks, lent_checks}

@@ -4,7 +4,7 @@ use Rattle.std.specs.Prelude.{ℕ, zero, suc, Bool, false, not, ◌&&◌, ◌||�
 use Rattle.std.proofs.Math.Option.{Option}
 use Rattle.std.specs.Int.Signed.{lt_z, le_z}
 use Rattle.lists.specs.Lists.{any, upto, lowest}
-use Rattle.paper.specs.declared.Number.TheVariants as No
+use Rattle.paper.specs.Refusals as No
 use Rattle.paper.specs.Refusals.{Check, check}
 use Rattle.paper.specs.Points.{pt, origin, minus, dot, cross, same_point, is_origin, is_zero, below}
 use Rattle.paper.specs.declared.Point.{Point}

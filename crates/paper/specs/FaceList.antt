@@ -5,7 +5,7 @@ use Rattle.pack.specs.Bits.{bits, val, run, cut, field_at}
 use Rattle.pack.specs.Fill.{padded}
 use Rattle.lists.specs.Lists.{all, filter, upto}
 use Rattle.paper.specs.Numbers.{least_faces, most_faces, least_corners, most_corners, most_candidates, row_bytes}
-use Rattle.paper.specs.declared.Number.TheVariants as No
+use Rattle.paper.specs.Refusals as No
 use Rattle.paper.specs.Refusals.{Check, check, refuse, first_of, offends, Answer, Fine, Written}
 use Rattle.paper.specs.Format.{edition_one, edition_bits, corner_bits, outside, bytes_for, filled, fill_after}
 use Rattle.paper.specs.Record.{taken_in, turned_in}

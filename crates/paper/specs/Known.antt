@@ -8,7 +8,7 @@ use mathlib.Core.List.{List, [], ◌∷◌, ◌++◌, flat_map}
 use Rattle.std.specs.Float.{binary64}
 use Rattle.std.specs.Float.Ieee.{of_bits}
 use Rattle.paper.specs.Numbers.{documented, most_work}
-use Rattle.paper.specs.declared.Number.TheVariants as No
+use Rattle.paper.specs.Refusals as No
 use Rattle.paper.specs.Refusals.{refuse, ListAccepted, Fine}
 use Rattle.paper.specs.Loops.{row}
 use Rattle.paper.specs.Reading.{volume}

@@ -3,7 +3,7 @@ use Rattle.std.specs.Prelude.{not, List, [], ◌∷◌, ℕ, ◌/◌, ℤ, pos, 
 use Rattle.std.proofs.Math.Option.{Option, none, some}
 use Rattle.std.specs.Float.{binary64}
 use Rattle.std.specs.Float.Ieee.{div, of_int}
-use Rattle.paper.specs.declared.Number.TheVariants as No
+use Rattle.paper.specs.Refusals as No
 use Rattle.paper.specs.Refusals.{value_of, Check, check, offends, Answer, Reading, Verdict, Written}
 use Rattle.paper.specs.Format.{total, bytes_for}
 use Rattle.paper.specs.Sheet.{sheet_checks, writer_checks}

@@ -4,40 +4,96 @@ use Rattle.std.specs.Prelude.{ℕ, Bool, cond, List, [], ◌∷◌, Result, Ok, 
 use Rattle.std.proofs.Math.Option.{Option, none, some}
 use Rattle.paper.specs.declared.Number.{Number}
 use Rattle.paper.specs.declared.Refusal.{Refusal}
-use Rattle.paper.specs.declared.Number.TheVariants.{NoRoom, BadLimit, SheetShort, SheetEdition, BadCount, SheetLength, SheetPad, BadCoordinate, BadEdge, EdgeOrder}
-use Rattle.paper.specs.declared.Number.TheVariants.{SamePlace, LooseVertex, EdgeMeets, Apart, ManyLoops, ManyCandidates, NoSolid, Many, TooLong, ShellShape}
-use Rattle.paper.specs.declared.Number.TheVariants.{NotCandidate, FaceTwice, EdgeCount, Direction, Pieces, Inward, Clash, Ambiguous}
 
--- the table; "or 30 where two to eight solids exist"
+-- a number as it is said
 abbrev pub value_of : Number → ℕ
-value_of NoRoom = 1
-value_of BadLimit = 2
-value_of SheetShort = 3
-value_of SheetEdition = 4
-value_of BadCount = 5
-value_of SheetLength = 6
-value_of SheetPad = 7
-value_of BadCoordinate = 8
-value_of BadEdge = 9
-value_of EdgeOrder = 10
-value_of SamePlace = 11
-value_of LooseVertex = 12
-value_of EdgeMeets = 13
-value_of Apart = 14
-value_of ManyLoops = 15
-value_of ManyCandidates = 16
-value_of NoSolid = 17
-value_of Many = 18
-value_of TooLong = 19
-value_of ShellShape = 20
-value_of NotCandidate = 21
-value_of FaceTwice = 22
-value_of EdgeCount = 23
-value_of Direction = 24
-value_of Pieces = 25
-value_of Inward = 26
-value_of Clash = 27
-value_of Ambiguous = 30
+value_of n = n.value
+
+-- the table
+abbrev pub NoRoom : Number
+NoRoom = record { value = 1 }
+
+abbrev pub BadLimit : Number
+BadLimit = record { value = 2 }
+
+abbrev pub SheetShort : Number
+SheetShort = record { value = 3 }
+
+abbrev pub SheetEdition : Number
+SheetEdition = record { value = 4 }
+
+abbrev pub BadCount : Number
+BadCount = record { value = 5 }
+
+abbrev pub SheetLength : Number
+SheetLength = record { value = 6 }
+
+abbrev pub SheetPad : Number
+SheetPad = record { value = 7 }
+
+abbrev pub BadCoordinate : Number
+BadCoordinate = record { value = 8 }
+
+abbrev pub BadEdge : Number
+BadEdge = record { value = 9 }
+
+abbrev pub EdgeOrder : Number
+EdgeOrder = record { value = 10 }
+
+abbrev pub SamePlace : Number
+SamePlace = record { value = 11 }
+
+abbrev pub LooseVertex : Number
+LooseVertex = record { value = 12 }
+
+abbrev pub EdgeMeets : Number
+EdgeMeets = record { value = 13 }
+
+abbrev pub Apart : Number
+Apart = record { value = 14 }
+
+abbrev pub ManyLoops : Number
+ManyLoops = record { value = 15 }
+
+abbrev pub ManyCandidates : Number
+ManyCandidates = record { value = 16 }
+
+abbrev pub NoSolid : Number
+NoSolid = record { value = 17 }
+
+abbrev pub Many : Number
+Many = record { value = 18 }
+
+abbrev pub TooLong : Number
+TooLong = record { value = 19 }
+
+abbrev pub ShellShape : Number
+ShellShape = record { value = 20 }
+
+abbrev pub NotCandidate : Number
+NotCandidate = record { value = 21 }
+
+abbrev pub FaceTwice : Number
+FaceTwice = record { value = 22 }
+
+abbrev pub EdgeCount : Number
+EdgeCount = record { value = 23 }
+
+abbrev pub Direction : Number
+Direction = record { value = 24 }
+
+abbrev pub Pieces : Number
+Pieces = record { value = 25 }
+
+abbrev pub Inward : Number
+Inward = record { value = 26 }
+
+abbrev pub Clash : Number
+Clash = record { value = 27 }
+
+-- "or 30 where two to eight solids exist"
+abbrev pub Ambiguous : Number
+Ambiguous = record { value = 30 }
 
 -- nothing is refused, or a refusal: of what is read, and of the face-list check
 abbrev pub Answer : Type 0

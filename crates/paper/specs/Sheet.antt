@@ -5,7 +5,7 @@ use Rattle.pack.specs.Bits.{field_at}
 use Rattle.pack.specs.Fill.{padded}
 use Rattle.lists.specs.Lists.{lowest}
 use Rattle.paper.specs.Numbers.{least_vertices, most_vertices, least_edges, most_edges, farthest}
-use Rattle.paper.specs.declared.Number.TheVariants as No
+use Rattle.paper.specs.Refusals as No
 use Rattle.paper.specs.Refusals.{Check, check, first_of, offends, Answer, Fine, Written}
 use Rattle.paper.specs.Format.{edition_of, edition_bits, outside, total, bytes_for, fill_after, vertices_in}
 use Rattle.paper.specs.Format.{edges_in, coordinates_in, ends_in, encode}

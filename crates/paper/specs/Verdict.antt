@@ -4,7 +4,7 @@ use Rattle.std.proofs.Math.Option.{Option}
 use Rattle.sets.specs.Word.{count, both, first}
 use Rattle.lists.specs.Lists.{filter, upto, lowest, member, same_list}
 use Rattle.paper.specs.Numbers.{documented}
-use Rattle.paper.specs.declared.Number.TheVariants as No
+use Rattle.paper.specs.Refusals as No
 use Rattle.paper.specs.Refusals.{Check, check, first_of, offends, ListAccepted, Answer, Verdict}
 use Rattle.paper.specs.Format.{edition_of, edition_for, coordinates_in, ends_in}
 use Rattle.paper.specs.Sheet.{sheet_checks, lent_checks}

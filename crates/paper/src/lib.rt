@@ -87,44 +87,76 @@ pub const FILL: u8 = 255;
 // The loop table's room: 13 bytes for each loop.
 pub const LOOP_ROOM: usize = ROW * MOST_LOOPS;
 
-// "What comes back": the table's numbers by their names; and 30 of the reading, where two to eight solids exist.
+// "What comes back": a number of the table. It holds any byte, as whatever takes a refusal takes one with any number.
 #[derive(Clone, Copy, PartialEq, Eq)]
-pub enum Number {
-    NoRoom = 1,
-    BadLimit = 2,
-    SheetShort = 3,
-    SheetEdition = 4,
-    BadCount = 5,
-    SheetLength = 6,
-    SheetPad = 7,
-    BadCoordinate = 8,
-    BadEdge = 9,
-    EdgeOrder = 10,
-    SamePlace = 11,
-    LooseVertex = 12,
-    EdgeMeets = 13,
-    Apart = 14,
-    ManyLoops = 15,
-    ManyCandidates = 16,
-    NoSolid = 17,
-    Many = 18,
-    TooLong = 19,
-    ShellShape = 20,
-    NotCandidate = 21,
-    FaceTwice = 22,
-    EdgeCount = 23,
-    Direction = 24,
-    Pieces = 25,
-    Inward = 26,
-    Clash = 27,
-    Ambiguous = 30,
+pub struct Number {
+    pub value: u8,
+}
+
+// The table's numbers by their names; and 30 of the reading, where two to eight solids exist.
+impl Number {
+    pub const NO_ROOM: Number = Number { value: 1 };
+
+    pub const BAD_LIMIT: Number = Number { value: 2 };
+
+    pub const SHEET_SHORT: Number = Number { value: 3 };
+
+    pub const SHEET_EDITION: Number = Number { value: 4 };
+
+    pub const BAD_COUNT: Number = Number { value: 5 };
+
+    pub const SHEET_LENGTH: Number = Number { value: 6 };
+
+    pub const SHEET_PAD: Number = Number { value: 7 };
+
+    pub const BAD_COORDINATE: Number = Number { value: 8 };
+
+    pub const BAD_EDGE: Number = Number { value: 9 };
+
+    pub const EDGE_ORDER: Number = Number { value: 10 };
+
+    pub const SAME_PLACE: Number = Number { value: 11 };
+
+    pub const LOOSE_VERTEX: Number = Number { value: 12 };
+
+    pub const EDGE_MEETS: Number = Number { value: 13 };
+
+    pub const APART: Number = Number { value: 14 };
+
+    pub const MANY_LOOPS: Number = Number { value: 15 };
+
+    pub const MANY_CANDIDATES: Number = Number { value: 16 };
+
+    pub const NO_SOLID: Number = Number { value: 17 };
+
+    pub const MANY: Number = Number { value: 18 };
+
+    pub const TOO_LONG: Number = Number { value: 19 };
+
+    pub const SHELL_SHAPE: Number = Number { value: 20 };
+
+    pub const NOT_CANDIDATE: Number = Number { value: 21 };
+
+    pub const FACE_TWICE: Number = Number { value: 22 };
+
+    pub const EDGE_COUNT: Number = Number { value: 23 };
+
+    pub const DIRECTION: Number = Number { value: 24 };
+
+    pub const PIECES: Number = Number { value: 25 };
+
+    pub const INWARD: Number = Number { value: 26 };
+
+    pub const CLASH: Number = Number { value: 27 };
+
+    pub const AMBIGUOUS: Number = Number { value: 30 };
 }
 
 impl From<Number> for u64 {
     ghost from_gives = { λ number value. value ≡ value_of number };
 
     fn from(number: Number) -> u64 {
-        number as u64
+        u64::from(number.value)
     }
 }
 

@@ -34,10 +34,10 @@ pub fn reading(c: Conversion) -> Result<f64, Number>
 {
     match c {
         Conversion::One { six, .. } => Ok(cubic_metres(six)),
-        Conversion::Several { .. } => Err(Number::Ambiguous),
-        Conversion::NoSolid { .. } => Err(Number::NoSolid),
-        Conversion::Many { .. } => Err(Number::Many),
-        Conversion::TooLong { .. } => Err(Number::TooLong),
+        Conversion::Several { .. } => Err(Number::AMBIGUOUS),
+        Conversion::NoSolid { .. } => Err(Number::NO_SOLID),
+        Conversion::Many { .. } => Err(Number::MANY),
+        Conversion::TooLong { .. } => Err(Number::TOO_LONG),
         Conversion::Refused(r) => Err(r.number),
     }
 }

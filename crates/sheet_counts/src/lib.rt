@@ -23,10 +23,10 @@ pub fn counts(f: Format, v: u64, e: u64) -> Result<(), Refusal>
     ensures { result ≡ first_of (count_checks f v e) }
 {
     if is_outside(paper::LEAST_VERTICES as u64, f.most_vertices, v) {
-        return refused(Number::BadCount, 0);
+        return refused(Number::BAD_COUNT, 0);
     }
     if is_outside(paper::LEAST_EDGES as u64, f.most_edges, e) {
-        return refused(Number::BadCount, 1);
+        return refused(Number::BAD_COUNT, 1);
     }
     Ok(())
 }

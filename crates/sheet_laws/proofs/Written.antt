@@ -6,7 +6,7 @@ use borrow.Author.Tests.{lt-ltb, le-ltb}
 use lib.IntN.{ℤ}
 use lib.ListN.{length, drop}
 use Rattle.paper_laws.proofs.Checks.{holds, fails, clear, first_stops, first_passes}
-use Rattle.paper.specs.declared.Number.TheVariants as No
+use Rattle.paper.specs.Refusals as No
 use Rattle.paper.specs.Refusals.{first_of, Answer, Fine, Written}
 use Rattle.paper.specs.Format.{total, bytes_for, encode}
 use Rattle.paper.specs.Sheet.{lent_checks, writer_checks, written_for, room_for, written_of, room_of}

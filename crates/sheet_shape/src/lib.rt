@@ -28,10 +28,10 @@ fn opening(f: Format, s: &[u8]) -> Result<(), Refusal>
     ensures { result ≡ first_of (open_checks f s.now) }
 {
     if s.len() < 3 {
-        return refused(Number::SheetShort, 0);
+        return refused(Number::SHEET_SHORT, 0);
     }
     if pack::field(s, 0, paper::EDITION_BITS) != f.edition {
-        return refused(Number::SheetEdition, 0);
+        return refused(Number::SHEET_EDITION, 0);
     }
     Ok(())
 }
@@ -43,10 +43,10 @@ fn closing(f: Format, s: &[u8], v: usize, e: usize) -> Result<(), Refusal>
 {
     let bits = total_bits(f, v, e);
     if s.len() != (bits + 7) / 8 {
-        return refused(Number::SheetLength, 0);
+        return refused(Number::SHEET_LENGTH, 0);
     }
     if pack::field(s, bits, s.len() * 8 - bits) != 0 {
-        return refused(Number::SheetPad, 0);
+        return refused(Number::SHEET_PAD, 0);
     }
     Ok(())
 }

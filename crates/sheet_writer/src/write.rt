@@ -89,7 +89,7 @@ pub fn write(f: Format, xyz: &[i64], ends: &[u8], room: &mut [u8]) -> Result<usi
     let e = ends.len() / 2;
     let size = (total_bits(f, v, e) + 7) / 8;
     if room.len() < size {
-        return refused(Number::NoRoom, 0);
+        return refused(Number::NO_ROOM, 0);
     }
     put_sheet(f, xyz, ends, room, v, e);
     Ok(size)

@@ -73,7 +73,7 @@ fn show_covers(
         &mut sides,
     );
     if MOST_LOOPS < n {
-        return say_refused(out, Number::ManyLoops, 0);
+        return say_refused(out, Number::MANY_LOOPS, 0);
     }
     say_covers(out, xyz, ends, &table, n, &corners, &sides, &planes)
 }

@@ -97,7 +97,7 @@ fn show_candidates(
         &mut kept_sides,
     );
     if MOST_CANDIDATES < c {
-        return say_refused(out, Number::ManyCandidates, 0);
+        return say_refused(out, Number::MANY_CANDIDATES, 0);
     }
     let sum = candidates_sum(&rows, &kept_corners[..c], &kept_sides[..c]);
     say_count(out, b"candidates ", c as u64)?;
@@ -128,7 +128,7 @@ fn show_loops(
         &mut sides,
     );
     if MOST_LOOPS < n {
-        return say_refused(out, Number::ManyLoops, 0);
+        return say_refused(out, Number::MANY_LOOPS, 0);
     }
     let sum = loops_sum(&table, &corners[..n], &sides[..n], &planes[..n]);
     say_count(out, b"loops ", n as u64)?;

@@ -11,7 +11,7 @@ use lib.Seq.{get_or-take}
 use borrow.Author.Tests.{leb-false}
 use Rattle.lists.proofs.Lowest.{lowest-none}
 use Rattle.sets.specs.Sets.{wides, Wide}
-use Rattle.paper.specs.declared.Number.TheVariants as No
+use Rattle.paper.specs.Refusals as No
 use Rattle.paper.specs.Loops.{Loop}
 use Rattle.paper.specs.Verdict.{mask_of, listed, not_candidate, face_twice}
 use Rattle.paper_laws.proofs.Checks.{clear, stops, passes}

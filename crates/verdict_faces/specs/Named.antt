@@ -2,7 +2,7 @@
 use Rattle.std.specs.Prelude.{List, [], ◌∷◌, ◌≡◌, ℕ, ◌≤◌, ◌<◌, length, take, Ok, Err, Result}
 use Rattle.sets.specs.Sets.{wides}
 use Rattle.paper.specs.Numbers.{most_faces, most_corners, most_candidates, face_room}
-use Rattle.paper.specs.declared.Number.TheVariants as No
+use Rattle.paper.specs.Refusals as No
 use Rattle.paper.specs.Refusals.{Check, check, first_of, Fine}
 use Rattle.paper.specs.Loops.{Loop, loop_at}
 use Rattle.paper.specs.Verdict.{listed, not_candidate, face_twice}

@@ -71,9 +71,9 @@ pub fn named(
     ensures { NamedIs faces.now count rows.now n numbers.old numbers.new result }
 {
     match number_faces(faces, count, rows, n, numbers) {
-        Err(i) => refused(Number::NotCandidate, i),
+        Err(i) => refused(Number::NOT_CANDIDATE, i),
         Ok(turned) => match take_each(numbers, count) {
-            Err(i) => refused(Number::FaceTwice, i),
+            Err(i) => refused(Number::FACE_TWICE, i),
             Ok(taken) => Ok(Selection { taken, turned }),
         },
     }

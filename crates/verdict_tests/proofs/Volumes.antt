@@ -9,7 +9,7 @@ use Rattle.exact.proofs.Signs.{lt_is, lt_yes}
 use Rattle.sets.specs.Sets.{Wide}
 use Rattle.sets.specs.Word.{count}
 use Rattle.paper.specs.Points.{above}
-use Rattle.paper.specs.declared.Number.TheVariants.{Inward}
+use Rattle.paper.specs.Refusals.{Inward}
 use Rattle.paper.specs.Refusals.{refuse, Fine}
 use Rattle.paper.specs.Solids.{Tables, six_from}
 use Rattle.paper.specs.Verdict as Paper

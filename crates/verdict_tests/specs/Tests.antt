@@ -5,7 +5,7 @@ use Rattle.sets.specs.Word.{dig}
 use Rattle.sets.specs.Sets.{wides, Wide}
 use Rattle.paper.specs.Numbers.{most_edges, most_faces, most_candidates}
 use Rattle.paper.specs.declared.Number.{Number}
-use Rattle.paper.specs.declared.Number.TheVariants as No
+use Rattle.paper.specs.Refusals as No
 use Rattle.paper.specs.Refusals.{Check, check, first_of, Answer}
 use Rattle.paper.specs.Solids.{Tables}
 use Rattle.paper.specs.Verdict as Paper

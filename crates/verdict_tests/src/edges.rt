@@ -1,7 +1,7 @@
 // Refusals 23 and 24, edge by edge: EdgeCount, not in two faces of the list; Direction, both run one way. Assumes at most 64 edges.
 ghost use Rattle.std.specs.Prelude.{◌≤◌};
 ghost use Rattle.paper.specs.Numbers.{most_edges};
-ghost use Rattle.paper.specs.declared.Number.TheVariants as No;
+ghost use Rattle.paper.specs.Refusals as No;
 ghost use Rattle.verdict_tests.specs.Tests.{ToldAt, Counting, Running, edge_count_of, direction_of};
 
 use paper::{MOST_EDGES, Number, Refusal};
@@ -16,7 +16,7 @@ pub fn edge_count(on: &[u64; MOST_EDGES], m: usize, taken: Wide) -> Result<(), R
     for e in 0..m {
         let mine = Wide::at(on, e).and(taken);
         if mine.count() != 2 {
-            return refused(Number::EdgeCount, e);
+            return refused(Number::EDGE_COUNT, e);
         }
     }
     Ok(())
@@ -35,7 +35,7 @@ pub fn direction(
     for e in 0..m {
         let mask = Wide::at(on, e);
         if !once_each_way(mask, Wide::at(up, e), taken, turned) {
-            return refused(Number::Direction, e);
+            return refused(Number::DIRECTION, e);
         }
     }
     Ok(())

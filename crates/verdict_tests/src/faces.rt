@@ -3,7 +3,7 @@
 ghost use Rattle.std.specs.Prelude.{◌<◌, get_or};
 ghost use Rattle.walk_leaf.specs.Faces.{FromFace};
 ghost use Rattle.paper.specs.Numbers.{most_candidates};
-ghost use Rattle.paper.specs.declared.Number.TheVariants as No;
+ghost use Rattle.paper.specs.Refusals as No;
 ghost use Rattle.verdict_tests.specs.Tests.{SomeFaces, ToldAt, Joining, Clashing, pieces_of, clash_of};
 
 use lists::wide;
@@ -42,7 +42,7 @@ pub fn pieces(
     let reached = g.reached;
     for i in 0..count {
         if !reached.has(wide(numbers[i])) {
-            return refused(Number::Pieces, i);
+            return refused(Number::PIECES, i);
         }
     }
     Ok(())
@@ -60,7 +60,7 @@ pub fn clash(
     for f in 0..count {
         let clashing = Wide::at(clashes, wide(numbers[f])).and(taken);
         if !clashing.is_empty() {
-            return refused(Number::Clash, f);
+            return refused(Number::CLASH, f);
         }
     }
     Ok(())

@@ -5,7 +5,7 @@
 mod edges;
 mod faces;
 
-ghost use Rattle.paper.specs.declared.Number.TheVariants as No;
+ghost use Rattle.paper.specs.Refusals as No;
 ghost use Rattle.walk_tables.specs.Words.{SmallSixes, walk_tables};
 ghost use Rattle.verdict_tests.specs.Tests.{ToldAt, Weighing, inward_of, Testing, Tested};
 
@@ -24,7 +24,7 @@ fn inward(sixes: &[i64; MOST_CANDIDATES], taken: Wide, turned: Wide) -> Result<(
     if 0 < weight(sixes, taken, turned) {
         return Ok(());
     }
-    refused(Number::Inward, 0)
+    refused(Number::INWARD, 0)
 }
 
 // 23 to 27 of a list whose faces are candidates, each once: `numbers` are those of its faces, in the list's order.

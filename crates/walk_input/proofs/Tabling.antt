@@ -13,7 +13,7 @@ use Rattle.exact.specs.Size.{Within}
 use Rattle.lists.specs.Lists.{upto}
 use Rattle.lists.proofs.Places.{upto_length}
 use Rattle.paper.specs.Numbers.{most_loops, most_candidates, documented}
-use Rattle.paper.specs.declared.Number.TheVariants as No
+use Rattle.paper.specs.Refusals as No
 use Rattle.paper.specs.Refusals.{check, first_of, offends, refuse, Fine}
 use Rattle.paper.specs.Drawing.{Wire, wire, drawing_checks}
 use Rattle.paper.specs.Loops.{Loop, loops, candidates, polygon, loop_checks}

@@ -37,11 +37,11 @@ pub fn tables(
     let mut corners = [0u64; MOST_CANDIDATES];
     let c = candidate_rows(xyz, ends, &near, &number, rows, &mut corners, sides);
     if MOST_LOOPS < c.loops {
-        return refused(Number::ManyLoops, 0);
+        return refused(Number::MANY_LOOPS, 0);
     }
     let n = c.candidates;
     if MOST_CANDIDATES < n {
-        return refused(Number::ManyCandidates, 0);
+        return refused(Number::MANY_CANDIDATES, 0);
     }
     put_words(
         xyz, rows, n, &near, &number, &corners, sides, on, up, clashes, sixes,

@@ -10,7 +10,7 @@ use Rattle.lists.proofs.Search.{lowest-end, lowest_hit, lowest_miss, lowest_star
 use Rattle.lists.specs.Lists.{lowest}
 use Rattle.paper_laws.proofs.Checks.{clear, stops, passes}
 use Rattle.paper.specs.Drawing.{Wire, apart}
-use Rattle.paper.specs.declared.Number.TheVariants.{Apart}
+use Rattle.paper.specs.Refusals.{Apart}
 use Rattle.drawing_links.specs.Neighbours.{Links}
 use Rattle.drawing_links.proofs.apart.Invariants.{Missing}
 use Rattle.drawing_links.proofs.apart.Goals as goal

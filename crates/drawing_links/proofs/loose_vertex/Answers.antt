@@ -7,7 +7,7 @@ use Rattle.lists.proofs.Search.{lowest-end, lowest_hit, lowest_miss, lowest_star
 use Rattle.lists.specs.Lists.{lowest}
 use Rattle.paper_laws.proofs.Checks.{clear, stops, passes}
 use Rattle.paper.specs.Drawing.{loose_vertex}
-use Rattle.paper.specs.declared.Number.TheVariants.{LooseVertex}
+use Rattle.paper.specs.Refusals.{LooseVertex}
 use Rattle.drawing_links.proofs.Words.{loose_is}
 use Rattle.drawing_links.proofs.loose_vertex.Invariants.{Loose}
 use Rattle.drawing_links.proofs.loose_vertex.Goals as goal

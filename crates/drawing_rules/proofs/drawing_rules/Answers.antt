@@ -9,7 +9,7 @@ use Rattle.std.proofs.lemmas.Result.{err_from_is_err_and}
 use Rattle.paper.specs.Numbers.{most_vertices}
 use Rattle.paper.specs.Drawing.{Wire, apart, drawing_checks, edge_meets, loose_vertex, same_place, wire}
 use Rattle.paper.specs.Refusals.{Check, check, first_of, Fine}
-use Rattle.paper.specs.declared.Number.TheVariants.{Apart, EdgeMeets, LooseVertex, SamePlace}
+use Rattle.paper.specs.Refusals.{Apart, EdgeMeets, LooseVertex, SamePlace}
 use Rattle.paper_laws.specs.InRange.{Ends, Points}
 use Rattle.paper_laws.proofs.Checks.{first_passes, first_stops, found_none}
 use Rattle.drawing_links.specs.Neighbours.{Links}

@@ -5,7 +5,7 @@ use mathlib.Core.Path.{◌∙◌, ap, sym}
 use Prim.Native.Nat.{ℕ}
 use Rattle.paper.specs.Drawing.{wire}
 use Rattle.paper.specs.Refusals.{check, first_of}
-use Rattle.paper.specs.declared.Number.TheVariants.{EdgeMeets}
+use Rattle.paper.specs.Refusals.{EdgeMeets}
 use Rattle.fast_meets.specs.Theorems.{Tied}
 use Rattle.fast_meets.proofs.Pairs.{pairs_tell}
 use Rattle.drawing_rules.proofs.Meeting.{rising}

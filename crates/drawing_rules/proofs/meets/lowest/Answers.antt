@@ -5,7 +5,7 @@ use mathlib.Core.Path.{◌∙◌, ap, sym}
 use native.Mathlib.Omega.{arith}
 use lib.ListN.{length}
 use Rattle.sets.proofs.Sets.{wides_laws}
-use Rattle.paper.specs.declared.Number.TheVariants.{EdgeMeets}
+use Rattle.paper.specs.Refusals.{EdgeMeets}
 use Rattle.paper_laws.proofs.Checks.{clear, passes, stops}
 use Rattle.fast_meets.specs.Pairs.{offenders}
 use Rattle.fast_meets.proofs.First.{lowest-first, lowest-none}

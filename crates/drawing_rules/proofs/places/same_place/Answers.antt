@@ -7,7 +7,7 @@ use Rattle.lists.proofs.Search.{lowest-end, lowest_hit, lowest_miss, lowest_star
 use Rattle.lists.specs.Lists.{lowest}
 use Rattle.paper_laws.proofs.Checks.{clear, stops, passes}
 use Rattle.paper.specs.Drawing.{Wire, points_of}
-use Rattle.paper.specs.declared.Number.TheVariants.{SamePlace}
+use Rattle.paper.specs.Refusals.{SamePlace}
 use Rattle.fast_meets.specs.Theorems.{later_at}
 use Rattle.fast_meets.proofs.Later.{later_tell}
 use Rattle.drawing_rules.proofs.Sharing.{drawn_count, shared_is}

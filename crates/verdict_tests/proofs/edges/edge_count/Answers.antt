@@ -5,7 +5,7 @@ use mathlib.Core.Bool.{Bool, true, false, not}
 use mathlib.Core.Path.{◌≡◌, ◌∙◌}
 use lib.Dec.{eqb}
 use borrow.Author.Tests.{eq-eqb, ne_eqb}
-use Rattle.paper.specs.declared.Number.TheVariants as No
+use Rattle.paper.specs.Refusals as No
 use Rattle.verdict_tests.specs.Tests.{Counting}
 use Rattle.verdict_tests.proofs.AtEdge.{not_two, finds_23, two_at}
 use Rattle.verdict_tests.proofs.Searching.{Offends, asking_start, asking_next, asking_hit, asking_end}
