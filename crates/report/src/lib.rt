@@ -6,9 +6,9 @@ mod room;
 
 ghost use Rattle.report.specs.Concluded.{Concluding, ReportedAs, Concluded};
 
-use paper::{Conversion, FACE_ROOM, SET_WORDS, SOLID_ROOM};
+use paper::{Conversion, FACE_ROOM, Number, SET_WORDS, SOLID_ROOM};
 use room::write_report;
-use walk::tally::{End, Tally};
+use walk::tally::Tally;
 
 // The word of a solid's record that is its six volumes.
 const SIX: usize = 2 * SET_WORDS;
@@ -68,17 +68,20 @@ pub fn concluded(
     ensures { Concluded loops n rows.now t out.now faces.old faces.new
         solids.old solids.new result }
 {
-    match t.ended {
-        Some(End::Many) => Conversion::Many {
+    let ended = t.ended;
+    if ended == Number::MANY.value {
+        return Conversion::Many {
             loops,
             candidates: n,
             work: t.work,
-        },
-        Some(End::TooLong) => Conversion::TooLong {
-            loops,
-            candidates: n,
-            work: t.work,
-        },
-        None => reported(loops, n, rows, t, out, faces, solids),
+        };
     }
+    if ended == Number::TOO_LONG.value {
+        return Conversion::TooLong {
+            loops,
+            candidates: n,
+            work: t.work,
+        };
+    }
+    reported(loops, n, rows, t, out, faces, solids)
 }

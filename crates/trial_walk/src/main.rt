@@ -10,11 +10,11 @@ ghost use Rattle.walk.specs.Tally.{Roomy};
 ghost use Rattle.trial_walk.specs.Asked.{WalkingTables};
 
 use drawing_lists::lend::lent;
-use paper::{Drawing, FACE_ROOM, FILL, MOST_CANDIDATES, MOST_EDGES, SOLID_ROOM, WORDS};
+use paper::{Drawing, FACE_ROOM, FILL, MOST_CANDIDATES, MOST_EDGES, Number, SOLID_ROOM, WORDS};
 use std::io::{self, Stdout};
 use trial::{first_item, read_full, say, say_count, say_refused};
 use walk::search;
-use walk::tally::{End, Tally};
+use walk::tally::Tally;
 use walk_input::rows::Counts;
 use walk_input::tables;
 
@@ -44,12 +44,16 @@ fn say_solids(out: &mut Stdout, t: Tally, words: &[u64; SOLID_ROOM]) -> io::Resu
 fn say_end(out: &mut Stdout, t: Tally, words: &[u64; SOLID_ROOM]) -> io::Result<()>
     requires { Roomy t words.now }
 {
-    match t.ended {
-        Some(End::Many) => say(out, b" many"),
-        Some(End::TooLong) => say(out, b" too long"),
-        None if t.found == 0 => say(out, b" no solid"),
-        None => say_solids(out, t, words),
+    if t.ended == Number::MANY.value {
+        return say(out, b" many");
     }
+    if t.ended == Number::TOO_LONG.value {
+        return say(out, b" too long");
+    }
+    if t.found == 0 {
+        return say(out, b" no solid");
+    }
+    say_solids(out, t, words)
 }
 
 fn show_walk(

@@ -11,6 +11,8 @@ use Rattle.sets.specs.Sets.{Is}
 use Rattle.sets.specs.declared.Set.{Set}
 use Rattle.sets.proofs.Sets.{word_is}
 use Rattle.paper.specs.Numbers.{most_solids, solid_room, solid_words}
+use Rattle.paper.specs.Refusals.{value_of}
+use Rattle.paper.specs.Refusals as No
 use Rattle.paper.specs.Solids.{Tables, Judgement, Fails, Solid, judged}
 use Rattle.paper.specs.Walk.{Status, leaf, is_taken}
 use Rattle.paper.specs.Conversion.{takens, is_solid, turned_of, six_of, accepted, words, solids_after}
@@ -25,7 +27,6 @@ use Rattle.walk_leaf.specs.declared.Judged.{Judged}
 use Rattle.walk.specs.Tally.{Roomy}
 use Rattle.walk.specs.Leaf.{KeepsSolid}
 use Rattle.walk.specs.declared.tally.Tally.{Tally}
-use Rattle.walk.specs.declared.tally.End.TheVariants.{Many}
 use Rattle.walk.proofs.Tallies.{three_long, stored_more}
 
 -- ---- what the code's verdict says of the document's
@@ -93,7 +94,7 @@ module _ {tables : WalkTables} {m : ℕ} {taken : Set} where
 
     module _ (d : Judged) (j : Judges tables m taken (Some d)) where
       pub kept_full : most_solids ≤ x.found
-          → KeepsSolid tables m taken x out (record { work = x.work; found = x.found; ended = Some Many }) out
+          → KeepsSolid tables m taken x out (record { work = x.work; found = x.found; ended = value_of No.Many }) out
       unfolding leaf
       kept_full f = record {
         roomy = record { few = roomy.few; whole = roomy.whole };

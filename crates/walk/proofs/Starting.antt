@@ -1,5 +1,4 @@
 -- The start of the walk: all undecided, all edges to be passed, nothing found.
-use Rattle.std.specs.Prelude.{None}
 use mathlib.Core.Bool.{true}
 use mathlib.Core.List.{List, [], ◌∷◌, map}
 use mathlib.Core.Path.{◌≡◌, refl, sym, ap, subst}
@@ -36,7 +35,7 @@ pub searched : {tables : WalkTables} {m n limit : ℕ} {none all edges : Wide} {
     {r : Tally} {out : List ℕ} → n ≤ most_candidates → wides.Is none [] → wides.Is all (replicate n true)
     → wides.Is edges (replicate m true)
     → Walked tables m (record { state = record { taken = none; undecided = all }; changed = edges; edge = 0 }) limit
-    (record { work = 0; found = 0; ended = None }) out₀ r out
+    (record { work = 0; found = 0; ended = 0 }) out₀ r out
     → Searched tables m n limit out₀ r out
 unfolding search solids_after
 searched {n = n} {edges = edges} {out₀ = out₀} few i j k w = record {

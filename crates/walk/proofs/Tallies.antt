@@ -1,6 +1,4 @@
 -- One more assumption, and three more words stored.
-use Rattle.std.specs.Prelude.{None, Option, Some}
-use Rattle.std.specs.Option.{is_some}
 use mathlib.Core.Bool.{Bool, true, false, cond}
 use mathlib.Core.List.{List, [], ◌∷◌, ◌++◌}
 use mathlib.Core.Path.{◌≡◌, refl, sym, ap, ◌∙◌, subst}
@@ -14,57 +12,37 @@ use borrow.Author.Tests.{eq-eqb, ne_eqb, lt-ltb, le-ltb}
 use Rattle.lists.proofs.After.{after_more}
 use Rattle.paper.specs.Numbers.{solid_words}
 use Rattle.paper.specs.Refusals.{value_of}
-use Rattle.paper.specs.declared.Number.TheVariants as No
+use Rattle.paper.specs.Refusals as No
 use Rattle.paper.specs.Solids.{Tables}
 use Rattle.paper.specs.Walk.{Status, Log, assume}
 use Rattle.paper.specs.Conversion.{words, solids_after}
 use Rattle.paper_laws.proofs.Record.{words_length}
-use Rattle.walk.specs.Tally.{CountsLog, Assumed, Follows, end_of}
+use Rattle.walk.specs.Tally.{Assumed, Follows}
 use Rattle.walk.specs.declared.tally.Tally.{Tally}
-use Rattle.walk.specs.declared.tally.End.{End}
-use Rattle.walk.specs.declared.tally.End.TheVariants.{Many, TooLong}
-
--- ---- whether it has ended, as the code asks it
-
-some-end : (e : Option End) → true ≡ is_some e → end_of e ≡ 0 → ⊥
-some-end None t z = cc
-some-end (Some Many) t z = omega arith
-some-end (Some TooLong) t z = omega arith
-
-no-end : (e : Option End) → false ≡ is_some e → end_of e ≡ 0
-no-end None t = refl
-no-end (Some e) t = cc
-
-module _ {x : Tally} {log : Log} (c : CountsLog x log) where
-  pub has_ended : true ≡ is_some x.ended → log.ended ≡ 0 → ⊥
-  has_ended t z = some-end x.ended t (c.ended_is ∙ z)
-
-  pub goes_on : false ≡ is_some x.ended → log.ended ≡ 0
-  goes_on f = sym c.ended_is ∙ no-end x.ended f
 
 -- ---- an assumption
 
 module _ {x : Tally} (limit : ℕ) where
-  pub assumed_ended : true ≡ is_some x.ended → Assumed limit x x
+  pub assumed_ended : (x.ended ≡ 0 → ⊥) → Assumed limit x x
   unfolding assume
-  assumed_ended t = record { no_more = refl; same = λ log c. rw (ne_eqb log.ended 0 (has_ended c t)) c }
+  assumed_ended n = record { no_more = refl; same = λ log c. rw (ne_eqb log.ended 0 (λ e. n (c.ended_is ∙ e))) c }
 
-  module _ (f : false ≡ is_some x.ended) where
-    pub assumed_more : x.work < limit → Assumed limit x (record { work = x.work + 1; found = x.found; ended = None })
+  module _ (z : x.ended ≡ 0) where
+    pub assumed_more : x.work < limit → Assumed limit x (record { work = x.work + 1; found = x.found; ended = 0 })
     unfolding assume
     assumed_more h = record {
       no_more = refl;
       same = λ log c.
-          rw (eq-eqb log.ended 0 (goes_on c f), lt-ltb log.work limit (subst (λ (n : ℕ). n < limit) c.work_is h))
+          rw (eq-eqb log.ended 0 (sym c.ended_is ∙ z), lt-ltb log.work limit (subst (λ (n : ℕ). n < limit) c.work_is h))
           (record { work_is = ap (λ (n : ℕ). n + 1) c.work_is; found_is = c.found_is; ended_is = refl });
     }
 
-    pub assumed_none : limit ≤ x.work → Assumed limit x (record { work = x.work; found = x.found; ended = Some TooLong })
+    pub assumed_none : limit ≤ x.work → Assumed limit x (record { work = x.work; found = x.found; ended = value_of No.TooLong })
     unfolding assume
     assumed_none h = record {
       no_more = refl;
       same = λ log c.
-          rw (eq-eqb log.ended 0 (goes_on c f), le-ltb log.work limit (subst (λ (n : ℕ). limit ≤ n) c.work_is h))
+          rw (eq-eqb log.ended 0 (sym c.ended_is ∙ z), le-ltb log.work limit (subst (λ (n : ℕ). limit ≤ n) c.work_is h))
           (record { work_is = c.work_is; found_is = c.found_is; ended_is = refl });
     }
 

@@ -1,7 +1,6 @@
 -- The ways out of the walk: it had ended, a contradiction, a leaf, both branches; and the start of it.
 use Rattle.std.specs.Prelude.{Some, None, Option}
-use Rattle.std.specs.Option.{is_some}
-use mathlib.Core.Bool.{Bool, true, false}
+use mathlib.Core.Bool.{Bool, false}
 use mathlib.Core.List.{List}
 use mathlib.Core.Path.{◌≡◌, refl, sym, ◌∙◌, subst}
 use Prim.Native.Nat.{ℕ, suc, ◌≤◌, ◌<◌}
@@ -30,7 +29,7 @@ use Rattle.walk.specs.Walk.{Walked}
 use Rattle.walk.specs.declared.tally.Tally.{Tally}
 use Rattle.walk.specs.declared.branch.Branch.{Branch}
 use Rattle.walk.specs.declared.branch.Both.{Both}
-use Rattle.walk.proofs.Tallies.{has_ended, goes_on, assumed_follows}
+use Rattle.walk.proofs.Tallies.{assumed_follows}
 use Rattle.walk.proofs.Turns.{turn_ended, turn-broken, turn-leaf, turn-both}
 
 -- ---- what the sweeps left
@@ -62,21 +61,21 @@ module _ {tables : WalkTables} {m : ℕ} {b : Branch} where
       o.same t.masks _ st marked lent.held.on_are lent.held.sides_are is.holds is.marked_is call.loop
 
   module _ (limit : ℕ) {x : Tally} {out₀ : List ℕ} where
-    pub walked_ended : Roomy x out₀ → true ≡ is_some x.ended → Walked tables m b limit x out₀ x out₀
-    walked_ended roomy i = record {
+    pub walked_ended : Roomy x out₀ → (x.ended ≡ 0 → ⊥) → Walked tables m b limit x out₀ x out₀
+    walked_ended roomy z = record {
       roomy = roomy;
       same = λ n t st marked e depth lent long is call few log room h.
-          told (turn_ended most_solids (accepted t) limit t.masks st depth log (has_ended h.counts i)) h;
+          told (turn_ended most_solids (accepted t) limit t.masks st depth log (λ q. z (h.counts.ended_is ∙ q))) h;
     }
 
-    module _ (on : false ≡ is_some x.ended) where
+    module _ (z : x.ended ≡ 0) where
       pub walked-broken : Roomy x out₀ → SweptOut tables.on tables.sides b.state b.changed None
           → Walked tables m b limit x out₀ x out₀
       walked-broken roomy o = record {
         roomy = roomy;
         same = λ n t st marked e depth lent long is call few log room h.
             told
-            (turn-broken most_solids (accepted t) limit t.masks st depth log (goes_on h.counts on)
+            (turn-broken most_solids (accepted t) limit t.masks st depth log (sym h.counts.ended_is ∙ z)
             (left-broken (stable (suc (open_count st)) t.masks st) (swept o lent is call)))
             h;
       }
@@ -93,7 +92,7 @@ module _ {tables : WalkTables} {m : ℕ} {b : Branch} where
               let shut : open_count l.0 ≡ 0 = sym (open_size l.2) ∙ none in
               let calm = (stable_rest (suc (open_count st)) masks st l.0 (omega arith) l.1).1 in
               told
-              (turn-leaf most_solids (accepted t) limit masks st l.0 l.1 depth few log (goes_on h.counts on) shut)
+              (turn-leaf most_solids (accepted t) limit masks st l.0 l.1 depth few log (sym h.counts.ended_is ∙ z) shut)
               (k.same n t l.0 lent (stable_long masks st l.0 l.1 ∙ long) l.2.takes (calm_exact masks l.0 shut calm)
               log room h);
         }
@@ -118,7 +117,7 @@ module _ {tables : WalkTables} {m : ℕ} {b : Branch} where
         (call_next masks st st' marked b.edge here q k v shut)
         (omega (arith, a.fewer, open_size i.holds, open_size holds, few)))
 
-  module _ {limit : ℕ} {x : Tally} {out₀ : List ℕ} (on : false ≡ is_some x.ended) {s : State}
+  module _ {limit : ℕ} {x : Tally} {out₀ : List ℕ} (z : x.ended ≡ 0) {s : State}
       (o : SweptOut tables.on tables.sides b.state b.changed (Some s)) {r : Tally} {out : List ℕ} where
     pub walked_both : {next : Both} {a d c : Tally} {out₁ : List ℕ} → 0 < wides.size s.undecided
         → Branches tables.on m tables.sides s b.edge next → Assumed limit x a → Walked tables m next.take limit a out₀ d out₁
@@ -130,7 +129,7 @@ module _ {tables : WalkTables} {m : ℕ} {b : Branch} where
           let masks = t.masks in
           let l = left_stands s (stable (suc (open_count st)) masks st) (swept o lent is call) in
           let fewer = (stable_rest (suc (open_count st)) masks st l.0 (omega arith) l.1).0 in
-          let turn = turn-both most_solids (accepted t) limit masks st l.0 l.1 depth few log (goes_on h.counts on)
+          let turn = turn-both most_solids (accepted t) limit masks st l.0 l.1 depth few log (sym h.counts.ended_is ∙ z)
           (λ none. omega (arith, open_size l.2, some, none)) in
           let first = branched st l.0 lent long is call l.1 l.2 Taken refl two.takes w₁ turn.0
           (omega (arith, fewer, turn.1)) (assume limit log) room (assumed_follows a₁ t out₀ log room h) in

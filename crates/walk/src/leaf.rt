@@ -2,8 +2,8 @@
 ghost use Rattle.walk_tables.specs.Words.{walk_tables};
 ghost use Rattle.walk.specs.Leaf.{Keeping, KeepsSolid};
 
-use super::tally::{End, Tally};
-use paper::{MOST_CANDIDATES, MOST_EDGES, MOST_SOLIDS, SET_WORDS, SOLID_ROOM, WORDS};
+use super::tally::Tally;
+use paper::{MOST_CANDIDATES, MOST_EDGES, MOST_SOLIDS, Number, SET_WORDS, SOLID_ROOM, WORDS};
 use sets::Set;
 use walk_leaf::judge;
 
@@ -31,7 +31,7 @@ pub fn kept(
         return Tally {
             work: t.work,
             found: k,
-            ended: Some(End::Many),
+            ended: Number::MANY.value,
         };
     }
     out[WORDS * k] = taken.word;

@@ -33,7 +33,7 @@ fn walk(
         (walk_tables on.now up.now sides.now clashes.now sixes.now)
         m b limit t out.old result out.new }
 {
-    if t.ended.is_some() {
+    if t.ended != 0 {
         return t;
     }
     let Some(s) = settled(on, sides, b.state, b.changed) else {
@@ -81,7 +81,7 @@ pub fn search(
     let none = Tally {
         work: 0,
         found: 0,
-        ended: None,
+        ended: 0,
     };
     walk(on, up, m, sides, clashes, sixes, all, limit, none, out)
 }

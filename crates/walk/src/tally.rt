@@ -1,18 +1,14 @@
-// What the walk has done so far: assumptions made, solids found, and why it ended, once it has. Assumes nothing.
+// What the walk has done so far: assumptions made, solids found, and why it ended: 0 not yet, 18 at a ninth solid, 19 at the limit.
+// Assumes nothing.
 ghost use Rattle.walk.specs.Tally.{Assumed};
 
-// Why a walk ends before all is tried: at a ninth solid, or at the limit.
-#[derive(Clone, Copy)]
-pub enum End {
-    Many,
-    TooLong,
-}
+use paper::Number;
 
 #[derive(Clone, Copy)]
 pub struct Tally {
     pub work: u64,
     pub found: usize,
-    pub ended: Option<End>,
+    pub ended: u8,
 }
 
 impl Tally {
@@ -20,20 +16,20 @@ impl Tally {
     pub fn assumed(self, limit: u64) -> Tally
         ensures { Assumed limit self result }
     {
-        if self.ended.is_some() {
+        if self.ended != 0 {
             return self;
         }
         if self.work < limit {
             return Tally {
                 work: self.work + 1,
                 found: self.found,
-                ended: None,
+                ended: 0,
             };
         }
         Tally {
             work: self.work,
             found: self.found,
-            ended: Some(End::TooLong),
+            ended: Number::TOO_LONG.value,
         }
     }
 }
