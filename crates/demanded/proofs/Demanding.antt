@@ -9,17 +9,17 @@ use lib.ListN.{length, drop}
 use Rattle.pack.specs.Bits.{Under}
 use Rattle.paper.specs.Format.{encode, lent_edition, edition_of, edition_for}
 use Rattle.paper.specs.Loops.{Loop}
-use Rattle.paper.specs.FaceList.{count_in, faces_in, well_shaped, no_faces, encode_faces, faces_of, sent_of, sent_room}
-use Rattle.paper.specs.Sheet.{written_of, room_of, read_sheet}
+use Rattle.paper.specs.FaceList.{Faces, faces_as, count_in, faces_in, well_shaped, no_faces, encode_faces, faces_of, sent_of, sent_room}
+use Rattle.paper.specs.Sheet.{Sheet, sheet_as, written_of, room_of, read_sheet}
 use Rattle.paper.specs.Conversion.{Converted}
 use Rattle.paper.specs.Reading.{reading_of, reading_says}
-use Rattle.std.specs.Prelude.{Ok, Err}
+use Rattle.std.specs.Prelude.{Result, Ok, Err}
 use Rattle.paper.specs.Refusals.{Fine, Reading, Verdict, Written}
 use Rattle.paper.specs.declared.Format.{Format}
 use Rattle.paper.specs.declared.Conversion.{Conversion}
-use Rattle.paper.specs.FaceList.{Faces}
+use Rattle.paper.specs.declared.Drawing.{Drawing}
+use Rattle.paper.specs.declared.FaceRows.{FaceRows}
 use Rattle.paper.specs.declared.Refusal.{Refusal}
-use Rattle.paper.specs.Sheet.{Sheet}
 use Rattle.convert.specs.Converts.{at_exit}
 use Rattle.assess.specs.Assessed.{Assessed}
 use Rattle.faces_laws.proofs.FaceList.{length_in}
@@ -27,9 +27,10 @@ use Rattle.means_sheets.specs.FaceLists.{returned}
 use Rattle.means_sheets.proofs.Sheets.{sheet-reads_back}
 use Rattle.means_sheets.proofs.Sheets.Room as SheetRoom
 use Rattle.means_sheets.proofs.FaceLists.Room as ListRoom
-use Rattle.demands.specs.Input.{Input, converted, checked}
+use Rattle.demands.specs.Input.{Input, sheet, converted, checked}
 use Rattle.demands.specs.Sheets as Sheets
-use Rattle.demands.specs.Table.{of_written}
+use Rattle.demands.specs.Shells.{Shape}
+use Rattle.demands.specs.Table.{one, end, forms, of_written}
 use Rattle.demands.proofs.Demand1.{demand1}
 use Rattle.demands.proofs.Demand2.{demand2}
 use Rattle.demands.proofs.Demand3.{demand3}
@@ -70,14 +71,15 @@ pub checks : (x : Input) (list : List ℕ) {r : Verdict} → r ≡ checked x lis
 checks x list e =
     subst (Checks x list) (sym e) (record { first = demand1.checks x list; exactly = λ ok. (demand3 x ok).exactly list })
 
-pub reads : (s : List ℕ) → Under 256 s → {r : Sheet} → r ≡ read_sheet s → ReadsSheet s r
-reads s bytes e =
-    subst (ReadsSheet s) (sym e)
-    (record {
-      first = demand1.reads s;
-      none = demand1.blank_kept s;
-      again = λ h. let b = sheets2.again s bytes h in (b.0, b.1, ap (λ (r : Sheet). r.drawing) b.2, b.3);
-    })
+pub reads : (s : List ℕ) → Under 256 s → {r : Result Drawing Refusal} → sheet_as r ≡ read_sheet s → ReadsSheet s r
+reads s bytes e = record {
+  first = subst (λ (x : Sheet). forms (sheet s) end x.answer) (sym e) (demand1.reads s);
+  none = λ f q. sym e ∙ ap sheet_as q;
+  again = λ d q.
+      let p : sheet_as (Ok d) ≡ read_sheet s = sym (ap sheet_as q) ∙ e in
+      let b = sheets2.again s bytes (λ i. (sym p i).answer) in
+      (b.0, b.1, ap (λ (x : Sheet). x.drawing) (p ∙ b.2), b.3);
+}
 
 -- the length that is reported is that of the bytes
 pub stands : {w : Written} {s room₀ room : List ℕ} {n : ℕ} → w ≡ Ok n → w ≡ Ok (length s)
@@ -110,15 +112,19 @@ module _ (xyz : List ℤ) (ends room₀ : List ℕ) where
         (b.0, subst (Stands b.0 room₀ n) (sym p) b.1, b.2);
   }
 
-pub reads_faces : (v : ℕ) (list : List ℕ) {r : Faces} → r ≡ faces_of (edition_of list) v list → ReadsFaces v list r
+pub reads_faces : (v : ℕ) (list : List ℕ) {r : Result FaceRows Refusal} → faces_as r ≡ faces_of (edition_of list) v list
+    → ReadsFaces v list r
 unfolding faces_of
-reads_faces v list e =
-    subst (ReadsFaces v list) (sym e)
-    (record {
-      first = demand1.reads_faces v list;
-      none = λ f. blank (well_shaped (edition_of list) v list) f;
-      faces = whole (well_shaped (edition_of list) v list);
-    })
+reads_faces v list e = record {
+  first = subst (λ (x : Faces). one 20 (Shape (edition_of list) v list → ⊥) end x.answer) (sym e) (demand1.reads_faces v list);
+  none = λ f q.
+      let p : faces_as (Err f) ≡ faces_of (edition_of list) v list = sym (ap faces_as q) ∙ e in
+      let z = blank (well_shaped (edition_of list) v list) f (λ i. (sym p i).answer) in
+      ((λ i. ((p ∙ z) i).answer), z);
+  faces = λ g q.
+      let p : faces_as (Ok g) ≡ faces_of (edition_of list) v list = sym (ap faces_as q) ∙ e in
+      p ∙ whole (well_shaped (edition_of list) v list) (λ i. (sym p i).answer);
+}
   where
     read : Faces
     read = record { answer = Fine; count = count_in (edition_of list) list; rows = (returned (faces_in (edition_of list) list)).rows }

