@@ -71,8 +71,10 @@ pub fn search(
 {
     let mut path = [FILL; MOST_CORNERS];
     let mut c = 0;
-    for s in 0..v {
+    let mut s = 0;
+    while s < v {
         c = starting_at(xyz, v, near, &mut path, s, table, planes, c);
+        s += 1;
     }
     c
 }

@@ -7,7 +7,7 @@ use native.Mathlib.Omega.{arith}
 use lib.ListN.{length}
 use Rattle.lists.proofs.Passing.{all_yes}
 use Rattle.paper.specs.Numbers.{most_faces, least_corners, most_corners}
-use Rattle.paper.specs.declared.Number.TheVariants as No
+use Rattle.paper.specs.Refusals as No
 use Rattle.paper.specs.Refusals.{Check, check, offends, first_of, Fine}
 use Rattle.paper.specs.Loops.{Loop, loop_at}
 use Rattle.paper.specs.FaceList.{no_faces, count_in, faces_in, face_fits, well_shaped, faces_of}

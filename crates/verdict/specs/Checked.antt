@@ -1,7 +1,7 @@
 -- What the check says of a drawing behind 3 to 10, and of a face list behind 3 to 16.
 use Rattle.std.specs.Prelude.{not, List, ◌∷◌, ◌++◌, ◌≡◌, ℕ, ◌≤◌, ℤ, length}
 use Rattle.paper.specs.Numbers.{most_edges, most_candidates, face_room}
-use Rattle.paper.specs.declared.Number.TheVariants as No
+use Rattle.paper.specs.Refusals as No
 use Rattle.paper.specs.Refusals.{Check, check, offends, first_of, Verdict}
 use Rattle.paper.specs.Format.{edition_for}
 use Rattle.paper.specs.Drawing.{Wire, wire}

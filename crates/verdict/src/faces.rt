@@ -28,7 +28,7 @@ pub fn faces_checked(
     let faces = read_sent(list, v, m)?;
     let mut numbers = [0u8; MOST_FACES];
     let s = named(&faces.rows, faces.count, rows, n, &mut numbers)?;
-    tested(
+    match tested(
         on,
         up,
         m,
@@ -39,5 +39,8 @@ pub fn faces_checked(
         faces.count,
         s.taken,
         s.turned,
-    )
+    ) {
+        Ok(()) => Ok(()),
+        Err(r) => Err(r),
+    }
 }

@@ -1,15 +1,15 @@
 -- `verdict::faces::faces_checked`: the list is read, its faces are named, and they are tested; each step that refuses is the first check
 -- that applies.
-use mathlib.Core.Path.{refl, ap, ◌∙◌}
+use mathlib.Core.Path.{refl, ◌∙◌}
 use lib.ListN.{length}
 use native.Mathlib.Omega.{arith}
 use Rattle.std.proofs.lemmas.Result.{err_from_is_err_and}
 use Rattle.paper.specs.Format.{edition_for}
 use Rattle.paper.specs.FaceList.{faces_in}
-use Rattle.paper.specs.Verdict.{verdict_for, listed, face_checks}
+use Rattle.paper.specs.Verdict.{listed, face_checks}
 use Rattle.verdict.proofs.Read.{shape_stops, shape_passes, some_faces, few_faces, faces_held, cornered}
 use Rattle.verdict.proofs.Naming.{naming_stops, numbers_narrow, tests-decide}
-use Rattle.verdict.proofs.Deciding.{refused_so, same_verdict}
+use Rattle.verdict.proofs.Deciding.{refused_so, decided}
 use Rattle.paper_laws.proofs.Editions.{limited_for}
 use Rattle.verdict.proofs.faces.faces_checked.Goals as goal
 
@@ -69,8 +69,8 @@ tested-requires c =
       };
     }
 
-pub returns : goal.returns
-returns c =
+pub returns-in-Ok : goal.returns-in-Ok
+returns-in-Ok c =
     let a = c.args in
     let f = edition_for a.v a.m in
     let read = c.in_ok-faces.ensures in
@@ -79,5 +79,16 @@ returns c =
     let rest = face_checks t (length cs) (listed cs fs) in
     let rows = faces_held f a.v a.list.now read refl in
     let named = c.in_ok-s.ensures.same fs cs rows held in
-    same_verdict c.tested.result
-    ∙ ap verdict_for (tests-decide cs fs named rows.count t held.count lent c.tested.ensures ∙ shape_passes f a.v a.list.now read refl rest)
+    decided c.in-Ok.is (tests-decide cs fs named rows.count t held.count lent c.tested.ensures ∙ shape_passes f a.v a.list.now read refl rest)
+
+pub returns-in-Err : goal.returns-in-Err
+returns-in-Err c =
+    let a = c.args in
+    let f = edition_for a.v a.m in
+    let read = c.in_ok-faces.ensures in
+    λ cs t held lent.
+    let fs = faces_in f a.list.now in
+    let rest = face_checks t (length cs) (listed cs fs) in
+    let rows = faces_held f a.v a.list.now read refl in
+    let named = c.in_ok-s.ensures.same fs cs rows held in
+    decided c.in-Err.is (tests-decide cs fs named rows.count t held.count lent c.tested.ensures ∙ shape_passes f a.v a.list.now read refl rest)
