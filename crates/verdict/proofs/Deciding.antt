@@ -20,10 +20,6 @@ pub same_verdict : (a : Answer) → a ≡ verdict_for a
 same_verdict (Ok _) = refl
 same_verdict (Err r) = refl
 
--- each arm answers what it was told
-pub decided : {told said : Answer} → told ≡ said → {a : Answer} → told ≡ a → said ≡ verdict_for a
-decided {told} {said} p e = same_verdict said ∙ ap verdict_for (sym p ∙ e)
-
 -- what is refused is refused
 pub refused_so : {r : Refusal} {a : Answer} → Err r ≡ a → Err r ≡ verdict_for a
 refused_so e = ap verdict_for e

@@ -8,21 +8,27 @@ use lib.ListN.{length, get_or}
 use lib.Seq.{get_or-take}
 use Rattle.sets.specs.Word.{dig}
 use Rattle.paper.specs.Numbers.{most_candidates}
-use Rattle.paper.specs.Refusals.{first_of, Answer}
+use Rattle.paper.specs.Format.{edition_for}
+use Rattle.paper.specs.Refusals.{first_of, Answer, Verdict}
 use Rattle.paper.specs.Loops.{Loop}
+use Rattle.paper.specs.FaceList.{faces_as, faces_in, faces_of}
 use Rattle.paper.specs.Solids.{Tables}
-use Rattle.paper.specs.Verdict.{listed, face_checks}
-use Rattle.std.specs.Prelude.{Err}
+use Rattle.paper.specs.Verdict.{listed, face_checks, verdict_for}
+use Rattle.std.specs.Prelude.{Ok, Err}
+use Rattle.paper.specs.declared.FaceRows.{FaceRows}
 use Rattle.paper.specs.declared.Refusal.{Refusal}
 use Rattle.paper_laws.proofs.Checks.{first_stops, first_passes}
 use Rattle.means_loops.proofs.Kept.{member_is}
 use Rattle.means_check.proofs.Numbers.{row_is}
 use Rattle.walk_tables.specs.Words.{WalkTables, Lent}
-use Rattle.verdict_faces.specs.Named.{named_checks, Selected}
+use Rattle.verdict_faces.specs.Named.{named_checks, NamedIs, Selected}
 use Rattle.verdict_faces.specs.declared.selection.Selection.{Selection}
 use Rattle.verdict_faces.proofs.Listed.{taken_mask, taken_long, listed_long, named_below}
 use Rattle.verdict_tests.proofs.Testing.{last_five}
 use Rattle.verdict_tests.specs.Tests.{test_checks, ListedIn, Tested}
+use Rattle.verdict.specs.Checked.{ListChecked}
+use Rattle.verdict.proofs.Read.{shape_passes, faces_held}
+use Rattle.verdict.proofs.Deciding.{same_verdict}
 
 module _ (cs : List Loop) (fs : List (List ℕ)) where
   pub naming_stops : (t : Tables) {r : Refusal} → Err r ≡ first_of (named_checks cs fs)
@@ -59,3 +65,16 @@ module _ (cs : List Loop) (fs : List (List ℕ)) where
         (record { numbers_are = sym h.numbers_are; taken_is = h.taken_is; turned_is = h.turned_is })
         ∙ first_passes (named_checks cs fs) (test_checks t (listed cs fs)) h.fine
         ∙ ap first_of (sym (last_five t (length cs) (listed cs fs)))
+
+-- what the tests say of faces that were read and named is what the list's check says
+pub list_tested : (list : List ℕ) (v m : ℕ) {rows numbers₀ numbers : List ℕ} {n : ℕ} {tables : WalkTables} {g : FaceRows} {s : Selection}
+    {a : Verdict} → faces_as (Ok g) ≡ faces_of (edition_for v m) v list → NamedIs g.rows g.count rows n numbers₀ numbers (Ok s)
+    → Tested tables m numbers g.count s.taken s.turned a → ListChecked list v rows n tables m a
+list_tested list v m {a = a} read named tested = λ cs t held lent.
+    let f = edition_for v m in
+    let fs = faces_in f list in
+    let faces = faces_held f v list read refl in
+    same_verdict a
+    ∙ ap verdict_for
+    (tests-decide cs fs (named.same fs cs faces held) faces.count t held.count lent tested
+    ∙ shape_passes f v list read refl (face_checks t (length cs) (listed cs fs)))

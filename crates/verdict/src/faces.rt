@@ -1,6 +1,4 @@
 // A face list held against the candidates of a drawing that passed 3 to 16: refusals 20 to 27. Assumes their rows and tables.
-ghost use Rattle.std.specs.Prelude.{◌≡◌};
-ghost use Rattle.paper.specs.Verdict.{verdict_for};
 ghost use Rattle.walk_tables.specs.Words.{walk_tables};
 ghost use Rattle.verdict.specs.Checked.{ListAt, ListChecked};
 

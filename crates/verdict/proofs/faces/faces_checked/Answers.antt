@@ -1,15 +1,16 @@
 -- `verdict::faces::faces_checked`: the list is read, its faces are named, and they are tested; each step that refuses is the first check
 -- that applies.
-use mathlib.Core.Path.{refl, ◌∙◌}
+use mathlib.Core.Path.{refl, subst, ◌∙◌}
 use lib.ListN.{length}
 use native.Mathlib.Omega.{arith}
 use Rattle.std.proofs.lemmas.Result.{err_from_is_err_and}
 use Rattle.paper.specs.Format.{edition_for}
 use Rattle.paper.specs.FaceList.{faces_in}
 use Rattle.paper.specs.Verdict.{listed, face_checks}
+use Rattle.verdict.specs.Checked.{ListChecked}
 use Rattle.verdict.proofs.Read.{shape_stops, shape_passes, some_faces, few_faces, faces_held, cornered}
-use Rattle.verdict.proofs.Naming.{naming_stops, numbers_narrow, tests-decide}
-use Rattle.verdict.proofs.Deciding.{refused_so, decided}
+use Rattle.verdict.proofs.Naming.{naming_stops, numbers_narrow, list_tested}
+use Rattle.verdict.proofs.Deciding.{refused_so}
 use Rattle.paper_laws.proofs.Editions.{limited_for}
 use Rattle.verdict.proofs.faces.faces_checked.Goals as goal
 
@@ -72,23 +73,9 @@ tested-requires c =
 pub returns-in-Ok : goal.returns-in-Ok
 returns-in-Ok c =
     let a = c.args in
-    let f = edition_for a.v a.m in
-    let read = c.in_ok-faces.ensures in
-    λ cs t held lent.
-    let fs = faces_in f a.list.now in
-    let rest = face_checks t (length cs) (listed cs fs) in
-    let rows = faces_held f a.v a.list.now read refl in
-    let named = c.in_ok-s.ensures.same fs cs rows held in
-    decided c.in-Ok.is (tests-decide cs fs named rows.count t held.count lent c.tested.ensures ∙ shape_passes f a.v a.list.now read refl rest)
+    subst (ListChecked _ _ _ _ _ _) c.in-Ok.is (list_tested a.list.now a.v a.m c.in_ok-faces.ensures c.in_ok-s.ensures c.tested.ensures)
 
 pub returns-in-Err : goal.returns-in-Err
 returns-in-Err c =
     let a = c.args in
-    let f = edition_for a.v a.m in
-    let read = c.in_ok-faces.ensures in
-    λ cs t held lent.
-    let fs = faces_in f a.list.now in
-    let rest = face_checks t (length cs) (listed cs fs) in
-    let rows = faces_held f a.v a.list.now read refl in
-    let named = c.in_ok-s.ensures.same fs cs rows held in
-    decided c.in-Err.is (tests-decide cs fs named rows.count t held.count lent c.tested.ensures ∙ shape_passes f a.v a.list.now read refl rest)
+    subst (ListChecked _ _ _ _ _ _) c.in-Err.is (list_tested a.list.now a.v a.m c.in_ok-faces.ensures c.in_ok-s.ensures c.tested.ensures)
