@@ -87,7 +87,7 @@ pub const FILL: u8 = 255;
 // The loop table's room: 13 bytes for each loop.
 pub const LOOP_ROOM: usize = ROW * MOST_LOOPS;
 
-// "What comes back": a number of the table. It holds any byte, as whatever takes a refusal takes one with any number.
+// "What comes back": a number. What is handed a refusal takes it with any byte for its number; the table's have names.
 #[derive(Clone, Copy, PartialEq, Eq)]
 pub struct Number {
     pub value: u8,
